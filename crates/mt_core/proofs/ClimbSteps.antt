@@ -1,4 +1,4 @@
--- A step of a put whose right halves come to their parents, by what `climb_on` tells of it: for `Inner::climb`.
+-- A step of a put whose right halves come to their parents, by what it tells: for `Inner::write`.
 use Rattle.std.proofs.Common.{IsSome, List, None, Some, [], ap, arith, false, inl, inr, is_some, length, refl, set, subst, suc, sym, zero, ℕ, ◌+◌, ◌-◌, ◌<◌, ◌∙◌, ◌∷◌, ◌≡◌, ◌≤◌}
 use Rattle.std.specs.Prelude.{◌^◌, ◌⊎◌}
 use Rattle.std.proofs.lemmas.Bool.{cases_eq}
@@ -13,28 +13,24 @@ use Rattle.mt_operation.specs.declared.splits.Splits.{Splits}
 use Rattle.mt_operation.specs.declared.operation.Operation.{Operation}
 use Rattle.mt_operation.specs.Operations.{OperationView, moved, splits_of, scan_of, view_of, with_splits}
 use Rattle.mt_operation.specs.Phases.{IsClimb, IsToGrow, is_done}
-use Rattle.mt_operation.specs.Tables.{MayMove, Table, op_at as operation_at}
+use Rattle.mt_operation.specs.Tables.{Table, op_at as operation_at}
 use Rattle.mt_operation.proofs.Tables.{set_is, set_there}
 use Rattle.mt_insert.specs.KeptSplits.{AreParted, AreReturnable, HasSplits, HasSplitsNamed, HoldsSplits, IsAmong, IsParent, KeptSplit, NothingLags, halves_at, last_of}
 use Rattle.mt_insert.specs.Climbs.{AreSame, IsClimbFrom}
-use Rattle.mt_state.specs.declared.moves.Move.{Move}
-use Rattle.mt_state.specs.declared.moves.Move.TheVariants.{Again, Moved, NoMemory}
+use Rattle.mt_state.specs.declared.moves.Move.TheVariants.{Moved, NoMemory}
 use Rattle.mt_state.specs.Views.{Core, Shown, shown}
-use Rattle.mt_state.specs.Promises.{IsAnswer, IsHeldByOther, IsInTheWay}
+use Rattle.mt_state.specs.Promises.{IsAnswer}
 use Rattle.mt_state.specs.KeptOperations.{IsClimbing, IsKeptOf, IsScanKept}
 use Rattle.mt_state.specs.Invariant.{HoldsAt, StateInvariant, made_count, one_if_prepared, prepared_count}
 use Rattle.mt_state.proofs.Shown.{shown_set, shown_table, shown_there}
 use Rattle.mt_state.proofs.Telling.{Gives}
 use Rattle.mt_state.proofs.SplitSteps.{climb_among, climb_done, climbing_of, among_climb, kept_climbing}
 use Rattle.mt_state.proofs.ClimbingNodes.{climb_keeps, climb_leads}
-use Rattle.mt_core.specs.Nexts.{IsNext}
 use Rattle.mt_core.specs.Budgets.{above}
 use Rattle.mt_core.specs.Points.{StepsOn}
-use Rattle.mt_core.specs.Climbs.{TellsClimbed}
-use Rattle.mt_core.specs.declared.climbs.Climbed.TheVariants.{Blocked, NoMemory as NoMemoryClimbed}
 use Rattle.mt_core.proofs.Climbing.{climb_none, climb_writes}
 use Rattle.mt_core.proofs.Points.{nears_by, point_first}
-use Rattle.mt_core.proofs.Following.{IsOver, Writes, holder_open, made, may_over, next_here, opened, over_first, over_next, set_back, write_no_scan}
+use Rattle.mt_core.proofs.Following.{IsOver, IsSound, made, set_back, write_no_scan}
 use Rattle.std.proofs.lemmas.Bool.{both_ways}
 use Rattle.mt_core.proofs.Leading.{no_step, leads_over}
 use Rattle.mt_core.proofs.Retained.{own_tape, retained, scan_retained}
@@ -46,11 +42,6 @@ count_back : (table : Table) (o : ℕ) (x y : Operation) → operation_at table 
 count_back [] o x y is same = refl
 count_back (z ∷ table) zero x y is same = let was = ap one_if_prepared is in omega (arith, was, same)
 count_back (z ∷ table) (suc o) x y is same = let rest = count_back table o x y is same in omega (arith, rest)
-
--- a step of it is left
-climb_open : (p : Phase) → IsClimb p → is_done p ≡ false
-climb_open Done i = absurd i
-climb_open _ i = refl
 
 -- a phase at which a node is to be made is one of these
 grow_climbs : (p : Phase) → IsToGrow p → IsClimb p
@@ -219,137 +210,50 @@ module _ (c : Core) (o : ℕ) (op : Operation) (h : StateInvariant c) (there : o
       written = h.written;
     }
 
-module _ (c now : Core) (o : ℕ) (is : c ≡ now) (h : StateInvariant c) (next : IsNext now o IsClimb) where
-  abbrev op : Operation
-  op = (next_here c now o IsClimb is next).0
+module _ (c now : Core) (o : ℕ) (is : c ≡ now) (h : StateInvariant c) (few : now.steps < 2 ^ 59) (op : Operation) (there : operation_at c.table o ≡ Some op) (at_climb : IsClimb op.walk.phase) where
+  climbing : IsClimbing c o op op.walk.phase
+  climbing = climbing_of op.walk.phase at_climb c o op (h.ops o op there).kept
 
-  there : operation_at c.table o ≡ Some op
-  there = (next_here c now o IsClimb is next).1
-
-  at_climb : IsClimb op.walk.phase
-  at_climb = (next_here c now o IsClimb is next).2
-
-  kept : IsClimbing c o op op.walk.phase
-  kept = climbing_of op.walk.phase at_climb c o op (h.ops o op there).kept
+  -- what `climb_on` asks
+  pub climb_kept : KeptSplit op.walk.phase c.arena o op.splits
+  climb_kept = climbing.climbs
 
   -- all that it holds are nodes of its splits
-  holds : HoldsSplits c.arena o op.splits
-  holds k within held =
+  pub climb_holds : HoldsSplits c.arena o op.splits
+  climb_holds k within held =
       let f = h.holders k o within held in
       climb_among op.walk.phase at_climb op k (subst (λ (x : Operation). HoldsAt x.walk.phase x k) (same_Some f.0 op (sym f.1 ∙ there)) f.2)
 
-  -- its splits are taken out, and others are there
-  module _ (none : Splits) (mid : Table) (s : Splits) (gives : (x : Operation) → operation_at c.table o ≡ Some x → s ≡ x.splits) (takes : Writes c.table mid o (λ x. with_splits x none)) where
-    over_mid : IsOver c.table mid o (with_splits op none)
-    over_mid = over_first c.table mid o (λ x. with_splits x none) op there takes
+  -- the step was made
+  pub climb_made : IsArena c.arena.nodes c.arena.trees → (arena : ArenaView) (w : Walk) (t : Splits) (table : Table)
+      → IsClimbFrom op.walk.phase o c.arena arena op.walk w op.splits t → IsOver c.table table o (moved (with_splits op t) (c.steps + 1) w)
+      → IsSound (made c arena c.tape c.accounts table) × StepsOn now (made c arena c.tape c.accounts table) o Moved
+  climb_made is_arena arena w t table told over =
+      let after = moved (with_splits op t) (c.steps + 1) w in
+      let new = made c arena c.tape c.accounts table in
+      let gives : Gives (shown c) new o false = subst (λ (u : Table). Gives (shown c) (made c arena c.tape c.accounts u) o false) (sym over.is)
+      (climb_done c o h (subst (λ (v : Core). v.steps < 2 ^ 59) (sym is) few) op there arena w t at_climb told) in (
+        gives.0,
+        subst (λ (v : Core). StepsOn v new o Moved) is (record {
+          tells = gives.1;
+          nears =
+              nears_by c new o op after there over.there (climb_keeps op.walk.phase at_climb o c.arena arena op.walk w op.splits t told).keeps.guarantee refl
+              (λ height n p. point_first height (n + 1) arena w t after.walk.first
+              (climb_nears op.walk.phase at_climb o c.arena arena op.walk w op.splits t refl is_arena.nodes climb_kept told height n p))
+              (λ removes height n r. absurd (climb_none op.walk.phase at_climb height r.round n c.arena op.walk r.few))
+              (λ scans. absurd (both_ways _ (write_no_scan c o h op there op.walk.phase refl (climb_writes op.walk.phase at_climb)) scans));
+          leads =
+              leads_over c o h op there op.walk.phase refl c refl arena c.tape c.accounts table after over w (climb_leads op.walk.phase at_climb o c.arena arena op.walk w op.splits t told (c.steps + 1) op.task.key op.outcome op.removal (no_step op)) refl refl;
+        }),
+      )
 
-    pub open_mid : IsSome (operation_at mid o)
-    open_mid = ap is_some over_mid.there
-
-    module _ (x : Operation) (there_x : operation_at mid o ≡ Some x) where
-      walk_is : op.walk ≡ x.walk
-      walk_is = ap (λ (z : Operation). z.walk) (opened c.table mid o (with_splits op none) x over_mid there_x)
-
-      pub climb_phase : IsClimb x.walk.phase
-      climb_phase = subst (λ (w : Walk). IsClimb w.phase) walk_is at_climb
-
-      pub climb_kept : KeptSplit x.walk.phase c.arena o s
-      climb_kept = subst (λ (w : Walk). KeptSplit w.phase c.arena o s) walk_is (subst (KeptSplit op.walk.phase c.arena o) (sym (gives op there)) kept.climbs)
-
-      -- what was told of its walk and its splits
-      told_of : (P : Walk → Splits → Type 0) → P x.walk s → P op.walk op.splits
-      told_of P told = subst (λ (w : Walk). P w op.splits) (sym walk_is) (subst (P x.walk) (gives op there) told)
-
-      -- and then those are there to which they came
-      module _ (arena : ArenaView) (w : Walk) (t : Splits) (last : Table) (back : Writes mid last o (λ z. with_splits z t)) where
-        over_last : IsOver c.table last o (with_splits op t)
-        over_last = over_next c.table mid last o (λ z. with_splits z t) (with_splits op none) over_mid back
-
-        -- it may make its step
-        pub may_climb : MayMove last o (c.steps + 1)
-        may_climb = may_over c o h op there (climb_open op.walk.phase at_climb) last (with_splits op t) over_last refl
-
-        -- the step was made
-        module _ (few : now.steps < 2 ^ 59) (arena_is : IsArena c.arena.nodes c.arena.trees) (on : IsClimbFrom x.walk.phase o c.arena arena x.walk w s t) (all : Table) (moves : Writes last all o (λ z. moved z (c.steps + 1) w)) where
-          abbrev after : Operation
-          after = moved (with_splits op t) (c.steps + 1) w
-
-          told : IsClimbFrom op.walk.phase o c.arena arena op.walk w op.splits t
-          told = told_of (λ v r. IsClimbFrom v.phase o c.arena arena v w r t) on
-
-          over_all : IsOver c.table all o after
-          over_all = over_next c.table last all o (λ z. moved z (c.steps + 1) w) (with_splits op t) over_last moves
-
-          pub climb_gives : Gives (shown c) (made c arena c.tape c.accounts all) o false
-          climb_gives = subst (λ (u : Table). Gives (shown c) (record c { steps = c.steps + 1; arena = arena; table = u }) o false) (sym over_all.is)
-              (climb_done c o h (subst (λ (v : Core). v.steps < 2 ^ 59) (sym is) few) op there arena w t at_climb told)
-
-          pub climb_steps : StepsOn now (made c arena c.tape c.accounts all) o Moved
-          climb_steps = subst (λ (v : Core). StepsOn v (made c arena c.tape c.accounts all) o Moved) is (record {
-            tells = climb_gives.1;
-            nears =
-                nears_by c (made c arena c.tape c.accounts all) o op after there over_all.there (climb_keeps op.walk.phase at_climb o c.arena arena op.walk w op.splits t told).keeps.guarantee refl
-                (λ height n p. point_first height (n + 1) arena w t after.walk.first
-                (climb_nears op.walk.phase at_climb o c.arena arena op.walk w op.splits t refl arena_is.nodes kept.climbs told height n p))
-                (λ removes height n r. absurd (climb_none op.walk.phase at_climb height r.round n c.arena op.walk r.few))
-                (λ scans. absurd (both_ways _ (write_no_scan c o h op there op.walk.phase refl (climb_writes op.walk.phase at_climb)) scans));
-            leads =
-                leads_over c o h op there op.walk.phase refl c refl arena c.tape c.accounts all after over_all w (climb_leads op.walk.phase at_climb o c.arena arena op.walk w op.splits t told (c.steps + 1) op.task.key op.outcome op.removal (no_step op)) refl refl;
-          })
-
-        -- it was not made: all is as it was, but for the splits
-        abbrev stopped : Core
-        stopped = record c { arena = arena; table = last }
-
-        stopped_is : arena ≡ c.arena → stopped ≡ with_same c o op t
-        stopped_is stays = ap (λ (v : ArenaView). record c { arena = v; table = last }) stays ∙ ap (λ (all : Table). record c { table = all }) over_last.is
-
-        -- another operation holds the parent
-        module _ (holder : ℕ) (blocked : TellsClimbed o c.arena arena x.walk w s t (Blocked holder)) where
-          held_back : TellsClimbed o c.arena arena op.walk w op.splits t (Blocked holder)
-          held_back = told_of (λ v r. TellsClimbed o c.arena arena v w r t (Blocked holder)) blocked
-
-          blocked_is : stopped ≡ c
-          blocked_is = stopped_is held_back.0
-              ∙ ap (λ (r : Splits). with_same c o op r) held_back.2 ∙ ap (λ (all : Table). record c { table = all }) (set_back c.table o op there)
-
-          pub blocked_sound : StateInvariant stopped
-          blocked_sound = subst StateInvariant (sym blocked_is) h
-
-          waits : IsHeldByOther (shown c) o holder
-          waits =
-              let parent = held_back.4 in
-              let f = h.holders parent holder held_back.6 held_back.7 in
-              record {
-                other = held_back.8 holds;
-                unfinished = (view_of f.0, shown_there c.table holder f.0 f.1, holder_open f.0.walk.phase f.0 parent f.2);
-                op = view_of op;
-                there = shown_there c.table o op there;
-                holds =
-                    subst (λ (p : Phase). IsInTheWay c.arena p op.walk (splits_of op.splits) op.removal (scan_of op.task op.scan) holder) (sym held_back.3) (parent, held_back.5, held_back.6, held_back.7);
-              }
-
-          pub blocked_steps : (answer : Move) → answer ≡ Again holder → StepsOn now stopped o answer
-          blocked_steps answer says = subst (StepsOn now stopped o) (sym says) (subst (λ (v : Core). StepsOn v stopped o (Again holder)) is (record {
-            tells = (ap (λ (v : Core). shown v) blocked_is, (view_of op, shown_there c.table o op there, climb_open op.walk.phase at_climb), waits);
-            nears = tt;
-            leads = tt;
-          }))
-
-        -- there is no memory for a node
-        module _ (stops : TellsClimbed o c.arena arena x.walk w s t NoMemoryClimbed) where
-          grown_back : TellsClimbed o c.arena arena op.walk w op.splits t NoMemoryClimbed
-          grown_back = told_of (λ v r. TellsClimbed o c.arena arena v w r t NoMemoryClimbed) stops
-
-          pub stopped_sound : StateInvariant stopped
-          stopped_sound = subst StateInvariant (sym (stopped_is grown_back.0)) (same_sound c o op h there t grown_back.3 grown_back.2)
-
-          pub stopped_steps : StepsOn now stopped o NoMemory
-          stopped_steps = subst (λ (v : Core). StepsOn v stopped o NoMemory) is (record {
-            tells = (
-              ap (λ (v : Core). shown v) (stopped_is grown_back.0) ∙ same_shown c o op h there t grown_back.2,
-              record { op = view_of op; there = shown_there c.table o op there; grows = grown_back.3; told = ap is_some kept.answer.told },
-            );
-            nears = tt;
-            leads = tt;
-          })
+  -- it was not made, since there is no memory for a node: all is as it was, but for what the splits have grown
+  pub climb_refused : IsToGrow op.walk.phase → (t : Splits) → AreSame op.splits t → StateInvariant (with_same c o op t) × StepsOn now (with_same c o op t) o NoMemory
+  climb_refused grows t same = (
+    same_sound c o op h there t grows same,
+    subst (λ (v : Core). StepsOn v (with_same c o op t) o NoMemory) is (record {
+      tells = (same_shown c o op h there t same, record { op = view_of op; there = shown_there c.table o op there; grows = grows; told = ap is_some climbing.answer.told });
+      nears = tt;
+      leads = tt;
+    }),
+  )

@@ -18,25 +18,25 @@ use Rattle.mt_operation.specs.declared.splits.Splits.{Splits}
 use Rattle.mt_operation.specs.declared.outcome.Outcome.{Outcome}
 use Rattle.mt_operation.specs.declared.operation.Operation.{Operation}
 use Rattle.mt_operation.specs.Operations.{moved, noted, splits_of}
-use Rattle.mt_operation.specs.Phases.{IsLayerPhase, IsOfKind, is_done}
-use Rattle.mt_operation.specs.Tables.{MayMove, Table, op_at as operation_at}
+use Rattle.mt_operation.specs.Phases.{IsLayerPhase, IsOfKind}
+use Rattle.mt_operation.specs.Tables.{Table, op_at as operation_at}
 use Rattle.mt_descent.specs.WalkMoves.{walk_into}
 use Rattle.mt_insert.specs.Unlock.{GoesInto, IsUnlock}
 use Rattle.mt_layer.specs.KeptLayers.{IsAtLeave, KeptLayer}
 use Rattle.mt_layer.specs.Builds.{IsLayerFrom, IsLeave}
-use Rattle.mt_state.specs.declared.moves.Move.TheVariants.{Moved}
+use Rattle.mt_state.specs.declared.moves.Move.TheVariants.{Moved, Done as DoneMove}
 use Rattle.mt_state.specs.Views.{Core, StateView, shown}
 use Rattle.mt_state.specs.Invariant.{StateInvariant}
 use Rattle.mt_state.specs.KeptOperations.{IsKeptAt, IsLeaving, IsReturning}
-use Rattle.mt_state.specs.Phases.{GoesFromUnlock, Leads, LeadsTo}
+use Rattle.mt_state.specs.Phases.{GoesFromUnlock, LeadsTo}
 use Rattle.mt_state.proofs.OneNode.{replaced_all}
+use Rattle.mt_state.proofs.Needs.{layer_kept, leave_kept}
 use Rattle.mt_state.proofs.Telling.{Gives}
 use Rattle.mt_state.proofs.LayerSteps.{build_done, leave_done, make_stopped}
 use Rattle.mt_state.proofs.LayerNodes.{LeavesNodes, layer_keeps, layer_goes, layer_leads, layer_leaves, layer_next}
-use Rattle.mt_core.specs.Nexts.{IsNext}
 use Rattle.mt_core.specs.Budgets.{AreBelow, IsLiveTree, above, astray, before_unlock}
 use Rattle.mt_core.specs.Points.{HasMade, HasRemoved, IsRemovalAt, IsAtPoint, MayHaveGrown, Nears, StepsOn}
-use Rattle.mt_core.proofs.Following.{IsSound, Writes, made, may_move, over_first, phase_is, write_no_scan}
+use Rattle.mt_core.proofs.Following.{IsSound, IsOver, made, write_no_scan}
 use Rattle.std.proofs.lemmas.Bool.{both_ways}
 use Rattle.mt_operation.specs.declared.walk.Aim.{Aim}
 use Rattle.mt_operation.specs.declared.walk.Aim.TheVariants as aims
@@ -113,41 +113,27 @@ layer_none Link i height round made v w few = few
 layer_none MarkLayer i height round made v w few = few
 layer_none _ i height round made v w few = absurd i
 
--- a step of a layer is left
-layer_open : (p : Phase) → IsLayerPhase p → is_done p ≡ false
-layer_open Done i = absurd i
-layer_open _ i = refl
-
 -- what an operation that leaves its layer has made until then
 unsplit_few : (halves : List Halves) (n height rest : ℕ) → halves ≡ [] → n ≤ rest + before_unlock halves height → n ≤ rest + (3 * height + 7)
 unsplit_few halves n height rest none few = subst (λ (hs : List Halves). n ≤ rest + before_unlock hs height) none few
 
-module _ (c now : Core) (o : ℕ) (is : c ≡ now) (h : StateInvariant c) (x : Operation) (there : operation_at c.table o ≡ Some x) where
-  -- the next step may be made by one that makes a layer
-  pub may_build : IsNext now o IsLayerPhase → MayMove c.table o (c.steps + 1)
-  may_build next = may_move c o h x there (layer_open x.walk.phase (phase_is c now o IsLayerPhase is x there next))
-
-  -- and by one that leaves it
-  pub may_leave : IsNext now o (λ q. q ≡ Unlock) → MayMove c.table o (c.steps + 1)
-  may_leave next = may_move c o h x there (ap is_done (phase_is c now o (λ q. q ≡ Unlock) is x there next))
-
+module _ (c now : Core) (o : ℕ) (is : c ≡ now) (h : StateInvariant c) (few : now.steps < 2 ^ 59) (x : Operation) (there : operation_at c.table o ≡ Some x) where
   gives_now : (new : Core) (done : _) → Gives (shown c) new o done → Gives (shown now) new o done
   gives_now new done = subst (λ (v : StateView). Gives v new o done) (ap shown is)
 
-  steps_few : now.steps < 2 ^ 59 → c.steps < 2 ^ 59
-  steps_few few = subst (λ (v : Core). v.steps < 2 ^ 59) (sym is) few
+  few_inside : c.steps < 2 ^ 59
+  few_inside = subst (λ (v : Core). v.steps < 2 ^ 59) (sym is) few
 
-  steps_on : (arena : ArenaView) (w : Walk) (table : Table) → Writes c.table table o (λ y. moved y (c.steps + 1) w) → Guarantee o c.arena arena
+  steps_on : (arena : ArenaView) (w : Walk) (table : Table) → IsOver c.table table o (moved x (c.steps + 1) w) → Guarantee o c.arena arena
       → ((height n : ℕ) → IsAtPoint height n c.arena x.walk x.splits → IsAtPoint height (n + 1) arena w x.splits)
       → ((height n : ℕ) → IsRemovalAt height n c.arena x.walk x.outcome x.removal → ⊥)
       → ((aim : Aim) → IsOfKind x.walk.phase aim → aim ≡ aims.Write)
       → LeadsTo x.walk.phase c.arena arena o (c.steps + 1) x.task.key x.outcome (splits_of x.splits) x.removal (no_step x) x.walk w
       → Gives (shown c) (made c arena c.tape c.accounts (set c.table o (Some (moved x (c.steps + 1) w)))) o false
       → IsSound (made c arena c.tape c.accounts table) × StepsOn now (made c arena c.tape c.accounts table) o Moved
-  steps_on arena w table writes guarantee brings none write leads g =
+  steps_on arena w table over guarantee brings none write leads g =
       let after = moved x (c.steps + 1) w in
       let new = made c arena c.tape c.accounts table in
-      let over = over_first c.table table o (λ y. moved y (c.steps + 1) w) x there writes in
       let told : Gives (shown now) new o false = gives_now new false (subst (λ (all : Table). Gives (shown c) (made c arena c.tape c.accounts all) o false) (sym over.is) g) in (
         told.0,
         record {
@@ -160,33 +146,27 @@ module _ (c now : Core) (o : ℕ) (is : c ≡ now) (h : StateInvariant c) (x : O
       )
 
   -- a layer that came one step nearer
-  pub build_made : now.steps < 2 ^ 59 → IsNext now o IsLayerPhase → (arena : ArenaView) (w : Walk) (table : Table)
-      → KeptLayer x.walk.phase c.arena o x.task.key x.walk → IsLayerFrom x.walk.phase o x.task.key c.arena arena x.walk w
-      → Writes c.table table o (λ y. moved y (c.steps + 1) w)
-      → IsSound (made c arena c.tape c.accounts table) × StepsOn now (made c arena c.tape c.accounts table) o Moved
-  build_made few next arena w table kept b writes =
+  pub build_made : IsLayerPhase x.walk.phase → (arena : ArenaView) (w : Walk) (table : Table) → IsLayerFrom x.walk.phase o x.task.key c.arena arena x.walk w
+      → IsOver c.table table o (moved x (c.steps + 1) w) → IsSound (made c arena c.tape c.accounts table) × StepsOn now (made c arena c.tape c.accounts table) o Moved
+  build_made layer arena w table b over =
       let p = x.walk.phase in
-      let layer = phase_is c now o IsLayerPhase is x there next in
-      steps_on arena w table writes (layer_keeps p layer o x.task.key c.arena arena x.walk w b).keeps.guarantee
+      let kept = layer_kept c o h x there p refl layer in
+      steps_on arena w table over (layer_keeps p layer o x.task.key c.arena arena x.walk w b).keeps.guarantee
       (λ height n. layer_nears p layer o x.task.key c.arena arena x.walk w x.splits refl (layer_there p layer c.arena o x.task.key x.walk kept) (layer_live p layer c.arena o x.task.key x.walk kept) kept b height n)
       (λ height n r. layer_none p layer height r.round n c.arena x.walk r.few) (layer_writes p layer)
       (layer_leads p layer o x.task.key c.arena arena x.walk w b (c.steps + 1) x.outcome (splits_of x.splits) x.removal (no_step x))
-      (build_done c o h (steps_few few) x there arena w layer b)
+      (build_done c o h few_inside x there arena w layer b)
 
   -- no memory for it
-  pub stop_made : now.steps < 2 ^ 59 → (arena : ArenaView) (w : Walk) (told : Outcome) (table : Table) → x.walk.phase ≡ MakeLayer
-      → IsUnlock o c.arena arena x.walk w → told ≡ record { reply = NoMemory; at = c.steps + 1 }
-      → Writes c.table table o (λ y. noted (moved y (c.steps + 1) w) (Some told)) → Gives (shown now) (made c arena c.tape c.accounts table) o true
-  stop_made few arena w told table at_make t says writes = gives_now (made c arena c.tape c.accounts table) true
-      (subst (λ (all : Table). Gives (shown c) (made c arena c.tape c.accounts all) o true) (sym (writes x there))
-      (subst (λ (r : Outcome). Gives (shown c) (made c arena c.tape c.accounts (set c.table o (Some (noted (moved x (c.steps + 1) w) (Some r))))) o true) (sym says)
-      (make_stopped c o h (steps_few few) x there at_make arena w t)))
-
-  pub stop_leads : (arena : ArenaView) (w : Walk) (told : Outcome) (table : Table) → x.walk.phase ≡ MakeLayer → IsUnlock o c.arena arena x.walk w
-      → Writes c.table table o (λ y. noted (moved y (c.steps + 1) w) (Some told))
-      → Leads (shown now) (shown (made c arena c.tape c.accounts table)) o
-  stop_leads arena w told table at_make t writes =
-      leads_over c o h x there MakeLayer at_make now is arena c.tape c.accounts table _ (over_first c.table table o (λ y. noted (moved y (c.steps + 1) w) (Some told)) x there writes) w (inr t.walk) refl refl
+  pub stop_made : (arena : ArenaView) (w : Walk) (table : Table) → x.walk.phase ≡ MakeLayer → IsUnlock o c.arena arena x.walk w
+      → IsOver c.table table o (noted (moved x (c.steps + 1) w) (Some (record { reply = NoMemory; at = c.steps + 1 })))
+      → IsSound (made c arena c.tape c.accounts table) × StepsOn now (made c arena c.tape c.accounts table) o DoneMove
+  stop_made arena w table at_make t over =
+      let new = made c arena c.tape c.accounts table in
+      let told : Gives (shown now) new o true = gives_now new true (subst (λ (all : Table). Gives (shown c) (made c arena c.tape c.accounts all) o true) (sym over.is) (make_stopped c o h few_inside x there at_make arena w t)) in (
+        told.0,
+        record { tells = told.1; nears = tt; leads = leads_over c o h x there MakeLayer at_make now is arena c.tape c.accounts table _ over w (inr t.walk) refl refl },
+      )
 
   -- one that leaves its layer has split nothing
   unsplit : x.walk.phase ≡ Unlock → x.outcome ≡ None → x.splits.halves.items ≡ []
@@ -195,20 +175,19 @@ module _ (c now : Core) (o : ℕ) (is : c ≡ now) (h : StateInvariant c) (x : O
       leaving.unsplit.halves
 
   -- its lock was given back, and it goes on in the tree of the next layer
-  pub leave_made : now.steps < 2 ^ 59 → IsArena c.arena.nodes c.arena.trees → IsNext now o (λ q. q ≡ Unlock) → x.outcome ≡ None
-      → (arena : ArenaView) (w : Walk) (table : Table) (leaves : IsAtLeave c.arena o x.task.key x.walk) → IsLeave o c.arena arena x.walk w
-      → Writes c.table table o (λ y. moved y (c.steps + 1) w)
+  pub leave_made : IsArena c.arena.nodes c.arena.trees → x.walk.phase ≡ Unlock → x.outcome ≡ None
+      → (arena : ArenaView) (w : Walk) (table : Table) → IsLeave o c.arena arena x.walk w → IsOver c.table table o (moved x (c.steps + 1) w)
       → IsSound (made c arena c.tape c.accounts table) × StepsOn now (made c arena c.tape c.accounts table) o Moved
-  leave_made few is_arena next untold arena w table leaves t writes = steps_on arena w table writes g.keeps.guarantee brings
+  leave_made is_arena at_unlock untold arena w table t over = steps_on arena w table over g.keeps.guarantee brings
       (λ height n r. (rounds_at height n c.arena x.walk x.outcome x.removal Unlock at_unlock r).1 untold)
       (λ aim. subst (λ (p : Phase). IsOfKind p aim → aim ≡ aims.Write) (sym at_unlock) (λ kind. kind)) leads
-      (leave_done c o h (steps_few few) x there at_unlock untold arena w t)
+      (leave_done c o h few_inside x there at_unlock untold arena w t)
     where
+      leaves : IsAtLeave c.arena o x.task.key x.walk
+      leaves = leave_kept c o h x there at_unlock untold
+
       g : GoesInto o leaves.tree c.arena arena x.walk w
       g = t.goes leaves.tree leaves.taken
-
-      at_unlock : x.walk.phase ≡ Unlock
-      at_unlock = phase_is c now o (λ q. q ≡ Unlock) is x there next
 
       leads : LeadsTo x.walk.phase c.arena arena o (c.steps + 1) x.task.key x.outcome (splits_of x.splits) x.removal (no_step x) x.walk w
       leads = subst (λ (p : Phase). LeadsTo p c.arena arena o (c.steps + 1) x.task.key x.outcome (splits_of x.splits) x.removal (no_step x) x.walk w) (sym at_unlock)
@@ -237,8 +216,3 @@ module _ (c now : Core) (o : ℕ) (is : c ≡ now) (h : StateInvariant c) (x : O
           (replaced_all c.arena k within (unlocked (at c.arena k)) (λ (m : NodeView). m.version.deleted ≡ false → m.level < height) (below k within) below) in
           subst (λ (y : Walk). IsAtPoint height (n + 1) arena y x.splits) (sym g.walk)
           (point_at height (n + 1) arena (walk_into x.walk leaves.tree (x.walk.layer + 1)) x.splits Enter refl (λ other. stays) (inl (live, deeper)))
-
--- an operation that has no outcome has none where it is found inside
-pub untold_inside : (c now : Core) (o : ℕ) → c ≡ now → ((op : Operation) → operation_at now.table o ≡ Some op → op.outcome ≡ None) → (x : Operation)
-    → operation_at c.table o ≡ Some x → x.outcome ≡ None
-untold_inside c now o is none x there = none x (ap (λ (v : Core). operation_at v.table o) (sym is) ∙ there)

@@ -31,6 +31,8 @@ pub mod Refusing
 pub mod Bystanders
 pub mod Righting
 pub mod LayerSteps
+pub mod WriteBodies
+pub mod WriteSteps
 pub mod Climbing
 pub mod ClimbingNears
 pub mod ClimbSteps

@@ -1,4 +1,4 @@
--- The phases of a put by the ensures of the calls that they make: for `Inner::lock`, `judge`, `store`, `publish` and `unlock_one`.
+-- The phases of a put by what their steps tell: for `Inner::write`.
 use Rattle.std.proofs.Common.{Bool, IsSome, None, Option, Some, [], ap, arith, cond, eqb, false, inl, inr, is_some, length, refl, set, subst, sym, true, ℕ, ◌+◌, ◌<◌, ◌∙◌, ◌≡◌, ◌≢◌}
 use Rattle.std.specs.Prelude.{List, ◌*◌, ◌^◌, ◌≤◌, ◌⊎◌}
 use Rattle.mt_rows.specs.declared.reply.Reply.{Reply}
@@ -44,7 +44,7 @@ use Rattle.mt_insert.specs.Publish.{IsPublish, IsPublishFull}
 use Rattle.mt_insert.specs.Store.{IsStore}
 use Rattle.mt_insert.specs.Unlock.{IsUnlock}
 use Rattle.mt_state.specs.declared.moves.Move.{Move}
-use Rattle.mt_state.specs.declared.moves.Move.TheVariants.{Again, Moved}
+use Rattle.mt_state.specs.declared.moves.Move.TheVariants.{Moved, Done as DoneMove}
 use Rattle.mt_state.specs.Views.{Core, StateView, shown}
 use Rattle.mt_state.specs.Promises.{IsHeldByOther}
 use Rattle.mt_state.specs.Phases.{JudgesBy, JudgesLink, Leads, LocksBy}
@@ -64,7 +64,7 @@ use Rattle.mt_core.proofs.Points.{below_at, few_at, nears_by, point_at, point_fi
 use Rattle.mt_core.proofs.RemovalNears.{link_removal, lock_removal, tree_layer, tree_stands}
 use Rattle.mt_state.proofs.Bound.{put_no_remove}
 use Rattle.mt_core.proofs.LookPoints.{next_layer, shallow_below}
-use Rattle.mt_core.proofs.Following.{IsSound, IsOver, Writes, made, may_move, may_over, next_here, opened, over_first, over_next, phase_is, write_no_scan}
+use Rattle.mt_core.proofs.Following.{IsSound, IsOver, made, write_no_scan}
 use Rattle.mt_core.proofs.Leading.{done_from, leads_over}
 
 -- the walk of a put that takes its lock, that goes on to the next node, or that begins anew where its own was deleted
@@ -171,16 +171,6 @@ place_brings v arena w x s p at_p goes none other stays least height n point =
     (λ ungrown. stays height (below_at height n v x s p at_p other point))
     (subst (λ (halves : List Halves). n + 1 ≤ above height x + before_unlock halves height) (sym none) made))
 
--- the splits of an operation have no halves, nor have they where it is found inside
-pub splits_none : (c now : Core) (o : ℕ) → c ≡ now → ((op : Operation) → operation_at now.table o ≡ Some op → op.splits.halves.items ≡ [])
-    → (x : Operation) → operation_at c.table o ≡ Some x → x.splits.halves.items ≡ []
-splits_none c now o is none x there = none x (ap (λ (v : Core). operation_at v.table o) (sym is) ∙ there)
-
--- it was told something, also where it is found inside
-pub told_some : (c now : Core) (o : ℕ) → c ≡ now → ((op : Operation) → operation_at now.table o ≡ Some op → op.outcome ≢ None) → (x : Operation)
-    → operation_at c.table o ≡ Some x → x.outcome ≢ None
-told_some c now o is told x there = told x (ap (λ (v : Core). operation_at v.table o) (sym is) ∙ there)
-
 -- where an operation goes that follows a link, whether it was told something or not
 judges_link : (told : Option Outcome) → {n : NodeView} → {key : Bytes} → {w x : Walk} → JudgesLink n key w x → JudgesBy told n key w x
 judges_link None goes = inr (inr (inl goes))
@@ -202,22 +192,17 @@ pub judged_put : (c : Core) (o : ℕ) → StateInvariant c → (x : Operation) �
 judged_put c o h x there at_judge stays =
     let always = (h.ops o x there).always in put_of x.task.request stays (sym always.aim ∙ subst (λ (p : Phase). IsOfKind p x.walk.aim) at_judge always.kind)
 
-module _ (c now : Core) (o : ℕ) (is : c ≡ now) (h : StateInvariant c) where
-  -- the operation that is to make its step, at its phase
-  standing : (p : Phase) → IsNext now o (λ q. q ≡ p) → IsNext c o (λ q. q ≡ p)
-  standing p next = next_here c now o (λ q. q ≡ p) is next
-
-  -- the next step may be made by it
-  pub may_step : (p : Phase) → is_done p ≡ false → IsNext now o (λ q. q ≡ p) → MayMove c.table o (c.steps + 1)
-  may_step p left next = let s = standing p next in may_move c o h s.0 s.1 (ap is_done s.2 ∙ left)
+module _ (c now : Core) (o : ℕ) (is : c ≡ now) (h : StateInvariant c) (few : now.steps < 2 ^ 59) (x : Operation) (there : operation_at c.table o ≡ Some x) where
+  few_inside : c.steps < 2 ^ 59
+  few_inside = subst (λ (v : Core). v.steps < 2 ^ 59) (sym is) few
 
   -- a step that moves the operation brings it on, by the point to which its walk came
-  nears_made : (x after : Operation) → operation_at c.table o ≡ Some x → after.task ≡ x.task → (arena : ArenaView) (tape : Kept) (accounts : Accounts) (table : Table)
+  nears_made : (after : Operation) → after.task ≡ x.task → (arena : ArenaView) (tape : Kept) (accounts : Accounts) (table : Table)
       → IsOver c.table table o after → Guarantee o c.arena arena
       → ((height n : ℕ) → IsAtPoint height n c.arena x.walk x.splits → IsAtPoint height (n + 1) arena after.walk after.splits)
       → (is_remove (ask x.task) ≡ true → (height n : ℕ) → IsRemovalAt height n c.arena x.walk x.outcome x.removal → IsRemovalAt height (n + 1) arena after.walk after.outcome after.removal)
       → is_scan (ask x.task) ≡ false → Nears now (made c arena tape accounts table) o Moved
-  nears_made x after there asked arena tape accounts table over guarantee brings removes plain = subst (λ (v : Core). Nears v (made c arena tape accounts table) o Moved) is
+  nears_made after asked arena tape accounts table over guarantee brings removes plain = subst (λ (v : Core). Nears v (made c arena tape accounts table) o Moved) is
       (nears_by c (made c arena tape accounts table) o x after there over.there guarantee (ap ask asked) brings removes (λ scans. absurd (both_ways _ plain scans)))
 
   -- what is told of it, and that
@@ -225,298 +210,175 @@ module _ (c now : Core) (o : ℕ) (is : c ≡ now) (h : StateInvariant c) where
       → IsSound new × StepsOn now new o Moved
   steps_on new g nears leads = (g.0, record { tells = g.1; nears = nears; leads = leads })
 
-  -- another operation holds the border node that is to be locked
-  pub lock_waits : IsNext now o (λ q. q ≡ Lock) → (x : Operation) → operation_at c.table o ≡ Some x → (arena : ArenaView) → arena ≡ c.arena
-      → (holder : ℕ) → (at c.arena x.walk.place.node).holder ≡ Some holder
-      → (answer : Move) → answer ≡ Again holder → StepsOn now (record c { arena = arena }) o answer
-  lock_waits next x there arena stays holder held answer answers = subst (StepsOn now (record c { arena = arena }) o) (sym answers) (record {
-    tells = (
-      ap (λ (v : ArenaView). shown (record c { arena = v })) stays ∙ ap shown is,
-      (_, shown_there now.table o next.0 next.1, ap is_done next.2),
-      subst (λ (v : StateView). IsHeldByOther v o holder) (ap shown is) (lock_blocked c o h x there (phase_is c now o (λ q. q ≡ Lock) is x there next) holder held),
-    );
-    nears = tt;
-    leads = tt;
-  })
+  -- and of one that ends
+  ends_it : (new : Core) → Gives (shown now) new o true → Leads (shown now) (shown new) o → IsSound new × StepsOn now new o DoneMove
+  ends_it new g leads = (g.0, record { tells = g.1; nears = tt; leads = leads })
 
-  module _ (few : now.steps < 2 ^ 59) where
-    few_inside : c.steps < 2 ^ 59
-    few_inside = subst (λ (v : Core). v.steps < 2 ^ 59) (sym is) few
+  -- what a step tells that leaves the tape, by the table that is left
+  gives_on : (arena : ArenaView) (tape : Kept) (w : Walk) (table : Table) → IsOver c.table table o (moved x (c.steps + 1) w) → tape ≡ c.tape
+      → Gives (shown c) (made c arena c.tape c.accounts (set c.table o (Some (moved x (c.steps + 1) w)))) o false
+      → Gives (shown now) (made c arena tape c.accounts table) o false
+  gives_on arena tape w table over keeps g =
+      let after = moved x (c.steps + 1) w in
+      subst (λ (all : Table). Gives (shown now) (made c arena tape c.accounts all) o false) (sym over.is)
+      (subst (λ (v : Core). Gives (shown v) (made c arena tape c.accounts (set c.table o (Some after))) o false) is
+      (subst (λ (t : Kept). Gives (shown c) (made c arena t c.accounts (set c.table o (Some after))) o false) (sym keeps) g))
 
-    -- what a step tells that leaves the tape, by the table that is left
-    gives_on : (x : Operation) (arena : ArenaView) (tape : Kept) (w : Walk) (table : Table) → IsOver c.table table o (moved x (c.steps + 1) w)
-        → (from : ArenaView) → arena ≡ from → tape ≡ c.tape
-        → Gives (shown c) (made c from c.tape c.accounts (set c.table o (Some (moved x (c.steps + 1) w)))) o false
-        → Gives (shown now) (made c arena tape c.accounts table) o false
-    gives_on x arena tape w table over from stays keeps g =
-        let after = moved x (c.steps + 1) w in
-        subst (λ (all : Table). Gives (shown now) (made c arena tape c.accounts all) o false) (sym over.is)
-        (subst (λ (v : Core). Gives (shown v) (made c arena tape c.accounts (set c.table o (Some after))) o false) is
-        (subst (λ (v : ArenaView). Gives (shown c) (made c v tape c.accounts (set c.table o (Some after))) o false) (sym stays)
-        (subst (λ (t : Kept). Gives (shown c) (made c from t c.accounts (set c.table o (Some after))) o false) (sym keeps) g)))
+  -- a lock that was taken, or not because the node was deleted or split
+  pub lock_made : x.walk.phase ≡ Lock → x.outcome ≡ None → (arena : ArenaView) (w : Walk) (table : Table) → IsLock o x.task.key c.arena arena x.walk w
+      → IsOver c.table table o (moved x (c.steps + 1) w) → IsSound (made c arena c.tape c.accounts table) × StepsOn now (made c arena c.tape c.accounts table) o Moved
+  lock_made at_lock untold arena w table t over =
+      let remembered = (lock_kept c o h x there at_lock).covers.remembered in
+      let after = moved x (c.steps + 1) w in
+      steps_on (made c arena c.tape c.accounts table)
+      (subst (λ (all : Table). Gives (shown now) (made c arena c.tape c.accounts all) o false) (sym over.is)
+      (lock_done c (shown now) o (ap shown is) h few x there at_lock arena w t))
+      (nears_made after refl arena c.tape c.accounts table over t.keeps.guarantee
+      (λ height n point. point_first height (n + 1) arena w x.splits after.walk.first (lock_brings o c.arena arena w x.walk x.splits t.locks at_lock remembered.there remembered.undeleted height n point))
+      (λ removes height n r. removal_first height (n + 1) arena w x.outcome x.removal after.walk.first (lock_removal o c.arena arena x.walk w x.outcome x.removal at_lock remembered.undeleted t.locks height n r))
+      (write_no_scan c o h x there Lock at_lock (λ aim kind. kind)))
+      (leads_over c o h x there Lock at_lock now is arena c.tape c.accounts table after over w (t.free, subst (λ (told : Option Outcome). LocksBy told o c.arena arena x.removal x.walk w) (sym untold) t.locks) refl refl)
 
-    -- a lock that was taken, or not because the node was deleted or split
-    pub lock_made : IsNext now o (λ q. q ≡ Lock) → (x : Operation) → operation_at c.table o ≡ Some x → x.outcome ≡ None → (arena : ArenaView) (w : Walk) (table : Table)
-        → IsLock o x.task.key c.arena arena x.walk w → Writes c.table table o (λ y. moved y (c.steps + 1) w)
-        → IsSound (made c arena c.tape c.accounts table) × StepsOn now (made c arena c.tape c.accounts table) o Moved
-    lock_made next x there untold arena w table t writes =
-        let at_lock = phase_is c now o (λ q. q ≡ Lock) is x there next in
-        let remembered = (lock_kept c o h x there at_lock).covers.remembered in
-        let after = moved x (c.steps + 1) w in
-        let over = over_first c.table table o (λ y. moved y (c.steps + 1) w) x there writes in
-        steps_on (made c arena c.tape c.accounts table)
-        (subst (λ (all : Table). Gives (shown now) (made c arena c.tape c.accounts all) o false) (sym over.is)
-        (lock_done c (shown now) o (ap shown is) h few x there at_lock arena w t))
-        (nears_made x after there refl arena c.tape c.accounts table over t.keeps.guarantee
-        (λ height n point. point_first height (n + 1) arena w x.splits after.walk.first (lock_brings o c.arena arena w x.walk x.splits t.locks at_lock remembered.there remembered.undeleted height n point))
-        (λ removes height n r. removal_first height (n + 1) arena w x.outcome x.removal after.walk.first (lock_removal o c.arena arena x.walk w x.outcome x.removal at_lock remembered.undeleted t.locks height n r))
-        (write_no_scan c o h x there Lock at_lock (λ aim kind. kind)))
-        (leads_over c o h x there Lock at_lock now is arena c.tape c.accounts table after over w (t.free, subst (λ (told : Option Outcome). LocksBy told o c.arena arena x.removal x.walk w) (sym untold) t.locks) refl refl)
+  -- a lock that was given back
+  pub unlock_made : x.walk.phase ≡ Unlock → is_remove (ask x.task) ≡ false → x.outcome ≢ None → x.splits.halves.items ≡ []
+      → (arena : ArenaView) (w : Walk) (table : Table) → IsUnlock o c.arena arena x.walk w → IsOver c.table table o (moved x (c.steps + 1) w)
+      → IsSound (made c arena c.tape c.accounts table) × StepsOn now (made c arena c.tape c.accounts table) o DoneMove
+  unlock_made at_unlock stays told none arena w table t over =
+      ends_it (made c arena c.tape c.accounts table)
+      (subst (λ (all : Table). Gives (shown now) (made c arena c.tape c.accounts all) o true) (sym over.is)
+      (unlock_done c (shown now) o (ap shown is) h few x there at_unlock stays told none arena w t))
+      (leads_over c o h x there Unlock at_unlock now is arena c.tape c.accounts table _ over w
+      (done_from x.outcome c.arena (splits_of x.splits) x.removal x.walk w told (inr ((h.ops o x there).always.light stays)) t.walk) refl refl)
 
-    -- a lock that was given back
-    pub unlock_made : IsNext now o (λ q. q ≡ Unlock) → (x : Operation) → operation_at c.table o ≡ Some x → is_remove (ask x.task) ≡ false → x.outcome ≢ None
-        → x.splits.halves.items ≡ [] → (arena : ArenaView) (w : Walk) (table : Table) → IsUnlock o c.arena arena x.walk w
-        → Writes c.table table o (λ y. moved y (c.steps + 1) w)
-        → Gives (shown now) (made c arena c.tape c.accounts table) o true
-    unlock_made next x there stays told none arena w table t writes =
-        subst (λ (all : Table). Gives (shown now) (made c arena c.tape c.accounts all) o true) (sym (writes x there))
-        (unlock_done c (shown now) o (ap shown is) h few x there (phase_is c now o (λ q. q ≡ Unlock) is x there next) stays told none arena w t)
+  -- all that was made ready
+  pub ready_made : x.walk.phase ≡ Judge → x.outcome ≡ None → is_put (ask x.task) ≡ true → (arena : ArenaView) (tape : Kept) (w : Walk) (prepared : Prepared) (table : Table)
+      → IsMadeReady o x.task c.arena arena c.tape tape x.walk w prepared → IsOver c.table table o (made_ready (moved x (c.steps + 1) w) prepared)
+      → IsSound (made c arena tape c.accounts table) × StepsOn now (made c arena tape c.accounts table) o Moved
+  ready_made at_judge untold put arena tape w prepared table t over =
+      let after = made_ready (moved x (c.steps + 1) w) prepared in
+      steps_on (made c arena tape c.accounts table)
+      (subst (λ (all : Table). Gives (shown now) (made c arena tape c.accounts all) o false) (sym over.is)
+      (judge_ready c (shown now) o (ap shown is) h few x there at_judge untold put arena tape w prepared t))
+      (nears_made after refl arena tape c.accounts table over t.keeps.guarantee
+      (λ height n point. point_first height (n + 1) arena w x.splits after.walk.first
+      (subst (λ (v : ArenaView). IsAtPoint height (n + 1) v w x.splits) (sym t.stays) (judge_brings c.arena (at c.arena x.walk.place.node) t.slot w x.walk x.splits t.walk at_judge height n point)))
+      (λ removes. absurd (both_ways _ (put_no_remove (ask x.task) put) removes)) (write_no_scan c o h x there Judge at_judge (λ aim kind. kind)))
+      (leads_over c o h x there Judge at_judge now is arena tape c.accounts table after over w (judges_none untold (inl (record { slot = t.slot; stands = t.stands; goes = t.walk }))) refl refl)
 
-    pub unlock_leads : IsNext now o (λ q. q ≡ Unlock) → (x : Operation) → operation_at c.table o ≡ Some x → is_remove (ask x.task) ≡ false → x.outcome ≢ None
-        → (arena : ArenaView) (w : Walk) (table : Table) → IsUnlock o c.arena arena x.walk w → Writes c.table table o (λ y. moved y (c.steps + 1) w)
-        → Leads (shown now) (shown (made c arena c.tape c.accounts table)) o
-    unlock_leads next x there stays told arena w table t writes =
-        leads_over c o h x there Unlock (phase_is c now o (λ q. q ≡ Unlock) is x there next) now is arena c.tape c.accounts table _ (over_first c.table table o (λ y. moved y (c.steps + 1) w) x there writes) w
-        (done_from x.outcome c.arena (splits_of x.splits) x.removal x.walk w told (inr ((h.ops o x there).always.light stays)) t.walk) refl refl
+  -- another long key in the key's place
+  meets_made : x.walk.phase ≡ Judge → x.outcome ≡ None → is_remove (ask x.task) ≡ false → (arena : ArenaView) (tape : Kept) (w : Walk) (table : Table) → tape ≡ c.tape
+      → MeetsOther o x.task.key c.arena arena x.walk w → IsOver c.table table o (moved x (c.steps + 1) w)
+      → IsSound (made c arena tape c.accounts table) × StepsOn now (made c arena tape c.accounts table) o Moved
+  meets_made at_judge untold stays arena tape w table keeps t over =
+      let after = moved x (c.steps + 1) w in
+      steps_on (made c arena tape c.accounts table)
+      (gives_on arena tape w table over keeps (meet_done c o h few_inside x there at_judge untold stays arena w t))
+      (nears_made after refl arena tape c.accounts table over t.keeps.guarantee
+      (λ height n point. point_first height (n + 1) arena w x.splits after.walk.first
+      (subst (λ (v : ArenaView). IsAtPoint height (n + 1) v w x.splits) (sym t.stays) (meet_brings c.arena t.slot w x.walk x.splits t.walk at_judge height n point)))
+      (λ removes. absurd (both_ways _ stays removes)) (write_no_scan c o h x there Judge at_judge (λ aim kind. kind)))
+      (leads_over c o h x there Judge at_judge now is arena tape c.accounts table after over w (judges_none untold (inr (inl (record { slot = t.slot; stands = stands; goes = t.walk })))) refl refl)
+    where
+      stands : IsInSlot (at c.arena x.walk.place.node) t.slot x.task.key x.walk.layer OtherLong
+      stands = subst (λ (y : Walk). IsInSlot (at c.arena y.place.node) y.slot x.task.key y.layer OtherLong) t.walk t.kept.in_slot
 
-    -- all that was made ready
-    pub ready_made : IsNext now o (λ q. q ≡ Judge) → (x : Operation) → operation_at c.table o ≡ Some x → x.outcome ≡ None → is_put (ask x.task) ≡ true
-        → (arena : ArenaView) (tape : Kept) (w : Walk) (prepared : Prepared) (mid table : Table)
-        → IsMadeReady o x.task c.arena arena c.tape tape x.walk w prepared
-        → Writes c.table mid o (λ y. moved y (c.steps + 1) w) → Writes mid table o (λ y. made_ready y prepared)
-        → IsSound (made c arena tape c.accounts table) × StepsOn now (made c arena tape c.accounts table) o Moved
-    ready_made next x there untold put arena tape w prepared mid table t moves readies =
-        let at_judge = phase_is c now o (λ q. q ≡ Judge) is x there next in
-        let after = made_ready (moved x (c.steps + 1) w) prepared in
-        let over = over_next c.table mid table o (λ y. made_ready y prepared) (moved x (c.steps + 1) w) (over_first c.table mid o (λ y. moved y (c.steps + 1) w) x there moves) readies in
-        steps_on (made c arena tape c.accounts table)
-        (subst (λ (all : Table). Gives (shown now) (made c arena tape c.accounts all) o false) (sym over.is)
-        (judge_ready c (shown now) o (ap shown is) h few x there at_judge untold put arena tape w prepared t))
-        (nears_made x after there refl arena tape c.accounts table over t.keeps.guarantee
-        (λ height n point. point_first height (n + 1) arena w x.splits after.walk.first
-        (subst (λ (v : ArenaView). IsAtPoint height (n + 1) v w x.splits) (sym t.stays) (judge_brings c.arena (at c.arena x.walk.place.node) t.slot w x.walk x.splits t.walk at_judge height n point)))
-        (λ removes. absurd (both_ways _ (put_no_remove (ask x.task) put) removes)) (write_no_scan c o h x there Judge at_judge (λ aim kind. kind)))
-        (leads_over c o h x there Judge at_judge now is arena tape c.accounts table after over w (judges_none untold (inl (record { slot = t.slot; stands = t.stands; goes = t.walk }))) refl refl)
+  -- a link that leads on
+  pub link_made : x.walk.phase ≡ Judge → IsArena c.arena.nodes c.arena.trees → (arena : ArenaView) (tape : Kept) (w : Walk) (table : Table) → tape ≡ c.tape
+      → MeetsLink o x.task.key c.arena arena x.walk w → IsOver c.table table o (moved x (c.steps + 1) w)
+      → IsSound (made c arena tape c.accounts table) × StepsOn now (made c arena tape c.accounts table) o Moved
+  link_made at_judge is_arena arena tape w table keeps t over =
+      let judged = (judge_kept c o h x there at_judge).judged in
+      let through = judged.at_border.through in
+      let live = leads c.arena.nodes c.arena.trees is_arena x.walk.place.node t.slot t.tree (record { there = judged.held.there; live = judged.stands.live; in_range = t.in_slot.in_range; is = t.leads }) in
+      let stored = (h.ops o x there).always.stored in
+      let after = moved x (c.steps + 1) w in
+      steps_on (made c arena tape c.accounts table)
+      (gives_on arena tape w table over keeps (below_done c o h few_inside x there at_judge arena w t))
+      (nears_made after refl arena tape c.accounts table over t.goes.keeps.guarantee
+      (λ height n point. point_first height (n + 1) arena w x.splits after.walk.first
+      (subst (λ (v : ArenaView). IsAtPoint height (n + 1) v w x.splits) (sym t.goes.is) (link_brings c.arena x.task.key t.tree w x.walk x.splits t.goes.walk at_judge judged.held.there stored t.kept.begun live.live height n point)))
+      (λ removes height n r. removal_first height (n + 1) arena w x.outcome x.removal after.walk.first (subst (λ (v : ArenaView). IsRemovalAt height (n + 1) v w x.outcome x.removal) (sym t.goes.is)
+      (link_removal c.arena x.task.key t.tree w x.walk x.outcome x.removal t.goes.walk at_judge is_arena through.there (tree_stands c.arena is_arena x.task.key x.walk through judged.held.there judged.at_border.covers.remembered.tree_is judged.stands.live)
+      (tree_layer c.arena is_arena x.task.key x.walk through judged.held.there judged.at_border.covers.remembered.tree_is judged.stands.live)
+      (shallow_below x.walk.layer x.task.key stored (subst (λ (y : Walk). 8 * y.layer < length x.task.key) t.goes.walk t.kept.begun)) live.live height n r)))
+      (write_no_scan c o h x there Judge at_judge (λ aim kind. kind)))
+      (leads_over c o h x there Judge at_judge now is arena tape c.accounts table after over w (judges_link x.outcome (record { slot = t.slot; stands = t.in_slot; tree = t.tree; leads = t.leads; goes = t.goes.walk })) refl refl)
 
-    -- another long key in the key's place
-    meets_made : IsNext now o (λ q. q ≡ Judge) → (x : Operation) → operation_at c.table o ≡ Some x → x.outcome ≡ None → is_remove (ask x.task) ≡ false
-        → (arena : ArenaView) (tape : Kept) (w : Walk) (table : Table) → tape ≡ c.tape → MeetsOther o x.task.key c.arena arena x.walk w
-        → Writes c.table table o (λ y. moved y (c.steps + 1) w)
-        → IsSound (made c arena tape c.accounts table) × StepsOn now (made c arena tape c.accounts table) o Moved
-    meets_made next x there untold stays arena tape w table keeps t writes =
-        let at_judge = phase_is c now o (λ q. q ≡ Judge) is x there next in
-        let after = moved x (c.steps + 1) w in
-        let over = over_first c.table table o (λ y. moved y (c.steps + 1) w) x there writes in
-        steps_on (made c arena tape c.accounts table)
-        (gives_on x arena tape w table over arena refl keeps (meet_done c o h few_inside x there at_judge untold stays arena w t))
-        (nears_made x after there refl arena tape c.accounts table over t.keeps.guarantee
-        (λ height n point. point_first height (n + 1) arena w x.splits after.walk.first
-        (subst (λ (v : ArenaView). IsAtPoint height (n + 1) v w x.splits) (sym t.stays) (meet_brings c.arena t.slot w x.walk x.splits t.walk at_judge height n point)))
-        (λ removes. absurd (both_ways _ stays removes)) (write_no_scan c o h x there Judge at_judge (λ aim kind. kind)))
-        (leads_over c o h x there Judge at_judge now is arena tape c.accounts table after over w (judges_none untold (inr (inl (record { slot = t.slot; stands = stands; goes = t.walk })))) refl refl)
-      where
-        stands : IsInSlot (at c.arena x.walk.place.node) t.slot x.task.key x.walk.layer OtherLong
-        stands = subst (λ (y : Walk). IsInSlot (at c.arena y.place.node) y.slot x.task.key y.layer OtherLong) t.walk t.kept.in_slot
+  -- either of them: it goes on
+  pub on_made : x.walk.phase ≡ Judge → IsArena c.arena.nodes c.arena.trees → x.outcome ≡ None → is_remove (ask x.task) ≡ false
+      → (arena : ArenaView) (tape : Kept) (w : Walk) (table : Table) → tape ≡ c.tape
+      → MeetsOther o x.task.key c.arena arena x.walk w ⊎ MeetsLink o x.task.key c.arena arena x.walk w → IsOver c.table table o (moved x (c.steps + 1) w)
+      → IsSound (made c arena tape c.accounts table) × StepsOn now (made c arena tape c.accounts table) o Moved
+  on_made at_judge is_arena untold stays arena tape w table keeps (inl t) over = meets_made at_judge untold stays arena tape w table keeps t over
+  on_made at_judge is_arena untold stays arena tape w table keeps (inr t) over = link_made at_judge is_arena arena tape w table keeps t over
 
-    -- a link that leads on
-    pub link_made : IsNext now o (λ q. q ≡ Judge) → IsArena c.arena.nodes c.arena.trees → (x : Operation) → operation_at c.table o ≡ Some x
-        → (arena : ArenaView) (tape : Kept) (w : Walk) (table : Table) → tape ≡ c.tape
-        → MeetsLink o x.task.key c.arena arena x.walk w → Writes c.table table o (λ y. moved y (c.steps + 1) w)
-        → IsSound (made c arena tape c.accounts table) × StepsOn now (made c arena tape c.accounts table) o Moved
-    link_made next is_arena x there arena tape w table keeps t writes =
-        let at_judge = phase_is c now o (λ q. q ≡ Judge) is x there next in
-        let judged = (judge_kept c o h x there at_judge).judged in
-        let through = judged.at_border.through in
-        let live = leads c.arena.nodes c.arena.trees is_arena x.walk.place.node t.slot t.tree (record { there = judged.held.there; live = judged.stands.live; in_range = t.in_slot.in_range; is = t.leads }) in
-        let stored = (h.ops o x there).always.stored in
-        let after = moved x (c.steps + 1) w in
-        let over = over_first c.table table o (λ y. moved y (c.steps + 1) w) x there writes in
-        steps_on (made c arena tape c.accounts table)
-        (gives_on x arena tape w table over arena refl keeps (below_done c o h few_inside x there at_judge arena w t))
-        (nears_made x after there refl arena tape c.accounts table over t.goes.keeps.guarantee
-        (λ height n point. point_first height (n + 1) arena w x.splits after.walk.first
-        (subst (λ (v : ArenaView). IsAtPoint height (n + 1) v w x.splits) (sym t.goes.is) (link_brings c.arena x.task.key t.tree w x.walk x.splits t.goes.walk at_judge judged.held.there stored t.kept.begun live.live height n point)))
-        (λ removes height n r. removal_first height (n + 1) arena w x.outcome x.removal after.walk.first (subst (λ (v : ArenaView). IsRemovalAt height (n + 1) v w x.outcome x.removal) (sym t.goes.is)
-        (link_removal c.arena x.task.key t.tree w x.walk x.outcome x.removal t.goes.walk at_judge is_arena through.there (tree_stands c.arena is_arena x.task.key x.walk through judged.held.there judged.at_border.covers.remembered.tree_is judged.stands.live)
-        (tree_layer c.arena is_arena x.task.key x.walk through judged.held.there judged.at_border.covers.remembered.tree_is judged.stands.live)
-        (shallow_below x.walk.layer x.task.key stored (subst (λ (y : Walk). 8 * y.layer < length x.task.key) t.goes.walk t.kept.begun)) live.live height n r)))
-        (write_no_scan c o h x there Judge at_judge (λ aim kind. kind)))
-        (leads_over c o h x there Judge at_judge now is arena tape c.accounts table after over w (judges_link x.outcome (record { slot = t.slot; stands = t.in_slot; tree = t.tree; leads = t.leads; goes = t.goes.walk })) refl refl)
+  -- no memory for it
+  pub refused_made : x.walk.phase ≡ Judge → x.outcome ≡ None → (arena : ArenaView) (tape : Kept) (w : Walk) (table : Table) → tape ≡ c.tape
+      → IsUnlock o c.arena arena x.walk w → (slot : Option ℕ) → StandsIn (at c.arena x.walk.place.node) x.task.key x.walk.layer slot
+      → IsOver c.table table o (noted (moved x (c.steps + 1) w) (Some (record { reply = NoMemory; at = c.steps + 1 })))
+      → IsSound (made c arena tape c.accounts table) × StepsOn now (made c arena tape c.accounts table) o DoneMove
+  refused_made at_judge untold arena tape w table keeps t slot stands over =
+      ends_it (made c arena tape c.accounts table)
+      (subst (λ (all : Table). Gives (shown now) (made c arena tape c.accounts all) o true) (sym over.is)
+      (judge_refused c (shown now) o (ap shown is) h few x there at_judge untold arena tape w keeps t))
+      (leads_over c o h x there Judge at_judge now is arena tape c.accounts table _ over w
+      (judges_none untold (inr (inr (inr (inr (inr (record { slot = slot; stands = stands; goes = t.walk }))))))) refl refl)
 
-    -- either of them: it goes on
-    pub on_made : IsNext now o (λ q. q ≡ Judge) → IsArena c.arena.nodes c.arena.trees → (x : Operation) → operation_at c.table o ≡ Some x → x.outcome ≡ None → is_remove (ask x.task) ≡ false
-        → (arena : ArenaView) (tape : Kept) (w : Walk) (table : Table) → tape ≡ c.tape
-        → MeetsOther o x.task.key c.arena arena x.walk w ⊎ MeetsLink o x.task.key c.arena arena x.walk w → Writes c.table table o (λ y. moved y (c.steps + 1) w)
-        → IsSound (made c arena tape c.accounts table) × StepsOn now (made c arena tape c.accounts table) o Moved
-    on_made next is_arena x there untold stays arena tape w table keeps (inl t) writes = meets_made next x there untold stays arena tape w table keeps t writes
-    on_made next is_arena x there untold stays arena tape w table keeps (inr t) writes = link_made next is_arena x there arena tape w table keeps t writes
+  -- a put that has placed its change, or found its quota full, comes to give its lock back
+  module _ (p : Phase) (at_p : x.walk.phase ≡ p) where
+    unsplit : has_splits p ≡ false → x.splits.halves.items ≡ []
+    unsplit none = ((h.ops o x there).unsplit (ap has_splits at_p ∙ none)).halves
 
-    -- no memory for it
-    pub refused_made : IsNext now o (λ q. q ≡ Judge) → (x : Operation) → operation_at c.table o ≡ Some x → x.outcome ≡ None
-        → (arena : ArenaView) (tape : Kept) (w : Walk) (told : Outcome) (table : Table) → tape ≡ c.tape → IsUnlock o c.arena arena x.walk w
-        → told ≡ record { reply = NoMemory; at = c.steps + 1 } → Writes c.table table o (λ y. noted (moved y (c.steps + 1) w) (Some told))
-        → Gives (shown now) (made c arena tape c.accounts table) o true
-    refused_made next x there untold arena tape w told table keeps t says moves =
-        subst (λ (all : Table). Gives (shown now) (made c arena tape c.accounts all) o true) (sym (moves x there))
-        (subst (λ (r : Outcome). Gives (shown now) (made c arena tape c.accounts (set c.table o (Some (noted (moved x (c.steps + 1) w) (Some r))))) o true) (sym says)
-        (judge_refused c (shown now) o (ap shown is) h few x there (phase_is c now o (λ q. q ≡ Judge) is x there next) untold arena tape w keeps t))
+    nears_placed : ((aim : Aim) → IsOfKind p aim → aim ≡ aims.Write) → ((height round n : ℕ) (v : ArenaView) (y : Walk) → HasRemoved p height round n v y → ⊥) → (arena : ArenaView) (tape : Kept) (accounts : Accounts) (w : Walk) (told : Option Outcome) (table : Table)
+        → IsOver c.table table o (noted (moved (with_nothing_ready x) (c.steps + 1) w) told) → Guarantee o c.arena arena → w ≡ walk_placed x.walk
+        → has_splits p ≡ false → ¬ MayHaveGrown p x.splits.halves.items → ((height : ℕ) → AreBelow c.arena height → AreBelow arena height)
+        → ((height n : ℕ) → IsAtPoint height n c.arena x.walk x.splits → n < above height x.walk + 3 * height + 3)
+        → Nears now (made c arena tape accounts table) o Moved
+    nears_placed write none_removes arena tape accounts w told table over guarantee goes none other stays least =
+        let after = noted (moved (with_nothing_ready x) (c.steps + 1) w) told in
+        nears_made after refl arena tape accounts table over guarantee
+        (λ height n point. point_first height (n + 1) arena w x.splits after.walk.first (place_brings c.arena arena w x.walk x.splits p at_p goes (unsplit none) other stays least height n point))
+        (λ removes height n r. absurd (none_removes height r.round n c.arena x.walk (removed_at height n c.arena x.walk x.outcome x.removal p at_p r)))
+        (write_no_scan c o h x there p at_p write)
 
-    pub refused_leads : IsNext now o (λ q. q ≡ Judge) → (x : Operation) → operation_at c.table o ≡ Some x → x.outcome ≡ None
-        → (arena : ArenaView) (tape : Kept) (w : Walk) (told : Outcome) (table : Table) → IsUnlock o c.arena arena x.walk w
-        → (slot : Option ℕ) → StandsIn (at c.arena x.walk.place.node) x.task.key x.walk.layer slot
-        → Writes c.table table o (λ y. noted (moved y (c.steps + 1) w) (Some told)) → Leads (shown now) (shown (made c arena tape c.accounts table)) o
-    refused_leads next x there untold arena tape w told table t slot stands writes =
-        leads_over c o h x there Judge (phase_is c now o (λ q. q ≡ Judge) is x there next) now is arena tape c.accounts table _ (over_first c.table table o (λ y. noted (moved y (c.steps + 1) w) (Some told)) x there writes) w
-        (judges_none untold (inr (inr (inr (inr (inr (record { slot = slot; stands = stands; goes = t.walk }))))))) refl refl
+  -- a row that was written over the one of its key
+  pub store_made : x.walk.phase ≡ Store → (prepared : Prepared) → x.prepared ≡ Some prepared → (arena : ArenaView) (tape : Kept) (w : Walk) (before : Columns) (table : Table)
+      → IsArena c.arena.nodes c.arena.trees → IsStore o (c.steps + 1) x.task prepared.row c.arena arena c.tape tape x.walk w before
+      → IsOver c.table table o (noted (moved (with_nothing_ready x) (c.steps + 1) w) (Some (record { reply = Replaced; at = c.steps + 1 })))
+      → IsSound (made c arena tape c.accounts table) × StepsOn now (made c arena tape c.accounts table) o Moved
+  store_made at_store prepared has arena tape w before table is_arena st over =
+      let sk = store_kept c o h x there at_store prepared has in
+      steps_on (made c arena tape c.accounts table)
+      (subst (λ (all : Table). Gives (shown now) (made c arena tape c.accounts all) o false) (sym over.is)
+      (store_done c (shown now) o (ap shown is) h few x there (put_at c o h x there Store at_store tt) at_store arena tape w prepared.row before is_arena st))
+      (nears_placed Store at_store (λ aim kind. kind) (λ height round n v y few. few) arena tape c.accounts w _ table over st.guarantee st.walk refl (λ grown. grown)
+      (levels_stay c.arena arena x.walk.place.node _ sk.holds.judged.held.there (st.is sk.pair sk.stable) refl refl) (λ height n point. let few = few_at height n c.arena x.walk x.splits Store at_store point in omega (arith, few)))
+      (leads_over c o h x there Store at_store now is arena tape c.accounts table _ over w st.walk refl refl)
 
-  -- what taking out what an operation has ready ensures
-  abbrev TakesOut : Table → Prepared → Type 0
-  TakesOut table prepared =
-      (y : Operation) → operation_at c.table o ≡ Some y → (y.prepared ≡ Some prepared) × (table ≡ set c.table o (Some (record y { prepared = None })))
+  module _ (at_publish : x.walk.phase ≡ Publish) (prepared : Prepared) (has : x.prepared ≡ Some prepared) (arena : ArenaView) (tape : Kept) (accounts : Accounts) (w : Walk) (table : Table) where
+    by_outcome : (reply : Reply) → IsOver c.table table o (noted (moved (with_nothing_ready x) (c.steps + 1) w) (Some (record { reply = reply; at = c.steps + 1 })))
+        → Guarantee o c.arena arena → w ≡ walk_placed x.walk → ((height : ℕ) → AreBelow c.arena height → AreBelow arena height)
+        → Gives (shown now) (made c arena tape accounts (set c.table o (Some (noted (moved (with_nothing_ready x) (c.steps + 1) w) (Some (record { reply = reply; at = c.steps + 1 })))))) o false
+        → IsSound (made c arena tape accounts table) × StepsOn now (made c arena tape accounts table) o Moved
+    by_outcome reply over guarantee goes stays gives =
+        steps_on (made c arena tape accounts table)
+        (subst (λ (all : Table). Gives (shown now) (made c arena tape accounts all) o false) (sym over.is) gives)
+        (nears_placed Publish at_publish (λ aim kind. kind) (λ height round n v y few. few) arena tape accounts w _ table over guarantee goes refl (λ grown. grown) stays (λ height n point. let few = few_at height n c.arena x.walk x.splits Publish at_publish point in omega (arith, few)))
+        (leads_over c o h x there Publish at_publish now is arena tape accounts table _ over w goes refl refl)
 
-  -- what is there is not none
-  some_ready : (ready : Option Prepared) → IsSome ready → ready ≢ None
-  some_ready None some e = absurd (cc)
-  some_ready (Some prepared) some e = absurd (cc)
+    -- a pair that was made live
+    pub publish_made : IsArena c.arena.nodes c.arena.trees → IsPublish o (c.steps + 1) x.task prepared.row c.arena arena c.tape tape c.accounts accounts x.walk w
+        → IsOver c.table table o (noted (moved (with_nothing_ready x) (c.steps + 1) w) (Some (record { reply = New; at = c.steps + 1 })))
+        → IsSound (made c arena tape accounts table) × StepsOn now (made c arena tape accounts table) o Moved
+    publish_made is_arena pb over =
+        let pk = publish_kept c o h x there at_publish prepared has in
+        by_outcome New over pb.guarantee pb.walk (levels_stay c.arena arena x.walk.place.node _ pk.holds.judged.held.there pb.is refl refl)
+        (publish_done c (shown now) o (ap shown is) h few x there (put_at c o h x there Publish at_publish tt) at_publish arena tape accounts w prepared.row is_arena pb)
 
-  -- the operation that is to store has all ready, and so has the one that is to publish
-  pub store_has : IsNext now o (λ q. q ≡ Store) → (y : Operation) × (operation_at c.table o ≡ Some y) × (y.prepared ≢ None)
-  store_has next = let s = standing Store next in (s.0, s.1, some_ready s.0.prepared (store_ready c o h s.0 s.1 s.2))
-
-  pub publish_has : IsNext now o (λ q. q ≡ Publish) → (y : Operation) × (operation_at c.table o ≡ Some y) × (y.prepared ≢ None)
-  publish_has next = let s = standing Publish next in (s.0, s.1, some_ready s.0.prepared (publish_ready c o h s.0 s.1 s.2))
-
-  module _ (p : Phase) (next : IsNext now o (λ q. q ≡ p)) (table : Table) (prepared : Prepared) (takes : TakesOut table prepared) where
-    abbrev op : Operation
-    op = (standing p next).0
-
-    there : operation_at c.table o ≡ Some op
-    there = (standing p next).1
-
-    has : op.prepared ≡ Some prepared
-    has = (takes op there).0
-
-    over : IsOver c.table table o (with_nothing_ready op)
-    over = over_first c.table table o with_nothing_ready op there (λ y at_y. (takes y at_y).1)
-
-    -- it is still there
-    pub open_after : IsSome (operation_at table o)
-    open_after = ap is_some over.there
-
-    -- it may make its step
-    pub may_go_on : is_done p ≡ false → MayMove table o (c.steps + 1)
-    may_go_on left = may_over c o h op there (ap is_done (standing p next).2 ∙ left) table (with_nothing_ready op) over refl
-
-    -- after the step
-    over_last : (w : Walk) (told : Option Outcome) (last : Table) → Writes table last o (λ y. noted (moved y (c.steps + 1) w) told)
-        → IsOver c.table last o (noted (moved (with_nothing_ready op) (c.steps + 1) w) told)
-    over_last w told last moves = over_next c.table table last o (λ y. noted (moved y (c.steps + 1) w) told) (with_nothing_ready op) over moves
-
-    -- it has split nothing
-    unsplit : has_splits p ≡ false → op.splits.halves.items ≡ []
-    unsplit none = ((h.ops o op there).unsplit (ap has_splits (standing p next).2 ∙ none)).halves
-
-    -- it comes to give its lock back
-    nears_placed : ((aim : Aim) → IsOfKind p aim → aim ≡ aims.Write) → ((height round n : ℕ) (v : ArenaView) (y : Walk) → HasRemoved p height round n v y → ⊥) → (arena : ArenaView) (tape : Kept) (accounts : Accounts) (w : Walk) (told : Option Outcome) (last : Table)
-        → Writes table last o (λ y. noted (moved y (c.steps + 1) w) told) → Guarantee o c.arena arena → w ≡ walk_placed op.walk
-        → has_splits p ≡ false → ¬ MayHaveGrown p op.splits.halves.items → ((height : ℕ) → AreBelow c.arena height → AreBelow arena height)
-        → ((height n : ℕ) → IsAtPoint height n c.arena op.walk op.splits → n < above height op.walk + 3 * height + 3)
-        → Nears now (made c arena tape accounts last) o Moved
-    nears_placed write none_removes arena tape accounts w told last moves guarantee goes none other stays least =
-        let after = noted (moved (with_nothing_ready op) (c.steps + 1) w) told in
-        nears_made op after there refl arena tape accounts last (over_last w told last moves) guarantee
-        (λ height n point. point_first height (n + 1) arena w op.splits after.walk.first (place_brings c.arena arena w op.walk op.splits p (standing p next).2 goes (unsplit none) other stays least height n point))
-        (λ removes height n r. absurd (none_removes height r.round n c.arena op.walk (removed_at height n c.arena op.walk op.outcome op.removal p (standing p next).2 r)))
-        (write_no_scan c o h op there p (standing p next).2 write)
-
-    -- whichever operation is found at the id then
-    module _ (x : Operation) (there_x : operation_at table o ≡ Some x) where
-      it_is : with_nothing_ready op ≡ x
-      it_is = opened c.table table o (with_nothing_ready op) x over there_x
-
-      pub put_is : IsOfPut p → IsPut x.task
-      put_is writes = subst (λ (y : Operation). IsPut y.task) it_is (put_at c o h op there p (standing p next).2 writes)
-
-  -- the room on the tape is there
-  pub room_is : (p : Phase) → IsNext now o (λ q. q ≡ p) → is_prepared p ≡ true → 0 < c.tape.reserved
-  room_is p next ready = let s = standing p next in write_room c o h s.0 s.1 p s.2 ready
-
-  module _ (next : IsNext now o (λ q. q ≡ Store)) (table : Table) (prepared : Prepared) (takes : TakesOut table prepared) (x : Operation) (there_x : operation_at table o ≡ Some x) where
-    -- what is kept of it is what `store` asks
-    pub store_at : IsAtStore c.arena o x.task prepared x.walk
-    store_at = subst (λ (y : Operation). IsAtStore c.arena o y.task prepared y.walk) (it_is Store next table prepared takes x there_x)
-        (let s = standing Store next in store_kept c o h s.0 s.1 s.2 prepared (has Store next table prepared takes))
-
-    -- a row that was written over the one of its key
-    pub store_made : (few : now.steps < 2 ^ 59) (arena : ArenaView) (tape : Kept) (w : Walk) (before : Columns) (told : Outcome) (last : Table)
-        → IsArena c.arena.nodes c.arena.trees → IsStore o (c.steps + 1) x.task prepared.row c.arena arena c.tape tape x.walk w before
-        → told ≡ record { reply = Replaced; at = c.steps + 1 } → Writes table last o (λ y. noted (moved y (c.steps + 1) w) (Some told))
-        → IsSound (made c arena tape c.accounts last) × StepsOn now (made c arena tape c.accounts last) o Moved
-    store_made few arena tape w before told last is_arena stores says moves =
-        let s = standing Store next in
-        let y = with_nothing_ready s.0 in
-        let back = sym (it_is Store next table prepared takes x there_x) in
-        let st = subst (λ (z : Operation). IsStore o (c.steps + 1) z.task prepared.row c.arena arena c.tape tape z.walk w before) back stores in
-        let f : Operation → Operation = λ z. moved z (c.steps + 1) w in
-        let sk = store_kept c o h s.0 s.1 s.2 prepared (has Store next table prepared takes) in
-        steps_on (made c arena tape c.accounts last)
-        (subst (λ (all : Table). Gives (shown now) (made c arena tape c.accounts all) o false) (sym (over_last Store next table prepared takes w (Some told) last moves).is)
-        (subst (λ (r : Outcome). Gives (shown now) (made c arena tape c.accounts (set c.table o (Some (noted (f y) (Some r))))) o false) (sym says)
-        (store_done c (shown now) o (ap shown is) h few s.0 s.1 (put_at c o h s.0 s.1 Store s.2 tt) s.2 arena tape w prepared.row before is_arena st)))
-        (nears_placed Store next table prepared takes (λ aim kind. kind) (λ height round n v y few. few) arena tape c.accounts w (Some told) last moves st.guarantee st.walk refl (λ grown. grown)
-        (levels_stay c.arena arena s.0.walk.place.node _ sk.holds.judged.held.there (st.is sk.pair sk.stable) refl refl) (λ height n point. let few = few_at height n c.arena s.0.walk s.0.splits Store s.2 point in omega (arith, few)))
-        (leads_over c o h s.0 s.1 Store s.2 now is arena tape c.accounts last _ (over_last Store next table prepared takes w (Some told) last moves) w st.walk refl refl)
-
-  module _ (next : IsNext now o (λ q. q ≡ Publish)) (table : Table) (prepared : Prepared) (takes : TakesOut table prepared) (x : Operation) (there_x : operation_at table o ≡ Some x) where
-    -- what is kept of it is what `publish` asks
-    pub publish_at : IsAtPublish c.arena o x.task prepared x.walk
-    publish_at = subst (λ (y : Operation). IsAtPublish c.arena o y.task prepared y.walk) (it_is Publish next table prepared takes x there_x)
-        (let s = standing Publish next in publish_kept c o h s.0 s.1 s.2 prepared (has Publish next table prepared takes))
-
-    module _ (few : now.steps < 2 ^ 59) (arena : ArenaView) (tape : Kept) (accounts : Accounts) (w : Walk) (told : Outcome) (last : Table) (moves : Writes table last o (λ y. noted (moved y (c.steps + 1) w) (Some told))) where
-      by_outcome : (reply : Reply) → told ≡ record { reply = reply; at = c.steps + 1 } → Guarantee o c.arena arena
-          → w ≡ walk_placed (standing Publish next).0.walk → ((height : ℕ) → AreBelow c.arena height → AreBelow arena height)
-          → Gives (shown now) (made c arena tape accounts (set c.table o (Some (noted (moved (with_nothing_ready (standing Publish next).0) (c.steps + 1) w) (Some (record { reply = reply; at = c.steps + 1 })))))) o false
-          → IsSound (made c arena tape accounts last) × StepsOn now (made c arena tape accounts last) o Moved
-      by_outcome reply says guarantee goes stays gives =
-          let s = standing Publish next in
-          let f : Operation → Operation = λ z. moved z (c.steps + 1) w in
-          steps_on (made c arena tape accounts last)
-          (subst (λ (all : Table). Gives (shown now) (made c arena tape accounts all) o false) (sym (over_last Publish next table prepared takes w (Some told) last moves).is)
-          (subst (λ (r : Outcome). Gives (shown now) (made c arena tape accounts (set c.table o (Some (noted (f (with_nothing_ready s.0)) (Some r))))) o false) (sym says) gives))
-          (nears_placed Publish next table prepared takes (λ aim kind. kind) (λ height round n v y few. few) arena tape accounts w (Some told) last moves guarantee goes refl (λ grown. grown) stays (λ height n point. let few = few_at height n c.arena s.0.walk s.0.splits Publish s.2 point in omega (arith, few)))
-          (leads_over c o h s.0 s.1 Publish s.2 now is arena tape accounts last _ (over_last Publish next table prepared takes w (Some told) last moves) w goes refl refl)
-
-      -- a pair that was made live
-      pub publish_made : IsArena c.arena.nodes c.arena.trees
-          → IsPublish o (c.steps + 1) x.task prepared.row c.arena arena c.tape tape c.accounts accounts x.walk w
-          → told ≡ record { reply = New; at = c.steps + 1 }
-          → IsSound (made c arena tape accounts last) × StepsOn now (made c arena tape accounts last) o Moved
-      publish_made is_arena publishes says =
-          let s = standing Publish next in
-          let back = sym (it_is Publish next table prepared takes x there_x) in
-          let pb = subst (λ (z : Operation). IsPublish o (c.steps + 1) z.task prepared.row c.arena arena c.tape tape c.accounts accounts z.walk w) back publishes in
-          let pk = publish_kept c o h s.0 s.1 s.2 prepared (has Publish next table prepared takes) in
-          by_outcome New says pb.guarantee pb.walk
-          (levels_stay c.arena arena s.0.walk.place.node _ pk.holds.judged.held.there pb.is refl refl)
-          (publish_done c (shown now) o (ap shown is) h few s.0 s.1 (put_at c o h s.0 s.1 Publish s.2 tt) s.2 arena tape accounts w prepared.row is_arena pb)
-
-      -- a quota that had no room
-      pub full_made : IsPublishFull o x.task c.arena arena c.tape tape c.accounts accounts x.walk w → told ≡ record { reply = Full; at = c.steps + 1 }
-          → IsSound (made c arena tape accounts last) × StepsOn now (made c arena tape accounts last) o Moved
-      full_made full says =
-          let s = standing Publish next in
-          let ff = subst (λ (z : Operation). IsPublishFull o z.task c.arena arena c.tape tape c.accounts accounts z.walk w) (sym (it_is Publish next table prepared takes x there_x)) full in
-          by_outcome Full says ff.guarantee ff.walk
-          (λ height. subst (λ (v : ArenaView). AreBelow v height) (sym ff.stays))
-          (publish_full c (shown now) o (ap shown is) h few s.0 s.1 s.2 (put_at c o h s.0 s.1 Publish s.2 tt) arena tape accounts w ff)
+    -- a quota that had no room
+    pub full_made : IsPublishFull o x.task c.arena arena c.tape tape c.accounts accounts x.walk w
+        → IsOver c.table table o (noted (moved (with_nothing_ready x) (c.steps + 1) w) (Some (record { reply = Full; at = c.steps + 1 })))
+        → IsSound (made c arena tape accounts table) × StepsOn now (made c arena tape accounts table) o Moved
+    full_made ff over =
+        by_outcome Full over ff.guarantee ff.walk (λ height. subst (λ (v : ArenaView). AreBelow v height) (sym ff.stays))
+        (publish_full c (shown now) o (ap shown is) h few x there at_publish (put_at c o h x there Publish at_publish tt) arena tape accounts w ff)

@@ -20,8 +20,8 @@ use Rattle.mt_operation.specs.declared.operation.Operation.{Operation}
 use Rattle.mt_operation.specs.Tasks.{ask}
 use Rattle.mt_operation.specs.Operations.{view_of, splits_of, scan_of, is_unfinished, moved, counted, noted}
 use Rattle.mt_operation.specs.Phases.{is_done, IsDescent, IsOfKind, IsNoLook}
-use Rattle.mt_operation.specs.declared.steps.Made.{Made}
-use Rattle.mt_operation.specs.declared.steps.Made.TheVariants.{Step, Blocked, Nothing}
+use Rattle.mt_table.specs.declared.steps.Made.{Made}
+use Rattle.mt_table.specs.declared.steps.Made.TheVariants.{Step, Blocked, NoMemory as NoMemoryMade, Nothing}
 use Rattle.mt_operation.specs.Tables.{Table, AreBefore, op_at as operation_at}
 use Rattle.mt_operation.proofs.Tables.{set_is}
 use Rattle.mt_descent.specs.Pasts.{Past, IsNow}
@@ -402,6 +402,7 @@ module _ (c now : Core) (o : ℕ) (is : c ≡ now) (h : StateInvariant c) (room 
   looks_leave : (Tells : Operation → Operation → Type 0) (made : Made) (after : Operation) → made ≢ Step → Looks c.arena Tells op made after → after ≡ op
   looks_leave Tells Step after other t = absurd (other refl)
   looks_leave Tells (Blocked holder) after other t = t.1
+  looks_leave Tells NoMemoryMade after other t = absurd t
   looks_leave Tells Nothing after other t = absurd t
 
   pub look_leaves : (p : Phase) (step : ℕ) (made : Made) (after : Operation) → made ≢ Step → LooksAt p c.arena step op made after → after ≡ op
@@ -417,6 +418,21 @@ module _ (c now : Core) (o : ℕ) (is : c ≡ now) (h : StateInvariant c) (room 
   look_leaves Check step made after other t = looks_leave (TellsCompared c.arena step) made after other t
   look_leaves Hop step made after other t = looks_leave (TellsHopped c.arena) made after other t
   look_leaves _ step made after other t = t.1
+
+  -- no look is refused memory so that it stands
+  pub look_granted : (p : Phase) (step : ℕ) (after : Operation) → LooksAt p c.arena step op NoMemoryMade after → ⊥
+  look_granted Enter step after t = t
+  look_granted Pick step after t = t
+  look_granted Child step after t = t
+  look_granted Verify step after t = t
+  look_granted Forward step after t = t
+  look_granted Search step after t = t
+  look_granted Load step after t = t
+  look_granted Confirm step after t = t
+  look_granted Snap step after t = t
+  look_granted Check step after t = t
+  look_granted Hop step after t = t
+  look_granted _ step after t = let none : ◌≡◌ {A = Made} NoMemoryMade Nothing = t.0 in cc
 
   -- what a look gives that was made
   pub look_comes : IsArena c.arena.nodes c.arena.trees → (p : Phase) → op.walk.phase ≡ p → Comes (λ x after. LooksAt p c.arena (c.steps + 1) x Step after)
@@ -463,6 +479,10 @@ module _ (c now : Core) (o : ℕ) (is : c ≡ now) (h : StateInvariant c) (room 
   look_left Check step after t = absurd t
   look_left Hop step after t = absurd t
   look_left _ step after t = tt
+
+  -- a look at the operation as it is, by what a call tells that was lent it
+  pub look_told : (step : ℕ) (made : Made) (shown left after : Operation) → shown ≡ op → left ≡ after → LooksAt shown.walk.phase c.arena step shown made left → LooksAt op.walk.phase c.arena step op made after
+  look_told step made shown left after shows leaves met = subst (λ (x : Operation). LooksAt x.walk.phase c.arena step x made after) shows (subst (λ (y : Operation). LooksAt shown.walk.phase c.arena step shown made y) leaves met)
 
 -- no first step has the number of the next step
 pub are_before : (c : Core) (h : StateInvariant c) → AreBefore c.table (c.steps + 1)

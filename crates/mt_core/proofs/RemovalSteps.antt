@@ -46,9 +46,9 @@ use Rattle.mt_state.proofs.RemovalBy.{removal_leads, removes_by}
 use Rattle.mt_state.proofs.RemovalDrop.{drop_done}
 use Rattle.mt_state.proofs.RemovalLooks.{back_ended, drop_missing, drop_ready, going_back, lock_back, removal_returned, empties_or_not}
 use Rattle.mt_state.proofs.RemovalSteps.{removed_done, takes_removal, removal_open, unlinking_of}
-use Rattle.mt_core.specs.Nexts.{IsNext, ending}
+use Rattle.mt_core.specs.Nexts.{ending}
 use Rattle.mt_core.specs.Points.{IsRemovalAt, Nears, StepsOn}
-use Rattle.mt_core.proofs.Following.{IsOver, IsSound, Writes, in_the_way, made, may_move, may_over, opened, over_first, over_next, phase_is}
+use Rattle.mt_core.proofs.Following.{IsOver, IsSound, made}
 use Rattle.mt_core.proofs.Leading.{no_step, leads_over}
 use Rattle.mt_arena.proofs.Elsewhere.{layer_is}
 use Rattle.mt_core.proofs.Points.{nears_removal, removal_first, removed_at, rounds_at}
@@ -133,16 +133,11 @@ module _ (c now : Core) (o : ℕ) (is : c ≡ now) (h : StateInvariant c) (few :
   ends_it new g leads = (g.0, record { tells = subst (λ (v : StateView). IsStep v (shown new) o true) (ap shown is) g.1; nears = tt; leads = leads })
 
   -- Judge: all that was made ready, or no key
-  module _ (next : IsNext now o (λ q. q ≡ Judge)) (untold : x.outcome ≡ None) (removes : is_remove (ask x.task) ≡ true) where
-    at_judge : x.walk.phase ≡ Judge
-    at_judge = phase_is c now o (λ q. q ≡ Judge) is x there next
-
-    pub removal_ready : IsArena c.arena.nodes c.arena.trees → (arena : ArenaView) (tape : Kept) (w : Walk) (prepared : Prepared) (mid table : Table)
-        → IsMadeReady o x.task c.arena arena c.tape tape x.walk w prepared
-        → Writes c.table mid o (λ y. moved y (c.steps + 1) w) → Writes mid table o (λ y. made_ready y prepared)
+  module _ (at_judge : x.walk.phase ≡ Judge) (untold : x.outcome ≡ None) (removes : is_remove (ask x.task) ≡ true) where
+    pub removal_ready : IsArena c.arena.nodes c.arena.trees → (arena : ArenaView) (tape : Kept) (w : Walk) (prepared : Prepared) (table : Table)
+        → IsMadeReady o x.task c.arena arena c.tape tape x.walk w prepared → IsOver c.table table o (made_ready (moved x (c.steps + 1) w) prepared)
         → IsSound (made c arena tape c.accounts table) × StepsOn now (made c arena tape c.accounts table) o Moved
-    removal_ready is_arena arena tape w prepared mid table t moves readies =
-        let over = over_next c.table mid table o (λ y. made_ready y prepared) (moved x (c.steps + 1) w) (over_first c.table mid o (λ y. moved y (c.steps + 1) w) x there moves) readies in
+    removal_ready is_arena arena tape w prepared table t over =
         let judged = (judge_kept c o h x there at_judge).judged in
         let through = judged.at_border.through in
         let of = judged.at_border.covers.remembered.tree_is in
@@ -158,55 +153,49 @@ module _ (c now : Core) (o : ℕ) (is : c ≡ now) (h : StateInvariant c) (few :
         (leads_over c o h x there Judge at_judge now is arena tape c.accounts table _ over w
         (judges_none untold (inr (inr (inr (inl (record { slot = t.slot; stands = t.in_slot; goes = t.walk })))))) refl refl)
 
-    pub removal_missing : (arena : ArenaView) (tape : Kept) (w : Walk) (told : Outcome) (table : Table) → tape ≡ c.tape
-        → FindsAbsent o x.task c.arena arena x.walk w
-        → told ≡ record { reply = Absent; at = c.steps + 1 } → Writes c.table table o (λ y. noted (moved y (c.steps + 1) w) (Some told))
+    pub removal_missing : (arena : ArenaView) (tape : Kept) (w : Walk) (table : Table) → tape ≡ c.tape → FindsAbsent o x.task c.arena arena x.walk w
+        → IsOver c.table table o (noted (moved x (c.steps + 1) w) (Some (record { reply = Absent; at = c.steps + 1 })))
         → IsSound (made c arena tape c.accounts table) × StepsOn now (made c arena tape c.accounts table) o DoneMove
-    removal_missing arena tape w told table keeps t says writes =
+    removal_missing arena tape w table keeps t over =
+        let told : Outcome = record { reply = Absent; at = c.steps + 1 } in
         ends_it (made c arena tape c.accounts table)
-        (subst (λ (all : Table). Gives (shown c) (made c arena tape c.accounts all) o true) (sym (writes x there))
+        (subst (λ (all : Table). Gives (shown c) (made c arena tape c.accounts all) o true) (sym over.is)
         (subst (λ (k : Kept). Gives (shown c) (made c arena k c.accounts (set c.table o (Some (noted (moved x (c.steps + 1) w) (Some told))))) o true) (sym keeps)
-        (subst (λ (r : Outcome). Gives (shown c) (made c arena c.tape c.accounts (set c.table o (Some (noted (moved x (c.steps + 1) w) (Some r))))) o true) (sym says)
-        (drop_missing c o h few_here x there at_judge untold (removal_of c o h x there removes) removes arena w t))))
-        (leads_over c o h x there Judge at_judge now is arena tape c.accounts table _ (over_first c.table table o (λ y. noted (moved y (c.steps + 1) w) (Some told)) x there writes) w
+        (drop_missing c o h few_here x there at_judge untold (removal_of c o h x there removes) removes arena w t)))
+        (leads_over c o h x there Judge at_judge now is arena tape c.accounts table _ over w
         (judges_none untold (inr (inr (inr (inr (inl (record { found = t.found; finds = t.finds; absent = t.absent; goes = t.unlocks.walk }))))))) refl refl)
 
   -- Judge on the way back: a link is followed, or there is none
-  module _ (next : IsNext now o (λ q. q ≡ Judge)) (told : x.outcome ≢ None) where
+  module _ (at_judge : x.walk.phase ≡ Judge) (told : x.outcome ≢ None) where
     pub follow_made : IsArena c.arena.nodes c.arena.trees → (arena : ArenaView) (w : Walk) (table : Table) → Follows o x.task.key c.arena arena x.walk w
-        → Writes c.table table o (λ y. moved y (c.steps + 1) w)
+        → IsOver c.table table o (moved x (c.steps + 1) w)
         → (answer : Move) → answer ≡ ending w.phase
         → IsSound (made c arena c.tape c.accounts table) × StepsOn now (made c arena c.tape c.accounts table) o answer
-    follow_made is_arena arena w table (inl t) writes answer says =
+    follow_made is_arena arena w table (inl t) over answer says =
         subst (λ (a : Move). IsSound (made c arena c.tape c.accounts table) × StepsOn now (made c arena c.tape c.accounts table) o a)
-        (sym (says ∙ ap (λ (y : Walk). ending y.phase) t.goes.walk)) (link_made c now o is h few next is_arena x there arena c.tape w table refl t writes)
-    follow_made is_arena arena w table (inr t) writes answer says =
-        let at_judge = phase_is c now o (λ q. q ≡ Judge) is x there next in
+        (sym (says ∙ ap (λ (y : Walk). ending y.phase) t.goes.walk)) (link_made c now o is h few x there at_judge is_arena arena c.tape w table refl t over)
+    follow_made is_arena arena w table (inr t) over answer says =
         subst (λ (a : Move). IsSound (made c arena c.tape c.accounts table) × StepsOn now (made c arena c.tape c.accounts table) o a)
         (sym (says ∙ ap (λ (y : Walk). ending y.phase) t.unlocks.walk)) (ends_it (made c arena c.tape c.accounts table)
-        (subst (λ (all : Table). Gives (shown c) (made c arena c.tape c.accounts all) o true) (sym (writes x there)) (back_ended c o h few_here x there at_judge told arena w t))
-        (leads_over c o h x there Judge at_judge now is arena c.tape c.accounts table _ (over_first c.table table o (λ y. moved y (c.steps + 1) w) x there writes) w
-        (judged_none x.outcome told) refl refl))
+        (subst (λ (all : Table). Gives (shown c) (made c arena c.tape c.accounts all) o true) (sym over.is) (back_ended c o h few_here x there at_judge told arena w t))
+        (leads_over c o h x there Judge at_judge now is arena c.tape c.accounts table _ over w (judged_none x.outcome told) refl refl))
       where
         judged_none : (had : Option Outcome) → had ≢ None → JudgesBy had (at c.arena x.walk.place.node) x.task.key x.walk w
         judged_none None some = absurd (some refl)
         judged_none (Some had) some = inr (record { none = t.none; goes = t.unlocks.walk })
 
   -- Lock on the way back
-  module _ (next : IsNext now o (λ q. q ≡ Lock)) (told : x.outcome ≢ None) where
+  module _ (at_lock : x.walk.phase ≡ Lock) (told : x.outcome ≢ None) where
     pub back_made : IsArena c.arena.nodes c.arena.trees → (arena : ArenaView) (w : Walk) (table : Table) → IsLockWay o x.task.key c.arena arena x.walk w x.removal
-        → Writes c.table table o (λ y. moved y (c.steps + 1) w)
+        → IsOver c.table table o (moved x (c.steps + 1) w)
         → IsSound (made c arena c.tape c.accounts table) × StepsOn now (made c arena c.tape c.accounts table) o Moved
-    back_made is_arena arena w table t writes =
-        let at_lock = phase_is c now o (λ q. q ≡ Lock) is x there next in
+    back_made is_arena arena w table t over =
         let after = moved x (c.steps + 1) w in
-        let over = over_first c.table table o (λ y. moved y (c.steps + 1) w) x there writes in
         moves_on (made c arena c.tape c.accounts table)
-        (subst (λ (all : Table). Gives (shown c) (made c arena c.tape c.accounts all) o false) (sym (writes x there)) (lock_back c o h few_here x there at_lock told arena w t))
+        (subst (λ (all : Table). Gives (shown c) (made c arena c.tape c.accounts all) o false) (sym over.is) (lock_back c o h few_here x there at_lock told arena w t))
         (nears_by_removal (lock_removes c o h x there at_lock told) arena c.tape c.accounts table after over refl t.locks.keeps.guarantee (λ height n point.
         removal_first height (n + 1) arena w x.outcome x.removal after.walk.first (back_lock o x.task.key c.arena arena x.walk w x.outcome x.removal at_lock is_arena (lock_kept c o h x there at_lock) told t height n point)))
-        (leads_over c o h x there Lock at_lock now is arena c.tape c.accounts table _ (over_first c.table table o (λ y. moved y (c.steps + 1) w) x there writes) w
-        (t.locks.free, locked_back x.outcome told) refl refl)
+        (leads_over c o h x there Lock at_lock now is arena c.tape c.accounts table _ over w (t.locks.free, locked_back x.outcome told) refl refl)
       where
         locked_back : (had : Option Outcome) → had ≢ None → LocksBy had o c.arena arena x.removal x.walk w
         locked_back None some = absurd (some refl)
@@ -219,77 +208,35 @@ module _ (c now : Core) (o : ℕ) (is : c ≡ now) (h : StateInvariant c) (few :
           goes = λ other. t.goes (λ at_reached below. other (at_reached, below));
         }
 
-  -- DropKey: what it has ready was taken out
-  module _ (next : IsNext now o (λ q. q ≡ DropKey)) where
-    at_drop : x.walk.phase ≡ DropKey
-    at_drop = phase_is c now o (λ q. q ≡ DropKey) is x there next
-
-    module _ (taken : Table) (prepared : Prepared)
-        (takes : (y : Operation) → operation_at c.table o ≡ Some y → (y.prepared ≡ Some prepared) × (taken ≡ set c.table o (Some (with_nothing_ready y)))) where
-      over_taken : IsOver c.table taken o (with_nothing_ready x)
-      over_taken = over_first c.table taken o with_nothing_ready x there (λ y at_y. (takes y at_y).1)
-
-      pub drop_open : IsSome (operation_at taken o)
-      drop_open = ap is_some over_taken.there
-
-      pub drop_may_go : MayMove taken o (c.steps + 1)
-      drop_may_go = may_over c o h x there (ap is_done at_drop) taken (with_nothing_ready x) over_taken refl
-
-      -- whichever operation is found at the id then
-      module _ (y : Operation) (there_y : operation_at taken o ≡ Some y) where
-        it_is : with_nothing_ready x ≡ y
-        it_is = opened c.table taken o (with_nothing_ready x) y over_taken there_y
-
-        pub drop_is : IsRemoval y.task
-        drop_is = subst (λ (z : Operation). IsRemoval z.task) it_is (drop_removes c o h x there at_drop)
-
-        pub drop_at : IsAtDropKey c.arena o y.task prepared y.walk
-        drop_at = subst (λ (z : Operation). IsAtDropKey c.arena o z.task prepared z.walk) it_is (drop_kept c o h x there at_drop prepared (takes x there).0)
-
-        pub drop_free : IsUnburdened y.removal
-        drop_free = subst (λ (z : Operation). IsUnburdened z.removal) it_is (drop_light c o h x there at_drop)
-
-        pub drop_pairs : IsArena c.arena.nodes c.arena.trees → HasPairs (account_of c.accounts y.task.tenant)
-        drop_pairs is_arena = subst (λ (z : Operation). HasPairs (account_of c.accounts z.task.tenant)) it_is (drop_counted c o h x there is_arena at_drop)
-
-        pub drop_made : IsArena c.arena.nodes c.arena.trees → (arena : ArenaView) → IsArena arena.nodes arena.trees → (tape : Kept) (accounts : Accounts) (w : Walk) (r : Removal)
-            → IsDropKey o (c.steps + 1) y.task c.arena arena c.tape tape c.accounts accounts y.walk w y.removal r
-            → (told : Outcome) → told ≡ record { reply = Removed; at = c.steps + 1 } → (mid last : Table)
-            → Writes taken mid o (λ z. noted (moved z (c.steps + 1) w) (Some told)) → Writes mid last o (λ z. with_removal z r)
-            → IsSound (made c arena tape accounts last) × StepsOn now (made c arena tape accounts last) o Moved
-        drop_made was arena is_now tape accounts w r drops told says mid last moves remembers =
-            let after = noted (moved (with_nothing_ready x) (c.steps + 1) w) (Some told) in
-            let over = over_next c.table mid last o (λ z. with_removal z r) after (over_next c.table taken mid o (λ z. noted (moved z (c.steps + 1) w) (Some told)) (with_nothing_ready x) over_taken moves) remembers in
-            let d = subst (λ (z : Operation). IsDropKey o (c.steps + 1) z.task c.arena arena c.tape tape c.accounts accounts z.walk w z.removal r) (sym it_is) drops in
-            let removes : is_remove (ask x.task) ≡ true = ap is_remove (drop_removes c o h x there at_drop).is in
-            moves_on (made c arena tape accounts last)
-            (subst (λ (all : Table). Gives (shown c) (made c arena tape accounts all) o false) (sym over.is)
-            (subst (λ (t : Outcome). Gives (shown c) (made c arena tape accounts (set c.table o (Some (with_removal (noted (moved (with_nothing_ready x) (c.steps + 1) w) (Some t)) r)))) o false) (sym says)
-            (drop_done c o h few_here x there at_drop was arena is_now tape accounts w r d)))
-            (nears_by_removal removes arena tape accounts last (with_removal after r) over refl d.guarantee (λ height n point. removal_first height (n + 1) arena w (Some told) r after.walk.first
-            (emptied_removal arena x.walk w x.removal r (Some told) height (n + 1) point.round d.goes (λ e. absurd (cc))
-            (subst (λ (v : ArenaView). live_count v.nodes ≤ height) (sym d.is) (live_stays c.arena x.walk.place.node _ refl refl height point.live))
-            (rounds_at height n c.arena x.walk x.outcome x.removal DropKey at_drop point)
-            (let few = removed_at height n c.arena x.walk x.outcome x.removal DropKey at_drop point in omega (arith, few)))))
-            (leads_over c o h x there DropKey at_drop now is arena tape accounts last _ over w (record { unlinks = d.goes.unlinks; returns = d.goes.returns }) refl refl)
+  -- DropKey: the pair is taken out, with what it had ready
+  pub drop_made : x.walk.phase ≡ DropKey → IsArena c.arena.nodes c.arena.trees → (arena : ArenaView) → IsArena arena.nodes arena.trees → (tape : Kept) (accounts : Accounts) (w : Walk) (r : Removal) (table : Table)
+      → IsDropKey o (c.steps + 1) x.task c.arena arena c.tape tape c.accounts accounts x.walk w x.removal r
+      → IsOver c.table table o (with_removal (noted (moved (with_nothing_ready x) (c.steps + 1) w) (Some (record { reply = Removed; at = c.steps + 1 }))) r)
+      → IsSound (made c arena tape accounts table) × StepsOn now (made c arena tape accounts table) o Moved
+  drop_made at_drop was arena is_now tape accounts w r table d over =
+      let told : Outcome = record { reply = Removed; at = c.steps + 1 } in
+      let after = with_removal (noted (moved (with_nothing_ready x) (c.steps + 1) w) (Some told)) r in
+      let removes : is_remove (ask x.task) ≡ true = ap is_remove (drop_removes c o h x there at_drop).is in
+      moves_on (made c arena tape accounts table)
+      (subst (λ (all : Table). Gives (shown c) (made c arena tape accounts all) o false) (sym over.is)
+      (drop_done c o h few_here x there at_drop was arena is_now tape accounts w r d))
+      (nears_by_removal removes arena tape accounts table after over refl d.guarantee (λ height n point. removal_first height (n + 1) arena w (Some told) r after.walk.first
+      (emptied_removal arena x.walk w x.removal r (Some told) height (n + 1) point.round d.goes (λ e. absurd (cc))
+      (subst (λ (v : ArenaView). live_count v.nodes ≤ height) (sym d.is) (live_stays c.arena x.walk.place.node _ refl refl height point.live))
+      (rounds_at height n c.arena x.walk x.outcome x.removal DropKey at_drop point)
+      (let few = removed_at height n c.arena x.walk x.outcome x.removal DropKey at_drop point in omega (arith, few)))))
+      (leads_over c o h x there DropKey at_drop now is arena tape accounts table _ over w (record { unlinks = d.goes.unlinks; returns = d.goes.returns }) refl refl)
 
   -- behind it, till all is given back
-  module _ (next : IsNext now o IsRemovalPhase) where
-    at_removal : IsRemovalPhase x.walk.phase
-    at_removal = phase_is c now o IsRemovalPhase is x there next
-
+  module _ (at_removal : IsRemovalPhase x.walk.phase) where
     pub take_kept : KeptRemoval x.walk.phase c.arena o x.task.key x.walk x.removal
     take_kept = removal_kept_at c o h x there x.walk.phase refl at_removal
 
-    pub take_may_go : MayMove c.table o (c.steps + 1)
-    take_may_go = may_move c o h x there (removal_open x.walk.phase (takes_removal x.walk.phase at_removal))
-
     pub take_made : IsArena c.arena.nodes c.arena.trees → (arena : ArenaView) (w : Walk) (r : Removal)
         → IsRemovalFrom x.walk.phase o (c.steps + 1) x.task.key c.arena arena x.walk w x.removal r
-        → (mid last : Table) → Writes c.table mid o (λ y. moved y (c.steps + 1) w) → Writes mid last o (λ z. with_removal z r)
+        → (last : Table) → IsOver c.table last o (with_removal (moved x (c.steps + 1) w) r)
         → IsSound (made c arena c.tape c.accounts last) × StepsOn now (made c arena c.tape c.accounts last) o Moved
-    take_made is_arena arena w r from mid last moves remembers =
-        let over = over_next c.table mid last o (λ z. with_removal z r) (moved x (c.steps + 1) w) (over_first c.table mid o (λ y. moved y (c.steps + 1) w) x there moves) remembers in
+    take_made is_arena arena w r from last over =
         let p = x.walk.phase in
         let after = with_removal (moved x (c.steps + 1) w) r in
         let leads = removal_leads o (c.steps + 1) x.task.key c.arena arena x.walk w x.removal r is_arena h.deleted p at_removal take_kept from x.outcome (splits_of x.splits) (no_step x) in
@@ -303,41 +250,13 @@ module _ (c now : Core) (o : ℕ) (is : c ≡ now) (h : StateInvariant c) (few :
         (live_fewer c.arena.nodes arena.nodes brings.leaves.count (λ k lt. (brings.leaves.each k lt).gone)) height n point)))
         (leads_over c o h x there p refl now is arena c.tape c.accounts last _ over w leads refl refl)
 
-    -- another operation holds the node that is to be locked
-    pub take_waits : (arena : ArenaView) → arena ≡ c.arena → (holder : ℕ) → IsInTheWay c.arena x.walk.phase x.walk (splits_of x.splits) x.removal (scan_of x.task x.scan) holder
-        → (HoldsRemoval c.arena o x.walk x.removal → holder ≢ o) → (answer : Move) → answer ≡ Again holder → StepsOn now (record c { arena = arena }) o answer
-    take_waits arena stays holder way another answer says =
-        let held = in_the_way c.arena x.walk.phase x.walk (splits_of x.splits) x.removal (scan_of x.task x.scan) holder way in
-        let waits : IsHeldByOther (shown c) o holder = record {
-          other = another (removal_held_at c o h x there at_removal);
-          unfinished = holder_left c o h x there held.0 holder held.1 held.2;
-          op = view_of x;
-          there = shown_there c.table o x there;
-          holds = way;
-        } in
-        subst (StepsOn now (record c { arena = arena }) o) (sym says) (record {
-          tells = (
-            ap (λ (v : ArenaView). shown (record c { arena = v })) stays ∙ ap shown is,
-            (_, shown_there now.table o next.0 next.1, removal_open next.0.walk.phase (takes_removal next.0.walk.phase next.2)),
-            subst (λ (v : StateView). IsHeldByOther v o holder) (ap shown is) waits,
-          );
-          nears = tt;
-          leads = tt;
-        })
-
   -- Unlock: all locks were given back
-  module _ (next : IsNext now o (λ q. q ≡ Unlock)) (removes : is_remove (ask x.task) ≡ true) (told : x.outcome ≢ None) (none : x.splits.halves.items ≡ []) where
-    at_unlock : x.walk.phase ≡ Unlock
-    at_unlock = phase_is c now o (λ q. q ≡ Unlock) is x there next
-
+  module _ (at_unlock : x.walk.phase ≡ Unlock) (removes : is_remove (ask x.task) ≡ true) (told : x.outcome ≢ None) (none : x.splits.halves.items ≡ []) where
     pub return_kept : IsAtUnlockRemoval c.arena o x.task.key x.walk x.removal
     return_kept = removal_unlock_kept c o h x there at_unlock removes told none
 
     pub return_room : (k : ℕ) → IsAmong x.walk x.removal k → CanUnlock (at c.arena k).version
     return_room = removal_unlock_room c o h x there at_unlock removes told none
-
-    pub return_may_go : MayMove c.table o (c.steps + 1)
-    return_may_go = may_move c o h x there (ap is_done at_unlock)
 
     -- a node that was taken out stays so
     returned_gone : (arena : ArenaView) (w : Walk) (r : Removal) → IsUnlockRemoval o c.arena arena x.walk w x.removal r → (k : ℕ) → k < length c.arena.nodes
@@ -348,11 +267,10 @@ module _ (c now : Core) (o : ℕ) (is : c ≡ now) (h : StateInvariant c) (few :
     ]
 
     pub return_made : IsArena c.arena.nodes c.arena.trees → (arena : ArenaView) (w : Walk) (r : Removal) → IsUnlockRemoval o c.arena arena x.walk w x.removal r
-        → (mid last : Table) → Writes c.table mid o (λ y. moved y (c.steps + 1) w) → Writes mid last o (λ z. with_removal z r)
+        → (last : Table) → IsOver c.table last o (with_removal (moved x (c.steps + 1) w) r)
         → (answer : Move) → answer ≡ ending w.phase
         → IsSound (made c arena c.tape c.accounts last) × StepsOn now (made c arena c.tape c.accounts last) o answer
-    return_made is_arena arena w r t mid last moves remembers answer says =
-        let over = over_next c.table mid last o (λ z. with_removal z r) (moved x (c.steps + 1) w) (over_first c.table mid o (λ y. moved y (c.steps + 1) w) x there moves) remembers in
+    return_made is_arena arena w r t last over answer says =
         let new = made c arena c.tape c.accounts last in
         let gives : Gives (shown c) new o (is_done w.phase) = subst (λ (all : Table). Gives (shown c) (made c arena c.tape c.accounts all) o (is_done w.phase)) (sym over.is)
         (removal_returned c o h few_here x there at_unlock removes told none arena w r t) in

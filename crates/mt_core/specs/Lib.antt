@@ -6,6 +6,7 @@ pub mod Admitted
 pub mod Tickets
 pub mod Nexts
 pub mod Looks
+pub mod Writes
 pub mod Climbs
 pub mod Drains
 pub mod Tidies

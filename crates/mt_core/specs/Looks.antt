@@ -11,8 +11,8 @@ use Rattle.mt_arena.specs.Arena.{ArenaView}
 use Rattle.mt_arena.specs.Accesses.{at}
 use Rattle.mt_operation.specs.declared.phase.Phase.{Phase}
 use Rattle.mt_operation.specs.declared.phase.Phase.TheVariants.{Enter, Pick, Child, Verify, Forward, Search, Load, Confirm, Done, Snap, Check, Hop}
-use Rattle.mt_operation.specs.declared.steps.Made.{Made}
-use Rattle.mt_operation.specs.declared.steps.Made.TheVariants.{Step, Blocked, Nothing}
+use Rattle.mt_table.specs.declared.steps.Made.{Made}
+use Rattle.mt_table.specs.declared.steps.Made.TheVariants.{Step, Blocked, NoMemory as NoMemoryMade, Nothing}
 use Rattle.mt_operation.specs.declared.walk.Walk.{Walk}
 use Rattle.mt_operation.specs.declared.outcome.Outcome.{Outcome}
 use Rattle.mt_operation.specs.declared.operation.Operation.{Operation}
@@ -40,6 +40,7 @@ use Rattle.mt_core.specs.Budgets.{Budget, IsBudget, WalksBy}
 abbrev pub Looks : ArenaView → (Operation → Operation → Type 0) → Operation → Made → Operation → Type 0
 Looks v Tells op Step after = Tells op after
 Looks v Tells op (Blocked holder) after = IsInTheWay v op.walk.phase op.walk (splits_of op.splits) op.removal (scan_of op.task op.scan) holder × (after ≡ op)
+Looks v Tells op NoMemoryMade after = ⊥
 Looks v Tells op Nothing after = ⊥
 
 -- an operation has walked on, and has this outcome or none; all else of it is as it was

@@ -1,10 +1,11 @@
-//! All that a state has inside, and its calls. The steps that write stand in `writes.rt`.
+//! All that a state has inside, and its calls. What a step makes of its operation stands in `looks.rt` and
+//! `writes.rt`.
 //!
 //! Invariant: `StateInvariant` of `mt_state`. It owns the nodes, the tape and the operations. Here an
 //! operation is shown whole, with what it remembers on its way; `State` shows its steps and its reply
 //! alone. Units: steps by their numbers, which begin at 1.
 
-ghost use Rattle.std.specs.Prelude.{ℕ, ◌≡◌, ◌≢◌, ◌+◌, ◌<◌, ◌≤◌, ◌^◌, ◌↔◌, IsTrue, IsSome, IfOk, IfErr, OnOk, OnErr, length, Some, None};
+ghost use Rattle.std.specs.Prelude.{ℕ, ◌≡◌, ◌≢◌, ◌+◌, ◌<◌, ◌≤◌, ◌^◌, ◌↔◌, IsTrue, IsSome, IfOk, IfErr, IfSome, IfNone, OnOk, OnErr, length, Some, None};
 ghost use Rattle.std.specs.Option.{option_map};
 ghost use Rattle.mt_rows.specs.Accounts.{account_of};
 ghost use Rattle.mt_batches.specs.Batches.{IsBounded, BringsOn};
@@ -14,6 +15,7 @@ ghost use Rattle.mt_state.specs.Invariant.{StateInvariant};
 ghost use Rattle.mt_state.specs.Begins.{new_state, HaveNoPairs};
 ghost use Rattle.mt_operation.specs.Phases.{IsNoLook};
 ghost use Rattle.mt_core.specs.Looks.{LooksAt, MayLook};
+ghost use Rattle.mt_core.specs.Writes.{parts, WritesAt, MayWrite};
 ghost use Rattle.mt_core.specs.Tickets.{TellsTake, TellsCancel};
 ghost use Rattle.mt_core.specs.Places.{HasPlaces, TakesPlace, AddsPlaces};
 ghost use Rattle.mt_core.specs.Admitted.{MayAdmit, TellsAdmitted, RefusesOpening, IsAccepted, IsRefusedFor};
@@ -34,12 +36,14 @@ use crate::displaced::Displaced;
 use crate::drains::{give_all, least_of, none_given};
 use crate::looks::look;
 use crate::openings::{Opening, give_back, give_up};
+use crate::writes::write;
 use mt_arena::Arena;
 use mt_drains::{DrainedBatch, batch_after};
-use mt_operation::{Operation, Operations, Phase, Stepped};
+use mt_operation::{Operation, Phase};
 use mt_rows::{Refusal, Reply, Tenants};
 use mt_runs::Answer;
 use mt_state::Move;
+use mt_table::{Operations, Stepped};
 use mt_tape::Tape;
 use std::alloc::{AllocError, Global};
 use std::boxed::Box;
@@ -269,8 +273,8 @@ impl Inner {
             return self.spent(id);
         }
         match self.look(id) {
-            Ok(answer) => answer,
-            Err(phase) => self.write(id, phase),
+            Some(answer) => answer,
+            None => self.write(id),
         }
     }
 
@@ -286,14 +290,13 @@ impl Inner {
         }
     }
 
-    // Makes the step in its place where it is a look. An error tells the operation's phase where it is
-    // none, and nothing has happened.
+    // Makes the step where it is a look; none where it is another one, and nothing has happened.
     #[inline]
-    fn look(&mut self, id: usize) -> Result<Move, Phase>
+    fn look(&mut self, id: usize) -> Option<Move>
         requires few { self.old.steps < 2 ^ 59 }
-        ensures looks { IfOk result (λ answer. StepsOn self.old self.new id answer) }
-        ensures others { IfErr result (λ phase. IsNext self.old id (λ p. p ≡ phase) × IsNoLook phase) }
-        ensures unchanged_on_err { OnErr result (self.new ≡ self.old) }
+        ensures looks { IfSome result (λ answer. StepsOn self.old self.new id answer) }
+        ensures others { IfNone result (IsNext self.old id IsNoLook) }
+        ensures unchanged { IfNone result (self.new ≡ self.old) }
     {
         self.arena.facts();
         let step = self.steps + 1;
@@ -302,7 +305,7 @@ impl Inner {
         let stepped = self.operations.step_by(
             id,
             step,
-            |operation|
+            &mut |operation: &mut Operation|
                 requires { MayLook operation.old.walk.phase arena.now operation.old }
                 ensures { LooksAt operation.old.walk.phase arena.entry.now step operation.old result operation.new }
             { look(alloc, arena, operation, step) },
@@ -310,11 +313,46 @@ impl Inner {
         match stepped {
             Stepped::To(phase) => {
                 self.steps = step;
-                Ok(ending(phase))
+                Some(ending(phase))
             }
-            Stepped::Blocked(holder) => Ok(again(holder)),
-            Stepped::Left(phase) => Err(phase),
-            Stepped::Absent => Ok(Move::NoSuch),
+            Stepped::Blocked(holder) => Some(again(holder)),
+            Stepped::NoMemory => unreachable!(),
+            Stepped::Left(_) => None,
+            Stepped::Absent => Some(Move::NoSuch),
+        }
+    }
+
+    // Makes a step that is no look, where one is left.
+    #[inline(never)]
+    fn write(&mut self, id: usize) -> Move
+        requires others { IsNext self.old id IsNoLook }
+        requires few { self.old.steps < 2 ^ 59 }
+        ensures { StepsOn self.old self.new id result }
+    {
+        self.arena.facts();
+        let step = self.steps + 1;
+        let alloc = self.alloc;
+        let arena = &mut self.arena;
+        let tape = &mut self.tape;
+        let tenants = &mut self.tenants;
+        let stepped = self.operations.step_by(
+            id,
+            step,
+            &mut |operation: &mut Operation|
+                requires { MayWrite operation.old.walk.phase id step (parts arena.now tape.now tenants.now) operation.old }
+                ensures { WritesAt operation.old.walk.phase id step (parts arena.entry.now tape.entry.now tenants.entry.now) (parts arena.exit.now tape.exit.now tenants.exit.now) operation.old result operation.new }
+            { write(alloc, arena, tape, tenants, operation, step, id) },
+        );
+        self.arena.facts();
+        match stepped {
+            Stepped::To(phase) => {
+                self.steps = step;
+                ending(phase)
+            }
+            Stepped::Blocked(holder) => again(holder),
+            Stepped::NoMemory => Move::NoMemory,
+            Stepped::Left(_) => Move::NoSuch,
+            Stepped::Absent => unreachable!(),
         }
     }
 
@@ -328,7 +366,7 @@ impl Inner {
 }
 
 // Another operation is in the way.
-pub(crate) fn again(holder: usize) -> Move
+fn again(holder: usize) -> Move
     ensures { result ≡ Move.Again holder }
 {
     Move::Again {
@@ -337,7 +375,7 @@ pub(crate) fn again(holder: usize) -> Move
 }
 
 // What a step answers that leads to this phase.
-pub(crate) fn ending(phase: Phase) -> Move
+fn ending(phase: Phase) -> Move
     ensures { result ≡ ending phase }
 {
     match phase {
@@ -353,16 +391,5 @@ fn next_phase(operations: &Operations, id: usize) -> Option<Phase>
     match operations.get(id)?.walk.phase {
         Phase::Done => None,
         phase => Some(phase),
-    }
-}
-
-// The operation of an id, which is there.
-pub(crate) fn open<'a>(operations: &'a Operations, id: usize) -> &'a Operation
-    requires { IsSome (operation_at operations.now id) }
-    ensures { operation_at operations.now id ≡ Some result.now }
-{
-    match operations.get(id) {
-        Some(operation) => operation,
-        None => unreachable!(),
     }
 }

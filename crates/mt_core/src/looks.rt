@@ -25,10 +25,11 @@ ghost use Rattle.mt_core.specs.Budgets.{Budget, IsBudget, WalksBy};
 
 use mt_arena::Arena;
 use mt_descent::{child, confirm, enter, forward, load, pick, search, verify};
-use mt_operation::{Made, Operation, Outcome, Phase, Request, Walk};
+use mt_operation::{Operation, Outcome, Phase, Request, Walk};
 use mt_rows::{PairList, Reply, Row};
 use mt_scan::{check, hop, snap};
 use mt_slices::StoredKey;
+use mt_table::Made;
 use std::alloc::{AllocError, Global};
 use std::mem;
 

@@ -10,10 +10,11 @@ ghost use Rattle.mt_core.specs.Tidies.{IsRestOf, DisplacesRestOf};
 ghost use Rattle.mt_core.specs.Admitted.{IsRequest, IsAdmitted, IsMadeOf, view_in};
 
 use crate::displaced::Displaced;
-use mt_operation::{Operation, Operations, Outcome, Request, Spare, Task};
+use mt_operation::{Operation, Outcome, Request, Spare, Task};
 use mt_rows::{Change, ColumnIndexes, Command, Key, Refusal};
 use mt_runs::Answer;
 use mt_slices::{KeyRefusal, StoredKey};
+use mt_table::Operations;
 use std::alloc::{AllocError, Global};
 use std::boxed::Box;
 use std::marker::Model;

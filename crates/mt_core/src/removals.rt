@@ -1,204 +1,148 @@
 //! The steps of a removal from its look at its border node on, and of its way back to the link of a layer that
 //! it has left empty.
 
-ghost use Rattle.std.specs.Prelude.{◌≡◌, ◌≢◌, ◌<◌, ◌^◌, IfSome, IfNone, Some, None, [], true};
-ghost use Rattle.mt_operation.specs.declared.operation.Operation.{Operation as AnyOperation};
+ghost use Rattle.std.specs.Prelude.{◌≡◌, ◌≢◌, IfSome, IfNone, ℕ, None, [], true};
 ghost use Rattle.mt_operation.specs.Operations.{SplitsView, ScanView};
 ghost use Rattle.mt_operation.specs.Phases.{IsRemovalPhase};
-ghost use Rattle.mt_operation.specs.Tables.{op_at as operation_at};
 ghost use Rattle.mt_operation.specs.Tasks.{ask};
 ghost use Rattle.mt_remove.specs.KeptRemovals.{HoldsRemoval, KeptRemoval};
 ghost use Rattle.mt_remove.specs.Steps.{IsRemovalFrom};
 ghost use Rattle.mt_remove.specs.Writes.{is_remove};
 ghost use Rattle.mt_state.specs.Promises.{IsInTheWay};
-ghost use Rattle.mt_core.specs.Nexts.{IsNext};
-ghost use Rattle.mt_core.specs.Points.{StepsOn};
+ghost use Rattle.mt_core.specs.Writes.{parts, Writes, WritesNodes, WritesTape, MayLock, MayJudge, MayDrop, MayTake, MayUnlock};
+ghost use Rattle.mt_core.specs.Writes.{TellsLocked, TellsJudged, TellsDropped, TellsTaken, TellsUnlocked};
 
-use crate::inner::{Inner, again, ending, open};
-use crate::looks::no_memory;
-use crate::writes::{placed, taken_out};
+use crate::looks::{absent, no_memory};
+use crate::writes::{placed, take_ready};
 use mt_arena::Arena;
-use mt_operation::{Phase, Removal, Walk};
+use mt_operation::{Operation, Phase, Removal, Walk};
 use mt_remove::{
     Looked, clean_layer, collapse, drop_key, fix_next, follow, judge, lock, lock_above, lock_prev,
     unlink, unlock,
 };
-use mt_rows::Reply;
+use mt_rows::{Reply, Tenants};
 use mt_slices::StoredKey;
-use mt_state::Move;
+use mt_table::Made;
+use mt_tape::Tape;
+use std::alloc::Global;
 
-impl Inner {
-    // Looks for the key under the lock, and makes all growths of the step that takes it out.
-    #[inline(never)]
-    pub(crate) fn judge_removal(&mut self, id: usize) -> Move
-        requires next { IsNext self.old id (λ phase. phase ≡ Phase.Judge) }
-        requires few { self.old.steps < 2 ^ 59 }
-        requires untold { (op : AnyOperation) → operation_at self.old.table id ≡ Some op → op.outcome ≡ None }
-        requires removes { (op : AnyOperation) → operation_at self.old.table id ≡ Some op → is_remove (ask op.task) ≡ true }
-        ensures { StepsOn self.old self.new id result }
-    {
-        self.arena.facts();
-        self.steps += 1;
-        let operation = open(&self.operations, id);
-        let mut walk = operation.walk;
-        let looked = judge(
-            self.alloc,
-            &mut self.arena,
-            &mut self.tape,
-            &operation.task,
-            &mut walk,
-            id,
-        );
-        self.arena.facts();
-        match looked {
-            Looked::Ready(prepared) => {
-                self.operations.go_on(id, self.steps, &walk);
-                self.operations.make_ready(id, prepared);
-                Move::Moved
-            }
-            Looked::GoesOn => {
-                self.operations.go_on(id, self.steps, &walk);
-                Move::Moved
-            }
-            Looked::Absent => {
-                let told = placed(Reply::Absent, self.steps);
-                self.operations
-                    .go_on_with(id, self.steps, &walk, Some(told));
-                Move::Done
-            }
-            Looked::NoMemory => {
-                self.operations
-                    .go_on_with(id, self.steps, &walk, Some(no_memory(self.steps)));
-                Move::Done
-            }
+/// Looks for the key under the lock, and makes all growths of the step that takes it out.
+pub(crate) fn judge_removal(
+    alloc: Global,
+    arena: &mut Arena,
+    tape: &mut Tape,
+    operation: &mut Operation,
+    step: u64,
+    id: usize,
+) -> Made
+    requires may { MayJudge id arena.old operation.old }
+    requires untold { operation.old.outcome ≡ None }
+    requires removes { is_remove (ask operation.old.task) ≡ true }
+    ensures { WritesTape id (TellsJudged id step) arena.old arena.new tape.old tape.new operation.old result operation.new }
+{
+    match judge(alloc, arena, tape, &operation.task, &mut operation.walk, id) {
+        Looked::Ready(prepared) => {
+            operation.prepared = Some(prepared);
+            Made::Step
+        }
+        Looked::GoesOn => Made::Step,
+        Looked::Absent => {
+            operation.outcome = Some(absent(step));
+            Made::Step
+        }
+        Looked::NoMemory => {
+            operation.outcome = Some(no_memory(step));
+            Made::Step
         }
     }
+}
 
-    // Takes the pair of the key out.
-    #[inline(never)]
-    pub(crate) fn drop_key(&mut self, id: usize) -> Move
-        requires next { IsNext self.old id (λ phase. phase ≡ Phase.DropKey) }
-        requires few { self.old.steps < 2 ^ 59 }
-        ensures { StepsOn self.old self.new id result }
-    {
-        self.arena.facts();
-        self.steps += 1;
-        let prepared = taken_out(&mut self.operations, id);
-        let operation = open(&self.operations, id);
-        let mut walk = operation.walk;
-        let mut removal = operation.removal;
-        drop_key(
-            &mut self.arena,
-            &mut self.tape,
-            &mut self.tenants,
-            &operation.task,
-            &mut walk,
-            &mut removal,
-            prepared,
-            self.steps,
-            id,
-        );
-        self.arena.facts();
-        let told = placed(Reply::Removed, self.steps);
-        self.operations
-            .go_on_with(id, self.steps, &walk, Some(told));
-        self.operations.remember_removal(id, &removal);
-        Move::Moved
-    }
+/// Takes the pair of the key out.
+#[inline(never)]
+pub(crate) fn drop_pair(
+    arena: &mut Arena,
+    tape: &mut Tape,
+    tenants: &mut Tenants,
+    operation: &mut Operation,
+    step: u64,
+    id: usize,
+) -> Made
+    requires { MayDrop id step (parts arena.old tape.old tenants.old) operation.old }
+    ensures { Writes id (TellsDropped id step) (parts arena.old tape.old tenants.old) (parts arena.new tape.new tenants.new) operation.old result operation.new }
+{
+    let prepared = take_ready(&mut operation.prepared);
+    drop_key(
+        arena,
+        tape,
+        tenants,
+        &operation.task,
+        &mut operation.walk,
+        &mut operation.removal,
+        prepared,
+        step,
+        id,
+    );
+    operation.outcome = Some(placed(Reply::Removed, step));
+    Made::Step
+}
 
-    // Brings an empty border node one step nearer to its end, or an empty layer.
-    #[inline(never)]
-    pub(crate) fn take_out(&mut self, id: usize) -> Move
-        requires next { IsNext self.old id IsRemovalPhase }
-        requires few { self.old.steps < 2 ^ 59 }
-        ensures { StepsOn self.old self.new id result }
-    {
-        self.arena.facts();
-        let operation = open(&self.operations, id);
-        let mut walk = operation.walk;
-        let mut removal = operation.removal;
-        if let Some(holder) = take_out_by(
-            &mut self.arena,
-            &operation.task.key,
-            &mut walk,
-            &mut removal,
-            self.steps + 1,
-            id,
-        ) {
-            return again(holder);
-        }
-        self.steps += 1;
-        self.arena.facts();
-        self.operations.go_on(id, self.steps, &walk);
-        self.operations.remember_removal(id, &removal);
-        Move::Moved
+/// Brings an empty border node one step nearer to its end, or an empty layer.
+#[inline(never)]
+pub(crate) fn take_out(arena: &mut Arena, operation: &mut Operation, step: u64, id: usize) -> Made
+    requires { MayTake id arena.old operation.old }
+    ensures { WritesNodes id (TellsTaken id step) arena.old arena.new operation.old result operation.new }
+{
+    match take_out_by(
+        arena,
+        &operation.task.key,
+        &mut operation.walk,
+        &mut operation.removal,
+        step,
+        id,
+    ) {
+        Some(holder) => Made::Blocked(holder),
+        None => Made::Step,
     }
+}
 
-    // Gives all locks of a removal back. Where it has left its layer empty, it goes back to the link.
-    #[inline(never)]
-    pub(crate) fn unlock_removal(&mut self, id: usize) -> Move
-        requires next { IsNext self.old id (λ phase. phase ≡ Phase.Unlock) }
-        requires few { self.old.steps < 2 ^ 59 }
-        requires told { (op : AnyOperation) → operation_at self.old.table id ≡ Some op → op.outcome ≢ None }
-        requires unsplit { (op : AnyOperation) → operation_at self.old.table id ≡ Some op → op.splits.halves.items ≡ [] }
-        requires removes { (op : AnyOperation) → operation_at self.old.table id ≡ Some op → is_remove (ask op.task) ≡ true }
-        ensures { StepsOn self.old self.new id result }
-    {
-        self.arena.facts();
-        self.steps += 1;
-        let operation = open(&self.operations, id);
-        let mut walk = operation.walk;
-        let mut removal = operation.removal;
-        unlock(&mut self.arena, &mut walk, &mut removal, id);
-        self.arena.facts();
-        self.operations.go_on(id, self.steps, &walk);
-        self.operations.remember_removal(id, &removal);
-        ending(walk.phase)
-    }
+/// Gives all locks of a removal back. Where it has left its layer empty, it goes back to the link.
+pub(crate) fn unlock_removal(arena: &mut Arena, operation: &mut Operation, id: usize) -> Made
+    requires may { MayUnlock id arena.old operation.old }
+    requires told { operation.old.outcome ≢ None }
+    requires none { operation.old.splits.halves.items ≡ [] }
+    requires removes { is_remove (ask operation.old.task) ≡ true }
+    ensures { WritesNodes id (TellsUnlocked id) arena.old arena.new operation.old result operation.new }
+{
+    unlock(arena, &mut operation.walk, &mut operation.removal, id);
+    Made::Step
+}
 
-    // Takes the lock of the border node on the way back to a link.
-    #[inline(never)]
-    pub(crate) fn lock_back(&mut self, id: usize) -> Move
-        requires next { IsNext self.old id (λ phase. phase ≡ Phase.Lock) }
-        requires few { self.old.steps < 2 ^ 59 }
-        requires told { (op : AnyOperation) → operation_at self.old.table id ≡ Some op → op.outcome ≢ None }
-        ensures { StepsOn self.old self.new id result }
-    {
-        self.arena.facts();
-        let operation = open(&self.operations, id);
-        let mut walk = operation.walk;
-        if let Some(holder) = lock(
-            &mut self.arena,
-            &operation.task.key,
-            &mut walk,
-            &operation.removal,
-            id,
-        ) {
-            return again(holder);
-        }
-        self.steps += 1;
-        self.arena.facts();
-        self.operations.go_on(id, self.steps, &walk);
-        Move::Moved
+/// Takes the lock of the border node on the way back to a link.
+pub(crate) fn lock_back(arena: &mut Arena, operation: &mut Operation, id: usize) -> Made
+    requires may { MayLock id arena.old operation.old }
+    requires told { operation.old.outcome ≢ None }
+    ensures { WritesNodes id (TellsLocked id) arena.old arena.new operation.old result operation.new }
+{
+    match lock(
+        arena,
+        &operation.task.key,
+        &mut operation.walk,
+        &operation.removal,
+        id,
+    ) {
+        Some(holder) => Made::Blocked(holder),
+        None => Made::Step,
     }
+}
 
-    // Follows a link on the way back; where there is none, another operation has taken the layer out.
-    #[inline(never)]
-    pub(crate) fn judge_back(&mut self, id: usize) -> Move
-        requires next { IsNext self.old id (λ phase. phase ≡ Phase.Judge) }
-        requires few { self.old.steps < 2 ^ 59 }
-        requires told { (op : AnyOperation) → operation_at self.old.table id ≡ Some op → op.outcome ≢ None }
-        ensures { StepsOn self.old self.new id result }
-    {
-        self.arena.facts();
-        self.steps += 1;
-        let operation = open(&self.operations, id);
-        let mut walk = operation.walk;
-        follow(&mut self.arena, &operation.task.key, &mut walk, id);
-        self.arena.facts();
-        self.operations.go_on(id, self.steps, &walk);
-        ending(walk.phase)
-    }
+/// Follows a link on the way back; where there is none, another operation has taken the layer out.
+pub(crate) fn judge_back(arena: &mut Arena, operation: &mut Operation, id: usize) -> Made
+    requires may { MayJudge id arena.old operation.old }
+    requires told { operation.old.outcome ≢ None }
+    ensures { (step : ℕ) → WritesNodes id (TellsJudged id step) arena.old arena.new operation.old result operation.new }
+{
+    follow(arena, &operation.task.key, &mut operation.walk, id);
+    Made::Step
 }
 
 // Makes the step of the walk's phase, by its number. Only a lock is in its way: the number is that of its
