@@ -3,7 +3,7 @@ use Rattle.std.proofs.Common.{◌≡◌, ℕ, suc, ◌+◌, ◌≤◌, [], ◌�
 use Rattle.std.specs.Option.{option_map}
 use Rattle.std.proofs.lemmas.List.{length-map}
 use Rattle.mt_operation.specs.Operations.{view_of}
-use Rattle.mt_operation.specs.Tables.{Table, op_at as operation_at}
+use Rattle.mt_operation.specs.Tables.{Table}
 use Rattle.mt_operation.specs.Tables as tables
 use Rattle.mt_operation.proofs.Places.{there_count, count_there}
 use Rattle.mt_state.specs.Views.{Core, Shown, shown, op_at}

@@ -1,5 +1,5 @@
 -- What the gate tells of a front whose last append failed, and what setting its end right leaves.
-use Rattle.std.proofs.Common.{◌≡◌, ◌≢◌, inl, inr, ⊎_elim, ℕ, ◌∷◌, ◌++◌, length, refl, sym, ◌∙◌, ap, subst, append_assoc}
+use Rattle.std.proofs.Common.{◌≡◌, ◌≢◌, inr, ⊎_elim, ℕ, ◌∷◌, ◌++◌, length, refl, sym, ◌∙◌, ap, subst, append_assoc}
 use Rattle.mt_rows.specs.Rows.{Bytes}
 use Rattle.mt_disk.specs.Disk.{DiskState, IsDurable, LeavesOnly, synced}
 use Rattle.mt_disk.proofs.CrashLaws.{after_sync, joined, widened}

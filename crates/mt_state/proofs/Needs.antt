@@ -14,7 +14,7 @@ use Rattle.mt_operation.specs.declared.splits.Halves.{Halves}
 use Rattle.mt_operation.specs.declared.operation.Operation.{Operation}
 use Rattle.mt_operation.specs.Tasks.{ask, command_of}
 use Rattle.mt_operation.specs.Operations.{view_of, splits_of, scan_of}
-use Rattle.mt_operation.specs.Phases.{is_done, IsOfKind, IsLayerPhase, is_prepared, IsLayerKind, Kind, row, IsRemovalPhase}
+use Rattle.mt_operation.specs.Phases.{is_done, IsLayerPhase, is_prepared, IsLayerKind, Kind, row, IsRemovalPhase}
 use Rattle.mt_operation.specs.Tables.{op_at as operation_at}
 use Rattle.mt_descent.specs.KeptWalks.{IsAtBorder, KeptAt, HoldsNothing}
 use Rattle.mt_insert.specs.Puts.{IsPut, is_put}

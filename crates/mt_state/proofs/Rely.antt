@@ -34,7 +34,7 @@ use Rattle.mt_state.specs.Promises.{IsAnswer}
 use Rattle.mt_state.specs.KeptOperations.{IsOpenOperation, IsOnItsWay, HasAnswer, IsBound, MayUnlock, MayUnlockUnsplit, IsUnlinking, IsClimbing, IsLayering, IsReturning, IsKeptAt, IsPlacedOnce, IsKeptOf, IsKeptFor, IsReadingAt, IsChecking, IsScanningAt, IsWritingAt, IsScanKept}
 use Rattle.mt_state.specs.Invariant.{StateGuarantee}
 use Rattle.mt_state.proofs.Granted.{quota_stays}
-use Rattle.mt_operation.specs.Phases.{IsLayerKind, IsLayerPhase, Kind, row}
+use Rattle.mt_operation.specs.Phases.{Kind, row}
 use Rattle.mt_operation.specs.Phases as kinds
 
 -- what is placed stays so

@@ -15,7 +15,7 @@ use Rattle.mt_operation.specs.declared.splits.Halves.{Halves}
 use Rattle.mt_operation.specs.declared.operation.Operation.{Operation}
 use Rattle.mt_operation.specs.Tasks.{ask}
 use Rattle.mt_operation.specs.Operations.{view_of, IsUnsplit, OperationView}
-use Rattle.mt_operation.specs.Phases.{is_done, MayFollow, IsOfKind, FitsAim, Kind, change_at, holds_of, row, is_unplaced, is_to_come, has_splits, IsRemovalKind, IsRemovalPhase}
+use Rattle.mt_operation.specs.Phases.{is_done, MayFollow, IsOfKind, FitsAim, Kind, change_at, holds_of, row, is_unplaced, is_to_come, IsRemovalKind, IsRemovalPhase}
 use Rattle.mt_operation.specs.Phases as kinds
 use Rattle.mt_operation.specs.Tables.{op_at as operation_at}
 use Rattle.mt_descent.specs.WalkMoves.{KeepsPairs}

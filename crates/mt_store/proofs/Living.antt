@@ -40,7 +40,7 @@ use Rattle.mt_store_logs.specs.Shows.{WaitsIn, drained_upto}
 use Rattle.mt_store.specs.declared.serving.Serving.{Serving}
 use Rattle.mt_store.specs.declared.serving.Settle.{Settle}
 use Rattle.mt_store.specs.Lives.{Life, life_from, firsts, story_in}
-use Rattle.mt_store.specs.Holds.{quotas_of, LeadsTo, placed_of, HoldsKept, IsLogAt, EachLog, IsSettleIn, AreSettles, HoldsServing}
+use Rattle.mt_store.specs.Holds.{quotas_of, LeadsTo, placed_of, HoldsKept, IsLogAt, EachLog, IsSettleIn, HoldsServing}
 use Rattle.mt_store.specs.Holds as holds
 use Rattle.mt_store.specs.Returns.{IsFresh}
 use Rattle.mt_store.proofs.Comes.{stays_here, one_more}

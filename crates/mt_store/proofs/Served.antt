@@ -5,7 +5,7 @@ use Rattle.mt_rows.specs.Accounts.{Accounts}
 use Rattle.mt_rows.specs.Tenants.{Contents, tenant_map}
 use Rattle.mt_rows.proofs.ContentLaws.{same_contents, get-tenant_map}
 use Rattle.std.specs.FinMap.{get}
-use Rattle.mt_tape.specs.Tapes.{RisesOver, last_write}
+use Rattle.mt_tape.specs.Tapes.{RisesOver}
 use Rattle.mt_tape.specs.Histories.{contents_at}
 use Rattle.mt_tape.proofs.TapeLaws.{contents_at-now}
 use Rattle.mt_runs.proofs.Order.{order_with_maps}

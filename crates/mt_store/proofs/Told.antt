@@ -17,7 +17,7 @@ use Rattle.mt_store.specs.declared.events.StoreEvent.TheVariants.{Core}
 use Rattle.mt_store.specs.declared.events.StoreNote.TheVariants.{Told}
 use Rattle.mt_store.specs.declared.serving.Serving.{Serving}
 use Rattle.mt_store.specs.Lives.{Standing, with_event, firsts, story_in, IsNoted}
-use Rattle.mt_store.specs.Holds.{quotas_of, HoldsKept, IsLogAt, EachLog, Serves, HoldsServing, HoldsNow, Holds}
+use Rattle.mt_store.specs.Holds.{quotas_of, HoldsKept, IsLogAt, EachLog, Serves, Holds}
 use Rattle.mt_store.proofs.Comes.{comes_on}
 use Rattle.mt_store.proofs.Growing.{Grows}
 use Rattle.mt_store.proofs.Cores.{grown}

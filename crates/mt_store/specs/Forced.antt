@@ -1,5 +1,5 @@
 -- What an event makes of the logs of a store, by what is noted of it: why nothing happened, what a crash left, whose disk failed.
-use Rattle.std.specs.Prelude.{◌≡◌, ◌⊎◌, ℕ, ◌≤◌, true, List, [], ◌∷◌, map, length, Option, Some, None, Vec, slice_get}
+use Rattle.std.specs.Prelude.{◌≡◌, ◌⊎◌, ℕ, ◌≤◌, true, List, [], ◌∷◌, length, Option, Some, None, Vec, slice_get}
 use Rattle.std.specs.declared.alloc.Global.{Global}
 use Rattle.mt_rows.specs.Accounts.{Accounts}
 use Rattle.mt_rows.specs.declared.refusal.Refusal.TheVariants.{Device}

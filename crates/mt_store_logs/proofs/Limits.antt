@@ -1,5 +1,5 @@
 -- What is recovered of logs that were opened keeps the limits of keys and rows, and no key stands twice.
-use Rattle.std.proofs.Common.{◌≡◌, ◌⊎◌, ℕ, zero, suc, ◌<◌, ◌≤◌, ◌^◌, Bool, true, false, cond, List, [], ◌∷◌, map, length, get_or, Option, Some, None, refl, sym, ap, subst, ◌∙◌, arith, inl, inr, ⊎_elim}
+use Rattle.std.proofs.Common.{◌≡◌, ◌⊎◌, ℕ, zero, suc, ◌≤◌, ◌^◌, Bool, true, false, cond, List, [], ◌∷◌, map, get_or, Option, Some, None, refl, sym, ap, subst, ◌∙◌, arith, inl, inr, ⊎_elim}
 use Rattle.std.specs.Prelude.{slice_get}
 use Rattle.std.specs.List.{All, AllByRecursion}
 use Rattle.std.specs.List.Sorted.{IsStrictlySortedBy}
@@ -25,7 +25,7 @@ use Rattle.mt_tape.proofs.RowLaws.{get-with_row}
 use Rattle.mt_crashes.specs.Bases.{CheckpointView}
 use Rattle.mt_crashes.specs.Fronts.{In, all_voids, cutoff_of, is_replayed, records_in, records_of, all_records, key_of, with_change, after_changes}
 use Rattle.mt_crashes.specs.Recoveries.{HasSlot, IsBaseOf, IsRecovered}
-use Rattle.mt_crashes.proofs.Members.{no_some, in_filter, in_flat_map, in_place, map_in, all_at, permuted_in}
+use Rattle.mt_crashes.proofs.Members.{no_some, in_filter, in_flat_map, all_at, permuted_in}
 use Rattle.mt_recover.specs.Pairs.{Ascend}
 use Rattle.mt_recover.specs.declared.recovering.Recovered.{Recovered}
 use Rattle.mt_store_logs.specs.declared.store_log.StoreLog.{StoreLog}

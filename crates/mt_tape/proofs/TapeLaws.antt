@@ -12,8 +12,8 @@ use Rattle.mt_tape.specs.declared.entry.Entry.{Entry}
 use Rattle.mt_tape.specs.Tapes.{RisesOver, last_step_over, later_entries}
 use Rattle.mt_tape.specs.Histories.{with_row, written_key, with_write, without_write, undone, contents_at, map_at, is_changed, IsLegalTape, IsNextWrite, IsQuietStep, IsQuietFor, IsUnwrittenSince}
 use Rattle.mt_tape.proofs.EntryLaws.{later_entries-kept, later_entries-dropped, later_entries-past_last, later_entries-push, later_entries-later_entries, later_entries-quiet, later_entries-before}
-pub use Rattle.mt_tape.proofs.EntryLaws.{rises_all, floor_upto_last, all_upto_last, rises-push, last_step_over-push, rises-later_entries, last_step_over-later_entries, is_changed-past_last, is_changed-push_other, is_changed-push, is_changed-later_entries, quiet_where_unchanged}
-pub use Rattle.mt_tape.proofs.RowLaws.{get-with_row, get-with_row_same, get-with_row_other, with_row-put_back, tenant_map-with_row, tenant_map-with_row_other}
+pub use Rattle.mt_tape.proofs.EntryLaws.{all_upto_last, rises-push, last_step_over-push, rises-later_entries, last_step_over-later_entries, is_changed-past_last, is_changed-push_other, is_changed-push, is_changed-later_entries, quiet_where_unchanged}
+pub use Rattle.mt_tape.proofs.RowLaws.{get-with_row_same, get-with_row_other, with_row-put_back, tenant_map-with_row, tenant_map-with_row_other}
 
 -- a list with one more entry at the end is undone from that entry on
 undone-push : (entries : List Entry) (e : Entry) (contents : Contents) → undone (entries ++ e ∷ []) contents ≡ undone entries (without_write contents e)

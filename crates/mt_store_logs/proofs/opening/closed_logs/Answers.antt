@@ -1,5 +1,5 @@
 -- One log more is closed.
-use Rattle.std.proofs.Common.{◌≡◌, ◌∙◌, ◌+◌, ◌++◌, ◌∷◌, [], List, length, None, rules, sym, ap, subst, arith}
+use Rattle.std.proofs.Common.{◌≡◌, ◌∙◌, ◌++◌, ◌∷◌, [], length, None, rules, sym, ap, subst, arith}
 use Rattle.std.proofs.lemmas.List.{length-append}
 use Rattle.mt_recover.specs.declared.resuming.LogSlot.TheVariants.{Closed}
 use Rattle.mt_store_logs.specs.Places.{log_with, closed_from, closed_on}

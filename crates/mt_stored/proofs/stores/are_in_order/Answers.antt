@@ -1,6 +1,6 @@
 -- One log more is in order, or is not.
-use Rattle.std.proofs.Common.{◌≡◌, ◌∙◌, ◌+◌, ◌<◌, ◌≤◌, ⊎_elim, true≢false, length, Some, refl, sym, ap, arith}
-use Rattle.std.specs.Prelude.{slice_get, slice_index_or}
+use Rattle.std.proofs.Common.{◌≡◌, ◌∙◌, ◌<◌, ◌≤◌, ⊎_elim, true≢false, Some, refl, sym, ap, arith}
+use Rattle.std.specs.Prelude.{slice_get}
 use Rattle.std.proofs.lemmas.Option.{same_Some}
 use Rattle.std.proofs.Math.Nat.{eq-or-lt_of_le}
 use Rattle.mt_store_logs.specs.declared.store_log.StoreLog.{StoreLog}

@@ -1,4 +1,4 @@
-use Rattle.std.proofs.Common.{◌≡◌, ◌∙◌, map, length, sym, ap, subst, arith}
+use Rattle.std.proofs.Common.{◌≡◌, ◌∙◌, length, sym, ap, subst, arith}
 use Rattle.mt_store_logs.specs.Places.{AreInOrder}
 use Rattle.mt_store_logs.proofs.Closed.{length-closed, closed_in_order, same_order}
 use Rattle.mt_state.specs.Begins.{new_state}

@@ -1,5 +1,5 @@
 -- When a state and logs are no store, and why they are one.
-use Rattle.std.proofs.Common.{◌≡◌, true≢false, sym, ◌∙◌, subst, arith}
+use Rattle.std.proofs.Common.{true≢false, sym, ◌∙◌, subst, arith}
 use Rattle.mt_store_logs.specs.Places.{AreInOrder}
 use Rattle.mt_stored.proofs.stores.Store.joined.Goals as goal
 
