@@ -52,9 +52,6 @@ module _ (xs : List NodeView) (i j q : ℕ) (nodes : AreNodes xs) (f : Inserts x
   pub apart_j : i ≢ j
   apart_j = differ_ij xs i j q nodes f
 
-  pub left_level : l.level + 1 ≡ p.level
-  left_level = child.level
-
   apart_q : q ≢ i
   apart_q e = omega (arith, f.right_level, ap (λ k. (node_at xs k).level) e)
 

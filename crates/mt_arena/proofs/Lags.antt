@@ -6,7 +6,6 @@ use Rattle.std.proofs.lemmas.Bool.{cases_eq, cases_lt}
 use Rattle.std.proofs.lemmas.Option.{same_Some}
 use Rattle.std.proofs.lemmas.List.{length-set, length-take, get_or-take, get_or-drop}
 use Rattle.std.proofs.lemmas.List.Edits.{length-insert, get_or-insert_below, get_or-insert_at, get_or-insert_above}
-use Rattle.mt_border.specs.declared.entry.Entry.{Entry}
 use Rattle.mt_interior.specs.Places.{place_of}
 use Rattle.mt_interior.proofs.CallerLemmas.{place_of-le-length}
 use Rattle.mt_arena.specs.declared.tree.Tree.{Tree}
@@ -17,7 +16,7 @@ use Rattle.mt_arena.specs.Settled.{IsSettled}
 use Rattle.mt_arena.specs.Guarantee.{NodesGuarantee, PointsOnly}
 use Rattle.mt_arena.specs.Lags.{Follows, IsUnder, AreFollowers, AreFollowersBut, AreChildren, AreChildrenBut}
 use Rattle.mt_arena.specs.Edits.{splitting, pointed, fresh_half}
-use Rattle.mt_arena.specs.Splits.{Splits, Inserts, left_half, right_half, with_child, exact, inner_left, inner_right}
+use Rattle.mt_arena.specs.Splits.{Inserts, with_child, exact, inner_left, inner_right}
 use Rattle.mt_arena.proofs.Pairs.{here, there, last, before}
 use Rattle.mt_arena.proofs.Settled.{alive}
 
@@ -67,58 +66,12 @@ under_in xs i k b y within is = elim (cases_eq k b) [
       inr (other, (omega (arith, is.0, length-set xs b y), sym (ap (λ (n : NodeView). n.parent) old) ∙ is.1, sym (ap (λ (n : NodeView). n.version.deleted) old) ∙ is.2))
 ]
 
--- after the slots were parted, all that name the left half as the one before are, as they were, the right half and the one that was next
-pub left_followers : (xs : List NodeView) (i j : ℕ) (kept moved : List Entry) → i < length xs → j < length xs → i ≢ j
-    → Splits (node_at xs i) (node_at xs j) kept moved → AreFollowersBut xs i (node_at xs i).next j
-    → AreFollowersBut (set (set xs i (left_half (node_at xs i) kept (node_at xs j).low j)) j (right_half (node_at xs i) (node_at xs j) moved i)) i (node_at xs i).next j
-left_followers xs i j kept moved li lj differ splits followers k nj is =
-    let y = left_half (node_at xs i) kept (node_at xs j).low j in
-    elim (follows_in (set xs i y) i k j (right_half (node_at xs i) (node_at xs j) moved i) (omega (arith, lj, length-set xs i y)) is) [
-      | inl right ↦ absurd (nj right.0)
-      | inr other ↦ elim (follows_in xs i k i y li other.1) [
-        | inl own ↦ followers k nj (subst (λ c. Follows xs i c) (sym own.0) (li, own.1, splits.live))
-        | inr old ↦ followers k nj old.1
-      ]
-    ]
-
--- and none names the right half
-pub right_followers : (xs : List NodeView) (i j : ℕ) (kept moved : List Entry) → i < length xs → j < length xs → i ≢ j
-    → Splits (node_at xs i) (node_at xs j) kept moved → AreFollowers xs j None
-    → AreFollowers (set (set xs i (left_half (node_at xs i) kept (node_at xs j).low j)) j (right_half (node_at xs i) (node_at xs j) moved i)) j None
-right_followers xs i j kept moved li lj differ splits followers k is =
-    let y = left_half (node_at xs i) kept (node_at xs j).low j in
-    elim (follows_in (set xs i y) j k j (right_half (node_at xs i) (node_at xs j) moved i) (omega (arith, lj, length-set xs i y)) is) [
-      | inl right ↦ absurd (differ (same_Some _ _ right.1))
-      | inr other ↦ elim (follows_in xs j k i y li other.1) [
-        | inl own ↦ followers k (subst (λ c. Follows xs j c) (sym own.0) (li, own.1, splits.live))
-        | inr old ↦ followers k old.1
-      ]
-    ]
-
--- the one behind names the right half: then each half has the follower that it names as its next
-pub left_again : (xs : List NodeView) (i j b : ℕ) (parent : Option ℕ) → i ≢ j → b < length xs → AreFollowersBut xs i (Some b) j
-    → AreFollowers (set xs b (pointed (node_at xs b) (Some j) parent)) i (Some j)
-left_again xs i j b parent differ lb followers k is = elim (follows_in xs i k b (pointed (node_at xs b) (Some j) parent) lb is) [
-  | inl behind ↦ absurd (differ (sym (same_Some _ _ behind.1)))
-  | inr other ↦ elim (cases_eq k j) [
-    | inl right ↦ ap (λ (c : ℕ). Some c) (sym right)
-    | inr nj ↦ absurd (other.0 (sym (same_Some _ _ (followers k nj other.1))))
-  ]
-]
-
--- and the right half has the one behind it alone
+-- as the one behind names the right half, it alone does
 pub right_again : (xs : List NodeView) (j b : ℕ) (parent : Option ℕ) → b < length xs → AreFollowers xs j None
     → AreFollowers (set xs b (pointed (node_at xs b) (Some j) parent)) j (Some b)
 right_again xs j b parent lb followers k is = elim (follows_in xs j k b (pointed (node_at xs b) (Some j) parent) lb is) [
   | inl behind ↦ ap (λ (c : ℕ). Some c) (sym behind.0)
   | inr other ↦ absurd (let none = followers k other.1 in cc)
-]
-
--- where there is none behind
-pub left_last : (xs : List NodeView) (i j : ℕ) → AreFollowersBut xs i None j → AreFollowers xs i (Some j)
-left_last xs i j followers k is = elim (cases_eq k j) [
-  | inl right ↦ ap (λ (c : ℕ). Some c) (sym right)
-  | inr nj ↦ absurd (let none = followers k nj is in cc)
 ]
 
 -- what was a child is one among one more
@@ -162,10 +115,6 @@ children_again xs i j q nodes f children k is =
 -- how the words speak of a settled node
 pub followers_of : (xs : List NodeView) (i : ℕ) (x : NodeView) → IsSettled xs i x → AreFollowers xs i x.next
 followers_of xs i x settled k is = settled.previous k is.0 is.1 is.2
-
--- what is settled has no lagging children
-pub children_of : (xs : List NodeView) (i : ℕ) (x : NodeView) → IsSettled xs i x → AreChildren xs i x
-children_of xs i x settled k is = settled.parent k is.0 is.1 is.2
 
 -- and how a settled node is made of the words
 pub settled_of : (xs : List NodeView) (i : ℕ) (x : NodeView) → AreFollowers xs i x.next → ((k : ℕ) → Follows xs i k → x.version.deleted ≡ false)
@@ -236,14 +185,6 @@ fresh_children xs y n nodes none k is =
           absurd (omega (arith, (nodes.each k lt).names.parent (length xs) old))
     ]
 
--- one node comes to name node i as its parent
-pub children_but : (xs : List NodeView) (i q : ℕ) (n : NodeView) (previous : Option ℕ) → q < length xs → AreChildren xs i n
-    → AreChildrenBut (set xs q (pointed (node_at xs q) previous (Some i))) i n q
-children_but xs i q n previous within children k nq is = elim (under_in xs i k q (pointed (node_at xs q) previous (Some i)) within is) [
-  | inl own ↦ absurd (nq own.0)
-  | inr old ↦ children k old.1
-]
-
 -- a child of a node that is parted is one of a half
 pub child_parted : (wide : NodeView) (op k : ℕ) → HasChild wide k → HasChild (inner_left wide) k ⊎ HasChild (inner_right wide op) k
 child_parted wide op k c = elim (cases_lt c.place 9) [
@@ -259,13 +200,4 @@ child_parted wide op k c = elim (cases_lt c.place 9) [
     in_range = omega (arith, length-drop 9 wide.children, high, c.in_range);
     is = get_or-drop 9 wide.children (c.place - 9) 0 ∙ ap (λ b. get_or wide.children b 0) {x = 9 + (c.place - 9)} {y = c.place} (omega arith) ∙ c.is;
   })
-]
-
--- as one node is told that the right half is its parent, one less names the left one
-pub reparented : (xs : List NodeView) (i h b : ℕ) (y u : NodeView) (previous : Option ℕ) → i ≢ h → b < length xs
-    → ((k : ℕ) → IsUnder xs i k → HasChild y k ⊎ HasChild u k)
-    → (k : ℕ) → IsUnder (set xs b (pointed (node_at xs b) previous (Some h))) i k → (k ≢ b) × (HasChild y k ⊎ HasChild u k)
-reparented xs i h b y u previous differ within children k is = elim (under_in xs i k b (pointed (node_at xs b) previous (Some h)) within is) [
-  | inl own ↦ absurd (differ (sym (same_Some _ _ own.1)))
-  | inr old ↦ (old.0, children k old.1)
 ]

@@ -1,5 +1,5 @@
 -- What an operation's own edits leave of "nothing lags behind the node": for the proofs of whole operations.
-use Rattle.std.proofs.Common.{◌≡◌, ◌≢◌, ℕ, ◌+◌, ◌<◌, List, [], ◌∷◌, ◌++◌, length, get_or, Some, None, false, set, refl, sym, ap, subst, ◌∙◌, inl, inr, arith, length-append}
+use Rattle.std.proofs.Common.{◌≡◌, ◌≢◌, ℕ, ◌<◌, List, length, get_or, Some, None, false, set, refl, sym, ap, subst, ◌∙◌, inl, inr, arith}
 use Rattle.std.proofs.lemmas.Bool.{cases_eq}
 use Rattle.std.proofs.lemmas.List.{length-set}
 use Rattle.std.specs.List.{All}
@@ -8,7 +8,7 @@ use Rattle.mt_arena.specs.Nodes.{AreNodes, HasChild}
 use Rattle.mt_arena.specs.NodeFacts.{IsUnstable}
 use Rattle.mt_arena.specs.Settled.{IsSettled}
 use Rattle.mt_arena.specs.Edits.{locked}
-use Rattle.mt_arena.proofs.Pairs.{here, there, last, before}
+use Rattle.mt_arena.proofs.Pairs.{here, there}
 use Rattle.mt_arena.proofs.Settled.{settled_free}
 
 -- another node changes: it comes to name this one only where this one leads to it
@@ -79,30 +79,6 @@ settled_self xs i y within settled keeps stable =
       reach = keeps.reach ∙ settled.reach ∙ sym keeps.high;
       stable = stable;
       rooted = λ live none. keeps.root ∙ settled.rooted (sym keeps.deleted ∙ live) (sym keeps.parent ∙ none);
-    })
-
--- one node more, which names none
-pub settled_push : (xs : List NodeView) (i : ℕ) (y : NodeView) → i < length xs → IsSettled xs i (node_at xs i) → y.previous ≡ None → y.parent ≡ None
-    → IsSettled (xs ++ y ∷ []) i (node_at (xs ++ y ∷ []) i)
-settled_push xs i y within settled no_previous no_parent =
-    let ys = xs ++ y ∷ [] in
-    let size : length ys ≡ length xs + 1 = length-append xs (y ∷ []) in
-    subst (λ (w : NodeView). IsSettled ys i w) (sym (before xs y i within)) (record {
-      previous = λ j lt. elim (cases_eq j (length xs)) [
-        | inl same ↦ rw (same, last xs y) (λ e. absurd (cc))
-        | inr other ↦ rw (before xs y j (omega arith)) (settled.previous j (omega arith))
-      ];
-      previous_live = λ j lt. elim (cases_eq j (length xs)) [
-        | inl same ↦ rw (same, last xs y) (λ e. absurd (cc))
-        | inr other ↦ rw (before xs y j (omega arith)) (settled.previous_live j (omega arith))
-      ];
-      parent = λ j lt. elim (cases_eq j (length xs)) [
-        | inl same ↦ rw (same, last xs y) (λ e. absurd (cc))
-        | inr other ↦ rw (before xs y j (omega arith)) (settled.parent j (omega arith))
-      ];
-      reach = settled.reach;
-      stable = settled.stable;
-      rooted = settled.rooted;
     })
 
 -- as a lock is taken, nothing lags behind the node

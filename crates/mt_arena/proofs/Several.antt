@@ -63,14 +63,6 @@ kept_set2 xs trees gone i j y z li lj ij one two =
     kept_on xs (set xs i y) (set (set xs i y) j z) trees gone (kept_set xs trees gone i y li one)
     (kept_set (set xs i y) trees gone j z (omega (arith, lj, length-set xs i y)) (beside xs i j y z ij two))
 
-pub kept_set3 : (xs : List NodeView) (trees : List Tree) (gone : List Retired) (i j q : ℕ) (y z w : NodeView) → i < length xs → j < length xs
-    → q < length xs → i ≢ j → i ≢ q → j ≢ q → KeepsSlots (node_at xs i) y → KeepsSlots (node_at xs j) z → KeepsSlots (node_at xs q) w
-    → AreKept xs (set (set (set xs i y) j z) q w) trees gone
-kept_set3 xs trees gone i j q y z w li lj lq ij iq jq one two three =
-    let two_set = kept_set2 xs trees gone i j y z li lj ij one two in
-    kept_on xs (set (set xs i y) j z) (set (set (set xs i y) j z) q w) trees gone two_set
-    (kept_set (set (set xs i y) j z) trees gone q w (omega (arith, lq, two_set.count)) (beside (set xs i y) j q z w jq (beside xs i q y w iq three)))
-
 -- nodes that keep their places among the trees
 pub record KeepsPlace (trees : List Tree) (x y : NodeView) : Type 0 where
   pub home : KeepsHome x y
@@ -81,13 +73,6 @@ pub forest_set2 : (xs : List NodeView) (trees : List Tree) (i j : ℕ) (y z : No
 forest_set2 xs trees i j y z li lj ij forest one two =
     forest_set (set xs i y) trees j z (omega (arith, lj, length-set xs i y)) (forest_set xs trees i y li forest one.home one.keys)
     (subst (λ (n : NodeView). KeepsHome n z) (sym (there xs i j y (λ e. ij (sym e)))) two.home) two.keys
-
-pub forest_set3 : (xs : List NodeView) (trees : List Tree) (i j q : ℕ) (y z w : NodeView) → i < length xs → j < length xs → q < length xs → i ≢ j
-    → i ≢ q → j ≢ q → IsForest xs trees → KeepsPlace trees (node_at xs i) y → KeepsPlace trees (node_at xs j) z → KeepsPlace trees (node_at xs q) w
-    → IsForest (set (set (set xs i y) j z) q w) trees
-forest_set3 xs trees i j q y z w li lj lq ij iq jq forest one two three =
-    forest_set (set (set xs i y) j z) trees q w (omega (arith, lq, length-set xs i y, length-set (set xs i y) j z)) (forest_set2 xs trees i j y z li lj ij forest one two)
-    (subst (λ (n : NodeView). KeepsHome n w) (sym (there (set xs i y) j q z (λ e. jq (sym e)) ∙ there xs i q y (λ e. iq (sym e)))) three.home) three.keys
 
 -- nodes of trees that no other operation is making change as an operation may change them
 pub record MayTurn (op : ℕ) (trees : List Tree) (x y : NodeView) : Type 0 where

@@ -113,9 +113,6 @@ module _ (v : ArenaView) (room parent left node step op : ℕ) (sound : ArenaInv
   left_child : IsChild p (a - 1) l
   left_child = (nodes.pairs parent left lq li).child (a - 1) (omega (arith, may.beside.in_range)) may.beside.left_is may.beside.live
 
-  pub is_interior : 0 < p.level
-  is_interior = omega (arith, child.level)
-
   pub left_border : l.level ≡ 0
   left_border = omega (arith, left_child.level, child.level, may.border)
 

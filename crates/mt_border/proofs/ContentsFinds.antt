@@ -9,7 +9,6 @@ use Rattle.std.proofs.lemmas.Option.{none-some}
 use Rattle.std.proofs.lemmas.List.{length-map, length-take, get_or-map, get_or-take}
 use Rattle.std.proofs.lemmas.List.Elements.{All-from_get_or}
 use Rattle.mt_lists.specs.Rising.{IsRising}
-use Rattle.mt_slices.specs.declared.mark.Mark.TheVariants.{Short}
 use Rattle.mt_slices.specs.Slices.{slice_of, mark_of, suffix_of}
 use Rattle.mt_rows.specs.Rows.{Bytes, Columns}
 use Rattle.mt_border.specs.declared.entry.Pair.{Pair}
@@ -118,9 +117,3 @@ found_where_there prefix layer node key row found border keys of_tree there is =
     by (Slot slot ThisKey) some = (slot, refl)
     by (Slot slot OtherLong) some = absurd (none-some row some)
     by (Slot slot ToTree) some = absurd (none-some row some)
-
--- a key that ends in its slice is found as itself, if at all
-pub short_is_this : (node : Node) (slice n : ℕ) (suffix : List ℕ) (slot : ℕ) (kind : FoundKind) → IsFound node slice (Short n) suffix slot kind → kind ≡ ThisKey
-short_is_this node slice n suffix slot ThisKey found = refl
-short_is_this node slice n suffix slot OtherLong found = absurd (cc (found.mark_is, found.kind_is.0))
-short_is_this node slice n suffix slot ToTree found = absurd (cc (found.mark_is, found.kind_is.0))

@@ -23,12 +23,7 @@ stamped_as P prefix layer e key pair has is known other same =
     subst (λ (p : Pair). P (owned (key_at prefix e p)) p.stamp) (same_Some pair other (sym is ∙ same))
     (subst (λ q. P q pair.stamp) (sym (owned_at prefix layer e key pair has is)) known)
 
--- what holds of all owned keys and stamps holds of a slot that stands for a key
-pub stamped_here : (P : ℕ × Bytes → ℕ → Type 0) (prefix : Bytes) (layer : ℕ) (node : Node) (slot : ℕ) (key : Bytes) (pair : Pair) → IsLive node slot → HasKey prefix layer (entry_at node slot) key → pair_of (entry_at node slot).held ≡ Some pair → AllStamped P prefix (entries_of node) → P (owned key) pair.stamp
-stamped_here P prefix layer node slot key pair live has is stamped =
-    subst (λ q. P q pair.stamp) (owned_at prefix layer (entry_at node slot) key pair has is) (stamped slot any_entry live pair is)
-
--- and what follows from it for each holds of all
+-- what follows for each owned key and its stamp, from what holds of all, holds of all
 pub stamped_weaker : (P Q : ℕ × Bytes → ℕ → Type 0) (prefix : Bytes) (entries : List Entry) → ((q : ℕ × Bytes) (s : ℕ) → P q s → Q q s) → AllStamped P prefix entries → AllStamped Q prefix entries
 stamped_weaker P Q prefix entries weaker stamped k d inside pair is = weaker _ _ (stamped k d inside pair is)
 

@@ -29,11 +29,6 @@ module _ (o : ℕ) (old new : ArenaView) (l : LeavesNodes o old new) where
     | inr late ↦ let level = levels k late within in omega (arith, level.3, below level.0 level.1 level.2)
   ]
 
--- a phase to which such a step leads
-abbrev pub IsClimbed : Phase → Type 0
-IsClimbed Unlock = Unit {0}
-IsClimbed phase = IsClimb phase
-
 -- no root was made before a step of a climb
 climb_ungrown : (p : Phase) → IsClimb p → (l : List Halves) → ¬ MayHaveGrown p l
 climb_ungrown Unlock i l grown = i

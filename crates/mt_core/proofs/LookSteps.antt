@@ -1,5 +1,5 @@
 -- Where the steps of an operation that holds nothing lead, and what a load shows: for `descend` and `load_row`.
-use Rattle.std.proofs.Common.{◌≡◌, ◌<◌, ℕ, true, List, length, Option, Some, None, IsNone, IfNone, IfSome, ◌+◌, inl, refl, sym, ap, subst, ◌∙◌}
+use Rattle.std.proofs.Common.{◌≡◌, ◌<◌, ℕ, true, List, length, Option, Some, None, IsNone, IfNone, IfSome, inl, refl, sym, ap, subst, ◌∙◌}
 use Rattle.std.specs.Option.{option_map}
 use Rattle.std.proofs.lemmas.Option.{same_Some}
 use Rattle.mt_rows.specs.declared.reply.Reply.{Reply}
@@ -27,8 +27,7 @@ use Rattle.mt_state.specs.Phases.{ScanStep, GoesForward, LeadsTo}
 use Rattle.mt_state.specs.Ways.{Descends, ShowsTaken}
 use Rattle.mt_state.proofs.Descents.{Leads, descends, entered, verified, forwarded, stayed}
 use Rattle.mt_state.proofs.Replies.{get_asks}
-use Rattle.mt_core.specs.Budgets.{Budget, IsBudget, WalksBy}
-use Rattle.mt_core.specs.Looks.{led_to, MayLoad, MayConfirm, TellsDescended, TellsLoaded}
+use Rattle.mt_core.specs.Looks.{led_to, MayLoad, MayConfirm, TellsLoaded}
 use Rattle.mt_operation.specs.declared.removal.Removal.{Removal}
 
 -- a walk that enters a tree goes on so
@@ -195,11 +194,3 @@ tells_shown f taken reply v op step after told gets loads is says = record {
   others = refl;
   told = inl (refl, subst (λ (x : Option Outcome). ShowsTaken op (option_map f taken) after x) (sym says) (shows_taken f taken reply op after gets is));
 }
-
--- what a step makes of an operation of which it leads the walk down
-pub looks_down : (v : ArenaView) (op : Operation) (w : Walk)
-    → ((o step : ℕ) (told : Option Outcome) (s : SplitsView) (rem : Removal) (g : ScanStep) → LeadsTo op.walk.phase v v o step op.task.key told s rem g op.walk w) → Descends op.walk w
-    → ((budget : Budget) → IsBudget v budget → (made : ℕ) → WalksBy op.walk.phase budget made v op.walk → WalksBy w.phase budget (made + 1) v w)
-    → ((past : Past) → IsKept v past op.task.key None w)
-    → TellsDescended v op (led_to op w op.outcome)
-looks_down v op w leads goes nears kept = record { leads = leads; goes = goes; nears = nears; kept = kept; others = refl }

@@ -26,7 +26,7 @@ use Rattle.mt_operation.specs.Tables.{Table, AreBefore, op_at as operation_at}
 use Rattle.mt_operation.proofs.Tables.{set_is}
 use Rattle.mt_descent.specs.Pasts.{Past, IsNow}
 use Rattle.mt_descent.specs.KeptWalks.{IsAtBorder, IsAtLoad as WalksLoad, IsAtConfirm as WalksConfirm, KeptAt, IsKept}
-use Rattle.mt_descent.specs.WalkMoves.{IsBlocked, IsBlockedAt, Continues, FindsIn, after_search, Confirms}
+use Rattle.mt_descent.specs.WalkMoves.{Continues, FindsIn, after_search, Confirms}
 use Rattle.mt_descent.proofs.Looks.{kept_loads}
 use Rattle.mt_state.specs.declared.moves.Move.{Move}
 use Rattle.mt_state.specs.declared.moves.Move.TheVariants.{Moved, Again, Done as DoneMove}
@@ -198,17 +198,6 @@ module _ (c now : Core) (o : ℕ) (is : c ≡ now) (h : StateInvariant c) (room 
 
   pub confirm_kept : op.walk.phase ≡ Confirm → IsAtBorder c.arena op.task.key op.walk
   confirm_kept at_confirm = (confirming at_confirm).1.at_border
-
-  -- who is in the way of a load, and of a confirmation
-  pub load_way : op.walk.phase ≡ Load → (holder : ℕ) → IsBlockedAt (at c.arena op.walk.place.node) op.walk.slot holder
-      → IsInTheWay c.arena op.walk.phase op.walk (splits_of op.splits) op.removal (scan_of op.task op.scan) holder
-  load_way at_load holder way =
-      subst (λ (p : Phase). IsInTheWay c.arena p op.walk (splits_of op.splits) op.removal (scan_of op.task op.scan) holder) (sym at_load) (op.walk.place.node, refl, (load_kept at_load).at_border.covers.remembered.there, way)
-
-  pub confirm_way : op.walk.phase ≡ Confirm → (holder : ℕ) → IsBlocked (at c.arena op.walk.place.node) holder
-      → IsInTheWay c.arena op.walk.phase op.walk (splits_of op.splits) op.removal (scan_of op.task op.scan) holder
-  confirm_way at_confirm holder way =
-      subst (λ (p : Phase). IsInTheWay c.arena p op.walk (splits_of op.splits) op.removal (scan_of op.task op.scan) holder) (sym at_confirm) (op.walk.place.node, refl, (confirm_kept at_confirm).covers.remembered.there, way)
 
   -- a search that found nothing
   pub search_gives_missing : IsArena c.arena.nodes c.arena.trees → (at_search : op.walk.phase ≡ Search) → (w : Walk)

@@ -34,11 +34,7 @@ pub no_place : (c : Core) → (tables.HasPlaces c.table 1 → ⊥) → HasPlaces
 no_place c none places = none (omega (arith, places, shown_open c.table, length-map c.table (option_map view_of)))
 
 module _ (c : Core) (table : Table) where
-  -- places for so many, as they are shown
-  pub shown_places : (more : ℕ) → tables.HasPlaces table more → HasPlaces (shown (with_table c c.answers table)) more
-  shown_places more places = omega (arith, places, shown_open table, length-map table (option_map view_of))
-
-  -- one that is taken
+  -- a place that is taken, as it is shown
   pub place_taken : tables.open_count table ≡ tables.open_count c.table + 1 → length c.table ≤ length table
       → TakesPlace (shown c) (shown (with_table c c.answers table))
   place_taken one more = record {

@@ -8,18 +8,15 @@ use Rattle.std.proofs.lemmas.List.{get_or-set_other, length-replicate}
 use Rattle.std.proofs.lemmas.Option.{same_Some, none-some}
 use Rattle.mt_rows.specs.declared.command.Command.TheVariants.{Put}
 use Rattle.mt_rows.specs.declared.record.TenantPair.{TenantPair}
-use Rattle.mt_rows.specs.declared.refusal.Refusal.{Refusal}
-use Rattle.mt_rows.specs.declared.refusal.Refusal.TheVariants as refusals
 use Rattle.mt_rows.specs.declared.reply.Reply.{Reply}
 use Rattle.mt_rows.specs.declared.reply.Reply.TheVariants.{New, NoMemory}
 use Rattle.mt_rows.specs.declared.tenants.Account.{Account}
 use Rattle.mt_rows.specs.Accounts.{Accounts, account_of}
 use Rattle.mt_rows.specs.Changes.{Named, changed, indexed}
-use Rattle.mt_rows.specs.Commands.{IsTaken}
 use Rattle.mt_rows.specs.Maps.{Map, reply_of, map_after, map_after_put, told_of_put}
 use Rattle.mt_rows.specs.Tenants.{Contents, tenant_map}
-use Rattle.mt_rows.specs.TenantPairs.{owner_of, pairs_of, IsTenantPair}
-use Rattle.mt_rows.proofs.Indexed.{is_change, changed_indexed}
+use Rattle.mt_rows.specs.TenantPairs.{owner_of, pairs_of}
+use Rattle.mt_rows.proofs.Indexed.{changed_indexed}
 use Rattle.mt_rows.proofs.ContentLaws.{same_contents, get-tenant_map, tenant_map-insert, tenant_map-insert_other}
 use Rattle.mt_border.specs.Contents.{AllStamped}
 use Rattle.mt_border.proofs.Restamping.{all-restamped}
@@ -41,9 +38,7 @@ use Rattle.mt_state.specs.Views.{Core, StateView, Shown, shown, contents_of, op_
 use Rattle.mt_state.specs.Promises.{IsStep}
 use Rattle.mt_state.specs.Begins.{Begins, Takes, begun, new_state}
 use Rattle.mt_state.specs.Invariant.{StateInvariant, HoldsAt}
-use Rattle.mt_state.specs.Refused.{Makes, IsFault}
 use Rattle.mt_state.proofs.Shown.{shown_table, shown_at, shown_there}
-use Rattle.mt_core.specs.Admitted.{IsRefusedFor, IsRefusalMade}
 use Rattle.mt_core.specs.Alone.{IsChain, Runs, IsAlone, EndsAlone, EndsAt, IsRun}
 use Rattle.mt_core.specs.Renumbers.{core_renumbered}
 use Rattle.mt_core.specs.Restores.{IsIdle, MayPut, HasPut, put_of, with_pair, counting, IsUncounted, IsRestored}
@@ -97,40 +92,6 @@ put_after v w x p has put = record {
 pub on_ok : {T E : Type 0} (P Q : Type 0) (r : Result T E) → (P → Q) → OnOk r P → OnOk r Q
 on_ok P Q (Ok x) so holds = so holds
 on_ok P Q (Err e) so holds = tt
-
--- ---- the begin
-
--- the tenant of a pair that may be put is there
-pub has_account : (v : StateView) (p : TenantPair) → MayPut v p → account_of v.accounts p.tenant ≢ None
-has_account v p may none = none-some may.most (sym (ap granted_in none) ∙ may.there)
-
--- its put is taken
-pub put_taken : (p : TenantPair) → IsTenantPair p → IsTaken (put_of p)
-put_taken p h = let change = is_change p.row h.1 in record { key = h.0; columns = change.names; short = change.short; count = tt }
-
--- a begin is refused for memory alone whose tenant is there, whose command has no fault, and for which there is a number
-pub refused_for_memory : (v : StateView) (p : TenantPair) (tenant : ℕ) (made : Result OperationView Refusal) (refusal : Refusal) → account_of v.accounts p.tenant ≢ None → IsTaken (put_of p) → v.steps < 2 ^ 59
-    → tenant ≡ p.tenant → Makes (put_of p) made → IsRefusedFor tenant (account_of v.accounts tenant) v made refusal → refusal ≡ refusals.Memory
-refused_for_memory v p tenant made refusal there taken few same makes is =
-    by (account_of v.accounts p.tenant) there (subst (λ t. IsRefusedFor t (account_of v.accounts t) v made refusal) same is)
-  where
-    fault : (e : Refusal) → IsFault (put_of p) e → e ≡ refusals.Memory
-    fault refusals.Memory f = refl
-    fault refusals.KeyLong f = absurd (f taken.key)
-    fault refusals.Column f = absurd (f.1 taken.columns)
-    fault refusals.ColumnLong f = absurd (f.2 taken.short)
-    fault refusals.ScanCount f = absurd (f.3 taken.count)
-    fault _ f = absurd f
-
-    cause : (m : Result OperationView Refusal) (e : Refusal) → Makes (put_of p) m → IsRefusalMade v m e → e ≡ refusals.Memory
-    cause (Err e) r makes is = is ∙ fault e makes
-    cause (Ok op) refusals.Memory makes is = refl
-    cause (Ok op) refusals.Spent makes is = absurd (omega (arith, few, is))
-    cause (Ok op) _ makes is = absurd is
-
-    by : (account : Option Account) → account ≢ None → IsRefusedFor p.tenant account v made refusal → refusal ≡ refusals.Memory
-    by None none is = absurd (none refl)
-    by (Some account) some is = cause made refusal makes is
 
 -- ---- the run
 

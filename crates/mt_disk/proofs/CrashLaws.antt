@@ -56,19 +56,10 @@ pub after_sync_tried : {T E : Type 0} (P : List ℕ → Type 0) (result : Result
 after_sync_tried P (Ok x) old mid new kept done failed = after_sync P old mid new kept done
 after_sync_tried P (Err e) old mid new kept done failed = subst (LeavesOnly P old) (sym failed) kept
 
--- a sync leaves what a read gives, at Ok and at Err
-pub same_image : {T E : Type 0} (result : Result T E) (mid new : DiskState) → OnOk result (new ≡ synced mid) → OnErr result (new ≡ mid) → new.image ≡ mid.image
-same_image (Ok x) mid new done failed = ap (λ (s : DiskState). s.image) done
-same_image (Err e) mid new done failed = ap (λ (s : DiskState). s.image) failed
-
 -- what follows from a fact at Ok
 pub at_ok : {T E : Type 0} (result : Result T E) {P Q : Type 0} → (P → Q) → OnOk result P → OnOk result Q
 at_ok (Ok x) to has = to has
 at_ok (Err e) to has = has
-
--- after a call that changed nothing
-pub after_nothing : (P : List ℕ → Type 0) (old mid new : DiskState) → LeavesOnly P old mid → new ≡ mid → LeavesOnly P old new
-after_nothing P old mid new kept same = subst (LeavesOnly P old) (sym same) kept
 
 -- one run behind another
 pub joined : (P : List ℕ → Type 0) (old mid new : DiskState) → LeavesOnly P old mid → LeavesOnly P mid new → LeavesOnly P old new

@@ -139,12 +139,6 @@ taken_takes n bytes text rest fits e =
     subst (λ (p : Bytes × Bytes). Takes bytes p.0 p.1 × (length p.0 ≡ n)) g.1
     (record { parts = sym (take-append-drop n bytes); rest_fits = IsBytes-drop n bytes fits }, omega (arith, length-take n bytes))
 
--- and each of them is a byte
-pub taken_fits : (n : ℕ) (bytes text rest : Bytes) → IsBytes bytes → taken_at n bytes ≡ Some (text, rest) → IsBytes text
-taken_fits n bytes text rest fits e =
-    let g = guard_some (ltb (length bytes) n) (take n bytes, drop n bytes) (text, rest) e in
-    subst (λ (p : Bytes × Bytes). IsBytes p.0) g.1 (IsBytes-take n bytes fits)
-
 -- bytes that were written are read again
 pub taken_again : (text rest : Bytes) → taken_at (length text) (text ++ rest) ≡ Some (text, rest)
 taken_again text rest =

@@ -1,20 +1,18 @@
 -- What a put finds in the border node that it holds, and what it makes ready of that: for `judge`.
 use Rattle.std.proofs.Common.{◌≡◌, ℕ, ◌==◌, ◌<◌, ◌≤◌, Bool, true, false, List, length, Option, Some, None, refl, sym, ap, subst, ◌∙◌, arith}
 use Rattle.std.proofs.lemmas.Bool.{cond_both, eqb-true, eqb-false}
-use Rattle.std.specs.Prelude.{IsSomeAnd, IfSome, IfNone, if◌then◌else◌}
+use Rattle.std.specs.Prelude.{IsSomeAnd, if◌then◌else◌}
 use Rattle.std.specs.Option.{option_map}
-use Rattle.mt_slices.specs.Slices.{slice_of, mark_of, suffix_of}
+use Rattle.mt_slices.specs.Slices.{suffix_of}
 use Rattle.mt_rows.specs.Rows.{Bytes}
 use Rattle.mt_border.specs.declared.entry.Entry.{Entry}
 use Rattle.mt_border.specs.declared.entry.Pair.{Pair}
 use Rattle.mt_border.specs.declared.entry.Held.{Held}
 use Rattle.mt_border.specs.declared.entry.Held.TheVariants.{Stable, Unstable, Link}
-use Rattle.mt_border.specs.declared.entry.Find.TheVariants as finds
-use Rattle.mt_border.specs.declared.entry.FoundKind.TheVariants.{ThisKey, Link as ToTree}
+use Rattle.mt_border.specs.declared.entry.FoundKind.TheVariants.{Link as ToTree}
 use Rattle.mt_border.specs.Entry.{IsLink, pair_of}
-use Rattle.mt_border.specs.Entries.{IsMissing}
 use Rattle.mt_border.proofs.Edits.{any_entry}
-use Rattle.mt_border.specs.Node.{Node as BorderNode, IsFound, entries_of, entry_at}
+use Rattle.mt_border.specs.Node.{Node as BorderNode, entry_at}
 use Rattle.mt_arena.specs.declared.tree.Tree.{Tree}
 use Rattle.mt_arena.specs.NodeView.{NodeView, node_at}
 use Rattle.mt_arena.specs.NodeFacts.{IsUnstable}
@@ -31,17 +29,9 @@ use Rattle.mt_arena.specs.Settled.{IsSettled}
 use Rattle.mt_descent.specs.Seen.{IsOutdated}
 use Rattle.mt_descent.specs.KeptWalks.{IsAtJudge, IsInSlot}
 use Rattle.mt_descent.specs.WalkMoves.{Locks, after_change, walk_anew}
-use Rattle.mt_descent.proofs.Looks.{finds_in}
 use Rattle.mt_insert.specs.Puts.{IsReady}
 use Rattle.mt_insert.specs.KeptPuts.{HoldsBorder, KeptReady}
 use Rattle.mt_insert.specs.Judge.{StandsIn, ReadyFor, after_judge}
-
--- what a border node tells of the key, its view tells
-pub stands_in : (n : NodeView) (b : BorderNode) (key : Bytes) (layer : ℕ) (slot : Option ℕ) → n.slots ≡ b.slots
-    → IfSome slot (λ i. IsFound b (slice_of key layer) (mark_of key layer) (suffix_of key layer) i ThisKey)
-    → IfNone slot (IsMissing (entries_of b) (slice_of key layer) (mark_of key layer)) → StandsIn n key layer slot
-stands_in n b key layer (Some i) same found missing = finds_in n b key layer (finds.Slot i ThisKey) same found
-stands_in n b key layer None same found missing = finds_in n b key layer finds.Missing same missing
 
 -- what is made ready over the row of a border node's slot is so over that of its view
 pub ready_over : (n : NodeView) (b : BorderNode) (task : Task) (layer slot : ℕ) (prepared : Prepared) → n.slots ≡ b.slots

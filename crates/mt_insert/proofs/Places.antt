@@ -125,16 +125,7 @@ module _ (v : ArenaView) (op : ℕ) (key : Bytes) (w : Walk) (arena : IsArena v.
     room = room;
   }
 
-  -- as it is, the lock may be given back
-  pub unlock_here : IsAtUnlock v op w
-  unlock_here = record {
-    held = h.judged.held;
-    tree_there = arena.forest.tree_there w.place.node within;
-    mine = open_here;
-    settled = h.settled;
-  }
-
-  -- also by a put that has found its quota full
+  -- the lock may be given back by a put that has found its quota full
   pub unlock_full : IsAtUnlock v op (walk_placed w)
   unlock_full = record {
     held = h.judged.held;

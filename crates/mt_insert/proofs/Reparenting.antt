@@ -29,9 +29,6 @@ module _ (v : ArenaView) (op : ℕ) (s : Splits) (arena : IsArena v.nodes v.tree
   abbrev b : ℕ
   b = get_or (at v q).children s.moved 0
 
-  left_there : l < length v.nodes
-  left_there = kept.splits.parted.left.held.there
-
   right_there : q < length v.nodes
   right_there = kept.splits.parted.right.held.there
 
@@ -57,9 +54,6 @@ module _ (v : ArenaView) (op : ℕ) (s : Splits) (arena : IsArena v.nodes v.tree
   -- and nobody else is making its tree
   pub child_open : IsOpen v b op
   child_open by making = kept.splits.parted.mine by (ap (λ t. (tree_at v.trees t).standing) (sym (below.tree ∙ kept.splits.parted.tree)) ∙ making)
-
-  not_left : l ≢ b
-  not_left same = omega (arith, ap (λ (k : ℕ). (at v k).level) same, below.level, kept.splits.parted.left.level_is, kept.splits.parted.right.level_is)
 
   not_right : q ≢ b
   not_right same = omega (arith, ap (λ (k : ℕ). (at v k).level) same, below.level)

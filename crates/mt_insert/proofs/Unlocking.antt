@@ -159,13 +159,6 @@ module _ (op : ℕ) (v : ArenaView) (halves : List Halves) (all : AreReturnable 
     pub next_may : MayReturnBoth u op count h
     next_may = both_still (IsBelow halves count) v u op count h so_far.back left_new right_new m
 
-    -- and their counters have room still
-    pub next_left_room : CanUnlock (at v h.left).version → CanUnlock (at u h.left).version
-    next_left_room = subst (λ (n : NodeView). CanUnlock n.version) (sym (so_far.back.others h.left left_new))
-
-    pub next_right_room : CanUnlock (at v h.right).version → CanUnlock (at u h.right).version
-    next_right_room = subst (λ (n : NodeView). CanUnlock n.version) (sym (so_far.back.others h.right right_new))
-
     below_more : (k : ℕ) → IsBelow halves count k → IsBelow halves (count + 1) k
     below_more k b = record { place = b.place; before = omega (arith, b.before); is = b.is }
 

@@ -5,10 +5,8 @@ use Rattle.std.specs.List.{insert, remove}
 use Rattle.std.proofs.lemmas.List.Sums.{count_by-le-length}
 use Rattle.std.proofs.lemmas.List.Edits.{insert-append_left, remove-append_left}
 use Rattle.std.specs.Prelude.{nat_le}
-use Rattle.mt_interior.specs.Node.{InteriorNode, IsInterior}
 use Rattle.mt_interior.specs.Places.{place_of}
-use Rattle.mt_interior.specs.Fences.{end_of, bounds_of, bounds}
-use Rattle.mt_interior.specs.Changes.{with_child, without_child, middle, left_half, right_half}
+use Rattle.mt_interior.specs.Fences.{end_of, bounds_of}
 
 -- a place is at most the number of separators
 pub place_of-le-length : (xs : List ℕ) (s : ℕ) → place_of xs s ≤ length xs
@@ -18,20 +16,12 @@ place_of-le-length xs s = count_by-le-length (λ y. nat_le y s) xs
 pub bounds_of-insert : (low : ℕ) (xs : List ℕ) (high : Option ℕ) (i s : ℕ) → i ≤ length xs → bounds_of low (insert xs i s) high ≡ insert (bounds_of low xs high) (i + 1) s
 bounds_of-insert low xs high i s within = rw add-one (sym (insert-append_left (low ∷ xs) (end_of high ∷ []) (suc i) s (omega arith)))
 
--- so one more child is one bound more, the separator before it
-pub bounds-with_child : (n : InteriorNode) (separator child : ℕ) → bounds (with_child n separator child) ≡ insert (bounds n) (place_of n.separators separator + 1) separator
-bounds-with_child n separator child = bounds_of-insert n.low n.separators n.high _ separator (place_of-le-length n.separators separator)
-
 -- one separator less is one bound less, a place later
 pub bounds_of-remove : (low : ℕ) (xs : List ℕ) (high : Option ℕ) (i : ℕ) → 0 < i → i ≤ length xs → bounds_of low (remove xs (i - 1)) high ≡ remove (bounds_of low xs high) i
 bounds_of-remove low xs high zero not_first within = absurd (omega arith)
 bounds_of-remove low xs high (suc i) not_first within =
     let back : suc i - 1 ≡ i = omega arith in
     rw back (sym (remove-append_left (low ∷ xs) (end_of high ∷ []) (suc i) (omega arith)))
-
--- so one child less is one bound less, the separator that was before it
-pub bounds-without_child : (n : InteriorNode) (i : ℕ) → IsInterior n.separators n.children → 0 < i → i < length n.children → bounds (without_child n i) ≡ remove (bounds n) i
-bounds-without_child n i interior not_first there = bounds_of-remove n.low n.separators n.high i not_first (omega (arith, interior.between))
 
 -- a left half that ends at separator k has the first bounds, up to that one
 pub bounds_of-take : (low : ℕ) (xs : List ℕ) (high : Option ℕ) (k : ℕ) → k < length xs → bounds_of low (take k xs) (Some (get_or xs k 0)) ≡ take (suc (suc k)) (bounds_of low xs high)
@@ -44,11 +34,3 @@ pub bounds_of-drop : (low : ℕ) (xs : List ℕ) (high : Option ℕ) (k : ℕ) �
 bounds_of-drop low [] high k within = absurd (omega arith)
 bounds_of-drop low (x ∷ xs) high zero within = refl
 bounds_of-drop low (x ∷ xs) high (suc k) within = bounds_of-drop x xs high k (omega arith)
-
--- so the left half of a node has its first ten bounds, where its range ends at the middle separator
-pub bounds-left_half : (n : InteriorNode) → 8 < length n.separators → bounds (record (left_half n) { high = Some (middle n) }) ≡ take 10 (bounds n)
-bounds-left_half n within = bounds_of-take n.low n.separators n.high 8 within
-
--- and the right half has those from the tenth on, where its range begins there
-pub bounds-right_half : (n right : InteriorNode) → 8 < length n.separators → right.low ≡ middle n → bounds (record (right_half n right) { high = n.high }) ≡ drop 9 (bounds n)
-bounds-right_half n right within begins = rw begins (bounds_of-drop n.low n.separators n.high 8 within)

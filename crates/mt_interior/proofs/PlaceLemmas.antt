@@ -2,14 +2,12 @@
 use Rattle.std.proofs.Common.{◌≡◌, ℕ, zero, suc, ◌+◌, ◌<◌, ◌≤◌, Bool, true, false, List, [], ◌∷◌, Option, length, get_or, add-one, refl, ap, ◌∙◌, inl, inr, arith}
 use Rattle.std.specs.Prelude.{nat_le, if◌then◌else◌}
 use Rattle.std.proofs.lemmas.List.{get_or_append_left}
-use Rattle.std.specs.List.Sorted.{IsPartitionedBy, IsPartitionPoint}
-use Rattle.std.proofs.lemmas.List.Sorted.{IsPartitionedBy-leb, IsNonDecreasingBy-from_default}
 use Rattle.std.proofs.lemmas.List.Sums.{sum_by-cons}
 use Rattle.std.proofs.lemmas.Grind.{common_steps}
 use Rattle.std.proofs.lemmas.Bool.{cases_lt}
 use Rattle.std.proofs.lemmas.Bool.Decides.{nat_tests}
 use Rattle.mt_lists.specs.Rising.{IsRising}
-use Rattle.mt_lists.proofs.Rises.{rising_tail, rising_upto}
+use Rattle.mt_lists.proofs.Rises.{rising_tail}
 use Rattle.mt_interior.specs.Places.{place_of, IsPlace, IsNew}
 use Rattle.mt_interior.specs.Fences.{end_of, bounds_of, IsWithinBounds}
 
@@ -133,15 +131,3 @@ place_of-between low xs high s i rising in_range between = place_of-unique xs s 
 -- a new separator is above all before its place
 pub gap_of-new : (xs : List ℕ) (s i : ℕ) → IsNew xs s → IsPlace xs s i → (j : ℕ) → j < i → get_or xs j 0 < s
 gap_of-new xs s i missing place j before = omega (arith, missing j (omega (arith, place.in_range)), place.at_most_before j before)
-
--- separators that rise are parted by any slice, as a binary search asks
-pub partitioned : (xs : List ℕ) (s : ℕ) → IsRising xs → IsPartitionedBy (λ y. nat_le y s) xs
-partitioned xs s rising = IsPartitionedBy-leb (λ y. y) xs s (IsNonDecreasingBy-from_default (λ y. y) xs 0 (λ i j le within. rising_upto xs i j rising le within))
-
--- and the search's answer is the slice's place
-pub parts_from_point : (xs : List ℕ) (s i : ℕ) → i ≤ length xs → IsPartitionPoint (λ y. nat_le y s ≡ true) (λ y. nat_le y s ≡ false) xs i → IsPlace xs s i
-parts_from_point xs s i in_range point = record {
-  in_range = in_range;
-  at_most_before = λ k before. let passed = point.0 k 0 (omega arith) before in grind (arith, nat_tests, passed);
-  above_after = λ k after within. let failed = point.1 k 0 after within in grind (arith, nat_tests, failed);
-}

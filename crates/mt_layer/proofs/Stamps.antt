@@ -18,9 +18,8 @@ use Rattle.mt_arena.specs.NodeView.{NodeView}
 use Rattle.mt_arena.specs.Contents.{counts, is_live}
 use Rattle.mt_arena.specs.Forests.{tree_at, no_tree, layer_of}
 use Rattle.mt_arena.specs.Layers.{slot_at}
-use Rattle.mt_arena.specs.Edits.{unlocked}
 use Rattle.mt_arena.specs.Arena.{ArenaView, IsArena}
-use Rattle.mt_arena.specs.Accesses.{at, tree_of, with_node}
+use Rattle.mt_arena.specs.Accesses.{at, tree_of}
 use Rattle.mt_arena.specs.Layering.{root_of, with_held, with_layer, with_slot, with_link}
 use Rattle.mt_arena.proofs.Pairs.{here, there, last, before}
 use Rattle.mt_arena.proofs.Trees.{made as made_tree, last_tree, before_tree}
@@ -62,23 +61,6 @@ node_as_was v w k i owner stamp within same same_tree =
     (ap (λ (x : NodeView). (tree_at w.trees x.tree).prefix) same ∙ ap (λ (t : Tree). t.prefix) same_tree)
     (ap (λ (x : NodeView). length x.slots) same)
     (subst (λ (x : NodeView). IsLike (slot_at n i) (slot_at x i)) (sym same) (itself (slot_at n i)))
-
--- a lock is given back
-pub unlock_keeps : (v : ArenaView) (k : ℕ) → k < length v.nodes → KeepsStamps v (with_node v k (unlocked (at v k)))
-unlock_keeps v k within j m owner stamp h =
-    let y = unlocked (at v k) in
-    elim (cases_eq j k) [
-      | inl same ↦
-          let now = here v.nodes k y within in (
-            k,
-            m,
-            as_was v (with_node v k y) k m owner stamp within (ap (counts v.trees) now) (ap (λ (x : NodeView). (tree_at v.trees x.tree).prefix) now) (ap (λ (x : NodeView). length x.slots) now)
-                (subst (λ (x : NodeView). IsLike (slot_at (at v k) m) (slot_at x m)) (sym now) (itself (slot_at (at v k) m))) (subst (λ j. HasStamp (with_node v k y) j m owner stamp) same h),
-          )
-      | inr other ↦
-          let inside : j < length v.nodes = omega (arith, h.there, length-set v.nodes k y) in
-          (j, m, node_as_was v (with_node v k y) j m owner stamp inside (there v.nodes k j y other) refl h)
-    ]
 
 -- a tree is made, whose pairs do not count
 pub layer_keeps : (v : ArenaView) (prefix : Bytes) (e : Entry) (op : ℕ) → IsArena v.nodes v.trees → KeepsStamps v (with_layer v prefix e op)

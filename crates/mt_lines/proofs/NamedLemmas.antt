@@ -82,10 +82,6 @@ walk_same stop old new o move w q = end_same stop w.mid new o move w.ends q ∙ 
 no_both : false ≡ true → ⊥
 no_both e = absurd cc
 
--- no name stands for an operation that is not open
-pub unnamed : (table : Shown) (named : Tickets) (o : ℕ) → HaveOneName table named → op_at table o ≡ None → (other : ℕ) → operation_of named other ≢ Some o
-unnamed table named o a free other e = no_both (sym (ap is_some free) ∙ a.open_ones other o e)
-
 -- an operation is taken, and its name freed
 pub taken_named : (old mid new : StateView) (before after : Tickets) (name o : ℕ) (answer : Answer) → Takes old mid o answer → Tidies mid new
     → FreesName before after name → operation_of before name ≡ Some o → HaveOneName old.table before → HaveOneName new.table after
@@ -125,10 +121,3 @@ cancelled_same old mid new o worker tenant command b c q = ap (λ (v : StateView
     by : ((q ≡ o) ⊎ (q ≢ o)) → op_at (set mid.table o None) q ≡ op_at old.table q
     by (inl here) = ap (op_at (set mid.table o None)) here ∙ gone_is mid.table o ∙ sym (ap (op_at old.table) here ∙ b.free)
     by (inr apart) = get_or-set_other mid.table o q None None apart ∙ b.others q apart
-
--- and nothing else has changed
-pub cancelled_stands : (old mid new : StateView) (o worker tenant : ℕ) (command : Command) → Begins old mid o worker tenant command
-    → Cancels mid new o → new ≡ record old { table = new.table }
-cancelled_stands old mid new o worker tenant command b c =
-    let table : new.table ≡ set mid.table o None = ap (λ (v : StateView). v.table) c.gone in
-    c.gone ∙ ap (λ (v : StateView). record v { table = set mid.table o None }) b.stands ∙ ap (λ t. record old { table = t }) (sym table)

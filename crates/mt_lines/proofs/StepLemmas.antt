@@ -116,11 +116,6 @@ pub of_named : (named : Tickets) (name o : ℕ) (old new : StoreView) (response 
     → told o → TellsNamed (operation_of named name) old new response told
 of_named named name o old new response told e t = subst (λ (q : Option ℕ). TellsNamed q old new response told) (sym e) t
 
--- what is told of a name that is not in use
-pub of_none : (named : Tickets) (name : ℕ) (old new : StoreView) (response : Response) (told : ℕ → Type 0) → operation_of named name ≡ None
-    → response ≡ responses.NoSuch → new ≡ old → TellsNamed (operation_of named name) old new response told
-of_none named name old new response told e said same = subst (λ (q : Option ℕ). TellsNamed q old new response told) (sym e) (said, same)
-
 end_can_say : (stop : Option Phase) (mid new : StateView) (o : ℕ) (move : Move) → EndsWalk stop mid new o move → CanSay new o move
 end_can_say stop mid new o Moved e = tt
 end_can_say stop mid new o (Again holder) e = can_say mid new o (Again holder) e

@@ -12,8 +12,8 @@ use Rattle.mt_rows.specs.Commands.{IsKey}
 use Rattle.mt_rows.specs.declared.record.Record.{Record}
 use Rattle.mt_rows.specs.declared.record.Batch.{Batch}
 use Rattle.mt_fields.specs.Fields.{string}
-use Rattle.mt_fields.specs.Reading.{◌>>=◌, byte_at, number_at, taken_at, string_at, each_at}
-use Rattle.mt_fields.proofs.FieldLaws.{IsBytes, bind_some, guard_ended, choose, Takes, Takes-then, Takes-more, byte_takes, wide32, wide64, number_takes, number_again, taken_takes, taken_fits, taken_again, string_takes, string_again, each_takes, each_again}
+use Rattle.mt_fields.specs.Reading.{◌>>=◌, byte_at, number_at, string_at, each_at}
+use Rattle.mt_fields.proofs.FieldLaws.{IsBytes, bind_some, guard_ended, choose, Takes, Takes-then, Takes-more, byte_takes, wide32, wide64, number_takes, number_again, taken_again, string_takes, string_again, each_takes, each_again}
 use Rattle.mt_log.specs.declared.batch.LogBatch.{LogBatch}
 use Rattle.mt_log.specs.declared.batch.LogBatch.TheVariants.{Records, Resume}
 use Rattle.mt_log.specs.Format.{row_bytes, change_bytes, record_bytes, body, told_body}
@@ -190,25 +190,6 @@ body_takes bytes b fits e =
     let nothing : x.0.1 ≡ [] = nil_from_length x.0.1 (eqb-true _ _ g.0) in
     let whole : bytes ≡ body x.0.0 = first.0.parts ∙ second.0.parts ∙ ap (λ (t : Bytes). body x.0.0 ++ t) nothing ∙ append-nil (body x.0.0) in
     subst (λ (y : LogBatch). (bytes ≡ body y) × (length (body y) < 2 ^ 32 → IsLogBatch y)) g.1 (whole, second.1)
-
--- a batch, whole behind its length
-pub batch_takes : (bytes : Bytes) (b : LogBatch) (rest : Bytes) → IsBytes bytes → batch_at bytes ≡ Some (b, rest)
-    → (bytes ≡ told_body (body b) ++ rest) × IsLogBatch b
-unfolding batch_at
-batch_takes bytes b rest fits e =
-    let n = bind_some (number_at w32 bytes) (λ n. taken_at n.0 n.1 >>= λ text. batch_in text.0 >>= λ x. Some (x, text.1)) (b, rest) e in
-    let t = bind_some (taken_at n.0.0 n.0.1) (λ text. batch_in text.0 >>= λ x. Some (x, text.1)) (b, rest) n.2 in
-    let x = bind_some (batch_in t.0.0) (λ x. Some (x, t.0.1)) (b, rest) t.2 in
-    let number = number_takes w32 (2 ^ 32) wide32 bytes n.0.0 n.0.1 fits n.1 in
-    let taken = taken_takes n.0.0 n.0.1 t.0.0 t.0.1 number.0.rest_fits t.1 in
-    let inside = taken_fits n.0.0 n.0.1 t.0.0 t.0.1 number.0.rest_fits t.1 in
-    let read = body_takes t.0.0 x.0 inside x.1 in
-    let len : length (body x.0) ≡ n.0.0 = ap length (sym read.0) ∙ taken.1 in
-    let both = Takes-then bytes (to_be_bytes w32 n.0.0) n.0.1 t.0.0 t.0.1 number.0 taken.0 in
-    let parts : bytes ≡ told_body (body x.0) ++ t.0.1 = both.parts ∙ ap (λ (k : ℕ). (to_be_bytes w32 k ++ t.0.0) ++ t.0.1) (sym len) ∙ ap (λ (l : Bytes). (to_be_bytes w32 (length (body x.0)) ++ l) ++ t.0.1) read.0 in
-    let made : LogBatch × Bytes = (x.0, t.0.1) in
-    subst (λ (y : LogBatch × Bytes). (bytes ≡ told_body (body y.0) ++ y.1) × IsLogBatch y.0) (same_Some made (b, rest) x.2)
-    (parts, read.1 (omega (arith, len, number.1)))
 
 -- ---- what is spelled so is read
 

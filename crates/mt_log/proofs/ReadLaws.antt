@@ -1,5 +1,5 @@
 -- What is read of a log from gate to gate, and what an opening made of it.
-use Rattle.std.proofs.Common.{◌≡◌, ⊎_elim, inl, inr, ℕ, zero, suc, ◌+◌, ◌-◌, ◌<◌, ◌≤◌, Bool, true, false, IsTrue, ◌↔◌, ◌^◌, Some, None, List, [], ◌∷◌, ◌++◌, length, take, drop, get_or, refl, sym, ◌∙◌, ap, subst, arith, append_assoc, length-append, Result, Ok, Err, OnOk, OnErr, IfOk, IfErr, MatchResult}
+use Rattle.std.proofs.Common.{◌≡◌, ⊎_elim, inl, inr, ℕ, zero, suc, ◌+◌, ◌-◌, ◌<◌, ◌≤◌, Bool, true, false, IsTrue, ◌↔◌, ◌^◌, Some, None, List, [], ◌∷◌, ◌++◌, length, take, drop, get_or, refl, sym, ◌∙◌, ap, subst, arith, append_assoc, length-append, Result, Ok, Err, OnErr, IfOk, IfErr, MatchResult}
 use Rattle.std.specs.List.{flat_map, All}
 use Rattle.std.specs.Prelude.{nat_lt}
 use Rattle.std.specs.Int.{w32, to_be_bytes, from_be_bytes}
@@ -29,11 +29,7 @@ use Rattle.mt_log.proofs.Tests.{below, steps_from_test, records_from_test, test_
 use Rattle.mt_log.proofs.BatchLaws.{body_takes, batch_again}
 use Rattle.mt_log.proofs.FrontLaws.{each_more, end_more, opening, only_synced}
 
--- what holds at Ok, or at an error, whatever the result
-pub on_ok : {T E : Type 0} (result : Result T E) {P : Type 0} → P → OnOk result P
-on_ok (Ok x) has = has
-on_ok (Err e) has = tt
-
+-- what holds at an error, whatever the result
 pub on_err : {T E : Type 0} (result : Result T E) {P : Type 0} → P → OnErr result P
 on_err (Ok x) has = tt
 on_err (Err e) has = has

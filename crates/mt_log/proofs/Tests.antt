@@ -70,9 +70,6 @@ steps_from_test from to e =
     let both = and_parts (not (nat_lt to from)) (not (nat_lt (2 ^ 59) to)) e in
     (not_below from to both.0, not_below to (2 ^ 59) both.1)
 
-pub test_from_steps : (from to : ℕ) → from ≤ to → to ≤ 2 ^ 59 → are_steps from to ≡ true
-test_from_steps from to order last = and_from (not (nat_lt to from)) (not (nat_lt (2 ^ 59) to)) (at_most from to order) (at_most to (2 ^ 59) last)
-
 pub at_most_from_test : (a b : ℕ) → not (nat_lt b a) ≡ true → a ≤ b
 at_most_from_test a b e = not_below a b e
 

@@ -1,13 +1,12 @@
 -- What one seat that is written over makes of the links and of the table: for the functions of queue.rt, and TableMoves.
 use Rattle.std.proofs.Common.{◌≡◌, ◌≢◌, ℕ, zero, suc, inl, inr, [], ◌∷◌, set, Box, Global, Option, Some, None, is_some, refl, sym, ap, subst, ◌∙◌}
 use Rattle.std.proofs.lemmas.Bool.{cases_eq}
-use Rattle.std.proofs.lemmas.Option.{same_Some}
 use Rattle.mt_operation.specs.declared.operation.Operation.{Operation}
 use Rattle.mt_operation.specs.declared.queue.Seat.{Seat}
 use Rattle.mt_operation.specs.declared.queue.Ends.{Ends}
 use Rattle.mt_operation.specs.Tables.{op_at}
-use Rattle.mt_operation.specs.Seats.{Seats, seat_at, with_operation, operation_in, table_of, after_in, before_in, after_of, before_of, IsEndOrSeat}
-use Rattle.mt_operation.specs.Queues.{SetsAfter, SetsBefore, CutsOut, LinksLast, Becomes}
+use Rattle.mt_operation.specs.Seats.{Seats, seat_at, operation_in, table_of, after_in, before_in, after_of, before_of, IsEndOrSeat}
+use Rattle.mt_operation.specs.Queues.{SetsAfter, SetsBefore, LinksLast}
 use Rattle.mt_operation.proofs.Tables.{set_is, set_there, set_same}
 
 -- the operation of an id is that of the seat there
@@ -113,20 +112,6 @@ put_behind_seat seats ends o seat before at =
       subst (λ (p : Seats). SetsBefore (set seats o (Some one)) ends p ends (Some o) before) (written_again seats o (Some one) (Some both)) (before_written (set seats o (Some one)) ends o one before (set_is seats o one seat at)),
     )
 
--- an operation that has become another, by what it was and by what it is
-pub becomes_by : (seats : Seats) (o : ℕ) (seat : Seat) (f : Operation → Operation) (op : Operation) → seat_at seats o ≡ Some seat → op ≡ f seat.operation.value
-    → Becomes seats (set seats o (Some (with_operation seat op))) o f
-becomes_by seats o seat f op at is x there =
-    let same : seat ≡ x = same_Some seat x (sym at ∙ there) in
-    ap (λ w. set seats o (Some (with_operation seat w))) is ∙ ap (λ (w : Seat). set seats o (Some (with_operation w (f w.operation.value)))) same
-
--- where nobody is, nobody becomes another
-pub none_becomes : (seats : Seats) (o : ℕ) (f : Operation → Operation) → seat_at seats o ≡ None → Becomes seats seats o f
-none_becomes seats o f none seat at = absurd (none_some (sym none ∙ at))
-  where
-    none_some : ◌≡◌ {A = Option Seat} None (Some seat) → ⊥
-    none_some e = cc
-
 -- four new links put an operation behind all others
 pub linked : (p0 p1 p2 p3 p4 : Seats) (e0 e1 e2 e3 e4 : Ends) (o : ℕ) → e0.last ≢ Some o
     → SetsAfter p0 e0 p1 e1 e0.last (Some o) → SetsAfter p1 e1 p2 e2 (Some o) None → SetsBefore p2 e2 p3 e3 (Some o) e0.last → SetsBefore p3 e3 p4 e4 None (Some o)
@@ -143,13 +128,3 @@ linked p0 p1 p2 p3 p4 e0 e1 e2 e3 e4 o new a b c d = record {
   where
     some_none : ◌≡◌ {A = Option ℕ} (Some o) None → ⊥
     some_none e = cc
-
--- two new links take out what was between
-pub unlinked : (p0 p1 p2 : Seats) (e0 e1 e2 : Ends) (s t : Option ℕ) → SetsAfter p0 e0 p1 e1 s t → SetsBefore p1 e1 p2 e2 t s → CutsOut p0 e0 p2 e2 s t
-unlinked p0 p1 p2 e0 e1 e2 s t a b = record {
-  after = b.afters s ∙ a.here;
-  before = b.here;
-  afters = λ u ne. b.afters u ∙ a.others u ne;
-  befores = λ u ne. b.others u ne ∙ a.befores u;
-  table = b.table ∙ a.table;
-}

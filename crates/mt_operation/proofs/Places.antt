@@ -83,9 +83,6 @@ written_room seats o x = record { slots = length-set seats.slots o x; capacity =
 pub slot_given : (old new : Slab Seat) (o : ℕ) → new.slots ≡ set old.slots o None → new.capacity ≡ old.capacity → KeepsRoom old new
 slot_given old new o slots capacity = record { slots = ap length slots ∙ length-set old.slots o None; capacity = capacity }
 
-pub same_room : (seats : Slab Seat) → KeepsRoom seats seats
-same_room seats = record { slots = refl; capacity = refl }
-
 pub room_on : (old mid new : Slab Seat) → KeepsRoom old mid → KeepsRoom mid new → KeepsRoom old new
 room_on old mid new a b = record { slots = b.slots ∙ a.slots; capacity = b.capacity ∙ a.capacity }
 

@@ -19,9 +19,6 @@ use Rattle.mt_operation.proofs.QueueLaws.{some_none, in_follows, same_queue, cut
 none_op : {op : Operation} → ◌≡◌ {A = Option Operation} None (Some op) → ⊥
 none_op e = cc
 
-none_seat : {seat : Seat} → ◌≡◌ {A = Option Seat} None (Some seat) → ⊥
-none_seat e = cc
-
 -- an operation with a first step is there
 first_some : (x : Option Operation) → 0 < first_in x → is_some x ≡ true
 first_some None lt = absurd (omega (arith, lt))

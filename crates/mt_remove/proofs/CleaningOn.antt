@@ -67,9 +67,6 @@ module _ (v : ArenaView) (op slot tree : ℕ) (key : Bytes) (w : Walk) (r : Remo
       settled = root_settled;
     }
 
-    abbrev after : Removal
-    after = record r { below = Some b }
-
     pub removing : (phase : Phase) (e : Removal) → e.below ≡ Some b → IsRemoving u op key (walk_at phase w) e
     removing phase e below =
         let t = kept.holds.judged.at_border.through in

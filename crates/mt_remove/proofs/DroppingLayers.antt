@@ -147,9 +147,6 @@ module _ (v m u : ArenaView) (op node slot tree : ℕ) (arena : IsArena v.nodes 
   pub link_still : m ≡ with_lock v (root_of v tree) op → (slot_at (at m node) slot).held ≡ Link tree
   link_still is = ap (λ (a : ArenaView). (slot_at (at a node) slot).held) is ∙ ap (λ (n : NodeView). (slot_at n slot).held) (node_still v op node slot tree arena h free) ∙ h.link
 
-  root_same : m ≡ with_lock v (root_of v tree) op → root_of m tree ≡ root_of v tree
-  root_same is = ap (λ (a : ArenaView). root_of a tree) is
-
   pub dropped_settled : (step : ℕ) → m ≡ with_lock v (root_of v tree) op → u ≡ without_layer m node slot tree step
       → (IsSettled m.nodes node (at m node) → IsSettled u.nodes node (at u node))
       → (IsSettled m.nodes (root_of m tree) (at m (root_of m tree)) → IsSettled u.nodes (root_of m tree) (at u (root_of m tree)))

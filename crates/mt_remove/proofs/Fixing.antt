@@ -188,9 +188,6 @@ module _ (v : ArenaView) (op : ℕ) (key : Bytes) (w : Walk) (r : Removal) (aren
         child = subst (λ (x : NodeView). HasChild x l) (sym is) kept.child;
       }))
 
-  pub parent_inside : (p < length v.nodes) × (0 < (at v p).level)
-  parent_inside = (kept.has_above.node.returns.held.there, omega (arith, kept.has_above.node.returns.level_is))
-
 -- the same, of the numbers that the calls tell
 module _ (v : ArenaView) (op : ℕ) (key : Bytes) (w : Walk) (r : Removal) (arena : IsArena v.nodes v.trees) (kept : IsAtFixNext v op key w r) (left behind : ℕ) (left_is : r.left ≡ Some left) (next : (at v left).next ≡ Some behind) where
   same_left : kept.left ≡ left

@@ -1,6 +1,6 @@
 -- One slot of a border node leads a key to a tree: which one is found where the key is looked for.
 use Rattle.std.proofs.Common.{◌≡◌, ◌≢◌, ℕ, ◌<◌, length, IsSomeAnd, sym, ap, subst, ◌∙◌}
-use Rattle.mt_slices.specs.Slices.{slice_of, mark_of, suffix_of}
+use Rattle.mt_slices.specs.Slices.{suffix_of}
 use Rattle.mt_rows.specs.Rows.{Bytes}
 use Rattle.mt_border.specs.declared.entry.Held.{Held}
 use Rattle.mt_border.specs.declared.entry.Held.TheVariants.{Stable, Unstable, Link}
@@ -8,8 +8,6 @@ use Rattle.mt_border.specs.declared.entry.Pair.{Pair}
 use Rattle.mt_border.specs.declared.entry.FoundKind.{FoundKind}
 use Rattle.mt_border.specs.declared.entry.FoundKind.TheVariants.{ThisKey, OtherLong, Link as ToTree}
 use Rattle.mt_border.specs.Entry.{pair_of, IsLink}
-use Rattle.mt_border.specs.Entries.{IsMissing}
-use Rattle.mt_border.proofs.Edits.{any_entry}
 use Rattle.mt_arena.specs.Layers.{slot_at}
 use Rattle.mt_arena.specs.Arena.{ArenaView, IsArena}
 use Rattle.mt_arena.specs.Accesses.{at}
@@ -28,10 +26,6 @@ one_link : (held : Held) (one other : ℕ) → held ≡ Link one → held ≡ Li
 one_link held one other is too = let same : Link one ≡ Link other = sym is ∙ too in cc
 
 module _ (v : ArenaView) (k : ℕ) (key : Bytes) (layer tree : ℕ) where
-  -- none does so where the node has nothing of the key
-  pub none_missing : IsMissing (at v k).slots (slice_of key layer) (mark_of key layer) → (slot : ℕ) → LeadsTo (at v k) key layer tree slot → ⊥
-  none_missing missing slot leads = missing slot any_entry leads.in_slot.in_range leads.in_slot.slice_is leads.in_slot.mark_is
-
   module _ (arena : IsArena v.nodes v.trees) (there : k < length v.nodes) (found : ℕ) where
     one_slot : (kind other : FoundKind) → IsInSlot (at v k) found key layer kind → (slot : ℕ) → IsInSlot (at v k) slot key layer other → found ≡ slot
     one_slot kind other is slot too =

@@ -2,7 +2,6 @@
 use Rattle.std.proofs.Common.{◌≡◌, ◌≢◌, ◌⊎◌, ℕ, ◌-◌, ◌<◌, length, get_or, Option, Some, None, refl, sym, ap, subst, ◌∙◌, inl, inr, arith}
 use Rattle.std.proofs.lemmas.Bool.{cases_eq, cases_lt}
 use Rattle.std.proofs.lemmas.Option.{same_Some}
-use Rattle.std.proofs.lemmas.List.{length-set}
 use Rattle.mt_rows.specs.Rows.{Bytes}
 use Rattle.mt_interior.specs.Places.{place_of}
 use Rattle.mt_arena.specs.NodeView.{NodeView}
@@ -114,12 +113,6 @@ module _ (v : ArenaView) (op p : ℕ) (key : Bytes) (w : Walk) (r : Removal) (ar
 
     pub inside : 0 < (at u p).level
     inside = omega (arith, c.level, ap (λ (x : NodeView). x.level) is)
-
-    pub node_inside : k < length u.nodes
-    node_inside = omega (arith, child_there, length-set v.nodes p (locked (at v p) op))
-
-    pub parent_inside : p < length u.nodes
-    parent_inside = omega (arith, parent_there, length-set v.nodes p (locked (at v p) op))
 
     ours : IsOurs u op w 1 p
     ours = record {

@@ -1,5 +1,5 @@
 -- What a removal finds in the border node that it holds, and what it makes ready of that: for `judge`.
-use Rattle.std.proofs.Common.{◌≡◌, ℕ, List, Option, Some, None, IsSomeAnd, refl, sym, ap, subst, ◌∙◌}
+use Rattle.std.proofs.Common.{◌≡◌, ℕ, List, Option, Some, None, IsSomeAnd, refl, sym, ap, ◌∙◌}
 use Rattle.std.specs.FinMap.{get}
 use Rattle.mt_slices.specs.Slices.{suffix_of}
 use Rattle.mt_rows.specs.Rows.{Bytes}
@@ -10,21 +10,14 @@ use Rattle.mt_border.specs.declared.entry.FoundKind.TheVariants.{ThisKey, OtherL
 use Rattle.mt_border.specs.Entry.{pair_of}
 use Rattle.mt_border.specs.Node.{entry_at}
 use Rattle.mt_border.specs.Contents.{owned}
-use Rattle.mt_border.proofs.Edits.{any_entry}
 use Rattle.mt_arena.specs.NodeView.{NodeView}
 use Rattle.mt_arena.specs.Layers.{slot_at}
 use Rattle.mt_arena.specs.Arena.{ArenaView, IsArena, content_of}
 use Rattle.mt_arena.specs.Accesses.{at}
-use Rattle.mt_operation.specs.declared.phase.Phase.TheVariants.{DropKey}
-use Rattle.mt_operation.specs.declared.prepared.Prepared.{Prepared}
-use Rattle.mt_operation.specs.declared.task.Task.{Task}
 use Rattle.mt_operation.specs.declared.walk.Walk.{Walk}
 use Rattle.mt_descent.specs.KeptWalks.{IsInSlot}
 use Rattle.mt_descent.proofs.Looks.{no_other}
 use Rattle.mt_insert.specs.KeptPuts.{HoldsBorder}
-use Rattle.mt_insert.proofs.Looks.{stable_pair, holds_on}
-use Rattle.mt_remove.specs.KeptRemovals.{IsAtDropKey}
-use Rattle.mt_remove.specs.Writes.{ReadyIn}
 
 -- some pair is one
 some_pair : (pair : Option Pair) (P : Pair → Type 0) → IsSomeAnd pair P → (p : Pair) × (pair ≡ Some p)
@@ -37,27 +30,6 @@ pub pair_there : (n : NodeView) (b : BorderNode) (slot : ℕ) (key : Bytes) (lay
 pair_there n b slot key layer same f =
     let p = some_pair (pair_of (slot_at n slot).held) (λ pair. pair.suffix ≡ suffix_of key layer) f.kind_is in
     (p.0, ap (λ (s : List Entry). pair_of (slot_at (record n { slots = s }) slot).held) (sym same) ∙ p.1)
-
--- what is made ready over the row of a border node's slot is so over that of its view
-pub ready_there : (n : NodeView) (b : BorderNode) (task : Task) (slot : ℕ) (prepared : Prepared) → n.slots ≡ b.slots → ReadyIn (entry_at b slot).held task prepared
-    → ReadyIn (slot_at n slot).held task prepared
-ready_there n b task slot prepared same ready =
-    subst (λ (s : List Entry). ReadyIn (slot_at (record n { slots = s }) slot).held task prepared) (sym same) ready
-
--- what is kept where the key is taken out next
-pub kept_drop : (v : ArenaView) (op : ℕ) (task : Task) (prepared : Prepared) (w : Walk) (slot : ℕ) → HoldsBorder v op task.key w
-    → IsInSlot (at v w.place.node) slot task.key w.layer ThisKey → ReadyIn (slot_at (at v w.place.node) slot).held task prepared
-    → IsAtDropKey v op task prepared (record w { slot = slot; phase = DropKey })
-kept_drop v op task prepared w slot h in_slot ready =
-    let n = at v w.place.node in
-    let found = stable_pair (slot_at n slot).held (λ pair. pair.suffix ≡ suffix_of task.key w.layer) (h.settled.stable slot any_entry in_slot.in_range) in_slot.kind_is in
-    record {
-      holds = holds_on v op task w DropKey slot h;
-      in_slot = in_slot;
-      pair = found.0;
-      stable = found.1;
-      ready = ready found.0 (ap pair_of found.1);
-    }
 
 -- where another long key stands in its place, the key is missing
 pub none_beside : (v : ArenaView) (op : ℕ) (key : Bytes) (w : Walk) → IsArena v.nodes v.trees → HoldsBorder v op key w → (slot : ℕ)

@@ -12,7 +12,7 @@ use Rattle.mt_arena.specs.Lags.{IsFollowedBy}
 use Rattle.mt_arena.specs.Forests.{tree_at}
 use Rattle.mt_arena.specs.Edits.{inserting, retired}
 use Rattle.mt_arena.specs.Unlinks.{joined, without_child}
-use Rattle.mt_arena.specs.Removals.{MayUnlink, without_node}
+use Rattle.mt_arena.specs.Removals.{without_node}
 use Rattle.mt_arena.specs.Arena.{ArenaView, IsArena}
 use Rattle.mt_arena.specs.Accesses.{at}
 use Rattle.mt_arena.proofs.Pairs.{here, there}
@@ -35,20 +35,6 @@ module _ (v : ArenaView) (op step : ℕ) (key : Bytes) (w : Walk) (r : Removal) 
 
   abbrev p : ℕ
   p = kept.parent
-
-  pub may_unlink : MayUnlink v p l k op
-  may_unlink = record {
-    held = kept.has_above.node.returns.held;
-    left_held = kept.has_left.node.returns.held;
-    node_held = kept.node.node.returns.held;
-    mine = kept.has_above.node.returns.mine;
-    live = kept.node.live;
-    border = kept.node.node.returns.level_is;
-    whole = kept.node.whole;
-    empty = kept.node.empty;
-    next = kept.has_left.next;
-    beside = kept.beside;
-  }
 
   -- the three nodes differ
   left_apart : l ≢ p
@@ -232,9 +218,6 @@ module _ (v : ArenaView) (op step : ℕ) (key : Bytes) (w : Walk) (r : Removal) 
 
     pub unlink_kept : KeptRemoval (after_unlink (at v k).next (at u p)) u op key (walk_at (after_unlink (at v k).next (at u p)) w) r
     unlink_kept = by_next (at v k).next refl
-
-    pub parent_inside : (p < length u.nodes) × (0 < (at u p).level)
-    parent_inside = (above.node.returns.held.there, omega (arith, above.node.returns.level_is))
 
 -- the same, of the numbers and the arena that the calls leave
 pub unlink_done : (v u : ArenaView) (op step : ℕ) (key : Bytes) (w : Walk) (r : Removal) (arena : IsArena v.nodes v.trees) (kept : IsAtUnlink v op key w r) (left parent : ℕ) (next : Option ℕ) (phase : Phase)

@@ -85,15 +85,6 @@ notes t prefix behind e es pair is pair_is = (
   ap (λ b. if b then stop behind es else stop_on e (pair_of e.held) (stop behind es)) is ∙ ap (λ p. stop_on e p (stop behind es)) pair_is,
 )
 
--- a link ends the reading
-pub ends : (t : ℕ) (prefix : Bytes) (behind : Entry → Bool) (e : Entry) (es : List Entry) → behind e ≡ false → pair_of e.held ≡ None
-    → (own_pairs t prefix (read behind (e ∷ es)) ≡ []) × (stop behind (e ∷ es) ≡ Some e)
-ends t prefix behind e es is none = (
-  ap (λ b. own_pairs t prefix (if b then read behind es else read_on e (pair_of e.held) (read behind es))) is
-      ∙ ap (λ p. own_pairs t prefix (read_on e p (read behind es))) none,
-  ap (λ b. if b then stop behind es else stop_on e (pair_of e.held) (stop behind es)) is ∙ ap (λ p. stop_on e p (stop behind es)) none,
-)
-
 -- the loop: what was noted, with what is noted of the entries that are left, is all; and the link is that of all
 pub record Told (t : ℕ) (prefix : Bytes) (behind : Entry → Bool) (first : List (Bytes × Columns)) (all : List Entry) (noted : List (Bytes × Columns))
     (left : List Entry) : Type 0 where

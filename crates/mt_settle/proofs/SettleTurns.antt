@@ -67,12 +67,6 @@ module _ {S : Type 0} (does : S → Turn → S → Type 0) where
         (now, subst (λ (k : ℕ). does mid (BroughtUp k (Err refusal)) now) (sym s.all) d, refl);
   })
 
-  pub stops_at_once : (old now : S) (count : ℕ) (refusal : Refusal) → 0 < count → does old (BroughtUp 0 (Err refusal)) now → Settles does count old now (Err refusal)
-  stops_at_once old now count refusal less d = inr (record { marks = []; before = less; turns = (now, d, refl) })
-
-  pub settled : (old now : S) (count least : ℕ) → Sofar old now count least → Settles does count old now (Ok least)
-  settled old now count least s = record { marks = s.marks; all = s.all; turns = s.turns; least = s.least_is }
-
   -- a number that none of the turns undoes is at most what each of them told, if it is at most what a log tells that it had reached before
   early : (steps : S → ℕ) → ((s t : S) (turn : Turn) → does s turn t → steps s ≤ steps t) → ((s t : S) (log mark : ℕ) → does s (BroughtUp log (Ok mark)) t → steps s ≤ mark)
       → (old new : S) (log : ℕ) (marks : List ℕ) → Chain does old (turns_from log marks) new → All (λ m. steps old ≤ m) marks

@@ -4,8 +4,8 @@ use Rattle.std.proofs.lemmas.Bool.{cases_eq, ne_eqb}
 use Rattle.mt_operation.specs.declared.operation.Operation.{Operation}
 use Rattle.mt_operation.specs.Operations.{OperationView, view_of}
 use Rattle.mt_operation.specs.Tables.{Table, op_at as operation_at}
-use Rattle.mt_state.specs.Views.{Core, Shown, op_at}
-use Rattle.mt_state.specs.Invariant.{StateInvariant, one_if_made, made_count}
+use Rattle.mt_state.specs.Views.{Shown, op_at}
+use Rattle.mt_state.specs.Invariant.{one_if_made, made_count}
 use Rattle.mt_state.proofs.Shown.{shown_table, shown_there, shown_set}
 
 -- an operation counts at most once
@@ -55,19 +55,11 @@ made_begun old new o op free there none others = made_same old new (λ q. elim (
   | inr ne ↦ ap one_if_made (others q ne)
 ])
 
-pub begun_at_most : (old new : Shown) (o : ℕ) (op : OperationView) → op_at old o ≡ None → op_at new o ≡ Some op → op.first ≡ 0
-    → ((q : ℕ) → q ≢ o → op_at new q ≡ op_at old q) → made_count new ≤ made_count old
-begun_at_most old new o op free there none others = let is = made_begun old new o op free there none others in omega (arith, is)
-
 -- one operation less counts one less, if it has made a step
 pub made_taken : (table : Shown) (o : ℕ) (op : OperationView) → op_at table o ≡ Some op → 0 < op.first → suc (made_count (set table o None)) ≡ made_count table
 made_taken [] o op there begun = absurd (cc)
 made_taken (x ∷ table) zero op there begun = let one = ap one_if_made there ∙ made_once op begun in omega (arith, one)
 made_taken (x ∷ table) (suc o) op there begun = let rest = made_taken table o op there begun in omega (arith, rest)
-
--- no more answers were taken than steps were made
-pub answers_few : (c : Core) → StateInvariant c → c.answers ≤ c.steps
-answers_few c h = let bound = h.answered in omega (arith, bound)
 
 -- a begin keeps the bound
 pub answered_begun : (answers steps : ℕ) (old new : Shown) (o : ℕ) (op : OperationView) → op_at old o ≡ None → op_at new o ≡ Some op → op.first ≡ 0

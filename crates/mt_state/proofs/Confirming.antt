@@ -107,10 +107,6 @@ module _ (c : Core) (now : StateView) (o : ℕ) (is : shown c ≡ now) (h : Stat
 
   module _ (w : Walk) (same : Continues op.walk w) (confirms : Confirms (at c.arena op.walk.place.node) op.walk w)
       (kept : (past : Past) (row : Option Columns) → WalksConfirm c.arena past op.task.key row op.walk → IsKept c.arena past op.task.key row w) where
-    walks_confirm : (past : Past) → KeptAt Confirm c.arena past op.task.key confirming.row op.walk
-        → WalksConfirm c.arena past op.task.key confirming.row op.walk
-    walks_confirm past k = k
-
     -- what is kept of the walk now
     kept_now : IsKept c.arena (past_of c) op.task.key confirming.row w
     kept_now =

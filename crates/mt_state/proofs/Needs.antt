@@ -1,10 +1,8 @@
 -- What the calls of a put's phases ask, by the invariant: for `State::lock`, `judge`, `store`, `publish` and `unlock`, and
 -- for those that make a layer.
-use Rattle.std.proofs.Common.{◌≡◌, ◌≢◌, ℕ, ◌+◌, ◌<◌, Bool, true, false, List, [], Option, Some, None, IsSome, is_some, refl, sym, ap, subst, ◌∙◌, arith, inl, inr, nat_cmp, length}
+use Rattle.std.proofs.Common.{◌≡◌, ◌≢◌, ℕ, ◌<◌, Bool, true, false, List, [], Option, Some, None, IsSome, is_some, refl, sym, ap, subst, ◌∙◌, arith, inl, inr, nat_cmp, length}
 use Rattle.std.proofs.lemmas.Option.{same_Some, none-some}
-use Rattle.mt_version.specs.Changes.{CanUnlock}
 use Rattle.mt_rows.specs.Maps.{Map}
-use Rattle.mt_tape.specs.Tapes.{last_write}
 use Rattle.mt_arena.specs.Accesses.{at, tree_of}
 use Rattle.mt_operation.specs.declared.phase.Phase.{Phase}
 use Rattle.mt_operation.specs.declared.phase.Phase.TheVariants.{Lock, Judge, Store, Publish, Unlock, Done, DropKey}
@@ -22,15 +20,15 @@ use Rattle.mt_insert.specs.KeptPuts.{HoldsBorder, IsAtStore, IsAtPublish, IsAtUn
 use Rattle.mt_layer.specs.KeptLayers.{IsAtLeave, KeptLayer}
 use Rattle.mt_state.specs.Views.{Core, shown, past_of}
 use Rattle.mt_state.specs.Promises.{IsInTheWay, IsHeldByOther, HasStep}
-use Rattle.mt_state.specs.KeptOperations.{IsOpenOperation, IsOnItsWay, IsJudging, IsStoring, IsPublishing, MayUnlock, IsUnlocking, IsLayering, IsLeaving, IsReturning, IsKeptAt, IsKeptFor, IsWritingAt, MayUnlockUnsplit, IsDropping, IsBound}
+use Rattle.mt_state.specs.KeptOperations.{IsOpenOperation, IsOnItsWay, IsJudging, IsStoring, IsPublishing, MayUnlock, IsUnlocking, IsLayering, IsLeaving, IsReturning, IsKeptAt, IsKeptFor, IsWritingAt, MayUnlockUnsplit, IsDropping}
 use Rattle.mt_state.specs.Invariant.{HoldsAt, StateInvariant}
 use Rattle.mt_state.proofs.Shown.{shown_there}
-use Rattle.mt_state.proofs.Locking.{may_unlock, room_for}
+use Rattle.mt_state.proofs.Locking.{room_for}
 use Rattle.mt_operation.specs.Phases as kinds
 use Rattle.mt_remove.specs.Writes.{is_remove, IsRemoval}
 use Rattle.std.specs.FinMap.{get, len, empty_of_len, get-empty}
 use Rattle.std.specs.Cmp.Lexicographic.{slice_cmp}
-use Rattle.std.proofs.lemmas.Bool.{cases_eq, both_ways}
+use Rattle.std.proofs.lemmas.Bool.{cases_eq}
 use Rattle.mt_rows.specs.Rows.{Bytes, Columns}
 use Rattle.mt_rows.specs.declared.command.Command.TheVariants.{Remove}
 use Rattle.mt_rows.specs.declared.tenants.Account.{Account}
@@ -44,7 +42,7 @@ use Rattle.mt_operation.specs.declared.task.Request.{Request}
 use Rattle.mt_operation.specs.declared.task.Request.TheVariants.{Get as GetOf, Put as PutOf, Remove as RemoveOf, Scan as ScanOf}
 use Rattle.mt_operation.specs.declared.removal.Removal.{Removal}
 use Rattle.mt_insert.proofs.Places.{may_store}
-use Rattle.mt_remove.specs.KeptRemovals.{IsAtDropKey, IsUnburdened, KeptRemoval, HoldsRemoval, IsAtUnlockRemoval, IsCleaning, IsAmong as IsOfRemoval}
+use Rattle.mt_remove.specs.KeptRemovals.{IsAtDropKey, IsUnburdened, KeptRemoval, HoldsRemoval, IsAtUnlockRemoval, IsCleaning}
 use Rattle.mt_state.proofs.Loading.{row_of}
 use Rattle.mt_state.proofs.RemovalSteps.{unlinking_of, removal_holds}
 use Rattle.mt_state.proofs.RemovalLooks.{going_back}
@@ -112,10 +110,6 @@ module _ (c : Core) (o : ℕ) (h : StateInvariant c) (op : Operation) (there : o
     owner = always.owner (put_no_scan (ask op.task) (kept_put (row p).kind p of_put c o op (subst (λ (q : Phase). IsKeptAt q c o op) at_p (h.ops o op there).kept)));
   }
 
-  -- the next step is later than all writes
-  pub step_later : last_write c.tape < c.steps + 1
-  step_later = omega (arith, h.tape.made)
-
   -- it stands at a border node, and holds nothing
   pub lock_kept : op.walk.phase ≡ Lock → IsAtBorder c.arena op.task.key op.walk
   lock_kept at_lock =
@@ -177,10 +171,6 @@ module _ (c : Core) (o : ℕ) (h : StateInvariant c) (op : Operation) (there : o
       let both : MayUnlock [] c.arena o op = subst (λ (halves : List Halves). MayUnlock halves c.arena o op) none (unlocking op.outcome told c o op (returning at_unlock)).unlocks in
       subst (λ (removes : Bool). MayUnlockUnsplit removes c.arena o op) puts both.0
 
-  pub unlock_room : op.walk.phase ≡ Unlock → is_remove (ask op.task) ≡ false → op.outcome ≢ None → op.splits.halves.items ≡ []
-      → CanUnlock (at c.arena op.walk.place.node).version
-  unlock_room at_unlock puts told none = may_unlock c h op.walk.place.node (unlock_kept at_unlock puts told none).held.there
-
   -- what is kept of one that makes a layer
   pub layer_kept : (p : Phase) → op.walk.phase ≡ p → IsLayerPhase p → KeptLayer p c.arena o op.task.key op.walk
   layer_kept p at_p makes = (layering p makes c o op (subst (λ (q : Phase). IsKeptAt q c o op) at_p (h.ops o op there).kept)).makes
@@ -189,9 +179,6 @@ module _ (c : Core) (o : ℕ) (h : StateInvariant c) (op : Operation) (there : o
   pub leave_kept : op.walk.phase ≡ Unlock → op.outcome ≡ None → IsAtLeave c.arena o op.task.key op.walk
   leave_kept at_unlock untold =
       let k : IsLeaving c o op = subst (λ (told : Option Outcome). IsReturning told c o op) untold (returning at_unlock) in k.layering.makes
-
-  pub leave_room : op.walk.phase ≡ Unlock → op.outcome ≡ None → CanUnlock (at c.arena op.walk.place.node).version
-  leave_room at_unlock untold = may_unlock c h op.walk.place.node (leave_kept at_unlock untold).unlock.held.there
 
   -- what an operation that removes asks
   pub removal_of : is_remove (ask op.task) ≡ true → IsRemoval op.task
@@ -254,27 +241,7 @@ module _ (c : Core) (o : ℕ) (h : StateInvariant c) (op : Operation) (there : o
       let both : MayUnlock [] c.arena o op = subst (λ (halves : List Halves). MayUnlock halves c.arena o op) none (unlocking op.outcome told c o op (returning at_unlock)).unlocks in
       subst (λ (b : Bool). MayUnlockUnsplit b c.arena o op) removes both.0
 
-  pub removal_unlock_room : op.walk.phase ≡ Unlock → is_remove (ask op.task) ≡ true → op.outcome ≢ None → op.splits.halves.items ≡ []
-      → (k : ℕ) → IsOfRemoval op.walk op.removal k → CanUnlock (at c.arena k).version
-  removal_unlock_room at_unlock removes told none k among =
-      let u = removal_unlock_kept at_unlock removes told none in
-      elim among [
-        | inl node ↦ may_unlock c h k (subst (λ i. i < length c.arena.nodes) (sym node) u.node.returns.held.there)
-        | inr (inl left) ↦ may_unlock c h k (u.left k left).0.returns.held.there
-        | inr (inr (inl parent)) ↦ may_unlock c h k (u.parent k parent).returns.held.there
-        | inr (inr (inr below)) ↦ may_unlock c h k (u.removes.below k below).returns.held.there
-      ]
-
   -- on its way back it goes to take out a link
   pub lock_cleans : op.walk.phase ≡ Lock → op.outcome ≢ None → IsCleaning c.arena op.task.key op.removal
   lock_cleans at_lock told =
       let way : IsOnItsWay c op = subst (λ (p : Phase). IsKeptAt p c o op) at_lock (h.ops o op there).kept in (going_back op.outcome told c op way.bound).cleans
-
-  -- and where it was told nothing it doesn't
-  pub lock_untold : op.walk.phase ≡ Lock → is_remove (ask op.task) ≡ false → op.outcome ≡ None
-  lock_untold at_lock puts =
-      let way : IsOnItsWay c op = subst (λ (p : Phase). IsKeptAt p c o op) at_lock (h.ops o op there).kept in by op.outcome way.bound
-    where
-      by : (told : Option Outcome) → IsBound told c op → told ≡ None
-      by None bound = refl
-      by (Some told) bound = absurd (both_ways _ puts bound.removes)

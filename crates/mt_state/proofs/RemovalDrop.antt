@@ -50,7 +50,7 @@ use Rattle.mt_insert.specs.KeptPuts.{HoldsOnly}
 use Rattle.mt_remove.specs.Writes.{removal_over}
 use Rattle.mt_remove.specs.KeptRemovals.{KeptRemoval}
 use Rattle.mt_remove.specs.DropKey.{IsDropKey}
-use Rattle.mt_remove.proofs.GoingOn.{emptied_either, emptied_walk}
+use Rattle.mt_remove.proofs.GoingOn.{emptied_either}
 use Rattle.mt_state.specs.Views.{Core, shown, granted_in, quota_of}
 use Rattle.mt_state.specs.Notes.{Notes}
 use Rattle.mt_state.specs.KeptOperations.{IsOpenOperation, IsDropping, IsKeptOf, IsKeptAt, HasAnswer, IsPlacedOnce}
@@ -114,9 +114,6 @@ module _ (c : Core) (o : ℕ) (h : StateInvariant c) (few : c.steps < 2 ^ 59) (o
 
   unsplit : IsUnsplit op.splits
   unsplit = (h.ops o op there).unsplit (ap has_splits at_drop)
-
-  within : k < length c.arena.nodes
-  within = dropping.drops.holds.judged.held.there
 
   -- one node has another slots
   leaves : LeavesNodes o c.arena arena
@@ -243,9 +240,6 @@ module _ (c : Core) (o : ℕ) (h : StateInvariant c) (few : c.steps < 2 ^ 59) (o
     | inl at ↦ subst (MayFollow DropKey) (sym at) tt
     | inr at ↦ subst (MayFollow DropKey) (sym at) tt
   ]
-
-  place : w.place.node ≡ k
-  place = ap (λ (x : Walk). x.place.node) (emptied_walk arena op.walk w op.removal r t.goes)
 
   answer : HasAnswer new after
   answer = record {

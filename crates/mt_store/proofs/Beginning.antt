@@ -1,5 +1,5 @@
 -- A new store: its logs were made, and nothing has happened.
-use Rattle.std.proofs.Common.{◌≡◌, ℕ, ◌+◌, ◌<◌, ◌≤◌, List, length, Option, Some, None, refl, sym, ap, subst, ◌∙◌, arith, inr}
+use Rattle.std.proofs.Common.{◌≡◌, ℕ, ◌+◌, ◌<◌, ◌≤◌, List, length, Some, None, refl, sym, ap, subst, ◌∙◌, arith}
 use Rattle.std.specs.Prelude.{slice_get}
 use Rattle.std.specs.FinMap.{empty, len, get-empty, len-empty}
 use Rattle.std.specs.Ordering.{nat_cmp}
@@ -9,8 +9,6 @@ use Rattle.mt_rows.specs.Accounts.{Accounts}
 use Rattle.mt_rows.specs.Rows.{Columns}
 use Rattle.mt_rows.specs.Tenants.{owned_cmp}
 use Rattle.mt_rows.specs.TenantPairs.{quota_in, HasTenants, KeepsQuotas}
-use Rattle.mt_rows.specs.declared.refusal.Refusal.{Refusal}
-use Rattle.mt_rows.specs.declared.refusal.Refusal.TheVariants as refusals
 use Rattle.mt_disk.specs.declared.mem.MemDisk.{MemDisk}
 use Rattle.mt_disk.specs.Mem.{mem_state}
 use Rattle.mt_log.specs.Contents.{mark_of, no_batches}
@@ -21,14 +19,13 @@ use Rattle.mt_core.specs.Rights.{IsRightState}
 use Rattle.mt_crashes.specs.Histories.{Placed}
 use Rattle.mt_crashes.specs.Stores.{LogNow, at_rest, new_store}
 use Rattle.mt_crashes.proofs.Invariant.{within_place, new_at, new_long}
-use Rattle.mt_store_logs.specs.declared.fault.LogRefusal.{LogRefusal}
 use Rattle.mt_store_logs.specs.declared.store_log.StoreLog.{StoreLog}
-use Rattle.mt_store_logs.specs.Places.{closed_on, MakesAll, StopsMakingAt, StopsMaking}
+use Rattle.mt_store_logs.specs.Places.{closed_on, MakesAll}
 use Rattle.mt_store_logs.proofs.Closed.{closed_at}
 use Rattle.mt_store_logs.specs.Shows.{Shows, IsHonest}
 use Rattle.mt_store_logs.proofs.CallerLemmas.{makes}
 use Rattle.mt_store.specs.declared.serving.Serving.{Serving}
-use Rattle.mt_store.specs.Lives.{new_standing, IsMemoryOrDevice}
+use Rattle.mt_store.specs.Lives.{new_standing}
 use Rattle.mt_store.specs.Holds.{Holds}
 use Rattle.mt_store.specs.Returns.{IsFresh}
 use Rattle.mt_store.proofs.Flushing.{keeps_rules, failures_of, within}
@@ -99,11 +96,3 @@ module _ (accounts : Accounts) (old new : List (StoreLog MemDisk)) (some : 0 < l
         (new_store (length new)) refl refl count_new
         (rest_new (length new)) (All-nil (λ (p : Placed). p.change.stamp ≤ 0)) refl serving state fresh new shows_new none_waits;
   }
-
--- why a log is not made
-of_making_at : (at : Option ℕ) (e : Refusal) (old new : List (StoreLog MemDisk)) → StopsMakingAt keeps_rules mem_state failures_of at e old new → IsMemoryOrDevice e
-of_making_at (Some place) refusals.Device old new f = inr refl
-of_making_at at e old new f = absurd f
-
-pub of_making : (e : LogRefusal) (old new : List (StoreLog MemDisk)) → StopsMaking keeps_rules mem_state failures_of e old new → IsMemoryOrDevice e.refusal
-of_making e old new f = of_making_at e.log e.refusal old new f

@@ -15,7 +15,6 @@ use Rattle.mt_state.specs.Promises.{IsStep, IsQuiet, IsPlacing}
 use Rattle.mt_state.specs.Histories.{Names, History, TellsEvent, IsServed}
 use Rattle.mt_state.proofs.HistoryEvents.{keeps_event}
 use Rattle.mt_core.specs.Rights.{IsRightState}
-use Rattle.mt_crashes.specs.Histories.{Placed}
 use Rattle.mt_crashes.specs.Stores.{Store}
 use Rattle.mt_store.specs.Lives.{Life, with_event, firsts, story_in}
 use Rattle.mt_store.specs.Holds.{quotas_of, placed_of, Serves, KeepsAll}
@@ -70,9 +69,6 @@ module _ (accounts : Accounts) (life : Life) (s : Store) (v : StateView) (names 
   Grown now_life new now = (t : Store) × Grows s t × Serves accounts now_life t new now × KeepsAll accounts t × (new.logs ≡ v.logs)
 
   module _ (e : Event) (told : Answered) (new : StateView) (now : Names) (tells : TellsEvent names v now new e told) (right : IsRightState new) where
-    life_now : Life
-    life_now = with_event life e told
-
     abbrev HistoryNow : Type 0
     HistoryNow = History (quotas_of accounts) (firsts life) (story_in (with_event life e told)) now new
 
@@ -141,9 +137,6 @@ module _ (accounts : Accounts) (life : Life) (s : Store) (v : StateView) (names 
       )
 
       module _ (p : IsPlacing v mid step.before step.after) where
-        change : Placed
-        change = placed_of p.entry
-
         stamp : p.entry.step ≡ s.steps + 1
         stamp = p.step ∙ ap (λ m. m + 1) h.steps
 

@@ -76,11 +76,6 @@ stopped R Fails place old now new within len before left at =
       behind = λ k h. still_left place old now new left k (omega (arith, h));
     }
 
--- what is found at the next place is what was there
-pub found : {X : Type 0} (place : ℕ) (old now : List X) (x was : X) → ((k : ℕ) → place ≤ k → slice_get now k ≡ slice_get old k)
-    → slice_get now place ≡ Some x → slice_get old place ≡ Some was → was ≡ x
-found place old now x was left at there = same_Some was x (sym there ∙ sym (left place (omega arith)) ∙ at)
-
 at_or : {X : Type 0} (xs : List X) (i : ℕ) (d x : X) → slice_get xs i ≡ Some x → slice_index_or xs i d ≡ x
 at_or [] i d x h = absurd (no_some x h)
 at_or (y ∷ xs) zero d x h = same_Some y x h

@@ -158,10 +158,6 @@ pub contents_at-unchanged : (m n : ℕ) (entries : List Entry) (contents : Conte
 contents_at-unchanged m n entries contents is none =
     sym (contents_at-quiet m n entries contents (omega arith) (quiet_where_unchanged m n entries (λ k after upto. let same : k ≡ n = omega arith in ap (is_changed entries) same ∙ none)))
 
--- and each tenant's map
-pub map_at-unchanged : (m n : ℕ) (entries : List Entry) (contents : Contents) (t : ℕ) → n ≡ m + 1 → is_changed entries n ≡ false → map_at entries contents t n ≡ map_at entries contents t m
-map_at-unchanged m n entries contents t is none = ap (tenant_map t) (contents_at-unchanged m n entries contents is none)
-
 -- maps of a tenant that are equal stay so when the same row is written or undone in both
 without_alike : (t : ℕ) (a b : Contents) (e : Entry) → tenant_map t a ≡ tenant_map t b → tenant_map t (without_write a e) ≡ tenant_map t (without_write b e)
 without_alike t a b e same = ⊎_elim own other (cases_eq e.tenant t)
