@@ -36,9 +36,9 @@ pub(crate) fn fence_of(key: &StoredKey, layer: usize, after: bool) -> Fence<'_>
 }
 
 impl<'a> Fence<'a> {
-    /// Whether the fence is behind an entry. A link stands behind all keys of its slice that end there, and
-    /// for all that go on.
-    pub(crate) fn is_behind(self, entry: EntryRef<'_>) -> bool
+    /// Whether the fence is past an entry, so that the scan is done with it. A link stands behind all keys of its
+    /// slice that end there, and for all that go on.
+    pub(crate) fn is_past(self, entry: EntryRef<'_>) -> bool
         ensures { result ≡ behind_at self.entry.slice self.entry.mark self.entry.suffix.now self.entry.after (entry_seen entry.entry) }
     {
         if entry.slice != self.slice {

@@ -23,7 +23,7 @@ pub(crate) fn has_unstable(border: &Border, fence: Fence<'_>) -> bool
     ensures { result ≡ has_unstable (behind_at fence.entry.slice fence.entry.mark fence.entry.suffix.now fence.entry.after) border.now.slots }
 {
     for entry in border.entries() {
-        if fence.is_behind(entry) {
+        if fence.is_past(entry) {
             continue;
         }
         match entry.held {
@@ -52,7 +52,7 @@ pub(crate) fn see(
         (stop (behind_at fence.entry.slice fence.entry.mark fence.entry.suffix.now fence.entry.after) border.now.slots)) }
 {
     for entry in border.entries() {
-        if fence.is_behind(entry) {
+        if fence.is_past(entry) {
             continue;
         }
         match pair_or_tree(entry.held) {
