@@ -95,6 +95,7 @@ impl Arena {
         ensures arena { IsArena self.now.nodes self.now.trees }
         ensures retired { AreRetired self.now.nodes self.now.retired }
     {
+        // For the proof.
         let _ = &self.nodes;
     }
 

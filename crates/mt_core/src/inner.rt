@@ -190,6 +190,7 @@ impl Inner {
     pub(crate) fn facts(&self)
         ensures { IsRightState (shown self.now) }
     {
+        // For the proof.
         let _ = &self.steps;
     }
 

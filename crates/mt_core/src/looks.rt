@@ -190,6 +190,7 @@ fn check_node(alloc: Global, arena: &Arena, operation: &mut Operation, step: u64
         &mut operation.scan,
     ) {
         Ok(None) => {
+            // For the proof: its key is a stored one.
             let _bytes = operation.task.key.as_bytes();
             show_at_end(alloc, operation, step);
             Made::Step

@@ -133,6 +133,7 @@ fn shared(row: &Option<Row>) -> Result<Option<Row>, AllocError>
 {
     match row {
         Some(row) => {
+            // For the proof: a row is within its limits.
             let _columns = row.columns();
             Ok(Some(row.share()?))
         }

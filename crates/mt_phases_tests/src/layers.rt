@@ -32,6 +32,7 @@ fn from_the_top(arena: &Arena, key: &StoredKey) -> Walk
 {
     arena.facts();
     walks_begin();
+    // For the proof: the key is a stored one.
     let _bytes = key.as_bytes();
     Walk::new(Aim::Write, 0)
 }

@@ -64,6 +64,7 @@ pub fn walk_down(rt: &impl Abort, arena: &Arena, key: &StoredKey, phase: Phase) 
 {
     arena.facts();
     walks_begin();
+    // For the proof: the key is a stored one.
     let _bytes = key.as_bytes();
     let aim = match phase {
         Phase::Lock => Aim::Write,

@@ -24,6 +24,7 @@ pub fn remover(rt: &impl Abort, on: &Store, name: &[u8], id: usize) -> Operation
 {
     let key = Key::new(Vec::from_slice(on.alloc, name).expect(rt, "memory"));
     let stored = StoredKey::new(on.alloc, 7, name).expect(rt, "memory");
+    // For the proof: the key is a stored one.
     let _bytes = stored.as_bytes();
     on.arena.facts();
     walks_begin();

@@ -59,6 +59,7 @@ pub(crate) fn listed(alloc: Global, pairs: PairMap) -> Result<Vec<TenantPair>, A
     ensures pairs { IfOk result (λ ps. pairs_of ps.items ≡ pairs_in pairs) }
     ensures ascend { IfOk result (λ ps. Ascend ps.items) }
 {
+    // For the proof: a map keeps its pairs in order.
     let _ordered = pairs.len();
     list_of(alloc, pairs)
 }

@@ -95,6 +95,7 @@ fn are_within(pairs: &[TenantPair]) -> bool
 fn is_within(pair: &TenantPair) -> bool
     ensures { IsTrue result → IsTenantPair pair.now }
 {
+    // For the proof: a row is within its limits.
     let _columns = pair.row.columns();
     pair.key.as_bytes().len() <= USER_KEY_BYTES
 }

@@ -51,6 +51,7 @@ fn behind_link(
     ensures { (tree : ℕ) → IfOk result (IsNextFence prefix.now key.now (Stop.Link slice tree)) }
 {
     let fence = StoredKey::least_through(alloc, prefix, slice)?;
+    // For the proof: the fence is a stored key.
     let _bytes = fence.as_bytes();
     if *key < fence {
         Ok(NextFence::At(fence))
@@ -64,6 +65,7 @@ fn stored_fence(fence: StoredKey) -> NextFence
     ensures is { result ≡ NextFence.At fence }
     ensures stored { IsStoredKey fence }
 {
+    // For the proof: the fence is a stored key.
     let _bytes = fence.as_bytes();
     NextFence::At(fence)
 }

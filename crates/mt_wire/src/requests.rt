@@ -212,7 +212,7 @@ fn fields_fit(request: &Request) -> bool
 {
     match request {
         Request::Open(tenant) => {
-            // Read, so that the proof knows its range.
+            // For the proof: a tenant fits its four bytes.
             let _tenant = *tenant;
             true
         }

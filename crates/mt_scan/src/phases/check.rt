@@ -122,5 +122,6 @@ fn go_to(next: NextFence, task: &mut Task, walk: &mut Walk, scan: &mut Scan)
             Phase::Hop
         }
     };
+    // For the proof: the key is a stored one.
     let _bytes = task.key.as_bytes();
 }
