@@ -5,7 +5,7 @@ use Rattle.std.proofs.lemmas.List.{length-map}
 use Rattle.mt_operation.specs.Operations.{view_of}
 use Rattle.mt_operation.specs.Tables.{Table}
 use Rattle.mt_operation.specs.Tables as tables
-use Rattle.mt_operation.proofs.Places.{there_count, count_there}
+use Rattle.mt_table.proofs.Places.{there_count, count_there}
 use Rattle.mt_state.specs.Views.{Core, Shown, shown, op_at}
 use Rattle.mt_state.specs.Invariant.{StateInvariant, one_if_made, one_if_prepared, made_count}
 use Rattle.mt_state.proofs.Shown.{shown_table, shown_at}

@@ -2,8 +2,9 @@
 //!
 //! A get, a put or a remove is an operation: it is begun, and then run by single steps, each one access to a
 //! node. Steps of different operations fall between each other in any order. `state.rt` has the
-//! state and its calls: it finds the operation, lets the call of its phase make the step, and writes
-//! down what came of it. What a step may do is said in `mt_state`, by `specs/Promises.antt`.
+//! state and its calls. A step finds the operation, and lets the call of its phase make the step of it
+//! in its place (`looks.rt`, `writes.rt`). What a step may do is said in `mt_state`, by
+//! `specs/Promises.antt`.
 #![tactic(auto)]
 
 pub mod answers;

@@ -1,7 +1,2 @@
 pub mod Tables
-pub mod Links
-pub mod Places
-pub mod QueueLaws
-pub mod TableMoves
-pub mod BodySteps
 pub mod Seeing

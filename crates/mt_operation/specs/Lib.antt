@@ -1,9 +1,6 @@
-pub mod Bodies
 pub mod Phases
 pub mod Walks
 pub mod Tasks
 pub mod Operations
 pub mod Tables
-pub mod Seats
-pub mod Queues
 pub mod Scans

@@ -1,6 +1,5 @@
 -- The table of operations, as it is shown.
 use Rattle.std.specs.Prelude.{◌≡◌, ℕ, ◌+◌, ◌<◌, ◌≤◌, true, List, length, count_by, Option, Some, None, is_some, slice_index_or}
-use Rattle.mt_operation.specs.declared.prepared.Prepared.{Prepared}
 use Rattle.mt_operation.specs.declared.operation.Operation.{Operation}
 use Rattle.mt_operation.specs.Operations.{is_unfinished}
 
@@ -25,11 +24,6 @@ pub record AddsPlaces (old new : Table) : Type 0 where
   pub same : (o : ℕ) → op_at new o ≡ op_at old o
   pub count : open_count new ≡ open_count old
   pub places : length old ≤ length new
-
--- what an operation that is there has made ready
-abbrev pub prepared_in : Option Operation → Option Prepared
-prepared_in None = None
-prepared_in (Some op) = op.prepared
 
 -- no first step of the table's operations has this number or a later one
 abbrev pub AreBefore : Table → ℕ → Type 0

@@ -1,23 +1,20 @@
-//! What all phases of an operation share: its task, its walk down the index, its outcome, what it has
-//! made ready to write, and the table of all operations that are open.
+//! What all phases of an operation share: its task, its walk down the index, its outcome, and what it has
+//! made ready to write.
 //!
-//! Each step of an operation is one phase. The crates above have the phases; here stands what an
-//! operation remembers from one to the next, and in which order the open ones made their first
-//! steps. Start with `operation`, then `table`.
+//! Each step of an operation is one phase. The crates above have the phases, and `mt_table` has all
+//! operations that are open; here stands what an operation remembers from one step to the next. Start
+//! with `operation`.
 #![tactic(auto)]
 
 pub mod operation;
 pub mod outcome;
 pub mod phase;
 pub mod prepared;
-mod queue;
 pub mod removal;
 pub mod scan;
 pub mod seen;
 pub mod spare;
 pub mod splits;
-pub mod steps;
-pub mod table;
 pub mod task;
 pub mod walk;
 
@@ -30,7 +27,5 @@ pub use scan::{Scan, Stop};
 pub use seen::Seen;
 pub use spare::Spare;
 pub use splits::{Halves, Splits};
-pub use steps::{Made, Stepped};
-pub use table::Operations;
 pub use task::{Request, Task};
 pub use walk::{Aim, Place, Taken, Walk};

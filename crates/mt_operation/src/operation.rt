@@ -1,7 +1,7 @@
 //! One operation: its task, and what it remembers between its steps.
 
 ghost use Rattle.std.specs.Prelude.{◌≡◌, ◌==◌};
-ghost use Rattle.mt_operation.specs.Operations.{begun, scan_of, no_scan, IsUnsplit, moved, counted, is_unfinished};
+ghost use Rattle.mt_operation.specs.Operations.{begun, scan_of, no_scan, IsUnsplit, counted, is_unfinished};
 ghost use Rattle.mt_operation.specs.Tasks.{ask};
 
 use crate::outcome::Outcome;
@@ -64,19 +64,9 @@ impl Operation {
         !matches!(self.walk.phase, Phase::Done)
     }
 
-    /// Makes the step of this number, and walks on so. The first step stays the one that it was.
-    pub fn go_on(&mut self, step: u64, walk: &Walk)
-        ensures { self.new ≡ moved self.old step walk.now }
-    {
-        let first = self.walk.first;
-        self.walk = *walk;
-        self.walk.first = first;
-        self.count(step);
-    }
-
     /// Notes that the step of this number was made; whether it was the first one.
     #[inline(always)]
-    pub(crate) fn count(&mut self, step: u64) -> bool
+    pub fn count(&mut self, step: u64) -> bool
         ensures is { self.new ≡ counted self.old step self.old.walk.first }
         ensures first { result ≡ (self.old.walk.first == 0) }
     {

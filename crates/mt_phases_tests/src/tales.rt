@@ -10,11 +10,10 @@ ghost use Rattle.mt_insert.specs.Puts.{IsPut};
 use crate::phases::{Store, answer, begin, empty_store, get, place, put, put_of, walk_down};
 use mt_arena::Arena;
 use mt_descent::lock;
-use mt_operation::{
-    Aim, Halves, Made, Operation, Operations, Outcome, Phase, Request, Splits, Stepped, Task, Walk,
-};
+use mt_operation::{Aim, Operation, Outcome, Phase, Request, Task, Walk};
 use mt_rows::{Command, Reply};
 use mt_slices::StoredKey;
+use mt_table::{Made, Operations, Stepped};
 use std::alloc::Global;
 use std::boxed::Box;
 use std::process::Abort;
@@ -109,31 +108,28 @@ fn table_of(rt: &impl Abort, alloc: Global) -> (Operations, usize)
     }
 }
 
-// Its first step is the fifth one of all, and its second one misses its key. The floor between them.
-fn make_steps(table: &mut Operations, id: usize) -> u64
-    requires { (o : ℕ) → MayMove table.old o 5 }
-{
-    let mut walk = Walk::new(Aim::Write, 0);
-    walk.phase = Phase::Lock;
-    table.go_on(id, 5, &walk);
-    let floor = table.floor_needed(5);
-    walk.phase = Phase::Done;
-    let reply = Reply::Absent;
-    table.go_on_with(id, 6, &walk, Some(Outcome { reply, at: 6 }));
-    floor
-}
-
-// Its first step is made in its place, where this is what is made of it.
+// Its first step, which is the fifth one of all, is made in its place, where this is what is made of it: it
+// misses its key, and is done.
 fn step_in_place(table: &mut Operations, id: usize, made: Made) -> Stepped
     requires { (o : ℕ) → MayMove table.old o 5 }
 {
-    table.step_by(id, 5, |operation| {
-        match made {
-            Made::Step => operation.walk.phase = Phase::Lock,
-            _ => {}
-        }
-        made
-    })
+    table.step_by(
+        id,
+        5,
+        &mut |operation: &mut Operation| {
+            match made {
+                Made::Step => {
+                    operation.walk.phase = Phase::Done;
+                    operation.outcome = Some(Outcome {
+                        reply: Reply::Absent,
+                        at: 5,
+                    });
+                }
+                _ => {}
+            }
+            made
+        },
+    )
 }
 
 // So this comes of it, and the number of its first step is this one.
@@ -150,8 +146,9 @@ fn tells_step(rt: &impl Abort, alloc: Global, made: Made, comes: Stepped, first:
 #[test]
 fn a_step_is_made_in_its_place(rt: HostRuntime) {
     for (made, comes, first) in [
-        (Made::Step, Stepped::To(Phase::Lock), 5),
+        (Made::Step, Stepped::To(Phase::Done), 5),
         (Made::Blocked(7), Stepped::Blocked(7), 0),
+        (Made::NoMemory, Stepped::NoMemory, 0),
         (Made::Nothing, Stepped::Left(Phase::Enter), 0),
     ] {
         tells_step(&rt, rt.alloc(), made, comes, first);
@@ -160,39 +157,13 @@ fn a_step_is_made_in_its_place(rt: HostRuntime) {
     assert!(&rt; step_in_place(&mut table, id ^ 1, Made::Step) == Stepped::Absent);
 }
 
-// What it has made ready is taken once, and its splits are exchanged for others and back.
-fn exchange(rt: &impl Abort, table: &mut Operations, id: usize, splits: &mut Splits) {
-    let halves = Halves { left: 3, right: 8 };
-    splits.halves.push(halves).expect(rt, "memory");
-    for given in [0, 1] {
-        assert!(rt; table.take_prepared(id).is_some() == (given == 0));
-        table.swap_splits(id, splits);
-        assert!(rt; splits.halves.len() == given);
-    }
-}
-
-// It makes ready what a put of `k` in a store of its own places.
-fn make_ready(rt: &impl Abort, alloc: Global, table: &mut Operations, id: usize) {
-    let mut on = empty_store(rt, alloc);
-    let task = put_of(rt, alloc, b"k", b"v");
-    let prepared = begin(rt, &mut on, &task);
-    table.make_ready(id, prepared);
-    exchange(rt, table, id, &mut on.splits);
-}
-
-// Whether it made step 5 first and step 6 last, and was answered then.
+// Whether it made step 5, and was answered then.
 fn is_answered(operation: &Operation) -> bool {
     let at = match &operation.outcome {
         Some(outcome) if matches!(&outcome.reply, Reply::Absent) => outcome.at,
         _ => 0,
     };
-    !operation.is_unfinished() && (operation.first(), operation.last, at) == (5, 6, 6)
-}
-
-// Whether step 9 follows step 5 and is no last one.
-fn goes_on(operation: &mut Operation) -> bool {
-    operation.go_on(9, &Walk::new(Aim::Write, 0));
-    operation.is_unfinished() && (operation.first(), operation.last) == (5, 9)
+    !operation.is_unfinished() && (operation.first(), operation.last, at) == (5, 5, 5)
 }
 
 fn request_of(operation: Operation) -> Request {
@@ -207,14 +178,14 @@ fn is_named(request: &Request) -> bool {
     writes && request.key().as_bytes() == b"k".as_slice()
 }
 
-// Whether it is a put of `k` that was answered, and may go on.
+// Whether it is a put of `k` that was answered.
 fn is_answered_put(operation: Box<Operation>) -> bool {
-    let mut operation = Box::into_inner(operation);
-    let (done, more) = (is_answered(&operation), goes_on(&mut operation));
+    let operation = Box::into_inner(operation);
+    let done = is_answered(&operation);
     let request = request_of(operation);
     let named = is_named(&request);
     let is_put = matches!(&request.into_command(), Command::Put { .. });
-    done && more && named && is_put
+    done && named && is_put
 }
 
 // It is there until it is taken out.
@@ -227,8 +198,7 @@ fn take_out(rt: &impl Abort, table: &mut Operations, id: usize) {
 #[test]
 fn an_operation_is_kept_until_it_is_answered(rt: HostRuntime) {
     let (mut table, id) = table_of(&rt, rt.alloc());
-    assert!(rt; make_steps(&mut table, id) == 4);
-    make_ready(&rt, rt.alloc(), &mut table, id);
+    assert!(rt; step_in_place(&mut table, id, Made::Step) == Stepped::To(Phase::Done));
     take_out(&rt, &mut table, id);
 }
 

@@ -4,11 +4,10 @@
 //! and to one operation is said seat by seat; `table.rt` keeps what holds of all of them. None of them
 //! adds a seat or gives one up.
 
-ghost use Rattle.std.specs.Prelude.{◌≡◌, ◌≢◌, ◌==◌, ◌<◌, false, Some, None};
+ghost use Rattle.std.specs.Prelude.{◌≡◌, ◌≢◌, ◌<◌, false, Some, None};
 ghost use Rattle.std.specs.Option.{ForSome};
 ghost use Rattle.std.specs.Fn.{FnOnceTakesAtMut, CalledAtMut};
 ghost use Rattle.mt_table.specs.declared.steps.Stepped.TheVariants.{Absent as NobodyIsThere};
-ghost use Rattle.mt_operation.specs.Operations.{counted};
 ghost use Rattle.mt_table.specs.Seats.{Seats, seat_at, operation_in, IsEndOrSeat, KeepsRoom};
 ghost use Rattle.mt_table.specs.Bodies.{SeatKeepsFirst, SeatStepsBy};
 ghost use Rattle.mt_table.specs.Queues.{SetsAfter, SetsBefore, CutsOut, LinksLast};
@@ -63,7 +62,7 @@ pub(crate) fn step_at<F: FnMut(&mut Operation) -> Made>(
     let operation = seats[id].operation.as_mut();
     let stepped = match makes(operation) {
         Made::Step => {
-            let is_first = count(operation, step);
+            let is_first = operation.count(step);
             return SeatStep {
                 stepped: Stepped::To(operation.walk.phase),
                 is_first,
@@ -77,20 +76,6 @@ pub(crate) fn step_at<F: FnMut(&mut Operation) -> Made>(
         stepped,
         is_first: false,
     }
-}
-
-// Notes that an operation has made the step of this number; whether it was its first one.
-#[inline(always)]
-fn count(operation: &mut Operation, step: u64) -> bool
-    ensures is { operation.new ≡ counted operation.old step operation.old.walk.first }
-    ensures first { result ≡ (operation.old.walk.first == 0) }
-{
-    operation.last = step;
-    let is_first = operation.walk.first == 0;
-    if is_first {
-        operation.walk.first = step;
-    }
-    is_first
 }
 
 /// Makes neighbours of the two between which a seat was, where its operation has made a step.
