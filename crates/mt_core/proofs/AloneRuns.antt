@@ -6,11 +6,10 @@ use Rattle.mt_rows.specs.declared.command.Command.{Command}
 use Rattle.mt_rows.specs.declared.reply.Reply.{Reply}
 use Rattle.mt_rows.specs.declared.command.Command.TheVariants.{Scan}
 use Rattle.mt_rows.specs.declared.reply.Reply.TheVariants.{NoMemory, Pairs}
-use Rattle.mt_rows.specs.Maps.{Map}
+use Rattle.mt_rows.specs.Maps.{Map, reply_of, map_after, is_change, is_no_memory, is_scan}
 use Rattle.mt_runs.specs.Scans.{IsLawfulScan}
 use Rattle.mt_walks.specs.Walked.{IsWithin}
 use Rattle.mt_walks.proofs.Exact.{exact}
-use Rattle.mt_rows.specs.Maps.{reply_of, map_after, is_change, is_no_memory, is_scan}
 use Rattle.mt_rows.specs.Tenants.{Contents, tenant_map}
 use Rattle.mt_rows.proofs.CommandLaws.{same_map_after}
 use Rattle.mt_runs.specs.Placings.{maps_after_one}

@@ -1,18 +1,18 @@
 -- A step of a put whose right halves come to their parents, by what it tells: for `Inner::write`.
-use Rattle.std.proofs.Common.{IsSome, List, None, Some, [], ap, arith, false, inl, inr, is_some, length, refl, set, subst, suc, sym, zero, ℕ, ◌+◌, ◌-◌, ◌<◌, ◌∙◌, ◌∷◌, ◌≡◌, ◌≤◌}
+use Rattle.std.proofs.Common.{List, None, Some, [], ap, arith, false, inl, inr, is_some, length, refl, set, subst, suc, sym, zero, ℕ, ◌+◌, ◌-◌, ◌<◌, ◌∙◌, ◌∷◌, ◌≡◌, ◌≤◌}
 use Rattle.std.specs.Prelude.{◌^◌, ◌⊎◌}
-use Rattle.std.proofs.lemmas.Bool.{cases_eq}
+use Rattle.std.proofs.lemmas.Bool.{cases_eq, both_ways}
 use Rattle.std.proofs.lemmas.Option.{same_Some}
 use Rattle.mt_arena.specs.Arena.{ArenaView, IsArena}
 use Rattle.mt_arena.specs.Accesses.{at}
 use Rattle.mt_operation.specs.declared.phase.Phase.{Phase}
-use Rattle.mt_operation.specs.declared.phase.Phase.TheVariants.{Done, InteriorSplit, RootGrow}
+use Rattle.mt_operation.specs.declared.phase.Phase.TheVariants.{InteriorSplit, RootGrow}
 use Rattle.mt_operation.specs.declared.walk.Walk.{Walk}
 use Rattle.mt_operation.specs.declared.splits.Halves.{Halves}
 use Rattle.mt_operation.specs.declared.splits.Splits.{Splits}
 use Rattle.mt_operation.specs.declared.operation.Operation.{Operation}
-use Rattle.mt_operation.specs.Operations.{OperationView, moved, splits_of, scan_of, view_of, with_splits}
-use Rattle.mt_operation.specs.Phases.{IsClimb, IsToGrow, is_done}
+use Rattle.mt_operation.specs.Operations.{OperationView, moved, view_of, with_splits}
+use Rattle.mt_operation.specs.Phases.{IsClimb, IsToGrow}
 use Rattle.mt_operation.specs.Tables.{Table, op_at as operation_at}
 use Rattle.mt_operation.proofs.Tables.{set_is, set_there}
 use Rattle.mt_insert.specs.KeptSplits.{AreParted, AreReturnable, HasSplits, HasSplitsNamed, HoldsSplits, IsAmong, IsParent, KeptSplit, NothingLags, halves_at, last_of}
@@ -31,7 +31,6 @@ use Rattle.mt_core.specs.Points.{StepsOn}
 use Rattle.mt_core.proofs.Climbing.{climb_none, climb_writes}
 use Rattle.mt_core.proofs.Points.{nears_by, point_first}
 use Rattle.mt_core.proofs.Following.{IsOver, IsSound, made, set_back, write_no_scan}
-use Rattle.std.proofs.lemmas.Bool.{both_ways}
 use Rattle.mt_core.proofs.Leading.{no_step, leads_over}
 use Rattle.mt_core.proofs.Retained.{own_tape, retained, scan_retained}
 use Rattle.mt_core.proofs.ClimbingNears.{climb_nears}

@@ -8,7 +8,7 @@ use Rattle.mt_operation.specs.declared.phase.Phase.TheVariants.{SplitPrev, LockP
 use Rattle.mt_operation.specs.declared.walk.Walk.{Walk}
 use Rattle.mt_operation.specs.declared.splits.Halves.{Halves}
 use Rattle.mt_operation.specs.declared.splits.Splits.{Splits}
-use Rattle.mt_insert.specs.SplitEdits.{walk_at}
+use Rattle.mt_held.specs.Moves.{walk_at}
 use Rattle.mt_operation.specs.declared.walk.Aim.{Aim}
 use Rattle.mt_operation.specs.declared.walk.Aim.TheVariants as aims
 use Rattle.mt_operation.specs.Phases.{IsOfKind, IsClimb}

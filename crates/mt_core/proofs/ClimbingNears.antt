@@ -9,7 +9,8 @@ use Rattle.mt_core.proofs.Climbing.{AreOnLevels, nears_on, unlock_most}
 use Rattle.mt_core.specs.Budgets.{AreBelow, split_level}
 use Rattle.mt_core.specs.Points.{HasMade, IsAtPoint}
 use Rattle.mt_insert.proofs.SplittingParents.{last_more}
-use Rattle.mt_insert.specs.SplitEdits.{after_reparent, for_parent, walk_at}
+use Rattle.mt_insert.specs.SplitEdits.{after_reparent, for_parent}
+use Rattle.mt_held.specs.Moves.{walk_at}
 use Rattle.mt_insert.specs.KeptSplits.{HasSplits, IsAtInsertChild, IsAtInteriorSplit, IsAtLockParent, IsAtReparent, IsAtRootGrow, IsAtSplitPrev, KeptSplit, halves_at, last_of}
 use Rattle.mt_operation.specs.Phases.{IsClimb}
 use Rattle.mt_operation.specs.declared.phase.Phase.TheVariants.{InsertChild, InteriorSplit, LockParent, Reparent, RootGrow, SplitPrev, Unlock}

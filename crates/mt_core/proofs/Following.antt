@@ -1,9 +1,6 @@
 -- The table after a step, the state that it leaves, and who may be in its way: for each step that an operation makes in its place.
-use Rattle.std.proofs.Common.{◌≡◌, ℕ, zero, suc, ◌+◌, ◌<◌, inl, inr, false, not, List, [], ◌∷◌, length, set, Option, Some, None, refl, sym, ap, subst, ◌∙◌, arith}
+use Rattle.std.proofs.Common.{◌≡◌, ℕ, zero, suc, ◌+◌, ◌<◌, false, List, [], ◌∷◌, length, set, Option, Some, None, refl, sym, ap, subst, ◌∙◌}
 use Rattle.std.specs.Prelude.{slice_index_or}
-use Rattle.std.proofs.lemmas.Bool.{cases_eq}
-use Rattle.std.proofs.lemmas.Option.{same_Some}
-use Rattle.mt_rows.specs.declared.reply.Reply.{Reply}
 use Rattle.mt_rows.specs.Accounts.{Accounts}
 use Rattle.mt_tape.specs.Tapes.{Kept}
 use Rattle.mt_arena.specs.NodeView.{NodeView}
@@ -12,7 +9,6 @@ use Rattle.mt_arena.specs.Accesses.{at}
 use Rattle.mt_operation.specs.declared.phase.Phase.{Phase}
 use Rattle.mt_operation.specs.declared.phase.Phase.TheVariants.{Load, Lock, LockParent, LockPrev, LockAbove, CleanLayer, Done, Snap}
 use Rattle.mt_operation.specs.declared.walk.Walk.{Walk}
-use Rattle.mt_operation.specs.declared.outcome.Outcome.{Outcome}
 use Rattle.mt_operation.specs.declared.operation.Operation.{Operation}
 use Rattle.mt_operation.specs.Operations.{SplitsView, ScanView}
 use Rattle.mt_operation.specs.Phases.{is_done, IsOfKind}
@@ -21,12 +17,10 @@ use Rattle.mt_operation.specs.declared.walk.Aim.TheVariants as aims
 use Rattle.mt_operation.specs.Tasks.{ask}
 use Rattle.mt_rows.specs.Maps.{is_scan}
 use Rattle.mt_state.proofs.Lawful.{aim_no_scan}
-use Rattle.mt_operation.specs.Tables.{Table, op_at as operation_at, MayMove}
-use Rattle.mt_operation.proofs.Tables.{set_is, set_here, set_there}
+use Rattle.mt_operation.specs.Tables.{Table, op_at as operation_at}
 use Rattle.mt_state.specs.Views.{Core}
 use Rattle.mt_state.specs.Promises.{Blocks, IsInTheWay}
 use Rattle.mt_state.specs.Invariant.{HoldsAt, StateInvariant}
-use Rattle.mt_core.specs.Nexts.{IsNext}
 use Rattle.mt_operation.specs.declared.removal.Removal.{Removal}
 
 -- what is written over itself stays

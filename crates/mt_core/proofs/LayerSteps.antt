@@ -21,7 +21,7 @@ use Rattle.mt_operation.specs.Operations.{moved, noted, splits_of}
 use Rattle.mt_operation.specs.Phases.{IsLayerPhase, IsOfKind}
 use Rattle.mt_operation.specs.Tables.{Table, op_at as operation_at}
 use Rattle.mt_descent.specs.WalkMoves.{walk_into}
-use Rattle.mt_insert.specs.Unlock.{GoesInto, IsUnlock}
+use Rattle.mt_held.specs.Unlock.{GoesInto, IsUnlock}
 use Rattle.mt_layer.specs.KeptLayers.{IsAtLeave, KeptLayer}
 use Rattle.mt_layer.specs.Builds.{IsLayerFrom, IsLeave}
 use Rattle.mt_state.specs.declared.moves.Move.TheVariants.{Moved, Done as DoneMove}

@@ -14,7 +14,7 @@ use Rattle.mt_operation.specs.declared.removal.Removal.{Removal}
 use Rattle.mt_operation.specs.declared.splits.Halves.{Halves}
 use Rattle.mt_operation.specs.Operations.{OperationView, ScanView, SplitsView, no_removal, view_of, splits_of, scan_of}
 use Rattle.mt_operation.specs.Tables.{Table, op_at as operation_at}
-use Rattle.mt_insert.specs.Unlock.{walk_done}
+use Rattle.mt_held.specs.Moves.{walk_done}
 use Rattle.mt_remove.specs.Unlock.{EmptiesLayer}
 use Rattle.mt_state.specs.Views.{Core, shown}
 use Rattle.mt_operation.specs.Phases.{row}

@@ -1,5 +1,5 @@
 -- The phases of a put by what their steps tell: for `Inner::write`.
-use Rattle.std.proofs.Common.{Bool, IsSome, None, Option, Some, [], ap, arith, cond, eqb, false, inl, inr, is_some, length, refl, set, subst, sym, true, ℕ, ◌+◌, ◌<◌, ◌∙◌, ◌≡◌, ◌≢◌}
+use Rattle.std.proofs.Common.{Bool, None, Option, Some, [], ap, arith, cond, eqb, false, inl, inr, length, refl, set, subst, sym, true, ℕ, ◌+◌, ◌<◌, ◌∙◌, ◌≡◌, ◌≢◌}
 use Rattle.std.specs.Prelude.{List, ◌*◌, ◌^◌, ◌≤◌, ◌⊎◌}
 use Rattle.mt_rows.specs.declared.reply.Reply.{Reply}
 use Rattle.mt_rows.specs.declared.reply.Reply.TheVariants.{Full, New, NoMemory, Replaced}
@@ -24,12 +24,12 @@ use Rattle.mt_operation.specs.declared.outcome.Outcome.{Outcome}
 use Rattle.mt_operation.specs.declared.prepared.Prepared.{Prepared}
 use Rattle.mt_operation.specs.declared.operation.Operation.{Operation}
 use Rattle.mt_operation.specs.Operations.{made_ready, moved, noted, splits_of, with_nothing_ready}
-use Rattle.mt_operation.specs.Phases.{IsOfKind, has_splits, is_done, is_prepared}
-use Rattle.mt_operation.specs.Tables.{MayMove, Table, op_at as operation_at}
+use Rattle.mt_operation.specs.Phases.{IsOfKind, has_splits}
+use Rattle.mt_operation.specs.Tables.{Table, op_at as operation_at}
 use Rattle.mt_descent.specs.Seen.{IsOutdated}
 use Rattle.mt_descent.specs.KeptWalks.{IsInSlot}
 use Rattle.mt_descent.specs.WalkMoves.{IsLock, Locks, walk_anew, walk_into}
-use Rattle.mt_insert.specs.Puts.{IsPut, is_put}
+use Rattle.mt_insert.specs.Puts.{is_put}
 use Rattle.mt_remove.specs.Writes.{is_remove}
 use Rattle.mt_operation.specs.declared.task.Request.{Request}
 use Rattle.mt_operation.specs.declared.task.Request.TheVariants.{Get as GetOf, Put as PutOf, Remove as RemoveOf, Scan as ScanOf}
@@ -37,27 +37,22 @@ use Rattle.mt_operation.specs.Tasks.{ask, command_of, aim_of}
 use Rattle.mt_version.specs.Parts.{Parts}
 use Rattle.mt_arena.proofs.OneLink.{leads}
 use Rattle.std.proofs.lemmas.Bool.{both_ways}
-use Rattle.mt_insert.specs.Placing.{walk_placed}
-use Rattle.mt_insert.specs.Judge.{IsMadeReady, MeetsLink, MeetsOther, StandsIn, after_judge}
-use Rattle.mt_insert.specs.KeptPuts.{IsAtPublish, IsAtStore}
+use Rattle.mt_held.specs.Moves.{walk_placed}
+use Rattle.mt_insert.specs.Judge.{IsMadeReady, MeetsOther, StandsIn, after_judge}
+use Rattle.mt_held.specs.Unlock.{MeetsLink, IsUnlock}
 use Rattle.mt_insert.specs.Publish.{IsPublish, IsPublishFull}
 use Rattle.mt_insert.specs.Store.{IsStore}
-use Rattle.mt_insert.specs.Unlock.{IsUnlock}
-use Rattle.mt_state.specs.declared.moves.Move.{Move}
 use Rattle.mt_state.specs.declared.moves.Move.TheVariants.{Moved, Done as DoneMove}
-use Rattle.mt_state.specs.Views.{Core, StateView, shown}
-use Rattle.mt_state.specs.Promises.{IsHeldByOther}
+use Rattle.mt_state.specs.Views.{Core, shown}
 use Rattle.mt_state.specs.Phases.{JudgesBy, JudgesLink, Leads, LocksBy}
 use Rattle.mt_state.specs.Invariant.{StateInvariant}
-use Rattle.mt_state.proofs.Shown.{shown_there}
 use Rattle.mt_state.proofs.Telling.{Gives}
 use Rattle.mt_state.proofs.Decides.{outdated_or_not}
 use Rattle.mt_state.proofs.OneNode.{replaced_all}
 use Rattle.mt_state.proofs.Locking.{judge_ready, judge_refused, lock_done, publish_full, unlock_done}
 use Rattle.mt_state.proofs.LayerSteps.{below_done, meet_done}
 use Rattle.mt_state.proofs.Putting.{publish_done, store_done}
-use Rattle.mt_state.proofs.Needs.{IsOfPut, judge_kept, lock_blocked, lock_kept, publish_kept, publish_ready, put_at, store_kept, store_ready, write_room}
-use Rattle.mt_core.specs.Nexts.{IsNext}
+use Rattle.mt_state.proofs.Needs.{judge_kept, lock_kept, publish_kept, put_at, store_kept}
 use Rattle.mt_core.specs.Budgets.{AreBelow, IsLiveTree, SeesNow, above, astray, before_unlock, behind}
 use Rattle.mt_core.specs.Points.{HasMade, HasRemoved, IsRemovalAt, IsAtPoint, MayHaveGrown, Nears, StepsOn}
 use Rattle.mt_core.proofs.Points.{below_at, few_at, nears_by, point_at, point_first, removal_first, removed_at}

@@ -5,7 +5,7 @@ use Rattle.std.specs.Prelude.{◌^◌}
 use Rattle.mt_rows.specs.declared.reply.Reply.TheVariants.{Absent, NoMemory}
 use Rattle.mt_rows.specs.Rows.{Columns}
 use Rattle.mt_rows.specs.Commands.{HasColumns}
-use Rattle.mt_rows.specs.Maps.{is_get}
+use Rattle.mt_rows.specs.Maps.{is_get, is_scan}
 use Rattle.mt_border.specs.declared.entry.Find.{Find}
 use Rattle.mt_border.specs.declared.entry.Find.TheVariants as finds
 use Rattle.mt_border.specs.declared.entry.FoundKind.TheVariants.{ThisKey, OtherLong, Link as ToTree}
@@ -45,14 +45,12 @@ use Rattle.mt_state.proofs.Loading.{load_taken, load_stopped}
 use Rattle.mt_state.proofs.Confirming.{get_of, confirm_done, confirm_back}
 use Rattle.mt_core.specs.Nexts.{ending}
 use Rattle.mt_core.specs.Looks.{Looks, LooksAt, MayDescend, MayLook, led_to, TellsDescended, TellsSearched, TellsLoaded, TellsConfirmed, TellsSnapped, TellsCompared, TellsHopped, IsStopped}
-use Rattle.mt_core.specs.Points.{IsAtPoint, Nears, StepsOn}
+use Rattle.mt_core.specs.Points.{IsAtPoint, Nears, StepsOn, IsRemovalAt}
 use Rattle.mt_core.proofs.Points.{point_first, removal_first, nears_by}
-use Rattle.mt_rows.specs.Maps.{is_scan}
 use Rattle.mt_state.proofs.Lawful.{get_no_scan}
 use Rattle.mt_core.specs.ScanPoints.{IsScanAt}
 use Rattle.mt_core.proofs.ScanNears.{scan_first, scan_aim, down_nears}
 use Rattle.mt_core.proofs.RemovalNears.{descent_removal}
-use Rattle.mt_core.specs.Points.{IsRemovalAt}
 use Rattle.mt_remove.specs.Writes.{is_remove}
 use Rattle.mt_state.proofs.Bound.{get_no_remove}
 use Rattle.std.proofs.lemmas.Bool.{both_ways}

@@ -32,7 +32,7 @@ use Rattle.mt_descent.specs.Seen.{IsOutdated, IsRemembered}
 use Rattle.mt_descent.specs.KeptWalks.{GoesThrough, IsAtBorder}
 use Rattle.mt_descent.specs.WalkMoves.{Locks, after_change, walk_anew, walk_into}
 use Rattle.mt_remove.specs.Ways.{IsLockWay}
-use Rattle.mt_insert.specs.SplitEdits.{walk_at}
+use Rattle.mt_held.specs.Moves.{walk_at}
 use Rattle.mt_interior.specs.Places.{place_of}
 use Rattle.mt_remove.specs.RemovalEdits.{GoesOnEmptied, after_unlink, for_rest}
 use Rattle.mt_remove.proofs.GoingOn.{unlinks_or_not}

@@ -14,7 +14,7 @@ use Rattle.mt_operation.specs.declared.operation.Operation.{Operation}
 use Rattle.mt_operation.specs.Operations.{splits_of, scan_of}
 use Rattle.mt_descent.specs.Pasts.{Past}
 use Rattle.mt_descent.specs.WalkMoves.{Continues}
-use Rattle.mt_insert.specs.Unlock.{walk_done}
+use Rattle.mt_held.specs.Moves.{walk_done}
 use Rattle.mt_scan.specs.Snaps.{prefix_in, SnapsOr}
 use Rattle.mt_scan.specs.Checks.{Asks, IsCheck, ChecksOr}
 use Rattle.mt_scan.specs.Hops.{KeptScan}

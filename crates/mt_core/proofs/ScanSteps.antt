@@ -3,7 +3,7 @@ use Rattle.std.proofs.Common.{◌≡◌, ◌≢◌, ℕ, ◌+◌, ◌<◌, inl, 
 use Rattle.std.specs.Prelude.{◌^◌}
 use Rattle.mt_slices.specs.Keys.{IsStoredKey, tenant_of}
 use Rattle.mt_rows.specs.declared.reply.Reply.TheVariants.{NoMemory, Pairs}
-use Rattle.mt_rows.specs.Maps.{is_scan}
+use Rattle.mt_rows.specs.Maps.{is_scan, Map}
 use Rattle.mt_rows.specs.Rows.{Bytes, Columns}
 use Rattle.mt_arena.specs.Arena.{ArenaView, IsArena}
 use Rattle.mt_arena.specs.Accesses.{at}
@@ -23,7 +23,7 @@ use Rattle.mt_operation.specs.Tables.{Table, op_at as operation_at}
 use Rattle.mt_operation.proofs.Tables.{set_is}
 use Rattle.mt_descent.specs.Pasts.{Past}
 use Rattle.mt_descent.specs.KeptWalks.{KeptAt}
-use Rattle.mt_insert.specs.Unlock.{walk_done}
+use Rattle.mt_held.specs.Moves.{walk_done}
 use Rattle.mt_scan.specs.Snaps.{prefix_in}
 use Rattle.mt_scan.specs.Checks.{Asks, IsCheck}
 use Rattle.mt_scan.specs.Hops.{KeptHop, KeptScan}
@@ -51,7 +51,6 @@ use Rattle.mt_core.proofs.ScanNears.{scan_first, scan_aim, snap_nears, check_nea
 use Rattle.mt_state.proofs.Still.{nothing_changes}
 use Rattle.mt_state.specs.KeptOperations.{IsChecking, IsKeptAt}
 use Rattle.mt_stretches.specs.Scanned.{IsSeenTo, maps_of}
-use Rattle.mt_rows.specs.Maps.{Map}
 use Rattle.mt_descent.specs.Seen.{Stands}
 
 -- on its way a scan keeps what any walk does

@@ -1,5 +1,5 @@
 -- The phases of a split by what their steps tell: for `Inner::write`.
-use Rattle.std.proofs.Common.{IsSome, List, None, Option, Some, [], ap, arith, false, inl, inr, is_some, length, refl, set, subst, suc, sym, true, zero, ℕ, ◌*◌, ◌+◌, ◌<◌, ◌∙◌, ◌∷◌, ◌≡◌, ◌≢◌, ◌≤◌}
+use Rattle.std.proofs.Common.{List, None, Option, Some, [], ap, arith, false, inl, inr, length, refl, set, subst, suc, sym, true, zero, ℕ, ◌*◌, ◌+◌, ◌<◌, ◌∙◌, ◌∷◌, ◌≡◌, ◌≢◌, ◌≤◌}
 use Rattle.std.specs.Prelude.{◌^◌}
 use Rattle.std.proofs.lemmas.Option.{same_Some}
 use Rattle.std.proofs.lemmas.List.{length-set}
@@ -15,31 +15,28 @@ use Rattle.mt_arena.specs.Splits.{left_half, right_half}
 use Rattle.mt_arena.specs.Several.{AreHalved}
 use Rattle.mt_arena.specs.Arena.{ArenaView, Guarantee, IsArena}
 use Rattle.mt_arena.specs.Accesses.{IsHeld, at, with_half}
-use Rattle.mt_arena.proofs.Pairs.{last}
 use Rattle.mt_version.specs.Parts.{Parts}
 use Rattle.mt_operation.specs.declared.phase.Phase.{Phase}
 use Rattle.mt_operation.specs.declared.phase.Phase.TheVariants.{SplitMove, SplitStart, Unlock}
 use Rattle.mt_operation.specs.declared.walk.Walk.{Walk}
-use Rattle.mt_operation.specs.declared.outcome.Outcome.{Outcome}
 use Rattle.mt_operation.specs.declared.prepared.Prepared.{Prepared}
 use Rattle.mt_operation.specs.declared.splits.Halves.{Halves}
 use Rattle.mt_operation.specs.declared.splits.Splits.{Splits}
 use Rattle.mt_operation.specs.declared.operation.Operation.{Operation}
 use Rattle.mt_operation.specs.Operations.{IsUnsplit, moved, noted, splits_of, with_nothing_ready, with_splits}
-use Rattle.mt_operation.specs.Phases.{has_splits, is_done}
+use Rattle.mt_operation.specs.Phases.{has_splits}
 use Rattle.mt_operation.specs.Tables.{Table, op_at as operation_at}
-use Rattle.mt_insert.specs.Puts.{IsPut}
 use Rattle.mt_insert.specs.KeptPuts.{IsAtSplitStart}
-use Rattle.mt_insert.specs.Unlock.{IsUnlockAll, walk_done}
+use Rattle.mt_insert.specs.Unlock.{IsUnlockAll}
+use Rattle.mt_held.specs.Moves.{walk_at}
 use Rattle.mt_insert.specs.KeptSplits.{IsAmong, IsAtSplitMove, IsAtUnlockAll, last_of}
-use Rattle.mt_insert.specs.SplitEdits.{walk_at}
 use Rattle.mt_insert.specs.SplitMove.{IsSplitMove, IsSplitMoveFull, after_parting}
 use Rattle.mt_insert.specs.SplitStart.{IsSplitStart, IsSplitStopped}
 use Rattle.mt_state.specs.declared.moves.Move.TheVariants.{Done as DoneMove, Moved}
 use Rattle.mt_state.specs.Views.{Core, shown}
 use Rattle.mt_state.specs.Phases.{Leads}
 use Rattle.mt_state.specs.KeptOperations.{IsKeptAt, IsSplitMoving, IsSplitStarting, IsUnlocking, MayUnlock}
-use Rattle.mt_state.specs.Invariant.{HoldsLast, StateInvariant}
+use Rattle.mt_state.specs.Invariant.{StateInvariant}
 use Rattle.mt_state.specs.Writes.{splitting as split_core}
 use Rattle.mt_state.proofs.Telling.{Gives}
 use Rattle.mt_state.proofs.OneNode.{returning_told}

@@ -5,7 +5,7 @@ use Rattle.mt_rows.specs.Rows.{Bytes}
 use Rattle.mt_arena.specs.Arena.{ArenaView}
 use Rattle.mt_operation.specs.declared.phase.Phase.TheVariants.{MakeLayer}
 use Rattle.mt_operation.specs.declared.walk.Walk.{Walk}
-use Rattle.mt_insert.specs.Unlock.{IsUnlock}
+use Rattle.mt_held.specs.Unlock.{IsUnlock}
 use Rattle.mt_layer.specs.Builds.{IsLayerFrom}
 
 -- what a step answers: a layer came one step nearer, or there is no memory for its tree, and the lock was given back

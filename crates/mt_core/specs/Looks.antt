@@ -24,7 +24,7 @@ use Rattle.mt_descent.specs.KeptWalks.{IsKept, IsAtBorder, IsAtLoad, IsAtConfirm
 use Rattle.mt_descent.specs.WalkMoves.{Continues, FindsIn, Loads, Confirms, after_search}
 use Rattle.mt_operation.specs.Tasks.{ask}
 use Rattle.mt_operation.specs.Operations.{SplitsView, splits_of, scan_of}
-use Rattle.mt_insert.specs.Unlock.{walk_done}
+use Rattle.mt_held.specs.Moves.{walk_done}
 use Rattle.mt_scan.specs.Snaps.{prefix_in, AreSettled, IsSnap}
 use Rattle.mt_scan.specs.Checks.{Asks, MayCheck, IsUnchanged, IsCheck}
 use Rattle.mt_scan.specs.Hops.{IsAtCheck, KeptHop, KeptScan, HopsTo}

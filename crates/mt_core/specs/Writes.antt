@@ -12,25 +12,26 @@ use Rattle.mt_operation.specs.declared.phase.Phase.{Phase}
 use Rattle.mt_operation.specs.declared.phase.Phase.TheVariants.{Lock, Judge, Store, Publish, SplitStart, SplitMove, SplitPrev, LockParent, InsertChild, InteriorSplit, Reparent, RootGrow, MakeLayer, MarkUnstable, Link, MarkLayer, DropKey, LockPrev, LockAbove, Unlink, FixNext, Collapse, CleanLayer, Unlock}
 use Rattle.mt_operation.specs.declared.outcome.Outcome.{Outcome}
 use Rattle.mt_operation.specs.declared.prepared.Prepared.{Prepared}
-use Rattle.mt_operation.specs.declared.splits.Splits.{Splits}
 use Rattle.mt_operation.specs.declared.operation.Operation.{Operation}
-use Rattle.mt_operation.specs.Operations.{IsUnsplit, splits_of, scan_of, with_splits, with_removal}
+use Rattle.mt_operation.specs.Operations.{IsUnsplit, splits_of, scan_of, with_splits}
 use Rattle.mt_operation.specs.Phases.{IsClimb, IsLayerPhase, IsRemovalPhase, IsToGrow}
 use Rattle.mt_operation.specs.Tasks.{ask}
 use Rattle.mt_table.specs.declared.steps.Made.{Made}
 use Rattle.mt_table.specs.declared.steps.Made.TheVariants.{Step, Blocked, NoMemory, Nothing}
 use Rattle.mt_descent.specs.KeptWalks.{IsAtBorder, HoldsNothing}
 use Rattle.mt_descent.specs.WalkMoves.{IsLock}
-use Rattle.mt_insert.specs.Puts.{IsPut, is_put}
-use Rattle.mt_insert.specs.KeptPuts.{HoldsBorder, IsAtStore, IsAtPublish, IsAtSplitStart, IsAtUnlock}
+use Rattle.mt_insert.specs.Puts.{IsPut}
+use Rattle.mt_held.specs.Holds.{HoldsBorder, IsAtUnlock}
+use Rattle.mt_insert.specs.KeptPuts.{IsAtStore, IsAtPublish, IsAtSplitStart}
 use Rattle.mt_insert.specs.KeptSplits.{HoldsSplits, IsAmong, IsAtSplitMove, IsAtUnlockAll, KeptSplit}
-use Rattle.mt_insert.specs.Judge.{IsMadeReady, IsShort, MeetsLink, MeetsOther}
+use Rattle.mt_insert.specs.Judge.{IsMadeReady, IsShort, MeetsOther}
+use Rattle.mt_held.specs.Unlock.{MeetsLink, IsUnlock}
 use Rattle.mt_insert.specs.Store.{IsStore}
 use Rattle.mt_insert.specs.Publish.{IsPublish, IsPublishFull}
 use Rattle.mt_insert.specs.SplitStart.{IsSplitStart, IsSplitStopped}
 use Rattle.mt_insert.specs.SplitMove.{IsSplitMove, IsSplitMoveFull}
 use Rattle.mt_insert.specs.Climbs.{AreSame, IsClimbFrom}
-use Rattle.mt_insert.specs.Unlock.{IsUnlock, IsUnlockAll}
+use Rattle.mt_insert.specs.Unlock.{IsUnlockAll}
 use Rattle.mt_layer.specs.KeptLayers.{KeptLayer, IsAtLeave}
 use Rattle.mt_layer.specs.Builds.{IsLayerFrom, IsLeave}
 use Rattle.mt_remove.specs.Judge.{FindsAbsent, IsMadeReady as IsReadyToDrop, IsShort as IsShortToDrop}

@@ -6,7 +6,7 @@ ghost use Rattle.std.specs.Option.{option_map};
 ghost use Rattle.mt_rows.specs.Rows.{shown as columns_shown};
 ghost use Rattle.mt_rows.specs.Commands.{HasColumns};
 ghost use Rattle.mt_rows.specs.Limits.{ArePairs};
-ghost use Rattle.mt_insert.specs.Unlock.{walk_done};
+ghost use Rattle.mt_held.specs.Moves.{walk_done};
 ghost use Rattle.mt_arena.specs.Accesses.{at};
 ghost use Rattle.mt_operation.specs.Tasks.{ask, command_of};
 ghost use Rattle.mt_descent.specs.Pasts.{Past};

@@ -14,9 +14,7 @@ use crate::layers::build_on;
 use crate::looks::no_memory;
 use crate::removals::{drop_pair, judge_back, judge_removal, lock_back, take_out, unlock_removal};
 use mt_arena::Arena;
-use mt_descent::lock;
-use mt_insert::{Judged, judge, publish, split_move, split_start, store, unlock, unlock_all};
-use mt_layer::leave;
+use mt_insert::Judged;
 use mt_operation::{Operation, Outcome, Phase, Prepared, Request, Task};
 use mt_rows::{Reply, Tenants};
 use mt_table::Made;
@@ -84,7 +82,7 @@ fn lock_onward(arena: &mut Arena, operation: &mut Operation, id: usize) -> Made
     requires untold { operation.old.outcome ≡ None }
     ensures { WritesNodes id (TellsLocked id) arena.old arena.new operation.old result operation.new }
 {
-    match lock(arena, &operation.task.key, &mut operation.walk, id) {
+    match mt_descent::lock(arena, &operation.task.key, &mut operation.walk, id) {
         Some(holder) => Made::Blocked(holder),
         None => Made::Step,
     }
@@ -126,7 +124,7 @@ fn judge_put(
     requires stays { is_remove (ask operation.old.task) ≡ false }
     ensures { WritesTape id (TellsJudged id step) arena.old arena.new tape.old tape.new operation.old result operation.new }
 {
-    match judge(alloc, arena, tape, &operation.task, &mut operation.walk, id) {
+    match mt_insert::judge(alloc, arena, tape, &operation.task, &mut operation.walk, id) {
         Judged::Ready(prepared) => {
             operation.prepared = Some(prepared);
             Made::Step
@@ -152,7 +150,7 @@ fn store_row(
     ensures { WritesTape id (TellsStored id step) arena.old arena.new tape.old tape.new operation.old result operation.new }
 {
     let prepared = take_ready(&mut operation.prepared);
-    store(
+    mt_insert::store(
         arena,
         tape,
         &operation.task,
@@ -179,7 +177,7 @@ fn publish_pair(
     ensures { Writes id (TellsPublished id step) (parts arena.old tape.old tenants.old) (parts arena.new tape.new tenants.new) operation.old result operation.new }
 {
     let prepared = take_ready(&mut operation.prepared);
-    let is_new = publish(
+    let is_new = mt_insert::publish(
         arena,
         tape,
         tenants,
@@ -205,7 +203,7 @@ fn begin_split(
     requires { MayBegin id arena.old tape.old operation.old }
     ensures { WritesTape id (TellsBegun id step) arena.old arena.new tape.old tape.new operation.old result operation.new }
 {
-    match split_start(
+    match mt_insert::split_start(
         arena,
         tape,
         &operation.task.key,
@@ -236,7 +234,7 @@ fn part_keys(
     ensures { Writes id (TellsParted id step) (parts arena.old tape.old tenants.old) (parts arena.new tape.new tenants.new) operation.old result operation.new }
 {
     let prepared = take_ready(&mut operation.prepared);
-    let is_new = split_move(
+    let is_new = mt_insert::split_move(
         arena,
         tape,
         tenants,
@@ -299,7 +297,7 @@ fn leave_layer(arena: &mut Arena, operation: &mut Operation, id: usize) -> Made
     requires untold { operation.old.outcome ≡ None }
     ensures { WritesNodes id (TellsUnlocked id) arena.old arena.new operation.old result operation.new }
 {
-    leave(arena, &mut operation.walk, id);
+    mt_layer::leave(arena, &mut operation.walk, id);
     Made::Step
 }
 
@@ -310,7 +308,7 @@ fn unlock_splits(arena: &mut Arena, operation: &mut Operation, id: usize) -> Mad
     requires some { operation.old.splits.halves.items ≢ [] }
     ensures { WritesNodes id (TellsUnlocked id) arena.old arena.new operation.old result operation.new }
 {
-    unlock_all(arena, &mut operation.walk, &mut operation.splits, id);
+    mt_insert::unlock_all(arena, &mut operation.walk, &mut operation.splits, id);
     Made::Step
 }
 
@@ -322,7 +320,7 @@ fn unlock_one(arena: &mut Arena, operation: &mut Operation, id: usize) -> Made
     requires stays { is_remove (ask operation.old.task) ≡ false }
     ensures { WritesNodes id (TellsUnlocked id) arena.old arena.new operation.old result operation.new }
 {
-    unlock(arena, &mut operation.walk, id);
+    mt_held::unlock(arena, &mut operation.walk, id);
     Made::Step
 }
 

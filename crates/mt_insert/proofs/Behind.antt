@@ -1,6 +1,6 @@
 -- What is kept of a split as a node names another one before it or another parent, and what is kept once the node behind names the right
 -- half: for `split_prev`, `lock_parent` and `reparent`.
-use Rattle.std.proofs.Common.{◌≡◌, ◌≢◌, ℕ, ◌-◌, ◌<◌, ◌≤◌, List, length, Option, Some, None, false, set, refl, sym, ap, subst, ◌∙◌, inl, inr, arith}
+use Rattle.std.proofs.Common.{◌≡◌, ◌≢◌, ℕ, ◌-◌, ◌<◌, ◌≤◌, List, length, Option, Some, None, set, refl, sym, ap, subst, ◌∙◌, inl, inr, arith}
 use Rattle.std.specs.List.{All}
 use Rattle.std.proofs.lemmas.Bool.{cases_eq}
 use Rattle.std.proofs.lemmas.Option.{same_Some}
@@ -8,10 +8,10 @@ use Rattle.std.proofs.lemmas.List.{length-set}
 use Rattle.mt_interior.specs.Fences.{end_of}
 use Rattle.mt_border.specs.declared.entry.Entry.{Entry}
 use Rattle.mt_arena.specs.NodeView.{NodeView, node_at}
-use Rattle.mt_arena.specs.Nodes.{AreNodes, HasChild, IsNeighbour, IsChild, seat_of}
+use Rattle.mt_arena.specs.Nodes.{HasChild, IsNeighbour, seat_of}
 use Rattle.mt_arena.specs.NodeFacts.{IsUnstable}
 use Rattle.mt_arena.specs.Ranges.{Waits}
-use Rattle.mt_arena.specs.Lags.{Follows, IsUnder}
+use Rattle.mt_arena.specs.Lags.{IsUnder}
 use Rattle.mt_arena.specs.Forests.{tree_at}
 use Rattle.mt_arena.specs.Edits.{pointed}
 use Rattle.mt_arena.specs.Arena.{ArenaView, IsArena}
@@ -19,9 +19,11 @@ use Rattle.mt_arena.specs.Accesses.{at, IsOpen}
 use Rattle.mt_arena.proofs.Pairs.{here, there}
 use Rattle.mt_arena.proofs.Lags.{follows_in, under_in}
 use Rattle.mt_operation.specs.declared.splits.Splits.{Splits}
-use Rattle.mt_insert.specs.KeptSplits.{last_of, HoldsSplits, MayReturn, IsSplitting, AreParted, NothingLags, HasSplits, IsAtSplitPrev, IsAtLockParent}
-use Rattle.mt_insert.specs.SplitEdits.{with_named_previous}
-use Rattle.mt_insert.proofs.Returns.{child_stays, StaysButNames, NamesNoMoreOf, TreesStand, trees_same, held_still, open_still, all_returnable_still}
+use Rattle.mt_insert.specs.KeptSplits.{last_of, HoldsSplits, IsSplitting, AreParted, NothingLags, HasSplits, IsAtSplitPrev, IsAtLockParent}
+use Rattle.mt_held.specs.Holds.{MayReturn}
+use Rattle.mt_held.specs.Moves.{with_named_previous}
+use Rattle.mt_held.proofs.Returns.{child_stays, StaysButNames, NamesNoMoreOf, TreesStand, trees_same, held_still, open_still}
+use Rattle.mt_insert.proofs.Returns.{all_returnable_still}
 
 -- a node that stays as it is but for the names of the one before it and of its parent, and has a parent still where it had one
 pub record KeepsButNames (x y : NodeView) : Type 0 where
@@ -59,39 +61,6 @@ keeps_each xs b y within keeps k = elim (cases_eq k b) [
   | inl same ↦ rw (same, here xs b y within) keeps
   | inr other ↦ keeps_whole (node_at xs k) (node_at (set xs b y) k) (there xs b k y other)
 ]
-
--- nobody comes to name node k by an edit of one node, if that one does not
-pub names_no_more : (xs : List NodeView) (b k : ℕ) (y : NodeView) → b < length xs
-    → (y.version.deleted ≡ false → (node_at xs b).version.deleted ≡ false) → (y.previous ≡ Some k → (node_at xs b).previous ≡ Some k)
-    → (y.parent ≡ Some k → (node_at xs b).parent ≡ Some k)
-    → NamesNoMoreOf xs (set xs b y) k
-names_no_more xs b k y within live before above = record {
-  follows = λ j is. elim (cases_eq j b) [
-    | inl same ↦
-        let new = ap (node_at (set xs b y)) same ∙ here xs b y within in
-        subst (λ c. Follows xs k c) (sym same) (within, before (sym (ap (λ (n : NodeView). n.previous) new) ∙ is.1), live (sym (ap (λ (n : NodeView). n.version.deleted) new) ∙ is.2))
-    | inr other ↦
-        let old = there xs b j y other in
-        (omega (arith, is.0, length-set xs b y), sym (ap (λ (n : NodeView). n.previous) old) ∙ is.1, sym (ap (λ (n : NodeView). n.version.deleted) old) ∙ is.2)
-  ];
-  under = λ j is. elim (cases_eq j b) [
-    | inl same ↦
-        let new = ap (node_at (set xs b y)) same ∙ here xs b y within in
-        subst (λ c. IsUnder xs k c) (sym same) (within, above (sym (ap (λ (n : NodeView). n.parent) new) ∙ is.1), live (sym (ap (λ (n : NodeView). n.version.deleted) new) ∙ is.2))
-    | inr other ↦
-        let old = there xs b j y other in
-        (omega (arith, is.0, length-set xs b y), sym (ap (λ (n : NodeView). n.parent) old) ∙ is.1, sym (ap (λ (n : NodeView). n.version.deleted) old) ∙ is.2)
-  ];
-}
-
--- nor by two edits, if by neither
-pub names_on : (xs ys zs : List NodeView) (k : ℕ) → NamesNoMoreOf xs ys k → NamesNoMoreOf ys zs k → NamesNoMoreOf xs zs k
-names_on xs ys zs k a b = record { follows = λ j is. a.follows j (b.follows j is); under = λ j is. a.under j (b.under j is) }
-
--- what holds of a child and its parent
-pub child_below : (nodes : List NodeView) (p k : ℕ) → AreNodes nodes → p < length nodes → k < length nodes → (c : HasChild (node_at nodes p) k)
-    → IsChild (node_at nodes p) c.place (node_at nodes k)
-child_below nodes p k are lp lk c = (are.pairs p k lp lk).child c.place c.in_range c.is c.live
 
 -- what is kept of the halves where each node that they name keeps all but its names
 module _ (v u : ArenaView) (op : ℕ) (more : length v.nodes ≤ length u.nodes) (trees : TreesStand v.trees u.trees) where

@@ -15,8 +15,10 @@ use Rattle.mt_arena.proofs.Pairs.{here, there, last, before}
 use Rattle.mt_arena.proofs.GrowStep.{same_standing}
 use Rattle.mt_arena.proofs.Lags.{settled_of}
 use Rattle.mt_operation.specs.declared.splits.Splits.{Splits}
-use Rattle.mt_insert.specs.KeptSplits.{last_of, HoldsSplits, AreParted, MayReturn, AreReturnable, IsAtRootGrow, IsAtUnlockAll}
-use Rattle.mt_insert.proofs.Returns.{TreesStand, NamesNoMoreOf, stays_whole, child_stays, held_still, open_still, all_returnable_still}
+use Rattle.mt_insert.specs.KeptSplits.{last_of, HoldsSplits, AreParted, AreReturnable, IsAtRootGrow, IsAtUnlockAll}
+use Rattle.mt_held.specs.Holds.{MayReturn}
+use Rattle.mt_held.proofs.Returns.{TreesStand, NamesNoMoreOf, stays_whole, child_stays, held_still, open_still}
+use Rattle.mt_insert.proofs.Returns.{all_returnable_still}
 
 module _ (v : ArenaView) (op : ℕ) (s : Splits) (arena : IsArena v.nodes v.trees) (h : IsAtRootGrow v op s) where
   abbrev i : ℕ

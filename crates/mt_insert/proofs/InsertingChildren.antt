@@ -21,8 +21,10 @@ use Rattle.mt_arena.proofs.Naming.{each_set2}
 use Rattle.mt_arena.proofs.Lags.{settled_of, children_again}
 use Rattle.mt_arena.proofs.Inserting.{apart_j, is_interior}
 use Rattle.mt_operation.specs.declared.splits.Splits.{Splits}
-use Rattle.mt_insert.specs.KeptSplits.{halves_at, last_of, MayReturn, MayReturnBoth, AreReturnable, AreParted, NothingLags, IsAtParent, IsAtInsertChild, IsAtUnlockAll, HoldsSplits}
-use Rattle.mt_insert.proofs.Returns.{stays_whole, NamesNoMoreOf, trees_same, all_returnable_still}
+use Rattle.mt_insert.specs.KeptSplits.{halves_at, last_of, MayReturnBoth, AreReturnable, AreParted, NothingLags, IsAtParent, IsAtInsertChild, IsAtUnlockAll, HoldsSplits}
+use Rattle.mt_held.specs.Holds.{MayReturn}
+use Rattle.mt_held.proofs.Returns.{stays_whole, NamesNoMoreOf, trees_same}
+use Rattle.mt_insert.proofs.Returns.{all_returnable_still}
 
 -- a node with the same ones before it and above it, as live as it was, with the same holder
 pub record KeepsNames (x y : NodeView) : Type 0 where

@@ -3,7 +3,6 @@ pub mod Looks
 pub mod Places
 pub mod Puts
 pub mod Commands
-pub mod Holders
 pub mod Returns
 pub mod SplitRely
 pub mod SplitKeys

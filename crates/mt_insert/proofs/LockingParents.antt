@@ -23,8 +23,9 @@ use Rattle.mt_operation.specs.declared.splits.Halves.{Halves}
 use Rattle.mt_operation.specs.declared.splits.Splits.{Splits}
 use Rattle.mt_insert.specs.KeptSplits.{halves_at, last_of, HoldsSplits, IsAtLockParent, IsAtParent, IsParent, KeptSplit}
 use Rattle.mt_insert.specs.SplitEdits.{with_parent, for_parent}
-use Rattle.mt_insert.proofs.Returns.{NamesNoMoreOf, trees_same, nothing_lags_still}
-use Rattle.mt_insert.proofs.Behind.{KeepsButNames, stays_so, keeps_each, names_no_more, names_on, child_below, splits_still}
+use Rattle.mt_held.proofs.Returns.{NamesNoMoreOf, trees_same, names_no_more, names_on, child_below}
+use Rattle.mt_insert.proofs.Returns.{nothing_lags_still}
+use Rattle.mt_insert.proofs.Behind.{KeepsButNames, stays_so, keeps_each, splits_still}
 
 -- the two edits, as one
 pub parent_made : (v mid u : ArenaView) (p op : ℕ) (last halves : Halves) → halves ≡ last → mid ≡ with_node v p (locked (at v p) op)

@@ -13,7 +13,8 @@ use Rattle.mt_operation.specs.declared.task.Task.{Task}
 use Rattle.mt_operation.specs.declared.prepared.Prepared.{Prepared}
 use Rattle.mt_operation.specs.Tasks.{ask}
 use Rattle.mt_insert.specs.Puts.{IsPut, row_over, write_over, write_of, IsReady}
-use Rattle.mt_insert.specs.Placing.{pushed, Places}
+use Rattle.mt_held.specs.Taping.{pushed}
+use Rattle.mt_insert.specs.Placing.{Places}
 
 -- the row that is inserted is that of the put's write
 inserts : (task : Task) (contents : Contents) (before : Option Columns) (row : Columns) (step : ℕ) → IsPut task

@@ -1,72 +1,29 @@
 -- What a put keeps that holds its border node stays under each step of another operation, by what that step leaves to others: for the laws.
-use Rattle.std.proofs.Common.{◌≡◌, ◌≢◌, ℕ, ◌<◌, List, length, Some, refl, sym, ap, subst, ◌∙◌, arith}
-use Rattle.mt_slices.specs.Slices.{slice_of, mark_of, suffix_of}
-use Rattle.mt_rows.specs.Rows.{Bytes}
+use Rattle.std.proofs.Common.{◌≡◌, ◌≢◌, ℕ, ◌<◌, List, length, subst}
+use Rattle.mt_slices.specs.Slices.{slice_of, mark_of}
 use Rattle.mt_border.specs.declared.entry.Entry.{Entry}
-use Rattle.mt_border.specs.declared.entry.FoundKind.{FoundKind}
 use Rattle.mt_border.specs.declared.entry.FoundKind.TheVariants.{ThisKey}
 use Rattle.mt_border.specs.declared.entry.Held.TheVariants.{Stable}
-use Rattle.mt_border.specs.Entry.{IsKind}
 use Rattle.mt_border.specs.Entries.{IsMissing}
-use Rattle.mt_arena.specs.declared.tree.Tree.{Tree}
-use Rattle.mt_arena.specs.declared.tree.Standing.{Standing}
-use Rattle.mt_arena.specs.declared.tree.Standing.TheVariants.{Made, Live, Dead}
-use Rattle.mt_arena.specs.NodeView.{NodeView}
-use Rattle.mt_arena.specs.Forests.{tree_at}
 use Rattle.mt_arena.specs.Layers.{slot_at}
-use Rattle.mt_arena.specs.Settled.{IsSettled}
 use Rattle.mt_arena.specs.Arena.{ArenaView, Guarantee}
-use Rattle.mt_arena.specs.Accesses.{at, IsOpen}
-use Rattle.mt_arena.specs.Guarantee.{TreeChanges}
-use Rattle.mt_arena.proofs.Settled.{settled_stays}
+use Rattle.mt_arena.specs.Accesses.{at}
 use Rattle.mt_operation.specs.declared.phase.Phase.{Phase}
 use Rattle.mt_operation.specs.declared.phase.Phase.TheVariants.{Store, Publish, SplitStart}
 use Rattle.mt_operation.specs.declared.walk.Walk.{Walk}
 use Rattle.mt_operation.specs.declared.task.Task.{Task}
 use Rattle.mt_operation.specs.declared.prepared.Prepared.{Prepared}
-use Rattle.mt_descent.specs.KeptWalks.{IsInSlot}
-use Rattle.mt_descent.proofs.Rely.{judge_stays}
-use Rattle.mt_insert.specs.KeptPuts.{HoldsBorder, IsAtStore, IsAtPublish, IsAtSplitStart, KeptReady, IsAtUnlock}
-
--- a slot stays while the slots do
-in_slot_stays : (n m : NodeView) (slot : ℕ) (key : Bytes) (layer : ℕ) (kind : FoundKind) → n.slots ≡ m.slots → IsInSlot n slot key layer kind
-    → IsInSlot m slot key layer kind
-in_slot_stays n m slot key layer kind same h = record {
-  in_range = subst (λ (s : List Entry). slot < length s) same h.in_range;
-  slice_is = subst (λ (s : List Entry). (slot_at (record n { slots = s }) slot).slice ≡ slice_of key layer) same h.slice_is;
-  mark_is = subst (λ (s : List Entry). (slot_at (record n { slots = s }) slot).mark ≡ mark_of key layer) same h.mark_is;
-  kind_is = subst (λ (s : List Entry). IsKind (slot_at (record n { slots = s }) slot) (suffix_of key layer) kind) same h.kind_is;
-}
-
--- a tree that no other operation is making, none but this one comes to make
-pub open_stays : (op o : ℕ) (tree after : Tree) → TreeChanges op tree after → o ≢ op → ((q : ℕ) → tree.standing ≡ Made q → q ≡ o) → (s : Standing)
-    → tree.standing ≡ s → (q : ℕ) → after.standing ≡ Made q → q ≡ o
-open_stays op o tree after c other mine (Made by) is q e = mine q (ap (λ (t : Tree). t.standing) (sym (c.made o other (is ∙ ap Made (mine by is)))) ∙ e)
-open_stays op o tree after c other mine Live is q e = absurd (c.live is q e)
-open_stays op o tree after c other mine Dead is q e = mine q (ap (λ (t : Tree). t.standing) (sym (c.dead is)) ∙ e)
+use Rattle.mt_held.proofs.Rely.{held, in_slot_stays, same_slots}
+use Rattle.mt_insert.specs.KeptPuts.{IsAtStore, IsAtPublish, IsAtSplitStart, KeptReady}
 
 module _ (op o : ℕ) (old new : ArenaView) (g : Guarantee op old new) (other : o ≢ op) where
-  pub settled_here : (k : ℕ) → k < length old.nodes → (at old k).holder ≡ Some o → IsSettled old.nodes k (at old k) → IsSettled new.nodes k (at new k)
-  settled_here k there holder settled = settled_stays op o old.nodes new.nodes old.trees new.trees k g.nodes g.points other there holder settled
-
-  -- at Judge
-  pub held : (key : Bytes) (w : Walk) → HoldsBorder old o key w → HoldsBorder new o key w
-  held key w h = record {
-    judged = judge_stays op old new g.nodes o key w other h.judged;
-    settled = settled_here w.place.node h.judged.held.there h.judged.held.holder h.settled;
-  }
-
-  -- the slots of the node stay
-  same_slots : (key : Bytes) (w : Walk) → HoldsBorder old o key w → (at old w.place.node).slots ≡ (at new w.place.node).slots
-  same_slots key w h = sym ((g.nodes.nodes w.place.node h.judged.held.there).held o other h.judged.held.holder).slots
-
   -- at Store
   pub store : (task : Task) (prepared : Prepared) (w : Walk) → IsAtStore old o task prepared w → IsAtStore new o task prepared w
   store task prepared w h =
       let n = at old w.place.node in
-      let same = same_slots task.key w h.holds in
+      let same = same_slots op o old new g other task.key w h.holds in
       record {
-        holds = held task.key w h.holds;
+        holds = held op o old new g other task.key w h.holds;
         in_slot = in_slot_stays n (at new w.place.node) w.slot task.key w.layer ThisKey same h.in_slot;
         pair = h.pair;
         stable = subst (λ (s : List Entry). (slot_at (record n { slots = s }) w.slot).held ≡ Stable h.pair) same h.stable;
@@ -76,9 +33,9 @@ module _ (op o : ℕ) (old new : ArenaView) (g : Guarantee op old new) (other : 
   -- at Publish
   pub publish : (task : Task) (prepared : Prepared) (w : Walk) → IsAtPublish old o task prepared w → IsAtPublish new o task prepared w
   publish task prepared w h =
-      let same = same_slots task.key w h.holds in
+      let same = same_slots op o old new g other task.key w h.holds in
       record {
-        holds = held task.key w h.holds;
+        holds = held op o old new g other task.key w h.holds;
         missing = subst (λ (s : List Entry). IsMissing s (slice_of task.key w.layer) (mark_of task.key w.layer)) same h.missing;
         room = subst (λ (s : List Entry). length s < 15) same h.room;
         suffix = h.suffix;
@@ -88,9 +45,9 @@ module _ (op o : ℕ) (old new : ArenaView) (g : Guarantee op old new) (other : 
   -- at SplitStart
   pub split_start : (task : Task) (prepared : Prepared) (w : Walk) → IsAtSplitStart old o task prepared w → IsAtSplitStart new o task prepared w
   split_start task prepared w h =
-      let same = same_slots task.key w h.holds in
+      let same = same_slots op o old new g other task.key w h.holds in
       record {
-        holds = held task.key w h.holds;
+        holds = held op o old new g other task.key w h.holds;
         missing = subst (λ (s : List Entry). IsMissing s (slice_of task.key w.layer) (mark_of task.key w.layer)) same h.missing;
         full = subst (λ (s : List Entry). length s ≡ 15) same h.full;
         suffix = h.suffix;
@@ -103,25 +60,3 @@ module _ (op o : ℕ) (old new : ArenaView) (g : Guarantee op old new) (other : 
   ready task prepared w Publish h = publish task prepared w h
   ready task prepared w SplitStart h = split_start task prepared w h
   ready task prepared w _ h = absurd h
-
-  -- the tree of a node is there
-  pub tree_there_stays : (k : ℕ) → k < length old.nodes → (at old k).tree < length old.trees → (at new k).tree < length new.trees
-  tree_there_stays k within there = subst (λ u. u < length new.trees) (sym (g.nodes.nodes k within).tree) (omega (arith, there, g.nodes.tree_count))
-
-  -- and no other operation comes to make it
-  pub open_here : (k : ℕ) → k < length old.nodes → (at old k).tree < length old.trees → IsOpen old k o → IsOpen new k o
-  open_here k within there mine =
-      let t = (at old k).tree in
-      subst (λ u. (q : ℕ) → (tree_at new.trees u).standing ≡ Made q → q ≡ o) (sym (g.nodes.nodes k within).tree)
-      (open_stays op o (tree_at old.trees t) (tree_at new.trees t) (g.nodes.trees t there) other mine (tree_at old.trees t).standing refl)
-
-  -- at Unlock
-  pub unlock : (w : Walk) → IsAtUnlock old o w → IsAtUnlock new o w
-  unlock w h =
-      let k = w.place.node in
-      record {
-        held = record { there = omega (arith, h.held.there, g.nodes.count); holder = ((g.nodes.nodes k h.held.there).held o other h.held.holder).holder ∙ h.held.holder };
-        tree_there = tree_there_stays k h.held.there h.tree_there;
-        mine = open_here k h.held.there h.tree_there h.mine;
-        settled = settled_here k h.held.there h.held.holder h.settled;
-      }

@@ -15,8 +15,8 @@ use Rattle.mt_arena.proofs.Lags.{follows_in, under_in}
 use Rattle.mt_operation.specs.declared.splits.Splits.{Splits}
 use Rattle.mt_insert.specs.KeptSplits.{last_of, HoldsSplits, NothingLags, IsChildFrom, IsAtReparent, IsAtLockParent}
 use Rattle.mt_insert.specs.SplitEdits.{with_named_parent}
-use Rattle.mt_insert.proofs.Returns.{NamesNoMoreOf, trees_same}
-use Rattle.mt_insert.proofs.Behind.{KeepsButNames, keeps_child, keeps_each, names_no_more, splits_still}
+use Rattle.mt_held.proofs.Returns.{NamesNoMoreOf, trees_same, names_no_more}
+use Rattle.mt_insert.proofs.Behind.{KeepsButNames, keeps_child, keeps_each, splits_still}
 
 -- the child whose turn it is
 module _ (v : ArenaView) (op : ℕ) (s : Splits) (arena : IsArena v.nodes v.trees) (kept : IsAtReparent v op s) where

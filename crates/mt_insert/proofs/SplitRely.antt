@@ -1,29 +1,23 @@
 -- What is kept of an operation that splits nodes stays under each step of another one, by what that step leaves to others alone: for the laws.
-use Rattle.std.proofs.Common.{◌≡◌, ◌≢◌, ℕ, ◌<◌, ◌-◌, List, length, get_or, Some, None, true, false, refl, sym, ap, subst, ◌∙◌, inl, inr, arith}
+use Rattle.std.proofs.Common.{◌≡◌, ◌≢◌, ℕ, ◌<◌, ◌-◌, List, length, get_or, Some, None, true, false, sym, ap, subst, ◌∙◌, inl, inr, arith}
 use Rattle.std.specs.List.{All}
 use Rattle.std.proofs.lemmas.Bool.{cases_lt}
 use Rattle.std.proofs.lemmas.Option.{same_Some}
 use Rattle.mt_version.specs.Parts.{Parts}
 use Rattle.mt_slices.specs.Slices.{slice_of, mark_of}
 use Rattle.mt_slices.specs.declared.mark.Mark.{Mark}
-use Rattle.mt_rows.specs.Rows.{Bytes}
 use Rattle.mt_border.specs.declared.entry.Entry.{Entry}
 use Rattle.mt_border.specs.Entries.{IsMissing}
 use Rattle.mt_border.specs.Split.{IsSeparator, slices_with}
-use Rattle.mt_border.specs.Contents.{IsOfTree}
 use Rattle.mt_interior.specs.Fences.{end_of}
-use Rattle.mt_arena.specs.declared.tree.Tree.{Tree}
-use Rattle.mt_arena.specs.declared.tree.Standing.{Standing}
-use Rattle.mt_arena.specs.declared.tree.Standing.TheVariants.{Made, Live, Dead}
 use Rattle.mt_arena.specs.NodeView.{NodeView}
 use Rattle.mt_arena.specs.Nodes.{Holds, HasChild}
 use Rattle.mt_arena.specs.NodeFacts.{IsUnstable}
-use Rattle.mt_arena.specs.Forests.{tree_at}
 use Rattle.mt_arena.specs.Lags.{Follows, IsUnder, AreFollowers, AreChildren}
 use Rattle.mt_arena.specs.Arena.{ArenaView, Guarantee}
 use Rattle.mt_arena.specs.Accesses.{at, IsHeld}
 use Rattle.mt_arena.specs.Several.{IsHalf, MaySplit}
-use Rattle.mt_arena.specs.Guarantee.{IsUntouched, TreeChanges}
+use Rattle.mt_arena.specs.Guarantee.{IsUntouched}
 use Rattle.mt_arena.proofs.Settled.{alive, was_none}
 use Rattle.mt_operation.specs.declared.phase.Phase.{Phase}
 use Rattle.mt_operation.specs.declared.phase.Phase.TheVariants.{SplitPrev, LockParent, InsertChild, InteriorSplit, Reparent, RootGrow, Unlock}
@@ -33,8 +27,9 @@ use Rattle.mt_operation.specs.declared.prepared.Prepared.{Prepared}
 use Rattle.mt_operation.specs.declared.splits.Halves.{Halves}
 use Rattle.mt_operation.specs.declared.splits.Splits.{Splits}
 use Rattle.mt_descent.specs.KeptWalks.{GoesThrough}
-use Rattle.mt_insert.specs.KeptSplits.{halves_at, last_of, HoldsSplits, MayReturn, AreReturnable, IsSplitting, AreParted, NothingLags, HasSplits, HasSplitsNamed, IsUnparted, IsAtSplitMove, IsAtSplitPrev, IsAtLockParent, IsAtRootGrow, IsParent, IsAtParent, IsAtInsertChild, IsAtInteriorSplit, IsChildFrom, IsAtReparent, IsAtUnlockAll, KeptSplit}
-use Rattle.mt_insert.proofs.Rely.{settled_here, tree_there_stays, open_here}
+use Rattle.mt_insert.specs.KeptSplits.{halves_at, last_of, HoldsSplits, AreReturnable, IsSplitting, AreParted, NothingLags, HasSplits, HasSplitsNamed, IsUnparted, IsAtSplitMove, IsAtSplitPrev, IsAtLockParent, IsAtRootGrow, IsParent, IsAtParent, IsAtInsertChild, IsAtInteriorSplit, IsChildFrom, IsAtReparent, IsAtUnlockAll, KeptSplit}
+use Rattle.mt_held.specs.Holds.{MayReturn}
+use Rattle.mt_held.proofs.Rely.{tree_there_stays, open_here, through_stays, untouched as held_untouched, held_stays as still_held, return_stays as still_returnable}
 
 -- a child of a node that is untouched stays one
 child_stays : (n m : NodeView) (k : ℕ) → IsUntouched n m → HasChild n k → HasChild m k
@@ -61,30 +56,16 @@ stable_stays n m u stable = subst (λ (slots : List Entry). All (λ (e : Entry).
 rooted_stays : (n m : NodeView) → IsUntouched n m → (n.parent ≡ None → n.version.root ≡ true) → m.parent ≡ None → m.version.root ≡ true
 rooted_stays n m u rooted none = ap (λ (v : Parts). v.root) u.version ∙ rooted (was_none n.parent m.parent u.parented none)
 
--- a tree that is not being made never is
-unmade_stays : (op : ℕ) (tree after : Tree) → TreeChanges op tree after → ((q : ℕ) → tree.standing ≢ Made q) → (s : Standing) → tree.standing ≡ s
-    → (q : ℕ) → after.standing ≢ Made q
-unmade_stays op tree after c unmade (Made by) is q e = unmade by is
-unmade_stays op tree after c unmade Live is q e = c.live is q e
-unmade_stays op tree after c unmade Dead is q e = unmade q (ap (λ (t : Tree). t.standing) (sym (c.dead is)) ∙ e)
-
 module _ (op o : ℕ) (old new : ArenaView) (g : Guarantee op old new) (other : o ≢ op) where
-  pub through_stays : (t layer : ℕ) (key : Bytes) → GoesThrough old t layer key → GoesThrough new t layer key
-  through_stays t layer key h =
-      let c = g.nodes.trees t h.there in
-      record {
-        there = omega (arith, h.there, g.nodes.tree_count);
-        unmade = unmade_stays op (tree_at old.trees t) (tree_at new.trees t) c h.unmade (tree_at old.trees t).standing refl;
-        of_tree = subst (λ (prefix : Bytes). IsOfTree prefix layer key) (sym c.prefix) h.of_tree;
-        begun = h.begun;
-      }
+  -- as what it holds stays
+  untouched : (k : ℕ) → IsHeld old k o → IsUntouched (at old k) (at new k)
+  untouched = held_untouched op o old new g other
 
-  -- a node that the operation holds is untouched, and stays its own
-  pub untouched : (k : ℕ) → IsHeld old k o → IsUntouched (at old k) (at new k)
-  untouched k h = (g.nodes.nodes k h.there).held o other h.holder
+  held_stays : (k : ℕ) → IsHeld old k o → IsHeld new k o
+  held_stays = still_held op o old new g other
 
-  pub held_stays : (k : ℕ) → IsHeld old k o → IsHeld new k o
-  held_stays k h = record { there = omega (arith, h.there, g.nodes.count); holder = (untouched k h).holder ∙ h.holder }
+  return_stays : (level k : ℕ) → MayReturn old o level k → MayReturn new o level k
+  return_stays = still_returnable op o old new g other
 
   not_mine : (k : ℕ) → IsHeld old k o → (at new k).holder ≢ Some op
   not_mine k h e = other (same_Some _ _ (sym ((untouched k h).holder ∙ h.holder) ∙ e))
@@ -113,16 +94,6 @@ module _ (op o : ℕ) (old new : ArenaView) (g : Guarantee op old new) (other : 
 
   nothing_lags_stays : (i : ℕ) → IsHeld old i o → NothingLags old.nodes i → NothingLags new.nodes i
   nothing_lags_stays i h lags = record { followers = followers_stay i h lags.followers; children = children_stay i h lags.children }
-
-  -- what may be given back
-  pub return_stays : (level k : ℕ) → MayReturn old o level k → MayReturn new o level k
-  return_stays level k h = record {
-    held = held_stays k h.held;
-    level_is = (g.nodes.nodes k h.held.there).level ∙ h.level_is;
-    tree_there = tree_there_stays op o old new g other k h.held.there h.tree_there;
-    mine = open_here op o old new g other k h.held.there h.tree_there h.mine;
-    settled = settled_here op o old new g other k h.held.there h.held.holder h.settled;
-  }
 
   returnable_stay : (halves : List Halves) (count : ℕ) → AreReturnable old o halves count → AreReturnable new o halves count
   returnable_stay halves count h i lt =
@@ -253,7 +224,7 @@ module _ (op o : ℕ) (old new : ArenaView) (g : Guarantee op old new) (other : 
         above = h.above;
         moved = h.moved;
         through =
-            subst (λ (t : ℕ). GoesThrough new t w.layer task.key) (sym (g.nodes.nodes k held_here.there).tree) (through_stays (at old k).tree w.layer task.key h.through);
+            subst (λ (t : ℕ). GoesThrough new t w.layer task.key) (sym (g.nodes.nodes k held_here.there).tree) (through_stays op o old new g other (at old k).tree w.layer task.key h.through);
         belongs = holds_stays k (slice_of task.key w.layer) held_here h.belongs;
         may = may_split_stays l q (slice_of task.key w.layer) (mark_of task.key w.layer) tree_there h.may;
         unparted = unparted_stays l q half.held half.right_held h.unparted;

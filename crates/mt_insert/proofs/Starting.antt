@@ -27,10 +27,12 @@ use Rattle.mt_operation.specs.declared.prepared.Prepared.{Prepared}
 use Rattle.mt_operation.specs.declared.splits.Halves.{Halves}
 use Rattle.mt_operation.specs.declared.splits.Splits.{Splits}
 use Rattle.mt_descent.specs.KeptWalks.{GoesThrough}
-use Rattle.mt_insert.specs.KeptPuts.{HoldsOnly, IsAtSplitStart}
+use Rattle.mt_held.specs.Holds.{HoldsOnly}
+use Rattle.mt_insert.specs.KeptPuts.{IsAtSplitStart}
 use Rattle.mt_operation.specs.Operations.{IsUnsplit}
 use Rattle.mt_insert.specs.KeptSplits.{halves_at, last_of, HoldsSplits, IsUnparted, IsAtSplitMove, NothingLags}
-use Rattle.mt_insert.specs.SplitEdits.{walk_at, Starts, HasOneMore}
+use Rattle.mt_held.specs.Moves.{walk_at}
+use Rattle.mt_insert.specs.SplitEdits.{Starts, HasOneMore}
 
 -- the first split is the one of its list
 one_more : (old new : Splits) (left right : ℕ) → IsUnsplit old → HasOneMore old new left right → new.halves.items ≡ (record { left = left; right = right }) ∷ []

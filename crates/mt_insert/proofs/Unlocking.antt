@@ -3,84 +3,21 @@
 use Rattle.std.proofs.Common.{◌≡◌, ◌≢◌, ◌⊎◌, ℕ, ◌+◌, ◌<◌, ◌≤◌, List, length, Option, Some, None, refl, sym, ap, subst, ◌∙◌, inl, inr, arith}
 use Rattle.std.proofs.lemmas.Bool.{cases_eq}
 use Rattle.std.proofs.lemmas.Option.{same_Some}
-use Rattle.std.proofs.lemmas.List.{length-set}
 use Rattle.mt_version.specs.Changes.{CanUnlock}
 use Rattle.mt_arena.specs.NodeView.{NodeView}
 use Rattle.mt_arena.specs.Edits.{unlocked}
 use Rattle.mt_arena.specs.Guarantee.{NodesGuarantee, PointsOnly}
 use Rattle.mt_arena.specs.Arena.{ArenaView, IsArena, Guarantee, content_of}
 use Rattle.mt_arena.specs.Accesses.{at}
-use Rattle.mt_arena.proofs.Pairs.{here, there}
-use Rattle.mt_arena.proofs.Guarantees.{guarantee_on}
-use Rattle.mt_arena.proofs.Naming.{names_same, points_each}
+use Rattle.mt_arena.proofs.Pairs.{there}
 use Rattle.mt_operation.specs.declared.splits.Halves.{Halves}
 use Rattle.mt_operation.specs.declared.splits.Splits.{Splits}
 use Rattle.mt_descent.specs.KeptWalks.{HoldsNothing}
-use Rattle.mt_insert.specs.KeptSplits.{halves_at, IsHalf, IsAmong, HoldsSplits, MayReturn, MayReturnBoth, AreReturnable, IsAtUnlockAll}
-use Rattle.mt_insert.specs.Unlock.{given_back, Returns}
-use Rattle.mt_insert.proofs.Returns.{TreesStand, trees_same, stays_whole, returnable_still}
-
--- a node that names the same neighbour before it and the same parent, and is live as it was
-pub record NamesTheSame (n m : NodeView) : Type 0 where
-  pub previous : m.previous ≡ n.previous
-  pub parent : m.parent ≡ n.parent
-  pub deleted : m.version.deleted ≡ n.version.deleted
-
--- the locks of the nodes of which P tells were given back, and nothing else was done
-pub record GivesBack (P : ℕ → Type 0) (old new : ArenaView) : Type 0 where
-  pub count : length new.nodes ≡ length old.nodes
-  pub given : (k : ℕ) → P k → at new k ≡ unlocked (at old k)
-  pub others : (k : ℕ) → ¬ P k → at new k ≡ at old k
-  pub names : (k : ℕ) → NamesTheSame (at old k) (at new k)
-  pub trees : new.trees ≡ old.trees
-  pub retired : new.retired ≡ old.retired
-
--- no lock was given back yet
-pub back_none : (P : ℕ → Type 0) (v : ArenaView) → ((k : ℕ) → ¬ P k) → GivesBack P v v
-back_none P v none = record {
-  count = refl;
-  given = λ k p. absurd (none k p);
-  others = λ k np. refl;
-  names = λ k. record { previous = refl; parent = refl; deleted = refl };
-  trees = refl;
-  retired = refl;
-}
-
--- and one more
-pub back_more : (P Q : ℕ → Type 0) (v u : ArenaView) (i : ℕ) → GivesBack P v u → i < length v.nodes → ¬ P i → ((k : ℕ) → Q k → P k ⊎ (k ≡ i))
-    → ((k : ℕ) → P k → Q k) → Q i → GivesBack Q v (given_back u i)
-back_more P Q v u i b within not_yet from to at_i =
-    let y = unlocked (at u i) in
-    let inside : i < length u.nodes = omega (arith, within, b.count) in
-    record {
-      count = length-set u.nodes i y ∙ b.count;
-      given = λ k q. elim (cases_eq k i) [
-        | inl is ↦ rw (is, here u.nodes i y inside, b.others i not_yet) refl
-        | inr other ↦ there u.nodes i k y other ∙ b.given k (elim (from k q) [ inl p ↦ p | inr is ↦ absurd (other is) ])
-      ];
-      others = λ k nq. there u.nodes i k y (λ is. nq (subst Q (sym is) at_i)) ∙ b.others k (λ p. nq (to k p));
-      names = λ k. elim (cases_eq k i) [
-        | inl is ↦ let n = b.names i in rw (is, here u.nodes i y inside) (record { previous = n.previous; parent = n.parent; deleted = n.deleted })
-        | inr other ↦ rw (there u.nodes i k y other) (b.names k)
-      ];
-      trees = b.trees;
-      retired = b.retired;
-    }
-
--- the lock of one node alone
-pub back_one : (v : ArenaView) (i : ℕ) → i < length v.nodes → GivesBack (λ k. k ≡ i) v (given_back v i)
-back_one v i within = back_more (λ k. ⊥) (λ k. k ≡ i) v v i (back_none (λ k. ⊥) v (λ k p. p)) within (λ p. p) (λ k is. inr is) (λ k p. absurd p) refl
-
--- what may be given back still may beside those whose locks were
-pub returns_still : (P : ℕ → Type 0) (v u : ArenaView) (op level k : ℕ) → GivesBack P v u → ¬ P k → MayReturn v op level k → MayReturn u op level k
-returns_still P v u op level k b np m =
-    returnable_still v u op (omega (arith, b.count)) (subst (TreesStand v.trees) (sym b.trees) (trees_same v.trees)) level k
-    (stays_whole (at v k) (at u k) (b.others k np))
-    (record {
-      follows = λ j is. let n = b.names j in (omega (arith, is.0, b.count), sym n.previous ∙ is.1, sym n.deleted ∙ is.2);
-      under = λ j is. let n = b.names j in (omega (arith, is.0, b.count), sym n.parent ∙ is.1, sym n.deleted ∙ is.2);
-    })
-    m
+use Rattle.mt_held.proofs.GivingBack.{GivesBack, back_none, back_more, back_one, returns_still, step_back, nodes_on}
+use Rattle.mt_insert.specs.KeptSplits.{halves_at, IsHalf, IsAmong, HoldsSplits, MayReturnBoth, AreReturnable, IsAtUnlockAll}
+use Rattle.mt_held.specs.Holds.{MayReturn}
+use Rattle.mt_held.specs.Moves.{given_back}
+use Rattle.mt_insert.specs.Unlock.{Returns}
 
 pub both_still : (P : ℕ → Type 0) (v u : ArenaView) (op level : ℕ) (h : Halves) → GivesBack P v u → ¬ P h.left → ¬ P h.right
     → MayReturnBoth v op level h → MayReturnBoth u op level h
@@ -93,18 +30,6 @@ both_still P v u op level h b nl nr m = record {
 -- two nodes of two levels differ
 pub levels_differ : (v : ArenaView) (op a b k l : ℕ) → MayReturn v op a k → MayReturn v op b l → a ≢ b → k ≢ l
 levels_differ v op a b k l m n differ is = differ (sym m.level_is ∙ ap (λ k. (at v k).level) is ∙ n.level_is)
-
--- what is left to others: nodes keep whom they name
-pub step_back : (P : ℕ → Type 0) (op : ℕ) (v u : ArenaView) → GivesBack P v u → NodesGuarantee op v.nodes u.nodes v.trees u.trees → Guarantee op v u
-step_back P op v u b nodes = record {
-  nodes = nodes;
-  points = points_each op v.nodes u.nodes b.count (λ k lt. let n = b.names k in names_same op u.nodes (at v k) (at u k) n.previous n.parent);
-}
-
--- the guarantees of nodes and trees add up
-pub nodes_on : (op : ℕ) (v u w : ArenaView) → IsArena v.nodes v.trees → NodesGuarantee op v.nodes u.nodes v.trees u.trees → Guarantee op u w
-    → NodesGuarantee op v.nodes w.nodes v.trees w.trees
-nodes_on op v u w arena one two = guarantee_on op v.nodes u.nodes w.nodes v.trees u.trees w.trees one two.nodes arena.forest.tree_there
 
 -- of both halves
 module _ (v : ArenaView) (op level : ℕ) (h : Halves) (m : MayReturnBoth v op level h) where

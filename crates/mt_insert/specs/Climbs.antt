@@ -8,7 +8,8 @@ use Rattle.mt_operation.specs.declared.phase.Phase.{Phase}
 use Rattle.mt_operation.specs.declared.splits.Splits.{Splits}
 use Rattle.mt_operation.specs.declared.walk.Walk.{Walk}
 use Rattle.mt_descent.specs.WalkMoves.{KeepsPairs}
-use Rattle.mt_insert.specs.SplitEdits.{HasOneMore, after_reparent, for_parent, moved_on, walk_at, with_named_parent, with_named_previous, with_parent}
+use Rattle.mt_insert.specs.SplitEdits.{HasOneMore, after_reparent, for_parent, moved_on, with_named_parent, with_parent}
+use Rattle.mt_held.specs.Moves.{walk_at, with_named_previous}
 use Rattle.mt_insert.specs.KeptSplits.{HoldsSplits, KeptSplit, last_of}
 
 -- what they do alike: no pair moves, and what is kept of the halves, which the operation holds alone

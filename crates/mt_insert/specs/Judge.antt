@@ -3,7 +3,6 @@ use Rattle.std.specs.Prelude.{None, Option, Some, if◌then◌else◌, length, �
 use Rattle.mt_slices.specs.Slices.{mark_of, slice_of, suffix_of}
 use Rattle.mt_rows.specs.Rows.{Bytes}
 use Rattle.mt_border.specs.Entries.{IsMissing}
-use Rattle.mt_border.specs.declared.entry.Held.TheVariants.{Link}
 use Rattle.mt_border.specs.declared.entry.Pair.{Pair}
 use Rattle.mt_border.specs.declared.entry.FoundKind.TheVariants.{ThisKey}
 use Rattle.mt_border.specs.Entry.{pair_of}
@@ -17,14 +16,14 @@ use Rattle.mt_operation.specs.declared.phase.Phase.{Phase}
 use Rattle.mt_operation.specs.declared.prepared.Prepared.{Prepared}
 use Rattle.mt_operation.specs.declared.task.Task.{Task}
 use Rattle.mt_operation.specs.declared.walk.Walk.{Walk}
-use Rattle.mt_descent.specs.KeptWalks.{IsAtEnter, IsInSlot}
+use Rattle.mt_descent.specs.KeptWalks.{IsInSlot}
 use Rattle.mt_descent.specs.WalkMoves.{KeepsPairs}
-use Rattle.mt_insert.specs.Unlock.{GoesInto, IsUnlock}
+use Rattle.mt_held.specs.Unlock.{IsUnlock, MeetsLink}
 use Rattle.mt_insert.specs.KeptPuts.{IsAtMakeLayer, KeptReady}
 use Rattle.mt_insert.specs.Puts.{IsReady}
 use Rattle.mt_insert.specs.declared.phases.judge.Judged.{Judged}
 use Rattle.mt_insert.specs.declared.phases.judge.Judged.TheVariants.{GoesOn, NoMemory, Ready}
-use Rattle.mt_insert.specs.Placing.{reserving}
+use Rattle.mt_held.specs.Taping.{reserving}
 use Rattle.mt_border.specs.declared.entry.FoundKind.TheVariants as kinds
 
 -- the slot that has the key; none where the node misses it
@@ -62,15 +61,6 @@ pub record MeetsOther (op : ℕ) (key : Bytes) (old new : ArenaView) (before aft
   pub walk : after ≡ record before { slot = slot; phase = MakeLayer }
   pub keeps : KeepsPairs op old new before after
   pub kept : IsAtMakeLayer old op key after
-
--- a link stands there: the lock was given back, and the put goes on in the link's tree
-pub record MeetsLink (op : ℕ) (key : Bytes) (old new : ArenaView) (before after : Walk) : Type 0 where
-  pub slot : ℕ
-  pub in_slot : IsInSlot (at old before.place.node) slot key before.layer kinds.Link
-  pub tree : ℕ
-  pub leads : (slot_at (at old before.place.node) slot).held ≡ Link tree
-  pub goes : GoesInto op tree old new before after
-  pub kept : IsAtEnter new key after
 
 -- there is no memory for the step that places the put, in the slot that has its key or in one that is wanted: the lock was given back
 pub record IsShort (op : ℕ) (key : Bytes) (old new : ArenaView) (before after : Walk) : Type 0 where

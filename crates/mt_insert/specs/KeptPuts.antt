@@ -7,21 +7,16 @@ use Rattle.mt_border.specs.declared.entry.Held.TheVariants.{Stable}
 use Rattle.mt_border.specs.declared.entry.FoundKind.TheVariants.{ThisKey, OtherLong}
 use Rattle.mt_border.specs.Entries.{IsMissing}
 use Rattle.mt_arena.specs.Layers.{slot_at}
-use Rattle.mt_arena.specs.Settled.{IsSettled}
 use Rattle.mt_arena.specs.Arena.{ArenaView}
-use Rattle.mt_arena.specs.Accesses.{at, IsHeld, IsOpen}
+use Rattle.mt_arena.specs.Accesses.{at}
 use Rattle.mt_operation.specs.declared.phase.Phase.{Phase}
 use Rattle.mt_operation.specs.declared.phase.Phase.TheVariants.{Store, Publish, SplitStart}
 use Rattle.mt_operation.specs.declared.walk.Walk.{Walk}
 use Rattle.mt_operation.specs.declared.task.Task.{Task}
 use Rattle.mt_operation.specs.declared.prepared.Prepared.{Prepared}
-use Rattle.mt_descent.specs.KeptWalks.{IsInSlot, IsAtJudge}
+use Rattle.mt_descent.specs.KeptWalks.{IsInSlot}
+use Rattle.mt_held.specs.Holds.{HoldsBorder}
 use Rattle.mt_insert.specs.Puts.{IsReady}
-
--- at Judge: the operation holds the border node as its lock was taken: unmarked, with the range that was seen, and nothing lags behind it
-pub record HoldsBorder (v : ArenaView) (op : ℕ) (key : Bytes) (w : Walk) : Type 0 where
-  pub judged : IsAtJudge v op key w
-  pub settled : IsSettled v.nodes w.place.node (at v w.place.node)
 
 -- at Store: the walk's slot has the key's pair, and what was made ready is the put over its row
 pub record IsAtStore (v : ArenaView) (op : ℕ) (task : Task) (prepared : Prepared) (w : Walk) : Type 0 where
@@ -60,14 +55,3 @@ KeptReady Store v op task prepared w = IsAtStore v op task prepared w
 KeptReady Publish v op task prepared w = IsAtPublish v op task prepared w
 KeptReady SplitStart v op task prepared w = IsAtSplitStart v op task prepared w
 KeptReady _ v op task prepared w = ⊥
-
--- at Unlock: the operation holds the node, nobody else is making its tree, and nothing lags behind it
-pub record IsAtUnlock (v : ArenaView) (op : ℕ) (w : Walk) : Type 0 where
-  pub held : IsHeld v w.place.node op
-  pub tree_there : (at v w.place.node).tree < length v.trees
-  pub mine : IsOpen v w.place.node op
-  pub settled : IsSettled v.nodes w.place.node (at v w.place.node)
-
--- the operation holds no other node than this one
-abbrev pub HoldsOnly : ArenaView → ℕ → ℕ → Type 0
-HoldsOnly v op k = (j : ℕ) → j < length v.nodes → (at v j).holder ≡ Some op → j ≡ k

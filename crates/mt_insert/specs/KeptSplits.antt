@@ -7,7 +7,6 @@ use Rattle.mt_arena.specs.NodeView.{NodeView, node_at}
 use Rattle.mt_arena.specs.Nodes.{Holds, HasChild}
 use Rattle.mt_arena.specs.NodeFacts.{IsUnstable}
 use Rattle.mt_arena.specs.Lags.{Follows, IsUnder, AreFollowers, AreChildren}
-use Rattle.mt_arena.specs.Settled.{IsSettled}
 use Rattle.mt_arena.specs.Arena.{ArenaView}
 use Rattle.mt_arena.specs.Accesses.{at, IsHeld, IsOpen}
 use Rattle.mt_arena.specs.Several.{MaySplit}
@@ -20,6 +19,7 @@ use Rattle.mt_operation.specs.declared.splits.Halves.{Halves}
 use Rattle.mt_operation.specs.declared.splits.Splits.{Splits}
 use Rattle.mt_operation.specs.Operations.{SplitsView}
 use Rattle.mt_descent.specs.KeptWalks.{GoesThrough}
+use Rattle.mt_held.specs.Holds.{MayReturn}
 use Rattle.mt_insert.specs.Puts.{IsReady}
 
 -- the halves at a place of the list, and the last ones
@@ -45,14 +45,6 @@ IsAmong s k = IsHalf s.halves.items k ⊎ (s.above ≡ Some k)
 -- the operation holds no other node than these
 abbrev pub HoldsSplits : ArenaView → ℕ → Splits → Type 0
 HoldsSplits v op s = (k : ℕ) → k < length v.nodes → (at v k).holder ≡ Some op → IsAmong s k
-
--- the operation may give the node back: it holds it, nobody else is making its tree, and nothing lags behind it
-pub record MayReturn (v : ArenaView) (op level k : ℕ) : Type 0 where
-  pub held : IsHeld v k op
-  pub level_is : (at v k).level ≡ level
-  pub tree_there : (at v k).tree < length v.trees
-  pub mine : IsOpen v k op
-  pub settled : IsSettled v.nodes k (at v k)
 
 -- and so both halves of a split
 pub record MayReturnBoth (v : ArenaView) (op level : ℕ) (h : Halves) : Type 0 where

@@ -1,21 +1,15 @@
 -- What the step that places a put leaves of contents and tape.
-use Rattle.std.specs.Prelude.{◌≡◌, ℕ, ◌+◌, ◌-◌, [], ◌∷◌, ◌++◌}
+use Rattle.std.specs.Prelude.{◌≡◌, ℕ}
 use Rattle.mt_slices.specs.Slices.{slice_of, mark_of, suffix_of}
 use Rattle.mt_rows.specs.Rows.{Bytes, Columns}
 use Rattle.mt_border.specs.declared.entry.Entry.{Entry}
 use Rattle.mt_border.specs.declared.entry.Held.TheVariants.{Stable}
-use Rattle.mt_tape.specs.declared.entry.Entry.{Entry as Write}
 use Rattle.mt_tape.specs.Tapes.{Kept}
 use Rattle.mt_tape.specs.Histories.{with_write}
 use Rattle.mt_arena.specs.Arena.{ArenaView, content_of}
-use Rattle.mt_operation.specs.declared.phase.Phase.TheVariants.{Unlock}
-use Rattle.mt_operation.specs.declared.walk.Walk.{Walk}
 use Rattle.mt_operation.specs.declared.task.Task.{Task}
+use Rattle.mt_held.specs.Taping.{pushed}
 use Rattle.mt_insert.specs.Puts.{write_of}
-
--- after Store and Publish
-abbrev pub walk_placed : Walk → Walk
-walk_placed w = record w { phase = Unlock }
 
 -- the entry of a key with this row, placed by the step of this number
 abbrev pub entry_of : Bytes → ℕ → Columns → ℕ → Entry
@@ -24,16 +18,6 @@ entry_of key layer row step = record {
   mark = mark_of key layer;
   held = Stable (record { suffix = suffix_of key layer; row = row; stamp = step });
 }
-
--- a tape with room for one more write, one that gives a room back, and one with a write that took its room
-abbrev pub reserving : Kept → Kept
-reserving tape = record tape { reserved = tape.reserved + 1 }
-
-abbrev pub released : Kept → Kept
-released tape = record tape { reserved = tape.reserved - 1 }
-
-abbrev pub pushed : Kept → Write → Kept
-pushed tape e = record tape { entries = tape.entries ++ e ∷ []; reserved = tape.reserved - 1 }
 
 -- the step of this number places the put: its write is the one change of the contents, and the last one on the tape
 pub record Places (task : Task) (step : ℕ) (old new : ArenaView) (was is : Kept) : Type 0 where

@@ -13,8 +13,10 @@ use Rattle.mt_arena.specs.Edits.{with_slots}
 use Rattle.mt_operation.specs.declared.task.Task.{Task}
 use Rattle.mt_operation.specs.declared.walk.Walk.{Walk}
 use Rattle.mt_descent.specs.WalkMoves.{Continues}
-use Rattle.mt_insert.specs.KeptPuts.{IsAtUnlock}
-use Rattle.mt_insert.specs.Placing.{Places, entry_of, released, walk_placed}
+use Rattle.mt_held.specs.Holds.{IsAtUnlock}
+use Rattle.mt_insert.specs.Placing.{Places, entry_of}
+use Rattle.mt_held.specs.Taping.{released}
+use Rattle.mt_held.specs.Moves.{walk_placed}
 
 -- the pair is live, placed by the step of this number, and counted; its write is on the tape
 pub record IsPublish (op step : ℕ) (task : Task) (row : Columns) (old new : ArenaView) (tape taped : Kept) (accounts counted : Accounts) (before after : Walk) : Type 0 where

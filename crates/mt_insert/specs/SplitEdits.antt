@@ -12,10 +12,6 @@ use Rattle.mt_operation.specs.declared.walk.Walk.{Walk}
 use Rattle.mt_operation.specs.declared.splits.Splits.{Splits}
 use Rattle.mt_rows.specs.Rows.{Bytes}
 
--- the walk at another phase
-abbrev pub walk_at : Phase → Walk → Walk
-walk_at phase w = record w { phase = phase }
-
 -- after SplitStart: the node has a right half, which begins where its keys and this one would be parted
 pub record Starts (op : ℕ) (old new : ArenaView) (key : Bytes) (w : Walk) : Type 0 where
   pub low : ℕ
@@ -46,7 +42,3 @@ after_reparent right moved = if moved + 1 == length right.children then LockPare
 -- a child of this number names the node as its parent
 abbrev pub with_named_parent : ArenaView → ℕ → ℕ → ArenaView
 with_named_parent v child parent = with_node v child (pointed (at v child) (at v child).previous (Some parent))
-
--- the node behind a right half names it as the one before
-abbrev pub with_named_previous : ArenaView → ℕ → ℕ → ArenaView
-with_named_previous v behind right = with_node v behind (pointed (at v behind) (Some right) (at v behind).parent)

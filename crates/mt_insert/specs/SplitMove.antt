@@ -17,8 +17,9 @@ use Rattle.mt_operation.specs.declared.task.Task.{Task}
 use Rattle.mt_operation.specs.declared.walk.Walk.{Walk}
 use Rattle.mt_descent.specs.WalkMoves.{Continues}
 use Rattle.mt_insert.specs.KeptSplits.{HoldsSplits, KeptSplit, last_of}
-use Rattle.mt_insert.specs.Placing.{Places, entry_of, released}
-use Rattle.mt_insert.specs.SplitEdits.{walk_at}
+use Rattle.mt_insert.specs.Placing.{Places, entry_of}
+use Rattle.mt_held.specs.Taping.{released}
+use Rattle.mt_held.specs.Moves.{walk_at}
 
 -- a node behind the halves still names the left one; where there is none, the parent comes next
 abbrev pub after_parting : Option ℕ → Phase

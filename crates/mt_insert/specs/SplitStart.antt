@@ -10,11 +10,13 @@ use Rattle.mt_operation.specs.declared.splits.Splits.{Splits}
 use Rattle.mt_operation.specs.declared.task.Task.{Task}
 use Rattle.mt_operation.specs.declared.walk.Walk.{Walk}
 use Rattle.mt_descent.specs.WalkMoves.{KeepsPairs}
-use Rattle.mt_insert.specs.SplitEdits.{HasOneMore, Starts, walk_at}
-use Rattle.mt_insert.specs.KeptPuts.{HoldsOnly, IsAtSplitStart}
+use Rattle.mt_insert.specs.SplitEdits.{HasOneMore, Starts}
+use Rattle.mt_held.specs.Moves.{walk_at}
+use Rattle.mt_held.specs.Holds.{HoldsOnly}
+use Rattle.mt_insert.specs.KeptPuts.{IsAtSplitStart}
 use Rattle.mt_insert.specs.KeptSplits.{HoldsSplits, IsAtSplitMove}
-use Rattle.mt_insert.specs.Unlock.{IsUnlock}
-use Rattle.mt_insert.specs.Placing.{released}
+use Rattle.mt_held.specs.Unlock.{IsUnlock}
+use Rattle.mt_held.specs.Taping.{released}
 
 -- the node has a right half, which begins where its keys and this one would be parted; the operation holds both, and no other node
 pub record IsSplitStart (op : ℕ) (key : Bytes) (old new : ArenaView) (tape taped : Kept) (before after : Walk) (s t : Splits) : Type 0 where

@@ -14,8 +14,9 @@ use Rattle.mt_arena.specs.Edits.{with_slots}
 use Rattle.mt_operation.specs.declared.task.Task.{Task}
 use Rattle.mt_operation.specs.declared.walk.Walk.{Walk}
 use Rattle.mt_descent.specs.WalkMoves.{Continues}
-use Rattle.mt_insert.specs.KeptPuts.{IsAtUnlock}
-use Rattle.mt_insert.specs.Placing.{Places, walk_placed}
+use Rattle.mt_held.specs.Holds.{IsAtUnlock}
+use Rattle.mt_insert.specs.Placing.{Places}
+use Rattle.mt_held.specs.Moves.{walk_placed}
 
 -- the row stands where that of the key stood, placed by the step of this number, and the write is on the tape
 pub record IsStore (op step : ℕ) (task : Task) (row : Columns) (old new : ArenaView) (tape taped : Kept) (before after : Walk) (was : Columns) : Type 0 where

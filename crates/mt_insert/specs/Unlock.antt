@@ -1,35 +1,15 @@
 -- Unlock: the locks are given back.
-use Rattle.std.specs.Prelude.{length, ℕ, ◌+◌, ◌≡◌}
+use Rattle.std.specs.Prelude.{length, ℕ, ◌≡◌}
 use Rattle.mt_arena.specs.Arena.{ArenaView}
-use Rattle.mt_arena.specs.Accesses.{at, with_node}
+use Rattle.mt_arena.specs.Accesses.{at}
 use Rattle.mt_arena.specs.Edits.{unlocked}
-use Rattle.mt_operation.specs.declared.phase.Phase.TheVariants.{Done}
 use Rattle.mt_operation.specs.Operations.{IsUnsplit}
 use Rattle.mt_operation.specs.declared.splits.Splits.{Splits}
 use Rattle.mt_operation.specs.declared.walk.Walk.{Walk}
 use Rattle.mt_descent.specs.KeptWalks.{HoldsNothing}
-use Rattle.mt_descent.specs.WalkMoves.{KeepsPairs, walk_into}
+use Rattle.mt_descent.specs.WalkMoves.{KeepsPairs}
+use Rattle.mt_held.specs.Moves.{walk_done}
 use Rattle.mt_insert.specs.KeptSplits.{HoldsSplits, IsAmong}
-
--- a node whose lock was given back among the others
-abbrev pub given_back : ArenaView → ℕ → ArenaView
-given_back v k = with_node v k (unlocked (at v k))
-
--- the operation is done
-abbrev pub walk_done : Walk → Walk
-walk_done w = record w { phase = Done }
-
--- the lock of the border node was given back
-pub record IsUnlock (op : ℕ) (old new : ArenaView) (before after : Walk) : Type 0 where
-  pub is : new ≡ given_back old before.place.node
-  pub walk : after ≡ walk_done before
-  pub keeps : KeepsPairs op old new before after
-
--- it was given back, and the operation goes on in this tree of the next layer
-pub record GoesInto (op tree : ℕ) (old new : ArenaView) (before after : Walk) : Type 0 where
-  pub is : new ≡ given_back old before.place.node
-  pub walk : after ≡ walk_into before tree (before.layer + 1)
-  pub keeps : KeepsPairs op old new before after
 
 -- the locks of the splits' nodes were given back, and nothing else was done
 pub record Returns (old new : ArenaView) (s : Splits) : Type 0 where

@@ -1,10 +1,10 @@
 //! What is kept of a put that holds its border node stays under the steps of all others, and what it
 //! places is its command's change. Contracts alone: no code runs.
 
-ghost use Rattle.std.specs.Prelude.{◌≡◌, ◌≢◌, ◌<◌, ◌≤◌, ℕ, List, Some, None, length};
+ghost use Rattle.std.specs.Prelude.{◌≡◌, ◌≢◌, ◌<◌, ◌≤◌, ℕ, List, Some, None};
 ghost use Rattle.std.specs.FinMap.{get, len};
 ghost use Rattle.mt_rows.specs.declared.reply.Reply.TheVariants.{New, Replaced, Full};
-ghost use Rattle.mt_rows.specs.Rows.{Bytes, Columns};
+ghost use Rattle.mt_rows.specs.Rows.{Columns};
 ghost use Rattle.mt_rows.specs.Maps.{reply_of, map_after};
 ghost use Rattle.mt_rows.specs.Tenants.{Contents, tenant_map};
 ghost use Rattle.mt_border.specs.Contents.{owned};
@@ -12,34 +12,15 @@ ghost use Rattle.mt_tape.specs.declared.entry.Entry.{Entry};
 ghost use Rattle.mt_tape.specs.Tapes.{last_step_over};
 ghost use Rattle.mt_tape.specs.Histories.{IsNextWrite, with_write};
 ghost use Rattle.mt_arena.specs.Arena.{ArenaView, IsArena, content_of, Guarantee};
-ghost use Rattle.mt_arena.specs.Settled.{IsSettled};
-ghost use Rattle.mt_arena.specs.NodeView.{NodeView};
-ghost use Rattle.mt_arena.specs.Edits.{unlocked};
-ghost use Rattle.mt_arena.specs.Accesses.{at, with_node};
 ghost use Rattle.mt_operation.specs.declared.phase.Phase.{Phase};
-ghost use Rattle.mt_operation.specs.declared.phase.Phase.TheVariants.{Judge};
 ghost use Rattle.mt_operation.specs.declared.walk.Walk.{Walk};
 ghost use Rattle.mt_operation.specs.declared.task.Task.{Task};
 ghost use Rattle.mt_operation.specs.declared.prepared.Prepared.{Prepared};
 ghost use Rattle.mt_operation.specs.declared.splits.Splits.{Splits};
 ghost use Rattle.mt_operation.specs.Tasks.{ask};
-ghost use Rattle.mt_descent.specs.KeptWalks.{HoldsNothing, IsAtJudge};
-ghost use Rattle.mt_descent.specs.WalkMoves.{Locks};
 ghost use Rattle.mt_insert.specs.Puts.{IsPut, write_of};
-ghost use Rattle.mt_insert.specs.KeptPuts.{HoldsBorder, IsAtStore, IsAtPublish, KeptReady, IsAtUnlock, HoldsOnly, IsAtSplitStart};
+ghost use Rattle.mt_insert.specs.KeptPuts.{IsAtStore, IsAtPublish, KeptReady, IsAtSplitStart};
 ghost use Rattle.mt_insert.specs.KeptSplits.{HoldsSplits, IsAtSplitMove, KeptSplit};
-
-/// An operation that has locked its border node holds it as `judge` asks.
-pub fn holds_once_locked()
-    ensures { (op : ℕ) (old new : ArenaView) (key : Bytes) (before after : Walk) → Locks op old new before after → after.phase ≡ Judge →
-        IsAtJudge new op key after → IsSettled new.nodes before.place.node (at new before.place.node) → HoldsBorder new op key after }
-{}
-
-/// What an operation keeps at Judge, each step of another one leaves.
-pub fn judge_stays()
-    ensures { (op o : ℕ) (old new : ArenaView) (key : Bytes) (w : Walk) → Guarantee op old new → o ≢ op →
-        HoldsBorder old o key w → HoldsBorder new o key w }
-{}
 
 /// What a put keeps at Store, each step of another operation leaves.
 pub fn store_stays()
@@ -57,12 +38,6 @@ pub fn publish_stays()
 pub fn ready_stays()
     ensures { (op o : ℕ) (old new : ArenaView) (task : Task) (prepared : Prepared) (w : Walk) (phase : Phase) → Guarantee op old new → o ≢ op →
         KeptReady phase old o task prepared w → KeptReady phase new o task prepared w }
-{}
-
-/// What an operation keeps at Unlock, each step of another one leaves.
-pub fn unlock_stays()
-    ensures { (op o : ℕ) (old new : ArenaView) (w : Walk) → Guarantee op old new → o ≢ op →
-        IsAtUnlock old o w → IsAtUnlock new o w }
 {}
 
 /// The contents have, at the key of a put that is about to place its row, the row of its slot at Store,
@@ -97,17 +72,6 @@ pub fn a_placed_put_is_its_command()
         × (map_after quota (ask task) (tenant_map task.tenant contents) ≡ tenant_map task.tenant contents) }
     ensures others { (step : ℕ) (contents : Contents) (task : Task) (t : ℕ) → IsPut task → t ≢ task.tenant →
         tenant_map t (with_write contents (write_of task contents step)) ≡ tenant_map t contents }
-{}
-
-/// An operation that held nothing holds its border node alone once it has locked it, also while that node
-/// changes, and nothing once it has given the lock back. Each step of another operation leaves it so.
-pub fn one_node_is_held()
-    ensures locked { (op : ℕ) (old new : ArenaView) (before after : Walk) → HoldsNothing old op → Locks op old new before after →
-        HoldsOnly new op before.place.node }
-    ensures changed { (v : ArenaView) (op k : ℕ) (n : NodeView) → HoldsOnly v op k → HoldsOnly (with_node v k n) op k }
-    ensures unlocked { (v : ArenaView) (op k : ℕ) → k < length v.nodes → HoldsOnly v op k →
-        HoldsNothing (with_node v k (unlocked (at v k))) op }
-    ensures stays { (op o k : ℕ) (old new : ArenaView) → Guarantee op old new → o ≢ op → HoldsOnly old o k → HoldsOnly new o k }
 {}
 
 /// What a put keeps at SplitStart, each step of another operation leaves.

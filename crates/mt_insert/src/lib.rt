@@ -6,8 +6,7 @@
 //! row. Where the node is full, `split_start` makes the right half, `split_move` parts the keys and places
 //! the pair, `split_prev` names the right half in the node behind; then, from level to level, `lock_parent`
 //! and `insert_child`, or `interior_split` and `reparent` where the parent is full, or `root_grow` where
-//! there is none. `unlock`, and `unlock_all` behind a split, give the locks back; `go_below` does so and
-//! goes on in the next layer. What is kept of a put by its next phase stands in `specs/KeptPuts.antt` and
+//! there is none. `unlock_all` gives the locks of a split back. What is kept of a put by its next phase stands in `specs/KeptPuts.antt` and
 //! `specs/KeptSplits.antt`, what each step does in the file of its phase (`specs/Judge.antt` to
 //! `specs/Unlock.antt`, and `specs/Climbs.antt` for the six that bring a right half to its place), and
 //! what a put writes in `specs/Puts.antt`.
@@ -25,7 +24,7 @@ mod prepare;
 
 pub use phases::insert_child::insert_child;
 pub use phases::interior_split::interior_split;
-pub use phases::judge::{Judged, judge, tree_at};
+pub use phases::judge::{Judged, judge};
 pub use phases::lock_parent::lock_parent;
 pub use phases::publish::publish;
 pub use phases::reparent::reparent;
@@ -33,6 +32,5 @@ pub use phases::root_grow::root_grow;
 pub use phases::split_move::split_move;
 pub use phases::split_prev::split_prev;
 pub use phases::split_start::split_start;
-pub use phases::store::{push_write, store};
-pub use phases::unlock::{go_below, unlock, unlock_all};
-pub use prepare::find_here;
+pub use phases::store::store;
+pub use phases::unlock::unlock_all;

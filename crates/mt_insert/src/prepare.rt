@@ -2,19 +2,16 @@
 //!
 //! Errors: `AllocError`, which changes nothing.
 
-ghost use Rattle.std.specs.Prelude.{◌≡◌, ◌<◌, ◌≤◌, ◌*◌, ◌+◌, ℕ, true, IfOk, IfSome, IfNone, OnOk, OnErr, length, Some, None};
+ghost use Rattle.std.specs.Prelude.{◌≡◌, ◌<◌, true, IfOk, OnOk, OnErr, Some, None};
 ghost use Rattle.std.specs.Option.{option_map};
-ghost use Rattle.mt_slices.specs.Slices.{slice_of, mark_of, suffix_of, HasLayer};
-ghost use Rattle.mt_rows.specs.Rows.{columns_of};
+ghost use Rattle.mt_slices.specs.Slices.{suffix_of, HasLayer};
 ghost use Rattle.mt_border.specs.Entry.{pair_of};
-ghost use Rattle.mt_border.specs.Entries.{IsMissing};
-ghost use Rattle.mt_border.specs.Node.{IsFound, IsLive, entries_of, entry_at};
+ghost use Rattle.mt_border.specs.Node.{IsLive, entry_at};
 ghost use Rattle.mt_arena.specs.Accesses.{at};
 ghost use Rattle.mt_operation.specs.Tasks.{command_of, ask};
 ghost use Rattle.mt_descent.specs.KeptWalks.{IsAtBorder};
-ghost use Rattle.mt_descent.specs.WalkMoves.{FindsIn};
-ghost use Rattle.mt_insert.specs.Puts.{change_of, is_put, row_over, IsReady};
-ghost use Rattle.mt_insert.specs.Placing.{reserving};
+ghost use Rattle.mt_insert.specs.Puts.{change_of, is_put, IsReady};
+ghost use Rattle.mt_held.specs.Taping.{reserving};
 ghost use Rattle.mt_insert.specs.Judge.{StandsIn, ReadyFor};
 
 use mt_arena::Arena;
@@ -25,20 +22,6 @@ use mt_rows::{Change, Row, merge_in};
 use mt_slices::StoredKey;
 use mt_tape::{Entry, Tape};
 use std::alloc::{AllocError, Global};
-
-/// What the walk's border node has of the key.
-pub fn find_here(arena: &Arena, key: &StoredKey, walk: &Walk) -> Find
-    requires kept { IsAtBorder arena.now key.now walk.now }
-    ensures { FindsIn (at arena.now walk.now.place.node) key.now walk.now.layer result }
-{
-    suffix_fits_mark();
-    let border = arena.border(walk.place.node);
-    border.find(
-        key.slice(walk.layer),
-        key.mark(walk.layer),
-        key.suffix(walk.layer),
-    )
-}
 
 // What a put writes.
 fn change_of(request: &Request) -> &Change

@@ -28,8 +28,8 @@ use Rattle.mt_arena.proofs.NextLayer.{may_make, has_below}
 use Rattle.mt_arena.proofs.LayerStays.{whole_begun}
 use Rattle.mt_arena.proofs.SettledBut.{settled_but, settled_but_made}
 use Rattle.mt_operation.specs.declared.walk.Walk.{Walk}
-use Rattle.mt_insert.specs.KeptPuts.{HoldsOnly}
-use Rattle.mt_insert.proofs.Places.{belongs_here}
+use Rattle.mt_held.specs.Holds.{HoldsOnly}
+use Rattle.mt_held.proofs.Places.{belongs_here}
 use Rattle.mt_insert.specs.KeptPuts.{IsAtMakeLayer}
 use Rattle.mt_layer.specs.KeptLayers.{IsAtMarkUnstable}
 use Rattle.mt_layer.specs.NewLayers.{entry_below, walk_linked}

@@ -26,7 +26,7 @@ use Rattle.mt_operation.specs.declared.phase.Phase.TheVariants as phases
 use Rattle.mt_operation.specs.declared.walk.Walk.{Walk}
 use Rattle.mt_descent.specs.KeptWalks.{GoesThrough}
 use Rattle.mt_insert.specs.KeptPuts.{IsAtMakeLayer}
-use Rattle.mt_insert.proofs.Rely.{held, unlock}
+use Rattle.mt_held.proofs.Rely.{held, unlock}
 use Rattle.mt_layer.specs.KeptLayers.{GoesBelow, MakesLayer, KeptLayer}
 use Rattle.mt_version.specs.Parts.{Parts}
 

@@ -12,8 +12,8 @@ use Rattle.mt_operation.specs.declared.walk.Taken.TheVariants.{Link}
 use Rattle.mt_operation.specs.declared.walk.Walk.{Walk}
 use Rattle.mt_descent.specs.KeptWalks.{HoldsNothing, IsAtEnter}
 use Rattle.mt_descent.specs.WalkMoves.{KeepsPairs}
-use Rattle.mt_insert.specs.Unlock.{GoesInto}
-use Rattle.mt_insert.specs.KeptPuts.{HoldsOnly}
+use Rattle.mt_held.specs.Unlock.{GoesInto}
+use Rattle.mt_held.specs.Holds.{HoldsOnly}
 use Rattle.mt_layer.specs.KeptLayers.{IsAtLeave, IsAtLink, IsAtMarkLayer, IsAtMarkUnstable}
 use Rattle.mt_layer.specs.NewLayers.{KeepsStamps, entry_below, walk_at, walk_linked}
 use Rattle.mt_operation.specs.declared.phase.Phase.TheVariants as phases

@@ -16,7 +16,8 @@ use Rattle.mt_operation.specs.declared.phase.Phase.TheVariants as phases
 use Rattle.mt_operation.specs.declared.walk.Taken.TheVariants.{Link}
 use Rattle.mt_operation.specs.declared.walk.Walk.{Walk}
 use Rattle.mt_descent.specs.KeptWalks.{GoesThrough, IsAtEnter}
-use Rattle.mt_insert.specs.KeptPuts.{IsAtMakeLayer, IsAtUnlock}
+use Rattle.mt_insert.specs.KeptPuts.{IsAtMakeLayer}
+use Rattle.mt_held.specs.Holds.{IsAtUnlock}
 use Rattle.mt_layer.specs.NewLayers.{entry_below}
 
 -- the key is one of tree t, which is a layer further down, and has bytes there

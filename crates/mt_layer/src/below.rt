@@ -2,7 +2,7 @@
 //!
 //! Errors: `AllocError`. Units: bytes.
 
-ghost use Rattle.std.specs.Prelude.{◌≡◌, ℕ, ◌<◌, ◌≤◌, ◌+◌, ◌*◌, IfOk, length, take, drop};
+ghost use Rattle.std.specs.Prelude.{◌≡◌, ◌<◌, ◌+◌, ◌*◌, IfOk, length, take, drop};
 ghost use Rattle.mt_slices.specs.Slices.{mark_at};
 ghost use Rattle.mt_border.specs.declared.entry.Pair.{Pair as AnyPair};
 ghost use Rattle.mt_border.specs.declared.entry.Held.TheVariants.{Stable};

@@ -1,12 +1,12 @@
 //! What is kept of an operation that makes a layer stays under the steps of all others. Contracts
 //! alone: no code runs.
 
-ghost use Rattle.std.specs.Prelude.{◌≡◌, ◌≢◌, ℕ};
+ghost use Rattle.std.specs.Prelude.{◌≢◌, ℕ};
 ghost use Rattle.mt_rows.specs.Rows.{Bytes};
 ghost use Rattle.mt_arena.specs.Arena.{ArenaView, IsArena, Guarantee};
 ghost use Rattle.mt_operation.specs.declared.phase.Phase.{Phase};
 ghost use Rattle.mt_operation.specs.declared.walk.Walk.{Walk};
-ghost use Rattle.mt_insert.specs.KeptPuts.{HoldsOnly};
+ghost use Rattle.mt_held.specs.Holds.{HoldsOnly};
 ghost use Rattle.mt_layer.specs.KeptLayers.{KeptLayer};
 
 /// What an operation keeps that makes a layer, each step of another one leaves, by its phase; and it

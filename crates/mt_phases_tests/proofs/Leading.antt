@@ -13,7 +13,7 @@ use Rattle.mt_operation.specs.declared.removal.Removal.{Removal}
 use Rattle.mt_operation.specs.declared.operation.Operation.{Operation}
 use Rattle.mt_descent.specs.KeptWalks.{KeptAt as KeptWalkAt}
 use Rattle.mt_descent.specs.WalkMoves.{IsLock, after_change}
-use Rattle.mt_insert.proofs.Looks.{held_here}
+use Rattle.mt_held.proofs.Looks.{held_here}
 use Rattle.mt_remove.specs.KeptRemovals.{IsAtUnlockRemoval, IsCleaning}
 use Rattle.mt_remove.specs.Unlock.{IsUnlockRemoval}
 use Rattle.mt_remove.specs.Ways.{IsLockWay}

@@ -10,8 +10,7 @@ use Rattle.mt_operation.specs.declared.operation.Operation.{Operation}
 use Rattle.mt_descent.specs.Pasts.{ExtendsPast}
 use Rattle.mt_descent.specs.KeptWalks.{IsAtForward}
 use Rattle.mt_descent.proofs.Rely.{border_stays, kept_stays}
-use Rattle.mt_insert.proofs.Rely.{held}
-use Rattle.mt_insert.proofs.SplitRely.{through_stays}
+use Rattle.mt_held.proofs.Rely.{held, through_stays}
 use Rattle.mt_remove.proofs.Rely.{drop_key, removal, cleaning}
 use Rattle.mt_phases_tests.specs.Ways.{unmoved}
 use Rattle.mt_phases_tests.specs.KeptRemovers.{IsBound, KeptAt, OthersStay}

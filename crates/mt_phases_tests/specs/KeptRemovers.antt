@@ -8,7 +8,7 @@ use Rattle.mt_operation.specs.declared.prepared.Prepared.{Prepared}
 use Rattle.mt_operation.specs.declared.removal.Removal.{Removal}
 use Rattle.mt_operation.specs.declared.operation.Operation.{Operation}
 use Rattle.mt_descent.specs.KeptWalks.{IsAtEnter, IsAtForward, IsAtBorder}
-use Rattle.mt_insert.specs.KeptPuts.{HoldsBorder}
+use Rattle.mt_held.specs.Holds.{HoldsBorder}
 use Rattle.mt_remove.specs.Writes.{IsRemoval}
 use Rattle.mt_remove.specs.KeptRemovals.{IsAtDropKey, IsCleaning, IsUnburdened, KeptRemoval}
 

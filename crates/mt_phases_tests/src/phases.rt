@@ -6,14 +6,15 @@ ghost use Rattle.mt_tape.specs.Tapes.{last_write};
 ghost use Rattle.mt_arena.specs.Accesses.{at};
 ghost use Rattle.mt_descent.specs.KeptWalks.{IsAtBorder, IsAtLoad};
 ghost use Rattle.mt_insert.specs.Puts.{IsPut};
-ghost use Rattle.mt_insert.specs.KeptPuts.{HoldsBorder, IsAtStore, IsAtPublish, IsAtSplitStart, KeptReady};
+ghost use Rattle.mt_held.specs.Holds.{HoldsBorder};
+ghost use Rattle.mt_insert.specs.KeptPuts.{IsAtStore, IsAtPublish, IsAtSplitStart, KeptReady};
 ghost use Rattle.mt_insert.specs.KeptSplits.{IsHalf, IsAtSplitMove, IsAtUnlockAll, KeptSplit};
 ghost use Rattle.mt_phases_tests.specs.Ways.{IsComing, AllStay};
 
 use mt_arena::Arena;
 use mt_descent::laws::{kept_stays, walks_begin};
 use mt_descent::{child, confirm, enter, forward, load, lock, pick, search, verify};
-use mt_insert::laws::holds_once_locked;
+use mt_held::laws::holds_once_locked;
 use mt_insert::*;
 use mt_operation::{Aim, Phase, Prepared, Request, Spare, Splits, Task, Walk};
 use mt_rows::{Change, Column, Key, NamedColumns, Row, Tenants};

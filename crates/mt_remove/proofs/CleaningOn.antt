@@ -23,9 +23,9 @@ use Rattle.mt_operation.specs.declared.phase.Phase.{Phase}
 use Rattle.mt_operation.specs.declared.phase.Phase.TheVariants.{LockPrev, Unlock}
 use Rattle.mt_operation.specs.declared.walk.Walk.{Walk}
 use Rattle.mt_operation.specs.declared.removal.Removal.{Removal}
-use Rattle.mt_insert.specs.KeptSplits.{MayReturn}
+use Rattle.mt_held.specs.Holds.{MayReturn}
 use Rattle.mt_remove.specs.KeptRemovals.{HoldsRemoval, HoldsLink, IsEmptyChild, IsLowerRoot, IsRemoving, IsAtCleanLayer, KeptRemoval}
-use Rattle.mt_insert.specs.SplitEdits.{walk_at}
+use Rattle.mt_held.specs.Moves.{walk_at}
 use Rattle.mt_remove.specs.RemovalEdits.{with_lock, root_of}
 use Rattle.mt_remove.proofs.DroppingLayers.{tree_there, root_there, root_other, root_tree, root_apart, root_open, root_now, node_still, node_after, root_after, drop_size}
 

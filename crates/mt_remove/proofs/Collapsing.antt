@@ -18,9 +18,9 @@ use Rattle.mt_arena.proofs.Pairs.{here, there}
 use Rattle.mt_operation.specs.declared.phase.Phase.TheVariants.{Unlock}
 use Rattle.mt_operation.specs.declared.walk.Walk.{Walk}
 use Rattle.mt_operation.specs.declared.removal.Removal.{Removal}
-use Rattle.mt_insert.specs.KeptSplits.{MayReturn}
+use Rattle.mt_held.specs.Holds.{MayReturn}
 use Rattle.mt_remove.specs.KeptRemovals.{HoldsRemoval, IsLowerRoot, IsOurs, IsAtCollapse, KeptRemoval}
-use Rattle.mt_insert.specs.SplitEdits.{walk_at}
+use Rattle.mt_held.specs.Moves.{walk_at}
 
 module _ (v : ArenaView) (op step : ℕ) (key : Bytes) (w : Walk) (r : Removal) (arena : IsArena v.nodes v.trees) (kept : IsAtCollapse v op key w r) where
   abbrev k : ℕ

@@ -18,10 +18,9 @@ use Rattle.mt_operation.specs.declared.phase.Phase.{Phase}
 use Rattle.mt_operation.specs.declared.phase.Phase.TheVariants.{LockPrev, Unlock}
 use Rattle.mt_operation.specs.declared.walk.Walk.{Walk}
 use Rattle.mt_operation.specs.declared.removal.Removal.{Removal}
-use Rattle.mt_insert.specs.KeptPuts.{HoldsBorder, HoldsOnly}
-use Rattle.mt_insert.specs.KeptSplits.{MayReturn}
-use Rattle.mt_insert.specs.SplitEdits.{walk_at}
-use Rattle.mt_insert.proofs.Places.{unlock_with}
+use Rattle.mt_held.specs.Holds.{HoldsBorder, HoldsOnly, MayReturn}
+use Rattle.mt_held.specs.Moves.{walk_at}
+use Rattle.mt_held.proofs.Places.{unlock_with}
 use Rattle.mt_remove.specs.KeptRemovals.{IsRemoving, IsEmptyChild, IsUnburdened, KeptRemoval}
 
 module _ (v : ArenaView) (op slot : ℕ) (key : Bytes) (w : Walk) (arena : IsArena v.nodes v.trees) (h : HoldsBorder v op key w) where

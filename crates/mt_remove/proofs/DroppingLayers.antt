@@ -20,8 +20,7 @@ use Rattle.mt_arena.proofs.Alone.{alone}
 use Rattle.mt_arena.proofs.OneLink.{IsLinkTo, leads, differs}
 use Rattle.mt_arena.proofs.Guarantees.{guarantee_on}
 use Rattle.mt_arena.proofs.Naming.{points_on}
-use Rattle.mt_insert.proofs.Returns.{settled_still, stays_whole}
-use Rattle.mt_insert.proofs.Behind.{names_no_more}
+use Rattle.mt_held.proofs.Returns.{settled_still, stays_whole, names_no_more}
 use Rattle.mt_remove.specs.KeptRemovals.{HoldsLink}
 use Rattle.mt_remove.specs.RemovalEdits.{with_lock, root_of}
 use Rattle.mt_remove.proofs.Held.{same_at, new_at}

@@ -19,7 +19,7 @@ use Rattle.mt_operation.specs.declared.phase.Phase.{Phase}
 use Rattle.mt_operation.specs.declared.walk.Walk.{Walk}
 use Rattle.mt_operation.specs.declared.removal.Removal.{Removal}
 use Rattle.mt_remove.specs.KeptRemovals.{HoldsRemoval, IsLowerRoot, IsRemoving, HoldsAbove, IsOurs, IsAtFixNext, KeptRemoval}
-use Rattle.mt_insert.specs.SplitEdits.{walk_at, with_named_previous}
+use Rattle.mt_held.specs.Moves.{walk_at, with_named_previous}
 use Rattle.mt_remove.specs.RemovalEdits.{for_rest}
 use Rattle.mt_remove.proofs.Resting.{rest_kept}
 

@@ -12,9 +12,8 @@ use Rattle.mt_arena.proofs.SettledEdits.{settled_locked}
 use Rattle.mt_operation.specs.declared.walk.Walk.{Walk}
 use Rattle.mt_operation.specs.declared.removal.Removal.{Removal}
 use Rattle.mt_descent.specs.KeptWalks.{GoesThrough}
-use Rattle.mt_insert.specs.KeptSplits.{MayReturn}
-use Rattle.mt_insert.proofs.Returns.{NamesNoMoreOf, trees_same, stays_whole, returnable_still}
-use Rattle.mt_insert.proofs.Behind.{names_no_more}
+use Rattle.mt_held.specs.Holds.{MayReturn}
+use Rattle.mt_held.proofs.Returns.{NamesNoMoreOf, trees_same, stays_whole, returnable_still, names_no_more}
 use Rattle.mt_remove.specs.KeptRemovals.{IsOurs, IsLowerRoot, IsRemoving, HoldsEmpty, HoldsLeft}
 use Rattle.mt_remove.specs.RemovalEdits.{with_lock}
 

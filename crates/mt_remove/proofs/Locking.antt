@@ -15,7 +15,7 @@ use Rattle.mt_operation.specs.declared.phase.Phase.TheVariants.{LockAbove}
 use Rattle.mt_operation.specs.declared.walk.Walk.{Walk}
 use Rattle.mt_operation.specs.declared.removal.Removal.{Removal}
 use Rattle.mt_remove.specs.KeptRemovals.{HoldsRemoval, IsAtLockPrev, IsAtLockAbove}
-use Rattle.mt_insert.specs.SplitEdits.{walk_at}
+use Rattle.mt_held.specs.Moves.{walk_at}
 use Rattle.mt_remove.specs.RemovalEdits.{with_lock}
 use Rattle.mt_remove.proofs.Held.{new_at, return_new, removes_still, empty_still, held_before}
 

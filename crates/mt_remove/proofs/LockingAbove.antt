@@ -18,9 +18,9 @@ use Rattle.mt_operation.specs.declared.phase.Phase.{Phase}
 use Rattle.mt_operation.specs.declared.phase.Phase.TheVariants.{Unlink, Unlock}
 use Rattle.mt_operation.specs.declared.walk.Walk.{Walk}
 use Rattle.mt_operation.specs.declared.removal.Removal.{Removal}
-use Rattle.mt_insert.proofs.Behind.{child_below}
+use Rattle.mt_held.proofs.Returns.{child_below}
 use Rattle.mt_remove.specs.KeptRemovals.{HoldsRemoval, IsOurs, IsAtLockAbove, KeptRemoval}
-use Rattle.mt_insert.specs.SplitEdits.{walk_at}
+use Rattle.mt_held.specs.Moves.{walk_at}
 use Rattle.mt_remove.specs.RemovalEdits.{with_lock}
 use Rattle.mt_remove.specs.Unlinks.{IsChildBefore}
 use Rattle.mt_remove.proofs.Held.{same_at, new_at, return_new, removes_still, empty_still, left_still, held_before}

@@ -17,7 +17,7 @@ use Rattle.mt_arena.specs.Accesses.{at}
 use Rattle.mt_operation.specs.declared.walk.Walk.{Walk}
 use Rattle.mt_descent.specs.KeptWalks.{IsInSlot}
 use Rattle.mt_descent.proofs.Looks.{no_other}
-use Rattle.mt_insert.specs.KeptPuts.{HoldsBorder}
+use Rattle.mt_held.specs.Holds.{HoldsBorder}
 
 -- some pair is one
 some_pair : (pair : Option Pair) (P : Pair → Type 0) → IsSomeAnd pair P → (p : Pair) × (pair ≡ Some p)

@@ -22,8 +22,7 @@ use Rattle.mt_operation.specs.declared.walk.Walk.{Walk}
 use Rattle.mt_operation.specs.declared.task.Task.{Task}
 use Rattle.mt_operation.specs.declared.prepared.Prepared.{Prepared}
 use Rattle.mt_operation.specs.declared.removal.Removal.{Removal}
-use Rattle.mt_insert.proofs.Rely.{held, open_here}
-use Rattle.mt_insert.proofs.SplitRely.{through_stays, untouched, held_stays, return_stays}
+use Rattle.mt_held.proofs.Rely.{held, open_here, through_stays, untouched, held_stays, return_stays}
 use Rattle.mt_remove.specs.KeptRemovals.{HoldsRemoval, IsAtDropKey, IsOurs, IsLowerRoot, IsRemoving, HoldsEmpty, HoldsLeft, HoldsAbove, IsNamedBy, KeptRemoval, IsCleaning}
 
 -- two children stay beside each other

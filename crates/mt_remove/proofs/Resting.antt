@@ -11,7 +11,7 @@ use Rattle.mt_operation.specs.declared.phase.Phase.TheVariants.{Collapse, Unlock
 use Rattle.mt_operation.specs.declared.walk.Walk.{Walk}
 use Rattle.mt_operation.specs.declared.removal.Removal.{Removal}
 use Rattle.mt_remove.specs.KeptRemovals.{IsOurs, IsRemoving, HoldsAbove, KeptRemoval}
-use Rattle.mt_insert.specs.SplitEdits.{walk_at}
+use Rattle.mt_held.specs.Moves.{walk_at}
 use Rattle.mt_remove.specs.RemovalEdits.{for_rest}
 
 -- a list of one, by its only element

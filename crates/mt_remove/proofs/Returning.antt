@@ -8,9 +8,9 @@ use Rattle.mt_arena.specs.Arena.{ArenaView, IsArena, Guarantee}
 use Rattle.mt_arena.specs.Accesses.{at}
 use Rattle.mt_operation.specs.declared.walk.Walk.{Walk}
 use Rattle.mt_operation.specs.declared.removal.Removal.{Removal}
-use Rattle.mt_insert.specs.KeptSplits.{MayReturn}
-use Rattle.mt_insert.specs.Unlock.{given_back}
-use Rattle.mt_insert.proofs.Unlocking.{GivesBack, back_none, back_more, returns_still, step_back, nodes_on}
+use Rattle.mt_held.specs.Holds.{MayReturn}
+use Rattle.mt_held.specs.Moves.{given_back}
+use Rattle.mt_held.proofs.GivingBack.{GivesBack, back_none, back_more, returns_still, step_back, nodes_on}
 use Rattle.mt_remove.specs.KeptRemovals.{IsAmong, IsAtUnlockRemoval}
 use Rattle.mt_remove.specs.RemovalEdits.{ReturnsRemoval}
 

@@ -22,7 +22,7 @@ use Rattle.mt_operation.specs.declared.phase.Phase.{Phase}
 use Rattle.mt_operation.specs.declared.walk.Walk.{Walk}
 use Rattle.mt_operation.specs.declared.removal.Removal.{Removal}
 use Rattle.mt_remove.specs.KeptRemovals.{HoldsRemoval, IsLowerRoot, IsRemoving, HoldsAbove, IsNamedBy, IsOurs, IsAtUnlink, KeptRemoval}
-use Rattle.mt_insert.specs.SplitEdits.{walk_at}
+use Rattle.mt_held.specs.Moves.{walk_at}
 use Rattle.mt_remove.specs.RemovalEdits.{after_unlink}
 use Rattle.mt_remove.proofs.Resting.{rest_kept}
 

@@ -13,7 +13,7 @@ use Rattle.mt_operation.specs.declared.walk.Walk.{Walk}
 use Rattle.mt_operation.specs.declared.removal.Removal.{Removal}
 use Rattle.mt_descent.specs.KeptWalks.{IsInSlot}
 use Rattle.mt_descent.specs.WalkMoves.{KeepsPairs}
-use Rattle.mt_insert.specs.SplitEdits.{walk_at}
+use Rattle.mt_held.specs.Moves.{walk_at}
 use Rattle.mt_remove.specs.KeptRemovals.{HoldsRemoval, KeptRemoval}
 use Rattle.mt_remove.specs.RemovalEdits.{with_lock, root_of, GoesOnEmptied}
 

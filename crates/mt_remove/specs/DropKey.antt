@@ -16,8 +16,8 @@ use Rattle.mt_operation.specs.declared.task.Task.{Task}
 use Rattle.mt_operation.specs.declared.walk.Walk.{Walk}
 use Rattle.mt_operation.specs.declared.removal.Removal.{Removal}
 use Rattle.mt_descent.specs.WalkMoves.{Continues}
-use Rattle.mt_insert.specs.Placing.{pushed}
-use Rattle.mt_insert.specs.KeptPuts.{HoldsOnly}
+use Rattle.mt_held.specs.Taping.{pushed}
+use Rattle.mt_held.specs.Holds.{HoldsOnly}
 use Rattle.mt_remove.specs.Writes.{removal_over}
 use Rattle.mt_remove.specs.KeptRemovals.{KeptRemoval}
 use Rattle.mt_remove.specs.RemovalEdits.{GoesOnEmptied}

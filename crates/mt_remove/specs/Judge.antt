@@ -14,9 +14,8 @@ use Rattle.mt_operation.specs.declared.task.Task.{Task}
 use Rattle.mt_operation.specs.declared.walk.Walk.{Walk}
 use Rattle.mt_descent.specs.KeptWalks.{IsInSlot}
 use Rattle.mt_descent.specs.WalkMoves.{FindsIn, KeepsPairs}
-use Rattle.mt_insert.specs.Judge.{MeetsLink}
-use Rattle.mt_insert.specs.Placing.{reserving}
-use Rattle.mt_insert.specs.Unlock.{IsUnlock}
+use Rattle.mt_held.specs.Unlock.{MeetsLink, IsUnlock}
+use Rattle.mt_held.specs.Taping.{reserving}
 use Rattle.mt_remove.specs.KeptRemovals.{IsAtDropKey}
 use Rattle.mt_remove.specs.declared.phases.judge.Looked.{Looked}
 use Rattle.mt_remove.specs.declared.phases.judge.Looked.TheVariants.{Ready, GoesOn, Absent, NoMemory}

@@ -18,8 +18,7 @@ use Rattle.mt_operation.specs.declared.task.Task.{Task}
 use Rattle.mt_operation.specs.declared.prepared.Prepared.{Prepared}
 use Rattle.mt_operation.specs.declared.removal.Removal.{Removal}
 use Rattle.mt_descent.specs.KeptWalks.{GoesThrough, IsInSlot}
-use Rattle.mt_insert.specs.KeptPuts.{HoldsBorder}
-use Rattle.mt_insert.specs.KeptSplits.{MayReturn}
+use Rattle.mt_held.specs.Holds.{HoldsBorder, MayReturn}
 use Rattle.mt_remove.specs.Writes.{IsReady}
 
 -- the nodes that a removal holds

@@ -9,7 +9,7 @@ use Rattle.mt_operation.specs.declared.phase.Phase.{Phase}
 use Rattle.mt_operation.specs.declared.phase.Phase.TheVariants.{Unlock, FixNext, Collapse, LockPrev}
 use Rattle.mt_operation.specs.declared.walk.Walk.{Walk}
 use Rattle.mt_operation.specs.declared.removal.Removal.{Removal}
-use Rattle.mt_insert.specs.SplitEdits.{walk_at}
+use Rattle.mt_held.specs.Moves.{walk_at}
 use Rattle.mt_remove.specs.KeptRemovals.{IsAmong}
 
 -- the arena with the lock of a node taken

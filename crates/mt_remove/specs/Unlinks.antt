@@ -11,7 +11,7 @@ use Rattle.mt_operation.specs.declared.phase.Phase.TheVariants.{LockPrev, LockAb
 use Rattle.mt_operation.specs.declared.walk.Walk.{Walk}
 use Rattle.mt_operation.specs.declared.removal.Removal.{Removal}
 use Rattle.mt_descent.specs.WalkMoves.{KeepsPairs}
-use Rattle.mt_insert.specs.SplitEdits.{walk_at, with_named_previous}
+use Rattle.mt_held.specs.Moves.{walk_at, with_named_previous}
 use Rattle.mt_remove.specs.KeptRemovals.{HoldsRemoval, KeptRemoval}
 use Rattle.mt_remove.specs.RemovalEdits.{with_lock, for_rest, after_unlink}
 

@@ -8,7 +8,7 @@ use Rattle.mt_operation.specs.declared.walk.Walk.{Walk}
 use Rattle.mt_operation.specs.declared.removal.Removal.{Removal}
 use Rattle.mt_descent.specs.KeptWalks.{IsAtEnter, HoldsNothing}
 use Rattle.mt_descent.specs.WalkMoves.{KeepsPairs, walk_into}
-use Rattle.mt_insert.specs.Unlock.{walk_done}
+use Rattle.mt_held.specs.Moves.{walk_done}
 use Rattle.mt_remove.specs.KeptRemovals.{HoldsRemoval, IsAtUnlockRemoval, IsCleaning}
 use Rattle.mt_remove.specs.RemovalEdits.{ReturnsRemoval, root_of}
 

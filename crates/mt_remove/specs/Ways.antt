@@ -11,9 +11,8 @@ use Rattle.mt_operation.specs.declared.walk.Walk.{Walk}
 use Rattle.mt_operation.specs.declared.removal.Removal.{Removal}
 use Rattle.mt_descent.specs.KeptWalks.{IsInSlot}
 use Rattle.mt_descent.specs.WalkMoves.{IsLock}
-use Rattle.mt_insert.specs.Judge.{MeetsLink}
-use Rattle.mt_insert.specs.SplitEdits.{walk_at}
-use Rattle.mt_insert.specs.Unlock.{IsUnlock}
+use Rattle.mt_held.specs.Unlock.{MeetsLink, IsUnlock}
+use Rattle.mt_held.specs.Moves.{walk_at}
 use Rattle.mt_remove.specs.KeptRemovals.{IsAtCleanLayer}
 
 -- the tree is of the layer just below this one

@@ -1,6 +1,6 @@
 //! What comes next once a slot was taken out of a border node.
 
-ghost use Rattle.std.specs.Prelude.{◌≡◌, ◌<◌, ℕ, length, false, true, [], Some};
+ghost use Rattle.std.specs.Prelude.{◌≡◌, ◌<◌, length, false, true, [], Some};
 ghost use Rattle.mt_arena.specs.Accesses.{at};
 ghost use Rattle.mt_remove.specs.RemovalEdits.{IsToUnlink, GoesOnEmptied};
 

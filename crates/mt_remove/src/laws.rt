@@ -1,6 +1,6 @@
 //! What is kept of a removal stays under the steps of all others. Contracts alone: no code runs.
 
-ghost use Rattle.std.specs.Prelude.{◌≡◌, ◌≢◌, ℕ};
+ghost use Rattle.std.specs.Prelude.{◌≢◌, ℕ};
 ghost use Rattle.mt_rows.specs.Rows.{Bytes};
 ghost use Rattle.mt_arena.specs.Arena.{ArenaView, Guarantee};
 ghost use Rattle.mt_operation.specs.declared.phase.Phase.{Phase};

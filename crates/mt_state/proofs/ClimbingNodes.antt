@@ -9,7 +9,8 @@ use Rattle.mt_arena.specs.Several.{with_parts, with_right, with_root}
 use Rattle.mt_arena.specs.Splits.{exact, inner_left, inner_right, with_child}
 use Rattle.mt_arena.specs.declared.tree.Tree.{Tree}
 use Rattle.mt_state.proofs.Climbing.{IsBare, LeavesNodes, Stays, each_pushed, each_set, leaves_set, pushed_at, stays_same}
-use Rattle.mt_insert.specs.SplitEdits.{after_reparent, for_parent, walk_at, with_parent}
+use Rattle.mt_insert.specs.SplitEdits.{after_reparent, for_parent, with_parent}
+use Rattle.mt_held.specs.Moves.{walk_at}
 use Rattle.mt_insert.specs.KeptSplits.{HasSplits, IsAtInsertChild, IsAtInteriorSplit, IsAtLockParent, IsAtRootGrow, IsAtSplitPrev, KeptSplit, last_of}
 use Rattle.mt_operation.specs.Phases.{IsClimb, MayFollow}
 use Rattle.mt_operation.specs.declared.phase.Phase.TheVariants.{InsertChild, InteriorSplit, LockParent, Reparent, RootGrow, SplitPrev, Unlock}

@@ -3,14 +3,12 @@ use Rattle.std.proofs.Common.{◌≡◌, ◌≢◌, ℕ, zero, suc, ◌+◌, ◌
 use Rattle.std.proofs.lemmas.Bool.{ne_eqb}
 use Rattle.std.proofs.lemmas.Option.{same_Some}
 use Rattle.mt_rows.specs.declared.tenants.Account.{Account}
-use Rattle.mt_rows.specs.declared.reply.Reply.TheVariants.{Absent}
+use Rattle.mt_rows.specs.declared.reply.Reply.TheVariants.{Absent, Found, NoMemory}
 use Rattle.mt_rows.specs.Accounts.{Accounts, account_of}
-use Rattle.mt_rows.specs.Maps.{reply_of}
+use Rattle.mt_rows.specs.Maps.{reply_of, is_get}
 use Rattle.mt_rows.specs.Tenants.{tenant_map}
 use Rattle.mt_rows.specs.declared.reply.Reply.{Reply}
-use Rattle.mt_rows.specs.declared.reply.Reply.TheVariants.{Found, NoMemory}
 use Rattle.mt_rows.specs.Rows.{Columns}
-use Rattle.mt_rows.specs.Maps.{is_get}
 use Rattle.mt_runs.specs.Runs.{Asked, story_of, first_of}
 use Rattle.mt_runs.specs.WrongRuns.{key_k, get_k}
 use Rattle.mt_slices.specs.Keys.{stored_key}

@@ -22,7 +22,7 @@ use Rattle.mt_operation.specs.declared.outcome.Outcome.{Outcome}
 use Rattle.mt_operation.specs.Operations.{SplitsView}
 use Rattle.mt_operation.specs.Phases.{IsLayerPhase, MayFollow}
 use Rattle.mt_descent.specs.WalkMoves.{Continues}
-use Rattle.mt_insert.specs.KeptPuts.{HoldsOnly}
+use Rattle.mt_held.specs.Holds.{HoldsOnly}
 use Rattle.mt_insert.proofs.InsertingChildren.{at_p}
 use Rattle.mt_layer.specs.KeptLayers.{KeptLayer}
 use Rattle.mt_layer.specs.NewLayers.{KeepsStamps, entry_below, walk_at}

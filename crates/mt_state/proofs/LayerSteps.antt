@@ -27,7 +27,8 @@ use Rattle.mt_operation.specs.Tasks.{ask}
 use Rattle.mt_remove.specs.Writes.{is_remove}
 use Rattle.mt_operation.specs.Tables.{op_at as operation_at}
 use Rattle.mt_descent.specs.KeptWalks.{IsAtEnter, KeptAt}
-use Rattle.mt_insert.specs.KeptPuts.{IsAtMakeLayer, HoldsOnly}
+use Rattle.mt_insert.specs.KeptPuts.{IsAtMakeLayer}
+use Rattle.mt_held.specs.Holds.{HoldsOnly}
 use Rattle.mt_layer.specs.KeptLayers.{KeptLayer}
 use Rattle.mt_layer.specs.NewLayers.{HasStamp}
 use Rattle.mt_state.specs.Views.{StateView, Core, shown, past_of, map_of}
@@ -43,8 +44,8 @@ use Rattle.mt_state.proofs.Still.{IsUnready, floor_made, leaves_all, unready_non
 use Rattle.mt_state.proofs.Reading.{walk_same}
 use Rattle.mt_state.proofs.OneNode.{counted_unlocked, counted_later, replaced_at, replaced_touches, replaced_leaves, quiet_grows, holds_here, quiet_gives, border_alone}
 use Rattle.mt_descent.specs.WalkMoves.{KeepsPairs}
-use Rattle.mt_insert.specs.Judge.{MeetsOther, MeetsLink}
-use Rattle.mt_insert.specs.Unlock.{IsUnlock}
+use Rattle.mt_insert.specs.Judge.{MeetsOther}
+use Rattle.mt_held.specs.Unlock.{MeetsLink, IsUnlock}
 use Rattle.mt_layer.specs.Builds.{IsLayerFrom, IsLeave}
 use Rattle.mt_state.proofs.LayerNodes.{BuildsLayer, builds_by}
 use Rattle.mt_operation.specs.Phases as kinds

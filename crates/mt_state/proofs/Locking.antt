@@ -3,6 +3,7 @@ use Rattle.std.proofs.Common.{◌≡◌, ◌≢◌, ℕ, zero, suc, ◌+◌, ◌
 use Rattle.std.specs.Prelude.{◌^◌}
 use Rattle.std.proofs.lemmas.Bool.{cases_lt}
 use Rattle.std.specs.FinMap.{get, len}
+use Rattle.mt_version.specs.Changes.{CanUnlock}
 use Rattle.mt_rows.specs.declared.reply.Reply.TheVariants.{NoMemory, Full}
 use Rattle.mt_rows.specs.declared.tenants.Account.{Account}
 use Rattle.mt_rows.specs.Accounts.{Accounts, account_of, HasRoom}
@@ -30,11 +31,12 @@ use Rattle.mt_operation.specs.Tables.{Table, op_at as operation_at}
 use Rattle.mt_descent.specs.KeptWalks.{IsAtBorder, KeptAt, IsKept}
 use Rattle.mt_descent.specs.WalkMoves.{after_change, IsLock}
 use Rattle.mt_insert.specs.Puts.{IsPut, is_put}
-use Rattle.mt_insert.specs.KeptPuts.{HoldsBorder, KeptReady, IsAtUnlock, HoldsOnly}
-use Rattle.mt_insert.specs.Placing.{released, reserving}
+use Rattle.mt_held.specs.Holds.{HoldsBorder, IsAtUnlock, HoldsOnly}
+use Rattle.mt_insert.specs.KeptPuts.{KeptReady}
+use Rattle.mt_held.specs.Taping.{released, reserving}
 use Rattle.mt_insert.specs.Judge.{after_judge, IsMadeReady}
-use Rattle.mt_insert.specs.Unlock.{IsUnlock}
-use Rattle.mt_insert.proofs.Looks.{held_here}
+use Rattle.mt_held.specs.Unlock.{IsUnlock}
+use Rattle.mt_held.proofs.Looks.{held_here}
 use Rattle.mt_state.specs.Views.{StateView, Core, shown, past_of, quota_of, quota_in, map_of}
 use Rattle.mt_state.specs.Steps.{told_change}
 use Rattle.mt_state.specs.Notes.{Notes, EndsJudging}
@@ -50,7 +52,7 @@ use Rattle.mt_state.proofs.Quiet.{LeavesPairs}
 use Rattle.mt_state.proofs.Moved.{went, first_same, first_begun, first_upto}
 use Rattle.mt_state.proofs.Still.{IsFree, still, still_gives, leaves_all, unready_none}
 use Rattle.mt_state.proofs.Reading.{kept_on_way, on_way_unready, on_way_open, walk_same, keeps_on}
-use Rattle.mt_state.proofs.OneNode.{stepped, returning_told, counted_unlocked, replaced_at, replaced_holds, replaced_touches, replaced_leaves, quiet_grows, holds_here, quiet_gives, border_alone}
+use Rattle.mt_state.proofs.OneNode.{stepped, returning_told, can_unlock, counted_unlocked, replaced_at, replaced_holds, replaced_touches, replaced_leaves, quiet_grows, holds_here, quiet_gives, border_alone}
 use Rattle.mt_insert.specs.Publish.{IsPublishFull}
 use Rattle.mt_state.proofs.Bound.{bound_on, put_no_remove}
 use Rattle.mt_remove.specs.Writes.{is_remove}
@@ -72,6 +74,10 @@ pub room_for : (c : Core) → StateInvariant c → (o : ℕ) (op : Operation) (p
     → is_prepared p ≡ true → 0 < c.tape.reserved
 room_for c h o op p there is ready =
     let counted = counted_there c.table o op there in let one = ready_one op p is ready in let all = h.reserved in omega (arith, counted, one, all)
+
+-- the lock is given back by a version with as many counts as steps at most
+pub may_unlock : (c : Core) → StateInvariant c → (k : ℕ) → k < length c.arena.nodes → CanUnlock (at c.arena k).version
+may_unlock c h k within = can_unlock (at c.arena k) c.steps (h.versions k within) h.few
 
 module _ (c : Core) (now : StateView) (o : ℕ) (is : shown c ≡ now) (h : StateInvariant c) (room : now.steps < 2 ^ 59) (op : Operation) (there : operation_at c.table o ≡ Some op) where
   abbrev k : ℕ

@@ -1,8 +1,10 @@
 -- What the calls of a put's phases ask, by the invariant: for `State::lock`, `judge`, `store`, `publish` and `unlock`, and
 -- for those that make a layer.
-use Rattle.std.proofs.Common.{◌≡◌, ◌≢◌, ℕ, ◌<◌, Bool, true, false, List, [], Option, Some, None, IsSome, is_some, refl, sym, ap, subst, ◌∙◌, arith, inl, inr, nat_cmp, length}
+use Rattle.std.proofs.Common.{◌≡◌, ◌≢◌, ℕ, ◌+◌, ◌<◌, Bool, true, false, List, [], Option, Some, None, IsSome, is_some, refl, sym, ap, subst, ◌∙◌, arith, inl, inr, nat_cmp, length}
 use Rattle.std.proofs.lemmas.Option.{same_Some, none-some}
+use Rattle.mt_version.specs.Changes.{CanUnlock}
 use Rattle.mt_rows.specs.Maps.{Map}
+use Rattle.mt_tape.specs.Tapes.{last_write}
 use Rattle.mt_arena.specs.Accesses.{at, tree_of}
 use Rattle.mt_operation.specs.declared.phase.Phase.{Phase}
 use Rattle.mt_operation.specs.declared.phase.Phase.TheVariants.{Lock, Judge, Store, Publish, Unlock, Done, DropKey}
@@ -16,14 +18,15 @@ use Rattle.mt_operation.specs.Phases.{is_done, IsLayerPhase, is_prepared, IsLaye
 use Rattle.mt_operation.specs.Tables.{op_at as operation_at}
 use Rattle.mt_descent.specs.KeptWalks.{IsAtBorder, KeptAt, HoldsNothing}
 use Rattle.mt_insert.specs.Puts.{IsPut, is_put}
-use Rattle.mt_insert.specs.KeptPuts.{HoldsBorder, IsAtStore, IsAtPublish, IsAtUnlock}
+use Rattle.mt_held.specs.Holds.{HoldsBorder, IsAtUnlock}
+use Rattle.mt_insert.specs.KeptPuts.{IsAtStore, IsAtPublish}
 use Rattle.mt_layer.specs.KeptLayers.{IsAtLeave, KeptLayer}
 use Rattle.mt_state.specs.Views.{Core, shown, past_of}
 use Rattle.mt_state.specs.Promises.{IsInTheWay, IsHeldByOther, HasStep}
 use Rattle.mt_state.specs.KeptOperations.{IsOpenOperation, IsOnItsWay, IsJudging, IsStoring, IsPublishing, MayUnlock, IsUnlocking, IsLayering, IsLeaving, IsReturning, IsKeptAt, IsKeptFor, IsWritingAt, MayUnlockUnsplit, IsDropping}
 use Rattle.mt_state.specs.Invariant.{HoldsAt, StateInvariant}
 use Rattle.mt_state.proofs.Shown.{shown_there}
-use Rattle.mt_state.proofs.Locking.{room_for}
+use Rattle.mt_state.proofs.Locking.{may_unlock, room_for}
 use Rattle.mt_operation.specs.Phases as kinds
 use Rattle.mt_remove.specs.Writes.{is_remove, IsRemoval}
 use Rattle.std.specs.FinMap.{get, len, empty_of_len, get-empty}
@@ -41,8 +44,8 @@ use Rattle.mt_arena.specs.Forests.{layer_of}
 use Rattle.mt_operation.specs.declared.task.Request.{Request}
 use Rattle.mt_operation.specs.declared.task.Request.TheVariants.{Get as GetOf, Put as PutOf, Remove as RemoveOf, Scan as ScanOf}
 use Rattle.mt_operation.specs.declared.removal.Removal.{Removal}
-use Rattle.mt_insert.proofs.Places.{may_store}
-use Rattle.mt_remove.specs.KeptRemovals.{IsAtDropKey, IsUnburdened, KeptRemoval, HoldsRemoval, IsAtUnlockRemoval, IsCleaning}
+use Rattle.mt_held.proofs.Places.{may_store}
+use Rattle.mt_remove.specs.KeptRemovals.{IsAtDropKey, IsUnburdened, KeptRemoval, HoldsRemoval, IsAtUnlockRemoval, IsCleaning, IsAmong as IsOfRemoval}
 use Rattle.mt_state.proofs.Loading.{row_of}
 use Rattle.mt_state.proofs.RemovalSteps.{unlinking_of, removal_holds}
 use Rattle.mt_state.proofs.RemovalLooks.{going_back}
@@ -58,7 +61,7 @@ IsOfPutKind _ = ⊥
 abbrev pub IsOfPut : Phase → Type 0
 IsOfPut p = IsOfPutKind (row p).kind
 
-writing_put : (p : Phase) (c : Core) (o : ℕ) (op : Operation) → IsWritingAt p c o op → is_put (ask op.task) ≡ true
+pub writing_put : (p : Phase) (c : Core) (o : ℕ) (op : Operation) → IsWritingAt p c o op → is_put (ask op.task) ≡ true
 writing_put Store c o op k = k.put
 writing_put _ c o op k = k.put
 
@@ -109,6 +112,10 @@ module _ (c : Core) (o : ℕ) (h : StateInvariant c) (op : Operation) (there : o
     put_is = kept_put (row p).kind p of_put c o op (subst (λ (q : Phase). IsKeptAt q c o op) at_p (h.ops o op there).kept);
     owner = always.owner (put_no_scan (ask op.task) (kept_put (row p).kind p of_put c o op (subst (λ (q : Phase). IsKeptAt q c o op) at_p (h.ops o op there).kept)));
   }
+
+  -- the next step is later than all writes
+  pub step_later : last_write c.tape < c.steps + 1
+  step_later = omega (arith, h.tape.made)
 
   -- it stands at a border node, and holds nothing
   pub lock_kept : op.walk.phase ≡ Lock → IsAtBorder c.arena op.task.key op.walk
@@ -171,6 +178,10 @@ module _ (c : Core) (o : ℕ) (h : StateInvariant c) (op : Operation) (there : o
       let both : MayUnlock [] c.arena o op = subst (λ (halves : List Halves). MayUnlock halves c.arena o op) none (unlocking op.outcome told c o op (returning at_unlock)).unlocks in
       subst (λ (removes : Bool). MayUnlockUnsplit removes c.arena o op) puts both.0
 
+  pub unlock_room : op.walk.phase ≡ Unlock → is_remove (ask op.task) ≡ false → op.outcome ≢ None → op.splits.halves.items ≡ []
+      → CanUnlock (at c.arena op.walk.place.node).version
+  unlock_room at_unlock puts told none = may_unlock c h op.walk.place.node (unlock_kept at_unlock puts told none).held.there
+
   -- what is kept of one that makes a layer
   pub layer_kept : (p : Phase) → op.walk.phase ≡ p → IsLayerPhase p → KeptLayer p c.arena o op.task.key op.walk
   layer_kept p at_p makes = (layering p makes c o op (subst (λ (q : Phase). IsKeptAt q c o op) at_p (h.ops o op there).kept)).makes
@@ -179,6 +190,9 @@ module _ (c : Core) (o : ℕ) (h : StateInvariant c) (op : Operation) (there : o
   pub leave_kept : op.walk.phase ≡ Unlock → op.outcome ≡ None → IsAtLeave c.arena o op.task.key op.walk
   leave_kept at_unlock untold =
       let k : IsLeaving c o op = subst (λ (told : Option Outcome). IsReturning told c o op) untold (returning at_unlock) in k.layering.makes
+
+  pub leave_room : op.walk.phase ≡ Unlock → op.outcome ≡ None → CanUnlock (at c.arena op.walk.place.node).version
+  leave_room at_unlock untold = may_unlock c h op.walk.place.node (leave_kept at_unlock untold).unlock.held.there
 
   -- what an operation that removes asks
   pub removal_of : is_remove (ask op.task) ≡ true → IsRemoval op.task
@@ -240,6 +254,17 @@ module _ (c : Core) (o : ℕ) (h : StateInvariant c) (op : Operation) (there : o
   removal_unlock_kept at_unlock removes told none =
       let both : MayUnlock [] c.arena o op = subst (λ (halves : List Halves). MayUnlock halves c.arena o op) none (unlocking op.outcome told c o op (returning at_unlock)).unlocks in
       subst (λ (b : Bool). MayUnlockUnsplit b c.arena o op) removes both.0
+
+  pub removal_unlock_room : op.walk.phase ≡ Unlock → is_remove (ask op.task) ≡ true → op.outcome ≢ None → op.splits.halves.items ≡ []
+      → (k : ℕ) → IsOfRemoval op.walk op.removal k → CanUnlock (at c.arena k).version
+  removal_unlock_room at_unlock removes told none k among =
+      let u = removal_unlock_kept at_unlock removes told none in
+      elim among [
+        | inl node ↦ may_unlock c h k (subst (λ i. i < length c.arena.nodes) (sym node) u.node.returns.held.there)
+        | inr (inl left) ↦ may_unlock c h k (u.left k left).0.returns.held.there
+        | inr (inr (inl parent)) ↦ may_unlock c h k (u.parent k parent).returns.held.there
+        | inr (inr (inr below)) ↦ may_unlock c h k (u.removes.below k below).returns.held.there
+      ]
 
   -- on its way back it goes to take out a link
   pub lock_cleans : op.walk.phase ≡ Lock → op.outcome ≢ None → IsCleaning c.arena op.task.key op.removal

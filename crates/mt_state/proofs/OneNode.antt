@@ -5,7 +5,7 @@ use Rattle.std.proofs.lemmas.Bool.{cases_eq}
 use Rattle.std.proofs.lemmas.Option.{same_Some}
 use Rattle.std.proofs.lemmas.List.{length-set}
 use Rattle.mt_version.specs.Parts.{Parts}
-use Rattle.mt_version.specs.Changes.{unlocked_parts}
+use Rattle.mt_version.specs.Changes.{CanUnlock, unlocked_parts}
 use Rattle.mt_rows.specs.Tenants.{Contents, tenant_map}
 use Rattle.mt_rows.specs.Accounts.{Accounts}
 use Rattle.mt_tape.specs.Tapes.{Kept}
@@ -56,7 +56,10 @@ stepped c arena tape accounts o after = record {
   table = set c.table o (Some after);
 }
 
--- what a version counts once its lock is given back
+-- a version whose lock may be given back after so many steps, and what it counts then
+pub can_unlock : (n : NodeView) (steps : ℕ) → IsCountedUpTo steps n → steps ≤ 2 ^ 59 → CanUnlock n.version
+can_unlock n steps counted few = (λ _. omega (arith, counted.splits, few), λ _ _. omega (arith, counted.inserts, few))
+
 pub counted_unlocked : (n : NodeView) (steps : ℕ) → IsCountedUpTo steps n → (m : NodeView) → m.version ≡ unlocked_parts n.version → IsCountedUpTo (steps + 1) m
 counted_unlocked n steps counted m is = record {
   inserts = subst (λ (p : Parts). p.inserts ≤ steps + 1) (sym is) (one_more_at_most n.version.splitting n.version.inserting n.version.inserts counted.inserts);

@@ -41,7 +41,8 @@ use Rattle.mt_operation.specs.Operations.{view_of}
 use Rattle.mt_operation.specs.Phases.{is_done, MayFollow, IsOfKind}
 use Rattle.mt_operation.specs.Tables.{op_at as operation_at}
 use Rattle.mt_insert.specs.Puts.{IsPut, row_over}
-use Rattle.mt_insert.specs.Placing.{entry_of, pushed, released}
+use Rattle.mt_insert.specs.Placing.{entry_of}
+use Rattle.mt_held.specs.Taping.{pushed, released}
 use Rattle.mt_insert.specs.KeptSplits.{last_of, HoldsSplits}
 use Rattle.mt_insert.specs.SplitMove.{after_parting, PartsKeys, IsSplitMove, IsSplitMoveFull}
 use Rattle.mt_insert.proofs.PartingKeys.{may_place}

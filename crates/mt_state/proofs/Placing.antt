@@ -25,7 +25,7 @@ use Rattle.mt_operation.specs.Operations.{view_of}
 use Rattle.mt_operation.specs.Phases.{is_done}
 use Rattle.mt_operation.specs.Tables.{op_at as operation_at}
 use Rattle.mt_insert.specs.Puts.{IsPut, row_over, write_of}
-use Rattle.mt_insert.specs.Placing.{pushed}
+use Rattle.mt_held.specs.Taping.{pushed}
 use Rattle.mt_state.specs.Views.{Core, shown, map_of, quota_of, granted_in, KeepsPast}
 use Rattle.mt_state.specs.Notes.{key_asked}
 use Rattle.mt_state.specs.Promises.{IsPlacing, IsAnswer}

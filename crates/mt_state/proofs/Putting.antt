@@ -53,9 +53,12 @@ use Rattle.mt_operation.specs.Phases.{is_done, MayFollow, IsOfKind, has_splits, 
 use Rattle.mt_operation.specs.Tables.{op_at as operation_at}
 use Rattle.mt_descent.specs.WalkMoves.{Continues}
 use Rattle.mt_insert.specs.Puts.{IsPut, row_over}
-use Rattle.mt_insert.specs.KeptPuts.{HoldsBorder, IsAtUnlock}
-use Rattle.mt_insert.specs.Placing.{walk_placed, entry_of, pushed}
-use Rattle.mt_insert.proofs.Places.{may_store, may_publish}
+use Rattle.mt_held.specs.Holds.{HoldsBorder, IsAtUnlock}
+use Rattle.mt_held.specs.Moves.{walk_placed}
+use Rattle.mt_insert.specs.Placing.{entry_of}
+use Rattle.mt_held.specs.Taping.{pushed}
+use Rattle.mt_held.proofs.Places.{may_store}
+use Rattle.mt_insert.proofs.Places.{may_publish}
 use Rattle.mt_state.specs.Views.{StateView, Core, shown, quota_of, quota_in, granted_in}
 use Rattle.mt_state.specs.Notes.{Notes}
 use Rattle.mt_state.specs.KeptOperations.{IsOpenOperation, IsStoring, IsPublishing, MayUnlock, IsUnlocking, IsKeptAt, IsPlacedOnce, IsKeptOf, MayUnlockUnsplit}

@@ -23,6 +23,7 @@ use Rattle.mt_stretches.specs.Scanned.{HasSeen}
 use Rattle.mt_stretches.proofs.Beginning.{seen_stays}
 use Rattle.mt_state.proofs.ScanKept.{scanned_for_stays}
 use Rattle.mt_scan.proofs.Staying.{check_stays, kept_hop_stays}
+use Rattle.mt_held.proofs.Rely as held
 use Rattle.mt_insert.proofs.Rely as insert
 use Rattle.mt_insert.proofs.SplitRely as splits
 use Rattle.mt_layer.proofs.Rely as layers
@@ -103,7 +104,7 @@ module _ (old new : Core) (o q : ℕ) (arena : IsArena new.arena.nodes new.arena
   -- what it may give back
   unsplit_stays : (removes : Bool) → MayUnlockUnsplit removes old.arena q op → MayUnlockUnsplit removes new.arena q op
   unsplit_stays true h = removals.removal o q old.arena new.arena g.arena other op.task.key op.walk op.removal Unlock h
-  unsplit_stays false h = insert.unlock o q old.arena new.arena g.arena other op.walk h
+  unsplit_stays false h = held.unlock o q old.arena new.arena g.arena other op.walk h
 
   unlocks_stay : (halves : List Halves) → MayUnlock halves old.arena q op → MayUnlock halves new.arena q op
   unlocks_stay [] h = (unsplit_stays (is_remove (ask op.task)) h.0, h.1)
@@ -186,7 +187,7 @@ module _ (old new : Core) (o q : ℕ) (arena : IsArena new.arena.nodes new.arena
   kept_for_stays kinds.Locks p k h = way_stays k h
   kept_for_stays kinds.Reads p k h = reading_stays p k h
   kept_for_stays kinds.Scans p k h = scanning_stays p k h
-  kept_for_stays kinds.Judges p k h = record { judges = insert.held o q old.arena new.arena g.arena other op.task.key op.walk h.judges; bound = bound_stays op.outcome k h.bound; unprepared = h.unprepared }
+  kept_for_stays kinds.Judges p k h = record { judges = held.held o q old.arena new.arena g.arena other op.task.key op.walk h.judges; bound = bound_stays op.outcome k h.bound; unprepared = h.unprepared }
   kept_for_stays kinds.Writes p k h = writing_stays p h
   kept_for_stays kinds.Begins p k h = record {
     prepared = h.prepared;

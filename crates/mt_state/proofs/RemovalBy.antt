@@ -12,7 +12,7 @@ use Rattle.mt_operation.specs.declared.walk.Walk.{Walk}
 use Rattle.mt_operation.specs.declared.removal.Removal.{Removal}
 use Rattle.mt_operation.specs.Phases.{MayFollow, IsRemovalPhase}
 use Rattle.mt_descent.specs.WalkMoves.{KeepsPairs}
-use Rattle.mt_insert.specs.SplitEdits.{walk_at}
+use Rattle.mt_held.specs.Moves.{walk_at}
 use Rattle.mt_remove.specs.KeptRemovals.{HoldsRemoval, KeptRemoval, HoldsEmpty, IsAtLockPrev, IsAtLockAbove, IsAtUnlink, IsAtFixNext, IsAtCollapse, IsAtCleanLayer}
 use Rattle.mt_remove.specs.RemovalEdits.{for_rest, after_unlink, root_of}
 use Rattle.mt_remove.specs.Unlinks.{IsChildBefore, IsLockPrev, IsLockAbove, IsUnlink, IsFixNext, IsCollapse}

@@ -45,8 +45,8 @@ use Rattle.mt_operation.specs.Tasks.{ask}
 use Rattle.mt_operation.specs.Operations.{view_of, IsUnsplit}
 use Rattle.mt_operation.specs.Phases.{is_done, MayFollow, IsOfKind, has_splits, row}
 use Rattle.mt_operation.specs.Tables.{op_at as operation_at}
-use Rattle.mt_insert.specs.Placing.{pushed}
-use Rattle.mt_insert.specs.KeptPuts.{HoldsOnly}
+use Rattle.mt_held.specs.Taping.{pushed}
+use Rattle.mt_held.specs.Holds.{HoldsOnly}
 use Rattle.mt_remove.specs.Writes.{removal_over}
 use Rattle.mt_remove.specs.KeptRemovals.{KeptRemoval}
 use Rattle.mt_remove.specs.DropKey.{IsDropKey}

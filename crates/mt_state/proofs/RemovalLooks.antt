@@ -29,9 +29,9 @@ use Rattle.mt_operation.specs.Operations.{view_of, IsUnsplit, OperationView}
 use Rattle.mt_operation.specs.Phases.{is_done, MayFollow, IsOfKind, has_splits}
 use Rattle.mt_operation.specs.Tables.{op_at as operation_at}
 use Rattle.mt_descent.specs.KeptWalks.{KeptAt, IsAtEnter, IsAtBorder}
-use Rattle.mt_insert.specs.Placing.{reserving}
-use Rattle.mt_insert.specs.KeptPuts.{HoldsOnly}
-use Rattle.mt_insert.specs.SplitEdits.{walk_at}
+use Rattle.mt_held.specs.Taping.{reserving}
+use Rattle.mt_held.specs.Holds.{HoldsOnly}
+use Rattle.mt_held.specs.Moves.{walk_at}
 use Rattle.mt_remove.specs.Writes.{is_remove, IsRemoval}
 use Rattle.mt_remove.specs.KeptRemovals.{IsAmong as IsOfRemoval, HoldsRemoval, IsAtDropKey, IsAtCleanLayer, IsAtUnlockRemoval}
 use Rattle.mt_remove.specs.RemovalEdits.{ReturnsRemoval, root_of}

@@ -26,7 +26,7 @@ use Rattle.mt_operation.specs.Phases.{is_done, MayFollow, IsOfKind, has_splits, 
 use Rattle.mt_operation.specs.Tasks.{ask}
 use Rattle.mt_remove.specs.Writes.{is_remove}
 use Rattle.mt_operation.specs.Tables.{op_at as operation_at}
-use Rattle.mt_insert.specs.Placing.{released}
+use Rattle.mt_held.specs.Taping.{released}
 use Rattle.mt_insert.specs.KeptSplits.{IsAmong, IsAtSplitMove, IsAtUnlockAll, KeptSplit, HoldsSplits}
 use Rattle.mt_insert.specs.Unlock.{Returns, IsUnlockAll}
 use Rattle.mt_state.specs.Views.{StateView, Core, shown, map_of}
@@ -47,8 +47,9 @@ use Rattle.mt_state.proofs.Locking.{ready_one, room_for}
 use Rattle.mt_state.proofs.Growing.{makes_same}
 use Rattle.mt_insert.specs.SplitStart.{IsSplitStart, IsSplitStopped}
 use Rattle.mt_insert.specs.Climbs.{IsClimbFrom}
-use Rattle.mt_insert.specs.KeptPuts.{HoldsOnly, IsAtSplitStart}
-use Rattle.mt_insert.specs.SplitEdits.{walk_at}
+use Rattle.mt_held.specs.Holds.{HoldsOnly}
+use Rattle.mt_insert.specs.KeptPuts.{IsAtSplitStart}
+use Rattle.mt_held.specs.Moves.{walk_at}
 use Rattle.mt_descent.specs.WalkMoves.{Continues}
 use Rattle.mt_state.proofs.Climbing.{LeavesNodes, MovesNoPair, moves_by}
 use Rattle.mt_state.proofs.ClimbingNodes.{climb_leaves, climb_keeps, climb_follows, climb_some, begun_leaves}

@@ -31,7 +31,8 @@ use Rattle.mt_descent.specs.KeptWalks.{HasSlot, IsKept}
 use Rattle.mt_scan.specs.Snaps.{prefix_in}
 use Rattle.mt_scan.specs.Hops.{IsAtCheck, KeptHop}
 use Rattle.mt_stretches.specs.Scanned.{HasScanned, HasSeen}
-use Rattle.mt_insert.specs.KeptPuts.{HoldsBorder, IsAtStore, IsAtPublish, IsAtSplitStart, IsAtUnlock}
+use Rattle.mt_held.specs.Holds.{HoldsBorder, IsAtUnlock}
+use Rattle.mt_insert.specs.KeptPuts.{IsAtStore, IsAtPublish, IsAtSplitStart}
 use Rattle.mt_insert.specs.KeptSplits.{IsAtSplitMove, IsAtUnlockAll, KeptSplit}
 use Rattle.mt_layer.specs.KeptLayers.{KeptLayer}
 use Rattle.mt_remove.specs.Writes.{is_remove}

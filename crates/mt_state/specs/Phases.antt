@@ -30,11 +30,10 @@ use Rattle.mt_descent.specs.WalkMoves.{Verifies, FindsIn, Loads, Confirms, Locks
 use Rattle.mt_scan.specs.Snaps.{prefix_in, AreSettled, IsSnap}
 use Rattle.mt_scan.specs.Checks.{IsUnchanged, IsCheck}
 use Rattle.mt_scan.specs.Hops.{HopsTo}
-use Rattle.mt_insert.specs.Placing.{walk_placed}
+use Rattle.mt_held.specs.Moves.{walk_placed, walk_done, walk_at}
 use Rattle.mt_insert.specs.Judge.{StandsIn, after_judge}
-use Rattle.mt_insert.specs.Unlock.{walk_done}
 use Rattle.mt_insert.specs.KeptSplits.{last_half}
-use Rattle.mt_insert.specs.SplitEdits.{walk_at, for_parent, after_reparent}
+use Rattle.mt_insert.specs.SplitEdits.{for_parent, after_reparent}
 use Rattle.mt_insert.specs.SplitMove.{after_parting}
 use Rattle.mt_layer.specs.NewLayers.{walk_linked}
 use Rattle.mt_state.specs.declared.moves.Move.{Move}

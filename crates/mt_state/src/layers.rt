@@ -16,8 +16,8 @@ ghost use Rattle.mt_operation.specs.Phases.{IsLayerPhase};
 ghost use Rattle.mt_layer.specs.Builds.{IsLayerFrom, IsLeave};
 ghost use Rattle.mt_operation.specs.Tasks.{ask};
 ghost use Rattle.mt_remove.specs.Writes.{is_remove};
-ghost use Rattle.mt_insert.specs.Judge.{MeetsLink, MeetsOther};
-ghost use Rattle.mt_insert.specs.Unlock.{IsUnlock};
+ghost use Rattle.mt_held.specs.Unlock.{MeetsLink, IsUnlock};
+ghost use Rattle.mt_insert.specs.Judge.{MeetsOther};
 
 /// Each phase that makes a layer makes a lawful step, by what its call ensures, and the invariant
 /// stays: where another long key stands in the place of an operation's own; where its layer comes one

@@ -20,7 +20,7 @@ ghost use Rattle.mt_insert.specs.Publish.{IsPublish, IsPublishFull};
 ghost use Rattle.mt_insert.specs.Store.{IsStore};
 ghost use Rattle.mt_insert.specs.Judge.{IsMadeReady};
 ghost use Rattle.mt_descent.specs.WalkMoves.{IsLock};
-ghost use Rattle.mt_insert.specs.Unlock.{IsUnlock};
+ghost use Rattle.mt_held.specs.Unlock.{IsUnlock};
 ghost use Rattle.mt_remove.specs.Writes.{is_remove};
 ghost use Rattle.mt_operation.specs.Tasks.{ask};
 

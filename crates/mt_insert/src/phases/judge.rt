@@ -1,17 +1,17 @@
 //! Judge: looks for the key in the border node that the operation holds, and makes all growths of the
 //! step that places its change.
 
-ghost use Rattle.std.specs.Prelude.{◌≡◌, ◌<◌, ◌==◌, ℕ, if◌then◌else◌, length};
-ghost use Rattle.mt_border.specs.Node.{IsLive, entries_of, entry_at};
+ghost use Rattle.std.specs.Prelude.{◌≡◌, ◌<◌, ◌==◌, if◌then◌else◌, length};
+ghost use Rattle.mt_border.specs.Node.{entries_of};
 ghost use Rattle.mt_arena.specs.Accesses.{at};
 ghost use Rattle.mt_insert.specs.Puts.{IsPut};
-ghost use Rattle.mt_insert.specs.KeptPuts.{HoldsBorder};
+ghost use Rattle.mt_held.specs.Holds.{HoldsBorder};
 ghost use Rattle.mt_insert.specs.Judge.{StandsIn, TellsJudged, after_judge};
 
-use crate::phases::unlock::{go_below, unlock};
-use crate::prepare::{find_here, prepare};
+use crate::prepare::prepare;
 use mt_arena::Arena;
 use mt_border::{Border, Find, FoundKind, Held};
+use mt_held::{find_here, go_below, tree_at, unlock};
 use mt_operation::{Phase, Prepared, Task, Walk};
 use mt_tape::Tape;
 use std::alloc::Global;
@@ -88,18 +88,6 @@ fn make_ready(
             unlock(arena, walk, operation);
             Judged::NoMemory
         }
-    }
-}
-
-/// The tree to which a slot leads, which is a link.
-pub fn tree_at(border: &Border, slot: usize) -> usize
-    requires live { IsLive border.now slot }
-    requires link { (tree : ℕ) × ((entry_at border.now slot).held ≡ Held.Link tree) }
-    ensures { (entry_at border.now slot).held ≡ Held.Link result }
-{
-    match border.load(slot) {
-        Some(Held::Link(tree)) => *tree,
-        _ => unreachable!(),
     }
 }
 

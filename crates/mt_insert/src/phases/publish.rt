@@ -8,13 +8,15 @@ ghost use Rattle.mt_arena.specs.Edits.{with_slots};
 ghost use Rattle.mt_arena.specs.Arena.{Guarantee};
 ghost use Rattle.mt_arena.specs.Accesses.{at, with_node};
 ghost use Rattle.mt_insert.specs.Puts.{IsPut};
-ghost use Rattle.mt_insert.specs.KeptPuts.{IsAtPublish, IsAtUnlock};
-ghost use Rattle.mt_insert.specs.Placing.{walk_placed, entry_of, Places};
+ghost use Rattle.mt_insert.specs.KeptPuts.{IsAtPublish};
+ghost use Rattle.mt_held.specs.Holds.{IsAtUnlock};
+ghost use Rattle.mt_held.specs.Moves.{walk_placed};
+ghost use Rattle.mt_insert.specs.Placing.{entry_of, Places};
 ghost use Rattle.mt_insert.specs.Publish.{TellsPublished};
 
-use crate::phases::store::push_write;
 use mt_arena::Arena;
 use mt_border::{Entry, Held, Pair, Suffix};
+use mt_held::push_write;
 use mt_operation::{Phase, Prepared, Task, Walk};
 use mt_rows::{Row, Tenants};
 use mt_slices::StoredKey;

@@ -15,8 +15,8 @@ ghost use Rattle.mt_insert.specs.SplitMove.{after_parting, TellsSplitMoved};
 
 use crate::halves::last;
 use crate::phases::publish::new_entry;
-use crate::phases::store::push_write;
 use mt_arena::Arena;
+use mt_held::push_write;
 use mt_operation::{Halves, Phase, Prepared, Splits, Task, Walk};
 use mt_rows::Tenants;
 use mt_slices::StoredKey;

@@ -9,8 +9,8 @@ ghost use Rattle.mt_operation.specs.Operations.{IsUnsplit};
 ghost use Rattle.mt_insert.specs.SplitEdits.{Starts, HasOneMore};
 ghost use Rattle.mt_insert.specs.SplitStart.{IsSplitStart, IsSplitStopped};
 
-use crate::phases::unlock::unlock;
 use mt_arena::Arena;
+use mt_held::unlock;
 use mt_operation::{Halves, Phase, Splits, Walk};
 use mt_slices::StoredKey;
 use mt_tape::Tape;

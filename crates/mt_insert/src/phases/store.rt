@@ -1,14 +1,14 @@
 //! Store: writes the row over the one of the key.
 
-ghost use Rattle.std.specs.Prelude.{◌≡◌, ◌<◌};
+ghost use Rattle.std.specs.Prelude.{◌<◌};
 ghost use Rattle.mt_tape.specs.Tapes.{last_write};
 ghost use Rattle.mt_insert.specs.Puts.{IsPut};
 ghost use Rattle.mt_insert.specs.KeptPuts.{IsAtStore};
-ghost use Rattle.mt_insert.specs.Placing.{pushed};
 ghost use Rattle.mt_insert.specs.Store.{IsStore};
 
 use mt_arena::Arena;
 use mt_border::{Entry, Held};
+use mt_held::push_write;
 use mt_operation::{Phase, Prepared, Task, Walk};
 use mt_rows::Row;
 use mt_tape::Tape;
@@ -40,14 +40,4 @@ pub fn store(
     push_write(tape, write, step);
     walk.phase = Phase::Unlock;
     before
-}
-
-/// Puts a write that the step of this number placed on the tape.
-pub fn push_write(tape: &mut Tape, mut write: mt_tape::Entry, step: u64)
-    requires reserved { 0 < tape.old.reserved }
-    requires later { last_write tape.old < step }
-    ensures { tape.new ≡ pushed tape.old (record write { step = step }) }
-{
-    write.step = step;
-    tape.push(write);
 }

@@ -1,38 +1,15 @@
 //! Unlock: gives all locks back.
 
-ghost use Rattle.std.specs.Prelude.{◌≡◌, ◌<◌, ℕ, Some, None};
+ghost use Rattle.std.specs.Prelude.{◌≡◌, ℕ, Some, None};
 ghost use Rattle.mt_version.specs.Changes.{CanUnlock};
 ghost use Rattle.mt_arena.specs.Arena.{content_of, Guarantee};
 ghost use Rattle.mt_arena.specs.Accesses.{at};
-ghost use Rattle.mt_insert.specs.KeptPuts.{IsAtUnlock};
-ghost use Rattle.mt_insert.specs.Unlock.{given_back, Returns, GoesInto, IsUnlock, IsUnlockAll};
+ghost use Rattle.mt_held.specs.Moves.{given_back};
+ghost use Rattle.mt_insert.specs.Unlock.{Returns, IsUnlockAll};
 ghost use Rattle.mt_insert.specs.KeptSplits.{IsAmong, IsAtUnlockAll, MayReturnBoth};
 
 use mt_arena::Arena;
 use mt_operation::{Halves, Phase, Splits, Walk};
-
-/// Gives the lock of the border node back: the walk is done.
-pub fn unlock(arena: &mut Arena, walk: &mut Walk, operation: usize)
-    requires kept { IsAtUnlock arena.old operation walk.old }
-    requires room { CanUnlock (at arena.old walk.old.place.node).version }
-    ensures { IsUnlock operation arena.old arena.new walk.old walk.new }
-{
-    arena.unlock(walk.place.node, operation);
-    walk.phase = Phase::Done;
-}
-
-/// Gives the lock of the border node back, and goes on in this tree of the next layer.
-pub fn go_below(arena: &mut Arena, walk: &mut Walk, tree: usize, operation: usize)
-    requires kept { IsAtUnlock arena.old operation walk.old }
-    requires room { CanUnlock (at arena.old walk.old.place.node).version }
-    requires layer { walk.old.layer < 32 }
-    ensures { GoesInto operation tree arena.old arena.new walk.old walk.new }
-{
-    arena.unlock(walk.place.node, operation);
-    walk.place.tree = tree;
-    walk.layer += 1;
-    walk.phase = Phase::Enter;
-}
 
 /// Gives the locks of all nodes of the splits back: the walk is done.
 pub fn unlock_all(arena: &mut Arena, walk: &mut Walk, splits: &mut Splits, operation: usize)

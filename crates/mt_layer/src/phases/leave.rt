@@ -8,7 +8,7 @@ ghost use Rattle.mt_layer.specs.Builds.{IsLeave};
 
 use crate::phases::link::tree_of;
 use mt_arena::Arena;
-use mt_insert::go_below;
+use mt_held::go_below;
 use mt_operation::{Taken, Walk};
 
 /// Gives the lock of the border node back, and goes on in the tree of the next layer.

@@ -10,11 +10,11 @@ ghost use Rattle.mt_arena.specs.Layering.{prefix_below, with_layer};
 ghost use Rattle.mt_insert.specs.KeptPuts.{IsAtMakeLayer};
 ghost use Rattle.mt_layer.specs.NewLayers.{entry_below};
 ghost use Rattle.mt_layer.specs.Builds.{IsMakeLayer};
-ghost use Rattle.mt_insert.specs.Unlock.{IsUnlock};
+ghost use Rattle.mt_held.specs.Unlock.{IsUnlock};
 
 use crate::below::{entry_below, prefix_below};
 use mt_arena::Arena;
-use mt_insert::unlock;
+use mt_held::unlock;
 use mt_operation::{Phase, Taken, Walk};
 use mt_slices::StoredKey;
 use std::alloc::{AllocError, Global};

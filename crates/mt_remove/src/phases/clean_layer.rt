@@ -13,7 +13,7 @@ ghost use Rattle.mt_remove.specs.CleanLayer.{LeadsTo, IsCleanLayer};
 use crate::emptied::{go_on_emptied, is_empty_border};
 use mt_arena::Arena;
 use mt_border::{Find, FoundKind};
-use mt_insert::{find_here, tree_at};
+use mt_held::{find_here, tree_at};
 use mt_operation::{Phase, Removal, Walk};
 use mt_slices::StoredKey;
 

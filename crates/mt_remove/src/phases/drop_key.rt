@@ -1,6 +1,6 @@
 //! DropKey: takes the key's pair out.
 
-ghost use Rattle.std.specs.Prelude.{◌≡◌, ◌<◌, None};
+ghost use Rattle.std.specs.Prelude.{◌<◌};
 ghost use Rattle.mt_rows.specs.Accounts.{account_of, HasPairs};
 ghost use Rattle.mt_tape.specs.Tapes.{last_write};
 ghost use Rattle.mt_remove.specs.Writes.{IsRemoval};
@@ -9,7 +9,7 @@ ghost use Rattle.mt_remove.specs.DropKey.{IsDropKey};
 
 use crate::emptied::go_on_emptied;
 use mt_arena::Arena;
-use mt_insert::push_write;
+use mt_held::push_write;
 use mt_operation::{Prepared, Removal, Task, Walk};
 use mt_rows::Tenants;
 use mt_tape::Tape;

@@ -1,12 +1,11 @@
 //! Judge on the way to the link of an empty layer: follows links alone.
 
-ghost use Rattle.std.specs.Prelude.{◌≡◌};
-ghost use Rattle.mt_insert.specs.KeptPuts.{HoldsBorder};
+ghost use Rattle.mt_held.specs.Holds.{HoldsBorder};
 ghost use Rattle.mt_remove.specs.Ways.{Follows};
 
 use mt_arena::Arena;
 use mt_border::{Find, FoundKind};
-use mt_insert::{find_here, go_below, tree_at, unlock};
+use mt_held::{find_here, go_below, tree_at, unlock};
 use mt_operation::Walk;
 use mt_slices::StoredKey;
 

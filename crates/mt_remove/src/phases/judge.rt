@@ -9,14 +9,14 @@ ghost use Rattle.mt_border.specs.declared.entry.FoundKind.TheVariants.{ThisKey};
 ghost use Rattle.mt_arena.specs.Accesses.{at};
 ghost use Rattle.mt_arena.specs.Layers.{slot_at};
 ghost use Rattle.mt_descent.specs.KeptWalks.{IsAtBorder, IsInSlot};
-ghost use Rattle.mt_insert.specs.KeptPuts.{HoldsBorder};
-ghost use Rattle.mt_insert.specs.Placing.{reserving};
+ghost use Rattle.mt_held.specs.Holds.{HoldsBorder};
+ghost use Rattle.mt_held.specs.Taping.{reserving};
 ghost use Rattle.mt_remove.specs.Writes.{IsRemoval, ReadyIn};
 ghost use Rattle.mt_remove.specs.Judge.{TellsLooked};
 
 use mt_arena::Arena;
 use mt_border::{Border, Find, FoundKind, Held, Suffix};
-use mt_insert::{find_here, go_below, tree_at, unlock};
+use mt_held::{find_here, go_below, tree_at, unlock};
 use mt_operation::{Phase, Prepared, Task, Walk};
 use mt_rows::Row;
 use mt_tape::{Entry, Tape};

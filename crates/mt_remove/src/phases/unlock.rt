@@ -1,12 +1,12 @@
 //! Unlock: gives all locks of a removal back, and goes on to a layer that it has left empty.
 
-ghost use Rattle.std.specs.Prelude.{◌≡◌, ◌<◌, ℕ, length, true, false, [], Some, None, ◌⊎◌};
+ghost use Rattle.std.specs.Prelude.{◌≡◌, ◌<◌, ℕ, length, true, false, Some, None};
 ghost use Rattle.mt_version.specs.Changes.{CanUnlock};
 ghost use Rattle.mt_rows.specs.Rows.{Bytes};
 ghost use Rattle.mt_arena.specs.Arena.{content_of, Guarantee};
 ghost use Rattle.mt_arena.specs.Accesses.{at};
-ghost use Rattle.mt_insert.specs.KeptSplits.{MayReturn};
-ghost use Rattle.mt_insert.specs.Unlock.{given_back};
+ghost use Rattle.mt_held.specs.Holds.{MayReturn};
+ghost use Rattle.mt_held.specs.Moves.{given_back};
 ghost use Rattle.mt_remove.specs.KeptRemovals.{IsAmong, IsAtUnlockRemoval};
 ghost use Rattle.mt_remove.specs.RemovalEdits.{ReturnsRemoval};
 ghost use Rattle.mt_remove.specs.Unlock.{EmptiesLayer, IsUnlockRemoval};

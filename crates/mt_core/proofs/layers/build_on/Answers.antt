@@ -6,7 +6,7 @@ use Rattle.mt_arena.specs.Arena.{ArenaView}
 use Rattle.mt_operation.specs.declared.phase.Phase.{Phase}
 use Rattle.mt_operation.specs.declared.phase.Phase.TheVariants.{Link, MakeLayer, MarkLayer, MarkUnstable}
 use Rattle.mt_operation.specs.declared.walk.Walk.{Walk}
-use Rattle.mt_insert.specs.Unlock.{IsUnlock}
+use Rattle.mt_held.specs.Unlock.{IsUnlock}
 use Rattle.mt_layer.specs.Builds.{IsLayerFrom, IsMakeLayer}
 use Rattle.mt_core.specs.Layers.{TellsBuilt}
 use Rattle.mt_core.proofs.layers.build_on.Goals as goal

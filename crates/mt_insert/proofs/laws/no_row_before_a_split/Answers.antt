@@ -1,5 +1,5 @@
 -- What the contents have at the key of a put that splits its border node, for the law of it.
-use Rattle.mt_insert.proofs.Places.{none_here}
+use Rattle.mt_held.proofs.Places.{none_here}
 use Rattle.mt_insert.proofs.SplitKeys.{none_in_halves}
 use Rattle.mt_insert.proofs.laws.no_row_before_a_split.Goals as goal
 

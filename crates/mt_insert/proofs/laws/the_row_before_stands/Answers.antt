@@ -10,7 +10,7 @@ use Rattle.mt_operation.specs.declared.walk.Walk.{Walk}
 use Rattle.mt_operation.specs.declared.task.Task.{Task}
 use Rattle.mt_operation.specs.declared.prepared.Prepared.{Prepared}
 use Rattle.mt_insert.specs.KeptPuts.{KeptReady}
-use Rattle.mt_insert.proofs.Places.{row_here, none_here}
+use Rattle.mt_held.proofs.Places.{row_here, none_here}
 use Rattle.mt_insert.proofs.laws.the_row_before_stands.Goals as goal
 
 pub returns-clause-store : goal.returns-clause-store

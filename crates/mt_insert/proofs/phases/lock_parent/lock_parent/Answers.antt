@@ -7,7 +7,8 @@ use Rattle.mt_arena.specs.Accesses.{at}
 use Rattle.mt_operation.specs.declared.phase.Phase.{Phase}
 use Rattle.mt_operation.specs.declared.splits.Halves.{Halves}
 use Rattle.mt_insert.specs.KeptSplits.{last_of}
-use Rattle.mt_insert.specs.SplitEdits.{walk_at, with_parent, for_parent}
+use Rattle.mt_held.specs.Moves.{walk_at}
+use Rattle.mt_insert.specs.SplitEdits.{with_parent, for_parent}
 use Rattle.mt_insert.proofs.LockingParents.{parent_made, another_holds, parent_open, parent_interior_still, phase_same, parent_kept, parent_holds, parent_step}
 use Rattle.mt_insert.proofs.phases.lock_parent.lock_parent.Goals as goal
 

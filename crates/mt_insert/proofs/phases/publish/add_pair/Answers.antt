@@ -2,7 +2,8 @@
 use Rattle.std.proofs.Common.{None, ap, sym, subst}
 use Rattle.mt_border.specs.declared.entry.Entry.{Entry}
 use Rattle.mt_arena.specs.Accesses.{MayPublish}
-use Rattle.mt_insert.proofs.Places.{none_here, may_publish, unlock_published}
+use Rattle.mt_held.proofs.Places.{none_here}
+use Rattle.mt_insert.proofs.Places.{may_publish, unlock_published}
 use Rattle.mt_insert.proofs.Puts.{places}
 use Rattle.mt_insert.proofs.phases.publish.add_pair.Goals as goal
 

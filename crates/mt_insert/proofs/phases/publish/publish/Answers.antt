@@ -1,6 +1,6 @@
 -- What the contents have at the missing key, and that the lock may be given back at the quota too.
 use Rattle.std.proofs.Common.{rules, refl}
-use Rattle.mt_insert.proofs.Places.{none_here, unlock_full}
+use Rattle.mt_held.proofs.Places.{none_here, unlock_full}
 use Rattle.mt_insert.proofs.phases.publish.publish.Goals as goal
 
 pub returns-then-not-count_new : goal.returns-then-not-count_new

@@ -1,5 +1,5 @@
 -- That the node behind may name the right half, and what is kept once it does: only the halves' own next nodes name them as the one before.
-use Rattle.mt_insert.specs.SplitEdits.{with_named_previous}
+use Rattle.mt_held.specs.Moves.{with_named_previous}
 use Rattle.mt_insert.specs.KeptSplits.{last_of}
 use Rattle.std.proofs.lemmas.Option.{same_Some, none-some}
 use Rattle.std.proofs.Common.{◌≡◌, ℕ, Option, ap, sym, ◌∙◌, rules, refl}

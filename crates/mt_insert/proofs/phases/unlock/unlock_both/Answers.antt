@@ -1,6 +1,6 @@
 -- The lock of the second half may be given back after that of the first, and what both leave to others.
 use Rattle.std.proofs.Common.{ap, ◌∙◌}
-use Rattle.mt_insert.specs.Unlock.{given_back}
+use Rattle.mt_held.specs.Moves.{given_back}
 use Rattle.mt_insert.proofs.Unlocking.{right_still, step_both}
 use Rattle.mt_insert.proofs.phases.unlock.unlock_both.Goals as goal
 

@@ -4,7 +4,7 @@ use Rattle.std.specs.Prelude.{None}
 use Rattle.mt_border.specs.declared.entry.Held.TheVariants.{Stable, Unstable}
 use Rattle.mt_arena.specs.Accesses.{at}
 use Rattle.mt_arena.specs.Layering.{with_held}
-use Rattle.mt_insert.proofs.Holders.{only_changed}
+use Rattle.mt_held.proofs.Holders.{only_changed}
 use Rattle.mt_layer.proofs.Linking.{unstable}
 use Rattle.mt_layer.proofs.Stamps.{held_keeps}
 use Rattle.mt_layer.proofs.phases.mark_unstable.mark_unstable.Goals as goal

@@ -2,7 +2,7 @@
 use Rattle.std.proofs.Common.{ap}
 use Rattle.mt_arena.specs.NodeView.{NodeView}
 use Rattle.mt_arena.specs.Accesses.{at}
-use Rattle.mt_insert.proofs.Looks.{link_there, leads_there}
+use Rattle.mt_held.proofs.Looks.{link_there, leads_there}
 use Rattle.mt_remove.proofs.Linked.{none_here, none_long, none_other}
 use Rattle.mt_remove.proofs.phases.clean_layer.link_to.Goals as goal
 

@@ -11,10 +11,10 @@ use Rattle.mt_arena.specs.Accesses.{at, with_node}
 use Rattle.mt_operation.specs.declared.removal.Removal.{Removal}
 use Rattle.mt_operation.specs.declared.walk.Walk.{Walk}
 use Rattle.mt_descent.specs.WalkMoves.{Continues}
-use Rattle.mt_insert.specs.KeptPuts.{HoldsOnly}
-use Rattle.mt_insert.specs.Placing.{pushed}
-use Rattle.mt_insert.specs.SplitEdits.{walk_at}
-use Rattle.mt_insert.proofs.Places.{row_here, may_store}
+use Rattle.mt_held.specs.Holds.{HoldsOnly}
+use Rattle.mt_held.specs.Taping.{pushed}
+use Rattle.mt_held.specs.Moves.{walk_at}
+use Rattle.mt_held.proofs.Places.{row_here, may_store}
 use Rattle.mt_remove.specs.KeptRemovals.{IsEmptyChild, IsUnburdened, KeptRemoval}
 use Rattle.mt_remove.proofs.Dropping.{dropped_kept, dropped_only}
 use Rattle.mt_remove.proofs.GoingOn.{emptied_walk, emptied_either, emptied_child}

@@ -7,7 +7,7 @@ use Rattle.mt_arena.specs.Accesses.{at}
 use Rattle.mt_operation.specs.declared.phase.Phase.{Phase}
 use Rattle.mt_operation.specs.declared.walk.Walk.{Walk}
 use Rattle.mt_operation.specs.declared.removal.Removal.{Removal}
-use Rattle.mt_insert.specs.SplitEdits.{walk_at, with_named_previous}
+use Rattle.mt_held.specs.Moves.{walk_at, with_named_previous}
 use Rattle.mt_remove.specs.KeptRemovals.{IsAtFixNext}
 use Rattle.mt_remove.specs.RemovalEdits.{for_rest}
 use Rattle.mt_arena.specs.NodeView.{NodeView}

@@ -2,8 +2,8 @@
 use Rattle.std.proofs.Common.{ap, inl, inr}
 use Rattle.mt_arena.specs.NodeView.{NodeView}
 use Rattle.mt_arena.specs.Accesses.{at}
-use Rattle.mt_insert.proofs.Looks.{link_there, leads_there}
-use Rattle.mt_insert.proofs.Places.{meets_link}
+use Rattle.mt_held.proofs.Looks.{link_there, leads_there}
+use Rattle.mt_held.proofs.Places.{meets_link}
 use Rattle.mt_remove.proofs.Linked.{no_link_here, no_link_long}
 use Rattle.mt_remove.proofs.phases.follow.follow.Goals as goal
 

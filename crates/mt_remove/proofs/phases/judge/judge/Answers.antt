@@ -4,8 +4,8 @@ use Rattle.mt_border.specs.declared.entry.Find.TheVariants.{Missing, Slot}
 use Rattle.mt_border.specs.declared.entry.FoundKind.TheVariants.{OtherLong}
 use Rattle.mt_arena.specs.NodeView.{NodeView}
 use Rattle.mt_arena.specs.Accesses.{at}
-use Rattle.mt_insert.proofs.Looks.{link_there, leads_there}
-use Rattle.mt_insert.proofs.Places.{meets_link, none_here}
+use Rattle.mt_held.proofs.Looks.{link_there, leads_there}
+use Rattle.mt_held.proofs.Places.{meets_link, none_here}
 use Rattle.mt_remove.proofs.Looking.{none_beside}
 use Rattle.mt_remove.proofs.phases.judge.judge.Goals as goal
 

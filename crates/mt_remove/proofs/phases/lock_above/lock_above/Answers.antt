@@ -6,7 +6,7 @@ use Rattle.mt_arena.specs.NodeView.{NodeView}
 use Rattle.mt_arena.specs.Arena.{ArenaView}
 use Rattle.mt_arena.specs.Accesses.{at}
 use Rattle.mt_operation.specs.declared.phase.Phase.{Phase}
-use Rattle.mt_insert.specs.SplitEdits.{walk_at}
+use Rattle.mt_held.specs.Moves.{walk_at}
 use Rattle.mt_remove.specs.RemovalEdits.{with_lock}
 use Rattle.mt_remove.specs.Unlinks.{IsChildBefore}
 use Rattle.mt_remove.proofs.LockingAbove.{above_another, above_open, inside, in_place, before_locked, before_unlocked, above_kept, above_holds}

@@ -5,7 +5,7 @@ use Rattle.mt_arena.specs.NodeView.{NodeView}
 use Rattle.mt_arena.specs.Accesses.{at}
 use Rattle.mt_arena.specs.Removals.{without_node}
 use Rattle.mt_operation.specs.declared.phase.Phase.{Phase}
-use Rattle.mt_insert.specs.SplitEdits.{walk_at}
+use Rattle.mt_held.specs.Moves.{walk_at}
 use Rattle.mt_remove.specs.RemovalEdits.{after_unlink}
 use Rattle.mt_remove.proofs.TakingOut.{unlink_done, unlink_done_holds}
 use Rattle.mt_remove.proofs.phases.unlink.unlink.Goals as goal

@@ -11,7 +11,7 @@ use Rattle.mt_operation.specs.declared.walk.Walk.{Walk}
 use Rattle.mt_descent.specs.Seen.{IsOutdated}
 use Rattle.mt_descent.specs.KeptWalks.{HoldsNothing}
 use Rattle.mt_descent.specs.WalkMoves.{Locks}
-use Rattle.mt_insert.specs.KeptPuts.{HoldsOnly}
+use Rattle.mt_held.specs.Holds.{HoldsOnly}
 
 -- beside the node that changes, who holds a node held it
 held_beside : (v : ArenaView) (k j op : ℕ) (n : NodeView) → j ≢ k → j < length (with_node v k n).nodes → (at (with_node v k n) j).holder ≡ Some op

@@ -1,6 +1,6 @@
 -- Which node a put holds, for the law of it.
-use Rattle.mt_insert.proofs.Holders.{only_locked, only_changed, none_unlocked, only_stays}
-use Rattle.mt_insert.proofs.laws.one_node_is_held.Goals as goal
+use Rattle.mt_held.proofs.Holders.{only_locked, only_changed, none_unlocked, only_stays}
+use Rattle.mt_held.proofs.laws.one_node_is_held.Goals as goal
 
 pub returns-clause-locked : goal.returns-clause-locked
 returns-clause-locked c = only_locked

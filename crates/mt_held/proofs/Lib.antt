@@ -1,0 +1,6 @@
+pub mod GivingBack
+pub mod Holders
+pub mod Looks
+pub mod Places
+pub mod Rely
+pub mod Returns

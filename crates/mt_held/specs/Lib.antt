@@ -1,0 +1,4 @@
+pub mod Holds
+pub mod Moves
+pub mod Taping
+pub mod Unlock

@@ -1,0 +1,44 @@
+//! What an operation keeps of the node that it holds stays under the steps of all others. Contracts alone:
+//! no code runs.
+
+ghost use Rattle.std.specs.Prelude.{◌≡◌, ◌≢◌, ◌<◌, ℕ, length};
+ghost use Rattle.mt_rows.specs.Rows.{Bytes};
+ghost use Rattle.mt_arena.specs.Arena.{ArenaView, Guarantee};
+ghost use Rattle.mt_arena.specs.Settled.{IsSettled};
+ghost use Rattle.mt_arena.specs.NodeView.{NodeView};
+ghost use Rattle.mt_arena.specs.Edits.{unlocked};
+ghost use Rattle.mt_arena.specs.Accesses.{at, with_node};
+ghost use Rattle.mt_operation.specs.declared.phase.Phase.TheVariants.{Judge};
+ghost use Rattle.mt_operation.specs.declared.walk.Walk.{Walk};
+ghost use Rattle.mt_descent.specs.KeptWalks.{HoldsNothing, IsAtJudge};
+ghost use Rattle.mt_descent.specs.WalkMoves.{Locks};
+ghost use Rattle.mt_held.specs.Holds.{HoldsBorder, IsAtUnlock, HoldsOnly};
+
+/// An operation that has locked its border node holds it as `judge` asks.
+pub fn holds_once_locked()
+    ensures { (op : ℕ) (old new : ArenaView) (key : Bytes) (before after : Walk) → Locks op old new before after → after.phase ≡ Judge →
+        IsAtJudge new op key after → IsSettled new.nodes before.place.node (at new before.place.node) → HoldsBorder new op key after }
+{}
+
+/// What an operation keeps at Judge, each step of another one leaves.
+pub fn judge_stays()
+    ensures { (op o : ℕ) (old new : ArenaView) (key : Bytes) (w : Walk) → Guarantee op old new → o ≢ op →
+        HoldsBorder old o key w → HoldsBorder new o key w }
+{}
+
+/// What an operation keeps at Unlock, each step of another one leaves.
+pub fn unlock_stays()
+    ensures { (op o : ℕ) (old new : ArenaView) (w : Walk) → Guarantee op old new → o ≢ op →
+        IsAtUnlock old o w → IsAtUnlock new o w }
+{}
+
+/// An operation that held nothing holds its border node alone once it has locked it, also while that node
+/// changes, and nothing once it has given the lock back. Each step of another operation leaves it so.
+pub fn one_node_is_held()
+    ensures locked { (op : ℕ) (old new : ArenaView) (before after : Walk) → HoldsNothing old op → Locks op old new before after →
+        HoldsOnly new op before.place.node }
+    ensures changed { (v : ArenaView) (op k : ℕ) (n : NodeView) → HoldsOnly v op k → HoldsOnly (with_node v k n) op k }
+    ensures unlocked { (v : ArenaView) (op k : ℕ) → k < length v.nodes → HoldsOnly v op k →
+        HoldsNothing (with_node v k (unlocked (at v k))) op }
+    ensures stays { (op o k : ℕ) (old new : ArenaView) → Guarantee op old new → o ≢ op → HoldsOnly old o k → HoldsOnly new o k }
+{}
