@@ -4,14 +4,21 @@ use Rattle.std.specs.Prelude.{◌^◌, min}
 use Rattle.std.proofs.Math.Nat.{mul-le-mul_right, min-le_right}
 use Rattle.std.proofs.lemmas.Option.{same_Some}
 use Rattle.mt_arena.specs.Arena.{ArenaView, IsArena, live_count}
+use Rattle.mt_operation.specs.Phases.{Kind, IsClimb, IsClimbKind, row, IsToGrow, is_done}
+use Rattle.mt_operation.specs.Phases as kinds
+use Rattle.mt_operation.proofs.Phases.{few_ranks}
+use Rattle.mt_core.proofs.WalkBounds.{few_walked}
+use Rattle.mt_core.proofs.Climbing.{climbed, climb_ungrown}
+use Rattle.mt_core.specs.Budgets.{WalksBy, budget_of, AreBelow, above, astray, before_unlock, split_level}
+use Rattle.mt_core.specs.Points.{MadeBy, IsComing, HasMade, IsFreeOfOthers, IsSoFar, IsUnhindered, MayHaveGrown, StepsOn}
+use Rattle.mt_state.specs.KeptOperations.{IsKeptFor, HasAnswer, IsBound, IsKeptAt, IsOnItsWay}
 use Rattle.mt_operation.specs.declared.phase.Phase.{Phase}
 use Rattle.mt_operation.specs.declared.phase.Phase.TheVariants as phases
-use Rattle.mt_operation.specs.declared.phase.Phase.TheVariants.{Enter, Pick, Child, Verify, Search, Load, Confirm, Forward, Lock, Judge, Store, Publish, SplitStart, SplitMove, SplitPrev, LockParent, InsertChild, InteriorSplit, Reparent, RootGrow, MakeLayer, MarkUnstable, MarkLayer, Unlock, Done, Snap}
+use Rattle.mt_operation.specs.declared.phase.Phase.TheVariants.{InteriorSplit, RootGrow, Done}
 use Rattle.mt_operation.specs.declared.walk.Walk.{Walk}
 use Rattle.mt_operation.specs.declared.splits.Halves.{Halves}
 use Rattle.mt_operation.specs.declared.operation.Operation.{Operation}
 use Rattle.mt_operation.specs.Operations.{OperationView, view_of}
-use Rattle.mt_operation.specs.Phases.{IsToGrow, is_done}
 use Rattle.mt_operation.specs.Tasks.{ask}
 use Rattle.mt_operation.specs.Tables.{op_at as operation_at}
 use Rattle.mt_insert.specs.KeptSplits.{HasSplits, last_of}
@@ -21,15 +28,12 @@ use Rattle.mt_state.specs.declared.moves.Move.TheVariants.{Moved, Again, NoMemor
 use Rattle.mt_state.specs.Views.{StateView, Core, shown, op_at}
 use Rattle.mt_operation.specs.declared.outcome.Outcome.{Outcome}
 use Rattle.mt_rows.specs.Maps.{is_scan}
-use Rattle.mt_state.specs.KeptOperations.{HasAnswer, IsBound, IsKeptAt, IsOnItsWay}
 use Rattle.mt_state.specs.Invariant.{StateInvariant}
 use Rattle.mt_state.specs.Promises.{HasStep, IsHeldByOther, IsAnswer, IsStep, Tells}
 use Rattle.mt_state.proofs.Shown.{shown_there, inside_of}
 use Rattle.mt_core.specs.ScanPoints.{live_trees}
 use Rattle.mt_core.proofs.ScanNears.{scan_few, scan_left}
 use Rattle.mt_core.specs.Alone.{most_among, most_steps, IsChain, Runs, IsAlone, EndsAlone, IsUndisturbed, EndsSoon}
-use Rattle.mt_core.specs.Budgets.{AreBelow, above, astray, before_unlock, split_level}
-use Rattle.mt_core.specs.Points.{IsComing, HasMade, IsFreeOfOthers, IsSoFar, IsUnhindered, MayHaveGrown, StepsOn}
 use Rattle.mt_core.proofs.RemovalNears.{few_removal, removal_left}
 use Rattle.mt_core.proofs.Following.{in_the_way}
 use Rattle.mt_core.proofs.AloneStarts.{unhindered_first}
@@ -76,42 +80,33 @@ most_above height w =
     let capped : min w.layer 31 * (3 * height + 12) ≤ 31 * (3 * height + 12) = mul-le-mul_right (3 * height + 12) (min-le_right w.layer 31) in omega (arith, capped)
 
 -- at no phase has it made many steps
-few_made : (p : Phase) (c : Core) (o : ℕ) (op : Operation) (height made : ℕ) → IsKeptAt p c o op
+few_made : (k : Kind) (p : Phase) → (row p).kind ≡ k → (c : Core) (o : ℕ) (op : Operation) (height made : ℕ) → IsKeptFor k p c o op
     → above height op.walk ≤ astray height + 31 * (3 * height + 12) → (¬ MayHaveGrown p op.splits.halves.items → AreBelow c.arena height)
-    → HasMade p height made c.arena op.walk op.splits → made < 256 * (height + 64)
-few_made Enter c o op height made kept most below few = elim few [ inl now ↦ omega (arith, now.1, most) | inr strays ↦ omega (arith, strays) ]
-few_made Pick c o op height made kept most below few = elim few [ inl now ↦ omega (arith, now.1, most) | inr strays ↦ omega (arith, strays) ]
-few_made Child c o op height made kept most below few = elim few [ inl now ↦ omega (arith, now.1, most) | inr strays ↦ omega (arith, strays) ]
-few_made Verify c o op height made kept most below few = elim few [
-  | inl now ↦ omega (arith, now.2, most)
-  | inr lost ↦ elim lost [ inl sees ↦ omega (arith, sees.1) | inr strays ↦ omega (arith, strays) ]
-]
-few_made Search c o op height made kept most below few = elim few [ inl now ↦ omega (arith, now.1, most) | inr strays ↦ omega (arith, strays) ]
-few_made Snap c o op height made kept most below few = elim few [ inl now ↦ omega (arith, now.1, most) | inr strays ↦ omega (arith, strays) ]
-few_made Load c o op height made kept most below few = elim few [ inl now ↦ omega (arith, now.1, most) | inr strays ↦ omega (arith, strays) ]
-few_made Confirm c o op height made kept most below few = elim few [ inl now ↦ omega (arith, now.2, most) | inr strays ↦ omega (arith, strays) ]
-few_made Forward c o op height made kept most below few = elim few [ inl now ↦ omega (arith, now.1) | inr strays ↦ omega (arith, strays) ]
-few_made Lock c o op height made kept most below few = elim few [ inl now ↦ omega (arith, now.1, most) | inr strays ↦ omega (arith, strays) ]
-few_made Judge c o op height made kept most below few = omega (arith, few, most)
-few_made Store c o op height made kept most below few = omega (arith, few, most)
-few_made Publish c o op height made kept most below few = omega (arith, few, most)
-few_made SplitStart c o op height made kept most below few = omega (arith, few, most)
-few_made SplitMove c o op height made kept most below few = omega (arith, few, most)
-few_made SplitPrev c o op height made kept most below few = omega (arith, few, most)
-few_made LockParent c o op height made kept most below few =
-    omega (arith, few, most, split_below c.arena height o op (below (λ grown. grown)) kept.climbs.named.splits)
-few_made InsertChild c o op height made kept most below few = omega (arith, few, most)
-few_made InteriorSplit c o op height made kept most below few =
-    omega (arith, few, most, split_below c.arena height o op (below (λ grown. grown)) kept.climbs.at_parent.named.splits)
-few_made Reparent c o op height made kept most below few =
-    omega (arith, few, most, kept.climbs.more, split_below c.arena height o op (below (λ grown. grown)) kept.climbs.splits)
-few_made RootGrow c o op height made kept most below few = omega (arith, few, most)
-few_made MakeLayer c o op height made kept most below few = omega (arith, few, most)
-few_made MarkUnstable c o op height made kept most below few = omega (arith, few, most)
-few_made phases.Link c o op height made kept most below few = omega (arith, few, most)
-few_made MarkLayer c o op height made kept most below few = omega (arith, few, most)
-few_made Unlock c o op height made kept most below few = omega (arith, few, most, most_unlock op.splits.halves.items height)
-few_made _ c o op height made kept most below few = absurd few
+    → MadeBy k p height made c.arena op.walk op.splits → made < 256 * (height + 64)
+few_made k p is c o op height made kept most below = by k is kept
+  where
+    walked : WalksBy p (budget_of height) made c.arena op.walk → made < 256 * (height + 64)
+    walked few = elim (few_walked p (budget_of height) made c.arena op.walk few) [ inl now ↦ omega (arith, now, most) | inr strays ↦ omega (arith, strays) ]
+
+    ranked : made ≤ above height op.walk + 3 * height + (row p).rank → made < 256 * (height + 64)
+    ranked few = omega (arith, few, most, few_ranks p)
+
+    by : (k : Kind) → (row p).kind ≡ k → IsKeptFor k p c o op → MadeBy k p height made c.arena op.walk op.splits → made < 256 * (height + 64)
+    by kinds.Descends is kept few = walked few
+    by kinds.Reads is kept few = walked few
+    by kinds.Scans is kept few = walked few
+    by kinds.Locks is kept few = walked few
+    by kinds.Judges is kept few = ranked few
+    by kinds.Writes is kept few = ranked few
+    by kinds.Begins is kept few = ranked few
+    by kinds.Splits is kept few = ranked few
+    by kinds.Layers is kept few = ranked few
+    by kinds.Climbs is kept few =
+        let climb : IsClimb p = subst IsClimbKind (sym is) tt in
+        let low = split_below c.arena height o op (below (climb_ungrown p climb op.splits.halves.items)) (climbed p climb c.arena o op.splits kept.climbs) in
+        omega (arith, few, most, low, few_ranks p)
+    by kinds.Returns is kept few = omega (arith, few, most, most_unlock op.splits.halves.items height)
+    by _ is kept few = absurd few
 
 -- and it is not done
 left_at : (p : Phase) (c : Core) (op : Operation) (height made : ℕ) → HasMade p height made c.arena op.walk op.splits → is_done p ≡ false
@@ -121,7 +116,7 @@ left_at _ c op height made few = refl
 -- so with a get or a put, and with a removal
 so_far_few : (b : Bool) (c : Core) (o : ℕ) (op : Operation) (height made : ℕ) → IsKeptAt op.walk.phase c o op → IsSoFar b height made c.arena op → made < 256 * (height + 64)
 so_far_few true c o op height made kept point = few_removal height made c.arena op.walk op.outcome op.removal point
-so_far_few false c o op height made kept point = few_made op.walk.phase c o op height made kept (most_above height op.walk) point.below point.few
+so_far_few false c o op height made kept point = few_made (row op.walk.phase).kind op.walk.phase refl c o op height made kept (most_above height op.walk) point.below point.few
 
 so_far_left : (b : Bool) (c : Core) (op : Operation) (height made : ℕ) → IsSoFar b height made c.arena op → is_done op.walk.phase ≡ false
 so_far_left true c op height made point = removal_left op.walk.phase height point.round made c.arena op.walk point.few

@@ -1,21 +1,32 @@
 -- Where the account begins of an operation that nobody disturbs any more, at whatever phase it stands: for `Inner::run_alone`.
 use Rattle.std.proofs.Common.{◌≡◌, ◌≢◌, ℕ, ◌+◌, ◌≤◌, inr, List, [], ◌∷◌, Bool, true, false, Option, None, Some, refl, sym, ap, subst, ◌∙◌, arith}
 use Rattle.std.proofs.lemmas.Option.{same_Some}
-use Rattle.mt_arena.specs.Arena.{IsArena, live_count}
+use Rattle.mt_arena.specs.Arena.{IsArena, live_count, ArenaView}
 use Rattle.mt_arena.specs.Accesses.{at}
 use Rattle.mt_arena.proofs.Heights.{any_below_live}
+use Rattle.mt_operation.specs.declared.removal.Removal.{Removal}
+use Rattle.mt_operation.specs.Phases.{Kind, FitsAim, ends, row, IsClimbKind, IsRemovalKind, IsRemovalPhase, IsOfKind, is_done}
+use Rattle.mt_operation.specs.Phases as kinds
+use Rattle.mt_operation.proofs.Phases.{by_removal}
+use Rattle.mt_core.proofs.WalkBounds.{IsWalkKind, none_walked}
+use Rattle.mt_core.proofs.Climbing.{climbed}
+use Rattle.mt_core.specs.Budgets.{WalksBy, budget_of, AreBelow}
+use Rattle.mt_core.specs.Points.{round_budget, MadeBy, RemovedBy, RoundsBy, untold, IsComing, HasRounds, IsSoFar, IsUnhindered}
+use Rattle.mt_state.specs.KeptOperations.{IsKeptFor, IsBound, IsKeptOf, IsOpenOperation, IsReturning, MayUnlock, MayUnlockUnsplit}
+use Rattle.mt_remove.specs.KeptRemovals.{KeptRemoval, IsCleaning}
+use Rattle.mt_operation.specs.declared.splits.Splits.{Splits}
+use Rattle.mt_insert.specs.KeptSplits.{HasSplits, last_of}
+use Rattle.mt_rows.specs.Rows.{Bytes}
+use Rattle.mt_state.proofs.Needs.{writing_put}
 use Rattle.mt_operation.specs.declared.walk.Aim.TheVariants as aims
 use Rattle.mt_operation.specs.declared.phase.Phase.{Phase}
 use Rattle.mt_operation.specs.declared.phase.Phase.TheVariants as phases
-use Rattle.mt_operation.specs.declared.phase.Phase.TheVariants.{Enter, Pick, Child, Verify, Search, Load, Confirm, Forward, Lock, Judge, Store, Publish, SplitStart, SplitMove, SplitPrev, LockParent, InsertChild, InteriorSplit, Reparent, RootGrow, MakeLayer, MarkUnstable, MarkLayer, DropKey, LockPrev, LockAbove, Unlink, FixNext, Collapse, CleanLayer, Unlock, Done, Snap, Check, Hop}
+use Rattle.mt_operation.specs.declared.phase.Phase.TheVariants.{Reparent, Snap, Check, Hop}
 use Rattle.mt_operation.specs.declared.splits.Halves.{Halves}
 use Rattle.mt_operation.specs.declared.operation.Operation.{Operation}
 use Rattle.mt_operation.specs.Operations.{OperationView}
-use Rattle.mt_operation.specs.Phases.{IsOfKind, is_done}
 use Rattle.mt_operation.specs.Tasks.{ask, aim_of}
-use Rattle.mt_insert.specs.KeptSplits.{last_of}
 use Rattle.mt_remove.specs.Writes.{is_remove}
-use Rattle.mt_remove.specs.KeptRemovals.{IsCleaning}
 use Rattle.mt_descent.specs.KeptWalks.{GoesThrough}
 use Rattle.mt_slices.specs.Keys.{IsStoredKey}
 use Rattle.mt_rows.specs.declared.command.Command.{Command}
@@ -28,19 +39,15 @@ use Rattle.mt_state.proofs.Bound.{put_no_remove}
 use Rattle.std.proofs.lemmas.Bool.{both_ways}
 use Rattle.mt_state.specs.Views.{Core, shown}
 use Rattle.mt_operation.specs.declared.outcome.Outcome.{Outcome}
-use Rattle.mt_state.specs.KeptOperations.{IsBound, IsKeptAt, IsKeptOf, IsOpenOperation, IsReturning, MayUnlock, MayUnlockUnsplit}
 use Rattle.mt_state.specs.Invariant.{StateInvariant}
 use Rattle.mt_state.proofs.Shown.{inside_of}
 use Rattle.mt_core.specs.Alone.{IsUndisturbed}
-use Rattle.mt_core.specs.Budgets.{AreBelow}
-use Rattle.mt_arena.specs.Arena.{ArenaView}
 use Rattle.mt_operation.specs.declared.walk.Walk.{Walk}
 use Rattle.mt_operation.specs.declared.scan.Stop.{Stop}
 use Rattle.mt_operation.specs.declared.scan.Stop.TheVariants as stops
 use Rattle.mt_core.specs.ScanPoints.{ScansBy, live_trees, trees_ahead, round_of}
 use Rattle.mt_core.proofs.Ahead.{nodes_most, trees_most}
 use Rattle.mt_core.proofs.ScanNears.{scan_aim, rounds_less}
-use Rattle.mt_core.specs.Points.{IsComing, HasMade, HasRemoved, HasRounds, IsSoFar, IsUnhindered, RoundsAt}
 use Rattle.mt_core.proofs.RemovalNears.{shallow_layer}
 use Rattle.mt_core.proofs.Astray.{behind_most}
 
@@ -67,46 +74,25 @@ no_scanning op plain scans = absurd (both_ways _ plain (aim_scan (ask op.task) s
 no_removing : {A : Type 0} (op : Operation) → is_remove (ask op.task) ≡ true → aim_of (ask op.task) ≡ aims.Scan → A
 no_removing op removes scans = absurd (both_ways _ (scan_no_remove (ask op.task) (aim_scan (ask op.task) scans)) removes)
 
+-- no right half has more children than a node has
+untold_few : (p : Phase) (v : ArenaView) (o : ℕ) (s : Splits) → IsArena v.nodes v.trees → HasSplits v o s → untold p v s ≤ 16
+untold_few Reparent v o s arena h = omega (arith, (arena.nodes.each (last_of s).right h.parted.right.held.there).children.interior.room)
+untold_few _ v o s arena h = omega arith
+
 -- at whatever phase an operation stands, it may find its way again, and has made no step so far
-starts_at : (p : Phase) (c : Core) (o : ℕ) (op : Operation) → StateInvariant c → IsArena c.arena.nodes c.arena.trees → IsOpenOperation c op → IsOfKind p op.walk.aim → is_done p ≡ false
-    → is_remove (ask op.task) ≡ false → is_scan (ask op.task) ≡ false → IsKeptAt p c o op → HasMade p (live_count c.arena.nodes) 0 c.arena op.walk op.splits
-starts_at Enter c o op h arena always kind left stays plain kept = inr (omega arith)
-starts_at Pick c o op h arena always kind left stays plain kept = inr (omega arith)
-starts_at Child c o op h arena always kind left stays plain kept = inr (omega arith)
-starts_at Verify c o op h arena always kind left stays plain kept = inr (inr (omega (arith, behind_most c.arena.nodes (at c.arena op.walk.child).low)))
-starts_at Search c o op h arena always kind left stays plain kept = inr (omega (arith, behind_most c.arena.nodes (at c.arena op.walk.place.node).low))
-starts_at Load c o op h arena always kind left stays plain kept = inr (omega (arith, behind_most c.arena.nodes (at c.arena op.walk.place.node).low))
-starts_at Confirm c o op h arena always kind left stays plain kept = inr (omega (arith, behind_most c.arena.nodes (at c.arena op.walk.place.node).low))
-starts_at Forward c o op h arena always kind left stays plain kept = inr (omega (arith, behind_most c.arena.nodes (at c.arena op.walk.place.node).low))
-starts_at Lock c o op h arena always kind left stays plain kept = inr (omega (arith, behind_most c.arena.nodes (at c.arena op.walk.place.node).low))
-starts_at Judge c o op h arena always kind left stays plain kept = omega arith
-starts_at Store c o op h arena always kind left stays plain kept = omega arith
-starts_at Publish c o op h arena always kind left stays plain kept = omega arith
-starts_at SplitStart c o op h arena always kind left stays plain kept = omega arith
-starts_at SplitMove c o op h arena always kind left stays plain kept = omega arith
-starts_at SplitPrev c o op h arena always kind left stays plain kept = omega arith
-starts_at LockParent c o op h arena always kind left stays plain kept = omega arith
-starts_at InsertChild c o op h arena always kind left stays plain kept = omega arith
-starts_at InteriorSplit c o op h arena always kind left stays plain kept = omega arith
-starts_at Reparent c o op h arena always kind left stays plain kept =
-    omega (arith, (arena.nodes.each (last_of op.splits).right kept.climbs.splits.parted.right.held.there).children.interior.room)
-starts_at RootGrow c o op h arena always kind left stays plain kept = omega arith
-starts_at MakeLayer c o op h arena always kind left stays plain kept = omega arith
-starts_at MarkUnstable c o op h arena always kind left stays plain kept = omega arith
-starts_at phases.Link c o op h arena always kind left stays plain kept = omega arith
-starts_at MarkLayer c o op h arena always kind left stays plain kept = omega arith
-starts_at DropKey c o op h arena always kind left stays plain kept = no_put op kept.removes stays
-starts_at LockPrev c o op h arena always kind left stays plain kept = no_put op kept.removes stays
-starts_at LockAbove c o op h arena always kind left stays plain kept = no_put op kept.removes stays
-starts_at Unlink c o op h arena always kind left stays plain kept = no_put op kept.removes stays
-starts_at FixNext c o op h arena always kind left stays plain kept = no_put op kept.removes stays
-starts_at Collapse c o op h arena always kind left stays plain kept = no_put op kept.removes stays
-starts_at CleanLayer c o op h arena always kind left stays plain kept = no_put op kept.removes stays
-starts_at Unlock c o op h arena always kind left stays plain kept = omega arith
-starts_at Snap c o op h arena always kind left stays plain kept = no_scanning op plain (sym always.aim ∙ kind)
-starts_at Check c o op h arena always kind left stays plain kept = no_scanning op plain (sym always.aim ∙ kind)
-starts_at Hop c o op h arena always kind left stays plain kept = no_scanning op plain (sym always.aim ∙ kind)
-starts_at Done c o op h arena always kind left stays plain kept = absurd (let no = sym left in cc)
+starts_by : (k : Kind) (p : Phase) → (row p).kind ≡ k → (c : Core) (o : ℕ) (op : Operation) → IsArena c.arena.nodes c.arena.trees → IsOpenOperation c op → FitsAim k op.walk.aim → ends k ≡ false
+    → is_remove (ask op.task) ≡ false → is_scan (ask op.task) ≡ false → IsKeptFor k p c o op → MadeBy k p (live_count c.arena.nodes) 0 c.arena op.walk op.splits
+starts_by kinds.Descends p is c o op arena always kind left stays plain kept = none_walked p (subst IsWalkKind (sym is) tt) (budget_of (live_count c.arena.nodes)) c.arena op.walk (omega arith)
+starts_by kinds.Reads p is c o op arena always kind left stays plain kept = none_walked p (subst IsWalkKind (sym is) tt) (budget_of (live_count c.arena.nodes)) c.arena op.walk (omega arith)
+starts_by kinds.Locks p is c o op arena always kind left stays plain kept = none_walked p (subst IsWalkKind (sym is) tt) (budget_of (live_count c.arena.nodes)) c.arena op.walk (omega arith)
+starts_by kinds.Scans p is c o op arena always kind left stays plain kept = no_scanning op plain (sym always.aim ∙ kind)
+starts_by kinds.Climbs p is c o op arena always kind left stays plain kept =
+    omega (arith, untold_few p c.arena o op.splits arena (climbed p (subst IsClimbKind (sym is) tt) c.arena o op.splits kept.climbs))
+starts_by kinds.Drops p is c o op arena always kind left stays plain kept = no_put op kept.removes stays
+starts_by kinds.Unlinks p is c o op arena always kind left stays plain kept = no_put op kept.removes stays
+starts_by kinds.Cleans p is c o op arena always kind left stays plain kept = no_put op kept.removes stays
+starts_by kinds.Ends p is c o op arena always kind left stays plain kept = absurd (let no = sym left in cc)
+starts_by _ p is c o op arena always kind left stays plain kept = omega arith
 
 -- a key goes through 32 layers at most, and so does the way to a link that is to be taken out
 module _ (c : Core) (op : Operation) (stored : IsStoredKey op.task.key) where
@@ -132,70 +118,56 @@ module _ (c : Core) (op : Operation) (stored : IsStoredKey op.task.key) where
   returns_few o removes None leaving = no_put op removes leaving.layering.stays
   returns_few o removes (Some told) unlocking = (unlocks_few op.splits.halves.items o removes unlocking.unlocks, λ none. absurd (cc))
 
+-- what it goes through, where it takes a node or a layer out
+through_of : (p : Phase) → IsRemovalPhase p → (v : ArenaView) (o : ℕ) (key : Bytes) (w : Walk) (r : Removal) → KeptRemoval p v o key w r → GoesThrough v w.place.tree w.layer key
+through_of p i v o key w r = by_removal (λ p. KeptRemoval p v o key w r → GoesThrough v w.place.tree w.layer key)
+    (λ k. k.removes.through) (λ k. k.removes.through) (λ k. k.removes.through) (λ k. k.removes.through) (λ k. k.removes.through)
+    (λ k. k.holds.judged.at_border.through) p i
+
 -- a removal at whatever phase may find its way again, and has made no step and no round so far
-removal_starts : (p : Phase) (c : Core) (o : ℕ) (op : Operation) → IsOpenOperation c op → is_done p ≡ false → is_remove (ask op.task) ≡ true
-    → IsOfKind p op.walk.aim → IsKeptAt p c o op
-    → HasRemoved p (live_count c.arena.nodes) 0 0 c.arena op.walk × RoundsAt p op.outcome 0 c.arena op.walk op.removal
-removal_starts Enter c o op always left removes kind kept = (inr (omega arith), bound_few c op always.stored op.outcome kept.bound)
-removal_starts Pick c o op always left removes kind kept = (inr (omega arith), bound_few c op always.stored op.outcome kept.bound)
-removal_starts Child c o op always left removes kind kept = (inr (omega arith), bound_few c op always.stored op.outcome kept.bound)
-removal_starts Verify c o op always left removes kind kept = (inr (inr (omega (arith, behind_most c.arena.nodes (at c.arena op.walk.child).low))), bound_few c op always.stored op.outcome kept.bound)
-removal_starts Search c o op always left removes kind kept = (inr (omega (arith, behind_most c.arena.nodes (at c.arena op.walk.place.node).low)), bound_few c op always.stored op.outcome kept.bound)
-removal_starts Load c o op always left removes kind kept = (inr (omega (arith, behind_most c.arena.nodes (at c.arena op.walk.place.node).low)), bound_few c op always.stored op.outcome kept.way.bound)
-removal_starts Confirm c o op always left removes kind kept = no_read op removes (sym always.aim ∙ kind)
-removal_starts Forward c o op always left removes kind kept = (inr (omega (arith, behind_most c.arena.nodes (at c.arena op.walk.place.node).low)), bound_few c op always.stored op.outcome kept.bound)
-removal_starts Lock c o op always left removes kind kept = (inr (omega (arith, behind_most c.arena.nodes (at c.arena op.walk.place.node).low)), bound_few c op always.stored op.outcome kept.bound)
-removal_starts Judge c o op always left removes kind kept = (omega arith, bound_few c op always.stored op.outcome kept.bound)
-removal_starts Store c o op always left removes kind kept = no_put op removes (put_no_remove (ask op.task) kept.put)
-removal_starts Publish c o op always left removes kind kept = no_put op removes (put_no_remove (ask op.task) kept.put)
-removal_starts SplitStart c o op always left removes kind kept = no_put op removes (put_no_remove (ask op.task) kept.put)
-removal_starts SplitMove c o op always left removes kind kept = no_put op removes (put_no_remove (ask op.task) kept.put)
-removal_starts SplitPrev c o op always left removes kind kept = no_put op removes kept.stays
-removal_starts LockParent c o op always left removes kind kept = no_put op removes kept.stays
-removal_starts InsertChild c o op always left removes kind kept = no_put op removes kept.stays
-removal_starts InteriorSplit c o op always left removes kind kept = no_put op removes kept.stays
-removal_starts Reparent c o op always left removes kind kept = no_put op removes kept.stays
-removal_starts RootGrow c o op always left removes kind kept = no_put op removes kept.stays
-removal_starts MakeLayer c o op always left removes kind kept = no_put op removes kept.stays
-removal_starts MarkUnstable c o op always left removes kind kept = no_put op removes kept.stays
-removal_starts phases.Link c o op always left removes kind kept = no_put op removes kept.stays
-removal_starts MarkLayer c o op always left removes kind kept = no_put op removes kept.stays
-removal_starts DropKey c o op always left removes kind kept = (omega arith, through_few c op always.stored kept.drops.holds.judged.at_border.through)
-removal_starts LockPrev c o op always left removes kind kept = (omega arith, through_few c op always.stored kept.kept.removes.through)
-removal_starts LockAbove c o op always left removes kind kept = (omega arith, through_few c op always.stored kept.kept.removes.through)
-removal_starts Unlink c o op always left removes kind kept = (omega arith, through_few c op always.stored kept.kept.removes.through)
-removal_starts FixNext c o op always left removes kind kept = (omega arith, through_few c op always.stored kept.kept.removes.through)
-removal_starts Collapse c o op always left removes kind kept = (omega arith, through_few c op always.stored kept.kept.removes.through)
-removal_starts CleanLayer c o op always left removes kind kept = (omega arith, through_few c op always.stored kept.kept.holds.judged.at_border.through)
-removal_starts Unlock c o op always left removes kind kept = (omega arith, returns_few c op always.stored o removes op.outcome kept)
-removal_starts Snap c o op always left removes kind kept = no_removing op removes (sym always.aim ∙ kind)
-removal_starts Check c o op always left removes kind kept = no_removing op removes (sym always.aim ∙ kind)
-removal_starts Hop c o op always left removes kind kept = no_removing op removes (sym always.aim ∙ kind)
-removal_starts Done c o op always left removes kind kept = absurd (let no = sym left in cc)
+removal_starts : (k : Kind) (p : Phase) → (row p).kind ≡ k → (c : Core) (o : ℕ) (op : Operation) → IsOpenOperation c op → ends k ≡ false → is_remove (ask op.task) ≡ true
+    → FitsAim k op.walk.aim → IsKeptFor k p c o op
+    → RemovedBy k p (live_count c.arena.nodes) 0 0 c.arena op.walk × RoundsBy k op.outcome 0 c.arena op.walk op.removal
+removal_starts kinds.Descends p is c o op always left removes kind kept = (none_walked p (subst IsWalkKind (sym is) tt) (round_budget (live_count c.arena.nodes) 0 c.arena) c.arena op.walk (omega arith), bound_few c op always.stored op.outcome kept.bound)
+removal_starts kinds.Locks p is c o op always left removes kind kept = (none_walked p (subst IsWalkKind (sym is) tt) (round_budget (live_count c.arena.nodes) 0 c.arena) c.arena op.walk (omega arith), bound_few c op always.stored op.outcome kept.bound)
+removal_starts kinds.Reads p is c o op always left removes kind kept = no_read op removes (sym always.aim ∙ kind)
+removal_starts kinds.Scans p is c o op always left removes kind kept = no_removing op removes (sym always.aim ∙ kind)
+removal_starts kinds.Judges p is c o op always left removes kind kept = (omega arith, bound_few c op always.stored op.outcome kept.bound)
+removal_starts kinds.Writes p is c o op always left removes kind kept = no_put op removes (put_no_remove (ask op.task) (writing_put p c o op kept))
+removal_starts kinds.Begins p is c o op always left removes kind kept = no_put op removes (put_no_remove (ask op.task) kept.put)
+removal_starts kinds.Splits p is c o op always left removes kind kept = no_put op removes (put_no_remove (ask op.task) kept.put)
+removal_starts kinds.Climbs p is c o op always left removes kind kept = no_put op removes kept.stays
+removal_starts kinds.Layers p is c o op always left removes kind kept = no_put op removes kept.stays
+removal_starts kinds.Drops p is c o op always left removes kind kept = (omega arith, through_few c op always.stored kept.drops.holds.judged.at_border.through)
+removal_starts kinds.Unlinks p is c o op always left removes kind kept =
+    (omega arith, through_few c op always.stored (through_of p (subst IsRemovalKind (sym is) tt) c.arena o op.task.key op.walk op.removal kept.kept))
+removal_starts kinds.Cleans p is c o op always left removes kind kept =
+    (omega arith, through_few c op always.stored (through_of p (subst IsRemovalKind (sym is) tt) c.arena o op.task.key op.walk op.removal kept.kept))
+removal_starts kinds.Returns p is c o op always left removes kind kept = (omega arith, returns_few c op always.stored o removes op.outcome kept)
+removal_starts kinds.Ends p is c o op always left removes kind kept = absurd (let no = sym left in cc)
 
 -- whether it removes or not
 point_first : (c : Core) (o : ℕ) (op : Operation) → StateInvariant c → IsArena c.arena.nodes c.arena.trees → is_done op.walk.phase ≡ false → is_scan (ask op.task) ≡ false → IsKeptOf c o op
     → (b : Bool) → is_remove (ask op.task) ≡ b → IsSoFar b (live_count c.arena.nodes) 0 c.arena op
 point_first c o op h arena left plain kept true removes =
-    let starts = removal_starts op.walk.phase c o op kept.always left removes kept.always.kind kept.kept in
+    let starts = removal_starts (row op.walk.phase).kind op.walk.phase refl c o op kept.always left removes kept.always.kind kept.kept in
     record { round = 0; most = omega arith; live = omega arith; rounds = starts.1; few = starts.0 }
-point_first c o op h arena left plain kept false stays = record { below = λ _. nodes_below c h arena; few = starts_at op.walk.phase c o op h arena kept.always kept.always.kind left stays plain kept.kept }
+point_first c o op h arena left plain kept false stays = record { below = λ _. nodes_below c h arena; few = starts_by (row op.walk.phase).kind op.walk.phase refl c o op arena kept.always kept.always.kind left stays plain kept.kept }
 
 -- a scan at whatever phase may find its way again, and has made no step so far
 scan_starts : (p : Phase) (v : ArenaView) (w : Walk) (stop : Stop) → IsOfKind p w.aim → w.aim ≡ aims.Scan → is_done p ≡ false → ScansBy p stop (live_count v.nodes) 0 v w
-scan_starts Enter v w stop kind scans left = inr (omega arith)
-scan_starts Pick v w stop kind scans left = inr (omega arith)
-scan_starts Child v w stop kind scans left = inr (omega arith)
-scan_starts Verify v w stop kind scans left = inr (inr (omega (arith, behind_most v.nodes (at v w.child).low)))
-scan_starts Forward v w stop kind scans left = inr (omega (arith, behind_most v.nodes (at v w.place.node).low))
 scan_starts Snap v w stop kind scans left = inr (omega (arith, behind_most v.nodes (at v w.place.node).low))
 scan_starts Check v w stop kind scans left = inr (omega (arith, behind_most v.nodes (at v w.place.node).low))
 scan_starts Hop v w (stops.Link slice tree) kind scans left = inr (omega arith)
 scan_starts Hop v w (stops.Next slice) kind scans left = inr (omega arith)
 scan_starts Hop v w stops.Tree kind scans left = omega arith
 scan_starts Hop v w stops.Tenant kind scans left = omega arith
-scan_starts Done v w stop kind scans left = absurd (let no = sym left in cc)
-scan_starts _ v w stop kind scans left = absurd (let both = sym kind ∙ scans in cc)
+scan_starts p v w stop kind scans left = by (row p).kind refl kind left
+  where
+    by : (k : Kind) → (row p).kind ≡ k → FitsAim k w.aim → ends k ≡ false → WalksBy p (budget_of (live_count v.nodes)) 0 v w
+    by kinds.Descends is kind left = none_walked p (subst IsWalkKind (sym is) tt) (budget_of (live_count v.nodes)) v w (omega arith)
+    by kinds.Ends is kind left = absurd (let no = sym left in cc)
+    by _ is kind left = absurd (let both = sym kind ∙ scans in cc)
 
 -- whether it scans or not
 coming_first : (c : Core) (o : ℕ) (op : Operation) → StateInvariant c → IsArena c.arena.nodes c.arena.trees → is_done op.walk.phase ≡ false → IsKeptOf c o op

@@ -3,8 +3,10 @@ use Rattle.std.proofs.Common.{List, [], ap, arith, inl, inr, length, refl, subst
 use Rattle.std.proofs.lemmas.Bool.{cases_lt}
 use Rattle.mt_arena.specs.Arena.{ArenaView}
 use Rattle.mt_arena.specs.Accesses.{at}
+use Rattle.mt_operation.proofs.Phases.{by_climb}
+use Rattle.mt_insert.specs.KeptSplits.{HasSplits, KeptSplit}
 use Rattle.mt_operation.specs.declared.phase.Phase.{Phase}
-use Rattle.mt_operation.specs.declared.phase.Phase.TheVariants.{SplitPrev, LockParent, InsertChild, InteriorSplit, Reparent, RootGrow, Unlock}
+use Rattle.mt_operation.specs.declared.phase.Phase.TheVariants.{Unlock}
 use Rattle.mt_operation.specs.declared.walk.Walk.{Walk}
 use Rattle.mt_operation.specs.declared.splits.Halves.{Halves}
 use Rattle.mt_operation.specs.declared.splits.Splits.{Splits}
@@ -30,7 +32,7 @@ module _ (o : ℕ) (old new : ArenaView) (l : LeavesNodes o old new) where
   ]
 
 -- no root was made before a step of a climb
-climb_ungrown : (p : Phase) → IsClimb p → (l : List Halves) → ¬ MayHaveGrown p l
+pub climb_ungrown : (p : Phase) → IsClimb p → (l : List Halves) → ¬ MayHaveGrown p l
 climb_ungrown Unlock i l grown = i
 climb_ungrown _ i l grown = grown
 
@@ -44,15 +46,14 @@ pub unlock_most : (l : List Halves) (height : ℕ) → l ≢ [] → before_unloc
 unlock_most [] height some = absurd (some refl)
 unlock_most (x ∷ l) height some = refl
 
+-- there are halves at such a phase
+pub climbed : (p : Phase) → IsClimb p → (v : ArenaView) (op : ℕ) (s : Splits) → KeptSplit p v op s → HasSplits v op s
+climbed p i v op s = by_climb (λ p. KeptSplit p v op s → HasSplits v op s)
+    (λ k. k.splits) (λ k. k.named.splits) (λ k. k.at_parent.named.splits) (λ k. k.at_parent.named.splits) (λ k. k.splits) (λ k. k.at_root.named.splits) p i
+
 -- no removal makes such a step
 pub climb_none : (p : Phase) → IsClimb p → (height round made : ℕ) (v : ArenaView) (w : Walk) → HasRemoved p height round made v w → ⊥
-climb_none SplitPrev i height round made v w few = few
-climb_none LockParent i height round made v w few = few
-climb_none InsertChild i height round made v w few = few
-climb_none InteriorSplit i height round made v w few = few
-climb_none Reparent i height round made v w few = few
-climb_none RootGrow i height round made v w few = few
-climb_none _ i height round made v w few = absurd i
+climb_none p i height round made v w = by_climb (λ p. HasRemoved p height round made v w → ⊥) (λ k. k) (λ k. k) (λ k. k) (λ k. k) (λ k. k) (λ k. k) p i
 
 -- so a step from one phase to another comes nearer, by what it leaves of the nodes and how many steps were made
 pub nears_on : (op : ℕ) (old new : ArenaView) (before after : Walk) (s t : Splits) (p q : Phase) → before.phase ≡ p → IsClimb p → after ≡ walk_at q before
@@ -68,10 +69,4 @@ nears_on op old new before after s t p q at_p climb goes leaves levels some coun
 
 -- and none but a put makes one
 pub climb_writes : (p : Phase) → IsClimb p → (aim : Aim) → IsOfKind p aim → aim ≡ aims.Write
-climb_writes SplitPrev i aim kind = kind
-climb_writes LockParent i aim kind = kind
-climb_writes InsertChild i aim kind = kind
-climb_writes InteriorSplit i aim kind = kind
-climb_writes Reparent i aim kind = kind
-climb_writes RootGrow i aim kind = kind
-climb_writes _ i aim kind = absurd i
+climb_writes p i aim = by_climb (λ p. IsOfKind p aim → aim ≡ aims.Write) (λ k. k) (λ k. k) (λ k. k) (λ k. k) (λ k. k) (λ k. k) p i

@@ -12,6 +12,7 @@ use Rattle.mt_insert.proofs.SplittingParents.{last_more}
 use Rattle.mt_insert.specs.SplitEdits.{after_reparent, for_parent}
 use Rattle.mt_held.specs.Moves.{walk_at}
 use Rattle.mt_insert.specs.KeptSplits.{HasSplits, IsAtInsertChild, IsAtInteriorSplit, IsAtLockParent, IsAtReparent, IsAtRootGrow, IsAtSplitPrev, KeptSplit, halves_at, last_of}
+use Rattle.mt_operation.proofs.Phases.{by_climb}
 use Rattle.mt_operation.specs.Phases.{IsClimb}
 use Rattle.mt_operation.specs.declared.phase.Phase.TheVariants.{InsertChild, InteriorSplit, LockParent, Reparent, RootGrow, SplitPrev, Unlock}
 use Rattle.mt_operation.specs.declared.splits.Halves.{Halves}
@@ -69,7 +70,7 @@ module _ (op : ℕ) (old new : ArenaView) (before after : Walk) (s t : Splits) w
       by (Some behind) next =
           let size : length new.nodes ≡ length old.nodes = ap (λ (v : ArenaView). length v.nodes) (c.is behind next) ∙ length-set old.nodes behind _ in
           nears_on op old new before after s t SplitPrev LockParent at_p tt c.walk (climb_leaves SplitPrev tt op old new before after s t kept c)
-          (λ more. no_new old new size) (climb_some SplitPrev tt op old new before after s t kept c) (λ height made below few. omega (arith, few))
+          (λ more. no_new old new size) (climb_some SplitPrev tt op old new before after s t kept c) (λ height made below few. let level = level_stays op old new s t kept.splits (climb_leaves SplitPrev tt op old new before after s t kept c) (ap (λ (x : Splits). x.halves.items) c.splits) in omega (arith, few, level))
 
   -- a parent is locked, or there is none
   lock_nears : before.phase ≡ LockParent → IsAtLockParent old op s → IsLockParent op old new before after s t → Nearer
@@ -85,7 +86,7 @@ module _ (op : ℕ) (old new : ArenaView) (before after : Walk) (s t : Splits) w
       by None none =
           let r = c.root none in
           nears_on op old new before after s t LockParent RootGrow at_p tt r.1 leaves (λ more. no_new old new (ap (λ (v : ArenaView). length v.nodes) r.0)) some
-          (λ height made below few. let low = level_below op height old s kept.named.splits below in omega (arith, few, low))
+          (λ height made below few. let level = level_stays op old new s t kept.named.splits leaves (ap (λ (x : Splits). x.halves.items) r.2) in omega (arith, few, level))
       by (Some p) named =
           let r = c.is p named in
           nears_on op old new before after s t LockParent (for_parent (at old p)) at_p tt r.2 leaves
@@ -95,14 +96,14 @@ module _ (op : ℕ) (old new : ArenaView) (before after : Walk) (s t : Splits) w
           counts : (b : Bool) → t.halves.items ≡ s.halves.items → (height made : ℕ) → AreBelow old height → HasMade LockParent height made old before s
               → HasMade (if b then InteriorSplit else InsertChild) height (made + 1) new (walk_at (if b then InteriorSplit else InsertChild) before) t
           counts true same height made below few = let level = level_stays op old new s t kept.named.splits leaves same in omega (arith, few, level)
-          counts false same height made below few = let low = level_below op height old s kept.named.splits below in omega (arith, few, low)
+          counts false same height made below few = let level = level_stays op old new s t kept.named.splits leaves same in omega (arith, few, level)
 
   -- the parent has room
   insert_nears : before.phase ≡ InsertChild → IsAtInsertChild old op s → IsInsertChild op old new before after s t → Nearer
   insert_nears at_p kept c =
       let some = climb_some InsertChild tt op old new before after s t kept c in
       nears_on op old new before after s t InsertChild Unlock at_p tt c.walk (climb_leaves InsertChild tt op old new before after s t kept c) (λ more. absurd (more refl)) some
-      (λ height made below few. omega (arith, few, unlock_most t.halves.items height some))
+      (λ height made below few. let low = level_below op height old s kept.at_parent.named.splits below in omega (arith, few, low, unlock_most t.halves.items height some))
 
   -- it is full, and was split
   module _ (kept : IsAtInteriorSplit old op s) where
@@ -179,23 +180,25 @@ module _ (op : ℕ) (old new : ArenaView) (before after : Walk) (s t : Splits) w
           let all = eqb-true (s.moved + 1) (length (at old q).children) last in
           omega (arith, few, level, all)
       counts false last moved height made below few =
-          let level = level_stays op old new s t kept.splits leaves same in omega (arith, few, level, moved, same_children)
+          let level = level_stays op old new s t kept.splits leaves same in omega (arith, few, level, moved, same_children, kept.more)
 
   -- a root was made
   grow_nears : before.phase ≡ RootGrow → IsAtRootGrow old op s → IsRootGrow op old new before after s t → Nearer
   grow_nears at_p kept c =
       let some = climb_some RootGrow tt op old new before after s t kept c in
       nears_on op old new before after s t RootGrow Unlock at_p tt c.walk (climb_leaves RootGrow tt op old new before after s t kept c) (λ more. absurd (more refl)) some
-      (λ height made below few. omega (arith, few, unlock_most t.halves.items height some))
+      (λ height made below few. let low = level_below op height old s kept.at_root.named.splits below in omega (arith, few, low, unlock_most t.halves.items height some))
 
 -- so each, by its phase
 pub climb_nears : (p : Phase) → IsClimb p → (op : ℕ) (old new : ArenaView) (before after : Walk) (s t : Splits) → before.phase ≡ p
     → AreNodes old.nodes → KeptSplit p old op s → IsClimbFrom p op old new before after s t
     → (height made : ℕ) → IsAtPoint height made old before s → IsAtPoint height (made + 1) new after t
-climb_nears SplitPrev i op old new before after s t at_p nodes kept c = prev_nears op old new before after s t at_p kept c
-climb_nears LockParent i op old new before after s t at_p nodes kept c = lock_nears op old new before after s t at_p kept c
-climb_nears InsertChild i op old new before after s t at_p nodes kept c = insert_nears op old new before after s t at_p kept c
-climb_nears InteriorSplit i op old new before after s t at_p nodes kept c = split_nears op old new before after s t kept at_p nodes c
-climb_nears Reparent i op old new before after s t at_p nodes kept c = reparent_nears op old new before after s t at_p kept c
-climb_nears RootGrow i op old new before after s t at_p nodes kept c = grow_nears op old new before after s t at_p kept c
-climb_nears _ i op old new before after s t at_p nodes kept c = absurd i
+climb_nears p i op old new before after s t at_p nodes =
+    by_climb (λ p. before.phase ≡ p → KeptSplit p old op s → IsClimbFrom p op old new before after s t → Nearer op old new before after s t)
+    (prev_nears op old new before after s t)
+    (lock_nears op old new before after s t)
+    (insert_nears op old new before after s t)
+    (λ at_p kept c. split_nears op old new before after s t kept at_p nodes c)
+    (reparent_nears op old new before after s t)
+    (grow_nears op old new before after s t)
+    p i at_p

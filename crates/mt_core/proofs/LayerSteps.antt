@@ -1,7 +1,7 @@
 -- The steps of an operation that makes a layer, and that they bring it on: for `Inner::build` and `leave`.
 use Rattle.std.proofs.Common.{List, None, Option, Some, [], ap, arith, false, inl, inr, length, refl, set, subst, sym, true, ℕ, ◌+◌, ◌<◌, ◌∙◌, ◌∷◌, ◌≡◌, ◌≤◌}
 use Rattle.std.specs.Prelude.{min, ◌*◌, ◌^◌}
-use Rattle.std.proofs.lemmas.Bool.{cases_lt}
+use Rattle.std.proofs.lemmas.Bool.{cases_lt, both_ways}
 use Rattle.mt_slices.specs.Keys.{IsStoredKey}
 use Rattle.mt_rows.specs.declared.reply.Reply.TheVariants.{NoMemory}
 use Rattle.mt_rows.specs.Rows.{Bytes}
@@ -10,8 +10,9 @@ use Rattle.mt_arena.specs.Edits.{unlocked}
 use Rattle.mt_arena.specs.Arena.{ArenaView, Guarantee, IsArena}
 use Rattle.mt_arena.proofs.OneLink as OneLink
 use Rattle.mt_arena.specs.Accesses.{at}
+use Rattle.mt_operation.proofs.Phases.{by_layer}
 use Rattle.mt_operation.specs.declared.phase.Phase.{Phase}
-use Rattle.mt_operation.specs.declared.phase.Phase.TheVariants.{Done, Enter, Link, MakeLayer, MarkLayer, MarkUnstable, Unlock}
+use Rattle.mt_operation.specs.declared.phase.Phase.TheVariants.{Enter, Link, MakeLayer, MarkLayer, MarkUnstable, Unlock}
 use Rattle.mt_operation.specs.declared.walk.Walk.{Walk}
 use Rattle.mt_operation.specs.declared.splits.Halves.{Halves}
 use Rattle.mt_operation.specs.declared.splits.Splits.{Splits}
@@ -37,7 +38,6 @@ use Rattle.mt_state.proofs.LayerNodes.{LeavesNodes, layer_keeps, layer_goes, lay
 use Rattle.mt_core.specs.Budgets.{AreBelow, IsLiveTree, above, astray, before_unlock}
 use Rattle.mt_core.specs.Points.{HasMade, HasRemoved, IsRemovalAt, IsAtPoint, MayHaveGrown, Nears, StepsOn}
 use Rattle.mt_core.proofs.Following.{IsSound, IsOver, made, write_no_scan}
-use Rattle.std.proofs.lemmas.Bool.{both_ways}
 use Rattle.mt_operation.specs.declared.walk.Aim.{Aim}
 use Rattle.mt_operation.specs.declared.walk.Aim.TheVariants as aims
 use Rattle.mt_core.proofs.Leading.{no_step, leads_over}
@@ -100,18 +100,10 @@ layer_live _ i v o key w kept = absurd i
 -- no removal makes a layer
 -- and none but a put makes one
 layer_writes : (p : Phase) → IsLayerPhase p → (aim : Aim) → IsOfKind p aim → aim ≡ aims.Write
-layer_writes MakeLayer i aim kind = kind
-layer_writes MarkUnstable i aim kind = kind
-layer_writes Link i aim kind = kind
-layer_writes MarkLayer i aim kind = kind
-layer_writes _ i aim kind = absurd i
+layer_writes p i aim = by_layer (λ p. IsOfKind p aim → aim ≡ aims.Write) (λ k. k) (λ k. k) (λ k. k) (λ k. k) p i
 
 layer_none : (p : Phase) → IsLayerPhase p → (height round made : ℕ) (v : ArenaView) (w : Walk) → HasRemoved p height round made v w → ⊥
-layer_none MakeLayer i height round made v w few = few
-layer_none MarkUnstable i height round made v w few = few
-layer_none Link i height round made v w few = few
-layer_none MarkLayer i height round made v w few = few
-layer_none _ i height round made v w few = absurd i
+layer_none p i height round made v w = by_layer (λ p. HasRemoved p height round made v w → ⊥) (λ k. k) (λ k. k) (λ k. k) (λ k. k) p i
 
 -- what an operation that leaves its layer has made until then
 unsplit_few : (halves : List Halves) (n height rest : ℕ) → halves ≡ [] → n ≤ rest + before_unlock halves height → n ≤ rest + (3 * height + 7)

@@ -32,6 +32,7 @@ pub mod Bystanders
 pub mod Righting
 pub mod LayerSteps
 pub mod WriteBodies
+pub mod WalkBounds
 pub mod WriteSteps
 pub mod Climbing
 pub mod ClimbingNears

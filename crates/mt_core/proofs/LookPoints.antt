@@ -17,16 +17,20 @@ use Rattle.mt_arena.specs.Nodes.{IsChild}
 use Rattle.mt_arena.specs.Forests.{tree_at}
 use Rattle.mt_arena.specs.Arena.{ArenaView, IsArena}
 use Rattle.mt_arena.specs.Accesses.{at}
+use Rattle.mt_operation.specs.Phases.{Kind, row, IsDescent}
+use Rattle.mt_operation.specs.Phases as kinds
+use Rattle.mt_operation.proofs.Phases.{by_descent}
+use Rattle.mt_core.proofs.WalkBounds.{IsWayKind, walk_kind}
+use Rattle.mt_core.specs.Points.{MadeBy, HasMade, MayHaveGrown, IsAtPoint}
 use Rattle.mt_operation.specs.declared.walk.Aim.{Aim}
 use Rattle.mt_operation.specs.declared.walk.Aim.TheVariants as aims
 use Rattle.mt_operation.specs.declared.phase.Phase.{Phase}
-use Rattle.mt_operation.specs.declared.phase.Phase.TheVariants.{Enter, Pick, Child, Verify, Search, Load, Confirm, Forward, Lock, Unlock, Done, Snap}
+use Rattle.mt_operation.specs.declared.phase.Phase.TheVariants.{Enter, Pick, Child, Verify, Search, Load, Confirm, Forward, Unlock, Done}
 use Rattle.mt_operation.specs.declared.walk.Taken.{Taken}
 use Rattle.mt_operation.specs.declared.walk.Taken.TheVariants.{Missing, Row, Link, Nothing}
 use Rattle.mt_operation.specs.declared.walk.Walk.{Walk}
 use Rattle.mt_operation.specs.declared.splits.Halves.{Halves}
 use Rattle.mt_operation.specs.declared.splits.Splits.{Splits}
-use Rattle.mt_operation.specs.Phases.{IsDescent}
 use Rattle.mt_descent.specs.Seen.{Stands, HasNext, IsRemembered}
 use Rattle.mt_descent.specs.Pasts.{Past}
 use Rattle.mt_descent.specs.KeptWalks.{GoesThrough, slice_in, IsAtVerify, IsAtConfirm, IsAtForward, TakenHolds, KeptAt, IsKept, IsAtBorder}
@@ -36,7 +40,6 @@ use Rattle.mt_state.proofs.Decides.{same_or_not, outdated_or_not}
 use Rattle.mt_core.proofs.Points.{below_at, few_at}
 use Rattle.mt_core.proofs.Astray.{behind_fewer}
 use Rattle.mt_core.specs.Budgets.{AreBelow, Budget, SeesNow, behind, astray, level_of, above, until, IsBudget, IsLiveTree, TookLiveTree, WalksBy, budget_of}
-use Rattle.mt_core.specs.Points.{HasMade, MayHaveGrown, IsAtPoint}
 use Rattle.mt_arena.proofs.OneLink.{leads}
 use Rattle.mt_operation.specs.declared.walk.Taken.TheVariants as takens
 
@@ -353,25 +356,17 @@ height_law v height arena below = record {
 
 -- the phases on the way are those of which it speaks
 pub walks_made : (p : Phase) (height made : ℕ) (v : ArenaView) (w : Walk) (s : Splits) → WalksBy p (budget_of height) made v w → HasMade p height made v w s
-walks_made Enter height made v w s few = few
-walks_made Pick height made v w s few = few
-walks_made Child height made v w s few = few
-walks_made Verify height made v w s few = few
-walks_made Search height made v w s few = few
-walks_made Load height made v w s few = few
-walks_made Confirm height made v w s few = few
-walks_made Forward height made v w s few = few
-walks_made Lock height made v w s few = few
-walks_made Snap height made v w s few = few
-walks_made _ height made v w s few = absurd few
+walks_made p height made v w s few = by (row p).kind (walk_kind p (budget_of height) made v w few)
+  where
+    by : (k : Kind) → IsWayKind k → MadeBy k p height made v w s
+    by kinds.Descends is = few
+    by kinds.Reads is = few
+    by kinds.Scans is = few
+    by kinds.Locks is = few
+    by _ is = absurd is
 
 made_walks : (p : Phase) → IsDescent p → (height made : ℕ) (v : ArenaView) (w : Walk) (s : Splits) → HasMade p height made v w s → WalksBy p (budget_of height) made v w
-made_walks Enter i height made v w s few = few
-made_walks Pick i height made v w s few = few
-made_walks Child i height made v w s few = few
-made_walks Verify i height made v w s few = few
-made_walks Forward i height made v w s few = few
-made_walks _ i height made v w s few = absurd i
+made_walks p i height made v w s = by_descent (λ p. HasMade p height made v w s → WalksBy p (budget_of height) made v w) (λ k. k) (λ k. k) (λ k. k) (λ k. k) (λ k. k) p i
 
 descent_ungrown : (p : Phase) → IsDescent p → (halves : List Halves) → ¬ MayHaveGrown p halves
 descent_ungrown Unlock i halves grown = i

@@ -21,12 +21,16 @@ use Rattle.mt_arena.specs.RootLevels.{levels_above, levels_among, levels_if, lev
 use Rattle.mt_arena.proofs.Elsewhere.{layer_is}
 use Rattle.mt_arena.proofs.Heights.{any_below_live}
 use Rattle.mt_arena.proofs.RootLevels.{above_few, above_live}
+use Rattle.mt_operation.specs.Phases.{Kind, row, IsDescent, IsRemovalPhase, MayFollow, is_done}
+use Rattle.mt_operation.specs.Phases as kinds
+use Rattle.mt_operation.proofs.Phases.{IsBehindBy, behind_removal, by_descent, by_removal, few_ranks}
+use Rattle.mt_core.proofs.WalkBounds.{IsWayKind, few_walked, walk_kind}
+use Rattle.mt_core.specs.Points.{RemovedBy, RoundsBy, HasRemoved, HasRounds, IsRemovalAt, RoundsAt, before_round, round_budget}
 use Rattle.mt_operation.specs.declared.phase.Phase.{Phase}
-use Rattle.mt_operation.specs.declared.phase.Phase.TheVariants.{Child, CleanLayer, Collapse, Confirm, Done, DropKey, Enter, FixNext, Forward, Judge, Load, Lock, LockAbove, LockPrev, Pick, Search, Unlink, Unlock, Verify, Snap}
+use Rattle.mt_operation.specs.declared.phase.Phase.TheVariants.{CleanLayer, Collapse, Done, DropKey, FixNext, Forward, Judge, Lock, LockAbove, LockPrev, Unlink, Unlock}
 use Rattle.mt_operation.specs.declared.walk.Walk.{Walk}
 use Rattle.mt_operation.specs.declared.outcome.Outcome.{Outcome}
 use Rattle.mt_operation.specs.declared.removal.Removal.{Removal}
-use Rattle.mt_operation.specs.Phases.{IsDescent, IsRemovalPhase, MayFollow, is_done}
 use Rattle.mt_slices.specs.Slices.{slice_of}
 use Rattle.mt_descent.specs.Seen.{IsOutdated, IsRemembered}
 use Rattle.mt_descent.specs.KeptWalks.{GoesThrough, IsAtBorder}
@@ -41,7 +45,6 @@ use Rattle.mt_state.specs.Phases.{LeadsTo, ScanStep}
 use Rattle.mt_state.proofs.RemovalBy.{child_before}
 use Rattle.mt_state.proofs.Decides.{outdated_or_not}
 use Rattle.mt_core.specs.Budgets.{Budget, IsBudget, IsLiveTree, WalksBy, astray, behind, until}
-use Rattle.mt_core.specs.Points.{HasRemoved, HasRounds, IsRemovalAt, RoundsAt, before_round, round_budget}
 use Rattle.mt_core.proofs.Points.{removed_at, rounds_at}
 
 -- nodes of the same levels make the same levels of trees
@@ -312,7 +315,7 @@ ready_removal v x w slot r goes at_judge is_arena there stands of shallow height
 pub emptied_removal : (u : ArenaView) (x w : Walk) (s t : Removal) (told : Option Outcome) (height made round : ℕ) → GoesOnEmptied u x w s t → told ≢ None
     → live_count u.nodes ≤ height → round + x.layer ≤ 31 → made + 9 ≤ before_round height (round + 1) → IsRemovalAt height made u w told t
 emptied_removal u x w s t told height made round goes some live left few = elim (unlinks_or_not u x.place.node) [
-  | inl is ↦ subst (λ (y : Walk). IsRemovalAt height made u y told t) (sym (goes.unlinks is)) (record { round = round; most = omega (arith, left); live = live; rounds = left; few = few })
+  | inl is ↦ subst (λ (y : Walk). IsRemovalAt height made u y told t) (sym (goes.unlinks is)) (record { round = round; most = omega (arith, left); live = live; rounds = left; few = omega (arith, few) })
   | inr other ↦ subst (λ (y : Walk). IsRemovalAt height made u y told t) (sym (goes.returns other)) (record { round = round; most = omega (arith, left); live = live; rounds = (left, some); few = omega (arith, few) })
 ]
 
@@ -345,55 +348,27 @@ module _ (o step : ℕ) (key : Bytes) (v u : ArenaView) (x w : Walk) (s : Remova
 -- so the number of steps after it, and the rounds
 taken_few : (p q : Phase) → IsRemovalPhase p → MayFollow p q → (height round n : ℕ) (v u : ArenaView) (x w : Walk) → HasRemoved p height round n v x
     → HasRemoved q height round (n + 1) u w
-taken_few LockPrev LockAbove i follows height round n v u x w few = omega (arith, few)
-taken_few LockPrev _ i follows height round n v u x w few = absurd follows
-taken_few LockAbove Unlink i follows height round n v u x w few = omega (arith, few)
-taken_few LockAbove Unlock i follows height round n v u x w few = omega (arith, few)
-taken_few LockAbove _ i follows height round n v u x w few = absurd follows
-taken_few Unlink FixNext i follows height round n v u x w few = omega (arith, few)
-taken_few Unlink Collapse i follows height round n v u x w few = omega (arith, few)
-taken_few Unlink Unlock i follows height round n v u x w few = omega (arith, few)
-taken_few Unlink _ i follows height round n v u x w few = absurd follows
-taken_few FixNext Collapse i follows height round n v u x w few = omega (arith, few)
-taken_few FixNext Unlock i follows height round n v u x w few = omega (arith, few)
-taken_few FixNext _ i follows height round n v u x w few = absurd follows
-taken_few Collapse Unlock i follows height round n v u x w few = omega (arith, few)
-taken_few Collapse _ i follows height round n v u x w few = absurd follows
-taken_few CleanLayer LockPrev i follows height round n v u x w few = omega (arith, few)
-taken_few CleanLayer Unlock i follows height round n v u x w few = omega (arith, few)
-taken_few CleanLayer _ i follows height round n v u x w few = absurd follows
-taken_few _ q i follows height round n v u x w few = absurd i
+taken_few p q i follows height round n v u x w few =
+    let on = behind_removal p q i follows in behind (row q).kind on.0 (by_removal (λ p. HasRemoved p height round n v x → n + 12 ≤ before_round height (round + 1) + (row p).rank)
+    (λ k. k) (λ k. k) (λ k. k) (λ k. k) (λ k. k) (λ k. k) p i few) on.1
+  where
+    behind : (k : Kind) → IsBehindBy k → n + 12 ≤ before_round height (round + 1) + (row p).rank → (row p).rank < (row q).rank → RemovedBy k q height round (n + 1) u w
+    behind kinds.Unlinks is upto on = omega (arith, upto, on)
+    behind kinds.Returns is upto on = omega (arith, upto, on)
+    behind _ is upto on = absurd is
 
 left_before : (p : Phase) → IsRemovalPhase p → (told : Option Outcome) (round : ℕ) (v : ArenaView) (x : Walk) (r : Removal) → RoundsAt p told round v x r
     → round + x.layer ≤ 31
-left_before LockPrev i told round v x r left = left
-left_before LockAbove i told round v x r left = left
-left_before Unlink i told round v x r left = left
-left_before FixNext i told round v x r left = left
-left_before Collapse i told round v x r left = left
-left_before CleanLayer i told round v x r left = left
-left_before _ i told round v x r left = absurd i
+left_before p i told round v x r = by_removal (λ p. RoundsAt p told round v x r → round + x.layer ≤ 31) (λ k. k) (λ k. k) (λ k. k) (λ k. k) (λ k. k) (λ k. k) p i
 
 left_behind : (p q : Phase) → IsRemovalPhase p → MayFollow p q → (told : Option Outcome) → told ≢ None → (round : ℕ) (v : ArenaView) (w : Walk) (r : Removal)
     → round + w.layer ≤ 31 → RoundsAt q told round v w r
-left_behind LockPrev LockAbove i follows told some round v w r left = left
-left_behind LockPrev _ i follows told some round v w r left = absurd follows
-left_behind LockAbove Unlink i follows told some round v w r left = left
-left_behind LockAbove Unlock i follows told some round v w r left = (left, some)
-left_behind LockAbove _ i follows told some round v w r left = absurd follows
-left_behind Unlink FixNext i follows told some round v w r left = left
-left_behind Unlink Collapse i follows told some round v w r left = left
-left_behind Unlink Unlock i follows told some round v w r left = (left, some)
-left_behind Unlink _ i follows told some round v w r left = absurd follows
-left_behind FixNext Collapse i follows told some round v w r left = left
-left_behind FixNext Unlock i follows told some round v w r left = (left, some)
-left_behind FixNext _ i follows told some round v w r left = absurd follows
-left_behind Collapse Unlock i follows told some round v w r left = (left, some)
-left_behind Collapse _ i follows told some round v w r left = absurd follows
-left_behind CleanLayer LockPrev i follows told some round v w r left = left
-left_behind CleanLayer Unlock i follows told some round v w r left = (left, some)
-left_behind CleanLayer _ i follows told some round v w r left = absurd follows
-left_behind _ q i follows told some round v w r left = absurd i
+left_behind p q i follows told some round v w r left = behind (row q).kind (behind_removal p q i follows).0
+  where
+    behind : (k : Kind) → IsBehindBy k → RoundsBy k told round v w r
+    behind kinds.Unlinks is = left
+    behind kinds.Returns is = (left, some)
+    behind _ is = absurd is
 
 pub taken_removal : (p : Phase) → IsRemovalPhase p → (v u : ArenaView) (x w : Walk) (told : Option Outcome) (s t : Removal) → x.phase ≡ p → MayFollow p w.phase
     → w ≡ walk_at w.phase x → told ≢ None → live_count u.nodes ≤ live_count v.nodes
@@ -433,46 +408,31 @@ back_removal v u x w told s t at_unlock goes cleans is_arena trees of fewer heig
 
 -- a step down brings it on too
 walks_removed : (q : Phase) (height round made : ℕ) (v : ArenaView) (w : Walk) → WalksBy q (round_budget height round v) made v w → HasRemoved q height round made v w
-walks_removed Judge height round made v w few = absurd few
-walks_removed DropKey height round made v w few = absurd few
-walks_removed CleanLayer height round made v w few = absurd few
-walks_removed LockPrev height round made v w few = absurd few
-walks_removed LockAbove height round made v w few = absurd few
-walks_removed Unlink height round made v w few = absurd few
-walks_removed FixNext height round made v w few = absurd few
-walks_removed Collapse height round made v w few = absurd few
-walks_removed Unlock height round made v w few = absurd few
-walks_removed _ height round made v w few = few
+walks_removed p height round made v w few = by (row p).kind (walk_kind p (round_budget height round v) made v w few)
+  where
+    by : (k : Kind) → IsWayKind k → RemovedBy k p height round made v w
+    by kinds.Descends is = few
+    by kinds.Reads is = few
+    by kinds.Scans is = few
+    by kinds.Locks is = few
+    by _ is = absurd is
 
 removed_walks : (p : Phase) → IsDescent p → (height round made : ℕ) (v : ArenaView) (w : Walk) → HasRemoved p height round made v w → WalksBy p (round_budget height round v) made v w
-removed_walks Enter i height round made v w few = few
-removed_walks Pick i height round made v w few = few
-removed_walks Child i height round made v w few = few
-removed_walks Verify i height round made v w few = few
-removed_walks Forward i height round made v w few = few
-removed_walks _ i height round made v w few = absurd i
+removed_walks p i height round made v w = by_descent (λ p. HasRemoved p height round made v w → WalksBy p (round_budget height round v) made v w) (λ k. k) (λ k. k) (λ k. k) (λ k. k) (λ k. k) p i
 
 rounds_walk : (q : Phase) (b : Budget) (made : ℕ) (v : ArenaView) (w : Walk) (told : Option Outcome) (round : ℕ) (r : Removal) → WalksBy q b made v w → HasRounds told round v r
     → RoundsAt q told round v w r
-rounds_walk Enter b made v w told round r few left = left
-rounds_walk Pick b made v w told round r few left = left
-rounds_walk Child b made v w told round r few left = left
-rounds_walk Verify b made v w told round r few left = left
-rounds_walk Search b made v w told round r few left = left
-rounds_walk Load b made v w told round r few left = left
-rounds_walk Confirm b made v w told round r few left = left
-rounds_walk Forward b made v w told round r few left = left
-rounds_walk Lock b made v w told round r few left = left
-rounds_walk Snap b made v w told round r few left = left
-rounds_walk _ b made v w told round r few left = absurd few
+rounds_walk q b made v w told round r few left = by (row q).kind (walk_kind q b made v w few)
+  where
+    by : (k : Kind) → IsWayKind k → RoundsBy k told round v w r
+    by kinds.Descends is = left
+    by kinds.Reads is = left
+    by kinds.Scans is = left
+    by kinds.Locks is = left
+    by _ is = absurd is
 
 descent_rounds : (p : Phase) → IsDescent p → (told : Option Outcome) (round : ℕ) (v : ArenaView) (w : Walk) (r : Removal) → RoundsAt p told round v w r → HasRounds told round v r
-descent_rounds Enter i told round v w r left = left
-descent_rounds Pick i told round v w r left = left
-descent_rounds Child i told round v w r left = left
-descent_rounds Verify i told round v w r left = left
-descent_rounds Forward i told round v w r left = left
-descent_rounds _ i told round v w r left = absurd i
+descent_rounds p i told round v w r = by_descent (λ p. RoundsAt p told round v w r → HasRounds told round v r) (λ k. k) (λ k. k) (λ k. k) (λ k. k) (λ k. k) p i
 
 pub descent_removal : (v : ArenaView) (w x : Walk) (told : Option Outcome) (r : Removal) → IsArena v.nodes v.trees → IsDescent w.phase
     → ((b : Budget) → IsBudget v b → (made : ℕ) → WalksBy w.phase b made v w → WalksBy x.phase b (made + 1) v x)
@@ -493,7 +453,7 @@ few_round : (height round : ℕ) → round ≤ 32 → before_round height round 
 few_round height round most = let rounds = mul-le-mul_right (3 * height + 404) most in omega (arith, rounds)
 
 few_removed : (p : Phase) (height round made : ℕ) (v : ArenaView) (w : Walk) → round ≤ 32 → HasRemoved p height round made v w → made < 256 * (height + 64)
-few_removed p height round made v w most few = by p few
+few_removed p height round made v w most few = by (row p).kind few
   where
     here : before_round height round ≤ 4 * height + 16 + 32 * (3 * height + 404)
     here = few_round height round most
@@ -507,29 +467,22 @@ few_removed p height round made v w most few = by p few
     tall : (round_budget height round v).tall w.place.tree ≤ height
     tall = min-le_right (levels_of v.nodes (tree_at v.trees w.place.tree)) height
 
-    by : (q : Phase) → HasRemoved q height round made v w → made < 256 * (height + 64)
-    by Enter few = elim few [ inl now ↦ omega (arith, now.1, here, enters) | inr strays ↦ omega (arith, strays) ]
-    by Pick few = elim few [ inl now ↦ omega (arith, now.1, here, enters, tall) | inr strays ↦ omega (arith, strays) ]
-    by Child few = elim few [ inl now ↦ omega (arith, now.1, here, enters, tall) | inr strays ↦ omega (arith, strays) ]
-    by Verify few = elim few [
-      | inl now ↦ omega (arith, now.2, here, enters, tall)
-      | inr lost ↦ elim lost [ inl sees ↦ omega (arith, sees.1) | inr strays ↦ omega (arith, strays) ]
-    ]
-    by Search few = elim few [ inl now ↦ omega (arith, now.1, here, enters, tall) | inr strays ↦ omega (arith, strays) ]
-    by Snap few = elim few [ inl now ↦ omega (arith, now.1, here, enters, tall) | inr strays ↦ omega (arith, strays) ]
-    by Load few = elim few [ inl now ↦ omega (arith, now.1, here, enters, tall) | inr strays ↦ omega (arith, strays) ]
-    by Confirm few = elim few [ inl now ↦ omega (arith, now.2, here, enters, tall) | inr strays ↦ omega (arith, strays) ]
-    by Forward few = elim few [ inl now ↦ omega (arith, now.1) | inr strays ↦ omega (arith, strays) ]
-    by Lock few = elim few [ inl now ↦ omega (arith, now.1, here, enters, tall) | inr strays ↦ omega (arith, strays) ]
-    by Judge few = omega (arith, few, here, enters, tall)
-    by DropKey few = omega (arith, few, here, next)
-    by CleanLayer few = omega (arith, few, here, next)
-    by LockPrev few = omega (arith, few, here, next)
-    by LockAbove few = omega (arith, few, here, next)
-    by Unlink few = omega (arith, few, here, next)
-    by FixNext few = omega (arith, few, here, next)
-    by Collapse few = omega (arith, few, here, next)
-    by Unlock few = omega (arith, few, here, next)
+    walked : WalksBy p (round_budget height round v) made v w → made < 256 * (height + 64)
+    walked few = elim (few_walked p (round_budget height round v) made v w few) [ inl now ↦ omega (arith, now, here, enters, tall) | inr strays ↦ omega (arith, strays) ]
+
+    ranked : made + 12 ≤ before_round height (round + 1) + (row p).rank → made < 256 * (height + 64)
+    ranked few = omega (arith, few, here, next, few_ranks p)
+
+    by : (k : Kind) → RemovedBy k p height round made v w → made < 256 * (height + 64)
+    by kinds.Descends few = walked few
+    by kinds.Reads few = walked few
+    by kinds.Scans few = walked few
+    by kinds.Locks few = walked few
+    by kinds.Judges few = omega (arith, few, here, enters, tall, few_ranks p)
+    by kinds.Drops few = ranked few
+    by kinds.Unlinks few = ranked few
+    by kinds.Cleans few = ranked few
+    by kinds.Returns few = ranked few
     by _ few = absurd few
 
 pub few_removal : (height made : ℕ) (v : ArenaView) (w : Walk) (told : Option Outcome) (r : Removal) → IsRemovalAt height made v w told r → made < 256 * (height + 64)

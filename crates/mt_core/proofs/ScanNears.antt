@@ -21,8 +21,9 @@ use Rattle.mt_arena.specs.Layers.{slot_at}
 use Rattle.mt_arena.specs.Arena.{ArenaView, IsArena}
 use Rattle.mt_arena.specs.Accesses.{at}
 use Rattle.mt_arena.proofs.OneLink.{leads}
+use Rattle.mt_operation.proofs.Phases.{by_descent}
 use Rattle.mt_operation.specs.declared.phase.Phase.{Phase}
-use Rattle.mt_operation.specs.declared.phase.Phase.TheVariants.{Enter, Pick, Child, Verify, Search, Load, Confirm, Forward, Lock, Snap, Check, Hop, Done}
+use Rattle.mt_operation.specs.declared.phase.Phase.TheVariants.{Enter, Forward, Snap, Check, Hop, Done}
 use Rattle.mt_operation.specs.declared.walk.Aim.{Aim}
 use Rattle.mt_operation.specs.declared.walk.Aim.TheVariants as aims
 use Rattle.mt_operation.specs.declared.walk.Walk.{Walk}
@@ -46,6 +47,7 @@ use Rattle.mt_operation.specs.Tasks.{aim_of}
 use Rattle.mt_state.proofs.Decides.{same_or_not}
 use Rattle.mt_core.specs.Budgets.{Budget, IsBudget, SeesNow, WalksBy, astray, behind, budget_of, until}
 use Rattle.mt_core.specs.ScanPoints.{LeadsOnward, HopsBy, ScansBy, IsScanAt, trees_ahead, nodes_ahead, begin_of, is_behind_tree, round_of}
+use Rattle.mt_core.proofs.WalkBounds.{few_walked}
 use Rattle.mt_core.proofs.Ahead.{behind_all, not_behind, not_below, not_itself, trees_less, trees_fewer, nodes_less, nodes_fewer}
 use Rattle.mt_core.proofs.LookPoints.{height_law, next_layer, shallow_below, same_now, comes_onto}
 
@@ -59,26 +61,13 @@ scan_aim _ e = absurd (cc)
 
 -- the phases of a way that is to scan are those of which it speaks
 walks_of : (p : Phase) → IsDescent p → (stop : Stop) (height n : ℕ) (v : ArenaView) (w : Walk) → ScansBy p stop height n v w → WalksBy p (budget_of height) n v w
-walks_of Enter i stop height n v w few = few
-walks_of Pick i stop height n v w few = few
-walks_of Child i stop height n v w few = few
-walks_of Verify i stop height n v w few = few
-walks_of Forward i stop height n v w few = few
-walks_of _ i stop height n v w few = absurd i
+walks_of p i stop height n v w = by_descent (λ p. ScansBy p stop height n v w → WalksBy p (budget_of height) n v w) (λ k. k) (λ k. k) (λ k. k) (λ k. k) (λ k. k) p i
 
 pub scans_of : (p : Phase) (aim : Aim) → IsOfKind p aim → aim ≡ aims.Scan → (stop : Stop) (height n : ℕ) (v : ArenaView) (w : Walk) → WalksBy p (budget_of height) n v w
     → ScansBy p stop height n v w
-scans_of Enter aim kind scans stop height n v w few = few
-scans_of Pick aim kind scans stop height n v w few = few
-scans_of Child aim kind scans stop height n v w few = few
-scans_of Verify aim kind scans stop height n v w few = few
-scans_of Forward aim kind scans stop height n v w few = few
-scans_of Snap aim kind scans stop height n v w few = few
-scans_of Search aim kind scans stop height n v w few = absurd (let both = sym kind ∙ scans in cc)
-scans_of Load aim kind scans stop height n v w few = absurd (let both = sym kind ∙ scans in cc)
-scans_of Confirm aim kind scans stop height n v w few = absurd (let both = sym kind ∙ scans in cc)
-scans_of Lock aim kind scans stop height n v w few = absurd (let both = sym kind ∙ scans in cc)
-scans_of _ aim kind scans stop height n v w few = absurd few
+scans_of Check aim kind scans stop height n v w few = absurd few
+scans_of Hop aim kind scans stop height n v w few = absurd few
+scans_of _ aim kind scans stop height n v w few = few
 
 -- the number of the first step says nothing of it
 few_first : (p : Phase) (stop : Stop) (height n first : ℕ) (v : ArenaView) (w : Walk) → ScansBy p stop height n v w → ScansBy p stop height n v (record w { first = first })
@@ -361,18 +350,9 @@ hop_few stops.Tree height n v w few = omega (arith, few)
 hop_few stops.Tenant height n v w few = omega (arith, few)
 
 round_few : (p : Phase) (stop : Stop) (height n : ℕ) (v : ArenaView) (w : Walk) → ScansBy p stop height n v w → n ≤ round_of height
-round_few Enter stop height n v w few = elim few [ inl now ↦ omega (arith, now.1, capped height w) | inr strays ↦ omega (arith, strays) ]
-round_few Pick stop height n v w few = elim few [ inl now ↦ omega (arith, now.1, capped height w) | inr strays ↦ omega (arith, strays) ]
-round_few Child stop height n v w few = elim few [ inl now ↦ omega (arith, now.1, capped height w) | inr strays ↦ omega (arith, strays) ]
-round_few Verify stop height n v w few = elim few [
-  | inl now ↦ omega (arith, now.2, capped height w)
-  | inr lost ↦ elim lost [ inl sees ↦ omega (arith, sees.1) | inr strays ↦ omega (arith, strays) ]
-]
-round_few Forward stop height n v w few = elim few [ inl now ↦ omega (arith, now.1) | inr strays ↦ omega (arith, strays) ]
-round_few Snap stop height n v w few = elim few [ inl now ↦ omega (arith, now.1, capped height w) | inr strays ↦ omega (arith, strays) ]
 round_few Check stop height n v w few = elim few [ inl now ↦ omega (arith, now.2, capped height w) | inr strays ↦ omega (arith, strays) ]
 round_few Hop stop height n v w few = hop_few stop height n v w few
-round_few _ stop height n v w few = absurd few
+round_few p stop height n v w few = elim (few_walked p (budget_of height) n v w few) [ inl now ↦ omega (arith, now, capped height w) | inr strays ↦ omega (arith, strays) ]
 
 -- so it makes few steps in all, and is not done
 most_rounds : (height trees made : ℕ) → made ≤ round_of height + 3 * height + round_of height * trees → made < 256 * (height + 64) * (trees + 1)

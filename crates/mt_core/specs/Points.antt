@@ -1,10 +1,10 @@
 -- How far an operation has come that nobody is in the way of, also where it was disturbed before, and that each of its steps brings it on.
-use Rattle.std.specs.Prelude.{◌≡◌, ◌≢◌, ℕ, ◌+◌, ◌*◌, ◌<◌, ◌≤◌, min, List, ◌∷◌, length, Option, None, Some, Bool, true, false}
+use Rattle.std.specs.Prelude.{◌≡◌, ◌≢◌, ℕ, ◌+◌, ◌-◌, ◌*◌, ◌<◌, ◌≤◌, min, List, ◌∷◌, length, Option, None, Some, Bool, true, false}
 use Rattle.mt_arena.specs.Arena.{ArenaView, live_count}
 use Rattle.mt_arena.specs.RootLevels.{levels_above, levels_of}
 use Rattle.mt_arena.specs.Accesses.{at}
 use Rattle.mt_operation.specs.declared.phase.Phase.{Phase}
-use Rattle.mt_operation.specs.declared.phase.Phase.TheVariants.{Enter, Pick, Child, Verify, Search, Load, Confirm, Forward, Lock, Judge, Store, Publish, SplitStart, SplitMove, SplitPrev, LockParent, InsertChild, InteriorSplit, Reparent, RootGrow, MakeLayer, MarkUnstable, Link, MarkLayer, DropKey, LockPrev, LockAbove, Unlink, FixNext, Collapse, CleanLayer, Unlock, Snap}
+use Rattle.mt_operation.specs.declared.phase.Phase.TheVariants.{Reparent, Unlock}
 use Rattle.mt_operation.specs.declared.walk.Walk.{Walk}
 use Rattle.mt_operation.specs.declared.splits.Halves.{Halves}
 use Rattle.mt_operation.specs.declared.splits.Splits.{Splits}
@@ -21,40 +21,35 @@ use Rattle.mt_rows.specs.Maps.{is_scan}
 use Rattle.mt_operation.specs.Tasks.{ask}
 use Rattle.mt_operation.specs.declared.outcome.Outcome.{Outcome}
 use Rattle.mt_operation.specs.declared.removal.Removal.{Removal}
-use Rattle.mt_operation.specs.Phases.{Holding, Emptied, Last, holds_of, row}
+use Rattle.mt_operation.specs.Phases.{Kind, row}
+use Rattle.mt_operation.specs.Phases as kinds
 use Rattle.mt_remove.specs.Writes.{is_remove}
 use Rattle.mt_core.specs.Budgets.{AreBelow, astray, split_level, above, before_unlock, Budget, until, WalksBy, budget_of}
 use Rattle.mt_core.specs.ScanPoints.{IsScanAt}
 
--- How many steps a get or a put has made at most that comes to this phase.
+-- how many children of the last right half are still to be told of it
+abbrev pub untold : Phase → ArenaView → Splits → ℕ
+untold Reparent v s = length (at v (last_of s).right).children - s.moved
+untold _ v s = 0
+
+-- How many steps a get or a put has made at most that comes to a phase of this kind: on its way those of a walk; once it holds its border node as many more
+-- as the phase's rank tells, and twenty for each level up to which it has split nodes.
+abbrev pub MadeBy : Kind → Phase → ℕ → ℕ → ArenaView → Walk → Splits → Type 0
+MadeBy kinds.Descends p height made v w s = WalksBy p (budget_of height) made v w
+MadeBy kinds.Reads p height made v w s = WalksBy p (budget_of height) made v w
+MadeBy kinds.Scans p height made v w s = WalksBy p (budget_of height) made v w
+MadeBy kinds.Locks p height made v w s = WalksBy p (budget_of height) made v w
+MadeBy kinds.Judges p height made v w s = made ≤ above height w + 3 * height + (row p).rank
+MadeBy kinds.Writes p height made v w s = made ≤ above height w + 3 * height + (row p).rank
+MadeBy kinds.Begins p height made v w s = made ≤ above height w + 3 * height + (row p).rank
+MadeBy kinds.Splits p height made v w s = made ≤ above height w + 3 * height + (row p).rank
+MadeBy kinds.Layers p height made v w s = made ≤ above height w + 3 * height + (row p).rank
+MadeBy kinds.Climbs p height made v w s = made + untold p v s ≤ above height w + 3 * height + 20 * split_level v s + (row p).rank
+MadeBy kinds.Returns p height made v w s = made ≤ above height w + before_unlock s.halves.items height
+MadeBy _ p height made v w s = ⊥
+
 abbrev pub HasMade : Phase → ℕ → ℕ → ArenaView → Walk → Splits → Type 0
-HasMade Enter height made v w s = WalksBy Enter (budget_of height) made v w
-HasMade Pick height made v w s = WalksBy Pick (budget_of height) made v w
-HasMade Child height made v w s = WalksBy Child (budget_of height) made v w
-HasMade Verify height made v w s = WalksBy Verify (budget_of height) made v w
-HasMade Search height made v w s = WalksBy Search (budget_of height) made v w
-HasMade Snap height made v w s = WalksBy Snap (budget_of height) made v w
-HasMade Load height made v w s = WalksBy Load (budget_of height) made v w
-HasMade Confirm height made v w s = WalksBy Confirm (budget_of height) made v w
-HasMade Forward height made v w s = WalksBy Forward (budget_of height) made v w
-HasMade Lock height made v w s = WalksBy Lock (budget_of height) made v w
-HasMade Judge height made v w s = made ≤ above height w + 3 * height + 1
-HasMade Store height made v w s = made ≤ above height w + 3 * height + 2
-HasMade Publish height made v w s = made ≤ above height w + 3 * height + 2
-HasMade SplitStart height made v w s = made ≤ above height w + 3 * height + 2
-HasMade SplitMove height made v w s = made ≤ above height w + 3 * height + 3
-HasMade SplitPrev height made v w s = made ≤ above height w + 3 * height + 4
-HasMade LockParent height made v w s = made ≤ above height w + 3 * height + 20 * split_level v s + 5
-HasMade InsertChild height made v w s = made ≤ above height w + 23 * height + 6
-HasMade InteriorSplit height made v w s = made ≤ above height w + 3 * height + 20 * split_level v s + 6
-HasMade Reparent height made v w s = made + length (at v (last_of s).right).children ≤ above height w + 3 * height + 20 * split_level v s + 5 + s.moved
-HasMade RootGrow height made v w s = made ≤ above height w + 23 * height + 6
-HasMade MakeLayer height made v w s = made ≤ above height w + 3 * height + 2
-HasMade MarkUnstable height made v w s = made ≤ above height w + 3 * height + 3
-HasMade Link height made v w s = made ≤ above height w + 3 * height + 4
-HasMade MarkLayer height made v w s = made ≤ above height w + 3 * height + 5
-HasMade Unlock height made v w s = made ≤ above height w + before_unlock s.halves.items height
-HasMade _ height made v w s = ⊥
+HasMade p height made v w s = MadeBy (row p).kind p height made v w s
 
 -- the step before may have made a root
 abbrev pub MayHaveGrown : Phase → List Halves → Type 0
@@ -79,33 +74,36 @@ round_budget height round v = record {
   tall = λ t. min (levels_of v.nodes (tree_at v.trees t)) height;
 }
 
--- how many steps a removal has made at most that comes to this phase in its round of this number
+-- how many steps a removal has made at most that comes to a phase of this kind in its round of this number
+abbrev pub RemovedBy : Kind → Phase → ℕ → ℕ → ℕ → ArenaView → Walk → Type 0
+RemovedBy kinds.Descends p height round made v w = WalksBy p (round_budget height round v) made v w
+RemovedBy kinds.Reads p height round made v w = WalksBy p (round_budget height round v) made v w
+RemovedBy kinds.Scans p height round made v w = WalksBy p (round_budget height round v) made v w
+RemovedBy kinds.Locks p height round made v w = WalksBy p (round_budget height round v) made v w
+RemovedBy kinds.Judges p height round made v w = made ≤ until (round_budget height round v) w + (row p).rank
+RemovedBy kinds.Drops p height round made v w = made + 12 ≤ before_round height (round + 1) + (row p).rank
+RemovedBy kinds.Unlinks p height round made v w = made + 12 ≤ before_round height (round + 1) + (row p).rank
+RemovedBy kinds.Cleans p height round made v w = made + 12 ≤ before_round height (round + 1) + (row p).rank
+RemovedBy kinds.Returns p height round made v w = made + 12 ≤ before_round height (round + 1) + (row p).rank
+RemovedBy _ p height round made v w = ⊥
+
 abbrev pub HasRemoved : Phase → ℕ → ℕ → ℕ → ArenaView → Walk → Type 0
-HasRemoved Judge height round made v w = made ≤ until (round_budget height round v) w + 1
-HasRemoved DropKey height round made v w = made + 10 ≤ before_round height (round + 1)
-HasRemoved CleanLayer height round made v w = made + 10 ≤ before_round height (round + 1)
-HasRemoved LockPrev height round made v w = made + 9 ≤ before_round height (round + 1)
-HasRemoved LockAbove height round made v w = made + 8 ≤ before_round height (round + 1)
-HasRemoved Unlink height round made v w = made + 7 ≤ before_round height (round + 1)
-HasRemoved FixNext height round made v w = made + 6 ≤ before_round height (round + 1)
-HasRemoved Collapse height round made v w = made + 5 ≤ before_round height (round + 1)
-HasRemoved Unlock height round made v w = made + 4 ≤ before_round height (round + 1)
-HasRemoved phase height round made v w = WalksBy phase (round_budget height round v) made v w
+HasRemoved p height round made v w = RemovedBy (row p).kind p height round made v w
 
 -- so many rounds are behind it as layers above which it has still to look
 abbrev pub HasRounds : Option Outcome → ℕ → ArenaView → Removal → Type 0
 HasRounds None round v r = round ≡ 0
 HasRounds (Some told) round v r = (t : ℕ) → r.cleans ≡ Some t → round + layer_of (tree_at v.trees t).prefix ≤ 32
 
-abbrev pub RoundsBy : Holding → Option Outcome → ℕ → ArenaView → Walk → Removal → Type 0
-RoundsBy Emptied told round v w r = round + w.layer ≤ 31
-RoundsBy Last told round v w r = (round + w.layer ≤ 31) × (told ≢ None)
-RoundsBy holding told round v w r = HasRounds told round v r
+abbrev pub RoundsBy : Kind → Option Outcome → ℕ → ArenaView → Walk → Removal → Type 0
+RoundsBy kinds.Drops told round v w r = round + w.layer ≤ 31
+RoundsBy kinds.Unlinks told round v w r = round + w.layer ≤ 31
+RoundsBy kinds.Cleans told round v w r = round + w.layer ≤ 31
+RoundsBy kinds.Returns told round v w r = (round + w.layer ≤ 31) × (told ≢ None)
+RoundsBy kind told round v w r = HasRounds told round v r
 
 abbrev pub RoundsAt : Phase → Option Outcome → ℕ → ArenaView → Walk → Removal → Type 0
-RoundsAt DropKey told round v w r = round + w.layer ≤ 31
-RoundsAt CleanLayer told round v w r = round + w.layer ≤ 31
-RoundsAt phase told round v w r = RoundsBy (holds_of (row phase).kind) told round v w r
+RoundsAt p told round v w r = RoundsBy (row p).kind told round v w r
 
 -- how far a removal has come
 pub record IsRemovalAt (height made : ℕ) (v : ArenaView) (w : Walk) (told : Option Outcome) (r : Removal) : Type 0 where

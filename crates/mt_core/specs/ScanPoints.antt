@@ -14,7 +14,7 @@ use Rattle.mt_arena.specs.Forests.{tree_at}
 use Rattle.mt_arena.specs.Arena.{ArenaView, one_if_live, live_count}
 use Rattle.mt_arena.specs.Accesses.{at}
 use Rattle.mt_operation.specs.declared.phase.Phase.{Phase}
-use Rattle.mt_operation.specs.declared.phase.Phase.TheVariants.{Enter, Pick, Child, Verify, Forward, Snap, Check, Hop}
+use Rattle.mt_operation.specs.declared.phase.Phase.TheVariants.{Check, Hop}
 use Rattle.mt_operation.specs.declared.walk.Walk.{Walk}
 use Rattle.mt_operation.specs.declared.scan.Stop.{Stop}
 use Rattle.mt_operation.specs.declared.scan.Stop.TheVariants as stops
@@ -76,16 +76,10 @@ HopsBy _ height made v w = made + 2 ≤ astray height
 
 -- how many steps of its round a scan has made at most that comes to this phase
 abbrev pub ScansBy : Phase → Stop → ℕ → ℕ → ArenaView → Walk → Type 0
-ScansBy Enter stop height made v w = WalksBy Enter (budget_of height) made v w
-ScansBy Pick stop height made v w = WalksBy Pick (budget_of height) made v w
-ScansBy Child stop height made v w = WalksBy Child (budget_of height) made v w
-ScansBy Verify stop height made v w = WalksBy Verify (budget_of height) made v w
-ScansBy Forward stop height made v w = WalksBy Forward (budget_of height) made v w
-ScansBy Snap stop height made v w = WalksBy Snap (budget_of height) made v w
 ScansBy Check stop height made v w =
     (SeesNow v w × LeadsOnward v w stop × (made ≤ until (budget_of height) w + 1)) ⊎ (made + (4 + behind v w.place.node) ≤ astray height)
 ScansBy Hop stop height made v w = HopsBy stop height made v w
-ScansBy _ stop height made v w = ⊥
+ScansBy p stop height made v w = WalksBy p (budget_of height) made v w
 
 -- How far a scan has come whose walk is here, in a stretch that ends so, and whose fence is this, among so many live nodes and trees: each border node that it
 -- goes on to by its fence takes three steps, and each tree behind which it goes on from the top a whole round; what is ahead of its fence is still to come.

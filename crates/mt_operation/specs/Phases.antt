@@ -93,54 +93,57 @@ pub data Growth : Type 0 where
   EndsForWant : Growth
   StandsForWant : Growth
 
+-- What hangs on a phase alone: its number and its name; what its step does; its rank, which is how many steps of its kind and of those before it an operation
+-- makes at most since it took the lock of its border node, from level to level anew; for what it waits; what a refused growth does; and where it leads.
 pub record PhaseRow : Type 0 where
   pub number : ℕ
   pub name : List ℕ
   pub kind : Kind
+  pub rank : ℕ
   pub waits : Waiting
   pub grows : Growth
   pub next : List Phase
 
-abbrev line : ℕ → List ℕ → Kind → Waiting → Growth → List Phase → PhaseRow
-line number name kind waits grows next = record { number = number; name = name; kind = kind; waits = waits; grows = grows; next = next }
+abbrev line : ℕ → List ℕ → Kind → ℕ → Waiting → Growth → List Phase → PhaseRow
+line number name kind rank waits grows next = record { number = number; name = name; kind = kind; rank = rank; waits = waits; grows = grows; next = next }
 
 abbrev pub row : Phase → PhaseRow
-row Enter = line 0 (codes "enter") Descends RootMark TakesNone (Enter ∷ Pick ∷ Search ∷ Lock ∷ Snap ∷ [])
-row Pick = line 1 (codes "pick") Descends Never TakesNone (Child ∷ [])
-row Child = line 2 (codes "child") Descends ChildMark TakesNone (Verify ∷ [])
-row Verify = line 3 (codes "verify") Descends OwnMark TakesNone (Enter ∷ Pick ∷ Search ∷ Lock ∷ Snap ∷ [])
-row Search = line 4 (codes "search") Reads Never TakesNone (Load ∷ Confirm ∷ [])
-row Load = line 5 (codes "load") Reads OwnSlot EndsForWant (Confirm ∷ Done ∷ [])
-row Confirm = line 6 (codes "confirm") Reads OwnMark TakesNone (Done ∷ Enter ∷ Forward ∷ [])
-row Forward = line 7 (codes "forward") Descends NextMark TakesNone (Enter ∷ Forward ∷ Search ∷ Lock ∷ Snap ∷ [])
-row Lock = line 8 (codes "lock") Locks OwnLock TakesNone (Enter ∷ Forward ∷ Judge ∷ CleanLayer ∷ [])
-row Judge = line 9 (codes "judge") Judges Never EndsForWant (Store ∷ Publish ∷ SplitStart ∷ MakeLayer ∷ DropKey ∷ Enter ∷ Done ∷ [])
-row Store = line 10 (codes "store") Writes Never TakesNone (Unlock ∷ [])
-row Publish = line 11 (codes "publish") Writes Never TakesNone (Unlock ∷ [])
-row SplitStart = line 12 (codes "splitstart") Begins Never EndsForWant (SplitMove ∷ Done ∷ [])
-row SplitMove = line 13 (codes "splitmove") Splits Never TakesNone (SplitPrev ∷ LockParent ∷ [])
-row SplitPrev = line 14 (codes "splitprev") Climbs Never TakesNone (LockParent ∷ [])
-row LockParent = line 15 (codes "lockparent") Climbs ParentLock TakesNone (InsertChild ∷ InteriorSplit ∷ RootGrow ∷ [])
-row InsertChild = line 16 (codes "insertchild") Climbs Never TakesNone (Unlock ∷ [])
-row InteriorSplit = line 17 (codes "interiorsplit") Climbs Never StandsForWant (Reparent ∷ [])
-row Reparent = line 18 (codes "reparent") Climbs Never TakesNone (Reparent ∷ LockParent ∷ [])
-row RootGrow = line 19 (codes "rootgrow") Climbs Never StandsForWant (Unlock ∷ [])
-row MakeLayer = line 20 (codes "makelayer") Layers Never EndsForWant (MarkUnstable ∷ Done ∷ [])
-row MarkUnstable = line 21 (codes "markunstable") Layers Never TakesNone (Link ∷ [])
-row Link = line 22 (codes "link") Layers Never TakesNone (MarkLayer ∷ [])
-row MarkLayer = line 23 (codes "marklayer") Layers Never TakesNone (Unlock ∷ [])
-row DropKey = line 24 (codes "dropkey") Drops Never TakesNone (LockPrev ∷ Unlock ∷ [])
-row LockPrev = line 25 (codes "lockprev") Unlinks BeforeLock TakesNone (LockAbove ∷ [])
-row LockAbove = line 26 (codes "lockabove") Unlinks AboveLock TakesNone (Unlink ∷ Unlock ∷ [])
-row Unlink = line 27 (codes "unlink") Unlinks Never TakesNone (FixNext ∷ Collapse ∷ Unlock ∷ [])
-row FixNext = line 28 (codes "fixnext") Unlinks Never TakesNone (Collapse ∷ Unlock ∷ [])
-row Collapse = line 29 (codes "collapse") Unlinks Never TakesNone (Unlock ∷ [])
-row CleanLayer = line 30 (codes "cleanlayer") Cleans BelowLock TakesNone (LockPrev ∷ Unlock ∷ [])
-row Unlock = line 31 (codes "unlock") Returns Never TakesNone (Enter ∷ Done ∷ [])
-row Snap = line 32 (codes "snap") Scans ReadSlot EndsForWant (Check ∷ Done ∷ [])
-row Check = line 33 (codes "check") Scans OwnMark EndsForWant (Hop ∷ Enter ∷ Forward ∷ Done ∷ [])
-row Hop = line 34 (codes "hop") Scans NextMark TakesNone (Snap ∷ Enter ∷ [])
-row Done = line 35 (codes "done") Ends Never TakesNone []
+row Enter = line 0 (codes "enter") Descends 0 RootMark TakesNone (Enter ∷ Pick ∷ Search ∷ Lock ∷ Snap ∷ [])
+row Pick = line 1 (codes "pick") Descends 0 Never TakesNone (Child ∷ [])
+row Child = line 2 (codes "child") Descends 0 ChildMark TakesNone (Verify ∷ [])
+row Verify = line 3 (codes "verify") Descends 0 OwnMark TakesNone (Enter ∷ Pick ∷ Search ∷ Lock ∷ Snap ∷ [])
+row Search = line 4 (codes "search") Reads 0 Never TakesNone (Load ∷ Confirm ∷ [])
+row Load = line 5 (codes "load") Reads 0 OwnSlot EndsForWant (Confirm ∷ Done ∷ [])
+row Confirm = line 6 (codes "confirm") Reads 0 OwnMark TakesNone (Done ∷ Enter ∷ Forward ∷ [])
+row Forward = line 7 (codes "forward") Descends 0 NextMark TakesNone (Enter ∷ Forward ∷ Search ∷ Lock ∷ Snap ∷ [])
+row Lock = line 8 (codes "lock") Locks 0 OwnLock TakesNone (Enter ∷ Forward ∷ Judge ∷ CleanLayer ∷ [])
+row Judge = line 9 (codes "judge") Judges 1 Never EndsForWant (Store ∷ Publish ∷ SplitStart ∷ MakeLayer ∷ DropKey ∷ Enter ∷ Done ∷ [])
+row Store = line 10 (codes "store") Writes 2 Never TakesNone (Unlock ∷ [])
+row Publish = line 11 (codes "publish") Writes 2 Never TakesNone (Unlock ∷ [])
+row SplitStart = line 12 (codes "splitstart") Begins 2 Never EndsForWant (SplitMove ∷ Done ∷ [])
+row SplitMove = line 13 (codes "splitmove") Splits 3 Never TakesNone (SplitPrev ∷ LockParent ∷ [])
+row SplitPrev = line 14 (codes "splitprev") Climbs 4 Never TakesNone (LockParent ∷ [])
+row LockParent = line 15 (codes "lockparent") Climbs 5 ParentLock TakesNone (InsertChild ∷ InteriorSplit ∷ RootGrow ∷ [])
+row InsertChild = line 16 (codes "insertchild") Climbs 6 Never TakesNone (Unlock ∷ [])
+row InteriorSplit = line 17 (codes "interiorsplit") Climbs 6 Never StandsForWant (Reparent ∷ [])
+row Reparent = line 18 (codes "reparent") Climbs 5 Never TakesNone (Reparent ∷ LockParent ∷ [])
+row RootGrow = line 19 (codes "rootgrow") Climbs 6 Never StandsForWant (Unlock ∷ [])
+row MakeLayer = line 20 (codes "makelayer") Layers 2 Never EndsForWant (MarkUnstable ∷ Done ∷ [])
+row MarkUnstable = line 21 (codes "markunstable") Layers 3 Never TakesNone (Link ∷ [])
+row Link = line 22 (codes "link") Layers 4 Never TakesNone (MarkLayer ∷ [])
+row MarkLayer = line 23 (codes "marklayer") Layers 5 Never TakesNone (Unlock ∷ [])
+row DropKey = line 24 (codes "dropkey") Drops 2 Never TakesNone (LockPrev ∷ Unlock ∷ [])
+row LockPrev = line 25 (codes "lockprev") Unlinks 3 BeforeLock TakesNone (LockAbove ∷ [])
+row LockAbove = line 26 (codes "lockabove") Unlinks 4 AboveLock TakesNone (Unlink ∷ Unlock ∷ [])
+row Unlink = line 27 (codes "unlink") Unlinks 5 Never TakesNone (FixNext ∷ Collapse ∷ Unlock ∷ [])
+row FixNext = line 28 (codes "fixnext") Unlinks 6 Never TakesNone (Collapse ∷ Unlock ∷ [])
+row Collapse = line 29 (codes "collapse") Unlinks 7 Never TakesNone (Unlock ∷ [])
+row CleanLayer = line 30 (codes "cleanlayer") Cleans 2 BelowLock TakesNone (LockPrev ∷ Unlock ∷ [])
+row Unlock = line 31 (codes "unlock") Returns 8 Never TakesNone (Enter ∷ Done ∷ [])
+row Snap = line 32 (codes "snap") Scans 0 ReadSlot EndsForWant (Check ∷ Done ∷ [])
+row Check = line 33 (codes "check") Scans 0 OwnMark EndsForWant (Hop ∷ Enter ∷ Forward ∷ Done ∷ [])
+row Hop = line 34 (codes "hop") Scans 0 NextMark TakesNone (Snap ∷ Enter ∷ [])
+row Done = line 35 (codes "done") Ends 0 Never TakesNone []
 
 -- those that have a step
 abbrev pub steps : List Phase

@@ -84,88 +84,73 @@ pub enum Phase {
     Done,
 }
 
+// The phases that have a step, each with its name, in the order of the table: what is written of each of
+// them is written by this list.
+macro_rules! each_phase {
+    ($written:ident $($given:tt)*) => {
+        $written! {
+            ($($given)*)
+            Enter "enter"
+            Pick "pick"
+            Child "child"
+            Verify "verify"
+            Search "search"
+            Load "load"
+            Confirm "confirm"
+            Forward "forward"
+            Lock "lock"
+            Judge "judge"
+            Store "store"
+            Publish "publish"
+            SplitStart "splitstart"
+            SplitMove "splitmove"
+            SplitPrev "splitprev"
+            LockParent "lockparent"
+            InsertChild "insertchild"
+            InteriorSplit "interiorsplit"
+            Reparent "reparent"
+            RootGrow "rootgrow"
+            MakeLayer "makelayer"
+            MarkUnstable "markunstable"
+            Link "link"
+            MarkLayer "marklayer"
+            DropKey "dropkey"
+            LockPrev "lockprev"
+            LockAbove "lockabove"
+            Unlink "unlink"
+            FixNext "fixnext"
+            Collapse "collapse"
+            CleanLayer "cleanlayer"
+            Unlock "unlock"
+            Snap "snap"
+            Check "check"
+            Hop "hop"
+        }
+    };
+}
+
+macro_rules! listed {
+    (() $($phase:ident $name:literal)*) => { [$(Phase::$phase),*] };
+}
+
+macro_rules! named {
+    (($of:expr) $($phase:ident $name:literal)*) => {
+        match $of {
+            $(Phase::$phase => $name,)*
+            Phase::Done => "done",
+        }
+    };
+}
+
 /// The phases that have a step, in the order of the table.
-pub const PHASES: [Phase; 35] = [
-    Phase::Enter,
-    Phase::Pick,
-    Phase::Child,
-    Phase::Verify,
-    Phase::Search,
-    Phase::Load,
-    Phase::Confirm,
-    Phase::Forward,
-    Phase::Lock,
-    Phase::Judge,
-    Phase::Store,
-    Phase::Publish,
-    Phase::SplitStart,
-    Phase::SplitMove,
-    Phase::SplitPrev,
-    Phase::LockParent,
-    Phase::InsertChild,
-    Phase::InteriorSplit,
-    Phase::Reparent,
-    Phase::RootGrow,
-    Phase::MakeLayer,
-    Phase::MarkUnstable,
-    Phase::Link,
-    Phase::MarkLayer,
-    Phase::DropKey,
-    Phase::LockPrev,
-    Phase::LockAbove,
-    Phase::Unlink,
-    Phase::FixNext,
-    Phase::Collapse,
-    Phase::CleanLayer,
-    Phase::Unlock,
-    Phase::Snap,
-    Phase::Check,
-    Phase::Hop,
-];
+pub const PHASES: [Phase; 35] = each_phase!(listed);
 
 impl Phase {
     /// The phase's name, as it is written.
     pub fn name(self) -> &'static str
         ensures { result.now ≡ name_of self }
     {
-        match self {
-            Phase::Enter => "enter",
-            Phase::Pick => "pick",
-            Phase::Child => "child",
-            Phase::Verify => "verify",
-            Phase::Search => "search",
-            Phase::Load => "load",
-            Phase::Confirm => "confirm",
-            Phase::Forward => "forward",
-            Phase::Lock => "lock",
-            Phase::Judge => "judge",
-            Phase::Store => "store",
-            Phase::Publish => "publish",
-            Phase::SplitStart => "splitstart",
-            Phase::SplitMove => "splitmove",
-            Phase::SplitPrev => "splitprev",
-            Phase::LockParent => "lockparent",
-            Phase::InsertChild => "insertchild",
-            Phase::InteriorSplit => "interiorsplit",
-            Phase::Reparent => "reparent",
-            Phase::RootGrow => "rootgrow",
-            Phase::MakeLayer => "makelayer",
-            Phase::MarkUnstable => "markunstable",
-            Phase::Link => "link",
-            Phase::MarkLayer => "marklayer",
-            Phase::DropKey => "dropkey",
-            Phase::LockPrev => "lockprev",
-            Phase::LockAbove => "lockabove",
-            Phase::Unlink => "unlink",
-            Phase::FixNext => "fixnext",
-            Phase::Collapse => "collapse",
-            Phase::CleanLayer => "cleanlayer",
-            Phase::Unlock => "unlock",
-            Phase::Snap => "snap",
-            Phase::Check => "check",
-            Phase::Hop => "hop",
-            Phase::Done => "done",
-        }
+        each_phase!(named(self))
     }
 }
 

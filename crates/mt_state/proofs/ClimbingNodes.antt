@@ -12,6 +12,7 @@ use Rattle.mt_state.proofs.Climbing.{IsBare, LeavesNodes, Stays, each_pushed, ea
 use Rattle.mt_insert.specs.SplitEdits.{after_reparent, for_parent, with_parent}
 use Rattle.mt_held.specs.Moves.{walk_at}
 use Rattle.mt_insert.specs.KeptSplits.{HasSplits, IsAtInsertChild, IsAtInteriorSplit, IsAtLockParent, IsAtRootGrow, IsAtSplitPrev, KeptSplit, last_of}
+use Rattle.mt_operation.proofs.Phases.{by_climb}
 use Rattle.mt_operation.specs.Phases.{IsClimb, MayFollow}
 use Rattle.mt_operation.specs.declared.phase.Phase.TheVariants.{InsertChild, InteriorSplit, LockParent, Reparent, RootGrow, SplitPrev, Unlock}
 use Rattle.mt_operation.specs.declared.splits.Halves.{Halves}
@@ -196,25 +197,20 @@ module _ (op : ℕ) (old new : ArenaView) (before after : Walk) (s t : Splits) w
 -- so each step, by its phase
 pub climb_leaves : (p : Phase) → IsClimb p → (op : ℕ) (old new : ArenaView) (before after : Walk) (s t : Splits) → KeptSplit p old op s
     → IsClimbFrom p op old new before after s t → LeavesNodes op old new
-climb_leaves SplitPrev i op old new before after s t kept c = named_leaves op old new before after s t kept c
-climb_leaves LockParent i op old new before after s t kept c = lock_leaves op old new before after s t kept c
-climb_leaves InsertChild i op old new before after s t kept c = inserted_leaves op old new before after s t kept c
-climb_leaves InteriorSplit i op old new before after s t kept c =
-    subst (LeavesNodes op old) (sym (c.is kept.p kept.at_parent.above)) (parts_leaves op old new before after s t kept)
-climb_leaves Reparent i op old new before after s t kept c = reparented_leaves op old new before after s t c
-climb_leaves RootGrow i op old new before after s t kept c = subst (LeavesNodes op old) (sym c.is) (root_leaves op old new before after s t kept)
-climb_leaves _ i op old new before after s t kept c = absurd i
+climb_leaves p i op old new before after s t =
+    by_climb (λ p. KeptSplit p old op s → IsClimbFrom p op old new before after s t → LeavesNodes op old new)
+    (named_leaves op old new before after s t)
+    (lock_leaves op old new before after s t)
+    (inserted_leaves op old new before after s t)
+    (λ kept c. subst (LeavesNodes op old) (sym (c.is kept.p kept.at_parent.above)) (parts_leaves op old new before after s t kept))
+    (λ kept c. reparented_leaves op old new before after s t c)
+    (λ kept c. subst (LeavesNodes op old) (sym c.is) (root_leaves op old new before after s t kept))
+    p i
 
 -- what they do alike
 pub climb_keeps : (p : Phase) → IsClimb p → (op : ℕ) (old new : ArenaView) (before after : Walk) (s t : Splits)
     → IsClimbFrom p op old new before after s t → KeepsSplits op old new before after s t
-climb_keeps SplitPrev i op old new before after s t c = c.on
-climb_keeps LockParent i op old new before after s t c = c.on
-climb_keeps InsertChild i op old new before after s t c = c.on
-climb_keeps InteriorSplit i op old new before after s t c = c.on
-climb_keeps Reparent i op old new before after s t c = c.on
-climb_keeps RootGrow i op old new before after s t c = c.on
-climb_keeps _ i op old new before after s t c = absurd i
+climb_keeps p i op old new before after s t = by_climb (λ p. IsClimbFrom p op old new before after s t → KeepsSplits op old new before after s t) (λ c. c.on) (λ c. c.on) (λ c. c.on) (λ c. c.on) (λ c. c.on) (λ c. c.on) p i
 
 -- there are halves
 some_halves : (v : ArenaView) (op : ℕ) (s : Splits) → HasSplits v op s → (items : List Halves) → items ≡ s.halves.items → items ≢ []

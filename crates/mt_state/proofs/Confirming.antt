@@ -15,7 +15,7 @@ use Rattle.mt_arena.specs.Accesses.{at}
 use Rattle.mt_operation.specs.declared.walk.Aim.{Aim}
 use Rattle.mt_operation.specs.declared.walk.Aim.TheVariants as aims
 use Rattle.mt_operation.specs.declared.phase.Phase.{Phase}
-use Rattle.mt_operation.specs.declared.phase.Phase.TheVariants.{Enter, Pick, Child, Verify, Search, Confirm, Forward, Lock, Done, Snap}
+use Rattle.mt_operation.specs.declared.phase.Phase.TheVariants.{Enter, Confirm, Forward, Done}
 use Rattle.mt_operation.specs.declared.walk.Taken.{Taken}
 use Rattle.mt_operation.specs.declared.walk.Taken.TheVariants.{Missing, Row, Link, Nothing}
 use Rattle.mt_operation.specs.declared.walk.Walk.{Walk}
@@ -37,7 +37,8 @@ use Rattle.mt_state.specs.KeptOperations.{IsOpenOperation, TellsTaken, IsOnItsWa
 use Rattle.mt_state.specs.Invariant.{StateInvariant}
 use Rattle.mt_state.proofs.Replies.{get_absent, get_found}
 use Rattle.mt_state.proofs.Decides.{same_or_not}
-use Rattle.mt_state.proofs.Descents.{Leads, first_aside, changed_leads}
+use Rattle.mt_operation.proofs.Phases.{by_descent}
+use Rattle.mt_state.proofs.Descents.{Leads, by_way, first_aside, changed_leads}
 use Rattle.mt_state.proofs.Telling.{Gives}
 use Rattle.mt_state.proofs.Moved.{went, first_same, first_begun}
 use Rattle.mt_state.proofs.Still.{IsFree, IsUnready, still, still_gives}
@@ -49,28 +50,12 @@ use Rattle.mt_walks.specs.Walked.{IsWithin}
 -- what is kept of a walk on its way does not speak of a row
 row_aside : (p : Phase) → IsOnWay p → (v : ArenaView) (past : Past) (key : Bytes) (row : Option Columns) (w : Walk) → KeptAt p v past key row w
     → KeptAt p v past key None w
-row_aside Enter on v past key row w k = k
-row_aside Pick on v past key row w k = k
-row_aside Child on v past key row w k = k
-row_aside Verify on v past key row w k = k
-row_aside Search on v past key row w k = k
-row_aside Forward on v past key row w k = k
-row_aside Lock on v past key row w k = k
-row_aside Snap on v past key row w k = k
-row_aside _ on v past key row w k = absurd on
+row_aside p on v past key row w = by_way (λ q. KeptAt q v past key row w → KeptAt q v past key None w) (by_descent _ (λ k. k) (λ k. k) (λ k. k) (λ k. k) (λ k. k)) (λ k. k) (λ k. k) (λ k. k) p on
 
 -- nor of the past
 past_aside : (p : Phase) → IsOnWay p → (v : ArenaView) (past other : Past) (key : Bytes) (row : Option Columns) (w : Walk) → KeptAt p v past key row w
     → KeptAt p v other key row w
-past_aside Enter on v past other key row w k = k
-past_aside Pick on v past other key row w k = k
-past_aside Child on v past other key row w k = k
-past_aside Verify on v past other key row w k = k
-past_aside Search on v past other key row w k = k
-past_aside Forward on v past other key row w k = k
-past_aside Lock on v past other key row w k = k
-past_aside Snap on v past other key row w k = k
-past_aside _ on v past other key row w k = absurd on
+past_aside p on v past other key row w = by_way (λ q. KeptAt q v past key row w → KeptAt q v other key row w) (by_descent _ (λ k. k) (λ k. k) (λ k. k) (λ k. k) (λ k. k)) (λ k. k) (λ k. k) (λ k. k) p on
 
 -- what comes to look for its key is a get
 pub get_of : (command : Command) (aim : Aim) → aim ≡ aim_of command → aim ≡ aims.Read → is_get command ≡ true

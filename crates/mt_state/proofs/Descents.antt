@@ -10,12 +10,13 @@ use Rattle.mt_arena.specs.Arena.{ArenaView}
 use Rattle.mt_operation.specs.declared.walk.Aim.{Aim}
 use Rattle.mt_operation.specs.declared.walk.Aim.TheVariants as aims
 use Rattle.mt_operation.specs.declared.phase.Phase.{Phase}
-use Rattle.mt_operation.specs.declared.phase.Phase.TheVariants.{Enter, Pick, Child, Verify, Search, Forward, Lock, Snap}
+use Rattle.mt_operation.specs.declared.phase.Phase.TheVariants.{Enter, Pick, Verify, Search, Forward, Lock, Snap}
 use Rattle.mt_operation.specs.declared.walk.Walk.{Walk}
 use Rattle.mt_descent.specs.WalkMoves.{Continues, arrival, arrival_at, walk_anew, walk_here, walk_to_next, after_enter, after_change, after_forward, Verifies}
 use Rattle.mt_descent.specs.Pasts.{Past}
 use Rattle.mt_descent.specs.KeptWalks.{KeptAt}
-use Rattle.mt_operation.specs.Phases.{MayFollow, IsOfKind}
+use Rattle.mt_operation.specs.Phases.{MayFollow, IsOfKind, IsDescent}
+use Rattle.mt_operation.proofs.Phases.{by_descent}
 use Rattle.mt_state.specs.Ways.{IsOnWay, Descends}
 use Rattle.mt_state.proofs.Decides.{same_or_not, outdated_or_not}
 
@@ -80,15 +81,24 @@ forwarded w slice j m = by m.version.deleted (nat_le m.low slice)
 pub stayed : (w : Walk) → Leads Forward (walk_here w).phase (walk_here w).aim
 stayed w = turns Forward tt tt tt w.aim
 
+-- what holds of each phase on the way
+pub by_way : (P : Phase → Type 0) → ((p : Phase) → IsDescent p → P p) → P Search → P Lock → P Snap → (p : Phase) → IsOnWay p → P p
+by_way P descent search lock snap Search on = search
+by_way P descent search lock snap Lock on = lock
+by_way P descent search lock snap Snap on = snap
+by_way P descent search lock snap p on = descent p on
+
 -- what is kept of a walk on its way does not speak of its first step
 pub first_aside : (p : Phase) → IsOnWay p → (v : ArenaView) (past : Past) (key : Bytes) (row : Option Columns) (w : Walk) (n : ℕ)
     → KeptAt p v past key row w → KeptAt p v past key row (record w { first = n })
-first_aside Enter on v past key row w n k = k
-first_aside Pick on v past key row w n k = record { through = k.through; covers = k.covers; interior = k.interior }
-first_aside Child on v past key row w n k = record { above = record { through = k.above.through; covers = k.above.covers; interior = k.above.interior }; picked = k.picked }
-first_aside Verify on v past key row w n k = record { above = record { through = k.above.through; covers = k.above.covers; interior = k.above.interior }; picked = k.picked; child = k.child }
-first_aside Search on v past key row w n k = record { through = k.through; covers = k.covers; border = k.border }
-first_aside Forward on v past key row w n k = record { through = k.through; remembered = k.remembered; border = k.border; next = k.next }
-first_aside Lock on v past key row w n k = record { through = k.through; covers = k.covers; border = k.border }
-first_aside Snap on v past key row w n k = record { through = k.through; covers = k.covers; border = k.border }
-first_aside _ on v past key row w n k = absurd on
+first_aside p on v past key row w n =
+    by_way (λ q. KeptAt q v past key row w → KeptAt q v past key row (record w { first = n })) (by_descent _
+    (λ k. k)
+    (λ k. record { through = k.through; covers = k.covers; interior = k.interior })
+    (λ k. record { above = record { through = k.above.through; covers = k.above.covers; interior = k.above.interior }; picked = k.picked })
+    (λ k. record { above = record { through = k.above.through; covers = k.above.covers; interior = k.above.interior }; picked = k.picked; child = k.child })
+    (λ k. record { through = k.through; remembered = k.remembered; border = k.border; next = k.next }))
+    (λ k. record { through = k.through; covers = k.covers; border = k.border })
+    (λ k. record { through = k.through; covers = k.covers; border = k.border })
+    (λ k. record { through = k.through; covers = k.covers; border = k.border })
+    p on

@@ -28,7 +28,7 @@ use Rattle.mt_arena.proofs.Places.{same_slot}
 use Rattle.mt_operation.specs.declared.walk.Aim.{Aim}
 use Rattle.mt_operation.specs.declared.walk.Aim.TheVariants as aims
 use Rattle.mt_operation.specs.declared.phase.Phase.{Phase}
-use Rattle.mt_operation.specs.declared.phase.Phase.TheVariants.{Enter, Pick, Child, Verify, Search, Load, Confirm, Forward, Lock, Snap}
+use Rattle.mt_operation.specs.declared.phase.Phase.TheVariants.{Enter, Search, Load, Confirm}
 use Rattle.mt_operation.specs.declared.walk.Taken.{Taken}
 use Rattle.mt_operation.specs.declared.walk.Taken.TheVariants as takens
 use Rattle.mt_operation.specs.declared.walk.Walk.{Walk}
@@ -47,7 +47,8 @@ use Rattle.mt_state.specs.Notes.{Notes, Keeps}
 use Rattle.mt_state.specs.Ways.{IsOnWay, Descends}
 use Rattle.mt_state.specs.KeptOperations.{IsOpenOperation, TellsTaken, IsOnItsWay, IsAtLoad, IsAtConfirm, IsKeptAt, IsBound}
 use Rattle.mt_state.specs.Invariant.{StateInvariant}
-use Rattle.mt_state.proofs.Descents.{first_aside}
+use Rattle.mt_operation.proofs.Phases.{by_descent}
+use Rattle.mt_state.proofs.Descents.{by_way, first_aside}
 use Rattle.mt_state.proofs.Telling.{Gives}
 use Rattle.mt_state.proofs.Moved.{went, first_same}
 use Rattle.mt_state.proofs.Still.{IsFree, IsUnready, still, still_gives}
@@ -57,75 +58,33 @@ use Rattle.mt_state.proofs.Lawful.{owner_of}
 
 -- an operation that is on its way, by its phase
 pub way_of : (p : Phase) → IsDescent p → (c : Core) (o : ℕ) (op : Operation) → IsKeptAt p c o op → IsOnItsWay c op
-way_of Enter d c o op k = k
-way_of Pick d c o op k = k
-way_of Child d c o op k = k
-way_of Verify d c o op k = k
-way_of Forward d c o op k = k
-way_of _ d c o op k = absurd d
+way_of p d c o op = by_descent (λ q. IsKeptAt q c o op → IsOnItsWay c op) (λ k. k) (λ k. k) (λ k. k) (λ k. k) (λ k. k) p d
 
 pub kept_on_way : (p : Phase) → IsOnWay p → (c : Core) (o : ℕ) (op : Operation) → IsOnItsWay c op → IsKeptAt p c o op
-kept_on_way Enter d c o op k = k
-kept_on_way Pick d c o op k = k
-kept_on_way Child d c o op k = k
-kept_on_way Verify d c o op k = k
-kept_on_way Search d c o op k = k
-kept_on_way Forward d c o op k = k
-kept_on_way Lock d c o op k = k
-kept_on_way Snap d c o op k = k
-kept_on_way _ d c o op k = absurd d
+kept_on_way p on c o op = by_way (λ q. IsOnItsWay c op → IsKeptAt q c o op) (by_descent _ (λ k. k) (λ k. k) (λ k. k) (λ k. k) (λ k. k)) (λ k. k) (λ k. k) (λ k. k) p on
 
 pub descent_free : (p : Phase) → IsDescent p → IsFree p
-descent_free Enter d = tt
-descent_free Pick d = tt
-descent_free Child d = tt
-descent_free Verify d = tt
-descent_free Forward d = tt
-descent_free _ d = absurd d
+descent_free = by_descent IsFree tt tt tt tt tt
 
 pub on_way_unready : (p : Phase) → IsOnWay p → IsUnready p
-on_way_unready Enter d = tt
-on_way_unready Pick d = tt
-on_way_unready Child d = tt
-on_way_unready Verify d = tt
-on_way_unready Search d = tt
-on_way_unready Forward d = tt
-on_way_unready Lock d = tt
-on_way_unready Snap d = tt
-on_way_unready _ d = absurd d
+on_way_unready = by_way IsUnready (by_descent IsUnready tt tt tt tt tt) tt tt tt
 
 pub on_way_open : (p : Phase) → IsOnWay p → is_done p ≡ false
-on_way_open Enter d = refl
-on_way_open Pick d = refl
-on_way_open Child d = refl
-on_way_open Verify d = refl
-on_way_open Search d = refl
-on_way_open Forward d = refl
-on_way_open Lock d = refl
-on_way_open Snap d = refl
-on_way_open _ d = absurd d
+on_way_open = by_way (λ p. is_done p ≡ false) (by_descent _ refl refl refl refl refl) refl refl refl
 
 -- an operation that goes on its way keeps its outcome; where it comes to read it has none
 pub keeps_on : (q : Phase) → IsOnWay q → (aim : Aim) → IsOfKind q aim → (told : Option Outcome) → (aim ≢ aims.Write → told ≡ None)
     → Keeps (is_unplaced q) told told
-keeps_on Search on aim kind told reads = let none = reads (λ writes. absurd (let no = sym kind ∙ writes in cc)) in (none, none)
-keeps_on Snap on aim kind told reads = let none = reads (λ writes. absurd (let no = sym kind ∙ writes in cc)) in (none, none)
-keeps_on Enter on aim kind told reads = refl
-keeps_on Pick on aim kind told reads = refl
-keeps_on Child on aim kind told reads = refl
-keeps_on Verify on aim kind told reads = refl
-keeps_on Forward on aim kind told reads = refl
-keeps_on Lock on aim kind told reads = refl
-keeps_on _ on aim kind told reads = absurd on
+keeps_on q on aim kind told reads =
+    by_way (λ q. IsOfKind q aim → Keeps (is_unplaced q) told told) (by_descent _ (λ kind. refl) (λ kind. refl) (λ kind. refl) (λ kind. refl) (λ kind. refl))
+    (λ kind. let none = reads (λ writes. absurd (let no = sym kind ∙ writes in cc)) in (none, none))
+    (λ kind. refl)
+    (λ kind. let none = reads (λ writes. absurd (let no = sym kind ∙ writes in cc)) in (none, none))
+    q on kind
 
 descent_notes : (p : Phase) → IsDescent p → (old : StateView) (op : OperationView) (next : Phase) (told : Option Outcome)
     → Keeps (is_unplaced next) op.outcome told → Notes old op p next told
-descent_notes Enter d old op next told k = k
-descent_notes Pick d old op next told k = k
-descent_notes Child d old op next told k = k
-descent_notes Verify d old op next told k = k
-descent_notes Forward d old op next told k = k
-descent_notes _ d old op next told k = absurd d
+descent_notes p d old op next told = by_descent (λ q. Keeps (is_unplaced next) op.outcome told → Notes old op q next told) (λ k. k) (λ k. k) (λ k. k) (λ k. k) (λ k. k) p d
 
 -- an operation that doesn't write is told nothing on its way
 pub reads_untold : (c : Core) (op : Operation) → IsOpenOperation c op → op.walk.aim ≢ aims.Write → IsBound op.outcome c op → op.outcome ≡ None

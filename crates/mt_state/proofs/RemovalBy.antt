@@ -10,6 +10,7 @@ use Rattle.mt_operation.specs.declared.phase.Phase.{Phase}
 use Rattle.mt_operation.specs.declared.phase.Phase.TheVariants.{LockPrev, LockAbove, Unlink, FixNext, Collapse, CleanLayer, Unlock}
 use Rattle.mt_operation.specs.declared.walk.Walk.{Walk}
 use Rattle.mt_operation.specs.declared.removal.Removal.{Removal}
+use Rattle.mt_operation.proofs.Phases.{by_removal}
 use Rattle.mt_operation.specs.Phases.{MayFollow, IsRemovalPhase}
 use Rattle.mt_descent.specs.WalkMoves.{KeepsPairs}
 use Rattle.mt_held.specs.Moves.{walk_at}
@@ -171,13 +172,7 @@ module _ (o step : ℕ) (key : Bytes) (v u : ArenaView) (before after : Walk) (s
   -- by the phase
   pub removes_by : (p : Phase) → IsRemovalPhase p → KeptRemoval p v o key before s → IsRemovalFrom p o step key v u before after s t
       → Removes p o key v u before after s t
-  removes_by LockPrev i k b = lock_prev_removes k b
-  removes_by LockAbove i k b = lock_above_removes k b
-  removes_by Unlink i k b = unlink_removes k b
-  removes_by FixNext i k b = fix_next_removes k b
-  removes_by Collapse i k b = collapse_removes k b
-  removes_by CleanLayer i k b = clean_layer_removes k b
-  removes_by _ i k b = absurd i
+  removes_by = by_removal _ lock_prev_removes lock_above_removes unlink_removes fix_next_removes collapse_removes clean_layer_removes
 
   -- where it leads, by the table of phases
   pub removal_leads : (p : Phase) → IsRemovalPhase p → KeptRemoval p v o key before s → IsRemovalFrom p o step key v u before after s t

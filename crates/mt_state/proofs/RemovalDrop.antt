@@ -68,7 +68,8 @@ use Rattle.mt_state.proofs.LiveTrees.{slot_lives}
 use Rattle.mt_state.proofs.Placing.{Counts, IsWriteOf, placed_by, Places, beside_write, wrote_move, wrote_right, is_writing, wrote_once}
 use Rattle.mt_state.proofs.Putting.{stamped_apart}
 use Rattle.mt_state.proofs.RemovalNodes.{LeavesNodes, one_leaves, slots_removed, stood, versions, removal_touches}
-use Rattle.mt_state.proofs.RemovalSteps.{HasRemoval, has_removal, removal_kept, removal_held, removal_kind, removal_open, removal_unready, IsBehindBy}
+use Rattle.mt_operation.proofs.Phases.{IsBehindBy}
+use Rattle.mt_state.proofs.RemovalSteps.{HasRemoval, has_removal, removal_kept, removal_held, removal_kind, removal_open, removal_unready}
 use Rattle.mt_rows.proofs.CommandLaws.{keys_total}
 use Rattle.mt_state.proofs.Lawful.{remove_no_scan}
 

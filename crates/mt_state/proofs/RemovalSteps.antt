@@ -17,6 +17,7 @@ use Rattle.mt_operation.specs.Tasks.{ask}
 use Rattle.mt_operation.specs.Operations.{view_of, IsUnsplit, OperationView}
 use Rattle.mt_operation.specs.Phases.{is_done, MayFollow, IsOfKind, FitsAim, Kind, change_at, holds_of, row, is_unplaced, is_to_come, IsRemovalKind, IsRemovalPhase}
 use Rattle.mt_operation.specs.Phases as kinds
+use Rattle.mt_operation.proofs.Phases.{IsBehindBy, behind_removal, by_removal}
 use Rattle.mt_operation.specs.Tables.{op_at as operation_at}
 use Rattle.mt_descent.specs.WalkMoves.{KeepsPairs}
 use Rattle.mt_remove.specs.Writes.{is_remove}
@@ -110,13 +111,10 @@ removal_settled p i told = by (row p).kind i
     by _ i = absurd i
 
 removal_notes : (p q : Phase) → IsRemovalPhase p → HasRemoval q → (old : StateView) (op : OperationView) → Notes old op p q op.outcome
-removal_notes LockPrev q i j old op = removal_settled q j op.outcome
-removal_notes LockAbove q i j old op = removal_settled q j op.outcome
-removal_notes Unlink q i j old op = removal_settled q j op.outcome
-removal_notes FixNext q i j old op = removal_settled q j op.outcome
-removal_notes Collapse q i j old op = removal_settled q j op.outcome
-removal_notes CleanLayer q i j old op = removal_settled q j op.outcome
-removal_notes _ q i j old op = absurd i
+removal_notes p q i j old op = by_removal (λ p. Notes old op p q op.outcome) settled settled settled settled settled settled p i
+  where
+    settled : Keeps (is_unplaced q) op.outcome op.outcome
+    settled = removal_settled q j op.outcome
 
 -- it holds nodes of its removal; at CleanLayer its border node alone
 pub removal_holds : (p : Phase) → IsRemovalPhase p → (op : Operation) (k : ℕ) → HoldsAt p op k → IsOfRemoval op.walk op.removal k
@@ -126,12 +124,6 @@ removal_holds p i op k holds = by (row p).kind i holds
     by kinds.Unlinks i holds = holds
     by kinds.Cleans i holds = inl holds
     by _ i holds = absurd i
-
--- a phase but CleanLayer, from which another one may lead to it
-abbrev pub IsBehindBy : Kind → Type 0
-IsBehindBy kinds.Unlinks = Unit {0}
-IsBehindBy kinds.Returns = Unit {0}
-IsBehindBy _ = ⊥
 
 pub removal_held : (p : Phase) → IsBehindBy (row p).kind → (op : Operation) (k : ℕ) → op.splits.halves.items ≡ [] → IsOfRemoval op.walk op.removal k
     → HoldsAt p op k
@@ -167,27 +159,6 @@ unlinking_of p i c o op kept = by (row p).kind i kept
     by kinds.Unlinks i kept = kept
     by kinds.Cleans i kept = kept
     by _ i kept = absurd i
-
--- a phase to which the step of such an operation may lead
-behind_of : (p q : Phase) → IsRemovalPhase p → MayFollow p q → IsBehindBy (row q).kind
-behind_of LockPrev LockAbove i follows = tt
-behind_of LockPrev _ i follows = absurd follows
-behind_of LockAbove Unlink i follows = tt
-behind_of LockAbove Unlock i follows = tt
-behind_of LockAbove _ i follows = absurd follows
-behind_of Unlink FixNext i follows = tt
-behind_of Unlink Collapse i follows = tt
-behind_of Unlink Unlock i follows = tt
-behind_of Unlink _ i follows = absurd follows
-behind_of FixNext Collapse i follows = tt
-behind_of FixNext Unlock i follows = tt
-behind_of FixNext _ i follows = absurd follows
-behind_of Collapse Unlock i follows = tt
-behind_of Collapse _ i follows = absurd follows
-behind_of CleanLayer LockPrev i follows = tt
-behind_of CleanLayer Unlock i follows = tt
-behind_of CleanLayer _ i follows = absurd follows
-behind_of _ q i follows = absurd i
 
 module _ (c : Core) (o : ℕ) (h : StateInvariant c) (few : c.steps < 2 ^ 59) (op : Operation) (there : operation_at c.table o ≡ Some op) where
   always : IsOpenOperation c op
@@ -228,7 +199,7 @@ module _ (c : Core) (o : ℕ) (h : StateInvariant c) (few : c.steps < 2 ^ 59) (o
         (removal_open p was) follows keeps.same.aim
         (removal_kind w.phase leads w.aim (keeps.same.aim ∙ removal_writes p was op.walk.aim always.kind)) refl
         (removal_notes p w.phase takes leads (shown c) (view_of op))
-        (λ k within held. removal_held w.phase (behind_of p w.phase takes follows) after k unsplit.halves
+        (λ k within held. removal_held w.phase (behind_removal p w.phase takes follows).0 after k unsplit.halves
         (subst (λ (x : Walk). IsOfRemoval x r k) (sym whole) (holds k within held)))
         (removal_kept w.phase new o after unlinking.removes unsplit (subst (λ (x : Walk). KeptRemoval w.phase arena o op.task.key x r) (sym whole) kept) answer)
         (λ none. unsplit)

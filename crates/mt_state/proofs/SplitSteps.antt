@@ -55,6 +55,7 @@ use Rattle.mt_state.proofs.Climbing.{LeavesNodes, MovesNoPair, moves_by}
 use Rattle.mt_state.proofs.ClimbingNodes.{climb_leaves, climb_keeps, climb_follows, climb_some, begun_leaves}
 use Rattle.mt_operation.specs.declared.prepared.Prepared.{Prepared}
 use Rattle.mt_operation.specs.Phases as kinds
+use Rattle.mt_operation.proofs.Phases.{by_climb}
 use Rattle.mt_state.proofs.Lawful.{lawful_more, stopped_free}
 use Rattle.mt_walks.specs.Walked.{IsWithin}
 
@@ -223,13 +224,10 @@ halves_settled p i told = by (row p).kind i
     by _ i = absurd i
 
 climb_notes : (p q : Phase) → IsClimb p → HasHalves q → (old : StateView) (op : OperationView) → Notes old op p q op.outcome
-climb_notes SplitPrev q i j old op = halves_settled q j op.outcome
-climb_notes LockParent q i j old op = halves_settled q j op.outcome
-climb_notes InsertChild q i j old op = halves_settled q j op.outcome
-climb_notes InteriorSplit q i j old op = halves_settled q j op.outcome
-climb_notes Reparent q i j old op = halves_settled q j op.outcome
-climb_notes RootGrow q i j old op = halves_settled q j op.outcome
-climb_notes _ q i j old op = absurd i
+climb_notes p q i j old op = by_climb (λ p. Notes old op p q op.outcome) settled settled settled settled settled settled p i
+  where
+    settled : Keeps (is_unplaced q) op.outcome op.outcome
+    settled = halves_settled q j op.outcome
 
 -- whose node it is can be told
 pub is_held_or_not : (x : Option ℕ) (o : ℕ) → (x ≡ Some o) ⊎ (x ≢ Some o)

@@ -5,7 +5,7 @@
 //! neighbours; so the earliest first step is read at its head, and an operation that leaves is cut
 //! out of it. Invariant: `IsTable` and `HasSeats` of `specs/Queues.antt`. Memory: one seat for each
 //! operation, as many as stood open at once or were made room for; each is shown as a place, which is
-//! empty where no operation is.
+//! empty if no operation is there.
 
 ghost use Rattle.std.specs.Prelude.{◌≡◌, ◌≢◌, ◌+◌, ◌≤◌, ℕ, [], length, IsOk, IfOk, IfErr, OnOk, OnErr, OnSome, IfNone, Some, None, slice_set, option_copied};
 ghost use Rattle.std.specs.Option.{ForSome, option_map};
@@ -71,7 +71,7 @@ impl Operations {
         }
     }
 
-    /// Keeps an operation that has made no step, at an id that was free. An error comes where there was no
+    /// Keeps an operation that has made no step, at an id that was free. An error comes if there was no
     /// place for it and memory is refused.
     pub fn keep(&mut self, operation: Box<Operation>) -> Result<usize, Refusal>
         requires new { operation.value.walk.first ≡ 0 }
@@ -94,7 +94,7 @@ impl Operations {
     }
 
     /// Makes places for so many more operations, which `keep` needs no memory for then. An error comes
-    /// where memory is refused.
+    /// if memory is refused.
     pub fn reserve(&mut self, more: usize) -> Result<(), AllocError>
         ensures room { OnOk result (HasPlaces self.new more) }
         ensures same { AddsPlaces self.old self.new }
@@ -117,9 +117,9 @@ impl Operations {
     }
 
     /// An operation makes the step of this number in its place, by `makes`, which leaves the number of its
-    /// first step. Nothing happens where `makes` tells that somebody is in the way or that the step is not
-    /// its own, and where no operation has the id. `makes` is lent, so that the caller knows what it has
-    /// left behind what it borrows.
+    /// first step. Nothing happens if `makes` tells that somebody is in the way or that the step is not
+    /// its own, or if no operation has the id. `makes` is lent, so that the caller knows what it has
+    /// left in what it borrows.
     #[inline]
     pub fn step_by<F: FnMut(&mut Operation) -> Made>(
         &mut self,
