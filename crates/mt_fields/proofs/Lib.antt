@@ -1,3 +1,4 @@
 pub mod Numbers
 pub mod Loop
 pub mod FieldLaws
+pub mod Lists

@@ -1,49 +1,27 @@
 -- A batch that is read is spelled so, and a spelled batch is read again.
-use Rattle.std.proofs.Common.{◌≡◌, ℕ, ◌^◌, ◌<◌, ◌≤◌, true, cond, eqb, not, List, [], ◌∷◌, ◌++◌, length, Option, Some, None, refl, sym, ap, subst, ◌∙◌, append_assoc, arith}
-use Rattle.std.specs.Prelude.{nat_lt}
+use Rattle.std.proofs.Common.{◌≡◌, ℕ, ◌^◌, ◌<◌, true, cond, eqb, List, [], ◌∷◌, ◌++◌, length, Option, Some, None, refl, sym, ap, subst, ◌∙◌, append_assoc, arith}
 use Rattle.std.specs.Int.{w32, w64, to_be_bytes}
-use Rattle.std.specs.List.{flat_map, AllByRecursion}
+use Rattle.std.specs.List.{flat_map}
 use Rattle.std.proofs.lemmas.Bool.{eqb-true}
 use Rattle.std.proofs.lemmas.List.{append-nil, nil_from_length}
-use Rattle.std.proofs.lemmas.List.Elements.{All-from_recursion, recursion_from_All, All-weaker}
+use Rattle.std.proofs.lemmas.List.Elements.{All-from_recursion, recursion_from_All}
 use Rattle.std.proofs.lemmas.Option.{same_Some}
-use Rattle.mt_rows.specs.Rows.{Bytes, Columns, IsRow}
-use Rattle.mt_rows.specs.Commands.{IsKey}
+use Rattle.mt_rows.specs.Rows.{Bytes, Columns}
 use Rattle.mt_rows.specs.declared.record.Record.{Record}
 use Rattle.mt_rows.specs.declared.record.Batch.{Batch}
 use Rattle.mt_fields.specs.Fields.{string}
-use Rattle.mt_fields.specs.Reading.{◌>>=◌, byte_at, number_at, string_at, each_at}
-use Rattle.mt_fields.proofs.FieldLaws.{IsBytes, bind_some, guard_ended, choose, Takes, Takes-then, Takes-more, byte_takes, wide32, wide64, number_takes, number_again, taken_again, string_takes, string_again, each_takes, each_again}
+use Rattle.mt_fields.specs.Reading.{◌>>=◌, byte_at, number_at, each_at}
+use Rattle.mt_fields.proofs.FieldLaws.{IsBytes, bind_some, guard_ended, choose, Takes, Takes-then, Takes-more, byte_takes, wide32, wide64, number_takes, number_again, taken_again, each_takes, each_again}
+use Rattle.mt_row_fields.specs.Format.{row_bytes}
+use Rattle.mt_row_fields.specs.Reading.{row_at, key_at}
+use Rattle.mt_row_fields.proofs.Tests.{at_most_from_test, test_from_at_most}
+use Rattle.mt_row_fields.proofs.RowLaws.{row_takes, row_again, key_takes, key_again}
 use Rattle.mt_log.specs.declared.batch.LogBatch.{LogBatch}
 use Rattle.mt_log.specs.declared.batch.LogBatch.TheVariants.{Records, Resume}
-use Rattle.mt_log.specs.Format.{row_bytes, change_bytes, record_bytes, body, told_body}
+use Rattle.mt_log.specs.Format.{change_bytes, record_bytes, body, told_body}
 use Rattle.mt_batches.specs.Batches.{IsRowOrNone, IsRecord}
 use Rattle.mt_log.specs.Contents.{IsLogBatch}
-use Rattle.mt_log.specs.Reading.{is_row, row_at, written_at, change_kind_at, change_at, key_at, record_of, record_at, is_step, records_at, resume_at, batch_kind_at, batch_in, batch_at}
-use Rattle.mt_log.proofs.Tests.{row_from_test, test_from_row, at_most_from_test, test_from_at_most}
-
--- ---- rows
-
-abbrev FitsString : Bytes → Type 0
-FitsString text = length text < 2 ^ 16
-
-row_takes : (bytes : Bytes) (x : Columns × Bytes) → IsBytes bytes → row_at bytes ≡ Some x → Takes bytes (row_bytes x.0) x.1 × IsRow x.0
-unfolding row_at
-row_takes bytes x fits e =
-    let a = bind_some (byte_at bytes) (λ n. each_at string_at n.0 n.1 >>= λ cs. cond (is_row cs.0) (Some cs) None) x e in
-    let b = bind_some (each_at string_at a.0.0 a.0.1) (λ cs. cond (is_row cs.0) (Some cs) None) x a.2 in
-    let g = guard_ended (is_row b.0.0) b.0 x b.2 in
-    let t = byte_takes bytes a.0.0 a.0.1 fits a.1 in
-    let s = each_takes string_at string FitsString (λ bs y f h. string_takes bs y.0 y.1 f h) a.0.0 a.0.1 b.0 t.0.rest_fits b.1 in
-    let both = Takes-then bytes (a.0.0 ∷ []) a.0.1 (flat_map string b.0.0) b.0.1 t.0 s.0 in
-    subst (λ (y : Columns × Bytes). Takes bytes (row_bytes y.0) y.1 × IsRow y.0) g.1 (subst (λ (k : ℕ). Takes bytes (k ∷ flat_map string b.0.0) b.0.1) (sym s.1) both, row_from_test b.0.0 g.0)
-
-row_strings : (columns : Columns) → IsRow columns → AllByRecursion FitsString columns
-row_strings columns h = recursion_from_All FitsString columns (All-weaker (λ (c : Bytes). length c ≤ 1024) FitsString (λ c le. omega arith) columns h.short)
-
-row_again : (columns : Columns) (rest : Bytes) → IsRow columns → row_at (row_bytes columns ++ rest) ≡ Some (columns, rest)
-unfolding row_at
-row_again columns rest h = rw (each_again string_at string FitsString string_again columns rest (row_strings columns h), test_from_row columns h) refl
+use Rattle.mt_log.specs.Reading.{written_at, change_kind_at, change_at, record_of, record_at, is_step, records_at, resume_at, batch_kind_at, batch_in, batch_at}
 
 -- ---- what became of a key
 
@@ -83,18 +61,6 @@ change_again None rest h = refl
 change_again (Some row) rest h = rw (row_again row rest h) refl
 
 -- ---- records
-
-key_takes : (bytes : Bytes) (x : Bytes × Bytes) → IsBytes bytes → key_at bytes ≡ Some x → Takes bytes (string x.0) x.1 × IsKey x.0
-unfolding key_at
-key_takes bytes x fits e =
-    let a = bind_some (string_at bytes) (λ key. cond (not (nat_lt 251 (length key.0))) (Some key) None) x e in
-    let g = guard_ended (not (nat_lt 251 (length a.0.0))) a.0 x a.2 in
-    let t = string_takes bytes a.0.0 a.0.1 fits a.1 in
-    subst (λ (y : Bytes × Bytes). Takes bytes (string y.0) y.1 × IsKey y.0) g.1 (t.0, at_most_from_test (length a.0.0) 251 g.0)
-
-key_again : (key rest : Bytes) → IsKey key → key_at (string key ++ rest) ≡ Some (key, rest)
-unfolding key_at
-key_again key rest short = rw (string_again key rest (omega (arith, short)), test_from_at_most (length key) 251 short) refl
 
 record_takes : (bytes : Bytes) (x : Record × Bytes) → IsBytes bytes → record_at bytes ≡ Some x → Takes bytes (record_bytes x.0) x.1 × IsRecord x.0
 unfolding record_at

@@ -25,7 +25,8 @@ use Rattle.mt_log.specs.Fronts.{HasNoBatch, IsBadGate, IsBadLog, IsShut, IsTorn,
 use Rattle.mt_log.specs.Reading.{batch_in, batch_at, are_steps, rise_within}
 use Rattle.mt_log.specs.Stops.{IsOpenGate, IsNoHead, IsHead, IsHeader, IsStart, IsBadStart, IsBody, IsOpenBatch, AreBatches, StandBefore, IsStop, IsFoundAt, IsRead, IsBadRead, CountsFault, CountsReads, OfImage, IsStartOf, IsStopOf, IsFrontOf, IsFaultOf}
 use Rattle.mt_log.specs.Logs.{IsSyncedOf, FailsToSync, Opened, GivesDiskBack, fault_with}
-use Rattle.mt_log.proofs.Tests.{below, steps_from_test, records_from_test, test_of_batch}
+use Rattle.mt_row_fields.proofs.Tests.{below}
+use Rattle.mt_log.proofs.Tests.{steps_from_test, records_from_test, test_of_batch}
 use Rattle.mt_log.proofs.BatchLaws.{body_takes, batch_again}
 use Rattle.mt_log.proofs.FrontLaws.{each_more, end_more, opening, only_synced}
 

@@ -3,32 +3,19 @@ use Rattle.std.proofs.Common.{◌*◌, ◌≤◌, List, [], ◌∷◌, length, O
 use Rattle.std.specs.List.{flat_map, AllByRecursion}
 use Rattle.std.proofs.lemmas.List.{length-append}
 use Rattle.std.proofs.lemmas.List.Elements.{recursion_from_All}
-use Rattle.mt_rows.specs.Rows.{Bytes, Columns, IsRow}
+use Rattle.mt_rows.specs.Rows.{Columns}
 use Rattle.mt_rows.specs.declared.record.Record.{Record}
 use Rattle.mt_rows.specs.declared.record.Batch.{Batch}
 use Rattle.mt_fields.specs.Fields.{string}
 use Rattle.mt_batches.specs.Batches.{IsRowOrNone, IsRecord, IsBounded}
-use Rattle.mt_log.specs.Format.{row_bytes, change_bytes, record_bytes}
+use Rattle.mt_row_fields.proofs.RowLaws.{row_short}
+use Rattle.mt_log.specs.Format.{change_bytes, record_bytes}
 use Rattle.mt_log.specs.Contents.{IsBatch}
 use Rattle.mt_log.proofs.ReadLaws.{body_len}
 
--- columns, each with its length in two bytes
-columns_len : (columns : Columns) → AllByRecursion (λ column. length column ≤ 1024) columns → length (flat_map string columns) ≤ 1026 * length columns
-columns_len [] short = omega arith
-columns_len (c ∷ cs) short =
-    let rest = columns_len cs short.1 in
-    let all = length-append (string c) (flat_map string cs) in
-    omega (arith, short.0, rest, all)
-
--- a row of 16 columns at most
-row_len : (row : Columns) → IsRow row → length (row_bytes row) ≤ 16417
-row_len row is =
-    let columns = columns_len row (recursion_from_All (λ (column : Bytes). length column ≤ 1024) row is.short) in
-    omega (arith, columns, is.few)
-
 change_len : (row : Option Columns) → IsRowOrNone row → length (change_bytes row) ≤ 16418
 change_len None is = omega arith
-change_len (Some row) is = let row_fits = row_len row is in omega (arith, row_fits)
+change_len (Some row) is = let row_fits = row_short row is in omega (arith, row_fits)
 
 record_len : (r : Record) → IsRecord r → length (record_bytes r) ≤ 16683
 record_len r is =

@@ -1,80 +1,22 @@
--- The tests of a row, of a batch's steps and of its stamps, as a reader makes them.
-use Rattle.std.proofs.Common.{◌≡◌, ℕ, zero, suc, ◌+◌, ◌^◌, ◌<◌, ◌≤◌, Bool, true, false, not, ◌&&◌, List, [], ◌∷◌, map, length, get_or, IsTrue, ◌↔◌, refl, sym, subst, arith}
+-- The tests of a batch's steps and of its stamps, as a reader makes them.
+use Rattle.std.proofs.Common.{◌≡◌, ℕ, zero, suc, ◌+◌, ◌^◌, ◌<◌, ◌≤◌, true, not, ◌&&◌, List, [], ◌∷◌, map, length, get_or, refl, sym, subst, arith}
 use Rattle.std.specs.Prelude.{nat_lt}
-use Rattle.std.specs.List.{All, list_all}
+use Rattle.std.specs.List.{All}
 use Rattle.std.specs.List.Sorted.{IsStrictlyIncreasing}
 use Rattle.std.proofs.lemmas.Bool.{and_parts, and_from, ltb-true}
-use Rattle.std.proofs.lemmas.Bool.Decides.{nat_tests}
-use Rattle.std.proofs.lemmas.List.Sums.{AllPass-from_list_all, list_all-from_AllPass}
 use Rattle.std.proofs.lemmas.List.Elements.{All-weaker, All-nil, All-cons, All-head, All-tail}
-use Rattle.mt_rows.specs.Rows.{Bytes, Columns, IsRow}
 use Rattle.mt_rows.specs.Commands.{IsKey}
 use Rattle.mt_rows.specs.Limits.{AreRecords}
 use Rattle.mt_rows.specs.declared.record.Record.{Record}
-use Rattle.mt_log.specs.Reading.{is_row, are_steps, rise_within}
-
-pub below : (a b : ℕ) → a < b → nat_lt a b ≡ true
-below a b h = grind (arith, nat_tests)
-
-shorter : {X : Type 0} (size : X → ℕ) (n : ℕ) (xs : List X) → list_all (λ x. nat_lt (size x) n) xs ≡ true → All (λ x. size x < n) xs
-shorter size n xs e =
-    All-weaker (λ x. nat_lt (size x) n ≡ true) (λ x. size x < n) (λ x h. ltb-true (size x) n h) xs (AllPass-from_list_all (λ x. nat_lt (size x) n) xs e)
-
-shorter_test : {X : Type 0} (size : X → ℕ) (n : ℕ) (xs : List X) → All (λ x. size x < n) xs → list_all (λ x. nat_lt (size x) n) xs ≡ true
-shorter_test size n xs h =
-    list_all-from_AllPass (λ x. nat_lt (size x) n) xs (All-weaker (λ x. size x < n) (λ x. nat_lt (size x) n ≡ true) (λ x lt. below (size x) n lt) xs h)
-
--- columns that pass the test are a row
-pub row_from_test : (columns : Columns) → is_row columns ≡ true → IsRow columns
-row_from_test columns e =
-    let both = and_parts (nat_lt 0 (length columns) && nat_lt (length columns) 17) _ e in
-    let lengths = and_parts (nat_lt 0 (length columns)) (nat_lt (length columns) 17) both.0 in
-    let some : 0 < length columns = ltb-true 0 (length columns) lengths.0 in
-    let few : length columns < 17 = ltb-true (length columns) 17 lengths.1 in
-    record {
-      some = omega arith;
-      few = omega arith;
-      short = All-weaker (λ (c : Bytes). length c < 1025) (λ (c : Bytes). length c ≤ 1024) (λ c h. omega arith) columns (shorter length 1025 columns both.1);
-    }
-
--- and a row passes it
-pub test_from_row : (columns : Columns) → IsRow columns → is_row columns ≡ true
-test_from_row columns h =
-    let some = h.some in
-    let few = h.few in
-    and_from (nat_lt 0 (length columns) && nat_lt (length columns) 17) _
-    (and_from (nat_lt 0 (length columns)) (nat_lt (length columns) 17) (below 0 (length columns) (omega arith)) (below (length columns) 17 (omega arith)))
-    (shorter_test length 1025 columns (All-weaker (λ (c : Bytes). length c ≤ 1024) (λ (c : Bytes). length c < 1025) (λ c k. omega arith) columns h.short))
-
-same : (a b : Bool) → (a ≡ true → b ≡ true) → (b ≡ true → a ≡ true) → b ≡ a
-same true b p q = p refl
-same false true p q = sym (q refl)
-same false false p q = refl
-
--- a test that tells whether columns are a row is this one
-pub row_test : (columns : Columns) (b : Bool) → (IsTrue b ↔ IsRow columns) → is_row columns ≡ b
-row_test columns b h = same b (is_row columns) (λ e. test_from_row columns (h.0 e)) (λ e. h.1 (row_from_test columns e))
-
-pub ruleset row_tests = (row_test, row_from_test)
+use Rattle.mt_row_fields.proofs.Tests.{below, at_most_from_test, test_from_at_most}
+use Rattle.mt_log.specs.Reading.{are_steps, rise_within}
 
 -- ---- steps
-
-not_below : (a b : ℕ) → not (nat_lt b a) ≡ true → a ≤ b
-not_below a b h = grind (arith, nat_tests)
-
-at_most : (a b : ℕ) → a ≤ b → not (nat_lt b a) ≡ true
-at_most a b h = grind (arith, nat_tests)
 
 pub steps_from_test : (from to : ℕ) → are_steps from to ≡ true → (from ≤ to) × (to ≤ 2 ^ 59)
 steps_from_test from to e =
     let both = and_parts (not (nat_lt to from)) (not (nat_lt (2 ^ 59) to)) e in
-    (not_below from to both.0, not_below to (2 ^ 59) both.1)
-
-pub at_most_from_test : (a b : ℕ) → not (nat_lt b a) ≡ true → a ≤ b
-at_most_from_test a b e = not_below a b e
-
-pub test_from_at_most : (a b : ℕ) → a ≤ b → not (nat_lt b a) ≡ true
-test_from_at_most a b h = at_most a b h
+    (at_most_from_test from to both.0, at_most_from_test to (2 ^ 59) both.1)
 
 -- ---- stamps
 
@@ -108,10 +50,10 @@ records_from_test last to (r ∷ records) e =
     let over : last < r.stamp = ltb-true last r.stamp steps.0 in
     let rest = records_from_test r.stamp to records first.1 in (
       record {
-        keys = All-cons (λ (x : Record). IsKey x.key) r records (not_below (length r.key) 251 key.1) rest.0.keys;
+        keys = All-cons (λ (x : Record). IsKey x.key) r records (at_most_from_test (length r.key) 251 key.1) rest.0.keys;
         stamps = rising_more r.stamp (stamps records) (first_within r.stamp to records rest.1) rest.0.stamps;
       },
-      All-cons (Within last to) r records (over, not_below r.stamp to steps.1) (All-weaker (Within r.stamp to) (Within last to) (λ x h. (let more = h.0 in omega arith, h.1)) records rest.1),
+      All-cons (Within last to) r records (over, at_most_from_test r.stamp to steps.1) (All-weaker (Within r.stamp to) (Within last to) (λ x h. (let more = h.0 in omega arith, h.1)) records rest.1),
     )
 
 -- and those pass it
@@ -130,8 +72,8 @@ test_from_records last to (r ∷ records) are from up_to =
     let after : 0 < length (stamps records) → r.stamp < get_or (stamps records) 0 0 = λ lt. are.stamps 0 (omega arith) in
     and_from (nat_lt last r.stamp && not (nat_lt to r.stamp) && not (nat_lt 251 (length r.key))) (rise_within r.stamp to records)
     (and_from (nat_lt last r.stamp && not (nat_lt to r.stamp)) (not (nat_lt 251 (length r.key)))
-    (and_from (nat_lt last r.stamp) (not (nat_lt to r.stamp)) (below last r.stamp over) (at_most r.stamp to small))
-    (at_most (length r.key) 251 key))
+    (and_from (nat_lt last r.stamp) (not (nat_lt to r.stamp)) (below last r.stamp over) (test_from_at_most r.stamp to small))
+    (test_from_at_most (length r.key) 251 key))
     (test_from_records r.stamp to records rest after (All-tail (λ (x : Record). x.stamp ≤ to) r records up_to))
 
 -- the records of a batch pass it

@@ -5,16 +5,13 @@ use Rattle.std.specs.List.{flat_map}
 use Rattle.mt_rows.specs.Rows.{Bytes, Columns}
 use Rattle.mt_rows.specs.declared.record.Record.{Record}
 use Rattle.mt_fields.specs.Fields.{string}
+use Rattle.mt_row_fields.specs.Format.{row_bytes}
 use Rattle.mt_log.specs.declared.batch.LogBatch.{LogBatch}
 use Rattle.mt_log.specs.declared.batch.LogBatch.TheVariants.{Records, Resume}
 
 -- MTLOG, the format's number, the worker, the number of logs
 abbrev pub header : ℕ → ℕ → Bytes
 header worker logs = 77 ∷ 84 ∷ 76 ∷ 79 ∷ 71 ∷ 1 ∷ worker ∷ logs ∷ []
-
--- a row: a byte of count, and that many columns
-abbrev pub row_bytes : Columns → Bytes
-row_bytes row = length row ∷ flat_map string row
 
 -- what became of a key: 00 where it was removed, else 01 and its row
 abbrev pub change_bytes : Option Columns → Bytes

@@ -1,23 +1,12 @@
 -- Reading batches from left to right: for the functions that do it, whose callers see the spellings alone.
 use Rattle.std.specs.Prelude.{ℕ, ◌^◌, ◌==◌, Bool, true, not, ◌&&◌, List, [], ◌∷◌, length, Option, Some, None, nat_lt, if◌then◌else◌}
-use Rattle.std.specs.List.{list_all}
 use Rattle.std.specs.Int.{w32, w64}
 use Rattle.mt_rows.specs.Rows.{Bytes, Columns}
 use Rattle.mt_rows.specs.declared.record.Record.{Record}
-use Rattle.mt_fields.specs.Reading.{◌>>=◌, byte_at, number_at, taken_at, string_at, each_at}
+use Rattle.mt_fields.specs.Reading.{◌>>=◌, byte_at, number_at, taken_at, each_at}
+use Rattle.mt_row_fields.specs.Reading.{row_at, key_at}
 use Rattle.mt_log.specs.declared.batch.LogBatch.{LogBatch}
 use Rattle.mt_log.specs.declared.batch.LogBatch.TheVariants.{Records, Resume}
-
--- whether columns make a row
-abbrev pub is_row : Columns → Bool
-is_row columns = nat_lt 0 (length columns) && nat_lt (length columns) 17 && list_all (λ c. nat_lt (length c) 1025) columns
-
--- a row
-unfoldable pub row_at : Bytes → Option (Columns × Bytes)
-row_at bytes = do
-  n ← byte_at bytes
-  columns ← each_at string_at n.0 n.1
-  if is_row columns.0 then Some columns else None
 
 -- the row of a key that was written
 unfoldable pub written_at : Bytes → Option (Option Columns × Bytes)
@@ -35,12 +24,6 @@ unfoldable pub change_at : Bytes → Option (Option Columns × Bytes)
 change_at bytes = do
   kind ← byte_at bytes
   change_kind_at kind.0 kind.1
-
--- a user key
-unfoldable pub key_at : Bytes → Option (Bytes × Bytes)
-key_at bytes = do
-  key ← string_at bytes
-  if not (nat_lt 251 (length key.0)) then Some key else None
 
 -- a record of these fields
 abbrev pub record_of : ℕ → ℕ → Bytes → Option Columns → Record

@@ -1,19 +1,19 @@
-//! A log's bytes as its header, its gates and its batches. Each byte is read once, and nothing is made by
-//! a number that was read: a list grows with the records that stand there.
+//! A log's bytes as its header, its gates and its batches. Each byte is read once. No list of records is
+//! made by a number that was read: it grows with the records that stand there.
 
 ghost use Rattle.std.specs.Prelude.{◌≡◌, ◌<◌, ◌≤◌, ◌^◌, [], ◌∷◌, ◌++◌, length, drop, IfSome, IfNone, IfOk, IfErr};
-ghost use Rattle.mt_fields.specs.Reading.{Gives, each_at, string_at};
+ghost use Rattle.mt_fields.specs.Reading.{Gives, each_at};
 ghost use Rattle.mt_log.specs.Format.{header};
 ghost use Rattle.mt_log.specs.Fronts.{HasNoHeader};
-ghost use Rattle.mt_log.specs.Reading.{row_at, written_at, change_kind_at, change_at, key_at, record_at, records_at, resume_at, batch_kind_at, batch_in};
+ghost use Rattle.mt_log.specs.Reading.{written_at, change_kind_at, change_at, record_at, records_at, resume_at, batch_kind_at, batch_in};
 ghost use Rattle.mt_log.specs.Stops.{IsHead, IsStart, IsBadStart, IsBehind};
 
 use crate::batch::{LogBatch, LoggedBatch, is_step};
 use crate::fault::{DecodeFault, ReadFault};
 use crate::gate::OPEN;
-use mt_fields::{string_of, u8_at, u32_at, u64_at};
-use mt_rows::key::USER_KEY_BYTES;
-use mt_rows::{Column, Key, Record, Row};
+use mt_fields::{u8_at, u32_at, u64_at};
+use mt_row_fields::{key_of, row_of};
+use mt_rows::{Record, Row};
 use std::alloc::{AllocError, Global};
 
 /// The bytes of a header.
@@ -212,18 +212,6 @@ fn record_of(alloc: Global, bytes: &[u8]) -> Result<(Record, &[u8]), DecodeFault
     ))
 }
 
-// A user key.
-#[tactic(auto, unfolding(crate::specs::Reading::key_at))]
-fn key_of(alloc: Global, bytes: &[u8]) -> Result<(Key, &[u8]), DecodeFault>
-    ensures { Gives (λ x. (x.0, x.1.now)) result (key_at bytes.now) }
-{
-    let (key, rest) = string_of(alloc, bytes)?;
-    if key.len() > USER_KEY_BYTES {
-        return Err(DecodeFault::Bad);
-    }
-    Ok((Key::new(key), rest))
-}
-
 // What became of a key.
 #[tactic(auto, unfolding(crate::specs::Reading::change_at))]
 fn change_of(alloc: Global, bytes: &[u8]) -> Result<(Option<Row>, &[u8]), DecodeFault>
@@ -250,36 +238,4 @@ fn written_of(alloc: Global, bytes: &[u8]) -> Result<(Option<Row>, &[u8]), Decod
 {
     let (row, rest) = row_of(alloc, bytes)?;
     Ok((Some(row), rest))
-}
-
-#[tactic(auto, using(crate::proofs::Tests::row_tests), unfolding(crate::specs::Reading::row_at))]
-fn row_of(alloc: Global, bytes: &[u8]) -> Result<(Row, &[u8]), DecodeFault>
-    ensures { Gives (λ x. (x.0, x.1.now)) result (row_at bytes.now) }
-{
-    let (count, rest) = u8_at(bytes)?;
-    let (columns, rest) = columns_of(alloc, count, rest)?;
-    if !Row::fits(&columns) {
-        return Err(DecodeFault::Bad);
-    }
-    Ok((Row::new(alloc, columns)?, rest))
-}
-
-fn columns_of(alloc: Global, count: u8, bytes: &[u8]) -> Result<(Vec<Column>, &[u8]), DecodeFault>
-    ensures { Gives (λ x. (x.0.items, x.1.now)) result (each_at string_at count bytes.now) }
-{
-    let mut columns = Vec::new(alloc);
-    let mut rest = bytes;
-    for _ in 0..count {
-        let (column, after) = column_of(alloc, rest)?;
-        columns.push(column)?;
-        rest = after;
-    }
-    Ok((columns, rest))
-}
-
-fn column_of(alloc: Global, bytes: &[u8]) -> Result<(Column, &[u8]), DecodeFault>
-    ensures { Gives (λ x. (x.0, x.1.now)) result (string_at bytes.now) }
-{
-    let (text, rest) = string_of(alloc, bytes)?;
-    Ok((Column::new(alloc, text)?, rest))
 }

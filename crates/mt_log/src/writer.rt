@@ -2,16 +2,16 @@
 
 ghost use Rattle.std.specs.Prelude.{◌≡◌, ◌≤◌, ◌<◌, ◌*◌, ◌^◌, ◌++◌, ◌∷◌, [], length, IfOk, OnOk};
 ghost use Rattle.std.specs.List.{flat_map, All};
-ghost use Rattle.mt_rows.specs.Rows.{IsRow};
 ghost use Rattle.mt_rows.specs.Commands.{IsKey};
 ghost use Rattle.mt_rows.specs.Limits.{AreRecords};
 ghost use Rattle.mt_batches.specs.Batches.{IsRowOrNone, IsRecord};
 ghost use Rattle.mt_log.specs.declared.batch.LogBatch.{LogBatch};
-ghost use Rattle.mt_log.specs.Format.{row_bytes, change_bytes, record_bytes, body, told_body};
+ghost use Rattle.mt_log.specs.Format.{change_bytes, record_bytes, body, told_body};
 ghost use Rattle.mt_log.specs.Contents.{IsBatch};
 
-use mt_fields::{put_string, put_u32, put_u64};
-use mt_rows::{Batch, Column, Record, Row};
+use mt_fields::{put_u32, put_u64};
+use mt_row_fields::{put_key, put_row, row_len};
+use mt_rows::{Batch, Record, Row};
 use std::alloc::{AllocError, Global};
 
 /// A body has fewer bytes, and a batch fewer records.
@@ -19,19 +19,6 @@ pub(crate) const BODY_LIMIT: usize = 1 << 32;
 
 /// The bytes of a batch of records before its records: its kind, two steps and a count.
 pub(crate) const RECORDS_HEAD: usize = 21;
-
-// How many bytes a row is spelled with.
-fn row_len(columns: &[Column]) -> usize
-    requires { IsRow columns.now }
-    ensures exact { result ≡ length (row_bytes columns.now) }
-    ensures few { result ≤ 16417 }
-{
-    let mut len = 1;
-    for column in columns {
-        len += 2 + column.as_bytes().len();
-    }
-    len
-}
 
 // How many bytes are told of what became of a key.
 fn change_len(row: &Option<Row>) -> usize
@@ -41,7 +28,7 @@ fn change_len(row: &Option<Row>) -> usize
 {
     match row {
         None => 1,
-        Some(row) => 1 + row_len(row.columns()),
+        Some(row) => 1 + row_len(row),
     }
 }
 
@@ -71,18 +58,6 @@ pub(crate) fn records_len(records: &[Record]) -> usize
     len
 }
 
-// A row.
-fn put_row(out: &mut Vec<u8>, columns: &[Column]) -> Result<(), AllocError>
-    requires { IsRow columns.now }
-    ensures { OnOk result (out.new.items ≡ out.old.items ++ row_bytes columns.now) }
-{
-    out.push(columns.len() as u8)?;
-    for column in columns {
-        put_string(out, column.as_bytes())?;
-    }
-    Ok(())
-}
-
 // What became of a key.
 fn put_change(out: &mut Vec<u8>, row: &Option<Row>) -> Result<(), AllocError>
     ensures { OnOk result (out.new.items ≡ out.old.items ++ change_bytes row.now) }
@@ -94,7 +69,7 @@ fn put_change(out: &mut Vec<u8>, row: &Option<Row>) -> Result<(), AllocError>
         }
         Some(row) => {
             out.push(1)?;
-            put_row(out, row.columns())
+            put_row(out, row)
         }
     }
 }
@@ -106,7 +81,7 @@ fn put_record(out: &mut Vec<u8>, change: &Record) -> Result<(), AllocError>
 {
     put_u64(out, change.stamp)?;
     put_u32(out, change.tenant)?;
-    put_string(out, change.key.as_bytes())?;
+    put_key(out, &change.key)?;
     put_change(out, &change.row)
 }
 

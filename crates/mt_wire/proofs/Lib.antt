@@ -3,4 +3,3 @@ pub mod RequestFields
 pub mod RequestLaws
 pub mod ReplyLaws
 pub mod Tests
-pub mod Lists

@@ -14,35 +14,15 @@ use Rattle.mt_rows.specs.declared.reply.Reply.TheVariants.{Absent, Found, New, R
 use Rattle.mt_fields.specs.Fields.{string}
 use Rattle.mt_fields.specs.Reading.{◌>>=◌, byte_at, number_at, string_at, each_at}
 use Rattle.mt_fields.proofs.FieldLaws.{IsBytes, bind_some, guard_ended, choose, Takes, Takes-then, Takes-more, byte_takes, wide64, number_takes, string_takes, string_again, each_takes, each_again}
+use Rattle.mt_row_fields.specs.Format.{row_bytes}
+use Rattle.mt_row_fields.specs.Reading.{row_at}
+use Rattle.mt_row_fields.proofs.RowLaws.{row_takes, row_again, row_short}
 use Rattle.mt_wire.specs.declared.message.WireReply.{WireReply}
 use Rattle.mt_wire.specs.declared.message.WireReply.TheVariants.{Opened, Told, Settled, Refused}
-use Rattle.mt_wire.specs.Replies.{shown_row, shown_pair, reply_body, IsSpellableReply}
-use Rattle.mt_wire.specs.ReplyReading.{is_row, are_pairs, row_at, pair_at, pairs_at, found_at, scanned_at, settled_at, reply_kind_at, reply_in}
-use Rattle.mt_wire.proofs.Tests.{row_from_test, test_from_row, pairs_from_test, test_from_pairs}
+use Rattle.mt_wire.specs.Replies.{shown_pair, reply_body, IsSpellableReply}
+use Rattle.mt_wire.specs.ReplyReading.{are_pairs, pair_at, pairs_at, found_at, scanned_at, settled_at, reply_kind_at, reply_in}
+use Rattle.mt_wire.proofs.Tests.{pairs_from_test, test_from_pairs}
 use Rattle.mt_wire.proofs.FrameLaws.{AreMessages}
-
--- ---- rows
-
-abbrev FitsString : Bytes → Type 0
-FitsString text = length text < 2 ^ 16
-
-row_takes : (bytes : Bytes) (x : Columns × Bytes) → IsBytes bytes → row_at bytes ≡ Some x → Takes bytes (shown_row x.0) x.1 × IsRow x.0
-unfolding row_at
-row_takes bytes x fits e =
-    let a = bind_some (byte_at bytes) (λ n. each_at string_at n.0 n.1 >>= λ cs. cond (is_row cs.0) (Some cs) None) x e in
-    let b = bind_some (each_at string_at a.0.0 a.0.1) (λ cs. cond (is_row cs.0) (Some cs) None) x a.2 in
-    let g = guard_ended (is_row b.0.0) b.0 x b.2 in
-    let t = byte_takes bytes a.0.0 a.0.1 fits a.1 in
-    let s = each_takes string_at string FitsString (λ bs y f h. string_takes bs y.0 y.1 f h) a.0.0 a.0.1 b.0 t.0.rest_fits b.1 in
-    let both = Takes-then bytes (a.0.0 ∷ []) a.0.1 (flat_map string b.0.0) b.0.1 t.0 s.0 in
-    subst (λ (y : Columns × Bytes). Takes bytes (shown_row y.0) y.1 × IsRow y.0) g.1 (subst (λ (k : ℕ). Takes bytes (k ∷ flat_map string b.0.0) b.0.1) (sym s.1) both, row_from_test b.0.0 g.0)
-
-row_strings : (columns : Columns) → IsRow columns → AllByRecursion FitsString columns
-row_strings columns h = recursion_from_All FitsString columns (All-weaker (λ (c : Bytes). length c ≤ 1024) FitsString (λ c le. omega arith) columns h.short)
-
-row_again : (columns : Columns) (rest : Bytes) → IsRow columns → row_at (shown_row columns ++ rest) ≡ Some (columns, rest)
-unfolding row_at
-row_again columns rest h = rw (each_again string_at string FitsString string_again columns rest (row_strings columns h), test_from_row columns h) refl
 
 -- ---- pairs
 
@@ -56,14 +36,14 @@ pair_takes bytes x fits e =
     let b = bind_some (row_at a.0.1) (λ row. Some ((a.0.0, row.0), row.1)) x a.2 in
     let t = string_takes bytes a.0.0 a.0.1 fits a.1 in
     let s = row_takes a.0.1 b.0 t.0.rest_fits b.1 in
-    let both = Takes-then bytes (string a.0.0) a.0.1 (shown_row b.0.0) b.0.1 t.0 s.0 in
+    let both = Takes-then bytes (string a.0.0) a.0.1 (row_bytes b.0.0) b.0.1 t.0 s.0 in
     let made : (Bytes × Columns) × Bytes = ((a.0.0, b.0.0), b.0.1) in
     subst (λ (y : (Bytes × Columns) × Bytes). Takes bytes (shown_pair y.0) y.1 × FitsPair y.0) (same_Some made x b.2) (both, (t.1, s.1))
 
 pair_again : (p : Bytes × Columns) (rest : Bytes) → FitsPair p → pair_at (shown_pair p ++ rest) ≡ Some (p, rest)
 unfolding pair_at
 pair_again p rest fits =
-    ap pair_at (append_assoc (string p.0) (shown_row p.1) rest) ∙ rw (string_again p.0 (shown_row p.1 ++ rest) fits.0, row_again p.1 rest fits.1) refl
+    ap pair_at (append_assoc (string p.0) (row_bytes p.1) rest) ∙ rw (string_again p.0 (row_bytes p.1 ++ rest) fits.0, row_again p.1 rest fits.1) refl
 
 abbrev HaveRows : List (Bytes × Columns) → Type 0
 HaveRows pairs = All (λ (p : Bytes × Columns). IsRow p.1) pairs
@@ -102,7 +82,7 @@ found_takes bytes x fits e =
     let a = bind_some (row_at bytes) (λ row. Some (Told (Found row.0), row.1)) x e in
     let t = row_takes bytes a.0 fits a.1 in
     let made : WireReply × Bytes = (Told (Found a.0.0), a.0.1) in
-    subst (Reads 2 bytes) (same_Some made x a.2) (Takes-more 2 bytes (shown_row a.0.0) a.0.1 t.0, t.1)
+    subst (Reads 2 bytes) (same_Some made x a.2) (Takes-more 2 bytes (row_bytes a.0.0) a.0.1 t.0, t.1)
 
 scanned_takes : (bytes : Bytes) (x : WireReply × Bytes) → IsBytes bytes → scanned_at bytes ≡ Some x → Reads 6 bytes x
 unfolding scanned_at
@@ -179,7 +159,7 @@ pub reply_again : (r : WireReply) → IsSpellableReply r → reply_in (reply_bod
 unfolding reply_in reply_kind_at found_at scanned_at settled_at
 reply_again Opened fits = refl
 reply_again (Told Absent) fits = refl
-reply_again (Told (Found columns)) fits = ap (λ (t : Bytes). reply_in (2 ∷ t)) (sym (append-nil (shown_row columns))) ∙ rw (row_again columns [] fits) refl
+reply_again (Told (Found columns)) fits = ap (λ (t : Bytes). reply_in (2 ∷ t)) (sym (append-nil (row_bytes columns))) ∙ rw (row_again columns [] fits) refl
 reply_again (Told New) fits = refl
 reply_again (Told Replaced) fits = refl
 reply_again (Told Full) fits = refl
@@ -192,20 +172,6 @@ reply_again (Refused number) fits = ap (λ r. r >>= λ x. cond (eqb (length x.1)
 
 -- ---- lengths
 
-columns_short : (columns : Columns) → AllByRecursion (λ c. length c ≤ 1024) columns → length (flat_map string columns) ≤ 1026 * length columns
-columns_short [] h = omega arith
-columns_short (c ∷ columns) h =
-    let first : length c ≤ 1024 = h.0 in
-    let others : length (flat_map string columns) ≤ 1026 * length columns = columns_short columns h.1 in
-    let len : length (flat_map string (c ∷ columns)) ≡ length (string c) + length (flat_map string columns) = ap length (flat_map-cons string c columns) ∙ length-append (string c) (flat_map string columns) in
-    omega arith
-
-row_short : (columns : Columns) → IsRow columns → length (shown_row columns) ≤ 16417
-row_short columns h =
-    let few = h.few in
-    let all = columns_short columns (recursion_from_All (λ (c : Bytes). length c ≤ 1024) columns h.short) in
-    omega arith
-
 abbrev IsShort : Bytes × Columns → Type 0
 IsShort p = (length p.0 ≤ 251) × IsRow p.1
 
@@ -213,9 +179,9 @@ pairs_short : (pairs : List (Bytes × Columns)) → AllByRecursion IsShort pairs
 pairs_short [] h = omega arith
 pairs_short (p ∷ pairs) h =
     let key : length p.0 ≤ 251 = h.0.0 in
-    let row : length (shown_row p.1) ≤ 16417 = row_short p.1 h.0.1 in
+    let row : length (row_bytes p.1) ≤ 16417 = row_short p.1 h.0.1 in
     let others : length (flat_map shown_pair pairs) ≤ 16670 * length pairs = pairs_short pairs h.1 in
-    let one : length (shown_pair p) ≡ length (string p.0) + length (shown_row p.1) = length-append (string p.0) (shown_row p.1) in
+    let one : length (shown_pair p) ≡ length (string p.0) + length (row_bytes p.1) = length-append (string p.0) (row_bytes p.1) in
     let len : length (flat_map shown_pair (p ∷ pairs)) ≡ length (shown_pair p) + length (flat_map shown_pair pairs) = ap length (flat_map-cons shown_pair p pairs) ∙ length-append (shown_pair p) (flat_map shown_pair pairs) in
     omega arith
 

@@ -7,22 +7,19 @@ use Rattle.mt_rows.specs.Limits.{ArePairs}
 use Rattle.mt_rows.specs.declared.reply.Reply.{Reply}
 use Rattle.mt_rows.specs.declared.reply.Reply.TheVariants.{Absent, Found, New, Replaced, Full, Removed, Pairs, NoMemory}
 use Rattle.mt_fields.specs.Fields.{string}
+use Rattle.mt_row_fields.specs.Format.{row_bytes}
 use Rattle.mt_wire.specs.declared.message.WireReply.{WireReply}
 use Rattle.mt_wire.specs.declared.message.WireReply.TheVariants.{Opened, Told, Settled, Refused}
 use Rattle.mt_wire.specs.Frames.{frame}
 
--- a shown row: a byte of count, and that many columns
-abbrev pub shown_row : Columns → Bytes
-shown_row columns = length columns ∷ flat_map string columns
-
 -- a shown pair: its key and its row
 abbrev pub shown_pair : Bytes × Columns → Bytes
-shown_pair p = string p.0 ++ shown_row p.1
+shown_pair p = string p.0 ++ row_bytes p.1
 
 -- the body of the frame of a reply to a command
 abbrev pub told_body : Reply → Bytes
 told_body Absent = 1 ∷ []
-told_body (Found columns) = 2 ∷ shown_row columns
+told_body (Found columns) = 2 ∷ row_bytes columns
 told_body New = 3 ∷ []
 told_body Replaced = 4 ∷ []
 told_body Removed = 5 ∷ []

@@ -8,23 +8,13 @@ use Rattle.std.specs.FinMap.{is_sorted}
 use Rattle.mt_rows.specs.Rows.{Bytes, Columns}
 use Rattle.mt_rows.specs.declared.reply.Reply.TheVariants.{Absent, Found, New, Replaced, Full, Removed, Pairs, NoMemory}
 use Rattle.mt_fields.specs.Reading.{◌>>=◌, byte_at, number_at, string_at, each_at}
+use Rattle.mt_row_fields.specs.Reading.{row_at}
 use Rattle.mt_wire.specs.declared.message.WireReply.{WireReply}
 use Rattle.mt_wire.specs.declared.message.WireReply.TheVariants.{Opened, Told, Settled, Refused}
-
--- whether columns make a row
-abbrev pub is_row : Columns → Bool
-is_row columns = nat_lt 0 (length columns) && nat_lt (length columns) 17 && list_all (λ c. nat_lt (length c) 1025) columns
 
 -- whether a scan may show these pairs
 abbrev pub are_pairs : List (Bytes × Columns) → Bool
 are_pairs pairs = nat_lt (length pairs) 65 && list_all (λ p. nat_lt (length p.0) 252) pairs && is_sorted (slice_cmp nat_cmp) pairs
-
--- a shown row
-unfoldable pub row_at : Bytes → Option (Columns × Bytes)
-row_at bytes = do
-  n ← byte_at bytes
-  columns ← each_at string_at n.0 n.1
-  if is_row columns.0 then Some columns else None
 
 -- a shown pair
 unfoldable pub pair_at : Bytes → Option ((Bytes × Columns) × Bytes)

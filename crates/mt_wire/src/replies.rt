@@ -3,18 +3,19 @@
 ghost use Rattle.std.specs.Prelude.{◌≡◌, ◌≤◌, ◌*◌, ◌++◌, ◌∷◌, [], length, take, IfOk, OnOk, OnErr};
 ghost use Rattle.std.specs.List.{flat_map};
 ghost use Rattle.std.specs.Int.{w32, w64, to_be_bytes};
-ghost use Rattle.mt_rows.specs.Rows.{IsRow};
 ghost use Rattle.mt_rows.specs.Limits.{ArePairs};
-ghost use Rattle.mt_fields.specs.Reading.{Gives, string_at, each_at};
-ghost use Rattle.mt_wire.specs.Replies.{shown_row, shown_pair, reply_spelling};
+ghost use Rattle.mt_fields.specs.Reading.{Gives, each_at};
+ghost use Rattle.mt_row_fields.specs.Format.{row_bytes};
+ghost use Rattle.mt_wire.specs.Replies.{shown_pair, reply_spelling};
 ghost use Rattle.mt_wire.specs.Fronts.{IsReplyFront};
-ghost use Rattle.mt_wire.specs.ReplyReading.{row_at, pair_at, pairs_at, found_at, scanned_at, settled_at, reply_kind_at, reply_in};
+ghost use Rattle.mt_wire.specs.ReplyReading.{pair_at, pairs_at, found_at, scanned_at, settled_at, reply_kind_at, reply_in};
 
 use crate::fault::DecodeFault;
 use crate::frame::{Announced, LENGTH_BYTES, put_length, read_length};
 use crate::message::{RefusalNumber, ReplyFront, WireReply};
-use mt_fields::{put_string, put_u64, string_of, u8_at, u64_at};
-use mt_rows::{Column, Key, PairList, Reply, Row};
+use mt_fields::{put_u64, string_of, u8_at, u64_at};
+use mt_row_fields::{put_key, put_row, row_len, row_of};
+use mt_rows::{Key, PairList, Reply, Row};
 use std::alloc::{AllocError, Global};
 
 /// The longest body of a reply's frame: 64 pairs, each of a key of 251 bytes and a row of 16 columns
@@ -53,32 +54,6 @@ pub fn decode_reply(alloc: Global, bytes: &[u8]) -> Result<ReplyFront, AllocErro
     }
 }
 
-// How many bytes a row is spelled with.
-fn row_len(columns: &[Column]) -> usize
-    requires { IsRow columns.now }
-    ensures exact { result ≡ length (shown_row columns.now) }
-    ensures few { result ≤ 16417 }
-{
-    let mut len = 1;
-    for column in columns {
-        len += 2 + column.as_bytes().len();
-    }
-    len
-}
-
-// A row.
-fn put_row(out: &mut Vec<u8>, columns: &[Column]) -> Result<(), AllocError>
-    requires { IsRow columns.now }
-    ensures ok { OnOk result (out.new.items ≡ out.old.items ++ shown_row columns.now) }
-    ensures front { take (length out.old.items) out.new.items ≡ out.old.items }
-{
-    out.push(columns.len() as u8)?;
-    for column in columns {
-        put_string(out, column.as_bytes())?;
-    }
-    Ok(())
-}
-
 // A frame of one byte.
 fn put_code(out: &mut Vec<u8>, code: u8) -> Result<(), AllocError>
     ensures ok { OnOk result (out.new.items ≡ out.old.items ++ 0 ∷ 0 ∷ 0 ∷ 1 ∷ code ∷ []) }
@@ -89,13 +64,12 @@ fn put_code(out: &mut Vec<u8>, code: u8) -> Result<(), AllocError>
 
 // The frame of a row found.
 fn put_found(out: &mut Vec<u8>, found: &Row) -> Result<(), AllocError>
-    ensures ok { OnOk result (out.new.items ≡ out.old.items ++ to_be_bytes w32 (length (2 ∷ shown_row found.now)) ++ 2 ∷ shown_row found.now) }
+    ensures ok { OnOk result (out.new.items ≡ out.old.items ++ to_be_bytes w32 (length (2 ∷ row_bytes found.now)) ++ 2 ∷ row_bytes found.now) }
     ensures front { take (length out.old.items) out.new.items ≡ out.old.items }
 {
-    let columns = found.columns();
-    put_length(out, 1 + row_len(columns))?;
+    put_length(out, 1 + row_len(found))?;
     out.push(2)?;
-    put_row(out, columns)
+    put_row(out, found)
 }
 
 // The frame of a number.
@@ -115,7 +89,7 @@ fn pairs_len(pairs: &[(Key, Row)]) -> usize
 {
     let mut len = 0;
     for pair in pairs {
-        len += 2 + pair.0.as_bytes().len() + row_len(pair.1.columns());
+        len += 2 + pair.0.as_bytes().len() + row_len(&pair.1);
     }
     len
 }
@@ -126,8 +100,8 @@ fn put_pair(out: &mut Vec<u8>, key: &Key, row: &Row) -> Result<(), AllocError>
     ensures ok { OnOk result (out.new.items ≡ out.old.items ++ shown_pair (key.now, row.now)) }
     ensures front { take (length out.old.items) out.new.items ≡ out.old.items }
 {
-    put_string(out, key.as_bytes())?;
-    put_row(out, row.columns())
+    put_key(out, key)?;
+    put_row(out, row)
 }
 
 // The frame of a scan's pairs.
@@ -172,38 +146,6 @@ fn put_reply(out: &mut Vec<u8>, reply: &WireReply) -> Result<(), AllocError>
         WireReply::Settled(number) => put_settled(out, *number),
         WireReply::Refused(number) => put_code(out, 128 + number.get()),
     }
-}
-
-fn column_of(alloc: Global, bytes: &[u8]) -> Result<(Column, &[u8]), DecodeFault>
-    ensures { Gives (λ x. (x.0, x.1.now)) result (string_at bytes.now) }
-{
-    let (text, rest) = string_of(alloc, bytes)?;
-    Ok((Column::new(alloc, text)?, rest))
-}
-
-fn columns_of(alloc: Global, count: u8, bytes: &[u8]) -> Result<(Vec<Column>, &[u8]), DecodeFault>
-    ensures { Gives (λ x. (x.0.items, x.1.now)) result (each_at string_at count bytes.now) }
-{
-    let mut columns = Vec::with_capacity(alloc, usize::from(count))?;
-    let mut rest = bytes;
-    for _ in 0..count {
-        let (column, after) = column_of(alloc, rest)?;
-        columns.push(column)?;
-        rest = after;
-    }
-    Ok((columns, rest))
-}
-
-#[tactic(auto, using(crate::proofs::Tests::row_tests), unfolding(crate::specs::ReplyReading::row_at))]
-fn row_of(alloc: Global, bytes: &[u8]) -> Result<(Row, &[u8]), DecodeFault>
-    ensures { Gives (λ x. (x.0, x.1.now)) result (row_at bytes.now) }
-{
-    let (count, rest) = u8_at(bytes)?;
-    let (columns, rest) = columns_of(alloc, count, rest)?;
-    if !Row::fits(&columns) {
-        return Err(DecodeFault::Bad);
-    }
-    Ok((Row::new(alloc, columns)?, rest))
 }
 
 #[tactic(auto, unfolding(crate::specs::ReplyReading::pair_at))]

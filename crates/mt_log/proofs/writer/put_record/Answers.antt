@@ -1,8 +1,6 @@
 -- the fields stand behind what was there, one behind the other
 use Rattle.mt_disk.proofs.CrashLaws.{at_ok}
-use Rattle.std.proofs.Common.{ap, ◌∙◌, ◌++◌}
 use Rattle.std.specs.Int.{to_be_bytes, w32, w64}
-use Rattle.mt_rows.specs.Rows.{Bytes}
 use Rattle.mt_fields.specs.Fields.{string}
 use Rattle.mt_log.specs.Format.{change_bytes}
 use Rattle.mt_log.proofs.ReadLaws.{fields_joined}
@@ -12,9 +10,9 @@ pub returns : goal.returns
 returns c =
     let r = c.args.change.now in
     at_ok c.put_change.result
-    (λ e. fields_joined c.args.out.now.items c.put_u64.new.out.items c.put_u32.new.out.items c.put_string.new.out.items c.put_change.new.out.items
+    (λ e. fields_joined c.args.out.now.items c.put_u64.new.out.items c.put_u32.new.out.items c.put_key.new.out.items c.put_change.new.out.items
     (to_be_bytes w64 r.stamp) (to_be_bytes w32 r.tenant) (string r.key) (change_bytes r.row)
     c.in_ok-put_u64.ensures.ok c.in_ok-put_u32.ensures.ok
-    (c.in_ok-put_string.ensures.ok ∙ ap (λ (key : Bytes). c.put_u32.new.out.items ++ string key) c.as_bytes.ensures)
+    c.in_ok-put_key.ensures.ok
     e)
     c.put_change.ensures

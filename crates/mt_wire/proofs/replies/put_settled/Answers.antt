@@ -1,5 +1,5 @@
 -- where the number isn't written, what was there before stands at the front
-use Rattle.mt_wire.proofs.Lists.{front_then}
+use Rattle.mt_fields.proofs.Lists.{front_then}
 use Rattle.mt_wire.proofs.replies.put_settled.Goals as goal
 
 pub returns-clause-front : goal.returns-clause-front

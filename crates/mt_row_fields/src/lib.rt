@@ -1,0 +1,8 @@
+//! Keys and rows as fields of a format: those of a reply, and of a log's record.
+//!
+//! `specs/Format.antt` spells a row, and `specs/Reading.antt` says what reading from left to right gives.
+#![tactic(auto)]
+
+mod rows;
+
+pub use rows::{key_of, put_key, put_row, row_len, row_of};
