@@ -1,7 +1,8 @@
 //! Requests and replies.
 
+use crate::framing::framed;
+use crate::hexadecimal::{bytes_of, many};
 use mt_rows::{Column, ColumnIndexes, Command, Key, NamedColumns, Refusal};
-use mt_test_streams::{bytes_of, framed, many};
 use mt_wire::{
     EncodeFault, Front, RefusalNumber, ReplyFront, Request, WireReply, decode, decode_reply,
     encode, encode_request,

@@ -1,5 +1,9 @@
-//! Tests of `mt_wire` and `mt_session`: frames byte by byte, both ways, and whole sessions over plain
-//! maps, from worked bytes to worked bytes.
+//! Tests of `mt_wire`, `mt_session` and `mt_alone`: frames byte by byte, both ways, and whole sessions, over plain
+//! maps and over a state, from worked bytes to worked bytes.
+//!
+//! `rows` has the worked sessions, `ways` the ways in which each is run. `pieces`, `interrupts` and `turns` have
+//! streams that cut, fail, are interrupted and wait. A client of `turns` fails if it is asked for more while a
+//! reply is due. A real one would wait without end: so a test fails, and doesn't hang.
 //!
 //! They stand in a crate of their own, since a crate with tests is proved twice. What no clause says: that
 //! frames and sessions come to these bytes at all, that each reply is written before more is asked, and
@@ -9,4 +13,18 @@
 #[cfg(test)]
 mod frames;
 #[cfg(test)]
+mod framing;
+#[cfg(test)]
+mod hexadecimal;
+#[cfg(test)]
+mod interrupts;
+#[cfg(test)]
+mod pieces;
+#[cfg(test)]
+mod rows;
+#[cfg(test)]
 mod sessions;
+#[cfg(test)]
+mod turns;
+#[cfg(test)]
+mod ways;

@@ -1,27 +1,23 @@
-//! Worked sessions over plain maps: however their bytes are cut, whatever read or write fails, with
-//! interruptions, and with a client that waits for each reply. How many writes a session takes.
+//! Worked sessions over plain maps and over a state: however their bytes are cut, whatever read or write fails, with
+//! interruptions, and with a client that waits for each reply. How many writes a session takes. Several sessions
+//! over one state.
 
-use mt_rows::PlainMap;
+ghost use Rattle.mt_state.specs.Begins.{HaveNoPairs};
+
+use crate::framing::framed;
+use crate::hexadecimal::{bytes_of, many};
+use crate::pieces::{ALL, streams};
+use crate::ways::{TestServer, Way, name_of, session, wrong_row};
+use mt_alone::{Alone, serve_alone, serve_tenants};
+use mt_rows::{PlainMap, Tenants};
 use mt_session::{Ended, PlainCaller, PlainTenant, ServeFault, serve};
 use mt_streams::{Sink, Source};
-use mt_test_streams::{ALL, ROWS, TestServer, Way, bytes_of, framed, many, session, wrong_row};
 use std::alloc::{AllocError, Global};
 use std::process::Abort;
 use std::test::Fail;
 
-// Rows that ask for a removal or for a scan.
-const MORE_ROWS: [&str; 2] = [
-    // a put, a scan, a remove twice, a second Open
-    "00000005 01 00000007 00000009 03 0001 6b 01 00 0001 76 00000006 05 00 0000 02 00 \
-    00000004 04 0001 6b 00000004 04 0001 6b 00000005 01 00000007 \
-    > 00000001 00 00000001 03 00000009 06 01 0001 6b 01 0001 76 00000001 05 00000001 01 00000001 92 > closed",
-    // a put without columns, a scan of no pairs; the session goes on
-    "00000005 01 00000007 00000005 03 0001 61 00 00000006 05 00 0000 00 00 00000005 02 0001 61 00 \
-    > 00000001 00 00000001 85 00000001 88 00000001 01 > closed",
-];
-
 // Tenants 7 and 8, without pairs, of which the first may have a hundred and the second one.
-fn two_tenants(alloc: Global) -> Result<PlainCaller, AllocError> {
+fn plain_tenants(alloc: Global) -> Result<PlainCaller, AllocError> {
     let mut tenants = Vec::new(alloc);
     for (tenant, quota) in [(7, 100), (8, 1)] {
         tenants.push(PlainTenant {
@@ -43,18 +39,44 @@ impl TestServer for Plain {
         reader: &mut R,
         writer: &mut W,
     ) -> Result<Ended, ServeFault> {
-        match two_tenants(alloc) {
+        match plain_tenants(alloc) {
             Ok(mut caller) => serve(alloc, reader, writer, &mut caller),
             Err(_) => Err(ServeFault::Memory),
         }
     }
 }
 
-// All rows are told in this way.
-fn expect_rows(rt: &impl Abort, alloc: Global, way: Way) {
-    for rows in [ROWS.as_slice(), &MORE_ROWS] {
-        assert_eq!(rt; wrong_row(&Plain, alloc, rows, way), None);
+// The same tenants, for a state.
+fn two_tenants(alloc: Global) -> Tenants
+    ensures { HaveNoPairs result }
+{
+    let mut tenants = Tenants::new(alloc);
+    let _ = tenants.add(7, 100);
+    let _ = tenants.add(8, 1);
+    tenants
+}
+
+// Sessions over a state.
+struct Stated;
+
+impl TestServer for Stated {
+    fn serve_new<R: Source, W: Sink>(
+        &self,
+        alloc: Global,
+        reader: &mut R,
+        writer: &mut W,
+    ) -> Result<Ended, ServeFault> {
+        match serve_tenants(alloc, reader, writer, two_tenants(alloc)) {
+            Ok((_, ended)) => ended,
+            Err(_) => Err(ServeFault::Memory),
+        }
     }
+}
+
+// All rows are told in this way, over either.
+fn expect_rows(rt: &impl Abort, alloc: Global, way: Way) {
+    assert_eq!(rt; wrong_row(&Plain, alloc, way), None);
+    assert_eq!(rt; wrong_row(&Stated, alloc, way), None);
 }
 
 #[test]
@@ -93,4 +115,53 @@ fn answers_are_written_together_up_to_a_mark(rt: HostRuntime) -> Result<(), Fail
         assert_eq!(rt; writer.text.len(), 10 + 1_000 * (8 + size as usize));
     }
     Ok(())
+}
+
+// One session more over a state: a tenant is opened, and so many times this is asked and told.
+fn expect_more(
+    rt: &impl Abort,
+    alloc: Global,
+    alone: &mut Alone,
+    (tenant, asks, tells, times): (&str, &str, &str, u32),
+) {
+    let mut asked = bytes_of(alloc, tenant).expect(rt, "bytes");
+    let asks = many(alloc, asks, times).expect(rt, "bytes");
+    asked.extend_from_slice(&asks).expect(rt, "memory");
+    let mut told = bytes_of(alloc, "00000001 00").expect(rt, "bytes");
+    let tells = many(alloc, tells, times).expect(rt, "bytes");
+    told.extend_from_slice(&tells).expect(rt, "memory");
+    let (mut reader, mut writer) = streams(alloc, &asked, [100, 100, ALL, ALL]);
+    let ended = serve_alone(alloc, &mut reader, &mut writer, alone);
+    assert!(rt; writer.text.as_slice() == told.as_slice());
+    assert_eq!(rt; name_of(&ended), "closed");
+}
+
+// Eighty puts of tenant 7 make a tree of many nodes; another session reads them all, and one of tenant 8
+// none.
+#[test]
+fn a_session_reads_what_another_one_wrote(rt: HostRuntime) {
+    let alloc = rt.alloc();
+    let mut alone = Alone::of_tenants(alloc, two_tenants(alloc)).expect(&rt, "memory");
+    for session in [
+        (
+            "00000005 01 00000007",
+            "00000009 03 0001 ee 01 00 0001 ee",
+            "00000001 03",
+            80,
+        ),
+        (
+            "00000005 01 00000007",
+            "00000005 02 0001 ee 00",
+            "00000005 02 01 0001 ee",
+            80,
+        ),
+        (
+            "00000005 01 00000008",
+            "00000005 02 0001 07 00",
+            "00000001 01",
+            1,
+        ),
+    ] {
+        expect_more(&rt, alloc, &mut alone, session);
+    }
 }

@@ -1,8 +1,8 @@
-//! Sessions over the streams of this crate, and whether they are told as rows say.
+//! Sessions over the streams of this crate, in each way, and whether they are told as rows say.
 
 use crate::interrupts::Interrupted;
 use crate::pieces::{ALL, Written, streams};
-use crate::rows::{Row, row_of};
+use crate::rows::{ROWS, Row, row_of};
 use crate::turns::{Counted, Waiting};
 use mt_session::{Ended, ServeFault};
 use mt_streams::{Sink, Source};
@@ -141,21 +141,15 @@ fn is_told<S: TestServer>(server: &S, alloc: Global, row: &Row<'_>, way: Way) ->
     }
 }
 
-/// The first of these rows that isn't told in this way, or is no row.
-pub fn wrong_row<'a, S: TestServer>(
-    server: &S,
-    alloc: Global,
-    rows: &[&'a str],
-    way: Way,
-) -> Option<&'a str> {
-    for text in rows {
-        match row_of(alloc, text) {
-            Some(row) => {
-                if !is_told(server, alloc, &row, way) {
-                    return Some(*text);
-                }
-            }
-            None => return Some(*text),
+/// The first row that isn't told in this way, or is no row.
+pub fn wrong_row<S: TestServer>(server: &S, alloc: Global, way: Way) -> Option<&'static str> {
+    for text in ROWS {
+        let is_right = match row_of(alloc, text) {
+            Some(row) => is_told(server, alloc, &row, way),
+            None => false,
+        };
+        if !is_right {
+            return Some(text);
         }
     }
     None

@@ -1,6 +1,6 @@
 //! A client that sends a request only when it has the reply to the one before it.
 
-use crate::frames::front_len;
+use crate::framing::front_len;
 use std::cell::Cell;
 use std::io;
 use std::io::{ErrorKind, Read, Write};

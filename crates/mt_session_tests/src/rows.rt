@@ -3,9 +3,8 @@
 use crate::hexadecimal::bytes_of;
 use std::alloc::Global;
 
-/// Sessions over new tenants 7 and 8, of which the first may have a hundred pairs and the second one:
-/// without removals and without scans.
-pub const ROWS: [&str; 18] = [
+/// Sessions over new tenants 7 and 8, of which the first may have a hundred pairs and the second one.
+pub const ROWS: [&str; 23] = [
     // nothing
     "> > closed",
     // Open 7 and a get of `a`, whole and cut
@@ -43,6 +42,22 @@ pub const ROWS: [&str; 18] = [
     "00000005 01 00000007 00000006 05 02 0000 02 00 00000001 06 > 00000001 00 00000001 90 > refused",
     // a bad body that isn't whole
     "00000005 01 00000007 00000002 0f > 00000001 00 > cut",
+    // a put, a scan, a remove twice, a second Open
+    "00000005 01 00000007 00000009 03 0001 6b 01 00 0001 76 00000006 05 00 0000 02 00 \
+    00000004 04 0001 6b 00000004 04 0001 6b 00000005 01 00000007 \
+    > 00000001 00 00000001 03 00000009 06 01 0001 6b 01 0001 76 00000001 05 00000001 01 00000001 92 > closed",
+    // a put without columns, a scan of no pairs; the session goes on
+    "00000005 01 00000007 00000005 03 0001 61 00 00000006 05 00 0000 00 00 00000005 02 0001 61 00 \
+    > 00000001 00 00000001 85 00000001 88 00000001 01 > closed",
+    // a pair is put and removed, and then it is missing
+    "00000005 01 00000007 00000009 03 0001 6b 01 00 0001 76 00000004 04 0001 6b 00000004 04 0001 6b > 00000001 00 00000001 03 00000001 05 00000001 01 > closed",
+    // a scan of no pairs
+    "00000005 01 00000007 00000006 05 00 0000 02 00 00000001 06 > 00000001 00 00000002 06 00 00000001 94 > closed",
+    // scans that are shown all pairs, those after a key, and as many as are asked for
+    "00000005 01 00000007 00000009 03 0001 6b 01 00 0001 76 00000009 03 0001 6a 01 00 0001 75 \
+    00000006 05 00 0000 02 00 00000007 05 01 0001 6a 02 00 00000006 05 00 0000 01 00 \
+    > 00000001 00 00000001 03 00000001 03 00000010 06 02 0001 6a 01 0001 75 0001 6b 01 0001 76 \
+    00000009 06 01 0001 6b 01 0001 76 00000009 06 01 0001 6a 01 0001 75 > closed",
 ];
 
 /// A worked session.
