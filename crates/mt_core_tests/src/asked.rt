@@ -1,9 +1,10 @@
-//! What tests ask of a store.
+//! What tests ask of a state.
 
 ghost use Rattle.std.specs.Prelude.{◌≡◌};
 ghost use Rattle.mt_state.specs.Begins.{HaveNoPairs};
 
-use mt_rows::{Column, ColumnIndexes, Command, Key, NamedColumns, Tenants};
+use mt_core::State;
+use mt_rows::{Batch, Column, ColumnIndexes, Command, Key, NamedColumns, Tenants};
 use std::alloc::Global;
 use std::process::Abort;
 
@@ -43,4 +44,10 @@ pub(crate) fn remove(rt: &impl Abort, alloc: Global, key: &str) -> Command {
 
 fn key_of(rt: &impl Abort, alloc: Global, key: &str) -> Key {
     Key::new(Vec::from_slice(alloc, key.as_bytes()).expect(rt, "memory"))
+}
+
+/// The next batch of a worker's log.
+pub(crate) fn drained(rt: &impl Abort, state: &mut State, worker: u8) -> Batch {
+    assert!(rt; worker < state.logs());
+    state.drain(worker).expect(rt, "memory").into_batch()
 }

@@ -1,10 +1,17 @@
-//! Tests of `mt_core`: a put and gets call by call, and runs of events with what each is told.
+//! Tests of `mt_core`: a put and gets call by call, runs of events with what each is told, and `State::restore`: what it
+//! restores is there, at the number that was asked for, and counting goes on.
 //!
 //! They stand in a crate of their own, since a crate with tests is proved twice.
 #![tactic(auto)]
 
 #[cfg(test)]
 mod asked;
+#[cfg(test)]
+mod pairs;
+#[cfg(test)]
+mod recovered;
+#[cfg(test)]
+mod restored;
 #[cfg(test)]
 mod runs;
 #[cfg(test)]

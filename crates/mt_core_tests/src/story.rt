@@ -1,9 +1,9 @@
 //! One store, call by call.
 
-use crate::asked::{get, one_tenant, put};
+use crate::asked::{drained, get, one_tenant, put};
 use mt_core::{State, Ticket, prepare};
 use mt_operation::Phase;
-use mt_rows::{Batch, Command, Refusal};
+use mt_rows::{Command, Refusal};
 use mt_runs::Answer;
 use mt_state::Move;
 use std::alloc::Global;
@@ -91,12 +91,6 @@ fn put_by(rt: &impl Abort, alloc: Global, state: &mut State, worker: u8, key: &s
         .expect(rt, "the put is taken");
     assert!(rt; state.run_alone(&ticket) == Move::Done);
     assert!(rt; state.take(ticket).is_ok());
-}
-
-// The next batch of a worker's log.
-fn drained(rt: &impl Abort, state: &mut State, worker: u8) -> Batch {
-    assert!(rt; worker < state.logs());
-    state.drain(worker).expect(rt, "memory").into_batch()
 }
 
 // The batch that a worker's log is given: the step over which it goes, and its stamps and keys.

@@ -4,7 +4,7 @@ use crate::logs::{Told, append_up_to, disk_with, opened_on};
 use mt_disk::disk::count_failure;
 use mt_disk::{Disk, FileDisk, MemDisk, OsFile};
 use mt_log::LogFile;
-use std::alloc::Global;
+use std::alloc::{AllocError, Global};
 use std::fs;
 use std::fs::File;
 use std::io::{self, ErrorKind};
@@ -64,6 +64,50 @@ fn a_crash_leaves_what_is_durable_and_tears_the_rest(rt: HostRuntime) -> Result<
         assert!(rt;
             disk.image() == read.as_bytes() && leaves(&disk, line),
             "after {calls}, {fail} and {other} failing, stopped at {stop}"
+        );
+    }
+    Ok(())
+}
+
+// A disk where `abcd` is durable, its third call fails, and all from `stop` on. It crashes after its first
+// call, which is a write.
+fn crashed(alloc: Global, stop: u64) -> Result<MemDisk, AllocError> {
+    let (image, fails) = (b"abcd".to_vec(alloc)?, [3].to_vec(alloc)?);
+    let mut disk = MemDisk::with_image(alloc, image, fails, Some(stop))?;
+    let _ = disk.write_at(1, b"XY");
+    let image = b"a??d".to_vec(alloc)?;
+    if disk.may_leave(&image) {
+        disk.crash(image)?;
+    }
+    Ok(disk)
+}
+
+// Whether a call goes well exactly where a `y` stands.
+fn goes_well(disk: &mut MemDisk, letters: &[u8]) -> bool {
+    for letter in letters {
+        if disk.len().is_ok() != (*letter == b'y') {
+            return false;
+        }
+    }
+    true
+}
+
+#[test]
+fn a_crash_ends_a_stop_and_keeps_the_plan(rt: HostRuntime) -> Result<(), Fail> {
+    let alloc = rt.alloc();
+    // A stop that came is over; one to come stays.
+    for (stop, letters) in [(1, "y.yy"), (2, "...."), (4, "y..."), (9, "y.yy")] {
+        let mut disk = crashed(alloc, stop)?;
+        assert!(rt;
+            disk.image() == b"a??d".as_slice()
+                && disk.may_leave(b"a??d")
+                && !disk.may_leave(b"abcd")
+                && disk.calls() == 1,
+            "stopped at {stop}"
+        );
+        assert!(rt;
+            goes_well(&mut disk, letters.as_bytes()) && disk.calls() == 5,
+            "stopped at {stop}"
         );
     }
     Ok(())

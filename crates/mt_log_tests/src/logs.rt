@@ -3,9 +3,10 @@
 ghost use Rattle.std.specs.Prelude.{IfOk};
 ghost use Rattle.mt_log.specs.Contents.{IsBatch};
 
+use crate::slots::{key_of, row_of};
 use mt_disk::{Disk, MemDisk};
 use mt_log::{AppendFault, LogBatch, LogFile, LoggedBatch, OpenFault, fits};
-use mt_rows::{Batch, Column, Key, Record, Records, Row};
+use mt_rows::{Batch, Record, Records};
 use std::alloc::{AllocError, Global};
 
 /// The header of log 0 of 1, and its closed gate.
@@ -30,13 +31,8 @@ pub enum Told {
 pub fn put_batch(alloc: Global, from: u64, to: u64, stamp: u64) -> Result<Batch, AllocError>
     ensures { IfOk result IsBatch }
 {
-    let mut columns = Vec::new(alloc);
-    columns.push(Column::new(alloc, b"v".to_vec(alloc)?)?)?;
-    if !Row::fits(&columns) {
-        return Err(AllocError);
-    }
-    let row = Some(Row::new(alloc, columns)?);
-    let key = Key::new(b"k".to_vec(alloc)?);
+    let row = Some(row_of(alloc, b'v')?);
+    let key = key_of(alloc, b'k')?;
     let mut records = Vec::new(alloc);
     records.push(Record {
         stamp,

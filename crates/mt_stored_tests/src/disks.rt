@@ -1,11 +1,10 @@
-//! A disk in memory, some of whose calls fail in a row.
+//! A disk in memory that keeps what a read gives, and nothing of what was there before. Some of its calls fail in a row.
 
 ghost use Rattle.std.specs.Prelude.{◌≡◌, [], false, None};
 ghost use Rattle.mt_disk.specs.Disk.{CountsFailure, found_with};
 
 use mt_disk::disk::count_failure;
-use mt_disk::{DeviceFailed, Disk, MemDisk};
-use std::alloc::Global;
+use mt_disk::{DeviceFailed, Disk};
 
 /// Which calls of a disk fail, counted from 1: those from the first number on, up to the second and without it.
 pub(crate) type Fails = (u64, u64);
@@ -16,7 +15,7 @@ pub(crate) const NEVER: Fails = (0, 0);
 /// A disk in memory, some of whose calls fail.
 #[derive(Drop)]
 pub(crate) struct FlakyDisk {
-    disk: MemDisk,
+    image: Vec<u8>,
     calls: u64,
     fails: Fails,
     failures: u64,
@@ -24,10 +23,10 @@ pub(crate) struct FlakyDisk {
 }
 
 impl FlakyDisk {
-    /// An empty disk.
-    pub(crate) fn new(alloc: Global, fails: Fails) -> Self {
+    /// A disk with this image.
+    pub(crate) fn new(image: Vec<u8>, fails: Fails) -> Self {
         FlakyDisk {
-            disk: MemDisk::new(alloc, Vec::new(alloc), None),
+            image,
             calls: 0,
             fails,
             failures: 0,
@@ -37,7 +36,7 @@ impl FlakyDisk {
 
     /// What a read gives.
     pub(crate) fn image(&self) -> &[u8] {
-        self.disk.image()
+        &self.image
     }
 
     /// How many bytes its reads have asked for.
@@ -45,13 +44,17 @@ impl FlakyDisk {
         self.bytes_read
     }
 
-    // Counts a call; whether it fails.
-    fn fails(&mut self) -> bool
+    // Counts a call; an error if it is one that fails.
+    fn call(&mut self) -> Result<(), DeviceFailed>
         ensures { self.new.failures ≡ self.old.failures }
     {
         self.calls = self.calls.saturating_add(1);
         let (from, to) = self.fails;
-        from <= self.calls && self.calls < to
+        if from <= self.calls && self.calls < to {
+            Err(DeviceFailed)
+        } else {
+            Ok(())
+        }
     }
 
     // Counts an error.
@@ -65,6 +68,28 @@ impl FlakyDisk {
     }
 }
 
+// Fills `out` from a place of an image on.
+fn copy_out(image: &[u8], at: usize, out: &mut [u8]) -> Result<(), DeviceFailed> {
+    if at > image.len() || out.len() > image.len() - at {
+        return Err(DeviceFailed);
+    }
+    out.copy_from_slice(&image[at..at + out.len()]);
+    Ok(())
+}
+
+// Writes over an image from a place on, and past its end.
+fn overwrite(image: &mut Vec<u8>, at: usize, bytes: &[u8]) -> Result<(), DeviceFailed> {
+    if at > image.len() {
+        return Err(DeviceFailed);
+    }
+    let kept = bytes.len().min(image.len() - at);
+    image[at..at + kept].copy_from_slice(&bytes[..kept]);
+    match image.extend_from_slice(&bytes[kept..]) {
+        Ok(()) => Ok(()),
+        Err(_) => Err(DeviceFailed),
+    }
+}
+
 impl Disk for FlakyDisk {
     ghost is_honest = { λ _. false };
 
@@ -75,48 +100,40 @@ impl Disk for FlakyDisk {
     ghost plan = { λ _. None };
 
     fn len(&mut self) -> Result<usize, DeviceFailed> {
-        let told = if self.fails() {
-            Err(DeviceFailed)
-        } else {
-            self.disk.len()
+        let told = match self.call() {
+            Ok(()) => Ok(self.image.len()),
+            Err(failed) => Err(failed),
         };
         self.counted(told)
     }
 
     fn read(&mut self, at: usize, out: &mut [u8]) -> Result<(), DeviceFailed> {
         self.bytes_read = self.bytes_read.saturating_add(out.len() as u64);
-        let told = if self.fails() {
-            Err(DeviceFailed)
-        } else {
-            self.disk.read(at, out)
+        let told = match self.call() {
+            Ok(()) => copy_out(&self.image, at, out),
+            Err(failed) => Err(failed),
         };
         self.counted(told)
     }
 
     fn write_at(&mut self, at: usize, bytes: &[u8]) -> Result<(), DeviceFailed> {
-        let told = if self.fails() {
-            Err(DeviceFailed)
-        } else {
-            self.disk.write_at(at, bytes)
+        let told = match self.call() {
+            Ok(()) => overwrite(&mut self.image, at, bytes),
+            Err(failed) => Err(failed),
         };
         self.counted(told)
     }
 
     fn cut(&mut self, len: usize) -> Result<(), DeviceFailed> {
-        let told = if self.fails() {
-            Err(DeviceFailed)
-        } else {
-            self.disk.cut(len)
-        };
+        let told = self.call();
+        if told.is_ok() {
+            self.image.truncate(len);
+        }
         self.counted(told)
     }
 
     fn sync(&mut self) -> Result<(), DeviceFailed> {
-        let told = if self.fails() {
-            Err(DeviceFailed)
-        } else {
-            self.disk.sync()
-        };
+        let told = self.call();
         self.counted(told)
     }
 }

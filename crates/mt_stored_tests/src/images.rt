@@ -24,16 +24,16 @@ fn no_tenants(alloc: Global) -> Tenants
     Tenants::new(alloc)
 }
 
-/// Tenant 7, which may have 100,000 pairs.
+/// Tenant 7, which may have 200,000 pairs.
 pub(crate) fn tenant_7(rt: &impl Abort, alloc: Global) -> Tenants
     ensures { HaveNoPairs result }
 {
     let mut tenants = no_tenants(alloc);
-    assert!(rt; tenants.add(7, 100_000).is_ok());
+    assert!(rt; tenants.add(7, 200_000).is_ok());
     tenants
 }
 
-// What a read of a log's disk gives.
+/// What a read of a log's disk gives.
 pub(crate) fn image_of(alloc: Global, log: &StoreLog<FlakyDisk>) -> Result<Vec<u8>, Refusal> {
     match log.slot() {
         LogSlot::Open(file) => Ok(file.disk().image().to_vec(alloc)?),
@@ -41,6 +41,20 @@ pub(crate) fn image_of(alloc: Global, log: &StoreLog<FlakyDisk>) -> Result<Vec<u
         LogSlot::Closed(disk) => Ok(disk.image().to_vec(alloc)?),
         LogSlot::Away => Err(Refusal::NoStore),
     }
+}
+
+/// What reads of these logs' disks give.
+pub(crate) fn images_of(
+    rt: &impl Abort,
+    alloc: Global,
+    logs: &[StoreLog<FlakyDisk>],
+) -> Vec<Vec<u8>> {
+    let mut images = Vec::new(alloc);
+    for log in logs {
+        let image = image_of(alloc, log).expect(rt, "an image");
+        images.push(image).expect(rt, "memory");
+    }
+    images
 }
 
 // Closed logs over these images.

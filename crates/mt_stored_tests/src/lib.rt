@@ -1,14 +1,21 @@
-//! Tests of a running server's logs, each behind a lock of its own: several workers, of whom each has a log.
+//! Tests of a running server's logs, each behind a lock of its own: several workers, of whom each has a log. And of a store
+//! of 100,000 pairs, with two workers and their logs.
 //!
 //! The workers' sessions are played without sockets: by one thread in the order of a table, or by a thread each.
 #![tactic(auto)]
 
+#[cfg(test)]
+mod asked;
 #[cfg(test)]
 mod at_once;
 #[cfg(test)]
 mod disks;
 #[cfg(test)]
 mod images;
+#[cfg(test)]
+mod many;
+#[cfg(test)]
+mod pairs;
 #[cfg(test)]
 mod sessions;
 #[cfg(test)]

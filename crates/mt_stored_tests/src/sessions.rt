@@ -20,10 +20,11 @@ pub(crate) struct Session<'a, L: Ledger, R: Wait> {
     pub count: u16,
 }
 
-fn put_of(alloc: Global, key: [u8; 3]) -> Result<Command, AllocError> {
-    let key = Key::new(Vec::from_slice(alloc, &key)?);
+/// A put of a column of one byte.
+pub(crate) fn put_of(alloc: Global, key: &[u8], value: u8) -> Result<Command, AllocError> {
+    let key = Key::new(Vec::from_slice(alloc, key)?);
     let mut columns = Vec::new(alloc);
-    columns.push((0, Column::new(alloc, Vec::from_slice(alloc, &[1])?)?))?;
+    columns.push((0, Column::new(alloc, Vec::from_slice(alloc, &[value])?)?))?;
     let change = NamedColumns::new(columns);
     Ok(Command::Put { key, change })
 }
@@ -43,7 +44,7 @@ impl<L: Ledger, R: Wait + Log> Session<'_, L, R> {
     /// Puts so many keys; whether each was told to be new.
     pub(crate) fn puts(&mut self, alloc: Global, count: u16) -> bool {
         for _ in 0..count {
-            let Ok(command) = put_of(alloc, key_of(self.worker, self.count)) else {
+            let Ok(command) = put_of(alloc, &key_of(self.worker, self.count), 1) else {
                 return false;
             };
             let told = self.caller.call(alloc, command);

@@ -3,7 +3,7 @@
 ghost use Rattle.std.specs.Prelude.{◌≡◌, ◌<◌, ◌≤◌, length};
 
 use crate::disks::{Fails, FlakyDisk, NEVER};
-use crate::images::{hold_all, image_of, tenant_7};
+use crate::images::{hold_all, image_of, images_of, tenant_7};
 use crate::sessions::Session;
 use log::sink::Locked;
 use log::{Level, Log, Logged};
@@ -23,7 +23,7 @@ use std::sync::{Mutex, Wait};
 /// The tenants that are served.
 pub(crate) const TENANTS: [TenantQuota; 1] = [TenantQuota {
     tenant: 7,
-    quota: 100_000,
+    quota: 200_000,
 }];
 
 /// A new store over disks, of which some calls fail.
@@ -34,7 +34,7 @@ pub(crate) fn new_store(rt: &impl Abort, alloc: Global, fails: &[Fails]) -> Stor
 {
     let mut disks = Vec::new(alloc);
     for fails in fails {
-        assert!(rt; disks.push(FlakyDisk::new(alloc, *fails)).is_ok());
+        assert!(rt; disks.push(FlakyDisk::new(Vec::new(alloc), *fails)).is_ok());
     }
     let tenants = tenant_7(rt, alloc);
     assert!(rt; !disks.is_empty() && disks.len() <= 64);
@@ -110,11 +110,7 @@ pub(crate) fn images_now<R: Wait>(
 /// All that was put is in the files of a store that has ended.
 pub(crate) fn expect_kept(rt: &impl Abort, alloc: Global, store: Store<FlakyDisk>, counts: &[u16]) {
     let (_, logs) = store.into_parts();
-    let mut images = Vec::new(alloc);
-    for log in &logs {
-        let image = image_of(alloc, log).expect(rt, "an image");
-        images.push(image).expect(rt, "memory");
-    }
+    let images = images_of(rt, alloc, &logs);
     let tenants = tenant_7(rt, alloc);
     assert!(rt;
         hold_all(alloc, images, &tenants, counts) == Ok(true),

@@ -1,0 +1,142 @@
+//! Some hundred pairs of three tenants, with short and long keys, and what is asked of a state that has them.
+
+use mt_core::State;
+use mt_rows::{
+    Batch, Change, Column, ColumnIndexes, Command, Key, NamedColumns, Reply, Row, TenantPair, merge,
+};
+use mt_state::Move;
+use std::alloc::Global;
+use std::process::Abort;
+
+// A number that looks random.
+fn mixed(n: u64) -> u64 {
+    let a = (n % 1_000_003) * 2_654_435 + 12_345;
+    (a / 7 + a % 8191 * 31) % 1_000_000_007
+}
+
+/// The tenant of a pair.
+pub(crate) fn tenant_of(n: u64) -> u32 {
+    match n % 3 {
+        0 => 7,
+        1 => 8,
+        _ => 9,
+    }
+}
+
+// The key of a pair: some share a long beginning.
+fn key_of(rt: &impl Abort, alloc: Global, n: u64) -> Key {
+    let mut bytes = Vec::new(alloc);
+    let shared = mixed(n) % 4 * 61;
+    for _ in 0..shared {
+        assert!(rt; bytes.push(65).is_ok());
+    }
+    let mut rest = n % 1_000_000 + 1;
+    for _ in 0..(2 + mixed(n) % 7) {
+        assert!(rt; bytes.push((rest % 251) as u8).is_ok());
+        rest = rest / 251;
+    }
+    Key::new(bytes)
+}
+
+// The columns of a pair: one to three.
+fn columns_of(rt: &impl Abort, alloc: Global, n: u64) -> NamedColumns {
+    let mut columns = Vec::new(alloc);
+    let count = (1 + n % 3) as u8;
+    for index in 0..count {
+        let mut bytes = Vec::new(alloc);
+        assert!(rt; bytes.push((n % 256) as u8).is_ok());
+        assert!(rt; bytes.push(index).is_ok());
+        let column = Column::new(alloc, bytes).expect(rt, "memory");
+        assert!(rt; columns.push((index, column)).is_ok());
+    }
+    NamedColumns::new(columns)
+}
+
+fn row_of(rt: &impl Abort, alloc: Global, n: u64) -> Row {
+    let change = Change::new(columns_of(rt, alloc, n)).expect(rt, "a change");
+    merge(alloc, None, &change).expect(rt, "memory")
+}
+
+/// The pairs of these numbers, behind others.
+pub(crate) fn push_pairs(
+    rt: &impl Abort,
+    alloc: Global,
+    pairs: &mut Vec<TenantPair>,
+    from: u64,
+    to: u64,
+) {
+    for n in from..to {
+        let pair = TenantPair {
+            tenant: tenant_of(n),
+            key: key_of(rt, alloc, n),
+            row: row_of(rt, alloc, n),
+        };
+        assert!(rt; pairs.push(pair).is_ok());
+    }
+}
+
+/// The pairs that a log was given, behind others.
+pub(crate) fn push_given(rt: &impl Abort, pairs: &mut Vec<TenantPair>, batch: &Batch) {
+    for record in batch.records.as_slice() {
+        if let Some(row) = &record.row {
+            let pair = TenantPair {
+                tenant: record.tenant,
+                key: record.key.clone().expect(rt, "memory"),
+                row: row.share().expect(rt, "memory"),
+            };
+            assert!(rt; pairs.push(pair).is_ok());
+        }
+    }
+}
+
+/// A get of a pair.
+pub(crate) fn get(rt: &impl Abort, alloc: Global, n: u64) -> Command {
+    let columns = ColumnIndexes::new(Vec::new(alloc));
+    Command::Get {
+        key: key_of(rt, alloc, n),
+        columns,
+    }
+}
+
+// A put of a pair.
+fn put(rt: &impl Abort, alloc: Global, n: u64) -> Command {
+    Command::Put {
+        key: key_of(rt, alloc, n),
+        change: columns_of(rt, alloc, n),
+    }
+}
+
+// What a command is answered that runs alone, and whether its number is that of its first step.
+fn asked(rt: &impl Abort, state: &mut State, tenant: u32, command: Command) -> (Reply, bool) {
+    let ticket = state
+        .begin(0, tenant, command)
+        .expect(rt, "the command is taken");
+    assert!(rt; state.run_alone(&ticket) == Move::Done);
+    match state.take(ticket) {
+        Ok(answer) => (answer.reply, answer.at == answer.first),
+        Err(_) => panic!(rt; "the operation isn't finished"),
+    }
+}
+
+/// The row of each of these pairs is found, with the number of the get's first step, since it was placed before.
+pub(crate) fn expect_pairs(rt: &impl Abort, alloc: Global, state: &mut State, from: u64, to: u64) {
+    for n in from..to {
+        let (reply, at_first) = asked(rt, state, tenant_of(n), get(rt, alloc, n));
+        assert!(rt; at_first && is_row_of(rt, alloc, &reply, n), "pair {n}");
+    }
+}
+
+// Whether a reply shows the row of a pair.
+fn is_row_of(rt: &impl Abort, alloc: Global, reply: &Reply, n: u64) -> bool {
+    let wanted = row_of(rt, alloc, n);
+    match reply {
+        Reply::Found(row) => row.columns() == wanted.columns(),
+        _ => false,
+    }
+}
+
+/// What the put of a pair is told.
+pub(crate) fn put_pair(rt: &impl Abort, alloc: Global, state: &mut State, n: u64) -> Reply {
+    let command = put(rt, alloc, n);
+    asked(rt, state, tenant_of(n), command).0
+}

@@ -1,0 +1,180 @@
+//! Stores with a log that is older than the others: a copy that was put back, or a log made anew.
+
+ghost use Rattle.std.specs.Prelude.{◌<◌};
+
+use self::Part::{Resume, UpTo};
+use crate::slots::{Change, Log, append, new_log, recover_over, resume_all};
+use mt_disk::MemDisk;
+use mt_recover::Recovered;
+use mt_rows::Refusal;
+use std::alloc::Global;
+use std::slice;
+use std::test::Fail;
+
+// A batch that is appended to a log.
+#[derive(Clone, Copy, Debug)]
+enum Part {
+    // What its worker placed since its mark, up to a step.
+    UpTo(u64),
+    // A resume batch up to a step, and the step that it keeps.
+    Resume(u64, u64),
+}
+
+// What is appended to the log of each of three workers; and the step up to which the store is recovered, or the
+// worker and the step of its refusal.
+type Case = ([&'static [Part]; 3], Result<u64, (u8, u64)>);
+
+// The first recovery found a log that ended at 5, and the store went on from 8.
+const WHOLE: &[Part] = &[UpTo(6), Resume(8, 5), UpTo(9)];
+
+const RESUMED: &[Part] = &[UpTo(6), Resume(8, 5)];
+
+const BEFORE: &[Part] = &[UpTo(5)];
+
+const NEW: &[Part] = &[];
+
+// After a clean end, where all logs went up to 9, the store was started again.
+const STARTED: &[Part] = &[UpTo(6), Resume(8, 5), UpTo(9), Resume(9, 9), UpTo(13)];
+
+const CASES: [Case; 19] = [
+    // No log is older.
+    ([WHOLE, WHOLE, WHOLE], Ok(9)),
+    // Each log, put back from before the recovery.
+    ([BEFORE, WHOLE, WHOLE], Err((0, 8))),
+    ([WHOLE, BEFORE, WHOLE], Err((1, 8))),
+    ([WHOLE, WHOLE, BEFORE], Err((2, 8))),
+    // A log made anew, and the first of two.
+    ([WHOLE, WHOLE, NEW], Err((2, 8))),
+    ([WHOLE, BEFORE, NEW], Err((1, 8))),
+    // One log alone tells that the store has served, by a batch of no records.
+    ([RESUMED, WHOLE, BEFORE], Err((2, 8))),
+    // A copy of a log that was made since the recovery can't be told.
+    ([WHOLE, RESUMED, WHOLE], Ok(8)),
+    // Two recoveries, after each of which the store served: the later one is told.
+    (
+        [
+            &[UpTo(6), Resume(8, 5), UpTo(9), Resume(12, 9), UpTo(13)],
+            WHOLE,
+            &[UpTo(6), Resume(8, 5), UpTo(10), Resume(12, 9), UpTo(13)],
+        ],
+        Err((1, 12)),
+    ),
+    // Of the second recovery one log has its resume batch.
+    (
+        [
+            &[UpTo(6), Resume(8, 5), UpTo(9), Resume(12, 9)],
+            WHOLE,
+            RESUMED,
+        ],
+        Ok(8),
+    ),
+    // Two recoveries one after the other, each of which has some of its resume batches.
+    (
+        [
+            &[UpTo(6), Resume(8, 5), Resume(9, 5)],
+            &[UpTo(5), Resume(8, 5)],
+            BEFORE,
+        ],
+        Ok(5),
+    ),
+    // And the store served after both.
+    (
+        [
+            &[UpTo(6), Resume(8, 5), Resume(9, 5), UpTo(10)],
+            &[UpTo(5), Resume(8, 5), Resume(9, 5)],
+            &[UpTo(5), Resume(9, 5)],
+        ],
+        Ok(9),
+    ),
+    (
+        [
+            &[UpTo(6), Resume(8, 5), Resume(9, 5), UpTo(10)],
+            &[UpTo(5), Resume(8, 5)],
+            &[UpTo(5), Resume(9, 5)],
+        ],
+        Err((1, 9)),
+    ),
+    // A log from before the clean end goes as far as the start's resume batches, and has none of them.
+    ([STARTED, STARTED, STARTED], Ok(13)),
+    ([WHOLE, STARTED, STARTED], Err((0, 9))),
+    ([STARTED, WHOLE, WHOLE], Err((1, 9))),
+    // One that goes past them has none of them either.
+    (
+        [
+            &[UpTo(9), Resume(9, 9), UpTo(13)],
+            &[UpTo(10)],
+            &[UpTo(9), Resume(9, 9)],
+        ],
+        Err((1, 9)),
+    ),
+    // Up to 0 nothing was placed, so no log is told for want of such a resume batch.
+    (
+        [
+            &[Resume(0, 0), UpTo(9)],
+            &[UpTo(9)],
+            &[Resume(0, 0), UpTo(10)],
+        ],
+        Ok(9),
+    ),
+    // A copy, and a log made anew, of a store that never was recovered can't be told.
+    ([&[UpTo(6), UpTo(9)], BEFORE, NEW], Ok(0)),
+];
+
+// What three workers placed. Since the first recovery worker 1 has placed nothing, so its batches have no records.
+fn placed() -> [Change; 5] {
+    [put(1, 0), put(2, 1), put(3, 2), put(9, 0), put(13, 2)]
+}
+
+fn put(stamp: u64, worker: u8) -> Change {
+    Change {
+        stamp,
+        worker,
+        key: worker,
+        row: Some(1),
+    }
+}
+
+fn append_part(alloc: Global, log: &mut Log, worker: u8, part: Part) -> Result<(), Refusal> {
+    match part {
+        UpTo(to) => append(alloc, log, &placed(), worker, to),
+        Resume(resume, cutoff) => {
+            let recovered = Recovered {
+                cutoff,
+                resume,
+                used: None,
+                pairs: Vec::new(alloc),
+            };
+            resume_all(alloc, slice::from_mut(log), &recovered)
+        }
+    }
+}
+
+// The log of a worker, with these parts.
+fn log_of(alloc: Global, worker: u8, parts: &[Part]) -> Result<Log, Refusal>
+    requires { worker < 3 }
+{
+    let mut log = new_log(MemDisk::new(alloc, Vec::new(alloc), None), worker, 3)?;
+    for part in parts {
+        append_part(alloc, &mut log, worker, *part)?;
+    }
+    Ok(log)
+}
+
+// The step up to which a store with these logs is recovered.
+fn cutoff_of(alloc: Global, store: [&[Part]; 3]) -> Result<u64, Refusal> {
+    let mut logs = Vec::new(alloc);
+    for worker in 0..3 {
+        logs.push(log_of(alloc, worker, store[usize::from(worker)])?)?;
+    }
+    let recovered = recover_over(alloc, &mut logs, [None, None], 8)?;
+    Ok(recovered.cutoff)
+}
+
+#[test]
+fn a_log_that_is_older_than_the_others_is_refused(rt: HostRuntime) {
+    for (store, want) in CASES {
+        let told = cutoff_of(rt.alloc(), store);
+        let want = want.map_err(|(number, stamp)| Refusal::StampsFall { number, stamp });
+        assert!(rt; told == want, "{store:?}: {told:?}");
+    }
+}

@@ -1,0 +1,154 @@
+//! What is refused of three logs in which one or two bytes are changed, each cause before the next.
+
+ghost use Rattle.std.specs.Prelude.{◌<◌};
+
+use crate::slots::{Change, Log, append, disk_of, log_with, new_log, recover_over, resume_all};
+use mt_disk::MemDisk;
+use mt_recover::Recovered;
+use mt_rows::Refusal;
+use std::alloc::Global;
+use std::slice;
+use std::test::Fail;
+
+// Where the last byte of a number stands. The log of worker 0 has a batch from 0 to 6 with puts at 1 and 4; a
+// resume batch from 6 to 8 that keeps 5; and a batch from 8 to 9 without records. That of worker 1 has puts at
+// 2 and 5, that of worker 2 at 3 and 6. Each put is of another key.
+#[derive(Clone, Copy, Debug)]
+enum At {
+    Worker = 6,
+    Logs = 7,
+    From = 21,
+    To = 29,
+    Stamp = 41,
+    Tenant = 45,
+    Stamp2 = 61,
+    Tenant2 = 65,
+    ResumeGate = 74,
+    ResumeFrom = 87,
+    ResumeTo = 95,
+    Kept = 103,
+    LastTo = 125,
+}
+
+// A log, a place in it, and the byte that is put there.
+type Edit = (u8, At, u8);
+
+// None, since there is no such log.
+const SAME: Edit = (9, At::Worker, 0);
+
+fn falls(number: u8, stamp: u64) -> Result<usize, Refusal> {
+    Err(Refusal::StampsFall { number, stamp })
+}
+
+// A put of a key of its own.
+fn put(worker: u8, stamp: u64) -> Change {
+    Change {
+        stamp,
+        worker,
+        key: (stamp % 8) as u8,
+        row: Some(1),
+    }
+}
+
+// The bytes of a worker's log, with these puts.
+fn image_with(alloc: Global, worker: u8, stamps: [u64; 2]) -> Result<Vec<u8>, Refusal>
+    requires { worker < 3 }
+{
+    let [first, second] = stamps;
+    let history = [put(worker, first), put(worker, second)];
+    let recovered = Recovered {
+        cutoff: 5,
+        resume: 8,
+        used: None,
+        pairs: Vec::new(alloc),
+    };
+    let mut log = new_log(MemDisk::new(alloc, Vec::new(alloc), None), worker, 3)?;
+    append(alloc, &mut log, &history, worker, 6)?;
+    resume_all(alloc, slice::from_mut(&mut log), &recovered)?;
+    append(alloc, &mut log, &history, worker, 9)?;
+    Ok(disk_of(&mut log)?.image().to_vec(alloc)?)
+}
+
+// The first of three logs, changed.
+fn logs_with(alloc: Global, given: u8, edits: [Edit; 2]) -> Result<Vec<Log>, Refusal> {
+    let mut logs = Vec::new(alloc);
+    for worker in 0..given.min(3) {
+        let stamp = u64::from(worker) + 1;
+        let mut image = image_with(alloc, worker, [stamp, stamp + 3])?;
+        for (log, place, byte) in edits {
+            if log == worker {
+                if let Some(old) = image.get_mut(place as usize) {
+                    *old = byte;
+                }
+            }
+        }
+        logs.push(log_with(alloc, image)?)?;
+    }
+    Ok(logs)
+}
+
+// How many pairs are recovered of these logs.
+fn count_of(alloc: Global, given: u8, quota: u32, edits: [Edit; 2]) -> Result<usize, Refusal> {
+    let mut logs = logs_with(alloc, given, edits)?;
+    let recovered = recover_over(alloc, &mut logs, [None, None], quota)?;
+    Ok(recovered.pairs.len())
+}
+
+#[test]
+fn each_refusal_comes_before_the_next(rt: HostRuntime) {
+    // How many logs are given, the quota of tenant 7, what is changed, and what is told.
+    for (given, quota, first, second, want) in [
+        (3, 5, SAME, SAME, Ok(5)),
+        // No set: no logs, one of them missing, two of worker 0, one that names four logs.
+        (0, 5, SAME, SAME, Err(Refusal::LogCount)),
+        (2, 5, SAME, SAME, Err(Refusal::LogCount)),
+        (3, 5, (1, At::Worker, 0), SAME, Err(Refusal::LogCount)),
+        (3, 5, (2, At::Logs, 4), SAME, Err(Refusal::LogCount)),
+        (2, 5, (0, At::Stamp, 0), SAME, Err(Refusal::LogCount)),
+        // Batches that don't join, or go back, and one that keeps more than it ends at.
+        (3, 5, (1, At::From, 1), SAME, falls(1, 1)),
+        (3, 5, (1, At::To, 7), SAME, falls(1, 6)),
+        (3, 5, (1, At::ResumeFrom, 5), SAME, falls(1, 5)),
+        (3, 5, (1, At::ResumeTo, 5), SAME, falls(1, 6)),
+        (3, 5, (1, At::LastTo, 7), SAME, falls(1, 8)),
+        (3, 5, (1, At::Kept, 9), SAME, falls(1, 6)),
+        // Stamps that don't rise in their batch, or are not over its beginning, or over its end; the
+        // first log given.
+        (3, 5, (1, At::Stamp2, 2), SAME, falls(1, 2)),
+        (3, 5, (1, At::Stamp2, 1), SAME, falls(1, 1)),
+        (3, 5, (1, At::Stamp, 0), SAME, falls(1, 0)),
+        (3, 5, (1, At::Stamp2, 7), SAME, falls(1, 7)),
+        (3, 5, (2, At::Stamp, 0), (1, At::Stamp2, 7), falls(1, 7)),
+        // A log that is older than the others, after a fall in a single log, and before a stamp in two.
+        (3, 5, (1, At::ResumeGate, 0), SAME, falls(1, 8)),
+        (3, 5, (1, At::ResumeGate, 0), (2, At::Stamp, 0), falls(2, 0)),
+        (3, 5, (1, At::ResumeGate, 0), (2, At::Stamp, 1), falls(1, 8)),
+        (
+            3,
+            5,
+            (1, At::ResumeGate, 0),
+            (0, At::Tenant, 8),
+            falls(1, 8),
+        ),
+        // A stamp in two or three logs, the highest of these, also one that is void; the least stamp.
+        (3, 5, (1, At::Stamp, 1), SAME, falls(1, 1)),
+        (3, 5, (2, At::Stamp, 1), SAME, falls(2, 1)),
+        (3, 5, (1, At::Stamp, 1), (2, At::Stamp, 1), falls(2, 1)),
+        (3, 5, (0, At::Stamp2, 6), SAME, falls(2, 6)),
+        (3, 5, (1, At::Stamp2, 6), (2, At::Stamp, 1), falls(2, 1)),
+        (3, 5, (0, At::Stamp2, 2), (2, At::Stamp, 0), falls(2, 0)),
+        // Another tenant, behind a fall, and not where it is void.
+        (3, 5, (0, At::Tenant, 8), SAME, Err(Refusal::NoTenant(8))),
+        (3, 5, (0, At::Tenant, 8), (1, At::Stamp, 0), falls(1, 0)),
+        (3, 5, (2, At::Tenant2, 8), SAME, Ok(5)),
+        // Five pairs where four may be, behind another tenant.
+        (3, 4, SAME, SAME, Err(Refusal::OverQuota(7))),
+        (3, 1, (2, At::Tenant, 8), SAME, Err(Refusal::NoTenant(8))),
+    ] {
+        let told = count_of(rt.alloc(), given, quota, [first, second]);
+        assert!(rt;
+            told == want,
+            "{given}, {quota}, {first:?}, {second:?}: {told:?}"
+        );
+    }
+}

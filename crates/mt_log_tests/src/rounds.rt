@@ -1,0 +1,158 @@
+//! Three logs that are recovered, resumed and recovered again, over each of some checkpoints.
+
+ghost use Rattle.std.specs.Prelude.{◌<◌};
+
+use crate::slots::{
+    Change, Log, Rows, Walk, append, disk_of, log_with, new_log, open_all, recover_over,
+    resume_all, rows_of,
+};
+use mt_disk::MemDisk;
+use mt_log::{Front, LogBatch};
+use mt_recover::cutoff;
+use mt_rows::Refusal;
+use std::alloc::{AllocError, Global};
+use std::test::Fail;
+
+// What three workers placed: stamp, worker, key, row.
+const PLACED: [(u64, u8, u8, Option<u8>); 9] = [
+    (3, 0, 0, Some(3)),
+    (4, 1, 1, Some(4)),
+    (5, 2, 2, Some(5)),
+    (12, 1, 0, Some(12)),
+    (14, 2, 1, None),
+    (25, 1, 5, Some(25)),
+    (26, 0, 3, Some(26)),
+    (30, 2, 6, Some(30)),
+    (39, 0, 4, Some(39)),
+];
+
+// Where the log of each worker ends. Behind it stands a batch up to 45 whose gate is none.
+const ENDS: [u64; 3] = [40, 25, 31];
+
+// The bytes of a batch without records, and of the next gate.
+const BATCH_BYTES: usize = 27;
+
+// The rows after the changes up to 25.
+const ROWS: Rows = [12, 0, 5, 0, 0, 25, 0, 0];
+
+// The first and the last step of a checkpoint.
+type Steps = (u64, u64);
+
+// No checkpoint.
+const NONE: Steps = (0, 0);
+
+// The checkpoints in slots 0 and 1, and which of them is used: both when the logs are recovered, up to 25, and
+// when they are recovered again, up to 40. Then 26 to 40 are void.
+const CHECKPOINTS: [(Steps, Steps, Option<u8>); 11] = [
+    (NONE, NONE, None),
+    ((10, 20), NONE, Some(0)),
+    (NONE, (10, 20), Some(1)),
+    ((10, 20), (10, 21), Some(1)),
+    ((10, 21), (10, 20), Some(0)),
+    ((10, 21), (9, 21), Some(0)),
+    ((10, 25), NONE, Some(0)),
+    ((20, 27), NONE, None),
+    ((20, 27), (10, 20), Some(1)),
+    ((10, 20), (10, 40), Some(0)),
+    ((10, 20), (20, 45), Some(0)),
+];
+
+fn history(alloc: Global) -> Result<Vec<Change>, AllocError> {
+    let mut history = Vec::new(alloc);
+    for (stamp, worker, key, row) in PLACED {
+        history.push(Change {
+            stamp,
+            worker,
+            key,
+            row,
+        })?;
+    }
+    Ok(history)
+}
+
+// The log of a worker.
+fn log_of(alloc: Global, history: &[Change], worker: u8) -> Result<Log, Refusal>
+    requires { worker < 3 }
+{
+    let mut log = new_log(MemDisk::new(alloc, Vec::new(alloc), None), worker, 3)?;
+    for to in [12, ENDS[usize::from(worker)], 45] {
+        append(alloc, &mut log, history, worker, to)?;
+    }
+    let mut image = disk_of(&mut log)?.image().to_vec(alloc)?;
+    let gate = image.len().saturating_sub(BATCH_BYTES);
+    if let Some(byte) = image.get_mut(gate) {
+        *byte = 7;
+    }
+    log_with(alloc, image)
+}
+
+fn three_logs(alloc: Global) -> Result<Vec<Log>, Refusal> {
+    let history = history(alloc)?;
+    let mut logs = Vec::new(alloc);
+    for worker in 0..3 {
+        logs.push(log_of(alloc, &history, worker)?)?;
+    }
+    Ok(logs)
+}
+
+// The checkpoint of a slot. Its pairs are those of keys 0 and 1 at step 10, and one of key 7 that no log has.
+fn walk_in(slot: u8, steps: Steps) -> Option<Walk> {
+    if steps == NONE {
+        return None;
+    }
+    let (first, last) = steps;
+    let rows = [3, 4, 0, 0, 0, 0, 0, slot.saturating_add(1)];
+    Some(Walk { first, last, rows })
+}
+
+// The rows over the checkpoint of a slot, or over nothing.
+fn rows_over(used: Option<u8>) -> Rows {
+    match used {
+        Some(slot) => [12, 0, 0, 0, 0, 25, 0, slot.saturating_add(1)],
+        None => ROWS,
+    }
+}
+
+// Whether a log ends with a resume batch from its step up to 40 that keeps so much.
+fn ends_with(front: &Front, end: u64, least: u64) -> bool {
+    match front.batches.last() {
+        Some(LogBatch::Resume { from, to, kept }) => *from == end && *to == 40 && *kept == least,
+        _ => false,
+    }
+}
+
+// Whether each log does, when they are opened again.
+fn end_with(alloc: Global, logs: &mut [Log], ends: [u64; 3], least: u64) -> Result<bool, Refusal> {
+    let fronts = open_all(alloc, logs)?;
+    for (front, end) in fronts.iter().zip(ends) {
+        if !ends_with(front, end, least) {
+            return Ok(false);
+        }
+    }
+    Ok(cutoff(&fronts) == 40)
+}
+
+#[test]
+fn three_logs_are_recovered_and_recovered_again(rt: HostRuntime) -> Result<(), Fail> {
+    let alloc = rt.alloc();
+    let mut logs = three_logs(alloc)?;
+    for (least, ends) in [(25, ENDS), (40, [40; 3])] {
+        for (first, second, used) in CHECKPOINTS {
+            let walks = [walk_in(0, first), walk_in(1, second)];
+            let told = recover_over(alloc, &mut logs, walks, 8)?;
+            let resume = first.1.max(second.1).max(40);
+            assert!(rt;
+                (told.cutoff, told.resume, told.used) == (least, resume, used)
+                    && rows_of(&told.pairs) == Some(rows_over(used)),
+                "{first:?} and {second:?}: {told:?}"
+            );
+        }
+        let told = recover_over(alloc, &mut logs, [None, None], 8)?;
+        resume_all(alloc, &mut logs, &told)?;
+        assert!(rt;
+            end_with(alloc, &mut logs, ends, least)?,
+            "resumed from {least}"
+        );
+    }
+    Ok(())
+}

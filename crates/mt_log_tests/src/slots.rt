@@ -1,0 +1,291 @@
+//! Changes of one tenant, logs in memory that have them, and their recovery, as the tests share them.
+
+ghost use Rattle.std.specs.Prelude.{◌≡◌, ◌<◌, ◌≤◌, IfOk, IsTrue};
+ghost use Rattle.mt_rows.specs.Commands.{IsKey};
+ghost use Rattle.mt_log.specs.Contents.{IsBatch};
+ghost use Rattle.mt_recover.specs.Resumes.{IsOpenUpto};
+
+use mt_disk::MemDisk;
+use mt_log::batch::MAX_STEP;
+use mt_log::{AppendFault, Front, LogFile, OpenFault, fits};
+use mt_recover::{Checkpoint, LogSlot, Recovered, recover, resume};
+use mt_rows::{Batch, Column, Key, Record, Records, Refusal, Row, TenantPair, Tenants};
+use std::alloc::{AllocError, Global};
+use std::mem;
+
+/// A log in memory.
+pub type Log = LogSlot<MemDisk>;
+
+/// The rows of the keys 0 to 7, 0 where there is none. A key is a byte, and so is a row.
+pub type Rows = [u8; 8];
+
+/// A change of tenant 7 that a worker placed: the row of a key after it, none where it was removed.
+#[derive(Clone, Copy)]
+pub struct Change {
+    pub stamp: u64,
+    pub worker: u8,
+    pub key: u8,
+    pub row: Option<u8>,
+}
+
+/// What a checkpoint has.
+#[derive(Clone, Copy)]
+pub struct Walk {
+    pub first: u64,
+    pub last: u64,
+    pub rows: Rows,
+}
+
+/// A row of one column of one byte.
+pub fn row_of(alloc: Global, byte: u8) -> Result<Row, AllocError> {
+    let mut columns = Vec::new(alloc);
+    columns.push(Column::new(alloc, [byte].to_vec(alloc)?)?)?;
+    if Row::fits(&columns) {
+        Row::new(alloc, columns)
+    } else {
+        Err(AllocError)
+    }
+}
+
+/// A key of one byte.
+pub fn key_of(alloc: Global, byte: u8) -> Result<Key, AllocError>
+    ensures { IfOk result IsKey }
+{
+    Ok(Key::new([byte].to_vec(alloc)?))
+}
+
+fn record_of(alloc: Global, change: Change) -> Result<Record, AllocError>
+    ensures stamp { IfOk result (λ r. r.stamp ≡ change.stamp) }
+    ensures key { IfOk result (λ r. IsKey r.key) }
+{
+    let key = key_of(alloc, change.key)?;
+    let row = match change.row {
+        Some(byte) => Some(row_of(alloc, byte)?),
+        None => None,
+    };
+    Ok(Record {
+        stamp: change.stamp,
+        tenant: 7,
+        key,
+        row,
+    })
+}
+
+fn pair_of(alloc: Global, key: u8, row: u8) -> Result<TenantPair, AllocError> {
+    let key = key_of(alloc, key)?;
+    let row = row_of(alloc, row)?;
+    Ok(TenantPair {
+        tenant: 7,
+        key,
+        row,
+    })
+}
+
+// What a worker placed over step `from` and up to step `to`, of changes that rise.
+fn batch_of(
+    alloc: Global,
+    history: &[Change],
+    worker: u8,
+    from: u64,
+    to: u64,
+) -> Result<Batch, Refusal>
+    ensures { IfOk result IsBatch }
+{
+    let mut records = Vec::new(alloc);
+    let mut last = from;
+    for change in history {
+        if change.worker != worker || change.stamp <= last || change.stamp > to {
+            continue;
+        }
+        let record = record_of(alloc, *change)?;
+        last = record.stamp;
+        records.push(record)?;
+    }
+    let records = Records::new(records);
+    let batch = Batch { from, to, records };
+    if fits(&batch) {
+        Ok(batch)
+    } else {
+        Err(Refusal::WrongTurn(from))
+    }
+}
+
+/// A log without batches on this disk.
+pub fn new_log(disk: MemDisk, worker: u8, logs: u8) -> Result<Log, Refusal>
+    requires worker { worker < logs }
+    requires logs { logs ≤ 64 }
+{
+    match LogFile::create(disk, worker, logs) {
+        Ok(log) => Ok(LogSlot::Open(log)),
+        Err(_) => Err(Refusal::Device),
+    }
+}
+
+/// A closed log with these bytes.
+pub fn log_with(alloc: Global, image: Vec<u8>) -> Result<Log, Refusal> {
+    let disk = MemDisk::with_image(alloc, image, Vec::new(alloc), None)?;
+    Ok(LogSlot::Closed(disk))
+}
+
+// The log after an append, failed if its disk did.
+fn append_batch(alloc: Global, open: LogFile<MemDisk>, batch: Batch) -> (Log, Result<(), Refusal>)
+    requires { IsBatch batch }
+{
+    match open.append(alloc, batch) {
+        Ok(open) => (LogSlot::Open(open), Ok(())),
+        Err(AppendFault::Device(log, _)) => (LogSlot::Failed(log), Err(Refusal::Device)),
+        Err(AppendFault::Memory(open, _)) => (LogSlot::Open(open), Err(Refusal::Memory)),
+        Err(AppendFault::WrongTurn(open, _, mark)) => {
+            (LogSlot::Open(open), Err(Refusal::WrongTurn(mark)))
+        }
+    }
+}
+
+/// Appends to an open log what its worker placed since its mark, up to a step. It is `Failed` if its disk
+/// fails.
+pub fn append(
+    alloc: Global,
+    log: &mut Log,
+    history: &[Change],
+    worker: u8,
+    to: u64,
+) -> Result<(), Refusal> {
+    let from = mark_of(log).unwrap_or(0);
+    let batch = batch_of(alloc, history, worker, from, to)?;
+    let (slot, answer) = match mem::replace(log, LogSlot::Away) {
+        LogSlot::Open(open) => append_batch(alloc, open, batch),
+        other => (other, Err(Refusal::NoStore)),
+    };
+    *log = slot;
+    answer
+}
+
+/// The step up to which an open log goes.
+pub fn mark_of(log: &Log) -> Option<u64> {
+    match log {
+        LogSlot::Open(open) => Some(open.mark()),
+        LogSlot::Failed(_) | LogSlot::Closed(_) | LogSlot::Away => None,
+    }
+}
+
+/// The disk of a log, taken away from it.
+pub fn disk_of(log: &mut Log) -> Result<MemDisk, Refusal> {
+    match mem::replace(log, LogSlot::Away) {
+        LogSlot::Open(open) => Ok(open.into_disk()),
+        LogSlot::Failed(log) => Ok(log.into_disk()),
+        LogSlot::Closed(disk) => Ok(disk),
+        LogSlot::Away => Err(Refusal::NoStore),
+    }
+}
+
+/// Opens a log, also one that is open. It is closed where its disk fails.
+pub fn open(alloc: Global, log: &mut Log) -> Result<Front, Refusal> {
+    let (slot, answer) = match LogFile::open(alloc, disk_of(log)?) {
+        Ok((open, front)) => (LogSlot::Open(open), Ok(front)),
+        Err(OpenFault::Device(disk)) => (LogSlot::Closed(disk), Err(Refusal::Device)),
+        Err(OpenFault::Memory(disk)) => (LogSlot::Closed(disk), Err(Refusal::Memory)),
+        Err(
+            OpenFault::BadLog {
+                disk,
+                number,
+                offset,
+            },
+        ) => (
+            LogSlot::Closed(disk),
+            Err(Refusal::BadLog { number, offset }),
+        ),
+    };
+    *log = slot;
+    answer
+}
+
+/// Opens logs, up to the first that doesn't open.
+pub fn open_all(alloc: Global, logs: &mut [Log]) -> Result<Vec<Front>, Refusal> {
+    let mut fronts = Vec::new(alloc);
+    for log in logs {
+        fronts.push(open(alloc, log)?)?;
+    }
+    Ok(fronts)
+}
+
+// A checkpoint as it is read, if there is one.
+fn checkpoint_of(alloc: Global, walk: Option<Walk>) -> Result<Option<Checkpoint>, AllocError> {
+    let Some(walk) = walk else {
+        return Ok(None);
+    };
+    let rows = walk.rows;
+    let mut pairs = Vec::new(alloc);
+    for key in 0..8 {
+        let row = rows[usize::from(key)];
+        if row != 0 {
+            pairs.push(pair_of(alloc, key, row)?)?;
+        }
+    }
+    Ok(Some(Checkpoint {
+        first: walk.first,
+        last: walk.last,
+        pairs,
+    }))
+}
+
+/// Opens logs, and recovers them over two checkpoints.
+pub fn recover_over(
+    alloc: Global,
+    logs: &mut [Log],
+    walks: [Option<Walk>; 2],
+    quota: u32,
+) -> Result<Recovered, Refusal> {
+    let mut tenants = Tenants::new(alloc);
+    tenants.add(7, quota)?;
+    let fronts = open_all(alloc, logs)?;
+    let [first, second] = walks;
+    let first = checkpoint_of(alloc, first)?;
+    let second = checkpoint_of(alloc, second)?;
+    recover(alloc, fronts, [first, second], &tenants)
+}
+
+// Whether a log is open, and ends by a step.
+fn is_open_up_to(log: &Log, to: u64) -> bool
+    ensures { IsTrue result → IsOpenUpto to log.now }
+{
+    match log {
+        LogSlot::Open(open) => open.mark() <= to,
+        LogSlot::Failed(_) | LogSlot::Closed(_) | LogSlot::Away => false,
+    }
+}
+
+/// Appends to each log the batch with which a recovery ends, where that may be asked for.
+pub fn resume_all(alloc: Global, logs: &mut [Log], recovered: &Recovered) -> Result<(), Refusal> {
+    let to = recovered.resume;
+    let are_open = logs.iter().all(|log| is_open_up_to(log, to));
+    if are_open && recovered.cutoff <= to && to <= MAX_STEP {
+        resume(alloc, logs, recovered)
+    } else {
+        Err(Refusal::NoStore)
+    }
+}
+
+/// The rows that pairs have, if they are pairs of such keys and rows.
+pub fn rows_of(pairs: &[TenantPair]) -> Option<Rows> {
+    let mut rows = [0; 8];
+    for pair in pairs {
+        let ([key], [column]) = (pair.key.as_bytes(), pair.row.columns()) else {
+            return None;
+        };
+        let row = rows.get_mut(usize::from(*key))?;
+        if pair.tenant != 7 || *row != 0 {
+            return None;
+        }
+        *row = *column.as_bytes().first()?;
+    }
+    Some(rows)
+}
+
+/// What a call gave, none where a disk failed.
+pub fn unless_device<T: Drop>(answer: Result<T, Refusal>) -> Result<Option<T>, Refusal> {
+    match answer {
+        Ok(value) => Ok(Some(value)),
+        Err(Refusal::Device) => Ok(None),
+        Err(refusal) => Err(refusal),
+    }
+}

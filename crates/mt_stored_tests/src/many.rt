@@ -1,0 +1,67 @@
+//! A store of 100,100 pairs: they are put, shown, settled, recovered and shown again.
+
+use crate::asked::{expect_all, put_all};
+use crate::disks::{FlakyDisk, NEVER};
+use crate::images::{images_of, tenant_7};
+use crate::stories::new_store;
+use log::Log;
+use mt_core::State;
+use mt_store_logs::StoreLog;
+use mt_stored::Store;
+use std::alloc::Global;
+use std::process::Abort;
+use std::sync::Wait;
+
+// So many times each client puts.
+const PUTS: u16 = 50_050;
+
+// So many times it has put once the recovered store went on.
+const GOES_ON: u16 = 50_300;
+
+// Settles once; what the logs' files hold then.
+fn settled<R: Wait + Log + Abort>(
+    rt: &R,
+    alloc: Global,
+    state: State,
+    logs: Vec<StoreLog<FlakyDisk>>,
+) -> Vec<Vec<u8>> {
+    let mut store = Store::joined(state, logs).expect(rt, "a store");
+    assert!(rt; store.settle_last(rt, alloc).is_ok());
+    let (_, logs) = store.into_parts();
+    assert!(rt; logs.iter().all(|log| log.mark().is_some()));
+    images_of(rt, alloc, &logs)
+}
+
+// Two workers put all pairs, scans show them, and a Settle keeps them.
+fn served<R: Wait + Log + Abort>(rt: &R, alloc: Global) -> Vec<Vec<u8>> {
+    let (mut state, logs) = new_store(rt, alloc, &[NEVER; 2]).into_parts();
+    put_all(rt, alloc, &mut state, 0, PUTS);
+    expect_all(rt, alloc, &mut state, PUTS);
+    settled(rt, alloc, state, logs)
+}
+
+// The store that files hold, of more than 1 MiB each.
+fn recovered(rt: &impl Abort, alloc: Global, images: Vec<Vec<u8>>) -> Store<FlakyDisk> {
+    let mut disks = Vec::new(alloc);
+    for image in images {
+        assert!(rt; image.len() > 1_048_576);
+        assert!(rt; disks.push(FlakyDisk::new(image, NEVER)).is_ok());
+    }
+    let tenants = tenant_7(rt, alloc);
+    assert!(rt; disks.len() <= 64);
+    match Store::recover(alloc, disks, tenants) {
+        Ok(store) => store,
+        Err(_) => panic!(rt; "no store is recovered"),
+    }
+}
+
+#[test]
+fn a_hundred_thousand_pairs_are_recovered_and_shown(rt: HostRuntime) {
+    let alloc = rt.alloc();
+    let images = served(&rt, alloc);
+    assert_eq!(rt; images.len(), 2);
+    let (mut state, logs) = recovered(&rt, alloc, images).into_parts();
+    expect_all(&rt, alloc, &mut state, PUTS);
+    put_all(&rt, alloc, &mut state, PUTS, GOES_ON);
+    let _ = settled(&rt, alloc, state, logs);
+}
