@@ -13,7 +13,7 @@ use mt_recover::LogSlot;
 use mt_rows::Refusal;
 use std::alloc::{AllocError, Global};
 
-/// Closed logs on these disks, one for each worker, in their order.
+/// Closed logs on these disks, one for each worker, in their order. An error, which is of memory, drops the disks.
 pub fn closed_logs<D: Disk + Drop>(
     alloc: Global,
     disks: Vec<D>,

@@ -111,18 +111,6 @@ impl<D: Disk + Drop> StoreLog<D> {
         &self.slot
     }
 
-    /// The log's place, without the batch.
-    pub fn into_slot(self) -> LogSlot<D>
-        ensures { result ≡ self.slot }
-    {
-        let StoreLog {
-            worker: _,
-            slot,
-            kept: _,
-        } = self;
-        slot
-    }
-
     /// The step up to which an open log goes; none of a closed one.
     pub fn mark(&self) -> Option<u64>
         ensures { result ≡ mark_in self.now.slot }
