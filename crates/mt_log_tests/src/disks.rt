@@ -186,6 +186,30 @@ fn mark_of_many(alloc: Global, disk: FileDisk) -> u64 {
     }
 }
 
+// What is tried with a file that may be written.
+#[derive(Clone, Copy, Debug)]
+enum Try {
+    Disk,
+    MadeLog,
+    OpenedLog,
+}
+
+// Whether it comes out as it should.
+fn comes_out(alloc: Global, file: File, it: Try) -> io::Result<bool> {
+    let mut disk = found(alloc, file)?;
+    Ok(match it {
+        Try::Disk => keeps_what_is_written(&mut disk),
+        Try::MadeLog => mark_of_many(alloc, disk) == 1_000,
+        Try::OpenedLog => opened_on(alloc, disk).1 == Told::Front(1_000, 1_000),
+    })
+}
+
+// Whether a file that was opened for reading alone is read, and not written.
+fn is_read_alone(alloc: Global, file: File) -> io::Result<bool> {
+    let mut disk = found(alloc, file)?;
+    Ok(reads_it(&mut disk) && disk.write_at(0, b"Z").is_err() && disk.cut(1).is_err())
+}
+
 #[test]
 fn a_file_keeps_what_was_written(rt: HostRuntime) -> Result<(), Fail> {
     let alloc = rt.alloc();
@@ -193,21 +217,15 @@ fn a_file_keeps_what_was_written(rt: HostRuntime) -> Result<(), Fail> {
     let (folder, path) = ("mt_log_tests_files", "mt_log_tests_files/wal-02");
     let _ = fs::remove_dir_all(&rt, folder);
     fs::create_dir(&rt, folder)?;
-    let mut options = File::options();
-    options.read(true).write(true).create(true);
-    let mut disk = found(alloc, options.open(&rt, path)?)?;
-    assert!(rt; keeps_what_is_written(&mut disk));
-    drop(disk);
-    // A file that was opened for reading alone.
-    let mut disk = found(alloc, File::open(&rt, path)?)?;
-    assert!(rt; reads_it(&mut disk));
-    assert!(rt; disk.write_at(0, b"Z").is_err() && disk.cut(1).is_err());
-    drop(disk);
-    // A log in its place.
-    let mark = mark_of_many(alloc, found(alloc, options.open(&rt, path)?)?);
-    assert!(rt; mark == 1_000);
-    let (_disk, told) = opened_on(alloc, found(alloc, options.open(&rt, path)?)?);
-    assert!(rt; told == Told::Front(1_000, 1_000));
+    // The log takes the disk's place.
+    for it in [Try::Disk, Try::MadeLog, Try::OpenedLog] {
+        let mut options = File::options();
+        options.read(true).write(true).create(true);
+        assert!(rt; comes_out(alloc, options.open(&rt, path)?, it)?, "{it:?}");
+        if let Try::Disk = it {
+            assert!(rt; is_read_alone(alloc, File::open(&rt, path)?)?);
+        }
+    }
     fs::remove_dir_all(&rt, folder)?;
     Ok(())
 }

@@ -11,6 +11,7 @@ use mt_log::{Front, LogBatch};
 use mt_recover::cutoff;
 use mt_rows::Refusal;
 use std::alloc::{AllocError, Global};
+use std::process::Abort;
 use std::test::Fail;
 
 // What three workers placed: stamp, worker, key, row.
@@ -132,27 +133,40 @@ fn end_with(alloc: Global, logs: &mut [Log], ends: [u64; 3], least: u64) -> Resu
     Ok(cutoff(&fronts) == 40)
 }
 
+// The logs are recovered up to this step over each of the checkpoints.
+fn expect_recovered(rt: &impl Abort, alloc: Global, logs: &mut [Log], least: u64) {
+    for (first, second, used) in CHECKPOINTS {
+        let walks = [walk_in(0, first), walk_in(1, second)];
+        let told = recover_over(alloc, logs, walks, 8).expect(rt, "a recovery");
+        let resume = first.1.max(second.1).max(40);
+        assert!(rt;
+            (told.cutoff, told.resume, told.used) == (least, resume, used)
+                && rows_of(&told.pairs) == Some(rows_over(used)),
+            "{first:?} and {second:?}: {told:?}"
+        );
+    }
+}
+
+// Whether each log ends so once the recovery has its resume batches.
+fn end_resumed(
+    alloc: Global,
+    logs: &mut [Log],
+    ends: [u64; 3],
+    least: u64,
+) -> Result<bool, Refusal> {
+    let told = recover_over(alloc, logs, [None, None], 8)?;
+    resume_all(alloc, logs, &told)?;
+    end_with(alloc, logs, ends, least)
+}
+
 #[test]
 fn three_logs_are_recovered_and_recovered_again(rt: HostRuntime) -> Result<(), Fail> {
     let alloc = rt.alloc();
     let mut logs = three_logs(alloc)?;
     for (least, ends) in [(25, ENDS), (40, [40; 3])] {
-        for (first, second, used) in CHECKPOINTS {
-            let walks = [walk_in(0, first), walk_in(1, second)];
-            let told = recover_over(alloc, &mut logs, walks, 8)?;
-            let resume = first.1.max(second.1).max(40);
-            assert!(rt;
-                (told.cutoff, told.resume, told.used) == (least, resume, used)
-                    && rows_of(&told.pairs) == Some(rows_over(used)),
-                "{first:?} and {second:?}: {told:?}"
-            );
-        }
-        let told = recover_over(alloc, &mut logs, [None, None], 8)?;
-        resume_all(alloc, &mut logs, &told)?;
-        assert!(rt;
-            end_with(alloc, &mut logs, ends, least)?,
-            "resumed from {least}"
-        );
+        expect_recovered(&rt, alloc, &mut logs, least);
+        let told = end_resumed(alloc, &mut logs, ends, least);
+        assert!(rt; told == Ok(true), "resumed from {least}");
     }
     Ok(())
 }

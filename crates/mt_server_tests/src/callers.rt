@@ -1,15 +1,14 @@
 //! A session over a book that is owned alone, by the server's caller.
 
 ghost use Rattle.std.specs.Prelude.{◌≡◌, IfOk};
-ghost use Rattle.mt_state.specs.Begins.{HaveNoPairs};
 
 use crate::clients::{FOUND, GET, NEW, OPEN, OPENED, PUT, SETTLE};
+use crate::stores::no_tenants;
 use log::Log;
 use mt_book::Book;
 use mt_core::State;
 use mt_disk::MemDisk;
 use mt_options::TenantQuota;
-use mt_rows::Tenants;
 use mt_service::DeskCaller;
 use mt_session::{Ended, serve};
 use mt_stored::{Keeper, Store};
@@ -27,12 +26,6 @@ fn new_store(rt: &impl Abort, alloc: Global) -> Result<State, AllocError>
     let mut tenants = no_tenants(alloc);
     assert!(rt; tenants.add(7, 100).is_ok());
     State::new(alloc, 0, tenants)
-}
-
-fn no_tenants(alloc: Global) -> Tenants
-    ensures { HaveNoPairs result }
-{
-    Tenants::new(alloc)
 }
 
 // Tenant 8, which isn't there, is opened.
@@ -54,14 +47,14 @@ fn serve_alone<L: Ledger, R: Wait + Log + Abort>(
     requires name { blank.name ≡ L.name }
     requires parts { (blank.parts ≡ L.parts) × (L.parts ≡ 65536) }
 {
+    let logs = Store::<MemDisk>::without_logs(alloc, no_tenants(alloc)).expect(rt, "memory");
+    let keeper = Keeper::new(alloc, logs, 0);
     let mut book = Book::<L>::new(blank, new_store(rt, alloc).expect(rt, "memory"));
     let pass = book.open_pass(0).expect(rt, "a pass");
     let tenants = [TenantQuota {
         tenant: 7,
         quota: 100,
     }];
-    let logs = Store::<MemDisk>::without_logs(alloc, no_tenants(alloc)).expect(rt, "memory");
-    let keeper = Keeper::new(alloc, logs, 0);
     let mut caller = DeskCaller::new(rt, book, pass, keeper, &tenants);
     let mut reader = requests;
     let mut written = Vec::new(alloc);

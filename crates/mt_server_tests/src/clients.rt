@@ -1,7 +1,7 @@
 //! Clients: frames worked out by hand, and how they are sent.
 
 use std::io::{self, Read, Write};
-use std::net::{Net, TcpStream};
+use std::net::{Net, TcpListener, TcpStream};
 use std::time::Duration;
 
 /// Tenant 7 is opened.
@@ -52,6 +52,27 @@ pub(crate) fn connect<R: Net<Stream = TcpStream>>(rt: &R, port: u16) -> io::Resu
     let stream = TcpStream::connect(rt, ("127.0.0.1", port))?;
     stream.set_read_timeout(Some(Duration::from_secs(60)))?;
     Ok(stream)
+}
+
+/// A listener, its port, and two clients that are connected to it.
+pub(crate) fn connected<R: Net<Listener = TcpListener, Stream = TcpStream>>(
+    rt: &R,
+) -> io::Result<(TcpListener, u16, TcpStream, TcpStream)> {
+    let listener = TcpListener::bind(rt, ("127.0.0.1", 0u16))?;
+    let port = listener.local_addr()?.port();
+    let first = connect(rt, port)?;
+    let second = connect(rt, port)?;
+    Ok((listener, port, first, second))
+}
+
+/// Whether the requests are answered with these replies, one after the other.
+pub(crate) fn are_told(stream: &TcpStream, told: &[(&[u8], &[u8])]) -> io::Result<bool> {
+    for (request, reply) in told {
+        if !is_told(stream, request, reply)? {
+            return Ok(false);
+        }
+    }
+    Ok(true)
 }
 
 /// Whether the request is answered with this reply, of at most 16 bytes.

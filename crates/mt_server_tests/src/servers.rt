@@ -4,7 +4,7 @@ ghost use Rattle.std.specs.Prelude.{◌≡◌};
 
 use crate::clients::{
     ABSENT, BAD, BAD_FRAME, FOUND, GET, NEW, NO_PAIRS, ONE_PAIR, OPEN, OPENED, PUT, REMOVE,
-    REMOVED, SCAN, connect, is_at_end, is_told, is_told_behind,
+    REMOVED, SCAN, are_told, connected, is_at_end, is_told, is_told_behind,
 };
 use crate::stores::store_without_logs;
 use crate::words::options_of;
@@ -94,53 +94,59 @@ enum Scene {
 
 // Plays a scene; whether each client was told what it should be.
 fn play(scene: Scene, first: TcpStream, second: TcpStream) -> io::Result<bool> {
-    let wanted = match scene {
-        Scene::InTurn => FOUND,
-        _ => ABSENT,
-    };
-    let is_right = match scene {
-        Scene::InTurn => is_told(&first, OPEN, OPENED)? && puts_and_gets(&first)?,
-        Scene::AtOnce => {
-            return Ok(
-                is_told(&first, OPEN, OPENED)?
-                    && is_told(&second, OPEN, OPENED)?
-                    && puts_and_gets(&second)?
-                    && is_told(&first, GET, FOUND)?,
-            );
-        }
-        Scene::BadFrame => {
-            is_told(&first, OPEN, OPENED)?
-                && is_told_behind(&first, BAD, &[0; 40_000], BAD_FRAME)?
-                && is_at_end(&first)?
-        }
-        Scene::MidFrame => is_told_behind(&first, OPEN, &PUT[..7], OPENED)?,
-        Scene::Removal => is_told(&first, OPEN, OPENED)? && puts_and_removes(&first)?,
-        Scene::Scan => is_told(&first, OPEN, OPENED)? && puts_and_scans(&first)?,
-        Scene::Reset => is_told(&first, OPEN, &OPENED[..1])?,
-    };
+    let is_begun = begins(scene, &first, &second);
     drop(first);
-    Ok(is_right && is_told(&second, OPEN, OPENED)? && is_told(&second, GET, wanted)?)
+    match is_begun {
+        Ok(true) => ends(scene, &second),
+        _ => is_begun,
+    }
 }
 
-fn puts_and_gets(client: &TcpStream) -> io::Result<bool> {
-    Ok(is_told(client, PUT, NEW)? && is_told(client, GET, FOUND)?)
+// Whether the first client is told what it should be, and in one scene the second one beside it.
+fn begins(scene: Scene, first: &TcpStream, second: &TcpStream) -> io::Result<bool> {
+    match scene {
+        Scene::InTurn => are_told(first, &[(OPEN, OPENED), (PUT, NEW), (GET, FOUND)]),
+        Scene::AtOnce => Ok(
+            is_told(first, OPEN, OPENED)?
+                && are_told(second, &[(OPEN, OPENED), (PUT, NEW), (GET, FOUND)])?
+                && is_told(first, GET, FOUND)?,
+        ),
+        Scene::BadFrame => Ok(
+            is_told(first, OPEN, OPENED)?
+                && is_told_behind(first, BAD, &[0; 40_000], BAD_FRAME)?
+                && is_at_end(first)?,
+        ),
+        Scene::MidFrame => is_told_behind(first, OPEN, &PUT[..7], OPENED),
+        Scene::Removal => are_told(
+            first,
+            &[
+                (OPEN, OPENED),
+                (PUT, NEW),
+                (REMOVE, REMOVED),
+                (REMOVE, ABSENT),
+            ],
+        ),
+        Scene::Scan => are_told(
+            first,
+            &[
+                (OPEN, OPENED),
+                (PUT, NEW),
+                (SCAN, ONE_PAIR),
+                (REMOVE, REMOVED),
+                (SCAN, NO_PAIRS),
+            ],
+        ),
+        Scene::Reset => is_told(first, OPEN, &OPENED[..1]),
+    }
 }
 
-fn puts_and_removes(client: &TcpStream) -> io::Result<bool> {
-    Ok(
-        is_told(client, PUT, NEW)?
-            && is_told(client, REMOVE, REMOVED)?
-            && is_told(client, REMOVE, ABSENT)?,
-    )
-}
-
-fn puts_and_scans(client: &TcpStream) -> io::Result<bool> {
-    Ok(
-        is_told(client, PUT, NEW)?
-            && is_told(client, SCAN, ONE_PAIR)?
-            && is_told(client, REMOVE, REMOVED)?
-            && is_told(client, SCAN, NO_PAIRS)?,
-    )
+// Whether the second client is, after the first one has left.
+fn ends(scene: Scene, second: &TcpStream) -> io::Result<bool> {
+    match scene {
+        Scene::AtOnce => Ok(true),
+        Scene::InTurn => are_told(second, &[(OPEN, OPENED), (GET, FOUND)]),
+        _ => are_told(second, &[(OPEN, OPENED), (GET, ABSENT)]),
+    }
 }
 
 impl Scene {
@@ -160,7 +166,7 @@ impl Scene {
     }
 }
 
-const TWO_WORKERS: &str = "mt_server --port 0 --workers 2 --sessions 2 7:100";
+pub(crate) const TWO_WORKERS: &str = "mt_server --port 0 --workers 2 --sessions 2 7:100";
 
 const ONE_WORKER: &str = "mt_server --port 0 --workers 1 --sessions 2 7:100";
 
@@ -180,9 +186,9 @@ where
     requires parts { (blank.parts ≡ L.parts) × (L.parts ≡ 65536) }
 {
     let (line, last, others) = scene.ends();
+    let (listener, port, first, second) = connected(rt).expect(rt, "a socket");
     let options = options_of(rt, alloc, line);
     let store = store_without_logs(rt, alloc);
-    let (listener, port, first, second) = connected(rt).expect(rt, "a socket");
     let (served, played) = thread::join(
         rt,
         move ||
@@ -211,11 +217,11 @@ where
     requires name { blank.name ≡ L.name }
     requires parts { (blank.parts ≡ L.parts) × (L.parts ≡ 65536) }
 {
-    let options = options_of(rt, alloc, THREE_SESSIONS);
-    let store = store_without_logs(rt, alloc);
     let (listener, port, first, second) = connected(rt).expect(rt, "a socket");
     // An accept then fails if nobody waits.
     assert!(rt; listener.set_nonblocking(true).is_ok());
+    let options = options_of(rt, alloc, THREE_SESSIONS);
+    let store = store_without_logs(rt, alloc);
     let (served, played) = thread::join(
         rt,
         move ||
@@ -228,17 +234,6 @@ where
     assert!(rt; played.expect(rt, "a socket"));
     let written = served.expect(rt, "the listener fails");
     expect_text(rt, alloc, port, written.as_slice(), "");
-}
-
-// A listener, its port, and two clients that are connected to it.
-fn connected<R: Net<Listener = TcpListener, Stream = TcpStream>>(
-    rt: &R,
-) -> io::Result<(TcpListener, u16, TcpStream, TcpStream)> {
-    let listener = TcpListener::bind(rt, ("127.0.0.1", 0u16))?;
-    let port = listener.local_addr()?.port();
-    let first = connect(rt, port)?;
-    let second = connect(rt, port)?;
-    Ok((listener, port, first, second))
 }
 
 #[test]

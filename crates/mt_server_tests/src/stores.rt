@@ -4,7 +4,7 @@ ghost use Rattle.std.specs.Prelude.{◌≡◌, ◌<◌, ◌≤◌, vec_len};
 ghost use Rattle.mt_state.specs.Begins.{HaveNoPairs};
 
 use crate::clients::{
-    DEVICE, FOUND, GET, NEW, OPEN, OPENED, PUT, SETTLE, SETTLED_5, connect, is_told,
+    DEVICE, FOUND, GET, NEW, OPEN, OPENED, PUT, SETTLE, SETTLED_5, are_told, connect,
 };
 use crate::words::options_of;
 use log::Log;
@@ -103,18 +103,19 @@ pub(crate) enum Scene {
 
 // Plays a scene; whether the client was told what it should be.
 fn play(scene: Scene, client: TcpStream) -> io::Result<bool> {
-    if !is_told(&client, OPEN, OPENED)? {
-        return Ok(false);
-    }
     match scene {
-        Scene::Settles => Ok(is_told(&client, PUT, NEW)? && is_told(&client, SETTLE, SETTLED_5)?),
-        Scene::Leaves => is_told(&client, PUT, NEW),
-        Scene::SettlesTwice => Ok(
-            is_told(&client, PUT, NEW)?
-                && is_told(&client, SETTLE, DEVICE)?
-                && is_told(&client, SETTLE, SETTLED_5)?,
+        Scene::Settles => are_told(&client, &[(OPEN, OPENED), (PUT, NEW), (SETTLE, SETTLED_5)]),
+        Scene::Leaves => are_told(&client, &[(OPEN, OPENED), (PUT, NEW)]),
+        Scene::SettlesTwice => are_told(
+            &client,
+            &[
+                (OPEN, OPENED),
+                (PUT, NEW),
+                (SETTLE, DEVICE),
+                (SETTLE, SETTLED_5),
+            ],
         ),
-        Scene::Reads => is_told(&client, GET, FOUND),
+        Scene::Reads => are_told(&client, &[(OPEN, OPENED), (GET, FOUND)]),
     }
 }
 
@@ -142,6 +143,15 @@ pub(crate) fn serve_all<
     }
 }
 
+// A listener, and a client that is connected to it.
+fn one_connected<R: Net<Listener = TcpListener, Stream = TcpStream>>(
+    rt: &R,
+) -> io::Result<(TcpListener, TcpStream)> {
+    let listener = TcpListener::bind(rt, ("127.0.0.1", 0u16))?;
+    let client = connect(rt, listener.local_addr()?.port())?;
+    Ok((listener, client))
+}
+
 // A server over a store, and its client, who is told what it should be; the store that is left.
 pub(crate) fn serve_scene<L: Ledger + Send + Sync, R, D: Disk + Drop + Send>(
     rt: &R,
@@ -162,14 +172,9 @@ where
     requires parts { (blank.parts ≡ L.parts) × (L.parts ≡ 65536) }
     requires untaken { store.source.state.answers ≡ 0 }
 {
-    let options = options_of(
-        rt,
-        alloc,
-        "mt_server --port 0 --workers 1 --sessions 1 7:100",
-    );
-    let listener = TcpListener::bind(rt, ("127.0.0.1", 0u16)).expect(rt, "a socket");
-    let port = listener.local_addr().expect(rt, "a socket").port();
-    let client = connect(rt, port).expect(rt, "a socket");
+    let words = "mt_server --port 0 --workers 1 --sessions 1 7:100";
+    let (listener, client) = one_connected(rt).expect(rt, "a socket");
+    let options = options_of(rt, alloc, words);
     let (served, played) = thread::join(
         rt,
         move ||

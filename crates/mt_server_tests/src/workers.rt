@@ -3,7 +3,8 @@
 ghost use Rattle.std.specs.Prelude.{◌≡◌};
 ghost use Rattle.mt_state.specs.Begins.{HaveNoPairs};
 
-use crate::clients::{FOUND, GET, NEW, OPEN, OPENED, PUT, SETTLE, connect, is_told};
+use crate::clients::{FOUND, GET, NEW, OPEN, OPENED, PUT, SETTLE, connected, is_told};
+use crate::servers::TWO_WORKERS;
 use crate::stores::{no_tenants, serve_all};
 use crate::words::options_of;
 use log::Log;
@@ -35,16 +36,11 @@ fn new_store(rt: &impl Abort, alloc: Global) -> Store<MemDisk>
     let mut tenants = no_tenants(alloc);
     assert!(rt; tenants.add(7, 100).is_ok());
     let mut disks = Vec::new(alloc);
-    assert!(rt;
-        disks
-            .push(MemDisk::new(alloc, Vec::new(alloc), None))
-            .is_ok()
-    );
-    assert!(rt;
-        disks
-            .push(MemDisk::new(alloc, Vec::new(alloc), None))
-            .is_ok()
-    );
+    for _ in 0..2u32 {
+        let disk = MemDisk::new(alloc, Vec::new(alloc), None);
+        assert!(rt; disks.push(disk).is_ok());
+    }
+    assert!(rt; !disks.is_empty() && disks.len() <= 64);
     match Store::create(alloc, disks, tenants) {
         Ok(store) => store,
         Err(_) => panic!(rt; "no store is made"),
@@ -141,13 +137,9 @@ where
     requires name { blank.name ≡ L.name }
     requires parts { (blank.parts ≡ L.parts) × (L.parts ≡ 65536) }
 {
-    let words = "mt_server --port 0 --workers 2 --sessions 2 7:100";
-    let options = options_of(rt, alloc, words);
+    let (listener, _, first, second) = connected(rt).expect(rt, "a socket");
+    let options = options_of(rt, alloc, TWO_WORKERS);
     let store = new_store(rt, alloc);
-    let listener = TcpListener::bind(rt, ("127.0.0.1", 0u16)).expect(rt, "a socket");
-    let port = listener.local_addr().expect(rt, "a socket").port();
-    let first = connect(rt, port).expect(rt, "a socket");
-    let second = connect(rt, port).expect(rt, "a socket");
     let (served, played) = thread::join(
         rt,
         move ||

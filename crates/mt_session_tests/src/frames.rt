@@ -157,46 +157,60 @@ fn a_message_is_read_up_to_its_limits(rt: HostRuntime) {
     }
 }
 
-// Calls that get this many columns, remove a key of this many bytes, and put a column of so many.
-fn requests(rt: &impl Abort, alloc: Global, columns: u32, key: u32, column: u32) -> [Request; 3] {
-    let column = many(alloc, "76", column).expect(rt, "bytes");
-    let column = Column::new(alloc, column).expect(rt, "memory");
-    let mut change = Vec::new(alloc);
-    assert!(rt; change.push((0, column)).is_ok());
-    let change = NamedColumns::new(change);
-    let columns = ColumnIndexes::new(many(alloc, "00", columns).expect(rt, "bytes"));
-    let removed = Key::new(many(alloc, "6b", key).expect(rt, "bytes"));
+// A get of this many columns.
+fn get_of(alloc: Global, columns: u32) -> Option<Command> {
+    let columns = ColumnIndexes::new(many(alloc, "00", columns)?);
     let key = Key::new(Vec::new(alloc));
-    let put = Command::Put { key, change };
-    let key = Key::new(Vec::new(alloc));
-    let get = Command::Get { key, columns };
-    let key = removed;
-    let remove = Command::Remove { key };
-    [
-        Request::Call(get),
-        Request::Call(remove),
-        Request::Call(put),
-    ]
+    Some(Command::Get { key, columns })
 }
 
-// Whether each of them is written, or each refused as too long.
-fn all_are(requests: &[Request], spellable: bool, out: &mut Vec<u8>) -> bool {
-    requests.iter().all(|request| {
-        let told = match encode_request(request, out) {
-            Ok(()) => spellable,
-            Err(EncodeFault::Long) => !spellable,
-            Err(EncodeFault::Memory) => false,
-        };
-        told && request.is_spellable() == spellable
-    })
+// A remove of a key of this many bytes.
+fn remove_of(alloc: Global, key: u32) -> Option<Command> {
+    let key = Key::new(many(alloc, "6b", key)?);
+    Some(Command::Remove { key })
+}
+
+// A put of a column of this many bytes.
+fn put_of(alloc: Global, column: u32) -> Option<Command> {
+    let column = Column::new(alloc, many(alloc, "76", column)?).ok()?;
+    let mut change = Vec::new(alloc);
+    change.push((0, column)).ok()?;
+    let change = NamedColumns::new(change);
+    let key = Key::new(Vec::new(alloc));
+    Some(Command::Put { key, change })
+}
+
+// Whether a call is written, or refused as too long.
+fn is_written(command: Option<Command>, spellable: bool, out: &mut Vec<u8>) -> bool {
+    let Some(command) = command else {
+        return false;
+    };
+    let request = Request::Call(command);
+    let told = match encode_request(&request, out) {
+        Ok(()) => spellable,
+        Err(EncodeFault::Long) => !spellable,
+        Err(EncodeFault::Memory) => false,
+    };
+    told && request.is_spellable() == spellable
 }
 
 #[test]
 fn a_request_without_a_spelling_is_not_written(rt: HostRuntime) {
     let alloc = rt.alloc();
-    let mut out = Vec::from_slice(alloc, b"before").expect(&rt, "memory");
-    assert!(rt; all_are(&requests(&rt, alloc, 256, 32_766, 65_536), false, &mut out));
-    assert_eq!(rt; out.as_slice(), b"before".as_slice());
-    assert!(rt; all_are(&requests(&rt, alloc, 255, 32_765, 32_761), true, &mut out));
-    assert_eq!(rt; out.len(), 6 + (4 + 259) + (4 + 32_768) + (4 + 32_768));
+    // How many columns a get has, how many bytes the key of a remove, how many the column of a put; and how many
+    // bytes are written of the three, if each has a spelling.
+    for (columns, key, column, len) in [
+        (256, 32_766, 65_536, 0),
+        (255, 32_765, 32_761, (4 + 259) + (4 + 32_768) + (4 + 32_768)),
+    ] {
+        let mut out = Vec::from_slice(alloc, b"before").expect(&rt, "memory");
+        for command in [
+            get_of(alloc, columns),
+            remove_of(alloc, key),
+            put_of(alloc, column),
+        ] {
+            assert!(rt; is_written(command, len > 0, &mut out));
+        }
+        assert!(rt; out.starts_with(b"before") && out.len() == 6 + len);
+    }
 }

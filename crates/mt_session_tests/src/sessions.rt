@@ -95,6 +95,9 @@ fn each_reply_is_written_before_the_next_request_is_read(rt: HostRuntime) {
     expect_rows(&rt, rt.alloc(), Way::InTurns);
 }
 
+// Tenant 7 is opened.
+const OPEN_7: [u8; 9] = [0, 0, 0, 5, 1, 0, 0, 0, 7];
+
 // A put and a thousand gets of a row, in one read: their replies have 58 bytes each, and are told by one
 // write; or 1,008, of which 66 pass 65,536 bytes, which are written before more is answered.
 #[test]
@@ -104,17 +107,23 @@ fn answers_are_written_together_up_to_a_mark(rt: HostRuntime) -> Result<(), Fail
         ("03 0001 6b 01 00 0032", 50, 1),
         ("03 0001 6b 01 00 03e8", 1_000, 16),
     ] {
-        let mut asked = bytes_of(alloc, "00000005 01 00000007").expect(&rt, "bytes");
         let put = framed(alloc, front, "76", size).expect(&rt, "bytes");
-        asked.extend_from_slice(&put)?;
         let gets = many(alloc, "00000005 02 0001 6b 00", 1_000).expect(&rt, "bytes");
-        asked.extend_from_slice(&gets)?;
+        let asked = [OPEN_7.as_slice(), &put, &gets].as_slice().concat(alloc)?;
         let (writer, ended) = session(&Plain, alloc, &asked, [65_536, ALL, 2, ALL]);
         assert_eq!(rt; ended, "closed");
         assert_eq!(rt; writer.good.saturating_add(writes), ALL);
         assert_eq!(rt; writer.text.len(), 10 + 1_000 * (8 + size as usize));
     }
     Ok(())
+}
+
+// A frame, and so many times another one, as `many`; none as `bytes_of`.
+fn frames(alloc: Global, first: &str, unit: &str, times: u32) -> Option<Vec<u8>> {
+    let mut frames = bytes_of(alloc, first)?;
+    let more = many(alloc, unit, times)?;
+    frames.extend_from_slice(&more).ok()?;
+    Some(frames)
 }
 
 // One session more over a state: a tenant is opened, and so many times this is asked and told.
@@ -124,12 +133,8 @@ fn expect_more(
     alone: &mut Alone,
     (tenant, asks, tells, times): (&str, &str, &str, u32),
 ) {
-    let mut asked = bytes_of(alloc, tenant).expect(rt, "bytes");
-    let asks = many(alloc, asks, times).expect(rt, "bytes");
-    asked.extend_from_slice(&asks).expect(rt, "memory");
-    let mut told = bytes_of(alloc, "00000001 00").expect(rt, "bytes");
-    let tells = many(alloc, tells, times).expect(rt, "bytes");
-    told.extend_from_slice(&tells).expect(rt, "memory");
+    let asked = frames(alloc, tenant, asks, times).expect(rt, "bytes");
+    let told = frames(alloc, "00000001 00", tells, times).expect(rt, "bytes");
     let (mut reader, mut writer) = streams(alloc, &asked, [100, 100, ALL, ALL]);
     let ended = serve_alone(alloc, &mut reader, &mut writer, alone);
     assert!(rt; writer.text.as_slice() == told.as_slice());
