@@ -33,31 +33,33 @@ fn leaves(disk: &MemDisk, line: &str) -> bool {
         == (*letter == b'y'))
 }
 
+// The calls on a disk where `abcd` is durable, the two that fail, 0 for none, and the first that a crash stops; what is
+// read then, and a letter for each of the images.
+const CASES: [(&str, u64, u64, u64, &str, &str); 18] = [
+    ("", 0, 0, 9, "abcd", "y..........."),
+    ("w", 0, 0, 9, "aXYd", "yyyyyyy....."),
+    ("w", 1, 0, 9, "abcd", "yyyyyyy....."),
+    ("c", 0, 0, 9, "ab", "y....yyy.y.."),
+    ("c", 1, 0, 9, "abcd", "y....yyy.y.."),
+    ("a", 0, 0, 9, "abcdef", "y....yy....."),
+    ("a", 0, 0, 1, "abcd", "y....yy....."),
+    ("wc", 0, 0, 9, "aX", "yyyyyyyyyy.."),
+    ("wc", 0, 0, 1, "abcd", "yyyyyyyyyy.."),
+    ("wc", 0, 0, 2, "aXYd", "yyyyyyyyyy.."),
+    ("ws", 0, 0, 9, "aXYd", ".y.........."),
+    ("ws", 1, 0, 9, "abcd", "y..........."),
+    ("ws", 2, 0, 9, "aXYd", "yyyyyyy....."),
+    ("wss", 2, 0, 9, "aXYd", ".y.........."),
+    ("wss", 2, 3, 9, "aXYd", "yyyyyyy....."),
+    ("ws", 0, 0, 1, "abcd", "yyyyyyy....."),
+    ("ws", 0, 0, 2, "aXYd", "yyyyyyy....."),
+    ("ws", 0, 0, 3, "aXYd", ".y.........."),
+];
+
 #[test]
 fn a_crash_leaves_what_is_durable_and_tears_the_rest(rt: HostRuntime) -> Result<(), Fail> {
     let alloc = rt.alloc();
-    // The calls on a disk where `abcd` is durable, the two that fail, 0 for none, and the first that a crash
-    // stops; what is read then, and a letter for each of the images.
-    for (calls, fail, other, stop, read, line) in [
-        ("", 0, 0, 9, "abcd", "y..........."),
-        ("w", 0, 0, 9, "aXYd", "yyyyyyy....."),
-        ("w", 1, 0, 9, "abcd", "yyyyyyy....."),
-        ("c", 0, 0, 9, "ab", "y....yyy.y.."),
-        ("c", 1, 0, 9, "abcd", "y....yyy.y.."),
-        ("a", 0, 0, 9, "abcdef", "y....yy....."),
-        ("a", 0, 0, 1, "abcd", "y....yy....."),
-        ("wc", 0, 0, 9, "aX", "yyyyyyyyyy.."),
-        ("wc", 0, 0, 1, "abcd", "yyyyyyyyyy.."),
-        ("wc", 0, 0, 2, "aXYd", "yyyyyyyyyy.."),
-        ("ws", 0, 0, 9, "aXYd", ".y.........."),
-        ("ws", 1, 0, 9, "abcd", "y..........."),
-        ("ws", 2, 0, 9, "aXYd", "yyyyyyy....."),
-        ("wss", 2, 0, 9, "aXYd", ".y.........."),
-        ("wss", 2, 3, 9, "aXYd", "yyyyyyy....."),
-        ("ws", 0, 0, 1, "abcd", "yyyyyyy....."),
-        ("ws", 0, 0, 2, "aXYd", "yyyyyyy....."),
-        ("ws", 0, 0, 3, "aXYd", ".y.........."),
-    ] {
+    for (calls, fail, other, stop, read, line) in CASES {
         let (image, fails) = (b"abcd".to_vec(alloc)?, [fail, other].to_vec(alloc)?);
         let mut disk = MemDisk::with_image(alloc, image, fails, Some(stop))?;
         call_all(&mut disk, calls);

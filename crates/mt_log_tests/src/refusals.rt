@@ -2,6 +2,7 @@
 
 ghost use Rattle.std.specs.Prelude.{◌<◌};
 
+use self::Want::{Falls, Pairs, Told};
 use crate::slots::{Change, Log, append, disk_of, log_with, new_log, recover_over, resume_all};
 use mt_disk::MemDisk;
 use mt_recover::Recovered;
@@ -36,8 +37,22 @@ type Edit = (u8, At, u8);
 // None, since there is no such log.
 const SAME: Edit = (9, At::Worker, 0);
 
-fn falls(number: u8, stamp: u64) -> Result<usize, Refusal> {
-    Err(Refusal::StampsFall { number, stamp })
+// What is told of logs: so many pairs, that one falls, or another refusal.
+#[derive(Clone, Copy)]
+enum Want {
+    Pairs(usize),
+    Falls(u8, u64),
+    Told(Refusal),
+}
+
+impl Want {
+    fn told(self) -> Result<usize, Refusal> {
+        match self {
+            Pairs(pairs) => Ok(pairs),
+            Falls(number, stamp) => Err(Refusal::StampsFall { number, stamp }),
+            Told(refusal) => Err(refusal),
+        }
+    }
 }
 
 // A put of a key of its own.
@@ -94,60 +109,62 @@ fn count_of(alloc: Global, given: u8, quota: u32, edits: [Edit; 2]) -> Result<us
     Ok(recovered.pairs.len())
 }
 
+// How many logs are given, the quota of tenant 7, what is changed, and what is told.
+const CASES: [(u8, u32, Edit, Edit, Want); 32] = [
+    (3, 5, SAME, SAME, Pairs(5)),
+    // No set: no logs, one of them missing, two of worker 0, one that names four logs.
+    (0, 5, SAME, SAME, Told(Refusal::LogCount)),
+    (2, 5, SAME, SAME, Told(Refusal::LogCount)),
+    (3, 5, (1, At::Worker, 0), SAME, Told(Refusal::LogCount)),
+    (3, 5, (2, At::Logs, 4), SAME, Told(Refusal::LogCount)),
+    (2, 5, (0, At::Stamp, 0), SAME, Told(Refusal::LogCount)),
+    // Batches that don't join, or go back, and one that keeps more than it ends at.
+    (3, 5, (1, At::From, 1), SAME, Falls(1, 1)),
+    (3, 5, (1, At::To, 7), SAME, Falls(1, 6)),
+    (3, 5, (1, At::ResumeFrom, 5), SAME, Falls(1, 5)),
+    (3, 5, (1, At::ResumeTo, 5), SAME, Falls(1, 6)),
+    (3, 5, (1, At::LastTo, 7), SAME, Falls(1, 8)),
+    (3, 5, (1, At::Kept, 9), SAME, Falls(1, 6)),
+    // Stamps that don't rise in their batch, or are not over its beginning, or over its end; the
+    // first log given.
+    (3, 5, (1, At::Stamp2, 2), SAME, Falls(1, 2)),
+    (3, 5, (1, At::Stamp2, 1), SAME, Falls(1, 1)),
+    (3, 5, (1, At::Stamp, 0), SAME, Falls(1, 0)),
+    (3, 5, (1, At::Stamp2, 7), SAME, Falls(1, 7)),
+    (3, 5, (2, At::Stamp, 0), (1, At::Stamp2, 7), Falls(1, 7)),
+    // A log that is older than the others, after a fall in a single log, and before a stamp in two.
+    (3, 5, (1, At::ResumeGate, 0), SAME, Falls(1, 8)),
+    (3, 5, (1, At::ResumeGate, 0), (2, At::Stamp, 0), Falls(2, 0)),
+    (3, 5, (1, At::ResumeGate, 0), (2, At::Stamp, 1), Falls(1, 8)),
+    (
+        3,
+        5,
+        (1, At::ResumeGate, 0),
+        (0, At::Tenant, 8),
+        Falls(1, 8),
+    ),
+    // A stamp in two or three logs, the highest of these, also one that is void; the least stamp.
+    (3, 5, (1, At::Stamp, 1), SAME, Falls(1, 1)),
+    (3, 5, (2, At::Stamp, 1), SAME, Falls(2, 1)),
+    (3, 5, (1, At::Stamp, 1), (2, At::Stamp, 1), Falls(2, 1)),
+    (3, 5, (0, At::Stamp2, 6), SAME, Falls(2, 6)),
+    (3, 5, (1, At::Stamp2, 6), (2, At::Stamp, 1), Falls(2, 1)),
+    (3, 5, (0, At::Stamp2, 2), (2, At::Stamp, 0), Falls(2, 0)),
+    // Another tenant, behind a fall, and not where it is void.
+    (3, 5, (0, At::Tenant, 8), SAME, Told(Refusal::NoTenant(8))),
+    (3, 5, (0, At::Tenant, 8), (1, At::Stamp, 0), Falls(1, 0)),
+    (3, 5, (2, At::Tenant2, 8), SAME, Pairs(5)),
+    // Five pairs where four may be, behind another tenant.
+    (3, 4, SAME, SAME, Told(Refusal::OverQuota(7))),
+    (3, 1, (2, At::Tenant, 8), SAME, Told(Refusal::NoTenant(8))),
+];
+
 #[test]
 fn each_refusal_comes_before_the_next(rt: HostRuntime) {
-    // How many logs are given, the quota of tenant 7, what is changed, and what is told.
-    for (given, quota, first, second, want) in [
-        (3, 5, SAME, SAME, Ok(5)),
-        // No set: no logs, one of them missing, two of worker 0, one that names four logs.
-        (0, 5, SAME, SAME, Err(Refusal::LogCount)),
-        (2, 5, SAME, SAME, Err(Refusal::LogCount)),
-        (3, 5, (1, At::Worker, 0), SAME, Err(Refusal::LogCount)),
-        (3, 5, (2, At::Logs, 4), SAME, Err(Refusal::LogCount)),
-        (2, 5, (0, At::Stamp, 0), SAME, Err(Refusal::LogCount)),
-        // Batches that don't join, or go back, and one that keeps more than it ends at.
-        (3, 5, (1, At::From, 1), SAME, falls(1, 1)),
-        (3, 5, (1, At::To, 7), SAME, falls(1, 6)),
-        (3, 5, (1, At::ResumeFrom, 5), SAME, falls(1, 5)),
-        (3, 5, (1, At::ResumeTo, 5), SAME, falls(1, 6)),
-        (3, 5, (1, At::LastTo, 7), SAME, falls(1, 8)),
-        (3, 5, (1, At::Kept, 9), SAME, falls(1, 6)),
-        // Stamps that don't rise in their batch, or are not over its beginning, or over its end; the
-        // first log given.
-        (3, 5, (1, At::Stamp2, 2), SAME, falls(1, 2)),
-        (3, 5, (1, At::Stamp2, 1), SAME, falls(1, 1)),
-        (3, 5, (1, At::Stamp, 0), SAME, falls(1, 0)),
-        (3, 5, (1, At::Stamp2, 7), SAME, falls(1, 7)),
-        (3, 5, (2, At::Stamp, 0), (1, At::Stamp2, 7), falls(1, 7)),
-        // A log that is older than the others, after a fall in a single log, and before a stamp in two.
-        (3, 5, (1, At::ResumeGate, 0), SAME, falls(1, 8)),
-        (3, 5, (1, At::ResumeGate, 0), (2, At::Stamp, 0), falls(2, 0)),
-        (3, 5, (1, At::ResumeGate, 0), (2, At::Stamp, 1), falls(1, 8)),
-        (
-            3,
-            5,
-            (1, At::ResumeGate, 0),
-            (0, At::Tenant, 8),
-            falls(1, 8),
-        ),
-        // A stamp in two or three logs, the highest of these, also one that is void; the least stamp.
-        (3, 5, (1, At::Stamp, 1), SAME, falls(1, 1)),
-        (3, 5, (2, At::Stamp, 1), SAME, falls(2, 1)),
-        (3, 5, (1, At::Stamp, 1), (2, At::Stamp, 1), falls(2, 1)),
-        (3, 5, (0, At::Stamp2, 6), SAME, falls(2, 6)),
-        (3, 5, (1, At::Stamp2, 6), (2, At::Stamp, 1), falls(2, 1)),
-        (3, 5, (0, At::Stamp2, 2), (2, At::Stamp, 0), falls(2, 0)),
-        // Another tenant, behind a fall, and not where it is void.
-        (3, 5, (0, At::Tenant, 8), SAME, Err(Refusal::NoTenant(8))),
-        (3, 5, (0, At::Tenant, 8), (1, At::Stamp, 0), falls(1, 0)),
-        (3, 5, (2, At::Tenant2, 8), SAME, Ok(5)),
-        // Five pairs where four may be, behind another tenant.
-        (3, 4, SAME, SAME, Err(Refusal::OverQuota(7))),
-        (3, 1, (2, At::Tenant, 8), SAME, Err(Refusal::NoTenant(8))),
-    ] {
+    for (given, quota, first, second, want) in CASES {
         let told = count_of(rt.alloc(), given, quota, [first, second]);
         assert!(rt;
-            told == want,
+            told == want.told(),
             "{given}, {quota}, {first:?}, {second:?}: {told:?}"
         );
     }

@@ -118,6 +118,53 @@ fn with_byte(alloc: Global, place: usize, byte: u8) -> Result<Told, AllocError> 
     opened(alloc, &image)
 }
 
+// A place in the vector, the byte that is put there, and what is told then.
+const CHANGED: [(usize, u8, Told); 36] = [
+    // The format's number, the worker, the number of logs.
+    (5, 2, Told::Bad(0, 0)),
+    (6, 1, Told::Bad(1, 0)),
+    (6, 5, Told::Bad(5, 0)),
+    (7, 0, Told::Bad(0, 0)),
+    (7, 64, Told::Front(9, 2)),
+    (7, 65, Told::Bad(0, 0)),
+    // A gate that isn't open ends the front, also one that was torn.
+    (8, 0, Told::Front(0, 0)),
+    (8, 7, Told::Front(0, 0)),
+    (54, 0, Told::Front(6, 1)),
+    (54, 7, Told::Front(6, 1)),
+    (84, 7, Told::Front(9, 2)),
+    (84, 1, Told::Bad(0, 84)),
+    // A length past the end of the file, one that is too short, and one that takes in the next gate.
+    (9, 255, Told::Bad(0, 8)),
+    (12, 40, Told::Bad(0, 8)),
+    (55, 255, Told::Bad(0, 54)),
+    (58, 26, Told::Bad(0, 54)),
+    (58, 27, Told::Bad(0, 54)),
+    // The kind of a batch, and an end past the greatest step.
+    (13, 1, Told::Bad(0, 8)),
+    (13, 2, Told::Bad(0, 8)),
+    (22, 8, Told::Bad(0, 8)),
+    (68, 8, Told::Bad(0, 54)),
+    // Batches that don't join; a beginning over its end; how many are kept.
+    (14, 255, Told::Falls(9, 2)),
+    (21, 1, Told::Falls(9, 2)),
+    (29, 5, Told::Falls(9, 2)),
+    (29, 4, Told::Falls(9, 2)),
+    (75, 8, Told::Front(8, 2)),
+    (75, 5, Told::Falls(5, 2)),
+    (76, 255, Told::Falls(9, 2)),
+    (83, 9, Told::Front(9, 2)),
+    (83, 10, Told::Falls(9, 2)),
+    // A stamp that isn't over the batch's beginning, or is over its end.
+    (41, 0, Told::Falls(9, 2)),
+    (41, 7, Told::Falls(9, 2)),
+    (41, 6, Told::Front(9, 2)),
+    (34, 255, Told::Falls(9, 2)),
+    // A row that isn't told as there or not, and one without columns.
+    (49, 2, Told::Bad(0, 8)),
+    (50, 0, Told::Bad(0, 8)),
+];
+
 #[test]
 fn each_prefix_and_changed_byte_is_told_for_what_it_is(rt: HostRuntime) -> Result<(), Fail> {
     let alloc = rt.alloc();
@@ -132,51 +179,7 @@ fn each_prefix_and_changed_byte_is_told_for_what_it_is(rt: HostRuntime) -> Resul
         let told = opened(alloc, prefix)?;
         assert!(rt; told == Told::Bad(0, offset), "the first {len} bytes");
     }
-    for (place, byte, want) in [
-        // The format's number, the worker, the number of logs.
-        (5, 2, Told::Bad(0, 0)),
-        (6, 1, Told::Bad(1, 0)),
-        (6, 5, Told::Bad(5, 0)),
-        (7, 0, Told::Bad(0, 0)),
-        (7, 64, Told::Front(9, 2)),
-        (7, 65, Told::Bad(0, 0)),
-        // A gate that isn't open ends the front, also one that was torn.
-        (8, 0, Told::Front(0, 0)),
-        (8, 7, Told::Front(0, 0)),
-        (54, 0, Told::Front(6, 1)),
-        (54, 7, Told::Front(6, 1)),
-        (84, 7, Told::Front(9, 2)),
-        (84, 1, Told::Bad(0, 84)),
-        // A length past the end of the file, one that is too short, and one that takes in the next gate.
-        (9, 255, Told::Bad(0, 8)),
-        (12, 40, Told::Bad(0, 8)),
-        (55, 255, Told::Bad(0, 54)),
-        (58, 26, Told::Bad(0, 54)),
-        (58, 27, Told::Bad(0, 54)),
-        // The kind of a batch, and an end past the greatest step.
-        (13, 1, Told::Bad(0, 8)),
-        (13, 2, Told::Bad(0, 8)),
-        (22, 8, Told::Bad(0, 8)),
-        (68, 8, Told::Bad(0, 54)),
-        // Batches that don't join; a beginning over its end; how many are kept.
-        (14, 255, Told::Falls(9, 2)),
-        (21, 1, Told::Falls(9, 2)),
-        (29, 5, Told::Falls(9, 2)),
-        (29, 4, Told::Falls(9, 2)),
-        (75, 8, Told::Front(8, 2)),
-        (75, 5, Told::Falls(5, 2)),
-        (76, 255, Told::Falls(9, 2)),
-        (83, 9, Told::Front(9, 2)),
-        (83, 10, Told::Falls(9, 2)),
-        // A stamp that isn't over the batch's beginning, or is over its end.
-        (41, 0, Told::Falls(9, 2)),
-        (41, 7, Told::Falls(9, 2)),
-        (41, 6, Told::Front(9, 2)),
-        (34, 255, Told::Falls(9, 2)),
-        // A row that isn't told as there or not, and one without columns.
-        (49, 2, Told::Bad(0, 8)),
-        (50, 0, Told::Bad(0, 8)),
-    ] {
+    for (place, byte, want) in CHANGED {
         let told = with_byte(alloc, place, byte)?;
         assert!(rt; told == want, "{byte} at {place}: {told:?}");
     }
