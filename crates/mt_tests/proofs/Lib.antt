@@ -1,0 +1,4 @@
+pub mod Settling
+pub mod FirstSlot
+pub mod LongKeys
+pub mod Halves

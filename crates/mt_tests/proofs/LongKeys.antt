@@ -17,7 +17,7 @@ use Rattle.mt_arena.specs.Layering.{HasKeyAt, IsLayerOf, MayMakeLayer, entry_of,
 use Rattle.mt_arena.proofs.Down.{next_prefix}
 use Rattle.mt_arena.proofs.NextLayer.{may_make, has_below}
 use Rattle.mt_arena.proofs.LayerStays.{whole_begun, whole_rewritten}
-use Rattle.mt_arena_tests.specs.Checked.{HasLongKey}
+use Rattle.mt_tests.specs.Checked.{HasLongKey}
 
 -- the tree is made
 module _ (v : ArenaView) (k : ℕ) (key : Bytes) (pair : Pair) (arena : IsArena v.nodes v.trees) (h : HasLongKey v k key pair) where

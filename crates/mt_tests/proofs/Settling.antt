@@ -9,7 +9,7 @@ use Rattle.mt_arena.specs.Layers.{slot_at}
 use Rattle.mt_arena.specs.Settled.{IsSettled}
 use Rattle.mt_arena.specs.Arena.{ArenaView}
 use Rattle.mt_arena.specs.Accesses.{at}
-use Rattle.mt_arena_tests.specs.Checked.{KeepsUp, IsEven}
+use Rattle.mt_tests.specs.Checked.{KeepsUp, IsEven}
 
 -- one more keeps up
 pub one_more : (v : ArenaView) (k n : ℕ) → ((j : ℕ) → j < n → KeepsUp v k j) → KeepsUp v k n → (j : ℕ) → j < n + 1 → KeepsUp v k j

@@ -16,12 +16,12 @@ ghost use Rattle.mt_arena.specs.Splits.{Inserts};
 ghost use Rattle.mt_arena.specs.Several.{MaySplit};
 ghost use Rattle.mt_arena.specs.Removals.{AreBeside, MayUnlink};
 ghost use Rattle.mt_arena.specs.Accesses.{at, tree_of, IsHeld, IsOpen, MayChange};
-ghost use Rattle.mt_arena_tests.specs.Checked.{IsOwn, KeepsUp, IsEven, Takes, AreHalves, Meet, IsBare};
+ghost use Rattle.mt_tests.specs.Checked.{IsOwn, KeepsUp, IsEven, Takes, AreHalves, Meet, IsBare};
 
+use crate::rows::row_of;
 use mt_arena::{Arena, Node, Standing};
 use mt_border::laws::suffix_fits_mark;
 use mt_border::{Entry, Find, FoundKind, Held, Pair, Suffix};
-use mt_rows::{Column, Row};
 use mt_slices::StoredKey;
 use std::alloc::Global;
 use std::marker::Model;
@@ -45,15 +45,6 @@ impl Model for Checked {
     ghost invariant = { λ c. length c.arena.nodes ≡ c.count };
 }
 
-// A row of one empty column.
-fn row_of(rt: &impl Abort, alloc: Global) -> Row {
-    let mut columns = Vec::new(alloc);
-    let column = Column::new(alloc, Vec::new(alloc)).expect(rt, "memory");
-    columns.push(column).expect(rt, "memory");
-    assert!(rt; Row::fits(&columns));
-    Row::new(alloc, columns).expect(rt, "memory")
-}
-
 /// The entry of a key's pair in the top tree, with a row of one column, placed by step 6.
 pub fn entry_of(rt: &impl Abort, alloc: Global, key: &StoredKey) -> Entry
     ensures entry { IsEntry result }
@@ -63,7 +54,7 @@ pub fn entry_of(rt: &impl Abort, alloc: Global, key: &StoredKey) -> Entry
     suffix_fits_mark();
     assert!(rt; !key.as_bytes().is_empty());
     let suffix = Suffix::new(Vec::from_slice(alloc, key.suffix(0)).expect(rt, "memory"));
-    let (row, stamp) = (row_of(rt, alloc), 6);
+    let (row, stamp) = (row_of(rt, alloc, b""), 6);
     let (slice, mark) = (key.slice(0), key.mark(0));
     let held = Held::Stable(Pair { suffix, row, stamp });
     Entry { slice, mark, held }

@@ -8,7 +8,7 @@ ghost use Rattle.mt_border.specs.declared.entry.Held.TheVariants.{Stable};
 ghost use Rattle.mt_arena.specs.Layering.{IsLayerOf, entry_of as entry_in};
 ghost use Rattle.mt_arena.specs.Accesses.{at};
 ghost use Rattle.mt_arena.specs.Removals.{IsOnlyLiveNode, MayDropLayer};
-ghost use Rattle.mt_arena_tests.specs.Checked.{HasLongKey, HasLinkTo};
+ghost use Rattle.mt_tests.specs.Checked.{HasLongKey, HasLinkTo};
 
 use crate::checked::{Checked, entry_of};
 use mt_arena::{Prefix, Standing};

@@ -8,7 +8,7 @@ use Rattle.mt_arena.specs.Forests.{HasSlice, tree_at}
 use Rattle.mt_arena.specs.Arena.{ArenaView, IsArena}
 use Rattle.mt_arena.specs.Accesses.{at, tree_of}
 use Rattle.mt_arena.proofs.Separators.{separator_begins}
-use Rattle.mt_arena_tests.specs.Checked.{Takes}
+use Rattle.mt_tests.specs.Checked.{Takes}
 
 pub half_begins : (v : ArenaView) (k : ℕ) (key : Bytes) (low : ℕ) → IsArena v.nodes v.trees → Takes v k key
     → IsSeparator (slices_with (at v k).slots (slice_of key 0) (mark_of key 0)) low → HasSlice (tree_of v k).prefix low

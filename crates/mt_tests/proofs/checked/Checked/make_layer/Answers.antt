@@ -1,8 +1,8 @@
 -- The tree is the layer of the key that was asked for.
 use Rattle.std.proofs.Common.{rules}
 use Rattle.mt_border.specs.declared.entry.Pair.{Pair}
-use Rattle.mt_arena_tests.specs.Checked.{HasLongKey}
-use Rattle.mt_arena_tests.proofs.checked.Checked.make_layer.Goals as goal
+use Rattle.mt_tests.specs.Checked.{HasLongKey}
+use Rattle.mt_tests.proofs.checked.Checked.make_layer.Goals as goal
 
 pub make_link-requires : goal.make_link-requires
 make_link-requires g c =

@@ -1,8 +1,8 @@
 -- The tree may be made, and is the layer of the slot.
 use Rattle.std.proofs.Common.{rules, ◌≡◌, length}
 use Rattle.mt_arena.specs.Layering.{with_layer}
-use Rattle.mt_arena_tests.proofs.LongKeys.{may, begun_as}
-use Rattle.mt_arena_tests.proofs.checked.Checked.make_tree.Goals as goal
+use Rattle.mt_tests.proofs.LongKeys.{may, begun_as}
+use Rattle.mt_tests.proofs.checked.Checked.make_tree.Goals as goal
 
 pub make_layer-requires : goal.make_layer-requires
 make_layer-requires g c =

@@ -1,6 +1,6 @@
 use Rattle.std.proofs.Common.{◌≡◌, length, arith}
-use Rattle.mt_arena_tests.proofs.Settling.{one_more, settled}
-use Rattle.mt_arena_tests.proofs.checked.Checked.is_settled.Goals as goal
+use Rattle.mt_tests.proofs.Settling.{one_more, settled}
+use Rattle.mt_tests.proofs.checked.Checked.is_settled.Goals as goal
 
 pub loop-other-preserved : goal.loop-other-preserved
 loop-other-preserved c = one_more c.args.self.now c.args.node c.loop-other.other c.loop-other.invariant (c.keeps_up.ensures c.if-not-keeps_up.false)

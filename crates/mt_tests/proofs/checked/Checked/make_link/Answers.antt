@@ -5,8 +5,8 @@ use Rattle.mt_border.specs.declared.entry.Held.TheVariants.{Unstable, Link}
 use Rattle.mt_arena.specs.Arena.{ArenaView}
 use Rattle.mt_arena.specs.Accesses.{at}
 use Rattle.mt_arena.specs.Layering.{with_held}
-use Rattle.mt_arena_tests.proofs.LongKeys.{unstable, numbered, as_many}
-use Rattle.mt_arena_tests.proofs.checked.Checked.make_link.Goals as goal
+use Rattle.mt_tests.proofs.LongKeys.{unstable, numbered, as_many}
+use Rattle.mt_tests.proofs.checked.Checked.make_link.Goals as goal
 
 pub link-requires : goal.link-requires
 link-requires c =

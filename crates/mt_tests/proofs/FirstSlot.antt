@@ -8,7 +8,7 @@ use Rattle.mt_border.specs.Entry.{pair_of}
 use Rattle.mt_arena.specs.Layers.{slot_at}
 use Rattle.mt_arena.specs.Arena.{ArenaView, IsArena}
 use Rattle.mt_arena.specs.Accesses.{at, MayChange}
-use Rattle.mt_arena_tests.specs.Checked.{IsOwn}
+use Rattle.mt_tests.specs.Checked.{IsOwn}
 
 pub may_change : (v : ArenaView) (k : ℕ) (pair : Pair) → IsArena v.nodes v.trees → IsOwn v k → (at v k).level ≡ 0 → (at v k).version.deleted ≡ false
     → 0 < length (at v k).slots → (slot_at (at v k) 0).held ≡ Stable pair → (key : Bytes) × (p : Pair) × MayChange v k 5 key 0 p
