@@ -32,10 +32,10 @@ ghost use Rattle.mt_operation.specs.Operations.{OperationView, view_of};
 ghost use Rattle.mt_operation.specs.Tables.{op_at as operation_at};
 
 use crate::answers::Ticket;
+use crate::begins::{Opening, give_back, give_up};
 use crate::displaced::Displaced;
 use crate::drains::{give_all, least_of, none_given};
 use crate::looks::look;
-use crate::openings::{Opening, give_back, give_up};
 use crate::writes::write;
 use mt_arena::Arena;
 use mt_drains::{DrainedBatch, batch_after};

@@ -8,6 +8,7 @@
 #![tactic(auto)]
 
 pub mod answers;
+pub mod begins;
 mod climbs;
 pub mod displaced;
 mod drains;
@@ -15,7 +16,6 @@ pub mod events;
 mod inner;
 mod layers;
 mod looks;
-pub mod openings;
 mod removals;
 mod restore;
 pub mod shape;
@@ -23,9 +23,9 @@ pub mod state;
 mod writes;
 
 pub use answers::Ticket;
+pub use begins::{Opening, prepare};
 pub use displaced::Displaced;
 pub use events::{Roster, ToldList, run_events, tell};
 pub use inner::MAX_STEPS;
-pub use openings::{Opening, prepare};
 pub use shape::{Edge, Separators, ShapeLine};
 pub use state::State;

@@ -16,9 +16,9 @@ ghost use Rattle.mt_core.specs.Restores.{put_of, with_pair, IsIdle, MayPut, HasP
 ghost use Rattle.mt_rows.specs.declared.record.TenantPair.{TenantPair as AnyPair};
 
 use crate::answers::Ticket;
+use crate::begins::prepare;
 use crate::displaced::Displaced;
 use crate::inner::{Inner, MAX_STEPS};
-use crate::openings::prepare;
 use mt_rows::{Command, NamedColumns, Refusal, Reply, TenantPair, Tenants};
 use mt_state::Move;
 use std::alloc::{AllocError, Global};

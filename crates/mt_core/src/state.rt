@@ -27,9 +27,9 @@ ghost use Rattle.mt_core.specs.Restores.{IsRestored};
 ghost use Rattle.mt_operation.specs.Operations.{OperationView};
 
 use crate::answers::Ticket;
+use crate::begins::{Opening, prepare};
 use crate::displaced::Displaced;
 use crate::inner::Inner;
-use crate::openings::{Opening, prepare};
 use crate::restore::restored;
 use crate::shape::{ShapeLine, shape_of};
 use mt_drains::DrainedBatch;

@@ -4,7 +4,7 @@ use Rattle.std.specs.Prelude.{OnSome, slice_set}
 use Rattle.std.specs.Option.{option_map}
 use Rattle.std.specs.Box.{box_value}
 use Rattle.mt_operation.specs.declared.operation.Operation.{Operation}
-use Rattle.mt_core.proofs.openings.give_back.Goals as goal
+use Rattle.mt_core.proofs.begins.give_back.Goals as goal
 
 -- what holds where a box is given holds where its operation is
 given : (r : Option (Box Operation Global)) (op : Operation) (P : Type 0) → option_map box_value r ≡ Some op → OnSome r P → P

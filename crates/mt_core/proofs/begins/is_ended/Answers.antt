@@ -1,6 +1,6 @@
 -- Which operation has no step left, for `is_ended`.
 use Rattle.std.proofs.Common.{◌≡◌, Bool, true, false, not, refl, sym, ◌∙◌}
-use Rattle.mt_core.proofs.openings.is_ended.Goals as goal
+use Rattle.mt_core.proofs.begins.is_ended.Goals as goal
 
 not_true : (b : Bool) → not b ≡ true → b ≡ false
 not_true false e = refl

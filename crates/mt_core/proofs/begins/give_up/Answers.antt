@@ -5,7 +5,7 @@ use Rattle.mt_operation.specs.declared.operation.Operation.{Operation}
 use Rattle.mt_operation.specs.Operations.{view_of}
 use Rattle.mt_state.specs.Begins.{IsAnswerOf}
 use Rattle.mt_core.specs.Tidies.{IsRestOf}
-use Rattle.mt_core.proofs.openings.give_up.Goals as goal
+use Rattle.mt_core.proofs.begins.give_up.Goals as goal
 
 pub returns-clause-taken : goal.returns-clause-taken
 returns-clause-taken c = (
