@@ -3,8 +3,8 @@
 ghost use Rattle.std.specs.Prelude.{◌≡◌, ◌+◌, ◌<◌, ◌^◌, false, IsTrue, IfOk, IfErr};
 ghost use Rattle.mt_log.specs.Failures.{Reopened, StaysFailed};
 
+use crate::log_end::set_right_at;
 use crate::log_file::LogFile;
-use crate::opening::set_right_at;
 use mt_disk::{DeviceFailed, Disk};
 use std::marker::Model;
 

@@ -12,7 +12,7 @@ use crate::batch::{Front, MAX_STEP};
 use crate::failed_log::{End, FailedLog};
 use crate::fault::{AppendFault, OpenFault, ReadFault, ResumeFault};
 use crate::gate::add;
-use crate::opening::set_right;
+use crate::log_end::set_right;
 use crate::reader::{HEADER_BYTES, header};
 use crate::windows::{Found, read_front};
 use crate::writer::{batch_block, resume_block};

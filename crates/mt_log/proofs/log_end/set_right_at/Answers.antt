@@ -3,7 +3,7 @@ use Rattle.std.proofs.Common.{rules, ◌≡◌, ◌≢◌, ◌++◌, IsTrue, sym
 use Rattle.mt_disk.specs.Disk.{DiskState}
 use Rattle.mt_log.specs.Format.{open_batch}
 use Rattle.mt_log.proofs.Unsure.{kept, counted, torn_here, uncounted, after_open, after_torn}
-use Rattle.mt_log.proofs.opening.set_right_at.Goals as goal
+use Rattle.mt_log.proofs.log_end.set_right_at.Goals as goal
 
 pub returns-in_err-gate-clause-leaves : goal.returns-in_err-gate-clause-leaves
 returns-in_err-gate-clause-leaves g c honest front bytes first unsure =
