@@ -2,6 +2,6 @@ pub mod Accounts
 pub mod Asking
 pub mod Faults
 pub mod Lines
-pub mod Opening
+pub mod ServedStore
 pub mod Telling
 pub mod Workers

@@ -10,13 +10,13 @@ mod accounts;
 pub mod callers;
 mod connections;
 pub mod faults;
-pub mod opening;
 mod progress;
 pub mod running;
+pub mod served_store;
 pub mod workers;
 
 pub use callers::DeskCaller;
 pub use faults::ServerFault;
-pub use opening::{OpenStore, open_store};
 pub use running::{Ending, Totals, run_server, totals_of};
+pub use served_store::{OpenStore, open_store};
 pub use workers::SessionWorker;

@@ -17,7 +17,7 @@ use Rattle.mt_store_files.specs.Faults.{IsOfFolder, IsOfFiles}
 use Rattle.mt_store_logs.specs.declared.fault.LogRefusal.{LogRefusal}
 use Rattle.mt_store_logs.specs.declared.store_log.StoreLog.{StoreLog}
 use Rattle.mt_stored.specs.Stores.{IsNewStore, IsNotMade, IsRecoveredStore, IsNotRecoveredStore}
-use Rattle.mt_service.specs.declared.opening.OpenStore.{OpenStore}
+use Rattle.mt_service.specs.declared.served_store.OpenStore.{OpenStore}
 use Rattle.mt_service.specs.declared.faults.ServerFault.{ServerFault}
 use Rattle.mt_service.specs.declared.faults.ServerFault.TheVariants.{Refused, Memory, Store as StoreFaulty}
 use Rattle.mt_service.specs.Accounts.{AreServable, AreAccountsOf}

@@ -3,7 +3,7 @@
 ghost use Rattle.std.specs.Prelude.{◌≡◌, ◌≤◌, true, false, IfOk, IfErr};
 ghost use Rattle.mt_state.specs.Begins.{HaveNoPairs};
 ghost use Rattle.mt_store_files.specs.declared.fault.StoreFault.TheVariants.{Refused as RefusedStore};
-ghost use Rattle.mt_service.specs.Opening.{IsOpened, IsOfOpening, IsMadeOn, IsRecoveredFrom, IsOfPlace, IsAtPlace, Tells};
+ghost use Rattle.mt_service.specs.ServedStore.{IsOpened, IsOfOpening, IsMadeOn, IsRecoveredFrom, IsOfPlace, IsAtPlace, Tells};
 
 use crate::accounts::accounts_of;
 use crate::faults::ServerFault;
