@@ -1,0 +1,98 @@
+-- A new store: its logs were made, and nothing has happened.
+use Rattle.std.proofs.Common.{◌≡◌, ℕ, ◌+◌, ◌<◌, ◌≤◌, List, length, Some, None, refl, sym, ap, subst, ◌∙◌, arith}
+use Rattle.std.specs.Prelude.{slice_get}
+use Rattle.std.specs.FinMap.{empty, len, get-empty, len-empty}
+use Rattle.std.specs.Ordering.{nat_cmp}
+use Rattle.std.specs.Cmp.Lexicographic.{slice_cmp}
+use Rattle.std.proofs.lemmas.List.Elements.{All-nil}
+use Rattle.mt_rows.specs.Accounts.{Accounts}
+use Rattle.mt_rows.specs.Rows.{Columns}
+use Rattle.mt_rows.specs.Tenants.{owned_cmp}
+use Rattle.mt_rows.specs.TenantPairs.{quota_in, HasTenants, KeepsQuotas}
+use Rattle.mt_disk.specs.declared.mem.MemDisk.{MemDisk}
+use Rattle.mt_disk.specs.Mem.{mem_state}
+use Rattle.mt_log.specs.Contents.{mark_of, no_batches}
+use Rattle.mt_state.specs.Views.{StateView}
+use Rattle.mt_state.specs.Begins.{new_state}
+use Rattle.mt_state.proofs.HistoryStart.{content-new, tenant_map-empty}
+use Rattle.mt_core.specs.Rights.{IsRightState}
+use Rattle.mt_crashes.specs.Histories.{Placed}
+use Rattle.mt_crashes.specs.Stores.{LogNow, at_rest, new_store}
+use Rattle.mt_crashes.proofs.Invariant.{within_place, new_at, new_long}
+use Rattle.mt_store_logs.specs.declared.store_log.StoreLog.{StoreLog}
+use Rattle.mt_store_logs.specs.Places.{closed_on, MakesAll}
+use Rattle.mt_store_logs.proofs.Closed.{closed_at}
+use Rattle.mt_store_logs.specs.Shows.{Shows, IsHonest}
+use Rattle.mt_store_logs.proofs.CallerLemmas.{makes}
+use Rattle.mt_lives.specs.declared.serving.Serving.{Serving}
+use Rattle.mt_lives.specs.Lives.{new_standing}
+use Rattle.mt_lives.specs.Holds.{Holds}
+use Rattle.mt_lives.specs.Returns.{IsFresh}
+use Rattle.mt_lives.proofs.Flushing.{keeps_rules, failures_of, within}
+use Rattle.mt_lives.proofs.Leaving.{AllShow}
+use Rattle.mt_lives.proofs.Living.{RestAt, reach_all, BeginsWith, begins_serving}
+
+begins_new : (logs : ℕ) (accounts : Accounts) → BeginsWith accounts empty 0 logs (new_state logs accounts)
+begins_new logs accounts = record {
+  steps_are = refl;
+  logs_are = refl;
+  quiet = refl;
+  floor = refl;
+  table_is = refl;
+  contents_are = content-new;
+  quotas = λ t. refl;
+  tenants = λ t. refl;
+}
+
+-- no pair keeps every quota
+has_none : (accounts : Accounts) → HasTenants (quota_in accounts) empty
+has_none accounts key there = absurd (there (get-empty owned_cmp key))
+
+keeps_none : (accounts : Accounts) → KeepsQuotas (quota_in accounts) empty
+keeps_none accounts t most is = let none = ap len (tenant_map-empty t) ∙ len-empty (slice_cmp nat_cmp) Columns in omega (arith, none)
+
+rest_new : (count : ℕ) → RestAt 0 (new_store count).logs
+rest_new count = record {
+  rest = λ k now there. let at = new_at count 0 count k now there in at.0 ∙ ap at_rest (ap (λ (l : LogNow). l.had) (sym at.0));
+  marks = λ k now there. let at = new_at count 0 count k now there in ap (λ (l : LogNow). mark_of l.had) at.0;
+}
+
+module _ (accounts : Accounts) (old new : List (StoreLog MemDisk)) (some : 0 < length old) (few : length old ≤ 64) (disks : List MemDisk) (closed : old ≡ closed_on disks)
+    (made : MakesAll keeps_rules mem_state failures_of old new) where
+  count_new : length (new_store (length new)).logs ≡ length new
+  count_new = new_long (length new) 0 (length new)
+
+  shows_new : AllShow (new_store (length new)) new
+  shows_new = λ worker now log there at.
+      let below : worker < length old = subst (λ n. worker < n) made.len (within new worker log at) in
+      let was = within_place old worker below in
+      let c = closed_at 0 disks worker was.0 (ap (λ ls. slice_get ls worker) (sym closed) ∙ was.1) in
+      let m = makes keeps_rules mem_state failures_of worker (length old) was.0.slot log.slot (subst (λ (l : StoreLog MemDisk). IsHonest keeps_rules l.slot) (sym c.1) refl)
+      (made.each worker was.0 log below was.1 at).0 in
+      let is = new_at (length new) 0 (length new) worker now there in
+      let place : worker ≡ 0 + worker = omega arith in
+      subst (λ (n : LogNow). Shows mem_state n log.slot)
+      (ap (λ n. at_rest (no_batches worker n)) (sym made.len) ∙ ap (λ k. at_rest (no_batches k (length new))) place ∙ sym is.0) m.1
+
+  none_waits : (k : ℕ) (log : StoreLog MemDisk) → slice_get new k ≡ Some log → log.kept ≡ None
+  none_waits k log at =
+      let below : k < length old = subst (λ n. k < n) made.len (within new k log at) in
+      let was = within_place old k below in
+      (made.each k was.0 log below was.1 at).1
+
+  pub holds_new : (v : StateView) → v ≡ new_state (length new) accounts → IsRightState v → (serving : Serving) → serving.state ≡ v → IsFresh serving
+      → Holds accounts new_standing new (Some serving)
+  holds_new v is right serving state fresh = record {
+    s = new_store (length new);
+    some = subst (λ n. 0 < n) (sym made.len) some;
+    few = subst (λ n. n ≤ 64) (sym made.len) few;
+    come = (0, refl);
+    count = count_new;
+    slots = refl;
+    settled = reach_all (new_store (length new)) 0 (rest_new (length new));
+    keeps = λ m. (has_none accounts, keeps_none accounts);
+    now =
+        begins_serving accounts empty 0 (length new) v (subst (BeginsWith accounts empty 0 (length new)) (sym is) (begins_new (length new) accounts)) right
+        (new_store (length new)) refl refl count_new
+        (rest_new (length new)) (All-nil (λ (p : Placed). p.change.stamp ≤ 0)) refl serving state fresh new shows_new none_waits;
+  }

@@ -1,0 +1,76 @@
+-- What a crash ends: whatever the store was, it holds of it that no life is served.
+use Rattle.std.proofs.Common.{ℕ, ◌<◌, ◌≤◌, List, length, Option, Some, None, Result, Ok, Err, sym, subst, ◌∙◌}
+use Rattle.std.specs.Prelude.{Vec}
+use Rattle.std.specs.declared.alloc.Global.{Global}
+use Rattle.mt_rows.specs.Accounts.{Accounts}
+use Rattle.mt_disk.specs.declared.mem.MemDisk.{MemDisk}
+use Rattle.mt_core.specs.Tickets.{named}
+use Rattle.mt_crashes.specs.Stores.{Store}
+use Rattle.mt_crashes.proofs.Invariant.{within_place}
+use Rattle.mt_store_logs.specs.declared.store_log.StoreLog.{StoreLog}
+use Rattle.mt_store_logs.specs.Crashes.{AreCrashed}
+use Rattle.mt_store_logs.proofs.CallerLemmas.{crashed}
+use Rattle.mt_lives.specs.declared.serving.Serving.{Serving}
+use Rattle.mt_lives.specs.Lives.{Life, Past, Standing, past_of, crashed_to}
+use Rattle.mt_lives.specs.Holds.{HasCome, IsDown, HoldsNow, Holds}
+use Rattle.mt_lives.proofs.Served.{ends}
+use Rattle.mt_lives.proofs.Flushing.{within}
+use Rattle.mt_lives.proofs.Leaving.{AllShow, IsLeft}
+
+-- what holds of a store that serves no life
+pub holds_left : (accounts : Accounts) (standing : Standing) (past : Past) (logs : List (StoreLog MemDisk)) (s : Store) → IsLeft accounts standing.settled past (length logs) s
+    → AllShow s logs → Holds accounts (crashed_to (Err past) standing) logs None
+holds_left accounts standing past logs s l each = record {
+  s = s;
+  some = l.some;
+  few = l.few;
+  come = l.come;
+  count = l.len;
+  slots = l.slots;
+  settled = l.settled_so;
+  keeps = l.keeps;
+  now = record { down = l.down; each = each };
+}
+
+-- ---- the crash
+
+ended : (accounts : Accounts) (begun : ℕ → Option ℕ) (now : Result Life Past) (s : Store) (logs : List (StoreLog MemDisk)) (serving : Option Serving)
+    → HoldsNow accounts begun now s logs serving → IsDown accounts (past_of now) s × AllShow s logs
+ended accounts begun (Ok life) s logs (Some serving) h =
+    (ends accounts life s serving.state (named serving.roster.tickets) h.serves, λ worker now log there at. (h.each worker now log there at).stands.shows)
+ended accounts begun (Err past) s logs None h = (h.down, h.each)
+ended accounts begun (Ok life) s logs None h = absurd h
+ended accounts begun (Err past) s logs (Some serving) h = absurd h
+
+-- a crash changes nothing of what the logs show
+shows_crashed : (s : Store) (logs now_logs : List (StoreLog MemDisk)) (images : List (Vec ℕ Global)) → AllShow s logs → AreCrashed images logs now_logs → AllShow s now_logs
+shows_crashed s logs now_logs images each c = λ worker now log there at.
+    let lt : worker < length logs = subst (λ n. worker < n) c.len (within now_logs worker log at) in
+    let was = within_place logs worker lt in
+    let one = c.each worker was.0 log lt was.1 at in
+    crashed now one.0.items was.0.slot log.slot (each worker now was.0 there was.1) one.2.0
+
+-- what a crash leaves
+pub record Leaves (accounts : Accounts) (standing : Standing) (logs : List (StoreLog MemDisk)) : Type 0 where
+  pub s : Store
+  pub left : IsLeft accounts standing.settled (past_of standing.now) (length logs) s
+  pub shows : AllShow s logs
+
+pub leaves : (accounts : Accounts) (standing : Standing) (logs now_logs : List (StoreLog MemDisk)) (serving : Option Serving) (images : List (Vec ℕ Global))
+    → Holds accounts standing logs serving → AreCrashed images logs now_logs → Leaves accounts standing now_logs
+leaves accounts standing logs now_logs serving images h c =
+    let e = ended accounts standing.begun standing.now h.s logs serving h.now in
+    record {
+      s = h.s;
+      left = record {
+        some = subst (λ n. 0 < n) (sym c.len) h.some;
+        few = subst (λ n. n ≤ 64) (sym c.len) h.few;
+        come = subst (λ n. HasCome n h.s) (sym c.len) h.come;
+        len = h.count ∙ sym c.len;
+        slots = h.slots;
+        settled_so = h.settled;
+        keeps = h.keeps;
+        down = e.0;
+      };
+      shows = shows_crashed h.s logs now_logs images e.1 c;
+    }

@@ -1,0 +1,226 @@
+-- What a flush makes of a store that serves a life.
+use Rattle.std.proofs.Common.{◌≡◌, ◌≢◌, ◌⊎◌, ℕ, zero, suc, ◌+◌, ◌<◌, ◌≤◌, Bool, true, List, [], ◌∷◌, length, Option, Some, None, refl, sym, ap, subst, ◌∙◌, arith, inl, inr, ⊎_elim}
+use Rattle.std.specs.Prelude.{slice_get, slice_index_or}
+use Rattle.std.specs.List.{filter}
+use Rattle.std.proofs.lemmas.Option.{same_Some}
+use Rattle.mt_rows.specs.Accounts.{Accounts}
+use Rattle.mt_rows.specs.declared.record.Batch.{Batch}
+use Rattle.mt_rows.specs.declared.refusal.Refusal.{Refusal}
+use Rattle.mt_rows.specs.declared.refusal.Refusal.TheVariants as refusals
+use Rattle.mt_batches.specs.Batches.{IsBounded}
+use Rattle.mt_batches.proofs.Climbing.{goes_on}
+use Rattle.mt_disk.specs.declared.mem.MemDisk.{MemDisk}
+use Rattle.mt_disk.specs.Mem.{mem_state}
+use Rattle.mt_log.specs.Contents.{mark_of}
+use Rattle.mt_state.specs.Views.{StateView}
+use Rattle.mt_state.specs.Histories.{Names}
+use Rattle.mt_core.specs.Drains.{Drains}
+use Rattle.mt_drains.specs.Drains.{records_between}
+use Rattle.mt_crashes.specs.Histories.{changes_of}
+use Rattle.mt_crashes.specs.Stores.{Store, LogNow, Reaches, is_between}
+use Rattle.mt_recover.specs.declared.resuming.LogSlot.{LogSlot}
+use Rattle.mt_recover.specs.declared.resuming.LogSlot.TheVariants.{Open, Failed, Closed, Away}
+use Rattle.mt_store_logs.specs.declared.store_log.StoreLog.{StoreLog}
+use Rattle.mt_store_logs.specs.Places.{mark_in}
+use Rattle.mt_store_logs.specs.Waits.{AppendsKept, FailsToAppend, AppendsNew, FailsToAppendNew, with_kept}
+use Rattle.mt_store_logs.specs.Shows.{Shows, Stands, WaitsIn, drained_upto, IsInDoubt}
+use Rattle.mt_store_logs.proofs.CallerLemmas.{appends, fails_to_append, drained}
+use Rattle.mt_crashes.proofs.Members.{no_some}
+use Rattle.mt_lives.specs.Lives.{Life, IsMemoryOrDevice}
+use Rattle.mt_lives.specs.Holds.{HoldsChanges, HoldsKept, IsLogAt, Serves}
+use Rattle.mt_lives.proofs.Comes.{set_there, with_log, GoesTo, is_in, is_in_doubt}
+use Rattle.mt_lives.proofs.Tapes.{drained_changes}
+
+-- disks in memory keep the rules
+abbrev pub keeps_rules : MemDisk → Bool
+keeps_rules d = true
+
+abbrev pub failures_of : MemDisk → ℕ
+failures_of d = d.failures
+
+-- a log that rests reaches its mark
+rests_at_mark : (now : LogNow) (n : ℕ) → now.doubt ≡ None → mark_of now.had ≡ n → Reaches n now
+rests_at_mark now n none mark = λ front left. ⊎_elim
+    (λ same. omega (arith, ap mark_of same, mark))
+    (λ more. absurd (no_some more.0 (sym none ∙ more.1)))
+    left
+
+-- the mark of an open log
+open_mark : (now : LogNow) (slot : LogSlot MemDisk) (mark : ℕ) → Shows mem_state now slot → mark_in slot ≡ Some mark → mark ≡ mark_of now.had
+open_mark now (Open log) mark shows is = sym (same_Some log.mark mark is) ∙ shows.1.mark
+open_mark now (Failed log) mark shows is = absurd (no_some mark is)
+open_mark now (Closed disk) mark shows is = absurd (no_some mark is)
+open_mark now Away mark shows is = absurd shows
+
+-- what a drain gave holds the worker's changes
+module _ (accounts : Accounts) (life : Life) (s : Store) (v new : StateView) (names : Names) (h : Serves accounts life s v names) (worker : ℕ) (batch : Batch)
+    (d : Drains v new worker batch) where
+  pub holds_drained : life.base ≤ batch.from → HoldsChanges s worker batch
+  holds_drained le =
+      let made = d.next.made in
+      record {
+        made = omega (arith, made, h.steps);
+        records =
+            d.next.records
+            ∙ ap (λ n. records_between worker n batch.to v.tape.entries) (sym d.next.begins)
+            ∙ drained_changes worker batch.from batch.to life.base h.before v.tape.entries h.ended le
+            ∙ ap (λ ps. changes_of (filter (is_between worker batch.from batch.to) ps)) (sym h.holds);
+      }
+
+-- ---- places
+
+got : (xs : List ℕ) (k x d : ℕ) → slice_get xs k ≡ Some x → slice_index_or xs k d ≡ x
+got [] k x d e = absurd (no_some x e)
+got (y ∷ xs) zero x d e = same_Some y x e
+got (y ∷ xs) (suc k) x d e = got xs k x d e
+
+pub within : {X : Type 0} (xs : List X) (k : ℕ) (x : X) → slice_get xs k ≡ Some x → k < length xs
+within [] k x e = absurd (no_some x e)
+within (y ∷ xs) zero x e = omega arith
+within (y ∷ xs) (suc k) x e = omega (arith, within xs k x e)
+
+-- ---- refusals
+
+-- a refusal of a log is of memory or of the device
+pub of_log : (e : Refusal) (old new : StoreLog MemDisk) → FailsToAppend keeps_rules mem_state failures_of e old new → ((mark : ℕ) → e ≢ refusals.WrongTurn mark) → IsMemoryOrDevice e
+of_log refusals.Device old new f turn = inr refl
+of_log refusals.Memory old new f turn = inl refl
+of_log (refusals.WrongTurn mark) old new f turn = absurd (turn mark refl)
+of_log e old new f turn = absurd f
+
+-- ---- one log
+
+-- a batch in doubt changes nothing of how far the worker was drained
+pub doubt_drained : (kept now_kept : Option Batch) (now next : LogNow) → IsInDoubt kept now next → now_kept ≡ kept → drained_upto next now_kept ≡ drained_upto now kept
+doubt_drained None now_kept now next same is = ap (drained_upto next) is ∙ ap (λ (l : LogNow). mark_of l.had) same
+doubt_drained (Some b) now_kept now next doubt is = ap (drained_upto next) is
+
+-- a worker's log has come to stand so, and its state gave it so much
+pub record Moves (s : Store) (given : List ℕ) (worker : ℕ) (new : StoreLog MemDisk) : Type 0 where
+  pub next : LogNow
+  pub goes : GoesTo worker next s
+  pub at : IsLogAt (with_log worker next s) given worker next new
+
+module _ (accounts : Accounts) (life : Life) (s : Store) (v : StateView) (names : Names) (h : Serves accounts life s v names) (worker : ℕ) (now : LogNow) (log : StoreLog MemDisk)
+    (there : slice_get s.logs worker ≡ Some now) (at : IsLogAt s v.logs worker now log) where
+  -- the batch that waited is in the log
+  record Kept (mid : StoreLog MemDisk) : Type 0 where
+    next : LogNow
+    goes : GoesTo worker next s
+    stands : Stands keeps_rules mem_state next mid
+    upto : drained_upto next mid.kept ≡ drained_upto now log.kept
+    none : mid.kept ≡ None
+
+  kept_in : (mid : StoreLog MemDisk) → AppendsKept keeps_rules mem_state failures_of log mid → Kept mid
+  kept_in mid a =
+      let r = appends keeps_rules mem_state failures_of now log mid at.stands a in
+      record { next = r.0; goes = is_in worker s now r.0 log.kept h.serving there at.kept r.2; stands = r.1; upto = r.3; none = a.none }
+
+  -- the log was given what the state says
+  given_so : (n : ℕ) → drained_upto now log.kept ≡ n → slice_get v.logs worker ≡ Some n
+  given_so n e = at.given_so ∙ ap Some e
+
+  pub kept_moves : (mid : StoreLog MemDisk) → AppendsKept keeps_rules mem_state failures_of log mid → Moves s v.logs worker mid
+  kept_moves mid a =
+      let k = kept_in mid a in
+      record {
+        next = k.next;
+        goes = k.goes;
+        at = record {
+          stands = k.stands;
+          given_so = given_so (drained_upto k.next mid.kept) (sym k.upto);
+          kept = subst (HoldsKept (with_log worker k.next s) worker) (sym k.none) tt;
+        };
+      }
+
+  holds_same : (next : LogNow) (kept : Option Batch) → HoldsKept s worker kept → HoldsKept (with_log worker next s) worker kept
+  holds_same next None h = h
+  holds_same next (Some b) h = record { made = h.made; records = h.records }
+
+  -- it still waits
+  pub waits_moves : (e : Refusal) (new : StoreLog MemDisk) → FailsToAppend keeps_rules mem_state failures_of e log new → Moves s v.logs worker new × IsMemoryOrDevice e
+  waits_moves e new f =
+      let r = fails_to_append keeps_rules mem_state failures_of now e log new at.stands f in (
+        record {
+          next = r.0;
+          goes = is_in_doubt worker s now r.0 log.kept h.serving there at.kept r.2;
+          at = record {
+            stands = r.1;
+            given_so = given_so (drained_upto r.0 new.kept) (sym (doubt_drained log.kept new.kept now r.0 r.2 r.3));
+            kept = holds_same r.0 new.kept (subst (HoldsKept s worker) (sym r.3) at.kept);
+          };
+        },
+        of_log e log new f r.4,
+      )
+
+  -- the worker was drained, while no batch waited
+  module _ (none : log.kept ≡ None) (new : StateView) (batch : Batch) (d : Drains v new worker batch) (bounded : IsBounded batch) where
+    from_so : batch.from ≡ drained_upto now log.kept
+    from_so = d.next.begins ∙ got v.logs worker (drained_upto now log.kept) 0 at.given_so
+
+    from_base : life.base ≤ batch.from
+    from_base =
+        let reached = h.right.tape.logs.reached worker 0 (within v.logs worker (drained_upto now log.kept) at.given_so) in
+        omega (arith, reached, h.floor, d.next.begins)
+
+    -- it gave all of its changes, or 4,096
+    pub full_or_all : (batch.to ≤ v.steps) × ((batch.to ≡ v.steps) ⊎ (life.base + 4096 ≤ batch.to))
+    full_or_all = (
+      d.next.made,
+      ⊎_elim inl (λ full. let on = goes_on batch bounded.in_order in let base = from_base in inr (omega (arith, on, full, base))) d.next.ends,
+    )
+
+    holds : (next : LogNow) → HoldsChanges (with_log worker next s) worker batch
+    holds next = let k = holds_drained accounts life s v new names h worker batch d from_base in record { made = k.made; records = k.records }
+
+    now_given : slice_get new.logs worker ≡ Some batch.to
+    now_given =
+        ap (λ (w : StateView). slice_get w.logs worker) d.stands
+        ∙ set_there v.logs worker (drained_upto now log.kept) batch.to at.given_so
+
+    stands_drained : Stands keeps_rules mem_state now (with_kept batch log)
+    stands_drained = drained keeps_rules mem_state now log batch at.stands none bounded.in_order from_so
+
+    holds_here : HoldsChanges s worker batch
+    holds_here = holds_drained accounts life s v new names h worker batch d from_base
+
+    -- its batch is in the log, which goes up to its end
+    pub flushed : (last : StoreLog MemDisk) → AppendsNew keeps_rules mem_state failures_of batch log last → (m : Moves s new.logs worker last) × Reaches batch.to m.next
+    flushed last a =
+        let b = a.appends in
+        let r = appends keeps_rules mem_state failures_of now (with_kept batch log) last stands_drained b in
+        let at_end : mark_of r.0.had ≡ batch.to = ap (drained_upto r.0) (sym b.none) ∙ r.3 in
+        let rests_so : r.0.doubt ≡ None = subst (WaitsIn r.0) b.none r.1.waits in (
+          record {
+            next = r.0;
+            goes = is_in worker s now r.0 (Some batch) h.serving there holds_here r.2;
+            at = record {
+              stands = r.1;
+              given_so = now_given ∙ ap Some (sym r.3);
+              kept = subst (HoldsKept (with_log worker r.0 s) worker) (sym b.none) tt;
+            };
+          },
+          rests_at_mark r.0 batch.to rests_so at_end,
+        )
+
+    -- it is never out of turn
+    never_elsewhere : (mark : ℕ) → mark_in log.slot ≡ Some mark → batch.from ≢ mark → ⊥
+    never_elsewhere mark is elsewhere = elsewhere (from_so ∙ ap (drained_upto now) none ∙ sym (open_mark now log.slot mark at.stands.shows is))
+
+    -- its batch waits
+    pub keeps_moves : (last : StoreLog MemDisk) (e : Refusal) → FailsToAppendNew keeps_rules mem_state failures_of e batch log last
+        → Moves s new.logs worker last × IsMemoryOrDevice e
+    keeps_moves last e (inr out) = absurd (never_elsewhere out.mark out.open_up_to out.elsewhere)
+    keeps_moves last e (inl f) =
+        let r = fails_to_append keeps_rules mem_state failures_of now e (with_kept batch log) last stands_drained f in (
+          record {
+            next = r.0;
+            goes = is_in_doubt worker s now r.0 (Some batch) h.serving there holds_here r.2;
+            at = record {
+              stands = r.1;
+              given_so = now_given ∙ ap Some (sym (doubt_drained (Some batch) last.kept now r.0 r.2 r.3));
+              kept = subst (HoldsKept (with_log worker r.0 s) worker) (sym r.3) (holds r.0);
+            };
+          },
+          of_log e (with_kept batch log) last f r.4,
+        )

@@ -1,0 +1,132 @@
+-- A log of a store that serves comes to be another one: what the store tells of the others, and of its life, stays.
+use Rattle.std.proofs.Common.{◌≡◌, ◌≢◌, ◌⊎◌, ℕ, zero, suc, ◌<◌, ◌≤◌, List, [], ◌∷◌, ◌++◌, map, length, Option, Some, None, refl, sym, ap, subst, ◌∙◌, arith, inl, inr}
+use Rattle.std.specs.Prelude.{slice_get, slice_set}
+use Rattle.std.specs.Ordering.{nat_cmp}
+use Rattle.std.specs.BTreeMap.{BTreeMap, get}
+use Rattle.std.proofs.lemmas.Bool.{cases_eq}
+use Rattle.std.proofs.lemmas.List.{length-set}
+use Rattle.std.proofs.lemmas.Option.{same_Some}
+use Rattle.mt_rows.specs.Accounts.{Accounts}
+use Rattle.mt_rows.specs.declared.record.Batch.{Batch}
+use Rattle.mt_disk.specs.declared.mem.MemDisk.{MemDisk}
+use Rattle.mt_state.specs.Views.{StateView, op_at, granted}
+use Rattle.mt_state.specs.Histories.{Names, History}
+use Rattle.mt_core.specs.Drains.{Drains}
+use Rattle.mt_core.specs.Rights.{IsRightState}
+use Rattle.mt_crashes.specs.Stores.{Store, LogNow, AllReach}
+use Rattle.mt_store_logs.specs.declared.store_log.StoreLog.{StoreLog}
+use Rattle.mt_lives.specs.declared.serving.Settle.{Settle}
+use Rattle.mt_lives.specs.Lives.{Life, firsts, story_in}
+use Rattle.mt_lives.specs.Holds.{quotas_of, HasCome, LeadsTo, placed_of, HoldsKept, IsLogAt, EachLog, IsSettleIn, AreSettles, Serves}
+use Rattle.mt_lives.proofs.Comes.{set_there, with_log, reached_on}
+
+pub set_other : {X : Type 0} (xs : List X) (i k : ℕ) (y : X) → k ≢ i → slice_get (slice_set xs i y) k ≡ slice_get xs k
+set_other [] i k y other = refl
+set_other (x ∷ xs) zero zero y other = absurd (other refl)
+set_other (x ∷ xs) zero (suc k) y other = refl
+set_other (x ∷ xs) (suc i) zero y other = refl
+set_other (x ∷ xs) (suc i) (suc k) y other = set_other xs i k y (λ e. other (ap suc e))
+
+pub set_length : {X : Type 0} (xs : List X) (i : ℕ) (y : X) → length (slice_set xs i y) ≡ length xs
+set_length xs i y = length-set xs i y
+
+-- what reaches a number does so in whatever the store comes to
+pub all_on : (count k : ℕ) (s t : Store) → 0 < count → count ≤ 64 → HasCome count s → LeadsTo s t → AllReach k s → AllReach k t
+all_on count k s t some few come leads all = λ worker. reached_on count k worker s t some few come leads (all worker)
+
+-- the Settles stand
+settle_on : (count : ℕ) (s t : Store) → 0 < count → count ≤ 64 → HasCome count s → LeadsTo s t → s.steps ≤ t.steps → length t.logs ≡ length s.logs
+    → (begun : Option ℕ) (settle : Option Settle) → IsSettleIn s begun settle → IsSettleIn t begun settle
+settle_on count s t some few come leads steps len None None h = h
+settle_on count s t some few come leads steps len (Some begun) (Some settle) h = record {
+  same = h.same;
+  made = omega (arith, steps, h.made);
+  least = h.least;
+  next = subst (λ n. settle.next < n) (sym len) h.next;
+  before = λ worker lt. reached_on count settle.least worker s t some few come leads (h.before worker lt);
+}
+settle_on count s t some few come leads steps len None (Some settle) h = h
+settle_on count s t some few come leads steps len (Some begun) None h = h
+
+pub settles_on : (count : ℕ) (s t : Store) → 0 < count → count ≤ 64 → HasCome count s → LeadsTo s t → s.steps ≤ t.steps → length t.logs ≡ length s.logs
+    → (begun : ℕ → Option ℕ) (settles : BTreeMap ℕ Settle) → AreSettles s begun settles → AreSettles t begun settles
+settles_on count s t some few come leads steps len begun settles all = λ id.
+    settle_on count s t some few come leads steps len (begun id) (get nat_cmp settles id) (all id)
+
+module _ (accounts : Accounts) (life : Life) (s : Store) (v : StateView) (names : Names) (h : Serves accounts life s v names) where
+  -- the life goes on at the store with another log
+  pub serves_logged : (count worker : ℕ) (next : LogNow) → 0 < count → count ≤ 64 → HasCome count s → LeadsTo s (with_log worker next s)
+      → Serves accounts life (with_log worker next s) v names
+  serves_logged count worker next some few come leads =
+      let len : length (slice_set s.logs worker next) ≡ length s.logs = set_length s.logs worker next in
+      record {
+        serving = h.serving;
+        steps = h.steps;
+        logs = h.logs ∙ sym len;
+        history = h.history;
+        tenants = h.tenants;
+        right = h.right;
+        floor = h.floor;
+        workers = λ n op there. subst (λ m. op.worker < m) (sym len) (h.workers n op there);
+        before = h.before;
+        ended = h.ended;
+        first = h.first;
+        holds = h.holds;
+        reach = all_on count life.base s (with_log worker next s) some few come leads h.reach;
+      }
+
+  -- and by a state that was drained
+  pub serves_drained : (new : StateView) (worker : ℕ) (batch : Batch) → Drains v new worker batch → IsRightState new → Serves accounts life s new names
+  serves_drained new worker batch d right =
+      let drained : StateView = record v { logs = slice_set v.logs worker batch.to } in
+      let history : History (quotas_of accounts) (firsts life) (story_in life) names drained = record {
+        right = h.history.right;
+        quota = h.history.quota;
+        count = h.history.count;
+        made = h.history.made;
+        told = λ o n e.
+            let t = h.history.told o n e in
+            (t.0, t.1, record { asked_so = t.2.asked_so; first = t.2.first; last = t.2.last; still = t.2.still; unfinished = t.2.unfinished; changes = t.2.changes; own = t.2.own; placed = t.2.placed });
+        apart = h.history.apart;
+        all = h.history.all;
+        free = h.history.free;
+        owners = h.history.owners;
+      } in
+      let same = sym d.stands in
+      record {
+        serving = h.serving;
+        steps = ap (λ (w : StateView). w.steps) d.stands ∙ h.steps;
+        logs = ap (λ (w : StateView). length w.logs) d.stands ∙ set_length v.logs worker batch.to ∙ h.logs;
+        history = subst (λ (w : StateView). History (quotas_of accounts) (firsts life) (story_in life) names w) same history;
+        tenants = λ t. ap (λ (w : StateView). granted w t) d.stands ∙ h.tenants t;
+        right = right;
+        floor = ap (λ (w : StateView). w.tape.floor) d.stands ∙ h.floor;
+        workers = λ n op there. h.workers n op (ap (λ (w : StateView). op_at w.table n) same ∙ there);
+        before = h.before;
+        ended = h.ended;
+        first = h.first;
+        holds = h.holds ∙ ap (λ (w : StateView). h.before ++ map placed_of w.tape.entries) same;
+        reach = h.reach;
+      }
+
+-- each log but one stands as it did
+pub each_logged : (s : Store) (logs : List (StoreLog MemDisk)) (given now_given : List ℕ) (worker : ℕ) (was next : LogNow) (old new : StoreLog MemDisk)
+    → slice_get s.logs worker ≡ Some was → slice_get logs worker ≡ Some old → IsLogAt (with_log worker next s) now_given worker next new
+    → ((k : ℕ) → k ≢ worker → slice_get now_given k ≡ slice_get given k)
+    → EachLog (IsLogAt s given) s logs → EachLog (IsLogAt (with_log worker next s) now_given) (with_log worker next s) (slice_set logs worker new)
+each_logged s logs given now_given worker was next old new there here at others all k now log is_now is_log = by (cases_eq k worker)
+  where
+    kept : (kept : Option Batch) → HoldsKept s k kept → HoldsKept (with_log worker next s) k kept
+    kept None h = h
+    kept (Some b) h = record { made = h.made; records = h.records }
+
+    by : (k ≡ worker) ⊎ (k ≢ worker) → IsLogAt (with_log worker next s) now_given k now log
+    by (inl same) =
+        let n : next ≡ now = same_Some next now (sym (set_there s.logs worker was next there) ∙ subst (λ j. slice_get (slice_set s.logs worker next) j ≡ Some now) same is_now) in
+        let l : new ≡ log = same_Some new log (sym (set_there logs worker old new here) ∙ subst (λ j. slice_get (slice_set logs worker new) j ≡ Some log) same is_log) in
+        subst (λ (x : StoreLog MemDisk). IsLogAt (with_log worker next s) now_given k now x) l
+        (subst (λ (x : LogNow). IsLogAt (with_log worker next s) now_given k x new) n
+        (subst (λ j. IsLogAt (with_log worker next s) now_given j next new) (sym same) at))
+    by (inr other) =
+        let a = all k now log (sym (set_other s.logs worker k next other) ∙ is_now) (sym (set_other logs worker k new other) ∙ is_log) in
+        record { stands = a.stands; given_so = others k other ∙ a.given_so; kept = kept log.kept a.kept }

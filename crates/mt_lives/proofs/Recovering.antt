@@ -1,0 +1,132 @@
+-- A store whose logs rest is recovered: up to the cutoff it is as it was, and nothing else is left of the life that ended.
+use Rattle.std.proofs.Common.{◌≡◌, ℕ, ◌≤◌, min, false, not, ◌&&◌, List, ◌∷◌, map, Option, refl, sym, ap, subst, ◌∙◌, arith, inl, inr, ⊎_elim}
+use Rattle.std.specs.Prelude.{nat_lt}
+use Rattle.std.specs.FinMap.{empty}
+use Rattle.std.proofs.lemmas.Bool.{cases_lt, lt-ltb, le-ltb}
+use Rattle.mt_rows.specs.Accounts.{Accounts}
+use Rattle.mt_rows.specs.Tenants.{Contents as Pairs}
+use Rattle.mt_rows.specs.TenantPairs.{quota_in, HasTenants, KeepsQuotas}
+use Rattle.mt_rows.specs.declared.refusal.Refusal.{Refusal}
+use Rattle.mt_rows.specs.declared.refusal.Refusal.TheVariants as refusals
+use Rattle.mt_log.specs.Contents.{Contents}
+use Rattle.mt_crashes.specs.Fronts.{cutoff_of, after_changes}
+use Rattle.mt_crashes.specs.Histories.{Placed, upto, changes_of, pairs_upto, after_recovery}
+use Rattle.mt_crashes.specs.Recoveries.{resume_of, IsRecovered}
+use Rattle.mt_crashes.specs.Stores.{Store, at_rest, MayLeaveFronts, MayLeaveSlots, Recovers, AllReach}
+use Rattle.mt_crashes.proofs.Members.{filter_filter, filter_same}
+use Rattle.mt_crashes.proofs.Heart.{recovered, settled}
+use Rattle.mt_recover.specs.Refusals.{IsRefusal}
+use Rattle.mt_recover.proofs.OwnFiles.{for_memory}
+use Rattle.mt_store_logs.specs.Recovers.{no_checkpoints}
+use Rattle.mt_lives.specs.Lives.{Past, AreLeftOf, KeepsUpto}
+use Rattle.mt_lives.specs.Holds.{quotas_of, LeadsTo}
+use Rattle.mt_lives.proofs.Comes.{stays_here, one_more, comes_on}
+use Rattle.mt_lives.proofs.Logged.{all_on}
+use Rattle.mt_lives.proofs.Walking.{rest_leaves}
+use Rattle.mt_lives.proofs.Leaving.{IsLeft}
+
+-- ---- two cutoffs
+
+both_tests : (first next n : ℕ) → (not (nat_lt first n) && not (nat_lt next n)) ≡ not (nat_lt (min next first) n)
+both_tests first next n = ⊎_elim
+    (λ over. ap (λ b. not b && not (nat_lt next n)) (lt-ltb first n over) ∙ sym (ap not (lt-ltb (min next first) n (omega (arith, over)))))
+    (λ within. ap (λ b. not b && not (nat_lt next n)) (le-ltb first n within) ∙ ⊎_elim
+    (λ over. ap not (lt-ltb next n over) ∙ sym (ap not (lt-ltb (min next first) n (omega (arith, over)))))
+    (λ below. ap not (le-ltb next n below) ∙ sym (ap not (le-ltb (min next first) n (omega (arith, within, below)))))
+    (cases_lt next n))
+    (cases_lt first n)
+
+-- what a recovery left, up to a number
+pub upto_twice : (next first : ℕ) (history : List Placed) → upto next (upto first history) ≡ upto (min next first) history
+upto_twice next first history =
+    filter_filter (λ (p : Placed). not (nat_lt next p.change.stamp)) (λ (p : Placed). not (nat_lt first p.change.stamp)) history
+    ∙ filter_same (λ (p : Placed). not (nat_lt first p.change.stamp) && not (nat_lt next p.change.stamp)) (λ (p : Placed). not (nat_lt (min next first) p.change.stamp)) history
+    (λ p at. both_tests first next p.change.stamp)
+
+pub pairs_twice : (next first : ℕ) (history : List Placed) → pairs_upto next (upto first history) ≡ pairs_upto (min next first) history
+pairs_twice next first history = ap (λ ps. after_changes empty (changes_of ps)) (upto_twice next first history)
+
+-- ---- the recovery
+
+-- a store as a recovery leaves it
+abbrev pub recovered_from : List Contents → Store → Store
+recovered_from fronts s = record {
+  steps = resume_of fronts no_checkpoints;
+  history = after_recovery (cutoff_of fronts) s.history;
+  logs = s.logs;
+  slots = s.slots;
+  serving = false;
+  placed = upto (resume_of fronts no_checkpoints) s.placed;
+  voids = (cutoff_of fronts, resume_of fronts no_checkpoints) ∷ s.voids;
+  reached = resume_of fronts no_checkpoints;
+}
+
+-- what is kept of a life that ended
+abbrev pub kept_upto : ℕ → Past → Past
+kept_upto cutoff past = record { life = past.life; kept = min past.kept cutoff }
+
+module _ (accounts : Accounts) (settled_by : ℕ) (past : Past) (count : ℕ) (s : Store) (fronts : List Contents) (l : IsLeft accounts settled_by past count s)
+    (rest : s.logs ≡ map at_rest fronts) where
+  left_fronts : MayLeaveFronts s.logs fronts
+  left_fronts = subst (λ ls. MayLeaveFronts ls fronts) (sym rest) (rest_leaves fronts)
+
+  left_slots : MayLeaveSlots s.slots no_checkpoints
+  left_slots = subst (λ ss. MayLeaveSlots ss no_checkpoints) (sym l.slots) (inl refl, (inl refl, tt))
+
+  -- what all logs reach is kept
+  reached : (n : ℕ) → AllReach n s → n ≤ cutoff_of fronts
+  reached n all = settled count l.come.0 n s fronts l.some l.few l.come.1 all left_fronts
+
+  pub settled_kept : settled_by ≤ cutoff_of fronts
+  settled_kept = reached settled_by l.settled_so
+
+  pub base_kept : past.life.base ≤ cutoff_of fronts
+  base_kept = reached past.life.base l.down.reach
+
+  -- why it may be refused
+  pub refused : (e : Refusal) → IsRefusal fronts no_checkpoints (quota_in accounts) e → e ≡ refusals.Memory
+  refused e is = for_memory count l.come.0 s fronts l.some l.few l.come.1 left_fronts (quota_in accounts) no_checkpoints e left_slots l.keeps is
+
+  -- what is found
+  pub found_so : (cutoff resume : ℕ) (used : Option ℕ) (found : Pairs) → IsRecovered fronts no_checkpoints cutoff resume used found
+      → found ≡ pairs_upto cutoff s.history
+  found_so cutoff resume used found r = recovered count l.come.0 s fronts no_checkpoints cutoff resume used found l.some l.few l.come.1 left_fronts left_slots r
+
+  pub recovers_to : LeadsTo s (recovered_from fronts s)
+  recovers_to =
+      let r : Recovers s (recovered_from fronts s) = record { fronts = fronts; read = no_checkpoints; rest = rest; rest_slots = l.slots; stands = refl } in
+      one_more s s (recovered_from fronts s) (stays_here s s refl) (inr (inr (inr (inr (inl r)))))
+
+  pub left_recovered : IsLeft accounts settled_by (kept_upto (cutoff_of fronts) past) count (recovered_from fronts s)
+  left_recovered =
+      let t = recovered_from fronts s in
+      let cutoff = cutoff_of fronts in
+      record {
+        some = l.some;
+        few = l.few;
+        come = comes_on count s t l.come recovers_to;
+        len = l.len;
+        slots = l.slots;
+        settled_so = all_on count settled_by s t l.some l.few l.come recovers_to l.settled_so;
+        keeps = λ m. subst (λ (c : Pairs). HasTenants (quota_in accounts) c × KeepsQuotas (quota_in accounts) c) (sym (pairs_twice m cutoff s.history)) (l.keeps (min m cutoff));
+        down = record {
+          left = λ next le.
+              let was = l.down.left (min next cutoff) (omega (arith, le, base_kept)) in
+              let number : min past.kept (min next cutoff) ≡ min (min past.kept cutoff) next = omega arith in
+              subst (λ n. AreLeftOf (quotas_of accounts) past.life n (pairs_upto next (upto cutoff s.history))) number
+              (subst (AreLeftOf (quotas_of accounts) past.life (min past.kept (min next cutoff))) (sym (pairs_twice next cutoff s.history)) was);
+          reach = all_on count past.life.base s t l.some l.few l.come recovers_to l.down.reach;
+        };
+      }
+
+  -- what is kept of the life
+  pub keeps_upto : KeepsUpto settled_by past (kept_upto (cutoff_of fronts) past)
+  keeps_upto = record { cutoff = cutoff_of fronts; settled_so = settled_kept; same = refl; kept = refl }
+
+  -- and what is found are its pairs
+  pub found_left : (cutoff resume : ℕ) (used : Option ℕ) (found : Pairs) → IsRecovered fronts no_checkpoints cutoff resume used found
+      → AreLeftOf (quotas_of accounts) past.life (min past.kept cutoff) found
+  found_left cutoff resume used found r =
+      let same = r.cutoff_is in
+      subst (AreLeftOf (quotas_of accounts) past.life (min past.kept cutoff)) (sym (found_so cutoff resume used found r))
+      (l.down.left cutoff (omega (arith, same, base_kept)))

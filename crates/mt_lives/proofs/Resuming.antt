@@ -1,0 +1,242 @@
+-- Behind a recovery each log gets its resume batch, or, where that fails, keeps it in doubt or does without.
+use Rattle.std.proofs.Common.{◌≡◌, ℕ, ◌<◌, ◌≤◌, ◌^◌, false, List, ◌∷◌, map, length, Option, Some, None, refl, sym, ap, subst, ◌∙◌, arith, inl, inr, ⊎_elim}
+use Rattle.std.specs.Prelude.{slice_get, slice_set}
+use Rattle.std.proofs.lemmas.Bool.{cases_lt}
+use Rattle.std.proofs.lemmas.Option.{same_Some}
+use Rattle.mt_rows.specs.declared.refusal.Refusal.{Refusal}
+use Rattle.mt_rows.specs.declared.refusal.Refusal.TheVariants as refusals
+use Rattle.mt_disk.specs.declared.mem.MemDisk.{MemDisk}
+use Rattle.mt_disk.specs.Mem.{mem_state}
+use Rattle.mt_log.specs.declared.batch.LogBatch.{LogBatch}
+use Rattle.mt_log.specs.declared.batch.LogBatch.TheVariants.{Resume}
+use Rattle.mt_log.specs.Contents.{Contents, Rises, mark_of, with_batch}
+use Rattle.mt_crashes.specs.Fronts.{Numbers, HoldResume}
+use Rattle.mt_crashes.specs.Stores.{Store, LogNow, at_rest, Resumes}
+use Rattle.mt_crashes.proofs.FrontLaws.{mark_more, resume_right}
+use Rattle.mt_crashes.proofs.Invariant.{within_place, map_place}
+use Rattle.mt_recover.specs.declared.resuming.LogSlot.{LogSlot}
+use Rattle.mt_recover.specs.Resumes.{FailsToResume}
+use Rattle.mt_store_logs.specs.declared.store_log.StoreLog.{StoreLog}
+use Rattle.mt_store_logs.specs.Lists.{StopsAt}
+use Rattle.mt_store_logs.specs.Recovers.{ResumesLog, FailsToResumeLog, ResumesAll, StopsResumingAt}
+use Rattle.mt_store_logs.specs.Shows.{Shows}
+use Rattle.mt_store_logs.proofs.CallerLemmas.{resumes, fails_to_resume}
+use Rattle.mt_lives.specs.Lives.{IsMemoryOrDevice}
+use Rattle.mt_lives.specs.Holds.{LeadsTo}
+use Rattle.mt_lives.proofs.Comes.{set_there, set_same, stays_here, one_more, then_to, and_then, to_rest}
+use Rattle.mt_lives.proofs.Logged.{set_other, set_length}
+use Rattle.mt_lives.proofs.Flushing.{keeps_rules, failures_of, within}
+use Rattle.mt_lives.proofs.Walking.{with_logs, Walked, walk}
+use Rattle.mt_lives.proofs.Leaving.{ShowsIn, AllShow}
+use Rattle.mt_lives.proofs.Opening.{honest}
+
+-- the batch with which a recovery ends at a log, and that log with it, for certain or not
+abbrev pub resume_batch : ℕ → ℕ → Contents → LogBatch
+resume_batch kept to c = Resume (mark_of c) to kept
+
+abbrev pub resumed_log : ℕ → ℕ → Contents → LogNow
+resumed_log kept to c = at_rest (with_batch (resume_batch kept to c) c)
+
+abbrev pub doubted_log : ℕ → ℕ → Contents → LogNow
+doubted_log kept to c = record { had = c; doubt = Some (resume_batch kept to c) }
+
+of_resume : (kept to : ℕ) (e : Refusal) (old new : LogSlot MemDisk) → FailsToResume keeps_rules mem_state failures_of kept to e old new → IsMemoryOrDevice e
+of_resume kept to refusals.Device old new f = inr refl
+of_resume kept to refusals.Memory old new f = inl refl
+of_resume kept to e old new f = absurd f
+
+-- a log at a place has its resume batch, and shows so
+record HasBatch (kept to : ℕ) (new : List (StoreLog MemDisk)) (k : ℕ) (was next : LogNow) : Type 0 where
+  front : Contents
+  rested : was ≡ at_rest front
+  rises : Rises (resume_batch kept to front)
+  is : next ≡ resumed_log kept to front
+  shows : (log : StoreLog MemDisk) → slice_get new k ≡ Some log → ShowsIn k next log
+
+module _ (t : Store) (kept : ℕ) (before : List Numbers) (off : t.serving ≡ false) (last : t.voids ≡ (kept, t.reached) ∷ before) (fits : t.reached ≤ 2 ^ 59) where
+  begins : (ls : List LogNow) (k : ℕ) (c : Contents) → slice_get ls k ≡ Some (at_rest c) → Rises (resume_batch kept t.reached c)
+      → LeadsTo (with_logs ls t) (with_logs (slice_set ls k (doubted_log kept t.reached c)) t)
+  begins ls k c there rises =
+      let old = with_logs ls t in
+      let new = with_logs (slice_set ls k (doubted_log kept t.reached c)) t in
+      let r : Resumes old new = record {
+        recovers = off;
+        worker = k;
+        had = c;
+        rests = there;
+        kept = kept;
+        before = before;
+        last = last;
+        rises = rises;
+        fits = fits;
+        stands = refl;
+      } in
+      one_more old old new (stays_here old old refl) (inr (inr (inr (inr (inr (inl r))))))
+
+  ends_with : (ls : List LogNow) (k : ℕ) (c : Contents) → slice_get ls k ≡ Some (at_rest c) → Rises (resume_batch kept t.reached c)
+      → LeadsTo (with_logs ls t) (with_logs (slice_set ls k (resumed_log kept t.reached c)) t)
+  ends_with ls k c there rises =
+      let doubt = doubted_log kept t.reached c in
+      and_then k (with_logs ls t) (at_rest c) doubt (resumed_log kept t.reached c) there (begins ls k c there rises)
+      (to_rest k (with_logs (slice_set ls k doubt) t) doubt (with_batch (resume_batch kept t.reached c) c) (set_there ls k (at_rest c) doubt there)
+      (inr (resume_batch kept t.reached c, refl, refl)))
+
+  module _ (fronts : List Contents) (rest : t.logs ≡ map at_rest fronts) (old new : List (StoreLog MemDisk)) (count : length t.logs ≡ length old) (len : length new ≡ length old)
+      (each : AllShow t old) where
+    abbrev Has : ℕ → LogNow → LogNow → Type 0
+    Has = HasBatch kept t.reached new
+
+    goes : (ls : List LogNow) (k : ℕ) (was next : LogNow) → slice_get ls k ≡ Some was → Has k was next → LeadsTo (with_logs ls t) (with_logs (slice_set ls k next) t)
+    goes ls k was next there h =
+        subst (λ (n : LogNow). LeadsTo (with_logs ls t) (with_logs (slice_set ls k n) t)) (sym h.is)
+        (ends_with ls k h.front (there ∙ ap Some h.rested) h.rises)
+
+    front_at : (k : ℕ) (now : LogNow) → slice_get t.logs k ≡ Some now → (c : Contents) × (now ≡ at_rest c)
+    front_at k now there =
+        let c = map_place at_rest fronts k now (ap (λ ls. slice_get ls k) (sym rest) ∙ there) in
+        (c.0, c.2)
+
+    -- one log
+    has : (k : ℕ) (now : LogNow) (was is : StoreLog MemDisk) → slice_get t.logs k ≡ Some now → slice_get old k ≡ Some was → slice_get new k ≡ Some is
+        → ResumesLog keeps_rules mem_state failures_of kept t.reached was is → (next : LogNow) × Has k now next
+    has k now was is there was_there is_there r =
+        let c = front_at k now there in
+        let shows : Shows mem_state (at_rest c.0) was.slot = subst (λ (n : LogNow). Shows mem_state n was.slot) c.1 (each k now was there was_there) in
+        let a = resumes keeps_rules mem_state failures_of c.0 kept t.reached was.slot is.slot (honest (at_rest c.0) was.slot shows) shows fits r.0 in (
+          resumed_log kept t.reached c.0,
+          record {
+            front = c.0;
+            rested = c.1;
+            rises = a.0;
+            is = refl;
+            shows = λ log at. subst (λ (l : StoreLog MemDisk). ShowsIn k (resumed_log kept t.reached c.0) l) (same_Some is log (sym is_there ∙ at)) a.2;
+          },
+        )
+
+    -- ---- all of them
+
+    pub record ResumedAll : Type 0 where
+      pub logs : List LogNow
+      pub leads : LeadsTo t (with_logs logs t)
+      pub len_so : length logs ≡ length t.logs
+      pub rest_so : (k : ℕ) (now : LogNow) → slice_get logs k ≡ Some now → now ≡ at_rest now.had
+      pub marks : (k : ℕ) (now : LogNow) → slice_get logs k ≡ Some now → mark_of now.had ≡ t.reached
+      pub held : (k : ℕ) (now : LogNow) → slice_get logs k ≡ Some now → HoldResume t.reached now.had.batches
+      pub shows : AllShow (with_logs logs t) new
+
+    resumed_by : (logs : List LogNow) → Walked t Has goes (length t.logs) t.logs logs → ResumedAll
+    resumed_by logs w =
+        let there : (k : ℕ) (now : LogNow) → slice_get logs k ≡ Some now → (was : LogNow) × Has k was now = λ k now at.
+        let below : k < length t.logs = subst (λ n. k < n) w.len (within logs k now at) in
+        let was = within_place t.logs k below in
+        let e = w.each k was.0 below was.1 in
+        (was.0, subst (λ (n : LogNow). Has k was.0 n) (same_Some e.0 now (sym e.1 ∙ at)) e.2) in
+        record {
+          logs = logs;
+          leads = w.leads;
+          len_so = w.len;
+          rest_so = λ k now at. let h = (there k now at).1 in h.is ∙ ap at_rest (ap (λ (n : LogNow). n.had) (sym h.is));
+          marks = λ k now at.
+              let h = (there k now at).1 in
+              ap (λ (n : LogNow). mark_of n.had) h.is ∙ mark_more (resume_batch kept t.reached h.front) h.front;
+          held = λ k now at.
+              let h = (there k now at).1 in
+              subst (λ (n : LogNow). HoldResume t.reached n.had.batches) (sym h.is)
+              (resume_right t.reached (resume_batch kept t.reached h.front) h.front.batches refl);
+          shows = λ k now log at at_log. (there k now at).1.shows log at_log;
+        }
+
+    pub all_resumed : ResumesAll keeps_rules mem_state failures_of kept t.reached old new → ResumedAll
+    all_resumed all =
+        let w = walk t Has goes (length t.logs) t.logs (omega arith) (λ k now lt there.
+        let below : k < length old = subst (λ n. k < n) count lt in
+        let was = within_place old k below in
+        let is = within_place new k (subst (λ n. k < n) (sym len) below) in
+        has k now was.0 is.0 there was.1 is.1 (all.each k was.0 is.0 below was.1 is.1)) in
+        resumed_by w.0 w.1
+
+    -- ---- some of them
+
+    pub record ResumedInPart (e : Refusal) : Type 0 where
+      pub logs : List LogNow
+      pub leads : LeadsTo t (with_logs logs t)
+      pub len_so : length logs ≡ length t.logs
+      pub shows : AllShow (with_logs logs t) new
+      pub cause : IsMemoryOrDevice e
+
+    module _ (e : Refusal) (place : ℕ)
+        (stops : StopsAt (λ k was is. ResumesLog keeps_rules mem_state failures_of kept t.reached was is) (FailsToResumeLog keeps_rules mem_state failures_of kept t.reached e) place old new) where
+      place_within : place < length t.logs
+      place_within = subst (λ n. place < n) (sym count) (within old place stops.was stops.was_there)
+
+      here : (now : LogNow) × (slice_get t.logs place ≡ Some now)
+      here = within_place t.logs place place_within
+
+      -- the log there
+      record Stopped (logs : List LogNow) : Type 0 where
+        next : LogNow
+        goes_there : LeadsTo (with_logs logs t) (with_logs (slice_set logs place next) t)
+        shows : ShowsIn place next stops.is
+
+      stopped : (logs : List LogNow) → slice_get logs place ≡ Some here.0 → Stopped logs
+      stopped logs there =
+          let c = front_at place here.0 here.1 in
+          let shows : Shows mem_state (at_rest c.0) stops.was.slot = subst (λ (n : LogNow). Shows mem_state n stops.was.slot) c.1 (each place here.0 stops.was here.1 stops.was_there) in
+          let f = fails_to_resume keeps_rules mem_state failures_of c.0 kept t.reached e stops.was.slot stops.is.slot (honest (at_rest c.0) stops.was.slot shows) shows fits stops.fails.0 in
+          ⊎_elim
+          (λ same. record {
+            next = at_rest c.0;
+            goes_there =
+                stays_here (with_logs logs t) (with_logs (slice_set logs place (at_rest c.0)) t)
+                (ap (λ ls. with_logs ls t) (set_same logs place (at_rest c.0) (there ∙ ap Some c.1)));
+            shows = same;
+          })
+          (λ doubt. record {
+            next = doubted_log kept t.reached c.0;
+            goes_there = begins logs place c.0 (there ∙ ap Some c.1) doubt.0;
+            shows = doubt.1;
+          })
+          f.1
+
+      stopped_by : (logs : List LogNow) → Walked t Has goes place t.logs logs → ResumedInPart e
+      stopped_by logs w =
+          let there : slice_get logs place ≡ Some here.0 = w.behind place (omega arith) ∙ here.1 in
+          let at = stopped logs there in
+          let last = slice_set logs place at.next in
+          record {
+            logs = last;
+            leads = then_to t (with_logs logs t) (with_logs last t) w.leads at.goes_there;
+            len_so = set_length logs place at.next ∙ w.len;
+            shows = λ k now log at_now at_log. ⊎_elim
+                (λ earlier.
+                let was = within_place t.logs k (omega (arith, earlier, place_within)) in
+                let x = w.each k was.0 earlier was.1 in
+                let now_is : x.0 ≡ now = same_Some x.0 now (sym x.1 ∙ sym (set_other logs place k at.next (λ same. omega (arith, same, earlier))) ∙ at_now) in
+                subst (λ (n : LogNow). ShowsIn k n log) now_is (x.2.shows log at_log))
+                (λ from. ⊎_elim
+                (λ behind.
+                each k now log
+                (sym (w.behind k from) ∙ sym (set_other logs place k at.next (λ same. omega (arith, same, behind))) ∙ at_now)
+                (sym (stops.behind k behind) ∙ at_log))
+                (λ upto.
+                let same : k ≡ place = omega (arith, from, upto) in
+                let now_is : at.next ≡ now = same_Some at.next now (sym (set_there logs place here.0 at.next there) ∙ subst (λ j. slice_get last j ≡ Some now) same at_now) in
+                let log_is : stops.is ≡ log = same_Some stops.is log (sym stops.is_there ∙ subst (λ j. slice_get new j ≡ Some log) same at_log) in
+                subst (λ j. ShowsIn j now log) (sym same) (subst (λ (n : LogNow). ShowsIn place n log) now_is (subst (λ (l : StoreLog MemDisk). ShowsIn place at.next l) log_is at.shows)))
+                (cases_lt place k))
+                (cases_lt k place);
+            cause = of_resume kept t.reached e stops.was.slot stops.is.slot stops.fails.0;
+          }
+
+      pub resumed_before : ResumedInPart e
+      resumed_before =
+          let w = walk t Has goes place t.logs (omega (arith, place_within)) (λ k now lt there.
+          let below : k < length old = subst (λ n. k < n) count (omega (arith, lt, place_within)) in
+          let was = within_place old k below in
+          let is = within_place new k (subst (λ n. k < n) (sym len) below) in
+          has k now was.0 is.0 there was.1 is.1 (stops.before k was.0 is.0 lt was.1 is.1)) in
+          stopped_by w.0 w.1
+
+    pub resumed_in_part : (at : Option ℕ) (e : Refusal) → StopsResumingAt keeps_rules mem_state failures_of kept t.reached at e old new → ResumedInPart e
+    resumed_in_part None e stops = absurd stops
+    resumed_in_part (Some place) e stops = resumed_before e place stops

@@ -1,0 +1,314 @@
+-- What a recovery makes of a store that a crash left, in each of its outcomes.
+use Rattle.std.proofs.Common.{◌≡◌, ℕ, ◌<◌, ◌≤◌, ◌^◌, min, Result, List, map, length, Option, Some, None, Ok, Err, refl, sym, ap, subst, ◌∙◌, arith, inl, inr, ⊎_elim}
+use Rattle.std.specs.Prelude.{slice_get, Vec, IfOk}
+use Rattle.std.specs.declared.alloc.Global.{Global}
+use Rattle.std.specs.List.{All}
+use Rattle.std.proofs.lemmas.List.Elements.{All-weaker}
+use Rattle.mt_rows.specs.Accounts.{Accounts}
+use Rattle.mt_rows.specs.TenantPairs.{pairs_of, quota_in}
+use Rattle.mt_rows.specs.declared.refusal.Refusal.{Refusal}
+use Rattle.mt_disk.specs.declared.mem.MemDisk.{MemDisk}
+use Rattle.mt_disk.specs.Mem.{mem_state}
+use Rattle.mt_log.specs.declared.batch.Front.{Front}
+use Rattle.mt_log.specs.Contents.{Contents, contents_of}
+use Rattle.mt_core.specs.Restores.{IsRestored}
+use Rattle.mt_core.specs.Rights.{IsRightState}
+use Rattle.mt_state.specs.Views.{StateView}
+use Rattle.mt_crashes.specs.Fronts.{cutoff_of}
+use Rattle.mt_crashes.specs.Histories.{Placed, pairs_upto}
+use Rattle.mt_crashes.specs.Recoveries.{resume_of, IsRecovered}
+use Rattle.mt_crashes.specs.Stores.{Store}
+use Rattle.mt_crashes.proofs.FrontLaws.{cutoff_upto_last}
+use Rattle.mt_crashes.proofs.Invariant.{within_place}
+use Rattle.mt_recover.specs.Refusals.{IsRefusal}
+use Rattle.mt_recover.specs.declared.recovering.Recovered.{Recovered as Found}
+use Rattle.mt_store_logs.specs.declared.fault.LogRefusal.{LogRefusal}
+use Rattle.mt_store_logs.specs.declared.store_log.StoreLog.{StoreLog}
+use Rattle.mt_store_logs.specs.Crashes.{AreCrashed}
+use Rattle.mt_store_logs.specs.Places.{OpensAll, StopsOpening, StopsOpeningAt}
+use Rattle.mt_store_logs.specs.Recovers.{no_checkpoints, ResumesAll, StopsResumingAt, ServesAgain, IsNotRecovered}
+use Rattle.mt_store_logs.proofs.ForResumes.{last_within, resumes_last}
+use Rattle.mt_lives.specs.declared.events.StoreEvent.{StoreEvent}
+use Rattle.mt_lives.specs.declared.events.StoreEvent.TheVariants.{Crash}
+use Rattle.mt_lives.specs.declared.events.StoreNote.{StoreNote}
+use Rattle.mt_lives.specs.declared.events.StoreNote.TheVariants.{Recovered, Refused, NoSuch}
+use Rattle.mt_lives.specs.declared.serving.Serving.{Serving}
+use Rattle.mt_lives.specs.Lives.{Life, Past, Standing, past_of, life_from, MayKeep, AreLeftOf, IsMemoryOrDevice, crashed_to}
+use Rattle.mt_lives.specs.Holds.{quotas_of, HasCome, HoldsServing, Holds}
+use Rattle.mt_lives.proofs.Comes.{comes_on}
+use Rattle.mt_lives.proofs.Logged.{all_on}
+use Rattle.mt_lives.specs.Returns.{IsFresh, Begins, AreRecovered, AreNotRecovered}
+use Rattle.mt_lives.specs.Steps.{GoesOn, CrashesTo}
+use Rattle.mt_lives.proofs.Flushing.{keeps_rules, failures_of, within}
+use Rattle.mt_lives.proofs.Walking.{with_logs}
+use Rattle.mt_lives.proofs.Leaving.{AllShow, IsLeft, left_on}
+use Rattle.mt_lives.proofs.Crashing.{holds_left, Leaves, leaves}
+use Rattle.mt_lives.proofs.Opening.{all_opened, in_part}
+use Rattle.mt_lives.proofs.Opening as opening
+use Rattle.mt_lives.proofs.Recovering.{recovered_from, kept_upto, refused, found_so, found_left, settled_kept, keeps_upto, left_recovered}
+use Rattle.mt_lives.proofs.Resuming.{all_resumed, resumed_in_part}
+use Rattle.mt_lives.proofs.Resuming as resuming
+use Rattle.mt_lives.proofs.Living.{RestAt, served, serves_now, made_upto, begins_restored, begins_serving}
+
+-- ---- lengths
+
+opening_len : (at : Option ℕ) (e : Refusal) (old new : List (StoreLog MemDisk)) → StopsOpeningAt keeps_rules mem_state failures_of at e old new → length new ≡ length old
+opening_len None e old new stops = ap length stops.1
+opening_len (Some place) e old new stops = stops.len
+
+resuming_len : (kept to : ℕ) (at : Option ℕ) (e : Refusal) (old new : List (StoreLog MemDisk)) → StopsResumingAt keeps_rules mem_state failures_of kept to at e old new → length new ≡ length old
+resuming_len kept to None e old new stops = absurd stops
+resuming_len kept to (Some place) e old new stops = stops.len
+
+module _ (accounts : Accounts) (standing : Standing) (old : List (StoreLog MemDisk)) (from : Leaves accounts standing old) where
+  abbrev s : Store
+  s = from.s
+
+  abbrev past : Past
+  past = past_of standing.now
+
+  abbrev IsLeftAs : Past → Store → Type 0
+  IsLeftAs past_now t = IsLeft accounts standing.settled past_now (length old) t
+
+  -- a recovery was refused: the store serves no life, and keeps so much of the last one
+  pub record Refuses (new : List (StoreLog MemDisk)) : Type 0 where
+    pub past_now : Past
+    pub kept : MayKeep standing.settled (past_of standing.now) past_now
+    pub holds : Holds accounts (crashed_to (Err past_now) standing) new None
+
+  holds_so : (past_now : Past) (t : Store) (new : List (StoreLog MemDisk)) → length new ≡ length old → IsLeftAs past_now t → AllShow t new
+      → Holds accounts (crashed_to (Err past_now) standing) new None
+  holds_so past_now t new len l each = holds_left accounts standing past_now new t (subst (λ n. IsLeft accounts standing.settled past_now n t) (sym len) l) each
+
+  -- ---- a log was not opened
+
+  pub not_opened : (e : LogRefusal) (new : List (StoreLog MemDisk)) → StopsOpening keeps_rules mem_state failures_of e old new → IsMemoryOrDevice e.refusal × Refuses new
+  not_opened e new stops =
+      let len = opening_len e.log e.refusal old new stops in
+      let o = in_part s old new from.left.len len from.shows e.log e.refusal stops in
+      let t = with_logs o.logs s in (
+        o.cause,
+        record {
+          past_now = past;
+          kept = inl refl;
+          holds = holds_so past t new len (left_on accounts standing.settled past (length old) s t from.left o.leads o.len_so refl refl) o.shows;
+        },
+      )
+
+  -- ---- all were
+
+  module _ (mid : List (StoreLog MemDisk)) (fronts : List Front) (opens : OpensAll keeps_rules mem_state failures_of old mid fronts) where
+    abbrev found : List Contents
+    found = map contents_of fronts
+
+    opened : opening.Opened s old mid from.left.len opens.each.len from.shows fronts opens
+    opened = all_opened s old mid from.left.len opens.each.len from.shows fronts opens
+
+    abbrev rested : Store
+    rested = with_logs opened.logs s
+
+    left_rested : IsLeftAs past rested
+    left_rested = left_on accounts standing.settled past (length old) s rested from.left opened.leads opened.len_so refl refl
+
+    -- they are refused
+    pub refused_for : (e : Refusal) → IsRefusal found no_checkpoints (quota_in accounts) e → IsMemoryOrDevice e × Refuses mid
+    refused_for e is = (
+      inl (refused accounts standing.settled past (length old) rested found left_rested opened.rest e is),
+      record { past_now = past; kept = inl refl; holds = holds_so past rested mid opens.each.len left_rested opened.shows },
+    )
+
+    -- they are recovered
+    abbrev recovered : Store
+    recovered = recovered_from found rested
+
+    abbrev past_kept : Past
+    past_kept = kept_upto (cutoff_of found) past
+
+    left_now : IsLeftAs past_kept recovered
+    left_now = left_recovered accounts standing.settled past (length old) rested found left_rested opened.rest
+
+    keeps : MayKeep standing.settled past past_kept
+    keeps = inr (keeps_upto accounts standing.settled past (length old) rested found left_rested opened.rest)
+
+    module _ (r : Found) (is : IsRecovered found no_checkpoints r.cutoff r.resume r.used (pairs_of r.pairs.items)) where
+      fits : resume_of found no_checkpoints ≤ 2 ^ 59
+      fits =
+          let last = last_within keeps_rules mem_state failures_of old mid fronts opens in
+          let resumes = resumes_last found r.cutoff r.resume r.used (pairs_of r.pairs.items) is in
+          let same = is.resume_is in
+          omega (arith, last, resumes, same)
+
+      count_mid : length recovered.logs ≡ length mid
+      count_mid = opened.len_so ∙ from.left.len ∙ sym opens.each.len
+
+      pub settled_upto : standing.settled ≤ r.cutoff
+      settled_upto =
+          let kept_so = settled_kept accounts standing.settled past (length old) rested found left_rested opened.rest in
+          let same = is.cutoff_is in
+          omega (arith, kept_so, same)
+
+      pub left_of : AreLeftOf (quotas_of accounts) past.life (min past.kept r.cutoff) (pairs_of r.pairs.items)
+      left_of = found_left accounts standing.settled past (length old) rested found left_rested opened.rest r.cutoff r.resume r.used (pairs_of r.pairs.items) is
+
+      -- a log has its resume batch not for certain
+      pub not_resumed : (e : LogRefusal) (new : List (StoreLog MemDisk)) → StopsResumingAt keeps_rules mem_state failures_of r.cutoff r.resume e.log e.refusal mid new
+          → IsMemoryOrDevice e.refusal × Refuses new
+      not_resumed e new stops =
+          let len = resuming_len r.cutoff r.resume e.log e.refusal mid new stops in
+          let to = subst (λ n. StopsResumingAt keeps_rules mem_state failures_of (cutoff_of found) n e.log e.refusal mid new) is.resume_is
+          (subst (λ n. StopsResumingAt keeps_rules mem_state failures_of n r.resume e.log e.refusal mid new) is.cutoff_is stops) in
+          let o = resumed_in_part recovered (cutoff_of found) rested.voids refl refl fits found opened.rest mid new count_mid len opened.shows e.log e.refusal to in
+          let t = with_logs o.logs recovered in (
+            o.cause,
+            record {
+              past_now = past_kept;
+              kept = keeps;
+              holds = holds_so past_kept t new (len ∙ opens.each.len)
+                  (left_on accounts standing.settled past_kept (length old) recovered t left_now o.leads o.len_so refl refl) o.shows;
+            },
+          )
+
+      -- all have theirs
+      module _ (new : List (StoreLog MemDisk)) (resumes : ResumesAll keeps_rules mem_state failures_of r.cutoff r.resume mid new) where
+        to_found : ResumesAll keeps_rules mem_state failures_of (cutoff_of found) (resume_of found no_checkpoints) mid new
+        to_found =
+            subst (λ n. ResumesAll keeps_rules mem_state failures_of (cutoff_of found) n mid new) is.resume_is
+            (subst (λ n. ResumesAll keeps_rules mem_state failures_of n r.resume mid new) is.cutoff_is resumes)
+
+        resumed : resuming.ResumedAll recovered (cutoff_of found) rested.voids refl refl fits found opened.rest mid new count_mid resumes.len opened.shows
+        resumed = all_resumed recovered (cutoff_of found) rested.voids refl refl fits found opened.rest mid new count_mid resumes.len opened.shows to_found
+
+        abbrev last : Store
+        last = with_logs resumed.logs recovered
+
+        left_last : IsLeftAs past_kept last
+        left_last = left_on accounts standing.settled past_kept (length old) recovered last left_now resumed.leads resumed.len_so refl refl
+
+        -- but there is no state
+        pub without_state : Refuses new
+        without_state = record { past_now = past_kept; kept = keeps; holds = holds_so past_kept last new (resumes.len ∙ opens.each.len) left_last resumed.shows }
+
+        -- the state serves
+        module _ (v : StateView) (logs : ℕ) (restored : IsRestored r.resume logs accounts r.pairs.items v) (right : IsRightState v) (count : length new ≡ logs)
+            (serving : Serving) (state : serving.state ≡ v) (fresh : IsFresh serving) where
+          abbrev next : Life
+          next = life_from (pairs_of r.pairs.items) r.resume
+
+          rest_at : RestAt (resume_of found no_checkpoints) resumed.logs
+          rest_at = record { rest = resumed.rest_so; marks = resumed.marks }
+
+          cutoff_within : cutoff_of found ≤ r.resume
+          cutoff_within =
+              let resumes_at = resumes_last found r.cutoff r.resume r.used (pairs_of r.pairs.items) is in
+              let least = cutoff_upto_last found in
+              omega (arith, resumes_at, least)
+
+          ended : All (λ p. p.change.stamp ≤ r.resume) last.history
+          ended = All-weaker (λ (p : Placed). p.change.stamp ≤ cutoff_of found) (λ p. p.change.stamp ≤ r.resume) (λ p le. omega (arith, le, cutoff_within)) last.history
+              (made_upto (cutoff_of found) s.history)
+
+          found_now : pairs_of r.pairs.items ≡ pairs_upto (cutoff_of found) s.history
+          found_now =
+              found_so accounts standing.settled past (length old) rested found left_rested opened.rest r.cutoff r.resume r.used (pairs_of r.pairs.items) is
+              ∙ ap (λ n. pairs_upto n s.history) is.cutoff_is
+
+          none_kept : (k : ℕ) (log : StoreLog MemDisk) → slice_get new k ≡ Some log → log.kept ≡ None
+          none_kept k log at =
+              let below : k < length mid = subst (λ n. k < n) resumes.len (within new k log at) in
+              let here = within_place mid k below in
+              let first : k < length old = subst (λ n. k < n) opens.each.len below in
+              let was = within_place old k first in
+              (resumes.each k here.0 log below here.1 at).1 ∙ (opens.each.each k was.0 here.0 first was.1 here.1).2.1
+
+          count_logs : length last.logs ≡ logs
+          count_logs = resumed.len_so ∙ count_mid ∙ sym resumes.len ∙ count
+
+          serving_now : HoldsServing accounts (λ id. None) next (served last) new serving
+          serving_now =
+              begins_serving accounts (pairs_of r.pairs.items) r.resume logs v (begins_restored accounts r.resume logs r.pairs.items v restored) right (served last) refl (sym is.resume_is) count_logs
+              (subst (λ n. RestAt n resumed.logs) (sym is.resume_is) rest_at) ended found_now serving state fresh new resumed.shows none_kept
+
+          -- the next life
+          pub with_state : Holds accounts (crashed_to (Ok next) standing) new (Some serving)
+          with_state =
+              let goes = serves_now last refl rest_at resumed.held in
+              let len : length new ≡ length old = resumes.len ∙ opens.each.len in
+              record {
+                s = served last;
+                some = subst (λ n. 0 < n) (sym len) left_last.some;
+                few = subst (λ n. n ≤ 64) (sym len) left_last.few;
+                come = subst (λ n. HasCome n (served last)) (sym len) (comes_on (length old) last (served last) left_last.come goes);
+                count = left_last.len ∙ sym len;
+                slots = left_last.slots;
+                settled = all_on (length old) standing.settled last (served last) left_last.some left_last.few left_last.come goes left_last.settled_so;
+                keeps = left_last.keeps;
+                now = serving_now;
+              }
+
+  -- ---- each outcome
+
+  pub not_recovered : (e : LogRefusal) (new : List (StoreLog MemDisk)) → IsNotRecovered keeps_rules mem_state failures_of accounts e old new
+      → IsMemoryOrDevice e.refusal × Refuses new
+  not_recovered e new (inl stops) = not_opened e new stops
+  not_recovered e new (inr (inl r)) = refused_for new r.fronts r.opens e.refusal r.refused
+  not_recovered e new (inr (inr p)) = not_resumed p.mid p.fronts p.opens p.r p.recovers.recovered e new p.stops
+
+  pub recovered_down : (r : Found) (new : List (StoreLog MemDisk)) → ServesAgain keeps_rules mem_state failures_of accounts r old new → Refuses new
+  recovered_down r new a = without_state a.mid a.fronts a.opens r a.recovers.recovered new a.resumes
+
+  pub recovered_up : (r : Found) (new : List (StoreLog MemDisk)) → ServesAgain keeps_rules mem_state failures_of accounts r old new
+      → (v : StateView) → IsRestored r.resume (length new) accounts r.pairs.items v → IsRightState v → (serving : Serving) → serving.state ≡ v → IsFresh serving
+      → (next : Standing) × (standing.settled ≤ r.cutoff) × AreLeftOf (quotas_of accounts) (past_of standing.now).life (min (past_of standing.now).kept r.cutoff) (pairs_of r.pairs.items)
+      × (next ≡ crashed_to (Ok (life_from (pairs_of r.pairs.items) r.resume)) standing) × Holds accounts next new (Some serving)
+  recovered_up r new a v restored right serving state fresh = (
+    crashed_to (Ok (life_from (pairs_of r.pairs.items) r.resume)) standing,
+    settled_upto a.mid a.fronts a.opens r a.recovers.recovered,
+    left_of a.mid a.fronts a.opens r a.recovers.recovered,
+    refl,
+    with_state a.mid a.fronts a.opens r a.recovers.recovered new a.resumes v (length new) restored right refl serving state fresh,
+  )
+
+-- ---- what is noted of a crash
+
+module _ (accounts : Accounts) (old mid new : List (StoreLog MemDisk)) (was : Option Serving) (images : List (Vec ℕ Global)) (crashed : AreCrashed images old mid) where
+  -- the store is recovered
+  pub crashes_recovered : (r : Found) (serving : Serving) → AreRecovered accounts r mid new → Begins accounts r (length new) serving
+      → CrashesTo accounts (Recovered r) old was new (Some serving)
+  crashes_recovered r serving again begins = λ named standing h.
+      let from = leaves accounts standing old mid was images h crashed in
+      let up = recovered_up accounts standing mid from r new again serving.state begins.state begins.right serving refl begins.fresh in
+      (up.0, (up.1, up.2, up.3), up.4)
+
+  -- or not
+  pub crashes_refused : (e : Refusal) → AreNotRecovered accounts e mid new → CrashesTo accounts (Refused e) old was new None
+  crashes_refused e not = λ named standing h.
+      let from = leaves accounts standing old mid was images h crashed in
+      ⊎_elim
+      (λ refused.
+      let down = not_recovered accounts standing mid from refused.0 new refused.2 in (
+        crashed_to (Err down.1.past_now) standing,
+        (subst IsMemoryOrDevice refused.1 down.0, (down.1.past_now, down.1.kept, refl)),
+        down.1.holds,
+      ))
+      (λ memory.
+      let down = recovered_down accounts standing mid from memory.1.0 new memory.1.1 in (
+        crashed_to (Err down.past_now) standing,
+        (inl memory.0, (down.past_now, down.kept, refl)),
+        down.holds,
+      ))
+      not.cause
+
+-- it did not crash
+pub crashes_not : (accounts : Accounts) (old new : List (StoreLog MemDisk)) (was now : Option Serving) → new ≡ old → now ≡ was → CrashesTo accounts NoSuch old was new now
+crashes_not accounts old new was now same same_serving = λ named standing h.
+    (standing, refl, subst (λ logs. Holds accounts standing logs now) (sym same) (subst (Holds accounts standing old) (sym same_serving) h))
+
+-- an event that is a crash, whatever its call answers
+pub crashed_goes : {E : Type 0} (accounts : Accounts) (images : Vec (Vec ℕ Global) Global) (event : StoreEvent) (first old new last : List (StoreLog MemDisk)) (was serving : Option Serving)
+    (result : Result StoreNote E) → event ≡ Crash images → first ≡ old → new ≡ last → IfOk result (λ note. CrashesTo accounts note first was new serving)
+    → IfOk result (λ note. GoesOn accounts event note old was last serving)
+crashed_goes accounts images event first old new last was serving (Ok note) is same_old same_new crashes =
+    subst (λ e. GoesOn accounts e note old was last serving) (sym is)
+    (subst (λ logs. GoesOn accounts (Crash images) note logs was last serving) same_old
+    (subst (λ logs. GoesOn accounts (Crash images) note first was logs serving) same_new (crashes images)))
+crashed_goes accounts images event first old new last was serving (Err e) is same_old same_new crashes = tt

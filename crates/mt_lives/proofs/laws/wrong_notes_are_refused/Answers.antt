@@ -1,0 +1,35 @@
+use Rattle.std.proofs.Common.{◌≡◌, Result, sym, ap, ◌∙◌, arith, ⊎_elim}
+use Rattle.std.proofs.lemmas.Option.{same_Some}
+use Rattle.mt_lives.specs.Lives.{Life, Past, steps_in}
+use Rattle.mt_lives.proofs.Goes.{ok_life}
+use Rattle.mt_lives.proofs.laws.wrong_notes_are_refused.Goals as goal
+
+pub returns-clause-settled_number_lost : goal.returns-clause-settled_number_lost
+returns-clause-settled_number_lost c quotas old new images r lt noted = let kept = noted.0 in omega (arith, kept, lt)
+
+pub returns-clause-settle_before_it_began : goal.returns-clause-settle_before_it_began
+returns-clause-settle_before_it_began c quotas old new id begun number is lt noted =
+    let same : begun ≡ noted.1 = same_Some begun noted.1 (sym is ∙ noted.3) in
+    let least = noted.4 in
+    omega (arith, lt, same, least)
+
+pub returns-clause-settle_past_the_last_step : goal.returns-clause-settle_past_the_last_step
+returns-clause-settle_past_the_last_step c quotas old new life id number is lt noted =
+    let same : steps_in life ≡ steps_in noted.0 = ap (λ (n : Result Life Past). steps_in (ok_life life n)) (sym is ∙ noted.2) in
+    let most = noted.5 in
+    omega (arith, lt, same, most)
+
+pub returns-clause-own_files_are_bad : goal.returns-clause-own_files_are_bad
+returns-clause-own_files_are_bad c quotas old new images log offset noted = ⊎_elim (λ e. absurd cc) (λ e. absurd cc) noted.0
+
+pub returns-clause-own_stamps_fall : goal.returns-clause-own_stamps_fall
+returns-clause-own_stamps_fall c quotas old new images log stamp noted = ⊎_elim (λ e. absurd cc) (λ e. absurd cc) noted.0
+
+pub returns-clause-own_pairs_are_too_many : goal.returns-clause-own_pairs_are_too_many
+returns-clause-own_pairs_are_too_many c quotas old new images tenant noted = ⊎_elim (λ e. absurd cc) (λ e. absurd cc) noted.0
+
+pub returns-clause-operation_of_no_life : goal.returns-clause-operation_of_no_life
+returns-clause-operation_of_no_life c quotas old new life e is noted = noted.0 (life, is)
+
+pub returns-clause-open_settle_of_no_name : goal.returns-clause-open_settle_of_no_name
+returns-clause-open_settle_of_no_name c quotas old new life id is none noted = ⊎_elim (λ not. not (life, is)) (λ begun. begun none) noted.0

@@ -1,0 +1,93 @@
+-- An event that is a crash, and any other, of a store that serves or does not.
+use Rattle.std.proofs.Common.{rules, ◌≡◌, ◌++◌, List, length, take, drop, Some, refl, sym, ap, subst, ◌∙◌}
+use Rattle.std.proofs.Math.Seq.{take-append_seam}
+use Rattle.mt_disk.specs.declared.mem.MemDisk.{MemDisk}
+use Rattle.mt_store_logs.specs.declared.store_log.StoreLog.{StoreLog}
+use Rattle.mt_store_logs.specs.Places.{AreInOrder}
+use Rattle.mt_lives.specs.Holds.{quotas_of, Holds}
+use Rattle.mt_lives.specs.Steps.{IsServedBy}
+use Rattle.std.specs.Prelude.{IfOk}
+use Rattle.mt_lives.specs.declared.events.StoreNote.TheVariants.{NoSuch}
+use Rattle.mt_lives.specs.Forced.{IsCrashForced, IsForced}
+use Rattle.mt_lives.proofs.Forcing.{none_forced, crash_forced, served_forced}
+use Rattle.mt_lives.proofs.Returning.{crashed_goes}
+use Rattle.mt_lives.proofs.Happening.{no_crash, nothing_noted, serves_none, served_count, served_workers, served_goes}
+use Rattle.mt_lives.proofs.running.happen.Goals as goal
+
+pub returns-in-Crash-clause-goes : goal.returns-in-Crash-clause-goes
+returns-in-Crash-clause-goes c =
+    let items = c.args.store.now.logs.items in
+    let new = c.crash.new.logs in
+    let behind = drop (length new) items in
+    let len : c.args.store.now.logs.len ≡ length new = search rules in
+    let whole : take c.args.store.now.logs.len (new ++ behind) ≡ new = ap (λ n. take n (new ++ behind)) len ∙ take-append_seam new behind in
+    crashed_goes c.args.tenants.now c.in-Crash.images c.args.event.now c.deref_mut.result.now items new (take c.args.store.now.logs.len (new ++ behind)) c.args.store.now.serving c.crash.new.serving
+    c.crash.result c.in-Crash.is c.deref_mut.ensures.value (sym whole) c.crash.ensures.crashes
+
+pub returns-in-Crash-clause-forced : goal.returns-in-Crash-clause-forced
+returns-in-Crash-clause-forced c =
+    let items = c.args.store.now.logs.items in
+    let new = c.crash.new.logs in
+    let behind = drop (length new) items in
+    let len : c.args.store.now.logs.len ≡ length new = search rules in
+    let whole : take c.args.store.now.logs.len (new ++ behind) ≡ new = ap (λ n. take n (new ++ behind)) len ∙ take-append_seam new behind in
+    crash_forced c.deref_mut.result.now items new (take c.args.store.now.logs.len (new ++ behind)) c.crash.result c.deref_mut.ensures.value (sym whole) c.args.tenants.now c.args.event.now
+    c.in-Crash.images c.args.store.now.serving c.in-Crash.is
+    (subst (λ images. IfOk c.crash.result (λ note. IsCrashForced c.args.tenants.now images note c.deref_mut.result.now new)) c.deref.ensures.value c.crash.ensures.forced)
+
+pub returns-in-Crash-clause-workers : goal.returns-in-Crash-clause-workers
+returns-in-Crash-clause-workers c =
+    let items = c.args.store.now.logs.items in
+    let new = c.crash.new.logs in
+    let behind = drop (length new) items in
+    let len : c.args.store.now.logs.len ≡ length new = search rules in
+    let whole : take c.args.store.now.logs.len (new ++ behind) ≡ new = ap (λ n. take n (new ++ behind)) len ∙ take-append_seam new behind in
+    served_workers c.deref_mut.result.now items new (take c.args.store.now.logs.len (new ++ behind)) c.crash.result c.deref_mut.ensures.value (sym whole) c.crash.ensures.workers
+
+pub serve-requires : goal.serve-requires
+serve-requires c =
+    let value = sym c.deref_mut-in-Some.ensures.value in
+    let held = c.requires.held in
+    record {
+      held = (
+        c.args.tenants.now,
+        held.0,
+        subst (λ logs. Holds c.args.tenants.now held.0 logs (Some c.in-Some.serving)) value
+            (subst (Holds c.args.tenants.now held.0 c.args.store.now.logs.items) c.in-Some.is held.1),
+      );
+      order = subst AreInOrder value c.requires.order;
+      worker = subst (λ (logs : List (StoreLog MemDisk)). IsServedBy (length logs) c.args.event.now) value c.requires.worker;
+      serves = no_crash c.args.event.now c.in_default.not-Crash;
+    }
+
+pub returns-in-Some : goal.returns-in-Some
+returns-in-Some c =
+    let items = c.args.store.now.logs.items in
+    let new = c.serve.new.logs in
+    let behind = drop (length new) items in
+    let last = take c.args.store.now.logs.len (new ++ behind) in
+    let len : c.args.store.now.logs.len ≡ length new = search rules in
+    let whole : take c.args.store.now.logs.len (new ++ behind) ≡ new = ap (λ n. take n (new ++ behind)) len ∙ take-append_seam new behind in
+    let value = c.deref_mut-in-Some.ensures.value in
+    record {
+      count = served_count c.deref_mut-in-Some.result.now items new last c.serve.result value (sym whole) c.serve.ensures.count;
+      workers = served_workers c.deref_mut-in-Some.result.now items new last c.serve.result value (sym whole) c.serve.ensures.workers;
+      goes =
+          served_goes c.deref_mut-in-Some.result.now items new last c.serve.result value (sym whole) c.args.tenants.now c.args.event.now c.in-Some.serving c.serve.new.serving
+          c.args.store.now.serving c.in-Some.is c.serve.ensures.goes;
+      forced =
+          served_forced c.deref_mut-in-Some.result.now items new last c.serve.result value (sym whole) c.args.tenants.now c.args.event.now c.in-Some.serving c.args.store.now.serving
+          c.in-Some.is c.serve.ensures.forced;
+    }
+
+pub returns-in-None : goal.returns-in-None
+returns-in-None c = record {
+  count = refl;
+  workers = refl;
+  goes = λ standing h.
+      let held = subst (Holds c.args.tenants.now standing c.args.store.now.logs.items) c.in-None.is h in
+      (standing, nothing_noted (quotas_of c.args.tenants.now) standing c.args.event.now (serves_none c.args.tenants.now standing c.args.store.now.logs.items held), h);
+  forced =
+      subst (λ s. IsForced c.args.tenants.now c.args.event.now NoSuch c.args.store.now.logs.items s c.args.store.now.logs.items) (sym c.in-None.is)
+      (none_forced c.args.tenants.now c.args.event.now c.args.store.now.logs.items (no_crash c.args.event.now c.in_default.not-Crash));
+}

@@ -1,0 +1,21 @@
+-- The events lead on from a new store.
+use Rattle.std.proofs.Common.{subst}
+use Rattle.std.specs.List.{zip}
+use Rattle.mt_lives.specs.Lives.{new_standing}
+use Rattle.mt_lives.specs.Forced.{AreForced}
+use Rattle.mt_lives.proofs.running.run_store_events.Goals as goal
+
+pub returns-clause-lives : goal.returns-clause-lives
+returns-clause-lives c = let on = c.in_ok-notes.ensures.goes new_standing c.in_ok-store.ensures.ok in (on.0, on.1)
+
+pub returns-clause-forced : goal.returns-clause-forced
+returns-clause-forced c =
+    let serves = c.in_ok-store.ensures.serves in
+    let new = c.note_all.new.store in
+    record {
+      first = c.in_ok-store.store.logs.items;
+      made = c.in_ok-store.ensures.made;
+      serving = serves.0;
+      forced =
+          subst (λ s. AreForced c.args.tenants.now (zip c.args.events.now c.in_ok-notes.notes.items) c.in_ok-store.store.logs.items s new.logs.items new.serving) serves.1 c.in_ok-notes.ensures.forced;
+    }

@@ -1,0 +1,55 @@
+-- What an event makes of a store as it runs.
+use Rattle.std.specs.Prelude.{◌≡◌, ◌≢◌, ℕ, ◌+◌, min, List, Option, Some, None, Vec}
+use Rattle.std.specs.Ordering.{nat_cmp}
+use Rattle.std.specs.BTreeMap.{BTreeMap, Updates}
+use Rattle.std.specs.declared.alloc.Global.{Global}
+use Rattle.mt_rows.specs.Accounts.{Accounts}
+use Rattle.mt_disk.specs.declared.mem.MemDisk.{MemDisk}
+use Rattle.mt_state.specs.Histories.{IsServed}
+use Rattle.mt_store_logs.specs.declared.store_log.StoreLog.{StoreLog}
+use Rattle.mt_lives.specs.declared.events.StoreEvent.{StoreEvent}
+use Rattle.mt_lives.specs.declared.events.StoreEvent.TheVariants.{Core, Crash}
+use Rattle.mt_lives.specs.declared.events.StoreNote.{StoreNote}
+use Rattle.mt_lives.specs.declared.events.StoreNote.TheVariants as notes
+use Rattle.mt_lives.specs.declared.serving.Serving.{Serving}
+use Rattle.mt_lives.specs.declared.serving.Settle.{Settle}
+use Rattle.mt_lives.specs.Lives.{Standing, IsNoted, Notes, NotesLead}
+use Rattle.mt_lives.specs.Holds.{quotas_of, Holds}
+
+-- an operation's worker is one of those that the logs have
+abbrev pub IsServedBy : ℕ → StoreEvent → Type 0
+IsServedBy logs (Core e) = IsServed logs e
+IsServedBy logs event = Unit {0}
+
+abbrev pub IsNoCrash : StoreEvent → Type 0
+IsNoCrash (Crash images) = ⊥
+IsNoCrash event = Unit {0}
+
+-- one log more goes up to a step
+abbrev pub one_turn_more : Settle → ℕ → Settle
+one_turn_more settle mark = record { begun = settle.begun; next = settle.next + 1; least = min settle.least mark }
+
+-- The next one of so many logs goes up to a step. Behind the last one the Settle has ended, and answers the least step of all.
+abbrev pub Turns : ℕ → ℕ → Settle → ℕ → BTreeMap ℕ Settle → BTreeMap ℕ Settle → StoreNote → Type 0
+Turns count id settle mark old new notes.Turned = (settle.next + 1 ≢ count) × Updates nat_cmp old new id (Some (one_turn_more settle mark))
+Turns count id settle mark old new (notes.Settled number) =
+    (settle.next + 1 ≡ count) × (number ≡ min settle.least mark) × Updates nat_cmp old new id None
+Turns count id settle mark old new note = ⊥
+
+-- it stands somehow
+abbrev pub IsHeld : List (StoreLog MemDisk) → Option Serving → Type 0
+IsHeld logs serving = (accounts : Accounts) × (standing : Standing) × Holds accounts standing logs serving
+
+-- Wherever it stood, the note is one that may be, and it stands so again.
+abbrev pub GoesOn : Accounts → StoreEvent → StoreNote → List (StoreLog MemDisk) → Option Serving → List (StoreLog MemDisk) → Option Serving → Type 0
+GoesOn accounts event note logs serving now_logs now_serving = (standing : Standing) → Holds accounts standing logs serving
+    → (next : Standing) × IsNoted (quotas_of accounts) standing event note next × Holds accounts next now_logs now_serving
+
+-- the same of a crash, to whatever images
+abbrev pub CrashesTo : Accounts → StoreNote → List (StoreLog MemDisk) → Option Serving → List (StoreLog MemDisk) → Option Serving → Type 0
+CrashesTo accounts note logs serving now_logs now_serving = (images : Vec (Vec ℕ Global) Global) → GoesOn accounts (Crash images) note logs serving now_logs now_serving
+
+-- the same of many events
+abbrev pub NotesGoOn : Accounts → Notes → List (StoreLog MemDisk) → Option Serving → List (StoreLog MemDisk) → Option Serving → Type 0
+NotesGoOn accounts notes logs serving now_logs now_serving = (standing : Standing) → Holds accounts standing logs serving
+    → (next : Standing) × NotesLead (quotas_of accounts) standing notes next × Holds accounts next now_logs now_serving

@@ -1,0 +1,44 @@
+//! A new store.
+
+ghost use Rattle.std.specs.Prelude.{◌≡◌, ◌<◌, ◌≤◌, true, length, Some, IfOk, IfErr};
+ghost use Rattle.mt_disk.specs.declared.mem.MemDisk.{MemDisk as AnyDisk};
+ghost use Rattle.mt_disk.specs.Mem.{mem_state};
+ghost use Rattle.mt_state.specs.Begins.{HaveNoPairs};
+ghost use Rattle.mt_store_logs.specs.Places.{closed_on, AreInOrder, MakesAll};
+ghost use Rattle.mt_lives.specs.declared.serving.Serving.{Serving as AnyServing};
+ghost use Rattle.mt_lives.specs.Lives.{new_standing, IsMemoryOrDevice};
+ghost use Rattle.mt_lives.specs.Holds.{Holds};
+
+use crate::running::Store;
+use crate::serving::Serving;
+use mt_core::State;
+use mt_disk::MemDisk;
+use mt_rows::{Refusal, Tenants};
+use mt_store_logs::{closed_logs, create_logs};
+use std::alloc::Global;
+
+/// A new store on these disks. Errors: `Device`, `Memory`.
+pub(crate) fn created(
+    alloc: Global,
+    tenants: &Tenants,
+    disks: Vec<MemDisk>,
+) -> Result<Store, Refusal>
+    requires some { 0 < length disks.items }
+    requires few { length disks.items ≤ 64 }
+    requires empty { HaveNoPairs tenants.now }
+    ensures ok { IfOk result (λ store. Holds tenants.now new_standing store.logs.items store.serving) }
+    ensures count { IfOk result (λ store. length store.logs.items ≡ length disks.items) }
+    ensures order { IfOk result (λ store. AreInOrder store.logs.items) }
+    ensures made { IfOk result (λ store. MakesAll (λ (d : AnyDisk). true) mem_state (λ d. d.failures) (closed_on disks.items) store.logs.items) }
+    ensures serves { IfOk result (λ store. (serving : AnyServing) × (store.serving ≡ Some serving)) }
+    ensures err { IfErr result IsMemoryOrDevice }
+{
+    let mut logs = closed_logs(alloc, disks)?;
+    if let Err(refused) = create_logs(&mut logs) {
+        return Err(refused.refusal);
+    }
+    let state = State::new(alloc, logs.len() as u8, tenants.copied()?)?;
+    state.facts();
+    let serving = Some(Serving::new(alloc, state));
+    Ok(Store { logs, serving })
+}

@@ -1,0 +1,96 @@
+//! Crashes of a store, and its recoveries.
+
+ghost use Rattle.std.specs.Prelude.{◌≡◌, ◌≤◌, ◌^◌, length, IfOk, IfErr, OnOk};
+ghost use Rattle.std.specs.List.{All};
+ghost use Rattle.mt_rows.specs.TenantPairs.{pairs_of, quota_in, IsTenantPair, AreDistinct, HasTenants, KeepsQuotas};
+ghost use Rattle.mt_state.specs.Begins.{HaveNoPairs};
+ghost use Rattle.mt_core.specs.Restores.{IsRestored};
+ghost use Rattle.mt_core.specs.Rights.{IsRightState};
+ghost use Rattle.mt_store_logs.specs.Places.{workers_of};
+ghost use Rattle.mt_lives.specs.Returns.{Begins, AreRecovered, AreNotRecovered};
+ghost use Rattle.mt_lives.specs.Steps.{CrashesTo};
+ghost use Rattle.mt_lives.specs.Forced.{IsCrashForced};
+
+use crate::events::StoreNote;
+use crate::serving::Serving;
+use mt_core::State;
+use mt_disk::MemDisk;
+use mt_recover::Recovered;
+use mt_rows::{Refusal, Tenants};
+use mt_store_logs::{StoreLog, crash_logs, recover_logs};
+use std::alloc::{AllocError, Global};
+
+/// Crashes all disks, each to its image, and recovers the store. `NoSuch` where the disks may not leave
+/// these images: then nothing has changed. After an error some disks have crashed.
+pub(crate) fn crash(
+    alloc: Global,
+    tenants: &Tenants,
+    logs: &mut [StoreLog<MemDisk>],
+    serving: &mut Option<Serving>,
+    images: &[Vec<u8>],
+) -> Result<StoreNote, AllocError>
+    requires few { length logs.old ≤ 64 }
+    requires empty { HaveNoPairs tenants.now }
+    ensures crashes { IfOk result (λ note. CrashesTo tenants.now note logs.old serving.old logs.new serving.new) }
+    ensures count { OnOk result (length logs.new ≡ length logs.old) }
+    ensures workers { OnOk result (workers_of logs.new ≡ workers_of logs.old) }
+    ensures forced { IfOk result (λ note. IsCrashForced tenants.now images.now note logs.old logs.new) }
+{
+    if !crash_logs(alloc, logs, images)? {
+        return Ok(StoreNote::NoSuch);
+    }
+    *serving = None;
+    match come_back(alloc, tenants, logs) {
+        Ok((recovered, begun)) => {
+            *serving = Some(begun);
+            Ok(StoreNote::Recovered(recovered))
+        }
+        Err(refusal) => Ok(StoreNote::Refused(refusal)),
+    }
+}
+
+// Recovers a store from its logs, with what it has when it serves again.
+fn come_back(
+    alloc: Global,
+    tenants: &Tenants,
+    logs: &mut [StoreLog<MemDisk>],
+) -> Result<(Recovered, Serving), Refusal>
+    requires few { length logs.old ≤ 64 }
+    requires empty { HaveNoPairs tenants.now }
+    ensures workers { workers_of logs.new ≡ workers_of logs.old }
+    ensures recovered { IfOk result (λ r. AreRecovered tenants.now r.0 logs.old logs.new) }
+    ensures begins { IfOk result (λ r. Begins tenants.now r.0 (length logs.new) r.1) }
+    ensures err { IfErr result (λ e. AreNotRecovered tenants.now e logs.old logs.new) }
+{
+    let recovered = match recover_logs(alloc, logs, tenants) {
+        Ok(recovered) => recovered,
+        Err(refused) => return Err(refused.refusal),
+    };
+    match restored(alloc, tenants, logs.len() as u8, &recovered) {
+        Ok(state) => Ok((recovered, Serving::new(alloc, state))),
+        Err(AllocError) => Err(Refusal::Memory),
+    }
+}
+
+// The state that a recovery leaves.
+fn restored(
+    alloc: Global,
+    tenants: &Tenants,
+    logs: u8,
+    recovered: &Recovered,
+) -> Result<State, AllocError>
+    requires logs { logs ≤ 64 }
+    requires empty { HaveNoPairs tenants.now }
+    requires steps { recovered.now.resume ≤ 2 ^ 59 }
+    requires limits { All IsTenantPair recovered.now.pairs.items }
+    requires distinct { AreDistinct recovered.now.pairs.items }
+    requires tenants { HasTenants (quota_in tenants.now) (pairs_of recovered.now.pairs.items) }
+    requires quotas { KeepsQuotas (quota_in tenants.now) (pairs_of recovered.now.pairs.items) }
+    ensures restored { IfOk result (λ state. IsRestored recovered.now.resume logs tenants.now recovered.now.pairs.items state) }
+    ensures right { IfOk result IsRightState }
+{
+    let tenants = tenants.copied()?;
+    let state = State::restore(alloc, recovered.resume, logs, tenants, &recovered.pairs)?;
+    state.facts();
+    Ok(state)
+}

@@ -1,0 +1,168 @@
+//! A run of many events on a new store, with what is noted of each.
+
+ghost use Rattle.std.specs.Prelude.{◌≡◌, ◌<◌, ◌≤◌, List, length, Some, IfOk, IfErr, OnOk};
+ghost use Rattle.std.specs.List.{All, zip};
+ghost use Rattle.mt_rows.specs.Accounts.{Accounts};
+ghost use Rattle.mt_disk.specs.declared.mem.MemDisk.{MemDisk as AnyDisk};
+ghost use Rattle.mt_state.specs.Begins.{HaveNoPairs};
+ghost use Rattle.mt_state.specs.Histories.{IsServed};
+ghost use Rattle.mt_store_logs.specs.declared.store_log.StoreLog.{StoreLog as AnyLog};
+ghost use Rattle.mt_store_logs.specs.Places.{workers_of, AreInOrder};
+ghost use Rattle.mt_lives.specs.declared.events.StoreEvent.TheVariants.{Core, Crash};
+ghost use Rattle.mt_lives.specs.declared.events.StoreNote.TheVariants.{Told as Answered};
+ghost use Rattle.mt_lives.specs.Lives.{Standing, HasLives, IsMemoryOrDevice};
+ghost use Rattle.mt_lives.specs.Holds.{quotas_of, Holds};
+ghost use Rattle.mt_lives.specs.Steps.{IsHeld, IsNoCrash, IsServedBy, GoesOn, NotesGoOn};
+ghost use Rattle.mt_lives.specs.Forced.{IsForced, AreForced, AreForcedOn};
+
+use crate::beginnings::created;
+use crate::crashes::crash;
+use crate::events::{StoreEvent, StoreNote};
+use crate::serving::Serving;
+use crate::settles::{begin_settle, flush_at, go_on, reopen_at};
+use mt_core::tell;
+use mt_disk::MemDisk;
+use mt_rows::{Refusal, Tenants};
+use mt_runs::{Event, Told};
+use mt_store_logs::StoreLog;
+use std::alloc::{AllocError, Global};
+use std::marker::Model;
+
+/// A store: its logs, and what it has while it serves.
+#[derive(Drop)]
+pub struct Store {
+    pub logs: Vec<StoreLog<MemDisk>>,
+    pub serving: Option<Serving>,
+}
+
+/// What is noted of the events of a run, in their order.
+#[derive(Debug, Drop)]
+pub struct NoteList {
+    notes: Vec<StoreNote>,
+}
+
+impl Model for NoteList {
+    ghost use Rattle.std.specs.Prelude.{List};
+    ghost use Rattle.mt_lives.specs.declared.events.StoreNote.{StoreNote as AnyNote};
+
+    ghost Value = { List AnyNote };
+
+    ghost view = { λ n. n.notes.items };
+}
+
+impl NoteList {
+    /// The notes.
+    pub fn as_slice(&self) -> &[StoreNote]
+        ensures { result.now ≡ self.now }
+    {
+        &self.notes
+    }
+}
+
+/// Makes the logs of a new store, one on each of these disks, lets events happen to it, and gives it back
+/// with what is noted of each.
+///
+/// Errors: `Device` where a log is not made; `Memory` where the run's own lists are refused memory.
+pub fn run_store_events(
+    alloc: Global,
+    tenants: &Tenants,
+    disks: Vec<MemDisk>,
+    events: &[StoreEvent],
+) -> Result<(Store, NoteList), Refusal>
+    requires some { 0 < length disks.items }
+    requires few { length disks.items ≤ 64 }
+    requires empty { HaveNoPairs tenants.now }
+    requires workers { All (IsServedBy (length disks.items)) events.now }
+    ensures lives { IfOk result (λ r. HasLives (quotas_of tenants.now) (zip events.now r.1)) }
+    ensures count { IfOk result (λ r. length r.1 ≡ length events.now) }
+    ensures forced { IfOk result (λ r. AreForcedOn tenants.now (zip events.now r.1) disks.items r.0) }
+    ensures err { IfErr result IsMemoryOrDevice }
+{
+    let mut store = created(alloc, tenants, disks)?;
+    let notes = note_all(alloc, tenants, &mut store, events)?;
+    Ok((store, NoteList { notes }))
+}
+
+// Lets events happen, one after the other.
+fn note_all(
+    alloc: Global,
+    tenants: &Tenants,
+    store: &mut Store,
+    events: &[StoreEvent],
+) -> Result<Vec<StoreNote>, AllocError>
+    requires held { (standing : Standing) × Holds tenants.now standing store.old.logs.items store.old.serving }
+    requires order { AreInOrder store.old.logs.items }
+    requires empty { HaveNoPairs tenants.now }
+    requires workers { All (IsServedBy (length store.old.logs.items)) events.now }
+    ensures goes { IfOk result (λ notes. NotesGoOn tenants.now (zip events.now notes.items) store.old.logs.items store.old.serving store.new.logs.items store.new.serving) }
+    ensures count { IfOk result (λ notes. length notes.items ≡ length events.now) }
+    ensures forced { IfOk result (λ notes. AreForced tenants.now (zip events.now notes.items) store.old.logs.items store.old.serving store.new.logs.items store.new.serving) }
+{
+    let mut notes = Vec::new(alloc);
+    for event in events {
+        let note = happen(alloc, tenants, store, event)?;
+        notes.push(note)?;
+    }
+    Ok(notes)
+}
+
+// Lets one event happen.
+fn happen(
+    alloc: Global,
+    tenants: &Tenants,
+    store: &mut Store,
+    event: &StoreEvent,
+) -> Result<StoreNote, AllocError>
+    requires held { (standing : Standing) × Holds tenants.now standing store.old.logs.items store.old.serving }
+    requires order { AreInOrder store.old.logs.items }
+    requires empty { HaveNoPairs tenants.now }
+    requires worker { IsServedBy (length store.old.logs.items) event.now }
+    ensures count { OnOk result (length store.new.logs.items ≡ length store.old.logs.items) }
+    ensures workers { OnOk result (workers_of store.new.logs.items ≡ workers_of store.old.logs.items) }
+    ensures goes { IfOk result (λ note. GoesOn tenants.now event.now note store.old.logs.items store.old.serving store.new.logs.items store.new.serving) }
+    ensures forced { IfOk result (λ note. IsForced tenants.now event.now note store.old.logs.items store.old.serving store.new.logs.items) }
+{
+    if let StoreEvent::Crash { images } = event {
+        return crash(alloc, tenants, &mut store.logs, &mut store.serving, images);
+    }
+    match &mut store.serving {
+        Some(serving) => serve(alloc, &mut store.logs, serving, event),
+        None => Ok(StoreNote::NoSuch),
+    }
+}
+
+// Lets an event that is no crash happen to a store that serves.
+fn serve(
+    alloc: Global,
+    logs: &mut [StoreLog<MemDisk>],
+    serving: &mut Serving,
+    event: &StoreEvent,
+) -> Result<StoreNote, AllocError>
+    requires held { IsHeld logs.old (Some serving.old) }
+    requires order { AreInOrder logs.old }
+    requires worker { IsServedBy (length logs.old) event.now }
+    requires serves { IsNoCrash event.now }
+    ensures count { OnOk result (length logs.new ≡ length logs.old) }
+    ensures workers { OnOk result (workers_of logs.new ≡ workers_of logs.old) }
+    ensures goes { IfOk result (λ note. (accounts : Accounts) → GoesOn accounts event.now note logs.old (Some serving.old) logs.new (Some serving.new)) }
+    ensures forced { IfOk result (λ note. (accounts : Accounts) → IsForced accounts event.now note logs.old (Some serving.old) logs.new) }
+{
+    match event {
+        StoreEvent::Core(event) => Ok(StoreNote::Told(core(serving, event)?)),
+        StoreEvent::Flush { worker } => Ok(flush_at(alloc, logs, serving, *worker)),
+        StoreEvent::Reopen { worker } => Ok(reopen_at(alloc, logs, *worker)),
+        StoreEvent::SettleBegin { id } => begin_settle(serving, *id),
+        StoreEvent::SettleNext { id } => Ok(go_on(alloc, logs, serving, *id)),
+        StoreEvent::Crash { .. } => unreachable!(),
+    }
+}
+
+// Lets an operation begin or step.
+fn core(serving: &mut Serving, event: &Event) -> Result<Told, AllocError>
+    requires held { (logs : List (AnyLog AnyDisk)) × IsHeld logs (Some serving.old) × IsServed (length logs) event.now }
+    ensures goes { IfOk result (λ told. (accounts : Accounts) (logs : List (AnyLog AnyDisk)) → IsServed (length logs) event.now → GoesOn accounts (Core event.now) (Answered told) logs (Some serving.old) logs (Some serving.new)) }
+{
+    let told = tell(&mut serving.state, &mut serving.roster, event)?;
+    serving.state.facts();
+    Ok(told)
+}

@@ -1,0 +1,57 @@
+//! What a store has while it serves.
+
+ghost use Rattle.std.specs.Prelude.{◌≡◌, []};
+
+use mt_core::{Roster, State};
+use mt_drains::DrainedBatch;
+use mt_store_logs::Source;
+use std::alloc::{AllocError, Global};
+use std::collections::BTreeMap;
+
+/// The state of a life, the names of its events, and the Settles that have begun in it.
+#[derive(Drop)]
+pub struct Serving {
+    pub state: State,
+    pub roster: Roster,
+    pub settles: BTreeMap<u64, Settle>,
+}
+
+/// A Settle: after how many steps it began, the log that comes next, and the least step up to which those
+/// before it go.
+#[derive(Clone, Copy, Debug)]
+pub struct Settle {
+    pub begun: u64,
+    pub next: u8,
+    pub least: u64,
+}
+
+impl Serving {
+    /// A life begins.
+    pub(crate) fn new(alloc: Global, state: State) -> Self
+        ensures state { result.state ≡ state }
+        ensures tickets { result.roster.tickets.entries ≡ [] }
+        ensures names { result.roster.names.entries ≡ [] }
+        ensures settles { result.settles.entries ≡ [] }
+    {
+        Serving {
+            state,
+            roster: Roster::new(alloc),
+            settles: BTreeMap::new(alloc),
+        }
+    }
+}
+
+impl Source for Serving {
+    ghost use Rattle.std.specs.Prelude.{◌<◌, ◌≤◌, length};
+    ghost use Rattle.mt_lives.specs.Serving.{DrainsServing};
+
+    ghost serves = { λ s worker upto. (worker < length s.state.logs) × (upto ≤ s.state.steps) };
+
+    ghost gives = { DrainsServing };
+
+    fn drain(&mut self, worker: u8, _upto: u64) -> Result<DrainedBatch, AllocError> {
+        let drained = self.state.drain(worker);
+        self.state.facts();
+        drained
+    }
+}

@@ -1,0 +1,135 @@
+//! What is asked of a store: the rows of a story, and the events that they stand for.
+
+ghost use Rattle.std.specs.Prelude.{◌≡◌};
+ghost use Rattle.std.specs.List.{All};
+ghost use Rattle.mt_state.specs.Begins.{HaveNoPairs};
+ghost use Rattle.mt_lives.specs.Steps.{IsServedBy};
+
+use mt_lives::StoreEvent;
+use mt_rows::{Column, ColumnIndexes, Command, Key, NamedColumns, Tenants};
+use mt_runs::Event;
+use std::alloc::Global;
+use std::process::Abort;
+
+/// One row of a story: of two workers, 0 and 1, and of one Settle. Operations of tenant 7 have names.
+#[derive(Clone, Copy, Debug)]
+pub(crate) enum Row {
+    /// A put of a worker's, with all its steps.
+    Put(u64, u8, &'static str, &'static str),
+    /// One that makes some steps and stays open.
+    Open(u64, u8, &'static str, &'static str, u64),
+    /// Its other steps.
+    End(u64),
+    /// A get, with all its steps.
+    Get(u64, &'static str),
+    Flush(u8),
+    Reopen(u8),
+    Settle,
+    Next,
+    Crash,
+}
+
+/// As many steps as any operation here needs; a step behind the last one is none.
+const ENOUGH: u64 = 9;
+
+/// Tenant 7, which may have a hundred pairs.
+pub(crate) fn one_tenant(alloc: Global) -> Tenants
+    ensures { HaveNoPairs result }
+{
+    let mut tenants = Tenants::new(alloc);
+    let _ = tenants.add(7, 100);
+    tenants
+}
+
+fn put(rt: &impl Abort, alloc: Global, key: &str, value: &str) -> Command {
+    let value = Vec::from_slice(alloc, value.as_bytes()).expect(rt, "memory");
+    let column = Column::new(alloc, value).expect(rt, "memory");
+    let mut columns = Vec::new(alloc);
+    assert!(rt; columns.push((0, column)).is_ok());
+    let change = NamedColumns::new(columns);
+    let key = key_of(rt, alloc, key);
+    Command::Put { key, change }
+}
+
+fn get(rt: &impl Abort, alloc: Global, key: &str) -> Command {
+    let key = key_of(rt, alloc, key);
+    let columns = ColumnIndexes::new(Vec::new(alloc));
+    Command::Get { key, columns }
+}
+
+fn key_of(rt: &impl Abort, alloc: Global, key: &str) -> Key {
+    Key::new(Vec::from_slice(alloc, key.as_bytes()).expect(rt, "memory"))
+}
+
+// An operation of tenant 7 begins. Of another worker than 1 it is worker 0.
+fn begin(op: u64, worker: u8, command: Command) -> StoreEvent
+    ensures { IsServedBy 2 result }
+{
+    StoreEvent::Core(Event::Begin {
+        op,
+        worker: if worker == 1 { 1 } else { 0 },
+        tenant: 7,
+        command,
+    })
+}
+
+/// The events of a row, and the one that tells most of them last; a crash leaves these images.
+pub(crate) fn events_of(
+    rt: &impl Abort,
+    alloc: Global,
+    row: Row,
+    images: &[Vec<u8>],
+    events: &mut Vec<StoreEvent>,
+)
+    requires { All (IsServedBy 2) events.old.items }
+    ensures { All (IsServedBy 2) events.new.items }
+{
+    match row {
+        Row::Put(op, worker, key, value) => {
+            push(rt, events, begin(op, worker, put(rt, alloc, key, value)));
+            step(rt, events, op, ENOUGH);
+        }
+        Row::Open(op, worker, key, value, steps) => {
+            push(rt, events, begin(op, worker, put(rt, alloc, key, value)));
+            step(rt, events, op, steps);
+        }
+        Row::End(op) => step(rt, events, op, ENOUGH),
+        Row::Get(op, key) => {
+            push(rt, events, begin(op, 0, get(rt, alloc, key)));
+            step(rt, events, op, ENOUGH);
+        }
+        Row::Flush(worker) => push(rt, events, StoreEvent::Flush { worker }),
+        Row::Reopen(worker) => push(rt, events, StoreEvent::Reopen { worker }),
+        Row::Settle => push(rt, events, StoreEvent::SettleBegin { id: 1 }),
+        Row::Next => push(rt, events, StoreEvent::SettleNext { id: 1 }),
+        Row::Crash => push(rt, events, crash(rt, alloc, images)),
+    }
+}
+
+fn push(rt: &impl Abort, events: &mut Vec<StoreEvent>, event: StoreEvent)
+    requires all { All (IsServedBy 2) events.old.items }
+    requires one { IsServedBy 2 event }
+    ensures { All (IsServedBy 2) events.new.items }
+{
+    assert!(rt; events.push(event).is_ok());
+}
+
+fn step(rt: &impl Abort, events: &mut Vec<StoreEvent>, op: u64, steps: u64)
+    requires { All (IsServedBy 2) events.old.items }
+    ensures { All (IsServedBy 2) events.new.items }
+{
+    for _ in 0..steps {
+        push(rt, events, StoreEvent::Core(Event::Step { op }));
+    }
+}
+
+fn crash(rt: &impl Abort, alloc: Global, images: &[Vec<u8>]) -> StoreEvent
+    ensures { IsServedBy 2 result }
+{
+    let mut copies = Vec::new(alloc);
+    for image in images {
+        let copy = image.to_vec(alloc).expect(rt, "memory");
+        assert!(rt; copies.push(copy).is_ok());
+    }
+    StoreEvent::Crash { images: copies }
+}

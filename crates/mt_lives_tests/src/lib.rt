@@ -1,0 +1,14 @@
+//! Tests of `mt_lives`: runs with two workers and crashes, stopped at every call of a disk, with each call of a
+//! disk failing once, with two failing, and with a growth refused.
+//!
+//! They stand in a crate of their own, since a crate with tests is proved twice.
+#![tactic(auto)]
+
+#[cfg(test)]
+mod asked;
+#[cfg(test)]
+mod failures;
+#[cfg(test)]
+mod runs;
+#[cfg(test)]
+mod stories;
