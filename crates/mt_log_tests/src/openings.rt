@@ -119,11 +119,9 @@ fn is_refused(
 }
 
 // Whether of three logs this one is told, which ends at its first batch: each time they are opened, and by a recovery.
-fn is_told_bad(alloc: Global, logs: &mut [StoreLog<MemDisk>], log: usize) -> bool {
-    let bad = Refusal::BadLog {
-        number: log as u8,
-        offset: 8,
-    };
+fn is_told_bad(alloc: Global, logs: &mut [StoreLog<MemDisk>], number: u8) -> bool {
+    let bad = Refusal::BadLog { number, offset: 8 };
+    let log = usize::from(number);
     for _ in 0..2 {
         let is_told = open_logs(alloc, logs).is_err_and(|e| e == told(Some(log), bad));
         let is_left = mark_of(logs, log).is_none() && (log == 0 || mark_of(logs, 0) == Some(0));
@@ -137,9 +135,10 @@ fn is_told_bad(alloc: Global, logs: &mut [StoreLog<MemDisk>], log: usize) -> boo
 #[test]
 fn the_log_that_is_not_opened_is_told(rt: HostRuntime) -> Result<(), Fail> {
     let alloc = rt.alloc();
-    for log in 0..3 {
+    for number in 0..3u8 {
+        let log = usize::from(number);
         let mut logs = logs_with(alloc, log, 8, log)?;
-        assert!(rt; is_told_bad(alloc, &mut logs, log), "{log}");
+        assert!(rt; is_told_bad(alloc, &mut logs, number), "{log}");
         // A log twice: no single one is the cause.
         let mut logs = logs_with(alloc, log, 9, (log + 1) % 3)?;
         let is_told = is_refused(alloc, &mut logs, told(None, Refusal::LogCount), 3);

@@ -15,6 +15,7 @@ use mt_arena::Arena;
 use mt_descent::laws::{kept_stays, walks_begin};
 use mt_descent::{child, confirm, enter, forward, load, lock, pick, search, verify};
 use mt_held::laws::holds_once_locked;
+use mt_held::{go_below, unlock};
 use mt_insert::*;
 use mt_operation::{Aim, Phase, Prepared, Request, Spare, Splits, Task, Walk};
 use mt_rows::{Change, Column, Key, NamedColumns, Row, Tenants};
