@@ -1,0 +1,112 @@
+-- Reading the items of a checkpoint from left to right: for the functions that do it, whose callers see the spellings alone.
+use Rattle.std.specs.Prelude.{◌≡◌, ℕ, ◌+◌, ◌-◌, ◌^◌, ◌<◌, ◌≤◌, min, ◌==◌, Bool, true, IsTrue, List, [], ◌∷◌, ◌++◌, length, take, drop, Option, Some, None, if◌then◌else◌, Vec}
+use Rattle.std.specs.Int.{w32, w64}
+use Rattle.std.specs.List.{flat_map, AllByRecursion}
+use Rattle.std.specs.declared.alloc.Global.{Global}
+use Rattle.mt_rows.specs.Rows.{Bytes, Columns}
+use Rattle.mt_rows.specs.declared.record.TenantPair.{TenantPair}
+use Rattle.mt_disk.specs.Disk.{DiskState}
+use Rattle.mt_fields.specs.Reading.{◌>>=◌, byte_at, number_at}
+use Rattle.mt_row_fields.specs.Reading.{row_at, key_at}
+use Rattle.mt_checkpoint.specs.declared.checkpoint.Checkpoint.{Checkpoint}
+use Rattle.mt_checkpoint.specs.declared.reader.Item.{Item}
+use Rattle.mt_checkpoint.specs.declared.reader.Item.TheVariants.{Pair, Last}
+use Rattle.mt_checkpoint.specs.declared.reader.Stop.{Stop}
+use Rattle.mt_checkpoint.specs.declared.reader.Stop.TheVariants as stops
+use Rattle.mt_checkpoint.specs.Format.{head_bytes, entry_bytes, last_bytes}
+use Rattle.mt_checkpoint.specs.Checkpoints.{IsPair, IsWalk, walk_of, HasWalk, HasNone}
+
+-- an item's bytes, and its limits
+abbrev pub item_bytes : Item → Bytes
+item_bytes (Pair p) = entry_bytes p
+item_bytes (Last n) = last_bytes n
+
+abbrev pub IsItem : Item → Type 0
+IsItem (Pair p) = IsPair p
+IsItem (Last n) = n < 2 ^ 64
+
+-- a pair of these fields
+abbrev pub pair_from : ℕ → Bytes → Columns → TenantPair
+pair_from tenant key row = record { tenant = tenant; key = key; row = row }
+
+unfoldable pub pair_at : Bytes → Option (Item × Bytes)
+pair_at bytes = do
+  tenant ← number_at w32 bytes
+  key ← key_at tenant.1
+  row ← row_at key.1
+  Some (Pair (pair_from tenant.0 key.0 row.0), row.1)
+
+unfoldable pub last_at : Bytes → Option (Item × Bytes)
+last_at bytes = do
+  last ← number_at w64 bytes
+  Some (Last last.0, last.1)
+
+-- an item, by its first byte
+unfoldable pub item_kind_at : ℕ → Bytes → Option (Item × Bytes)
+item_kind_at kind rest =
+    if kind == 1 then pair_at rest else
+    if kind == 2 then last_at rest else None
+
+unfoldable pub item_at : Bytes → Option (Item × Bytes)
+item_at bytes = do
+  kind ← byte_at bytes
+  item_kind_at kind.0 kind.1
+
+-- no head stands at the front
+abbrev pub HasNoHead : Bytes → Type 0
+HasNoHead bytes = (first : ℕ) (more : Bytes) → first < 2 ^ 64 → bytes ≡ head_bytes first ++ more → ⊥
+
+-- no item does
+abbrev pub HasNoItem : Bytes → Type 0
+HasNoItem bytes = (x : Item) (more : Bytes) → IsItem x → bytes ≡ item_bytes x ++ more → ⊥
+
+-- what follows the entries of some bytes; more of them may stand there
+abbrev pub StopsAt : Bytes → Stop → Type 0
+StopsAt rest stops.More = Unit {0}
+StopsAt rest (stops.Last last) = (last < 2 ^ 64) × ((more : Bytes) × (rest ≡ last_bytes last ++ more))
+StopsAt rest stops.Bad = HasNoItem rest
+
+-- pairs were taken from a window, after those that were there, and this is left of it
+pub record HasTaken (window : Bytes) (old new : List TenantPair) (rest : Bytes) : Type 0 where
+  pub pairs : List TenantPair
+  pub more : new ≡ old ++ pairs
+  pub each : AllByRecursion IsPair pairs
+  pub parts : window ≡ flat_map entry_bytes pairs ++ rest
+
+-- entries of so many bytes at the front of some, and what follows them
+pub record AreTaken (text : Bytes) (pairs : List TenantPair) (used : ℕ) (stop : Stop) : Type 0 where
+  pub parts : text ≡ flat_map entry_bytes pairs ++ drop used text
+  pub stops : StopsAt (drop used text) stop
+
+-- what a window gives: pairs after those that were there
+pub record Takes (window : Bytes) (whole : Bool) (old new : List TenantPair) (used : ℕ) (stop : Stop) : Type 0 where
+  pub pairs : List TenantPair
+  pub more : new ≡ old ++ pairs
+  pub each : AllByRecursion IsPair pairs
+  pub within : used ≤ length window
+  pub some : stop ≡ stops.More → (whole ≡ true → ⊥) × (length window < used + 16675)
+  pub told : (behind : Bytes) → (whole ≡ true → behind ≡ []) → AreTaken (window ++ behind) pairs used stop
+
+-- over an honest disk with a file of this length: its image has P
+abbrev pub OfImage : {D : Type 0} → (D → Bool) → (D → DiskState) → D → ℕ → (Bytes → Type 0) → Type 0
+OfImage is_honest state disk len P = IsTrue (is_honest disk) → len ≡ length (state disk).image → P (state disk).image
+
+-- what was read from a place on, up to so many bytes
+pub record IsWindow {D : Type 0} (is_honest : D → Bool) (state : D → DiskState) (disk : D) (len place count : ℕ) (bytes : Vec ℕ Global) : Type 0 where
+  pub size : length bytes.items ≡ min count (len - place)
+  pub told : OfImage is_honest state disk len (λ image. bytes.items ≡ take count (drop place image))
+
+-- the head of a file, after its gate
+abbrev pub IsHeadIn : Bytes → Option ℕ → Type 0
+IsHeadIn image None = HasNoHead (drop 1 image)
+IsHeadIn image (Some first) = (first < 2 ^ 64) × (drop 1 image ≡ head_bytes first ++ drop 15 image)
+
+-- all entries after the head, and the last entry; or no such
+abbrev pub IsEndIn : Bytes → List TenantPair → Option ℕ → Type 0
+IsEndIn image pairs None = (rest : Bytes) × (drop 15 image ≡ flat_map entry_bytes pairs ++ rest) × HasNoItem rest
+IsEndIn image pairs (Some last) = (last < 2 ^ 64) × ((more : Bytes) × (drop 15 image ≡ flat_map entry_bytes pairs ++ (last_bytes last ++ more)))
+
+-- what was read after an open gate: a checkpoint in the format, which over an honest disk is the file's; or there is none
+abbrev pub IsReadOpen : {D : Type 0} → (D → Bool) → (D → DiskState) → D → ℕ → Option Checkpoint → Type 0
+IsReadOpen is_honest state disk len None = OfImage is_honest state disk len (λ image. (behind : Bytes) → image ≡ 1 ∷ behind → HasNone image)
+IsReadOpen is_honest state disk len (Some c) = IsWalk (walk_of c) × OfImage is_honest state disk len (λ image. (behind : Bytes) → image ≡ 1 ∷ behind → HasWalk (walk_of c) image)

@@ -1,0 +1,64 @@
+//! A checkpoint as the bytes that are written.
+
+ghost use Rattle.std.specs.Prelude.{◌≡◌, ◌++◌, IfOk, OnOk};
+ghost use Rattle.std.specs.List.{flat_map, All};
+ghost use Rattle.mt_rows.specs.Commands.{IsKey};
+ghost use Rattle.mt_checkpoint.specs.Format.{head_bytes, entry_bytes, last_bytes};
+
+use mt_fields::put_u32;
+use mt_row_fields::{put_key, put_row};
+use mt_rows::TenantPair;
+use std::alloc::{AllocError, Global};
+
+/// Where the head begins, after the gate.
+pub(crate) const HEAD_AT: usize = 1;
+
+/// The bytes of a head.
+pub(crate) const HEAD_BYTES: usize = 14;
+
+/// Where the entries begin.
+pub(crate) const ENTRIES_AT: usize = 15;
+
+/// The head of a checkpoint, in format 1.
+pub(crate) fn head(first: u64) -> [u8; 14]
+    ensures { result ≡ head_bytes first }
+{
+    let number = first.to_be_bytes();
+    [
+        b'M', b'T', b'C', b'K', b'P', 1, number[0], number[1], number[2], number[3], number[4],
+        number[5], number[6], number[7],
+    ]
+}
+
+/// Its last entry.
+pub(crate) fn last_entry(last: u64) -> [u8; 9]
+    ensures { result ≡ last_bytes last }
+{
+    let number = last.to_be_bytes();
+    [
+        2, number[0], number[1], number[2], number[3], number[4], number[5], number[6], number[7],
+    ]
+}
+
+// An entry.
+fn put_entry(out: &mut Vec<u8>, pair: &TenantPair) -> Result<(), AllocError>
+    requires { IsKey pair.now.key }
+    ensures { OnOk result (out.new.items ≡ out.old.items ++ entry_bytes pair.now) }
+{
+    out.push(1)?;
+    put_u32(out, pair.tenant)?;
+    put_key(out, &pair.key)?;
+    put_row(out, &pair.row)
+}
+
+/// Entries, one after the other.
+pub(crate) fn entries(alloc: Global, pairs: &[TenantPair]) -> Result<Vec<u8>, AllocError>
+    requires { All (λ p. IsKey p.key) pairs.now }
+    ensures { IfOk result (λ block. block.items ≡ flat_map entry_bytes pairs.now) }
+{
+    let mut block = Vec::new(alloc);
+    for pair in pairs {
+        put_entry(&mut block, pair)?;
+    }
+    Ok(block)
+}

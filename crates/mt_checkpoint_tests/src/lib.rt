@@ -1,0 +1,12 @@
+//! Tests of `mt_checkpoint`: bytes worked out by hand, each of their beginnings and each byte changed, walks
+//! that make no checkpoint, a file of two windows, and what a crash or a failure at any call leaves.
+//!
+//! They stand in a crate of their own, since a crate with tests is proved twice.
+#![tactic(auto)]
+
+#[cfg(test)]
+mod crashes;
+#[cfg(test)]
+mod slots;
+#[cfg(test)]
+mod vectors;

@@ -1,0 +1,119 @@
+//! The bytes of docs/FORMATS.md, written and read, each of their beginnings, and each byte changed.
+
+use crate::slots::{Told, VECTOR, read_as, slot_with, written};
+use mt_checkpoint::checkpoint::MAX_STEP;
+use std::alloc::{AllocError, Global};
+use std::test::Fail;
+
+#[test]
+fn a_checkpoint_is_written_as_its_bytes(rt: HostRuntime) -> Result<(), Fail> {
+    let alloc = rt.alloc();
+    let made = slot_with(alloc, &[], None)?;
+    assert!(rt; made.is_some());
+    if let Some(disk) = made {
+        assert!(rt; disk.image() == b"\x00".as_slice());
+    }
+    let (disk, told) = written(alloc, (6, 9), &[(7, 0x6b)], 1)?;
+    assert!(rt; told == Told::Walk(6, 9, 1) && disk.image() == VECTOR.as_slice());
+    Ok(())
+}
+
+// A walk is a checkpoint if its steps are in order, the last of them at most 2^59, and its pairs rise by
+// tenant and key.
+#[test]
+fn a_walk_out_of_order_is_none(rt: HostRuntime) -> Result<(), Fail> {
+    let alloc = rt.alloc();
+    for (first, last, keys, want) in [
+        (6, 9, [(7, 2), (7, 3), (8, 1)], Told::Walk(6, 9, 3)),
+        (6, 6, [(7, 2), (7, 3), (8, 1)], Told::Walk(6, 6, 3)),
+        (6, 5, [(7, 2), (7, 3), (8, 1)], Told::None),
+        (
+            6,
+            MAX_STEP,
+            [(7, 2), (7, 3), (8, 1)],
+            Told::Walk(6, MAX_STEP, 3),
+        ),
+        (6, MAX_STEP + 1, [(7, 2), (7, 3), (8, 1)], Told::None),
+        (6, 9, [(7, 3), (7, 2), (8, 1)], Told::None),
+        (6, 9, [(7, 2), (7, 2), (8, 1)], Told::None),
+        (6, 9, [(7, 2), (8, 1), (7, 3)], Told::None),
+    ] {
+        let (_disk, told) = written(alloc, (first, last), &keys, 1)?;
+        assert!(rt; told == want, "from {first} up to {last}: {told:?}");
+    }
+    Ok(())
+}
+
+#[test]
+fn each_beginning_is_none(rt: HostRuntime) -> Result<(), Fail> {
+    let alloc = rt.alloc();
+    for len in 0..36 {
+        let (front, _) = VECTOR.split_at(len);
+        assert!(rt;
+            read_as(alloc, front)? == Told::None,
+            "the first {len} bytes"
+        );
+    }
+    let mut longer = VECTOR.to_vec(alloc)?;
+    longer.extend_from_slice(b"whatever follows it")?;
+    assert!(rt; read_as(alloc, &longer)? == Told::Walk(6, 9, 1));
+    Ok(())
+}
+
+// What the bytes are read as with one of them changed.
+fn changed(alloc: Global, place: usize, by: u8) -> Result<Told, AllocError> {
+    let mut image = VECTOR;
+    if let Some(at) = image.get_mut(place) {
+        *at ^= by;
+    }
+    read_as(alloc, &image)
+}
+
+// The last step with one of its bytes changed.
+fn last_step(byte: usize, by: u8) -> u64 {
+    let mut bytes = [0, 0, 0, 0, 0, 0, 0, 9];
+    if let Some(at) = bytes.get_mut(byte) {
+        *at ^= by;
+    }
+    u64::from_be_bytes(bytes)
+}
+
+// What they are to be read as. Another first or last step, tenant, key or column is another checkpoint, and
+// all else is none.
+fn want(place: usize, by: u8) -> Told {
+    match place {
+        14 if 6 ^ by <= 9 => Told::Walk(u64::from(6 ^ by), 9, 1),
+        16..=19 | 22 | 26 => Told::Walk(6, 9, 1),
+        28 if by > 7 => Told::None,
+        28..=35 => Told::Walk(6, last_step(place - 28, by), 1),
+        _ => Told::None,
+    }
+}
+
+#[test]
+fn each_changed_byte_is_told_for_what_it_is(rt: HostRuntime) -> Result<(), Fail> {
+    let alloc = rt.alloc();
+    for place in 0..36 {
+        for by in [1, 2, 7, 128, 255] {
+            let told = changed(alloc, place, by)?;
+            assert!(rt;
+                told == want(place, by),
+                "byte {place} changed by {by}: {told:?}"
+            );
+        }
+    }
+    Ok(())
+}
+
+// Three hundred pairs of a thousand bytes are more than one window.
+#[test]
+fn a_long_checkpoint_is_read_in_windows(rt: HostRuntime) -> Result<(), Fail> {
+    let alloc = rt.alloc();
+    let mut keys = Vec::new(alloc);
+    for tenant in 0..300 {
+        keys.push((tenant, 0x6b))?;
+    }
+    let (disk, told) = written(alloc, (6, 9), &keys, 1_000)?;
+    assert!(rt; told == Told::Walk(6, 9, 300) && disk.image().len() > 300_000);
+    Ok(())
+}
