@@ -8,12 +8,13 @@ use Rattle.mt_operation.specs.declared.splits.Splits.{Splits}
 use Rattle.mt_insert.specs.KeptSplits.{HoldsSplits, last_of}
 use Rattle.mt_operation.specs.Phases.{IsToGrow}
 use Rattle.mt_insert.specs.Climbs.{AreSame, IsClimbFrom}
-use Rattle.mt_core.specs.declared.climbs.Climbed.{Climbed}
-use Rattle.mt_core.specs.declared.climbs.Climbed.TheVariants.{Blocked, NoMemory, On}
+use Rattle.mt_table.specs.declared.steps.Made.{Made}
+use Rattle.mt_table.specs.declared.steps.Made.TheVariants.{Step, Blocked, NoMemory}
 
 -- what a step answers; where it was not made, nothing has changed
-abbrev pub TellsClimbed : ℕ → ArenaView → ArenaView → Walk → Walk → Splits → Splits → Climbed → Type 0
-TellsClimbed op old new before after s t On = IsClimbFrom before.phase op old new before after s t
+abbrev pub TellsClimbed : ℕ → ArenaView → ArenaView → Walk → Walk → Splits → Splits → Made → Type 0
+TellsClimbed op old new before after s t Step = IsClimbFrom before.phase op old new before after s t
 TellsClimbed op old new before after s t (Blocked holder) = (new ≡ old) × (after ≡ before) × (t ≡ s) × (before.phase ≡ LockParent)
     × (parent : ℕ) × ((at old (last_of s).left).parent ≡ Some parent) × (parent < length old.nodes) × ((at old parent).holder ≡ Some holder) × (HoldsSplits old op s → holder ≢ op)
 TellsClimbed op old new before after s t NoMemory = (new ≡ old) × (after ≡ before) × AreSame s t × IsToGrow before.phase
+TellsClimbed op old new before after s t _ = ⊥

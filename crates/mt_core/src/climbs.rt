@@ -9,25 +9,16 @@ ghost use Rattle.mt_core.specs.Climbs.{TellsClimbed};
 use mt_arena::Arena;
 use mt_insert::{insert_child, interior_split, lock_parent, reparent, root_grow, split_prev};
 use mt_operation::{Phase, Splits, Walk};
+use mt_table::Made;
 
-/// What became of such a step.
-#[derive(Clone, Copy, PartialEq, Eq, Debug)]
-pub(crate) enum Climbed {
-    /// It was made.
-    On,
-    /// This operation holds the parent; nothing changed.
-    Blocked(usize),
-    /// There is no memory for a node; nothing changed.
-    NoMemory,
-}
-
-/// Makes the step of the walk's phase.
+/// Makes the step of the walk's phase. If this operation is in the way, or if there is no memory for a
+/// node, nothing changes but what the splits have grown.
 pub(crate) fn climb_on(
     arena: &mut Arena,
     walk: &mut Walk,
     splits: &mut Splits,
     operation: usize,
-) -> Climbed
+) -> Made
     requires phase { IsClimb walk.old.phase }
     requires kept { KeptSplit walk.old.phase arena.old operation splits.old }
     ensures { TellsClimbed operation arena.old arena.new walk.old walk.new splits.old splits.new result }
@@ -36,27 +27,27 @@ pub(crate) fn climb_on(
     match walk.phase {
         Phase::SplitPrev => {
             split_prev(arena, walk, splits, operation);
-            Climbed::On
+            Made::Step
         }
         Phase::LockParent => match lock_parent(arena, walk, splits, operation) {
-            Some(holder) => Climbed::Blocked(holder),
-            None => Climbed::On,
+            Some(holder) => Made::Blocked(holder),
+            None => Made::Step,
         },
         Phase::InsertChild => {
             insert_child(arena, walk, splits, operation);
-            Climbed::On
+            Made::Step
         }
         Phase::InteriorSplit => match interior_split(arena, walk, splits, operation) {
-            Ok(()) => Climbed::On,
-            Err(_) => Climbed::NoMemory,
+            Ok(()) => Made::Step,
+            Err(_) => Made::NoMemory,
         },
         Phase::Reparent => {
             reparent(arena, walk, splits, operation);
-            Climbed::On
+            Made::Step
         }
         Phase::RootGrow => match root_grow(arena, walk, splits, operation) {
-            Ok(()) => Climbed::On,
-            Err(_) => Climbed::NoMemory,
+            Ok(()) => Made::Step,
+            Err(_) => Made::NoMemory,
         },
         _ => unreachable!(),
     }

@@ -9,7 +9,7 @@ ghost use Rattle.mt_remove.specs.Writes.{is_remove};
 ghost use Rattle.mt_core.specs.Writes.{parts, Writes, WritesAt, WritesNodes, WritesTape, MayWrite, MayLock, MayJudge, MayPut, MayBegin, MayClimb, MayBuild, MayUnlock};
 ghost use Rattle.mt_core.specs.Writes.{TellsLocked, TellsJudged, TellsStored, TellsPublished, TellsBegun, TellsParted, TellsClimbed, TellsBuilt, TellsUnlocked};
 
-use crate::climbs::{Climbed, climb_on};
+use crate::climbs::climb_on;
 use crate::layers::build_on;
 use crate::looks::no_memory;
 use crate::removals::{drop_pair, judge_back, judge_removal, lock_back, take_out, unlock_removal};
@@ -255,11 +255,7 @@ fn climb(arena: &mut Arena, operation: &mut Operation, id: usize) -> Made
     requires { MayClimb id arena.old operation.old }
     ensures { WritesNodes id (TellsClimbed id) arena.old arena.new operation.old result operation.new }
 {
-    match climb_on(arena, &mut operation.walk, &mut operation.splits, id) {
-        Climbed::On => Made::Step,
-        Climbed::Blocked(holder) => Made::Blocked(holder),
-        Climbed::NoMemory => Made::NoMemory,
-    }
+    climb_on(arena, &mut operation.walk, &mut operation.splits, id)
 }
 
 // Brings a layer one step nearer. Where there is no memory for its tree, the operation is done.

@@ -1,13 +1,34 @@
 -- A right half that came nearer to its parent, who is in its way, and that there was no memory.
-use Rattle.std.proofs.Common.{refl, sym, ap, subst, ◌∙◌}
+use Rattle.std.proofs.Common.{ℕ, refl, sym, ap, subst, ◌∙◌}
+use Rattle.mt_rows.specs.Accounts.{Accounts}
+use Rattle.mt_tape.specs.Tapes.{Kept}
 use Rattle.mt_arena.specs.Arena.{ArenaView}
 use Rattle.mt_operation.specs.declared.phase.Phase.{Phase}
 use Rattle.mt_operation.specs.declared.walk.Walk.{Walk}
 use Rattle.mt_operation.specs.declared.splits.Splits.{Splits}
+use Rattle.mt_operation.specs.declared.operation.Operation.{Operation}
 use Rattle.mt_operation.specs.Operations.{splits_of, scan_of}
+use Rattle.mt_table.specs.declared.steps.Made.{Made}
+use Rattle.mt_table.specs.declared.steps.Made.TheVariants.{Step, Blocked, NoMemory, Nothing}
+use Rattle.mt_insert.specs.KeptSplits.{HoldsSplits}
 use Rattle.mt_state.specs.Promises.{IsInTheWay}
-use Rattle.mt_core.specs.Writes.{parts}
+use Rattle.mt_core.specs.Climbs.{TellsClimbed as ToldOfNodes}
+use Rattle.mt_core.specs.Writes.{Writes, TellsClimbed, parts}
 use Rattle.mt_core.proofs.writes.climb.Goals as goal
+
+-- what is told of the nodes is told of the operation
+told : (o : ℕ) (old new : ArenaView) (op : Operation) (w : Walk) (s : Splits) (made : Made) → HoldsSplits old o op.splits → ToldOfNodes o old new op.walk w op.splits s made
+    → (tape : Kept) (accounts : Accounts) → Writes o (TellsClimbed o) (parts old tape accounts) (parts new tape accounts) op made (record op { walk = w; splits = s })
+told o old new op w s Step holds e tape accounts = record { climbs = e; rest = refl; others = refl }
+told o old new op w s (Blocked holder) holds e tape accounts = (
+  subst (λ (p : Phase). IsInTheWay old p op.walk (splits_of op.splits) op.removal (scan_of op.task op.scan) holder) (sym e.3) (e.4, e.5, e.6, e.7),
+  e.8 holds,
+  ap (λ (v : ArenaView). parts v tape accounts) e.0,
+  ap (λ (x : Walk). record op { walk = x; splits = s }) e.1 ∙ ap (λ (x : Splits). record op { splits = x }) e.2,
+)
+told o old new op w s NoMemory holds e tape accounts =
+    (e.3, ap (λ (v : ArenaView). parts v tape accounts) e.0, e.2, ap (λ (x : Walk). record op { walk = x; splits = s }) e.1)
+told o old new op w s Nothing holds e tape accounts = absurd e
 
 pub climb_on-requires-clause-phase : goal.climb_on-requires-clause-phase
 climb_on-requires-clause-phase c = c.requires.phase
@@ -15,24 +36,5 @@ climb_on-requires-clause-phase c = c.requires.phase
 pub climb_on-requires-clause-kept : goal.climb_on-requires-clause-kept
 climb_on-requires-clause-kept c = c.requires.kept
 
-pub returns-in-On : goal.returns-in-On
-returns-in-On c = λ tape accounts. record { climbs = c.in-On.ensures; rest = refl; others = refl }
-
-pub returns-in-Blocked : goal.returns-in-Blocked
-returns-in-Blocked c = λ tape accounts.
-    let e = c.in-Blocked.ensures in
-    let op = c.args.operation.now in (
-      subst (λ (p : Phase). IsInTheWay c.args.arena.now p op.walk (splits_of op.splits) op.removal (scan_of op.task op.scan) c.in-Blocked.holder) (sym e.3) (e.4, e.5, e.6, e.7),
-      e.8 c.requires.holds,
-      ap (λ (v : ArenaView). parts v tape accounts) e.0,
-      ap (λ (w : Walk). record op { walk = w; splits = c.climb_on.new.splits }) e.1 ∙ ap (λ (s : Splits). record op { splits = s }) e.2,
-    )
-
-pub returns-in-NoMemory : goal.returns-in-NoMemory
-returns-in-NoMemory c = λ tape accounts.
-    let e = c.in-NoMemory.ensures in (
-      e.3,
-      ap (λ (v : ArenaView). parts v tape accounts) e.0,
-      e.2,
-      ap (λ (w : Walk). record c.args.operation.now { walk = w; splits = c.climb_on.new.splits }) e.1,
-    )
+pub returns : goal.returns
+returns c = told _ _ _ _ _ _ _ c.requires.holds c.climb_on.ensures
