@@ -20,11 +20,10 @@ use Rattle.mt_operation.proofs.Tables.{set_is}
 use Rattle.mt_state.specs.Views.{StateView, Shown, contents_of, op_at, map_of, quota_of, KeepsPast}
 use Rattle.mt_state.specs.Steps.{IsSameAsked, change_in, told_change}
 use Rattle.mt_operation.specs.Phases.{MayFollow, is_unplaced}
-use Rattle.mt_operation.specs.declared.phase.Phase.TheVariants.{Search, Load, Confirm, Snap, Check, Hop, Judge, Store, Publish, SplitStart, SplitMove, MakeLayer, DropKey, Done}
 use Rattle.mt_state.specs.Notes.{EndsJudging, Keeps, Notes}
 use Rattle.mt_state.proofs.Granted.{quota_stays}
 use Rattle.mt_state.proofs.Moved.{first_is}
-use Rattle.mt_state.proofs.HistoryChanges.{placed_after}
+use Rattle.mt_state.proofs.HistoryChanges.{noted_placed, placed_after}
 use Rattle.mt_state.specs.Promises.{IsQuiet, IsPlacing, IsAnswer, IsStep}
 use Rattle.mt_core.specs.Alone.{IsAlone, IsRun}
 
@@ -127,20 +126,10 @@ ends_told old op (Some had) told outcome is ends = ends
 pub stays : (old : StateView) (op : OperationView) (p q : Phase) (told : Option Outcome) (outcome : Outcome) → op.outcome ≡ Some outcome
     → is_unplaced p ≡ false → MayFollow p q → Notes old op p q told
     → (is_unplaced q ≡ false) × (told ≡ op.outcome)
-stays old op Search q told outcome is placed follows notes = absurd (cc)
-stays old op Load q told outcome is placed follows notes = absurd (cc)
-stays old op Confirm q told outcome is placed follows notes = absurd (cc)
-stays old op Snap q told outcome is placed follows notes = absurd (cc)
-stays old op Check q told outcome is placed follows notes = absurd (cc)
-stays old op Hop q told outcome is placed follows notes = absurd (cc)
-stays old op Store q told outcome is placed follows notes = absurd (cc)
-stays old op Publish q told outcome is placed follows notes = absurd (cc)
-stays old op SplitStart q told outcome is placed follows notes = absurd (cc)
-stays old op SplitMove q told outcome is placed follows notes = absurd (cc)
-stays old op MakeLayer q told outcome is placed follows notes = absurd (cc)
-stays old op DropKey q told outcome is placed follows notes = absurd (cc)
-stays old op Judge Done told outcome is placed follows notes = (refl, ends_told old op op.outcome told outcome is notes)
-stays old op p q told outcome is placed follows notes = keeps_told (is_unplaced q) op.outcome told outcome is notes
+stays old op p q told outcome is placed follows notes = elim (noted_placed old op p q told placed notes) [
+  | inl keeps ↦ keeps_told (is_unplaced q) op.outcome told outcome is keeps
+  | inr ends ↦ (ap is_unplaced ends.1, ends_told old op op.outcome told outcome is ends.2)
+]
 
 module _ (old v w : StateView) (o : ℕ) (op : OperationView) (made : ℕ) (done : Bool) (r : IsRunning old v o op made) (s : IsStep v w o done) where
   same : r.after ≡ s.before

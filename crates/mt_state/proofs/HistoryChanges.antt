@@ -92,20 +92,28 @@ same_at_end old op Check told m follows n e = absurd (scan_untold old told m n e
 same_at_end old op Hop told m follows n e = absurd follows
 same_at_end old op _ told m follows n e = n
 
--- an operation that remembers a change, and has a step left, keeps its outcome
-pub same_when_placed : (old : StateView) (op : OperationView) (p q : Phase) (told : Option Outcome) (m : ℕ) → is_unplaced p ≡ false → MayFollow p q
+-- where its change may be placed already, a step keeps the outcome of its operation, or it ends it as it judges
+pub noted_placed : (old : StateView) (op : OperationView) (p q : Phase) (told : Option Outcome) → is_unplaced p ≡ false → Notes old op p q told
+    → Keeps (is_unplaced q) op.outcome told ⊎ ((p ≡ Judge) × (q ≡ Done) × EndsJudging op.outcome old op told)
+noted_placed old op Search q told placed n = absurd (cc)
+noted_placed old op Load q told placed n = absurd (cc)
+noted_placed old op Confirm q told placed n = absurd (cc)
+noted_placed old op Store q told placed n = absurd (cc)
+noted_placed old op Publish q told placed n = absurd (cc)
+noted_placed old op SplitStart q told placed n = absurd (cc)
+noted_placed old op SplitMove q told placed n = absurd (cc)
+noted_placed old op MakeLayer q told placed n = absurd (cc)
+noted_placed old op DropKey q told placed n = absurd (cc)
+noted_placed old op Snap q told placed n = absurd (cc)
+noted_placed old op Check q told placed n = absurd (cc)
+noted_placed old op Hop q told placed n = absurd (cc)
+noted_placed old op Judge Done told placed n = inr (refl, refl, n)
+noted_placed old op p q told placed n = inl n
+
+-- so an operation that remembers a change keeps its outcome
+pub same_when_placed : (old : StateView) (op : OperationView) (p q : Phase) (told : Option Outcome) (m : ℕ) → is_unplaced p ≡ false
     → Notes old op p q told → told_change op.outcome ≡ Some m → told ≡ op.outcome
-same_when_placed old op Search q told m placed follows n e = absurd (cc)
-same_when_placed old op Load q told m placed follows n e = absurd (cc)
-same_when_placed old op Confirm q told m placed follows n e = absurd (cc)
-same_when_placed old op Store q told m placed follows n e = absurd (cc)
-same_when_placed old op Publish q told m placed follows n e = absurd (cc)
-same_when_placed old op SplitStart q told m placed follows n e = absurd (cc)
-same_when_placed old op SplitMove q told m placed follows n e = absurd (cc)
-same_when_placed old op MakeLayer q told m placed follows n e = absurd (cc)
-same_when_placed old op DropKey q told m placed follows n e = absurd (cc)
-same_when_placed old op Snap q told m placed follows n e = absurd (cc)
-same_when_placed old op Check q told m placed follows n e = absurd (cc)
-same_when_placed old op Hop q told m placed follows n e = absurd (cc)
-same_when_placed old op Judge Done told m placed follows n e = judged_same old op op.outcome told m n (inr e)
-same_when_placed old op p q told m placed follows n e = keeps_same (is_unplaced q) op.outcome told n
+same_when_placed old op p q told m placed n e = elim (noted_placed old op p q told placed n) [
+  | inl keeps ↦ keeps_same (is_unplaced q) op.outcome told keeps
+  | inr ends ↦ judged_same old op op.outcome told m ends.2 (inr e)
+]

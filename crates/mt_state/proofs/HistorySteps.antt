@@ -86,7 +86,7 @@ module _ (quotas : Quotas) (first : Maps) (story : Story) (old new : StateView) 
 
   placing_once : (m : ℕ) → change_in s.before ≡ Some m → IsPlacing old new s.before s.after → ⊥
   placing_once m e p =
-      let same = same_when_placed old s.before s.before.phase s.after.phase s.after.outcome m (k.placed m e) s.moves.follows s.notes e in
+      let same = same_when_placed old s.before s.before.phase s.after.phase s.after.outcome m (k.placed m e) s.notes e in
       not_before (sym (ap told_change same) ∙ placed_now p)
 
   -- a placing step ends nothing
