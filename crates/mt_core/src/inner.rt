@@ -318,7 +318,7 @@ impl Inner {
             }
             Stepped::Blocked(holder) => Some(again(holder)),
             Stepped::NoMemory => unreachable!(),
-            Stepped::Left(_) => None,
+            Stepped::Left => None,
             Stepped::Absent => Some(Move::NoSuch),
         }
     }
@@ -352,7 +352,7 @@ impl Inner {
             }
             Stepped::Blocked(holder) => again(holder),
             Stepped::NoMemory => Move::NoMemory,
-            Stepped::Left(_) => Move::NoSuch,
+            Stepped::Left => Move::NoSuch,
             Stepped::Absent => unreachable!(),
         }
     }

@@ -149,7 +149,7 @@ fn a_step_is_made_in_its_place(rt: HostRuntime) {
         (Made::Step, Stepped::To(Phase::Done), 5),
         (Made::Blocked(7), Stepped::Blocked(7), 0),
         (Made::NoMemory, Stepped::NoMemory, 0),
-        (Made::Nothing, Stepped::Left(Phase::Enter), 0),
+        (Made::Nothing, Stepped::Left, 0),
     ] {
         tells_step(&rt, rt.alloc(), made, comes, first);
     }

@@ -120,21 +120,21 @@ module _ (Makes : Body) (n : ℕ) (p0 p1 : Seats) (now : Table) (o : ℕ) (is : 
     first_there (To phase) s first = move_there ends step h later moves is_first phase s first
     first_there (Blocked holder) s first = absurd (no_first is_first s.first first)
     first_there NoMemory s first = absurd (no_first is_first s.first first)
-    first_there (Left phase) s first = absurd (no_first is_first s.0.first first)
+    first_there Left s first = absurd (no_first is_first s.first first)
     first_there Absent s first = absurd (no_first is_first s.2 first)
 
     pub first_last : (stepped : Stepped) → SeatStepsBy Makes p0 p1 o step is_first stepped → is_first ≡ true → IsEndOrSeat p1 ends.last
     first_last (To phase) s first = move_last ends step h later moves is_first phase s first
     first_last (Blocked holder) s first = absurd (no_first is_first s.first first)
     first_last NoMemory s first = absurd (no_first is_first s.first first)
-    first_last (Left phase) s first = absurd (no_first is_first s.0.first first)
+    first_last Left s first = absurd (no_first is_first s.first first)
     first_last Absent s first = absurd (no_first is_first s.2 first)
 
     pub first_new : (stepped : Stepped) → SeatStepsBy Makes p0 p1 o step is_first stepped → is_first ≡ true → ends.last ≡ Some o → ⊥
     first_new (To phase) s first = move_new ends step h later moves is_first phase s first
     first_new (Blocked holder) s first = absurd (no_first is_first s.first first)
     first_new NoMemory s first = absurd (no_first is_first s.first first)
-    first_new (Left phase) s first = absurd (no_first is_first s.0.first first)
+    first_new Left s first = absurd (no_first is_first s.first first)
     first_new Absent s first = absurd (no_first is_first s.2 first)
 
     -- the table stays one
@@ -142,14 +142,14 @@ module _ (Makes : Body) (n : ℕ) (p0 p1 : Seats) (now : Table) (o : ℕ) (is : 
     first_table (To phase) s first p2 e1 l = move_first ends step h later moves is_first phase s p2 e1 first l
     first_table (Blocked holder) s first p2 e1 l = absurd (no_first is_first s.first first)
     first_table NoMemory s first p2 e1 l = absurd (no_first is_first s.first first)
-    first_table (Left phase) s first p2 e1 l = absurd (no_first is_first s.0.first first)
+    first_table Left s first p2 e1 l = absurd (no_first is_first s.first first)
     first_table Absent s first p2 e1 l = absurd (no_first is_first s.2 first)
 
     pub later_table : (stepped : Stepped) → SeatStepsBy Makes p0 p1 o step is_first stepped → is_first ≡ false → IsTable p1 ends
     later_table (To phase) s still = move_later ends step h later moves is_first phase s still
     later_table (Blocked holder) s still = subst (λ (p : Seats). IsTable p ends) (sym (stays_same leaves is_first (BlockedBy holder) (λ e. absurd (cc)) (λ e. absurd (cc)) s)) h
     later_table NoMemory s still = grown_table keeps is_first s ends h
-    later_table (Left phase) s still = subst (λ (p : Seats). IsTable p ends) (sym (stays_same leaves is_first Nothing (λ e. absurd (cc)) (λ e. absurd (cc)) s.0)) h
+    later_table Left s still = subst (λ (p : Seats). IsTable p ends) (sym (stays_same leaves is_first Nothing (λ e. absurd (cc)) (λ e. absurd (cc)) s)) h
     later_table Absent s still = subst (λ (p : Seats). IsTable p ends) (sym s.1) h
 
     -- and shows what has come of it
@@ -161,10 +161,8 @@ module _ (Makes : Body) (n : ℕ) (p0 p1 : Seats) (now : Table) (o : ℕ) (is : 
       ap (padded n) (shows ∙ ap table_of (stays_same leaves is_first (BlockedBy holder) (λ e. absurd (cc)) (λ e. absurd (cc)) s)) ∙ is,
     )
     steps_by NoMemory s p2 shows = grows_by keeps is_first s p2 shows
-    steps_by (Left phase) s p2 shows =
-        let same_op = same leaves is_first Nothing (λ e. absurd (cc)) (λ e. absurd (cc)) s.0 in (
-          stays_by leaves is_first Nothing (λ e. absurd (cc)) (λ e. absurd (cc)) s.0,
-          s.1 ∙ ap (λ (op : Operation). op.walk.phase) same_op,
-          ap (padded n) (shows ∙ ap table_of (stays_same leaves is_first Nothing (λ e. absurd (cc)) (λ e. absurd (cc)) s.0)) ∙ is,
-        )
+    steps_by Left s p2 shows = (
+      stays_by leaves is_first Nothing (λ e. absurd (cc)) (λ e. absurd (cc)) s,
+      ap (padded n) (shows ∙ ap table_of (stays_same leaves is_first Nothing (λ e. absurd (cc)) (λ e. absurd (cc)) s)) ∙ is,
+    )
     steps_by Absent s p2 shows = (shown_op n p0 now o is ∙ ap operation_in s.0, ap (padded n) (shows ∙ ap table_of s.1) ∙ is)

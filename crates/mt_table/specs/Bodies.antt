@@ -59,7 +59,7 @@ abbrev pub StepsBy : Body → Table → Table → ℕ → ℕ → Stepped → Ty
 StepsBy Makes old new o step (To phase) = MovesBy Makes old new o step phase
 StepsBy Makes old new o step (Blocked holder) = StaysBy Makes old o (BlockedBy holder) × (new ≡ old)
 StepsBy Makes old new o step NoMemory = GrowsBy Makes old new o
-StepsBy Makes old new o step (Left phase) = (s : StaysBy Makes old o Nothing) × (phase ≡ s.op.walk.phase) × (new ≡ old)
+StepsBy Makes old new o step Left = StaysBy Makes old o Nothing × (new ≡ old)
 StepsBy Makes old new o step Absent = (op_at old o ≡ None) × (new ≡ old)
 
 -- the same of the operation in a seat
@@ -89,5 +89,5 @@ abbrev pub SeatStepsBy : Body → Seats → Seats → ℕ → ℕ → Bool → S
 SeatStepsBy Makes old new o step is_first (To phase) = SeatMovesBy Makes old new o step is_first phase
 SeatStepsBy Makes old new o step is_first (Blocked holder) = SeatStaysBy Makes old new o is_first (BlockedBy holder)
 SeatStepsBy Makes old new o step is_first NoMemory = SeatStaysBy Makes old new o is_first RefusedBy
-SeatStepsBy Makes old new o step is_first (Left phase) = (s : SeatStaysBy Makes old new o is_first Nothing) × (phase ≡ s.after.walk.phase)
+SeatStepsBy Makes old new o step is_first Left = SeatStaysBy Makes old new o is_first Nothing
 SeatStepsBy Makes old new o step is_first Absent = (seat_at old o ≡ None) × (new ≡ old) × (is_first ≡ false)

@@ -70,7 +70,7 @@ pub(crate) fn step_at<F: FnMut(&mut Operation) -> Made>(
         }
         Made::Blocked(holder) => Stepped::Blocked(holder),
         Made::NoMemory => Stepped::NoMemory,
-        Made::Nothing => Stepped::Left(operation.walk.phase),
+        Made::Nothing => Stepped::Left,
     };
     SeatStep {
         stepped,

@@ -24,8 +24,8 @@ pub enum Stepped {
     Blocked(usize),
     /// It has made none, since memory was refused.
     NoMemory,
-    /// Nothing has happened: the body left the step to others, which is that of this phase.
-    Left(Phase),
+    /// Nothing has happened: the body left the step to others.
+    Left,
     /// Nobody has the id.
     Absent,
 }

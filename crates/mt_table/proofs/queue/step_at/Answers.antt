@@ -63,17 +63,14 @@ pub returns-in-Nothing : goal.returns-in-Nothing
 returns-in-Nothing g c =
     let gave : CalledAtMut g.F.FnMut c.args.makes.now c.index_mut.result.now.operation.value c.makes.result c.makes.new.self c.makes.new.arg2 = record { shown = _; shows = c.as_mut-operation.ensures.value; left = _; called = c.makes.ensures; leaves = refl } in
     record {
-      steps = (
-        record {
-          seat = c.index_mut.result.now;
-          there = c.index_mut.ensures.value;
-          after = c.makes.new.arg2;
-          makes = subst (λ r. CalledAtMut g.F.FnMut c.args.makes.now c.index_mut.result.now.operation.value r c.makes.new.self c.makes.new.arg2) c.in-Nothing.is gave;
-          first = refl;
-          slots = refl;
-        },
-        refl,
-      );
+      steps = record {
+        seat = c.index_mut.result.now;
+        there = c.index_mut.ensures.value;
+        after = c.makes.new.arg2;
+        makes = subst (λ r. CalledAtMut g.F.FnMut c.args.makes.now c.index_mut.result.now.operation.value r c.makes.new.self c.makes.new.arg2) c.in-Nothing.is gave;
+        first = refl;
+        slots = refl;
+      };
       uncalled = λ none. absurd (cc);
       room = written_room c.args.seats.now c.args.id _;
     }

@@ -73,5 +73,5 @@ returns-in-Left c =
         look_left (core_of c.self.inside) _ c.args.id c.self.view_is c.self.invariant c.requires.few s.op s.there s.op.walk.phase (c.self.inside.steps + 1) s.op
             (look_told (core_of c.self.inside) _ c.args.id c.self.view_is c.self.invariant c.requires.few s.op s.there (c.self.inside.steps + 1) Nothing _ _ s.op s.makes.shows s.makes.leaves s.makes.called.met.1),
       );
-      unchanged = ap (λ (t : Table). record (core_of c.self.inside) { table = t }) c.in-Left.ensures.steps.2 ∙ c.self.view_is;
+      unchanged = ap (λ (t : Table). record (core_of c.self.inside) { table = t }) c.in-Left.ensures.steps.1 ∙ c.self.view_is;
     }

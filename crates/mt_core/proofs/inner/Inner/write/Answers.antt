@@ -78,13 +78,13 @@ pub invariant_of-self-in-Left : goal.invariant_of-self-in-Left
 invariant_of-self-in-Left c =
     let s = c.in-Left.ensures.steps.0 in
     (write_none (core_of c.self.inside) _ c.args.id c.self.view_is c.self.invariant c.requires.few s.op s.there c.requires.others _ s.op
-    (write_told (core_of c.self.inside) _ c.args.id c.self.view_is c.self.invariant c.requires.few s.op s.there _ Nothing _ _ s.op s.makes.shows s.makes.leaves s.makes.called.met.1) _ c.in-Left.ensures.steps.2).0
+    (write_told (core_of c.self.inside) _ c.args.id c.self.view_is c.self.invariant c.requires.few s.op s.there _ Nothing _ _ s.op s.makes.shows s.makes.leaves s.makes.called.met.1) _ c.in-Left.ensures.steps.1).0
 
 pub returns-in-Left : goal.returns-in-Left
 returns-in-Left c =
     let s = c.in-Left.ensures.steps.0 in
     (write_none (core_of c.self.inside) _ c.args.id c.self.view_is c.self.invariant c.requires.few s.op s.there c.requires.others _ s.op
-    (write_told (core_of c.self.inside) _ c.args.id c.self.view_is c.self.invariant c.requires.few s.op s.there _ Nothing _ _ s.op s.makes.shows s.makes.leaves s.makes.called.met.1) _ c.in-Left.ensures.steps.2).1
+    (write_told (core_of c.self.inside) _ c.args.id c.self.view_is c.self.invariant c.requires.few s.op s.there _ Nothing _ _ s.op s.makes.shows s.makes.leaves s.makes.called.met.1) _ c.in-Left.ensures.steps.1).1
 
 pub unreachable-requires : goal.unreachable-requires
 unreachable-requires c = write_there (core_of c.self.inside) _ c.args.id IsNoLook c.self.view_is c.requires.others c.in-Absent.ensures.steps.0
