@@ -2,6 +2,7 @@
 
 ghost use Rattle.std.specs.Prelude.{◌≡◌, None, IfOk, OnOk, IfErr};
 ghost use Rattle.mt_store_logs.specs.Flushes.{Flushes, FailsToFlush, DrainsIn, FailsToDrain, DrainsUpto, FailsInDrains};
+ghost use Rattle.mt_store_logs.specs.LogTurns.{BringsUp, FailsToBringUp};
 
 use crate::source::Source;
 use crate::store_log::StoreLog;
@@ -30,6 +31,28 @@ impl Flushed {
         ensures { result ≡ self.now.mark }
     {
         self.mark
+    }
+}
+
+/// A log's turn: opens the log again if its disk failed, then flushes it. The log then has all of its worker's
+/// changes up to the step that is told.
+///
+/// Errors: those of `StoreLog::reopen`, after which nothing was drained; else those of `flush`.
+pub fn bring_up<D: Disk + Drop, S: Source>(
+    alloc: Global,
+    log: &mut StoreLog<D>,
+    source: &mut S,
+    upto: u64,
+) -> Result<Flushed, Refusal>
+    requires { S.serves source.old log.old.worker upto }
+    ensures ok { IfOk result (λ flushed. BringsUp D.is_honest D.state D.failures S.gives log.old.worker upto flushed.mark log.old log.new source.old source.new) }
+    ensures whose { IfOk result (λ flushed. flushed.worker ≡ log.old.worker) }
+    ensures worker { log.new.worker ≡ log.old.worker }
+    ensures err { IfErr result (λ e. FailsToBringUp D.is_honest D.state D.failures S.gives log.old.worker upto e log.old log.new source.old source.new) }
+{
+    match log.reopen(alloc) {
+        Ok(()) => flush(alloc, log, source, upto),
+        Err(refusal) => Err(refusal),
     }
 }
 

@@ -15,7 +15,7 @@ use Rattle.mt_store_logs.specs.declared.flushing.Flushed.{Flushed}
 use Rattle.mt_settle.specs.Turns.{Turn, BroughtUp, mark_told, Chain}
 use Rattle.mt_settle.specs.Settles.{turns_from, Settles}
 use Rattle.mt_stored.specs.declared.source.OwnState.{OwnState}
-use Rattle.mt_stored.specs.LogTurns.{BringsUp, FailsToBringUp}
+use Rattle.mt_store_logs.specs.LogTurns.{BringsUp, FailsToBringUp}
 use Rattle.mt_stored.specs.Stores.{gives_own, DoesStore, IsSettled}
 
 -- no step was made, and there are as many logs

@@ -1,4 +1,3 @@
 pub mod Changes
 pub mod Keeping
-pub mod LogTurns
 pub mod Stores

@@ -15,7 +15,7 @@ use Rattle.mt_store_logs.specs.Places.{mark_in, closed_on, MakesAll}
 use Rattle.mt_store_logs.specs.Recovers.{ServesAgain, IsNotRecovered}
 use Rattle.mt_settle.specs.Turns.{Turn, BroughtUp}
 use Rattle.mt_stored.specs.declared.source.OwnState.{OwnState}
-use Rattle.mt_stored.specs.LogTurns.{BringsUp, FailsToBringUp}
+use Rattle.mt_store_logs.specs.LogTurns.{BringsUp, FailsToBringUp}
 
 -- each log is open, and goes up to the last step that was made
 abbrev pub IsSettled : {D : Type 0} → StateView → List (StoreLog D) → Type 0

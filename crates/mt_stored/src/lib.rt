@@ -12,7 +12,6 @@ pub mod laws;
 pub mod shared;
 pub mod source;
 pub mod stores;
-pub mod turns;
 
 pub use changes::{LogChange, change_of};
 pub use keeping::{FLUSH_ANSWERS, Keeper};

@@ -4,13 +4,12 @@ ghost use Rattle.std.specs.Prelude.{◌≡◌, vec_len, IfOk};
 
 use crate::changes::change_of;
 use crate::source::SharedBook;
-use crate::turns::bring_up_log;
 use log::{Log, warn};
 use mt_book::{Book, locked};
 use mt_disk::Disk;
 use mt_rows::Refusal;
 use mt_settle::Logs;
-use mt_store_logs::{Flushed, StoreLog};
+use mt_store_logs::{Flushed, StoreLog, bring_up};
 use std::alloc::{AllocError, Global};
 use std::sync::ledger::Ledger;
 use std::sync::{Mutex, Wait};
@@ -57,7 +56,7 @@ impl<L: Ledger, D: Disk + Drop> Logs for SharedLogs<'_, L, D> {
         let before = guard.mark();
         let steps = locked(rt, self.book).steps();
         let source = &mut SharedBook::new(rt, self.book);
-        let told = bring_up_log(alloc, &mut *guard, source, steps);
+        let told = bring_up(alloc, &mut *guard, source, steps);
         // Under the log's lock, so that its warnings come in the order of its changes.
         if let Some(change) = change_of(log, before, guard.mark()) {
             warn!(rt; "{change}");

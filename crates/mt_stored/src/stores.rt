@@ -6,14 +6,14 @@ ghost use Rattle.mt_store_logs.specs.Places.{closed_on, AreInOrder};
 ghost use Rattle.mt_stored.specs.Stores.{no_memory};
 
 use crate::source::OwnState;
-use crate::turns::bring_up_log;
 use log::Log;
 use mt_core::State;
 use mt_disk::Disk;
 use mt_rows::{Refusal, Tenants};
 use mt_settle::{Logs, settle};
 use mt_store_logs::{
-    Flushed, LogRefusal, NoWatch, StoreLog, Watch, closed_logs, create_logs, recover_watched,
+    Flushed, LogRefusal, NoWatch, StoreLog, Watch, bring_up, closed_logs, create_logs,
+    recover_watched,
 };
 use std::alloc::{AllocError, Global};
 use std::sync::Wait;
@@ -169,7 +169,7 @@ impl<D: Disk + Drop> Logs for Store<D> {
         log: u8,
     ) -> Result<Flushed, Refusal> {
         let steps = self.source.state.steps();
-        bring_up_log(
+        bring_up(
             alloc,
             &mut self.logs[usize::from(log)],
             &mut self.source,

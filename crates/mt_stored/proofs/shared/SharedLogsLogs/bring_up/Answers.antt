@@ -8,4 +8,4 @@ pub returns-clause-whose : goal.returns-clause-whose
 returns-clause-whose g c =
     let same = ap (λ (l : StoreLog g.row.D.Denot). l.worker) (c.deref_mut.ensures.value ∙ sym c.deref.ensures) in
     let log : c.deref_mut.result.now.worker ≡ c.args.log = same ∙ sym c.worker.ensures ∙ c.if-worker-log.false in
-    IfOk-weaker c.bring_up_log-told.result _ _ (λ f e. e ∙ log) c.bring_up_log-told.ensures.whose
+    IfOk-weaker c.bring_up-told.result _ _ (λ f e. e ∙ log) c.bring_up-told.ensures.whose

@@ -6,13 +6,13 @@ use Rattle.std.proofs.lemmas.Result.{IfOk-weaker}
 use Rattle.mt_settle.specs.Turns.{BroughtUp, mark_told}
 use Rattle.mt_store_logs.proofs.Closed.{same_order}
 use Rattle.mt_store_logs.proofs.Loops.{same_workers}
-use Rattle.mt_stored.specs.LogTurns.{BringsUp, FailsToBringUp}
+use Rattle.mt_store_logs.specs.LogTurns.{BringsUp, FailsToBringUp}
 use Rattle.mt_stored.specs.Stores.{gives_own, DoesStore}
 use Rattle.mt_stored.proofs.StoreTurns.{turned, as_many}
 use Rattle.mt_stored.proofs.stores.StoreLogs.bring_up.Goals as goal
 
-pub bring_up_log-requires : goal.bring_up_log-requires
-bring_up_log-requires g c =
+pub bring_up-requires : goal.bring_up-requires
+bring_up-requires g c =
     let logs = c.args.self.now.logs.items in
     let place = c.from.result in
     let before = c.index_mut.result.now in
@@ -30,38 +30,38 @@ returns-clause-whose g c =
     let before = c.index_mut.result.now in
     let within : place < length logs = search rules in
     let there : slice_get logs place ≡ Some before = slice_get-get_or logs place before within ∙ ap Some (sym c.index_mut.ensures.value) in
-    IfOk-weaker c.bring_up_log.result _ _ (λ f e. e ∙ c.args.self.now.order place before there ∙ c.from.ensures) c.bring_up_log.ensures.whose
+    IfOk-weaker c.bring_up.result _ _ (λ f e. e ∙ c.args.self.now.order place before there ∙ c.from.ensures) c.bring_up.ensures.whose
 
 pub returns-clause-does : goal.returns-clause-does
 returns-clause-does g c =
     let was = c.args.self.now.source in
-    let is = c.bring_up_log.new.source in
+    let is = c.bring_up.new.source in
     let logs = c.args.self.now.logs.items in
     let place = c.from.result in
     let before = c.index_mut.result.now in
-    let after = c.bring_up_log.new.log in
-    let r = c.bring_up_log.result in
+    let after = c.bring_up.new.log in
+    let r = c.bring_up.result in
     let within : place < length logs = search rules in
     let there : slice_get logs place ≡ Some before = slice_get-get_or logs place before within ∙ ap Some (sym c.index_mut.ensures.value) in
     let whose : before.worker ≡ c.args.log = c.args.self.now.order place before there ∙ c.from.ensures in
     subst (λ k. DoesStore g.D.Disk.is_honest g.D.Disk.state g.D.Disk.failures (BroughtUp c.args.log (mark_told r)) was logs is (slice_set logs k after)) (sym c.from.ensures)
     (turned g.D.Disk.is_honest g.D.Disk.state g.D.Disk.failures c.args.log before.worker r was is logs before after
     (subst (λ k. slice_get logs k ≡ Some before) c.from.ensures there) whose
-    (subst (λ n. IfOk r (λ f. BringsUp g.D.Disk.is_honest g.D.Disk.state g.D.Disk.failures gives_own before.worker n f.mark before after was is)) c.steps-steps.ensures c.bring_up_log.ensures.ok)
-    (subst (λ n. IfErr r (λ e. FailsToBringUp g.D.Disk.is_honest g.D.Disk.state g.D.Disk.failures gives_own before.worker n e before after was is)) c.steps-steps.ensures c.bring_up_log.ensures.err))
+    (subst (λ n. IfOk r (λ f. BringsUp g.D.Disk.is_honest g.D.Disk.state g.D.Disk.failures gives_own before.worker n f.mark before after was is)) c.steps-steps.ensures c.bring_up.ensures.ok)
+    (subst (λ n. IfErr r (λ e. FailsToBringUp g.D.Disk.is_honest g.D.Disk.state g.D.Disk.failures gives_own before.worker n e before after was is)) c.steps-steps.ensures c.bring_up.ensures.err))
 
 pub invariant_of-self : goal.invariant_of-self
 invariant_of-self g c =
     let logs = c.args.self.now.logs.items in
     let place = c.from.result in
     let before = c.index_mut.result.now in
-    let after = c.bring_up_log.new.log in
+    let after = c.bring_up.new.log in
     record {
       all =
-          as_many g.D.Disk.is_honest g.D.Disk.state g.D.Disk.failures before.worker c.steps-steps.result c.bring_up_log.result c.args.self.now.source c.bring_up_log.new.source
-          before after c.bring_up_log.ensures.ok c.bring_up_log.ensures.err
+          as_many g.D.Disk.is_honest g.D.Disk.state g.D.Disk.failures before.worker c.steps-steps.result c.bring_up.result c.args.self.now.source c.bring_up.new.source
+          before after c.bring_up.ensures.ok c.bring_up.ensures.err
           ∙ c.args.self.now.all;
       order =
-          same_order logs (slice_set logs place after) (same_workers place logs after before (c.bring_up_log.ensures.worker ∙ ap (λ l. l.worker) c.index_mut.ensures.value))
+          same_order logs (slice_set logs place after) (same_workers place logs after before (c.bring_up.ensures.worker ∙ ap (λ l. l.worker) c.index_mut.ensures.value))
           c.args.self.now.order;
     }
