@@ -9,8 +9,9 @@ use Rattle.mt_state.specs.Views.{StateView}
 use Rattle.mt_core.specs.Tickets.{named}
 use Rattle.mt_crashes.specs.Stores.{ReachesAt}
 use Rattle.mt_store_logs.specs.declared.store_log.StoreLog.{StoreLog}
-use Rattle.mt_store_logs.specs.Waits.{AppendsKept}
+use Rattle.mt_store_logs.specs.Waits.{AppendsKept, Reopens}
 use Rattle.mt_store_logs.specs.Flushes.{DrainsIn, DrainsShort, HasDrained, FailsToDrain, FailsInDrains, Flushes, FailsToFlush}
+use Rattle.mt_store_logs.specs.LogTurns.{BringsUp, FailsToBringUp}
 use Rattle.mt_lives.specs.declared.serving.Serving.{Serving}
 use Rattle.mt_lives.specs.Serving.{DrainsServing}
 use Rattle.mt_lives.specs.Lives.{Life, Standing, IsMemoryOrDevice, steps_in}
@@ -19,7 +20,7 @@ use Rattle.mt_lives.proofs.Comes.{set_there, set_twice}
 use Rattle.mt_lives.proofs.Served.{last}
 use Rattle.mt_lives.proofs.Flushing.{keeps_rules, failures_of}
 use Rattle.mt_lives.proofs.Noting.{life_served, lives_so, held}
-use Rattle.mt_lives.proofs.Noted.{kept_again, waits_again, drained_again, keeps_again}
+use Rattle.mt_lives.proofs.Noted.{none_waits, kept_again, waits_again, drained_again, keeps_again, reopen_noted, reopen_fails}
 
 -- drains leave the Settles
 short_settles : (worker n upto : ℕ) (old new : StoreLog MemDisk) (was is : Serving) → DrainsShort keeps_rules mem_state failures_of DrainsServing worker n upto old new was is
@@ -33,6 +34,11 @@ pub flush_settles : (worker upto mark : ℕ) (old new : StoreLog MemDisk) (was i
 flush_settles worker upto mark old new was is f =
     let h = f.drains.0 in
     h.last.given.settles ∙ short_settles worker h.times upto f.first h.mid was h.between h.short
+
+-- and a turn
+pub turn_settles : (worker upto mark : ℕ) (old new : StoreLog MemDisk) (was is : Serving) → BringsUp keeps_rules mem_state failures_of DrainsServing worker upto mark old new was is
+    → is.settles ≡ was.settles
+turn_settles worker upto mark old new was is b = flush_settles worker upto mark b.mid new was is b.flushes
 
 module _ (accounts : Accounts) (standing : Standing) (worker : ℕ) where
   -- All holds of a store whose log is this one; no batch waits for it, and the Settles are those.
@@ -155,6 +161,54 @@ module _ (accounts : Accounts) (standing : Standing) (logs : List (StoreLog MemD
         memory = r.1;
       }
   flush_fails upto e new now (inr f) = drains_stop accounts standing worker logs serving there upto e f.first new serving now (first_rests f.first f.kept) f.fails
+
+  -- ---- a turn
+
+  -- the log is open
+  reopen_rests : (mid : StoreLog MemDisk) → Reopens keeps_rules mem_state failures_of log mid → Rests accounts standing worker logs serving mid serving
+  reopen_rests mid r =
+      let a = reopen_noted accounts standing logs serving h worker log mid here r in
+      record { holds = a.again; none = none_waits log.slot log mid r; settles = refl; steps = refl }
+
+  -- and then it is flushed
+  then_first : (mid first : StoreLog MemDisk) → Rests accounts standing worker logs serving mid serving → AppendsKept keeps_rules mem_state failures_of mid first
+      → Rests accounts standing worker logs serving first serving
+  then_first mid first r a =
+      let k = kept_again accounts standing (slice_set logs worker mid) serving r.holds worker mid first (there mid) a in
+      record { holds = twice accounts standing worker logs serving there mid first serving k.again; none = a.none; settles = refl; steps = refl }
+
+  pub turn_noted : (upto mark : ℕ) (new : StoreLog MemDisk) (now : Serving) → BringsUp keeps_rules mem_state failures_of DrainsServing worker upto mark log new serving now
+      → Flushed accounts standing worker logs serving there upto mark new now
+  turn_noted upto mark new now b =
+      let f = b.flushes in
+      drains_rest accounts standing worker logs serving there upto mark f.first new serving now (then_first b.mid f.first (reopen_rests b.mid b.opens) f.kept)
+      f.drains.0 f.drains.1
+
+  pub turn_fails : (upto : ℕ) (e : Refusal) (new : StoreLog MemDisk) (now : Serving)
+      → FailsToBringUp keeps_rules mem_state failures_of DrainsServing worker upto e log new serving now → Refuses accounts standing worker logs serving there e new now
+  turn_fails upto e new now (inl f) =
+      let r = reopen_fails accounts standing logs serving h worker log new here e f.fails in
+      record {
+        holds = subst (λ (x : Serving). Holds accounts standing (slice_set logs worker new) (Some x)) (sym f.same) r.0.again;
+        settles = ap (λ (x : Serving). x.settles) f.same;
+        memory = r.1;
+      }
+  turn_fails upto e new now (inr f) = by f.fails
+    where
+      open_now : Rests accounts standing worker logs serving f.mid serving
+      open_now = reopen_rests f.mid f.opens
+
+      by : FailsToFlush keeps_rules mem_state failures_of DrainsServing worker upto e f.mid new serving now → Refuses accounts standing worker logs serving there e new now
+      by (inl w) =
+          let r = waits_again accounts standing (slice_set logs worker f.mid) serving open_now.holds worker f.mid new (there f.mid) e w.fails in
+          record {
+            holds =
+                subst (λ (x : Serving). Holds accounts standing (slice_set logs worker new) (Some x)) (sym w.same)
+                (twice accounts standing worker logs serving there f.mid new serving r.0.again);
+            settles = ap (λ (x : Serving). x.settles) w.same;
+            memory = r.1;
+          }
+      by (inr s) = drains_stop accounts standing worker logs serving there upto e s.first new serving now (then_first f.mid s.first open_now s.kept) s.fails
 
   -- the steps of the life are those of its state
   pub steps_so : steps_in (life_served accounts standing logs serving h) ≡ serving.state.steps

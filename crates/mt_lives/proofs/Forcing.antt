@@ -12,8 +12,9 @@ use Rattle.mt_recover.specs.declared.resuming.LogSlot.{LogSlot}
 use Rattle.mt_recover.specs.declared.resuming.LogSlot.TheVariants.{Open, Failed, Closed, Away}
 use Rattle.mt_store_logs.specs.declared.store_log.StoreLog.{StoreLog}
 use Rattle.mt_store_logs.specs.Places.{log_with, mark_in, disk_in, FailsToOpen}
-use Rattle.mt_store_logs.specs.Waits.{HasAppended, HasFailed, TakesIn, AppendsKept, FailsToAppend, with_kept, opened_with, FailsAgain, FailsToReopenAt}
+use Rattle.mt_store_logs.specs.Waits.{HasAppended, HasFailed, TakesIn, AppendsKept, FailsToAppend, with_kept, opened_with, FailsAgain, ReopensAt, FailsToReopenAt}
 use Rattle.mt_store_logs.specs.Flushes.{DrainsShort, FailsToDrain, FailsToFlush}
+use Rattle.mt_store_logs.specs.LogTurns.{FailsToBringUp}
 use Rattle.mt_crashes.proofs.Members.{no_some}
 use Rattle.mt_lives.specs.declared.serving.Serving.{Serving}
 use Rattle.mt_lives.specs.Serving.{DrainsServing}
@@ -112,6 +113,29 @@ flush_failed worker upto old new was is open_so (inr stops) =
     let mid = drained worker f.times upto stops.first f.mid was f.between first.open_still f.short in
     subst (λ n. GoesUp n (failures new.slot)) (mid.same ∙ first.same) (not_drained worker f.mid new f.between is mid.open_still f.fails)
 
+-- an open log is not opened again: the batch that waited is appended, or is not
+open_reopens : (slot : LogSlot MemDisk) (old new : StoreLog MemDisk) → mark_in slot ≢ None → ReopensAt keeps_rules mem_state failures_of slot old new
+    → AppendsKept keeps_rules mem_state failures_of old new
+open_reopens (Open log) old new open_so r = r
+open_reopens (Failed log) old new open_so r = absurd (open_so refl)
+open_reopens (Closed disk) old new open_so r = absurd (open_so refl)
+open_reopens Away old new open_so r = absurd (open_so refl)
+
+open_still_waits : (e : Refusal) (slot : LogSlot MemDisk) (old new : StoreLog MemDisk) → mark_in slot ≢ None → FailsToReopenAt keeps_rules mem_state failures_of e slot old new
+    → FailsToAppend keeps_rules mem_state failures_of e old new
+open_still_waits e (Open log) old new open_so f = f
+open_still_waits e (Failed log) old new open_so f = absurd (open_so refl)
+open_still_waits e (Closed disk) old new open_so f = absurd (open_so refl)
+open_still_waits e Away old new open_so f = absurd (open_so refl)
+
+-- a turn of an open log
+pub turn_failed : (worker upto : ℕ) (old new : StoreLog MemDisk) (was is : Serving) → mark_in old.slot ≢ None
+    → FailsToBringUp keeps_rules mem_state failures_of DrainsServing worker upto refusals.Device old new was is → DiskFails old new
+turn_failed worker upto old new was is open_so (inl f) = failed old new open_so (open_still_waits refusals.Device old.slot old new open_so f.fails)
+turn_failed worker upto old new was is open_so (inr f) =
+    let opened = appended old f.mid (open_reopens old.slot old f.mid open_so f.opens) in
+    subst (λ n. GoesUp n (failures new.slot)) opened.same (flush_failed worker upto f.mid new was is opened.open_still f.fails)
+
 -- a reopening of a log that isn't open, and whose disk is there
 not_opened : (old : MemDisk) (new : LogSlot MemDisk) → FailsToOpen keeps_rules mem_state failures_of refusals.Device (Some old) new → GoesUp (failures_of old) (failures new)
 not_opened old (Closed new) f = f.1
@@ -156,11 +180,11 @@ module _ (accounts : Accounts) (logs : Logs) (serving : Option Serving) (worker 
   flush_forced upto e was is open_so f = tt
 
   pub settle_forced : (id upto : ℕ) (e : Refusal) (was is : Serving) (mark : Option ℕ) → mark_in log.slot ≡ mark
-      → FailsToFlush keeps_rules mem_state failures_of DrainsServing worker upto e log new was is
+      → FailsToBringUp keeps_rules mem_state failures_of DrainsServing worker upto e log new was is
       → IsForced accounts (SettleNext id) (Refused e) logs serving (slice_set logs worker new)
   settle_forced id upto refusals.Device was is None shut f = (worker, inr (log, here, shut))
   settle_forced id upto refusals.Device was is (Some m) at_mark f =
-      (worker, inl (fails (flush_failed worker upto log new was is (λ e. no_some m (sym e ∙ at_mark)) f)))
+      (worker, inl (fails (turn_failed worker upto log new was is (λ e. no_some m (sym e ∙ at_mark)) f)))
   settle_forced id upto e was is mark is_mark f = tt
 
   pub reopen_forced : (e : Refusal) (held : Serving) (standing : Standing) → Holds accounts standing logs (Some held) → mark_in log.slot ≡ None

@@ -11,6 +11,7 @@ use Rattle.mt_rows.specs.declared.refusal.Refusal.{Refusal}
 use Rattle.mt_store_logs.specs.declared.store_log.StoreLog.{StoreLog}
 use Rattle.mt_store_logs.specs.Waits.{Reopens, FailsToReopen}
 use Rattle.mt_store_logs.specs.Flushes.{Flushes, FailsToFlush}
+use Rattle.mt_store_logs.specs.LogTurns.{BringsUp, FailsToBringUp}
 use Rattle.mt_lives.specs.declared.events.StoreEvent.{StoreEvent}
 use Rattle.mt_lives.specs.declared.events.StoreEvent.TheVariants.{Flush, Reopen, SettleNext}
 use Rattle.mt_lives.specs.declared.events.StoreNote.{StoreNote}
@@ -81,12 +82,12 @@ module _ (accounts : Accounts) (standing : Standing) (logs : List (StoreLog MemD
         now_there : now.settles ≡ serving.settles → get nat_cmp now.settles id ≡ Some settle
         now_there same = ap (λ m. get nat_cmp m id) same ∙ there
 
-        pub settle_goes : (mark : ℕ) → Flushes keeps_rules mem_state failures_of DrainsServing worker serving.state.steps mark log new serving now
+        pub settle_goes : (mark : ℕ) → BringsUp keeps_rules mem_state failures_of DrainsServing worker serving.state.steps mark log new serving now
             → (note : StoreNote) → Turns (length (slice_set logs worker new)) id settle mark now.settles end.settles note → Goes (SettleNext id) note (slice_set logs worker new) end
         settle_goes mark f note t = by note t
           where
             r : drains.Flushed accounts standing worker logs serving (drains.there accounts standing logs serving h worker log here) serving.state.steps mark new now
-            r = drains.flush_noted accounts standing logs serving h worker log here serving.state.steps mark new now f
+            r = drains.turn_noted accounts standing logs serving h worker log here serving.state.steps mark new now f
 
             open_so : get nat_cmp now.settles id ≡ Some settle
             open_so = now_there r.settles
@@ -109,10 +110,10 @@ module _ (accounts : Accounts) (standing : Standing) (logs : List (StoreLog MemD
                 (settling_of.settles accounts standing (slice_set logs worker new) now r.holds end state roster id settle open_so mark reach at_last t.0 t.2)
             by note t = absurd t
 
-        pub settle_stops : (e : Refusal) → FailsToFlush keeps_rules mem_state failures_of DrainsServing worker serving.state.steps e log new serving now
+        pub settle_stops : (e : Refusal) → FailsToBringUp keeps_rules mem_state failures_of DrainsServing worker serving.state.steps e log new serving now
             → Updates nat_cmp now.settles end.settles id None → Goes (SettleNext id) (Refused e) (slice_set logs worker new) end
         settle_stops e f u =
-            let r = drains.flush_fails accounts standing logs serving h worker log here serving.state.steps e new now f in
+            let r = drains.turn_fails accounts standing logs serving h worker log here serving.state.steps e new now f in
             let open_so : get nat_cmp now.settles id ≡ Some settle = now_there r.settles in (
               settling id None standing,
               (serves, settling_of.is_open accounts standing (slice_set logs worker new) now r.holds end state roster id settle open_so, r.memory, refl),

@@ -55,7 +55,7 @@ of_reopening e Away old new f not_bad turn = of_log e old new f turn
 
 -- ---- the batch that waits
 
-none_waits : (slot : LogSlot MemDisk) (old new : StoreLog MemDisk) → ReopensAt keeps_rules mem_state failures_of slot old new → new.kept ≡ None
+pub none_waits : (slot : LogSlot MemDisk) (old new : StoreLog MemDisk) → ReopensAt keeps_rules mem_state failures_of slot old new → new.kept ≡ None
 none_waits (Failed log) old new r = r.appends.none
 none_waits (Closed disk) old new r = r.appends.none
 none_waits (Open log) old new r = r.none

@@ -16,7 +16,7 @@ pub enum StoreEvent {
     Reopen { worker: u8 },
     /// A Settle begins.
     SettleBegin { id: u64 },
-    /// It flushes the next log, up to the last step.
+    /// Its next log has a turn: the log is opened again if its disk failed, and flushed up to the last step.
     SettleNext { id: u64 },
     /// All disks crash at this moment, each to its image, and the store is recovered.
     Crash { images: Vec<Vec<u8>> },

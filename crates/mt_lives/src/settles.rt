@@ -9,6 +9,7 @@ ghost use Rattle.mt_disk.specs.Mem.{mem_state};
 ghost use Rattle.mt_store_logs.specs.declared.store_log.StoreLog.{StoreLog as AnyLog};
 ghost use Rattle.mt_store_logs.specs.Places.{workers_of, AreInOrder};
 ghost use Rattle.mt_store_logs.specs.Flushes.{Flushes, FailsToFlush};
+ghost use Rattle.mt_store_logs.specs.LogTurns.{BringsUp, FailsToBringUp};
 ghost use Rattle.mt_lives.specs.declared.events.StoreEvent.TheVariants.{Flush, Reopen, SettleBegin, SettleNext};
 ghost use Rattle.mt_lives.specs.declared.serving.Serving.{Serving as AnyServing};
 ghost use Rattle.mt_lives.specs.Serving.{DrainsServing};
@@ -19,7 +20,7 @@ use crate::events::StoreNote;
 use crate::serving::{Serving, Settle};
 use mt_disk::MemDisk;
 use mt_rows::Refusal;
-use mt_store_logs::{StoreLog, flush};
+use mt_store_logs::{StoreLog, bring_up, flush};
 use std::alloc::{AllocError, Global};
 
 /// Drains a worker once into its log, if there is one and it is open.
@@ -81,7 +82,7 @@ pub(crate) fn begin_settle(serving: &mut Serving, id: u64) -> Result<StoreNote, 
     Ok(StoreNote::Begun(begun))
 }
 
-/// Flushes the log that is next in a Settle, up to the last step.
+/// Gives the log that is next in a Settle its turn, up to the last step. A server gives it the same.
 pub(crate) fn go_on(
     alloc: Global,
     logs: &mut [StoreLog<MemDisk>],
@@ -99,7 +100,7 @@ pub(crate) fn go_on(
         return StoreNote::NoSuch;
     };
     let steps = serving.state.steps();
-    match flush_log(
+    match bring_up_log(
         alloc,
         &mut logs[usize::from(settle.next)],
         serving,
@@ -130,6 +131,27 @@ fn flush_log(
     ensures err { IfErr result (λ e. FailsToFlush (λ (d : AnyDisk). true) mem_state (λ d. d.failures) DrainsServing worker upto e log.old log.new serving.old serving.new) }
 {
     match flush(alloc, log, serving, upto) {
+        Ok(flushed) => Ok(flushed.mark()),
+        Err(refusal) => Err(refusal),
+    }
+}
+
+// Gives a worker's log its turn, up to a step at least, and tells the step up to which the log then goes.
+fn bring_up_log(
+    alloc: Global,
+    log: &mut StoreLog<MemDisk>,
+    serving: &mut Serving,
+    worker: u8,
+    upto: u64,
+) -> Result<u64, Refusal>
+    requires whose { log.old.worker ≡ worker }
+    requires served { worker < length serving.old.state.logs }
+    requires made { upto ≤ serving.old.state.steps }
+    ensures ok { IfOk result (λ mark. BringsUp (λ (d : AnyDisk). true) mem_state (λ d. d.failures) DrainsServing worker upto mark log.old log.new serving.old serving.new) }
+    ensures worker { log.new.worker ≡ log.old.worker }
+    ensures err { IfErr result (λ e. FailsToBringUp (λ (d : AnyDisk). true) mem_state (λ d. d.failures) DrainsServing worker upto e log.old log.new serving.old serving.new) }
+{
+    match bring_up(alloc, log, serving, upto) {
         Ok(flushed) => Ok(flushed.mark()),
         Err(refusal) => Err(refusal),
     }

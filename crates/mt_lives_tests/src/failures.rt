@@ -76,6 +76,19 @@ fn again(log: usize) -> [Row; 10] {
     ]
 }
 
+// A flush of a log, and a Settle, with no event that opens the log again.
+fn unopened(log: usize) -> [Row; 6] {
+    let worker = if log == 1 { 1 } else { 0 };
+    [
+        Row::Put(1, worker, "a", "1"),
+        Row::Flush(worker),
+        Row::Put(2, worker, "b", "1"),
+        Row::Settle,
+        Row::Next,
+        Row::Next,
+    ]
+}
+
 // The greatest number that was settled before a row.
 fn settled_before(noted: &[Noted], place: usize) -> u64 {
     let mut greatest = 0;
@@ -188,6 +201,37 @@ fn a_settle_ends_behind_two_calls_that_failed(rt: HostRuntime) -> Result<(), Fai
                 };
                 assert!(rt; settles_again(&rt, alloc, fate), "{fate:?}");
             }
+        }
+    }
+    Ok(())
+}
+
+// Whether a flush fails, and a Settle then opens the log again, and ends with the number of the last step.
+fn settle_opens(rt: &impl Abort, alloc: Global, fate: Fate) -> bool {
+    let rows = unopened(fate.disk);
+    let Some(noted) = run(rt, alloc, fate, &rows) else {
+        return false;
+    };
+    let last = noted.get(2).map(|told| told.1);
+    let settles = noted
+        .get(5)
+        .is_some_and(|told| told.0 == "settled" && Some(told.1) == last);
+    fails_at(&noted, 1) && settles
+}
+
+// The flush makes the calls 4 to 7.
+#[test]
+fn a_settle_opens_a_log_again(rt: HostRuntime) -> Result<(), Fail> {
+    let alloc = rt.alloc();
+    for disk in [0, 1] {
+        for first in 4..8 {
+            let fate = Fate {
+                disk,
+                first,
+                second: 0,
+                stop: 0,
+            };
+            assert!(rt; settle_opens(&rt, alloc, fate), "{fate:?}");
         }
     }
     Ok(())

@@ -5,12 +5,12 @@ use Rattle.std.specs.BTreeMap.{get}
 use Rattle.std.proofs.lemmas.Option.{slice_get-get_or}
 use Rattle.mt_lives.specs.declared.events.StoreEvent.TheVariants.{SettleNext}
 use Rattle.mt_disk.specs.Mem.{mem_state}
-use Rattle.mt_store_logs.specs.Flushes.{Flushes, FailsToFlush}
+use Rattle.mt_store_logs.specs.LogTurns.{BringsUp, FailsToBringUp}
 use Rattle.mt_lives.specs.declared.events.StoreNote.TheVariants.{Refused}
 use Rattle.mt_lives.specs.Serving.{DrainsServing}
 use Rattle.mt_lives.specs.Steps.{Turns}
 use Rattle.mt_lives.proofs.Flushing.{keeps_rules, failures_of}
-use Rattle.mt_lives.proofs.Draining.{flush_settles}
+use Rattle.mt_lives.proofs.Draining.{turn_settles}
 use Rattle.mt_store_logs.specs.Places.{mark_in}
 use Rattle.mt_lives.specs.Forced.{IsForced}
 use Rattle.mt_lives.proofs.Forcing.{turn_forced, settle_forced}
@@ -31,7 +31,7 @@ turned-requires-clause-open c =
     let settle = c.in-Some.settle in
     let there : get nat_cmp was.settles c.args.id ≡ Some settle = search rules in
     ap (λ m. get nat_cmp m c.args.id)
-    (flush_settles settle.next c.steps-steps.result c.in-Ok.mark (get_or c.args.logs.now c.from.result c.index-logs-from.result) c.flush_log.new.log was c.flush_log.new.serving c.in-Ok.ensures.ok)
+    (turn_settles settle.next c.steps-steps.result c.in-Ok.mark (get_or c.args.logs.now c.from.result c.index-logs-from.result) c.bring_up_log.new.log was c.bring_up_log.new.serving c.in-Ok.ensures.ok)
     ∙ there
 
 pub returns-in-Ok-clause-goes : goal.returns-in-Ok-clause-goes
@@ -41,14 +41,14 @@ returns-in-Ok-clause-goes c = λ accounts standing h.
     let settle = c.in-Some.settle in
     let place = c.from.result in
     let log = get_or logs place c.index-logs-from.result in
-    let new = c.flush_log.new.log in
-    let now = c.flush_log.new.serving in
+    let new = c.bring_up_log.new.log in
+    let now = c.bring_up_log.new.serving in
     let there : get nat_cmp was.settles c.args.id ≡ Some settle = search rules in
     let here = subst (λ k. slice_get logs k ≡ Some log) c.from.ensures
     (slice_get-get_or logs place c.index-logs-from.result (omega (arith, c.from.ensures, next_within accounts standing logs was h was refl refl c.args.id settle there))) in
     subst (λ k. Goes accounts standing logs was h (SettleNext c.args.id) c.turned.result (slice_set logs k new) c.turned.new.serving) (sym c.from.ensures)
     (settle_goes accounts standing logs was h settle.next log new here now c.args.id settle there refl c.turned.new.serving c.turned.ensures.state c.turned.ensures.roster c.in-Ok.mark
-    (subst (λ n. Flushes keeps_rules mem_state failures_of DrainsServing settle.next n c.in-Ok.mark log new was now) c.steps-steps.ensures c.in-Ok.ensures.ok) c.turned.result
+    (subst (λ n. BringsUp keeps_rules mem_state failures_of DrainsServing settle.next n c.in-Ok.mark log new was now) c.steps-steps.ensures c.in-Ok.ensures.ok) c.turned.result
     (subst (λ k. Turns (length (slice_set logs k new)) c.args.id settle c.in-Ok.mark now.settles c.turned.new.serving.settles c.turned.result) c.from.ensures c.turned.ensures.turns))
 
 pub returns-in-Err-clause-goes : goal.returns-in-Err-clause-goes
@@ -58,21 +58,21 @@ returns-in-Err-clause-goes c = λ accounts standing h.
     let settle = c.in-Some.settle in
     let place = c.from.result in
     let log = get_or logs place c.index-logs-from.result in
-    let new = c.flush_log.new.log in
-    let now = c.flush_log.new.serving in
+    let new = c.bring_up_log.new.log in
+    let now = c.bring_up_log.new.serving in
     let end = record now { settles = c.remove.new.self } in
     let there : get nat_cmp was.settles c.args.id ≡ Some settle = search rules in
     let here = subst (λ k. slice_get logs k ≡ Some log) c.from.ensures
     (slice_get-get_or logs place c.index-logs-from.result (omega (arith, c.from.ensures, next_within accounts standing logs was h was refl refl c.args.id settle there))) in
     subst (λ k. Goes accounts standing logs was h (SettleNext c.args.id) (Refused c.in-Err.refusal) (slice_set logs k new) end) (sym c.from.ensures)
     (settle_stops accounts standing logs was h settle.next log new here now c.args.id settle there refl end refl refl c.in-Err.refusal
-    (subst (λ n. FailsToFlush keeps_rules mem_state failures_of DrainsServing settle.next n c.in-Err.refusal log new was now) c.steps-steps.ensures c.in-Err.ensures.err) c.remove.ensures.updates)
+    (subst (λ n. FailsToBringUp keeps_rules mem_state failures_of DrainsServing settle.next n c.in-Err.refusal log new was now) c.steps-steps.ensures c.in-Err.ensures.err) c.remove.ensures.updates)
 
 pub returns-in-Ok-clause-forced : goal.returns-in-Ok-clause-forced
 returns-in-Ok-clause-forced c = λ accounts.
     let logs = c.args.logs.now in
-    turn_forced accounts (length (slice_set logs c.from.result c.flush_log.new.log)) c.args.id c.in-Ok.mark c.in-Some.settle c.flush_log.new.serving.settles c.turned.new.serving.settles logs
-    (slice_set logs c.from.result c.flush_log.new.log) (Some c.args.serving.now) c.turned.result c.turned.ensures.turns
+    turn_forced accounts (length (slice_set logs c.from.result c.bring_up_log.new.log)) c.args.id c.in-Ok.mark c.in-Some.settle c.bring_up_log.new.serving.settles c.turned.new.serving.settles logs
+    (slice_set logs c.from.result c.bring_up_log.new.log) (Some c.args.serving.now) c.turned.result c.turned.ensures.turns
 
 pub returns-in-Err-clause-forced : goal.returns-in-Err-clause-forced
 returns-in-Err-clause-forced c = λ accounts.
@@ -81,16 +81,16 @@ returns-in-Err-clause-forced c = λ accounts.
     let settle = c.in-Some.settle in
     let place = c.from.result in
     let log = get_or logs place c.index-logs-from.result in
-    let new = c.flush_log.new.log in
+    let new = c.bring_up_log.new.log in
     let held = c.requires.held in
     let there : get nat_cmp was.settles c.args.id ≡ Some settle = search rules in
     let here = subst (λ k. slice_get logs k ≡ Some log) c.from.ensures
     (slice_get-get_or logs place c.index-logs-from.result (omega (arith, c.from.ensures, next_within held.0 held.1 logs was held.2 was refl refl c.args.id settle there))) in
     subst (λ k. IsForced accounts (SettleNext c.args.id) (Refused c.in-Err.refusal) logs (Some was) (slice_set logs k new)) (sym c.from.ensures)
-    (settle_forced accounts logs (Some was) settle.next log new here c.args.id c.steps-steps.result c.in-Err.refusal was c.flush_log.new.serving (mark_in log.slot) refl c.in-Err.ensures.err)
+    (settle_forced accounts logs (Some was) settle.next log new here c.args.id c.steps-steps.result c.in-Err.refusal was c.bring_up_log.new.serving (mark_in log.slot) refl c.in-Err.ensures.err)
 
-pub flush_log-requires-clause-whose : goal.flush_log-requires-clause-whose
-flush_log-requires-clause-whose c =
+pub bring_up_log-requires-clause-whose : goal.bring_up_log-requires-clause-whose
+bring_up_log-requires-clause-whose c =
     let logs = c.args.logs.now in
     let was = c.args.serving.now in
     let place = c.from.result in
@@ -101,7 +101,7 @@ flush_log-requires-clause-whose c =
     ∙ c.from.ensures
 
 pub returns-in-Ok-clause-workers : goal.returns-in-Ok-clause-workers
-returns-in-Ok-clause-workers c = same_workers c.from.result c.args.logs.now c.flush_log.new.log c.index-logs-from.result c.flush_log.ensures.worker
+returns-in-Ok-clause-workers c = same_workers c.from.result c.args.logs.now c.bring_up_log.new.log c.index-logs-from.result c.bring_up_log.ensures.worker
 
 pub returns-in-Err-clause-workers : goal.returns-in-Err-clause-workers
-returns-in-Err-clause-workers c = same_workers c.from.result c.args.logs.now c.flush_log.new.log c.index-logs-from.result c.flush_log.ensures.worker
+returns-in-Err-clause-workers c = same_workers c.from.result c.args.logs.now c.bring_up_log.new.log c.index-logs-from.result c.bring_up_log.ensures.worker
