@@ -3,13 +3,15 @@
 ghost use Rattle.std.specs.Prelude.{◌^◌, ◌≤◌, IsTrue};
 ghost use Rattle.std.specs.List.{All};
 ghost use Rattle.mt_rows.specs.TenantPairs.{pairs_of, quota_in, IsTenantPair, AreDistinct, HasTenants, KeepsQuotas};
+ghost use Rattle.mt_log.specs.Contents.{IsBatch};
 ghost use Rattle.mt_state.specs.Begins.{HaveNoPairs};
 
 use mt_core::State;
-use mt_log::Front;
-use mt_recover::{Checkpoint, recover};
+use mt_disk::MemDisk;
+use mt_log::{Front, LogFile, fits};
+use mt_recover::recover;
 use mt_rows::key::USER_KEY_BYTES;
-use mt_rows::{TenantPair, Tenants};
+use mt_rows::{Batch, Record, Records, TenantPair, Tenants};
 use std::alloc::Global;
 use std::process::Abort;
 
@@ -24,7 +26,7 @@ fn three_tenants(alloc: Global) -> Tenants
     tenants
 }
 
-/// A state with these pairs, as a recovery from a checkpoint gives them.
+/// A state with these pairs, as a recovery from a log gives them.
 pub(crate) fn restored(
     rt: &impl Abort,
     alloc: Global,
@@ -40,7 +42,7 @@ pub(crate) fn restored(
     State::restore(alloc, steps, logs, tenants, &pairs).expect(rt, "memory")
 }
 
-// What a recovery makes of a checkpoint of these pairs, and of a log without batches.
+// What a recovery makes of a log that puts these pairs.
 #[tactic(auto, using(crate::proofs::Ascending::distinct))]
 fn recovered(
     rt: &impl Abort,
@@ -53,30 +55,56 @@ fn recovered(
     ensures tenants { HasTenants (quota_in tenants.now) (pairs_of result.items) }
     ensures quotas { KeepsQuotas (quota_in tenants.now) (pairs_of result.items) }
 {
-    let checkpoint = Checkpoint {
-        first: 0,
-        last: 0,
-        pairs,
-    };
-    let fronts = one_front(rt, alloc);
-    let recovered = recover(alloc, fronts, [Some(checkpoint), None], tenants).expect(
-        rt,
-        "within quotas",
-    );
+    let fronts = one_front(rt, alloc, pairs);
+    let recovered = recover(alloc, fronts, [None, None], tenants).expect(rt, "within quotas");
     assert!(rt; are_within(&recovered.pairs));
     recovered.pairs
 }
 
-// The front of the only log, without batches.
-fn one_front(rt: &impl Abort, alloc: Global) -> Vec<Front> {
+// The front of the only log, whose batch puts these pairs.
+fn one_front(rt: &impl Abort, alloc: Global, pairs: Vec<TenantPair>) -> Vec<Front> {
+    let batch = batch_of(rt, alloc, pairs);
+    assert!(rt; fits(&batch));
+    let front = front_of(alloc, batch).expect(rt, "a log");
     let mut fronts = Vec::new(alloc);
-    let front = Front {
-        worker: 0,
-        logs: 1,
-        batches: Vec::new(alloc),
-    };
     assert!(rt; fronts.push(front).is_ok());
     fronts
+}
+
+// The front of a log in memory that was given this batch.
+fn front_of(alloc: Global, batch: Batch) -> Option<Front>
+    requires { IsBatch batch }
+{
+    let disk = MemDisk::new(alloc, Vec::new(alloc), None);
+    let Ok(log) = LogFile::create(disk, 0, 1) else {
+        return None;
+    };
+    let Ok(log) = log.append(alloc, batch) else {
+        return None;
+    };
+    match LogFile::open(alloc, log.into_disk()) {
+        Ok((_, front)) => Some(front),
+        Err(_) => None,
+    }
+}
+
+// A batch of a record for each pair, stamped with its place from 1 on.
+fn batch_of(rt: &impl Abort, alloc: Global, pairs: Vec<TenantPair>) -> Batch {
+    let mut records = Vec::new(alloc);
+    for pair in pairs {
+        let record = Record {
+            stamp: records.len() as u64 + 1,
+            tenant: pair.tenant,
+            key: pair.key,
+            row: Some(pair.row),
+        };
+        assert!(rt; records.push(record).is_ok());
+    }
+    Batch {
+        from: 0,
+        to: records.len() as u64,
+        records: Records::new(records),
+    }
 }
 
 // Whether each pair is within the limits.

@@ -5,10 +5,11 @@ ghost use Rattle.mt_rows.specs.Commands.{IsKey};
 ghost use Rattle.mt_log.specs.Contents.{IsBatch};
 ghost use Rattle.mt_recover.specs.Resumes.{IsOpenUpto};
 
+use mt_checkpoint::Checkpoint;
 use mt_disk::MemDisk;
 use mt_log::batch::MAX_STEP;
 use mt_log::{AppendFault, Front, LogFile, OpenFault, fits};
-use mt_recover::{Checkpoint, LogSlot, Recovered, recover, resume};
+use mt_recover::{LogSlot, Recovered, recover, resume};
 use mt_rows::{Batch, Column, Key, Record, Records, Refusal, Row, TenantPair, Tenants};
 use std::alloc::{AllocError, Global};
 use std::mem;

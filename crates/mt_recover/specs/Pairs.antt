@@ -8,7 +8,7 @@ use Rattle.mt_rows.specs.Tenants.{Contents as Pairs, owned_cmp}
 use Rattle.mt_rows.specs.TenantPairs.{owner_of, pairs_of}
 use Rattle.mt_rows.specs.declared.record.TenantPair.{TenantPair}
 use Rattle.mt_crashes.specs.Bases.{CheckpointView}
-use Rattle.mt_recover.specs.declared.checkpoint.Checkpoint.{Checkpoint}
+use Rattle.mt_checkpoint.specs.declared.checkpoint.Checkpoint.{Checkpoint}
 
 -- by tenant, and then by key: they rise strictly
 abbrev pub Ascend : List TenantPair → Type 0
