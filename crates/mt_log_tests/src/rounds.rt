@@ -44,7 +44,7 @@ const NONE: Steps = (0, 0);
 
 // The checkpoints in slots 0 and 1, and which of them is used: both when the logs are recovered, up to 25, and
 // when they are recovered again, up to 40. Then 26 to 40 are void.
-const CHECKPOINTS: [(Steps, Steps, Option<u8>); 11] = [
+const CHECKPOINTS: [(Steps, Steps, Option<u8>); 13] = [
     (NONE, NONE, None),
     ((10, 20), NONE, Some(0)),
     (NONE, (10, 20), Some(1)),
@@ -54,8 +54,22 @@ const CHECKPOINTS: [(Steps, Steps, Option<u8>); 11] = [
     ((10, 25), NONE, Some(0)),
     ((20, 27), NONE, None),
     ((20, 27), (10, 20), Some(1)),
+    ((20, 27), (10, 40), None),
+    ((10, 40), (10, 25), Some(1)),
     ((10, 20), (10, 40), Some(0)),
     ((10, 20), (20, 45), Some(0)),
+];
+
+// A checkpoint that is used, and the rows over it: a record is replayed if its stamp is over the checkpoint's first
+// step.
+const BASES: [(Steps, Rows); 7] = [
+    ((2, 20), [12, 0, 5, 0, 0, 25, 0, 1]),
+    ((4, 20), [12, 0, 5, 0, 0, 25, 0, 1]),
+    ((5, 20), [12, 0, 0, 0, 0, 25, 0, 1]),
+    ((11, 20), [12, 0, 0, 0, 0, 25, 0, 1]),
+    ((12, 20), [3, 0, 0, 0, 0, 25, 0, 1]),
+    ((14, 20), [3, 4, 0, 0, 0, 25, 0, 1]),
+    ((25, 25), [3, 4, 0, 0, 0, 0, 0, 1]),
 ];
 
 fn history(alloc: Global) -> Result<Vec<Change>, AllocError> {
@@ -147,6 +161,17 @@ fn expect_recovered(rt: &impl Abort, alloc: Global, logs: &mut [Log], least: u64
     }
 }
 
+// And over each of these.
+fn expect_replayed(rt: &impl Abort, alloc: Global, logs: &mut [Log]) {
+    for (steps, rows) in BASES {
+        let told = recover_over(alloc, logs, [walk_in(0, steps), None], 8).expect(rt, "a recovery");
+        assert!(rt;
+            told.used == Some(0) && rows_of(&told.pairs) == Some(rows),
+            "{steps:?}: {told:?}"
+        );
+    }
+}
+
 // Whether each log ends so once the recovery has its resume batches.
 fn end_resumed(
     alloc: Global,
@@ -165,6 +190,7 @@ fn three_logs_are_recovered_and_recovered_again(rt: HostRuntime) -> Result<(), F
     let mut logs = three_logs(alloc)?;
     for (least, ends) in [(25, ENDS), (40, [40; 3])] {
         expect_recovered(&rt, alloc, &mut logs, least);
+        expect_replayed(&rt, alloc, &mut logs);
         let told = end_resumed(alloc, &mut logs, ends, least);
         assert!(rt; told == Ok(true), "resumed from {least}");
     }

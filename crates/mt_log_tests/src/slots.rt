@@ -1,15 +1,18 @@
 //! Changes of one tenant, logs in memory that have them, and their recovery, as the tests share them.
 
-ghost use Rattle.std.specs.Prelude.{◌≡◌, ◌<◌, ◌≤◌, IfOk, IsTrue};
+ghost use Rattle.std.specs.Prelude.{◌≡◌, ◌<◌, ◌≤◌, ◌↔◌, IfOk, IsTrue};
+ghost use Rattle.std.specs.List.{All};
 ghost use Rattle.mt_rows.specs.Commands.{IsKey};
+ghost use Rattle.mt_recover.specs.Limits.{IsReadSlot};
 ghost use Rattle.mt_log.specs.Contents.{IsBatch};
 ghost use Rattle.mt_recover.specs.Resumes.{IsOpenUpto};
 
-use mt_checkpoint::Checkpoint;
+use mt_checkpoint::{Checkpoint, ReadFault, Writer, create_slot, read_valid};
 use mt_disk::MemDisk;
 use mt_log::batch::MAX_STEP;
 use mt_log::{AppendFault, Front, LogFile, OpenFault, fits};
 use mt_recover::{LogSlot, Recovered, recover, resume};
+use mt_rows::key::USER_KEY_BYTES;
 use mt_rows::{Batch, Column, Key, Record, Records, Refusal, Row, TenantPair, Tenants};
 use std::alloc::{AllocError, Global};
 use std::mem;
@@ -209,12 +212,8 @@ pub fn open_all(alloc: Global, logs: &mut [Log]) -> Result<Vec<Front>, Refusal> 
     Ok(fronts)
 }
 
-// A checkpoint as it is read, if there is one.
-fn checkpoint_of(alloc: Global, walk: Option<Walk>) -> Result<Option<Checkpoint>, AllocError> {
-    let Some(walk) = walk else {
-        return Ok(None);
-    };
-    let rows = walk.rows;
+// Pairs of the keys that have a row.
+fn pairs_in(alloc: Global, rows: Rows) -> Result<Vec<TenantPair>, AllocError> {
     let mut pairs = Vec::new(alloc);
     for key in 0..8 {
         let row = rows[usize::from(key)];
@@ -222,14 +221,57 @@ fn checkpoint_of(alloc: Global, walk: Option<Walk>) -> Result<Option<Checkpoint>
             pairs.push(pair_of(alloc, key, row)?)?;
         }
     }
-    Ok(Some(Checkpoint {
-        first: walk.first,
-        last: walk.last,
-        pairs,
-    }))
+    Ok(pairs)
 }
 
-/// Opens logs, and recovers them over two checkpoints.
+// Whether the keys of pairs are user keys, as a writer asks for them.
+fn keys_fit(pairs: &[TenantPair]) -> bool
+    ensures { IsTrue result ↔ All (λ p. IsKey p.key) pairs.now }
+{
+    pairs
+        .iter()
+        .all(|pair| pair.key.as_bytes().len() <= USER_KEY_BYTES)
+}
+
+// A slot in which a walk was written.
+fn written(alloc: Global, walk: Walk) -> Result<MemDisk, Refusal> {
+    let pairs = pairs_in(alloc, walk.rows)?;
+    if !keys_fit(&pairs) {
+        return Err(Refusal::NoStore);
+    }
+    let mut disk = MemDisk::new(alloc, Vec::new(alloc), None);
+    if create_slot(&mut disk).is_err() {
+        return Err(Refusal::Device);
+    }
+    let Ok(writer) = Writer::begin(disk, walk.first) else {
+        return Err(Refusal::Device);
+    };
+    let Ok(writer) = writer.add(alloc, &pairs) else {
+        return Err(Refusal::Memory);
+    };
+    match writer.end(walk.last) {
+        Ok(disk) => Ok(disk),
+        Err(_) => Err(Refusal::Device),
+    }
+}
+
+// A walk as its slot is read, if there is one.
+fn checkpoint_of(alloc: Global, walk: Option<Walk>) -> Result<Option<Checkpoint>, Refusal>
+    ensures { IfOk result IsReadSlot }
+{
+    let Some(walk) = walk else {
+        return Ok(None);
+    };
+    let mut disk = written(alloc, walk)?;
+    match read_valid(alloc, &mut disk) {
+        Ok(Some(checkpoint)) => Ok(Some(checkpoint)),
+        Ok(None) => Err(Refusal::NoStore),
+        Err(ReadFault::Device) => Err(Refusal::Device),
+        Err(ReadFault::Memory) => Err(Refusal::Memory),
+    }
+}
+
+/// Opens logs, and recovers them over the checkpoints of two slots, in which these walks were written.
 pub fn recover_over(
     alloc: Global,
     logs: &mut [Log],
