@@ -1,36 +1,24 @@
 -- What a recovery may ask of the logs that were opened for it.
-use Rattle.std.proofs.Common.{◌≡◌, ℕ, zero, suc, ◌≤◌, ◌<◌, ◌^◌, max, Bool, List, [], ◌∷◌, map, length, refl, sym, ◌∙◌, ap, subst, arith, Option, Some, None}
+use Rattle.std.proofs.Common.{◌≡◌, ℕ, zero, suc, ◌≤◌, ◌<◌, ◌^◌, max, Bool, List, map, length, refl, sym, ◌∙◌, ap, subst, arith, Option, Some, None}
 use Rattle.std.specs.Prelude.{slice_get, slice_index_or}
-use Rattle.std.specs.List.{AllByRecursion}
 use native.Mathlib.Numerals.{unary_clauses}
 use Rattle.mt_disk.specs.Disk.{DiskState}
 use Rattle.mt_log.specs.declared.batch.Front.{Front}
-use Rattle.mt_log.specs.declared.batch.LogBatch.{LogBatch}
-use Rattle.mt_log.specs.declared.batch.LogBatch.TheVariants.{Records, Resume}
-use Rattle.mt_log.specs.Contents.{Contents, IsContents, IsLogBatch, to_of, end_of, mark_of, contents_of}
+use Rattle.mt_log.specs.Contents.{Contents, IsContents, mark_of, contents_of}
 use Rattle.mt_rows.specs.Tenants.{Contents as Pairs}
 use Rattle.mt_crashes.specs.Fronts.{In, last_end}
 use Rattle.mt_crashes.specs.Recoveries.{IsRecovered}
 use Rattle.mt_crashes.proofs.Members.{in_map, map_in, in_place, place_in}
-use Rattle.mt_crashes.proofs.FrontLaws.{greatest_below, upto_last, cutoff_upto_last}
+use Rattle.mt_crashes.proofs.FrontLaws.{upto_last, cutoff_upto_last}
 use Rattle.mt_crashes.proofs.Invariant.{within_place, one_there}
 use Rattle.mt_recover.specs.declared.resuming.LogSlot.{LogSlot}
 use Rattle.mt_recover.specs.declared.resuming.LogSlot.TheVariants.{Open, Failed, Closed, Away}
 use Rattle.mt_recover.specs.Resumes.{IsOpenUpto}
+use Rattle.mt_recover.proofs.Limits.{last_within as steps_within}
 use Rattle.mt_store_logs.specs.declared.store_log.StoreLog.{StoreLog}
 use Rattle.mt_store_logs.specs.Places.{disk_in, Opens, OpensAs, OpensAll}
 use Rattle.mt_store_logs.specs.Recovers.{no_checkpoints}
 use Rattle.mt_store_logs.proofs.Loops.{read_or, get_within}
-
--- ---- a log's mark is a step
-
-to_within : (b : LogBatch) → IsLogBatch b → to_of b ≤ 2 ^ 59
-to_within (Records b) is = is.last
-to_within (Resume from to kept) is = is.last
-
-end_within : (mark : ℕ) (bs : List LogBatch) → mark ≤ 2 ^ 59 → AllByRecursion IsLogBatch bs → end_of mark bs ≤ 2 ^ 59
-end_within mark [] within each = within
-end_within mark (b ∷ bs) within each = end_within (to_of b) bs (to_within b each.0) each.1
 
 max_zero : (n : ℕ) → max n 0 ≡ n
 max_zero zero = refl
@@ -78,12 +66,7 @@ module _ {D : Type 0} (is_honest : D → Bool) (state : D → DiskState) (failur
   pub last_within : (old mid : List (StoreLog D)) (fronts : List Front) → OpensAll is_honest state failures old mid fronts
       → last_end (map contents_of fronts) ≤ 2 ^ 59
   last_within old mid fronts opens =
-      greatest_below (2 ^ 59) (map mark_of (map contents_of fronts)) (λ k at.
-      let from = map_in mark_of k (map contents_of fronts) at in
-      let is = in_format old mid fronts opens from.0 from.1 in
-      let within = end_within 0 from.0.batches (omega arith) is.batches in
-      let same = from.2 in
-      omega (arith, within, same))
+      steps_within (map contents_of fronts) (in_format old mid fronts opens)
 
   pub are_open_upto : (old mid : List (StoreLog D)) (fronts : List Front) (to : ℕ) → OpensAll is_honest state failures old mid fronts
       → last_end (map contents_of fronts) ≤ to → (k : ℕ) (d : StoreLog D) → k < length mid → IsOpenUpto to (slice_index_or mid k d).slot

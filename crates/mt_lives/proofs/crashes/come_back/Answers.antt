@@ -1,7 +1,8 @@
 -- Why a recovery's pairs may be put into a state, and what it says where there is none.
 use Rattle.std.proofs.Common.{refl, inl, inr}
 use Rattle.mt_disk.specs.Mem.{mem_state}
-use Rattle.mt_store_logs.proofs.Limits.{distinct, limits_of, resumes_within}
+use Rattle.mt_recover.proofs.Limits.{distinct}
+use Rattle.mt_store_logs.proofs.Limits.{limits_of, resumes_within}
 use Rattle.mt_lives.proofs.Flushing.{keeps_rules, failures_of}
 use Rattle.mt_lives.proofs.crashes.come_back.Goals as goal
 

@@ -6,7 +6,8 @@ use Rattle.mt_rows.specs.TenantPairs.{AreDistinct, IsTenantPair}
 use Rattle.mt_core.specs.Restores.{IsRestored}
 use Rattle.mt_store_logs.specs.Recovers.{ServesAgain}
 use Rattle.mt_store_logs.specs.Places.{closed_on}
-use Rattle.mt_store_logs.proofs.Limits.{distinct, limits_of, resumes_within}
+use Rattle.mt_recover.proofs.Limits.{distinct}
+use Rattle.mt_store_logs.proofs.Limits.{limits_of, resumes_within}
 use Rattle.mt_stored.proofs.Slices.{whole}
 use Rattle.mt_stored.proofs.stores.Store.recover_watched.Goals as goal
 
