@@ -1,42 +1,26 @@
 -- What a caller over one state answers, by what the runs of its commands leave: for `Alone` and its private functions.
 use Rattle.std.proofs.Common.{◌≡◌, ◌≢◌, ℕ, ◌+◌, ◌*◌, ◌<◌, ◌≤◌, inl, inr, Bool, true, false, cond, eqb, List, [], ◌∷◌, length, Option, Some, None, Result, Ok, Err, is_some, refl, sym, ap, subst, ◌∙◌, arith}
-use mathlib.Core.Path.{fun_ext}
-use Rattle.std.proofs.Math.Nat.{mul-le-mul_left, mul-le-mul_right, mul-add}
+use Rattle.std.proofs.{Math.Nat.{mul-le-mul_left, mul-le-mul_right, mul-add}, lemmas.Bool.eqb-true}
 use Rattle.std.specs.Prelude.{◌^◌, IsSome}
-use Rattle.std.proofs.lemmas.Bool.{eqb-true}
-use Rattle.mt_rows.specs.declared.command.Command.{Command}
-use Rattle.mt_rows.specs.declared.reply.Reply.{Reply}
-use Rattle.mt_rows.specs.declared.refusal.Refusal.{Refusal}
-use Rattle.mt_rows.specs.declared.refusal.Refusal.TheVariants as refusals
-use Rattle.mt_rows.specs.declared.tenants.Account.{Account}
-use Rattle.mt_rows.specs.Accounts.{Accounts, account_of}
-use Rattle.mt_rows.specs.Maps.{reply_of, map_after, is_scan}
-use Rattle.mt_rows.specs.Tenants.{Contents, tenant_map}
+use Rattle.mt_rows.specs.{declared.command.Command.Command, declared.reply.Reply.Reply, declared.refusal.Refusal.Refusal, declared.tenants.Account.Account}
+use Rattle.mt_rows.specs.{Accounts.{Accounts, account_of}, Maps.{reply_of, map_after, is_scan}, Tenants.{Contents, tenant_map}}
 use Rattle.mt_runs.specs.Placings.{Maps}
-use Rattle.mt_session.specs.declared.caller.CallerFault.{CallerFault}
-use Rattle.mt_session.specs.declared.caller.CallerFault.TheVariants.{Refused, Stuck}
-use Rattle.mt_arena.specs.NodeView.{NodeView}
-use Rattle.mt_arena.specs.declared.tree.Standing.{Standing}
-use Rattle.mt_arena.specs.declared.tree.Standing.TheVariants.{Live}
-use Rattle.mt_arena.specs.declared.tree.Tree.{Tree}
-use Rattle.mt_arena.specs.Arena.{ArenaView, live_count}
-use Rattle.mt_arena.specs.Accesses.{at}
+use Rattle.mt_session.specs.{declared.caller.CallerFault.CallerFault, declared.caller.CallerFault.TheVariants.{Refused, Stuck}}
+use Rattle.mt_arena.specs.{NodeView.NodeView, declared.tree.Standing.Standing, declared.tree.Standing.TheVariants.Live, declared.tree.Tree.Tree}
+use Rattle.mt_arena.specs.{Arena.{ArenaView, live_count}, Accesses.at}
 use Rattle.mt_operation.specs.Operations.{OperationView}
-use Rattle.mt_state.specs.Views.{StateView, contents_of, quota_in, quota_of, granted, granted_in}
-use Rattle.mt_state.specs.Begins.{Begins, begun, new_state}
-use Rattle.mt_state.specs.Promises.{IsPlacedToGrow}
+use Rattle.mt_state.specs.{Views.{StateView, contents_of, quota_in, quota_of, granted, granted_in}, Begins.{Begins, begun, new_state}, Promises.IsPlacedToGrow}
 use Rattle.mt_state.specs.Refused.{IsFault, IsAdmissible, IsRefusal}
 use Rattle.mt_state.proofs.HistoryStart.{content-new, tenant_map-empty}
-use Rattle.mt_core.specs.declared.answers.Ticket.{Ticket}
-use Rattle.mt_core.specs.Alone.{IsAlone, IsRun, most_among, most_steps}
-use Rattle.mt_core.specs.ScanPoints.{one_if_standing, live_trees}
+use Rattle.mt_core.specs.{declared.answers.Ticket.Ticket, Alone.{IsAlone, IsRun, most_among, most_steps}, ScanPoints.{one_if_standing, live_trees}}
 use Rattle.mt_core.specs.Rights.{IsRightState}
-use Rattle.mt_alone.specs.declared.runs.Unfinished.{Unfinished}
-use Rattle.mt_alone.specs.declared.runs.Unfinished.TheVariants as unfinished
-use Rattle.mt_alone.specs.TenantMaps.{TenantMaps, tenant_maps, fresh_maps, with_map, after_command, MapsAnswer}
+use Rattle.mt_alone.specs.{declared.runs.Unfinished.Unfinished, TenantMaps.{TenantMaps, tenant_maps, fresh_maps, with_map, after_command, MapsAnswer}}
 use Rattle.mt_alone.specs.Runs.{Keeps, IsIdle, IsOnly, IsSettled, TellsRun, Finishes}
 use Rattle.mt_alone.specs.Callers.{maps_in, AreOpen, HasNumbersFor, HasNumbers, LeavesStuck, ClearsTo, Clears, Answers}
 use Rattle.mt_alone.proofs.RunLemmas.{keeps_same, keeps_on}
+use mathlib.Core.Path.{fun_ext}
+use Rattle.mt_rows.specs.declared.refusal.Refusal.TheVariants as refusals
+use Rattle.mt_alone.specs.declared.runs.Unfinished.TheVariants as unfinished
 
 no_value : {A : Type 0} {a : A} → ◌≡◌ {A = Option A} None (Some a) → ⊥
 no_value e = cc

@@ -1,34 +1,20 @@
 -- What a run of the only open operation leaves, and which answers it can't have: for `finish`.
 use Rattle.std.proofs.Common.{◌≡◌, ◌≢◌, ℕ, zero, suc, ◌+◌, ◌≤◌, inl, inr, Bool, true, false, length, set, Option, Some, None, Ok, Err, is_some, refl, sym, ap, subst, ◌∙◌, arith}
-use Rattle.std.proofs.lemmas.Bool.{cases_eq}
-use Rattle.std.proofs.lemmas.Option.{same_Some}
-use Rattle.std.proofs.lemmas.List.Elements.{All-contains}
-use Rattle.mt_rows.specs.Accounts.{Accounts, account_of}
-use Rattle.mt_rows.specs.Tenants.{tenant_map}
-use Rattle.mt_tape.specs.declared.entry.Entry.{Entry as TapeEntry}
-use Rattle.mt_tape.specs.Tapes.{last_write}
-use Rattle.mt_tape.proofs.EntryLaws.{all_upto_last}
+use Rattle.std.proofs.{lemmas.Bool.cases_eq, lemmas.Option.same_Some, lemmas.List.Elements.All-contains}
+use Rattle.mt_rows.specs.{Accounts.{Accounts, account_of}, Tenants.tenant_map}
+use Rattle.mt_tape.{specs.{declared.entry.Entry.{Entry as TapeEntry}, Tapes.last_write}, proofs.EntryLaws.all_upto_last}
 use Rattle.mt_runs.specs.declared.event.Answer.{Answer}
 use Rattle.mt_arena.specs.Arena.{ArenaView, content_of}
-use Rattle.mt_operation.specs.declared.outcome.Outcome.{Outcome}
-use Rattle.mt_operation.specs.declared.phase.Phase.{Phase}
-use Rattle.mt_operation.specs.declared.phase.Phase.TheVariants.{InteriorSplit, RootGrow}
-use Rattle.mt_operation.specs.Operations.{OperationView}
+use Rattle.mt_operation.specs.{declared.outcome.Outcome.Outcome, declared.phase.Phase.Phase, declared.phase.Phase.TheVariants.{InteriorSplit, RootGrow}}
+use Rattle.mt_operation.specs.{Operations.OperationView, Phases.{is_unplaced, IsToGrow}}
 use Rattle.mt_operation.proofs.Tables.{set_there, set_none}
 use Rattle.mt_state.specs.declared.moves.Move.TheVariants.{Again, NoMemory as NoMemoryMove, Done as DoneMove, Spent as SpentMove, NoSuch}
-use Rattle.mt_state.specs.Views.{StateView, Shown, contents_of, op_at, granted_in}
-use Rattle.mt_state.specs.Steps.{change_in, told_change}
-use Rattle.mt_operation.specs.Phases.{is_unplaced, IsToGrow}
-use Rattle.mt_state.specs.Promises.{IsStep, HasStep, IsPlacedToGrow}
+use Rattle.mt_state.specs.{Views.{StateView, Shown, contents_of, op_at, granted_in}, Steps.{change_in, told_change}, Promises.{IsStep, HasStep, IsPlacedToGrow}}
 use Rattle.mt_state.specs.Begins.{Takes, IsEnded}
 use Rattle.mt_state.proofs.HistoryChanges.{told_change-of}
-use Rattle.mt_core.specs.declared.answers.Ticket.{Ticket}
-use Rattle.mt_core.specs.Alone.{IsChain, Runs, IsAlone, EndsAlone}
-use Rattle.mt_core.specs.Rights.{IsRightState}
-use Rattle.mt_core.specs.Tidies.{Tidies}
+use Rattle.mt_core.specs.{declared.answers.Ticket.Ticket, Alone.{IsChain, Runs, IsAlone, EndsAlone}, Rights.IsRightState, Tidies.Tidies}
 use Rattle.mt_core.proofs.AloneRuns.{stepped, stays}
-use Rattle.mt_alone.specs.declared.runs.Unfinished.TheVariants.{Spent, Stuck}
-use Rattle.mt_alone.specs.Runs.{Keeps, IsIdle, IsOnly, IsSettled, TellsRun, Finishes}
+use Rattle.mt_alone.specs.{declared.runs.Unfinished.TheVariants.{Spent, Stuck}, Runs.{Keeps, IsIdle, IsOnly, IsSettled, TellsRun, Finishes}}
 
 -- a state keeps what it keeps itself, and what two calls keep, both keep
 pub keeps_same : (v : StateView) → Keeps v v

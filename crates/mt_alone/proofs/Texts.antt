@@ -1,25 +1,13 @@
 -- A session over sorted maps writes one text, where no reply tells of want of memory. For the law `one_text`.
 use Rattle.std.proofs.Common.{◌≡◌, ◌⊎◌, ℕ, Bool, true, false, List, [], ◌∷◌, Option, None, Some, Result, Ok, Err, refl, sym, ap, subst, ◌∙◌, inl, inr}
-use Rattle.std.specs.List.{flat_map, AllByRecursion}
 use Rattle.std.proofs.lemmas.Option.{same_Some}
-use Rattle.mt_rows.specs.Rows.{Bytes}
-use Rattle.mt_rows.specs.declared.command.Command.{Command}
-use Rattle.mt_rows.specs.declared.reply.Reply.{Reply}
-use Rattle.mt_rows.specs.declared.reply.Reply.TheVariants.{NoMemory}
-use Rattle.mt_rows.specs.declared.refusal.Refusal.{Refusal}
-use Rattle.mt_rows.specs.declared.refusal.Refusal.TheVariants.{Memory}
-use Rattle.mt_rows.specs.Commands.{IsFirstFault}
-use Rattle.mt_rows.specs.Maps.{reply_of}
-use Rattle.mt_wire.specs.declared.message.Request.{Request}
-use Rattle.mt_wire.specs.declared.message.Request.TheVariants.{Open, Call, Settle}
-use Rattle.mt_wire.specs.declared.message.WireReply.{WireReply}
-use Rattle.mt_wire.specs.declared.message.WireReply.TheVariants.{Told}
-use Rattle.mt_wire.specs.Fronts.{IsReadingEnd}
-use Rattle.mt_wire.specs.Replies.{reply_spelling}
-use Rattle.mt_wire.proofs.FrameLaws.{one_reading}
-use Rattle.mt_wire.proofs.RequestLaws.{requests}
-use Rattle.mt_session.specs.declared.caller.CallerFault.{CallerFault}
-use Rattle.mt_session.specs.declared.caller.CallerFault.TheVariants.{Refused, Stuck}
+use Rattle.std.specs.List.{flat_map, AllByRecursion}
+use Rattle.mt_rows.specs.{Rows.Bytes, declared.command.Command.Command, declared.reply.Reply.Reply, declared.reply.Reply.TheVariants.NoMemory}
+use Rattle.mt_rows.specs.{declared.refusal.Refusal.Refusal, declared.refusal.Refusal.TheVariants.Memory, Commands.IsFirstFault, Maps.reply_of}
+use Rattle.mt_wire.specs.{declared.message.Request.Request, declared.message.Request.TheVariants.{Open, Call, Settle}, declared.message.WireReply.WireReply}
+use Rattle.mt_wire.specs.{declared.message.WireReply.TheVariants.Told, Fronts.IsReadingEnd, Replies.reply_spelling}
+use Rattle.mt_wire.proofs.{FrameLaws.one_reading, RequestLaws.requests}
+use Rattle.mt_session.specs.{declared.caller.CallerFault.CallerFault, declared.caller.CallerFault.TheVariants.{Refused, Stuck}}
 use Rattle.mt_session.specs.Sessions.{IsReply, AreReplies, Transcript, refused, call_told, open_told, open_after, settle_told}
 use Rattle.mt_session.proofs.PlainCallers.{fault_not_taken, fault_same}
 use Rattle.mt_state.specs.Refused.{IsFault}

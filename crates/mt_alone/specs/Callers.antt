@@ -1,19 +1,10 @@
 -- What a caller over one state shows, keeps and answers.
 use Rattle.std.specs.Prelude.{◌≡◌, ◌≢◌, ℕ, ◌+◌, ◌^◌, ◌≤◌, Bool, true, false, [], Option, Some, None, IsSome, Result, Ok, Err, length}
-use Rattle.mt_rows.specs.declared.command.Command.{Command}
-use Rattle.mt_rows.specs.declared.reply.Reply.{Reply}
-use Rattle.mt_rows.specs.Accounts.{account_of}
-use Rattle.mt_rows.specs.Maps.{is_scan}
-use Rattle.mt_rows.specs.Tenants.{tenant_map}
-use Rattle.mt_session.specs.declared.caller.CallerFault.{CallerFault}
-use Rattle.mt_session.specs.declared.caller.CallerFault.TheVariants.{Refused, Stuck}
-use Rattle.mt_session.specs.Exchanges.{Exchange, Calls}
-use Rattle.mt_state.specs.Views.{StateView, contents_of, granted}
-use Rattle.mt_state.specs.Promises.{IsPlacedToGrow}
-use Rattle.mt_core.specs.declared.answers.Ticket.{Ticket}
-use Rattle.mt_core.specs.Alone.{most_among}
-use Rattle.mt_alone.specs.TenantMaps.{TenantMaps, tenant_maps, MapsCall, MapsExchange}
-use Rattle.mt_alone.specs.Runs.{Keeps, IsIdle, IsOnly, IsSettled}
+use Rattle.mt_rows.specs.{declared.command.Command.Command, declared.reply.Reply.Reply, Accounts.account_of, Maps.is_scan, Tenants.tenant_map}
+use Rattle.mt_session.specs.{declared.caller.CallerFault.CallerFault, declared.caller.CallerFault.TheVariants.{Refused, Stuck}, Exchanges.{Exchange, Calls}}
+use Rattle.mt_state.specs.{Views.{StateView, contents_of, granted}, Promises.IsPlacedToGrow}
+use Rattle.mt_core.specs.{declared.answers.Ticket.Ticket, Alone.most_among}
+use Rattle.mt_alone.specs.{TenantMaps.{TenantMaps, tenant_maps, MapsCall, MapsExchange}, Runs.{Keeps, IsIdle, IsOnly, IsSettled}}
 
 -- the state, the opened tenant, and the ticket of the command that is stuck
 pub record AloneView : Type 0 where

@@ -1,16 +1,10 @@
 -- What a state keeps, and how one operation ends that is run by itself.
 use Rattle.std.specs.Prelude.{◌≡◌, ◌≢◌, ℕ, ◌^◌, ◌≤◌, ◌⊎◌, false, Some, None, Result, Ok, Err, length}
-use Rattle.mt_rows.specs.declared.reply.Reply.{Reply}
-use Rattle.mt_rows.specs.declared.reply.Reply.TheVariants.{NoMemory}
-use Rattle.mt_operation.specs.declared.outcome.Outcome.{Outcome}
-use Rattle.mt_operation.specs.Operations.{OperationView}
-use Rattle.mt_state.specs.Views.{StateView, contents_of, op_at, granted}
-use Rattle.mt_state.specs.Steps.{change_in}
-use Rattle.mt_state.specs.Promises.{HasStep, IsPlacedToGrow}
-use Rattle.mt_operation.specs.Phases.{is_unplaced}
+use Rattle.mt_rows.specs.{declared.reply.Reply.Reply, declared.reply.Reply.TheVariants.NoMemory}
+use Rattle.mt_operation.specs.{declared.outcome.Outcome.Outcome, Operations.OperationView, Phases.is_unplaced}
+use Rattle.mt_state.specs.{Views.{StateView, contents_of, op_at, granted}, Steps.change_in, Promises.{HasStep, IsPlacedToGrow}}
 use Rattle.mt_core.specs.Alone.{IsAlone, IsRun}
-use Rattle.mt_alone.specs.declared.runs.Unfinished.{Unfinished}
-use Rattle.mt_alone.specs.declared.runs.Unfinished.TheVariants.{Spent, Stuck}
+use Rattle.mt_alone.specs.{declared.runs.Unfinished.Unfinished, declared.runs.Unfinished.TheVariants.{Spent, Stuck}}
 
 -- what stays of a state: no number falls, no node and no tree goes, and logs, tenants and quotas are the same
 pub record Keeps (old new : StateView) : Type 0 where

@@ -1,19 +1,12 @@
 -- What a caller answers that keeps a sorted map for each tenant.
 use Rattle.std.specs.Prelude.{◌≡◌, ◌≢◌, ℕ, ◌==◌, ◌⊎◌, if◌then◌else◌, Option, Some, None, Result, Ok, Err}
-use Rattle.mt_rows.specs.declared.command.Command.{Command}
-use Rattle.mt_rows.specs.declared.reply.Reply.{Reply}
-use Rattle.mt_rows.specs.declared.reply.Reply.TheVariants.{NoMemory}
-use Rattle.mt_rows.specs.declared.refusal.Refusal.{Refusal}
-use Rattle.mt_rows.specs.declared.refusal.Refusal.TheVariants.{Memory, NoTenant, NotOpen, NoStore}
-use Rattle.mt_rows.specs.Commands.{IsTaken}
+use Rattle.mt_rows.specs.{declared.command.Command.Command, declared.reply.Reply.Reply, declared.reply.Reply.TheVariants.NoMemory}
+use Rattle.mt_rows.specs.{declared.refusal.Refusal.Refusal, declared.refusal.Refusal.TheVariants.{Memory, NoTenant, NotOpen, NoStore}, Commands.IsTaken}
 use Rattle.mt_rows.specs.Maps.{Map, reply_of, map_after}
 use Rattle.mt_runs.specs.Placings.{Maps, no_pairs}
-use Rattle.mt_wire.specs.declared.message.WireReply.{WireReply}
-use Rattle.mt_wire.specs.declared.message.WireReply.TheVariants.{Told}
-use Rattle.mt_session.specs.declared.caller.CallerFault.{CallerFault}
-use Rattle.mt_session.specs.declared.caller.CallerFault.TheVariants.{Refused, Stuck}
-use Rattle.mt_session.specs.Exchanges.{Exchange, Opens, Calls, Settles}
-use Rattle.mt_session.specs.Sessions.{refused}
+use Rattle.mt_wire.specs.{declared.message.WireReply.WireReply, declared.message.WireReply.TheVariants.Told}
+use Rattle.mt_session.specs.{declared.caller.CallerFault.CallerFault, declared.caller.CallerFault.TheVariants.{Refused, Stuck}}
+use Rattle.mt_session.specs.{Exchanges.{Exchange, Opens, Calls, Settles}, Sessions.refused}
 use Rattle.mt_state.specs.Refused.{IsFault}
 
 -- each tenant's quota, where there is such a tenant; each tenant's map; and the tenant that is opened

@@ -2,11 +2,8 @@
 
 ghost use Rattle.std.specs.Prelude.{◌≡◌, ◌≢◌, ◌^◌, [], None, IfOk, IsSome};
 ghost use Rattle.mt_rows.specs.Accounts.{account_of};
-ghost use Rattle.mt_state.specs.Views.{granted_in};
-ghost use Rattle.mt_state.specs.Begins.{HaveNoPairs};
-ghost use Rattle.mt_alone.specs.TenantMaps.{fresh_maps};
-ghost use Rattle.mt_alone.specs.Runs.{IsIdle};
-ghost use Rattle.mt_alone.specs.Callers.{alone_view, maps_of, AreOpen, Clears, Answers};
+ghost use Rattle.mt_state.specs.{Views.granted_in, Begins.HaveNoPairs};
+ghost use Rattle.mt_alone.specs.{TenantMaps.fresh_maps, Runs.IsIdle, Callers.{alone_view, maps_of, AreOpen, Clears, Answers}};
 
 use crate::runs::{Unfinished, finish};
 use mt_core::{State, Ticket};

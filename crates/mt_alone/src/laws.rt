@@ -1,7 +1,6 @@
 //! A law of sessions over sorted maps, the contract of a function that does nothing.
 
-ghost use Rattle.std.specs.Prelude.{◌≡◌, Bool, false};
-ghost use Rattle.std.specs.List.{AllByRecursion};
+ghost use Rattle.std.specs.{Prelude.{◌≡◌, Bool, false}, List.AllByRecursion};
 ghost use Rattle.mt_rows.specs.Rows.{Bytes};
 ghost use Rattle.mt_wire.specs.Fronts.{IsReadingEnd};
 ghost use Rattle.mt_session.specs.Sessions.{Transcript};

@@ -4,10 +4,8 @@ ghost use Rattle.std.specs.Prelude.{◌≡◌, false, IfOk, OnErr};
 ghost use Rattle.mt_rows.specs.Accounts.{account_of};
 ghost use Rattle.mt_streams.specs.Failures.{Failed};
 ghost use Rattle.mt_session.specs.Endings.{Serves};
-ghost use Rattle.mt_state.specs.Views.{granted_in};
-ghost use Rattle.mt_state.specs.Begins.{HaveNoPairs};
-ghost use Rattle.mt_alone.specs.TenantMaps.{fresh_maps, MapsExchange};
-ghost use Rattle.mt_alone.specs.Callers.{maps_of, HasNumbersFor, HasNumbers, MapsPointExchange};
+ghost use Rattle.mt_state.specs.{Views.granted_in, Begins.HaveNoPairs};
+ghost use Rattle.mt_alone.specs.{TenantMaps.{fresh_maps, MapsExchange}, Callers.{maps_of, HasNumbersFor, HasNumbers, MapsPointExchange}};
 
 use crate::alone::Alone;
 use mt_rows::Tenants;

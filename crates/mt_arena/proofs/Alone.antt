@@ -2,17 +2,9 @@
 use Rattle.std.proofs.Common.{◌≡◌, ◌≢◌, ℕ, zero, suc, ◌<◌, List, length, get_or, true, false, Option, Some, None, refl, sym, ap, ◌∙◌, inl, inr, arith}
 use Rattle.std.proofs.lemmas.Bool.{cases_eq, cases_lt}
 use Rattle.mt_interior.specs.Fences.{end_of}
-use Rattle.mt_arena.specs.declared.tree.Tree.{Tree}
-use Rattle.mt_arena.specs.NodeView.{NodeView, node_at}
-use Rattle.mt_arena.specs.Nodes.{IsNode, IsChild, HasRange}
-use Rattle.mt_arena.specs.Ranges.{IsLeftHalf, Waits}
-use Rattle.mt_arena.specs.Forests.{IsRoot}
-use Rattle.mt_arena.specs.Arena.{IsArena}
-use Rattle.mt_arena.specs.Ways.{IsFreeRoot}
-use Rattle.mt_arena.proofs.Settled.{not_true}
-use Rattle.mt_arena.proofs.Collapse.{is_true}
-use Rattle.mt_arena.proofs.Grow.{not_none}
-use Rattle.mt_arena.proofs.Ranged.{waits_held}
+use Rattle.mt_arena.specs.{declared.tree.Tree.Tree, NodeView.{NodeView, node_at}, Nodes.{IsNode, IsChild, HasRange}, Ranges.{IsLeftHalf, Waits}, Forests.IsRoot}
+use Rattle.mt_arena.specs.{Arena.IsArena, Ways.IsFreeRoot}
+use Rattle.mt_arena.proofs.{Settled.not_true, Collapse.is_true, Grow.not_none, Ranged.waits_held}
 
 module _ (nodes : List NodeView) (trees : List Tree) (arena : IsArena nodes trees) (r : ℕ) (free : IsFreeRoot nodes trees r) where
   abbrev x : NodeView

@@ -1,11 +1,8 @@
 -- Border nodes begin at stored keys' slices wherever nodes and trees change or are added: for `Homes` and what else makes a forest.
-use Rattle.std.proofs.Common.{◌≡◌, ℕ, ◌<◌, List, [], ◌∷◌, ◌++◌, length, set, refl, sym, ap, subst, ◌∙◌, inl, inr, arith, length-append}
-use Rattle.std.proofs.lemmas.Bool.{cases_eq}
+use Rattle.std.proofs.{Common.{◌≡◌, ℕ, ◌<◌, List, [], ◌∷◌, ◌++◌, length, set, refl, sym, ap, subst, ◌∙◌, inl, inr, arith, length-append}, lemmas.Bool.cases_eq}
 use Rattle.std.proofs.lemmas.List.{length-set}
 use Rattle.mt_rows.specs.Rows.{Bytes}
-use Rattle.mt_arena.specs.declared.tree.Tree.{Tree}
-use Rattle.mt_arena.specs.NodeView.{NodeView, node_at}
-use Rattle.mt_arena.specs.Forests.{HasSlice, BeginsAtKey, AllBegin, tree_at}
+use Rattle.mt_arena.specs.{declared.tree.Tree.Tree, NodeView.{NodeView, node_at}, Forests.{HasSlice, BeginsAtKey, AllBegin, tree_at}}
 use Rattle.mt_arena.proofs.Pairs.{here, there, last, before}
 
 -- what a node keeps for good: its tree, its level and its low fence

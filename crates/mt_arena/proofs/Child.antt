@@ -1,20 +1,13 @@
 -- The facts of nodes are kept as a right half comes to stand in its parent: for `Inserting` and `InnerSplit`.
 use Rattle.std.proofs.Common.{◌≡◌, ◌≢◌, ℕ, ◌+◌, ◌-◌, ◌<◌, ◌≤◌, List, [], length, get_or, false, set, refl, sym, ap, subst, ◌∙◌, inl, inr, arith}
-use Rattle.std.specs.List.{insert}
-use Rattle.std.proofs.lemmas.Bool.{cases_eq, cases_lt}
-use Rattle.std.proofs.lemmas.List.{length-set}
+use Rattle.std.proofs.{lemmas.Bool.{cases_eq, cases_lt}, lemmas.List.length-set}
 use Rattle.std.proofs.lemmas.List.Edits.{length-insert, get_or-insert_below, get_or-insert_at, get_or-insert_above}
-use Rattle.mt_lists.specs.Rising.{IsRising}
-use Rattle.mt_interior.specs.Places.{place_of}
-use Rattle.mt_interior.specs.Fences.{end_of}
-use Rattle.mt_lists.proofs.Rises.{rising_insert}
-use Rattle.mt_interior.proofs.PlaceLemmas.{place_of-between}
-use Rattle.mt_interior.proofs.CallerLemmas.{bounds_of-insert}
-use Rattle.mt_arena.specs.NodeView.{NodeView, node_at}
-use Rattle.mt_arena.specs.Nodes.{AreNodes, AllNodes, AllPairs, IsNode, IsPair, IsChild, bounds}
+use Rattle.std.specs.List.{insert}
+use Rattle.mt_lists.{specs.Rising.IsRising, proofs.Rises.rising_insert}
+use Rattle.mt_interior.{specs.{Places.place_of, Fences.end_of}, proofs.{PlaceLemmas.place_of-between, CallerLemmas.bounds_of-insert}}
+use Rattle.mt_arena.specs.{NodeView.{NodeView, node_at}, Nodes.{AreNodes, AllNodes, AllPairs, IsNode, IsPair, IsChild, bounds}}
 use Rattle.mt_arena.specs.Splits.{Inserts, with_child, exact}
-use Rattle.mt_arena.proofs.Pairs.{pairs_set2, nodes_set}
-use Rattle.mt_arena.proofs.Ranges.{rises, not_empty, length_bounds, separators_rise, one_parent, one_place}
+use Rattle.mt_arena.proofs.{Pairs.{pairs_set2, nodes_set}, Ranges.{rises, not_empty, length_bounds, separators_rise, one_parent, one_place}}
 
 -- what stands behind an element that was put in
 above_insert : (xs : List ℕ) (a s b : ℕ) → a ≤ length xs → a < b → get_or (insert xs a s) b 0 ≡ get_or xs (b - 1) 0

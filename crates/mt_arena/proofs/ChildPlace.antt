@@ -1,10 +1,7 @@
 -- A child's place is where its low fence belongs among its parent's separators: for the law of that name and `Unlinking`.
 use Rattle.std.proofs.Common.{◌≡◌, ℕ, ◌+◌, ◌<◌, List, length, get_or, false, arith}
-use Rattle.mt_interior.specs.Places.{place_of}
-use Rattle.mt_interior.proofs.PlaceLemmas.{place_of-between}
-use Rattle.mt_arena.specs.NodeView.{NodeView, node_at}
-use Rattle.mt_arena.specs.Nodes.{AreNodes, IsChild}
-use Rattle.mt_arena.proofs.Ranges.{not_empty, length_bounds, separators_rise}
+use Rattle.mt_interior.{specs.Places.place_of, proofs.PlaceLemmas.place_of-between}
+use Rattle.mt_arena.{specs.{NodeView.{NodeView, node_at}, Nodes.{AreNodes, IsChild}}, proofs.Ranges.{not_empty, length_bounds, separators_rise}}
 
 -- a child of a live node stands at the place where its low fence belongs among the separators
 pub child_place : (nodes : List NodeView) (q k a : ℕ) → AreNodes nodes → q < length nodes → k < length nodes

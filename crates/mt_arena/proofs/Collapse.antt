@@ -1,17 +1,10 @@
 -- The facts of nodes and ranges are kept as a root gives way to its only child, and no live node leads to a root: for a call that
 -- collapses a tree.
 use Rattle.std.proofs.Common.{◌≡◌, ◌≢◌, ℕ, ◌<◌, List, length, get_or, Bool, Option, Some, None, true, false, set, refl, ap, subst, inl, inr, arith}
-use Rattle.std.proofs.lemmas.Bool.{cases_eq}
-use Rattle.std.proofs.lemmas.List.{length-set}
+use Rattle.std.proofs.{lemmas.Bool.cases_eq, lemmas.List.length-set}
 use Rattle.mt_interior.specs.Fences.{end_of}
-use Rattle.mt_arena.specs.NodeView.{NodeView, node_at}
-use Rattle.mt_arena.specs.Nodes.{AreNodes, IsPair}
-use Rattle.mt_arena.specs.Ranges.{AreRanged}
-use Rattle.mt_arena.specs.Edits.{retired}
-use Rattle.mt_arena.specs.Collapses.{Collapses, crowned}
-use Rattle.mt_arena.proofs.Pairs.{are_set, here, there}
-use Rattle.mt_arena.proofs.Ranged.{no_wait, stays, ranged_set, ranged_retired}
-use Rattle.mt_arena.proofs.Ranges.{one_parent}
+use Rattle.mt_arena.specs.{NodeView.{NodeView, node_at}, Nodes.{AreNodes, IsPair}, Ranges.AreRanged, Edits.retired, Collapses.{Collapses, crowned}}
+use Rattle.mt_arena.proofs.{Pairs.{are_set, here, there}, Ranged.{no_wait, stays, ranged_set, ranged_retired}, Ranges.one_parent}
 use Rattle.mt_arena.proofs.Retire.{IsLeft, nodes_retired}
 
 -- what has a value is something

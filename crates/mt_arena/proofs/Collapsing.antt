@@ -1,37 +1,17 @@
 -- The whole invariant, the guarantee and the contents where a root gives way to its only child: for `collapse`.
 use Rattle.std.proofs.Common.{◌≡◌, ◌≢◌, ℕ, ◌<◌, List, [], ◌∷◌, length, get_or, set, Some, None, refl, sym, ap, subst, ◌∙◌, inl, inr, arith}
-use Rattle.std.proofs.lemmas.Bool.{cases_eq}
-use Rattle.std.proofs.lemmas.List.{length-set, get_or-set_same, get_or-set_other}
+use Rattle.std.proofs.{lemmas.Bool.cases_eq, lemmas.List.{length-set, get_or-set_same, get_or-set_other}}
 use Rattle.mt_version.proofs.Aging.{ages-made_root}
 use Rattle.mt_interior.specs.Fences.{end_of, bounds_of}
-use Rattle.mt_arena.specs.declared.tree.Tree.{Tree}
-use Rattle.mt_arena.specs.declared.tree.Standing.TheVariants.{Dead}
-use Rattle.mt_arena.specs.NodeView.{NodeView, node_at}
-use Rattle.mt_arena.specs.Nodes.{IsChild, HasChild, bounds}
-use Rattle.mt_arena.specs.Forests.{IsForest, IsHome, IsRoot, IsTree, AllBegin, tree_at, no_tree}
-use Rattle.mt_arena.specs.Layers.{AreLayered}
-use Rattle.mt_arena.specs.Contents.{content}
-use Rattle.mt_arena.specs.Guarantee.{Changes, TreeChanges}
-use Rattle.mt_arena.specs.Edits.{retired}
-use Rattle.mt_arena.specs.Collapses.{Collapses, crowned}
-use Rattle.mt_arena.specs.Arena.{ArenaInvariant, ArenaView, AreRetired, Guarantee}
-use Rattle.mt_arena.specs.Accesses.{at, tree_of}
-use Rattle.mt_arena.specs.Ways.{HasSlots}
-use Rattle.mt_arena.specs.Settled.{IsSettled}
-use Rattle.mt_arena.specs.Lags.{Follows, IsUnder}
-use Rattle.mt_arena.specs.Removals.{MayCollapse, nodes_under, without_root, with_retired}
-use Rattle.mt_arena.proofs.Pairs.{here, there}
-use Rattle.mt_arena.proofs.Begins.{KeepsSeat, begins_set, begins_trees}
-use Rattle.mt_arena.proofs.Locks.{is_held}
-use Rattle.mt_arena.proofs.Collapse.{nodes_collapsed, ranged_collapsed}
-use Rattle.mt_arena.proofs.LinkEdits.{KeepsLinks, same_links, layers_set, layers_empty}
-use Rattle.mt_arena.proofs.Retiring.{retired_set, retired_more}
-use Rattle.mt_arena.proofs.TakenOut.{changes_retired, same_of_trees}
-use Rattle.mt_arena.proofs.HeldChanges.{changes_held}
-use Rattle.mt_arena.proofs.Guarantees.{PointsSo, guarantee_on}
-use Rattle.mt_arena.proofs.Naming.{names_same, points_each, each_set2}
-use Rattle.mt_arena.proofs.Several.{MayTurn, guarantee_set2}
-use Rattle.mt_arena.proofs.Topping.{layers_trees, guarantee_record}
+use Rattle.mt_arena.specs.{declared.tree.Tree.Tree, declared.tree.Standing.TheVariants.Dead, NodeView.{NodeView, node_at}, Nodes.{IsChild, HasChild, bounds}}
+use Rattle.mt_arena.specs.{Forests.{IsForest, IsHome, IsRoot, IsTree, AllBegin, tree_at, no_tree}, Layers.AreLayered, Contents.content}
+use Rattle.mt_arena.specs.{Guarantee.{Changes, TreeChanges}, Edits.retired, Collapses.{Collapses, crowned}}
+use Rattle.mt_arena.specs.{Arena.{ArenaInvariant, ArenaView, AreRetired, Guarantee}, Accesses.{at, tree_of}, Ways.HasSlots, Settled.IsSettled}
+use Rattle.mt_arena.specs.{Lags.{Follows, IsUnder}, Removals.{MayCollapse, nodes_under, without_root, with_retired}}
+use Rattle.mt_arena.proofs.{Pairs.{here, there}, Begins.{KeepsSeat, begins_set, begins_trees}, Locks.is_held, Collapse.{nodes_collapsed, ranged_collapsed}}
+use Rattle.mt_arena.proofs.{LinkEdits.{KeepsLinks, same_links, layers_set, layers_empty}, Retiring.{retired_set, retired_more}}
+use Rattle.mt_arena.proofs.{TakenOut.{changes_retired, same_of_trees}, HeldChanges.changes_held, Guarantees.{PointsSo, guarantee_on}}
+use Rattle.mt_arena.proofs.{Naming.{names_same, points_each, each_set2}, Several.{MayTurn, guarantee_set2}, Topping.{layers_trees, guarantee_record}}
 use Rattle.mt_arena.proofs.Settling.{NamesNoMore, names_none_more, follows_was, under_was, settled_same}
 use Rattle.mt_arena.proofs.ContentQuiet.{stands_unchanged, stands_without_slots, stands_tree_set}
 

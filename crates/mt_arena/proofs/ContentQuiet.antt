@@ -1,28 +1,15 @@
 -- Which changes of nodes and trees leave the contents as they are: for the clause `contents` of most calls, and for the laws.
 use Rattle.std.proofs.Common.{◌≡◌, ℕ, zero, suc, ◌<◌, List, [], ◌∷◌, ◌++◌, length, get_or, set, Option, None, refl, sym, ap, ◌∙◌, inl, inr, arith}
-use Rattle.std.specs.Prelude.{filter_map, if◌then◌else◌, false, true, ◌⊎◌}
-use Rattle.std.specs.List.{flat_map, cons_option, remove}
-use Rattle.std.specs.Option.{option_map}
-use Rattle.std.proofs.lemmas.Bool.{cases_eq}
-use Rattle.std.proofs.lemmas.List.{append-nil, get_or_append_left, get_or-set_same, get_or-set_other}
+use Rattle.std.proofs.{lemmas.Bool.cases_eq, lemmas.List.{append-nil, get_or_append_left, get_or-set_same, get_or-set_other}}
 use Rattle.std.proofs.lemmas.List.Concat.{flat_map-append}
+use Rattle.std.specs.{Prelude.{filter_map, if◌then◌else◌, false, true, ◌⊎◌}, List.{flat_map, cons_option, remove}, Option.option_map}
 use Rattle.mt_rows.specs.Rows.{Bytes, Columns}
-use Rattle.mt_border.specs.declared.entry.Pair.{Pair}
-use Rattle.mt_border.specs.declared.entry.Entry.{Entry}
-use Rattle.mt_border.specs.declared.entry.Held.{Held}
-use Rattle.mt_border.specs.declared.entry.Held.TheVariants.{Link}
-use Rattle.mt_border.specs.Entry.{pair_of}
+use Rattle.mt_border.specs.{declared.entry.Pair.Pair, declared.entry.Entry.Entry, declared.entry.Held.Held, declared.entry.Held.TheVariants.Link, Entry.pair_of}
 use Rattle.mt_border.specs.Contents.{owned, key_at, pair_in}
 use Rattle.mt_border.proofs.Edits.{any_entry}
-use Rattle.mt_arena.specs.declared.tree.Tree.{Tree}
-use Rattle.mt_arena.specs.NodeView.{NodeView, node_at, no_node}
-use Rattle.mt_arena.specs.Forests.{tree_at, no_tree}
-use Rattle.mt_arena.specs.Layers.{slot_at}
-use Rattle.mt_arena.specs.Contents.{is_live, live_pairs, content}
-use Rattle.mt_arena.specs.Arena.{IsArena}
-use Rattle.mt_arena.specs.Ways.{HasSlots}
-use Rattle.mt_arena.proofs.Joins.{map_of}
-use Rattle.mt_arena.proofs.Counted.{content-is, pairs-nil, pairs-gone, pairs-other}
+use Rattle.mt_arena.specs.{declared.tree.Tree.Tree, NodeView.{NodeView, node_at, no_node}, Forests.{tree_at, no_tree}, Layers.slot_at}
+use Rattle.mt_arena.specs.{Contents.{is_live, live_pairs, content}, Arena.IsArena, Ways.HasSlots}
+use Rattle.mt_arena.proofs.{Joins.map_of, Counted.{content-is, pairs-nil, pairs-gone, pairs-other}}
 
 -- lists of which one place changes, and of which each place has the same
 module _ {X Y : Type 0} (d : X) where

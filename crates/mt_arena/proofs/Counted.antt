@@ -1,34 +1,16 @@
 -- What one node adds to the contents, and what a change of that node makes of them: for `Owners` and `ContentQuiet`.
 use Rattle.std.proofs.Common.{◌≡◌, ◌≢◌, ℕ, suc, ◌+◌, ◌<◌, Bool, true, false, List, [], ◌∷◌, ◌++◌, length, get_or, set, take, drop, drop-cons, Option, Some, None, sym, refl, ap, subst, ◌∙◌, arith, take-append-drop}
-use Rattle.std.specs.Prelude.{filter_map, if◌then◌else◌, cond}
-use Rattle.std.specs.List.{All, flat_map, cons_option, remove as remove_at_place}
-use Rattle.std.specs.Option.{option_map}
-use Rattle.std.specs.Ordering.{eq_by_cmp}
-use Rattle.std.specs.FinMap.{get, insert, remove, get-empty, get-insert, get-remove}
-use Rattle.std.proofs.lemmas.List.{length-drop, get_or-drop, get_or-set_other}
-use Rattle.std.proofs.lemmas.List.Elements.{All-from_get_or, filter_map-append}
+use Rattle.std.proofs.{lemmas.List.{length-drop, get_or-drop, get_or-set_other}, lemmas.List.Elements.{All-from_get_or, filter_map-append}}
+use Rattle.std.specs.{Prelude.{filter_map, if◌then◌else◌, cond}, List.{All, flat_map, cons_option, remove as remove_at_place}, Option.option_map}
+use Rattle.std.specs.{Ordering.eq_by_cmp, FinMap.{get, insert, remove, get-empty, get-insert, get-remove}}
 use Rattle.mt_slices.specs.Slices.{slice_of, mark_of}
-use Rattle.mt_rows.specs.Rows.{Bytes, Columns}
-use Rattle.mt_rows.specs.Tenants.{owned_cmp, Contents}
-use Rattle.mt_rows.proofs.ContentLaws.{same_contents, owned_total}
-use Rattle.mt_border.specs.declared.entry.Pair.{Pair}
-use Rattle.mt_border.specs.declared.entry.Entry.{Entry}
-use Rattle.mt_border.specs.Entry.{pair_of, order_at, order_of}
-use Rattle.mt_border.specs.Entries.{IsBorder}
+use Rattle.mt_rows.{specs.{Rows.{Bytes, Columns}, Tenants.{owned_cmp, Contents}}, proofs.ContentLaws.{same_contents, owned_total}}
+use Rattle.mt_border.specs.{declared.entry.Pair.Pair, declared.entry.Entry.Entry, Entry.{pair_of, order_at, order_of}, Entries.IsBorder}
 use Rattle.mt_border.specs.Contents.{owned, key_at, pair_in, contents_of, HasKey, AreKeys, IsOfTree}
-use Rattle.mt_border.proofs.Edits.{any_entry}
-use Rattle.mt_border.proofs.ContentsKeys.{IsApart, owned_at, owned_once}
-use Rattle.mt_border.proofs.ContentsLists.{get-apart}
-use Rattle.mt_border.proofs.ContentsFinds.{apart_beside}
-use Rattle.mt_arena.specs.declared.tree.Tree.{Tree}
-use Rattle.mt_arena.specs.declared.tree.Standing.{Standing}
-use Rattle.mt_arena.specs.declared.tree.Standing.TheVariants.{Made, Live, Dead}
-use Rattle.mt_arena.specs.NodeView.{NodeView, node_at, no_node}
-use Rattle.mt_arena.specs.Forests.{tree_at, no_tree, layer_of}
-use Rattle.mt_arena.specs.Layers.{slot_at}
-use Rattle.mt_arena.specs.Contents.{is_live, live_pairs, content}
-use Rattle.mt_arena.specs.Arena.{IsArena}
-use Rattle.mt_arena.specs.Ways.{StandsFor, HasSlots}
+use Rattle.mt_border.proofs.{Edits.any_entry, ContentsKeys.{IsApart, owned_at, owned_once}, ContentsLists.get-apart, ContentsFinds.apart_beside}
+use Rattle.mt_arena.specs.{declared.tree.Tree.Tree, declared.tree.Standing.Standing, declared.tree.Standing.TheVariants.{Made, Live, Dead}}
+use Rattle.mt_arena.specs.{NodeView.{NodeView, node_at, no_node}, Forests.{tree_at, no_tree, layer_of}, Layers.slot_at, Contents.{is_live, live_pairs, content}}
+use Rattle.mt_arena.specs.{Arena.IsArena, Ways.{StandsFor, HasSlots}}
 use Rattle.mt_arena.proofs.Joins.{Pairs, map_of, all_none, some_at, insert_at, remove_at, remove-second, tied_owner}
 
 -- the contents as the map of a list

@@ -1,15 +1,9 @@
 -- Trees and their nodes where a tree becomes dead as its root, its only live node, is taken out: for `DroppingLayer`.
-use Rattle.std.proofs.Common.{◌≡◌, ◌≢◌, ℕ, ◌<◌, List, length, set, false, refl, sym, ap, subst, ◌∙◌, inl, inr, arith}
-use Rattle.std.proofs.lemmas.Bool.{cases_eq}
+use Rattle.std.proofs.{Common.{◌≡◌, ◌≢◌, ℕ, ◌<◌, List, length, set, false, refl, sym, ap, subst, ◌∙◌, inl, inr, arith}, lemmas.Bool.cases_eq}
 use Rattle.std.proofs.lemmas.List.{length-set, get_or-set_same, get_or-set_other}
-use Rattle.mt_arena.specs.declared.tree.Tree.{Tree}
-use Rattle.mt_arena.specs.declared.tree.Standing.TheVariants.{Live, Dead}
-use Rattle.mt_arena.specs.NodeView.{NodeView, node_at}
-use Rattle.mt_arena.specs.Forests.{IsForest, IsHome, IsTree, tree_at, no_tree}
-use Rattle.mt_arena.specs.Edits.{retired}
-use Rattle.mt_arena.proofs.Pairs.{here, there}
-use Rattle.mt_arena.proofs.Begins.{begins_set, begins_trees}
-use Rattle.mt_arena.proofs.TakenOut.{same_of_trees}
+use Rattle.mt_arena.specs.{declared.tree.Tree.Tree, declared.tree.Standing.TheVariants.{Live, Dead}, NodeView.{NodeView, node_at}}
+use Rattle.mt_arena.specs.{Forests.{IsForest, IsHome, IsTree, tree_at, no_tree}, Edits.retired}
+use Rattle.mt_arena.proofs.{Pairs.{here, there}, Begins.{begins_set, begins_trees}, TakenOut.same_of_trees}
 
 -- the record of a tree that is taken out
 abbrev pub dead : Tree → Tree

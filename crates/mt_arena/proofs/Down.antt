@@ -1,28 +1,14 @@
 -- A link at a key's slice and mark leads to the tree in which the key's way goes on: for the laws of descents.
-use Rattle.std.proofs.Common.{◌≡◌, ℕ, ◌+◌, ◌*◌, ◌<◌, ◌≤◌, List, ◌++◌, length, take, replicate, refl, sym, ap, subst, ◌∙◌, inl, inr, arith}
+use Rattle.std.proofs.{Common.{◌≡◌, ℕ, ◌+◌, ◌*◌, ◌<◌, ◌≤◌, List, ◌++◌, length, take, replicate, refl, sym, ap, subst, ◌∙◌, inl, inr, arith}, Math.Seq.take-add}
+use Rattle.std.proofs.{lemmas.Bool.cases_lt, lemmas.List.{length-drop, take-append-le}}
 use Rattle.std.specs.Int.{w64, to_be_bytes}
-use Rattle.std.proofs.Math.Seq.{take-add}
-use Rattle.std.proofs.lemmas.Bool.{cases_lt}
-use Rattle.std.proofs.lemmas.List.{length-drop, take-append-le}
-use Rattle.mt_slices.specs.declared.mark.Mark.TheVariants.{Short, Long}
-use Rattle.mt_slices.specs.Keys.{IsStoredKey}
-use Rattle.mt_slices.specs.Slices.{rest_of, slice_of, mark_of}
-use Rattle.mt_slices.proofs.Bytes.{AreBytes, bytes-drop}
-use Rattle.mt_slices.proofs.Padding.{slice_bytes}
+use Rattle.mt_slices.specs.{declared.mark.Mark.TheVariants.{Short, Long}, Keys.IsStoredKey, Slices.{rest_of, slice_of, mark_of}}
+use Rattle.mt_slices.proofs.{Bytes.{AreBytes, bytes-drop}, Padding.slice_bytes}
 use Rattle.mt_rows.specs.Rows.{Bytes}
-use Rattle.mt_border.specs.declared.entry.Held.TheVariants.{Link}
-use Rattle.mt_border.specs.Contents.{IsOfTree}
-use Rattle.mt_border.proofs.Edits.{any_entry}
-use Rattle.mt_arena.specs.declared.tree.Tree.{Tree}
-use Rattle.mt_arena.specs.NodeView.{NodeView, node_at}
-use Rattle.mt_arena.specs.Nodes.{Holds}
-use Rattle.mt_arena.specs.Forests.{tree_at}
-use Rattle.mt_arena.specs.Layers.{slot_at, LeadsTo}
-use Rattle.mt_arena.specs.Arena.{IsArena}
-use Rattle.mt_arena.specs.Stands.{IsLiveBorder, StandsAt}
-use Rattle.mt_arena.specs.Ways.{BelongsIn, GoesOn}
-use Rattle.mt_arena.proofs.Links.{long_link}
-use Rattle.mt_arena.proofs.Elsewhere.{mark_short}
+use Rattle.mt_border.{specs.{declared.entry.Held.TheVariants.Link, Contents.IsOfTree}, proofs.Edits.any_entry}
+use Rattle.mt_arena.specs.{declared.tree.Tree.Tree, NodeView.{NodeView, node_at}, Nodes.Holds, Forests.tree_at, Layers.{slot_at, LeadsTo}, Arena.IsArena}
+use Rattle.mt_arena.specs.{Stands.{IsLiveBorder, StandsAt}, Ways.{BelongsIn, GoesOn}}
+use Rattle.mt_arena.proofs.{Links.long_link, Elsewhere.mark_short}
 
 -- a key with the long mark reaches below the next layer
 pub long_below : (key : Bytes) (layer : ℕ) → mark_of key layer ≡ Long → 8 * (layer + 1) < length key

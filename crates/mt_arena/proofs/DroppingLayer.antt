@@ -1,52 +1,22 @@
 -- The whole invariant, the guarantee and the contents where a tree is taken out with its root and the link to it: for `drop_layer`.
 use Rattle.std.proofs.Common.{◌≡◌, ◌≢◌, ℕ, ◌<◌, ◌++◌, List, [], length, get_or, set, true, false, Some, refl, sym, ap, subst, ◌∙◌, inl, inr, arith}
-use Rattle.std.specs.Prelude.{◌⊎◌}
-use Rattle.std.specs.List.{All, remove}
-use Rattle.std.proofs.lemmas.Bool.{cases_eq}
-use Rattle.std.proofs.lemmas.List.{length-set, get_or-set_other, get_or_default}
-use Rattle.mt_slices.specs.Slices.{piece_bytes}
-use Rattle.mt_slices.specs.declared.mark.Mark.TheVariants.{Short, Long}
+use Rattle.std.proofs.{lemmas.Bool.cases_eq, lemmas.List.{length-set, get_or-set_other, get_or_default}}
+use Rattle.std.specs.{Prelude.{◌⊎◌}, List.{All, remove}}
+use Rattle.mt_slices.specs.{Slices.piece_bytes, declared.mark.Mark.TheVariants.{Short, Long}}
 use Rattle.mt_rows.specs.Rows.{Bytes}
-use Rattle.mt_border.specs.declared.entry.Entry.{Entry}
-use Rattle.mt_border.specs.declared.entry.Held.TheVariants.{Link}
-use Rattle.mt_border.specs.Contents.{HasKey}
-use Rattle.mt_border.specs.Entries.{IsBorder, slices, without}
+use Rattle.mt_border.specs.{declared.entry.Entry.Entry, declared.entry.Held.TheVariants.Link, Contents.HasKey, Entries.{IsBorder, slices, without}}
 use Rattle.mt_border.proofs.Edits.{any_entry, All-remove, border_without, without_at}
-use Rattle.mt_arena.specs.declared.tree.Tree.{Tree}
-use Rattle.mt_arena.specs.declared.tree.Standing.TheVariants.{Live, Dead}
-use Rattle.mt_arena.specs.NodeView.{NodeView, node_at}
-use Rattle.mt_arena.specs.Nodes.{AreNodes, Holds, HasRange}
-use Rattle.mt_arena.specs.Ranges.{AreRanged, Waits}
-use Rattle.mt_arena.specs.Forests.{IsForest, IsRoot, HaveKeys, tree_at, no_tree, layer_of}
-use Rattle.mt_arena.specs.Layers.{AreLayered, AreLinks, HasLink, LeadsTo, slot_at}
-use Rattle.mt_arena.specs.Contents.{content}
-use Rattle.mt_arena.specs.Guarantee.{TreeChanges}
-use Rattle.mt_arena.specs.Edits.{retired, with_slots}
-use Rattle.mt_arena.specs.Arena.{ArenaInvariant, ArenaView, AreRetired, Guarantee}
-use Rattle.mt_arena.specs.Accesses.{at}
-use Rattle.mt_arena.specs.NodeFacts.{IsUnstable}
-use Rattle.mt_arena.specs.Settled.{IsSettled}
-use Rattle.mt_arena.specs.Lags.{Follows, IsUnder}
-use Rattle.mt_arena.specs.Removals.{MayDropLayer, nodes_above, without_layer, with_retired}
-use Rattle.mt_arena.proofs.Pairs.{here, there}
-use Rattle.mt_arena.proofs.Locks.{is_held}
-use Rattle.mt_arena.proofs.Quiet.{nodes_slots}
-use Rattle.mt_arena.proofs.Slots.{within_each, within_all, changes_slots}
-use Rattle.mt_arena.proofs.Ranged.{no_wait, ranged_marked, ranged_retired}
-use Rattle.mt_arena.proofs.Retire.{nodes_retired}
-use Rattle.mt_arena.proofs.Collapse.{is_true, root_left}
-use Rattle.mt_arena.proofs.Homes.{forest_set}
-use Rattle.mt_arena.proofs.Steps.{keys_of}
-use Rattle.mt_arena.proofs.SlotPlaces.{was_at, at_still}
-use Rattle.mt_arena.proofs.OneLink.{IsLinkTo, leads, differs, below_top, one_link}
-use Rattle.mt_arena.proofs.DeadTree.{dead, stood, forest_dead}
-use Rattle.mt_arena.proofs.TakenOut.{changes_retired, same_of_trees}
-use Rattle.mt_arena.proofs.Retiring.{retired_set, retired_more}
-use Rattle.mt_arena.proofs.Guarantees.{PointsSo, guarantee_on}
-use Rattle.mt_arena.proofs.Naming.{names_same, points_each, each_set2}
-use Rattle.mt_arena.proofs.Several.{MayTurn, guarantee_set2}
-use Rattle.mt_arena.proofs.Topping.{guarantee_record}
-use Rattle.mt_arena.proofs.Settling.{NamesNoMore, names_none_more, follows_was, under_was, settled_same}
+use Rattle.mt_arena.specs.{declared.tree.Tree.Tree, declared.tree.Standing.TheVariants.{Live, Dead}, NodeView.{NodeView, node_at}}
+use Rattle.mt_arena.specs.{Nodes.{AreNodes, Holds, HasRange}, Ranges.{AreRanged, Waits}, Forests.{IsForest, IsRoot, HaveKeys, tree_at, no_tree, layer_of}}
+use Rattle.mt_arena.specs.{Layers.{AreLayered, AreLinks, HasLink, LeadsTo, slot_at}, Contents.content, Guarantee.TreeChanges, Edits.{retired, with_slots}}
+use Rattle.mt_arena.specs.{Arena.{ArenaInvariant, ArenaView, AreRetired, Guarantee}, Accesses.at, NodeFacts.IsUnstable, Settled.IsSettled}
+use Rattle.mt_arena.specs.{Lags.{Follows, IsUnder}, Removals.{MayDropLayer, nodes_above, without_layer, with_retired}}
+use Rattle.mt_arena.proofs.{Pairs.{here, there}, Locks.is_held, Quiet.nodes_slots, Slots.{within_each, within_all, changes_slots}}
+use Rattle.mt_arena.proofs.{Ranged.{no_wait, ranged_marked, ranged_retired}, Retire.nodes_retired, Collapse.{is_true, root_left}, Homes.forest_set}
+use Rattle.mt_arena.proofs.{Steps.keys_of, SlotPlaces.{was_at, at_still}, OneLink.{IsLinkTo, leads, differs, below_top, one_link}}
+use Rattle.mt_arena.proofs.{DeadTree.{dead, stood, forest_dead}, TakenOut.{changes_retired, same_of_trees}, Retiring.{retired_set, retired_more}}
+use Rattle.mt_arena.proofs.{Guarantees.{PointsSo, guarantee_on}, Naming.{names_same, points_each, each_set2}, Several.{MayTurn, guarantee_set2}}
+use Rattle.mt_arena.proofs.{Topping.guarantee_record, Settling.{NamesNoMore, names_none_more, follows_was, under_was, settled_same}}
 use Rattle.mt_arena.proofs.ContentQuiet.{stands_unlinked, stands_without_slots, stands_tree_left}
 
 -- two links that are one lead to one tree

@@ -1,31 +1,16 @@
 -- A key's pair stands in no other place than the one where a descent ends: for `Owners` and the laws.
 use Rattle.std.proofs.Common.{◌≡◌, ◌≢◌, ℕ, ◌+◌, ◌*◌, ◌<◌, ◌≤◌, List, length, take, Some, refl, sym, ap, subst, ◌∙◌, inl, inr, arith}
-use Rattle.std.specs.Prelude.{◌⊎◌, nat_le, if◌then◌else◌}
-use Rattle.std.proofs.lemmas.Bool.{cases_eq, cases_lt}
-use Rattle.std.proofs.lemmas.Bool.Decides.{nat_tests}
-use Rattle.std.proofs.lemmas.Option.{none-some, same_Some}
+use Rattle.std.proofs.{lemmas.Bool.{cases_eq, cases_lt}, lemmas.Bool.Decides.nat_tests, lemmas.Option.{none-some, same_Some}}
 use Rattle.std.proofs.lemmas.List.{length-take-le, length-drop}
-use Rattle.mt_slices.specs.declared.mark.Mark.TheVariants.{Short, Long}
-use Rattle.mt_slices.specs.Slices.{rest_of, slice_of, mark_of, suffix_of}
+use Rattle.std.specs.Prelude.{◌⊎◌, nat_le, if◌then◌else◌}
+use Rattle.mt_slices.specs.{declared.mark.Mark.TheVariants.{Short, Long}, Slices.{rest_of, slice_of, mark_of, suffix_of}}
 use Rattle.mt_rows.specs.Rows.{Bytes}
-use Rattle.mt_border.specs.declared.entry.Pair.{Pair}
-use Rattle.mt_border.specs.declared.entry.Entry.{Entry}
-use Rattle.mt_border.specs.declared.entry.Held.{Held}
-use Rattle.mt_border.specs.declared.entry.Held.TheVariants.{Link}
-use Rattle.mt_border.specs.Entry.{pair_of}
-use Rattle.mt_border.specs.Entries.{IsMissing}
-use Rattle.mt_border.specs.Contents.{IsOfTree, HasKey}
+use Rattle.mt_border.specs.{declared.entry.Pair.Pair, declared.entry.Entry.Entry, declared.entry.Held.Held, declared.entry.Held.TheVariants.Link, Entry.pair_of}
+use Rattle.mt_border.specs.{Entries.IsMissing, Contents.{IsOfTree, HasKey}}
 use Rattle.mt_border.proofs.Edits.{any_entry}
-use Rattle.mt_arena.specs.declared.tree.Tree.{Tree}
-use Rattle.mt_arena.specs.NodeView.{NodeView, node_at}
-use Rattle.mt_arena.specs.Nodes.{Holds}
-use Rattle.mt_arena.specs.Forests.{tree_at, layer_of}
-use Rattle.mt_arena.specs.Layers.{slot_at}
-use Rattle.mt_arena.specs.Arena.{IsArena}
-use Rattle.mt_arena.specs.Stands.{StandsAt}
-use Rattle.mt_arena.specs.Ways.{AreBegun, LinksOn, BelongsIn, StandsFor}
-use Rattle.mt_arena.proofs.Places.{slot_within, stands_within, one_border, same_slot, one_place}
-use Rattle.mt_arena.proofs.Links.{one_tree, links_above}
+use Rattle.mt_arena.specs.{declared.tree.Tree.Tree, NodeView.{NodeView, node_at}, Nodes.Holds, Forests.{tree_at, layer_of}, Layers.slot_at, Arena.IsArena}
+use Rattle.mt_arena.specs.{Stands.StandsAt, Ways.{AreBegun, LinksOn, BelongsIn, StandsFor}}
+use Rattle.mt_arena.proofs.{Places.{slot_within, stands_within, one_border, same_slot, one_place}, Links.{one_tree, links_above}}
 
 -- the mark of eight bytes or fewer, and of more
 pub mark_short : (n : ℕ) → n ≤ 8 → (if nat_le n 8 then Short n else Long) ≡ Short n

@@ -1,38 +1,17 @@
 -- The whole invariant, the guarantee and the contents where a slot becomes a link and its tree goes live: for `mark_layer`.
-use Rattle.std.proofs.Common.{◌≡◌, ◌≢◌, ℕ, ◌<◌, ◌++◌, List, length, get_or, set, Some, refl, sym, ap, subst, ◌∙◌, inl, inr, arith}
-use Rattle.std.proofs.lemmas.Bool.{cases_eq}
-use Rattle.std.proofs.lemmas.Option.{none-some}
-use Rattle.std.proofs.lemmas.List.{length-set, get_or-set_same, get_or-set_other}
-use Rattle.mt_slices.specs.Slices.{piece_bytes}
-use Rattle.mt_slices.specs.declared.mark.Mark.TheVariants.{Long}
+use Rattle.std.proofs.{Common.{◌≡◌, ◌≢◌, ℕ, ◌<◌, ◌++◌, List, length, get_or, set, Some, refl, sym, ap, subst, ◌∙◌, inl, inr, arith}, lemmas.Bool.cases_eq}
+use Rattle.std.proofs.{lemmas.Option.none-some, lemmas.List.{length-set, get_or-set_same, get_or-set_other}}
+use Rattle.mt_slices.specs.{Slices.piece_bytes, declared.mark.Mark.TheVariants.Long}
 use Rattle.mt_rows.specs.Rows.{Bytes}
-use Rattle.mt_border.specs.declared.entry.Entry.{Entry}
-use Rattle.mt_border.specs.declared.entry.Pair.{Pair}
-use Rattle.mt_border.specs.declared.entry.Held.TheVariants.{Unstable, Link}
-use Rattle.mt_border.specs.Entry.{CanHold, pair_of}
+use Rattle.mt_border.specs.{declared.entry.Entry.Entry, declared.entry.Pair.Pair, declared.entry.Held.TheVariants.{Unstable, Link}, Entry.{CanHold, pair_of}}
 use Rattle.mt_border.proofs.Edits.{any_entry}
-use Rattle.mt_arena.specs.declared.tree.Tree.{Tree}
-use Rattle.mt_arena.specs.declared.tree.Standing.TheVariants.{Live}
-use Rattle.mt_arena.specs.NodeView.{NodeView, node_at}
-use Rattle.mt_arena.specs.Forests.{IsForest, tree_at, layer_of}
-use Rattle.mt_arena.specs.Layers.{AreLayered, AreLinks, HasLink, LeadsTo, slot_at}
-use Rattle.mt_arena.specs.Contents.{content}
-use Rattle.mt_arena.specs.Arena.{ArenaInvariant, ArenaView, Guarantee}
-use Rattle.mt_arena.specs.Accesses.{at, tree_of}
-use Rattle.mt_arena.specs.Layering.{MayGoLive, with_held, with_link}
-use Rattle.mt_arena.proofs.Pairs.{here, there}
-use Rattle.mt_arena.proofs.Locks.{is_held}
-use Rattle.mt_arena.proofs.Quiet.{nodes_slots}
-use Rattle.mt_arena.proofs.Ranged.{ranged_marked}
-use Rattle.mt_arena.proofs.Homes.{forest_set, begun}
-use Rattle.mt_arena.proofs.Retiring.{retired_set}
-use Rattle.mt_arena.proofs.Slots.{within_all, changes_slots}
-use Rattle.mt_arena.proofs.Guarantees.{guarantee_on, guarantee_set, points_set}
-use Rattle.mt_arena.proofs.Topping.{guarantee_record}
-use Rattle.mt_arena.proofs.HeldOtherwise.{MayHoldThis, slots_are, border_after, inside_after, keys_after}
-use Rattle.mt_arena.proofs.NoLayer.{link_would_be_here}
-use Rattle.mt_arena.proofs.LiveTree.{alive, trees_size, tree_t, same_prefix, live_stays, was_live, forest_live, goes_live}
-use Rattle.mt_arena.proofs.GoingLive.{layered}
+use Rattle.mt_arena.specs.{declared.tree.Tree.Tree, declared.tree.Standing.TheVariants.Live, NodeView.{NodeView, node_at}}
+use Rattle.mt_arena.specs.{Forests.{IsForest, tree_at, layer_of}, Layers.{AreLayered, AreLinks, HasLink, LeadsTo, slot_at}, Contents.content}
+use Rattle.mt_arena.specs.{Arena.{ArenaInvariant, ArenaView, Guarantee}, Accesses.{at, tree_of}, Layering.{MayGoLive, with_held, with_link}}
+use Rattle.mt_arena.proofs.{Pairs.{here, there}, Locks.is_held, Quiet.nodes_slots, Ranged.ranged_marked, Homes.{forest_set, begun}, Retiring.retired_set}
+use Rattle.mt_arena.proofs.{Slots.{within_all, changes_slots}, Guarantees.{guarantee_on, guarantee_set, points_set}, Topping.guarantee_record}
+use Rattle.mt_arena.proofs.{HeldOtherwise.{MayHoldThis, slots_are, border_after, inside_after, keys_after}, NoLayer.link_would_be_here}
+use Rattle.mt_arena.proofs.{LiveTree.{alive, trees_size, tree_t, same_prefix, live_stays, was_live, forest_live, goes_live}, GoingLive.layered}
 
 -- two links that are one lead to one tree
 same_link : {t u : ℕ} → Link t ≡ Link u → t ≡ u

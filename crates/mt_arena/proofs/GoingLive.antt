@@ -1,35 +1,16 @@
 -- What the contents have where a slot becomes a link to the tree that was made for its key: for the law of that name.
 use Rattle.std.proofs.Common.{◌≡◌, ◌≢◌, ℕ, zero, suc, ◌<◌, Bool, true, false, cond, List, [], ◌∷◌, length, get_or, set, Option, Some, None, sym, refl, ap, subst, ◌∙◌, inl, inr, arith}
-use Rattle.std.specs.Prelude.{filter_map}
-use Rattle.std.specs.List.{flat_map, cons_option}
-use Rattle.std.specs.Ordering.{eq_by_cmp}
-use Rattle.std.specs.FinMap.{get, insert, get-empty, get-insert}
-use Rattle.std.proofs.lemmas.Bool.{cases_eq}
-use Rattle.std.proofs.lemmas.Option.{none-some}
-use Rattle.std.proofs.lemmas.List.{length-set, get_or-set_same, get_or-set_other}
+use Rattle.std.proofs.{lemmas.Bool.cases_eq, lemmas.Option.none-some, lemmas.List.{length-set, get_or-set_same, get_or-set_other}}
 use Rattle.std.proofs.lemmas.List.Elements.{All-from_get_or}
-use Rattle.mt_rows.specs.Rows.{Bytes, Columns}
-use Rattle.mt_rows.specs.Tenants.{owned_cmp}
-use Rattle.mt_rows.proofs.ContentLaws.{same_contents, owned_total}
-use Rattle.mt_border.specs.declared.entry.Pair.{Pair}
-use Rattle.mt_border.specs.declared.entry.Entry.{Entry}
-use Rattle.mt_border.specs.Entry.{pair_of}
-use Rattle.mt_border.specs.Contents.{owned, pair_in, contents_of, AreKeys}
-use Rattle.mt_border.proofs.Edits.{any_entry}
-use Rattle.mt_border.proofs.ContentsMaps.{at_owner, at_other}
-use Rattle.mt_border.proofs.ContentsKeys.{IsApart, owned_at, order_of_key}
-use Rattle.mt_border.proofs.ContentsLists.{get-apart, get-other, insert-this}
-use Rattle.mt_border.proofs.ContentsFinds.{apart_beside}
-use Rattle.mt_arena.specs.declared.tree.Tree.{Tree}
-use Rattle.mt_arena.specs.declared.tree.Standing.TheVariants.{Made, Live}
-use Rattle.mt_arena.specs.NodeView.{NodeView, node_at, no_node}
-use Rattle.mt_arena.specs.Forests.{tree_at, no_tree}
-use Rattle.mt_arena.specs.Layers.{slot_at}
-use Rattle.mt_arena.specs.Contents.{live_pairs, content}
-use Rattle.mt_arena.specs.Arena.{IsArena}
+use Rattle.std.specs.{Prelude.filter_map, List.{flat_map, cons_option}, Ordering.eq_by_cmp, FinMap.{get, insert, get-empty, get-insert}}
+use Rattle.mt_rows.{specs.{Rows.{Bytes, Columns}, Tenants.owned_cmp}, proofs.ContentLaws.{same_contents, owned_total}}
+use Rattle.mt_border.specs.{declared.entry.Pair.Pair, declared.entry.Entry.Entry, Entry.pair_of, Contents.{owned, pair_in, contents_of, AreKeys}}
+use Rattle.mt_border.proofs.{Edits.any_entry, ContentsMaps.{at_owner, at_other}, ContentsKeys.{IsApart, owned_at, order_of_key}}
+use Rattle.mt_border.proofs.{ContentsLists.{get-apart, get-other, insert-this}, ContentsFinds.apart_beside}
+use Rattle.mt_arena.specs.{declared.tree.Tree.Tree, declared.tree.Standing.TheVariants.{Made, Live}, NodeView.{NodeView, node_at, no_node}}
+use Rattle.mt_arena.specs.{Forests.{tree_at, no_tree}, Layers.slot_at, Contents.{live_pairs, content}, Arena.IsArena}
 use Rattle.mt_arena.specs.Ways.{AreBegun, StandsFor, HasSlots, IsMadeFor}
-use Rattle.mt_arena.proofs.Joins.{Pairs, map_of, tied_owner, same_owner, only_at, agree_by}
-use Rattle.mt_arena.proofs.Counted.{content-is, pairs-live, pairs-made, pairs-other}
+use Rattle.mt_arena.proofs.{Joins.{Pairs, map_of, tied_owner, same_owner, only_at, agree_by}, Counted.{content-is, pairs-live, pairs-made, pairs-other}}
 use Rattle.mt_arena.proofs.Owners.{keys_of, others, found}
 
 -- an entry without a pair of that owner stands for no other key's either

@@ -1,9 +1,7 @@
 -- Groups of a node's facts that hold again after a change: for the lemmas of single edits.
 use Rattle.std.proofs.Common.{◌≡◌, ◌≢◌, ℕ, ◌<◌, ◌≤◌, List, [], length, Bool, Option, None, is_some, ap, arith}
 use Rattle.mt_border.specs.declared.entry.Entry.{Entry}
-use Rattle.mt_arena.specs.NodeView.{NodeView}
-use Rattle.mt_arena.specs.Nodes.{IsNode, IsNamed}
-use Rattle.mt_arena.specs.NodeFacts.{AreThere, IsGuarded, FitsSlots, FitsChildren, FitsChain}
+use Rattle.mt_arena.specs.{NodeView.NodeView, Nodes.{IsNode, IsNamed}, NodeFacts.{AreThere, IsGuarded, FitsSlots, FitsChildren, FitsChain}}
 
 -- a held node need only be locked: its marks and slots are free
 pub held_lock : {lock insert split : Bool} (holder : Option ℕ) (entries : List Entry) → holder ≢ None → lock ≡ is_some holder

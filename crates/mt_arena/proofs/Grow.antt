@@ -1,17 +1,11 @@
 -- The facts of nodes are kept as a new root comes over the halves of the old one, and nothing lags behind it: for `Topping`.
 use Rattle.std.proofs.Common.{◌≡◌, ◌≢◌, ℕ, zero, suc, ◌+◌, ◌<◌, ◌≤◌, Bool, List, [], ◌∷◌, ◌++◌, length, get_or, Option, Some, None, false, set, refl, sym, ap, subst, ◌∙◌, inl, inr, arith, length-append}
-use Rattle.std.proofs.lemmas.Bool.{cases_eq, cases_lt}
-use Rattle.std.proofs.lemmas.List.{length-set}
-use Rattle.std.proofs.lemmas.Option.{same_Some}
+use Rattle.std.proofs.{lemmas.Bool.{cases_eq, cases_lt}, lemmas.List.length-set, lemmas.Option.same_Some}
 use Rattle.mt_lists.specs.Rising.{IsRising}
 use Rattle.mt_interior.specs.Fences.{end_of}
-use Rattle.mt_arena.specs.NodeView.{NodeView, node_at}
-use Rattle.mt_arena.specs.Nodes.{AreNodes, AllNodes, AllPairs, IsNode, IsPair, IsChild, HasChild, Holds, HasRange}
-use Rattle.mt_arena.specs.Settled.{IsSettled}
-use Rattle.mt_arena.specs.Ranges.{AreRanged}
-use Rattle.mt_arena.specs.Growth.{AreRootHalves, fresh_top, below_top, left_below, right_below}
-use Rattle.mt_arena.proofs.Groups.{node_more, names_none, interior_chain}
-use Rattle.mt_arena.proofs.Pairs.{here, there, last, before, nodes_set, nodes_push, pairs_set2, pairs_push}
+use Rattle.mt_arena.specs.{NodeView.{NodeView, node_at}, Nodes.{AreNodes, AllNodes, AllPairs, IsNode, IsPair, IsChild, HasChild, Holds, HasRange}}
+use Rattle.mt_arena.specs.{Settled.IsSettled, Ranges.AreRanged, Growth.{AreRootHalves, fresh_top, below_top, left_below, right_below}}
+use Rattle.mt_arena.proofs.{Groups.{node_more, names_none, interior_chain}, Pairs.{here, there, last, before, nodes_set, nodes_push, pairs_set2, pairs_push}}
 use Rattle.mt_arena.proofs.Push.{no_slots}
 
 -- a node without parent comes below a new one, which is behind all others

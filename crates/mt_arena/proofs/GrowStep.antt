@@ -1,15 +1,10 @@
 -- The facts of trees are kept as a new root comes over the halves of the old one: for `Topping`.
 use Rattle.std.proofs.Common.{◌≡◌, ◌≢◌, ℕ, ◌+◌, ◌<◌, ◌++◌, List, [], ◌∷◌, length, set, true, false, refl, sym, ap, subst, ◌∙◌, inl, inr, arith, length-append}
-use Rattle.std.proofs.lemmas.Bool.{cases_eq}
-use Rattle.std.proofs.lemmas.List.{length-set, get_or-set_same, get_or-set_other}
+use Rattle.std.proofs.{lemmas.Bool.cases_eq, lemmas.List.{length-set, get_or-set_same, get_or-set_other}}
 use Rattle.mt_rows.specs.Rows.{Bytes}
-use Rattle.mt_arena.specs.declared.tree.Tree.{Tree}
-use Rattle.mt_arena.specs.declared.tree.Standing.TheVariants.{Dead}
-use Rattle.mt_arena.specs.NodeView.{NodeView, node_at}
-use Rattle.mt_arena.specs.Forests.{IsForest, IsHome, IsTree, HaveKeys, AllBegin, tree_at, no_tree}
-use Rattle.mt_arena.specs.Growth.{AreRootHalves, fresh_top, left_below, right_below}
-use Rattle.mt_arena.proofs.Pairs.{here, there, last, before}
-use Rattle.mt_arena.proofs.Begins.{KeepsSeat, begins_set, begins_push, begins_trees}
+use Rattle.mt_arena.specs.{declared.tree.Tree.Tree, declared.tree.Standing.TheVariants.Dead, NodeView.{NodeView, node_at}}
+use Rattle.mt_arena.specs.{Forests.{IsForest, IsHome, IsTree, HaveKeys, AllBegin, tree_at, no_tree}, Growth.{AreRootHalves, fresh_top, left_below, right_below}}
+use Rattle.mt_arena.proofs.{Pairs.{here, there, last, before}, Begins.{KeepsSeat, begins_set, begins_push, begins_trees}}
 
 no_keys_at_all : (prefix : Bytes) → HaveKeys prefix []
 no_keys_at_all prefix = record { keys = λ k d inside. absurd (omega arith); begun = λ k d inside. absurd (omega arith) }

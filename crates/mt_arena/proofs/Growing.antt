@@ -1,34 +1,17 @@
 -- The whole invariant, the guarantee and the contents where a right half is made, or a tree with its root: for `begin_split` and
 -- `MakingLayer`.
 use Rattle.std.proofs.Common.{◌≡◌, ℕ, ◌+◌, ◌*◌, ◌<◌, ◌≤◌, List, [], ◌∷◌, ◌++◌, length, set, false, Some, refl, sym, ap, subst, ◌∙◌, inl, inr, arith, length-append}
-use Rattle.std.proofs.lemmas.Bool.{cases_eq}
-use Rattle.std.proofs.lemmas.List.{length-set}
+use Rattle.std.proofs.{lemmas.Bool.cases_eq, lemmas.List.length-set, lemmas.Option.same_Some}
 use Rattle.mt_rows.specs.Rows.{Bytes}
 use Rattle.mt_border.specs.declared.entry.Entry.{Entry}
-use Rattle.std.proofs.lemmas.Option.{same_Some}
-use Rattle.mt_arena.specs.declared.tree.Tree.{Tree}
-use Rattle.mt_arena.specs.declared.tree.Standing.TheVariants.{Made}
-use Rattle.mt_arena.specs.declared.retired.Retired.{Retired}
-use Rattle.mt_arena.specs.NodeView.{NodeView, node_at}
-use Rattle.mt_arena.specs.Forests.{IsForest, HaveKeys, HasSlice, tree_at, layer_of}
-use Rattle.mt_arena.specs.Layers.{AreLayered, LeadsTo, HasLink, slot_at}
-use Rattle.mt_arena.specs.Nodes.{HasRange}
-use Rattle.mt_arena.specs.Guarantee.{NodesGuarantee, PointsOnly}
-use Rattle.mt_arena.specs.Edits.{splitting, fresh_half, fresh_root}
-use Rattle.mt_arena.specs.Contents.{content}
-use Rattle.mt_arena.specs.Arena.{IsArena, ArenaInvariant, ArenaView, Guarantee}
-use Rattle.mt_arena.specs.Accesses.{at, IsOpen, with_half}
-use Rattle.mt_arena.proofs.Pairs.{here, last, before}
-use Rattle.mt_arena.proofs.Push.{nodes_half, nodes_root}
-use Rattle.mt_arena.proofs.Ranged.{ranged_root}
-use Rattle.mt_arena.proofs.RangedEdits.{ranged_half}
-use Rattle.mt_arena.proofs.Homes.{forest_push}
-use Rattle.mt_arena.proofs.Trees.{forest_tree, made, last_tree, before_tree}
-use Rattle.mt_arena.proofs.LinkEdits.{no_links}
-use Rattle.mt_arena.proofs.Retiring.{retired_push}
+use Rattle.mt_arena.specs.{declared.tree.Tree.Tree, declared.tree.Standing.TheVariants.Made, declared.retired.Retired.Retired, NodeView.{NodeView, node_at}}
+use Rattle.mt_arena.specs.{Forests.{IsForest, HaveKeys, HasSlice, tree_at, layer_of}, Layers.{AreLayered, LeadsTo, HasLink, slot_at}, Nodes.HasRange}
+use Rattle.mt_arena.specs.{Guarantee.{NodesGuarantee, PointsOnly}, Edits.{splitting, fresh_half, fresh_root}, Contents.content}
+use Rattle.mt_arena.specs.{Arena.{IsArena, ArenaInvariant, ArenaView, Guarantee}, Accesses.{at, IsOpen, with_half}}
+use Rattle.mt_arena.proofs.{Pairs.{here, last, before}, Push.{nodes_half, nodes_root}, Ranged.ranged_root, RangedEdits.ranged_half, Homes.forest_push}
+use Rattle.mt_arena.proofs.{Trees.{forest_tree, made, last_tree, before_tree}, LinkEdits.no_links, Retiring.retired_push}
 use Rattle.mt_arena.proofs.Guarantees.{guarantee_on, guarantee_set, guarantee_push, points_set, points_push}
-use Rattle.mt_arena.proofs.ContentQuiet.{content-set, stands_pushed, stands_tree_pushed}
-use Rattle.mt_arena.proofs.Locks.{is_held, sound_splitting, changes_splitting}
+use Rattle.mt_arena.proofs.{ContentQuiet.{content-set, stands_pushed, stands_tree_pushed}, Locks.{is_held, sound_splitting, changes_splitting}}
 use Rattle.mt_arena.proofs.Naming.{points_on}
 
 -- a link stays where a node is added

@@ -1,17 +1,12 @@
 -- The guarantees of two steps join to one, and which changes give one: for the clause `step` of every call, and for the laws.
 use Rattle.std.proofs.Common.{◌≡◌, ◌≢◌, ℕ, ◌+◌, ◌<◌, ◌≤◌, List, [], ◌∷◌, ◌++◌, length, set, Bool, true, false, Some, None, refl, sym, ap, subst, ◌∙◌, inl, inr, arith, length-append}
-use Rattle.std.proofs.lemmas.Bool.{cases_eq, cases_lt}
-use Rattle.std.proofs.lemmas.List.{length-set, get_or_past}
+use Rattle.std.proofs.{lemmas.Bool.{cases_eq, cases_lt}, lemmas.List.{length-set, get_or_past}}
 use Rattle.mt_version.specs.Changes.{range_age, insert_age}
-use Rattle.mt_version.proofs.CallerLemmas as versions
-use Rattle.mt_arena.specs.declared.tree.Tree.{Tree}
-use Rattle.mt_arena.specs.declared.tree.Standing.{Standing}
-use Rattle.mt_arena.specs.declared.tree.Standing.TheVariants.{Made, Live, Dead}
-use Rattle.mt_arena.specs.NodeView.{NodeView, node_at}
-use Rattle.mt_arena.specs.Forests.{tree_at, no_tree}
+use Rattle.mt_arena.specs.{declared.tree.Tree.Tree, declared.tree.Standing.Standing, declared.tree.Standing.TheVariants.{Made, Live, Dead}}
+use Rattle.mt_arena.specs.{NodeView.{NodeView, node_at}, Forests.{tree_at, no_tree}}
 use Rattle.mt_arena.specs.Guarantee.{NodesGuarantee, Changes, TreeChanges, IsUntouched, HasSameKeys, PointsOnly}
-use Rattle.mt_arena.proofs.Pairs.{here, there, last, before}
-use Rattle.mt_arena.proofs.Trees.{before_tree}
+use Rattle.mt_arena.proofs.{Pairs.{here, there, last, before}, Trees.before_tree}
+use Rattle.mt_version.proofs.CallerLemmas as versions
 
 -- a node that stays as it is
 pub untouched : (n : NodeView) → IsUntouched n n

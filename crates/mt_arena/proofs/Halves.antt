@@ -1,38 +1,20 @@
 -- What the contents have where the slots of one node are parted among two: for `Halving` and the laws.
 use Rattle.std.proofs.Common.{◌≡◌, ◌≢◌, ℕ, suc, ◌+◌, ◌<◌, ◌≤◌, Bool, true, false, cond, List, [], ◌∷◌, ◌++◌, length, get_or, set, Option, Some, None, sym, refl, ap, subst, ◌∙◌, inl, inr, arith, length-append}
-use Rattle.std.specs.Prelude.{filter_map}
-use Rattle.std.specs.List.{All, flat_map, cons_option}
-use Rattle.std.specs.Option.{option_map, option_or}
-use Rattle.std.specs.Ordering.{eq_by_cmp}
-use Rattle.std.specs.FinMap.{get, insert, get-empty, get-insert}
-use Rattle.std.proofs.lemmas.Bool.{cases_eq}
-use Rattle.std.proofs.lemmas.Option.{none-some}
+use Rattle.std.proofs.{lemmas.Bool.cases_eq, lemmas.Option.none-some}
 use Rattle.std.proofs.lemmas.List.{length-set, get_or-set_same, get_or-set_other, get_or_append_left, get_or-append-add}
 use Rattle.std.proofs.lemmas.List.Elements.{filter_map-append, All-from_get_or}
+use Rattle.std.specs.{Prelude.filter_map, List.{All, flat_map, cons_option}, Option.{option_map, option_or}, Ordering.eq_by_cmp}
+use Rattle.std.specs.FinMap.{get, insert, get-empty, get-insert}
 use Rattle.mt_slices.specs.Slices.{slice_of}
-use Rattle.mt_rows.specs.Rows.{Bytes, Columns}
-use Rattle.mt_rows.specs.Tenants.{owned_cmp}
-use Rattle.mt_rows.proofs.ContentLaws.{same_contents, owned_total}
-use Rattle.mt_border.specs.declared.entry.Pair.{Pair}
-use Rattle.mt_border.specs.declared.entry.Entry.{Entry}
-use Rattle.mt_border.specs.Entry.{pair_of}
-use Rattle.mt_border.specs.Entries.{IsMissing, with_entry}
-use Rattle.mt_border.specs.Split.{IsParted}
+use Rattle.mt_rows.{specs.{Rows.{Bytes, Columns}, Tenants.owned_cmp}, proofs.ContentLaws.{same_contents, owned_total}}
+use Rattle.mt_border.specs.{declared.entry.Pair.Pair, declared.entry.Entry.Entry, Entry.pair_of, Entries.{IsMissing, with_entry}, Split.IsParted}
 use Rattle.mt_border.specs.Contents.{owned, key_at, pair_in, contents_of, HasKey, AreKeys}
-use Rattle.mt_border.proofs.Edits.{any_entry}
-use Rattle.mt_border.proofs.ContentsKeys.{IsApart, owned_at, owned_once, missing_key}
-use Rattle.mt_border.proofs.ContentsLists.{get-apart}
+use Rattle.mt_border.proofs.{Edits.any_entry, ContentsKeys.{IsApart, owned_at, owned_once, missing_key}, ContentsLists.get-apart}
 use Rattle.mt_border.proofs.ContentsEdits.{each-publish, keys-publish}
-use Rattle.mt_arena.specs.declared.tree.Tree.{Tree}
-use Rattle.mt_arena.specs.declared.tree.Standing.TheVariants.{Live}
-use Rattle.mt_arena.specs.NodeView.{NodeView, node_at, no_node}
-use Rattle.mt_arena.specs.Forests.{tree_at}
-use Rattle.mt_arena.specs.Contents.{live_pairs, content}
-use Rattle.mt_arena.specs.Arena.{IsArena}
-use Rattle.mt_arena.specs.Ways.{AreBegun, BelongsIn, StandsFor, HasSlots, IsUnfilled}
+use Rattle.mt_arena.specs.{declared.tree.Tree.Tree, declared.tree.Standing.TheVariants.Live, NodeView.{NodeView, node_at, no_node}, Forests.tree_at}
+use Rattle.mt_arena.specs.{Contents.{live_pairs, content}, Arena.IsArena, Ways.{AreBegun, BelongsIn, StandsFor, HasSlots, IsUnfilled}}
 use Rattle.mt_arena.proofs.Joins.{map_of, tied_owner, get-append, or_none, or_none_right, only_at, agree_by}
-use Rattle.mt_arena.proofs.Counted.{HasNone, content-is, contents_of-is, pairs-live, pairs-nil}
-use Rattle.mt_arena.proofs.Owners.{keys_of, nodes_missing, others, published}
+use Rattle.mt_arena.proofs.{Counted.{HasNone, content-is, contents_of-is, pairs-live, pairs-nil}, Owners.{keys_of, nodes_missing, others, published}}
 use Rattle.mt_arena.proofs.ContentQuiet.{stands_unchanged}
 
 -- what holds of each of two joined lists

@@ -1,47 +1,25 @@
 -- The whole invariant, the guarantee and the contents where the slots of a border node are parted, with a new key's or without: for the
 -- call that does it.
 use Rattle.std.proofs.Common.{◌≡◌, ◌≢◌, ◌⊎◌, ℕ, ◌+◌, ◌-◌, ◌<◌, ◌≤◌, List, ◌++◌, length, take, drop, get_or, set, Option, Some, None, IfSome, refl, sym, ap, subst, ◌∙◌, inl, inr, arith, length-append}
-use Rattle.std.specs.List.{All}
-use Rattle.std.specs.FinMap as finite
-use Rattle.std.proofs.lemmas.Bool.{cases_lt}
-use Rattle.std.proofs.lemmas.Option.{same_Some}
+use Rattle.std.proofs.{lemmas.Bool.cases_lt, lemmas.Option.same_Some}
 use Rattle.std.proofs.lemmas.List.{length-set, get_or-map, get_or_append_left, get_or-append-add, take_at, drop_at}
-use Rattle.mt_slices.specs.declared.mark.Mark.{Mark}
-use Rattle.mt_slices.specs.declared.mark.Mark.TheVariants.{Short}
+use Rattle.std.specs.List.{All}
+use Rattle.mt_slices.specs.{declared.mark.Mark.Mark, declared.mark.Mark.TheVariants.Short}
 use Rattle.mt_rows.specs.Rows.{Bytes}
-use Rattle.mt_border.specs.declared.entry.Entry.{Entry}
-use Rattle.mt_border.specs.declared.entry.Pair.{Pair}
-use Rattle.mt_border.specs.declared.entry.Held.TheVariants.{Stable}
-use Rattle.mt_border.specs.Entry.{IsEntry, order_of, pair_of}
-use Rattle.mt_lists.specs.Rising.{IsRising}
-use Rattle.mt_border.specs.Entries.{IsBorder, orders, slices, place_in}
-use Rattle.mt_border.specs.Split.{IsParted}
-use Rattle.mt_border.specs.Contents.{HasKey, owned}
-use Rattle.mt_border.proofs.Edits.{any_entry, place_in-le, All-insert, border_take, border_drop, orders-insert, rising_with}
-use Rattle.mt_border.proofs.Parts.{All-left, All-right}
+use Rattle.mt_border.specs.{declared.entry.Entry.Entry, declared.entry.Pair.Pair, declared.entry.Held.TheVariants.Stable, Entry.{IsEntry, order_of, pair_of}}
+use Rattle.mt_border.specs.{Entries.{IsBorder, orders, slices, place_in}, Split.IsParted, Contents.{HasKey, owned}}
+use Rattle.mt_border.proofs.{Edits.{any_entry, place_in-le, All-insert, border_take, border_drop, orders-insert, rising_with}, Parts.{All-left, All-right}}
 use Rattle.mt_border.proofs.ContentsEdits.{keys-publish, length-publish}
+use Rattle.mt_lists.specs.Rising.{IsRising}
 use Rattle.mt_interior.specs.Fences.{end_of}
-use Rattle.mt_arena.specs.declared.tree.Tree.{Tree}
-use Rattle.mt_arena.specs.declared.retired.Retired.{Retired}
-use Rattle.mt_arena.specs.NodeView.{NodeView, node_at}
-use Rattle.mt_arena.specs.Nodes.{Holds}
-use Rattle.mt_arena.specs.Forests.{HaveKeys, tree_at, layer_of}
-use Rattle.mt_arena.specs.Contents.{content}
-use Rattle.mt_arena.specs.Ways.{AreBegun, IsUnfilled}
-use Rattle.mt_arena.specs.declared.tree.Standing.TheVariants.{Live}
-use Rattle.mt_arena.specs.Arena.{ArenaInvariant, ArenaView, Guarantee}
-use Rattle.mt_arena.specs.Accesses.{at, tree_of}
-use Rattle.mt_arena.specs.Splits.{Splits, with_some, left_half, right_half}
+use Rattle.mt_arena.specs.{declared.tree.Tree.Tree, declared.retired.Retired.Retired, NodeView.{NodeView, node_at}, Nodes.Holds}
+use Rattle.mt_arena.specs.{Forests.{HaveKeys, tree_at, layer_of}, Contents.content, Ways.{AreBegun, IsUnfilled}, declared.tree.Standing.TheVariants.Live}
+use Rattle.mt_arena.specs.{Arena.{ArenaInvariant, ArenaView, Guarantee}, Accesses.{at, tree_of}, Splits.{Splits, with_some, left_half, right_half}}
 use Rattle.mt_arena.specs.Several.{IsHalf, MaySplit, MayPlace, AreHalved}
-use Rattle.mt_arena.proofs.LinkEdits.{HasSlot, HasLinksOf, same_links, links_insert, links_insert_back}
-use Rattle.mt_arena.proofs.Homes.{begun}
-use Rattle.mt_arena.proofs.Locks.{is_held}
-use Rattle.mt_arena.proofs.Steps.{keys_of}
-use Rattle.mt_arena.proofs.Slots.{within_each, no_link, begun_mark}
-use Rattle.mt_arena.proofs.SplitStep.{sound_split, guarantee_split}
-use Rattle.mt_arena.proofs.Naming.{names_same, points_each, each_set2}
-use Rattle.mt_arena.proofs.Halves.{halved, parted_as_were}
-use Rattle.mt_arena.proofs.Guarantees.{PointsSo}
+use Rattle.mt_arena.proofs.{LinkEdits.{HasSlot, HasLinksOf, same_links, links_insert, links_insert_back}, Homes.begun, Locks.is_held, Steps.keys_of}
+use Rattle.mt_arena.proofs.{Slots.{within_each, no_link, begun_mark}, SplitStep.{sound_split, guarantee_split}, Naming.{names_same, points_each, each_set2}}
+use Rattle.mt_arena.proofs.{Halves.{halved, parted_as_were}, Guarantees.PointsSo}
+use Rattle.std.specs.FinMap as finite
 
 -- links of links
 links_on : (a b c : List Entry) → HasLinksOf a b → HasLinksOf b c → HasLinksOf a c

@@ -1,17 +1,12 @@
 -- A live node stands above live nodes of all lower levels, so its level is below the number of live ones: for the law
 -- `a_level_needs_a_node`, and for `grow_root`, whose level must fit its type.
 use Rattle.std.proofs.Common.{◌≡◌, ℕ, zero, suc, ◌+◌, ◌<◌, ◌≤◌, List, [], ◌∷◌, length, get_or, Bool, true, false, refl, sym, ◌∙◌, inl, inr, arith}
-use Rattle.std.specs.Prelude.{if◌then◌else◌, nat_lt}
 use Rattle.std.proofs.lemmas.Bool.{cases_eq, cases_lt}
+use Rattle.std.specs.Prelude.{if◌then◌else◌, nat_lt}
 use Rattle.mt_interior.specs.Fences.{end_of}
 use Rattle.mt_border.proofs.Edits.{step_on, step_off}
-use Rattle.mt_arena.specs.declared.tree.Tree.{Tree}
-use Rattle.mt_arena.specs.declared.tree.Standing.TheVariants.{Live}
-use Rattle.mt_arena.specs.NodeView.{NodeView, node_at}
-use Rattle.mt_arena.specs.Nodes.{AreNodes, IsChild, HasRange}
-use Rattle.mt_arena.specs.Ranges.{AreRanged}
-use Rattle.mt_arena.specs.Forests.{IsRoot, tree_at}
-use Rattle.mt_arena.specs.Arena.{IsArena, live_count}
+use Rattle.mt_arena.specs.{declared.tree.Tree.Tree, declared.tree.Standing.TheVariants.Live, NodeView.{NodeView, node_at}, Nodes.{AreNodes, IsChild, HasRange}}
+use Rattle.mt_arena.specs.{Ranges.AreRanged, Forests.{IsRoot, tree_at}, Arena.{IsArena, live_count}}
 use Rattle.mt_arena.proofs.Grow.{not_none}
 
 -- how many live nodes are of a lower level

@@ -1,19 +1,14 @@
 -- Which changes of a node that an operation holds its guarantee allows: for the clause `step` of the calls that change several nodes.
 use Rattle.std.proofs.Common.{◌≡◌, ◌≢◌, ℕ, suc, ◌+◌, ◌<◌, ◌≤◌, List, [], ◌∷◌, length, take, drop, Bool, Some, true, false, refl, sym, ap, ◌∙◌, arith, length-append}
-use Rattle.std.proofs.lemmas.Option.{same_Some}
+use Rattle.std.proofs.{lemmas.Option.same_Some, lemmas.List.Edits.length-remove}
 use Rattle.std.specs.List.{insert, remove}
-use Rattle.std.proofs.lemmas.List.Edits.{length-remove}
 use Rattle.mt_version.specs.Changes.{Ages}
-use Rattle.mt_version.proofs.CallerLemmas as versions
 use Rattle.mt_border.specs.declared.entry.Entry.{Entry}
-use Rattle.mt_interior.specs.Places.{place_of}
-use Rattle.mt_interior.specs.Fences.{end_of}
-use Rattle.mt_arena.specs.NodeView.{NodeView}
-use Rattle.mt_arena.specs.Guarantee.{Changes, HasSameKeys}
-use Rattle.mt_arena.specs.Splits.{left_half, right_half, with_child, exact, inner_left}
-use Rattle.mt_arena.specs.Unlinks.{joined, without_child}
-use Rattle.mt_arena.specs.Growth.{left_below, right_below}
+use Rattle.mt_interior.specs.{Places.place_of, Fences.end_of}
+use Rattle.mt_arena.specs.{NodeView.NodeView, Guarantee.{Changes, HasSameKeys}, Splits.{left_half, right_half, with_child, exact, inner_left}}
+use Rattle.mt_arena.specs.{Unlinks.{joined, without_child}, Growth.{left_below, right_below}}
 use Rattle.mt_arena.proofs.Ranges.{not_empty}
+use Rattle.mt_version.proofs.CallerLemmas as versions
 
 -- a list with an element put in is not empty
 insert_some : (xs : List ℕ) (i x : ℕ) → insert xs i x ≢ []

@@ -1,31 +1,16 @@
 -- The whole invariant, the guarantee and the contents where a slot holds its pair otherwise: for `mark_unstable` and `link`.
-use Rattle.std.proofs.Common.{◌≡◌, ◌≢◌, ℕ, ◌<◌, length, set, Some, None, refl, sym, ap, subst, ◌∙◌}
+use Rattle.std.proofs.{Common.{◌≡◌, ◌≢◌, ℕ, ◌<◌, length, set, Some, None, refl, sym, ap, subst, ◌∙◌}, lemmas.List.get_or-map, lemmas.List.Elements.All-set}
 use Rattle.std.specs.List.{All}
-use Rattle.std.proofs.lemmas.List.{get_or-map}
-use Rattle.std.proofs.lemmas.List.Elements.{All-set}
 use Rattle.mt_slices.specs.declared.mark.Mark.TheVariants.{Short}
 use Rattle.mt_rows.specs.Rows.{Bytes}
-use Rattle.mt_border.specs.declared.entry.Entry.{Entry}
-use Rattle.mt_border.specs.declared.entry.Pair.{Pair}
-use Rattle.mt_border.specs.declared.entry.Held.{Held}
-use Rattle.mt_border.specs.declared.entry.Held.TheVariants.{Stable, Unstable, Link}
-use Rattle.mt_border.specs.Entry.{CanHold, order_of, pair_of}
-use Rattle.mt_border.specs.Entries.{IsBorder, replaced}
+use Rattle.mt_border.specs.{declared.entry.Entry.Entry, declared.entry.Pair.Pair, declared.entry.Held.Held}
+use Rattle.mt_border.specs.{declared.entry.Held.TheVariants.{Stable, Unstable, Link}, Entry.{CanHold, order_of, pair_of}, Entries.{IsBorder, replaced}}
 use Rattle.mt_border.specs.Contents.{HasKey}
-use Rattle.mt_border.proofs.Edits.{any_entry, border_set, replaced_at}
-use Rattle.mt_border.proofs.ContentsKeys.{has_held_key}
-use Rattle.mt_arena.specs.NodeView.{NodeView}
-use Rattle.mt_arena.specs.Nodes.{Holds}
-use Rattle.mt_arena.specs.Layers.{slot_at}
-use Rattle.mt_arena.specs.Forests.{HaveKeys, layer_of}
-use Rattle.mt_arena.specs.Contents.{content}
-use Rattle.mt_arena.specs.Arena.{ArenaInvariant, ArenaView, Guarantee}
-use Rattle.mt_arena.specs.Accesses.{at, tree_of}
+use Rattle.mt_border.proofs.{Edits.{any_entry, border_set, replaced_at}, ContentsKeys.has_held_key}
+use Rattle.mt_arena.specs.{NodeView.NodeView, Nodes.Holds, Layers.slot_at, Forests.{HaveKeys, layer_of}, Contents.content}
+use Rattle.mt_arena.specs.{Arena.{ArenaInvariant, ArenaView, Guarantee}, Accesses.{at, tree_of}}
 use Rattle.mt_arena.specs.Layering.{IsHeldSlot, MayUnsettle, MayLink, with_held, with_slot}
-use Rattle.mt_arena.proofs.Steps.{keys_of}
-use Rattle.mt_arena.proofs.Locks.{is_held}
-use Rattle.mt_arena.proofs.Slots.{within_each, sound_slots, step_slots}
-use Rattle.mt_arena.proofs.LinkEdits.{HasLinksOf, links_set, links_set_back}
+use Rattle.mt_arena.proofs.{Steps.keys_of, Locks.is_held, Slots.{within_each, sound_slots, step_slots}, LinkEdits.{HasLinksOf, links_set, links_set_back}}
 use Rattle.mt_arena.proofs.ContentQuiet.{stands_held}
 
 -- what a slot that holds something else may hold: of the same key, if of any

@@ -1,14 +1,9 @@
 -- The facts of trees and their nodes are kept where a node changes or is added: for the invariant of every call.
 use Rattle.std.proofs.Common.{◌≡◌, ◌≢◌, ℕ, ◌+◌, ◌<◌, ◌≤◌, List, [], ◌∷◌, ◌++◌, length, set, Bool, true, false, None, refl, sym, subst, ◌∙◌, inl, inr, arith, length-append}
-use Rattle.std.proofs.lemmas.Bool.{cases_eq}
-use Rattle.std.proofs.lemmas.List.{length-set}
-use Rattle.mt_arena.specs.declared.tree.Tree.{Tree}
-use Rattle.mt_arena.specs.declared.tree.Standing.TheVariants.{Dead}
-use Rattle.mt_arena.specs.NodeView.{NodeView, node_at}
-use Rattle.mt_arena.specs.Forests.{IsForest, IsHome, IsTree, IsRoot, HaveKeys, BeginsAtKey, tree_at}
-use Rattle.mt_arena.specs.Ways.{AreBegun}
-use Rattle.mt_arena.proofs.Pairs.{here, there, last, before}
-use Rattle.mt_arena.proofs.Begins.{begins_set, begins_push}
+use Rattle.std.proofs.{lemmas.Bool.cases_eq, lemmas.List.length-set}
+use Rattle.mt_arena.specs.{declared.tree.Tree.Tree, declared.tree.Standing.TheVariants.Dead, NodeView.{NodeView, node_at}}
+use Rattle.mt_arena.specs.{Forests.{IsForest, IsHome, IsTree, IsRoot, HaveKeys, BeginsAtKey, tree_at}, Ways.AreBegun}
+use Rattle.mt_arena.proofs.{Pairs.{here, there, last, before}, Begins.{begins_set, begins_push}}
 
 -- what a node that changes keeps of its place among the trees
 pub record KeepsHome (x y : NodeView) : Type 0 where

@@ -1,16 +1,10 @@
 -- The facts of nodes are kept as an interior node with one child too many is parted: for `InnerSplit`.
 use Rattle.std.proofs.Common.{◌≡◌, ◌≢◌, ℕ, suc, ◌+◌, ◌-◌, ◌<◌, ◌≤◌, List, length, get_or, take, drop, Option, Some, None, true, false, set, refl, sym, ap, subst, ◌∙◌, arith, length-drop}
 use Rattle.std.proofs.lemmas.List.{length-take-le, get_or-take, get_or-drop}
-use Rattle.mt_lists.specs.Rising.{IsRising}
-use Rattle.mt_interior.specs.Fences.{end_of, bounds_of}
-use Rattle.mt_lists.proofs.Rises.{rising_take, rising_drop}
-use Rattle.mt_interior.proofs.PlaceLemmas.{bounds_of-inner, bounds_of-end}
-use Rattle.mt_interior.proofs.CallerLemmas.{bounds_of-take, bounds_of-drop}
-use Rattle.mt_arena.specs.NodeView.{NodeView, node_at}
-use Rattle.mt_arena.specs.Nodes.{AllPairs, IsNode, IsPair, IsChild, HasRange, bounds}
-use Rattle.mt_arena.proofs.Groups.{interior_slots, interior_chain}
-use Rattle.mt_arena.proofs.Pairs.{pairs_set2}
-use Rattle.mt_arena.proofs.Ranges.{not_empty, length_bounds, separators_rise, child_ranges}
+use Rattle.mt_lists.{specs.Rising.IsRising, proofs.Rises.{rising_take, rising_drop}}
+use Rattle.mt_interior.{specs.Fences.{end_of, bounds_of}, proofs.{PlaceLemmas.{bounds_of-inner, bounds_of-end}, CallerLemmas.{bounds_of-take, bounds_of-drop}}}
+use Rattle.mt_arena.specs.{NodeView.{NodeView, node_at}, Nodes.{AllPairs, IsNode, IsPair, IsChild, HasRange, bounds}}
+use Rattle.mt_arena.proofs.{Groups.{interior_slots, interior_chain}, Pairs.pairs_set2, Ranges.{not_empty, length_bounds, separators_rise, child_ranges}}
 
 -- what a node that is parted at separator k has: separators, children, and bounds that rise
 pub record IsWide (count : ℕ) (low : ℕ) (high : Option ℕ) (separators children : List ℕ) (k : ℕ) : Type 0 where

@@ -1,10 +1,8 @@
 -- The facts of nodes are kept as a right half comes to stand in a full parent, which is parted: for `Parting`.
-use Rattle.std.proofs.Common.{◌≡◌, ◌≢◌, ℕ, ◌+◌, ◌<◌, List, length, get_or, drop, set, sym, ap, subst, ◌∙◌, inl, inr, arith}
-use Rattle.std.specs.List.{insert}
-use Rattle.std.proofs.lemmas.Bool.{cases_eq}
+use Rattle.std.proofs.{Common.{◌≡◌, ◌≢◌, ℕ, ◌+◌, ◌<◌, List, length, get_or, drop, set, sym, ap, subst, ◌∙◌, inl, inr, arith}, lemmas.Bool.cases_eq}
 use Rattle.std.proofs.lemmas.List.{length-set, set-set, set_comm}
-use Rattle.mt_arena.specs.NodeView.{NodeView, node_at}
-use Rattle.mt_arena.specs.Nodes.{AreNodes, AllNodes, AllPairs, IsNode, IsPair, HasRange}
+use Rattle.std.specs.List.{insert}
+use Rattle.mt_arena.specs.{NodeView.{NodeView, node_at}, Nodes.{AreNodes, AllNodes, AllPairs, IsNode, IsPair, HasRange}}
 use Rattle.mt_arena.specs.Splits.{Inserts, with_child, exact, middle, inner_left}
 use Rattle.mt_arena.proofs.Pairs.{here, there, nodes_set}
 use Rattle.mt_arena.proofs.Child.{inserts_at, inserted_pairs, children_within, sizes, still_rise, differ_ij, left_child, left_node as exact_node}

@@ -1,32 +1,13 @@
 -- The whole invariant, the guarantee and the contents where a right half comes to stand in its parent: for `insert_child`.
 use Rattle.std.proofs.Common.{◌≡◌, ◌≢◌, ℕ, suc, ◌+◌, ◌<◌, List, ◌∷◌, [], length, get_or, set, Some, refl, sym, ap, subst, ◌∙◌, inl, inr, arith}
-use Rattle.std.proofs.lemmas.Bool.{cases_lt}
-use Rattle.std.proofs.lemmas.List.{length-set, set-set, get_or_append_left}
-use Rattle.mt_interior.specs.Places.{IsNew}
-use Rattle.mt_interior.specs.Fences.{end_of}
-use Rattle.mt_arena.specs.declared.tree.Tree.{Tree}
-use Rattle.mt_arena.specs.NodeView.{NodeView, node_at}
-use Rattle.mt_arena.specs.declared.tree.Standing.TheVariants.{Made}
-use Rattle.mt_arena.specs.Forests.{IsForest, tree_at}
-use Rattle.mt_arena.specs.Ranges.{AreRanged}
-use Rattle.mt_arena.specs.Nodes.{AreNodes, IsChild, bounds}
-use Rattle.mt_arena.specs.Contents.{content}
-use Rattle.mt_arena.specs.Arena.{ArenaInvariant, ArenaView, Guarantee}
-use Rattle.mt_arena.specs.Accesses.{at}
-use Rattle.mt_arena.specs.Edits.{inserting}
-use Rattle.mt_arena.specs.Splits.{Inserts, with_child, exact}
-use Rattle.mt_arena.specs.Several.{MayInsert, with_right}
-use Rattle.mt_arena.proofs.Pairs.{here, there}
-use Rattle.mt_arena.proofs.Quiet.{nodes_inserting}
-use Rattle.mt_arena.proofs.Ranges.{rises, not_empty, length_bounds}
-use Rattle.mt_arena.proofs.Ranged.{ranged_marked}
-use Rattle.mt_arena.proofs.RangedEdits.{ranged_insert_child}
-use Rattle.mt_arena.proofs.Child.{nodes_insert_child, left_child, differ_ij}
-use Rattle.mt_arena.proofs.Steps.{keys_of}
-use Rattle.mt_arena.proofs.Slots.{changes_slots}
-use Rattle.mt_arena.proofs.HeldChanges.{changes_with_child, changes_exact}
-use Rattle.mt_arena.proofs.Guarantees.{changes_on, PointsSo}
-use Rattle.mt_arena.proofs.Naming.{names_same, points_each, each_set2}
+use Rattle.std.proofs.{lemmas.Bool.cases_lt, lemmas.List.{length-set, set-set, get_or_append_left}}
+use Rattle.mt_interior.specs.{Places.IsNew, Fences.end_of}
+use Rattle.mt_arena.specs.{declared.tree.Tree.Tree, NodeView.{NodeView, node_at}, declared.tree.Standing.TheVariants.Made, Forests.{IsForest, tree_at}}
+use Rattle.mt_arena.specs.{Ranges.AreRanged, Nodes.{AreNodes, IsChild, bounds}, Contents.content, Arena.{ArenaInvariant, ArenaView, Guarantee}, Accesses.at}
+use Rattle.mt_arena.specs.{Edits.inserting, Splits.{Inserts, with_child, exact}, Several.{MayInsert, with_right}}
+use Rattle.mt_arena.proofs.{Pairs.{here, there}, Quiet.nodes_inserting, Ranges.{rises, not_empty, length_bounds}, Ranged.ranged_marked}
+use Rattle.mt_arena.proofs.{RangedEdits.ranged_insert_child, Child.{nodes_insert_child, left_child, differ_ij}, Steps.keys_of, Slots.changes_slots}
+use Rattle.mt_arena.proofs.{HeldChanges.{changes_with_child, changes_exact}, Guarantees.{changes_on, PointsSo}, Naming.{names_same, points_each, each_set2}}
 use Rattle.mt_arena.proofs.Several.{AreKept, kept_set2, KeepsPlace, forest_set2, MayTurn, guarantee_set2}
 
 module _ (xs : List NodeView) (i j q : ℕ) (nodes : AreNodes xs) (f : Inserts xs i j q) where

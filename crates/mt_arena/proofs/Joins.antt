@@ -1,17 +1,9 @@
 -- Contents of pairs in two lists, one behind the other, as maps: for the lemmas of contents.
 use Rattle.std.proofs.Common.{◌≡◌, ◌≢◌, ℕ, zero, suc, ◌<◌, Bool, true, false, cond, List, [], ◌∷◌, ◌++◌, length, get_or, set, Option, Some, None, sym, refl, ap, ◌∙◌, arith}
-use Rattle.std.specs.List.{flat_map}
-use Rattle.std.specs.Option.{option_or}
-use Rattle.std.specs.Ordering.{nat_cmp, eq_by_cmp, is_eq, ordering_then}
-use Rattle.std.specs.declared.cmp.Ordering.{Ordering}
-use Rattle.std.specs.declared.cmp.Ordering.TheVariants.{Less, Equal, Greater}
-use Rattle.std.specs.Cmp.{eq_by_cmp_equiv}
-use Rattle.std.specs.Cmp.Lexicographic.{slice_cmp}
+use Rattle.std.specs.{List.flat_map, Option.option_or, Ordering.{nat_cmp, eq_by_cmp, is_eq, ordering_then}, declared.cmp.Ordering.Ordering}
+use Rattle.std.specs.{declared.cmp.Ordering.TheVariants.{Less, Equal, Greater}, Cmp.eq_by_cmp_equiv, Cmp.Lexicographic.slice_cmp}
 use Rattle.std.specs.FinMap.{get, insert, remove, get-empty, from_entries, get-insert, get-remove, nat_cmp-IsAntisymmetric}
-use Rattle.mt_rows.specs.Rows.{Bytes, Columns}
-use Rattle.mt_rows.specs.Tenants.{owned_cmp, Contents}
-use Rattle.mt_rows.proofs.CommandLaws.{keys_exact}
-use Rattle.mt_rows.proofs.ContentLaws.{same_contents, owned_total}
+use Rattle.mt_rows.{specs.{Rows.{Bytes, Columns}, Tenants.{owned_cmp, Contents}}, proofs.{CommandLaws.keys_exact, ContentLaws.{same_contents, owned_total}}}
 
 -- pairs with their owners, as a list and as a map
 abbrev pub Pairs : Type 0

@@ -1,24 +1,14 @@
 -- How all that name a node come to name it rightly again, from the split of a border node to the insert of its right half: for the proofs
 -- of whole splits.
 use Rattle.std.proofs.Common.{◌≡◌, ◌≢◌, ◌⊎◌, ℕ, ◌+◌, ◌-◌, ◌<◌, ◌≤◌, List, [], ◌∷◌, ◌++◌, length, get_or, Option, Some, None, false, true, set, refl, sym, ap, subst, ◌∙◌, inl, inr, arith, length-append, length-drop}
-use Rattle.std.specs.List.{All}
-use Rattle.std.proofs.lemmas.Bool.{cases_eq, cases_lt}
-use Rattle.std.proofs.lemmas.Option.{same_Some}
-use Rattle.std.proofs.lemmas.List.{length-set, length-take, get_or-take, get_or-drop}
+use Rattle.std.proofs.{lemmas.Bool.{cases_eq, cases_lt}, lemmas.Option.same_Some, lemmas.List.{length-set, length-take, get_or-take, get_or-drop}}
 use Rattle.std.proofs.lemmas.List.Edits.{length-insert, get_or-insert_below, get_or-insert_at, get_or-insert_above}
-use Rattle.mt_interior.specs.Places.{place_of}
-use Rattle.mt_interior.proofs.CallerLemmas.{place_of-le-length}
-use Rattle.mt_arena.specs.declared.tree.Tree.{Tree}
-use Rattle.mt_arena.specs.NodeView.{NodeView, node_at}
-use Rattle.mt_arena.specs.Nodes.{AreNodes, HasChild}
-use Rattle.mt_arena.specs.NodeFacts.{IsUnstable}
-use Rattle.mt_arena.specs.Settled.{IsSettled}
-use Rattle.mt_arena.specs.Guarantee.{NodesGuarantee, PointsOnly}
-use Rattle.mt_arena.specs.Lags.{Follows, IsUnder, AreFollowers, AreFollowersBut, AreChildren, AreChildrenBut}
-use Rattle.mt_arena.specs.Edits.{splitting, pointed, fresh_half}
-use Rattle.mt_arena.specs.Splits.{Inserts, with_child, exact, inner_left, inner_right}
-use Rattle.mt_arena.proofs.Pairs.{here, there, last, before}
-use Rattle.mt_arena.proofs.Settled.{alive}
+use Rattle.std.specs.List.{All}
+use Rattle.mt_interior.{specs.Places.place_of, proofs.CallerLemmas.place_of-le-length}
+use Rattle.mt_arena.specs.{declared.tree.Tree.Tree, NodeView.{NodeView, node_at}, Nodes.{AreNodes, HasChild}, NodeFacts.IsUnstable, Settled.IsSettled}
+use Rattle.mt_arena.specs.{Guarantee.{NodesGuarantee, PointsOnly}, Lags.{Follows, IsUnder, AreFollowers, AreFollowersBut, AreChildren, AreChildrenBut}}
+use Rattle.mt_arena.specs.{Edits.{splitting, pointed, fresh_half}, Splits.{Inserts, with_child, exact, inner_left, inner_right}}
+use Rattle.mt_arena.proofs.{Pairs.{here, there, last, before}, Settled.alive}
 
 -- other operations let no node name one that this operation holds
 not_theirs : (op q : ℕ) (old new : List NodeView) (were are : List Tree) (i : ℕ) → NodesGuarantee op old new were are → q ≢ op → i < length old

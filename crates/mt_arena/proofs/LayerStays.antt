@@ -1,33 +1,16 @@
 -- What an operation needs for the layer that it makes stays so while others go on, and through its own steps: for the laws.
 use Rattle.std.proofs.Common.{◌≡◌, ◌≢◌, ℕ, ◌+◌, ◌<◌, List, [], ◌∷◌, ◌++◌, length, get_or, set, false, Some, refl, sym, ap, subst, ◌∙◌, inl, inr, arith, length-append}
-use Rattle.std.proofs.lemmas.Bool.{cases_eq, cases_lt}
-use Rattle.std.proofs.lemmas.List.{length-set, get_or-set_same}
+use Rattle.std.proofs.{lemmas.Bool.{cases_eq, cases_lt}, lemmas.List.{length-set, get_or-set_same}}
 use Rattle.mt_version.specs.Parts.{Parts}
-use Rattle.mt_slices.specs.Slices.{piece_bytes}
-use Rattle.mt_slices.specs.declared.mark.Mark.TheVariants.{Long}
+use Rattle.mt_slices.specs.{Slices.piece_bytes, declared.mark.Mark.TheVariants.Long}
 use Rattle.mt_rows.specs.Rows.{Bytes, Columns}
-use Rattle.mt_border.specs.declared.entry.Entry.{Entry}
-use Rattle.mt_border.specs.declared.entry.Pair.{Pair}
-use Rattle.mt_border.specs.declared.entry.Held.{Held}
-use Rattle.mt_border.specs.Entry.{pair_of}
-use Rattle.mt_border.specs.Contents.{HasKey}
-use Rattle.mt_border.proofs.Edits.{any_entry, replaced_at}
-use Rattle.mt_border.proofs.ContentsKeys.{has_held_key}
-use Rattle.mt_arena.specs.declared.tree.Tree.{Tree}
-use Rattle.mt_arena.specs.declared.tree.Standing.{Standing}
-use Rattle.mt_arena.specs.declared.tree.Standing.TheVariants.{Made, Live, Dead}
-use Rattle.mt_arena.specs.NodeView.{NodeView}
-use Rattle.mt_arena.specs.Layers.{slot_at}
-use Rattle.mt_arena.specs.Forests.{tree_at, layer_of}
-use Rattle.mt_arena.specs.Guarantee.{IsUntouched}
-use Rattle.mt_arena.specs.Ways.{IsMadeFor}
-use Rattle.mt_arena.specs.Arena.{IsArena, ArenaView, Guarantee}
+use Rattle.mt_border.specs.{declared.entry.Entry.Entry, declared.entry.Pair.Pair, declared.entry.Held.Held, Entry.pair_of, Contents.HasKey}
+use Rattle.mt_border.proofs.{Edits.{any_entry, replaced_at}, ContentsKeys.has_held_key}
+use Rattle.mt_arena.specs.{declared.tree.Tree.Tree, declared.tree.Standing.Standing, declared.tree.Standing.TheVariants.{Made, Live, Dead}, NodeView.NodeView}
+use Rattle.mt_arena.specs.{Layers.slot_at, Forests.{tree_at, layer_of}, Guarantee.IsUntouched, Ways.IsMadeFor, Arena.{IsArena, ArenaView, Guarantee}}
 use Rattle.mt_arena.specs.Accesses.{at, tree_of}
 use Rattle.mt_arena.specs.Layering.{IsHeldSlot, IsLayerFor, IsLayerOf, HasKeyAt, prefix_below, root_of, with_held, with_layer, with_slot}
-use Rattle.mt_arena.proofs.Pairs.{here, there, last, before}
-use Rattle.mt_arena.proofs.Trees.{made as made_tree, last_tree, before_tree}
-use Rattle.mt_arena.proofs.Links.{live_there}
-use Rattle.mt_arena.proofs.Guarantees.{made_there}
+use Rattle.mt_arena.proofs.{Pairs.{here, there, last, before}, Trees.{made as made_tree, last_tree, before_tree}, Links.live_there, Guarantees.made_there}
 
 -- a tree that was live is live, where it is neither being made nor dead
 still_live : (standing : Standing) → ((q : ℕ) → standing ≢ Made q) → standing ≢ Dead → standing ≡ Live

@@ -1,26 +1,14 @@
 -- Each layer has a link on the way to a live tree: for the laws of descents.
 use Rattle.std.proofs.Common.{◌≡◌, ℕ, zero, suc, ◌+◌, ◌-◌, ◌*◌, ◌^◌, ◌<◌, ◌≤◌, List, ◌++◌, length, take, drop, replicate, refl, sym, ap, subst, ◌∙◌, inl, inr, arith}
-use Rattle.std.specs.Int.{w64, to_be_bytes, from_be_bytes}
-use Rattle.std.proofs.lemmas.Bool.{cases_eq, cases_lt}
-use Rattle.std.proofs.lemmas.Nat.{from_be_bytes-to_be_bytes_8}
+use Rattle.std.proofs.{lemmas.Bool.{cases_eq, cases_lt}, lemmas.Nat.from_be_bytes-to_be_bytes_8}
 use Rattle.std.proofs.lemmas.List.{length-append, length-take-le, length-drop, take-take, take_at, drop_at, drop-take, take-append-le, get_or_past}
-use Rattle.mt_slices.specs.declared.mark.Mark.{Mark}
-use Rattle.mt_slices.specs.declared.mark.Mark.TheVariants.{Long}
-use Rattle.mt_slices.specs.Slices.{slice_at, slice_of, rest_of}
-use Rattle.mt_slices.proofs.Bytes.{AreBytes, bytes-drop}
-use Rattle.mt_slices.proofs.Numbers.{slice_at-number, number_lt}
+use Rattle.std.specs.Int.{w64, to_be_bytes, from_be_bytes}
+use Rattle.mt_slices.specs.{declared.mark.Mark.Mark, declared.mark.Mark.TheVariants.Long, Slices.{slice_at, slice_of, rest_of}}
+use Rattle.mt_slices.proofs.{Bytes.{AreBytes, bytes-drop}, Numbers.{slice_at-number, number_lt}}
 use Rattle.mt_rows.specs.Rows.{Bytes}
-use Rattle.mt_border.specs.declared.entry.Entry.{Entry}
-use Rattle.mt_border.specs.declared.entry.Held.TheVariants.{Link}
-use Rattle.mt_border.specs.Entry.{CanHold}
-use Rattle.mt_border.proofs.Edits.{any_entry}
-use Rattle.mt_arena.specs.declared.tree.Tree.{Tree}
-use Rattle.mt_arena.specs.declared.tree.Standing.TheVariants.{Live, Dead}
-use Rattle.mt_arena.specs.NodeView.{NodeView, node_at}
-use Rattle.mt_arena.specs.Forests.{IsForest, tree_at, no_tree, layer_of}
-use Rattle.mt_arena.specs.Layers.{slot_at, HasLink, LeadsTo}
-use Rattle.mt_arena.specs.Arena.{IsArena}
-use Rattle.mt_arena.specs.Ways.{LinksOn}
+use Rattle.mt_border.{specs.{declared.entry.Entry.Entry, declared.entry.Held.TheVariants.Link, Entry.CanHold}, proofs.Edits.any_entry}
+use Rattle.mt_arena.specs.{declared.tree.Tree.Tree, declared.tree.Standing.TheVariants.{Live, Dead}, NodeView.{NodeView, node_at}}
+use Rattle.mt_arena.specs.{Forests.{IsForest, tree_at, no_tree, layer_of}, Layers.{slot_at, HasLink, LeadsTo}, Arena.IsArena, Ways.LinksOn}
 
 -- a live tree is there
 pub live_there : (trees : List Tree) (t : ℕ) → (tree_at trees t).standing ≡ Live → t < length trees

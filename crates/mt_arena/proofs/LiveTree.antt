@@ -1,14 +1,9 @@
 -- Trees and their nodes where a tree that was being made goes live: for `mark_layer`.
-use Rattle.std.proofs.Common.{◌≡◌, ◌≢◌, ℕ, ◌<◌, List, length, set, refl, sym, ap, ◌∙◌, inl, inr, arith}
-use Rattle.std.proofs.lemmas.Bool.{cases_eq}
+use Rattle.std.proofs.{Common.{◌≡◌, ◌≢◌, ℕ, ◌<◌, List, length, set, refl, sym, ap, ◌∙◌, inl, inr, arith}, lemmas.Bool.cases_eq}
 use Rattle.std.proofs.lemmas.List.{length-set, get_or-set_same, get_or-set_other}
-use Rattle.mt_arena.specs.declared.tree.Tree.{Tree}
-use Rattle.mt_arena.specs.declared.tree.Standing.TheVariants.{Made, Live}
-use Rattle.mt_arena.specs.NodeView.{NodeView, node_at}
-use Rattle.mt_arena.specs.Forests.{IsForest, IsHome, IsTree, tree_at, no_tree}
-use Rattle.mt_arena.specs.Guarantee.{TreeChanges}
-use Rattle.mt_arena.proofs.Begins.{begins_trees}
-use Rattle.mt_arena.proofs.TakenOut.{same_of_trees}
+use Rattle.mt_arena.specs.{declared.tree.Tree.Tree, declared.tree.Standing.TheVariants.{Made, Live}, NodeView.{NodeView, node_at}}
+use Rattle.mt_arena.specs.{Forests.{IsForest, IsHome, IsTree, tree_at, no_tree}, Guarantee.TreeChanges}
+use Rattle.mt_arena.proofs.{Begins.begins_trees, TakenOut.same_of_trees}
 
 -- the record of a tree that goes live
 abbrev pub alive : Tree → Tree

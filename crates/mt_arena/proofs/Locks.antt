@@ -1,22 +1,12 @@
 -- The whole invariant and the guarantee where a lock is taken or given back, for `lock` and `unlock`; and where a node is marked for readers of its range, for the calls that split one.
-use Rattle.std.proofs.Common.{◌≡◌, ◌≢◌, ℕ, ◌<◌, List, length, set, false, Option, Some, None, refl, sym, ap, ◌∙◌, arith}
+use Rattle.std.proofs.{Common.{◌≡◌, ◌≢◌, ℕ, ◌<◌, List, length, set, false, Option, Some, None, refl, sym, ap, ◌∙◌, arith}, lemmas.Option.same_Some}
 use Rattle.mt_interior.specs.Fences.{end_of}
-use Rattle.mt_arena.specs.Nodes.{HasRange}
-use Rattle.std.proofs.lemmas.Option.{same_Some}
-use Rattle.mt_version.proofs.Aging.{ages-locked, ages-unlocked, ages-marked_splitting}
-use Rattle.mt_arena.specs.Settled.{IsSettled}
-use Rattle.mt_arena.specs.declared.tree.Tree.{Tree}
-use Rattle.mt_arena.specs.declared.retired.Retired.{Retired}
-use Rattle.mt_arena.specs.NodeView.{NodeView, node_at}
-use Rattle.mt_arena.specs.Guarantee.{Changes}
-use Rattle.mt_arena.specs.Edits.{locked, unlocked, splitting}
-use Rattle.mt_arena.specs.Arena.{IsArena, ArenaInvariant, ArenaView, Guarantee}
+use Rattle.mt_arena.specs.{Nodes.HasRange, Settled.IsSettled, declared.tree.Tree.Tree, declared.retired.Retired.Retired, NodeView.{NodeView, node_at}}
+use Rattle.mt_arena.specs.{Guarantee.Changes, Edits.{locked, unlocked, splitting}, Arena.{IsArena, ArenaInvariant, ArenaView, Guarantee}}
 use Rattle.mt_arena.specs.Accesses.{at, IsOpen, with_node}
-use Rattle.mt_arena.proofs.Quiet.{nodes_locked, nodes_splitting}
-use Rattle.mt_arena.proofs.Ranged.{ranged_locked, ranged_unlocked, ranged_marked}
-use Rattle.mt_arena.proofs.Unlock.{nodes_unlocked}
-use Rattle.mt_arena.proofs.LinkEdits.{same_links}
-use Rattle.mt_arena.proofs.Steps.{sound_set, keys_of, step_set}
+use Rattle.mt_arena.proofs.{Quiet.{nodes_locked, nodes_splitting}, Ranged.{ranged_locked, ranged_unlocked, ranged_marked}, Unlock.nodes_unlocked}
+use Rattle.mt_arena.proofs.{LinkEdits.same_links, Steps.{sound_set, keys_of, step_set}}
+use Rattle.mt_version.proofs.Aging.{ages-locked, ages-unlocked, ages-marked_splitting}
 
 -- the whole invariant stands as a lock is taken
 pub sound_locked : (xs : List NodeView) (trees : List Tree) (gone : List Retired) (room i op : ℕ) → i < length xs → ArenaInvariant xs trees gone room

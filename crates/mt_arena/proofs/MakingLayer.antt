@@ -2,36 +2,15 @@
 use Rattle.std.proofs.Common.{◌≡◌, ◌≢◌, ℕ, ◌+◌, ◌<◌, ◌≤◌, List, [], ◌∷◌, ◌++◌, length, set, refl, sym, ap, subst, ◌∙◌, arith, length-append}
 use Rattle.std.proofs.lemmas.List.{set_at}
 use Rattle.mt_rows.specs.Rows.{Bytes}
-use Rattle.mt_border.specs.declared.entry.Entry.{Entry}
-use Rattle.mt_border.specs.declared.entry.Held.{Held}
-use Rattle.mt_border.specs.declared.entry.Held.TheVariants.{Stable, Unstable, Link}
-use Rattle.mt_border.specs.Entry.{IsEntry, IsStablePair}
-use Rattle.mt_border.specs.Entries.{IsBorder}
+use Rattle.mt_border.specs.{declared.entry.Entry.Entry, declared.entry.Held.Held, declared.entry.Held.TheVariants.{Stable, Unstable, Link}}
+use Rattle.mt_border.specs.{Entry.{IsEntry, IsStablePair}, Entries.IsBorder}
 use Rattle.mt_border.proofs.Edits.{any_entry}
-use Rattle.mt_arena.specs.declared.tree.Tree.{Tree}
-use Rattle.mt_arena.specs.NodeView.{NodeView, node_at}
-use Rattle.mt_arena.specs.Nodes.{AreNodes, IsNode, Holds}
-use Rattle.mt_arena.specs.Ranges.{AreRanged}
-use Rattle.mt_arena.specs.NodeFacts.{IsUnstable}
-use Rattle.mt_arena.specs.Forests.{HaveKeys, tree_at, layer_of}
-use Rattle.mt_arena.specs.Contents.{live_pairs, content}
-use Rattle.mt_arena.specs.Edits.{fresh_root}
-use Rattle.mt_arena.specs.Arena.{ArenaInvariant, ArenaView, Guarantee}
-use Rattle.mt_arena.specs.Layering.{MayMakeLayer, root_of, with_layer}
-use Rattle.mt_arena.proofs.Pairs.{last}
-use Rattle.mt_arena.proofs.Links.{slice_of_lt}
-use Rattle.mt_arena.proofs.NextLayer.{only}
-use Rattle.mt_arena.proofs.Homes.{KeepsHome, HasKeysOf}
-use Rattle.mt_arena.proofs.LinkEdits.{KeepsLinks}
-use Rattle.mt_arena.proofs.Quiet.{nodes_quiet}
-use Rattle.mt_arena.proofs.Ranged.{ranged_marked}
-use Rattle.mt_arena.proofs.Trees.{made, last_tree}
-use Rattle.mt_arena.proofs.Steps.{sound_set}
-use Rattle.mt_arena.proofs.Slots.{no_link, within_all}
-use Rattle.mt_arena.proofs.Growing.{sound_tree, content_tree}
-use Rattle.mt_arena.proofs.Guarantees.{guarantee_tree, points_push}
-use Rattle.mt_arena.proofs.Counted.{pairs-made, pairs-nil}
-use Rattle.mt_arena.proofs.ContentQuiet.{content-set}
+use Rattle.mt_arena.specs.{declared.tree.Tree.Tree, NodeView.{NodeView, node_at}, Nodes.{AreNodes, IsNode, Holds}, Ranges.AreRanged, NodeFacts.IsUnstable}
+use Rattle.mt_arena.specs.{Forests.{HaveKeys, tree_at, layer_of}, Contents.{live_pairs, content}, Edits.fresh_root}
+use Rattle.mt_arena.specs.{Arena.{ArenaInvariant, ArenaView, Guarantee}, Layering.{MayMakeLayer, root_of, with_layer}}
+use Rattle.mt_arena.proofs.{Pairs.last, Links.slice_of_lt, NextLayer.only, Homes.{KeepsHome, HasKeysOf}, LinkEdits.KeepsLinks, Quiet.nodes_quiet}
+use Rattle.mt_arena.proofs.{Ranged.ranged_marked, Trees.{made, last_tree}, Steps.sound_set, Slots.{no_link, within_all}, Growing.{sound_tree, content_tree}}
+use Rattle.mt_arena.proofs.{Guarantees.{guarantee_tree, points_push}, Counted.{pairs-made, pairs-nil}, ContentQuiet.content-set}
 
 -- a stable pair is not unstable
 not_unstable : (held : Held) → IsStablePair held → IsUnstable held → ⊥

@@ -1,13 +1,8 @@
 -- The facts of nodes are kept as the upper slots of a border node go to its right half: for `SplitStep`.
-use Rattle.std.proofs.Common.{◌≡◌, ◌≢◌, ℕ, ◌<◌, List, length, set, refl, sym, ap, ◌∙◌, arith}
-use Rattle.std.proofs.lemmas.Option.{same_Some}
+use Rattle.std.proofs.{Common.{◌≡◌, ◌≢◌, ℕ, ◌<◌, List, length, set, refl, sym, ap, ◌∙◌, arith}, lemmas.Option.same_Some}
 use Rattle.mt_border.specs.declared.entry.Entry.{Entry}
-use Rattle.mt_arena.specs.NodeView.{NodeView, node_at}
-use Rattle.mt_arena.specs.Nodes.{AreNodes, IsNode, IsPair}
-use Rattle.mt_arena.specs.Splits.{Splits, left_half, right_half}
-use Rattle.mt_arena.proofs.Groups.{held_lock, border_children}
-use Rattle.mt_arena.proofs.Pairs.{are_set2}
-use Rattle.mt_arena.proofs.Ranges.{child_ranges}
+use Rattle.mt_arena.specs.{NodeView.{NodeView, node_at}, Nodes.{AreNodes, IsNode, IsPair}, Splits.{Splits, left_half, right_half}}
+use Rattle.mt_arena.proofs.{Groups.{held_lock, border_children}, Pairs.are_set2, Ranges.child_ranges}
 
 module _ (xs : List NodeView) (i j : ℕ) (kept moved : List Entry) (nodes : AreNodes xs) (differ : i ≢ j) (li : i < length xs) (lj : j < length xs)
     (splits : Splits (node_at xs i) (node_at xs j) kept moved) where

@@ -1,13 +1,8 @@
 -- A step that changes several nodes lets them name, as the one before or as their parent, only nodes that its operation holds: for the
 -- clause `step` of their calls.
 use Rattle.std.proofs.Common.{◌≡◌, ◌≢◌, ◌⊎◌, ℕ, ◌+◌, ◌<◌, ◌≤◌, List, [], ◌∷◌, ◌++◌, length, set, Option, Some, None, sym, ap, ◌∙◌, inl, inr, arith, length-append}
-use Rattle.std.proofs.lemmas.Bool.{cases_eq, cases_lt}
-use Rattle.std.proofs.lemmas.Option.{same_Some}
-use Rattle.std.proofs.lemmas.List.{length-set}
-use Rattle.mt_arena.specs.NodeView.{NodeView, node_at}
-use Rattle.mt_arena.specs.Guarantee.{PointsOnly}
-use Rattle.mt_arena.proofs.Pairs.{here, there, last, before}
-use Rattle.mt_arena.proofs.Guarantees.{PointsSo}
+use Rattle.std.proofs.{lemmas.Bool.{cases_eq, cases_lt}, lemmas.Option.same_Some, lemmas.List.length-set}
+use Rattle.mt_arena.{specs.{NodeView.{NodeView, node_at}, Guarantee.PointsOnly}, proofs.{Pairs.{here, there, last, before}, Guarantees.PointsSo}}
 
 -- a node that names what it named
 pub names_same : (op : ℕ) (nodes : List NodeView) (x y : NodeView) → y.previous ≡ x.previous → y.parent ≡ x.parent → PointsSo op nodes x y

@@ -1,13 +1,8 @@
 -- A border node with a high fence ends at the slice of a stored key: for the law.
-use Rattle.std.proofs.Common.{◌≡◌, ℕ, ◌<◌, List, length, Option, Some, None, refl, sym, ap, subst, ◌∙◌, arith}
-use Rattle.std.proofs.lemmas.Option.{same_Some, none-some}
-use Rattle.mt_arena.specs.declared.tree.Tree.{Tree}
-use Rattle.mt_interior.specs.Fences.{end_of}
-use Rattle.mt_arena.specs.NodeView.{NodeView, node_at}
-use Rattle.mt_arena.specs.Nodes.{HasRange}
-use Rattle.mt_arena.specs.Forests.{HasSlice, tree_at}
-use Rattle.mt_arena.specs.Arena.{IsArena}
+use Rattle.std.proofs.{Common.{◌≡◌, ℕ, ◌<◌, List, length, Option, Some, None, refl, sym, ap, subst, ◌∙◌, arith}, lemmas.Option.{same_Some, none-some}}
+use Rattle.mt_arena.specs.{declared.tree.Tree.Tree, NodeView.{NodeView, node_at}, Nodes.HasRange, Forests.{HasSlice, tree_at}, Arena.IsArena}
 use Rattle.mt_arena.proofs.Begins.{begins_at}
+use Rattle.mt_interior.specs.Fences.{end_of}
 
 module _ (nodes : List NodeView) (trees : List Tree) (k : ℕ) (arena : IsArena nodes trees) (lk : k < length nodes) (border : (node_at nodes k).level ≡ 0) where
   abbrev n : NodeView

@@ -1,21 +1,13 @@
 -- The entry of a key in the next layer is one of the tree that a longer key's slot leads to: for the laws of making a layer.
-use Rattle.std.proofs.Common.{◌≡◌, ◌≢◌, ℕ, zero, suc, ◌+◌, ◌*◌, ◌<◌, [], ◌∷◌, length, get_or, refl, sym, subst, ◌∙◌, arith}
+use Rattle.std.proofs.{Common.{◌≡◌, ◌≢◌, ℕ, zero, suc, ◌+◌, ◌*◌, ◌<◌, [], ◌∷◌, length, get_or, refl, sym, subst, ◌∙◌, arith}, lemmas.List.length-append}
 use Rattle.std.specs.Int.{w64, to_be_bytes}
-use Rattle.std.proofs.lemmas.List.{length-append}
 use Rattle.mt_slices.specs.declared.mark.Mark.TheVariants.{Short}
 use Rattle.mt_rows.specs.Rows.{Bytes, Columns}
-use Rattle.mt_border.specs.declared.entry.Entry.{Entry}
-use Rattle.mt_border.specs.declared.entry.Pair.{Pair}
-use Rattle.mt_border.specs.Contents.{HasKey, IsOfTree}
+use Rattle.mt_border.specs.{declared.entry.Entry.Entry, declared.entry.Pair.Pair, Contents.{HasKey, IsOfTree}}
 use Rattle.mt_border.proofs.ContentsKeys.{new_has_key, is_mark_of, is_rest_of}
-use Rattle.mt_arena.specs.Layers.{slot_at}
-use Rattle.mt_arena.specs.Forests.{layer_of}
-use Rattle.mt_arena.specs.Arena.{ArenaView, IsArena}
-use Rattle.mt_arena.specs.Accesses.{at, tree_of}
+use Rattle.mt_arena.specs.{Layers.slot_at, Forests.layer_of, Arena.{ArenaView, IsArena}, Accesses.{at, tree_of}}
 use Rattle.mt_arena.specs.Layering.{MayMakeLayer, MayUnsettle, HasKeyAt, entry_of, prefix_below}
-use Rattle.mt_arena.proofs.Down.{long_below, next_prefix}
-use Rattle.mt_arena.proofs.Slots.{begun_mark}
-use Rattle.mt_arena.proofs.NoLayer.{link_would_be_here}
+use Rattle.mt_arena.proofs.{Down.{long_below, next_prefix}, Slots.begun_mark, NoLayer.link_would_be_here}
 
 -- what is alone is all
 pub only : {X : Type 0} (P : X → Type 0) (x d : X) (k : ℕ) → k < 1 → P x → P (get_or (x ∷ []) k d)

@@ -1,22 +1,12 @@
 -- Where a slot of a longer key is no link, no live tree has the prefix that a link's would have: for `mark_layer` and the laws.
-use Rattle.std.proofs.Common.{◌≡◌, ◌≢◌, ℕ, ◌+◌, ◌^◌, ◌<◌, List, ◌++◌, length, refl, sym, ap, subst, ◌∙◌, arith}
-use Rattle.std.specs.Int.{w64, to_be_bytes, from_be_bytes}
-use Rattle.std.proofs.lemmas.Nat.{from_be_bytes-to_be_bytes_8}
+use Rattle.std.proofs.{Common.{◌≡◌, ◌≢◌, ℕ, ◌+◌, ◌^◌, ◌<◌, List, ◌++◌, length, refl, sym, ap, subst, ◌∙◌, arith}, lemmas.Nat.from_be_bytes-to_be_bytes_8}
 use Rattle.std.proofs.lemmas.List.{length-append}
-use Rattle.mt_slices.specs.Slices.{piece_bytes}
-use Rattle.mt_slices.specs.declared.mark.Mark.TheVariants.{Long}
-use Rattle.mt_border.specs.declared.entry.Held.TheVariants.{Link}
-use Rattle.mt_border.proofs.Edits.{any_entry}
-use Rattle.mt_arena.specs.declared.tree.Tree.{Tree}
-use Rattle.mt_arena.specs.declared.tree.Standing.TheVariants.{Live}
-use Rattle.mt_arena.specs.NodeView.{NodeView, node_at}
-use Rattle.mt_arena.specs.Forests.{tree_at, layer_of}
-use Rattle.mt_arena.specs.Layers.{slot_at, HasLink, LeadsTo}
-use Rattle.mt_arena.specs.Arena.{IsArena}
-use Rattle.mt_arena.specs.Stands.{StandsAt}
-use Rattle.mt_arena.proofs.Links.{one_tree, slice_of_lt, live_there}
-use Rattle.mt_arena.proofs.OneLink.{IsLinkTo, leads, same_front, slice_fits, stands}
-use Rattle.mt_arena.proofs.Places.{one_place}
+use Rattle.std.specs.Int.{w64, to_be_bytes, from_be_bytes}
+use Rattle.mt_slices.specs.{Slices.piece_bytes, declared.mark.Mark.TheVariants.Long}
+use Rattle.mt_border.{specs.declared.entry.Held.TheVariants.Link, proofs.Edits.any_entry}
+use Rattle.mt_arena.specs.{declared.tree.Tree.Tree, declared.tree.Standing.TheVariants.Live, NodeView.{NodeView, node_at}, Forests.{tree_at, layer_of}}
+use Rattle.mt_arena.specs.{Layers.{slot_at, HasLink, LeadsTo}, Arena.IsArena, Stands.StandsAt}
+use Rattle.mt_arena.proofs.{Links.{one_tree, slice_of_lt, live_there}, OneLink.{IsLinkTo, leads, same_front, slice_fits, stands}, Places.one_place}
 
 module _ (nodes : List NodeView) (trees : List Tree) (tree slice k i : ℕ) (arena : IsArena nodes trees) (live : (tree_at trees tree).standing ≡ Live) (at : StandsAt nodes tree slice Long k i)
     (none : (u : ℕ) → (slot_at (node_at nodes k) i).held ≢ Link u) (u : ℕ) (live_u : (tree_at trees u).standing ≡ Live) (same : (tree_at trees u).prefix ≡ (tree_at trees tree).prefix ++ piece_bytes slice Long) where

@@ -1,21 +1,13 @@
 -- A live tree has one link, two slots of live nodes that lead to it are one: for `DroppingLayer` and `NoLayer`.
 use Rattle.std.proofs.Common.{◌≡◌, ◌≢◌, ℕ, ◌+◌, ◌^◌, ◌<◌, List, ◌++◌, length, take, drop, false, refl, sym, ap, subst, ◌∙◌, inl, inr, arith}
+use Rattle.std.proofs.{lemmas.Bool.cases_lt, lemmas.Nat.from_be_bytes-to_be_bytes_8, lemmas.List.{length-append, take_at, drop_at}}
 use Rattle.std.specs.Int.{w64, to_be_bytes, from_be_bytes}
-use Rattle.std.proofs.lemmas.Bool.{cases_lt}
-use Rattle.std.proofs.lemmas.Nat.{from_be_bytes-to_be_bytes_8}
-use Rattle.std.proofs.lemmas.List.{length-append, take_at, drop_at}
 use Rattle.mt_slices.specs.declared.mark.Mark.TheVariants.{Long}
 use Rattle.mt_rows.specs.Rows.{Bytes}
-use Rattle.mt_border.specs.declared.entry.Held.TheVariants.{Link}
-use Rattle.mt_border.proofs.Edits.{any_entry}
-use Rattle.mt_arena.specs.declared.tree.Tree.{Tree}
-use Rattle.mt_arena.specs.NodeView.{NodeView, node_at}
-use Rattle.mt_arena.specs.Forests.{tree_at, layer_of}
-use Rattle.mt_arena.specs.Layers.{slot_at, LeadsTo}
-use Rattle.mt_arena.specs.Arena.{IsArena}
+use Rattle.mt_border.{specs.declared.entry.Held.TheVariants.Link, proofs.Edits.any_entry}
+use Rattle.mt_arena.specs.{declared.tree.Tree.Tree, NodeView.{NodeView, node_at}, Forests.{tree_at, layer_of}, Layers.{slot_at, LeadsTo}, Arena.IsArena}
 use Rattle.mt_arena.specs.Stands.{StandsAt}
-use Rattle.mt_arena.proofs.Links.{one_tree, slice_of_lt, long_link}
-use Rattle.mt_arena.proofs.Places.{one_place}
+use Rattle.mt_arena.proofs.{Links.{one_tree, slice_of_lt, long_link}, Places.one_place}
 
 -- slot i of live node k leads to tree u
 pub record IsLinkTo (nodes : List NodeView) (k i u : ℕ) : Type 0 where

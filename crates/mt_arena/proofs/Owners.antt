@@ -1,28 +1,14 @@
 -- What the contents have at a key, and what a change of one slot makes of them: for `Slots` and the laws.
 use Rattle.std.proofs.Common.{◌≡◌, ◌≢◌, ℕ, ◌<◌, List, length, get_or, set, take, Some, None, sym, refl, subst}
-use Rattle.std.specs.List.{All, remove as remove_at_place}
-use Rattle.std.specs.FinMap.{get, insert, remove}
+use Rattle.std.specs.{List.{All, remove as remove_at_place}, FinMap.{get, insert, remove}}
 use Rattle.mt_slices.specs.Slices.{slice_of, mark_of, suffix_of}
 use Rattle.mt_rows.specs.Rows.{Bytes, Columns}
-use Rattle.mt_border.specs.declared.entry.Pair.{Pair}
-use Rattle.mt_border.specs.declared.entry.Entry.{Entry}
-use Rattle.mt_border.specs.declared.entry.Held.TheVariants.{Stable}
-use Rattle.mt_border.specs.Entry.{pair_of, order_at, order_of}
-use Rattle.mt_border.specs.Entries.{IsBorder, IsMissing, with_entry}
-use Rattle.mt_border.specs.Contents.{owned, IsOfTree, HasKey, AreKeys}
-use Rattle.mt_border.proofs.Edits.{any_entry}
-use Rattle.mt_border.proofs.ContentsKeys.{IsApart, owned_at, has_rewritten_key, order_of_key, missing_key}
-use Rattle.mt_border.proofs.ContentsLists.{contents-set, get-at}
-use Rattle.mt_border.proofs.ContentsFinds.{apart_before}
-use Rattle.mt_border.proofs.ContentsEdits.{contents-publish}
-use Rattle.mt_arena.specs.declared.tree.Tree.{Tree}
-use Rattle.mt_arena.specs.NodeView.{NodeView, node_at}
-use Rattle.mt_arena.specs.Forests.{tree_at}
-use Rattle.mt_arena.specs.Layers.{slot_at}
-use Rattle.mt_arena.specs.Contents.{content}
-use Rattle.mt_arena.specs.Arena.{IsArena}
-use Rattle.mt_arena.specs.Stands.{StandsAt}
-use Rattle.mt_arena.specs.Ways.{AreBegun, BelongsIn, StandsFor, HasSlots}
+use Rattle.mt_border.specs.{declared.entry.Pair.Pair, declared.entry.Entry.Entry, declared.entry.Held.TheVariants.Stable, Entry.{pair_of, order_at, order_of}}
+use Rattle.mt_border.specs.{Entries.{IsBorder, IsMissing, with_entry}, Contents.{owned, IsOfTree, HasKey, AreKeys}}
+use Rattle.mt_border.proofs.{Edits.any_entry, ContentsKeys.{IsApart, owned_at, has_rewritten_key, order_of_key, missing_key}}
+use Rattle.mt_border.proofs.{ContentsLists.{contents-set, get-at}, ContentsFinds.apart_before, ContentsEdits.contents-publish}
+use Rattle.mt_arena.specs.{declared.tree.Tree.Tree, NodeView.{NodeView, node_at}, Forests.tree_at, Layers.slot_at, Contents.content, Arena.IsArena}
+use Rattle.mt_arena.specs.{Stands.StandsAt, Ways.{AreBegun, BelongsIn, StandsFor, HasSlots}}
 use Rattle.mt_arena.proofs.Elsewhere.{layer_is, nowhere_missing, nowhere_other, stands_once}
 use Rattle.mt_arena.proofs.Counted.{HasNone, none_at, content-none, content-some, content-insert, content-remove, contents-remove, apart_behind}
 

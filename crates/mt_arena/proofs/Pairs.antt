@@ -1,10 +1,7 @@
 -- Facts of each node and of each two, where up to three nodes are changed or one is added: for the lemmas of every edit.
 use Rattle.std.proofs.Common.{◌≡◌, ◌≢◌, ℕ, zero, suc, ◌+◌, ◌<◌, List, [], ◌∷◌, ◌++◌, length, get_or, set, refl, sym, ap, subst, ◌∙◌, inl, inr, arith, length-append}
-use Rattle.std.proofs.lemmas.Bool.{cases_eq}
-use Rattle.std.proofs.lemmas.List.{get_or-set_same, get_or-set_other, length-set, get_or_default}
-use Rattle.mt_arena.specs.NodeView.{NodeView, node_at, no_node}
-use Rattle.mt_arena.specs.Nodes.{AllPairs, AllNodes, AreNodes, IsNode, IsPair}
-use Rattle.mt_arena.proofs.Groups.{node_more}
+use Rattle.std.proofs.{lemmas.Bool.cases_eq, lemmas.List.{get_or-set_same, get_or-set_other, length-set, get_or_default}}
+use Rattle.mt_arena.{specs.{NodeView.{NodeView, node_at, no_node}, Nodes.{AllPairs, AllNodes, AreNodes, IsNode, IsPair}}, proofs.Groups.node_more}
 
 -- the node that was written, and the others
 pub here : (xs : List NodeView) (i : ℕ) (y : NodeView) → i < length xs → node_at (set xs i y) i ≡ y

@@ -1,34 +1,15 @@
 -- The whole invariant, the guarantee and the contents where a right half comes to stand in a full parent, which is parted: for
 -- `split_interior`.
 use Rattle.std.proofs.Common.{◌≡◌, ◌≢◌, ℕ, ◌+◌, ◌<◌, ◌≤◌, List, [], ◌∷◌, ◌++◌, length, set, false, None, refl, sym, ap, subst, ◌∙◌, arith, length-append}
-use Rattle.std.proofs.lemmas.Option.{same_Some}
-use Rattle.std.proofs.lemmas.List.{length-set, set-set, set-append_left, set_at}
-use Rattle.mt_arena.specs.NodeView.{NodeView, node_at}
-use Rattle.mt_arena.specs.Nodes.{AreNodes, HasRange}
-use Rattle.mt_arena.specs.NodeFacts.{TellsKind}
-use Rattle.mt_arena.specs.Forests.{tree_at}
-use Rattle.mt_arena.specs.Contents.{content}
-use Rattle.mt_arena.specs.Arena.{ArenaInvariant, ArenaView, Guarantee}
-use Rattle.mt_arena.specs.Accesses.{at}
-use Rattle.mt_arena.specs.Edits.{bare, splitting}
-use Rattle.mt_arena.specs.Splits.{Inserts, with_child, exact, middle, inner_left, inner_right}
-use Rattle.mt_arena.specs.Several.{MaySplitInner, with_parts}
-use Rattle.mt_arena.proofs.Pairs.{here, there, last, before}
-use Rattle.mt_arena.proofs.Quiet.{nodes_splitting}
-use Rattle.mt_arena.proofs.Push.{nodes_bare}
-use Rattle.mt_arena.proofs.Homes.{forest_push}
-use Rattle.mt_arena.proofs.Growing.{layers_push, no_keys}
-use Rattle.mt_arena.proofs.Retiring.{retired_push}
-use Rattle.mt_arena.proofs.RangedEdits.{ranged_parts}
-use Rattle.mt_arena.proofs.Steps.{keys_of}
-use Rattle.mt_arena.proofs.Inner.{SplitsInner}
-use Rattle.mt_arena.proofs.InnerSplit.{given, nodes_split_inner, ranges_split_inner}
-use Rattle.mt_arena.proofs.HeldChanges.{changes_inner_left}
-use Rattle.mt_arena.proofs.Locks.{changes_splitting}
-use Rattle.mt_arena.proofs.Guarantees.{changes_on, guarantee_on, guarantee_push, PointsSo}
-use Rattle.mt_arena.proofs.Naming.{names_same, points_more, each_set2}
-use Rattle.mt_arena.proofs.Several.{AreKept, kept_set2, forest_set2, guarantee_set2}
-use Rattle.mt_arena.proofs.ContentQuiet.{stands_pushed}
+use Rattle.std.proofs.{lemmas.Option.same_Some, lemmas.List.{length-set, set-set, set-append_left, set_at}}
+use Rattle.mt_arena.specs.{NodeView.{NodeView, node_at}, Nodes.{AreNodes, HasRange}, NodeFacts.TellsKind, Forests.tree_at, Contents.content}
+use Rattle.mt_arena.specs.{Arena.{ArenaInvariant, ArenaView, Guarantee}, Accesses.at, Edits.{bare, splitting}}
+use Rattle.mt_arena.specs.{Splits.{Inserts, with_child, exact, middle, inner_left, inner_right}, Several.{MaySplitInner, with_parts}}
+use Rattle.mt_arena.proofs.{Pairs.{here, there, last, before}, Quiet.nodes_splitting, Push.nodes_bare, Homes.forest_push, Growing.{layers_push, no_keys}}
+use Rattle.mt_arena.proofs.{Retiring.retired_push, RangedEdits.ranged_parts, Steps.keys_of, Inner.SplitsInner}
+use Rattle.mt_arena.proofs.{InnerSplit.{given, nodes_split_inner, ranges_split_inner}, HeldChanges.changes_inner_left, Locks.changes_splitting}
+use Rattle.mt_arena.proofs.{Guarantees.{changes_on, guarantee_on, guarantee_push, PointsSo}, Naming.{names_same, points_more, each_set2}}
+use Rattle.mt_arena.proofs.{Several.{AreKept, kept_set2, forest_set2, guarantee_set2}, ContentQuiet.stands_pushed}
 use Rattle.mt_arena.proofs.Inserting.{apart_j, is_interior, exact_place, exact_turn}
 
 -- the nodes: the parent is marked, a node without range is added, and the children are parted

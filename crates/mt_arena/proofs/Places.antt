@@ -1,14 +1,8 @@
 -- A slice and a mark stand in one slot of a tree: for `Elsewhere` and the laws.
-use Rattle.std.proofs.Common.{◌≡◌, ℕ, ◌<◌, List, length, sym, subst, ◌∙◌, inl, inr}
-use Rattle.std.proofs.lemmas.Bool.{cases_eq}
-use Rattle.std.proofs.lemmas.List.{get_or-map}
+use Rattle.std.proofs.{Common.{◌≡◌, ℕ, ◌<◌, List, length, sym, subst, ◌∙◌, inl, inr}, lemmas.Bool.cases_eq, lemmas.List.get_or-map}
 use Rattle.mt_slices.specs.declared.mark.Mark.{Mark}
-use Rattle.mt_border.specs.Entry.{order_of, order_at}
-use Rattle.mt_border.proofs.Edits.{any_entry, one_place as one_slot}
-use Rattle.mt_arena.specs.NodeView.{NodeView, node_at}
-use Rattle.mt_arena.specs.Nodes.{Holds, AreNodes}
-use Rattle.mt_arena.specs.Layers.{slot_at}
-use Rattle.mt_arena.specs.Stands.{IsLiveBorder, StandsAt}
+use Rattle.mt_border.{specs.Entry.{order_of, order_at}, proofs.Edits.{any_entry, one_place as one_slot}}
+use Rattle.mt_arena.specs.{NodeView.{NodeView, node_at}, Nodes.{Holds, AreNodes}, Layers.slot_at, Stands.{IsLiveBorder, StandsAt}}
 
 -- the slice of a slot lies within its node's fences
 pub slot_within : (nodes : List NodeView) (k i : ℕ) → AreNodes nodes → k < length nodes → i < length (node_at nodes k).slots

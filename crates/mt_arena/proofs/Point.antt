@@ -1,9 +1,6 @@
 -- The facts of nodes are kept as a node comes to name others, before it or as its parent: for `Pointing` and `Push`.
 use Rattle.std.proofs.Common.{◌≡◌, ◌≢◌, ◌⊎◌, ℕ, ◌<◌, List, length, Option, Some, None, set, inl, inr}
-use Rattle.mt_arena.specs.NodeView.{NodeView, node_at}
-use Rattle.mt_arena.specs.Nodes.{AreNodes, IsPair}
-use Rattle.mt_arena.specs.Edits.{Points, pointed}
-use Rattle.mt_arena.proofs.Pairs.{are_set}
+use Rattle.mt_arena.{specs.{NodeView.{NodeView, node_at}, Nodes.{AreNodes, IsPair}, Edits.{Points, pointed}}, proofs.Pairs.are_set}
 
 -- the second node of a pair
 pointed_to : (k : ℕ) (n : NodeView) (j : ℕ) (m : NodeView) (previous parent : Option ℕ) → IsPair k n j m → (parent ≡ None → m.parent ≡ None)

@@ -1,22 +1,10 @@
 -- The whole invariant and the guarantee where the node before another one or its parent is written: for `set_previous` and `set_parent`.
 use Rattle.std.proofs.Common.{◌≡◌, ◌≢◌, ℕ, ◌<◌, ◌⊎◌, List, length, set, true, false, Option, Some, None, refl, sym, ap, ◌∙◌, inl, inr, arith}
-use Rattle.std.proofs.lemmas.Bool.{cases_eq}
-use Rattle.std.proofs.lemmas.Option.{same_Some}
+use Rattle.std.proofs.{lemmas.Bool.cases_eq, lemmas.Option.same_Some}
+use Rattle.mt_arena.specs.{declared.tree.Tree.Tree, declared.retired.Retired.Retired, NodeView.{NodeView, node_at}, Nodes.HasRange, Ranges.Waits}
+use Rattle.mt_arena.specs.{Guarantee.Changes, Edits.{pointed, Points}, Arena.{ArenaInvariant, ArenaView, Guarantee}, Accesses.{at, IsOpen, with_node}}
+use Rattle.mt_arena.proofs.{Pairs.{here, there}, Point.nodes_pointed, Ranged.ranged_pointed, LinkEdits.same_links, Steps.{sound_set, keys_of, step_set}}
 use Rattle.mt_version.proofs.CallerLemmas as versions
-use Rattle.mt_arena.specs.declared.tree.Tree.{Tree}
-use Rattle.mt_arena.specs.declared.retired.Retired.{Retired}
-use Rattle.mt_arena.specs.NodeView.{NodeView, node_at}
-use Rattle.mt_arena.specs.Nodes.{HasRange}
-use Rattle.mt_arena.specs.Ranges.{Waits}
-use Rattle.mt_arena.specs.Guarantee.{Changes}
-use Rattle.mt_arena.specs.Edits.{pointed, Points}
-use Rattle.mt_arena.specs.Arena.{ArenaInvariant, ArenaView, Guarantee}
-use Rattle.mt_arena.specs.Accesses.{at, IsOpen, with_node}
-use Rattle.mt_arena.proofs.Pairs.{here, there}
-use Rattle.mt_arena.proofs.Point.{nodes_pointed}
-use Rattle.mt_arena.proofs.Ranged.{ranged_pointed}
-use Rattle.mt_arena.proofs.LinkEdits.{same_links}
-use Rattle.mt_arena.proofs.Steps.{sound_set, keys_of, step_set}
 
 -- where a live root keeps its want of a parent
 pub sound_pointed : (xs : List NodeView) (trees : List Tree) (gone : List Retired) (room i : ℕ) (previous parent : Option ℕ) → i < length xs

@@ -1,17 +1,11 @@
 -- The facts of nodes are kept as a node is added: a right half, an interior node without range, or the root of a tree: for `Growing`,
 -- `Parting` and `Start`.
 use Rattle.std.proofs.Common.{◌≡◌, ◌≢◌, ℕ, ◌+◌, ◌<◌, Bool, true, List, [], ◌∷◌, ◌++◌, length, set, Some, None, refl, sym, ap, subst, ◌∙◌, inr, arith, length-append}
-use Rattle.std.proofs.lemmas.List.{set_at}
-use Rattle.std.proofs.lemmas.Option.{same_Some}
+use Rattle.std.proofs.{lemmas.List.set_at, lemmas.Option.same_Some}
 use Rattle.mt_border.specs.Entries.{IsBorder}
 use Rattle.mt_interior.specs.Node.{IsInterior}
-use Rattle.mt_arena.specs.NodeView.{NodeView, node_at}
-use Rattle.mt_arena.specs.Nodes.{AreNodes, IsNode, IsPair}
-use Rattle.mt_arena.specs.NodeFacts.{TellsKind}
-use Rattle.mt_arena.specs.Edits.{bare, pointed, fresh_half, fresh_root}
-use Rattle.mt_arena.proofs.Groups.{held_lock, there_none, names_none}
-use Rattle.mt_arena.proofs.Pairs.{nodes_pushed, last, before}
-use Rattle.mt_arena.proofs.Point.{nodes_pointed}
+use Rattle.mt_arena.specs.{NodeView.{NodeView, node_at}, Nodes.{AreNodes, IsNode, IsPair}, NodeFacts.TellsKind, Edits.{bare, pointed, fresh_half, fresh_root}}
+use Rattle.mt_arena.proofs.{Groups.{held_lock, there_none, names_none}, Pairs.{nodes_pushed, last, before}, Point.nodes_pointed}
 
 -- neither slots nor children
 pub no_slots : IsBorder []

@@ -1,14 +1,10 @@
 -- The facts of nodes are kept where slots, version and holder change: for locks, marks and keys.
 use Rattle.std.proofs.Common.{◌≡◌, ◌≢◌, ℕ, ◌<◌, List, length, slice_index, is_some, Option, Some, None, true, false, set, refl, sym, ◌∙◌, arith}
 use Rattle.mt_version.specs.Parts.{Parts}
-use Rattle.mt_border.specs.declared.entry.Entry.{Entry}
-use Rattle.mt_border.specs.Entries.{IsBorder, slices}
-use Rattle.mt_arena.specs.NodeView.{NodeView, node_at}
-use Rattle.mt_arena.specs.Nodes.{AreNodes, IsNode, IsPair, Holds}
-use Rattle.mt_arena.specs.NodeFacts.{FitsSlots}
+use Rattle.mt_border.specs.{declared.entry.Entry.Entry, Entries.{IsBorder, slices}}
+use Rattle.mt_arena.specs.{NodeView.{NodeView, node_at}, Nodes.{AreNodes, IsNode, IsPair, Holds}, NodeFacts.FitsSlots}
 use Rattle.mt_arena.specs.Edits.{turned, locked, inserting, splitting, with_slots}
-use Rattle.mt_arena.proofs.Groups.{held_lock}
-use Rattle.mt_arena.proofs.Pairs.{are_set}
+use Rattle.mt_arena.proofs.{Groups.held_lock, Pairs.are_set}
 
 -- the first node of a pair
 turned_from : (k : ℕ) (n : NodeView) (j : ℕ) (m : NodeView) (slots : List Entry) (version : Parts) (holder : Option ℕ) → IsPair k n j m

@@ -4,11 +4,8 @@ use Rattle.std.proofs.Common.{◌≡◌, ◌≢◌, true, false, ℕ, ◌<◌, �
 use Rattle.mt_version.specs.Parts.{Parts}
 use Rattle.mt_border.specs.declared.entry.Entry.{Entry}
 use Rattle.mt_interior.specs.Fences.{end_of}
-use Rattle.mt_arena.specs.NodeView.{NodeView, node_at}
-use Rattle.mt_arena.specs.Nodes.{AreNodes, IsNode, HasRange}
-use Rattle.mt_arena.specs.Ranges.{IsRanged, AreRanged, AreTied, IsLeftHalf, Waits}
-use Rattle.mt_arena.specs.Settled.{IsSettled}
-use Rattle.mt_arena.specs.Edits.{turned, locked, unlocked, retired, pointed, fresh_root}
+use Rattle.mt_arena.specs.{NodeView.{NodeView, node_at}, Nodes.{AreNodes, IsNode, HasRange}, Ranges.{IsRanged, AreRanged, AreTied, IsLeftHalf, Waits}}
+use Rattle.mt_arena.specs.{Settled.IsSettled, Edits.{turned, locked, unlocked, retired, pointed, fresh_root}}
 use Rattle.mt_arena.proofs.Pairs.{nodes_set, nodes_push, pairs_set, pairs_push}
 
 -- a node with a range waits for none

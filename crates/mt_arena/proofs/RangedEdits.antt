@@ -1,20 +1,14 @@
 -- Nodes keep their ranges where several change at once, in splits, under a new root, and where a node is taken out: for the calls that do
 -- so.
 use Rattle.std.proofs.Common.{◌≡◌, ◌≢◌, false, ℕ, ◌<◌, List, [], ◌∷◌, ◌++◌, length, Some, None, set, refl, sym, ap, subst, ◌∙◌, arith}
-use Rattle.std.proofs.lemmas.Option.{same_Some}
-use Rattle.std.proofs.lemmas.List.{length-set}
+use Rattle.std.proofs.{lemmas.Option.same_Some, lemmas.List.length-set}
 use Rattle.mt_border.specs.declared.entry.Entry.{Entry}
 use Rattle.mt_interior.specs.Fences.{end_of}
-use Rattle.mt_arena.specs.NodeView.{NodeView, node_at}
-use Rattle.mt_arena.specs.Nodes.{AreNodes, HasRange}
-use Rattle.mt_arena.specs.Ranges.{IsRanged, AreRanged, AreTied, IsLeftHalf, Waits}
-use Rattle.mt_arena.specs.Edits.{retired, splitting, fresh_half}
-use Rattle.mt_arena.specs.Unlinks.{Unlinks, joined, without_child}
+use Rattle.mt_arena.specs.{NodeView.{NodeView, node_at}, Nodes.{AreNodes, HasRange}, Ranges.{IsRanged, AreRanged, AreTied, IsLeftHalf, Waits}}
+use Rattle.mt_arena.specs.{Edits.{retired, splitting, fresh_half}, Unlinks.{Unlinks, joined, without_child}}
 use Rattle.mt_arena.specs.Splits.{Splits, left_half, right_half, with_child, exact, inner_left, inner_right}
 use Rattle.mt_arena.specs.Growth.{AreRootHalves, fresh_top, left_below, right_below}
-use Rattle.mt_arena.proofs.Pairs.{here, there, nodes_set, pairs_set2, pairs_set3}
-use Rattle.mt_arena.proofs.Naming.{each_set2}
-use Rattle.mt_arena.proofs.Unlink.{differ_ij, differ_iq, differ_jq}
+use Rattle.mt_arena.proofs.{Pairs.{here, there, nodes_set, pairs_set2, pairs_set3}, Naming.each_set2, Unlink.{differ_ij, differ_iq, differ_jq}}
 use Rattle.mt_arena.proofs.Ranged.{stays, IsBeside, all_beside, no_wait, tied_to, ranged_from, ranged_set, ranged_marked, with_range, ranged_push, ranged_more}
 
 -- a right half more, beside its left half, which is marked

@@ -2,10 +2,8 @@
 use Rattle.std.proofs.Common.{◌≡◌, ◌≢◌, ℕ, suc, ◌+◌, ◌<◌, ◌≤◌, List, [], ◌∷◌, length, get_or, Option, false, sym, subst, ◌∙◌, inl, inr, arith, length-append}
 use Rattle.std.proofs.lemmas.Bool.{cases_eq}
 use Rattle.mt_lists.specs.Rising.{IsRising}
-use Rattle.mt_interior.specs.Fences.{end_of, bounds_of}
-use Rattle.mt_interior.proofs.PlaceLemmas.{bounds_of-inner, bounds_of-end}
-use Rattle.mt_arena.specs.NodeView.{NodeView, node_at}
-use Rattle.mt_arena.specs.Nodes.{AreNodes, IsNode, IsChild, Holds, bounds}
+use Rattle.mt_interior.{specs.Fences.{end_of, bounds_of}, proofs.PlaceLemmas.{bounds_of-inner, bounds_of-end}}
+use Rattle.mt_arena.specs.{NodeView.{NodeView, node_at}, Nodes.{AreNodes, IsNode, IsChild, Holds, bounds}}
 
 -- a rising list, place by place
 pub rises : (xs : List ℕ) (i j : ℕ) → IsRising xs → i ≤ j → j < length xs → get_or xs i 0 ≤ get_or xs j 0

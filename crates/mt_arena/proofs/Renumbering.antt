@@ -1,27 +1,17 @@
 -- Where all nodes are renumbered, all that holds of an arena holds again, and the contents stand: for `renumber`.
 use Rattle.std.proofs.Common.{◌≡◌, ◌≢◌, ℕ, zero, suc, ◌+◌, ◌<◌, List, [], ◌∷◌, ◌++◌, length, Option, true, false, refl, sym, ap, subst, ◌∙◌, arith}
-use Rattle.std.specs.Prelude.{if◌then◌else◌}
-use Rattle.std.specs.List.{flat_map}
 use Rattle.std.proofs.lemmas.List.{length-map}
+use Rattle.std.specs.{Prelude.{if◌then◌else◌}, List.flat_map}
 use Rattle.mt_slices.specs.declared.mark.Mark.TheVariants.{Short, Long}
-use Rattle.mt_border.specs.declared.entry.Entry.{Entry}
-use Rattle.mt_border.specs.declared.entry.Held.{Held}
-use Rattle.mt_border.specs.declared.entry.Held.TheVariants.{Stable, Unstable, Link}
+use Rattle.mt_border.specs.{declared.entry.Entry.Entry, declared.entry.Held.Held, declared.entry.Held.TheVariants.{Stable, Unstable, Link}}
 use Rattle.mt_border.specs.Restamps.{stamped, restamped, all_restamped}
 use Rattle.mt_border.proofs.Restamping.{each-restamped, border-restamped, slices-restamped, length-restamped, keys-restamped, pairs-restamped}
-use Rattle.mt_arena.specs.declared.tree.Tree.{Tree}
-use Rattle.mt_arena.specs.declared.retired.Retired.{Retired}
-use Rattle.mt_arena.specs.NodeView.{NodeView, node_at, no_node}
-use Rattle.mt_arena.specs.NodeFacts.{IsUnstable, FitsSlots}
-use Rattle.mt_arena.specs.Nodes.{AreNodes, IsNode, IsPair}
-use Rattle.mt_arena.specs.Ranges.{AreRanged, IsRanged, AreTied}
-use Rattle.mt_arena.specs.Forests.{IsForest, IsHome, IsTree, AllBegin, BeginsAtKey, tree_at, layer_of}
-use Rattle.mt_arena.specs.Layers.{AreLayered, AreLinks, HasLink, slot_at}
-use Rattle.mt_arena.specs.Contents.{live_pairs, is_live, content}
-use Rattle.mt_arena.specs.Arena.{ArenaInvariant, IsArena, AreRetired, live_count}
+use Rattle.mt_arena.specs.{declared.tree.Tree.Tree, declared.retired.Retired.Retired, NodeView.{NodeView, node_at, no_node}, NodeFacts.{IsUnstable, FitsSlots}}
+use Rattle.mt_arena.specs.{Nodes.{AreNodes, IsNode, IsPair}, Ranges.{AreRanged, IsRanged, AreTied}}
+use Rattle.mt_arena.specs.{Forests.{IsForest, IsHome, IsTree, AllBegin, BeginsAtKey, tree_at, layer_of}, Layers.{AreLayered, AreLinks, HasLink, slot_at}}
+use Rattle.mt_arena.specs.{Contents.{live_pairs, is_live, content}, Arena.{ArenaInvariant, IsArena, AreRetired, live_count}}
 use Rattle.mt_arena.specs.Renumbers.{renumbered, all_renumbered}
-use Rattle.mt_arena.proofs.Joins.{map_of}
-use Rattle.mt_arena.proofs.Counted.{content-is}
+use Rattle.mt_arena.proofs.{Joins.map_of, Counted.content-is}
 
 -- the node of a number
 pub at-renumbered : (s : ℕ) (nodes : List NodeView) (k : ℕ) → node_at (all_renumbered s nodes) k ≡ renumbered s (node_at nodes k)

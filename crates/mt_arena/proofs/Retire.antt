@@ -1,9 +1,6 @@
 -- The facts of nodes are kept as a node is taken out: for `Collapse` and `DroppingLayer`.
 use Rattle.std.proofs.Common.{◌≡◌, ◌≢◌, ℕ, ◌<◌, List, length, get_or, Some, None, true, set}
-use Rattle.mt_arena.specs.NodeView.{NodeView, node_at}
-use Rattle.mt_arena.specs.Nodes.{AreNodes, IsPair}
-use Rattle.mt_arena.specs.Edits.{retired}
-use Rattle.mt_arena.proofs.Pairs.{are_set}
+use Rattle.mt_arena.{specs.{NodeView.{NodeView, node_at}, Nodes.{AreNodes, IsPair}, Edits.retired}, proofs.Pairs.are_set}
 
 -- no live node leads to the node: it may be taken out
 pub record IsLeft (nodes : List NodeView) (i : ℕ) : Type 0 where

@@ -1,13 +1,9 @@
 -- The list of the retired where a node changes, is taken out or added: for the invariant of every call.
 use Rattle.std.proofs.Common.{◌≡◌, ℕ, zero, suc, ◌+◌, ◌<◌, List, [], ◌∷◌, ◌++◌, length, get_or, set, Bool, true, false, refl, sym, ap, ◌∙◌, inl, inr, arith, length-append}
-use Rattle.std.specs.Prelude.{if◌then◌else◌}
-use Rattle.std.proofs.lemmas.Bool.{cases_eq}
-use Rattle.std.proofs.lemmas.List.{length-set, get_or_append_left}
-use Rattle.std.proofs.Math.Seq.{get_or-append_seam}
+use Rattle.std.proofs.{lemmas.Bool.cases_eq, lemmas.List.{length-set, get_or_append_left}, Math.Seq.get_or-append_seam}
 use Rattle.std.proofs.lemmas.List.Elements.{All-append, All-cons}
-use Rattle.mt_arena.specs.declared.retired.Retired.{Retired}
-use Rattle.mt_arena.specs.NodeView.{NodeView, node_at}
-use Rattle.mt_arena.specs.Edits.{retired}
+use Rattle.std.specs.Prelude.{if◌then◌else◌}
+use Rattle.mt_arena.specs.{declared.retired.Retired.Retired, NodeView.{NodeView, node_at}, Edits.retired}
 use Rattle.mt_arena.specs.Arena.{AreRetired, WasRetired, retired_at, live_count, one_if_live}
 use Rattle.mt_arena.proofs.Pairs.{here, there, before}
 

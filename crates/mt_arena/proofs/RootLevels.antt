@@ -1,18 +1,12 @@
 -- A live tree has a live node on each of its levels, and no two trees have one node, so the levels of all live trees are together no more than the live nodes:
 -- for the law `levels_are_few`, and for whoever goes down from layer to layer.
 use Rattle.std.proofs.Common.{◌≡◌, ◌≢◌, ℕ, zero, suc, ◌+◌, ◌<◌, ◌≤◌, List, [], ◌∷◌, length, get_or, Bool, true, false, refl, sym, ap, ◌∙◌, inl, inr, arith}
-use Rattle.std.specs.Prelude.{if◌then◌else◌, nat_lt, ◌==◌}
 use Rattle.std.proofs.lemmas.Bool.{cases_eq, cases_lt, eq-eqb, ne_eqb, lt-ltb, le-ltb}
+use Rattle.std.specs.Prelude.{if◌then◌else◌, nat_lt, ◌==◌}
 use Rattle.mt_border.proofs.Edits.{step_on, step_off}
-use Rattle.mt_arena.specs.declared.tree.Tree.{Tree}
-use Rattle.mt_arena.specs.declared.tree.Standing.{Standing}
-use Rattle.mt_arena.specs.declared.tree.Standing.TheVariants.{Dead, Live}
-use Rattle.mt_arena.specs.NodeView.{NodeView, node_at}
-use Rattle.mt_arena.specs.Nodes.{IsChild, HasRange}
-use Rattle.mt_arena.specs.Contents.{is_live}
-use Rattle.mt_arena.specs.Forests.{IsRoot, layer_of, tree_at}
-use Rattle.mt_arena.specs.Arena.{IsArena, live_count}
-use Rattle.mt_arena.specs.RootLevels.{levels_of, levels_if, levels_among, levels_above}
+use Rattle.mt_arena.specs.{declared.tree.Tree.Tree, declared.tree.Standing.Standing, declared.tree.Standing.TheVariants.{Dead, Live}}
+use Rattle.mt_arena.specs.{NodeView.{NodeView, node_at}, Nodes.{IsChild, HasRange}, Contents.is_live, Forests.{IsRoot, layer_of, tree_at}}
+use Rattle.mt_arena.specs.{Arena.{IsArena, live_count}, RootLevels.{levels_of, levels_if, levels_among, levels_above}}
 use Rattle.mt_arena.proofs.Grow.{not_none}
 
 -- how many live nodes of this tree are of a lower level, and how many live nodes are of an earlier tree

@@ -1,22 +1,15 @@
 -- The slice at which the keys of a node and one more are parted is that of a stored key of their tree: for the calls of `begin_split`,
 -- also in the crates above.
-use Rattle.std.proofs.Common.{ℕ, ◌<◌, List, ◌∷◌, length, take, drop, sym, ap, subst, arith}
-use Rattle.std.specs.List.{All, insert}
-use Rattle.std.proofs.lemmas.List.{length-map, get_or-map}
+use Rattle.std.proofs.{Common.{ℕ, ◌<◌, List, ◌∷◌, length, take, drop, sym, ap, subst, arith}, lemmas.List.{length-map, get_or-map}}
 use Rattle.std.proofs.lemmas.List.Elements.{All-append, All-cons, All-take, All-drop}
+use Rattle.std.specs.List.{All, insert}
 use Rattle.mt_slices.specs.Slices.{slice_of, mark_of}
 use Rattle.mt_rows.specs.Rows.{Bytes}
-use Rattle.mt_border.specs.declared.entry.Entry.{Entry}
-use Rattle.mt_border.specs.Entry.{order_at}
-use Rattle.mt_border.specs.Entries.{slices, place_in}
-use Rattle.mt_border.specs.Split.{IsSeparator, slices_with}
+use Rattle.mt_border.specs.{declared.entry.Entry.Entry, Entry.order_at, Entries.{slices, place_in}, Split.{IsSeparator, slices_with}}
 use Rattle.mt_border.specs.Contents.{AreKeys, IsOfTree}
 use Rattle.mt_border.proofs.Edits.{any_entry}
-use Rattle.mt_arena.specs.declared.tree.Tree.{Tree}
-use Rattle.mt_arena.specs.NodeView.{NodeView, node_at}
-use Rattle.mt_arena.specs.Forests.{IsForest, HasSlice, layer_of, tree_at}
-use Rattle.mt_arena.proofs.Elsewhere.{layer_is}
-use Rattle.mt_arena.proofs.Steps.{keys_of}
+use Rattle.mt_arena.specs.{declared.tree.Tree.Tree, NodeView.{NodeView, node_at}, Forests.{IsForest, HasSlice, layer_of, tree_at}}
+use Rattle.mt_arena.proofs.{Elsewhere.layer_is, Steps.keys_of}
 
 -- what holds of all numbers of a list and of one more
 All-insert : (P : ℕ → Type 0) (xs : List ℕ) (at x : ℕ) → All P xs → P x → All P (insert xs at x)

@@ -1,29 +1,14 @@
 -- What lags behind a node while an operation makes a layer at one of its slots: for the laws.
 use Rattle.std.proofs.Common.{◌≡◌, ◌≢◌, ℕ, zero, suc, ◌+◌, ◌<◌, List, [], ◌∷◌, ◌++◌, length, get_or, set, true, false, Some, None, refl, sym, ap, subst, ◌∙◌, inl, inr, arith, length-append}
+use Rattle.std.proofs.{lemmas.Bool.cases_eq, lemmas.List.{length-set, get_or-set_same, get_or-set_other}, lemmas.List.Elements.All-from_get_or}
 use Rattle.std.specs.List.{All, remove}
-use Rattle.std.proofs.lemmas.Bool.{cases_eq}
-use Rattle.std.proofs.lemmas.List.{length-set, get_or-set_same, get_or-set_other}
-use Rattle.std.proofs.lemmas.List.Elements.{All-from_get_or}
 use Rattle.mt_version.specs.Parts.{Parts}
-use Rattle.mt_border.specs.declared.entry.Entry.{Entry}
-use Rattle.mt_border.specs.declared.entry.Held.{Held}
-use Rattle.mt_border.proofs.Edits.{any_entry, All-remove, replaced_at}
-use Rattle.mt_arena.specs.declared.tree.Tree.{Tree}
-use Rattle.mt_rows.specs.Rows.{Bytes}
-use Rattle.mt_arena.specs.NodeView.{NodeView, node_at}
-use Rattle.mt_arena.specs.NodeFacts.{IsUnstable}
-use Rattle.mt_arena.specs.Nodes.{AreNodes}
-use Rattle.mt_arena.specs.Layers.{slot_at}
-use Rattle.mt_arena.specs.Guarantee.{NodesGuarantee, PointsOnly}
-use Rattle.mt_arena.specs.Arena.{ArenaView}
-use Rattle.mt_arena.specs.Accesses.{at}
-use Rattle.mt_arena.specs.Settled.{IsSettled}
-use Rattle.mt_arena.specs.Lags.{Follows, IsUnder}
+use Rattle.mt_border.{specs.{declared.entry.Entry.Entry, declared.entry.Held.Held}, proofs.Edits.{any_entry, All-remove, replaced_at}}
+use Rattle.mt_arena.specs.{declared.tree.Tree.Tree, NodeView.{NodeView, node_at}, NodeFacts.IsUnstable, Nodes.AreNodes, Layers.slot_at}
+use Rattle.mt_arena.specs.{Guarantee.{NodesGuarantee, PointsOnly}, Arena.ArenaView, Accesses.at, Settled.IsSettled, Lags.{Follows, IsUnder}}
 use Rattle.mt_arena.specs.Layering.{IsSettledBut, root_of, with_held, with_layer}
-use Rattle.mt_arena.proofs.Pairs.{here, there, last, before}
-use Rattle.mt_arena.proofs.Settled.{was_none}
-use Rattle.mt_arena.proofs.SlotPlaces.{at_still}
-use Rattle.mt_arena.proofs.Lags.{follows_before, under_before}
+use Rattle.mt_arena.proofs.{Pairs.{here, there, last, before}, Settled.was_none, SlotPlaces.at_still, Lags.{follows_before, under_before}}
+use Rattle.mt_rows.specs.Rows.{Bytes}
 
 abbrev IsCalm : Entry → Type 0
 IsCalm e = ¬ IsUnstable e.held

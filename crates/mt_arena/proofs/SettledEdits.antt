@@ -1,15 +1,9 @@
 -- What an operation's own edits leave of "nothing lags behind the node": for the proofs of whole operations.
 use Rattle.std.proofs.Common.{◌≡◌, ◌≢◌, ℕ, ◌<◌, List, length, get_or, Some, None, false, set, refl, sym, ap, subst, ◌∙◌, inl, inr, arith}
-use Rattle.std.proofs.lemmas.Bool.{cases_eq}
-use Rattle.std.proofs.lemmas.List.{length-set}
+use Rattle.std.proofs.{lemmas.Bool.cases_eq, lemmas.List.length-set}
 use Rattle.std.specs.List.{All}
-use Rattle.mt_arena.specs.NodeView.{NodeView, node_at}
-use Rattle.mt_arena.specs.Nodes.{AreNodes, HasChild}
-use Rattle.mt_arena.specs.NodeFacts.{IsUnstable}
-use Rattle.mt_arena.specs.Settled.{IsSettled}
-use Rattle.mt_arena.specs.Edits.{locked}
-use Rattle.mt_arena.proofs.Pairs.{here, there}
-use Rattle.mt_arena.proofs.Settled.{settled_free}
+use Rattle.mt_arena.specs.{NodeView.{NodeView, node_at}, Nodes.{AreNodes, HasChild}, NodeFacts.IsUnstable, Settled.IsSettled, Edits.locked}
+use Rattle.mt_arena.proofs.{Pairs.{here, there}, Settled.settled_free}
 
 -- another node changes: it comes to name this one only where this one leads to it
 pub settled_beside : (xs : List NodeView) (i k : ℕ) (y : NodeView) → k < length xs → i ≢ k → IsSettled xs i (node_at xs i)

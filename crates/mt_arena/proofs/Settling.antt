@@ -1,23 +1,12 @@
 -- What lags behind a node as another one is taken out, and once the node behind is told: for `followed_until_named` and the crates above.
 use Rattle.std.proofs.Common.{◌≡◌, ◌≢◌, ℕ, ◌+◌, ◌-◌, ◌<◌, List, length, get_or, set, Option, Some, None, false, refl, sym, ap, subst, ◌∙◌, inl, inr, arith}
+use Rattle.std.proofs.{lemmas.Bool.cases_lt, lemmas.Option.same_Some, lemmas.List.Edits.{length-remove, get_or-remove_below, get_or-remove_above}}
 use Rattle.std.specs.List.{All}
-use Rattle.std.proofs.lemmas.Bool.{cases_lt}
-use Rattle.std.proofs.lemmas.Option.{same_Some}
-use Rattle.std.proofs.lemmas.List.Edits.{length-remove, get_or-remove_below, get_or-remove_above}
 use Rattle.mt_version.specs.Parts.{Parts}
 use Rattle.mt_border.specs.declared.entry.Entry.{Entry}
-use Rattle.mt_arena.specs.declared.tree.Tree.{Tree}
-use Rattle.mt_arena.specs.NodeView.{NodeView, node_at}
-use Rattle.mt_arena.specs.Nodes.{HasChild}
-use Rattle.mt_arena.specs.NodeFacts.{IsUnstable}
-use Rattle.mt_arena.specs.Guarantee.{NodesGuarantee, PointsOnly}
-use Rattle.mt_arena.specs.Edits.{inserting, pointed}
-use Rattle.mt_arena.specs.Unlinks.{without_child}
-use Rattle.mt_arena.specs.Settled.{IsSettled}
-use Rattle.mt_arena.specs.Lags.{Follows, IsUnder, AreFollowers, IsFollowedBy}
-use Rattle.mt_arena.proofs.Pairs.{there}
-use Rattle.mt_arena.proofs.Settled.{alive, was_none}
-use Rattle.mt_arena.proofs.SettledEdits.{settled_beside}
+use Rattle.mt_arena.specs.{declared.tree.Tree.Tree, NodeView.{NodeView, node_at}, Nodes.HasChild, NodeFacts.IsUnstable, Guarantee.{NodesGuarantee, PointsOnly}}
+use Rattle.mt_arena.specs.{Edits.{inserting, pointed}, Unlinks.without_child, Settled.IsSettled, Lags.{Follows, IsUnder, AreFollowers, IsFollowedBy}}
+use Rattle.mt_arena.proofs.{Pairs.there, Settled.{alive, was_none}, SettledEdits.settled_beside}
 use Rattle.mt_arena.proofs.Lags.{follows_before, under_before, right_again, follows_in, under_in}
 
 -- a node that is live was, and names no other node than it named

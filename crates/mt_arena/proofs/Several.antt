@@ -1,24 +1,12 @@
 -- Nodes that keep their slots, their tree and whether they are deleted, where two of them change, or three: for the calls that change
 -- several nodes.
-use Rattle.std.proofs.Common.{◌≡◌, ◌≢◌, ℕ, ◌<◌, List, length, set, sym, ap, subst, ◌∙◌, arith}
-use Rattle.std.proofs.lemmas.List.{length-set}
+use Rattle.std.proofs.{Common.{◌≡◌, ◌≢◌, ℕ, ◌<◌, List, length, set, sym, ap, subst, ◌∙◌, arith}, lemmas.List.length-set}
 use Rattle.mt_border.specs.declared.entry.Entry.{Entry}
-use Rattle.mt_arena.specs.declared.tree.Tree.{Tree}
-use Rattle.mt_arena.specs.declared.retired.Retired.{Retired}
-use Rattle.mt_arena.specs.NodeView.{NodeView, node_at}
-use Rattle.mt_arena.specs.declared.tree.Standing.TheVariants.{Made}
-use Rattle.mt_arena.specs.Forests.{IsForest, tree_at}
-use Rattle.mt_arena.specs.Layers.{AreLayered}
-use Rattle.mt_arena.specs.Guarantee.{NodesGuarantee, Changes}
-use Rattle.mt_arena.specs.Contents.{content}
-use Rattle.mt_arena.specs.Arena.{AreRetired}
+use Rattle.mt_arena.specs.{declared.tree.Tree.Tree, declared.retired.Retired.Retired, NodeView.{NodeView, node_at}, declared.tree.Standing.TheVariants.Made}
+use Rattle.mt_arena.specs.{Forests.{IsForest, tree_at}, Layers.AreLayered, Guarantee.{NodesGuarantee, Changes}, Contents.content, Arena.AreRetired}
 use Rattle.mt_arena.specs.Ways.{HasSlots}
-use Rattle.mt_arena.proofs.Pairs.{there}
-use Rattle.mt_arena.proofs.LinkEdits.{HasLinksOf, same_links, layers_set}
-use Rattle.mt_arena.proofs.Retiring.{retired_set}
-use Rattle.mt_arena.proofs.Homes.{KeepsHome, HasKeysOf, forest_set}
-use Rattle.mt_arena.proofs.Guarantees.{guarantee_set, guarantee_on}
-use Rattle.mt_arena.proofs.ContentQuiet.{stands_unchanged}
+use Rattle.mt_arena.proofs.{Pairs.there, LinkEdits.{HasLinksOf, same_links, layers_set}, Retiring.retired_set, Homes.{KeepsHome, HasKeysOf, forest_set}}
+use Rattle.mt_arena.proofs.{Guarantees.{guarantee_set, guarantee_on}, ContentQuiet.stands_unchanged}
 
 -- the node keeps its slots
 abbrev pub KeepsSlots : NodeView → NodeView → Type 0

@@ -1,10 +1,8 @@
 -- Which slot stands where once one is taken out: for `DroppingLayer`.
-use Rattle.std.proofs.Common.{◌≡◌, ◌≢◌, ℕ, ◌+◌, ◌-◌, ◌<◌, List, length, get_or, ap, ◌∙◌, inl, inr, arith}
-use Rattle.std.specs.List.{remove}
-use Rattle.std.proofs.lemmas.Bool.{cases_lt}
+use Rattle.std.proofs.{Common.{◌≡◌, ◌≢◌, ℕ, ◌+◌, ◌-◌, ◌<◌, List, length, get_or, ap, ◌∙◌, inl, inr, arith}, lemmas.Bool.cases_lt}
 use Rattle.std.proofs.lemmas.List.Edits.{length-remove, get_or-remove_below, get_or-remove_above}
-use Rattle.mt_border.specs.declared.entry.Entry.{Entry}
-use Rattle.mt_border.proofs.Edits.{any_entry}
+use Rattle.std.specs.List.{remove}
+use Rattle.mt_border.{specs.declared.entry.Entry.Entry, proofs.Edits.any_entry}
 
 -- place j of a list with one less is a place of the list, and another one
 pub record WasAt (es : List Entry) (i j : ℕ) : Type 0 where

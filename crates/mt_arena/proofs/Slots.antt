@@ -1,44 +1,23 @@
 -- The whole invariant, the guarantee and the contents where a key is published, stored or dropped: for the calls of these names.
 use Rattle.std.proofs.Common.{◌≡◌, ◌≢◌, ℕ, ◌*◌, ◌<◌, List, length, get_or, set, Bool, true, false, Some, None, refl, sym, ap, subst, ◌∙◌, arith}
-use Rattle.std.specs.Prelude.{if◌then◌else◌, nat_le}
-use Rattle.std.specs.FinMap as finite
-use Rattle.std.specs.List.{All, remove}
-use Rattle.std.proofs.lemmas.List.{length-drop, get_or-map, get_or_default}
-use Rattle.std.proofs.lemmas.List.Elements.{All-set}
+use Rattle.std.proofs.{lemmas.List.{length-drop, get_or-map, get_or_default}, lemmas.List.Elements.All-set}
+use Rattle.std.specs.{Prelude.{if◌then◌else◌, nat_le}, List.{All, remove}}
 use Rattle.mt_version.proofs.Aging.{ages-marked_inserting}
-use Rattle.mt_version.proofs.CallerLemmas as versions
-use Rattle.mt_slices.specs.declared.mark.Mark.TheVariants.{Short, Long}
-use Rattle.mt_slices.specs.Marks.{mark_rank as rank}
-use Rattle.mt_slices.specs.Slices.{mark_of, rest_of}
+use Rattle.mt_slices.specs.{declared.mark.Mark.TheVariants.{Short, Long}, Marks.{mark_rank as rank}, Slices.{mark_of, rest_of}}
 use Rattle.mt_rows.specs.Rows.{Bytes, Columns}
-use Rattle.mt_border.specs.declared.entry.Entry.{Entry}
-use Rattle.mt_border.specs.declared.entry.Pair.{Pair}
-use Rattle.mt_border.specs.declared.entry.Held.{Held}
-use Rattle.mt_border.specs.declared.entry.Held.TheVariants.{Stable, Unstable, Link}
-use Rattle.mt_border.specs.Entry.{IsEntry, IsStablePair, CanHold, order_of, pair_of}
-use Rattle.mt_border.specs.Entries.{IsBorder, IsMissing, slices, place_in, with_entry, without, replaced}
-use Rattle.mt_border.specs.Contents.{HasKey, owned}
+use Rattle.mt_border.specs.{declared.entry.Entry.Entry, declared.entry.Pair.Pair, declared.entry.Held.Held}
+use Rattle.mt_border.specs.{declared.entry.Held.TheVariants.{Stable, Unstable, Link}, Entry.{IsEntry, IsStablePair, CanHold, order_of, pair_of}}
+use Rattle.mt_border.specs.{Entries.{IsBorder, IsMissing, slices, place_in, with_entry, without, replaced}, Contents.{HasKey, owned}}
 use Rattle.mt_border.proofs.Edits.{any_entry, place_in-le, All-insert, All-remove, border_with_entry, border_without, border_set, without_at, replaced_at}
-use Rattle.mt_border.proofs.ContentsKeys.{has_rewritten_key}
-use Rattle.mt_border.proofs.ContentsEdits.{keys-publish}
-use Rattle.mt_arena.specs.declared.tree.Tree.{Tree}
-use Rattle.mt_arena.specs.declared.retired.Retired.{Retired}
-use Rattle.mt_arena.specs.NodeView.{NodeView, node_at}
-use Rattle.mt_arena.specs.Nodes.{Holds}
-use Rattle.mt_arena.specs.Layers.{slot_at}
-use Rattle.mt_arena.specs.Forests.{HaveKeys, tree_at, layer_of}
-use Rattle.mt_arena.specs.Guarantee.{Changes}
-use Rattle.mt_arena.specs.Edits.{with_slots}
-use Rattle.mt_arena.specs.Arena.{ArenaInvariant, ArenaView, Guarantee}
-use Rattle.mt_arena.specs.Contents.{content}
-use Rattle.mt_arena.specs.Accesses.{at, tree_of, IsOpen, with_node, with_row, MayPublish, MayChange}
-use Rattle.mt_arena.proofs.Quiet.{nodes_slots}
-use Rattle.mt_arena.proofs.Ranged.{ranged_marked}
-use Rattle.mt_arena.proofs.Homes.{begun}
-use Rattle.mt_arena.proofs.Owners.{published, stored, dropped}
+use Rattle.mt_border.proofs.{ContentsKeys.has_rewritten_key, ContentsEdits.keys-publish}
+use Rattle.mt_arena.specs.{declared.tree.Tree.Tree, declared.retired.Retired.Retired, NodeView.{NodeView, node_at}, Nodes.Holds, Layers.slot_at}
+use Rattle.mt_arena.specs.{Forests.{HaveKeys, tree_at, layer_of}, Guarantee.Changes, Edits.with_slots, Arena.{ArenaInvariant, ArenaView, Guarantee}}
+use Rattle.mt_arena.specs.{Contents.content, Accesses.{at, tree_of, IsOpen, with_node, with_row, MayPublish, MayChange}}
+use Rattle.mt_arena.proofs.{Quiet.nodes_slots, Ranged.ranged_marked, Homes.begun, Owners.{published, stored, dropped}}
 use Rattle.mt_arena.proofs.LinkEdits.{HasLinksOf, links_insert, links_insert_back, links_set, links_set_back, links_remove, links_remove_back}
-use Rattle.mt_arena.proofs.Locks.{not_others, is_held}
-use Rattle.mt_arena.proofs.Steps.{sound_set, keys_of, step_set}
+use Rattle.mt_arena.proofs.{Locks.{not_others, is_held}, Steps.{sound_set, keys_of, step_set}}
+use Rattle.std.specs.FinMap as finite
+use Rattle.mt_version.proofs.CallerLemmas as versions
 
 -- slots that lie within the fences, entry by entry
 pub within_each : (n : NodeView) (es : List Entry) → ((i : ℕ) → i < length es → Holds n (get_or (slices es) i 0)) → All (λ (e : Entry). Holds n e.slice) es

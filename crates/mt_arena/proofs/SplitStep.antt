@@ -1,28 +1,13 @@
 -- The facts of nodes, trees and links, and the guarantee, where a border node is split: for `Halving`.
 use Rattle.std.proofs.Common.{◌≡◌, ◌≢◌, ◌⊎◌, ℕ, ◌<◌, ◌++◌, List, [], length, get_or, set, Some, false, refl, sym, ap, subst, ◌∙◌, inl, inr, arith}
-use Rattle.std.proofs.lemmas.Bool.{cases_eq}
-use Rattle.std.proofs.lemmas.List.{length-set}
-use Rattle.mt_slices.specs.Slices.{piece_bytes}
-use Rattle.mt_slices.specs.declared.mark.Mark.TheVariants.{Long}
-use Rattle.mt_border.specs.declared.entry.Entry.{Entry}
-use Rattle.mt_border.specs.declared.entry.Held.TheVariants.{Link}
-use Rattle.mt_border.proofs.Edits.{any_entry}
-use Rattle.mt_arena.specs.declared.tree.Tree.{Tree}
-use Rattle.mt_arena.specs.declared.tree.Standing.TheVariants.{Made}
-use Rattle.mt_arena.specs.declared.retired.Retired.{Retired}
-use Rattle.mt_arena.specs.NodeView.{NodeView, node_at}
-use Rattle.mt_arena.specs.Forests.{IsForest, tree_at, HaveKeys}
-use Rattle.mt_arena.specs.Layers.{AreLayered, AreLinks, HasLink, slot_at}
-use Rattle.mt_arena.specs.Guarantee.{NodesGuarantee, Changes}
-use Rattle.mt_arena.specs.Arena.{ArenaInvariant}
-use Rattle.mt_arena.specs.Splits.{Splits, left_half, right_half}
-use Rattle.mt_arena.proofs.Pairs.{here, there}
-use Rattle.mt_arena.proofs.Homes.{KeepsHome, forest_set}
-use Rattle.mt_arena.proofs.LinkEdits.{HasSlot, HasLinksOf}
-use Rattle.mt_arena.proofs.Retiring.{retired_set}
-use Rattle.mt_arena.proofs.RangedEdits.{ranged_split_move}
-use Rattle.mt_arena.proofs.Move.{nodes_split_move}
-use Rattle.mt_arena.proofs.Guarantees.{guarantee_set, guarantee_on}
+use Rattle.std.proofs.{lemmas.Bool.cases_eq, lemmas.List.length-set}
+use Rattle.mt_slices.specs.{Slices.piece_bytes, declared.mark.Mark.TheVariants.Long}
+use Rattle.mt_border.{specs.{declared.entry.Entry.Entry, declared.entry.Held.TheVariants.Link}, proofs.Edits.any_entry}
+use Rattle.mt_arena.specs.{declared.tree.Tree.Tree, declared.tree.Standing.TheVariants.Made, declared.retired.Retired.Retired, NodeView.{NodeView, node_at}}
+use Rattle.mt_arena.specs.{Forests.{IsForest, tree_at, HaveKeys}, Layers.{AreLayered, AreLinks, HasLink, slot_at}, Guarantee.{NodesGuarantee, Changes}}
+use Rattle.mt_arena.specs.{Arena.ArenaInvariant, Splits.{Splits, left_half, right_half}}
+use Rattle.mt_arena.proofs.{Pairs.{here, there}, Homes.{KeepsHome, forest_set}, LinkEdits.{HasSlot, HasLinksOf}, Retiring.retired_set}
+use Rattle.mt_arena.proofs.{RangedEdits.ranged_split_move, Move.nodes_split_move, Guarantees.{guarantee_set, guarantee_on}}
 use Rattle.mt_arena.proofs.HeldChanges.{changes_left_half, changes_right_half}
 
 module _ (xs : List NodeView) (trees : List Tree) (i j : ℕ) (kept moved : List Entry) (li : i < length xs) (lj : j < length xs) (differ : i ≢ j)

@@ -1,15 +1,8 @@
 -- The invariant of an arena with an empty top tree: for `new`.
 use Rattle.std.proofs.Common.{◌≢◌, ℕ, zero, suc, ◌<◌, ◌≤◌, List, [], ◌∷◌, refl, arith}
-use Rattle.mt_arena.specs.declared.tree.Tree.{Tree}
-use Rattle.mt_arena.specs.NodeView.{NodeView, node_at}
-use Rattle.mt_arena.specs.Forests.{IsForest, IsHome, IsTree, tree_at}
-use Rattle.mt_arena.specs.Layers.{AreLinks}
-use Rattle.mt_arena.specs.Edits.{fresh_root}
-use Rattle.mt_arena.specs.Arena.{ArenaInvariant}
-use Rattle.mt_arena.specs.Accesses.{top_tree}
-use Rattle.mt_arena.proofs.Begins.{begins_none, begins_push}
-use Rattle.mt_arena.proofs.Ranged.{ranged_root}
-use Rattle.mt_arena.proofs.Push.{nodes_root}
+use Rattle.mt_arena.specs.{declared.tree.Tree.Tree, NodeView.{NodeView, node_at}, Forests.{IsForest, IsHome, IsTree, tree_at}, Layers.AreLinks}
+use Rattle.mt_arena.specs.{Edits.fresh_root, Arena.ArenaInvariant, Accesses.top_tree}
+use Rattle.mt_arena.proofs.{Begins.{begins_none, begins_push}, Ranged.ranged_root, Push.nodes_root}
 
 -- what there is at first
 abbrev first_nodes : List NodeView

@@ -1,18 +1,8 @@
 -- The whole invariant and the guarantee where one node changes: for the calls that change one node.
-use Rattle.std.proofs.Common.{ℕ, ◌<◌, List, length, set, refl, arith}
-use Rattle.std.proofs.lemmas.List.{length-set}
-use Rattle.mt_arena.specs.declared.tree.Tree.{Tree}
-use Rattle.mt_arena.specs.declared.retired.Retired.{Retired}
-use Rattle.mt_arena.specs.NodeView.{NodeView, node_at}
-use Rattle.mt_arena.specs.Nodes.{AreNodes}
-use Rattle.mt_arena.specs.Ranges.{AreRanged}
-use Rattle.mt_arena.specs.Forests.{IsForest}
-use Rattle.mt_arena.specs.Guarantee.{Changes}
-use Rattle.mt_arena.specs.Arena.{ArenaInvariant, ArenaView, Guarantee}
-use Rattle.mt_arena.specs.Accesses.{at, IsOpen, with_node}
-use Rattle.mt_arena.proofs.Homes.{KeepsHome, HasKeysOf, forest_set}
-use Rattle.mt_arena.proofs.LinkEdits.{KeepsLinks, layers_set}
-use Rattle.mt_arena.proofs.Retiring.{retired_set}
+use Rattle.std.proofs.{Common.{ℕ, ◌<◌, List, length, set, refl, arith}, lemmas.List.length-set}
+use Rattle.mt_arena.specs.{declared.tree.Tree.Tree, declared.retired.Retired.Retired, NodeView.{NodeView, node_at}, Nodes.AreNodes, Ranges.AreRanged}
+use Rattle.mt_arena.specs.{Forests.IsForest, Guarantee.Changes, Arena.{ArenaInvariant, ArenaView, Guarantee}, Accesses.{at, IsOpen, with_node}}
+use Rattle.mt_arena.proofs.{Homes.{KeepsHome, HasKeysOf, forest_set}, LinkEdits.{KeepsLinks, layers_set}, Retiring.retired_set}
 use Rattle.mt_arena.proofs.Guarantees.{guarantee_set, points_set, PointsSo}
 
 -- a node changes and keeps its place among nodes, trees and links

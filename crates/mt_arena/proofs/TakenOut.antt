@@ -1,18 +1,10 @@
 -- A node that is taken out, and a tree's record that changes: for `Unlinking`, `Collapsing` and `DroppingLayer`.
-use Rattle.std.proofs.Common.{◌≡◌, ◌≢◌, ℕ, ◌<◌, List, length, set, Some, refl, sym, ap, ◌∙◌, inl, inr, arith}
-use Rattle.std.proofs.lemmas.Bool.{cases_eq}
+use Rattle.std.proofs.{Common.{◌≡◌, ◌≢◌, ℕ, ◌<◌, List, length, set, Some, refl, sym, ap, ◌∙◌, inl, inr, arith}, lemmas.Bool.cases_eq}
 use Rattle.std.proofs.lemmas.List.{length-set, get_or-set_same, get_or-set_other}
 use Rattle.mt_version.proofs.Aging.{ages-deleted}
-use Rattle.mt_arena.specs.declared.tree.Tree.{Tree}
-use Rattle.mt_arena.specs.declared.tree.Standing.{Standing}
-use Rattle.mt_arena.specs.declared.tree.Standing.TheVariants.{Made, Live, Dead}
-use Rattle.mt_arena.specs.NodeView.{NodeView, node_at}
-use Rattle.mt_arena.specs.Forests.{IsForest, tree_at, no_tree}
-use Rattle.mt_arena.specs.Guarantee.{Changes}
-use Rattle.mt_arena.specs.Edits.{retired}
-use Rattle.mt_arena.proofs.Pairs.{here, there}
-use Rattle.mt_arena.proofs.Begins.{begins_set}
-use Rattle.mt_arena.proofs.HeldChanges.{changes_held}
+use Rattle.mt_arena.specs.{declared.tree.Tree.Tree, declared.tree.Standing.Standing, declared.tree.Standing.TheVariants.{Made, Live, Dead}}
+use Rattle.mt_arena.specs.{NodeView.{NodeView, node_at}, Forests.{IsForest, tree_at, no_tree}, Guarantee.Changes, Edits.retired}
+use Rattle.mt_arena.proofs.{Pairs.{here, there}, Begins.begins_set, HeldChanges.changes_held}
 
 -- trees and their nodes, where the node is no root of a tree that stands
 pub forest_retired : (xs : List NodeView) (trees : List Tree) (i : ℕ) → i < length xs → IsForest xs trees

@@ -1,32 +1,15 @@
 -- The whole invariant, the guarantee and the contents where a new root comes over two halves: for `grow_root`.
 use Rattle.std.proofs.Common.{◌≡◌, ℕ, ◌+◌, ◌<◌, ◌≤◌, ◌++◌, List, ◌∷◌, [], length, get_or, set, Some, refl, sym, ap, subst, ◌∙◌, inl, inr, arith, length-append}
-use Rattle.std.proofs.lemmas.Bool.{cases_eq}
-use Rattle.std.proofs.lemmas.Option.{same_Some}
-use Rattle.std.proofs.lemmas.List.{length-set, get_or-set_same, get_or-set_other, get_or_default}
-use Rattle.mt_slices.specs.Slices.{piece_bytes}
-use Rattle.mt_slices.specs.declared.mark.Mark.TheVariants.{Long}
+use Rattle.std.proofs.{lemmas.Bool.cases_eq, lemmas.Option.same_Some, lemmas.List.{length-set, get_or-set_same, get_or-set_other, get_or_default}}
+use Rattle.mt_slices.specs.{Slices.piece_bytes, declared.mark.Mark.TheVariants.Long}
 use Rattle.mt_rows.specs.Rows.{Bytes}
-use Rattle.mt_arena.specs.declared.tree.Tree.{Tree}
-use Rattle.mt_arena.specs.NodeView.{NodeView, node_at}
-use Rattle.mt_arena.specs.Forests.{tree_at, no_tree}
-use Rattle.mt_arena.specs.Layers.{AreLayered, slot_at}
-use Rattle.mt_arena.specs.Contents.{content}
-use Rattle.mt_arena.specs.Guarantee.{NodesGuarantee, Changes, TreeChanges}
-use Rattle.mt_arena.specs.Settled.{IsSettled}
-use Rattle.mt_arena.specs.Arena.{ArenaInvariant, ArenaView, Guarantee}
-use Rattle.mt_arena.specs.Accesses.{at, tree_of}
-use Rattle.mt_arena.specs.Growth.{fresh_top, left_below, right_below}
-use Rattle.mt_arena.specs.Several.{MayGrow, with_root}
-use Rattle.mt_arena.proofs.Pairs.{there, last}
-use Rattle.mt_arena.proofs.Grow.{nodes_root_grow, settled_root_grow}
-use Rattle.mt_arena.proofs.RangedEdits.{ranged_root_grow}
-use Rattle.mt_arena.proofs.GrowStep.{forest_grown, same_prefix, same_standing}
-use Rattle.mt_arena.proofs.Growing.{layers_push}
-use Rattle.mt_arena.proofs.Retiring.{retired_push}
+use Rattle.mt_arena.specs.{declared.tree.Tree.Tree, NodeView.{NodeView, node_at}, Forests.{tree_at, no_tree}, Layers.{AreLayered, slot_at}, Contents.content}
+use Rattle.mt_arena.specs.{Guarantee.{NodesGuarantee, Changes, TreeChanges}, Settled.IsSettled, Arena.{ArenaInvariant, ArenaView, Guarantee}}
+use Rattle.mt_arena.specs.{Accesses.{at, tree_of}, Growth.{fresh_top, left_below, right_below}, Several.{MayGrow, with_root}}
+use Rattle.mt_arena.proofs.{Pairs.{there, last}, Grow.{nodes_root_grow, settled_root_grow}, RangedEdits.ranged_root_grow}
+use Rattle.mt_arena.proofs.{GrowStep.{forest_grown, same_prefix, same_standing}, Growing.layers_push, Retiring.retired_push}
 use Rattle.mt_arena.proofs.Guarantees.{changes_none, guarantee_set, guarantee_push, guarantee_on, tree_changes_none, PointsSo}
-use Rattle.mt_arena.proofs.HeldChanges.{changes_left_below, changes_right_below}
-use Rattle.mt_arena.proofs.Naming.{names_same, points_more, each_set2}
-use Rattle.mt_arena.proofs.Several.{AreKept, kept_set2}
+use Rattle.mt_arena.proofs.{HeldChanges.{changes_left_below, changes_right_below}, Naming.{names_same, points_more, each_set2}, Several.{AreKept, kept_set2}}
 use Rattle.mt_arena.proofs.ContentQuiet.{stands_pushed, stands_tree_set}
 
 -- what was read is the tree's record

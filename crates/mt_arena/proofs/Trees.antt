@@ -1,14 +1,9 @@
 -- The facts of trees and their nodes are kept where an operation begins to make a tree: for `MakingLayer`.
-use Rattle.std.proofs.Common.{◌≡◌, ℕ, zero, suc, ◌+◌, ◌*◌, ◌<◌, List, [], ◌∷◌, ◌++◌, length, refl, ap, inl, inr, arith, length-append}
-use Rattle.std.proofs.lemmas.Bool.{cases_eq}
+use Rattle.std.proofs.{Common.{◌≡◌, ℕ, zero, suc, ◌+◌, ◌*◌, ◌<◌, List, [], ◌∷◌, ◌++◌, length, refl, ap, inl, inr, arith, length-append}, lemmas.Bool.cases_eq}
 use Rattle.mt_rows.specs.Rows.{Bytes}
-use Rattle.mt_arena.specs.declared.tree.Tree.{Tree}
-use Rattle.mt_arena.specs.declared.tree.Standing.TheVariants.{Made}
-use Rattle.mt_arena.specs.NodeView.{NodeView, node_at}
-use Rattle.mt_arena.specs.Forests.{IsForest, IsHome, tree_at, layer_of}
-use Rattle.mt_arena.specs.Edits.{fresh_root}
-use Rattle.mt_arena.proofs.Pairs.{last, before}
-use Rattle.mt_arena.proofs.Begins.{begins_push, begins_trees}
+use Rattle.mt_arena.specs.{declared.tree.Tree.Tree, declared.tree.Standing.TheVariants.Made, NodeView.{NodeView, node_at}}
+use Rattle.mt_arena.specs.{Forests.{IsForest, IsHome, tree_at, layer_of}, Edits.fresh_root}
+use Rattle.mt_arena.proofs.{Pairs.{last, before}, Begins.{begins_push, begins_trees}}
 
 -- a list of trees with one more: the last one, and those before it
 pub last_tree : (ts : List Tree) (u : Tree) → tree_at (ts ++ u ∷ []) (length ts) ≡ u

@@ -1,11 +1,8 @@
 -- Two nodes of a list that is cut in two are those of the whole list: for the bodies that change two nodes at once.
 use Rattle.std.proofs.Common.{◌≡◌, ◌≢◌, ℕ, zero, suc, ◌+◌, ◌<◌, ◌≤◌, List, [], ◌∷◌, ◌++◌, length, take, drop, get_or, set, Option, refl, sym, ap, ◌∙◌, arith}
 use Rattle.std.proofs.lemmas.List.{get_or-take, get_or-drop, get_or_default, set_comm, length-set, take_at}
-use Rattle.mt_border.specs.declared.entry.Entry.{Entry}
-use Rattle.mt_border.specs.Split.{IsParted}
-use Rattle.mt_arena.specs.NodeView.{NodeView, node_at, no_node}
-use Rattle.mt_arena.specs.Splits.{with_some, left_half, right_half}
-use Rattle.mt_arena.specs.Several.{AreHalved}
+use Rattle.mt_border.specs.{declared.entry.Entry.Entry, Split.IsParted}
+use Rattle.mt_arena.specs.{NodeView.{NodeView, node_at, no_node}, Splits.{with_some, left_half, right_half}, Several.AreHalved}
 
 -- the first node behind is another
 back_set : (xs : List NodeView) (j : ℕ) (z : NodeView) → j < length xs → take j xs ++ set (drop j xs) 0 z ≡ set xs j z

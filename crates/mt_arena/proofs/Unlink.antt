@@ -1,20 +1,12 @@
 -- The facts of nodes are kept as a border node is taken out and the one before it gets its range: for a call that removes a border node.
 use Rattle.std.proofs.Common.{◌≡◌, ◌≢◌, ℕ, ◌+◌, ◌-◌, ◌<◌, ◌≤◌, List, [], length, get_or, Some, None, false, set, refl, sym, ap, subst, ◌∙◌, inl, inr, arith}
+use Rattle.std.proofs.{lemmas.Bool.{cases_eq, cases_lt}, lemmas.List.Edits.{length-remove, get_or-remove_below, get_or-remove_above}}
 use Rattle.std.specs.List.{remove}
-use Rattle.std.proofs.lemmas.Bool.{cases_eq, cases_lt}
-use Rattle.std.proofs.lemmas.List.Edits.{length-remove, get_or-remove_below, get_or-remove_above}
-use Rattle.mt_lists.specs.Rising.{IsRising}
-use Rattle.mt_interior.specs.Fences.{end_of}
-use Rattle.mt_lists.proofs.Rises.{rising_remove}
-use Rattle.mt_interior.proofs.CallerLemmas.{bounds_of-remove}
-use Rattle.mt_arena.specs.NodeView.{NodeView, node_at}
-use Rattle.mt_arena.specs.Nodes.{AreNodes, IsNode, IsPair, IsChild, bounds}
-use Rattle.mt_arena.specs.Ranges.{AreRanged}
-use Rattle.mt_arena.specs.Edits.{retired}
+use Rattle.mt_lists.{specs.Rising.IsRising, proofs.Rises.rising_remove}
+use Rattle.mt_interior.{specs.Fences.end_of, proofs.CallerLemmas.bounds_of-remove}
+use Rattle.mt_arena.specs.{NodeView.{NodeView, node_at}, Nodes.{AreNodes, IsNode, IsPair, IsChild, bounds}, Ranges.AreRanged, Edits.retired}
 use Rattle.mt_arena.specs.Unlinks.{Unlinks, joined, without_child}
-use Rattle.mt_arena.proofs.Groups.{border_children}
-use Rattle.mt_arena.proofs.Pairs.{are_set3}
-use Rattle.mt_arena.proofs.Ranges.{not_empty, length_bounds, separators_rise, one_parent, one_place}
+use Rattle.mt_arena.proofs.{Groups.border_children, Pairs.are_set3, Ranges.{not_empty, length_bounds, separators_rise, one_parent, one_place}}
 
 -- each element of a list with one less
 all_remove : (P : ℕ → Type 0) (xs : List ℕ) (at : ℕ) → at < length xs → ((i : ℕ) → i < length xs → P (get_or xs i 0)) → (i : ℕ)

@@ -1,41 +1,16 @@
 -- The whole invariant, the guarantee and the contents where a border node is taken out, and what lags behind its neighbours: for `unlink`.
-use Rattle.std.proofs.Common.{◌≡◌, ◌≢◌, ℕ, ◌-◌, ◌<◌, List, [], length, set, false, None, refl, sym, ap, subst, ◌∙◌, arith}
-use Rattle.std.proofs.lemmas.List.{length-set, set-set}
+use Rattle.std.proofs.{Common.{◌≡◌, ◌≢◌, ℕ, ◌-◌, ◌<◌, List, [], length, set, false, None, refl, sym, ap, subst, ◌∙◌, arith}, lemmas.List.{length-set, set-set}}
 use Rattle.std.proofs.lemmas.Option.{same_Some}
-use Rattle.mt_interior.specs.Fences.{end_of}
-use Rattle.mt_interior.specs.Places.{place_of}
-use Rattle.mt_arena.specs.declared.tree.Standing.TheVariants.{Dead}
-use Rattle.mt_arena.specs.NodeView.{NodeView, node_at}
-use Rattle.mt_arena.specs.Nodes.{AreNodes, IsChild, HasChild, HasRange}
-use Rattle.mt_arena.specs.Ranges.{AreRanged}
-use Rattle.mt_arena.specs.Forests.{IsForest, IsRoot, tree_at}
-use Rattle.mt_arena.specs.Layers.{AreLayered}
-use Rattle.mt_arena.specs.Contents.{content}
-use Rattle.mt_arena.specs.Edits.{inserting, retired}
-use Rattle.mt_arena.specs.Unlinks.{Unlinks, joined, without_child}
-use Rattle.mt_arena.specs.Arena.{ArenaInvariant, ArenaView, AreRetired, Guarantee}
-use Rattle.mt_arena.specs.Accesses.{at}
-use Rattle.mt_arena.specs.Ways.{HasSlots}
-use Rattle.mt_arena.specs.Settled.{IsSettled}
-use Rattle.mt_arena.specs.Lags.{IsFollowedBy}
-use Rattle.mt_arena.specs.Removals.{MayUnlink, nodes_without, without_node, with_retired}
-use Rattle.mt_arena.proofs.Pairs.{here, there}
-use Rattle.mt_arena.proofs.Quiet.{nodes_inserting}
-use Rattle.mt_arena.proofs.ChildPlace.{child_place}
-use Rattle.mt_arena.proofs.Ranged.{ranged_marked}
-use Rattle.mt_arena.proofs.RangedEdits.{ranged_unlinked}
-use Rattle.mt_arena.proofs.Unlink.{nodes_unlinked}
-use Rattle.mt_arena.proofs.Locks.{is_held}
-use Rattle.mt_arena.proofs.Homes.{KeepsHome, forest_set}
-use Rattle.mt_arena.proofs.Steps.{keys_of}
-use Rattle.mt_arena.proofs.LinkEdits.{KeepsLinks, same_links, layers_set, layers_empty}
-use Rattle.mt_arena.proofs.Retiring.{retired_set, retired_more}
-use Rattle.mt_arena.proofs.TakenOut.{forest_retired, changes_retired, standing_dead}
-use Rattle.mt_arena.proofs.Slots.{changes_slots}
-use Rattle.mt_arena.proofs.HeldChanges.{changes_joined, changes_without_child}
-use Rattle.mt_arena.proofs.Guarantees.{changes_on, PointsSo}
-use Rattle.mt_arena.proofs.Naming.{names_same, points_each, each_set3}
-use Rattle.mt_arena.proofs.Several.{MayTurn, guarantee_set3}
+use Rattle.mt_interior.specs.{Fences.end_of, Places.place_of}
+use Rattle.mt_arena.specs.{declared.tree.Standing.TheVariants.Dead, NodeView.{NodeView, node_at}, Nodes.{AreNodes, IsChild, HasChild, HasRange}}
+use Rattle.mt_arena.specs.{Ranges.AreRanged, Forests.{IsForest, IsRoot, tree_at}, Layers.AreLayered, Contents.content, Edits.{inserting, retired}}
+use Rattle.mt_arena.specs.{Unlinks.{Unlinks, joined, without_child}, Arena.{ArenaInvariant, ArenaView, AreRetired, Guarantee}, Accesses.at, Ways.HasSlots}
+use Rattle.mt_arena.specs.{Settled.IsSettled, Lags.IsFollowedBy, Removals.{MayUnlink, nodes_without, without_node, with_retired}}
+use Rattle.mt_arena.proofs.{Pairs.{here, there}, Quiet.nodes_inserting, ChildPlace.child_place, Ranged.ranged_marked, RangedEdits.ranged_unlinked}
+use Rattle.mt_arena.proofs.{Unlink.nodes_unlinked, Locks.is_held, Homes.{KeepsHome, forest_set}, Steps.keys_of}
+use Rattle.mt_arena.proofs.{LinkEdits.{KeepsLinks, same_links, layers_set, layers_empty}, Retiring.{retired_set, retired_more}}
+use Rattle.mt_arena.proofs.{TakenOut.{forest_retired, changes_retired, standing_dead}, Slots.changes_slots, HeldChanges.{changes_joined, changes_without_child}}
+use Rattle.mt_arena.proofs.{Guarantees.{changes_on, PointsSo}, Naming.{names_same, points_each, each_set3}, Several.{MayTurn, guarantee_set3}}
 use Rattle.mt_arena.proofs.Settling.{NamesNoMore, names_none_more, follows_was, under_was, settled_same, child_less}
 use Rattle.mt_arena.proofs.ContentQuiet.{stands_unchanged, stands_without_slots}
 

@@ -1,10 +1,6 @@
 -- The facts of nodes are kept as a lock is given back: for `Locks`.
 use Rattle.std.proofs.Common.{ℕ, ◌<◌, List, length, set, refl}
-use Rattle.mt_arena.specs.NodeView.{NodeView, node_at}
-use Rattle.mt_arena.specs.Nodes.{AreNodes, IsPair}
-use Rattle.mt_arena.specs.Settled.{IsSettled}
-use Rattle.mt_arena.specs.Edits.{unlocked}
-use Rattle.mt_arena.proofs.Pairs.{are_set}
+use Rattle.mt_arena.{specs.{NodeView.{NodeView, node_at}, Nodes.{AreNodes, IsPair}, Settled.IsSettled, Edits.unlocked}, proofs.Pairs.are_set}
 
 -- the first node of a pair
 unlocked_from : (k : ℕ) (n : NodeView) (j : ℕ) (m : NodeView) → IsPair k n j m → IsPair k (unlocked n) j m

@@ -1,20 +1,10 @@
 -- What the calls of an arena need and leave.
 use Rattle.std.specs.Prelude.{◌≡◌, ◌≢◌, ℕ, ◌*◌, ◌<◌, [], ◌∷◌, ◌++◌, length, Some, slice_set}
 use Rattle.mt_rows.specs.Rows.{Bytes, Columns}
-use Rattle.mt_border.specs.Contents.{HasKey}
-use Rattle.mt_border.specs.Entry.{IsEntry, IsStablePair}
-use Rattle.mt_border.specs.Entries.{IsMissing}
-use Rattle.mt_border.specs.declared.entry.Entry.{Entry}
-use Rattle.mt_border.specs.declared.entry.Pair.{Pair}
+use Rattle.mt_border.specs.{Contents.HasKey, Entry.{IsEntry, IsStablePair}, Entries.IsMissing, declared.entry.Entry.Entry, declared.entry.Pair.Pair}
 use Rattle.mt_border.specs.declared.entry.Held.TheVariants.{Stable}
-use Rattle.mt_arena.specs.Layers.{slot_at}
-use Rattle.mt_arena.specs.Ways.{BelongsIn, StandsFor}
-use Rattle.mt_arena.specs.declared.tree.Tree.{Tree}
-use Rattle.mt_arena.specs.declared.tree.Standing.TheVariants.{Made, Live}
-use Rattle.mt_arena.specs.NodeView.{NodeView, node_at}
-use Rattle.mt_arena.specs.Forests.{tree_at, layer_of}
-use Rattle.mt_arena.specs.Edits.{splitting, fresh_half, fresh_root}
-use Rattle.mt_arena.specs.Arena.{ArenaView}
+use Rattle.mt_arena.specs.{Layers.slot_at, Ways.{BelongsIn, StandsFor}, declared.tree.Tree.Tree, declared.tree.Standing.TheVariants.{Made, Live}}
+use Rattle.mt_arena.specs.{NodeView.{NodeView, node_at}, Forests.{tree_at, layer_of}, Edits.{splitting, fresh_half, fresh_root}, Arena.ArenaView}
 
 -- the top tree of a new arena, and what such an arena shows
 abbrev pub top_tree : Tree

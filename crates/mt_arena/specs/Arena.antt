@@ -1,16 +1,8 @@
 -- What an arena shows, and what holds of it after every step.
-use Rattle.std.specs.Prelude.{◌≡◌, ◌≢◌, ℕ, ◌+◌, ◌<◌, ◌≤◌, true, List, [], ◌∷◌, length, if◌then◌else◌, slice_index_or}
-use Rattle.std.specs.List.{All}
+use Rattle.std.specs.{Prelude.{◌≡◌, ◌≢◌, ℕ, ◌+◌, ◌<◌, ◌≤◌, true, List, [], ◌∷◌, length, if◌then◌else◌, slice_index_or}, List.All}
 use Rattle.mt_rows.specs.Tenants.{Contents}
-use Rattle.mt_arena.specs.declared.tree.Tree.{Tree}
-use Rattle.mt_arena.specs.declared.retired.Retired.{Retired}
-use Rattle.mt_arena.specs.NodeView.{NodeView, node_at}
-use Rattle.mt_arena.specs.Nodes.{AreNodes}
-use Rattle.mt_arena.specs.Ranges.{AreRanged}
-use Rattle.mt_arena.specs.Forests.{IsForest}
-use Rattle.mt_arena.specs.Layers.{AreLayered}
-use Rattle.mt_arena.specs.Contents.{content}
-use Rattle.mt_arena.specs.Guarantee.{NodesGuarantee, PointsOnly}
+use Rattle.mt_arena.specs.{declared.tree.Tree.Tree, declared.retired.Retired.Retired, NodeView.{NodeView, node_at}, Nodes.AreNodes, Ranges.AreRanged}
+use Rattle.mt_arena.specs.{Forests.IsForest, Layers.AreLayered, Contents.content, Guarantee.{NodesGuarantee, PointsOnly}}
 
 -- all nodes and all trees by their numbers, and the nodes that were taken out, each with its step
 pub record ArenaView : Type 0 where

@@ -1,7 +1,6 @@
 -- What a root with one child leaves when it is taken out, and what that needs.
 use Rattle.std.specs.Prelude.{◌≡◌, ◌≢◌, ℕ, ◌<◌, true, List, length, None}
-use Rattle.mt_arena.specs.NodeView.{NodeView, node_at}
-use Rattle.mt_arena.specs.Nodes.{HasChild}
+use Rattle.mt_arena.specs.{NodeView.{NodeView, node_at}, Nodes.HasChild}
 
 -- a node that is the root from now on
 abbrev pub crowned : NodeView → NodeView

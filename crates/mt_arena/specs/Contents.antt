@@ -1,15 +1,10 @@
 -- The contents: the pairs of all live slots of all live trees.
-use Rattle.std.specs.Prelude.{ℕ, Bool, true, false, if◌then◌else◌, List, [], filter_map}
-use Rattle.std.specs.List.{flat_map}
-use Rattle.std.specs.FinMap as finite
-use Rattle.mt_rows.specs.Rows.{Bytes, Columns}
-use Rattle.mt_rows.specs.Tenants.{Contents}
+use Rattle.std.specs.{Prelude.{ℕ, Bool, true, false, if◌then◌else◌, List, [], filter_map}, List.flat_map}
+use Rattle.mt_rows.specs.{Rows.{Bytes, Columns}, Tenants.Contents}
 use Rattle.mt_border.specs.Contents.{pair_in}
-use Rattle.mt_arena.specs.declared.tree.Tree.{Tree}
-use Rattle.mt_arena.specs.declared.tree.Standing.{Standing}
-use Rattle.mt_arena.specs.declared.tree.Standing.TheVariants.{Made, Live, Dead}
-use Rattle.mt_arena.specs.NodeView.{NodeView}
+use Rattle.mt_arena.specs.{declared.tree.Tree.Tree, declared.tree.Standing.Standing, declared.tree.Standing.TheVariants.{Made, Live, Dead}, NodeView.NodeView}
 use Rattle.mt_arena.specs.Forests.{tree_at}
+use Rattle.std.specs.FinMap as finite
 
 -- whether a tree's pairs count
 abbrev pub is_live : Standing → Bool

@@ -1,7 +1,6 @@
 -- What single edits make of a node, and what they need of the others.
 use Rattle.std.specs.Prelude.{◌≡◌, ◌≢◌, ℕ, ◌<◌, ◌⊎◌, Bool, true, false, List, length, Option, Some, None}
-use Rattle.mt_version.specs.Parts.{Parts, fresh_parts}
-use Rattle.mt_version.specs.Changes.{unlocked_parts}
+use Rattle.mt_version.specs.{Parts.{Parts, fresh_parts}, Changes.unlocked_parts}
 use Rattle.mt_border.specs.declared.entry.Entry.{Entry}
 use Rattle.mt_arena.specs.NodeView.{NodeView, node_at, no_node}
 

@@ -1,14 +1,9 @@
 -- What holds of trees and their nodes after every step.
-use Rattle.std.specs.Prelude.{◌≡◌, ◌≢◌, ℕ, ◌*◌, ◌/◌, ◌<◌, true, false, List, [], length, None, slice_index_or}
-use Rattle.std.specs.List.{All}
-use Rattle.mt_slices.specs.Slices.{slice_of}
-use Rattle.mt_slices.specs.declared.mark.Mark.TheVariants.{Short}
+use Rattle.std.specs.{Prelude.{◌≡◌, ◌≢◌, ℕ, ◌*◌, ◌/◌, ◌<◌, true, false, List, [], length, None, slice_index_or}, List.All}
+use Rattle.mt_slices.specs.{Slices.slice_of, declared.mark.Mark.TheVariants.Short}
 use Rattle.mt_rows.specs.Rows.{Bytes}
-use Rattle.mt_border.specs.declared.entry.Entry.{Entry}
-use Rattle.mt_border.specs.Contents.{AreKeys, IsOfTree}
-use Rattle.mt_arena.specs.declared.tree.Tree.{Tree}
-use Rattle.mt_arena.specs.declared.tree.Standing.TheVariants.{Live, Dead}
-use Rattle.mt_arena.specs.NodeView.{NodeView, node_at}
+use Rattle.mt_border.specs.{declared.entry.Entry.Entry, Contents.{AreKeys, IsOfTree}}
+use Rattle.mt_arena.specs.{declared.tree.Tree.Tree, declared.tree.Standing.TheVariants.{Live, Dead}, NodeView.{NodeView, node_at}}
 
 -- what a read behind the last tree gives
 abbrev pub no_tree : Tree

@@ -2,10 +2,7 @@
 use Rattle.std.specs.Prelude.{◌≡◌, ◌≢◌, ℕ, ◌<◌, ◌≤◌, false, List, [], length, Some, None}
 use Rattle.mt_version.specs.Changes.{Ages, range_age, insert_age}
 use Rattle.mt_interior.specs.Fences.{end_of}
-use Rattle.mt_arena.specs.declared.tree.Tree.{Tree}
-use Rattle.mt_arena.specs.declared.tree.Standing.TheVariants.{Made, Live, Dead}
-use Rattle.mt_arena.specs.NodeView.{NodeView, node_at}
-use Rattle.mt_arena.specs.Forests.{tree_at}
+use Rattle.mt_arena.specs.{declared.tree.Tree.Tree, declared.tree.Standing.TheVariants.{Made, Live, Dead}, NodeView.{NodeView, node_at}, Forests.tree_at}
 
 -- what a node keeps that another operation holds: all but its neighbour before it and its parent, and some parent where it has one
 pub record IsUntouched (n m : NodeView) : Type 0 where

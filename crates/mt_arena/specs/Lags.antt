@@ -1,9 +1,6 @@
 -- Which nodes name another one as the one before or as their parent, while an operation is at work on it.
-use Rattle.std.specs.Prelude.{◌≡◌, ◌≢◌, ℕ, ◌<◌, true, false, List, length, Option, Some, None}
-use Rattle.std.specs.List.{All}
-use Rattle.mt_arena.specs.NodeView.{NodeView, node_at}
-use Rattle.mt_arena.specs.Nodes.{HasChild}
-use Rattle.mt_arena.specs.NodeFacts.{IsUnstable}
+use Rattle.std.specs.{Prelude.{◌≡◌, ◌≢◌, ℕ, ◌<◌, true, false, List, length, Option, Some, None}, List.All}
+use Rattle.mt_arena.specs.{NodeView.{NodeView, node_at}, Nodes.HasChild, NodeFacts.IsUnstable}
 
 -- a live node names node i as the one before, or as its parent
 abbrev pub Follows : List NodeView → ℕ → ℕ → Type 0

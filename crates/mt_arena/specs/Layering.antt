@@ -1,25 +1,11 @@
 -- What the calls that make a layer need, and what they leave.
-use Rattle.std.specs.Prelude.{◌≡◌, ℕ, ◌<◌, false, List, [], ◌∷◌, ◌++◌, length, Some, None, slice_set}
-use Rattle.std.specs.List.{remove}
-use Rattle.mt_slices.specs.Slices.{slice_of, mark_of, suffix_of, piece_bytes}
-use Rattle.mt_slices.specs.declared.mark.Mark.TheVariants.{Long}
+use Rattle.std.specs.{Prelude.{◌≡◌, ℕ, ◌<◌, false, List, [], ◌∷◌, ◌++◌, length, Some, None, slice_set}, List.remove}
+use Rattle.mt_slices.specs.{Slices.{slice_of, mark_of, suffix_of, piece_bytes}, declared.mark.Mark.TheVariants.Long}
 use Rattle.mt_rows.specs.Rows.{Bytes, Columns}
-use Rattle.mt_border.specs.Contents.{HasKey}
-use Rattle.mt_border.specs.Entry.{IsEntry, IsStablePair}
-use Rattle.mt_border.specs.Entries.{replaced}
-use Rattle.mt_border.specs.declared.entry.Entry.{Entry}
-use Rattle.mt_border.specs.declared.entry.Pair.{Pair}
-use Rattle.mt_border.specs.declared.entry.Held.{Held}
-use Rattle.mt_border.specs.declared.entry.Held.TheVariants.{Stable, Unstable, Link}
-use Rattle.mt_arena.specs.declared.tree.Standing.TheVariants.{Made, Live}
-use Rattle.mt_arena.specs.NodeView.{NodeView, node_at}
-use Rattle.mt_arena.specs.Forests.{HaveKeys, tree_at, layer_of}
-use Rattle.mt_arena.specs.Layers.{slot_at}
-use Rattle.mt_arena.specs.Ways.{IsMadeFor}
-use Rattle.mt_arena.specs.Settled.{IsSettled}
-use Rattle.mt_arena.specs.Edits.{with_slots, fresh_root}
-use Rattle.mt_arena.specs.Arena.{ArenaView}
-use Rattle.mt_arena.specs.Accesses.{at, tree_of, IsHeld, IsFreshPrefix}
+use Rattle.mt_border.specs.{Contents.HasKey, Entry.{IsEntry, IsStablePair}, Entries.replaced, declared.entry.Entry.Entry, declared.entry.Pair.Pair}
+use Rattle.mt_border.specs.{declared.entry.Held.Held, declared.entry.Held.TheVariants.{Stable, Unstable, Link}}
+use Rattle.mt_arena.specs.{declared.tree.Standing.TheVariants.{Made, Live}, NodeView.{NodeView, node_at}, Forests.{HaveKeys, tree_at, layer_of}, Layers.slot_at}
+use Rattle.mt_arena.specs.{Ways.IsMadeFor, Settled.IsSettled, Edits.{with_slots, fresh_root}, Arena.ArenaView, Accesses.{at, tree_of, IsHeld, IsFreshPrefix}}
 
 -- a tree of this prefix may be made of this entry alone: it has a pair of a key that begins so, and no live tree has the prefix
 pub record MayMakeLayer (v : ArenaView) (prefix : Bytes) (e : Entry) : Type 0 where

@@ -1,13 +1,8 @@
 -- What holds of links and the trees to which they lead, after every step.
 use Rattle.std.specs.Prelude.{◌≡◌, ◌≢◌, ℕ, ◌<◌, ◌++◌, false, List, [], length, slice_index_or}
-use Rattle.mt_slices.specs.Slices.{piece_bytes}
-use Rattle.mt_slices.specs.declared.mark.Mark.TheVariants.{Long}
-use Rattle.mt_border.specs.declared.entry.Entry.{Entry}
-use Rattle.mt_border.specs.declared.entry.Held.TheVariants.{Link}
-use Rattle.mt_arena.specs.declared.tree.Tree.{Tree}
-use Rattle.mt_arena.specs.declared.tree.Standing.TheVariants.{Live}
-use Rattle.mt_arena.specs.NodeView.{NodeView, node_at}
-use Rattle.mt_arena.specs.Forests.{tree_at}
+use Rattle.mt_slices.specs.{Slices.piece_bytes, declared.mark.Mark.TheVariants.Long}
+use Rattle.mt_border.specs.{declared.entry.Entry.Entry, declared.entry.Held.TheVariants.Link}
+use Rattle.mt_arena.specs.{declared.tree.Tree.Tree, declared.tree.Standing.TheVariants.Live, NodeView.{NodeView, node_at}, Forests.tree_at}
 
 -- the entry of a slot
 abbrev pub slot_at : NodeView → ℕ → Entry

@@ -1,13 +1,9 @@
 -- What holds of one node after every step, grouped by what the facts read: a change passes the groups whole whose fields it leaves alone.
-use Rattle.std.specs.Prelude.{◌≡◌, ◌≢◌, ℕ, ◌<◌, ◌≤◌, Bool, true, false, List, [], length, Option, Some, None, is_some, slice_index}
-use Rattle.std.specs.List.{All}
-use Rattle.mt_border.specs.declared.entry.Entry.{Entry}
-use Rattle.mt_border.specs.declared.entry.Held.{Held}
-use Rattle.mt_border.specs.declared.entry.Held.TheVariants.{Stable, Unstable, Link}
-use Rattle.mt_lists.specs.Rising.{IsRising}
+use Rattle.std.specs.{Prelude.{◌≡◌, ◌≢◌, ℕ, ◌<◌, ◌≤◌, Bool, true, false, List, [], length, Option, Some, None, is_some, slice_index}, List.All}
+use Rattle.mt_border.specs.{declared.entry.Entry.Entry, declared.entry.Held.Held, declared.entry.Held.TheVariants.{Stable, Unstable, Link}}
 use Rattle.mt_border.specs.Entries.{IsBorder, slices}
-use Rattle.mt_interior.specs.Node.{IsInterior}
-use Rattle.mt_interior.specs.Fences.{end_of, bounds_of}
+use Rattle.mt_lists.specs.Rising.{IsRising}
+use Rattle.mt_interior.specs.{Node.IsInterior, Fences.{end_of, bounds_of}}
 
 -- a pair that is on its way to a tree of its own
 abbrev pub IsUnstable : Held → Type 0

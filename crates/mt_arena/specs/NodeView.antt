@@ -1,11 +1,9 @@
 -- A node as the arena's facts see it: one record for both kinds.
 use Rattle.std.specs.Prelude.{◌≡◌, ℕ, ◌<◌, true, false, List, [], Option, None, slice_index_or}
 use Rattle.mt_version.specs.Parts.{Parts, fresh_parts}
-use Rattle.mt_border.specs.declared.entry.Entry.{Entry}
-use Rattle.mt_border.specs.Node.{Node as BorderNode}
+use Rattle.mt_border.specs.{declared.entry.Entry.Entry, Node.{Node as BorderNode}}
 use Rattle.mt_interior.specs.Node.{InteriorNode}
-use Rattle.mt_arena.specs.declared.node.NodeKind.{NodeKind}
-use Rattle.mt_arena.specs.declared.node.NodeKind.TheVariants.{Leaf, Inner}
+use Rattle.mt_arena.specs.{declared.node.NodeKind.NodeKind, declared.node.NodeKind.TheVariants.{Leaf, Inner}}
 
 -- The low fence is the least slice of its range, and the high one the least behind it. Its reach is the end of the range that its
 -- parent gives it: the high fence, but for a node whose right half is in no parent yet. Border nodes have level 0. A border node has

@@ -2,8 +2,7 @@
 -- the lock of what the lagging field names.
 use Rattle.std.specs.Prelude.{◌≡◌, ◌≢◌, ℕ, ◌+◌, ◌<◌, ◌≤◌, Bool, true, false, List, length, Option, Some, None, slice_index}
 use Rattle.mt_interior.specs.Fences.{end_of, bounds_of}
-use Rattle.mt_arena.specs.NodeView.{NodeView, node_at}
-use Rattle.mt_arena.specs.NodeFacts.{AreThere, IsGuarded, TellsKind, FitsSlots, FitsChildren, FitsReach, FitsChain}
+use Rattle.mt_arena.specs.{NodeView.{NodeView, node_at}, NodeFacts.{AreThere, IsGuarded, TellsKind, FitsSlots, FitsChildren, FitsReach, FitsChain}}
 
 -- the slice lies within the node's fences
 abbrev pub Holds : NodeView → ℕ → Type 0

@@ -1,8 +1,7 @@
 -- Which nodes have a range, and what ties a right half that waits for its range to its left half.
 use Rattle.std.specs.Prelude.{◌≡◌, ◌≢◌, ℕ, ◌<◌, ◌≤◌, true, false, List, Some, None}
 use Rattle.mt_interior.specs.Fences.{end_of}
-use Rattle.mt_arena.specs.NodeView.{NodeView}
-use Rattle.mt_arena.specs.Nodes.{AllNodes, AllPairs, HasRange}
+use Rattle.mt_arena.specs.{NodeView.NodeView, Nodes.{AllNodes, AllPairs, HasRange}}
 
 -- a live node that has no range yet
 abbrev pub Waits : NodeView → Type 0

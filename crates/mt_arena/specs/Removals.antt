@@ -1,17 +1,9 @@
 -- What the calls that take out nodes and trees need, and what they leave.
 use Rattle.std.specs.Prelude.{◌≡◌, ℕ, ◌-◌, ◌<◌, false, List, [], ◌∷◌, ◌++◌, length, Some, slice_set, slice_index}
-use Rattle.mt_border.specs.Entries.{without}
-use Rattle.mt_border.specs.declared.entry.Held.TheVariants.{Link}
+use Rattle.mt_border.specs.{Entries.without, declared.entry.Held.TheVariants.Link}
 use Rattle.mt_interior.specs.Places.{place_of}
-use Rattle.mt_arena.specs.declared.tree.Standing.TheVariants.{Dead}
-use Rattle.mt_arena.specs.declared.retired.Retired.{Retired}
-use Rattle.mt_arena.specs.NodeView.{NodeView, node_at}
-use Rattle.mt_arena.specs.Forests.{tree_at}
-use Rattle.mt_arena.specs.Layers.{slot_at}
-use Rattle.mt_arena.specs.Edits.{inserting, retired, with_slots}
-use Rattle.mt_arena.specs.Unlinks.{joined, without_child}
-use Rattle.mt_arena.specs.Collapses.{crowned}
-use Rattle.mt_arena.specs.Arena.{ArenaView}
+use Rattle.mt_arena.specs.{declared.tree.Standing.TheVariants.Dead, declared.retired.Retired.Retired, NodeView.{NodeView, node_at}, Forests.tree_at}
+use Rattle.mt_arena.specs.{Layers.slot_at, Edits.{inserting, retired, with_slots}, Unlinks.{joined, without_child}, Collapses.crowned, Arena.ArenaView}
 use Rattle.mt_arena.specs.Accesses.{at, tree_of, IsHeld, IsOpen}
 
 -- the list of the retired with one more node, which the step of this number took out

@@ -2,8 +2,7 @@
 use Rattle.std.specs.Prelude.{ℕ, List, map}
 use Rattle.mt_version.specs.Parts.{uncounted}
 use Rattle.mt_border.specs.Restamps.{all_restamped}
-use Rattle.mt_arena.specs.NodeView.{NodeView}
-use Rattle.mt_arena.specs.Arena.{ArenaView}
+use Rattle.mt_arena.specs.{NodeView.NodeView, Arena.ArenaView}
 
 -- a node whose version counts no change, and all whose pairs were placed by the step of this number
 abbrev pub renumbered : ℕ → NodeView → NodeView

@@ -1,9 +1,6 @@
 -- How high the trees of the upper layers are, one above the other.
 use Rattle.std.specs.Prelude.{ℕ, zero, suc, ◌+◌, if◌then◌else◌, nat_lt, List, length}
-use Rattle.mt_arena.specs.declared.tree.Tree.{Tree}
-use Rattle.mt_arena.specs.NodeView.{NodeView, node_at}
-use Rattle.mt_arena.specs.Contents.{is_live}
-use Rattle.mt_arena.specs.Forests.{layer_of, tree_at}
+use Rattle.mt_arena.specs.{declared.tree.Tree.Tree, NodeView.{NodeView, node_at}, Contents.is_live, Forests.{layer_of, tree_at}}
 
 -- the levels of a tree
 abbrev pub levels_of : List NodeView → Tree → ℕ

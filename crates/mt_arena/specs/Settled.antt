@@ -1,9 +1,6 @@
 -- What the operation that holds a node has to know before it gives the lock back: nothing lags behind the node any more.
-use Rattle.std.specs.Prelude.{◌≡◌, ℕ, ◌<◌, true, false, List, length, Some, None}
-use Rattle.std.specs.List.{All}
-use Rattle.mt_arena.specs.NodeView.{NodeView, node_at}
-use Rattle.mt_arena.specs.Nodes.{HasChild}
-use Rattle.mt_arena.specs.NodeFacts.{IsUnstable}
+use Rattle.std.specs.{Prelude.{◌≡◌, ℕ, ◌<◌, true, false, List, length, Some, None}, List.All}
+use Rattle.mt_arena.specs.{NodeView.{NodeView, node_at}, Nodes.HasChild, NodeFacts.IsUnstable}
 
 pub record IsSettled (nodes : List NodeView) (i : ℕ) (x : NodeView) : Type 0 where
   -- a live node that names it as the one before is the next one, and one that names it as its parent is its child

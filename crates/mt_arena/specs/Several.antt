@@ -1,21 +1,12 @@
 -- What the calls that change several nodes at once need, and what they leave.
 use Rattle.std.specs.Prelude.{◌≡◌, ◌≢◌, ℕ, ◌<◌, true, false, List, [], ◌∷◌, ◌++◌, length, Some, None, slice_set}
-use Rattle.mt_slices.specs.declared.mark.Mark.{Mark}
-use Rattle.mt_slices.specs.Marks.{IsMark}
+use Rattle.mt_slices.specs.{declared.mark.Mark.Mark, Marks.IsMark}
 use Rattle.mt_rows.specs.Rows.{Bytes}
-use Rattle.mt_border.specs.Contents.{HasKey}
-use Rattle.mt_border.specs.Entry.{IsEntry, IsStablePair}
-use Rattle.mt_border.specs.Entries.{IsMissing}
-use Rattle.mt_border.specs.Split.{IsParted, IsSeparator, slices_with}
+use Rattle.mt_border.specs.{Contents.HasKey, Entry.{IsEntry, IsStablePair}, Entries.IsMissing, Split.{IsParted, IsSeparator, slices_with}}
 use Rattle.mt_border.specs.declared.entry.Entry.{Entry}
-use Rattle.mt_arena.specs.NodeView.{NodeView, node_at}
-use Rattle.mt_arena.specs.Ways.{BelongsIn}
-use Rattle.mt_arena.specs.Forests.{layer_of}
-use Rattle.mt_arena.specs.Splits.{Inserts, left_half, right_half, with_child, exact, inner_left, inner_right}
-use Rattle.mt_arena.specs.Edits.{inserting, splitting}
-use Rattle.mt_arena.specs.Growth.{AreRootHalves, fresh_top, left_below, right_below}
-use Rattle.mt_arena.specs.Arena.{ArenaView}
-use Rattle.mt_arena.specs.Accesses.{at, tree_of, IsHeld, IsOpen}
+use Rattle.mt_arena.specs.{NodeView.{NodeView, node_at}, Ways.BelongsIn, Forests.layer_of}
+use Rattle.mt_arena.specs.{Splits.{Inserts, left_half, right_half, with_child, exact, inner_left, inner_right}, Edits.{inserting, splitting}}
+use Rattle.mt_arena.specs.{Growth.{AreRootHalves, fresh_top, left_below, right_below}, Arena.ArenaView, Accesses.{at, tree_of, IsHeld, IsOpen}}
 
 -- the operation splits the left node: it holds both, both are marked, and the right one has neither range nor keys nor children yet
 pub record IsHalf (v : ArenaView) (left right op : ℕ) : Type 0 where

@@ -1,13 +1,8 @@
 -- What a split makes of two nodes and of their parent, and what it needs.
 use Rattle.std.specs.Prelude.{take, drop, ◌≡◌, ◌≢◌, ℕ, ◌+◌, ◌<◌, true, false, List, length, insert, Option, Some, None, slice_index}
-use Rattle.mt_border.specs.declared.entry.Entry.{Entry}
-use Rattle.mt_border.specs.Entries.{IsBorder, with_entry}
-use Rattle.mt_interior.specs.Places.{place_of}
-use Rattle.mt_interior.specs.Fences.{end_of}
-use Rattle.mt_arena.specs.NodeView.{NodeView, node_at}
-use Rattle.mt_arena.specs.Nodes.{HasChild}
-use Rattle.mt_arena.specs.NodeFacts.{AreWithin}
-use Rattle.mt_arena.specs.Edits.{bare}
+use Rattle.mt_border.specs.{declared.entry.Entry.Entry, Entries.{IsBorder, with_entry}}
+use Rattle.mt_interior.specs.{Places.place_of, Fences.end_of}
+use Rattle.mt_arena.specs.{NodeView.{NodeView, node_at}, Nodes.HasChild, NodeFacts.AreWithin, Edits.bare}
 
 -- the entries with one more, where there is one
 abbrev pub with_some : List Entry → Option Entry → List Entry

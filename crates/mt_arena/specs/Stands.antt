@@ -1,8 +1,7 @@
 -- Where a key may stand, and where it stands.
 use Rattle.std.specs.Prelude.{◌≡◌, ℕ, ◌<◌, false, List, length}
 use Rattle.mt_slices.specs.declared.mark.Mark.{Mark}
-use Rattle.mt_arena.specs.NodeView.{NodeView, node_at}
-use Rattle.mt_arena.specs.Layers.{slot_at}
+use Rattle.mt_arena.specs.{NodeView.{NodeView, node_at}, Layers.slot_at}
 
 -- node k is a live border node of the tree
 pub record IsLiveBorder (nodes : List NodeView) (tree k : ℕ) : Type 0 where

@@ -1,21 +1,11 @@
 -- The way of a key down the layers, and the slots that stand for it.
-use Rattle.std.specs.Prelude.{◌≡◌, ◌≢◌, ℕ, ◌+◌, ◌*◌, ◌<◌, false, List, [], ◌∷◌, length, take, Some, None}
-use Rattle.std.specs.List.{All}
-use Rattle.mt_slices.specs.Slices.{slice_of}
-use Rattle.mt_slices.specs.declared.mark.Mark.TheVariants.{Short, Long}
+use Rattle.std.specs.{Prelude.{◌≡◌, ◌≢◌, ℕ, ◌+◌, ◌*◌, ◌<◌, false, List, [], ◌∷◌, length, take, Some, None}, List.All}
+use Rattle.mt_slices.specs.{Slices.slice_of, declared.mark.Mark.TheVariants.{Short, Long}}
 use Rattle.mt_rows.specs.Rows.{Bytes, Columns}
-use Rattle.mt_border.specs.declared.entry.Pair.{Pair}
-use Rattle.mt_border.specs.declared.entry.Entry.{Entry}
-use Rattle.mt_border.specs.declared.entry.Held.TheVariants.{Link}
-use Rattle.mt_border.specs.Entry.{pair_of}
+use Rattle.mt_border.specs.{declared.entry.Pair.Pair, declared.entry.Entry.Entry, declared.entry.Held.TheVariants.Link, Entry.pair_of}
 use Rattle.mt_border.specs.Contents.{HasKey, IsOfTree}
-use Rattle.mt_arena.specs.declared.tree.Tree.{Tree}
-use Rattle.mt_arena.specs.declared.tree.Standing.TheVariants.{Made, Live, Dead}
-use Rattle.mt_arena.specs.NodeView.{NodeView, node_at}
-use Rattle.mt_arena.specs.Nodes.{Holds}
-use Rattle.mt_arena.specs.Forests.{tree_at}
-use Rattle.mt_arena.specs.Layers.{slot_at}
-use Rattle.mt_arena.specs.Stands.{IsLiveBorder, StandsAt}
+use Rattle.mt_arena.specs.{declared.tree.Tree.Tree, declared.tree.Standing.TheVariants.{Made, Live, Dead}, NodeView.{NodeView, node_at}, Nodes.Holds}
+use Rattle.mt_arena.specs.{Forests.tree_at, Layers.slot_at, Stands.{IsLiveBorder, StandsAt}}
 
 -- each slot's key has a byte in its layer
 abbrev pub AreBegun : List NodeView → Type 0

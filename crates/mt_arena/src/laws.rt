@@ -4,38 +4,19 @@
 ghost use Rattle.std.specs.Prelude.{◌≡◌, ◌≢◌, ℕ, ◌+◌, ◌*◌, ◌<◌, ◌≤◌, ◌⊎◌, true, false, List, [], ◌∷◌, ◌++◌, length, take, slice_index, slice_set, Option, Some, None};
 ghost use Rattle.std.specs.List.{remove};
 ghost use Rattle.std.specs.FinMap as pairs;
-ghost use Rattle.mt_slices.specs.Keys.{IsStoredKey};
-ghost use Rattle.mt_slices.specs.Slices.{slice_of, mark_of, suffix_of, piece_bytes};
-ghost use Rattle.mt_slices.specs.declared.mark.Mark.TheVariants.{Long};
+ghost use Rattle.mt_slices.specs.{Keys.IsStoredKey, Slices.{slice_of, mark_of, suffix_of, piece_bytes}, declared.mark.Mark.TheVariants.Long};
 ghost use Rattle.mt_slices.specs.declared.mark.Mark.{Mark};
 ghost use Rattle.mt_rows.specs.Rows.{Bytes, Columns};
-ghost use Rattle.mt_border.specs.declared.entry.Pair.{Pair};
-ghost use Rattle.mt_border.specs.declared.entry.Entry.{Entry};
-ghost use Rattle.mt_border.specs.declared.entry.Held.{Held};
-ghost use Rattle.mt_border.specs.declared.entry.Held.TheVariants.{Stable, Link};
-ghost use Rattle.mt_border.specs.Entry.{pair_of};
-ghost use Rattle.mt_border.specs.Entries.{IsMissing, with_entry};
-ghost use Rattle.mt_border.specs.Split.{IsParted};
+ghost use Rattle.mt_border.specs.{declared.entry.Pair.Pair, declared.entry.Entry.Entry, declared.entry.Held.Held};
+ghost use Rattle.mt_border.specs.{declared.entry.Held.TheVariants.{Stable, Link}, Entry.pair_of, Entries.{IsMissing, with_entry}, Split.IsParted};
 ghost use Rattle.mt_border.specs.Contents.{owned, HasKey};
-ghost use Rattle.mt_arena.specs.declared.tree.Tree.{Tree};
-ghost use Rattle.mt_arena.specs.declared.tree.Standing.TheVariants.{Dead, Live};
-ghost use Rattle.mt_arena.specs.NodeView.{NodeView, node_at};
-ghost use Rattle.mt_arena.specs.Nodes.{Holds, HasRange};
-ghost use Rattle.mt_arena.specs.Forests.{HasSlice, tree_at, layer_of};
-ghost use Rattle.mt_arena.specs.RootLevels.{levels_above, levels_of};
-ghost use Rattle.mt_arena.specs.Layers.{slot_at};
-ghost use Rattle.mt_arena.specs.Contents.{content};
-ghost use Rattle.mt_arena.specs.Arena.{IsArena, ArenaView, Guarantee, live_count};
-ghost use Rattle.mt_arena.specs.Guarantee.{NodesGuarantee, PointsOnly};
+ghost use Rattle.mt_arena.specs.{declared.tree.Tree.Tree, declared.tree.Standing.TheVariants.{Dead, Live}, NodeView.{NodeView, node_at}};
+ghost use Rattle.mt_arena.specs.{Nodes.{Holds, HasRange}, Forests.{HasSlice, tree_at, layer_of}, RootLevels.{levels_above, levels_of}, Layers.slot_at};
+ghost use Rattle.mt_arena.specs.{Contents.content, Arena.{IsArena, ArenaView, Guarantee, live_count}, Guarantee.{NodesGuarantee, PointsOnly}};
 ghost use Rattle.mt_arena.specs.Layering.{MayMakeLayer, MayUnsettle, IsHeldSlot, HasKeyAt, IsLayerOf, IsSettledBut, entry_of, prefix_below, with_layer, with_slot, with_link};
-ghost use Rattle.mt_arena.specs.Settled.{IsSettled};
-ghost use Rattle.mt_arena.specs.Lags.{IsFollowedBy};
-ghost use Rattle.mt_arena.specs.Edits.{pointed, locked};
-ghost use Rattle.mt_arena.specs.Accesses.{at, tree_of, with_node};
-ghost use Rattle.mt_arena.specs.Removals.{IsOnlyLiveNode};
+ghost use Rattle.mt_arena.specs.{Settled.IsSettled, Lags.IsFollowedBy, Edits.{pointed, locked}, Accesses.{at, tree_of, with_node}, Removals.IsOnlyLiveNode};
+ghost use Rattle.mt_arena.specs.{Stands.{IsLiveBorder, StandsAt}, Ways.{LinksOn, BelongsIn, StandsFor, GoesOn, HasSlots, IsUnfilled, IsMadeFor, IsFreeRoot}};
 ghost use Rattle.mt_interior.specs.Places.{place_of};
-ghost use Rattle.mt_arena.specs.Stands.{IsLiveBorder, StandsAt};
-ghost use Rattle.mt_arena.specs.Ways.{LinksOn, BelongsIn, StandsFor, GoesOn, HasSlots, IsUnfilled, IsMadeFor, IsFreeRoot};
 
 /// In a tree a slice and a mark stand in one slot of one live border node, and all slots of one
 /// slice stand in one node: the one that has the slice in its range.

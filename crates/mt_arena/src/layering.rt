@@ -7,12 +7,9 @@
 ghost use Rattle.std.specs.Prelude.{◌≡◌, ◌<◌, ℕ, length, Some, None, IfOk, OnOk, OnErr};
 ghost use Rattle.mt_rows.specs.Rows.{Bytes};
 ghost use Rattle.mt_slices.specs.declared.mark.Mark.TheVariants.{Long};
-ghost use Rattle.mt_border.specs.Entry.{IsEntry, IsStablePair, IsUnlinked, IsLinked};
-ghost use Rattle.mt_border.specs.declared.entry.Pair.{Pair};
+ghost use Rattle.mt_border.specs.{Entry.{IsEntry, IsStablePair, IsUnlinked, IsLinked}, declared.entry.Pair.Pair};
 ghost use Rattle.mt_border.specs.declared.entry.Held.TheVariants.{Stable, Unstable, Link};
-ghost use Rattle.mt_arena.specs.Layers.{slot_at};
-ghost use Rattle.mt_arena.specs.Arena.{content_of, Guarantee};
-ghost use Rattle.mt_arena.specs.Accesses.{at};
+ghost use Rattle.mt_arena.specs.{Layers.slot_at, Arena.{content_of, Guarantee}, Accesses.at};
 ghost use Rattle.mt_arena.specs.Layering.{MayMakeLayer, root_of, with_layer, MayUnsettle, MayLink, MayGoLive, with_held, with_slot, with_link};
 
 use crate::arena::{Arena, make_room};

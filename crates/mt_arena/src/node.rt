@@ -6,8 +6,7 @@
 
 ghost use Rattle.std.specs.Prelude.{◌≡◌, ◌≢◌, ◌<◌, ℕ, [], IfSome, IsSome, IfNone, Some, None, length, true, false, ◌↔◌};
 ghost use Rattle.mt_version.specs.Parts.{fresh_parts};
-ghost use Rattle.mt_interior.specs.Node.{childless};
-ghost use Rattle.mt_interior.specs.Places.{IsNew};
+ghost use Rattle.mt_interior.specs.{Node.childless, Places.IsNew};
 ghost use Rattle.mt_interior.specs.Changes as inner;
 
 use mt_border::{Border, Entry};
@@ -48,19 +47,13 @@ impl Model for Node {
 
 impl Node {
     ghost use Rattle.mt_version.specs.Changes.{CanUnlock};
-    ghost use Rattle.mt_border.specs.Entry.{IsEntry, IsStablePair};
-    ghost use Rattle.mt_border.specs.Entries.{IsMissing, with_entry, without, replaced};
-    ghost use Rattle.mt_border.specs.declared.border.TheConstants.{SLOTS};
-    ghost use Rattle.mt_border.specs.declared.entry.Pair.{Pair};
-    ghost use Rattle.mt_border.specs.declared.entry.Held.TheVariants.{Stable};
-    ghost use Rattle.mt_arena.specs.NodeView.{NodeView, border_view, interior_view, IsOfKind};
-    ghost use Rattle.mt_arena.specs.Layers.{slot_at};
+    ghost use Rattle.mt_border.specs.{Entry.{IsEntry, IsStablePair}, Entries.{IsMissing, with_entry, without, replaced}, declared.border.TheConstants.SLOTS};
+    ghost use Rattle.mt_border.specs.{declared.entry.Pair.Pair, declared.entry.Held.TheVariants.Stable, Split.{IsParted, IsSeparator, slices_with}};
+    ghost use Rattle.mt_arena.specs.{NodeView.{NodeView, border_view, interior_view, IsOfKind}, Layers.slot_at};
     ghost use Rattle.mt_arena.specs.Edits.{locked, unlocked, inserting, splitting, retired, with_slots, pointed, fresh_half, fresh_root};
-    ghost use Rattle.mt_slices.specs.Marks.{IsMark};
-    ghost use Rattle.mt_border.specs.Split.{IsParted, IsSeparator, slices_with};
     ghost use Rattle.mt_arena.specs.Splits.{with_some, left_half, right_half, with_child, exact, inner_left, inner_right};
-    ghost use Rattle.mt_arena.specs.Growth.{fresh_top, below_top, left_below};
-    ghost use Rattle.mt_arena.specs.Renumbers.{renumbered};
+    ghost use Rattle.mt_arena.specs.{Growth.{fresh_top, below_top, left_below}, Renumbers.renumbered};
+    ghost use Rattle.mt_slices.specs.Marks.{IsMark};
 
     /// The first node of a tree.
     pub(crate) fn root(alloc: Global, tree: usize) -> Self

@@ -5,20 +5,10 @@
 //! of each node among the retired from the moment it is made.
 
 ghost use Rattle.std.specs.Prelude.{◌≡◌, ◌≢◌, ◌<◌, ℕ, length, slice_set, None};
-ghost use Rattle.mt_border.specs.Entry.{IsLink};
-ghost use Rattle.mt_border.specs.declared.entry.Held.TheVariants.{Link};
-ghost use Rattle.mt_interior.specs.Places.{place_of};
-ghost use Rattle.mt_interior.specs.Fences.{end_of};
-ghost use Rattle.mt_arena.specs.NodeView.{node_at};
-ghost use Rattle.mt_arena.specs.Layers.{slot_at};
-ghost use Rattle.mt_arena.specs.Edits.{inserting, with_slots};
-ghost use Rattle.mt_arena.specs.Unlinks.{without_child};
-ghost use Rattle.mt_arena.specs.Collapses.{crowned};
-ghost use Rattle.mt_arena.specs.Arena.{content_of, Guarantee};
-ghost use Rattle.mt_arena.specs.Forests.{tree_at};
-ghost use Rattle.mt_arena.specs.Settled.{IsSettled};
-ghost use Rattle.mt_arena.specs.Lags.{IsFollowedBy};
-ghost use Rattle.mt_arena.specs.Accesses.{at};
+ghost use Rattle.mt_border.specs.{Entry.IsLink, declared.entry.Held.TheVariants.Link};
+ghost use Rattle.mt_interior.specs.{Places.place_of, Fences.end_of};
+ghost use Rattle.mt_arena.specs.{NodeView.node_at, Layers.slot_at, Edits.{inserting, with_slots}, Unlinks.without_child, Collapses.crowned};
+ghost use Rattle.mt_arena.specs.{Arena.{content_of, Guarantee}, Forests.tree_at, Settled.IsSettled, Lags.IsFollowedBy, Accesses.at};
 ghost use Rattle.mt_arena.specs.Removals.{MayUnlink, nodes_without, without_node, MayCollapse, nodes_under, without_root, MayDropLayer, nodes_above, without_layer};
 
 use crate::arena::Arena;

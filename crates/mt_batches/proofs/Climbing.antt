@@ -1,10 +1,7 @@
 -- Stamps that rise strictly over a number lie as far over it as there are records.
 use Rattle.std.proofs.Common.{◌≡◌, ℕ, zero, suc, ◌+◌, ◌<◌, ◌≤◌, List, [], ◌∷◌, map, length, subst, arith}
-use Rattle.std.specs.Prelude.{slice_index}
-use Rattle.std.specs.List.{All}
-use Rattle.std.specs.List.Sorted.{IsStrictlyIncreasing}
-use Rattle.mt_rows.specs.declared.record.Record.{Record}
-use Rattle.mt_rows.specs.declared.record.Batch.{Batch}
+use Rattle.std.specs.{Prelude.slice_index, List.All, List.Sorted.IsStrictlyIncreasing}
+use Rattle.mt_rows.specs.{declared.record.Record.Record, declared.record.Batch.Batch}
 use Rattle.mt_batches.specs.Batches.{IsInOrder}
 
 -- what is left of stamps that rise, rises

@@ -1,11 +1,6 @@
 -- What a worker's batch is before its length is asked for: its steps, its stamps, and the limits of its records.
-use Rattle.std.specs.Prelude.{◌≡◌, ◌⊎◌, ℕ, ◌<◌, ◌≤◌, ◌^◌, List, length, Option, Some, None}
-use Rattle.std.specs.List.{All}
-use Rattle.mt_rows.specs.Rows.{Columns, IsRow}
-use Rattle.mt_rows.specs.Commands.{IsKey}
-use Rattle.mt_rows.specs.Limits.{AreRecords}
-use Rattle.mt_rows.specs.declared.record.Record.{Record}
-use Rattle.mt_rows.specs.declared.record.Batch.{Batch}
+use Rattle.std.specs.{Prelude.{◌≡◌, ◌⊎◌, ℕ, ◌<◌, ◌≤◌, ◌^◌, List, length, Option, Some, None}, List.All}
+use Rattle.mt_rows.specs.{Rows.{Columns, IsRow}, Commands.IsKey, Limits.AreRecords, declared.record.Record.Record, declared.record.Batch.Batch}
 
 -- a row within its limits, or none
 abbrev pub IsRowOrNone : Option Columns → Type 0

@@ -1,8 +1,6 @@
 -- What calls of the state leave of the number of answers: for the book's calls.
 use Rattle.std.proofs.Common.{◌≡◌, ℕ, ap}
-use Rattle.mt_state.specs.declared.moves.Move.{Move}
-use Rattle.mt_state.specs.declared.moves.Move.TheVariants.{Moved, Again, NoMemory, Done, Spent, NoSuch}
-use Rattle.mt_state.specs.Views.{StateView}
+use Rattle.mt_state.specs.{declared.moves.Move.Move, declared.moves.Move.TheVariants.{Moved, Again, NoMemory, Done, Spent, NoSuch}, Views.StateView}
 use Rattle.mt_state.specs.Promises.{Tells}
 
 -- a step takes no answer

@@ -1,13 +1,10 @@
 -- Chains of periods, put together: for calls.
-use Rattle.std.proofs.Common.{ℕ, true, false, List, [], ◌∷◌, ◌++◌, Some, Ok, Err, refl, subst}
-use Rattle.std.specs.List.{AllByRecursion}
+use Rattle.std.{proofs.Common.{ℕ, true, false, List, [], ◌∷◌, ◌++◌, Some, Ok, Err, refl, subst}, specs.List.AllByRecursion}
 use Rattle.mt_runs.specs.declared.event.Answer.{Answer}
 use Rattle.mt_operation.specs.declared.phase.Phase.{Phase}
-use Rattle.mt_core.specs.declared.answers.Ticket.{Ticket}
-use Rattle.mt_core.specs.Admitted.{OpeningView}
+use Rattle.mt_core.specs.{declared.answers.Ticket.Ticket, Admitted.OpeningView}
+use Rattle.mt_book.specs.{Periods.{Period, Chain}, Calls.{Asked, IsOpeningOf, IsTurnBy, AreTurns, Opens, Ends, IsTaken, Calls, Led}}
 use Rattle.mt_book.specs.declared.calls.CallFault.TheVariants as faults
-use Rattle.mt_book.specs.Periods.{Period, Chain}
-use Rattle.mt_book.specs.Calls.{Asked, IsOpeningOf, IsTurnBy, AreTurns, Opens, Ends, IsTaken, Calls, Led}
 
 module _ {S : Type 0} (does : S → Period → S → Type 0) where
   -- two chains in a row are one

@@ -1,15 +1,8 @@
 -- That a step after which its operation is to be stepped again shows what the next one does, for a desk's `step`.
 use Rattle.std.proofs.Common.{◌≡◌, ℕ, IsSome, false, Option, Some, refl, sym, subst}
-use Rattle.mt_operation.specs.declared.phase.Phase.{Phase}
-use Rattle.mt_operation.specs.declared.phase.Phase.TheVariants.{Done}
-use Rattle.mt_operation.specs.Operations.{OperationView}
-use Rattle.mt_operation.specs.Phases.{is_done, IsToGrow}
-use Rattle.mt_state.specs.declared.moves.Move.{Move}
-use Rattle.mt_state.specs.declared.moves.Move.TheVariants.{Moved, Again, NoMemory}
-use Rattle.mt_state.specs.Views.{StateView, Shown, op_at}
-use Rattle.mt_state.specs.Promises.{Tells}
-use Rattle.mt_core.specs.Shows.{next_phase, phase_at, phase_in}
-use Rattle.mt_core.proofs.AloneRuns.{stepped}
+use Rattle.mt_operation.specs.{declared.phase.Phase.Phase, declared.phase.Phase.TheVariants.Done, Operations.OperationView, Phases.{is_done, IsToGrow}}
+use Rattle.mt_state.specs.{declared.moves.Move.Move, declared.moves.Move.TheVariants.{Moved, Again, NoMemory}, Views.{StateView, Shown, op_at}, Promises.Tells}
+use Rattle.mt_core.{specs.Shows.{next_phase, phase_at, phase_in}, proofs.AloneRuns.stepped}
 use Rattle.mt_book.specs.Periods.{ShowsNext}
 
 -- an operation with a step left has a next phase

@@ -1,24 +1,17 @@
 -- What one period more makes of a call: for the loops of `start`, `stepped` and `answered`.
-use Rattle.std.proofs.Common.{◌≡◌, ◌≤◌, ℕ, Bool, Option, Some, None, IsSome, unwrap_or, Ok, Err, refl, sym, ap, subst}
-use Rattle.std.specs.List.{AllByRecursion}
+use Rattle.std.{proofs.Common.{◌≡◌, ◌≤◌, ℕ, Bool, Option, Some, None, IsSome, unwrap_or, Ok, Err, refl, sym, ap, subst}, specs.List.AllByRecursion}
 use Rattle.mt_rows.specs.declared.refusal.Refusal.{Refusal}
 use Rattle.mt_runs.specs.declared.event.Answer.{Answer}
 use Rattle.mt_operation.specs.declared.phase.Phase.{Phase}
-use Rattle.mt_state.specs.declared.moves.Move.{Move}
-use Rattle.mt_state.specs.declared.moves.Move.TheVariants.{Moved, Again, NoMemory}
-use Rattle.mt_core.specs.declared.answers.Ticket.{Ticket}
-use Rattle.mt_core.specs.Admitted.{OpeningView}
-use Rattle.mt_book.specs.declared.desks.Admission.{Admission}
-use Rattle.mt_book.specs.declared.desks.Admitted.{Admitted}
-use Rattle.mt_book.specs.declared.desks.Admitted.TheVariants as admitted
-use Rattle.mt_book.specs.declared.desks.Stepping.{Stepping}
-use Rattle.mt_book.specs.declared.desks.Taking.{Taking}
-use Rattle.mt_book.specs.declared.desks.Taken.{Taken}
-use Rattle.mt_book.specs.declared.desks.Taken.TheVariants as taken
-use Rattle.mt_book.specs.declared.gates.Turned.{Turned}
+use Rattle.mt_state.specs.{declared.moves.Move.Move, declared.moves.Move.TheVariants.{Moved, Again, NoMemory}}
+use Rattle.mt_core.specs.{declared.answers.Ticket.Ticket, Admitted.OpeningView}
+use Rattle.mt_book.specs.{declared.desks.Admission.Admission, declared.desks.Admitted.Admitted, declared.desks.Stepping.Stepping, declared.desks.Taking.Taking}
+use Rattle.mt_book.specs.{declared.desks.Taken.Taken, declared.gates.Turned.Turned}
 use Rattle.mt_book.specs.Periods.{Began, Rested, Stepped, Took, Looked, Period, least_room, admission_deed, admission_period, FitsAdmitted, FitsAdmission, step_deed, step_period, ShowsNext, FitsMove, FitsStepping, taken_deed, taking_period, FitsTaken, FitsTaking}
 use Rattle.mt_book.specs.Calls.{IsBefore, LeadsOn, IsGiven, IsTurnBy, AreTurns, Opens, last_move, Ends, Led, IsRest, IsTaken}
 use Rattle.mt_book.proofs.Chains.{led_more, all_snoc, turns_snoc}
+use Rattle.mt_book.specs.declared.desks.Admitted.TheVariants as admitted
+use Rattle.mt_book.specs.declared.desks.Taken.TheVariants as taken
 
 module _ {S : Type 0} (does : S → Period → S → Type 0) (old mid new : S) (seen worker : ℕ) (opening : OpeningView) (a : Admission)
     (led : Led does old mid (AllByRecursion (IsBefore seen worker))) (d : does mid (admission_period opening a) new) (fits : FitsAdmission seen worker opening a) where

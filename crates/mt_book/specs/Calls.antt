@@ -1,21 +1,14 @@
 -- What a call did over a desk.
 use Rattle.std.specs.Prelude.{◌≡◌, ℕ, ◌<◌, ◌≤◌, ◌⊎◌, Bool, true, false, if◌then◌else◌, List, [], ◌∷◌, ◌++◌, Option, Some, None, Result, Ok, Err}
 use Rattle.std.specs.List.{AllByRecursion}
-use Rattle.mt_rows.specs.declared.command.Command.{Command}
-use Rattle.mt_rows.specs.declared.refusal.Refusal.{Refusal}
-use Rattle.mt_rows.specs.declared.refusal.Refusal.TheVariants.{Memory}
+use Rattle.mt_rows.specs.{declared.command.Command.Command, declared.refusal.Refusal.Refusal, declared.refusal.Refusal.TheVariants.Memory}
 use Rattle.mt_runs.specs.declared.event.Answer.{Answer}
 use Rattle.mt_operation.specs.declared.phase.Phase.{Phase}
-use Rattle.mt_state.specs.declared.moves.Move.{Move}
-use Rattle.mt_state.specs.declared.moves.Move.TheVariants.{Moved, Again, NoMemory, Done, Spent}
-use Rattle.mt_state.specs.Refused.{Makes}
-use Rattle.mt_core.specs.declared.answers.Ticket.{Ticket}
-use Rattle.mt_core.specs.Admitted.{OpeningView, IsMadeOf}
-use Rattle.mt_book.specs.declared.calls.Begun.{Begun}
-use Rattle.mt_book.specs.declared.calls.CallFault.{CallFault}
-use Rattle.mt_book.specs.declared.calls.CallFault.TheVariants as faults
-use Rattle.mt_book.specs.declared.gates.Turned.{Turned}
+use Rattle.mt_state.specs.{declared.moves.Move.Move, declared.moves.Move.TheVariants.{Moved, Again, NoMemory, Done, Spent}, Refused.Makes}
+use Rattle.mt_core.specs.{declared.answers.Ticket.Ticket, Admitted.{OpeningView, IsMadeOf}}
+use Rattle.mt_book.specs.{declared.calls.Begun.Begun, declared.calls.CallFault.CallFault, declared.gates.Turned.Turned}
 use Rattle.mt_book.specs.Periods.{Deed, Looked, Began, Rested, Stepped, Took, Period, IsEarly, IsReady, least_room, Chain}
+use Rattle.mt_book.specs.declared.calls.CallFault.TheVariants as faults
 
 -- what is asked by a call
 pub record Asked : Type 0 where

@@ -1,17 +1,9 @@
 -- What a period does to a book that is owned alone.
 use Rattle.std.specs.Prelude.{◌≡◌, ◌≢◌, ℕ, length, Option, Some, None, Result, Ok, Err}
-use Rattle.mt_rows.specs.declared.refusal.Refusal.{Refusal}
-use Rattle.mt_rows.specs.Tenants.{tenant_map}
-use Rattle.mt_operation.specs.declared.phase.Phase.{Phase}
-use Rattle.mt_operation.specs.Operations.{OperationView}
-use Rattle.mt_state.specs.Views.{StateView, op_at, contents_of}
-use Rattle.mt_state.specs.Begins.{Takes, IsEnded}
-use Rattle.mt_state.specs.Promises.{Tells}
-use Rattle.mt_state.specs.Phases.{LeadsOn}
-use Rattle.mt_core.specs.Admitted.{TellsAdmitted, RefusesOpening}
-use Rattle.mt_core.specs.declared.answers.Ticket.{Ticket}
-use Rattle.mt_core.specs.declared.displaced.Displaced.{Displaced}
-use Rattle.mt_core.specs.Shows.{phase_at}
+use Rattle.mt_rows.specs.{declared.refusal.Refusal.Refusal, Tenants.tenant_map}
+use Rattle.mt_operation.specs.{declared.phase.Phase.Phase, Operations.OperationView}
+use Rattle.mt_state.specs.{Views.{StateView, op_at, contents_of}, Begins.{Takes, IsEnded}, Promises.Tells, Phases.LeadsOn}
+use Rattle.mt_core.specs.{Admitted.{TellsAdmitted, RefusesOpening}, declared.answers.Ticket.Ticket, declared.displaced.Displaced.Displaced, Shows.phase_at}
 use Rattle.mt_core.specs.Tidies.{TidiesInto}
 use Rattle.mt_book.specs.Periods.{Deed, Looked, Began, Rested, Stepped, Took, Kept, Period, room_of}
 

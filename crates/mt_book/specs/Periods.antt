@@ -2,22 +2,13 @@
 use Rattle.std.specs.Prelude.{◌≡◌, ℕ, ◌-◌, ◌<◌, ◌≤◌, ◌⊎◌, max, vec_len, vec_capacity, List, [], ◌∷◌, Result, Ok, Err, Option, Some, None, IsSome}
 use Rattle.mt_rows.specs.declared.refusal.Refusal.{Refusal}
 use Rattle.mt_runs.specs.declared.event.Answer.{Answer}
-use Rattle.mt_operation.specs.declared.phase.Phase.{Phase}
-use Rattle.mt_operation.specs.Operations.{OperationView}
-use Rattle.mt_state.specs.declared.moves.Move.{Move}
-use Rattle.mt_state.specs.declared.moves.Move.TheVariants.{Moved, Again, NoMemory}
-use Rattle.mt_core.specs.declared.answers.Ticket.{Ticket}
-use Rattle.mt_core.specs.declared.displaced.Displaced.{Displaced}
-use Rattle.mt_core.specs.Admitted.{OpeningView}
-use Rattle.mt_book.specs.declared.desks.Look.{Look}
-use Rattle.mt_book.specs.declared.desks.Admission.{Admission}
-use Rattle.mt_book.specs.declared.desks.Admitted.{Admitted}
+use Rattle.mt_operation.specs.{declared.phase.Phase.Phase, Operations.OperationView}
+use Rattle.mt_state.specs.{declared.moves.Move.Move, declared.moves.Move.TheVariants.{Moved, Again, NoMemory}}
+use Rattle.mt_core.specs.{declared.answers.Ticket.Ticket, declared.displaced.Displaced.Displaced, Admitted.OpeningView}
+use Rattle.mt_book.specs.{declared.desks.Look.Look, declared.desks.Admission.Admission, declared.desks.Admitted.Admitted, declared.desks.Stepping.Stepping}
+use Rattle.mt_book.specs.{declared.desks.Taking.Taking, declared.desks.Taken.Taken, declared.gates.Turned.Turned}
 use Rattle.mt_book.specs.declared.desks.Admitted.TheVariants as admitted
-use Rattle.mt_book.specs.declared.desks.Stepping.{Stepping}
-use Rattle.mt_book.specs.declared.desks.Taking.{Taking}
-use Rattle.mt_book.specs.declared.desks.Taken.{Taken}
 use Rattle.mt_book.specs.declared.desks.Taken.TheVariants as taken
-use Rattle.mt_book.specs.declared.gates.Turned.{Turned}
 
 -- how many more writes a list of displaced ones can hold without more memory
 abbrev pub room_of : Displaced → ℕ

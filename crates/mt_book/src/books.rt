@@ -4,18 +4,10 @@ ghost use Rattle.std.specs.Prelude.{ℕ, ◌≡◌, ◌+◌, ◌<◌, ◌≤◌,
 ghost use Rattle.std.specs.List.{sum_by};
 ghost use Rattle.mt_rows.specs.Accounts.{account_of};
 ghost use Rattle.mt_batches.specs.Batches.{IsBounded, BringsOn};
-ghost use Rattle.mt_state.specs.Promises.{Tells};
-ghost use Rattle.mt_state.specs.Phases.{LeadsOn};
-ghost use Rattle.mt_state.specs.Begins.{IsWorker};
-ghost use Rattle.mt_core.specs.Tickets.{TellsBegin, TellsTake, TellsCancel, TellsRefusal};
-ghost use Rattle.mt_core.specs.Places.{AddsPlaces};
-ghost use Rattle.mt_core.specs.Admitted.{MayAdmit, TellsAdmitted, RefusesOpening};
-ghost use Rattle.mt_core.specs.Shows.{phase_at};
-ghost use Rattle.mt_core.specs.Drains.{Drains};
-ghost use Rattle.mt_core.specs.Tidies.{TidiesInto, HandsOutRest};
-ghost use Rattle.mt_book.specs.declared.passes.Pass.{Pass};
-ghost use Rattle.mt_book.specs.Books.{IsRightBook};
-ghost use Rattle.mt_book.specs.Does.{KeepsOtherTenants};
+ghost use Rattle.mt_state.specs.{Promises.Tells, Phases.LeadsOn, Begins.IsWorker};
+ghost use Rattle.mt_core.specs.{Tickets.{TellsBegin, TellsTake, TellsCancel, TellsRefusal}, Places.AddsPlaces};
+ghost use Rattle.mt_core.specs.{Admitted.{MayAdmit, TellsAdmitted, RefusesOpening}, Shows.phase_at, Drains.Drains, Tidies.{TidiesInto, HandsOutRest}};
+ghost use Rattle.mt_book.specs.{declared.passes.Pass.Pass, Books.IsRightBook, Does.KeepsOtherTenants};
 
 use crate::passes::Pass;
 use mt_core::{Displaced, Opening, State, Ticket};

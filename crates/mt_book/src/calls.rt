@@ -1,8 +1,7 @@
 //! Calls: a command begun, stepped and answered, period by period, over any desk.
 
 ghost use Rattle.std.specs.Prelude.{◌≡◌, ◌+◌, ◌<◌, ◌≤◌, [], None, max, IfOk, OnErr};
-ghost use Rattle.mt_book.specs.Periods.{IsOfWorker, room_of, least_room};
-ghost use Rattle.mt_book.specs.Calls.{Asked, IsOpeningOf, Calls, Begins, Ends, Led, IsTaken, asked_by, answers_of};
+ghost use Rattle.mt_book.specs.{Periods.{IsOfWorker, room_of, least_room}, Calls.{Asked, IsOpeningOf, Calls, Begins, Ends, Led, IsTaken, asked_by, answers_of}};
 
 use crate::desks::{Admission, Admitted, Desk, Stepping, Taken, Taking};
 use crate::gates::{Gate, passed};

@@ -1,10 +1,8 @@
 //! The book as a desk: owned alone, or under a lock that many threads share.
 
-ghost use Rattle.std.specs.Prelude.{◌≡◌, IfSome, IfOk, IfErr};
-ghost use Rattle.std.specs.List.{sum_by};
+ghost use Rattle.std.specs.{Prelude.{◌≡◌, IfSome, IfOk, IfErr}, List.sum_by};
 ghost use Rattle.mt_batches.specs.Batches.{IsBounded, BringsOn};
-ghost use Rattle.mt_book.specs.declared.passes.Pass.{Pass};
-ghost use Rattle.mt_book.specs.Books.{IsRightBook};
+ghost use Rattle.mt_book.specs.{declared.passes.Pass.Pass, Books.IsRightBook};
 
 use crate::books::Book;
 use crate::desks::{Admission, Admitted, Desk, Look, Stepping, Taken, Taking};

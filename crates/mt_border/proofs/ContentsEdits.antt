@@ -1,22 +1,14 @@
 -- What a publish and a store in a border node are for the contents, and what they keep: for the law of contents and the crates above.
-use Rattle.std.proofs.Common.{◌≡◌, ℕ, ◌+◌, List, length, set, Some, sym, refl, ap, subst, ◌∙◌}
-use Rattle.std.specs.List.{All}
-use Rattle.std.specs.FinMap.{insert}
-use Rattle.std.proofs.lemmas.List.Edits.{length-insert}
+use Rattle.std.proofs.{Common.{◌≡◌, ℕ, ◌+◌, List, length, set, Some, sym, refl, ap, subst, ◌∙◌}, lemmas.List.Edits.length-insert}
 use Rattle.std.proofs.lemmas.List.Elements.{All-take, All-set}
+use Rattle.std.specs.{List.All, FinMap.insert}
 use Rattle.mt_rows.specs.Rows.{Bytes, Columns}
-use Rattle.mt_border.specs.declared.entry.Pair.{Pair}
-use Rattle.mt_border.specs.declared.entry.Entry.{Entry}
-use Rattle.mt_border.specs.declared.entry.Held.{Held}
-use Rattle.mt_border.specs.declared.entry.Held.TheVariants.{Stable}
-use Rattle.mt_border.specs.Entry.{pair_of, order_of}
-use Rattle.mt_border.specs.Entries.{IsBorder, IsMissing, place_in, with_entry}
-use Rattle.mt_border.specs.Node.{Node, entries_of, entry_at, IsLive, Rewrites}
-use Rattle.mt_border.proofs.Edits.{any_entry, place_in-le, All-insert, replaced_at}
+use Rattle.mt_border.specs.{declared.entry.Pair.Pair, declared.entry.Entry.Entry, declared.entry.Held.Held, declared.entry.Held.TheVariants.Stable}
+use Rattle.mt_border.specs.{Entry.{pair_of, order_of}, Entries.{IsBorder, IsMissing, place_in, with_entry}, Node.{Node, entries_of, entry_at, IsLive, Rewrites}}
 use Rattle.mt_border.specs.Contents.{owned, contents_of, HasKey, AreKeys}
+use Rattle.mt_border.proofs.Edits.{any_entry, place_in-le, All-insert, replaced_at}
 use Rattle.mt_border.proofs.ContentsKeys.{IsApart, owned_at, has_rewritten_key, order_of_key, missing_key, all_apart}
-use Rattle.mt_border.proofs.ContentsLists.{contents-insert, contents-set}
-use Rattle.mt_border.proofs.ContentsFinds.{apart_before}
+use Rattle.mt_border.proofs.{ContentsLists.{contents-insert, contents-set}, ContentsFinds.apart_before}
 
 -- a publish makes one entry more
 pub length-publish : (entries : List Entry) (e : Entry) → length (with_entry entries e) ≡ length entries + 1

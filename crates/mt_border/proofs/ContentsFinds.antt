@@ -1,29 +1,17 @@
 -- What a find in a border node tells of the contents: for the law of contents and the crates above.
 use Rattle.std.proofs.Common.{◌≡◌, ◌≢◌, ℕ, ◌<◌, List, length, get_or, take, Option, Some, None, sym, refl, subst, ◌∙◌, inl, inr, arith}
-use Rattle.std.specs.Prelude.{IsSomeAnd}
-use Rattle.std.specs.List.{All}
-use Rattle.std.specs.Option.{ForSome, option_map}
-use Rattle.std.specs.FinMap.{get}
-use Rattle.std.proofs.lemmas.Bool.{cases_eq, cases_lt}
-use Rattle.std.proofs.lemmas.Option.{none-some}
-use Rattle.std.proofs.lemmas.List.{length-map, length-take, get_or-map, get_or-take}
+use Rattle.std.proofs.{lemmas.Bool.{cases_eq, cases_lt}, lemmas.Option.none-some, lemmas.List.{length-map, length-take, get_or-map, get_or-take}}
 use Rattle.std.proofs.lemmas.List.Elements.{All-from_get_or}
+use Rattle.std.specs.{Prelude.IsSomeAnd, List.All, Option.{ForSome, option_map}, FinMap.get}
 use Rattle.mt_lists.specs.Rising.{IsRising}
 use Rattle.mt_slices.specs.Slices.{slice_of, mark_of, suffix_of}
 use Rattle.mt_rows.specs.Rows.{Bytes, Columns}
-use Rattle.mt_border.specs.declared.entry.Pair.{Pair}
-use Rattle.mt_border.specs.declared.entry.Entry.{Entry}
-use Rattle.mt_border.specs.declared.entry.Held.{Held}
-use Rattle.mt_border.specs.declared.entry.Held.TheVariants.{Stable, Unstable, Link}
-use Rattle.mt_border.specs.declared.entry.Find.{Find}
-use Rattle.mt_border.specs.declared.entry.Find.TheVariants.{Missing, Slot}
-use Rattle.mt_border.specs.declared.entry.FoundKind.{FoundKind}
-use Rattle.mt_border.specs.declared.entry.FoundKind.TheVariants.{ThisKey, OtherLong, Link as ToTree}
-use Rattle.mt_border.specs.Entry.{pair_of, order_at, order_of, IsLink, IsKind}
-use Rattle.mt_border.specs.Entries.{orders, IsBorder, IsMissing}
-use Rattle.mt_border.specs.Node.{Node, entries_of, entry_at, IsLive, IsFound, Finds}
+use Rattle.mt_border.specs.{declared.entry.Pair.Pair, declared.entry.Entry.Entry, declared.entry.Held.Held}
+use Rattle.mt_border.specs.{declared.entry.Held.TheVariants.{Stable, Unstable, Link}, declared.entry.Find.Find, declared.entry.Find.TheVariants.{Missing, Slot}}
+use Rattle.mt_border.specs.{declared.entry.FoundKind.FoundKind, declared.entry.FoundKind.TheVariants.{ThisKey, OtherLong, Link as ToTree}}
+use Rattle.mt_border.specs.{Entry.{pair_of, order_at, order_of, IsLink, IsKind}, Entries.{orders, IsBorder, IsMissing}}
+use Rattle.mt_border.specs.{Node.{Node, entries_of, entry_at, IsLive, IsFound, Finds}, Contents.{owned, contents_of, row_found, IsOfTree, HasKey, AreKeys}}
 use Rattle.mt_border.proofs.Edits.{any_entry}
-use Rattle.mt_border.specs.Contents.{owned, contents_of, row_found, IsOfTree, HasKey, AreKeys}
 use Rattle.mt_border.proofs.ContentsKeys.{IsApart, by_equation, owned_at, has_found_key, order_of_key, apart_by_order, apart_by_suffix, all_apart}
 use Rattle.mt_border.proofs.ContentsLists.{get-apart, get-at}
 

@@ -1,21 +1,12 @@
 -- What holds of each entry's owned key and stamp, after a publish and after a store: for the invariants of the crates above.
-use Rattle.std.proofs.Common.{◌≡◌, ◌≢◌, ℕ, List, get_or, set, Some, refl, sym, subst, ◌∙◌, inl, inr, arith}
-use Rattle.std.proofs.lemmas.Bool.{cases_eq}
-use Rattle.std.proofs.lemmas.Option.{same_Some}
-use Rattle.std.proofs.lemmas.List.{length-set, get_or-set_same, get_or-set_other}
-use Rattle.std.proofs.lemmas.List.Elements.{All-from_get_or}
+use Rattle.std.proofs.{Common.{◌≡◌, ◌≢◌, ℕ, List, get_or, set, Some, refl, sym, subst, ◌∙◌, inl, inr, arith}, lemmas.Bool.cases_eq, lemmas.Option.same_Some}
+use Rattle.std.proofs.{lemmas.List.{length-set, get_or-set_same, get_or-set_other}, lemmas.List.Elements.All-from_get_or}
 use Rattle.mt_rows.specs.Rows.{Bytes, Columns}
-use Rattle.mt_border.specs.declared.entry.Pair.{Pair}
-use Rattle.mt_border.specs.declared.entry.Entry.{Entry}
-use Rattle.mt_border.specs.declared.entry.Held.TheVariants.{Stable}
-use Rattle.mt_border.specs.Entry.{pair_of}
-use Rattle.mt_border.specs.Entries.{IsBorder, IsMissing, with_entry}
-use Rattle.mt_border.specs.Node.{Node, entries_of, entry_at, IsLive, Rewrites}
-use Rattle.mt_border.proofs.Edits.{any_entry}
+use Rattle.mt_border.specs.{declared.entry.Pair.Pair, declared.entry.Entry.Entry, declared.entry.Held.TheVariants.Stable, Entry.pair_of}
+use Rattle.mt_border.specs.{Entries.{IsBorder, IsMissing, with_entry}, Node.{Node, entries_of, entry_at, IsLive, Rewrites}}
 use Rattle.mt_border.specs.Contents.{owned, key_at, HasKey, AreKeys, IsStamped, AllStamped}
-use Rattle.mt_border.proofs.ContentsKeys.{IsApart, owned_at, has_rewritten_key, order_of_key, missing_key, all_apart}
-use Rattle.mt_border.proofs.ContentsFinds.{apart_beside}
-use Rattle.mt_border.proofs.ContentsEdits.{each-publish, slots-store}
+use Rattle.mt_border.proofs.{Edits.any_entry, ContentsKeys.{IsApart, owned_at, has_rewritten_key, order_of_key, missing_key, all_apart}}
+use Rattle.mt_border.proofs.{ContentsFinds.apart_beside, ContentsEdits.{each-publish, slots-store}}
 
 -- of an entry, what holds of its key and of its pair's stamp
 stamped_as : (P : ℕ × Bytes → ℕ → Type 0) (prefix : Bytes) (layer : ℕ) (e : Entry) (key : Bytes) (pair : Pair) → HasKey prefix layer e key → pair_of e.held ≡ Some pair → P (owned key) pair.stamp → IsStamped P prefix e

@@ -1,20 +1,13 @@
 -- Another stamp for each pair leaves the keys, their order and the rows: for the crates above.
-use Rattle.std.proofs.Common.{◌≡◌, ℕ, List, [], ◌∷◌, length, Some, refl, sym, ap, subst, ◌∙◌, arith}
-use Rattle.std.specs.Prelude.{filter_map}
-use Rattle.std.specs.List.{All, cons_option}
-use Rattle.std.proofs.lemmas.Option.{same_Some, none-some}
-use Rattle.std.proofs.lemmas.List.{length-map}
-use Rattle.std.proofs.lemmas.List.Elements.{All-map}
+use Rattle.std.proofs.{Common.{◌≡◌, ℕ, List, [], ◌∷◌, length, Some, refl, sym, ap, subst, ◌∙◌, arith}, lemmas.Option.{same_Some, none-some}}
+use Rattle.std.proofs.{lemmas.List.length-map, lemmas.List.Elements.All-map}
+use Rattle.std.specs.{Prelude.filter_map, List.{All, cons_option}}
 use Rattle.mt_lists.specs.Rising.{IsRising}
 use Rattle.mt_slices.specs.declared.mark.Mark.{Mark}
 use Rattle.mt_rows.specs.Rows.{Bytes}
-use Rattle.mt_border.specs.declared.entry.Pair.{Pair}
-use Rattle.mt_border.specs.declared.entry.Entry.{Entry}
-use Rattle.mt_border.specs.declared.entry.Held.{Held}
-use Rattle.mt_border.specs.declared.entry.Held.TheVariants.{Stable, Unstable, Link}
-use Rattle.mt_border.specs.Entry.{pair_of, order_of, CanHold, IsEntry}
-use Rattle.mt_border.specs.Entries.{orders, slices, IsBorder}
-use Rattle.mt_border.specs.Contents.{owned, key_at, pair_in, HasKey, AreKeys, IsStamped, AllStamped}
+use Rattle.mt_border.specs.{declared.entry.Pair.Pair, declared.entry.Entry.Entry, declared.entry.Held.Held}
+use Rattle.mt_border.specs.{declared.entry.Held.TheVariants.{Stable, Unstable, Link}, Entry.{pair_of, order_of, CanHold, IsEntry}}
+use Rattle.mt_border.specs.{Entries.{orders, slices, IsBorder}, Contents.{owned, key_at, pair_in, HasKey, AreKeys, IsStamped, AllStamped}}
 use Rattle.mt_border.specs.Restamps.{stamped, restamped, all_restamped}
 
 -- a pair with another stamp is a pair that was there

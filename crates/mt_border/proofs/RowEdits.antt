@@ -1,13 +1,9 @@
 -- The entries of three rows are read and edited as the rows are: for the slots of a node.
 use Rattle.std.proofs.Common.{◌≡◌, ℕ, zero, suc, ◌<◌, List, [], ◌∷◌, ◌++◌, length, get_or, set, take, drop, refl, sym, ap, ◌∙◌, arith}
-use Rattle.std.specs.List.{insert, remove}
-use Rattle.std.specs.Prelude.{map}
 use Rattle.std.proofs.lemmas.List.{length-take}
+use Rattle.std.specs.{List.{insert, remove}, Prelude.map}
 use Rattle.mt_slices.specs.declared.mark.Mark.{Mark}
-use Rattle.mt_border.specs.declared.entry.Entry.{Entry}
-use Rattle.mt_border.specs.declared.entry.Held.{Held}
-use Rattle.mt_border.specs.Entries.{slices, marks}
-use Rattle.mt_border.specs.Rows.{entries_in, AreRows}
+use Rattle.mt_border.specs.{declared.entry.Entry.Entry, declared.entry.Held.Held, Entries.{slices, marks}, Rows.{entries_in, AreRows}}
 use Rattle.mt_border.specs.Restamps.{stamped, restamped}
 
 -- as many entries as slices

@@ -1,16 +1,11 @@
 -- A write to what one slot of a node holds leaves all else, and the entries in order: for the edits of `Border` that move no slot.
 use Rattle.std.proofs.Common.{◌≡◌, ℕ, ◌<◌, List, length, get_or, set, refl, sym, ap, ◌∙◌, arith}
-use Rattle.std.specs.List.{refill}
 use Rattle.std.proofs.lemmas.List.{take_at, length-set, get_or-set_same, get_or-set_other, get_or_default, get_or-map}
+use Rattle.std.specs.List.{refill}
 use Rattle.mt_slices.specs.declared.mark.Mark.{Mark}
-use Rattle.mt_border.specs.declared.entry.Entry.{Entry}
-use Rattle.mt_border.specs.declared.entry.Held.{Held}
-use Rattle.mt_border.specs.Entry.{order_of, CanHold}
-use Rattle.mt_border.specs.Entries.{IsBorder}
-use Rattle.mt_border.specs.Rows.{entries_in, AreRows}
+use Rattle.mt_border.specs.{declared.entry.Entry.Entry, declared.entry.Held.Held, Entry.{order_of, CanHold}, Entries.IsBorder, Rows.{entries_in, AreRows}}
 use Rattle.mt_border.specs.Node.{Node, entry_at, Rewrites}
-use Rattle.mt_border.proofs.Edits.{any_entry, border_set, replaced_at}
-use Rattle.mt_border.proofs.RowEdits.{sizes-rows, get_or-rows, set-rows}
+use Rattle.mt_border.proofs.{Edits.{any_entry, border_set, replaced_at}, RowEdits.{sizes-rows, get_or-rows, set-rows}}
 
 -- the entries, where one holds something else
 abbrev pub set_held : List Entry → ℕ → Held → List Entry

@@ -1,16 +1,9 @@
 -- A border node as its callers see it, and what they say of its slots.
 use Rattle.std.specs.Prelude.{◌≡◌, ◌≢◌, ℕ, ◌<◌, ◌↔◌, List, [], length, slice_index_or, Option, None, Contains}
-use Rattle.mt_slices.specs.declared.mark.Mark.{Mark}
-use Rattle.mt_slices.specs.declared.mark.Mark.TheVariants.{Long}
+use Rattle.mt_slices.specs.{declared.mark.Mark.Mark, declared.mark.Mark.TheVariants.Long}
 use Rattle.mt_version.specs.Parts.{Parts}
-use Rattle.mt_border.specs.declared.entry.Entry.{Entry}
-use Rattle.mt_border.specs.declared.entry.Held.{Held}
-use Rattle.mt_border.specs.declared.entry.Held.TheVariants.{Link}
-use Rattle.mt_border.specs.declared.entry.Find.{Find}
-use Rattle.mt_border.specs.declared.entry.Find.TheVariants.{Missing, Slot}
-use Rattle.mt_border.specs.declared.entry.FoundKind.{FoundKind}
-use Rattle.mt_border.specs.Entry.{IsKind}
-use Rattle.mt_border.specs.Entries.{IsMissing, replaced}
+use Rattle.mt_border.specs.{declared.entry.Entry.Entry, declared.entry.Held.Held, declared.entry.Held.TheVariants.Link, declared.entry.Find.Find}
+use Rattle.mt_border.specs.{declared.entry.Find.TheVariants.{Missing, Slot}, declared.entry.FoundKind.FoundKind, Entry.IsKind, Entries.{IsMissing, replaced}}
 
 -- Its slots, of which the words below speak, the nodes beside it and above it, its fences, and its version.
 -- The low fence is the least slice that belongs in it, and the high one the least that belongs behind it.

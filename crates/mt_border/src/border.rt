@@ -11,8 +11,7 @@
 //! No call takes memory or fails; all change the node in place. A node owns its entries. Numbers of
 //! nodes and trees are the arena's.
 
-ghost use Rattle.std.specs.Prelude.{◌≡◌, ◌-◌, ◌<◌, ◌≤◌, ◌↔◌, ℕ, [], IsTrue, IsSome, IfSome, length, slice_get};
-ghost use Rattle.std.specs.Option.{option_map};
+ghost use Rattle.std.specs.{Prelude.{◌≡◌, ◌-◌, ◌<◌, ◌≤◌, ◌↔◌, ℕ, [], IsTrue, IsSome, IfSome, length, slice_get}, Option.option_map};
 ghost use Rattle.mt_slices.specs.Marks.{IsMark};
 
 use crate::entry::{Entry, EntryRef, Find, Held, Pair};
@@ -44,8 +43,7 @@ pub struct Border {
 }
 
 impl Model for Border {
-    ghost use Rattle.mt_border.specs.Entries.{IsBorder};
-    ghost use Rattle.mt_border.specs.Node.{Node};
+    ghost use Rattle.mt_border.specs.{Entries.IsBorder, Node.Node};
 
     ghost Value = { Node };
 
@@ -63,12 +61,8 @@ impl Model for Border {
 }
 
 impl Border {
-    ghost use Rattle.mt_border.specs.Restamps.{all_restamped};
-    ghost use Rattle.mt_border.specs.declared.entry.Pair.{Pair};
-    ghost use Rattle.mt_border.specs.Entry.{IsEntry, IsRest, IsStablePair, IsUnlinked, IsLinked};
-    ghost use Rattle.mt_border.specs.Rows.{entry_seen};
-    ghost use Rattle.mt_border.specs.Entries.{IsBorder, IsMissing, with_entry, without};
-    ghost use Rattle.mt_border.specs.Split.{IsCut, IsParted, IsSeparator, slices_with};
+    ghost use Rattle.mt_border.specs.{Restamps.all_restamped, declared.entry.Pair.Pair, Entry.{IsEntry, IsRest, IsStablePair, IsUnlinked, IsLinked}};
+    ghost use Rattle.mt_border.specs.{Rows.entry_seen, Entries.{IsBorder, IsMissing, with_entry, without}, Split.{IsCut, IsParted, IsSeparator, slices_with}};
     ghost use Rattle.mt_border.specs.Node.{empty_node, entries_of, entry_at, held_at, IsLive, Finds, Rewrites};
 
     /// A node without keys, neighbours and parent.

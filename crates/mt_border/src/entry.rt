@@ -146,8 +146,7 @@ pub enum Find {
 }
 
 impl<'a> EntryRef<'a> {
-    ghost use Rattle.mt_border.specs.Entry.{IsKind, IsEntry, IsRest};
-    ghost use Rattle.mt_border.specs.Rows.{entry_seen};
+    ghost use Rattle.mt_border.specs.{Entry.{IsKind, IsEntry, IsRest}, Rows.entry_seen};
 
     /// What the entry holds of the key that has its slice and mark, and this suffix. Where a key ends in
     /// its slice, that is the key itself, and what is held is not read.
@@ -165,11 +164,9 @@ impl<'a> EntryRef<'a> {
 }
 
 impl Held {
-    ghost use Rattle.mt_border.specs.Restamps.{stamped};
-    ghost use Rattle.mt_slices.specs.declared.mark.Mark.{Mark};
-    ghost use Rattle.mt_border.specs.declared.entry.Pair.{Pair};
-    ghost use Rattle.mt_border.specs.declared.entry.Entry.{Entry};
+    ghost use Rattle.mt_border.specs.{Restamps.stamped, declared.entry.Pair.Pair, declared.entry.Entry.Entry};
     ghost use Rattle.mt_border.specs.Entry.{CanHold, IsKind, IsStablePair, IsUnlinked, IsLinked};
+    ghost use Rattle.mt_slices.specs.declared.mark.Mark.{Mark};
 
     /// What is held of the long key of the slot's slice that goes on with the suffix. It is a call of its
     /// own, so that a search for a key that ends in its slice makes no suffix.

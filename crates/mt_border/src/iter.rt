@@ -16,8 +16,7 @@ pub struct Entries<'a> {
 
 impl<'a> Model for Entries<'a> {
     ghost use Rattle.std.specs.Prelude.{List};
-    ghost use Rattle.mt_border.specs.declared.entry.Entry.{Entry};
-    ghost use Rattle.mt_border.specs.Rows.{entries_in, AreRows};
+    ghost use Rattle.mt_border.specs.{declared.entry.Entry.Entry, Rows.{entries_in, AreRows}};
 
     ghost Value = { List Entry };
 

@@ -2,8 +2,7 @@
 
 ghost use Rattle.std.specs.Prelude.{◌≡◌, ◌<◌, ◌≤◌, IfNone, IfSome, length};
 ghost use Rattle.mt_slices.specs.Marks.{IsMark};
-ghost use Rattle.mt_border.specs.Entry.{order_at};
-ghost use Rattle.mt_border.specs.Entries.{IsAt, IsBorder, IsMissing, place_in};
+ghost use Rattle.mt_border.specs.{Entry.order_at, Entries.{IsAt, IsBorder, IsMissing, place_in}};
 
 use crate::slots::Slots;
 use mt_slices::Mark;

@@ -5,8 +5,8 @@
 //! Invariant: the rows have one length, and the entry of a slot is what stands at its place in each.
 
 ghost use Rattle.std.specs.Prelude.{◌≡◌, ◌<◌, ◌≤◌, [], length, take, drop, insert, remove, slice_get, slice_index_or, count_by, nat_lt, map};
-ghost use Rattle.mt_lists.specs.Rising.{NeverFalls};
 ghost use Rattle.std.specs.Option.{option_map};
+ghost use Rattle.mt_lists.specs.Rising.{NeverFalls};
 ghost use Rattle.arrayvec.specs.ArrayVec.{array_vec_len};
 ghost use Rattle.mt_border.specs.Restamps.{stamped};
 
@@ -29,8 +29,7 @@ pub(crate) struct Slots {
 
 impl Model for Slots {
     ghost use Rattle.std.specs.Prelude.{List};
-    ghost use Rattle.mt_border.specs.declared.entry.Entry.{Entry};
-    ghost use Rattle.mt_border.specs.Rows.{entries_in, AreRows};
+    ghost use Rattle.mt_border.specs.{declared.entry.Entry.Entry, Rows.{entries_in, AreRows}};
 
     ghost Value = { List Entry };
 
@@ -40,9 +39,7 @@ impl Model for Slots {
 }
 
 impl Slots {
-    ghost use Rattle.mt_border.specs.Restamps.{all_restamped};
-    ghost use Rattle.mt_border.specs.Entries.{slices, marks};
-    ghost use Rattle.mt_border.specs.Rows.{entry_seen};
+    ghost use Rattle.mt_border.specs.{Restamps.all_restamped, Entries.{slices, marks}, Rows.entry_seen};
 
     pub(crate) fn new(alloc: Global) -> Self
         ensures { result ≡ [] }

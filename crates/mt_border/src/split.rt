@@ -6,8 +6,7 @@
 
 ghost use Rattle.std.specs.Prelude.{◌≡◌, ◌≢◌, length, slice_index};
 ghost use Rattle.mt_slices.specs.Marks.{IsMark};
-ghost use Rattle.mt_border.specs.Entries.{IsBorder, IsMissing};
-ghost use Rattle.mt_border.specs.Split.{IsCut, IsSeparator, slices_with};
+ghost use Rattle.mt_border.specs.{Entries.{IsBorder, IsMissing}, Split.{IsCut, IsSeparator, slices_with}};
 
 use crate::border::SLOTS;
 use crate::places::place_of;

@@ -1,13 +1,8 @@
 -- What a crash leaves of a slot in each step of the calls on it.
 use Rattle.std.proofs.Common.{◌≡◌, ◌≢◌, inl, inr, ⊎_elim, ℕ, suc, ◌+◌, ◌<◌, ◌≤◌, true, false, List, [], ◌∷◌, ◌++◌, length, take, drop, get_or, Option, Some, None, Result, Ok, Err, OnOk, refl, sym, ◌∙◌, ap, subst, arith, append_assoc}
-use Rattle.std.specs.Prelude.{nat_eq}
-use Rattle.std.specs.Option.{option_eq}
-use Rattle.std.specs.List.{slice_get}
-use Rattle.std.proofs.lemmas.Option.{same_Some, none-some}
-use Rattle.std.proofs.lemmas.List.{take_all, drop_all, append-nil}
-use Rattle.std.proofs.lemmas.List.Folds.{list_any-append}
-use Rattle.std.proofs.lemmas.Bool.{cases_eq, eqb-true, true≢false}
-use Rattle.std.proofs.lemmas.Bool.Decides.{nat_tests}
+use Rattle.std.proofs.{lemmas.Option.{same_Some, none-some}, lemmas.List.{take_all, drop_all, append-nil}, lemmas.List.Folds.list_any-append}
+use Rattle.std.proofs.{lemmas.Bool.{cases_eq, eqb-true, true≢false}, lemmas.Bool.Decides.nat_tests}
+use Rattle.std.specs.{Prelude.nat_eq, Option.option_eq, List.slice_get}
 use Rattle.mt_rows.specs.Rows.{Bytes}
 use Rattle.mt_disk.specs.Disk.{Range, Moment, MayLeave, DiskState, is_dirty, dirtied, overwritten, Dirties, Attempts, LeavesOnlyAt, LeavesOnly, IsDurable, synced, found_with}
 use Rattle.mt_disk.proofs.CrashLaws.{started, reads_durable, after_write, after_sync, joined, widened}

@@ -1,19 +1,15 @@
 -- What was read of a window stands in the file.
 use Rattle.std.proofs.Common.{◌≡◌, ◌⊎◌, inl, inr, ℕ, ◌+◌, ◌-◌, ◌^◌, ◌<◌, ◌≤◌, Bool, true, List, [], ◌∷◌, ◌++◌, length, take, drop, Option, Some, None, IfSome, IfNone, IsTrue, refl, sym, ap, subst, ◌∙◌, append_assoc, length-append, arith}
-use Rattle.std.specs.List.{flat_map, AllByRecursion}
 use Rattle.std.proofs.lemmas.List.{append-nil, take-append-drop, drop_all, drop_at, take_at, drop-drop, length-take, flat_map_more, take-append-le}
-use Rattle.mt_rows.specs.Rows.{Bytes}
-use Rattle.mt_rows.specs.declared.record.TenantPair.{TenantPair}
+use Rattle.std.specs.List.{flat_map, AllByRecursion}
+use Rattle.mt_rows.specs.{Rows.Bytes, declared.record.TenantPair.TenantPair}
 use Rattle.mt_disk.specs.Disk.{DiskState}
 use Rattle.mt_fields.proofs.FieldLaws.{IsBytes}
-use Rattle.mt_checkpoint.specs.declared.reader.Item.{Item}
-use Rattle.mt_checkpoint.specs.declared.reader.Item.TheVariants.{Pair, Last}
-use Rattle.mt_checkpoint.specs.declared.reader.Stop.{Stop}
-use Rattle.mt_checkpoint.specs.declared.reader.Stop.TheVariants as stops
-use Rattle.mt_checkpoint.specs.Format.{head_bytes, entry_bytes, last_bytes}
-use Rattle.mt_checkpoint.specs.Checkpoints.{IsPair}
+use Rattle.mt_checkpoint.specs.{declared.reader.Item.Item, declared.reader.Item.TheVariants.{Pair, Last}, declared.reader.Stop.Stop}
+use Rattle.mt_checkpoint.specs.{Format.{head_bytes, entry_bytes, last_bytes}, Checkpoints.IsPair}
 use Rattle.mt_checkpoint.specs.Reading.{item_bytes, item_at, HasNoHead, HasNoItem, HasTaken, StopsAt, AreTaken, Takes, IsHeadIn, IsEndIn, OfImage}
 use Rattle.mt_checkpoint.proofs.ItemLaws.{item_takes, item_again, item_few}
+use Rattle.mt_checkpoint.specs.declared.reader.Stop.TheVariants as stops
 
 -- ---- items
 

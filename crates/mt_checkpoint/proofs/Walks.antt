@@ -1,17 +1,11 @@
 -- A file has one checkpoint at most; and what was read of it is that.
 use Rattle.std.proofs.Common.{◌≡◌, ℕ, ◌^◌, ◌<◌, ◌≤◌, List, [], ◌∷◌, ◌++◌, drop, get_or, Some, None, refl, sym, ap, subst, ◌∙◌, append_assoc, arith}
-use Rattle.std.specs.Int.{w64, to_be_bytes}
-use Rattle.std.specs.List.{flat_map, AllByRecursion}
 use Rattle.std.proofs.lemmas.Option.{same_Some}
-use Rattle.mt_rows.specs.Rows.{Bytes}
-use Rattle.mt_rows.specs.declared.record.TenantPair.{TenantPair}
-use Rattle.mt_fields.proofs.FieldLaws.{wide64, number_again}
-use Rattle.mt_fields.specs.Reading.{number_at}
-use Rattle.mt_checkpoint.specs.declared.reader.Item.{Item}
-use Rattle.mt_checkpoint.specs.declared.reader.Item.TheVariants.{Pair, Last}
-use Rattle.mt_checkpoint.specs.Format.{head_bytes, entry_bytes, last_bytes}
-use Rattle.mt_checkpoint.specs.Checkpoints.{IsPair, Walk, Rise, IsWalk, HasWalk, HasNone}
-use Rattle.mt_checkpoint.specs.Reading.{item_bytes, IsItem, item_at, HasNoItem, IsHeadIn, IsEndIn}
+use Rattle.std.specs.{Int.{w64, to_be_bytes}, List.{flat_map, AllByRecursion}}
+use Rattle.mt_rows.specs.{Rows.Bytes, declared.record.TenantPair.TenantPair}
+use Rattle.mt_fields.{proofs.FieldLaws.{wide64, number_again}, specs.Reading.number_at}
+use Rattle.mt_checkpoint.specs.{declared.reader.Item.Item, declared.reader.Item.TheVariants.{Pair, Last}, Format.{head_bytes, entry_bytes, last_bytes}}
+use Rattle.mt_checkpoint.specs.{Checkpoints.{IsPair, Walk, Rise, IsWalk, HasWalk, HasNone}, Reading.{item_bytes, IsItem, item_at, HasNoItem, IsHeadIn, IsEndIn}}
 use Rattle.mt_checkpoint.proofs.ItemLaws.{item_again}
 
 -- an item that is spelled at the front of the same bytes as another is that one

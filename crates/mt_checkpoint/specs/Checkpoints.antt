@@ -1,15 +1,9 @@
 -- What a checkpoint says, what counts of a slot's file, and what may be left of one.
-use Rattle.std.specs.Prelude.{◌≡◌, ◌⊎◌, ℕ, ◌+◌, ◌^◌, ◌<◌, ◌≤◌, false, List, [], ◌∷◌, ◌++◌, Option, Some, None}
-use Rattle.std.specs.declared.cmp.Ordering.TheVariants.{Less}
+use Rattle.std.specs.{Prelude.{◌≡◌, ◌⊎◌, ℕ, ◌+◌, ◌^◌, ◌<◌, ◌≤◌, false, List, [], ◌∷◌, ◌++◌, Option, Some, None}, declared.cmp.Ordering.TheVariants.Less}
 use Rattle.std.specs.List.{flat_map, slice_get, AllByRecursion}
-use Rattle.mt_rows.specs.Rows.{Bytes, IsRow}
-use Rattle.mt_rows.specs.Commands.{IsKey}
-use Rattle.mt_rows.specs.Tenants.{owned_cmp}
-use Rattle.mt_rows.specs.TenantPairs.{owner_of}
-use Rattle.mt_rows.specs.declared.record.TenantPair.{TenantPair}
+use Rattle.mt_rows.specs.{Rows.{Bytes, IsRow}, Commands.IsKey, Tenants.owned_cmp, TenantPairs.owner_of, declared.record.TenantPair.TenantPair}
 use Rattle.mt_disk.specs.Disk.{Moment, MayLeave, DiskState, is_dirty, IsDurable}
-use Rattle.mt_checkpoint.specs.declared.checkpoint.Checkpoint.{Checkpoint}
-use Rattle.mt_checkpoint.specs.Format.{head_bytes, entry_bytes, last_bytes}
+use Rattle.mt_checkpoint.specs.{declared.checkpoint.Checkpoint.Checkpoint, Format.{head_bytes, entry_bytes, last_bytes}}
 
 -- a pair whose fields have their limits
 pub record IsPair (p : TenantPair) : Type 0 where

@@ -1,20 +1,14 @@
 -- Reading the items of a checkpoint from left to right: for the functions that do it, whose callers see the spellings alone.
 use Rattle.std.specs.Prelude.{◌≡◌, ℕ, ◌+◌, ◌-◌, ◌^◌, ◌<◌, ◌≤◌, min, ◌==◌, Bool, true, IsTrue, List, [], ◌∷◌, ◌++◌, length, take, drop, Option, Some, None, if◌then◌else◌, Vec}
-use Rattle.std.specs.Int.{w32, w64}
-use Rattle.std.specs.List.{flat_map, AllByRecursion}
-use Rattle.std.specs.declared.alloc.Global.{Global}
-use Rattle.mt_rows.specs.Rows.{Bytes, Columns}
-use Rattle.mt_rows.specs.declared.record.TenantPair.{TenantPair}
+use Rattle.std.specs.{Int.{w32, w64}, List.{flat_map, AllByRecursion}, declared.alloc.Global.Global}
+use Rattle.mt_rows.specs.{Rows.{Bytes, Columns}, declared.record.TenantPair.TenantPair}
 use Rattle.mt_disk.specs.Disk.{DiskState}
 use Rattle.mt_fields.specs.Reading.{◌>>=◌, byte_at, number_at}
 use Rattle.mt_row_fields.specs.Reading.{row_at, key_at}
-use Rattle.mt_checkpoint.specs.declared.checkpoint.Checkpoint.{Checkpoint}
-use Rattle.mt_checkpoint.specs.declared.reader.Item.{Item}
-use Rattle.mt_checkpoint.specs.declared.reader.Item.TheVariants.{Pair, Last}
-use Rattle.mt_checkpoint.specs.declared.reader.Stop.{Stop}
-use Rattle.mt_checkpoint.specs.declared.reader.Stop.TheVariants as stops
-use Rattle.mt_checkpoint.specs.Format.{head_bytes, entry_bytes, last_bytes}
+use Rattle.mt_checkpoint.specs.{declared.checkpoint.Checkpoint.Checkpoint, declared.reader.Item.Item, declared.reader.Item.TheVariants.{Pair, Last}}
+use Rattle.mt_checkpoint.specs.{declared.reader.Stop.Stop, Format.{head_bytes, entry_bytes, last_bytes}}
 use Rattle.mt_checkpoint.specs.Checkpoints.{IsPair, IsWalk, walk_of, HasWalk, HasNone}
+use Rattle.mt_checkpoint.specs.declared.reader.Stop.TheVariants as stops
 
 -- an item's bytes, and its limits
 abbrev pub item_bytes : Item → Bytes

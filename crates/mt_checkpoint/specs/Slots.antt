@@ -1,17 +1,13 @@
 -- What the calls on a slot promise, and what each leaves at each of its moments.
-use Rattle.std.specs.Prelude.{◌≡◌, ◌⊎◌, ℕ, ◌≤◌, Bool, IsTrue, List, [], ◌∷◌, ◌++◌, length, drop, Option, Some, None, Result, MatchResult}
-use Rattle.std.specs.Option.{option_map}
+use Rattle.std.specs.{Prelude.{◌≡◌, ◌⊎◌, ℕ, ◌≤◌, Bool, IsTrue, List, [], ◌∷◌, ◌++◌, length, drop, Option, Some, None, Result, MatchResult}, Option.option_map}
 use Rattle.std.specs.List.{flat_map, slice_get}
 use Rattle.mt_rows.specs.declared.record.TenantPair.{TenantPair}
 use Rattle.mt_disk.specs.Disk.{DiskState, LeavesOnly, IsDurable, GoesUp, synced}
-use Rattle.mt_checkpoint.specs.declared.checkpoint.Checkpoint.{Checkpoint}
-use Rattle.mt_checkpoint.specs.declared.slot.Writer.{Writer}
-use Rattle.mt_checkpoint.specs.declared.fault.WriteFault.{WriteFault}
-use Rattle.mt_checkpoint.specs.declared.fault.WriteFault.TheVariants as writes
-use Rattle.mt_checkpoint.specs.declared.fault.ReadFault.{ReadFault}
-use Rattle.mt_checkpoint.specs.declared.fault.ReadFault.TheVariants as reads
-use Rattle.mt_checkpoint.specs.Format.{head_bytes, entry_bytes}
+use Rattle.mt_checkpoint.specs.{declared.checkpoint.Checkpoint.Checkpoint, declared.slot.Writer.Writer, declared.fault.WriteFault.WriteFault}
+use Rattle.mt_checkpoint.specs.{declared.fault.ReadFault.ReadFault, Format.{head_bytes, entry_bytes}}
 use Rattle.mt_checkpoint.specs.Checkpoints.{Walk, IsWalk, walk_of, HasWalk, Has, In, IsClosed, IsOneOf, IsBehindGate}
+use Rattle.mt_checkpoint.specs.declared.fault.WriteFault.TheVariants as writes
+use Rattle.mt_checkpoint.specs.declared.fault.ReadFault.TheVariants as reads
 
 -- ---- steps of the calls
 

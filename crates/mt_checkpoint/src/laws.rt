@@ -3,8 +3,7 @@
 ghost use Rattle.std.specs.Prelude.{◌≡◌, List, [], ◌∷◌, Option, Some, None};
 ghost use Rattle.mt_rows.specs.Rows.{Bytes};
 ghost use Rattle.mt_disk.specs.Disk.{DiskState, MayLeave, LeavesOnly, found_with};
-ghost use Rattle.mt_checkpoint.specs.Checkpoints.{Walk, HasWalk, Has, In, IsClosed, IsOneOf, IsClosedAtRest};
-ghost use Rattle.mt_checkpoint.specs.Slots.{HasDurably};
+ghost use Rattle.mt_checkpoint.specs.{Checkpoints.{Walk, HasWalk, Has, In, IsClosed, IsOneOf, IsClosedAtRest}, Slots.HasDurably};
 
 /// A file has one checkpoint at most, and none after a closed gate.
 pub fn a_slot_has_one_checkpoint()

@@ -3,8 +3,7 @@
 
 ghost use Rattle.std.specs.Prelude.{◌≡◌, ◌<◌, ◌^◌, ◌++◌, drop, IfSome, IfNone, IfOk};
 ghost use Rattle.mt_fields.specs.Reading.{Gives};
-ghost use Rattle.mt_checkpoint.specs.Format.{head_bytes};
-ghost use Rattle.mt_checkpoint.specs.Reading.{pair_at, last_at, item_kind_at, item_at, HasNoHead, Takes};
+ghost use Rattle.mt_checkpoint.specs.{Format.head_bytes, Reading.{pair_at, last_at, item_kind_at, item_at, HasNoHead, Takes}};
 
 use crate::writer::{HEAD_BYTES, head};
 use mt_fields::{DecodeFault, u8_at, u32_at, u64_at};

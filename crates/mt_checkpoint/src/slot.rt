@@ -1,12 +1,9 @@
 //! A slot: made, written and read.
 
-ghost use Rattle.std.specs.Prelude.{◌≡◌, ◌++◌, [], ◌∷◌, length, IsTrue, Option, Some, None, OnOk, IfOk, IfErr};
-ghost use Rattle.std.specs.List.{All};
+ghost use Rattle.std.specs.{Prelude.{◌≡◌, ◌++◌, [], ◌∷◌, length, IsTrue, Option, Some, None, OnOk, IfOk, IfErr}, List.All};
 ghost use Rattle.mt_disk.specs.Disk.{CountsFailure, LeavesOnly};
-ghost use Rattle.mt_rows.specs.Rows.{Bytes};
-ghost use Rattle.mt_rows.specs.Commands.{IsKey};
-ghost use Rattle.mt_checkpoint.specs.Format.{head_bytes, last_bytes};
-ghost use Rattle.mt_checkpoint.specs.Checkpoints.{Walk, IsWalk, walk_bytes, IsOneOf, IsClosedAtRest, IsBehindGate};
+ghost use Rattle.mt_rows.specs.{Rows.Bytes, Commands.IsKey};
+ghost use Rattle.mt_checkpoint.specs.{Format.{head_bytes, last_bytes}, Checkpoints.{Walk, IsWalk, walk_bytes, IsOneOf, IsClosedAtRest, IsBehindGate}};
 ghost use Rattle.mt_checkpoint.specs.Slots.{Begun, FailsToBegin, Added, FailsToAdd, Ended, FailsToEnd, ReadSlot, FailsToRead, LeavesOrNone, HasDurably};
 
 use crate::checkpoint::Checkpoint;

@@ -2,11 +2,8 @@
 //!
 //! Of the file no more is held than one window, besides the pairs that were read of it.
 
-ghost use Rattle.std.specs.Prelude.{◌≡◌, ◌≤◌, [], IsTrue, IfOk, IfSome, OnOk};
-ghost use Rattle.std.specs.List.{AllByRecursion};
-ghost use Rattle.mt_checkpoint.specs.Checkpoints.{IsPair};
-ghost use Rattle.mt_checkpoint.specs.Reading.{OfImage, IsWindow, IsHeadIn, IsEndIn, IsReadOpen};
-ghost use Rattle.mt_checkpoint.specs.Slots.{CountsReads};
+ghost use Rattle.std.specs.{Prelude.{◌≡◌, ◌≤◌, [], IsTrue, IfOk, IfSome, OnOk}, List.AllByRecursion};
+ghost use Rattle.mt_checkpoint.specs.{Checkpoints.IsPair, Reading.{OfImage, IsWindow, IsHeadIn, IsEndIn, IsReadOpen}, Slots.CountsReads};
 
 use crate::checkpoint::{Checkpoint, is_walk};
 use crate::fault::ReadFault;

@@ -1,7 +1,6 @@
 //! A checkpoint as the bytes that are written.
 
-ghost use Rattle.std.specs.Prelude.{◌≡◌, ◌++◌, IfOk, OnOk};
-ghost use Rattle.std.specs.List.{flat_map, All};
+ghost use Rattle.std.specs.{Prelude.{◌≡◌, ◌++◌, IfOk, OnOk}, List.{flat_map, All}};
 ghost use Rattle.mt_rows.specs.Commands.{IsKey};
 ghost use Rattle.mt_checkpoint.specs.Format.{head_bytes, entry_bytes, last_bytes};
 

@@ -1,7 +1,6 @@
 //! Checkpoints on disks in memory, that the tests share.
 
-ghost use Rattle.std.specs.Prelude.{◌↔◌, IsTrue};
-ghost use Rattle.std.specs.List.{All};
+ghost use Rattle.std.specs.{Prelude.{◌↔◌, IsTrue}, List.All};
 ghost use Rattle.mt_rows.specs.Commands.{IsKey};
 
 use mt_checkpoint::{Checkpoint, ReadFault, WriteFault, Writer, create_slot, read_valid};

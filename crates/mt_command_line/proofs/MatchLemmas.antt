@@ -3,10 +3,8 @@ use Rattle.std.proofs.Common.{◌≡◌, ℕ, ◌≤◌, ◌<◌, ◌^◌, Bool,
 use Rattle.std.specs.Str.Parse.{ParsesUnsigned}
 use Rattle.clap.specs.Words.{without_minus, first_value, ReadsOne, Text, matched_of, one_of, one_text, raw_values, rows_of}
 use Rattle.clap.specs.declared.parser.matches.Found.{Found}
-use Rattle.clap.proofs.CallerReads.{signed_reads}
-use Rattle.clap.proofs.WalkLemmas.{first_value-rows, one_text-rows, raw_values-rows}
-use Rattle.mt_command_line.specs.CommandLine.{folder_in, found_in, given_for, tenant_words}
-use Rattle.mt_command_line.specs.Reads.{HasNumber, IsFlag, IsGiven}
+use Rattle.clap.proofs.{CallerReads.signed_reads, WalkLemmas.{first_value-rows, one_text-rows, raw_values-rows}}
+use Rattle.mt_command_line.specs.{CommandLine.{folder_in, found_in, given_for, tenant_words}, Reads.{HasNumber, IsFlag, IsGiven}}
 
 -- the words that matches have for tenants, by their rows
 pub words_are : (f : Found) (o : Option (Bor (List (Bor Text)))) (d r : Bor (List (Bor Text)))

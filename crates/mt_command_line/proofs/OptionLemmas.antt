@@ -1,21 +1,12 @@
 -- After a parse that succeeds, an option with a default has a value that its parser takes.
 use Rattle.std.proofs.Common.{◌≡◌, ◌∙◌, ◌<◌, ◌≤◌, ℕ, zero, suc, Bool, true, false, List, [], ◌∷◌, Bor, Option, Some, None, length, is_some, option_map, slice_get, slice_index_or, refl, sym, ap, subst, inl, inr, arith}
-use Rattle.std.specs.Prelude.{find}
-use Rattle.std.specs.List.{All}
-use Rattle.std.specs.Str.{bytes_eq}
-use Rattle.std.proofs.lemmas.Slice.Eq.{bytes_eq-Decides}
-use Rattle.std.proofs.lemmas.List.Elements.{All-get_or}
+use Rattle.std.proofs.{lemmas.Slice.Eq.bytes_eq-Decides, lemmas.List.Elements.All-get_or}
+use Rattle.std.specs.{Prelude.find, List.All, Str.bytes_eq}
 use Rattle.clap.specs.Facts.{Entry, EntryPasses, PassesArg, WantsDefault, args_of, groups_of, least_values, parser_of, parser_of_value}
-use Rattle.clap.specs.Built.{IsAuto, IsParsedFrom, NamesNoGroup, SameRules}
-use Rattle.clap.specs.Values.{Accepts, read_as, reading_of}
-use Rattle.clap.specs.Matches.{found_of, matched_of, one_text}
-use Rattle.clap.specs.declared.builder.action.ArgAction.TheVariants.{Count, Set}
-use Rattle.clap.specs.declared.builder.arg.Arg.{Arg}
-use Rattle.clap.specs.declared.builder.command.Command.{Command}
-use Rattle.clap.specs.declared.builder.command.Command.TheViews.{out-Command}
-use Rattle.clap.specs.declared.builder.value_parser.ValueParser.{ValueParser}
-use Rattle.clap.specs.declared.parser.matches.ArgMatches.{ArgMatches}
-use Rattle.clap.specs.declared.parser.matches.MatchedArg.{MatchedArg}
+use Rattle.clap.specs.{Built.{IsAuto, IsParsedFrom, NamesNoGroup, SameRules}, Values.{Accepts, read_as, reading_of}, Matches.{found_of, matched_of, one_text}}
+use Rattle.clap.specs.{declared.builder.action.ArgAction.TheVariants.{Count, Set}, declared.builder.arg.Arg.Arg, declared.builder.command.Command.Command}
+use Rattle.clap.specs.{declared.builder.command.Command.TheViews.out-Command, declared.builder.value_parser.ValueParser.ValueParser}
+use Rattle.clap.specs.{declared.parser.matches.ArgMatches.ArgMatches, declared.parser.matches.MatchedArg.MatchedArg}
 use Rattle.clap.proofs.CallerLemmas.{default_present, entry_by_id, same_rules_by_id}
 
 -- the caller's argument of this number takes one value, by this parser, and has a default

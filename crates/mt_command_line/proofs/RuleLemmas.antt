@@ -1,25 +1,15 @@
 -- The arguments of the program's command, by the rules that clap reads of them.
 use Rattle.std.proofs.Common.{◌≡◌, ◌∙◌, ◌<◌, ◌≤◌, not, ℕ, zero, suc, true, false, List, [], ◌∷◌, Option, Some, None, length, is_some, map, codes, unwrap_or, slice_index_or, pos, refl, sym, ap, subst, inl, inr, arith}
-use Rattle.std.specs.List.{position}
-use Rattle.std.specs.Str.{bytes_eq}
-use Rattle.std.proofs.lemmas.List.{length-map, get_or-map}
-use Rattle.std.proofs.lemmas.Slice.Eq.{bytes_eq-Decides}
-use Rattle.clap.specs.Texts.{items_of}
-use Rattle.clap.specs.Facts.{args_of, least_values}
-use Rattle.clap.specs.Built.{IsParsedFrom}
-use Rattle.clap.specs.Walk.{is_simple_arg}
-use Rattle.clap.specs.Simple.{has_plain_fields}
-use Rattle.clap.specs.Words.{App, Rule, Text, app_of, found_of, one_text, rule_of, without_minus}
-use Rattle.clap.specs.declared.builder.arg.Arg.{Arg}
-use Rattle.clap.specs.declared.builder.command.Command.{Command}
-use Rattle.clap.specs.declared.builder.command.Command.TheViews.{out-Command}
-use Rattle.clap.specs.declared.builder.value_parser.ValueParser.TheVariants.{Signed}
-use Rattle.clap.proofs.SimpleLemmas.{is_false, is_nil}
-use Rattle.clap.proofs.WalkLemmas.{both}
+use Rattle.std.proofs.{lemmas.List.{length-map, get_or-map}, lemmas.Slice.Eq.bytes_eq-Decides}
+use Rattle.std.specs.{List.position, Str.bytes_eq}
+use Rattle.clap.specs.{Texts.items_of, Facts.{args_of, least_values}, Built.IsParsedFrom, Walk.is_simple_arg, Simple.has_plain_fields}
+use Rattle.clap.specs.{Words.{App, Rule, Text, app_of, found_of, one_text, rule_of, without_minus}, declared.builder.arg.Arg.Arg}
+use Rattle.clap.specs.{declared.builder.command.Command.Command, declared.builder.command.Command.TheViews.out-Command}
+use Rattle.clap.specs.{declared.builder.value_parser.ValueParser.TheVariants.Signed, declared.parser.matches.ArgMatches.ArgMatches}
+use Rattle.clap.proofs.{SimpleLemmas.{is_false, is_nil}, WalkLemmas.both}
 use Rattle.mt_command_line.specs.CommandLine.{number_rule, create_rule, port_rule, server, sessions_rule, store_rule, tenants_rule, workers_rule}
-use Rattle.mt_command_line.proofs.OptionLemmas.{IsOption, option_value}
 use Rattle.mt_command_line.specs.Reads.{HasNumber}
-use Rattle.clap.specs.declared.parser.matches.ArgMatches.{ArgMatches}
+use Rattle.mt_command_line.proofs.OptionLemmas.{IsOption, option_value}
 
 abbrev pub rules : List Rule
 rules = port_rule ∷ workers_rule ∷ sessions_rule ∷ store_rule ∷ create_rule ∷ tenants_rule ∷ []

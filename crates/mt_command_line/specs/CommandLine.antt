@@ -1,10 +1,8 @@
 -- What the program takes: three numbers with defaults, a folder, a flag, and one word or more that name tenants. The words
 -- of clap say what a parse of a command line makes of such rules (`Rattle.clap.specs.Words`).
 use Rattle.std.specs.Prelude.{ℕ, List, [], ◌∷◌, Option, Some, codes, unwrap_or, pos, true}
-use Rattle.clap.specs.Lexer.{usize_max}
-use Rattle.clap.specs.Words.{App, Kinds, Row, Rule, Text, all_of, fault_of, first_of, matches_of, new_app, new_rule, one_of, with_rule}
-use Rattle.clap.specs.declared.builder.ArgAction.TheVariants.{Append, Set, SetTrue}
-use Rattle.clap.specs.declared.builder.value_parser.ValueParser.TheVariants.{Signed}
+use Rattle.clap.specs.{Lexer.usize_max, Words.{App, Kinds, Row, Rule, Text, all_of, fault_of, first_of, matches_of, new_app, new_rule, one_of, with_rule}}
+use Rattle.clap.specs.{declared.builder.ArgAction.TheVariants.{Append, Set, SetTrue}, declared.builder.value_parser.ValueParser.TheVariants.Signed}
 
 -- an option `--NAME N`, with a number from `least` to `most`, and with its default
 abbrev pub number_rule : Text → ℕ → ℕ → Text → Rule

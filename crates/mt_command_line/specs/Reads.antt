@@ -1,18 +1,14 @@
 -- What is read from the words of a command line: options, or a fault.
-use Rattle.std.specs.Prelude.{◌≡◌, ℕ, ◌≤◌, Bool, true, false, List, [], Option, Some, None, Result, Ok, Err, Vec, codes, pos, slice_get}
-use Rattle.std.specs.Global.{Global}
+use Rattle.std.specs.{Prelude.{◌≡◌, ℕ, ◌≤◌, Bool, true, false, List, [], Option, Some, None, Result, Ok, Err, Vec, codes, pos, slice_get}, Global.Global}
 use Rattle.std.specs.Str.Parse.{IsNumeral, digits_value, without_leading_plus}
 use Rattle.clap.specs.Words.{IsAmong, IsSignedIn, Row, Text, found_of, kind_of, one_text, rows_of, without_minus}
-use Rattle.clap.specs.declared.parser.matches.ArgMatches.{ArgMatches}
-use Rattle.clap.specs.declared.parser.matches.Found.{Found}
-use Rattle.mt_options.specs.declared.options.Options.{Options}
-use Rattle.mt_options.specs.declared.options.StorePlace.{StorePlace}
-use Rattle.mt_options.specs.declared.tenants.TenantQuota.{TenantQuota}
-use Rattle.mt_options.specs.declared.tenants.TenantsFault.TheVariants as tenants_fault
+use Rattle.clap.specs.{declared.parser.matches.ArgMatches.ArgMatches, declared.parser.matches.Found.Found}
+use Rattle.mt_options.specs.{declared.options.Options.Options, declared.options.StorePlace.StorePlace, declared.tenants.TenantQuota.TenantQuota}
 use Rattle.mt_options.specs.Tenants.{AreTenants, IsFirstFault}
 use Rattle.mt_command_line.specs.declared.faults.OptionsFault.{OptionsFault}
 use Rattle.mt_command_line.specs.declared.faults.OptionsFault.TheVariants.{Words, CreateAlone, Malformed, Refused, Memory}
 use Rattle.mt_command_line.specs.CommandLine.{faults_in, folder_in, found_in, given_for, tenant_words}
+use Rattle.mt_options.specs.declared.tenants.TenantsFault.TheVariants as tenants_fault
 
 -- the number is the one that is found for the option, in decimal digits, and lies from `least` to `most`
 abbrev pub IsGiven : Text → ℕ → ℕ → List Row → ℕ → Type 0

@@ -2,8 +2,7 @@
 
 ghost use Rattle.std.specs.Prelude.{List, ◌≡◌, ◌<◌, Some, IfOk, IfErr, MatchResult, length, map, slice_get};
 ghost use Rattle.clap.specs.Words.{Text, found_of, rows_of};
-ghost use Rattle.mt_command_line.specs.CommandLine.{tenant_words};
-ghost use Rattle.mt_command_line.specs.Reads.{AreMatches, AsksFor, IsStoreFault, IsTold, Names, NamesStore};
+ghost use Rattle.mt_command_line.specs.{CommandLine.tenant_words, Reads.{AreMatches, AsksFor, IsStoreFault, IsTold, Names, NamesStore}};
 
 use crate::command::command_of;
 use crate::faults::OptionsFault;

@@ -1,16 +1,10 @@
 -- What lies ahead of a fence gets less as the fence rises: for the steps of a scan that nobody is in the way of.
 use Rattle.std.proofs.Common.{◌≡◌, ℕ, zero, suc, ◌+◌, ◌<◌, ◌≤◌, inl, inr, Bool, true, false, cond, List, [], ◌∷◌, length, take, refl, sym, ap, ◌∙◌, arith}
-use Rattle.std.specs.Prelude.{slice_index}
 use Rattle.std.proofs.lemmas.Bool.{cases_lt, cases_eq}
-use Rattle.std.specs.declared.cmp.Ordering.{Ordering}
-use Rattle.std.specs.Ordering.{nat_cmp, is_lt, ordering_then}
-use Rattle.std.specs.Cmp.Lexicographic.{slice_cmp}
+use Rattle.std.specs.{Prelude.slice_index, declared.cmp.Ordering.Ordering, Ordering.{nat_cmp, is_lt, ordering_then}, Cmp.Lexicographic.slice_cmp}
 use Rattle.mt_slices.specs.Fences.{IsBehindAll}
 use Rattle.mt_rows.specs.Rows.{Bytes}
-use Rattle.mt_arena.specs.declared.tree.Tree.{Tree}
-use Rattle.mt_arena.specs.declared.tree.Standing.TheVariants.{Live}
-use Rattle.mt_arena.specs.NodeView.{NodeView, node_at}
-use Rattle.mt_arena.specs.Forests.{tree_at}
+use Rattle.mt_arena.specs.{declared.tree.Tree.Tree, declared.tree.Standing.TheVariants.Live, NodeView.{NodeView, node_at}, Forests.tree_at}
 use Rattle.mt_arena.specs.Arena.{one_if_live, live_count}
 use Rattle.mt_readings.proofs.Bytewise.{nat_less, nat_greater, nat_same}
 use Rattle.mt_core.specs.ScanPoints.{is_behind_on, is_behind_tree, one_if_standing, live_trees, one_if_tree, trees_ahead, begin_of, one_if_node, nodes_ahead}

@@ -1,43 +1,27 @@
 -- How far an operation comes that is alone, or that nobody disturbs any more, and how its run ends: for `Inner::run_alone`.
 use Rattle.std.proofs.Common.{◌≡◌, ◌≢◌, ℕ, zero, suc, ◌+◌, ◌*◌, ◌<◌, ◌≤◌, inl, inr, List, [], ◌∷◌, Bool, true, false, Option, None, Some, refl, sym, ap, subst, ◌∙◌, arith}
+use Rattle.std.proofs.{Math.Nat.{mul-le-mul_right, min-le_right}, lemmas.Option.same_Some}
 use Rattle.std.specs.Prelude.{◌^◌, min}
-use Rattle.std.proofs.Math.Nat.{mul-le-mul_right, min-le_right}
-use Rattle.std.proofs.lemmas.Option.{same_Some}
 use Rattle.mt_arena.specs.Arena.{ArenaView, IsArena, live_count}
-use Rattle.mt_operation.specs.Phases.{Kind, IsClimb, IsClimbKind, row, IsToGrow, is_done}
-use Rattle.mt_operation.specs.Phases as kinds
+use Rattle.mt_operation.specs.{Phases.{Kind, IsClimb, IsClimbKind, row, IsToGrow, is_done}, declared.phase.Phase.Phase}
+use Rattle.mt_operation.specs.{declared.phase.Phase.TheVariants.{InteriorSplit, RootGrow, Done}, declared.walk.Walk.Walk, declared.splits.Halves.Halves}
+use Rattle.mt_operation.specs.{declared.operation.Operation.Operation, Operations.{OperationView, view_of}, Tasks.ask, Tables.{op_at as operation_at}}
+use Rattle.mt_operation.specs.declared.outcome.Outcome.{Outcome}
 use Rattle.mt_operation.proofs.Phases.{few_ranks}
-use Rattle.mt_core.proofs.WalkBounds.{few_walked}
-use Rattle.mt_core.proofs.Climbing.{climbed, climb_ungrown}
+use Rattle.mt_core.proofs.{WalkBounds.few_walked, Climbing.{climbed, climb_ungrown}, ScanNears.{scan_few, scan_left}, RemovalNears.{few_removal, removal_left}}
+use Rattle.mt_core.proofs.{Following.in_the_way, AloneStarts.unhindered_first, AloneRuns.{no_value, stepped, IsRunning, running_first, running_on, run_outcome}}
 use Rattle.mt_core.specs.Budgets.{WalksBy, budget_of, AreBelow, above, astray, before_unlock, split_level}
-use Rattle.mt_core.specs.Points.{MadeBy, IsComing, HasMade, IsFreeOfOthers, IsSoFar, IsUnhindered, MayHaveGrown, StepsOn}
-use Rattle.mt_state.specs.KeptOperations.{IsKeptFor, HasAnswer, IsBound, IsKeptAt, IsOnItsWay}
-use Rattle.mt_operation.specs.declared.phase.Phase.{Phase}
-use Rattle.mt_operation.specs.declared.phase.Phase.TheVariants as phases
-use Rattle.mt_operation.specs.declared.phase.Phase.TheVariants.{InteriorSplit, RootGrow, Done}
-use Rattle.mt_operation.specs.declared.walk.Walk.{Walk}
-use Rattle.mt_operation.specs.declared.splits.Halves.{Halves}
-use Rattle.mt_operation.specs.declared.operation.Operation.{Operation}
-use Rattle.mt_operation.specs.Operations.{OperationView, view_of}
-use Rattle.mt_operation.specs.Tasks.{ask}
-use Rattle.mt_operation.specs.Tables.{op_at as operation_at}
+use Rattle.mt_core.specs.{Points.{MadeBy, IsComing, HasMade, IsFreeOfOthers, IsSoFar, IsUnhindered, MayHaveGrown, StepsOn}, ScanPoints.live_trees}
+use Rattle.mt_core.specs.Alone.{most_among, most_steps, IsChain, Runs, IsAlone, EndsAlone, IsUndisturbed, EndsSoon}
+use Rattle.mt_state.specs.{KeptOperations.{IsKeptFor, HasAnswer, IsBound, IsKeptAt, IsOnItsWay}, declared.moves.Move.Move}
+use Rattle.mt_state.specs.declared.moves.Move.TheVariants.{Moved, Again, NoMemory as NoMemoryMove, Done as DoneMove, Spent, NoSuch}
+use Rattle.mt_state.specs.{Views.{StateView, Core, shown, op_at}, Invariant.StateInvariant, Promises.{HasStep, IsHeldByOther, IsAnswer, IsStep, Tells}}
+use Rattle.mt_state.proofs.Shown.{shown_there, inside_of}
 use Rattle.mt_insert.specs.KeptSplits.{HasSplits, last_of}
 use Rattle.mt_remove.specs.Writes.{is_remove}
-use Rattle.mt_state.specs.declared.moves.Move.{Move}
-use Rattle.mt_state.specs.declared.moves.Move.TheVariants.{Moved, Again, NoMemory as NoMemoryMove, Done as DoneMove, Spent, NoSuch}
-use Rattle.mt_state.specs.Views.{StateView, Core, shown, op_at}
-use Rattle.mt_operation.specs.declared.outcome.Outcome.{Outcome}
 use Rattle.mt_rows.specs.Maps.{is_scan}
-use Rattle.mt_state.specs.Invariant.{StateInvariant}
-use Rattle.mt_state.specs.Promises.{HasStep, IsHeldByOther, IsAnswer, IsStep, Tells}
-use Rattle.mt_state.proofs.Shown.{shown_there, inside_of}
-use Rattle.mt_core.specs.ScanPoints.{live_trees}
-use Rattle.mt_core.proofs.ScanNears.{scan_few, scan_left}
-use Rattle.mt_core.specs.Alone.{most_among, most_steps, IsChain, Runs, IsAlone, EndsAlone, IsUndisturbed, EndsSoon}
-use Rattle.mt_core.proofs.RemovalNears.{few_removal, removal_left}
-use Rattle.mt_core.proofs.Following.{in_the_way}
-use Rattle.mt_core.proofs.AloneStarts.{unhindered_first}
-use Rattle.mt_core.proofs.AloneRuns.{no_value, stepped, IsRunning, running_first, running_on, run_outcome}
+use Rattle.mt_operation.specs.Phases as kinds
+use Rattle.mt_operation.specs.declared.phase.Phase.TheVariants as phases
 
 -- one step more is part of the run
 pub chain_more : (old v w : StateView) (o made : ℕ) → IsChain made old v o → IsStep v w o false → IsChain (made + 1) old w o

@@ -1,30 +1,17 @@
 -- What the steps of one operation have made of a state, where all of them were its own: for `Inner::run_alone`.
 use Rattle.std.proofs.Common.{◌≡◌, ℕ, ◌+◌, ◌<◌, ◌≤◌, ◌⊎◌, inl, inr, Bool, true, false, cond, eqb, Option, Some, None, refl, sym, ap, subst, ◌∙◌, arith}
-use Rattle.std.proofs.lemmas.Bool.{cases_lt, eqb-true}
-use Rattle.std.proofs.lemmas.Option.{same_Some}
-use Rattle.mt_rows.specs.declared.command.Command.{Command}
-use Rattle.mt_rows.specs.declared.reply.Reply.{Reply}
-use Rattle.mt_rows.specs.declared.command.Command.TheVariants.{Scan}
-use Rattle.mt_rows.specs.declared.reply.Reply.TheVariants.{NoMemory, Pairs}
-use Rattle.mt_rows.specs.Maps.{Map, reply_of, map_after, is_change, is_no_memory, is_scan}
-use Rattle.mt_runs.specs.Scans.{IsLawfulScan}
-use Rattle.mt_walks.specs.Walked.{IsWithin}
-use Rattle.mt_walks.proofs.Exact.{exact}
+use Rattle.std.proofs.{lemmas.Bool.{cases_lt, eqb-true}, lemmas.Option.same_Some}
+use Rattle.mt_rows.specs.{declared.command.Command.Command, declared.reply.Reply.Reply, declared.command.Command.TheVariants.Scan}
+use Rattle.mt_rows.specs.{declared.reply.Reply.TheVariants.{NoMemory, Pairs}, Maps.{Map, reply_of, map_after, is_change, is_no_memory, is_scan}}
 use Rattle.mt_rows.specs.Tenants.{Contents, tenant_map}
 use Rattle.mt_rows.proofs.CommandLaws.{same_map_after}
-use Rattle.mt_runs.specs.Placings.{maps_after_one}
-use Rattle.mt_operation.specs.declared.outcome.Outcome.{Outcome}
-use Rattle.mt_operation.specs.declared.phase.Phase.{Phase}
-use Rattle.mt_operation.specs.Operations.{OperationView}
+use Rattle.mt_runs.specs.{Scans.IsLawfulScan, Placings.maps_after_one}
+use Rattle.mt_walks.{specs.Walked.IsWithin, proofs.Exact.exact}
+use Rattle.mt_operation.specs.{declared.outcome.Outcome.Outcome, declared.phase.Phase.Phase, Operations.OperationView, Phases.{MayFollow, is_unplaced}}
 use Rattle.mt_operation.proofs.Tables.{set_is}
-use Rattle.mt_state.specs.Views.{StateView, Shown, contents_of, op_at, map_of, quota_of, KeepsPast}
-use Rattle.mt_state.specs.Steps.{IsSameAsked, change_in, told_change}
-use Rattle.mt_operation.specs.Phases.{MayFollow, is_unplaced}
-use Rattle.mt_state.specs.Notes.{EndsJudging, Keeps, Notes}
-use Rattle.mt_state.proofs.Granted.{quota_stays}
-use Rattle.mt_state.proofs.Moved.{first_is}
-use Rattle.mt_state.proofs.HistoryChanges.{noted_placed, placed_after}
-use Rattle.mt_state.specs.Promises.{IsQuiet, IsPlacing, IsAnswer, IsStep}
+use Rattle.mt_state.specs.{Views.{StateView, Shown, contents_of, op_at, map_of, quota_of, KeepsPast}, Steps.{IsSameAsked, change_in, told_change}}
+use Rattle.mt_state.specs.{Notes.{EndsJudging, Keeps, Notes}, Promises.{IsQuiet, IsPlacing, IsAnswer, IsStep}}
+use Rattle.mt_state.proofs.{Granted.quota_stays, Moved.first_is, HistoryChanges.{noted_placed, placed_after}}
 use Rattle.mt_core.specs.Alone.{IsAlone, IsRun}
 
 -- the operation once it has made the step

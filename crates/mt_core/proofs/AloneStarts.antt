@@ -1,55 +1,31 @@
 -- Where the account begins of an operation that nobody disturbs any more, at whatever phase it stands: for `Inner::run_alone`.
 use Rattle.std.proofs.Common.{◌≡◌, ◌≢◌, ℕ, ◌+◌, ◌≤◌, inr, List, [], ◌∷◌, Bool, true, false, Option, None, Some, refl, sym, ap, subst, ◌∙◌, arith}
-use Rattle.std.proofs.lemmas.Option.{same_Some}
-use Rattle.mt_arena.specs.Arena.{IsArena, live_count, ArenaView}
-use Rattle.mt_arena.specs.Accesses.{at}
-use Rattle.mt_arena.proofs.Heights.{any_below_live}
+use Rattle.std.proofs.{lemmas.Option.same_Some, lemmas.Bool.both_ways}
+use Rattle.mt_arena.specs.{Arena.{IsArena, live_count, ArenaView}, Accesses.at, Forests.{layer_of, tree_at}}
+use Rattle.mt_arena.proofs.{Heights.any_below_live, Elsewhere.layer_is}
 use Rattle.mt_operation.specs.declared.removal.Removal.{Removal}
-use Rattle.mt_operation.specs.Phases.{Kind, FitsAim, ends, row, IsClimbKind, IsRemovalKind, IsRemovalPhase, IsOfKind, is_done}
-use Rattle.mt_operation.specs.Phases as kinds
+use Rattle.mt_operation.specs.{Phases.{Kind, FitsAim, ends, row, IsClimbKind, IsRemovalKind, IsRemovalPhase, IsOfKind, is_done}, declared.splits.Splits.Splits}
+use Rattle.mt_operation.specs.{declared.phase.Phase.Phase, declared.phase.Phase.TheVariants.{Reparent, Snap, Check, Hop}, declared.splits.Halves.Halves}
+use Rattle.mt_operation.specs.{declared.operation.Operation.Operation, Operations.OperationView, Tasks.{ask, aim_of}, declared.outcome.Outcome.Outcome}
+use Rattle.mt_operation.specs.{declared.walk.Walk.Walk, declared.scan.Stop.Stop}
 use Rattle.mt_operation.proofs.Phases.{by_removal}
-use Rattle.mt_core.proofs.WalkBounds.{IsWalkKind, none_walked}
-use Rattle.mt_core.proofs.Climbing.{climbed}
+use Rattle.mt_core.proofs.{WalkBounds.{IsWalkKind, none_walked}, Climbing.climbed, Ahead.{nodes_most, trees_most}, ScanNears.{scan_aim, rounds_less}}
+use Rattle.mt_core.proofs.{RemovalNears.shallow_layer, Astray.behind_most}
 use Rattle.mt_core.specs.Budgets.{WalksBy, budget_of, AreBelow}
-use Rattle.mt_core.specs.Points.{round_budget, MadeBy, RemovedBy, RoundsBy, untold, IsComing, HasRounds, IsSoFar, IsUnhindered}
-use Rattle.mt_state.specs.KeptOperations.{IsKeptFor, IsBound, IsKeptOf, IsOpenOperation, IsReturning, MayUnlock, MayUnlockUnsplit}
-use Rattle.mt_remove.specs.KeptRemovals.{KeptRemoval, IsCleaning}
-use Rattle.mt_operation.specs.declared.splits.Splits.{Splits}
+use Rattle.mt_core.specs.{Points.{round_budget, MadeBy, RemovedBy, RoundsBy, untold, IsComing, HasRounds, IsSoFar, IsUnhindered}, Alone.IsUndisturbed}
+use Rattle.mt_core.specs.ScanPoints.{ScansBy, live_trees, trees_ahead, round_of}
+use Rattle.mt_state.specs.{KeptOperations.{IsKeptFor, IsBound, IsKeptOf, IsOpenOperation, IsReturning, MayUnlock, MayUnlockUnsplit}, Views.{Core, shown}}
+use Rattle.mt_state.specs.Invariant.{StateInvariant}
+use Rattle.mt_state.proofs.{Needs.writing_put, Lawful.{aim_scan, scan_no_remove}, Bound.put_no_remove, Shown.inside_of}
+use Rattle.mt_remove.specs.{KeptRemovals.{KeptRemoval, IsCleaning}, Writes.is_remove}
 use Rattle.mt_insert.specs.KeptSplits.{HasSplits, last_of}
-use Rattle.mt_rows.specs.Rows.{Bytes}
-use Rattle.mt_state.proofs.Needs.{writing_put}
-use Rattle.mt_operation.specs.declared.walk.Aim.TheVariants as aims
-use Rattle.mt_operation.specs.declared.phase.Phase.{Phase}
-use Rattle.mt_operation.specs.declared.phase.Phase.TheVariants as phases
-use Rattle.mt_operation.specs.declared.phase.Phase.TheVariants.{Reparent, Snap, Check, Hop}
-use Rattle.mt_operation.specs.declared.splits.Halves.{Halves}
-use Rattle.mt_operation.specs.declared.operation.Operation.{Operation}
-use Rattle.mt_operation.specs.Operations.{OperationView}
-use Rattle.mt_operation.specs.Tasks.{ask, aim_of}
-use Rattle.mt_remove.specs.Writes.{is_remove}
+use Rattle.mt_rows.specs.{Rows.Bytes, declared.command.Command.Command, declared.command.Command.TheVariants.Remove, Maps.is_scan}
 use Rattle.mt_descent.specs.KeptWalks.{GoesThrough}
 use Rattle.mt_slices.specs.Keys.{IsStoredKey}
-use Rattle.mt_rows.specs.declared.command.Command.{Command}
-use Rattle.mt_rows.specs.declared.command.Command.TheVariants.{Remove}
-use Rattle.mt_arena.specs.Forests.{layer_of, tree_at}
-use Rattle.mt_arena.proofs.Elsewhere.{layer_is}
-use Rattle.mt_rows.specs.Maps.{is_scan}
-use Rattle.mt_state.proofs.Lawful.{aim_scan, scan_no_remove}
-use Rattle.mt_state.proofs.Bound.{put_no_remove}
-use Rattle.std.proofs.lemmas.Bool.{both_ways}
-use Rattle.mt_state.specs.Views.{Core, shown}
-use Rattle.mt_operation.specs.declared.outcome.Outcome.{Outcome}
-use Rattle.mt_state.specs.Invariant.{StateInvariant}
-use Rattle.mt_state.proofs.Shown.{inside_of}
-use Rattle.mt_core.specs.Alone.{IsUndisturbed}
-use Rattle.mt_operation.specs.declared.walk.Walk.{Walk}
-use Rattle.mt_operation.specs.declared.scan.Stop.{Stop}
+use Rattle.mt_operation.specs.Phases as kinds
+use Rattle.mt_operation.specs.declared.walk.Aim.TheVariants as aims
+use Rattle.mt_operation.specs.declared.phase.Phase.TheVariants as phases
 use Rattle.mt_operation.specs.declared.scan.Stop.TheVariants as stops
-use Rattle.mt_core.specs.ScanPoints.{ScansBy, live_trees, trees_ahead, round_of}
-use Rattle.mt_core.proofs.Ahead.{nodes_most, trees_most}
-use Rattle.mt_core.proofs.ScanNears.{scan_aim, rounds_less}
-use Rattle.mt_core.proofs.RemovalNears.{shallow_layer}
-use Rattle.mt_core.proofs.Astray.{behind_most}
 
 -- live nodes stand on levels below their number
 nodes_below : (c : Core) → StateInvariant c → IsArena c.arena.nodes c.arena.trees → AreBelow c.arena (live_count c.arena.nodes)

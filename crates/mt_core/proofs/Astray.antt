@@ -1,10 +1,8 @@
 -- How many border nodes a walk may still go on to: fewer from each than from the one before, and no more than there are. For the step to the next node, and for
 -- where an operation stands that was disturbed.
-use Rattle.std.proofs.Common.{◌≡◌, ℕ, zero, suc, ◌<◌, ◌≤◌, inl, inr, Bool, false, List, [], ◌∷◌, length, arith, ap}
+use Rattle.std.proofs.{Common.{◌≡◌, ℕ, zero, suc, ◌<◌, ◌≤◌, inl, inr, Bool, false, List, [], ◌∷◌, length, arith, ap}, lemmas.Bool.{cases_lt, lt-ltb, le-ltb}}
 use Rattle.std.specs.Prelude.{if◌then◌else◌, nat_lt}
-use Rattle.std.proofs.lemmas.Bool.{cases_lt, lt-ltb, le-ltb}
-use Rattle.mt_arena.specs.NodeView.{NodeView, node_at}
-use Rattle.mt_arena.specs.Arena.{live_count, one_if_live}
+use Rattle.mt_arena.specs.{NodeView.{NodeView, node_at}, Arena.{live_count, one_if_live}}
 use Rattle.mt_core.specs.Budgets.{behind_count, one_if_behind}
 
 -- behind a node begin no more than behind one that begins before it

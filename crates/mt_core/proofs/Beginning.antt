@@ -1,35 +1,21 @@
 -- A begin that was not refused: the invariant with an operation more, and what it tells: for `Inner::admit`.
 use Rattle.std.proofs.Common.{◌≡◌, ◌≢◌, ℕ, ◌+◌, ◌≤◌, length, Option, None, Some, IsSome, Result, Ok, Err, refl, sym, ap, subst, ◌∙◌, arith}
-use Rattle.std.specs.Option.{option_map}
 use Rattle.std.proofs.lemmas.Option.{none-some}
-use Rattle.mt_rows.specs.declared.refusal.Refusal.{Refusal}
-use Rattle.mt_rows.specs.declared.refusal.Refusal.TheVariants.{Memory}
-use Rattle.mt_rows.specs.declared.tenants.Account.{Account}
-use Rattle.mt_rows.specs.Accounts.{account_of}
+use Rattle.std.specs.Option.{option_map}
+use Rattle.mt_rows.specs.{declared.refusal.Refusal.Refusal, declared.refusal.Refusal.TheVariants.Memory, declared.tenants.Account.Account, Accounts.account_of}
 use Rattle.mt_rows.specs.Rows.{Bytes}
 use Rattle.mt_slices.specs.Keys.{IsStoredKey}
-use Rattle.mt_arena.specs.Arena.{ArenaView, IsArena}
-use Rattle.mt_arena.proofs.Down.{goes_on_top}
-use Rattle.mt_operation.specs.declared.operation.Operation.{Operation}
-use Rattle.mt_operation.specs.declared.walk.Walk.{Walk}
-use Rattle.mt_operation.specs.Tasks.{ask}
-use Rattle.mt_operation.specs.Operations.{OperationView, view_of}
-use Rattle.mt_operation.specs.Tables.{Table, op_at as operation_at}
-use Rattle.mt_operation.specs.Tables as tables
+use Rattle.mt_arena.{specs.Arena.{ArenaView, IsArena}, proofs.Down.goes_on_top}
+use Rattle.mt_operation.specs.{declared.operation.Operation.Operation, declared.walk.Walk.Walk, Tasks.ask, Operations.{OperationView, view_of}}
+use Rattle.mt_operation.specs.{Tables.{Table, op_at as operation_at}, declared.outcome.Outcome.Outcome, Phases.IsOfKind}
 use Rattle.mt_descent.specs.KeptWalks.{GoesThrough, KeptAt}
-use Rattle.mt_state.specs.Views.{Core, StateView, shown, past_of}
-use Rattle.mt_operation.specs.declared.outcome.Outcome.{Outcome}
-use Rattle.mt_state.specs.KeptOperations.{IsBound, IsKeptAt, IsKeptOf, IsScanKept}
-use Rattle.mt_operation.specs.Phases.{IsOfKind}
-use Rattle.mt_state.specs.Steps.{change_in}
-use Rattle.mt_state.specs.Invariant.{StateInvariant, one_if_prepared}
-use Rattle.mt_state.specs.Begins.{Begins}
+use Rattle.mt_state.specs.{Views.{Core, StateView, shown, past_of}, KeptOperations.{IsBound, IsKeptAt, IsKeptOf, IsScanKept}, Steps.change_in}
+use Rattle.mt_state.specs.{Invariant.{StateInvariant, one_if_prepared}, Begins.Begins}
 use Rattle.mt_state.proofs.Shown.{shown_at, shown_there}
-use Rattle.mt_core.specs.declared.answers.Ticket.{Ticket}
-use Rattle.mt_core.specs.Admitted.{IsAdmitted, OpeningView, IsAccepted, TellsAdmitted, IsRefusedFor, RefusesOpening}
+use Rattle.mt_core.specs.{declared.answers.Ticket.Ticket, Admitted.{IsAdmitted, OpeningView, IsAccepted, TellsAdmitted, IsRefusedFor, RefusesOpening}}
 use Rattle.mt_core.specs.Places.{HasPlaces, TakesPlace}
-use Rattle.mt_core.proofs.Reserving.{no_place, place_taken}
-use Rattle.mt_core.proofs.Tabling.{with_table, begun_sound}
+use Rattle.mt_core.proofs.{Reserving.{no_place, place_taken}, Tabling.{with_table, begun_sound}}
+use Rattle.mt_operation.specs.Tables as tables
 
 -- a stored key goes through the top tree
 through_top : (v : ArenaView) (key : Bytes) → IsArena v.nodes v.trees → IsStoredKey key → GoesThrough v 0 0 key

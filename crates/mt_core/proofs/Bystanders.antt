@@ -2,10 +2,8 @@
 use Rattle.std.proofs.Common.{◌≡◌, ◌≢◌, ℕ, Some, false, true, ap}
 use Rattle.mt_rows.specs.Tenants.{tenant_map}
 use Rattle.mt_operation.specs.Operations.{OperationView}
-use Rattle.mt_state.specs.declared.moves.Move.{Move}
-use Rattle.mt_state.specs.declared.moves.Move.TheVariants.{Moved, Again, NoMemory, Done, Spent, NoSuch}
-use Rattle.mt_state.specs.Views.{StateView, contents_of, op_at}
-use Rattle.mt_state.specs.Promises.{Tells}
+use Rattle.mt_state.specs.{declared.moves.Move.Move, declared.moves.Move.TheVariants.{Moved, Again, NoMemory, Done, Spent, NoSuch}}
+use Rattle.mt_state.specs.{Views.{StateView, contents_of, op_at}, Promises.Tells}
 use Rattle.mt_state.proofs.Apart.{maps_apart}
 
 -- a call that makes no step changes nothing, and a step changes its own tenant's map alone

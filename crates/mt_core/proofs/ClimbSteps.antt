@@ -1,39 +1,21 @@
 -- A step of a put whose right halves come to their parents, by what it tells: for `Inner::write`.
 use Rattle.std.proofs.Common.{List, None, Some, [], ap, arith, false, inl, inr, is_some, length, refl, set, subst, suc, sym, zero, ℕ, ◌+◌, ◌-◌, ◌<◌, ◌∙◌, ◌∷◌, ◌≡◌, ◌≤◌}
+use Rattle.std.proofs.{lemmas.Bool.{cases_eq, both_ways}, lemmas.Option.same_Some}
 use Rattle.std.specs.Prelude.{◌^◌, ◌⊎◌}
-use Rattle.std.proofs.lemmas.Bool.{cases_eq, both_ways}
-use Rattle.std.proofs.lemmas.Option.{same_Some}
-use Rattle.mt_arena.specs.Arena.{ArenaView, IsArena}
-use Rattle.mt_arena.specs.Accesses.{at}
-use Rattle.mt_operation.specs.declared.phase.Phase.{Phase}
-use Rattle.mt_operation.specs.declared.phase.Phase.TheVariants.{InteriorSplit, RootGrow}
-use Rattle.mt_operation.specs.declared.walk.Walk.{Walk}
-use Rattle.mt_operation.specs.declared.splits.Halves.{Halves}
-use Rattle.mt_operation.specs.declared.splits.Splits.{Splits}
-use Rattle.mt_operation.specs.declared.operation.Operation.{Operation}
-use Rattle.mt_operation.specs.Operations.{OperationView, moved, view_of, with_splits}
-use Rattle.mt_operation.specs.Phases.{IsClimb, IsToGrow}
-use Rattle.mt_operation.specs.Tables.{Table, op_at as operation_at}
+use Rattle.mt_arena.specs.{Arena.{ArenaView, IsArena}, Accesses.at}
+use Rattle.mt_operation.specs.{declared.phase.Phase.Phase, declared.phase.Phase.TheVariants.{InteriorSplit, RootGrow}, declared.walk.Walk.Walk}
+use Rattle.mt_operation.specs.{declared.splits.Halves.Halves, declared.splits.Splits.Splits, declared.operation.Operation.Operation}
+use Rattle.mt_operation.specs.{Operations.{OperationView, moved, view_of, with_splits}, Phases.{IsClimb, IsToGrow}, Tables.{Table, op_at as operation_at}}
 use Rattle.mt_operation.proofs.Tables.{set_is, set_there}
 use Rattle.mt_insert.specs.KeptSplits.{AreParted, AreReturnable, HasSplits, HasSplitsNamed, HoldsSplits, IsAmong, IsParent, KeptSplit, NothingLags, halves_at, last_of}
 use Rattle.mt_insert.specs.Climbs.{AreSame, IsClimbFrom}
-use Rattle.mt_state.specs.declared.moves.Move.TheVariants.{Moved, NoMemory}
-use Rattle.mt_state.specs.Views.{Core, Shown, shown}
-use Rattle.mt_state.specs.Promises.{IsAnswer}
-use Rattle.mt_state.specs.KeptOperations.{IsClimbing, IsKeptOf, IsScanKept}
-use Rattle.mt_state.specs.Invariant.{HoldsAt, StateInvariant, made_count, one_if_prepared, prepared_count}
-use Rattle.mt_state.proofs.Shown.{shown_set, shown_table, shown_there}
-use Rattle.mt_state.proofs.Telling.{Gives}
-use Rattle.mt_state.proofs.SplitSteps.{climb_among, climb_done, climbing_of, among_climb, kept_climbing}
-use Rattle.mt_state.proofs.ClimbingNodes.{climb_keeps, climb_leads}
-use Rattle.mt_core.specs.Budgets.{above}
-use Rattle.mt_core.specs.Points.{StepsOn}
-use Rattle.mt_core.proofs.Climbing.{climb_none, climb_writes}
-use Rattle.mt_core.proofs.Points.{nears_by, point_first}
-use Rattle.mt_core.proofs.Following.{IsOver, IsSound, made, set_back, write_no_scan}
-use Rattle.mt_core.proofs.Leading.{no_step, leads_over}
-use Rattle.mt_core.proofs.Retained.{own_tape, retained, scan_retained}
-use Rattle.mt_core.proofs.ClimbingNears.{climb_nears}
+use Rattle.mt_state.specs.{declared.moves.Move.TheVariants.{Moved, NoMemory}, Views.{Core, Shown, shown}, Promises.IsAnswer}
+use Rattle.mt_state.specs.{KeptOperations.{IsClimbing, IsKeptOf, IsScanKept}, Invariant.{HoldsAt, StateInvariant, made_count, one_if_prepared, prepared_count}}
+use Rattle.mt_state.proofs.{Shown.{shown_set, shown_table, shown_there}, Telling.Gives}
+use Rattle.mt_state.proofs.{SplitSteps.{climb_among, climb_done, climbing_of, among_climb, kept_climbing}, ClimbingNodes.{climb_keeps, climb_leads}}
+use Rattle.mt_core.specs.{Budgets.above, Points.StepsOn}
+use Rattle.mt_core.proofs.{Climbing.{climb_none, climb_writes}, Points.{nears_by, point_first}, Following.{IsOver, IsSound, made, set_back, write_no_scan}}
+use Rattle.mt_core.proofs.{Leading.{no_step, leads_over}, Retained.{own_tape, retained, scan_retained}, ClimbingNears.climb_nears}
 
 -- as many operations have all ready where the one that is written has as it had
 count_back : (table : Table) (o : ℕ) (x y : Operation) → operation_at table o ≡ Some x → one_if_prepared (Some y) ≡ one_if_prepared (Some x)

@@ -1,23 +1,15 @@
 -- How near a step of a climb brings its operation, and that no level is new: for `Inner::climb`.
-use Rattle.std.proofs.Common.{List, [], ap, arith, inl, inr, length, refl, subst, sym, false, ℕ, ◌*◌, ◌+◌, ◌<◌, ◌∷◌, ◌∙◌, ◌≡◌, ◌≢◌, ◌≤◌}
-use Rattle.std.proofs.lemmas.Bool.{cases_lt}
-use Rattle.mt_arena.specs.Arena.{ArenaView}
-use Rattle.mt_arena.specs.Accesses.{at}
+use Rattle.std.proofs.{Common.{List, [], ap, arith, inl, inr, length, refl, subst, sym, false, ℕ, ◌*◌, ◌+◌, ◌<◌, ◌∷◌, ◌∙◌, ◌≡◌, ◌≢◌, ◌≤◌}, lemmas.Bool.cases_lt}
+use Rattle.mt_arena.specs.{Arena.ArenaView, Accesses.at}
 use Rattle.mt_operation.proofs.Phases.{by_climb}
+use Rattle.mt_operation.specs.{declared.phase.Phase.Phase, declared.phase.Phase.TheVariants.Unlock, declared.walk.Walk.Walk, declared.splits.Halves.Halves}
+use Rattle.mt_operation.specs.{declared.splits.Splits.Splits, declared.walk.Aim.Aim, Phases.{IsOfKind, IsClimb}}
 use Rattle.mt_insert.specs.KeptSplits.{HasSplits, KeptSplit}
-use Rattle.mt_operation.specs.declared.phase.Phase.{Phase}
-use Rattle.mt_operation.specs.declared.phase.Phase.TheVariants.{Unlock}
-use Rattle.mt_operation.specs.declared.walk.Walk.{Walk}
-use Rattle.mt_operation.specs.declared.splits.Halves.{Halves}
-use Rattle.mt_operation.specs.declared.splits.Splits.{Splits}
 use Rattle.mt_held.specs.Moves.{walk_at}
-use Rattle.mt_operation.specs.declared.walk.Aim.{Aim}
-use Rattle.mt_operation.specs.declared.walk.Aim.TheVariants as aims
-use Rattle.mt_operation.specs.Phases.{IsOfKind, IsClimb}
-use Rattle.mt_core.specs.Budgets.{AreBelow, before_unlock}
-use Rattle.mt_core.specs.Points.{HasMade, HasRemoved, IsAtPoint, MayHaveGrown}
+use Rattle.mt_core.specs.{Budgets.{AreBelow, before_unlock}, Points.{HasMade, HasRemoved, IsAtPoint, MayHaveGrown}}
 use Rattle.mt_core.proofs.Points.{below_at, few_at, point_at}
 use Rattle.mt_state.proofs.Climbing.{LeavesNodes}
+use Rattle.mt_operation.specs.declared.walk.Aim.TheVariants as aims
 
 -- each node that was added stands on the level of a live one that was there
 abbrev pub AreOnLevels : ArenaView → ArenaView → Type 0

@@ -1,31 +1,18 @@
 -- How near each step of a climb brings its operation, by what its call ensures: for `Inner::climb`.
-use Rattle.mt_arena.specs.Accesses.{at}
-use Rattle.mt_arena.specs.Arena.{ArenaView}
-use Rattle.mt_arena.specs.Edits.{pointed, splitting}
-use Rattle.mt_arena.specs.NodeView.{NodeView}
-use Rattle.mt_arena.specs.Nodes.{AreNodes}
-use Rattle.mt_arena.specs.Splits.{with_child}
-use Rattle.mt_core.proofs.Climbing.{AreOnLevels, nears_on, unlock_most}
-use Rattle.mt_core.specs.Budgets.{AreBelow, split_level}
-use Rattle.mt_core.specs.Points.{HasMade, IsAtPoint}
+use Rattle.mt_arena.specs.{Accesses.at, Arena.ArenaView, Edits.{pointed, splitting}, NodeView.NodeView, Nodes.AreNodes, Splits.with_child}
+use Rattle.mt_core.{proofs.Climbing.{AreOnLevels, nears_on, unlock_most}, specs.{Budgets.{AreBelow, split_level}, Points.{HasMade, IsAtPoint}}}
 use Rattle.mt_insert.proofs.SplittingParents.{last_more}
 use Rattle.mt_insert.specs.SplitEdits.{after_reparent, for_parent}
-use Rattle.mt_held.specs.Moves.{walk_at}
 use Rattle.mt_insert.specs.KeptSplits.{HasSplits, IsAtInsertChild, IsAtInteriorSplit, IsAtLockParent, IsAtReparent, IsAtRootGrow, IsAtSplitPrev, KeptSplit, halves_at, last_of}
-use Rattle.mt_operation.proofs.Phases.{by_climb}
-use Rattle.mt_operation.specs.Phases.{IsClimb}
-use Rattle.mt_operation.specs.declared.phase.Phase.TheVariants.{InsertChild, InteriorSplit, LockParent, Reparent, RootGrow, SplitPrev, Unlock}
-use Rattle.mt_operation.specs.declared.splits.Halves.{Halves}
-use Rattle.mt_operation.specs.declared.splits.Splits.{Splits}
-use Rattle.mt_operation.specs.declared.walk.Walk.{Walk}
-use Rattle.std.proofs.Common.{Bool, List, None, Option, Some, [], ap, arith, false, length, length-append, length-drop, refl, slice_index, subst, suc, true, zero, ℕ, ◌+◌, ◌-◌, ◌<◌, ◌==◌, ◌∙◌, ◌∷◌, ◌≡◌, ◌≢◌, ◌≤◌}
-use Rattle.std.proofs.lemmas.Bool.{eqb-true}
-use Rattle.std.proofs.lemmas.List.{length-set}
-use Rattle.std.specs.Prelude.{if◌then◌else◌, insert}
-use Rattle.mt_operation.specs.declared.phase.Phase.{Phase}
 use Rattle.mt_insert.specs.Climbs.{IsClimbFrom, IsInsertChild, IsInteriorSplit, IsLockParent, IsReparent, IsRootGrow, IsSplitPrev}
-use Rattle.mt_state.proofs.ClimbingNodes.{size_locked, zs, half, u, size_z, climb_leaves, climb_some}
-use Rattle.mt_state.proofs.Climbing.{LeavesNodes, each_set, pushed_at}
+use Rattle.mt_held.specs.Moves.{walk_at}
+use Rattle.mt_operation.proofs.Phases.{by_climb}
+use Rattle.mt_operation.specs.{Phases.IsClimb, declared.phase.Phase.TheVariants.{InsertChild, InteriorSplit, LockParent, Reparent, RootGrow, SplitPrev, Unlock}}
+use Rattle.mt_operation.specs.{declared.splits.Halves.Halves, declared.splits.Splits.Splits, declared.walk.Walk.Walk, declared.phase.Phase.Phase}
+use Rattle.std.proofs.Common.{Bool, List, None, Option, Some, [], ap, arith, false, length, length-append, length-drop, refl, slice_index, subst, suc, true, zero, ℕ, ◌+◌, ◌-◌, ◌<◌, ◌==◌, ◌∙◌, ◌∷◌, ◌≡◌, ◌≢◌, ◌≤◌}
+use Rattle.std.proofs.{lemmas.Bool.eqb-true, lemmas.List.length-set}
+use Rattle.std.specs.Prelude.{if◌then◌else◌, insert}
+use Rattle.mt_state.proofs.{ClimbingNodes.{size_locked, zs, half, u, size_z, climb_leaves, climb_some}, Climbing.{LeavesNodes, each_set, pushed_at}}
 
 -- the last ones are the same where all are
 last_same : (s t : Splits) → t.halves.items ≡ s.halves.items → last_of t ≡ last_of s

@@ -1,13 +1,9 @@
 -- A log that was given changes, and the least of the steps up to which logs were given theirs: for `drains`.
-use Rattle.std.proofs.lemmas.List.{take_more, length-append, length-set}
-use Rattle.std.proofs.Math.ListN.{get_or-append}
-use Rattle.std.proofs.Math.Seq.{get_or-append_seam}
+use Rattle.std.proofs.{lemmas.List.{take_more, length-append, length-set}, Math.ListN.get_or-append, Math.Seq.get_or-append_seam}
 use Rattle.std.proofs.Common.{◌≡◌, ℕ, ◌+◌, ◌<◌, ◌≤◌, List, [], ◌∷◌, ◌++◌, min, length, take, get_or, set, sym, subst, arith}
 use Rattle.std.proofs.lemmas.List.Elements.{All-push, All-set}
-use Rattle.mt_state.specs.Views.{Core}
-use Rattle.mt_state.specs.Invariant.{StateInvariant}
-use Rattle.mt_core.specs.Drains.{IsLeastOf}
-use Rattle.mt_core.proofs.Retained.{retained, scan_retained, own_tape}
+use Rattle.mt_state.specs.{Views.Core, Invariant.StateInvariant}
+use Rattle.mt_core.{specs.Drains.IsLeastOf, proofs.Retained.{retained, scan_retained, own_tape}}
 
 -- a log that was given changes up to a step that was made, not before it was last given any, is a log still
 pub drained : (c : Core) (worker given to : ℕ) → StateInvariant c → worker < length c.logs → get_or c.logs worker given ≤ to → to ≤ c.steps → StateInvariant (record c { logs = set c.logs worker to })

@@ -1,17 +1,10 @@
 -- The names of a run, by the map of their tickets and by the map of their ids: for `begin_by`, `step_by` and `run_events`.
-use Rattle.std.proofs.Common.{◌≡◌, ◌≢◌, ◌∙◌, ℕ, inl, inr, IsSome, true, false, Option, Some, None, is_some, sym, refl, ap}
-use Rattle.std.specs.declared.cmp.Ordering.{Ordering}
-use Rattle.std.specs.declared.cmp.Ordering.TheVariants.{Less, Equal, Greater}
-use Rattle.std.specs.Option.{option_map}
-use Rattle.std.proofs.lemmas.Option.{same_Some}
-use Rattle.std.specs.Ordering.{nat_cmp, is_eq}
-use Rattle.std.specs.FinMap.{nat_cmp-IsAntisymmetric}
-use Rattle.std.specs.BTreeMap.{BTreeMap, get, Updates}
+use Rattle.std.proofs.{Common.{◌≡◌, ◌≢◌, ◌∙◌, ℕ, inl, inr, IsSome, true, false, Option, Some, None, is_some, sym, refl, ap}, lemmas.Option.same_Some}
 use Rattle.std.proofs.lemmas.Bool.{cases_eq}
-use Rattle.mt_core.specs.declared.answers.Ticket.{Ticket}
-use Rattle.mt_state.specs.Views.{Shown, op_at}
-use Rattle.mt_state.specs.Histories.{Names, Renames, AreHeld, AreById}
-use Rattle.mt_core.specs.Tickets.{named}
+use Rattle.std.specs.{declared.cmp.Ordering.Ordering, declared.cmp.Ordering.TheVariants.{Less, Equal, Greater}, Option.option_map, Ordering.{nat_cmp, is_eq}}
+use Rattle.std.specs.{FinMap.nat_cmp-IsAntisymmetric, BTreeMap.{BTreeMap, get, Updates}}
+use Rattle.mt_core.specs.{declared.answers.Ticket.Ticket, Tickets.named}
+use Rattle.mt_state.specs.{Views.{Shown, op_at}, Histories.{Names, Renames, AreHeld, AreById}}
 
 -- what a map has for a name is what the name stands for
 abbrev pub id_in : Option (Option Ticket) → Option (Option ℕ)

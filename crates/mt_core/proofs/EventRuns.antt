@@ -1,23 +1,12 @@
 -- What stands before the first event of a run, and after one event more: for `run_events`.
 use Rattle.std.proofs.Common.{◌≡◌, ℕ, zero, suc, ◌+◌, ◌<◌, [], ◌∷◌, ◌++◌, List, length, take, get_or, Option, Some, None, is_some, refl, sym, ap, subst, ◌∙◌, arith}
-use mathlib.Core.Path.{fun_ext}
-use Rattle.std.specs.List.{zip}
-use Rattle.std.specs.Ordering.{nat_cmp, is_eq}
-use Rattle.std.specs.Map.{lookup}
-use Rattle.std.specs.BTreeMap.{BTreeMap}
+use Rattle.std.specs.{List.zip, Ordering.{nat_cmp, is_eq}, Map.lookup, BTreeMap.BTreeMap}
 use Rattle.mt_rows.specs.Accounts.{Accounts, account_of}
-use Rattle.mt_runs.specs.declared.event.Event.{Event}
-use Rattle.mt_runs.specs.declared.event.Told.{Told}
-use Rattle.mt_runs.specs.Runs.{Run, story_of}
-use Rattle.mt_runs.specs.Placings.{no_pairs}
-use Rattle.mt_state.specs.Views.{StateView, quota_in}
-use Rattle.mt_state.specs.Begins.{new_state}
-use Rattle.mt_state.specs.Histories.{Names, AreNamed, AreHeld, AreById, no_names, History, BringsTo}
-use Rattle.mt_state.proofs.HistoryStart.{history_new}
-use Rattle.mt_state.proofs.HistoryEvents.{keeps_run}
-use Rattle.mt_core.specs.declared.answers.Ticket.{Ticket}
-use Rattle.mt_core.specs.Tickets.{named}
-use Rattle.mt_core.proofs.EventNames.{id_in}
+use Rattle.mt_runs.specs.{declared.event.Event.Event, declared.event.Told.Told, Runs.{Run, story_of}, Placings.no_pairs}
+use Rattle.mt_state.specs.{Views.{StateView, quota_in}, Begins.new_state, Histories.{Names, AreNamed, AreHeld, AreById, no_names, History, BringsTo}}
+use Rattle.mt_state.proofs.{HistoryStart.history_new, HistoryEvents.keeps_run}
+use Rattle.mt_core.{specs.{declared.answers.Ticket.Ticket, Tickets.named}, proofs.EventNames.id_in}
+use mathlib.Core.Path.{fun_ext}
 
 no_value : {A : Type 0} {a : A} → ◌≡◌ {A = Option A} None (Some a) → ⊥
 no_value e = cc

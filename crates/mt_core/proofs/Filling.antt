@@ -1,21 +1,15 @@
 -- A list of pairs, put one after the other: each key is missing when its pair comes, and its tenant has room: for `put_all`.
 use Rattle.std.proofs.Common.{◌≡◌, ◌≢◌, ℕ, zero, suc, ◌+◌, ◌-◌, ◌<◌, ◌≤◌, inl, inr, Bool, true, false, cond, List, [], ◌∷◌, ◌++◌, map, length, take, Option, Some, None, refl, sym, ap, subst, ◌∙◌, arith}
-use Rattle.std.specs.Prelude.{slice_get, is_some}
-use Rattle.std.specs.List.{All}
-use Rattle.std.specs.Ordering.{eq_by_cmp}
-use Rattle.std.specs.FinMap as pairs
-use Rattle.std.specs.FinMap.{find, get-from_entries, from_entries_push, len-insert}
-use Rattle.std.proofs.lemmas.Bool.{cases_eq}
-use Rattle.std.proofs.lemmas.List.{map-append, take_all, take_more}
+use Rattle.std.proofs.{lemmas.Bool.cases_eq, lemmas.List.{map-append, take_all, take_more}}
 use Rattle.std.proofs.lemmas.Option.{same_Some, none-some, slice_get_within, get_or_from_slice_get}
-use Rattle.mt_rows.specs.declared.record.TenantPair.{TenantPair}
-use Rattle.mt_rows.specs.Rows.{Bytes}
-use Rattle.mt_rows.specs.Tenants.{owned_cmp, Contents, tenant_map}
+use Rattle.std.specs.{Prelude.{slice_get, is_some}, List.All, Ordering.eq_by_cmp, FinMap.{find, get-from_entries, from_entries_push, len-insert}}
+use Rattle.mt_rows.specs.{declared.record.TenantPair.TenantPair, Rows.Bytes, Tenants.{owned_cmp, Contents, tenant_map}}
 use Rattle.mt_rows.specs.TenantPairs.{owner_of, entry_of, pairs_of, IsTenantPair, AreDistinct, HasTenants, KeepsQuotas}
 use Rattle.mt_rows.proofs.CommandLaws.{keys_total}
 use Rattle.mt_rows.proofs.ContentLaws.{owned_total, owned_exact, same_owner, other_owner, get-tenant_map, tenant_map-insert, tenant_map-insert_other}
 use Rattle.mt_state.specs.Views.{StateView, contents_of, granted}
 use Rattle.mt_core.specs.Restores.{IsIdle, MayPut, HasPut, with_pair}
+use Rattle.std.specs.FinMap as pairs
 
 -- a key of no pair has no entry, and each pair's key has one
 no_entry : (qs : List TenantPair) (key : ℕ × Bytes) → ((j : ℕ) (q : TenantPair) → slice_get qs j ≡ Some q → owner_of q ≢ key) → find owned_cmp key (map entry_of qs) ≡ None

@@ -1,27 +1,15 @@
 -- The table after a step, the state that it leaves, and who may be in its way: for each step that an operation makes in its place.
 use Rattle.std.proofs.Common.{◌≡◌, ℕ, zero, suc, ◌+◌, ◌<◌, false, List, [], ◌∷◌, length, set, Option, Some, None, refl, sym, ap, subst, ◌∙◌}
 use Rattle.std.specs.Prelude.{slice_index_or}
-use Rattle.mt_rows.specs.Accounts.{Accounts}
+use Rattle.mt_rows.specs.{Accounts.Accounts, Maps.is_scan}
 use Rattle.mt_tape.specs.Tapes.{Kept}
-use Rattle.mt_arena.specs.NodeView.{NodeView}
-use Rattle.mt_arena.specs.Arena.{ArenaView, IsArena}
-use Rattle.mt_arena.specs.Accesses.{at}
+use Rattle.mt_arena.specs.{NodeView.NodeView, Arena.{ArenaView, IsArena}, Accesses.at}
 use Rattle.mt_operation.specs.declared.phase.Phase.{Phase}
-use Rattle.mt_operation.specs.declared.phase.Phase.TheVariants.{Load, Lock, LockParent, LockPrev, LockAbove, CleanLayer, Done, Snap}
-use Rattle.mt_operation.specs.declared.walk.Walk.{Walk}
-use Rattle.mt_operation.specs.declared.operation.Operation.{Operation}
-use Rattle.mt_operation.specs.Operations.{SplitsView, ScanView}
-use Rattle.mt_operation.specs.Phases.{is_done, IsOfKind}
-use Rattle.mt_operation.specs.declared.walk.Aim.{Aim}
+use Rattle.mt_operation.specs.{declared.phase.Phase.TheVariants.{Load, Lock, LockParent, LockPrev, LockAbove, CleanLayer, Done, Snap}, declared.walk.Walk.Walk}
+use Rattle.mt_operation.specs.{declared.operation.Operation.Operation, Operations.{SplitsView, ScanView}, Phases.{is_done, IsOfKind}, declared.walk.Aim.Aim}
+use Rattle.mt_operation.specs.{Tasks.ask, Tables.{Table, op_at as operation_at}, declared.removal.Removal.Removal}
+use Rattle.mt_state.{proofs.Lawful.aim_no_scan, specs.{Views.Core, Promises.{Blocks, IsInTheWay}, Invariant.{HoldsAt, StateInvariant}}}
 use Rattle.mt_operation.specs.declared.walk.Aim.TheVariants as aims
-use Rattle.mt_operation.specs.Tasks.{ask}
-use Rattle.mt_rows.specs.Maps.{is_scan}
-use Rattle.mt_state.proofs.Lawful.{aim_no_scan}
-use Rattle.mt_operation.specs.Tables.{Table, op_at as operation_at}
-use Rattle.mt_state.specs.Views.{Core}
-use Rattle.mt_state.specs.Promises.{Blocks, IsInTheWay}
-use Rattle.mt_state.specs.Invariant.{HoldsAt, StateInvariant}
-use Rattle.mt_operation.specs.declared.removal.Removal.{Removal}
 
 -- what is written over itself stays
 pub set_back : {A : Type 0} (table : List (Option A)) (o : ℕ) (x : A) → slice_index_or table o None ≡ Some x → set table o (Some x) ≡ table

@@ -1,48 +1,28 @@
 -- The steps of an operation that makes a layer, and that they bring it on: for `Inner::build` and `leave`.
 use Rattle.std.proofs.Common.{List, None, Option, Some, [], ap, arith, false, inl, inr, length, refl, set, subst, sym, true, ℕ, ◌+◌, ◌<◌, ◌∙◌, ◌∷◌, ◌≡◌, ◌≤◌}
-use Rattle.std.specs.Prelude.{min, ◌*◌, ◌^◌}
 use Rattle.std.proofs.lemmas.Bool.{cases_lt, both_ways}
+use Rattle.std.specs.Prelude.{min, ◌*◌, ◌^◌}
 use Rattle.mt_slices.specs.Keys.{IsStoredKey}
-use Rattle.mt_rows.specs.declared.reply.Reply.TheVariants.{NoMemory}
-use Rattle.mt_rows.specs.Rows.{Bytes}
-use Rattle.mt_arena.specs.NodeView.{NodeView}
-use Rattle.mt_arena.specs.Edits.{unlocked}
-use Rattle.mt_arena.specs.Arena.{ArenaView, Guarantee, IsArena}
-use Rattle.mt_arena.proofs.OneLink as OneLink
-use Rattle.mt_arena.specs.Accesses.{at}
+use Rattle.mt_rows.specs.{declared.reply.Reply.TheVariants.NoMemory, Rows.Bytes}
+use Rattle.mt_arena.specs.{NodeView.NodeView, Edits.unlocked, Arena.{ArenaView, Guarantee, IsArena}, Accesses.at}
 use Rattle.mt_operation.proofs.Phases.{by_layer}
-use Rattle.mt_operation.specs.declared.phase.Phase.{Phase}
-use Rattle.mt_operation.specs.declared.phase.Phase.TheVariants.{Enter, Link, MakeLayer, MarkLayer, MarkUnstable, Unlock}
-use Rattle.mt_operation.specs.declared.walk.Walk.{Walk}
-use Rattle.mt_operation.specs.declared.splits.Halves.{Halves}
-use Rattle.mt_operation.specs.declared.splits.Splits.{Splits}
-use Rattle.mt_operation.specs.declared.outcome.Outcome.{Outcome}
-use Rattle.mt_operation.specs.declared.operation.Operation.{Operation}
-use Rattle.mt_operation.specs.Operations.{moved, noted, splits_of}
-use Rattle.mt_operation.specs.Phases.{IsLayerPhase, IsOfKind}
-use Rattle.mt_operation.specs.Tables.{Table, op_at as operation_at}
+use Rattle.mt_operation.specs.{declared.phase.Phase.Phase, declared.phase.Phase.TheVariants.{Enter, Link, MakeLayer, MarkLayer, MarkUnstable, Unlock}}
+use Rattle.mt_operation.specs.{declared.walk.Walk.Walk, declared.splits.Halves.Halves, declared.splits.Splits.Splits, declared.outcome.Outcome.Outcome}
+use Rattle.mt_operation.specs.{declared.operation.Operation.Operation, Operations.{moved, noted, splits_of}, Phases.{IsLayerPhase, IsOfKind}}
+use Rattle.mt_operation.specs.{Tables.{Table, op_at as operation_at}, declared.walk.Aim.Aim}
 use Rattle.mt_descent.specs.WalkMoves.{walk_into}
 use Rattle.mt_held.specs.Unlock.{GoesInto, IsUnlock}
-use Rattle.mt_layer.specs.KeptLayers.{IsAtLeave, KeptLayer}
-use Rattle.mt_layer.specs.Builds.{IsLayerFrom, IsLeave}
-use Rattle.mt_state.specs.declared.moves.Move.TheVariants.{Moved, Done as DoneMove}
-use Rattle.mt_state.specs.Views.{Core, StateView, shown}
-use Rattle.mt_state.specs.Invariant.{StateInvariant}
-use Rattle.mt_state.specs.KeptOperations.{IsKeptAt, IsLeaving, IsReturning}
-use Rattle.mt_state.specs.Phases.{GoesFromUnlock, LeadsTo}
-use Rattle.mt_state.proofs.OneNode.{replaced_all}
-use Rattle.mt_state.proofs.Needs.{layer_kept, leave_kept}
-use Rattle.mt_state.proofs.Telling.{Gives}
-use Rattle.mt_state.proofs.LayerSteps.{build_done, leave_done, make_stopped}
+use Rattle.mt_layer.specs.{KeptLayers.{IsAtLeave, KeptLayer}, Builds.{IsLayerFrom, IsLeave}}
+use Rattle.mt_state.specs.{declared.moves.Move.TheVariants.{Moved, Done as DoneMove}, Views.{Core, StateView, shown}, Invariant.StateInvariant}
+use Rattle.mt_state.specs.{KeptOperations.{IsKeptAt, IsLeaving, IsReturning}, Phases.{GoesFromUnlock, LeadsTo}}
+use Rattle.mt_state.proofs.{OneNode.replaced_all, Needs.{layer_kept, leave_kept}, Telling.Gives, LayerSteps.{build_done, leave_done, make_stopped}}
 use Rattle.mt_state.proofs.LayerNodes.{LeavesNodes, layer_keeps, layer_goes, layer_leads, layer_leaves, layer_next}
 use Rattle.mt_core.specs.Budgets.{AreBelow, IsLiveTree, above, astray, before_unlock}
 use Rattle.mt_core.specs.Points.{HasMade, HasRemoved, IsRemovalAt, IsAtPoint, MayHaveGrown, Nears, StepsOn}
-use Rattle.mt_core.proofs.Following.{IsSound, IsOver, made, write_no_scan}
-use Rattle.mt_operation.specs.declared.walk.Aim.{Aim}
-use Rattle.mt_operation.specs.declared.walk.Aim.TheVariants as aims
-use Rattle.mt_core.proofs.Leading.{no_step, leads_over}
-use Rattle.mt_core.proofs.LookPoints.{next_layer, shallow_below}
+use Rattle.mt_core.proofs.{Following.{IsSound, IsOver, made, write_no_scan}, Leading.{no_step, leads_over}, LookPoints.{next_layer, shallow_below}}
 use Rattle.mt_core.proofs.Points.{below_at, few_at, nears_by, rounds_at, point_at, point_first}
+use Rattle.mt_arena.proofs.OneLink as OneLink
+use Rattle.mt_operation.specs.declared.walk.Aim.TheVariants as aims
 
 module _ (o : ℕ) (old new : ArenaView) (l : LeavesNodes o old new) where
   -- all nodes stand below a level where one did

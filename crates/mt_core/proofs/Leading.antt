@@ -1,28 +1,18 @@
 -- That a step leads where the table of phases says, as it is shown, by what it makes of its operation inside: for all phases.
-use Rattle.std.proofs.Common.{◌≡◌, ◌≢◌, ℕ, ◌+◌, ◌⊎◌, inl, inr, List, [], ◌∷◌, Option, Some, None, refl, sym, ap, subst, ◌∙◌}
-use Rattle.std.proofs.lemmas.Option.{same_Some}
-use Rattle.mt_rows.specs.Rows.{Bytes}
-use Rattle.mt_rows.specs.Accounts.{Accounts}
+use Rattle.std.proofs.{Common.{◌≡◌, ◌≢◌, ℕ, ◌+◌, ◌⊎◌, inl, inr, List, [], ◌∷◌, Option, Some, None, refl, sym, ap, subst, ◌∙◌}, lemmas.Option.same_Some}
+use Rattle.std.proofs.lemmas.Bool.{both_ways}
+use Rattle.mt_rows.specs.{Rows.Bytes, Accounts.Accounts}
 use Rattle.mt_tape.specs.Tapes.{Kept}
 use Rattle.mt_arena.specs.Arena.{ArenaView}
-use Rattle.mt_operation.specs.declared.phase.Phase.{Phase}
-use Rattle.mt_operation.specs.declared.walk.Walk.{Walk}
-use Rattle.mt_operation.specs.declared.outcome.Outcome.{Outcome}
-use Rattle.mt_operation.specs.declared.operation.Operation.{Operation}
-use Rattle.mt_operation.specs.Tasks.{ask}
-use Rattle.mt_operation.specs.declared.removal.Removal.{Removal}
-use Rattle.mt_operation.specs.declared.splits.Halves.{Halves}
-use Rattle.mt_operation.specs.Operations.{OperationView, ScanView, SplitsView, no_removal, view_of, splits_of, scan_of}
-use Rattle.mt_operation.specs.Tables.{Table, op_at as operation_at}
+use Rattle.mt_operation.specs.{declared.phase.Phase.Phase, declared.walk.Walk.Walk, declared.outcome.Outcome.Outcome, declared.operation.Operation.Operation}
+use Rattle.mt_operation.specs.{Tasks.ask, declared.removal.Removal.Removal, declared.splits.Halves.Halves}
+use Rattle.mt_operation.specs.{Operations.{OperationView, ScanView, SplitsView, no_removal, view_of, splits_of, scan_of}, Tables.{Table, op_at as operation_at}}
+use Rattle.mt_operation.specs.Phases.{row}
 use Rattle.mt_held.specs.Moves.{walk_done}
 use Rattle.mt_remove.specs.Unlock.{EmptiesLayer}
-use Rattle.mt_state.specs.Views.{Core, shown}
-use Rattle.mt_operation.specs.Phases.{row}
-use Rattle.mt_state.specs.Phases.{LeadsTo, GoesFromUnlock, ReturnsBy, GoesBy, Leads, ScanStep, StaysScanned, key_sought}
-use Rattle.mt_state.proofs.ScanNeeds.{key_sought_is, stays_scanned}
+use Rattle.mt_state.specs.{Views.{Core, shown}, Phases.{LeadsTo, GoesFromUnlock, ReturnsBy, GoesBy, Leads, ScanStep, StaysScanned, key_sought}}
 use Rattle.mt_state.specs.Invariant.{StateInvariant}
-use Rattle.mt_state.proofs.Shown.{shown_there}
-use Rattle.std.proofs.lemmas.Bool.{both_ways}
+use Rattle.mt_state.proofs.{ScanNeeds.{key_sought_is, stays_scanned}, Shown.shown_there}
 use Rattle.mt_core.proofs.Following.{IsOver, made}
 
 -- what a step makes of what an operation has scanned that stays as it was, and what one makes that leaves this of it

@@ -1,29 +1,16 @@
 -- The lines of a node: its own, and those of its children, one after the other. And which trees have lines: the live ones, each once, since
 -- no two of them have one prefix. For `push_node`, `live_trees`, `shape_of` and the `Display`s of separators and prefixes.
 use Rattle.std.proofs.Common.{◌≡◌, ◌≢◌, ℕ, zero, suc, ◌+◌, ◌-◌, ◌<◌, Bool, true, false, List, [], ◌∷◌, ◌++◌, length, map, take, get_or, Bor, refl, sym, ap, subst, ◌∙◌, arith}
-use Rattle.std.specs.List.{All, AllPairs, IsDistinct, filter, flat_map}
-use Rattle.std.specs.List.Sorted.{IsPermutation, IsSortedByKey, IsStrictlySortedBy}
-use Rattle.std.specs.Ordering.{eq_by_cmp, is_eq, is_lt, nat_cmp, ordering_reverse, ordering_then}
-use Rattle.std.specs.declared.cmp.Ordering.{Ordering}
-use Rattle.std.specs.declared.cmp.Ordering.TheVariants.{Less, Equal, Greater}
-use Rattle.std.specs.Cmp.{IsTotalOrder}
-use Rattle.std.specs.Cmp.Lexicographic.{slice_cmp, same_text, texts_ties}
 use Rattle.std.proofs.lemmas.Cmp.{eq_by_cmp_equiv, nat_cmp_total, nat_list_cmp_total, on_total, then_total}
-use Rattle.std.proofs.lemmas.List.{take_more, flat_map_more, get_or-map, get_or_default, length-map}
-use Rattle.std.proofs.lemmas.List.Elements.{All-filter, filter_passes}
-use Rattle.std.proofs.lemmas.List.Kept.{AllPairs-filter}
-use Rattle.std.proofs.lemmas.List.Sorted.{All-permutation, IsPermutation-map}
-use Rattle.std.proofs.lemmas.Map.Keys.{IsDistinct-from_apart, IsDistinct-IsPermutation, apart_from_distinct, sorted_from_all_adjacent}
-use Rattle.std.proofs.lemmas.Simd.{map-map}
-use Rattle.mt_arena.specs.declared.tree.Tree.{Tree}
-use Rattle.mt_arena.specs.declared.tree.Standing.{Standing}
-use Rattle.mt_arena.specs.declared.tree.Standing.TheVariants.{Made, Live, Dead}
-use Rattle.mt_arena.specs.Arena.{ArenaView, IsArena}
-use Rattle.mt_arena.specs.Contents.{is_live}
-use Rattle.mt_arena.specs.Forests.{IsRoot, no_tree, tree_at}
-use Rattle.mt_arena.specs.Accesses.{at}
-use Rattle.mt_core.specs.declared.shape.ShapeLine.TheVariants.{Interior}
-use Rattle.mt_core.specs.Shapes.{HasLiveRoot, IsListing, lines_from, prefix_cmp}
+use Rattle.std.proofs.{lemmas.List.{take_more, flat_map_more, get_or-map, get_or_default, length-map}, lemmas.List.Elements.{All-filter, filter_passes}}
+use Rattle.std.proofs.{lemmas.List.Kept.AllPairs-filter, lemmas.List.Sorted.{All-permutation, IsPermutation-map}}
+use Rattle.std.proofs.{lemmas.Map.Keys.{IsDistinct-from_apart, IsDistinct-IsPermutation, apart_from_distinct, sorted_from_all_adjacent}, lemmas.Simd.map-map}
+use Rattle.std.specs.{List.{All, AllPairs, IsDistinct, filter, flat_map}, List.Sorted.{IsPermutation, IsSortedByKey, IsStrictlySortedBy}}
+use Rattle.std.specs.{Ordering.{eq_by_cmp, is_eq, is_lt, nat_cmp, ordering_reverse, ordering_then}, declared.cmp.Ordering.Ordering}
+use Rattle.std.specs.{declared.cmp.Ordering.TheVariants.{Less, Equal, Greater}, Cmp.IsTotalOrder, Cmp.Lexicographic.{slice_cmp, same_text, texts_ties}}
+use Rattle.mt_arena.specs.{declared.tree.Tree.Tree, declared.tree.Standing.Standing, declared.tree.Standing.TheVariants.{Made, Live, Dead}}
+use Rattle.mt_arena.specs.{Arena.{ArenaView, IsArena}, Contents.is_live, Forests.{IsRoot, no_tree, tree_at}, Accesses.at}
+use Rattle.mt_core.specs.{declared.shape.ShapeLine.TheVariants.Interior, Shapes.{HasLiveRoot, IsListing, lines_from, prefix_cmp}}
 
 -- what comes of the elements so far and of the next one
 pub next_piece : {X A : Type 0} (f : X → List A) (xs : List X) (i : ℕ) (d : X) → i < length xs

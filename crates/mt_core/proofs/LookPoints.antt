@@ -1,46 +1,31 @@
 -- How the steps of an operation that holds nothing bring it on if nobody is in its way: for `looks::go_down` and `ReadSteps`.
 use Rattle.std.proofs.Common.{◌≡◌, ◌≢◌, ℕ, ◌+◌, ◌*◌, ◌<◌, ◌≤◌, ◌⊎◌, inl, inr, Bool, true, false, cond, List, [], ◌∷◌, length, Option, Some, None, IsNone, IfNone, refl, sym, ap, subst, ◌∙◌, arith}
-use Rattle.std.specs.Prelude.{nat_le, min}
 use Rattle.std.proofs.Math.Nat.{add-mul, min-eq_left}
-use Rattle.mt_version.specs.Parts.{Parts}
-use Rattle.mt_version.specs.Changes.{SameButLock}
-use Rattle.mt_interior.specs.Places.{place_of}
-use Rattle.mt_interior.proofs.CallerLemmas.{place_of-le-length}
+use Rattle.std.specs.Prelude.{nat_le, min}
+use Rattle.mt_version.specs.{Parts.Parts, Changes.SameButLock}
+use Rattle.mt_interior.{specs.Places.place_of, proofs.CallerLemmas.place_of-le-length}
 use Rattle.mt_slices.specs.Keys.{IsStoredKey}
 use Rattle.mt_rows.specs.Rows.{Bytes, Columns}
-use Rattle.mt_border.specs.declared.entry.Find.{Find}
-use Rattle.mt_border.specs.declared.entry.Find.TheVariants as finds
-use Rattle.mt_border.specs.declared.entry.FoundKind.TheVariants.{ThisKey, OtherLong, Link as ToTree}
-use Rattle.mt_arena.specs.declared.tree.Standing.{Standing}
-use Rattle.mt_arena.specs.declared.tree.Standing.TheVariants.{Made, Live, Dead}
-use Rattle.mt_arena.specs.Nodes.{IsChild}
-use Rattle.mt_arena.specs.Forests.{tree_at}
-use Rattle.mt_arena.specs.Arena.{ArenaView, IsArena}
-use Rattle.mt_arena.specs.Accesses.{at}
-use Rattle.mt_operation.specs.Phases.{Kind, row, IsDescent}
-use Rattle.mt_operation.specs.Phases as kinds
-use Rattle.mt_operation.proofs.Phases.{by_descent}
-use Rattle.mt_core.proofs.WalkBounds.{IsWayKind, walk_kind}
-use Rattle.mt_core.specs.Points.{MadeBy, HasMade, MayHaveGrown, IsAtPoint}
-use Rattle.mt_operation.specs.declared.walk.Aim.{Aim}
-use Rattle.mt_operation.specs.declared.walk.Aim.TheVariants as aims
-use Rattle.mt_operation.specs.declared.phase.Phase.{Phase}
+use Rattle.mt_border.specs.{declared.entry.Find.Find, declared.entry.FoundKind.TheVariants.{ThisKey, OtherLong, Link as ToTree}}
+use Rattle.mt_arena.specs.{declared.tree.Standing.Standing, declared.tree.Standing.TheVariants.{Made, Live, Dead}, Nodes.IsChild, Forests.tree_at}
+use Rattle.mt_arena.specs.{Arena.{ArenaView, IsArena}, Accesses.at}
+use Rattle.mt_arena.proofs.OneLink.{leads}
+use Rattle.mt_operation.specs.{Phases.{Kind, row, IsDescent}, declared.walk.Aim.Aim, declared.phase.Phase.Phase}
 use Rattle.mt_operation.specs.declared.phase.Phase.TheVariants.{Enter, Pick, Child, Verify, Search, Load, Confirm, Forward, Unlock, Done}
-use Rattle.mt_operation.specs.declared.walk.Taken.{Taken}
-use Rattle.mt_operation.specs.declared.walk.Taken.TheVariants.{Missing, Row, Link, Nothing}
-use Rattle.mt_operation.specs.declared.walk.Walk.{Walk}
-use Rattle.mt_operation.specs.declared.splits.Halves.{Halves}
-use Rattle.mt_operation.specs.declared.splits.Splits.{Splits}
-use Rattle.mt_descent.specs.Seen.{Stands, HasNext, IsRemembered}
-use Rattle.mt_descent.specs.Pasts.{Past}
+use Rattle.mt_operation.specs.{declared.walk.Taken.Taken, declared.walk.Taken.TheVariants.{Missing, Row, Link, Nothing}, declared.walk.Walk.Walk}
+use Rattle.mt_operation.specs.{declared.splits.Halves.Halves, declared.splits.Splits.Splits}
+use Rattle.mt_operation.proofs.Phases.{by_descent}
+use Rattle.mt_core.proofs.{WalkBounds.{IsWayKind, walk_kind}, Points.{below_at, few_at}, Astray.behind_fewer}
+use Rattle.mt_core.specs.Points.{MadeBy, HasMade, MayHaveGrown, IsAtPoint}
+use Rattle.mt_core.specs.Budgets.{AreBelow, Budget, SeesNow, behind, astray, level_of, above, until, IsBudget, IsLiveTree, TookLiveTree, WalksBy, budget_of}
+use Rattle.mt_descent.specs.{Seen.{Stands, HasNext, IsRemembered}, Pasts.Past}
 use Rattle.mt_descent.specs.KeptWalks.{GoesThrough, slice_in, IsAtVerify, IsAtConfirm, IsAtForward, TakenHolds, KeptAt, IsKept, IsAtBorder}
 use Rattle.mt_descent.specs.WalkMoves.{arrival, arrival_at, walk_onto, walk_anew, walk_here, walk_to_next, after_enter, after_pick, after_child, after_search, after_confirm, after_forward, Verifies, Confirms, Loads, TakesOut}
 use Rattle.mt_descent.proofs.Ways.{same_stands}
 use Rattle.mt_state.proofs.Decides.{same_or_not, outdated_or_not}
-use Rattle.mt_core.proofs.Points.{below_at, few_at}
-use Rattle.mt_core.proofs.Astray.{behind_fewer}
-use Rattle.mt_core.specs.Budgets.{AreBelow, Budget, SeesNow, behind, astray, level_of, above, until, IsBudget, IsLiveTree, TookLiveTree, WalksBy, budget_of}
-use Rattle.mt_arena.proofs.OneLink.{leads}
+use Rattle.mt_border.specs.declared.entry.Find.TheVariants as finds
+use Rattle.mt_operation.specs.Phases as kinds
+use Rattle.mt_operation.specs.declared.walk.Aim.TheVariants as aims
 use Rattle.mt_operation.specs.declared.walk.Taken.TheVariants as takens
 
 -- a version that the node has now is the same but for the lock

@@ -1,34 +1,18 @@
 -- Where the steps of an operation that holds nothing lead, and what a load shows: for `descend` and `load_row`.
 use Rattle.std.proofs.Common.{◌≡◌, ◌<◌, ℕ, true, List, length, Option, Some, None, IsNone, IfNone, IfSome, inl, refl, sym, ap, subst, ◌∙◌}
-use Rattle.std.specs.Option.{option_map}
 use Rattle.std.proofs.lemmas.Option.{same_Some}
-use Rattle.mt_rows.specs.declared.reply.Reply.{Reply}
-use Rattle.mt_rows.specs.declared.reply.Reply.TheVariants.{Found}
-use Rattle.mt_rows.specs.Rows.{Bytes, Columns, shown}
-use Rattle.mt_rows.specs.Maps.{is_get}
-use Rattle.mt_arena.specs.NodeView.{NodeView}
-use Rattle.mt_arena.specs.Forests.{tree_at}
-use Rattle.mt_arena.specs.Arena.{ArenaView, IsArena}
-use Rattle.mt_arena.specs.Accesses.{at}
-use Rattle.mt_operation.specs.declared.phase.Phase.{Phase}
-use Rattle.mt_operation.specs.declared.phase.Phase.TheVariants.{Enter, Pick, Child, Verify, Forward}
-use Rattle.mt_operation.specs.declared.walk.Walk.{Walk}
-use Rattle.mt_operation.specs.declared.outcome.Outcome.{Outcome}
-use Rattle.mt_operation.specs.declared.operation.Operation.{Operation}
-use Rattle.mt_operation.specs.Tasks.{ask}
-use Rattle.mt_operation.specs.Operations.{SplitsView, ScanView, splits_of, scan_of}
-use Rattle.mt_descent.specs.Pasts.{Past}
-use Rattle.mt_descent.specs.Seen.{child_for}
-use Rattle.mt_descent.specs.KeptWalks.{slice_in, KeptAt, IsKept}
+use Rattle.std.specs.Option.{option_map}
+use Rattle.mt_rows.specs.{declared.reply.Reply.Reply, declared.reply.Reply.TheVariants.Found, Rows.{Bytes, Columns, shown}, Maps.is_get}
+use Rattle.mt_arena.specs.{NodeView.NodeView, Forests.tree_at, Arena.{ArenaView, IsArena}, Accesses.at}
+use Rattle.mt_operation.specs.{declared.phase.Phase.Phase, declared.phase.Phase.TheVariants.{Enter, Pick, Child, Verify, Forward}, declared.walk.Walk.Walk}
+use Rattle.mt_operation.specs.{declared.outcome.Outcome.Outcome, declared.operation.Operation.Operation, Tasks.ask}
+use Rattle.mt_operation.specs.{Operations.{SplitsView, ScanView, splits_of, scan_of}, declared.removal.Removal.Removal}
+use Rattle.mt_descent.specs.{Pasts.Past, Seen.child_for, KeptWalks.{slice_in, KeptAt, IsKept}}
 use Rattle.mt_descent.specs.WalkMoves.{IsBlocked, IsBlockedAt, AnswersAgain, Continues, Verifies, Loads, walk_here, after_enter, after_pick, after_child, after_forward}
-use Rattle.mt_state.specs.Notes.{columns_asked}
-use Rattle.mt_state.specs.Promises.{needed_node, Blocks, IsInTheWay}
-use Rattle.mt_state.specs.Phases.{ScanStep, GoesForward, LeadsTo}
+use Rattle.mt_state.specs.{Notes.columns_asked, Promises.{needed_node, Blocks, IsInTheWay}, Phases.{ScanStep, GoesForward, LeadsTo}}
 use Rattle.mt_state.specs.Ways.{Descends, ShowsTaken}
-use Rattle.mt_state.proofs.Descents.{Leads, descends, entered, verified, forwarded, stayed}
-use Rattle.mt_state.proofs.Replies.{get_asks}
+use Rattle.mt_state.proofs.{Descents.{Leads, descends, entered, verified, forwarded, stayed}, Replies.get_asks}
 use Rattle.mt_core.specs.Looks.{led_to, MayLoad, MayConfirm, TellsLoaded}
-use Rattle.mt_operation.specs.declared.removal.Removal.{Removal}
 
 -- a walk that enters a tree goes on so
 pub enter_goes : (r : Option ℕ) (v : ArenaView) (before after : Walk) → before.phase ≡ Enter

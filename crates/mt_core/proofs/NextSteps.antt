@@ -1,16 +1,8 @@
 -- The operation whose next step is made, by its phase: for `step`.
-use Rattle.std.proofs.Common.{◌≡◌, ℕ, false, Option, Some, None, refl, sym, subst, ◌∙◌}
-use Rattle.std.specs.Option.{option_map}
-use Rattle.std.proofs.lemmas.Option.{same_Some}
-use Rattle.mt_operation.specs.declared.phase.Phase.{Phase}
-use Rattle.mt_operation.specs.declared.phase.Phase.TheVariants.{Done}
-use Rattle.mt_operation.specs.declared.operation.Operation.{Operation}
-use Rattle.mt_operation.specs.Operations.{view_of}
-use Rattle.mt_operation.specs.Phases.{is_done}
-use Rattle.mt_operation.specs.Tables.{op_at as operation_at}
-use Rattle.mt_state.specs.Views.{Core, shown}
-use Rattle.mt_state.specs.Promises.{HasStep}
-use Rattle.mt_state.proofs.Shown.{shown_there}
+use Rattle.std.{proofs.{Common.{◌≡◌, ℕ, false, Option, Some, None, refl, sym, subst, ◌∙◌}, lemmas.Option.same_Some}, specs.Option.option_map}
+use Rattle.mt_operation.specs.{declared.phase.Phase.Phase, declared.phase.Phase.TheVariants.Done, declared.operation.Operation.Operation, Operations.view_of}
+use Rattle.mt_operation.specs.{Phases.is_done, Tables.{op_at as operation_at}}
+use Rattle.mt_state.{specs.{Views.{Core, shown}, Promises.HasStep}, proofs.Shown.shown_there}
 use Rattle.mt_core.specs.Shows.{next_phase, phase_in}
 
 -- an operation that has a next phase has a step left

@@ -1,13 +1,9 @@
 -- What is told of a phase by a comparison, and by what kind it is: for the steps of an operation that holds nothing.
 use denote.Enum.Bare.{sameb, same_true}
-use Rattle.mt_operation.specs.contracts.phase.Phase.{the_type}
-use Rattle.std.proofs.Common.{rules, ◌≡◌, ◌≢◌, ◌⊎◌, inl, inr, Bool, true, false, refl, sym, ap, ◌∙◌}
-use Rattle.mt_operation.specs.declared.phase.Phase.{Phase}
-use Rattle.mt_operation.specs.declared.phase.Phase.TheVariants.{Confirm, Done, Hop}
+use Rattle.mt_operation.specs.{contracts.phase.Phase.the_type, declared.phase.Phase.Phase, declared.phase.Phase.TheVariants.{Confirm, Done, Hop}}
 use Rattle.mt_operation.specs.Phases.{is_done}
-use Rattle.mt_state.specs.declared.moves.Move.TheVariants.{Moved}
-use Rattle.mt_state.specs.Ways.{IsOnWay}
-use Rattle.mt_state.proofs.Still.{IsFree}
+use Rattle.std.proofs.Common.{rules, ◌≡◌, ◌≢◌, ◌⊎◌, inl, inr, Bool, true, false, refl, sym, ap, ◌∙◌}
+use Rattle.mt_state.{specs.{declared.moves.Move.TheVariants.Moved, Ways.IsOnWay}, proofs.Still.IsFree}
 use Rattle.mt_core.specs.Nexts.{ending}
 
 -- who holds nothing has a step left

@@ -1,26 +1,15 @@
 -- How a step brings an operation on that nobody is in the way of: by the point to which its walk came. For each phase of `Inner`.
-use Rattle.std.proofs.Common.{◌≡◌, ℕ, ◌+◌, inl, inr, Bool, true, false, length, Option, Some, refl, sym, subst, ◌∙◌}
-use Rattle.std.proofs.lemmas.Bool.{cases_lt, cases_eq}
+use Rattle.std.proofs.{Common.{◌≡◌, ℕ, ◌+◌, inl, inr, Bool, true, false, length, Option, Some, refl, sym, subst, ◌∙◌}, lemmas.Bool.{cases_lt, cases_eq}}
 use Rattle.std.proofs.lemmas.Option.{same_Some}
 use Rattle.mt_arena.specs.Arena.{ArenaView, Guarantee}
-use Rattle.mt_operation.specs.declared.phase.Phase.{Phase}
-use Rattle.mt_operation.specs.declared.phase.Phase.TheVariants.{Enter}
-use Rattle.mt_operation.specs.declared.walk.Walk.{Walk}
-use Rattle.mt_operation.specs.declared.splits.Splits.{Splits}
-use Rattle.mt_rows.specs.declared.command.Command.{Command}
-use Rattle.mt_state.proofs.Lawful.{remove_no_scan}
-use Rattle.mt_core.specs.ScanPoints.{IsScanAt}
-use Rattle.mt_operation.specs.Tasks.{ask}
-use Rattle.mt_remove.specs.Writes.{is_remove}
-use Rattle.mt_operation.specs.declared.operation.Operation.{Operation}
-use Rattle.mt_operation.specs.Tables.{op_at as operation_at}
-use Rattle.mt_state.specs.declared.moves.Move.TheVariants.{Moved}
-use Rattle.mt_state.specs.Views.{Core}
-use Rattle.mt_core.specs.Budgets.{AreBelow}
-use Rattle.mt_core.specs.Points.{HasMade, HasRemoved, MayHaveGrown, IsAtPoint, IsFreeOfOthers, IsRemovalAt, IsSoFar, IsComing, Nears, RoundsAt}
-use Rattle.mt_rows.specs.Maps.{is_scan}
-use Rattle.mt_operation.specs.declared.outcome.Outcome.{Outcome}
+use Rattle.mt_operation.specs.{declared.phase.Phase.Phase, declared.phase.Phase.TheVariants.Enter, declared.walk.Walk.Walk, declared.splits.Splits.Splits}
+use Rattle.mt_operation.specs.{Tasks.ask, declared.operation.Operation.Operation, Tables.{op_at as operation_at}, declared.outcome.Outcome.Outcome}
 use Rattle.mt_operation.specs.declared.removal.Removal.{Removal}
+use Rattle.mt_rows.specs.{declared.command.Command.Command, Maps.is_scan}
+use Rattle.mt_state.{proofs.Lawful.remove_no_scan, specs.{declared.moves.Move.TheVariants.Moved, Views.Core}}
+use Rattle.mt_core.specs.{ScanPoints.IsScanAt, Budgets.AreBelow}
+use Rattle.mt_core.specs.Points.{HasMade, HasRemoved, MayHaveGrown, IsAtPoint, IsFreeOfOthers, IsRemovalAt, IsSoFar, IsComing, Nears, RoundsAt}
+use Rattle.mt_remove.specs.Writes.{is_remove}
 
 -- the number of the first step says nothing of the point
 made_first : (p : Phase) (height made : ℕ) (v : ArenaView) (w : Walk) (s : Splits) (first : ℕ) → HasMade p height made v w s

@@ -1,66 +1,37 @@
 -- The phases of a put by what their steps tell: for `Inner::write`.
 use Rattle.std.proofs.Common.{Bool, None, Option, Some, [], ap, arith, cond, eqb, false, inl, inr, length, refl, set, subst, sym, true, ℕ, ◌+◌, ◌<◌, ◌∙◌, ◌≡◌, ◌≢◌}
+use Rattle.std.proofs.lemmas.Bool.{both_ways}
 use Rattle.std.specs.Prelude.{List, ◌*◌, ◌^◌, ◌≤◌, ◌⊎◌}
-use Rattle.mt_rows.specs.declared.reply.Reply.{Reply}
-use Rattle.mt_rows.specs.declared.reply.Reply.TheVariants.{Full, New, NoMemory, Replaced}
-use Rattle.mt_rows.specs.Rows.{Bytes, Columns}
-use Rattle.mt_rows.specs.Accounts.{Accounts}
+use Rattle.mt_rows.specs.{declared.reply.Reply.Reply, declared.reply.Reply.TheVariants.{Full, New, NoMemory, Replaced}, Rows.{Bytes, Columns}}
+use Rattle.mt_rows.specs.{Accounts.Accounts, Maps.is_scan}
 use Rattle.mt_border.specs.declared.entry.FoundKind.TheVariants.{OtherLong}
 use Rattle.mt_slices.specs.Keys.{IsStoredKey}
 use Rattle.mt_tape.specs.Tapes.{Kept}
-use Rattle.mt_arena.specs.NodeView.{NodeView}
-use Rattle.mt_arena.specs.Edits.{locked, unlocked}
-use Rattle.mt_arena.specs.Arena.{ArenaView, Guarantee, IsArena}
-use Rattle.mt_arena.specs.Accesses.{at, with_node}
-use Rattle.mt_operation.specs.declared.walk.Aim.{Aim}
-use Rattle.mt_operation.specs.declared.walk.Aim.TheVariants as aims
-use Rattle.mt_rows.specs.Maps.{is_scan}
-use Rattle.mt_operation.specs.declared.phase.Phase.{Phase}
+use Rattle.mt_arena.{specs.{NodeView.NodeView, Edits.{locked, unlocked}, Arena.{ArenaView, Guarantee, IsArena}, Accesses.{at, with_node}}, proofs.OneLink.leads}
+use Rattle.mt_operation.specs.{declared.walk.Aim.Aim, declared.phase.Phase.Phase}
 use Rattle.mt_operation.specs.declared.phase.Phase.TheVariants.{Enter, Forward, Judge, Lock, MakeLayer, Publish, SplitStart, Store, Unlock}
-use Rattle.mt_operation.specs.declared.walk.Walk.{Walk}
-use Rattle.mt_operation.specs.declared.splits.Halves.{Halves}
-use Rattle.mt_operation.specs.declared.splits.Splits.{Splits}
-use Rattle.mt_operation.specs.declared.outcome.Outcome.{Outcome}
-use Rattle.mt_operation.specs.declared.prepared.Prepared.{Prepared}
-use Rattle.mt_operation.specs.declared.operation.Operation.{Operation}
-use Rattle.mt_operation.specs.Operations.{made_ready, moved, noted, splits_of, with_nothing_ready}
-use Rattle.mt_operation.specs.Phases.{IsOfKind, has_splits}
-use Rattle.mt_operation.specs.Tables.{Table, op_at as operation_at}
-use Rattle.mt_descent.specs.Seen.{IsOutdated}
-use Rattle.mt_descent.specs.KeptWalks.{IsInSlot}
-use Rattle.mt_descent.specs.WalkMoves.{IsLock, Locks, walk_anew, walk_into}
-use Rattle.mt_insert.specs.Puts.{is_put}
-use Rattle.mt_remove.specs.Writes.{is_remove}
-use Rattle.mt_operation.specs.declared.task.Request.{Request}
+use Rattle.mt_operation.specs.{declared.walk.Walk.Walk, declared.splits.Halves.Halves, declared.splits.Splits.Splits, declared.outcome.Outcome.Outcome}
+use Rattle.mt_operation.specs.{declared.prepared.Prepared.Prepared, declared.operation.Operation.Operation}
+use Rattle.mt_operation.specs.{Operations.{made_ready, moved, noted, splits_of, with_nothing_ready}, Phases.{IsOfKind, has_splits}}
+use Rattle.mt_operation.specs.{Tables.{Table, op_at as operation_at}, declared.task.Request.Request}
 use Rattle.mt_operation.specs.declared.task.Request.TheVariants.{Get as GetOf, Put as PutOf, Remove as RemoveOf, Scan as ScanOf}
 use Rattle.mt_operation.specs.Tasks.{ask, command_of, aim_of}
+use Rattle.mt_descent.specs.{Seen.IsOutdated, KeptWalks.IsInSlot, WalkMoves.{IsLock, Locks, walk_anew, walk_into}}
+use Rattle.mt_insert.specs.{Puts.is_put, Judge.{IsMadeReady, MeetsOther, StandsIn, after_judge}, Publish.{IsPublish, IsPublishFull}, Store.IsStore}
+use Rattle.mt_remove.specs.Writes.{is_remove}
 use Rattle.mt_version.specs.Parts.{Parts}
-use Rattle.mt_arena.proofs.OneLink.{leads}
-use Rattle.std.proofs.lemmas.Bool.{both_ways}
-use Rattle.mt_held.specs.Moves.{walk_placed}
-use Rattle.mt_insert.specs.Judge.{IsMadeReady, MeetsOther, StandsIn, after_judge}
-use Rattle.mt_held.specs.Unlock.{MeetsLink, IsUnlock}
-use Rattle.mt_insert.specs.Publish.{IsPublish, IsPublishFull}
-use Rattle.mt_insert.specs.Store.{IsStore}
-use Rattle.mt_state.specs.declared.moves.Move.TheVariants.{Moved, Done as DoneMove}
-use Rattle.mt_state.specs.Views.{Core, shown}
-use Rattle.mt_state.specs.Phases.{JudgesBy, JudgesLink, Leads, LocksBy}
+use Rattle.mt_held.specs.{Moves.walk_placed, Unlock.{MeetsLink, IsUnlock}}
+use Rattle.mt_state.specs.{declared.moves.Move.TheVariants.{Moved, Done as DoneMove}, Views.{Core, shown}, Phases.{JudgesBy, JudgesLink, Leads, LocksBy}}
 use Rattle.mt_state.specs.Invariant.{StateInvariant}
-use Rattle.mt_state.proofs.Telling.{Gives}
-use Rattle.mt_state.proofs.Decides.{outdated_or_not}
-use Rattle.mt_state.proofs.OneNode.{replaced_all}
-use Rattle.mt_state.proofs.Locking.{judge_ready, judge_refused, lock_done, publish_full, unlock_done}
-use Rattle.mt_state.proofs.LayerSteps.{below_done, meet_done}
-use Rattle.mt_state.proofs.Putting.{publish_done, store_done}
-use Rattle.mt_state.proofs.Needs.{judge_kept, lock_kept, publish_kept, put_at, store_kept}
+use Rattle.mt_state.proofs.{Telling.Gives, Decides.outdated_or_not, OneNode.replaced_all}
+use Rattle.mt_state.proofs.{Locking.{judge_ready, judge_refused, lock_done, publish_full, unlock_done}, LayerSteps.{below_done, meet_done}}
+use Rattle.mt_state.proofs.{Putting.{publish_done, store_done}, Needs.{judge_kept, lock_kept, publish_kept, put_at, store_kept}, Bound.put_no_remove}
 use Rattle.mt_core.specs.Budgets.{AreBelow, IsLiveTree, SeesNow, above, astray, before_unlock, behind}
 use Rattle.mt_core.specs.Points.{HasMade, HasRemoved, IsRemovalAt, IsAtPoint, MayHaveGrown, Nears, StepsOn}
 use Rattle.mt_core.proofs.Points.{below_at, few_at, nears_by, point_at, point_first, removal_first, removed_at}
-use Rattle.mt_core.proofs.RemovalNears.{link_removal, lock_removal, tree_layer, tree_stands}
-use Rattle.mt_state.proofs.Bound.{put_no_remove}
-use Rattle.mt_core.proofs.LookPoints.{next_layer, shallow_below}
-use Rattle.mt_core.proofs.Following.{IsSound, IsOver, made, write_no_scan}
-use Rattle.mt_core.proofs.Leading.{done_from, leads_over}
+use Rattle.mt_core.proofs.{RemovalNears.{link_removal, lock_removal, tree_layer, tree_stands}, LookPoints.{next_layer, shallow_below}}
+use Rattle.mt_core.proofs.{Following.{IsSound, IsOver, made, write_no_scan}, Leading.{done_from, leads_over}}
+use Rattle.mt_operation.specs.declared.walk.Aim.TheVariants as aims
 
 -- the walk of a put that takes its lock, that goes on to the next node, or that begins anew where its own was deleted
 lock_brings : (o : ℕ) (v arena : ArenaView) (w x : Walk) (s : Splits) → Locks o v arena x w → x.phase ≡ Lock → x.place.node < length v.nodes

@@ -1,64 +1,38 @@
 -- What the steps of an operation that holds nothing ask of the invariant, and what they tell: for `Inner::look`.
 use Rattle.mt_operation.specs.declared.walk.Aim.TheVariants as aims
 use Rattle.std.proofs.Common.{◌≡◌, ◌≢◌, ℕ, ◌+◌, ◌<◌, ◌≤◌, ◌⊎◌, inl, inr, true, false, not, set, Option, Some, None, refl, sym, ap, subst, ◌∙◌, arith}
+use Rattle.std.proofs.lemmas.Bool.{both_ways}
 use Rattle.std.specs.Prelude.{◌^◌}
-use Rattle.mt_rows.specs.declared.reply.Reply.TheVariants.{Absent, NoMemory}
-use Rattle.mt_rows.specs.Rows.{Columns}
-use Rattle.mt_rows.specs.Commands.{HasColumns}
-use Rattle.mt_rows.specs.Maps.{is_get, is_scan}
-use Rattle.mt_border.specs.declared.entry.Find.{Find}
-use Rattle.mt_border.specs.declared.entry.Find.TheVariants as finds
-use Rattle.mt_border.specs.declared.entry.FoundKind.TheVariants.{ThisKey, OtherLong, Link as ToTree}
+use Rattle.mt_rows.specs.{declared.reply.Reply.TheVariants.{Absent, NoMemory}, Rows.Columns, Commands.HasColumns, Maps.{is_get, is_scan}}
+use Rattle.mt_border.specs.{declared.entry.Find.Find, declared.entry.FoundKind.TheVariants.{ThisKey, OtherLong, Link as ToTree}}
 use Rattle.mt_version.specs.Changes.{IsStable}
-use Rattle.mt_arena.specs.Arena.{IsArena}
-use Rattle.mt_arena.specs.Accesses.{at}
+use Rattle.mt_arena.specs.{Arena.IsArena, Accesses.at}
 use Rattle.mt_operation.specs.declared.phase.Phase.{Phase}
 use Rattle.mt_operation.specs.declared.phase.Phase.TheVariants.{Enter, Pick, Child, Verify, Forward, Search, Load, Confirm, Done, Snap, Check, Hop}
-use Rattle.mt_operation.specs.declared.walk.Walk.{Walk}
-use Rattle.mt_operation.specs.declared.outcome.Outcome.{Outcome}
-use Rattle.mt_operation.specs.declared.operation.Operation.{Operation}
-use Rattle.mt_operation.specs.Tasks.{ask}
-use Rattle.mt_operation.specs.Operations.{view_of, splits_of, scan_of, is_unfinished, moved, counted, noted}
-use Rattle.mt_operation.specs.Phases.{is_done, IsDescent, IsOfKind, IsNoLook}
-use Rattle.mt_table.specs.declared.steps.Made.{Made}
-use Rattle.mt_table.specs.declared.steps.Made.TheVariants.{Step, Blocked, NoMemory as NoMemoryMade, Nothing}
+use Rattle.mt_operation.specs.{declared.walk.Walk.Walk, declared.outcome.Outcome.Outcome, declared.operation.Operation.Operation, Tasks.ask}
+use Rattle.mt_operation.specs.{Operations.{view_of, splits_of, scan_of, is_unfinished, moved, counted, noted}, Phases.{is_done, IsDescent, IsOfKind, IsNoLook}}
 use Rattle.mt_operation.specs.Tables.{Table, AreBefore, op_at as operation_at}
 use Rattle.mt_operation.proofs.Tables.{set_is}
-use Rattle.mt_descent.specs.Pasts.{Past, IsNow}
-use Rattle.mt_descent.specs.KeptWalks.{IsAtBorder, IsAtLoad as WalksLoad, IsAtConfirm as WalksConfirm, KeptAt, IsKept}
+use Rattle.mt_table.specs.{declared.steps.Made.Made, declared.steps.Made.TheVariants.{Step, Blocked, NoMemory as NoMemoryMade, Nothing}}
+use Rattle.mt_descent.specs.{Pasts.{Past, IsNow}, KeptWalks.{IsAtBorder, IsAtLoad as WalksLoad, IsAtConfirm as WalksConfirm, KeptAt, IsKept}}
 use Rattle.mt_descent.specs.WalkMoves.{Continues, FindsIn, after_search, Confirms}
 use Rattle.mt_descent.proofs.Looks.{kept_loads}
-use Rattle.mt_state.specs.declared.moves.Move.{Move}
-use Rattle.mt_state.specs.declared.moves.Move.TheVariants.{Moved, Again, Done as DoneMove}
-use Rattle.mt_state.specs.Views.{Core, shown, past_of}
-use Rattle.mt_state.specs.Promises.{Tells, IsInTheWay}
-use Rattle.mt_state.specs.Phases.{LeadsTo}
-use Rattle.mt_state.specs.Notes.{Says}
-use Rattle.mt_state.specs.Ways.{Descends, ShowsTaken}
-use Rattle.mt_state.specs.KeptOperations.{IsOnItsWay, IsAtLoad, IsAtConfirm, IsKeptAt}
-use Rattle.mt_state.specs.Invariant.{StateInvariant}
-use Rattle.mt_state.proofs.Shown.{shown_there}
-use Rattle.mt_state.proofs.Telling.{Gives}
-use Rattle.mt_state.proofs.Still.{IsFree, holds_nothing, nothing_changes}
-use Rattle.mt_state.proofs.Reading.{way_of, descend_done, search_missing, search_found}
-use Rattle.mt_state.proofs.Loading.{load_taken, load_stopped}
-use Rattle.mt_state.proofs.Confirming.{get_of, confirm_done, confirm_back}
+use Rattle.mt_state.specs.{declared.moves.Move.Move, declared.moves.Move.TheVariants.{Moved, Again, Done as DoneMove}, Views.{Core, shown, past_of}}
+use Rattle.mt_state.specs.{Promises.{Tells, IsInTheWay}, Phases.LeadsTo, Notes.Says, Ways.{Descends, ShowsTaken}}
+use Rattle.mt_state.specs.{KeptOperations.{IsOnItsWay, IsAtLoad, IsAtConfirm, IsKeptAt}, Invariant.StateInvariant}
+use Rattle.mt_state.proofs.{Shown.shown_there, Telling.Gives, Still.{IsFree, holds_nothing, nothing_changes}}
+use Rattle.mt_state.proofs.{Reading.{way_of, descend_done, search_missing, search_found}, Loading.{load_taken, load_stopped}}
+use Rattle.mt_state.proofs.{Confirming.{get_of, confirm_done, confirm_back}, Lawful.get_no_scan, Bound.get_no_remove}
 use Rattle.mt_core.specs.Nexts.{ending}
 use Rattle.mt_core.specs.Looks.{Looks, LooksAt, MayDescend, MayLook, led_to, TellsDescended, TellsSearched, TellsLoaded, TellsConfirmed, TellsSnapped, TellsCompared, TellsHopped, IsStopped}
-use Rattle.mt_core.specs.Points.{IsAtPoint, Nears, StepsOn, IsRemovalAt}
-use Rattle.mt_core.proofs.Points.{point_first, removal_first, nears_by}
-use Rattle.mt_state.proofs.Lawful.{get_no_scan}
-use Rattle.mt_core.specs.ScanPoints.{IsScanAt}
-use Rattle.mt_core.proofs.ScanNears.{scan_first, scan_aim, down_nears}
-use Rattle.mt_core.proofs.RemovalNears.{descent_removal}
-use Rattle.mt_remove.specs.Writes.{is_remove}
-use Rattle.mt_state.proofs.Bound.{get_no_remove}
-use Rattle.std.proofs.lemmas.Bool.{both_ways}
-use Rattle.mt_core.proofs.Following.{IsSound, IsOver, holder_open, in_the_way}
-use Rattle.mt_core.proofs.Leading.{no_step, leads_over}
+use Rattle.mt_core.specs.{Points.{IsAtPoint, Nears, StepsOn, IsRemovalAt}, ScanPoints.IsScanAt}
+use Rattle.mt_core.proofs.{Points.{point_first, removal_first, nears_by}, ScanNears.{scan_first, scan_aim, down_nears}, RemovalNears.descent_removal}
+use Rattle.mt_core.proofs.{Following.{IsSound, IsOver, holder_open, in_the_way}, Leading.{no_step, leads_over}}
 use Rattle.mt_core.proofs.PhaseTests.{free_unfinished, confirm_or, done_or, other_moves, way_moves}
 use Rattle.mt_core.proofs.ScanSteps.{may_snap, may_compare, may_hop, snap_comes, check_comes, hop_comes}
 use Rattle.mt_core.proofs.LookPoints.{search_nears, load_nears, confirm_nears, descent_nears}
+use Rattle.mt_remove.specs.Writes.{is_remove}
+use Rattle.mt_border.specs.declared.entry.Find.TheVariants as finds
 
 -- a state that has made one more step, with this table
 abbrev stepped : Core → Table → Core

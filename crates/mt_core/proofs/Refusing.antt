@@ -1,18 +1,10 @@
 -- A begin is refused as its opening is, and its opening as its command: for `State::begin`.
-use Rattle.std.proofs.Common.{◌≡◌, ℕ, Option, Some, None, IsSome, Result, Ok, Err, refl, sym, ap, subst}
-use Rattle.std.specs.Prelude.{IsOk}
-use Rattle.mt_rows.specs.declared.command.Command.{Command}
-use Rattle.mt_rows.specs.declared.refusal.Refusal.{Refusal}
-use Rattle.mt_rows.specs.declared.refusal.Refusal.TheVariants.{Memory, NoTenant, Spent}
-use Rattle.mt_rows.specs.declared.tenants.Account.{Account}
-use Rattle.mt_rows.specs.Commands.{IsTaken}
-use Rattle.mt_rows.specs.Accounts.{account_of}
+use Rattle.std.{proofs.Common.{◌≡◌, ℕ, Option, Some, None, IsSome, Result, Ok, Err, refl, sym, ap, subst}, specs.Prelude.IsOk}
+use Rattle.mt_rows.specs.{declared.command.Command.Command, declared.refusal.Refusal.Refusal, declared.refusal.Refusal.TheVariants.{Memory, NoTenant, Spent}}
+use Rattle.mt_rows.specs.{declared.tenants.Account.Account, Commands.IsTaken, Accounts.account_of}
 use Rattle.mt_operation.specs.Operations.{OperationView}
-use Rattle.mt_state.specs.Views.{StateView}
-use Rattle.mt_state.specs.Refused.{IsFault, Makes, IsRefusal}
-use Rattle.mt_core.specs.declared.answers.Ticket.{Ticket}
-use Rattle.mt_core.specs.Admitted.{OpeningView, IsRefusalMade, IsRefusedFor, RefusesOpening}
-use Rattle.mt_core.specs.Tickets.{TellsRefusal}
+use Rattle.mt_state.specs.{Views.StateView, Refused.{IsFault, Makes, IsRefusal}}
+use Rattle.mt_core.specs.{declared.answers.Ticket.Ticket, Admitted.{OpeningView, IsRefusalMade, IsRefusedFor, RefusesOpening}, Tickets.TellsRefusal}
 
 module _ (v : StateView) (tenant : ℕ) (command : Command) where
   -- a command's fault is handed on where its tenant is there

@@ -1,51 +1,28 @@
 -- How each step brings a removal on that nobody is in the way of: for `Inner::lock_onward`, `judge_put`, and for the methods of `removals.rt`.
 use Rattle.std.proofs.Common.{◌≡◌, ◌≢◌, ℕ, zero, suc, ◌+◌, ◌*◌, ◌<◌, ◌≤◌, inl, inr, Bool, true, false, cond, List, [], ◌∷◌, length, set, Option, Some, None, refl, sym, ap, subst, ◌∙◌, arith}
+use Rattle.std.proofs.{lemmas.Option.same_Some, Math.Nat.{add-mul, min-eq_left, min-eq_right, min-le_left, min-le_right, mul-le-mul_right}}
+use Rattle.std.proofs.{lemmas.Bool.{cases_eq, cases_lt, both_ways}, lemmas.List.length-set}
 use Rattle.std.specs.Prelude.{if◌then◌else◌, nat_lt, min, slice_index, ◌-◌}
-use Rattle.std.proofs.lemmas.Option.{same_Some}
-use Rattle.std.proofs.Math.Nat.{add-mul, min-eq_left, min-eq_right, min-le_left, min-le_right, mul-le-mul_right}
-use Rattle.std.proofs.lemmas.Bool.{cases_eq, cases_lt, both_ways}
-use Rattle.std.proofs.lemmas.List.{length-set}
 use Rattle.mt_version.specs.Parts.{Parts}
-use Rattle.mt_slices.specs.Keys.{IsStoredKey}
+use Rattle.mt_slices.specs.{Keys.IsStoredKey, Slices.slice_of}
 use Rattle.mt_rows.specs.Rows.{Bytes}
-use Rattle.mt_arena.specs.declared.tree.Tree.{Tree}
-use Rattle.mt_arena.specs.declared.tree.Standing.{Standing}
-use Rattle.mt_arena.specs.declared.tree.Standing.TheVariants.{Dead, Live, Made}
-use Rattle.mt_arena.specs.NodeView.{NodeView, node_at}
-use Rattle.mt_arena.specs.Edits.{locked, unlocked}
-use Rattle.mt_arena.specs.Forests.{layer_of, tree_at}
-use Rattle.mt_arena.specs.Contents.{is_live}
-use Rattle.mt_arena.specs.Arena.{ArenaView, IsArena, live_count}
-use Rattle.mt_arena.specs.Accesses.{at, with_node}
-use Rattle.mt_arena.specs.RootLevels.{levels_above, levels_among, levels_if, levels_of}
-use Rattle.mt_arena.proofs.Elsewhere.{layer_is}
-use Rattle.mt_arena.proofs.Heights.{any_below_live}
-use Rattle.mt_arena.proofs.RootLevels.{above_few, above_live}
-use Rattle.mt_operation.specs.Phases.{Kind, row, IsDescent, IsRemovalPhase, MayFollow, is_done}
-use Rattle.mt_operation.specs.Phases as kinds
-use Rattle.mt_operation.proofs.Phases.{IsBehindBy, behind_removal, by_descent, by_removal, few_ranks}
-use Rattle.mt_core.proofs.WalkBounds.{IsWayKind, few_walked, walk_kind}
-use Rattle.mt_core.specs.Points.{RemovedBy, RoundsBy, HasRemoved, HasRounds, IsRemovalAt, RoundsAt, before_round, round_budget}
-use Rattle.mt_operation.specs.declared.phase.Phase.{Phase}
+use Rattle.mt_arena.specs.{declared.tree.Tree.Tree, declared.tree.Standing.Standing, declared.tree.Standing.TheVariants.{Dead, Live, Made}}
+use Rattle.mt_arena.specs.{NodeView.{NodeView, node_at}, Edits.{locked, unlocked}, Forests.{layer_of, tree_at}, Contents.is_live}
+use Rattle.mt_arena.specs.{Arena.{ArenaView, IsArena, live_count}, Accesses.{at, with_node}, RootLevels.{levels_above, levels_among, levels_if, levels_of}}
+use Rattle.mt_arena.proofs.{Elsewhere.layer_is, Heights.any_below_live, RootLevels.{above_few, above_live}}
+use Rattle.mt_operation.specs.{Phases.{Kind, row, IsDescent, IsRemovalPhase, MayFollow, is_done}, declared.phase.Phase.Phase}
 use Rattle.mt_operation.specs.declared.phase.Phase.TheVariants.{CleanLayer, Collapse, Done, DropKey, FixNext, Forward, Judge, Lock, LockAbove, LockPrev, Unlink, Unlock}
-use Rattle.mt_operation.specs.declared.walk.Walk.{Walk}
-use Rattle.mt_operation.specs.declared.outcome.Outcome.{Outcome}
-use Rattle.mt_operation.specs.declared.removal.Removal.{Removal}
-use Rattle.mt_slices.specs.Slices.{slice_of}
-use Rattle.mt_descent.specs.Seen.{IsOutdated, IsRemembered}
-use Rattle.mt_descent.specs.KeptWalks.{GoesThrough, IsAtBorder}
-use Rattle.mt_descent.specs.WalkMoves.{Locks, after_change, walk_anew, walk_into}
-use Rattle.mt_remove.specs.Ways.{IsLockWay}
+use Rattle.mt_operation.specs.{declared.walk.Walk.Walk, declared.outcome.Outcome.Outcome, declared.removal.Removal.Removal, Operations.SplitsView}
+use Rattle.mt_operation.proofs.Phases.{IsBehindBy, behind_removal, by_descent, by_removal, few_ranks}
+use Rattle.mt_core.proofs.{WalkBounds.{IsWayKind, few_walked, walk_kind}, Points.{removed_at, rounds_at}}
+use Rattle.mt_core.specs.Points.{RemovedBy, RoundsBy, HasRemoved, HasRounds, IsRemovalAt, RoundsAt, before_round, round_budget}
+use Rattle.mt_core.specs.Budgets.{Budget, IsBudget, IsLiveTree, WalksBy, astray, behind, until}
+use Rattle.mt_descent.specs.{Seen.{IsOutdated, IsRemembered}, KeptWalks.{GoesThrough, IsAtBorder}, WalkMoves.{Locks, after_change, walk_anew, walk_into}}
+use Rattle.mt_remove.{specs.{Ways.IsLockWay, RemovalEdits.{GoesOnEmptied, after_unlink, for_rest}}, proofs.GoingOn.unlinks_or_not}
 use Rattle.mt_held.specs.Moves.{walk_at}
 use Rattle.mt_interior.specs.Places.{place_of}
-use Rattle.mt_remove.specs.RemovalEdits.{GoesOnEmptied, after_unlink, for_rest}
-use Rattle.mt_remove.proofs.GoingOn.{unlinks_or_not}
-use Rattle.mt_operation.specs.Operations.{SplitsView}
-use Rattle.mt_state.specs.Phases.{LeadsTo, ScanStep}
-use Rattle.mt_state.proofs.RemovalBy.{child_before}
-use Rattle.mt_state.proofs.Decides.{outdated_or_not}
-use Rattle.mt_core.specs.Budgets.{Budget, IsBudget, IsLiveTree, WalksBy, astray, behind, until}
-use Rattle.mt_core.proofs.Points.{removed_at, rounds_at}
+use Rattle.mt_state.{specs.Phases.{LeadsTo, ScanStep}, proofs.{RemovalBy.child_before, Decides.outdated_or_not}}
+use Rattle.mt_operation.specs.Phases as kinds
 
 -- nodes of the same levels make the same levels of trees
 same_levels : (old new : List NodeView) → ((k : ℕ) → (node_at new k).level ≡ (node_at old k).level) → (trees : List Tree) (layer count : ℕ)

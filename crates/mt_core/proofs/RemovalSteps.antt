@@ -1,56 +1,29 @@
 -- The steps of a removal by the ensures of the calls that they make: for `Inner::judge_removal`, `drop_key`, `take_out`, `unlock_removal`, `lock_back` and `judge_back`.
 use Rattle.std.proofs.Common.{IsSome, List, None, Option, Some, [], ap, arith, false, inl, inr, length, refl, set, subst, suc, sym, true, zero, ℕ, ◌+◌, ◌<◌, ◌∙◌, ◌∷◌, ◌≡◌, ◌≢◌}
-use Rattle.std.specs.Prelude.{IfSome, ◌^◌, ◌⊎◌, ◌≤◌}
-use Rattle.std.specs.Option.{option_map}
 use Rattle.std.proofs.lemmas.Bool.{cases_eq}
-use Rattle.mt_state.proofs.SplitSteps.{is_held_or_not}
-use Rattle.mt_version.specs.Changes.{CanUnlock}
-use Rattle.mt_rows.specs.declared.reply.Reply.TheVariants.{Absent, Removed}
-use Rattle.mt_rows.specs.Accounts.{Accounts}
-use Rattle.mt_tape.specs.Tapes.{Kept}
-use Rattle.mt_arena.specs.NodeView.{NodeView, node_at}
-use Rattle.mt_arena.specs.Arena.{ArenaView, Guarantee, IsArena, live_count}
-use Rattle.mt_arena.specs.Forests.{tree_at}
-use Rattle.mt_arena.specs.Accesses.{at}
-use Rattle.mt_operation.specs.declared.phase.Phase.{Phase}
-use Rattle.mt_operation.specs.declared.phase.Phase.TheVariants.{CleanLayer, Done, DropKey, Enter, Judge, Lock, Unlock}
-use Rattle.mt_operation.specs.declared.walk.Walk.{Walk}
-use Rattle.mt_operation.specs.declared.splits.Halves.{Halves}
-use Rattle.mt_operation.specs.declared.removal.Removal.{Removal}
-use Rattle.mt_operation.specs.declared.outcome.Outcome.{Outcome}
-use Rattle.mt_operation.specs.declared.prepared.Prepared.{Prepared}
-use Rattle.mt_operation.specs.declared.operation.Operation.{Operation}
-use Rattle.mt_operation.specs.Operations.{SplitsView, ScanView, made_ready, moved, noted, splits_of, with_nothing_ready, with_removal}
-use Rattle.mt_operation.specs.Phases.{IsRemovalPhase, is_done}
-use Rattle.mt_operation.specs.Tables.{Table, op_at as operation_at}
-use Rattle.mt_operation.specs.Tasks.{ask}
-use Rattle.mt_remove.specs.DropKey.{IsDropKey}
-use Rattle.mt_remove.specs.Judge.{FindsAbsent, IsMadeReady}
-use Rattle.mt_remove.specs.KeptRemovals.{IsAmong, IsAtUnlockRemoval, KeptRemoval}
-use Rattle.mt_remove.specs.RemovalEdits.{root_of}
-use Rattle.mt_remove.specs.Steps.{IsRemovalFrom}
-use Rattle.mt_remove.specs.Unlock.{IsUnlockRemoval}
-use Rattle.mt_remove.specs.Ways.{Follows, IsLockWay}
-use Rattle.mt_remove.specs.Writes.{is_remove}
-use Rattle.mt_state.specs.declared.moves.Move.{Move}
-use Rattle.mt_state.specs.declared.moves.Move.TheVariants.{Done as DoneMove, Moved}
-use Rattle.mt_state.specs.Views.{Core, StateView, shown}
-use Rattle.mt_state.specs.Promises.{IsInTheWay, IsStep}
-use Rattle.mt_state.specs.Phases.{GoesFromUnlock, JudgesBy, Leads, LocksBy, ReturnsBy}
-use Rattle.mt_state.specs.KeptOperations.{IsKeptAt, IsOnItsWay}
-use Rattle.mt_state.specs.Invariant.{StateInvariant}
-use Rattle.mt_state.proofs.Telling.{Gives}
+use Rattle.std.specs.{Prelude.{IfSome, ◌^◌, ◌⊎◌, ◌≤◌}, Option.option_map}
+use Rattle.mt_state.proofs.{SplitSteps.is_held_or_not, Telling.Gives}
 use Rattle.mt_state.proofs.Needs.{drop_removes, judge_kept, lock_kept, removal_kept_at, removal_of, removal_unlock_kept, removal_unlock_room}
-use Rattle.mt_state.proofs.RemovalBy.{removal_leads, removes_by}
-use Rattle.mt_state.proofs.RemovalDrop.{drop_done}
+use Rattle.mt_state.proofs.{RemovalBy.{removal_leads, removes_by}, RemovalDrop.drop_done}
 use Rattle.mt_state.proofs.RemovalLooks.{back_ended, drop_missing, drop_ready, going_back, lock_back, removal_returned, empties_or_not}
 use Rattle.mt_state.proofs.RemovalSteps.{removed_done, unlinking_of}
-use Rattle.mt_core.specs.Nexts.{ending}
-use Rattle.mt_core.specs.Points.{IsRemovalAt, Nears, StepsOn}
-use Rattle.mt_core.proofs.Following.{IsOver, IsSound, made}
-use Rattle.mt_core.proofs.Leading.{no_step, leads_over}
+use Rattle.mt_state.specs.{declared.moves.Move.Move, declared.moves.Move.TheVariants.{Done as DoneMove, Moved}, Views.{Core, StateView, shown}}
+use Rattle.mt_state.specs.{Promises.{IsInTheWay, IsStep}, Phases.{GoesFromUnlock, JudgesBy, Leads, LocksBy, ReturnsBy}, KeptOperations.{IsKeptAt, IsOnItsWay}}
+use Rattle.mt_state.specs.Invariant.{StateInvariant}
+use Rattle.mt_version.specs.Changes.{CanUnlock}
+use Rattle.mt_rows.specs.{declared.reply.Reply.TheVariants.{Absent, Removed}, Accounts.Accounts}
+use Rattle.mt_tape.specs.Tapes.{Kept}
+use Rattle.mt_arena.specs.{NodeView.{NodeView, node_at}, Arena.{ArenaView, Guarantee, IsArena, live_count}, Forests.tree_at, Accesses.at}
 use Rattle.mt_arena.proofs.Elsewhere.{layer_is}
-use Rattle.mt_core.proofs.Points.{nears_removal, removal_first, removed_at, rounds_at}
+use Rattle.mt_operation.specs.{declared.phase.Phase.Phase, declared.phase.Phase.TheVariants.{CleanLayer, Done, DropKey, Enter, Judge, Lock, Unlock}}
+use Rattle.mt_operation.specs.{declared.walk.Walk.Walk, declared.splits.Halves.Halves, declared.removal.Removal.Removal, declared.outcome.Outcome.Outcome}
+use Rattle.mt_operation.specs.{declared.prepared.Prepared.Prepared, declared.operation.Operation.Operation}
+use Rattle.mt_operation.specs.Operations.{SplitsView, ScanView, made_ready, moved, noted, splits_of, with_nothing_ready, with_removal}
+use Rattle.mt_operation.specs.{Phases.{IsRemovalPhase, is_done}, Tables.{Table, op_at as operation_at}, Tasks.ask}
+use Rattle.mt_remove.specs.{DropKey.IsDropKey, Judge.{FindsAbsent, IsMadeReady}, KeptRemovals.{IsAmong, IsAtUnlockRemoval, KeptRemoval}, RemovalEdits.root_of}
+use Rattle.mt_remove.specs.{Steps.IsRemovalFrom, Unlock.IsUnlockRemoval, Ways.{Follows, IsLockWay}, Writes.is_remove}
+use Rattle.mt_core.specs.{Nexts.ending, Points.{IsRemovalAt, Nears, StepsOn}}
+use Rattle.mt_core.proofs.{Following.{IsOver, IsSound, made}, Leading.{no_step, leads_over}, Points.{nears_removal, removal_first, removed_at, rounds_at}}
 use Rattle.mt_core.proofs.RemovalNears.{back_lock, back_removal, emptied_removal, live_fewer, live_stays, ready_removal, shallow_layer, taken_removal, taken_walk, tree_layer, tree_stands}
 use Rattle.mt_core.proofs.PutSteps.{judges_none, link_made}
 

@@ -1,24 +1,14 @@
 -- A state whose counting begins anew keeps the invariant, where no operation is open: for `Inner::renumber`.
-use Rattle.std.proofs.Common.{◌≡◌, ℕ, ◌^◌, ◌<◌, ◌≤◌, List, [], None, length, replicate, sym, refl, ap, subst, ◌∙◌, arith}
-use Rattle.std.proofs.lemmas.List.{length-replicate}
-use Rattle.std.proofs.lemmas.List.Elements.{All-replicate}
-use Rattle.std.proofs.lemmas.Option.{none-some}
+use Rattle.std.proofs.{Common.{◌≡◌, ℕ, ◌^◌, ◌<◌, ◌≤◌, List, [], None, length, replicate, sym, refl, ap, subst, ◌∙◌, arith}, lemmas.List.length-replicate}
+use Rattle.std.proofs.{lemmas.List.Elements.All-replicate, lemmas.Option.none-some}
 use Rattle.std.specs.FinMap.{len}
-use Rattle.mt_rows.specs.Rows.{Bytes}
-use Rattle.mt_rows.specs.Tenants.{tenant_map}
-use Rattle.mt_border.specs.Contents.{AllStamped}
-use Rattle.mt_border.specs.Restamps.{all_restamped}
-use Rattle.mt_border.proofs.Restamping.{all-restamped}
+use Rattle.mt_rows.specs.{Rows.Bytes, Tenants.tenant_map}
+use Rattle.mt_border.{specs.{Contents.AllStamped, Restamps.all_restamped}, proofs.Restamping.all-restamped}
 use Rattle.mt_tape.specs.Tapes.{Kept}
-use Rattle.mt_arena.specs.NodeView.{NodeView}
-use Rattle.mt_arena.specs.Arena.{ArenaView, content_of}
-use Rattle.mt_arena.specs.Forests.{tree_at}
-use Rattle.mt_arena.specs.Accesses.{at}
-use Rattle.mt_arena.specs.Renumbers.{renumbered, arena_renumbered}
+use Rattle.mt_arena.specs.{NodeView.NodeView, Arena.{ArenaView, content_of}, Forests.tree_at, Accesses.at, Renumbers.{renumbered, arena_renumbered}}
 use Rattle.mt_arena.proofs.Renumbering.{at-renumbered, size-renumbered, content-renumbered}
 use Rattle.mt_operation.specs.Tables.{Table, op_at as operation_at}
-use Rattle.mt_state.specs.Views.{Core}
-use Rattle.mt_state.specs.Invariant.{StateInvariant, AreStamps, AreVersions, AreHolders, AreCounted, DeletedAreEmpty, IsStampOf, IsCountedUpTo}
+use Rattle.mt_state.specs.{Views.Core, Invariant.{StateInvariant, AreStamps, AreVersions, AreHolders, AreCounted, DeletedAreEmpty, IsStampOf, IsCountedUpTo}}
 use Rattle.mt_core.specs.Renumbers.{core_renumbered}
 
 never : {P : Type 0} (k : ℕ) → k < 0 → P

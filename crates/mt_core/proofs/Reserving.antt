@@ -1,17 +1,13 @@
 -- Places that are added and taken: the invariant with more of them, and what is shown of them: for `Inner::admit` and `Inner::reserve`.
-use Rattle.std.proofs.Common.{◌≡◌, ℕ, suc, ◌+◌, ◌≤◌, [], ◌∷◌, length, Some, None, refl, sym, ap, ◌∙◌, arith}
+use Rattle.std.proofs.{Common.{◌≡◌, ℕ, suc, ◌+◌, ◌≤◌, [], ◌∷◌, length, Some, None, refl, sym, ap, ◌∙◌, arith}, lemmas.List.length-map}
 use Rattle.std.specs.Option.{option_map}
-use Rattle.std.proofs.lemmas.List.{length-map}
-use Rattle.mt_operation.specs.Operations.{view_of}
-use Rattle.mt_operation.specs.Tables.{Table}
-use Rattle.mt_operation.specs.Tables as tables
+use Rattle.mt_operation.specs.{Operations.view_of, Tables.Table}
 use Rattle.mt_table.proofs.Places.{there_count, count_there}
-use Rattle.mt_state.specs.Views.{Core, Shown, shown, op_at}
-use Rattle.mt_state.specs.Invariant.{StateInvariant, one_if_made, one_if_prepared, made_count}
+use Rattle.mt_state.specs.{Views.{Core, Shown, shown, op_at}, Invariant.{StateInvariant, one_if_made, one_if_prepared, made_count}}
 use Rattle.mt_state.proofs.Shown.{shown_table, shown_at}
 use Rattle.mt_core.specs.Places.{open_count, HasPlaces, TakesPlace, AddsPlaces}
-use Rattle.mt_core.proofs.Retained.{retained, scan_retained, own_tape}
-use Rattle.mt_core.proofs.Tabling.{with_table, same_count}
+use Rattle.mt_core.proofs.{Retained.{retained, scan_retained, own_tape}, Tabling.{with_table, same_count}}
+use Rattle.mt_operation.specs.Tables as tables
 
 -- two tables have as many operations that have made a step where each id has as many
 same_made : (t u : Shown) → ((q : ℕ) → one_if_made (op_at t q) ≡ one_if_made (op_at u q)) → made_count t ≡ made_count u

@@ -1,47 +1,25 @@
 -- What a put leaves that runs alone in a state without other operations, and what counting anew leaves then: for `restored`.
 use Rattle.std.proofs.Common.{◌≡◌, ◌≢◌, ℕ, zero, suc, ◌+◌, ◌*◌, ◌^◌, ◌<◌, ◌≤◌, ◌⊎◌, inl, inr, Bool, true, false, cond, eqb, List, [], ◌∷◌, length, Option, Some, None, Result, Ok, Err, sym, refl, ap, subst, ◌∙◌, arith}
-use Rattle.std.specs.Prelude.{if◌then◌else◌, OnOk, replicate, slice_set}
-use Rattle.std.specs.FinMap as pairs
-use Rattle.std.specs.Option.{option_map}
-use Rattle.std.proofs.lemmas.Bool.{cases_eq, eqb-true, eqb-false}
-use Rattle.std.proofs.lemmas.List.{get_or-set_other, length-replicate}
-use Rattle.std.proofs.lemmas.Option.{same_Some, none-some}
-use Rattle.mt_rows.specs.declared.command.Command.TheVariants.{Put}
-use Rattle.mt_rows.specs.declared.record.TenantPair.{TenantPair}
-use Rattle.mt_rows.specs.declared.reply.Reply.{Reply}
-use Rattle.mt_rows.specs.declared.reply.Reply.TheVariants.{New, NoMemory}
-use Rattle.mt_rows.specs.declared.tenants.Account.{Account}
-use Rattle.mt_rows.specs.Accounts.{Accounts, account_of}
-use Rattle.mt_rows.specs.Changes.{Named, changed, indexed}
-use Rattle.mt_rows.specs.Maps.{Map, reply_of, map_after, map_after_put, told_of_put}
-use Rattle.mt_rows.specs.Tenants.{Contents, tenant_map}
+use Rattle.std.proofs.{lemmas.Bool.{cases_eq, eqb-true, eqb-false}, lemmas.List.{get_or-set_other, length-replicate}, lemmas.Option.{same_Some, none-some}}
+use Rattle.std.specs.{Prelude.{if◌then◌else◌, OnOk, replicate, slice_set}, Option.option_map}
+use Rattle.mt_rows.specs.{declared.command.Command.TheVariants.Put, declared.record.TenantPair.TenantPair, declared.reply.Reply.Reply}
+use Rattle.mt_rows.specs.{declared.reply.Reply.TheVariants.{New, NoMemory}, declared.tenants.Account.Account, Accounts.{Accounts, account_of}}
+use Rattle.mt_rows.specs.{Changes.{Named, changed, indexed}, Maps.{Map, reply_of, map_after, map_after_put, told_of_put}, Tenants.{Contents, tenant_map}}
 use Rattle.mt_rows.specs.TenantPairs.{owner_of, pairs_of}
-use Rattle.mt_rows.proofs.Indexed.{changed_indexed}
-use Rattle.mt_rows.proofs.ContentLaws.{same_contents, get-tenant_map, tenant_map-insert, tenant_map-insert_other}
-use Rattle.mt_border.specs.Contents.{AllStamped}
-use Rattle.mt_border.proofs.Restamping.{all-restamped}
+use Rattle.mt_rows.proofs.{Indexed.changed_indexed, ContentLaws.{same_contents, get-tenant_map, tenant_map-insert, tenant_map-insert_other}}
+use Rattle.mt_border.{specs.Contents.AllStamped, proofs.Restamping.all-restamped}
 use Rattle.mt_runs.specs.declared.event.Answer.{Answer}
-use Rattle.mt_arena.specs.NodeView.{NodeView}
-use Rattle.mt_arena.specs.Accesses.{at}
-use Rattle.mt_arena.specs.Arena.{live_count}
-use Rattle.mt_arena.specs.Forests.{tree_at}
-use Rattle.mt_arena.specs.Renumbers.{all_renumbered}
+use Rattle.mt_arena.specs.{NodeView.NodeView, Accesses.at, Arena.live_count, Forests.tree_at, Renumbers.all_renumbered}
 use Rattle.mt_arena.proofs.Renumbering.{at-renumbered, content-renumbered}
-use Rattle.mt_operation.specs.declared.operation.Operation.{Operation}
-use Rattle.mt_operation.specs.declared.outcome.Outcome.{Outcome}
-use Rattle.mt_operation.specs.declared.phase.Phase.{Phase}
-use Rattle.mt_operation.specs.Operations.{OperationView, view_of}
-use Rattle.mt_operation.specs.Tables.{Table, op_at as operation_at}
-use Rattle.mt_state.specs.declared.moves.Move.{Move}
-use Rattle.mt_state.specs.declared.moves.Move.TheVariants.{NoMemory as NoMemoryMove, Done as DoneMove}
+use Rattle.mt_operation.specs.{declared.operation.Operation.Operation, declared.outcome.Outcome.Outcome, declared.phase.Phase.Phase}
+use Rattle.mt_operation.specs.{Operations.{OperationView, view_of}, Tables.{Table, op_at as operation_at}}
+use Rattle.mt_state.specs.{declared.moves.Move.Move, declared.moves.Move.TheVariants.{NoMemory as NoMemoryMove, Done as DoneMove}}
 use Rattle.mt_state.specs.Views.{Core, StateView, Shown, shown, contents_of, op_at, granted, granted_in, quota_in as quota_of_account, quota_of}
-use Rattle.mt_state.specs.Promises.{IsStep}
-use Rattle.mt_state.specs.Begins.{Begins, Takes, begun, new_state}
-use Rattle.mt_state.specs.Invariant.{StateInvariant, HoldsAt}
+use Rattle.mt_state.specs.{Promises.IsStep, Begins.{Begins, Takes, begun, new_state}, Invariant.{StateInvariant, HoldsAt}}
 use Rattle.mt_state.proofs.Shown.{shown_table, shown_at, shown_there}
-use Rattle.mt_core.specs.Alone.{IsChain, Runs, IsAlone, EndsAlone, EndsAt, IsRun}
-use Rattle.mt_core.specs.Renumbers.{core_renumbered}
+use Rattle.mt_core.specs.{Alone.{IsChain, Runs, IsAlone, EndsAlone, EndsAt, IsRun}, Renumbers.core_renumbered}
 use Rattle.mt_core.specs.Restores.{IsIdle, MayPut, HasPut, put_of, with_pair, counting, IsUncounted, IsRestored}
+use Rattle.std.specs.FinMap as pairs
 
 -- no operation is shown where none is inside
 none_inside : (x : Option Operation) → option_map view_of x ≡ None → x ≡ None

@@ -1,40 +1,23 @@
 -- What is kept of an operation stays where only the table, the logs and the count of answers are others, and the tape goes back as far as the operation needs: for `Inner::admit`, `take`, `drain` and `tidy`.
 use Rattle.std.proofs.Common.{◌≡◌, ◌≢◌, ℕ, ◌+◌, ◌-◌, ◌<◌, ◌≤◌, Bool, true, false, List, Option, None, Some, sym, refl, ap, ◌∙◌, arith}
-use Rattle.std.specs.Prelude.{if◌then◌else◌}
-use Rattle.std.specs.List.{Contains}
 use Rattle.std.proofs.lemmas.Option.{same_Some, none-some}
-use Rattle.mt_rows.specs.declared.command.Command.{Command}
-use Rattle.mt_rows.specs.declared.reply.Reply.{Reply}
-use Rattle.mt_rows.specs.Rows.{Bytes, Columns}
-use Rattle.mt_rows.specs.Maps.{reply_of, is_change}
-use Rattle.mt_rows.specs.Tenants.{tenant_map}
-use Rattle.mt_tape.specs.declared.entry.Entry.{Entry as TapeEntry}
-use Rattle.mt_tape.specs.Tapes.{Kept}
-use Rattle.mt_tape.specs.Histories.{contents_at, is_changed}
+use Rattle.std.specs.{Prelude.{if◌then◌else◌}, List.Contains}
+use Rattle.mt_rows.specs.{declared.command.Command.Command, declared.reply.Reply.Reply, Rows.{Bytes, Columns}, Maps.{reply_of, is_change}, Tenants.tenant_map}
+use Rattle.mt_tape.specs.{declared.entry.Entry.{Entry as TapeEntry}, Tapes.Kept, Histories.{contents_at, is_changed}}
 use Rattle.mt_arena.specs.Arena.{ArenaView, content_of}
-use Rattle.mt_operation.specs.declared.outcome.Outcome.{Outcome}
-use Rattle.mt_operation.specs.declared.operation.Operation.{Operation}
-use Rattle.mt_operation.specs.declared.phase.Phase.{Phase}
-use Rattle.mt_operation.specs.declared.phase.Phase.TheVariants.{Enter, Load, Confirm, Check, Hop, Store, Unlock, Done}
-use Rattle.mt_operation.specs.declared.walk.Walk.{Walk}
-use Rattle.mt_operation.specs.declared.walk.Taken.{Taken}
-use Rattle.mt_operation.specs.declared.walk.Taken.TheVariants.{Missing, Row, Link, Nothing}
-use Rattle.mt_operation.specs.Operations.{view_of, scan_of}
-use Rattle.mt_operation.specs.Tasks.{ask}
+use Rattle.mt_operation.specs.{declared.outcome.Outcome.Outcome, declared.operation.Operation.Operation, declared.phase.Phase.Phase}
+use Rattle.mt_operation.specs.{declared.phase.Phase.TheVariants.{Enter, Load, Confirm, Check, Hop, Store, Unlock, Done}, declared.walk.Walk.Walk}
+use Rattle.mt_operation.specs.{declared.walk.Taken.Taken, declared.walk.Taken.TheVariants.{Missing, Row, Link, Nothing}, Operations.{view_of, scan_of}}
+use Rattle.mt_operation.specs.{Tasks.ask, Tables.Table, Phases.{Kind, row}}
 use Rattle.mt_runs.proofs.Lawful.{lawful_by}
 use Rattle.mt_walks.specs.Walked.{IsWithin}
 use Rattle.mt_scan.specs.Snaps.{prefix_in}
 use Rattle.mt_stretches.proofs.Beginning.{seen_stays}
-use Rattle.mt_state.proofs.ScanKept.{scanned_for_stays}
-use Rattle.mt_operation.specs.Tables.{Table}
-use Rattle.mt_descent.specs.Pasts.{Past, ExtendsPast}
-use Rattle.mt_descent.specs.KeptWalks.{IsKept, KeptAt}
-use Rattle.mt_descent.proofs.Rely as descent
-use Rattle.mt_state.specs.Views.{Core, shown, past_of, map_of, quota_of, IsPlaced}
-use Rattle.mt_state.specs.Steps.{change_in, told_change}
+use Rattle.mt_state.proofs.{ScanKept.scanned_for_stays, Still.nothing_changes}
+use Rattle.mt_state.specs.{Views.{Core, shown, past_of, map_of, quota_of, IsPlaced}, Steps.{change_in, told_change}}
 use Rattle.mt_state.specs.KeptOperations.{IsOpenOperation, IsOnItsWay, HasAnswer, TellsTaken, IsLayering, IsReturning, IsKeptOf, IsKeptFor, IsReadingAt, IsScanningAt, IsChecking, IsScanKept, IsWritingAt, IsBound, IsUnlinking}
-use Rattle.mt_state.proofs.Still.{nothing_changes}
-use Rattle.mt_operation.specs.Phases.{Kind, row}
+use Rattle.mt_descent.specs.{Pasts.{Past, ExtendsPast}, KeptWalks.{IsKept, KeptAt}}
+use Rattle.mt_descent.proofs.Rely as descent
 use Rattle.mt_operation.specs.Phases as kinds
 
 -- the same state with another count of answers, other logs, another tape and another table

@@ -1,24 +1,12 @@
 -- What holds of every state, by its invariant: for `Inner::facts`.
-use Rattle.std.proofs.Common.{◌≡◌, ℕ, ◌-◌, ◌<◌, Some, ap, subst, ◌∙◌, arith}
-use Rattle.std.specs.Prelude.{not}
-use Rattle.std.specs.List.{Contains}
-use Rattle.std.proofs.lemmas.List.Elements.{All-contains}
+use Rattle.std.{proofs.{Common.{◌≡◌, ℕ, ◌-◌, ◌<◌, Some, ap, subst, ◌∙◌, arith}, lemmas.List.Elements.All-contains}, specs.{Prelude.not, List.Contains}}
 use Rattle.mt_rows.proofs.ContentLaws.{get-tenant_map}
-use Rattle.mt_tape.specs.declared.entry.Entry.{Entry as TapeEntry}
-use Rattle.mt_tape.specs.Histories.{contents_at}
-use Rattle.mt_tape.proofs.EntryLaws.{rises_all}
-use Rattle.mt_tape.proofs.TapeLaws.{get-contents_at_before}
+use Rattle.mt_tape.{specs.{declared.entry.Entry.{Entry as TapeEntry}, Histories.contents_at}, proofs.{EntryLaws.rises_all, TapeLaws.get-contents_at_before}}
 use Rattle.mt_arena.specs.Arena.{content_of}
-use Rattle.mt_operation.specs.declared.operation.Operation.{Operation}
-use Rattle.mt_operation.specs.Operations.{view_of}
-use Rattle.mt_operation.specs.Tables.{op_at as operation_at}
-use Rattle.mt_state.specs.Views.{Core, StateView, shown}
-use Rattle.mt_state.specs.Written.{IsMadeByChange, IsWritten}
-use Rattle.mt_state.specs.Invariant.{StateInvariant}
+use Rattle.mt_operation.specs.{declared.operation.Operation.Operation, Operations.view_of, Tables.{op_at as operation_at}}
+use Rattle.mt_state.specs.{Views.{Core, StateView, shown}, Written.{IsMadeByChange, IsWritten}, Invariant.StateInvariant}
 use Rattle.mt_state.proofs.Shown.{inside_of, shown_there}
-use Rattle.mt_core.specs.Rights.{IsRightOperation, IsRightState}
-use Rattle.mt_core.proofs.Following.{holder_open}
-use Rattle.mt_core.proofs.Taking.{done_answer, ended_done}
+use Rattle.mt_core.{specs.Rights.{IsRightOperation, IsRightState}, proofs.{Following.holder_open, Taking.{done_answer, ended_done}}}
 
 module _ (c : Core) (h : StateInvariant c) where
   right_inside : (o : ℕ) (op : Operation) → operation_at c.table o ≡ Some op → IsRightOperation (shown c) (view_of op)

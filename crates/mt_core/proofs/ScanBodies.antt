@@ -1,25 +1,13 @@
 -- What the bodies of a scan's steps make of its operation: for `snap_node` and `check_node`.
 use Rattle.std.proofs.Common.{◌≡◌, ◌≢◌, ℕ, List, Option, Some, None, inl, refl, sym, ap, subst, ◌∙◌}
-use Rattle.mt_rows.specs.declared.reply.Reply.TheVariants.{NoMemory, Pairs}
-use Rattle.mt_rows.specs.Limits.{ArePairs}
-use Rattle.mt_rows.specs.Rows.{Columns}
-use Rattle.mt_arena.specs.Arena.{ArenaView}
-use Rattle.mt_arena.specs.Accesses.{at}
-use Rattle.mt_operation.specs.declared.phase.Phase.{Phase}
-use Rattle.mt_operation.specs.declared.phase.Phase.TheVariants.{Done}
-use Rattle.mt_operation.specs.declared.walk.Walk.{Walk}
-use Rattle.mt_operation.specs.declared.task.Task.{Task}
-use Rattle.mt_operation.specs.declared.scan.Scan.{Scan}
-use Rattle.mt_operation.specs.declared.operation.Operation.{Operation}
-use Rattle.mt_operation.specs.Operations.{splits_of, scan_of}
-use Rattle.mt_descent.specs.Pasts.{Past}
-use Rattle.mt_descent.specs.WalkMoves.{Continues}
+use Rattle.mt_rows.specs.{declared.reply.Reply.TheVariants.{NoMemory, Pairs}, Limits.ArePairs, Rows.Columns}
+use Rattle.mt_arena.specs.{Arena.ArenaView, Accesses.at}
+use Rattle.mt_operation.specs.{declared.phase.Phase.Phase, declared.phase.Phase.TheVariants.Done, declared.walk.Walk.Walk, declared.task.Task.Task}
+use Rattle.mt_operation.specs.{declared.scan.Scan.Scan, declared.operation.Operation.Operation, Operations.{splits_of, scan_of}}
+use Rattle.mt_descent.specs.{Pasts.Past, WalkMoves.Continues}
 use Rattle.mt_held.specs.Moves.{walk_done}
-use Rattle.mt_scan.specs.Snaps.{prefix_in, SnapsOr}
-use Rattle.mt_scan.specs.Checks.{Asks, IsCheck, ChecksOr}
-use Rattle.mt_scan.specs.Hops.{KeptScan}
-use Rattle.mt_state.specs.Calls.{IsStillScan}
-use Rattle.mt_state.specs.Promises.{IsInTheWay}
+use Rattle.mt_scan.specs.{Snaps.{prefix_in, SnapsOr}, Checks.{Asks, IsCheck, ChecksOr}, Hops.KeptScan}
+use Rattle.mt_state.specs.{Calls.IsStillScan, Promises.IsInTheWay}
 use Rattle.mt_core.specs.Looks.{MaySnap, MayCompare, IsStopped, TellsCompared}
 
 -- an operation that a body has changed, but for these three

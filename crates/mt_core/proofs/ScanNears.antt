@@ -1,55 +1,31 @@
 -- How the steps of a scan bring it on that nobody is in the way of: for `Inner::look`.
 use Rattle.std.proofs.Common.{◌≡◌, ◌≢◌, ℕ, ◌+◌, ◌*◌, ◌-◌, ◌<◌, ◌≤◌, ◌⊎◌, inl, inr, Bool, true, false, cond, List, length, take, Option, Some, None, refl, sym, ap, subst, ◌∙◌, arith}
-use Rattle.std.specs.Prelude.{min}
-use Rattle.std.proofs.Math.Nat.{mul-le-mul_right, add-mul, mul-add, mul_assoc, mul_comm, min-le_right}
-use Rattle.std.proofs.lemmas.Bool.{cases_eq}
-use Rattle.std.proofs.lemmas.Option.{same_Some}
+use Rattle.std.proofs.{Math.Nat.{mul-le-mul_right, add-mul, mul-add, mul_assoc, mul_comm, min-le_right}, lemmas.Bool.cases_eq, lemmas.Option.same_Some}
 use Rattle.std.proofs.lemmas.List.{get_or_default}
-use Rattle.std.specs.declared.cmp.Ordering.{Ordering}
-use Rattle.std.specs.Ordering.{nat_cmp, is_lt}
-use Rattle.std.specs.Cmp.Lexicographic.{slice_cmp}
+use Rattle.std.specs.{Prelude.min, declared.cmp.Ordering.Ordering, Ordering.{nat_cmp, is_lt}, Cmp.Lexicographic.slice_cmp}
 use Rattle.mt_version.specs.Parts.{Parts}
-use Rattle.mt_slices.specs.Keys.{IsStoredKey}
-use Rattle.mt_slices.specs.Fences.{least_from, least_through, IsBehindAll}
-use Rattle.mt_rows.specs.Rows.{Bytes}
-use Rattle.mt_border.specs.declared.entry.Entry.{Entry}
-use Rattle.mt_border.proofs.Edits.{any_entry}
-use Rattle.mt_arena.specs.declared.tree.Standing.{Standing}
-use Rattle.mt_arena.specs.declared.tree.Standing.TheVariants.{Made, Live, Dead}
-use Rattle.mt_arena.specs.Forests.{tree_at}
-use Rattle.mt_arena.specs.Layers.{slot_at}
-use Rattle.mt_arena.specs.Arena.{ArenaView, IsArena}
-use Rattle.mt_arena.specs.Accesses.{at}
+use Rattle.mt_slices.specs.{Keys.IsStoredKey, Fences.{least_from, least_through, IsBehindAll}}
+use Rattle.mt_rows.specs.{Rows.Bytes, declared.command.Command.Command, declared.command.Command.TheVariants.Scan, Maps.{Map, is_scan}}
+use Rattle.mt_border.{specs.declared.entry.Entry.Entry, proofs.Edits.any_entry}
+use Rattle.mt_arena.specs.{declared.tree.Standing.Standing, declared.tree.Standing.TheVariants.{Made, Live, Dead}, Forests.tree_at, Layers.slot_at}
+use Rattle.mt_arena.specs.{Arena.{ArenaView, IsArena}, Accesses.at}
 use Rattle.mt_arena.proofs.OneLink.{leads}
 use Rattle.mt_operation.proofs.Phases.{by_descent}
-use Rattle.mt_operation.specs.declared.phase.Phase.{Phase}
-use Rattle.mt_operation.specs.declared.phase.Phase.TheVariants.{Enter, Forward, Snap, Check, Hop, Done}
-use Rattle.mt_operation.specs.declared.walk.Aim.{Aim}
-use Rattle.mt_operation.specs.declared.walk.Aim.TheVariants as aims
-use Rattle.mt_operation.specs.declared.walk.Walk.{Walk}
-use Rattle.mt_operation.specs.declared.scan.Stop.{Stop}
-use Rattle.mt_operation.specs.declared.scan.Stop.TheVariants as stops
-use Rattle.mt_operation.specs.Operations.{ScanView}
-use Rattle.mt_operation.specs.Phases.{IsDescent, IsOfKind, is_done}
-use Rattle.mt_descent.specs.Seen.{Stands, IsRemembered}
-use Rattle.mt_descent.specs.KeptWalks.{IsAtBorder, GoesThrough, slice_in}
-use Rattle.mt_descent.specs.WalkMoves.{walk_into, walk_onto, walk_anew}
+use Rattle.mt_operation.specs.{declared.phase.Phase.Phase, declared.phase.Phase.TheVariants.{Enter, Forward, Snap, Check, Hop, Done}, declared.walk.Aim.Aim}
+use Rattle.mt_operation.specs.{declared.walk.Walk.Walk, declared.scan.Stop.Stop, Operations.ScanView, Phases.{IsDescent, IsOfKind, is_done}, Tasks.aim_of}
+use Rattle.mt_descent.specs.{Seen.{Stands, IsRemembered}, KeptWalks.{IsAtBorder, GoesThrough, slice_in}, WalkMoves.{walk_into, walk_onto, walk_anew}}
 use Rattle.mt_descent.proofs.Ways.{same_stands}
 use Rattle.mt_readings.proofs.Readings.{stop_in}
-use Rattle.mt_scan.specs.Snaps.{StopsAt, behind_in, prefix_in, IsSnap}
-use Rattle.mt_scan.specs.Checks.{IsCheck, GoesBehind, at_fence, past_link, kept_seen, walk_to, collects}
+use Rattle.mt_scan.specs.{Snaps.{StopsAt, behind_in, prefix_in, IsSnap}, Checks.{IsCheck, GoesBehind, at_fence, past_link, kept_seen, walk_to, collects}}
 use Rattle.mt_scan.specs.Hops.{KnowsEnd, LeadsNext, IsAtCheck, KeptHop, HopsTo, after_next}
 use Rattle.mt_stretches.specs.Scanned.{IsSeenTo}
-use Rattle.mt_rows.specs.declared.command.Command.{Command}
-use Rattle.mt_rows.specs.declared.command.Command.TheVariants.{Scan}
-use Rattle.mt_rows.specs.Maps.{Map, is_scan}
-use Rattle.mt_operation.specs.Tasks.{aim_of}
 use Rattle.mt_state.proofs.Decides.{same_or_not}
 use Rattle.mt_core.specs.Budgets.{Budget, IsBudget, SeesNow, WalksBy, astray, behind, budget_of, until}
 use Rattle.mt_core.specs.ScanPoints.{LeadsOnward, HopsBy, ScansBy, IsScanAt, trees_ahead, nodes_ahead, begin_of, is_behind_tree, round_of}
-use Rattle.mt_core.proofs.WalkBounds.{few_walked}
-use Rattle.mt_core.proofs.Ahead.{behind_all, not_behind, not_below, not_itself, trees_less, trees_fewer, nodes_less, nodes_fewer}
+use Rattle.mt_core.proofs.{WalkBounds.few_walked, Ahead.{behind_all, not_behind, not_below, not_itself, trees_less, trees_fewer, nodes_less, nodes_fewer}}
 use Rattle.mt_core.proofs.LookPoints.{height_law, next_layer, shallow_below, same_now, comes_onto}
+use Rattle.mt_operation.specs.declared.walk.Aim.TheVariants as aims
+use Rattle.mt_operation.specs.declared.scan.Stop.TheVariants as stops
 
 abbrev cmp : Bytes → Bytes → Ordering
 cmp = slice_cmp nat_cmp

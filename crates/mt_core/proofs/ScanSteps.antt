@@ -1,57 +1,27 @@
 -- What the steps of a scan ask of the invariant, and what they tell: for `Inner::look`.
-use Rattle.std.proofs.Common.{◌≡◌, ◌≢◌, ℕ, ◌+◌, ◌<◌, inl, inr, Bool, true, false, set, Option, Some, None, refl, sym, ap, subst, ◌∙◌}
-use Rattle.std.specs.Prelude.{◌^◌}
+use Rattle.std.{proofs.Common.{◌≡◌, ◌≢◌, ℕ, ◌+◌, ◌<◌, inl, inr, Bool, true, false, set, Option, Some, None, refl, sym, ap, subst, ◌∙◌}, specs.Prelude.{◌^◌}}
 use Rattle.mt_slices.specs.Keys.{IsStoredKey, tenant_of}
-use Rattle.mt_rows.specs.declared.reply.Reply.TheVariants.{NoMemory, Pairs}
-use Rattle.mt_rows.specs.Maps.{is_scan, Map}
-use Rattle.mt_rows.specs.Rows.{Bytes, Columns}
-use Rattle.mt_arena.specs.Arena.{ArenaView, IsArena}
-use Rattle.mt_arena.specs.Accesses.{at}
-use Rattle.mt_operation.specs.declared.phase.Phase.{Phase}
-use Rattle.mt_operation.specs.declared.phase.Phase.TheVariants.{Snap, Check, Hop, Done}
-use Rattle.mt_operation.specs.declared.walk.Walk.{Walk}
-use Rattle.mt_operation.specs.declared.walk.Aim.TheVariants as aims
-use Rattle.mt_operation.specs.declared.task.Task.{Task}
-use Rattle.mt_operation.specs.declared.scan.Scan.{Scan}
-use Rattle.mt_operation.specs.declared.scan.Stop.{Stop}
-use Rattle.mt_operation.specs.declared.outcome.Outcome.{Outcome}
-use Rattle.mt_operation.specs.declared.operation.Operation.{Operation}
-use Rattle.mt_operation.specs.Tasks.{ask}
-use Rattle.mt_operation.specs.Operations.{ScanView, splits_of, scan_of, moved, counted}
-use Rattle.mt_operation.specs.Phases.{IsOfKind, is_done, row}
-use Rattle.mt_operation.specs.Tables.{Table, op_at as operation_at}
+use Rattle.mt_rows.specs.{declared.reply.Reply.TheVariants.{NoMemory, Pairs}, Maps.{is_scan, Map}, Rows.{Bytes, Columns}}
+use Rattle.mt_arena.specs.{Arena.{ArenaView, IsArena}, Accesses.at}
+use Rattle.mt_operation.specs.{declared.phase.Phase.Phase, declared.phase.Phase.TheVariants.{Snap, Check, Hop, Done}, declared.walk.Walk.Walk}
+use Rattle.mt_operation.specs.{declared.task.Task.Task, declared.scan.Scan.Scan, declared.scan.Stop.Stop, declared.outcome.Outcome.Outcome}
+use Rattle.mt_operation.specs.{declared.operation.Operation.Operation, Tasks.ask, Operations.{ScanView, splits_of, scan_of, moved, counted}}
+use Rattle.mt_operation.specs.{Phases.{IsOfKind, is_done, row}, Tables.{Table, op_at as operation_at}}
 use Rattle.mt_operation.proofs.Tables.{set_is}
-use Rattle.mt_descent.specs.Pasts.{Past}
-use Rattle.mt_descent.specs.KeptWalks.{KeptAt}
+use Rattle.mt_descent.specs.{Pasts.Past, KeptWalks.KeptAt, Seen.Stands}
 use Rattle.mt_held.specs.Moves.{walk_done}
-use Rattle.mt_scan.specs.Snaps.{prefix_in}
-use Rattle.mt_scan.specs.Checks.{Asks, IsCheck}
-use Rattle.mt_scan.specs.Hops.{KeptHop, KeptScan}
-use Rattle.mt_state.specs.declared.moves.Move.{Move}
-use Rattle.mt_state.specs.declared.moves.Move.TheVariants.{Moved, Done as DoneMove}
-use Rattle.mt_state.specs.Views.{Core, StateView, shown, past_of}
-use Rattle.mt_state.specs.Ways.{IsOnWay}
-use Rattle.mt_state.specs.Phases.{LeadsTo, ChecksBy, StaysScanned}
-use Rattle.mt_state.specs.Invariant.{StateInvariant}
-use Rattle.mt_state.proofs.Telling.{Gives}
-use Rattle.mt_state.proofs.Lawful.{aim_scan}
-use Rattle.mt_state.proofs.Descents.{changed_leads}
-use Rattle.mt_state.proofs.ScanNeeds.{snap_kept, check_kept, hop_kept, may_check}
+use Rattle.mt_scan.specs.{Snaps.prefix_in, Checks.{Asks, IsCheck}, Hops.{KeptHop, KeptScan}}
+use Rattle.mt_state.specs.{declared.moves.Move.Move, declared.moves.Move.TheVariants.{Moved, Done as DoneMove}, Views.{Core, StateView, shown, past_of}}
+use Rattle.mt_state.specs.{Ways.IsOnWay, Phases.{LeadsTo, ChecksBy, StaysScanned}, Invariant.StateInvariant, KeptOperations.{IsChecking, IsKeptAt}}
+use Rattle.mt_state.proofs.{Telling.Gives, Lawful.aim_scan, Descents.changed_leads, ScanNeeds.{snap_kept, check_kept, hop_kept, may_check}}
 use Rattle.mt_state.proofs.ScanLooks.{snap_done, snap_stopped, hop_done, hop_leads}
-use Rattle.mt_state.proofs.ScanChecks.{check_keeps, check_ends, check_drops, check_stopped, check_shows, changed_else}
-use Rattle.mt_core.specs.Nexts.{ending}
-use Rattle.mt_core.specs.Looks.{MaySnap, MayCompare, MayHop, IsStopped, TellsSnapped, Compares, TellsCompared, TellsHopped}
-use Rattle.mt_core.specs.Points.{Nears, StepsOn}
-use Rattle.mt_core.proofs.Following.{IsSound, IsOver}
-use Rattle.mt_core.proofs.Leading.{scan_step, leads_scanned}
-use Rattle.mt_core.proofs.PhaseTests.{done_or, hop_or, other_moves, way_moves}
-use Rattle.mt_core.proofs.Points.{nears_scan}
-use Rattle.mt_core.specs.ScanPoints.{IsScanAt}
-use Rattle.mt_core.proofs.ScanNears.{scan_first, scan_aim, snap_nears, check_nears, hop_nears}
-use Rattle.mt_state.proofs.Still.{nothing_changes}
-use Rattle.mt_state.specs.KeptOperations.{IsChecking, IsKeptAt}
+use Rattle.mt_state.proofs.{ScanChecks.{check_keeps, check_ends, check_drops, check_stopped, check_shows, changed_else}, Still.nothing_changes}
+use Rattle.mt_core.specs.{Nexts.ending, Looks.{MaySnap, MayCompare, MayHop, IsStopped, TellsSnapped, Compares, TellsCompared, TellsHopped}}
+use Rattle.mt_core.specs.{Points.{Nears, StepsOn}, ScanPoints.IsScanAt}
+use Rattle.mt_core.proofs.{Following.{IsSound, IsOver}, Leading.{scan_step, leads_scanned}, PhaseTests.{done_or, hop_or, other_moves, way_moves}}
+use Rattle.mt_core.proofs.{Points.nears_scan, ScanNears.{scan_first, scan_aim, snap_nears, check_nears, hop_nears}}
 use Rattle.mt_stretches.specs.Scanned.{IsSeenTo, maps_of}
-use Rattle.mt_descent.specs.Seen.{Stands}
+use Rattle.mt_operation.specs.declared.walk.Aim.TheVariants as aims
 
 -- on its way a scan keeps what any walk does
 on_way_kept : (p : Phase) → IsOnWay p → (v : ArenaView) (past : Past) (key : Bytes) (row : Option Columns) (w : Walk) (stop : Stop) → KeptScan p v past key row w stop

@@ -1,59 +1,28 @@
 -- The phases of a split by what their steps tell: for `Inner::write`.
 use Rattle.std.proofs.Common.{List, None, Option, Some, [], ap, arith, false, inl, inr, length, refl, set, subst, suc, sym, true, zero, ℕ, ◌*◌, ◌+◌, ◌<◌, ◌∙◌, ◌∷◌, ◌≡◌, ◌≢◌, ◌≤◌}
+use Rattle.std.proofs.{lemmas.Option.same_Some, lemmas.List.length-set, lemmas.Bool.both_ways}
 use Rattle.std.specs.Prelude.{◌^◌}
-use Rattle.std.proofs.lemmas.Option.{same_Some}
-use Rattle.std.proofs.lemmas.List.{length-set}
-use Rattle.mt_rows.specs.declared.reply.Reply.{Reply}
-use Rattle.mt_rows.specs.declared.reply.Reply.TheVariants.{Full, New, NoMemory}
-use Rattle.mt_rows.specs.Rows.{Columns}
-use Rattle.mt_rows.specs.Accounts.{Accounts}
+use Rattle.mt_rows.specs.{declared.reply.Reply.Reply, declared.reply.Reply.TheVariants.{Full, New, NoMemory}, Rows.Columns, Accounts.Accounts}
 use Rattle.mt_border.specs.declared.entry.Entry.{Entry}
 use Rattle.mt_tape.specs.Tapes.{Kept}
-use Rattle.mt_arena.specs.NodeView.{NodeView, node_at}
-use Rattle.mt_arena.specs.Edits.{fresh_half, splitting}
-use Rattle.mt_arena.specs.Splits.{left_half, right_half}
-use Rattle.mt_arena.specs.Several.{AreHalved}
-use Rattle.mt_arena.specs.Arena.{ArenaView, Guarantee, IsArena}
-use Rattle.mt_arena.specs.Accesses.{IsHeld, at, with_half}
-use Rattle.mt_version.specs.Parts.{Parts}
-use Rattle.mt_operation.specs.declared.phase.Phase.{Phase}
-use Rattle.mt_operation.specs.declared.phase.Phase.TheVariants.{SplitMove, SplitStart, Unlock}
-use Rattle.mt_operation.specs.declared.walk.Walk.{Walk}
-use Rattle.mt_operation.specs.declared.prepared.Prepared.{Prepared}
-use Rattle.mt_operation.specs.declared.splits.Halves.{Halves}
-use Rattle.mt_operation.specs.declared.splits.Splits.{Splits}
-use Rattle.mt_operation.specs.declared.operation.Operation.{Operation}
-use Rattle.mt_operation.specs.Operations.{IsUnsplit, moved, noted, splits_of, with_nothing_ready, with_splits}
-use Rattle.mt_operation.specs.Phases.{has_splits}
-use Rattle.mt_operation.specs.Tables.{Table, op_at as operation_at}
-use Rattle.mt_insert.specs.KeptPuts.{IsAtSplitStart}
-use Rattle.mt_insert.specs.Unlock.{IsUnlockAll}
+use Rattle.mt_arena.specs.{NodeView.{NodeView, node_at}, Edits.{fresh_half, splitting}, Splits.{left_half, right_half}, Several.AreHalved}
+use Rattle.mt_arena.specs.{Arena.{ArenaView, Guarantee, IsArena}, Accesses.{IsHeld, at, with_half}}
+use Rattle.mt_version.specs.{Parts.Parts, Changes.CanUnlock}
+use Rattle.mt_operation.specs.{declared.phase.Phase.Phase, declared.phase.Phase.TheVariants.{SplitMove, SplitStart, Unlock}, declared.walk.Walk.Walk}
+use Rattle.mt_operation.specs.{declared.prepared.Prepared.Prepared, declared.splits.Halves.Halves, declared.splits.Splits.Splits}
+use Rattle.mt_operation.specs.{declared.operation.Operation.Operation, Operations.{IsUnsplit, moved, noted, splits_of, with_nothing_ready, with_splits}}
+use Rattle.mt_operation.specs.{Phases.has_splits, Tables.{Table, op_at as operation_at}}
+use Rattle.mt_insert.specs.{KeptPuts.IsAtSplitStart, Unlock.IsUnlockAll, KeptSplits.{IsAmong, IsAtSplitMove, IsAtUnlockAll, last_of}}
+use Rattle.mt_insert.specs.{SplitMove.{IsSplitMove, IsSplitMoveFull, after_parting}, SplitStart.{IsSplitStart, IsSplitStopped}}
 use Rattle.mt_held.specs.Moves.{walk_at}
-use Rattle.mt_insert.specs.KeptSplits.{IsAmong, IsAtSplitMove, IsAtUnlockAll, last_of}
-use Rattle.mt_insert.specs.SplitMove.{IsSplitMove, IsSplitMoveFull, after_parting}
-use Rattle.mt_insert.specs.SplitStart.{IsSplitStart, IsSplitStopped}
-use Rattle.mt_state.specs.declared.moves.Move.TheVariants.{Done as DoneMove, Moved}
-use Rattle.mt_state.specs.Views.{Core, shown}
-use Rattle.mt_state.specs.Phases.{Leads}
-use Rattle.mt_state.specs.KeptOperations.{IsKeptAt, IsSplitMoving, IsSplitStarting, IsUnlocking, MayUnlock}
-use Rattle.mt_state.specs.Invariant.{StateInvariant}
+use Rattle.mt_state.specs.{declared.moves.Move.TheVariants.{Done as DoneMove, Moved}, Views.{Core, shown}, Phases.Leads}
+use Rattle.mt_state.specs.{KeptOperations.{IsKeptAt, IsSplitMoving, IsSplitStarting, IsUnlocking, MayUnlock}, Invariant.StateInvariant}
 use Rattle.mt_state.specs.Writes.{splitting as split_core}
-use Rattle.mt_state.proofs.Telling.{Gives}
-use Rattle.mt_state.proofs.OneNode.{returning_told}
-use Rattle.mt_state.proofs.Needs.{put_at}
-use Rattle.mt_state.proofs.Locking.{may_unlock}
-use Rattle.mt_version.specs.Changes.{CanUnlock}
-use Rattle.mt_state.proofs.SplitSteps.{return_done, start_done, stop_done}
-use Rattle.mt_state.proofs.Parting.{fill_done, part_done}
-use Rattle.mt_state.proofs.ClimbingNodes.{begun_leaves}
-use Rattle.mt_state.proofs.Climbing.{pushed_at}
-use Rattle.mt_core.specs.Budgets.{AreBelow, above}
-use Rattle.mt_core.specs.Points.{HasMade, Nears, StepsOn}
-use Rattle.mt_core.proofs.Points.{below_at, few_at, nears_by, removed_at, point_at, point_first}
-use Rattle.mt_core.proofs.Climbing.{stays_below}
-use Rattle.mt_core.proofs.Following.{IsSound, IsOver, made, write_no_scan}
-use Rattle.std.proofs.lemmas.Bool.{both_ways}
-use Rattle.mt_core.proofs.Leading.{done_from, leads_over}
+use Rattle.mt_state.proofs.{Telling.Gives, OneNode.returning_told, Needs.put_at, Locking.may_unlock, SplitSteps.{return_done, start_done, stop_done}}
+use Rattle.mt_state.proofs.{Parting.{fill_done, part_done}, ClimbingNodes.begun_leaves, Climbing.pushed_at}
+use Rattle.mt_core.specs.{Budgets.{AreBelow, above}, Points.{HasMade, Nears, StepsOn}}
+use Rattle.mt_core.proofs.{Points.{below_at, few_at, nears_by, removed_at, point_at, point_first}, Climbing.stays_below}
+use Rattle.mt_core.proofs.{Following.{IsSound, IsOver, made, write_no_scan}, Leading.{done_from, leads_over}}
 
 -- no level is new where a right half is made of a node that the operation holds
 half_below : (o : ℕ) (v : ArenaView) (k low : ℕ) → IsHeld v k o → (at v k).version.deleted ≡ false → (height : ℕ) → AreBelow v height → AreBelow (with_half v k low o) height

@@ -1,20 +1,12 @@
 -- A state in which nothing has happened keeps the invariant: for `Inner::new`.
-use Rattle.std.proofs.Common.{◌≡◌, ℕ, zero, suc, ◌<◌, ◌≤◌, List, [], replicate, sym, refl, ap, subst, ◌∙◌, arith}
-use Rattle.std.proofs.lemmas.List.{length-replicate}
+use Rattle.std.proofs.{Common.{◌≡◌, ℕ, zero, suc, ◌<◌, ◌≤◌, List, [], replicate, sym, refl, ap, subst, ◌∙◌, arith}, lemmas.List.length-replicate}
 use Rattle.std.proofs.lemmas.List.Elements.{All-replicate}
-use Rattle.std.specs.FinMap.{len, len-empty}
-use Rattle.std.specs.Ordering.{nat_cmp}
-use Rattle.std.specs.Cmp.Lexicographic.{slice_cmp}
-use Rattle.mt_rows.specs.Rows.{Columns}
-use Rattle.mt_rows.specs.Accounts.{Accounts}
-use Rattle.mt_rows.specs.Tenants.{tenant_map}
+use Rattle.std.specs.{FinMap.{len, len-empty}, Ordering.nat_cmp, Cmp.Lexicographic.slice_cmp}
+use Rattle.mt_rows.specs.{Rows.Columns, Accounts.Accounts, Tenants.tenant_map}
 use Rattle.mt_tape.specs.Tapes.{Kept}
-use Rattle.mt_arena.specs.Arena.{ArenaView, content_of}
-use Rattle.mt_arena.specs.Accesses.{new_arena}
+use Rattle.mt_arena.specs.{Arena.{ArenaView, content_of}, Accesses.new_arena}
 use Rattle.mt_operation.specs.Tables.{Table}
-use Rattle.mt_state.specs.Views.{Core}
-use Rattle.mt_state.specs.Invariant.{DeletedAreEmpty, StateInvariant, AreStamps, AreVersions, AreHolders}
-use Rattle.mt_state.specs.Begins.{HaveNoPairs}
+use Rattle.mt_state.specs.{Views.Core, Invariant.{DeletedAreEmpty, StateInvariant, AreStamps, AreVersions, AreHolders}, Begins.HaveNoPairs}
 use Rattle.mt_state.proofs.HistoryStart.{content-new, tenant_map-empty}
 
 -- the tape of a new state

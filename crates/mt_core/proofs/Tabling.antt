@@ -1,20 +1,13 @@
 -- The invariant of a state with another table: one operation more, or one that holds nothing less: for `Inner::admit`, `take` and `cancel`.
 use Rattle.std.proofs.Common.{◌≡◌, ◌≢◌, ℕ, suc, ◌+◌, ◌<◌, ◌≤◌, inl, inr, false, [], ◌∷◌, length, set, zero, Some, None, refl, sym, ap, subst, ◌∙◌, arith}
-use Rattle.std.specs.Prelude.{if◌then◌else◌}
-use Rattle.std.specs.Option.{option_map}
-use Rattle.std.proofs.lemmas.Bool.{cases_eq}
-use Rattle.std.proofs.lemmas.Option.{same_Some, none-some}
+use Rattle.std.proofs.{lemmas.Bool.cases_eq, lemmas.Option.{same_Some, none-some}}
+use Rattle.std.specs.{Prelude.{if◌then◌else◌}, Option.option_map}
 use Rattle.mt_arena.specs.Accesses.{at}
-use Rattle.mt_operation.specs.declared.operation.Operation.{Operation}
-use Rattle.mt_operation.specs.Operations.{view_of}
-use Rattle.mt_operation.specs.Tables.{Table, op_at as operation_at}
+use Rattle.mt_operation.specs.{declared.operation.Operation.Operation, Operations.view_of, Tables.{Table, op_at as operation_at}, Phases.is_prepared}
 use Rattle.mt_operation.proofs.Tables.{set_there, set_none}
-use Rattle.mt_state.specs.Views.{Core, Shown}
-use Rattle.mt_state.specs.KeptOperations.{IsKeptOf, IsScanKept}
+use Rattle.mt_state.specs.{Views.{Core, Shown}, KeptOperations.{IsKeptOf, IsScanKept}}
 use Rattle.mt_state.specs.Invariant.{HoldsAt, StateInvariant, one_if_prepared, prepared_count, made_count}
-use Rattle.mt_operation.specs.Phases.{is_prepared}
-use Rattle.mt_state.proofs.Shown.{shown_table, shown_at, shown_there, shown_set}
-use Rattle.mt_state.proofs.Answered.{answered_begun}
+use Rattle.mt_state.proofs.{Shown.{shown_table, shown_at, shown_there, shown_set}, Answered.answered_begun}
 use Rattle.mt_core.proofs.Retained.{retained, scan_retained, own_tape}
 
 -- the same state with another count of answers and another table

@@ -1,25 +1,14 @@
 -- What a take and a cancelling make of a state, and what they tell: for `Inner::take` and `cancel`.
-use Rattle.std.proofs.Common.{◌≡◌, ◌≢◌, ℕ, ◌+◌, ◌<◌, true, false, set, None, Some, refl, sym, ap, subst, ◌∙◌, arith}
+use Rattle.std.proofs.{Common.{◌≡◌, ◌≢◌, ℕ, ◌+◌, ◌<◌, true, false, set, None, Some, refl, sym, ap, subst, ◌∙◌, arith}, lemmas.Option.{same_Some, none-some}}
 use Rattle.std.specs.Prelude.{not}
-use Rattle.std.proofs.lemmas.Option.{same_Some, none-some}
 use Rattle.mt_runs.specs.declared.event.Answer.{Answer}
-use Rattle.mt_operation.specs.declared.operation.Operation.{Operation}
-use Rattle.mt_operation.specs.declared.phase.Phase.{Phase}
-use Rattle.mt_operation.specs.declared.phase.Phase.TheVariants.{Enter, Done}
-use Rattle.mt_operation.specs.Operations.{OperationView, view_of, is_unfinished, IsUnsplit}
-use Rattle.mt_operation.specs.Phases.{is_done, has_splits, is_prepared}
+use Rattle.mt_operation.specs.{declared.operation.Operation.Operation, declared.phase.Phase.Phase, declared.phase.Phase.TheVariants.{Enter, Done}}
+use Rattle.mt_operation.specs.{Operations.{OperationView, view_of, is_unfinished, IsUnsplit}, Phases.{is_done, has_splits, is_prepared}}
 use Rattle.mt_operation.specs.Tables.{Table, op_at as operation_at}
-use Rattle.mt_state.specs.Views.{Core, StateView, Shown, shown, op_at}
-use Rattle.mt_state.specs.Promises.{IsAnswer}
-use Rattle.mt_state.specs.KeptOperations.{HasAnswer, IsKeptAt}
-use Rattle.mt_state.specs.Invariant.{StateInvariant, HoldsAt}
-use Rattle.mt_state.specs.Begins.{IsAnswerOf, Takes, IsEnded}
-use Rattle.mt_state.proofs.Shown.{shown_there, shown_set, inside_of}
-use Rattle.mt_state.proofs.Answered.{answered_out}
-use Rattle.mt_state.proofs.ScanNeeds.{key_sought_is}
-use Rattle.mt_core.specs.declared.displaced.Displaced.{Displaced}
-use Rattle.mt_core.specs.Tickets.{IsStill, Cancels}
-use Rattle.mt_core.specs.Tidies.{DisplacesRestOf, HandsOutRest}
+use Rattle.mt_state.specs.{Views.{Core, StateView, Shown, shown, op_at}, Promises.IsAnswer, KeptOperations.{HasAnswer, IsKeptAt}}
+use Rattle.mt_state.specs.{Invariant.{StateInvariant, HoldsAt}, Begins.{IsAnswerOf, Takes, IsEnded}}
+use Rattle.mt_state.proofs.{Shown.{shown_there, shown_set, inside_of}, Answered.answered_out, ScanNeeds.key_sought_is}
+use Rattle.mt_core.specs.{declared.displaced.Displaced.Displaced, Tickets.{IsStill, Cancels}, Tidies.{DisplacesRestOf, HandsOutRest}}
 use Rattle.mt_core.proofs.Tabling.{with_table, removed_sound, made_inside}
 
 -- an operation that is finished has its answer

@@ -1,11 +1,9 @@
 -- How what stands in a line is printed: for the `Display`s of edges, separators and indents.
 use Rattle.std.proofs.Common.{◌≡◌, ℕ, ◌+◌, ◌-◌, ◌*◌, ◌^◌, true, false, List, [], ◌++◌, length, replicate, Option, Some, sym, ap, ◌∙◌, arith}
-use Rattle.std.specs.Prelude.{codes}
-use Rattle.std.specs.Fmt.{digits, decimal, padded_integral, format_spec, char_count, ◌++?◌}
 use Rattle.std.proofs.lemmas.List.{append-nil, replicate-append-replicate}
+use Rattle.std.specs.{Prelude.codes, Fmt.{digits, decimal, padded_integral, format_spec, char_count, ◌++?◌}}
 use Rattle.mt_slices.specs.declared.mark.Mark.TheVariants.{Short, Long}
-use Rattle.mt_core.specs.declared.shape.Edge.{Edge}
-use Rattle.mt_core.specs.Shapes.{hex_digits, mark_text, edge_text}
+use Rattle.mt_core.specs.{declared.shape.Edge.Edge, Shapes.{hex_digits, mark_text, edge_text}}
 
 -- what is filled up with zeros to so many places
 filled : (count : ℕ) (shown : List ℕ) → padded_integral (format_spec 32 0 4 count (2 ^ 64 - 1)) false [] shown ≡ replicate (count - length shown) 48 ++ shown

@@ -1,27 +1,18 @@
 -- A trim to the floor that a tape needs keeps the invariant, and all that a tidying promises: for `Inner::tidy`.
-use Rattle.std.proofs.Common.{◌≡◌, ℕ, ◌<◌, ◌≤◌, inl, inr, List, [], ◌∷◌, Some, sym, refl, ap, subst, ◌∙◌, arith}
-use Rattle.std.specs.Prelude.{nat_lt, ◌-◌, vec_len, vec_capacity}
-use Rattle.std.specs.List.{All, Contains}
-use Rattle.std.specs.FinMap.{len}
-use Rattle.std.proofs.lemmas.Bool.{cases_lt}
+use Rattle.std.proofs.{Common.{◌≡◌, ℕ, ◌<◌, ◌≤◌, inl, inr, List, [], ◌∷◌, Some, sym, refl, ap, subst, ◌∙◌, arith}, lemmas.Bool.cases_lt}
 use Rattle.std.proofs.lemmas.List.Elements.{All-filter, All-weaker, Contains-push, Contains-push_cases, Contains-append_cases, Contains-append_left, Contains-append_right}
+use Rattle.std.specs.{Prelude.{nat_lt, ◌-◌, vec_len, vec_capacity}, List.{All, Contains}, FinMap.len}
 use Rattle.mt_rows.specs.Commands.{IsKey}
 use Rattle.mt_border.proofs.ContentsStamps.{stamped_weaker}
-use Rattle.mt_tape.specs.declared.entry.Entry.{Entry as TapeEntry}
-use Rattle.mt_tape.specs.Tapes.{Kept, later_entries, HandsOut}
+use Rattle.mt_tape.specs.{declared.entry.Entry.{Entry as TapeEntry}, Tapes.{Kept, later_entries, HandsOut}}
 use Rattle.mt_tape.proofs.EntryLaws.{floor_upto_last, later_entries-kept, later_entries-dropped, rises-later_entries, last_step_over-later_entries, is_changed-later_entries}
 use Rattle.mt_tape.proofs.TapeLaws.{contents_at-trim, map_at-trim, legal-trim, untouched-trim}
-use Rattle.mt_arena.specs.Arena.{content_of}
-use Rattle.mt_arena.specs.Accesses.{at, tree_of}
-use Rattle.mt_operation.specs.declared.operation.Operation.{Operation}
-use Rattle.mt_operation.specs.Operations.{OperationView, view_of}
+use Rattle.mt_arena.specs.{Arena.content_of, Accesses.{at, tree_of}}
+use Rattle.mt_operation.specs.{declared.operation.Operation.Operation, Operations.{OperationView, view_of}}
 use Rattle.mt_operation.specs.Tables.{IsBeforeFirsts, IsFloorNeeded, op_at as operation_at}
-use Rattle.mt_state.specs.Views.{Core, StateView, shown}
-use Rattle.mt_state.specs.Written.{IsMadeByChange}
-use Rattle.mt_state.specs.Invariant.{IsStampOf, StateInvariant}
+use Rattle.mt_state.specs.{Views.{Core, StateView, shown}, Written.IsMadeByChange, Invariant.{IsStampOf, StateInvariant}}
 use Rattle.mt_state.proofs.Shown.{shown_there, inside_of}
-use Rattle.mt_core.specs.declared.displaced.Displaced.{Displaced}
-use Rattle.mt_core.specs.Drains.{IsLeastOf}
+use Rattle.mt_core.specs.{declared.displaced.Displaced.Displaced, Drains.IsLeastOf}
 use Rattle.mt_core.specs.Tidies.{Leaves, Tidies, TidiesInto, IsBeforeFirsts as IsBeforeAll, IsFloorNeeded as IsNeeded}
 use Rattle.mt_core.proofs.Retained.{TellsOf, retained, scan_retained}
 

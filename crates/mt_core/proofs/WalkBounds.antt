@@ -1,14 +1,11 @@
 -- What the bounds of a walk say at each phase on the way: few steps are made, and none is too many to begin with.
 use Rattle.std.proofs.Common.{ℕ, ◌+◌, ◌≤◌, ◌⊎◌, inl, inr, arith}
-use Rattle.mt_arena.specs.Arena.{ArenaView, live_count}
-use Rattle.mt_arena.specs.Accesses.{at}
+use Rattle.mt_arena.specs.{Arena.{ArenaView, live_count}, Accesses.at}
 use Rattle.mt_operation.specs.declared.phase.Phase.{Phase}
 use Rattle.mt_operation.specs.declared.phase.Phase.TheVariants.{Enter, Pick, Child, Verify, Search, Load, Confirm, Forward, Lock, Snap}
-use Rattle.mt_operation.specs.declared.walk.Walk.{Walk}
-use Rattle.mt_operation.specs.Phases.{Kind, row}
+use Rattle.mt_operation.specs.{declared.walk.Walk.Walk, Phases.{Kind, row}}
+use Rattle.mt_core.{specs.Budgets.{Budget, WalksBy, astray, until}, proofs.Astray.behind_most}
 use Rattle.mt_operation.specs.Phases as kinds
-use Rattle.mt_core.specs.Budgets.{Budget, WalksBy, astray, until}
-use Rattle.mt_core.proofs.Astray.{behind_most}
 
 -- a walk has come so far at most, or still finds its way
 pub few_walked : (p : Phase) (b : Budget) (made : ℕ) (v : ArenaView) (w : Walk) → WalksBy p b made v w → (made ≤ until b w + 2) ⊎ (made ≤ b.lost)

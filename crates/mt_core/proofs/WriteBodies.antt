@@ -1,19 +1,11 @@
 -- What the bodies of the steps that write tell: who is in the way of a lock, and what an operation is that has placed its change.
-use Rattle.std.proofs.Common.{◌≡◌, ℕ, Bool, true, false, Option, Some, None, inl, inr, refl, sym, ap, subst, ◌∙◌}
-use Rattle.std.specs.Prelude.{if◌then◌else◌}
-use Rattle.mt_rows.specs.declared.reply.Reply.{Reply}
-use Rattle.mt_rows.specs.declared.reply.Reply.TheVariants.{Full, New}
-use Rattle.mt_arena.specs.Arena.{ArenaView}
-use Rattle.mt_arena.specs.Accesses.{at}
-use Rattle.mt_operation.specs.declared.phase.Phase.{Phase}
-use Rattle.mt_operation.specs.declared.walk.Walk.{Walk}
-use Rattle.mt_operation.specs.declared.outcome.Outcome.{Outcome}
-use Rattle.mt_operation.specs.declared.prepared.Prepared.{Prepared}
-use Rattle.mt_operation.specs.declared.operation.Operation.{Operation}
-use Rattle.mt_operation.specs.Operations.{splits_of, scan_of}
+use Rattle.std.{proofs.Common.{◌≡◌, ℕ, Bool, true, false, Option, Some, None, inl, inr, refl, sym, ap, subst, ◌∙◌}, specs.Prelude.{if◌then◌else◌}}
+use Rattle.mt_rows.specs.{declared.reply.Reply.Reply, declared.reply.Reply.TheVariants.{Full, New}}
+use Rattle.mt_arena.specs.{Arena.ArenaView, Accesses.at}
+use Rattle.mt_operation.specs.{declared.phase.Phase.Phase, declared.walk.Walk.Walk, declared.outcome.Outcome.Outcome, declared.prepared.Prepared.Prepared}
+use Rattle.mt_operation.specs.{declared.operation.Operation.Operation, Operations.{splits_of, scan_of}}
 use Rattle.mt_state.specs.Promises.{IsInTheWay}
-use Rattle.mt_insert.specs.Publish.{TellsPublished as Published}
-use Rattle.mt_insert.specs.SplitMove.{TellsSplitMoved as Parted}
+use Rattle.mt_insert.specs.{Publish.{TellsPublished as Published}, SplitMove.{TellsSplitMoved as Parted}}
 use Rattle.mt_core.specs.Writes.{Parts, MayLock, TellsPublished, TellsParted}
 
 -- who holds the node that is to be locked

@@ -1,42 +1,28 @@
 -- What the steps of an operation that writes ask of the invariant, and what they tell: for `Inner::write`.
 use denote.Enum.Bare.{sameb, same_true}
-use Rattle.mt_operation.specs.contracts.phase.Phase.{the_type}
-use Rattle.std.proofs.Common.{rules, ◌⊎◌, ◌≡◌, ◌≢◌, ℕ, ◌+◌, ◌<◌, inl, inr, true, false, not, set, Bool, Option, Some, None, IsSome, refl, sym, ap, subst, ◌∙◌}
-use Rattle.std.specs.Prelude.{◌^◌}
-use Rattle.std.proofs.lemmas.Option.{same_Some}
-use Rattle.std.proofs.lemmas.Bool.{cases_eq, both_ways}
-use Rattle.mt_arena.specs.Forests.{layer_of, tree_at}
-use Rattle.mt_operation.specs.declared.walk.Walk.{Walk}
-use Rattle.mt_rows.specs.Rows.{Bytes}
-use Rattle.mt_rows.specs.Accounts.{Accounts}
-use Rattle.mt_arena.specs.Arena.{ArenaView, IsArena}
-use Rattle.mt_operation.specs.declared.phase.Phase.{Phase}
+use Rattle.mt_operation.specs.{contracts.phase.Phase.the_type, declared.walk.Walk.Walk, declared.phase.Phase.Phase}
 use Rattle.mt_operation.specs.declared.phase.Phase.TheVariants.{Lock, Judge, Store, Publish, SplitStart, SplitMove, SplitPrev, LockParent, InsertChild, InteriorSplit, Reparent, RootGrow, MakeLayer, MarkUnstable, Link, MarkLayer, DropKey, LockPrev, LockAbove, Unlink, FixNext, Collapse, CleanLayer, Unlock, Done}
-use Rattle.mt_operation.specs.declared.prepared.Prepared.{Prepared}
-use Rattle.mt_operation.specs.declared.operation.Operation.{Operation}
+use Rattle.mt_operation.specs.{declared.prepared.Prepared.Prepared, declared.operation.Operation.Operation}
 use Rattle.mt_operation.specs.Operations.{OperationView, view_of, splits_of, scan_of, is_unfinished, counted}
-use Rattle.mt_operation.specs.Phases.{is_done, is_prepared, IsClimb, IsLayerPhase, IsRemovalPhase, IsNoLook, IsToGrow}
-use Rattle.mt_operation.specs.Tables.{Table, op_at as operation_at}
+use Rattle.mt_operation.specs.{Phases.{is_done, is_prepared, IsClimb, IsLayerPhase, IsRemovalPhase, IsNoLook, IsToGrow}, Tables.{Table, op_at as operation_at}}
 use Rattle.mt_operation.specs.Tasks.{ask}
 use Rattle.mt_operation.proofs.Tables.{set_is}
-use Rattle.mt_table.specs.declared.steps.Made.{Made}
-use Rattle.mt_table.specs.declared.steps.Made.TheVariants.{Step, Blocked, NoMemory, Nothing}
+use Rattle.std.proofs.Common.{rules, ◌⊎◌, ◌≡◌, ◌≢◌, ℕ, ◌+◌, ◌<◌, inl, inr, true, false, not, set, Bool, Option, Some, None, IsSome, refl, sym, ap, subst, ◌∙◌}
+use Rattle.std.proofs.{lemmas.Option.same_Some, lemmas.Bool.{cases_eq, both_ways}}
+use Rattle.std.specs.Prelude.{◌^◌}
+use Rattle.mt_arena.specs.{Forests.{layer_of, tree_at}, Arena.{ArenaView, IsArena}}
+use Rattle.mt_rows.specs.{Rows.Bytes, Accounts.Accounts}
+use Rattle.mt_table.specs.{declared.steps.Made.Made, declared.steps.Made.TheVariants.{Step, Blocked, NoMemory, Nothing}}
 use Rattle.mt_layer.specs.Builds.{IsLayerFrom}
 use Rattle.mt_remove.specs.Ways.{Follows}
-use Rattle.mt_state.specs.declared.moves.Move.{Move}
-use Rattle.mt_state.specs.declared.moves.Move.TheVariants.{Moved, Again, NoSuch, NoMemory as NoMemoryMove, Done as DoneMove}
-use Rattle.mt_state.specs.Views.{Core, Shown, shown, op_at}
-use Rattle.mt_state.specs.Promises.{Tells, IsStep, HasStep, IsInTheWay}
-use Rattle.mt_state.specs.Invariant.{StateInvariant}
-use Rattle.mt_state.proofs.Shown.{shown_there}
-use Rattle.mt_state.proofs.Lawful.{put_no_scan}
+use Rattle.mt_state.specs.{declared.moves.Move.Move, declared.moves.Move.TheVariants.{Moved, Again, NoSuch, NoMemory as NoMemoryMove, Done as DoneMove}}
+use Rattle.mt_state.specs.{Views.{Core, Shown, shown, op_at}, Promises.{Tells, IsStep, HasStep, IsInTheWay}, Invariant.StateInvariant}
+use Rattle.mt_state.proofs.{Shown.shown_there, Lawful.put_no_scan}
 use Rattle.mt_state.proofs.Needs.{lock_kept, lock_free_hands, lock_cleans, judge_kept, put_at, store_kept, store_ready, publish_kept, publish_ready, write_room, step_later, layer_kept, leave_kept, leave_room, unlock_kept, unlock_room, removal_of, drop_kept, drop_ready, drop_removes, drop_light, drop_counted, removal_kept_at, removal_held_at, removal_unlock_kept, removal_unlock_room}
-use Rattle.mt_state.proofs.ClimbingNodes.{climb_keeps}
-use Rattle.mt_state.proofs.RemovalBy.{removes_by}
-use Rattle.mt_core.specs.Nexts.{IsNext, ending}
-use Rattle.mt_core.specs.Points.{StepsOn}
-use Rattle.mt_core.proofs.Following.{IsSound, IsOver, made, holder_open, in_the_way}
+use Rattle.mt_state.proofs.{ClimbingNodes.climb_keeps, RemovalBy.removes_by}
+use Rattle.mt_core.specs.{Nexts.{IsNext, ending}, Points.StepsOn}
 use Rattle.mt_core.specs.Writes.{Parts, parts, Telling, Writes, WritesAt, MayWrite, MayJudge, MayPlace, MayClimb, MayBuild, MayTake, MayUnlock, TellsLocked, TellsJudged, TellsStored, TellsPublished, TellsBegun, TellsParted, TellsClimbed, TellsBuilt, TellsDropped, TellsTaken, TellsUnlocked}
+use Rattle.mt_core.proofs.Following.{IsSound, IsOver, made, holder_open, in_the_way}
 use Rattle.mt_core.proofs.PutSteps.{judged_put, lock_made, unlock_made, ready_made, on_made, link_made, refused_made, store_made, publish_made, full_made}
 use Rattle.mt_core.proofs.LayerSteps.{build_made, stop_made, leave_made}
 use Rattle.mt_core.proofs.SplitSteps.{start_asks, start_none, start_made, start_stopped, move_ready, move_kept, parts_with, parts_without, all_unlock, all_room, returns_made}

@@ -1,23 +1,13 @@
 -- What is made of a command before its operation is begun, and which refusals a begin of it answers.
-use Rattle.std.specs.Prelude.{◌≡◌, ◌≢◌, ℕ, ◌^◌, Box, length, Option, Some, None, IsSome, Result, Ok, Err, IsOk}
-use Rattle.std.specs.Global.{Global}
+use Rattle.std.specs.{Prelude.{◌≡◌, ◌≢◌, ℕ, ◌^◌, Box, length, Option, Some, None, IsSome, Result, Ok, Err, IsOk}, Global.Global}
 use Rattle.mt_slices.specs.Keys.{IsStoredKey, tenant_of}
-use Rattle.mt_rows.specs.declared.command.Command.{Command}
-use Rattle.mt_rows.specs.declared.refusal.Refusal.{Refusal}
-use Rattle.mt_rows.specs.declared.refusal.Refusal.TheVariants.{Memory, NoTenant, Spent}
-use Rattle.mt_rows.specs.declared.tenants.Account.{Account}
-use Rattle.mt_rows.specs.Accounts.{account_of}
-use Rattle.mt_rows.specs.Commands.{key_of, HasColumns, HasShortColumns, HasCount, IsTaken}
+use Rattle.mt_rows.specs.{declared.command.Command.Command, declared.refusal.Refusal.Refusal, declared.refusal.Refusal.TheVariants.{Memory, NoTenant, Spent}}
+use Rattle.mt_rows.specs.{declared.tenants.Account.Account, Accounts.account_of, Commands.{key_of, HasColumns, HasShortColumns, HasCount, IsTaken}}
 use Rattle.mt_border.specs.Contents.{owned}
-use Rattle.mt_operation.specs.declared.task.Request.{Request}
-use Rattle.mt_operation.specs.declared.operation.Operation.{Operation}
-use Rattle.mt_operation.specs.Tasks.{command_of, ask, aim_of}
-use Rattle.mt_operation.specs.Operations.{OperationView, view_of, IsUnsplit}
-use Rattle.mt_operation.specs.Walks.{walk_from_top}
-use Rattle.mt_state.specs.Views.{StateView}
-use Rattle.mt_state.specs.Begins.{begun, Begins, IsWorker}
-use Rattle.mt_core.specs.declared.answers.Ticket.{Ticket}
-use Rattle.mt_core.specs.Places.{HasPlaces}
+use Rattle.mt_operation.specs.{declared.task.Request.Request, declared.operation.Operation.Operation, Tasks.{command_of, ask, aim_of}}
+use Rattle.mt_operation.specs.{Operations.{OperationView, view_of, IsUnsplit}, Walks.walk_from_top}
+use Rattle.mt_state.specs.{Views.StateView, Begins.{begun, Begins, IsWorker}}
+use Rattle.mt_core.specs.{declared.answers.Ticket.Ticket, Places.HasPlaces}
 
 -- a request of a command that is taken
 pub record IsRequest (request : Request) (command : Command) : Type 0 where

@@ -1,23 +1,13 @@
 -- A run of steps of one operation, and how it ends where no other operation is in its way.
 use Rattle.std.specs.Prelude.{◌≡◌, ◌≢◌, ℕ, zero, suc, ◌+◌, ◌*◌, ◌^◌, ◌<◌, ◌≤◌, ◌⊎◌, Bool, true, false, Some, None, length}
-use Rattle.mt_rows.specs.declared.command.Command.{Command}
-use Rattle.mt_rows.specs.declared.reply.Reply.{Reply}
-use Rattle.mt_rows.specs.declared.reply.Reply.TheVariants.{NoMemory}
-use Rattle.mt_rows.specs.Maps.{reply_of, is_scan}
+use Rattle.mt_rows.specs.{declared.command.Command.Command, declared.reply.Reply.Reply, declared.reply.Reply.TheVariants.NoMemory, Maps.{reply_of, is_scan}}
 use Rattle.mt_rows.specs.Tenants.{tenant_map}
 use Rattle.mt_runs.specs.Placings.{maps_after_one}
-use Rattle.mt_arena.specs.Arena.{live_count}
-use Rattle.mt_arena.specs.Accesses.{at}
-use Rattle.mt_operation.specs.declared.outcome.Outcome.{Outcome}
-use Rattle.mt_operation.specs.declared.phase.Phase.{Phase}
-use Rattle.mt_operation.specs.declared.phase.Phase.TheVariants.{Enter, Done}
-use Rattle.mt_operation.specs.Operations.{OperationView}
-use Rattle.mt_operation.specs.Phases.{is_done, IsToGrow}
-use Rattle.mt_state.specs.declared.moves.Move.{Move}
-use Rattle.mt_state.specs.declared.moves.Move.TheVariants.{Moved, NoMemory as NoMemoryMove, Done as DoneMove}
-use Rattle.mt_state.specs.Views.{StateView, contents_of, op_at, quota_of}
-use Rattle.mt_state.specs.Steps.{IsSameAsked}
-use Rattle.mt_state.specs.Promises.{IsStep, Tells}
+use Rattle.mt_arena.specs.{Arena.live_count, Accesses.at}
+use Rattle.mt_operation.specs.{declared.outcome.Outcome.Outcome, declared.phase.Phase.Phase, declared.phase.Phase.TheVariants.{Enter, Done}}
+use Rattle.mt_operation.specs.{Operations.OperationView, Phases.{is_done, IsToGrow}}
+use Rattle.mt_state.specs.{declared.moves.Move.Move, declared.moves.Move.TheVariants.{Moved, NoMemory as NoMemoryMove, Done as DoneMove}}
+use Rattle.mt_state.specs.{Views.{StateView, contents_of, op_at, quota_of}, Steps.IsSameAsked, Promises.{IsStep, Tells}}
 use Rattle.mt_core.specs.ScanPoints.{live_trees}
 
 -- so many steps of operation o were made, one after the other, none of which was its last

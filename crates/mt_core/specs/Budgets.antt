@@ -1,16 +1,10 @@
 -- How many steps an operation makes at most on its way to its border node, also where it was disturbed before: the budget of a way, and what a walk has made of it.
 use Rattle.std.specs.Prelude.{◌≡◌, ℕ, ◌+◌, ◌*◌, ◌<◌, ◌≤◌, ◌⊎◌, if◌then◌else◌, nat_lt, min, List, [], ◌∷◌, length, false}
-use Rattle.mt_arena.specs.NodeView.{NodeView}
-use Rattle.mt_arena.specs.Arena.{ArenaView, one_if_live}
-use Rattle.mt_arena.specs.Accesses.{at}
+use Rattle.mt_arena.specs.{NodeView.NodeView, Arena.{ArenaView, one_if_live}, Accesses.at, Forests.tree_at, declared.tree.Standing.TheVariants.Live}
 use Rattle.mt_operation.specs.declared.phase.Phase.{Phase}
 use Rattle.mt_operation.specs.declared.phase.Phase.TheVariants.{Enter, Pick, Child, Verify, Search, Load, Confirm, Forward, Lock, Snap}
-use Rattle.mt_operation.specs.declared.walk.Walk.{Walk}
-use Rattle.mt_operation.specs.declared.splits.Halves.{Halves}
-use Rattle.mt_operation.specs.declared.splits.Splits.{Splits}
+use Rattle.mt_operation.specs.{declared.walk.Walk.Walk, declared.splits.Halves.Halves, declared.splits.Splits.Splits}
 use Rattle.mt_insert.specs.KeptSplits.{last_of}
-use Rattle.mt_arena.specs.Forests.{tree_at}
-use Rattle.mt_arena.specs.declared.tree.Standing.TheVariants.{Live}
 use Rattle.mt_operation.specs.declared.walk.Taken.TheVariants as takens
 
 -- every live node stands on a level below this one

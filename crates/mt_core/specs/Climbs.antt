@@ -1,15 +1,9 @@
 -- What became of a step of a put whose keys are parted.
 use Rattle.std.specs.Prelude.{Some, length, ℕ, ◌<◌, ◌≡◌, ◌≢◌}
-use Rattle.mt_arena.specs.Arena.{ArenaView}
-use Rattle.mt_arena.specs.Accesses.{at}
-use Rattle.mt_operation.specs.declared.phase.Phase.TheVariants.{LockParent}
-use Rattle.mt_operation.specs.declared.walk.Walk.{Walk}
-use Rattle.mt_operation.specs.declared.splits.Splits.{Splits}
-use Rattle.mt_insert.specs.KeptSplits.{HoldsSplits, last_of}
-use Rattle.mt_operation.specs.Phases.{IsToGrow}
-use Rattle.mt_insert.specs.Climbs.{AreSame, IsClimbFrom}
-use Rattle.mt_table.specs.declared.steps.Made.{Made}
-use Rattle.mt_table.specs.declared.steps.Made.TheVariants.{Step, Blocked, NoMemory}
+use Rattle.mt_arena.specs.{Arena.ArenaView, Accesses.at}
+use Rattle.mt_operation.specs.{declared.phase.Phase.TheVariants.LockParent, declared.walk.Walk.Walk, declared.splits.Splits.Splits, Phases.IsToGrow}
+use Rattle.mt_insert.specs.{KeptSplits.{HoldsSplits, last_of}, Climbs.{AreSame, IsClimbFrom}}
+use Rattle.mt_table.specs.{declared.steps.Made.Made, declared.steps.Made.TheVariants.{Step, Blocked, NoMemory}}
 
 -- what a step answers; where it was not made, nothing has changed
 abbrev pub TellsClimbed : ℕ → ArenaView → ArenaView → Walk → Walk → Splits → Splits → Made → Type 0

@@ -1,6 +1,5 @@
 -- What a worker's log is given.
-use Rattle.std.specs.Prelude.{◌≡◌, ℕ, ◌≤◌, List, slice_index_or, slice_set}
-use Rattle.std.specs.List.{All}
+use Rattle.std.specs.{Prelude.{◌≡◌, ℕ, ◌≤◌, List, slice_index_or, slice_set}, List.All}
 use Rattle.mt_rows.specs.declared.record.Batch.{Batch}
 use Rattle.mt_drains.specs.Drains.{IsNextBatch}
 use Rattle.mt_state.specs.Views.{StateView}

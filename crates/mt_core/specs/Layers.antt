@@ -1,10 +1,8 @@
 -- What became of a step of an operation that makes a layer.
-use Rattle.std.specs.Prelude.{Err, Ok, Result, ℕ, ◌≡◌}
-use Rattle.std.specs.declared.alloc.AllocError.{AllocError}
+use Rattle.std.specs.{Prelude.{Err, Ok, Result, ℕ, ◌≡◌}, declared.alloc.AllocError.AllocError}
 use Rattle.mt_rows.specs.Rows.{Bytes}
 use Rattle.mt_arena.specs.Arena.{ArenaView}
-use Rattle.mt_operation.specs.declared.phase.Phase.TheVariants.{MakeLayer}
-use Rattle.mt_operation.specs.declared.walk.Walk.{Walk}
+use Rattle.mt_operation.specs.{declared.phase.Phase.TheVariants.MakeLayer, declared.walk.Walk.Walk}
 use Rattle.mt_held.specs.Unlock.{IsUnlock}
 use Rattle.mt_layer.specs.Builds.{IsLayerFrom}
 

@@ -1,39 +1,20 @@
 -- What the steps make of an operation that holds nothing: a step down, a get's search, load and confirmation, and the steps of a scan.
 use Rattle.std.specs.Prelude.{◌≡◌, ◌≢◌, ℕ, ◌+◌, ◌≤◌, ◌⊎◌, true, List, Option, Some, None}
-use Rattle.mt_rows.specs.Rows.{Columns}
-use Rattle.mt_rows.specs.Commands.{HasColumns}
-use Rattle.mt_rows.specs.Maps.{is_get}
-use Rattle.mt_rows.specs.Limits.{ArePairs}
-use Rattle.mt_rows.specs.declared.reply.Reply.TheVariants.{Absent, NoMemory, Pairs}
+use Rattle.mt_rows.specs.{Rows.Columns, Commands.HasColumns, Maps.is_get, Limits.ArePairs, declared.reply.Reply.TheVariants.{Absent, NoMemory, Pairs}}
 use Rattle.mt_border.specs.declared.entry.Find.{Find}
 use Rattle.mt_version.specs.Changes.{IsStable}
-use Rattle.mt_arena.specs.Arena.{ArenaView}
-use Rattle.mt_arena.specs.Accesses.{at}
+use Rattle.mt_arena.specs.{Arena.ArenaView, Accesses.at}
 use Rattle.mt_operation.specs.declared.phase.Phase.{Phase}
 use Rattle.mt_operation.specs.declared.phase.Phase.TheVariants.{Enter, Pick, Child, Verify, Forward, Search, Load, Confirm, Done, Snap, Check, Hop}
-use Rattle.mt_table.specs.declared.steps.Made.{Made}
-use Rattle.mt_table.specs.declared.steps.Made.TheVariants.{Step, Blocked, NoMemory as NoMemoryMade, Nothing}
-use Rattle.mt_operation.specs.declared.walk.Walk.{Walk}
-use Rattle.mt_operation.specs.declared.outcome.Outcome.{Outcome}
-use Rattle.mt_operation.specs.declared.operation.Operation.{Operation}
-use Rattle.mt_operation.specs.declared.removal.Removal.{Removal}
-use Rattle.mt_operation.specs.declared.task.Task.{Task}
-use Rattle.mt_operation.specs.declared.scan.Scan.{Scan}
-use Rattle.mt_descent.specs.Pasts.{Past, IsNow}
-use Rattle.mt_descent.specs.KeptWalks.{IsKept, IsAtBorder, IsAtLoad, IsAtConfirm}
+use Rattle.mt_operation.specs.{declared.walk.Walk.Walk, declared.outcome.Outcome.Outcome, declared.operation.Operation.Operation}
+use Rattle.mt_operation.specs.{declared.removal.Removal.Removal, declared.task.Task.Task, declared.scan.Scan.Scan, Tasks.ask}
+use Rattle.mt_operation.specs.{Operations.{SplitsView, splits_of, scan_of}, Phases.IsDescent}
+use Rattle.mt_table.specs.{declared.steps.Made.Made, declared.steps.Made.TheVariants.{Step, Blocked, NoMemory as NoMemoryMade, Nothing}}
+use Rattle.mt_descent.specs.{Pasts.{Past, IsNow}, KeptWalks.{IsKept, IsAtBorder, IsAtLoad, IsAtConfirm}}
 use Rattle.mt_descent.specs.WalkMoves.{Continues, FindsIn, Loads, Confirms, after_search}
-use Rattle.mt_operation.specs.Tasks.{ask}
-use Rattle.mt_operation.specs.Operations.{SplitsView, splits_of, scan_of}
 use Rattle.mt_held.specs.Moves.{walk_done}
-use Rattle.mt_scan.specs.Snaps.{prefix_in, AreSettled, IsSnap}
-use Rattle.mt_scan.specs.Checks.{Asks, MayCheck, IsUnchanged, IsCheck}
-use Rattle.mt_scan.specs.Hops.{IsAtCheck, KeptHop, KeptScan, HopsTo}
-use Rattle.mt_state.specs.Calls.{IsStillScan}
-use Rattle.mt_state.specs.Promises.{IsInTheWay}
-use Rattle.mt_state.specs.Notes.{Says}
-use Rattle.mt_state.specs.Ways.{Descends, ShowsTaken}
-use Rattle.mt_operation.specs.Phases.{IsDescent}
-use Rattle.mt_state.specs.Phases.{ScanStep, LeadsTo}
+use Rattle.mt_scan.specs.{Snaps.{prefix_in, AreSettled, IsSnap}, Checks.{Asks, MayCheck, IsUnchanged, IsCheck}, Hops.{IsAtCheck, KeptHop, KeptScan, HopsTo}}
+use Rattle.mt_state.specs.{Calls.IsStillScan, Promises.IsInTheWay, Notes.Says, Ways.{Descends, ShowsTaken}, Phases.{ScanStep, LeadsTo}}
 use Rattle.mt_core.specs.Budgets.{Budget, IsBudget, WalksBy}
 
 -- what a step makes of an operation that holds nothing, where nobody is in its way; else it is as it was

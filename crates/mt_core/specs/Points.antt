@@ -1,31 +1,16 @@
 -- How far an operation has come that nobody is in the way of, also where it was disturbed before, and that each of its steps brings it on.
 use Rattle.std.specs.Prelude.{◌≡◌, ◌≢◌, ℕ, ◌+◌, ◌-◌, ◌*◌, ◌<◌, ◌≤◌, min, List, ◌∷◌, length, Option, None, Some, Bool, true, false}
-use Rattle.mt_arena.specs.Arena.{ArenaView, live_count}
-use Rattle.mt_arena.specs.RootLevels.{levels_above, levels_of}
-use Rattle.mt_arena.specs.Accesses.{at}
-use Rattle.mt_operation.specs.declared.phase.Phase.{Phase}
-use Rattle.mt_operation.specs.declared.phase.Phase.TheVariants.{Reparent, Unlock}
-use Rattle.mt_operation.specs.declared.walk.Walk.{Walk}
-use Rattle.mt_operation.specs.declared.splits.Halves.{Halves}
-use Rattle.mt_operation.specs.declared.splits.Splits.{Splits}
-use Rattle.mt_operation.specs.declared.operation.Operation.{Operation}
-use Rattle.mt_operation.specs.Tables.{op_at as operation_at}
-use Rattle.mt_insert.specs.KeptSplits.{last_of}
-use Rattle.mt_state.specs.declared.moves.Move.{Move}
-use Rattle.mt_state.specs.declared.moves.Move.TheVariants.{Moved}
-use Rattle.mt_state.specs.Views.{Core, shown}
-use Rattle.mt_state.specs.Promises.{Tells}
-use Rattle.mt_state.specs.Phases.{LeadsOn}
-use Rattle.mt_arena.specs.Forests.{layer_of, tree_at}
-use Rattle.mt_rows.specs.Maps.{is_scan}
-use Rattle.mt_operation.specs.Tasks.{ask}
-use Rattle.mt_operation.specs.declared.outcome.Outcome.{Outcome}
-use Rattle.mt_operation.specs.declared.removal.Removal.{Removal}
+use Rattle.mt_arena.specs.{Arena.{ArenaView, live_count}, RootLevels.{levels_above, levels_of}, Accesses.at, Forests.{layer_of, tree_at}}
+use Rattle.mt_operation.specs.{declared.phase.Phase.Phase, declared.phase.Phase.TheVariants.{Reparent, Unlock}, declared.walk.Walk.Walk}
+use Rattle.mt_operation.specs.{declared.splits.Halves.Halves, declared.splits.Splits.Splits, declared.operation.Operation.Operation}
+use Rattle.mt_operation.specs.{Tables.{op_at as operation_at}, Tasks.ask, declared.outcome.Outcome.Outcome, declared.removal.Removal.Removal}
 use Rattle.mt_operation.specs.Phases.{Kind, row}
-use Rattle.mt_operation.specs.Phases as kinds
+use Rattle.mt_insert.specs.KeptSplits.{last_of}
+use Rattle.mt_state.specs.{declared.moves.Move.Move, declared.moves.Move.TheVariants.Moved, Views.{Core, shown}, Promises.Tells, Phases.LeadsOn}
+use Rattle.mt_rows.specs.Maps.{is_scan}
 use Rattle.mt_remove.specs.Writes.{is_remove}
-use Rattle.mt_core.specs.Budgets.{AreBelow, astray, split_level, above, before_unlock, Budget, until, WalksBy, budget_of}
-use Rattle.mt_core.specs.ScanPoints.{IsScanAt}
+use Rattle.mt_core.specs.{Budgets.{AreBelow, astray, split_level, above, before_unlock, Budget, until, WalksBy, budget_of}, ScanPoints.IsScanAt}
+use Rattle.mt_operation.specs.Phases as kinds
 
 -- how many children of the last right half are still to be told of it
 abbrev pub untold : Phase → ArenaView → Splits → ℕ

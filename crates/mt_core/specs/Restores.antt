@@ -1,20 +1,12 @@
 -- A state that begins with pairs, as a recovery leaves them.
-use Rattle.std.specs.Prelude.{◌≡◌, ℕ, ◌<◌, true, List, [], length, replicate, Some, None}
-use Rattle.std.specs.FinMap as pairs
-use Rattle.std.specs.Option.{option_map}
-use Rattle.mt_rows.specs.declared.command.Command.{Command}
-use Rattle.mt_rows.specs.declared.command.Command.TheVariants.{Put}
-use Rattle.mt_rows.specs.declared.record.TenantPair.{TenantPair}
-use Rattle.mt_rows.specs.declared.tenants.Account.{Account}
-use Rattle.mt_rows.specs.Accounts.{Accounts, account_of}
-use Rattle.mt_rows.specs.Changes.{indexed}
-use Rattle.mt_rows.specs.Tenants.{Contents, tenant_map}
+use Rattle.std.specs.{Prelude.{◌≡◌, ℕ, ◌<◌, true, List, [], length, replicate, Some, None}, Option.option_map}
+use Rattle.mt_rows.specs.{declared.command.Command.Command, declared.command.Command.TheVariants.Put, declared.record.TenantPair.TenantPair}
+use Rattle.mt_rows.specs.{declared.tenants.Account.Account, Accounts.{Accounts, account_of}, Changes.indexed, Tenants.{Contents, tenant_map}}
 use Rattle.mt_rows.specs.TenantPairs.{owner_of, pairs_of, IsTenantPair}
 use Rattle.mt_border.specs.Contents.{AllStamped}
-use Rattle.mt_arena.specs.NodeView.{NodeView}
-use Rattle.mt_arena.specs.Contents.{counts}
-use Rattle.mt_arena.specs.Accesses.{at, tree_of}
+use Rattle.mt_arena.specs.{NodeView.NodeView, Contents.counts, Accesses.{at, tree_of}}
 use Rattle.mt_state.specs.Views.{StateView, contents_of, op_at, granted}
+use Rattle.std.specs.FinMap as pairs
 
 -- no operation is open
 abbrev pub IsIdle : StateView → Type 0

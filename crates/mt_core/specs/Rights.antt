@@ -1,25 +1,12 @@
 -- What holds of every state, by what it shows.
-use Rattle.std.specs.Prelude.{◌≡◌, ℕ, ◌+◌, ◌<◌, ◌≤◌, true, Some, IsSome, length}
-use Rattle.std.specs.List.{All, Contains}
-use Rattle.std.specs.FinMap.{len}
-use Rattle.mt_rows.specs.declared.tenants.Account.{Account}
-use Rattle.mt_rows.specs.Accounts.{account_of}
-use Rattle.mt_rows.specs.Commands.{key_of, IsKey}
-use Rattle.mt_rows.specs.Tenants.{tenant_map}
-use Rattle.mt_tape.specs.declared.entry.Entry.{Entry as TapeEntry}
-use Rattle.mt_tape.specs.Tapes.{RisesOver, last_write}
-use Rattle.mt_tape.specs.Histories.{IsLegalTape}
+use Rattle.std.specs.{Prelude.{◌≡◌, ℕ, ◌+◌, ◌<◌, ◌≤◌, true, Some, IsSome, length}, List.{All, Contains}, FinMap.len}
+use Rattle.mt_rows.specs.{declared.tenants.Account.Account, Accounts.account_of, Commands.{key_of, IsKey}, Tenants.tenant_map}
+use Rattle.mt_tape.specs.{declared.entry.Entry.{Entry as TapeEntry}, Tapes.{RisesOver, last_write}, Histories.IsLegalTape}
 use Rattle.mt_remove.specs.Writes.{is_remove}
 use Rattle.mt_border.specs.Contents.{AllStamped}
-use Rattle.mt_arena.specs.Contents.{counts}
-use Rattle.mt_arena.specs.Accesses.{at, tree_of}
-use Rattle.mt_operation.specs.declared.outcome.Outcome.{Outcome}
-use Rattle.mt_operation.specs.Operations.{OperationView}
-use Rattle.mt_operation.specs.Phases.{is_done}
-use Rattle.mt_state.specs.Views.{StateView, contents_of, op_at}
-use Rattle.mt_state.specs.Steps.{change_in}
-use Rattle.mt_state.specs.Promises.{IsAnswer, HasStep}
-use Rattle.mt_state.specs.Invariant.{AreLogs, IsStampOf, made_count}
+use Rattle.mt_arena.specs.{Contents.counts, Accesses.{at, tree_of}}
+use Rattle.mt_operation.specs.{declared.outcome.Outcome.Outcome, Operations.OperationView, Phases.is_done}
+use Rattle.mt_state.specs.{Views.{StateView, contents_of, op_at}, Steps.change_in, Promises.{IsAnswer, HasStep}, Invariant.{AreLogs, IsStampOf, made_count}}
 use Rattle.mt_state.specs.Written.{KeepsQuotas, IsWritten, row_left}
 
 -- the steps of the tape rise over its floor and were made, each entry tells what its step did to a user's key, and it goes back as far as the logs need it

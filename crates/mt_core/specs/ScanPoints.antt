@@ -1,24 +1,13 @@
 -- How far a scan has come that nobody is in the way of, also where it was disturbed before: by the trees and border nodes that lie ahead of its fence.
-use Rattle.std.specs.Prelude.{◌≡◌, ℕ, ◌+◌, ◌*◌, ◌≤◌, ◌⊎◌, if◌then◌else◌, Bool, true, false, List, [], ◌∷◌, Some}
-use Rattle.std.specs.declared.cmp.Ordering.{Ordering}
-use Rattle.std.specs.declared.cmp.Ordering.TheVariants.{Less, Equal, Greater}
-use Rattle.std.specs.Ordering.{nat_cmp, is_lt}
-use Rattle.std.specs.Cmp.Lexicographic.{slice_cmp}
+use Rattle.std.specs.{Prelude.{◌≡◌, ℕ, ◌+◌, ◌*◌, ◌≤◌, ◌⊎◌, if◌then◌else◌, Bool, true, false, List, [], ◌∷◌, Some}, declared.cmp.Ordering.Ordering}
+use Rattle.std.specs.{declared.cmp.Ordering.TheVariants.{Less, Equal, Greater}, Ordering.{nat_cmp, is_lt}, Cmp.Lexicographic.slice_cmp}
 use Rattle.mt_slices.specs.Fences.{least_from}
 use Rattle.mt_rows.specs.Rows.{Bytes}
-use Rattle.mt_arena.specs.declared.tree.Tree.{Tree}
-use Rattle.mt_arena.specs.declared.tree.Standing.{Standing}
-use Rattle.mt_arena.specs.declared.tree.Standing.TheVariants.{Live}
-use Rattle.mt_arena.specs.NodeView.{NodeView}
-use Rattle.mt_arena.specs.Forests.{tree_at}
-use Rattle.mt_arena.specs.Arena.{ArenaView, one_if_live, live_count}
-use Rattle.mt_arena.specs.Accesses.{at}
-use Rattle.mt_operation.specs.declared.phase.Phase.{Phase}
-use Rattle.mt_operation.specs.declared.phase.Phase.TheVariants.{Check, Hop}
-use Rattle.mt_operation.specs.declared.walk.Walk.{Walk}
-use Rattle.mt_operation.specs.declared.scan.Stop.{Stop}
-use Rattle.mt_operation.specs.declared.scan.Stop.TheVariants as stops
+use Rattle.mt_arena.specs.{declared.tree.Tree.Tree, declared.tree.Standing.Standing, declared.tree.Standing.TheVariants.Live, NodeView.NodeView}
+use Rattle.mt_arena.specs.{Forests.tree_at, Arena.{ArenaView, one_if_live, live_count}, Accesses.at}
+use Rattle.mt_operation.specs.{declared.phase.Phase.Phase, declared.phase.Phase.TheVariants.{Check, Hop}, declared.walk.Walk.Walk, declared.scan.Stop.Stop}
 use Rattle.mt_core.specs.Budgets.{AreBelow, SeesNow, IsLiveTree, WalksBy, astray, behind, budget_of, until}
+use Rattle.mt_operation.specs.declared.scan.Stop.TheVariants as stops
 
 -- a fence is behind all keys that begin with these bytes: at the first byte where it is another one it has the greater
 abbrev pub is_behind_on : Ordering → Bool → Bool

@@ -1,25 +1,12 @@
 -- The shape of the live trees, and its lines as they are printed.
 use Rattle.std.specs.Prelude.{◌≡◌, ℕ, zero, suc, ◌+◌, ◌-◌, ◌*◌, ◌<◌, Bool, true, false, if◌then◌else◌, List, [], ◌∷◌, ◌++◌, length, map, replicate, codes, slice_get, Some}
-use Rattle.std.specs.Fmt.{digits, decimal}
-use Rattle.std.specs.List.{filter, flat_map}
-use Rattle.std.specs.List.Sorted.{IsPermutation, IsStrictlySortedBy}
-use Rattle.std.specs.Option.{option_map}
-use Rattle.std.specs.Ordering.{nat_cmp, ordering_then}
-use Rattle.std.specs.declared.cmp.Ordering.{Ordering}
-use Rattle.std.specs.Cmp.Lexicographic.{slice_cmp}
-use Rattle.mt_slices.specs.declared.mark.Mark.{Mark}
-use Rattle.mt_slices.specs.declared.mark.Mark.TheVariants.{Short, Long}
+use Rattle.std.specs.{Fmt.{digits, decimal}, List.{filter, flat_map}, List.Sorted.{IsPermutation, IsStrictlySortedBy}, Option.option_map}
+use Rattle.std.specs.{Ordering.{nat_cmp, ordering_then}, declared.cmp.Ordering.Ordering, Cmp.Lexicographic.slice_cmp}
+use Rattle.mt_slices.specs.{declared.mark.Mark.Mark, declared.mark.Mark.TheVariants.{Short, Long}}
 use Rattle.mt_rows.specs.Rows.{Bytes}
-use Rattle.mt_border.specs.declared.entry.Entry.{Entry}
-use Rattle.mt_border.specs.declared.entry.Held.{Held}
-use Rattle.mt_border.specs.declared.entry.Held.TheVariants.{Link as LinkTo}
-use Rattle.mt_arena.specs.declared.tree.Tree.{Tree}
-use Rattle.mt_arena.specs.Arena.{ArenaView}
-use Rattle.mt_arena.specs.Contents.{is_live}
-use Rattle.mt_arena.specs.Forests.{layer_of}
-use Rattle.mt_arena.specs.Accesses.{at}
-use Rattle.mt_core.specs.declared.shape.Edge.{Edge}
-use Rattle.mt_core.specs.declared.shape.ShapeLine.{ShapeLine}
+use Rattle.mt_border.specs.{declared.entry.Entry.Entry, declared.entry.Held.Held, declared.entry.Held.TheVariants.{Link as LinkTo}}
+use Rattle.mt_arena.specs.{declared.tree.Tree.Tree, Arena.ArenaView, Contents.is_live, Forests.layer_of, Accesses.at}
+use Rattle.mt_core.specs.{declared.shape.Edge.Edge, declared.shape.ShapeLine.ShapeLine}
 use Rattle.mt_core.specs.declared.shape.ShapeLine.TheVariants.{Tree as TreeLine, Interior, Border}
 
 -- so many hexadecimal digits, in lower case, the highest first

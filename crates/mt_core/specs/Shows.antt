@@ -1,10 +1,7 @@
 -- What a caller may ask of an operation between its steps.
-use Rattle.std.specs.Prelude.{ℕ, Option, Some, None}
-use Rattle.std.specs.Option.{option_map}
+use Rattle.std.specs.{Prelude.{ℕ, Option, Some, None}, Option.option_map}
 use Rattle.mt_rows.specs.declared.reply.Reply.{Reply}
-use Rattle.mt_operation.specs.declared.outcome.Outcome.{Outcome}
-use Rattle.mt_operation.specs.declared.phase.Phase.{Phase}
-use Rattle.mt_operation.specs.declared.phase.Phase.TheVariants.{Confirm, Done}
+use Rattle.mt_operation.specs.{declared.outcome.Outcome.Outcome, declared.phase.Phase.Phase, declared.phase.Phase.TheVariants.{Confirm, Done}}
 use Rattle.mt_operation.specs.Operations.{OperationView}
 use Rattle.mt_state.specs.Views.{Shown, op_at}
 

@@ -1,17 +1,10 @@
 -- What a begin, a take and a cancelling answer, by their tickets.
-use Rattle.std.specs.Prelude.{◌≡◌, ℕ, Option, Some, None, Result, Ok, Err, slice_set}
-use Rattle.std.specs.Option.{option_map}
-use Rattle.std.specs.Ordering.{nat_cmp}
-use Rattle.std.specs.BTreeMap.{BTreeMap, get}
-use Rattle.mt_rows.specs.declared.command.Command.{Command}
-use Rattle.mt_rows.specs.declared.refusal.Refusal.{Refusal}
+use Rattle.std.specs.{Prelude.{◌≡◌, ℕ, Option, Some, None, Result, Ok, Err, slice_set}, Option.option_map, Ordering.nat_cmp, BTreeMap.{BTreeMap, get}}
+use Rattle.mt_rows.specs.{declared.command.Command.Command, declared.refusal.Refusal.Refusal}
 use Rattle.mt_runs.specs.declared.event.Answer.{Answer}
 use Rattle.mt_core.specs.declared.answers.Ticket.{Ticket}
 use Rattle.mt_operation.specs.Operations.{OperationView}
-use Rattle.mt_state.specs.Views.{StateView, Shown, op_at}
-use Rattle.mt_state.specs.Begins.{Begins, Takes, IsEnded}
-use Rattle.mt_state.specs.Histories.{Names}
-use Rattle.mt_state.specs.Refused.{Refuses}
+use Rattle.mt_state.specs.{Views.{StateView, Shown, op_at}, Begins.{Begins, Takes, IsEnded}, Histories.Names, Refused.Refuses}
 
 -- what a begin may answer: a refused one changes nothing
 abbrev pub TellsBegin : StateView → StateView → ℕ → ℕ → Command → Result Ticket Refusal → Type 0

@@ -1,14 +1,9 @@
 -- What a tidying leaves.
-use Rattle.std.specs.Prelude.{◌≡◌, ℕ, ◌-◌, ◌<◌, ◌≤◌, Box, List, Some, None, vec_len, vec_capacity}
-use Rattle.std.specs.List.{All}
+use Rattle.std.specs.{Prelude.{◌≡◌, ℕ, ◌-◌, ◌<◌, ◌≤◌, Box, List, Some, None, vec_len, vec_capacity}, List.All, Global.Global}
 use Rattle.mt_tape.specs.Tapes.{later_entries, HandsOut}
-use Rattle.mt_operation.specs.Operations.{OperationView, IsUnsplit}
-use Rattle.mt_operation.specs.Tables.{Table, op_at as operation_at}
-use Rattle.mt_operation.specs.declared.operation.Operation.{Operation}
-use Rattle.std.specs.Global.{Global}
+use Rattle.mt_operation.specs.{Operations.{OperationView, IsUnsplit}, Tables.{Table, op_at as operation_at}, declared.operation.Operation.Operation}
 use Rattle.mt_core.specs.declared.displaced.Displaced.{Displaced}
-use Rattle.mt_state.specs.Views.{StateView, Shown, op_at, map_of, changed_at}
-use Rattle.mt_state.specs.Phases.{key_sought}
+use Rattle.mt_state.specs.{Views.{StateView, Shown, op_at, map_of, changed_at}, Phases.key_sought}
 
 -- every operation that has made a step made its first one after this number
 abbrev pub IsBeforeFirsts : Shown → ℕ → Type 0

@@ -1,46 +1,25 @@
 -- What the steps that lock, write or give back make of an operation in its place, and of what they write to beside it.
 use Rattle.std.specs.Prelude.{◌≡◌, ◌≢◌, ℕ, ◌<◌, ◌⊎◌, true, false, [], Option, Some, None}
-use Rattle.mt_rows.specs.Rows.{Columns}
-use Rattle.mt_rows.specs.Accounts.{Accounts, HasPairs, account_of}
-use Rattle.mt_rows.specs.declared.reply.Reply.{Reply}
+use Rattle.mt_rows.specs.{Rows.Columns, Accounts.{Accounts, HasPairs, account_of}, declared.reply.Reply.Reply}
 use Rattle.mt_rows.specs.declared.reply.Reply.TheVariants.{Absent, Full, New, NoMemory as NoMemoryReply, Removed, Replaced}
 use Rattle.mt_version.specs.Changes.{CanUnlock}
 use Rattle.mt_tape.specs.Tapes.{Kept, last_write}
-use Rattle.mt_arena.specs.Arena.{ArenaView}
-use Rattle.mt_arena.specs.Accesses.{at}
+use Rattle.mt_arena.specs.{Arena.ArenaView, Accesses.at}
 use Rattle.mt_operation.specs.declared.phase.Phase.{Phase}
 use Rattle.mt_operation.specs.declared.phase.Phase.TheVariants.{Lock, Judge, Store, Publish, SplitStart, SplitMove, SplitPrev, LockParent, InsertChild, InteriorSplit, Reparent, RootGrow, MakeLayer, MarkUnstable, Link, MarkLayer, DropKey, LockPrev, LockAbove, Unlink, FixNext, Collapse, CleanLayer, Unlock}
-use Rattle.mt_operation.specs.declared.outcome.Outcome.{Outcome}
-use Rattle.mt_operation.specs.declared.prepared.Prepared.{Prepared}
-use Rattle.mt_operation.specs.declared.operation.Operation.{Operation}
-use Rattle.mt_operation.specs.Operations.{IsUnsplit, splits_of, scan_of, with_splits}
-use Rattle.mt_operation.specs.Phases.{IsClimb, IsLayerPhase, IsRemovalPhase, IsToGrow}
-use Rattle.mt_operation.specs.Tasks.{ask}
-use Rattle.mt_table.specs.declared.steps.Made.{Made}
-use Rattle.mt_table.specs.declared.steps.Made.TheVariants.{Step, Blocked, NoMemory, Nothing}
-use Rattle.mt_descent.specs.KeptWalks.{IsAtBorder, HoldsNothing}
-use Rattle.mt_descent.specs.WalkMoves.{IsLock}
-use Rattle.mt_insert.specs.Puts.{IsPut}
-use Rattle.mt_held.specs.Holds.{HoldsBorder, IsAtUnlock}
-use Rattle.mt_insert.specs.KeptPuts.{IsAtStore, IsAtPublish, IsAtSplitStart}
-use Rattle.mt_insert.specs.KeptSplits.{HoldsSplits, IsAmong, IsAtSplitMove, IsAtUnlockAll, KeptSplit}
-use Rattle.mt_insert.specs.Judge.{IsMadeReady, IsShort, MeetsOther}
-use Rattle.mt_held.specs.Unlock.{MeetsLink, IsUnlock}
-use Rattle.mt_insert.specs.Store.{IsStore}
-use Rattle.mt_insert.specs.Publish.{IsPublish, IsPublishFull}
-use Rattle.mt_insert.specs.SplitStart.{IsSplitStart, IsSplitStopped}
-use Rattle.mt_insert.specs.SplitMove.{IsSplitMove, IsSplitMoveFull}
-use Rattle.mt_insert.specs.Climbs.{AreSame, IsClimbFrom}
-use Rattle.mt_insert.specs.Unlock.{IsUnlockAll}
-use Rattle.mt_layer.specs.KeptLayers.{KeptLayer, IsAtLeave}
-use Rattle.mt_layer.specs.Builds.{IsLayerFrom, IsLeave}
-use Rattle.mt_remove.specs.Judge.{FindsAbsent, IsMadeReady as IsReadyToDrop, IsShort as IsShortToDrop}
-use Rattle.mt_remove.specs.DropKey.{IsDropKey}
+use Rattle.mt_operation.specs.{declared.outcome.Outcome.Outcome, declared.prepared.Prepared.Prepared, declared.operation.Operation.Operation}
+use Rattle.mt_operation.specs.{Operations.{IsUnsplit, splits_of, scan_of, with_splits}, Phases.{IsClimb, IsLayerPhase, IsRemovalPhase, IsToGrow}, Tasks.ask}
+use Rattle.mt_table.specs.{declared.steps.Made.Made, declared.steps.Made.TheVariants.{Step, Blocked, NoMemory, Nothing}}
+use Rattle.mt_descent.specs.{KeptWalks.{IsAtBorder, HoldsNothing}, WalkMoves.IsLock}
+use Rattle.mt_insert.specs.{Puts.IsPut, KeptPuts.{IsAtStore, IsAtPublish, IsAtSplitStart}}
+use Rattle.mt_insert.specs.{KeptSplits.{HoldsSplits, IsAmong, IsAtSplitMove, IsAtUnlockAll, KeptSplit}, Judge.{IsMadeReady, IsShort, MeetsOther}, Store.IsStore}
+use Rattle.mt_insert.specs.{Publish.{IsPublish, IsPublishFull}, SplitStart.{IsSplitStart, IsSplitStopped}, SplitMove.{IsSplitMove, IsSplitMoveFull}}
+use Rattle.mt_insert.specs.{Climbs.{AreSame, IsClimbFrom}, Unlock.IsUnlockAll}
+use Rattle.mt_held.specs.{Holds.{HoldsBorder, IsAtUnlock}, Unlock.{MeetsLink, IsUnlock}}
+use Rattle.mt_layer.specs.{KeptLayers.{KeptLayer, IsAtLeave}, Builds.{IsLayerFrom, IsLeave}}
+use Rattle.mt_remove.specs.{Judge.{FindsAbsent, IsMadeReady as IsReadyToDrop, IsShort as IsShortToDrop}, DropKey.IsDropKey}
 use Rattle.mt_remove.specs.KeptRemovals.{HoldsRemoval, IsAmong as IsOfRemoval, IsAtDropKey, IsAtUnlockRemoval, IsCleaning, IsUnburdened, KeptRemoval}
-use Rattle.mt_remove.specs.Steps.{IsRemovalFrom}
-use Rattle.mt_remove.specs.Unlock.{IsUnlockRemoval}
-use Rattle.mt_remove.specs.Ways.{Follows, IsLockWay}
-use Rattle.mt_remove.specs.Writes.{IsRemoval, is_remove}
+use Rattle.mt_remove.specs.{Steps.IsRemovalFrom, Unlock.IsUnlockRemoval, Ways.{Follows, IsLockWay}, Writes.{IsRemoval, is_remove}}
 use Rattle.mt_state.specs.Promises.{IsInTheWay}
 use Rattle.mt_core.specs.Looks.{led_to}
 

@@ -1,13 +1,10 @@
 //! How operations are made of commands, and answered.
 
 ghost use Rattle.std.specs.Prelude.{◌≡◌, ◌≢◌, ◌<◌, ◌≤◌, ℕ, true, false, IsTrue, OnSome, IfSome, IfNone, IfOk, length, slice_set, Some, None};
-ghost use Rattle.mt_operation.specs.declared.operation.Operation.{Operation as AnyOperation};
-ghost use Rattle.mt_operation.specs.Operations.{view_of, is_unfinished};
+ghost use Rattle.mt_operation.specs.{declared.operation.Operation.{Operation as AnyOperation}, Operations.{view_of, is_unfinished}};
 ghost use Rattle.mt_operation.specs.Tables.{op_at as operation_at};
-ghost use Rattle.mt_state.specs.Begins.{begun, IsAnswerOf};
-ghost use Rattle.mt_state.specs.Refused.{Makes};
-ghost use Rattle.mt_core.specs.Tidies.{IsRestOf, DisplacesRestOf};
-ghost use Rattle.mt_core.specs.Admitted.{IsRequest, IsAdmitted, IsMadeOf, view_in};
+ghost use Rattle.mt_state.specs.{Begins.{begun, IsAnswerOf}, Refused.Makes};
+ghost use Rattle.mt_core.specs.{Tidies.{IsRestOf, DisplacesRestOf}, Admitted.{IsRequest, IsAdmitted, IsMadeOf, view_in}};
 
 use crate::displaced::Displaced;
 use mt_operation::{Operation, Outcome, Request, Spare, Task};

@@ -3,16 +3,10 @@
 //! Events name operations by numbers of the caller's choice; the run keeps their tickets. Errors: the
 //! memory of the run's own lists; the state that it was run on is dropped then.
 
-ghost use Rattle.std.specs.Prelude.{◌≡◌, ◌≤◌, ◌↔◌, ℕ, IsTrue, IsSome, Some, None, [], IfOk, OnOk, length};
-ghost use Rattle.std.specs.Ordering.{nat_cmp};
-ghost use Rattle.std.specs.BTreeMap.{get};
-ghost use Rattle.std.specs.List.{All, zip};
+ghost use Rattle.std.specs.{Prelude.{◌≡◌, ◌≤◌, ◌↔◌, ℕ, IsTrue, IsSome, Some, None, [], IfOk, OnOk, length}, Ordering.nat_cmp, BTreeMap.get, List.{All, zip}};
 ghost use Rattle.mt_rows.specs.Accounts.{Accounts, account_of};
-ghost use Rattle.mt_runs.specs.declared.event.Event.TheVariants.{Begin, Step};
-ghost use Rattle.mt_runs.specs.Runs.{story_of};
-ghost use Rattle.mt_runs.specs.Placings.{no_pairs, HasOneOrder};
-ghost use Rattle.mt_state.specs.Views.{quota_in};
-ghost use Rattle.mt_state.specs.Begins.{new_state, HaveNoPairs, IsWorker, IsEnded, Takes};
+ghost use Rattle.mt_runs.specs.{declared.event.Event.TheVariants.{Begin, Step}, Runs.story_of, Placings.{no_pairs, HasOneOrder}};
+ghost use Rattle.mt_state.specs.{Views.quota_in, Begins.{new_state, HaveNoPairs, IsWorker, IsEnded, Takes}};
 ghost use Rattle.mt_state.specs.Histories.{Renames, AreNamed, AreHeld, AreById, IsServed, TellsEvent, BringsTo, no_names, Names as AnyNames};
 ghost use Rattle.mt_core.specs.Tickets.{named};
 

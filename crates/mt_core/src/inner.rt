@@ -10,26 +10,14 @@ ghost use Rattle.std.specs.Option.{option_map};
 ghost use Rattle.mt_rows.specs.Accounts.{account_of};
 ghost use Rattle.mt_batches.specs.Batches.{IsBounded, BringsOn};
 ghost use Rattle.mt_arena.specs.Arena.{IsArena};
-ghost use Rattle.mt_state.specs.Views.{shown};
-ghost use Rattle.mt_state.specs.Invariant.{StateInvariant};
-ghost use Rattle.mt_state.specs.Begins.{new_state, HaveNoPairs};
-ghost use Rattle.mt_operation.specs.Phases.{IsNoLook};
-ghost use Rattle.mt_core.specs.Looks.{LooksAt, MayLook};
-ghost use Rattle.mt_core.specs.Writes.{parts, WritesAt, MayWrite};
-ghost use Rattle.mt_core.specs.Tickets.{TellsTake, TellsCancel};
-ghost use Rattle.mt_core.specs.Places.{HasPlaces, TakesPlace, AddsPlaces};
-ghost use Rattle.mt_core.specs.Admitted.{MayAdmit, TellsAdmitted, RefusesOpening, IsAccepted, IsRefusedFor};
-ghost use Rattle.mt_core.specs.Rights.{IsRightState};
-ghost use Rattle.mt_core.specs.Shows.{phase_at, phase_in, noted_at};
-ghost use Rattle.mt_core.specs.Alone.{Runs, IsAlone, EndsAlone, IsUndisturbed, EndsSoon};
-ghost use Rattle.mt_core.specs.Points.{StepsOn};
-ghost use Rattle.mt_core.specs.Drains.{Drains};
-ghost use Rattle.mt_core.specs.Renumbers.{core_renumbered};
-ghost use Rattle.mt_core.specs.Tidies.{Tidies, TidiesInto, DisplacesRestOf, HandsOutRest};
-ghost use Rattle.mt_core.specs.Nexts.{IsNext, ending};
-ghost use Rattle.mt_operation.specs.declared.operation.Operation.{Operation as AnyOperation};
-ghost use Rattle.mt_operation.specs.Operations.{OperationView, view_of};
+ghost use Rattle.mt_state.specs.{Views.shown, Invariant.StateInvariant, Begins.{new_state, HaveNoPairs}};
+ghost use Rattle.mt_operation.specs.{Phases.IsNoLook, declared.operation.Operation.{Operation as AnyOperation}, Operations.{OperationView, view_of}};
 ghost use Rattle.mt_operation.specs.Tables.{op_at as operation_at};
+ghost use Rattle.mt_core.specs.{Looks.{LooksAt, MayLook}, Writes.{parts, WritesAt, MayWrite}, Tickets.{TellsTake, TellsCancel}};
+ghost use Rattle.mt_core.specs.{Places.{HasPlaces, TakesPlace, AddsPlaces}, Admitted.{MayAdmit, TellsAdmitted, RefusesOpening, IsAccepted, IsRefusedFor}};
+ghost use Rattle.mt_core.specs.{Rights.IsRightState, Shows.{phase_at, phase_in, noted_at}, Alone.{Runs, IsAlone, EndsAlone, IsUndisturbed, EndsSoon}};
+ghost use Rattle.mt_core.specs.{Points.StepsOn, Drains.Drains, Renumbers.core_renumbered, Tidies.{Tidies, TidiesInto, DisplacesRestOf, HandsOutRest}};
+ghost use Rattle.mt_core.specs.Nexts.{IsNext, ending};
 
 use crate::answers::Ticket;
 use crate::begins::{Opening, give_back, give_up};
@@ -66,8 +54,7 @@ pub(crate) struct Inner {
 }
 
 impl Model for Inner {
-    ghost use Rattle.mt_state.specs.Views.{Core};
-    ghost use Rattle.mt_state.specs.Invariant.{StateInvariant};
+    ghost use Rattle.mt_state.specs.{Views.Core, Invariant.StateInvariant};
     ghost use Rattle.mt_core.specs.States.{core_of};
 
     ghost Value = { Core };

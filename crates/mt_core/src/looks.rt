@@ -1,26 +1,15 @@
 //! The steps of an operation that holds nothing: where it goes down, what a get takes, and what a scan
 //! collects.
 
-ghost use Rattle.std.specs.Prelude.{◌≡◌, ◌≢◌, ◌+◌, ℕ, List, Option, Some, None, IfOk, OnErr, IfSome, IfNone};
-ghost use Rattle.std.specs.Option.{option_map};
-ghost use Rattle.mt_rows.specs.Rows.{shown as columns_shown};
-ghost use Rattle.mt_rows.specs.Commands.{HasColumns};
-ghost use Rattle.mt_rows.specs.Limits.{ArePairs};
+ghost use Rattle.std.specs.{Prelude.{◌≡◌, ◌≢◌, ◌+◌, ℕ, List, Option, Some, None, IfOk, OnErr, IfSome, IfNone}, Option.option_map};
+ghost use Rattle.mt_rows.specs.{Rows.{shown as columns_shown}, Commands.HasColumns, Limits.ArePairs};
 ghost use Rattle.mt_held.specs.Moves.{walk_done};
 ghost use Rattle.mt_arena.specs.Accesses.{at};
-ghost use Rattle.mt_operation.specs.Tasks.{ask, command_of};
-ghost use Rattle.mt_descent.specs.Pasts.{Past};
-ghost use Rattle.mt_descent.specs.KeptWalks.{IsKept};
-ghost use Rattle.mt_state.specs.Promises.{IsInTheWay};
-ghost use Rattle.mt_state.specs.Notes.{columns_asked};
-ghost use Rattle.mt_state.specs.Ways.{Descends};
-ghost use Rattle.mt_operation.specs.Phases.{IsDescent};
-ghost use Rattle.mt_operation.specs.declared.removal.Removal.{Removal as AnyRemoval};
-ghost use Rattle.mt_operation.specs.declared.outcome.Outcome.{Outcome as AnyOutcome};
-ghost use Rattle.mt_operation.specs.Operations.{SplitsView, ScanView};
-ghost use Rattle.mt_state.specs.Phases.{ScanStep, LeadsTo};
-ghost use Rattle.mt_core.specs.Looks.{Looks, LooksAt, MayLook, MayDescend, MaySearch, MayLoad, MayConfirm, MaySnap, MayCompare, MayHop};
-ghost use Rattle.mt_core.specs.Looks.{TellsDescended, TellsSearched, TellsLoaded, TellsConfirmed, TellsSnapped, TellsCompared, TellsHopped};
+ghost use Rattle.mt_operation.specs.{Tasks.{ask, command_of}, Phases.IsDescent, declared.removal.Removal.{Removal as AnyRemoval}};
+ghost use Rattle.mt_operation.specs.{declared.outcome.Outcome.{Outcome as AnyOutcome}, Operations.{SplitsView, ScanView}};
+ghost use Rattle.mt_descent.specs.{Pasts.Past, KeptWalks.IsKept};
+ghost use Rattle.mt_state.specs.{Promises.IsInTheWay, Notes.columns_asked, Ways.Descends, Phases.{ScanStep, LeadsTo}};
+ghost use Rattle.mt_core.specs.Looks.{Looks, LooksAt, MayLook, MayDescend, MaySearch, MayLoad, MayConfirm, MaySnap, MayCompare, MayHop, TellsDescended, TellsSearched, TellsLoaded, TellsConfirmed, TellsSnapped, TellsCompared, TellsHopped};
 ghost use Rattle.mt_core.specs.Budgets.{Budget, IsBudget, WalksBy};
 
 use mt_arena::Arena;

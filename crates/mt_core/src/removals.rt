@@ -2,15 +2,10 @@
 //! it has left empty.
 
 ghost use Rattle.std.specs.Prelude.{◌≡◌, ◌≢◌, IfSome, IfNone, ℕ, None, [], true};
-ghost use Rattle.mt_operation.specs.Operations.{SplitsView, ScanView};
-ghost use Rattle.mt_operation.specs.Phases.{IsRemovalPhase};
-ghost use Rattle.mt_operation.specs.Tasks.{ask};
-ghost use Rattle.mt_remove.specs.KeptRemovals.{HoldsRemoval, KeptRemoval};
-ghost use Rattle.mt_remove.specs.Steps.{IsRemovalFrom};
-ghost use Rattle.mt_remove.specs.Writes.{is_remove};
+ghost use Rattle.mt_operation.specs.{Operations.{SplitsView, ScanView}, Phases.IsRemovalPhase, Tasks.ask};
+ghost use Rattle.mt_remove.specs.{KeptRemovals.{HoldsRemoval, KeptRemoval}, Steps.IsRemovalFrom, Writes.is_remove};
 ghost use Rattle.mt_state.specs.Promises.{IsInTheWay};
-ghost use Rattle.mt_core.specs.Writes.{parts, Writes, WritesNodes, WritesTape, MayLock, MayJudge, MayDrop, MayTake, MayUnlock};
-ghost use Rattle.mt_core.specs.Writes.{TellsLocked, TellsJudged, TellsDropped, TellsTaken, TellsUnlocked};
+ghost use Rattle.mt_core.specs.Writes.{parts, Writes, WritesNodes, WritesTape, MayLock, MayJudge, MayDrop, MayTake, MayUnlock, TellsLocked, TellsJudged, TellsDropped, TellsTaken, TellsUnlocked};
 
 use crate::looks::{absent, no_memory};
 use crate::writes::{placed, take_ready};

@@ -4,16 +4,13 @@
 //! steps; then all counting begins anew at the number that was asked for. Where these steps come near
 //! the last number, it begins anew at 0 in between. Errors: `AllocError`; nothing else is refused.
 
-ghost use Rattle.std.specs.Prelude.{◌≡◌, ◌≢◌, ◌+◌, ◌*◌, ◌<◌, ◌≤◌, ◌^◌, ℕ, None, Some, IfOk, OnOk};
-ghost use Rattle.std.specs.List.{All};
+ghost use Rattle.std.specs.{Prelude.{◌≡◌, ◌≢◌, ◌+◌, ◌*◌, ◌<◌, ◌≤◌, ◌^◌, ℕ, None, Some, IfOk, OnOk}, List.All};
 ghost use Rattle.std.specs.FinMap as fin;
-ghost use Rattle.mt_rows.specs.Accounts.{account_of};
-ghost use Rattle.mt_rows.specs.TenantPairs.{pairs_of, quota_in, IsTenantPair, AreDistinct, HasTenants, KeepsQuotas};
-ghost use Rattle.mt_arena.specs.Arena.{live_count};
-ghost use Rattle.mt_state.specs.Views.{StateView, shown, contents_of, granted};
-ghost use Rattle.mt_state.specs.Begins.{HaveNoPairs, Begins};
-ghost use Rattle.mt_core.specs.Restores.{put_of, with_pair, IsIdle, MayPut, HasPut, IsRestored};
+ghost use Rattle.mt_rows.specs.{Accounts.account_of, TenantPairs.{pairs_of, quota_in, IsTenantPair, AreDistinct, HasTenants, KeepsQuotas}};
 ghost use Rattle.mt_rows.specs.declared.record.TenantPair.{TenantPair as AnyPair};
+ghost use Rattle.mt_arena.specs.Arena.{live_count};
+ghost use Rattle.mt_state.specs.{Views.{StateView, shown, contents_of, granted}, Begins.{HaveNoPairs, Begins}};
+ghost use Rattle.mt_core.specs.Restores.{put_of, with_pair, IsIdle, MayPut, HasPut, IsRestored};
 
 use crate::answers::Ticket;
 use crate::begins::prepare;

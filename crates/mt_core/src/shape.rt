@@ -5,10 +5,8 @@
 //! two spaces more. An interior node shows its separators; a border node the number of its keys, and
 //! where there are any the first and the last one as slice, colon and mark.
 
-ghost use Rattle.std.specs.Prelude.{◌≡◌, ◌+◌, ◌<◌, ◌^◌, ◌++◌, false, length, map, IfOk, OnOk};
-ghost use Rattle.std.specs.Option.{option_map};
-ghost use Rattle.mt_border.specs.Node.{entries_of};
-ghost use Rattle.mt_border.specs.Rows.{entry_seen};
+ghost use Rattle.std.specs.{Prelude.{◌≡◌, ◌+◌, ◌<◌, ◌^◌, ◌++◌, false, length, map, IfOk, OnOk}, Option.option_map};
+ghost use Rattle.mt_border.specs.{Node.entries_of, Rows.entry_seen};
 ghost use Rattle.mt_arena.specs.Accesses.{at};
 ghost use Rattle.mt_core.specs.Shapes.{edge_in, line_in, lines_from, tree_lines, prefix_cmp, HasLiveRoot, IsListing, IsShape};
 

@@ -3,26 +3,13 @@
 //! It owns its nodes, its tape and its operations. Errors: refusals of `begin`, which change nothing.
 //! Units: steps by their numbers, which begin at 1.
 
-ghost use Rattle.std.specs.Prelude.{◌^◌, ◌≡◌, ◌≢◌, ◌<◌, ◌≤◌, ◌↔◌, ℕ, IfOk, OnOk, OnErr, IsTrue, IsSome, length, Some};
-ghost use Rattle.std.specs.Option.{option_map};
-ghost use Rattle.std.specs.List.{All};
+ghost use Rattle.std.specs.{Prelude.{◌^◌, ◌≡◌, ◌≢◌, ◌<◌, ◌≤◌, ◌↔◌, ℕ, IfOk, OnOk, OnErr, IsTrue, IsSome, length, Some}, Option.option_map, List.All};
 ghost use Rattle.mt_batches.specs.Batches.{IsBounded, BringsOn};
-ghost use Rattle.mt_rows.specs.Accounts.{account_of};
-ghost use Rattle.mt_rows.specs.Tenants.{tenant_map};
-ghost use Rattle.mt_rows.specs.TenantPairs.{pairs_of, quota_in, IsTenantPair, AreDistinct, HasTenants, KeepsQuotas};
-ghost use Rattle.mt_state.specs.Views.{op_at, contents_of};
-ghost use Rattle.mt_state.specs.Promises.{Tells};
-ghost use Rattle.mt_state.specs.Phases.{LeadsOn};
-ghost use Rattle.mt_state.specs.Begins.{new_state, HaveNoPairs, IsWorker};
-ghost use Rattle.mt_core.specs.Tickets.{TellsBegin, TellsTake, TellsCancel, TellsRefusal};
-ghost use Rattle.mt_core.specs.Places.{HasPlaces, TakesPlace, AddsPlaces};
-ghost use Rattle.mt_core.specs.Admitted.{MayAdmit, TellsAdmitted, RefusesOpening};
-ghost use Rattle.mt_core.specs.Rights.{IsRightState};
-ghost use Rattle.mt_core.specs.Shapes.{IsShape};
-ghost use Rattle.mt_core.specs.Shows.{phase_at, noted_at};
-ghost use Rattle.mt_core.specs.Alone.{Runs, IsAlone, EndsAlone, IsUndisturbed, EndsSoon};
-ghost use Rattle.mt_core.specs.Drains.{Drains};
-ghost use Rattle.mt_core.specs.Tidies.{Tidies, TidiesInto, HandsOutRest};
+ghost use Rattle.mt_rows.specs.{Accounts.account_of, Tenants.tenant_map, TenantPairs.{pairs_of, quota_in, IsTenantPair, AreDistinct, HasTenants, KeepsQuotas}};
+ghost use Rattle.mt_state.specs.{Views.{op_at, contents_of}, Promises.Tells, Phases.LeadsOn, Begins.{new_state, HaveNoPairs, IsWorker}};
+ghost use Rattle.mt_core.specs.{Tickets.{TellsBegin, TellsTake, TellsCancel, TellsRefusal}, Places.{HasPlaces, TakesPlace, AddsPlaces}};
+ghost use Rattle.mt_core.specs.{Admitted.{MayAdmit, TellsAdmitted, RefusesOpening}, Rights.IsRightState, Shapes.IsShape, Shows.{phase_at, noted_at}};
+ghost use Rattle.mt_core.specs.{Alone.{Runs, IsAlone, EndsAlone, IsUndisturbed, EndsSoon}, Drains.Drains, Tidies.{Tidies, TidiesInto, HandsOutRest}};
 ghost use Rattle.mt_core.specs.Restores.{IsRestored};
 ghost use Rattle.mt_operation.specs.Operations.{OperationView};
 

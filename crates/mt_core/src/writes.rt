@@ -3,11 +3,9 @@
 
 ghost use Rattle.std.specs.Prelude.{◌≡◌, ◌≢◌, Some, None, [], false, if◌then◌else◌};
 ghost use Rattle.mt_operation.specs.Tasks.{ask};
-ghost use Rattle.mt_insert.specs.KeptPuts.{IsAtStore, IsAtPublish};
-ghost use Rattle.mt_insert.specs.KeptSplits.{IsAtSplitMove};
+ghost use Rattle.mt_insert.specs.{KeptPuts.{IsAtStore, IsAtPublish}, KeptSplits.IsAtSplitMove};
 ghost use Rattle.mt_remove.specs.Writes.{is_remove};
-ghost use Rattle.mt_core.specs.Writes.{parts, Writes, WritesAt, WritesNodes, WritesTape, MayWrite, MayLock, MayJudge, MayPut, MayBegin, MayClimb, MayBuild, MayUnlock};
-ghost use Rattle.mt_core.specs.Writes.{TellsLocked, TellsJudged, TellsStored, TellsPublished, TellsBegun, TellsParted, TellsClimbed, TellsBuilt, TellsUnlocked};
+ghost use Rattle.mt_core.specs.Writes.{parts, Writes, WritesAt, WritesNodes, WritesTape, MayWrite, MayLock, MayJudge, MayPut, MayBegin, MayClimb, MayBuild, MayUnlock, TellsLocked, TellsJudged, TellsStored, TellsPublished, TellsBegun, TellsParted, TellsClimbed, TellsBuilt, TellsUnlocked};
 
 use crate::climbs::climb_on;
 use crate::layers::build_on;

@@ -1,15 +1,7 @@
 -- Pairs that ascend are of distinct owners.
-use Rattle.std.proofs.Common.{◌≡◌, ℕ, zero, suc, List, [], ◌∷◌, map, Some, refl, sym, ap, ◌∙◌}
-use Rattle.std.specs.Prelude.{slice_get}
-use Rattle.std.specs.declared.cmp.Ordering.TheVariants.{Less}
-use Rattle.std.specs.Ordering.{is_eq}
-use Rattle.std.specs.List.{AllByRecursion}
-use Rattle.std.specs.List.Sorted.{IsStrictlySortedBy}
-use Rattle.std.proofs.lemmas.Option.{same_Some, none-some}
-use Rattle.mt_rows.specs.declared.record.TenantPair.{TenantPair}
-use Rattle.mt_rows.specs.Rows.{Bytes}
-use Rattle.mt_rows.specs.Tenants.{owned_cmp}
-use Rattle.mt_rows.specs.TenantPairs.{owner_of, AreDistinct}
+use Rattle.std.proofs.{Common.{◌≡◌, ℕ, zero, suc, List, [], ◌∷◌, map, Some, refl, sym, ap, ◌∙◌}, lemmas.Option.{same_Some, none-some}}
+use Rattle.std.specs.{Prelude.slice_get, declared.cmp.Ordering.TheVariants.Less, Ordering.is_eq, List.AllByRecursion, List.Sorted.IsStrictlySortedBy}
+use Rattle.mt_rows.specs.{declared.record.TenantPair.TenantPair, Rows.Bytes, Tenants.owned_cmp, TenantPairs.{owner_of, AreDistinct}}
 use Rattle.mt_rows.proofs.ContentLaws.{same_owner}
 use Rattle.mt_recover.specs.Pairs.{Ascend}
 

@@ -1,7 +1,6 @@
 //! States that are restored from what a recovery gives.
 
-ghost use Rattle.std.specs.Prelude.{◌^◌, ◌≤◌, IsTrue};
-ghost use Rattle.std.specs.List.{All};
+ghost use Rattle.std.specs.{Prelude.{◌^◌, ◌≤◌, IsTrue}, List.All};
 ghost use Rattle.mt_rows.specs.TenantPairs.{pairs_of, quota_in, IsTenantPair, AreDistinct, HasTenants, KeepsQuotas};
 ghost use Rattle.mt_log.specs.Contents.{IsBatch};
 ghost use Rattle.mt_state.specs.Begins.{HaveNoPairs};

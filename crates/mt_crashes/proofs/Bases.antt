@@ -1,21 +1,13 @@
 -- Changes replayed over a base give what they give over the pairs that stood at the base's first number.
 use Rattle.std.proofs.Common.{◌≡◌, ◌≢◌, inl, inr, ℕ, ◌<◌, ◌≤◌, Bool, true, false, not, ◌&&◌, cond, ltb, List, [], ◌∷◌, ◌++◌, refl, sym, ◌∙◌, ap, arith}
-use Rattle.std.specs.FinMap.{get, empty}
-use Rattle.std.specs.Ordering.{eq_by_cmp}
-use Rattle.std.proofs.lemmas.Bool.{ltb-true, ltb-false, lt-ltb, le-ltb, not_from_false, true≢false}
-use Rattle.std.proofs.lemmas.List.{map-append, append-nil}
+use Rattle.std.proofs.{lemmas.Bool.{ltb-true, ltb-false, lt-ltb, le-ltb, not_from_false, true≢false}, lemmas.List.{map-append, append-nil}}
 use Rattle.std.proofs.lemmas.List.Elements.{filter-append}
-use Rattle.mt_rows.specs.Rows.{Bytes}
-use Rattle.mt_rows.specs.Tenants.{owned_cmp, Contents as Pairs}
-use Rattle.mt_rows.specs.declared.record.Record.{Record}
-use Rattle.mt_rows.proofs.ContentLaws.{same_contents, same_owner}
+use Rattle.std.specs.{FinMap.{get, empty}, Ordering.eq_by_cmp}
+use Rattle.mt_rows.{specs.{Rows.Bytes, Tenants.{owned_cmp, Contents as Pairs}, declared.record.Record.Record}, proofs.ContentLaws.{same_contents, same_owner}}
 use Rattle.mt_tape.proofs.RowLaws.{get-with_row, get-with_row_other}
-use Rattle.mt_crashes.specs.Fronts.{In, key_of, with_change, after_changes}
-use Rattle.mt_crashes.specs.Histories.{Placed, upto, changes_of, pairs_upto}
-use Rattle.mt_crashes.specs.Bases.{over, Stays, IsBase}
+use Rattle.mt_crashes.specs.{Fronts.{In, key_of, with_change, after_changes}, Histories.{Placed, upto, changes_of, pairs_upto}, Bases.{over, Stays, IsBase}}
 use Rattle.mt_crashes.specs.Invariants.{RisePlaced}
-use Rattle.mt_crashes.proofs.Members.{in_left, filter_in, filter_filter, filter_same, in_map}
-use Rattle.mt_crashes.proofs.Invariant.{rise_over}
+use Rattle.mt_crashes.proofs.{Members.{in_left, filter_in, filter_filter, filter_same, in_map}, Invariant.rise_over}
 
 -- At a key, changes that were made over one or the other pairs come to the same, if the pairs agree there or a change is of this key.
 agree : (rs : List Record) (m n : Pairs) (q : ℕ × Bytes) → (((r : Record) → In r rs → key_of r ≢ q) → get m q ≡ get n q)

@@ -1,20 +1,15 @@
 -- A store keeps its invariant as a batch begins in one of its logs, and as that log comes to rest.
 use Rattle.std.proofs.Common.{◌≡◌, ◌⊎◌, inl, inr, ⊎_elim, ℕ, ◌<◌, ◌≤◌, true, false, not, ◌==◌, [], ◌∷◌, refl, sym, ◌∙◌, ap, subst, arith, Some}
-use Rattle.std.proofs.lemmas.Bool.{lt-ltb, le-ltb, and_parts, and_from, eqb-true, eq-eqb, not_from_false, cases_lt, true≢false}
-use Rattle.std.proofs.lemmas.Option.{same_Some}
+use Rattle.std.proofs.{lemmas.Bool.{lt-ltb, le-ltb, and_parts, and_from, eqb-true, eq-eqb, not_from_false, cases_lt, true≢false}, lemmas.Option.same_Some}
 use Rattle.mt_rows.specs.declared.record.Record.{Record}
-use Rattle.mt_log.specs.declared.batch.LogBatch.{LogBatch}
-use Rattle.mt_log.specs.declared.batch.LogBatch.TheVariants.{Records, Resume}
-use Rattle.mt_log.specs.Contents.{Contents, mark_of, with_batch}
+use Rattle.mt_log.specs.{declared.batch.LogBatch.LogBatch, declared.batch.LogBatch.TheVariants.{Records, Resume}, Contents.{Contents, mark_of, with_batch}}
 use Rattle.mt_log.proofs.FrontLaws.{contents_more, in_format, batch_in_order, in_steps, join_more}
-use Rattle.mt_crashes.specs.Fronts.{is_void, voids_of, records_of, In, HoldResume, ServedFrom}
-use Rattle.mt_crashes.specs.Histories.{Placed}
+use Rattle.mt_crashes.specs.{Fronts.{is_void, voids_of, records_of, In, HoldResume, ServedFrom}, Histories.Placed}
 use Rattle.mt_crashes.specs.Stores.{Store, at_rest, MayLeaveFront, is_between, Appends, Rests, Resumes}
 use Rattle.mt_crashes.specs.Invariants.{by_worker, IsFrontOf, Guards, IsLevel, IsStore}
 use Rattle.mt_crashes.proofs.Members.{in_filter, filter_in, in_map, map_in}
 use Rattle.mt_crashes.proofs.FrontLaws.{mark_more, in_more, more_left, more_right, resume_more, served_more, served_left, served_last, void_left, void_right, void_either, void_from, void_cases}
-use Rattle.mt_crashes.proofs.Invariant.{left_at_rest, reaches_more, holds_more}
-use Rattle.mt_crashes.proofs.OneLog.{Replaces, with_log, replaces}
+use Rattle.mt_crashes.proofs.{Invariant.{left_at_rest, reaches_more, holds_more}, OneLog.{Replaces, with_log, replaces}}
 
 same_number : (n : ℕ) → (n == n) ≡ true
 same_number n = eq-eqb n n refl

@@ -1,26 +1,18 @@
 -- What a crash leaves of all logs of a store holds its history up to the cutoff, and nothing else that counts.
 use Rattle.std.proofs.Common.{◌≡◌, ⊎_elim, ℕ, ◌<◌, ◌≤◌, Bool, true, false, not, ltb, List, [], ◌∷◌, length, refl, sym, ◌∙◌, ap, subst, arith, Option, Some, None}
-use Rattle.std.specs.Prelude.{slice_get}
-use Rattle.std.specs.List.{AllZip}
-use Rattle.std.proofs.lemmas.Bool.{ltb-false, and_parts, and_from, not-true, not_from_false, true≢false}
-use Rattle.std.proofs.lemmas.Option.{same_Some, slice_get_within}
-use Rattle.mt_rows.specs.declared.record.Record.{Record}
+use Rattle.std.proofs.{lemmas.Bool.{ltb-false, and_parts, and_from, not-true, not_from_false, true≢false}, lemmas.Option.{same_Some, slice_get_within}}
+use Rattle.std.specs.{Prelude.slice_get, List.AllZip}
+use Rattle.mt_rows.specs.{declared.record.Record.Record, Tenants.{Contents as Pairs}, TenantPairs.{HasTenants, KeepsQuotas}}
 use Rattle.mt_log.specs.Contents.{Contents, IsContents, JoinsAndRises}
 use Rattle.mt_crashes.specs.Fronts.{cutoff_of, is_void, all_voids, records_of, all_records, is_replayed, In, Rise, IsReplay, after_changes, HoldResume}
-use Rattle.mt_crashes.specs.Histories.{Placed, upto, changes_of, pairs_upto}
-use Rattle.mt_rows.specs.Tenants.{Contents as Pairs}
-use Rattle.mt_crashes.specs.Recoveries.{IsUsed, IsBaseOf, IsRecovered, AreSet, StandsTwice, NoneOlder}
-use Rattle.mt_rows.specs.TenantPairs.{HasTenants, KeepsQuotas}
-use Rattle.mt_crashes.specs.Bases.{over, CheckpointView, Slots, IsBase}
-use Rattle.mt_crashes.proofs.Bases.{over_base, empty_base}
-use Rattle.mt_crashes.specs.Walks.{AreWalked}
-use Rattle.mt_crashes.proofs.Walks.{walked_base}
+use Rattle.mt_crashes.specs.{Histories.{Placed, upto, changes_of, pairs_upto}, Recoveries.{IsUsed, IsBaseOf, IsRecovered, AreSet, StandsTwice, NoneOlder}}
+use Rattle.mt_crashes.specs.{Bases.{over, CheckpointView, Slots, IsBase}, Walks.AreWalked}
 use Rattle.mt_crashes.specs.Stores.{Store, SlotNow, MayLeaveFront, MayLeaveFronts, MayLeaveSlots, new_store, Leads, ReachesAt, AllReach}
 use Rattle.mt_crashes.specs.Invariants.{by_worker, RisePlaced, IsFrontOf, IsStore}
+use Rattle.mt_crashes.proofs.{Bases.{over_base, empty_base}, Walks.walked_base}
 use Rattle.mt_crashes.proofs.Members.{in_filter, filter_in, in_map, map_in, in_flat_map, flat_map_in, in_place, place_in, permuted_in, in_permuted}
 use Rattle.mt_crashes.proofs.FrontLaws.{from_cutoff, all_void, void_of_some, ends_cutoff}
-use Rattle.mt_crashes.proofs.Invariant.{zip_left, zip_right, within_place, rise_filter, rise_changes, same_members, same_stamp}
-use Rattle.mt_crashes.proofs.NewStore.{new_is}
+use Rattle.mt_crashes.proofs.{Invariant.{zip_left, zip_right, within_place, rise_filter, rise_changes, same_members, same_stamp}, NewStore.new_is}
 use Rattle.mt_crashes.proofs.Kept.{leads, reaches_ever}
 
 -- a front that a crash may leave is one of a worker's log

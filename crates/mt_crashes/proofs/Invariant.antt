@@ -1,19 +1,13 @@
 -- Parts of the invariant of a store: places of logs, numbers that rise, and what may be left of a log.
 use Rattle.std.proofs.Common.{◌≡◌, ◌⊎◌, inl, inr, ⊎_elim, ℕ, zero, suc, ◌+◌, ◌<◌, ◌≤◌, Bool, true, false, cond, List, [], ◌∷◌, ◌++◌, map, length, refl, sym, ◌∙◌, ap, subst, arith, Some}
-use Rattle.std.specs.Prelude.{slice_get, slice_set}
-use Rattle.std.specs.List.{filter, flat_map, AllZip}
-use Rattle.std.proofs.lemmas.List.Elements.{recursion_from_All}
-use Rattle.std.proofs.lemmas.Option.{same_Some}
+use Rattle.std.proofs.{lemmas.List.Elements.recursion_from_All, lemmas.Option.same_Some}
+use Rattle.std.specs.{Prelude.{slice_get, slice_set}, List.{filter, flat_map, AllZip}}
 use Rattle.mt_rows.specs.declared.record.Record.{Record}
-use Rattle.mt_log.specs.declared.batch.LogBatch.{LogBatch}
-use Rattle.mt_log.specs.declared.batch.LogBatch.TheVariants.{Records, Resume}
+use Rattle.mt_log.specs.{declared.batch.LogBatch.LogBatch, declared.batch.LogBatch.TheVariants.{Records, Resume}}
 use Rattle.mt_log.specs.Contents.{Contents, Rises, Join, end_of, from_of, to_of, mark_of, with_batch, no_batches}
-use Rattle.mt_crashes.specs.Fronts.{records_in, In, Rise, HoldResume}
-use Rattle.mt_crashes.specs.Histories.{Placed, changes_of}
-use Rattle.mt_crashes.specs.Stores.{LogNow, at_rest, MayLeaveFront, new_logs, Reaches}
-use Rattle.mt_crashes.specs.Invariants.{RisePlaced, Holds}
-use Rattle.mt_crashes.proofs.Members.{no_some, in_either, all_at}
-use Rattle.mt_crashes.proofs.FrontLaws.{mark_more, resume_left}
+use Rattle.mt_crashes.specs.{Fronts.{records_in, In, Rise, HoldResume}, Histories.{Placed, changes_of}}
+use Rattle.mt_crashes.specs.{Stores.{LogNow, at_rest, MayLeaveFront, new_logs, Reaches}, Invariants.{RisePlaced, Holds}}
+use Rattle.mt_crashes.proofs.{Members.{no_some, in_either, all_at}, FrontLaws.{mark_more, resume_left}}
 
 -- ---- places in a list
 

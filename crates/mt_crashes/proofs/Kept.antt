@@ -1,14 +1,9 @@
 -- Whatever happens to a store keeps its invariant, and no log goes back.
 use Rattle.std.proofs.Common.{inl, inr, ℕ, zero, suc, sym, subst, Some}
-use Rattle.mt_log.specs.declared.batch.LogBatch.TheVariants.{Records, Resume}
-use Rattle.mt_log.specs.Contents.{mark_of}
-use Rattle.mt_crashes.specs.Stores.{Store, at_rest, Happens, Leads, ReachesAt}
-use Rattle.mt_crashes.specs.Invariants.{IsStore}
-use Rattle.mt_crashes.proofs.Steps.{steps_on, places}
-use Rattle.mt_crashes.proofs.OneLog.{with_log, one_reach}
-use Rattle.mt_crashes.proofs.Batches.{appended, appends, resumed, resumes, rested, rests}
-use Rattle.mt_crashes.proofs.Recovery.{recovers, serves}
-use Rattle.mt_crashes.proofs.Slots.{writes_slot}
+use Rattle.mt_log.specs.{declared.batch.LogBatch.TheVariants.{Records, Resume}, Contents.mark_of}
+use Rattle.mt_crashes.specs.{Stores.{Store, at_rest, Happens, Leads, ReachesAt}, Invariants.IsStore}
+use Rattle.mt_crashes.proofs.{Steps.{steps_on, places}, OneLog.{with_log, one_reach}, Batches.{appended, appends, resumed, resumes, rested, rests}}
+use Rattle.mt_crashes.proofs.{Recovery.{recovers, serves}, Slots.writes_slot}
 
 pub happens : (old new : Store) → IsStore old → Happens old new → IsStore new
 happens old new is (inl h) = steps_on old new is h

@@ -1,15 +1,11 @@
 -- A new store has the invariant.
-use Rattle.std.proofs.Common.{◌≡◌, inl, inr, ℕ, zero, suc, ◌<◌, ◌≤◌, [], ◌∷◌, refl, sym, ◌∙◌, ap, subst, arith, Some, None}
-use Rattle.std.specs.Prelude.{slice_get}
-use Rattle.std.proofs.lemmas.Bool.{true≢false}
+use Rattle.std.proofs.{Common.{◌≡◌, inl, inr, ℕ, zero, suc, ◌<◌, ◌≤◌, [], ◌∷◌, refl, sym, ◌∙◌, ap, subst, arith, Some, None}, lemmas.Bool.{true≢false}}
 use Rattle.std.proofs.lemmas.Option.{same_Some}
+use Rattle.std.specs.Prelude.{slice_get}
 use Rattle.mt_log.specs.Contents.{Contents, no_batches}
-use Rattle.mt_crashes.specs.Fronts.{In, ServedFrom}
-use Rattle.mt_crashes.specs.Bases.{CheckpointView}
-use Rattle.mt_crashes.specs.Stores.{LogNow, SlotNow, at_rest, only_this, MayLeaveFront, new_logs, new_store, Reaches}
-use Rattle.mt_crashes.specs.Invariants.{IsFrontOf, HasLog, IsStore}
-use Rattle.mt_crashes.proofs.Members.{no_some}
-use Rattle.mt_crashes.proofs.Invariant.{within_place, left_at_rest, new_at, new_long}
+use Rattle.mt_crashes.specs.{Fronts.{In, ServedFrom}, Bases.CheckpointView}
+use Rattle.mt_crashes.specs.{Stores.{LogNow, SlotNow, at_rest, only_this, MayLeaveFront, new_logs, new_store, Reaches}, Invariants.{IsFrontOf, HasLog, IsStore}}
+use Rattle.mt_crashes.proofs.{Members.no_some, Invariant.{within_place, left_at_rest, new_at, new_long}}
 
 new_front : (count worker : ℕ) (log : LogNow) → 0 < count → count ≤ 64 → HasLog (new_store count) worker log → (left : Contents)
     → MayLeaveFront log left → left ≡ no_batches worker count

@@ -1,10 +1,7 @@
 -- What one log of a store may become so that the store keeps its invariant.
-use Rattle.std.proofs.Common.{◌≡◌, inl, inr, ⊎_elim, ℕ, ◌<◌, true, sym, ◌∙◌, subst, arith}
-use Rattle.std.specs.Prelude.{slice_set}
-use Rattle.std.proofs.lemmas.List.{length-set}
+use Rattle.std.{proofs.{Common.{◌≡◌, inl, inr, ⊎_elim, ℕ, ◌<◌, true, sym, ◌∙◌, subst, arith}, lemmas.List.length-set}, specs.Prelude.slice_set}
 use Rattle.mt_log.specs.Contents.{Contents}
-use Rattle.mt_crashes.specs.Fronts.{is_void, ServedFrom}
-use Rattle.mt_crashes.specs.Stores.{Store, LogNow, MayLeaveFront, Reaches, ReachesAt, AllReach}
+use Rattle.mt_crashes.specs.{Fronts.{is_void, ServedFrom}, Stores.{Store, LogNow, MayLeaveFront, Reaches, ReachesAt, AllReach}}
 use Rattle.mt_crashes.specs.Invariants.{IsFrontOf, Guards, HasLog, Holds, AllHold, IsLevel, HasTopLog, IsStore}
 use Rattle.mt_crashes.proofs.Invariant.{after_set, before_set, one_there}
 

@@ -1,20 +1,16 @@
 -- A store keeps its invariant in a recovery, and as it serves again.
 use Rattle.std.proofs.Common.{◌≡◌, ◌⊎◌, inl, inr, ⊎_elim, ℕ, ◌<◌, ◌≤◌, Bool, true, false, not, ◌&&◌, ◌||◌, ltb, List, [], ◌∷◌, map, length, refl, sym, ◌∙◌, ap, subst, arith, Option, Some, None}
-use Rattle.std.specs.Prelude.{slice_get}
 use Rattle.std.proofs.lemmas.Bool.{ltb-true, ltb-false, le-ltb, not-true, not_from_false, cases_lt, or_parts, true≢false}
-use Rattle.std.proofs.lemmas.List.Elements.{recursion_from_All}
-use Rattle.std.proofs.lemmas.Option.{same_Some, slice_get_within}
+use Rattle.std.proofs.{lemmas.List.Elements.recursion_from_All, lemmas.Option.{same_Some, slice_get_within}}
+use Rattle.std.specs.Prelude.{slice_get}
 use Rattle.mt_log.specs.Contents.{Contents, mark_of}
-use Rattle.mt_crashes.specs.Fronts.{Numbers, greatest, cutoff_of, last_end, is_void, In, HoldResume}
-use Rattle.mt_crashes.specs.Histories.{Placed, upto}
-use Rattle.mt_crashes.specs.Bases.{CheckpointView, Slots, IsCheckpointOf}
-use Rattle.mt_crashes.specs.Recoveries.{resume_of, checkpoint_ends}
+use Rattle.mt_crashes.specs.{Fronts.{Numbers, greatest, cutoff_of, last_end, is_void, In, HoldResume}, Histories.{Placed, upto}}
+use Rattle.mt_crashes.specs.{Bases.{CheckpointView, Slots, IsCheckpointOf}, Recoveries.{resume_of, checkpoint_ends}}
 use Rattle.mt_crashes.specs.Stores.{Store, LogNow, SlotNow, at_rest, only_this, MayLeaveFront, Recovers, Serves, Reaches}
 use Rattle.mt_crashes.specs.Invariants.{by_worker, IsFrontOf, Guards, HasLog, Holds, HasTopLog, HasTopSlot, IsStore}
 use Rattle.mt_crashes.proofs.Members.{in_filter, filter_in, filter_filter, filter_same, in_place, place_in, no_some, all_at}
 use Rattle.mt_crashes.proofs.FrontLaws.{from_cutoff, upto_last, cutoff_upto_last, ends_last, ends_cutoff, below_greatest, greatest_in, void_from, void_later, void_cases}
-use Rattle.mt_crashes.proofs.Bases.{base_upto}
-use Rattle.mt_crashes.proofs.Invariant.{within_place, map_place, place_map, rise_filter, stamp_upto_mark, resume_upto_mark, left_at_rest}
+use Rattle.mt_crashes.proofs.{Bases.base_upto, Invariant.{within_place, map_place, place_map, rise_filter, stamp_upto_mark, resume_upto_mark, left_at_rest}}
 
 -- ---- a recovery
 

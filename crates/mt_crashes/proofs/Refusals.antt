@@ -1,21 +1,14 @@
 -- What no recovery answers, and one that is one.
 use Rattle.std.proofs.Common.{◌≡◌, ◌≢◌, ◌⊎◌, inl, inr, ℕ, zero, suc, ◌<◌, ◌≤◌, true, false, List, [], ◌∷◌, refl, sym, ◌∙◌, ap, subst, arith, Option, Some, None}
-use Rattle.std.specs.FinMap.{get, get-empty, empty}
-use Rattle.std.proofs.lemmas.List.Sorted.{IsPermutation-refl}
-use Rattle.std.proofs.lemmas.Bool.{lt-ltb, le-ltb, and_parts, and_from, not-true, not_from_false, true≢false}
+use Rattle.std.proofs.{lemmas.List.Sorted.IsPermutation-refl, lemmas.Bool.{lt-ltb, le-ltb, and_parts, and_from, not-true, not_from_false, true≢false}}
 use Rattle.std.proofs.lemmas.Option.{same_Some}
-use Rattle.mt_rows.specs.Rows.{Bytes}
-use Rattle.mt_rows.specs.Tenants.{owned_cmp, Contents as Pairs}
-use Rattle.mt_rows.specs.declared.record.Record.{Record}
+use Rattle.std.specs.FinMap.{get, get-empty, empty}
+use Rattle.mt_rows.specs.{Rows.Bytes, Tenants.{owned_cmp, Contents as Pairs}, declared.record.Record.Record}
 use Rattle.mt_log.specs.Contents.{Contents}
 use Rattle.mt_tape.proofs.RowLaws.{get-with_row_same}
 use Rattle.mt_crashes.specs.Fronts.{In, Rise, cutoff_of, is_void, all_voids, all_records, is_replayed, IsReplay, key_of, with_change, after_changes}
-use Rattle.mt_crashes.specs.Bases.{CheckpointView, Slots}
-use Rattle.mt_crashes.specs.Recoveries.{MayUse, HasSlot, IsRecovered}
-use Rattle.mt_crashes.specs.Examples.{change, fronts_of_two}
-use Rattle.mt_crashes.proofs.Members.{no_some, in_filter, filter_in, in_permuted, permuted_in}
-use Rattle.mt_crashes.proofs.Invariant.{rise_in}
-use Rattle.mt_crashes.proofs.Bases.{untouched}
+use Rattle.mt_crashes.specs.{Bases.{CheckpointView, Slots}, Recoveries.{MayUse, HasSlot, IsRecovered}, Examples.{change, fronts_of_two}}
+use Rattle.mt_crashes.proofs.{Members.{no_some, in_filter, filter_in, in_permuted, permuted_in}, Invariant.rise_in, Bases.untouched}
 
 -- what is replayed over nothing counts
 counts : (fronts : List Contents) (rs : List Record) (r : Record) → IsReplay 0 fronts rs → In r rs

@@ -1,10 +1,7 @@
 -- A store keeps its invariant in a call on one of its slots.
-use Rattle.std.proofs.Common.{◌≡◌, ◌⊎◌, inl, inr, ⊎_elim, ℕ, true, refl, sym, ◌∙◌, subst, Option, Some}
+use Rattle.std.proofs.{Common.{◌≡◌, ◌⊎◌, inl, inr, ⊎_elim, ℕ, true, refl, sym, ◌∙◌, subst, Option, Some}, lemmas.Bool.{true≢false}}
 use Rattle.std.specs.Prelude.{slice_get, slice_set}
-use Rattle.std.proofs.lemmas.Bool.{true≢false}
-use Rattle.mt_crashes.specs.Fronts.{In}
-use Rattle.mt_crashes.specs.Bases.{CheckpointView, IsCheckpointOf}
-use Rattle.mt_crashes.specs.Stores.{Store, IsFresh, WritesSlot}
+use Rattle.mt_crashes.specs.{Fronts.In, Bases.{CheckpointView, IsCheckpointOf}, Stores.{Store, IsFresh, WritesSlot}}
 use Rattle.mt_crashes.specs.Invariants.{HasTopLog, HasTopSlot, IsStore}
 use Rattle.mt_crashes.proofs.Invariant.{after_set, before_set, one_there}
 

@@ -1,16 +1,10 @@
 -- A store keeps its invariant in a step, whether that places a change or none.
 use Rattle.std.proofs.Common.{◌≡◌, inl, inr, ⊎_elim, ℕ, ◌+◌, ◌<◌, ◌≤◌, Bool, true, false, not, cond, List, [], ◌∷◌, ◌++◌, length, refl, sym, ◌∙◌, ap, subst, arith}
+use Rattle.std.proofs.{lemmas.Bool.not_from_false, lemmas.List.Elements.filter-append}
 use Rattle.std.specs.List.{filter}
-use Rattle.std.proofs.lemmas.Bool.{not_from_false}
-use Rattle.std.proofs.lemmas.List.Elements.{filter-append}
-use Rattle.mt_crashes.specs.Fronts.{Numbers, is_void, In}
-use Rattle.mt_crashes.specs.Histories.{Placed}
-use Rattle.mt_crashes.specs.Bases.{CheckpointView, IsCheckpointOf}
-use Rattle.mt_crashes.specs.Stores.{Store, StepsOn, Places}
+use Rattle.mt_crashes.specs.{Fronts.{Numbers, is_void, In}, Histories.Placed, Bases.{CheckpointView, IsCheckpointOf}, Stores.{Store, StepsOn, Places}}
 use Rattle.mt_crashes.specs.Invariants.{by_worker, IsStore}
-use Rattle.mt_crashes.proofs.Members.{in_left, in_either}
-use Rattle.mt_crashes.proofs.Bases.{base_push}
-use Rattle.mt_crashes.proofs.Invariant.{rise_push}
+use Rattle.mt_crashes.proofs.{Members.{in_left, in_either}, Bases.base_push, Invariant.rise_push}
 
 later_slot : (old steps : ℕ) (voids : List Numbers) (history : List Placed) (c : CheckpointView) → old ≤ steps → IsCheckpointOf old voids history c
     → IsCheckpointOf steps voids history c

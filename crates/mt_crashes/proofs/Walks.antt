@@ -1,27 +1,15 @@
 -- Scans that ran beside changes make a base.
 use Rattle.std.proofs.Common.{◌≡◌, ◌≢◌, inl, inr, ⊎_elim, ℕ, zero, suc, ◌≤◌, Bool, true, false, cond, ltb, not, List, [], ◌∷◌, map, refl, sym, ◌∙◌, ap, subst, arith, Option, Some, None, IsSome, Contains}
-use Rattle.std.specs.declared.cmp.Ordering.{Ordering}
-use Rattle.std.specs.declared.cmp.Ordering.TheVariants.{Less, Equal, Greater}
-use Rattle.std.specs.Ordering.{nat_cmp, is_lt, is_le, eq_by_cmp, ordering_reverse}
-use Rattle.std.specs.Cmp.Lexicographic.{slice_cmp}
-use Rattle.std.proofs.lemmas.Cmp.{nat_list_cmp_total}
-use Rattle.std.specs.FinMap.{get, empty, find, get-from_entries}
-use Rattle.std.proofs.lemmas.Bool.{ltb-true, ltb-false, not-true, true≢false}
-use Rattle.std.proofs.lemmas.List.Elements.{All-contains}
+use Rattle.std.proofs.{lemmas.Cmp.nat_list_cmp_total, lemmas.Bool.{ltb-true, ltb-false, not-true, true≢false}, lemmas.List.Elements.All-contains}
 use Rattle.std.proofs.lemmas.List.{map-append}
-use Rattle.mt_rows.specs.Rows.{Bytes, Columns, shown}
-use Rattle.mt_rows.specs.Maps.{Map, is_walked}
-use Rattle.mt_rows.specs.Tenants.{Contents as Pairs}
-use Rattle.mt_rows.specs.declared.record.Record.{Record}
+use Rattle.std.specs.{declared.cmp.Ordering.Ordering, declared.cmp.Ordering.TheVariants.{Less, Equal, Greater}}
+use Rattle.std.specs.{Ordering.{nat_cmp, is_lt, is_le, eq_by_cmp, ordering_reverse}, Cmp.Lexicographic.slice_cmp, FinMap.{get, empty, find, get-from_entries}}
+use Rattle.mt_rows.specs.{Rows.{Bytes, Columns, shown}, Maps.{Map, is_walked}, Tenants.{Contents as Pairs}, declared.record.Record.Record}
 use Rattle.mt_rows.proofs.ContentLaws.{same_owner, tied_owner, get-tenant_map}
 use Rattle.mt_runs.specs.Scans.{IsLawful}
-use Rattle.mt_crashes.specs.Fronts.{In, key_of, after_changes}
-use Rattle.mt_crashes.specs.Histories.{Placed, upto, changes_of, pairs_upto, map_upto}
-use Rattle.mt_crashes.specs.Bases.{over, Stays, IsBase}
-use Rattle.mt_crashes.specs.Walks.{Page, IsFromTo, Walks, joined, AreWalked}
-use Rattle.mt_crashes.specs.Invariants.{RisePlaced}
-use Rattle.mt_crashes.proofs.Members.{in_filter, in_either, in_left, in_right, map_in}
-use Rattle.mt_crashes.proofs.Bases.{after_append, untouched, parted}
+use Rattle.mt_crashes.specs.{Fronts.{In, key_of, after_changes}, Histories.{Placed, upto, changes_of, pairs_upto, map_upto}, Bases.{over, Stays, IsBase}}
+use Rattle.mt_crashes.specs.{Walks.{Page, IsFromTo, Walks, joined, AreWalked}, Invariants.RisePlaced}
+use Rattle.mt_crashes.proofs.{Members.{in_filter, in_either, in_left, in_right, map_in}, Bases.{after_append, untouched, parted}}
 
 -- ---- keys
 

@@ -1,11 +1,8 @@
 -- The pairs from which a recovery replays: what a checkpoint that was written while the store ran has to be for that.
-use Rattle.std.specs.Prelude.{◌≡◌, ◌≢◌, ◌⊎◌, ℕ, ◌<◌, ◌≤◌, true, nat_lt, List, Option}
-use Rattle.std.specs.List.{filter}
+use Rattle.std.specs.{Prelude.{◌≡◌, ◌≢◌, ◌⊎◌, ℕ, ◌<◌, ◌≤◌, true, nat_lt, List, Option}, List.filter}
+use Rattle.mt_rows.specs.{Rows.Bytes, Tenants.{Contents as Pairs}}
+use Rattle.mt_crashes.specs.{Fronts.{Numbers, In, is_void, key_of}, Histories.{Placed, pairs_upto}}
 use Rattle.std.specs.FinMap as pairs
-use Rattle.mt_rows.specs.Rows.{Bytes}
-use Rattle.mt_rows.specs.Tenants.{Contents as Pairs}
-use Rattle.mt_crashes.specs.Fronts.{Numbers, In, is_void, key_of}
-use Rattle.mt_crashes.specs.Histories.{Placed, pairs_upto}
 
 -- the changes with a number over n
 abbrev pub over : ℕ → List Placed → List Placed

@@ -1,9 +1,7 @@
 -- Two logs of a store that was recovered once: what a recovery of them answers, as an example.
 use Rattle.std.specs.Prelude.{ℕ, List, [], ◌∷◌, Some}
-use Rattle.mt_rows.specs.declared.record.Record.{Record}
-use Rattle.mt_rows.specs.declared.record.Batch.{Batch}
-use Rattle.mt_log.specs.declared.batch.LogBatch.TheVariants.{Records, Resume}
-use Rattle.mt_log.specs.Contents.{Contents}
+use Rattle.mt_rows.specs.{declared.record.Record.Record, declared.record.Batch.Batch}
+use Rattle.mt_log.specs.{declared.batch.LogBatch.TheVariants.{Records, Resume}, Contents.Contents}
 
 -- a change with a number, of a key and with a row of its own
 abbrev pub change : ℕ → Record

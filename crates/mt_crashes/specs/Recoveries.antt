@@ -1,11 +1,10 @@
 -- What a recovery answers for the fronts of all logs and what was read of the checkpoints' slots, and when it refuses them.
 use Rattle.std.specs.Prelude.{◌≡◌, ◌≢◌, ◌⊎◌, ℕ, ◌<◌, ◌≤◌, max, false, List, [], ◌∷◌, length, Option, Some, None, slice_get}
-use Rattle.std.specs.FinMap as pairs
-use Rattle.mt_rows.specs.Tenants.{Contents as Pairs}
-use Rattle.mt_rows.specs.declared.record.Record.{Record}
+use Rattle.mt_rows.specs.{Tenants.{Contents as Pairs}, declared.record.Record.Record}
 use Rattle.mt_log.specs.Contents.{Contents}
 use Rattle.mt_crashes.specs.Bases.{CheckpointView, Slots}
 use Rattle.mt_crashes.specs.Fronts.{In, greatest, cutoff_of, last_end, is_void, all_voids, records_of, IsReplay, after_changes, HoldResume, IsLastServed}
+use Rattle.std.specs.FinMap as pairs
 
 -- it ended by the cutoff, and in no void range
 pub record MayUse (fronts : List Contents) (c : CheckpointView) : Type 0 where

@@ -2,20 +2,13 @@
 
 ghost use Rattle.std.specs.Prelude.{◌≡◌, ◌≢◌, ◌⊎◌, ◌<◌, ◌≤◌, ℕ, true, false, List, [], ◌∷◌, length, Option, Some, None, slice_get};
 ghost use Rattle.std.specs.FinMap as pairs;
-ghost use Rattle.mt_rows.specs.Tenants.{Contents as Pairs};
-ghost use Rattle.mt_rows.specs.Rows.{Bytes};
-ghost use Rattle.mt_rows.specs.declared.record.Record.{Record};
+ghost use Rattle.mt_rows.specs.{Tenants.{Contents as Pairs}, Rows.Bytes, declared.record.Record.Record, TenantPairs.{HasTenants, KeepsQuotas}};
 ghost use Rattle.mt_disk.specs.Disk.{DiskState, MayLeave, LeavesOnly, found_with};
-ghost use Rattle.mt_log.specs.declared.batch.LogBatch.{LogBatch};
-ghost use Rattle.mt_log.specs.Contents.{Contents, IsContents, JoinsAndRises, mark_of, log_bytes, with_batch};
+ghost use Rattle.mt_log.specs.{declared.batch.LogBatch.LogBatch, Contents.{Contents, IsContents, JoinsAndRises, mark_of, log_bytes, with_batch}};
 ghost use Rattle.mt_log.specs.Fronts.{HasFront, IsLeft, IsAtRest};
-ghost use Rattle.mt_crashes.specs.Fronts.{In, cutoff_of, is_void, all_voids, all_records, key_of, after_changes};
-ghost use Rattle.mt_crashes.specs.Histories.{pairs_upto};
-ghost use Rattle.mt_crashes.specs.Bases.{CheckpointView, Slots, IsBase};
-ghost use Rattle.mt_crashes.specs.Walks.{AreWalked};
-ghost use Rattle.mt_crashes.specs.Recoveries.{MayUse, HasSlot, IsRecovered, AreSet, StandsTwice, NoneOlder};
-ghost use Rattle.mt_rows.specs.TenantPairs.{HasTenants, KeepsQuotas};
-ghost use Rattle.mt_crashes.specs.Examples.{change, fronts_of_two};
+ghost use Rattle.mt_crashes.specs.{Fronts.{In, cutoff_of, is_void, all_voids, all_records, key_of, after_changes}, Histories.pairs_upto};
+ghost use Rattle.mt_crashes.specs.{Bases.{CheckpointView, Slots, IsBase}, Walks.AreWalked};
+ghost use Rattle.mt_crashes.specs.{Recoveries.{MayUse, HasSlot, IsRecovered, AreSet, StandsTwice, NoneOlder}, Examples.{change, fronts_of_two}};
 ghost use Rattle.mt_crashes.specs.Stores.{Store, new_store, Leads, MayLeaveFronts, MayLeaveSlots, ReachesAt, AllReach};
 
 /// Whatever has happened to a store of 1 to 64 logs, and whatever a crash then leaves of each and of the

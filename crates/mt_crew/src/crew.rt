@@ -1,9 +1,7 @@
 //! Accepting, handing on, serving, joining.
 
-ghost use Rattle.std.specs.Prelude.{◌≡◌, ◌≤◌, ◌<◌, ◌^◌, IfOk, vec_len, length};
-ghost use Rattle.std.specs.List.{sum_by};
-ghost use Rattle.mt_crew.specs.declared.crew.Served.{Served};
-ghost use Rattle.mt_crew.specs.declared.crew.CrewFault.TheVariants.{Memory};
+ghost use Rattle.std.specs.{Prelude.{◌≡◌, ◌≤◌, ◌<◌, ◌^◌, IfOk, vec_len, length}, List.sum_by};
+ghost use Rattle.mt_crew.specs.{declared.crew.Served.Served, declared.crew.CrewFault.TheVariants.Memory};
 
 use crossbeam_channel::{Receiver, Sender, bounded};
 use std::alloc::{AllocError, Global};

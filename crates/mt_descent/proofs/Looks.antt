@@ -1,41 +1,22 @@
 -- What a search finds and a load takes, as long as the range or the version stands.
-use Rattle.std.proofs.Common.{◌≡◌, ◌≢◌, ℕ, ◌+◌, ◌<◌, ◌≤◌, max, List, length, Option, Some, None, refl, sym, ap, subst, ◌∙◌, arith}
-use Rattle.std.specs.Prelude.{IsSomeAnd}
-use Rattle.std.specs.FinMap.{get}
+use Rattle.std.proofs.{Common.{◌≡◌, ◌≢◌, ℕ, ◌+◌, ◌<◌, ◌≤◌, max, List, length, Option, Some, None, refl, sym, ap, subst, ◌∙◌, arith}, lemmas.Option.same_Some}
+use Rattle.std.proofs.Math.Nat.{le-max_left, le-max_right, max-le}
+use Rattle.std.specs.{Prelude.IsSomeAnd, FinMap.get}
 use Rattle.mt_slices.specs.Slices.{slice_of, mark_of, suffix_of}
 use Rattle.mt_rows.specs.Rows.{Bytes, Columns}
-use Rattle.mt_border.specs.declared.entry.Entry.{Entry}
-use Rattle.mt_border.specs.declared.entry.Pair.{Pair}
-use Rattle.mt_border.specs.declared.entry.Held.{Held}
-use Rattle.mt_border.specs.declared.entry.Held.TheVariants as helds
-use Rattle.mt_border.specs.declared.entry.FoundKind.{FoundKind}
-use Rattle.mt_border.specs.declared.entry.FoundKind.TheVariants.{ThisKey, OtherLong, Link as ToTree}
-use Rattle.mt_border.specs.declared.entry.Find.{Find}
-use Rattle.mt_border.specs.declared.entry.Find.TheVariants as finds
-use Rattle.mt_border.specs.Node.{Node as BorderNode, IsFound, Finds}
-use Rattle.std.proofs.lemmas.Option.{same_Some}
-use Rattle.std.proofs.Math.Nat.{le-max_left, le-max_right, max-le}
-use Rattle.mt_border.specs.Entry.{IsKind, IsLink, pair_of}
-use Rattle.mt_border.specs.Entries.{IsMissing}
-use Rattle.mt_border.specs.Contents.{owned}
-use Rattle.mt_arena.specs.NodeView.{NodeView}
-use Rattle.mt_arena.specs.Forests.{tree_at}
-use Rattle.mt_arena.specs.Layers.{slot_at}
-use Rattle.mt_arena.specs.Arena.{ArenaView, IsArena, content_of}
-use Rattle.mt_arena.specs.Accesses.{at}
-use Rattle.mt_arena.specs.Stands.{StandsAt}
+use Rattle.mt_border.specs.{declared.entry.Entry.Entry, declared.entry.Pair.Pair, declared.entry.Held.Held, declared.entry.FoundKind.FoundKind}
+use Rattle.mt_border.specs.{declared.entry.FoundKind.TheVariants.{ThisKey, OtherLong, Link as ToTree}, declared.entry.Find.Find}
+use Rattle.mt_border.specs.{Node.{Node as BorderNode, IsFound, Finds}, Entry.{IsKind, IsLink, pair_of}, Entries.IsMissing, Contents.owned}
+use Rattle.mt_arena.specs.{NodeView.NodeView, Forests.tree_at, Layers.slot_at, Arena.{ArenaView, IsArena, content_of}, Accesses.at, Stands.StandsAt}
 use Rattle.mt_arena.specs.Ways.{BelongsIn, StandsFor}
-use Rattle.mt_arena.proofs.Homes.{begun}
-use Rattle.mt_arena.proofs.Owners.{none_elsewhere, none_beside}
-use Rattle.mt_arena.proofs.Down.{goes_on}
-use Rattle.mt_operation.specs.declared.walk.Walk.{Walk}
-use Rattle.mt_operation.specs.declared.walk.Taken.{Taken}
-use Rattle.mt_operation.specs.declared.walk.Taken.TheVariants as takens
-use Rattle.mt_descent.specs.Seen.{RangeStands, Stands}
-use Rattle.mt_descent.specs.Pasts.{Past, IsNow, AreStamped}
-use Rattle.mt_descent.specs.KeptWalks.{GoesThrough, IsAtBorder, IsInSlot, IsAtLoad, Had, IsKept}
+use Rattle.mt_arena.proofs.{Homes.begun, Owners.{none_elsewhere, none_beside}, Down.goes_on}
+use Rattle.mt_operation.specs.{declared.walk.Walk.Walk, declared.walk.Taken.Taken}
+use Rattle.mt_descent.specs.{Seen.{RangeStands, Stands}, Pasts.{Past, IsNow, AreStamped}, KeptWalks.{GoesThrough, IsAtBorder, IsInSlot, IsAtLoad, Had, IsKept}}
 use Rattle.mt_descent.specs.WalkMoves.{FindsIn, after_search, after_load, TakesOut, Loads}
 use Rattle.mt_descent.proofs.Ways.{live_tree}
+use Rattle.mt_border.specs.declared.entry.Held.TheVariants as helds
+use Rattle.mt_border.specs.declared.entry.Find.TheVariants as finds
+use Rattle.mt_operation.specs.declared.walk.Taken.TheVariants as takens
 
 -- what a border node finds, its view finds
 in_slot : (n : NodeView) (b : BorderNode) (slot : ℕ) (key : Bytes) (layer : ℕ) (kind : FoundKind) → n.slots ≡ b.slots

@@ -1,33 +1,18 @@
 -- What is kept of an operation stays under each step of another one, by what that step leaves to others alone.
-use Rattle.std.proofs.Common.{◌≡◌, ◌≢◌, ℕ, ◌+◌, ◌<◌, ◌≤◌, Bool, true, false, List, length, Option, None, refl, sym, ap, subst, ◌∙◌, arith}
-use Rattle.std.specs.FinMap.{get}
-use Rattle.mt_version.specs.Parts.{Parts}
-use Rattle.mt_version.specs.Changes.{IsStable, range_age}
-use Rattle.mt_version.proofs.CallerLemmas as versions
+use Rattle.std.{proofs.Common.{◌≡◌, ◌≢◌, ℕ, ◌+◌, ◌<◌, ◌≤◌, Bool, true, false, List, length, Option, None, refl, sym, ap, subst, ◌∙◌, arith}, specs.FinMap.get}
+use Rattle.mt_version.specs.{Parts.Parts, Changes.{IsStable, range_age}}
 use Rattle.mt_interior.specs.Fences.{end_of}
 use Rattle.mt_slices.specs.Slices.{slice_of, mark_of, suffix_of}
 use Rattle.mt_rows.specs.Rows.{Bytes, Columns}
-use Rattle.mt_border.specs.Contents.{IsOfTree, owned}
-use Rattle.mt_border.specs.declared.entry.Entry.{Entry}
-use Rattle.mt_border.specs.declared.entry.FoundKind.{FoundKind}
-use Rattle.mt_border.specs.Entry.{IsKind}
-use Rattle.mt_arena.specs.declared.tree.Tree.{Tree}
-use Rattle.mt_arena.specs.declared.tree.Standing.{Standing}
-use Rattle.mt_arena.specs.declared.tree.Standing.TheVariants.{Made, Live, Dead}
-use Rattle.mt_arena.specs.NodeView.{NodeView}
-use Rattle.mt_arena.specs.Forests.{tree_at}
-use Rattle.mt_arena.specs.Layers.{slot_at}
-use Rattle.mt_arena.specs.Arena.{ArenaView}
-use Rattle.mt_arena.specs.Accesses.{at}
-use Rattle.mt_arena.specs.Guarantee.{NodesGuarantee, Changes, TreeChanges, HasSameKeys}
+use Rattle.mt_border.specs.{Contents.{IsOfTree, owned}, declared.entry.Entry.Entry, declared.entry.FoundKind.FoundKind, Entry.IsKind}
+use Rattle.mt_arena.specs.{declared.tree.Tree.Tree, declared.tree.Standing.Standing, declared.tree.Standing.TheVariants.{Made, Live, Dead}, NodeView.NodeView}
+use Rattle.mt_arena.specs.{Forests.tree_at, Layers.slot_at, Arena.ArenaView, Accesses.at, Guarantee.{NodesGuarantee, Changes, TreeChanges, HasSameKeys}}
 use Rattle.mt_operation.specs.declared.phase.Phase.{Phase}
 use Rattle.mt_operation.specs.declared.phase.Phase.TheVariants.{Enter, Pick, Child, Verify, Search, Load, Confirm, Forward, Lock, Snap, Check, Done}
-use Rattle.mt_operation.specs.declared.walk.Taken.{Taken}
-use Rattle.mt_operation.specs.declared.walk.Taken.TheVariants.{Missing, Row, Link, Nothing}
-use Rattle.mt_operation.specs.declared.walk.Walk.{Walk}
-use Rattle.mt_descent.specs.Seen.{RangeStands, Stands, WasSeen, IsRemembered, Covers, child_for, IsPicked, HasNext}
-use Rattle.mt_descent.specs.Pasts.{Past, ExtendsPast}
+use Rattle.mt_operation.specs.{declared.walk.Taken.Taken, declared.walk.Taken.TheVariants.{Missing, Row, Link, Nothing}, declared.walk.Walk.Walk}
+use Rattle.mt_descent.specs.{Seen.{RangeStands, Stands, WasSeen, IsRemembered, Covers, child_for, IsPicked, HasNext}, Pasts.{Past, ExtendsPast}}
 use Rattle.mt_descent.specs.KeptWalks.{GoesThrough, slice_in, IsAtPick, IsAtBorder, IsInSlot, HasSlot, Had, TakenHolds, TakenWasRight, IsAtJudge, KeptAt}
+use Rattle.mt_version.proofs.CallerLemmas as versions
 
 -- a node that is live now was live
 was_live : (a b : Bool) → (a ≡ true → b ≡ true) → b ≡ false → a ≡ false

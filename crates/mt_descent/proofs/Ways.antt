@@ -1,35 +1,20 @@
 -- How the reading phases lead from node to node: what each keeps, from what was kept before.
 use Rattle.std.proofs.Common.{◌≡◌, ◌≢◌, ℕ, ◌*◌, ◌<◌, ◌≤◌, ◌^◌, Bool, true, false, List, [], ◌∷◌, length, Option, Some, None, refl, sym, ap, subst, ◌∙◌, arith}
+use Rattle.std.proofs.{lemmas.Option.same_Some, lemmas.Bool.{leb-true, leb-false}}
 use Rattle.std.specs.Prelude.{nat_le, slice_index, if◌then◌else◌}
-use Rattle.std.proofs.lemmas.Option.{same_Some}
-use Rattle.std.proofs.lemmas.Bool.{leb-true, leb-false}
-use Rattle.mt_version.specs.Parts.{Parts}
-use Rattle.mt_version.specs.Changes.{IsStable, SameButLock}
-use Rattle.mt_version.proofs.CallerLemmas as versions
-use Rattle.mt_interior.specs.Node.{InteriorNode}
-use Rattle.mt_interior.specs.Places.{place_of}
-use Rattle.mt_interior.specs.Fences.{end_of, IsWithinBounds}
-use Rattle.mt_interior.proofs.PlaceLemmas.{place_of-parts, between-place}
-use Rattle.mt_interior.proofs.CallerLemmas.{place_of-le-length}
-use Rattle.mt_slices.proofs.Bytes.{AreBytes, bytes-drop}
-use Rattle.mt_slices.proofs.Numbers.{slice_at-number, number_lt}
-use Rattle.mt_slices.specs.Slices.{slice_at, slice_of, rest_of}
+use Rattle.mt_version.specs.{Parts.Parts, Changes.{IsStable, SameButLock}}
+use Rattle.mt_interior.specs.{Node.InteriorNode, Places.place_of, Fences.{end_of, IsWithinBounds}}
+use Rattle.mt_interior.proofs.{PlaceLemmas.{place_of-parts, between-place}, CallerLemmas.place_of-le-length}
+use Rattle.mt_slices.{proofs.{Bytes.{AreBytes, bytes-drop}, Numbers.{slice_at-number, number_lt}}, specs.Slices.{slice_at, slice_of, rest_of}}
 use Rattle.mt_rows.specs.Rows.{Bytes, Columns}
-use Rattle.mt_arena.specs.declared.tree.Standing.{Standing}
-use Rattle.mt_arena.specs.declared.tree.Standing.TheVariants.{Made, Live, Dead}
-use Rattle.mt_arena.specs.NodeView.{NodeView}
-use Rattle.mt_arena.specs.Nodes.{IsNode, IsChild, bounds}
-use Rattle.mt_arena.specs.Forests.{tree_at}
-use Rattle.mt_arena.specs.Arena.{ArenaView, IsArena}
-use Rattle.mt_arena.specs.Accesses.{at}
-use Rattle.mt_operation.specs.declared.walk.Aim.{Aim}
-use Rattle.mt_operation.specs.declared.walk.Aim.TheVariants as aims
-use Rattle.mt_operation.specs.declared.walk.Walk.{Walk}
-use Rattle.mt_operation.specs.declared.phase.Phase.TheVariants.{Forward}
-use Rattle.mt_descent.specs.Seen.{RangeStands, Stands, WasSeen, Covers, child_for, HasNext}
-use Rattle.mt_descent.specs.Pasts.{Past}
+use Rattle.mt_arena.specs.{declared.tree.Standing.Standing, declared.tree.Standing.TheVariants.{Made, Live, Dead}, NodeView.NodeView}
+use Rattle.mt_arena.specs.{Nodes.{IsNode, IsChild, bounds}, Forests.tree_at, Arena.{ArenaView, IsArena}, Accesses.at}
+use Rattle.mt_operation.specs.{declared.walk.Aim.Aim, declared.walk.Walk.Walk, declared.phase.Phase.TheVariants.Forward}
+use Rattle.mt_descent.specs.{Seen.{RangeStands, Stands, WasSeen, Covers, child_for, HasNext}, Pasts.Past}
 use Rattle.mt_descent.specs.KeptWalks.{GoesThrough, slice_in, IsAtPick, IsAtChild, IsAtVerify, IsAtBorder, IsAtForward, KeptAt, IsKept}
 use Rattle.mt_descent.specs.WalkMoves.{arrival, arrival_at, walk_onto, walk_anew, after_pick, after_change, walk_here, walk_to_next, after_forward}
+use Rattle.mt_version.proofs.CallerLemmas as versions
+use Rattle.mt_operation.specs.declared.walk.Aim.TheVariants as aims
 
 -- a slice fits 64 bits
 slice_lt : (xs : Bytes) → AreBytes xs → slice_at xs < 2 ^ 64

@@ -1,12 +1,8 @@
 -- A remembered version beside the one that its node has now.
 use Rattle.std.specs.Prelude.{◌≡◌, ◌≢◌, ◌<◌, ◌≤◌, ◌⊎◌, ℕ, true, false, [], Option, Some, None, length, slice_index}
-use Rattle.mt_version.specs.Parts.{Parts}
-use Rattle.mt_version.specs.Changes.{Ages, range_age, insert_age}
-use Rattle.mt_interior.specs.Places.{place_of}
-use Rattle.mt_interior.specs.Fences.{end_of}
-use Rattle.mt_arena.specs.NodeView.{NodeView}
-use Rattle.mt_arena.specs.Arena.{ArenaView}
-use Rattle.mt_arena.specs.Accesses.{at}
+use Rattle.mt_version.specs.{Parts.Parts, Changes.{Ages, range_age, insert_age}}
+use Rattle.mt_interior.specs.{Places.place_of, Fences.end_of}
+use Rattle.mt_arena.specs.{NodeView.NodeView, Arena.ArenaView, Accesses.at}
 
 -- the range stands: the node is live, and was not marked for a split, nor split, since the version was seen
 pub record RangeStands (n : NodeView) (seen : Parts) : Type 0 where

@@ -1,34 +1,18 @@
 -- Where each phase leads: who is in its way, and what a walk is after it.
 use Rattle.std.specs.Prelude.{◌≡◌, ◌+◌, ◌<◌, ℕ, max, Bool, length, if◌then◌else◌, nat_le, Option, Some, None}
-use Rattle.mt_version.specs.Parts.{Parts}
-use Rattle.mt_version.specs.Changes.{IsMarked, IsStable, SameButLock}
+use Rattle.mt_version.specs.{Parts.Parts, Changes.{IsMarked, IsStable, SameButLock}}
 use Rattle.mt_slices.specs.Slices.{slice_of, mark_of}
 use Rattle.mt_rows.specs.Rows.{Bytes, Columns}
-use Rattle.mt_border.specs.declared.entry.Pair.{Pair}
-use Rattle.mt_border.specs.declared.entry.Find.{Find}
-use Rattle.mt_border.specs.declared.entry.Find.TheVariants as finds
-use Rattle.mt_border.specs.declared.entry.FoundKind.TheVariants.{OtherLong}
-use Rattle.mt_border.specs.declared.entry.Held.TheVariants as helds
-use Rattle.mt_border.specs.Entries.{IsMissing}
-use Rattle.mt_arena.specs.declared.tree.Standing.{Standing}
-use Rattle.mt_arena.specs.declared.tree.Standing.TheVariants.{Dead}
-use Rattle.mt_arena.specs.NodeView.{NodeView}
-use Rattle.mt_arena.specs.NodeFacts.{IsUnstable}
-use Rattle.mt_arena.specs.Layers.{slot_at}
-use Rattle.mt_arena.specs.Edits.{locked}
-use Rattle.mt_arena.specs.Arena.{ArenaView, content_of, Guarantee}
-use Rattle.mt_arena.specs.Accesses.{at, with_node}
-use Rattle.mt_operation.specs.declared.walk.Aim.{Aim}
-use Rattle.mt_operation.specs.declared.walk.Aim.TheVariants as aims
-use Rattle.mt_operation.specs.declared.phase.Phase.{Phase}
+use Rattle.mt_border.specs.{declared.entry.Pair.Pair, declared.entry.Find.Find, declared.entry.FoundKind.TheVariants.OtherLong, Entries.IsMissing}
+use Rattle.mt_arena.specs.{declared.tree.Standing.Standing, declared.tree.Standing.TheVariants.Dead, NodeView.NodeView, NodeFacts.IsUnstable, Layers.slot_at}
+use Rattle.mt_arena.specs.{Edits.locked, Arena.{ArenaView, content_of, Guarantee}, Accesses.{at, with_node}, Settled.IsSettled}
+use Rattle.mt_operation.specs.{declared.walk.Aim.Aim, declared.phase.Phase.Phase}
 use Rattle.mt_operation.specs.declared.phase.Phase.TheVariants.{Enter, Pick, Child, Verify, Search, Load, Confirm, Forward, Lock, Judge, Snap, Done}
-use Rattle.mt_operation.specs.declared.walk.Taken.{Taken}
-use Rattle.mt_operation.specs.declared.walk.Taken.TheVariants.{Missing, Row, Link, Nothing}
-use Rattle.mt_operation.specs.declared.walk.Walk.{Walk}
-use Rattle.mt_descent.specs.Seen.{IsOutdated}
-use Rattle.mt_descent.specs.KeptWalks.{IsInSlot, IsAtJudge, IsKept}
-use Rattle.mt_arena.specs.Settled.{IsSettled}
-use Rattle.mt_descent.specs.Pasts.{Past}
+use Rattle.mt_operation.specs.{declared.walk.Taken.Taken, declared.walk.Taken.TheVariants.{Missing, Row, Link, Nothing}, declared.walk.Walk.Walk}
+use Rattle.mt_descent.specs.{Seen.IsOutdated, KeptWalks.{IsInSlot, IsAtJudge, IsKept}, Pasts.Past}
+use Rattle.mt_border.specs.declared.entry.Find.TheVariants as finds
+use Rattle.mt_border.specs.declared.entry.Held.TheVariants as helds
+use Rattle.mt_operation.specs.declared.walk.Aim.TheVariants as aims
 
 -- the node is marked, and this operation holds it
 pub record IsBlocked (n : NodeView) (holder : ℕ) : Type 0 where

@@ -3,15 +3,9 @@
 ghost use Rattle.std.specs.Prelude.{ℕ, ◌≡◌, ◌≢◌, ◌<◌, Option, Some, length};
 ghost use Rattle.mt_slices.specs.Keys.{IsStoredKey};
 ghost use Rattle.mt_rows.specs.Rows.{Bytes, Columns};
-ghost use Rattle.mt_arena.specs.Arena.{ArenaView, IsArena};
-ghost use Rattle.mt_arena.specs.Ways.{BelongsIn};
-ghost use Rattle.mt_arena.specs.Accesses.{at, IsOpen};
-ghost use Rattle.mt_arena.specs.Guarantee.{NodesGuarantee};
-ghost use Rattle.mt_operation.specs.declared.walk.Aim.{Aim};
-ghost use Rattle.mt_operation.specs.declared.walk.Walk.{Walk};
-ghost use Rattle.mt_descent.specs.Pasts.{Past, ExtendsPast};
-ghost use Rattle.mt_descent.specs.KeptWalks.{HoldsNothing, IsAtJudge, IsKept};
-ghost use Rattle.mt_operation.specs.Walks.{walk_from_top};
+ghost use Rattle.mt_arena.specs.{Arena.{ArenaView, IsArena}, Ways.BelongsIn, Accesses.{at, IsOpen}, Guarantee.NodesGuarantee};
+ghost use Rattle.mt_operation.specs.{declared.walk.Aim.Aim, declared.walk.Walk.Walk, Walks.walk_from_top};
+ghost use Rattle.mt_descent.specs.{Pasts.{Past, ExtendsPast}, KeptWalks.{HoldsNothing, IsAtJudge, IsKept}};
 
 /// A stored key may be looked for from the top tree on.
 pub fn walks_begin()

@@ -2,8 +2,7 @@
 
 ghost use Rattle.std.specs.Prelude.{◌≡◌, ◌≢◌, None, IfSome, IfNone, IsTrue, ◌↔◌};
 ghost use Rattle.mt_version.specs.Changes.{IsMarked, IsStable};
-ghost use Rattle.mt_descent.specs.Seen.{IsOutdated};
-ghost use Rattle.mt_descent.specs.WalkMoves.{IsBlocked, arrival, walk_onto, walk_into, after_change};
+ghost use Rattle.mt_descent.specs.{Seen.IsOutdated, WalkMoves.{IsBlocked, arrival, walk_onto, walk_into, after_change}};
 
 use mt_arena::Node;
 use mt_operation::{Aim, Phase, Walk};

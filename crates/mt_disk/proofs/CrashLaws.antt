@@ -1,7 +1,6 @@
 -- How `LeavesOnly` goes on, one device call at a time: for the proofs of crates that call a disk.
 use Rattle.std.proofs.Common.{◌≡◌, inl, inr, ℕ, List, [], ◌∷◌, ◌++◌, Result, Ok, Err, OnOk, OnErr, refl, sym, ◌∙◌, ap, subst, append_assoc}
-use Rattle.std.proofs.lemmas.List.{append-nil}
-use Rattle.std.proofs.lemmas.List.Elements.{All-append, All-nil, All-cons}
+use Rattle.std.proofs.{lemmas.List.append-nil, lemmas.List.Elements.{All-append, All-nil, All-cons}}
 use Rattle.mt_disk.specs.Disk.{Range, Moment, MayLeave, DiskState, moments, dirtied, Dirties, Attempts, synced, LeavesOnlyAt, LeavesOnlySince, LeavesOnly, IsDurable}
 
 -- where all that a read gives is durable, a crash leaves just that

@@ -1,10 +1,8 @@
 -- Owed changes made again, one after the other; and what a change and a sync leave of what a disk keeps.
 use Rattle.std.proofs.Common.{◌≡◌, ℕ, zero, suc, ◌+◌, ◌<◌, ◌≤◌, List, [], ◌∷◌, length, drop, Some, Result, Ok, Err, refl, sym, ◌∙◌, ap, subst, arith}
-use Rattle.std.specs.List.{slice_get}
 use Rattle.std.proofs.lemmas.Option.{same_Some, none-some}
-use Rattle.mt_disk.specs.declared.edit.Edit.{Edit}
-use Rattle.mt_disk.specs.declared.system.FileFault.{FileFault}
-use Rattle.mt_disk.specs.declared.system.FileFault.TheVariants.{NotMade, Failed}
+use Rattle.std.specs.List.{slice_get}
+use Rattle.mt_disk.specs.{declared.edit.Edit.Edit, declared.system.FileFault.FileFault, declared.system.FileFault.TheVariants.{NotMade, Failed}}
 use Rattle.mt_disk.specs.Disk.{MayLeave, dirtied}
 use Rattle.mt_disk.specs.Files.{FileEdit, FileState, Edits, IsFirst, IsAgain, Happens, Syncs, BeginsWithin, edit_of, edits_of, range_of, edited, all_owed}
 use Rattle.mt_disk.specs.MemFiles.{Commits, IsCommit}

@@ -1,11 +1,8 @@
 -- Writes and cuts of a `MemDisk` change only their range, so that they are writes and cuts of a disk.
 use Rattle.std.proofs.Common.{◌≡◌, ◌⊎◌, ◌↔◌, inl, inr, ⊎_elim, ℕ, zero, suc, ◌+◌, ◌<◌, ◌≤◌, false, nat_lt, not, ◌&&◌, List, [], ◌∷◌, ◌++◌, length, take, drop, refl, sym, ◌∙◌, ap, subst, arith, length-append, Result, Ok, Err}
-use Rattle.std.specs.List.{slice_get}
-use Rattle.std.proofs.lemmas.Option.{slice_get_past}
-use Rattle.std.proofs.lemmas.List.{append-nil}
-use Rattle.std.proofs.lemmas.List.Folds.{list_any-append}
-use Rattle.std.proofs.lemmas.Bool.{or_parts}
+use Rattle.std.proofs.{lemmas.Option.slice_get_past, lemmas.List.append-nil, lemmas.List.Folds.list_any-append, lemmas.Bool.or_parts}
 use Rattle.std.proofs.lemmas.Bool.Decides.{nat_tests}
+use Rattle.std.specs.List.{slice_get}
 use Rattle.mt_disk.specs.Disk.{Range, Moment, MayLeave, DiskState, Dirties, Attempts, is_dirty, dirtied, overwritten, moments, cut_range}
 
 -- what stands behind the bytes that were put first

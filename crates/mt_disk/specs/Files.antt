@@ -1,8 +1,6 @@
 -- A file as a system gives it: what is written stands in the system's memory until a sync, and a sync that fails may drop it.
 use Rattle.std.specs.Prelude.{◌≡◌, ℕ, ◌+◌, ◌≤◌, Bool, if◌then◌else◌, List, [], ◌∷◌, ◌++◌, length, take, map, Result, Ok, Err}
-use Rattle.mt_disk.specs.declared.edit.Edit.{Edit}
-use Rattle.mt_disk.specs.declared.edit.Edit.TheVariants.{Write, Cut}
-use Rattle.mt_disk.specs.declared.system.FileFault.{FileFault}
+use Rattle.mt_disk.specs.{declared.edit.Edit.Edit, declared.edit.Edit.TheVariants.{Write, Cut}, declared.system.FileFault.FileFault}
 use Rattle.mt_disk.specs.declared.system.FileFault.TheVariants.{NotMade, Failed}
 use Rattle.mt_disk.specs.Disk.{Range, DiskState, MayLeave, Dirties, found_with, overwritten, cut_range, synced}
 

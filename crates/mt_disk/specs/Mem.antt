@@ -1,8 +1,6 @@
 -- What a `MemDisk` shows: the state of an honest disk, and the plan by which its calls fail.
-use Rattle.std.specs.Prelude.{ℕ, List, [], ◌∷◌, ◌++◌, map, Vec, Option, Some, None, nat_lt, if◌then◌else◌}
-use Rattle.std.specs.declared.alloc.Global.{Global}
-use Rattle.mt_disk.specs.Disk.{Range, Moment, DiskState, Plan}
-use Rattle.mt_disk.specs.declared.mem.MemDisk.{MemDisk}
+use Rattle.std.specs.{Prelude.{ℕ, List, [], ◌∷◌, ◌++◌, map, Vec, Option, Some, None, nat_lt, if◌then◌else◌}, declared.alloc.Global.Global}
+use Rattle.mt_disk.specs.{Disk.{Range, Moment, DiskState, Plan}, declared.mem.MemDisk.MemDisk}
 
 -- what it keeps of a moment
 abbrev pub moment_of : Vec ℕ Global × Vec Range Global → Moment

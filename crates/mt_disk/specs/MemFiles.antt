@@ -1,11 +1,7 @@
 -- What a `MemFile` shows: the state of a file whose system keeps its rules.
 use Rattle.std.specs.Prelude.{◌≡◌, ℕ, List, [], ◌∷◌, ◌++◌, drop, map, Result, Ok, Err}
-use Rattle.mt_disk.specs.declared.mem_file.MemFile.{MemFile}
-use Rattle.mt_disk.specs.declared.system.FileFault.{FileFault}
-use Rattle.mt_disk.specs.declared.system.FileFault.TheVariants.{NotMade, Failed}
-use Rattle.mt_disk.specs.Disk.{Range, DiskState, moments, dirtied}
-use Rattle.mt_disk.specs.Mem.{moment_of}
-use Rattle.mt_disk.specs.Files.{FileEdit, FileState, edits_of}
+use Rattle.mt_disk.specs.{declared.mem_file.MemFile.MemFile, declared.system.FileFault.FileFault, declared.system.FileFault.TheVariants.{NotMade, Failed}}
+use Rattle.mt_disk.specs.{Disk.{Range, DiskState, moments, dirtied}, Mem.moment_of, Files.{FileEdit, FileState, edits_of}}
 
 -- what was written to it, and what of that is durable
 abbrev pub mem_file_disk : MemFile → DiskState

@@ -5,8 +5,7 @@
 //! gives, also after one that failed.
 
 ghost use Rattle.std.specs.Prelude.{◌≡◌, ◌++◌, ◌∷◌, [], ℕ, true, false, length, IsTrue, IfOk, IfErr, OnOk, OnErr, is_ok, None};
-ghost use Rattle.mt_disk.specs.Disk.{CountsFailure, Attempts, synced};
-ghost use Rattle.mt_disk.specs.Files.{Edits, Keeps, MadeAgain, BeginsWithin, edit_of, edits_of, range_of, edited};
+ghost use Rattle.mt_disk.specs.{Disk.{CountsFailure, Attempts, synced}, Files.{Edits, Keeps, MadeAgain, BeginsWithin, edit_of, edits_of, range_of, edited}};
 
 use crate::disk::{DeviceFailed, Disk, count_failure};
 use crate::edit::Edit;

@@ -2,8 +2,7 @@
 //! the premise on which a store on a real disk rests.
 
 ghost use Rattle.std.specs.Prelude.{[], false};
-ghost use Rattle.mt_disk.specs.Disk.{found_with};
-ghost use Rattle.mt_disk.specs.Files.{at_rest};
+ghost use Rattle.mt_disk.specs.{Disk.found_with, Files.at_rest};
 
 use crate::cached::CachedDisk;
 use crate::system::{FileFault, SystemFile};

@@ -7,8 +7,7 @@
 //! It keeps each moment that it had, since the clock is real data: for tests, on small files.
 
 ghost use Rattle.std.specs.Prelude.{◌≡◌, ◌+◌, ◌≤◌, true, List, length, ◌∷◌, IfOk, Err};
-ghost use Rattle.mt_disk.specs.declared.system.FileFault.TheVariants.{NotMade as NothingMade};
-ghost use Rattle.mt_disk.specs.Disk.{found_with, overwritten};
+ghost use Rattle.mt_disk.specs.{declared.system.FileFault.TheVariants.{NotMade as NothingMade}, Disk.{found_with, overwritten}};
 ghost use Rattle.mt_disk.specs.Files.{FileEdit, IsAgain, at_rest, edit_of};
 
 use crate::edit::Edit;

@@ -6,8 +6,7 @@
 //! paid by making these changes again, in their order.
 
 ghost use Rattle.std.specs.Prelude.{◌≡◌, [], length, Bool, IsTrue, IfOk, OnOk};
-ghost use Rattle.mt_disk.specs.Disk.{Reads};
-ghost use Rattle.mt_disk.specs.Files.{FileState, Edits, Wrote, CutTo, Syncs, IsFoundAgain};
+ghost use Rattle.mt_disk.specs.{Disk.Reads, Files.{FileState, Edits, Wrote, CutTo, Syncs, IsFoundAgain}};
 
 /// Why a call of a file did not succeed.
 #[derive(Clone, Copy, Debug, PartialEq, Eq)]

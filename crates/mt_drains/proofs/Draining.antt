@@ -1,22 +1,13 @@
 -- What a log is given: records gathered from the place of the first later write on, and in order.
 use Rattle.std.proofs.Common.{◌≡◌, ℕ, suc, zero, ◌+◌, ◌<◌, ◌≤◌, ◌^◌, ◌⊎◌, Bool, true, false, cond, not, ◌&&◌, List, [], ◌∷◌, ◌++◌, map, length, drop, get_or, Option, Some, None, refl, sym, ◌∙◌, ap, subst, true≢false, inl, inr, ⊎_elim, append_assoc, arith}
-use Rattle.std.specs.Prelude.{nat_lt, ◌==◌, slice_index, slice_get}
-use Rattle.std.specs.List.{All, filter}
-use Rattle.std.specs.Option.{unwrap_or}
-use Rattle.std.specs.List.Sorted.{IsStrictlyIncreasing}
-use Rattle.std.proofs.lemmas.Bool.{ltb-true, ltb-false, lt-ltb, le-ltb}
-use Rattle.std.proofs.lemmas.List.{append-nil, drop_all}
+use Rattle.std.proofs.{lemmas.Bool.{ltb-true, ltb-false, lt-ltb, le-ltb}, lemmas.List.{append-nil, drop_all}}
 use Rattle.std.proofs.lemmas.List.Elements.{All-filter, All-map, All-weaker, All-append, filter_passes, filter-append}
 use Rattle.std.proofs.lemmas.Option.{same_Some, none-some, slice_get_within, get_or_from_slice_get}
-use Rattle.mt_rows.specs.declared.record.Record.{Record}
-use Rattle.mt_rows.specs.declared.record.Batch.{Batch}
-use Rattle.mt_rows.specs.Commands.{IsKey}
-use Rattle.mt_rows.specs.Limits.{AreRecords}
+use Rattle.std.specs.{Prelude.{nat_lt, ◌==◌, slice_index, slice_get}, List.{All, filter}, Option.unwrap_or, List.Sorted.IsStrictlyIncreasing}
+use Rattle.mt_rows.specs.{declared.record.Record.Record, declared.record.Batch.Batch, Commands.IsKey, Limits.AreRecords}
 use Rattle.mt_batches.specs.Batches.{IsRecord, IsBounded, BringsOn}
-use Rattle.mt_tape.specs.declared.entry.Entry.{Entry}
-use Rattle.mt_tape.specs.Tapes.{RisesOver, last_step_over, later_entries}
-use Rattle.mt_tape.proofs.EntryLaws.{rises_lower, rises_all, all_upto_last}
-use Rattle.mt_tape.proofs.SearchLaws.{over_floor}
+use Rattle.mt_tape.specs.{declared.entry.Entry.Entry, Tapes.{RisesOver, last_step_over, later_entries}}
+use Rattle.mt_tape.proofs.{EntryLaws.{rises_lower, rises_all, all_upto_last}, SearchLaws.over_floor}
 use Rattle.mt_drains.specs.Drains.{record_of, records_of, is_between, records_between, IsNextBatch, Gathers}
 
 -- ---- stamps that rise

@@ -1,8 +1,7 @@
 -- What a worker's log is given.
 use Rattle.std.specs.Prelude.{◌≡◌, ◌⊎◌, ℕ, ◌+◌, ◌<◌, ◌≤◌, ◌==◌, Bool, not, ◌&&◌, nat_lt, List, ◌++◌, map, length, drop, Option, Some, None, slice_get}
 use Rattle.std.specs.List.{All, filter}
-use Rattle.mt_rows.specs.declared.record.Record.{Record}
-use Rattle.mt_rows.specs.declared.record.Batch.{Batch}
+use Rattle.mt_rows.specs.{declared.record.Record.Record, declared.record.Batch.Batch}
 use Rattle.mt_tape.specs.declared.entry.Entry.{Entry}
 
 -- a placed change, as it is logged: the step that placed it, and the key's row after it

@@ -1,7 +1,6 @@
 //! The next batch of a worker's log.
 
-ghost use Rattle.std.specs.Prelude.{ℕ, ◌≡◌, ◌++◌, ◌≤◌, ◌^◌, [], ◌∷◌, length, IfOk, OnOk};
-ghost use Rattle.std.specs.List.{All};
+ghost use Rattle.std.specs.{Prelude.{ℕ, ◌≡◌, ◌++◌, ◌≤◌, ◌^◌, [], ◌∷◌, length, IfOk, OnOk}, List.All};
 ghost use Rattle.mt_rows.specs.Commands.{IsKey};
 ghost use Rattle.mt_batches.specs.Batches.{IsRecord, IsRowOrNone, IsBounded, BringsOn};
 ghost use Rattle.mt_tape.specs.Tapes.{RisesOver, last_write};

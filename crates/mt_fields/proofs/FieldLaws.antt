@@ -1,14 +1,12 @@
 -- A field that is read is the field that was written, and what was written is read again.
 use Rattle.std.proofs.Common.{◌≡◌, ℕ, zero, suc, ◌+◌, ◌^◌, ◌<◌, ◌≤◌, Bool, true, false, cond, ltb, List, [], ◌∷◌, ◌++◌, length, get_or, take, drop, Option, Some, None, refl, sym, ap, subst, ◌∙◌, append_assoc, arith, inl, inr}
-use Rattle.std.specs.Int.{Width, w16, w32, w64, byte_len, from_be_bytes, to_be_bytes}
-use Rattle.std.specs.List.{flat_map, AllByRecursion}
 use Rattle.std.proofs.lemmas.Bool.{cases_lt, ltb-false, le-ltb}
 use Rattle.std.proofs.lemmas.List.{take_at, drop_at, take-append-drop, length-append, length-take, get_or-drop, get_or-take, get_or_past}
 use Rattle.std.proofs.lemmas.List.Concat.{flat_map-cons}
 use Rattle.std.proofs.lemmas.Nat.{be_bytes_2, be_bytes_4, be_bytes_8, from_be_bytes-to_be_bytes_2, from_be_bytes-to_be_bytes_4, from_be_bytes-to_be_bytes_8}
 use Rattle.std.proofs.lemmas.Option.{same_Some}
-use Rattle.mt_fields.specs.Fields.{Bytes, string}
-use Rattle.mt_fields.specs.Reading.{◌>>=◌, byte_at, number_at, taken_at, string_at, each_at}
+use Rattle.std.specs.{Int.{Width, w16, w32, w64, byte_len, from_be_bytes, to_be_bytes}, List.{flat_map, AllByRecursion}}
+use Rattle.mt_fields.specs.{Fields.{Bytes, string}, Reading.{◌>>=◌, byte_at, number_at, taken_at, string_at, each_at}}
 
 -- each number is a byte
 abbrev pub IsBytes : Bytes → Type 0

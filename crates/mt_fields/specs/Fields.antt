@@ -1,6 +1,5 @@
 -- How a string is spelled. All numbers have their highest byte first.
-use Rattle.std.specs.Prelude.{ℕ, List, ◌++◌, length}
-use Rattle.std.specs.Int.{w16, to_be_bytes}
+use Rattle.std.specs.{Prelude.{ℕ, List, ◌++◌, length}, Int.{w16, to_be_bytes}}
 
 -- bytes, one number each
 abbrev pub Bytes : Type 0

@@ -1,9 +1,8 @@
 -- Reading fields from left to right: for the functions that do it, whose callers see the spellings alone.
 use Rattle.std.specs.Prelude.{◌≡◌, ℕ, zero, suc, List, [], ◌∷◌, length, take, drop, Option, Some, None, Result, Ok, Err, nat_lt, if◌then◌else◌}
 use Rattle.std.specs.Int.{Width, w16, byte_len, from_be_bytes}
-use Rattle.mt_fields.specs.declared.fault.DecodeFault.{DecodeFault}
+use Rattle.mt_fields.specs.{declared.fault.DecodeFault.DecodeFault, Fields.Bytes}
 use Rattle.mt_fields.specs.declared.fault.DecodeFault.TheVariants as faults
-use Rattle.mt_fields.specs.Fields.{Bytes}
 
 -- a step and, where it gives something, the next
 infixl 10 ◌>>=◌

@@ -3,10 +3,8 @@
 //! A reader gives a value and the bytes behind it. A writer leaves what was written before, also
 //! where it fails.
 
-ghost use Rattle.std.specs.Prelude.{◌≡◌, ◌<◌, ◌^◌, ◌++◌, length, take, OnOk};
-ghost use Rattle.std.specs.Int.{w16, w32, w64, to_be_bytes};
-ghost use Rattle.mt_fields.specs.Fields.{string};
-ghost use Rattle.mt_fields.specs.Reading.{Gives, byte_at, number_at, taken_at, string_at};
+ghost use Rattle.std.specs.{Prelude.{◌≡◌, ◌<◌, ◌^◌, ◌++◌, length, take, OnOk}, Int.{w16, w32, w64, to_be_bytes}};
+ghost use Rattle.mt_fields.specs.{Fields.string, Reading.{Gives, byte_at, number_at, taken_at, string_at}};
 
 use crate::fault::DecodeFault;
 use byteorder::{BigEndian, ByteOrder};

@@ -1,18 +1,8 @@
 -- That what may be given back still may as the locks of other nodes are given back, and what that leaves of nodes and guarantees.
-use Rattle.std.proofs.Common.{◌≡◌, ◌⊎◌, ℕ, ◌<◌, length, refl, sym, subst, ◌∙◌, inl, inr, arith}
-use Rattle.std.proofs.lemmas.Bool.{cases_eq}
-use Rattle.std.proofs.lemmas.List.{length-set}
-use Rattle.mt_arena.specs.NodeView.{NodeView}
-use Rattle.mt_arena.specs.Edits.{unlocked}
-use Rattle.mt_arena.specs.Guarantee.{NodesGuarantee}
-use Rattle.mt_arena.specs.Arena.{ArenaView, IsArena, Guarantee}
-use Rattle.mt_arena.specs.Accesses.{at}
-use Rattle.mt_arena.proofs.Pairs.{here, there}
-use Rattle.mt_arena.proofs.Guarantees.{guarantee_on}
-use Rattle.mt_arena.proofs.Naming.{names_same, points_each}
-use Rattle.mt_held.specs.Holds.{MayReturn}
-use Rattle.mt_held.specs.Moves.{given_back}
-use Rattle.mt_held.proofs.Returns.{TreesStand, trees_same, stays_whole, returnable_still}
+use Rattle.std.proofs.{Common.{◌≡◌, ◌⊎◌, ℕ, ◌<◌, length, refl, sym, subst, ◌∙◌, inl, inr, arith}, lemmas.Bool.cases_eq, lemmas.List.length-set}
+use Rattle.mt_arena.specs.{NodeView.NodeView, Edits.unlocked, Guarantee.NodesGuarantee, Arena.{ArenaView, IsArena, Guarantee}, Accesses.at}
+use Rattle.mt_arena.proofs.{Pairs.{here, there}, Guarantees.guarantee_on, Naming.{names_same, points_each}}
+use Rattle.mt_held.{specs.{Holds.MayReturn, Moves.given_back}, proofs.Returns.{TreesStand, trees_same, stays_whole, returnable_still}}
 
 -- a node that names the same neighbour before it and the same parent, and is live as it was
 pub record NamesTheSame (n m : NodeView) : Type 0 where

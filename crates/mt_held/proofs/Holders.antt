@@ -1,16 +1,8 @@
 -- Which node a put holds: for the law on that.
-use Rattle.std.proofs.Common.{◌≡◌, ◌≢◌, ℕ, ◌<◌, length, Some, sym, ap, subst, ◌∙◌, inl, inr, arith}
-use Rattle.std.proofs.lemmas.Bool.{cases_eq, cases_lt}
-use Rattle.std.proofs.lemmas.List.{length-set}
-use Rattle.mt_arena.specs.NodeView.{NodeView}
-use Rattle.mt_arena.specs.Edits.{unlocked, locked}
-use Rattle.mt_arena.specs.Arena.{ArenaView, Guarantee}
-use Rattle.mt_arena.specs.Accesses.{at, with_node}
-use Rattle.mt_arena.proofs.Pairs.{here, there}
+use Rattle.std.proofs.{Common.{◌≡◌, ◌≢◌, ℕ, ◌<◌, length, Some, sym, ap, subst, ◌∙◌, inl, inr, arith}, lemmas.Bool.{cases_eq, cases_lt}, lemmas.List.length-set}
+use Rattle.mt_arena.{specs.{NodeView.NodeView, Edits.{unlocked, locked}, Arena.{ArenaView, Guarantee}, Accesses.{at, with_node}}, proofs.Pairs.{here, there}}
 use Rattle.mt_operation.specs.declared.walk.Walk.{Walk}
-use Rattle.mt_descent.specs.Seen.{IsOutdated}
-use Rattle.mt_descent.specs.KeptWalks.{HoldsNothing}
-use Rattle.mt_descent.specs.WalkMoves.{Locks}
+use Rattle.mt_descent.specs.{Seen.IsOutdated, KeptWalks.HoldsNothing, WalkMoves.Locks}
 use Rattle.mt_held.specs.Holds.{HoldsOnly}
 
 -- beside the node that changes, who holds a node held it

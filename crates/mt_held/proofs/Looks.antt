@@ -1,26 +1,12 @@
 -- What an operation finds in the border node that it holds, and that it holds it.
-use Rattle.std.proofs.Common.{◌≡◌, ℕ, Bool, true, false, List, Option, refl, sym, ap, subst, ◌∙◌}
-use Rattle.std.specs.Prelude.{if◌then◌else◌}
+use Rattle.std.{proofs.Common.{◌≡◌, ℕ, Bool, true, false, List, Option, refl, sym, ap, subst, ◌∙◌}, specs.Prelude.{if◌then◌else◌}}
 use Rattle.mt_rows.specs.Rows.{Bytes}
-use Rattle.mt_border.specs.declared.entry.Entry.{Entry}
-use Rattle.mt_border.specs.declared.entry.Held.{Held}
-use Rattle.mt_border.specs.declared.entry.Held.TheVariants.{Stable, Unstable, Link}
-use Rattle.mt_border.specs.declared.entry.FoundKind.TheVariants.{Link as ToTree}
-use Rattle.mt_border.specs.Entry.{IsLink}
-use Rattle.mt_border.specs.Node.{Node as BorderNode, entry_at}
-use Rattle.mt_arena.specs.NodeView.{NodeView}
-use Rattle.mt_arena.specs.Layers.{slot_at}
-use Rattle.mt_arena.specs.Arena.{ArenaView}
-use Rattle.mt_arena.specs.Accesses.{at}
-use Rattle.mt_operation.specs.declared.phase.Phase.{Phase}
-use Rattle.mt_operation.specs.declared.walk.Walk.{Walk}
-use Rattle.mt_operation.specs.declared.task.Task.{Task}
-use Rattle.mt_operation.specs.declared.phase.Phase.TheVariants.{Forward, Judge}
+use Rattle.mt_border.specs.{declared.entry.Entry.Entry, declared.entry.Held.Held, declared.entry.Held.TheVariants.{Stable, Unstable, Link}}
+use Rattle.mt_border.specs.{declared.entry.FoundKind.TheVariants.{Link as ToTree}, Entry.IsLink, Node.{Node as BorderNode, entry_at}}
+use Rattle.mt_arena.specs.{NodeView.NodeView, Layers.slot_at, Arena.ArenaView, Accesses.at, Settled.IsSettled}
+use Rattle.mt_operation.specs.{declared.phase.Phase.Phase, declared.walk.Walk.Walk, declared.task.Task.Task, declared.phase.Phase.TheVariants.{Forward, Judge}}
 use Rattle.mt_version.specs.Parts.{Parts}
-use Rattle.mt_arena.specs.Settled.{IsSettled}
-use Rattle.mt_descent.specs.Seen.{IsOutdated}
-use Rattle.mt_descent.specs.KeptWalks.{IsAtJudge, IsInSlot}
-use Rattle.mt_descent.specs.WalkMoves.{Locks, after_change, walk_anew}
+use Rattle.mt_descent.specs.{Seen.IsOutdated, KeptWalks.{IsAtJudge, IsInSlot}, WalkMoves.{Locks, after_change, walk_anew}}
 use Rattle.mt_held.specs.Holds.{HoldsBorder}
 
 -- a link has a tree

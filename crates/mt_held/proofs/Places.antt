@@ -1,38 +1,17 @@
 -- An operation that holds its border node may change it, and then give its lock back; a link leads it on.
-use Rattle.std.proofs.Common.{◌≡◌, ℕ, ◌+◌, ◌<◌, List, length, Some, None, refl, sym, ap, subst, ◌∙◌, arith}
-use Rattle.std.specs.List.{All}
-use Rattle.std.specs.FinMap.{get}
-use Rattle.std.proofs.lemmas.List.{length-set}
+use Rattle.std.proofs.{Common.{◌≡◌, ℕ, ◌+◌, ◌<◌, List, length, Some, None, refl, sym, ap, subst, ◌∙◌, arith}, lemmas.List.length-set}
+use Rattle.std.specs.{List.All, FinMap.get}
 use Rattle.mt_slices.specs.Slices.{slice_of, mark_of, suffix_of}
 use Rattle.mt_rows.specs.Rows.{Bytes}
-use Rattle.mt_border.specs.declared.entry.Entry.{Entry}
-use Rattle.mt_border.specs.declared.entry.Pair.{Pair}
-use Rattle.mt_border.specs.declared.entry.Held.TheVariants.{Stable, Link}
-use Rattle.mt_border.specs.declared.entry.FoundKind.TheVariants.{ThisKey, Link as ToTree}
-use Rattle.mt_border.specs.Entry.{pair_of}
-use Rattle.mt_border.specs.Entries.{IsMissing}
-use Rattle.mt_border.specs.Contents.{owned}
+use Rattle.mt_border.specs.{declared.entry.Entry.Entry, declared.entry.Pair.Pair, declared.entry.Held.TheVariants.{Stable, Link}}
+use Rattle.mt_border.specs.{declared.entry.FoundKind.TheVariants.{ThisKey, Link as ToTree}, Entry.pair_of, Entries.IsMissing, Contents.owned}
 use Rattle.mt_border.proofs.ContentsKeys.{by_equation}
-use Rattle.mt_arena.specs.NodeView.{NodeView}
-use Rattle.mt_arena.specs.NodeFacts.{IsUnstable}
-use Rattle.mt_arena.specs.Forests.{tree_at, layer_of}
-use Rattle.mt_arena.specs.Layers.{slot_at}
-use Rattle.mt_arena.specs.Ways.{BelongsIn, StandsFor, GoesOn}
-use Rattle.mt_arena.specs.Edits.{with_slots}
-use Rattle.mt_arena.specs.Arena.{ArenaView, IsArena, content_of}
-use Rattle.mt_arena.specs.Accesses.{at, tree_of, IsOpen, with_node, MayChange}
-use Rattle.mt_arena.proofs.Pairs.{here}
-use Rattle.mt_arena.proofs.Homes.{begun}
-use Rattle.mt_arena.proofs.Down.{goes_on}
-use Rattle.mt_arena.proofs.Elsewhere.{layer_is}
-use Rattle.mt_arena.proofs.Owners.{found, none_elsewhere}
-use Rattle.mt_arena.proofs.SettledEdits.{settled_self}
+use Rattle.mt_arena.specs.{NodeView.NodeView, NodeFacts.IsUnstable, Forests.{tree_at, layer_of}, Layers.slot_at, Ways.{BelongsIn, StandsFor, GoesOn}}
+use Rattle.mt_arena.specs.{Edits.with_slots, Arena.{ArenaView, IsArena, content_of}, Accesses.{at, tree_of, IsOpen, with_node, MayChange}}
+use Rattle.mt_arena.proofs.{Pairs.here, Homes.begun, Down.goes_on, Elsewhere.layer_is, Owners.{found, none_elsewhere}, SettledEdits.settled_self}
 use Rattle.mt_operation.specs.declared.walk.Walk.{Walk}
-use Rattle.mt_descent.specs.KeptWalks.{IsInSlot, IsAtEnter}
-use Rattle.mt_descent.specs.WalkMoves.{walk_into}
-use Rattle.mt_descent.proofs.Looks.{belongs}
-use Rattle.mt_held.specs.Holds.{HoldsBorder, IsAtUnlock}
-use Rattle.mt_held.specs.Moves.{walk_placed, given_back}
+use Rattle.mt_descent.{specs.{KeptWalks.{IsInSlot, IsAtEnter}, WalkMoves.walk_into}, proofs.Looks.belongs}
+use Rattle.mt_held.specs.{Holds.{HoldsBorder, IsAtUnlock}, Moves.{walk_placed, given_back}}
 
 module _ (v : ArenaView) (op : ℕ) (key : Bytes) (w : Walk) (arena : IsArena v.nodes v.trees) (h : HoldsBorder v op key w) where
   abbrev n : NodeView

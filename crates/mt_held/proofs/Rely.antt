@@ -2,25 +2,14 @@
 use Rattle.std.proofs.Common.{◌≡◌, ◌≢◌, ℕ, ◌<◌, List, length, Some, refl, sym, ap, subst, ◌∙◌, arith}
 use Rattle.mt_slices.specs.Slices.{slice_of, mark_of, suffix_of}
 use Rattle.mt_rows.specs.Rows.{Bytes}
-use Rattle.mt_border.specs.declared.entry.Entry.{Entry}
-use Rattle.mt_border.specs.declared.entry.FoundKind.{FoundKind}
-use Rattle.mt_border.specs.Entry.{IsKind}
-use Rattle.mt_arena.specs.declared.tree.Tree.{Tree}
-use Rattle.mt_arena.specs.declared.tree.Standing.{Standing}
-use Rattle.mt_arena.specs.declared.tree.Standing.TheVariants.{Made, Live, Dead}
-use Rattle.mt_arena.specs.NodeView.{NodeView}
-use Rattle.mt_arena.specs.Forests.{tree_at}
-use Rattle.mt_arena.specs.Layers.{slot_at}
-use Rattle.mt_arena.specs.Settled.{IsSettled}
-use Rattle.mt_arena.specs.Arena.{ArenaView, Guarantee}
-use Rattle.mt_arena.specs.Accesses.{at, IsOpen, IsHeld}
+use Rattle.mt_border.specs.{declared.entry.Entry.Entry, declared.entry.FoundKind.FoundKind, Entry.IsKind, Contents.IsOfTree}
+use Rattle.mt_arena.specs.{declared.tree.Tree.Tree, declared.tree.Standing.Standing, declared.tree.Standing.TheVariants.{Made, Live, Dead}, NodeView.NodeView}
+use Rattle.mt_arena.specs.{Forests.tree_at, Layers.slot_at, Settled.IsSettled, Arena.{ArenaView, Guarantee}, Accesses.{at, IsOpen, IsHeld}}
 use Rattle.mt_arena.specs.Guarantee.{TreeChanges, IsUntouched}
 use Rattle.mt_arena.proofs.Settled.{settled_stays}
 use Rattle.mt_operation.specs.declared.walk.Walk.{Walk}
-use Rattle.mt_descent.specs.KeptWalks.{IsInSlot, GoesThrough}
-use Rattle.mt_descent.proofs.Rely.{judge_stays}
+use Rattle.mt_descent.{specs.KeptWalks.{IsInSlot, GoesThrough}, proofs.Rely.judge_stays}
 use Rattle.mt_held.specs.Holds.{HoldsBorder, IsAtUnlock, MayReturn}
-use Rattle.mt_border.specs.Contents.{IsOfTree}
 
 -- a slot stays while the slots do
 pub in_slot_stays : (n m : NodeView) (slot : ℕ) (key : Bytes) (layer : ℕ) (kind : FoundKind) → n.slots ≡ m.slots → IsInSlot n slot key layer kind

@@ -1,21 +1,13 @@
 -- What may be given back may still be given back after an edit that leaves the node as it is, but for the one before it and its parent, and
 -- by which nobody comes to name it.
 use Rattle.std.proofs.Common.{◌≡◌, ℕ, ◌<◌, ◌≤◌, List, length, get_or, None, refl, sym, ap, subst, ◌∙◌, arith, ◌-◌, Some, false, set, inl, inr}
+use Rattle.std.proofs.{lemmas.Bool.cases_eq, lemmas.List.length-set}
 use Rattle.std.specs.List.{All}
 use Rattle.mt_border.specs.declared.entry.Entry.{Entry}
-use Rattle.mt_arena.specs.declared.tree.Tree.{Tree}
-use Rattle.mt_arena.specs.NodeView.{NodeView, node_at}
-use Rattle.mt_arena.specs.Nodes.{HasChild, AreNodes, IsChild}
-use Rattle.mt_arena.specs.NodeFacts.{IsUnstable}
-use Rattle.mt_arena.specs.Forests.{tree_at}
-use Rattle.mt_arena.specs.Lags.{Follows, IsUnder}
-use Rattle.mt_arena.specs.Settled.{IsSettled}
-use Rattle.mt_arena.specs.Arena.{ArenaView}
-use Rattle.mt_arena.specs.Accesses.{at, IsHeld, IsOpen}
-use Rattle.mt_held.specs.Holds.{MayReturn}
-use Rattle.std.proofs.lemmas.Bool.{cases_eq}
-use Rattle.std.proofs.lemmas.List.{length-set}
+use Rattle.mt_arena.specs.{declared.tree.Tree.Tree, NodeView.{NodeView, node_at}, Nodes.{HasChild, AreNodes, IsChild}, NodeFacts.IsUnstable, Forests.tree_at}
+use Rattle.mt_arena.specs.{Lags.{Follows, IsUnder}, Settled.IsSettled, Arena.ArenaView, Accesses.{at, IsHeld, IsOpen}}
 use Rattle.mt_arena.proofs.Pairs.{here, there}
+use Rattle.mt_held.specs.Holds.{MayReturn}
 
 -- a node that stays as it is, but for the one before it and its parent; it has a parent still where it had one
 pub record StaysButNames (x y : NodeView) : Type 0 where

@@ -1,9 +1,7 @@
 -- What an operation keeps that holds its border node, and what it may do with a node that it holds.
 use Rattle.std.specs.Prelude.{◌≡◌, ℕ, ◌<◌, length, Some}
 use Rattle.mt_rows.specs.Rows.{Bytes}
-use Rattle.mt_arena.specs.Settled.{IsSettled}
-use Rattle.mt_arena.specs.Arena.{ArenaView}
-use Rattle.mt_arena.specs.Accesses.{at, IsHeld, IsOpen}
+use Rattle.mt_arena.specs.{Settled.IsSettled, Arena.ArenaView, Accesses.{at, IsHeld, IsOpen}}
 use Rattle.mt_operation.specs.declared.walk.Walk.{Walk}
 use Rattle.mt_descent.specs.KeptWalks.{IsAtJudge}
 

@@ -1,11 +1,7 @@
 -- Where the walk of an operation that holds nodes goes, and what becomes of a node.
 use Rattle.std.specs.Prelude.{ℕ, Some}
-use Rattle.mt_arena.specs.Edits.{pointed, unlocked}
-use Rattle.mt_arena.specs.Arena.{ArenaView}
-use Rattle.mt_arena.specs.Accesses.{at, with_node}
-use Rattle.mt_operation.specs.declared.phase.Phase.{Phase}
-use Rattle.mt_operation.specs.declared.phase.Phase.TheVariants.{Unlock, Done}
-use Rattle.mt_operation.specs.declared.walk.Walk.{Walk}
+use Rattle.mt_arena.specs.{Edits.{pointed, unlocked}, Arena.ArenaView, Accesses.{at, with_node}}
+use Rattle.mt_operation.specs.{declared.phase.Phase.Phase, declared.phase.Phase.TheVariants.{Unlock, Done}, declared.walk.Walk.Walk}
 
 -- the walk at another phase
 abbrev pub walk_at : Phase → Walk → Walk

@@ -1,7 +1,6 @@
 -- What becomes of the tape as room for a write is made or given back, and as a write takes its room.
 use Rattle.std.specs.Prelude.{◌+◌, ◌-◌, [], ◌∷◌, ◌++◌}
-use Rattle.mt_tape.specs.declared.entry.Entry.{Entry as Write}
-use Rattle.mt_tape.specs.Tapes.{Kept}
+use Rattle.mt_tape.specs.{declared.entry.Entry.{Entry as Write}, Tapes.Kept}
 
 -- a tape with room for one more write, one that gives a room back, and one with a write that took its room
 abbrev pub reserving : Kept → Kept

@@ -1,14 +1,11 @@
 -- The lock of the border node is given back: the operation is done, or goes on in a tree of the next layer.
 use Rattle.mt_held.specs.Moves.{given_back, walk_done}
 use Rattle.std.specs.Prelude.{ℕ, ◌+◌, ◌≡◌}
-use Rattle.mt_arena.specs.Arena.{ArenaView}
-use Rattle.mt_arena.specs.Accesses.{at}
+use Rattle.mt_arena.specs.{Arena.ArenaView, Accesses.at, Layers.slot_at}
 use Rattle.mt_operation.specs.declared.walk.Walk.{Walk}
-use Rattle.mt_descent.specs.KeptWalks.{IsAtEnter, IsInSlot}
-use Rattle.mt_descent.specs.WalkMoves.{KeepsPairs, walk_into}
+use Rattle.mt_descent.specs.{KeptWalks.{IsAtEnter, IsInSlot}, WalkMoves.{KeepsPairs, walk_into}}
 use Rattle.mt_rows.specs.Rows.{Bytes}
 use Rattle.mt_border.specs.declared.entry.Held.TheVariants.{Link}
-use Rattle.mt_arena.specs.Layers.{slot_at}
 use Rattle.mt_border.specs.declared.entry.FoundKind.TheVariants as kinds
 
 -- the lock of the border node was given back

@@ -5,11 +5,8 @@ ghost use Rattle.mt_version.specs.Changes.{CanUnlock};
 ghost use Rattle.mt_border.specs.Node.{IsLive, entry_at};
 ghost use Rattle.mt_tape.specs.Tapes.{last_write};
 ghost use Rattle.mt_arena.specs.Accesses.{at};
-ghost use Rattle.mt_descent.specs.KeptWalks.{IsAtBorder};
-ghost use Rattle.mt_descent.specs.WalkMoves.{FindsIn};
-ghost use Rattle.mt_held.specs.Holds.{IsAtUnlock};
-ghost use Rattle.mt_held.specs.Taping.{pushed};
-ghost use Rattle.mt_held.specs.Unlock.{IsUnlock, GoesInto};
+ghost use Rattle.mt_descent.specs.{KeptWalks.IsAtBorder, WalkMoves.FindsIn};
+ghost use Rattle.mt_held.specs.{Holds.IsAtUnlock, Taping.pushed, Unlock.{IsUnlock, GoesInto}};
 
 use mt_arena::Arena;
 use mt_border::laws::suffix_fits_mark;

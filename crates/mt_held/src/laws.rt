@@ -3,15 +3,9 @@
 
 ghost use Rattle.std.specs.Prelude.{◌≡◌, ◌≢◌, ◌<◌, ℕ, length};
 ghost use Rattle.mt_rows.specs.Rows.{Bytes};
-ghost use Rattle.mt_arena.specs.Arena.{ArenaView, Guarantee};
-ghost use Rattle.mt_arena.specs.Settled.{IsSettled};
-ghost use Rattle.mt_arena.specs.NodeView.{NodeView};
-ghost use Rattle.mt_arena.specs.Edits.{unlocked};
-ghost use Rattle.mt_arena.specs.Accesses.{at, with_node};
-ghost use Rattle.mt_operation.specs.declared.phase.Phase.TheVariants.{Judge};
-ghost use Rattle.mt_operation.specs.declared.walk.Walk.{Walk};
-ghost use Rattle.mt_descent.specs.KeptWalks.{HoldsNothing, IsAtJudge};
-ghost use Rattle.mt_descent.specs.WalkMoves.{Locks};
+ghost use Rattle.mt_arena.specs.{Arena.{ArenaView, Guarantee}, Settled.IsSettled, NodeView.NodeView, Edits.unlocked, Accesses.{at, with_node}};
+ghost use Rattle.mt_operation.specs.{declared.phase.Phase.TheVariants.Judge, declared.walk.Walk.Walk};
+ghost use Rattle.mt_descent.specs.{KeptWalks.{HoldsNothing, IsAtJudge}, WalkMoves.Locks};
 ghost use Rattle.mt_held.specs.Holds.{HoldsBorder, IsAtUnlock, HoldsOnly};
 
 /// An operation that has locked its border node holds it as `judge` asks.

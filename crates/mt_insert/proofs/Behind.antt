@@ -1,29 +1,18 @@
 -- What is kept of a split as a node names another one before it or another parent, and what is kept once the node behind names the right
 -- half: for `split_prev`, `lock_parent` and `reparent`.
 use Rattle.std.proofs.Common.{◌≡◌, ◌≢◌, ℕ, ◌-◌, ◌<◌, ◌≤◌, List, length, Option, Some, None, set, refl, sym, ap, subst, ◌∙◌, inl, inr, arith}
+use Rattle.std.proofs.{lemmas.Bool.cases_eq, lemmas.Option.same_Some, lemmas.List.length-set}
 use Rattle.std.specs.List.{All}
-use Rattle.std.proofs.lemmas.Bool.{cases_eq}
-use Rattle.std.proofs.lemmas.Option.{same_Some}
-use Rattle.std.proofs.lemmas.List.{length-set}
 use Rattle.mt_interior.specs.Fences.{end_of}
 use Rattle.mt_border.specs.declared.entry.Entry.{Entry}
-use Rattle.mt_arena.specs.NodeView.{NodeView, node_at}
-use Rattle.mt_arena.specs.Nodes.{HasChild, IsNeighbour, seat_of}
-use Rattle.mt_arena.specs.NodeFacts.{IsUnstable}
-use Rattle.mt_arena.specs.Ranges.{Waits}
-use Rattle.mt_arena.specs.Lags.{IsUnder}
-use Rattle.mt_arena.specs.Forests.{tree_at}
-use Rattle.mt_arena.specs.Edits.{pointed}
-use Rattle.mt_arena.specs.Arena.{ArenaView, IsArena}
-use Rattle.mt_arena.specs.Accesses.{at, IsOpen}
-use Rattle.mt_arena.proofs.Pairs.{here, there}
-use Rattle.mt_arena.proofs.Lags.{follows_in, under_in}
+use Rattle.mt_arena.specs.{NodeView.{NodeView, node_at}, Nodes.{HasChild, IsNeighbour, seat_of}, NodeFacts.IsUnstable, Ranges.Waits, Lags.IsUnder}
+use Rattle.mt_arena.specs.{Forests.tree_at, Edits.pointed, Arena.{ArenaView, IsArena}, Accesses.{at, IsOpen}}
+use Rattle.mt_arena.proofs.{Pairs.{here, there}, Lags.{follows_in, under_in}}
 use Rattle.mt_operation.specs.declared.splits.Splits.{Splits}
 use Rattle.mt_insert.specs.KeptSplits.{last_of, HoldsSplits, IsSplitting, AreParted, NothingLags, HasSplits, IsAtSplitPrev, IsAtLockParent}
-use Rattle.mt_held.specs.Holds.{MayReturn}
-use Rattle.mt_held.specs.Moves.{with_named_previous}
-use Rattle.mt_held.proofs.Returns.{child_stays, StaysButNames, NamesNoMoreOf, TreesStand, trees_same, held_still, open_still}
 use Rattle.mt_insert.proofs.Returns.{all_returnable_still}
+use Rattle.mt_held.specs.{Holds.MayReturn, Moves.with_named_previous}
+use Rattle.mt_held.proofs.Returns.{child_stays, StaysButNames, NamesNoMoreOf, TreesStand, trees_same, held_still, open_still}
 
 -- a node that stays as it is but for the names of the one before it and of its parent, and has a parent still where it had one
 pub record KeepsButNames (x y : NodeView) : Type 0 where

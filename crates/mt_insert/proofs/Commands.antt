@@ -1,19 +1,12 @@
 -- What a put's write is to the maps of the tenants: the command's change of its own one, with the command's reply. For the law of it.
-use Rattle.std.proofs.Common.{◌≡◌, ◌≢◌, ℕ, ◌<◌, ◌≤◌, true, cond, [], Option, Some, None, sym, ap, ◌∙◌}
+use Rattle.std.proofs.{Common.{◌≡◌, ◌≢◌, ℕ, ◌<◌, ◌≤◌, true, cond, [], Option, Some, None, sym, ap, ◌∙◌}, lemmas.Bool.{lt-ltb, le-ltb}}
 use Rattle.std.specs.FinMap.{get, len, insert}
-use Rattle.std.proofs.lemmas.Bool.{lt-ltb, le-ltb}
-use Rattle.mt_rows.specs.declared.reply.Reply.TheVariants.{New, Replaced, Full}
-use Rattle.mt_rows.specs.Rows.{Bytes, Columns}
-use Rattle.mt_rows.specs.Changes.{changed}
-use Rattle.mt_rows.specs.Commands.{key_of}
-use Rattle.mt_rows.specs.Maps.{Map, reply_of, map_after, told_of_put, map_after_put}
-use Rattle.mt_rows.specs.Tenants.{Contents, tenant_map}
+use Rattle.mt_rows.specs.{declared.reply.Reply.TheVariants.{New, Replaced, Full}, Rows.{Bytes, Columns}, Changes.changed, Commands.key_of}
+use Rattle.mt_rows.specs.{Maps.{Map, reply_of, map_after, told_of_put, map_after_put}, Tenants.{Contents, tenant_map}}
 use Rattle.mt_rows.proofs.ContentLaws.{get-tenant_map, tenant_map-insert, tenant_map-insert_other}
 use Rattle.mt_border.specs.Contents.{owned}
 use Rattle.mt_tape.specs.Histories.{with_write}
-use Rattle.mt_operation.specs.declared.task.Request.{Request}
-use Rattle.mt_operation.specs.declared.task.Request.TheVariants.{Get, Put, Remove, Scan as ScanOf}
-use Rattle.mt_operation.specs.declared.task.Task.{Task}
+use Rattle.mt_operation.specs.{declared.task.Request.Request, declared.task.Request.TheVariants.{Get, Put, Remove, Scan as ScanOf}, declared.task.Task.Task}
 use Rattle.mt_operation.specs.Tasks.{command_of, ask}
 use Rattle.mt_insert.specs.Puts.{change_of, is_put, IsPut, row_over, write_of}
 

@@ -1,24 +1,13 @@
 -- That a new root may come over the halves of the old one, and that all locks may be given back then: for `grow_root`.
 use Rattle.std.proofs.Common.{◌≡◌, ◌≢◌, ◌⊎◌, ℕ, ◌+◌, ◌-◌, ◌<◌, ◌≤◌, List, [], ◌∷◌, length, set, Some, None, true, refl, sym, ap, subst, ◌∙◌, inl, inr, arith, length-append}
-use Rattle.std.proofs.lemmas.Bool.{cases_eq}
-use Rattle.std.proofs.lemmas.Option.{same_Some}
-use Rattle.std.proofs.lemmas.List.{length-set}
+use Rattle.std.proofs.{lemmas.Bool.cases_eq, lemmas.Option.same_Some, lemmas.List.length-set}
 use Rattle.mt_interior.specs.Fences.{end_of}
-use Rattle.mt_arena.specs.NodeView.{NodeView}
-use Rattle.mt_arena.specs.Forests.{IsRoot, tree_at}
-use Rattle.mt_arena.specs.Settled.{IsSettled}
-use Rattle.mt_arena.specs.Growth.{fresh_top, left_below, right_below}
-use Rattle.mt_arena.specs.Arena.{ArenaView, IsArena}
-use Rattle.mt_arena.specs.Accesses.{at, IsOpen}
-use Rattle.mt_arena.specs.Several.{MayGrow, with_root}
-use Rattle.mt_arena.proofs.Pairs.{here, there, last, before}
-use Rattle.mt_arena.proofs.GrowStep.{same_standing}
-use Rattle.mt_arena.proofs.Lags.{settled_of}
+use Rattle.mt_arena.specs.{NodeView.NodeView, Forests.{IsRoot, tree_at}, Settled.IsSettled, Growth.{fresh_top, left_below, right_below}}
+use Rattle.mt_arena.specs.{Arena.{ArenaView, IsArena}, Accesses.{at, IsOpen}, Several.{MayGrow, with_root}}
+use Rattle.mt_arena.proofs.{Pairs.{here, there, last, before}, GrowStep.same_standing, Lags.settled_of}
 use Rattle.mt_operation.specs.declared.splits.Splits.{Splits}
-use Rattle.mt_insert.specs.KeptSplits.{last_of, HoldsSplits, AreParted, AreReturnable, IsAtRootGrow, IsAtUnlockAll}
-use Rattle.mt_held.specs.Holds.{MayReturn}
-use Rattle.mt_held.proofs.Returns.{TreesStand, NamesNoMoreOf, stays_whole, child_stays, held_still, open_still}
-use Rattle.mt_insert.proofs.Returns.{all_returnable_still}
+use Rattle.mt_insert.{specs.KeptSplits.{last_of, HoldsSplits, AreParted, AreReturnable, IsAtRootGrow, IsAtUnlockAll}, proofs.Returns.all_returnable_still}
+use Rattle.mt_held.{specs.Holds.MayReturn, proofs.Returns.{TreesStand, NamesNoMoreOf, stays_whole, child_stays, held_still, open_still}}
 
 module _ (v : ArenaView) (op : ℕ) (s : Splits) (arena : IsArena v.nodes v.trees) (h : IsAtRootGrow v op s) where
   abbrev i : ℕ

@@ -1,30 +1,16 @@
 -- A right half comes to stand in its parent, and then all nodes of the splits may be given back: for `insert_child` and `split_interior`.
 use Rattle.std.proofs.Common.{◌≡◌, ◌≢◌, ℕ, ◌+◌, ◌-◌, ◌<◌, ◌≤◌, List, [], ◌∷◌, ◌++◌, length, set, None, refl, sym, ap, subst, ◌∙◌, inl, inr, arith, length-append}
+use Rattle.std.proofs.{lemmas.Bool.cases_lt, lemmas.List.length-set, lemmas.Option.same_Some}
 use Rattle.std.specs.List.{All}
-use Rattle.std.proofs.lemmas.Bool.{cases_lt}
-use Rattle.std.proofs.lemmas.List.{length-set}
-use Rattle.std.proofs.lemmas.Option.{same_Some}
 use Rattle.mt_border.specs.declared.entry.Entry.{Entry}
-use Rattle.mt_arena.specs.NodeView.{NodeView, node_at}
-use Rattle.mt_arena.specs.Nodes.{AreNodes, HasChild, IsChild}
-use Rattle.mt_arena.specs.NodeFacts.{IsUnstable}
-use Rattle.mt_arena.specs.Forests.{tree_at}
-use Rattle.mt_arena.specs.Lags.{Follows, IsUnder, AreChildren}
-use Rattle.mt_arena.specs.Settled.{IsSettled}
-use Rattle.mt_arena.specs.Edits.{inserting}
-use Rattle.mt_arena.specs.Splits.{Inserts, with_child, exact}
-use Rattle.mt_arena.specs.Several.{MayInsert, with_right}
-use Rattle.mt_arena.specs.Arena.{ArenaView}
-use Rattle.mt_arena.specs.Accesses.{at, IsOpen}
-use Rattle.mt_arena.proofs.Pairs.{here, there, before, last as pushed}
-use Rattle.mt_arena.proofs.Naming.{each_set2}
-use Rattle.mt_arena.proofs.Lags.{settled_of, children_again}
-use Rattle.mt_arena.proofs.Inserting.{apart_j, is_interior}
+use Rattle.mt_arena.specs.{NodeView.{NodeView, node_at}, Nodes.{AreNodes, HasChild, IsChild}, NodeFacts.IsUnstable, Forests.tree_at}
+use Rattle.mt_arena.specs.{Lags.{Follows, IsUnder, AreChildren}, Settled.IsSettled, Edits.inserting, Splits.{Inserts, with_child, exact}}
+use Rattle.mt_arena.specs.{Several.{MayInsert, with_right}, Arena.ArenaView, Accesses.{at, IsOpen}}
+use Rattle.mt_arena.proofs.{Pairs.{here, there, before, last as pushed}, Naming.each_set2, Lags.{settled_of, children_again}, Inserting.{apart_j, is_interior}}
 use Rattle.mt_operation.specs.declared.splits.Splits.{Splits}
 use Rattle.mt_insert.specs.KeptSplits.{halves_at, last_of, MayReturnBoth, AreReturnable, AreParted, NothingLags, IsAtParent, IsAtInsertChild, IsAtUnlockAll, HoldsSplits}
-use Rattle.mt_held.specs.Holds.{MayReturn}
-use Rattle.mt_held.proofs.Returns.{stays_whole, NamesNoMoreOf, trees_same}
 use Rattle.mt_insert.proofs.Returns.{all_returnable_still}
+use Rattle.mt_held.{specs.Holds.MayReturn, proofs.Returns.{stays_whole, NamesNoMoreOf, trees_same}}
 
 -- a node with the same ones before it and above it, as live as it was, with the same holder
 pub record KeepsNames (x y : NodeView) : Type 0 where

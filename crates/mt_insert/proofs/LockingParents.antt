@@ -1,31 +1,15 @@
 -- What is kept of a split once the parent of its halves is held and the right half names it: for `lock_parent`.
 use Rattle.std.specs.Prelude.{if◌then◌else◌}
 use Rattle.std.proofs.Common.{◌==◌, Bool, ◌≡◌, ◌≢◌, ℕ, ◌-◌, ◌<◌, ◌≤◌, length, Some, None, false, true, refl, sym, ap, subst, ◌∙◌, inl, inr, arith}
-use Rattle.std.proofs.lemmas.Bool.{cases_eq, cases_lt, eq-eqb, eqb-true}
-use Rattle.std.proofs.lemmas.Option.{same_Some}
-use Rattle.std.proofs.lemmas.List.{length-set}
-use Rattle.mt_arena.specs.NodeView.{NodeView}
-use Rattle.mt_arena.specs.Nodes.{HasChild, IsChild}
-use Rattle.mt_arena.specs.Lags.{Follows, IsUnder}
-use Rattle.mt_arena.specs.Settled.{IsSettled}
-use Rattle.mt_arena.specs.Forests.{tree_at}
-use Rattle.mt_arena.specs.Edits.{locked, pointed}
-use Rattle.mt_arena.specs.Arena.{ArenaView, IsArena, Guarantee}
-use Rattle.mt_arena.specs.Accesses.{at, IsOpen, with_node}
-use Rattle.mt_arena.proofs.Pairs.{here, there}
-use Rattle.mt_arena.proofs.Settled.{settled_free}
-use Rattle.mt_arena.proofs.Lags.{follows_in, under_in, followers_of}
-use Rattle.mt_arena.proofs.Guarantees.{guarantee_on}
-use Rattle.mt_arena.proofs.Naming.{points_on}
-use Rattle.mt_operation.specs.declared.phase.Phase.{Phase}
-use Rattle.mt_operation.specs.declared.phase.Phase.TheVariants.{InsertChild, InteriorSplit}
-use Rattle.mt_operation.specs.declared.splits.Halves.{Halves}
+use Rattle.std.proofs.{lemmas.Bool.{cases_eq, cases_lt, eq-eqb, eqb-true}, lemmas.Option.same_Some, lemmas.List.length-set}
+use Rattle.mt_arena.specs.{NodeView.NodeView, Nodes.{HasChild, IsChild}, Lags.{Follows, IsUnder}, Settled.IsSettled, Forests.tree_at, Edits.{locked, pointed}}
+use Rattle.mt_arena.specs.{Arena.{ArenaView, IsArena, Guarantee}, Accesses.{at, IsOpen, with_node}}
+use Rattle.mt_arena.proofs.{Pairs.{here, there}, Settled.settled_free, Lags.{follows_in, under_in, followers_of}, Guarantees.guarantee_on, Naming.points_on}
+use Rattle.mt_operation.specs.{declared.phase.Phase.Phase, declared.phase.Phase.TheVariants.{InsertChild, InteriorSplit}, declared.splits.Halves.Halves}
 use Rattle.mt_operation.specs.declared.splits.Splits.{Splits}
-use Rattle.mt_insert.specs.KeptSplits.{halves_at, last_of, HoldsSplits, IsAtLockParent, IsAtParent, IsParent, KeptSplit}
-use Rattle.mt_insert.specs.SplitEdits.{with_parent, for_parent}
+use Rattle.mt_insert.specs.{KeptSplits.{halves_at, last_of, HoldsSplits, IsAtLockParent, IsAtParent, IsParent, KeptSplit}, SplitEdits.{with_parent, for_parent}}
+use Rattle.mt_insert.proofs.{Returns.nothing_lags_still, Behind.{KeepsButNames, stays_so, keeps_each, splits_still}}
 use Rattle.mt_held.proofs.Returns.{NamesNoMoreOf, trees_same, names_no_more, names_on, child_below}
-use Rattle.mt_insert.proofs.Returns.{nothing_lags_still}
-use Rattle.mt_insert.proofs.Behind.{KeepsButNames, stays_so, keeps_each, splits_still}
 
 -- the two edits, as one
 pub parent_made : (v mid u : ArenaView) (p op : ℕ) (last halves : Halves) → halves ≡ last → mid ≡ with_node v p (locked (at v p) op)

@@ -1,32 +1,16 @@
 -- What a put finds in the border node that it holds, and what it makes ready of that: for `judge`.
 use Rattle.std.proofs.Common.{◌≡◌, ℕ, ◌==◌, ◌<◌, ◌≤◌, List, length, Option, Some, None, refl, sym, ap, subst, ◌∙◌, arith}
 use Rattle.std.proofs.lemmas.Bool.{cond_both, eqb-true, eqb-false}
-use Rattle.std.specs.Prelude.{IsSomeAnd}
-use Rattle.std.specs.Option.{option_map}
+use Rattle.std.specs.{Prelude.IsSomeAnd, Option.option_map}
 use Rattle.mt_slices.specs.Slices.{suffix_of}
-use Rattle.mt_border.specs.declared.entry.Entry.{Entry}
-use Rattle.mt_border.specs.declared.entry.Pair.{Pair}
-use Rattle.mt_border.specs.declared.entry.Held.{Held}
-use Rattle.mt_border.specs.declared.entry.Held.TheVariants.{Stable, Unstable, Link}
-use Rattle.mt_border.specs.Entry.{pair_of}
+use Rattle.mt_border.specs.{declared.entry.Entry.Entry, declared.entry.Pair.Pair, declared.entry.Held.Held}
+use Rattle.mt_border.specs.{declared.entry.Held.TheVariants.{Stable, Unstable, Link}, Entry.pair_of, Node.{Node as BorderNode, entry_at}}
 use Rattle.mt_border.proofs.Edits.{any_entry}
-use Rattle.mt_border.specs.Node.{Node as BorderNode, entry_at}
-use Rattle.mt_arena.specs.declared.tree.Tree.{Tree}
-use Rattle.mt_arena.specs.NodeView.{NodeView, node_at}
-use Rattle.mt_arena.specs.NodeFacts.{IsUnstable}
-use Rattle.mt_arena.specs.Layers.{slot_at}
-use Rattle.mt_arena.specs.Arena.{ArenaView, IsArena}
-use Rattle.mt_arena.specs.Accesses.{at}
-use Rattle.mt_operation.specs.declared.phase.Phase.{Phase}
-use Rattle.mt_operation.specs.declared.walk.Walk.{Walk}
-use Rattle.mt_operation.specs.declared.task.Task.{Task}
-use Rattle.mt_operation.specs.declared.prepared.Prepared.{Prepared}
+use Rattle.mt_arena.specs.{declared.tree.Tree.Tree, NodeView.{NodeView, node_at}, NodeFacts.IsUnstable, Layers.slot_at, Arena.{ArenaView, IsArena}, Accesses.at}
+use Rattle.mt_operation.specs.{declared.phase.Phase.Phase, declared.walk.Walk.Walk, declared.task.Task.Task, declared.prepared.Prepared.Prepared}
 use Rattle.mt_operation.specs.declared.phase.Phase.TheVariants.{Store, Publish, SplitStart}
-use Rattle.mt_held.proofs.Looks.{holds_on}
-use Rattle.mt_insert.specs.Puts.{IsReady}
-use Rattle.mt_held.specs.Holds.{HoldsBorder}
-use Rattle.mt_insert.specs.KeptPuts.{KeptReady}
-use Rattle.mt_insert.specs.Judge.{StandsIn, ReadyFor, after_judge}
+use Rattle.mt_held.{proofs.Looks.holds_on, specs.Holds.HoldsBorder}
+use Rattle.mt_insert.specs.{Puts.IsReady, KeptPuts.KeptReady, Judge.{StandsIn, ReadyFor, after_judge}}
 
 -- what is made ready over the row of a border node's slot is so over that of its view
 pub ready_over : (n : NodeView) (b : BorderNode) (task : Task) (layer slot : ℕ) (prepared : Prepared) → n.slots ≡ b.slots

@@ -1,43 +1,18 @@
 -- A put that parts the keys of its full border node may do so, and what it keeps then: for `part_with`, `part_without` and `split_move`.
 use Rattle.std.proofs.Common.{◌≡◌, ◌≢◌, ◌⊎◌, ℕ, ◌-◌, ◌<◌, List, ◌++◌, length, set, Option, Some, None, refl, sym, ap, subst, ◌∙◌, inl, inr, arith}
-use Rattle.std.specs.List.{All}
-use Rattle.std.specs.FinMap.{get}
-use Rattle.std.proofs.lemmas.Bool.{cases_eq}
-use Rattle.std.proofs.lemmas.Option.{same_Some}
-use Rattle.std.proofs.lemmas.List.{length-set}
+use Rattle.std.proofs.{lemmas.Bool.cases_eq, lemmas.Option.same_Some, lemmas.List.length-set}
+use Rattle.std.specs.{List.All, FinMap.get}
 use Rattle.mt_slices.specs.Slices.{slice_of}
 use Rattle.mt_rows.specs.Rows.{Columns}
-use Rattle.mt_border.specs.declared.entry.Entry.{Entry}
-use Rattle.mt_border.specs.Entries.{with_entry}
-use Rattle.mt_border.specs.Split.{IsParted}
-use Rattle.mt_border.specs.Contents.{owned, HasKey}
-use Rattle.mt_border.proofs.Edits.{any_entry}
-use Rattle.mt_border.proofs.Parts.{All-left, All-right}
-use Rattle.mt_border.proofs.ContentsKeys.{new_has_key, new_is_entry}
-use Rattle.mt_border.proofs.ContentsEdits.{each-publish}
+use Rattle.mt_border.specs.{declared.entry.Entry.Entry, Entries.with_entry, Split.IsParted, Contents.{owned, HasKey}}
+use Rattle.mt_border.proofs.{Edits.any_entry, Parts.{All-left, All-right}, ContentsKeys.{new_has_key, new_is_entry}, ContentsEdits.each-publish}
 use Rattle.mt_interior.specs.Fences.{end_of}
-use Rattle.mt_arena.specs.declared.tree.Standing.TheVariants.{Live}
-use Rattle.mt_arena.specs.NodeView.{NodeView, node_at}
-use Rattle.mt_arena.specs.Nodes.{Holds}
-use Rattle.mt_arena.specs.NodeFacts.{IsUnstable}
-use Rattle.mt_arena.specs.Forests.{layer_of}
-use Rattle.mt_arena.specs.Lags.{Follows, IsUnder, AreChildren}
-use Rattle.mt_arena.specs.Ways.{BelongsIn}
-use Rattle.mt_arena.specs.Splits.{left_half, right_half}
-use Rattle.mt_arena.specs.Several.{AreHalved, MayPlace}
-use Rattle.mt_arena.specs.Arena.{ArenaView, IsArena, content_of}
-use Rattle.mt_arena.specs.Accesses.{at, tree_of}
-use Rattle.mt_arena.proofs.Pairs.{here, there}
-use Rattle.mt_arena.proofs.Homes.{begun}
-use Rattle.mt_arena.proofs.Slots.{within_each}
-use Rattle.mt_arena.proofs.Elsewhere.{layer_is}
-use Rattle.mt_arena.proofs.Owners.{none_elsewhere}
-use Rattle.mt_operation.specs.declared.walk.Walk.{Walk}
-use Rattle.mt_operation.specs.declared.task.Task.{Task}
-use Rattle.mt_operation.specs.declared.prepared.Prepared.{Prepared}
-use Rattle.mt_operation.specs.declared.splits.Splits.{Splits}
-use Rattle.mt_descent.specs.KeptWalks.{GoesThrough}
-use Rattle.mt_descent.proofs.Ways.{live_tree}
+use Rattle.mt_arena.specs.{declared.tree.Standing.TheVariants.Live, NodeView.{NodeView, node_at}, Nodes.Holds, NodeFacts.IsUnstable, Forests.layer_of}
+use Rattle.mt_arena.specs.{Lags.{Follows, IsUnder, AreChildren}, Ways.BelongsIn, Splits.{left_half, right_half}, Several.{AreHalved, MayPlace}}
+use Rattle.mt_arena.specs.{Arena.{ArenaView, IsArena, content_of}, Accesses.{at, tree_of}}
+use Rattle.mt_arena.proofs.{Pairs.{here, there}, Homes.begun, Slots.within_each, Elsewhere.layer_is, Owners.none_elsewhere}
+use Rattle.mt_operation.specs.{declared.walk.Walk.Walk, declared.task.Task.Task, declared.prepared.Prepared.Prepared, declared.splits.Splits.Splits}
+use Rattle.mt_descent.{specs.KeptWalks.GoesThrough, proofs.Ways.live_tree}
 use Rattle.mt_insert.specs.Placing.{entry_of}
 use Rattle.mt_insert.specs.KeptSplits.{last_of, HoldsSplits, IsAtSplitMove, AreParted, NothingLags, HasSplits, IsAtSplitPrev, IsAtLockParent, KeptSplit}
 use Rattle.mt_insert.specs.SplitMove.{after_parting}

@@ -1,28 +1,16 @@
 -- A put that holds its border node may publish its pair there, and give its lock back once it has placed its row: for `store` and `publish`.
-use Rattle.std.proofs.Common.{ℕ, ◌<◌, length, sym, subst}
-use Rattle.std.proofs.lemmas.List.Elements.{All-set}
+use Rattle.std.proofs.{Common.{ℕ, ◌<◌, length, sym, subst}, lemmas.List.Elements.All-set}
 use Rattle.mt_slices.specs.Slices.{slice_of, mark_of}
 use Rattle.mt_rows.specs.Rows.{Bytes, Columns}
-use Rattle.mt_border.specs.declared.entry.Entry.{Entry}
-use Rattle.mt_border.specs.declared.entry.Pair.{Pair}
-use Rattle.mt_border.specs.Entry.{order_of}
-use Rattle.mt_border.specs.Entries.{IsMissing, with_entry, replaced, place_in}
+use Rattle.mt_border.specs.{declared.entry.Entry.Entry, declared.entry.Pair.Pair, Entry.order_of, Entries.{IsMissing, with_entry, replaced, place_in}}
 use Rattle.mt_border.specs.Contents.{HasKey}
-use Rattle.mt_border.proofs.ContentsKeys.{new_has_key, new_is_entry}
-use Rattle.mt_border.proofs.ContentsEdits.{each-publish}
-use Rattle.mt_arena.specs.NodeView.{NodeView}
-use Rattle.mt_arena.specs.NodeFacts.{IsUnstable}
-use Rattle.mt_arena.specs.Layers.{slot_at}
-use Rattle.mt_arena.specs.Ways.{BelongsIn}
-use Rattle.mt_arena.specs.Edits.{with_slots}
-use Rattle.mt_arena.specs.Arena.{ArenaView, IsArena}
+use Rattle.mt_border.proofs.{ContentsKeys.{new_has_key, new_is_entry}, ContentsEdits.each-publish}
+use Rattle.mt_arena.specs.{NodeView.NodeView, NodeFacts.IsUnstable, Layers.slot_at, Ways.BelongsIn, Edits.with_slots, Arena.{ArenaView, IsArena}}
 use Rattle.mt_arena.specs.Accesses.{at, tree_of, with_node, with_row, MayPublish}
 use Rattle.mt_operation.specs.declared.walk.Walk.{Walk}
 use Rattle.mt_descent.proofs.Looks.{belongs}
-use Rattle.mt_held.specs.Holds.{HoldsBorder, IsAtUnlock}
-use Rattle.mt_held.proofs.Places.{open_here, layer_here, belongs_here, unlock_with}
+use Rattle.mt_held.{specs.{Holds.{HoldsBorder, IsAtUnlock}, Moves.walk_placed}, proofs.Places.{open_here, layer_here, belongs_here, unlock_with}}
 use Rattle.mt_insert.specs.Placing.{entry_of}
-use Rattle.mt_held.specs.Moves.{walk_placed}
 
 module _ (v : ArenaView) (op : ℕ) (key : Bytes) (w : Walk) (arena : IsArena v.nodes v.trees) (h : HoldsBorder v op key w) where
   abbrev n : NodeView

@@ -1,20 +1,12 @@
 -- What a placing step writes, as the contents and the tape have it: for `store`, `publish` and the law on the tape.
-use Rattle.std.proofs.Common.{◌≡◌, ℕ, Option, sym, ap, ◌∙◌}
-use Rattle.std.specs.FinMap.{get, insert}
-use Rattle.mt_rows.specs.Rows.{Bytes, Columns}
-use Rattle.mt_rows.specs.Commands.{key_of}
-use Rattle.mt_rows.specs.Tenants.{Contents}
+use Rattle.std.{proofs.Common.{◌≡◌, ℕ, Option, sym, ap, ◌∙◌}, specs.FinMap.{get, insert}}
+use Rattle.mt_rows.specs.{Rows.{Bytes, Columns}, Commands.key_of, Tenants.Contents}
 use Rattle.mt_border.specs.Contents.{owned}
-use Rattle.mt_tape.specs.declared.entry.Entry.{Entry as Write}
-use Rattle.mt_tape.specs.Tapes.{Kept}
-use Rattle.mt_tape.specs.Histories.{with_write}
+use Rattle.mt_tape.specs.{declared.entry.Entry.{Entry as Write}, Tapes.Kept, Histories.with_write}
 use Rattle.mt_arena.specs.Arena.{ArenaView, content_of}
-use Rattle.mt_operation.specs.declared.task.Task.{Task}
-use Rattle.mt_operation.specs.declared.prepared.Prepared.{Prepared}
-use Rattle.mt_operation.specs.Tasks.{ask}
-use Rattle.mt_insert.specs.Puts.{IsPut, row_over, write_over, write_of, IsReady}
+use Rattle.mt_operation.specs.{declared.task.Task.Task, declared.prepared.Prepared.Prepared, Tasks.ask}
+use Rattle.mt_insert.specs.{Puts.{IsPut, row_over, write_over, write_of, IsReady}, Placing.Places}
 use Rattle.mt_held.specs.Taping.{pushed}
-use Rattle.mt_insert.specs.Placing.{Places}
 
 -- the row that is inserted is that of the put's write
 inserts : (task : Task) (contents : Contents) (before : Option Columns) (row : Columns) (step : ℕ) → IsPut task

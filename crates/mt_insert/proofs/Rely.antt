@@ -1,18 +1,10 @@
 -- What a put keeps that holds its border node stays under each step of another operation, by what that step leaves to others: for the laws.
 use Rattle.std.proofs.Common.{◌≡◌, ◌≢◌, ℕ, ◌<◌, List, length, subst}
 use Rattle.mt_slices.specs.Slices.{slice_of, mark_of}
-use Rattle.mt_border.specs.declared.entry.Entry.{Entry}
-use Rattle.mt_border.specs.declared.entry.FoundKind.TheVariants.{ThisKey}
-use Rattle.mt_border.specs.declared.entry.Held.TheVariants.{Stable}
-use Rattle.mt_border.specs.Entries.{IsMissing}
-use Rattle.mt_arena.specs.Layers.{slot_at}
-use Rattle.mt_arena.specs.Arena.{ArenaView, Guarantee}
-use Rattle.mt_arena.specs.Accesses.{at}
-use Rattle.mt_operation.specs.declared.phase.Phase.{Phase}
-use Rattle.mt_operation.specs.declared.phase.Phase.TheVariants.{Store, Publish, SplitStart}
-use Rattle.mt_operation.specs.declared.walk.Walk.{Walk}
-use Rattle.mt_operation.specs.declared.task.Task.{Task}
-use Rattle.mt_operation.specs.declared.prepared.Prepared.{Prepared}
+use Rattle.mt_border.specs.{declared.entry.Entry.Entry, declared.entry.FoundKind.TheVariants.ThisKey, declared.entry.Held.TheVariants.Stable, Entries.IsMissing}
+use Rattle.mt_arena.specs.{Layers.slot_at, Arena.{ArenaView, Guarantee}, Accesses.at}
+use Rattle.mt_operation.specs.{declared.phase.Phase.Phase, declared.phase.Phase.TheVariants.{Store, Publish, SplitStart}, declared.walk.Walk.Walk}
+use Rattle.mt_operation.specs.{declared.task.Task.Task, declared.prepared.Prepared.Prepared}
 use Rattle.mt_held.proofs.Rely.{held, in_slot_stays, same_slots}
 use Rattle.mt_insert.specs.KeptPuts.{IsAtStore, IsAtPublish, IsAtSplitStart, KeptReady}
 

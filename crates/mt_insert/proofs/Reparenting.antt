@@ -1,22 +1,13 @@
 -- What is kept of a split as a child that the right half has got comes to name it as its parent: for `reparent`.
 use Rattle.std.proofs.Common.{◌≡◌, ◌≢◌, ℕ, ◌+◌, ◌-◌, ◌<◌, ◌≤◌, ◌⊎◌, length, get_or, Some, None, false, refl, sym, ap, subst, ◌∙◌, inl, inr, arith}
-use Rattle.std.proofs.lemmas.Option.{same_Some}
-use Rattle.std.proofs.lemmas.List.{length-set}
-use Rattle.mt_arena.specs.NodeView.{NodeView}
-use Rattle.mt_arena.specs.Nodes.{HasChild, HasRange, IsChild}
-use Rattle.mt_arena.specs.Lags.{Follows, IsUnder}
-use Rattle.mt_arena.specs.Forests.{tree_at}
-use Rattle.mt_arena.specs.Edits.{pointed}
-use Rattle.mt_arena.specs.Arena.{ArenaView, IsArena}
-use Rattle.mt_arena.specs.Accesses.{at, IsOpen}
-use Rattle.mt_arena.proofs.Pairs.{there}
-use Rattle.mt_arena.proofs.Homes.{no_root}
-use Rattle.mt_arena.proofs.Lags.{follows_in, under_in}
+use Rattle.std.proofs.{lemmas.Option.same_Some, lemmas.List.length-set}
+use Rattle.mt_arena.specs.{NodeView.NodeView, Nodes.{HasChild, HasRange, IsChild}, Lags.{Follows, IsUnder}, Forests.tree_at, Edits.pointed}
+use Rattle.mt_arena.specs.{Arena.{ArenaView, IsArena}, Accesses.{at, IsOpen}}
+use Rattle.mt_arena.proofs.{Pairs.there, Homes.no_root, Lags.{follows_in, under_in}}
 use Rattle.mt_operation.specs.declared.splits.Splits.{Splits}
-use Rattle.mt_insert.specs.KeptSplits.{last_of, HoldsSplits, NothingLags, IsChildFrom, IsAtReparent, IsAtLockParent}
-use Rattle.mt_insert.specs.SplitEdits.{with_named_parent}
-use Rattle.mt_held.proofs.Returns.{NamesNoMoreOf, trees_same, names_no_more}
+use Rattle.mt_insert.specs.{KeptSplits.{last_of, HoldsSplits, NothingLags, IsChildFrom, IsAtReparent, IsAtLockParent}, SplitEdits.with_named_parent}
 use Rattle.mt_insert.proofs.Behind.{KeepsButNames, keeps_child, keeps_each, splits_still}
+use Rattle.mt_held.proofs.Returns.{NamesNoMoreOf, trees_same, names_no_more}
 
 -- the child whose turn it is
 module _ (v : ArenaView) (op : ℕ) (s : Splits) (arena : IsArena v.nodes v.trees) (kept : IsAtReparent v op s) where

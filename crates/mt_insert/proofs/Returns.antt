@@ -1,13 +1,10 @@
 -- What may be given back may still be given back after an edit that leaves the node as it is, but for the one before it and its parent, and
 -- by which nobody comes to name it: for the phases of a split.
 use Rattle.std.proofs.Common.{ℕ, ◌<◌, ◌≤◌, List, length, ◌∙◌}
-use Rattle.mt_arena.specs.NodeView.{NodeView, node_at}
-use Rattle.mt_arena.specs.Arena.{ArenaView}
-use Rattle.mt_arena.specs.Accesses.{at}
+use Rattle.mt_arena.specs.{NodeView.{NodeView, node_at}, Arena.ArenaView, Accesses.at}
 use Rattle.mt_operation.specs.declared.splits.Halves.{Halves}
-use Rattle.mt_held.proofs.Returns.{StaysButNames, NamesNoMoreOf, child_stays, TreesStand, returnable_still}
+use Rattle.mt_held.{proofs.Returns.{StaysButNames, NamesNoMoreOf, child_stays, TreesStand, returnable_still}, specs.Holds.MayReturn}
 use Rattle.mt_insert.specs.KeptSplits.{halves_at, AreReturnable, NothingLags}
-use Rattle.mt_held.specs.Holds.{MayReturn}
 
 -- nothing lags behind such a node
 pub nothing_lags_still : (xs ys : List NodeView) (k : ℕ) → StaysButNames (node_at xs k) (node_at ys k) → NamesNoMoreOf xs ys k → NothingLags xs k

@@ -1,18 +1,9 @@
 -- The key of a put at SplitMove belongs in the left half, which misses it: so the contents have no row at the key.
-use Rattle.std.proofs.Common.{◌≡◌, ℕ, None, refl, subst}
-use Rattle.std.specs.FinMap.{get}
+use Rattle.std.{proofs.Common.{◌≡◌, ℕ, None, refl, subst}, specs.FinMap.get}
 use Rattle.mt_slices.specs.Slices.{slice_of, mark_of}
 use Rattle.mt_border.specs.Contents.{owned}
-use Rattle.mt_arena.specs.Ways.{BelongsIn}
-use Rattle.mt_arena.specs.Arena.{ArenaView, IsArena, content_of}
-use Rattle.mt_arena.specs.Accesses.{at}
-use Rattle.mt_arena.specs.Several.{MaySplit}
-use Rattle.mt_arena.proofs.Homes.{begun}
-use Rattle.mt_arena.proofs.Owners.{none_elsewhere}
-use Rattle.mt_operation.specs.declared.walk.Walk.{Walk}
-use Rattle.mt_operation.specs.declared.task.Task.{Task}
-use Rattle.mt_operation.specs.declared.prepared.Prepared.{Prepared}
-use Rattle.mt_operation.specs.declared.splits.Splits.{Splits}
+use Rattle.mt_arena.{specs.{Ways.BelongsIn, Arena.{ArenaView, IsArena, content_of}, Accesses.at, Several.MaySplit}, proofs.{Homes.begun, Owners.none_elsewhere}}
+use Rattle.mt_operation.specs.{declared.walk.Walk.Walk, declared.task.Task.Task, declared.prepared.Prepared.Prepared, declared.splits.Splits.Splits}
 use Rattle.mt_descent.proofs.Ways.{live_tree}
 use Rattle.mt_insert.specs.KeptSplits.{last_of, IsAtSplitMove}
 

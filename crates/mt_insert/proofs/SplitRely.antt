@@ -1,30 +1,17 @@
 -- What is kept of an operation that splits nodes stays under each step of another one, by what that step leaves to others alone: for the laws.
 use Rattle.std.proofs.Common.{◌≡◌, ◌≢◌, ℕ, ◌<◌, ◌-◌, List, length, get_or, Some, None, true, false, sym, ap, subst, ◌∙◌, inl, inr, arith}
+use Rattle.std.proofs.{lemmas.Bool.cases_lt, lemmas.Option.same_Some}
 use Rattle.std.specs.List.{All}
-use Rattle.std.proofs.lemmas.Bool.{cases_lt}
-use Rattle.std.proofs.lemmas.Option.{same_Some}
 use Rattle.mt_version.specs.Parts.{Parts}
-use Rattle.mt_slices.specs.Slices.{slice_of, mark_of}
-use Rattle.mt_slices.specs.declared.mark.Mark.{Mark}
-use Rattle.mt_border.specs.declared.entry.Entry.{Entry}
-use Rattle.mt_border.specs.Entries.{IsMissing}
-use Rattle.mt_border.specs.Split.{IsSeparator, slices_with}
+use Rattle.mt_slices.specs.{Slices.{slice_of, mark_of}, declared.mark.Mark.Mark}
+use Rattle.mt_border.specs.{declared.entry.Entry.Entry, Entries.IsMissing, Split.{IsSeparator, slices_with}}
 use Rattle.mt_interior.specs.Fences.{end_of}
-use Rattle.mt_arena.specs.NodeView.{NodeView}
-use Rattle.mt_arena.specs.Nodes.{Holds, HasChild}
-use Rattle.mt_arena.specs.NodeFacts.{IsUnstable}
-use Rattle.mt_arena.specs.Lags.{Follows, IsUnder, AreFollowers, AreChildren}
-use Rattle.mt_arena.specs.Arena.{ArenaView, Guarantee}
-use Rattle.mt_arena.specs.Accesses.{at, IsHeld}
-use Rattle.mt_arena.specs.Several.{IsHalf, MaySplit}
-use Rattle.mt_arena.specs.Guarantee.{IsUntouched}
+use Rattle.mt_arena.specs.{NodeView.NodeView, Nodes.{Holds, HasChild}, NodeFacts.IsUnstable, Lags.{Follows, IsUnder, AreFollowers, AreChildren}}
+use Rattle.mt_arena.specs.{Arena.{ArenaView, Guarantee}, Accesses.{at, IsHeld}, Several.{IsHalf, MaySplit}, Guarantee.IsUntouched}
 use Rattle.mt_arena.proofs.Settled.{alive, was_none}
 use Rattle.mt_operation.specs.declared.phase.Phase.{Phase}
 use Rattle.mt_operation.specs.declared.phase.Phase.TheVariants.{SplitPrev, LockParent, InsertChild, InteriorSplit, Reparent, RootGrow, Unlock}
-use Rattle.mt_operation.specs.declared.walk.Walk.{Walk}
-use Rattle.mt_operation.specs.declared.task.Task.{Task}
-use Rattle.mt_operation.specs.declared.prepared.Prepared.{Prepared}
-use Rattle.mt_operation.specs.declared.splits.Halves.{Halves}
+use Rattle.mt_operation.specs.{declared.walk.Walk.Walk, declared.task.Task.Task, declared.prepared.Prepared.Prepared, declared.splits.Halves.Halves}
 use Rattle.mt_operation.specs.declared.splits.Splits.{Splits}
 use Rattle.mt_descent.specs.KeptWalks.{GoesThrough}
 use Rattle.mt_insert.specs.KeptSplits.{halves_at, last_of, HoldsSplits, AreReturnable, IsSplitting, AreParted, NothingLags, HasSplits, HasSplitsNamed, IsUnparted, IsAtSplitMove, IsAtSplitPrev, IsAtLockParent, IsAtRootGrow, IsParent, IsAtParent, IsAtInsertChild, IsAtInteriorSplit, IsChildFrom, IsAtReparent, IsAtUnlockAll, KeptSplit}

@@ -1,27 +1,13 @@
 -- A full parent is split as the right half of its child comes in: it and its own right half are the last halves from then on, and those
 -- below may be given back. For `interior_split`.
 use Rattle.std.proofs.Common.{◌≡◌, ◌≢◌, ◌⊎◌, ℕ, ◌+◌, ◌-◌, ◌<◌, List, [], ◌∷◌, length, set, Some, None, refl, sym, ap, subst, ◌∙◌, inl, inr, arith, length-append, length-drop}
-use Rattle.std.proofs.lemmas.Bool.{cases_lt}
-use Rattle.std.proofs.lemmas.List.{get_or_append_left}
-use Rattle.std.proofs.Math.Seq.{get_or-append_seam}
-use Rattle.std.proofs.lemmas.List.Edits.{length-insert}
+use Rattle.std.proofs.{lemmas.Bool.cases_lt, lemmas.List.get_or_append_left, Math.Seq.get_or-append_seam, lemmas.List.Edits.length-insert}
 use Rattle.std.proofs.lemmas.Option.{same_Some}
-use Rattle.mt_interior.specs.Places.{place_of}
-use Rattle.mt_interior.proofs.CallerLemmas.{place_of-le-length}
-use Rattle.mt_arena.specs.NodeView.{NodeView, node_at}
-use Rattle.mt_arena.specs.Nodes.{AreNodes, HasChild, HasRange}
-use Rattle.mt_arena.specs.Forests.{tree_at}
-use Rattle.mt_arena.specs.Lags.{IsUnder, AreFollowers}
-use Rattle.mt_arena.specs.Edits.{splitting}
-use Rattle.mt_arena.specs.Splits.{Inserts, with_child, exact, inner_left, inner_right}
-use Rattle.mt_arena.specs.Several.{MaySplitInner, with_parts}
-use Rattle.mt_arena.specs.Arena.{ArenaView}
-use Rattle.mt_arena.specs.Accesses.{at}
-use Rattle.mt_arena.proofs.Pairs.{before, last as pushed}
-use Rattle.mt_arena.proofs.Lags.{child_parted}
-use Rattle.mt_arena.proofs.Parting.{ranges_parts}
-use Rattle.mt_operation.specs.declared.splits.Halves.{Halves}
-use Rattle.mt_operation.specs.declared.splits.Splits.{Splits}
+use Rattle.mt_interior.{specs.Places.place_of, proofs.CallerLemmas.place_of-le-length}
+use Rattle.mt_arena.specs.{NodeView.{NodeView, node_at}, Nodes.{AreNodes, HasChild, HasRange}, Forests.tree_at, Lags.{IsUnder, AreFollowers}, Edits.splitting}
+use Rattle.mt_arena.specs.{Splits.{Inserts, with_child, exact, inner_left, inner_right}, Several.{MaySplitInner, with_parts}, Arena.ArenaView, Accesses.at}
+use Rattle.mt_arena.proofs.{Pairs.{before, last as pushed}, Lags.child_parted, Parting.ranges_parts}
+use Rattle.mt_operation.specs.{declared.splits.Halves.Halves, declared.splits.Splits.Splits}
 use Rattle.mt_insert.specs.KeptSplits.{halves_at, last_of, HoldsSplits, MayReturnBoth, AreReturnable, AreParted, NothingLags, IsAtParent, IsAtInteriorSplit, IsChildFrom, IsAtReparent}
 use Rattle.mt_insert.specs.SplitEdits.{HasOneMore}
 use Rattle.mt_insert.proofs.InsertingChildren.{KeepsNames, KeepNames, names_pushed, followed_before, named_before, inserts, open_parent, tree_there, stable, size, at_p, at_l, at_other, names, children_then, halves_return}

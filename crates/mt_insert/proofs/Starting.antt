@@ -1,37 +1,19 @@
 -- What a put keeps that has made the right half of its full border node: for `split_start`.
 use Rattle.std.proofs.Common.{◌≡◌, ◌≢◌, ◌⊎◌, ℕ, ◌-◌, ◌+◌, ◌<◌, List, [], ◌∷◌, ◌++◌, length, set, Some, None, false, refl, sym, ap, subst, ◌∙◌, inl, inr, arith, length-append}
-use Rattle.std.proofs.lemmas.Bool.{cases_eq}
-use Rattle.std.proofs.lemmas.List.{length-set}
+use Rattle.std.proofs.{lemmas.Bool.cases_eq, lemmas.List.length-set}
 use Rattle.mt_slices.specs.Slices.{slice_of, mark_of}
 use Rattle.mt_rows.specs.Rows.{Bytes}
-use Rattle.mt_border.specs.Split.{IsSeparator, slices_with}
-use Rattle.mt_border.proofs.ContentsKeys.{new_is_entry}
-use Rattle.mt_arena.specs.declared.tree.Standing.TheVariants.{Made}
-use Rattle.mt_arena.specs.NodeView.{NodeView, node_at}
-use Rattle.mt_arena.specs.Nodes.{AreNodes}
-use Rattle.mt_arena.specs.Forests.{HasSlice, tree_at}
-use Rattle.mt_arena.specs.Lags.{Follows, IsUnder, AreChildren}
-use Rattle.mt_arena.specs.Edits.{splitting, fresh_half}
-use Rattle.mt_arena.specs.Several.{IsHalf, MaySplit}
-use Rattle.mt_arena.specs.Arena.{ArenaView, IsArena}
+use Rattle.mt_border.{specs.Split.{IsSeparator, slices_with}, proofs.ContentsKeys.new_is_entry}
+use Rattle.mt_arena.specs.{declared.tree.Standing.TheVariants.Made, NodeView.{NodeView, node_at}, Nodes.AreNodes, Forests.{HasSlice, tree_at}}
+use Rattle.mt_arena.specs.{Lags.{Follows, IsUnder, AreChildren}, Edits.{splitting, fresh_half}, Several.{IsHalf, MaySplit}, Arena.{ArenaView, IsArena}}
 use Rattle.mt_arena.specs.Accesses.{at, tree_of, with_half}
-use Rattle.mt_arena.proofs.Pairs.{here, there, last, before}
-use Rattle.mt_arena.proofs.Lags.{begun_left, begun_right, fresh_children, followers_of}
-use Rattle.mt_arena.proofs.Locks.{is_held}
-use Rattle.mt_arena.proofs.Quiet.{nodes_splitting}
-use Rattle.mt_arena.proofs.Separators.{separator_begins}
-use Rattle.mt_operation.specs.declared.phase.Phase.TheVariants.{SplitMove}
-use Rattle.mt_operation.specs.declared.walk.Walk.{Walk}
-use Rattle.mt_operation.specs.declared.task.Task.{Task}
-use Rattle.mt_operation.specs.declared.prepared.Prepared.{Prepared}
-use Rattle.mt_operation.specs.declared.splits.Halves.{Halves}
-use Rattle.mt_operation.specs.declared.splits.Splits.{Splits}
+use Rattle.mt_arena.proofs.{Pairs.{here, there, last, before}, Lags.{begun_left, begun_right, fresh_children, followers_of}, Locks.is_held}
+use Rattle.mt_arena.proofs.{Quiet.nodes_splitting, Separators.separator_begins}
+use Rattle.mt_operation.specs.{declared.phase.Phase.TheVariants.SplitMove, declared.walk.Walk.Walk, declared.task.Task.Task}
+use Rattle.mt_operation.specs.{declared.prepared.Prepared.Prepared, declared.splits.Halves.Halves, declared.splits.Splits.Splits, Operations.IsUnsplit}
 use Rattle.mt_descent.specs.KeptWalks.{GoesThrough}
-use Rattle.mt_held.specs.Holds.{HoldsOnly}
-use Rattle.mt_insert.specs.KeptPuts.{IsAtSplitStart}
-use Rattle.mt_operation.specs.Operations.{IsUnsplit}
-use Rattle.mt_insert.specs.KeptSplits.{halves_at, last_of, HoldsSplits, IsUnparted, IsAtSplitMove, NothingLags}
-use Rattle.mt_held.specs.Moves.{walk_at}
+use Rattle.mt_held.specs.{Holds.HoldsOnly, Moves.walk_at}
+use Rattle.mt_insert.specs.{KeptPuts.IsAtSplitStart, KeptSplits.{halves_at, last_of, HoldsSplits, IsUnparted, IsAtSplitMove, NothingLags}}
 use Rattle.mt_insert.specs.SplitEdits.{Starts, HasOneMore}
 
 -- the first split is the one of its list

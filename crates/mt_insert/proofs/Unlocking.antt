@@ -1,23 +1,16 @@
 -- That what may be given back still may as the locks of other nodes are given back, and what that leaves of nodes and guarantees: for
 -- `unlock_all`.
 use Rattle.std.proofs.Common.{◌≡◌, ◌≢◌, ◌⊎◌, ℕ, ◌+◌, ◌<◌, ◌≤◌, List, length, Option, Some, None, refl, sym, ap, subst, ◌∙◌, inl, inr, arith}
-use Rattle.std.proofs.lemmas.Bool.{cases_eq}
-use Rattle.std.proofs.lemmas.Option.{same_Some}
+use Rattle.std.proofs.{lemmas.Bool.cases_eq, lemmas.Option.same_Some}
 use Rattle.mt_version.specs.Changes.{CanUnlock}
-use Rattle.mt_arena.specs.NodeView.{NodeView}
-use Rattle.mt_arena.specs.Edits.{unlocked}
-use Rattle.mt_arena.specs.Guarantee.{NodesGuarantee, PointsOnly}
-use Rattle.mt_arena.specs.Arena.{ArenaView, IsArena, Guarantee, content_of}
+use Rattle.mt_arena.specs.{NodeView.NodeView, Edits.unlocked, Guarantee.{NodesGuarantee, PointsOnly}, Arena.{ArenaView, IsArena, Guarantee, content_of}}
 use Rattle.mt_arena.specs.Accesses.{at}
 use Rattle.mt_arena.proofs.Pairs.{there}
-use Rattle.mt_operation.specs.declared.splits.Halves.{Halves}
-use Rattle.mt_operation.specs.declared.splits.Splits.{Splits}
+use Rattle.mt_operation.specs.{declared.splits.Halves.Halves, declared.splits.Splits.Splits}
 use Rattle.mt_descent.specs.KeptWalks.{HoldsNothing}
 use Rattle.mt_held.proofs.GivingBack.{GivesBack, back_none, back_more, back_one, returns_still, step_back, nodes_on}
-use Rattle.mt_insert.specs.KeptSplits.{halves_at, IsHalf, IsAmong, HoldsSplits, MayReturnBoth, AreReturnable, IsAtUnlockAll}
-use Rattle.mt_held.specs.Holds.{MayReturn}
-use Rattle.mt_held.specs.Moves.{given_back}
-use Rattle.mt_insert.specs.Unlock.{Returns}
+use Rattle.mt_held.specs.{Holds.MayReturn, Moves.given_back}
+use Rattle.mt_insert.specs.{KeptSplits.{halves_at, IsHalf, IsAmong, HoldsSplits, MayReturnBoth, AreReturnable, IsAtUnlockAll}, Unlock.Returns}
 
 pub both_still : (P : ℕ → Type 0) (v u : ArenaView) (op level : ℕ) (h : Halves) → GivesBack P v u → ¬ P h.left → ¬ P h.right
     → MayReturnBoth v op level h → MayReturnBoth u op level h

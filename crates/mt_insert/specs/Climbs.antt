@@ -1,16 +1,12 @@
 -- What the steps do by which a right half comes to its place: SplitPrev, LockParent, InsertChild, InteriorSplit, Reparent and RootGrow.
 use Rattle.std.specs.Prelude.{None, Some, length, slice_index, ℕ, ◌≡◌}
-use Rattle.mt_arena.specs.Arena.{ArenaView}
-use Rattle.mt_arena.specs.Accesses.{at}
-use Rattle.mt_arena.specs.Several.{with_parts, with_right, with_root}
+use Rattle.mt_arena.specs.{Arena.ArenaView, Accesses.at, Several.{with_parts, with_right, with_root}}
 use Rattle.mt_operation.specs.declared.phase.Phase.TheVariants.{InsertChild, InteriorSplit, LockParent, Reparent, RootGrow, SplitPrev, Unlock}
-use Rattle.mt_operation.specs.declared.phase.Phase.{Phase}
-use Rattle.mt_operation.specs.declared.splits.Splits.{Splits}
-use Rattle.mt_operation.specs.declared.walk.Walk.{Walk}
+use Rattle.mt_operation.specs.{declared.phase.Phase.Phase, declared.splits.Splits.Splits, declared.walk.Walk.Walk}
 use Rattle.mt_descent.specs.WalkMoves.{KeepsPairs}
 use Rattle.mt_insert.specs.SplitEdits.{HasOneMore, after_reparent, for_parent, moved_on, with_named_parent, with_parent}
-use Rattle.mt_held.specs.Moves.{walk_at, with_named_previous}
 use Rattle.mt_insert.specs.KeptSplits.{HoldsSplits, KeptSplit, last_of}
+use Rattle.mt_held.specs.Moves.{walk_at, with_named_previous}
 
 -- what they do alike: no pair moves, and what is kept of the halves, which the operation holds alone
 pub record KeepsSplits (op : ℕ) (old new : ArenaView) (before after : Walk) (s t : Splits) : Type 0 where

@@ -2,28 +2,15 @@
 use Rattle.std.specs.Prelude.{None, Option, Some, if◌then◌else◌, length, ℕ, ◌==◌, ◌≡◌, ◌⊎◌}
 use Rattle.mt_slices.specs.Slices.{mark_of, slice_of, suffix_of}
 use Rattle.mt_rows.specs.Rows.{Bytes}
-use Rattle.mt_border.specs.Entries.{IsMissing}
-use Rattle.mt_border.specs.declared.entry.Pair.{Pair}
-use Rattle.mt_border.specs.declared.entry.FoundKind.TheVariants.{ThisKey}
-use Rattle.mt_border.specs.Entry.{pair_of}
+use Rattle.mt_border.specs.{Entries.IsMissing, declared.entry.Pair.Pair, declared.entry.FoundKind.TheVariants.ThisKey, Entry.pair_of}
 use Rattle.mt_tape.specs.Tapes.{Kept}
-use Rattle.mt_arena.specs.Arena.{ArenaView}
-use Rattle.mt_arena.specs.NodeView.{NodeView}
-use Rattle.mt_arena.specs.Accesses.{at}
-use Rattle.mt_arena.specs.Layers.{slot_at}
-use Rattle.mt_operation.specs.declared.phase.Phase.TheVariants.{MakeLayer, Publish, SplitStart, Store}
-use Rattle.mt_operation.specs.declared.phase.Phase.{Phase}
-use Rattle.mt_operation.specs.declared.prepared.Prepared.{Prepared}
-use Rattle.mt_operation.specs.declared.task.Task.{Task}
-use Rattle.mt_operation.specs.declared.walk.Walk.{Walk}
-use Rattle.mt_descent.specs.KeptWalks.{IsInSlot}
-use Rattle.mt_descent.specs.WalkMoves.{KeepsPairs}
-use Rattle.mt_held.specs.Unlock.{IsUnlock, MeetsLink}
-use Rattle.mt_insert.specs.KeptPuts.{IsAtMakeLayer, KeptReady}
-use Rattle.mt_insert.specs.Puts.{IsReady}
-use Rattle.mt_insert.specs.declared.phases.judge.Judged.{Judged}
+use Rattle.mt_arena.specs.{Arena.ArenaView, NodeView.NodeView, Accesses.at, Layers.slot_at}
+use Rattle.mt_operation.specs.{declared.phase.Phase.TheVariants.{MakeLayer, Publish, SplitStart, Store}, declared.phase.Phase.Phase}
+use Rattle.mt_operation.specs.{declared.prepared.Prepared.Prepared, declared.task.Task.Task, declared.walk.Walk.Walk}
+use Rattle.mt_descent.specs.{KeptWalks.IsInSlot, WalkMoves.KeepsPairs}
+use Rattle.mt_held.specs.{Unlock.{IsUnlock, MeetsLink}, Taping.reserving}
+use Rattle.mt_insert.specs.{KeptPuts.{IsAtMakeLayer, KeptReady}, Puts.IsReady, declared.phases.judge.Judged.Judged}
 use Rattle.mt_insert.specs.declared.phases.judge.Judged.TheVariants.{GoesOn, NoMemory, Ready}
-use Rattle.mt_held.specs.Taping.{reserving}
 use Rattle.mt_border.specs.declared.entry.FoundKind.TheVariants as kinds
 
 -- the slot that has the key; none where the node misses it

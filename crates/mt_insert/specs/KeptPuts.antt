@@ -2,18 +2,11 @@
 use Rattle.std.specs.Prelude.{◌≡◌, ℕ, ◌<◌, length, Some, None}
 use Rattle.mt_slices.specs.Slices.{slice_of, mark_of, suffix_of}
 use Rattle.mt_rows.specs.Rows.{Bytes}
-use Rattle.mt_border.specs.declared.entry.Pair.{Pair}
-use Rattle.mt_border.specs.declared.entry.Held.TheVariants.{Stable}
-use Rattle.mt_border.specs.declared.entry.FoundKind.TheVariants.{ThisKey, OtherLong}
+use Rattle.mt_border.specs.{declared.entry.Pair.Pair, declared.entry.Held.TheVariants.Stable, declared.entry.FoundKind.TheVariants.{ThisKey, OtherLong}}
 use Rattle.mt_border.specs.Entries.{IsMissing}
-use Rattle.mt_arena.specs.Layers.{slot_at}
-use Rattle.mt_arena.specs.Arena.{ArenaView}
-use Rattle.mt_arena.specs.Accesses.{at}
-use Rattle.mt_operation.specs.declared.phase.Phase.{Phase}
-use Rattle.mt_operation.specs.declared.phase.Phase.TheVariants.{Store, Publish, SplitStart}
-use Rattle.mt_operation.specs.declared.walk.Walk.{Walk}
-use Rattle.mt_operation.specs.declared.task.Task.{Task}
-use Rattle.mt_operation.specs.declared.prepared.Prepared.{Prepared}
+use Rattle.mt_arena.specs.{Layers.slot_at, Arena.ArenaView, Accesses.at}
+use Rattle.mt_operation.specs.{declared.phase.Phase.Phase, declared.phase.Phase.TheVariants.{Store, Publish, SplitStart}, declared.walk.Walk.Walk}
+use Rattle.mt_operation.specs.{declared.task.Task.Task, declared.prepared.Prepared.Prepared}
 use Rattle.mt_descent.specs.KeptWalks.{IsInSlot}
 use Rattle.mt_held.specs.Holds.{HoldsBorder}
 use Rattle.mt_insert.specs.Puts.{IsReady}

@@ -1,23 +1,13 @@
 -- What is kept of a put that splits nodes, by its next phase. Each fact speaks of nodes that the operation holds, from the lowest level up.
-use Rattle.std.specs.Prelude.{◌≡◌, ◌≢◌, ℕ, ◌-◌, ◌<◌, ◌≤◌, ◌⊎◌, true, false, List, length, Some, None, slice_index, slice_index_or}
-use Rattle.std.specs.List.{All}
+use Rattle.std.specs.{Prelude.{◌≡◌, ◌≢◌, ℕ, ◌-◌, ◌<◌, ◌≤◌, ◌⊎◌, true, false, List, length, Some, None, slice_index, slice_index_or}, List.All}
 use Rattle.mt_slices.specs.Slices.{slice_of, mark_of, suffix_of}
 use Rattle.mt_interior.specs.Fences.{end_of}
-use Rattle.mt_arena.specs.NodeView.{NodeView, node_at}
-use Rattle.mt_arena.specs.Nodes.{Holds, HasChild}
-use Rattle.mt_arena.specs.NodeFacts.{IsUnstable}
-use Rattle.mt_arena.specs.Lags.{Follows, IsUnder, AreFollowers, AreChildren}
-use Rattle.mt_arena.specs.Arena.{ArenaView}
-use Rattle.mt_arena.specs.Accesses.{at, IsHeld, IsOpen}
-use Rattle.mt_arena.specs.Several.{MaySplit}
+use Rattle.mt_arena.specs.{NodeView.{NodeView, node_at}, Nodes.{Holds, HasChild}, NodeFacts.IsUnstable, Lags.{Follows, IsUnder, AreFollowers, AreChildren}}
+use Rattle.mt_arena.specs.{Arena.ArenaView, Accesses.{at, IsHeld, IsOpen}, Several.MaySplit}
 use Rattle.mt_operation.specs.declared.phase.Phase.{Phase}
 use Rattle.mt_operation.specs.declared.phase.Phase.TheVariants.{SplitPrev, LockParent, InsertChild, InteriorSplit, Reparent, RootGrow, Unlock}
-use Rattle.mt_operation.specs.declared.walk.Walk.{Walk}
-use Rattle.mt_operation.specs.declared.task.Task.{Task}
-use Rattle.mt_operation.specs.declared.prepared.Prepared.{Prepared}
-use Rattle.mt_operation.specs.declared.splits.Halves.{Halves}
-use Rattle.mt_operation.specs.declared.splits.Splits.{Splits}
-use Rattle.mt_operation.specs.Operations.{SplitsView}
+use Rattle.mt_operation.specs.{declared.walk.Walk.Walk, declared.task.Task.Task, declared.prepared.Prepared.Prepared, declared.splits.Halves.Halves}
+use Rattle.mt_operation.specs.{declared.splits.Splits.Splits, Operations.SplitsView}
 use Rattle.mt_descent.specs.KeptWalks.{GoesThrough}
 use Rattle.mt_held.specs.Holds.{MayReturn}
 use Rattle.mt_insert.specs.Puts.{IsReady}

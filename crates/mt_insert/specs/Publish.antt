@@ -1,22 +1,13 @@
 -- Publish: the quota is judged, and the pair of the missing key made live.
-use Rattle.std.specs.Prelude.{Bool, None, false, true, ℕ, ◌≡◌}
-use Rattle.std.specs.FinMap.{get}
-use Rattle.std.specs.Option.{option_map}
-use Rattle.mt_rows.specs.Accounts.{Accounts, HasRoom, OthersStay, account_of, one_more}
-use Rattle.mt_rows.specs.Rows.{Columns}
-use Rattle.mt_border.specs.Contents.{owned}
-use Rattle.mt_border.specs.Entries.{with_entry}
+use Rattle.std.specs.{Prelude.{Bool, None, false, true, ℕ, ◌≡◌}, FinMap.get, Option.option_map}
+use Rattle.mt_rows.specs.{Accounts.{Accounts, HasRoom, OthersStay, account_of, one_more}, Rows.Columns}
+use Rattle.mt_border.specs.{Contents.owned, Entries.with_entry}
 use Rattle.mt_tape.specs.Tapes.{Kept}
-use Rattle.mt_arena.specs.Arena.{ArenaView, Guarantee, content_of}
-use Rattle.mt_arena.specs.Accesses.{at, with_node}
-use Rattle.mt_arena.specs.Edits.{with_slots}
-use Rattle.mt_operation.specs.declared.task.Task.{Task}
-use Rattle.mt_operation.specs.declared.walk.Walk.{Walk}
+use Rattle.mt_arena.specs.{Arena.{ArenaView, Guarantee, content_of}, Accesses.{at, with_node}, Edits.with_slots}
+use Rattle.mt_operation.specs.{declared.task.Task.Task, declared.walk.Walk.Walk}
 use Rattle.mt_descent.specs.WalkMoves.{Continues}
-use Rattle.mt_held.specs.Holds.{IsAtUnlock}
+use Rattle.mt_held.specs.{Holds.IsAtUnlock, Taping.released, Moves.walk_placed}
 use Rattle.mt_insert.specs.Placing.{Places, entry_of}
-use Rattle.mt_held.specs.Taping.{released}
-use Rattle.mt_held.specs.Moves.{walk_placed}
 
 -- the pair is live, placed by the step of this number, and counted; its write is on the tape
 pub record IsPublish (op step : ℕ) (task : Task) (row : Columns) (old new : ArenaView) (tape taped : Kept) (accounts counted : Accounts) (before after : Walk) : Type 0 where

@@ -1,17 +1,10 @@
 -- What a put writes: the row that it makes of the one that is there, and the write of it for the tape.
-use Rattle.std.specs.Prelude.{◌≡◌, ℕ, Bool, true, false, [], Option, Some}
-use Rattle.std.specs.FinMap.{get}
-use Rattle.mt_rows.specs.declared.command.Command.{Command}
-use Rattle.mt_rows.specs.declared.command.Command.TheVariants.{Put}
-use Rattle.mt_rows.specs.Rows.{Columns, columns_of}
-use Rattle.mt_rows.specs.Changes.{Named, changed}
-use Rattle.mt_rows.specs.Commands.{key_of}
-use Rattle.mt_rows.specs.Tenants.{Contents}
+use Rattle.std.specs.{Prelude.{◌≡◌, ℕ, Bool, true, false, [], Option, Some}, FinMap.get}
+use Rattle.mt_rows.specs.{declared.command.Command.Command, declared.command.Command.TheVariants.Put, Rows.{Columns, columns_of}, Changes.{Named, changed}}
+use Rattle.mt_rows.specs.{Commands.key_of, Tenants.Contents}
 use Rattle.mt_border.specs.Contents.{owned}
 use Rattle.mt_tape.specs.declared.entry.Entry.{Entry as Write}
-use Rattle.mt_operation.specs.declared.task.Task.{Task}
-use Rattle.mt_operation.specs.declared.prepared.Prepared.{Prepared}
-use Rattle.mt_operation.specs.Tasks.{ask}
+use Rattle.mt_operation.specs.{declared.task.Task.Task, declared.prepared.Prepared.Prepared, Tasks.ask}
 
 -- what a put writes; other commands write nothing
 abbrev pub change_of : Command → Named

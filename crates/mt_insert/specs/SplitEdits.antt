@@ -2,14 +2,9 @@
 use Rattle.std.specs.Prelude.{◌≡◌, ℕ, ◌+◌, ◌==◌, if◌then◌else◌, length, Some, None, ◌++◌, ◌∷◌, []}
 use Rattle.mt_slices.specs.Slices.{slice_of, mark_of}
 use Rattle.mt_border.specs.Split.{IsSeparator, slices_with}
-use Rattle.mt_arena.specs.NodeView.{NodeView}
-use Rattle.mt_arena.specs.Edits.{locked, pointed}
-use Rattle.mt_arena.specs.Arena.{ArenaView}
-use Rattle.mt_arena.specs.Accesses.{at, with_node, with_half}
-use Rattle.mt_operation.specs.declared.phase.Phase.{Phase}
-use Rattle.mt_operation.specs.declared.phase.Phase.TheVariants.{LockParent, InsertChild, InteriorSplit, Reparent}
-use Rattle.mt_operation.specs.declared.walk.Walk.{Walk}
-use Rattle.mt_operation.specs.declared.splits.Splits.{Splits}
+use Rattle.mt_arena.specs.{NodeView.NodeView, Edits.{locked, pointed}, Arena.ArenaView, Accesses.{at, with_node, with_half}}
+use Rattle.mt_operation.specs.{declared.phase.Phase.Phase, declared.phase.Phase.TheVariants.{LockParent, InsertChild, InteriorSplit, Reparent}}
+use Rattle.mt_operation.specs.{declared.walk.Walk.Walk, declared.splits.Splits.Splits}
 use Rattle.mt_rows.specs.Rows.{Bytes}
 
 -- after SplitStart: the node has a right half, which begins where its keys and this one would be parted

@@ -1,25 +1,14 @@
 -- SplitMove: the quota is judged, and the keys of the full border node are parted among the halves.
-use Rattle.std.specs.Prelude.{Bool, None, Option, Some, false, true, ℕ, ◌≡◌}
-use Rattle.std.specs.FinMap.{get}
-use Rattle.std.specs.Option.{option_map}
-use Rattle.mt_rows.specs.Accounts.{Accounts, HasRoom, OthersStay, account_of, one_more}
-use Rattle.mt_rows.specs.Rows.{Columns}
-use Rattle.mt_border.specs.Contents.{owned}
-use Rattle.mt_border.specs.Entries.{with_entry}
+use Rattle.std.specs.{Prelude.{Bool, None, Option, Some, false, true, ℕ, ◌≡◌}, FinMap.get, Option.option_map}
+use Rattle.mt_rows.specs.{Accounts.{Accounts, HasRoom, OthersStay, account_of, one_more}, Rows.Columns}
+use Rattle.mt_border.specs.{Contents.owned, Entries.with_entry}
 use Rattle.mt_tape.specs.Tapes.{Kept}
-use Rattle.mt_arena.specs.Several.{AreHalved}
-use Rattle.mt_arena.specs.Arena.{ArenaView, Guarantee, content_of}
-use Rattle.mt_arena.specs.Accesses.{at}
-use Rattle.mt_operation.specs.declared.phase.Phase.TheVariants.{LockParent, SplitPrev}
-use Rattle.mt_operation.specs.declared.phase.Phase.{Phase}
-use Rattle.mt_operation.specs.declared.splits.Splits.{Splits}
-use Rattle.mt_operation.specs.declared.task.Task.{Task}
-use Rattle.mt_operation.specs.declared.walk.Walk.{Walk}
+use Rattle.mt_arena.specs.{Several.AreHalved, Arena.{ArenaView, Guarantee, content_of}, Accesses.at}
+use Rattle.mt_operation.specs.{declared.phase.Phase.TheVariants.{LockParent, SplitPrev}, declared.phase.Phase.Phase, declared.splits.Splits.Splits}
+use Rattle.mt_operation.specs.{declared.task.Task.Task, declared.walk.Walk.Walk}
 use Rattle.mt_descent.specs.WalkMoves.{Continues}
-use Rattle.mt_insert.specs.KeptSplits.{HoldsSplits, KeptSplit, last_of}
-use Rattle.mt_insert.specs.Placing.{Places, entry_of}
-use Rattle.mt_held.specs.Taping.{released}
-use Rattle.mt_held.specs.Moves.{walk_at}
+use Rattle.mt_insert.specs.{KeptSplits.{HoldsSplits, KeptSplit, last_of}, Placing.{Places, entry_of}}
+use Rattle.mt_held.specs.{Taping.released, Moves.walk_at}
 
 -- a node behind the halves still names the left one; where there is none, the parent comes next
 abbrev pub after_parting : Option ℕ → Phase

@@ -3,20 +3,11 @@ use Rattle.std.specs.Prelude.{length, ℕ, ◌≡◌}
 use Rattle.mt_rows.specs.Rows.{Bytes}
 use Rattle.mt_tape.specs.Tapes.{Kept}
 use Rattle.mt_arena.specs.Arena.{ArenaView}
-use Rattle.mt_operation.specs.Operations.{IsUnsplit}
-use Rattle.mt_operation.specs.declared.prepared.Prepared.{Prepared}
-use Rattle.mt_operation.specs.declared.phase.Phase.TheVariants.{SplitMove}
-use Rattle.mt_operation.specs.declared.splits.Splits.{Splits}
-use Rattle.mt_operation.specs.declared.task.Task.{Task}
-use Rattle.mt_operation.specs.declared.walk.Walk.{Walk}
+use Rattle.mt_operation.specs.{Operations.IsUnsplit, declared.prepared.Prepared.Prepared, declared.phase.Phase.TheVariants.SplitMove}
+use Rattle.mt_operation.specs.{declared.splits.Splits.Splits, declared.task.Task.Task, declared.walk.Walk.Walk}
 use Rattle.mt_descent.specs.WalkMoves.{KeepsPairs}
-use Rattle.mt_insert.specs.SplitEdits.{HasOneMore, Starts}
-use Rattle.mt_held.specs.Moves.{walk_at}
-use Rattle.mt_held.specs.Holds.{HoldsOnly}
-use Rattle.mt_insert.specs.KeptPuts.{IsAtSplitStart}
-use Rattle.mt_insert.specs.KeptSplits.{HoldsSplits, IsAtSplitMove}
-use Rattle.mt_held.specs.Unlock.{IsUnlock}
-use Rattle.mt_held.specs.Taping.{released}
+use Rattle.mt_insert.specs.{SplitEdits.{HasOneMore, Starts}, KeptPuts.IsAtSplitStart, KeptSplits.{HoldsSplits, IsAtSplitMove}}
+use Rattle.mt_held.specs.{Moves.walk_at, Holds.HoldsOnly, Unlock.IsUnlock, Taping.released}
 
 -- the node has a right half, which begins where its keys and this one would be parted; the operation holds both, and no other node
 pub record IsSplitStart (op : ℕ) (key : Bytes) (old new : ArenaView) (tape taped : Kept) (before after : Walk) (s t : Splits) : Type 0 where

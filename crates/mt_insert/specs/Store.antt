@@ -1,22 +1,13 @@
 -- Store: the row is written over the one of the key.
-use Rattle.std.specs.Prelude.{Some, ℕ, ◌≡◌}
-use Rattle.std.specs.FinMap.{get}
+use Rattle.std.specs.{Prelude.{Some, ℕ, ◌≡◌}, FinMap.get}
 use Rattle.mt_rows.specs.Rows.{Columns}
-use Rattle.mt_border.specs.declared.entry.Pair.{Pair}
-use Rattle.mt_border.specs.declared.entry.Held.TheVariants.{Stable}
-use Rattle.mt_border.specs.Contents.{owned}
-use Rattle.mt_border.specs.Entries.{replaced}
+use Rattle.mt_border.specs.{declared.entry.Pair.Pair, declared.entry.Held.TheVariants.Stable, Contents.owned, Entries.replaced}
 use Rattle.mt_tape.specs.Tapes.{Kept}
-use Rattle.mt_arena.specs.Arena.{ArenaView, Guarantee, content_of}
-use Rattle.mt_arena.specs.Accesses.{at, with_node, with_row}
-use Rattle.mt_arena.specs.Layers.{slot_at}
-use Rattle.mt_arena.specs.Edits.{with_slots}
-use Rattle.mt_operation.specs.declared.task.Task.{Task}
-use Rattle.mt_operation.specs.declared.walk.Walk.{Walk}
+use Rattle.mt_arena.specs.{Arena.{ArenaView, Guarantee, content_of}, Accesses.{at, with_node, with_row}, Layers.slot_at, Edits.with_slots}
+use Rattle.mt_operation.specs.{declared.task.Task.Task, declared.walk.Walk.Walk}
 use Rattle.mt_descent.specs.WalkMoves.{Continues}
-use Rattle.mt_held.specs.Holds.{IsAtUnlock}
+use Rattle.mt_held.specs.{Holds.IsAtUnlock, Moves.walk_placed}
 use Rattle.mt_insert.specs.Placing.{Places}
-use Rattle.mt_held.specs.Moves.{walk_placed}
 
 -- the row stands where that of the key stood, placed by the step of this number, and the write is on the tape
 pub record IsStore (op step : ℕ) (task : Task) (row : Columns) (old new : ArenaView) (tape taped : Kept) (before after : Walk) (was : Columns) : Type 0 where

@@ -1,13 +1,8 @@
 -- Unlock: the locks are given back.
 use Rattle.std.specs.Prelude.{length, ℕ, ◌≡◌}
-use Rattle.mt_arena.specs.Arena.{ArenaView}
-use Rattle.mt_arena.specs.Accesses.{at}
-use Rattle.mt_arena.specs.Edits.{unlocked}
-use Rattle.mt_operation.specs.Operations.{IsUnsplit}
-use Rattle.mt_operation.specs.declared.splits.Splits.{Splits}
-use Rattle.mt_operation.specs.declared.walk.Walk.{Walk}
-use Rattle.mt_descent.specs.KeptWalks.{HoldsNothing}
-use Rattle.mt_descent.specs.WalkMoves.{KeepsPairs}
+use Rattle.mt_arena.specs.{Arena.ArenaView, Accesses.at, Edits.unlocked}
+use Rattle.mt_operation.specs.{Operations.IsUnsplit, declared.splits.Splits.Splits, declared.walk.Walk.Walk}
+use Rattle.mt_descent.specs.{KeptWalks.HoldsNothing, WalkMoves.KeepsPairs}
 use Rattle.mt_held.specs.Moves.{walk_done}
 use Rattle.mt_insert.specs.KeptSplits.{HoldsSplits, IsAmong}
 

@@ -1,25 +1,15 @@
 //! What is kept of a put that holds its border node stays under the steps of all others, and what it
 //! places is its command's change. Contracts alone: no code runs.
 
-ghost use Rattle.std.specs.Prelude.{◌≡◌, ◌≢◌, ◌<◌, ◌≤◌, ℕ, List, Some, None};
-ghost use Rattle.std.specs.FinMap.{get, len};
-ghost use Rattle.mt_rows.specs.declared.reply.Reply.TheVariants.{New, Replaced, Full};
-ghost use Rattle.mt_rows.specs.Rows.{Columns};
-ghost use Rattle.mt_rows.specs.Maps.{reply_of, map_after};
+ghost use Rattle.std.specs.{Prelude.{◌≡◌, ◌≢◌, ◌<◌, ◌≤◌, ℕ, List, Some, None}, FinMap.{get, len}};
+ghost use Rattle.mt_rows.specs.{declared.reply.Reply.TheVariants.{New, Replaced, Full}, Rows.Columns, Maps.{reply_of, map_after}};
 ghost use Rattle.mt_rows.specs.Tenants.{Contents, tenant_map};
 ghost use Rattle.mt_border.specs.Contents.{owned};
-ghost use Rattle.mt_tape.specs.declared.entry.Entry.{Entry};
-ghost use Rattle.mt_tape.specs.Tapes.{last_step_over};
-ghost use Rattle.mt_tape.specs.Histories.{IsNextWrite, with_write};
+ghost use Rattle.mt_tape.specs.{declared.entry.Entry.Entry, Tapes.last_step_over, Histories.{IsNextWrite, with_write}};
 ghost use Rattle.mt_arena.specs.Arena.{ArenaView, IsArena, content_of, Guarantee};
-ghost use Rattle.mt_operation.specs.declared.phase.Phase.{Phase};
-ghost use Rattle.mt_operation.specs.declared.walk.Walk.{Walk};
-ghost use Rattle.mt_operation.specs.declared.task.Task.{Task};
-ghost use Rattle.mt_operation.specs.declared.prepared.Prepared.{Prepared};
-ghost use Rattle.mt_operation.specs.declared.splits.Splits.{Splits};
-ghost use Rattle.mt_operation.specs.Tasks.{ask};
-ghost use Rattle.mt_insert.specs.Puts.{IsPut, write_of};
-ghost use Rattle.mt_insert.specs.KeptPuts.{IsAtStore, IsAtPublish, KeptReady, IsAtSplitStart};
+ghost use Rattle.mt_operation.specs.{declared.phase.Phase.Phase, declared.walk.Walk.Walk, declared.task.Task.Task, declared.prepared.Prepared.Prepared};
+ghost use Rattle.mt_operation.specs.{declared.splits.Splits.Splits, Tasks.ask};
+ghost use Rattle.mt_insert.specs.{Puts.{IsPut, write_of}, KeptPuts.{IsAtStore, IsAtPublish, KeptReady, IsAtSplitStart}};
 ghost use Rattle.mt_insert.specs.KeptSplits.{HoldsSplits, IsAtSplitMove, KeptSplit};
 
 /// What a put keeps at Store, each step of another operation leaves.

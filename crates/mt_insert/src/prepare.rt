@@ -2,17 +2,14 @@
 //!
 //! Errors: `AllocError`, which changes nothing.
 
-ghost use Rattle.std.specs.Prelude.{◌≡◌, ◌<◌, true, IfOk, OnOk, OnErr, Some, None};
-ghost use Rattle.std.specs.Option.{option_map};
+ghost use Rattle.std.specs.{Prelude.{◌≡◌, ◌<◌, true, IfOk, OnOk, OnErr, Some, None}, Option.option_map};
 ghost use Rattle.mt_slices.specs.Slices.{suffix_of, HasLayer};
-ghost use Rattle.mt_border.specs.Entry.{pair_of};
-ghost use Rattle.mt_border.specs.Node.{IsLive, entry_at};
+ghost use Rattle.mt_border.specs.{Entry.pair_of, Node.{IsLive, entry_at}};
 ghost use Rattle.mt_arena.specs.Accesses.{at};
 ghost use Rattle.mt_operation.specs.Tasks.{command_of, ask};
 ghost use Rattle.mt_descent.specs.KeptWalks.{IsAtBorder};
-ghost use Rattle.mt_insert.specs.Puts.{change_of, is_put, IsReady};
+ghost use Rattle.mt_insert.specs.{Puts.{change_of, is_put, IsReady}, Judge.{StandsIn, ReadyFor}};
 ghost use Rattle.mt_held.specs.Taping.{reserving};
-ghost use Rattle.mt_insert.specs.Judge.{StandsIn, ReadyFor};
 
 use mt_arena::Arena;
 use mt_border::laws::suffix_fits_mark;

@@ -1,12 +1,9 @@
 -- What edits of a node do to the bounds of its children's ranges, for the proofs of the crates above.
 -- `PlaceLemmas` has the place of a slice; that edits keep a list rising stands in mt_lists.
 use Rattle.std.proofs.Common.{◌≡◌, ℕ, zero, suc, ◌+◌, ◌-◌, ◌<◌, ◌≤◌, List, [], ◌∷◌, Option, Some, length, get_or, take, drop, add-one, refl, sym, ap, arith}
-use Rattle.std.specs.List.{insert, remove}
-use Rattle.std.proofs.lemmas.List.Sums.{count_by-le-length}
-use Rattle.std.proofs.lemmas.List.Edits.{insert-append_left, remove-append_left}
-use Rattle.std.specs.Prelude.{nat_le}
-use Rattle.mt_interior.specs.Places.{place_of}
-use Rattle.mt_interior.specs.Fences.{end_of, bounds_of}
+use Rattle.std.proofs.{lemmas.List.Sums.count_by-le-length, lemmas.List.Edits.{insert-append_left, remove-append_left}}
+use Rattle.std.specs.{List.{insert, remove}, Prelude.nat_le}
+use Rattle.mt_interior.specs.{Places.place_of, Fences.{end_of, bounds_of}}
 
 -- a place is at most the number of separators
 pub place_of-le-length : (xs : List ℕ) (s : ℕ) → place_of xs s ≤ length xs

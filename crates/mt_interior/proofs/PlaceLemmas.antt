@@ -1,15 +1,10 @@
 -- The place of a slice among separators that rise is the child whose range holds it: for finds, and the crates above.
 use Rattle.std.proofs.Common.{◌≡◌, ℕ, zero, suc, ◌+◌, ◌<◌, ◌≤◌, Bool, true, false, List, [], ◌∷◌, Option, length, get_or, add-one, refl, ap, ◌∙◌, inl, inr, arith}
-use Rattle.std.specs.Prelude.{nat_le, if◌then◌else◌}
-use Rattle.std.proofs.lemmas.List.{get_or_append_left}
-use Rattle.std.proofs.lemmas.List.Sums.{sum_by-cons}
-use Rattle.std.proofs.lemmas.Grind.{common_steps}
-use Rattle.std.proofs.lemmas.Bool.{cases_lt}
+use Rattle.std.proofs.{lemmas.List.get_or_append_left, lemmas.List.Sums.sum_by-cons, lemmas.Grind.common_steps, lemmas.Bool.cases_lt}
 use Rattle.std.proofs.lemmas.Bool.Decides.{nat_tests}
-use Rattle.mt_lists.specs.Rising.{IsRising}
-use Rattle.mt_lists.proofs.Rises.{rising_tail}
-use Rattle.mt_interior.specs.Places.{place_of, IsPlace, IsNew}
-use Rattle.mt_interior.specs.Fences.{end_of, bounds_of, IsWithinBounds}
+use Rattle.std.specs.Prelude.{nat_le, if◌then◌else◌}
+use Rattle.mt_lists.{specs.Rising.IsRising, proofs.Rises.rising_tail}
+use Rattle.mt_interior.specs.{Places.{place_of, IsPlace, IsNew}, Fences.{end_of, bounds_of, IsWithinBounds}}
 
 -- a step of the count
 counted : (test : Bool) (n : ℕ) → test ≡ true → (if test then 1 else 0) + n ≡ suc n

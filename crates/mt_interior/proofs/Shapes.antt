@@ -1,13 +1,9 @@
 -- Separators and children keep their shape through each edit: for the edits of `Interior`.
-use Rattle.std.proofs.Common.{◌≡◌, ℕ, ◌+◌, ◌<◌, ◌≤◌, List, length, take, drop, suc, length-append, arith}
-use Rattle.std.specs.List.{insert, remove}
-use Rattle.std.proofs.lemmas.List.{length-take, length-drop, drop-drop}
+use Rattle.std.proofs.{Common.{◌≡◌, ℕ, ◌+◌, ◌<◌, ◌≤◌, List, length, take, drop, suc, length-append, arith}, lemmas.List.{length-take, length-drop, drop-drop}}
 use Rattle.std.proofs.lemmas.List.Edits.{length-insert}
-use Rattle.mt_lists.specs.Rising.{IsRising}
-use Rattle.mt_interior.specs.Places.{IsPlace, IsNew}
-use Rattle.mt_interior.specs.Node.{IsInterior}
-use Rattle.mt_lists.proofs.Rises.{rising_insert, rising_remove, rising_take, rising_drop}
-use Rattle.mt_interior.proofs.PlaceLemmas.{gap_of-new}
+use Rattle.std.specs.List.{insert, remove}
+use Rattle.mt_lists.{specs.Rising.IsRising, proofs.Rises.{rising_insert, rising_remove, rising_take, rising_drop}}
+use Rattle.mt_interior.{specs.{Places.{IsPlace, IsNew}, Node.IsInterior}, proofs.PlaceLemmas.gap_of-new}
 
 -- a new separator at its place keeps them rising
 pub insert_rising : (xs : List ℕ) (place s : ℕ) → IsRising xs → IsNew xs s → IsPlace xs s place → IsRising (insert xs place s)

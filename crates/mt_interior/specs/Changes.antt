@@ -1,7 +1,6 @@
 -- What the changes of an interior node leave.
 use Rattle.std.specs.Prelude.{ℕ, ◌+◌, ◌-◌, [], ◌∷◌, take, drop, insert, remove, slice_index}
-use Rattle.mt_interior.specs.Node.{InteriorNode}
-use Rattle.mt_interior.specs.Places.{place_of}
+use Rattle.mt_interior.specs.{Node.InteriorNode, Places.place_of}
 
 -- a node with these two children alone
 abbrev pub over_two : InteriorNode → ℕ → ℕ → ℕ → InteriorNode

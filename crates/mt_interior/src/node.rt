@@ -6,8 +6,7 @@
 
 ghost use Rattle.std.specs.Prelude.{◌≡◌, ◌+◌, ◌<◌, ◌≤◌, ◌↔◌, ℕ, List, [], ◌∷◌, IsTrue, length, slice_index, take, drop};
 ghost use Rattle.arrayvec.specs.ArrayVec.{array_vec_len};
-ghost use Rattle.mt_interior.specs.Places.{place_of, IsPlace, IsNew};
-ghost use Rattle.mt_interior.specs.Fences.{HoldsSlice, IsWithinBounds, bounds};
+ghost use Rattle.mt_interior.specs.{Places.{place_of, IsPlace, IsNew}, Fences.{HoldsSlice, IsWithinBounds, bounds}};
 
 use arrayvec::ArrayVec;
 use mt_lists::padded::{PLACES, PaddedList};
@@ -58,8 +57,7 @@ impl Model for Interior {
 }
 
 impl Interior {
-    ghost use Rattle.mt_interior.specs.Node.{IsInterior, childless};
-    ghost use Rattle.mt_interior.specs.Changes.{over_two, with_child, without_child, left_half, right_half, middle};
+    ghost use Rattle.mt_interior.specs.{Node.{IsInterior, childless}, Changes.{over_two, with_child, without_child, left_half, right_half, middle}};
 
     /// A node without children and parent.
     pub fn new(low: u64, high: Option<u64>, version: Version) -> Self

@@ -1,33 +1,17 @@
 -- What is kept once the slot holds its pair otherwise, and once it is a link: for `mark_unstable`, `link` and `mark_layer`.
-use Rattle.std.proofs.Common.{◌≡◌, ◌≢◌, ℕ, ◌+◌, ◌<◌, length, Some, None, sym, ap, subst, ◌∙◌, inl, inr, arith, List, set, refl}
-use Rattle.std.proofs.lemmas.Bool.{cases_eq}
+use Rattle.std.proofs.{Common.{◌≡◌, ◌≢◌, ℕ, ◌+◌, ◌<◌, length, Some, None, sym, ap, subst, ◌∙◌, inl, inr, arith, List, set, refl}, lemmas.Bool.cases_eq}
 use Rattle.std.proofs.lemmas.List.{length-set, get_or-set_same, get_or-set_other}
 use Rattle.mt_rows.specs.Rows.{Bytes}
-use Rattle.mt_border.specs.declared.entry.Pair.{Pair}
-use Rattle.mt_border.specs.declared.entry.Held.{Held}
-use Rattle.mt_border.specs.declared.entry.Held.TheVariants.{Stable, Unstable, Link}
-use Rattle.mt_border.specs.Entry.{pair_of}
-use Rattle.mt_border.specs.Contents.{IsOfTree}
-use Rattle.mt_arena.specs.declared.tree.Tree.{Tree}
-use Rattle.mt_arena.specs.declared.tree.Standing.TheVariants.{Made, Live}
-use Rattle.mt_arena.specs.NodeView.{NodeView}
-use Rattle.mt_arena.specs.Forests.{tree_at, no_tree}
-use Rattle.mt_arena.specs.Arena.{ArenaView, IsArena}
-use Rattle.mt_arena.specs.Accesses.{at}
-use Rattle.mt_arena.specs.Layering.{with_held, with_slot, with_link}
-use Rattle.mt_arena.proofs.Pairs.{here, there}
-use Rattle.mt_arena.proofs.LayerStays.{whole_rewritten}
-use Rattle.mt_arena.proofs.SettledBut.{settled_but_held, settled_again}
-use Rattle.mt_operation.specs.declared.phase.Phase.{Phase}
-use Rattle.mt_operation.specs.declared.phase.Phase.TheVariants as phases
-use Rattle.mt_operation.specs.declared.walk.Taken.{Taken}
-use Rattle.mt_operation.specs.declared.walk.Taken.TheVariants as takens
-use Rattle.mt_operation.specs.declared.walk.Walk.{Walk}
-use Rattle.mt_layer.specs.KeptLayers.{MakesLayer, IsAtMarkUnstable, IsAtLink, IsAtMarkLayer, IsAtLeave}
-use Rattle.mt_layer.specs.NewLayers.{walk_at}
-use Rattle.mt_border.specs.declared.entry.Entry.{Entry}
+use Rattle.mt_border.specs.{declared.entry.Pair.Pair, declared.entry.Held.Held, declared.entry.Held.TheVariants.{Stable, Unstable, Link}, Entry.pair_of}
+use Rattle.mt_border.specs.{Contents.IsOfTree, declared.entry.Entry.Entry}
 use Rattle.mt_border.proofs.Edits.{any_entry, replaced_at as set_at}
-use Rattle.mt_arena.specs.Layers.{slot_at}
+use Rattle.mt_arena.specs.{declared.tree.Tree.Tree, declared.tree.Standing.TheVariants.{Made, Live}, NodeView.NodeView, Forests.{tree_at, no_tree}}
+use Rattle.mt_arena.specs.{Arena.{ArenaView, IsArena}, Accesses.at, Layering.{with_held, with_slot, with_link}, Layers.slot_at}
+use Rattle.mt_arena.proofs.{Pairs.{here, there}, LayerStays.whole_rewritten, SettledBut.{settled_but_held, settled_again}}
+use Rattle.mt_operation.specs.{declared.phase.Phase.Phase, declared.walk.Taken.Taken, declared.walk.Walk.Walk}
+use Rattle.mt_layer.specs.{KeptLayers.{MakesLayer, IsAtMarkUnstable, IsAtLink, IsAtMarkLayer, IsAtLeave}, NewLayers.walk_at}
+use Rattle.mt_operation.specs.declared.phase.Phase.TheVariants as phases
+use Rattle.mt_operation.specs.declared.walk.Taken.TheVariants as takens
 
 -- the walk makes one tree
 pub same_tree : (t u : ℕ) (taken : Taken) → taken ≡ takens.Link t → taken ≡ takens.Link u → t ≡ u

@@ -1,38 +1,19 @@
 -- The tree of the next layer may be made of the other key's entry there, and what is kept once it is made: for `make_layer`.
 use Rattle.std.proofs.Common.{◌≡◌, ℕ, ◌+◌, ◌*◌, ◌<◌, List, [], ◌∷◌, length, take, drop, refl, sym, ap, subst, ◌∙◌, inl, inr, arith, length-append}
 use Rattle.std.proofs.lemmas.Bool.{cases_eq}
-use Rattle.mt_slices.specs.Slices.{rest_of}
-use Rattle.mt_slices.specs.declared.mark.Mark.TheVariants.{Long}
-use Rattle.mt_slices.proofs.Order.{rest-more}
+use Rattle.mt_slices.{specs.{Slices.rest_of, declared.mark.Mark.TheVariants.Long}, proofs.Order.rest-more}
 use Rattle.mt_rows.specs.Rows.{Bytes}
-use Rattle.mt_border.specs.declared.entry.Entry.{Entry}
-use Rattle.mt_border.specs.declared.entry.Pair.{Pair}
-use Rattle.mt_border.specs.declared.entry.Held.TheVariants.{Stable}
-use Rattle.mt_border.specs.Entry.{pair_of}
-use Rattle.mt_border.specs.Contents.{HasKey}
+use Rattle.mt_border.specs.{declared.entry.Entry.Entry, declared.entry.Pair.Pair, declared.entry.Held.TheVariants.Stable, Entry.pair_of, Contents.HasKey}
 use Rattle.mt_border.specs.Node.{Node as BorderNode, entry_at}
 use Rattle.mt_border.proofs.Edits.{any_entry}
-use Rattle.mt_arena.specs.declared.tree.Tree.{Tree}
-use Rattle.mt_arena.specs.NodeView.{NodeView}
-use Rattle.mt_arena.specs.Forests.{layer_of}
-use Rattle.mt_arena.specs.Layers.{slot_at}
-use Rattle.mt_arena.specs.Ways.{BelongsIn}
-use Rattle.mt_arena.specs.Arena.{ArenaView, IsArena}
-use Rattle.mt_arena.specs.Accesses.{at, tree_of}
-use Rattle.mt_arena.specs.Layering.{IsHeldSlot, HasKeyAt, MayMakeLayer, entry_of, root_of, prefix_below, with_layer}
-use Rattle.mt_arena.proofs.Pairs.{last, before}
-use Rattle.mt_arena.proofs.Trees.{made as made_tree, last_tree}
-use Rattle.mt_arena.proofs.Steps.{keys_of}
-use Rattle.mt_arena.proofs.Down.{long_below, next_prefix}
-use Rattle.mt_arena.proofs.NextLayer.{may_make, has_below}
-use Rattle.mt_arena.proofs.LayerStays.{whole_begun}
-use Rattle.mt_arena.proofs.SettledBut.{settled_but, settled_but_made}
+use Rattle.mt_arena.specs.{declared.tree.Tree.Tree, NodeView.NodeView, Forests.layer_of, Layers.slot_at, Ways.BelongsIn, Arena.{ArenaView, IsArena}}
+use Rattle.mt_arena.specs.{Accesses.{at, tree_of}, Layering.{IsHeldSlot, HasKeyAt, MayMakeLayer, entry_of, root_of, prefix_below, with_layer}}
+use Rattle.mt_arena.proofs.{Pairs.{last, before}, Trees.{made as made_tree, last_tree}, Steps.keys_of, Down.{long_below, next_prefix}}
+use Rattle.mt_arena.proofs.{NextLayer.{may_make, has_below}, LayerStays.whole_begun, SettledBut.{settled_but, settled_but_made}}
 use Rattle.mt_operation.specs.declared.walk.Walk.{Walk}
-use Rattle.mt_held.specs.Holds.{HoldsOnly}
-use Rattle.mt_held.proofs.Places.{belongs_here}
+use Rattle.mt_held.{specs.Holds.HoldsOnly, proofs.Places.belongs_here}
 use Rattle.mt_insert.specs.KeptPuts.{IsAtMakeLayer}
-use Rattle.mt_layer.specs.KeptLayers.{IsAtMarkUnstable}
-use Rattle.mt_layer.specs.NewLayers.{entry_below, walk_linked}
+use Rattle.mt_layer.specs.{KeptLayers.IsAtMarkUnstable, NewLayers.{entry_below, walk_linked}}
 
 module _ (v : ArenaView) (op : ℕ) (key : Bytes) (w : Walk) (arena : IsArena v.nodes v.trees) (h : IsAtMakeLayer v op key w) where
   abbrev k : ℕ

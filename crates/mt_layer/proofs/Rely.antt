@@ -2,33 +2,19 @@
 use Rattle.std.proofs.Common.{◌≡◌, ◌≢◌, ℕ, ◌+◌, ◌<◌, List, length, Some, None, refl, sym, ap, subst, ◌∙◌, arith, false}
 use Rattle.mt_slices.specs.Slices.{slice_of, mark_of, suffix_of}
 use Rattle.mt_rows.specs.Rows.{Bytes}
-use Rattle.mt_border.specs.declared.entry.Entry.{Entry}
-use Rattle.mt_border.specs.declared.entry.Pair.{Pair}
-use Rattle.mt_border.specs.declared.entry.Held.{Held}
-use Rattle.mt_border.specs.declared.entry.Held.TheVariants as helds
-use Rattle.mt_border.specs.declared.entry.Held.TheVariants.{Stable, Unstable}
-use Rattle.mt_border.specs.declared.entry.FoundKind.TheVariants.{OtherLong}
-use Rattle.mt_border.specs.Entry.{IsKind}
-use Rattle.mt_border.specs.Contents.{IsOfTree}
-use Rattle.mt_arena.specs.declared.tree.Tree.{Tree}
-use Rattle.mt_arena.specs.declared.tree.Standing.{Standing}
-use Rattle.mt_arena.specs.declared.tree.Standing.TheVariants.{Made, Live, Dead}
-use Rattle.mt_arena.specs.Forests.{tree_at}
-use Rattle.mt_arena.specs.Layers.{slot_at}
-use Rattle.mt_arena.specs.Arena.{ArenaView, Guarantee, IsArena}
-use Rattle.mt_arena.specs.Accesses.{at, tree_of, IsHeld}
-use Rattle.mt_arena.specs.Guarantee.{TreeChanges}
-use Rattle.mt_arena.proofs.LayerStays.{whole_stays, tree_same, root_same}
-use Rattle.mt_arena.specs.NodeView.{NodeView}
-use Rattle.mt_arena.proofs.SettledBut.{settled_but_stays}
-use Rattle.mt_operation.specs.declared.phase.Phase.{Phase}
-use Rattle.mt_operation.specs.declared.phase.Phase.TheVariants as phases
-use Rattle.mt_operation.specs.declared.walk.Walk.{Walk}
+use Rattle.mt_border.specs.{declared.entry.Entry.Entry, declared.entry.Pair.Pair, declared.entry.Held.Held, declared.entry.Held.TheVariants.{Stable, Unstable}}
+use Rattle.mt_border.specs.{declared.entry.FoundKind.TheVariants.OtherLong, Entry.IsKind, Contents.IsOfTree}
+use Rattle.mt_arena.specs.{declared.tree.Tree.Tree, declared.tree.Standing.Standing, declared.tree.Standing.TheVariants.{Made, Live, Dead}, Forests.tree_at}
+use Rattle.mt_arena.specs.{Layers.slot_at, Arena.{ArenaView, Guarantee, IsArena}, Accesses.{at, tree_of, IsHeld}, Guarantee.TreeChanges, NodeView.NodeView}
+use Rattle.mt_arena.proofs.{LayerStays.{whole_stays, tree_same, root_same}, SettledBut.settled_but_stays}
+use Rattle.mt_operation.specs.{declared.phase.Phase.Phase, declared.walk.Walk.Walk}
 use Rattle.mt_descent.specs.KeptWalks.{GoesThrough}
 use Rattle.mt_insert.specs.KeptPuts.{IsAtMakeLayer}
 use Rattle.mt_held.proofs.Rely.{held, unlock}
 use Rattle.mt_layer.specs.KeptLayers.{GoesBelow, MakesLayer, KeptLayer}
 use Rattle.mt_version.specs.Parts.{Parts}
+use Rattle.mt_border.specs.declared.entry.Held.TheVariants as helds
+use Rattle.mt_operation.specs.declared.phase.Phase.TheVariants as phases
 
 -- a tree that is not being made never is
 unmade_stays : (op : ℕ) (tree after : Tree) → TreeChanges op tree after → ((q : ℕ) → tree.standing ≢ Made q) → (s : Standing) → tree.standing ≡ s

@@ -1,31 +1,16 @@
 -- No pair gets another stamp as a layer is made: for `make_layer`, `mark_unstable`, `link` and `mark_layer`.
 use Rattle.std.proofs.Common.{◌≡◌, ◌≢◌, ℕ, ◌<◌, List, [], ◌∷◌, length, get_or, set, true, false, if◌then◌else◌, Some, refl, sym, ap, subst, ◌∙◌, inl, inr, arith, length-append}
-use Rattle.std.proofs.lemmas.Bool.{cases_eq}
-use Rattle.std.proofs.lemmas.Option.{none-some, same_Some}
-use Rattle.std.proofs.lemmas.List.{length-set, get_or-set_same, get_or-set_other}
+use Rattle.std.proofs.{lemmas.Bool.cases_eq, lemmas.Option.{none-some, same_Some}, lemmas.List.{length-set, get_or-set_same, get_or-set_other}}
 use Rattle.mt_rows.specs.Rows.{Bytes}
-use Rattle.mt_border.specs.declared.entry.Entry.{Entry}
-use Rattle.mt_border.specs.declared.entry.Pair.{Pair}
-use Rattle.mt_border.specs.declared.entry.Held.{Held}
-use Rattle.mt_border.specs.declared.entry.Held.TheVariants.{Unstable, Link}
-use Rattle.mt_border.specs.Entry.{pair_of}
-use Rattle.mt_border.specs.Contents.{HasKey, owned, key_at}
-use Rattle.mt_border.proofs.Edits.{any_entry, replaced_at}
-use Rattle.mt_border.proofs.ContentsKeys.{owned_at}
-use Rattle.mt_arena.specs.declared.tree.Tree.{Tree}
-use Rattle.mt_arena.specs.declared.tree.Standing.TheVariants.{Made, Live}
-use Rattle.mt_arena.specs.NodeView.{NodeView}
-use Rattle.mt_arena.specs.Contents.{counts, is_live}
-use Rattle.mt_arena.specs.Forests.{tree_at, no_tree, layer_of}
-use Rattle.mt_arena.specs.Layers.{slot_at}
-use Rattle.mt_arena.specs.Arena.{ArenaView, IsArena}
-use Rattle.mt_arena.specs.Accesses.{at, tree_of}
+use Rattle.mt_border.specs.{declared.entry.Entry.Entry, declared.entry.Pair.Pair, declared.entry.Held.Held, declared.entry.Held.TheVariants.{Unstable, Link}}
+use Rattle.mt_border.specs.{Entry.pair_of, Contents.{HasKey, owned, key_at}}
+use Rattle.mt_border.proofs.{Edits.{any_entry, replaced_at}, ContentsKeys.owned_at}
+use Rattle.mt_arena.specs.{declared.tree.Tree.Tree, declared.tree.Standing.TheVariants.{Made, Live}, NodeView.NodeView, Contents.{counts, is_live}}
+use Rattle.mt_arena.specs.{Forests.{tree_at, no_tree, layer_of}, Layers.slot_at, Arena.{ArenaView, IsArena}, Accesses.{at, tree_of}}
 use Rattle.mt_arena.specs.Layering.{root_of, with_held, with_layer, with_slot, with_link}
-use Rattle.mt_arena.proofs.Pairs.{here, there, last, before}
-use Rattle.mt_arena.proofs.Trees.{made as made_tree, last_tree, before_tree}
+use Rattle.mt_arena.proofs.{Pairs.{here, there, last, before}, Trees.{made as made_tree, last_tree, before_tree}}
 use Rattle.mt_operation.specs.declared.walk.Walk.{Walk}
-use Rattle.mt_layer.specs.KeptLayers.{MakesLayer}
-use Rattle.mt_layer.specs.NewLayers.{HasStamp, KeepsStamps, entry_below}
+use Rattle.mt_layer.specs.{KeptLayers.MakesLayer, NewLayers.{HasStamp, KeepsStamps, entry_below}}
 
 -- an entry has the slice and the mark of another one, and no pair but the other one's
 record IsLike (was now : Entry) : Type 0 where

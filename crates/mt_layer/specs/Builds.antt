@@ -1,21 +1,12 @@
 -- What the steps do that make a layer, MakeLayer, MarkUnstable, Link and MarkLayer, and Unlock behind them.
 use Rattle.std.specs.Prelude.{None, Some, length, ℕ, ◌≡◌}
 use Rattle.mt_rows.specs.Rows.{Bytes}
-use Rattle.mt_border.specs.declared.entry.Held.TheVariants.{Stable, Unstable}
-use Rattle.mt_border.specs.declared.entry.Pair.{Pair}
-use Rattle.mt_arena.specs.Arena.{ArenaView}
-use Rattle.mt_arena.specs.Accesses.{at}
-use Rattle.mt_arena.specs.Layering.{prefix_below, with_layer, with_link, with_slot}
-use Rattle.mt_arena.specs.Layers.{slot_at}
-use Rattle.mt_operation.specs.declared.phase.Phase.{Phase}
-use Rattle.mt_operation.specs.declared.walk.Taken.TheVariants.{Link}
-use Rattle.mt_operation.specs.declared.walk.Walk.{Walk}
-use Rattle.mt_descent.specs.KeptWalks.{HoldsNothing, IsAtEnter}
-use Rattle.mt_descent.specs.WalkMoves.{KeepsPairs}
-use Rattle.mt_held.specs.Unlock.{GoesInto}
-use Rattle.mt_held.specs.Holds.{HoldsOnly}
-use Rattle.mt_layer.specs.KeptLayers.{IsAtLeave, IsAtLink, IsAtMarkLayer, IsAtMarkUnstable}
-use Rattle.mt_layer.specs.NewLayers.{KeepsStamps, entry_below, walk_at, walk_linked}
+use Rattle.mt_border.specs.{declared.entry.Held.TheVariants.{Stable, Unstable}, declared.entry.Pair.Pair}
+use Rattle.mt_arena.specs.{Arena.ArenaView, Accesses.at, Layering.{prefix_below, with_layer, with_link, with_slot}, Layers.slot_at}
+use Rattle.mt_operation.specs.{declared.phase.Phase.Phase, declared.walk.Taken.TheVariants.Link, declared.walk.Walk.Walk}
+use Rattle.mt_descent.specs.{KeptWalks.{HoldsNothing, IsAtEnter}, WalkMoves.KeepsPairs}
+use Rattle.mt_held.specs.{Unlock.GoesInto, Holds.HoldsOnly}
+use Rattle.mt_layer.specs.{KeptLayers.{IsAtLeave, IsAtLink, IsAtMarkLayer, IsAtMarkUnstable}, NewLayers.{KeepsStamps, entry_below, walk_at, walk_linked}}
 use Rattle.mt_operation.specs.declared.phase.Phase.TheVariants as phases
 
 -- what they do alike: no pair moves or gets another stamp, and the operation holds its border node alone

@@ -1,24 +1,15 @@
 -- What is kept of an operation that makes a layer, by its next phase. Each fact speaks of the node and the slot that it holds, and of its tree.
 use Rattle.std.specs.Prelude.{◌≡◌, ℕ, ◌+◌, ◌*◌, ◌<◌, false, [], ◌∷◌, length, Some, None}
 use Rattle.mt_rows.specs.Rows.{Bytes}
-use Rattle.mt_border.specs.declared.entry.Pair.{Pair}
-use Rattle.mt_border.specs.declared.entry.Held.{Held}
-use Rattle.mt_border.specs.declared.entry.Held.TheVariants as helds
-use Rattle.mt_border.specs.declared.entry.Held.TheVariants.{Stable, Unstable}
-use Rattle.mt_border.specs.Contents.{IsOfTree}
-use Rattle.mt_arena.specs.Forests.{tree_at}
-use Rattle.mt_arena.specs.Layers.{slot_at}
-use Rattle.mt_arena.specs.Layering.{IsLayerOf, IsSettledBut}
-use Rattle.mt_arena.specs.Arena.{ArenaView}
-use Rattle.mt_arena.specs.Accesses.{at}
-use Rattle.mt_operation.specs.declared.phase.Phase.{Phase}
-use Rattle.mt_operation.specs.declared.phase.Phase.TheVariants as phases
-use Rattle.mt_operation.specs.declared.walk.Taken.TheVariants.{Link}
-use Rattle.mt_operation.specs.declared.walk.Walk.{Walk}
+use Rattle.mt_border.specs.{declared.entry.Pair.Pair, declared.entry.Held.Held, declared.entry.Held.TheVariants.{Stable, Unstable}, Contents.IsOfTree}
+use Rattle.mt_arena.specs.{Forests.tree_at, Layers.slot_at, Layering.{IsLayerOf, IsSettledBut}, Arena.ArenaView, Accesses.at}
+use Rattle.mt_operation.specs.{declared.phase.Phase.Phase, declared.walk.Taken.TheVariants.Link, declared.walk.Walk.Walk}
 use Rattle.mt_descent.specs.KeptWalks.{GoesThrough, IsAtEnter}
 use Rattle.mt_insert.specs.KeptPuts.{IsAtMakeLayer}
 use Rattle.mt_held.specs.Holds.{IsAtUnlock}
 use Rattle.mt_layer.specs.NewLayers.{entry_below}
+use Rattle.mt_border.specs.declared.entry.Held.TheVariants as helds
+use Rattle.mt_operation.specs.declared.phase.Phase.TheVariants as phases
 
 -- the key is one of tree t, which is a layer further down, and has bytes there
 pub record GoesBelow (v : ArenaView) (t layer : ℕ) (key : Bytes) : Type 0 where

@@ -2,18 +2,10 @@
 use Rattle.std.specs.Prelude.{◌≡◌, ℕ, ◌<◌, true, drop, length, Some}
 use Rattle.mt_slices.specs.Slices.{slice_at, mark_at}
 use Rattle.mt_rows.specs.Rows.{Bytes}
-use Rattle.mt_border.specs.declared.entry.Entry.{Entry}
-use Rattle.mt_border.specs.declared.entry.Pair.{Pair}
-use Rattle.mt_border.specs.declared.entry.Held.TheVariants.{Stable}
-use Rattle.mt_border.specs.Entry.{pair_of}
+use Rattle.mt_border.specs.{declared.entry.Entry.Entry, declared.entry.Pair.Pair, declared.entry.Held.TheVariants.Stable, Entry.pair_of}
 use Rattle.mt_border.specs.Contents.{owned, key_at}
-use Rattle.mt_arena.specs.Contents.{counts}
-use Rattle.mt_arena.specs.Layers.{slot_at}
-use Rattle.mt_arena.specs.Arena.{ArenaView}
-use Rattle.mt_arena.specs.Accesses.{at, tree_of}
-use Rattle.mt_operation.specs.declared.phase.Phase.{Phase}
-use Rattle.mt_operation.specs.declared.phase.Phase.TheVariants.{MarkUnstable}
-use Rattle.mt_operation.specs.declared.walk.Taken.TheVariants.{Link}
+use Rattle.mt_arena.specs.{Contents.counts, Layers.slot_at, Arena.ArenaView, Accesses.{at, tree_of}}
+use Rattle.mt_operation.specs.{declared.phase.Phase.Phase, declared.phase.Phase.TheVariants.MarkUnstable, declared.walk.Taken.TheVariants.Link}
 use Rattle.mt_operation.specs.declared.walk.Walk.{Walk}
 
 -- the entry that the pair of a longer key has one layer further down: its suffix begins there

@@ -4,10 +4,7 @@
 
 ghost use Rattle.std.specs.Prelude.{◌≡◌, ◌<◌, ◌+◌, ◌*◌, IfOk, length, take, drop};
 ghost use Rattle.mt_slices.specs.Slices.{mark_at};
-ghost use Rattle.mt_border.specs.declared.entry.Pair.{Pair as AnyPair};
-ghost use Rattle.mt_border.specs.declared.entry.Held.TheVariants.{Stable};
-ghost use Rattle.mt_border.specs.Entry.{IsStablePair};
-ghost use Rattle.mt_border.specs.Node.{IsLive, entry_at};
+ghost use Rattle.mt_border.specs.{declared.entry.Pair.{Pair as AnyPair}, declared.entry.Held.TheVariants.Stable, Entry.IsStablePair, Node.{IsLive, entry_at}};
 ghost use Rattle.mt_layer.specs.NewLayers.{entry_below};
 
 use mt_arena::Prefix;

@@ -4,8 +4,7 @@
 ghost use Rattle.std.specs.Prelude.{◌≢◌, ℕ};
 ghost use Rattle.mt_rows.specs.Rows.{Bytes};
 ghost use Rattle.mt_arena.specs.Arena.{ArenaView, IsArena, Guarantee};
-ghost use Rattle.mt_operation.specs.declared.phase.Phase.{Phase};
-ghost use Rattle.mt_operation.specs.declared.walk.Walk.{Walk};
+ghost use Rattle.mt_operation.specs.{declared.phase.Phase.Phase, declared.walk.Walk.Walk};
 ghost use Rattle.mt_held.specs.Holds.{HoldsOnly};
 ghost use Rattle.mt_layer.specs.KeptLayers.{KeptLayer};
 

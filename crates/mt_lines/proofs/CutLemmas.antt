@@ -1,14 +1,10 @@
 -- Lines as they are cut byte by byte, and what the kept front of one tells of it: for `take_byte` and `run_script`.
 use Rattle.std.proofs.Common.{◌≡◌, ℕ, zero, suc, ◌+◌, ◌-◌, ◌<◌, ◌≤◌, ◌⊎◌, Bool, true, false, cond, [], ◌∷◌, ◌++◌, length, take, None, Some, refl, sym, ap, subst, ◌∙◌, inl, inr, arith}
-use Rattle.std.specs.Prelude.{nat_lt}
-use Rattle.std.specs.Io.BufRead.{strip_last, ends_with_byte}
-use Rattle.std.proofs.lemmas.Bool.Decides.{nat_tests}
-use Rattle.std.proofs.lemmas.List.{take-append-le, length-append, length-take, take_all}
-use Rattle.mt_lines.specs.Line.{line_of}
-use Rattle.mt_lines.specs.Lines.{Front, front_of, with_byte, without_return, whole_line}
+use Rattle.std.proofs.{lemmas.Bool.Decides.nat_tests, lemmas.List.{take-append-le, length-append, length-take, take_all}}
+use Rattle.std.specs.{Prelude.nat_lt, Io.BufRead.{strip_last, ends_with_byte}}
+use Rattle.mt_lines.specs.{Line.line_of, Lines.{Front, front_of, with_byte, without_return, whole_line}}
+use Rattle.mt_lines.specs.{Scripts.{Cut, cut_at, cut_behind, cut_of, is_silent, meaning_of}, Turns.meaning_in}
 use Rattle.mt_rows.specs.Rows.{Bytes}
-use Rattle.mt_lines.specs.Scripts.{Cut, cut_at, cut_behind, cut_of, is_silent, meaning_of}
-use Rattle.mt_lines.specs.Turns.{meaning_in}
 
 -- one byte more
 pub cut_behind-more : (cut : Cut) (bytes : Bytes) (byte : ℕ) → cut_behind cut (bytes ++ byte ∷ []) ≡ cut_at (cut_behind cut bytes) byte

@@ -1,16 +1,11 @@
 -- The ways in which a script ends: for `run_script`.
 use Rattle.std.proofs.Common.{◌≡◌, ℕ, ◌-◌, ◌^◌, ◌≤◌, ◌⊎◌, ◌==◌, Bool, true, false, List, [], ◌∷◌, ◌++◌, Option, Result, Ok, Err, refl, sym, ap, ◌∙◌, subst, append_assoc, append-nil, inl, inr, ⊎_elim, arith}
-use Rattle.std.specs.Io.BufRead.{strip_last}
-use Rattle.std.specs.Io.KnownBytes.{Consumes, Appends, Keeps, IsAtEnd}
-use Rattle.mt_lines.specs.declared.script.ScriptFault.{ScriptFault}
-use Rattle.mt_lines.specs.declared.script.ScriptFault.TheVariants.{Read, Write, Memory}
-use Rattle.mt_lines.specs.Lines.{Front, front_of, without_return}
+use Rattle.std.specs.{Io.BufRead.strip_last, Io.KnownBytes.{Consumes, Appends, Keeps, IsAtEnd}}
+use Rattle.mt_lines.specs.{declared.script.ScriptFault.ScriptFault, declared.script.ScriptFault.TheVariants.{Read, Write, Memory}}
+use Rattle.mt_lines.specs.{Lines.{Front, front_of, without_return}, Scripts.{Cut, cut_of, lines_of, AreLinesAnswered, IsLineAnswered, IsUnread, RunsScript}}
+use Rattle.mt_lines.specs.{Sessions.{SessionView, fresh}, Turns.{AnswersFront, Writes, TakesByte}}
+use Rattle.mt_lines.proofs.{CutLemmas.last_tells, ScriptLemmas.{Progress, AreLinesAnswered-more, front_answered, feed_cut, feed_answered, other_cut}}
 use Rattle.mt_rows.specs.Rows.{Bytes}
-use Rattle.mt_lines.specs.Scripts.{Cut, cut_of, lines_of, AreLinesAnswered, IsLineAnswered, IsUnread, RunsScript}
-use Rattle.mt_lines.specs.Sessions.{SessionView, fresh}
-use Rattle.mt_lines.specs.Turns.{AnswersFront, Writes, TakesByte}
-use Rattle.mt_lines.proofs.CutLemmas.{last_tells}
-use Rattle.mt_lines.proofs.ScriptLemmas.{Progress, AreLinesAnswered-more, front_answered, feed_cut, feed_answered, other_cut}
 use Rattle.mt_streams.proofs.StreamLemmas.{Appends-nil, Appends-trans, Consumes-nil, Consumes-trans, Consumes-kept}
 
 -- the reader failed, or gave as many bytes as can be counted

@@ -1,22 +1,14 @@
 -- The names in use are exactly those of the open operations: what keeps it, for `NamedStore`.
 use Rattle.std.proofs.Common.{◌≡◌, ◌≢◌, ◌⊎◌, ℕ, zero, suc, set, Bool, true, false, [], ◌∷◌, Option, Some, None, refl, sym, ◌∙◌, ap, inl, inr}
+use Rattle.std.proofs.{lemmas.Bool.cases_eq, lemmas.List.get_or-set_other, lemmas.Option.{same_Some, none-some}}
 use Rattle.std.specs.Prelude.{is_some}
-use Rattle.std.proofs.lemmas.Bool.{cases_eq}
-use Rattle.std.proofs.lemmas.List.{get_or-set_other}
-use Rattle.std.proofs.lemmas.Option.{same_Some, none-some}
 use Rattle.mt_runs.specs.declared.event.Answer.{Answer}
-use Rattle.mt_state.specs.declared.moves.Move.{Move}
-use Rattle.mt_state.specs.declared.moves.Move.TheVariants.{Moved, Again, NoMemory, Done, Spent, NoSuch}
-use Rattle.mt_operation.specs.declared.phase.Phase.{Phase}
-use Rattle.mt_operation.specs.Operations.{OperationView}
-use Rattle.mt_state.specs.Views.{StateView, Shown, op_at}
-use Rattle.mt_state.specs.Promises.{IsStep}
+use Rattle.mt_state.specs.{declared.moves.Move.Move, declared.moves.Move.TheVariants.{Moved, Again, NoMemory, Done, Spent, NoSuch}}
+use Rattle.mt_state.specs.{Views.{StateView, Shown, op_at}, Promises.IsStep, Begins.{Begins, Takes}}
+use Rattle.mt_operation.specs.{declared.phase.Phase.Phase, Operations.OperationView}
 use Rattle.mt_rows.specs.declared.command.Command.{Command}
-use Rattle.mt_state.specs.Begins.{Begins, Takes}
-use Rattle.mt_core.specs.Tickets.{Cancels}
-use Rattle.mt_core.specs.Tidies.{Tidies}
-use Rattle.mt_lines.specs.Names.{Tickets, operation_of, FreesName}
-use Rattle.mt_lines.specs.Stores.{HaveOneName, IsInTable, TellsMove, Walks, EndsWalk, IsWalk}
+use Rattle.mt_core.specs.{Tickets.Cancels, Tidies.Tidies}
+use Rattle.mt_lines.specs.{Names.{Tickets, operation_of, FreesName}, Stores.{HaveOneName, IsInTable, TellsMove, Walks, EndsWalk, IsWalk}}
 
 -- an operation that is written over is there
 pub written_is : (table : Shown) (o : ℕ) (before after : OperationView) → op_at table o ≡ Some before → op_at (set table o (Some after)) o ≡ Some after

@@ -1,14 +1,11 @@
 -- A script on its way: for `run_script`.
 use Rattle.std.proofs.Common.{◌≡◌, ℕ, ◌+◌, ◌≤◌, ◌==◌, Bool, true, false, cond, List, [], ◌∷◌, ◌++◌, length, Option, Ok, refl, sym, ap, ◌∙◌, subst, append_assoc, append-nil, arith}
-use Rattle.std.specs.Io.BufRead.{strip_last}
-use Rattle.std.specs.Io.KnownBytes.{Consumes, Appends}
 use Rattle.std.proofs.lemmas.List.{length-append}
-use Rattle.mt_lines.specs.Lines.{Front, front_of, with_byte, without_return}
-use Rattle.mt_rows.specs.Rows.{Bytes}
-use Rattle.mt_lines.specs.Scripts.{Cut, cut_of, IsLineAnswered, AreLinesAnswered}
-use Rattle.mt_lines.specs.Sessions.{SessionView, fresh}
-use Rattle.mt_lines.specs.Turns.{AnswersFront, TakesByte}
+use Rattle.std.specs.{Io.BufRead.strip_last, Io.KnownBytes.{Consumes, Appends}}
+use Rattle.mt_lines.specs.{Lines.{Front, front_of, with_byte, without_return}, Scripts.{Cut, cut_of, IsLineAnswered, AreLinesAnswered}}
+use Rattle.mt_lines.specs.{Sessions.{SessionView, fresh}, Turns.{AnswersFront, TakesByte}}
 use Rattle.mt_lines.proofs.CutLemmas.{cut_of-more, with_byte-front, FrontTells, ended_tells}
+use Rattle.mt_rows.specs.Rows.{Bytes}
 use Rattle.mt_streams.proofs.StreamLemmas.{Consumes-nil, Appends-nil, Appends-trans, Consumes-trans}
 
 -- one line more is answered

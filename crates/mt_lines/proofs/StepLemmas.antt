@@ -1,17 +1,12 @@
 -- What a store hands on of the steps of an operation: for `NamedStore::step`, `until` and `run`.
-use Rattle.std.proofs.Common.{◌≡◌, ◌≢◌, ℕ, true, Option, Some, None, refl, sym, ◌∙◌, ap, subst, arith}
-use Rattle.std.specs.Prelude.{is_some}
-use Rattle.mt_state.specs.declared.moves.Move.{Move}
-use Rattle.mt_state.specs.declared.moves.Move.TheVariants.{Moved, Again, NoMemory, Done, Spent, NoSuch}
+use Rattle.std.{proofs.Common.{◌≡◌, ◌≢◌, ℕ, true, Option, Some, None, refl, sym, ◌∙◌, ap, subst, arith}, specs.Prelude.is_some}
+use Rattle.mt_state.specs.{declared.moves.Move.Move, declared.moves.Move.TheVariants.{Moved, Again, NoMemory, Done, Spent, NoSuch}, Views.{StateView, op_at}}
+use Rattle.mt_state.specs.{Promises.{IsStep, Tells}, Begins.IsEnded}
 use Rattle.mt_operation.specs.declared.phase.Phase.{Phase}
-use Rattle.mt_state.specs.Views.{StateView, op_at}
-use Rattle.mt_state.specs.Promises.{IsStep, Tells}
-use Rattle.mt_state.specs.Begins.{IsEnded}
-use Rattle.mt_lines.specs.declared.response.Response.{Response}
-use Rattle.mt_lines.specs.declared.response.Response.TheVariants as responses
-use Rattle.mt_lines.specs.Names.{Tickets, operation_of, FreesName}
+use Rattle.mt_lines.specs.{declared.response.Response.Response, Names.{Tickets, operation_of, FreesName}}
 use Rattle.mt_lines.specs.Stores.{StoreView, TellsMove, TellsStep, EndsWalk, SaysEnd, IsWalk, TellsWalk, SaysMove, CanSay, TellsNamed}
 use Rattle.mt_lines.proofs.NamedLemmas.{written_is}
+use Rattle.mt_lines.specs.declared.response.Response.TheVariants as responses
 
 -- after its last step an operation is there, and no step of it is left
 pub ended : (old new : StateView) (o : ℕ) → IsStep old new o true → IsEnded new.table o

@@ -1,7 +1,6 @@
 -- The first word of a line, and what follows it: for `next_word`, `number` and the loops over words.
 use Rattle.std.proofs.Common.{◌≡◌, ℕ, suc, ◌+◌, ◌-◌, ◌*◌, ◌<◌, ◌≤◌, Bool, true, false, cond, ◌&&◌, nat_le, List, [], ◌∷◌, length, take, drop, Some, None, refl, ap, sym, ◌∙◌, arith}
-use Rattle.std.proofs.lemmas.List.Sums.{prefix_len-drop_no, prefix_len-drop_yes}
-use Rattle.std.proofs.lemmas.Bool.{lt-leb}
+use Rattle.std.proofs.{lemmas.List.Sums.{prefix_len-drop_no, prefix_len-drop_yes}, lemmas.Bool.lt-leb}
 use Rattle.std.specs.List.{prefix_len, take_while}
 use Rattle.mt_lines.specs.Words.{is_space, is_of_word, words_behind, next, digits_behind, number_up_to, is_numeral}
 

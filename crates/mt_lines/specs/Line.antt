@@ -1,11 +1,8 @@
 -- The lines of the language: which line, if any, some bytes are.
 use Rattle.std.specs.Prelude.{ℕ, Bool, true, false, if◌then◌else◌, List, [], ◌∷◌, codes, Option, Some, None}
-use Rattle.mt_rows.specs.declared.command.Command.{Command}
-use Rattle.mt_rows.specs.declared.command.Command.TheVariants.{Get, Put, Remove, Scan}
-use Rattle.mt_operation.specs.declared.phase.Phase.{Phase}
-use Rattle.mt_operation.specs.Phases.{name_of, steps}
-use Rattle.mt_lines.specs.declared.line.Line.{Line}
-use Rattle.mt_lines.specs.declared.line.Line.TheVariants.{Tenant, Begin, Step, Until, Run, Shape}
+use Rattle.mt_rows.specs.{declared.command.Command.Command, declared.command.Command.TheVariants.{Get, Put, Remove, Scan}}
+use Rattle.mt_operation.specs.{declared.phase.Phase.Phase, Phases.{name_of, steps}}
+use Rattle.mt_lines.specs.{declared.line.Line.Line, declared.line.Line.TheVariants.{Tenant, Begin, Step, Until, Run, Shape}}
 use Rattle.mt_lines.specs.Words.{◌>>=◌, words_of, next, no_more, each, number_up_to, name_word, is_text, key_word, column_word}
 
 -- a number of 32 bits, and a column's index

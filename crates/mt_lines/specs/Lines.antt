@@ -1,6 +1,5 @@
 -- What is kept of the line that is being read.
-use Rattle.std.specs.Prelude.{ℕ, Bool, true, ◌||◌, cond, nat_lt, List, [], ◌∷◌, ◌++◌, length, take, Option, Some, None}
-use Rattle.std.specs.Io.BufRead.{strip_last}
+use Rattle.std.specs.{Prelude.{ℕ, Bool, true, ◌||◌, cond, nat_lt, List, [], ◌∷◌, ◌++◌, length, take, Option, Some, None}, Io.BufRead.strip_last}
 
 -- the front of a line: at most its first 65,537 bytes, and whether it has more
 pub record Front : Type 0 where

@@ -1,8 +1,5 @@
 -- The names of the open operations.
-use Rattle.std.specs.Prelude.{◌≡◌, ◌≢◌, ℕ, List, Option, Some, None, slice_index_or}
-use Rattle.std.specs.Ordering.{nat_cmp, eq_by_cmp}
-use Rattle.std.specs.Option.{option_map}
-use Rattle.std.specs.Map.{lookup}
+use Rattle.std.specs.{Prelude.{◌≡◌, ◌≢◌, ℕ, List, Option, Some, None, slice_index_or}, Ordering.{nat_cmp, eq_by_cmp}, Option.option_map, Map.lookup}
 use Rattle.mt_core.specs.declared.answers.Ticket.{Ticket}
 
 -- the tickets by the names that stand for them

@@ -1,15 +1,10 @@
 -- How the program ends, for its arguments and its script.
-use Rattle.std.specs.Prelude.{◌≡◌, ℕ, ◌++◌, if◌then◌else◌, List, [], ◌∷◌, codes, Option, Result, Ok, Err}
-use Rattle.std.specs.Io.KnownBytes.{Appends, Keeps}
+use Rattle.std.specs.{Prelude.{◌≡◌, ℕ, ◌++◌, if◌then◌else◌, List, [], ◌∷◌, codes, Option, Result, Ok, Err}, Io.KnownBytes.{Appends, Keeps}}
 use Rattle.mt_rows.specs.Rows.{Bytes}
-use Rattle.mt_lines.specs.declared.program.Purpose.{Purpose}
+use Rattle.mt_lines.specs.{declared.program.Purpose.Purpose, declared.program.Ending.Ending}
+use Rattle.mt_lines.specs.{declared.program.Ending.TheVariants.{Answered, Helped, GivenUp, Misused}, declared.script.ScriptFault.ScriptFault}
+use Rattle.mt_lines.specs.{declared.script.ScriptFault.TheVariants.{Read, Write, Memory}, Scripts.RunsScript, Words.is_text}
 use Rattle.mt_lines.specs.declared.program.Purpose.TheVariants as purposes
-use Rattle.mt_lines.specs.declared.program.Ending.{Ending}
-use Rattle.mt_lines.specs.declared.program.Ending.TheVariants.{Answered, Helped, GivenUp, Misused}
-use Rattle.mt_lines.specs.declared.script.ScriptFault.{ScriptFault}
-use Rattle.mt_lines.specs.declared.script.ScriptFault.TheVariants.{Read, Write, Memory}
-use Rattle.mt_lines.specs.Scripts.{RunsScript}
-use Rattle.mt_lines.specs.Words.{is_text}
 
 -- what arguments ask for: none, a script; `--help` alone, the use; any others are none of the program's
 abbrev pub purpose_of : List Bytes → Purpose

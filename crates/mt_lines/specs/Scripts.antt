@@ -1,15 +1,9 @@
 -- What is written for a script that is read.
 use Rattle.std.specs.Prelude.{◌≡◌, ℕ, ◌-◌, ◌^◌, ◌≤◌, ◌⊎◌, Bool, true, false, ◌==◌, nat_lt, if◌then◌else◌, List, [], ◌∷◌, ◌++◌, length, Option, None, Result, OnOk, IfErr}
-use Rattle.std.specs.Io.BufRead.{strip_last}
-use Rattle.std.specs.Io.KnownBytes.{Consumes, Appends, IsAtEnd}
+use Rattle.std.specs.{Io.BufRead.strip_last, Io.KnownBytes.{Consumes, Appends, IsAtEnd}}
 use Rattle.mt_rows.specs.Rows.{Bytes}
-use Rattle.mt_lines.specs.declared.line.Line.{Line}
-use Rattle.mt_lines.specs.declared.response.Response.{Response}
-use Rattle.mt_lines.specs.declared.script.ScriptFault.{ScriptFault}
-use Rattle.mt_lines.specs.declared.script.ScriptFault.TheVariants.{Read, Write, Memory}
-use Rattle.mt_lines.specs.Line.{line_of}
-use Rattle.mt_lines.specs.Sessions.{SessionView, fresh, TellsReply}
-use Rattle.mt_lines.specs.Text.{IsText}
+use Rattle.mt_lines.specs.{declared.line.Line.Line, declared.response.Response.Response, declared.script.ScriptFault.ScriptFault}
+use Rattle.mt_lines.specs.{declared.script.ScriptFault.TheVariants.{Read, Write, Memory}, Line.line_of, Sessions.{SessionView, fresh, TellsReply}, Text.IsText}
 
 -- bytes, cut at each line feed: the lines that end in them, and what stands behind the last end
 pub record Cut : Type 0 where

@@ -1,18 +1,12 @@
 -- What a session does for a line, and what it says of it.
 use Rattle.std.specs.Prelude.{◌≡◌, ◌≢◌, ℕ, [], Option, Some, None, Ok, Err}
-use Rattle.mt_rows.specs.declared.command.Command.{Command}
-use Rattle.mt_rows.specs.declared.refusal.Refusal.{Refusal}
-use Rattle.mt_rows.specs.declared.refusal.Refusal.TheVariants.{TenantThere, Quota, Memory}
+use Rattle.mt_rows.specs.{declared.command.Command.Command, declared.refusal.Refusal.Refusal, declared.refusal.Refusal.TheVariants.{TenantThere, Quota, Memory}}
 use Rattle.mt_rows.specs.Accounts.{Accounts, account_of, OthersStay, IsQuota}
-use Rattle.mt_core.specs.declared.answers.Ticket.{Ticket}
-use Rattle.mt_core.specs.Tickets.{TellsBegin, TellsRefusal}
-use Rattle.mt_core.specs.Shapes.{IsShape}
-use Rattle.mt_lines.specs.declared.line.Line.{Line}
-use Rattle.mt_lines.specs.declared.line.Line.TheVariants as lines
-use Rattle.mt_lines.specs.declared.response.Response.{Response}
-use Rattle.mt_lines.specs.declared.response.Response.TheVariants.{Taken, Refused, Begun, Shape, BadLine}
-use Rattle.mt_lines.specs.Names.{operation_of, TakesName}
+use Rattle.mt_core.specs.{declared.answers.Ticket.Ticket, Tickets.{TellsBegin, TellsRefusal}, Shapes.IsShape}
+use Rattle.mt_lines.specs.{declared.line.Line.Line, declared.response.Response.Response}
+use Rattle.mt_lines.specs.{declared.response.Response.TheVariants.{Taken, Refused, Begun, Shape, BadLine}, Names.{operation_of, TakesName}}
 use Rattle.mt_lines.specs.Stores.{StoreView, new_store, TellsStep, TellsWalk, TellsNamed, IsFree}
+use Rattle.mt_lines.specs.declared.line.Line.TheVariants as lines
 
 -- a session: its store, and the tenants that are gathered, up to the first begin
 pub record SessionView : Type 0 where

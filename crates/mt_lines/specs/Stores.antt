@@ -2,17 +2,12 @@
 use Rattle.std.specs.Prelude.{◌≡◌, ℕ, zero, suc, ◌≤◌, ◌^◌, true, false, [], Option, Some, None, is_some}
 use Rattle.mt_rows.specs.Accounts.{Accounts}
 use Rattle.mt_runs.specs.declared.event.Answer.{Answer}
-use Rattle.mt_state.specs.declared.moves.Move.{Move}
-use Rattle.mt_state.specs.declared.moves.Move.TheVariants as moves
+use Rattle.mt_state.specs.{declared.moves.Move.Move, Views.{StateView, Shown, op_at}, Promises.{IsStep, Tells}, Begins.{new_state, Takes, IsEnded}}
 use Rattle.mt_operation.specs.declared.phase.Phase.{Phase}
-use Rattle.mt_state.specs.Views.{StateView, Shown, op_at}
-use Rattle.mt_core.specs.Shows.{phase_at}
-use Rattle.mt_state.specs.Promises.{IsStep, Tells}
-use Rattle.mt_state.specs.Begins.{new_state, Takes, IsEnded}
-use Rattle.mt_core.specs.Tidies.{Tidies}
-use Rattle.mt_lines.specs.declared.response.Response.{Response}
-use Rattle.mt_lines.specs.declared.response.Response.TheVariants.{At, Moved, Again, NoMemory, Spent, NoSuch, Done}
+use Rattle.mt_core.specs.{Shows.phase_at, Tidies.Tidies}
+use Rattle.mt_lines.specs.{declared.response.Response.Response, declared.response.Response.TheVariants.{At, Moved, Again, NoMemory, Spent, NoSuch, Done}}
 use Rattle.mt_lines.specs.Names.{Tickets, operation_of, FreesName}
+use Rattle.mt_state.specs.declared.moves.Move.TheVariants as moves
 
 -- a store, and the names of its operations
 pub record StoreView : Type 0 where

@@ -1,18 +1,13 @@
 -- How answers are written.
-use Rattle.std.specs.Prelude.{◌≡◌, ℕ, ◌+◌, nat_lt, if◌then◌else◌, List, [], ◌∷◌, ◌++◌, length, codes, decimal, slice_get}
-use Rattle.std.specs.Option.{unwrap_or}
+use Rattle.std.specs.{Prelude.{◌≡◌, ℕ, ◌+◌, nat_lt, if◌then◌else◌, List, [], ◌∷◌, ◌++◌, length, codes, decimal, slice_get}, Option.unwrap_or}
 use Rattle.hex.specs.Hex.{encode_lower}
-use Rattle.mt_rows.specs.declared.command.Command.{Command}
-use Rattle.mt_rows.specs.declared.command.Command.TheVariants.{Get, Put, Remove, Scan}
-use Rattle.mt_rows.specs.declared.reply.Reply.{Reply}
-use Rattle.mt_rows.specs.declared.reply.Reply.TheVariants.{Absent, Found, New, Replaced, Full, Removed, Pairs, NoMemory as NoMemoryReply}
-use Rattle.mt_rows.specs.Refusals.{number_of}
+use Rattle.mt_rows.specs.{declared.command.Command.Command, declared.command.Command.TheVariants.{Get, Put, Remove, Scan}, declared.reply.Reply.Reply}
+use Rattle.mt_rows.specs.{declared.reply.Reply.TheVariants.{Absent, Found, New, Replaced, Full, Removed, Pairs, NoMemory as NoMemoryReply}, Refusals.number_of}
 use Rattle.mt_runs.specs.declared.event.Answer.{Answer}
-use Rattle.mt_core.specs.declared.shape.ShapeLine.{ShapeLine}
-use Rattle.mt_operation.specs.Phases as phases
-use Rattle.mt_core.specs.Shapes.{line_text}
+use Rattle.mt_core.specs.{declared.shape.ShapeLine.ShapeLine, Shapes.line_text}
 use Rattle.mt_lines.specs.declared.response.Response.{Response}
 use Rattle.mt_lines.specs.declared.response.Response.TheVariants.{Taken, Refused, Begun, At, Moved, Again, NoMemory, Spent, NoSuch, Done, Shape, BadLine}
+use Rattle.mt_operation.specs.Phases as phases
 
 -- the columns that a command names, none for all
 abbrev pub columns_asked : Command → List ℕ

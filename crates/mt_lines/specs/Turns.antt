@@ -1,14 +1,8 @@
 -- What the front of a line is answered, and what a byte of a script does.
-use Rattle.std.specs.Prelude.{◌≡◌, ℕ, Bool, true, false, [], ◌++◌, Option, Some, None, Result, Ok, Err, OnOk, IfErr}
-use Rattle.std.specs.Io.KnownBytes.{Appends}
-use Rattle.mt_lines.specs.declared.line.Line.{Line}
-use Rattle.mt_lines.specs.declared.script.ScriptFault.{ScriptFault}
-use Rattle.mt_lines.specs.declared.script.ScriptFault.TheVariants.{Read, Write, Memory}
-use Rattle.mt_lines.specs.Line.{line_of}
-use Rattle.mt_lines.specs.Lines.{Front, front_of, with_byte, without_return, whole_line}
+use Rattle.std.specs.{Prelude.{◌≡◌, ℕ, Bool, true, false, [], ◌++◌, Option, Some, None, Result, Ok, Err, OnOk, IfErr}, Io.KnownBytes.Appends}
+use Rattle.mt_lines.specs.{declared.line.Line.Line, declared.script.ScriptFault.ScriptFault, declared.script.ScriptFault.TheVariants.{Read, Write, Memory}}
+use Rattle.mt_lines.specs.{Line.line_of, Lines.{Front, front_of, with_byte, without_return, whole_line}, Scripts.{is_silent, Answers}, Sessions.SessionView}
 use Rattle.mt_rows.specs.Rows.{Bytes}
-use Rattle.mt_lines.specs.Scripts.{is_silent, Answers}
-use Rattle.mt_lines.specs.Sessions.{SessionView}
 
 -- what a line that may be too long asks for
 abbrev pub meaning_in : Option Bytes → Option Line

@@ -1,10 +1,8 @@
 -- The words of a line, and what a word can mean: a number, bytes, a key, a column.
 use Rattle.std.specs.Prelude.{◌≡◌, ℕ, ◌+◌, ◌-◌, ◌*◌, Bool, true, false, ◌&&◌, ◌==◌, not, nat_le, nat_lt, if◌then◌else◌, List, [], ◌∷◌, ◌++◌, length, drop, codes, Option, Some, None, Result, Ok, Err}
-use Rattle.std.specs.List.{prefix_len, take_while}
-use Rattle.std.specs.Str.{bytes_eq, all_ascii_digits}
+use Rattle.std.specs.{List.{prefix_len, take_while}, Str.{bytes_eq, all_ascii_digits}}
 use Rattle.hex.specs.Hex.{decode_of}
-use Rattle.mt_lines.specs.declared.fault.LineFault.{LineFault}
-use Rattle.mt_lines.specs.declared.fault.LineFault.TheVariants.{BadLine, Memory}
+use Rattle.mt_lines.specs.{declared.fault.LineFault.LineFault, declared.fault.LineFault.TheVariants.{BadLine, Memory}}
 
 -- a meaning, and what follows from it
 infixl 10 ◌>>=◌

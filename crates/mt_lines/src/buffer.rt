@@ -3,10 +3,8 @@
 //! It keeps as much of a line as decides what the line is: of one that is too long the front alone,
 //! so its memory is bounded whatever is read. Units: bytes.
 
-ghost use Rattle.std.specs.Prelude.{◌≡◌, [], OnOk, OnErr};
-ghost use Rattle.std.specs.Option.{option_map};
-ghost use Rattle.mt_lines.specs.Lines.{front_of, with_byte, without_return, whole_line};
-ghost use Rattle.mt_lines.specs.Scripts.{is_silent};
+ghost use Rattle.std.specs.{Prelude.{◌≡◌, [], OnOk, OnErr}, Option.option_map};
+ghost use Rattle.mt_lines.specs.{Lines.{front_of, with_byte, without_return, whole_line}, Scripts.is_silent};
 
 use std::alloc::{AllocError, Global};
 use std::marker::Model;

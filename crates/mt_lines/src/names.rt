@@ -4,9 +4,7 @@
 //! found by a ticket's id in one look-up. Its memory is that of the names in use, and of the greatest
 //! id that one of them had.
 
-ghost use Rattle.std.specs.Prelude.{◌≡◌, ◌≢◌, ◌<◌, ◌↔◌, ℕ, [], length, slice_index_or, OnOk, IfErr, Some, None};
-ghost use Rattle.std.specs.Option.{option_map};
-ghost use Rattle.std.specs.Ordering.{nat_cmp};
+ghost use Rattle.std.specs.{Prelude.{◌≡◌, ◌≢◌, ◌<◌, ◌↔◌, ℕ, [], length, slice_index_or, OnOk, IfErr, Some, None}, Option.option_map, Ordering.nat_cmp};
 ghost use Rattle.std.specs.BTreeMap.{get, Updates};
 ghost use Rattle.mt_lines.specs.Names.{ticket_of, operation_of, TakesName, FreesName};
 

@@ -4,18 +4,12 @@
 //! the script: it is that of one line, of the tenants and the pairs, of the operations that are open and
 //! their names, and of the writes that were placed since the first step of one that is still open.
 
-ghost use Rattle.std.specs.Prelude.{◌≡◌, ◌==◌, ◌<◌, ◌++◌, ℕ, [], ◌∷◌, IfOk, OnOk, OnErr, IfNone, IfSome, false, string_bytes};
-ghost use Rattle.std.specs.Option.{option_map};
+ghost use Rattle.std.specs.{Prelude.{◌≡◌, ◌==◌, ◌<◌, ◌++◌, ℕ, [], ◌∷◌, IfOk, OnOk, OnErr, IfNone, IfSome, false, string_bytes}, Option.option_map};
 ghost use Rattle.std.specs.Io.KnownBytes.{Consumes, Appends, Keeps, IsAtEnd};
-ghost use Rattle.mt_lines.specs.Line.{line_of};
-ghost use Rattle.mt_lines.specs.Lines.{front_of, whole_line};
+ghost use Rattle.mt_lines.specs.{Line.line_of, Lines.{front_of, whole_line}, Scripts.{Answers, RunsScript}, Sessions.{fresh, TellsReply}, Text.IsText};
+ghost use Rattle.mt_lines.specs.{Turns.{meaning_in, AnswersFront, Writes, TakesByte}, declared.script.ScriptFault.TheVariants.Memory};
 ghost use Rattle.mt_rows.specs.Rows.{Bytes};
-ghost use Rattle.mt_lines.specs.Scripts.{Answers, RunsScript};
-ghost use Rattle.mt_lines.specs.Sessions.{fresh, TellsReply};
 ghost use Rattle.mt_streams.specs.Failures.{Failed, NoFewer};
-ghost use Rattle.mt_lines.specs.Text.{IsText};
-ghost use Rattle.mt_lines.specs.Turns.{meaning_in, AnswersFront, Writes, TakesByte};
-ghost use Rattle.mt_lines.specs.declared.script.ScriptFault.TheVariants.{Memory};
 
 use crate::buffer::LineBuffer;
 use crate::line::parse;

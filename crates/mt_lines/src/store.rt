@@ -5,14 +5,10 @@
 //! keeps no more of it.
 
 ghost use Rattle.std.specs.Prelude.{◌≡◌, ◌↔◌, ℕ, [], IfOk, OnErr, IsTrue, Some, None, Ok, Err, true};
-ghost use Rattle.mt_state.specs.Views.{StateView};
-ghost use Rattle.mt_core.specs.Shows.{phase_at};
-ghost use Rattle.mt_state.specs.Begins.{new_state, HaveNoPairs, IsEnded};
-ghost use Rattle.mt_core.specs.Tickets.{IsStill, Cancels};
-ghost use Rattle.mt_core.specs.Shapes.{IsShape};
+ghost use Rattle.mt_state.specs.{Views.StateView, Begins.{new_state, HaveNoPairs, IsEnded}};
+ghost use Rattle.mt_core.specs.{Shows.phase_at, Tickets.{IsStill, Cancels}, Shapes.IsShape};
 ghost use Rattle.mt_runs.specs.declared.event.Answer.{Answer as AnyAnswer};
-ghost use Rattle.mt_lines.specs.Names.{operation_of};
-ghost use Rattle.mt_lines.specs.Sessions.{TellsBegun};
+ghost use Rattle.mt_lines.specs.{Names.operation_of, Sessions.TellsBegun};
 ghost use Rattle.mt_lines.specs.Stores.{IsAsBefore, HaveOneName, StopsAt, IsWalk, TellsStep, TellsWalk, TellsNamed, IsFree, CanSay, GivesUp, SaysMove};
 
 use crate::names::Names;

@@ -3,9 +3,8 @@
 //! Each reader answers exactly what `specs/Words.antt` says the word means, `BadLine` where it means
 //! nothing, or `Memory`.
 
-ghost use Rattle.std.specs.Prelude.{◌≡◌, ◌<◌, ◌≤◌, length, IfOk, IfErr};
+ghost use Rattle.std.specs.{Prelude.{◌≡◌, ◌<◌, ◌≤◌, length, IfOk, IfErr}, List.prefix_len};
 ghost use Rattle.mt_lines.specs.Words.{Means, words_of, next, no_more, is_text, number_up_to, name_word, hex_of, key_word, parted, column_word, is_space, is_of_word, is_no_sign};
-ghost use Rattle.std.specs.List.{prefix_len};
 
 use crate::fault::LineFault;
 use hex::FromHexError;

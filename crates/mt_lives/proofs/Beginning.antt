@@ -1,36 +1,16 @@
 -- A new store: its logs were made, and nothing has happened.
-use Rattle.std.proofs.Common.{◌≡◌, ℕ, ◌+◌, ◌<◌, ◌≤◌, List, length, Some, None, refl, sym, ap, subst, ◌∙◌, arith}
-use Rattle.std.specs.Prelude.{slice_get}
-use Rattle.std.specs.FinMap.{empty, len, get-empty, len-empty}
-use Rattle.std.specs.Ordering.{nat_cmp}
-use Rattle.std.specs.Cmp.Lexicographic.{slice_cmp}
-use Rattle.std.proofs.lemmas.List.Elements.{All-nil}
-use Rattle.mt_rows.specs.Accounts.{Accounts}
-use Rattle.mt_rows.specs.Rows.{Columns}
-use Rattle.mt_rows.specs.Tenants.{owned_cmp}
-use Rattle.mt_rows.specs.TenantPairs.{quota_in, HasTenants, KeepsQuotas}
-use Rattle.mt_disk.specs.declared.mem.MemDisk.{MemDisk}
-use Rattle.mt_disk.specs.Mem.{mem_state}
+use Rattle.std.proofs.{Common.{◌≡◌, ℕ, ◌+◌, ◌<◌, ◌≤◌, List, length, Some, None, refl, sym, ap, subst, ◌∙◌, arith}, lemmas.List.Elements.All-nil}
+use Rattle.std.specs.{Prelude.slice_get, FinMap.{empty, len, get-empty, len-empty}, Ordering.nat_cmp, Cmp.Lexicographic.slice_cmp}
+use Rattle.mt_rows.specs.{Accounts.Accounts, Rows.Columns, Tenants.owned_cmp, TenantPairs.{quota_in, HasTenants, KeepsQuotas}}
+use Rattle.mt_disk.specs.{declared.mem.MemDisk.MemDisk, Mem.mem_state}
 use Rattle.mt_log.specs.Contents.{mark_of, no_batches}
-use Rattle.mt_state.specs.Views.{StateView}
-use Rattle.mt_state.specs.Begins.{new_state}
-use Rattle.mt_state.proofs.HistoryStart.{content-new, tenant_map-empty}
+use Rattle.mt_state.{specs.{Views.StateView, Begins.new_state}, proofs.HistoryStart.{content-new, tenant_map-empty}}
 use Rattle.mt_core.specs.Rights.{IsRightState}
-use Rattle.mt_crashes.specs.Histories.{Placed}
-use Rattle.mt_crashes.specs.Stores.{LogNow, at_rest, new_store}
-use Rattle.mt_crashes.proofs.Invariant.{within_place, new_at, new_long}
-use Rattle.mt_store_logs.specs.declared.store_log.StoreLog.{StoreLog}
-use Rattle.mt_store_logs.specs.Places.{closed_on, MakesAll}
-use Rattle.mt_store_logs.proofs.Closed.{closed_at}
-use Rattle.mt_store_logs.specs.Shows.{Shows, IsHonest}
-use Rattle.mt_store_logs.proofs.CallerLemmas.{makes}
-use Rattle.mt_lives.specs.declared.serving.Serving.{Serving}
-use Rattle.mt_lives.specs.Lives.{new_standing}
-use Rattle.mt_lives.specs.Holds.{Holds}
-use Rattle.mt_lives.specs.Returns.{IsFresh}
-use Rattle.mt_lives.proofs.Flushing.{keeps_rules, failures_of, within}
-use Rattle.mt_lives.proofs.Leaving.{AllShow}
-use Rattle.mt_lives.proofs.Living.{RestAt, reach_all, BeginsWith, begins_serving}
+use Rattle.mt_crashes.{specs.{Histories.Placed, Stores.{LogNow, at_rest, new_store}}, proofs.Invariant.{within_place, new_at, new_long}}
+use Rattle.mt_store_logs.specs.{declared.store_log.StoreLog.StoreLog, Places.{closed_on, MakesAll}, Shows.{Shows, IsHonest}}
+use Rattle.mt_store_logs.proofs.{Closed.closed_at, CallerLemmas.makes}
+use Rattle.mt_lives.specs.{declared.serving.Serving.Serving, Lives.new_standing, Holds.Holds, Returns.IsFresh}
+use Rattle.mt_lives.proofs.{Flushing.{keeps_rules, failures_of, within}, Leaving.AllShow, Living.{RestAt, reach_all, BeginsWith, begins_serving}}
 
 begins_new : (logs : ℕ) (accounts : Accounts) → BeginsWith accounts empty 0 logs (new_state logs accounts)
 begins_new logs accounts = record {

@@ -1,16 +1,13 @@
 -- What happens to a store when a batch goes into a log, or comes in doubt, and when a log comes to rest.
 use Rattle.std.proofs.Common.{◌≡◌, ℕ, zero, suc, ◌<◌, ◌≤◌, true, List, [], ◌∷◌, inl, inr, Option, Some, None, refl, sym, ap, subst, ◌∙◌}
-use Rattle.std.specs.Prelude.{slice_get, slice_set}
 use Rattle.std.proofs.lemmas.Option.{same_Some}
+use Rattle.std.specs.Prelude.{slice_get, slice_set}
 use Rattle.mt_rows.specs.declared.record.Batch.{Batch}
-use Rattle.mt_log.specs.declared.batch.LogBatch.TheVariants.{Records}
-use Rattle.mt_log.specs.Contents.{Contents, with_batch}
+use Rattle.mt_log.specs.{declared.batch.LogBatch.TheVariants.Records, Contents.{Contents, with_batch}}
 use Rattle.mt_crashes.specs.Stores.{Store, LogNow, at_rest, Happens, Leads, Appends, Rests, MayLeaveFront, new_store, ReachesAt}
-use Rattle.mt_crashes.proofs.Members.{no_some}
+use Rattle.mt_crashes.proofs.{Members.no_some, Heart.never_back}
 use Rattle.mt_store_logs.specs.Shows.{MayBegin, begun, appended, IsIn, IsInDoubt, ComesToRest}
-use Rattle.mt_lives.specs.Holds.{HoldsChanges}
-use Rattle.mt_crashes.proofs.Heart.{never_back}
-use Rattle.mt_lives.specs.Holds.{HasCome, LeadsTo, HoldsKept}
+use Rattle.mt_lives.specs.Holds.{HoldsChanges, HasCome, LeadsTo, HoldsKept}
 
 -- ---- places
 

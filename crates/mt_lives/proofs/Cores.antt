@@ -1,27 +1,17 @@
 -- An event of an operation, at a store that serves a life: one event more of that life, which one order explains.
 use Rattle.std.proofs.Common.{◌≡◌, ℕ, ◌+◌, ◌<◌, ◌≤◌, Bool, true, false, [], ◌∷◌, ◌++◌, map, length, refl, sym, ap, subst, ◌∙◌, arith, inl, inr}
 use Rattle.std.proofs.lemmas.List.{append_assoc, map-append}
-use Rattle.mt_rows.specs.declared.command.Command.{Command}
-use Rattle.mt_rows.specs.Accounts.{Accounts}
-use Rattle.mt_rows.specs.Tenants.{Contents}
-use Rattle.mt_rows.specs.TenantPairs.{quota_in, HasTenants}
-use Rattle.mt_runs.specs.declared.event.Event.{Event}
-use Rattle.mt_runs.specs.declared.event.Event.TheVariants.{Begin, Step}
-use Rattle.mt_runs.specs.declared.event.Told.{Told as Answered}
+use Rattle.mt_rows.specs.{declared.command.Command.Command, Accounts.Accounts, Tenants.Contents, TenantPairs.{quota_in, HasTenants}}
+use Rattle.mt_runs.specs.{declared.event.Event.Event, declared.event.Event.TheVariants.{Begin, Step}, declared.event.Told.{Told as Answered}}
 use Rattle.mt_runs.specs.declared.event.Told.TheVariants.{Begun, Refused, NoSuch, Moved, Again, NoMemory, Spent, Done}
-use Rattle.mt_state.specs.Views.{StateView, contents_of, granted}
-use Rattle.mt_state.specs.Begins.{Begins, Takes}
-use Rattle.mt_state.specs.Promises.{IsStep, IsQuiet, IsPlacing}
+use Rattle.mt_state.specs.{Views.{StateView, contents_of, granted}, Begins.{Begins, Takes}, Promises.{IsStep, IsQuiet, IsPlacing}}
 use Rattle.mt_state.specs.Histories.{Names, History, TellsEvent, IsServed}
 use Rattle.mt_state.proofs.HistoryEvents.{keeps_event}
 use Rattle.mt_core.specs.Rights.{IsRightState}
 use Rattle.mt_crashes.specs.Stores.{Store}
-use Rattle.mt_lives.specs.Lives.{Life, with_event, firsts, story_in}
-use Rattle.mt_lives.specs.Holds.{quotas_of, placed_of, Serves, KeepsAll}
-use Rattle.mt_lives.proofs.Served.{now_pairs}
-use Rattle.mt_lives.proofs.Workers.{AreBelow, below_same, below_begun, below_step, below_taken}
-use Rattle.mt_lives.proofs.Growing.{Grows, grows_not, stepped, grows_step, placing, grows_placing, keeps_placing}
-use Rattle.mt_lives.proofs.Tenants.{has_tenants, keeps_quotas}
+use Rattle.mt_lives.specs.{Lives.{Life, with_event, firsts, story_in}, Holds.{quotas_of, placed_of, Serves, KeepsAll}}
+use Rattle.mt_lives.proofs.{Served.now_pairs, Workers.{AreBelow, below_same, below_begun, below_step, below_taken}}
+use Rattle.mt_lives.proofs.{Growing.{Grows, grows_not, stepped, grows_step, placing, grows_placing, keeps_placing}, Tenants.{has_tenants, keeps_quotas}}
 
 -- a state whose tape, numbers and tenants are those of another
 record KeepsTape (old new : StateView) : Type 0 where

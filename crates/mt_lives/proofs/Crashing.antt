@@ -1,21 +1,13 @@
 -- What a crash ends: whatever the store was, it holds of it that no life is served.
 use Rattle.std.proofs.Common.{ℕ, ◌<◌, ◌≤◌, List, length, Option, Some, None, Result, Ok, Err, sym, subst, ◌∙◌}
-use Rattle.std.specs.Prelude.{Vec}
-use Rattle.std.specs.declared.alloc.Global.{Global}
+use Rattle.std.specs.{Prelude.Vec, declared.alloc.Global.Global}
 use Rattle.mt_rows.specs.Accounts.{Accounts}
 use Rattle.mt_disk.specs.declared.mem.MemDisk.{MemDisk}
 use Rattle.mt_core.specs.Tickets.{named}
-use Rattle.mt_crashes.specs.Stores.{Store}
-use Rattle.mt_crashes.proofs.Invariant.{within_place}
-use Rattle.mt_store_logs.specs.declared.store_log.StoreLog.{StoreLog}
-use Rattle.mt_store_logs.specs.Crashes.{AreCrashed}
-use Rattle.mt_store_logs.proofs.CallerLemmas.{crashed}
-use Rattle.mt_lives.specs.declared.serving.Serving.{Serving}
-use Rattle.mt_lives.specs.Lives.{Life, Past, Standing, past_of, crashed_to}
-use Rattle.mt_lives.specs.Holds.{HasCome, IsDown, HoldsNow, Holds}
-use Rattle.mt_lives.proofs.Served.{ends}
-use Rattle.mt_lives.proofs.Flushing.{within}
-use Rattle.mt_lives.proofs.Leaving.{AllShow, IsLeft}
+use Rattle.mt_crashes.{specs.Stores.Store, proofs.Invariant.within_place}
+use Rattle.mt_store_logs.{specs.{declared.store_log.StoreLog.StoreLog, Crashes.AreCrashed}, proofs.CallerLemmas.crashed}
+use Rattle.mt_lives.specs.{declared.serving.Serving.Serving, Lives.{Life, Past, Standing, past_of, crashed_to}, Holds.{HasCome, IsDown, HoldsNow, Holds}}
+use Rattle.mt_lives.proofs.{Served.ends, Flushing.within, Leaving.{AllShow, IsLeft}}
 
 -- what holds of a store that serves no life
 pub holds_left : (accounts : Accounts) (standing : Standing) (past : Past) (logs : List (StoreLog MemDisk)) (s : Store) → IsLeft accounts standing.settled past (length logs) s

@@ -1,25 +1,16 @@
 -- What a flush makes of all that holds of a store, drain by drain.
 use Rattle.std.proofs.Common.{◌≡◌, ◌⊎◌, ℕ, zero, suc, ◌+◌, ◌≤◌, List, Some, None, Ok, refl, sym, ap, subst, ◌∙◌, inl, inr, ⊎_elim, arith}
 use Rattle.std.specs.Prelude.{slice_get, slice_set}
-use Rattle.mt_rows.specs.Accounts.{Accounts}
-use Rattle.mt_rows.specs.declared.refusal.Refusal.{Refusal}
-use Rattle.mt_disk.specs.declared.mem.MemDisk.{MemDisk}
-use Rattle.mt_disk.specs.Mem.{mem_state}
+use Rattle.mt_rows.specs.{Accounts.Accounts, declared.refusal.Refusal.Refusal}
+use Rattle.mt_disk.specs.{declared.mem.MemDisk.MemDisk, Mem.mem_state}
 use Rattle.mt_state.specs.Views.{StateView}
 use Rattle.mt_core.specs.Tickets.{named}
 use Rattle.mt_crashes.specs.Stores.{ReachesAt}
-use Rattle.mt_store_logs.specs.declared.store_log.StoreLog.{StoreLog}
-use Rattle.mt_store_logs.specs.Waits.{AppendsKept, Reopens}
+use Rattle.mt_store_logs.specs.{declared.store_log.StoreLog.StoreLog, Waits.{AppendsKept, Reopens}}
 use Rattle.mt_store_logs.specs.Flushes.{DrainsIn, DrainsShort, HasDrained, FailsToDrain, FailsInDrains, Flushes, FailsToFlush}
 use Rattle.mt_store_logs.specs.LogTurns.{BringsUp, FailsToBringUp}
-use Rattle.mt_lives.specs.declared.serving.Serving.{Serving}
-use Rattle.mt_lives.specs.Serving.{DrainsServing}
-use Rattle.mt_lives.specs.Lives.{Life, Standing, IsMemoryOrDevice, steps_in}
-use Rattle.mt_lives.specs.Holds.{Holds}
-use Rattle.mt_lives.proofs.Comes.{set_there, set_twice}
-use Rattle.mt_lives.proofs.Served.{last}
-use Rattle.mt_lives.proofs.Flushing.{keeps_rules, failures_of}
-use Rattle.mt_lives.proofs.Noting.{life_served, lives_so, held}
+use Rattle.mt_lives.specs.{declared.serving.Serving.Serving, Serving.DrainsServing, Lives.{Life, Standing, IsMemoryOrDevice, steps_in}, Holds.Holds}
+use Rattle.mt_lives.proofs.{Comes.{set_there, set_twice}, Served.last, Flushing.{keeps_rules, failures_of}, Noting.{life_served, lives_so, held}}
 use Rattle.mt_lives.proofs.Noted.{none_waits, kept_again, waits_again, drained_again, keeps_again, reopen_noted, reopen_fails}
 
 -- drains leave the Settles

@@ -1,35 +1,23 @@
 -- What a flush makes of a store that serves a life.
 use Rattle.std.proofs.Common.{◌≡◌, ◌≢◌, ◌⊎◌, ℕ, zero, suc, ◌+◌, ◌<◌, ◌≤◌, Bool, true, List, [], ◌∷◌, length, Option, Some, None, refl, sym, ap, subst, ◌∙◌, arith, inl, inr, ⊎_elim}
-use Rattle.std.specs.Prelude.{slice_get, slice_index_or}
-use Rattle.std.specs.List.{filter}
 use Rattle.std.proofs.lemmas.Option.{same_Some}
-use Rattle.mt_rows.specs.Accounts.{Accounts}
-use Rattle.mt_rows.specs.declared.record.Batch.{Batch}
-use Rattle.mt_rows.specs.declared.refusal.Refusal.{Refusal}
-use Rattle.mt_rows.specs.declared.refusal.Refusal.TheVariants as refusals
-use Rattle.mt_batches.specs.Batches.{IsBounded}
-use Rattle.mt_batches.proofs.Climbing.{goes_on}
-use Rattle.mt_disk.specs.declared.mem.MemDisk.{MemDisk}
-use Rattle.mt_disk.specs.Mem.{mem_state}
+use Rattle.std.specs.{Prelude.{slice_get, slice_index_or}, List.filter}
+use Rattle.mt_rows.specs.{Accounts.Accounts, declared.record.Batch.Batch, declared.refusal.Refusal.Refusal}
+use Rattle.mt_batches.{specs.Batches.IsBounded, proofs.Climbing.goes_on}
+use Rattle.mt_disk.specs.{declared.mem.MemDisk.MemDisk, Mem.mem_state}
 use Rattle.mt_log.specs.Contents.{mark_of}
-use Rattle.mt_state.specs.Views.{StateView}
-use Rattle.mt_state.specs.Histories.{Names}
+use Rattle.mt_state.specs.{Views.StateView, Histories.Names}
 use Rattle.mt_core.specs.Drains.{Drains}
 use Rattle.mt_drains.specs.Drains.{records_between}
-use Rattle.mt_crashes.specs.Histories.{changes_of}
-use Rattle.mt_crashes.specs.Stores.{Store, LogNow, Reaches, is_between}
-use Rattle.mt_recover.specs.declared.resuming.LogSlot.{LogSlot}
-use Rattle.mt_recover.specs.declared.resuming.LogSlot.TheVariants.{Open, Failed, Closed, Away}
-use Rattle.mt_store_logs.specs.declared.store_log.StoreLog.{StoreLog}
-use Rattle.mt_store_logs.specs.Places.{mark_in}
+use Rattle.mt_crashes.{specs.{Histories.changes_of, Stores.{Store, LogNow, Reaches, is_between}}, proofs.Members.no_some}
+use Rattle.mt_recover.specs.{declared.resuming.LogSlot.LogSlot, declared.resuming.LogSlot.TheVariants.{Open, Failed, Closed, Away}}
+use Rattle.mt_store_logs.specs.{declared.store_log.StoreLog.StoreLog, Places.mark_in}
 use Rattle.mt_store_logs.specs.Waits.{AppendsKept, FailsToAppend, AppendsNew, FailsToAppendNew, with_kept}
 use Rattle.mt_store_logs.specs.Shows.{Shows, Stands, WaitsIn, drained_upto, IsInDoubt}
 use Rattle.mt_store_logs.proofs.CallerLemmas.{appends, fails_to_append, drained}
-use Rattle.mt_crashes.proofs.Members.{no_some}
-use Rattle.mt_lives.specs.Lives.{Life, IsMemoryOrDevice}
-use Rattle.mt_lives.specs.Holds.{HoldsChanges, HoldsKept, IsLogAt, Serves}
-use Rattle.mt_lives.proofs.Comes.{set_there, with_log, GoesTo, is_in, is_in_doubt}
-use Rattle.mt_lives.proofs.Tapes.{drained_changes}
+use Rattle.mt_lives.specs.{Lives.{Life, IsMemoryOrDevice}, Holds.{HoldsChanges, HoldsKept, IsLogAt, Serves}}
+use Rattle.mt_lives.proofs.{Comes.{set_there, with_log, GoesTo, is_in, is_in_doubt}, Tapes.drained_changes}
+use Rattle.mt_rows.specs.declared.refusal.Refusal.TheVariants as refusals
 
 -- disks in memory keep the rules
 abbrev pub keeps_rules : MemDisk → Bool

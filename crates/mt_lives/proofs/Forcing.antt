@@ -1,42 +1,22 @@
 -- Whose disk failed where a flush or a reopening is refused for the device.
 use Rattle.std.proofs.Common.{◌≡◌, ◌≢◌, ⊎_elim, inl, inr, ℕ, zero, suc, [], ◌∷◌, ◌++◌, Option, Some, None, Result, refl, sym, ap, subst, ◌∙◌}
 use Rattle.std.proofs.lemmas.Result.{IfOk-weaker}
-use Rattle.mt_rows.specs.declared.record.Batch.{Batch}
-use Rattle.mt_rows.specs.declared.refusal.Refusal.{Refusal}
-use Rattle.mt_rows.specs.declared.refusal.Refusal.TheVariants as refusals
-use Rattle.mt_disk.specs.declared.mem.MemDisk.{MemDisk}
-use Rattle.mt_disk.specs.Disk.{GoesUp}
-use Rattle.mt_disk.specs.Mem.{mem_state}
+use Rattle.std.specs.{Prelude.{slice_get, slice_set, IfOk, Vec}, declared.alloc.Global.Global, BTreeMap.BTreeMap}
+use Rattle.mt_rows.specs.{declared.record.Batch.Batch, declared.refusal.Refusal.Refusal, Accounts.Accounts}
+use Rattle.mt_disk.specs.{declared.mem.MemDisk.MemDisk, Disk.GoesUp, Mem.mem_state}
 use Rattle.mt_log.specs.declared.log_file.LogFile.{LogFile}
-use Rattle.mt_recover.specs.declared.resuming.LogSlot.{LogSlot}
-use Rattle.mt_recover.specs.declared.resuming.LogSlot.TheVariants.{Open, Failed, Closed, Away}
-use Rattle.mt_store_logs.specs.declared.store_log.StoreLog.{StoreLog}
-use Rattle.mt_store_logs.specs.Places.{log_with, mark_in, disk_in, FailsToOpen}
-use Rattle.mt_store_logs.specs.Waits.{HasAppended, HasFailed, TakesIn, AppendsKept, FailsToAppend, with_kept, opened_with, FailsAgain, ReopensAt, FailsToReopenAt}
-use Rattle.mt_store_logs.specs.Flushes.{DrainsShort, FailsToDrain, FailsToFlush}
-use Rattle.mt_store_logs.specs.LogTurns.{FailsToBringUp}
-use Rattle.mt_crashes.proofs.Members.{no_some}
-use Rattle.mt_lives.specs.declared.serving.Serving.{Serving}
-use Rattle.mt_lives.specs.Serving.{DrainsServing}
-use Rattle.std.specs.Prelude.{slice_get, slice_set, IfOk, Vec}
-use Rattle.std.specs.declared.alloc.Global.{Global}
-use Rattle.mt_rows.specs.Accounts.{Accounts}
-use Rattle.mt_crashes.specs.Stores.{LogNow}
-use Rattle.mt_store_logs.specs.Shows.{Shows}
-use Rattle.mt_store_logs.specs.Waits.{FailsToReopen}
-use Rattle.mt_lives.specs.declared.events.StoreEvent.{StoreEvent}
-use Rattle.mt_lives.specs.declared.events.StoreEvent.TheVariants.{Core, Flush, Reopen, SettleBegin, SettleNext, Crash}
-use Rattle.mt_lives.specs.declared.events.StoreNote.{StoreNote}
-use Rattle.mt_lives.specs.declared.events.StoreNote.TheVariants.{Turned, Settled, Refused, NoSuch}
-use Rattle.mt_lives.specs.Lives.{Standing, Notes}
-use Rattle.mt_lives.specs.Holds.{Holds}
-use Rattle.std.specs.BTreeMap.{BTreeMap}
-use Rattle.mt_lives.specs.declared.serving.Settle.{Settle}
-use Rattle.mt_lives.specs.Steps.{Turns, IsNoCrash}
+use Rattle.mt_recover.specs.{declared.resuming.LogSlot.LogSlot, declared.resuming.LogSlot.TheVariants.{Open, Failed, Closed, Away}}
+use Rattle.mt_store_logs.specs.{declared.store_log.StoreLog.StoreLog, Places.{log_with, mark_in, disk_in, FailsToOpen}}
+use Rattle.mt_store_logs.specs.Waits.{HasAppended, HasFailed, TakesIn, AppendsKept, FailsToAppend, with_kept, opened_with, FailsAgain, ReopensAt, FailsToReopenAt, FailsToReopen}
+use Rattle.mt_store_logs.specs.{Flushes.{DrainsShort, FailsToDrain, FailsToFlush}, LogTurns.FailsToBringUp, Shows.Shows}
+use Rattle.mt_crashes.{proofs.Members.no_some, specs.Stores.LogNow}
+use Rattle.mt_lives.specs.{declared.serving.Serving.Serving, Serving.DrainsServing, declared.events.StoreEvent.StoreEvent}
+use Rattle.mt_lives.specs.{declared.events.StoreEvent.TheVariants.{Core, Flush, Reopen, SettleBegin, SettleNext, Crash}, declared.events.StoreNote.StoreNote}
+use Rattle.mt_lives.specs.{declared.events.StoreNote.TheVariants.{Turned, Settled, Refused, NoSuch}, Lives.{Standing, Notes}, Holds.Holds}
+use Rattle.mt_lives.specs.{declared.serving.Settle.Settle, Steps.{Turns, IsNoCrash}}
 use Rattle.mt_lives.specs.Forced.{Logs, FailsAt, failures_in, DiskFails, IsCrashForced, IsForced, AreForced}
-use Rattle.mt_lives.proofs.Comes.{set_there}
-use Rattle.mt_lives.proofs.Noting.{found, at}
-use Rattle.mt_lives.proofs.Flushing.{keeps_rules, failures_of}
+use Rattle.mt_lives.proofs.{Comes.set_there, Noting.{found, at}, Flushing.{keeps_rules, failures_of}}
+use Rattle.mt_rows.specs.declared.refusal.Refusal.TheVariants as refusals
 
 abbrev failures : LogSlot MemDisk → ℕ
 failures slot = failures_in (disk_in slot)

@@ -1,15 +1,10 @@
 -- The pairs after each step, by going forward over a tape: they are those at its floor, with its writes made.
 use Rattle.std.proofs.Common.{◌≡◌, ℕ, ◌<◌, ◌≤◌, not, cond, List, [], ◌∷◌, map, get_or, refl, sym, ap, ◌∙◌, arith, ⊎_elim}
-use Rattle.std.specs.List.{All}
-use Rattle.std.specs.FinMap.{get}
-use Rattle.std.proofs.lemmas.Bool.{cases_lt, lt-ltb, le-ltb}
-use Rattle.std.proofs.lemmas.List.Elements.{All-head, All-tail}
+use Rattle.std.proofs.{lemmas.Bool.{cases_lt, lt-ltb, le-ltb}, lemmas.List.Elements.{All-head, All-tail}}
+use Rattle.std.specs.{List.All, FinMap.get}
 use Rattle.mt_rows.specs.Tenants.{Contents}
-use Rattle.mt_tape.specs.declared.entry.Entry.{Entry}
-use Rattle.mt_tape.specs.Tapes.{RisesOver}
-use Rattle.mt_tape.specs.Histories.{written_key, undone, contents_at, IsLegalTape}
-use Rattle.mt_tape.proofs.EntryLaws.{rises_all, later_entries-dropped, later_entries-all}
-use Rattle.mt_tape.proofs.RowLaws.{with_row-put_back}
+use Rattle.mt_tape.specs.{declared.entry.Entry.Entry, Tapes.RisesOver, Histories.{written_key, undone, contents_at, IsLegalTape}}
+use Rattle.mt_tape.proofs.{EntryLaws.{rises_all, later_entries-dropped, later_entries-all}, RowLaws.with_row-put_back}
 use Rattle.mt_crashes.specs.Fronts.{with_change, after_changes}
 use Rattle.mt_drains.specs.Drains.{record_of}
 use Rattle.mt_lives.specs.Earlier.{earlier_entries}

@@ -1,30 +1,16 @@
 -- Where a store stands behind a flush, a reopening and a turn of a Settle.
 use Rattle.std.proofs.Common.{◌≡◌, ◌⊎◌, ℕ, ◌+◌, ◌≤◌, List, length, Some, None, Result, Ok, Err, refl, sym, ap, subst, ◌∙◌, inl, inr, ⊎_elim, arith}
-use Rattle.std.specs.Prelude.{slice_get, slice_set}
-use Rattle.std.specs.Ordering.{nat_cmp}
-use Rattle.std.specs.BTreeMap.{get, Updates}
-use Rattle.mt_rows.specs.Accounts.{Accounts}
-use Rattle.mt_disk.specs.declared.mem.MemDisk.{MemDisk}
-use Rattle.mt_disk.specs.Mem.{mem_state}
+use Rattle.std.specs.{Prelude.{slice_get, slice_set}, Ordering.nat_cmp, BTreeMap.{get, Updates}}
+use Rattle.mt_rows.specs.{Accounts.Accounts, declared.refusal.Refusal.Refusal}
+use Rattle.mt_disk.specs.{declared.mem.MemDisk.MemDisk, Mem.mem_state}
 use Rattle.mt_crashes.specs.Stores.{ReachesAt}
-use Rattle.mt_rows.specs.declared.refusal.Refusal.{Refusal}
-use Rattle.mt_store_logs.specs.declared.store_log.StoreLog.{StoreLog}
-use Rattle.mt_store_logs.specs.Waits.{Reopens, FailsToReopen}
-use Rattle.mt_store_logs.specs.Flushes.{Flushes, FailsToFlush}
+use Rattle.mt_store_logs.specs.{declared.store_log.StoreLog.StoreLog, Waits.{Reopens, FailsToReopen}, Flushes.{Flushes, FailsToFlush}}
 use Rattle.mt_store_logs.specs.LogTurns.{BringsUp, FailsToBringUp}
-use Rattle.mt_lives.specs.declared.events.StoreEvent.{StoreEvent}
-use Rattle.mt_lives.specs.declared.events.StoreEvent.TheVariants.{Flush, Reopen, SettleNext}
-use Rattle.mt_lives.specs.declared.events.StoreNote.{StoreNote}
-use Rattle.mt_lives.specs.declared.events.StoreNote.TheVariants.{Flushed, Reopened, Turned, Settled, Refused}
-use Rattle.mt_lives.specs.declared.serving.Serving.{Serving}
-use Rattle.mt_lives.specs.declared.serving.Settle.{Settle}
-use Rattle.mt_lives.specs.Serving.{DrainsServing}
-use Rattle.mt_lives.specs.Lives.{Life, Past, Standing, IsServing, IsNoted, settling, steps_in}
-use Rattle.mt_lives.specs.Holds.{quotas_of, Holds}
-use Rattle.mt_lives.specs.Steps.{Turns}
-use Rattle.mt_lives.proofs.Flushing.{keeps_rules, failures_of}
-use Rattle.mt_lives.proofs.Noting.{life_served, lives_so}
-use Rattle.mt_lives.proofs.Noted.{reopen_noted, reopen_fails}
+use Rattle.mt_lives.specs.{declared.events.StoreEvent.StoreEvent, declared.events.StoreEvent.TheVariants.{Flush, Reopen, SettleNext}}
+use Rattle.mt_lives.specs.{declared.events.StoreNote.StoreNote, declared.events.StoreNote.TheVariants.{Flushed, Reopened, Turned, Settled, Refused}}
+use Rattle.mt_lives.specs.{declared.serving.Serving.Serving, declared.serving.Settle.Settle, Serving.DrainsServing}
+use Rattle.mt_lives.specs.{Lives.{Life, Past, Standing, IsServing, IsNoted, settling, steps_in}, Holds.{quotas_of, Holds}, Steps.Turns}
+use Rattle.mt_lives.proofs.{Flushing.{keeps_rules, failures_of}, Noting.{life_served, lives_so}, Noted.{reopen_noted, reopen_fails}}
 use Rattle.mt_lives.proofs.Draining as drains
 use Rattle.mt_lives.proofs.Settling as settling_of
 

@@ -1,19 +1,11 @@
 -- What an event of an operation makes of a store: nothing, a step more, or a step that placed a change.
 use Rattle.std.proofs.Common.{◌≡◌, ℕ, ◌+◌, ◌<◌, ◌≤◌, true, not, cond, List, [], ◌∷◌, ◌++◌, length, refl, sym, ap, subst, ◌∙◌, arith, inl, inr, ⊎_elim}
+use Rattle.std.proofs.{lemmas.Bool.{cases_lt, lt-ltb}, lemmas.List.append-nil, lemmas.List.Elements.filter-append}
 use Rattle.std.specs.Prelude.{nat_lt}
+use Rattle.mt_rows.specs.{Accounts.Accounts, Tenants.Contents, TenantPairs.{quota_in, HasTenants, KeepsQuotas}, declared.record.Batch.Batch}
+use Rattle.mt_crashes.specs.{Histories.{Placed, upto, changes_of, pairs_upto}, Stores.{Store, StepsOn, Places}}
+use Rattle.mt_lives.{specs.Holds.{LeadsTo, HoldsChanges, KeepsAll}, proofs.{Comes.{stays_here, one_more}, Tapes.holds_more}}
 use Rattle.std.specs.FinMap as pairs
-use Rattle.std.proofs.lemmas.Bool.{cases_lt, lt-ltb}
-use Rattle.std.proofs.lemmas.List.{append-nil}
-use Rattle.std.proofs.lemmas.List.Elements.{filter-append}
-use Rattle.mt_rows.specs.Accounts.{Accounts}
-use Rattle.mt_rows.specs.Tenants.{Contents}
-use Rattle.mt_rows.specs.TenantPairs.{quota_in, HasTenants, KeepsQuotas}
-use Rattle.mt_rows.specs.declared.record.Batch.{Batch}
-use Rattle.mt_crashes.specs.Histories.{Placed, upto, changes_of, pairs_upto}
-use Rattle.mt_crashes.specs.Stores.{Store, StepsOn, Places}
-use Rattle.mt_lives.specs.Holds.{LeadsTo, HoldsChanges, KeepsAll}
-use Rattle.mt_lives.proofs.Comes.{stays_here, one_more}
-use Rattle.mt_lives.proofs.Tapes.{holds_more}
 
 -- a store that has grown: its logs are as they were, and a batch holds the changes that it held
 pub record Grows (old new : Store) : Type 0 where

@@ -1,20 +1,13 @@
 -- An event that is no crash, of a store that serves or does not.
 use Rattle.std.proofs.Common.{◌≡◌, ℕ, List, length, Option, Some, None, Result, Ok, Err, inl, refl, sym, ap, subst, ◌∙◌}
-use Rattle.std.specs.Prelude.{IfOk, OnOk, Vec}
-use Rattle.std.specs.declared.alloc.Global.{Global}
+use Rattle.std.specs.{Prelude.{IfOk, OnOk, Vec}, declared.alloc.Global.Global}
 use Rattle.mt_rows.specs.Accounts.{Accounts}
 use Rattle.mt_disk.specs.declared.mem.MemDisk.{MemDisk}
 use Rattle.mt_runs.specs.Placings.{Quotas}
-use Rattle.mt_store_logs.specs.declared.store_log.StoreLog.{StoreLog}
-use Rattle.mt_store_logs.specs.Places.{workers_of}
-use Rattle.mt_lives.specs.declared.events.StoreEvent.{StoreEvent}
-use Rattle.mt_lives.specs.declared.events.StoreEvent.TheVariants.{Core, SettleBegin, SettleNext, Crash}
-use Rattle.mt_lives.specs.declared.events.StoreNote.{StoreNote}
-use Rattle.mt_lives.specs.declared.events.StoreNote.TheVariants.{NoSuch}
-use Rattle.mt_lives.specs.declared.serving.Serving.{Serving}
-use Rattle.mt_lives.specs.Lives.{Life, Past, Standing, IsServing, IsNoted}
-use Rattle.mt_lives.specs.Holds.{HoldsNow, Holds}
-use Rattle.mt_lives.specs.Steps.{IsNoCrash, GoesOn}
+use Rattle.mt_store_logs.specs.{declared.store_log.StoreLog.StoreLog, Places.workers_of}
+use Rattle.mt_lives.specs.{declared.events.StoreEvent.StoreEvent, declared.events.StoreEvent.TheVariants.{Core, SettleBegin, SettleNext, Crash}}
+use Rattle.mt_lives.specs.{declared.events.StoreNote.StoreNote, declared.events.StoreNote.TheVariants.NoSuch, declared.serving.Serving.Serving}
+use Rattle.mt_lives.specs.{Lives.{Life, Past, Standing, IsServing, IsNoted}, Holds.{HoldsNow, Holds}, Steps.{IsNoCrash, GoesOn}}
 
 pub no_crash : (event : StoreEvent) → ((images : Vec (Vec ℕ Global) Global) → event ≡ Crash images → ⊥) → IsNoCrash event
 no_crash (Crash images) never = absurd (never images refl)

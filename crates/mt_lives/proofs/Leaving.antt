@@ -1,17 +1,10 @@
 -- A store that serves no life, and goes on.
 use Rattle.std.proofs.Common.{◌≡◌, ℕ, ◌<◌, ◌≤◌, min, List, [], ◌∷◌, length, None, sym, subst, ◌∙◌}
-use Rattle.mt_rows.specs.Accounts.{Accounts}
-use Rattle.mt_rows.specs.TenantPairs.{quota_in, HasTenants, KeepsQuotas}
-use Rattle.mt_disk.specs.declared.mem.MemDisk.{MemDisk}
-use Rattle.mt_disk.specs.Mem.{mem_state}
-use Rattle.mt_crashes.specs.Histories.{Placed, pairs_upto}
-use Rattle.mt_crashes.specs.Stores.{Store, LogNow, SlotNow, only_this, AllReach}
-use Rattle.mt_store_logs.specs.declared.store_log.StoreLog.{StoreLog}
-use Rattle.mt_store_logs.specs.Shows.{Shows}
-use Rattle.mt_lives.specs.Lives.{Past, AreLeftOf}
-use Rattle.mt_lives.specs.Holds.{quotas_of, HasCome, LeadsTo, EachLog, IsDown, KeepsAll}
-use Rattle.mt_lives.proofs.Comes.{comes_on}
-use Rattle.mt_lives.proofs.Logged.{all_on}
+use Rattle.mt_rows.specs.{Accounts.Accounts, TenantPairs.{quota_in, HasTenants, KeepsQuotas}}
+use Rattle.mt_disk.specs.{declared.mem.MemDisk.MemDisk, Mem.mem_state}
+use Rattle.mt_crashes.specs.{Histories.{Placed, pairs_upto}, Stores.{Store, LogNow, SlotNow, only_this, AllReach}}
+use Rattle.mt_store_logs.specs.{declared.store_log.StoreLog.StoreLog, Shows.Shows}
+use Rattle.mt_lives.{specs.{Lives.{Past, AreLeftOf}, Holds.{quotas_of, HasCome, LeadsTo, EachLog, IsDown, KeepsAll}}, proofs.{Comes.comes_on, Logged.all_on}}
 
 -- each log shows what the store tells of it
 abbrev pub ShowsIn : ℕ → LogNow → StoreLog MemDisk → Type 0

@@ -1,16 +1,11 @@
 -- Where a store stands behind many events.
-use Rattle.std.proofs.Common.{◌≡◌, zero, suc, ℕ, ◌+◌, ◌<◌, List, [], ◌∷◌, ◌++◌, take, length, get_or, Option, refl, sym, ap, subst, arith}
-use Rattle.std.specs.List.{zip}
+use Rattle.std.{proofs.Common.{◌≡◌, zero, suc, ℕ, ◌+◌, ◌<◌, List, [], ◌∷◌, ◌++◌, take, length, get_or, Option, refl, sym, ap, subst, arith}, specs.List.zip}
 use Rattle.mt_rows.specs.Accounts.{Accounts}
 use Rattle.mt_disk.specs.declared.mem.MemDisk.{MemDisk}
 use Rattle.mt_runs.specs.Placings.{Quotas}
 use Rattle.mt_store_logs.specs.declared.store_log.StoreLog.{StoreLog}
-use Rattle.mt_lives.specs.declared.events.StoreEvent.{StoreEvent}
-use Rattle.mt_lives.specs.declared.events.StoreNote.{StoreNote}
-use Rattle.mt_lives.specs.declared.serving.Serving.{Serving}
-use Rattle.mt_lives.specs.Lives.{Standing, IsNoted, Notes, NotesLead}
-use Rattle.mt_lives.specs.Holds.{quotas_of, Holds}
-use Rattle.mt_lives.specs.Steps.{GoesOn, NotesGoOn}
+use Rattle.mt_lives.specs.{declared.events.StoreEvent.StoreEvent, declared.events.StoreNote.StoreNote, declared.serving.Serving.Serving}
+use Rattle.mt_lives.specs.{Lives.{Standing, IsNoted, Notes, NotesLead}, Holds.{quotas_of, Holds}, Steps.{GoesOn, NotesGoOn}}
 
 -- ---- lists
 

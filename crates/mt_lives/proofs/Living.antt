@@ -1,53 +1,28 @@
 -- A store that was recovered serves its next life, with a state that was restored from what was found.
 use Rattle.std.proofs.Common.{◌≡◌, ℕ, zero, suc, ◌<◌, ◌≤◌, true, false, not, List, [], ◌++◌, map, length, replicate, get_or, Option, Some, None, refl, sym, ap, subst, ◌∙◌, arith, inl, inr}
-use mathlib.Core.Path.{fun_ext}
-use Rattle.std.specs.Prelude.{slice_get, nat_lt}
-use Rattle.std.specs.List.{All}
-use Rattle.std.specs.Option.{option_map}
-use Rattle.std.specs.Ordering.{nat_cmp, is_eq}
-use Rattle.std.specs.Map.{lookup}
-use Rattle.std.specs.BTreeMap.{BTreeMap, get}
-use Rattle.std.specs.FinMap.{empty, len}
-use Rattle.std.proofs.lemmas.Bool.{not-true, ltb-false}
-use Rattle.std.proofs.lemmas.List.{append-nil, length-replicate}
-use Rattle.std.proofs.lemmas.List.Elements.{filter_passes}
+use Rattle.std.proofs.{lemmas.Bool.{not-true, ltb-false}, lemmas.List.{append-nil, length-replicate}, lemmas.List.Elements.filter_passes}
 use Rattle.std.proofs.lemmas.Option.{slice_get-get_or}
-use Rattle.mt_rows.specs.Accounts.{Accounts, account_of}
-use Rattle.mt_rows.specs.Tenants.{Contents as Pairs, tenant_map}
-use Rattle.mt_rows.specs.TenantPairs.{quota_in, pairs_of}
-use Rattle.mt_rows.specs.declared.record.TenantPair.{TenantPair}
-use Rattle.mt_rows.specs.declared.tenants.Account.{Account}
+use Rattle.std.specs.{Prelude.{slice_get, nat_lt}, List.All, Option.option_map, Ordering.{nat_cmp, is_eq}, Map.lookup, BTreeMap.{BTreeMap, get}}
+use Rattle.std.specs.FinMap.{empty, len}
+use Rattle.mt_rows.specs.{Accounts.{Accounts, account_of}, Tenants.{Contents as Pairs, tenant_map}, TenantPairs.{quota_in, pairs_of}}
+use Rattle.mt_rows.specs.{declared.record.TenantPair.TenantPair, declared.tenants.Account.Account}
 use Rattle.mt_disk.specs.declared.mem.MemDisk.{MemDisk}
 use Rattle.mt_log.specs.Contents.{Contents, mark_of}
 use Rattle.mt_tape.specs.Tapes.{Kept}
 use Rattle.mt_runs.specs.Runs.{story_of}
-use Rattle.mt_state.specs.Views.{StateView, contents_of, op_at, granted, granted_in, quota_of}
-use Rattle.mt_state.specs.Views as views
-use Rattle.mt_state.specs.Histories.{Names, no_names, History}
+use Rattle.mt_state.specs.{Views.{StateView, contents_of, op_at, granted, granted_in, quota_of}, Histories.{Names, no_names, History}}
 use Rattle.mt_state.proofs.HistoryStart.{history_start}
-use Rattle.mt_core.specs.Restores.{counting, IsRestored}
-use Rattle.mt_core.specs.Rights.{IsRightState}
-use Rattle.mt_core.specs.Tickets.{named}
-use Rattle.mt_core.proofs.EventRuns.{leads_first, by_id_first}
-use Rattle.mt_crashes.specs.Fronts.{after_changes, HoldResume}
-use Rattle.mt_crashes.specs.Histories.{Placed, upto, changes_of}
-use Rattle.mt_crashes.specs.Stores.{Store, LogNow, at_rest, AllReach}
+use Rattle.mt_core.{specs.{Restores.{counting, IsRestored}, Rights.IsRightState, Tickets.named}, proofs.EventRuns.{leads_first, by_id_first}}
+use Rattle.mt_crashes.specs.{Fronts.{after_changes, HoldResume}, Histories.{Placed, upto, changes_of}, Stores.{Store, LogNow, at_rest, AllReach}}
+use Rattle.mt_crashes.proofs.{Invariant.{map_place, left_at_rest}, Members.no_some}
+use Rattle.mt_store_logs.specs.{declared.store_log.StoreLog.StoreLog, Shows.{WaitsIn, drained_upto}}
+use Rattle.mt_lives.specs.{declared.serving.Serving.Serving, declared.serving.Settle.Settle, Lives.{Life, life_from, firsts, story_in}}
+use Rattle.mt_lives.specs.{Holds.{quotas_of, LeadsTo, placed_of, HoldsKept, IsLogAt, EachLog, IsSettleIn, HoldsServing}, Returns.IsFresh}
+use Rattle.mt_lives.proofs.{Comes.{stays_here, one_more}, Flushing.within, Walking.resting_logs, Leaving.AllShow, Opening.honest}
+use mathlib.Core.Path.{fun_ext}
+use Rattle.mt_state.specs.Views as views
 use Rattle.mt_crashes.specs.Stores as stores
-use Rattle.mt_crashes.proofs.Invariant.{map_place, left_at_rest}
-use Rattle.mt_crashes.proofs.Members.{no_some}
-use Rattle.mt_store_logs.specs.declared.store_log.StoreLog.{StoreLog}
-use Rattle.mt_store_logs.specs.Shows.{WaitsIn, drained_upto}
-use Rattle.mt_lives.specs.declared.serving.Serving.{Serving}
-use Rattle.mt_lives.specs.declared.serving.Settle.{Settle}
-use Rattle.mt_lives.specs.Lives.{Life, life_from, firsts, story_in}
-use Rattle.mt_lives.specs.Holds.{quotas_of, LeadsTo, placed_of, HoldsKept, IsLogAt, EachLog, IsSettleIn, HoldsServing}
 use Rattle.mt_lives.specs.Holds as holds
-use Rattle.mt_lives.specs.Returns.{IsFresh}
-use Rattle.mt_lives.proofs.Comes.{stays_here, one_more}
-use Rattle.mt_lives.proofs.Flushing.{within}
-use Rattle.mt_lives.proofs.Walking.{resting_logs}
-use Rattle.mt_lives.proofs.Leaving.{AllShow}
-use Rattle.mt_lives.proofs.Opening.{honest}
 
 -- ---- the store serves
 

@@ -1,22 +1,14 @@
 -- A log of a store that serves comes to be another one: what the store tells of the others, and of its life, stays.
 use Rattle.std.proofs.Common.{◌≡◌, ◌≢◌, ◌⊎◌, ℕ, zero, suc, ◌<◌, ◌≤◌, List, [], ◌∷◌, ◌++◌, map, length, Option, Some, None, refl, sym, ap, subst, ◌∙◌, arith, inl, inr}
-use Rattle.std.specs.Prelude.{slice_get, slice_set}
-use Rattle.std.specs.Ordering.{nat_cmp}
-use Rattle.std.specs.BTreeMap.{BTreeMap, get}
-use Rattle.std.proofs.lemmas.Bool.{cases_eq}
-use Rattle.std.proofs.lemmas.List.{length-set}
-use Rattle.std.proofs.lemmas.Option.{same_Some}
-use Rattle.mt_rows.specs.Accounts.{Accounts}
-use Rattle.mt_rows.specs.declared.record.Batch.{Batch}
+use Rattle.std.proofs.{lemmas.Bool.cases_eq, lemmas.List.length-set, lemmas.Option.same_Some}
+use Rattle.std.specs.{Prelude.{slice_get, slice_set}, Ordering.nat_cmp, BTreeMap.{BTreeMap, get}}
+use Rattle.mt_rows.specs.{Accounts.Accounts, declared.record.Batch.Batch}
 use Rattle.mt_disk.specs.declared.mem.MemDisk.{MemDisk}
-use Rattle.mt_state.specs.Views.{StateView, op_at, granted}
-use Rattle.mt_state.specs.Histories.{Names, History}
-use Rattle.mt_core.specs.Drains.{Drains}
-use Rattle.mt_core.specs.Rights.{IsRightState}
+use Rattle.mt_state.specs.{Views.{StateView, op_at, granted}, Histories.{Names, History}}
+use Rattle.mt_core.specs.{Drains.Drains, Rights.IsRightState}
 use Rattle.mt_crashes.specs.Stores.{Store, LogNow, AllReach}
 use Rattle.mt_store_logs.specs.declared.store_log.StoreLog.{StoreLog}
-use Rattle.mt_lives.specs.declared.serving.Settle.{Settle}
-use Rattle.mt_lives.specs.Lives.{Life, firsts, story_in}
+use Rattle.mt_lives.specs.{declared.serving.Settle.Settle, Lives.{Life, firsts, story_in}}
 use Rattle.mt_lives.specs.Holds.{quotas_of, HasCome, LeadsTo, placed_of, HoldsKept, IsLogAt, EachLog, IsSettleIn, AreSettles, Serves}
 use Rattle.mt_lives.proofs.Comes.{set_there, with_log, reached_on}
 

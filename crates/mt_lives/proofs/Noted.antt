@@ -1,35 +1,24 @@
 -- What an append, a drain and a reopening make of all that holds of a store.
 use Rattle.std.proofs.Common.{◌≡◌, ◌≢◌, ◌⊎◌, ℕ, ◌+◌, ◌≤◌, List, Option, Some, None, refl, sym, ap, subst, ◌∙◌, inl, inr, ⊎_elim, arith}
-use Rattle.std.specs.Prelude.{slice_get, slice_set}
 use Rattle.std.proofs.lemmas.Option.{same_Some}
-use Rattle.mt_rows.specs.Accounts.{Accounts}
-use Rattle.mt_rows.specs.declared.record.Batch.{Batch}
-use Rattle.mt_rows.specs.declared.refusal.Refusal.{Refusal}
-use Rattle.mt_rows.specs.declared.refusal.Refusal.TheVariants as refusals
-use Rattle.mt_disk.specs.declared.mem.MemDisk.{MemDisk}
-use Rattle.mt_disk.specs.Mem.{mem_state}
+use Rattle.std.specs.Prelude.{slice_get, slice_set}
+use Rattle.mt_rows.specs.{Accounts.Accounts, declared.record.Batch.Batch, declared.refusal.Refusal.Refusal}
+use Rattle.mt_disk.specs.{declared.mem.MemDisk.MemDisk, Mem.mem_state}
 use Rattle.mt_log.specs.Contents.{mark_of}
-use Rattle.mt_state.specs.Views.{StateView}
-use Rattle.mt_state.specs.Histories.{Names}
+use Rattle.mt_state.specs.{Views.StateView, Histories.Names}
 use Rattle.mt_core.specs.Tickets.{named}
-use Rattle.mt_crashes.specs.Stores.{Store, LogNow, Reaches, ReachesAt}
-use Rattle.mt_crashes.proofs.Members.{no_some}
-use Rattle.mt_recover.specs.declared.resuming.LogSlot.{LogSlot}
-use Rattle.mt_recover.specs.declared.resuming.LogSlot.TheVariants.{Open, Failed, Closed, Away}
-use Rattle.mt_store_logs.specs.declared.store_log.StoreLog.{StoreLog}
-use Rattle.mt_store_logs.specs.Places.{FailsToOpen}
-use Rattle.mt_store_logs.specs.Waits.{AppendsKept, FailsToAppend, ReopensAt, Reopens, FailsToReopenAt, FailsToReopen}
-use Rattle.mt_store_logs.specs.Flushes.{DrainsIn, KeepsDrained}
+use Rattle.mt_crashes.{specs.Stores.{Store, LogNow, Reaches, ReachesAt}, proofs.Members.no_some}
+use Rattle.mt_recover.specs.{declared.resuming.LogSlot.LogSlot, declared.resuming.LogSlot.TheVariants.{Open, Failed, Closed, Away}}
+use Rattle.mt_store_logs.specs.{declared.store_log.StoreLog.StoreLog, Places.FailsToOpen}
+use Rattle.mt_store_logs.specs.{Waits.{AppendsKept, FailsToAppend, ReopensAt, Reopens, FailsToReopenAt, FailsToReopen}, Flushes.{DrainsIn, KeepsDrained}}
 use Rattle.mt_store_logs.specs.Shows.{WaitsIn, drained_upto, ComesToRest}
 use Rattle.mt_store_logs.proofs.CallerLemmas.{reopens, fails_to_reopen}
-use Rattle.mt_lives.specs.declared.serving.Serving.{Serving}
-use Rattle.mt_lives.specs.Serving.{DrainsServing}
-use Rattle.mt_lives.specs.Lives.{Life, Standing, IsMemoryOrDevice}
+use Rattle.mt_lives.specs.{declared.serving.Serving.Serving, Serving.DrainsServing, Lives.{Life, Standing, IsMemoryOrDevice}}
 use Rattle.mt_lives.specs.Holds.{IsLogAt, HoldsKept, Serves, Holds}
-use Rattle.mt_lives.proofs.Comes.{with_log, set_there, GoesTo, and_then, rests, is_in, is_in_doubt}
-use Rattle.mt_lives.proofs.Logged.{set_other, serves_drained}
+use Rattle.mt_lives.proofs.{Comes.{with_log, set_there, GoesTo, and_then, rests, is_in, is_in_doubt}, Logged.{set_other, serves_drained}}
 use Rattle.mt_lives.proofs.Flushing.{keeps_rules, failures_of, of_log, doubt_drained, Moves, kept_moves, waits_moves, full_or_all, flushed, keeps_moves}
 use Rattle.mt_lives.proofs.Noting.{life_served, held, HoldsAgain, found, at, moved}
+use Rattle.mt_rows.specs.declared.refusal.Refusal.TheVariants as refusals
 
 -- ---- refusals of a reopening
 

@@ -5,14 +5,11 @@ use Rattle.mt_rows.specs.Accounts.{Accounts}
 use Rattle.mt_disk.specs.declared.mem.MemDisk.{MemDisk}
 use Rattle.mt_state.specs.Histories.{AreById}
 use Rattle.mt_core.specs.Tickets.{named}
-use Rattle.mt_crashes.specs.Stores.{Store, LogNow}
-use Rattle.mt_crashes.proofs.Invariant.{within_place}
+use Rattle.mt_crashes.{specs.Stores.{Store, LogNow}, proofs.Invariant.within_place}
 use Rattle.mt_store_logs.specs.declared.store_log.StoreLog.{StoreLog}
-use Rattle.mt_lives.specs.declared.serving.Serving.{Serving}
-use Rattle.mt_lives.specs.Lives.{Life, Past, Standing}
+use Rattle.mt_lives.specs.{declared.serving.Serving.Serving, Lives.{Life, Past, Standing}}
 use Rattle.mt_lives.specs.Holds.{IsLogAt, Serves, AreSettles, HoldsServing, HoldsNow, HasCome, Holds}
-use Rattle.mt_lives.proofs.Comes.{with_log, set_there, comes_on}
-use Rattle.mt_lives.proofs.Logged.{set_length, all_on, settles_on, serves_logged, each_logged}
+use Rattle.mt_lives.proofs.{Comes.{with_log, set_there, comes_on}, Logged.{set_length, all_on, settles_on, serves_logged, each_logged}}
 use Rattle.mt_lives.proofs.Flushing.{within, Moves}
 
 -- who serves, serves a life

@@ -1,29 +1,19 @@
 -- The logs of a store that serves no life are opened: each comes to rest, or stays as it was where it is not opened.
 use Rattle.std.proofs.Common.{◌≡◌, ◌≢◌, ℕ, ◌<◌, List, map, length, Option, Some, None, refl, sym, ap, subst, ◌∙◌, arith, inl, inr, ⊎_elim}
+use Rattle.std.proofs.{lemmas.Bool.cases_lt, lemmas.Option.same_Some}
 use Rattle.std.specs.Prelude.{slice_get, slice_set}
-use Rattle.std.proofs.lemmas.Bool.{cases_lt}
-use Rattle.std.proofs.lemmas.Option.{same_Some}
 use Rattle.mt_rows.specs.declared.refusal.Refusal.{Refusal}
-use Rattle.mt_rows.specs.declared.refusal.Refusal.TheVariants as refusals
-use Rattle.mt_disk.specs.declared.mem.MemDisk.{MemDisk}
-use Rattle.mt_disk.specs.Mem.{mem_state}
-use Rattle.mt_log.specs.declared.batch.Front.{Front}
-use Rattle.mt_log.specs.Contents.{Contents, contents_of}
-use Rattle.mt_crashes.specs.Stores.{Store, LogNow, at_rest, MayLeaveFront}
-use Rattle.mt_crashes.proofs.Invariant.{within_place, map_place}
-use Rattle.mt_recover.specs.declared.resuming.LogSlot.{LogSlot}
-use Rattle.mt_recover.specs.declared.resuming.LogSlot.TheVariants.{Open, Failed, Closed, Away}
-use Rattle.mt_store_logs.specs.declared.store_log.StoreLog.{StoreLog}
-use Rattle.mt_store_logs.specs.Lists.{StopsAt}
-use Rattle.mt_store_logs.specs.Places.{disk_in, FailsToOpen, OpensLog, FailsToOpenLog, OpensAll, StopsOpeningAt}
-use Rattle.mt_store_logs.specs.Shows.{Shows, IsHonest}
+use Rattle.mt_disk.specs.{declared.mem.MemDisk.MemDisk, Mem.mem_state}
+use Rattle.mt_log.specs.{declared.batch.Front.Front, Contents.{Contents, contents_of}}
+use Rattle.mt_crashes.{specs.Stores.{Store, LogNow, at_rest, MayLeaveFront}, proofs.Invariant.{within_place, map_place}}
+use Rattle.mt_recover.specs.{declared.resuming.LogSlot.LogSlot, declared.resuming.LogSlot.TheVariants.{Open, Failed, Closed, Away}}
+use Rattle.mt_store_logs.specs.{declared.store_log.StoreLog.StoreLog, Lists.StopsAt}
+use Rattle.mt_store_logs.specs.{Places.{disk_in, FailsToOpen, OpensLog, FailsToOpenLog, OpensAll, StopsOpeningAt}, Shows.{Shows, IsHonest}}
 use Rattle.mt_store_logs.proofs.CallerLemmas.{opens, fails_to_open}
-use Rattle.mt_lives.specs.Lives.{IsMemoryOrDevice}
-use Rattle.mt_lives.specs.Holds.{LeadsTo}
-use Rattle.mt_lives.proofs.Comes.{stays_here, to_rest}
-use Rattle.mt_lives.proofs.Flushing.{keeps_rules, failures_of, within}
-use Rattle.mt_lives.proofs.Walking.{same_list, map_length, with_logs, Walked, walk}
+use Rattle.mt_lives.specs.{Lives.IsMemoryOrDevice, Holds.LeadsTo}
+use Rattle.mt_lives.proofs.{Comes.{stays_here, to_rest}, Flushing.{keeps_rules, failures_of, within}, Walking.{same_list, map_length, with_logs, Walked, walk}}
 use Rattle.mt_lives.proofs.Leaving.{ShowsIn, AllShow}
+use Rattle.mt_rows.specs.declared.refusal.Refusal.TheVariants as refusals
 
 -- a disk in memory keeps the rules, where there is one
 pub honest : (now : LogNow) (slot : LogSlot MemDisk) → Shows mem_state now slot → IsHonest keeps_rules slot

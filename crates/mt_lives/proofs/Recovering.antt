@@ -1,29 +1,17 @@
 -- A store whose logs rest is recovered: up to the cutoff it is as it was, and nothing else is left of the life that ended.
 use Rattle.std.proofs.Common.{◌≡◌, ℕ, ◌≤◌, min, false, not, ◌&&◌, List, ◌∷◌, map, Option, refl, sym, ap, subst, ◌∙◌, arith, inl, inr, ⊎_elim}
-use Rattle.std.specs.Prelude.{nat_lt}
-use Rattle.std.specs.FinMap.{empty}
 use Rattle.std.proofs.lemmas.Bool.{cases_lt, lt-ltb, le-ltb}
-use Rattle.mt_rows.specs.Accounts.{Accounts}
-use Rattle.mt_rows.specs.Tenants.{Contents as Pairs}
-use Rattle.mt_rows.specs.TenantPairs.{quota_in, HasTenants, KeepsQuotas}
-use Rattle.mt_rows.specs.declared.refusal.Refusal.{Refusal}
-use Rattle.mt_rows.specs.declared.refusal.Refusal.TheVariants as refusals
+use Rattle.std.specs.{Prelude.nat_lt, FinMap.empty}
+use Rattle.mt_rows.specs.{Accounts.Accounts, Tenants.{Contents as Pairs}, TenantPairs.{quota_in, HasTenants, KeepsQuotas}, declared.refusal.Refusal.Refusal}
 use Rattle.mt_log.specs.Contents.{Contents}
-use Rattle.mt_crashes.specs.Fronts.{cutoff_of, after_changes}
-use Rattle.mt_crashes.specs.Histories.{Placed, upto, changes_of, pairs_upto, after_recovery}
-use Rattle.mt_crashes.specs.Recoveries.{resume_of, IsRecovered}
-use Rattle.mt_crashes.specs.Stores.{Store, at_rest, MayLeaveFronts, MayLeaveSlots, Recovers, AllReach}
-use Rattle.mt_crashes.proofs.Members.{filter_filter, filter_same}
-use Rattle.mt_crashes.proofs.Heart.{recovered, settled}
-use Rattle.mt_recover.specs.Refusals.{IsRefusal}
-use Rattle.mt_recover.proofs.OwnFiles.{for_memory}
+use Rattle.mt_crashes.specs.{Fronts.{cutoff_of, after_changes}, Histories.{Placed, upto, changes_of, pairs_upto, after_recovery}}
+use Rattle.mt_crashes.specs.{Recoveries.{resume_of, IsRecovered}, Stores.{Store, at_rest, MayLeaveFronts, MayLeaveSlots, Recovers, AllReach}}
+use Rattle.mt_crashes.proofs.{Members.{filter_filter, filter_same}, Heart.{recovered, settled}}
+use Rattle.mt_recover.{specs.Refusals.IsRefusal, proofs.OwnFiles.for_memory}
 use Rattle.mt_store_logs.specs.Recovers.{no_checkpoints}
-use Rattle.mt_lives.specs.Lives.{Past, AreLeftOf, KeepsUpto}
-use Rattle.mt_lives.specs.Holds.{quotas_of, LeadsTo}
-use Rattle.mt_lives.proofs.Comes.{stays_here, one_more, comes_on}
-use Rattle.mt_lives.proofs.Logged.{all_on}
-use Rattle.mt_lives.proofs.Walking.{rest_leaves}
-use Rattle.mt_lives.proofs.Leaving.{IsLeft}
+use Rattle.mt_lives.specs.{Lives.{Past, AreLeftOf, KeepsUpto}, Holds.{quotas_of, LeadsTo}}
+use Rattle.mt_lives.proofs.{Comes.{stays_here, one_more, comes_on}, Logged.all_on, Walking.rest_leaves, Leaving.IsLeft}
+use Rattle.mt_rows.specs.declared.refusal.Refusal.TheVariants as refusals
 
 -- ---- two cutoffs
 

@@ -1,34 +1,20 @@
 -- Behind a recovery each log gets its resume batch, or, where that fails, keeps it in doubt or does without.
 use Rattle.std.proofs.Common.{◌≡◌, ℕ, ◌<◌, ◌≤◌, ◌^◌, false, List, ◌∷◌, map, length, Option, Some, None, refl, sym, ap, subst, ◌∙◌, arith, inl, inr, ⊎_elim}
+use Rattle.std.proofs.{lemmas.Bool.cases_lt, lemmas.Option.same_Some}
 use Rattle.std.specs.Prelude.{slice_get, slice_set}
-use Rattle.std.proofs.lemmas.Bool.{cases_lt}
-use Rattle.std.proofs.lemmas.Option.{same_Some}
 use Rattle.mt_rows.specs.declared.refusal.Refusal.{Refusal}
-use Rattle.mt_rows.specs.declared.refusal.Refusal.TheVariants as refusals
-use Rattle.mt_disk.specs.declared.mem.MemDisk.{MemDisk}
-use Rattle.mt_disk.specs.Mem.{mem_state}
-use Rattle.mt_log.specs.declared.batch.LogBatch.{LogBatch}
-use Rattle.mt_log.specs.declared.batch.LogBatch.TheVariants.{Resume}
-use Rattle.mt_log.specs.Contents.{Contents, Rises, mark_of, with_batch}
-use Rattle.mt_crashes.specs.Fronts.{Numbers, HoldResume}
-use Rattle.mt_crashes.specs.Stores.{Store, LogNow, at_rest, Resumes}
-use Rattle.mt_crashes.proofs.FrontLaws.{mark_more, resume_right}
-use Rattle.mt_crashes.proofs.Invariant.{within_place, map_place}
-use Rattle.mt_recover.specs.declared.resuming.LogSlot.{LogSlot}
-use Rattle.mt_recover.specs.Resumes.{FailsToResume}
-use Rattle.mt_store_logs.specs.declared.store_log.StoreLog.{StoreLog}
-use Rattle.mt_store_logs.specs.Lists.{StopsAt}
-use Rattle.mt_store_logs.specs.Recovers.{ResumesLog, FailsToResumeLog, ResumesAll, StopsResumingAt}
+use Rattle.mt_disk.specs.{declared.mem.MemDisk.MemDisk, Mem.mem_state}
+use Rattle.mt_log.specs.{declared.batch.LogBatch.LogBatch, declared.batch.LogBatch.TheVariants.Resume, Contents.{Contents, Rises, mark_of, with_batch}}
+use Rattle.mt_crashes.specs.{Fronts.{Numbers, HoldResume}, Stores.{Store, LogNow, at_rest, Resumes}}
+use Rattle.mt_crashes.proofs.{FrontLaws.{mark_more, resume_right}, Invariant.{within_place, map_place}}
+use Rattle.mt_recover.specs.{declared.resuming.LogSlot.LogSlot, Resumes.FailsToResume}
+use Rattle.mt_store_logs.specs.{declared.store_log.StoreLog.StoreLog, Lists.StopsAt, Recovers.{ResumesLog, FailsToResumeLog, ResumesAll, StopsResumingAt}}
 use Rattle.mt_store_logs.specs.Shows.{Shows}
 use Rattle.mt_store_logs.proofs.CallerLemmas.{resumes, fails_to_resume}
-use Rattle.mt_lives.specs.Lives.{IsMemoryOrDevice}
-use Rattle.mt_lives.specs.Holds.{LeadsTo}
-use Rattle.mt_lives.proofs.Comes.{set_there, set_same, stays_here, one_more, then_to, and_then, to_rest}
-use Rattle.mt_lives.proofs.Logged.{set_other, set_length}
-use Rattle.mt_lives.proofs.Flushing.{keeps_rules, failures_of, within}
-use Rattle.mt_lives.proofs.Walking.{with_logs, Walked, walk}
-use Rattle.mt_lives.proofs.Leaving.{ShowsIn, AllShow}
-use Rattle.mt_lives.proofs.Opening.{honest}
+use Rattle.mt_lives.specs.{Lives.IsMemoryOrDevice, Holds.LeadsTo}
+use Rattle.mt_lives.proofs.{Comes.{set_there, set_same, stays_here, one_more, then_to, and_then, to_rest}, Logged.{set_other, set_length}}
+use Rattle.mt_lives.proofs.{Flushing.{keeps_rules, failures_of, within}, Walking.{with_logs, Walked, walk}, Leaving.{ShowsIn, AllShow}, Opening.honest}
+use Rattle.mt_rows.specs.declared.refusal.Refusal.TheVariants as refusals
 
 -- the batch with which a recovery ends at a log, and that log with it, for certain or not
 abbrev pub resume_batch : ℕ → ℕ → Contents → LogBatch

@@ -1,54 +1,29 @@
 -- What a recovery makes of a store that a crash left, in each of its outcomes.
 use Rattle.std.proofs.Common.{◌≡◌, ℕ, ◌<◌, ◌≤◌, ◌^◌, min, Result, List, map, length, Option, Some, None, Ok, Err, refl, sym, ap, subst, ◌∙◌, arith, inl, inr, ⊎_elim}
-use Rattle.std.specs.Prelude.{slice_get, Vec, IfOk}
-use Rattle.std.specs.declared.alloc.Global.{Global}
-use Rattle.std.specs.List.{All}
 use Rattle.std.proofs.lemmas.List.Elements.{All-weaker}
-use Rattle.mt_rows.specs.Accounts.{Accounts}
-use Rattle.mt_rows.specs.TenantPairs.{pairs_of, quota_in}
-use Rattle.mt_rows.specs.declared.refusal.Refusal.{Refusal}
-use Rattle.mt_disk.specs.declared.mem.MemDisk.{MemDisk}
-use Rattle.mt_disk.specs.Mem.{mem_state}
-use Rattle.mt_log.specs.declared.batch.Front.{Front}
-use Rattle.mt_log.specs.Contents.{Contents, contents_of}
-use Rattle.mt_core.specs.Restores.{IsRestored}
-use Rattle.mt_core.specs.Rights.{IsRightState}
+use Rattle.std.specs.{Prelude.{slice_get, Vec, IfOk}, declared.alloc.Global.Global, List.All}
+use Rattle.mt_rows.specs.{Accounts.Accounts, TenantPairs.{pairs_of, quota_in}, declared.refusal.Refusal.Refusal}
+use Rattle.mt_disk.specs.{declared.mem.MemDisk.MemDisk, Mem.mem_state}
+use Rattle.mt_log.specs.{declared.batch.Front.Front, Contents.{Contents, contents_of}}
+use Rattle.mt_core.specs.{Restores.IsRestored, Rights.IsRightState}
 use Rattle.mt_state.specs.Views.{StateView}
-use Rattle.mt_crashes.specs.Fronts.{cutoff_of}
-use Rattle.mt_crashes.specs.Histories.{Placed, pairs_upto}
-use Rattle.mt_crashes.specs.Recoveries.{resume_of, IsRecovered}
-use Rattle.mt_crashes.specs.Stores.{Store}
-use Rattle.mt_crashes.proofs.FrontLaws.{cutoff_upto_last}
-use Rattle.mt_crashes.proofs.Invariant.{within_place}
-use Rattle.mt_recover.specs.Refusals.{IsRefusal}
-use Rattle.mt_recover.specs.declared.recovering.Recovered.{Recovered as Found}
-use Rattle.mt_store_logs.specs.declared.fault.LogRefusal.{LogRefusal}
-use Rattle.mt_store_logs.specs.declared.store_log.StoreLog.{StoreLog}
-use Rattle.mt_store_logs.specs.Crashes.{AreCrashed}
+use Rattle.mt_crashes.specs.{Fronts.cutoff_of, Histories.{Placed, pairs_upto}, Recoveries.{resume_of, IsRecovered}, Stores.Store}
+use Rattle.mt_crashes.proofs.{FrontLaws.cutoff_upto_last, Invariant.within_place}
+use Rattle.mt_recover.specs.{Refusals.IsRefusal, declared.recovering.Recovered.{Recovered as Found}}
+use Rattle.mt_store_logs.specs.{declared.fault.LogRefusal.LogRefusal, declared.store_log.StoreLog.StoreLog, Crashes.AreCrashed}
 use Rattle.mt_store_logs.specs.Places.{OpensAll, StopsOpening, StopsOpeningAt}
 use Rattle.mt_store_logs.specs.Recovers.{no_checkpoints, ResumesAll, StopsResumingAt, ServesAgain, IsNotRecovered}
 use Rattle.mt_store_logs.proofs.ForResumes.{last_within, resumes_last}
-use Rattle.mt_lives.specs.declared.events.StoreEvent.{StoreEvent}
-use Rattle.mt_lives.specs.declared.events.StoreEvent.TheVariants.{Crash}
-use Rattle.mt_lives.specs.declared.events.StoreNote.{StoreNote}
-use Rattle.mt_lives.specs.declared.events.StoreNote.TheVariants.{Recovered, Refused, NoSuch}
-use Rattle.mt_lives.specs.declared.serving.Serving.{Serving}
+use Rattle.mt_lives.specs.{declared.events.StoreEvent.StoreEvent, declared.events.StoreEvent.TheVariants.Crash, declared.events.StoreNote.StoreNote}
+use Rattle.mt_lives.specs.{declared.events.StoreNote.TheVariants.{Recovered, Refused, NoSuch}, declared.serving.Serving.Serving}
 use Rattle.mt_lives.specs.Lives.{Life, Past, Standing, past_of, life_from, MayKeep, AreLeftOf, IsMemoryOrDevice, crashed_to}
-use Rattle.mt_lives.specs.Holds.{quotas_of, HasCome, HoldsServing, Holds}
-use Rattle.mt_lives.proofs.Comes.{comes_on}
-use Rattle.mt_lives.proofs.Logged.{all_on}
-use Rattle.mt_lives.specs.Returns.{IsFresh, Begins, AreRecovered, AreNotRecovered}
-use Rattle.mt_lives.specs.Steps.{GoesOn, CrashesTo}
-use Rattle.mt_lives.proofs.Flushing.{keeps_rules, failures_of, within}
-use Rattle.mt_lives.proofs.Walking.{with_logs}
-use Rattle.mt_lives.proofs.Leaving.{AllShow, IsLeft, left_on}
-use Rattle.mt_lives.proofs.Crashing.{holds_left, Leaves, leaves}
-use Rattle.mt_lives.proofs.Opening.{all_opened, in_part}
-use Rattle.mt_lives.proofs.Opening as opening
+use Rattle.mt_lives.specs.{Holds.{quotas_of, HasCome, HoldsServing, Holds}, Returns.{IsFresh, Begins, AreRecovered, AreNotRecovered}, Steps.{GoesOn, CrashesTo}}
+use Rattle.mt_lives.proofs.{Comes.comes_on, Logged.all_on, Flushing.{keeps_rules, failures_of, within}, Walking.with_logs, Leaving.{AllShow, IsLeft, left_on}}
+use Rattle.mt_lives.proofs.{Crashing.{holds_left, Leaves, leaves}, Opening.{all_opened, in_part}}
 use Rattle.mt_lives.proofs.Recovering.{recovered_from, kept_upto, refused, found_so, found_left, settled_kept, keeps_upto, left_recovered}
-use Rattle.mt_lives.proofs.Resuming.{all_resumed, resumed_in_part}
+use Rattle.mt_lives.proofs.{Resuming.{all_resumed, resumed_in_part}, Living.{RestAt, served, serves_now, made_upto, begins_restored, begins_serving}}
+use Rattle.mt_lives.proofs.Opening as opening
 use Rattle.mt_lives.proofs.Resuming as resuming
-use Rattle.mt_lives.proofs.Living.{RestAt, served, serves_now, made_upto, begins_restored, begins_serving}
 
 -- ---- lengths
 

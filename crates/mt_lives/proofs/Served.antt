@@ -1,21 +1,11 @@
 -- What follows for a store that serves a life: its pairs after each step, and what a crash then ends.
-use Rattle.std.proofs.Common.{◌≡◌, ℕ, ◌≤◌, min, Ok, sym, ap, subst, ◌∙◌, arith, ⊎_elim}
-use Rattle.std.proofs.lemmas.Bool.{cases_lt}
-use Rattle.mt_rows.specs.Accounts.{Accounts}
-use Rattle.mt_rows.specs.Tenants.{Contents, tenant_map}
-use Rattle.mt_rows.proofs.ContentLaws.{same_contents, get-tenant_map}
-use Rattle.std.specs.FinMap.{get}
-use Rattle.mt_tape.specs.Tapes.{RisesOver}
-use Rattle.mt_tape.specs.Histories.{contents_at}
-use Rattle.mt_tape.proofs.TapeLaws.{contents_at-now}
+use Rattle.std.{proofs.{Common.{◌≡◌, ℕ, ◌≤◌, min, Ok, sym, ap, subst, ◌∙◌, arith, ⊎_elim}, lemmas.Bool.cases_lt}, specs.FinMap.get}
+use Rattle.mt_rows.{specs.{Accounts.Accounts, Tenants.{Contents, tenant_map}}, proofs.ContentLaws.{same_contents, get-tenant_map}}
+use Rattle.mt_tape.{specs.{Tapes.RisesOver, Histories.contents_at}, proofs.TapeLaws.contents_at-now}
 use Rattle.mt_runs.proofs.Order.{order_with_maps}
-use Rattle.mt_state.specs.Views.{StateView, contents_of, map_of, changed_at}
-use Rattle.mt_state.specs.Histories.{Names}
-use Rattle.mt_crashes.specs.Histories.{pairs_upto}
-use Rattle.mt_crashes.specs.Stores.{Store}
-use Rattle.mt_lives.specs.Lives.{Life, firsts, story_in, steps_in, past_of}
-use Rattle.mt_lives.specs.Holds.{quotas_of, Serves, IsDown}
-use Rattle.mt_lives.proofs.Tapes.{tape_pairs}
+use Rattle.mt_state.specs.{Views.{StateView, contents_of, map_of, changed_at}, Histories.Names}
+use Rattle.mt_crashes.specs.{Histories.pairs_upto, Stores.Store}
+use Rattle.mt_lives.{specs.{Lives.{Life, firsts, story_in, steps_in, past_of}, Holds.{quotas_of, Serves, IsDown}}, proofs.Tapes.tape_pairs}
 
 -- pairs of which each tenant has the same are the same
 pub same_maps : (a b : Contents) → ((t : ℕ) → tenant_map t a ≡ tenant_map t b) → a ≡ b

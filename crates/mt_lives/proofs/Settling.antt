@@ -1,25 +1,18 @@
 -- What the beginning, a turn and the end of a Settle make of all that holds of a store, and what is noted of them.
 use Rattle.std.proofs.Common.{◌≡◌, ◌≢◌, ◌⊎◌, ℕ, ◌+◌, ◌<◌, ◌≤◌, min, max, true, false, cond, List, length, Option, Some, None, is_some, Less, Equal, Greater, Ordering, refl, sym, ap, subst, ◌∙◌, arith, inl, inr, ⊎_elim}
-use Rattle.std.specs.Ordering.{nat_cmp, is_eq}
-use Rattle.std.specs.FinMap.{nat_cmp-IsAntisymmetric}
-use Rattle.std.specs.BTreeMap.{BTreeMap, get, Updates}
 use Rattle.std.proofs.lemmas.Bool.{cases_eq, eq-eqb, ne_eqb}
+use Rattle.std.specs.{Ordering.{nat_cmp, is_eq}, FinMap.nat_cmp-IsAntisymmetric, BTreeMap.{BTreeMap, get, Updates}}
 use Rattle.mt_rows.specs.Accounts.{Accounts}
 use Rattle.mt_disk.specs.declared.mem.MemDisk.{MemDisk}
 use Rattle.mt_core.specs.Tickets.{named}
 use Rattle.mt_state.specs.Histories.{AreById}
 use Rattle.mt_crashes.specs.Stores.{Store, ReachesAt, AllReach}
 use Rattle.mt_store_logs.specs.declared.store_log.StoreLog.{StoreLog}
-use Rattle.mt_lives.specs.declared.events.StoreEvent.TheVariants.{SettleBegin, SettleNext}
-use Rattle.mt_lives.specs.declared.events.StoreNote.TheVariants.{Begun, Turned, Settled}
-use Rattle.mt_lives.specs.declared.serving.Serving.{Serving}
-use Rattle.mt_lives.specs.declared.serving.Settle.{Settle}
+use Rattle.mt_lives.specs.{declared.events.StoreEvent.TheVariants.{SettleBegin, SettleNext}, declared.events.StoreNote.TheVariants.{Begun, Turned, Settled}}
+use Rattle.mt_lives.specs.{declared.serving.Serving.Serving, declared.serving.Settle.Settle}
 use Rattle.mt_lives.specs.Lives.{Life, Past, Standing, with_settle, settling, settled_by, steps_in, IsNoted}
-use Rattle.mt_lives.specs.Holds.{quotas_of, Serves, IsSettle, IsSettleIn, AreSettles, HoldsServing, HoldsNow, Holds}
-use Rattle.mt_lives.specs.Steps.{one_turn_more}
-use Rattle.mt_lives.proofs.Served.{last}
-use Rattle.mt_lives.proofs.Flushing.{within}
-use Rattle.mt_lives.proofs.Noting.{life_served, lives_so, held}
+use Rattle.mt_lives.specs.{Holds.{quotas_of, Serves, IsSettle, IsSettleIn, AreSettles, HoldsServing, HoldsNow, Holds}, Steps.one_turn_more}
+use Rattle.mt_lives.proofs.{Served.last, Flushing.within, Noting.{life_served, lives_so, held}}
 
 -- ---- the map of the Settles
 

@@ -1,24 +1,13 @@
 -- A store's history as what earlier lives left and the writes of a tape: the pairs after each step, and what a drain gives.
 use Rattle.std.proofs.Common.{◌≡◌, ℕ, ◌<◌, ◌≤◌, Bool, true, false, not, ◌&&◌, cond, List, [], ◌∷◌, ◌++◌, map, get_or, refl, sym, ap, ◌∙◌, arith}
-use Rattle.std.specs.Prelude.{nat_lt, ◌==◌}
-use Rattle.std.specs.List.{All, filter}
-use Rattle.std.specs.FinMap as pairs
-use Rattle.std.proofs.lemmas.Bool.{lt-ltb, le-ltb, true≢false}
-use Rattle.std.proofs.lemmas.List.{map-append, append-nil}
-use Rattle.std.proofs.lemmas.List.Elements.{All-head, All-tail, filter-append}
-use Rattle.mt_rows.specs.Tenants.{Contents}
-use Rattle.mt_rows.specs.declared.record.Batch.{Batch}
-use Rattle.mt_tape.specs.declared.entry.Entry.{Entry}
-use Rattle.mt_tape.specs.Tapes.{RisesOver}
-use Rattle.mt_tape.specs.Histories.{contents_at, IsLegalTape}
-use Rattle.mt_crashes.specs.Fronts.{after_changes}
-use Rattle.mt_crashes.specs.Histories.{Placed, upto, changes_of, pairs_upto}
-use Rattle.mt_crashes.specs.Stores.{is_between}
-use Rattle.mt_crashes.proofs.Bases.{after_append}
+use Rattle.std.proofs.{lemmas.Bool.{lt-ltb, le-ltb, true≢false}, lemmas.List.{map-append, append-nil}, lemmas.List.Elements.{All-head, All-tail, filter-append}}
+use Rattle.std.specs.{Prelude.{nat_lt, ◌==◌}, List.{All, filter}}
+use Rattle.mt_rows.specs.{Tenants.Contents, declared.record.Batch.Batch}
+use Rattle.mt_tape.specs.{declared.entry.Entry.Entry, Tapes.RisesOver, Histories.{contents_at, IsLegalTape}}
+use Rattle.mt_crashes.{specs.{Fronts.after_changes, Histories.{Placed, upto, changes_of, pairs_upto}, Stores.is_between}, proofs.Bases.after_append}
 use Rattle.mt_drains.specs.Drains.{record_of, records_between}
-use Rattle.mt_lives.specs.Holds.{placed_of}
-use Rattle.mt_lives.specs.Earlier.{earlier_entries}
-use Rattle.mt_lives.proofs.Forward.{forward}
+use Rattle.mt_lives.{specs.{Holds.placed_of, Earlier.earlier_entries}, proofs.Forward.forward}
+use Rattle.std.specs.FinMap as pairs
 
 -- ---- filters
 

@@ -1,23 +1,16 @@
 -- A change is of a tenant that has a quota, so every pair is.
 use Rattle.std.proofs.Common.{◌≡◌, ◌≢◌, ℕ, ◌≤◌, false, cond, Option, Some, None, refl, sym, ap, subst, ◌∙◌, arith, inl, inr}
+use Rattle.std.proofs.{lemmas.Bool.{cases_eq, le-ltb, ne_eqb, both_ways}, lemmas.Option.same_Some}
 use Rattle.std.specs.FinMap.{get, len}
-use Rattle.std.proofs.lemmas.Bool.{cases_eq, le-ltb, ne_eqb, both_ways}
-use Rattle.std.proofs.lemmas.Option.{same_Some}
-use Rattle.mt_rows.specs.Rows.{Bytes, Columns}
-use Rattle.mt_rows.specs.declared.command.Command.{Command}
-use Rattle.mt_rows.specs.declared.command.Command.TheVariants.{Get, Put, Remove, Scan}
-use Rattle.mt_rows.specs.declared.reply.Reply.TheVariants.{New, Full}
-use Rattle.mt_rows.specs.declared.tenants.Account.{Account}
-use Rattle.mt_rows.specs.Maps.{Map, reply_of, is_change, told_of_row, told_of_put, told_of_remove, map_after}
-use Rattle.mt_rows.specs.Accounts.{Accounts, account_of}
-use Rattle.mt_rows.specs.Tenants.{tenant_map}
-use Rattle.mt_rows.specs.TenantPairs.{quota_in, HasTenants, KeepsQuotas}
+use Rattle.mt_rows.specs.{Rows.{Bytes, Columns}, declared.command.Command.Command, declared.command.Command.TheVariants.{Get, Put, Remove, Scan}}
+use Rattle.mt_rows.specs.{declared.reply.Reply.TheVariants.{New, Full}, declared.tenants.Account.Account}
+use Rattle.mt_rows.specs.{Maps.{Map, reply_of, is_change, told_of_row, told_of_put, told_of_remove, map_after}, Accounts.{Accounts, account_of}}
+use Rattle.mt_rows.specs.{Tenants.tenant_map, TenantPairs.{quota_in, HasTenants, KeepsQuotas}}
 use Rattle.mt_rows.proofs.ContentLaws.{get-tenant_map}
 use Rattle.mt_operation.specs.Operations.{OperationView}
-use Rattle.mt_state.specs.Views.{StateView, contents_of, granted, quota_of}
-use Rattle.mt_state.specs.Views as views
-use Rattle.mt_state.specs.Promises.{IsPlacing}
+use Rattle.mt_state.specs.{Views.{StateView, contents_of, granted, quota_of}, Promises.IsPlacing}
 use Rattle.mt_core.specs.Rights.{IsRightState}
+use Rattle.mt_state.specs.Views as views
 
 -- what is told of a row is no change
 looks_only : (columns : _) (row : Option Columns) → is_change (told_of_row columns row) ≡ false

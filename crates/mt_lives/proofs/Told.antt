@@ -1,28 +1,15 @@
 -- What an event of an operation makes of all that holds of a store, and what is noted of it.
-use Rattle.std.proofs.Common.{◌≡◌, ℕ, ◌<◌, List, length, Option, Some, None, Ok, refl, sym, ap, subst, ◌∙◌}
-use Rattle.std.specs.Prelude.{slice_get}
-use Rattle.mt_rows.specs.Accounts.{Accounts}
-use Rattle.mt_rows.specs.declared.record.Batch.{Batch}
+use Rattle.std.{proofs.Common.{◌≡◌, ℕ, ◌<◌, List, length, Option, Some, None, Ok, refl, sym, ap, subst, ◌∙◌}, specs.Prelude.slice_get}
+use Rattle.mt_rows.specs.{Accounts.Accounts, declared.record.Batch.Batch}
 use Rattle.mt_disk.specs.declared.mem.MemDisk.{MemDisk}
-use Rattle.mt_runs.specs.declared.event.Event.{Event}
-use Rattle.mt_runs.specs.declared.event.Told.{Told as Answered}
-use Rattle.mt_runs.proofs.Order.{one_order}
-use Rattle.mt_state.specs.Views.{map_of, changed_at}
-use Rattle.mt_state.specs.Histories.{AreById, TellsEvent, IsServed}
-use Rattle.mt_core.specs.Rights.{IsRightState}
-use Rattle.mt_core.specs.Tickets.{named}
+use Rattle.mt_runs.{specs.{declared.event.Event.Event, declared.event.Told.{Told as Answered}}, proofs.Order.one_order}
+use Rattle.mt_state.specs.{Views.{map_of, changed_at}, Histories.{AreById, TellsEvent, IsServed}}
+use Rattle.mt_core.specs.{Rights.IsRightState, Tickets.named}
 use Rattle.mt_crashes.specs.Stores.{Store}
 use Rattle.mt_store_logs.specs.declared.store_log.StoreLog.{StoreLog}
-use Rattle.mt_lives.specs.declared.events.StoreEvent.TheVariants.{Core}
-use Rattle.mt_lives.specs.declared.events.StoreNote.TheVariants.{Told}
-use Rattle.mt_lives.specs.declared.serving.Serving.{Serving}
-use Rattle.mt_lives.specs.Lives.{Standing, with_event, firsts, story_in, IsNoted}
-use Rattle.mt_lives.specs.Holds.{quotas_of, HoldsKept, IsLogAt, EachLog, Serves, Holds}
-use Rattle.mt_lives.proofs.Comes.{comes_on}
-use Rattle.mt_lives.proofs.Growing.{Grows}
-use Rattle.mt_lives.proofs.Cores.{grown}
-use Rattle.mt_lives.proofs.Logged.{all_on, settles_on}
-use Rattle.mt_lives.proofs.Noting.{life_served, lives_so, held}
+use Rattle.mt_lives.specs.{declared.events.StoreEvent.TheVariants.Core, declared.events.StoreNote.TheVariants.Told, declared.serving.Serving.Serving}
+use Rattle.mt_lives.specs.{Lives.{Standing, with_event, firsts, story_in, IsNoted}, Holds.{quotas_of, HoldsKept, IsLogAt, EachLog, Serves, Holds}}
+use Rattle.mt_lives.proofs.{Comes.comes_on, Growing.Grows, Cores.grown, Logged.{all_on, settles_on}, Noting.{life_served, lives_so, held}}
 
 -- the logs stand as they did
 kept_grown : (s t : Store) (worker : ℕ) (kept : Option Batch) → Grows s t → HoldsKept s worker kept → HoldsKept t worker kept

@@ -1,14 +1,10 @@
 -- One log after the other comes to stand as something makes it.
 use Rattle.std.proofs.Common.{◌≡◌, ℕ, zero, suc, ◌<◌, ◌≤◌, List, [], ◌∷◌, map, length, Some, refl, sym, ap, subst, ◌∙◌, arith, inl, ⊎_elim}
+use Rattle.std.proofs.{lemmas.Bool.cases_lt, lemmas.Option.same_Some}
 use Rattle.std.specs.Prelude.{slice_get, slice_set}
-use Rattle.std.proofs.lemmas.Bool.{cases_lt}
-use Rattle.std.proofs.lemmas.Option.{same_Some}
 use Rattle.mt_log.specs.Contents.{Contents}
-use Rattle.mt_crashes.specs.Stores.{Store, LogNow, at_rest, MayLeaveFronts}
-use Rattle.mt_crashes.proofs.Invariant.{within_place}
-use Rattle.mt_lives.specs.Holds.{LeadsTo}
-use Rattle.mt_lives.proofs.Comes.{set_there, stays_here, then_to}
-use Rattle.mt_lives.proofs.Logged.{set_other, set_length}
+use Rattle.mt_crashes.{specs.Stores.{Store, LogNow, at_rest, MayLeaveFronts}, proofs.Invariant.within_place}
+use Rattle.mt_lives.{specs.Holds.LeadsTo, proofs.{Comes.{set_there, stays_here, then_to}, Logged.{set_other, set_length}}}
 
 -- ---- lists
 

@@ -1,16 +1,11 @@
 -- Whose operations are open: of workers that the logs have, whatever an event does.
-use Rattle.std.proofs.Common.{◌≡◌, ℕ, ◌<◌, Some, None, sym, ap, subst, ◌∙◌, inl, inr}
+use Rattle.std.proofs.{Common.{◌≡◌, ℕ, ◌<◌, Some, None, sym, ap, subst, ◌∙◌, inl, inr}, lemmas.Bool.cases_eq, lemmas.Option.same_Some}
 use Rattle.std.specs.Prelude.{slice_set}
-use Rattle.std.proofs.lemmas.Bool.{cases_eq}
-use Rattle.std.proofs.lemmas.Option.{same_Some}
 use Rattle.mt_rows.specs.declared.command.Command.{Command}
-use Rattle.mt_operation.specs.Operations.{OperationView}
-use Rattle.mt_operation.proofs.Tables.{set_here, set_there, set_none}
-use Rattle.mt_state.specs.Views.{StateView, Shown, op_at}
-use Rattle.mt_state.specs.Begins as begins
-use Rattle.mt_state.specs.Begins.{Begins, Takes}
-use Rattle.mt_state.specs.Promises.{IsStep}
+use Rattle.mt_operation.{specs.Operations.OperationView, proofs.Tables.{set_here, set_there, set_none}}
+use Rattle.mt_state.specs.{Views.{StateView, Shown, op_at}, Begins.{Begins, Takes}, Promises.IsStep}
 use Rattle.mt_crashes.proofs.Members.{no_some}
+use Rattle.mt_state.specs.Begins as begins
 
 -- each open operation's worker is below a count
 abbrev pub AreBelow : ℕ → Shown → Type 0

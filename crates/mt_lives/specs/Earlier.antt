@@ -1,6 +1,5 @@
 -- The writes of a tape up to a step.
-use Rattle.std.specs.Prelude.{ℕ, not, List, nat_lt}
-use Rattle.std.specs.List.{filter}
+use Rattle.std.specs.{Prelude.{ℕ, not, List, nat_lt}, List.filter}
 use Rattle.mt_tape.specs.declared.entry.Entry.{Entry}
 
 -- the oldest first

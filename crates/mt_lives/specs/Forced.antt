@@ -1,22 +1,11 @@
 -- What an event makes of the logs of a store, by what is noted of it: why nothing happened, what a crash left, whose disk failed.
-use Rattle.std.specs.Prelude.{◌≡◌, ◌⊎◌, ℕ, ◌≤◌, true, List, [], ◌∷◌, length, Option, Some, None, Vec, slice_get}
-use Rattle.std.specs.declared.alloc.Global.{Global}
-use Rattle.mt_rows.specs.Accounts.{Accounts}
-use Rattle.mt_rows.specs.declared.refusal.Refusal.TheVariants.{Device}
-use Rattle.mt_disk.specs.declared.mem.MemDisk.{MemDisk}
-use Rattle.mt_disk.specs.Disk.{GoesUp}
-use Rattle.mt_disk.specs.Mem.{mem_state}
-use Rattle.mt_store_logs.specs.declared.store_log.StoreLog.{StoreLog}
-use Rattle.mt_store_logs.specs.Places.{mark_in, disk_in, MakesAll, closed_on}
-use Rattle.mt_store_logs.specs.Crashes.{MayLeaveLogs, AreCrashed}
-use Rattle.mt_lives.specs.declared.events.StoreEvent.{StoreEvent}
-use Rattle.mt_lives.specs.declared.events.StoreEvent.TheVariants.{Core, Flush, Reopen, SettleBegin, SettleNext, Crash}
-use Rattle.mt_lives.specs.declared.events.StoreNote.{StoreNote}
-use Rattle.mt_lives.specs.declared.events.StoreNote.TheVariants.{Recovered, Refused, NoSuch}
-use Rattle.mt_lives.specs.declared.running.Store.{Store}
-use Rattle.mt_lives.specs.declared.serving.Serving.{Serving}
-use Rattle.mt_lives.specs.Returns.{AreRecovered, AreNotRecovered}
-use Rattle.mt_lives.specs.Lives.{Notes}
+use Rattle.std.specs.{Prelude.{◌≡◌, ◌⊎◌, ℕ, ◌≤◌, true, List, [], ◌∷◌, length, Option, Some, None, Vec, slice_get}, declared.alloc.Global.Global}
+use Rattle.mt_rows.specs.{Accounts.Accounts, declared.refusal.Refusal.TheVariants.Device}
+use Rattle.mt_disk.specs.{declared.mem.MemDisk.MemDisk, Disk.GoesUp, Mem.mem_state}
+use Rattle.mt_store_logs.specs.{declared.store_log.StoreLog.StoreLog, Places.{mark_in, disk_in, MakesAll, closed_on}, Crashes.{MayLeaveLogs, AreCrashed}}
+use Rattle.mt_lives.specs.{declared.events.StoreEvent.StoreEvent, declared.events.StoreEvent.TheVariants.{Core, Flush, Reopen, SettleBegin, SettleNext, Crash}}
+use Rattle.mt_lives.specs.{declared.events.StoreNote.StoreNote, declared.events.StoreNote.TheVariants.{Recovered, Refused, NoSuch}}
+use Rattle.mt_lives.specs.{declared.running.Store.Store, declared.serving.Serving.Serving, Returns.{AreRecovered, AreNotRecovered}, Lives.Notes}
 
 -- logs in memory
 abbrev pub Logs : Type 0

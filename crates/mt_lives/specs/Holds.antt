@@ -1,31 +1,20 @@
 -- What ties a store as it runs to what has happened to it.
 use Rattle.std.specs.Prelude.{◌≡◌, ℕ, ◌<◌, ◌≤◌, min, true, List, [], ◌∷◌, ◌++◌, map, length, Option, Some, None, Result, Ok, Err, slice_get}
-use Rattle.std.specs.List.{All, filter}
-use Rattle.std.specs.Ordering.{nat_cmp}
-use Rattle.std.specs.BTreeMap.{BTreeMap, get}
-use Rattle.std.specs.FinMap as pairs
-use Rattle.mt_rows.specs.Accounts.{Accounts, account_of}
-use Rattle.mt_rows.specs.TenantPairs.{quota_in, HasTenants, KeepsQuotas}
-use Rattle.mt_rows.specs.declared.record.Batch.{Batch}
-use Rattle.mt_disk.specs.declared.mem.MemDisk.{MemDisk}
-use Rattle.mt_disk.specs.Mem.{mem_state}
+use Rattle.std.specs.{List.{All, filter}, Ordering.nat_cmp, BTreeMap.{BTreeMap, get}}
+use Rattle.mt_rows.specs.{Accounts.{Accounts, account_of}, TenantPairs.{quota_in, HasTenants, KeepsQuotas}, declared.record.Batch.Batch}
+use Rattle.mt_disk.specs.{declared.mem.MemDisk.MemDisk, Mem.mem_state}
 use Rattle.mt_tape.specs.declared.entry.Entry.{Entry}
 use Rattle.mt_runs.specs.Placings.{Quotas}
 use Rattle.mt_operation.specs.Operations.{OperationView}
-use Rattle.mt_state.specs.Views.{StateView, op_at, granted}
-use Rattle.mt_state.specs.Views as views
-use Rattle.mt_state.specs.Histories.{Names, History, AreById}
+use Rattle.mt_state.specs.{Views.{StateView, op_at, granted}, Histories.{Names, History, AreById}}
 use Rattle.mt_drains.specs.Drains.{record_of}
-use Rattle.mt_core.specs.Rights.{IsRightState}
-use Rattle.mt_core.specs.Tickets.{named}
-use Rattle.mt_crashes.specs.Fronts.{after_changes}
-use Rattle.mt_crashes.specs.Histories.{Placed, changes_of, pairs_upto}
+use Rattle.mt_core.specs.{Rights.IsRightState, Tickets.named}
+use Rattle.mt_crashes.specs.{Fronts.after_changes, Histories.{Placed, changes_of, pairs_upto}}
 use Rattle.mt_crashes.specs.Stores.{Store, LogNow, only_this, new_store, Leads, is_between, ReachesAt, AllReach}
-use Rattle.mt_store_logs.specs.declared.store_log.StoreLog.{StoreLog}
-use Rattle.mt_store_logs.specs.Shows.{Shows, Stands, drained_upto}
-use Rattle.mt_lives.specs.declared.serving.Serving.{Serving}
-use Rattle.mt_lives.specs.declared.serving.Settle.{Settle}
-use Rattle.mt_lives.specs.Lives.{Life, Past, Standing, firsts, story_in, AreLeftOf}
+use Rattle.mt_store_logs.specs.{declared.store_log.StoreLog.StoreLog, Shows.{Shows, Stands, drained_upto}}
+use Rattle.mt_lives.specs.{declared.serving.Serving.Serving, declared.serving.Settle.Settle, Lives.{Life, Past, Standing, firsts, story_in, AreLeftOf}}
+use Rattle.std.specs.FinMap as pairs
+use Rattle.mt_state.specs.Views as views
 
 -- the quotas of a list of tenants
 abbrev pub quotas_of : Accounts → Quotas

@@ -1,18 +1,13 @@
 -- The lives of a store, and what a list of events with its notes may be.
 use Rattle.std.specs.Prelude.{◌≡◌, ◌≢◌, ◌⊎◌, ℕ, ◌+◌, ◌≤◌, ◌==◌, if◌then◌else◌, min, max, List, [], ◌∷◌, ◌++◌, Option, Some, None, Result, Ok, Err}
-use Rattle.std.specs.FinMap as pairs
-use Rattle.mt_rows.specs.Tenants.{Contents as Pairs, tenant_map}
-use Rattle.mt_rows.specs.TenantPairs.{pairs_of}
-use Rattle.mt_rows.specs.declared.refusal.Refusal.{Refusal}
+use Rattle.mt_rows.specs.{Tenants.{Contents as Pairs, tenant_map}, TenantPairs.pairs_of, declared.refusal.Refusal.Refusal}
 use Rattle.mt_rows.specs.declared.refusal.Refusal.TheVariants.{Memory, Device}
-use Rattle.mt_runs.specs.declared.event.Event.{Event}
-use Rattle.mt_runs.specs.declared.event.Told.{Told as Answered}
-use Rattle.mt_runs.specs.Runs.{Run, Story, story_of, last_step}
+use Rattle.mt_runs.specs.{declared.event.Event.Event, declared.event.Told.{Told as Answered}, Runs.{Run, Story, story_of, last_step}}
 use Rattle.mt_runs.specs.Placings.{Quotas, Maps, Placing, Fits, IsLegal, AreScansLawful, HasOneOrder, map_upto}
-use Rattle.mt_lives.specs.declared.events.StoreEvent.{StoreEvent}
-use Rattle.mt_lives.specs.declared.events.StoreEvent.TheVariants.{Core, Flush, Reopen, SettleBegin, SettleNext, Crash}
+use Rattle.mt_lives.specs.{declared.events.StoreEvent.StoreEvent, declared.events.StoreEvent.TheVariants.{Core, Flush, Reopen, SettleBegin, SettleNext, Crash}}
 use Rattle.mt_lives.specs.declared.events.StoreNote.{StoreNote}
 use Rattle.mt_lives.specs.declared.events.StoreNote.TheVariants.{Told, Flushed, Reopened, Begun, Turned, Settled, Recovered, Refused, NoSuch}
+use Rattle.std.specs.FinMap as pairs
 
 -- A life of a store, from one recovery to the next: the pairs that it began with, how many steps were made before, and what happened to its operations.
 pub record Life : Type 0 where

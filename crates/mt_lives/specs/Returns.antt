@@ -1,16 +1,10 @@
 -- What a recovery makes of a store's logs, and with what its next life begins.
 use Rattle.std.specs.Prelude.{◌≡◌, ◌⊎◌, ℕ, true, List, []}
-use Rattle.mt_rows.specs.Accounts.{Accounts}
-use Rattle.mt_rows.specs.declared.refusal.Refusal.{Refusal}
-use Rattle.mt_rows.specs.declared.refusal.Refusal.TheVariants.{Memory}
-use Rattle.mt_disk.specs.declared.mem.MemDisk.{MemDisk}
-use Rattle.mt_disk.specs.Mem.{mem_state}
-use Rattle.mt_core.specs.Restores.{IsRestored}
-use Rattle.mt_core.specs.Rights.{IsRightState}
+use Rattle.mt_rows.specs.{Accounts.Accounts, declared.refusal.Refusal.Refusal, declared.refusal.Refusal.TheVariants.Memory}
+use Rattle.mt_disk.specs.{declared.mem.MemDisk.MemDisk, Mem.mem_state}
+use Rattle.mt_core.specs.{Restores.IsRestored, Rights.IsRightState}
 use Rattle.mt_recover.specs.declared.recovering.Recovered.{Recovered}
-use Rattle.mt_store_logs.specs.declared.fault.LogRefusal.{LogRefusal}
-use Rattle.mt_store_logs.specs.declared.store_log.StoreLog.{StoreLog}
-use Rattle.mt_store_logs.specs.Recovers.{ServesAgain, IsNotRecovered}
+use Rattle.mt_store_logs.specs.{declared.fault.LogRefusal.LogRefusal, declared.store_log.StoreLog.StoreLog, Recovers.{ServesAgain, IsNotRecovered}}
 use Rattle.mt_lives.specs.declared.serving.Serving.{Serving}
 
 -- no event has been named, and no Settle has begun

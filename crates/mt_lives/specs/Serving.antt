@@ -1,8 +1,7 @@
 -- What a drain makes of a store that serves.
 use Rattle.std.specs.Prelude.{◌≡◌, ℕ}
 use Rattle.mt_rows.specs.declared.record.Batch.{Batch}
-use Rattle.mt_core.specs.Drains.{Drains}
-use Rattle.mt_core.specs.Rights.{IsRightState}
+use Rattle.mt_core.specs.{Drains.Drains, Rights.IsRightState}
 use Rattle.mt_lives.specs.declared.serving.Serving.{Serving}
 
 -- its state is drained, and still right, and nothing else has changed

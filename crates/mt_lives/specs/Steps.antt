@@ -1,20 +1,14 @@
 -- What an event makes of a store as it runs.
-use Rattle.std.specs.Prelude.{◌≡◌, ◌≢◌, ℕ, ◌+◌, min, List, Option, Some, None, Vec}
-use Rattle.std.specs.Ordering.{nat_cmp}
-use Rattle.std.specs.BTreeMap.{BTreeMap, Updates}
+use Rattle.std.specs.{Prelude.{◌≡◌, ◌≢◌, ℕ, ◌+◌, min, List, Option, Some, None, Vec}, Ordering.nat_cmp, BTreeMap.{BTreeMap, Updates}}
 use Rattle.std.specs.declared.alloc.Global.{Global}
 use Rattle.mt_rows.specs.Accounts.{Accounts}
 use Rattle.mt_disk.specs.declared.mem.MemDisk.{MemDisk}
 use Rattle.mt_state.specs.Histories.{IsServed}
 use Rattle.mt_store_logs.specs.declared.store_log.StoreLog.{StoreLog}
-use Rattle.mt_lives.specs.declared.events.StoreEvent.{StoreEvent}
-use Rattle.mt_lives.specs.declared.events.StoreEvent.TheVariants.{Core, Crash}
-use Rattle.mt_lives.specs.declared.events.StoreNote.{StoreNote}
-use Rattle.mt_lives.specs.declared.events.StoreNote.TheVariants as notes
-use Rattle.mt_lives.specs.declared.serving.Serving.{Serving}
-use Rattle.mt_lives.specs.declared.serving.Settle.{Settle}
-use Rattle.mt_lives.specs.Lives.{Standing, IsNoted, Notes, NotesLead}
+use Rattle.mt_lives.specs.{declared.events.StoreEvent.StoreEvent, declared.events.StoreEvent.TheVariants.{Core, Crash}, declared.events.StoreNote.StoreNote}
+use Rattle.mt_lives.specs.{declared.serving.Serving.Serving, declared.serving.Settle.Settle, Lives.{Standing, IsNoted, Notes, NotesLead}}
 use Rattle.mt_lives.specs.Holds.{quotas_of, Holds}
+use Rattle.mt_lives.specs.declared.events.StoreNote.TheVariants as notes
 
 -- an operation's worker is one of those that the logs have
 abbrev pub IsServedBy : ℕ → StoreEvent → Type 0

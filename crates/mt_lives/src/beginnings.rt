@@ -1,13 +1,10 @@
 //! A new store.
 
 ghost use Rattle.std.specs.Prelude.{◌≡◌, ◌<◌, ◌≤◌, true, length, Some, IfOk, IfErr};
-ghost use Rattle.mt_disk.specs.declared.mem.MemDisk.{MemDisk as AnyDisk};
-ghost use Rattle.mt_disk.specs.Mem.{mem_state};
+ghost use Rattle.mt_disk.specs.{declared.mem.MemDisk.{MemDisk as AnyDisk}, Mem.mem_state};
 ghost use Rattle.mt_state.specs.Begins.{HaveNoPairs};
 ghost use Rattle.mt_store_logs.specs.Places.{closed_on, AreInOrder, MakesAll};
-ghost use Rattle.mt_lives.specs.declared.serving.Serving.{Serving as AnyServing};
-ghost use Rattle.mt_lives.specs.Lives.{new_standing, IsMemoryOrDevice};
-ghost use Rattle.mt_lives.specs.Holds.{Holds};
+ghost use Rattle.mt_lives.specs.{declared.serving.Serving.{Serving as AnyServing}, Lives.{new_standing, IsMemoryOrDevice}, Holds.Holds};
 
 use crate::running::Store;
 use crate::serving::Serving;

@@ -1,15 +1,11 @@
 //! Crashes of a store, and its recoveries.
 
-ghost use Rattle.std.specs.Prelude.{◌≡◌, ◌≤◌, ◌^◌, length, IfOk, IfErr, OnOk};
-ghost use Rattle.std.specs.List.{All};
+ghost use Rattle.std.specs.{Prelude.{◌≡◌, ◌≤◌, ◌^◌, length, IfOk, IfErr, OnOk}, List.All};
 ghost use Rattle.mt_rows.specs.TenantPairs.{pairs_of, quota_in, IsTenantPair, AreDistinct, HasTenants, KeepsQuotas};
 ghost use Rattle.mt_state.specs.Begins.{HaveNoPairs};
-ghost use Rattle.mt_core.specs.Restores.{IsRestored};
-ghost use Rattle.mt_core.specs.Rights.{IsRightState};
+ghost use Rattle.mt_core.specs.{Restores.IsRestored, Rights.IsRightState};
 ghost use Rattle.mt_store_logs.specs.Places.{workers_of};
-ghost use Rattle.mt_lives.specs.Returns.{Begins, AreRecovered, AreNotRecovered};
-ghost use Rattle.mt_lives.specs.Steps.{CrashesTo};
-ghost use Rattle.mt_lives.specs.Forced.{IsCrashForced};
+ghost use Rattle.mt_lives.specs.{Returns.{Begins, AreRecovered, AreNotRecovered}, Steps.CrashesTo, Forced.IsCrashForced};
 
 use crate::events::StoreNote;
 use crate::serving::Serving;

@@ -1,20 +1,14 @@
 //! How a tape goes forward, and what no notes are: laws, each the contract of a function that does nothing.
 
-ghost use Rattle.std.specs.Prelude.{◌≡◌, ◌<◌, ◌≤◌, ℕ, map, List, Some, None, Ok, Vec};
-ghost use Rattle.std.specs.declared.alloc.Global.{Global};
-ghost use Rattle.mt_rows.specs.declared.refusal.Refusal.TheVariants.{BadLog, StampsFall, OverQuota};
+ghost use Rattle.std.specs.{Prelude.{◌≡◌, ◌<◌, ◌≤◌, ℕ, map, List, Some, None, Ok, Vec}, declared.alloc.Global.Global};
+ghost use Rattle.mt_rows.specs.{declared.refusal.Refusal.TheVariants.{BadLog, StampsFall, OverQuota}, Tenants.Contents};
 ghost use Rattle.mt_recover.specs.declared.recovering.Recovered.{Recovered as AnyRecovered};
-ghost use Rattle.mt_rows.specs.Tenants.{Contents};
-ghost use Rattle.mt_tape.specs.declared.entry.Entry.{Entry as AnyEntry};
-ghost use Rattle.mt_tape.specs.Tapes.{RisesOver};
-ghost use Rattle.mt_tape.specs.Histories.{contents_at, IsLegalTape};
+ghost use Rattle.mt_tape.specs.{declared.entry.Entry.{Entry as AnyEntry}, Tapes.RisesOver, Histories.{contents_at, IsLegalTape}};
 ghost use Rattle.mt_drains.specs.Drains.{record_of};
 ghost use Rattle.mt_crashes.specs.Fronts.{after_changes};
-ghost use Rattle.mt_runs.specs.declared.event.Event.{Event as AnyEvent};
-ghost use Rattle.mt_runs.specs.Placings.{Quotas};
+ghost use Rattle.mt_runs.specs.{declared.event.Event.{Event as AnyEvent}, Placings.Quotas};
 ghost use Rattle.mt_lives.specs.declared.events.StoreEvent.TheVariants.{Core, SettleBegin, SettleNext, Crash};
-ghost use Rattle.mt_lives.specs.declared.events.StoreNote.TheVariants.{Settled, Recovered, Refused, NoSuch};
-ghost use Rattle.mt_lives.specs.Earlier.{earlier_entries};
+ghost use Rattle.mt_lives.specs.{declared.events.StoreNote.TheVariants.{Settled, Recovered, Refused, NoSuch}, Earlier.earlier_entries};
 ghost use Rattle.mt_lives.specs.Lives.{Life, Standing, steps_in, IsNoted};
 
 /// A tape goes forward: the pairs after a step are those at its floor, with the writes of the tape up to that step made

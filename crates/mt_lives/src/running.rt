@@ -1,19 +1,13 @@
 //! A run of many events on a new store, with what is noted of each.
 
-ghost use Rattle.std.specs.Prelude.{◌≡◌, ◌<◌, ◌≤◌, List, length, Some, IfOk, IfErr, OnOk};
-ghost use Rattle.std.specs.List.{All, zip};
+ghost use Rattle.std.specs.{Prelude.{◌≡◌, ◌<◌, ◌≤◌, List, length, Some, IfOk, IfErr, OnOk}, List.{All, zip}};
 ghost use Rattle.mt_rows.specs.Accounts.{Accounts};
 ghost use Rattle.mt_disk.specs.declared.mem.MemDisk.{MemDisk as AnyDisk};
-ghost use Rattle.mt_state.specs.Begins.{HaveNoPairs};
-ghost use Rattle.mt_state.specs.Histories.{IsServed};
-ghost use Rattle.mt_store_logs.specs.declared.store_log.StoreLog.{StoreLog as AnyLog};
-ghost use Rattle.mt_store_logs.specs.Places.{workers_of, AreInOrder};
-ghost use Rattle.mt_lives.specs.declared.events.StoreEvent.TheVariants.{Core, Crash};
-ghost use Rattle.mt_lives.specs.declared.events.StoreNote.TheVariants.{Told as Answered};
-ghost use Rattle.mt_lives.specs.Lives.{Standing, HasLives, IsMemoryOrDevice};
-ghost use Rattle.mt_lives.specs.Holds.{quotas_of, Holds};
-ghost use Rattle.mt_lives.specs.Steps.{IsHeld, IsNoCrash, IsServedBy, GoesOn, NotesGoOn};
-ghost use Rattle.mt_lives.specs.Forced.{IsForced, AreForced, AreForcedOn};
+ghost use Rattle.mt_state.specs.{Begins.HaveNoPairs, Histories.IsServed};
+ghost use Rattle.mt_store_logs.specs.{declared.store_log.StoreLog.{StoreLog as AnyLog}, Places.{workers_of, AreInOrder}};
+ghost use Rattle.mt_lives.specs.{declared.events.StoreEvent.TheVariants.{Core, Crash}, declared.events.StoreNote.TheVariants.{Told as Answered}};
+ghost use Rattle.mt_lives.specs.{Lives.{Standing, HasLives, IsMemoryOrDevice}, Holds.{quotas_of, Holds}};
+ghost use Rattle.mt_lives.specs.{Steps.{IsHeld, IsNoCrash, IsServedBy, GoesOn, NotesGoOn}, Forced.{IsForced, AreForced, AreForcedOn}};
 
 use crate::beginnings::created;
 use crate::crashes::crash;

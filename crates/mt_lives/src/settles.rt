@@ -1,20 +1,12 @@
 //! Flushes, reopenings and Settles of a store that serves.
 
-ghost use Rattle.std.specs.Prelude.{◌≡◌, ◌<◌, ◌≤◌, true, List, length, Some, IfOk, IfErr};
-ghost use Rattle.std.specs.Ordering.{nat_cmp};
-ghost use Rattle.std.specs.BTreeMap.{get};
+ghost use Rattle.std.specs.{Prelude.{◌≡◌, ◌<◌, ◌≤◌, true, List, length, Some, IfOk, IfErr}, Ordering.nat_cmp, BTreeMap.get};
 ghost use Rattle.mt_rows.specs.Accounts.{Accounts};
-ghost use Rattle.mt_disk.specs.declared.mem.MemDisk.{MemDisk as AnyDisk};
-ghost use Rattle.mt_disk.specs.Mem.{mem_state};
-ghost use Rattle.mt_store_logs.specs.declared.store_log.StoreLog.{StoreLog as AnyLog};
-ghost use Rattle.mt_store_logs.specs.Places.{workers_of, AreInOrder};
-ghost use Rattle.mt_store_logs.specs.Flushes.{Flushes, FailsToFlush};
+ghost use Rattle.mt_disk.specs.{declared.mem.MemDisk.{MemDisk as AnyDisk}, Mem.mem_state};
+ghost use Rattle.mt_store_logs.specs.{declared.store_log.StoreLog.{StoreLog as AnyLog}, Places.{workers_of, AreInOrder}, Flushes.{Flushes, FailsToFlush}};
 ghost use Rattle.mt_store_logs.specs.LogTurns.{BringsUp, FailsToBringUp};
 ghost use Rattle.mt_lives.specs.declared.events.StoreEvent.TheVariants.{Flush, Reopen, SettleBegin, SettleNext};
-ghost use Rattle.mt_lives.specs.declared.serving.Serving.{Serving as AnyServing};
-ghost use Rattle.mt_lives.specs.Serving.{DrainsServing};
-ghost use Rattle.mt_lives.specs.Steps.{Turns, IsHeld, GoesOn};
-ghost use Rattle.mt_lives.specs.Forced.{IsForced};
+ghost use Rattle.mt_lives.specs.{declared.serving.Serving.{Serving as AnyServing}, Serving.DrainsServing, Steps.{Turns, IsHeld, GoesOn}, Forced.IsForced};
 
 use crate::events::StoreNote;
 use crate::serving::{Serving, Settle};

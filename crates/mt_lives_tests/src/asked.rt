@@ -1,7 +1,6 @@
 //! What is asked of a store: the rows of a story, and the events that they stand for.
 
-ghost use Rattle.std.specs.Prelude.{◌≡◌};
-ghost use Rattle.std.specs.List.{All};
+ghost use Rattle.std.specs.{Prelude.{◌≡◌}, List.All};
 ghost use Rattle.mt_state.specs.Begins.{HaveNoPairs};
 ghost use Rattle.mt_lives.specs.Steps.{IsServedBy};
 

@@ -1,7 +1,6 @@
 //! Stories run on a new store of two logs, on disks in memory.
 
-ghost use Rattle.std.specs.Prelude.{◌≡◌, length, Some};
-ghost use Rattle.std.specs.List.{All};
+ghost use Rattle.std.specs.{Prelude.{◌≡◌, length, Some}, List.All};
 ghost use Rattle.mt_lives.specs.Steps.{IsServedBy};
 
 use crate::asked::{Row, events_of, one_tenant};

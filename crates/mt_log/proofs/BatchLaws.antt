@@ -1,27 +1,17 @@
 -- A batch that is read is spelled so, and a spelled batch is read again.
 use Rattle.std.proofs.Common.{◌≡◌, ℕ, ◌^◌, ◌<◌, true, cond, eqb, List, [], ◌∷◌, ◌++◌, length, Option, Some, None, refl, sym, ap, subst, ◌∙◌, append_assoc, arith}
-use Rattle.std.specs.Int.{w32, w64, to_be_bytes}
-use Rattle.std.specs.List.{flat_map}
-use Rattle.std.proofs.lemmas.Bool.{eqb-true}
-use Rattle.std.proofs.lemmas.List.{append-nil, nil_from_length}
-use Rattle.std.proofs.lemmas.List.Elements.{All-from_recursion, recursion_from_All}
+use Rattle.std.proofs.{lemmas.Bool.eqb-true, lemmas.List.{append-nil, nil_from_length}, lemmas.List.Elements.{All-from_recursion, recursion_from_All}}
 use Rattle.std.proofs.lemmas.Option.{same_Some}
-use Rattle.mt_rows.specs.Rows.{Bytes, Columns}
-use Rattle.mt_rows.specs.declared.record.Record.{Record}
-use Rattle.mt_rows.specs.declared.record.Batch.{Batch}
-use Rattle.mt_fields.specs.Fields.{string}
-use Rattle.mt_fields.specs.Reading.{◌>>=◌, byte_at, number_at, each_at}
+use Rattle.std.specs.{Int.{w32, w64, to_be_bytes}, List.flat_map}
+use Rattle.mt_rows.specs.{Rows.{Bytes, Columns}, declared.record.Record.Record, declared.record.Batch.Batch}
+use Rattle.mt_fields.specs.{Fields.string, Reading.{◌>>=◌, byte_at, number_at, each_at}}
 use Rattle.mt_fields.proofs.FieldLaws.{IsBytes, bind_some, guard_ended, choose, Takes, Takes-then, Takes-more, byte_takes, wide32, wide64, number_takes, number_again, taken_again, each_takes, each_again}
-use Rattle.mt_row_fields.specs.Format.{row_bytes}
-use Rattle.mt_row_fields.specs.Reading.{row_at, key_at}
-use Rattle.mt_row_fields.proofs.Tests.{at_most_from_test, test_from_at_most}
-use Rattle.mt_row_fields.proofs.RowLaws.{row_takes, row_again, key_takes, key_again}
-use Rattle.mt_log.specs.declared.batch.LogBatch.{LogBatch}
-use Rattle.mt_log.specs.declared.batch.LogBatch.TheVariants.{Records, Resume}
-use Rattle.mt_log.specs.Format.{change_bytes, record_bytes, body, told_body}
-use Rattle.mt_batches.specs.Batches.{IsRowOrNone, IsRecord}
-use Rattle.mt_log.specs.Contents.{IsLogBatch}
+use Rattle.mt_row_fields.specs.{Format.row_bytes, Reading.{row_at, key_at}}
+use Rattle.mt_row_fields.proofs.{Tests.{at_most_from_test, test_from_at_most}, RowLaws.{row_takes, row_again, key_takes, key_again}}
+use Rattle.mt_log.specs.{declared.batch.LogBatch.LogBatch, declared.batch.LogBatch.TheVariants.{Records, Resume}}
+use Rattle.mt_log.specs.{Format.{change_bytes, record_bytes, body, told_body}, Contents.IsLogBatch}
 use Rattle.mt_log.specs.Reading.{written_at, change_kind_at, change_at, record_of, record_at, is_step, records_at, resume_at, batch_kind_at, batch_in, batch_at}
+use Rattle.mt_batches.specs.Batches.{IsRowOrNone, IsRecord}
 
 -- ---- what became of a key
 

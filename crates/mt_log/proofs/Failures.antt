@@ -2,13 +2,9 @@
 use Rattle.std.proofs.Common.{◌≡◌, inl, inr, ℕ, ◌+◌, Bool, true, false, IsTrue, length, refl, sym, ◌∙◌, ap, subst, length-append}
 use Rattle.mt_rows.specs.Rows.{Bytes}
 use Rattle.mt_disk.specs.Disk.{DiskState, LeavesOnly, GoesUp}
-use Rattle.mt_log.specs.declared.batch.LogBatch.{LogBatch}
-use Rattle.mt_log.specs.declared.log_file.LogFile.{LogFile}
-use Rattle.mt_log.specs.declared.failed_log.FailedLog.{FailedLog}
-use Rattle.mt_log.specs.Format.{body, batch_bytes}
-use Rattle.mt_log.specs.Contents.{Contents, IsLogBatch, to_of, mark_of, log_bytes, with_batch}
-use Rattle.mt_log.specs.Fronts.{IsLeft, IsAtRest, IsBeforeOrAfter, IsUnsure, IsAtRestAt}
-use Rattle.mt_log.specs.Logs.{IsLogOf, FailedAt}
+use Rattle.mt_log.specs.{declared.batch.LogBatch.LogBatch, declared.log_file.LogFile.LogFile, declared.failed_log.FailedLog.FailedLog}
+use Rattle.mt_log.specs.{Format.{body, batch_bytes}, Contents.{Contents, IsLogBatch, to_of, mark_of, log_bytes, with_batch}}
+use Rattle.mt_log.specs.{Fronts.{IsLeft, IsAtRest, IsBeforeOrAfter, IsUnsure, IsAtRestAt}, Logs.{IsLogOf, FailedAt}}
 use Rattle.mt_log.specs.Failures.{end_in, IsFailedLogOf, Reopened, StaysFailed}
 use Rattle.mt_log.proofs.FrontLaws.{contents_front, contents_more, more_bytes, end_more}
 

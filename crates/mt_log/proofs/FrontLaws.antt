@@ -1,19 +1,14 @@
 -- An image has one front, or is no log; and what an append or an opening may leave has the old front or the new one.
 use Rattle.std.proofs.Common.{◌≡◌, ◌≢◌, ◌⊎◌, ◌≤◌, ◌^◌, inl, inr, ⊎_elim, ℕ, List, [], ◌∷◌, ◌++◌, length, drop, get_or, refl, sym, ◌∙◌, ap, subst, arith, append_assoc}
+use Rattle.std.proofs.{lemmas.List.flat_map_more, lemmas.Option.same_Some}
 use Rattle.std.specs.List.{flat_map, AllByRecursion}
-use Rattle.std.proofs.lemmas.List.{flat_map_more}
-use Rattle.std.proofs.lemmas.Option.{same_Some}
-use Rattle.mt_rows.specs.Rows.{Bytes}
-use Rattle.mt_disk.specs.Disk.{DiskState, LeavesOnly, synced}
-use Rattle.mt_disk.proofs.CrashLaws.{after_sync, joined, widened}
-use Rattle.mt_log.specs.declared.batch.LogBatch.{LogBatch}
-use Rattle.mt_log.specs.declared.batch.LogBatch.TheVariants.{Records, Resume}
-use Rattle.mt_rows.specs.declared.record.Batch.{Batch}
+use Rattle.mt_rows.specs.{Rows.Bytes, declared.record.Batch.Batch}
+use Rattle.mt_disk.{specs.Disk.{DiskState, LeavesOnly, synced}, proofs.CrashLaws.{after_sync, joined, widened}}
+use Rattle.mt_log.specs.{declared.batch.LogBatch.LogBatch, declared.batch.LogBatch.TheVariants.{Records, Resume}}
 use Rattle.mt_log.specs.Format.{header, body, told_body, open_batch, batch_bytes}
 use Rattle.mt_log.specs.Contents.{Contents, IsContents, IsBatch, IsLogBatch, JoinsAndRises, Rises, from_of, to_of, Join, end_of, log_bytes, with_batch}
-use Rattle.mt_log.specs.Fronts.{HasFront, IsBadGate, IsBadLog, IsShut, IsTorn, IsBeforeOrAfter, IsLeft, IsOldOrNew, IsFound}
+use Rattle.mt_log.specs.{Fronts.{HasFront, IsBadGate, IsBadLog, IsShut, IsTorn, IsBeforeOrAfter, IsLeft, IsOldOrNew, IsFound}, Reading.batch_at}
 use Rattle.mt_log.proofs.BatchLaws.{batch_again}
-use Rattle.mt_log.specs.Reading.{batch_at}
 
 -- ---- batches that join
 

@@ -1,34 +1,25 @@
 -- What is read of a log from gate to gate, and what an opening made of it.
 use Rattle.std.proofs.Common.{◌≡◌, ⊎_elim, inl, inr, ℕ, zero, suc, ◌+◌, ◌-◌, ◌<◌, ◌≤◌, Bool, true, false, IsTrue, ◌↔◌, ◌^◌, Some, None, List, [], ◌∷◌, ◌++◌, length, take, drop, get_or, refl, sym, ◌∙◌, ap, subst, arith, append_assoc, length-append, Result, Ok, Err, OnErr, IfOk, IfErr, MatchResult}
-use Rattle.std.specs.List.{flat_map, All}
-use Rattle.std.specs.Prelude.{nat_lt}
-use Rattle.std.specs.Int.{w32, to_be_bytes, from_be_bytes}
 use Rattle.std.proofs.lemmas.Bool.{ltb-true, le-ltb}
 use Rattle.std.proofs.lemmas.List.{take-append-drop, take-append-le, take_all, drop-take, length-take, length-take-le, drop-drop, length-drop, flat_map_more, append-nil}
-use Rattle.mt_rows.specs.Rows.{Bytes}
+use Rattle.std.specs.{List.{flat_map, All}, Prelude.nat_lt, Int.{w32, to_be_bytes, from_be_bytes}}
+use Rattle.mt_rows.specs.{Rows.Bytes, declared.record.Batch.Batch}
 use Rattle.mt_disk.specs.Disk.{DiskState, IsDurable, LeavesOnly, GoesUp, synced}
-use Rattle.mt_rows.specs.declared.record.Batch.{Batch}
 use Rattle.mt_batches.specs.Batches.{IsRecord}
 use Rattle.mt_fields.proofs.FieldLaws.{IsBytes, IsBytes-rest, IsBytes-take, wide32, number_again}
-use Rattle.mt_log.specs.declared.batch.LogBatch.{LogBatch}
-use Rattle.mt_log.specs.declared.batch.LogBatch.TheVariants.{Records}
-use Rattle.mt_log.specs.declared.fault.ReadFault.{ReadFault}
-use Rattle.mt_log.specs.declared.fault.ReadFault.TheVariants as reads
-use Rattle.mt_log.specs.declared.reader.Head.{Head}
-use Rattle.mt_log.specs.declared.reader.Head.TheVariants as heads
-use Rattle.mt_log.specs.declared.reader.Start.{Start}
-use Rattle.mt_log.specs.declared.windows.Stop.{Stop}
-use Rattle.mt_log.specs.declared.windows.Found.{Found}
+use Rattle.mt_log.specs.{declared.batch.LogBatch.LogBatch, declared.batch.LogBatch.TheVariants.Records, declared.fault.ReadFault.ReadFault}
+use Rattle.mt_log.specs.{declared.reader.Head.Head, declared.reader.Start.Start, declared.windows.Stop.Stop, declared.windows.Found.Found}
 use Rattle.mt_log.specs.Format.{header, record_bytes, body, told_body, batch_bytes}
 use Rattle.mt_log.specs.Contents.{Contents, IsContents, IsBatch, IsLogBatch, to_of, log_bytes, with_batch, contents_of}
 use Rattle.mt_log.specs.Fronts.{HasNoBatch, IsBadGate, IsBadLog, IsShut, IsTorn, IsBeforeOrAfter, IsLeft, IsOldOrNew, IsFound, IsAtRest}
 use Rattle.mt_log.specs.Reading.{batch_in, batch_at, are_steps, rise_within}
 use Rattle.mt_log.specs.Stops.{IsOpenGate, IsNoHead, IsHead, IsHeader, IsStart, IsBadStart, IsBody, IsOpenBatch, AreBatches, StandBefore, IsStop, IsFoundAt, IsRead, IsBadRead, CountsFault, CountsReads, OfImage, IsStartOf, IsStopOf, IsFrontOf, IsFaultOf}
 use Rattle.mt_log.specs.Logs.{IsSyncedOf, FailsToSync, Opened, GivesDiskBack, fault_with}
-use Rattle.mt_row_fields.proofs.Tests.{below}
-use Rattle.mt_log.proofs.Tests.{steps_from_test, records_from_test, test_of_batch}
-use Rattle.mt_log.proofs.BatchLaws.{body_takes, batch_again}
+use Rattle.mt_log.proofs.{Tests.{steps_from_test, records_from_test, test_of_batch}, BatchLaws.{body_takes, batch_again}}
 use Rattle.mt_log.proofs.FrontLaws.{each_more, end_more, opening, only_synced}
+use Rattle.mt_row_fields.proofs.Tests.{below}
+use Rattle.mt_log.specs.declared.fault.ReadFault.TheVariants as reads
+use Rattle.mt_log.specs.declared.reader.Head.TheVariants as heads
 
 -- what holds at an error, whatever the result
 pub on_err : {T E : Type 0} (result : Result T E) {P : Type 0} → P → OnErr result P

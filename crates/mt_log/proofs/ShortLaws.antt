@@ -1,17 +1,12 @@
 -- How long records may be, and that a bounded batch fits four bytes.
-use Rattle.std.proofs.Common.{◌*◌, ◌≤◌, List, [], ◌∷◌, length, Option, Some, None, refl, arith}
-use Rattle.std.specs.List.{flat_map, AllByRecursion}
-use Rattle.std.proofs.lemmas.List.{length-append}
+use Rattle.std.proofs.{Common.{◌*◌, ◌≤◌, List, [], ◌∷◌, length, Option, Some, None, refl, arith}, lemmas.List.length-append}
 use Rattle.std.proofs.lemmas.List.Elements.{recursion_from_All}
-use Rattle.mt_rows.specs.Rows.{Columns}
-use Rattle.mt_rows.specs.declared.record.Record.{Record}
-use Rattle.mt_rows.specs.declared.record.Batch.{Batch}
+use Rattle.std.specs.List.{flat_map, AllByRecursion}
+use Rattle.mt_rows.specs.{Rows.Columns, declared.record.Record.Record, declared.record.Batch.Batch}
 use Rattle.mt_fields.specs.Fields.{string}
 use Rattle.mt_batches.specs.Batches.{IsRowOrNone, IsRecord, IsBounded}
 use Rattle.mt_row_fields.proofs.RowLaws.{row_short}
-use Rattle.mt_log.specs.Format.{change_bytes, record_bytes}
-use Rattle.mt_log.specs.Contents.{IsBatch}
-use Rattle.mt_log.proofs.ReadLaws.{body_len}
+use Rattle.mt_log.{specs.{Format.{change_bytes, record_bytes}, Contents.IsBatch}, proofs.ReadLaws.body_len}
 
 change_len : (row : Option Columns) → IsRowOrNone row → length (change_bytes row) ≤ 16418
 change_len None is = omega arith

@@ -1,13 +1,8 @@
 -- The tests of a batch's steps and of its stamps, as a reader makes them.
 use Rattle.std.proofs.Common.{◌≡◌, ℕ, zero, suc, ◌+◌, ◌^◌, ◌<◌, ◌≤◌, true, not, ◌&&◌, List, [], ◌∷◌, map, length, get_or, refl, sym, subst, arith}
-use Rattle.std.specs.Prelude.{nat_lt}
-use Rattle.std.specs.List.{All}
-use Rattle.std.specs.List.Sorted.{IsStrictlyIncreasing}
-use Rattle.std.proofs.lemmas.Bool.{and_parts, and_from, ltb-true}
-use Rattle.std.proofs.lemmas.List.Elements.{All-weaker, All-nil, All-cons, All-head, All-tail}
-use Rattle.mt_rows.specs.Commands.{IsKey}
-use Rattle.mt_rows.specs.Limits.{AreRecords}
-use Rattle.mt_rows.specs.declared.record.Record.{Record}
+use Rattle.std.proofs.{lemmas.Bool.{and_parts, and_from, ltb-true}, lemmas.List.Elements.{All-weaker, All-nil, All-cons, All-head, All-tail}}
+use Rattle.std.specs.{Prelude.nat_lt, List.All, List.Sorted.IsStrictlyIncreasing}
+use Rattle.mt_rows.specs.{Commands.IsKey, Limits.AreRecords, declared.record.Record.Record}
 use Rattle.mt_row_fields.proofs.Tests.{below, at_most_from_test, test_from_at_most}
 use Rattle.mt_log.specs.Reading.{are_steps, rise_within}
 

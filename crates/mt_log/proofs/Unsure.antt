@@ -1,10 +1,8 @@
 -- What the gate tells of a front whose last append failed, and what setting its end right leaves.
 use Rattle.std.proofs.Common.{◌≡◌, ◌≢◌, inr, ⊎_elim, ℕ, ◌∷◌, ◌++◌, length, refl, sym, ◌∙◌, ap, subst, append_assoc}
 use Rattle.mt_rows.specs.Rows.{Bytes}
-use Rattle.mt_disk.specs.Disk.{DiskState, IsDurable, LeavesOnly, synced}
-use Rattle.mt_disk.proofs.CrashLaws.{after_sync, joined, widened}
-use Rattle.mt_log.specs.Format.{told_body, open_batch}
-use Rattle.mt_log.specs.Fronts.{IsShut, IsTorn, IsBeforeOrAfter, IsFound, IsUnsure}
+use Rattle.mt_disk.{specs.Disk.{DiskState, IsDurable, LeavesOnly, synced}, proofs.CrashLaws.{after_sync, joined, widened}}
+use Rattle.mt_log.specs.{Format.{told_body, open_batch}, Fronts.{IsShut, IsTorn, IsBeforeOrAfter, IsFound, IsUnsure}}
 
 -- it was synced
 module _ (front bytes : Bytes) (before after : ℕ) (first old mid : DiskState) (unsure : IsUnsure front bytes before after first old) (done : mid ≡ synced old) where

@@ -1,14 +1,8 @@
 -- What a log says: whose it is, and its batches; and what the batches of its own appends are.
-use Rattle.std.specs.Prelude.{◌≡◌, ℕ, ◌<◌, ◌≤◌, ◌^◌, List, [], ◌∷◌, ◌++◌, map, length}
-use Rattle.std.specs.List.{flat_map, All, AllByRecursion}
-use Rattle.std.specs.List.Sorted.{IsStrictlyIncreasing}
-use Rattle.mt_rows.specs.Rows.{Bytes}
-use Rattle.mt_rows.specs.declared.record.Record.{Record}
-use Rattle.mt_rows.specs.declared.record.Batch.{Batch}
+use Rattle.std.specs.{Prelude.{◌≡◌, ℕ, ◌<◌, ◌≤◌, ◌^◌, List, [], ◌∷◌, ◌++◌, map, length}, List.{flat_map, All, AllByRecursion}, List.Sorted.IsStrictlyIncreasing}
+use Rattle.mt_rows.specs.{Rows.Bytes, declared.record.Record.Record, declared.record.Batch.Batch}
 use Rattle.mt_batches.specs.Batches.{IsRecord, AreLogged}
-use Rattle.mt_log.specs.declared.batch.LogBatch.{LogBatch}
-use Rattle.mt_log.specs.declared.batch.LogBatch.TheVariants.{Records, Resume}
-use Rattle.mt_log.specs.declared.batch.Front.{Front}
+use Rattle.mt_log.specs.{declared.batch.LogBatch.LogBatch, declared.batch.LogBatch.TheVariants.{Records, Resume}, declared.batch.Front.Front}
 use Rattle.mt_log.specs.Format.{header, body, batch_bytes}
 
 -- a batch of records in the format: it ends at a step, and its numbers, its records and its length fit

@@ -1,12 +1,8 @@
 -- A log on which an append failed, and what it is when it was opened again.
 use Rattle.std.specs.Prelude.{◌≡◌, ◌⊎◌, ℕ, Bool, IsTrue, length}
 use Rattle.mt_disk.specs.Disk.{DiskState, LeavesOnly, GoesUp}
-use Rattle.mt_log.specs.declared.batch.LogBatch.{LogBatch}
-use Rattle.mt_log.specs.declared.log_file.LogFile.{LogFile}
-use Rattle.mt_log.specs.declared.failed_log.FailedLog.{FailedLog}
-use Rattle.mt_log.specs.Contents.{Contents, IsContents, mark_of, log_bytes, with_batch}
-use Rattle.mt_log.specs.Fronts.{IsLeft, IsOldOrNew}
-use Rattle.mt_log.specs.Logs.{IsLogOf}
+use Rattle.mt_log.specs.{declared.batch.LogBatch.LogBatch, declared.log_file.LogFile.LogFile, declared.failed_log.FailedLog.FailedLog}
+use Rattle.mt_log.specs.{Contents.{Contents, IsContents, mark_of, log_bytes, with_batch}, Fronts.{IsLeft, IsOldOrNew}, Logs.IsLogOf}
 
 -- where the front of a log ends, and at which step
 abbrev pub end_in : Contents → ℕ × ℕ

@@ -1,13 +1,9 @@
 -- Format 1 of a log: how a header, a record and a batch are spelled. All numbers have their highest byte first.
-use Rattle.std.specs.Prelude.{ℕ, [], ◌∷◌, ◌++◌, length, Option, Some, None}
-use Rattle.std.specs.Int.{to_be_bytes, w32, w64}
-use Rattle.std.specs.List.{flat_map}
-use Rattle.mt_rows.specs.Rows.{Bytes, Columns}
-use Rattle.mt_rows.specs.declared.record.Record.{Record}
+use Rattle.std.specs.{Prelude.{ℕ, [], ◌∷◌, ◌++◌, length, Option, Some, None}, Int.{to_be_bytes, w32, w64}, List.flat_map}
+use Rattle.mt_rows.specs.{Rows.{Bytes, Columns}, declared.record.Record.Record}
 use Rattle.mt_fields.specs.Fields.{string}
 use Rattle.mt_row_fields.specs.Format.{row_bytes}
-use Rattle.mt_log.specs.declared.batch.LogBatch.{LogBatch}
-use Rattle.mt_log.specs.declared.batch.LogBatch.TheVariants.{Records, Resume}
+use Rattle.mt_log.specs.{declared.batch.LogBatch.LogBatch, declared.batch.LogBatch.TheVariants.{Records, Resume}}
 
 -- MTLOG, the format's number, the worker, the number of logs
 abbrev pub header : ℕ → ℕ → Bytes

@@ -2,8 +2,7 @@
 use Rattle.std.specs.Prelude.{◌≡◌, ◌≢◌, ◌⊎◌, ℕ, ◌<◌, ◌≤◌, Bool, true, false, [], ◌∷◌, ◌++◌, length}
 use Rattle.mt_rows.specs.Rows.{Bytes}
 use Rattle.mt_disk.specs.Disk.{DiskState, IsDurable, LeavesOnly}
-use Rattle.mt_log.specs.declared.batch.LogBatch.{LogBatch}
-use Rattle.mt_log.specs.Format.{header, body, told_body, open_batch}
+use Rattle.mt_log.specs.{declared.batch.LogBatch.LogBatch, Format.{header, body, told_body, open_batch}}
 use Rattle.mt_log.specs.Contents.{Contents, IsContents, IsLogBatch, log_bytes, with_batch}
 
 -- The front of an image: its batches with an open gate, up to the first gate that isn't 01. Whatever

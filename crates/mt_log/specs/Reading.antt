@@ -1,12 +1,9 @@
 -- Reading batches from left to right: for the functions that do it, whose callers see the spellings alone.
-use Rattle.std.specs.Prelude.{ℕ, ◌^◌, ◌==◌, Bool, true, not, ◌&&◌, List, [], ◌∷◌, length, Option, Some, None, nat_lt, if◌then◌else◌}
-use Rattle.std.specs.Int.{w32, w64}
-use Rattle.mt_rows.specs.Rows.{Bytes, Columns}
-use Rattle.mt_rows.specs.declared.record.Record.{Record}
+use Rattle.std.specs.{Prelude.{ℕ, ◌^◌, ◌==◌, Bool, true, not, ◌&&◌, List, [], ◌∷◌, length, Option, Some, None, nat_lt, if◌then◌else◌}, Int.{w32, w64}}
+use Rattle.mt_rows.specs.{Rows.{Bytes, Columns}, declared.record.Record.Record}
 use Rattle.mt_fields.specs.Reading.{◌>>=◌, byte_at, number_at, taken_at, each_at}
 use Rattle.mt_row_fields.specs.Reading.{row_at, key_at}
-use Rattle.mt_log.specs.declared.batch.LogBatch.{LogBatch}
-use Rattle.mt_log.specs.declared.batch.LogBatch.TheVariants.{Records, Resume}
+use Rattle.mt_log.specs.{declared.batch.LogBatch.LogBatch, declared.batch.LogBatch.TheVariants.{Records, Resume}}
 
 -- the row of a key that was written
 unfoldable pub written_at : Bytes → Option (Option Columns × Bytes)

@@ -1,24 +1,15 @@
 -- What the functions say that read a log: for those that call them, whose callers see fronts alone.
 use Rattle.std.specs.Prelude.{◌≡◌, ◌≢◌, ◌⊎◌, ℕ, ◌+◌, ◌-◌, ◌^◌, ◌<◌, ◌≤◌, min, Bool, IsTrue, List, [], ◌∷◌, ◌++◌, length, take, drop, Option, Some, None, Result, MatchResult, Vec}
-use Rattle.std.specs.Int.{w32, to_be_bytes}
-use Rattle.std.specs.List.{flat_map, AllByRecursion}
-use Rattle.std.specs.declared.alloc.Global.{Global}
+use Rattle.std.specs.{Int.{w32, to_be_bytes}, List.{flat_map, AllByRecursion}, declared.alloc.Global.Global}
 use Rattle.mt_rows.specs.Rows.{Bytes}
 use Rattle.mt_disk.specs.Disk.{DiskState, GoesUp}
-use Rattle.mt_log.specs.declared.batch.LogBatch.{LogBatch}
-use Rattle.mt_log.specs.declared.fault.ReadFault.{ReadFault}
-use Rattle.mt_log.specs.declared.fault.ReadFault.TheVariants as faults
-use Rattle.mt_log.specs.declared.reader.Head.{Head}
-use Rattle.mt_log.specs.declared.reader.Head.TheVariants as heads
-use Rattle.mt_log.specs.declared.reader.Start.{Start}
-use Rattle.mt_log.specs.declared.windows.AtGate.{AtGate}
-use Rattle.mt_log.specs.declared.windows.AtGate.TheVariants as gates
-use Rattle.mt_log.specs.declared.windows.Stop.{Stop}
-use Rattle.mt_log.specs.declared.windows.Found.{Found}
-use Rattle.mt_log.specs.Format.{header, body, batch_bytes}
-use Rattle.mt_log.specs.Contents.{IsLogBatch, end_of, IsContents, mark_of, log_bytes, contents_of}
-use Rattle.mt_log.specs.Fronts.{HasNoHeader, IsOfNoLogs, IsBadGate, IsBadLog}
+use Rattle.mt_log.specs.{declared.batch.LogBatch.LogBatch, declared.fault.ReadFault.ReadFault, declared.reader.Head.Head, declared.reader.Start.Start}
+use Rattle.mt_log.specs.{declared.windows.AtGate.AtGate, declared.windows.Stop.Stop, declared.windows.Found.Found, Format.{header, body, batch_bytes}}
+use Rattle.mt_log.specs.{Contents.{IsLogBatch, end_of, IsContents, mark_of, log_bytes, contents_of}, Fronts.{HasNoHeader, IsOfNoLogs, IsBadGate, IsBadLog}}
 use Rattle.mt_log.specs.Reading.{batch_in}
+use Rattle.mt_log.specs.declared.fault.ReadFault.TheVariants as faults
+use Rattle.mt_log.specs.declared.reader.Head.TheVariants as heads
+use Rattle.mt_log.specs.declared.windows.AtGate.TheVariants as gates
 
 -- ---- bytes
 

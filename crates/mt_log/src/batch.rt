@@ -3,8 +3,7 @@
 //! Units: steps are numbered from 1; a batch goes over step `from` and up to step `to`.
 
 ghost use Rattle.std.specs.Prelude.{◌≡◌, ◌↔◌, IsTrue};
-ghost use Rattle.mt_log.specs.Contents.{IsBatch, from_of, to_of};
-ghost use Rattle.mt_log.specs.Reading.{are_steps, is_step, rise_within};
+ghost use Rattle.mt_log.specs.{Contents.{IsBatch, from_of, to_of}, Reading.{are_steps, is_step, rise_within}};
 
 use crate::writer::{BODY_LIMIT, RECORDS_HEAD, records_len};
 use mt_rows::key::USER_KEY_BYTES;

@@ -2,10 +2,8 @@
 
 ghost use Rattle.std.specs.Prelude.{◌≡◌, ◌<◌, ◌≤◌, ◌^◌, ◌++◌, ◌∷◌, [], length, IsTrue, IfOk, IfErr, OnOk, OnErr};
 ghost use Rattle.mt_disk.specs.Disk.{CountsFailure, GoesUp, synced};
-ghost use Rattle.mt_log.specs.declared.batch.LogBatch.{LogBatch};
-ghost use Rattle.mt_log.specs.Format.{body, told_body};
-ghost use Rattle.mt_log.specs.Contents.{IsBatch, IsLogBatch, Rises, from_of, to_of, log_bytes, no_batches};
-ghost use Rattle.mt_log.specs.Fronts.{IsAtRest};
+ghost use Rattle.mt_log.specs.{declared.batch.LogBatch.LogBatch, Format.{body, told_body}};
+ghost use Rattle.mt_log.specs.{Contents.{IsBatch, IsLogBatch, Rises, from_of, to_of, log_bytes, no_batches}, Fronts.IsAtRest};
 ghost use Rattle.mt_log.specs.Logs.{Created, Appended, FailedIn, GivesBack, GivesLogBack, Opened, GivesDiskBack, IsSyncedOf, FailsToSync, fault_with};
 
 use crate::batch::{Front, MAX_STEP};

@@ -3,8 +3,7 @@
 
 ghost use Rattle.std.specs.Prelude.{◌≡◌, ◌<◌, ◌≤◌, ◌^◌, [], ◌∷◌, ◌++◌, length, drop, IfSome, IfNone, IfOk, IfErr};
 ghost use Rattle.mt_fields.specs.Reading.{Gives, each_at};
-ghost use Rattle.mt_log.specs.Format.{header};
-ghost use Rattle.mt_log.specs.Fronts.{HasNoHeader};
+ghost use Rattle.mt_log.specs.{Format.header, Fronts.HasNoHeader};
 ghost use Rattle.mt_log.specs.Reading.{written_at, change_kind_at, change_at, record_at, records_at, resume_at, batch_kind_at, batch_in};
 ghost use Rattle.mt_log.specs.Stops.{IsHead, IsStart, IsBadStart, IsBehind};
 

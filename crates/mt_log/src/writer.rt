@@ -1,13 +1,9 @@
 //! A batch as the bytes that are appended: its length, its body, and the next gate, closed.
 
-ghost use Rattle.std.specs.Prelude.{◌≡◌, ◌≤◌, ◌<◌, ◌*◌, ◌^◌, ◌++◌, ◌∷◌, [], length, IfOk, OnOk};
-ghost use Rattle.std.specs.List.{flat_map, All};
-ghost use Rattle.mt_rows.specs.Commands.{IsKey};
-ghost use Rattle.mt_rows.specs.Limits.{AreRecords};
+ghost use Rattle.std.specs.{Prelude.{◌≡◌, ◌≤◌, ◌<◌, ◌*◌, ◌^◌, ◌++◌, ◌∷◌, [], length, IfOk, OnOk}, List.{flat_map, All}};
+ghost use Rattle.mt_rows.specs.{Commands.IsKey, Limits.AreRecords};
 ghost use Rattle.mt_batches.specs.Batches.{IsRowOrNone, IsRecord};
-ghost use Rattle.mt_log.specs.declared.batch.LogBatch.{LogBatch};
-ghost use Rattle.mt_log.specs.Format.{change_bytes, record_bytes, body, told_body};
-ghost use Rattle.mt_log.specs.Contents.{IsBatch};
+ghost use Rattle.mt_log.specs.{declared.batch.LogBatch.LogBatch, Format.{change_bytes, record_bytes, body, told_body}, Contents.IsBatch};
 
 use mt_fields::{put_u32, put_u64};
 use mt_row_fields::{put_key, put_row, row_len};

@@ -1,13 +1,8 @@
 -- Records that are gathered one behind the other, each with a later stamp.
-use Rattle.std.proofs.Common.{ℕ, ◌+◌, ◌<◌, ◌≤◌, List, [], ◌∷◌, ◌++◌, map, arith}
-use Rattle.std.specs.List.{All}
-use Rattle.std.specs.List.Sorted.{IsStrictlyIncreasing}
-use Rattle.std.proofs.lemmas.List.{get_or_append_left, map-append, length-append}
-use Rattle.std.proofs.lemmas.List.Elements.{All-nil, All-cons, All-append, All-map, All-weaker}
-use Rattle.std.proofs.Math.Seq.{get_or-append_seam}
-use Rattle.mt_rows.specs.Commands.{IsKey}
-use Rattle.mt_rows.specs.Limits.{AreRecords}
-use Rattle.mt_rows.specs.declared.record.Record.{Record}
+use Rattle.std.proofs.{Common.{ℕ, ◌+◌, ◌<◌, ◌≤◌, List, [], ◌∷◌, ◌++◌, map, arith}, lemmas.List.{get_or_append_left, map-append, length-append}}
+use Rattle.std.proofs.{lemmas.List.Elements.{All-nil, All-cons, All-append, All-map, All-weaker}, Math.Seq.get_or-append_seam}
+use Rattle.std.specs.{List.All, List.Sorted.IsStrictlyIncreasing}
+use Rattle.mt_rows.specs.{Commands.IsKey, Limits.AreRecords, declared.record.Record.Record}
 
 -- records, none with a stamp over this one
 pub record AreUpTo (last : ℕ) (records : List Record) : Type 0 where

@@ -1,7 +1,6 @@
 //! Changes of tenant 7 that workers placed, as what drains them.
 
-ghost use Rattle.std.specs.Prelude.{◌≡◌, ◌≤◌, ◌^◌};
-ghost use Rattle.std.specs.List.{All};
+ghost use Rattle.std.specs.{Prelude.{◌≡◌, ◌≤◌, ◌^◌}, List.All};
 ghost use Rattle.mt_rows.specs.Commands.{IsKey};
 ghost use Rattle.mt_tape.specs.Tapes.{last_write};
 

@@ -1,11 +1,9 @@
 //! Changes of one tenant, logs in memory that have them, and their recovery, as the tests share them.
 
-ghost use Rattle.std.specs.Prelude.{◌≡◌, ◌<◌, ◌≤◌, ◌↔◌, IfOk, IsTrue};
-ghost use Rattle.std.specs.List.{All};
+ghost use Rattle.std.specs.{Prelude.{◌≡◌, ◌<◌, ◌≤◌, ◌↔◌, IfOk, IsTrue}, List.All};
 ghost use Rattle.mt_rows.specs.Commands.{IsKey};
-ghost use Rattle.mt_recover.specs.Limits.{IsReadSlot};
+ghost use Rattle.mt_recover.specs.{Limits.IsReadSlot, Resumes.IsOpenUpto};
 ghost use Rattle.mt_log.specs.Contents.{IsBatch};
-ghost use Rattle.mt_recover.specs.Resumes.{IsOpenUpto};
 
 use mt_checkpoint::{Checkpoint, ReadFault, Writer, create_slot, read_valid};
 use mt_disk::MemDisk;

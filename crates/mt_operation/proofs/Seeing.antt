@@ -1,11 +1,9 @@
 -- Pairs that were seen, as their keys stand in one row of bytes.
 use Rattle.std.proofs.Common.{◌≡◌, ◌≤◌, ◌+◌, ◌++◌, ℕ, List, [], ◌∷◌, length, take, drop, refl, ap, ◌∙◌, arith}
-use Rattle.std.proofs.lemmas.List.{length-drop, map-append, take-append-le, drop-append-le}
-use Rattle.std.proofs.lemmas.List.Elements.{All-head, All-tail}
+use Rattle.std.proofs.{lemmas.List.{length-drop, map-append, take-append-le, drop-append-le}, lemmas.List.Elements.{All-head, All-tail}}
 use Rattle.std.proofs.Math.Seq.{drop-append_seam, take-length}
 use Rattle.mt_rows.specs.Rows.{Bytes, Columns}
-use Rattle.mt_operation.specs.declared.seen.SeenPair.{SeenPair}
-use Rattle.mt_operation.specs.Scans.{pair_in, pairs_in, HasKeys}
+use Rattle.mt_operation.specs.{declared.seen.SeenPair.SeenPair, Scans.{pair_in, pairs_in, HasKeys}}
 
 -- bytes behind the others leave what stands there
 cut_stays : (bytes more : Bytes) (start count : ℕ) → start + count ≤ length bytes → take count (drop start (bytes ++ more)) ≡ take count (drop start bytes)

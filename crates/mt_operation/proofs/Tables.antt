@@ -1,6 +1,5 @@
 -- A list of options in which one is written over: for tables of operations, and for their places.
-use Rattle.std.proofs.Common.{◌≡◌, ◌≢◌, ℕ, zero, suc, List, [], ◌∷◌, get_or, set, Option, Some, None, refl, sym, ap}
-use Rattle.std.proofs.lemmas.Option.{same_Some}
+use Rattle.std.proofs.{Common.{◌≡◌, ◌≢◌, ℕ, zero, suc, List, [], ◌∷◌, get_or, set, Option, Some, None, refl, sym, ap}, lemmas.Option.same_Some}
 
 module _ {X : Type 0} where
   -- what was written is there

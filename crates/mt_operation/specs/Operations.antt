@@ -1,22 +1,11 @@
 -- An operation between its steps: what is shown of it, and what each change makes of it.
 use Rattle.std.specs.Prelude.{◌≡◌, ℕ, List, [], Bool, false, not, ◌==◌, if◌then◌else◌, Option, Some, None}
-use Rattle.mt_rows.specs.declared.command.Command.{Command}
-use Rattle.mt_rows.specs.Rows.{Bytes, Columns}
-use Rattle.mt_operation.specs.declared.phase.Phase.{Phase}
-use Rattle.mt_operation.specs.declared.walk.Walk.{Walk}
-use Rattle.mt_operation.specs.declared.task.Task.{Task}
-use Rattle.mt_operation.specs.declared.outcome.Outcome.{Outcome}
-use Rattle.mt_operation.specs.declared.prepared.Prepared.{Prepared}
-use Rattle.mt_operation.specs.declared.splits.Halves.{Halves}
-use Rattle.mt_operation.specs.declared.splits.Splits.{Splits}
-use Rattle.mt_operation.specs.declared.removal.Removal.{Removal}
-use Rattle.mt_operation.specs.declared.scan.Scan.{Scan}
-use Rattle.mt_operation.specs.declared.scan.Stop.{Stop}
+use Rattle.mt_rows.specs.{declared.command.Command.Command, Rows.{Bytes, Columns}}
+use Rattle.mt_operation.specs.{declared.phase.Phase.Phase, declared.walk.Walk.Walk, declared.task.Task.Task, declared.outcome.Outcome.Outcome}
+use Rattle.mt_operation.specs.{declared.prepared.Prepared.Prepared, declared.splits.Halves.Halves, declared.splits.Splits.Splits}
+use Rattle.mt_operation.specs.{declared.removal.Removal.Removal, declared.scan.Scan.Scan, declared.scan.Stop.Stop, declared.operation.Operation.Operation}
+use Rattle.mt_operation.specs.{Phases.is_done, Tasks.{ask, aim_of, begins_after}, Walks.walk_from_top}
 use Rattle.mt_operation.specs.declared.scan.Stop.TheVariants as stops
-use Rattle.mt_operation.specs.declared.operation.Operation.{Operation}
-use Rattle.mt_operation.specs.Phases.{is_done}
-use Rattle.mt_operation.specs.Tasks.{ask, aim_of, begins_after}
-use Rattle.mt_operation.specs.Walks.{walk_from_top}
 
 -- what is shown of splits: the halves from the lowest level up, the node above the last ones once it is locked, and how many children of the last right
 -- half name it already

@@ -1,10 +1,9 @@
 -- The table of phases: a row for each, with all that hangs on an operation's phase alone. What a phase keeps of its operation, and under which condition
 -- its step leads where, is told by the crates that have its call.
 use Rattle.std.specs.Prelude.{◌≡◌, ℕ, ◌==◌, Bool, true, false, List, [], ◌∷◌, codes}
-use Rattle.mt_operation.specs.declared.walk.Aim.{Aim}
-use Rattle.mt_operation.specs.declared.walk.Aim.TheVariants as aims
-use Rattle.mt_operation.specs.declared.phase.Phase.{Phase}
+use Rattle.mt_operation.specs.{declared.walk.Aim.Aim, declared.phase.Phase.Phase}
 use Rattle.mt_operation.specs.declared.phase.Phase.TheVariants.{Enter, Pick, Child, Verify, Search, Load, Confirm, Forward, Lock, Judge, Store, Publish, SplitStart, SplitMove, SplitPrev, LockParent, InsertChild, InteriorSplit, Reparent, RootGrow, MakeLayer, MarkUnstable, Link, MarkLayer, DropKey, LockPrev, LockAbove, Unlink, FixNext, Collapse, CleanLayer, Unlock, Snap, Check, Hop, Done}
+use Rattle.mt_operation.specs.declared.walk.Aim.TheVariants as aims
 
 -- What the step does: it goes down to the node of the key, reads there for a get or for a scan, locks the node for a write, judges what the write finds, writes, begins to
 -- split the node, splits it, brings right halves up to their parents, makes a layer, takes the pair out, takes the empty node out, takes an empty layer

@@ -1,6 +1,5 @@
 -- What a scan remembers between its steps: what is shown of it.
-use Rattle.std.specs.Prelude.{◌+◌, ◌≤◌, List, length, map, take, drop}
-use Rattle.std.specs.List.{All}
+use Rattle.std.specs.{Prelude.{◌+◌, ◌≤◌, List, length, map, take, drop}, List.All}
 use Rattle.mt_rows.specs.Rows.{Bytes, Columns}
 use Rattle.mt_operation.specs.declared.seen.SeenPair.{SeenPair}
 

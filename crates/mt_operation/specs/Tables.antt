@@ -1,7 +1,6 @@
 -- The table of operations, as it is shown.
 use Rattle.std.specs.Prelude.{◌≡◌, ℕ, ◌+◌, ◌<◌, ◌≤◌, true, List, length, count_by, Option, Some, None, is_some, slice_index_or}
-use Rattle.mt_operation.specs.declared.operation.Operation.{Operation}
-use Rattle.mt_operation.specs.Operations.{is_unfinished}
+use Rattle.mt_operation.specs.{declared.operation.Operation.Operation, Operations.is_unfinished}
 
 -- the operations by their ids: those that were begun and whose answer was not taken
 abbrev pub Table : Type 0

@@ -1,10 +1,7 @@
 -- A walk before its first step.
 use Rattle.std.specs.Prelude.{ℕ, true, false, None}
 use Rattle.mt_version.specs.Parts.{fresh_parts}
-use Rattle.mt_operation.specs.declared.phase.Phase.TheVariants.{Enter}
-use Rattle.mt_operation.specs.declared.walk.Taken.TheVariants.{Missing}
-use Rattle.mt_operation.specs.declared.walk.Aim.{Aim}
-use Rattle.mt_operation.specs.declared.walk.Walk.{Walk}
+use Rattle.mt_operation.specs.{declared.phase.Phase.TheVariants.Enter, declared.walk.Taken.TheVariants.Missing, declared.walk.Aim.Aim, declared.walk.Walk.Walk}
 
 -- a walk that begins: at the top tree, with nothing seen
 abbrev pub walk_from_top : Aim → ℕ → Walk

@@ -1,8 +1,7 @@
 //! One operation: its task, and what it remembers between its steps.
 
 ghost use Rattle.std.specs.Prelude.{◌≡◌, ◌==◌};
-ghost use Rattle.mt_operation.specs.Operations.{begun, scan_of, no_scan, IsUnsplit, counted, is_unfinished};
-ghost use Rattle.mt_operation.specs.Tasks.{ask};
+ghost use Rattle.mt_operation.specs.{Operations.{begun, scan_of, no_scan, IsUnsplit, counted, is_unfinished}, Tasks.ask};
 
 use crate::outcome::Outcome;
 use crate::phase::Phase;

@@ -1,8 +1,7 @@
 -- One more word is read, or is the first with a fault.
 use Rattle.std.proofs.Common.{◌≡◌, ℕ, ◌+◌, ◌<◌, List, [], ◌∷◌, ◌++◌, length, take, Some, slice_get, get_or, refl, sym, ap, subst, ◌∙◌, add-one}
 use Rattle.std.proofs.Math.Seq.{take-suc}
-use Rattle.mt_options.specs.declared.tenants.TenantQuota.{TenantQuota}
-use Rattle.mt_options.specs.declared.tenants.TenantsFault.{TenantsFault}
+use Rattle.mt_options.specs.{declared.tenants.TenantQuota.TenantQuota, declared.tenants.TenantsFault.TenantsFault}
 use Rattle.mt_options.specs.declared.tenants.TenantsFault.TheVariants.{Malformed, Refused}
 use Rattle.mt_options.specs.Tenants.{AreTenants, AddsTenant, IsFirstFault, IsFault, place_of, More}
 

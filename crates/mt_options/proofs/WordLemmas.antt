@@ -1,7 +1,6 @@
 -- Decimal numbers that are too great, and how far a search for a colon came.
 use Rattle.std.proofs.Common.{◌≡◌, ℕ, ◌+◌, ◌-◌, ◌*◌, ◌<◌, ◌≤◌, Bool, true, false, cond, ◌&&◌, nat_le, List, [], ◌∷◌, Some, None, refl, arith}
-use Rattle.std.proofs.lemmas.List.Sums.{prefix_len-drop_no, prefix_len-drop_yes}
-use Rattle.std.proofs.lemmas.Bool.{lt-leb}
+use Rattle.std.proofs.{lemmas.List.Sums.{prefix_len-drop_no, prefix_len-drop_yes}, lemmas.Bool.lt-leb}
 use Rattle.mt_options.specs.Words.{digits_behind, number_of, is_numeral}
 
 -- more digits make no lesser number

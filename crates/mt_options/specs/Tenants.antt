@@ -1,14 +1,9 @@
 -- The tenants that words `T:Q` name, each with its quota, and the first word that has a fault.
 use Rattle.std.specs.Prelude.{◌≡◌, ℕ, List, [], ◌∷◌, ◌++◌, Option, Some, None, slice_get, take}
-use Rattle.mt_rows.specs.declared.refusal.Refusal.{Refusal}
-use Rattle.mt_rows.specs.declared.refusal.Refusal.TheVariants.{TenantThere, Quota, Memory}
-use Rattle.mt_rows.specs.Accounts.{IsQuota}
-use Rattle.mt_options.specs.declared.tenants.TenantQuota.{TenantQuota}
-use Rattle.mt_options.specs.declared.tenants.TenantsFault.{TenantsFault}
-use Rattle.mt_options.specs.declared.tenants.TenantsFault.TheVariants.{Malformed, Refused}
-use Rattle.mt_options.specs.declared.tenants.WordFault.{WordFault}
+use Rattle.mt_rows.specs.{declared.refusal.Refusal.Refusal, declared.refusal.Refusal.TheVariants.{TenantThere, Quota, Memory}, Accounts.IsQuota}
+use Rattle.mt_options.specs.{declared.tenants.TenantQuota.TenantQuota, declared.tenants.TenantsFault.TenantsFault}
+use Rattle.mt_options.specs.{declared.tenants.TenantsFault.TheVariants.{Malformed, Refused}, declared.tenants.WordFault.WordFault, Words.{number_of, parted}}
 use Rattle.mt_options.specs.declared.tenants.WordFault.TheVariants as word_faults
-use Rattle.mt_options.specs.Words.{number_of, parted}
 
 -- what follows from a meaning, where there is one
 infixl 10 ◌>>=◌

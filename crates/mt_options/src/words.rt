@@ -1,8 +1,6 @@
 //! The two decimal numbers of a word `T:Q`.
 
-ghost use Rattle.std.specs.Prelude.{◌≡◌, ◌≤◌, length};
-ghost use Rattle.std.specs.Option.{option_map};
-ghost use Rattle.std.specs.List.{prefix_len};
+ghost use Rattle.std.specs.{Prelude.{◌≡◌, ◌≤◌, length}, Option.option_map, List.prefix_len};
 ghost use Rattle.mt_options.specs.Words.{number_of, parted, is_no_colon};
 
 /// A decimal number that fits a u32: digits alone, at least one.

@@ -1,17 +1,12 @@
 -- What can be told: whether a node is empty or out of date, whether a layer was left empty.
 use Rattle.std.proofs.Common.{◌≡◌, ◌≢◌, ℕ, ◌⊎◌, inl, inr, Bool, true, false, List, [], ◌∷◌, Option, Some, None, refl, ap, arith}
-use Rattle.std.proofs.lemmas.Bool.{cases_eq, cases_lt}
-use Rattle.std.proofs.lemmas.Option.{same_Some}
+use Rattle.std.proofs.{lemmas.Bool.{cases_eq, cases_lt}, lemmas.Option.same_Some}
 use Rattle.mt_version.specs.Parts.{Parts}
 use Rattle.mt_border.specs.declared.entry.Entry.{Entry}
-use Rattle.mt_arena.specs.NodeView.{NodeView}
-use Rattle.mt_arena.specs.Arena.{ArenaView}
-use Rattle.mt_arena.specs.Accesses.{at}
-use Rattle.mt_operation.specs.declared.walk.Walk.{Walk}
-use Rattle.mt_operation.specs.declared.removal.Removal.{Removal}
+use Rattle.mt_arena.specs.{NodeView.NodeView, Arena.ArenaView, Accesses.at}
+use Rattle.mt_operation.specs.{declared.walk.Walk.Walk, declared.removal.Removal.Removal}
 use Rattle.mt_descent.specs.Seen.{IsOutdated}
-use Rattle.mt_remove.specs.RemovalEdits.{root_of}
-use Rattle.mt_remove.specs.Unlock.{EmptiesLayer}
+use Rattle.mt_remove.specs.{RemovalEdits.root_of, Unlock.EmptiesLayer}
 
 true_or_not : (b : Bool) → (b ≡ true) ⊎ (b ≢ true)
 true_or_not true = inl refl

@@ -3,24 +3,14 @@ use Rattle.std.proofs.Common.{◌≡◌, ◌≢◌, ℕ, ◌+◌, ◌⊎◌, inl
 use Rattle.std.proofs.lemmas.Bool.{cases_eq}
 use Rattle.mt_version.specs.Parts.{Parts}
 use Rattle.mt_rows.specs.Rows.{Bytes}
-use Rattle.mt_arena.specs.Forests.{tree_at, layer_of}
-use Rattle.mt_arena.specs.Arena.{ArenaView}
-use Rattle.mt_arena.specs.Accesses.{at}
-use Rattle.mt_operation.specs.declared.phase.Phase.{Phase}
-use Rattle.mt_operation.specs.declared.phase.Phase.TheVariants.{Enter, Forward, Judge, CleanLayer}
-use Rattle.mt_operation.specs.declared.walk.Walk.{Walk}
-use Rattle.mt_operation.specs.declared.removal.Removal.{Removal}
-use Rattle.mt_operation.specs.declared.operation.Operation.{Operation}
-use Rattle.mt_descent.specs.KeptWalks.{KeptAt as KeptWalkAt}
-use Rattle.mt_descent.specs.WalkMoves.{IsLock, after_change}
+use Rattle.mt_arena.specs.{Forests.{tree_at, layer_of}, Arena.ArenaView, Accesses.at}
+use Rattle.mt_operation.specs.{declared.phase.Phase.Phase, declared.phase.Phase.TheVariants.{Enter, Forward, Judge, CleanLayer}, declared.walk.Walk.Walk}
+use Rattle.mt_operation.specs.{declared.removal.Removal.Removal, declared.operation.Operation.Operation}
+use Rattle.mt_descent.specs.{KeptWalks.{KeptAt as KeptWalkAt}, WalkMoves.{IsLock, after_change}}
 use Rattle.mt_held.proofs.Looks.{held_here}
-use Rattle.mt_remove.specs.KeptRemovals.{IsAtUnlockRemoval, IsCleaning}
-use Rattle.mt_remove.specs.Unlock.{IsUnlockRemoval}
-use Rattle.mt_remove.specs.Ways.{IsLockWay}
-use Rattle.mt_phases_tests.specs.Ways.{unmoved}
-use Rattle.mt_phases_tests.specs.KeptRemovers.{IsBound, KeptAt, IsRemover}
-use Rattle.mt_phases_tests.proofs.Cases.{outdated_or_not, empties_or_not}
-use Rattle.mt_phases_tests.proofs.Staying.{bound_stays}
+use Rattle.mt_remove.specs.{KeptRemovals.{IsAtUnlockRemoval, IsCleaning}, Unlock.IsUnlockRemoval, Ways.IsLockWay}
+use Rattle.mt_phases_tests.specs.{Ways.unmoved, KeptRemovers.{IsBound, KeptAt, IsRemover}}
+use Rattle.mt_phases_tests.proofs.{Cases.{outdated_or_not, empties_or_not}, Staying.bound_stays}
 
 change_leads : (w : Walk) (now : Parts) (next : Option ℕ) (b : Bool) → now.deleted ≡ b
     → ((after_change w now next).phase ≡ Enter) ⊎ ((after_change w now next).phase ≡ Forward)

@@ -1,8 +1,7 @@
 -- That each half of the splits may count one more change, once all were asked.
 use Rattle.std.proofs.Common.{ℕ, ◌<◌, List}
 use Rattle.mt_version.specs.Changes.{CanUnlock}
-use Rattle.mt_arena.specs.Arena.{ArenaView}
-use Rattle.mt_arena.specs.Accesses.{at}
+use Rattle.mt_arena.specs.{Arena.ArenaView, Accesses.at}
 use Rattle.mt_operation.specs.declared.splits.Halves.{Halves}
 use Rattle.mt_insert.specs.KeptSplits.{halves_at}
 

@@ -2,18 +2,12 @@
 use Rattle.std.proofs.Common.{◌≢◌, ℕ, ◌+◌, None, refl, arith}
 use Rattle.mt_rows.specs.Rows.{Bytes}
 use Rattle.mt_arena.specs.Arena.{ArenaView, Guarantee}
-use Rattle.mt_operation.specs.declared.phase.Phase.{Phase}
-use Rattle.mt_operation.specs.declared.phase.Phase.TheVariants.{Enter, Forward, Lock, Judge, DropKey, Done}
-use Rattle.mt_operation.specs.declared.walk.Walk.{Walk}
-use Rattle.mt_operation.specs.declared.removal.Removal.{Removal}
-use Rattle.mt_operation.specs.declared.operation.Operation.{Operation}
-use Rattle.mt_descent.specs.Pasts.{ExtendsPast}
-use Rattle.mt_descent.specs.KeptWalks.{IsAtForward}
-use Rattle.mt_descent.proofs.Rely.{border_stays, kept_stays}
+use Rattle.mt_operation.specs.{declared.phase.Phase.Phase, declared.phase.Phase.TheVariants.{Enter, Forward, Lock, Judge, DropKey, Done}}
+use Rattle.mt_operation.specs.{declared.walk.Walk.Walk, declared.removal.Removal.Removal, declared.operation.Operation.Operation}
+use Rattle.mt_descent.{specs.{Pasts.ExtendsPast, KeptWalks.IsAtForward}, proofs.Rely.{border_stays, kept_stays}}
 use Rattle.mt_held.proofs.Rely.{held, through_stays}
 use Rattle.mt_remove.proofs.Rely.{drop_key, removal, cleaning}
-use Rattle.mt_phases_tests.specs.Ways.{unmoved}
-use Rattle.mt_phases_tests.specs.KeptRemovers.{IsBound, KeptAt, OthersStay}
+use Rattle.mt_phases_tests.specs.{Ways.unmoved, KeptRemovers.{IsBound, KeptAt, OthersStay}}
 
 -- where it goes stands under any step
 pub bound_stays : (id : ℕ) (old new : ArenaView) (key : Bytes) (r : Removal) → Guarantee id old new → IsBound old key r → IsBound new key r

@@ -2,15 +2,11 @@
 use Rattle.std.specs.Prelude.{◌≡◌, ◌≢◌, ℕ, Some, None}
 use Rattle.mt_rows.specs.Rows.{Bytes}
 use Rattle.mt_arena.specs.Arena.{ArenaView}
-use Rattle.mt_operation.specs.declared.phase.Phase.{Phase}
-use Rattle.mt_operation.specs.declared.phase.Phase.TheVariants.{Enter, Forward, Lock, Judge, DropKey, Done}
-use Rattle.mt_operation.specs.declared.prepared.Prepared.{Prepared}
-use Rattle.mt_operation.specs.declared.removal.Removal.{Removal}
-use Rattle.mt_operation.specs.declared.operation.Operation.{Operation}
+use Rattle.mt_operation.specs.{declared.phase.Phase.Phase, declared.phase.Phase.TheVariants.{Enter, Forward, Lock, Judge, DropKey, Done}}
+use Rattle.mt_operation.specs.{declared.prepared.Prepared.Prepared, declared.removal.Removal.Removal, declared.operation.Operation.Operation}
 use Rattle.mt_descent.specs.KeptWalks.{IsAtEnter, IsAtForward, IsAtBorder}
 use Rattle.mt_held.specs.Holds.{HoldsBorder}
-use Rattle.mt_remove.specs.Writes.{IsRemoval}
-use Rattle.mt_remove.specs.KeptRemovals.{IsAtDropKey, IsCleaning, IsUnburdened, KeptRemoval}
+use Rattle.mt_remove.specs.{Writes.IsRemoval, KeptRemovals.{IsAtDropKey, IsCleaning, IsUnburdened, KeptRemoval}}
 
 -- it goes to its key, or to the link of a layer that it has left empty
 pub record IsBound (v : ArenaView) (key : Bytes) (r : Removal) : Type 0 where

@@ -3,8 +3,7 @@ use Rattle.std.specs.Prelude.{None}
 use Rattle.mt_rows.specs.Rows.{Bytes}
 use Rattle.mt_arena.specs.Arena.{ArenaView, content_of}
 use Rattle.mt_operation.specs.declared.walk.Walk.{Walk}
-use Rattle.mt_descent.specs.Pasts.{Past}
-use Rattle.mt_descent.specs.KeptWalks.{IsKept, IsAtBorder}
+use Rattle.mt_descent.specs.{Pasts.Past, KeptWalks.{IsKept, IsAtBorder}}
 
 -- a past in which no step was made, and the contents are those of the arena
 abbrev pub unmoved : ArenaView → Past

@@ -3,9 +3,8 @@
 
 ghost use Rattle.std.specs.Prelude.{◌≡◌, IfSome, IfNone};
 ghost use Rattle.mt_descent.specs.KeptWalks.{IsAtBorder};
-ghost use Rattle.mt_insert.specs.Puts.{IsPut};
+ghost use Rattle.mt_insert.specs.{Puts.IsPut, KeptPuts.KeptReady};
 ghost use Rattle.mt_held.specs.Holds.{HoldsBorder};
-ghost use Rattle.mt_insert.specs.KeptPuts.{KeptReady};
 ghost use Rattle.mt_layer.specs.KeptLayers.{KeptLayer};
 ghost use Rattle.mt_phases_tests.specs.Ways.{IsComing, AllStay};
 

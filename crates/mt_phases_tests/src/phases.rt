@@ -5,10 +5,9 @@ ghost use Rattle.mt_version.specs.Changes.{CanUnlock};
 ghost use Rattle.mt_tape.specs.Tapes.{last_write};
 ghost use Rattle.mt_arena.specs.Accesses.{at};
 ghost use Rattle.mt_descent.specs.KeptWalks.{IsAtBorder, IsAtLoad};
-ghost use Rattle.mt_insert.specs.Puts.{IsPut};
-ghost use Rattle.mt_held.specs.Holds.{HoldsBorder};
-ghost use Rattle.mt_insert.specs.KeptPuts.{IsAtStore, IsAtPublish, IsAtSplitStart, KeptReady};
+ghost use Rattle.mt_insert.specs.{Puts.IsPut, KeptPuts.{IsAtStore, IsAtPublish, IsAtSplitStart, KeptReady}};
 ghost use Rattle.mt_insert.specs.KeptSplits.{IsHalf, IsAtSplitMove, IsAtUnlockAll, KeptSplit};
+ghost use Rattle.mt_held.specs.Holds.{HoldsBorder};
 ghost use Rattle.mt_phases_tests.specs.Ways.{IsComing, AllStay};
 
 use mt_arena::Arena;

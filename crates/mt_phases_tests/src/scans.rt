@@ -2,8 +2,7 @@
 
 ghost use Rattle.std.specs.Prelude.{None};
 ghost use Rattle.mt_descent.specs.KeptWalks.{IsAtBorder};
-ghost use Rattle.mt_scan.specs.Checks.{MayCheck};
-ghost use Rattle.mt_scan.specs.Hops.{IsAtCheck, KeptScan};
+ghost use Rattle.mt_scan.specs.{Checks.MayCheck, Hops.{IsAtCheck, KeptScan}};
 ghost use Rattle.mt_phases_tests.specs.Ways.{unmoved, IsComing};
 
 use crate::phases::{Store, empty_store, put, walk_down};

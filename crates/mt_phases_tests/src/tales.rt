@@ -2,9 +2,7 @@
 
 ghost use Rattle.std.specs.Prelude.{◌≡◌, ℕ, IsSome};
 ghost use Rattle.mt_descent.specs.KeptWalks.{IsAtBorder};
-ghost use Rattle.mt_operation.specs.Tables.{MayMove, op_at};
-ghost use Rattle.mt_operation.specs.Tasks.{ask, aim_of};
-ghost use Rattle.mt_operation.specs.Walks.{walk_from_top};
+ghost use Rattle.mt_operation.specs.{Tables.{MayMove, op_at}, Tasks.{ask, aim_of}, Walks.walk_from_top};
 ghost use Rattle.mt_insert.specs.Puts.{IsPut};
 
 use crate::phases::{Store, answer, begin, empty_store, get, place, put, put_of, walk_down};

@@ -1,42 +1,17 @@
 -- Stretches that end with their tree, or with their tenant's keys.
 use Rattle.std.proofs.Common.{◌≡◌, ℕ, zero, suc, ◌+◌, ◌*◌, ◌<◌, ◌≤◌, inl, inr, Bool, true, false, List, [], ◌∷◌, length, take, Some, None, refl, sym, ap, subst, ◌∙◌, arith}
-use Rattle.std.specs.Prelude.{slice_index}
-use Rattle.std.proofs.lemmas.Bool.{cases_lt, cases_eq}
-use Rattle.std.specs.declared.cmp.Ordering.{Ordering}
-use Rattle.std.specs.declared.cmp.Ordering.TheVariants.{Less, Greater}
-use Rattle.std.specs.Ordering.{nat_cmp, is_lt, ordering_then}
-use Rattle.std.specs.Cmp.Lexicographic.{slice_cmp}
-use Rattle.std.specs.List.{Contains}
-use Rattle.std.specs.FinMap.{get}
-use Rattle.mt_slices.specs.Keys.{IsStoredKey, tenant_of, user_key_of}
-use Rattle.mt_slices.specs.Slices.{slice_of, mark_of, rest_of, slice_at}
-use Rattle.mt_slices.proofs.Bytes.{AreBytes, bytes-drop, bytes-tail}
-use Rattle.mt_slices.proofs.Tenants.{stored_key-again}
-use Rattle.mt_slices.proofs.Numbers.{number, number_lt, slice_at-number, tenant_of-number}
-use Rattle.mt_rows.specs.Rows.{Bytes}
-use Rattle.mt_rows.specs.Tenants.{Contents}
-use Rattle.mt_border.specs.declared.entry.Pair.{Pair}
-use Rattle.mt_border.specs.declared.entry.Entry.{Entry}
-use Rattle.mt_border.specs.Entry.{pair_of}
-use Rattle.mt_border.specs.Contents.{owned, HasKey, IsOfTree}
-use Rattle.mt_arena.specs.declared.tree.Tree.{Tree}
-use Rattle.mt_arena.specs.NodeView.{NodeView, node_at}
-use Rattle.mt_arena.specs.Forests.{tree_at}
-use Rattle.mt_arena.specs.Arena.{IsArena}
-use Rattle.mt_arena.specs.Contents.{content}
-use Rattle.mt_readings.specs.Reading.{is_below, is_behind, read, stop}
-use Rattle.mt_readings.proofs.Readings.{read_in, rank_of}
+use Rattle.std.proofs.{lemmas.Bool.{cases_lt, cases_eq}, lemmas.List.{take-take, nil_from_length}, Math.Seq.take-append_seam}
+use Rattle.std.specs.{Prelude.slice_index, declared.cmp.Ordering.Ordering, declared.cmp.Ordering.TheVariants.{Less, Greater}}
+use Rattle.std.specs.{Ordering.{nat_cmp, is_lt, ordering_then}, Cmp.Lexicographic.slice_cmp, List.Contains, FinMap.get, Int.{w32, to_be_bytes, from_be_bytes}}
+use Rattle.mt_slices.specs.{Keys.{IsStoredKey, tenant_of, user_key_of}, Slices.{slice_of, mark_of, rest_of, slice_at}, Fences.IsBehindAll}
+use Rattle.mt_slices.proofs.{Bytes.{AreBytes, bytes-drop, bytes-tail}, Tenants.stored_key-again, Numbers.{number, number_lt, slice_at-number, tenant_of-number}}
+use Rattle.mt_rows.specs.{Rows.Bytes, Tenants.Contents}
+use Rattle.mt_border.specs.{declared.entry.Pair.Pair, declared.entry.Entry.Entry, Entry.pair_of, Contents.{owned, HasKey, IsOfTree}}
 use Rattle.mt_border.proofs.ContentsKeys.{is_mark_of}
+use Rattle.mt_arena.{specs.{declared.tree.Tree.Tree, NodeView.{NodeView, node_at}, Forests.tree_at, Arena.IsArena, Contents.content}, proofs.Elsewhere.layer_is}
+use Rattle.mt_readings.specs.{Reading.{is_below, is_behind, read, stop}, Spans.{IsScanAt, TellsAll}, Tenancies.TellsTenant}
+use Rattle.mt_readings.proofs.{Readings.{read_in, rank_of}, Bytewise.{nat_less, nat_greater, nat_same, reaches}, Spanning.{not_lt, told_of, real_of}}
 use Rattle.mt_interior.specs.Fences.{end_of}
-use Rattle.mt_arena.proofs.Elsewhere.{layer_is}
-use Rattle.std.proofs.lemmas.List.{take-take, nil_from_length}
-use Rattle.std.proofs.Math.Seq.{take-append_seam}
-use Rattle.std.specs.Int.{w32, to_be_bytes, from_be_bytes}
-use Rattle.mt_readings.specs.Spans.{IsScanAt, TellsAll}
-use Rattle.mt_readings.proofs.Bytewise.{nat_less, nat_greater, nat_same, reaches}
-use Rattle.mt_readings.proofs.Spanning.{not_lt, told_of, real_of}
-use Rattle.mt_slices.specs.Fences.{IsBehindAll}
-use Rattle.mt_readings.specs.Tenancies.{TellsTenant}
 
 abbrev cmp : Bytes → Bytes → Ordering
 cmp = slice_cmp nat_cmp

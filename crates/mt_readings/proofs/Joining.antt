@@ -1,35 +1,18 @@
 -- The tenant's pairs among those that were read are a stretch of its map.
 use Rattle.std.proofs.Common.{◌≡◌, ◌≢◌, ℕ, zero, suc, ◌^◌, ◌<◌, ◌⊎◌, inl, inr, Bool, true, false, eqb, List, [], ◌∷◌, Option, Some, None, refl, sym, ap, subst, ◌∙◌, arith}
-use Rattle.std.specs.Prelude.{if◌then◌else◌}
-use Rattle.std.proofs.lemmas.Bool.{cases_lt, cases_eq, ne_eqb}
-use Rattle.std.proofs.lemmas.Bool.Decides.{nat_tests}
+use Rattle.std.proofs.{lemmas.Bool.{cases_lt, cases_eq, ne_eqb}, lemmas.Bool.Decides.nat_tests}
 use Rattle.std.proofs.lemmas.List.Elements.{recursion_from_All, All-nil, All-cons, All-map}
-use Rattle.std.specs.List.{All, Contains, cons_option}
-use Rattle.std.specs.FinMap.{get}
-use Rattle.std.specs.declared.cmp.Ordering.{Ordering}
-use Rattle.std.specs.declared.cmp.Ordering.TheVariants.{Less}
-use Rattle.std.specs.Ordering.{nat_cmp, ordering_then}
-use Rattle.std.specs.Cmp.Lexicographic.{slice_cmp}
-use Rattle.mt_slices.specs.Keys.{IsStoredKey, stored_key, tenant_of, user_key_of}
-use Rattle.mt_slices.specs.Marks.{mark_rank}
-use Rattle.mt_slices.specs.Slices.{slice_of, mark_of, suffix_of}
-use Rattle.mt_slices.proofs.Order.{cmp_tenants}
-use Rattle.mt_slices.proofs.Tenants.{stored_key-again}
-use Rattle.mt_rows.specs.Rows.{Bytes, Columns}
-use Rattle.mt_rows.specs.Tenants.{Contents, tenant_map}
-use Rattle.mt_rows.proofs.ContentLaws.{get-tenant_map}
-use Rattle.mt_border.specs.declared.entry.Pair.{Pair}
-use Rattle.mt_border.specs.declared.entry.Entry.{Entry}
-use Rattle.mt_border.specs.Entry.{pair_of, order_at}
-use Rattle.mt_border.specs.Entries.{IsBorder}
+use Rattle.std.specs.{Prelude.{if◌then◌else◌}, List.{All, Contains, cons_option}, FinMap.get, declared.cmp.Ordering.Ordering}
+use Rattle.std.specs.{declared.cmp.Ordering.TheVariants.Less, Ordering.{nat_cmp, ordering_then}, Cmp.Lexicographic.slice_cmp}
+use Rattle.mt_slices.specs.{Keys.{IsStoredKey, stored_key, tenant_of, user_key_of}, Marks.mark_rank, Slices.{slice_of, mark_of, suffix_of}}
+use Rattle.mt_slices.proofs.{Order.cmp_tenants, Tenants.stored_key-again}
+use Rattle.mt_rows.{specs.{Rows.{Bytes, Columns}, Tenants.{Contents, tenant_map}}, proofs.ContentLaws.get-tenant_map}
+use Rattle.mt_border.specs.{declared.entry.Pair.Pair, declared.entry.Entry.Entry, Entry.{pair_of, order_at}, Entries.IsBorder}
 use Rattle.mt_border.specs.Contents.{owned, key_at, HasKey, IsOfTree}
 use Rattle.mt_border.proofs.ContentsKeys.{key_at-is, order_of_key, is_mark_of}
-use Rattle.mt_readings.specs.Reading.{is_below, is_behind, read}
-use Rattle.mt_readings.proofs.Readings.{in_tree, rank_of, Ascends, ascends}
-use Rattle.mt_readings.proofs.Bytewise.{nat_less, nat_same}
-use Rattle.mt_walks.specs.Walked.{IsStretch, keys_of}
-use Rattle.mt_walks.proofs.Walks.{Rises, rises_none, rises_more}
-use Rattle.mt_readings.specs.Tenancies.{own_pair, own_pairs, passed_at, HasStoredKeys, TellsTenant}
+use Rattle.mt_readings.specs.{Reading.{is_below, is_behind, read}, Tenancies.{own_pair, own_pairs, passed_at, HasStoredKeys, TellsTenant}}
+use Rattle.mt_readings.proofs.{Readings.{in_tree, rank_of, Ascends, ascends}, Bytewise.{nat_less, nat_same}}
+use Rattle.mt_walks.{specs.Walked.{IsStretch, keys_of}, proofs.Walks.{Rises, rises_none, rises_more}}
 
 abbrev cmp : Bytes → Bytes → Ordering
 cmp = slice_cmp nat_cmp

@@ -1,32 +1,17 @@
 -- What a scan reads of a node's entries, by the order of their keys.
 use Rattle.std.proofs.Common.{◌≡◌, ◌≢◌, ℕ, zero, suc, ◌+◌, ◌*◌, ◌<◌, ◌≤◌, ◌⊎◌, inl, inr, Bool, true, false, List, [], ◌∷◌, length, get_or, Option, Some, None, refl, sym, ap, subst, ◌∙◌, arith}
-use Rattle.std.specs.Prelude.{if◌then◌else◌}
-use Rattle.std.proofs.lemmas.Bool.{cases_eq, cases_lt}
-use Rattle.std.proofs.lemmas.Bool.Decides.{nat_tests}
-use Rattle.std.proofs.lemmas.List.{get_or-map, length-map}
-use Rattle.std.proofs.lemmas.List.{get_or_default}
+use Rattle.std.proofs.{lemmas.Bool.{cases_eq, cases_lt}, lemmas.Bool.Decides.nat_tests, lemmas.List.{get_or-map, length-map, get_or_default}}
 use Rattle.std.proofs.lemmas.Option.{same_Some}
-use Rattle.std.specs.List.{All, Contains}
-use Rattle.std.specs.declared.cmp.Ordering.{Ordering}
-use Rattle.std.specs.declared.cmp.Ordering.TheVariants.{Less, Equal, Greater}
-use Rattle.std.specs.Ordering.{nat_cmp, is_le, is_lt, ordering_then}
-use Rattle.std.specs.Cmp.Lexicographic.{slice_cmp}
-use Rattle.mt_lists.specs.Rising.{IsRising}
-use Rattle.mt_lists.proofs.Rises.{rising_tail}
-use Rattle.mt_slices.specs.Marks.{mark_rank, IsMark}
-use Rattle.mt_slices.specs.Slices.{slice_of, mark_of, suffix_of}
-use Rattle.mt_slices.specs.declared.mark.Mark.{Mark}
+use Rattle.std.specs.{Prelude.{if◌then◌else◌}, List.{All, Contains}, declared.cmp.Ordering.Ordering, declared.cmp.Ordering.TheVariants.{Less, Equal, Greater}}
+use Rattle.std.specs.{Ordering.{nat_cmp, is_le, is_lt, ordering_then}, Cmp.Lexicographic.slice_cmp}
+use Rattle.mt_lists.{specs.Rising.IsRising, proofs.Rises.rising_tail}
+use Rattle.mt_slices.specs.{Marks.{mark_rank, IsMark}, Slices.{slice_of, mark_of, suffix_of}, declared.mark.Mark.Mark}
 use Rattle.mt_slices.specs.declared.mark.Mark.TheVariants.{Long, Short}
 use Rattle.mt_slices.proofs.Order.{cmp_below}
-use Rattle.mt_rows.specs.Rows.{Bytes}
-use Rattle.mt_rows.proofs.CommandLaws.{keys_exact}
-use Rattle.mt_border.specs.declared.entry.Pair.{Pair}
-use Rattle.mt_border.specs.declared.entry.Entry.{Entry}
-use Rattle.mt_border.specs.Entry.{pair_of, order_of, order_at, IsEntry, IsRest}
-use Rattle.mt_border.specs.Entries.{orders, IsBorder, IsMissing}
-use Rattle.mt_border.specs.Contents.{IsOfTree, HasKey, AreKeys}
-use Rattle.mt_border.proofs.Edits.{any_entry}
-use Rattle.mt_border.proofs.ContentsKeys.{is_mark_of, is_rest_of}
+use Rattle.mt_rows.{specs.Rows.Bytes, proofs.CommandLaws.keys_exact}
+use Rattle.mt_border.specs.{declared.entry.Pair.Pair, declared.entry.Entry.Entry, Entry.{pair_of, order_of, order_at, IsEntry, IsRest}}
+use Rattle.mt_border.specs.{Entries.{orders, IsBorder, IsMissing}, Contents.{IsOfTree, HasKey, AreKeys}}
+use Rattle.mt_border.proofs.{Edits.any_entry, ContentsKeys.{is_mark_of, is_rest_of}}
 use Rattle.mt_readings.specs.Reading.{is_below, behind_by, is_behind, read_on, read, stop_on, stop, HasOther, IsRead, IsStopped, IsAtLink}
 
 abbrev cmp : Bytes → Bytes → Ordering

@@ -1,50 +1,24 @@
 -- What the reading of a node tells of the contents, up to a fence.
 use Rattle.std.proofs.Common.{◌≡◌, ℕ, zero, suc, ◌+◌, ◌-◌, ◌*◌, ◌<◌, ◌≤◌, ◌⊎◌, inl, inr, Bool, true, false, min, List, [], ◌∷◌, length, take, get_or, Some, None, refl, sym, ap, subst, ◌∙◌, arith}
-use Rattle.std.specs.Prelude.{if◌then◌else◌, slice_index}
-use Rattle.std.specs.Int.{w64, to_be_bytes}
-use Rattle.std.proofs.lemmas.Bool.{cases_lt, cases_eq, ne_eqb}
-use Rattle.std.proofs.lemmas.List.{get_or_past, get_or_default, length-drop, get_or-map, nil_from_length}
-use Rattle.std.proofs.lemmas.List.Elements.{All-contains}
-use Rattle.std.proofs.lemmas.Option.{same_Some}
-use Rattle.std.specs.List.{Contains}
-use Rattle.std.specs.FinMap.{get}
-use Rattle.std.specs.declared.cmp.Ordering.{Ordering}
-use Rattle.std.specs.declared.cmp.Ordering.TheVariants.{Less, Equal, Greater}
-use Rattle.std.specs.Ordering.{nat_cmp, is_lt, is_le, ordering_then}
-use Rattle.std.specs.Cmp.Lexicographic.{slice_cmp}
-use Rattle.mt_slices.specs.Keys.{IsStoredKey}
-use Rattle.mt_slices.specs.Marks.{mark_rank}
-use Rattle.mt_slices.specs.Slices.{slice_of, mark_of, suffix_of, rest_of, padded}
-use Rattle.mt_slices.specs.declared.mark.Mark.{Mark}
-use Rattle.mt_slices.proofs.Bytes.{bytes-drop}
-use Rattle.mt_slices.proofs.Order.{cmp_below}
-use Rattle.mt_slices.proofs.Padding.{slice_bytes, get_or-padded}
-use Rattle.mt_slices.proofs.Rejoin.{mark_short, mark_long}
+use Rattle.std.proofs.{lemmas.Bool.{cases_lt, cases_eq, ne_eqb}, lemmas.List.{get_or_past, get_or_default, length-drop, get_or-map, nil_from_length}}
+use Rattle.std.proofs.{lemmas.List.Elements.All-contains, lemmas.Option.same_Some}
+use Rattle.std.specs.{Prelude.{if◌then◌else◌, slice_index}, Int.{w64, to_be_bytes}, List.Contains, FinMap.get, declared.cmp.Ordering.Ordering}
+use Rattle.std.specs.{declared.cmp.Ordering.TheVariants.{Less, Equal, Greater}, Ordering.{nat_cmp, is_lt, is_le, ordering_then}, Cmp.Lexicographic.slice_cmp}
+use Rattle.mt_slices.specs.{Keys.IsStoredKey, Marks.mark_rank, Slices.{slice_of, mark_of, suffix_of, rest_of, padded}, declared.mark.Mark.Mark}
 use Rattle.mt_slices.specs.declared.mark.Mark.TheVariants.{Long, Short}
+use Rattle.mt_slices.proofs.{Bytes.bytes-drop, Order.cmp_below, Padding.{slice_bytes, get_or-padded}, Rejoin.{mark_short, mark_long}}
 use Rattle.mt_rows.specs.Rows.{Bytes}
-use Rattle.mt_border.specs.declared.entry.Pair.{Pair}
-use Rattle.mt_border.specs.declared.entry.Entry.{Entry}
-use Rattle.mt_border.specs.Entry.{pair_of, order_of, order_at, CanHold, IsEntry}
-use Rattle.mt_border.specs.declared.entry.Held.{Held}
-use Rattle.mt_border.specs.declared.entry.Held.TheVariants.{Stable, Unstable, Link}
-use Rattle.mt_border.specs.Entries.{IsBorder, slices}
+use Rattle.mt_border.specs.{declared.entry.Pair.Pair, declared.entry.Entry.Entry, Entry.{pair_of, order_of, order_at, CanHold, IsEntry}}
+use Rattle.mt_border.specs.{declared.entry.Held.Held, declared.entry.Held.TheVariants.{Stable, Unstable, Link}, Entries.{IsBorder, slices}}
 use Rattle.mt_border.specs.Contents.{owned, IsOfTree, HasKey, AreKeys}
-use Rattle.mt_border.proofs.Edits.{any_entry}
-use Rattle.mt_border.proofs.ContentsKeys.{is_mark_of, order_of_key}
+use Rattle.mt_border.proofs.{Edits.any_entry, ContentsKeys.{is_mark_of, order_of_key}}
 use Rattle.mt_interior.specs.Fences.{end_of}
-use Rattle.mt_arena.specs.declared.tree.Tree.{Tree}
-use Rattle.mt_arena.specs.NodeView.{NodeView, node_at}
-use Rattle.mt_arena.specs.Forests.{tree_at}
-use Rattle.mt_arena.specs.Layers.{slot_at}
-use Rattle.mt_arena.specs.Arena.{IsArena}
-use Rattle.mt_arena.specs.Contents.{content}
+use Rattle.mt_arena.specs.{declared.tree.Tree.Tree, NodeView.{NodeView, node_at}, Forests.tree_at, Layers.slot_at, Arena.IsArena, Contents.content}
 use Rattle.mt_arena.specs.Ways.{BelongsIn}
-use Rattle.mt_arena.proofs.Homes.{begun}
-use Rattle.mt_arena.proofs.Owners.{none_elsewhere, none_beside, found}
-use Rattle.mt_arena.proofs.Elsewhere.{layer_is}
+use Rattle.mt_arena.proofs.{Homes.begun, Owners.{none_elsewhere, none_beside, found}, Elsewhere.layer_is}
 use Rattle.mt_readings.specs.Reading.{is_below, is_behind, read, stop, HasOther, IsRead, IsStopped, IsAtLink}
-use Rattle.mt_readings.proofs.Readings.{in_tree, behind_is, read_in, stop_in, stop_link, before, tells, below_link, behind_link, rank_of, place_cmp}
 use Rattle.mt_readings.specs.Spans.{IsScanAt, HasPair, TellsAll, IsAtSlice, least_in}
+use Rattle.mt_readings.proofs.Readings.{in_tree, behind_is, read_in, stop_in, stop_link, before, tells, below_link, behind_link, rank_of, place_cmp}
 use Rattle.mt_readings.proofs.Bytewise.{squeeze, shorter, reaches, nat_less, nat_greater, nat_same}
 
 abbrev cmp : Bytes → Bytes → Ordering

@@ -1,28 +1,15 @@
 -- Each pair of the contents is that of a stored key.
-use Rattle.std.proofs.Common.{◌≡◌, ℕ, Bool, true, false, List, [], ◌∷◌, Option, Some, None, refl, sym, ap, subst, ◌∙◌}
-use Rattle.std.specs.Prelude.{filter_map, if◌then◌else◌, cond}
-use Rattle.std.proofs.lemmas.List.{get_or_default}
+use Rattle.std.proofs.{Common.{◌≡◌, ℕ, Bool, true, false, List, [], ◌∷◌, Option, Some, None, refl, sym, ap, subst, ◌∙◌}, lemmas.List.get_or_default}
 use Rattle.std.proofs.lemmas.List.Elements.{All-append, All-nil, All-cons, All-head, All-tail}
-use Rattle.std.specs.List.{All, flat_map, cons_option}
-use Rattle.std.specs.Option.{option_map}
-use Rattle.std.specs.Ordering.{eq_by_cmp}
+use Rattle.std.specs.{Prelude.{filter_map, if◌then◌else◌, cond}, List.{All, flat_map, cons_option}, Option.option_map, Ordering.eq_by_cmp}
 use Rattle.std.specs.FinMap.{get, get-empty, get-insert}
 use Rattle.mt_slices.specs.Keys.{IsStoredKey}
-use Rattle.mt_rows.specs.Rows.{Bytes, Columns}
-use Rattle.mt_rows.specs.Tenants.{owned_cmp}
-use Rattle.mt_rows.proofs.ContentLaws.{owned_total}
-use Rattle.mt_border.specs.declared.entry.Pair.{Pair}
-use Rattle.mt_border.specs.declared.entry.Entry.{Entry}
-use Rattle.mt_border.specs.Entry.{pair_of}
-use Rattle.mt_border.specs.Contents.{owned, key_at, pair_in, HasKey, AreKeys}
+use Rattle.mt_rows.{specs.{Rows.{Bytes, Columns}, Tenants.owned_cmp}, proofs.ContentLaws.owned_total}
+use Rattle.mt_border.specs.{declared.entry.Pair.Pair, declared.entry.Entry.Entry, Entry.pair_of, Contents.{owned, key_at, pair_in, HasKey, AreKeys}}
 use Rattle.mt_border.proofs.ContentsKeys.{owned_at}
-use Rattle.mt_arena.specs.declared.tree.Tree.{Tree}
-use Rattle.mt_arena.specs.NodeView.{NodeView, node_at, no_node}
-use Rattle.mt_arena.specs.Forests.{tree_at, layer_of, HaveKeys}
-use Rattle.mt_arena.specs.Contents.{counts, live_pairs, content}
-use Rattle.mt_arena.specs.Arena.{IsArena}
-use Rattle.mt_arena.proofs.Joins.{Pairs, map_of, tied_owner}
-use Rattle.mt_arena.proofs.Counted.{content-is}
+use Rattle.mt_arena.specs.{declared.tree.Tree.Tree, NodeView.{NodeView, node_at, no_node}, Forests.{tree_at, layer_of, HaveKeys}}
+use Rattle.mt_arena.specs.{Contents.{counts, live_pairs, content}, Arena.IsArena}
+use Rattle.mt_arena.proofs.{Joins.{Pairs, map_of, tied_owner}, Counted.content-is}
 use Rattle.mt_readings.specs.Tenancies.{HasStoredKeys}
 
 -- an owner of a stored key

@@ -1,18 +1,10 @@
 -- What a scan reads of a border node's entries: the pairs from a fence on, up to the first link.
 use Rattle.std.specs.Prelude.{◌≡◌, ◌≢◌, ℕ, ◌≤◌, ◌<◌, Bool, true, false, if◌then◌else◌, List, [], ◌∷◌, Option, Some, None, length, slice_index_or}
-use Rattle.std.specs.Ordering.{nat_cmp, is_le, is_lt, ordering_then}
-use Rattle.std.specs.declared.cmp.Ordering.{Ordering}
-use Rattle.std.specs.declared.cmp.Ordering.TheVariants.{Less, Equal, Greater}
-use Rattle.std.specs.Cmp.Lexicographic.{slice_cmp}
-use Rattle.std.specs.List.{Contains}
-use Rattle.mt_slices.specs.Marks.{mark_rank}
-use Rattle.mt_slices.specs.Slices.{slice_of, mark_of, suffix_of}
-use Rattle.mt_slices.specs.declared.mark.Mark.TheVariants.{Long}
+use Rattle.std.specs.{Ordering.{nat_cmp, is_le, is_lt, ordering_then}, declared.cmp.Ordering.Ordering, declared.cmp.Ordering.TheVariants.{Less, Equal, Greater}}
+use Rattle.std.specs.{Cmp.Lexicographic.slice_cmp, List.Contains}
+use Rattle.mt_slices.specs.{Marks.mark_rank, Slices.{slice_of, mark_of, suffix_of}, declared.mark.Mark.TheVariants.Long}
 use Rattle.mt_rows.specs.Rows.{Bytes}
-use Rattle.mt_border.specs.declared.entry.Pair.{Pair}
-use Rattle.mt_border.specs.declared.entry.Entry.{Entry}
-use Rattle.mt_border.specs.Entry.{pair_of, order_of}
-use Rattle.mt_border.specs.Contents.{HasKey, IsOfTree}
+use Rattle.mt_border.specs.{declared.entry.Pair.Pair, declared.entry.Entry.Entry, Entry.{pair_of, order_of}, Contents.{HasKey, IsOfTree}}
 
 -- whether a key is done with at a fence: it stands before the fence, or is the fence itself where a scan begins behind it
 abbrev pub is_below : Bytes → Bool → Bytes → Bool

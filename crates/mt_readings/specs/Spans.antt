@@ -1,20 +1,12 @@
 -- A scan at a border node, and what its reading of the node tells of the contents.
 use Rattle.std.specs.Prelude.{◌≡◌, ◌≢◌, ◌⊎◌, ℕ, ◌≤◌, ◌<◌, ◌*◌, ◌-◌, ◌==◌, if◌then◌else◌, Bool, true, false, List, length, take, slice_index, Some, None}
 use Rattle.std.specs.List.{Contains}
-use Rattle.std.specs.FinMap as pairs
-use Rattle.mt_slices.specs.Keys.{IsStoredKey}
-use Rattle.mt_slices.specs.Slices.{slice_of, rest_of}
-use Rattle.mt_rows.specs.Rows.{Bytes}
-use Rattle.mt_rows.specs.Tenants.{Contents}
-use Rattle.mt_border.specs.declared.entry.Pair.{Pair}
-use Rattle.mt_border.specs.declared.entry.Entry.{Entry}
-use Rattle.mt_border.specs.Contents.{owned, HasKey, IsOfTree}
-use Rattle.mt_arena.specs.declared.tree.Tree.{Tree}
-use Rattle.mt_arena.specs.declared.tree.Standing.TheVariants.{Live}
-use Rattle.mt_arena.specs.NodeView.{NodeView, node_at}
-use Rattle.mt_arena.specs.Forests.{tree_at}
-use Rattle.mt_arena.specs.Stands.{IsLiveBorder}
+use Rattle.mt_slices.specs.{Keys.IsStoredKey, Slices.{slice_of, rest_of}}
+use Rattle.mt_rows.specs.{Rows.Bytes, Tenants.Contents}
+use Rattle.mt_border.specs.{declared.entry.Pair.Pair, declared.entry.Entry.Entry, Contents.{owned, HasKey, IsOfTree}}
+use Rattle.mt_arena.specs.{declared.tree.Tree.Tree, declared.tree.Standing.TheVariants.Live, NodeView.{NodeView, node_at}, Forests.tree_at, Stands.IsLiveBorder}
 use Rattle.mt_readings.specs.Reading.{is_below}
+use Rattle.std.specs.FinMap as pairs
 
 -- a scan is at live border node k of a live tree, of a layer: its fence goes through the tree, and its slice isn't below the node's range
 pub record IsScanAt (nodes : List NodeView) (trees : List Tree) (k layer : ℕ) (fence : Bytes) : Type 0 where

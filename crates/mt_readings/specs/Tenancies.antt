@@ -1,16 +1,10 @@
 -- What a reading tells of one tenant's map.
-use Rattle.std.specs.Prelude.{◌≡◌, ◌⊎◌, ℕ, ◌==◌, if◌then◌else◌, Bool, true, false, List, Option, Some, None, filter_map}
-use Rattle.std.specs.List.{Contains}
-use Rattle.std.specs.FinMap as pairs
+use Rattle.std.specs.{Prelude.{◌≡◌, ◌⊎◌, ℕ, ◌==◌, if◌then◌else◌, Bool, true, false, List, Option, Some, None, filter_map}, List.Contains}
 use Rattle.mt_slices.specs.Keys.{IsStoredKey, stored_key, tenant_of, user_key_of}
-use Rattle.mt_rows.specs.Rows.{Bytes, Columns}
-use Rattle.mt_rows.specs.Tenants.{Contents}
-use Rattle.mt_border.specs.declared.entry.Pair.{Pair}
-use Rattle.mt_border.specs.declared.entry.Entry.{Entry}
-use Rattle.mt_border.specs.Entry.{pair_of}
-use Rattle.mt_border.specs.Contents.{owned, key_at, HasKey}
-use Rattle.mt_readings.specs.Reading.{is_below}
-use Rattle.mt_readings.specs.Spans.{HasPair}
+use Rattle.mt_rows.specs.{Rows.{Bytes, Columns}, Tenants.Contents}
+use Rattle.mt_border.specs.{declared.entry.Pair.Pair, declared.entry.Entry.Entry, Entry.pair_of, Contents.{owned, key_at, HasKey}}
+use Rattle.mt_readings.specs.{Reading.is_below, Spans.HasPair}
+use Rattle.std.specs.FinMap as pairs
 
 -- a tenant's pair, by its user's key
 abbrev pub own_pair : ℕ → Bytes → Bytes → Columns → Option (Bytes × Columns)

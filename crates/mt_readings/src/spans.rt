@@ -3,13 +3,8 @@
 ghost use Rattle.std.specs.Prelude.{◌≡◌, ℕ, Bool, List, Some, None};
 ghost use Rattle.mt_rows.specs.Rows.{Bytes};
 ghost use Rattle.mt_border.specs.declared.entry.Entry.{Entry};
-ghost use Rattle.mt_arena.specs.declared.tree.Tree.{Tree};
-ghost use Rattle.mt_arena.specs.NodeView.{NodeView, node_at};
-ghost use Rattle.mt_arena.specs.Forests.{tree_at};
-ghost use Rattle.mt_arena.specs.Arena.{IsArena};
-ghost use Rattle.mt_arena.specs.Contents.{content};
-ghost use Rattle.mt_readings.specs.Reading.{is_behind, read, stop, IsAtLink};
-ghost use Rattle.mt_readings.specs.Spans.{IsScanAt, TellsAll, IsAtSlice};
+ghost use Rattle.mt_arena.specs.{declared.tree.Tree.Tree, NodeView.{NodeView, node_at}, Forests.tree_at, Arena.IsArena, Contents.content};
+ghost use Rattle.mt_readings.specs.{Reading.{is_behind, read, stop, IsAtLink}, Spans.{IsScanAt, TellsAll, IsAtSlice}};
 
 /// Where the reading of a node stopped at a link, it tells all that the contents have from the fence up to the first key
 /// behind the link's own prefix.

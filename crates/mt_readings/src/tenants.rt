@@ -1,26 +1,15 @@
 //! What a scan's reading tells of its tenant's map. Contracts alone: no code runs.
 
-ghost use Rattle.std.specs.Prelude.{◌≡◌, ◌≢◌, ◌<◌, ◌≤◌, ◌^◌, ◌+◌, ◌*◌, ℕ, Bool, true, false, List, Some, None, length, slice_index};
-ghost use Rattle.std.specs.List.{Contains};
-ghost use Rattle.mt_arena.specs.declared.tree.Tree.{Tree};
-ghost use Rattle.mt_arena.specs.NodeView.{NodeView, node_at};
-ghost use Rattle.mt_arena.specs.Forests.{tree_at};
-ghost use Rattle.mt_arena.specs.Arena.{IsArena};
-ghost use Rattle.mt_arena.specs.Contents.{content};
+ghost use Rattle.std.specs.{Prelude.{◌≡◌, ◌≢◌, ◌<◌, ◌≤◌, ◌^◌, ◌+◌, ◌*◌, ℕ, Bool, true, false, List, Some, None, length, slice_index}, List.Contains};
+ghost use Rattle.mt_arena.specs.{declared.tree.Tree.Tree, NodeView.{NodeView, node_at}, Forests.tree_at, Arena.IsArena, Contents.content};
 ghost use Rattle.mt_readings.specs.Spans.{IsScanAt, TellsAll};
 ghost use Rattle.std.specs.FinMap as pairs;
-ghost use Rattle.mt_slices.specs.Keys.{IsStoredKey, stored_key, tenant_of};
-ghost use Rattle.mt_slices.specs.Fences.{IsBehindAll};
-ghost use Rattle.mt_rows.specs.Rows.{Bytes, Columns};
-ghost use Rattle.mt_rows.specs.Tenants.{Contents, tenant_map};
-ghost use Rattle.mt_border.specs.declared.entry.Pair.{Pair};
-ghost use Rattle.mt_border.specs.declared.entry.Entry.{Entry};
-ghost use Rattle.mt_border.specs.Contents.{HasKey, owned};
-ghost use Rattle.mt_border.specs.Entries.{IsBorder};
+ghost use Rattle.mt_slices.specs.{Keys.{IsStoredKey, stored_key, tenant_of}, Fences.IsBehindAll};
+ghost use Rattle.mt_rows.specs.{Rows.{Bytes, Columns}, Tenants.{Contents, tenant_map}};
+ghost use Rattle.mt_border.specs.{declared.entry.Pair.Pair, declared.entry.Entry.Entry, Contents.{HasKey, owned}, Entries.IsBorder};
 ghost use Rattle.mt_interior.specs.Fences.{end_of};
-ghost use Rattle.mt_readings.specs.Reading.{is_below, is_behind, read, stop};
+ghost use Rattle.mt_readings.specs.{Reading.{is_below, is_behind, read, stop}, Tenancies.{own_pairs, passed_at, HasStoredKeys, TellsTenant}};
 ghost use Rattle.mt_walks.specs.Walked.{IsStretch};
-ghost use Rattle.mt_readings.specs.Tenancies.{own_pairs, passed_at, HasStoredKeys, TellsTenant};
 
 /// The tenant's pairs among those that were read are a stretch of its map: all of it from the fence on, as far as its keys
 /// are reached.

@@ -1,16 +1,13 @@
 -- Nothing falls in a log just where its batches join and its stamps rise: for the laws.
 use Rattle.std.proofs.Common.{◌≡◌, ℕ, suc, ◌<◌, ◌≤◌, Bool, true, cond, get_or, List, [], ◌∷◌, length, refl, sym, ◌∙◌, ap, subst, arith, Option, Some, None}
-use Rattle.std.specs.List.{All}
-use Rattle.std.specs.List.Sorted.{IsStrictlyIncreasing}
 use Rattle.std.proofs.lemmas.Bool.{and_parts, and_from, eqb-true, eq-eqb, ltb-true, ltb-false, lt-ltb, le-ltb, not-true, not_from_false}
 use Rattle.std.proofs.lemmas.List.Elements.{All-nil, All-cons, All-head, All-tail, All-weaker}
+use Rattle.std.specs.{List.All, List.Sorted.IsStrictlyIncreasing}
 use Rattle.mt_rows.specs.declared.record.Record.{Record}
-use Rattle.mt_log.specs.declared.batch.LogBatch.{LogBatch}
-use Rattle.mt_log.specs.declared.batch.LogBatch.TheVariants.{Records, Resume}
+use Rattle.mt_log.specs.{declared.batch.LogBatch.LogBatch, declared.batch.LogBatch.TheVariants.{Records, Resume}}
 use Rattle.mt_log.specs.Contents.{Contents, Rises, Join, JoinsAndRises, from_of, to_of}
 use Rattle.mt_log.proofs.Tests.{stamps, Within, suc_more, rising_more, first_within}
-use Rattle.mt_recover.specs.Falls.{first_of, fall_in, goes_on, stamp_fall, fall_behind, fall_of}
-use Rattle.mt_recover.proofs.FallLemmas.{none_first, tested}
+use Rattle.mt_recover.{specs.Falls.{first_of, fall_in, goes_on, stamp_fall, fall_behind, fall_of}, proofs.FallLemmas.{none_first, tested}}
 
 -- ---- records in order
 

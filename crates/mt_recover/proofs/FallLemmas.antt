@@ -1,13 +1,10 @@
 -- A log in which nothing falls rises: for `first_twice`, and the law that nothing falls just where logs join and rise.
 use Rattle.std.proofs.Common.{◌≡◌, inl, inr, ◌∙◌, ap, ℕ, ◌≤◌, Bool, true, false, cond, List, [], ◌∷◌, ◌++◌, refl, sym, arith, Option, Some, None}
-use Rattle.std.specs.List.{flat_map}
 use Rattle.std.proofs.lemmas.Bool.{and_parts, eqb-true, ltb-true, ltb-false, not-true}
+use Rattle.std.specs.List.{flat_map}
 use Rattle.mt_rows.specs.declared.record.Record.{Record}
-use Rattle.mt_log.specs.declared.batch.LogBatch.{LogBatch}
-use Rattle.mt_log.specs.declared.batch.LogBatch.TheVariants.{Records, Resume}
-use Rattle.mt_log.specs.Contents.{Contents}
-use Rattle.mt_crashes.specs.Fronts.{In, Rise, records_in, records_of}
-use Rattle.mt_crashes.proofs.Members.{no_some}
+use Rattle.mt_log.specs.{declared.batch.LogBatch.LogBatch, declared.batch.LogBatch.TheVariants.{Records, Resume}, Contents.Contents}
+use Rattle.mt_crashes.{specs.Fronts.{In, Rise, records_in, records_of}, proofs.Members.no_some}
 use Rattle.mt_recover.specs.Falls.{first_of, fall_in, fall_behind, fall_of, with_worker, first_fall}
 
 -- neither of two is there where the first that is there is none

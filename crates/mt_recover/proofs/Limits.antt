@@ -1,35 +1,22 @@
 -- What is recovered of logs and checkpoints in the format keeps the limits of keys, rows and steps: for `recover`.
 use Rattle.std.proofs.Common.{◌≡◌, ◌⊎◌, ℕ, zero, suc, ◌≤◌, ◌^◌, Bool, true, false, cond, List, [], ◌∷◌, map, get_or, Option, Some, None, refl, sym, ap, subst, ◌∙◌, arith, inl, inr, ⊎_elim}
-use Rattle.std.specs.Prelude.{slice_get}
-use Rattle.std.specs.Option.{option_map}
-use Rattle.std.specs.List.{All, AllByRecursion}
-use Rattle.std.specs.List.Sorted.{IsStrictlySortedBy}
-use Rattle.std.specs.FinMap.{get, empty, find, get-empty, get-from_entries}
-use Rattle.std.specs.Ordering.{eq_by_cmp, is_eq}
-use Rattle.std.specs.declared.cmp.Ordering.TheVariants.{Less}
-use Rattle.std.proofs.lemmas.List.Elements.{recursion_from_All}
-use Rattle.std.proofs.lemmas.Option.{same_Some, none-some, slice_get-get_or}
-use Rattle.mt_rows.specs.Rows.{Bytes, Columns, IsRow}
-use Rattle.mt_rows.specs.Tenants.{Contents as Pairs, owned_cmp}
-use Rattle.mt_rows.specs.TenantPairs.{owner_of, entry_of, pairs_of, IsTenantPair, AreDistinct}
-use Rattle.mt_rows.specs.Commands.{IsKey}
-use Rattle.mt_rows.specs.declared.record.TenantPair.{TenantPair}
+use Rattle.std.proofs.{lemmas.List.Elements.recursion_from_All, lemmas.Option.{same_Some, none-some, slice_get-get_or}}
+use Rattle.std.specs.{Prelude.slice_get, Option.option_map, List.{All, AllByRecursion}, List.Sorted.IsStrictlySortedBy}
+use Rattle.std.specs.{FinMap.{get, empty, find, get-empty, get-from_entries}, Ordering.{eq_by_cmp, is_eq}, declared.cmp.Ordering.TheVariants.Less}
+use Rattle.mt_rows.specs.{Rows.{Bytes, Columns, IsRow}, Tenants.{Contents as Pairs, owned_cmp}}
+use Rattle.mt_rows.specs.{TenantPairs.{owner_of, entry_of, pairs_of, IsTenantPair, AreDistinct}, Commands.IsKey, declared.record.TenantPair.TenantPair}
 use Rattle.mt_rows.specs.declared.record.Record.{Record}
 use Rattle.mt_rows.proofs.ContentLaws.{owned_total, same_owner, other_owner, tied_owner}
 use Rattle.mt_batches.specs.Batches.{IsRecord, IsRowOrNone}
-use Rattle.mt_checkpoint.specs.declared.checkpoint.Checkpoint.{Checkpoint}
-use Rattle.mt_checkpoint.specs.Checkpoints.{IsPair, IsWalk, walk_of}
-use Rattle.mt_log.specs.declared.batch.LogBatch.{LogBatch}
-use Rattle.mt_log.specs.declared.batch.LogBatch.TheVariants.{Records, Resume}
+use Rattle.mt_checkpoint.specs.{declared.checkpoint.Checkpoint.Checkpoint, Checkpoints.{IsPair, IsWalk, walk_of}}
+use Rattle.mt_log.specs.{declared.batch.LogBatch.LogBatch, declared.batch.LogBatch.TheVariants.{Records, Resume}}
 use Rattle.mt_log.specs.Contents.{Contents, IsLogBatch, to_of, end_of, mark_of}
 use Rattle.mt_tape.proofs.RowLaws.{get-with_row}
 use Rattle.mt_crashes.specs.Bases.{CheckpointView, Slots}
 use Rattle.mt_crashes.specs.Fronts.{In, greatest, last_end, all_voids, cutoff_of, is_replayed, records_in, records_of, all_records, key_of, with_change, after_changes}
 use Rattle.mt_crashes.specs.Recoveries.{HasSlot, IsBaseOf, checkpoint_ends, resume_of, IsRecovered}
-use Rattle.mt_crashes.proofs.Members.{in_filter, in_flat_map, map_in, all_at, permuted_in}
-use Rattle.mt_crashes.proofs.FrontLaws.{greatest_below}
-use Rattle.mt_recover.specs.Pairs.{Ascend, view_of}
-use Rattle.mt_recover.specs.Limits.{IsReadSlot, AreContents}
+use Rattle.mt_crashes.proofs.{Members.{in_filter, in_flat_map, map_in, all_at, permuted_in}, FrontLaws.greatest_below}
+use Rattle.mt_recover.specs.{Pairs.{Ascend, view_of}, Limits.{IsReadSlot, AreContents}}
 
 -- ---- keys that ascend
 

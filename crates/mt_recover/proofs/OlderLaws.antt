@@ -1,19 +1,12 @@
 -- Logs of which one is older are refused for that alone: for the laws.
 use Rattle.std.proofs.Common.{◌≡◌, inl, inr, ℕ, ◌<◌, List, refl, sym, ◌∙◌, subst, arith, Option, None}
 use Rattle.mt_rows.specs.declared.refusal.Refusal.{Refusal}
-use Rattle.mt_rows.specs.declared.refusal.Refusal.TheVariants as refusals
 use Rattle.mt_log.specs.Contents.{Contents, mark_of}
-use Rattle.mt_crashes.specs.Fronts.{In, HoldResume, ServedFrom, IsLastServed}
-use Rattle.mt_crashes.specs.Bases.{Slots}
-use Rattle.mt_crashes.specs.Recoveries.{AreSet, NoneOlder}
-use Rattle.mt_crashes.proofs.Members.{no_some}
-use Rattle.mt_recover.specs.Examples.{fronts_with_copy, fronts_with_new, fronts_with_ended, fronts_resumed_twice}
-use Rattle.mt_recover.specs.Falls.{first_fall}
-use Rattle.mt_recover.specs.Older.{IsFirstOlder}
+use Rattle.mt_crashes.{specs.{Fronts.{In, HoldResume, ServedFrom, IsLastServed}, Bases.Slots, Recoveries.{AreSet, NoneOlder}}, proofs.Members.no_some}
+use Rattle.mt_recover.specs.{Examples.{fronts_with_copy, fronts_with_new, fronts_with_ended, fronts_resumed_twice}, Falls.first_fall, Older.IsFirstOlder}
 use Rattle.mt_recover.specs.Refusals.{AreSound, Falls, IsRefusal}
-use Rattle.mt_recover.proofs.OlderLemmas.{none_over, one_is_older, not_both, reaches_served}
-use Rattle.mt_recover.proofs.FallLaws.{joins_and_rises}
-use Rattle.mt_recover.proofs.FallLemmas.{front_falls_not}
+use Rattle.mt_recover.proofs.{OlderLemmas.{none_over, one_is_older, not_both, reaches_served}, FallLaws.joins_and_rises, FallLemmas.front_falls_not}
+use Rattle.mt_rows.specs.declared.refusal.Refusal.TheVariants as refusals
 
 pub not_sound : (n : ℕ) (fronts : List Contents) (g : Contents) → 0 < n → IsLastServed fronts n → In g fronts → ¬ HoldResume n g.batches → ¬ AreSound fronts
 not_sound n fronts g over last in_g lacks sound = lacks (sound.level n g over last in_g)

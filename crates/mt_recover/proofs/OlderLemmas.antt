@@ -1,15 +1,9 @@
 -- The last number from which a store has served, and the least worker whose log has no resume batch up to it: for `first_older`.
 use Rattle.std.proofs.Common.{◌≡◌, ◌⊎◌, inl, inr, ⊎_elim, ℕ, ◌<◌, ◌≤◌, min, max, Bool, true, false, cond, ltb, List, [], ◌∷◌, map, refl, sym, ◌∙◌, ap, subst, arith, Option, Some, None}
-use Rattle.std.proofs.lemmas.Bool.{ltb-true, ltb-false, eqb-true, eq-eqb, or_left, or_right, or_cases, true≢false}
-use Rattle.std.proofs.lemmas.Option.{same_Some}
-use Rattle.mt_log.specs.declared.batch.LogBatch.{LogBatch}
-use Rattle.mt_log.specs.declared.batch.LogBatch.TheVariants.{Records, Resume}
-use Rattle.mt_log.specs.Contents.{Contents, JoinsAndRises, mark_of}
-use Rattle.mt_crashes.specs.Fronts.{In, HoldResume, HoldRecords, RecordsFollow, ServedFrom, AnyServed, IsLastServed}
-use Rattle.mt_crashes.specs.Recoveries.{NoneOlder}
-use Rattle.mt_crashes.proofs.Members.{in_map, map_in, no_some}
-use Rattle.mt_crashes.proofs.FrontLaws.{below_greatest, greatest_in}
-use Rattle.mt_crashes.proofs.Invariant.{resume_upto_mark}
+use Rattle.std.proofs.{lemmas.Bool.{ltb-true, ltb-false, eqb-true, eq-eqb, or_left, or_right, or_cases, true≢false}, lemmas.Option.same_Some}
+use Rattle.mt_log.specs.{declared.batch.LogBatch.LogBatch, declared.batch.LogBatch.TheVariants.{Records, Resume}, Contents.{Contents, JoinsAndRises, mark_of}}
+use Rattle.mt_crashes.specs.{Fronts.{In, HoldResume, HoldRecords, RecordsFollow, ServedFrom, AnyServed, IsLastServed}, Recoveries.NoneOlder}
+use Rattle.mt_crashes.proofs.{Members.{in_map, map_in, no_some}, FrontLaws.{below_greatest, greatest_in}, Invariant.resume_upto_mark}
 use Rattle.mt_recover.specs.Older.{IsFirstOlder, served_in, last_served, holds_resume, lower, least_without}
 
 -- ---- the last number

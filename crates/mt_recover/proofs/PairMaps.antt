@@ -1,18 +1,12 @@
 -- What the code's map of all pairs is, when a pair is put in or taken out.
 use Rattle.std.proofs.Common.{◌≡◌, cond, List, [], ◌∷◌, ◌++◌, map, refl, sym, ◌∙◌, ap, ℕ, Option, Some, None}
-use Rattle.std.specs.Map.{lookup}
-use Rattle.std.specs.Ordering.{eq_by_cmp}
-use Rattle.std.specs.BTreeMap.{is_at}
-use Rattle.std.specs.Cmp.{eq_by_cmp_equiv}
+use Rattle.std.specs.{Map.lookup, Ordering.eq_by_cmp, BTreeMap.is_at, Cmp.eq_by_cmp_equiv}
 use Rattle.std.specs.FinMap.{find, get, from_entries, get-from_entries, get-insert, get-remove}
-use Rattle.mt_rows.specs.Rows.{Bytes, Columns}
-use Rattle.mt_rows.specs.Tenants.{owned_cmp, Contents}
-use Rattle.mt_rows.specs.declared.record.Record.{Record}
+use Rattle.mt_rows.specs.{Rows.{Bytes, Columns}, Tenants.{owned_cmp, Contents}, declared.record.Record.Record, declared.record.TenantPair.TenantPair}
+use Rattle.mt_rows.specs.TenantPairs.{owner_of, entry_of}
 use Rattle.mt_rows.proofs.ContentLaws.{owned_total, same_contents}
-use Rattle.mt_rows.specs.declared.record.TenantPair.{TenantPair}
 use Rattle.mt_tape.specs.Histories.{with_row}
 use Rattle.mt_crashes.specs.Fronts.{after_changes}
-use Rattle.mt_rows.specs.TenantPairs.{owner_of, entry_of}
 
 abbrev pub Owner : Type 0
 Owner = ℕ × Bytes

@@ -1,30 +1,17 @@
 -- What the tests of tenants and quotas find in ascending pairs, said of their map: for `check_pairs`.
 use Rattle.std.proofs.Common.{◌≡◌, ◌≢◌, ℕ, ◌+◌, ◌<◌, ◌≤◌, Bool, true, false, cond, eqb, T, ◌&&◌, List, [], ◌∷◌, map, length, Option, Some, None, refl, sym, ◌∙◌, ap, subst, arith}
-use Rattle.std.specs.Prelude.{is_some}
-use Rattle.std.specs.List.{filter, AllByRecursion}
-use Rattle.std.specs.List.Sorted.{IsStrictlySortedBy}
-use Rattle.std.specs.declared.cmp.Ordering.{Ordering}
-use Rattle.std.specs.declared.cmp.Ordering.TheVariants.{Less, Equal, Greater}
-use Rattle.std.specs.Ordering.{nat_cmp, eq_by_cmp, is_lt, ordering_then}
-use Rattle.std.specs.Cmp.{IsTotalOrder}
+use Rattle.std.proofs.{lemmas.Bool.{true≢false, eqb-true, eqb-false, eq-eqb, ne_eqb, ltb-true, ltb-false}, lemmas.Bool.Decides.nat_tests}
+use Rattle.std.proofs.lemmas.Option.{same_Some}
+use Rattle.std.specs.{Prelude.is_some, List.{filter, AllByRecursion}, List.Sorted.IsStrictlySortedBy, declared.cmp.Ordering.Ordering}
+use Rattle.std.specs.{declared.cmp.Ordering.TheVariants.{Less, Equal, Greater}, Ordering.{nat_cmp, eq_by_cmp, is_lt, ordering_then}, Cmp.IsTotalOrder}
 use Rattle.std.specs.Cmp.Lexicographic.{slice_cmp}
 use Rattle.std.specs.FinMap.{get, entries, from_entries, from_sorted, find, is_sorted, len, same_map, get-from_entries, get-from_sorted, entries-from_sorted, len-entries, IsAntisymmetric}
 use Rattle.std.specs.FinMap.Entries.{below_all}
-use Rattle.std.proofs.lemmas.Bool.{true≢false, eqb-true, eqb-false, eq-eqb, ne_eqb, ltb-true, ltb-false}
-use Rattle.std.proofs.lemmas.Bool.Decides.{nat_tests}
-use Rattle.std.proofs.lemmas.Option.{same_Some}
-use Rattle.mt_rows.specs.Rows.{Bytes, Columns}
-use Rattle.mt_rows.specs.Tenants.{owned_cmp, tenant_map}
-use Rattle.mt_rows.specs.declared.record.TenantPair.{TenantPair}
-use Rattle.mt_rows.proofs.CommandLaws.{keys_total, keys_exact}
-use Rattle.mt_rows.proofs.ContentLaws.{owned_total, owned_exact, same_owner, tied_owner}
-use Rattle.mt_rows.specs.TenantPairs.{HasTenants, KeepsQuotas}
+use Rattle.mt_rows.specs.{Rows.{Bytes, Columns}, Tenants.{owned_cmp, tenant_map}, declared.record.TenantPair.TenantPair}
+use Rattle.mt_rows.specs.TenantPairs.{HasTenants, KeepsQuotas, owner_of, entry_of, pairs_of}
+use Rattle.mt_rows.proofs.{CommandLaws.{keys_total, keys_exact}, ContentLaws.{owned_total, owned_exact, same_owner, tied_owner}}
 use Rattle.mt_crashes.proofs.Members.{no_some}
-use Rattle.mt_recover.specs.Pairs.{Ascend}
-use Rattle.mt_rows.specs.TenantPairs.{owner_of, entry_of, pairs_of}
-use Rattle.mt_recover.specs.Orders.{DontFall}
-use Rattle.mt_recover.specs.Quotas.{first_unknown, has_room, over_behind, first_over}
-use Rattle.mt_recover.specs.Refusals.{IsFirstUnknown, IsFirstOver}
+use Rattle.mt_recover.specs.{Pairs.Ascend, Orders.DontFall, Quotas.{first_unknown, has_room, over_behind, first_over}, Refusals.{IsFirstUnknown, IsFirstOver}}
 use Rattle.mt_recover.proofs.PairMaps.{Owner, Entry}
 
 -- ---- tenants

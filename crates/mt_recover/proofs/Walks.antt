@@ -1,20 +1,12 @@
 -- A walk over ranges of void numbers, and what is live of records in the order of their stamps.
 use Rattle.std.proofs.Common.{◌≡◌, ℕ, zero, suc, ◌<◌, ◌≤◌, Bool, true, false, not, ◌&&◌, ◌||◌, cond, nat_lt, leb, List, [], ◌∷◌, ◌++◌, length, get_or, drop, refl, sym, ◌∙◌, ap, subst, arith, IsPermutation}
-use Rattle.std.specs.List.{filter}
-use Rattle.std.proofs.lemmas.Bool.{le-ltb}
-use Rattle.std.proofs.lemmas.Bool.Decides.{nat_tests}
-use Rattle.std.proofs.lemmas.List.{append-nil}
-use Rattle.std.proofs.lemmas.List.Elements.{filter-append}
+use Rattle.std.proofs.{lemmas.Bool.le-ltb, lemmas.Bool.Decides.nat_tests, lemmas.List.append-nil, lemmas.List.Elements.filter-append}
 use Rattle.std.proofs.lemmas.List.Sorted.{list_any-IsPermutation}
-use Rattle.mt_rows.specs.declared.record.Record.{Record}
-use Rattle.mt_rows.specs.Tenants.{Contents as Pairs}
-use Rattle.mt_crashes.specs.Fronts.{Numbers, is_void, is_replayed, with_change, after_changes}
-use Rattle.mt_crashes.proofs.Members.{filter_filter, filter_same}
-use Rattle.mt_recover.specs.Orders.{DontFall}
-use Rattle.mt_recover.specs.Replays.{is_reached, is_live, is_void_behind, AgreeFrom}
-use Rattle.mt_recover.specs.declared.voids.Walk.{Walk}
-use Rattle.mt_recover.proofs.Orders.{lower, filter_moved}
-use Rattle.mt_recover.proofs.PairMaps.{after_push}
+use Rattle.std.specs.List.{filter}
+use Rattle.mt_rows.specs.{declared.record.Record.Record, Tenants.{Contents as Pairs}}
+use Rattle.mt_crashes.{specs.Fronts.{Numbers, is_void, is_replayed, with_change, after_changes}, proofs.Members.{filter_filter, filter_same}}
+use Rattle.mt_recover.specs.{Orders.DontFall, Replays.{is_reached, is_live, is_void_behind, AgreeFrom}, declared.voids.Walk.Walk}
+use Rattle.mt_recover.proofs.{Orders.{lower, filter_moved}, PairMaps.after_push}
 
 abbrev first : Numbers → ℕ
 first v = v.0

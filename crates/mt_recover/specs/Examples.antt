@@ -1,8 +1,6 @@
 -- Two logs of a store that was recovered once, one of which is older than the other; and two that were resumed twice.
 use Rattle.std.specs.Prelude.{List, [], ◌∷◌}
-use Rattle.mt_log.specs.declared.batch.LogBatch.{LogBatch}
-use Rattle.mt_log.specs.declared.batch.LogBatch.TheVariants.{Records, Resume}
-use Rattle.mt_log.specs.Contents.{Contents}
+use Rattle.mt_log.specs.{declared.batch.LogBatch.LogBatch, declared.batch.LogBatch.TheVariants.{Records, Resume}, Contents.Contents}
 use Rattle.mt_crashes.specs.Examples.{change, batch}
 
 -- The first log ended at 2 when the store was recovered, and the second at 1. The store went on from 2, and the first log has a record since. The

@@ -1,9 +1,7 @@
 -- What a recovery finds wrong in a single log: its first number that falls.
 use Rattle.std.specs.Prelude.{ℕ, ◌==◌, Bool, not, ◌&&◌, nat_lt, List, [], ◌∷◌, Option, Some, None, if◌then◌else◌}
 use Rattle.mt_rows.specs.declared.record.Record.{Record}
-use Rattle.mt_log.specs.declared.batch.LogBatch.{LogBatch}
-use Rattle.mt_log.specs.declared.batch.LogBatch.TheVariants.{Records, Resume}
-use Rattle.mt_log.specs.Contents.{Contents, from_of, to_of}
+use Rattle.mt_log.specs.{declared.batch.LogBatch.LogBatch, declared.batch.LogBatch.TheVariants.{Records, Resume}, Contents.{Contents, from_of, to_of}}
 
 -- the first of two, if it is there, else the second
 abbrev pub first_of : {X : Type 0} → Option X → Option X → Option X

@@ -1,7 +1,6 @@
 -- Logs and checkpoints in the format, whose limits a recovery keeps.
 use Rattle.std.specs.Prelude.{List, Option, Some, None}
-use Rattle.mt_checkpoint.specs.declared.checkpoint.Checkpoint.{Checkpoint}
-use Rattle.mt_checkpoint.specs.Checkpoints.{IsWalk, walk_of}
+use Rattle.mt_checkpoint.specs.{declared.checkpoint.Checkpoint.Checkpoint, Checkpoints.{IsWalk, walk_of}}
 use Rattle.mt_log.specs.Contents.{Contents, IsContents}
 use Rattle.mt_crashes.specs.Fronts.{In}
 

@@ -1,9 +1,6 @@
 -- Logs that are older than the others: which one is told, and with which number.
-use Rattle.std.specs.Prelude.{◌≡◌, ℕ, ◌<◌, ◌≤◌, ◌==◌, min, max, Bool, false, List, [], ◌∷◌, map, Option, Some, None, if◌then◌else◌}
-use Rattle.std.specs.List.{list_any}
-use Rattle.mt_log.specs.declared.batch.LogBatch.{LogBatch}
-use Rattle.mt_log.specs.declared.batch.LogBatch.TheVariants.{Records, Resume}
-use Rattle.mt_log.specs.Contents.{Contents}
+use Rattle.std.specs.{Prelude.{◌≡◌, ℕ, ◌<◌, ◌≤◌, ◌==◌, min, max, Bool, false, List, [], ◌∷◌, map, Option, Some, None, if◌then◌else◌}, List.list_any}
+use Rattle.mt_log.specs.{declared.batch.LogBatch.LogBatch, declared.batch.LogBatch.TheVariants.{Records, Resume}, Contents.Contents}
 use Rattle.mt_crashes.specs.Fronts.{In, greatest, HoldResume, IsLastServed}
 
 -- the last number from which the store has served, as any log tells, and the least worker whose log has no resume batch up to it

@@ -1,14 +1,10 @@
 -- Pairs as lists and maps of the code: what a checkpoint holds, and what a recovery gives.
-use Rattle.std.specs.Prelude.{ℕ, List, map}
-use Rattle.std.specs.BTreeMap.{BTreeMap}
-use Rattle.std.specs.List.Sorted.{IsStrictlySortedBy}
-use Rattle.std.specs.FinMap as pairs
-use Rattle.mt_rows.specs.Rows.{Bytes, Columns}
-use Rattle.mt_rows.specs.Tenants.{Contents as Pairs, owned_cmp}
-use Rattle.mt_rows.specs.TenantPairs.{owner_of, pairs_of}
+use Rattle.std.specs.{Prelude.{ℕ, List, map}, BTreeMap.BTreeMap, List.Sorted.IsStrictlySortedBy}
+use Rattle.mt_rows.specs.{Rows.{Bytes, Columns}, Tenants.{Contents as Pairs, owned_cmp}, TenantPairs.{owner_of, pairs_of}}
 use Rattle.mt_rows.specs.declared.record.TenantPair.{TenantPair}
 use Rattle.mt_crashes.specs.Bases.{CheckpointView}
 use Rattle.mt_checkpoint.specs.declared.checkpoint.Checkpoint.{Checkpoint}
+use Rattle.std.specs.FinMap as pairs
 
 -- by tenant, and then by key: they rise strictly
 abbrev pub Ascend : List TenantPair → Type 0

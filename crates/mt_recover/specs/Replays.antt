@@ -1,13 +1,9 @@
 -- The steps to what is replayed: which records a recovery reaches, and one walk over the ranges of void numbers for all of these.
-use Rattle.std.specs.Prelude.{◌≡◌, ℕ, ◌≤◌, Bool, not, ◌&&◌, ◌||◌, nat_lt, List, drop}
-use Rattle.std.specs.List.{filter}
-use Rattle.std.specs.List.Sorted.{IsPermutation}
-use Rattle.mt_rows.specs.Tenants.{Contents as Pairs}
-use Rattle.mt_rows.specs.declared.record.Record.{Record}
+use Rattle.std.specs.{Prelude.{◌≡◌, ℕ, ◌≤◌, Bool, not, ◌&&◌, ◌||◌, nat_lt, List, drop}, List.filter, List.Sorted.IsPermutation}
+use Rattle.mt_rows.specs.{Tenants.{Contents as Pairs}, declared.record.Record.Record}
 use Rattle.mt_log.specs.Contents.{Contents}
-use Rattle.mt_recover.specs.Orders.{DontFall}
+use Rattle.mt_recover.specs.{Orders.DontFall, declared.voids.Walk.Walk}
 use Rattle.mt_crashes.specs.Fronts.{Numbers, is_void, is_replayed, all_records, after_changes}
-use Rattle.mt_recover.specs.declared.voids.Walk.{Walk}
 
 -- whether a record's stamp is over the base and at most the cutoff
 abbrev pub is_reached : ℕ → ℕ → Record → Bool

@@ -1,13 +1,10 @@
 //! The records that a recovery replays.
 
-ghost use Rattle.std.specs.Prelude.{◌≡◌, ◌++◌, map, if◌then◌else◌, IfOk, OnOk, IsPermutation};
-ghost use Rattle.std.specs.List.{filter};
+ghost use Rattle.std.specs.{Prelude.{◌≡◌, ◌++◌, map, if◌then◌else◌, IfOk, OnOk, IsPermutation}, List.filter};
 ghost use Rattle.mt_log.specs.Contents.{contents_of};
 ghost use Rattle.mt_crashes.specs.Fronts.{Numbers, records_in, records_of, all_records, with_change, after_changes};
 ghost use Rattle.mt_rows.specs.declared.record.Record.{Record as AnyRecord};
-ghost use Rattle.mt_recover.specs.Orders.{DontFall};
-ghost use Rattle.mt_recover.specs.Pairs.{pairs_in};
-ghost use Rattle.mt_recover.specs.Replays.{is_reached, is_live, is_void_behind, AgreeFrom, HasReplayed};
+ghost use Rattle.mt_recover.specs.{Orders.DontFall, Pairs.pairs_in, Replays.{is_reached, is_live, is_void_behind, AgreeFrom, HasReplayed}};
 
 use crate::pairs::{PairMap, make};
 use crate::voids::{Walk, by_first, is_next_void};

@@ -3,11 +3,8 @@
 ghost use Rattle.std.specs.Prelude.{◌≡◌, ◌++◌, map, Option, None, IfOk, OnOk, MatchOption, IsPermutation};
 ghost use Rattle.mt_rows.specs.declared.record.Record.{Record as AnyRecord};
 ghost use Rattle.mt_log.specs.Contents.{contents_of};
-ghost use Rattle.mt_crashes.specs.Fronts.{records_in};
-ghost use Rattle.mt_crashes.specs.Recoveries.{AreSet};
-ghost use Rattle.mt_recover.specs.Falls.{first_fall};
-ghost use Rattle.mt_recover.specs.Orders.{DontFall};
-ghost use Rattle.mt_recover.specs.Twice.{AreApart, IsFirstTwice, Stamp, stamps_of, all_stamps, first_twice, highest_of};
+ghost use Rattle.mt_crashes.specs.{Fronts.records_in, Recoveries.AreSet};
+ghost use Rattle.mt_recover.specs.{Falls.first_fall, Orders.DontFall, Twice.{AreApart, IsFirstTwice, Stamp, stamps_of, all_stamps, first_twice, highest_of}};
 
 use mt_log::{Front, LogBatch};
 use mt_rows::Record;

@@ -1,31 +1,15 @@
 -- What is kept once the root of the layer below is held, and once the layer was taken out: for `clean_layer`.
-use Rattle.std.proofs.Common.{◌≡◌, ◌≢◌, ◌⊎◌, ℕ, ◌<◌, length, set, Some, None, false, refl, sym, ap, subst, ◌∙◌, inl, inr, arith}
-use Rattle.std.proofs.lemmas.Bool.{cases_eq}
-use Rattle.std.proofs.lemmas.Option.{same_Some}
-use Rattle.std.proofs.lemmas.List.{length-set, get_or-set_same, get_or-set_other}
+use Rattle.std.proofs.{Common.{◌≡◌, ◌≢◌, ◌⊎◌, ℕ, ◌<◌, length, set, Some, None, false, refl, sym, ap, subst, ◌∙◌, inl, inr, arith}, lemmas.Bool.cases_eq}
+use Rattle.std.proofs.{lemmas.Option.same_Some, lemmas.List.{length-set, get_or-set_same, get_or-set_other}}
 use Rattle.mt_rows.specs.Rows.{Bytes}
-use Rattle.mt_border.specs.Contents.{IsOfTree}
-use Rattle.mt_arena.specs.declared.tree.Tree.{Tree}
-use Rattle.mt_arena.specs.declared.tree.Standing.TheVariants.{Dead}
-use Rattle.mt_arena.specs.NodeView.{NodeView}
-use Rattle.mt_arena.specs.Settled.{IsSettled}
-use Rattle.mt_arena.proofs.Pairs.{there}
-use Rattle.mt_arena.proofs.Settled.{settled_free}
-use Rattle.mt_border.specs.declared.entry.Held.TheVariants.{Link}
-use Rattle.mt_arena.specs.Forests.{tree_at, no_tree}
-use Rattle.mt_arena.specs.Edits.{locked, retired, with_slots}
-use Rattle.mt_arena.specs.Layers.{slot_at}
-use Rattle.mt_border.specs.Entries.{without}
-use Rattle.mt_arena.specs.Arena.{ArenaView, IsArena}
-use Rattle.mt_arena.specs.Accesses.{at, IsOpen}
-use Rattle.mt_arena.specs.Removals.{without_layer}
-use Rattle.mt_operation.specs.declared.phase.Phase.{Phase}
-use Rattle.mt_operation.specs.declared.phase.Phase.TheVariants.{LockPrev, Unlock}
-use Rattle.mt_operation.specs.declared.walk.Walk.{Walk}
+use Rattle.mt_border.specs.{Contents.IsOfTree, declared.entry.Held.TheVariants.Link, Entries.without}
+use Rattle.mt_arena.specs.{declared.tree.Tree.Tree, declared.tree.Standing.TheVariants.Dead, NodeView.NodeView, Settled.IsSettled, Forests.{tree_at, no_tree}}
+use Rattle.mt_arena.specs.{Edits.{locked, retired, with_slots}, Layers.slot_at, Arena.{ArenaView, IsArena}, Accesses.{at, IsOpen}, Removals.without_layer}
+use Rattle.mt_arena.proofs.{Pairs.there, Settled.settled_free}
+use Rattle.mt_operation.specs.{declared.phase.Phase.Phase, declared.phase.Phase.TheVariants.{LockPrev, Unlock}, declared.walk.Walk.Walk}
 use Rattle.mt_operation.specs.declared.removal.Removal.{Removal}
-use Rattle.mt_held.specs.Holds.{MayReturn}
+use Rattle.mt_held.specs.{Holds.MayReturn, Moves.walk_at}
 use Rattle.mt_remove.specs.KeptRemovals.{HoldsRemoval, HoldsLink, IsEmptyChild, IsLowerRoot, IsRemoving, IsAtCleanLayer, KeptRemoval}
-use Rattle.mt_held.specs.Moves.{walk_at}
 use Rattle.mt_remove.specs.RemovalEdits.{with_lock, root_of}
 use Rattle.mt_remove.proofs.DroppingLayers.{tree_there, root_there, root_other, root_tree, root_apart, root_open, root_now, node_still, node_after, root_after, drop_size}
 

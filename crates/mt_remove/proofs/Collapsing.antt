@@ -1,26 +1,14 @@
 -- That a root with one child may be taken out, and what is kept then: for `collapse`.
-use Rattle.std.proofs.Common.{◌≡◌, ◌≢◌, ℕ, ◌<◌, List, length, set, Some, refl, sym, ap, subst, ◌∙◌, inl, inr, arith}
-use Rattle.std.proofs.lemmas.Bool.{cases_eq}
-use Rattle.std.proofs.lemmas.Option.{same_Some}
-use Rattle.std.proofs.lemmas.List.{length-set, get_or-set_same, get_or-set_other}
+use Rattle.std.proofs.{Common.{◌≡◌, ◌≢◌, ℕ, ◌<◌, List, length, set, Some, refl, sym, ap, subst, ◌∙◌, inl, inr, arith}, lemmas.Bool.cases_eq}
+use Rattle.std.proofs.{lemmas.Option.same_Some, lemmas.List.{length-set, get_or-set_same, get_or-set_other}}
 use Rattle.mt_rows.specs.Rows.{Bytes}
 use Rattle.mt_border.specs.Contents.{IsOfTree}
-use Rattle.mt_arena.specs.declared.tree.Tree.{Tree}
-use Rattle.mt_arena.specs.NodeView.{NodeView}
-use Rattle.mt_arena.specs.Settled.{IsSettled}
-use Rattle.mt_arena.specs.Forests.{tree_at, no_tree}
-use Rattle.mt_arena.specs.Edits.{retired}
-use Rattle.mt_arena.specs.Collapses.{crowned}
-use Rattle.mt_arena.specs.Removals.{MayCollapse, without_root}
-use Rattle.mt_arena.specs.Arena.{ArenaView, IsArena}
-use Rattle.mt_arena.specs.Accesses.{at, tree_of}
+use Rattle.mt_arena.specs.{declared.tree.Tree.Tree, NodeView.NodeView, Settled.IsSettled, Forests.{tree_at, no_tree}, Edits.retired, Collapses.crowned}
+use Rattle.mt_arena.specs.{Removals.{MayCollapse, without_root}, Arena.{ArenaView, IsArena}, Accesses.{at, tree_of}}
 use Rattle.mt_arena.proofs.Pairs.{here, there}
-use Rattle.mt_operation.specs.declared.phase.Phase.TheVariants.{Unlock}
-use Rattle.mt_operation.specs.declared.walk.Walk.{Walk}
-use Rattle.mt_operation.specs.declared.removal.Removal.{Removal}
-use Rattle.mt_held.specs.Holds.{MayReturn}
+use Rattle.mt_operation.specs.{declared.phase.Phase.TheVariants.Unlock, declared.walk.Walk.Walk, declared.removal.Removal.Removal}
+use Rattle.mt_held.specs.{Holds.MayReturn, Moves.walk_at}
 use Rattle.mt_remove.specs.KeptRemovals.{HoldsRemoval, IsLowerRoot, IsOurs, IsAtCollapse, KeptRemoval}
-use Rattle.mt_held.specs.Moves.{walk_at}
 
 module _ (v : ArenaView) (op step : ℕ) (key : Bytes) (w : Walk) (r : Removal) (arena : IsArena v.nodes v.trees) (kept : IsAtCollapse v op key w r) where
   abbrev k : ℕ

@@ -1,26 +1,12 @@
 -- What is kept of a removal that has taken its key's pair out: for `drop_key`.
-use Rattle.std.proofs.Common.{◌≡◌, ◌⊎◌, ℕ, sym, ap, ◌∙◌, inl, inr, arith}
-use Rattle.std.proofs.lemmas.List.{length-set}
-use Rattle.std.proofs.lemmas.Bool.{cases_eq}
+use Rattle.std.proofs.{Common.{◌≡◌, ◌⊎◌, ℕ, sym, ap, ◌∙◌, inl, inr, arith}, lemmas.List.length-set, lemmas.Bool.cases_eq}
 use Rattle.mt_rows.specs.Rows.{Bytes}
-use Rattle.mt_border.specs.declared.entry.Entry.{Entry}
-use Rattle.mt_border.specs.Entries.{without, place_in}
-use Rattle.mt_border.specs.Entry.{order_of}
-use Rattle.mt_border.proofs.Edits.{All-remove}
-use Rattle.mt_arena.specs.NodeView.{NodeView}
-use Rattle.mt_arena.specs.NodeFacts.{IsUnstable}
-use Rattle.mt_arena.specs.Layers.{slot_at}
-use Rattle.mt_arena.specs.Edits.{with_slots}
-use Rattle.mt_arena.specs.Arena.{ArenaView, IsArena}
-use Rattle.mt_arena.specs.Accesses.{at, with_node}
+use Rattle.mt_border.{specs.{declared.entry.Entry.Entry, Entries.{without, place_in}, Entry.order_of}, proofs.Edits.All-remove}
+use Rattle.mt_arena.specs.{NodeView.NodeView, NodeFacts.IsUnstable, Layers.slot_at, Edits.with_slots, Arena.{ArenaView, IsArena}, Accesses.{at, with_node}}
 use Rattle.mt_arena.proofs.Pairs.{here, there}
-use Rattle.mt_operation.specs.declared.phase.Phase.{Phase}
-use Rattle.mt_operation.specs.declared.phase.Phase.TheVariants.{LockPrev, Unlock}
-use Rattle.mt_operation.specs.declared.walk.Walk.{Walk}
+use Rattle.mt_operation.specs.{declared.phase.Phase.Phase, declared.phase.Phase.TheVariants.{LockPrev, Unlock}, declared.walk.Walk.Walk}
 use Rattle.mt_operation.specs.declared.removal.Removal.{Removal}
-use Rattle.mt_held.specs.Holds.{HoldsBorder, HoldsOnly, MayReturn}
-use Rattle.mt_held.specs.Moves.{walk_at}
-use Rattle.mt_held.proofs.Places.{unlock_with}
+use Rattle.mt_held.{specs.{Holds.{HoldsBorder, HoldsOnly, MayReturn}, Moves.walk_at}, proofs.Places.unlock_with}
 use Rattle.mt_remove.specs.KeptRemovals.{IsRemoving, IsEmptyChild, IsUnburdened, KeptRemoval}
 
 module _ (v : ArenaView) (op slot : ℕ) (key : Bytes) (w : Walk) (arena : IsArena v.nodes v.trees) (h : HoldsBorder v op key w) where

@@ -1,29 +1,14 @@
 -- That the layer to which a slot leads may be taken out once its empty root is held, and what is kept then: for `clean_layer`.
-use Rattle.std.proofs.Common.{◌≡◌, ◌≢◌, ℕ, ◌<◌, [], length, set, None, refl, sym, ap, subst, ◌∙◌, inl, inr, arith}
-use Rattle.std.proofs.lemmas.Bool.{cases_eq}
+use Rattle.std.proofs.{Common.{◌≡◌, ◌≢◌, ℕ, ◌<◌, [], length, set, None, refl, sym, ap, subst, ◌∙◌, inl, inr, arith}, lemmas.Bool.cases_eq}
 use Rattle.std.proofs.lemmas.List.{length-set}
-use Rattle.mt_border.specs.declared.entry.Held.TheVariants.{Link}
-use Rattle.mt_border.specs.Entries.{without}
-use Rattle.mt_arena.specs.declared.tree.Standing.TheVariants.{Dead}
-use Rattle.mt_arena.specs.NodeView.{NodeView}
-use Rattle.mt_arena.specs.Settled.{IsSettled}
-use Rattle.mt_arena.specs.Forests.{tree_at}
-use Rattle.mt_arena.specs.Layers.{slot_at, LeadsTo}
-use Rattle.mt_arena.specs.Edits.{locked, retired, with_slots}
-use Rattle.mt_arena.specs.Ways.{IsFreeRoot}
-use Rattle.mt_arena.specs.Removals.{MayDropLayer, without_layer}
-use Rattle.mt_arena.specs.Arena.{ArenaView, IsArena, Guarantee}
+use Rattle.mt_border.specs.{declared.entry.Held.TheVariants.Link, Entries.without}
+use Rattle.mt_arena.specs.{declared.tree.Standing.TheVariants.Dead, NodeView.NodeView, Settled.IsSettled, Forests.tree_at, Layers.{slot_at, LeadsTo}}
+use Rattle.mt_arena.specs.{Edits.{locked, retired, with_slots}, Ways.IsFreeRoot, Removals.{MayDropLayer, without_layer}, Arena.{ArenaView, IsArena, Guarantee}}
 use Rattle.mt_arena.specs.Accesses.{at, IsOpen}
-use Rattle.mt_arena.proofs.Pairs.{here, there}
-use Rattle.mt_arena.proofs.SettledEdits.{settled_locked}
-use Rattle.mt_arena.proofs.Alone.{alone}
-use Rattle.mt_arena.proofs.OneLink.{IsLinkTo, leads, differs}
-use Rattle.mt_arena.proofs.Guarantees.{guarantee_on}
+use Rattle.mt_arena.proofs.{Pairs.{here, there}, SettledEdits.settled_locked, Alone.alone, OneLink.{IsLinkTo, leads, differs}, Guarantees.guarantee_on}
 use Rattle.mt_arena.proofs.Naming.{points_on}
 use Rattle.mt_held.proofs.Returns.{settled_still, stays_whole, names_no_more}
-use Rattle.mt_remove.specs.KeptRemovals.{HoldsLink}
-use Rattle.mt_remove.specs.RemovalEdits.{with_lock, root_of}
-use Rattle.mt_remove.proofs.Held.{same_at, new_at}
+use Rattle.mt_remove.{specs.{KeptRemovals.HoldsLink, RemovalEdits.{with_lock, root_of}}, proofs.Held.{same_at, new_at}}
 
 -- a held link, and the root of the tree to which it leads
 module _ (v : ArenaView) (op node slot tree : ℕ) (arena : IsArena v.nodes v.trees) (h : HoldsLink v op node slot tree) where

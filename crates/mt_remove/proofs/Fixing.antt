@@ -1,27 +1,15 @@
 -- What is kept once the node behind names the left neighbour: for `fix_next`.
-use Rattle.std.proofs.Common.{◌≡◌, ◌≢◌, ℕ, ◌<◌, length, Option, Some, None, sym, ap, subst, ◌∙◌, inl, inr, arith}
-use Rattle.std.proofs.lemmas.Bool.{cases_eq}
-use Rattle.std.proofs.lemmas.Option.{same_Some}
-use Rattle.std.proofs.lemmas.List.{length-set}
+use Rattle.std.proofs.{Common.{◌≡◌, ◌≢◌, ℕ, ◌<◌, length, Option, Some, None, sym, ap, subst, ◌∙◌, inl, inr, arith}, lemmas.Bool.cases_eq}
+use Rattle.std.proofs.{lemmas.Option.same_Some, lemmas.List.length-set}
 use Rattle.mt_rows.specs.Rows.{Bytes}
 use Rattle.mt_interior.specs.Fences.{end_of}
-use Rattle.mt_arena.specs.NodeView.{NodeView}
-use Rattle.mt_arena.specs.Nodes.{HasChild, HasRange, IsNeighbour, seat_of}
-use Rattle.mt_arena.specs.Ranges.{Waits}
-use Rattle.mt_arena.specs.Lags.{IsFollowedBy}
-use Rattle.mt_arena.specs.Forests.{tree_at}
-use Rattle.mt_arena.specs.Edits.{pointed}
-use Rattle.mt_arena.specs.Arena.{ArenaView, IsArena}
-use Rattle.mt_arena.specs.Accesses.{at, IsOpen}
-use Rattle.mt_arena.proofs.Pairs.{here, there}
-use Rattle.mt_arena.proofs.Settling.{followed_again, followed_no_more, settled_aside, settled_alone, settled_followed}
-use Rattle.mt_operation.specs.declared.phase.Phase.{Phase}
-use Rattle.mt_operation.specs.declared.walk.Walk.{Walk}
-use Rattle.mt_operation.specs.declared.removal.Removal.{Removal}
-use Rattle.mt_remove.specs.KeptRemovals.{HoldsRemoval, IsLowerRoot, IsRemoving, HoldsAbove, IsOurs, IsAtFixNext, KeptRemoval}
-use Rattle.mt_held.specs.Moves.{walk_at, with_named_previous}
-use Rattle.mt_remove.specs.RemovalEdits.{for_rest}
+use Rattle.mt_arena.specs.{NodeView.NodeView, Nodes.{HasChild, HasRange, IsNeighbour, seat_of}, Ranges.Waits, Lags.IsFollowedBy, Forests.tree_at, Edits.pointed}
+use Rattle.mt_arena.specs.{Arena.{ArenaView, IsArena}, Accesses.{at, IsOpen}}
+use Rattle.mt_arena.proofs.{Pairs.{here, there}, Settling.{followed_again, followed_no_more, settled_aside, settled_alone, settled_followed}}
+use Rattle.mt_operation.specs.{declared.phase.Phase.Phase, declared.walk.Walk.Walk, declared.removal.Removal.Removal}
+use Rattle.mt_remove.specs.{KeptRemovals.{HoldsRemoval, IsLowerRoot, IsRemoving, HoldsAbove, IsOurs, IsAtFixNext, KeptRemoval}, RemovalEdits.for_rest}
 use Rattle.mt_remove.proofs.Resting.{rest_kept}
+use Rattle.mt_held.specs.Moves.{walk_at, with_named_previous}
 
 module _ (v : ArenaView) (op : ℕ) (key : Bytes) (w : Walk) (r : Removal) (arena : IsArena v.nodes v.trees) (kept : IsAtFixNext v op key w r) where
   abbrev k : ℕ

@@ -1,21 +1,12 @@
 -- What a removal keeps as it takes one more lock itself.
-use Rattle.std.proofs.Common.{◌≡◌, ◌≢◌, ℕ, ◌<◌, length, Some, None, sym, ap, subst, ◌∙◌, arith}
-use Rattle.std.proofs.lemmas.List.{length-set}
+use Rattle.std.proofs.{Common.{◌≡◌, ◌≢◌, ℕ, ◌<◌, length, Some, None, sym, ap, subst, ◌∙◌, arith}, lemmas.List.length-set}
 use Rattle.mt_rows.specs.Rows.{Bytes}
-use Rattle.mt_arena.specs.NodeView.{NodeView}
-use Rattle.mt_arena.specs.Edits.{locked}
-use Rattle.mt_arena.specs.Forests.{tree_at}
-use Rattle.mt_arena.specs.Arena.{ArenaView, IsArena}
-use Rattle.mt_arena.specs.Accesses.{at, IsHeld, IsOpen}
-use Rattle.mt_arena.proofs.Pairs.{here, there}
-use Rattle.mt_arena.proofs.SettledEdits.{settled_locked}
-use Rattle.mt_operation.specs.declared.walk.Walk.{Walk}
-use Rattle.mt_operation.specs.declared.removal.Removal.{Removal}
+use Rattle.mt_arena.specs.{NodeView.NodeView, Edits.locked, Forests.tree_at, Arena.{ArenaView, IsArena}, Accesses.{at, IsHeld, IsOpen}}
+use Rattle.mt_arena.proofs.{Pairs.{here, there}, SettledEdits.settled_locked}
+use Rattle.mt_operation.specs.{declared.walk.Walk.Walk, declared.removal.Removal.Removal}
 use Rattle.mt_descent.specs.KeptWalks.{GoesThrough}
-use Rattle.mt_held.specs.Holds.{MayReturn}
-use Rattle.mt_held.proofs.Returns.{NamesNoMoreOf, trees_same, stays_whole, returnable_still, names_no_more}
-use Rattle.mt_remove.specs.KeptRemovals.{IsOurs, IsLowerRoot, IsRemoving, HoldsEmpty, HoldsLeft}
-use Rattle.mt_remove.specs.RemovalEdits.{with_lock}
+use Rattle.mt_held.{specs.Holds.MayReturn, proofs.Returns.{NamesNoMoreOf, trees_same, stays_whole, returnable_still, names_no_more}}
+use Rattle.mt_remove.specs.{KeptRemovals.{IsOurs, IsLowerRoot, IsRemoving, HoldsEmpty, HoldsLeft}, RemovalEdits.with_lock}
 
 -- the lock of a node that nobody holds is taken
 module _ (v : ArenaView) (op m : ℕ) (arena : IsArena v.nodes v.trees) (within : m < length v.nodes) (free : (at v m).holder ≡ None) where

@@ -1,20 +1,12 @@
 -- What is kept of a removal that gives all its locks back, and goes on to a layer that it has left empty: for `unlock`.
-use Rattle.std.proofs.Common.{◌≡◌, ◌≢◌, ◌⊎◌, ℕ, ◌<◌, length, Option, Some, None, refl, sym, ap, subst, ◌∙◌, inl, inr, arith}
-use Rattle.std.proofs.lemmas.Bool.{cases_eq}
+use Rattle.std.proofs.{Common.{◌≡◌, ◌≢◌, ◌⊎◌, ℕ, ◌<◌, length, Option, Some, None, refl, sym, ap, subst, ◌∙◌, inl, inr, arith}, lemmas.Bool.cases_eq}
 use Rattle.std.proofs.lemmas.Option.{same_Some}
 use Rattle.mt_rows.specs.Rows.{Bytes}
 use Rattle.mt_border.specs.Contents.{IsOfTree}
-use Rattle.mt_arena.specs.NodeView.{NodeView}
-use Rattle.mt_arena.specs.Forests.{tree_at}
-use Rattle.mt_arena.specs.Arena.{ArenaView, IsArena}
-use Rattle.mt_arena.proofs.Down.{goes_on_top}
-use Rattle.mt_operation.specs.Operations.{no_removal}
-use Rattle.mt_operation.specs.declared.walk.Walk.{Walk}
-use Rattle.mt_operation.specs.declared.removal.Removal.{Removal}
-use Rattle.mt_descent.specs.KeptWalks.{IsAtEnter, HoldsNothing}
-use Rattle.mt_descent.specs.WalkMoves.{walk_into}
-use Rattle.mt_remove.specs.KeptRemovals.{IsAmong, HoldsRemoval, IsAtUnlockRemoval, IsCleaning}
-use Rattle.mt_remove.specs.RemovalEdits.{ReturnsRemoval}
+use Rattle.mt_arena.{specs.{NodeView.NodeView, Forests.tree_at, Arena.{ArenaView, IsArena}}, proofs.Down.goes_on_top}
+use Rattle.mt_operation.specs.{Operations.no_removal, declared.walk.Walk.Walk, declared.removal.Removal.Removal}
+use Rattle.mt_descent.specs.{KeptWalks.{IsAtEnter, HoldsNothing}, WalkMoves.walk_into}
+use Rattle.mt_remove.specs.{KeptRemovals.{IsAmong, HoldsRemoval, IsAtUnlockRemoval, IsCleaning}, RemovalEdits.ReturnsRemoval}
 
 -- whether it is this one can be told
 is_or_not : (x : Option ℕ) (k : ℕ) → (x ≡ Some k) ⊎ (x ≢ Some k)

@@ -2,16 +2,10 @@
 use Rattle.std.proofs.Common.{◌≡◌, ◌≢◌, ℕ, ◌<◌, length, IsSomeAnd, sym, ap, subst, ◌∙◌}
 use Rattle.mt_slices.specs.Slices.{suffix_of}
 use Rattle.mt_rows.specs.Rows.{Bytes}
-use Rattle.mt_border.specs.declared.entry.Held.{Held}
-use Rattle.mt_border.specs.declared.entry.Held.TheVariants.{Stable, Unstable, Link}
-use Rattle.mt_border.specs.declared.entry.Pair.{Pair}
-use Rattle.mt_border.specs.declared.entry.FoundKind.{FoundKind}
-use Rattle.mt_border.specs.declared.entry.FoundKind.TheVariants.{ThisKey, OtherLong, Link as ToTree}
+use Rattle.mt_border.specs.{declared.entry.Held.Held, declared.entry.Held.TheVariants.{Stable, Unstable, Link}, declared.entry.Pair.Pair}
+use Rattle.mt_border.specs.{declared.entry.FoundKind.FoundKind, declared.entry.FoundKind.TheVariants.{ThisKey, OtherLong, Link as ToTree}}
 use Rattle.mt_border.specs.Entry.{pair_of, IsLink}
-use Rattle.mt_arena.specs.Layers.{slot_at}
-use Rattle.mt_arena.specs.Arena.{ArenaView, IsArena}
-use Rattle.mt_arena.specs.Accesses.{at}
-use Rattle.mt_arena.proofs.Places.{same_slot}
+use Rattle.mt_arena.{specs.{Layers.slot_at, Arena.{ArenaView, IsArena}, Accesses.at}, proofs.Places.same_slot}
 use Rattle.mt_descent.specs.KeptWalks.{IsInSlot}
 use Rattle.mt_remove.specs.CleanLayer.{LeadsTo}
 

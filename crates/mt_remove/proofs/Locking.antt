@@ -1,23 +1,14 @@
 -- What is kept of a removal once its left neighbour is held: for `lock_prev`.
-use Rattle.std.proofs.Common.{◌≡◌, ◌≢◌, ℕ, ◌<◌, length, Some, None, refl, sym, ap, subst, ◌∙◌, inl, inr, arith}
-use Rattle.std.proofs.lemmas.Bool.{cases_eq}
+use Rattle.std.proofs.{Common.{◌≡◌, ◌≢◌, ℕ, ◌<◌, length, Some, None, refl, sym, ap, subst, ◌∙◌, inl, inr, arith}, lemmas.Bool.cases_eq}
 use Rattle.mt_rows.specs.Rows.{Bytes}
 use Rattle.mt_interior.specs.Fences.{end_of}
-use Rattle.mt_arena.specs.NodeView.{NodeView}
-use Rattle.mt_arena.specs.Nodes.{IsNeighbour, HasRange, seat_of}
-use Rattle.mt_arena.specs.Settled.{IsSettled}
-use Rattle.mt_arena.specs.Forests.{tree_at}
-use Rattle.mt_arena.specs.Edits.{locked}
-use Rattle.mt_arena.specs.Arena.{ArenaView, IsArena}
-use Rattle.mt_arena.specs.Accesses.{at, IsOpen}
+use Rattle.mt_arena.specs.{NodeView.NodeView, Nodes.{IsNeighbour, HasRange, seat_of}, Settled.IsSettled, Forests.tree_at, Edits.locked}
+use Rattle.mt_arena.specs.{Arena.{ArenaView, IsArena}, Accesses.{at, IsOpen}}
 use Rattle.mt_arena.proofs.Settled.{settled_free}
-use Rattle.mt_operation.specs.declared.phase.Phase.TheVariants.{LockAbove}
-use Rattle.mt_operation.specs.declared.walk.Walk.{Walk}
-use Rattle.mt_operation.specs.declared.removal.Removal.{Removal}
-use Rattle.mt_remove.specs.KeptRemovals.{HoldsRemoval, IsAtLockPrev, IsAtLockAbove}
-use Rattle.mt_held.specs.Moves.{walk_at}
-use Rattle.mt_remove.specs.RemovalEdits.{with_lock}
+use Rattle.mt_operation.specs.{declared.phase.Phase.TheVariants.LockAbove, declared.walk.Walk.Walk, declared.removal.Removal.Removal}
+use Rattle.mt_remove.specs.{KeptRemovals.{HoldsRemoval, IsAtLockPrev, IsAtLockAbove}, RemovalEdits.with_lock}
 use Rattle.mt_remove.proofs.Held.{new_at, return_new, removes_still, empty_still, held_before}
+use Rattle.mt_held.specs.Moves.{walk_at}
 
 -- the node before the empty one
 module _ (v : ArenaView) (op left : ℕ) (key : Bytes) (w : Walk) (r : Removal) (arena : IsArena v.nodes v.trees) (kept : IsAtLockPrev v op key w r) (before : (at v w.place.node).previous ≡ Some left) where

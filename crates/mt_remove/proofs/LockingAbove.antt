@@ -1,28 +1,15 @@
 -- What is kept of a removal once the parent of its empty node is held: for `lock_above`.
 use Rattle.std.proofs.Common.{◌≡◌, ◌≢◌, ◌⊎◌, ℕ, ◌-◌, ◌<◌, length, get_or, Option, Some, None, refl, sym, ap, subst, ◌∙◌, inl, inr, arith}
-use Rattle.std.proofs.lemmas.Bool.{cases_eq, cases_lt}
-use Rattle.std.proofs.lemmas.Option.{same_Some}
+use Rattle.std.proofs.{lemmas.Bool.{cases_eq, cases_lt}, lemmas.Option.same_Some}
 use Rattle.mt_rows.specs.Rows.{Bytes}
 use Rattle.mt_interior.specs.Places.{place_of}
-use Rattle.mt_arena.specs.NodeView.{NodeView}
-use Rattle.mt_arena.specs.Nodes.{HasChild, IsChild}
-use Rattle.mt_arena.specs.Settled.{IsSettled}
-use Rattle.mt_arena.specs.Forests.{tree_at}
-use Rattle.mt_arena.specs.Edits.{locked}
-use Rattle.mt_arena.specs.Arena.{ArenaView, IsArena}
-use Rattle.mt_arena.specs.Accesses.{at, IsOpen}
-use Rattle.mt_arena.specs.Removals.{AreBeside}
-use Rattle.mt_arena.proofs.Settled.{settled_free, not_true}
-use Rattle.mt_arena.proofs.ChildPlace.{child_place}
-use Rattle.mt_operation.specs.declared.phase.Phase.{Phase}
-use Rattle.mt_operation.specs.declared.phase.Phase.TheVariants.{Unlink, Unlock}
-use Rattle.mt_operation.specs.declared.walk.Walk.{Walk}
+use Rattle.mt_arena.specs.{NodeView.NodeView, Nodes.{HasChild, IsChild}, Settled.IsSettled, Forests.tree_at, Edits.locked, Arena.{ArenaView, IsArena}}
+use Rattle.mt_arena.specs.{Accesses.{at, IsOpen}, Removals.AreBeside}
+use Rattle.mt_arena.proofs.{Settled.{settled_free, not_true}, ChildPlace.child_place}
+use Rattle.mt_operation.specs.{declared.phase.Phase.Phase, declared.phase.Phase.TheVariants.{Unlink, Unlock}, declared.walk.Walk.Walk}
 use Rattle.mt_operation.specs.declared.removal.Removal.{Removal}
-use Rattle.mt_held.proofs.Returns.{child_below}
-use Rattle.mt_remove.specs.KeptRemovals.{HoldsRemoval, IsOurs, IsAtLockAbove, KeptRemoval}
-use Rattle.mt_held.specs.Moves.{walk_at}
-use Rattle.mt_remove.specs.RemovalEdits.{with_lock}
-use Rattle.mt_remove.specs.Unlinks.{IsChildBefore}
+use Rattle.mt_held.{proofs.Returns.child_below, specs.Moves.walk_at}
+use Rattle.mt_remove.specs.{KeptRemovals.{HoldsRemoval, IsOurs, IsAtLockAbove, KeptRemoval}, RemovalEdits.with_lock, Unlinks.IsChildBefore}
 use Rattle.mt_remove.proofs.Held.{same_at, new_at, return_new, removes_still, empty_still, left_still, held_before}
 
 -- what stands before a place can be told

@@ -1,22 +1,12 @@
 -- What a removal finds in the border node that it holds, and what it makes ready of that: for `judge`.
-use Rattle.std.proofs.Common.{◌≡◌, ℕ, List, Option, Some, None, IsSomeAnd, refl, sym, ap, ◌∙◌}
-use Rattle.std.specs.FinMap.{get}
+use Rattle.std.{proofs.Common.{◌≡◌, ℕ, List, Option, Some, None, IsSomeAnd, refl, sym, ap, ◌∙◌}, specs.FinMap.get}
 use Rattle.mt_slices.specs.Slices.{suffix_of}
 use Rattle.mt_rows.specs.Rows.{Bytes}
-use Rattle.mt_border.specs.declared.border.Border.{Border as BorderNode}
-use Rattle.mt_border.specs.declared.entry.Entry.{Entry}
-use Rattle.mt_border.specs.declared.entry.Pair.{Pair}
-use Rattle.mt_border.specs.declared.entry.FoundKind.TheVariants.{ThisKey, OtherLong}
-use Rattle.mt_border.specs.Entry.{pair_of}
-use Rattle.mt_border.specs.Node.{entry_at}
-use Rattle.mt_border.specs.Contents.{owned}
-use Rattle.mt_arena.specs.NodeView.{NodeView}
-use Rattle.mt_arena.specs.Layers.{slot_at}
-use Rattle.mt_arena.specs.Arena.{ArenaView, IsArena, content_of}
-use Rattle.mt_arena.specs.Accesses.{at}
+use Rattle.mt_border.specs.{declared.border.Border.{Border as BorderNode}, declared.entry.Entry.Entry, declared.entry.Pair.Pair}
+use Rattle.mt_border.specs.{declared.entry.FoundKind.TheVariants.{ThisKey, OtherLong}, Entry.pair_of, Node.entry_at, Contents.owned}
+use Rattle.mt_arena.specs.{NodeView.NodeView, Layers.slot_at, Arena.{ArenaView, IsArena, content_of}, Accesses.at}
 use Rattle.mt_operation.specs.declared.walk.Walk.{Walk}
-use Rattle.mt_descent.specs.KeptWalks.{IsInSlot}
-use Rattle.mt_descent.proofs.Looks.{no_other}
+use Rattle.mt_descent.{specs.KeptWalks.IsInSlot, proofs.Looks.no_other}
 use Rattle.mt_held.specs.Holds.{HoldsBorder}
 
 -- some pair is one

@@ -1,27 +1,15 @@
 -- What a removal keeps stays under each step of another operation, by what that step leaves to others alone: for the laws.
-use Rattle.std.proofs.Common.{◌≡◌, ◌≢◌, ℕ, ◌-◌, ◌<◌, List, length, get_or, Option, Some, None, sym, ap, subst, ◌∙◌, inl, inr, arith}
-use Rattle.std.proofs.lemmas.Bool.{cases_lt}
+use Rattle.std.proofs.{Common.{◌≡◌, ◌≢◌, ℕ, ◌-◌, ◌<◌, List, length, get_or, Option, Some, None, sym, ap, subst, ◌∙◌, inl, inr, arith}, lemmas.Bool.cases_lt}
 use Rattle.mt_version.specs.Parts.{Parts}
 use Rattle.mt_slices.specs.Slices.{slice_of, mark_of, suffix_of}
 use Rattle.mt_rows.specs.Rows.{Bytes}
-use Rattle.mt_border.specs.declared.entry.Entry.{Entry}
-use Rattle.mt_border.specs.declared.entry.Held.TheVariants.{Stable}
-use Rattle.mt_border.specs.declared.entry.FoundKind.TheVariants.{ThisKey}
-use Rattle.mt_border.specs.Entry.{IsKind}
-use Rattle.mt_arena.specs.NodeView.{NodeView}
-use Rattle.mt_arena.specs.Nodes.{HasChild}
-use Rattle.mt_arena.specs.Layers.{slot_at}
-use Rattle.mt_arena.specs.Guarantee.{IsUntouched}
-use Rattle.mt_arena.specs.Removals.{AreBeside}
-use Rattle.mt_arena.specs.Arena.{ArenaView, Guarantee}
+use Rattle.mt_border.specs.{declared.entry.Entry.Entry, declared.entry.Held.TheVariants.Stable, declared.entry.FoundKind.TheVariants.ThisKey, Entry.IsKind}
+use Rattle.mt_arena.specs.{NodeView.NodeView, Nodes.HasChild, Layers.slot_at, Guarantee.IsUntouched, Removals.AreBeside, Arena.{ArenaView, Guarantee}}
 use Rattle.mt_arena.specs.Accesses.{at}
 use Rattle.mt_arena.proofs.Settling.{followed_stays}
 use Rattle.mt_operation.specs.declared.phase.Phase.{Phase}
-use Rattle.mt_operation.specs.declared.phase.Phase.TheVariants.{LockPrev, LockAbove, Unlink, FixNext, Collapse, CleanLayer, Unlock}
-use Rattle.mt_operation.specs.declared.walk.Walk.{Walk}
-use Rattle.mt_operation.specs.declared.task.Task.{Task}
-use Rattle.mt_operation.specs.declared.prepared.Prepared.{Prepared}
-use Rattle.mt_operation.specs.declared.removal.Removal.{Removal}
+use Rattle.mt_operation.specs.{declared.phase.Phase.TheVariants.{LockPrev, LockAbove, Unlink, FixNext, Collapse, CleanLayer, Unlock}, declared.walk.Walk.Walk}
+use Rattle.mt_operation.specs.{declared.task.Task.Task, declared.prepared.Prepared.Prepared, declared.removal.Removal.Removal}
 use Rattle.mt_held.proofs.Rely.{held, open_here, through_stays, untouched, held_stays, return_stays}
 use Rattle.mt_remove.specs.KeptRemovals.{HoldsRemoval, IsAtDropKey, IsOurs, IsLowerRoot, IsRemoving, HoldsEmpty, HoldsLeft, HoldsAbove, IsNamedBy, KeptRemoval, IsCleaning}
 

@@ -1,18 +1,12 @@
 -- What is kept once nothing lags behind the nodes of a removal: at Collapse, and at Unlock.
 use Rattle.std.specs.Prelude.{if◌then◌else◌}
 use Rattle.std.proofs.Common.{◌==◌, Bool, ◌≡◌, ◌≢◌, ℕ, zero, suc, ◌<◌, List, [], ◌∷◌, length, get_or, Some, true, false, refl, sym, ap, subst, ◌∙◌, arith}
-use Rattle.std.proofs.lemmas.Bool.{eqb-true}
-use Rattle.std.proofs.lemmas.Option.{same_Some}
+use Rattle.std.proofs.{lemmas.Bool.eqb-true, lemmas.Option.same_Some}
 use Rattle.mt_rows.specs.Rows.{Bytes}
-use Rattle.mt_arena.specs.Nodes.{HasChild}
-use Rattle.mt_arena.specs.Arena.{ArenaView}
-use Rattle.mt_arena.specs.Accesses.{at}
-use Rattle.mt_operation.specs.declared.phase.Phase.TheVariants.{Collapse, Unlock}
-use Rattle.mt_operation.specs.declared.walk.Walk.{Walk}
-use Rattle.mt_operation.specs.declared.removal.Removal.{Removal}
-use Rattle.mt_remove.specs.KeptRemovals.{IsOurs, IsRemoving, HoldsAbove, KeptRemoval}
+use Rattle.mt_arena.specs.{Nodes.HasChild, Arena.ArenaView, Accesses.at}
+use Rattle.mt_operation.specs.{declared.phase.Phase.TheVariants.{Collapse, Unlock}, declared.walk.Walk.Walk, declared.removal.Removal.Removal}
+use Rattle.mt_remove.specs.{KeptRemovals.{IsOurs, IsRemoving, HoldsAbove, KeptRemoval}, RemovalEdits.for_rest}
 use Rattle.mt_held.specs.Moves.{walk_at}
-use Rattle.mt_remove.specs.RemovalEdits.{for_rest}
 
 -- a list of one, by its only element
 one_alone : (xs : List ℕ) (k i : ℕ) → length xs ≡ 1 → i < length xs → get_or xs i 0 ≡ k → xs ≡ k ∷ []

@@ -1,18 +1,11 @@
 -- That each lock of a removal may be given back behind the others, and what that leaves: for `give_back_all`.
-use Rattle.std.proofs.Common.{◌≡◌, ◌⊎◌, ℕ, ◌<◌, length, Option, Some, None, refl, sym, subst, inl, inr, arith}
-use Rattle.std.proofs.lemmas.Option.{same_Some}
+use Rattle.std.proofs.{Common.{◌≡◌, ◌⊎◌, ℕ, ◌<◌, length, Option, Some, None, refl, sym, subst, inl, inr, arith}, lemmas.Option.same_Some}
 use Rattle.mt_version.specs.Changes.{CanUnlock}
 use Rattle.mt_rows.specs.Rows.{Bytes}
-use Rattle.mt_arena.specs.NodeView.{NodeView}
-use Rattle.mt_arena.specs.Arena.{ArenaView, IsArena, Guarantee}
-use Rattle.mt_arena.specs.Accesses.{at}
-use Rattle.mt_operation.specs.declared.walk.Walk.{Walk}
-use Rattle.mt_operation.specs.declared.removal.Removal.{Removal}
-use Rattle.mt_held.specs.Holds.{MayReturn}
-use Rattle.mt_held.specs.Moves.{given_back}
-use Rattle.mt_held.proofs.GivingBack.{GivesBack, back_none, back_more, returns_still, step_back, nodes_on}
-use Rattle.mt_remove.specs.KeptRemovals.{IsAmong, IsAtUnlockRemoval}
-use Rattle.mt_remove.specs.RemovalEdits.{ReturnsRemoval}
+use Rattle.mt_arena.specs.{NodeView.NodeView, Arena.{ArenaView, IsArena, Guarantee}, Accesses.at}
+use Rattle.mt_operation.specs.{declared.walk.Walk.Walk, declared.removal.Removal.Removal}
+use Rattle.mt_held.{specs.{Holds.MayReturn, Moves.given_back}, proofs.GivingBack.{GivesBack, back_none, back_more, returns_still, step_back, nodes_on}}
+use Rattle.mt_remove.specs.{KeptRemovals.{IsAmong, IsAtUnlockRemoval}, RemovalEdits.ReturnsRemoval}
 
 -- one lock more was given back, where there is one
 pub back_some : (P : ℕ → Type 0) (v u x : ArenaView) (o : Option ℕ) → GivesBack P v u → ((k : ℕ) → o ≡ Some k → (k < length v.nodes) × ¬ P k) → ((k : ℕ) → o ≡ Some k → x ≡ given_back u k) → (o ≡ None → x ≡ u) → GivesBack (λ k. P k ⊎ (o ≡ Some k)) v x

@@ -1,30 +1,16 @@
 -- That the empty node may be taken out, and what is kept then: for `unlink`.
 use Rattle.std.proofs.Common.{◌≡◌, ◌≢◌, ℕ, ◌-◌, ◌<◌, List, length, get_or, set, Option, Some, None, refl, sym, ap, subst, ◌∙◌, inl, inr, arith}
-use Rattle.std.proofs.lemmas.Bool.{cases_eq}
-use Rattle.std.proofs.lemmas.Option.{same_Some}
-use Rattle.std.proofs.lemmas.List.{length-set}
+use Rattle.std.proofs.{lemmas.Bool.cases_eq, lemmas.Option.same_Some, lemmas.List.length-set}
 use Rattle.mt_rows.specs.Rows.{Bytes}
 use Rattle.mt_interior.specs.Places.{place_of}
-use Rattle.mt_arena.specs.NodeView.{NodeView}
-use Rattle.mt_arena.specs.Nodes.{HasChild}
-use Rattle.mt_arena.specs.Settled.{IsSettled}
-use Rattle.mt_arena.specs.Lags.{IsFollowedBy}
-use Rattle.mt_arena.specs.Forests.{tree_at}
-use Rattle.mt_arena.specs.Edits.{inserting, retired}
-use Rattle.mt_arena.specs.Unlinks.{joined, without_child}
-use Rattle.mt_arena.specs.Removals.{without_node}
-use Rattle.mt_arena.specs.Arena.{ArenaView, IsArena}
-use Rattle.mt_arena.specs.Accesses.{at}
-use Rattle.mt_arena.proofs.Pairs.{here, there}
-use Rattle.mt_arena.proofs.ChildPlace.{child_place}
-use Rattle.mt_arena.proofs.Settling.{child_less, settled_alone}
-use Rattle.mt_operation.specs.declared.phase.Phase.{Phase}
-use Rattle.mt_operation.specs.declared.walk.Walk.{Walk}
-use Rattle.mt_operation.specs.declared.removal.Removal.{Removal}
+use Rattle.mt_arena.specs.{NodeView.NodeView, Nodes.HasChild, Settled.IsSettled, Lags.IsFollowedBy, Forests.tree_at, Edits.{inserting, retired}}
+use Rattle.mt_arena.specs.{Unlinks.{joined, without_child}, Removals.without_node, Arena.{ArenaView, IsArena}, Accesses.at}
+use Rattle.mt_arena.proofs.{Pairs.{here, there}, ChildPlace.child_place, Settling.{child_less, settled_alone}}
+use Rattle.mt_operation.specs.{declared.phase.Phase.Phase, declared.walk.Walk.Walk, declared.removal.Removal.Removal}
 use Rattle.mt_remove.specs.KeptRemovals.{HoldsRemoval, IsLowerRoot, IsRemoving, HoldsAbove, IsNamedBy, IsOurs, IsAtUnlink, KeptRemoval}
-use Rattle.mt_held.specs.Moves.{walk_at}
 use Rattle.mt_remove.specs.RemovalEdits.{after_unlink}
 use Rattle.mt_remove.proofs.Resting.{rest_kept}
+use Rattle.mt_held.specs.Moves.{walk_at}
 
 module _ (v : ArenaView) (op step : ℕ) (key : Bytes) (w : Walk) (r : Removal) (arena : IsArena v.nodes v.trees) (kept : IsAtUnlink v op key w r) where
   abbrev k : ℕ

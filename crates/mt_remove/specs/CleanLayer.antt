@@ -1,21 +1,12 @@
 -- What the step does that takes an empty layer out: CleanLayer.
 use Rattle.std.specs.Prelude.{◌≡◌, ◌≢◌, ◌⊎◌, ℕ, [], Some, None}
 use Rattle.mt_rows.specs.Rows.{Bytes}
-use Rattle.mt_border.specs.declared.entry.Held.TheVariants.{Link}
-use Rattle.mt_border.specs.declared.entry.FoundKind.TheVariants.{Link as LinkKind}
-use Rattle.mt_arena.specs.NodeView.{NodeView}
-use Rattle.mt_arena.specs.Layers.{slot_at}
-use Rattle.mt_arena.specs.Arena.{ArenaView}
-use Rattle.mt_arena.specs.Accesses.{at}
-use Rattle.mt_arena.specs.Removals.{without_layer}
-use Rattle.mt_operation.specs.declared.phase.Phase.TheVariants.{Unlock}
-use Rattle.mt_operation.specs.declared.walk.Walk.{Walk}
-use Rattle.mt_operation.specs.declared.removal.Removal.{Removal}
-use Rattle.mt_descent.specs.KeptWalks.{IsInSlot}
-use Rattle.mt_descent.specs.WalkMoves.{KeepsPairs}
+use Rattle.mt_border.specs.{declared.entry.Held.TheVariants.Link, declared.entry.FoundKind.TheVariants.{Link as LinkKind}}
+use Rattle.mt_arena.specs.{NodeView.NodeView, Layers.slot_at, Arena.ArenaView, Accesses.at, Removals.without_layer}
+use Rattle.mt_operation.specs.{declared.phase.Phase.TheVariants.Unlock, declared.walk.Walk.Walk, declared.removal.Removal.Removal}
+use Rattle.mt_descent.specs.{KeptWalks.IsInSlot, WalkMoves.KeepsPairs}
 use Rattle.mt_held.specs.Moves.{walk_at}
-use Rattle.mt_remove.specs.KeptRemovals.{HoldsRemoval, KeptRemoval}
-use Rattle.mt_remove.specs.RemovalEdits.{with_lock, root_of, GoesOnEmptied}
+use Rattle.mt_remove.specs.{KeptRemovals.{HoldsRemoval, KeptRemoval}, RemovalEdits.{with_lock, root_of, GoesOnEmptied}}
 
 -- a slot of the node leads the key to this tree
 pub record LeadsTo (n : NodeView) (key : Bytes) (layer tree slot : ℕ) : Type 0 where

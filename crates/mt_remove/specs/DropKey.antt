@@ -1,26 +1,13 @@
 -- DropKey: the key's pair was taken out of its slot.
-use Rattle.std.specs.Prelude.{◌≡◌, ℕ, Some}
-use Rattle.std.specs.Option.{option_map}
-use Rattle.std.specs.FinMap.{get}
-use Rattle.mt_rows.specs.Rows.{Columns}
-use Rattle.mt_rows.specs.Accounts.{Accounts, account_of, one_less, OthersStay}
-use Rattle.mt_border.specs.Contents.{owned}
-use Rattle.mt_border.specs.Entries.{without}
-use Rattle.mt_tape.specs.Tapes.{Kept}
-use Rattle.mt_tape.specs.Histories.{with_write}
-use Rattle.mt_arena.specs.Arena.{ArenaView, Guarantee, content_of}
-use Rattle.mt_arena.specs.Accesses.{at, with_node}
-use Rattle.mt_arena.specs.Layers.{slot_at}
-use Rattle.mt_arena.specs.Edits.{with_slots}
-use Rattle.mt_operation.specs.declared.task.Task.{Task}
-use Rattle.mt_operation.specs.declared.walk.Walk.{Walk}
-use Rattle.mt_operation.specs.declared.removal.Removal.{Removal}
+use Rattle.std.specs.{Prelude.{◌≡◌, ℕ, Some}, Option.option_map, FinMap.get}
+use Rattle.mt_rows.specs.{Rows.Columns, Accounts.{Accounts, account_of, one_less, OthersStay}}
+use Rattle.mt_border.specs.{Contents.owned, Entries.without}
+use Rattle.mt_tape.specs.{Tapes.Kept, Histories.with_write}
+use Rattle.mt_arena.specs.{Arena.{ArenaView, Guarantee, content_of}, Accesses.{at, with_node}, Layers.slot_at, Edits.with_slots}
+use Rattle.mt_operation.specs.{declared.task.Task.Task, declared.walk.Walk.Walk, declared.removal.Removal.Removal}
 use Rattle.mt_descent.specs.WalkMoves.{Continues}
-use Rattle.mt_held.specs.Taping.{pushed}
-use Rattle.mt_held.specs.Holds.{HoldsOnly}
-use Rattle.mt_remove.specs.Writes.{removal_over}
-use Rattle.mt_remove.specs.KeptRemovals.{KeptRemoval}
-use Rattle.mt_remove.specs.RemovalEdits.{GoesOnEmptied}
+use Rattle.mt_held.specs.{Taping.pushed, Holds.HoldsOnly}
+use Rattle.mt_remove.specs.{Writes.removal_over, KeptRemovals.KeptRemoval, RemovalEdits.GoesOnEmptied}
 
 -- the step of this number places the removal: its write is the one change of the contents, and the last one on the tape
 pub record Removes (task : Task) (step : ℕ) (old new : ArenaView) (tape taped : Kept) (row : Columns) : Type 0 where

@@ -1,23 +1,13 @@
 -- Judge: the key is looked for under the lock, and all growths of the step that takes it out are made.
-use Rattle.std.specs.Prelude.{◌≡◌, ℕ, None}
-use Rattle.std.specs.FinMap.{get}
-use Rattle.mt_border.specs.declared.entry.Find.{Find}
-use Rattle.mt_border.specs.declared.entry.Find.TheVariants.{Missing, Slot}
-use Rattle.mt_border.specs.declared.entry.FoundKind.TheVariants.{ThisKey, OtherLong}
-use Rattle.mt_border.specs.Contents.{owned}
+use Rattle.std.specs.{Prelude.{◌≡◌, ℕ, None}, FinMap.get}
+use Rattle.mt_border.specs.{declared.entry.Find.Find, declared.entry.Find.TheVariants.{Missing, Slot}}
+use Rattle.mt_border.specs.{declared.entry.FoundKind.TheVariants.{ThisKey, OtherLong}, Contents.owned}
 use Rattle.mt_tape.specs.Tapes.{Kept}
-use Rattle.mt_arena.specs.Arena.{ArenaView, content_of}
-use Rattle.mt_arena.specs.Accesses.{at}
-use Rattle.mt_operation.specs.declared.phase.Phase.TheVariants.{DropKey}
-use Rattle.mt_operation.specs.declared.prepared.Prepared.{Prepared}
-use Rattle.mt_operation.specs.declared.task.Task.{Task}
-use Rattle.mt_operation.specs.declared.walk.Walk.{Walk}
-use Rattle.mt_descent.specs.KeptWalks.{IsInSlot}
-use Rattle.mt_descent.specs.WalkMoves.{FindsIn, KeepsPairs}
-use Rattle.mt_held.specs.Unlock.{MeetsLink, IsUnlock}
-use Rattle.mt_held.specs.Taping.{reserving}
-use Rattle.mt_remove.specs.KeptRemovals.{IsAtDropKey}
-use Rattle.mt_remove.specs.declared.phases.judge.Looked.{Looked}
+use Rattle.mt_arena.specs.{Arena.{ArenaView, content_of}, Accesses.at}
+use Rattle.mt_operation.specs.{declared.phase.Phase.TheVariants.DropKey, declared.prepared.Prepared.Prepared, declared.task.Task.Task, declared.walk.Walk.Walk}
+use Rattle.mt_descent.specs.{KeptWalks.IsInSlot, WalkMoves.{FindsIn, KeepsPairs}}
+use Rattle.mt_held.specs.{Unlock.{MeetsLink, IsUnlock}, Taping.reserving}
+use Rattle.mt_remove.specs.{KeptRemovals.IsAtDropKey, declared.phases.judge.Looked.Looked}
 use Rattle.mt_remove.specs.declared.phases.judge.Looked.TheVariants.{Ready, GoesOn, Absent, NoMemory}
 
 -- all growths of the step that takes the key out of its slot are made

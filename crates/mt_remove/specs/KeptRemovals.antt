@@ -1,22 +1,12 @@
 -- What is kept of a removal, by its next phase. Each fact speaks of nodes that the operation holds.
 use Rattle.std.specs.Prelude.{◌≡◌, ◌≢◌, ℕ, ◌<◌, ◌⊎◌, true, false, [], ◌∷◌, length, Option, Some, None}
 use Rattle.mt_rows.specs.Rows.{Bytes}
-use Rattle.mt_border.specs.declared.entry.Pair.{Pair}
-use Rattle.mt_border.specs.declared.entry.Held.TheVariants.{Stable, Link}
-use Rattle.mt_border.specs.declared.entry.FoundKind.TheVariants.{ThisKey}
-use Rattle.mt_arena.specs.NodeView.{NodeView}
-use Rattle.mt_arena.specs.Nodes.{HasChild}
-use Rattle.mt_arena.specs.Layers.{slot_at}
-use Rattle.mt_arena.specs.Lags.{IsFollowedBy}
-use Rattle.mt_arena.specs.Arena.{ArenaView}
-use Rattle.mt_arena.specs.Accesses.{at, IsHeld, IsOpen}
+use Rattle.mt_border.specs.{declared.entry.Pair.Pair, declared.entry.Held.TheVariants.{Stable, Link}, declared.entry.FoundKind.TheVariants.ThisKey}
+use Rattle.mt_arena.specs.{NodeView.NodeView, Nodes.HasChild, Layers.slot_at, Lags.IsFollowedBy, Arena.ArenaView, Accesses.{at, IsHeld, IsOpen}}
 use Rattle.mt_arena.specs.Removals.{AreBeside}
 use Rattle.mt_operation.specs.declared.phase.Phase.{Phase}
-use Rattle.mt_operation.specs.declared.phase.Phase.TheVariants.{LockPrev, LockAbove, Unlink, FixNext, Collapse, CleanLayer, Unlock}
-use Rattle.mt_operation.specs.declared.walk.Walk.{Walk}
-use Rattle.mt_operation.specs.declared.task.Task.{Task}
-use Rattle.mt_operation.specs.declared.prepared.Prepared.{Prepared}
-use Rattle.mt_operation.specs.declared.removal.Removal.{Removal}
+use Rattle.mt_operation.specs.{declared.phase.Phase.TheVariants.{LockPrev, LockAbove, Unlink, FixNext, Collapse, CleanLayer, Unlock}, declared.walk.Walk.Walk}
+use Rattle.mt_operation.specs.{declared.task.Task.Task, declared.prepared.Prepared.Prepared, declared.removal.Removal.Removal}
 use Rattle.mt_descent.specs.KeptWalks.{GoesThrough, IsInSlot}
 use Rattle.mt_held.specs.Holds.{HoldsBorder, MayReturn}
 use Rattle.mt_remove.specs.Writes.{IsReady}

@@ -1,13 +1,7 @@
 -- What each phase of a removal makes of the arena, and where it leads.
 use Rattle.std.specs.Prelude.{◌≡◌, ◌<◌, ◌↔◌, ℕ, true, [], ◌==◌, if◌then◌else◌, length, Option, Some, None}
-use Rattle.mt_arena.specs.NodeView.{NodeView}
-use Rattle.mt_arena.specs.Edits.{locked, unlocked}
-use Rattle.mt_arena.specs.Arena.{ArenaView}
-use Rattle.mt_arena.specs.Accesses.{at, with_node}
-use Rattle.mt_arena.specs.Forests.{tree_at}
-use Rattle.mt_operation.specs.declared.phase.Phase.{Phase}
-use Rattle.mt_operation.specs.declared.phase.Phase.TheVariants.{Unlock, FixNext, Collapse, LockPrev}
-use Rattle.mt_operation.specs.declared.walk.Walk.{Walk}
+use Rattle.mt_arena.specs.{NodeView.NodeView, Edits.{locked, unlocked}, Arena.ArenaView, Accesses.{at, with_node}, Forests.tree_at}
+use Rattle.mt_operation.specs.{declared.phase.Phase.Phase, declared.phase.Phase.TheVariants.{Unlock, FixNext, Collapse, LockPrev}, declared.walk.Walk.Walk}
 use Rattle.mt_operation.specs.declared.removal.Removal.{Removal}
 use Rattle.mt_held.specs.Moves.{walk_at}
 use Rattle.mt_remove.specs.KeptRemovals.{IsAmong}

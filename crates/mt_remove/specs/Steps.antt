@@ -2,12 +2,9 @@
 use Rattle.std.specs.Prelude.{ℕ}
 use Rattle.mt_rows.specs.Rows.{Bytes}
 use Rattle.mt_arena.specs.Arena.{ArenaView}
-use Rattle.mt_operation.specs.declared.phase.Phase.{Phase}
-use Rattle.mt_operation.specs.declared.phase.Phase.TheVariants.{LockPrev, LockAbove, Unlink, FixNext, Collapse, CleanLayer}
-use Rattle.mt_operation.specs.declared.walk.Walk.{Walk}
-use Rattle.mt_operation.specs.declared.removal.Removal.{Removal}
-use Rattle.mt_remove.specs.Unlinks.{IsLockPrev, IsLockAbove, IsUnlink, IsFixNext, IsCollapse}
-use Rattle.mt_remove.specs.CleanLayer.{IsCleanLayer}
+use Rattle.mt_operation.specs.{declared.phase.Phase.Phase, declared.phase.Phase.TheVariants.{LockPrev, LockAbove, Unlink, FixNext, Collapse, CleanLayer}}
+use Rattle.mt_operation.specs.{declared.walk.Walk.Walk, declared.removal.Removal.Removal}
+use Rattle.mt_remove.specs.{Unlinks.{IsLockPrev, IsLockAbove, IsUnlink, IsFixNext, IsCollapse}, CleanLayer.IsCleanLayer}
 
 -- what the step of this number from a phase leaves, which takes an empty node or an empty layer out
 abbrev pub IsRemovalFrom : Phase → ℕ → ℕ → Bytes → ArenaView → ArenaView → Walk → Walk → Removal → Removal → Type 0

@@ -2,18 +2,12 @@
 use Rattle.std.specs.Prelude.{◌≡◌, ℕ, ◌<◌, ◌-◌, slice_index, Option, Some, None}
 use Rattle.mt_rows.specs.Rows.{Bytes}
 use Rattle.mt_interior.specs.Places.{place_of}
-use Rattle.mt_arena.specs.NodeView.{NodeView}
-use Rattle.mt_arena.specs.Arena.{ArenaView}
-use Rattle.mt_arena.specs.Accesses.{at}
-use Rattle.mt_arena.specs.Removals.{without_node, without_root}
-use Rattle.mt_operation.specs.declared.phase.Phase.{Phase}
-use Rattle.mt_operation.specs.declared.phase.Phase.TheVariants.{LockPrev, LockAbove, Unlink, FixNext, Collapse, Unlock}
-use Rattle.mt_operation.specs.declared.walk.Walk.{Walk}
-use Rattle.mt_operation.specs.declared.removal.Removal.{Removal}
+use Rattle.mt_arena.specs.{NodeView.NodeView, Arena.ArenaView, Accesses.at, Removals.{without_node, without_root}}
+use Rattle.mt_operation.specs.{declared.phase.Phase.Phase, declared.phase.Phase.TheVariants.{LockPrev, LockAbove, Unlink, FixNext, Collapse, Unlock}}
+use Rattle.mt_operation.specs.{declared.walk.Walk.Walk, declared.removal.Removal.Removal}
 use Rattle.mt_descent.specs.WalkMoves.{KeepsPairs}
 use Rattle.mt_held.specs.Moves.{walk_at, with_named_previous}
-use Rattle.mt_remove.specs.KeptRemovals.{HoldsRemoval, KeptRemoval}
-use Rattle.mt_remove.specs.RemovalEdits.{with_lock, for_rest, after_unlink}
+use Rattle.mt_remove.specs.{KeptRemovals.{HoldsRemoval, KeptRemoval}, RemovalEdits.{with_lock, for_rest, after_unlink}}
 
 -- what they do alike from this phase on: no pair moves, and what is kept of the removal, whose nodes the operation holds alone
 pub record KeepsRemoval (phase : Phase) (op : ℕ) (old new : ArenaView) (before after : Walk) (s t : Removal) : Type 0 where

@@ -1,16 +1,11 @@
 -- Unlock: all locks of a removal are given back.
 use Rattle.std.specs.Prelude.{◌≡◌, ◌<◌, ◌⊎◌, ℕ, true, [], Some}
 use Rattle.mt_rows.specs.Rows.{Bytes}
-use Rattle.mt_arena.specs.Arena.{ArenaView}
-use Rattle.mt_arena.specs.Accesses.{at}
-use Rattle.mt_operation.specs.Operations.{no_removal}
-use Rattle.mt_operation.specs.declared.walk.Walk.{Walk}
-use Rattle.mt_operation.specs.declared.removal.Removal.{Removal}
-use Rattle.mt_descent.specs.KeptWalks.{IsAtEnter, HoldsNothing}
-use Rattle.mt_descent.specs.WalkMoves.{KeepsPairs, walk_into}
+use Rattle.mt_arena.specs.{Arena.ArenaView, Accesses.at}
+use Rattle.mt_operation.specs.{Operations.no_removal, declared.walk.Walk.Walk, declared.removal.Removal.Removal}
+use Rattle.mt_descent.specs.{KeptWalks.{IsAtEnter, HoldsNothing}, WalkMoves.{KeepsPairs, walk_into}}
 use Rattle.mt_held.specs.Moves.{walk_done}
-use Rattle.mt_remove.specs.KeptRemovals.{HoldsRemoval, IsAtUnlockRemoval, IsCleaning}
-use Rattle.mt_remove.specs.RemovalEdits.{ReturnsRemoval, root_of}
+use Rattle.mt_remove.specs.{KeptRemovals.{HoldsRemoval, IsAtUnlockRemoval, IsCleaning}, RemovalEdits.{ReturnsRemoval, root_of}}
 
 -- the operation has itself emptied a border node of a layer below the top one, and the layer's root, which it holds, is an empty border node
 pub record EmptiesLayer (v : ArenaView) (w : Walk) (r : Removal) : Type 0 where

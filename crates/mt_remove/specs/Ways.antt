@@ -2,17 +2,10 @@
 use Rattle.std.specs.Prelude.{◌≡◌, ◌⊎◌, ◌+◌, ℕ, Some}
 use Rattle.mt_rows.specs.Rows.{Bytes}
 use Rattle.mt_border.specs.declared.entry.FoundKind.TheVariants.{Link}
-use Rattle.mt_arena.specs.declared.tree.Tree.{Tree}
-use Rattle.mt_arena.specs.Forests.{tree_at, layer_of}
-use Rattle.mt_arena.specs.Arena.{ArenaView}
-use Rattle.mt_arena.specs.Accesses.{at}
-use Rattle.mt_operation.specs.declared.phase.Phase.TheVariants.{Judge, CleanLayer}
-use Rattle.mt_operation.specs.declared.walk.Walk.{Walk}
-use Rattle.mt_operation.specs.declared.removal.Removal.{Removal}
-use Rattle.mt_descent.specs.KeptWalks.{IsInSlot}
-use Rattle.mt_descent.specs.WalkMoves.{IsLock}
-use Rattle.mt_held.specs.Unlock.{MeetsLink, IsUnlock}
-use Rattle.mt_held.specs.Moves.{walk_at}
+use Rattle.mt_arena.specs.{declared.tree.Tree.Tree, Forests.{tree_at, layer_of}, Arena.ArenaView, Accesses.at}
+use Rattle.mt_operation.specs.{declared.phase.Phase.TheVariants.{Judge, CleanLayer}, declared.walk.Walk.Walk, declared.removal.Removal.Removal}
+use Rattle.mt_descent.specs.{KeptWalks.IsInSlot, WalkMoves.IsLock}
+use Rattle.mt_held.specs.{Unlock.{MeetsLink, IsUnlock}, Moves.walk_at}
 use Rattle.mt_remove.specs.KeptRemovals.{IsAtCleanLayer}
 
 -- the tree is of the layer just below this one

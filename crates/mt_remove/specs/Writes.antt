@@ -1,17 +1,9 @@
 -- What a removal writes: the write of it for the tape.
 use Rattle.std.specs.Prelude.{◌≡◌, ℕ, Bool, true, false, Some, None}
-use Rattle.mt_rows.specs.declared.command.Command.{Command}
-use Rattle.mt_rows.specs.declared.command.Command.TheVariants.{Remove}
-use Rattle.mt_rows.specs.Rows.{Columns}
-use Rattle.mt_rows.specs.Commands.{key_of}
-use Rattle.mt_border.specs.declared.entry.Held.{Held}
-use Rattle.mt_border.specs.declared.entry.Pair.{Pair}
-use Rattle.mt_border.specs.Entry.{pair_of}
-use Rattle.mt_border.specs.Contents.{owned}
+use Rattle.mt_rows.specs.{declared.command.Command.Command, declared.command.Command.TheVariants.Remove, Rows.Columns, Commands.key_of}
+use Rattle.mt_border.specs.{declared.entry.Held.Held, declared.entry.Pair.Pair, Entry.pair_of, Contents.owned}
 use Rattle.mt_tape.specs.declared.entry.Entry.{Entry as Write}
-use Rattle.mt_operation.specs.declared.task.Task.{Task}
-use Rattle.mt_operation.specs.declared.prepared.Prepared.{Prepared}
-use Rattle.mt_operation.specs.Tasks.{ask}
+use Rattle.mt_operation.specs.{declared.task.Task.Task, declared.prepared.Prepared.Prepared, Tasks.ask}
 
 abbrev pub is_remove : Command → Bool
 is_remove (Remove key) = true

@@ -3,10 +3,7 @@
 ghost use Rattle.std.specs.Prelude.{◌≢◌, ℕ};
 ghost use Rattle.mt_rows.specs.Rows.{Bytes};
 ghost use Rattle.mt_arena.specs.Arena.{ArenaView, Guarantee};
-ghost use Rattle.mt_operation.specs.declared.phase.Phase.{Phase};
-ghost use Rattle.mt_operation.specs.declared.walk.Walk.{Walk};
-ghost use Rattle.mt_operation.specs.declared.task.Task.{Task};
-ghost use Rattle.mt_operation.specs.declared.prepared.Prepared.{Prepared};
+ghost use Rattle.mt_operation.specs.{declared.phase.Phase.Phase, declared.walk.Walk.Walk, declared.task.Task.Task, declared.prepared.Prepared.Prepared};
 ghost use Rattle.mt_operation.specs.declared.removal.Removal.{Removal};
 ghost use Rattle.mt_remove.specs.KeptRemovals.{IsAtDropKey, KeptRemoval, IsCleaning, HoldsRemoval};
 

@@ -1,17 +1,11 @@
 -- A key and a row that are read are spelled so, and spelled ones are read again. How long a row may be.
 use Rattle.std.proofs.Common.{◌≡◌, ℕ, ◌+◌, ◌*◌, ◌^◌, ◌<◌, ◌≤◌, cond, not, [], ◌∷◌, ◌++◌, length, Some, None, refl, sym, ap, subst, ◌∙◌, arith}
-use Rattle.std.specs.Prelude.{nat_lt}
-use Rattle.std.specs.List.{flat_map, AllByRecursion}
-use Rattle.std.proofs.lemmas.List.{length-append}
-use Rattle.std.proofs.lemmas.List.Concat.{flat_map-cons}
-use Rattle.std.proofs.lemmas.List.Elements.{recursion_from_All, All-weaker}
-use Rattle.mt_rows.specs.Rows.{Bytes, Columns, IsRow}
-use Rattle.mt_rows.specs.Commands.{IsKey}
-use Rattle.mt_fields.specs.Fields.{string}
-use Rattle.mt_fields.specs.Reading.{◌>>=◌, byte_at, string_at, each_at}
+use Rattle.std.proofs.{lemmas.List.length-append, lemmas.List.Concat.flat_map-cons, lemmas.List.Elements.{recursion_from_All, All-weaker}}
+use Rattle.std.specs.{Prelude.nat_lt, List.{flat_map, AllByRecursion}}
+use Rattle.mt_rows.specs.{Rows.{Bytes, Columns, IsRow}, Commands.IsKey}
+use Rattle.mt_fields.specs.{Fields.string, Reading.{◌>>=◌, byte_at, string_at, each_at}}
 use Rattle.mt_fields.proofs.FieldLaws.{IsBytes, bind_some, guard_ended, Takes, Takes-then, byte_takes, string_takes, string_again, each_takes, each_again}
-use Rattle.mt_row_fields.specs.Format.{row_bytes}
-use Rattle.mt_row_fields.specs.Reading.{is_row, row_at, key_at}
+use Rattle.mt_row_fields.specs.{Format.row_bytes, Reading.{is_row, row_at, key_at}}
 use Rattle.mt_row_fields.proofs.Tests.{row_from_test, test_from_row, at_most_from_test, test_from_at_most}
 
 abbrev FitsString : Bytes → Type 0

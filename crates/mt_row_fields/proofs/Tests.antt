@@ -1,11 +1,8 @@
 -- The tests of a key and of a row, as a reader makes them: for `row_of`, and for the readers of what is made of rows.
 use Rattle.std.proofs.Common.{◌≡◌, ℕ, ◌<◌, ◌≤◌, Bool, true, false, not, ◌&&◌, List, length, IsTrue, ◌↔◌, refl, sym, arith}
-use Rattle.std.specs.Prelude.{nat_lt}
-use Rattle.std.specs.List.{All, list_all}
-use Rattle.std.proofs.lemmas.Bool.{and_parts, and_from, ltb-true}
-use Rattle.std.proofs.lemmas.Bool.Decides.{nat_tests}
-use Rattle.std.proofs.lemmas.List.Sums.{AllPass-from_list_all, list_all-from_AllPass}
-use Rattle.std.proofs.lemmas.List.Elements.{All-weaker}
+use Rattle.std.proofs.{lemmas.Bool.{and_parts, and_from, ltb-true}, lemmas.Bool.Decides.nat_tests}
+use Rattle.std.proofs.{lemmas.List.Sums.{AllPass-from_list_all, list_all-from_AllPass}, lemmas.List.Elements.All-weaker}
+use Rattle.std.specs.{Prelude.nat_lt, List.{All, list_all}}
 use Rattle.mt_rows.specs.Rows.{Bytes, Columns, IsRow}
 use Rattle.mt_row_fields.specs.Reading.{is_row}
 

@@ -1,6 +1,5 @@
 -- How a row is spelled. A key is a string of `mt_fields`.
-use Rattle.std.specs.Prelude.{◌∷◌, length}
-use Rattle.std.specs.List.{flat_map}
+use Rattle.std.specs.{Prelude.{◌∷◌, length}, List.flat_map}
 use Rattle.mt_rows.specs.Rows.{Bytes, Columns}
 use Rattle.mt_fields.specs.Fields.{string}
 

@@ -1,7 +1,6 @@
 -- Reading keys and rows from left to right: for the functions that do it, and for the readers of what is made of them.
 -- Callers see the spellings alone.
-use Rattle.std.specs.Prelude.{Bool, not, ◌&&◌, length, Option, Some, None, nat_lt, if◌then◌else◌}
-use Rattle.std.specs.List.{list_all}
+use Rattle.std.specs.{Prelude.{Bool, not, ◌&&◌, length, Option, Some, None, nat_lt, if◌then◌else◌}, List.list_all}
 use Rattle.mt_rows.specs.Rows.{Bytes, Columns}
 use Rattle.mt_fields.specs.Reading.{◌>>=◌, byte_at, string_at, each_at}
 

@@ -4,12 +4,9 @@
 //! fails.
 
 ghost use Rattle.std.specs.Prelude.{◌≡◌, ◌≤◌, ◌++◌, length, take, OnOk};
-ghost use Rattle.mt_rows.specs.Rows.{IsRow};
-ghost use Rattle.mt_rows.specs.Commands.{IsKey};
-ghost use Rattle.mt_fields.specs.Fields.{string};
-ghost use Rattle.mt_fields.specs.Reading.{Gives, string_at, each_at};
-ghost use Rattle.mt_row_fields.specs.Format.{row_bytes};
-ghost use Rattle.mt_row_fields.specs.Reading.{row_at, key_at};
+ghost use Rattle.mt_rows.specs.{Rows.IsRow, Commands.IsKey};
+ghost use Rattle.mt_fields.specs.{Fields.string, Reading.{Gives, string_at, each_at}};
+ghost use Rattle.mt_row_fields.specs.{Format.row_bytes, Reading.{row_at, key_at}};
 
 use mt_fields::{DecodeFault, put_string, string_of, u8_at};
 use mt_rows::key::USER_KEY_BYTES;

@@ -1,16 +1,12 @@
 -- How a story is right (at its start, as an operation begins, and by one numbered step): for the three laws by which a core keeps its run right.
 use Rattle.std.proofs.Common.{◌≡◌, ℕ, suc, ◌≤◌, ◌⊎◌, Bool, true, false, cond, eqb, [], Option, Some, None, sym, ap, subst, ◌∙◌, inl, inr, arith}
-use mathlib.Core.Path.{fun_ext}
-use Rattle.std.proofs.lemmas.Option.{same_Some}
-use Rattle.std.proofs.lemmas.Bool.{cases_lt}
+use Rattle.std.proofs.{lemmas.Option.same_Some, lemmas.Bool.cases_lt}
 use Rattle.mt_rows.specs.Maps.{Map, is_change}
 use Rattle.mt_runs.specs.declared.event.Answer.{Answer}
-use Rattle.mt_runs.specs.Runs.{Made, Asked, Story, first_of, last_step, step_of, owner, Finished, IsBetween, with_begin, with_step}
-use Rattle.mt_runs.specs.Scans.{IsLawfulScan}
-use Rattle.mt_runs.specs.Placings.{Quotas, Maps, is_placed, reply_in, maps_after_one}
-use Rattle.mt_runs.specs.Right.{maps_at, IsChangeAfter, IsAnswered, Right, IsGrowth}
-use Rattle.mt_runs.proofs.Lawful.{lawful_by}
-use Rattle.mt_runs.proofs.Steps.{step_in, owner_in, more_steps, owner_stays, step_cases, owner_cases, finished_cases}
+use Rattle.mt_runs.specs.{Runs.{Made, Asked, Story, first_of, last_step, step_of, owner, Finished, IsBetween, with_begin, with_step}, Scans.IsLawfulScan}
+use Rattle.mt_runs.specs.{Placings.{Quotas, Maps, is_placed, reply_in, maps_after_one}, Right.{maps_at, IsChangeAfter, IsAnswered, Right, IsGrowth}}
+use Rattle.mt_runs.proofs.{Lawful.lawful_by, Steps.{step_in, owner_in, more_steps, owner_stays, step_cases, owner_cases, finished_cases}}
+use mathlib.Core.Path.{fun_ext}
 
 -- the story of a run in which nothing has happened
 abbrev pub no_story : ℕ → Story

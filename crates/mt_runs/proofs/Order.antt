@@ -1,22 +1,18 @@
 -- The one order of a run that is right (by number, a step's change and then what was looked at there): for the law that there is one order.
 use Rattle.std.proofs.Common.{◌≡◌, ℕ, zero, suc, ◌<◌, ◌≤◌, Bool, true, false, cond, not, eqb, List, [], ◌∷◌, ◌++◌, Some, sym, refl, ap, subst, ◌∙◌, inl, inr, arith}
-use mathlib.Core.Path.{fun_ext}
+use Rattle.std.proofs.{lemmas.Option.same_Some, lemmas.Bool.{and_parts, not-true, eqb-true, eq-eqb, both_ways, and_from, not_from_false, cases_lt}}
 use Rattle.std.specs.List.{AllByRecursion}
-use Rattle.std.proofs.lemmas.Option.{same_Some}
-use Rattle.std.proofs.lemmas.Bool.{and_parts, not-true, eqb-true, eq-eqb, both_ways, and_from, not_from_false, cases_lt}
-use Rattle.mt_rows.specs.declared.reply.Reply.{Reply}
-use Rattle.mt_rows.specs.declared.reply.Reply.TheVariants.{New, NoMemory}
+use Rattle.mt_rows.specs.{declared.reply.Reply.Reply, declared.reply.Reply.TheVariants.{New, NoMemory}}
 use Rattle.mt_rows.specs.Maps.{Map, is_change, is_scan, is_no_memory, reply_of, map_after}
 use Rattle.mt_rows.proofs.CommandLaws.{same_map_after}
-use Rattle.mt_runs.specs.declared.event.Answer.{Answer}
-use Rattle.mt_runs.specs.Runs.{Story, Asked, last_step, Finished, IsSinceFirst, IsUpToLast, IsBetween}
+use Rattle.mt_runs.specs.{declared.event.Answer.Answer, Runs.{Story, Asked, last_step, Finished, IsSinceFirst, IsUpToLast, IsBetween}}
 use Rattle.mt_runs.specs.Placings.{Quotas, Maps, is_placed, reply_in, maps_after_one, maps_after, Placing, Along, MayStand, Fits, HasReply, IsLegal, AreScansLawful, map_upto, HasOneOrder}
 use Rattle.mt_runs.specs.Right.{maps_at, IsChangeAfter, Right}
 use Rattle.mt_runs.proofs.Walks.{last_number, last_number-append, maps_after-append, Along-append, LeavesMaps, maps_after-leaves, last_number-leaves, Along-leaves}
 use Rattle.mt_runs.proofs.Steps.{owner_in}
 use Rattle.mt_runs.proofs.Standing.{is_look, looks_here, change_here, here, placed_upto, looks_all, look_parts, change_here-true, change_here-false, change_here-before, part_upto}
-use Rattle.mt_runs.proofs.Once.{StandsAt, one_answer, count_small, count_of_stands}
-use Rattle.mt_runs.proofs.Lawful.{lawful_by}
+use Rattle.mt_runs.proofs.{Once.{StandsAt, one_answer, count_small, count_of_stands}, Lawful.lawful_by}
+use mathlib.Core.Path.{fun_ext}
 
 -- a command whose reply is of no change leaves all maps
 leaves_one : (quotas : Quotas) (what : Asked) (maps : Maps) → is_change (reply_in quotas what maps) ≡ false → maps_after_one quotas (Some what) maps ≡ maps

@@ -1,22 +1,15 @@
 -- What a get is told behind a put or a remove of its key that precedes it: for the two laws of reading one's own writes.
 use Rattle.std.proofs.Common.{◌≡◌, ◌≢◌, ℕ, ◌≤◌, ◌⊎◌, Bool, true, false, cond, eqb, List, [], ◌∷◌, Option, Some, None, sym, refl, ap, subst, ◌∙◌, inl, inr, arith}
-use Rattle.std.specs.FinMap as pairs
-use Rattle.std.proofs.lemmas.Option.{same_Some}
-use Rattle.std.proofs.lemmas.Bool.{eqb-true, eq-eqb, and_from, not_from_false}
-use Rattle.mt_rows.specs.declared.command.Command.{Command}
-use Rattle.mt_rows.specs.declared.command.Command.TheVariants.{Get, Put, Remove, Scan}
-use Rattle.mt_rows.specs.declared.reply.Reply.{Reply}
-use Rattle.mt_rows.specs.declared.reply.Reply.TheVariants.{Absent, Found}
-use Rattle.mt_rows.specs.Rows.{Bytes, Columns, columns_of, shown}
-use Rattle.mt_rows.specs.Changes.{Named, changed}
+use Rattle.std.proofs.{lemmas.Option.same_Some, lemmas.Bool.{eqb-true, eq-eqb, and_from, not_from_false}}
+use Rattle.mt_rows.specs.{declared.command.Command.Command, declared.command.Command.TheVariants.{Get, Put, Remove, Scan}, declared.reply.Reply.Reply}
+use Rattle.mt_rows.specs.{declared.reply.Reply.TheVariants.{Absent, Found}, Rows.{Bytes, Columns, columns_of, shown}, Changes.{Named, changed}}
 use Rattle.mt_rows.specs.Maps.{Map, reply_of, map_after, is_change, is_scan, is_no_memory, told_of_row}
 use Rattle.mt_rows.proofs.CommandLaws.{same_map_after, get_after_put, get_beside_put, get_after_remove, get_beside_remove}
-use Rattle.mt_runs.specs.declared.event.Answer.{Answer}
-use Rattle.mt_runs.specs.Runs.{Story, Asked, owner, Finished}
+use Rattle.mt_runs.specs.{declared.event.Answer.Answer, Runs.{Story, Asked, owner, Finished}}
 use Rattle.mt_runs.specs.Placings.{Placing, Quotas, Maps, is_placed, reply_in, maps_after_one, Along, MayStand, HasReply, count_of, HasOneOrder}
 use Rattle.mt_runs.specs.Orders.{Precedes, StandsIn, WasTold, IsWriteOf, NoWriteBetween}
-use Rattle.mt_runs.proofs.Order.{change_remembered}
-use Rattle.mt_runs.proofs.Precedence.{here_or_behind, none_stands, count_here, count_behind, stands_of_count, stands_at, not_behind}
+use Rattle.mt_runs.proofs.{Order.change_remembered, Precedence.{here_or_behind, none_stands, count_here, count_behind, stands_of_count, stands_at, not_behind}}
+use Rattle.std.specs.FinMap as pairs
 
 -- the row that a reply shows
 row_in : Reply → Columns

@@ -1,9 +1,7 @@
 -- Who precedes whom in a run, and where they stand in a placing that fits: for the laws of real-time order and of an answer's place, and for OwnWrites.
 use Rattle.std.proofs.Common.{◌≡◌, ◌≢◌, ℕ, zero, suc, ◌<◌, ◌≤◌, ◌⊎◌, Bool, true, false, cond, eqb, List, [], ◌∷◌, ◌++◌, length, Some, sym, refl, ap, subst, ◌∙◌, inl, inr, arith}
-use Rattle.std.specs.List.{Contains, filter}
-use Rattle.std.specs.Option.{option_map}
-use Rattle.std.proofs.lemmas.Bool.{eqb-true, eq-eqb, cases_lt}
-use Rattle.std.proofs.lemmas.List.Elements.{filter_map-append}
+use Rattle.std.proofs.{lemmas.Bool.{eqb-true, eq-eqb, cases_lt}, lemmas.List.Elements.filter_map-append}
+use Rattle.std.specs.{List.{Contains, filter}, Option.option_map}
 use Rattle.mt_runs.specs.declared.event.Answer.{Answer}
 use Rattle.mt_runs.specs.Runs.{Run, Story, Made, numbered, steps_of, story_of, last_step, step_at, step_of, owner, Finished, IsSinceFirst, IsUpToLast}
 use Rattle.mt_runs.specs.Placings.{Placing, Quotas, Maps, is_placed, maps_after_one, Along, MayStand, count_of, Fits, HasOneOrder}

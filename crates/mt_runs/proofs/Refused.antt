@@ -1,21 +1,13 @@
 -- Why no order explains the wrong runs: for the law that lists them.
 use Rattle.std.proofs.Common.{◌≡◌, ℕ, zero, suc, ◌≤◌, ◌⊎◌, Bool, true, false, cond, eqb, [], ◌∷◌, Some, None, sym, refl, ap, subst, ◌∙◌, arith}
-use Rattle.std.specs.Ordering.{nat_cmp}
-use Rattle.std.specs.Cmp.Lexicographic.{slice_cmp}
-use Rattle.std.specs.FinMap.{empty, get-empty}
-use Rattle.std.proofs.lemmas.Option.{same_Some}
-use Rattle.std.proofs.lemmas.Bool.{eqb-true}
-use Rattle.mt_rows.specs.declared.reply.Reply.{Reply}
-use Rattle.mt_rows.specs.declared.reply.Reply.TheVariants.{Absent, Found, New}
-use Rattle.mt_rows.specs.Changes.{changed}
-use Rattle.mt_rows.specs.Maps.{reply_of, told_of_row}
-use Rattle.mt_runs.specs.declared.event.Answer.{Answer}
-use Rattle.mt_runs.specs.Runs.{Story, Asked, story_of, owner, first_of}
+use Rattle.std.proofs.{lemmas.Option.same_Some, lemmas.Bool.eqb-true}
+use Rattle.std.specs.{Ordering.nat_cmp, Cmp.Lexicographic.slice_cmp, FinMap.{empty, get-empty}}
+use Rattle.mt_rows.specs.{declared.reply.Reply.Reply, declared.reply.Reply.TheVariants.{Absent, Found, New}, Changes.changed, Maps.{reply_of, told_of_row}}
+use Rattle.mt_runs.specs.{declared.event.Answer.Answer, Runs.{Story, Asked, story_of, owner, first_of}}
 use Rattle.mt_runs.specs.Placings.{Placing, Quotas, no_pairs, Fits, HasReply, IsLegal, HasOneOrder, count_of}
 use Rattle.mt_runs.specs.Orders.{Precedes, WasTold, IsWriteOf, NoWriteBetween}
 use Rattle.mt_runs.specs.WrongRuns.{key_k, row_v, change_v, get_k, put_k, row_from_nowhere, missed_write, step_after_the_end, row_from_the_future}
-use Rattle.mt_runs.proofs.Precedence.{place_of_answer}
-use Rattle.mt_runs.proofs.OwnWrites.{reads_put}
+use Rattle.mt_runs.proofs.{Precedence.place_of_answer, OwnWrites.reads_put}
 
 abbrev asked_get : Asked
 asked_get = record { tenant = 7; command = get_k }

@@ -1,18 +1,13 @@
 -- Why no order explains the wrong runs that have a scan: for the law that lists the wrong runs.
 use Rattle.std.proofs.Common.{◌≡◌, ℕ, zero, suc, ◌+◌, Bool, true, false, cond, eqb, [], ◌∷◌, Some, None, IsSome, sym, refl, ap, subst, ◌∙◌, arith}
-use Rattle.std.specs.Ordering.{nat_cmp}
-use Rattle.std.specs.Cmp.Lexicographic.{slice_cmp}
-use Rattle.std.specs.FinMap as pairs
-use Rattle.std.specs.FinMap.{get-empty}
-use Rattle.std.proofs.lemmas.Option.{same_Some}
-use Rattle.std.proofs.lemmas.Bool.{eqb-true}
-use Rattle.mt_rows.specs.declared.reply.Reply.TheVariants.{New, Pairs}
-use Rattle.mt_rows.specs.Maps.{is_change, is_scan}
-use Rattle.mt_runs.specs.declared.event.Answer.{Answer}
-use Rattle.mt_runs.specs.Runs.{Story, Asked, story_of, owner, first_of}
+use Rattle.std.proofs.{lemmas.Option.same_Some, lemmas.Bool.eqb-true}
+use Rattle.std.specs.{Ordering.nat_cmp, Cmp.Lexicographic.slice_cmp, FinMap.get-empty}
+use Rattle.mt_rows.specs.{declared.reply.Reply.TheVariants.{New, Pairs}, Maps.{is_change, is_scan}}
+use Rattle.mt_runs.specs.{declared.event.Answer.Answer, Runs.{Story, Asked, story_of, owner, first_of}}
 use Rattle.mt_runs.specs.Placings.{Placing, Quotas, no_pairs, Along, MayStand, Fits, IsLegal, HasOneOrder, count_of, map_upto}
 use Rattle.mt_runs.specs.WrongRuns.{key_k, row_v, change_v, put_k, scan_two, pair_from_nowhere, missed_pair}
 use Rattle.mt_runs.proofs.OwnWrites.{row_after_put}
+use Rattle.std.specs.FinMap as pairs
 
 abbrev asked_scan : Asked
 asked_scan = record { tenant = 7; command = scan_two }

@@ -1,12 +1,8 @@
 -- What a tenant is told in an order depends on its own commands alone: for the law that the same commands get the same replies.
 use Rattle.std.proofs.Common.{◌≡◌, ℕ, Bool, true, false, cond, eqb, List, [], ◌∷◌, Option, Some, None, sym, refl, ap, ◌∙◌}
-use Rattle.std.specs.List.{cons_option}
-use Rattle.std.specs.Option.{option_map}
-use Rattle.mt_rows.specs.declared.command.Command.{Command}
-use Rattle.mt_rows.specs.declared.reply.Reply.{Reply}
-use Rattle.mt_rows.specs.Maps.{Map, reply_of, map_after}
-use Rattle.mt_runs.specs.Runs.{Story, Asked}
-use Rattle.mt_runs.specs.Placings.{Placing, Quotas, Maps, maps_after_one, command_of, commands_of, replies_of}
+use Rattle.std.specs.{List.cons_option, Option.option_map}
+use Rattle.mt_rows.specs.{declared.command.Command.Command, declared.reply.Reply.Reply, Maps.{Map, reply_of, map_after}}
+use Rattle.mt_runs.specs.{Runs.{Story, Asked}, Placings.{Placing, Quotas, Maps, maps_after_one, command_of, commands_of, replies_of}}
 
 -- the replies to a list of commands, from a map on
 abbrev pub replies : ℕ → Map → List Command → List Reply

@@ -1,8 +1,6 @@
 -- What holds along a placing that is put together from two, or whose commands leave the maps as they are: for the order of a right run.
-use Rattle.std.proofs.Common.{◌≡◌, ℕ, ◌≤◌, [], ◌∷◌, ◌++◌, sym, refl, ap, subst, ◌∙◌, arith}
-use Rattle.std.specs.List.{AllByRecursion}
-use Rattle.mt_runs.specs.Runs.{Story}
-use Rattle.mt_runs.specs.Placings.{Placing, Quotas, Maps, maps_after_one, maps_after, Along}
+use Rattle.std.{proofs.Common.{◌≡◌, ℕ, ◌≤◌, [], ◌∷◌, ◌++◌, sym, refl, ap, subst, ◌∙◌, arith}, specs.List.AllByRecursion}
+use Rattle.mt_runs.specs.{Runs.Story, Placings.{Placing, Quotas, Maps, maps_after_one, maps_after, Along}}
 
 -- the number of the last pair, or the one before all
 abbrev pub last_number : ℕ → Placing → ℕ

@@ -1,13 +1,7 @@
 -- What a reader takes from one order: which operation precedes another in time, and which stands before another.
-use Rattle.std.specs.Prelude.{◌≡◌, ◌≢◌, ◌⊎◌, ℕ, ◌<◌, ◌++◌, Some}
-use Rattle.std.specs.List.{Contains}
-use Rattle.mt_rows.specs.declared.command.Command.{Command}
-use Rattle.mt_rows.specs.declared.command.Command.TheVariants.{Put, Remove}
-use Rattle.mt_rows.specs.declared.reply.Reply.{Reply}
-use Rattle.mt_rows.specs.Rows.{Bytes}
-use Rattle.mt_runs.specs.declared.event.Answer.{Answer}
-use Rattle.mt_runs.specs.Runs.{Story, Asked, owner, Finished}
-use Rattle.mt_runs.specs.Placings.{Placing}
+use Rattle.std.specs.{Prelude.{◌≡◌, ◌≢◌, ◌⊎◌, ℕ, ◌<◌, ◌++◌, Some}, List.Contains}
+use Rattle.mt_rows.specs.{declared.command.Command.Command, declared.command.Command.TheVariants.{Put, Remove}, declared.reply.Reply.Reply, Rows.Bytes}
+use Rattle.mt_runs.specs.{declared.event.Answer.Answer, Runs.{Story, Asked, owner, Finished}, Placings.Placing}
 
 -- an operation precedes another in time: each of its numbered steps comes before each of the other's
 abbrev pub Precedes : Story → ℕ → ℕ → Type 0

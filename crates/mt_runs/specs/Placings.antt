@@ -1,14 +1,10 @@
 -- One order of a run's operations: that it fits the run, and that it is legal.
 use Rattle.std.specs.Prelude.{◌≡◌, ℕ, ◌<◌, ◌≤◌, nat_le, Bool, true, false, not, ◌&&◌, ◌==◌, if◌then◌else◌, List, [], ◌∷◌, length, Option, Some, None}
-use Rattle.std.specs.List.{filter, filter_map, cons_option}
-use Rattle.std.specs.Option.{option_map}
-use Rattle.std.specs.FinMap as pairs
-use Rattle.mt_rows.specs.declared.command.Command.{Command}
-use Rattle.mt_rows.specs.declared.reply.Reply.{Reply}
-use Rattle.mt_runs.specs.Scans.{IsLawfulScan}
-use Rattle.mt_rows.specs.Maps.{Map, reply_of, map_after, is_change, is_scan, is_no_memory}
-use Rattle.mt_runs.specs.declared.event.Answer.{Answer}
+use Rattle.std.specs.{List.{filter, filter_map, cons_option}, Option.option_map}
+use Rattle.mt_rows.specs.{declared.command.Command.Command, declared.reply.Reply.Reply, Maps.{Map, reply_of, map_after, is_change, is_scan, is_no_memory}}
+use Rattle.mt_runs.specs.{Scans.IsLawfulScan, declared.event.Answer.Answer}
 use Rattle.mt_runs.specs.Runs.{Story, Asked, last_step, step_of, owner, Finished, IsSinceFirst, IsUpToLast, IsFirst, IsLast, IsBetween}
+use Rattle.std.specs.FinMap as pairs
 
 -- operations with their numbers, in order
 abbrev pub Placing : Type 0

@@ -3,8 +3,7 @@ use Rattle.std.specs.Prelude.{◌≡◌, ℕ, suc, ◌≤◌, Bool, true, false,
 use Rattle.mt_rows.specs.Maps.{Map, is_change, is_scan}
 use Rattle.mt_runs.specs.declared.event.Answer.{Answer}
 use Rattle.mt_runs.specs.Runs.{Story, Asked, last_step, step_of, owner, Finished, IsSinceFirst, IsUpToLast, IsFirst, IsLast, IsBetween, with_step}
-use Rattle.mt_runs.specs.Scans.{IsLawfulScan}
-use Rattle.mt_runs.specs.Placings.{Quotas, Maps, is_placed, reply_in, maps_after_one}
+use Rattle.mt_runs.specs.{Scans.IsLawfulScan, Placings.{Quotas, Maps, is_placed, reply_in, maps_after_one}}
 
 -- the maps of all tenants after a step: map_at t m is tenant t's map after step m
 abbrev pub maps_at : (ℕ → ℕ → Map) → ℕ → Maps

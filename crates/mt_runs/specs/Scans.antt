@@ -1,16 +1,9 @@
 -- What a finished scan may show, by the maps that its tenant had between its first and last step.
-use Rattle.std.specs.Prelude.{◌≡◌, ℕ, ◌≤◌, Bool, true, List, length, map, IsSome, Some}
-use Rattle.std.specs.List.{All, Contains}
-use Rattle.std.specs.List.Sorted.{IsStrictlySortedBy}
-use Rattle.std.specs.Ordering.{nat_cmp, is_le}
-use Rattle.std.specs.Cmp.Lexicographic.{slice_cmp}
+use Rattle.std.specs.{Prelude.{◌≡◌, ℕ, ◌≤◌, Bool, true, List, length, map, IsSome, Some}, List.{All, Contains}, List.Sorted.IsStrictlySortedBy}
+use Rattle.std.specs.{Ordering.{nat_cmp, is_le}, Cmp.Lexicographic.slice_cmp}
+use Rattle.mt_rows.specs.{declared.command.Command.Command, declared.command.Command.TheVariants.Scan, declared.reply.Reply.Reply}
+use Rattle.mt_rows.specs.{declared.reply.Reply.TheVariants.{Pairs, NoMemory}, Rows.{Bytes, Columns, shown}, Maps.{Map, is_walked}}
 use Rattle.std.specs.FinMap as pairs
-use Rattle.mt_rows.specs.declared.command.Command.{Command}
-use Rattle.mt_rows.specs.declared.command.Command.TheVariants.{Scan}
-use Rattle.mt_rows.specs.declared.reply.Reply.{Reply}
-use Rattle.mt_rows.specs.declared.reply.Reply.TheVariants.{Pairs, NoMemory}
-use Rattle.mt_rows.specs.Rows.{Bytes, Columns, shown}
-use Rattle.mt_rows.specs.Maps.{Map, is_walked}
 
 -- the pairs that a scan shows
 abbrev pub Shown : Type 0

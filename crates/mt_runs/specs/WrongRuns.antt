@@ -1,16 +1,9 @@
 -- Six runs of a new state that have no one order, each for a reason of its own; all else in them is as it should be.
 use Rattle.std.specs.Prelude.{ℕ, false, [], ◌∷◌}
-use Rattle.mt_rows.specs.declared.command.Command.{Command}
-use Rattle.mt_rows.specs.declared.command.Command.TheVariants.{Get, Put, Scan}
-use Rattle.mt_rows.specs.declared.reply.Reply.{Reply}
-use Rattle.mt_rows.specs.declared.reply.Reply.TheVariants.{Absent, Found, New, Pairs}
-use Rattle.mt_rows.specs.Rows.{Bytes, Columns}
-use Rattle.mt_rows.specs.Changes.{Named}
-use Rattle.mt_runs.specs.declared.event.Event.{Event}
-use Rattle.mt_runs.specs.declared.event.Event.TheVariants.{Begin, Step}
-use Rattle.mt_runs.specs.declared.event.Told.{Told}
-use Rattle.mt_runs.specs.declared.event.Told.TheVariants.{Begun, Moved, Done}
-use Rattle.mt_runs.specs.Runs.{Run}
+use Rattle.mt_rows.specs.{declared.command.Command.Command, declared.command.Command.TheVariants.{Get, Put, Scan}, declared.reply.Reply.Reply}
+use Rattle.mt_rows.specs.{declared.reply.Reply.TheVariants.{Absent, Found, New, Pairs}, Rows.{Bytes, Columns}, Changes.Named}
+use Rattle.mt_runs.specs.{declared.event.Event.Event, declared.event.Event.TheVariants.{Begin, Step}, declared.event.Told.Told}
+use Rattle.mt_runs.specs.{declared.event.Told.TheVariants.{Begun, Moved, Done}, Runs.Run}
 
 -- the key k, and a row of one column v
 abbrev pub key_k : Bytes

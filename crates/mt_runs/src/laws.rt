@@ -1,23 +1,14 @@
 //! The laws of runs, each the contract of a function that does nothing.
 
-ghost use Rattle.std.specs.Prelude.{◌≡◌, ◌≢◌, ◌≤◌, ◌↔◌, ℕ, Bool, true, false, List, [], ◌∷◌, ◌++◌, Option, Some, None};
-ghost use Rattle.std.specs.List.{Contains};
-ghost use Rattle.mt_rows.specs.Rows.{Bytes, Columns, shown};
-ghost use Rattle.mt_rows.specs.Changes.{Named, changed};
-ghost use Rattle.mt_rows.specs.Maps.{Map, is_change, is_no_memory};
-ghost use Rattle.mt_rows.specs.declared.command.Command.{Command};
-ghost use Rattle.mt_rows.specs.declared.command.Command.TheVariants.{Get, Put, Remove};
-ghost use Rattle.mt_rows.specs.declared.reply.Reply.{Reply};
+ghost use Rattle.std.specs.{Prelude.{◌≡◌, ◌≢◌, ◌≤◌, ◌↔◌, ℕ, Bool, true, false, List, [], ◌∷◌, ◌++◌, Option, Some, None}, List.Contains};
+ghost use Rattle.mt_rows.specs.{Rows.{Bytes, Columns, shown}, Changes.{Named, changed}, Maps.{Map, is_change, is_no_memory}, declared.command.Command.Command};
+ghost use Rattle.mt_rows.specs.{declared.command.Command.TheVariants.{Get, Put, Remove}, declared.reply.Reply.Reply};
 ghost use Rattle.mt_rows.specs.declared.reply.Reply.TheVariants.{Absent, Found};
-ghost use Rattle.mt_runs.specs.declared.event.Answer.{Answer};
-ghost use Rattle.mt_runs.specs.declared.event.Event.{Event};
-ghost use Rattle.mt_runs.specs.declared.event.Event.TheVariants.{Begin, Step};
-ghost use Rattle.mt_runs.specs.declared.event.Told.{Told};
-ghost use Rattle.mt_runs.specs.declared.event.Told.TheVariants.{Begun, Moved, Done};
+ghost use Rattle.mt_runs.specs.{declared.event.Answer.Answer, declared.event.Event.Event, declared.event.Event.TheVariants.{Begin, Step}};
+ghost use Rattle.mt_runs.specs.{declared.event.Told.Told, declared.event.Told.TheVariants.{Begun, Moved, Done}};
 ghost use Rattle.mt_runs.specs.Runs.{Run, Story, Asked, numbered, asked_by, story_of, owner, Finished, IsFirst, IsLast, IsBetween, with_begin, with_step};
 ghost use Rattle.mt_runs.specs.Placings.{Quotas, Maps, Placing, no_pairs, is_placed, Fits, HasOneOrder, maps_after_one, replies_of, commands_of};
-ghost use Rattle.mt_runs.specs.Orders.{Precedes, StandsIn, StandsBefore, WasTold, NoWriteBetween};
-ghost use Rattle.mt_runs.specs.Right.{Right, IsGrowth};
+ghost use Rattle.mt_runs.specs.{Orders.{Precedes, StandsIn, StandsBefore, WasTold, NoWriteBetween}, Right.{Right, IsGrowth}};
 ghost use Rattle.mt_runs.specs.WrongRuns.{row_from_nowhere, missed_write, step_after_the_end, row_from_the_future, pair_from_nowhere, missed_pair};
 
 /// One order explains each run that is right: it places every finished get, put and remove that

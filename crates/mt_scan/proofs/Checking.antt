@@ -1,49 +1,22 @@
 -- What a scan keeps as it goes on behind a stretch of keys.
 use Rattle.std.proofs.Common.{◌≡◌, ◌≢◌, ℕ, ◌+◌, ◌*◌, ◌^◌, ◌<◌, ◌≤◌, Bool, true, false, List, [], ◌∷◌, ◌++◌, length, take, Option, refl, sym, ap, subst, ◌∙◌, inl, inr, arith}
-use Rattle.std.specs.Prelude.{if◌then◌else◌, max, min, Result, Ok, Err, OnOk}
-use Rattle.std.specs.Int.{w64, to_be_bytes}
-use Rattle.std.specs.Ordering.{nat_cmp, is_lt, ordering_then}
-use Rattle.std.specs.declared.cmp.Ordering.{Ordering}
-use Rattle.std.specs.declared.cmp.Ordering.TheVariants.{Less, Equal}
-use Rattle.std.specs.Cmp.Lexicographic.{slice_cmp}
-use Rattle.std.proofs.Math.Seq.{take-append_seam}
-use Rattle.std.proofs.lemmas.Bool.{cases_lt, cases_eq}
-use Rattle.std.proofs.lemmas.List.{length-append, length-take}
-use Rattle.std.proofs.Math.Nat.{le-max_left}
+use Rattle.std.proofs.{Math.Seq.take-append_seam, lemmas.Bool.{cases_lt, cases_eq}, lemmas.List.{length-append, length-take}, Math.Nat.le-max_left}
+use Rattle.std.specs.{Prelude.{if◌then◌else◌, max, min, Result, Ok, Err, OnOk}, Int.{w64, to_be_bytes}, Ordering.{nat_cmp, is_lt, ordering_then}}
+use Rattle.std.specs.{declared.cmp.Ordering.Ordering, declared.cmp.Ordering.TheVariants.{Less, Equal}, Cmp.Lexicographic.slice_cmp}
 use Rattle.mt_version.specs.Changes.{IsStable, SameButLock}
-use Rattle.mt_slices.specs.declared.mark.Mark.{Mark}
-use Rattle.mt_slices.specs.declared.mark.Mark.TheVariants.{Short, Long}
-use Rattle.mt_slices.specs.Keys.{IsStoredKey}
-use Rattle.mt_slices.specs.Marks.{IsMark, mark_rank}
-use Rattle.mt_slices.specs.Slices.{slice_of, mark_of, suffix_of}
-use Rattle.mt_slices.specs.Fences.{significant, trimmed, least_more, least_from, least_through}
-use Rattle.mt_slices.proofs.Least as least
+use Rattle.mt_slices.specs.{declared.mark.Mark.Mark, declared.mark.Mark.TheVariants.{Short, Long}, Keys.IsStoredKey, Marks.{IsMark, mark_rank}}
+use Rattle.mt_slices.specs.{Slices.{slice_of, mark_of, suffix_of}, Fences.{significant, trimmed, least_more, least_from, least_through}}
 use Rattle.mt_rows.specs.Rows.{Bytes, Columns}
-use Rattle.mt_border.specs.Contents.{IsOfTree}
-use Rattle.mt_border.proofs.ContentsKeys.{is_mark_of}
-use Rattle.mt_arena.specs.NodeView.{NodeView}
-use Rattle.mt_arena.proofs.Elsewhere.{layer_is}
-use Rattle.mt_arena.specs.Arena.{ArenaView, IsArena}
-use Rattle.mt_arena.specs.Accesses.{at}
-use Rattle.mt_arena.proofs.Down.{long_below, next_prefix}
-use Rattle.mt_operation.specs.declared.phase.Phase.TheVariants.{Hop, Done, Forward}
-use Rattle.mt_operation.specs.declared.walk.Walk.{Walk}
-use Rattle.mt_operation.specs.declared.scan.Scan.{Scan}
-use Rattle.mt_operation.specs.declared.scan.Stop.{Stop}
+use Rattle.mt_border.{specs.Contents.IsOfTree, proofs.ContentsKeys.is_mark_of}
+use Rattle.mt_arena.{specs.{NodeView.NodeView, Arena.{ArenaView, IsArena}, Accesses.at}, proofs.{Elsewhere.layer_is, Down.{long_below, next_prefix}}}
+use Rattle.mt_operation.specs.{declared.phase.Phase.TheVariants.{Hop, Done, Forward}, declared.walk.Walk.Walk, declared.scan.Scan.Scan, declared.scan.Stop.Stop}
+use Rattle.mt_operation.specs.{declared.task.Task.Task, Operations.{ScanView, scan_of}}
+use Rattle.mt_descent.{specs.{Seen.Stands, Pasts.Past, KeptWalks.{GoesThrough, IsKept}, WalkMoves.{walk_anew, after_change}}, proofs.Ways.same_stands}
+use Rattle.mt_readings.proofs.{Readings.in_tree, Bytewise.{nat_less, nat_same}}
+use Rattle.mt_scan.specs.{Snaps.prefix_in, Checks.{collects, kept_seen, at_fence, walk_to, GoesBehind, IsCheck}}
+use Rattle.mt_scan.specs.{Goings.{HasBehind, Collects, IsStoredBehind, Keeps}, Hops.{IsAtHop, KnowsLink, LeadsNext, KnowsEnd, IsAtCheck, KeptHop, KeptScan}}
+use Rattle.mt_slices.proofs.Least as least
 use Rattle.mt_operation.specs.declared.scan.Stop.TheVariants as stops
-use Rattle.mt_operation.specs.declared.task.Task.{Task}
-use Rattle.mt_operation.specs.Operations.{ScanView, scan_of}
-use Rattle.mt_descent.specs.Seen.{Stands}
-use Rattle.mt_descent.specs.Pasts.{Past}
-use Rattle.mt_descent.specs.KeptWalks.{GoesThrough, IsKept}
-use Rattle.mt_descent.specs.WalkMoves.{walk_anew, after_change}
-use Rattle.mt_descent.proofs.Ways.{same_stands}
-use Rattle.mt_readings.proofs.Readings.{in_tree}
-use Rattle.mt_readings.proofs.Bytewise.{nat_less, nat_same}
-use Rattle.mt_scan.specs.Snaps.{prefix_in}
-use Rattle.mt_scan.specs.Checks.{collects, kept_seen, at_fence, walk_to, GoesBehind, IsCheck}
-use Rattle.mt_scan.specs.Goings.{HasBehind, Collects, IsStoredBehind, Keeps}
-use Rattle.mt_scan.specs.Hops.{IsAtHop, KnowsLink, LeadsNext, KnowsEnd, IsAtCheck, KeptHop, KeptScan}
 
 -- what was collected, as it is shown
 pub collected : (task : Task) (count : ℕ) (columns : List ℕ) (old new : Scan) (full : Bool) → Collects count columns old new full

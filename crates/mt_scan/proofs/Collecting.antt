@@ -1,9 +1,7 @@
 -- What a scan has collected, pair by pair.
-use Rattle.std.proofs.Common.{◌≡◌, ℕ, ◌+◌, List, [], ◌∷◌, ◌++◌, length, take, get_or, Some, refl, sym, ap, ◌∙◌, add-one}
+use Rattle.std.proofs.{Common.{◌≡◌, ℕ, ◌+◌, List, [], ◌∷◌, ◌++◌, length, take, get_or, Some, refl, sym, ap, ◌∙◌, add-one}, Math.Seq.take-suc}
+use Rattle.std.proofs.{lemmas.List.{get_or_default, map-append, append_assoc}, lemmas.Option.{slice_get_within, slice_get_read, same_Some}}
 use Rattle.std.specs.Prelude.{slice_get}
-use Rattle.std.proofs.Math.Seq.{take-suc}
-use Rattle.std.proofs.lemmas.List.{get_or_default, map-append, append_assoc}
-use Rattle.std.proofs.lemmas.Option.{slice_get_within, slice_get_read, same_Some}
 use Rattle.mt_rows.specs.Rows.{Bytes, Columns, shown}
 use Rattle.mt_walks.specs.Walked.{shown_all}
 

@@ -3,19 +3,9 @@ use Rattle.std.proofs.Common.{◌≡◌, ℕ, ◌<◌, false, length, Some, None
 use Rattle.mt_version.specs.Changes.{IsStable}
 use Rattle.mt_slices.specs.Slices.{slice_of}
 use Rattle.mt_rows.specs.Rows.{Bytes}
-use Rattle.mt_arena.specs.Nodes.{IsNeighbour, seat_of}
-use Rattle.mt_arena.specs.Arena.{ArenaView, IsArena}
-use Rattle.mt_arena.specs.Accesses.{at}
-use Rattle.mt_arena.specs.Guarantee.{NodesGuarantee}
-use Rattle.mt_operation.specs.declared.walk.Aim.TheVariants.{Read}
-use Rattle.mt_operation.specs.declared.walk.Walk.{Walk}
-use Rattle.mt_operation.specs.declared.phase.Phase.TheVariants.{Enter}
-use Rattle.mt_operation.specs.Walks.{walk_from_top}
-use Rattle.mt_descent.specs.Seen.{Covers}
-use Rattle.mt_descent.specs.Pasts.{Past, ExtendsPast}
-use Rattle.mt_descent.specs.KeptWalks.{GoesThrough}
-use Rattle.mt_descent.proofs.Rely.{kept_stays}
-use Rattle.mt_descent.proofs.Ways.{seen_now}
+use Rattle.mt_arena.specs.{Nodes.{IsNeighbour, seat_of}, Arena.{ArenaView, IsArena}, Accesses.at, Guarantee.NodesGuarantee}
+use Rattle.mt_operation.specs.{declared.walk.Aim.TheVariants.Read, declared.walk.Walk.Walk, declared.phase.Phase.TheVariants.Enter, Walks.walk_from_top}
+use Rattle.mt_descent.{specs.{Seen.Covers, Pasts.{Past, ExtendsPast}, KeptWalks.GoesThrough}, proofs.{Rely.kept_stays, Ways.seen_now}}
 use Rattle.mt_scan.specs.Hops.{IsNextFrom, IsAtHop}
 
 -- what stands beside a node in its tree

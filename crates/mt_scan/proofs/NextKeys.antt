@@ -1,11 +1,7 @@
 -- A stored key of its tree goes on with the slice at which a next node begins.
 use Rattle.std.proofs.Common.{◌≡◌, ℕ, ◌<◌, ◌≤◌, length, Some, sym, subst}
-use Rattle.mt_slices.specs.Fences.{least_from}
-use Rattle.mt_slices.proofs.Short.{short}
-use Rattle.mt_arena.specs.Forests.{HasSlice, tree_at, layer_of}
-use Rattle.mt_arena.specs.Arena.{ArenaView, IsArena}
-use Rattle.mt_arena.specs.Accesses.{at}
-use Rattle.mt_arena.proofs.NextBegins.{next_begins}
+use Rattle.mt_slices.{specs.Fences.least_from, proofs.Short.short}
+use Rattle.mt_arena.{specs.{Forests.{HasSlice, tree_at, layer_of}, Arena.{ArenaView, IsArena}, Accesses.at}, proofs.NextBegins.next_begins}
 use Rattle.mt_rows.specs.Rows.{Bytes}
 
 -- the least such key may be stored

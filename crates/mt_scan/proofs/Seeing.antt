@@ -1,20 +1,12 @@
 -- The tenant's pairs among those that are read, one by one.
 use Rattle.std.proofs.Common.{◌≡◌, ◌≢◌, ℕ, ◌-◌, ◌/◌, ◌^◌, ◌<◌, ◌≤◌, Bool, true, false, List, [], ◌∷◌, ◌++◌, length, take, drop, Some, None, sym, ap, subst, ◌∙◌, arith}
-use Rattle.std.specs.Prelude.{if◌then◌else◌}
-use Rattle.std.specs.Int.{w32, w64, to_be_bytes, from_be_bytes}
-use Rattle.std.specs.List.{All}
-use Rattle.std.proofs.lemmas.Bool.{eq-eqb, ne_eqb}
-use Rattle.std.proofs.lemmas.List.{take-append-le, take-append-drop, drop-append-le, append_assoc, length-drop}
-use Rattle.std.proofs.lemmas.List.Elements.{All-tail, filter_map-append}
-use Rattle.std.proofs.Math.Seq.{take-length}
+use Rattle.std.proofs.{lemmas.Bool.{eq-eqb, ne_eqb}, lemmas.List.{take-append-le, take-append-drop, drop-append-le, append_assoc, length-drop}}
+use Rattle.std.proofs.{lemmas.List.Elements.{All-tail, filter_map-append}, Math.Seq.take-length}
+use Rattle.std.specs.{Prelude.{if◌then◌else◌}, Int.{w32, w64, to_be_bytes, from_be_bytes}, List.All}
 use Rattle.mt_slices.specs.Keys.{tenant_of, user_key_of}
 use Rattle.mt_rows.specs.Rows.{Bytes, Columns}
-use Rattle.mt_border.specs.declared.entry.Pair.{Pair}
-use Rattle.mt_border.specs.declared.entry.Entry.{Entry}
-use Rattle.mt_border.specs.Entry.{pair_of}
-use Rattle.mt_border.specs.Contents.{key_at}
-use Rattle.mt_readings.specs.Reading.{read_on, read, stop_on, stop}
-use Rattle.mt_readings.specs.Tenancies.{own_pair, own_pairs}
+use Rattle.mt_border.specs.{declared.entry.Pair.Pair, declared.entry.Entry.Entry, Entry.pair_of, Contents.key_at}
+use Rattle.mt_readings.specs.{Reading.{read_on, read, stop_on, stop}, Tenancies.{own_pair, own_pairs}}
 use Rattle.mt_scan.specs.Looks.{NamesTenant}
 
 -- the tenant of a slice of the top layer

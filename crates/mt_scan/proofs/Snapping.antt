@@ -1,58 +1,29 @@
 -- What Snap reads of its border node, and what is kept of the end of that stretch.
 use Rattle.std.proofs.Common.{◌≡◌, ◌≢◌, ℕ, zero, suc, ◌*◌, ◌^◌, ◌<◌, ◌≤◌, Bool, true, false, List, [], ◌∷◌, ◌++◌, length, take, drop, get_or, Option, Some, None, refl, sym, ap, subst, ◌∙◌, inl, inr, arith}
-use Rattle.std.specs.Prelude.{if◌then◌else◌, nat_le}
-use Rattle.std.specs.Int.{w64, to_be_bytes}
-use Rattle.std.specs.List.{All, Contains}
-use Rattle.std.specs.Ordering.{nat_cmp, ordering_then}
+use Rattle.std.proofs.{lemmas.Bool.{cases_lt, cases_eq}, lemmas.Bool.Decides.nat_tests}
+use Rattle.std.proofs.{lemmas.List.{get_or_default, length-take-le, take-append-drop, nil_from_length}, lemmas.Option.same_Some}
+use Rattle.std.specs.{Prelude.{if◌then◌else◌, nat_le}, Int.{w64, to_be_bytes}, List.{All, Contains}, Ordering.{nat_cmp, ordering_then}}
 use Rattle.std.specs.declared.cmp.Ordering.{Ordering}
-use Rattle.std.proofs.lemmas.Bool.{cases_lt, cases_eq}
-use Rattle.std.proofs.lemmas.Bool.Decides.{nat_tests}
-use Rattle.std.proofs.lemmas.List.{get_or_default, length-take-le, take-append-drop, nil_from_length}
-use Rattle.std.proofs.lemmas.Option.{same_Some}
-use Rattle.mt_version.proofs.CallerLemmas as versions
-use Rattle.mt_slices.specs.declared.mark.Mark.{Mark}
-use Rattle.mt_slices.specs.declared.mark.Mark.TheVariants.{Short, Long}
-use Rattle.mt_slices.proofs.Bytes.{AreBytes, bytes-drop}
-use Rattle.mt_slices.proofs.Numbers.{number_lt, slice_at-number}
-use Rattle.mt_slices.specs.Keys.{tenant_of}
-use Rattle.mt_slices.specs.Marks.{IsMark, mark_rank}
-use Rattle.mt_slices.specs.Slices.{rest_of, slice_at, slice_of, mark_at, mark_of, suffix_of, piece_bytes}
-use Rattle.mt_slices.specs.Fences.{least_from}
+use Rattle.mt_slices.specs.{declared.mark.Mark.Mark, declared.mark.Mark.TheVariants.{Short, Long}, Keys.tenant_of, Marks.{IsMark, mark_rank}}
+use Rattle.mt_slices.specs.{Slices.{rest_of, slice_at, slice_of, mark_at, mark_of, suffix_of, piece_bytes}, Fences.least_from}
+use Rattle.mt_slices.proofs.{Bytes.{AreBytes, bytes-drop}, Numbers.{number_lt, slice_at-number}}
 use Rattle.mt_rows.specs.Rows.{Bytes, Columns}
-use Rattle.mt_border.specs.declared.entry.Pair.{Pair}
-use Rattle.mt_border.specs.declared.entry.Entry.{Entry}
-use Rattle.mt_border.specs.declared.entry.Held.{Held}
-use Rattle.mt_border.specs.declared.entry.Held.TheVariants as helds
-use Rattle.mt_border.specs.Entry.{pair_of}
-use Rattle.mt_border.proofs.Edits.{any_entry}
-use Rattle.mt_border.proofs.ContentsKeys.{is_mark_of}
-use Rattle.mt_arena.specs.NodeFacts.{IsUnstable}
-use Rattle.mt_arena.specs.NodeView.{NodeView}
-use Rattle.mt_arena.specs.Layers.{slot_at, LeadsTo}
-use Rattle.mt_arena.specs.Nodes.{IsNode, HasRange}
-use Rattle.mt_arena.specs.Forests.{HaveKeys, tree_at, layer_of}
-use Rattle.mt_arena.specs.Arena.{ArenaView, IsArena}
-use Rattle.mt_arena.specs.Accesses.{at}
-use Rattle.mt_arena.proofs.Down.{long_below}
-use Rattle.mt_arena.proofs.Elsewhere.{mark_short, layer_is}
-use Rattle.mt_arena.proofs.Links.{long_link}
-use Rattle.mt_operation.specs.declared.phase.Phase.TheVariants.{Check}
-use Rattle.mt_operation.specs.declared.walk.Walk.{Walk}
-use Rattle.mt_operation.specs.declared.scan.Stop.{Stop}
-use Rattle.mt_operation.specs.declared.scan.Stop.TheVariants as stops
-use Rattle.mt_operation.specs.Operations.{ScanView}
-use Rattle.mt_descent.specs.Seen.{Stands}
-use Rattle.mt_descent.specs.KeptWalks.{IsAtBorder}
-use Rattle.mt_readings.specs.Reading.{behind_by, is_behind, read_on, read, stop_on, stop}
-use Rattle.mt_readings.proofs.Readings.{read_in, stop_in}
-use Rattle.mt_readings.proofs.Bytewise.{nat_less}
-use Rattle.mt_readings.specs.Tenancies.{own_pairs}
+use Rattle.mt_border.specs.{declared.entry.Pair.Pair, declared.entry.Entry.Entry, declared.entry.Held.Held, Entry.pair_of}
+use Rattle.mt_border.proofs.{Edits.any_entry, ContentsKeys.is_mark_of}
+use Rattle.mt_arena.specs.{NodeFacts.IsUnstable, NodeView.NodeView, Layers.{slot_at, LeadsTo}, Nodes.{IsNode, HasRange}, Forests.{HaveKeys, tree_at, layer_of}}
+use Rattle.mt_arena.specs.{Arena.{ArenaView, IsArena}, Accesses.at}
+use Rattle.mt_arena.proofs.{Down.long_below, Elsewhere.{mark_short, layer_is}, Links.long_link}
+use Rattle.mt_operation.specs.{declared.phase.Phase.TheVariants.Check, declared.walk.Walk.Walk, declared.scan.Stop.Stop, Operations.ScanView}
+use Rattle.mt_descent.specs.{Seen.Stands, KeptWalks.IsAtBorder}
+use Rattle.mt_readings.specs.{Reading.{behind_by, is_behind, read_on, read, stop_on, stop}, Tenancies.own_pairs}
+use Rattle.mt_readings.proofs.{Readings.{read_in, stop_in}, Bytewise.nat_less}
 use Rattle.mt_scan.specs.Snaps.{link_in, IsOver, StopsAtLink, HasNoLink, StopsAt, SnapsOr, next_for, prefix_in}
 use Rattle.mt_scan.specs.Looks.{behind_at, unstable_on, has_unstable, TellsLink, NamesTenant, IsOfTenant, HasNoOwn, EndsAt}
 use Rattle.mt_scan.specs.Hops.{KnowsLink, LeadsBelow, LeadsNext, KnowsEnd, IsAtCheck}
-use Rattle.mt_scan.proofs.Hopping.{sees_next}
-use Rattle.mt_scan.proofs.NextKeys.{next_key_fits}
-use Rattle.mt_scan.proofs.Seeing.{tenant_first}
+use Rattle.mt_scan.proofs.{Hopping.sees_next, NextKeys.next_key_fits, Seeing.tenant_first}
+use Rattle.mt_version.proofs.CallerLemmas as versions
+use Rattle.mt_border.specs.declared.entry.Held.TheVariants as helds
+use Rattle.mt_operation.specs.declared.scan.Stop.TheVariants as stops
 
 module _ (behind : Entry → Bool) where
   -- an unstable slot among those that are read

@@ -1,24 +1,13 @@
 -- What a scan keeps stays under each step of any operation.
-use Rattle.std.proofs.Common.{◌≡◌, ◌≢◌, ℕ, ◌+◌, ◌<◌, ◌≤◌, length, refl, sym, ap, subst, ◌∙◌, arith}
-use Rattle.std.specs.FinMap.{empty}
+use Rattle.std.{proofs.Common.{◌≡◌, ◌≢◌, ℕ, ◌+◌, ◌<◌, ◌≤◌, length, refl, sym, ap, subst, ◌∙◌, arith}, specs.FinMap.empty}
 use Rattle.mt_slices.specs.Fences.{least_from}
 use Rattle.mt_rows.specs.Rows.{Bytes}
-use Rattle.mt_arena.specs.declared.tree.Standing.{Standing}
-use Rattle.mt_arena.specs.declared.tree.Standing.TheVariants.{Made, Live, Dead}
-use Rattle.mt_arena.specs.declared.tree.Tree.{Tree}
-use Rattle.mt_arena.specs.Forests.{tree_at}
-use Rattle.mt_arena.specs.Arena.{ArenaView}
-use Rattle.mt_arena.specs.Accesses.{at}
-use Rattle.mt_arena.specs.Guarantee.{NodesGuarantee}
-use Rattle.mt_operation.specs.declared.walk.Walk.{Walk}
-use Rattle.mt_operation.specs.declared.scan.Stop.{Stop}
+use Rattle.mt_arena.specs.{declared.tree.Standing.Standing, declared.tree.Standing.TheVariants.{Made, Live, Dead}, declared.tree.Tree.Tree, Forests.tree_at}
+use Rattle.mt_arena.specs.{Arena.ArenaView, Accesses.at, Guarantee.NodesGuarantee}
+use Rattle.mt_operation.specs.{declared.walk.Walk.Walk, declared.scan.Stop.Stop}
+use Rattle.mt_descent.{specs.{Seen.Stands, Pasts.Past}, proofs.Rely.{border_stays, stood}}
+use Rattle.mt_scan.{specs.{Snaps.prefix_in, Hops.{LeadsBelow, LeadsNext, KnowsEnd, IsAtCheck, KeptHop}}, proofs.Hopping.{through, next_stays, hop_stays}}
 use Rattle.mt_operation.specs.declared.scan.Stop.TheVariants as stops
-use Rattle.mt_descent.specs.Seen.{Stands}
-use Rattle.mt_descent.specs.Pasts.{Past}
-use Rattle.mt_descent.proofs.Rely.{border_stays, stood}
-use Rattle.mt_scan.specs.Snaps.{prefix_in}
-use Rattle.mt_scan.specs.Hops.{LeadsBelow, LeadsNext, KnowsEnd, IsAtCheck, KeptHop}
-use Rattle.mt_scan.proofs.Hopping.{through, next_stays, hop_stays}
 
 -- no contents: what a scan keeps speaks of none
 pub no_past : Past

@@ -1,22 +1,15 @@
 -- What Check keeps of the pairs that Snap has seen, and where a scan goes behind them.
 use Rattle.std.specs.Prelude.{◌≡◌, ◌≢◌, ℕ, ◌-◌, ◌<◌, ◌≤◌, ◌⊎◌, ◌++◌, Bool, false, List, [], length, take, slice_index, if◌then◌else◌, Option, Some, None}
-use Rattle.std.specs.Ordering.{nat_cmp, is_lt}
-use Rattle.std.specs.Cmp.Lexicographic.{slice_cmp}
+use Rattle.std.specs.{Ordering.{nat_cmp, is_lt}, Cmp.Lexicographic.slice_cmp}
 use Rattle.mt_version.specs.Changes.{IsStable, SameButLock}
 use Rattle.mt_slices.specs.Fences.{least_from, least_through, IsBehindAll}
-use Rattle.mt_rows.specs.declared.command.Command.TheVariants.{Scan}
-use Rattle.mt_rows.specs.Rows.{Bytes, Columns, AreIndexes}
+use Rattle.mt_rows.specs.{declared.command.Command.TheVariants.Scan, Rows.{Bytes, Columns, AreIndexes}}
 use Rattle.mt_arena.specs.NodeView.{NodeView}
-use Rattle.mt_operation.specs.declared.phase.Phase.{Phase}
-use Rattle.mt_operation.specs.declared.phase.Phase.TheVariants.{Hop, Done}
-use Rattle.mt_operation.specs.declared.walk.Walk.{Walk}
-use Rattle.mt_operation.specs.declared.scan.Stop.{Stop}
-use Rattle.mt_operation.specs.declared.scan.Stop.TheVariants as stops
-use Rattle.mt_operation.specs.declared.task.Task.{Task}
-use Rattle.mt_operation.specs.Operations.{ScanView}
-use Rattle.mt_operation.specs.Tasks.{ask}
+use Rattle.mt_operation.specs.{declared.phase.Phase.Phase, declared.phase.Phase.TheVariants.{Hop, Done}, declared.walk.Walk.Walk, declared.scan.Stop.Stop}
+use Rattle.mt_operation.specs.{declared.task.Task.Task, Operations.ScanView, Tasks.ask}
 use Rattle.mt_descent.specs.WalkMoves.{IsBlocked, after_change}
 use Rattle.mt_walks.specs.Walked.{shown_all}
+use Rattle.mt_operation.specs.declared.scan.Stop.TheVariants as stops
 
 -- the task is a scan for so many pairs, and these columns of their rows
 pub record Asks (task : Task) (count : ℕ) (columns : List ℕ) : Type 0 where

@@ -1,21 +1,14 @@
 -- What the parts of Check answer: what is collected, and the next fence.
-use Rattle.std.specs.Prelude.{◌≡◌, ◌≢◌, ℕ, ◌≤◌, ◌++◌, ◌-◌, Bool, true, false, List, [], length, take, ◌↔◌, IsTrue}
-use Rattle.std.specs.Ordering.{nat_cmp, is_lt}
+use Rattle.std.specs.{Prelude.{◌≡◌, ◌≢◌, ℕ, ◌≤◌, ◌++◌, ◌-◌, Bool, true, false, List, [], length, take, ◌↔◌, IsTrue}, Ordering.{nat_cmp, is_lt}}
 use Rattle.std.specs.Cmp.Lexicographic.{slice_cmp}
-use Rattle.mt_slices.specs.Keys.{IsStoredKey}
-use Rattle.mt_slices.specs.Fences.{least_from, least_through, IsBehindAll}
+use Rattle.mt_slices.specs.{Keys.IsStoredKey, Fences.{least_from, least_through, IsBehindAll}}
 use Rattle.mt_rows.specs.Rows.{Bytes}
-use Rattle.mt_operation.specs.declared.phase.Phase.{Phase}
-use Rattle.mt_operation.specs.declared.phase.Phase.TheVariants.{Hop, Done}
-use Rattle.mt_operation.specs.declared.walk.Walk.{Walk}
-use Rattle.mt_operation.specs.Operations.{ScanView}
-use Rattle.mt_operation.specs.declared.scan.Scan.{Scan}
-use Rattle.mt_operation.specs.declared.scan.Stop.{Stop}
-use Rattle.mt_operation.specs.declared.scan.Stop.TheVariants as stops
+use Rattle.mt_operation.specs.{declared.phase.Phase.Phase, declared.phase.Phase.TheVariants.{Hop, Done}, declared.walk.Walk.Walk, Operations.ScanView}
+use Rattle.mt_operation.specs.{declared.scan.Scan.Scan, declared.scan.Stop.Stop}
 use Rattle.mt_walks.specs.Walked.{shown_all}
-use Rattle.mt_scan.specs.declared.behind.NextFence.{NextFence}
-use Rattle.mt_scan.specs.declared.behind.NextFence.TheVariants.{Over, Here, At}
+use Rattle.mt_scan.specs.{declared.behind.NextFence.NextFence, declared.behind.NextFence.TheVariants.{Over, Here, At}}
 use Rattle.mt_scan.specs.Checks.{collects, kept_seen, at_fence, AreGreatest, walk_to, GoesBehind}
+use Rattle.mt_operation.specs.declared.scan.Stop.TheVariants as stops
 
 -- the key behind a stretch that ends so is one that may be stored
 abbrev pub HasBehind : Bytes → Stop → Type 0

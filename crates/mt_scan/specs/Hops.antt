@@ -1,26 +1,13 @@
 -- How a scan comes to the next border node: what it keeps on its way there, and where Hop leads.
-use Rattle.std.specs.Prelude.{◌≡◌, ◌≢◌, ◌+◌, ◌^◌, ◌<◌, ◌≤◌, ◌++◌, ℕ, length, if◌then◌else◌, Option, Some, None}
-use Rattle.std.specs.Int.{w64, to_be_bytes}
+use Rattle.std.specs.{Prelude.{◌≡◌, ◌≢◌, ◌+◌, ◌^◌, ◌<◌, ◌≤◌, ◌++◌, ℕ, length, if◌then◌else◌, Option, Some, None}, Int.{w64, to_be_bytes}}
 use Rattle.mt_version.specs.Changes.{IsStable}
-use Rattle.mt_slices.specs.Keys.{IsStoredKey}
-use Rattle.mt_slices.specs.Slices.{slice_of}
-use Rattle.mt_slices.specs.Fences.{least_from}
+use Rattle.mt_slices.specs.{Keys.IsStoredKey, Slices.slice_of, Fences.least_from}
 use Rattle.mt_rows.specs.Rows.{Bytes, Columns}
-use Rattle.mt_arena.specs.declared.tree.Standing.TheVariants.{Made}
-use Rattle.mt_arena.specs.NodeView.{NodeView}
-use Rattle.mt_arena.specs.Forests.{tree_at}
-use Rattle.mt_arena.specs.Arena.{ArenaView}
-use Rattle.mt_arena.specs.Accesses.{at}
-use Rattle.mt_operation.specs.declared.phase.Phase.{Phase}
-use Rattle.mt_operation.specs.declared.phase.Phase.TheVariants.{Check, Hop}
-use Rattle.mt_operation.specs.declared.walk.Walk.{Walk}
-use Rattle.mt_operation.specs.declared.scan.Stop.{Stop}
-use Rattle.mt_operation.specs.declared.scan.Stop.TheVariants as stops
-use Rattle.mt_descent.specs.Seen.{Stands}
-use Rattle.mt_descent.specs.Pasts.{Past}
-use Rattle.mt_descent.specs.KeptWalks.{GoesThrough, IsAtBorder, KeptAt}
-use Rattle.mt_descent.specs.WalkMoves.{AnswersAgain, walk_into, walk_onto}
+use Rattle.mt_arena.specs.{declared.tree.Standing.TheVariants.Made, NodeView.NodeView, Forests.tree_at, Arena.ArenaView, Accesses.at}
+use Rattle.mt_operation.specs.{declared.phase.Phase.Phase, declared.phase.Phase.TheVariants.{Check, Hop}, declared.walk.Walk.Walk, declared.scan.Stop.Stop}
+use Rattle.mt_descent.specs.{Seen.Stands, Pasts.Past, KeptWalks.{GoesThrough, IsAtBorder, KeptAt}, WalkMoves.{AnswersAgain, walk_into, walk_onto}}
 use Rattle.mt_scan.specs.Snaps.{prefix_in}
+use Rattle.mt_operation.specs.declared.scan.Stop.TheVariants as stops
 
 -- node x was the next one, as the scan read the one before: a border node of the tree, which begins at the slice
 pub record IsNextFrom (v : ArenaView) (tree slice x : ℕ) : Type 0 where

@@ -1,20 +1,15 @@
 -- What the parts of Snap look for in the entries of a border node, and what they tell of them.
 use Rattle.std.specs.Prelude.{◌≡◌, ◌≢◌, ℕ, ◌≤◌, Bool, true, false, List, [], ◌∷◌, length, if◌then◌else◌, Option, Some, None}
 use Rattle.std.specs.Ordering.{nat_cmp, ordering_then}
-use Rattle.mt_slices.specs.declared.mark.Mark.{Mark}
-use Rattle.mt_slices.specs.Marks.{IsMark, mark_rank}
-use Rattle.mt_slices.specs.Slices.{piece_bytes}
-use Rattle.mt_slices.specs.Keys.{tenant_of}
+use Rattle.mt_slices.specs.{declared.mark.Mark.Mark, Marks.{IsMark, mark_rank}, Slices.piece_bytes, Keys.tenant_of}
 use Rattle.mt_rows.specs.Rows.{Bytes}
-use Rattle.mt_border.specs.declared.entry.Entry.{Entry}
-use Rattle.mt_border.specs.declared.entry.Held.{Held}
-use Rattle.mt_border.specs.declared.entry.Held.TheVariants as helds
-use Rattle.mt_border.specs.Entry.{pair_of}
+use Rattle.mt_border.specs.{declared.entry.Entry.Entry, declared.entry.Held.Held, Entry.pair_of}
 use Rattle.mt_interior.specs.Fences.{end_of}
 use Rattle.mt_operation.specs.declared.scan.Stop.{Stop}
-use Rattle.mt_operation.specs.declared.scan.Stop.TheVariants as stops
 use Rattle.mt_readings.specs.Reading.{behind_by}
 use Rattle.mt_scan.specs.Snaps.{IsOver}
+use Rattle.mt_border.specs.declared.entry.Held.TheVariants as helds
+use Rattle.mt_operation.specs.declared.scan.Stop.TheVariants as stops
 
 -- which entries a fence with this slice, mark and suffix is behind
 abbrev pub behind_at : ℕ → Mark → Bytes → Bool → Entry → Bool

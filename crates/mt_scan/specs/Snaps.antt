@@ -1,24 +1,14 @@
 -- What Snap reads of a border node, and how the stretch ends that it reads.
-use Rattle.std.specs.Prelude.{◌≡◌, ◌≢◌, ℕ, ◌+◌, ◌*◌, ◌≤◌, Bool, List, Option, Some, None}
-use Rattle.std.specs.List.{Contains}
+use Rattle.std.specs.{Prelude.{◌≡◌, ◌≢◌, ℕ, ◌+◌, ◌*◌, ◌≤◌, Bool, List, Option, Some, None}, List.Contains}
 use Rattle.mt_slices.specs.Keys.{tenant_of}
 use Rattle.mt_rows.specs.Rows.{Bytes}
-use Rattle.mt_border.specs.declared.entry.Pair.{Pair}
-use Rattle.mt_border.specs.declared.entry.Entry.{Entry}
-use Rattle.mt_border.specs.declared.entry.Held.TheVariants as helds
+use Rattle.mt_border.specs.{declared.entry.Pair.Pair, declared.entry.Entry.Entry}
 use Rattle.mt_interior.specs.Fences.{end_of}
-use Rattle.mt_arena.specs.NodeView.{NodeView}
-use Rattle.mt_arena.specs.NodeFacts.{IsUnstable}
-use Rattle.mt_arena.specs.Forests.{tree_at}
-use Rattle.mt_arena.specs.Arena.{ArenaView}
-use Rattle.mt_arena.specs.Accesses.{at}
-use Rattle.mt_operation.specs.declared.phase.Phase.TheVariants.{Check}
-use Rattle.mt_operation.specs.declared.walk.Walk.{Walk}
-use Rattle.mt_operation.specs.declared.scan.Stop.{Stop}
+use Rattle.mt_arena.specs.{NodeView.NodeView, NodeFacts.IsUnstable, Forests.tree_at, Arena.ArenaView, Accesses.at}
+use Rattle.mt_operation.specs.{declared.phase.Phase.TheVariants.Check, declared.walk.Walk.Walk, declared.scan.Stop.Stop, Operations.ScanView}
+use Rattle.mt_readings.specs.{Reading.{is_behind, read, stop}, Tenancies.own_pairs}
+use Rattle.mt_border.specs.declared.entry.Held.TheVariants as helds
 use Rattle.mt_operation.specs.declared.scan.Stop.TheVariants as stops
-use Rattle.mt_operation.specs.Operations.{ScanView}
-use Rattle.mt_readings.specs.Reading.{is_behind, read, stop}
-use Rattle.mt_readings.specs.Tenancies.{own_pairs}
 
 -- which entries of a layer a scan is done with
 abbrev pub behind_in : ScanView → ℕ → Entry → Bool

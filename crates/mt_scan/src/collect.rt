@@ -3,8 +3,7 @@
 ghost use Rattle.std.specs.Prelude.{◌≡◌, ◌≤◌, ◌++◌, ◌∷◌, ℕ, List, [], length, take, OnOk, IfOk};
 ghost use Rattle.mt_rows.specs.Rows.{shown, AreIndexes};
 ghost use Rattle.mt_walks.specs.Walked.{shown_all};
-ghost use Rattle.mt_scan.specs.Checks.{Asks, MayCheck};
-ghost use Rattle.mt_scan.specs.Goings.{Collects};
+ghost use Rattle.mt_scan.specs.{Checks.{Asks, MayCheck}, Goings.Collects};
 
 use mt_operation::{Request, Scan, Seen, Task};
 use mt_rows::{ColumnIndexes, Key, Row};

@@ -1,8 +1,7 @@
 //! Where a scan stands among the entries of a border node.
 
 ghost use Rattle.std.specs.Prelude.{◌≡◌};
-ghost use Rattle.mt_slices.specs.Marks.{mark_rank};
-ghost use Rattle.mt_slices.specs.Slices.{HasLayer, slice_of, mark_of, suffix_of};
+ghost use Rattle.mt_slices.specs.{Marks.mark_rank, Slices.{HasLayer, slice_of, mark_of, suffix_of}};
 ghost use Rattle.mt_border.specs.Rows.{entry_seen};
 ghost use Rattle.mt_scan.specs.Looks.{behind_at};
 

@@ -1,25 +1,17 @@
 //! What a scan keeps between its steps, and how it comes to the next node. Contracts alone: no code runs.
 
-ghost use Rattle.std.specs.Prelude.{◌≡◌, ◌≢◌, ◌<◌, ℕ, false, length, Some, None};
-ghost use Rattle.std.specs.List.{Contains};
+ghost use Rattle.std.specs.{Prelude.{◌≡◌, ◌≢◌, ◌<◌, ℕ, false, length, Some, None}, List.Contains};
 ghost use Rattle.mt_version.specs.Changes.{IsStable};
-ghost use Rattle.mt_slices.specs.Keys.{tenant_of};
-ghost use Rattle.mt_slices.specs.Slices.{slice_of};
+ghost use Rattle.mt_slices.specs.{Keys.tenant_of, Slices.slice_of};
 ghost use Rattle.mt_rows.specs.Rows.{Bytes, Columns};
-ghost use Rattle.mt_arena.specs.Arena.{ArenaView, IsArena};
-ghost use Rattle.mt_arena.specs.Accesses.{at};
-ghost use Rattle.mt_arena.specs.Guarantee.{NodesGuarantee};
-ghost use Rattle.mt_arena.specs.NodeFacts.{IsUnstable};
-ghost use Rattle.mt_border.specs.declared.entry.Entry.{Entry};
-ghost use Rattle.mt_border.specs.declared.entry.Pair.{Pair};
+ghost use Rattle.mt_arena.specs.{Arena.{ArenaView, IsArena}, Accesses.at, Guarantee.NodesGuarantee, NodeFacts.IsUnstable};
+ghost use Rattle.mt_border.specs.{declared.entry.Entry.Entry, declared.entry.Pair.Pair};
 ghost use Rattle.mt_operation.specs.declared.scan.Stop.{Stop};
 ghost use Rattle.mt_operation.specs.declared.scan.Stop.TheVariants as stops;
-ghost use Rattle.mt_operation.specs.declared.walk.Walk.{Walk};
-ghost use Rattle.mt_operation.specs.Operations.{ScanView};
+ghost use Rattle.mt_operation.specs.{declared.walk.Walk.Walk, Operations.ScanView};
 ghost use Rattle.mt_readings.specs.Tenancies.{own_pairs};
 ghost use Rattle.mt_descent.specs.Seen.{Covers};
-ghost use Rattle.mt_scan.specs.Snaps.{read_in, link_in, IsOver, prefix_in, IsSnap};
-ghost use Rattle.mt_scan.specs.Hops.{IsNextFrom, IsAtHop, IsAtCheck, KeptHop};
+ghost use Rattle.mt_scan.specs.{Snaps.{read_in, link_in, IsOver, prefix_in, IsSnap}, Hops.{IsNextFrom, IsAtHop, IsAtCheck, KeptHop}};
 
 /// The next node of a border node begins at its end, and there is none exactly where it has no end.
 pub fn a_node_tells_its_next()

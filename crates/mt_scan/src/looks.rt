@@ -1,16 +1,10 @@
 //! What Snap looks for in the entries of a border node.
 
-ghost use Rattle.std.specs.Prelude.{◌≡◌, ◌≤◌, ◌/◌, ◌++◌, ◌∷◌, ℕ, [], take, IsTrue, ◌↔◌, Some, OnOk, IfOk, IfErr};
-ghost use Rattle.std.specs.Int.{w64, to_be_bytes};
-ghost use Rattle.std.specs.List.{All};
-ghost use Rattle.mt_slices.specs.Marks.{IsMark};
-ghost use Rattle.mt_slices.specs.Slices.{piece_bytes};
-ghost use Rattle.mt_border.specs.Entry.{pair_of};
-ghost use Rattle.mt_border.specs.Rows.{entry_seen};
-ghost use Rattle.mt_readings.specs.Reading.{read, stop};
-ghost use Rattle.mt_readings.specs.Tenancies.{own_pairs};
-ghost use Rattle.mt_scan.specs.Snaps.{IsOver};
-ghost use Rattle.mt_scan.specs.Looks.{behind_at, has_unstable, TellsLink, NamesTenant, IsOfTenant, EndsAt};
+ghost use Rattle.std.specs.{Prelude.{◌≡◌, ◌≤◌, ◌/◌, ◌++◌, ◌∷◌, ℕ, [], take, IsTrue, ◌↔◌, Some, OnOk, IfOk, IfErr}, Int.{w64, to_be_bytes}, List.All};
+ghost use Rattle.mt_slices.specs.{Marks.IsMark, Slices.piece_bytes};
+ghost use Rattle.mt_border.specs.{Entry.pair_of, Rows.entry_seen};
+ghost use Rattle.mt_readings.specs.{Reading.{read, stop}, Tenancies.own_pairs};
+ghost use Rattle.mt_scan.specs.{Snaps.IsOver, Looks.{behind_at, has_unstable, TellsLink, NamesTenant, IsOfTenant, EndsAt}};
 
 use crate::fence::Fence;
 use mt_border::{Border, EntryRef, Held, Pair};

@@ -1,16 +1,10 @@
 -- Accounts with one tenant more, and why a tenant of a servable list is never refused; for `accounts_of`.
 use Rattle.std.proofs.Common.{◌≡◌, ◌≢◌, ℕ, ◌+◌, ◌<◌, ◌⊎◌, inl, inr, true, false, List, Option, Some, None, Result, Err, is_ok, slice_get, refl, sym, ap, subst, ◌∙◌, arith}
-use Rattle.std.proofs.lemmas.Option.{same_Some, none-some}
-use Rattle.std.proofs.lemmas.Bool.Decides.{eqb_tells}
-use Rattle.std.proofs.Math.Nat.{eq-or-lt_of_le}
-use Rattle.mt_rows.specs.declared.tenants.Account.{Account}
-use Rattle.mt_rows.specs.declared.refusal.Refusal.{Refusal}
-use Rattle.mt_rows.specs.declared.refusal.Refusal.TheVariants.{TenantThere, Memory}
-use Rattle.mt_rows.specs.Refusals.{number_of}
-use Rattle.mt_rows.specs.Accounts.{Accounts, account_of, IsQuota, OthersStay}
+use Rattle.std.proofs.{lemmas.Option.{same_Some, none-some}, lemmas.Bool.Decides.eqb_tells, Math.Nat.eq-or-lt_of_le}
+use Rattle.mt_rows.specs.{declared.tenants.Account.Account, declared.refusal.Refusal.Refusal, declared.refusal.Refusal.TheVariants.{TenantThere, Memory}}
+use Rattle.mt_rows.specs.{Refusals.number_of, Accounts.{Accounts, account_of, IsQuota, OthersStay}}
 use Rattle.mt_options.specs.declared.tenants.TenantQuota.{TenantQuota}
-use Rattle.mt_service.specs.Accounts.{AreServable, AreAccountsOf, IsAmongFirst}
-use Rattle.mt_service.specs.Faults.{fault_of, IsOfTenants}
+use Rattle.mt_service.specs.{Accounts.{AreServable, AreAccountsOf, IsAmongFirst}, Faults.{fault_of, IsOfTenants}}
 
 -- an account without pairs
 abbrev pub opened : TenantQuota → Account

@@ -1,13 +1,8 @@
 -- Parts of a server's output, and why it is none; for `run_server`.
-use Rattle.std.proofs.Common.{ℕ, [], ◌++◌, Option, Result, Ok, Err, OnErr, refl, ap, sym, ◌∙◌, append_assoc}
-use Rattle.std.specs.Io.KnownBytes.{Appends}
+use Rattle.std.{proofs.Common.{ℕ, [], ◌++◌, Option, Result, Ok, Err, OnErr, refl, ap, sym, ◌∙◌, append_assoc}, specs.Io.KnownBytes.Appends}
 use Rattle.mt_rows.specs.Rows.{Bytes}
-use Rattle.mt_streams.specs.Failures.{NoFewer, Failed}
-use Rattle.mt_streams.proofs.FailureLemmas.{then-Failed}
-use Rattle.mt_streams.proofs.StreamLemmas.{Appends-nil, Appends-trans}
-use Rattle.mt_service.specs.declared.faults.ServerFault.{ServerFault}
-use Rattle.mt_service.specs.declared.faults.ServerFault.TheVariants.{Memory, Output}
-use Rattle.mt_service.specs.Faults.{IsOfWriting, HasCause}
+use Rattle.mt_streams.{specs.Failures.{NoFewer, Failed}, proofs.{FailureLemmas.then-Failed, StreamLemmas.{Appends-nil, Appends-trans}}}
+use Rattle.mt_service.specs.{declared.faults.ServerFault.ServerFault, declared.faults.ServerFault.TheVariants.{Memory, Output}, Faults.{IsOfWriting, HasCause}}
 use Rattle.mt_service.specs.Lines.{first_line, last_line, Begins, SaysAll, SaysPart}
 
 -- what holds in any case holds where there is an error

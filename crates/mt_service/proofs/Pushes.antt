@@ -1,6 +1,5 @@
 -- What is so of each element with its place, and of one more, is so of all.
-use Rattle.std.proofs.Common.{ℕ, zero, suc, List, [], ◌∷◌, ◌++◌, length, subst}
-use Rattle.std.proofs.lemmas.Option.{same_Some, none-some}
+use Rattle.std.proofs.{Common.{ℕ, zero, suc, List, [], ◌∷◌, ◌++◌, length, subst}, lemmas.Option.{same_Some, none-some}}
 use Rattle.mt_service.specs.Workers.{EachAt}
 
 pub pushed : {X : Type 0} (xs : List X) (x : X) (P : ℕ → X → Type 0) → EachAt xs P → P (length xs) x → EachAt (xs ++ x ∷ []) P

@@ -1,7 +1,6 @@
 -- The tenants that a server is to serve, and their accounts.
 use Rattle.std.specs.Prelude.{◌≡◌, ℕ, ◌<◌, List, Some, slice_get}
-use Rattle.mt_rows.specs.declared.tenants.Account.{Account}
-use Rattle.mt_rows.specs.Accounts.{Accounts, account_of, IsQuota}
+use Rattle.mt_rows.specs.{declared.tenants.Account.Account, Accounts.{Accounts, account_of, IsQuota}}
 use Rattle.mt_options.specs.declared.tenants.TenantQuota.{TenantQuota}
 
 -- each tenant stands in the list once, with a quota that may be given

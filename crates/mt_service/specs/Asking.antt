@@ -1,20 +1,13 @@
 -- What a caller over a desk may answer to a session.
 use Rattle.std.specs.Prelude.{◌≡◌, ℕ, ◌+◌, ◌<◌, List, Option, Some, None, Result, Ok, Err, IfOk}
-use Rattle.mt_rows.specs.declared.command.Command.{Command}
-use Rattle.mt_rows.specs.declared.reply.Reply.{Reply}
-use Rattle.mt_rows.specs.declared.refusal.Refusal.{Refusal}
+use Rattle.mt_rows.specs.{declared.command.Command.Command, declared.reply.Reply.Reply, declared.refusal.Refusal.Refusal}
 use Rattle.mt_rows.specs.declared.refusal.Refusal.TheVariants.{NoTenant, NotOpen}
 use Rattle.mt_runs.specs.declared.event.Answer.{Answer}
-use Rattle.mt_options.specs.declared.tenants.TenantQuota.{TenantQuota}
-use Rattle.mt_options.specs.Tenants.{IsListed}
-use Rattle.mt_book.specs.declared.calls.CallFault.{CallFault}
-use Rattle.mt_book.specs.Periods.{Period}
-use Rattle.mt_book.specs.Calls.{Calls, asked_by, answers_of}
-use Rattle.mt_settle.specs.Turns.{Turn}
-use Rattle.mt_settle.specs.Settles.{Settles}
+use Rattle.mt_options.specs.{declared.tenants.TenantQuota.TenantQuota, Tenants.IsListed}
+use Rattle.mt_book.specs.{declared.calls.CallFault.CallFault, Periods.Period, Calls.{Calls, asked_by, answers_of}}
+use Rattle.mt_settle.specs.{Turns.Turn, Settles.Settles}
 use Rattle.mt_stored.specs.Keeping.{Kept, Counts}
-use Rattle.mt_session.specs.declared.caller.CallerFault.{CallerFault}
-use Rattle.mt_session.specs.declared.caller.CallerFault.TheVariants.{Refused}
+use Rattle.mt_session.specs.{declared.caller.CallerFault.CallerFault, declared.caller.CallerFault.TheVariants.Refused}
 use Rattle.mt_session.specs.Exchanges.{Exchange, Opens, Calls as CallsFor, Settles as SettlesFor}
 use Rattle.mt_service.specs.Telling.{told_of, seen_after}
 

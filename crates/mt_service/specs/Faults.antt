@@ -1,12 +1,11 @@
 -- Why a server ended before its time.
 use Rattle.std.specs.Prelude.{ℕ, List}
 use Rattle.mt_rows.specs.declared.refusal.Refusal.{Refusal}
-use Rattle.mt_rows.specs.declared.refusal.Refusal.TheVariants as refusals
 use Rattle.mt_options.specs.declared.tenants.TenantQuota.{TenantQuota}
 use Rattle.mt_store_files.specs.Faults.{status_of as store_status}
 use Rattle.mt_service.specs.declared.faults.ServerFault.{ServerFault}
-use Rattle.mt_service.specs.declared.faults.ServerFault.TheVariants.{Refused, Memory, Store, Unsettled, Output, Listen, Socket, Passes}
-use Rattle.mt_service.specs.Accounts.{AreServable}
+use Rattle.mt_service.specs.{declared.faults.ServerFault.TheVariants.{Refused, Memory, Store, Unsettled, Output, Listen, Socket, Passes}, Accounts.AreServable}
+use Rattle.mt_rows.specs.declared.refusal.Refusal.TheVariants as refusals
 
 -- the fault of a tenant that is refused
 abbrev pub fault_of : Refusal → ServerFault

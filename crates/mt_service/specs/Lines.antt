@@ -1,6 +1,5 @@
 -- The two lines of a server's output.
-use Rattle.std.specs.Prelude.{ℕ, ◌++◌, Option, codes, decimal}
-use Rattle.std.specs.Io.KnownBytes.{Appends}
+use Rattle.std.specs.{Prelude.{ℕ, ◌++◌, Option, codes, decimal}, Io.KnownBytes.Appends}
 use Rattle.mt_rows.specs.Rows.{Bytes}
 use Rattle.mt_session.specs.Endings.{IsBeginning}
 

@@ -1,26 +1,16 @@
 -- What is opened for a server, and why nothing is.
 use Rattle.std.specs.Prelude.{◌≡◌, ◌⊎◌, ℕ, Bool, true, false, List, [], Option, Some, None, length}
 use Rattle.mt_rows.specs.Accounts.{Accounts}
-use Rattle.mt_disk.specs.Disk.{DiskState, found_with}
-use Rattle.mt_disk.specs.declared.cached.CachedDisk.{CachedDisk}
-use Rattle.mt_disk.specs.declared.file.OsFile.{OsFile}
-use Rattle.mt_state.specs.Views.{StateView}
-use Rattle.mt_state.specs.Begins.{new_state}
-use Rattle.mt_options.specs.declared.options.Options.{Options}
-use Rattle.mt_options.specs.declared.options.StorePlace.{StorePlace}
-use Rattle.mt_options.specs.declared.tenants.TenantQuota.{TenantQuota}
-use Rattle.mt_rows.specs.declared.refusal.Refusal.TheVariants as refusals
-use Rattle.mt_store_files.specs.declared.fault.StoreFault.{StoreFault}
-use Rattle.mt_store_files.specs.declared.fault.StoreFault.TheVariants.{Refused as RefusedStore, LogCount}
-use Rattle.mt_store_files.specs.declared.fault.FolderFault.{FolderFault}
-use Rattle.mt_store_files.specs.Faults.{IsOfFolder, IsOfFiles}
-use Rattle.mt_store_logs.specs.declared.fault.LogRefusal.{LogRefusal}
-use Rattle.mt_store_logs.specs.declared.store_log.StoreLog.{StoreLog}
+use Rattle.mt_disk.specs.{Disk.{DiskState, found_with}, declared.cached.CachedDisk.CachedDisk, declared.file.OsFile.OsFile}
+use Rattle.mt_state.specs.{Views.StateView, Begins.new_state}
+use Rattle.mt_options.specs.{declared.options.Options.Options, declared.options.StorePlace.StorePlace, declared.tenants.TenantQuota.TenantQuota}
+use Rattle.mt_store_files.specs.{declared.fault.StoreFault.StoreFault, declared.fault.StoreFault.TheVariants.{Refused as RefusedStore, LogCount}}
+use Rattle.mt_store_files.specs.{declared.fault.FolderFault.FolderFault, Faults.{IsOfFolder, IsOfFiles}}
+use Rattle.mt_store_logs.specs.{declared.fault.LogRefusal.LogRefusal, declared.store_log.StoreLog.StoreLog}
 use Rattle.mt_stored.specs.Stores.{IsNewStore, IsNotMade, IsRecoveredStore, IsNotRecoveredStore}
-use Rattle.mt_service.specs.declared.served_store.OpenStore.{OpenStore}
-use Rattle.mt_service.specs.declared.faults.ServerFault.{ServerFault}
-use Rattle.mt_service.specs.declared.faults.ServerFault.TheVariants.{Refused, Memory, Store as StoreFaulty}
-use Rattle.mt_service.specs.Accounts.{AreServable, AreAccountsOf}
+use Rattle.mt_service.specs.{declared.served_store.OpenStore.OpenStore, declared.faults.ServerFault.ServerFault}
+use Rattle.mt_service.specs.{declared.faults.ServerFault.TheVariants.{Refused, Memory, Store as StoreFaulty}, Accounts.{AreServable, AreAccountsOf}}
+use Rattle.mt_rows.specs.declared.refusal.Refusal.TheVariants as refusals
 
 -- a disk on a file of the system
 abbrev pub FileDisk : Type 0

@@ -1,11 +1,10 @@
 -- What a session is told of a call's result.
 use Rattle.std.specs.Prelude.{ℕ, max, Result, Ok, Err}
-use Rattle.mt_rows.specs.declared.reply.Reply.{Reply}
-use Rattle.mt_rows.specs.declared.refusal.Refusal.TheVariants.{Spent}
+use Rattle.mt_rows.specs.{declared.reply.Reply.Reply, declared.refusal.Refusal.TheVariants.Spent}
 use Rattle.mt_runs.specs.declared.event.Answer.{Answer}
 use Rattle.mt_book.specs.declared.calls.CallFault.{CallFault}
-use Rattle.mt_book.specs.declared.calls.CallFault.TheVariants as faults
 use Rattle.mt_session.specs.declared.caller.CallerFault.{CallerFault}
+use Rattle.mt_book.specs.declared.calls.CallFault.TheVariants as faults
 use Rattle.mt_session.specs.declared.caller.CallerFault.TheVariants as callers
 
 -- the reply of its answer, or the refusal; Spent where all step numbers are given

@@ -2,8 +2,7 @@
 
 ghost use Rattle.std.specs.Prelude.{◌≡◌, IfOk, IfErr, length};
 ghost use Rattle.mt_state.specs.Begins.{HaveNoPairs};
-ghost use Rattle.mt_service.specs.Accounts.{AreAccountsOf};
-ghost use Rattle.mt_service.specs.Faults.{IsOfTenants};
+ghost use Rattle.mt_service.specs.{Accounts.AreAccountsOf, Faults.IsOfTenants};
 
 use crate::faults::ServerFault;
 use mt_options::TenantQuota;

@@ -1,8 +1,7 @@
 //! Why a server ended before its time.
 
-ghost use Rattle.mt_service.specs.declared.faults.ServerFault.TheVariants.{Memory as MemoryFault};
+ghost use Rattle.mt_service.specs.{declared.faults.ServerFault.TheVariants.{Memory as MemoryFault}, Faults.status_of};
 ghost use Rattle.std.specs.Prelude.{◌≡◌};
-ghost use Rattle.mt_service.specs.Faults.{status_of};
 
 use mt_rows::Refusal;
 use mt_store_files::FolderFault;

@@ -1,16 +1,12 @@
 //! The server: from a listener to the sum of its answers.
 
-ghost use Rattle.std.specs.Prelude.{◌≡◌, ◌<◌, ◌^◌, IfOk, IfErr, OnOk, OnErr, length, vec_len};
-ghost use Rattle.std.specs.List.{sum_by};
-ghost use Rattle.std.specs.Io.KnownBytes.{Appends};
+ghost use Rattle.std.specs.{Prelude.{◌≡◌, ◌<◌, ◌^◌, IfOk, IfErr, OnOk, OnErr, length, vec_len}, List.sum_by, Io.KnownBytes.Appends};
 ghost use Rattle.mt_book.specs.declared.passes.Pass.{Pass};
 ghost use Rattle.mt_crew.specs.declared.crew.Served.{Served};
 ghost use Rattle.mt_streams.specs.Failures.{Failed, NoFewer};
-ghost use Rattle.mt_service.specs.declared.workers.SessionWorker.{SessionWorker};
-ghost use Rattle.mt_service.specs.Faults.{IsOfWriting, IsOfServing, HasCause};
+ghost use Rattle.mt_service.specs.{declared.workers.SessionWorker.SessionWorker, Faults.{IsOfWriting, IsOfServing, HasCause}};
+ghost use Rattle.mt_service.specs.{Workers.{number_of, AreOfWorker, EachAt}, Lines.{first_line, last_line, Begins, SaysAll, SaysPart}};
 ghost use Rattle.mt_stored.specs.Stores.{IsSettled};
-ghost use Rattle.mt_service.specs.Workers.{number_of, AreOfWorker, EachAt};
-ghost use Rattle.mt_service.specs.Lines.{first_line, last_line, Begins, SaysAll, SaysPart};
 
 use crate::callers::DeskCaller;
 use crate::faults::ServerFault;

@@ -2,16 +2,11 @@
 -- For the callers of the crates above.
 use Rattle.std.proofs.Common.{◌≡◌, Bool, true, false, List, [], ◌∷◌, Option, Result, Ok, Err, ap, subst, inl, inr}
 use Rattle.mt_rows.specs.Rows.{Bytes}
-use Rattle.mt_wire.specs.declared.message.Request.{Request}
-use Rattle.mt_wire.specs.declared.message.Request.TheVariants.{Open, Call, Settle}
-use Rattle.mt_wire.specs.declared.message.WireReply.{WireReply}
-use Rattle.mt_session.specs.declared.ended.Ended.{Ended}
+use Rattle.mt_wire.specs.{declared.message.Request.Request, declared.message.Request.TheVariants.{Open, Call, Settle}, declared.message.WireReply.WireReply}
+use Rattle.mt_session.specs.{declared.ended.Ended.Ended, declared.ended.ServeFault.ServeFault, Exchanges.Exchange}
+use Rattle.mt_session.specs.{Sessions.{CallerRelation, IsReply, IsStuck, AreReplies, Transcript}, Endings.{AsksAtMostOne, EndsAs, Serves}}
 use Rattle.mt_session.specs.declared.ended.Ended.TheVariants as ends
-use Rattle.mt_session.specs.declared.ended.ServeFault.{ServeFault}
 use Rattle.mt_session.specs.declared.ended.ServeFault.TheVariants as faults
-use Rattle.mt_session.specs.Exchanges.{Exchange}
-use Rattle.mt_session.specs.Sessions.{CallerRelation, IsReply, IsStuck, AreReplies, Transcript}
-use Rattle.mt_session.specs.Endings.{AsksAtMostOne, EndsAs, Serves}
 
 -- As long as the one caller is well, as one that has not run out of numbers is: each of its exchanges, from state to state, is one of the other between
 -- their views; and who is well after an exchange was so before it.

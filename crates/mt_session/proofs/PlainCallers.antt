@@ -1,28 +1,15 @@
 -- A session over plain maps writes one text, where memory suffices. For the law `one_text`.
 use Rattle.std.proofs.Common.{◌≡◌, ◌⊎◌, ℕ, Bool, true, false, List, [], ◌∷◌, Option, None, Some, Result, Ok, Err, refl, sym, ap, subst, ◌∙◌, inl, inr}
-use Rattle.std.specs.Prelude.{slice_set}
-use Rattle.std.specs.List.{flat_map, AllByRecursion}
 use Rattle.std.proofs.lemmas.Option.{same_Some}
-use Rattle.mt_rows.specs.Rows.{Bytes}
-use Rattle.mt_rows.specs.declared.command.Command.{Command}
-use Rattle.mt_rows.specs.declared.reply.Reply.{Reply}
-use Rattle.mt_rows.specs.declared.reply.Reply.TheVariants.{NoMemory}
-use Rattle.mt_rows.specs.declared.refusal.Refusal.{Refusal}
-use Rattle.mt_rows.specs.declared.refusal.Refusal.TheVariants.{KeyLong, Column, ColumnLong, ScanCount}
-use Rattle.mt_rows.specs.Commands.{IsTaken, IsFirstFault}
-use Rattle.mt_rows.specs.Maps.{reply_of, map_after}
-use Rattle.mt_wire.specs.declared.message.Request.{Request}
-use Rattle.mt_wire.specs.declared.message.Request.TheVariants.{Open, Call, Settle}
-use Rattle.mt_wire.specs.declared.message.WireReply.{WireReply}
-use Rattle.mt_wire.specs.declared.message.WireReply.TheVariants.{Told}
-use Rattle.mt_wire.specs.Fronts.{IsReadingEnd}
-use Rattle.mt_wire.specs.Replies.{reply_spelling}
-use Rattle.mt_wire.proofs.FrameLaws.{one_reading}
-use Rattle.mt_wire.proofs.RequestLaws.{requests}
-use Rattle.mt_session.specs.declared.caller.CallerFault.{CallerFault}
-use Rattle.mt_session.specs.declared.caller.CallerFault.TheVariants.{Refused, Stuck}
-use Rattle.mt_session.specs.declared.plain.PlainTenant.{PlainTenant}
-use Rattle.mt_session.specs.Sessions.{IsReply, AreReplies, Transcript, call_told, open_told, open_after, settle_told}
+use Rattle.std.specs.{Prelude.slice_set, List.{flat_map, AllByRecursion}}
+use Rattle.mt_rows.specs.{Rows.Bytes, declared.command.Command.Command, declared.reply.Reply.Reply, declared.reply.Reply.TheVariants.NoMemory}
+use Rattle.mt_rows.specs.{declared.refusal.Refusal.Refusal, declared.refusal.Refusal.TheVariants.{KeyLong, Column, ColumnLong, ScanCount}}
+use Rattle.mt_rows.specs.{Commands.{IsTaken, IsFirstFault}, Maps.{reply_of, map_after}}
+use Rattle.mt_wire.specs.{declared.message.Request.Request, declared.message.Request.TheVariants.{Open, Call, Settle}, declared.message.WireReply.WireReply}
+use Rattle.mt_wire.specs.{declared.message.WireReply.TheVariants.Told, Fronts.IsReadingEnd, Replies.reply_spelling}
+use Rattle.mt_wire.proofs.{FrameLaws.one_reading, RequestLaws.requests}
+use Rattle.mt_session.specs.{declared.caller.CallerFault.CallerFault, declared.caller.CallerFault.TheVariants.{Refused, Stuck}}
+use Rattle.mt_session.specs.{declared.plain.PlainTenant.PlainTenant, Sessions.{IsReply, AreReplies, Transcript, call_told, open_told, open_after, settle_told}}
 use Rattle.mt_session.specs.Plain.{PlainTenants, place_of, PlainOpens, TenantCalls, PlainCalls, PlainExchanges, IsAmple}
 
 -- a command that is taken has no fault

@@ -1,18 +1,12 @@
 -- How a session ends, and what it is as a whole.
 use Rattle.std.specs.Prelude.{◌≡◌, ◌≢◌, ◌-◌, ◌≤◌, ◌^◌, length, Bool, false, ◌⊎◌, [], ◌++◌, Option, Result, Ok, Err}
 use Rattle.std.specs.Io.KnownBytes.{Consumes, Appends, IsAtEnd}
-use Rattle.mt_rows.specs.Rows.{Bytes}
-use Rattle.mt_rows.specs.declared.refusal.Refusal.TheVariants.{BadFrame}
-use Rattle.mt_wire.specs.declared.message.Request.{Request}
-use Rattle.mt_wire.specs.declared.message.WireReply.{WireReply}
-use Rattle.mt_wire.specs.Requests.{spelling, IsSpellable}
-use Rattle.mt_wire.specs.Fronts.{IsPartial, IsBad}
+use Rattle.mt_rows.specs.{Rows.Bytes, declared.refusal.Refusal.TheVariants.BadFrame}
+use Rattle.mt_wire.specs.{declared.message.Request.Request, declared.message.WireReply.WireReply, Requests.{spelling, IsSpellable}, Fronts.{IsPartial, IsBad}}
 use Rattle.mt_wire.specs.Replies.{reply_spelling}
-use Rattle.mt_session.specs.declared.ended.Ended.{Ended}
+use Rattle.mt_session.specs.{declared.ended.Ended.Ended, declared.ended.ServeFault.ServeFault, Sessions.{CallerRelation, refused, IsReply, IsStuck, Transcript}}
 use Rattle.mt_session.specs.declared.ended.Ended.TheVariants as ends
-use Rattle.mt_session.specs.declared.ended.ServeFault.{ServeFault}
 use Rattle.mt_session.specs.declared.ended.ServeFault.TheVariants as faults
-use Rattle.mt_session.specs.Sessions.{CallerRelation, refused, IsReply, IsStuck, Transcript}
 
 -- the reply to what is no frame of a request
 abbrev pub bad_frame_reply : Bytes

@@ -1,18 +1,11 @@
 -- What a caller answers that keeps a plain map for each of its tenants.
 use Rattle.std.specs.Prelude.{◌≡◌, ◌≢◌, ◌<◌, ℕ, ◌==◌, ◌⊎◌, List, length, position, slice_get, slice_set, Option, Some, None, Result, Ok, Err}
-use Rattle.mt_rows.specs.declared.command.Command.{Command}
-use Rattle.mt_rows.specs.declared.reply.Reply.{Reply}
-use Rattle.mt_rows.specs.declared.reply.Reply.TheVariants.{NoMemory}
-use Rattle.mt_rows.specs.declared.refusal.Refusal.{Refusal}
-use Rattle.mt_rows.specs.declared.refusal.Refusal.TheVariants.{NoTenant, NotOpen, NoStore}
-use Rattle.mt_rows.specs.Commands.{IsTaken, IsFirstFault}
+use Rattle.mt_rows.specs.{declared.command.Command.Command, declared.reply.Reply.Reply, declared.reply.Reply.TheVariants.NoMemory}
+use Rattle.mt_rows.specs.{declared.refusal.Refusal.Refusal, declared.refusal.Refusal.TheVariants.{NoTenant, NotOpen, NoStore}, Commands.{IsTaken, IsFirstFault}}
 use Rattle.mt_rows.specs.Maps.{reply_of, map_after}
-use Rattle.mt_wire.specs.declared.message.WireReply.{WireReply}
-use Rattle.mt_wire.specs.declared.message.WireReply.TheVariants.{Told}
-use Rattle.mt_session.specs.declared.caller.CallerFault.{CallerFault}
-use Rattle.mt_session.specs.declared.caller.CallerFault.TheVariants.{Refused, Stuck}
-use Rattle.mt_session.specs.declared.plain.PlainTenant.{PlainTenant}
-use Rattle.mt_session.specs.Exchanges.{Exchange, Opens, Calls, Settles}
+use Rattle.mt_wire.specs.{declared.message.WireReply.WireReply, declared.message.WireReply.TheVariants.Told}
+use Rattle.mt_session.specs.{declared.caller.CallerFault.CallerFault, declared.caller.CallerFault.TheVariants.{Refused, Stuck}}
+use Rattle.mt_session.specs.{declared.plain.PlainTenant.PlainTenant, Exchanges.{Exchange, Opens, Calls, Settles}}
 
 -- tenants with their maps, and the place of the one that is opened
 pub record PlainTenants : Type 0 where

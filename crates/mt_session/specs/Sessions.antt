@@ -1,20 +1,11 @@
 -- What a session tells for the requests that its bytes spell.
-use Rattle.std.specs.Prelude.{◌≡◌, ℕ, Bool, true, false, List, [], ◌∷◌, ◌++◌, Option, Some, None, Result, Ok, Err}
-use Rattle.std.specs.List.{flat_map, AllByRecursion}
-use Rattle.mt_rows.specs.Rows.{Bytes}
-use Rattle.mt_rows.specs.Refusals.{number_of}
-use Rattle.mt_rows.specs.declared.reply.Reply.{Reply}
-use Rattle.mt_rows.specs.declared.refusal.Refusal.{Refusal}
+use Rattle.std.specs.{Prelude.{◌≡◌, ℕ, Bool, true, false, List, [], ◌∷◌, ◌++◌, Option, Some, None, Result, Ok, Err}, List.{flat_map, AllByRecursion}}
+use Rattle.mt_rows.specs.{Rows.Bytes, Refusals.number_of, declared.reply.Reply.Reply, declared.refusal.Refusal.Refusal}
 use Rattle.mt_rows.specs.declared.refusal.Refusal.TheVariants.{NotOpen, OpenTwice}
-use Rattle.mt_wire.specs.declared.message.Request.{Request}
-use Rattle.mt_wire.specs.declared.message.Request.TheVariants.{Open, Call, Settle}
-use Rattle.mt_wire.specs.declared.message.WireReply.{WireReply}
-use Rattle.mt_wire.specs.declared.message.WireReply.TheVariants.{Opened, Told, Settled, Refused}
-use Rattle.mt_wire.specs.Requests.{spelling, IsSpellable}
-use Rattle.mt_wire.specs.Replies.{reply_spelling}
-use Rattle.mt_session.specs.declared.caller.CallerFault.{CallerFault}
+use Rattle.mt_wire.specs.{declared.message.Request.Request, declared.message.Request.TheVariants.{Open, Call, Settle}, declared.message.WireReply.WireReply}
+use Rattle.mt_wire.specs.{declared.message.WireReply.TheVariants.{Opened, Told, Settled, Refused}, Requests.{spelling, IsSpellable}, Replies.reply_spelling}
+use Rattle.mt_session.specs.{declared.caller.CallerFault.CallerFault, Exchanges.{Exchange, Opens, Calls, Settles}}
 use Rattle.mt_session.specs.declared.caller.CallerFault.TheVariants as callers
-use Rattle.mt_session.specs.Exchanges.{Exchange, Opens, Calls, Settles}
 
 -- what a caller may do: from a state, an exchange, and the state after it
 abbrev pub CallerRelation : Type 0 → Type 1

@@ -3,9 +3,8 @@
 ghost use Rattle.std.specs.Prelude.{◌≡◌, ◌≤◌, ◌++◌, length, List, ℕ, Bool, OnOk, OnErr, IfSome, IfNone};
 ghost use Rattle.mt_rows.specs.Rows.{Bytes};
 ghost use Rattle.mt_wire.specs.declared.message.WireReply.{WireReply};
-ghost use Rattle.mt_session.specs.Sessions.{IsReply, IsStuck};
+ghost use Rattle.mt_session.specs.{Sessions.{IsReply, IsStuck}, Turns.{IsTurn, IsRound, IsWritten, IsWithinMark}};
 ghost use Rattle.mt_streams.specs.Failures.{Failed, NoFewer};
-ghost use Rattle.mt_session.specs.Turns.{IsTurn, IsRound, IsWritten, IsWithinMark};
 
 use crate::buffers::write_out;
 use crate::caller::{Caller, CallerFault};

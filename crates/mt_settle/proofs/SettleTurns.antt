@@ -1,12 +1,10 @@
 -- Turns of all logs, put together, and the least of what they told; for `settle` and the laws.
 use Rattle.std.proofs.Common.{◌≡◌, ◌∙◌, ℕ, zero, suc, ◌+◌, ◌<◌, ◌≤◌, ◌⊎◌, inl, inr, min, List, [], ◌∷◌, ◌++◌, length, slice_index_or, Ok, Err, refl, sym, ap, subst, arith}
-use Rattle.std.specs.List.{All, Contains}
-use Rattle.std.proofs.Math.Nat.{min-le_left, min-le_right, min-eq_left, min_comm}
-use Rattle.std.proofs.lemmas.List.{length-append}
+use Rattle.std.proofs.{Math.Nat.{min-le_left, min-le_right, min-eq_left, min_comm}, lemmas.List.length-append}
 use Rattle.std.proofs.lemmas.List.Elements.{All-append, All-cons, All-nil, All-weaker, Contains-append_left, Contains-append_right}
+use Rattle.std.specs.List.{All, Contains}
 use Rattle.mt_rows.specs.declared.refusal.Refusal.{Refusal}
-use Rattle.mt_settle.specs.Turns.{Turn, BroughtUp, Chain}
-use Rattle.mt_settle.specs.Settles.{turns_from, IsLeast, Settles}
+use Rattle.mt_settle.specs.{Turns.{Turn, BroughtUp, Chain}, Settles.{turns_from, IsLeast, Settles}}
 
 -- the least of one number, and of one more
 pub least_one : (m : ℕ) → IsLeast m (m ∷ [])

@@ -1,8 +1,6 @@
 -- What a Settle does to a store's logs.
-use Rattle.std.specs.Prelude.{◌≡◌, ℕ, ◌+◌, ◌<◌, ◌≤◌, ◌⊎◌, List, [], ◌∷◌, ◌++◌, length, Result, Ok, Err}
-use Rattle.std.specs.List.{All, Contains}
-use Rattle.mt_rows.specs.declared.refusal.Refusal.{Refusal}
-use Rattle.mt_rows.specs.declared.refusal.Refusal.TheVariants.{NoStore}
+use Rattle.std.specs.{Prelude.{◌≡◌, ℕ, ◌+◌, ◌<◌, ◌≤◌, ◌⊎◌, List, [], ◌∷◌, ◌++◌, length, Result, Ok, Err}, List.{All, Contains}}
+use Rattle.mt_rows.specs.{declared.refusal.Refusal.Refusal, declared.refusal.Refusal.TheVariants.NoStore}
 use Rattle.mt_settle.specs.Turns.{Turn, BroughtUp, Chain}
 
 -- the logs from one on are brought up to date, and tell these steps

@@ -1,8 +1,7 @@
 //! What a settled number says, over any logs; each the contract of a function that does nothing.
 
 ghost use Rattle.std.specs.Prelude.{◌<◌, ◌≤◌, ℕ, Ok};
-ghost use Rattle.mt_settle.specs.Turns.{Turn, BroughtUp};
-ghost use Rattle.mt_settle.specs.Settles.{Settles};
+ghost use Rattle.mt_settle.specs.{Turns.{Turn, BroughtUp}, Settles.Settles};
 
 use crate::logs::Logs;
 

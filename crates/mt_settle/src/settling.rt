@@ -1,8 +1,7 @@
 //! All logs, one after the other.
 
 ghost use Rattle.std.specs.Prelude.{◌≡◌, ◌<◌};
-ghost use Rattle.mt_settle.specs.Turns.{BroughtUp};
-ghost use Rattle.mt_settle.specs.Settles.{Settles};
+ghost use Rattle.mt_settle.specs.{Turns.BroughtUp, Settles.Settles};
 
 use crate::logs::Logs;
 use log::Log;

@@ -1,12 +1,8 @@
 -- How many of a table's operations have made a step, where one of them is begun, makes a step or is taken out: for all steps, begins and takes.
 use Rattle.std.proofs.Common.{◌≡◌, ◌≢◌, ℕ, zero, suc, ◌+◌, ◌<◌, ◌≤◌, inl, inr, Bool, true, false, cond, eqb, [], ◌∷◌, set, Option, Some, None, refl, sym, ap, ◌∙◌, arith}
 use Rattle.std.proofs.lemmas.Bool.{cases_eq, ne_eqb}
-use Rattle.mt_operation.specs.declared.operation.Operation.{Operation}
-use Rattle.mt_operation.specs.Operations.{OperationView, view_of}
-use Rattle.mt_operation.specs.Tables.{Table, op_at as operation_at}
-use Rattle.mt_state.specs.Views.{Shown, op_at}
-use Rattle.mt_state.specs.Invariant.{one_if_made, made_count}
-use Rattle.mt_state.proofs.Shown.{shown_table, shown_there, shown_set}
+use Rattle.mt_operation.specs.{declared.operation.Operation.Operation, Operations.{OperationView, view_of}, Tables.{Table, op_at as operation_at}}
+use Rattle.mt_state.{specs.{Views.{Shown, op_at}, Invariant.{one_if_made, made_count}}, proofs.Shown.{shown_table, shown_there, shown_set}}
 
 -- an operation counts at most once
 one_at_most : (x : Option OperationView) → one_if_made x ≤ 1

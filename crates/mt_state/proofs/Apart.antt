@@ -1,16 +1,9 @@
 -- Tenants stay apart, by their stored keys and in each step: for `tenants_stay_apart`.
-use Rattle.std.proofs.Common.{◌≡◌, ◌≢◌, ℕ, ◌<◌, inl, inr, Bool, cond, Some, sym, ap, ◌∙◌}
-use Rattle.std.specs.Prelude.{◌^◌}
-use Rattle.std.proofs.lemmas.Bool.{ne_eqb}
-use Rattle.std.proofs.lemmas.Option.{same_Some}
-use Rattle.mt_slices.specs.Keys.{stored_key, tenant_of}
-use Rattle.mt_slices.proofs.Tenants.{tenant_of-stored_key}
-use Rattle.mt_rows.specs.Rows.{Bytes}
-use Rattle.mt_rows.specs.Maps.{map_after}
-use Rattle.mt_rows.specs.Tenants.{tenant_map}
+use Rattle.std.{proofs.{Common.{◌≡◌, ◌≢◌, ℕ, ◌<◌, inl, inr, Bool, cond, Some, sym, ap, ◌∙◌}, lemmas.Bool.ne_eqb, lemmas.Option.same_Some}, specs.Prelude.{◌^◌}}
+use Rattle.mt_slices.{specs.Keys.{stored_key, tenant_of}, proofs.Tenants.tenant_of-stored_key}
+use Rattle.mt_rows.specs.{Rows.Bytes, Maps.map_after, Tenants.tenant_map}
 use Rattle.mt_operation.specs.Operations.{OperationView}
-use Rattle.mt_state.specs.Views.{StateView, contents_of, op_at, quota_of}
-use Rattle.mt_state.specs.Promises.{IsStep}
+use Rattle.mt_state.specs.{Views.{StateView, contents_of, op_at, quota_of}, Promises.IsStep}
 
 -- a stored key has its tenant's number, so two tenants' ones differ
 pub keys_apart : (t u : ℕ) (key other : Bytes) → t < 2 ^ 32 → u < 2 ^ 32 → t ≢ u → stored_key t key ≢ stored_key u other

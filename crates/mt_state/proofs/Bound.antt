@@ -1,33 +1,17 @@
 -- What an operation is bound for stays under its own steps: for the steps of one that holds nothing, or is to judge.
 use Rattle.std.proofs.Common.{◌≢◌, ◌≡◌, ℕ, ◌+◌, ◌<◌, true, false, List, length, Option, Some, None, refl, sym, ap, subst, ◌∙◌, arith}
-use Rattle.mt_rows.specs.declared.command.Command.{Command}
-use Rattle.mt_rows.specs.declared.command.Command.TheVariants.{Get, Put, Remove, Scan}
-use Rattle.mt_rows.specs.Rows.{Bytes}
-use Rattle.mt_rows.specs.Maps.{is_get}
+use Rattle.mt_rows.specs.{declared.command.Command.Command, declared.command.Command.TheVariants.{Get, Put, Remove, Scan}, Rows.Bytes, Maps.is_get}
 use Rattle.mt_border.specs.Contents.{IsOfTree}
-use Rattle.mt_arena.specs.declared.tree.Tree.{Tree}
-use Rattle.mt_arena.specs.Forests.{tree_at}
-use Rattle.mt_arena.specs.Arena.{ArenaView}
+use Rattle.mt_arena.specs.{declared.tree.Tree.Tree, Forests.tree_at, Arena.ArenaView}
 use Rattle.mt_descent.specs.KeptWalks.{GoesThrough}
-use Rattle.mt_operation.specs.declared.walk.Aim.TheVariants as aims
-use Rattle.mt_operation.specs.declared.walk.Walk.{Walk}
-use Rattle.mt_operation.specs.declared.removal.Removal.{Removal}
-use Rattle.mt_operation.specs.declared.outcome.Outcome.{Outcome}
-use Rattle.mt_operation.specs.declared.prepared.Prepared.{Prepared}
-use Rattle.mt_operation.specs.declared.splits.Splits.{Splits}
-use Rattle.mt_operation.specs.declared.operation.Operation.{Operation}
-use Rattle.mt_operation.specs.Tasks.{ask, aim_of}
-use Rattle.mt_operation.specs.Operations.{view_of}
+use Rattle.mt_operation.specs.{declared.walk.Walk.Walk, declared.removal.Removal.Removal, declared.outcome.Outcome.Outcome, declared.prepared.Prepared.Prepared}
+use Rattle.mt_operation.specs.{declared.splits.Splits.Splits, declared.operation.Operation.Operation, Tasks.{ask, aim_of}, Operations.view_of}
 use Rattle.mt_insert.specs.Puts.{is_put}
-use Rattle.mt_remove.specs.Writes.{is_remove}
-use Rattle.mt_remove.specs.KeptRemovals.{IsCleaning}
+use Rattle.mt_remove.specs.{Writes.is_remove, KeptRemovals.IsCleaning}
 use Rattle.mt_walks.specs.Walked.{IsWithin}
-use Rattle.mt_state.specs.Views.{Core, shown, map_of, KeepsPast}
-use Rattle.mt_state.specs.Promises.{IsAnswer}
-use Rattle.mt_state.specs.KeptOperations.{IsOpenOperation, HasAnswer, IsBound}
-use Rattle.mt_state.proofs.Lawful.{lawful_more}
-use Rattle.mt_state.proofs.Rely.{answer_stays}
-use Rattle.mt_state.proofs.Moved.{went_on, first_begun, first_same}
+use Rattle.mt_state.specs.{Views.{Core, shown, map_of, KeepsPast}, Promises.IsAnswer, KeptOperations.{IsOpenOperation, HasAnswer, IsBound}}
+use Rattle.mt_state.proofs.{Lawful.lawful_more, Rely.answer_stays, Moved.{went_on, first_begun, first_same}}
+use Rattle.mt_operation.specs.declared.walk.Aim.TheVariants as aims
 
 -- a get removes nothing, nor does a put
 pub get_no_remove : (command : Command) → is_get command ≡ true → is_remove command ≡ false

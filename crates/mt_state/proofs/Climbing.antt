@@ -1,19 +1,10 @@
 -- What each step of a split leaves of all nodes, and what is told of it by that: no pair moves, and no version counts a change.
 use Rattle.std.proofs.Common.{List, [], ap, arith, cond, false, inl, inr, length, length-append, refl, set, subst, sym, true, ℕ, ◌++◌, ◌+◌, ◌<◌, ◌∙◌, ◌∷◌, ◌≡◌, ◌≤◌, ◌⊎◌}
 use Rattle.std.proofs.lemmas.Bool.{cases_eq, cases_lt, both_ways}
-use Rattle.mt_arena.specs.declared.tree.Tree.{Tree}
-use Rattle.mt_arena.specs.declared.tree.Standing.{Standing}
-use Rattle.mt_arena.specs.NodeView.{NodeView, node_at}
-use Rattle.mt_arena.specs.Forests.{tree_at}
-use Rattle.mt_arena.specs.Edits.{pointed}
-use Rattle.mt_arena.specs.Contents.{counts, is_live}
-use Rattle.mt_arena.specs.Arena.{ArenaView, Guarantee, content_of}
-use Rattle.mt_arena.specs.Accesses.{at}
+use Rattle.mt_arena.specs.{declared.tree.Tree.Tree, declared.tree.Standing.Standing, NodeView.{NodeView, node_at}, Forests.tree_at, Edits.pointed}
+use Rattle.mt_arena.specs.{Contents.{counts, is_live}, Arena.{ArenaView, Guarantee, content_of}, Accesses.at}
 use Rattle.mt_arena.proofs.Pairs.{before as as_before, here, last as as_pushed, there}
-use Rattle.mt_state.specs.Promises.{HoldsEither, Touches}
-use Rattle.mt_state.specs.Invariant.{IsCountedUpTo, StateInvariant, DeletedAreEmpty}
-use Rattle.mt_state.specs.Growth.{MakesFew}
-use Rattle.mt_state.specs.Views.{Core}
+use Rattle.mt_state.specs.{Promises.{HoldsEither, Touches}, Invariant.{IsCountedUpTo, StateInvariant, DeletedAreEmpty}, Growth.MakesFew, Views.Core}
 use Rattle.mt_state.proofs.Quiet.{HasPairsOf, same_slots}
 
 -- the same pairs, tree, level and version's counts; the operation held the node or holds it then, or others name another one in it

@@ -1,35 +1,23 @@
 -- What the steps of a climb leave of all nodes, by what their calls ensure, and where they lead: for `climb_done`.
-use Rattle.mt_arena.specs.Accesses.{IsHeld, at, tree_of, with_half, with_node}
-use Rattle.mt_arena.specs.Arena.{ArenaView}
-use Rattle.mt_arena.specs.Edits.{fresh_half, inserting, locked, pointed, splitting}
-use Rattle.mt_arena.specs.Forests.{no_tree, tree_at}
-use Rattle.mt_arena.specs.Growth.{fresh_top, left_below, right_below}
-use Rattle.mt_arena.specs.NodeView.{NodeView, node_at}
-use Rattle.mt_arena.specs.Several.{with_parts, with_right, with_root}
-use Rattle.mt_arena.specs.Splits.{exact, inner_left, inner_right, with_child}
-use Rattle.mt_arena.specs.declared.tree.Tree.{Tree}
+use Rattle.mt_arena.specs.{Accesses.{IsHeld, at, tree_of, with_half, with_node}, Arena.ArenaView, Edits.{fresh_half, inserting, locked, pointed, splitting}}
+use Rattle.mt_arena.specs.{Forests.{no_tree, tree_at}, Growth.{fresh_top, left_below, right_below}, NodeView.{NodeView, node_at}}
+use Rattle.mt_arena.specs.{Several.{with_parts, with_right, with_root}, Splits.{exact, inner_left, inner_right, with_child}, declared.tree.Tree.Tree}
 use Rattle.mt_state.proofs.Climbing.{IsBare, LeavesNodes, Stays, each_pushed, each_set, leaves_set, pushed_at, stays_same}
+use Rattle.mt_state.specs.Phases.{GoesAbove, ScanStep, LeadsTo}
 use Rattle.mt_insert.specs.SplitEdits.{after_reparent, for_parent, with_parent}
-use Rattle.mt_held.specs.Moves.{walk_at}
 use Rattle.mt_insert.specs.KeptSplits.{HasSplits, IsAtInsertChild, IsAtInteriorSplit, IsAtLockParent, IsAtRootGrow, IsAtSplitPrev, KeptSplit, last_of}
+use Rattle.mt_insert.specs.Climbs.{IsClimbFrom, IsInsertChild, IsLockParent, IsReparent, IsSplitPrev, KeepsSplits}
+use Rattle.mt_insert.proofs.SplittingParents.{count_more}
+use Rattle.mt_held.specs.Moves.{walk_at}
 use Rattle.mt_operation.proofs.Phases.{by_climb}
 use Rattle.mt_operation.specs.Phases.{IsClimb, MayFollow}
 use Rattle.mt_operation.specs.declared.phase.Phase.TheVariants.{InsertChild, InteriorSplit, LockParent, Reparent, RootGrow, SplitPrev, Unlock}
-use Rattle.mt_operation.specs.declared.splits.Halves.{Halves}
-use Rattle.mt_operation.specs.declared.splits.Splits.{Splits}
-use Rattle.mt_operation.specs.declared.walk.Walk.{Walk}
-use Rattle.mt_state.specs.Phases.{GoesAbove, ScanStep, LeadsTo}
+use Rattle.mt_operation.specs.{declared.splits.Halves.Halves, declared.splits.Splits.Splits, declared.walk.Walk.Walk, declared.outcome.Outcome.Outcome}
+use Rattle.mt_operation.specs.{declared.phase.Phase.Phase, Operations.splits_of, declared.removal.Removal.Removal}
 use Rattle.std.proofs.Common.{Bool, List, None, Option, Some, [], ap, arith, false, inl, inr, length, length-append, refl, set, slice_index, subst, sym, true, ℕ, ◌+◌, ◌<◌, ◌==◌, ◌∙◌, ◌∷◌, ◌≡◌, ◌≢◌}
-use Rattle.std.proofs.lemmas.Bool.{cases_eq}
-use Rattle.std.proofs.lemmas.List.{get_or-set_other, get_or-set_same, length-set}
+use Rattle.std.proofs.{lemmas.Bool.cases_eq, lemmas.List.{get_or-set_other, get_or-set_same, length-set}}
 use Rattle.std.specs.Prelude.{if◌then◌else◌}
 use Rattle.mt_rows.specs.Rows.{Bytes}
-use Rattle.mt_operation.specs.declared.outcome.Outcome.{Outcome}
-use Rattle.mt_operation.specs.declared.phase.Phase.{Phase}
-use Rattle.mt_operation.specs.Operations.{splits_of}
-use Rattle.mt_insert.proofs.SplittingParents.{count_more}
-use Rattle.mt_insert.specs.Climbs.{IsClimbFrom, IsInsertChild, IsLockParent, IsReparent, IsSplitPrev, KeepsSplits}
-use Rattle.mt_operation.specs.declared.removal.Removal.{Removal}
 
 -- another node before one and another parent of it
 leaves_pointed : (op : ℕ) (old : ArenaView) (k : ℕ) (previous parent : Option ℕ) → LeavesNodes op old (with_node old k (pointed (at old k) previous parent))

@@ -1,51 +1,26 @@
 -- A get that compares the version with the one that it remembered: it is done with what it took, or goes on its way.
 use Rattle.std.proofs.Common.{◌≡◌, ◌≢◌, ℕ, ◌+◌, ◌<◌, ◌≤◌, ◌⊎◌, inl, inr, true, false, Option, Some, None, refl, sym, ap, subst, ◌∙◌, arith}
-use Rattle.std.specs.Prelude.{◌^◌}
-use Rattle.std.specs.FinMap.{get}
-use Rattle.mt_rows.specs.declared.reply.Reply.{Reply}
-use Rattle.mt_rows.specs.declared.reply.Reply.TheVariants.{Absent, Found}
-use Rattle.mt_rows.specs.Rows.{Bytes, Columns, shown as columns_shown}
-use Rattle.mt_rows.specs.Commands.{key_of}
-use Rattle.mt_rows.specs.Maps.{is_get, is_change, reply_of}
+use Rattle.std.specs.{Prelude.{◌^◌}, FinMap.get}
+use Rattle.mt_rows.specs.{declared.reply.Reply.Reply, declared.reply.Reply.TheVariants.{Absent, Found}, Rows.{Bytes, Columns, shown as columns_shown}}
+use Rattle.mt_rows.specs.{Commands.key_of, Maps.{is_get, is_change, reply_of}, declared.command.Command.Command}
+use Rattle.mt_rows.specs.declared.command.Command.TheVariants.{Get, Put, Remove, Scan}
 use Rattle.mt_rows.proofs.ContentLaws.{get-tenant_map}
 use Rattle.mt_border.specs.Contents.{owned}
 use Rattle.mt_tape.specs.Histories.{contents_at}
-use Rattle.mt_arena.specs.Arena.{ArenaView, content_of}
-use Rattle.mt_arena.specs.Accesses.{at}
-use Rattle.mt_operation.specs.declared.walk.Aim.{Aim}
-use Rattle.mt_operation.specs.declared.walk.Aim.TheVariants as aims
-use Rattle.mt_operation.specs.declared.phase.Phase.{Phase}
-use Rattle.mt_operation.specs.declared.phase.Phase.TheVariants.{Enter, Confirm, Forward, Done}
-use Rattle.mt_operation.specs.declared.walk.Taken.{Taken}
-use Rattle.mt_operation.specs.declared.walk.Taken.TheVariants.{Missing, Row, Link, Nothing}
-use Rattle.mt_operation.specs.declared.walk.Walk.{Walk}
-use Rattle.mt_operation.specs.declared.operation.Operation.{Operation}
-use Rattle.mt_rows.specs.declared.command.Command.{Command}
-use Rattle.mt_rows.specs.declared.command.Command.TheVariants.{Get, Put, Remove, Scan}
-use Rattle.mt_operation.specs.Tasks.{ask, aim_of}
-use Rattle.mt_operation.specs.Operations.{view_of}
-use Rattle.mt_operation.specs.Phases.{is_done, MayFollow, IsOfKind}
+use Rattle.mt_arena.specs.{Arena.{ArenaView, content_of}, Accesses.at}
+use Rattle.mt_operation.specs.{declared.walk.Aim.Aim, declared.phase.Phase.Phase, declared.phase.Phase.TheVariants.{Enter, Confirm, Forward, Done}}
+use Rattle.mt_operation.specs.{declared.walk.Taken.Taken, declared.walk.Taken.TheVariants.{Missing, Row, Link, Nothing}, declared.walk.Walk.Walk}
+use Rattle.mt_operation.specs.{declared.operation.Operation.Operation, Tasks.{ask, aim_of}, Operations.view_of, Phases.{is_done, MayFollow, IsOfKind}}
 use Rattle.mt_operation.specs.Tables.{op_at as operation_at}
-use Rattle.mt_descent.specs.Pasts.{Past}
-use Rattle.mt_descent.specs.KeptWalks.{IsAtConfirm as WalksConfirm, KeptAt, IsKept, TakenWasRight}
-use Rattle.mt_descent.specs.WalkMoves.{Continues, Confirms, after_confirm}
-use Rattle.mt_state.specs.Views.{StateView, Core, shown, past_of, map_of, quota_of}
-use Rattle.mt_state.specs.Steps.{told_change}
-use Rattle.mt_state.specs.Notes.{Notes}
-use Rattle.mt_state.specs.Ways.{IsOnWay}
-use Rattle.mt_state.specs.KeptOperations.{IsOpenOperation, TellsTaken, IsOnItsWay, IsAtConfirm, HasAnswer, IsKeptAt}
-use Rattle.mt_state.specs.Invariant.{StateInvariant}
-use Rattle.mt_state.proofs.Replies.{get_absent, get_found}
-use Rattle.mt_state.proofs.Decides.{same_or_not}
 use Rattle.mt_operation.proofs.Phases.{by_descent}
-use Rattle.mt_state.proofs.Descents.{Leads, by_way, first_aside, changed_leads}
-use Rattle.mt_state.proofs.Telling.{Gives}
-use Rattle.mt_state.proofs.Moved.{went, first_same, first_begun}
-use Rattle.mt_state.proofs.Still.{IsFree, IsUnready, still, still_gives}
-use Rattle.mt_state.proofs.Reading.{kept_on_way, on_way_unready, on_way_open}
-use Rattle.mt_state.proofs.Bound.{get_no_remove}
-use Rattle.mt_state.proofs.Lawful.{get_no_scan, scan_free}
+use Rattle.mt_descent.specs.{Pasts.Past, KeptWalks.{IsAtConfirm as WalksConfirm, KeptAt, IsKept, TakenWasRight}, WalkMoves.{Continues, Confirms, after_confirm}}
+use Rattle.mt_state.specs.{Views.{StateView, Core, shown, past_of, map_of, quota_of}, Steps.told_change, Notes.Notes, Ways.IsOnWay}
+use Rattle.mt_state.specs.{KeptOperations.{IsOpenOperation, TellsTaken, IsOnItsWay, IsAtConfirm, HasAnswer, IsKeptAt}, Invariant.StateInvariant}
+use Rattle.mt_state.proofs.{Replies.{get_absent, get_found}, Decides.same_or_not, Descents.{Leads, by_way, first_aside, changed_leads}, Telling.Gives}
+use Rattle.mt_state.proofs.{Moved.{went, first_same, first_begun}, Still.{IsFree, IsUnready, still, still_gives}}
+use Rattle.mt_state.proofs.{Reading.{kept_on_way, on_way_unready, on_way_open}, Bound.get_no_remove, Lawful.{get_no_scan, scan_free}}
 use Rattle.mt_walks.specs.Walked.{IsWithin}
+use Rattle.mt_operation.specs.declared.walk.Aim.TheVariants as aims
 
 -- what is kept of a walk on its way does not speak of a row
 row_aside : (p : Phase) → IsOnWay p → (v : ArenaView) (past : Past) (key : Bytes) (row : Option Columns) (w : Walk) → KeptAt p v past key row w

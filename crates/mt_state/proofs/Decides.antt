@@ -1,8 +1,6 @@
 -- What is so or is not, of versions: for steps that compare them.
-use Rattle.std.proofs.Common.{◌≡◌, ◌≢◌, ℕ, ◌⊎◌, inl, inr, Bool, true, false, refl, ap}
-use Rattle.std.proofs.lemmas.Bool.{cases_eq}
-use Rattle.mt_version.specs.Parts.{Parts}
-use Rattle.mt_version.specs.Changes.{SameButLock}
+use Rattle.std.proofs.{Common.{◌≡◌, ◌≢◌, ℕ, ◌⊎◌, inl, inr, Bool, true, false, refl, ap}, lemmas.Bool.cases_eq}
+use Rattle.mt_version.specs.{Parts.Parts, Changes.SameButLock}
 use Rattle.mt_arena.specs.NodeView.{NodeView}
 use Rattle.mt_descent.specs.Seen.{IsOutdated}
 

@@ -1,24 +1,16 @@
 -- Where an operation goes that looks for the node of its key: for `descend`, and for the steps of gets.
-use Rattle.std.proofs.Common.{◌≡◌, ℕ, inl, inr, Bool, true, false, cond, Option, refl, sym, subst}
-use Rattle.std.specs.Prelude.{nat_le}
+use Rattle.std.{proofs.Common.{◌≡◌, ℕ, inl, inr, Bool, true, false, cond, Option, refl, sym, subst}, specs.Prelude.nat_le}
 use Rattle.mt_version.specs.Parts.{Parts}
 use Rattle.mt_rows.specs.Rows.{Bytes, Columns}
-use Rattle.mt_arena.specs.declared.tree.Standing.{Standing}
-use Rattle.mt_arena.specs.declared.tree.Standing.TheVariants.{Made, Live, Dead}
-use Rattle.mt_arena.specs.NodeView.{NodeView}
-use Rattle.mt_arena.specs.Arena.{ArenaView}
-use Rattle.mt_operation.specs.declared.walk.Aim.{Aim}
-use Rattle.mt_operation.specs.declared.walk.Aim.TheVariants as aims
-use Rattle.mt_operation.specs.declared.phase.Phase.{Phase}
-use Rattle.mt_operation.specs.declared.phase.Phase.TheVariants.{Enter, Pick, Verify, Search, Forward, Lock, Snap}
-use Rattle.mt_operation.specs.declared.walk.Walk.{Walk}
-use Rattle.mt_descent.specs.WalkMoves.{Continues, arrival, arrival_at, walk_anew, walk_here, walk_to_next, after_enter, after_change, after_forward, Verifies}
-use Rattle.mt_descent.specs.Pasts.{Past}
-use Rattle.mt_descent.specs.KeptWalks.{KeptAt}
+use Rattle.mt_arena.specs.{declared.tree.Standing.Standing, declared.tree.Standing.TheVariants.{Made, Live, Dead}, NodeView.NodeView, Arena.ArenaView}
+use Rattle.mt_operation.specs.{declared.walk.Aim.Aim, declared.phase.Phase.Phase}
+use Rattle.mt_operation.specs.{declared.phase.Phase.TheVariants.{Enter, Pick, Verify, Search, Forward, Lock, Snap}, declared.walk.Walk.Walk}
 use Rattle.mt_operation.specs.Phases.{MayFollow, IsOfKind, IsDescent}
 use Rattle.mt_operation.proofs.Phases.{by_descent}
-use Rattle.mt_state.specs.Ways.{IsOnWay, Descends}
-use Rattle.mt_state.proofs.Decides.{same_or_not, outdated_or_not}
+use Rattle.mt_descent.specs.WalkMoves.{Continues, arrival, arrival_at, walk_anew, walk_here, walk_to_next, after_enter, after_change, after_forward, Verifies}
+use Rattle.mt_descent.specs.{Pasts.Past, KeptWalks.KeptAt}
+use Rattle.mt_state.{specs.Ways.{IsOnWay, Descends}, proofs.Decides.{same_or_not, outdated_or_not}}
+use Rattle.mt_operation.specs.declared.walk.Aim.TheVariants as aims
 
 -- what a walk may go on with from a phase, by whether it comes to lock
 abbrev pub Leads : Phase → Phase → Aim → Type 0

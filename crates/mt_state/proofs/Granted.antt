@@ -1,8 +1,6 @@
 -- A tenant's quota stays where its account does: for whatever cites `KeepsPast`.
-use Rattle.std.proofs.Common.{◌≡◌, ℕ, Option, Some, None, refl}
-use Rattle.std.proofs.lemmas.Option.{same_Some}
-use Rattle.mt_rows.specs.declared.tenants.Account.{Account}
-use Rattle.mt_rows.specs.Accounts.{account_of}
+use Rattle.std.proofs.{Common.{◌≡◌, ℕ, Option, Some, None, refl}, lemmas.Option.same_Some}
+use Rattle.mt_rows.specs.{declared.tenants.Account.Account, Accounts.account_of}
 use Rattle.mt_state.specs.Views.{StateView, quota_in, quota_of, granted_in, KeepsPast}
 
 -- of two accounts, if they are there

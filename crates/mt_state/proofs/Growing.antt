@@ -1,9 +1,6 @@
 -- Where no node and no tree is made: for the phases that make none.
-use Rattle.std.proofs.Common.{◌≡◌, ℕ, length, refl, arith}
-use Rattle.std.proofs.lemmas.List.{length-set}
-use Rattle.mt_arena.specs.NodeView.{NodeView}
-use Rattle.mt_arena.specs.Arena.{ArenaView}
-use Rattle.mt_arena.specs.Accesses.{with_node}
+use Rattle.std.proofs.{Common.{◌≡◌, ℕ, length, refl, arith}, lemmas.List.length-set}
+use Rattle.mt_arena.specs.{NodeView.NodeView, Arena.ArenaView, Accesses.with_node}
 use Rattle.mt_state.specs.Growth.{MakesFew}
 
 -- as many nodes and trees as before

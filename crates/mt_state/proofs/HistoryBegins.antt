@@ -1,16 +1,11 @@
 -- A begin keeps the history of a run, under a name by which nothing was begun: for HistoryEvents.
-use Rattle.std.proofs.Common.{◌≡◌, ◌≢◌, ℕ, arith, inl, inr, Option, Some, None, cond, eqb, sym, refl, ap, subst, ◌∙◌}
-use Rattle.std.specs.Option.{option_map}
-use Rattle.std.proofs.lemmas.Bool.{cases_eq, eq-eqb, ne_eqb}
+use Rattle.std.proofs.{Common.{◌≡◌, ◌≢◌, ℕ, arith, inl, inr, Option, Some, None, cond, eqb, sym, refl, ap, subst, ◌∙◌}, lemmas.Bool.{cases_eq, eq-eqb, ne_eqb}}
 use Rattle.std.proofs.lemmas.Option.{same_Some}
+use Rattle.std.specs.Option.{option_map}
 use Rattle.mt_rows.specs.declared.command.Command.{Command}
-use Rattle.mt_runs.specs.Runs.{Story, Asked, Made, owner, first_of, with_begin}
-use Rattle.mt_runs.specs.Placings.{Quotas, Maps}
-use Rattle.mt_runs.proofs.Growth.{right_asked}
+use Rattle.mt_runs.{specs.{Runs.{Story, Asked, Made, owner, first_of, with_begin}, Placings.{Quotas, Maps}}, proofs.Growth.right_asked}
 use Rattle.mt_operation.specs.Operations.{OperationView}
-use Rattle.mt_state.specs.Views.{StateView, op_at, map_of, changed_at}
-use Rattle.mt_state.specs.Begins.{begun as before_any, Begins}
-use Rattle.mt_state.specs.Histories.{Names, Renames, StoryTells, History}
+use Rattle.mt_state.specs.{Views.{StateView, op_at, map_of, changed_at}, Begins.{begun as before_any, Begins}, Histories.{Names, Renames, StoryTells, History}}
 
 no_value : {A : Type 0} {a : A} → ◌≡◌ {A = Option A} None (Some a) → ⊥
 no_value e = cc

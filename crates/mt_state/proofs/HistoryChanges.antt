@@ -1,17 +1,11 @@
 -- The one change of an operation by the outcome that it remembers, phase by phase: for HistorySteps.
-use Rattle.std.proofs.Common.{◌≡◌, ℕ, inl, inr, Bool, true, false, cond, Option, Some, None, sym, refl, ap, ◌∙◌, ◌⊎◌}
-use Rattle.std.proofs.lemmas.Option.{same_Some}
-use Rattle.mt_rows.specs.declared.reply.Reply.{Reply}
-use Rattle.mt_rows.specs.declared.reply.Reply.TheVariants as replies
-use Rattle.mt_rows.specs.Maps.{is_change}
+use Rattle.std.proofs.{Common.{◌≡◌, ℕ, inl, inr, Bool, true, false, cond, Option, Some, None, sym, refl, ap, ◌∙◌, ◌⊎◌}, lemmas.Option.same_Some}
+use Rattle.mt_rows.specs.{declared.reply.Reply.Reply, Maps.is_change}
 use Rattle.mt_operation.specs.declared.phase.Phase.{Phase}
 use Rattle.mt_operation.specs.declared.phase.Phase.TheVariants.{Enter, Search, Load, Confirm, Forward, Judge, Store, Publish, SplitStart, SplitMove, SplitPrev, LockParent, MakeLayer, DropKey, LockPrev, Unlock, Snap, Check, Hop, Done}
-use Rattle.mt_operation.specs.declared.outcome.Outcome.{Outcome}
-use Rattle.mt_operation.specs.Operations.{OperationView}
-use Rattle.mt_operation.specs.Phases.{MayFollow, is_unplaced}
-use Rattle.mt_state.specs.Views.{StateView}
-use Rattle.mt_state.specs.Steps.{told_change}
-use Rattle.mt_state.specs.Notes.{Says, Notes, Keeps, EndsJudging, EndsScan}
+use Rattle.mt_operation.specs.{declared.outcome.Outcome.Outcome, Operations.OperationView, Phases.{MayFollow, is_unplaced}}
+use Rattle.mt_state.specs.{Views.StateView, Steps.told_change, Notes.{Says, Notes, Keeps, EndsJudging, EndsScan}}
+use Rattle.mt_rows.specs.declared.reply.Reply.TheVariants as replies
 
 -- the change of which an outcome tells, by its number
 pub told_change-of : (reply : Reply) (at : ℕ) → is_change reply ≡ true → told_change (Some (record { reply = reply; at = at })) ≡ Some at

@@ -1,24 +1,15 @@
 -- Each kind of event keeps the history of the run before it: for `told_runs_have_one_order`.
-use Rattle.std.proofs.Common.{◌≡◌, ℕ, true, false, [], ◌∷◌, ◌++◌, Option, Some, None, refl, sym, ap, subst, ◌∙◌}
-use Rattle.std.proofs.lemmas.List.{append-nil, append_assoc}
+use Rattle.std.proofs.{Common.{◌≡◌, ℕ, true, false, [], ◌∷◌, ◌++◌, Option, Some, None, refl, sym, ap, subst, ◌∙◌}, lemmas.List.{append-nil, append_assoc}}
 use Rattle.std.proofs.lemmas.Option.{same_Some}
 use Rattle.mt_rows.specs.declared.command.Command.{Command}
-use Rattle.mt_runs.specs.declared.event.Answer.{Answer}
-use Rattle.mt_runs.specs.declared.event.Event.{Event}
-use Rattle.mt_runs.specs.declared.event.Event.TheVariants.{Begin, Step}
-use Rattle.mt_runs.specs.declared.event.Told.{Told}
+use Rattle.mt_runs.specs.{declared.event.Answer.Answer, declared.event.Event.Event, declared.event.Event.TheVariants.{Begin, Step}, declared.event.Told.Told}
 use Rattle.mt_runs.specs.declared.event.Told.TheVariants.{Begun, Refused, NoSuch, Moved, Again, NoMemory, Spent, Done}
-use Rattle.mt_runs.specs.Runs.{Run, numbered, asked_by, story_of}
-use Rattle.mt_runs.specs.Placings.{Quotas, Maps}
+use Rattle.mt_runs.specs.{Runs.{Run, numbered, asked_by, story_of}, Placings.{Quotas, Maps}}
 use Rattle.mt_runs.proofs.Events.{story_begin, story_moved, story_done, story_quiet}
-use Rattle.mt_operation.specs.Operations.{OperationView}
-use Rattle.mt_operation.proofs.Tables.{set_here}
-use Rattle.mt_state.specs.Views.{StateView, op_at}
-use Rattle.mt_state.specs.Promises.{IsStep}
-use Rattle.mt_state.specs.Begins.{Begins, IsAnswerOf, Takes}
+use Rattle.mt_operation.{specs.Operations.OperationView, proofs.Tables.set_here}
+use Rattle.mt_state.specs.{Views.{StateView, op_at}, Promises.IsStep, Begins.{Begins, IsAnswerOf, Takes}}
 use Rattle.mt_state.specs.Histories.{Names, Renames, History, TellsEvent, BringsTo}
-use Rattle.mt_state.proofs.HistoryBegins.{history_begin}
-use Rattle.mt_state.proofs.HistoryRuns.{history_moved, history_done}
+use Rattle.mt_state.proofs.{HistoryBegins.history_begin, HistoryRuns.{history_moved, history_done}}
 
 -- an event with what it answered keeps the history of any run before it
 abbrev pub Keeps : Names → StateView → Names → StateView → Event → Told → Type 0

@@ -1,36 +1,18 @@
 -- One get of a new state, step by step, each as it may be: for `a_get_of_a_new_state_is_told_of_no_row`.
 use Rattle.std.proofs.Common.{◌≡◌, ◌≢◌, ℕ, zero, suc, ◌+◌, ◌<◌, slice_index, inl, inr, ◌⊎◌, Bool, true, false, cond, eqb, [], ◌∷◌, Option, Some, None, is_some, refl, sym, ap, ◌∙◌, arith}
-use Rattle.std.proofs.lemmas.Bool.{ne_eqb}
-use Rattle.std.proofs.lemmas.Option.{same_Some}
-use Rattle.mt_rows.specs.declared.tenants.Account.{Account}
-use Rattle.mt_rows.specs.declared.reply.Reply.TheVariants.{Absent, Found, NoMemory}
-use Rattle.mt_rows.specs.Accounts.{Accounts, account_of}
-use Rattle.mt_rows.specs.Maps.{reply_of, is_get}
-use Rattle.mt_rows.specs.Tenants.{tenant_map}
-use Rattle.mt_rows.specs.declared.reply.Reply.{Reply}
-use Rattle.mt_rows.specs.Rows.{Columns}
-use Rattle.mt_runs.specs.Runs.{Asked, story_of, first_of}
-use Rattle.mt_runs.specs.WrongRuns.{key_k, get_k}
+use Rattle.std.proofs.{lemmas.Bool.ne_eqb, lemmas.Option.same_Some}
+use Rattle.mt_rows.specs.{declared.tenants.Account.Account, declared.reply.Reply.TheVariants.{Absent, Found, NoMemory}, Accounts.{Accounts, account_of}}
+use Rattle.mt_rows.specs.{Maps.{reply_of, is_get}, Tenants.tenant_map, declared.reply.Reply.Reply, Rows.Columns}
+use Rattle.mt_runs.specs.{Runs.{Asked, story_of, first_of}, WrongRuns.{key_k, get_k}}
 use Rattle.mt_slices.specs.Keys.{stored_key}
 use Rattle.mt_border.proofs.ContentsKeys.{in_top_tree}
 use Rattle.mt_arena.specs.Accesses.{new_arena}
-use Rattle.mt_operation.specs.declared.phase.Phase.TheVariants.{Search, Confirm, Done}
-use Rattle.mt_operation.specs.declared.outcome.Outcome.{Outcome}
-use Rattle.mt_operation.specs.Operations.{OperationView}
+use Rattle.mt_operation.specs.{declared.phase.Phase.TheVariants.{Search, Confirm, Done}, declared.outcome.Outcome.Outcome, Operations.OperationView}
 use Rattle.mt_operation.specs.Phases.{is_done}
 use Rattle.mt_descent.specs.KeptWalks.{GoesThrough}
-use Rattle.mt_state.specs.Views.{StateView, op_at, quota_of}
-use Rattle.mt_state.specs.Steps.{HasMoved, change_in}
-use Rattle.mt_state.specs.Notes.{Notes}
-use Rattle.mt_state.specs.Promises.{IsAnswer, IsStep}
-use Rattle.mt_state.specs.Refused.{IsAdmissible}
-use Rattle.mt_state.specs.Begins.{new_state, begun, Begins, Takes}
-use Rattle.mt_state.specs.Histories.{Names, no_names, BringsTo}
-use Rattle.mt_state.specs.OneGet.{one_get}
-use Rattle.mt_state.proofs.Still.{nothing_changes}
-use Rattle.mt_state.proofs.Growing.{makes_same}
-use Rattle.mt_state.proofs.HistoryStart.{content-new, tenant_map-empty}
-use Rattle.mt_state.proofs.HistoryGets.{get_absent}
+use Rattle.mt_state.specs.{Views.{StateView, op_at, quota_of}, Steps.{HasMoved, change_in}, Notes.Notes, Promises.{IsAnswer, IsStep}, Refused.IsAdmissible}
+use Rattle.mt_state.specs.{Begins.{new_state, begun, Begins, Takes}, Histories.{Names, no_names, BringsTo}, OneGet.one_get}
+use Rattle.mt_state.proofs.{Still.nothing_changes, Growing.makes_same, HistoryStart.{content-new, tenant_map-empty}, HistoryGets.get_absent}
 use Rattle.mt_state.proofs.HistoryNew.{nothing_found}
 
 -- one name alone

@@ -1,18 +1,11 @@
 -- A right story of gets alone, from no pairs on, changes no map, and each of its answers finds nothing: for `gets_of_a_new_state_find_nothing`.
 use Rattle.std.proofs.Common.{◌≡◌, ℕ, zero, suc, ◌<◌, ◌≤◌, ◌⊎◌, inl, inr, Bool, true, false, not, ◌&&◌, List, Option, Some, None, refl, ap, ◌∙◌, arith}
-use Rattle.std.specs.FinMap.{empty, get-empty}
-use Rattle.std.specs.Ordering.{nat_cmp}
-use Rattle.std.specs.Cmp.Lexicographic.{slice_cmp}
 use Rattle.std.proofs.lemmas.Bool.{both_ways}
-use Rattle.mt_rows.specs.declared.command.Command.{Command}
-use Rattle.mt_rows.specs.declared.command.Command.TheVariants.{Get}
-use Rattle.mt_rows.specs.declared.reply.Reply.{Reply}
-use Rattle.mt_rows.specs.declared.reply.Reply.TheVariants.{Absent, NoMemory}
-use Rattle.mt_rows.specs.Rows.{Columns}
+use Rattle.std.specs.{FinMap.{empty, get-empty}, Ordering.nat_cmp, Cmp.Lexicographic.slice_cmp}
+use Rattle.mt_rows.specs.{declared.command.Command.Command, declared.command.Command.TheVariants.Get, declared.reply.Reply.Reply}
+use Rattle.mt_rows.specs.{declared.reply.Reply.TheVariants.{Absent, NoMemory}, Rows.Columns}
 use Rattle.mt_rows.specs.Maps.{Map, reply_of, told_of_row, is_change, is_get, is_scan, is_no_memory}
-use Rattle.mt_runs.specs.declared.event.Answer.{Answer}
-use Rattle.mt_runs.specs.Runs.{Run, Asked, story_of, last_step, Finished}
-use Rattle.mt_runs.specs.Placings.{Quotas, no_pairs, is_placed}
+use Rattle.mt_runs.specs.{declared.event.Answer.Answer, Runs.{Run, Asked, story_of, last_step, Finished}, Placings.{Quotas, no_pairs, is_placed}}
 use Rattle.mt_runs.specs.Right.{Right, IsAnswered}
 use Rattle.mt_runs.proofs.Steps.{owner_in}
 use Rattle.mt_state.proofs.Lawful.{get_no_scan}

@@ -1,16 +1,11 @@
 -- What a numbered step does to the maps of the steps, and to which of them changed one: for HistorySteps.
-use Rattle.std.proofs.Common.{◌≡◌, ℕ, ◌+◌, ◌<◌, ◌≤◌, true, false, List, get_or, sym, ap, subst, ◌∙◌, arith, eqb}
+use Rattle.std.proofs.{Common.{◌≡◌, ℕ, ◌+◌, ◌<◌, ◌≤◌, true, false, List, get_or, sym, ap, subst, ◌∙◌, arith, eqb}, lemmas.Bool.ne_eqb}
+use Rattle.std.proofs.{lemmas.List.Elements.All-push, lemmas.List.Folds.list_any_none}
 use Rattle.std.specs.List.{All}
-use Rattle.std.proofs.lemmas.Bool.{ne_eqb}
-use Rattle.std.proofs.lemmas.List.Elements.{All-push}
-use Rattle.std.proofs.lemmas.List.Folds.{list_any_none}
 use Rattle.mt_rows.specs.Tenants.{tenant_map}
-use Rattle.mt_tape.specs.declared.entry.Entry.{Entry}
-use Rattle.mt_tape.specs.Histories.{undone, is_changed}
-use Rattle.mt_tape.proofs.EntryLaws.{later_entries-none, is_changed-push}
+use Rattle.mt_tape.{specs.{declared.entry.Entry.Entry, Histories.{undone, is_changed}}, proofs.EntryLaws.{later_entries-none, is_changed-push}}
 use Rattle.mt_operation.specs.Operations.{OperationView}
-use Rattle.mt_state.specs.Views.{StateView, contents_of, map_of, changed_at}
-use Rattle.mt_state.specs.Promises.{IsQuiet, IsPlacing}
+use Rattle.mt_state.specs.{Views.{StateView, contents_of, map_of, changed_at}, Promises.{IsQuiet, IsPlacing}}
 
 -- every change was made by a step up to this one
 abbrev pub AreMade : List Entry → ℕ → Type 0

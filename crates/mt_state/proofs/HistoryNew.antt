@@ -1,18 +1,9 @@
 -- A told run of a new state has a right story: for `told_runs_have_one_order` and `gets_of_a_new_state_find_nothing`.
 use Rattle.std.proofs.Common.{◌≡◌, ℕ, ◌⊎◌, true, [], Some}
-use Rattle.mt_rows.specs.Accounts.{Accounts, account_of}
-use Rattle.mt_rows.specs.Maps.{is_get}
-use Rattle.mt_rows.specs.declared.reply.Reply.TheVariants.{Absent, NoMemory}
-use Rattle.mt_runs.specs.declared.event.Answer.{Answer}
-use Rattle.mt_runs.specs.Runs.{Run, Asked, Finished, story_of}
-use Rattle.mt_runs.specs.Placings.{no_pairs}
-use Rattle.mt_runs.specs.Right.{Right}
-use Rattle.mt_state.specs.Views.{StateView, quota_in, map_of, changed_at}
-use Rattle.mt_state.specs.Begins.{new_state}
-use Rattle.mt_state.specs.Histories.{Names, no_names, BringsTo}
-use Rattle.mt_state.proofs.HistoryStart.{history_new}
-use Rattle.mt_state.proofs.HistoryEvents.{keeps_run}
-use Rattle.mt_state.proofs.HistoryGets.{found_nothing}
+use Rattle.mt_rows.specs.{Accounts.{Accounts, account_of}, Maps.is_get, declared.reply.Reply.TheVariants.{Absent, NoMemory}}
+use Rattle.mt_runs.specs.{declared.event.Answer.Answer, Runs.{Run, Asked, Finished, story_of}, Placings.no_pairs, Right.Right}
+use Rattle.mt_state.specs.{Views.{StateView, quota_in, map_of, changed_at}, Begins.new_state, Histories.{Names, no_names, BringsTo}}
+use Rattle.mt_state.proofs.{HistoryStart.history_new, HistoryEvents.keeps_run, HistoryGets.found_nothing}
 
 pub right_new : (logs : ℕ) (accounts : Accounts) (run : Run) (names : Names) (v : StateView) → BringsTo no_names (new_state logs accounts) run names v
     → Right (λ t. quota_in (account_of accounts t)) no_pairs (story_of 0 run) (map_of v) (changed_at v)

@@ -1,20 +1,12 @@
 -- A numbered step keeps the history of a run, and so does one that ends its operation, with the answer taken: for HistoryEvents.
-use Rattle.std.proofs.Common.{◌≡◌, ◌≢◌, ℕ, ◌+◌, inl, inr, Bool, true, set, Option, Some, None, sym, ap, subst, ◌∙◌, arith}
-use Rattle.std.proofs.lemmas.Bool.{cases_eq}
+use Rattle.std.proofs.{Common.{◌≡◌, ◌≢◌, ℕ, ◌+◌, inl, inr, Bool, true, set, Option, Some, None, sym, ap, subst, ◌∙◌, arith}, lemmas.Bool.cases_eq}
 use Rattle.std.proofs.lemmas.Option.{same_Some}
-use Rattle.mt_runs.specs.declared.event.Answer.{Answer}
-use Rattle.mt_runs.specs.Runs.{Story, owner, last_step, with_step}
-use Rattle.mt_runs.specs.Placings.{Quotas, Maps}
-use Rattle.mt_runs.specs.Right.{Right}
+use Rattle.mt_runs.specs.{declared.event.Answer.Answer, Runs.{Story, owner, last_step, with_step}, Placings.{Quotas, Maps}, Right.Right}
 use Rattle.mt_runs.proofs.Steps.{more_steps, owner_cases}
-use Rattle.mt_operation.specs.Operations.{OperationView}
-use Rattle.mt_operation.proofs.Tables.{set_is, set_there, set_none}
-use Rattle.mt_state.specs.Views.{StateView, Shown, op_at, map_of, changed_at}
-use Rattle.mt_state.specs.Promises.{IsStep}
-use Rattle.mt_state.specs.Begins.{IsAnswerOf, IsEnded, Takes}
+use Rattle.mt_operation.{specs.Operations.OperationView, proofs.Tables.{set_is, set_there, set_none}}
+use Rattle.mt_state.specs.{Views.{StateView, Shown, op_at, map_of, changed_at}, Promises.IsStep, Begins.{IsAnswerOf, IsEnded, Takes}}
 use Rattle.mt_state.specs.Histories.{Names, Renames, StoryTells, History}
-use Rattle.mt_state.proofs.Granted.{quota_stays}
-use Rattle.mt_state.proofs.HistorySteps.{right_after, own_told, other_told, made_after}
+use Rattle.mt_state.proofs.{Granted.quota_stays, HistorySteps.{right_after, own_told, other_told, made_after}}
 
 no_value : {A : Type 0} {a : A} → ◌≡◌ {A = Option A} None (Some a) → ⊥
 no_value e = cc

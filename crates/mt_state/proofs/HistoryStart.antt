@@ -1,25 +1,13 @@
 -- Before any event nothing was begun, and the history of no event is right: for `told_runs_have_one_order`.
-use Rattle.std.proofs.Common.{◌≡◌, ℕ, ◌≤◌, [], Option, Some, None, sym, refl, ap, subst, ◌∙◌, arith}
-use Rattle.std.specs.FinMap as pairs
-use Rattle.std.specs.FinMap.{get-empty}
-use Rattle.std.specs.Ordering.{nat_cmp}
-use Rattle.std.specs.Cmp.Lexicographic.{slice_cmp}
-use Rattle.std.proofs.lemmas.List.Elements.{All-nil}
-use Rattle.mt_rows.specs.Accounts.{Accounts, account_of}
-use Rattle.mt_rows.specs.Tenants.{owned_cmp, tenant_map}
-use Rattle.mt_rows.proofs.CommandLaws.{same_rows}
-use Rattle.mt_rows.proofs.ContentLaws.{get-tenant_map}
-use Rattle.mt_arena.specs.Arena.{content_of}
-use Rattle.mt_arena.specs.Contents as contents
-use Rattle.mt_arena.specs.Accesses.{new_arena}
-use Rattle.mt_runs.specs.Runs.{story_of}
-use Rattle.mt_runs.specs.Placings.{Maps, no_pairs}
-use Rattle.mt_runs.proofs.Steps.{owner_in}
-use Rattle.mt_runs.proofs.Growth.{no_story, right_start}
-use Rattle.mt_state.specs.Views.{StateView, contents_of, op_at, map_of, changed_at, quota_in, quota_of}
-use Rattle.mt_state.specs.Begins.{new_state}
-use Rattle.mt_state.specs.Histories.{no_names, History}
+use Rattle.std.proofs.{Common.{◌≡◌, ℕ, ◌≤◌, [], Option, Some, None, sym, refl, ap, subst, ◌∙◌, arith}, lemmas.List.Elements.All-nil}
+use Rattle.std.specs.{FinMap.get-empty, Ordering.nat_cmp, Cmp.Lexicographic.slice_cmp}
+use Rattle.mt_rows.{specs.{Accounts.{Accounts, account_of}, Tenants.{owned_cmp, tenant_map}}, proofs.{CommandLaws.same_rows, ContentLaws.get-tenant_map}}
+use Rattle.mt_arena.specs.{Arena.content_of, Accesses.new_arena}
+use Rattle.mt_runs.{specs.{Runs.story_of, Placings.{Maps, no_pairs}}, proofs.{Steps.owner_in, Growth.{no_story, right_start}}}
+use Rattle.mt_state.specs.{Views.{StateView, contents_of, op_at, map_of, changed_at, quota_in, quota_of}, Begins.new_state, Histories.{no_names, History}}
 use Rattle.mt_state.proofs.HistoryMaps.{AreMade, map_of-now}
+use Rattle.std.specs.FinMap as pairs
+use Rattle.mt_arena.specs.Contents as contents
 
 no_value : {A : Type 0} {a : A} → ◌≡◌ {A = Option A} None (Some a) → ⊥
 no_value e = cc

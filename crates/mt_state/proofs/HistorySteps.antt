@@ -1,34 +1,19 @@
 -- A numbered step of an operation keeps the story right, and what it tells of every operation: for HistoryRuns.
 use Rattle.std.proofs.Common.{◌≡◌, ◌≢◌, ℕ, suc, ◌+◌, ◌-◌, ◌≤◌, ◌⊎◌, inl, inr, Bool, true, false, not, ◌&&◌, cond, eqb, Option, Some, sym, refl, ap, subst, ◌∙◌, arith}
-use mathlib.Core.Path.{fun_ext}
-use Rattle.std.proofs.lemmas.Bool.{both_ways, eqb-false, eqb-true}
-use Rattle.std.proofs.lemmas.Option.{same_Some}
-use Rattle.mt_rows.specs.declared.reply.Reply.{Reply}
-use Rattle.mt_rows.specs.declared.reply.Reply.TheVariants.{New, Replaced, Removed}
-use Rattle.mt_rows.specs.Maps.{reply_of, is_change, is_scan, is_no_memory}
-use Rattle.mt_rows.specs.Tenants.{tenant_map}
-use Rattle.mt_runs.specs.declared.event.Answer.{Answer}
-use Rattle.mt_runs.specs.Runs.{Story, Asked, last_step, owner, with_step, IsFirst, IsLast, IsBetween}
-use Rattle.mt_runs.specs.Scans.{IsLawfulScan}
-use Rattle.mt_runs.specs.Placings.{Quotas, Maps, is_placed, reply_in, maps_after_one}
-use Rattle.mt_runs.specs.Right.{Right, IsChangeAfter, IsAnswered, IsGrowth, maps_at}
-use Rattle.mt_runs.proofs.Steps.{owner_in, owner_stays, owner_cases, new_owner, finished_cases}
-use Rattle.mt_runs.proofs.Growth.{right_step}
-use Rattle.mt_rows.specs.declared.command.Command.{Command}
+use Rattle.std.proofs.{lemmas.Bool.{both_ways, eqb-false, eqb-true}, lemmas.Option.same_Some}
+use Rattle.mt_rows.specs.{declared.reply.Reply.Reply, declared.reply.Reply.TheVariants.{New, Replaced, Removed}}
+use Rattle.mt_rows.specs.{Maps.{reply_of, is_change, is_scan, is_no_memory}, Tenants.tenant_map, declared.command.Command.Command}
+use Rattle.mt_runs.specs.{declared.event.Answer.Answer, Runs.{Story, Asked, last_step, owner, with_step, IsFirst, IsLast, IsBetween}, Scans.IsLawfulScan}
+use Rattle.mt_runs.specs.{Placings.{Quotas, Maps, is_placed, reply_in, maps_after_one}, Right.{Right, IsChangeAfter, IsAnswered, IsGrowth, maps_at}}
+use Rattle.mt_runs.proofs.{Steps.{owner_in, owner_stays, owner_cases, new_owner, finished_cases}, Growth.right_step}
 use Rattle.mt_walks.specs.Walked.{IsWithin}
-use Rattle.mt_operation.specs.declared.phase.Phase.{Phase}
-use Rattle.mt_operation.specs.Operations.{OperationView}
-use Rattle.mt_operation.specs.Phases.{is_done, MayFollow}
-use Rattle.mt_state.specs.Views.{StateView, contents_of, map_of, changed_at, quota_of, IsPlaced}
-use Rattle.mt_state.specs.Steps.{told_change, change_in}
-use Rattle.mt_state.specs.Notes.{Notes}
-use Rattle.mt_state.specs.Promises.{IsQuiet, IsPlacing, IsAnswer, IsStep}
-use Rattle.mt_state.specs.Begins.{IsAnswerOf}
-use Rattle.mt_state.specs.Histories.{StoryTells}
-use Rattle.mt_state.proofs.Granted.{quota_stays}
-use Rattle.mt_state.proofs.Lawful.{change_no_scan, lawful_change, lawful_more}
+use Rattle.mt_operation.specs.{declared.phase.Phase.Phase, Operations.OperationView, Phases.{is_done, MayFollow}}
+use Rattle.mt_state.specs.{Views.{StateView, contents_of, map_of, changed_at, quota_of, IsPlaced}, Steps.{told_change, change_in}, Notes.Notes}
+use Rattle.mt_state.specs.{Promises.{IsQuiet, IsPlacing, IsAnswer, IsStep}, Begins.IsAnswerOf, Histories.StoryTells}
+use Rattle.mt_state.proofs.{Granted.quota_stays, Lawful.{change_no_scan, lawful_change, lawful_more}}
 use Rattle.mt_state.proofs.HistoryChanges.{told_change-of, told_change-is, placed_after, same_at_end, same_when_placed}
 use Rattle.mt_state.proofs.HistoryMaps.{AreMade, map_of-now, map-quiet, changed-quiet, made-quiet, map-placing, changed-placing, made-placing}
+use mathlib.Core.Path.{fun_ext}
 
 real_change : (reply : Reply) → is_change reply ≡ true → is_no_memory reply ≡ false
 real_change New e = refl

@@ -1,21 +1,15 @@
 -- Which commands are no scans, and that a scan stays lawful: for all phases.
 use Rattle.std.proofs.Common.{◌≡◌, ◌≢◌, ℕ, true, false, refl, sym, ◌∙◌}
-use Rattle.mt_rows.specs.declared.command.Command.{Command}
-use Rattle.mt_rows.specs.declared.command.Command.TheVariants.{Get, Put, Remove, Scan}
-use Rattle.mt_rows.specs.declared.reply.Reply.{Reply}
-use Rattle.mt_rows.specs.declared.reply.Reply.TheVariants as replies
-use Rattle.mt_rows.specs.Maps.{Map, reply_of, is_change, is_get, is_scan}
+use Rattle.mt_rows.specs.{declared.command.Command.Command, declared.command.Command.TheVariants.{Get, Put, Remove, Scan}, declared.reply.Reply.Reply}
+use Rattle.mt_rows.specs.{Maps.{Map, reply_of, is_change, is_get, is_scan}, Commands.key_of}
 use Rattle.mt_runs.specs.Scans.{IsLawfulScan}
-use Rattle.mt_operation.specs.declared.walk.Aim.{Aim}
-use Rattle.mt_operation.specs.declared.walk.Aim.TheVariants as aims
-use Rattle.mt_operation.specs.declared.operation.Operation.{Operation}
-use Rattle.mt_operation.specs.Tasks.{ask, aim_of}
+use Rattle.mt_operation.specs.{declared.walk.Aim.Aim, declared.operation.Operation.Operation, Tasks.{ask, aim_of}}
 use Rattle.mt_insert.specs.Puts.{is_put}
 use Rattle.mt_remove.specs.Writes.{is_remove}
-use Rattle.mt_rows.specs.Commands.{key_of}
 use Rattle.mt_border.specs.Contents.{owned}
-use Rattle.mt_state.specs.Views.{Core}
-use Rattle.mt_state.specs.KeptOperations.{IsOpenOperation}
+use Rattle.mt_state.specs.{Views.Core, KeptOperations.IsOpenOperation}
+use Rattle.mt_rows.specs.declared.reply.Reply.TheVariants as replies
+use Rattle.mt_operation.specs.declared.walk.Aim.TheVariants as aims
 
 -- what comes to do anything else is no scan
 pub aim_no_scan : (command : Command) → aim_of command ≢ aims.Scan → is_scan command ≡ false

@@ -1,39 +1,22 @@
 -- What the steps that make a layer leave of all nodes, by what their calls ensure, and where they lead: for `build_done`.
 use Rattle.std.proofs.Common.{None, Option, Some, [], ap, arith, false, inl, inr, length, length-append, refl, set, subst, sym, ℕ, ◌<◌, ◌∙◌, ◌∷◌, ◌≡◌, ◌≢◌, ◌≤◌, true}
+use Rattle.std.proofs.{lemmas.Bool.{cases_lt, both_ways}, lemmas.List.length-set}
 use Rattle.std.specs.Prelude.{◌⊎◌}
-use Rattle.std.proofs.lemmas.Bool.{cases_lt, both_ways}
-use Rattle.std.proofs.lemmas.List.{length-set}
 use Rattle.mt_rows.specs.Rows.{Bytes}
-use Rattle.mt_border.specs.declared.entry.Entry.{Entry}
-use Rattle.mt_border.specs.declared.entry.Held.{Held}
-use Rattle.mt_border.specs.declared.entry.Held.TheVariants.{Link as LinkTo, Unstable}
-use Rattle.mt_arena.specs.declared.tree.Tree.{Tree}
-use Rattle.mt_arena.specs.declared.tree.Standing.TheVariants.{Live, Made}
-use Rattle.mt_arena.specs.NodeView.{NodeView, node_at}
-use Rattle.mt_arena.specs.Forests.{tree_at}
-use Rattle.mt_arena.specs.Layering.{prefix_below, root_of, with_held, with_layer, with_link, with_slot}
-use Rattle.mt_arena.specs.Arena.{ArenaView, Guarantee, content_of}
+use Rattle.mt_border.specs.{declared.entry.Entry.Entry, declared.entry.Held.Held, declared.entry.Held.TheVariants.{Link as LinkTo, Unstable}}
+use Rattle.mt_arena.specs.{declared.tree.Tree.Tree, declared.tree.Standing.TheVariants.{Live, Made}, NodeView.{NodeView, node_at}, Forests.tree_at}
+use Rattle.mt_arena.specs.{Layering.{prefix_below, root_of, with_held, with_layer, with_link, with_slot}, Arena.{ArenaView, Guarantee, content_of}}
 use Rattle.mt_arena.specs.Accesses.{IsHeld, at}
 use Rattle.mt_arena.proofs.Pairs.{before as as_before}
-use Rattle.mt_operation.specs.declared.phase.Phase.{Phase}
-use Rattle.mt_operation.specs.declared.phase.Phase.TheVariants.{Done, Link, MakeLayer, MarkLayer, MarkUnstable, Unlock}
-use Rattle.mt_operation.specs.declared.walk.Walk.{Walk}
-use Rattle.mt_operation.specs.declared.outcome.Outcome.{Outcome}
-use Rattle.mt_operation.specs.Operations.{SplitsView}
-use Rattle.mt_operation.specs.Phases.{IsLayerPhase, MayFollow}
+use Rattle.mt_operation.specs.{declared.phase.Phase.Phase, declared.phase.Phase.TheVariants.{Done, Link, MakeLayer, MarkLayer, MarkUnstable, Unlock}}
+use Rattle.mt_operation.specs.{declared.walk.Walk.Walk, declared.outcome.Outcome.Outcome, Operations.SplitsView, Phases.{IsLayerPhase, MayFollow}}
+use Rattle.mt_operation.specs.declared.removal.Removal.{Removal}
 use Rattle.mt_descent.specs.WalkMoves.{Continues}
 use Rattle.mt_held.specs.Holds.{HoldsOnly}
 use Rattle.mt_insert.proofs.InsertingChildren.{at_p}
-use Rattle.mt_layer.specs.KeptLayers.{KeptLayer}
-use Rattle.mt_layer.specs.NewLayers.{KeepsStamps, entry_below, walk_at}
-use Rattle.mt_layer.specs.Builds.{IsLayerFrom, KeepsLayer}
-use Rattle.mt_state.specs.Promises.{HoldsEither, Touches}
-use Rattle.mt_state.specs.Invariant.{IsCountedUpTo, DeletedAreEmpty}
-use Rattle.mt_state.specs.Phases.{ScanStep, LeadsTo}
-use Rattle.mt_state.specs.Growth.{MakesFew}
-use Rattle.mt_state.proofs.Growing.{makes_same, makes_set}
-use Rattle.mt_state.proofs.Climbing.{each_set, pushed_at}
-use Rattle.mt_operation.specs.declared.removal.Removal.{Removal}
+use Rattle.mt_layer.specs.{KeptLayers.KeptLayer, NewLayers.{KeepsStamps, entry_below, walk_at}, Builds.{IsLayerFrom, KeepsLayer}}
+use Rattle.mt_state.specs.{Promises.{HoldsEither, Touches}, Invariant.{IsCountedUpTo, DeletedAreEmpty}, Phases.{ScanStep, LeadsTo}, Growth.MakesFew}
+use Rattle.mt_state.proofs.{Growing.{makes_same, makes_set}, Climbing.{each_set, pushed_at}}
 
 -- a node's level and its version's counts stay, it is not taken out, and only one that the operation holds is another
 pub record Stays (o : ℕ) (x y : NodeView) : Type 0 where

@@ -1,57 +1,32 @@
 -- The steps that make a layer, and those that lead into one: for a put that meets another long key, and for one that goes on below.
 use Rattle.std.proofs.Common.{◌≡◌, ◌≢◌, ℕ, ◌+◌, ◌<◌, ◌≤◌, inl, inr, Bool, true, false, List, [], length, Option, Some, None, refl, sym, ap, subst, ◌∙◌, arith}
-use Rattle.std.specs.Prelude.{◌^◌}
-use Rattle.std.specs.FinMap.{len}
 use Rattle.std.proofs.lemmas.List.Elements.{All-from_get_or}
-use Rattle.mt_rows.specs.declared.reply.Reply.TheVariants.{NoMemory}
-use Rattle.mt_rows.specs.Rows.{Bytes}
-use Rattle.mt_rows.specs.Tenants.{Contents, tenant_map}
-use Rattle.mt_border.specs.Contents.{IsStamped}
-use Rattle.mt_border.proofs.Edits.{any_entry}
+use Rattle.std.specs.{Prelude.{◌^◌}, FinMap.len}
+use Rattle.mt_rows.specs.{declared.reply.Reply.TheVariants.NoMemory, Rows.Bytes, Tenants.{Contents, tenant_map}}
+use Rattle.mt_border.{specs.Contents.IsStamped, proofs.Edits.any_entry}
 use Rattle.mt_tape.specs.Histories.{contents_at, IsLegalTape}
-use Rattle.mt_arena.specs.NodeView.{NodeView}
-use Rattle.mt_arena.specs.Edits.{unlocked}
-use Rattle.mt_arena.specs.Arena.{ArenaView, content_of, Guarantee}
-use Rattle.mt_arena.specs.Accesses.{at, tree_of, IsHeld, with_node}
-use Rattle.mt_operation.specs.declared.walk.Aim.{Aim}
-use Rattle.mt_operation.specs.declared.walk.Aim.TheVariants as aims
-use Rattle.mt_operation.specs.declared.phase.Phase.{Phase}
-use Rattle.mt_operation.specs.declared.phase.Phase.TheVariants.{Enter, Judge, MakeLayer, MarkUnstable, Link, MarkLayer, Unlock, Done}
-use Rattle.mt_operation.specs.declared.walk.Walk.{Walk}
-use Rattle.mt_operation.specs.declared.outcome.Outcome.{Outcome}
-use Rattle.mt_operation.specs.declared.splits.Halves.{Halves}
-use Rattle.mt_operation.specs.declared.operation.Operation.{Operation}
+use Rattle.mt_arena.specs.{NodeView.NodeView, Edits.unlocked, Arena.{ArenaView, content_of, Guarantee}, Accesses.{at, tree_of, IsHeld, with_node}}
+use Rattle.mt_operation.specs.{declared.walk.Aim.Aim, declared.phase.Phase.Phase}
+use Rattle.mt_operation.specs.{declared.phase.Phase.TheVariants.{Enter, Judge, MakeLayer, MarkUnstable, Link, MarkLayer, Unlock, Done}, declared.walk.Walk.Walk}
+use Rattle.mt_operation.specs.{declared.outcome.Outcome.Outcome, declared.splits.Halves.Halves, declared.operation.Operation.Operation}
 use Rattle.mt_operation.specs.Operations.{OperationView, view_of, IsUnsplit}
 use Rattle.mt_operation.specs.Phases.{is_done, MayFollow, IsOfKind, has_splits, IsLayerPhase, FitsAim, IsLayerKind, Kind, change_at, holds_of, may_be_parts, row, is_unplaced}
-use Rattle.mt_operation.specs.Tasks.{ask}
+use Rattle.mt_operation.specs.{Tasks.ask, Tables.{op_at as operation_at}}
 use Rattle.mt_remove.specs.Writes.{is_remove}
-use Rattle.mt_operation.specs.Tables.{op_at as operation_at}
-use Rattle.mt_descent.specs.KeptWalks.{IsAtEnter, KeptAt}
-use Rattle.mt_insert.specs.KeptPuts.{IsAtMakeLayer}
-use Rattle.mt_held.specs.Holds.{HoldsOnly}
-use Rattle.mt_layer.specs.KeptLayers.{KeptLayer}
-use Rattle.mt_layer.specs.NewLayers.{HasStamp}
-use Rattle.mt_state.specs.Views.{StateView, Core, shown, past_of, map_of}
-use Rattle.mt_state.specs.Steps.{told_change}
-use Rattle.mt_state.specs.Notes.{Notes, Keeps}
-use Rattle.mt_state.specs.Promises.{Touches}
+use Rattle.mt_descent.specs.{KeptWalks.{IsAtEnter, KeptAt}, WalkMoves.KeepsPairs}
+use Rattle.mt_insert.specs.{KeptPuts.IsAtMakeLayer, Judge.MeetsOther}
+use Rattle.mt_held.specs.{Holds.HoldsOnly, Unlock.{MeetsLink, IsUnlock}}
+use Rattle.mt_layer.specs.{KeptLayers.KeptLayer, NewLayers.HasStamp, Builds.{IsLayerFrom, IsLeave}}
+use Rattle.mt_state.specs.{Views.{StateView, Core, shown, past_of, map_of}, Steps.told_change, Notes.{Notes, Keeps}, Promises.Touches}
 use Rattle.mt_state.specs.KeptOperations.{IsOpenOperation, IsJudging, IsLayering, IsLeaving, IsReturning, HasAnswer, IsKeptAt, IsKeptOf, IsKeptFor, IsBound}
 use Rattle.mt_state.specs.Invariant.{IsTape, IsStampOf, AreStamps, HoldsLast, HoldsAt, StateInvariant, StateGuarantee, HoldsBy}
-use Rattle.mt_state.proofs.Telling.{Gives, gives, logs_later}
-use Rattle.mt_state.proofs.Quiet.{quiet, LeavesPairs}
-use Rattle.mt_state.proofs.Moved.{went, open_moved, has_moved, first_begun, first_upto}
-use Rattle.mt_state.proofs.Still.{IsUnready, floor_made, leaves_all, unready_none, IsUnreadyBy}
-use Rattle.mt_state.proofs.Reading.{walk_same}
+use Rattle.mt_state.proofs.{Telling.{Gives, gives, logs_later}, Quiet.{quiet, LeavesPairs}, Moved.{went, open_moved, has_moved, first_begun, first_upto}}
+use Rattle.mt_state.proofs.{Still.{IsUnready, floor_made, leaves_all, unready_none, IsUnreadyBy}, Reading.walk_same}
 use Rattle.mt_state.proofs.OneNode.{counted_unlocked, counted_later, replaced_at, replaced_touches, replaced_leaves, quiet_grows, holds_here, quiet_gives, border_alone}
-use Rattle.mt_descent.specs.WalkMoves.{KeepsPairs}
-use Rattle.mt_insert.specs.Judge.{MeetsOther}
-use Rattle.mt_held.specs.Unlock.{MeetsLink, IsUnlock}
-use Rattle.mt_layer.specs.Builds.{IsLayerFrom, IsLeave}
-use Rattle.mt_state.proofs.LayerNodes.{BuildsLayer, builds_by}
-use Rattle.mt_operation.specs.Phases as kinds
-use Rattle.mt_state.proofs.Bound.{bound_on}
-use Rattle.mt_state.proofs.Lawful.{stopped_free}
+use Rattle.mt_state.proofs.{LayerNodes.{BuildsLayer, builds_by}, Bound.bound_on, Lawful.stopped_free}
 use Rattle.mt_walks.specs.Walked.{IsWithin}
+use Rattle.mt_operation.specs.declared.walk.Aim.TheVariants as aims
+use Rattle.mt_operation.specs.Phases as kinds
 
 -- a phase at which an operation makes a layer, or has made it
 abbrev HasLayerBy : Kind → Type 0

@@ -1,18 +1,10 @@
 -- Each pair in a slot of a tree that nobody is making stands for a key: for a get that loads.
 use Rattle.std.proofs.Common.{◌≡◌, ◌≢◌, ℕ, ◌<◌, length, Some, refl, Bool, true, false, List, ap, arith}
 use Rattle.mt_rows.specs.Rows.{Bytes}
-use Rattle.mt_border.specs.declared.entry.Pair.{Pair}
-use Rattle.mt_border.specs.Entry.{pair_of}
-use Rattle.mt_border.proofs.Edits.{any_entry}
-use Rattle.mt_arena.specs.declared.tree.Standing.{Standing}
-use Rattle.mt_arena.specs.declared.tree.Standing.TheVariants.{Made, Live, Dead}
-use Rattle.mt_arena.specs.Forests.{layer_of}
-use Rattle.mt_arena.specs.Layers.{slot_at}
-use Rattle.mt_arena.specs.Arena.{ArenaView, IsArena}
-use Rattle.mt_arena.specs.Accesses.{at, tree_of}
-use Rattle.mt_arena.specs.Ways.{StandsFor}
+use Rattle.mt_border.{specs.{declared.entry.Pair.Pair, Entry.pair_of, declared.entry.Entry.Entry}, proofs.Edits.any_entry}
+use Rattle.mt_arena.specs.{declared.tree.Standing.Standing, declared.tree.Standing.TheVariants.{Made, Live, Dead}, Forests.layer_of, Layers.slot_at}
+use Rattle.mt_arena.specs.{Arena.{ArenaView, IsArena}, Accesses.{at, tree_of}, Ways.StandsFor}
 use Rattle.mt_state.specs.Invariant.{DeletedAreEmpty}
-use Rattle.mt_border.specs.declared.entry.Entry.{Entry}
 
 -- a tree is live, where it is neither being made nor dead
 still_live : (standing : Standing) → ((q : ℕ) → standing ≢ Made q) → standing ≢ Dead → standing ≡ Live

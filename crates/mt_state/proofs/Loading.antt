@@ -1,73 +1,34 @@
 -- A get that takes what its slot holds: it is to confirm it, or there was no memory for the row that it shows.
 use Rattle.std.proofs.Common.{◌≡◌, ◌≢◌, ℕ, ◌+◌, ◌<◌, ◌≤◌, ◌⊎◌, inl, inr, Bool, true, false, cond, length, max, Option, Some, None, refl, sym, ap, subst, ◌∙◌, arith}
-use Rattle.std.specs.Prelude.{◌^◌, IsSomeAnd}
-use Rattle.std.specs.List.{Contains}
-use Rattle.std.specs.FinMap.{get}
-use Rattle.std.proofs.lemmas.Bool.{cases_eq}
-use Rattle.std.proofs.lemmas.Option.{same_Some}
-use Rattle.std.proofs.lemmas.List.Elements.{All-contains}
-use Rattle.mt_slices.specs.Keys.{stored_key}
-use Rattle.mt_slices.specs.Slices.{suffix_of}
-use Rattle.mt_rows.specs.declared.reply.Reply.TheVariants.{Found, NoMemory}
-use Rattle.mt_rows.specs.Rows.{Bytes, Columns, shown as columns_shown}
-use Rattle.mt_rows.specs.Commands.{key_of}
-use Rattle.mt_rows.specs.Maps.{is_get}
+use Rattle.std.proofs.{lemmas.Bool.cases_eq, lemmas.Option.same_Some, lemmas.List.Elements.All-contains}
+use Rattle.std.specs.{Prelude.{◌^◌, IsSomeAnd}, List.Contains, FinMap.get}
+use Rattle.mt_slices.specs.{Keys.stored_key, Slices.suffix_of}
+use Rattle.mt_rows.specs.{declared.reply.Reply.TheVariants.{Found, NoMemory}, Rows.{Bytes, Columns, shown as columns_shown}, Commands.key_of, Maps.is_get}
 use Rattle.mt_rows.proofs.ContentLaws.{get-tenant_map}
-use Rattle.mt_border.specs.declared.entry.Pair.{Pair}
-use Rattle.mt_border.specs.declared.entry.Held.{Held}
-use Rattle.mt_border.specs.declared.entry.Held.TheVariants as helds
-use Rattle.mt_border.specs.declared.entry.FoundKind.{FoundKind}
-use Rattle.mt_border.specs.declared.entry.FoundKind.TheVariants.{ThisKey, OtherLong, Link as ToTree}
-use Rattle.mt_border.specs.Entry.{IsKind, pair_of}
+use Rattle.mt_border.specs.{declared.entry.Pair.Pair, declared.entry.Held.Held, declared.entry.FoundKind.FoundKind}
+use Rattle.mt_border.specs.{declared.entry.FoundKind.TheVariants.{ThisKey, OtherLong, Link as ToTree}, Entry.{IsKind, pair_of}}
 use Rattle.mt_border.specs.Contents.{owned, IsOfTree, HasKey}
-use Rattle.mt_border.proofs.Edits.{any_entry}
-use Rattle.mt_border.proofs.ContentsKeys.{owned_at}
-use Rattle.mt_tape.specs.declared.entry.Entry.{Entry as Write}
-use Rattle.mt_tape.specs.Histories.{contents_at, written_key}
-use Rattle.mt_tape.proofs.TapeLaws.{get-contents_at}
-use Rattle.mt_arena.specs.Forests.{tree_at, layer_of}
-use Rattle.mt_arena.specs.Layers.{slot_at}
-use Rattle.mt_arena.specs.NodeView.{NodeView}
-use Rattle.mt_arena.specs.declared.tree.Standing.{Standing}
-use Rattle.mt_arena.specs.declared.tree.Standing.TheVariants.{Made, Live}
-use Rattle.mt_arena.specs.Contents.{is_live}
-use Rattle.mt_arena.specs.Arena.{IsArena, content_of}
-use Rattle.mt_arena.specs.Accesses.{at, tree_of}
+use Rattle.mt_border.proofs.{Edits.any_entry, ContentsKeys.owned_at}
+use Rattle.mt_tape.{specs.{declared.entry.Entry.{Entry as Write}, Histories.{contents_at, written_key}}, proofs.TapeLaws.get-contents_at}
+use Rattle.mt_arena.specs.{Forests.{tree_at, layer_of}, Layers.slot_at, NodeView.NodeView, declared.tree.Standing.Standing}
+use Rattle.mt_arena.specs.{declared.tree.Standing.TheVariants.{Made, Live}, Contents.is_live, Arena.{IsArena, content_of}, Accesses.{at, tree_of}}
 use Rattle.mt_arena.specs.Ways.{StandsFor}
-use Rattle.mt_arena.proofs.Homes as homes
 use Rattle.mt_arena.proofs.Owners.{found}
-use Rattle.mt_operation.specs.declared.walk.Aim.TheVariants as aims
-use Rattle.mt_operation.specs.declared.task.Task.{Task}
-use Rattle.mt_operation.specs.declared.phase.Phase.{Phase}
-use Rattle.mt_operation.specs.declared.phase.Phase.TheVariants.{Enter, Load, Confirm, Done}
-use Rattle.mt_operation.specs.declared.walk.Taken.{Taken}
-use Rattle.mt_operation.specs.declared.walk.Taken.TheVariants as takens
-use Rattle.mt_operation.specs.declared.walk.Walk.{Walk}
-use Rattle.mt_operation.specs.declared.outcome.Outcome.{Outcome}
-use Rattle.mt_operation.specs.declared.operation.Operation.{Operation}
-use Rattle.mt_operation.specs.Tasks.{ask}
-use Rattle.mt_operation.specs.Operations.{view_of}
-use Rattle.mt_operation.specs.Phases.{is_done, MayFollow, IsOfKind}
-use Rattle.mt_operation.specs.Tables.{op_at as operation_at}
-use Rattle.mt_descent.specs.Pasts.{Past, AreStamped}
-use Rattle.mt_descent.specs.KeptWalks.{IsInSlot, IsAtLoad as WalksLoad, KeptAt, IsKept}
-use Rattle.mt_descent.specs.WalkMoves.{Continues, Loads, TakesOut}
-use Rattle.mt_state.specs.Views.{StateView, Core, shown, past_of, map_of}
-use Rattle.mt_state.specs.Steps.{told_change}
-use Rattle.mt_state.specs.Notes.{Notes, Says, columns_asked, ShowsRow, ShowsNone}
-use Rattle.mt_state.specs.Ways.{ShowsTaken}
-use Rattle.mt_state.specs.KeptOperations.{IsOpenOperation, TellsTaken, IsAtLoad, IsAtConfirm, HasAnswer, IsKeptAt}
+use Rattle.mt_operation.specs.{declared.task.Task.Task, declared.phase.Phase.Phase, declared.phase.Phase.TheVariants.{Enter, Load, Confirm, Done}}
+use Rattle.mt_operation.specs.{declared.walk.Taken.Taken, declared.walk.Walk.Walk, declared.outcome.Outcome.Outcome, declared.operation.Operation.Operation}
+use Rattle.mt_operation.specs.{Tasks.ask, Operations.view_of, Phases.{is_done, MayFollow, IsOfKind}, Tables.{op_at as operation_at}}
+use Rattle.mt_descent.specs.{Pasts.{Past, AreStamped}, KeptWalks.{IsInSlot, IsAtLoad as WalksLoad, KeptAt, IsKept}, WalkMoves.{Continues, Loads, TakesOut}}
+use Rattle.mt_state.specs.{Views.{StateView, Core, shown, past_of, map_of}, Steps.told_change, Notes.{Notes, Says, columns_asked, ShowsRow, ShowsNone}}
+use Rattle.mt_state.specs.{Ways.ShowsTaken, KeptOperations.{IsOpenOperation, TellsTaken, IsAtLoad, IsAtConfirm, HasAnswer, IsKeptAt}}
 use Rattle.mt_state.specs.Invariant.{IsStampOf, StateInvariant}
-use Rattle.mt_state.proofs.Replies.{get_asks}
-use Rattle.mt_state.proofs.LiveTrees.{slot_key}
-use Rattle.mt_state.proofs.Telling.{Gives}
-use Rattle.mt_state.proofs.Moved.{went, first_begun, first_upto}
-use Rattle.mt_state.proofs.Still.{IsFree, IsUnready, still, still_gives}
-use Rattle.mt_state.proofs.Reading.{key_of_owner, walk_same}
-use Rattle.mt_state.proofs.Confirming.{get_of}
-use Rattle.mt_state.proofs.Bound.{get_untold}
+use Rattle.mt_state.proofs.{Replies.get_asks, LiveTrees.slot_key, Telling.Gives, Moved.{went, first_begun, first_upto}}
+use Rattle.mt_state.proofs.{Still.{IsFree, IsUnready, still, still_gives}, Reading.{key_of_owner, walk_same}, Confirming.get_of, Bound.get_untold}
 use Rattle.mt_state.proofs.Lawful.{get_no_scan, stopped_free}
 use Rattle.mt_walks.specs.Walked.{IsWithin}
+use Rattle.mt_border.specs.declared.entry.Held.TheVariants as helds
+use Rattle.mt_arena.proofs.Homes as homes
+use Rattle.mt_operation.specs.declared.walk.Aim.TheVariants as aims
+use Rattle.mt_operation.specs.declared.walk.Taken.TheVariants as takens
 
 -- the pairs of live nodes of live trees count
 counts_live : (deleted : Bool) (s : Standing) → deleted ≡ false → s ≡ Live → cond deleted false (is_live s) ≡ true

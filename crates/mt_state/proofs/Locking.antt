@@ -1,63 +1,33 @@
 -- The steps of a put that change no pair: it locks its border node, judges it, finds its quota full, and gives the lock back.
 use Rattle.std.proofs.Common.{◌≡◌, ◌≢◌, ℕ, zero, suc, ◌+◌, ◌-◌, ◌<◌, ◌≤◌, inl, inr, Bool, true, false, cond, eqb, List, [], ◌∷◌, length, Option, Some, None, refl, sym, ap, subst, ◌∙◌, arith}
-use Rattle.std.specs.Prelude.{◌^◌}
 use Rattle.std.proofs.lemmas.Bool.{cases_lt}
-use Rattle.std.specs.FinMap.{get, len}
+use Rattle.std.specs.{Prelude.{◌^◌}, FinMap.{get, len}}
 use Rattle.mt_version.specs.Changes.{CanUnlock}
-use Rattle.mt_rows.specs.declared.reply.Reply.TheVariants.{NoMemory, Full}
-use Rattle.mt_rows.specs.declared.tenants.Account.{Account}
-use Rattle.mt_rows.specs.Accounts.{Accounts, account_of, HasRoom}
-use Rattle.mt_rows.specs.Commands.{key_of}
-use Rattle.mt_rows.specs.Maps.{reply_of}
-use Rattle.mt_rows.specs.Tenants.{tenant_map}
+use Rattle.mt_rows.specs.{declared.reply.Reply.TheVariants.{NoMemory, Full}, declared.tenants.Account.Account, Accounts.{Accounts, account_of, HasRoom}}
+use Rattle.mt_rows.specs.{Commands.key_of, Maps.reply_of, Tenants.tenant_map}
 use Rattle.mt_rows.proofs.ContentLaws.{get-tenant_map}
 use Rattle.mt_tape.specs.Tapes.{Kept}
-use Rattle.mt_arena.specs.NodeView.{NodeView}
-use Rattle.mt_arena.specs.Edits.{locked, unlocked}
-use Rattle.mt_arena.specs.Arena.{ArenaView, content_of, Guarantee}
-use Rattle.mt_arena.specs.Accesses.{at, with_node}
-use Rattle.mt_operation.specs.declared.walk.Aim.TheVariants as aims
-use Rattle.mt_operation.specs.declared.phase.Phase.{Phase}
-use Rattle.mt_operation.specs.declared.phase.Phase.TheVariants.{Enter, Lock, Judge, Store, Publish, SplitStart, Unlock, Done}
-use Rattle.mt_operation.specs.declared.walk.Walk.{Walk}
-use Rattle.mt_operation.specs.declared.outcome.Outcome.{Outcome}
-use Rattle.mt_operation.specs.declared.prepared.Prepared.{Prepared}
-use Rattle.mt_operation.specs.declared.splits.Halves.{Halves}
-use Rattle.mt_operation.specs.declared.operation.Operation.{Operation}
-use Rattle.mt_operation.specs.Tasks.{ask}
-use Rattle.mt_operation.specs.Operations.{view_of, IsUnsplit}
-use Rattle.mt_operation.specs.Phases.{is_done, MayFollow, IsOfKind, has_splits, is_prepared}
-use Rattle.mt_operation.specs.Tables.{Table, op_at as operation_at}
-use Rattle.mt_descent.specs.KeptWalks.{IsAtBorder, KeptAt, IsKept}
-use Rattle.mt_descent.specs.WalkMoves.{after_change, IsLock}
-use Rattle.mt_insert.specs.Puts.{IsPut, is_put}
-use Rattle.mt_held.specs.Holds.{HoldsBorder, IsAtUnlock, HoldsOnly}
-use Rattle.mt_insert.specs.KeptPuts.{KeptReady}
-use Rattle.mt_held.specs.Taping.{released, reserving}
-use Rattle.mt_insert.specs.Judge.{after_judge, IsMadeReady}
-use Rattle.mt_held.specs.Unlock.{IsUnlock}
-use Rattle.mt_held.proofs.Looks.{held_here}
-use Rattle.mt_state.specs.Views.{StateView, Core, shown, past_of, quota_of, quota_in, map_of}
-use Rattle.mt_state.specs.Steps.{told_change}
-use Rattle.mt_state.specs.Notes.{Notes, EndsJudging}
+use Rattle.mt_arena.specs.{NodeView.NodeView, Edits.{locked, unlocked}, Arena.{ArenaView, content_of, Guarantee}, Accesses.{at, with_node}}
+use Rattle.mt_operation.specs.{declared.phase.Phase.Phase, declared.phase.Phase.TheVariants.{Enter, Lock, Judge, Store, Publish, SplitStart, Unlock, Done}}
+use Rattle.mt_operation.specs.{declared.walk.Walk.Walk, declared.outcome.Outcome.Outcome, declared.prepared.Prepared.Prepared, declared.splits.Halves.Halves}
+use Rattle.mt_operation.specs.{declared.operation.Operation.Operation, Tasks.ask, Operations.{view_of, IsUnsplit}}
+use Rattle.mt_operation.specs.{Phases.{is_done, MayFollow, IsOfKind, has_splits, is_prepared}, Tables.{Table, op_at as operation_at}}
+use Rattle.mt_descent.specs.{KeptWalks.{IsAtBorder, KeptAt, IsKept}, WalkMoves.{after_change, IsLock}}
+use Rattle.mt_insert.specs.{Puts.{IsPut, is_put}, KeptPuts.KeptReady, Judge.{after_judge, IsMadeReady}, Publish.IsPublishFull}
+use Rattle.mt_held.{specs.{Holds.{HoldsBorder, IsAtUnlock, HoldsOnly}, Taping.{released, reserving}, Unlock.IsUnlock}, proofs.Looks.held_here}
+use Rattle.mt_state.specs.{Views.{StateView, Core, shown, past_of, quota_of, quota_in, map_of}, Steps.told_change, Notes.{Notes, EndsJudging}}
 use Rattle.mt_state.specs.Promises.{IsAnswer, Touches}
 use Rattle.mt_state.specs.KeptOperations.{IsOpenOperation, IsOnItsWay, IsJudging, IsPublishing, MayUnlock, IsUnlocking, HasAnswer, IsKeptAt, MayUnlockUnsplit}
 use Rattle.mt_state.specs.Invariant.{IsCountedUpTo, HoldsLast, HoldsAt, StateInvariant, one_if_prepared, prepared_count}
-use Rattle.mt_state.proofs.Decides.{outdated_or_not}
-use Rattle.mt_state.proofs.Descents.{Leads, first_aside, changed_leads}
-use Rattle.mt_state.proofs.Rely.{answer_stays}
-use Rattle.mt_state.proofs.Replies.{put_full}
-use Rattle.mt_state.proofs.Telling.{Gives, map_now}
-use Rattle.mt_state.proofs.Quiet.{LeavesPairs}
-use Rattle.mt_state.proofs.Moved.{went, first_same, first_begun, first_upto}
+use Rattle.mt_state.proofs.{Decides.outdated_or_not, Descents.{Leads, first_aside, changed_leads}, Rely.answer_stays, Replies.put_full}
+use Rattle.mt_state.proofs.{Telling.{Gives, map_now}, Quiet.LeavesPairs, Moved.{went, first_same, first_begun, first_upto}}
 use Rattle.mt_state.proofs.Still.{IsFree, still, still_gives, leaves_all, unready_none}
 use Rattle.mt_state.proofs.Reading.{kept_on_way, on_way_unready, on_way_open, walk_same, keeps_on}
 use Rattle.mt_state.proofs.OneNode.{stepped, returning_told, can_unlock, counted_unlocked, replaced_at, replaced_holds, replaced_touches, replaced_leaves, quiet_grows, holds_here, quiet_gives, border_alone}
-use Rattle.mt_insert.specs.Publish.{IsPublishFull}
-use Rattle.mt_state.proofs.Bound.{bound_on, put_no_remove}
+use Rattle.mt_state.proofs.{Bound.{bound_on, put_no_remove}, Lawful.{lawful_more, stopped_free, scan_free, put_no_scan}}
 use Rattle.mt_remove.specs.Writes.{is_remove}
-use Rattle.mt_state.proofs.Lawful.{lawful_more, stopped_free, scan_free, put_no_scan}
 use Rattle.mt_walks.specs.Walked.{IsWithin}
+use Rattle.mt_operation.specs.declared.walk.Aim.TheVariants as aims
 
 -- an operation that has all ready for its write counts once
 pub ready_one : (op : Operation) (p : Phase) → op.walk.phase ≡ p → is_prepared p ≡ true → one_if_prepared (Some op) ≡ 1

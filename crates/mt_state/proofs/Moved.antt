@@ -1,19 +1,10 @@
 -- An operation that has made a step: its numbers, and what is kept of every operation: for all phases.
-use Rattle.std.proofs.Common.{◌≡◌, ℕ, zero, suc, ◌+◌, ◌<◌, ◌≤◌, ◌⊎◌, inl, inr, cond, eqb, Option, IsSome, refl, ap, ◌∙◌, arith, false}
-use Rattle.std.proofs.lemmas.Bool.{ne_eqb}
+use Rattle.std.proofs.{Common.{◌≡◌, ℕ, zero, suc, ◌+◌, ◌<◌, ◌≤◌, ◌⊎◌, inl, inr, cond, eqb, Option, IsSome, refl, ap, ◌∙◌, arith, false}, lemmas.Bool.ne_eqb}
 use Rattle.mt_rows.specs.Accounts.{account_of}
-use Rattle.mt_operation.specs.declared.walk.Walk.{Walk}
-use Rattle.mt_operation.specs.declared.outcome.Outcome.{Outcome}
-use Rattle.mt_operation.specs.declared.prepared.Prepared.{Prepared}
-use Rattle.mt_operation.specs.declared.splits.Splits.{Splits}
-use Rattle.mt_operation.specs.declared.operation.Operation.{Operation}
-use Rattle.mt_operation.specs.Operations.{view_of, moved, no_removal}
-use Rattle.mt_state.specs.Views.{Core}
-use Rattle.mt_state.specs.Steps.{HasMoved}
-use Rattle.mt_operation.specs.Phases.{MayFollow, IsOfKind}
-use Rattle.mt_state.specs.KeptOperations.{IsOpenOperation}
-use Rattle.mt_operation.specs.declared.removal.Removal.{Removal}
-use Rattle.mt_operation.specs.Tasks.{ask}
+use Rattle.mt_operation.specs.{declared.walk.Walk.Walk, declared.outcome.Outcome.Outcome, declared.prepared.Prepared.Prepared, declared.splits.Splits.Splits}
+use Rattle.mt_operation.specs.{declared.operation.Operation.Operation, Operations.{view_of, moved, no_removal}, Phases.{MayFollow, IsOfKind}}
+use Rattle.mt_operation.specs.{declared.removal.Removal.Removal, Tasks.ask}
+use Rattle.mt_state.specs.{Views.Core, Steps.HasMoved, KeptOperations.IsOpenOperation}
 use Rattle.mt_remove.specs.Writes.{is_remove}
 
 -- the number of an operation's first step, once it has made one

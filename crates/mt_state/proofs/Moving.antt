@@ -1,27 +1,17 @@
 -- A step of one operation: what it has to bring, and that the invariant stays: for all phases.
 use Rattle.std.proofs.Common.{false, ◌≡◌, ◌≢◌, ℕ, zero, suc, ◌+◌, ◌<◌, ◌≤◌, ◌⊎◌, inl, inr, [], ◌∷◌, set, Some, sym, ap, subst, ◌∙◌, arith}
-use Rattle.std.specs.Prelude.{◌^◌}
 use Rattle.std.proofs.lemmas.Bool.{cases_eq}
-use Rattle.mt_operation.specs.declared.task.Task.{Task}
-use Rattle.mt_operation.specs.declared.scan.Scan.{Scan}
-use Rattle.mt_operation.specs.declared.operation.Operation.{Operation}
-use Rattle.mt_operation.specs.Operations.{scan_of}
-use Rattle.mt_operation.specs.Tasks.{ask}
-use Rattle.mt_operation.specs.Phases.{is_done}
-use Rattle.mt_operation.specs.Tables.{Table, op_at as operation_at}
+use Rattle.std.specs.Prelude.{◌^◌}
+use Rattle.mt_operation.specs.{declared.task.Task.Task, declared.scan.Scan.Scan, declared.operation.Operation.Operation, Operations.scan_of, Tasks.ask}
+use Rattle.mt_operation.specs.{Phases.is_done, Tables.{Table, op_at as operation_at}}
 use Rattle.mt_operation.proofs.Tables.{set_is, set_here, set_there}
 use Rattle.mt_descent.specs.Pasts.{ExtendsPast}
-use Rattle.mt_state.specs.Views.{Core, shown, past_of}
-use Rattle.mt_state.specs.KeptOperations.{HasScannedFor, KeepsScan, IsScanKept, IsKeptOf}
-use Rattle.mt_state.specs.Invariant.{AreHolders, AreScansKept, StateInvariant, one_if_prepared, prepared_count, made_count}
-use Rattle.mt_state.specs.Moves.{IsMove, IsTold}
-use Rattle.mt_state.proofs.Rely as rely
-use Rattle.mt_state.proofs.ScanKept.{scanned_for_stays, fresh_scan}
-use Rattle.mt_state.proofs.Moved.{first_is}
-use Rattle.mt_state.proofs.Shown.{shown_table}
-use Rattle.mt_state.proofs.Answered.{made_set}
+use Rattle.mt_state.specs.{Views.{Core, shown, past_of}, KeptOperations.{HasScannedFor, KeepsScan, IsScanKept, IsKeptOf}}
+use Rattle.mt_state.specs.{Invariant.{AreHolders, AreScansKept, StateInvariant, one_if_prepared, prepared_count, made_count}, Moves.{IsMove, IsTold}}
+use Rattle.mt_state.proofs.{ScanKept.{scanned_for_stays, fresh_scan}, Moved.first_is, Shown.shown_table, Answered.made_set}
 use Rattle.mt_state.proofs.Writing.{quotas_stay, written_stays}
 use Rattle.mt_arena.specs.Arena.{IsArena}
+use Rattle.mt_state.proofs.Rely as rely
 
 -- an operation with a place in the table counts once
 counted_set : (table : Table) (o : ℕ) (before after : Operation) → operation_at table o ≡ Some before

@@ -1,55 +1,33 @@
 -- What the calls of a put's phases ask, by the invariant: for `State::lock`, `judge`, `store`, `publish` and `unlock`, and
 -- for those that make a layer.
 use Rattle.std.proofs.Common.{◌≡◌, ◌≢◌, ℕ, ◌+◌, ◌<◌, Bool, true, false, List, [], Option, Some, None, IsSome, is_some, refl, sym, ap, subst, ◌∙◌, arith, inl, inr, nat_cmp, length}
-use Rattle.std.proofs.lemmas.Option.{same_Some, none-some}
+use Rattle.std.proofs.{lemmas.Option.{same_Some, none-some}, lemmas.Bool.cases_eq}
+use Rattle.std.specs.{FinMap.{get, len, empty_of_len, get-empty}, Cmp.Lexicographic.slice_cmp}
 use Rattle.mt_version.specs.Changes.{CanUnlock}
-use Rattle.mt_rows.specs.Maps.{Map}
-use Rattle.mt_tape.specs.Tapes.{last_write}
-use Rattle.mt_arena.specs.Accesses.{at, tree_of}
-use Rattle.mt_operation.specs.declared.phase.Phase.{Phase}
-use Rattle.mt_operation.specs.declared.phase.Phase.TheVariants.{Lock, Judge, Store, Publish, Unlock, Done, DropKey}
-use Rattle.mt_operation.specs.declared.outcome.Outcome.{Outcome}
-use Rattle.mt_operation.specs.declared.prepared.Prepared.{Prepared}
-use Rattle.mt_operation.specs.declared.splits.Halves.{Halves}
-use Rattle.mt_operation.specs.declared.operation.Operation.{Operation}
-use Rattle.mt_operation.specs.Tasks.{ask, command_of}
-use Rattle.mt_operation.specs.Operations.{view_of, splits_of, scan_of}
-use Rattle.mt_operation.specs.Phases.{is_done, IsLayerPhase, is_prepared, IsLayerKind, Kind, row, IsRemovalPhase}
-use Rattle.mt_operation.specs.Tables.{op_at as operation_at}
-use Rattle.mt_descent.specs.KeptWalks.{IsAtBorder, KeptAt, HoldsNothing}
-use Rattle.mt_insert.specs.Puts.{IsPut, is_put}
-use Rattle.mt_held.specs.Holds.{HoldsBorder, IsAtUnlock}
-use Rattle.mt_insert.specs.KeptPuts.{IsAtStore, IsAtPublish}
-use Rattle.mt_layer.specs.KeptLayers.{IsAtLeave, KeptLayer}
-use Rattle.mt_state.specs.Views.{Core, shown, past_of}
-use Rattle.mt_state.specs.Promises.{IsInTheWay, IsHeldByOther, HasStep}
-use Rattle.mt_state.specs.KeptOperations.{IsOpenOperation, IsOnItsWay, IsJudging, IsStoring, IsPublishing, MayUnlock, IsUnlocking, IsLayering, IsLeaving, IsReturning, IsKeptAt, IsKeptFor, IsWritingAt, MayUnlockUnsplit, IsDropping}
-use Rattle.mt_state.specs.Invariant.{HoldsAt, StateInvariant}
-use Rattle.mt_state.proofs.Shown.{shown_there}
-use Rattle.mt_state.proofs.Locking.{may_unlock, room_for}
-use Rattle.mt_operation.specs.Phases as kinds
-use Rattle.mt_remove.specs.Writes.{is_remove, IsRemoval}
-use Rattle.std.specs.FinMap.{get, len, empty_of_len, get-empty}
-use Rattle.std.specs.Cmp.Lexicographic.{slice_cmp}
-use Rattle.std.proofs.lemmas.Bool.{cases_eq}
-use Rattle.mt_rows.specs.Rows.{Bytes, Columns}
-use Rattle.mt_rows.specs.declared.command.Command.TheVariants.{Remove}
-use Rattle.mt_rows.specs.declared.tenants.Account.{Account}
-use Rattle.mt_rows.specs.Commands.{key_of}
-use Rattle.mt_rows.specs.Accounts.{account_of, HasPairs}
-use Rattle.mt_rows.specs.Tenants.{tenant_map}
+use Rattle.mt_rows.specs.{Maps.Map, Rows.{Bytes, Columns}, declared.command.Command.TheVariants.Remove, declared.tenants.Account.Account, Commands.key_of}
+use Rattle.mt_rows.specs.{Accounts.{account_of, HasPairs}, Tenants.tenant_map}
 use Rattle.mt_rows.proofs.ContentLaws.{get-tenant_map}
-use Rattle.mt_arena.specs.Arena.{IsArena, content_of}
-use Rattle.mt_arena.specs.Forests.{layer_of}
+use Rattle.mt_tape.specs.Tapes.{last_write}
+use Rattle.mt_arena.specs.{Accesses.{at, tree_of}, Arena.{IsArena, content_of}, Forests.layer_of}
+use Rattle.mt_operation.specs.{declared.phase.Phase.Phase, declared.phase.Phase.TheVariants.{Lock, Judge, Store, Publish, Unlock, Done, DropKey}}
+use Rattle.mt_operation.specs.{declared.outcome.Outcome.Outcome, declared.prepared.Prepared.Prepared, declared.splits.Halves.Halves}
+use Rattle.mt_operation.specs.{declared.operation.Operation.Operation, Tasks.{ask, command_of}, Operations.{view_of, splits_of, scan_of}}
+use Rattle.mt_operation.specs.{Phases.{is_done, IsLayerPhase, is_prepared, IsLayerKind, Kind, row, IsRemovalPhase}, Tables.{op_at as operation_at}}
 use Rattle.mt_operation.specs.declared.task.Request.{Request}
 use Rattle.mt_operation.specs.declared.task.Request.TheVariants.{Get as GetOf, Put as PutOf, Remove as RemoveOf, Scan as ScanOf}
 use Rattle.mt_operation.specs.declared.removal.Removal.{Removal}
-use Rattle.mt_held.proofs.Places.{may_store}
+use Rattle.mt_descent.specs.KeptWalks.{IsAtBorder, KeptAt, HoldsNothing}
+use Rattle.mt_insert.specs.{Puts.{IsPut, is_put}, KeptPuts.{IsAtStore, IsAtPublish}}
+use Rattle.mt_held.{specs.Holds.{HoldsBorder, IsAtUnlock}, proofs.Places.may_store}
+use Rattle.mt_layer.specs.KeptLayers.{IsAtLeave, KeptLayer}
+use Rattle.mt_state.specs.{Views.{Core, shown, past_of}, Promises.{IsInTheWay, IsHeldByOther, HasStep}}
+use Rattle.mt_state.specs.KeptOperations.{IsOpenOperation, IsOnItsWay, IsJudging, IsStoring, IsPublishing, MayUnlock, IsUnlocking, IsLayering, IsLeaving, IsReturning, IsKeptAt, IsKeptFor, IsWritingAt, MayUnlockUnsplit, IsDropping}
+use Rattle.mt_state.specs.Invariant.{HoldsAt, StateInvariant}
+use Rattle.mt_state.proofs.{Shown.shown_there, Locking.{may_unlock, room_for}, Loading.row_of, RemovalSteps.{unlinking_of, removal_holds}}
+use Rattle.mt_state.proofs.{RemovalLooks.going_back, Lawful.{put_no_scan, remove_no_scan}}
+use Rattle.mt_remove.specs.Writes.{is_remove, IsRemoval}
 use Rattle.mt_remove.specs.KeptRemovals.{IsAtDropKey, IsUnburdened, KeptRemoval, HoldsRemoval, IsAtUnlockRemoval, IsCleaning, IsAmong as IsOfRemoval}
-use Rattle.mt_state.proofs.Loading.{row_of}
-use Rattle.mt_state.proofs.RemovalSteps.{unlinking_of, removal_holds}
-use Rattle.mt_state.proofs.RemovalLooks.{going_back}
-use Rattle.mt_state.proofs.Lawful.{put_no_scan, remove_no_scan}
+use Rattle.mt_operation.specs.Phases as kinds
 
 -- a phase in which an operation has all ready for a put
 abbrev IsOfPutKind : Kind → Type 0

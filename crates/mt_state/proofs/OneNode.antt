@@ -1,48 +1,23 @@
 -- A node that is replaced in an arena, and a step of the operation that holds it which changes no pair: for the phases of a put.
 use Rattle.std.proofs.Common.{◌≡◌, ◌≢◌, ℕ, ◌+◌, ◌<◌, ◌≤◌, ◌⊎◌, inl, inr, Bool, true, false, cond, List, length, set, Option, Some, None, refl, sym, ap, subst, ◌∙◌, arith, []}
+use Rattle.std.proofs.{lemmas.Bool.cases_eq, lemmas.Option.same_Some, lemmas.List.length-set}
 use Rattle.std.specs.Prelude.{◌^◌}
-use Rattle.std.proofs.lemmas.Bool.{cases_eq}
-use Rattle.std.proofs.lemmas.Option.{same_Some}
-use Rattle.std.proofs.lemmas.List.{length-set}
-use Rattle.mt_version.specs.Parts.{Parts}
-use Rattle.mt_version.specs.Changes.{CanUnlock, unlocked_parts}
-use Rattle.mt_rows.specs.Tenants.{Contents, tenant_map}
-use Rattle.mt_rows.specs.Accounts.{Accounts}
-use Rattle.mt_tape.specs.Tapes.{Kept}
-use Rattle.mt_tape.specs.Histories.{contents_at}
-use Rattle.mt_arena.specs.declared.tree.Tree.{Tree}
-use Rattle.mt_arena.specs.declared.tree.Standing.{Standing}
-use Rattle.mt_arena.specs.declared.tree.Standing.TheVariants.{Made, Live, Dead}
-use Rattle.mt_arena.specs.NodeView.{NodeView, node_at}
-use Rattle.mt_arena.specs.Forests.{tree_at}
-use Rattle.mt_arena.specs.Contents.{counts, is_live}
-use Rattle.mt_arena.specs.Arena.{ArenaView, content_of, Guarantee}
+use Rattle.mt_version.specs.{Parts.Parts, Changes.{CanUnlock, unlocked_parts}}
+use Rattle.mt_rows.specs.{Tenants.{Contents, tenant_map}, Accounts.Accounts}
+use Rattle.mt_tape.specs.{Tapes.Kept, Histories.contents_at}
+use Rattle.mt_arena.specs.{declared.tree.Tree.Tree, declared.tree.Standing.Standing, declared.tree.Standing.TheVariants.{Made, Live, Dead}}
+use Rattle.mt_arena.specs.{NodeView.{NodeView, node_at}, Forests.tree_at, Contents.{counts, is_live}, Arena.{ArenaView, content_of, Guarantee}}
 use Rattle.mt_arena.specs.Accesses.{at, with_node}
 use Rattle.mt_arena.proofs.Pairs.{here, there}
-use Rattle.mt_operation.specs.declared.phase.Phase.{Phase}
-use Rattle.mt_operation.specs.declared.walk.Walk.{Walk}
-use Rattle.mt_operation.specs.declared.outcome.Outcome.{Outcome}
-use Rattle.mt_operation.specs.declared.prepared.Prepared.{Prepared}
-use Rattle.mt_operation.specs.declared.splits.Splits.{Splits}
-use Rattle.mt_operation.specs.declared.operation.Operation.{Operation}
-use Rattle.mt_operation.specs.Operations.{view_of, IsUnsplit, no_removal}
-use Rattle.mt_operation.specs.Phases.{is_done, MayFollow, IsOfKind, has_splits}
-use Rattle.mt_operation.specs.Tables.{op_at as operation_at}
-use Rattle.mt_state.specs.Views.{StateView, Core, shown, KeepsPast}
-use Rattle.mt_state.specs.Steps.{change_in}
-use Rattle.mt_state.specs.Notes.{Notes}
-use Rattle.mt_state.specs.Promises.{Touches}
+use Rattle.mt_operation.specs.{declared.phase.Phase.Phase, declared.walk.Walk.Walk, declared.outcome.Outcome.Outcome, declared.prepared.Prepared.Prepared}
+use Rattle.mt_operation.specs.{declared.splits.Splits.Splits, declared.operation.Operation.Operation, Operations.{view_of, IsUnsplit, no_removal}}
+use Rattle.mt_operation.specs.{Phases.{is_done, MayFollow, IsOfKind, has_splits}, Tables.{op_at as operation_at}, declared.removal.Removal.Removal, Tasks.ask}
+use Rattle.mt_state.specs.{Views.{StateView, Core, shown, KeepsPast}, Steps.change_in, Notes.Notes, Promises.Touches}
 use Rattle.mt_state.specs.KeptOperations.{IsUnlocking, IsReturning, IsKeptAt, IsKeptOf}
 use Rattle.mt_state.specs.Invariant.{IsCountedUpTo, HoldsAt, StateInvariant, one_if_prepared, DeletedAreEmpty}
-use Rattle.mt_state.proofs.Quiet.{HasPairsOf, quiet, LeavesPairs, quiet_move, is_quiet, same_slots}
-use Rattle.mt_state.proofs.Telling.{Gives, gives}
-use Rattle.mt_state.proofs.Moved.{went, went_with, went_on, open_moved_on, has_moved_on}
-use Rattle.mt_state.proofs.Still.{floor_made}
-use Rattle.mt_state.proofs.Growing.{makes_set}
-use Rattle.mt_operation.specs.declared.removal.Removal.{Removal}
-use Rattle.mt_remove.specs.KeptRemovals.{IsAmong as IsOfRemoval}
-use Rattle.mt_operation.specs.Tasks.{ask}
-use Rattle.mt_remove.specs.Writes.{is_remove}
+use Rattle.mt_state.proofs.{Quiet.{HasPairsOf, quiet, LeavesPairs, quiet_move, is_quiet, same_slots}, Telling.{Gives, gives}}
+use Rattle.mt_state.proofs.{Moved.{went, went_with, went_on, open_moved_on, has_moved_on}, Still.floor_made, Growing.makes_set}
+use Rattle.mt_remove.specs.{KeptRemovals.{IsAmong as IsOfRemoval}, Writes.is_remove}
 
 -- what is left of a state by a step of operation o: another arena, tape, accounts, and the operation after it
 abbrev pub stepped : Core → ArenaView → Kept → Accounts → ℕ → Operation → Core

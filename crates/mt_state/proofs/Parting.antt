@@ -1,70 +1,33 @@
 -- The step of a split that parts the keys of a full node and its right half, with the new pair or, at a full quota, without it.
 use Rattle.std.proofs.Common.{◌≡◌, ◌≢◌, ℕ, ◌+◌, ◌-◌, ◌<◌, ◌≤◌, inl, inr, true, false, List, [], ◌++◌, length, set, Option, Some, None, refl, sym, ap, subst, ◌∙◌, arith}
-use Rattle.std.specs.Prelude.{◌^◌}
-use Rattle.std.specs.FinMap.{get, len, insert}
-use Rattle.std.proofs.lemmas.Bool.{cases_eq, both_ways}
-use Rattle.std.proofs.lemmas.Option.{same_Some}
-use Rattle.std.proofs.lemmas.List.{length-set}
+use Rattle.std.proofs.{lemmas.Bool.{cases_eq, both_ways}, lemmas.Option.same_Some, lemmas.List.length-set}
+use Rattle.std.specs.{Prelude.{◌^◌}, FinMap.{get, len, insert}}
 use Rattle.mt_slices.specs.Slices.{suffix_of}
-use Rattle.mt_rows.specs.declared.reply.Reply.TheVariants.{New, Full}
-use Rattle.mt_rows.specs.Rows.{Bytes, Columns}
-use Rattle.mt_rows.specs.Commands.{key_of}
-use Rattle.mt_rows.specs.Maps.{reply_of}
-use Rattle.mt_rows.specs.Accounts.{Accounts, account_of, HasRoom}
-use Rattle.mt_rows.specs.Tenants.{Contents, tenant_map}
+use Rattle.mt_rows.specs.{declared.reply.Reply.TheVariants.{New, Full}, Rows.{Bytes, Columns}, Commands.key_of, Maps.reply_of}
+use Rattle.mt_rows.specs.{Accounts.{Accounts, account_of, HasRoom}, Tenants.{Contents, tenant_map}}
 use Rattle.mt_rows.proofs.ContentLaws.{get-tenant_map}
-use Rattle.mt_border.specs.declared.entry.Entry.{Entry}
-use Rattle.mt_border.specs.Entries.{with_entry}
-use Rattle.mt_border.specs.Contents.{owned, AreKeys, IsStamped, AllStamped}
-use Rattle.mt_border.proofs.Parts.{All-left, All-right}
-use Rattle.mt_border.proofs.ContentsStamps.{stamped_weaker, stamped_publish}
-use Rattle.mt_tape.specs.Tapes.{Kept}
-use Rattle.mt_tape.specs.Histories.{contents_at, IsLegalTape}
-use Rattle.mt_arena.specs.declared.tree.Tree.{Tree}
-use Rattle.mt_arena.specs.NodeView.{NodeView, node_at}
-use Rattle.mt_arena.specs.Forests.{tree_at, layer_of}
-use Rattle.mt_arena.specs.Contents.{counts}
-use Rattle.mt_arena.specs.Splits.{left_half, right_half}
-use Rattle.mt_arena.specs.Several.{IsHalf, AreHalved}
-use Rattle.mt_arena.specs.Arena.{ArenaView, IsArena, content_of}
-use Rattle.mt_arena.specs.Accesses.{at, tree_of}
-use Rattle.mt_arena.proofs.Pairs.{here, there}
-use Rattle.mt_arena.proofs.Steps.{keys_of}
-use Rattle.mt_operation.specs.declared.phase.Phase.{Phase}
-use Rattle.mt_operation.specs.declared.phase.Phase.TheVariants.{SplitMove}
-use Rattle.mt_operation.specs.declared.walk.Walk.{Walk}
-use Rattle.mt_operation.specs.declared.outcome.Outcome.{Outcome}
-use Rattle.mt_operation.specs.declared.operation.Operation.{Operation}
-use Rattle.mt_operation.specs.Tasks.{ask}
+use Rattle.mt_border.specs.{declared.entry.Entry.Entry, Entries.with_entry, Contents.{owned, AreKeys, IsStamped, AllStamped}}
+use Rattle.mt_border.proofs.{Parts.{All-left, All-right}, ContentsStamps.{stamped_weaker, stamped_publish}}
+use Rattle.mt_tape.specs.{Tapes.Kept, Histories.{contents_at, IsLegalTape}}
+use Rattle.mt_arena.specs.{declared.tree.Tree.Tree, NodeView.{NodeView, node_at}, Forests.{tree_at, layer_of}, Contents.counts, Splits.{left_half, right_half}}
+use Rattle.mt_arena.specs.{Several.{IsHalf, AreHalved}, Arena.{ArenaView, IsArena, content_of}, Accesses.{at, tree_of}}
+use Rattle.mt_arena.proofs.{Pairs.{here, there}, Steps.keys_of}
+use Rattle.mt_operation.specs.{declared.phase.Phase.Phase, declared.phase.Phase.TheVariants.SplitMove, declared.walk.Walk.Walk}
+use Rattle.mt_operation.specs.{declared.outcome.Outcome.Outcome, declared.operation.Operation.Operation, Tasks.ask, Operations.view_of}
+use Rattle.mt_operation.specs.{Phases.{is_done, MayFollow, IsOfKind}, Tables.{op_at as operation_at}}
 use Rattle.mt_remove.specs.Writes.{is_remove}
-use Rattle.mt_operation.specs.Operations.{view_of}
-use Rattle.mt_operation.specs.Phases.{is_done, MayFollow, IsOfKind}
-use Rattle.mt_operation.specs.Tables.{op_at as operation_at}
-use Rattle.mt_insert.specs.Puts.{IsPut, row_over}
-use Rattle.mt_insert.specs.Placing.{entry_of}
-use Rattle.mt_held.specs.Taping.{pushed, released}
-use Rattle.mt_insert.specs.KeptSplits.{last_of, HoldsSplits}
+use Rattle.mt_insert.specs.{Puts.{IsPut, row_over}, Placing.entry_of, KeptSplits.{last_of, HoldsSplits}}
 use Rattle.mt_insert.specs.SplitMove.{after_parting, PartsKeys, IsSplitMove, IsSplitMoveFull}
 use Rattle.mt_insert.proofs.PartingKeys.{may_place}
-use Rattle.mt_state.specs.Views.{Core, shown, map_of, quota_of}
-use Rattle.mt_state.specs.Steps.{told_change}
-use Rattle.mt_state.specs.Notes.{IsJudged, Notes}
-use Rattle.mt_state.specs.Promises.{Touches}
+use Rattle.mt_held.specs.Taping.{pushed, released}
+use Rattle.mt_state.specs.{Views.{Core, shown, map_of, quota_of}, Steps.told_change, Notes.{IsJudged, Notes}, Promises.Touches}
 use Rattle.mt_state.specs.KeptOperations.{IsOpenOperation, IsSplitMoving, HasAnswer, IsKeptAt, IsPlacedOnce, IsKeptOf}
-use Rattle.mt_state.specs.Invariant.{IsStampOf, IsCountedUpTo, StateInvariant, DeletedAreEmpty}
-use Rattle.mt_state.specs.Moves.{IsMove}
-use Rattle.mt_state.specs.Writes.{splitting}
-use Rattle.mt_state.specs.Growth.{MakesFew}
-use Rattle.mt_state.proofs.Replies.{put_full, put_new}
-use Rattle.mt_state.proofs.Growing.{makes_same}
-use Rattle.mt_state.proofs.Telling.{Gives, gives, logs_later, map_now}
-use Rattle.mt_state.proofs.Moved.{went_with, first_begun, first_upto, open_moved_with, has_moved}
-use Rattle.mt_state.proofs.Still.{floor_made, unready_none}
-use Rattle.mt_state.proofs.OneNode.{same_counts, quiet_grows, holds_here}
-use Rattle.mt_state.proofs.Locking.{ready_one, room_for, no_room_left}
+use Rattle.mt_state.specs.{Invariant.{IsStampOf, IsCountedUpTo, StateInvariant, DeletedAreEmpty}, Moves.IsMove, Writes.splitting, Growth.MakesFew}
+use Rattle.mt_state.proofs.{Replies.{put_full, put_new}, Growing.makes_same, Telling.{Gives, gives, logs_later, map_now}}
+use Rattle.mt_state.proofs.{Moved.{went_with, first_begun, first_upto, open_moved_with, has_moved}, Still.{floor_made, unready_none}}
+use Rattle.mt_state.proofs.{OneNode.{same_counts, quiet_grows, holds_here}, Locking.{ready_one, room_for, no_room_left}}
 use Rattle.mt_state.proofs.Placing.{Counts, next_write, placed, PlacesPair, untouched_beside, untouched_now, placed_move, placed_right, is_placing, placed_once}
-use Rattle.mt_state.proofs.Putting.{stamped_apart, room_left, beside_missing, counted_new}
-use Rattle.mt_state.proofs.Bound.{put_no_remove}
+use Rattle.mt_state.proofs.{Putting.{stamped_apart, room_left, beside_missing, counted_new}, Bound.put_no_remove}
 use Rattle.mt_state.proofs.SplitSteps.{HasHalves, halves_kind, halves_open, halves_unready, halves_split, halves_held, halves_kept}
 use Rattle.mt_state.proofs.Lawful.{scan_free, put_no_scan}
 use Rattle.mt_walks.specs.Walked.{IsWithin}

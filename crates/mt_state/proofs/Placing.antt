@@ -1,44 +1,25 @@
 -- A step that places a change: what it leaves to others, and that the invariant stays: for Store, Publish, SplitMove and DropKey.
 use Rattle.std.proofs.Common.{◌≡◌, ◌≢◌, ℕ, ◌+◌, ◌-◌, ◌<◌, ◌≤◌, Bool, true, false, cond, eqb, [], ◌∷◌, ◌++◌, length, set, Some, IsSome, refl, sym, ap, subst, ◌∙◌, arith, inl}
+use Rattle.std.proofs.{lemmas.Bool.{both_ways, eq-eqb, eqb-true}, lemmas.List.length-drop, lemmas.List.Elements.{All-push, Contains-push, Contains-append_left}}
 use Rattle.std.specs.FinMap.{get, len, insert}
-use Rattle.std.proofs.lemmas.Bool.{both_ways, eq-eqb, eqb-true}
-use Rattle.std.proofs.lemmas.List.{length-drop}
-use Rattle.std.proofs.lemmas.List.Elements.{All-push, Contains-push, Contains-append_left}
-use Rattle.mt_rows.specs.declared.reply.Reply.{Reply}
-use Rattle.mt_rows.specs.declared.tenants.Account.{Account}
-use Rattle.mt_rows.specs.Rows.{Bytes, Columns}
-use Rattle.mt_rows.specs.Commands.{key_of, IsKey}
-use Rattle.mt_rows.specs.Maps.{reply_of, map_after, is_change, is_scan}
-use Rattle.mt_rows.specs.Accounts.{Accounts, account_of}
-use Rattle.mt_rows.specs.Tenants.{Contents, tenant_map}
+use Rattle.mt_rows.specs.{declared.reply.Reply.Reply, declared.tenants.Account.Account, Rows.{Bytes, Columns}, Commands.{key_of, IsKey}}
+use Rattle.mt_rows.specs.{Maps.{reply_of, map_after, is_change, is_scan}, Accounts.{Accounts, account_of}, Tenants.{Contents, tenant_map}}
 use Rattle.mt_border.specs.Contents.{owned}
 use Rattle.mt_tape.specs.declared.entry.Entry.{Entry as Write}
 use Rattle.mt_tape.specs.Histories.{IsNextWrite, with_write, written_key, contents_at, IsLegalTape, with_row, is_changed}
 use Rattle.mt_tape.proofs.EntryLaws.{rises-push, last_step_over-push, is_changed-push, is_changed-push_other}
 use Rattle.mt_tape.proofs.TapeLaws.{contents_at-push, legal-push, untouched-push, untouched-past_last, get-with_row_same, tenant_map-with_row, tenant_map-with_row_other}
-use Rattle.mt_arena.specs.Arena.{ArenaView, content_of, Guarantee}
-use Rattle.mt_arena.specs.Accesses.{at}
-use Rattle.mt_operation.specs.declared.task.Task.{Task}
-use Rattle.mt_operation.specs.declared.operation.Operation.{Operation}
-use Rattle.mt_operation.specs.Tasks.{ask}
-use Rattle.mt_operation.specs.Operations.{view_of}
-use Rattle.mt_operation.specs.Phases.{is_done}
+use Rattle.mt_arena.specs.{Arena.{ArenaView, content_of, Guarantee}, Accesses.at}
+use Rattle.mt_operation.specs.{declared.task.Task.Task, declared.operation.Operation.Operation, Tasks.ask, Operations.view_of, Phases.is_done}
 use Rattle.mt_operation.specs.Tables.{op_at as operation_at}
 use Rattle.mt_insert.specs.Puts.{IsPut, row_over, write_of}
 use Rattle.mt_held.specs.Taping.{pushed}
-use Rattle.mt_state.specs.Views.{Core, shown, map_of, quota_of, granted_in, KeepsPast}
-use Rattle.mt_state.specs.Notes.{key_asked}
-use Rattle.mt_state.specs.Promises.{IsPlacing, IsAnswer}
+use Rattle.mt_state.specs.{Views.{Core, shown, map_of, quota_of, granted_in, KeepsPast}, Notes.key_asked, Promises.{IsPlacing, IsAnswer}}
 use Rattle.mt_state.specs.KeptOperations.{IsKeptOf, IsPlacedOnce}
 use Rattle.mt_state.specs.Invariant.{IsStampOf, IsTape, AreStamps, IsCountedUpTo, HoldsAt, DeletedAreEmpty, StateInvariant, StateGuarantee, one_if_prepared}
-use Rattle.mt_state.specs.Moves.{IsMove}
+use Rattle.mt_state.specs.{Moves.IsMove, Written.row_left}
+use Rattle.mt_state.proofs.{Lawful.{scan_free, change_no_scan}, Telling.{logs_later, map_now}, Granted.quota_same, Writing.row_left_put, Bound.put_no_remove}
 use Rattle.mt_walks.specs.Walked.{IsWithin}
-use Rattle.mt_state.proofs.Lawful.{scan_free, change_no_scan}
-use Rattle.mt_state.proofs.Telling.{logs_later, map_now}
-use Rattle.mt_state.proofs.Granted.{quota_same}
-use Rattle.mt_state.specs.Written.{row_left}
-use Rattle.mt_state.proofs.Writing.{row_left_put}
-use Rattle.mt_state.proofs.Bound.{put_no_remove}
 use Rattle.mt_remove.specs.Writes.{is_remove}
 
 -- the accounts after the step: tenants and quotas stay, and each count is that of the pairs

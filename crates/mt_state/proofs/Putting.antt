@@ -1,82 +1,37 @@
 -- The steps that place a put: it stores a row over the one of its key, or makes a new pair live.
 use Rattle.std.proofs.Common.{◌≡◌, ◌≢◌, ℕ, ◌+◌, ◌<◌, inl, inr, true, false, cond, List, length, get_or, set, get_or-set_same, get_or-set_other, Option, Some, None, is_some, refl, sym, ap, subst, ◌∙◌, arith, Bool}
-use Rattle.std.specs.Prelude.{◌^◌}
-use Rattle.std.specs.Option.{option_map}
-use Rattle.std.specs.List.{All}
-use Rattle.std.specs.FinMap.{get, len, insert}
-use Rattle.std.proofs.lemmas.Bool.{cases_eq, both_ways}
-use Rattle.std.proofs.lemmas.Option.{none-some, same_Some}
-use Rattle.std.proofs.lemmas.List.{length-set}
-use Rattle.std.proofs.lemmas.List.Elements.{All-from_get_or}
+use Rattle.std.proofs.{lemmas.Bool.{cases_eq, both_ways}, lemmas.Option.{none-some, same_Some}, lemmas.List.length-set, lemmas.List.Elements.All-from_get_or}
+use Rattle.std.specs.{Prelude.{◌^◌}, Option.option_map, List.All, FinMap.{get, len, insert}}
 use Rattle.mt_slices.specs.Slices.{suffix_of}
-use Rattle.mt_rows.specs.declared.reply.Reply.{Reply}
-use Rattle.mt_rows.specs.declared.reply.Reply.TheVariants.{New, Replaced}
-use Rattle.mt_rows.specs.declared.tenants.Account.{Account}
-use Rattle.mt_rows.specs.Rows.{Bytes, Columns}
-use Rattle.mt_rows.specs.Commands.{key_of}
-use Rattle.mt_rows.specs.Maps.{is_change, reply_of, map_after}
-use Rattle.mt_rows.specs.Accounts.{Accounts, account_of, HasRoom, one_more, OthersStay}
+use Rattle.mt_rows.specs.{declared.reply.Reply.Reply, declared.reply.Reply.TheVariants.{New, Replaced}, declared.tenants.Account.Account, Rows.{Bytes, Columns}}
+use Rattle.mt_rows.specs.{Commands.key_of, Maps.{is_change, reply_of, map_after}, Accounts.{Accounts, account_of, HasRoom, one_more, OthersStay}}
 use Rattle.mt_rows.specs.Tenants.{Contents, tenant_map}
 use Rattle.mt_rows.proofs.ContentLaws.{get-tenant_map}
-use Rattle.mt_border.specs.declared.entry.Pair.{Pair}
-use Rattle.mt_border.specs.declared.entry.Entry.{Entry}
-use Rattle.mt_border.specs.declared.entry.Held.TheVariants.{Stable}
-use Rattle.mt_border.specs.Entry.{pair_of}
-use Rattle.mt_border.specs.Entries.{IsBorder, replaced, with_entry}
-use Rattle.mt_border.specs.Node.{Node as BorderNode, Rewrites}
-use Rattle.mt_border.specs.Contents.{owned, AreKeys, AllStamped}
-use Rattle.mt_border.proofs.Edits.{any_entry, replaced_at as set_at}
-use Rattle.mt_border.proofs.ContentsKeys.{IsApart, owned_at}
-use Rattle.mt_border.proofs.ContentsMaps.{len_new, len_there, len_other}
+use Rattle.mt_border.specs.{declared.entry.Pair.Pair, declared.entry.Entry.Entry, declared.entry.Held.TheVariants.Stable, Entry.pair_of}
+use Rattle.mt_border.specs.{Entries.{IsBorder, replaced, with_entry}, Node.{Node as BorderNode, Rewrites}, Contents.{owned, AreKeys, AllStamped}}
+use Rattle.mt_border.proofs.{Edits.{any_entry, replaced_at as set_at}, ContentsKeys.{IsApart, owned_at}, ContentsMaps.{len_new, len_there, len_other}}
 use Rattle.mt_border.proofs.ContentsStamps.{stamped_store, stamped_publish}
 use Rattle.mt_tape.specs.Tapes.{Kept}
-use Rattle.mt_arena.specs.NodeView.{NodeView}
-use Rattle.mt_arena.specs.Forests.{tree_at, layer_of}
-use Rattle.mt_arena.specs.Layers.{slot_at}
-use Rattle.mt_arena.specs.Ways.{StandsFor}
-use Rattle.mt_arena.specs.Contents.{counts}
-use Rattle.mt_arena.specs.Edits.{with_slots}
-use Rattle.mt_arena.specs.Arena.{ArenaView, IsArena, content_of, Guarantee}
-use Rattle.mt_arena.specs.Accesses.{at, tree_of, with_node, with_row}
-use Rattle.mt_arena.proofs.Homes as homes
-use Rattle.mt_arena.proofs.Elsewhere.{stands_once}
-use Rattle.mt_arena.proofs.Steps.{keys_of}
-use Rattle.mt_operation.specs.declared.walk.Aim.TheVariants as aims
-use Rattle.mt_operation.specs.declared.phase.Phase.{Phase}
-use Rattle.mt_operation.specs.declared.phase.Phase.TheVariants.{Enter, Store, Publish, Unlock}
-use Rattle.mt_operation.specs.declared.walk.Walk.{Walk}
-use Rattle.mt_operation.specs.declared.splits.Halves.{Halves}
-use Rattle.mt_operation.specs.declared.operation.Operation.{Operation}
-use Rattle.mt_operation.specs.Tasks.{ask}
-use Rattle.mt_operation.specs.Operations.{view_of}
-use Rattle.mt_operation.specs.Phases.{is_done, MayFollow, IsOfKind, has_splits, is_prepared}
-use Rattle.mt_operation.specs.Tables.{op_at as operation_at}
+use Rattle.mt_arena.specs.{NodeView.NodeView, Forests.{tree_at, layer_of}, Layers.slot_at, Ways.StandsFor, Contents.counts, Edits.with_slots}
+use Rattle.mt_arena.specs.{Arena.{ArenaView, IsArena, content_of, Guarantee}, Accesses.{at, tree_of, with_node, with_row}}
+use Rattle.mt_arena.proofs.{Elsewhere.stands_once, Steps.keys_of}
+use Rattle.mt_operation.specs.{declared.phase.Phase.Phase, declared.phase.Phase.TheVariants.{Enter, Store, Publish, Unlock}, declared.walk.Walk.Walk}
+use Rattle.mt_operation.specs.{declared.splits.Halves.Halves, declared.operation.Operation.Operation, Tasks.ask, Operations.view_of}
+use Rattle.mt_operation.specs.{Phases.{is_done, MayFollow, IsOfKind, has_splits, is_prepared}, Tables.{op_at as operation_at}}
 use Rattle.mt_descent.specs.WalkMoves.{Continues}
-use Rattle.mt_insert.specs.Puts.{IsPut, row_over}
-use Rattle.mt_held.specs.Holds.{HoldsBorder, IsAtUnlock}
-use Rattle.mt_held.specs.Moves.{walk_placed}
-use Rattle.mt_insert.specs.Placing.{entry_of}
-use Rattle.mt_held.specs.Taping.{pushed}
-use Rattle.mt_held.proofs.Places.{may_store}
-use Rattle.mt_insert.proofs.Places.{may_publish}
-use Rattle.mt_state.specs.Views.{StateView, Core, shown, quota_of, quota_in, granted_in}
-use Rattle.mt_state.specs.Notes.{Notes}
+use Rattle.mt_insert.{specs.{Puts.{IsPut, row_over}, Placing.entry_of, Store.IsStore, Publish.IsPublish}, proofs.Places.may_publish}
+use Rattle.mt_held.{specs.{Holds.{HoldsBorder, IsAtUnlock}, Moves.walk_placed, Taping.pushed}, proofs.Places.may_store}
+use Rattle.mt_state.specs.{Views.{StateView, Core, shown, quota_of, quota_in, granted_in}, Notes.Notes}
 use Rattle.mt_state.specs.KeptOperations.{IsOpenOperation, IsStoring, IsPublishing, MayUnlock, IsUnlocking, IsKeptAt, IsPlacedOnce, IsKeptOf, MayUnlockUnsplit}
 use Rattle.mt_state.specs.Invariant.{IsStampOf, HoldsLast, HoldsAt, StateInvariant}
-use Rattle.mt_state.proofs.Replies.{put_there, put_new}
-use Rattle.mt_state.proofs.Telling.{Gives, gives}
+use Rattle.mt_state.proofs.{Replies.{put_there, put_new}, Telling.{Gives, gives}}
 use Rattle.mt_state.proofs.Placing.{Counts, next_write, placed, PlacesPair, untouched_beside, untouched_now, placed_move, placed_right, is_placing, placed_once}
-use Rattle.mt_state.proofs.Moved.{went, first_begun, first_upto, open_moved, has_moved}
-use Rattle.mt_state.proofs.Still.{floor_made, unready_none}
-use Rattle.mt_state.proofs.Reading.{key_of_owner, walk_same}
+use Rattle.mt_state.proofs.{Moved.{went, first_begun, first_upto, open_moved, has_moved}, Still.{floor_made, unready_none}, Reading.{key_of_owner, walk_same}}
 use Rattle.mt_state.proofs.Loading.{row_of}
 use Rattle.mt_state.proofs.OneNode.{stepped, counted_live, replaced_at, replaced_holds, replaced_versions, replaced_touches, few_steps, holds_here, replaced_deleted}
-use Rattle.mt_state.proofs.Locking.{ready_one, room_for}
-use Rattle.mt_state.proofs.Growing.{makes_set}
-use Rattle.mt_insert.specs.Store.{IsStore}
-use Rattle.mt_insert.specs.Publish.{IsPublish}
-use Rattle.mt_state.proofs.LiveTrees.{slot_lives}
-use Rattle.mt_state.proofs.Bound.{put_no_remove}
+use Rattle.mt_state.proofs.{Locking.{ready_one, room_for}, Growing.makes_set, LiveTrees.slot_lives, Bound.put_no_remove}
+use Rattle.mt_arena.proofs.Homes as homes
+use Rattle.mt_operation.specs.declared.walk.Aim.TheVariants as aims
 
 -- one pair more leaves the quota, and the account there
 quota_more : (a : Option Account) → granted_in (option_map one_more a) ≡ granted_in a

@@ -1,31 +1,16 @@
 -- A step that changes no pair: what it leaves to others, and that the invariant stays: for all phases but Store and Publish.
 use Rattle.std.proofs.Common.{◌≡◌, ℕ, ◌+◌, ◌<◌, ◌≤◌, ◌⊎◌, inl, inr, true, false, List, [], length, set, Some, refl, sym, ap, subst, arith}
-use Rattle.std.specs.FinMap.{len}
-use Rattle.mt_rows.specs.Rows.{Bytes}
-use Rattle.mt_rows.specs.Tenants.{Contents, tenant_map}
-use Rattle.mt_border.specs.Contents.{AllStamped, IsStamped}
-use Rattle.mt_border.specs.declared.entry.Entry.{Entry}
-use Rattle.mt_border.proofs.ContentsStamps.{stamped_weaker}
-use Rattle.mt_tape.specs.Histories.{contents_at, IsLegalTape}
-use Rattle.mt_arena.specs.Arena.{ArenaView, content_of, Guarantee}
-use Rattle.mt_arena.specs.Contents.{counts}
-use Rattle.mt_arena.specs.Accesses.{at, tree_of}
-use Rattle.mt_operation.specs.declared.operation.Operation.{Operation}
-use Rattle.mt_operation.specs.Operations.{view_of}
-use Rattle.mt_operation.specs.Phases.{is_done}
-use Rattle.mt_operation.specs.Tables.{op_at as operation_at}
-use Rattle.mt_state.specs.Views.{Core, shown, KeepsPast}
-use Rattle.mt_state.specs.Steps.{change_in}
-use Rattle.mt_state.specs.Promises.{IsQuiet}
-use Rattle.mt_state.specs.KeptOperations.{IsKeptOf}
-use Rattle.mt_state.specs.Invariant.{IsTape, AreStamps, IsStampOf, IsCountedUpTo, HoldsAt, DeletedAreEmpty, StateInvariant, StateGuarantee, one_if_prepared}
-use Rattle.mt_state.specs.Moves.{IsMove, IsStillAsked, BringsScan}
-use Rattle.mt_state.specs.Growth.{MakesFew}
-use Rattle.mt_state.proofs.Telling.{logs_later}
 use Rattle.std.proofs.lemmas.List.Elements.{All-from_get_or}
-use Rattle.mt_border.proofs.Edits.{any_entry}
-use Rattle.mt_arena.specs.NodeView.{NodeView}
-use Rattle.mt_arena.specs.Layers.{slot_at}
+use Rattle.std.specs.FinMap.{len}
+use Rattle.mt_rows.specs.{Rows.Bytes, Tenants.{Contents, tenant_map}}
+use Rattle.mt_border.{specs.{Contents.{AllStamped, IsStamped}, declared.entry.Entry.Entry}, proofs.{ContentsStamps.stamped_weaker, Edits.any_entry}}
+use Rattle.mt_tape.specs.Histories.{contents_at, IsLegalTape}
+use Rattle.mt_arena.specs.{Arena.{ArenaView, content_of, Guarantee}, Contents.counts, Accesses.{at, tree_of}, NodeView.NodeView, Layers.slot_at}
+use Rattle.mt_operation.specs.{declared.operation.Operation.Operation, Operations.view_of, Phases.is_done, Tables.{op_at as operation_at}}
+use Rattle.mt_state.specs.{Views.{Core, shown, KeepsPast}, Steps.change_in, Promises.IsQuiet, KeptOperations.IsKeptOf}
+use Rattle.mt_state.specs.Invariant.{IsTape, AreStamps, IsStampOf, IsCountedUpTo, HoldsAt, DeletedAreEmpty, StateInvariant, StateGuarantee, one_if_prepared}
+use Rattle.mt_state.specs.{Moves.{IsMove, IsStillAsked, BringsScan}, Growth.MakesFew}
+use Rattle.mt_state.proofs.Telling.{logs_later}
 
 -- each slot of the second node is one of the first
 abbrev pub AreSlotsOf : NodeView → NodeView → Type 0

@@ -1,60 +1,26 @@
 -- The steps of an operation that holds nothing: for `State::descend`, `search`, `load` and `confirm`.
-use Rattle.std.proofs.Common.{◌≡◌, ◌≢◌, ℕ, ◌+◌, ◌<◌, ◌≤◌, false, List, length, set, Option, Some, None, refl, sym, ap, subst, ◌∙◌, arith}
-use Rattle.std.specs.Prelude.{◌^◌}
-use Rattle.mt_slices.specs.Keys.{IsStoredKey, stored_key}
-use Rattle.mt_slices.proofs.Tenants.{stored_key-again}
-use Rattle.mt_slices.specs.Slices.{slice_of, mark_of, suffix_of}
-use Rattle.mt_rows.specs.declared.reply.Reply.TheVariants.{Absent}
-use Rattle.mt_rows.specs.Rows.{Bytes, Columns}
-use Rattle.mt_rows.specs.Commands.{key_of}
-use Rattle.mt_border.specs.declared.entry.FoundKind.{FoundKind}
-use Rattle.mt_border.specs.declared.entry.FoundKind.TheVariants.{ThisKey, OtherLong, Link as ToTree}
-use Rattle.mt_border.specs.declared.entry.Find.{Find}
-use Rattle.mt_border.specs.declared.entry.Find.TheVariants as finds
-use Rattle.mt_border.specs.Entry.{IsKind}
-use Rattle.mt_border.specs.declared.entry.Held.{Held}
-use Rattle.mt_border.specs.declared.entry.Held.TheVariants as helds
-use Rattle.mt_slices.specs.declared.mark.Mark.{Mark}
-use Rattle.mt_border.specs.Entries.{IsMissing}
-use Rattle.mt_border.specs.Contents.{owned}
+use Rattle.std.{proofs.Common.{◌≡◌, ◌≢◌, ℕ, ◌+◌, ◌<◌, ◌≤◌, false, List, length, set, Option, Some, None, refl, sym, ap, subst, ◌∙◌, arith}, specs.Prelude.{◌^◌}}
+use Rattle.mt_slices.{specs.{Keys.{IsStoredKey, stored_key}, Slices.{slice_of, mark_of, suffix_of}, declared.mark.Mark.Mark}, proofs.Tenants.stored_key-again}
+use Rattle.mt_rows.specs.{declared.reply.Reply.TheVariants.Absent, Rows.{Bytes, Columns}, Commands.key_of}
+use Rattle.mt_border.specs.{declared.entry.FoundKind.FoundKind, declared.entry.FoundKind.TheVariants.{ThisKey, OtherLong, Link as ToTree}}
+use Rattle.mt_border.specs.{declared.entry.Find.Find, Entry.IsKind, declared.entry.Held.Held, Entries.IsMissing, Contents.owned}
 use Rattle.mt_border.proofs.Edits.{any_entry}
-use Rattle.mt_tape.specs.Histories.{contents_at}
-use Rattle.mt_tape.proofs.TapeLaws.{contents_at-now}
-use Rattle.mt_arena.specs.NodeView.{NodeView}
-use Rattle.mt_arena.specs.Layers.{slot_at}
-use Rattle.mt_arena.specs.Arena.{IsArena, content_of}
-use Rattle.mt_arena.specs.Accesses.{at}
-use Rattle.mt_arena.proofs.Places.{same_slot}
-use Rattle.mt_operation.specs.declared.walk.Aim.{Aim}
-use Rattle.mt_operation.specs.declared.walk.Aim.TheVariants as aims
-use Rattle.mt_operation.specs.declared.phase.Phase.{Phase}
-use Rattle.mt_operation.specs.declared.phase.Phase.TheVariants.{Enter, Search, Load, Confirm}
-use Rattle.mt_operation.specs.declared.walk.Taken.{Taken}
-use Rattle.mt_operation.specs.declared.walk.Taken.TheVariants as takens
-use Rattle.mt_operation.specs.declared.walk.Walk.{Walk}
-use Rattle.mt_operation.specs.declared.outcome.Outcome.{Outcome}
-use Rattle.mt_operation.specs.declared.operation.Operation.{Operation}
-use Rattle.mt_operation.specs.Tasks.{ask}
-use Rattle.mt_operation.specs.Operations.{OperationView, view_of, moved}
-use Rattle.mt_operation.specs.Phases.{is_done, MayFollow, IsDescent, IsOfKind, is_unplaced}
+use Rattle.mt_tape.{specs.Histories.contents_at, proofs.TapeLaws.contents_at-now}
+use Rattle.mt_arena.{specs.{NodeView.NodeView, Layers.slot_at, Arena.{IsArena, content_of}, Accesses.at}, proofs.Places.same_slot}
+use Rattle.mt_operation.specs.{declared.walk.Aim.Aim, declared.phase.Phase.Phase, declared.phase.Phase.TheVariants.{Enter, Search, Load, Confirm}}
+use Rattle.mt_operation.specs.{declared.walk.Taken.Taken, declared.walk.Walk.Walk, declared.outcome.Outcome.Outcome, declared.operation.Operation.Operation}
+use Rattle.mt_operation.specs.{Tasks.ask, Operations.{OperationView, view_of, moved}, Phases.{is_done, MayFollow, IsDescent, IsOfKind, is_unplaced}}
 use Rattle.mt_operation.specs.Tables.{op_at as operation_at}
-use Rattle.mt_descent.specs.Pasts.{Past, IsNow}
-use Rattle.mt_descent.specs.KeptWalks.{GoesThrough, IsInSlot, HasSlot, IsAtBorder, KeptAt, IsKept}
-use Rattle.mt_descent.specs.WalkMoves.{FindsIn, after_search}
-use Rattle.mt_state.specs.Views.{StateView, Core, shown, past_of}
-use Rattle.mt_state.specs.Steps.{told_change}
-use Rattle.mt_state.specs.Notes.{Notes, Keeps}
-use Rattle.mt_state.specs.Ways.{IsOnWay, Descends}
-use Rattle.mt_state.specs.KeptOperations.{IsOpenOperation, TellsTaken, IsOnItsWay, IsAtLoad, IsAtConfirm, IsKeptAt, IsBound}
-use Rattle.mt_state.specs.Invariant.{StateInvariant}
 use Rattle.mt_operation.proofs.Phases.{by_descent}
-use Rattle.mt_state.proofs.Descents.{by_way, first_aside}
-use Rattle.mt_state.proofs.Telling.{Gives}
-use Rattle.mt_state.proofs.Moved.{went, first_same}
-use Rattle.mt_state.proofs.Still.{IsFree, IsUnready, still, still_gives}
-use Rattle.mt_state.proofs.Bound.{bound_on, look_untold}
-use Rattle.mt_state.proofs.OneNode.{quiet_grows}
-use Rattle.mt_state.proofs.Lawful.{owner_of}
+use Rattle.mt_descent.specs.{Pasts.{Past, IsNow}, KeptWalks.{GoesThrough, IsInSlot, HasSlot, IsAtBorder, KeptAt, IsKept}, WalkMoves.{FindsIn, after_search}}
+use Rattle.mt_state.specs.{Views.{StateView, Core, shown, past_of}, Steps.told_change, Notes.{Notes, Keeps}, Ways.{IsOnWay, Descends}}
+use Rattle.mt_state.specs.{KeptOperations.{IsOpenOperation, TellsTaken, IsOnItsWay, IsAtLoad, IsAtConfirm, IsKeptAt, IsBound}, Invariant.StateInvariant}
+use Rattle.mt_state.proofs.{Descents.{by_way, first_aside}, Telling.Gives, Moved.{went, first_same}, Still.{IsFree, IsUnready, still, still_gives}}
+use Rattle.mt_state.proofs.{Bound.{bound_on, look_untold}, OneNode.quiet_grows, Lawful.owner_of}
+use Rattle.mt_border.specs.declared.entry.Find.TheVariants as finds
+use Rattle.mt_border.specs.declared.entry.Held.TheVariants as helds
+use Rattle.mt_operation.specs.declared.walk.Aim.TheVariants as aims
+use Rattle.mt_operation.specs.declared.walk.Taken.TheVariants as takens
 
 -- an operation that is on its way, by its phase
 pub way_of : (p : Phase) → IsDescent p → (c : Core) (o : ℕ) (op : Operation) → IsKeptAt p c o op → IsOnItsWay c op

@@ -1,41 +1,27 @@
 -- Rely and guarantee: what is kept of an operation stays under each step of another one, by what that step leaves to others alone.
 use Rattle.std.proofs.Common.{◌≡◌, ◌≢◌, ℕ, ◌-◌, ◌<◌, ◌≤◌, inl, inr, List, [], ◌∷◌, length, Option, None, Some, sym, ap, subst, ◌∙◌, arith, Bool, true, false}
 use Rattle.std.proofs.lemmas.Bool.{cases_lt}
-use Rattle.mt_rows.specs.declared.command.Command.{Command}
-use Rattle.mt_rows.specs.declared.reply.Reply.{Reply}
-use Rattle.mt_rows.specs.Rows.{Bytes, Columns}
-use Rattle.mt_rows.specs.Maps.{reply_of}
+use Rattle.mt_rows.specs.{declared.command.Command.Command, declared.reply.Reply.Reply, Rows.{Bytes, Columns}, Maps.reply_of}
 use Rattle.mt_runs.proofs.Lawful.{lawful_by}
 use Rattle.mt_walks.specs.Walked.{IsWithin}
-use Rattle.mt_arena.specs.Arena.{ArenaView, Guarantee, IsArena}
-use Rattle.mt_arena.specs.Accesses.{at}
-use Rattle.mt_operation.specs.declared.outcome.Outcome.{Outcome}
-use Rattle.mt_operation.specs.declared.operation.Operation.{Operation}
-use Rattle.mt_operation.specs.declared.phase.Phase.{Phase}
-use Rattle.mt_operation.specs.declared.phase.Phase.TheVariants.{Load, Confirm, Store, Unlock, Check, Hop}
-use Rattle.mt_operation.specs.declared.splits.Halves.{Halves}
-use Rattle.mt_operation.specs.Operations.{OperationView, view_of, scan_of}
-use Rattle.mt_descent.specs.Pasts.{ExtendsPast}
-use Rattle.mt_descent.specs.KeptWalks.{IsKept, IsAtBorder}
+use Rattle.mt_arena.specs.{Arena.{ArenaView, Guarantee, IsArena}, Accesses.at}
+use Rattle.mt_operation.specs.{declared.outcome.Outcome.Outcome, declared.operation.Operation.Operation, declared.phase.Phase.Phase}
+use Rattle.mt_operation.specs.{declared.phase.Phase.TheVariants.{Load, Confirm, Store, Unlock, Check, Hop}, declared.splits.Halves.Halves}
+use Rattle.mt_operation.specs.{Operations.{OperationView, view_of, scan_of}, Tasks.ask, Phases.{Kind, row}}
+use Rattle.mt_descent.specs.{Pasts.ExtendsPast, KeptWalks.{IsKept, IsAtBorder}}
+use Rattle.mt_scan.{specs.Snaps.prefix_in, proofs.Staying.{check_stays, kept_hop_stays}}
+use Rattle.mt_stretches.{specs.Scanned.HasSeen, proofs.Beginning.seen_stays}
+use Rattle.mt_state.proofs.{ScanKept.scanned_for_stays, Granted.quota_stays}
+use Rattle.mt_state.specs.{Views.{StateView, Core, shown, past_of, map_of, quota_of, KeepsPast, IsPlaced}, Promises.IsAnswer}
+use Rattle.mt_state.specs.KeptOperations.{IsOpenOperation, IsOnItsWay, HasAnswer, IsBound, MayUnlock, MayUnlockUnsplit, IsUnlinking, IsClimbing, IsLayering, IsReturning, IsKeptAt, IsPlacedOnce, IsKeptOf, IsKeptFor, IsReadingAt, IsChecking, IsScanningAt, IsWritingAt, IsScanKept}
+use Rattle.mt_state.specs.Invariant.{StateGuarantee}
+use Rattle.mt_remove.specs.Writes.{is_remove}
 use Rattle.mt_descent.proofs.Rely as descent
-use Rattle.mt_scan.specs.Snaps.{prefix_in}
-use Rattle.mt_stretches.specs.Scanned.{HasSeen}
-use Rattle.mt_stretches.proofs.Beginning.{seen_stays}
-use Rattle.mt_state.proofs.ScanKept.{scanned_for_stays}
-use Rattle.mt_scan.proofs.Staying.{check_stays, kept_hop_stays}
 use Rattle.mt_held.proofs.Rely as held
 use Rattle.mt_insert.proofs.Rely as insert
 use Rattle.mt_insert.proofs.SplitRely as splits
 use Rattle.mt_layer.proofs.Rely as layers
-use Rattle.mt_remove.specs.Writes.{is_remove}
 use Rattle.mt_remove.proofs.Rely as removals
-use Rattle.mt_operation.specs.Tasks.{ask}
-use Rattle.mt_state.specs.Views.{StateView, Core, shown, past_of, map_of, quota_of, KeepsPast, IsPlaced}
-use Rattle.mt_state.specs.Promises.{IsAnswer}
-use Rattle.mt_state.specs.KeptOperations.{IsOpenOperation, IsOnItsWay, HasAnswer, IsBound, MayUnlock, MayUnlockUnsplit, IsUnlinking, IsClimbing, IsLayering, IsReturning, IsKeptAt, IsPlacedOnce, IsKeptOf, IsKeptFor, IsReadingAt, IsChecking, IsScanningAt, IsWritingAt, IsScanKept}
-use Rattle.mt_state.specs.Invariant.{StateGuarantee}
-use Rattle.mt_state.proofs.Granted.{quota_stays}
-use Rattle.mt_operation.specs.Phases.{Kind, row}
 use Rattle.mt_operation.specs.Phases as kinds
 
 -- what is placed stays so

@@ -1,34 +1,21 @@
 -- What each step of a removal behind DropKey leaves of all nodes, and where it leads, by its phase.
 use Rattle.std.proofs.Common.{◌≡◌, ◌≢◌, ℕ, ◌<◌, ◌⊎◌, inl, inr, Bool, true, false, length, Option, Some, None, refl, sym, ap, subst, arith, cond, eqb}
-use Rattle.std.proofs.lemmas.Bool.{cases_eq, cases_lt}
-use Rattle.std.proofs.lemmas.Option.{same_Some}
+use Rattle.std.proofs.{lemmas.Bool.{cases_eq, cases_lt}, lemmas.Option.same_Some}
 use Rattle.mt_rows.specs.Rows.{Bytes}
-use Rattle.mt_arena.specs.NodeView.{NodeView}
-use Rattle.mt_arena.specs.Arena.{ArenaView, IsArena}
-use Rattle.mt_arena.specs.Accesses.{at}
+use Rattle.mt_arena.specs.{NodeView.NodeView, Arena.{ArenaView, IsArena}, Accesses.at}
 use Rattle.mt_operation.specs.declared.phase.Phase.{Phase}
-use Rattle.mt_operation.specs.declared.phase.Phase.TheVariants.{LockPrev, LockAbove, Unlink, FixNext, Collapse, CleanLayer, Unlock}
-use Rattle.mt_operation.specs.declared.walk.Walk.{Walk}
-use Rattle.mt_operation.specs.declared.removal.Removal.{Removal}
+use Rattle.mt_operation.specs.{declared.phase.Phase.TheVariants.{LockPrev, LockAbove, Unlink, FixNext, Collapse, CleanLayer, Unlock}, declared.walk.Walk.Walk}
+use Rattle.mt_operation.specs.{declared.removal.Removal.Removal, Phases.{MayFollow, IsRemovalPhase}, declared.outcome.Outcome.Outcome, Operations.SplitsView}
 use Rattle.mt_operation.proofs.Phases.{by_removal}
-use Rattle.mt_operation.specs.Phases.{MayFollow, IsRemovalPhase}
 use Rattle.mt_descent.specs.WalkMoves.{KeepsPairs}
 use Rattle.mt_held.specs.Moves.{walk_at}
 use Rattle.mt_remove.specs.KeptRemovals.{HoldsRemoval, KeptRemoval, HoldsEmpty, IsAtLockPrev, IsAtLockAbove, IsAtUnlink, IsAtFixNext, IsAtCollapse, IsAtCleanLayer}
-use Rattle.mt_remove.specs.RemovalEdits.{for_rest, after_unlink, root_of}
-use Rattle.mt_remove.specs.Unlinks.{IsChildBefore, IsLockPrev, IsLockAbove, IsUnlink, IsFixNext, IsCollapse}
-use Rattle.mt_remove.specs.CleanLayer.{IsCleanLayer}
-use Rattle.mt_remove.specs.Steps.{IsRemovalFrom}
-use Rattle.mt_remove.proofs.GoingOn.{emptied_either}
-use Rattle.mt_remove.proofs.Locking.{left_there}
-use Rattle.mt_remove.proofs.LockingAbove.{parent_there}
-use Rattle.mt_remove.proofs.CleaningOn.{held_link}
+use Rattle.mt_remove.specs.{RemovalEdits.{for_rest, after_unlink, root_of}, Unlinks.{IsChildBefore, IsLockPrev, IsLockAbove, IsUnlink, IsFixNext, IsCollapse}}
+use Rattle.mt_remove.specs.{CleanLayer.IsCleanLayer, Steps.IsRemovalFrom}
+use Rattle.mt_remove.proofs.{GoingOn.emptied_either, Locking.left_there, LockingAbove.parent_there, CleaningOn.held_link}
 use Rattle.mt_remove.proofs.DroppingLayers.{tree_there, root_there}
-use Rattle.mt_state.specs.Invariant.{DeletedAreEmpty}
+use Rattle.mt_state.specs.{Invariant.DeletedAreEmpty, Phases.{ScanStep, LeadsTo}}
 use Rattle.mt_state.proofs.RemovalNodes.{LeavesNodes, none_leaves, lock_leaves, named_leaves, unlink_leaves, collapse_leaves, clean_leaves}
-use Rattle.mt_operation.specs.declared.outcome.Outcome.{Outcome}
-use Rattle.mt_operation.specs.Operations.{SplitsView}
-use Rattle.mt_state.specs.Phases.{ScanStep, LeadsTo}
 
 -- what a step brings: what is left of all nodes, where it leads, and what is kept then
 pub record Removes (p : Phase) (o : ℕ) (key : Bytes) (v u : ArenaView) (before after : Walk) (s t : Removal) : Type 0 where

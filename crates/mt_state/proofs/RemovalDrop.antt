@@ -1,77 +1,33 @@
 -- The step of a removal that takes its key's pair out: for DropKey.
 use Rattle.std.proofs.Common.{◌≡◌, ◌≢◌, ℕ, ◌+◌, ◌-◌, ◌<◌, inl, inr, true, false, cond, length, Option, Some, None, is_some, refl, sym, ap, subst, ◌∙◌, arith}
-use Rattle.std.specs.Prelude.{◌^◌}
-use Rattle.std.specs.List.{All}
-use Rattle.std.specs.Option.{option_map}
-use Rattle.std.specs.FinMap.{get, len, remove, len-remove}
-use Rattle.std.proofs.lemmas.Bool.{cases_eq, both_ways}
-use Rattle.std.proofs.lemmas.Option.{same_Some, none-some}
-use Rattle.std.proofs.lemmas.List.Elements.{All-from_get_or}
-use Rattle.mt_rows.specs.declared.reply.Reply.TheVariants.{Removed}
-use Rattle.mt_rows.specs.declared.tenants.Account.{Account}
-use Rattle.mt_rows.specs.Rows.{Bytes, Columns}
-use Rattle.mt_rows.specs.Commands.{key_of}
-use Rattle.mt_rows.specs.Maps.{Map, reply_of, map_after, is_scan}
-use Rattle.mt_rows.specs.Accounts.{Accounts, account_of, one_less}
-use Rattle.mt_rows.specs.Tenants.{Contents, tenant_map}
-use Rattle.mt_rows.proofs.ContentLaws.{get-tenant_map}
-use Rattle.mt_border.specs.Entries.{without, place_in}
-use Rattle.mt_border.specs.Entry.{order_of}
-use Rattle.mt_border.specs.Contents.{owned, AllStamped, IsStamped}
-use Rattle.mt_border.proofs.Edits.{any_entry}
-use Rattle.mt_border.proofs.ContentsKeys.{owned_at, IsApart}
-use Rattle.mt_tape.specs.declared.entry.Entry.{Entry as Write}
-use Rattle.mt_tape.specs.Tapes.{Kept}
-use Rattle.mt_tape.specs.Histories.{with_row}
+use Rattle.std.proofs.{lemmas.Bool.{cases_eq, both_ways}, lemmas.Option.{same_Some, none-some}, lemmas.List.Elements.All-from_get_or}
+use Rattle.std.specs.{Prelude.{◌^◌}, List.All, Option.option_map, FinMap.{get, len, remove, len-remove}}
+use Rattle.mt_rows.specs.{declared.reply.Reply.TheVariants.Removed, declared.tenants.Account.Account, Rows.{Bytes, Columns}, Commands.key_of}
+use Rattle.mt_rows.specs.{Maps.{Map, reply_of, map_after, is_scan}, Accounts.{Accounts, account_of, one_less}, Tenants.{Contents, tenant_map}}
+use Rattle.mt_rows.proofs.{ContentLaws.get-tenant_map, CommandLaws.keys_total}
+use Rattle.mt_border.specs.{Entries.{without, place_in}, Entry.order_of, Contents.{owned, AllStamped, IsStamped}}
+use Rattle.mt_border.proofs.{Edits.any_entry, ContentsKeys.{owned_at, IsApart}}
+use Rattle.mt_tape.specs.{declared.entry.Entry.{Entry as Write}, Tapes.Kept, Histories.with_row}
 use Rattle.mt_tape.proofs.TapeLaws.{get-with_row_same, tenant_map-with_row, tenant_map-with_row_other}
-use Rattle.mt_arena.specs.NodeView.{NodeView}
-use Rattle.mt_arena.specs.Layers.{slot_at}
-use Rattle.mt_arena.specs.Forests.{layer_of}
-use Rattle.mt_arena.specs.Contents.{counts}
-use Rattle.mt_arena.specs.Edits.{with_slots}
-use Rattle.mt_arena.specs.Arena.{ArenaView, IsArena, content_of}
-use Rattle.mt_arena.specs.Accesses.{at, tree_of}
-use Rattle.mt_arena.specs.Ways.{StandsFor}
-use Rattle.mt_arena.proofs.Homes as homes
-use Rattle.mt_arena.proofs.Owners.{found}
-use Rattle.mt_arena.proofs.Steps.{keys_of}
-use Rattle.mt_operation.specs.declared.phase.Phase.{Phase}
-use Rattle.mt_operation.specs.declared.phase.Phase.TheVariants.{DropKey, LockPrev, Unlock, Enter}
-use Rattle.mt_operation.specs.declared.walk.Walk.{Walk}
-use Rattle.mt_operation.specs.declared.removal.Removal.{Removal}
-use Rattle.mt_operation.specs.declared.outcome.Outcome.{Outcome}
-use Rattle.mt_operation.specs.declared.operation.Operation.{Operation}
-use Rattle.mt_operation.specs.Tasks.{ask}
-use Rattle.mt_operation.specs.Operations.{view_of, IsUnsplit}
-use Rattle.mt_operation.specs.Phases.{is_done, MayFollow, IsOfKind, has_splits, row}
-use Rattle.mt_operation.specs.Tables.{op_at as operation_at}
-use Rattle.mt_held.specs.Taping.{pushed}
-use Rattle.mt_held.specs.Holds.{HoldsOnly}
-use Rattle.mt_remove.specs.Writes.{removal_over}
-use Rattle.mt_remove.specs.KeptRemovals.{KeptRemoval}
-use Rattle.mt_remove.specs.DropKey.{IsDropKey}
-use Rattle.mt_remove.proofs.GoingOn.{emptied_either}
-use Rattle.mt_state.specs.Views.{Core, shown, granted_in, quota_of}
-use Rattle.mt_state.specs.Notes.{Notes}
-use Rattle.mt_state.specs.KeptOperations.{IsOpenOperation, IsDropping, IsKeptOf, IsKeptAt, HasAnswer, IsPlacedOnce}
-use Rattle.mt_state.specs.Invariant.{IsStampOf, AreStamps, StateInvariant, DeletedAreEmpty}
-use Rattle.mt_state.specs.Writes.{removing}
-use Rattle.mt_state.proofs.Telling.{Gives, gives}
-use Rattle.mt_state.proofs.Moved.{went_on, first_begun, first_upto, open_moved_on, has_moved_on}
-use Rattle.mt_state.proofs.Still.{floor_made, unready_none}
-use Rattle.mt_state.proofs.Reading.{walk_same}
-use Rattle.mt_state.proofs.OneNode.{counted_live, holds_here}
-use Rattle.mt_state.proofs.Locking.{ready_one, room_for}
-use Rattle.mt_state.proofs.Replies.{remove_there}
-use Rattle.mt_state.proofs.Writing.{row_left_remove}
-use Rattle.mt_state.proofs.LiveTrees.{slot_lives}
-use Rattle.mt_state.proofs.Placing.{Counts, IsWriteOf, placed_by, Places, beside_write, wrote_move, wrote_right, is_writing, wrote_once}
-use Rattle.mt_state.proofs.Putting.{stamped_apart}
-use Rattle.mt_state.proofs.RemovalNodes.{LeavesNodes, one_leaves, slots_removed, stood, versions, removal_touches}
+use Rattle.mt_arena.specs.{NodeView.NodeView, Layers.slot_at, Forests.layer_of, Contents.counts, Edits.with_slots, Arena.{ArenaView, IsArena, content_of}}
+use Rattle.mt_arena.specs.{Accesses.{at, tree_of}, Ways.StandsFor}
+use Rattle.mt_arena.proofs.{Owners.found, Steps.keys_of}
+use Rattle.mt_operation.specs.{declared.phase.Phase.Phase, declared.phase.Phase.TheVariants.{DropKey, LockPrev, Unlock, Enter}, declared.walk.Walk.Walk}
+use Rattle.mt_operation.specs.{declared.removal.Removal.Removal, declared.outcome.Outcome.Outcome, declared.operation.Operation.Operation, Tasks.ask}
+use Rattle.mt_operation.specs.{Operations.{view_of, IsUnsplit}, Phases.{is_done, MayFollow, IsOfKind, has_splits, row}, Tables.{op_at as operation_at}}
 use Rattle.mt_operation.proofs.Phases.{IsBehindBy}
+use Rattle.mt_held.specs.{Taping.pushed, Holds.HoldsOnly}
+use Rattle.mt_remove.{specs.{Writes.removal_over, KeptRemovals.KeptRemoval, DropKey.IsDropKey}, proofs.GoingOn.emptied_either}
+use Rattle.mt_state.specs.{Views.{Core, shown, granted_in, quota_of}, Notes.Notes}
+use Rattle.mt_state.specs.KeptOperations.{IsOpenOperation, IsDropping, IsKeptOf, IsKeptAt, HasAnswer, IsPlacedOnce}
+use Rattle.mt_state.specs.{Invariant.{IsStampOf, AreStamps, StateInvariant, DeletedAreEmpty}, Writes.removing}
+use Rattle.mt_state.proofs.{Telling.{Gives, gives}, Moved.{went_on, first_begun, first_upto, open_moved_on, has_moved_on}, Still.{floor_made, unready_none}}
+use Rattle.mt_state.proofs.{Reading.walk_same, OneNode.{counted_live, holds_here}, Locking.{ready_one, room_for}, Replies.remove_there, Writing.row_left_remove}
+use Rattle.mt_state.proofs.{LiveTrees.slot_lives, Placing.{Counts, IsWriteOf, placed_by, Places, beside_write, wrote_move, wrote_right, is_writing, wrote_once}}
+use Rattle.mt_state.proofs.{Putting.stamped_apart, RemovalNodes.{LeavesNodes, one_leaves, slots_removed, stood, versions, removal_touches}}
 use Rattle.mt_state.proofs.RemovalSteps.{HasRemoval, has_removal, removal_kept, removal_held, removal_kind, removal_open, removal_unready}
-use Rattle.mt_rows.proofs.CommandLaws.{keys_total}
 use Rattle.mt_state.proofs.Lawful.{remove_no_scan}
+use Rattle.mt_arena.proofs.Homes as homes
 
 -- one pair less leaves the quota, and the account there
 quota_less : (a : Option Account) → granted_in (option_map one_less a) ≡ granted_in a

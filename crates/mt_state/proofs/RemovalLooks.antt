@@ -1,66 +1,30 @@
 -- The steps of a removal that change no pair: it judges its border node, gives its locks back, and locks and judges on its way back to a link.
 use Rattle.std.proofs.Common.{◌≡◌, ◌≢◌, ℕ, ◌+◌, ◌<◌, ◌⊎◌, inl, inr, Bool, true, false, List, [], ◌∷◌, length, Option, Some, None, refl, sym, ap, subst, ◌∙◌, arith}
-use Rattle.std.specs.Prelude.{◌^◌}
 use Rattle.std.proofs.lemmas.Bool.{cases_eq, cases_lt, both_ways}
-use Rattle.std.specs.FinMap.{get}
-use Rattle.mt_rows.specs.declared.reply.Reply.TheVariants.{Absent}
-use Rattle.mt_rows.specs.Commands.{key_of}
-use Rattle.mt_rows.specs.Maps.{reply_of}
-use Rattle.mt_rows.specs.Tenants.{Contents, tenant_map}
+use Rattle.std.specs.{Prelude.{◌^◌}, FinMap.get}
+use Rattle.mt_rows.specs.{declared.reply.Reply.TheVariants.Absent, Commands.key_of, Maps.reply_of, Tenants.{Contents, tenant_map}}
 use Rattle.mt_rows.proofs.ContentLaws.{get-tenant_map}
-use Rattle.mt_tape.specs.Tapes.{Kept}
-use Rattle.mt_tape.specs.Histories.{contents_at}
+use Rattle.mt_tape.specs.{Tapes.Kept, Histories.contents_at}
 use Rattle.mt_border.specs.declared.entry.Entry.{Entry}
-use Rattle.mt_arena.specs.NodeView.{NodeView}
-use Rattle.mt_arena.specs.Edits.{locked, unlocked}
-use Rattle.mt_arena.specs.Forests.{tree_at, layer_of}
-use Rattle.mt_arena.specs.Arena.{ArenaView, content_of, Guarantee}
+use Rattle.mt_arena.specs.{NodeView.NodeView, Edits.{locked, unlocked}, Forests.{tree_at, layer_of}, Arena.{ArenaView, content_of, Guarantee}}
 use Rattle.mt_arena.specs.Accesses.{at, IsHeld, with_node}
-use Rattle.mt_operation.specs.declared.phase.Phase.{Phase}
-use Rattle.mt_operation.specs.declared.phase.Phase.TheVariants.{Enter, Lock, Judge, DropKey, CleanLayer, Unlock, Done}
-use Rattle.mt_operation.specs.declared.walk.Walk.{Walk}
-use Rattle.mt_operation.specs.declared.removal.Removal.{Removal}
-use Rattle.mt_operation.specs.declared.outcome.Outcome.{Outcome}
-use Rattle.mt_operation.specs.declared.prepared.Prepared.{Prepared}
-use Rattle.mt_operation.specs.declared.splits.Halves.{Halves}
-use Rattle.mt_operation.specs.declared.operation.Operation.{Operation}
-use Rattle.mt_operation.specs.Tasks.{ask}
-use Rattle.mt_operation.specs.Operations.{view_of, IsUnsplit, OperationView}
-use Rattle.mt_operation.specs.Phases.{is_done, MayFollow, IsOfKind, has_splits}
-use Rattle.mt_operation.specs.Tables.{op_at as operation_at}
+use Rattle.mt_operation.specs.{declared.phase.Phase.Phase, declared.phase.Phase.TheVariants.{Enter, Lock, Judge, DropKey, CleanLayer, Unlock, Done}}
+use Rattle.mt_operation.specs.{declared.walk.Walk.Walk, declared.removal.Removal.Removal, declared.outcome.Outcome.Outcome, declared.prepared.Prepared.Prepared}
+use Rattle.mt_operation.specs.{declared.splits.Halves.Halves, declared.operation.Operation.Operation, Tasks.ask, Operations.{view_of, IsUnsplit, OperationView}}
+use Rattle.mt_operation.specs.{Phases.{is_done, MayFollow, IsOfKind, has_splits}, Tables.{op_at as operation_at}}
 use Rattle.mt_descent.specs.KeptWalks.{KeptAt, IsAtEnter, IsAtBorder}
-use Rattle.mt_held.specs.Taping.{reserving}
-use Rattle.mt_held.specs.Holds.{HoldsOnly}
-use Rattle.mt_held.specs.Moves.{walk_at}
-use Rattle.mt_remove.specs.Writes.{is_remove, IsRemoval}
-use Rattle.mt_remove.specs.KeptRemovals.{IsAmong as IsOfRemoval, HoldsRemoval, IsAtDropKey, IsAtCleanLayer, IsAtUnlockRemoval}
-use Rattle.mt_remove.specs.RemovalEdits.{ReturnsRemoval, root_of}
-use Rattle.mt_remove.specs.Judge.{IsMadeReady, FindsAbsent}
-use Rattle.mt_remove.specs.Unlock.{EmptiesLayer, IsUnlockRemoval}
+use Rattle.mt_held.specs.{Taping.reserving, Holds.HoldsOnly, Moves.walk_at}
+use Rattle.mt_remove.specs.{Writes.{is_remove, IsRemoval}, KeptRemovals.{IsAmong as IsOfRemoval, HoldsRemoval, IsAtDropKey, IsAtCleanLayer, IsAtUnlockRemoval}}
+use Rattle.mt_remove.specs.{RemovalEdits.{ReturnsRemoval, root_of}, Judge.{IsMadeReady, FindsAbsent}, Unlock.{EmptiesLayer, IsUnlockRemoval}}
 use Rattle.mt_remove.specs.Ways.{IsLockWay, FindsEnd}
-use Rattle.mt_state.specs.Views.{StateView, Core, shown, past_of, quota_of, map_of}
-use Rattle.mt_state.specs.Steps.{told_change}
-use Rattle.mt_state.specs.Notes.{Notes, EndsJudging}
+use Rattle.mt_state.specs.{Views.{StateView, Core, shown, past_of, quota_of, map_of}, Steps.told_change, Notes.{Notes, EndsJudging}}
 use Rattle.mt_state.specs.KeptOperations.{IsOpenOperation, IsOnItsWay, IsJudging, IsDropping, IsGoingBack, IsBound, HasAnswer, IsUnlocking, MayUnlock, MayUnlockUnsplit, IsKeptAt}
-use Rattle.mt_state.specs.Invariant.{HoldsAt, HoldsLast, IsCountedUpTo, StateInvariant}
-use Rattle.mt_state.specs.Writes.{wrote, removing}
-use Rattle.mt_state.proofs.Telling.{Gives, map_now}
-use Rattle.mt_state.proofs.Decides.{outdated_or_not}
-use Rattle.mt_state.proofs.Descents.{changed_leads}
-use Rattle.mt_state.proofs.Moved.{went, went_on, first_begun, first_upto}
-use Rattle.mt_state.proofs.Bound.{answered_on}
-use Rattle.mt_state.proofs.Quiet.{LeavesPairs}
-use Rattle.mt_state.proofs.Still.{leaves_all, unready_none, IsUnready}
-use Rattle.mt_state.proofs.Reading.{walk_same}
-use Rattle.mt_state.proofs.Replies.{remove_missing}
+use Rattle.mt_state.specs.{Invariant.{HoldsAt, HoldsLast, IsCountedUpTo, StateInvariant}, Writes.{wrote, removing}, Ways.IsOnWay, Promises.Touches}
+use Rattle.mt_state.proofs.{Telling.{Gives, map_now}, Decides.outdated_or_not, Descents.changed_leads, Moved.{went, went_on, first_begun, first_upto}}
+use Rattle.mt_state.proofs.{Bound.answered_on, Quiet.LeavesPairs, Still.{leaves_all, unready_none, IsUnready}, Reading.walk_same, Replies.remove_missing}
 use Rattle.mt_state.proofs.OneNode.{returning_told, replaced_leaves, replaced_holds, replaced_touches, quiet_grows, holds_here, quiet_gives, quiet_gives_on}
-use Rattle.mt_state.proofs.Locking.{ready_one, lock_done}
-use Rattle.mt_state.proofs.LayerSteps.{back_gives}
-use Rattle.mt_state.proofs.SplitSteps.{returned_leaves, returned_touches, is_held_or_not}
-use Rattle.mt_state.proofs.RemovalSteps.{removal_kept}
-use Rattle.mt_state.specs.Ways.{IsOnWay}
-use Rattle.mt_state.specs.Promises.{Touches}
-use Rattle.mt_state.proofs.Lawful.{remove_no_scan, scan_free}
+use Rattle.mt_state.proofs.{Locking.{ready_one, lock_done}, LayerSteps.back_gives, SplitSteps.{returned_leaves, returned_touches, is_held_or_not}}
+use Rattle.mt_state.proofs.{RemovalSteps.removal_kept, Lawful.{remove_no_scan, scan_free}}
 use Rattle.mt_walks.specs.Walked.{IsWithin}
 
 -- an operation that was told something goes back

@@ -1,32 +1,15 @@
 -- What each step of a removal leaves of all nodes, by what its call ensures: no pair moves, and no version counts a change.
 use Rattle.std.proofs.Common.{◌≡◌, ℕ, ◌+◌, ◌<◌, ◌⊎◌, inl, inr, Bool, true, false, cond, List, [], length, set, Some, refl, sym, ap, subst, ◌∙◌, arith}
+use Rattle.std.proofs.{lemmas.Bool.{both_ways, cases_eq}, lemmas.List.{length-set, get_or-set_same, get_or-set_other}, lemmas.List.Elements.All-from_get_or}
 use Rattle.std.specs.List.{All, remove}
-use Rattle.std.proofs.lemmas.Bool.{both_ways, cases_eq}
-use Rattle.std.proofs.lemmas.List.{length-set, get_or-set_same, get_or-set_other}
-use Rattle.std.proofs.lemmas.List.Elements.{All-from_get_or}
-use Rattle.mt_border.specs.declared.entry.Entry.{Entry}
-use Rattle.mt_border.specs.Entries.{without, place_in}
-use Rattle.mt_border.proofs.Edits.{any_entry, All-remove}
-use Rattle.mt_arena.specs.declared.tree.Tree.{Tree}
-use Rattle.mt_arena.specs.declared.tree.Standing.{Standing}
-use Rattle.mt_arena.specs.declared.tree.Standing.TheVariants.{Live, Dead}
-use Rattle.mt_arena.specs.NodeView.{NodeView}
-use Rattle.mt_arena.specs.Layers.{slot_at}
-use Rattle.mt_arena.specs.Forests.{no_tree, tree_at}
-use Rattle.mt_arena.specs.Contents.{counts, is_live}
-use Rattle.mt_arena.specs.Edits.{pointed, locked, retired, with_slots, inserting}
-use Rattle.mt_arena.specs.Arena.{ArenaView, content_of, Guarantee}
-use Rattle.mt_arena.specs.Accesses.{at, tree_of, IsHeld, with_node}
-use Rattle.mt_arena.specs.Removals.{without_node, without_root, without_layer}
-use Rattle.mt_state.specs.Views.{Core}
-use Rattle.mt_state.specs.Promises.{HoldsEither, Touches}
-use Rattle.mt_state.specs.Invariant.{IsCountedUpTo, DeletedAreEmpty, StateInvariant}
-use Rattle.mt_state.proofs.Quiet.{AreSlotsOf, HasPairsOf, LeavesPairs}
-use Rattle.mt_state.proofs.Climbing.{each_set}
-use Rattle.mt_arena.specs.Unlinks.{joined, without_child}
-use Rattle.mt_arena.specs.Collapses.{crowned}
-use Rattle.mt_border.specs.Entry.{order_of}
+use Rattle.mt_border.{specs.{declared.entry.Entry.Entry, Entries.{without, place_in}, Entry.order_of}, proofs.Edits.{any_entry, All-remove}}
+use Rattle.mt_arena.specs.{declared.tree.Tree.Tree, declared.tree.Standing.Standing, declared.tree.Standing.TheVariants.{Live, Dead}, NodeView.NodeView}
+use Rattle.mt_arena.specs.{Layers.slot_at, Forests.{no_tree, tree_at}, Contents.{counts, is_live}, Edits.{pointed, locked, retired, with_slots, inserting}}
+use Rattle.mt_arena.specs.{Arena.{ArenaView, content_of, Guarantee}, Accesses.{at, tree_of, IsHeld, with_node}}
+use Rattle.mt_arena.specs.{Removals.{without_node, without_root, without_layer}, Unlinks.{joined, without_child}, Collapses.crowned}
 use Rattle.mt_arena.proofs.Pairs.{here, there as there_other}
+use Rattle.mt_state.specs.{Views.Core, Promises.{HoldsEither, Touches}, Invariant.{IsCountedUpTo, DeletedAreEmpty, StateInvariant}}
+use Rattle.mt_state.proofs.{Quiet.{AreSlotsOf, HasPairsOf, LeavesPairs}, Climbing.each_set}
 
 -- the same tree; each slot is one that was there, and none is left where the node was taken out; the version's counts stay; and the operation held the
 -- node or holds it then, or others name another one in it

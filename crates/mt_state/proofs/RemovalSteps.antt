@@ -1,41 +1,25 @@
 -- The steps of a removal that take an empty node or an empty layer out: for a removal that has its outcome.
-use Rattle.std.proofs.Common.{◌≡◌, ◌≢◌, ℕ, ◌+◌, ◌<◌, inl, Bool, true, false, List, [], Option, Some, refl, sym, subst, ◌∙◌, arith}
+use Rattle.std.proofs.{Common.{◌≡◌, ◌≢◌, ℕ, ◌+◌, ◌<◌, inl, Bool, true, false, List, [], Option, Some, refl, sym, subst, ◌∙◌, arith}, lemmas.Bool.both_ways}
 use Rattle.std.specs.Prelude.{◌^◌}
-use Rattle.std.proofs.lemmas.Bool.{both_ways}
 use Rattle.mt_rows.specs.Rows.{Bytes}
 use Rattle.mt_arena.specs.Arena.{ArenaView, IsArena}
-use Rattle.mt_operation.specs.declared.walk.Aim.{Aim}
-use Rattle.mt_operation.specs.declared.walk.Aim.TheVariants as aims
-use Rattle.mt_operation.specs.declared.phase.Phase.{Phase}
+use Rattle.mt_operation.specs.{declared.walk.Aim.Aim, declared.phase.Phase.Phase}
 use Rattle.mt_operation.specs.declared.phase.Phase.TheVariants.{LockPrev, LockAbove, Unlink, FixNext, Collapse, CleanLayer, Unlock, Done, Enter}
-use Rattle.mt_operation.specs.declared.walk.Walk.{Walk}
-use Rattle.mt_operation.specs.declared.removal.Removal.{Removal}
-use Rattle.mt_operation.specs.declared.outcome.Outcome.{Outcome}
-use Rattle.mt_operation.specs.declared.splits.Halves.{Halves}
-use Rattle.mt_operation.specs.declared.operation.Operation.{Operation}
-use Rattle.mt_operation.specs.Tasks.{ask}
-use Rattle.mt_operation.specs.Operations.{view_of, IsUnsplit, OperationView}
+use Rattle.mt_operation.specs.{declared.walk.Walk.Walk, declared.removal.Removal.Removal, declared.outcome.Outcome.Outcome, declared.splits.Halves.Halves}
+use Rattle.mt_operation.specs.{declared.operation.Operation.Operation, Tasks.ask, Operations.{view_of, IsUnsplit, OperationView}}
 use Rattle.mt_operation.specs.Phases.{is_done, MayFollow, IsOfKind, FitsAim, Kind, change_at, holds_of, row, is_unplaced, is_to_come, IsRemovalKind, IsRemovalPhase}
-use Rattle.mt_operation.specs.Phases as kinds
-use Rattle.mt_operation.proofs.Phases.{IsBehindBy, behind_removal, by_removal}
 use Rattle.mt_operation.specs.Tables.{op_at as operation_at}
+use Rattle.mt_operation.proofs.Phases.{IsBehindBy, behind_removal, by_removal}
 use Rattle.mt_descent.specs.WalkMoves.{KeepsPairs}
-use Rattle.mt_remove.specs.Writes.{is_remove}
-use Rattle.mt_remove.specs.KeptRemovals.{IsAmong as IsOfRemoval, HoldsRemoval, KeptRemoval}
-use Rattle.mt_remove.specs.Steps.{IsRemovalFrom}
-use Rattle.mt_state.specs.Views.{StateView, Core, shown}
-use Rattle.mt_state.specs.Notes.{Notes, Keeps}
+use Rattle.mt_remove.specs.{Writes.is_remove, KeptRemovals.{IsAmong as IsOfRemoval, HoldsRemoval, KeptRemoval}, Steps.IsRemovalFrom}
+use Rattle.mt_state.specs.{Views.{StateView, Core, shown}, Notes.{Notes, Keeps}}
 use Rattle.mt_state.specs.KeptOperations.{IsOpenOperation, HasAnswer, MayUnlock, MayUnlockUnsplit, IsUnlinking, IsKeptAt, IsKeptFor}
-use Rattle.mt_state.specs.Invariant.{HoldsAt, HoldsBy, HoldsLast, StateInvariant}
-use Rattle.mt_state.specs.Writes.{removing}
-use Rattle.mt_state.proofs.Telling.{Gives}
-use Rattle.mt_state.proofs.Moved.{went_on}
-use Rattle.mt_state.proofs.Bound.{answered_on}
-use Rattle.mt_state.proofs.Still.{IsUnready, unready_none, IsUnreadyBy}
-use Rattle.mt_state.proofs.Reading.{walk_same}
-use Rattle.mt_state.proofs.OneNode.{returning_by, quiet_grows, holds_here, quiet_gives_on}
-use Rattle.mt_state.proofs.RemovalNodes.{LeavesNodes, removal_leaves, removal_touches}
+use Rattle.mt_state.specs.{Invariant.{HoldsAt, HoldsBy, HoldsLast, StateInvariant}, Writes.removing}
+use Rattle.mt_state.proofs.{Telling.Gives, Moved.went_on, Bound.answered_on, Still.{IsUnready, unready_none, IsUnreadyBy}, Reading.walk_same}
+use Rattle.mt_state.proofs.{OneNode.{returning_by, quiet_grows, holds_here, quiet_gives_on}, RemovalNodes.{LeavesNodes, removal_leaves, removal_touches}}
 use Rattle.mt_state.proofs.RemovalBy.{removes_by}
+use Rattle.mt_operation.specs.declared.walk.Aim.TheVariants as aims
+use Rattle.mt_operation.specs.Phases as kinds
 
 -- a removal takes a node or a layer out at this phase, or is to give its locks back
 abbrev pub HasRemovalBy : Kind → Type 0

@@ -1,22 +1,16 @@
 -- What gets and puts are told, and what they leave, by the row of their key: for the phases.
-use Rattle.std.proofs.Common.{◌≡◌, ℕ, ◌<◌, ◌≤◌, true, false, cond, List, [], Option, Some, None, refl, sym, ap, ◌∙◌}
-use Rattle.std.proofs.lemmas.Option.{same_Some}
-use Rattle.std.specs.FinMap.{get, len, insert, remove}
+use Rattle.std.proofs.{Common.{◌≡◌, ℕ, ◌<◌, ◌≤◌, true, false, cond, List, [], Option, Some, None, refl, sym, ap, ◌∙◌}, lemmas.Option.same_Some}
 use Rattle.std.proofs.lemmas.Bool.{lt-ltb, le-ltb, both_ways}
-use Rattle.mt_rows.specs.declared.command.Command.{Command}
-use Rattle.mt_rows.specs.declared.command.Command.TheVariants.{Get, Put, Remove, Scan}
-use Rattle.mt_rows.specs.declared.reply.Reply.TheVariants.{Absent, Removed, Found, New, Replaced, Full}
-use Rattle.mt_rows.specs.Rows.{Columns, shown}
-use Rattle.mt_rows.specs.Changes.{changed}
-use Rattle.mt_rows.specs.Commands.{key_of}
-use Rattle.mt_rows.specs.Maps.{Map, reply_of, map_after, is_change, is_get, told_of_row, told_of_put, map_after_put, told_of_remove}
-use Rattle.mt_operation.specs.declared.walk.Aim.TheVariants as aims
+use Rattle.std.specs.FinMap.{get, len, insert, remove}
+use Rattle.mt_rows.specs.{declared.command.Command.Command, declared.command.Command.TheVariants.{Get, Put, Remove, Scan}}
+use Rattle.mt_rows.specs.{declared.reply.Reply.TheVariants.{Absent, Removed, Found, New, Replaced, Full}, Rows.{Columns, shown}, Changes.changed}
+use Rattle.mt_rows.specs.{Commands.key_of, Maps.{Map, reply_of, map_after, is_change, is_get, told_of_row, told_of_put, map_after_put, told_of_remove}}
 use Rattle.mt_operation.specs.declared.task.Request.{Request}
-use Rattle.mt_operation.specs.declared.task.Request.TheVariants.{Get as GetOf, Put as PutOf, Remove as RemoveOf, Scan as ScanOf}
-use Rattle.mt_operation.specs.Tasks.{command_of, aim_of}
+use Rattle.mt_operation.specs.{declared.task.Request.TheVariants.{Get as GetOf, Put as PutOf, Remove as RemoveOf, Scan as ScanOf}, Tasks.{command_of, aim_of}}
 use Rattle.mt_insert.specs.Puts.{change_of, is_put}
 use Rattle.mt_state.specs.Notes.{columns_asked}
 use Rattle.mt_remove.specs.Writes.{is_remove}
+use Rattle.mt_operation.specs.declared.walk.Aim.TheVariants as aims
 
 looks : (columns : List ℕ) (row : Option Columns) → is_change (told_of_row columns row) ≡ false
 looks columns None = refl

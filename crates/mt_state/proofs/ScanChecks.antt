@@ -1,62 +1,29 @@
 -- A scan that compares its border node's version: it keeps what it has seen and goes on, is done and shows it, or drops it: for `State::check`.
 use Rattle.std.proofs.Common.{◌≡◌, ◌≢◌, ℕ, ◌+◌, ◌<◌, ◌⊎◌, inl, inr, Bool, true, false, cond, List, length, Option, Some, None, refl, sym, ap, subst, ◌∙◌, arith}
-use Rattle.std.specs.Prelude.{◌^◌}
-use Rattle.std.specs.Ordering.{nat_cmp, is_lt}
-use Rattle.std.specs.Cmp.Lexicographic.{slice_cmp}
 use Rattle.std.proofs.lemmas.Bool.{both_ways, cases_eq}
+use Rattle.std.specs.{Prelude.{◌^◌}, Ordering.{nat_cmp, is_lt}, Cmp.Lexicographic.slice_cmp}
 use Rattle.mt_version.specs.Changes.{SameButLock}
-use Rattle.mt_slices.specs.Keys.{IsStoredKey, tenant_of}
-use Rattle.mt_slices.specs.Fences.{least_through}
-use Rattle.mt_rows.specs.declared.command.Command.{Command}
-use Rattle.mt_rows.specs.declared.command.Command.TheVariants.{Scan}
-use Rattle.mt_rows.specs.declared.reply.Reply.TheVariants.{Pairs, NoMemory}
-use Rattle.mt_rows.specs.Rows.{Bytes}
-use Rattle.mt_rows.specs.Maps.{Map}
-use Rattle.mt_rows.specs.Commands.{HasCount}
-use Rattle.mt_rows.specs.Limits.{ArePairs}
+use Rattle.mt_slices.specs.{Keys.{IsStoredKey, tenant_of}, Fences.least_through}
+use Rattle.mt_rows.specs.{declared.command.Command.Command, declared.command.Command.TheVariants.Scan, declared.reply.Reply.TheVariants.{Pairs, NoMemory}}
+use Rattle.mt_rows.specs.{Rows.Bytes, Maps.Map, Commands.HasCount, Limits.ArePairs}
 use Rattle.mt_runs.specs.Scans.{IsLawful, IsLawfulScan}
 use Rattle.mt_walks.specs.Walked.{IsWithin}
-use Rattle.mt_arena.specs.NodeView.{NodeView}
-use Rattle.mt_arena.specs.Accesses.{at}
-use Rattle.mt_operation.specs.declared.walk.Aim.TheVariants as aims
-use Rattle.mt_operation.specs.declared.phase.Phase.{Phase}
-use Rattle.mt_operation.specs.declared.phase.Phase.TheVariants.{Enter, Check, Hop, Done}
-use Rattle.mt_operation.specs.declared.walk.Walk.{Walk}
-use Rattle.mt_operation.specs.declared.scan.Scan.{Scan as Memory}
-use Rattle.mt_operation.specs.declared.scan.Stop.{Stop}
-use Rattle.mt_operation.specs.declared.scan.Stop.TheVariants as stops
-use Rattle.mt_operation.specs.declared.outcome.Outcome.{Outcome}
-use Rattle.mt_operation.specs.declared.operation.Operation.{Operation}
-use Rattle.mt_operation.specs.Tasks.{ask}
-use Rattle.mt_operation.specs.Operations.{ScanView, view_of, scan_of, moved}
-use Rattle.mt_operation.specs.Phases.{is_done, MayFollow, IsOfKind}
-use Rattle.mt_operation.specs.Tables.{op_at as operation_at}
-use Rattle.mt_descent.specs.Pasts.{Past}
-use Rattle.mt_descent.specs.KeptWalks.{IsKept}
-use Rattle.mt_descent.specs.WalkMoves.{Continues, after_change}
-use Rattle.mt_descent.proofs.Ways.{same_stands}
-use Rattle.mt_scan.specs.Snaps.{prefix_in}
-use Rattle.mt_scan.specs.Checks.{collects, kept_seen, at_fence, walk_to, GoesBehind, IsCheck}
-use Rattle.mt_scan.specs.Hops.{KeptHop}
+use Rattle.mt_arena.specs.{NodeView.NodeView, Accesses.at}
+use Rattle.mt_operation.specs.{declared.phase.Phase.Phase, declared.phase.Phase.TheVariants.{Enter, Check, Hop, Done}, declared.walk.Walk.Walk}
+use Rattle.mt_operation.specs.{declared.scan.Scan.{Scan as Memory}, declared.scan.Stop.Stop, declared.outcome.Outcome.Outcome}
+use Rattle.mt_operation.specs.{declared.operation.Operation.Operation, Tasks.ask, Operations.{ScanView, view_of, scan_of, moved}}
+use Rattle.mt_operation.specs.{Phases.{is_done, MayFollow, IsOfKind}, Tables.{op_at as operation_at}}
+use Rattle.mt_descent.{specs.{Pasts.Past, KeptWalks.IsKept, WalkMoves.{Continues, after_change}}, proofs.Ways.same_stands}
+use Rattle.mt_scan.specs.{Snaps.prefix_in, Checks.{collects, kept_seen, at_fence, walk_to, GoesBehind, IsCheck}, Hops.KeptHop}
 use Rattle.mt_stretches.specs.Scanned.{maps_of, HasScanned, IsSeenTo, HasSeen}
-use Rattle.mt_stretches.proofs.Beginning.{seen_stays}
-use Rattle.mt_stretches.proofs.Checking.{checked_on, checked_off, checked_short, dropped}
-use Rattle.mt_state.specs.Views.{Core, shown, past_of}
-use Rattle.mt_state.specs.Steps.{told_change}
-use Rattle.mt_state.specs.Notes.{Notes}
-use Rattle.mt_state.specs.Ways.{IsOnWay}
-use Rattle.mt_state.specs.KeptOperations.{HasScannedFor, IsOpenOperation, IsChecking, IsHopping, HasAnswer, IsKeptAt}
-use Rattle.mt_state.specs.Invariant.{StateInvariant}
-use Rattle.mt_state.proofs.Decides.{same_or_not}
-use Rattle.mt_state.proofs.Descents.{Leads, changed_leads}
-use Rattle.mt_state.proofs.Telling.{Gives}
-use Rattle.mt_state.proofs.Quiet.{quiet}
-use Rattle.mt_state.proofs.Moved.{first_begun, first_upto, first_same}
-use Rattle.mt_state.proofs.Still.{IsFree, IsUnready}
-use Rattle.mt_state.proofs.Reading.{walk_same}
-use Rattle.mt_state.proofs.Scanning.{went_scan, scans, next_past, longer, still_scanned, scan_gives}
-use Rattle.mt_state.proofs.ScanLooks.{scan_leads, scan_stopped}
-use Rattle.mt_state.proofs.ScanNeeds.{sorted_pairs}
+use Rattle.mt_stretches.proofs.{Beginning.seen_stays, Checking.{checked_on, checked_off, checked_short, dropped}}
+use Rattle.mt_state.specs.{Views.{Core, shown, past_of}, Steps.told_change, Notes.Notes, Ways.IsOnWay}
+use Rattle.mt_state.specs.{KeptOperations.{HasScannedFor, IsOpenOperation, IsChecking, IsHopping, HasAnswer, IsKeptAt}, Invariant.StateInvariant}
+use Rattle.mt_state.proofs.{Decides.same_or_not, Descents.{Leads, changed_leads}, Telling.Gives, Quiet.quiet, Moved.{first_begun, first_upto, first_same}}
+use Rattle.mt_state.proofs.{Still.{IsFree, IsUnready}, Reading.walk_same, Scanning.{went_scan, scans, next_past, longer, still_scanned, scan_gives}}
+use Rattle.mt_state.proofs.{ScanLooks.{scan_leads, scan_stopped}, ScanNeeds.sorted_pairs}
+use Rattle.mt_operation.specs.declared.walk.Aim.TheVariants as aims
+use Rattle.mt_operation.specs.declared.scan.Stop.TheVariants as stops
 
 -- where the version stands, the scan goes on by Hop, or is done
 hops_or_ends : (prefix : Bytes) (stop : Stop) (s is : ScanView) (w x : Walk) → GoesBehind prefix stop s is w x → (x.phase ≡ Hop) ⊎ (x.phase ≡ Done)

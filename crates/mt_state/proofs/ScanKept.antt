@@ -1,19 +1,12 @@
 -- What a scan has done, and that it stays so: for Rely and Moving.
-use Rattle.std.proofs.Common.{◌≡◌, ℕ, ◌<◌, subst, sym, ap, arith}
-use Rattle.std.specs.Prelude.{◌^◌}
-use Rattle.mt_slices.specs.Keys.{IsStoredKey, stored_key, tenant_of}
-use Rattle.mt_slices.proofs.Numbers.{number, number_lt, tenant_of-number}
-use Rattle.mt_rows.specs.declared.command.Command.{Command}
-use Rattle.mt_rows.specs.declared.command.Command.TheVariants.{Get, Put, Remove, Scan}
-use Rattle.mt_rows.specs.Rows.{Bytes}
+use Rattle.std.{proofs.Common.{◌≡◌, ℕ, ◌<◌, subst, sym, ap, arith}, specs.Prelude.{◌^◌}}
+use Rattle.mt_slices.{specs.Keys.{IsStoredKey, stored_key, tenant_of}, proofs.Numbers.{number, number_lt, tenant_of-number}}
+use Rattle.mt_rows.specs.{declared.command.Command.Command, declared.command.Command.TheVariants.{Get, Put, Remove, Scan}, Rows.Bytes}
 use Rattle.mt_rows.specs.Commands.{key_of, HasCount}
-use Rattle.mt_operation.specs.declared.operation.Operation.{Operation}
-use Rattle.mt_operation.specs.Operations.{ScanView, scan_of, no_scan}
-use Rattle.mt_operation.specs.Tasks.{ask}
+use Rattle.mt_operation.specs.{declared.operation.Operation.Operation, Operations.{ScanView, scan_of, no_scan}, Tasks.ask}
 use Rattle.mt_descent.specs.Pasts.{Past, ExtendsPast}
 use Rattle.mt_stretches.proofs.Beginning.{scan_begins, scanned_stays}
-use Rattle.mt_state.specs.Views.{Core}
-use Rattle.mt_state.specs.KeptOperations.{IsOpenOperation, HasScannedFor}
+use Rattle.mt_state.specs.{Views.Core, KeptOperations.{IsOpenOperation, HasScannedFor}}
 
 -- it stays while the past goes on
 pub scanned_for_stays : (before now : Past) (first : ℕ) → ExtendsPast first before now → (command : Command) (s : ScanView)

@@ -1,50 +1,26 @@
 -- A scan that sees the pairs of its border node, hops on behind them, or has no memory: for `State::snap`, `check` and `hop`.
-use Rattle.std.proofs.Common.{◌≡◌, ◌≢◌, ℕ, ◌+◌, ◌<◌, Bool, true, false, cond, Option, Some, None, refl, sym, ap, subst, ◌∙◌, arith}
+use Rattle.std.proofs.{Common.{◌≡◌, ◌≢◌, ℕ, ◌+◌, ◌<◌, Bool, true, false, cond, Option, Some, None, refl, sym, ap, subst, ◌∙◌, arith}, lemmas.Option.same_Some}
 use Rattle.std.specs.Prelude.{◌^◌}
-use Rattle.std.proofs.lemmas.Option.{same_Some}
 use Rattle.mt_slices.specs.Keys.{IsStoredKey, tenant_of}
-use Rattle.mt_rows.specs.declared.reply.Reply.TheVariants.{NoMemory}
-use Rattle.mt_rows.specs.Rows.{Bytes}
+use Rattle.mt_rows.specs.{declared.reply.Reply.TheVariants.NoMemory, Rows.Bytes}
 use Rattle.mt_version.specs.Parts.{Parts}
 use Rattle.mt_walks.specs.Walked.{IsWithin}
-use Rattle.mt_arena.specs.NodeFacts.{TellsKind}
-use Rattle.mt_arena.specs.Arena.{IsArena}
-use Rattle.mt_arena.specs.Accesses.{at}
-use Rattle.mt_operation.specs.declared.walk.Aim.{Aim}
-use Rattle.mt_operation.specs.declared.walk.Aim.TheVariants as aims
-use Rattle.mt_operation.specs.declared.phase.Phase.{Phase}
-use Rattle.mt_operation.specs.declared.phase.Phase.TheVariants.{Enter, Snap, Check, Hop, Done}
-use Rattle.mt_operation.specs.declared.walk.Walk.{Walk}
-use Rattle.mt_operation.specs.declared.scan.Scan.{Scan as Memory}
-use Rattle.mt_operation.specs.declared.scan.Stop.{Stop}
-use Rattle.mt_operation.specs.declared.scan.Stop.TheVariants as stops
-use Rattle.mt_operation.specs.declared.outcome.Outcome.{Outcome}
-use Rattle.mt_operation.specs.declared.operation.Operation.{Operation}
-use Rattle.mt_operation.specs.Tasks.{ask}
-use Rattle.mt_operation.specs.Operations.{view_of, scan_of, moved}
-use Rattle.mt_operation.specs.Phases.{is_done, MayFollow, IsOfKind}
+use Rattle.mt_arena.specs.{NodeFacts.TellsKind, Arena.IsArena, Accesses.at}
+use Rattle.mt_operation.specs.{declared.walk.Aim.Aim, declared.phase.Phase.Phase, declared.phase.Phase.TheVariants.{Enter, Snap, Check, Hop, Done}}
+use Rattle.mt_operation.specs.{declared.walk.Walk.Walk, declared.scan.Scan.{Scan as Memory}, declared.scan.Stop.Stop, declared.outcome.Outcome.Outcome}
+use Rattle.mt_operation.specs.{declared.operation.Operation.Operation, Tasks.ask, Operations.{view_of, scan_of, moved}, Phases.{is_done, MayFollow, IsOfKind}}
 use Rattle.mt_operation.specs.Tables.{op_at as operation_at}
-use Rattle.mt_descent.specs.Pasts.{Past}
-use Rattle.mt_descent.specs.Seen.{RangeStands}
-use Rattle.mt_descent.specs.KeptWalks.{IsAtBorder, KeptAt, IsKept}
-use Rattle.mt_descent.specs.WalkMoves.{Continues, arrival_at, walk_into, walk_onto}
-use Rattle.mt_scan.specs.Snaps.{prefix_in, IsSnap}
-use Rattle.mt_scan.specs.Hops.{IsAtHop, IsAtCheck, KeptHop, HopsTo}
-use Rattle.mt_stretches.specs.Scanned.{HasSeen}
-use Rattle.mt_stretches.proofs.Snapping.{snap_sees}
-use Rattle.mt_state.specs.Views.{Core, shown, map_of, past_of}
-use Rattle.mt_state.specs.Steps.{told_change}
-use Rattle.mt_state.specs.Notes.{Notes}
+use Rattle.mt_descent.specs.{Pasts.Past, Seen.RangeStands, KeptWalks.{IsAtBorder, KeptAt, IsKept}, WalkMoves.{Continues, arrival_at, walk_into, walk_onto}}
+use Rattle.mt_scan.specs.{Snaps.{prefix_in, IsSnap}, Hops.{IsAtHop, IsAtCheck, KeptHop, HopsTo}}
+use Rattle.mt_stretches.{specs.Scanned.HasSeen, proofs.Snapping.snap_sees}
+use Rattle.mt_state.specs.{Views.{Core, shown, map_of, past_of}, Steps.told_change, Notes.Notes}
 use Rattle.mt_state.specs.KeptOperations.{HasScannedFor, IsOpenOperation, IsOnItsWay, IsChecking, IsHopping, HasAnswer, IsBound, IsKeptAt}
 use Rattle.mt_state.specs.Invariant.{StateInvariant}
-use Rattle.mt_state.proofs.Lawful.{stopped_free, scan_no_remove}
-use Rattle.mt_state.proofs.Descents.{Leads, first_aside}
-use Rattle.mt_state.proofs.Telling.{Gives}
-use Rattle.mt_state.proofs.Quiet.{quiet}
-use Rattle.mt_state.proofs.Moved.{first_begun, first_upto}
-use Rattle.mt_state.proofs.Still.{IsFree, IsUnready}
-use Rattle.mt_state.proofs.Reading.{reads_untold, walk_same, now_is, on_way_unready, on_way_open, kept_on_way}
+use Rattle.mt_state.proofs.{Lawful.{stopped_free, scan_no_remove}, Descents.{Leads, first_aside}, Telling.Gives, Quiet.quiet, Moved.{first_begun, first_upto}}
+use Rattle.mt_state.proofs.{Still.{IsFree, IsUnready}, Reading.{reads_untold, walk_same, now_is, on_way_unready, on_way_open, kept_on_way}}
 use Rattle.mt_state.proofs.Scanning.{went_scan, seen_aside, scans, still_scanned, scan_gives}
+use Rattle.mt_operation.specs.declared.walk.Aim.TheVariants as aims
+use Rattle.mt_operation.specs.declared.scan.Stop.TheVariants as stops
 
 -- an operation that scans doesn't write
 pub scan_not_write : (aim : Aim) → aim ≡ aims.Scan → aim ≢ aims.Write

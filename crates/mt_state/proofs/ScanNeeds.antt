@@ -1,36 +1,19 @@
 -- What the calls of a scan's phases require, from the invariant; and that what a scan shows may be shown.
 use Rattle.std.proofs.Common.{◌≡◌, ◌<◌, ℕ, Bool, true, false, ◌&&◌, T, List, [], ◌∷◌, map, Some, None, refl, sym, ap, subst, ◌∙◌, cond}
-use Rattle.std.specs.List.{AllByRecursion}
-use Rattle.std.specs.List.Sorted.{IsStrictlySortedBy}
-use Rattle.std.specs.Ordering.{nat_cmp, is_lt}
-use Rattle.std.specs.declared.cmp.Ordering.TheVariants.{Less}
-use Rattle.std.specs.declared.cmp.Ordering.{Ordering}
-use Rattle.std.specs.Cmp.Lexicographic.{slice_cmp}
-use Rattle.std.specs.FinMap.Entries.{below_all, is_sorted}
-use Rattle.mt_rows.specs.declared.command.Command.{Command}
-use Rattle.mt_rows.specs.declared.command.Command.TheVariants.{Get, Put, Remove, Scan}
-use Rattle.mt_rows.specs.Rows.{Bytes, Columns}
-use Rattle.mt_rows.specs.Commands.{HasColumns, key_of}
-use Rattle.mt_rows.specs.Maps.{is_scan}
-use Rattle.mt_operation.specs.declared.walk.Aim.TheVariants as aims
-use Rattle.mt_operation.specs.declared.phase.Phase.{Phase}
-use Rattle.mt_operation.specs.declared.phase.Phase.TheVariants.{Enter, Snap, Check, Hop}
-use Rattle.mt_operation.specs.declared.operation.Operation.{Operation}
-use Rattle.mt_operation.specs.Tasks.{ask}
-use Rattle.mt_operation.specs.Operations.{ScanView, scan_of, view_of}
-use Rattle.mt_operation.specs.Phases.{is_done, IsOfKind, Kind}
-use Rattle.mt_operation.specs.Phases as kinds
-use Rattle.mt_operation.specs.Tables.{op_at as operation_at}
+use Rattle.std.specs.{List.AllByRecursion, List.Sorted.IsStrictlySortedBy, Ordering.{nat_cmp, is_lt}, declared.cmp.Ordering.TheVariants.Less}
+use Rattle.std.specs.{declared.cmp.Ordering.Ordering, Cmp.Lexicographic.slice_cmp, FinMap.Entries.{below_all, is_sorted}}
+use Rattle.mt_rows.specs.{declared.command.Command.Command, declared.command.Command.TheVariants.{Get, Put, Remove, Scan}, Rows.{Bytes, Columns}}
+use Rattle.mt_rows.specs.{Commands.{HasColumns, key_of}, Maps.is_scan}
+use Rattle.mt_operation.specs.{declared.phase.Phase.Phase, declared.phase.Phase.TheVariants.{Enter, Snap, Check, Hop}, declared.operation.Operation.Operation}
+use Rattle.mt_operation.specs.{Tasks.ask, Operations.{ScanView, scan_of, view_of}, Phases.{is_done, IsOfKind, Kind}, Tables.{op_at as operation_at}}
 use Rattle.mt_descent.specs.KeptWalks.{IsAtBorder, KeptAt}
-use Rattle.mt_scan.specs.Checks.{MayCheck}
-use Rattle.mt_scan.specs.Hops.{IsAtCheck, KeptHop}
-use Rattle.mt_state.specs.Views.{Core, past_of}
-use Rattle.mt_state.specs.KeptOperations.{HasScannedFor, IsOpenOperation, IsOnItsWay, IsChecking, IsHopping, IsKeptAt}
-use Rattle.mt_state.specs.Invariant.{StateInvariant}
+use Rattle.mt_scan.specs.{Checks.MayCheck, Hops.{IsAtCheck, KeptHop}}
+use Rattle.mt_state.specs.{Views.{Core, past_of}, KeptOperations.{HasScannedFor, IsOpenOperation, IsOnItsWay, IsChecking, IsHopping, IsKeptAt}}
+use Rattle.mt_state.specs.{Invariant.StateInvariant, Phases.{key_sought, StaysScanned}}
+use Rattle.mt_state.proofs.{Lawful.aim_scan, Reading.key_of_owner}
 use Rattle.mt_slices.specs.Keys.{stored_key}
-use Rattle.mt_state.specs.Phases.{key_sought, StaysScanned}
-use Rattle.mt_state.proofs.Lawful.{aim_scan}
-use Rattle.mt_state.proofs.Reading.{key_of_owner}
+use Rattle.mt_operation.specs.declared.walk.Aim.TheVariants as aims
+use Rattle.mt_operation.specs.Phases as kinds
 
 module _ (c : Core) (o : ℕ) (h : StateInvariant c) (op : Operation) (there : operation_at c.table o ≡ Some op) where
   always : IsOpenOperation c op

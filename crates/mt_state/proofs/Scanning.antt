@@ -1,34 +1,19 @@
 -- A step of a scan, which holds nothing and leaves all nodes as they were: for `State::snap`, `check` and `hop`.
 use Rattle.std.proofs.Common.{◌≡◌, ℕ, ◌+◌, ◌<◌, inl, inr, Bool, true, false, List, Option, Some, None, refl, sym, ap, subst, ◌∙◌, arith}
-use Rattle.std.specs.Prelude.{◌^◌}
 use Rattle.std.proofs.lemmas.Bool.{both_ways}
+use Rattle.std.specs.Prelude.{◌^◌}
 use Rattle.mt_slices.specs.Keys.{IsStoredKey, tenant_of}
-use Rattle.mt_rows.specs.declared.command.Command.{Command}
-use Rattle.mt_rows.specs.declared.command.Command.TheVariants.{Get, Put, Remove, Scan}
-use Rattle.mt_rows.specs.Rows.{Bytes, Columns}
-use Rattle.mt_rows.specs.Maps.{is_scan}
-use Rattle.mt_operation.specs.declared.walk.Aim.TheVariants as aims
-use Rattle.mt_operation.specs.declared.walk.Walk.{Walk}
-use Rattle.mt_operation.specs.declared.scan.Scan.{Scan as Memory}
-use Rattle.mt_operation.specs.declared.scan.Stop.{Stop}
-use Rattle.mt_operation.specs.declared.outcome.Outcome.{Outcome}
-use Rattle.mt_operation.specs.declared.operation.Operation.{Operation}
-use Rattle.mt_operation.specs.Tasks.{ask}
-use Rattle.mt_operation.specs.Operations.{ScanView, view_of, scan_of, moved}
-use Rattle.mt_operation.specs.Phases.{is_done, MayFollow, IsOfKind}
-use Rattle.mt_operation.specs.Tables.{op_at as operation_at}
+use Rattle.mt_rows.specs.{declared.command.Command.Command, declared.command.Command.TheVariants.{Get, Put, Remove, Scan}, Rows.{Bytes, Columns}, Maps.is_scan}
+use Rattle.mt_operation.specs.{declared.walk.Walk.Walk, declared.scan.Scan.{Scan as Memory}, declared.scan.Stop.Stop, declared.outcome.Outcome.Outcome}
+use Rattle.mt_operation.specs.{declared.operation.Operation.Operation, Tasks.ask, Operations.{ScanView, view_of, scan_of, moved}}
+use Rattle.mt_operation.specs.{Phases.{is_done, MayFollow, IsOfKind}, Tables.{op_at as operation_at}}
 use Rattle.mt_descent.specs.Pasts.{Past, ExtendsPast}
-use Rattle.mt_state.specs.Views.{Core, shown, past_of}
-use Rattle.mt_state.specs.Steps.{told_change, change_in}
-use Rattle.mt_state.specs.Notes.{Notes}
-use Rattle.mt_state.specs.KeptOperations.{HasScannedFor, KeepsScan, IsOpenOperation, IsKeptAt, IsKeptOf}
-use Rattle.mt_state.specs.Invariant.{StateInvariant}
-use Rattle.mt_state.proofs.Lawful.{aim_scan}
-use Rattle.mt_state.proofs.ScanKept.{scanned_for_stays}
-use Rattle.mt_state.proofs.Quiet.{quiet, quiet_move, is_quiet}
-use Rattle.mt_state.proofs.Telling.{Gives, gives}
+use Rattle.mt_state.specs.{Views.{Core, shown, past_of}, Steps.{told_change, change_in}, Notes.Notes}
+use Rattle.mt_state.specs.{KeptOperations.{HasScannedFor, KeepsScan, IsOpenOperation, IsKeptAt, IsKeptOf}, Invariant.StateInvariant}
+use Rattle.mt_state.proofs.{Lawful.aim_scan, ScanKept.scanned_for_stays, Quiet.{quiet, quiet_move, is_quiet}, Telling.{Gives, gives}}
 use Rattle.mt_state.proofs.Moved.{open_moved, first_same}
 use Rattle.mt_state.proofs.Still.{IsFree, IsUnready, floor_made, leaves_all, free_open, free_unsplit, free_unready, unready_none, holds_nothing}
+use Rattle.mt_operation.specs.declared.walk.Aim.TheVariants as aims
 
 -- a scan that has walked on by the step of this number, with this fence, this of what it remembers, and an outcome or none
 abbrev pub went_scan : Operation → ℕ → Bytes → Walk → Memory → Option Outcome → Operation

@@ -1,11 +1,7 @@
 -- The table as it is shown, by the table that is inside: for all calls.
-use Rattle.std.proofs.Common.{◌≡◌, ℕ, zero, suc, [], ◌∷◌, set, Option, Some, None, refl, sym, ap, ◌∙◌}
-use Rattle.std.specs.Prelude.{map}
-use Rattle.std.specs.Option.{option_map}
-use Rattle.std.proofs.lemmas.Option.{same_Some}
-use Rattle.mt_operation.specs.declared.operation.Operation.{Operation}
-use Rattle.mt_operation.specs.Operations.{OperationView, view_of}
-use Rattle.mt_operation.specs.Tables.{Table, op_at as operation_at}
+use Rattle.std.proofs.{Common.{◌≡◌, ℕ, zero, suc, [], ◌∷◌, set, Option, Some, None, refl, sym, ap, ◌∙◌}, lemmas.Option.same_Some}
+use Rattle.std.specs.{Prelude.map, Option.option_map}
+use Rattle.mt_operation.specs.{declared.operation.Operation.Operation, Operations.{OperationView, view_of}, Tables.{Table, op_at as operation_at}}
 use Rattle.mt_state.specs.Views.{Shown, op_at}
 
 -- what is shown of a table

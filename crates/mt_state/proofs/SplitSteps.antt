@@ -1,63 +1,34 @@
 -- The steps of a split that move no pair: it starts or stops, its right halves climb, and all locks are given back: for a put whose node is full.
 use Rattle.std.proofs.Common.{◌≡◌, ◌≢◌, ℕ, ◌+◌, ◌-◌, ◌<◌, ◌⊎◌, inl, inr, true, false, List, [], ◌∷◌, length, Option, Some, None, refl, sym, ap, subst, ◌∙◌, arith}
+use Rattle.std.proofs.{lemmas.Bool.{cases_eq, both_ways}, lemmas.Option.same_Some}
 use Rattle.std.specs.Prelude.{◌^◌}
-use Rattle.std.proofs.lemmas.Bool.{cases_eq, both_ways}
-use Rattle.std.proofs.lemmas.Option.{same_Some}
 use Rattle.mt_rows.specs.declared.reply.Reply.TheVariants.{NoMemory}
 use Rattle.mt_tape.specs.Tapes.{Kept}
-use Rattle.mt_arena.specs.declared.tree.Tree.{Tree}
-use Rattle.mt_arena.specs.NodeView.{NodeView}
-use Rattle.mt_arena.specs.Edits.{unlocked}
-use Rattle.mt_arena.specs.Forests.{tree_at}
-use Rattle.mt_arena.specs.Contents.{counts}
-use Rattle.mt_arena.specs.Arena.{ArenaView, content_of, Guarantee}
-use Rattle.mt_arena.specs.Accesses.{at, IsHeld, with_node, with_half}
-use Rattle.mt_operation.specs.declared.walk.Aim.{Aim}
-use Rattle.mt_operation.specs.declared.walk.Aim.TheVariants as aims
-use Rattle.mt_operation.specs.declared.phase.Phase.{Phase}
+use Rattle.mt_arena.specs.{declared.tree.Tree.Tree, NodeView.NodeView, Edits.unlocked, Forests.tree_at, Contents.counts}
+use Rattle.mt_arena.specs.{Arena.{ArenaView, content_of, Guarantee}, Accesses.{at, IsHeld, with_node, with_half}}
+use Rattle.mt_operation.specs.{declared.walk.Aim.Aim, declared.phase.Phase.Phase}
 use Rattle.mt_operation.specs.declared.phase.Phase.TheVariants.{Enter, SplitStart, SplitMove, SplitPrev, LockParent, InsertChild, InteriorSplit, Reparent, RootGrow, Unlock, Done}
-use Rattle.mt_operation.specs.declared.walk.Walk.{Walk}
-use Rattle.mt_operation.specs.declared.outcome.Outcome.{Outcome}
-use Rattle.mt_operation.specs.declared.splits.Halves.{Halves}
-use Rattle.mt_operation.specs.declared.splits.Splits.{Splits}
-use Rattle.mt_operation.specs.declared.operation.Operation.{Operation}
-use Rattle.mt_operation.specs.Operations.{OperationView, view_of}
+use Rattle.mt_operation.specs.{declared.walk.Walk.Walk, declared.outcome.Outcome.Outcome, declared.splits.Halves.Halves, declared.splits.Splits.Splits}
+use Rattle.mt_operation.specs.{declared.operation.Operation.Operation, Operations.{OperationView, view_of}}
 use Rattle.mt_operation.specs.Phases.{is_done, MayFollow, IsOfKind, has_splits, IsClimb, FitsAim, IsClimbKind, Kind, change_at, holds_of, may_be_parts, row, is_unplaced, is_to_come}
-use Rattle.mt_operation.specs.Tasks.{ask}
-use Rattle.mt_remove.specs.Writes.{is_remove}
-use Rattle.mt_operation.specs.Tables.{op_at as operation_at}
-use Rattle.mt_held.specs.Taping.{released}
-use Rattle.mt_insert.specs.KeptSplits.{IsAmong, IsAtSplitMove, IsAtUnlockAll, KeptSplit, HoldsSplits}
-use Rattle.mt_insert.specs.Unlock.{Returns, IsUnlockAll}
-use Rattle.mt_state.specs.Views.{StateView, Core, shown, map_of}
-use Rattle.mt_state.specs.Steps.{told_change}
-use Rattle.mt_state.specs.Notes.{Notes, Keeps}
-use Rattle.mt_state.specs.Promises.{IsAnswer, Touches}
-use Rattle.mt_state.specs.KeptOperations.{IsOpenOperation, IsSplitStarting, IsSplitMoving, HasAnswer, MayUnlock, IsUnlocking, IsKeptAt, IsClimbing, IsKeptFor}
-use Rattle.mt_state.specs.Invariant.{IsCountedUpTo, HoldsLast, HoldsAt, StateInvariant, HoldsBy, DeletedAreEmpty}
-use Rattle.mt_state.specs.Writes.{splitting}
-use Rattle.mt_state.proofs.Rely.{answer_stays}
-use Rattle.mt_state.proofs.Telling.{Gives}
-use Rattle.mt_state.proofs.Quiet.{LeavesPairs, HasPairsOf, same_slots}
-use Rattle.mt_state.proofs.Moved.{went_with, first_same, first_begun, first_upto}
-use Rattle.mt_state.proofs.Still.{IsUnready, unready_none, IsUnreadyBy}
-use Rattle.mt_state.proofs.Reading.{walk_same}
-use Rattle.mt_state.proofs.OneNode.{same_counts, returning_by, returning_told, counted_unlocked, replaced_at, replaced_touches, replaced_leaves, quiet_grows, holds_here, quiet_gives_with}
-use Rattle.mt_state.proofs.Locking.{ready_one, room_for}
-use Rattle.mt_state.proofs.Growing.{makes_same}
-use Rattle.mt_insert.specs.SplitStart.{IsSplitStart, IsSplitStopped}
-use Rattle.mt_insert.specs.Climbs.{IsClimbFrom}
-use Rattle.mt_held.specs.Holds.{HoldsOnly}
-use Rattle.mt_insert.specs.KeptPuts.{IsAtSplitStart}
-use Rattle.mt_held.specs.Moves.{walk_at}
-use Rattle.mt_descent.specs.WalkMoves.{Continues}
-use Rattle.mt_state.proofs.Climbing.{LeavesNodes, MovesNoPair, moves_by}
-use Rattle.mt_state.proofs.ClimbingNodes.{climb_leaves, climb_keeps, climb_follows, climb_some, begun_leaves}
-use Rattle.mt_operation.specs.declared.prepared.Prepared.{Prepared}
-use Rattle.mt_operation.specs.Phases as kinds
+use Rattle.mt_operation.specs.{Tasks.ask, Tables.{op_at as operation_at}, declared.prepared.Prepared.Prepared}
 use Rattle.mt_operation.proofs.Phases.{by_climb}
-use Rattle.mt_state.proofs.Lawful.{lawful_more, stopped_free}
+use Rattle.mt_remove.specs.Writes.{is_remove}
+use Rattle.mt_held.specs.{Taping.released, Holds.HoldsOnly, Moves.walk_at}
+use Rattle.mt_insert.specs.{KeptSplits.{IsAmong, IsAtSplitMove, IsAtUnlockAll, KeptSplit, HoldsSplits}, Unlock.{Returns, IsUnlockAll}}
+use Rattle.mt_insert.specs.{SplitStart.{IsSplitStart, IsSplitStopped}, Climbs.IsClimbFrom, KeptPuts.IsAtSplitStart}
+use Rattle.mt_state.specs.{Views.{StateView, Core, shown, map_of}, Steps.told_change, Notes.{Notes, Keeps}, Promises.{IsAnswer, Touches}}
+use Rattle.mt_state.specs.KeptOperations.{IsOpenOperation, IsSplitStarting, IsSplitMoving, HasAnswer, MayUnlock, IsUnlocking, IsKeptAt, IsClimbing, IsKeptFor}
+use Rattle.mt_state.specs.{Invariant.{IsCountedUpTo, HoldsLast, HoldsAt, StateInvariant, HoldsBy, DeletedAreEmpty}, Writes.splitting}
+use Rattle.mt_state.proofs.{Rely.answer_stays, Telling.Gives, Quiet.{LeavesPairs, HasPairsOf, same_slots}}
+use Rattle.mt_state.proofs.{Moved.{went_with, first_same, first_begun, first_upto}, Still.{IsUnready, unready_none, IsUnreadyBy}, Reading.walk_same}
+use Rattle.mt_state.proofs.OneNode.{same_counts, returning_by, returning_told, counted_unlocked, replaced_at, replaced_touches, replaced_leaves, quiet_grows, holds_here, quiet_gives_with}
+use Rattle.mt_state.proofs.{Locking.{ready_one, room_for}, Growing.makes_same, Climbing.{LeavesNodes, MovesNoPair, moves_by}}
+use Rattle.mt_state.proofs.{ClimbingNodes.{climb_leaves, climb_keeps, climb_follows, climb_some, begun_leaves}, Lawful.{lawful_more, stopped_free}}
+use Rattle.mt_descent.specs.WalkMoves.{Continues}
 use Rattle.mt_walks.specs.Walked.{IsWithin}
+use Rattle.mt_operation.specs.declared.walk.Aim.TheVariants as aims
+use Rattle.mt_operation.specs.Phases as kinds
 
 -- the right half of the full border node was made
 pub record StartsSplit (c : Core) (o : ℕ) (op : Operation) (arena : ArenaView) (w : Walk) (s : Splits) : Type 0 where

@@ -1,28 +1,15 @@
 -- A step of an operation that holds nothing, which leaves all nodes as they were: for `State::descend`, `search`, `load` and `confirm`.
-use Rattle.std.proofs.Common.{◌≡◌, ℕ, ◌+◌, ◌<◌, ◌≤◌, inl, Bool, false, length, Option, Some, refl, sym, ap, subst, ◌∙◌, arith}
+use Rattle.std.proofs.{Common.{◌≡◌, ℕ, ◌+◌, ◌<◌, ◌≤◌, inl, Bool, false, length, Option, Some, refl, sym, ap, subst, ◌∙◌, arith}, lemmas.Option.same_Some}
 use Rattle.std.specs.Prelude.{◌^◌, if◌then◌else◌}
-use Rattle.std.proofs.lemmas.Option.{same_Some}
 use Rattle.mt_tape.proofs.EntryLaws.{floor_upto_last}
-use Rattle.mt_arena.specs.Arena.{ArenaView, Guarantee}
-use Rattle.mt_arena.specs.Accesses.{at}
-use Rattle.mt_arena.proofs.Guarantees.{guarantee_none}
-use Rattle.mt_operation.specs.declared.phase.Phase.{Phase}
-use Rattle.mt_operation.specs.declared.phase.Phase.TheVariants.{Done}
-use Rattle.mt_operation.specs.declared.walk.Walk.{Walk}
-use Rattle.mt_operation.specs.declared.outcome.Outcome.{Outcome}
-use Rattle.mt_operation.specs.declared.operation.Operation.{Operation}
-use Rattle.mt_operation.specs.Operations.{view_of}
+use Rattle.mt_arena.{specs.{Arena.{ArenaView, Guarantee}, Accesses.at}, proofs.Guarantees.guarantee_none}
+use Rattle.mt_operation.specs.{declared.phase.Phase.Phase, declared.phase.Phase.TheVariants.Done, declared.walk.Walk.Walk, declared.outcome.Outcome.Outcome}
+use Rattle.mt_operation.specs.{declared.operation.Operation.Operation, Operations.view_of}
 use Rattle.mt_operation.specs.Phases.{is_done, MayFollow, IsOfKind, has_splits, Change, Kind, Ready, change_at, holds_of, is_ready, may_be_parts, row}
 use Rattle.mt_operation.specs.Tables.{op_at as operation_at}
-use Rattle.mt_state.specs.Views.{StateView, Core, shown}
-use Rattle.mt_state.specs.Steps.{change_in}
-use Rattle.mt_state.specs.Notes.{Notes}
-use Rattle.mt_state.specs.KeptOperations.{IsKeptAt, IsKeptOf}
+use Rattle.mt_state.specs.{Views.{StateView, Core, shown}, Steps.change_in, Notes.Notes, KeptOperations.{IsKeptAt, IsKeptOf}}
 use Rattle.mt_state.specs.Invariant.{IsTape, HoldsAt, StateInvariant, one_if_prepared, HoldsBy}
-use Rattle.mt_state.proofs.Quiet.{quiet, LeavesPairs, quiet_move, is_quiet}
-use Rattle.mt_state.proofs.Telling.{Gives, gives}
-use Rattle.mt_state.proofs.Moved.{went, open_moved, has_moved}
-use Rattle.mt_state.proofs.Growing.{makes_same}
+use Rattle.mt_state.proofs.{Quiet.{quiet, LeavesPairs, quiet_move, is_quiet}, Telling.{Gives, gives}, Moved.{went, open_moved, has_moved}, Growing.makes_same}
 use Rattle.mt_operation.specs.Phases as kinds
 
 -- the tape's floor is a step that was made

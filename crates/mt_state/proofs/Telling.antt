@@ -1,21 +1,13 @@
 -- What a step that was made may tell of itself: for all phases.
-use Rattle.std.proofs.Common.{◌≡◌, ℕ, ◌+◌, ◌<◌, ◌≤◌, Bool, true, List, Some, sym, ap, subst, ◌∙◌, arith}
-use Rattle.std.specs.Prelude.{◌^◌}
+use Rattle.std.{proofs.Common.{◌≡◌, ℕ, ◌+◌, ◌<◌, ◌≤◌, Bool, true, List, Some, sym, ap, subst, ◌∙◌, arith}, specs.Prelude.{◌^◌}}
 use Rattle.mt_rows.specs.Tenants.{tenant_map}
 use Rattle.mt_tape.proofs.TapeLaws.{contents_at-now}
 use Rattle.mt_arena.specs.Arena.{content_of, IsArena}
-use Rattle.mt_operation.specs.declared.phase.Phase.{Phase}
-use Rattle.mt_operation.specs.declared.phase.Phase.TheVariants.{Done}
-use Rattle.mt_operation.specs.declared.operation.Operation.{Operation}
-use Rattle.mt_operation.specs.Operations.{view_of}
+use Rattle.mt_operation.specs.{declared.phase.Phase.Phase, declared.phase.Phase.TheVariants.Done, declared.operation.Operation.Operation, Operations.view_of}
 use Rattle.mt_operation.specs.Phases.{is_done}
-use Rattle.mt_state.specs.Views.{StateView, Core, shown, map_of}
-use Rattle.mt_state.specs.Promises.{IsStep}
-use Rattle.mt_state.specs.KeptOperations.{HasAnswer, IsKeptAt}
-use Rattle.mt_state.specs.Invariant.{AreLogs, IsTape, StateInvariant}
-use Rattle.mt_state.proofs.Shown.{shown_table, shown_there, shown_set}
-use Rattle.mt_state.specs.Moves.{IsMove, IsTold}
-use Rattle.mt_state.proofs.Moving.{invariant_stays}
+use Rattle.mt_state.specs.{Views.{StateView, Core, shown, map_of}, Promises.IsStep, KeptOperations.{HasAnswer, IsKeptAt}}
+use Rattle.mt_state.specs.{Invariant.{AreLogs, IsTape, StateInvariant}, Moves.{IsMove, IsTold}}
+use Rattle.mt_state.proofs.{Shown.{shown_table, shown_there, shown_set}, Moving.invariant_stays}
 
 -- a step leaves the logs as they are
 pub logs_later : (logs : List ℕ) (floor steps : ℕ) → AreLogs logs floor steps → AreLogs logs floor (steps + 1)

@@ -1,40 +1,20 @@
 -- A step keeps that all maps since the floor keep their quotas, and that each entry's row is made by a change: for all phases.
 use Rattle.std.proofs.Common.{◌≡◌, ℕ, ◌+◌, ◌≤◌, inl, inr, true, [], ◌∷◌, ◌++◌, Option, Some, None, refl, sym, ap, subst, ◌∙◌, arith, IsSome}
-use Rattle.std.specs.Prelude.{if◌then◌else◌}
-use Rattle.std.specs.List.{All, Contains}
-use Rattle.std.specs.FinMap.{len}
-use Rattle.std.proofs.lemmas.Bool.{cases_lt}
-use Rattle.std.proofs.lemmas.Option.{same_Some}
-use Rattle.std.proofs.lemmas.List.Elements.{All-push, All-contains, Contains-push_cases}
-use Rattle.mt_rows.specs.declared.tenants.Account.{Account}
-use Rattle.mt_rows.specs.Rows.{columns_of, Columns}
-use Rattle.mt_rows.specs.Changes.{changed}
-use Rattle.mt_rows.specs.Commands.{HasColumns, HasShortColumns}
-use Rattle.mt_rows.specs.Maps.{is_change}
-use Rattle.mt_rows.specs.Accounts.{account_of}
-use Rattle.mt_rows.specs.Tenants.{tenant_map}
-use Rattle.mt_tape.specs.declared.entry.Entry.{Entry as TapeEntry}
-use Rattle.mt_tape.specs.Tapes.{last_step_over}
-use Rattle.mt_tape.proofs.EntryLaws.{all_upto_last}
-use Rattle.mt_tape.proofs.TapeLaws.{map_at-now}
+use Rattle.std.proofs.{lemmas.Bool.cases_lt, lemmas.Option.same_Some, lemmas.List.Elements.{All-push, All-contains, Contains-push_cases}}
+use Rattle.std.specs.{Prelude.{if◌then◌else◌}, List.{All, Contains}, FinMap.len}
+use Rattle.mt_rows.specs.{declared.tenants.Account.Account, Rows.{columns_of, Columns}, Changes.changed, Commands.{HasColumns, HasShortColumns}, Maps.is_change}
+use Rattle.mt_rows.specs.{Accounts.account_of, Tenants.tenant_map}
+use Rattle.mt_tape.{specs.{declared.entry.Entry.{Entry as TapeEntry}, Tapes.last_step_over}, proofs.{EntryLaws.all_upto_last, TapeLaws.map_at-now}}
 use Rattle.mt_arena.specs.Arena.{content_of}
-use Rattle.mt_operation.specs.declared.walk.Aim.TheVariants as aims
 use Rattle.mt_operation.specs.declared.task.Request.{Request}
-use Rattle.mt_operation.specs.declared.task.Request.TheVariants.{Get as GetOf, Put as PutOf, Remove as RemoveOf, Scan as ScanOf}
-use Rattle.mt_operation.specs.declared.task.Task.{Task}
-use Rattle.mt_operation.specs.declared.operation.Operation.{Operation}
-use Rattle.mt_operation.specs.Tasks.{command_of, ask, aim_of}
-use Rattle.mt_operation.specs.Operations.{view_of}
+use Rattle.mt_operation.specs.{declared.task.Request.TheVariants.{Get as GetOf, Put as PutOf, Remove as RemoveOf, Scan as ScanOf}, declared.task.Task.Task}
+use Rattle.mt_operation.specs.{declared.operation.Operation.Operation, Tasks.{command_of, ask, aim_of}, Operations.view_of}
 use Rattle.mt_insert.specs.Puts.{change_of, is_put}
-use Rattle.mt_state.specs.Views.{Core, shown, granted_in, quota_of}
-use Rattle.mt_state.specs.Steps.{told_change, change_in}
-use Rattle.mt_state.specs.Promises.{IsPlacing}
-use Rattle.mt_state.specs.KeptOperations.{IsPlacedOnce}
-use Rattle.mt_state.specs.Written.{KeepsQuotas, IsMadeByChange, row_left}
-use Rattle.mt_state.specs.Invariant.{StateInvariant}
-use Rattle.mt_state.specs.Moves.{IsMove, IsTold}
+use Rattle.mt_state.specs.{Views.{Core, shown, granted_in, quota_of}, Steps.{told_change, change_in}, Promises.IsPlacing, KeptOperations.IsPlacedOnce}
+use Rattle.mt_state.specs.{Written.{KeepsQuotas, IsMadeByChange, row_left}, Invariant.StateInvariant, Moves.{IsMove, IsTold}}
 use Rattle.mt_state.proofs.Replies.{change_writes}
 use Rattle.mt_remove.specs.Writes.{is_remove}
+use Rattle.mt_operation.specs.declared.walk.Aim.TheVariants as aims
 
 -- an account that has its quota still was there
 account_was : (now was : Option Account) (a : Account) → granted_in now ≡ granted_in was → now ≡ Some a → (b : Account) × (was ≡ Some b) × (b.quota ≡ a.quota)

@@ -1,19 +1,12 @@
 -- A new state, and what a begin and a take make of a state.
 use Rattle.std.specs.Prelude.{◌≡◌, ◌≢◌, ℕ, ◌+◌, ◌<◌, max, true, [], replicate, Some, None, slice_set}
-use Rattle.mt_rows.specs.declared.command.Command.{Command}
-use Rattle.mt_rows.specs.declared.tenants.Account.{Account}
-use Rattle.mt_rows.specs.Accounts.{Accounts, account_of}
-use Rattle.mt_rows.specs.Commands.{key_of}
+use Rattle.mt_rows.specs.{declared.command.Command.Command, declared.tenants.Account.Account, Accounts.{Accounts, account_of}, Commands.key_of}
 use Rattle.mt_slices.specs.Keys.{stored_key}
 use Rattle.mt_runs.specs.declared.event.Answer.{Answer}
 use Rattle.mt_arena.specs.Accesses.{new_arena}
-use Rattle.mt_operation.specs.declared.phase.Phase.TheVariants.{Enter, Done}
-use Rattle.mt_operation.specs.Walks.{walk_from_top}
-use Rattle.mt_operation.specs.Operations.{OperationView, no_splits, no_removal, no_scan}
-use Rattle.mt_operation.specs.Tasks.{aim_of}
-use Rattle.mt_operation.specs.Phases.{is_done}
-use Rattle.mt_state.specs.Views.{StateView, Shown, op_at}
-use Rattle.mt_state.specs.Promises.{IsAnswer}
+use Rattle.mt_operation.specs.{declared.phase.Phase.TheVariants.{Enter, Done}, Walks.walk_from_top, Operations.{OperationView, no_splits, no_removal, no_scan}}
+use Rattle.mt_operation.specs.{Tasks.aim_of, Phases.is_done}
+use Rattle.mt_state.specs.{Views.{StateView, Shown, op_at}, Promises.IsAnswer}
 
 -- a state in which nothing has happened, for so many logs
 abbrev pub new_state : ℕ → Accounts → StateView

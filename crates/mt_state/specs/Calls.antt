@@ -3,17 +3,10 @@ use Rattle.std.specs.Prelude.{◌≡◌, ℕ, ◌+◌, ◌≤◌, Bool, Option}
 use Rattle.mt_slices.specs.Keys.{IsStoredKey}
 use Rattle.mt_rows.specs.Rows.{Columns}
 use Rattle.mt_border.specs.declared.entry.Find.{Find}
-use Rattle.mt_arena.specs.Accesses.{at}
-use Rattle.mt_operation.specs.declared.task.Task.{Task}
-use Rattle.mt_operation.specs.declared.walk.Walk.{Walk}
-use Rattle.mt_operation.specs.declared.operation.Operation.{Operation}
-use Rattle.mt_descent.specs.Pasts.{Past, IsNow, AreStamped}
-use Rattle.mt_descent.specs.KeptWalks.{IsAtConfirm, IsKept}
-use Rattle.mt_descent.specs.WalkMoves.{Continues, FindsIn, after_search, Loads, Confirms}
-use Rattle.mt_state.specs.Views.{Core, shown}
-use Rattle.mt_state.specs.Promises.{IsStep}
-use Rattle.mt_state.specs.Invariant.{StateInvariant}
-use Rattle.mt_arena.specs.Arena.{IsArena}
+use Rattle.mt_arena.specs.{Accesses.at, Arena.IsArena}
+use Rattle.mt_operation.specs.{declared.task.Task.Task, declared.walk.Walk.Walk, declared.operation.Operation.Operation}
+use Rattle.mt_descent.specs.{Pasts.{Past, IsNow, AreStamped}, KeptWalks.{IsAtConfirm, IsKept}, WalkMoves.{Continues, FindsIn, after_search, Loads, Confirms}}
+use Rattle.mt_state.specs.{Views.{Core, shown}, Promises.IsStep, Invariant.StateInvariant}
 
 -- a step of operation o that keeps the invariant, as the arena keeps its own, and does what a step may do
 pub record IsLawful (old new : Core) (o : ℕ) (done : Bool) : Type 0 where

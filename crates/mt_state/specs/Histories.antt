@@ -1,23 +1,12 @@
 -- What ties a run's story to the state that it led to.
-use Rattle.std.specs.Prelude.{◌≡◌, ◌≢◌, ℕ, ◌<◌, ◌≤◌, ◌^◌, true, false, ◌∷◌, [], Option, Some, None, IsSome}
-use Rattle.std.specs.List.{All}
-use Rattle.std.specs.Ordering.{nat_cmp}
+use Rattle.std.specs.{Prelude.{◌≡◌, ◌≢◌, ℕ, ◌<◌, ◌≤◌, ◌^◌, true, false, ◌∷◌, [], Option, Some, None, IsSome}, List.All, Ordering.nat_cmp}
 use Rattle.std.specs.BTreeMap.{BTreeMap, get}
-use Rattle.mt_runs.specs.declared.event.Answer.{Answer}
-use Rattle.mt_runs.specs.declared.event.Event.{Event}
-use Rattle.mt_runs.specs.declared.event.Event.TheVariants.{Begin, Step}
-use Rattle.mt_runs.specs.declared.event.Told.{Told}
+use Rattle.mt_runs.specs.{declared.event.Answer.Answer, declared.event.Event.Event, declared.event.Event.TheVariants.{Begin, Step}, declared.event.Told.Told}
 use Rattle.mt_runs.specs.declared.event.Told.TheVariants.{Begun, Refused, NoSuch, Moved, Again, NoMemory, Spent, Done}
-use Rattle.mt_runs.specs.Runs.{Run, Story, last_step, owner, Finished, IsFirst, IsLast}
-use Rattle.mt_runs.specs.Placings.{Quotas, Maps}
-use Rattle.mt_runs.specs.Right.{Right}
-use Rattle.mt_operation.specs.Operations.{OperationView}
-use Rattle.mt_state.specs.Views.{StateView, Shown, op_at, map_of, changed_at, quota_of}
-use Rattle.mt_state.specs.Steps.{change_in}
-use Rattle.mt_state.specs.Promises.{IsStep, IsHeldByOther, HasStep, IsPlacedToGrow}
-use Rattle.mt_operation.specs.Phases.{is_unplaced}
-use Rattle.mt_state.specs.Refused.{IsAdmissible, IsRefusal}
-use Rattle.mt_state.specs.Begins.{IsWorker, Begins, Takes}
+use Rattle.mt_runs.specs.{Runs.{Run, Story, last_step, owner, Finished, IsFirst, IsLast}, Placings.{Quotas, Maps}, Right.Right}
+use Rattle.mt_operation.specs.{Operations.OperationView, Phases.is_unplaced}
+use Rattle.mt_state.specs.{Views.{StateView, Shown, op_at, map_of, changed_at, quota_of}, Steps.change_in}
+use Rattle.mt_state.specs.{Promises.{IsStep, IsHeldByOther, HasStep, IsPlacedToGrow}, Refused.{IsAdmissible, IsRefusal}, Begins.{IsWorker, Begins, Takes}}
 
 -- for what each name of a run stands: nothing was begun by it, its operation's answer was taken, or its operation has this id
 abbrev pub Names : Type 0

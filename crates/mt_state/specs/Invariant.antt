@@ -1,32 +1,18 @@
 -- The invariant of a state, and what a step of one operation leaves of it to all others.
-use Rattle.std.specs.Prelude.{◌≡◌, ℕ, ◌+◌, ◌==◌, ◌≤◌, ◌<◌, ◌^◌, true, if◌then◌else◌, List, [], ◌∷◌, length, Option, Some, None, IsSome}
-use Rattle.std.specs.List.{All, Contains}
+use Rattle.std.specs.{Prelude.{◌≡◌, ℕ, ◌+◌, ◌==◌, ◌≤◌, ◌<◌, ◌^◌, true, if◌then◌else◌, List, [], ◌∷◌, length, Option, Some, None, IsSome}, List.{All, Contains}}
 use Rattle.std.specs.FinMap.{len}
-use Rattle.mt_rows.specs.declared.tenants.Account.{Account}
-use Rattle.mt_rows.specs.Rows.{Bytes}
-use Rattle.mt_rows.specs.Commands.{IsKey}
-use Rattle.mt_rows.specs.Accounts.{account_of}
-use Rattle.mt_rows.specs.Tenants.{tenant_map}
+use Rattle.mt_rows.specs.{declared.tenants.Account.Account, Rows.Bytes, Commands.IsKey, Accounts.account_of, Tenants.tenant_map}
 use Rattle.mt_border.specs.Contents.{AllStamped}
-use Rattle.mt_tape.specs.declared.entry.Entry.{Entry as TapeEntry}
-use Rattle.mt_tape.specs.Tapes.{Kept, RisesOver, last_write}
+use Rattle.mt_tape.specs.{declared.entry.Entry.{Entry as TapeEntry}, Tapes.{Kept, RisesOver, last_write}}
 use Rattle.mt_tape.specs.Histories.{IsLegalTape, IsUnwrittenSince, written_key}
-use Rattle.mt_arena.specs.NodeView.{NodeView}
-use Rattle.mt_arena.specs.Arena.{ArenaView, content_of, Guarantee}
-use Rattle.mt_arena.specs.Contents.{counts}
-use Rattle.mt_arena.specs.Accesses.{at, tree_of}
-use Rattle.mt_operation.specs.declared.phase.Phase.{Phase}
-use Rattle.mt_operation.specs.Phases.{Holding, Free, Border, Parts, Emptied, Last, row, is_prepared, holds_of}
-use Rattle.mt_operation.specs.declared.splits.Halves.{Halves}
-use Rattle.mt_operation.specs.declared.operation.Operation.{Operation}
-use Rattle.mt_operation.specs.Tables.{Table, op_at as operation_at}
-use Rattle.mt_descent.specs.Pasts.{ExtendsPast}
-use Rattle.mt_state.specs.Views.{Shown, Core, shown, past_of, KeepsPast}
+use Rattle.mt_arena.specs.{NodeView.NodeView, Arena.{ArenaView, content_of, Guarantee}, Contents.counts, Accesses.{at, tree_of}}
+use Rattle.mt_operation.specs.{declared.phase.Phase.Phase, Phases.{Holding, Free, Border, Parts, Emptied, Last, row, is_prepared, holds_of}}
+use Rattle.mt_operation.specs.{declared.splits.Halves.Halves, declared.operation.Operation.Operation, Tables.{Table, op_at as operation_at}}
 use Rattle.mt_operation.specs.Operations.{OperationView}
+use Rattle.mt_descent.specs.Pasts.{ExtendsPast}
+use Rattle.mt_state.specs.{Views.{Shown, Core, shown, past_of, KeepsPast}, KeptOperations.{IsKeptOf, IsScanKept}, Written.{KeepsQuotas, IsMadeByChange}}
 use Rattle.mt_insert.specs.KeptSplits.{IsAmong}
 use Rattle.mt_remove.specs.KeptRemovals.{IsAmong as IsOfRemoval}
-use Rattle.mt_state.specs.KeptOperations.{IsKeptOf, IsScanKept}
-use Rattle.mt_state.specs.Written.{KeepsQuotas, IsMadeByChange}
 
 -- the logs, at most 64: each was given its worker's changes up to a step that was made, and the tape goes back to that
 pub record AreLogs (logs : List ℕ) (floor steps : ℕ) : Type 0 where

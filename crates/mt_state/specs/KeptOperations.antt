@@ -1,47 +1,24 @@
 -- What a state keeps of each operation, by its phase.
-use Rattle.std.specs.Prelude.{◌≡◌, ◌≢◌, ℕ, ◌≤◌, ◌<◌, Bool, true, false, List, [], ◌∷◌, Option, Some, None, IsSome}
-use Rattle.std.specs.List.{Contains}
+use Rattle.std.specs.{Prelude.{◌≡◌, ◌≢◌, ℕ, ◌≤◌, ◌<◌, Bool, true, false, List, [], ◌∷◌, Option, Some, None, IsSome}, List.Contains}
 use Rattle.mt_slices.specs.Keys.{IsStoredKey, stored_key, tenant_of}
-use Rattle.mt_rows.specs.declared.command.Command.{Command}
-use Rattle.mt_rows.specs.declared.command.Command.TheVariants.{Scan}
-use Rattle.mt_rows.specs.declared.reply.Reply.TheVariants as replies
-use Rattle.mt_rows.specs.Rows.{Columns, shown as columns_shown}
-use Rattle.mt_rows.specs.Commands.{key_of, HasColumns, HasShortColumns, HasCount}
-use Rattle.mt_rows.specs.Accounts.{account_of}
-use Rattle.mt_rows.specs.Maps.{is_scan}
+use Rattle.mt_rows.specs.{declared.command.Command.Command, declared.command.Command.TheVariants.Scan, Rows.{Columns, shown as columns_shown}}
+use Rattle.mt_rows.specs.{Commands.{key_of, HasColumns, HasShortColumns, HasCount}, Accounts.account_of, Maps.is_scan}
 use Rattle.mt_border.specs.Contents.{owned}
 use Rattle.mt_tape.specs.declared.entry.Entry.{Entry as TapeEntry}
-use Rattle.mt_arena.specs.Arena.{ArenaView}
-use Rattle.mt_arena.specs.Accesses.{at}
-use Rattle.mt_operation.specs.declared.phase.Phase.{Phase}
-use Rattle.mt_operation.specs.declared.phase.Phase.TheVariants.{Enter, Load, Confirm, Store, Unlock, Check, Hop}
-use Rattle.mt_operation.specs.declared.walk.Taken.{Taken}
-use Rattle.mt_operation.specs.declared.walk.Taken.TheVariants.{Missing, Row, Link, Nothing}
-use Rattle.mt_operation.specs.declared.outcome.Outcome.{Outcome}
-use Rattle.mt_operation.specs.declared.prepared.Prepared.{Prepared}
-use Rattle.mt_operation.specs.declared.operation.Operation.{Operation}
-use Rattle.mt_operation.specs.Phases.{IsOfKind, has_splits, is_done, Kind, row}
-use Rattle.mt_operation.specs.Tasks.{ask, aim_of}
-use Rattle.mt_operation.specs.declared.splits.Halves.{Halves}
-use Rattle.mt_operation.specs.Operations.{ScanView, view_of, scan_of, no_scan, IsUnsplit, no_removal}
-use Rattle.mt_insert.specs.Puts.{is_put}
-use Rattle.mt_descent.specs.Pasts.{Past}
-use Rattle.mt_descent.specs.Seen.{RangeStands}
-use Rattle.mt_descent.specs.KeptWalks.{HasSlot, IsKept}
-use Rattle.mt_scan.specs.Snaps.{prefix_in}
-use Rattle.mt_scan.specs.Hops.{IsAtCheck, KeptHop}
+use Rattle.mt_arena.specs.{Arena.ArenaView, Accesses.at}
+use Rattle.mt_operation.specs.{declared.phase.Phase.Phase, declared.phase.Phase.TheVariants.{Enter, Load, Confirm, Store, Unlock, Check, Hop}}
+use Rattle.mt_operation.specs.{declared.walk.Taken.Taken, declared.walk.Taken.TheVariants.{Missing, Row, Link, Nothing}, declared.outcome.Outcome.Outcome}
+use Rattle.mt_operation.specs.{declared.prepared.Prepared.Prepared, declared.operation.Operation.Operation, Phases.{IsOfKind, has_splits, is_done, Kind, row}}
+use Rattle.mt_operation.specs.{Tasks.{ask, aim_of}, declared.splits.Halves.Halves, Operations.{ScanView, view_of, scan_of, no_scan, IsUnsplit, no_removal}}
+use Rattle.mt_insert.specs.{Puts.is_put, KeptPuts.{IsAtStore, IsAtPublish, IsAtSplitStart}, KeptSplits.{IsAtSplitMove, IsAtUnlockAll, KeptSplit}}
+use Rattle.mt_descent.specs.{Pasts.Past, Seen.RangeStands, KeptWalks.{HasSlot, IsKept}}
+use Rattle.mt_scan.specs.{Snaps.prefix_in, Hops.{IsAtCheck, KeptHop}}
 use Rattle.mt_stretches.specs.Scanned.{HasScanned, HasSeen}
 use Rattle.mt_held.specs.Holds.{HoldsBorder, IsAtUnlock}
-use Rattle.mt_insert.specs.KeptPuts.{IsAtStore, IsAtPublish, IsAtSplitStart}
-use Rattle.mt_insert.specs.KeptSplits.{IsAtSplitMove, IsAtUnlockAll, KeptSplit}
 use Rattle.mt_layer.specs.KeptLayers.{KeptLayer}
-use Rattle.mt_remove.specs.Writes.{is_remove}
-use Rattle.mt_remove.specs.KeptRemovals.{IsAtDropKey, IsAtUnlockRemoval, KeptRemoval, IsCleaning}
-use Rattle.mt_state.specs.Written.{row_left}
-use Rattle.mt_state.specs.Views.{Core, shown, past_of}
-use Rattle.mt_state.specs.Notes.{Says, columns_asked}
-use Rattle.mt_state.specs.Steps.{change_in}
-use Rattle.mt_state.specs.Promises.{IsAnswer}
+use Rattle.mt_remove.specs.{Writes.is_remove, KeptRemovals.{IsAtDropKey, IsAtUnlockRemoval, KeptRemoval, IsCleaning}}
+use Rattle.mt_state.specs.{Written.row_left, Views.{Core, shown, past_of}, Notes.{Says, columns_asked}, Steps.change_in, Promises.IsAnswer}
+use Rattle.mt_rows.specs.declared.reply.Reply.TheVariants as replies
 use Rattle.mt_operation.specs.Phases as kinds
 
 -- what is kept of every operation: its key is one of its tenant's, which is there, and its command's, unless it is a scan, whose key is the fence that it has reached;

@@ -1,17 +1,9 @@
 -- What a step of one operation has to bring, so that the invariant stays and the step may be told.
 use Rattle.std.specs.Prelude.{◌≡◌, ℕ, ◌+◌, ◌<◌, ◌⊎◌, false, length, Some, slice_set}
 use Rattle.mt_arena.specs.Accesses.{at}
-use Rattle.mt_operation.specs.declared.operation.Operation.{Operation}
-use Rattle.mt_operation.specs.Operations.{view_of}
-use Rattle.mt_operation.specs.Phases.{is_done}
-use Rattle.mt_operation.specs.Tables.{op_at as operation_at}
-use Rattle.mt_state.specs.Views.{Core, shown}
-use Rattle.mt_state.specs.Steps.{HasMoved}
-use Rattle.mt_state.specs.Notes.{Notes}
-use Rattle.mt_state.specs.Promises.{IsQuiet, IsPlacing, Touches}
-use Rattle.mt_state.specs.KeptOperations.{IsKeptOf, KeepsScan}
-use Rattle.mt_state.specs.Growth.{MakesFew}
-use Rattle.mt_state.specs.Invariant.{IsTape, AreStamps, AreVersions, HoldsAt, AreCounted, DeletedAreEmpty, StateGuarantee, one_if_prepared}
+use Rattle.mt_operation.specs.{declared.operation.Operation.Operation, Operations.view_of, Phases.is_done, Tables.{op_at as operation_at}}
+use Rattle.mt_state.specs.{Views.{Core, shown}, Steps.HasMoved, Notes.Notes, Promises.{IsQuiet, IsPlacing, Touches}, KeptOperations.{IsKeptOf, KeepsScan}}
+use Rattle.mt_state.specs.{Growth.MakesFew, Invariant.{IsTape, AreStamps, AreVersions, HoldsAt, AreCounted, DeletedAreEmpty, StateGuarantee, one_if_prepared}}
 
 -- an operation is asked the same: nothing of its task has changed, but for the key of a scan
 abbrev pub IsStillAsked : Operation → Operation → Type 0

@@ -1,31 +1,21 @@
 -- The outcome of an operation: who sets it, and what it tells of the state that it was set in.
-use Rattle.std.specs.Prelude.{◌≡◌, ◌≢◌, ℕ, ◌+◌, ◌<◌, ◌≤◌, ◌⊎◌, List, Option, Some, None, length, Bool, true, false}
-use Rattle.std.specs.List.{Contains}
-use Rattle.std.specs.FinMap as pairs
-use Rattle.mt_rows.specs.declared.command.Command.{Command}
-use Rattle.mt_rows.specs.declared.command.Command.TheVariants.{Get}
-use Rattle.mt_rows.specs.declared.reply.Reply.{Reply}
-use Rattle.mt_rows.specs.declared.reply.Reply.TheVariants as replies
-use Rattle.mt_rows.specs.Rows.{Bytes, Columns, shown}
-use Rattle.mt_runs.specs.Scans.{Shown as ShownPairs}
+use Rattle.std.specs.{Prelude.{◌≡◌, ◌≢◌, ℕ, ◌+◌, ◌<◌, ◌≤◌, ◌⊎◌, List, Option, Some, None, length, Bool, true, false}, List.Contains}
+use Rattle.mt_rows.specs.{declared.command.Command.Command, declared.command.Command.TheVariants.Get, declared.reply.Reply.Reply, Rows.{Bytes, Columns, shown}}
 use Rattle.mt_rows.specs.Commands.{key_of}
-use Rattle.mt_slices.specs.Keys.{stored_key}
-use Rattle.mt_slices.specs.Slices.{slice_of}
+use Rattle.mt_runs.specs.Scans.{Shown as ShownPairs}
+use Rattle.mt_slices.specs.{Keys.stored_key, Slices.slice_of}
 use Rattle.mt_border.specs.declared.entry.FoundKind.TheVariants.{Link}
-use Rattle.mt_tape.specs.declared.entry.Entry.{Entry as TapeEntry}
-use Rattle.mt_tape.specs.Histories.{written_key}
+use Rattle.mt_tape.specs.{declared.entry.Entry.{Entry as TapeEntry}, Histories.written_key}
 use Rattle.mt_arena.specs.Accesses.{at}
-use Rattle.mt_descent.specs.KeptWalks.{GoesThrough, IsInSlot, HasSlot}
-use Rattle.mt_descent.specs.WalkMoves.{TakesOut}
+use Rattle.mt_descent.specs.{KeptWalks.{GoesThrough, IsInSlot, HasSlot}, WalkMoves.TakesOut}
 use Rattle.mt_operation.specs.declared.phase.Phase.{Phase}
 use Rattle.mt_operation.specs.declared.phase.Phase.TheVariants.{Enter, Search, Load, Confirm, Forward, Judge, Store, Publish, SplitStart, SplitMove, MakeLayer, DropKey, Unlock, Snap, Check, Hop, Done}
-use Rattle.mt_operation.specs.declared.walk.Taken.TheVariants.{Row}
-use Rattle.mt_operation.specs.declared.walk.Walk.{Walk}
-use Rattle.mt_operation.specs.declared.outcome.Outcome.{Outcome}
-use Rattle.mt_operation.specs.Operations.{OperationView}
-use Rattle.mt_state.specs.Views.{StateView, contents_of, map_of}
+use Rattle.mt_operation.specs.{declared.walk.Taken.TheVariants.Row, declared.walk.Walk.Walk, declared.outcome.Outcome.Outcome, Operations.OperationView}
 use Rattle.mt_operation.specs.Phases.{is_unplaced}
+use Rattle.mt_state.specs.Views.{StateView, contents_of, map_of}
 use Rattle.mt_remove.specs.Writes.{is_remove}
+use Rattle.std.specs.FinMap as pairs
+use Rattle.mt_rows.specs.declared.reply.Reply.TheVariants as replies
 
 -- the key that an operation is about, with its tenant
 abbrev pub key_asked : OperationView → ℕ × Bytes

@@ -1,10 +1,7 @@
 -- A run of one get, of which only one reply is right on a new state.
 use Rattle.std.specs.Prelude.{◌∷◌, []}
 use Rattle.mt_rows.specs.declared.reply.Reply.{Reply}
-use Rattle.mt_runs.specs.declared.event.Event.TheVariants.{Step}
-use Rattle.mt_runs.specs.declared.event.Told.TheVariants.{Moved}
-use Rattle.mt_runs.specs.Runs.{Run}
-use Rattle.mt_runs.specs.WrongRuns.{get_k, begins, ends_told}
+use Rattle.mt_runs.specs.{declared.event.Event.TheVariants.Step, declared.event.Told.TheVariants.Moved, Runs.Run, WrongRuns.{get_k, begins, ends_told}}
 
 -- a get of tenant 7 that searches, confirms and ends, and is told this reply by its second step
 abbrev pub one_get : Reply → Run

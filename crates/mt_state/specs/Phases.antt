@@ -3,50 +3,26 @@
 use Rattle.std.specs.Prelude.{◌≡◌, ℕ, ◌+◌, ◌⊎◌, false, if◌then◌else◌, length, Option, Some, None, ◌≢◌, List, [], ◌∷◌}
 use Rattle.mt_version.specs.Changes.{IsStable}
 use Rattle.mt_slices.specs.Keys.{stored_key}
-use Rattle.mt_rows.specs.declared.command.Command.{Command}
-use Rattle.mt_rows.specs.declared.command.Command.TheVariants.{Scan}
-use Rattle.mt_rows.specs.Rows.{Bytes, Columns}
-use Rattle.mt_rows.specs.Maps.{is_scan}
-use Rattle.mt_rows.specs.Commands.{key_of}
+use Rattle.mt_rows.specs.{declared.command.Command.Command, declared.command.Command.TheVariants.Scan, Rows.{Bytes, Columns}, Maps.is_scan, Commands.key_of}
 use Rattle.mt_border.specs.declared.entry.Find.{Find}
-use Rattle.mt_border.specs.declared.entry.Held.TheVariants as helds
-use Rattle.mt_border.specs.declared.entry.FoundKind.TheVariants as kinds
-use Rattle.mt_arena.specs.NodeView.{NodeView}
-use Rattle.mt_arena.specs.Forests.{tree_at}
-use Rattle.mt_arena.specs.Layers.{slot_at}
-use Rattle.mt_arena.specs.Arena.{ArenaView}
-use Rattle.mt_arena.specs.Accesses.{at}
+use Rattle.mt_arena.specs.{NodeView.NodeView, Forests.tree_at, Layers.slot_at, Arena.ArenaView, Accesses.at}
 use Rattle.mt_operation.specs.declared.phase.Phase.{Phase}
 use Rattle.mt_operation.specs.declared.phase.Phase.TheVariants.{Enter, Pick, Child, Verify, Search, Load, Confirm, Forward, Lock, Judge, Store, Publish, SplitStart, SplitMove, SplitPrev, LockParent, InsertChild, InteriorSplit, Reparent, RootGrow, MakeLayer, MarkUnstable, Link, MarkLayer, DropKey, LockPrev, LockAbove, Unlink, FixNext, Collapse, CleanLayer, Unlock, Snap, Check, Hop}
-use Rattle.mt_operation.specs.declared.walk.Taken.TheVariants as takens
-use Rattle.mt_operation.specs.declared.walk.Walk.{Walk}
-use Rattle.mt_operation.specs.declared.outcome.Outcome.{Outcome}
-use Rattle.mt_operation.specs.Operations.{OperationView, SplitsView, ScanView}
-use Rattle.mt_operation.specs.Phases.{is_done, Kind, row}
-use Rattle.mt_operation.specs.Phases as phase_kinds
-use Rattle.mt_descent.specs.Seen.{child_for}
-use Rattle.mt_descent.specs.KeptWalks.{IsInSlot, slice_in}
+use Rattle.mt_operation.specs.{declared.walk.Walk.Walk, declared.outcome.Outcome.Outcome, Operations.{OperationView, SplitsView, ScanView}}
+use Rattle.mt_operation.specs.{Phases.{is_done, Kind, row}, declared.removal.Removal.Removal, declared.splits.Halves.Halves}
+use Rattle.mt_descent.specs.{Seen.child_for, KeptWalks.{IsInSlot, slice_in}}
 use Rattle.mt_descent.specs.WalkMoves.{Verifies, FindsIn, Loads, Confirms, Locks, walk_into, walk_here, after_enter, after_pick, after_child, after_search, after_forward}
-use Rattle.mt_scan.specs.Snaps.{prefix_in, AreSettled, IsSnap}
-use Rattle.mt_scan.specs.Checks.{IsUnchanged, IsCheck}
-use Rattle.mt_scan.specs.Hops.{HopsTo}
+use Rattle.mt_scan.specs.{Snaps.{prefix_in, AreSettled, IsSnap}, Checks.{IsUnchanged, IsCheck}, Hops.HopsTo}
 use Rattle.mt_held.specs.Moves.{walk_placed, walk_done, walk_at}
-use Rattle.mt_insert.specs.Judge.{StandsIn, after_judge}
-use Rattle.mt_insert.specs.KeptSplits.{last_half}
-use Rattle.mt_insert.specs.SplitEdits.{for_parent, after_reparent}
-use Rattle.mt_insert.specs.SplitMove.{after_parting}
+use Rattle.mt_insert.specs.{Judge.{StandsIn, after_judge}, KeptSplits.last_half, SplitEdits.{for_parent, after_reparent}, SplitMove.after_parting}
 use Rattle.mt_layer.specs.NewLayers.{walk_linked}
-use Rattle.mt_state.specs.declared.moves.Move.{Move}
-use Rattle.mt_state.specs.declared.moves.Move.TheVariants.{Moved, Done as DoneMove}
-use Rattle.mt_state.specs.Views.{StateView, op_at}
-use Rattle.mt_operation.specs.declared.removal.Removal.{Removal}
-use Rattle.mt_operation.specs.declared.splits.Halves.{Halves}
-use Rattle.mt_remove.specs.RemovalEdits.{IsToUnlink, for_rest, after_unlink}
-use Rattle.mt_remove.specs.Unlinks.{IsChildBefore}
-use Rattle.mt_remove.specs.Judge.{IsAbsent}
-use Rattle.mt_remove.specs.CleanLayer.{LeadsTo as LeadsKey}
-use Rattle.mt_remove.specs.Unlock.{EmptiesLayer}
-use Rattle.mt_remove.specs.Ways.{IsJustBelow}
+use Rattle.mt_state.specs.{declared.moves.Move.Move, declared.moves.Move.TheVariants.{Moved, Done as DoneMove}, Views.{StateView, op_at}}
+use Rattle.mt_remove.specs.{RemovalEdits.{IsToUnlink, for_rest, after_unlink}, Unlinks.IsChildBefore, Judge.IsAbsent, CleanLayer.{LeadsTo as LeadsKey}}
+use Rattle.mt_remove.specs.{Unlock.EmptiesLayer, Ways.IsJustBelow}
+use Rattle.mt_border.specs.declared.entry.Held.TheVariants as helds
+use Rattle.mt_border.specs.declared.entry.FoundKind.TheVariants as kinds
+use Rattle.mt_operation.specs.declared.walk.Taken.TheVariants as takens
+use Rattle.mt_operation.specs.Phases as phase_kinds
 
 -- from Forward: by the next node, which is unmarked; where there is none, the walk stays at its own
 abbrev pub GoesForward : Option ℕ → ArenaView → Bytes → Walk → Walk → Type 0

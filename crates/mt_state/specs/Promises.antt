@@ -1,36 +1,21 @@
 -- What a step may do, and what it answers.
 use Rattle.std.specs.Prelude.{◌≡◌, ◌≢◌, ℕ, ◌+◌, ◌^◌, ◌<◌, ◌≤◌, ◌⊎◌, Bool, true, false, [], ◌∷◌, ◌++◌, Option, Some, None, IsSome, length, slice_set}
-use Rattle.std.specs.FinMap as pairs
 use Rattle.std.specs.Option.{option_map}
-use Rattle.mt_rows.specs.declared.reply.Reply.{Reply}
-use Rattle.mt_rows.specs.Commands.{key_of}
+use Rattle.mt_rows.specs.{declared.reply.Reply.Reply, Commands.key_of, Maps.{reply_of, is_change, is_no_memory, is_scan}, Tenants.tenant_map}
 use Rattle.mt_insert.specs.KeptSplits.{last_half}
-use Rattle.mt_rows.specs.Maps.{reply_of, is_change, is_no_memory, is_scan}
-use Rattle.mt_rows.specs.Tenants.{tenant_map}
 use Rattle.mt_tape.specs.declared.entry.Entry.{Entry as TapeEntry}
-use Rattle.mt_runs.specs.Placings.{maps_after_one}
-use Rattle.mt_runs.specs.Scans.{IsLawfulScan}
+use Rattle.mt_runs.specs.{Placings.maps_after_one, Scans.IsLawfulScan}
 use Rattle.mt_walks.specs.Walked.{IsWithin}
-use Rattle.mt_arena.specs.NodeView.{NodeView}
-use Rattle.mt_arena.specs.Edits.{pointed}
-use Rattle.mt_arena.specs.Arena.{ArenaView, Guarantee}
-use Rattle.mt_arena.specs.Forests.{tree_at}
-use Rattle.mt_arena.specs.Accesses.{at}
-use Rattle.mt_operation.specs.declared.phase.Phase.{Phase}
-use Rattle.mt_operation.specs.declared.walk.Walk.{Walk}
-use Rattle.mt_operation.specs.declared.removal.Removal.{Removal}
-use Rattle.mt_operation.specs.declared.outcome.Outcome.{Outcome}
+use Rattle.mt_arena.specs.{NodeView.NodeView, Edits.pointed, Arena.{ArenaView, Guarantee}, Forests.tree_at, Accesses.at}
+use Rattle.mt_operation.specs.{declared.phase.Phase.Phase, declared.walk.Walk.Walk, declared.removal.Removal.Removal, declared.outcome.Outcome.Outcome}
 use Rattle.mt_operation.specs.Operations.{OperationView, SplitsView, ScanView}
+use Rattle.mt_operation.specs.Phases.{Waiting, Never, RootMark, ChildMark, OwnMark, NextMark, OwnSlot, ReadSlot, OwnLock, ParentLock, BeforeLock, AboveLock, BelowLock, row, is_done, IsToGrow}
 use Rattle.mt_descent.specs.WalkMoves.{IsBlocked, IsBlockedAt}
 use Rattle.mt_scan.specs.Snaps.{IsBlockedAmong}
-use Rattle.mt_state.specs.declared.moves.Move.{Move}
-use Rattle.mt_state.specs.declared.moves.Move.TheVariants.{Moved, Again, NoMemory as NoMemoryMove, Done as DoneMove, Spent, NoSuch}
-use Rattle.mt_state.specs.Views.{StateView, contents_of, op_at, map_of, quota_of, KeepsPast, IsPlaced}
-use Rattle.mt_operation.specs.Phases.{Waiting, Never, RootMark, ChildMark, OwnMark, NextMark, OwnSlot, ReadSlot, OwnLock, ParentLock, BeforeLock, AboveLock, BelowLock, row, is_done, IsToGrow}
-use Rattle.mt_state.specs.Steps.{HasMoved, change_in}
-use Rattle.mt_state.specs.Notes.{key_asked, Notes}
-use Rattle.mt_state.specs.Growth.{MakesFew}
-use Rattle.mt_state.specs.Written.{row_left}
+use Rattle.mt_state.specs.{declared.moves.Move.Move, declared.moves.Move.TheVariants.{Moved, Again, NoMemory as NoMemoryMove, Done as DoneMove, Spent, NoSuch}}
+use Rattle.mt_state.specs.{Views.{StateView, contents_of, op_at, map_of, quota_of, KeepsPast, IsPlaced}, Steps.{HasMoved, change_in}, Notes.{key_asked, Notes}}
+use Rattle.mt_state.specs.{Growth.MakesFew, Written.row_left}
+use Rattle.std.specs.FinMap as pairs
 
 -- nothing of contents and tape changes, and the operation has made no other change
 pub record IsQuiet (old new : StateView) (before after : OperationView) : Type 0 where

@@ -1,10 +1,7 @@
 -- Which refusal a begin answers, and when.
 use Rattle.std.specs.Prelude.{◌≡◌, ◌≢◌, ℕ, ◌^◌, None, IsSome, Result, Ok, Err}
-use Rattle.mt_rows.specs.declared.command.Command.{Command}
-use Rattle.mt_rows.specs.declared.refusal.Refusal.{Refusal}
-use Rattle.mt_rows.specs.declared.refusal.Refusal.TheVariants.{Memory, NoTenant, Spent}
-use Rattle.mt_rows.specs.Commands.{IsTaken, IsFirstFault}
-use Rattle.mt_rows.specs.Accounts.{account_of}
+use Rattle.mt_rows.specs.{declared.command.Command.Command, declared.refusal.Refusal.Refusal, declared.refusal.Refusal.TheVariants.{Memory, NoTenant, Spent}}
+use Rattle.mt_rows.specs.{Commands.{IsTaken, IsFirstFault}, Accounts.account_of}
 use Rattle.mt_state.specs.Views.{StateView}
 
 -- why nothing is made of a command: its first fault, or want of memory where it has none

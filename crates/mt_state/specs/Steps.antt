@@ -3,9 +3,7 @@ use Rattle.std.specs.Prelude.{◌≡◌, ℕ, ◌==◌, if◌then◌else◌, Opt
 use Rattle.mt_rows.specs.Maps.{is_change}
 use Rattle.mt_operation.specs.declared.phase.Phase.{Phase}
 use Rattle.mt_operation.specs.declared.phase.Phase.TheVariants.{Enter, Search, Load, Lock, Store, Publish, Snap, Hop, MarkUnstable, Link, MarkLayer, SplitStart, LockParent, DropKey, Unlink, Unlock, Done}
-use Rattle.mt_operation.specs.declared.outcome.Outcome.{Outcome}
-use Rattle.mt_operation.specs.Phases.{MayFollow}
-use Rattle.mt_operation.specs.Operations.{OperationView}
+use Rattle.mt_operation.specs.{declared.outcome.Outcome.Outcome, Phases.MayFollow, Operations.OperationView}
 
 -- the operation is asked the same, of the same worker for the same tenant
 pub record IsSameAsked (before after : OperationView) : Type 0 where

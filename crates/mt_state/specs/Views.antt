@@ -1,17 +1,10 @@
 -- What a state shows, and the maps that it had.
-use Rattle.std.specs.Prelude.{◌≡◌, ℕ, ◌-◌, ◌≤◌, Bool, true, false, List, map, Option, Some, None, slice_index_or}
-use Rattle.std.specs.Option.{option_map}
-use Rattle.mt_rows.specs.declared.tenants.Account.{Account}
-use Rattle.mt_rows.specs.declared.command.Command.{Command}
-use Rattle.mt_rows.specs.declared.reply.Reply.{Reply}
-use Rattle.mt_rows.specs.Accounts.{Accounts, account_of}
-use Rattle.mt_rows.specs.Maps.{Map, reply_of, is_change}
-use Rattle.mt_rows.specs.Tenants.{Contents}
-use Rattle.mt_tape.specs.Tapes.{Kept}
-use Rattle.mt_tape.specs.Histories.{contents_at, map_at, is_changed}
+use Rattle.std.specs.{Prelude.{◌≡◌, ℕ, ◌-◌, ◌≤◌, Bool, true, false, List, map, Option, Some, None, slice_index_or}, Option.option_map}
+use Rattle.mt_rows.specs.{declared.tenants.Account.Account, declared.command.Command.Command, declared.reply.Reply.Reply, Accounts.{Accounts, account_of}}
+use Rattle.mt_rows.specs.{Maps.{Map, reply_of, is_change}, Tenants.Contents}
+use Rattle.mt_tape.specs.{Tapes.Kept, Histories.{contents_at, map_at, is_changed}}
 use Rattle.mt_arena.specs.Arena.{ArenaView, content_of}
-use Rattle.mt_operation.specs.Operations.{OperationView, view_of}
-use Rattle.mt_operation.specs.Tables.{Table}
+use Rattle.mt_operation.specs.{Operations.{OperationView, view_of}, Tables.Table}
 use Rattle.mt_descent.specs.Pasts.{Past}
 
 -- the operations by their ids, as they are shown: those that were begun and whose answer was not taken

@@ -1,18 +1,11 @@
 -- The way of an operation to its node: the phases in which it looks for it, and where they lead.
 use Rattle.std.specs.Prelude.{◌≡◌, ℕ, ◌+◌, List, Option, Some, None, slice_set}
-use Rattle.mt_rows.specs.declared.reply.Reply.TheVariants.{Found}
-use Rattle.mt_rows.specs.Rows.{Columns, shown}
-use Rattle.mt_operation.specs.declared.phase.Phase.{Phase}
-use Rattle.mt_operation.specs.declared.phase.Phase.TheVariants.{Search, Lock, Snap}
-use Rattle.mt_operation.specs.declared.walk.Walk.{Walk}
-use Rattle.mt_descent.specs.WalkMoves.{Continues}
-use Rattle.mt_operation.specs.Phases.{MayFollow, IsOfKind, IsDescent}
-use Rattle.mt_state.specs.Notes.{Says, columns_asked}
-use Rattle.mt_operation.specs.declared.outcome.Outcome.{Outcome}
-use Rattle.mt_operation.specs.declared.operation.Operation.{Operation}
-use Rattle.mt_operation.specs.Tasks.{ask}
+use Rattle.mt_rows.specs.{declared.reply.Reply.TheVariants.Found, Rows.{Columns, shown}}
+use Rattle.mt_operation.specs.{declared.phase.Phase.Phase, declared.phase.Phase.TheVariants.{Search, Lock, Snap}, declared.walk.Walk.Walk}
+use Rattle.mt_operation.specs.{Phases.{MayFollow, IsOfKind, IsDescent}, declared.outcome.Outcome.Outcome, declared.operation.Operation.Operation, Tasks.ask}
 use Rattle.mt_operation.specs.Operations.{moved}
-use Rattle.mt_state.specs.Views.{Core}
+use Rattle.mt_descent.specs.WalkMoves.{Continues}
+use Rattle.mt_state.specs.{Notes.{Says, columns_asked}, Views.Core}
 
 -- a phase in which an operation looks for its node, or is there
 abbrev pub IsOnWay : Phase → Type 0

@@ -3,16 +3,10 @@ use Rattle.std.specs.Prelude.{Option, Some, slice_set, ℕ, ◌+◌}
 use Rattle.mt_rows.specs.Accounts.{Accounts}
 use Rattle.mt_tape.specs.Tapes.{Kept}
 use Rattle.mt_arena.specs.Arena.{ArenaView}
-use Rattle.mt_operation.specs.declared.walk.Walk.{Walk}
-use Rattle.mt_operation.specs.declared.outcome.Outcome.{Outcome}
-use Rattle.mt_operation.specs.declared.prepared.Prepared.{Prepared}
-use Rattle.mt_operation.specs.declared.operation.Operation.{Operation}
-use Rattle.mt_operation.specs.declared.splits.Splits.{Splits}
-use Rattle.mt_operation.specs.declared.scan.Scan.{Scan}
-use Rattle.mt_operation.specs.declared.task.Task.{Task}
-use Rattle.mt_operation.specs.Operations.{moved}
+use Rattle.mt_operation.specs.{declared.walk.Walk.Walk, declared.outcome.Outcome.Outcome, declared.prepared.Prepared.Prepared}
+use Rattle.mt_operation.specs.{declared.operation.Operation.Operation, declared.splits.Splits.Splits, declared.scan.Scan.Scan, declared.task.Task.Task}
+use Rattle.mt_operation.specs.{Operations.moved, declared.removal.Removal.Removal}
 use Rattle.mt_state.specs.Views.{Core}
-use Rattle.mt_operation.specs.declared.removal.Removal.{Removal}
 
 -- a state in which operation o has walked on by one more step, with this outcome and what it has made ready, and with another arena, tape and accounts
 abbrev pub wrote : Core → ArenaView → Kept → Accounts → ℕ → Operation → Walk → Option Outcome → Option Prepared → Core

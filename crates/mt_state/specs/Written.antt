@@ -1,15 +1,10 @@
 -- What holds of every number that the tape goes back to, and of every entry of the tape.
-use Rattle.std.specs.Prelude.{◌≡◌, ℕ, ◌-◌, ◌≤◌, ◌⊎◌, Option, Some, None, IsSome}
-use Rattle.std.specs.FinMap as pairs
-use Rattle.std.specs.FinMap.{len}
-use Rattle.mt_rows.specs.declared.tenants.Account.{Account}
-use Rattle.mt_rows.specs.declared.command.Command.{Command}
-use Rattle.mt_rows.specs.declared.command.Command.TheVariants.{Put, Remove}
-use Rattle.mt_rows.specs.Rows.{Columns, columns_of}
-use Rattle.mt_rows.specs.Changes.{Named, IsChange, changed}
-use Rattle.mt_rows.specs.Accounts.{account_of}
+use Rattle.std.specs.{Prelude.{◌≡◌, ℕ, ◌-◌, ◌≤◌, ◌⊎◌, Option, Some, None, IsSome}, FinMap.len}
+use Rattle.mt_rows.specs.{declared.tenants.Account.Account, declared.command.Command.Command, declared.command.Command.TheVariants.{Put, Remove}}
+use Rattle.mt_rows.specs.{Rows.{Columns, columns_of}, Changes.{Named, IsChange, changed}, Accounts.account_of}
 use Rattle.mt_tape.specs.declared.entry.Entry.{Entry as TapeEntry}
 use Rattle.mt_state.specs.Views.{StateView, map_of}
+use Rattle.std.specs.FinMap as pairs
 
 -- each tenant had at most its quota of pairs after every step from the tape's floor on
 abbrev pub KeepsQuotas : StateView → Type 0

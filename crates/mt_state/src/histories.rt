@@ -2,18 +2,10 @@
 //! alone: no code runs.
 
 ghost use Rattle.std.specs.Prelude.{◌≡◌, ◌⊎◌, ℕ, true, Some};
-ghost use Rattle.mt_rows.specs.declared.tenants.Account.{Account};
-ghost use Rattle.mt_rows.specs.Accounts.{Accounts, account_of};
-ghost use Rattle.mt_rows.specs.Maps.{is_get};
-ghost use Rattle.mt_rows.specs.declared.reply.Reply.TheVariants.{Absent, Found, NoMemory};
-ghost use Rattle.mt_rows.specs.Rows.{Columns};
-ghost use Rattle.mt_runs.specs.declared.event.Answer.{Answer};
-ghost use Rattle.mt_runs.specs.Runs.{Run, Asked, Finished, story_of};
-ghost use Rattle.mt_runs.specs.Placings.{no_pairs, HasOneOrder};
-ghost use Rattle.mt_state.specs.Views.{StateView, quota_in};
-ghost use Rattle.mt_state.specs.Begins.{new_state};
-ghost use Rattle.mt_state.specs.Histories.{Names, no_names, BringsTo};
-ghost use Rattle.mt_state.specs.OneGet.{one_get};
+ghost use Rattle.mt_rows.specs.{declared.tenants.Account.Account, Accounts.{Accounts, account_of}, Maps.is_get};
+ghost use Rattle.mt_rows.specs.{declared.reply.Reply.TheVariants.{Absent, Found, NoMemory}, Rows.Columns};
+ghost use Rattle.mt_runs.specs.{declared.event.Answer.Answer, Runs.{Run, Asked, Finished, story_of}, Placings.{no_pairs, HasOneOrder}};
+ghost use Rattle.mt_state.specs.{Views.{StateView, quota_in}, Begins.new_state, Histories.{Names, no_names, BringsTo}, OneGet.one_get};
 
 /// One order explains each run of events on a new state that were answered as they may be, whichever
 /// operations it began, and in whatever turn they made their steps.

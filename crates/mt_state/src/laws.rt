@@ -3,33 +3,18 @@
 
 ghost use Rattle.std.specs.Prelude.{◌≡◌, ◌≢◌, ◌+◌, ◌<◌, ◌≤◌, ◌^◌, ℕ, Bool, true, false, Option, Some, None, length};
 ghost use Rattle.mt_version.specs.Changes.{IsStable};
-ghost use Rattle.mt_arena.specs.Arena.{ArenaView, IsArena};
-ghost use Rattle.mt_arena.specs.Layers.{slot_at};
-ghost use Rattle.mt_arena.specs.NodeFacts.{IsUnstable};
-ghost use Rattle.mt_arena.specs.Accesses.{at};
-ghost use Rattle.mt_operation.specs.declared.phase.Phase.{Phase};
-ghost use Rattle.mt_operation.specs.declared.phase.Phase.TheVariants.{Search, Load, Confirm, Snap, Done};
-ghost use Rattle.mt_operation.specs.declared.outcome.Outcome.{Outcome};
-ghost use Rattle.mt_operation.specs.declared.operation.Operation.{Operation};
-ghost use Rattle.mt_operation.specs.declared.removal.Removal.{Removal};
-ghost use Rattle.mt_operation.specs.Operations.{OperationView, SplitsView, ScanView};
-ghost use Rattle.mt_operation.specs.Phases.{is_done, IsDescent};
-ghost use Rattle.mt_state.specs.Views.{StateView, Core, shown, KeepsPast};
-ghost use Rattle.mt_state.specs.Steps.{LeavesOut};
-ghost use Rattle.mt_state.specs.Promises.{IsAnswer, IsInTheWay, needed_node, locks_next, Touches, IsStep};
-ghost use Rattle.mt_state.specs.KeptOperations.{IsKeptOf, IsScanKept};
-ghost use Rattle.mt_state.specs.Invariant.{StateInvariant, StateGuarantee};
-ghost use Rattle.mt_operation.specs.declared.walk.Walk.{Walk};
+ghost use Rattle.mt_arena.specs.{Arena.{ArenaView, IsArena}, Layers.slot_at, NodeFacts.IsUnstable, Accesses.at};
+ghost use Rattle.mt_operation.specs.{declared.phase.Phase.Phase, declared.phase.Phase.TheVariants.{Search, Load, Confirm, Snap, Done}};
+ghost use Rattle.mt_operation.specs.{declared.outcome.Outcome.Outcome, declared.operation.Operation.Operation, declared.removal.Removal.Removal};
+ghost use Rattle.mt_operation.specs.{Operations.{OperationView, SplitsView, ScanView}, Phases.{is_done, IsDescent}, declared.walk.Walk.Walk};
 ghost use Rattle.mt_operation.specs.Tables.{op_at as operation_at};
-ghost use Rattle.mt_descent.specs.Pasts.{Past};
-ghost use Rattle.mt_descent.specs.KeptWalks.{IsKept};
-ghost use Rattle.mt_state.specs.Moves.{IsMove, IsTold};
-ghost use Rattle.mt_rows.specs.Rows.{Columns};
-ghost use Rattle.mt_rows.specs.declared.reply.Reply.TheVariants.{Absent, NoMemory};
-ghost use Rattle.mt_border.specs.declared.entry.Find.{Find};
-ghost use Rattle.mt_descent.specs.WalkMoves.{Continues};
-ghost use Rattle.mt_state.specs.Ways.{Descends, walked, ShowsTaken};
+ghost use Rattle.mt_state.specs.{Views.{StateView, Core, shown, KeepsPast}, Steps.LeavesOut};
+ghost use Rattle.mt_state.specs.{Promises.{IsAnswer, IsInTheWay, needed_node, locks_next, Touches, IsStep}, KeptOperations.{IsKeptOf, IsScanKept}};
+ghost use Rattle.mt_state.specs.{Invariant.{StateInvariant, StateGuarantee}, Moves.{IsMove, IsTold}, Ways.{Descends, walked, ShowsTaken}};
 ghost use Rattle.mt_state.specs.Calls.{IsLawful, Searches, Takes, Compares};
+ghost use Rattle.mt_descent.specs.{Pasts.Past, KeptWalks.IsKept, WalkMoves.Continues};
+ghost use Rattle.mt_rows.specs.{Rows.Columns, declared.reply.Reply.TheVariants.{Absent, NoMemory}};
+ghost use Rattle.mt_border.specs.declared.entry.Find.{Find};
 
 /// All that is kept of an operation, at whatever phase it is, each step of another one keeps, and what a
 /// scan has done too: what counts is what that step leaves to others. An answer that was right stays right.

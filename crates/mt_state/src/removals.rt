@@ -1,28 +1,15 @@
 //! Each phase of a removal makes a lawful step. Contracts alone: no code runs.
 
 ghost use Rattle.std.specs.Prelude.{◌≡◌, ◌≢◌, ◌+◌, ◌<◌, ◌^◌, ℕ, true, false, [], Some, None};
-ghost use Rattle.mt_rows.specs.Accounts.{Accounts};
-ghost use Rattle.mt_rows.specs.declared.reply.Reply.TheVariants.{Absent, Removed};
+ghost use Rattle.mt_rows.specs.{Accounts.Accounts, declared.reply.Reply.TheVariants.{Absent, Removed}};
 ghost use Rattle.mt_tape.specs.Tapes.{Kept};
 ghost use Rattle.mt_arena.specs.Arena.{ArenaView, IsArena};
-ghost use Rattle.mt_operation.specs.declared.phase.Phase.TheVariants.{Lock, Judge, DropKey, Unlock};
-ghost use Rattle.mt_operation.specs.Phases.{is_done, IsRemovalPhase};
-ghost use Rattle.mt_operation.specs.declared.walk.Walk.{Walk};
-ghost use Rattle.mt_operation.specs.declared.removal.Removal.{Removal};
-ghost use Rattle.mt_operation.specs.declared.prepared.Prepared.{Prepared};
-ghost use Rattle.mt_operation.specs.declared.operation.Operation.{Operation};
-ghost use Rattle.mt_operation.specs.Tasks.{ask};
-ghost use Rattle.mt_operation.specs.Tables.{op_at as operation_at};
-ghost use Rattle.mt_remove.specs.Writes.{is_remove, IsRemoval};
-ghost use Rattle.mt_remove.specs.Judge.{IsMadeReady, FindsAbsent};
-ghost use Rattle.mt_remove.specs.DropKey.{IsDropKey};
-ghost use Rattle.mt_remove.specs.Steps.{IsRemovalFrom};
-ghost use Rattle.mt_remove.specs.Unlock.{IsUnlockRemoval};
-ghost use Rattle.mt_remove.specs.Ways.{IsLockWay, FindsEnd};
-ghost use Rattle.mt_state.specs.Views.{Core};
-ghost use Rattle.mt_state.specs.Invariant.{StateInvariant};
-ghost use Rattle.mt_state.specs.Calls.{IsLawful};
-ghost use Rattle.mt_state.specs.Writes.{wrote, removing};
+ghost use Rattle.mt_operation.specs.{declared.phase.Phase.TheVariants.{Lock, Judge, DropKey, Unlock}, Phases.{is_done, IsRemovalPhase}};
+ghost use Rattle.mt_operation.specs.{declared.walk.Walk.Walk, declared.removal.Removal.Removal, declared.prepared.Prepared.Prepared};
+ghost use Rattle.mt_operation.specs.{declared.operation.Operation.Operation, Tasks.ask, Tables.{op_at as operation_at}};
+ghost use Rattle.mt_remove.specs.{Writes.{is_remove, IsRemoval}, Judge.{IsMadeReady, FindsAbsent}, DropKey.IsDropKey, Steps.IsRemovalFrom};
+ghost use Rattle.mt_remove.specs.{Unlock.IsUnlockRemoval, Ways.{IsLockWay, FindsEnd}};
+ghost use Rattle.mt_state.specs.{Views.Core, Invariant.StateInvariant, Calls.IsLawful, Writes.{wrote, removing}};
 
 /// Each phase of a removal makes a lawful step, by what its call ensures, and the invariant stays: where
 /// it makes all ready, or misses its key; where it takes the pair out; where it takes the empty border

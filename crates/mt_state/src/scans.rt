@@ -1,38 +1,19 @@
 //! Each phase of a scan makes a lawful step. Contracts alone: no code runs.
 
-ghost use Rattle.std.specs.Prelude.{◌≡◌, ◌≢◌, ◌+◌, ◌<◌, ◌^◌, ◌⊎◌, ℕ, Bool, true, false, List, Some, None, IsSome, length, map};
-ghost use Rattle.std.specs.List.{Contains};
+ghost use Rattle.std.specs.{Prelude.{◌≡◌, ◌≢◌, ◌+◌, ◌<◌, ◌^◌, ◌⊎◌, ℕ, Bool, true, false, List, Some, None, IsSome, length, map}, List.Contains};
 ghost use Rattle.std.specs.FinMap as pairs;
 ghost use Rattle.mt_slices.specs.Keys.{tenant_of};
-ghost use Rattle.mt_rows.specs.Rows.{Bytes};
-ghost use Rattle.mt_rows.specs.Maps.{is_scan, is_walked};
-ghost use Rattle.mt_rows.specs.Limits.{ArePairs};
+ghost use Rattle.mt_rows.specs.{Rows.Bytes, Maps.{is_scan, is_walked}, Limits.ArePairs, declared.reply.Reply.TheVariants.{Pairs, NoMemory}};
+ghost use Rattle.mt_rows.specs.declared.command.Command.TheVariants.{Scan};
 ghost use Rattle.mt_runs.specs.Scans.{Shown};
 ghost use Rattle.mt_walks.specs.Walked.{IsWithin};
-ghost use Rattle.mt_rows.specs.declared.reply.Reply.TheVariants.{Pairs, NoMemory};
-ghost use Rattle.mt_rows.specs.declared.command.Command.TheVariants.{Scan};
-ghost use Rattle.mt_arena.specs.Arena.{IsArena};
-ghost use Rattle.mt_arena.specs.Accesses.{at};
-ghost use Rattle.mt_operation.specs.declared.phase.Phase.TheVariants.{Snap, Check, Hop, Done};
-ghost use Rattle.mt_operation.specs.declared.walk.Walk.{Walk};
-ghost use Rattle.mt_operation.specs.declared.task.Task.{Task};
-ghost use Rattle.mt_operation.specs.declared.scan.Scan.{Scan as Memory};
-ghost use Rattle.mt_operation.specs.declared.operation.Operation.{Operation};
-ghost use Rattle.mt_operation.specs.declared.outcome.Outcome.{Outcome};
-ghost use Rattle.mt_operation.specs.Operations.{OperationView, scan_of};
-ghost use Rattle.mt_operation.specs.Tasks.{ask};
-ghost use Rattle.mt_operation.specs.Tables.{op_at as operation_at};
-ghost use Rattle.mt_descent.specs.Pasts.{Past};
-ghost use Rattle.mt_descent.specs.KeptWalks.{IsKept};
-ghost use Rattle.mt_descent.specs.WalkMoves.{Continues};
-ghost use Rattle.mt_scan.specs.Snaps.{prefix_in, IsSnap};
-ghost use Rattle.mt_scan.specs.Checks.{IsCheck};
-ghost use Rattle.mt_scan.specs.Hops.{IsAtCheck, KeptHop, HopsTo};
-ghost use Rattle.mt_state.specs.Views.{StateView, Core, map_of};
-ghost use Rattle.mt_state.specs.Promises.{IsAnswer};
-ghost use Rattle.mt_state.specs.Invariant.{StateInvariant};
-ghost use Rattle.mt_state.specs.Ways.{walked};
-ghost use Rattle.mt_state.specs.Writes.{scanned};
+ghost use Rattle.mt_arena.specs.{Arena.IsArena, Accesses.at};
+ghost use Rattle.mt_operation.specs.{declared.phase.Phase.TheVariants.{Snap, Check, Hop, Done}, declared.walk.Walk.Walk, declared.task.Task.Task};
+ghost use Rattle.mt_operation.specs.{declared.scan.Scan.{Scan as Memory}, declared.operation.Operation.Operation, declared.outcome.Outcome.Outcome};
+ghost use Rattle.mt_operation.specs.{Operations.{OperationView, scan_of}, Tasks.ask, Tables.{op_at as operation_at}};
+ghost use Rattle.mt_descent.specs.{Pasts.Past, KeptWalks.IsKept, WalkMoves.Continues};
+ghost use Rattle.mt_scan.specs.{Snaps.{prefix_in, IsSnap}, Checks.IsCheck, Hops.{IsAtCheck, KeptHop, HopsTo}};
+ghost use Rattle.mt_state.specs.{Views.{StateView, Core, map_of}, Promises.IsAnswer, Invariant.StateInvariant, Ways.walked, Writes.scanned};
 ghost use Rattle.mt_state.specs.Calls.{IsLawful, IsStillScan};
 
 /// Each phase of a scan makes a lawful step, by what its call ensures, and the invariant stays: where it

@@ -1,26 +1,14 @@
 //! Each phase of a split makes a lawful step. Contracts alone: no code runs.
 
 ghost use Rattle.std.specs.Prelude.{◌≡◌, ◌≢◌, ◌+◌, ◌<◌, ◌^◌, ℕ, true, false, [], Some, None};
-ghost use Rattle.mt_rows.specs.Rows.{Columns};
-ghost use Rattle.mt_rows.specs.Accounts.{Accounts};
-ghost use Rattle.mt_rows.specs.declared.reply.Reply.TheVariants.{New, Full, NoMemory};
+ghost use Rattle.mt_rows.specs.{Rows.Columns, Accounts.Accounts, declared.reply.Reply.TheVariants.{New, Full, NoMemory}};
 ghost use Rattle.mt_tape.specs.Tapes.{Kept};
 ghost use Rattle.mt_arena.specs.Arena.{ArenaView, IsArena};
-ghost use Rattle.mt_operation.specs.declared.phase.Phase.TheVariants.{SplitStart, SplitMove, Unlock};
-ghost use Rattle.mt_operation.specs.declared.walk.Walk.{Walk};
-ghost use Rattle.mt_operation.specs.declared.splits.Splits.{Splits};
-ghost use Rattle.mt_operation.specs.declared.operation.Operation.{Operation};
-ghost use Rattle.mt_operation.specs.Tables.{op_at as operation_at};
-ghost use Rattle.mt_insert.specs.Puts.{IsPut};
-ghost use Rattle.mt_state.specs.Views.{Core};
-ghost use Rattle.mt_state.specs.Invariant.{StateInvariant};
-ghost use Rattle.mt_state.specs.Calls.{IsLawful};
-ghost use Rattle.mt_state.specs.Writes.{splitting};
-ghost use Rattle.mt_operation.specs.Phases.{IsClimb};
-ghost use Rattle.mt_insert.specs.SplitStart.{IsSplitStart, IsSplitStopped};
-ghost use Rattle.mt_insert.specs.Climbs.{IsClimbFrom};
-ghost use Rattle.mt_insert.specs.SplitMove.{IsSplitMove, IsSplitMoveFull};
+ghost use Rattle.mt_operation.specs.{declared.phase.Phase.TheVariants.{SplitStart, SplitMove, Unlock}, declared.walk.Walk.Walk, declared.splits.Splits.Splits};
+ghost use Rattle.mt_operation.specs.{declared.operation.Operation.Operation, Tables.{op_at as operation_at}, Phases.IsClimb};
+ghost use Rattle.mt_insert.specs.{Puts.IsPut, SplitStart.{IsSplitStart, IsSplitStopped}, Climbs.IsClimbFrom, SplitMove.{IsSplitMove, IsSplitMoveFull}};
 ghost use Rattle.mt_insert.specs.Unlock.{IsUnlockAll};
+ghost use Rattle.mt_state.specs.{Views.Core, Invariant.StateInvariant, Calls.IsLawful, Writes.splitting};
 
 /// Each phase of a split makes a lawful step, by what its call ensures, and the invariant stays: where
 /// the right half of the full border node is made, or there is no memory and the lock is given back;

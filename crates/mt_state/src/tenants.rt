@@ -2,11 +2,9 @@
 
 ghost use Rattle.std.specs.Prelude.{◌≡◌, ◌≢◌, ◌<◌, ◌^◌, ℕ, Bool, Some};
 ghost use Rattle.mt_slices.specs.Keys.{stored_key};
-ghost use Rattle.mt_rows.specs.Rows.{Bytes};
-ghost use Rattle.mt_rows.specs.Tenants.{tenant_map};
+ghost use Rattle.mt_rows.specs.{Rows.Bytes, Tenants.tenant_map};
 ghost use Rattle.mt_operation.specs.Operations.{OperationView};
-ghost use Rattle.mt_state.specs.Views.{StateView, contents_of, op_at};
-ghost use Rattle.mt_state.specs.Promises.{IsStep};
+ghost use Rattle.mt_state.specs.{Views.{StateView, contents_of, op_at}, Promises.IsStep};
 
 /// Two tenants' stored keys never meet, whatever their users' keys are; and a step of one tenant's
 /// operation leaves every other tenant's map as it was.

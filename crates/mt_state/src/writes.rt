@@ -1,28 +1,16 @@
 //! Each phase of a put, from its lock on, makes a lawful step. Contracts alone: no code runs.
 
 ghost use Rattle.std.specs.Prelude.{◌≡◌, ◌≢◌, ◌+◌, ◌<◌, ◌^◌, ℕ, true, false, [], Some, None};
-ghost use Rattle.mt_rows.specs.Rows.{Columns};
-ghost use Rattle.mt_rows.specs.Accounts.{Accounts};
-ghost use Rattle.mt_rows.specs.declared.reply.Reply.TheVariants.{New, Replaced, Full, NoMemory};
+ghost use Rattle.mt_rows.specs.{Rows.Columns, Accounts.Accounts, declared.reply.Reply.TheVariants.{New, Replaced, Full, NoMemory}};
 ghost use Rattle.mt_tape.specs.Tapes.{Kept};
 ghost use Rattle.mt_arena.specs.Arena.{ArenaView, IsArena};
-ghost use Rattle.mt_operation.specs.declared.phase.Phase.TheVariants.{Lock, Judge, Store, Publish, Unlock};
-ghost use Rattle.mt_operation.specs.declared.walk.Walk.{Walk};
-ghost use Rattle.mt_operation.specs.declared.prepared.Prepared.{Prepared};
-ghost use Rattle.mt_operation.specs.declared.operation.Operation.{Operation};
-ghost use Rattle.mt_operation.specs.Tables.{op_at as operation_at};
-ghost use Rattle.mt_insert.specs.Puts.{IsPut};
-ghost use Rattle.mt_state.specs.Views.{Core};
-ghost use Rattle.mt_state.specs.Invariant.{StateInvariant};
-ghost use Rattle.mt_state.specs.Calls.{IsLawful};
-ghost use Rattle.mt_state.specs.Writes.{wrote};
-ghost use Rattle.mt_insert.specs.Publish.{IsPublish, IsPublishFull};
-ghost use Rattle.mt_insert.specs.Store.{IsStore};
-ghost use Rattle.mt_insert.specs.Judge.{IsMadeReady};
+ghost use Rattle.mt_operation.specs.{declared.phase.Phase.TheVariants.{Lock, Judge, Store, Publish, Unlock}, declared.walk.Walk.Walk};
+ghost use Rattle.mt_operation.specs.{declared.prepared.Prepared.Prepared, declared.operation.Operation.Operation, Tables.{op_at as operation_at}, Tasks.ask};
+ghost use Rattle.mt_insert.specs.{Puts.IsPut, Publish.{IsPublish, IsPublishFull}, Store.IsStore, Judge.IsMadeReady};
+ghost use Rattle.mt_state.specs.{Views.Core, Invariant.StateInvariant, Calls.IsLawful, Writes.wrote};
 ghost use Rattle.mt_descent.specs.WalkMoves.{IsLock};
 ghost use Rattle.mt_held.specs.Unlock.{IsUnlock};
 ghost use Rattle.mt_remove.specs.Writes.{is_remove};
-ghost use Rattle.mt_operation.specs.Tasks.{ask};
 
 /// Each phase of a put makes a lawful step, by what its call ensures, and the invariant stays: where it
 /// takes the lock of its border node, or goes on its way; where it makes all ready, or has no memory

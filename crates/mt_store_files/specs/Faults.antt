@@ -1,9 +1,9 @@
 -- Why a store isn't served: the refusal, the exit status, and which calls may tell what.
 use Rattle.std.specs.Prelude.{◌≡◌, ℕ, ◌<◌, Some, None}
 use Rattle.mt_rows.specs.declared.refusal.Refusal.{Refusal}
-use Rattle.mt_rows.specs.declared.refusal.Refusal.TheVariants as refusals
 use Rattle.mt_store_files.specs.declared.fault.StoreFault.{StoreFault}
 use Rattle.mt_store_files.specs.declared.fault.StoreFault.TheVariants.{InUse, NoFolder, NoLog, System, Memory, LogCount, Refused}
+use Rattle.mt_rows.specs.declared.refusal.Refusal.TheVariants as refusals
 
 -- the refusal by whose number a fault is told
 abbrev pub refusal_of : StoreFault → Refusal

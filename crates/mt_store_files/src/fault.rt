@@ -1,8 +1,7 @@
 //! Why a store isn't served.
 
 ghost use Rattle.std.specs.Prelude.{◌≡◌};
-ghost use Rattle.mt_store_files.specs.Faults.{refusal_of, status_of};
-ghost use Rattle.mt_store_files.specs.declared.fault.StoreFault.TheVariants.{Memory as MemoryFault};
+ghost use Rattle.mt_store_files.specs.{Faults.{refusal_of, status_of}, declared.fault.StoreFault.TheVariants.{Memory as MemoryFault}};
 
 use mt_rows::Refusal;
 use std::alloc::{AllocError, AllocFailed};

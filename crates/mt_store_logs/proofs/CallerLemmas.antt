@@ -1,39 +1,23 @@
 -- What each contract leaves of a log that stands in a running store, over a disk that keeps the rules.
 use Rattle.std.proofs.Common.{◌≡◌, ◌≢◌, ◌⊎◌, ◌≤◌, ◌^◌, ⊎_elim, inl, inr, ℕ, [], Bool, IsTrue, Option, Some, None, true, refl, sym, ◌∙◌, ap, subst, arith}
-use Rattle.std.proofs.lemmas.List.{append-nil}
-use Rattle.std.proofs.lemmas.Option.{same_Some}
-use Rattle.mt_rows.specs.Rows.{Bytes}
-use Rattle.mt_rows.specs.declared.record.Batch.{Batch}
-use Rattle.mt_rows.specs.declared.refusal.Refusal.{Refusal}
-use Rattle.mt_rows.specs.declared.refusal.Refusal.TheVariants as refusals
+use Rattle.std.proofs.{lemmas.List.append-nil, lemmas.Option.same_Some}
+use Rattle.mt_rows.specs.{Rows.Bytes, declared.record.Batch.Batch, declared.refusal.Refusal.Refusal}
 use Rattle.mt_batches.specs.Batches.{IsInOrder}
-use Rattle.mt_disk.specs.declared.mem.MemDisk.{MemDisk}
-use Rattle.mt_disk.specs.Disk.{DiskState, Moment, MayLeave, LeavesOnly, found_with, moments}
-use Rattle.mt_disk.specs.Mem.{mem_state}
-use Rattle.mt_log.specs.declared.batch.Front.{Front}
-use Rattle.mt_log.specs.declared.batch.LogBatch.{LogBatch}
-use Rattle.mt_log.specs.declared.batch.LogBatch.TheVariants.{Records, Resume}
+use Rattle.mt_disk.specs.{declared.mem.MemDisk.MemDisk, Disk.{DiskState, Moment, MayLeave, LeavesOnly, found_with, moments}, Mem.mem_state}
+use Rattle.mt_log.specs.{declared.batch.Front.Front, declared.batch.LogBatch.LogBatch, declared.batch.LogBatch.TheVariants.{Records, Resume}}
 use Rattle.mt_log.specs.declared.log_file.LogFile.{LogFile}
 use Rattle.mt_log.specs.Contents.{Contents, IsContents, IsLogBatch, Rises, to_of, mark_of, log_bytes, with_batch, no_batches, contents_of}
-use Rattle.mt_log.specs.Fronts.{IsBadLog, IsLeft, IsAtRest, IsOldOrNew}
-use Rattle.mt_log.specs.declared.failed_log.FailedLog.{FailedLog}
-use Rattle.mt_log.specs.Logs.{IsLogOf, Appended, FailedIn, Opened, StillLeaves, ReadsOldOrNew}
-use Rattle.mt_log.specs.Failures.{Reopened}
-use Rattle.mt_log.proofs.FrontLaws.{front_not_bad, left_front, in_format, in_steps, contents_front, contents_more, added_in_format}
-use Rattle.mt_log.proofs.Failures.{failed_log}
-use Rattle.mt_crashes.specs.Stores.{LogNow, at_rest, MayLeaveFront}
-use Rattle.mt_crashes.proofs.Members.{no_some}
-use Rattle.mt_crashes.proofs.FrontLaws.{mark_more}
-use Rattle.mt_crashes.proofs.Disks.{doubt_left}
-use Rattle.mt_recover.specs.declared.resuming.LogSlot.{LogSlot}
-use Rattle.mt_recover.specs.declared.resuming.LogSlot.TheVariants.{Open, Failed, Closed, Away}
-use Rattle.mt_recover.specs.Resumes.{HasResumed, FailsToResume}
-use Rattle.mt_recover.specs.Resumes.{HasFailed as ResumeFailed}
-use Rattle.mt_store_logs.specs.declared.store_log.StoreLog.{StoreLog}
-use Rattle.mt_store_logs.specs.Places.{log_with, mark_in, disk_in, Opens, FailsOn, FailsToOpen, Makes}
+use Rattle.mt_log.specs.{Fronts.{IsBadLog, IsLeft, IsAtRest, IsOldOrNew}, declared.failed_log.FailedLog.FailedLog}
+use Rattle.mt_log.specs.{Logs.{IsLogOf, Appended, FailedIn, Opened, StillLeaves, ReadsOldOrNew}, Failures.Reopened}
+use Rattle.mt_log.proofs.{FrontLaws.{front_not_bad, left_front, in_format, in_steps, contents_front, contents_more, added_in_format}, Failures.failed_log}
+use Rattle.mt_crashes.{specs.Stores.{LogNow, at_rest, MayLeaveFront}, proofs.{Members.no_some, FrontLaws.mark_more, Disks.doubt_left}}
+use Rattle.mt_recover.specs.{declared.resuming.LogSlot.LogSlot, declared.resuming.LogSlot.TheVariants.{Open, Failed, Closed, Away}}
+use Rattle.mt_recover.specs.Resumes.{HasResumed, FailsToResume, HasFailed as ResumeFailed}
+use Rattle.mt_store_logs.specs.{declared.store_log.StoreLog.StoreLog, Places.{log_with, mark_in, disk_in, Opens, FailsOn, FailsToOpen, Makes}}
 use Rattle.mt_store_logs.specs.Waits.{HasAppended, HasFailed, TakesIn, AppendsKept, ClosesWith, Stays, FailsToAppend, with_kept, opened_with, ReopensAt, StaysClosed, FailsAgain, StaysShut, FailsToReopenAt, Reopens, FailsToReopen}
 use Rattle.mt_store_logs.specs.Crashes.{IsFoundWith, IsCrashedOn, IsCrashedTo}
 use Rattle.mt_store_logs.specs.Shows.{LeavesEither, ShowsClosed, ShowsFailed, Shows, IsHonest, Waits, WaitsIn, Stands, drained_upto, MayBegin, begun, appended, IsIn, IsInDoubt, ComesToRest}
+use Rattle.mt_rows.specs.declared.refusal.Refusal.TheVariants as refusals
 
 -- ---- a disk as it is
 

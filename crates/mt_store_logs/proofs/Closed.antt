@@ -1,12 +1,10 @@
 -- Closed logs on some disks, each of the worker at its place.
 use Rattle.std.proofs.Common.{◌≡◌, ◌∙◌, ℕ, zero, suc, ◌+◌, List, [], ◌∷◌, ◌++◌, length, Some, None, refl, sym, ap, append_assoc, arith}
+use Rattle.std.proofs.{lemmas.List.length-append, lemmas.Option.same_Some}
 use Rattle.std.specs.Prelude.{slice_get, slice_index_or}
-use Rattle.std.proofs.lemmas.List.{length-append}
-use Rattle.std.proofs.lemmas.Option.{same_Some}
 use Rattle.mt_crashes.proofs.Members.{no_some}
 use Rattle.mt_recover.specs.declared.resuming.LogSlot.TheVariants.{Closed}
-use Rattle.mt_store_logs.specs.declared.store_log.StoreLog.{StoreLog}
-use Rattle.mt_store_logs.specs.Places.{log_with, closed_from, closed_on, workers_of, AreInOrder}
+use Rattle.mt_store_logs.specs.{declared.store_log.StoreLog.StoreLog, Places.{log_with, closed_from, closed_on, workers_of, AreInOrder}}
 
 -- as many as there are disks
 pub length-closed : {D : Type 0} (worker : ℕ) (disks : List D) → length (closed_from worker disks) ≡ length disks

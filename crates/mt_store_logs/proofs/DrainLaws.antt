@@ -1,13 +1,9 @@
 -- A worker that is drained towards a step: each drain short of it brings the log 4,096 steps on.
-use Rattle.std.proofs.Common.{◌≡◌, ◌⊎◌, ℕ, suc, ◌+◌, ◌-◌, ◌<◌, ◌≤◌, Bool, Some, sym, ap, ◌∙◌, inl, inr, ⊎_elim, arith}
-use Rattle.std.proofs.lemmas.Option.{same_Some}
-use Rattle.mt_rows.specs.declared.record.Batch.{Batch}
-use Rattle.mt_rows.specs.declared.refusal.Refusal.{Refusal}
+use Rattle.std.proofs.{Common.{◌≡◌, ◌⊎◌, ℕ, suc, ◌+◌, ◌-◌, ◌<◌, ◌≤◌, Bool, Some, sym, ap, ◌∙◌, inl, inr, ⊎_elim, arith}, lemmas.Option.same_Some}
+use Rattle.mt_rows.specs.{declared.record.Batch.Batch, declared.refusal.Refusal.Refusal}
 use Rattle.mt_disk.specs.Disk.{DiskState}
 use Rattle.mt_batches.proofs.Climbing.{goes_on}
-use Rattle.mt_store_logs.specs.declared.store_log.StoreLog.{StoreLog}
-use Rattle.mt_store_logs.specs.Places.{mark_in}
-use Rattle.mt_store_logs.specs.Flushes.{DrainsIn, HasDrained, FailsToDrain, FailsInDrains}
+use Rattle.mt_store_logs.specs.{declared.store_log.StoreLog.StoreLog, Places.mark_in, Flushes.{DrainsIn, HasDrained, FailsToDrain, FailsInDrains}}
 
 module _ {D S : Type 0} (is_honest : D → Bool) (state : D → DiskState) (failures : D → ℕ) (gives : S → S → ℕ → Batch → Type 0) (worker upto : ℕ) where
   -- a drain goes up to the step, or at least 4,096 steps on

@@ -1,24 +1,16 @@
 -- What a recovery may ask of the logs that were opened for it.
 use Rattle.std.proofs.Common.{◌≡◌, ℕ, zero, suc, ◌≤◌, ◌<◌, ◌^◌, max, Bool, List, map, length, refl, sym, ◌∙◌, ap, subst, arith, Option, Some, None}
 use Rattle.std.specs.Prelude.{slice_get, slice_index_or}
-use native.Mathlib.Numerals.{unary_clauses}
 use Rattle.mt_disk.specs.Disk.{DiskState}
-use Rattle.mt_log.specs.declared.batch.Front.{Front}
-use Rattle.mt_log.specs.Contents.{Contents, IsContents, mark_of, contents_of}
+use Rattle.mt_log.specs.{declared.batch.Front.Front, Contents.{Contents, IsContents, mark_of, contents_of}}
 use Rattle.mt_rows.specs.Tenants.{Contents as Pairs}
-use Rattle.mt_crashes.specs.Fronts.{In, last_end}
-use Rattle.mt_crashes.specs.Recoveries.{IsRecovered}
-use Rattle.mt_crashes.proofs.Members.{in_map, map_in, in_place, place_in}
-use Rattle.mt_crashes.proofs.FrontLaws.{upto_last, cutoff_upto_last}
-use Rattle.mt_crashes.proofs.Invariant.{within_place, one_there}
-use Rattle.mt_recover.specs.declared.resuming.LogSlot.{LogSlot}
-use Rattle.mt_recover.specs.declared.resuming.LogSlot.TheVariants.{Open, Failed, Closed, Away}
-use Rattle.mt_recover.specs.Resumes.{IsOpenUpto}
+use Rattle.mt_crashes.specs.{Fronts.{In, last_end}, Recoveries.IsRecovered}
+use Rattle.mt_crashes.proofs.{Members.{in_map, map_in, in_place, place_in}, FrontLaws.{upto_last, cutoff_upto_last}, Invariant.{within_place, one_there}}
+use Rattle.mt_recover.specs.{declared.resuming.LogSlot.LogSlot, declared.resuming.LogSlot.TheVariants.{Open, Failed, Closed, Away}, Resumes.IsOpenUpto}
 use Rattle.mt_recover.proofs.Limits.{last_within as steps_within}
-use Rattle.mt_store_logs.specs.declared.store_log.StoreLog.{StoreLog}
-use Rattle.mt_store_logs.specs.Places.{disk_in, Opens, OpensAs, OpensAll}
-use Rattle.mt_store_logs.specs.Recovers.{no_checkpoints}
+use Rattle.mt_store_logs.specs.{declared.store_log.StoreLog.StoreLog, Places.{disk_in, Opens, OpensAs, OpensAll}, Recovers.no_checkpoints}
 use Rattle.mt_store_logs.proofs.Loops.{read_or, get_within}
+use native.Mathlib.Numerals.{unary_clauses}
 
 max_zero : (n : ℕ) → max n 0 ≡ n
 max_zero zero = refl

@@ -1,16 +1,11 @@
 -- What is recovered of logs that were opened keeps the limits of keys and rows, and no key stands twice.
-use Rattle.std.proofs.Common.{ℕ, ◌≤◌, ◌^◌, Bool, List, [], ◌∷◌, map, Option, None}
-use Rattle.std.specs.List.{All}
-use Rattle.mt_rows.specs.Accounts.{Accounts}
-use Rattle.mt_rows.specs.TenantPairs.{IsTenantPair}
+use Rattle.std.{proofs.Common.{ℕ, ◌≤◌, ◌^◌, Bool, List, [], ◌∷◌, map, Option, None}, specs.List.All}
+use Rattle.mt_rows.specs.{Accounts.Accounts, TenantPairs.IsTenantPair}
 use Rattle.mt_checkpoint.specs.declared.checkpoint.Checkpoint.{Checkpoint}
 use Rattle.mt_disk.specs.Disk.{DiskState}
 use Rattle.mt_log.specs.Contents.{contents_of}
-use Rattle.mt_recover.specs.declared.recovering.Recovered.{Recovered}
-use Rattle.mt_recover.proofs.Limits.{pairs_within, resume_within}
-use Rattle.mt_store_logs.specs.declared.store_log.StoreLog.{StoreLog}
-use Rattle.mt_store_logs.specs.Recovers.{ServesAgain}
-use Rattle.mt_store_logs.proofs.ForResumes.{in_format}
+use Rattle.mt_recover.{specs.declared.recovering.Recovered.Recovered, proofs.Limits.{pairs_within, resume_within}}
+use Rattle.mt_store_logs.{specs.{declared.store_log.StoreLog.StoreLog, Recovers.ServesAgain}, proofs.ForResumes.in_format}
 
 -- no checkpoint was read of either slot
 abbrev none_read : List (Option Checkpoint)

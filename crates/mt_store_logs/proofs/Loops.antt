@@ -1,13 +1,9 @@
 -- One more in a walk over a list whose elements are written one by one, and its end.
 use Rattle.std.proofs.Common.{◌≡◌, ◌≢◌, ◌⊎◌, inl, inr, ⊎_elim, ℕ, zero, suc, ◌+◌, ◌<◌, ◌≤◌, List, [], ◌∷◌, length, refl, sym, ◌∙◌, ap, subst, arith, Some}
+use Rattle.std.proofs.{lemmas.List.length-set, lemmas.Option.same_Some}
 use Rattle.std.specs.Prelude.{◌++◌, slice_get, slice_set, slice_index_or, Result, Ok, Err, OnErr}
-use Rattle.std.proofs.lemmas.List.{length-set}
-use Rattle.std.proofs.lemmas.Option.{same_Some}
-use Rattle.mt_crashes.proofs.Members.{no_some}
-use Rattle.mt_crashes.proofs.Invariant.{within_place}
-use Rattle.mt_store_logs.specs.declared.store_log.StoreLog.{StoreLog}
-use Rattle.mt_store_logs.specs.Places.{workers_of}
-use Rattle.mt_store_logs.specs.Lists.{EachBefore, Each, StopsAt}
+use Rattle.mt_crashes.proofs.{Members.no_some, Invariant.within_place}
+use Rattle.mt_store_logs.specs.{declared.store_log.StoreLog.StoreLog, Places.workers_of, Lists.{EachBefore, Each, StopsAt}}
 
 -- what stands in a list in which one element was written
 set_cases : {X : Type 0} (xs : List X) (i k : ℕ) (y z : X) → slice_get (slice_set xs i y) k ≡ Some z

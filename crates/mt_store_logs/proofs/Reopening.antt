@@ -1,14 +1,10 @@
 -- A closed log that was read, and what then becomes of the batch that waits for it.
 use Rattle.std.proofs.Common.{ℕ, Bool, Option, Some, inr}
-use Rattle.mt_rows.specs.declared.record.Batch.{Batch}
-use Rattle.mt_rows.specs.declared.refusal.Refusal.{Refusal}
+use Rattle.mt_rows.specs.{declared.record.Batch.Batch, declared.refusal.Refusal.Refusal}
 use Rattle.mt_disk.specs.Disk.{DiskState}
 use Rattle.mt_log.specs.declared.batch.Front.{Front}
-use Rattle.mt_recover.specs.declared.resuming.LogSlot.{LogSlot}
-use Rattle.mt_recover.specs.declared.resuming.LogSlot.TheVariants.{Open, Failed, Closed, Away}
-use Rattle.mt_store_logs.specs.declared.store_log.StoreLog.{StoreLog}
-use Rattle.mt_store_logs.specs.Places.{log_with, Opens}
-use Rattle.mt_store_logs.specs.Waits.{AppendsKept, FailsToAppend, ReopensAt, FailsToReopenAt}
+use Rattle.mt_recover.specs.{declared.resuming.LogSlot.LogSlot, declared.resuming.LogSlot.TheVariants.{Open, Failed, Closed, Away}}
+use Rattle.mt_store_logs.specs.{declared.store_log.StoreLog.StoreLog, Places.{log_with, Opens}, Waits.{AppendsKept, FailsToAppend, ReopensAt, FailsToReopenAt}}
 
 module _ {D : Type 0} (is_honest : D → Bool) (state : D → DiskState) (failures : D → ℕ) where
   pub opens_again : (worker : ℕ) (disk : D) (kept : Option Batch) (slot : LogSlot D) (front : Front) (new : StoreLog D)

@@ -1,15 +1,9 @@
 -- What a crash makes of logs in memory.
-use Rattle.std.specs.Prelude.{◌≡◌, ◌⊎◌, ℕ, List, length, Option, Some, None, slice_get, Vec}
-use Rattle.std.specs.declared.alloc.Global.{Global}
+use Rattle.std.specs.{Prelude.{◌≡◌, ◌⊎◌, ℕ, List, length, Option, Some, None, slice_get, Vec}, declared.alloc.Global.Global}
 use Rattle.mt_rows.specs.Rows.{Bytes}
-use Rattle.mt_disk.specs.declared.mem.MemDisk.{MemDisk}
-use Rattle.mt_disk.specs.Disk.{MayLeave, found_with}
-use Rattle.mt_disk.specs.Mem.{mem_state, plan_of, plan_found}
-use Rattle.mt_recover.specs.declared.resuming.LogSlot.{LogSlot}
-use Rattle.mt_recover.specs.declared.resuming.LogSlot.TheVariants.{Closed}
-use Rattle.mt_store_logs.specs.declared.store_log.StoreLog.{StoreLog}
-use Rattle.mt_store_logs.specs.Lists.{Each}
-use Rattle.mt_store_logs.specs.Places.{disk_in}
+use Rattle.mt_disk.specs.{declared.mem.MemDisk.MemDisk, Disk.{MayLeave, found_with}, Mem.{mem_state, plan_of, plan_found}}
+use Rattle.mt_recover.specs.{declared.resuming.LogSlot.LogSlot, declared.resuming.LogSlot.TheVariants.Closed}
+use Rattle.mt_store_logs.specs.{declared.store_log.StoreLog.StoreLog, Lists.Each, Places.disk_in}
 
 -- a crash now may leave this image of a disk, if there is one
 abbrev pub MayLeaveOn : Bytes → Option MemDisk → Type 0

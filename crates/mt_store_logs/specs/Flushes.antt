@@ -1,12 +1,9 @@
 -- What a flush makes of a log, of the batch that waits for it, and of what drains its worker.
 use Rattle.std.specs.Prelude.{◌≡◌, ◌⊎◌, ℕ, zero, suc, ◌<◌, ◌≤◌, Bool}
-use Rattle.mt_rows.specs.declared.record.Batch.{Batch}
-use Rattle.mt_rows.specs.declared.refusal.Refusal.{Refusal}
-use Rattle.mt_rows.specs.declared.refusal.Refusal.TheVariants.{Memory}
+use Rattle.mt_rows.specs.{declared.record.Batch.Batch, declared.refusal.Refusal.Refusal, declared.refusal.Refusal.TheVariants.Memory}
 use Rattle.mt_disk.specs.Disk.{DiskState}
 use Rattle.mt_batches.specs.Batches.{IsBounded, BringsOn}
-use Rattle.mt_store_logs.specs.declared.store_log.StoreLog.{StoreLog}
-use Rattle.mt_store_logs.specs.Waits.{AppendsKept, FailsToAppend, AppendsNew, FailsToAppendNew}
+use Rattle.mt_store_logs.specs.{declared.store_log.StoreLog.StoreLog, Waits.{AppendsKept, FailsToAppend, AppendsNew, FailsToAppendNew}}
 
 module _ {D S : Type 0} (is_honest : D → Bool) (state : D → DiskState) (failures : D → ℕ) (gives : S → S → ℕ → Batch → Type 0) (worker : ℕ) where
   -- the worker was drained once, towards a step, and its batch appended: the log goes up to its end

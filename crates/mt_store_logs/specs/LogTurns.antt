@@ -1,11 +1,8 @@
 -- A turn of one log.
 use Rattle.std.specs.Prelude.{◌≡◌, ◌⊎◌, ℕ, Bool}
-use Rattle.mt_rows.specs.declared.record.Batch.{Batch}
-use Rattle.mt_rows.specs.declared.refusal.Refusal.{Refusal}
+use Rattle.mt_rows.specs.{declared.record.Batch.Batch, declared.refusal.Refusal.Refusal}
 use Rattle.mt_disk.specs.Disk.{DiskState}
-use Rattle.mt_store_logs.specs.declared.store_log.StoreLog.{StoreLog}
-use Rattle.mt_store_logs.specs.Waits.{Reopens, FailsToReopen}
-use Rattle.mt_store_logs.specs.Flushes.{Flushes, FailsToFlush}
+use Rattle.mt_store_logs.specs.{declared.store_log.StoreLog.StoreLog, Waits.{Reopens, FailsToReopen}, Flushes.{Flushes, FailsToFlush}}
 
 module _ {D S : Type 0} (is_honest : D → Bool) (state : D → DiskState) (failures : D → ℕ) (gives : S → S → ℕ → Batch → Type 0) (worker upto : ℕ) where
   -- the log is open, closed before or not, and the worker was drained into it, up to the step at least

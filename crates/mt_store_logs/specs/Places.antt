@@ -1,17 +1,12 @@
 -- What becomes of a log's place when it is made or opened, and of all of them.
 use Rattle.std.specs.Prelude.{◌≡◌, ℕ, ◌+◌, Bool, List, [], ◌∷◌, length, map, Option, Some, None, slice_get}
-use Rattle.mt_rows.specs.declared.record.Batch.{Batch}
-use Rattle.mt_rows.specs.declared.refusal.Refusal.{Refusal}
-use Rattle.mt_rows.specs.declared.refusal.Refusal.TheVariants as refusals
+use Rattle.mt_rows.specs.{declared.record.Batch.Batch, declared.refusal.Refusal.Refusal}
 use Rattle.mt_disk.specs.Disk.{DiskState, GoesUp}
-use Rattle.mt_log.specs.declared.batch.Front.{Front}
+use Rattle.mt_log.specs.{declared.batch.Front.Front, Logs.{Created, Opened, GivesDiskBack}}
+use Rattle.mt_recover.specs.{declared.resuming.LogSlot.LogSlot, declared.resuming.LogSlot.TheVariants.{Open, Failed, Closed, Away}}
+use Rattle.mt_store_logs.specs.{declared.fault.LogRefusal.LogRefusal, declared.store_log.StoreLog.StoreLog, Lists.{Each, StopsAt}}
+use Rattle.mt_rows.specs.declared.refusal.Refusal.TheVariants as refusals
 use Rattle.mt_log.specs.declared.fault.OpenFault.TheVariants as opens
-use Rattle.mt_log.specs.Logs.{Created, Opened, GivesDiskBack}
-use Rattle.mt_recover.specs.declared.resuming.LogSlot.{LogSlot}
-use Rattle.mt_recover.specs.declared.resuming.LogSlot.TheVariants.{Open, Failed, Closed, Away}
-use Rattle.mt_store_logs.specs.declared.fault.LogRefusal.{LogRefusal}
-use Rattle.mt_store_logs.specs.declared.store_log.StoreLog.{StoreLog}
-use Rattle.mt_store_logs.specs.Lists.{Each, StopsAt}
 
 -- a worker's log, and the batch that waits for it, if one does
 abbrev pub log_with : {D : Type 0} → ℕ → LogSlot D → Option Batch → StoreLog D

@@ -1,21 +1,11 @@
 -- What becomes of a store's logs when it is recovered.
-use Rattle.std.specs.Prelude.{◌≡◌, ◌⊎◌, ℕ, Bool, List, [], ◌∷◌, map, Option, Some, None}
-use Rattle.std.specs.List.{All}
-use Rattle.mt_rows.specs.Accounts.{Accounts}
-use Rattle.mt_rows.specs.declared.refusal.Refusal.{Refusal}
+use Rattle.std.specs.{Prelude.{◌≡◌, ◌⊎◌, ℕ, Bool, List, [], ◌∷◌, map, Option, Some, None}, List.All}
+use Rattle.mt_rows.specs.{Accounts.Accounts, declared.refusal.Refusal.Refusal, TenantPairs.{pairs_of, quota_in, HasTenants, KeepsQuotas}}
 use Rattle.mt_disk.specs.Disk.{DiskState}
-use Rattle.mt_log.specs.declared.batch.Front.{Front}
-use Rattle.mt_log.specs.Contents.{contents_of}
-use Rattle.mt_crashes.specs.Bases.{Slots}
-use Rattle.mt_crashes.specs.Recoveries.{IsRecovered}
-use Rattle.mt_recover.specs.declared.recovering.Recovered.{Recovered}
-use Rattle.mt_recover.specs.Pairs.{Ascend}
-use Rattle.mt_rows.specs.TenantPairs.{pairs_of, quota_in, HasTenants, KeepsQuotas}
-use Rattle.mt_recover.specs.Refusals.{IsRefusal}
-use Rattle.mt_recover.specs.Resumes.{IsOpenUpto, HasResumed, FailsToResume}
-use Rattle.mt_store_logs.specs.declared.fault.LogRefusal.{LogRefusal}
-use Rattle.mt_store_logs.specs.declared.store_log.StoreLog.{StoreLog}
-use Rattle.mt_store_logs.specs.Lists.{Each, StopsAt}
+use Rattle.mt_log.specs.{declared.batch.Front.Front, Contents.contents_of}
+use Rattle.mt_crashes.specs.{Bases.Slots, Recoveries.IsRecovered}
+use Rattle.mt_recover.specs.{declared.recovering.Recovered.Recovered, Pairs.Ascend, Refusals.IsRefusal, Resumes.{IsOpenUpto, HasResumed, FailsToResume}}
+use Rattle.mt_store_logs.specs.{declared.fault.LogRefusal.LogRefusal, declared.store_log.StoreLog.StoreLog, Lists.{Each, StopsAt}}
 use Rattle.mt_store_logs.specs.Places.{OpensAll, StopsOpening}
 
 -- no checkpoint was read of either slot

@@ -3,16 +3,11 @@ use Rattle.std.specs.Prelude.{◌≡◌, ◌⊎◌, ℕ, Bool, IsTrue, Option, S
 use Rattle.mt_rows.specs.declared.record.Batch.{Batch}
 use Rattle.mt_batches.specs.Batches.{IsInOrder}
 use Rattle.mt_disk.specs.Disk.{DiskState, LeavesOnly}
-use Rattle.mt_log.specs.declared.batch.LogBatch.{LogBatch}
-use Rattle.mt_log.specs.declared.batch.LogBatch.TheVariants.{Records}
-use Rattle.mt_log.specs.Contents.{Contents, IsContents, IsBatch, IsLogBatch, mark_of, with_batch}
-use Rattle.mt_log.specs.Fronts.{IsLeft}
-use Rattle.mt_log.specs.Logs.{IsLogOf}
-use Rattle.mt_log.specs.Failures.{IsFailedLogOf}
+use Rattle.mt_log.specs.{declared.batch.LogBatch.LogBatch, declared.batch.LogBatch.TheVariants.Records}
+use Rattle.mt_log.specs.{Contents.{Contents, IsContents, IsBatch, IsLogBatch, mark_of, with_batch}, Fronts.IsLeft, Logs.IsLogOf, Failures.IsFailedLogOf}
 use Rattle.mt_log.specs.declared.failed_log.FailedLog.{FailedLog}
 use Rattle.mt_crashes.specs.Stores.{LogNow, at_rest, MayLeaveFront}
-use Rattle.mt_recover.specs.declared.resuming.LogSlot.{LogSlot}
-use Rattle.mt_recover.specs.declared.resuming.LogSlot.TheVariants.{Open, Failed, Closed, Away}
+use Rattle.mt_recover.specs.{declared.resuming.LogSlot.LogSlot, declared.resuming.LogSlot.TheVariants.{Open, Failed, Closed, Away}}
 use Rattle.mt_store_logs.specs.declared.store_log.StoreLog.{StoreLog}
 
 -- since some state a crash leaves of a disk the log with a batch or without

@@ -1,20 +1,12 @@
 -- What becomes of the batch that waits for a log.
 use Rattle.std.specs.Prelude.{◌≡◌, ◌≢◌, ◌⊎◌, ℕ, Bool, Option, Some, None}
-use Rattle.mt_rows.specs.declared.record.Batch.{Batch}
-use Rattle.mt_rows.specs.declared.refusal.Refusal.{Refusal}
-use Rattle.mt_rows.specs.declared.refusal.Refusal.TheVariants as refusals
+use Rattle.mt_rows.specs.{declared.record.Batch.Batch, declared.refusal.Refusal.Refusal}
 use Rattle.mt_disk.specs.Disk.{DiskState}
-use Rattle.mt_log.specs.declared.batch.Front.{Front}
-use Rattle.mt_log.specs.declared.batch.LogBatch.TheVariants.{Records}
-use Rattle.mt_log.specs.declared.log_file.LogFile.{LogFile}
-use Rattle.mt_log.specs.Contents.{IsBatch}
-use Rattle.mt_log.specs.declared.failed_log.FailedLog.{FailedLog}
-use Rattle.mt_log.specs.Logs.{Appended, FailedAt, Opened}
-use Rattle.mt_log.specs.Failures.{Reopened, StaysFailed}
-use Rattle.mt_recover.specs.declared.resuming.LogSlot.{LogSlot}
-use Rattle.mt_recover.specs.declared.resuming.LogSlot.TheVariants.{Open, Failed, Closed}
-use Rattle.mt_store_logs.specs.declared.store_log.StoreLog.{StoreLog}
-use Rattle.mt_store_logs.specs.Places.{log_with, mark_in, FailsToOpen}
+use Rattle.mt_log.specs.{declared.batch.Front.Front, declared.batch.LogBatch.TheVariants.Records, declared.log_file.LogFile.LogFile, Contents.IsBatch}
+use Rattle.mt_log.specs.{declared.failed_log.FailedLog.FailedLog, Logs.{Appended, FailedAt, Opened}, Failures.{Reopened, StaysFailed}}
+use Rattle.mt_recover.specs.{declared.resuming.LogSlot.LogSlot, declared.resuming.LogSlot.TheVariants.{Open, Failed, Closed}}
+use Rattle.mt_store_logs.specs.{declared.store_log.StoreLog.StoreLog, Places.{log_with, mark_in, FailsToOpen}}
+use Rattle.mt_rows.specs.declared.refusal.Refusal.TheVariants as refusals
 
 -- a log for which this batch waits
 abbrev pub with_kept : {D : Type 0} → Batch → StoreLog D → StoreLog D

@@ -1,10 +1,8 @@
 //! Logs in memory that crash.
 
 ghost use Rattle.std.specs.Prelude.{◌≡◌, ◌↔◌, true, false, IsTrue, IfOk, OnOk, OnErr};
-ghost use Rattle.mt_disk.specs.Disk.{MayLeave};
-ghost use Rattle.mt_disk.specs.Mem.{mem_state};
-ghost use Rattle.mt_store_logs.specs.Places.{workers_of};
-ghost use Rattle.mt_store_logs.specs.Crashes.{MayLeaveLog, MayLeaveLogs, IsCrashed, IsCrashedTo, AreCrashed, HasItsDisk, AreLeftOrCrashed};
+ghost use Rattle.mt_disk.specs.{Disk.MayLeave, Mem.mem_state};
+ghost use Rattle.mt_store_logs.specs.{Places.workers_of, Crashes.{MayLeaveLog, MayLeaveLogs, IsCrashed, IsCrashedTo, AreCrashed, HasItsDisk, AreLeftOrCrashed}};
 
 use crate::store_log::{StoreLog, take_disk};
 use mt_disk::MemDisk;

@@ -1,8 +1,7 @@
 //! A worker drained into its log.
 
 ghost use Rattle.std.specs.Prelude.{◌≡◌, None, IfOk, OnOk, IfErr};
-ghost use Rattle.mt_store_logs.specs.Flushes.{Flushes, FailsToFlush, DrainsIn, FailsToDrain, DrainsUpto, FailsInDrains};
-ghost use Rattle.mt_store_logs.specs.LogTurns.{BringsUp, FailsToBringUp};
+ghost use Rattle.mt_store_logs.specs.{Flushes.{Flushes, FailsToFlush, DrainsIn, FailsToDrain, DrainsUpto, FailsInDrains}, LogTurns.{BringsUp, FailsToBringUp}};
 
 use crate::source::Source;
 use crate::store_log::StoreLog;

@@ -2,23 +2,16 @@
 //! that does nothing. Their premise is a disk that keeps the rules.
 
 ghost use Rattle.std.specs.Prelude.{◌≡◌, ◌≢◌, ◌⊎◌, ◌≤◌, ◌^◌, ℕ, None, Some};
-ghost use Rattle.mt_rows.specs.Rows.{Bytes};
-ghost use Rattle.mt_rows.specs.declared.record.Batch.{Batch};
-ghost use Rattle.mt_rows.specs.declared.refusal.Refusal.{Refusal};
+ghost use Rattle.mt_rows.specs.{Rows.Bytes, declared.record.Batch.Batch, declared.refusal.Refusal.Refusal};
 ghost use Rattle.mt_rows.specs.declared.refusal.Refusal.TheVariants as refusals;
 ghost use Rattle.mt_batches.specs.Batches.{IsInOrder};
-ghost use Rattle.mt_disk.specs.declared.mem.MemDisk.{MemDisk};
-ghost use Rattle.mt_disk.specs.Mem.{mem_state};
-ghost use Rattle.mt_log.specs.declared.batch.Front.{Front};
-ghost use Rattle.mt_log.specs.declared.batch.LogBatch.TheVariants.{Resume};
+ghost use Rattle.mt_disk.specs.{declared.mem.MemDisk.MemDisk, Mem.mem_state};
+ghost use Rattle.mt_log.specs.{declared.batch.Front.Front, declared.batch.LogBatch.TheVariants.Resume};
 ghost use Rattle.mt_log.specs.Contents.{Contents, Rises, mark_of, no_batches, with_batch, contents_of};
 ghost use Rattle.mt_crashes.specs.Stores.{LogNow, at_rest, MayLeaveFront};
-ghost use Rattle.mt_recover.specs.declared.resuming.LogSlot.{LogSlot};
-ghost use Rattle.mt_recover.specs.Resumes.{HasResumed, FailsToResume};
-ghost use Rattle.mt_store_logs.specs.declared.store_log.StoreLog.{StoreLog};
-ghost use Rattle.mt_store_logs.specs.Places.{disk_in, Opens, FailsToOpen, Makes};
-ghost use Rattle.mt_store_logs.specs.Waits.{AppendsKept, FailsToAppend, with_kept, Reopens, FailsToReopen};
-ghost use Rattle.mt_store_logs.specs.Crashes.{IsCrashedOn};
+ghost use Rattle.mt_recover.specs.{declared.resuming.LogSlot.LogSlot, Resumes.{HasResumed, FailsToResume}};
+ghost use Rattle.mt_store_logs.specs.{declared.store_log.StoreLog.StoreLog, Places.{disk_in, Opens, FailsToOpen, Makes}};
+ghost use Rattle.mt_store_logs.specs.{Waits.{AppendsKept, FailsToAppend, with_kept, Reopens, FailsToReopen}, Crashes.IsCrashedOn};
 ghost use Rattle.mt_store_logs.specs.Shows.{Shows, IsHonest, Stands, drained_upto, IsIn, IsInDoubt, ComesToRest};
 
 use mt_disk::Disk;

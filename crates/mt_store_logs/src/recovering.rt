@@ -1,8 +1,7 @@
 //! A store's logs brought up again: opened, recovered, and each with the batch with which a recovery ends.
 
 ghost use Rattle.std.specs.Prelude.{◌≡◌, ◌≤◌, ◌^◌, IfOk, IfErr, OnOk};
-ghost use Rattle.mt_store_logs.specs.Places.{workers_of};
-ghost use Rattle.mt_store_logs.specs.Recovers.{AreOpenUpto, ResumesAll, StopsResuming, ServesAgain, IsNotRecovered};
+ghost use Rattle.mt_store_logs.specs.{Places.workers_of, Recovers.{AreOpenUpto, ResumesAll, StopsResuming, ServesAgain, IsNotRecovered}};
 
 use crate::fault::LogRefusal;
 use crate::opening::open_watched;

@@ -3,8 +3,7 @@
 ghost use Rattle.std.specs.Prelude.{◌≡◌, ◌↔◌, ◌≢◌, None, Some, IsTrue, IfOk, IfErr, OnOk};
 ghost use Rattle.mt_batches.specs.Batches.{IsBounded};
 ghost use Rattle.mt_log.specs.Contents.{IsBatch};
-ghost use Rattle.mt_recover.specs.declared.resuming.LogSlot.{LogSlot};
-ghost use Rattle.mt_recover.specs.declared.resuming.LogSlot.TheVariants.{Open, Failed, Closed};
+ghost use Rattle.mt_recover.specs.{declared.resuming.LogSlot.LogSlot, declared.resuming.LogSlot.TheVariants.{Open, Failed, Closed}};
 ghost use Rattle.mt_store_logs.specs.Places.{log_with, mark_in, disk_in, Opens, FailsToOpen};
 ghost use Rattle.mt_store_logs.specs.Waits.{AppendsKept, FailsToAppend, AppendsNew, FailsToAppendNew, opened_with, Reopens, FailsToReopen};
 

@@ -1,22 +1,14 @@
 -- What turns make of a store that is owned alone: no step is made, and a log that was brought up goes up to all that were; for the store's calls and the law of its Settle.
 use Rattle.std.proofs.Common.{◌≡◌, ◌≢◌, ⊎_elim, ℕ, zero, suc, ◌+◌, ◌<◌, ◌≤◌, Bool, List, [], ◌∷◌, ◌++◌, length, Some, Result, Ok, Err, refl, sym, ap, subst, ◌∙◌, arith}
+use Rattle.std.proofs.{lemmas.List.length-set, lemmas.Option.{same_Some, slice_get_within}, Math.Nat.eq-or-lt_of_le}
 use Rattle.std.specs.Prelude.{slice_get, slice_set, slice_index_or, IfOk, IfErr}
-use Rattle.std.proofs.lemmas.List.{length-set}
-use Rattle.std.proofs.lemmas.Option.{same_Some, slice_get_within}
-use Rattle.std.proofs.Math.Nat.{eq-or-lt_of_le}
-use Rattle.mt_rows.specs.declared.record.Batch.{Batch}
-use Rattle.mt_rows.specs.declared.refusal.Refusal.{Refusal}
+use Rattle.mt_rows.specs.{declared.record.Batch.Batch, declared.refusal.Refusal.Refusal}
 use Rattle.mt_disk.specs.Disk.{DiskState}
 use Rattle.mt_state.specs.Views.{StateView}
-use Rattle.mt_store_logs.specs.declared.store_log.StoreLog.{StoreLog}
-use Rattle.mt_store_logs.specs.Places.{mark_in}
-use Rattle.mt_store_logs.specs.Flushes.{DrainsShort, HasDrained, Flushes, FailsToFlush}
-use Rattle.mt_store_logs.specs.declared.flushing.Flushed.{Flushed}
-use Rattle.mt_settle.specs.Turns.{Turn, BroughtUp, mark_told, Chain}
-use Rattle.mt_settle.specs.Settles.{turns_from, Settles}
-use Rattle.mt_stored.specs.declared.source.OwnState.{OwnState}
-use Rattle.mt_store_logs.specs.LogTurns.{BringsUp, FailsToBringUp}
-use Rattle.mt_stored.specs.Stores.{gives_own, DoesStore, IsSettled}
+use Rattle.mt_store_logs.specs.{declared.store_log.StoreLog.StoreLog, Places.mark_in, Flushes.{DrainsShort, HasDrained, Flushes, FailsToFlush}}
+use Rattle.mt_store_logs.specs.{declared.flushing.Flushed.Flushed, LogTurns.{BringsUp, FailsToBringUp}}
+use Rattle.mt_settle.specs.{Turns.{Turn, BroughtUp, mark_told, Chain}, Settles.{turns_from, Settles}}
+use Rattle.mt_stored.specs.{declared.source.OwnState.OwnState, Stores.{gives_own, DoesStore, IsSettled}}
 
 -- no step was made, and there are as many logs
 abbrev pub Stays : OwnState → OwnState → Type 0

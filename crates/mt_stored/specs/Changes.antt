@@ -1,8 +1,6 @@
 -- What a turn made of a log's place.
-use Rattle.std.specs.Prelude.{ℕ, List, ◌++◌, codes, Option, Some, None}
-use Rattle.std.specs.Fmt.{decimal}
-use Rattle.mt_stored.specs.declared.changes.LogChange.{LogChange}
-use Rattle.mt_stored.specs.declared.changes.LogChange.TheVariants.{Closed, Opened}
+use Rattle.std.specs.{Prelude.{ℕ, List, ◌++◌, codes, Option, Some, None}, Fmt.decimal}
+use Rattle.mt_stored.specs.{declared.changes.LogChange.LogChange, declared.changes.LogChange.TheVariants.{Closed, Opened}}
 
 -- a log that was open is closed, or the other way round; else nothing
 abbrev pub change_in : ℕ → Option ℕ → Option ℕ → Option LogChange

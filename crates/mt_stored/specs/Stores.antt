@@ -1,21 +1,14 @@
 -- A store that is owned alone: how it is made and recovered, what a turn of one of its logs makes of it, and when it is settled.
 use Rattle.std.specs.Prelude.{◌≡◌, ◌⊎◌, ℕ, ◌<◌, Bool, List, length, slice_get, slice_set, Some, None, Ok, Err}
-use Rattle.mt_rows.specs.Accounts.{Accounts}
-use Rattle.mt_rows.specs.declared.record.Batch.{Batch}
-use Rattle.mt_rows.specs.declared.refusal.Refusal.TheVariants.{Memory, Device}
+use Rattle.mt_rows.specs.{Accounts.Accounts, declared.record.Batch.Batch, declared.refusal.Refusal.TheVariants.{Memory, Device}}
 use Rattle.mt_disk.specs.Disk.{DiskState}
-use Rattle.mt_state.specs.Views.{StateView}
-use Rattle.mt_state.specs.Begins.{new_state}
-use Rattle.mt_core.specs.Drains.{Drains}
-use Rattle.mt_core.specs.Restores.{IsRestored}
+use Rattle.mt_state.specs.{Views.StateView, Begins.new_state}
+use Rattle.mt_core.specs.{Drains.Drains, Restores.IsRestored}
 use Rattle.mt_recover.specs.declared.recovering.Recovered.{Recovered}
-use Rattle.mt_store_logs.specs.declared.fault.LogRefusal.{LogRefusal}
-use Rattle.mt_store_logs.specs.declared.store_log.StoreLog.{StoreLog}
-use Rattle.mt_store_logs.specs.Places.{mark_in, closed_on, MakesAll}
-use Rattle.mt_store_logs.specs.Recovers.{ServesAgain, IsNotRecovered}
+use Rattle.mt_store_logs.specs.{declared.fault.LogRefusal.LogRefusal, declared.store_log.StoreLog.StoreLog, Places.{mark_in, closed_on, MakesAll}}
+use Rattle.mt_store_logs.specs.{Recovers.{ServesAgain, IsNotRecovered}, LogTurns.{BringsUp, FailsToBringUp}}
 use Rattle.mt_settle.specs.Turns.{Turn, BroughtUp}
 use Rattle.mt_stored.specs.declared.source.OwnState.{OwnState}
-use Rattle.mt_store_logs.specs.LogTurns.{BringsUp, FailsToBringUp}
 
 -- each log is open, and goes up to the last step that was made
 abbrev pub IsSettled : {D : Type 0} → StateView → List (StoreLog D) → Type 0

@@ -2,12 +2,9 @@
 //! contract of a function that does nothing.
 
 ghost use Rattle.std.specs.Prelude.{◌≡◌, ◌<◌, ℕ, List, Ok, length};
-ghost use Rattle.mt_settle.specs.Turns.{Turn};
-ghost use Rattle.mt_settle.specs.Settles.{Settles};
+ghost use Rattle.mt_settle.specs.{Turns.Turn, Settles.Settles};
 ghost use Rattle.mt_store_logs.specs.declared.store_log.StoreLog.{StoreLog};
-ghost use Rattle.mt_stored.specs.declared.source.OwnState.{OwnState};
-ghost use Rattle.mt_stored.specs.Stores.{DoesStore, IsSettled};
-ghost use Rattle.mt_stored.specs.Keeping.{turn_after};
+ghost use Rattle.mt_stored.specs.{declared.source.OwnState.OwnState, Stores.{DoesStore, IsSettled}, Keeping.turn_after};
 
 use mt_disk::Disk;
 

@@ -3,9 +3,7 @@
 //! Any `Read` is a `Source` and any `Write` a `Sink`, which doesn't tell its failures. A type that is to
 //! tell them is a `Source` or a `Sink` itself, and no `Read` or `Write`.
 
-ghost use Rattle.std.specs.Prelude.{ℕ, ◌<◌, List, Option, length, IfOk, OnErr};
-ghost use Rattle.std.specs.Io.{ReadsAtMost, WritesAtMost};
-ghost use Rattle.std.specs.Io.KnownBytes.{ReadConsumes, WriteAppends};
+ghost use Rattle.std.specs.{Prelude.{ℕ, ◌<◌, List, Option, length, IfOk, OnErr}, Io.{ReadsAtMost, WritesAtMost}, Io.KnownBytes.{ReadConsumes, WriteAppends}};
 ghost use Rattle.mt_streams.specs.Failures.{Failed, NoFewer};
 
 use std::io::{self, ErrorKind, Read, Write};

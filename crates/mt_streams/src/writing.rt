@@ -1,7 +1,6 @@
 //! A text written whole, by as many writes as it takes.
 
-ghost use Rattle.std.specs.Prelude.{◌≡◌, ◌++◌, List, ℕ, OnOk, OnErr};
-ghost use Rattle.std.specs.Io.KnownBytes.{Appends};
+ghost use Rattle.std.specs.{Prelude.{◌≡◌, ◌++◌, List, ℕ, OnOk, OnErr}, Io.KnownBytes.Appends};
 ghost use Rattle.mt_streams.specs.Failures.{Failed, NoFewer};
 
 use crate::streams::Sink;

@@ -1,19 +1,11 @@
 -- How a scan begins, and that what it has done stays.
-use Rattle.std.proofs.Common.{◌≡◌, ℕ, ◌<◌, ◌≤◌, ◌^◌, Bool, List, sym, ap, subst, ◌∙◌, arith}
-use Rattle.std.specs.Prelude.{not}
+use Rattle.std.{proofs.{Common.{◌≡◌, ℕ, ◌<◌, ◌≤◌, ◌^◌, Bool, List, sym, ap, subst, ◌∙◌, arith}, lemmas.List.Elements.All-nil}, specs.Prelude.not}
 use Rattle.mt_slices.specs.Keys.{IsStoredKey, stored_key, tenant_of}
-use Rattle.mt_rows.specs.declared.command.Command.TheVariants.{Scan}
-use Rattle.std.proofs.lemmas.List.Elements.{All-nil}
-use Rattle.mt_rows.specs.Commands.{IsKey}
-use Rattle.mt_rows.specs.Rows.{Bytes, Columns}
-use Rattle.mt_rows.specs.Maps.{Map}
-use Rattle.mt_rows.specs.Tenants.{tenant_map}
+use Rattle.mt_rows.specs.{declared.command.Command.TheVariants.Scan, Commands.IsKey, Rows.{Bytes, Columns}, Maps.Map, Tenants.tenant_map}
 use Rattle.mt_operation.specs.Operations.{ScanView, no_scan}
 use Rattle.mt_descent.specs.Pasts.{Past, ExtendsPast}
-use Rattle.mt_walks.specs.Walked.{IsWithin}
-use Rattle.mt_walks.proofs.Walks.{begins, stays}
-use Rattle.mt_stretches.specs.Scanned.{maps_of, passed_by, HasScanned, IsSeenTo, HasSeen}
-use Rattle.mt_stretches.proofs.Fronts.{walked_is}
+use Rattle.mt_walks.{specs.Walked.IsWithin, proofs.Walks.{begins, stays}}
+use Rattle.mt_stretches.{specs.Scanned.{maps_of, passed_by, HasScanned, IsSeenTo, HasSeen}, proofs.Fronts.walked_is}
 
 -- before its first step a scan is done with no key that it walks
 pub scan_begins : (past : Past) (first t : ℕ) (from : Bytes) (after : Bool) (count : ℕ) (columns : List ℕ) → t < 2 ^ 32 → IsStoredKey (stored_key t from) → 1 ≤ count

@@ -1,34 +1,21 @@
 -- What Check makes of a scan: it goes on from its next fence, ends lawful, or stays where it was.
 use Rattle.std.proofs.Common.{◌≡◌, ◌≢◌, ℕ, ◌+◌, ◌-◌, ◌<◌, ◌≤◌, ◌⊎◌, inl, inr, Bool, true, false, List, ◌++◌, length, take, set, get_or, refl, sym, ap, subst, ◌∙◌, arith}
-use Rattle.std.specs.Prelude.{if◌then◌else◌}
-use Rattle.std.proofs.lemmas.Bool.{cases_lt, cases_eq}
-use Rattle.std.proofs.lemmas.List.{length-append, length-map, length-take-le, take_all}
-use Rattle.std.proofs.lemmas.List.Folds.{list_any_at}
-use Rattle.std.specs.List.{All, Contains}
-use Rattle.std.specs.Ordering.{nat_cmp, is_le, is_lt}
-use Rattle.std.specs.Cmp.Lexicographic.{slice_cmp}
-use Rattle.mt_version.specs.Changes.{SameButLock}
-use Rattle.mt_slices.specs.Keys.{IsStoredKey, tenant_of}
-use Rattle.mt_slices.specs.Fences.{least_from, least_through, IsBehindAll}
-use Rattle.mt_slices.proofs.Behind.{is_behind}
-use Rattle.mt_rows.specs.Commands.{IsKey}
+use Rattle.std.proofs.{lemmas.Bool.{cases_lt, cases_eq}, lemmas.List.{length-append, length-map, length-take-le, take_all}, lemmas.List.Folds.list_any_at}
 use Rattle.std.proofs.lemmas.List.Elements.{All-append, All-map, All-take}
-use Rattle.mt_rows.specs.Rows.{Bytes, Columns, shown}
-use Rattle.mt_rows.specs.Maps.{Map}
+use Rattle.std.specs.{Prelude.{if◌then◌else◌}, List.{All, Contains}, Ordering.{nat_cmp, is_le, is_lt}, Cmp.Lexicographic.slice_cmp}
+use Rattle.mt_version.specs.Changes.{SameButLock}
+use Rattle.mt_slices.{specs.{Keys.{IsStoredKey, tenant_of}, Fences.{least_from, least_through, IsBehindAll}}, proofs.Behind.is_behind}
+use Rattle.mt_rows.specs.{Commands.IsKey, Rows.{Bytes, Columns, shown}, Maps.Map}
 use Rattle.mt_runs.specs.Scans.{Shown, IsLawful}
 use Rattle.mt_arena.specs.NodeView.{NodeView}
-use Rattle.mt_operation.specs.declared.phase.Phase.TheVariants.{Hop, Done}
-use Rattle.mt_operation.specs.declared.walk.Walk.{Walk}
-use Rattle.mt_operation.specs.declared.scan.Stop.{Stop}
-use Rattle.mt_operation.specs.declared.scan.Stop.TheVariants as stops
-use Rattle.mt_operation.specs.Operations.{ScanView}
+use Rattle.mt_operation.specs.{declared.phase.Phase.TheVariants.{Hop, Done}, declared.walk.Walk.Walk, declared.scan.Stop.Stop, Operations.ScanView}
 use Rattle.mt_descent.specs.Pasts.{Past}
-use Rattle.mt_walks.specs.Walked.{IsWithin, HasWalked, IsStretch, IsFront, keys_of, shown_all, is_upto}
-use Rattle.mt_walks.proofs.Walks.{lawful, goes_on, goes_on_partly}
+use Rattle.mt_walks.{specs.Walked.{IsWithin, HasWalked, IsStretch, IsFront, keys_of, shown_all, is_upto}, proofs.Walks.{lawful, goes_on, goes_on_partly}}
 use Rattle.mt_readings.specs.Tenancies.{passed_at}
 use Rattle.mt_scan.specs.Checks.{collects, kept_seen, at_fence, AreGreatest, walk_to, GoesBehind, IsCheck}
 use Rattle.mt_stretches.specs.Scanned.{maps_of, passed_by, HasScanned, IsSeenIn, IsSeenUpTo, IsSeenTo, HasSeen}
 use Rattle.mt_stretches.proofs.Fronts.{front_at, front_all, further, within, contrary}
+use Rattle.mt_operation.specs.declared.scan.Stop.TheVariants as stops
 
 -- some key is the least behind all that begin with these bytes, or they are no more than the tenant's four
 pub some_behind : (prefix : Bytes) → AreGreatest prefix ⊎ ((fence : Bytes) × IsBehindAll prefix fence)

@@ -1,20 +1,12 @@
 -- The keys that are done with at a fence: with each key all lower ones, and more of them the further the fence lies.
 use Rattle.std.proofs.Common.{◌≡◌, ℕ, ◌<◌, ◌^◌, Bool, true, false, [], ◌∷◌, ◌++◌, refl, sym, ap, ◌∙◌}
-use Rattle.std.specs.Prelude.{not, if◌then◌else◌}
-use Rattle.std.specs.Int.{w32, to_be_bytes}
-use Rattle.std.specs.declared.cmp.Ordering.{Ordering}
-use Rattle.std.specs.declared.cmp.Ordering.TheVariants.{Less, Equal, Greater}
-use Rattle.std.specs.Ordering.{nat_cmp, is_le, is_lt, ordering_then, ordering_reverse}
+use Rattle.std.specs.{Prelude.{not, if◌then◌else◌}, Int.{w32, to_be_bytes}, declared.cmp.Ordering.Ordering}
+use Rattle.std.specs.{declared.cmp.Ordering.TheVariants.{Less, Equal, Greater}, Ordering.{nat_cmp, is_le, is_lt, ordering_then, ordering_reverse}}
 use Rattle.std.specs.Cmp.Lexicographic.{slice_cmp}
-use Rattle.mt_slices.specs.Keys.{stored_key, tenant_of}
-use Rattle.mt_slices.proofs.Tenants.{tenant_of-stored_key}
-use Rattle.mt_rows.specs.Rows.{Bytes}
-use Rattle.mt_rows.specs.Maps.{is_walked}
-use Rattle.mt_rows.proofs.CommandLaws.{keys_total, keys_exact}
+use Rattle.mt_slices.{specs.Keys.{stored_key, tenant_of}, proofs.Tenants.tenant_of-stored_key}
+use Rattle.mt_rows.{specs.{Rows.Bytes, Maps.is_walked}, proofs.CommandLaws.{keys_total, keys_exact}}
 use Rattle.mt_walks.specs.Walked.{IsFront}
-use Rattle.mt_readings.specs.Reading.{is_below}
-use Rattle.mt_readings.specs.Tenancies.{passed_at}
-use Rattle.mt_readings.proofs.Bytewise.{nat_same}
+use Rattle.mt_readings.{specs.{Reading.is_below, Tenancies.passed_at}, proofs.Bytewise.nat_same}
 
 -- by their bytes
 abbrev cmp : Bytes → Bytes → Ordering

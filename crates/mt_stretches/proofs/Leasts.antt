@@ -1,19 +1,13 @@
 -- What the least keys are at which a scan goes on: bytes that begin as the keys of its tree, with the slice that they were made for.
 use Rattle.std.proofs.Common.{◌≡◌, ◌≢◌, ◌⊎◌, inl, inr, ℕ, zero, suc, ◌+◌, ◌-◌, ◌*◌, ◌<◌, ◌≤◌, ◌^◌, [], ◌∷◌, ◌++◌, length, take, drop, get_or, refl, sym, ap, ◌∙◌, arith}
-use Rattle.std.specs.Prelude.{max, if◌then◌else◌, slice_index}
-use Rattle.std.specs.Int.{w64, to_be_bytes}
-use Rattle.std.proofs.Math.Nat.{max-eq_left, max-eq_right}
-use Rattle.std.proofs.Math.Seq.{drop-append_seam}
-use Rattle.std.proofs.lemmas.Bool.{cases_lt, ne_eqb}
+use Rattle.std.proofs.{Math.Nat.{max-eq_left, max-eq_right}, Math.Seq.drop-append_seam, lemmas.Bool.{cases_lt, ne_eqb}}
 use Rattle.std.proofs.lemmas.List.{get_or-take, length-take, length-append}
-use Rattle.mt_slices.specs.Slices.{slice_of, rest_of}
-use Rattle.mt_slices.specs.Fences.{in_front, significant, trimmed, least_more, least_from, least_through}
-use Rattle.mt_slices.proofs.Bytes.{AreBytes}
-use Rattle.mt_slices.proofs.Least as least
-use Rattle.mt_slices.proofs.Trimming.{bytes_append, bytes_take, slice_are_bytes}
+use Rattle.std.specs.{Prelude.{max, if◌then◌else◌, slice_index}, Int.{w64, to_be_bytes}}
+use Rattle.mt_slices.specs.{Slices.{slice_of, rest_of}, Fences.{in_front, significant, trimmed, least_more, least_from, least_through}}
+use Rattle.mt_slices.proofs.{Bytes.AreBytes, Trimming.{bytes_append, bytes_take, slice_are_bytes}}
 use Rattle.mt_rows.specs.Rows.{Bytes}
-use Rattle.mt_readings.specs.Reading.{IsAtLink}
-use Rattle.mt_readings.specs.Spans.{IsAtSlice, least_in}
+use Rattle.mt_readings.specs.{Reading.IsAtLink, Spans.{IsAtSlice, least_in}}
+use Rattle.mt_slices.proofs.Least as least
 
 -- the bytes without the zeros at their end are no more than all, and their last one is none
 front_most : (b n : ℕ) → in_front b n ≤ n + 1

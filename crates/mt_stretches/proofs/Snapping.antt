@@ -1,61 +1,27 @@
 -- What Snap sees of a border node is a stretch of its tenant's map, as long as the node's range stands.
 use Rattle.std.proofs.Common.{◌≡◌, ◌≢◌, ℕ, ◌+◌, ◌*◌, ◌<◌, ◌≤◌, ◌^◌, inl, inr, Bool, true, false, length, take, Option, Some, None, refl, sym, ap, subst, ◌∙◌, arith}
-use Rattle.std.proofs.lemmas.Bool.{cases_lt, cases_eq}
-use Rattle.std.proofs.lemmas.List.{get_or_default, length-drop, take-take}
-use Rattle.std.proofs.lemmas.Option.{same_Some}
-use Rattle.std.specs.declared.cmp.Ordering.{Ordering}
-use Rattle.std.specs.Ordering.{nat_cmp, is_lt, ordering_then}
-use Rattle.std.specs.Cmp.Lexicographic.{slice_cmp}
-use Rattle.std.specs.List.{All}
-use Rattle.std.specs.FinMap.{get}
+use Rattle.std.proofs.{lemmas.Bool.{cases_lt, cases_eq}, lemmas.List.{get_or_default, length-drop, take-take}, lemmas.Option.same_Some}
 use Rattle.std.proofs.lemmas.List.Elements.{All-weaker}
-use Rattle.mt_slices.specs.Keys.{IsStoredKey, stored_key, tenant_of, user_key_of}
-use Rattle.mt_rows.specs.Commands.{IsKey}
-use Rattle.mt_rows.proofs.ContentLaws.{get-tenant_map}
+use Rattle.std.specs.{declared.cmp.Ordering.Ordering, Ordering.{nat_cmp, is_lt, ordering_then}, Cmp.Lexicographic.slice_cmp, List.All, FinMap.get}
+use Rattle.mt_slices.specs.{Keys.{IsStoredKey, stored_key, tenant_of, user_key_of}, Marks.mark_rank, Slices.{slice_of, mark_of, suffix_of, rest_of}}
+use Rattle.mt_slices.specs.{declared.mark.Mark.TheVariants.{Long, Short}, Fences.{least_from, least_through, IsBehindAll}}
+use Rattle.mt_slices.proofs.{Bytes.AreBytes, Numbers.{number_lt, tenant_of-number}, Order.cmp_below, Rejoin.mark_short, Trimming.bytes_take}
+use Rattle.mt_rows.{specs.{Commands.IsKey, Rows.{Bytes, Columns}, Tenants.{Contents, tenant_map}}, proofs.ContentLaws.get-tenant_map}
 use Rattle.mt_stretches.proofs.Checking.{some_behind}
-use Rattle.mt_slices.specs.Marks.{mark_rank}
-use Rattle.mt_slices.specs.Slices.{slice_of, mark_of, suffix_of, rest_of}
-use Rattle.mt_slices.specs.declared.mark.Mark.TheVariants.{Long, Short}
-use Rattle.mt_slices.specs.Fences.{least_from, least_through, IsBehindAll}
-use Rattle.mt_slices.proofs.Bytes.{AreBytes}
-use Rattle.mt_slices.proofs.Numbers.{number_lt, tenant_of-number}
-use Rattle.mt_slices.proofs.Order.{cmp_below}
-use Rattle.mt_slices.proofs.Rejoin.{mark_short}
-use Rattle.mt_slices.proofs.Trimming.{bytes_take}
-use Rattle.mt_rows.specs.Rows.{Bytes, Columns}
-use Rattle.mt_rows.specs.Tenants.{Contents, tenant_map}
-use Rattle.mt_border.specs.declared.entry.Entry.{Entry}
-use Rattle.mt_border.specs.Entry.{pair_of}
-use Rattle.mt_border.specs.Contents.{HasKey}
-use Rattle.mt_border.proofs.Edits.{any_entry}
+use Rattle.mt_stretches.proofs.Leasts.{from_bytes, from_begins, from_slice, from_long, at_slice, through_long, through_bytes, through_begins, through_slice, at_link}
+use Rattle.mt_stretches.specs.Scanned.{IsSeenIn, IsSeenUpTo, IsSeenTo, HasSeen}
+use Rattle.mt_border.{specs.{declared.entry.Entry.Entry, Entry.pair_of, Contents.HasKey}, proofs.Edits.any_entry}
 use Rattle.mt_interior.specs.Fences.{end_of}
-use Rattle.mt_arena.specs.NodeView.{NodeView}
-use Rattle.mt_arena.specs.Nodes.{IsNeighbour, seat_of}
-use Rattle.mt_arena.specs.Forests.{tree_at}
-use Rattle.mt_arena.specs.Contents.{content}
-use Rattle.mt_arena.specs.Arena.{ArenaView, IsArena}
-use Rattle.mt_arena.specs.Accesses.{at}
+use Rattle.mt_arena.specs.{NodeView.NodeView, Nodes.{IsNeighbour, seat_of}, Forests.tree_at, Contents.content, Arena.{ArenaView, IsArena}, Accesses.at}
 use Rattle.mt_arena.specs.Ways.{BelongsIn}
-use Rattle.mt_operation.specs.declared.walk.Walk.{Walk}
-use Rattle.mt_operation.specs.declared.scan.Stop.{Stop}
-use Rattle.mt_operation.specs.declared.scan.Stop.TheVariants as stops
-use Rattle.mt_operation.specs.Operations.{ScanView}
-use Rattle.mt_descent.specs.Pasts.{Past, IsNow}
-use Rattle.mt_descent.specs.Seen.{RangeStands}
-use Rattle.mt_descent.specs.KeptWalks.{IsAtBorder}
-use Rattle.mt_descent.proofs.Looks.{belongs}
-use Rattle.mt_readings.specs.Reading.{is_below, behind_by, is_behind, read, stop}
-use Rattle.mt_readings.specs.Spans.{IsScanAt, TellsAll}
-use Rattle.mt_readings.specs.Tenancies.{own_pairs, TellsTenant}
-use Rattle.mt_readings.proofs.Bytewise.{nat_less}
-use Rattle.mt_readings.proofs.Readings.{stop_ahead}
-use Rattle.mt_readings.proofs.Spanning.{border_is, keys_are, stands, link_long, slice_within, to_link, to_next}
-use Rattle.mt_readings.proofs.Stored.{stored_keys}
-use Rattle.mt_readings.proofs.Joining.{stretch}
+use Rattle.mt_operation.specs.{declared.walk.Walk.Walk, declared.scan.Stop.Stop, Operations.ScanView}
+use Rattle.mt_descent.{specs.{Pasts.{Past, IsNow}, Seen.RangeStands, KeptWalks.IsAtBorder}, proofs.Looks.belongs}
+use Rattle.mt_readings.specs.{Reading.{is_below, behind_by, is_behind, read, stop}, Spans.{IsScanAt, TellsAll}, Tenancies.{own_pairs, TellsTenant}}
+use Rattle.mt_readings.proofs.{Bytewise.nat_less, Readings.stop_ahead, Spanning.{border_is, keys_are, stands, link_long, slice_within, to_link, to_next}}
+use Rattle.mt_readings.proofs.{Stored.stored_keys, Joining.stretch}
 use Rattle.mt_readings.proofs.Ends.{of_all, before_all, slice_of_lt, slice_from_tenant, tenant_is, same_tenant, prefix_long, to_the_trees_end, to_the_tenants_end, to_the_last_trees_end}
 use Rattle.mt_scan.specs.Snaps.{prefix_in, StopsAtLink, HasNoLink, IsOver, StopsAt, IsSnap}
-use Rattle.mt_stretches.specs.Scanned.{IsSeenIn, IsSeenUpTo, IsSeenTo, HasSeen}
-use Rattle.mt_stretches.proofs.Leasts.{from_bytes, from_begins, from_slice, from_long, at_slice, through_long, through_bytes, through_begins, through_slice, at_link}
+use Rattle.mt_operation.specs.declared.scan.Stop.TheVariants as stops
 
 -- by their bytes
 abbrev cmp : Bytes → Bytes → Ordering

@@ -1,22 +1,14 @@
 -- What a scan has done so far, by the maps that its tenant had since its first step.
-use Rattle.std.specs.Prelude.{◌≡◌, ◌<◌, ◌≤◌, ℕ, Bool, true, false, List, length, Some}
-use Rattle.std.specs.Ordering.{nat_cmp, is_lt}
-use Rattle.std.specs.Cmp.Lexicographic.{slice_cmp}
-use Rattle.std.specs.FinMap as pairs
-use Rattle.mt_slices.specs.Keys.{IsStoredKey, tenant_of}
-use Rattle.mt_slices.specs.Fences.{least_from, least_through, IsBehindAll}
-use Rattle.std.specs.List.{All}
-use Rattle.mt_rows.specs.Commands.{IsKey}
-use Rattle.mt_rows.specs.Rows.{Bytes, Columns}
-use Rattle.mt_rows.specs.Maps.{Map, is_walked}
-use Rattle.mt_rows.specs.Tenants.{tenant_map}
-use Rattle.mt_operation.specs.declared.scan.Stop.{Stop}
-use Rattle.mt_operation.specs.declared.scan.Stop.TheVariants as stops
-use Rattle.mt_operation.specs.Operations.{ScanView}
+use Rattle.std.specs.{Prelude.{◌≡◌, ◌<◌, ◌≤◌, ℕ, Bool, true, false, List, length, Some}, Ordering.{nat_cmp, is_lt}, Cmp.Lexicographic.slice_cmp, List.All}
+use Rattle.mt_slices.specs.{Keys.{IsStoredKey, tenant_of}, Fences.{least_from, least_through, IsBehindAll}}
+use Rattle.mt_rows.specs.{Commands.IsKey, Rows.{Bytes, Columns}, Maps.{Map, is_walked}, Tenants.tenant_map}
+use Rattle.mt_operation.specs.{declared.scan.Stop.Stop, Operations.ScanView}
 use Rattle.mt_descent.specs.Pasts.{Past}
 use Rattle.mt_walks.specs.Walked.{IsWithin, HasWalked, IsStretch}
 use Rattle.mt_readings.specs.Tenancies.{passed_at}
 use Rattle.mt_scan.specs.Checks.{AreGreatest}
+use Rattle.std.specs.FinMap as pairs
+use Rattle.mt_operation.specs.declared.scan.Stop.TheVariants as stops
 
 -- a tenant's map after each step
 abbrev pub maps_of : Past → ℕ → ℕ → Map

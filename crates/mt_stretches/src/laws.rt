@@ -1,29 +1,16 @@
 //! What a scan has done behind each of its steps. Contracts alone: no code runs.
 
-ghost use Rattle.std.specs.Prelude.{◌≡◌, ◌<◌, ◌≤◌, ℕ, ◌^◌, Bool, true, false, List, length};
-ghost use Rattle.std.specs.List.{All, Contains};
-ghost use Rattle.mt_slices.specs.Keys.{IsStoredKey, stored_key, tenant_of};
-ghost use Rattle.mt_slices.specs.Fences.{least_from};
-ghost use Rattle.mt_rows.specs.declared.command.Command.TheVariants.{Scan};
-ghost use Rattle.mt_rows.specs.Commands.{IsKey};
-ghost use Rattle.mt_rows.specs.Rows.{Bytes, Columns};
-ghost use Rattle.mt_rows.specs.Maps.{is_walked};
+ghost use Rattle.std.specs.{Prelude.{◌≡◌, ◌<◌, ◌≤◌, ℕ, ◌^◌, Bool, true, false, List, length}, List.{All, Contains}};
+ghost use Rattle.mt_slices.specs.{Keys.{IsStoredKey, stored_key, tenant_of}, Fences.least_from};
+ghost use Rattle.mt_rows.specs.{declared.command.Command.TheVariants.Scan, Commands.IsKey, Rows.{Bytes, Columns}, Maps.is_walked};
 ghost use Rattle.mt_runs.specs.Scans.{IsLawful};
 ghost use Rattle.mt_version.specs.Changes.{SameButLock};
-ghost use Rattle.mt_arena.specs.NodeView.{NodeView};
-ghost use Rattle.mt_arena.specs.Arena.{ArenaView, IsArena};
-ghost use Rattle.mt_arena.specs.Accesses.{at};
-ghost use Rattle.mt_operation.specs.declared.phase.Phase.{Phase};
-ghost use Rattle.mt_operation.specs.declared.walk.Walk.{Walk};
-ghost use Rattle.mt_operation.specs.declared.scan.Stop.{Stop};
-ghost use Rattle.mt_operation.specs.Operations.{ScanView, no_scan};
-ghost use Rattle.mt_descent.specs.Pasts.{Past, IsNow, ExtendsPast};
-ghost use Rattle.mt_descent.specs.Seen.{RangeStands};
-ghost use Rattle.mt_descent.specs.KeptWalks.{IsAtBorder};
+ghost use Rattle.mt_arena.specs.{NodeView.NodeView, Arena.{ArenaView, IsArena}, Accesses.at};
+ghost use Rattle.mt_operation.specs.{declared.phase.Phase.Phase, declared.walk.Walk.Walk, declared.scan.Stop.Stop, Operations.{ScanView, no_scan}};
+ghost use Rattle.mt_descent.specs.{Pasts.{Past, IsNow, ExtendsPast}, Seen.RangeStands, KeptWalks.IsAtBorder};
 ghost use Rattle.mt_walks.specs.Walked.{IsWithin, keys_of};
 ghost use Rattle.mt_readings.specs.Tenancies.{passed_at};
-ghost use Rattle.mt_scan.specs.Snaps.{prefix_in, IsSnap};
-ghost use Rattle.mt_scan.specs.Checks.{IsCheck};
+ghost use Rattle.mt_scan.specs.{Snaps.{prefix_in, IsSnap}, Checks.IsCheck};
 ghost use Rattle.mt_stretches.specs.Scanned.{maps_of, passed_by, Stayed, HasScanned, HasSeen};
 
 /// Before its first step a scan has walked no key, whatever that step's number will be.

@@ -1,23 +1,14 @@
 -- A step that a body makes in a seat, and what it makes of the table: for step_by of table.rt.
-use Rattle.std.proofs.Common.{◌≡◌, ◌≢◌, ℕ, Bool, true, false, set, Some, None, refl, sym, ap, subst, ◌∙◌}
-use Rattle.std.proofs.lemmas.Option.{same_Some}
-use Rattle.mt_operation.specs.declared.phase.Phase.{Phase}
-use Rattle.mt_operation.specs.declared.walk.Walk.{Walk}
-use Rattle.mt_operation.specs.declared.operation.Operation.{Operation}
-use Rattle.mt_table.specs.declared.queue.Seat.{Seat}
-use Rattle.mt_table.specs.declared.queue.Ends.{Ends}
-use Rattle.mt_table.specs.declared.steps.Made.{Made}
-use Rattle.mt_table.specs.declared.steps.Made.TheVariants.{Step, Blocked as BlockedBy, NoMemory as RefusedBy, Nothing}
-use Rattle.mt_table.specs.declared.steps.Stepped.{Stepped}
-use Rattle.mt_table.specs.declared.steps.Stepped.TheVariants.{To, Blocked, NoMemory, Left, Absent}
-use Rattle.mt_operation.specs.Operations.{counted}
+use Rattle.std.proofs.{Common.{◌≡◌, ◌≢◌, ℕ, Bool, true, false, set, Some, None, refl, sym, ap, subst, ◌∙◌}, lemmas.Option.same_Some}
+use Rattle.mt_operation.specs.{declared.phase.Phase.Phase, declared.walk.Walk.Walk, declared.operation.Operation.Operation, Operations.counted}
 use Rattle.mt_operation.specs.Tables.{Table, op_at, AreBefore, MayMove}
-use Rattle.mt_table.specs.Seats.{Seats, seat_at, with_operation, operation_in, table_of, padded, is_still, IsEndOrSeat}
-use Rattle.mt_table.specs.Queues.{IsTable, LinksLast, Becomes}
-use Rattle.mt_table.specs.Bodies.{Body, MovesUnfinished, KeepsWalk, LeavesElse, MovesBy, StaysBy, GrowsBy, StepsBy, SeatMovesBy, SeatStaysBy, SeatStepsBy}
 use Rattle.mt_operation.proofs.Tables.{set_same}
-use Rattle.mt_table.proofs.Places.{shown_op}
-use Rattle.mt_table.proofs.TableMoves.{became_table, changed_sound, last_new, moved_there, moved_last, moved_first, moved_later}
+use Rattle.mt_table.specs.{declared.queue.Seat.Seat, declared.queue.Ends.Ends, declared.steps.Made.Made}
+use Rattle.mt_table.specs.{declared.steps.Made.TheVariants.{Step, Blocked as BlockedBy, NoMemory as RefusedBy, Nothing}, declared.steps.Stepped.Stepped}
+use Rattle.mt_table.specs.declared.steps.Stepped.TheVariants.{To, Blocked, NoMemory, Left, Absent}
+use Rattle.mt_table.specs.{Seats.{Seats, seat_at, with_operation, operation_in, table_of, padded, is_still, IsEndOrSeat}, Queues.{IsTable, LinksLast, Becomes}}
+use Rattle.mt_table.specs.Bodies.{Body, MovesUnfinished, KeepsWalk, LeavesElse, MovesBy, StaysBy, GrowsBy, StepsBy, SeatMovesBy, SeatStaysBy, SeatStepsBy}
+use Rattle.mt_table.proofs.{Places.shown_op, TableMoves.{became_table, changed_sound, last_new, moved_there, moved_last, moved_first, moved_later}}
 
 module _ (Makes : Body) (n : ℕ) (p0 p1 : Seats) (now : Table) (o : ℕ) (is : padded n (table_of p0) ≡ now) where
   -- the operation of a seat, as the table shows it

@@ -1,14 +1,10 @@
 -- What one seat that is written over makes of the links and of the table: for the functions of queue.rt, and TableMoves.
 use Rattle.std.proofs.Common.{◌≡◌, ◌≢◌, ℕ, zero, suc, inl, inr, [], ◌∷◌, set, Box, Global, Option, Some, None, is_some, refl, sym, ap, subst, ◌∙◌}
-use Rattle.std.proofs.lemmas.Bool.{cases_eq}
-use Rattle.std.proofs.lemmas.Option.{same_Some}
-use Rattle.mt_operation.specs.declared.operation.Operation.{Operation}
-use Rattle.mt_table.specs.declared.queue.Seat.{Seat}
-use Rattle.mt_table.specs.declared.queue.Ends.{Ends}
-use Rattle.mt_operation.specs.Tables.{op_at}
+use Rattle.std.proofs.{lemmas.Bool.cases_eq, lemmas.Option.same_Some}
+use Rattle.mt_operation.{specs.{declared.operation.Operation.Operation, Tables.op_at}, proofs.Tables.{set_is, set_there, set_same}}
+use Rattle.mt_table.specs.{declared.queue.Seat.Seat, declared.queue.Ends.Ends}
 use Rattle.mt_table.specs.Seats.{Seats, seat_at, with_operation, operation_in, table_of, after_in, before_in, after_of, before_of, IsEndOrSeat}
 use Rattle.mt_table.specs.Queues.{SetsAfter, SetsBefore, CutsOut, LinksLast, Becomes}
-use Rattle.mt_operation.proofs.Tables.{set_is, set_there, set_same}
 
 -- the operation of an id is that of the seat there
 pub op_seat : (seats : Seats) (o : ℕ) → op_at (table_of seats) o ≡ operation_in (seat_at seats o)

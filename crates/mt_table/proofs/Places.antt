@@ -1,15 +1,10 @@
 -- The places of a table: what those behind its seats change, which is nothing but their number.
 use Rattle.std.proofs.Common.{◌≡◌, ℕ, zero, suc, ◌+◌, ◌≤◌, List, [], ◌∷◌, length, set, cond, Option, Some, None, is_some, refl, sym, ap, ◌∙◌, arith}
+use Rattle.std.proofs.{lemmas.List.{length-map, length-set}, lemmas.List.Recursion.is_count_by}
 use Rattle.std.specs.Prelude.{count_by}
-use Rattle.std.proofs.lemmas.List.{length-map, length-set}
-use Rattle.std.proofs.lemmas.List.Recursion.{is_count_by}
 use Rattle.slab.specs.Slab.{Slab, HasRoomFor}
-use Rattle.mt_operation.specs.declared.operation.Operation.{Operation}
-use Rattle.mt_table.specs.declared.queue.Seat.{Seat}
-use Rattle.mt_operation.specs.Tables.{Table, op_at, open_count, HasPlaces, AddsPlaces}
-use Rattle.mt_table.specs.Seats.{Seats, seat_at, operation_in, table_of, padded, KeepsRoom}
-use Rattle.mt_table.specs.Queues.{HasSeats}
-use Rattle.mt_table.proofs.Links.{op_seat}
+use Rattle.mt_operation.specs.{declared.operation.Operation.Operation, Tables.{Table, op_at, open_count, HasPlaces, AddsPlaces}}
+use Rattle.mt_table.{specs.{declared.queue.Seat.Seat, Seats.{Seats, seat_at, operation_in, table_of, padded, KeepsRoom}, Queues.HasSeats}, proofs.Links.op_seat}
 
 -- each id has what it had
 pub padded_at : (n : ℕ) (table : Table) (o : ℕ) → op_at (padded n table) o ≡ op_at table o

@@ -1,6 +1,5 @@
 -- The queue of operations in the order of their first steps stays one where one is put behind all others, and where one is cut out: for TableMoves.
-use Rattle.std.proofs.Common.{◌≡◌, ◌≢◌, ℕ, ◌<◌, ◌≤◌, ◌⊎◌, inl, inr, Option, Some, None, refl, sym, ap, subst, ◌∙◌, arith}
-use Rattle.std.proofs.lemmas.Bool.{cases_eq}
+use Rattle.std.proofs.{Common.{◌≡◌, ◌≢◌, ℕ, ◌<◌, ◌≤◌, ◌⊎◌, inl, inr, Option, Some, None, refl, sym, ap, subst, ◌∙◌, arith}, lemmas.Bool.cases_eq}
 use Rattle.std.proofs.lemmas.Option.{same_Some}
 use Rattle.mt_table.specs.Queues.{IsInQueue, queue_number, ComesNext, IsQueue}
 

@@ -1,19 +1,13 @@
 -- A table stays one, and shows what it is to show: for the calls of table.rt.
 use Rattle.std.proofs.Common.{◌≡◌, ◌≢◌, ℕ, zero, suc, ◌-◌, ◌<◌, ◌≤◌, ◌⊎◌, inl, inr, true, false, ◌==◌, set, Box, Global, Option, Some, None, is_some, refl, sym, ap, subst, ◌∙◌, arith}
+use Rattle.std.proofs.{lemmas.Bool.{cases_eq, eqb-true}, lemmas.Option.same_Some}
 use Rattle.slab.specs.Slab.{Slab, Updates}
-use Rattle.std.proofs.lemmas.Bool.{cases_eq, eqb-true}
-use Rattle.std.proofs.lemmas.Option.{same_Some}
-use Rattle.mt_operation.specs.declared.walk.Walk.{Walk}
-use Rattle.mt_operation.specs.declared.operation.Operation.{Operation}
-use Rattle.mt_table.specs.declared.queue.Seat.{Seat}
-use Rattle.mt_table.specs.declared.queue.Ends.{Ends}
-use Rattle.mt_operation.specs.Operations.{moved}
-use Rattle.mt_operation.specs.Tables.{Table, op_at, MayMove, IsFloorNeeded}
+use Rattle.mt_operation.specs.{declared.walk.Walk.Walk, declared.operation.Operation.Operation, Operations.moved, Tables.{Table, op_at, MayMove, IsFloorNeeded}}
+use Rattle.mt_operation.proofs.Tables.{set_is, set_there, set_none}
+use Rattle.mt_table.specs.{declared.queue.Seat.Seat, declared.queue.Ends.Ends}
 use Rattle.mt_table.specs.Seats.{Seats, seat_at, with_operation, operation_in, table_of, padded, first_in, first_at, is_still, after_in, before_in, after_of, before_of, IsEndOrSeat}
 use Rattle.mt_table.specs.Queues.{IsInQueue, queue_number, ComesNext, IsTable, CutsOut, LinksLast, Becomes}
-use Rattle.mt_operation.proofs.Tables.{set_is, set_there, set_none}
-use Rattle.mt_table.proofs.Links.{op_seat, table_set, seat_there, written_in}
-use Rattle.mt_table.proofs.Places.{shown_op, shown_at, padded_set}
+use Rattle.mt_table.proofs.{Links.{op_seat, table_set, seat_there, written_in}, Places.{shown_op, shown_at, padded_set}}
 use Rattle.mt_table.proofs.QueueLaws.{some_none, in_follows, same_queue, cut_queue, behind_queue}
 
 none_op : {op : Operation} → ◌≡◌ {A = Option Operation} None (Some op) → ⊥

@@ -1,14 +1,8 @@
 -- Steps that a body makes of an operation in its place, and what they make of the table.
 use Rattle.std.specs.Prelude.{◌≡◌, ◌≢◌, ℕ, ◌==◌, Bool, true, false, Some, None, slice_set}
-use Rattle.mt_operation.specs.declared.phase.Phase.{Phase}
-use Rattle.mt_table.specs.declared.steps.Made.{Made}
-use Rattle.mt_table.specs.declared.steps.Made.TheVariants.{Step, Blocked as BlockedBy, NoMemory as RefusedBy, Nothing}
-use Rattle.mt_table.specs.declared.steps.Stepped.{Stepped}
-use Rattle.mt_table.specs.declared.steps.Stepped.TheVariants.{To, Blocked, NoMemory, Left, Absent}
-use Rattle.mt_operation.specs.declared.operation.Operation.{Operation}
-use Rattle.mt_table.specs.declared.queue.Seat.{Seat}
-use Rattle.mt_operation.specs.Operations.{counted, is_unfinished}
-use Rattle.mt_operation.specs.Tables.{Table, op_at}
+use Rattle.mt_operation.specs.{declared.phase.Phase.Phase, declared.operation.Operation.Operation, Operations.{counted, is_unfinished}, Tables.{Table, op_at}}
+use Rattle.mt_table.specs.{declared.steps.Made.Made, declared.steps.Made.TheVariants.{Step, Blocked as BlockedBy, NoMemory as RefusedBy, Nothing}}
+use Rattle.mt_table.specs.{declared.steps.Stepped.Stepped, declared.steps.Stepped.TheVariants.{To, Blocked, NoMemory, Left, Absent}, declared.queue.Seat.Seat}
 use Rattle.mt_table.specs.Seats.{Seats, seat_at, with_operation}
 
 -- what a body may make of an operation

@@ -2,9 +2,7 @@
 use Rattle.std.specs.Prelude.{◌≡◌, ◌≢◌, ℕ, ◌<◌, ◌≤◌, ◌⊎◌, length, Option, Some, None, slice_set}
 use Rattle.slab.specs.Slab.{Slab}
 use Rattle.mt_operation.specs.declared.operation.Operation.{Operation}
-use Rattle.mt_table.specs.declared.queue.Seat.{Seat}
-use Rattle.mt_table.specs.declared.queue.Ends.{Ends}
-use Rattle.mt_table.specs.Seats.{Seats, seat_at, with_operation, table_of, first_at, after_of, before_of}
+use Rattle.mt_table.specs.{declared.queue.Seat.Seat, declared.queue.Ends.Ends, Seats.{Seats, seat_at, with_operation, table_of, first_at, after_of, before_of}}
 
 -- an operation that has made a step, or none
 abbrev pub IsInQueue : (ℕ → ℕ) → Option ℕ → Type 0

@@ -1,11 +1,8 @@
 -- The table of operations as it lies in memory: each operation in a seat, which names its neighbours in the queue.
-use Rattle.std.specs.Prelude.{◌≡◌, ℕ, zero, suc, ◌==◌, Bool, false, List, [], ◌∷◌, length, map, Option, Some, None, IsSome, slice_index_or}
-use Rattle.std.specs.Box.{with_value}
+use Rattle.std.specs.{Prelude.{◌≡◌, ℕ, zero, suc, ◌==◌, Bool, false, List, [], ◌∷◌, length, map, Option, Some, None, IsSome, slice_index_or}, Box.with_value}
 use Rattle.slab.specs.Slab.{Slab}
-use Rattle.mt_operation.specs.declared.operation.Operation.{Operation}
-use Rattle.mt_table.specs.declared.queue.Seat.{Seat}
-use Rattle.mt_table.specs.declared.queue.Ends.{Ends}
-use Rattle.mt_operation.specs.Tables.{Table, op_at}
+use Rattle.mt_operation.specs.{declared.operation.Operation.Operation, Tables.{Table, op_at}}
+use Rattle.mt_table.specs.{declared.queue.Seat.Seat, declared.queue.Ends.Ends}
 
 -- the seats by their ids
 abbrev pub Seats : Type 0

@@ -4,13 +4,9 @@
 //! and to one operation is said seat by seat; `table.rt` keeps what holds of all of them. None of them
 //! adds a seat or gives one up.
 
-ghost use Rattle.std.specs.Prelude.{◌≡◌, ◌≢◌, ◌<◌, false, Some, None};
-ghost use Rattle.std.specs.Option.{ForSome};
-ghost use Rattle.std.specs.Fn.{FnOnceTakesAtMut, CalledAtMut};
-ghost use Rattle.mt_table.specs.declared.steps.Stepped.TheVariants.{Absent as NobodyIsThere};
-ghost use Rattle.mt_table.specs.Seats.{Seats, seat_at, operation_in, IsEndOrSeat, KeepsRoom};
-ghost use Rattle.mt_table.specs.Bodies.{SeatKeepsFirst, SeatStepsBy};
-ghost use Rattle.mt_table.specs.Queues.{SetsAfter, SetsBefore, CutsOut, LinksLast};
+ghost use Rattle.std.specs.{Prelude.{◌≡◌, ◌≢◌, ◌<◌, false, Some, None}, Option.ForSome, Fn.{FnOnceTakesAtMut, CalledAtMut}};
+ghost use Rattle.mt_table.specs.{declared.steps.Stepped.TheVariants.{Absent as NobodyIsThere}, Seats.{Seats, seat_at, operation_in, IsEndOrSeat, KeepsRoom}};
+ghost use Rattle.mt_table.specs.{Bodies.{SeatKeepsFirst, SeatStepsBy}, Queues.{SetsAfter, SetsBefore, CutsOut, LinksLast}};
 
 use crate::steps::{Made, Stepped};
 use mt_operation::Operation;

@@ -8,9 +8,7 @@
 //! empty if no operation is there.
 
 ghost use Rattle.std.specs.Prelude.{◌≡◌, ◌≢◌, ◌+◌, ◌≤◌, ℕ, [], length, IsOk, IfOk, IfErr, OnOk, OnErr, OnSome, IfNone, Some, None, slice_set, option_copied};
-ghost use Rattle.std.specs.Option.{ForSome, option_map};
-ghost use Rattle.std.specs.Box.{box_value};
-ghost use Rattle.std.specs.Fn.{FnOnceTakesAtMut, CalledAtMut};
+ghost use Rattle.std.specs.{Option.{ForSome, option_map}, Box.box_value, Fn.{FnOnceTakesAtMut, CalledAtMut}};
 ghost use Rattle.mt_table.specs.declared.steps.Stepped.TheVariants.{Absent as NobodyIsThere};
 ghost use Rattle.mt_operation.specs.declared.operation.Operation.{Operation as AnyOperation};
 
@@ -33,8 +31,7 @@ pub struct Operations {
 
 impl Model for Operations {
     ghost use Rattle.mt_operation.specs.Tables.{Table};
-    ghost use Rattle.mt_table.specs.Seats.{table_of, padded};
-    ghost use Rattle.mt_table.specs.Queues.{IsTable, HasSeats};
+    ghost use Rattle.mt_table.specs.{Seats.{table_of, padded}, Queues.{IsTable, HasSeats}};
 
     ghost Value = { Table };
 

@@ -1,9 +1,7 @@
 -- Contents with one row written: what stands at each key, the row put back, and the tenants' maps. For the maps that a tape tells of.
 use Rattle.std.proofs.Common.{◌≡◌, ◌≢◌, ℕ, Bool, true, false, cond, Option, Some, None, refl, sym, ap, ◌∙◌}
-use Rattle.std.specs.Ordering.{eq_by_cmp}
-use Rattle.std.specs.FinMap.{get, get-insert, get-remove}
-use Rattle.mt_rows.specs.Rows.{Bytes, Columns}
-use Rattle.mt_rows.specs.Tenants.{owned_cmp, Contents, tenant_map}
+use Rattle.std.specs.{Ordering.eq_by_cmp, FinMap.{get, get-insert, get-remove}}
+use Rattle.mt_rows.specs.{Rows.{Bytes, Columns}, Tenants.{owned_cmp, Contents, tenant_map}}
 use Rattle.mt_rows.proofs.ContentLaws.{owned_total, same_contents, same_owner, tied_owner, tenant_map-insert, tenant_map-insert_other, tenant_map-remove, tenant_map-remove_other}
 use Rattle.mt_tape.specs.Histories.{with_row}
 

@@ -1,10 +1,8 @@
 -- Entries by their steps: those up to a step stand before those after it.
 use Rattle.std.proofs.Common.{◌≡◌, ℕ, zero, suc, ◌<◌, ◌≤◌, Bool, cond, List, [], ◌∷◌, drop, Some, refl, sym, ◌∙◌, ap, subst, arith}
+use Rattle.std.proofs.{lemmas.Bool.{lt-ltb, le-ltb}, lemmas.Option.{same_Some, none-some}}
 use Rattle.std.specs.Prelude.{slice_get}
-use Rattle.std.proofs.lemmas.Bool.{lt-ltb, le-ltb}
-use Rattle.std.proofs.lemmas.Option.{same_Some, none-some}
-use Rattle.mt_tape.specs.declared.entry.Entry.{Entry}
-use Rattle.mt_tape.specs.Tapes.{RisesOver, later_entries}
+use Rattle.mt_tape.specs.{declared.entry.Entry.Entry, Tapes.{RisesOver, later_entries}}
 
 -- an entry is over the floor, and a later one over an earlier one
 pub over_floor : (floor : ℕ) (entries : List Entry) (k : ℕ) (e : Entry) → RisesOver floor entries → slice_get entries k ≡ Some e → floor < e.step

@@ -1,15 +1,9 @@
 -- The maps that a tape tells of: after its last write, before a new one, after a trim, at each write and between writes. For the laws and the crates above.
 use Rattle.std.proofs.Common.{◌≡◌, ◌≢◌, ℕ, ◌+◌, ◌<◌, ◌≤◌, ltb, List, [], ◌∷◌, ◌++◌, get_or, refl, sym, ap, ◌∙◌, arith, ◌⊎◌, inl, inr, ⊎_elim, false}
-use Rattle.std.specs.List.{All, Contains}
-use Rattle.std.specs.FinMap.{get}
-use Rattle.std.proofs.lemmas.Bool.{ltb-true, cases_lt, cases_eq}
-use Rattle.std.proofs.lemmas.List.Elements.{All-head, All-tail, All-push, All-filter, All-contains, filter_passes}
-use Rattle.mt_rows.specs.Rows.{Bytes}
-use Rattle.mt_rows.specs.Maps.{Map}
-use Rattle.mt_rows.specs.Tenants.{Contents, tenant_map}
-use Rattle.mt_rows.proofs.ContentLaws.{get-tenant_map}
-use Rattle.mt_tape.specs.declared.entry.Entry.{Entry}
-use Rattle.mt_tape.specs.Tapes.{RisesOver, last_step_over, later_entries}
+use Rattle.std.proofs.{lemmas.Bool.{ltb-true, cases_lt, cases_eq}, lemmas.List.Elements.{All-head, All-tail, All-push, All-filter, All-contains, filter_passes}}
+use Rattle.std.specs.{List.{All, Contains}, FinMap.get}
+use Rattle.mt_rows.{specs.{Rows.Bytes, Maps.Map, Tenants.{Contents, tenant_map}}, proofs.ContentLaws.get-tenant_map}
+use Rattle.mt_tape.specs.{declared.entry.Entry.Entry, Tapes.{RisesOver, last_step_over, later_entries}}
 use Rattle.mt_tape.specs.Histories.{with_row, written_key, with_write, without_write, undone, contents_at, map_at, is_changed, IsLegalTape, IsNextWrite, IsQuietStep, IsQuietFor, IsUnwrittenSince}
 use Rattle.mt_tape.proofs.EntryLaws.{later_entries-kept, later_entries-dropped, later_entries-past_last, later_entries-push, later_entries-later_entries, later_entries-quiet, later_entries-before}
 pub use Rattle.mt_tape.proofs.EntryLaws.{all_upto_last, rises-push, last_step_over-push, rises-later_entries, last_step_over-later_entries, is_changed-past_last, is_changed-push_other, is_changed-push, is_changed-later_entries, quiet_where_unchanged}

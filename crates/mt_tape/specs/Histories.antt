@@ -1,14 +1,9 @@
 -- The pairs of all tenants after each step, by the present ones and the writes of a tape.
-use Rattle.std.specs.Prelude.{◌≡◌, ◌≢◌, ℕ, ◌<◌, ◌≤◌, ◌==◌, Bool, List, [], ◌∷◌, Option, Some, None}
-use Rattle.std.specs.List.{list_any, All}
-use Rattle.std.specs.declared.cmp.Ordering.{Ordering}
-use Rattle.std.specs.FinMap as pairs
+use Rattle.std.specs.{Prelude.{◌≡◌, ◌≢◌, ℕ, ◌<◌, ◌≤◌, ◌==◌, Bool, List, [], ◌∷◌, Option, Some, None}, List.{list_any, All}, declared.cmp.Ordering.Ordering}
 use Rattle.std.specs.FinMap.{FinMap}
-use Rattle.mt_rows.specs.Rows.{Bytes, Columns}
-use Rattle.mt_rows.specs.Maps.{Map}
-use Rattle.mt_rows.specs.Tenants.{Contents, tenant_map}
-use Rattle.mt_tape.specs.declared.entry.Entry.{Entry}
-use Rattle.mt_tape.specs.Tapes.{last_step_over, later_entries}
+use Rattle.mt_rows.specs.{Rows.{Bytes, Columns}, Maps.Map, Tenants.{Contents, tenant_map}}
+use Rattle.mt_tape.specs.{declared.entry.Entry.Entry, Tapes.{last_step_over, later_entries}}
+use Rattle.std.specs.FinMap as pairs
 
 -- a map with this row at a key, or with none there
 abbrev pub with_row : {K : Type 0} {R : K → K → Ordering} → FinMap R Columns → K → Option Columns → FinMap R Columns

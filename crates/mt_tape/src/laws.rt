@@ -2,13 +2,10 @@
 //!
 //! `now` stands for the present pairs of all tenants, and m for the number of a step.
 
-ghost use Rattle.std.specs.Prelude.{◌≡◌, ◌≢◌, ◌+◌, ◌<◌, ◌≤◌, ℕ, max, List, [], ◌∷◌, ◌++◌, true, false};
-ghost use Rattle.std.specs.List.{Contains};
+ghost use Rattle.std.specs.{Prelude.{◌≡◌, ◌≢◌, ◌+◌, ◌<◌, ◌≤◌, ℕ, max, List, [], ◌∷◌, ◌++◌, true, false}, List.Contains};
 ghost use Rattle.std.specs.FinMap as pairs;
-ghost use Rattle.mt_rows.specs.Rows.{Bytes};
-ghost use Rattle.mt_rows.specs.Tenants.{Contents, tenant_map};
-ghost use Rattle.mt_tape.specs.declared.entry.Entry.{Entry};
-ghost use Rattle.mt_tape.specs.Tapes.{RisesOver, last_step_over, later_entries};
+ghost use Rattle.mt_rows.specs.{Rows.Bytes, Tenants.{Contents, tenant_map}};
+ghost use Rattle.mt_tape.specs.{declared.entry.Entry.Entry, Tapes.{RisesOver, last_step_over, later_entries}};
 ghost use Rattle.mt_tape.specs.Histories.{contents_at, map_at, is_changed, written_key, with_row, with_write, IsLegalTape, IsNextWrite, IsQuietStep, IsQuietFor, IsUnwrittenSince};
 
 /// From the last write on the pairs are the present ones, and no step after it wrote.

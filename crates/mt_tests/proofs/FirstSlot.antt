@@ -2,12 +2,8 @@
 use Rattle.std.proofs.Common.{◌≡◌, ℕ, ◌<◌, length, false, refl, ap}
 use Rattle.mt_slices.specs.declared.mark.Mark.TheVariants.{Long}
 use Rattle.mt_rows.specs.Rows.{Bytes}
-use Rattle.mt_border.specs.declared.entry.Pair.{Pair}
-use Rattle.mt_border.specs.declared.entry.Held.TheVariants.{Stable, Link}
-use Rattle.mt_border.specs.Entry.{pair_of}
-use Rattle.mt_arena.specs.Layers.{slot_at}
-use Rattle.mt_arena.specs.Arena.{ArenaView, IsArena}
-use Rattle.mt_arena.specs.Accesses.{at, MayChange}
+use Rattle.mt_border.specs.{declared.entry.Pair.Pair, declared.entry.Held.TheVariants.{Stable, Link}, Entry.pair_of}
+use Rattle.mt_arena.specs.{Layers.slot_at, Arena.{ArenaView, IsArena}, Accesses.{at, MayChange}}
 use Rattle.mt_tests.specs.Checked.{IsOwn}
 
 pub may_change : (v : ArenaView) (k : ℕ) (pair : Pair) → IsArena v.nodes v.trees → IsOwn v k → (at v k).level ≡ 0 → (at v k).version.deleted ≡ false

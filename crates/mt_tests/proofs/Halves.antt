@@ -2,12 +2,8 @@
 use Rattle.std.proofs.Common.{ℕ, ap, ◌∙◌, arith}
 use Rattle.mt_slices.specs.Slices.{slice_of, mark_of}
 use Rattle.mt_rows.specs.Rows.{Bytes}
-use Rattle.mt_border.specs.Split.{IsSeparator, slices_with}
-use Rattle.mt_border.specs.Contents.{IsOfTree}
-use Rattle.mt_arena.specs.Forests.{HasSlice, tree_at}
-use Rattle.mt_arena.specs.Arena.{ArenaView, IsArena}
-use Rattle.mt_arena.specs.Accesses.{at, tree_of}
-use Rattle.mt_arena.proofs.Separators.{separator_begins}
+use Rattle.mt_border.specs.{Split.{IsSeparator, slices_with}, Contents.IsOfTree}
+use Rattle.mt_arena.{specs.{Forests.{HasSlice, tree_at}, Arena.{ArenaView, IsArena}, Accesses.{at, tree_of}}, proofs.Separators.separator_begins}
 use Rattle.mt_tests.specs.Checked.{Takes}
 
 pub half_begins : (v : ArenaView) (k : ℕ) (key : Bytes) (low : ℕ) → IsArena v.nodes v.trees → Takes v k key

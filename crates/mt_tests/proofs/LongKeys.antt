@@ -1,22 +1,12 @@
 -- A layer may be made of the long key in slot 0, call by call.
-use Rattle.std.proofs.Common.{◌≡◌, ℕ, ◌+◌, [], length, take, Some, None, refl, sym, ap, subst, ◌∙◌, arith}
-use Rattle.std.proofs.lemmas.List.{length-set}
+use Rattle.std.proofs.{Common.{◌≡◌, ℕ, ◌+◌, [], length, take, Some, None, refl, sym, ap, subst, ◌∙◌, arith}, lemmas.List.length-set}
 use Rattle.mt_slices.specs.Slices.{suffix_of}
 use Rattle.mt_rows.specs.Rows.{Bytes}
-use Rattle.mt_border.specs.declared.entry.Entry.{Entry}
-use Rattle.mt_border.specs.declared.entry.Pair.{Pair}
-use Rattle.mt_border.specs.declared.entry.Held.TheVariants.{Stable, Unstable}
-use Rattle.mt_border.specs.declared.entry.Held.{Held}
-use Rattle.mt_border.specs.Entry.{pair_of}
-use Rattle.mt_border.specs.Contents.{HasKey}
-use Rattle.mt_arena.specs.Forests.{tree_at, layer_of}
-use Rattle.mt_arena.specs.Layers.{slot_at}
-use Rattle.mt_arena.specs.Arena.{ArenaView, IsArena}
-use Rattle.mt_arena.specs.Accesses.{at, tree_of}
+use Rattle.mt_border.specs.{declared.entry.Entry.Entry, declared.entry.Pair.Pair, declared.entry.Held.TheVariants.{Stable, Unstable}, declared.entry.Held.Held}
+use Rattle.mt_border.specs.{Entry.pair_of, Contents.HasKey}
+use Rattle.mt_arena.specs.{Forests.{tree_at, layer_of}, Layers.slot_at, Arena.{ArenaView, IsArena}, Accesses.{at, tree_of}}
 use Rattle.mt_arena.specs.Layering.{HasKeyAt, IsLayerOf, MayMakeLayer, entry_of, prefix_below, with_held, with_layer, with_slot}
-use Rattle.mt_arena.proofs.Down.{next_prefix}
-use Rattle.mt_arena.proofs.NextLayer.{may_make, has_below}
-use Rattle.mt_arena.proofs.LayerStays.{whole_begun, whole_rewritten}
+use Rattle.mt_arena.proofs.{Down.next_prefix, NextLayer.{may_make, has_below}, LayerStays.{whole_begun, whole_rewritten}}
 use Rattle.mt_tests.specs.Checked.{HasLongKey}
 
 -- the tree is made

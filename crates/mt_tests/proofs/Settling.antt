@@ -1,14 +1,8 @@
 -- Nothing lags behind a node of which each node keeps up with it.
-use Rattle.std.proofs.Common.{◌≡◌, ℕ, ◌+◌, ◌<◌, length, arith, inl, inr}
-use Rattle.std.proofs.lemmas.Bool.{cases_lt}
-use Rattle.std.proofs.lemmas.List.{get_or_default}
+use Rattle.std.proofs.{Common.{◌≡◌, ℕ, ◌+◌, ◌<◌, length, arith, inl, inr}, lemmas.Bool.cases_lt, lemmas.List.get_or_default}
 use Rattle.mt_slices.specs.declared.mark.Mark.TheVariants.{Long}
 use Rattle.mt_border.specs.declared.entry.Held.TheVariants.{Link}
-use Rattle.mt_arena.specs.NodeFacts.{IsUnstable}
-use Rattle.mt_arena.specs.Layers.{slot_at}
-use Rattle.mt_arena.specs.Settled.{IsSettled}
-use Rattle.mt_arena.specs.Arena.{ArenaView}
-use Rattle.mt_arena.specs.Accesses.{at}
+use Rattle.mt_arena.specs.{NodeFacts.IsUnstable, Layers.slot_at, Settled.IsSettled, Arena.ArenaView, Accesses.at}
 use Rattle.mt_tests.specs.Checked.{KeepsUp, IsEven}
 
 -- one more keeps up

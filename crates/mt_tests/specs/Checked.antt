@@ -1,16 +1,9 @@
 -- What is asked of an arena, as a test runs, before operation 5 makes a call.
 use Rattle.std.specs.Prelude.{◌≡◌, ◌≢◌, ℕ, ◌<◌, true, false, [], length, Some, None}
-use Rattle.mt_slices.specs.Keys.{IsStoredKey}
-use Rattle.mt_slices.specs.Slices.{slice_of, mark_of, suffix_of}
+use Rattle.mt_slices.specs.{Keys.IsStoredKey, Slices.{slice_of, mark_of, suffix_of}}
 use Rattle.mt_rows.specs.Rows.{Bytes}
-use Rattle.mt_border.specs.declared.entry.Pair.{Pair}
-use Rattle.mt_border.specs.declared.entry.Held.TheVariants.{Stable, Link}
-use Rattle.mt_border.specs.Entries.{IsMissing}
-use Rattle.mt_arena.specs.declared.tree.Standing.TheVariants.{Live}
-use Rattle.mt_arena.specs.Layers.{slot_at}
-use Rattle.mt_arena.specs.Layering.{IsHeldSlot}
-use Rattle.mt_arena.specs.Nodes.{HasChild, HasRange, Holds}
-use Rattle.mt_arena.specs.Arena.{ArenaView}
+use Rattle.mt_border.specs.{declared.entry.Pair.Pair, declared.entry.Held.TheVariants.{Stable, Link}, Entries.IsMissing}
+use Rattle.mt_arena.specs.{declared.tree.Standing.TheVariants.Live, Layers.slot_at, Layering.IsHeldSlot, Nodes.{HasChild, HasRange, Holds}, Arena.ArenaView}
 use Rattle.mt_arena.specs.Accesses.{at, tree_of, IsHeld}
 
 -- operation 5 holds the node, which is of a live tree

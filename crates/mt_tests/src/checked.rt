@@ -4,18 +4,9 @@
 ghost use Rattle.std.specs.Prelude.{◌≡◌, ℕ, ◌<◌, [], length, IsTrue};
 ghost use Rattle.mt_rows.specs.Rows.{Bytes};
 ghost use Rattle.mt_slices.specs.Slices.{slice_of, mark_of};
-ghost use Rattle.mt_border.specs.declared.entry.Pair.{Pair as AnyPair};
-ghost use Rattle.mt_border.specs.Contents.{HasKey};
-ghost use Rattle.mt_border.specs.Entry.{IsEntry, IsStablePair};
-ghost use Rattle.mt_arena.specs.declared.tree.Standing.TheVariants.{Live};
-ghost use Rattle.mt_arena.specs.NodeFacts.{IsUnstable};
-ghost use Rattle.mt_arena.specs.Nodes.{HasChild, HasRange};
-ghost use Rattle.mt_arena.specs.Layers.{slot_at};
-ghost use Rattle.mt_arena.specs.Settled.{IsSettled};
-ghost use Rattle.mt_arena.specs.Splits.{Inserts};
-ghost use Rattle.mt_arena.specs.Several.{MaySplit};
-ghost use Rattle.mt_arena.specs.Removals.{AreBeside, MayUnlink};
-ghost use Rattle.mt_arena.specs.Accesses.{at, tree_of, IsHeld, IsOpen, MayChange};
+ghost use Rattle.mt_border.specs.{declared.entry.Pair.{Pair as AnyPair}, Contents.HasKey, Entry.{IsEntry, IsStablePair}};
+ghost use Rattle.mt_arena.specs.{declared.tree.Standing.TheVariants.Live, NodeFacts.IsUnstable, Nodes.{HasChild, HasRange}, Layers.slot_at, Settled.IsSettled};
+ghost use Rattle.mt_arena.specs.{Splits.Inserts, Several.MaySplit, Removals.{AreBeside, MayUnlink}, Accesses.{at, tree_of, IsHeld, IsOpen, MayChange}};
 ghost use Rattle.mt_tests.specs.Checked.{IsOwn, KeepsUp, IsEven, Takes, AreHalves, Meet, IsBare};
 
 use crate::rows::row_of;

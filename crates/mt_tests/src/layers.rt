@@ -3,11 +3,8 @@
 
 ghost use Rattle.std.specs.Prelude.{◌≡◌, ◌<◌, ℕ, [], length, take, IsTrue, IfSome};
 ghost use Rattle.mt_rows.specs.Rows.{Bytes};
-ghost use Rattle.mt_border.specs.declared.entry.Pair.{Pair as AnyPair};
-ghost use Rattle.mt_border.specs.declared.entry.Held.TheVariants.{Stable};
-ghost use Rattle.mt_arena.specs.Layering.{IsLayerOf, entry_of as entry_in};
-ghost use Rattle.mt_arena.specs.Accesses.{at};
-ghost use Rattle.mt_arena.specs.Removals.{IsOnlyLiveNode, MayDropLayer};
+ghost use Rattle.mt_border.specs.{declared.entry.Pair.{Pair as AnyPair}, declared.entry.Held.TheVariants.Stable};
+ghost use Rattle.mt_arena.specs.{Layering.{IsLayerOf, entry_of as entry_in}, Accesses.at, Removals.{IsOnlyLiveNode, MayDropLayer}};
 ghost use Rattle.mt_tests.specs.Checked.{HasLongKey, HasLinkTo};
 
 use crate::checked::{Checked, entry_of};

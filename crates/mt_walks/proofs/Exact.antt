@@ -2,21 +2,14 @@
 use Rattle.std.proofs.Common.{◌≡◌, ℕ, zero, suc, ◌≤◌, ◌⊎◌, inl, inr, Bool, true, false, cond, ◌&&◌, T, List, [], ◌∷◌, length, get_or, take, Some, IsSome, refl, sym, ap, subst, ◌∙◌, arith}
 use Rattle.std.proofs.lemmas.List.Elements.{All-contains, All-filter, All-from_recursion, All-head, All-tail, filter_passes, Contains-get_or}
 use Rattle.std.proofs.lemmas.List.Folds.{list_any_at}
-use Rattle.std.specs.List.{All, Contains, AllByRecursion, filter}
-use Rattle.std.specs.declared.cmp.Ordering.{Ordering}
-use Rattle.std.specs.declared.cmp.Ordering.TheVariants.{Less, Equal, Greater}
-use Rattle.std.specs.Ordering.{nat_cmp, is_le, is_lt, eq_by_cmp}
-use Rattle.std.specs.Cmp.{eq_by_cmp_equiv}
-use Rattle.std.specs.Cmp.Lexicographic.{slice_cmp}
-use Rattle.std.specs.FinMap as pairs
-use Rattle.std.specs.FinMap.{find, is_sorted, entries_sorted, get-entries, contains_key-keys}
-use Rattle.std.specs.FinMap.Entries.{below_all, is_sorted-where_key}
-use Rattle.mt_rows.specs.Rows.{Bytes, Columns, shown}
-use Rattle.mt_rows.specs.Maps.{Map, is_walked, scanned}
-use Rattle.mt_rows.proofs.CommandLaws.{keys_exact, keys_total, ties}
+use Rattle.std.specs.{List.{All, Contains, AllByRecursion, filter}, declared.cmp.Ordering.Ordering, declared.cmp.Ordering.TheVariants.{Less, Equal, Greater}}
+use Rattle.std.specs.{Ordering.{nat_cmp, is_le, is_lt, eq_by_cmp}, Cmp.eq_by_cmp_equiv, Cmp.Lexicographic.slice_cmp}
+use Rattle.std.specs.{FinMap.{find, is_sorted, entries_sorted, get-entries, contains_key-keys}, FinMap.Entries.{below_all, is_sorted-where_key}}
+use Rattle.mt_rows.{specs.{Rows.{Bytes, Columns, shown}, Maps.{Map, is_walked, scanned}}, proofs.CommandLaws.{keys_exact, keys_total, ties}}
 use Rattle.mt_runs.specs.Scans.{Shown, IsReached, IsLawful}
 use Rattle.mt_walks.specs.Walked.{keys_of, shown_all}
 use Rattle.mt_walks.proofs.Walks.{Rises, rises_none, rises_more, rises_first, rises_rest, of_keys, le_itself, not_le, here, later}
+use Rattle.std.specs.FinMap as pairs
 
 abbrev cmp : Bytes → Bytes → Ordering
 cmp = slice_cmp nat_cmp

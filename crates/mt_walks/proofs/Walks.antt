@@ -3,18 +3,12 @@ use Rattle.std.proofs.Common.{◌≡◌, ℕ, zero, suc, ◌<◌, ◌≤◌, ◌
 use Rattle.std.proofs.lemmas.List.{map-append, take-append-drop, get_or-map, length-map}
 use Rattle.std.proofs.lemmas.List.Elements.{All-append, All-map, All-contains, All-take, Contains-append_cases, Contains-append_left, Contains-append_right, Contains-get_or, recursion_from_All, All-from_recursion}
 use Rattle.std.proofs.lemmas.List.Folds.{list_any_at}
-use Rattle.std.specs.List.{All, Contains, AllByRecursion}
-use Rattle.std.specs.List.Sorted.{IsStrictlySortedBy}
-use Rattle.std.specs.declared.cmp.Ordering.{Ordering}
-use Rattle.std.specs.declared.cmp.Ordering.TheVariants.{Less, Equal, Greater}
-use Rattle.std.specs.Ordering.{nat_cmp, is_le, ordering_reverse}
-use Rattle.std.specs.Cmp.Lexicographic.{slice_cmp}
-use Rattle.std.specs.FinMap as pairs
-use Rattle.mt_rows.specs.Rows.{Bytes, Columns, shown}
-use Rattle.mt_rows.specs.Maps.{Map, is_walked}
-use Rattle.mt_rows.proofs.CommandLaws.{keys_total}
+use Rattle.std.specs.{List.{All, Contains, AllByRecursion}, List.Sorted.IsStrictlySortedBy, declared.cmp.Ordering.Ordering}
+use Rattle.std.specs.{declared.cmp.Ordering.TheVariants.{Less, Equal, Greater}, Ordering.{nat_cmp, is_le, ordering_reverse}, Cmp.Lexicographic.slice_cmp}
+use Rattle.mt_rows.{specs.{Rows.{Bytes, Columns, shown}, Maps.{Map, is_walked}}, proofs.CommandLaws.keys_total}
 use Rattle.mt_runs.specs.Scans.{Shown, IsReached, IsLawful}
 use Rattle.mt_walks.specs.Walked.{HasWalked, IsStretch, IsFront, keys_of, shown_all, is_upto}
+use Rattle.std.specs.FinMap as pairs
 
 abbrev cmp : Bytes → Bytes → Ordering
 cmp = slice_cmp nat_cmp

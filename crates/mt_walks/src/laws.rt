@@ -1,12 +1,9 @@
 //! What a scan's walk is, and that it ends lawful. Contracts alone: no code runs.
 
-ghost use Rattle.std.specs.Prelude.{◌≡◌, ◌≢◌, ◌<◌, ◌≤◌, ◌++◌, ℕ, Bool, true, false, List, [], ◌∷◌, take, length, Some, None};
-ghost use Rattle.std.specs.List.{Contains};
-ghost use Rattle.std.specs.Ordering.{nat_cmp, is_le};
-ghost use Rattle.std.specs.Cmp.Lexicographic.{slice_cmp};
+ghost use Rattle.std.specs.{Prelude.{◌≡◌, ◌≢◌, ◌<◌, ◌≤◌, ◌++◌, ℕ, Bool, true, false, List, [], ◌∷◌, take, length, Some, None}, List.Contains};
+ghost use Rattle.std.specs.{Ordering.{nat_cmp, is_le}, Cmp.Lexicographic.slice_cmp};
 ghost use Rattle.std.specs.FinMap as pairs;
-ghost use Rattle.mt_rows.specs.Rows.{Bytes, Columns};
-ghost use Rattle.mt_rows.specs.Maps.{Map, is_walked, scanned};
+ghost use Rattle.mt_rows.specs.{Rows.{Bytes, Columns}, Maps.{Map, is_walked, scanned}};
 ghost use Rattle.mt_runs.specs.Scans.{Shown, IsReached, IsLawful};
 ghost use Rattle.mt_walks.specs.Walked.{IsWithin, HasWalked, IsStretch, IsFront, keys_of, shown_all, is_upto};
 

@@ -1,28 +1,17 @@
 -- A reply that is read is spelled so, and a spelled reply is read again.
 use Rattle.std.proofs.Common.{◌≡◌, ℕ, ◌+◌, ◌-◌, ◌*◌, ◌^◌, ◌<◌, ◌≤◌, true, false, cond, eqb, ltb, List, [], ◌∷◌, ◌++◌, length, Some, None, refl, sym, ap, subst, ◌∙◌, append_assoc, arith}
-use Rattle.std.specs.Int.{w64, to_be_bytes}
-use Rattle.std.specs.List.{flat_map, All, AllByRecursion}
-use Rattle.std.proofs.lemmas.Bool.{eqb-true, ltb-true}
-use Rattle.std.proofs.lemmas.Bool.Decides.{nat_tests}
-use Rattle.std.proofs.lemmas.List.{append-nil, nil_from_length, length-append}
-use Rattle.std.proofs.lemmas.List.Concat.{flat_map-cons}
-use Rattle.std.proofs.lemmas.List.Elements.{All-weaker, All-from_recursion, recursion_from_All}
-use Rattle.std.proofs.lemmas.Option.{same_Some}
-use Rattle.mt_rows.specs.Rows.{Bytes, Columns, IsRow}
-use Rattle.mt_rows.specs.Limits.{ArePairs}
+use Rattle.std.proofs.{lemmas.Bool.{eqb-true, ltb-true}, lemmas.Bool.Decides.nat_tests, lemmas.List.{append-nil, nil_from_length, length-append}}
+use Rattle.std.proofs.{lemmas.List.Concat.flat_map-cons, lemmas.List.Elements.{All-weaker, All-from_recursion, recursion_from_All}, lemmas.Option.same_Some}
+use Rattle.std.specs.{Int.{w64, to_be_bytes}, List.{flat_map, All, AllByRecursion}}
+use Rattle.mt_rows.specs.{Rows.{Bytes, Columns, IsRow}, Limits.ArePairs}
 use Rattle.mt_rows.specs.declared.reply.Reply.TheVariants.{Absent, Found, New, Replaced, Full, Removed, Pairs, NoMemory}
-use Rattle.mt_fields.specs.Fields.{string}
-use Rattle.mt_fields.specs.Reading.{◌>>=◌, byte_at, number_at, string_at, each_at}
+use Rattle.mt_fields.specs.{Fields.string, Reading.{◌>>=◌, byte_at, number_at, string_at, each_at}}
 use Rattle.mt_fields.proofs.FieldLaws.{IsBytes, bind_some, guard_ended, choose, Takes, Takes-then, Takes-more, byte_takes, wide64, number_takes, string_takes, string_again, each_takes, each_again}
-use Rattle.mt_row_fields.specs.Format.{row_bytes}
-use Rattle.mt_row_fields.specs.Reading.{row_at}
-use Rattle.mt_row_fields.proofs.RowLaws.{row_takes, row_again, row_short}
-use Rattle.mt_wire.specs.declared.message.WireReply.{WireReply}
-use Rattle.mt_wire.specs.declared.message.WireReply.TheVariants.{Opened, Told, Settled, Refused}
+use Rattle.mt_row_fields.{specs.{Format.row_bytes, Reading.row_at}, proofs.RowLaws.{row_takes, row_again, row_short}}
+use Rattle.mt_wire.specs.{declared.message.WireReply.WireReply, declared.message.WireReply.TheVariants.{Opened, Told, Settled, Refused}}
 use Rattle.mt_wire.specs.Replies.{shown_pair, reply_body, IsSpellableReply}
 use Rattle.mt_wire.specs.ReplyReading.{are_pairs, pair_at, pairs_at, found_at, scanned_at, settled_at, reply_kind_at, reply_in}
-use Rattle.mt_wire.proofs.Tests.{pairs_from_test, test_from_pairs}
-use Rattle.mt_wire.proofs.FrameLaws.{AreMessages}
+use Rattle.mt_wire.proofs.{Tests.{pairs_from_test, test_from_pairs}, FrameLaws.AreMessages}
 
 -- ---- pairs
 

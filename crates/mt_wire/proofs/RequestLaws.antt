@@ -1,20 +1,14 @@
 -- A request that is read is spelled so, and a spelled request is read again.
-use Rattle.std.proofs.Common.{◌≡◌, ℕ, ◌^◌, ◌≤◌, arith, true, cond, eqb, [], ◌∷◌, ◌++◌, length, Some, None, refl, sym, ap, subst, ◌∙◌}
+use Rattle.std.proofs.{Common.{◌≡◌, ℕ, ◌^◌, ◌≤◌, arith, true, cond, eqb, [], ◌∷◌, ◌++◌, length, Some, None, refl, sym, ap, subst, ◌∙◌}, lemmas.Bool.eqb-true}
+use Rattle.std.proofs.{lemmas.List.{append-nil, nil_from_length}, lemmas.Option.same_Some}
 use Rattle.std.specs.Int.{w32, to_be_bytes}
-use Rattle.std.proofs.lemmas.Bool.{eqb-true}
-use Rattle.std.proofs.lemmas.List.{append-nil, nil_from_length}
-use Rattle.std.proofs.lemmas.Option.{same_Some}
-use Rattle.mt_rows.specs.Rows.{Bytes}
-use Rattle.mt_rows.specs.declared.command.Command.TheVariants.{Get, Put, Remove, Scan}
-use Rattle.mt_fields.specs.Fields.{string}
-use Rattle.mt_fields.specs.Reading.{◌>>=◌, byte_at, number_at, string_at}
+use Rattle.mt_rows.specs.{Rows.Bytes, declared.command.Command.TheVariants.{Get, Put, Remove, Scan}}
+use Rattle.mt_fields.specs.{Fields.string, Reading.{◌>>=◌, byte_at, number_at, string_at}}
 use Rattle.mt_fields.proofs.FieldLaws.{IsBytes, bind_some, guard_ended, choose, Takes, Takes-then, Takes-more, byte_takes, wide32, number_takes, string_takes, string_again}
-use Rattle.mt_wire.specs.declared.message.Request.{Request}
-use Rattle.mt_wire.specs.declared.message.Request.TheVariants.{Open, Call, Settle}
+use Rattle.mt_wire.specs.{declared.message.Request.Request, declared.message.Request.TheVariants.{Open, Call, Settle}}
 use Rattle.mt_wire.specs.Requests.{asked_columns, named_columns, start_flag, request_body, RequestFits, IsSpellable}
 use Rattle.mt_wire.specs.RequestReading.{start_at, asked_at, named_columns_at, open_at, get_at, put_at, remove_at, scan_at, kind_at, request_in}
-use Rattle.mt_wire.proofs.FrameLaws.{AreMessages}
-use Rattle.mt_wire.proofs.RequestFields.{asked_takes, asked_again, named_columns_takes, named_columns_again, start_takes, start_again}
+use Rattle.mt_wire.proofs.{FrameLaws.AreMessages, RequestFields.{asked_takes, asked_again, named_columns_takes, named_columns_again, start_takes, start_again}}
 
 -- what was read behind the first byte
 abbrev Reads : ℕ → Bytes → Request × Bytes → Type 0

@@ -1,16 +1,10 @@
 -- The one spelling of each reply.
-use Rattle.std.specs.Prelude.{◌≡◌, ℕ, ◌+◌, ◌<◌, ◌≤◌, ◌^◌, [], ◌∷◌, ◌++◌, length}
-use Rattle.std.specs.List.{flat_map, All}
-use Rattle.std.specs.Int.{w64, to_be_bytes}
-use Rattle.mt_rows.specs.Rows.{Bytes, Columns, IsRow}
-use Rattle.mt_rows.specs.Limits.{ArePairs}
-use Rattle.mt_rows.specs.declared.reply.Reply.{Reply}
+use Rattle.std.specs.{Prelude.{◌≡◌, ℕ, ◌+◌, ◌<◌, ◌≤◌, ◌^◌, [], ◌∷◌, ◌++◌, length}, List.{flat_map, All}, Int.{w64, to_be_bytes}}
+use Rattle.mt_rows.specs.{Rows.{Bytes, Columns, IsRow}, Limits.ArePairs, declared.reply.Reply.Reply}
 use Rattle.mt_rows.specs.declared.reply.Reply.TheVariants.{Absent, Found, New, Replaced, Full, Removed, Pairs, NoMemory}
 use Rattle.mt_fields.specs.Fields.{string}
 use Rattle.mt_row_fields.specs.Format.{row_bytes}
-use Rattle.mt_wire.specs.declared.message.WireReply.{WireReply}
-use Rattle.mt_wire.specs.declared.message.WireReply.TheVariants.{Opened, Told, Settled, Refused}
-use Rattle.mt_wire.specs.Frames.{frame}
+use Rattle.mt_wire.specs.{declared.message.WireReply.WireReply, declared.message.WireReply.TheVariants.{Opened, Told, Settled, Refused}, Frames.frame}
 
 -- a shown pair: its key and its row
 abbrev pub shown_pair : Bytes × Columns → Bytes

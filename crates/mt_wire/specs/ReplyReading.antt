@@ -1,16 +1,10 @@
 -- Reading a reply's body from left to right: for the functions that do it, whose callers see the spellings alone.
-use Rattle.std.specs.Prelude.{ℕ, ◌-◌, Bool, ◌&&◌, List, length, Option, Some, None, nat_lt, ◌==◌, if◌then◌else◌}
-use Rattle.std.specs.List.{list_all}
-use Rattle.std.specs.Int.{w64}
-use Rattle.std.specs.Ordering.{nat_cmp}
-use Rattle.std.specs.Cmp.Lexicographic.{slice_cmp}
-use Rattle.std.specs.FinMap.{is_sorted}
-use Rattle.mt_rows.specs.Rows.{Bytes, Columns}
-use Rattle.mt_rows.specs.declared.reply.Reply.TheVariants.{Absent, Found, New, Replaced, Full, Removed, Pairs, NoMemory}
+use Rattle.std.specs.{Prelude.{ℕ, ◌-◌, Bool, ◌&&◌, List, length, Option, Some, None, nat_lt, ◌==◌, if◌then◌else◌}, List.list_all, Int.w64, Ordering.nat_cmp}
+use Rattle.std.specs.{Cmp.Lexicographic.slice_cmp, FinMap.is_sorted}
+use Rattle.mt_rows.specs.{Rows.{Bytes, Columns}, declared.reply.Reply.TheVariants.{Absent, Found, New, Replaced, Full, Removed, Pairs, NoMemory}}
 use Rattle.mt_fields.specs.Reading.{◌>>=◌, byte_at, number_at, string_at, each_at}
 use Rattle.mt_row_fields.specs.Reading.{row_at}
-use Rattle.mt_wire.specs.declared.message.WireReply.{WireReply}
-use Rattle.mt_wire.specs.declared.message.WireReply.TheVariants.{Opened, Told, Settled, Refused}
+use Rattle.mt_wire.specs.{declared.message.WireReply.WireReply, declared.message.WireReply.TheVariants.{Opened, Told, Settled, Refused}}
 
 -- whether a scan may show these pairs
 abbrev pub are_pairs : List (Bytes × Columns) → Bool

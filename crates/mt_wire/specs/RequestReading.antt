@@ -1,12 +1,8 @@
 -- Reading a request's body from left to right: for the functions that do it, whose callers see the spellings alone.
-use Rattle.std.specs.Prelude.{ℕ, zero, suc, Bool, true, false, List, [], ◌∷◌, length, Option, Some, None, ◌==◌, if◌then◌else◌}
-use Rattle.std.specs.Int.{w32}
-use Rattle.mt_rows.specs.Rows.{Bytes}
-use Rattle.mt_rows.specs.Changes.{Named}
-use Rattle.mt_rows.specs.declared.command.Command.TheVariants.{Get, Put, Remove, Scan}
+use Rattle.std.specs.{Prelude.{ℕ, zero, suc, Bool, true, false, List, [], ◌∷◌, length, Option, Some, None, ◌==◌, if◌then◌else◌}, Int.w32}
+use Rattle.mt_rows.specs.{Rows.Bytes, Changes.Named, declared.command.Command.TheVariants.{Get, Put, Remove, Scan}}
 use Rattle.mt_fields.specs.Reading.{◌>>=◌, byte_at, number_at, taken_at, string_at, each_at}
-use Rattle.mt_wire.specs.declared.message.Request.{Request}
-use Rattle.mt_wire.specs.declared.message.Request.TheVariants.{Open, Call, Settle}
+use Rattle.mt_wire.specs.{declared.message.Request.Request, declared.message.Request.TheVariants.{Open, Call, Settle}}
 
 -- where a scan starts
 abbrev pub start_at : Bytes → Option (Bool × Bytes)

@@ -1,15 +1,8 @@
 -- The one spelling of each request. All numbers have their highest byte first.
-use Rattle.std.specs.Prelude.{◌≡◌, ℕ, ◌<◌, ◌≤◌, ◌^◌, Bool, if◌then◌else◌, List, [], ◌∷◌, ◌++◌, length}
-use Rattle.std.specs.List.{flat_map, All}
-use Rattle.std.specs.Int.{w32, to_be_bytes}
-use Rattle.mt_rows.specs.Rows.{Bytes}
-use Rattle.mt_rows.specs.Changes.{Named}
-use Rattle.mt_rows.specs.declared.command.Command.{Command}
-use Rattle.mt_rows.specs.declared.command.Command.TheVariants.{Get, Put, Remove, Scan}
+use Rattle.std.specs.{Prelude.{◌≡◌, ℕ, ◌<◌, ◌≤◌, ◌^◌, Bool, if◌then◌else◌, List, [], ◌∷◌, ◌++◌, length}, List.{flat_map, All}, Int.{w32, to_be_bytes}}
+use Rattle.mt_rows.specs.{Rows.Bytes, Changes.Named, declared.command.Command.Command, declared.command.Command.TheVariants.{Get, Put, Remove, Scan}}
 use Rattle.mt_fields.specs.Fields.{string}
-use Rattle.mt_wire.specs.declared.message.Request.{Request}
-use Rattle.mt_wire.specs.declared.message.Request.TheVariants.{Open, Call, Settle}
-use Rattle.mt_wire.specs.Frames.{frame}
+use Rattle.mt_wire.specs.{declared.message.Request.Request, declared.message.Request.TheVariants.{Open, Call, Settle}, Frames.frame}
 
 -- the indexes of columns that are asked for: a byte of count, and that many bytes
 abbrev pub asked_columns : List ℕ → Bytes

@@ -1,13 +1,10 @@
 //! Replies as bytes.
 
-ghost use Rattle.std.specs.Prelude.{◌≡◌, ◌≤◌, ◌*◌, ◌++◌, ◌∷◌, [], length, take, IfOk, OnOk, OnErr};
-ghost use Rattle.std.specs.List.{flat_map};
-ghost use Rattle.std.specs.Int.{w32, w64, to_be_bytes};
+ghost use Rattle.std.specs.{Prelude.{◌≡◌, ◌≤◌, ◌*◌, ◌++◌, ◌∷◌, [], length, take, IfOk, OnOk, OnErr}, List.flat_map, Int.{w32, w64, to_be_bytes}};
 ghost use Rattle.mt_rows.specs.Limits.{ArePairs};
 ghost use Rattle.mt_fields.specs.Reading.{Gives, each_at};
 ghost use Rattle.mt_row_fields.specs.Format.{row_bytes};
-ghost use Rattle.mt_wire.specs.Replies.{shown_pair, reply_spelling};
-ghost use Rattle.mt_wire.specs.Fronts.{IsReplyFront};
+ghost use Rattle.mt_wire.specs.{Replies.{shown_pair, reply_spelling}, Fronts.IsReplyFront};
 ghost use Rattle.mt_wire.specs.ReplyReading.{pair_at, pairs_at, found_at, scanned_at, settled_at, reply_kind_at, reply_in};
 
 use crate::fault::DecodeFault;

@@ -1,7 +1,6 @@
 //! Requests as bytes.
 
-ghost use Rattle.std.specs.Prelude.{◌≡◌, ◌↔◌, ◌≤◌, ◌<◌, ◌*◌, ◌^◌, ◌++◌, length, take, IsTrue, IfOk, IsOk, OnOk, OnErr};
-ghost use Rattle.std.specs.List.{All};
+ghost use Rattle.std.specs.{Prelude.{◌≡◌, ◌↔◌, ◌≤◌, ◌<◌, ◌*◌, ◌^◌, ◌++◌, length, take, IsTrue, IfOk, IsOk, OnOk, OnErr}, List.All};
 ghost use Rattle.mt_fields.specs.Reading.{Gives, each_at};
 ghost use Rattle.mt_wire.specs.Requests.{asked_columns, named_column, named_columns, command_body, request_body, spelling, CommandFits, RequestFits, IsSpellable};
 ghost use Rattle.mt_wire.specs.RequestReading.{start_at, asked_at, named_column_at, named_columns_at, open_at, get_at, put_at, remove_at, scan_at, kind_at, request_in};

@@ -2,8 +2,7 @@
 
 ghost use Rattle.std.specs.Prelude.{◌≡◌, IfNone};
 ghost use Rattle.mt_arena.specs.Accesses.{at};
-ghost use Rattle.mt_descent.specs.KeptWalks.{IsAtChild, IsAtVerify};
-ghost use Rattle.mt_descent.specs.WalkMoves.{AnswersAgain, Continues, after_child};
+ghost use Rattle.mt_descent.specs.{KeptWalks.{IsAtChild, IsAtVerify}, WalkMoves.{AnswersAgain, Continues, after_child}};
 
 use crate::walks::blocker;
 use mt_arena::Arena;

@@ -3,9 +3,7 @@
 ghost use Rattle.std.specs.Prelude.{◌≡◌, ◌<◌, Option, IfNone};
 ghost use Rattle.mt_rows.specs.Rows.{Columns};
 ghost use Rattle.mt_arena.specs.Accesses.{at};
-ghost use Rattle.mt_descent.specs.Pasts.{Past};
-ghost use Rattle.mt_descent.specs.KeptWalks.{IsKept, IsAtBorder, IsAtConfirm};
-ghost use Rattle.mt_descent.specs.WalkMoves.{AnswersAgain, Continues, after_confirm, Confirms};
+ghost use Rattle.mt_descent.specs.{Pasts.Past, KeptWalks.{IsKept, IsAtBorder, IsAtConfirm}, WalkMoves.{AnswersAgain, Continues, after_confirm, Confirms}};
 
 use crate::walks::{blocker, into, move_on};
 use mt_arena::Arena;

@@ -2,11 +2,8 @@
 
 ghost use Rattle.std.specs.Prelude.{◌≡◌, Option, IfNone};
 ghost use Rattle.mt_rows.specs.Rows.{Columns};
-ghost use Rattle.mt_arena.specs.Forests.{tree_at};
-ghost use Rattle.mt_arena.specs.Accesses.{at};
-ghost use Rattle.mt_descent.specs.Pasts.{Past};
-ghost use Rattle.mt_descent.specs.KeptWalks.{IsKept, IsAtEnter};
-ghost use Rattle.mt_descent.specs.WalkMoves.{AnswersAgain, Continues, after_enter};
+ghost use Rattle.mt_arena.specs.{Forests.tree_at, Accesses.at};
+ghost use Rattle.mt_descent.specs.{Pasts.Past, KeptWalks.{IsKept, IsAtEnter}, WalkMoves.{AnswersAgain, Continues, after_enter}};
 
 use crate::walks::{blocker, into, onto};
 use mt_arena::{Arena, Standing};

@@ -1,12 +1,9 @@
 //! Forward: reads the next border node.
 
-ghost use Rattle.std.specs.Prelude.{◌≡◌, ℕ, Option, Some, None, IfNone, IsNone};
-ghost use Rattle.std.specs.Option.{ForSome};
+ghost use Rattle.std.specs.{Prelude.{◌≡◌, ℕ, Option, Some, None, IfNone, IsNone}, Option.ForSome};
 ghost use Rattle.mt_rows.specs.Rows.{Columns};
 ghost use Rattle.mt_arena.specs.Accesses.{at};
-ghost use Rattle.mt_descent.specs.Pasts.{Past};
-ghost use Rattle.mt_descent.specs.KeptWalks.{slice_in, IsKept, IsAtForward};
-ghost use Rattle.mt_descent.specs.WalkMoves.{AnswersAgain, Continues, walk_here, after_forward};
+ghost use Rattle.mt_descent.specs.{Pasts.Past, KeptWalks.{slice_in, IsKept, IsAtForward}, WalkMoves.{AnswersAgain, Continues, walk_here, after_forward}};
 
 use crate::walks::{arrival, blocker};
 use mt_arena::{Arena, Node};

@@ -1,11 +1,8 @@
 //! Load: reads the slot that was found.
 
-ghost use Rattle.std.specs.Prelude.{◌≡◌, ◌<◌, ◌≤◌, IfOk, IfErr, length};
-ghost use Rattle.std.specs.Option.{option_map};
+ghost use Rattle.std.specs.{Prelude.{◌≡◌, ◌<◌, ◌≤◌, IfOk, IfErr, length}, Option.option_map};
 ghost use Rattle.mt_arena.specs.Accesses.{at};
-ghost use Rattle.mt_descent.specs.Pasts.{Past, AreStamped};
-ghost use Rattle.mt_descent.specs.KeptWalks.{IsKept, IsAtLoad};
-ghost use Rattle.mt_descent.specs.WalkMoves.{IsBlockedAt, Continues, after_load, Loads};
+ghost use Rattle.mt_descent.specs.{Pasts.{Past, AreStamped}, KeptWalks.{IsKept, IsAtLoad}, WalkMoves.{IsBlockedAt, Continues, after_load, Loads}};
 
 use mt_arena::Arena;
 use mt_border::Held;

@@ -2,8 +2,7 @@
 
 ghost use Rattle.std.specs.Prelude.{◌≡◌, ◌≢◌, IfSome, IfNone};
 ghost use Rattle.mt_arena.specs.Accesses.{at};
-ghost use Rattle.mt_descent.specs.KeptWalks.{HoldsNothing, IsAtBorder};
-ghost use Rattle.mt_descent.specs.WalkMoves.{IsLock};
+ghost use Rattle.mt_descent.specs.{KeptWalks.{HoldsNothing, IsAtBorder}, WalkMoves.IsLock};
 
 use crate::walks::{is_outdated, move_on};
 use mt_arena::Arena;

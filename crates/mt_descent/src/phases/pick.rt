@@ -2,9 +2,7 @@
 
 ghost use Rattle.std.specs.Prelude.{◌≡◌};
 ghost use Rattle.mt_arena.specs.Accesses.{at};
-ghost use Rattle.mt_descent.specs.Seen.{child_for};
-ghost use Rattle.mt_descent.specs.KeptWalks.{slice_in, IsAtPick, IsAtChild};
-ghost use Rattle.mt_descent.specs.WalkMoves.{Continues, after_pick};
+ghost use Rattle.mt_descent.specs.{Seen.child_for, KeptWalks.{slice_in, IsAtPick, IsAtChild}, WalkMoves.{Continues, after_pick}};
 
 use mt_arena::Arena;
 use mt_operation::{Phase, Walk};

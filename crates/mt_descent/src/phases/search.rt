@@ -4,9 +4,7 @@ ghost use Rattle.std.specs.Prelude.{◌≡◌, ◌≤◌, Option};
 ghost use Rattle.mt_border.specs.declared.entry.Find.{Find as AnyFind};
 ghost use Rattle.mt_rows.specs.Rows.{Columns};
 ghost use Rattle.mt_arena.specs.Accesses.{at};
-ghost use Rattle.mt_descent.specs.Pasts.{Past, IsNow};
-ghost use Rattle.mt_descent.specs.KeptWalks.{IsKept, IsAtBorder};
-ghost use Rattle.mt_descent.specs.WalkMoves.{Continues, after_search, FindsIn};
+ghost use Rattle.mt_descent.specs.{Pasts.{Past, IsNow}, KeptWalks.{IsKept, IsAtBorder}, WalkMoves.{Continues, after_search, FindsIn}};
 
 use mt_arena::Arena;
 use mt_border::laws::suffix_fits_mark;

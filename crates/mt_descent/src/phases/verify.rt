@@ -3,9 +3,7 @@
 ghost use Rattle.std.specs.Prelude.{Option, IfNone};
 ghost use Rattle.mt_rows.specs.Rows.{Columns};
 ghost use Rattle.mt_arena.specs.Accesses.{at};
-ghost use Rattle.mt_descent.specs.Pasts.{Past};
-ghost use Rattle.mt_descent.specs.KeptWalks.{IsKept, IsAtVerify};
-ghost use Rattle.mt_descent.specs.WalkMoves.{AnswersAgain, Continues, Verifies};
+ghost use Rattle.mt_descent.specs.{Pasts.Past, KeptWalks.{IsKept, IsAtVerify}, WalkMoves.{AnswersAgain, Continues, Verifies}};
 
 use crate::walks::{blocker, is_outdated, onto};
 use mt_arena::Arena;

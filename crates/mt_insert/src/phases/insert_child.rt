@@ -1,7 +1,6 @@
 //! InsertChild: puts the right half into the parent.
 
-ghost use Rattle.mt_insert.specs.KeptSplits.{IsAtInsertChild};
-ghost use Rattle.mt_insert.specs.Climbs.{IsInsertChild};
+ghost use Rattle.mt_insert.specs.{KeptSplits.IsAtInsertChild, Climbs.IsInsertChild};
 
 use crate::halves::{above, last};
 use mt_arena::Arena;

@@ -1,8 +1,7 @@
 //! InteriorSplit: splits the full parent as the right half comes in.
 
 ghost use Rattle.std.specs.Prelude.{◌≡◌, OnOk, OnErr};
-ghost use Rattle.mt_insert.specs.KeptSplits.{IsAtInteriorSplit};
-ghost use Rattle.mt_insert.specs.Climbs.{AreSame, IsInteriorSplit};
+ghost use Rattle.mt_insert.specs.{KeptSplits.IsAtInteriorSplit, Climbs.{AreSame, IsInteriorSplit}};
 
 use crate::halves::{above, last};
 use mt_arena::Arena;

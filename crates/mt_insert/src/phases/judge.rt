@@ -4,9 +4,8 @@
 ghost use Rattle.std.specs.Prelude.{◌≡◌, ◌<◌, ◌==◌, if◌then◌else◌, length};
 ghost use Rattle.mt_border.specs.Node.{entries_of};
 ghost use Rattle.mt_arena.specs.Accesses.{at};
-ghost use Rattle.mt_insert.specs.Puts.{IsPut};
+ghost use Rattle.mt_insert.specs.{Puts.IsPut, Judge.{StandsIn, TellsJudged, after_judge}};
 ghost use Rattle.mt_held.specs.Holds.{HoldsBorder};
-ghost use Rattle.mt_insert.specs.Judge.{StandsIn, TellsJudged, after_judge};
 
 use crate::prepare::prepare;
 use mt_arena::Arena;

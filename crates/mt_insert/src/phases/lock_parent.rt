@@ -2,9 +2,7 @@
 
 ghost use Rattle.std.specs.Prelude.{◌≡◌, ◌<◌, ℕ, length, Some, IfSome, IfNone, ◌≢◌};
 ghost use Rattle.mt_arena.specs.Accesses.{at};
-ghost use Rattle.mt_insert.specs.KeptSplits.{last_of, HoldsSplits, IsAtLockParent};
-ghost use Rattle.mt_insert.specs.SplitEdits.{for_parent};
-ghost use Rattle.mt_insert.specs.Climbs.{IsLockParent};
+ghost use Rattle.mt_insert.specs.{KeptSplits.{last_of, HoldsSplits, IsAtLockParent}, SplitEdits.for_parent, Climbs.IsLockParent};
 
 use crate::halves::last;
 use mt_arena::Arena;

@@ -4,15 +4,9 @@ ghost use Rattle.std.specs.Prelude.{◌≡◌, ◌<◌};
 ghost use Rattle.mt_slices.specs.Slices.{HasLayer, suffix_of};
 ghost use Rattle.mt_border.specs.Entries.{with_entry};
 ghost use Rattle.mt_tape.specs.Tapes.{last_write};
-ghost use Rattle.mt_arena.specs.Edits.{with_slots};
-ghost use Rattle.mt_arena.specs.Arena.{Guarantee};
-ghost use Rattle.mt_arena.specs.Accesses.{at, with_node};
-ghost use Rattle.mt_insert.specs.Puts.{IsPut};
-ghost use Rattle.mt_insert.specs.KeptPuts.{IsAtPublish};
-ghost use Rattle.mt_held.specs.Holds.{IsAtUnlock};
-ghost use Rattle.mt_held.specs.Moves.{walk_placed};
-ghost use Rattle.mt_insert.specs.Placing.{entry_of, Places};
-ghost use Rattle.mt_insert.specs.Publish.{TellsPublished};
+ghost use Rattle.mt_arena.specs.{Edits.with_slots, Arena.Guarantee, Accesses.{at, with_node}};
+ghost use Rattle.mt_insert.specs.{Puts.IsPut, KeptPuts.IsAtPublish, Placing.{entry_of, Places}, Publish.TellsPublished};
+ghost use Rattle.mt_held.specs.{Holds.IsAtUnlock, Moves.walk_placed};
 
 use mt_arena::Arena;
 use mt_border::{Entry, Held, Pair, Suffix};

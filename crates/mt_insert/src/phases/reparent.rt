@@ -1,7 +1,6 @@
 //! Reparent: names the parent's right half in one of the children that it has got.
 
-ghost use Rattle.mt_insert.specs.KeptSplits.{IsAtReparent};
-ghost use Rattle.mt_insert.specs.Climbs.{IsReparent};
+ghost use Rattle.mt_insert.specs.{KeptSplits.IsAtReparent, Climbs.IsReparent};
 
 use crate::halves::last;
 use mt_arena::Arena;

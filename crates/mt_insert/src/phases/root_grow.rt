@@ -1,8 +1,7 @@
 //! RootGrow: makes a root over the halves of the old one.
 
 ghost use Rattle.std.specs.Prelude.{◌≡◌, OnOk, OnErr};
-ghost use Rattle.mt_insert.specs.KeptSplits.{IsAtRootGrow};
-ghost use Rattle.mt_insert.specs.Climbs.{IsRootGrow};
+ghost use Rattle.mt_insert.specs.{KeptSplits.IsAtRootGrow, Climbs.IsRootGrow};
 
 use crate::halves::last;
 use mt_arena::Arena;

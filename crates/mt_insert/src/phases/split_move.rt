@@ -3,15 +3,9 @@
 ghost use Rattle.std.specs.Prelude.{◌≡◌, ◌<◌, length};
 ghost use Rattle.mt_border.specs.Entries.{with_entry};
 ghost use Rattle.mt_tape.specs.Tapes.{last_write};
-ghost use Rattle.mt_arena.specs.Arena.{content_of, Guarantee};
-ghost use Rattle.mt_arena.specs.Accesses.{at};
-ghost use Rattle.mt_insert.specs.Puts.{IsPut};
-ghost use Rattle.mt_insert.specs.Placing.{entry_of, Places};
-ghost use Rattle.mt_arena.specs.Several.{AreHalved};
-ghost use Rattle.mt_operation.specs.declared.task.Task.{Task as AnyTask};
-ghost use Rattle.mt_operation.specs.declared.prepared.Prepared.{Prepared as AnyPrepared};
-ghost use Rattle.mt_insert.specs.KeptSplits.{last_of, IsAtSplitMove};
-ghost use Rattle.mt_insert.specs.SplitMove.{after_parting, TellsSplitMoved};
+ghost use Rattle.mt_arena.specs.{Arena.{content_of, Guarantee}, Accesses.at, Several.AreHalved};
+ghost use Rattle.mt_insert.specs.{Puts.IsPut, Placing.{entry_of, Places}, KeptSplits.{last_of, IsAtSplitMove}, SplitMove.{after_parting, TellsSplitMoved}};
+ghost use Rattle.mt_operation.specs.{declared.task.Task.{Task as AnyTask}, declared.prepared.Prepared.{Prepared as AnyPrepared}};
 
 use crate::halves::last;
 use crate::phases::publish::new_entry;

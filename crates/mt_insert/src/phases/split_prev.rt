@@ -1,7 +1,6 @@
 //! SplitPrev: names the right half in the border node behind it.
 
-ghost use Rattle.mt_insert.specs.KeptSplits.{IsAtSplitPrev};
-ghost use Rattle.mt_insert.specs.Climbs.{IsSplitPrev};
+ghost use Rattle.mt_insert.specs.{KeptSplits.IsAtSplitPrev, Climbs.IsSplitPrev};
 
 use crate::halves::last;
 use mt_arena::Arena;

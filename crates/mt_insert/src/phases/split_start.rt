@@ -2,12 +2,8 @@
 
 ghost use Rattle.std.specs.Prelude.{◌≡◌, ◌<◌, length, OnOk, OnErr};
 ghost use Rattle.mt_arena.specs.Arena.{content_of, Guarantee};
-ghost use Rattle.mt_operation.specs.declared.task.Task.{Task as AnyTask};
-ghost use Rattle.mt_operation.specs.declared.prepared.Prepared.{Prepared as AnyPrepared};
-ghost use Rattle.mt_insert.specs.KeptPuts.{IsAtSplitStart};
-ghost use Rattle.mt_operation.specs.Operations.{IsUnsplit};
-ghost use Rattle.mt_insert.specs.SplitEdits.{Starts, HasOneMore};
-ghost use Rattle.mt_insert.specs.SplitStart.{IsSplitStart, IsSplitStopped};
+ghost use Rattle.mt_operation.specs.{declared.task.Task.{Task as AnyTask}, declared.prepared.Prepared.{Prepared as AnyPrepared}, Operations.IsUnsplit};
+ghost use Rattle.mt_insert.specs.{KeptPuts.IsAtSplitStart, SplitEdits.{Starts, HasOneMore}, SplitStart.{IsSplitStart, IsSplitStopped}};
 
 use mt_arena::Arena;
 use mt_held::unlock;

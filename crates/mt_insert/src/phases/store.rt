@@ -2,9 +2,7 @@
 
 ghost use Rattle.std.specs.Prelude.{◌<◌};
 ghost use Rattle.mt_tape.specs.Tapes.{last_write};
-ghost use Rattle.mt_insert.specs.Puts.{IsPut};
-ghost use Rattle.mt_insert.specs.KeptPuts.{IsAtStore};
-ghost use Rattle.mt_insert.specs.Store.{IsStore};
+ghost use Rattle.mt_insert.specs.{Puts.IsPut, KeptPuts.IsAtStore, Store.IsStore};
 
 use mt_arena::Arena;
 use mt_border::{Entry, Held};

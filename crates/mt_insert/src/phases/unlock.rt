@@ -2,11 +2,9 @@
 
 ghost use Rattle.std.specs.Prelude.{◌≡◌, ℕ, Some, None};
 ghost use Rattle.mt_version.specs.Changes.{CanUnlock};
-ghost use Rattle.mt_arena.specs.Arena.{content_of, Guarantee};
-ghost use Rattle.mt_arena.specs.Accesses.{at};
+ghost use Rattle.mt_arena.specs.{Arena.{content_of, Guarantee}, Accesses.at};
 ghost use Rattle.mt_held.specs.Moves.{given_back};
-ghost use Rattle.mt_insert.specs.Unlock.{Returns, IsUnlockAll};
-ghost use Rattle.mt_insert.specs.KeptSplits.{IsAmong, IsAtUnlockAll, MayReturnBoth};
+ghost use Rattle.mt_insert.specs.{Unlock.{Returns, IsUnlockAll}, KeptSplits.{IsAmong, IsAtUnlockAll, MayReturnBoth}};
 
 use mt_arena::Arena;
 use mt_operation::{Halves, Phase, Splits, Walk};

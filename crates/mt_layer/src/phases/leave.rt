@@ -3,8 +3,7 @@
 ghost use Rattle.mt_version.specs.Changes.{CanUnlock};
 ghost use Rattle.mt_rows.specs.Rows.{Bytes};
 ghost use Rattle.mt_arena.specs.Accesses.{at};
-ghost use Rattle.mt_layer.specs.KeptLayers.{IsAtLeave};
-ghost use Rattle.mt_layer.specs.Builds.{IsLeave};
+ghost use Rattle.mt_layer.specs.{KeptLayers.IsAtLeave, Builds.IsLeave};
 
 use crate::phases::link::tree_of;
 use mt_arena::Arena;

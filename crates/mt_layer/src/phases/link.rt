@@ -2,8 +2,7 @@
 
 ghost use Rattle.std.specs.Prelude.{◌≡◌, ℕ};
 ghost use Rattle.mt_rows.specs.Rows.{Bytes};
-ghost use Rattle.mt_layer.specs.KeptLayers.{IsAtLink};
-ghost use Rattle.mt_layer.specs.Builds.{IsLink};
+ghost use Rattle.mt_layer.specs.{KeptLayers.IsAtLink, Builds.IsLink};
 
 use mt_arena::Arena;
 use mt_operation::{Phase, Taken, Walk};

@@ -1,15 +1,10 @@
 //! MakeLayer: makes the tree of the next layer.
 
 ghost use Rattle.std.specs.Prelude.{◌≡◌, IfOk, OnOk, OnErr, length};
-ghost use Rattle.mt_border.specs.declared.entry.Pair.{Pair as AnyPair};
-ghost use Rattle.mt_border.specs.declared.entry.Held.TheVariants.{Stable};
-ghost use Rattle.mt_arena.specs.Layers.{slot_at};
-ghost use Rattle.mt_arena.specs.Arena.{content_of, Guarantee};
-ghost use Rattle.mt_arena.specs.Accesses.{at};
-ghost use Rattle.mt_arena.specs.Layering.{prefix_below, with_layer};
+ghost use Rattle.mt_border.specs.{declared.entry.Pair.{Pair as AnyPair}, declared.entry.Held.TheVariants.Stable};
+ghost use Rattle.mt_arena.specs.{Layers.slot_at, Arena.{content_of, Guarantee}, Accesses.at, Layering.{prefix_below, with_layer}};
 ghost use Rattle.mt_insert.specs.KeptPuts.{IsAtMakeLayer};
-ghost use Rattle.mt_layer.specs.NewLayers.{entry_below};
-ghost use Rattle.mt_layer.specs.Builds.{IsMakeLayer};
+ghost use Rattle.mt_layer.specs.{NewLayers.entry_below, Builds.IsMakeLayer};
 ghost use Rattle.mt_held.specs.Unlock.{IsUnlock};
 
 use crate::below::{entry_below, prefix_below};

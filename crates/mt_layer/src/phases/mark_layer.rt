@@ -1,8 +1,7 @@
 //! MarkLayer: makes the slot a link, and the new tree live.
 
 ghost use Rattle.mt_rows.specs.Rows.{Bytes};
-ghost use Rattle.mt_layer.specs.KeptLayers.{IsAtMarkLayer};
-ghost use Rattle.mt_layer.specs.Builds.{IsMarkLayer};
+ghost use Rattle.mt_layer.specs.{KeptLayers.IsAtMarkLayer, Builds.IsMarkLayer};
 
 use crate::phases::link::tree_of;
 use mt_arena::Arena;

@@ -1,8 +1,7 @@
 //! MarkUnstable: makes the pair of the other key unstable.
 
 ghost use Rattle.mt_rows.specs.Rows.{Bytes};
-ghost use Rattle.mt_layer.specs.KeptLayers.{IsAtMarkUnstable};
-ghost use Rattle.mt_layer.specs.Builds.{IsMarkUnstable};
+ghost use Rattle.mt_layer.specs.{KeptLayers.IsAtMarkUnstable, Builds.IsMarkUnstable};
 
 use mt_arena::Arena;
 use mt_operation::{Phase, Walk};

@@ -1,13 +1,9 @@
 //! CleanLayer: takes out the link to an empty layer, with its tree.
 
 ghost use Rattle.std.specs.Prelude.{◌≡◌, ◌≢◌, ◌<◌, ℕ, true, false, [], IfSome, IfNone, length, Some, None};
-ghost use Rattle.mt_arena.specs.Settled.{IsSettled};
-ghost use Rattle.mt_arena.specs.Arena.{content_of, Guarantee};
-ghost use Rattle.mt_arena.specs.Accesses.{at};
-ghost use Rattle.mt_arena.specs.Removals.{without_layer};
+ghost use Rattle.mt_arena.specs.{Settled.IsSettled, Arena.{content_of, Guarantee}, Accesses.at, Removals.without_layer};
 ghost use Rattle.mt_descent.specs.KeptWalks.{IsAtBorder};
-ghost use Rattle.mt_remove.specs.KeptRemovals.{HoldsRemoval, HoldsLink, IsAtCleanLayer};
-ghost use Rattle.mt_remove.specs.RemovalEdits.{with_lock, root_of};
+ghost use Rattle.mt_remove.specs.{KeptRemovals.{HoldsRemoval, HoldsLink, IsAtCleanLayer}, RemovalEdits.{with_lock, root_of}};
 ghost use Rattle.mt_remove.specs.CleanLayer.{LeadsTo, IsCleanLayer};
 
 use crate::emptied::{go_on_emptied, is_empty_border};

@@ -1,8 +1,7 @@
 //! Collapse: takes out a root that has one border node below it.
 
 ghost use Rattle.mt_rows.specs.Rows.{Bytes};
-ghost use Rattle.mt_remove.specs.KeptRemovals.{IsAtCollapse};
-ghost use Rattle.mt_remove.specs.Unlinks.{IsCollapse};
+ghost use Rattle.mt_remove.specs.{KeptRemovals.IsAtCollapse, Unlinks.IsCollapse};
 
 use crate::neighbours::{left_of, parent_of};
 use mt_arena::Arena;

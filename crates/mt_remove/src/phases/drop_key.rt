@@ -3,9 +3,7 @@
 ghost use Rattle.std.specs.Prelude.{◌<◌};
 ghost use Rattle.mt_rows.specs.Accounts.{account_of, HasPairs};
 ghost use Rattle.mt_tape.specs.Tapes.{last_write};
-ghost use Rattle.mt_remove.specs.Writes.{IsRemoval};
-ghost use Rattle.mt_remove.specs.KeptRemovals.{IsAtDropKey, IsUnburdened};
-ghost use Rattle.mt_remove.specs.DropKey.{IsDropKey};
+ghost use Rattle.mt_remove.specs.{Writes.IsRemoval, KeptRemovals.{IsAtDropKey, IsUnburdened}, DropKey.IsDropKey};
 
 use crate::emptied::go_on_emptied;
 use mt_arena::Arena;

@@ -1,8 +1,7 @@
 //! FixNext: names the left neighbour in the border node behind the one that was taken out.
 
 ghost use Rattle.mt_rows.specs.Rows.{Bytes};
-ghost use Rattle.mt_remove.specs.KeptRemovals.{IsAtFixNext};
-ghost use Rattle.mt_remove.specs.Unlinks.{IsFixNext};
+ghost use Rattle.mt_remove.specs.{KeptRemovals.IsAtFixNext, Unlinks.IsFixNext};
 
 use crate::neighbours::{left_of, parent_of, phase_without};
 use mt_arena::Arena;

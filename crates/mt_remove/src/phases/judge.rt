@@ -2,17 +2,11 @@
 //! step that takes it out.
 
 ghost use Rattle.std.specs.Prelude.{◌≡◌, Some, IfOk, OnOk, OnErr};
-ghost use Rattle.mt_border.specs.declared.entry.Pair.{Pair as AnyPair};
-ghost use Rattle.mt_border.specs.Entry.{pair_of};
-ghost use Rattle.mt_border.specs.Node.{IsLive, entry_at};
-ghost use Rattle.mt_border.specs.declared.entry.FoundKind.TheVariants.{ThisKey};
-ghost use Rattle.mt_arena.specs.Accesses.{at};
-ghost use Rattle.mt_arena.specs.Layers.{slot_at};
+ghost use Rattle.mt_border.specs.{declared.entry.Pair.{Pair as AnyPair}, Entry.pair_of, Node.{IsLive, entry_at}, declared.entry.FoundKind.TheVariants.ThisKey};
+ghost use Rattle.mt_arena.specs.{Accesses.at, Layers.slot_at};
 ghost use Rattle.mt_descent.specs.KeptWalks.{IsAtBorder, IsInSlot};
-ghost use Rattle.mt_held.specs.Holds.{HoldsBorder};
-ghost use Rattle.mt_held.specs.Taping.{reserving};
-ghost use Rattle.mt_remove.specs.Writes.{IsRemoval, ReadyIn};
-ghost use Rattle.mt_remove.specs.Judge.{TellsLooked};
+ghost use Rattle.mt_held.specs.{Holds.HoldsBorder, Taping.reserving};
+ghost use Rattle.mt_remove.specs.{Writes.{IsRemoval, ReadyIn}, Judge.TellsLooked};
 
 use mt_arena::Arena;
 use mt_border::{Border, Find, FoundKind, Held, Suffix};

@@ -2,11 +2,9 @@
 //! of that link.
 
 ghost use Rattle.std.specs.Prelude.{◌≡◌, ◌≢◌, ◌+◌, IfSome, IfNone, length, ◌<◌, true, false};
-ghost use Rattle.mt_arena.specs.Accesses.{at};
-ghost use Rattle.mt_arena.specs.Forests.{tree_at};
+ghost use Rattle.mt_arena.specs.{Accesses.at, Forests.tree_at};
 ghost use Rattle.mt_descent.specs.KeptWalks.{HoldsNothing, IsAtBorder};
-ghost use Rattle.mt_remove.specs.KeptRemovals.{IsCleaning};
-ghost use Rattle.mt_remove.specs.Ways.{IsJustBelow, IsLockWay};
+ghost use Rattle.mt_remove.specs.{KeptRemovals.IsCleaning, Ways.{IsJustBelow, IsLockWay}};
 
 use crate::phases::clean_layer::cleaned;
 use mt_arena::Arena;

@@ -4,8 +4,7 @@ ghost use Rattle.std.specs.Prelude.{◌≡◌, ◌≢◌, ◌<◌, ℕ, true, fa
 ghost use Rattle.mt_rows.specs.Rows.{Bytes};
 ghost use Rattle.mt_interior.specs.Places.{place_of};
 ghost use Rattle.mt_arena.specs.Accesses.{at};
-ghost use Rattle.mt_remove.specs.KeptRemovals.{HoldsRemoval, IsAtLockAbove};
-ghost use Rattle.mt_remove.specs.Unlinks.{IsChildBefore, IsLockAbove};
+ghost use Rattle.mt_remove.specs.{KeptRemovals.{HoldsRemoval, IsAtLockAbove}, Unlinks.{IsChildBefore, IsLockAbove}};
 
 use mt_arena::Arena;
 use mt_operation::{Phase, Removal, Walk};

@@ -3,8 +3,7 @@
 ghost use Rattle.std.specs.Prelude.{◌≡◌, ◌≢◌, ℕ, IfSome, IfNone, Some};
 ghost use Rattle.mt_rows.specs.Rows.{Bytes};
 ghost use Rattle.mt_arena.specs.Accesses.{at};
-ghost use Rattle.mt_remove.specs.KeptRemovals.{HoldsRemoval, IsAtLockPrev};
-ghost use Rattle.mt_remove.specs.Unlinks.{IsLockPrev};
+ghost use Rattle.mt_remove.specs.{KeptRemovals.{HoldsRemoval, IsAtLockPrev}, Unlinks.IsLockPrev};
 
 use mt_arena::Arena;
 use mt_operation::{Phase, Removal, Walk};

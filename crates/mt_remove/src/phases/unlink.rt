@@ -3,9 +3,7 @@
 ghost use Rattle.std.specs.Prelude.{◌≡◌, ◌<◌, length};
 ghost use Rattle.mt_rows.specs.Rows.{Bytes};
 ghost use Rattle.mt_arena.specs.Accesses.{at};
-ghost use Rattle.mt_remove.specs.KeptRemovals.{IsAtUnlink};
-ghost use Rattle.mt_remove.specs.RemovalEdits.{after_unlink};
-ghost use Rattle.mt_remove.specs.Unlinks.{IsUnlink};
+ghost use Rattle.mt_remove.specs.{KeptRemovals.IsAtUnlink, RemovalEdits.after_unlink, Unlinks.IsUnlink};
 
 use crate::neighbours::{left_of, parent_of, phase_without};
 use mt_arena::Arena;

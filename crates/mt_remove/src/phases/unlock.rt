@@ -3,13 +3,9 @@
 ghost use Rattle.std.specs.Prelude.{◌≡◌, ◌<◌, ℕ, length, true, false, Some, None};
 ghost use Rattle.mt_version.specs.Changes.{CanUnlock};
 ghost use Rattle.mt_rows.specs.Rows.{Bytes};
-ghost use Rattle.mt_arena.specs.Arena.{content_of, Guarantee};
-ghost use Rattle.mt_arena.specs.Accesses.{at};
-ghost use Rattle.mt_held.specs.Holds.{MayReturn};
-ghost use Rattle.mt_held.specs.Moves.{given_back};
-ghost use Rattle.mt_remove.specs.KeptRemovals.{IsAmong, IsAtUnlockRemoval};
-ghost use Rattle.mt_remove.specs.RemovalEdits.{ReturnsRemoval};
-ghost use Rattle.mt_remove.specs.Unlock.{EmptiesLayer, IsUnlockRemoval};
+ghost use Rattle.mt_arena.specs.{Arena.{content_of, Guarantee}, Accesses.at};
+ghost use Rattle.mt_held.specs.{Holds.MayReturn, Moves.given_back};
+ghost use Rattle.mt_remove.specs.{KeptRemovals.{IsAmong, IsAtUnlockRemoval}, RemovalEdits.ReturnsRemoval, Unlock.{EmptiesLayer, IsUnlockRemoval}};
 
 use crate::emptied::is_empty_border;
 use mt_arena::Arena;

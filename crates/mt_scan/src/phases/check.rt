@@ -4,14 +4,10 @@ ghost use Rattle.std.specs.Prelude.{◌≡◌, ◌≢◌, ℕ, List, Option, Som
 ghost use Rattle.mt_slices.specs.Keys.{IsStoredKey};
 ghost use Rattle.mt_rows.specs.Rows.{Columns};
 ghost use Rattle.mt_arena.specs.Accesses.{at};
-ghost use Rattle.mt_operation.specs.declared.phase.Phase.TheVariants.{Done};
-ghost use Rattle.mt_operation.specs.Operations.{scan_of};
-ghost use Rattle.mt_descent.specs.Pasts.{Past};
-ghost use Rattle.mt_descent.specs.WalkMoves.{Continues};
-ghost use Rattle.mt_scan.specs.Snaps.{prefix_in};
-ghost use Rattle.mt_scan.specs.Checks.{Asks, MayCheck, walk_to, GoesBehind, IsUnchanged, ChecksOr};
-ghost use Rattle.mt_scan.specs.Goings.{HasBehind, at_next, phase_at, IsStoredBehind, Keeps};
-ghost use Rattle.mt_scan.specs.Hops.{IsAtCheck, KeptScan};
+ghost use Rattle.mt_operation.specs.{declared.phase.Phase.TheVariants.Done, Operations.scan_of};
+ghost use Rattle.mt_descent.specs.{Pasts.Past, WalkMoves.Continues};
+ghost use Rattle.mt_scan.specs.{Snaps.prefix_in, Checks.{Asks, MayCheck, walk_to, GoesBehind, IsUnchanged, ChecksOr}};
+ghost use Rattle.mt_scan.specs.{Goings.{HasBehind, at_next, phase_at, IsStoredBehind, Keeps}, Hops.{IsAtCheck, KeptScan}};
 
 use crate::behind::{NextFence, next_fence};
 use crate::collect::collect;

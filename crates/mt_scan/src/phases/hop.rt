@@ -2,9 +2,7 @@
 
 ghost use Rattle.std.specs.Prelude.{◌≡◌, Option, IfNone};
 ghost use Rattle.mt_rows.specs.Rows.{Columns};
-ghost use Rattle.mt_descent.specs.Pasts.{Past};
-ghost use Rattle.mt_descent.specs.KeptWalks.{IsKept};
-ghost use Rattle.mt_descent.specs.WalkMoves.{Continues};
+ghost use Rattle.mt_descent.specs.{Pasts.Past, KeptWalks.IsKept, WalkMoves.Continues};
 ghost use Rattle.mt_scan.specs.Hops.{KeptHop, after_next, HopsTo, AnswersHop};
 
 use mt_arena::{Arena, Node};

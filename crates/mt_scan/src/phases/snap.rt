@@ -3,10 +3,8 @@
 ghost use Rattle.std.specs.Prelude.{◌≡◌, ℕ, Some, None, IfOk, OnErr};
 ghost use Rattle.mt_arena.specs.Accesses.{at};
 ghost use Rattle.mt_operation.specs.Operations.{scan_of};
-ghost use Rattle.mt_descent.specs.KeptWalks.{IsAtBorder};
-ghost use Rattle.mt_descent.specs.WalkMoves.{Continues};
-ghost use Rattle.mt_scan.specs.Snaps.{next_at, AreSettled, SnapsOr};
-ghost use Rattle.mt_scan.specs.Hops.{IsAtCheck};
+ghost use Rattle.mt_descent.specs.{KeptWalks.IsAtBorder, WalkMoves.Continues};
+ghost use Rattle.mt_scan.specs.{Snaps.{next_at, AreSettled, SnapsOr}, Hops.IsAtCheck};
 
 use crate::fence::fence_of;
 use crate::looks::{has_unstable, see, stop_at};

@@ -1,10 +1,7 @@
 -- a command is begun and run by itself
 use Rattle.std.proofs.Common.{Ok, Err, sym, subst}
 use Rattle.mt_session.specs.declared.caller.CallerFault.TheVariants.{Refused}
-use Rattle.mt_alone.specs.declared.runs.Unfinished.{Unfinished}
-use Rattle.mt_alone.specs.Runs.{Finishes}
-use Rattle.mt_alone.specs.Callers.{Answers}
-use Rattle.mt_alone.proofs.Callers.{answers_refused, answers_done, answers_stuck}
+use Rattle.mt_alone.{specs.{declared.runs.Unfinished.Unfinished, Runs.Finishes, Callers.Answers}, proofs.Callers.{answers_refused, answers_done, answers_stuck}}
 use Rattle.mt_alone.proofs.alone.answer.Goals as goal
 
 pub returns-in-Err : goal.returns-in-Err

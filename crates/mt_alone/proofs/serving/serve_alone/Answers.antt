@@ -1,7 +1,6 @@
 use Rattle.std.proofs.Common.{false, true, sym, subst}
 use Rattle.mt_session.proofs.Along.{serves_along}
-use Rattle.mt_alone.specs.TenantMaps.{MapsExchange}
-use Rattle.mt_alone.specs.Callers.{maps_of, HasNumbersFor, HasNumbers, scans_in, MapsPointExchange, AloneExchange}
+use Rattle.mt_alone.specs.{TenantMaps.MapsExchange, Callers.{maps_of, HasNumbersFor, HasNumbers, scans_in, MapsPointExchange, AloneExchange}}
 use Rattle.mt_alone.proofs.Callers.{numbers_back, numbers_each}
 use Rattle.mt_alone.proofs.serving.serve_alone.Goals as goal
 

@@ -1,8 +1,7 @@
 use Rattle.std.proofs.Common.{subst}
 use Rattle.mt_streams.specs.Failures.{Failed}
 use Rattle.mt_session.specs.Endings.{Serves}
-use Rattle.mt_alone.specs.TenantMaps.{MapsExchange}
-use Rattle.mt_alone.specs.Callers.{maps_of, MapsPointExchange}
+use Rattle.mt_alone.specs.{TenantMaps.MapsExchange, Callers.{maps_of, MapsPointExchange}}
 use Rattle.mt_alone.proofs.serving.serve_tenants.Goals as goal
 
 pub returns-clause-serves : goal.returns-clause-serves

@@ -1,6 +1,5 @@
 -- what was passed is renumbered, and what is to come is as it was
-use Rattle.std.proofs.Common.{◌≡◌, ◌++◌, take, drop}
-use Rattle.std.specs.Prelude.{map}
+use Rattle.std.{proofs.Common.{◌≡◌, ◌++◌, take, drop}, specs.Prelude.map}
 use Rattle.mt_arena.specs.Renumbers.{renumbered}
 use Rattle.mt_arena.proofs.arena.renumber_each.Given as goal
 

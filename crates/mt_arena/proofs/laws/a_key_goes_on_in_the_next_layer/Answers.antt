@@ -1,6 +1,5 @@
 use Rattle.mt_border.proofs.Edits.{any_entry}
-use Rattle.mt_arena.proofs.Steps.{keys_of}
-use Rattle.mt_arena.proofs.NextLayer.{may_make, has_below}
+use Rattle.mt_arena.proofs.{Steps.keys_of, NextLayer.{may_make, has_below}}
 use Rattle.mt_arena.proofs.laws.a_key_goes_on_in_the_next_layer.Goals as goal
 
 pub returns : goal.returns

@@ -1,10 +1,5 @@
-use Rattle.std.proofs.Common.{inl, inr, arith}
-use Rattle.std.proofs.lemmas.Bool.{cases_eq}
-use Rattle.std.proofs.lemmas.List.{length-set}
-use Rattle.mt_arena.specs.Accesses.{at}
-use Rattle.mt_arena.specs.Edits.{locked}
-use Rattle.mt_arena.proofs.Pairs.{there}
-use Rattle.mt_arena.proofs.Alone.{alone}
+use Rattle.std.proofs.{Common.{inl, inr, arith}, lemmas.Bool.cases_eq, lemmas.List.length-set}
+use Rattle.mt_arena.{specs.{Accesses.at, Edits.locked}, proofs.{Pairs.there, Alone.alone}}
 use Rattle.mt_arena.proofs.laws.alone_once_locked.Goals as goal
 
 pub returns : goal.returns

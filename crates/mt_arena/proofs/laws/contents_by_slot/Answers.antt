@@ -1,6 +1,4 @@
-use Rattle.mt_arena.proofs.Owners.{published, stored, replaced, dropped}
-use Rattle.mt_arena.proofs.Halves.{halved}
-use Rattle.mt_arena.proofs.Homes.{begun}
+use Rattle.mt_arena.proofs.{Owners.{published, stored, replaced, dropped}, Halves.halved, Homes.begun}
 use Rattle.mt_arena.proofs.laws.contents_by_slot.Goals as goal
 
 pub returns-clause-publish : goal.returns-clause-publish

@@ -1,9 +1,6 @@
 use Rattle.mt_arena.proofs.ContentQuiet.{stands_unchanged, stands_held, stands_unlinked, stands_without_slots, stands_pushed, stands_tree_pushed, stands_tree_set, stands_tree_left}
-use Rattle.mt_arena.specs.NodeView.{node_at}
-use Rattle.mt_arena.specs.Forests.{tree_at, layer_of}
-use Rattle.mt_arena.proofs.Homes.{begun}
-use Rattle.mt_arena.proofs.Steps.{keys_of}
-use Rattle.mt_arena.proofs.Halves.{parted_as_were}
+use Rattle.mt_arena.proofs.{Homes.begun, Steps.keys_of, Halves.parted_as_were}
+use Rattle.mt_arena.specs.{NodeView.node_at, Forests.{tree_at, layer_of}}
 use Rattle.mt_arena.proofs.laws.contents_stand.Goals as goal
 
 pub returns-clause-same_slots : goal.returns-clause-same_slots

@@ -1,5 +1,4 @@
-use Rattle.mt_arena.proofs.GoingLive.{layered}
-use Rattle.mt_arena.proofs.Homes.{begun}
+use Rattle.mt_arena.proofs.{GoingLive.layered, Homes.begun}
 use Rattle.mt_arena.proofs.laws.contents_stand_as_a_tree_goes_live.Goals as goal
 
 pub returns : goal.returns

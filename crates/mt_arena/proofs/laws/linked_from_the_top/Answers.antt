@@ -1,5 +1,4 @@
-use Rattle.mt_arena.proofs.Links.{one_tree, links_above}
-use Rattle.mt_arena.proofs.Down.{goes_on, goes_on_top, belongs_here}
+use Rattle.mt_arena.proofs.{Links.{one_tree, links_above}, Down.{goes_on, goes_on_top, belongs_here}}
 use Rattle.mt_arena.proofs.laws.linked_from_the_top.Goals as goal
 
 pub returns-clause-one_tree : goal.returns-clause-one_tree

@@ -1,6 +1,4 @@
-use Rattle.mt_arena.proofs.Elsewhere.{stands_once}
-use Rattle.mt_arena.proofs.Owners.{none_elsewhere, none_beside, found}
-use Rattle.mt_arena.proofs.Homes.{begun}
+use Rattle.mt_arena.proofs.{Elsewhere.stands_once, Owners.{none_elsewhere, none_beside, found}, Homes.begun}
 use Rattle.mt_arena.proofs.laws.none_elsewhere.Goals as goal
 
 pub returns-clause-missing : goal.returns-clause-missing

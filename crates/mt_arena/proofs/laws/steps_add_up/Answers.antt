@@ -1,6 +1,4 @@
-use Rattle.mt_arena.proofs.Guarantees.{guarantee_none, guarantee_on}
-use Rattle.mt_arena.proofs.Naming.{points_on}
-use Rattle.mt_arena.proofs.Settled.{settled_stays}
+use Rattle.mt_arena.proofs.{Guarantees.{guarantee_none, guarantee_on}, Naming.points_on, Settled.settled_stays}
 use Rattle.mt_arena.proofs.laws.steps_add_up.Goals as goal
 
 pub returns-clause-none : goal.returns-clause-none

@@ -1,10 +1,6 @@
-use Rattle.std.proofs.Common.{◌≡◌, ℕ, List, length, set, ap, sym, ◌∙◌, arith}
-use Rattle.std.proofs.lemmas.List.{length-set}
+use Rattle.std.proofs.{Common.{◌≡◌, ℕ, List, length, set, ap, sym, ◌∙◌, arith}, lemmas.List.length-set}
 use Rattle.mt_interior.specs.Places.{place_of}
-use Rattle.mt_arena.specs.NodeView.{NodeView, node_at}
-use Rattle.mt_arena.specs.Edits.{inserting, retired}
-use Rattle.mt_arena.specs.Unlinks.{joined, without_child}
-use Rattle.mt_arena.proofs.Pairs.{read, there}
+use Rattle.mt_arena.{specs.{NodeView.{NodeView, node_at}, Edits.{inserting, retired}, Unlinks.{joined, without_child}}, proofs.Pairs.{read, there}}
 use Rattle.mt_arena.proofs.removal.take_out.Goals as goal
 
 pub returns : goal.returns

@@ -1,6 +1,5 @@
 use Rattle.std.proofs.Common.{subst, sym, ap, ◌∙◌, ◌≤◌, arith}
-use Rattle.mt_book.specs.Periods.{taking_period, FitsTaking, answers_in, room_of, least_room}
-use Rattle.mt_book.proofs.Turns.{takes_answer, takes_early}
+use Rattle.mt_book.{specs.Periods.{taking_period, FitsTaking, answers_in, room_of, least_room}, proofs.Turns.{takes_answer, takes_early}}
 use Rattle.mt_book.proofs.calls.answered.Goals as goal
 
 pub returns-in-Answered-clause-taken : goal.returns-in-Answered-clause-taken

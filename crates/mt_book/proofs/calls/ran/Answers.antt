@@ -1,7 +1,6 @@
 use Rattle.std.proofs.Common.{ℕ, Some, Ok, sym, subst}
 use Rattle.mt_runs.specs.declared.event.Answer.{Answer}
-use Rattle.mt_book.specs.Calls.{Opens, Calls, Led}
-use Rattle.mt_book.proofs.Chains.{call_answered, call_spent}
+use Rattle.mt_book.{specs.Calls.{Opens, Calls, Led}, proofs.Chains.{call_answered, call_spent}}
 use Rattle.mt_book.proofs.calls.ran.Goals as goal
 
 pub returns-then-not-stepped-clause-periods : goal.returns-then-not-stepped-clause-periods

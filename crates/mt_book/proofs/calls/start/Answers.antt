@@ -1,6 +1,5 @@
 use Rattle.std.proofs.Common.{subst}
-use Rattle.mt_book.specs.Periods.{admission_period, FitsAdmission}
-use Rattle.mt_book.proofs.Turns.{opens_begun, opens_refused, opens_early}
+use Rattle.mt_book.{specs.Periods.{admission_period, FitsAdmission}, proofs.Turns.{opens_begun, opens_refused, opens_early}}
 use Rattle.mt_book.proofs.calls.start.Goals as goal
 
 pub returns-in-Begun : goal.returns-in-Begun

@@ -1,5 +1,4 @@
-use Rattle.std.specs.Prelude.{◌≡◌}
-use Rattle.std.specs.List.{AllByRecursion}
+use Rattle.std.specs.{Prelude.{◌≡◌}, List.AllByRecursion}
 use Rattle.mt_book.specs.Calls.{Led, IsBefore}
 use Rattle.mt_book.proofs.calls.start.Given as goal
 

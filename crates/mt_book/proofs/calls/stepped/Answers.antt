@@ -1,7 +1,6 @@
 use Rattle.std.proofs.Common.{◌≡◌, ◌∙◌, true, false, Some, rules}
 use Rattle.mt_state.specs.declared.moves.Move.TheVariants.{Done, Spent}
-use Rattle.mt_book.specs.Calls.{IsGiven}
-use Rattle.mt_book.proofs.Turns.{MayLeadOn, turns_more, turns_end}
+use Rattle.mt_book.{specs.Calls.IsGiven, proofs.Turns.{MayLeadOn, turns_more, turns_end}}
 use Rattle.mt_book.proofs.calls.stepped.Goals as goal
 
 pub returns-in-Some-Done : goal.returns-in-Some-Done

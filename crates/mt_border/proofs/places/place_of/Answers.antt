@@ -1,13 +1,9 @@
 -- the first entry that is not before the key stands at its place
-use Rattle.std.proofs.Common.{refl, ◌<◌, length, arith, ap, below_more}
-use Rattle.std.proofs.lemmas.Bool.Decides.{nat_tests}
-use Rattle.std.proofs.lemmas.List.{length-map}
+use Rattle.std.proofs.{Common.{refl, ◌<◌, length, arith, ap, below_more}, lemmas.Bool.Decides.nat_tests, lemmas.List.length-map}
 use Rattle.mt_border.specs.declared.entry.Entry.{Entry}
-use Rattle.mt_border.proofs.Edits.{place_in-is}
-use Rattle.mt_border.proofs.Cuts.{marks_of}
-use Rattle.mt_border.proofs.Counts.{slices_fall, slices_count, mark_read, lower_slices, other_slice, lower_mark, other_mark}
-use Rattle.mt_border.proofs.places.place_of.Goals as goal
+use Rattle.mt_border.proofs.{Edits.place_in-is, Cuts.marks_of, Counts.{slices_fall, slices_count, mark_read, lower_slices, other_slice, lower_mark, other_mark}}
 use Rattle.mt_border.proofs.places.place_of.Goals.{then-slices-place-via-then-slices-place, then-slices-place-via-else-slices-place+then-not-is_before}
+use Rattle.mt_border.proofs.places.place_of.Goals as goal
 
 pub count_below-place-requires-clause-rises : goal.count_below-place-requires-clause-rises
 count_below-place-requires-clause-rises c = slices_fall c.args.slots.now _ c.requires.border refl

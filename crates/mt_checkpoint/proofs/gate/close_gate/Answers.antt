@@ -1,8 +1,7 @@
 -- Whatever a crash leaves of the first byte, a whole checkpoint follows it.
 use Rattle.std.proofs.Common.{IsTrue, sym, subst, None, ◌∷◌}
 use Rattle.mt_disk.proofs.CrashLaws.{after_sync_tried}
-use Rattle.mt_checkpoint.specs.Checkpoints.{IsOneOf}
-use Rattle.mt_checkpoint.proofs.Crash.{close_written}
+use Rattle.mt_checkpoint.{specs.Checkpoints.IsOneOf, proofs.Crash.close_written}
 use Rattle.mt_checkpoint.proofs.gate.close_gate.Goals as goal
 
 pub returns-in_err-write_at-clause-leaves : goal.returns-in_err-write_at-clause-leaves

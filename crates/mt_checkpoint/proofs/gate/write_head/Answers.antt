@@ -2,8 +2,7 @@
 use Rattle.std.proofs.Common.{◌≤◌, IsTrue, sym, ◌∙◌, subst, length, take, [], ap, arith}
 use Rattle.mt_rows.specs.Rows.{Bytes}
 use Rattle.mt_disk.proofs.CrashLaws.{joined}
-use Rattle.mt_checkpoint.specs.Checkpoints.{IsClosed, IsBehindGate}
-use Rattle.mt_checkpoint.proofs.Crash.{rest_behind, write_leaves, behind_again}
+use Rattle.mt_checkpoint.{specs.Checkpoints.{IsClosed, IsBehindGate}, proofs.Crash.{rest_behind, write_leaves, behind_again}}
 use Rattle.mt_checkpoint.proofs.gate.write_head.Goals as goal
 
 pub returns-in_err-cut-clause-leaves : goal.returns-in_err-cut-clause-leaves

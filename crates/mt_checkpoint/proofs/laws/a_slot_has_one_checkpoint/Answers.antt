@@ -1,6 +1,5 @@
 -- What follows an open gate is read in one way.
-use Rattle.mt_checkpoint.proofs.Walks.{one_walk}
-use Rattle.mt_checkpoint.proofs.Crash.{closed_has_none}
+use Rattle.mt_checkpoint.proofs.{Walks.one_walk, Crash.closed_has_none}
 use Rattle.mt_checkpoint.proofs.laws.a_slot_has_one_checkpoint.Goals as goal
 
 pub returns-clause-one : goal.returns-clause-one

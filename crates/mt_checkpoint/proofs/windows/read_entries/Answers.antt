@@ -1,7 +1,5 @@
 -- What was taken from a window stands in the file after what was taken before.
-use Rattle.std.proofs.Common.{◌≡◌, ◌-◌, IsTrue, true, eqb, length, take, drop, sym, ◌∙◌, ap, subst, arith}
-use Rattle.std.proofs.lemmas.Bool.{eqb-true}
-use Rattle.std.proofs.lemmas.List.{length-drop}
+use Rattle.std.proofs.{Common.{◌≡◌, ◌-◌, IsTrue, true, eqb, length, take, drop, sym, ◌∙◌, ap, subst, arith}, lemmas.Bool.eqb-true, lemmas.List.length-drop}
 use Rattle.mt_rows.specs.Rows.{Bytes}
 use Rattle.mt_checkpoint.proofs.Takings.{of_same, stands_on, ends_last, ends_bad, each_taken}
 use Rattle.mt_checkpoint.proofs.windows.read_entries.Goals as goal

@@ -1,7 +1,5 @@
-use Rattle.std.proofs.Common.{ap, ap₂, ◌∙◌}
-use Rattle.std.proofs.lemmas.Result.{IfOk-weaker}
-use Rattle.clap.specs.Words.{with_rule}
-use Rattle.clap.specs.Simple.{app_of_fields}
+use Rattle.std.proofs.{Common.{ap, ap₂, ◌∙◌}, lemmas.Result.IfOk-weaker}
+use Rattle.clap.specs.{Words.with_rule, Simple.app_of_fields}
 use Rattle.mt_command_line.specs.CommandLine.{server, with_version}
 use Rattle.mt_command_line.proofs.command.command_of.Goals as goal
 

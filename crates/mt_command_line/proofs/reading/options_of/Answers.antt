@@ -1,10 +1,7 @@
-use Rattle.std.proofs.Common.{◌≡◌, ◌∙◌, ap, arith, codes, subst}
-use Rattle.std.specs.Str.Parse.{ParsesUnsigned, ExplainsUnsignedError, HasUnsignedDigitsIfOk}
+use Rattle.std.{proofs.Common.{◌≡◌, ◌∙◌, ap, arith, codes, subst}, specs.Str.Parse.{ParsesUnsigned, ExplainsUnsignedError, HasUnsignedDigitsIfOk}}
 use Rattle.clap.specs.Words.{found_of}
 use Rattle.mt_options.specs.Tenants.{AreTenants}
-use Rattle.mt_command_line.specs.CommandLine.{found_in, tenant_words}
-use Rattle.mt_command_line.specs.Reads.{IsGiven, NamesStore}
-use Rattle.mt_command_line.proofs.MatchLemmas.{number_is}
+use Rattle.mt_command_line.{specs.{CommandLine.{found_in, tenant_words}, Reads.{IsGiven, NamesStore}}, proofs.MatchLemmas.number_is}
 use Rattle.mt_command_line.proofs.reading.options_of.Goals as goal
 
 pub returns : goal.returns

@@ -1,9 +1,6 @@
 use Rattle.std.proofs.Common.{◌≡◌, ◌∙◌, refl, sym, true, false, inl, inr, subst, arith, codes}
 use Rattle.clap.specs.Words.{app_of, IsAmong, kind_of}
-use Rattle.mt_command_line.specs.CommandLine.{server}
-use Rattle.mt_command_line.proofs.CommandLemmas.{simple, free, found, faults}
-use Rattle.mt_command_line.proofs.MatchLemmas.{parted}
-use Rattle.mt_command_line.proofs.RuleLemmas.{number_found}
+use Rattle.mt_command_line.{specs.CommandLine.server, proofs.{CommandLemmas.{simple, free, found, faults}, MatchLemmas.parted, RuleLemmas.number_found}}
 use Rattle.mt_command_line.proofs.reading.read_options.Goals as goal
 
 pub returns-in-Ok : goal.returns-in-Ok

@@ -1,7 +1,6 @@
 use Rattle.std.proofs.Common.{◌∙◌, codes, ap, sym, subst, Bor, Bool, List, ℕ, Some, option_map}
 use Rattle.clap.specs.Words.{found_of, rows_of}
-use Rattle.mt_command_line.specs.Reads.{IsFlag}
-use Rattle.mt_command_line.proofs.MatchLemmas.{flag_is, folder_is}
+use Rattle.mt_command_line.{specs.Reads.IsFlag, proofs.MatchLemmas.{flag_is, folder_is}}
 use Rattle.mt_command_line.proofs.reading.store_of.Goals as goal
 
 pub returns-in_ok-from_str-in-Some-clause-ok : goal.returns-in_ok-from_str-in-Some-clause-ok

@@ -1,7 +1,6 @@
 use Rattle.std.proofs.Common.{refl, subst}
 use Rattle.clap.specs.Words.{found_of}
-use Rattle.mt_command_line.specs.Reads.{Names}
-use Rattle.mt_command_line.proofs.MatchLemmas.{words_are}
+use Rattle.mt_command_line.{specs.Reads.Names, proofs.MatchLemmas.words_are}
 use Rattle.mt_command_line.proofs.reading.tenants_of.Goals as goal
 
 pub returns : goal.returns

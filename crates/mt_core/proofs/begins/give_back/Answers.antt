@@ -1,8 +1,5 @@
 -- What is taken out without a step, for `give_back`.
-use Rattle.std.proofs.Common.{◌≡◌, Box, Global, Option, Some, None, refl, ◌∙◌}
-use Rattle.std.specs.Prelude.{OnSome, slice_set}
-use Rattle.std.specs.Option.{option_map}
-use Rattle.std.specs.Box.{box_value}
+use Rattle.std.{proofs.Common.{◌≡◌, Box, Global, Option, Some, None, refl, ◌∙◌}, specs.{Prelude.{OnSome, slice_set}, Option.option_map, Box.box_value}}
 use Rattle.mt_operation.specs.declared.operation.Operation.{Operation}
 use Rattle.mt_core.proofs.begins.give_back.Goals as goal
 

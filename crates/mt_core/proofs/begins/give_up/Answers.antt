@@ -1,8 +1,6 @@
 -- What is taken out with its answer, and what is left of it, for `give_up`.
-use Rattle.std.proofs.Common.{refl, sym, subst, ◌∙◌}
-use Rattle.std.proofs.lemmas.Option.{same_Some}
-use Rattle.mt_operation.specs.declared.operation.Operation.{Operation}
-use Rattle.mt_operation.specs.Operations.{view_of}
+use Rattle.std.proofs.{Common.{refl, sym, subst, ◌∙◌}, lemmas.Option.same_Some}
+use Rattle.mt_operation.specs.{declared.operation.Operation.Operation, Operations.view_of}
 use Rattle.mt_state.specs.Begins.{IsAnswerOf}
 use Rattle.mt_core.specs.Tidies.{IsRestOf}
 use Rattle.mt_core.proofs.begins.give_up.Goals as goal

@@ -1,6 +1,5 @@
 -- Which operation has made no step, for `is_still`.
-use Rattle.std.proofs.Common.{sym, ◌∙◌}
-use Rattle.std.proofs.lemmas.Bool.{eqb-true}
+use Rattle.std.proofs.{Common.{sym, ◌∙◌}, lemmas.Bool.eqb-true}
 use Rattle.mt_core.proofs.begins.is_still.Goals as goal
 
 pub returns-in-Some-clause-yes : goal.returns-in-Some-clause-yes

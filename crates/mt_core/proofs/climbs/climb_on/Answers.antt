@@ -2,11 +2,9 @@
 use Rattle.std.proofs.Common.{subst, sym, ℕ, ◌≡◌}
 use Rattle.mt_operation.specs.declared.phase.Phase.{Phase}
 use Rattle.mt_operation.specs.declared.phase.Phase.TheVariants.{InsertChild, InteriorSplit, LockParent, Reparent, RootGrow, SplitPrev}
-use Rattle.mt_operation.specs.declared.walk.Walk.{Walk}
-use Rattle.mt_operation.specs.declared.splits.Splits.{Splits}
+use Rattle.mt_operation.specs.{declared.walk.Walk.Walk, declared.splits.Splits.Splits}
 use Rattle.mt_arena.specs.Arena.{ArenaView}
-use Rattle.mt_insert.specs.KeptSplits.{IsAtLockParent, KeptSplit, last_of}
-use Rattle.mt_insert.specs.Climbs.{IsClimbFrom}
+use Rattle.mt_insert.specs.{KeptSplits.{IsAtLockParent, KeptSplit, last_of}, Climbs.IsClimbFrom}
 use Rattle.mt_core.proofs.climbs.climb_on.Goals as goal
 
 -- the step from the phase at which the walk is

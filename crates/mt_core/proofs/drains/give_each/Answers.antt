@@ -1,7 +1,7 @@
 -- one more has the step, and at last all have
 use Rattle.std.proofs.Common.{◌≡◌, ◌≤◌, ◌++◌, ℕ, List, [], ◌∷◌, length, replicate, take, drop, refl, ap, ◌∙◌, arith}
-use Rattle.std.specs.Prelude.{map}
 use Rattle.std.proofs.lemmas.List.{append-nil, take_all, drop_all}
+use Rattle.std.specs.Prelude.{map}
 use Rattle.mt_border.proofs.Sweeps.{sweeps}
 use Rattle.mt_core.proofs.drains.give_each.Goals as goal
 

@@ -1,6 +1,5 @@
 -- what was passed has the step, and what is to come is as it was
-use Rattle.std.proofs.Common.{◌≡◌, ◌++◌, take, drop}
-use Rattle.std.specs.Prelude.{map}
+use Rattle.std.{proofs.Common.{◌≡◌, ◌++◌, take, drop}, specs.Prelude.map}
 use Rattle.mt_core.proofs.drains.give_each.Given as goal
 
 abbrev pub invariant-loop-given : goal.invariant-loop-given

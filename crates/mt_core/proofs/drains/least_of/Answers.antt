@@ -1,7 +1,6 @@
 -- That one number more is taken in, for `least_of`.
 use Rattle.std.proofs.Common.{◌+◌, take, sym, subst}
-use Rattle.mt_core.specs.Drains.{IsLeastOf}
-use Rattle.mt_core.proofs.Draining.{least_more}
+use Rattle.mt_core.{specs.Drains.IsLeastOf, proofs.Draining.least_more}
 use Rattle.mt_core.proofs.drains.least_of.Goals as goal
 
 pub loop-number-preserved : goal.loop-number-preserved

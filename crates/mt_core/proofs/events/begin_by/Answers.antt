@@ -1,10 +1,6 @@
-use Rattle.std.proofs.Common.{Some, refl, sym, subst}
-use Rattle.std.specs.Ordering.{nat_cmp}
-use Rattle.std.specs.BTreeMap.{Updates}
-use Rattle.mt_core.specs.Tickets.{named}
-use Rattle.mt_state.specs.Begins.{Begins}
-use Rattle.mt_state.specs.Refused.{IsAdmissible, IsRefusal}
-use Rattle.mt_core.proofs.EventNames.{named_none, renamed, by_id_begun}
+use Rattle.std.{proofs.Common.{Some, refl, sym, subst}, specs.{Ordering.nat_cmp, BTreeMap.Updates}}
+use Rattle.mt_core.{specs.Tickets.named, proofs.EventNames.{named_none, renamed, by_id_begun}}
+use Rattle.mt_state.specs.{Begins.Begins, Refused.{IsAdmissible, IsRefusal}}
 use Rattle.mt_core.proofs.events.begin_by.Goals as goal
 
 pub returns-in-Err-clause-tells : goal.returns-in-Err-clause-tells

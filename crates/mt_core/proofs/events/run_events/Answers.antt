@@ -1,13 +1,8 @@
 -- The one order of a run's story, for `run_events`.
-use Rattle.std.proofs.Common.{subst}
-use Rattle.std.specs.List.{zip}
+use Rattle.std.{proofs.Common.subst, specs.List.zip}
 use Rattle.mt_rows.specs.Accounts.{account_of}
-use Rattle.mt_runs.specs.Runs.{Run, story_of}
-use Rattle.mt_runs.specs.Placings.{Quotas, no_pairs}
-use Rattle.mt_runs.proofs.Order.{one_order}
-use Rattle.mt_state.specs.Views.{StateView, quota_in, map_of, changed_at}
-use Rattle.mt_state.specs.Histories.{no_names, BringsTo}
-use Rattle.mt_state.proofs.HistoryNew.{right_new}
+use Rattle.mt_runs.{specs.{Runs.{Run, story_of}, Placings.{Quotas, no_pairs}}, proofs.Order.one_order}
+use Rattle.mt_state.{specs.{Views.{StateView, quota_in, map_of, changed_at}, Histories.{no_names, BringsTo}}, proofs.HistoryNew.right_new}
 use Rattle.mt_core.specs.Tickets.{named}
 use Rattle.mt_core.proofs.events.run_events.Goals as goal
 

@@ -1,8 +1,6 @@
 use Rattle.std.proofs.Common.{Some, refl, sym, ap, subst, ◌∙◌}
-use Rattle.mt_state.specs.Promises.{HasStep}
-use Rattle.mt_core.specs.Tickets.{named}
-use Rattle.mt_core.proofs.EventNames.{named_by, one_id, by_id_names, by_id_there, by_id_taken}
-use Rattle.mt_state.proofs.HistoryRuns.{step_ended}
+use Rattle.mt_state.{specs.Promises.HasStep, proofs.HistoryRuns.step_ended}
+use Rattle.mt_core.{specs.Tickets.named, proofs.EventNames.{named_by, one_id, by_id_names, by_id_there, by_id_taken}}
 use Rattle.mt_core.proofs.events.step_by.Goals as goal
 
 pub returns-in-Moved-clause-tells : goal.returns-in-Moved-clause-tells

@@ -1,12 +1,7 @@
-use Rattle.std.proofs.Common.{◌+◌, ◌∷◌, [], List, take, length, length-append, ap, ◌∙◌, sym, subst, arith}
-use Rattle.std.specs.List.{zip}
-use Rattle.std.proofs.lemmas.List.{take_all}
-use Rattle.mt_runs.specs.declared.event.Event.{Event}
-use Rattle.mt_runs.specs.Runs.{Run}
-use Rattle.mt_state.specs.Histories.{no_names, BringsTo}
-use Rattle.mt_state.proofs.HistoryEvents.{leads_more}
-use Rattle.mt_core.specs.Tickets.{named}
-use Rattle.mt_core.proofs.EventRuns.{leads_first, by_id_first, named_after, held_after, zip_more}
+use Rattle.std.{proofs.{Common.{◌+◌, ◌∷◌, [], List, take, length, length-append, ap, ◌∙◌, sym, subst, arith}, lemmas.List.take_all}, specs.List.zip}
+use Rattle.mt_runs.specs.{declared.event.Event.Event, Runs.Run}
+use Rattle.mt_state.{specs.Histories.{no_names, BringsTo}, proofs.HistoryEvents.leads_more}
+use Rattle.mt_core.{specs.Tickets.named, proofs.EventRuns.{leads_first, by_id_first, named_after, held_after, zip_more}}
 use Rattle.mt_core.proofs.events.tell_all.Goals as goal
 
 pub loop-event-init : goal.loop-event-init

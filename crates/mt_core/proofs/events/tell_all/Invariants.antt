@@ -1,5 +1,4 @@
-use Rattle.std.proofs.Common.{◌≡◌, take, length}
-use Rattle.std.specs.List.{zip}
+use Rattle.std.{proofs.Common.{◌≡◌, take, length}, specs.List.zip}
 use Rattle.mt_state.specs.Histories.{no_names, AreById, BringsTo}
 use Rattle.mt_core.specs.Tickets.{named}
 use Rattle.mt_core.proofs.events.tell_all.Given as goal

@@ -1,11 +1,8 @@
 -- What the call of each phase that makes a layer ensures is what is told of the step.
-use Rattle.std.proofs.Common.{Err, Ok, OnErr, OnOk, Result, subst, sym, ℕ, ◌≡◌}
-use Rattle.std.specs.declared.alloc.AllocError.{AllocError}
+use Rattle.std.{proofs.Common.{Err, Ok, OnErr, OnOk, Result, subst, sym, ℕ, ◌≡◌}, specs.declared.alloc.AllocError.AllocError}
 use Rattle.mt_rows.specs.Rows.{Bytes}
 use Rattle.mt_arena.specs.Arena.{ArenaView}
-use Rattle.mt_operation.specs.declared.phase.Phase.{Phase}
-use Rattle.mt_operation.specs.declared.phase.Phase.TheVariants.{Link, MakeLayer, MarkLayer, MarkUnstable}
-use Rattle.mt_operation.specs.declared.walk.Walk.{Walk}
+use Rattle.mt_operation.specs.{declared.phase.Phase.Phase, declared.phase.Phase.TheVariants.{Link, MakeLayer, MarkLayer, MarkUnstable}, declared.walk.Walk.Walk}
 use Rattle.mt_held.specs.Unlock.{IsUnlock}
 use Rattle.mt_layer.specs.Builds.{IsLayerFrom, IsMakeLayer}
 use Rattle.mt_core.specs.Layers.{TellsBuilt}

@@ -2,8 +2,7 @@
 use Rattle.std.proofs.Common.{inl, inr, Some, refl, ap}
 use Rattle.mt_tape.specs.Tapes.{Kept}
 use Rattle.mt_operation.specs.declared.outcome.Outcome.{Outcome}
-use Rattle.mt_core.specs.Looks.{led_to}
-use Rattle.mt_core.specs.Writes.{parts}
+use Rattle.mt_core.specs.{Looks.led_to, Writes.parts}
 use Rattle.mt_core.proofs.removals.judge_removal.Goals as goal
 
 pub judge-requires-clause-removal : goal.judge-requires-clause-removal

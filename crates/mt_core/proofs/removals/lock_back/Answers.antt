@@ -2,8 +2,7 @@
 use Rattle.std.proofs.Common.{inr, refl, sym, ap}
 use Rattle.mt_arena.specs.Arena.{ArenaView}
 use Rattle.mt_operation.specs.declared.walk.Walk.{Walk}
-use Rattle.mt_core.specs.Writes.{parts}
-use Rattle.mt_core.proofs.WriteBodies.{blocked_lock}
+use Rattle.mt_core.{specs.Writes.parts, proofs.WriteBodies.blocked_lock}
 use Rattle.mt_core.proofs.removals.lock_back.Goals as goal
 
 pub lock-requires-clause-kept : goal.lock-requires-clause-kept

@@ -1,8 +1,7 @@
 -- An empty node or layer that came nearer to its end, and who is in its way.
 use Rattle.std.proofs.Common.{refl, ap, ◌∙◌}
 use Rattle.mt_arena.specs.Arena.{ArenaView}
-use Rattle.mt_operation.specs.declared.walk.Walk.{Walk}
-use Rattle.mt_operation.specs.declared.removal.Removal.{Removal}
+use Rattle.mt_operation.specs.{declared.walk.Walk.Walk, declared.removal.Removal.Removal}
 use Rattle.mt_core.specs.Writes.{parts}
 use Rattle.mt_core.proofs.removals.take_out.Goals as goal
 

@@ -1,6 +1,5 @@
 -- the next pair may be put, since its key is missing and its tenant has room; and then one more was put
-use Rattle.std.proofs.Common.{length, refl, arith}
-use Rattle.std.proofs.lemmas.Option.{slice_get_read}
+use Rattle.std.proofs.{Common.{length, refl, arith}, lemmas.Option.slice_get_read}
 use Rattle.mt_state.specs.Views.{shown}
 use Rattle.mt_core.proofs.Filling.{none_put, may_put, has_more, all_put}
 use Rattle.mt_core.proofs.restore.put_all.Goals as goal

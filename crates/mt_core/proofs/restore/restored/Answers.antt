@@ -1,10 +1,8 @@
 -- a new state is put the pairs, and counts anew
 use Rattle.std.proofs.Common.{sym, ap, subst, ◌∙◌}
 use Rattle.mt_rows.specs.TenantPairs.{pairs_of, KeepsQuotas}
-use Rattle.mt_state.specs.Views.{StateView, shown, contents_of, granted}
-use Rattle.mt_state.proofs.HistoryStart.{content-new}
-use Rattle.mt_core.specs.States.{core_of}
-use Rattle.mt_core.proofs.Restoring.{idle_inside, is_restored}
+use Rattle.mt_state.{specs.Views.{StateView, shown, contents_of, granted}, proofs.HistoryStart.content-new}
+use Rattle.mt_core.{specs.States.core_of, proofs.Restoring.{idle_inside, is_restored}}
 use Rattle.mt_core.proofs.restore.restored.Goals as goal
 
 pub put_all-requires-clause-fresh : goal.put_all-requires-clause-fresh

@@ -1,12 +1,8 @@
 -- a put that is alone is done, or memory was refused; and done it is told that its pair is new
 use Rattle.std.proofs.Common.{refl, ap, inl, inr}
 use Rattle.mt_operation.specs.Phases.{is_done}
-use Rattle.mt_state.specs.Views.{shown}
-use Rattle.mt_state.specs.Begins.{begun}
-use Rattle.mt_core.specs.Alone.{EndsAlone}
-use Rattle.mt_core.specs.Restores.{put_of}
-use Rattle.mt_state.specs.declared.moves.Move.TheVariants.{Done as DoneMove}
-use Rattle.mt_core.proofs.Restoring.{is_alone, ends_so, told_new, has_put}
+use Rattle.mt_state.specs.{Views.shown, Begins.begun, declared.moves.Move.TheVariants.{Done as DoneMove}}
+use Rattle.mt_core.{specs.{Alone.EndsAlone, Restores.put_of}, proofs.Restoring.{is_alone, ends_so, told_new, has_put}}
 use Rattle.mt_core.proofs.restore.run.Goals as goal
 
 pub unreachable-requires : goal.unreachable-requires

@@ -1,8 +1,5 @@
-use Rattle.std.proofs.Common.{◌≡◌, ◌≢◌, ◌+◌, ◌<◌, List, ℕ, ◌++◌, length, get_or, take, sym, ap, subst, ◌∙◌, arith, rules}
-use Rattle.std.proofs.lemmas.List.{take_all}
-use Rattle.mt_arena.specs.NodeView.{NodeView}
-use Rattle.mt_arena.specs.Nodes.{IsChild}
-use Rattle.mt_arena.specs.Accesses.{at}
+use Rattle.std.proofs.{Common.{◌≡◌, ◌≢◌, ◌+◌, ◌<◌, List, ℕ, ◌++◌, length, get_or, take, sym, ap, subst, ◌∙◌, arith, rules}, lemmas.List.take_all}
+use Rattle.mt_arena.specs.{NodeView.NodeView, Nodes.IsChild, Accesses.at}
 use Rattle.mt_core.proofs.Lines.{lines_above}
 use Rattle.mt_core.proofs.shape.+push_node.Goals as goal
 

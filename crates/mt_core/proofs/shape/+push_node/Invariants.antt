@@ -1,8 +1,6 @@
-use Rattle.std.proofs.Common.{◌≡◌, ◌+◌, ◌-◌, ◌++◌, ◌∷◌, take}
-use Rattle.std.specs.List.{flat_map}
+use Rattle.std.{proofs.Common.{◌≡◌, ◌+◌, ◌-◌, ◌++◌, ◌∷◌, take}, specs.List.flat_map}
 use Rattle.mt_arena.specs.Accesses.{at}
-use Rattle.mt_core.specs.declared.shape.ShapeLine.TheVariants.{Interior}
-use Rattle.mt_core.specs.Shapes.{lines_from}
+use Rattle.mt_core.specs.{declared.shape.ShapeLine.TheVariants.Interior, Shapes.lines_from}
 use Rattle.mt_core.proofs.shape.+push_node.Given as goal
 
 -- each child is one level below

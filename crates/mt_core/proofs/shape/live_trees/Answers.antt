@@ -1,11 +1,8 @@
-use Rattle.std.proofs.Common.{◌≡◌, List, Bor, map, ap, subst, ◌∙◌, rules}
-use Rattle.std.specs.Ordering.{is_lt}
-use Rattle.std.specs.List.Sorted.{IsPermutation}
-use Rattle.std.proofs.lemmas.List.{take_all}
+use Rattle.std.proofs.{Common.{◌≡◌, List, Bor, map, ap, subst, ◌∙◌, rules}, lemmas.List.take_all}
 use Rattle.std.proofs.lemmas.List.Sorted.{IsPermutation-map, answers_always, ranks_by}
+use Rattle.std.specs.{Ordering.is_lt, List.Sorted.IsPermutation}
 use Rattle.mt_arena.specs.declared.tree.Tree.{Tree}
-use Rattle.mt_core.specs.Shapes.{prefix_cmp}
-use Rattle.mt_core.proofs.Lines.{live_of, listing, prefix_cmp_total}
+use Rattle.mt_core.{specs.Shapes.prefix_cmp, proofs.Lines.{live_of, listing, prefix_cmp_total}}
 use Rattle.mt_core.proofs.shape.live_trees.Goals as goal
 
 -- all live trees were gathered, and then sorted by their prefixes

@@ -1,10 +1,6 @@
-use Rattle.std.proofs.Common.{Bor, ℕ, ◌++◌, map, take, ap, sym, subst, ◌∙◌}
-use Rattle.std.specs.List.{flat_map}
-use Rattle.std.proofs.lemmas.List.{take_all}
-use Rattle.std.proofs.lemmas.List.Folds.{flat_map-map}
+use Rattle.std.{proofs.{Common.{Bor, ℕ, ◌++◌, map, take, ap, sym, subst, ◌∙◌}, lemmas.List.take_all, lemmas.List.Folds.flat_map-map}, specs.List.flat_map}
 use Rattle.mt_arena.specs.declared.tree.Tree.{Tree}
-use Rattle.mt_core.specs.Shapes.{HasLiveRoot, IsListing, tree_lines}
-use Rattle.mt_core.proofs.Lines.{next_piece, root_of}
+use Rattle.mt_core.{specs.Shapes.{HasLiveRoot, IsListing, tree_lines}, proofs.Lines.{next_piece, root_of}}
 use Rattle.mt_core.proofs.shape.shape_of.Goals as goal
 
 -- the root of a live tree is live

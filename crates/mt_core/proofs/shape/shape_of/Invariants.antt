@@ -1,5 +1,4 @@
-use Rattle.std.proofs.Common.{◌≡◌, take}
-use Rattle.std.specs.List.{flat_map}
+use Rattle.std.{proofs.Common.{◌≡◌, take}, specs.List.flat_map}
 use Rattle.mt_core.specs.Shapes.{tree_lines}
 use Rattle.mt_core.proofs.shape.shape_of.Given as goal
 

@@ -3,17 +3,12 @@ use Rattle.std.proofs.Common.{ℕ, refl, sym, ap, subst, ◌∙◌}
 use Rattle.mt_rows.specs.Accounts.{Accounts}
 use Rattle.mt_tape.specs.Tapes.{Kept}
 use Rattle.mt_arena.specs.Arena.{ArenaView}
-use Rattle.mt_operation.specs.declared.phase.Phase.{Phase}
-use Rattle.mt_operation.specs.declared.walk.Walk.{Walk}
-use Rattle.mt_operation.specs.declared.splits.Splits.{Splits}
-use Rattle.mt_operation.specs.declared.operation.Operation.{Operation}
+use Rattle.mt_operation.specs.{declared.phase.Phase.Phase, declared.walk.Walk.Walk, declared.splits.Splits.Splits, declared.operation.Operation.Operation}
 use Rattle.mt_operation.specs.Operations.{splits_of, scan_of}
-use Rattle.mt_table.specs.declared.steps.Made.{Made}
-use Rattle.mt_table.specs.declared.steps.Made.TheVariants.{Step, Blocked, NoMemory, Nothing}
+use Rattle.mt_table.specs.{declared.steps.Made.Made, declared.steps.Made.TheVariants.{Step, Blocked, NoMemory, Nothing}}
 use Rattle.mt_insert.specs.KeptSplits.{HoldsSplits}
 use Rattle.mt_state.specs.Promises.{IsInTheWay}
-use Rattle.mt_core.specs.Climbs.{TellsClimbed as ToldOfNodes}
-use Rattle.mt_core.specs.Writes.{Writes, TellsClimbed, parts}
+use Rattle.mt_core.specs.{Climbs.{TellsClimbed as ToldOfNodes}, Writes.{Writes, TellsClimbed, parts}}
 use Rattle.mt_core.proofs.writes.climb.Goals as goal
 
 -- what is told of the nodes is told of the operation

@@ -2,8 +2,7 @@
 use Rattle.std.proofs.Common.{inl, refl, sym, ap}
 use Rattle.mt_arena.specs.Arena.{ArenaView}
 use Rattle.mt_operation.specs.declared.walk.Walk.{Walk}
-use Rattle.mt_core.specs.Writes.{parts}
-use Rattle.mt_core.proofs.WriteBodies.{blocked_lock}
+use Rattle.mt_core.{specs.Writes.parts, proofs.WriteBodies.blocked_lock}
 use Rattle.mt_core.proofs.writes.lock_onward.Goals as goal
 
 pub lock-requires : goal.lock-requires

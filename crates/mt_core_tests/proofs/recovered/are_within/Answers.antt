@@ -1,7 +1,4 @@
-use Rattle.std.proofs.Common.{rules, subst}
-use Rattle.std.specs.List.{All}
-use Rattle.std.proofs.lemmas.List.{take_all}
-use Rattle.std.proofs.lemmas.List.Elements.{All-more}
+use Rattle.std.{proofs.{Common.{rules, subst}, lemmas.List.take_all, lemmas.List.Elements.All-more}, specs.List.All}
 use Rattle.mt_rows.specs.TenantPairs.{IsTenantPair}
 use Rattle.mt_core_tests.proofs.recovered.are_within.Goals as goal
 

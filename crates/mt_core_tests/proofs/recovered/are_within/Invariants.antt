@@ -1,5 +1,4 @@
-use Rattle.std.proofs.Common.{take}
-use Rattle.std.specs.List.{All}
+use Rattle.std.{proofs.Common.take, specs.List.All}
 use Rattle.mt_rows.specs.TenantPairs.{IsTenantPair}
 use Rattle.mt_core_tests.proofs.recovered.are_within.Given as goal
 

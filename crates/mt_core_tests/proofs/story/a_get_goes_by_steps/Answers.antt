@@ -1,10 +1,7 @@
-use Rattle.std.proofs.Common.{length, sym, subst, arith}
-use Rattle.std.specs.Prelude.{Result, Ok, Err}
-use Rattle.mt_rows.specs.declared.command.Command.{Command}
-use Rattle.mt_rows.specs.declared.refusal.Refusal.{Refusal}
+use Rattle.std.{proofs.Common.{length, sym, subst, arith}, specs.Prelude.{Result, Ok, Err}}
+use Rattle.mt_rows.specs.{declared.command.Command.Command, declared.refusal.Refusal.Refusal}
 use Rattle.mt_operation.specs.Operations.{OperationView}
-use Rattle.mt_state.specs.Views.{StateView}
-use Rattle.mt_state.specs.Begins.{IsWorker}
+use Rattle.mt_state.specs.{Views.StateView, Begins.IsWorker}
 use Rattle.mt_core.specs.Admitted.{IsMadeOf, MayAdmit}
 use Rattle.mt_core_tests.proofs.story.a_get_goes_by_steps.Goals as goal
 

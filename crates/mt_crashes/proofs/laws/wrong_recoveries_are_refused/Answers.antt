@@ -1,9 +1,6 @@
 -- Recoveries with wrong numbers, a wrong checkpoint or wrong pairs are none.
-use Rattle.std.proofs.Common.{inr, Some, sym, ◌∙◌, arith}
-use Rattle.std.proofs.lemmas.Bool.{true≢false}
-use Rattle.mt_crashes.proofs.Members.{in_place, place_in}
-use Rattle.mt_crashes.proofs.FrontLaws.{from_cutoff, ends_cutoff}
-use Rattle.mt_crashes.proofs.Recovery.{upto_resume, walked_upto}
+use Rattle.std.proofs.{Common.{inr, Some, sym, ◌∙◌, arith}, lemmas.Bool.{true≢false}}
+use Rattle.mt_crashes.proofs.{Members.{in_place, place_in}, FrontLaws.{from_cutoff, ends_cutoff}, Recovery.{upto_resume, walked_upto}}
 use Rattle.mt_crashes.proofs.Refusals.{not_counted, last_left_out, used_here}
 use Rattle.mt_crashes.proofs.laws.wrong_recoveries_are_refused.Goals as goal
 

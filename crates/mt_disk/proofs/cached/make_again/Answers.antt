@@ -1,7 +1,5 @@
 -- The next change is made again, or all are owed.
-use Rattle.std.proofs.Common.{rules, ◌<◌, length, IsTrue, refl, sym, subst}
-use Rattle.std.proofs.lemmas.Option.{slice_get_read}
-use Rattle.std.proofs.lemmas.Result.{err_from_is_err_and}
+use Rattle.std.proofs.{Common.{rules, ◌<◌, length, IsTrue, refl, sym, subst}, lemmas.Option.slice_get_read, lemmas.Result.err_from_is_err_and}
 use Rattle.mt_disk.proofs.EditLaws.{next, stopped}
 use Rattle.mt_disk.proofs.cached.make_again.Goals as goal
 

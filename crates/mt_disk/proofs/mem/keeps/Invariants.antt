@@ -1,6 +1,5 @@
 -- What `keeps` has found at each place so far.
-use Rattle.std.proofs.Common.{ℕ, ◌≡◌, ◌<◌, false}
-use Rattle.std.specs.List.{slice_get}
+use Rattle.std.{proofs.Common.{ℕ, ◌≡◌, ◌<◌, false}, specs.List.slice_get}
 use Rattle.mt_disk.specs.Disk.{is_dirty}
 use Rattle.mt_disk.proofs.mem.keeps.Given as goal
 

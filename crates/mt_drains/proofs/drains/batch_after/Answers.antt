@@ -1,11 +1,8 @@
 -- What was gathered is the next batch, and bounded.
-use Rattle.std.proofs.Common.{◌≡◌, ℕ, List, sym, subst}
-use Rattle.std.specs.Option.{unwrap_or}
+use Rattle.std.{proofs.Common.{◌≡◌, ℕ, List, sym, subst}, specs.Option.unwrap_or}
 use Rattle.mt_batches.specs.Batches.{IsBounded, BringsOn}
-use Rattle.mt_rows.specs.declared.record.Record.{Record}
-use Rattle.mt_rows.specs.declared.record.Batch.{Batch}
-use Rattle.mt_drains.specs.Drains.{IsNextBatch}
-use Rattle.mt_drains.proofs.Draining.{is_next, is_bounded, are_gathered, brings}
+use Rattle.mt_rows.specs.{declared.record.Record.Record, declared.record.Batch.Batch}
+use Rattle.mt_drains.{specs.Drains.IsNextBatch, proofs.Draining.{is_next, is_bounded, are_gathered, brings}}
 use Rattle.mt_drains.proofs.drains.batch_after.Goals as goal
 
 pub new-requires : goal.new-requires

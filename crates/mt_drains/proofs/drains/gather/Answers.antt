@@ -1,10 +1,7 @@
 -- One write more is gathered, and at the end all are, or so many that the batch is full.
-use Rattle.std.proofs.Common.{◌+◌, ◌<◌, ◌++◌, List, [], ◌∷◌, length, drop, refl, ap, ◌∙◌, arith}
-use Rattle.std.proofs.lemmas.List.{length-append}
-use Rattle.std.proofs.lemmas.List.Elements.{All-weaker}
+use Rattle.std.proofs.{Common.{◌+◌, ◌<◌, ◌++◌, List, [], ◌∷◌, length, drop, refl, ap, ◌∙◌, arith}, lemmas.List.length-append, lemmas.List.Elements.All-weaker}
 use Rattle.mt_rows.specs.declared.record.Record.{Record}
-use Rattle.mt_drains.specs.Drains.{records_of}
-use Rattle.mt_drains.proofs.Draining.{one_more, all_gathered, all_now, few_more, in_turn}
+use Rattle.mt_drains.{specs.Drains.records_of, proofs.Draining.{one_more, all_gathered, all_now, few_more, in_turn}}
 use Rattle.mt_drains.proofs.drains.gather.Goals as goal
 
 pub loop-place-init : goal.loop-place-init

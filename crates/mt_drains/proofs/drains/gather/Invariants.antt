@@ -1,7 +1,5 @@
 -- The records so far, with those of the writes from here on, are all; each is of an earlier step than these writes; and each has its limits, if its key has.
-use Rattle.std.proofs.Common.{◌≡◌, ◌++◌, ◌<◌, ◌≤◌, ℕ, Some, length, drop}
-use Rattle.std.specs.Prelude.{slice_get}
-use Rattle.std.specs.List.{All}
+use Rattle.std.{proofs.Common.{◌≡◌, ◌++◌, ◌<◌, ◌≤◌, ℕ, Some, length, drop}, specs.{Prelude.slice_get, List.All}}
 use Rattle.mt_rows.specs.Commands.{IsKey}
 use Rattle.mt_batches.specs.Batches.{IsRecord}
 use Rattle.mt_tape.specs.declared.entry.Entry.{Entry}

@@ -1,6 +1,5 @@
 -- That a put's write may come next on the tape, for the law of it.
-use Rattle.std.proofs.Common.{ℕ, ap, sym}
-use Rattle.std.specs.FinMap.{get}
+use Rattle.std.{proofs.Common.{ℕ, ap, sym}, specs.FinMap.get}
 use Rattle.mt_rows.specs.Rows.{Bytes}
 use Rattle.mt_insert.proofs.laws.a_placed_write_is_next.Goals as goal
 

@@ -1,14 +1,10 @@
 -- What the contents have at the key of a put that holds its border node, for the law of it.
-use Rattle.std.proofs.Common.{◌≡◌, ℕ, sym, ap, ◌∙◌}
-use Rattle.std.specs.FinMap.{get}
+use Rattle.std.{proofs.Common.{◌≡◌, ℕ, sym, ap, ◌∙◌}, specs.FinMap.get}
 use Rattle.mt_border.specs.Contents.{owned}
 use Rattle.mt_tape.specs.declared.entry.Entry.{Entry as Write}
 use Rattle.mt_arena.specs.Arena.{ArenaView, IsArena, content_of}
-use Rattle.mt_operation.specs.declared.phase.Phase.{Phase}
-use Rattle.mt_operation.specs.declared.phase.Phase.TheVariants.{Store, Publish, SplitStart}
-use Rattle.mt_operation.specs.declared.walk.Walk.{Walk}
-use Rattle.mt_operation.specs.declared.task.Task.{Task}
-use Rattle.mt_operation.specs.declared.prepared.Prepared.{Prepared}
+use Rattle.mt_operation.specs.{declared.phase.Phase.Phase, declared.phase.Phase.TheVariants.{Store, Publish, SplitStart}, declared.walk.Walk.Walk}
+use Rattle.mt_operation.specs.{declared.task.Task.Task, declared.prepared.Prepared.Prepared}
 use Rattle.mt_insert.specs.KeptPuts.{KeptReady}
 use Rattle.mt_held.proofs.Places.{row_here, none_here}
 use Rattle.mt_insert.proofs.laws.the_row_before_stands.Goals as goal

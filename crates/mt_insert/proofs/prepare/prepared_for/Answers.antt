@@ -1,8 +1,6 @@
 -- What is made ready over a slot of the border node, told of its view.
-use Rattle.std.proofs.Common.{ap}
-use Rattle.std.proofs.lemmas.Result.{IfOk-weaker}
-use Rattle.mt_arena.specs.NodeView.{NodeView}
-use Rattle.mt_arena.specs.Accesses.{at}
+use Rattle.std.proofs.{Common.ap, lemmas.Result.IfOk-weaker}
+use Rattle.mt_arena.specs.{NodeView.NodeView, Accesses.at}
 use Rattle.mt_insert.proofs.Looks.{ready_over}
 use Rattle.mt_insert.proofs.prepare.prepared_for.Goals as goal
 

@@ -1,6 +1,5 @@
 use Rattle.std.proofs.Common.{◌≡◌, length}
-use Rattle.mt_lines.specs.Words.{each, words_of, before}
-use Rattle.mt_lines.specs.Line.{index_word}
+use Rattle.mt_lines.specs.{Words.{each, words_of, before}, Line.index_word}
 use Rattle.mt_lines.proofs.line.indexes.Given as goal
 
 -- those read so far, and what is left

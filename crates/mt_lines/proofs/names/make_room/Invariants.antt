@@ -1,5 +1,4 @@
-use Rattle.std.proofs.Common.{◌≡◌, ◌+◌, ◌-◌, ℕ, None, length}
-use Rattle.std.specs.Prelude.{slice_index_or}
+use Rattle.std.{proofs.Common.{◌≡◌, ◌+◌, ◌-◌, ℕ, None, length}, specs.Prelude.slice_index_or}
 use Rattle.mt_lines.proofs.names.make_room.Given as goal
 
 -- the places so far read as they did

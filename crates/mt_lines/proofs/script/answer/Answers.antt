@@ -1,8 +1,6 @@
 use Rattle.std.proofs.Common.{◌≡◌, false, Bool, sym, subst, ◌∙◌, string_bytes}
-use Rattle.mt_lines.specs.Lines.{whole_line}
+use Rattle.mt_lines.specs.{Lines.whole_line, Scripts.{is_silent, Answers}, Turns.{meaning_in, AnswersFront}}
 use Rattle.mt_rows.specs.Rows.{Bytes}
-use Rattle.mt_lines.specs.Scripts.{is_silent, Answers}
-use Rattle.mt_lines.specs.Turns.{meaning_in, AnswersFront}
 use Rattle.mt_lines.proofs.script.answer.Goals as goal
 
 pub returns-clause-answered : goal.returns-clause-answered

@@ -1,11 +1,7 @@
-use Rattle.std.proofs.Common.{◌==◌, [], refl, sym, subst, inl, inr, arith}
-use Rattle.std.proofs.lemmas.Result.{err_from_is_err_and}
-use Rattle.mt_lines.specs.Lines.{Front, front_of}
-use Rattle.mt_lines.specs.Sessions.{SessionView}
-use Rattle.mt_lines.proofs.EndLemmas.{read_fails, take_fails, ends}
-use Rattle.mt_streams.proofs.FailureLemmas.{NoFewer-refl, NoFewer-trans, then-Failed}
-use Rattle.mt_streams.proofs.StreamLemmas.{Keeps-refl}
-use Rattle.mt_lines.proofs.ScriptLemmas.{Progress, starts, takes}
+use Rattle.std.proofs.{Common.{◌==◌, [], refl, sym, subst, inl, inr, arith}, lemmas.Result.err_from_is_err_and}
+use Rattle.mt_lines.specs.{Lines.{Front, front_of}, Sessions.SessionView}
+use Rattle.mt_lines.proofs.{EndLemmas.{read_fails, take_fails, ends}, ScriptLemmas.{Progress, starts, takes}}
+use Rattle.mt_streams.proofs.{FailureLemmas.{NoFewer-refl, NoFewer-trans, then-Failed}, StreamLemmas.Keeps-refl}
 use Rattle.mt_lines.proofs.script.answer_lines.Goals as goal
 
 pub loop-init : goal.loop-init

@@ -1,5 +1,4 @@
-use Rattle.std.proofs.Common.{◌≡◌, ◌⊎◌, length}
-use Rattle.std.specs.Io.KnownBytes.{Keeps}
+use Rattle.std.{proofs.Common.{◌≡◌, ◌⊎◌, length}, specs.Io.KnownBytes.Keeps}
 use Rattle.mt_streams.specs.Failures.{Failed, NoFewer}
 use Rattle.mt_lines.proofs.script.next_byte.Given as goal
 

@@ -1,10 +1,7 @@
-use Rattle.std.proofs.Common.{◌≡◌, Some, subst, sym, ◌∙◌, ap, ℕ}
-use Rattle.std.specs.Option.{option_map}
-use Rattle.std.proofs.lemmas.Option.{same_Some}
+use Rattle.std.{proofs.{Common.{◌≡◌, Some, subst, sym, ◌∙◌, ap, ℕ}, lemmas.Option.same_Some}, specs.Option.option_map}
 use Rattle.mt_core.specs.declared.answers.Ticket.{Ticket}
 use Rattle.mt_state.specs.Begins.{Takes}
-use Rattle.mt_lines.specs.Names.{operation_of}
-use Rattle.mt_lines.proofs.NamedLemmas.{taken_named}
+use Rattle.mt_lines.{specs.Names.operation_of, proofs.NamedLemmas.taken_named}
 use Rattle.mt_lines.proofs.store.give_up.Goals as goal
 
 pub returns-clause-given : goal.returns-clause-given

@@ -1,9 +1,7 @@
 use Rattle.std.proofs.Common.{rules, ◌≡◌, suc, refl, subst, arith}
-use Rattle.mt_state.specs.declared.moves.Move.TheVariants.{Moved}
+use Rattle.mt_state.specs.{declared.moves.Move.TheVariants.Moved, Promises.Tells}
 use Rattle.mt_core.specs.Shows.{phase_at}
-use Rattle.mt_state.specs.Promises.{Tells}
-use Rattle.mt_lines.specs.Stores.{StopsAt}
-use Rattle.mt_lines.proofs.StepLemmas.{ends_walk}
+use Rattle.mt_lines.{specs.Stores.StopsAt, proofs.StepLemmas.ends_walk}
 use Rattle.mt_lines.proofs.store.walk.Goals as goal
 
 pub returns-then-steps-ge-MAX_STEPS : goal.returns-then-steps-ge-MAX_STEPS

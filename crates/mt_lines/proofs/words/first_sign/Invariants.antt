@@ -1,5 +1,4 @@
-use Rattle.std.proofs.Common.{◌≡◌, ◌+◌, drop}
-use Rattle.std.specs.List.{prefix_len}
+use Rattle.std.{proofs.Common.{◌≡◌, ◌+◌, drop}, specs.List.prefix_len}
 use Rattle.mt_lines.specs.Words.{is_no_sign}
 use Rattle.mt_lines.proofs.words.first_sign.Given as goal
 

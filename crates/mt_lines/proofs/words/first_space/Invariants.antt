@@ -1,5 +1,4 @@
-use Rattle.std.proofs.Common.{◌≡◌, ◌+◌, drop}
-use Rattle.std.specs.List.{prefix_len}
+use Rattle.std.{proofs.Common.{◌≡◌, ◌+◌, drop}, specs.List.prefix_len}
 use Rattle.mt_lines.specs.Words.{is_of_word}
 use Rattle.mt_lines.proofs.words.first_space.Given as goal
 

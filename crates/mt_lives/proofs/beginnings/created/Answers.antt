@@ -1,15 +1,9 @@
 -- The logs that were made, and a state in which nothing has happened, are those of a new store.
-use Rattle.std.proofs.Common.{rules, ◌≡◌, ◌<◌, ◌≤◌, ◌++◌, length, take, drop, refl, sym, ap, subst, ◌∙◌, Some}
-use Rattle.std.proofs.Math.Seq.{take-append_seam}
+use Rattle.std.proofs.{Common.{rules, ◌≡◌, ◌<◌, ◌≤◌, ◌++◌, length, take, drop, refl, sym, ap, subst, ◌∙◌, Some}, Math.Seq.take-append_seam}
 use Rattle.mt_state.specs.Begins.{new_state}
-use Rattle.mt_lives.specs.Lives.{new_standing}
-use Rattle.mt_lives.specs.Holds.{Holds}
-use Rattle.mt_lives.specs.Returns.{IsFresh}
+use Rattle.mt_lives.{specs.{Lives.new_standing, Holds.Holds, Returns.IsFresh}, proofs.{Flushing.{keeps_rules, failures_of}, Beginning.holds_new}}
 use Rattle.mt_disk.specs.Mem.{mem_state}
-use Rattle.mt_store_logs.specs.Places.{closed_on, AreInOrder, MakesAll}
-use Rattle.mt_store_logs.proofs.Closed.{length-closed, closed_in_order, same_order}
-use Rattle.mt_lives.proofs.Flushing.{keeps_rules, failures_of}
-use Rattle.mt_lives.proofs.Beginning.{holds_new}
+use Rattle.mt_store_logs.{specs.Places.{closed_on, AreInOrder, MakesAll}, proofs.Closed.{length-closed, closed_in_order, same_order}}
 use Rattle.mt_lives.proofs.beginnings.created.Goals as goal
 
 pub returns-clause-ok : goal.returns-clause-ok

@@ -1,7 +1,5 @@
-use Rattle.std.proofs.Common.{◌≡◌, Result, sym, ap, ◌∙◌, arith, ⊎_elim}
-use Rattle.std.proofs.lemmas.Option.{same_Some}
-use Rattle.mt_lives.specs.Lives.{Life, Past, steps_in}
-use Rattle.mt_lives.proofs.Goes.{ok_life}
+use Rattle.std.proofs.{Common.{◌≡◌, Result, sym, ap, ◌∙◌, arith, ⊎_elim}, lemmas.Option.same_Some}
+use Rattle.mt_lives.{specs.Lives.{Life, Past, steps_in}, proofs.Goes.ok_life}
 use Rattle.mt_lives.proofs.laws.wrong_notes_are_refused.Goals as goal
 
 pub returns-clause-settled_number_lost : goal.returns-clause-settled_number_lost

@@ -1,7 +1,5 @@
 use Rattle.std.proofs.Common.{refl, ap, is_some}
-use Rattle.mt_lives.specs.declared.serving.Serving.{Serving}
-use Rattle.mt_lives.proofs.Noting.{held}
-use Rattle.mt_lives.proofs.Told.{told}
+use Rattle.mt_lives.{specs.declared.serving.Serving.Serving, proofs.{Noting.held, Told.told}}
 use Rattle.mt_lives.proofs.running.core.Goals as goal
 
 pub tell-requires-clause-held : goal.tell-requires-clause-held

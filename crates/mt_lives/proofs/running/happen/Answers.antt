@@ -1,16 +1,9 @@
 -- An event that is a crash, and any other, of a store that serves or does not.
-use Rattle.std.proofs.Common.{rules, ◌≡◌, ◌++◌, List, length, take, drop, Some, refl, sym, ap, subst, ◌∙◌}
-use Rattle.std.proofs.Math.Seq.{take-append_seam}
+use Rattle.std.{proofs.{Common.{rules, ◌≡◌, ◌++◌, List, length, take, drop, Some, refl, sym, ap, subst, ◌∙◌}, Math.Seq.take-append_seam}, specs.Prelude.IfOk}
 use Rattle.mt_disk.specs.declared.mem.MemDisk.{MemDisk}
-use Rattle.mt_store_logs.specs.declared.store_log.StoreLog.{StoreLog}
-use Rattle.mt_store_logs.specs.Places.{AreInOrder}
-use Rattle.mt_lives.specs.Holds.{quotas_of, Holds}
-use Rattle.mt_lives.specs.Steps.{IsServedBy}
-use Rattle.std.specs.Prelude.{IfOk}
-use Rattle.mt_lives.specs.declared.events.StoreNote.TheVariants.{NoSuch}
-use Rattle.mt_lives.specs.Forced.{IsCrashForced, IsForced}
-use Rattle.mt_lives.proofs.Forcing.{none_forced, crash_forced, served_forced}
-use Rattle.mt_lives.proofs.Returning.{crashed_goes}
+use Rattle.mt_store_logs.specs.{declared.store_log.StoreLog.StoreLog, Places.AreInOrder}
+use Rattle.mt_lives.specs.{Holds.{quotas_of, Holds}, Steps.IsServedBy, declared.events.StoreNote.TheVariants.NoSuch, Forced.{IsCrashForced, IsForced}}
+use Rattle.mt_lives.proofs.{Forcing.{none_forced, crash_forced, served_forced}, Returning.crashed_goes}
 use Rattle.mt_lives.proofs.Happening.{no_crash, nothing_noted, serves_none, served_count, served_workers, served_goes}
 use Rattle.mt_lives.proofs.running.happen.Goals as goal
 

@@ -1,14 +1,7 @@
-use Rattle.std.proofs.Common.{◌+◌, ◌∷◌, [], List, take, length, length-append, refl, ap, ◌∙◌, sym, subst, arith}
-use Rattle.std.specs.List.{zip}
-use Rattle.std.proofs.lemmas.List.{take_all}
-use Rattle.mt_lives.specs.declared.events.StoreEvent.{StoreEvent}
-use Rattle.mt_lives.specs.Lives.{Notes}
-use Rattle.mt_lives.specs.declared.events.StoreNote.{StoreNote}
+use Rattle.std.{proofs.{Common.{◌+◌, ◌∷◌, [], List, take, length, length-append, refl, ap, ◌∙◌, sym, subst, arith}, lemmas.List.take_all}, specs.List.zip}
+use Rattle.mt_lives.specs.{declared.events.StoreEvent.StoreEvent, Lives.Notes, declared.events.StoreNote.StoreNote, Steps.NotesGoOn, Forced.AreForced}
+use Rattle.mt_lives.proofs.{Forcing.forced_more, Lists.{none_yet, one_more, stands_on, zip_more}}
 use Rattle.mt_store_logs.proofs.Closed.{same_order}
-use Rattle.mt_lives.specs.Steps.{NotesGoOn}
-use Rattle.mt_lives.specs.Forced.{AreForced}
-use Rattle.mt_lives.proofs.Forcing.{forced_more}
-use Rattle.mt_lives.proofs.Lists.{none_yet, one_more, stands_on, zip_more}
 use Rattle.mt_lives.proofs.running.note_all.Goals as goal
 
 pub loop-event-init : goal.loop-event-init

@@ -1,8 +1,6 @@
-use Rattle.std.proofs.Common.{◌≡◌, take, length}
-use Rattle.std.specs.List.{zip}
+use Rattle.std.{proofs.Common.{◌≡◌, take, length}, specs.List.zip}
 use Rattle.mt_store_logs.specs.Places.{AreInOrder}
-use Rattle.mt_lives.specs.Steps.{NotesGoOn}
-use Rattle.mt_lives.specs.Forced.{AreForced}
+use Rattle.mt_lives.specs.{Steps.NotesGoOn, Forced.AreForced}
 use Rattle.mt_lives.proofs.running.note_all.Given as goal
 
 -- the events so far, with their notes, led to where the store stands

@@ -1,8 +1,6 @@
 -- The events lead on from a new store.
-use Rattle.std.proofs.Common.{subst}
-use Rattle.std.specs.List.{zip}
-use Rattle.mt_lives.specs.Lives.{new_standing}
-use Rattle.mt_lives.specs.Forced.{AreForced}
+use Rattle.std.{proofs.Common.subst, specs.List.zip}
+use Rattle.mt_lives.specs.{Lives.new_standing, Forced.AreForced}
 use Rattle.mt_lives.proofs.running.run_store_events.Goals as goal
 
 pub returns-clause-lives : goal.returns-clause-lives

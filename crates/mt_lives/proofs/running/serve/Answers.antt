@@ -1,9 +1,5 @@
-use Rattle.std.proofs.Common.{Some, refl, sym, subst, length}
-use Rattle.std.proofs.lemmas.Result.{IfOk-weaker}
-use Rattle.mt_lives.specs.declared.events.StoreNote.TheVariants.{Told}
-use Rattle.mt_lives.specs.Steps.{IsServedBy}
-use Rattle.mt_lives.specs.Forced.{IsForced}
-use Rattle.mt_lives.proofs.Goes.{Goes}
+use Rattle.std.proofs.{Common.{Some, refl, sym, subst, length}, lemmas.Result.IfOk-weaker}
+use Rattle.mt_lives.{specs.{declared.events.StoreNote.TheVariants.Told, Steps.IsServedBy, Forced.IsForced}, proofs.Goes.Goes}
 use Rattle.mt_lives.proofs.running.serve.Goals as goal
 
 pub returns-in_ok-core-in-Core-clause-goes : goal.returns-in_ok-core-in-Core-clause-goes

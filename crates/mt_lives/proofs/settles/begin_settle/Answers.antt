@@ -1,7 +1,5 @@
 use Rattle.std.proofs.Common.{inr, refl, sym, rules, ◌∙◌}
-use Rattle.mt_lives.specs.declared.serving.Serving.{Serving}
-use Rattle.mt_lives.specs.declared.serving.Settle.{Settle}
-use Rattle.mt_lives.proofs.Settling.{begins, no_entry, an_entry, is_open}
+use Rattle.mt_lives.{specs.{declared.serving.Serving.Serving, declared.serving.Settle.Settle}, proofs.Settling.{begins, no_entry, an_entry, is_open}}
 use Rattle.mt_lives.proofs.settles.begin_settle.Goals as goal
 
 pub returns : goal.returns

@@ -1,15 +1,9 @@
-use Rattle.std.proofs.Common.{◌≡◌, ◌≢◌, Some, None, is_some, sym, ap, ◌∙◌, arith, subst, get_or}
+use Rattle.std.proofs.{Common.{◌≡◌, ◌≢◌, Some, None, is_some, sym, ap, ◌∙◌, arith, subst, get_or}, lemmas.Option.{slice_get-get_or, same_Some}}
 use Rattle.std.specs.Prelude.{slice_get, slice_set}
-use Rattle.std.proofs.lemmas.Option.{slice_get-get_or, same_Some}
 use Rattle.mt_disk.specs.declared.mem.MemDisk.{MemDisk}
-use Rattle.mt_store_logs.specs.declared.store_log.StoreLog.{StoreLog}
-use Rattle.mt_lives.specs.declared.events.StoreEvent.TheVariants.{Flush}
-use Rattle.mt_lives.specs.declared.events.StoreNote.TheVariants.{Flushed, Refused}
-use Rattle.mt_store_logs.specs.Places.{mark_in}
-use Rattle.mt_lives.specs.Forced.{IsForced}
-use Rattle.mt_lives.proofs.Forcing.{flush_forced}
-use Rattle.mt_lives.proofs.Goes.{Goes, flush_goes, flush_stops}
-use Rattle.mt_store_logs.proofs.Loops.{same_workers}
+use Rattle.mt_store_logs.{specs.{declared.store_log.StoreLog.StoreLog, Places.mark_in}, proofs.Loops.same_workers}
+use Rattle.mt_lives.specs.{declared.events.StoreEvent.TheVariants.Flush, declared.events.StoreNote.TheVariants.{Flushed, Refused}, Forced.IsForced}
+use Rattle.mt_lives.proofs.{Forcing.flush_forced, Goes.{Goes, flush_goes, flush_stops}}
 use Rattle.mt_lives.proofs.settles.flush_at.Goals as goal
 
 pub returns-in-Ok-clause-goes : goal.returns-in-Ok-clause-goes

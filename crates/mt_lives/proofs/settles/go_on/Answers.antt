@@ -1,22 +1,11 @@
-use Rattle.std.proofs.Common.{None, inr, ◌≡◌, Some, refl, sym, arith, rules, ap, ◌∙◌, subst, length, get_or}
-use Rattle.std.specs.Prelude.{slice_get, slice_set}
-use Rattle.std.specs.Ordering.{nat_cmp}
-use Rattle.std.specs.BTreeMap.{get}
-use Rattle.std.proofs.lemmas.Option.{slice_get-get_or}
-use Rattle.mt_lives.specs.declared.events.StoreEvent.TheVariants.{SettleNext}
-use Rattle.mt_disk.specs.Mem.{mem_state}
-use Rattle.mt_store_logs.specs.LogTurns.{BringsUp, FailsToBringUp}
-use Rattle.mt_lives.specs.declared.events.StoreNote.TheVariants.{Refused}
-use Rattle.mt_lives.specs.Serving.{DrainsServing}
-use Rattle.mt_lives.specs.Steps.{Turns}
-use Rattle.mt_lives.proofs.Flushing.{keeps_rules, failures_of}
-use Rattle.mt_lives.proofs.Draining.{turn_settles}
-use Rattle.mt_store_logs.specs.Places.{mark_in}
+use Rattle.std.proofs.{Common.{None, inr, ◌≡◌, Some, refl, sym, arith, rules, ap, ◌∙◌, subst, length, get_or}, lemmas.Option.slice_get-get_or}
+use Rattle.std.specs.{Prelude.{slice_get, slice_set}, Ordering.nat_cmp, BTreeMap.get}
+use Rattle.mt_lives.specs.{declared.events.StoreEvent.TheVariants.SettleNext, declared.events.StoreNote.TheVariants.Refused, Serving.DrainsServing, Steps.Turns}
 use Rattle.mt_lives.specs.Forced.{IsForced}
-use Rattle.mt_lives.proofs.Forcing.{turn_forced, settle_forced}
-use Rattle.mt_lives.proofs.Goes.{Goes, settle_goes, settle_stops}
-use Rattle.mt_lives.proofs.Settling.{next_within, not_open}
-use Rattle.mt_store_logs.proofs.Loops.{same_workers}
+use Rattle.mt_lives.proofs.{Flushing.{keeps_rules, failures_of}, Draining.turn_settles, Forcing.{turn_forced, settle_forced}}
+use Rattle.mt_lives.proofs.{Goes.{Goes, settle_goes, settle_stops}, Settling.{next_within, not_open}}
+use Rattle.mt_disk.specs.Mem.{mem_state}
+use Rattle.mt_store_logs.{specs.{LogTurns.{BringsUp, FailsToBringUp}, Places.mark_in}, proofs.Loops.same_workers}
 use Rattle.mt_lives.proofs.settles.go_on.Goals as goal
 
 pub returns-in_default-clause-goes : goal.returns-in_default-clause-goes

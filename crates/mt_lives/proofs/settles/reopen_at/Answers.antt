@@ -1,15 +1,10 @@
 use Rattle.std.proofs.Common.{◌≡◌, ℕ, Option, Some, None, false, is_some, refl, sym, ap, ◌∙◌, arith, subst, get_or}
-use Rattle.std.specs.Prelude.{slice_get, slice_set}
 use Rattle.std.proofs.lemmas.Option.{slice_get-get_or, same_Some}
+use Rattle.std.specs.Prelude.{slice_get, slice_set}
 use Rattle.mt_disk.specs.declared.mem.MemDisk.{MemDisk}
-use Rattle.mt_store_logs.specs.declared.store_log.StoreLog.{StoreLog}
-use Rattle.mt_lives.specs.declared.events.StoreEvent.TheVariants.{Reopen}
-use Rattle.mt_lives.specs.declared.events.StoreNote.TheVariants.{Reopened, Refused}
-use Rattle.mt_store_logs.specs.Places.{mark_in}
-use Rattle.mt_lives.specs.Forced.{IsForced}
-use Rattle.mt_lives.proofs.Forcing.{reopen_forced}
-use Rattle.mt_lives.proofs.Goes.{Goes, reopen_goes, reopen_stops}
-use Rattle.mt_store_logs.proofs.Loops.{same_workers}
+use Rattle.mt_store_logs.{specs.{declared.store_log.StoreLog.StoreLog, Places.mark_in}, proofs.Loops.same_workers}
+use Rattle.mt_lives.specs.{declared.events.StoreEvent.TheVariants.Reopen, declared.events.StoreNote.TheVariants.{Reopened, Refused}, Forced.IsForced}
+use Rattle.mt_lives.proofs.{Forcing.reopen_forced, Goes.{Goes, reopen_goes, reopen_stops}}
 use Rattle.mt_lives.proofs.settles.reopen_at.Goals as goal
 
 pub returns-in-Ok-clause-goes : goal.returns-in-Ok-clause-goes

@@ -1,8 +1,7 @@
 -- The gate tells which end counts, and what follows leaves the one front or the other.
 use Rattle.std.proofs.Common.{rules, ◌≡◌, ◌≢◌, ◌++◌, IsTrue, sym, ap, subst, ◌∙◌}
 use Rattle.mt_disk.specs.Disk.{DiskState}
-use Rattle.mt_log.specs.Format.{open_batch}
-use Rattle.mt_log.proofs.Unsure.{kept, counted, torn_here, uncounted, after_open, after_torn}
+use Rattle.mt_log.{specs.Format.open_batch, proofs.Unsure.{kept, counted, torn_here, uncounted, after_open, after_torn}}
 use Rattle.mt_log.proofs.log_end.set_right_at.Goals as goal
 
 pub returns-in_err-gate-clause-leaves : goal.returns-in_err-gate-clause-leaves

@@ -1,7 +1,6 @@
 -- each turn reads a record, or none is read
 use Rattle.std.proofs.lemmas.Result.{err_from_is_err_and}
-use Rattle.mt_fields.specs.Reading.{each_at}
-use Rattle.mt_fields.proofs.Loop.{goes_on, ends, is_done}
+use Rattle.mt_fields.{specs.Reading.each_at, proofs.Loop.{goes_on, ends, is_done}}
 use Rattle.mt_log.specs.Reading.{record_at}
 use Rattle.mt_log.proofs.reader.record_list_of.Goals as goal
 

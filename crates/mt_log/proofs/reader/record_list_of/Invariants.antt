@@ -1,7 +1,6 @@
 -- the records that were read and those that are left are all that are announced
 use Rattle.std.proofs.Common.{◌≡◌, ◌-◌}
-use Rattle.mt_fields.specs.Reading.{each_at}
-use Rattle.mt_fields.proofs.Loop.{with_front}
+use Rattle.mt_fields.{specs.Reading.each_at, proofs.Loop.with_front}
 use Rattle.mt_log.specs.Reading.{record_at}
 use Rattle.mt_log.proofs.reader.record_list_of.Given as goal
 

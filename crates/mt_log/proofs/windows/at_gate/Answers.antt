@@ -1,9 +1,6 @@
 -- Neither an open gate without a whole length nor one whose length goes past the end stands before a batch.
-use Rattle.std.proofs.Common.{IfOk, drop, sym, subst, arith}
-use Rattle.std.proofs.lemmas.List.{length-drop}
-use Rattle.mt_log.specs.declared.reader.Head.{Head}
-use Rattle.mt_log.specs.Stops.{OfImage, IsHead, IsAtGate}
-use Rattle.mt_log.proofs.ReadLaws.{no_head_bad, past_end_bad}
+use Rattle.std.proofs.{Common.{IfOk, drop, sym, subst, arith}, lemmas.List.length-drop}
+use Rattle.mt_log.{specs.{declared.reader.Head.Head, Stops.{OfImage, IsHead, IsAtGate}}, proofs.ReadLaws.{no_head_bad, past_end_bad}}
 use Rattle.mt_log.proofs.windows.at_gate.Goals as goal
 
 pub returns-in-Bad-clause-told : goal.returns-in-Bad-clause-told

@@ -1,7 +1,6 @@
 -- Batches that stop at what isn't in the format are no log.
 use Rattle.std.proofs.Common.{ℕ, Option, drop, subst}
-use Rattle.mt_log.specs.Stops.{StopsAt}
-use Rattle.mt_log.proofs.ReadLaws.{stopped_bad}
+use Rattle.mt_log.{specs.Stops.StopsAt, proofs.ReadLaws.stopped_bad}
 use Rattle.mt_log.proofs.windows.found_of.Goals as goal
 
 pub returns-in-None-clause-told : goal.returns-in-None-clause-told

@@ -1,9 +1,6 @@
 -- Over an honest disk the window is what stands behind the gate and its length.
 use Rattle.std.proofs.Common.{◌∙◌, subst, arith, Option}
-use Rattle.mt_log.specs.declared.batch.LogBatch.{LogBatch}
-use Rattle.mt_log.specs.declared.reader.Head.{Head}
-use Rattle.mt_log.specs.Stops.{IsBehind}
-use Rattle.mt_log.proofs.ReadLaws.{none_in_window, batch_in_window}
+use Rattle.mt_log.{specs.{declared.batch.LogBatch.LogBatch, declared.reader.Head.Head, Stops.IsBehind}, proofs.ReadLaws.{none_in_window, batch_in_window}}
 use Rattle.mt_log.proofs.windows.read_batch.Goals as goal
 
 pub returns-in-Some-clause-told : goal.returns-in-Some-clause-told

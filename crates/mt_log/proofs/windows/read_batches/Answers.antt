@@ -1,9 +1,7 @@
 -- A batch that was read stands behind those so far.
-use Rattle.std.proofs.Common.{◌≡◌, ◌+◌, ◌-◌, ◌++◌, ◌∷◌, [], IsTrue, drop, sym, ◌∙◌, subst, arith}
-use Rattle.std.proofs.lemmas.List.{drop-drop}
+use Rattle.std.proofs.{Common.{◌≡◌, ◌+◌, ◌-◌, ◌++◌, ◌∷◌, [], IsTrue, drop, sym, ◌∙◌, subst, arith}, lemmas.List.drop-drop}
 use Rattle.mt_rows.specs.Rows.{Bytes}
-use Rattle.mt_log.specs.Stops.{IsHead, IsAtGate, FitsGate, StandBefore}
-use Rattle.mt_log.proofs.ReadLaws.{of_same, batches_more, stand_more}
+use Rattle.mt_log.{specs.Stops.{IsHead, IsAtGate, FitsGate, StandBefore}, proofs.ReadLaws.{of_same, batches_more, stand_more}}
 use Rattle.mt_log.proofs.windows.read_batches.Goals as goal
 
 pub loop-gate-preserved : goal.loop-gate-preserved

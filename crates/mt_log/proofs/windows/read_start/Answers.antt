@@ -1,8 +1,6 @@
 -- What the first bytes of a file begin with, the file does.
-use Rattle.std.proofs.Common.{◌∙◌, length, ap, arith}
-use Rattle.std.proofs.lemmas.Result.{IfOk-weaker, IfErr-weaker}
-use Rattle.mt_log.specs.Stops.{IsStart, IsBadStart, IsStartOf, IsFaultOf}
-use Rattle.mt_log.proofs.ReadLaws.{start_of_image, fault_of_start}
+use Rattle.std.proofs.{Common.{◌∙◌, length, ap, arith}, lemmas.Result.{IfOk-weaker, IfErr-weaker}}
+use Rattle.mt_log.{specs.Stops.{IsStart, IsBadStart, IsStartOf, IsFaultOf}, proofs.ReadLaws.{start_of_image, fault_of_start}}
 use Rattle.mt_log.proofs.windows.read_start.Goals as goal
 
 pub returns-clause-ok : goal.returns-clause-ok

@@ -2,8 +2,7 @@
 use Rattle.mt_disk.proofs.CrashLaws.{at_ok}
 use Rattle.std.specs.Int.{to_be_bytes, w32, w64}
 use Rattle.mt_fields.specs.Fields.{string}
-use Rattle.mt_log.specs.Format.{change_bytes}
-use Rattle.mt_log.proofs.ReadLaws.{fields_joined}
+use Rattle.mt_log.{specs.Format.change_bytes, proofs.ReadLaws.fields_joined}
 use Rattle.mt_log.proofs.writer.put_record.Goals as goal
 
 pub returns : goal.returns

@@ -1,6 +1,5 @@
 -- the records so far have so many bytes, and are within their limits
-use Rattle.std.proofs.Common.{◌≡◌, ◌*◌, ◌≤◌, ◌<◌, ℕ, get_or, length, take}
-use Rattle.std.specs.List.{flat_map}
+use Rattle.std.{proofs.Common.{◌≡◌, ◌*◌, ◌≤◌, ◌<◌, ℕ, get_or, length, take}, specs.List.flat_map}
 use Rattle.mt_rows.specs.declared.record.Record.{Record}
 use Rattle.mt_log.specs.Format.{record_bytes}
 use Rattle.mt_batches.specs.Batches.{IsRecord}

@@ -1,8 +1,6 @@
-use Rattle.std.proofs.Common.{ℕ, ◌<◌, [], List, Bor, length, map, sym, subst, Some, ap, ◌∙◌, arith}
-use Rattle.std.proofs.lemmas.List.{length-map, get_or-map}
+use Rattle.std.proofs.{Common.{ℕ, ◌<◌, [], List, Bor, length, map, sym, subst, Some, ap, ◌∙◌, arith}, lemmas.List.{length-map, get_or-map}}
 use Rattle.std.proofs.lemmas.Option.{slice_get-get_or}
-use Rattle.mt_options.specs.Tenants.{AreTenants, Nothing}
-use Rattle.mt_options.proofs.TenantLemmas.{one_more, first_fault}
+use Rattle.mt_options.{specs.Tenants.{AreTenants, Nothing}, proofs.TenantLemmas.{one_more, first_fault}}
 use Rattle.mt_options.proofs.tenants.read_tenants.Goals as goal
 
 pub loop-at-init : goal.loop-at-init

@@ -1,5 +1,4 @@
-use Rattle.std.proofs.Common.{◌≡◌, ◌+◌, drop}
-use Rattle.std.specs.List.{prefix_len}
+use Rattle.std.{proofs.Common.{◌≡◌, ◌+◌, drop}, specs.List.prefix_len}
 use Rattle.mt_options.specs.Words.{is_no_colon}
 use Rattle.mt_options.proofs.words.first_colon.Given as goal
 

@@ -1,6 +1,5 @@
 use Rattle.std.proofs.Common.{◌≡◌, ◌∷◌, drop, ◌+◌, ◌∙◌, ap, arith, add-one, sym, drop-cons, get_or}
-use Rattle.mt_options.specs.Words.{digits_behind}
-use Rattle.mt_options.proofs.WordLemmas.{too_great}
+use Rattle.mt_options.{specs.Words.digits_behind, proofs.WordLemmas.too_great}
 use Rattle.mt_options.proofs.words.number.Goals as goal
 
 pub returns-then-longer-from : goal.returns-then-longer-from

@@ -1,5 +1,4 @@
-use Rattle.std.proofs.Common.{◌≡◌, ◌≤◌, drop}
-use Rattle.std.specs.Str.{all_ascii_digits}
+use Rattle.std.{proofs.Common.{◌≡◌, ◌≤◌, drop}, specs.Str.all_ascii_digits}
 use Rattle.mt_options.specs.Words.{digits_behind}
 use Rattle.mt_options.proofs.words.number.Given as goal
 

@@ -1,8 +1,6 @@
 -- What was made ready is taken.
-use Rattle.std.proofs.Common.{◌∙◌, sym, subst}
-use Rattle.std.proofs.lemmas.Option.{same_Some}
-use Rattle.mt_operation.specs.declared.phase.Phase.{Phase}
-use Rattle.mt_operation.specs.declared.prepared.Prepared.{Prepared}
+use Rattle.std.proofs.{Common.{◌∙◌, sym, subst}, lemmas.Option.same_Some}
+use Rattle.mt_operation.specs.{declared.phase.Phase.Phase, declared.prepared.Prepared.Prepared}
 use Rattle.mt_remove.specs.KeptRemovals.{IsAtDropKey}
 use Rattle.mt_phases_tests.specs.KeptRemovers.{KeptAt}
 use Rattle.mt_phases_tests.proofs.removers.drop_pair.Goals as goal

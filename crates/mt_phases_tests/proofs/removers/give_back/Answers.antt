@@ -1,8 +1,7 @@
 -- What is kept once all locks are given back.
 use Rattle.std.proofs.Common.{subst}
 use Rattle.mt_operation.specs.declared.phase.Phase.{Phase}
-use Rattle.mt_phases_tests.specs.KeptRemovers.{KeptAt}
-use Rattle.mt_phases_tests.proofs.Leading.{kept_given_back}
+use Rattle.mt_phases_tests.{specs.KeptRemovers.KeptAt, proofs.Leading.kept_given_back}
 use Rattle.mt_phases_tests.proofs.removers.give_back.Goals as goal
 
 pub returns-clause-kept : goal.returns-clause-kept

@@ -1,11 +1,9 @@
 -- That others are left as they were, also where it waits.
 use Rattle.std.proofs.Common.{ℕ, Option, Some, None, IfSome, IfNone, ◌≡◌}
 use Rattle.mt_arena.specs.Arena.{ArenaView}
-use Rattle.mt_operation.specs.declared.walk.Walk.{Walk}
-use Rattle.mt_operation.specs.declared.removal.Removal.{Removal}
+use Rattle.mt_operation.specs.{declared.walk.Walk.Walk, declared.removal.Removal.Removal}
 use Rattle.mt_remove.specs.Unlinks.{IsLockAbove}
-use Rattle.mt_phases_tests.specs.KeptRemovers.{OthersStay}
-use Rattle.mt_phases_tests.proofs.Staying.{others_stay}
+use Rattle.mt_phases_tests.{specs.KeptRemovers.OthersStay, proofs.Staying.others_stay}
 use Rattle.mt_phases_tests.proofs.removers.take_out.Goals as goal
 
 leaves_others : (id : ℕ) (old new : ArenaView) (before after : Walk) (s t : Removal) (holder : Option ℕ)

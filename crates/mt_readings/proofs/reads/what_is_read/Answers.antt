@@ -1,5 +1,4 @@
-use Rattle.mt_readings.specs.Reading.{is_behind}
-use Rattle.mt_readings.proofs.Readings.{read_in, behind_is, before}
+use Rattle.mt_readings.{specs.Reading.is_behind, proofs.Readings.{read_in, behind_is, before}}
 use Rattle.mt_readings.proofs.reads.what_is_read.Goals as goal
 
 pub returns-clause-stands : goal.returns-clause-stands

@@ -1,8 +1,7 @@
 -- By the last number and the least worker.
 use Rattle.std.proofs.Common.{◌∙◌, sym, ap, subst, arith, ℕ, map, None}
 use Rattle.mt_log.specs.Contents.{contents_of}
-use Rattle.mt_recover.specs.Older.{IsFirstOlder, least_without}
-use Rattle.mt_recover.proofs.OlderLemmas.{none_over, none_is_older, one_is_older}
+use Rattle.mt_recover.{specs.Older.{IsFirstOlder, least_without}, proofs.OlderLemmas.{none_over, none_is_older, one_is_older}}
 use Rattle.mt_recover.proofs.older.first_older.Goals as goal
 
 pub returns-then-served-eq0 : goal.returns-then-served-eq0

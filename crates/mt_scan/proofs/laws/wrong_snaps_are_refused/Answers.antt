@@ -1,5 +1,4 @@
-use Rattle.std.proofs.Common.{List, sym, subst}
-use Rattle.std.specs.List.{Contains}
+use Rattle.std.{proofs.Common.{List, sym, subst}, specs.List.Contains}
 use Rattle.mt_rows.specs.Rows.{Bytes, Columns}
 use Rattle.mt_arena.specs.Accesses.{at}
 use Rattle.mt_scan.specs.Snaps.{StopsAt}

@@ -1,6 +1,5 @@
 -- What was noted, with what is noted of the rest, is all.
-use Rattle.mt_scan.specs.Looks.{behind_at}
-use Rattle.mt_scan.proofs.Seeing.{Told}
+use Rattle.mt_scan.{specs.Looks.behind_at, proofs.Seeing.Told}
 use Rattle.mt_scan.proofs.looks.see.Given as goal
 
 abbrev pub invariant-loop-entry : goal.invariant-loop-entry

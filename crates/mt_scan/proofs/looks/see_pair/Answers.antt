@@ -1,9 +1,7 @@
 -- The pair that is noted is the tenant's own.
-use Rattle.std.proofs.Common.{◌≡◌, ◌≢◌, ◌<◌, ◌^◌, ◌++◌, ◌∷◌, [], length, take, drop, sym, ap, ◌∙◌, arith}
+use Rattle.std.proofs.{Common.{◌≡◌, ◌≢◌, ◌<◌, ◌^◌, ◌++◌, ◌∷◌, [], length, take, drop, sym, ap, ◌∙◌, arith}, lemmas.Bool.{eqb-true, eqb-false}}
+use Rattle.std.proofs.{lemmas.List.{nil_from_length, append-nil}, lemmas.Result.on_ok_weaker}
 use Rattle.std.specs.List.{cons_option}
-use Rattle.std.proofs.lemmas.Bool.{eqb-true, eqb-false}
-use Rattle.std.proofs.lemmas.List.{nil_from_length, append-nil}
-use Rattle.std.proofs.lemmas.Result.{on_ok_weaker}
 use Rattle.mt_slices.specs.Slices.{piece_bytes}
 use Rattle.mt_rows.specs.Rows.{Bytes}
 use Rattle.mt_readings.specs.Tenancies.{own_pair}

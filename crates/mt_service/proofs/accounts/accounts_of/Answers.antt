@@ -1,7 +1,5 @@
-use Rattle.std.proofs.Common.{refl, sym, subst}
-use Rattle.std.proofs.lemmas.Option.{slice_get-get_or}
-use Rattle.mt_service.specs.Faults.{IsOfTenants}
-use Rattle.mt_service.proofs.AccountLemmas.{had_none, at_fault, one_more}
+use Rattle.std.proofs.{Common.{refl, sym, subst}, lemmas.Option.slice_get-get_or}
+use Rattle.mt_service.{specs.Faults.IsOfTenants, proofs.AccountLemmas.{had_none, at_fault, one_more}}
 use Rattle.mt_service.proofs.accounts.accounts_of.Goals as goal
 
 pub returns-in-Err : goal.returns-in-Err

@@ -1,5 +1,4 @@
-use Rattle.std.proofs.Common.{◌≡◌, ◌+◌}
-use Rattle.std.specs.List.{sum_by}
+use Rattle.std.{proofs.Common.{◌≡◌, ◌+◌}, specs.List.sum_by}
 use Rattle.mt_book.specs.declared.passes.Pass.{Pass}
 use Rattle.mt_crew.specs.declared.crew.Served.{Served}
 use Rattle.mt_service.specs.declared.workers.SessionWorker.{SessionWorker}

@@ -1,7 +1,6 @@
 -- One worker more, that of its place.
 use Rattle.std.proofs.Common.{◌≡◌, length, sym, subst, arith}
-use Rattle.mt_service.specs.Workers.{AreOfWorker, EachAt}
-use Rattle.mt_service.proofs.Pushes.{pushed}
+use Rattle.mt_service.{specs.Workers.{AreOfWorker, EachAt}, proofs.Pushes.pushed}
 use Rattle.mt_service.proofs.running.workers_of.Goals as goal
 
 pub loop-place-preserved : goal.loop-place-preserved

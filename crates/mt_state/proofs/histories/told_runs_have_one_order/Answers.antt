@@ -1,9 +1,6 @@
 use Rattle.mt_rows.specs.Accounts.{account_of}
-use Rattle.mt_runs.specs.Runs.{story_of}
-use Rattle.mt_runs.specs.Placings.{no_pairs}
-use Rattle.mt_runs.proofs.Order.{one_order}
-use Rattle.mt_state.specs.Views.{quota_in, map_of, changed_at}
-use Rattle.mt_state.proofs.HistoryNew.{right_new}
+use Rattle.mt_runs.{specs.{Runs.story_of, Placings.no_pairs}, proofs.Order.one_order}
+use Rattle.mt_state.{specs.Views.{quota_in, map_of, changed_at}, proofs.HistoryNew.right_new}
 use Rattle.mt_state.proofs.histories.told_runs_have_one_order.Goals as goal
 
 pub returns : goal.returns

@@ -1,8 +1,6 @@
 use Rattle.std.proofs.Common.{refl}
 use Rattle.mt_state.specs.Views.{shown}
-use Rattle.mt_state.proofs.Reading.{descend_done, search_missing, search_found}
-use Rattle.mt_state.proofs.Loading.{load_taken, load_stopped}
-use Rattle.mt_state.proofs.Confirming.{confirm_done, confirm_back}
+use Rattle.mt_state.proofs.{Reading.{descend_done, search_missing, search_found}, Loading.{load_taken, load_stopped}, Confirming.{confirm_done, confirm_back}}
 use Rattle.mt_state.proofs.laws.a_look_is_a_step.Goals as goal
 
 pub returns-clause-descends : goal.returns-clause-descends

@@ -1,8 +1,6 @@
 use Rattle.std.proofs.Common.{refl}
 use Rattle.mt_operation.specs.Phases.{is_done}
-use Rattle.mt_state.specs.Views.{shown}
-use Rattle.mt_state.proofs.Moving.{invariant_stays}
-use Rattle.mt_state.proofs.Telling.{gives}
+use Rattle.mt_state.{specs.Views.shown, proofs.{Moving.invariant_stays, Telling.gives}}
 use Rattle.mt_state.proofs.laws.a_step_keeps_the_invariant.Goals as goal
 
 pub returns-clause-invariant : goal.returns-clause-invariant

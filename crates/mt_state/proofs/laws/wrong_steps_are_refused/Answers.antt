@@ -1,14 +1,8 @@
-use Rattle.std.proofs.Common.{◌≡◌, ◌≢◌, ℕ, false, inl, inr, Some, refl, sym, ap, subst, ◌∙◌}
-use Rattle.std.proofs.lemmas.Bool.{both_ways}
-use Rattle.std.proofs.lemmas.Option.{same_Some}
-use Rattle.mt_version.specs.Parts.{Parts}
-use Rattle.mt_version.specs.Changes.{IsMarked, IsStable}
-use Rattle.mt_arena.specs.NodeView.{NodeView}
-use Rattle.mt_arena.specs.Accesses.{at}
-use Rattle.mt_operation.specs.declared.phase.Phase.{Phase}
-use Rattle.mt_operation.specs.declared.phase.Phase.TheVariants.{Load, Lock, LockParent, LockPrev, LockAbove, CleanLayer, Snap}
-use Rattle.mt_operation.specs.declared.walk.Walk.{Walk}
-use Rattle.mt_operation.specs.Operations.{ScanView}
+use Rattle.std.proofs.{Common.{◌≡◌, ◌≢◌, ℕ, false, inl, inr, Some, refl, sym, ap, subst, ◌∙◌}, lemmas.Bool.both_ways, lemmas.Option.same_Some}
+use Rattle.mt_version.specs.{Parts.Parts, Changes.{IsMarked, IsStable}}
+use Rattle.mt_arena.specs.{NodeView.NodeView, Accesses.at}
+use Rattle.mt_operation.specs.{declared.phase.Phase.Phase, declared.phase.Phase.TheVariants.{Load, Lock, LockParent, LockPrev, LockAbove, CleanLayer, Snap}}
+use Rattle.mt_operation.specs.{declared.walk.Walk.Walk, Operations.ScanView}
 use Rattle.mt_state.specs.Promises.{Blocks, locks_next}
 use Rattle.mt_state.proofs.laws.wrong_steps_are_refused.Goals as goal
 

@@ -1,10 +1,8 @@
 -- That each phase of a removal makes a lawful step.
-use Rattle.mt_state.proofs.RemovalSteps.{removed_done}
-use Rattle.mt_state.proofs.RemovalDrop.{drop_done}
-use Rattle.mt_state.proofs.removals.a_removal_is_a_step.Goals as goal
+use Rattle.mt_state.proofs.{RemovalSteps.removed_done, RemovalDrop.drop_done, RemovalLooks.{drop_ready, drop_missing, lock_back, back_ended, removal_returned}}
 use Rattle.std.proofs.Common.{ap}
 use Rattle.mt_remove.specs.Writes.{is_remove}
-use Rattle.mt_state.proofs.RemovalLooks.{drop_ready, drop_missing, lock_back, back_ended, removal_returned}
+use Rattle.mt_state.proofs.removals.a_removal_is_a_step.Goals as goal
 
 pub returns-clause-drops : goal.returns-clause-drops
 returns-clause-drops c = λ core o op arena tape accounts w r h was is few there at_drop t. let g = drop_done core o h few op there at_drop was arena is tape accounts w r t in record { invariant = g.0; step = g.1 }

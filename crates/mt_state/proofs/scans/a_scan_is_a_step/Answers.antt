@@ -1,12 +1,8 @@
-use Rattle.std.proofs.Common.{inl, inr, sym, subst}
+use Rattle.std.proofs.Common.{inl, inr, sym, subst, ◌+◌, true, false, Some}
 use Rattle.mt_operation.specs.declared.task.Task.{Task}
 use Rattle.mt_rows.specs.declared.reply.Reply.TheVariants.{Pairs, NoMemory}
-use Rattle.std.proofs.Common.{◌+◌, true, false, Some}
-use Rattle.mt_state.specs.Views.{shown}
-use Rattle.mt_state.specs.Writes.{scanned}
-use Rattle.mt_state.proofs.Telling.{Gives}
-use Rattle.mt_state.proofs.ScanLooks.{snap_done, snap_stopped, hop_done}
-use Rattle.mt_state.proofs.ScanChecks.{check_keeps, check_ends, check_drops, check_stopped}
+use Rattle.mt_state.specs.{Views.shown, Writes.scanned}
+use Rattle.mt_state.proofs.{Telling.Gives, ScanLooks.{snap_done, snap_stopped, hop_done}, ScanChecks.{check_keeps, check_ends, check_drops, check_stopped}}
 use Rattle.mt_state.proofs.scans.a_scan_is_a_step.Goals as goal
 
 pub returns-clause-snaps : goal.returns-clause-snaps

@@ -1,18 +1,11 @@
-use Rattle.std.proofs.Common.{◌≡◌, ◌≢◌, ℕ, ◌<◌, Bool, true, List, [], length, get_or, refl, sym, ap, subst, ◌∙◌, arith}
-use Rattle.std.specs.FinMap as pairs
-use Rattle.std.proofs.lemmas.List.{length-map, get_or-map}
-use Rattle.mt_rows.specs.declared.command.Command.{Command}
-use Rattle.mt_rows.specs.declared.command.Command.TheVariants.{Scan}
-use Rattle.mt_rows.specs.declared.reply.Reply.{Reply}
-use Rattle.mt_rows.specs.declared.reply.Reply.TheVariants.{Pairs, NoMemory}
-use Rattle.mt_rows.specs.Rows.{Bytes, Columns}
-use Rattle.mt_rows.specs.Maps.{Map, is_scan}
+use Rattle.std.proofs.{Common.{◌≡◌, ◌≢◌, ℕ, ◌<◌, Bool, true, List, [], length, get_or, refl, sym, ap, subst, ◌∙◌, arith}, lemmas.List.{length-map, get_or-map}}
+use Rattle.mt_rows.specs.{declared.command.Command.Command, declared.command.Command.TheVariants.Scan, declared.reply.Reply.Reply}
+use Rattle.mt_rows.specs.{declared.reply.Reply.TheVariants.{Pairs, NoMemory}, Rows.{Bytes, Columns}, Maps.{Map, is_scan}}
 use Rattle.mt_runs.specs.Scans.{Shown, IsLawful, IsLawfulScan}
 use Rattle.mt_walks.specs.Walked.{IsWithin}
-use Rattle.mt_operation.specs.declared.outcome.Outcome.{Outcome}
-use Rattle.mt_operation.specs.Operations.{OperationView}
-use Rattle.mt_state.specs.Views.{StateView, map_of}
-use Rattle.mt_state.specs.Promises.{IsAnswer}
+use Rattle.mt_operation.specs.{declared.outcome.Outcome.Outcome, Operations.OperationView}
+use Rattle.mt_state.specs.{Views.{StateView, map_of}, Promises.IsAnswer}
+use Rattle.std.specs.FinMap as pairs
 use Rattle.mt_state.proofs.scans.wrong_scans_are_refused.Goals as goal
 
 -- a scan's reply is one of two

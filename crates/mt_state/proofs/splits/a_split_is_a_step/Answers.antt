@@ -1,5 +1,4 @@
-use Rattle.mt_state.proofs.SplitSteps.{climb_done, start_done, stop_done, return_done}
-use Rattle.mt_state.proofs.Parting.{part_done, fill_done}
+use Rattle.mt_state.proofs.{SplitSteps.{climb_done, start_done, stop_done, return_done}, Parting.{part_done, fill_done}}
 use Rattle.mt_state.proofs.splits.a_split_is_a_step.Goals as goal
 
 pub returns-clause-starts : goal.returns-clause-starts

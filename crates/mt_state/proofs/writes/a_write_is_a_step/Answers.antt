@@ -1,7 +1,5 @@
 use Rattle.std.proofs.Common.{refl}
-use Rattle.mt_state.specs.Views.{shown}
-use Rattle.mt_state.proofs.Locking.{lock_done, unlock_done, judge_ready, judge_refused, publish_full}
-use Rattle.mt_state.proofs.Putting.{store_done, publish_done}
+use Rattle.mt_state.{specs.Views.shown, proofs.{Locking.{lock_done, unlock_done, judge_ready, judge_refused, publish_full}, Putting.{store_done, publish_done}}}
 use Rattle.mt_state.proofs.writes.a_write_is_a_step.Goals as goal
 
 pub returns-clause-locks : goal.returns-clause-locks

@@ -1,9 +1,6 @@
 -- The logs so far have crashed, and those that are left are as they were.
-use Rattle.std.proofs.Common.{◌≡◌, ℕ, ◌≤◌, length}
-use Rattle.std.specs.Prelude.{slice_get}
-use Rattle.mt_store_logs.specs.Lists.{EachBefore}
-use Rattle.mt_store_logs.specs.Crashes.{IsCrashedAs}
-use Rattle.mt_store_logs.specs.Places.{workers_of}
+use Rattle.std.{proofs.Common.{◌≡◌, ℕ, ◌≤◌, length}, specs.Prelude.slice_get}
+use Rattle.mt_store_logs.specs.{Lists.EachBefore, Crashes.IsCrashedAs, Places.workers_of}
 use Rattle.mt_store_logs.proofs.crashing.crash_logs.Given as goal
 
 abbrev pub invariant-loop-place : goal.invariant-loop-place

@@ -1,10 +1,7 @@
 -- A crash may leave the images so far.
-use Rattle.std.proofs.Common.{◌≡◌, ℕ, ◌<◌, Some, Vec}
-use Rattle.std.specs.Prelude.{slice_get}
-use Rattle.std.specs.declared.alloc.Global.{Global}
+use Rattle.std.{proofs.Common.{◌≡◌, ℕ, ◌<◌, Some, Vec}, specs.{Prelude.slice_get, declared.alloc.Global.Global}}
 use Rattle.mt_disk.specs.declared.mem.MemDisk.{MemDisk}
-use Rattle.mt_store_logs.specs.declared.store_log.StoreLog.{StoreLog}
-use Rattle.mt_store_logs.specs.Crashes.{MayLeaveLog}
+use Rattle.mt_store_logs.specs.{declared.store_log.StoreLog.StoreLog, Crashes.MayLeaveLog}
 use Rattle.mt_store_logs.proofs.crashing.may_leave.Given as goal
 
 abbrev pub invariant-loop-place : goal.invariant-loop-place

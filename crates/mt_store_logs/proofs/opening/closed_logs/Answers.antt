@@ -1,9 +1,7 @@
 -- One log more is closed.
-use Rattle.std.proofs.Common.{◌≡◌, ◌∙◌, ◌++◌, ◌∷◌, [], length, None, rules, sym, ap, subst, arith}
-use Rattle.std.proofs.lemmas.List.{length-append}
+use Rattle.std.proofs.{Common.{◌≡◌, ◌∙◌, ◌++◌, ◌∷◌, [], length, None, rules, sym, ap, subst, arith}, lemmas.List.length-append}
 use Rattle.mt_recover.specs.declared.resuming.LogSlot.TheVariants.{Closed}
-use Rattle.mt_store_logs.specs.Places.{log_with, closed_from, closed_on}
-use Rattle.mt_store_logs.proofs.Closed.{closed_more}
+use Rattle.mt_store_logs.{specs.Places.{log_with, closed_from, closed_on}, proofs.Closed.closed_more}
 use Rattle.mt_store_logs.proofs.opening.closed_logs.Goals as goal
 
 pub loop-disk-preserved : goal.loop-disk-preserved

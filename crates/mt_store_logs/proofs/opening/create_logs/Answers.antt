@@ -1,6 +1,5 @@
 -- One log more is made, or was not.
-use Rattle.std.proofs.Common.{◌∙◌, length, sym, subst}
-use Rattle.std.specs.Prelude.{slice_set}
+use Rattle.std.{proofs.Common.{◌∙◌, length, sym, subst}, specs.Prelude.slice_set}
 use Rattle.mt_store_logs.specs.Places.{MakesLog, FailsToMakeLog, StopsMaking}
 use Rattle.mt_store_logs.proofs.Loops.{same_workers, one_more, still_left, same_len, walked, stopped, next_was}
 use Rattle.mt_store_logs.proofs.opening.create_logs.Goals as goal

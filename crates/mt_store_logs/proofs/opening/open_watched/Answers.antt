@@ -1,9 +1,7 @@
 -- One log more is open, and its front stands behind the others; or it was not opened.
-use Rattle.std.specs.Prelude.{slice_set}
-use Rattle.std.proofs.Common.{◌∙◌, ◌+◌, ◌++◌, ◌∷◌, [], sym, subst, arith}
+use Rattle.std.{specs.Prelude.slice_set, proofs.Common.{◌∙◌, ◌+◌, ◌++◌, ◌∷◌, [], sym, subst, arith}}
 use Rattle.mt_log.specs.declared.batch.Front.{Front}
-use Rattle.mt_store_logs.specs.Lists.{EachBefore}
-use Rattle.mt_store_logs.specs.Places.{OpensLog, FailsToOpenLog, OpensAs, StopsOpening}
+use Rattle.mt_store_logs.specs.{Lists.EachBefore, Places.{OpensLog, FailsToOpenLog, OpensAs, StopsOpening}}
 use Rattle.mt_store_logs.proofs.Loops.{same_workers, one_more, still_left, same_len, walked, stopped, next_was, get_more, get_last}
 use Rattle.mt_store_logs.proofs.opening.open_watched.Goals as goal
 

@@ -1,8 +1,6 @@
 -- The logs so far are open, and gave the fronts so far; those that are left are as they were, and there is room for their fronts.
-use Rattle.std.proofs.Common.{◌≡◌, ℕ, ◌≤◌, length}
-use Rattle.std.specs.Prelude.{slice_get, vec_capacity}
-use Rattle.mt_store_logs.specs.Lists.{EachBefore}
-use Rattle.mt_store_logs.specs.Places.{workers_of, OpensAs}
+use Rattle.std.{proofs.Common.{◌≡◌, ℕ, ◌≤◌, length}, specs.Prelude.{slice_get, vec_capacity}}
+use Rattle.mt_store_logs.specs.{Lists.EachBefore, Places.{workers_of, OpensAs}}
 use Rattle.mt_store_logs.proofs.opening.open_watched.Given as goal
 
 abbrev pub invariant-loop-place : goal.invariant-loop-place

@@ -1,10 +1,8 @@
 -- The logs that were opened end by the last step of them all.
-use Rattle.std.proofs.Common.{inr, map, arith}
-use Rattle.std.proofs.lemmas.Result.{err_from_is_err_and}
-use Rattle.mt_store_logs.specs.Recovers.{IsRecoveredOf}
+use Rattle.std.proofs.{Common.{inr, map, arith}, lemmas.Result.err_from_is_err_and}
+use Rattle.mt_store_logs.{specs.Recovers.IsRecoveredOf, proofs.ForResumes.{last_within, are_open_upto, resumes_last, cutoff_within}}
 use Rattle.mt_log.specs.Contents.{contents_of}
 use Rattle.mt_rows.specs.TenantPairs.{pairs_of}
-use Rattle.mt_store_logs.proofs.ForResumes.{last_within, are_open_upto, resumes_last, cutoff_within}
 use Rattle.mt_store_logs.proofs.recovering.recover_watched.Goals as goal
 
 pub resume_logs-requires-clause-open : goal.resume_logs-requires-clause-open

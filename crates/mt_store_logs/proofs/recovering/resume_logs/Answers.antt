@@ -1,8 +1,6 @@
 -- One log more has its resume batch, or has it not for certain.
-use Rattle.std.proofs.Common.{◌∙◌, refl, sym, subst}
-use Rattle.std.specs.Prelude.{slice_index_or, slice_set}
-use Rattle.mt_store_logs.specs.declared.store_log.StoreLog.{StoreLog}
-use Rattle.mt_store_logs.specs.Recovers.{ResumesLog, FailsToResumeLog, StopsResuming}
+use Rattle.std.{proofs.Common.{◌∙◌, refl, sym, subst}, specs.Prelude.{slice_index_or, slice_set}}
+use Rattle.mt_store_logs.specs.{declared.store_log.StoreLog.StoreLog, Recovers.{ResumesLog, FailsToResumeLog, StopsResuming}}
 use Rattle.mt_store_logs.proofs.Loops.{same_workers, one_more, still_left, same_len, walked, stopped, next_was}
 use Rattle.mt_store_logs.proofs.recovering.resume_logs.Goals as goal
 

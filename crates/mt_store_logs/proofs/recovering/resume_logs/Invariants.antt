@@ -1,9 +1,6 @@
 -- The logs so far have their resume batches, and those that are left are as they were.
-use Rattle.std.proofs.Common.{◌≡◌, ℕ, ◌≤◌, length}
-use Rattle.std.specs.Prelude.{slice_get}
-use Rattle.mt_store_logs.specs.Lists.{EachBefore}
-use Rattle.mt_store_logs.specs.Recovers.{ResumesLog}
-use Rattle.mt_store_logs.specs.Places.{workers_of}
+use Rattle.std.{proofs.Common.{◌≡◌, ℕ, ◌≤◌, length}, specs.Prelude.slice_get}
+use Rattle.mt_store_logs.specs.{Lists.EachBefore, Recovers.ResumesLog, Places.workers_of}
 use Rattle.mt_store_logs.proofs.recovering.resume_logs.Given as goal
 
 abbrev pub invariant-loop-place : goal.invariant-loop-place

@@ -1,10 +1,7 @@
 -- One log more is in order, or is not.
-use Rattle.std.proofs.Common.{◌≡◌, ◌∙◌, ◌<◌, ◌≤◌, ⊎_elim, true≢false, Some, refl, sym, ap, arith}
+use Rattle.std.proofs.{Common.{◌≡◌, ◌∙◌, ◌<◌, ◌≤◌, ⊎_elim, true≢false, Some, refl, sym, ap, arith}, lemmas.Option.same_Some, Math.Nat.eq-or-lt_of_le}
 use Rattle.std.specs.Prelude.{slice_get}
-use Rattle.std.proofs.lemmas.Option.{same_Some}
-use Rattle.std.proofs.Math.Nat.{eq-or-lt_of_le}
-use Rattle.mt_store_logs.specs.declared.store_log.StoreLog.{StoreLog}
-use Rattle.mt_store_logs.proofs.Loops.{read_or, get_within}
+use Rattle.mt_store_logs.{specs.declared.store_log.StoreLog.StoreLog, proofs.Loops.{read_or, get_within}}
 use Rattle.mt_stored.proofs.stores.are_in_order.Goals as goal
 
 pub returns-then-from-place : goal.returns-then-from-place

@@ -1,11 +1,9 @@
-use Rattle.std.proofs.Common.{◌≡◌, ◌≢◌, ◌<◌, List, ℕ, ◌+◌, ◌≤◌, ◌⊎◌, ◌++◌, length, take, drop, sym, ap, subst, ◌∙◌, Bor, arith, inr}
-use Rattle.std.proofs.lemmas.Bool.{eqb-false}
+use Rattle.std.proofs.{Common.{◌≡◌, ◌≢◌, ◌<◌, List, ℕ, ◌+◌, ◌≤◌, ◌⊎◌, ◌++◌, length, take, drop, sym, ap, subst, ◌∙◌, Bor, arith, inr}, lemmas.Bool.eqb-false}
 use Rattle.std.proofs.lemmas.List.{take_rest, length-append, length-take}
 use Rattle.mt_streams.specs.Failures.{Failed}
-use Rattle.mt_streams.proofs.StreamLemmas.{Appends-trans, moves_front, kept_appends}
-use Rattle.mt_streams.proofs.FailureLemmas.{NoFewer-trans, then-Failed, one_turn}
-use Rattle.mt_streams.proofs.writing.write_whole.Goals as goal
+use Rattle.mt_streams.proofs.{StreamLemmas.{Appends-trans, moves_front, kept_appends}, FailureLemmas.{NoFewer-trans, then-Failed, one_turn}}
 use Rattle.mt_streams.proofs.writing.write_whole.Goals.{in-Ok, in-Err+else-ne}
+use Rattle.mt_streams.proofs.writing.write_whole.Goals as goal
 
 pub loop-preserved : goal.loop-preserved
 loop-preserved g c =

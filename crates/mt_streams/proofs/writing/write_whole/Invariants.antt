@@ -1,5 +1,4 @@
-use Rattle.std.proofs.Common.{◌≡◌, ◌≤◌, ◌⊎◌, ℕ, List, ◌++◌, length}
-use Rattle.std.specs.Io.KnownBytes.{Appends}
+use Rattle.std.{proofs.Common.{◌≡◌, ◌≤◌, ◌⊎◌, ℕ, List, ◌++◌, length}, specs.Io.KnownBytes.Appends}
 use Rattle.mt_streams.specs.Failures.{Failed, NoFewer}
 use Rattle.mt_streams.proofs.writing.write_whole.Given as goal
 

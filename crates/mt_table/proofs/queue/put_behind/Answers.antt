@@ -1,7 +1,6 @@
 -- Two links of one seat, one behind the other.
 use Rattle.std.proofs.Common.{sym}
-use Rattle.mt_table.proofs.Places.{written_room}
-use Rattle.mt_table.proofs.Links.{put_behind_seat}
+use Rattle.mt_table.proofs.{Places.written_room, Links.put_behind_seat}
 use Rattle.mt_table.proofs.queue.put_behind.Goals as goal
 
 pub returns-in-Some : goal.returns-in-Some

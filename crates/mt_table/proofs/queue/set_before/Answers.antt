@@ -1,6 +1,5 @@
 use Rattle.std.proofs.Common.{sym}
-use Rattle.mt_table.proofs.Places.{written_room}
-use Rattle.mt_table.proofs.Links.{before_named}
+use Rattle.mt_table.proofs.{Places.written_room, Links.before_named}
 use Rattle.mt_table.proofs.queue.set_before.Goals as goal
 
 pub returns-in-Some-get_mut : goal.returns-in-Some-get_mut

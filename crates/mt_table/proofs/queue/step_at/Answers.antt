@@ -1,11 +1,7 @@
 -- A step made in its seat, or none: what the body gave, as the call of it says.
-use Rattle.std.proofs.Common.{set, Some, refl, ap, subst, ◌∙◌}
-use Rattle.std.specs.Prelude.{◌==◌}
-use Rattle.std.specs.Fn.{CalledAtMut}
-use Rattle.mt_operation.specs.declared.operation.Operation.{Operation}
-use Rattle.mt_table.specs.Seats.{with_operation}
-use Rattle.mt_operation.specs.Operations.{counted}
-use Rattle.mt_table.proofs.Places.{written_room}
+use Rattle.std.{proofs.Common.{set, Some, refl, ap, subst, ◌∙◌}, specs.{Prelude.{◌==◌}, Fn.CalledAtMut}}
+use Rattle.mt_operation.specs.{declared.operation.Operation.Operation, Operations.counted}
+use Rattle.mt_table.{specs.Seats.with_operation, proofs.Places.written_room}
 use Rattle.mt_table.proofs.queue.step_at.Goals as goal
 
 pub returns-in-Step : goal.returns-in-Step

@@ -1,6 +1,5 @@
 -- Entries before the middle have no later step than it, and those behind it no earlier one.
-use Rattle.std.proofs.Common.{◌+◌, ◌-◌, ◌/◌, ◌<◌, length, refl, arith}
-use Rattle.std.proofs.lemmas.Option.{slice_get_read}
+use Rattle.std.proofs.{Common.{◌+◌, ◌-◌, ◌/◌, ◌<◌, length, refl, arith}, lemmas.Option.slice_get_read}
 use Rattle.mt_tape.proofs.SearchLaws.{in_turn}
 use Rattle.mt_tape.proofs.tape.count_upto.Goals as goal
 

@@ -1,6 +1,5 @@
 -- What is before has a step up to this one, and what is behind a later one.
-use Rattle.std.proofs.Common.{◌≡◌, ◌<◌, ◌≤◌, ◌-◌, ℕ, Some, length}
-use Rattle.std.specs.Prelude.{slice_get}
+use Rattle.std.{proofs.Common.{◌≡◌, ◌<◌, ◌≤◌, ◌-◌, ℕ, Some, length}, specs.Prelude.slice_get}
 use Rattle.mt_tape.specs.declared.entry.Entry.{Entry}
 use Rattle.mt_tape.proofs.tape.count_upto.Given as goal
 

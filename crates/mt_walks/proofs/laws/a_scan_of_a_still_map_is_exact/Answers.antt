@@ -1,5 +1,4 @@
-use Rattle.mt_walks.specs.Walked.{IsWithin}
-use Rattle.mt_walks.proofs.Exact.{exact}
+use Rattle.mt_walks.{specs.Walked.IsWithin, proofs.Exact.exact}
 use Rattle.mt_walks.proofs.laws.a_scan_of_a_still_map_is_exact.Goals as goal
 
 pub returns : goal.returns

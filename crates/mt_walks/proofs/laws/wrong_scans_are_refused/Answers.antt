@@ -1,10 +1,7 @@
-use Rattle.mt_walks.specs.Walked.{IsWithin}
-use Rattle.std.proofs.Common.{◌≡◌, ℕ, [], Some, IsSome, refl, sym, ap, subst, ◌∙◌, arith, true}
-use Rattle.std.proofs.lemmas.List.Elements.{All-contains}
+use Rattle.mt_walks.{specs.Walked.IsWithin, proofs.Walks.not_twice}
+use Rattle.std.proofs.{Common.{◌≡◌, ℕ, [], Some, IsSome, refl, sym, ap, subst, ◌∙◌, arith, true}, lemmas.List.Elements.All-contains}
+use Rattle.mt_rows.specs.{Rows.{Bytes, Columns, shown}, Maps.is_walked}
 use Rattle.std.specs.FinMap as pairs
-use Rattle.mt_rows.specs.Rows.{Bytes, Columns, shown}
-use Rattle.mt_rows.specs.Maps.{is_walked}
-use Rattle.mt_walks.proofs.Walks.{not_twice}
 use Rattle.mt_walks.proofs.laws.wrong_scans_are_refused.Goals as goal
 
 pub returns-clause-too_many : goal.returns-clause-too_many

@@ -1,7 +1,6 @@
-use Rattle.std.proofs.Common.{◌≡◌, inl, inr, Some, sym, ◌∙◌}
-use Rattle.std.proofs.lemmas.List.Elements.{All-contains}
-use Rattle.std.specs.FinMap as pairs
+use Rattle.std.proofs.{Common.{◌≡◌, inl, inr, Some, sym, ◌∙◌}, lemmas.List.Elements.All-contains}
 use Rattle.mt_rows.specs.Rows.{Bytes, Columns}
+use Rattle.std.specs.FinMap as pairs
 use Rattle.mt_walks.proofs.laws.wrong_walks_are_refused.Goals as goal
 
 pub returns-clause-missed : goal.returns-clause-missed

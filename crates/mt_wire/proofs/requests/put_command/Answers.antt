@@ -1,7 +1,6 @@
 -- where a field can't be written, what was there before stands at the front
 use Rattle.std.proofs.Common.{[], ◌∷◌, ◌++◌, ◌∙◌}
-use Rattle.mt_fields.specs.Fields.{string}
-use Rattle.mt_fields.proofs.Lists.{front_then, front_of, written_two}
+use Rattle.mt_fields.{specs.Fields.string, proofs.Lists.{front_then, front_of, written_two}}
 use Rattle.mt_wire.proofs.requests.put_command.Goals as goal
 
 pub returns-in_err-put_string-in-Get-clause-front : goal.returns-in_err-put_string-in-Get-clause-front

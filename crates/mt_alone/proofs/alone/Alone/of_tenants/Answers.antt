@@ -1,6 +1,5 @@
 use Rattle.std.proofs.Common.{None, ap, ◌∙◌}
-use Rattle.mt_alone.specs.Callers.{maps_of, maps_in}
-use Rattle.mt_alone.proofs.Callers.{maps_new}
+use Rattle.mt_alone.{specs.Callers.{maps_of, maps_in}, proofs.Callers.maps_new}
 use Rattle.mt_alone.proofs.alone.Alone.of_tenants.Goals as goal
 
 pub returns : goal.returns

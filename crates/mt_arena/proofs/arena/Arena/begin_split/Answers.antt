@@ -1,8 +1,5 @@
 use Rattle.std.proofs.Common.{◌≡◌, ap, length, arith}
-use Rattle.mt_arena.specs.NodeView.{node_at}
-use Rattle.mt_arena.specs.Arena.{ArenaView}
-use Rattle.mt_arena.proofs.Pairs.{read}
-use Rattle.mt_arena.proofs.Growing.{sound_half, step_half, content_half}
+use Rattle.mt_arena.{specs.{NodeView.node_at, Arena.ArenaView}, proofs.{Pairs.read, Growing.{sound_half, step_half, content_half}}}
 use Rattle.mt_arena.proofs.arena.Arena.begin_split.Goals as goal
 
 pub invariant_of-self : goal.invariant_of-self

@@ -1,15 +1,9 @@
 use Rattle.std.proofs.Common.{◌≡◌, ◌<◌, ℕ, length, refl, sym, ap, ◌∙◌, arith}
-use Rattle.mt_arena.specs.NodeView.{node_at}
-use Rattle.mt_arena.specs.declared.tree.Tree.{Tree}
-use Rattle.mt_arena.specs.Forests.{tree_at}
-use Rattle.mt_arena.specs.Arena.{ArenaView}
-use Rattle.mt_arena.specs.Removals.{MayDropLayer}
-use Rattle.mt_arena.proofs.Pairs.{read}
-use Rattle.mt_arena.proofs.Topping.{read_tree}
-use Rattle.mt_arena.proofs.Retiring.{retired_few}
+use Rattle.mt_arena.specs.{NodeView.node_at, declared.tree.Tree.Tree, Forests.tree_at, Arena.ArenaView, Removals.MayDropLayer}
+use Rattle.mt_arena.proofs.{Pairs.read, Topping.read_tree, Retiring.retired_few}
 use Rattle.mt_arena.proofs.DroppingLayer.{the_link, same_link, lr, lu, live_root, apart, sound_dropped_layer, step_dropped_layer, content_dropped_layer, node_dropped_layer, root_dropped_layer, others_dropped_layer}
-use Rattle.mt_arena.proofs.arena.Arena.drop_layer.Goals as goal
 use Rattle.mt_arena.proofs.arena.Arena.drop_layer.Goals.{After-link_at-lower, After-index-2, After-index_mut}
+use Rattle.mt_arena.proofs.arena.Arena.drop_layer.Goals as goal
 
 -- once the link is read: the arena as it was, the tree to which the slot leads, and that it may be taken out
 module _ (c : After-link_at-lower) where

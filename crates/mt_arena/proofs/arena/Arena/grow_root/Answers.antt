@@ -1,11 +1,7 @@
 use Rattle.std.proofs.Common.{◌≡◌, ap, ◌∙◌, length, arith}
-use Rattle.mt_arena.specs.NodeView.{NodeView}
-use Rattle.mt_arena.specs.Arena.{ArenaView}
-use Rattle.mt_arena.specs.Accesses.{at, tree_of}
+use Rattle.mt_arena.specs.{NodeView.NodeView, Arena.ArenaView, Accesses.{at, tree_of}}
+use Rattle.mt_arena.proofs.{Pairs.read, Heights.level_few, Topping.{read_tree, sound_grown, step_grown, content_grown, settled_grown}}
 use Rattle.mt_interior.specs.Fences.{end_of}
-use Rattle.mt_arena.proofs.Pairs.{read}
-use Rattle.mt_arena.proofs.Heights.{level_few}
-use Rattle.mt_arena.proofs.Topping.{read_tree, sound_grown, step_grown, content_grown, settled_grown}
 use Rattle.mt_arena.proofs.arena.Arena.grow_root.Goals as goal
 
 pub invariant_of-self : goal.invariant_of-self

@@ -1,5 +1,4 @@
-use Rattle.mt_arena.specs.Arena.{ArenaView}
-use Rattle.mt_arena.proofs.Inserting.{apart_j, is_new, sound_right, step_right, content_right}
+use Rattle.mt_arena.{specs.Arena.ArenaView, proofs.Inserting.{apart_j, is_new, sound_right, step_right, content_right}}
 use Rattle.mt_arena.proofs.arena.Arena.insert_child.Goals as goal
 
 pub put_child-requires-clause-differ : goal.put_child-requires-clause-differ

@@ -1,8 +1,5 @@
 use Rattle.std.proofs.Common.{ap, ◌∙◌}
-use Rattle.mt_arena.specs.NodeView.{NodeView}
-use Rattle.mt_arena.specs.Layers.{slot_at}
-use Rattle.mt_arena.proofs.Pairs.{read}
-use Rattle.mt_arena.proofs.HeldOtherwise.{sound_linked, step_linked, content_linked}
+use Rattle.mt_arena.{specs.{NodeView.NodeView, Layers.slot_at}, proofs.{Pairs.read, HeldOtherwise.{sound_linked, step_linked, content_linked}}}
 use Rattle.mt_arena.proofs.arena.Arena.link.Goals as goal
 
 pub invariant_of-self : goal.invariant_of-self

@@ -1,7 +1,5 @@
 use Rattle.std.proofs.Common.{refl}
-use Rattle.mt_arena.proofs.Pairs.{read}
-use Rattle.mt_arena.proofs.Locks.{sound_locked, step_locked}
-use Rattle.mt_arena.proofs.ContentQuiet.{content-set}
+use Rattle.mt_arena.proofs.{Pairs.read, Locks.{sound_locked, step_locked}, ContentQuiet.content-set}
 use Rattle.mt_arena.proofs.arena.Arena.lock.Goals as goal
 
 pub invariant_of-self : goal.invariant_of-self

@@ -1,7 +1,5 @@
-use Rattle.std.proofs.Common.{◌≡◌, ◌+◌, refl, ap, length, arith}
-use Rattle.std.specs.Vec.{vec_len}
-use Rattle.mt_arena.specs.Arena.{ArenaView}
-use Rattle.mt_arena.proofs.MakingLayer.{sound_layer, step_layer, content_layer}
+use Rattle.std.{proofs.Common.{◌≡◌, ◌+◌, refl, ap, length, arith}, specs.Vec.vec_len}
+use Rattle.mt_arena.{specs.Arena.ArenaView, proofs.MakingLayer.{sound_layer, step_layer, content_layer}}
 use Rattle.mt_arena.proofs.arena.Arena.make_layer.Goals as goal
 
 pub invariant_of-self : goal.invariant_of-self

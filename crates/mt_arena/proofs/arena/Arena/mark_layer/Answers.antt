@@ -1,11 +1,6 @@
 use Rattle.std.proofs.Common.{◌≡◌, refl, ap, ◌∙◌}
-use Rattle.mt_arena.specs.NodeView.{NodeView}
-use Rattle.mt_arena.specs.Layers.{slot_at}
-use Rattle.mt_arena.specs.Forests.{tree_at}
-use Rattle.mt_arena.specs.Arena.{ArenaView}
-use Rattle.mt_arena.proofs.Pairs.{read}
-use Rattle.mt_arena.proofs.Topping.{read_tree}
-use Rattle.mt_arena.proofs.GoingLinked.{lt, sound_live, step_live, content_live}
+use Rattle.mt_arena.specs.{NodeView.NodeView, Layers.slot_at, Forests.tree_at, Arena.ArenaView}
+use Rattle.mt_arena.proofs.{Pairs.read, Topping.read_tree, GoingLinked.{lt, sound_live, step_live, content_live}}
 use Rattle.mt_arena.proofs.arena.Arena.mark_layer.Goals as goal
 
 pub invariant_of-self : goal.invariant_of-self

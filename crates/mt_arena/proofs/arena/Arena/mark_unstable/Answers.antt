@@ -1,8 +1,5 @@
 use Rattle.std.proofs.Common.{ap, ◌∙◌}
-use Rattle.mt_arena.specs.NodeView.{NodeView}
-use Rattle.mt_arena.specs.Layers.{slot_at}
-use Rattle.mt_arena.proofs.Pairs.{read}
-use Rattle.mt_arena.proofs.HeldOtherwise.{sound_unsettled, step_unsettled, content_unsettled}
+use Rattle.mt_arena.{specs.{NodeView.NodeView, Layers.slot_at}, proofs.{Pairs.read, HeldOtherwise.{sound_unsettled, step_unsettled, content_unsettled}}}
 use Rattle.mt_arena.proofs.arena.Arena.mark_unstable.Goals as goal
 
 pub invariant_of-self : goal.invariant_of-self

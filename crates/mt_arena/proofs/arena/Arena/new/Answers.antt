@@ -1,9 +1,6 @@
 -- the invariant of an arena with one tree, by the lists that were made
-use Rattle.std.proofs.Common.{◌≡◌, ◌≤◌, [], ◌∷◌, arith, rules}
-use Rattle.std.specs.Vec.{vec_capacity}
-use Rattle.mt_arena.specs.Edits.{fresh_root}
-use Rattle.mt_arena.specs.Accesses.{top_tree}
-use Rattle.mt_arena.proofs.Start.{sound_first}
+use Rattle.std.{proofs.Common.{◌≡◌, ◌≤◌, [], ◌∷◌, arith, rules}, specs.Vec.vec_capacity}
+use Rattle.mt_arena.{specs.{Edits.fresh_root, Accesses.top_tree}, proofs.Start.sound_first}
 use Rattle.mt_arena.proofs.arena.Arena.new.Goals as goal
 
 pub invariant_of-result : goal.invariant_of-result

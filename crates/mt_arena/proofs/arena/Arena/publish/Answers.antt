@@ -1,5 +1,4 @@
-use Rattle.mt_arena.proofs.Pairs.{read}
-use Rattle.mt_arena.proofs.Slots.{sound_published, content_published, step_slots}
+use Rattle.mt_arena.proofs.{Pairs.read, Slots.{sound_published, content_published, step_slots}}
 use Rattle.mt_arena.proofs.arena.Arena.publish.Goals as goal
 
 pub invariant_of-self : goal.invariant_of-self

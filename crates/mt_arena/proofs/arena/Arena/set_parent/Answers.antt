@@ -1,7 +1,5 @@
 use Rattle.std.proofs.Common.{refl}
-use Rattle.mt_arena.proofs.Pairs.{read}
-use Rattle.mt_arena.proofs.ContentQuiet.{content-set}
-use Rattle.mt_arena.proofs.Pointing.{sound_parent, step_parent}
+use Rattle.mt_arena.proofs.{Pairs.read, ContentQuiet.content-set, Pointing.{sound_parent, step_parent}}
 use Rattle.mt_arena.proofs.arena.Arena.set_parent.Goals as goal
 
 pub invariant_of-self : goal.invariant_of-self

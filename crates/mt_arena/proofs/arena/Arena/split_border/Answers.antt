@@ -1,7 +1,5 @@
 use Rattle.std.proofs.Common.{ap, sym, ◌∙◌, length, rules}
-use Rattle.mt_arena.proofs.Halving.{sound_parted, step_parted, content_with, content_without}
-use Rattle.mt_arena.specs.Arena.{ArenaView}
-use Rattle.mt_arena.proofs.Two.{written}
+use Rattle.mt_arena.{proofs.{Halving.{sound_parted, step_parted, content_with, content_without}, Two.written}, specs.Arena.ArenaView}
 use Rattle.mt_arena.proofs.arena.Arena.split_border.Goals as goal
 
 pub halve-requires-clause-missing : goal.halve-requires-clause-missing

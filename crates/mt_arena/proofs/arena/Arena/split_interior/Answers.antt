@@ -1,7 +1,5 @@
 use Rattle.std.proofs.Common.{refl, ap, length, arith}
-use Rattle.mt_arena.specs.Arena.{ArenaView}
-use Rattle.mt_arena.proofs.Inserting.{apart_j, is_new}
-use Rattle.mt_arena.proofs.Parting.{sound_parts, step_parts, content_parts}
+use Rattle.mt_arena.{specs.Arena.ArenaView, proofs.{Inserting.{apart_j, is_new}, Parting.{sound_parts, step_parts, content_parts}}}
 use Rattle.mt_arena.proofs.arena.Arena.split_interior.Goals as goal
 
 pub invariant_of-self : goal.invariant_of-self

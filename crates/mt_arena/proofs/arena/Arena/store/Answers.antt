@@ -1,8 +1,5 @@
 use Rattle.std.proofs.Common.{ap, ◌∙◌}
-use Rattle.mt_arena.specs.NodeView.{NodeView}
-use Rattle.mt_arena.specs.Layers.{slot_at}
-use Rattle.mt_arena.proofs.Pairs.{read}
-use Rattle.mt_arena.proofs.Slots.{sound_stored, content_stored, step_slots}
+use Rattle.mt_arena.{specs.{NodeView.NodeView, Layers.slot_at}, proofs.{Pairs.read, Slots.{sound_stored, content_stored, step_slots}}}
 use Rattle.mt_arena.proofs.arena.Arena.store.Goals as goal
 
 pub invariant_of-self : goal.invariant_of-self

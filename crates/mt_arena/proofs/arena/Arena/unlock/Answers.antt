@@ -1,7 +1,5 @@
 use Rattle.std.proofs.Common.{refl}
-use Rattle.mt_arena.proofs.Pairs.{read}
-use Rattle.mt_arena.proofs.ContentQuiet.{content-set}
-use Rattle.mt_arena.proofs.Locks.{sound_unlocked, step_unlocked}
+use Rattle.mt_arena.proofs.{Pairs.read, ContentQuiet.content-set, Locks.{sound_unlocked, step_unlocked}}
 use Rattle.mt_arena.proofs.arena.Arena.unlock.Goals as goal
 
 pub invariant_of-self : goal.invariant_of-self

@@ -1,10 +1,8 @@
 -- the right half has a slot, since the cut is no nearer to the end than three
-use Rattle.std.proofs.Common.{◌≡◌, length, ap, arith, rules}
-use Rattle.std.proofs.lemmas.List.{length-append}
-use Rattle.mt_border.specs.Node.{Node, entries_of}
-use Rattle.mt_border.proofs.ContentsEdits.{length-publish}
-use Rattle.mt_arena.proofs.node.Node.split.Goals as goal
+use Rattle.std.proofs.{Common.{◌≡◌, length, ap, arith, rules}, lemmas.List.length-append}
+use Rattle.mt_border.{specs.Node.{Node, entries_of}, proofs.ContentsEdits.length-publish}
 use Rattle.mt_arena.proofs.node.Node.split.Goals.{in-Some, in-None}
+use Rattle.mt_arena.proofs.node.Node.split.Goals as goal
 
 pub returns-clause-some_right : goal.returns-clause-some_right
 returns-clause-some_right c =

@@ -1,6 +1,5 @@
 -- A take that gives an answer is followed by a tidying with the room that was handed in, for `BookDesk::take`.
-use Rattle.std.proofs.Common.{◌-◌, ap}
-use Rattle.std.specs.Prelude.{vec_len, vec_capacity}
+use Rattle.std.{proofs.Common.{◌-◌, ap}, specs.Prelude.{vec_len, vec_capacity}}
 use Rattle.mt_book.proofs.shared.BookDesk.take.Goals as goal
 
 pub returns-in-Ok-clause-does : goal.returns-in-Ok-clause-does

@@ -1,7 +1,6 @@
 -- the entries stay in order without the slot's, which is the one of its key
 use Rattle.std.proofs.Common.{◌<◌, length, ap, sym, arith}
-use Rattle.mt_border.specs.Node.{entries_of}
-use Rattle.mt_border.proofs.Edits.{border_remove, without_at}
+use Rattle.mt_border.{specs.Node.entries_of, proofs.Edits.{border_remove, without_at}}
 use Rattle.mt_border.proofs.border.Border.drop_key.Goals as goal
 
 pub invariant_of-self : goal.invariant_of-self

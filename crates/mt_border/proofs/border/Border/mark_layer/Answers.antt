@@ -1,7 +1,6 @@
 -- the entries stay in order, and the slot alone changes: its pair is a link
 use Rattle.std.proofs.Common.{◌<◌, length, ap, ◌∙◌}
-use Rattle.mt_border.specs.Node.{entries_of}
-use Rattle.mt_border.proofs.Writes.{slot_within, held_is, border_written, rewrites_written}
+use Rattle.mt_border.{specs.Node.entries_of, proofs.Writes.{slot_within, held_is, border_written, rewrites_written}}
 use Rattle.mt_border.proofs.border.Border.mark_layer.Goals as goal
 
 pub bounds-deref_mut-slot : goal.bounds-deref_mut-slot

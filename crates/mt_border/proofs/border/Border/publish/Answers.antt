@@ -1,7 +1,6 @@
 -- the entries stay in order with the new one at its place
 use Rattle.std.proofs.Common.{ap}
-use Rattle.mt_border.specs.Node.{entries_of}
-use Rattle.mt_border.proofs.Edits.{border_with_entry}
+use Rattle.mt_border.{specs.Node.entries_of, proofs.Edits.border_with_entry}
 use Rattle.mt_border.proofs.border.Border.publish.Goals as goal
 
 pub invariant_of-self : goal.invariant_of-self

@@ -1,13 +1,7 @@
 -- each side is a part of the entries, cut where their slices reach the separator
-use Rattle.std.proofs.Common.{refl, ◌≡◌, length, ap, arith}
-use Rattle.std.proofs.lemmas.List.{length-take, length-drop, length-map}
-use Rattle.mt_border.specs.declared.entry.Entry.{Entry}
-use Rattle.mt_border.specs.Entries.{IsMissing}
-use Rattle.mt_border.specs.Node.{entries_of}
-use Rattle.mt_border.proofs.Edits.{border_take, border_drop}
-use Rattle.mt_border.proofs.Cuts.{marks_of, least_left, least_right}
-use Rattle.mt_border.proofs.Counts.{slices_fall, slices_count}
-use Rattle.mt_border.proofs.Parts.{parted_at}
+use Rattle.std.proofs.{Common.{refl, ◌≡◌, length, ap, arith}, lemmas.List.{length-take, length-drop, length-map}}
+use Rattle.mt_border.specs.{declared.entry.Entry.Entry, Entries.IsMissing, Node.entries_of}
+use Rattle.mt_border.proofs.{Edits.{border_take, border_drop}, Cuts.{marks_of, least_left, least_right}, Counts.{slices_fall, slices_count}, Parts.parted_at}
 use Rattle.mt_border.proofs.border.Border.split_without.Goals as goal
 
 pub count_below-keep-requires-clause-rises : goal.count_below-keep-requires-clause-rises

@@ -1,9 +1,7 @@
 -- the first row has the slices of the entries
-use Rattle.std.proofs.Common.{subst, count_by, ◌≡◌, ap, sym, ◌∙◌, arith}
-use Rattle.std.specs.Prelude.{nat_lt}
+use Rattle.std.{proofs.Common.{subst, count_by, ◌≡◌, ap, sym, ◌∙◌, arith}, specs.Prelude.nat_lt}
 use Rattle.mt_lists.specs.Rising.{NeverFalls}
-use Rattle.mt_border.specs.Entries.{slices}
-use Rattle.mt_border.proofs.RowEdits.{sizes-rows, slices-rows}
+use Rattle.mt_border.{specs.Entries.slices, proofs.RowEdits.{sizes-rows, slices-rows}}
 use Rattle.mt_border.proofs.slots.Slots.count_below.Goals as goal
 
 same : (c : goal.After-self) → slices c.args.self.now ≡ c.self.inside.slices

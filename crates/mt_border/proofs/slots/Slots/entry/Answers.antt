@@ -1,6 +1,5 @@
 -- what stands at a place of each row is the entry there
-use Rattle.std.proofs.Common.{◌<◌, length, arith}
-use Rattle.std.proofs.lemmas.List.{get_or_default}
+use Rattle.std.proofs.{Common.{◌<◌, length, arith}, lemmas.List.get_or_default}
 use Rattle.mt_border.proofs.RowEdits.{sizes-rows, read-rows}
 use Rattle.mt_border.proofs.slots.Slots.entry.Goals as goal
 

@@ -1,7 +1,6 @@
 -- the row of marks has those of the entries
 use Rattle.std.proofs.Common.{ap, sym, ◌∙◌}
-use Rattle.mt_border.specs.Entries.{marks}
-use Rattle.mt_border.proofs.RowEdits.{marks-rows}
+use Rattle.mt_border.{specs.Entries.marks, proofs.RowEdits.marks-rows}
 use Rattle.mt_border.proofs.slots.Slots.marks.Goals as goal
 
 pub returns : goal.returns

@@ -1,6 +1,5 @@
 -- the parts of the entry leave each row
-use Rattle.std.proofs.Common.{◌∙◌, arith}
-use Rattle.std.proofs.lemmas.List.{get_or_default}
+use Rattle.std.proofs.{Common.{◌∙◌, arith}, lemmas.List.get_or_default}
 use Rattle.mt_border.proofs.RowEdits.{sizes-rows, read-rows, remove-rows}
 use Rattle.mt_border.proofs.slots.Slots.remove.Goals as goal
 

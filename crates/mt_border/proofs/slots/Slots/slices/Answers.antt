@@ -1,7 +1,6 @@
 -- the row of slices has those of the entries
 use Rattle.std.proofs.Common.{ap, sym, ◌∙◌}
-use Rattle.mt_border.specs.Entries.{slices}
-use Rattle.mt_border.proofs.RowEdits.{slices-rows}
+use Rattle.mt_border.{specs.Entries.slices, proofs.RowEdits.slices-rows}
 use Rattle.mt_border.proofs.slots.Slots.slices.Goals as goal
 
 pub returns : goal.returns

@@ -1,10 +1,8 @@
 -- The pairs follow those before.
-use Rattle.std.proofs.Common.{◌≡◌, ◌++◌, length, refl, sym, ◌∙◌, ap, subst, append_assoc, length-append, arith}
+use Rattle.std.proofs.{Common.{◌≡◌, ◌++◌, length, refl, sym, ◌∙◌, ap, subst, append_assoc, length-append, arith}, lemmas.Grind.flat_map-append}
 use Rattle.std.specs.List.{flat_map}
-use Rattle.std.proofs.lemmas.Grind.{flat_map-append}
 use Rattle.mt_rows.specs.Rows.{Bytes}
-use Rattle.mt_checkpoint.specs.Format.{head_bytes, entry_bytes}
-use Rattle.mt_checkpoint.specs.Checkpoints.{IsBehindGate}
+use Rattle.mt_checkpoint.specs.{Format.{head_bytes, entry_bytes}, Checkpoints.IsBehindGate}
 use Rattle.mt_checkpoint.proofs.slot.Writer.add.Goals as goal
 
 pub returns-in-Ok-write_more-clause-ok : goal.returns-in-Ok-write_more-clause-ok

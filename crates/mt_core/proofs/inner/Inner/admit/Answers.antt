@@ -1,9 +1,7 @@
 -- That a begin keeps the invariant, and what it tells, for `Inner::admit`.
-use Rattle.std.proofs.Common.{◌≡◌, false, true, Err, ap, refl, ◌∙◌}
-use Rattle.std.proofs.lemmas.Result.{err_from_is_err_and}
+use Rattle.std.proofs.{Common.{◌≡◌, false, true, Err, ap, refl, ◌∙◌}, lemmas.Result.err_from_is_err_and}
 use Rattle.mt_state.specs.Views.{shown}
-use Rattle.mt_core.specs.States.{core_of}
-use Rattle.mt_core.proofs.Beginning.{begun_keeps, begun_tells, refused_for_memory, begun_takes}
+use Rattle.mt_core.{specs.States.core_of, proofs.Beginning.{begun_keeps, begun_tells, refused_for_memory, begun_takes}}
 use Rattle.mt_core.proofs.inner.Inner.admit.Goals as goal
 
 pub invariant_of-self-2 : goal.invariant_of-self-2

@@ -1,9 +1,7 @@
 -- That a cancelling keeps the invariant, and what it answers, for `Inner::cancel`.
 use Rattle.std.proofs.Common.{rules, refl, ap, ◌∙◌}
 use Rattle.mt_state.specs.Views.{shown}
-use Rattle.mt_core.specs.States.{core_of}
-use Rattle.mt_core.proofs.Tabling.{with_table}
-use Rattle.mt_core.proofs.Taking.{cancelled_state, cancels_by, stays_by}
+use Rattle.mt_core.{specs.States.core_of, proofs.{Tabling.with_table, Taking.{cancelled_state, cancels_by, stays_by}}}
 use Rattle.mt_core.proofs.inner.Inner.cancel.Goals as goal
 
 pub returns-then-not-give_back : goal.returns-then-not-give_back

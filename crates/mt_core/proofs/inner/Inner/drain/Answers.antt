@@ -1,7 +1,6 @@
 -- That a drain keeps the invariant, for `Inner::drain`.
 use Rattle.std.proofs.Common.{rules, ◌≡◌, ◌<◌, ◌≤◌, length, subst, ap, arith}
-use Rattle.mt_core.specs.States.{core_of}
-use Rattle.mt_core.proofs.Draining.{drained}
+use Rattle.mt_core.{specs.States.core_of, proofs.Draining.drained}
 use Rattle.mt_core.proofs.inner.Inner.drain.Goals as goal
 
 pub invariant_of-self : goal.invariant_of-self

@@ -1,8 +1,7 @@
 -- What an `Inner` keeps of itself and of its arena.
 use Rattle.std.proofs.Common.{subst}
 use Rattle.mt_arena.specs.Arena.{IsArena}
-use Rattle.mt_state.specs.Views.{Core}
-use Rattle.mt_state.specs.Invariant.{StateInvariant}
+use Rattle.mt_state.specs.{Views.Core, Invariant.StateInvariant}
 use Rattle.mt_core.proofs.inner.Inner.kept.Goals as goal
 
 pub returns-clause-invariant : goal.returns-clause-invariant

@@ -1,13 +1,9 @@
 -- A step that is a look, or is none: the lemmas of the steps, at what the body made of it.
 use Rattle.std.proofs.Common.{◌+◌, refl, sym, ap, subst, ◌∙◌}
 use Rattle.mt_table.specs.declared.steps.Made.TheVariants.{Step, Blocked, NoMemory, Nothing}
-use Rattle.mt_operation.specs.declared.operation.Operation.{Operation}
-use Rattle.mt_operation.specs.Tables.{Table, op_at as operation_at}
+use Rattle.mt_operation.specs.{declared.operation.Operation.Operation, Tables.{Table, op_at as operation_at}}
 use Rattle.mt_state.specs.Views.{Core}
-use Rattle.mt_core.specs.States.{core_of}
-use Rattle.mt_core.specs.Looks.{MayLook}
-use Rattle.mt_core.specs.Nexts.{ending}
-use Rattle.mt_core.specs.Points.{StepsOn}
+use Rattle.mt_core.specs.{States.core_of, Looks.MayLook, Nexts.ending, Points.StepsOn}
 use Rattle.mt_core.proofs.ReadSteps.{are_before, may_look, look_unfinished, look_first, look_leaves, look_granted, look_comes, look_blocked, look_left, look_told}
 use Rattle.mt_core.proofs.inner.Inner.look.Goals as goal
 

@@ -1,9 +1,7 @@
 -- The phase of an operation is the one that the state shows, for `Inner::phase`.
 use Rattle.std.proofs.Common.{sym, ap, ◌∙◌}
-use Rattle.mt_state.specs.Views.{Core, op_at, shown}
-use Rattle.mt_state.proofs.Shown.{shown_at}
-use Rattle.mt_core.specs.Shows.{phase_in}
-use Rattle.mt_core.specs.States.{core_of}
+use Rattle.mt_state.{specs.Views.{Core, op_at, shown}, proofs.Shown.shown_at}
+use Rattle.mt_core.specs.{Shows.phase_in, States.core_of}
 use Rattle.mt_core.proofs.inner.Inner.phase.Goals as goal
 
 pub returns : goal.returns

@@ -1,6 +1,5 @@
 -- That counting anew keeps the invariant, for `renumber`.
-use Rattle.mt_core.specs.States.{core_of}
-use Rattle.mt_core.proofs.Renumbering.{renumber_state}
+use Rattle.mt_core.{specs.States.core_of, proofs.Renumbering.renumber_state}
 use Rattle.mt_core.proofs.inner.Inner.renumber.Goals as goal
 
 pub invariant_of-self : goal.invariant_of-self

@@ -1,10 +1,7 @@
 -- That places more keep the invariant, for `Inner::reserve`.
 use Rattle.std.proofs.Common.{ap, subst}
 use Rattle.mt_state.specs.Views.{shown}
-use Rattle.mt_core.specs.States.{core_of}
-use Rattle.mt_core.specs.Places.{AddsPlaces}
-use Rattle.mt_core.proofs.Reserving.{places_added, places_sound}
-use Rattle.mt_core.proofs.Tabling.{with_table}
+use Rattle.mt_core.{specs.{States.core_of, Places.AddsPlaces}, proofs.{Reserving.{places_added, places_sound}, Tabling.with_table}}
 use Rattle.mt_core.proofs.inner.Inner.reserve.Goals as goal
 
 pub invariant_of-self : goal.invariant_of-self

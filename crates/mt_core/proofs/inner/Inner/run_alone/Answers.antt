@@ -1,6 +1,5 @@
 use Rattle.std.proofs.Common.{refl, arith}
-use Rattle.mt_state.specs.Views.{shown}
-use Rattle.mt_state.specs.declared.moves.Move.TheVariants.{Moved}
+use Rattle.mt_state.specs.{Views.shown, declared.moves.Move.TheVariants.Moved}
 use Rattle.mt_core.specs.Points.{StepsOn}
 use Rattle.mt_core.proofs.AloneEnds.{chain_more, chain_number, chain_ends, run_stops, alone_first, alone_goes_on, alone_stops, undisturbed_first, undisturbed_goes_on, undisturbed_stops}
 use Rattle.mt_core.proofs.inner.Inner.run_alone.Goals as goal

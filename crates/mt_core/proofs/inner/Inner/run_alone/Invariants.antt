@@ -1,8 +1,6 @@
 use Rattle.mt_operation.specs.Operations.{OperationView}
-use Rattle.mt_state.specs.Views.{shown}
-use Rattle.mt_state.specs.Invariant.{StateInvariant}
-use Rattle.mt_core.specs.Alone.{IsChain, IsAlone, IsUndisturbed}
-use Rattle.mt_core.proofs.AloneEnds.{GoesAlone, GoesUndisturbed}
+use Rattle.mt_state.specs.{Views.shown, Invariant.StateInvariant}
+use Rattle.mt_core.{specs.Alone.{IsChain, IsAlone, IsUndisturbed}, proofs.AloneEnds.{GoesAlone, GoesUndisturbed}}
 use Rattle.mt_core.proofs.inner.Inner.run_alone.Given as goal
 
 -- the steps so far lead here; and nobody is in the way of an operation that is alone, or that nobody disturbs any more, which has made them all

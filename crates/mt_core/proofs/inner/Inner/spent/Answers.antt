@@ -1,8 +1,7 @@
 -- What is told where no step can be numbered any more.
 use Rattle.std.proofs.Common.{refl, sym, ap, ◌∙◌, arith}
 use Rattle.mt_state.specs.Views.{Core}
-use Rattle.mt_core.specs.States.{core_of}
-use Rattle.mt_core.proofs.NextSteps.{next_left}
+use Rattle.mt_core.{specs.States.core_of, proofs.NextSteps.next_left}
 use Rattle.mt_core.proofs.inner.Inner.spent.Goals as goal
 
 pub returns-in-Some : goal.returns-in-Some

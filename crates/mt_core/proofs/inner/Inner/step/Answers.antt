@@ -2,8 +2,7 @@
 use Rattle.std.proofs.Common.{sym, subst}
 use Rattle.mt_state.specs.Views.{Core}
 use Rattle.mt_operation.specs.Phases.{IsNoLook}
-use Rattle.mt_core.specs.Nexts.{IsNext}
-use Rattle.mt_core.specs.Points.{StepsOn}
+use Rattle.mt_core.specs.{Nexts.IsNext, Points.StepsOn}
 use Rattle.mt_core.proofs.inner.Inner.step.Goals as goal
 
 pub write-requires-clause-others : goal.write-requires-clause-others

@@ -1,9 +1,7 @@
 -- That a take keeps the invariant, and what it answers, for `Inner::take`.
 use Rattle.std.proofs.Common.{refl, ap, subst}
 use Rattle.mt_state.specs.Views.{Core, shown}
-use Rattle.mt_core.specs.States.{core_of}
-use Rattle.mt_core.specs.Tidies.{DisplacesRestOf}
-use Rattle.mt_core.proofs.Taking.{done_told, taken_state, takes_by, hands_out_by, keeps_by}
+use Rattle.mt_core.{specs.{States.core_of, Tidies.DisplacesRestOf}, proofs.Taking.{done_told, taken_state, takes_by, hands_out_by, keeps_by}}
 use Rattle.mt_core.proofs.inner.Inner.take.Goals as goal
 
 pub give_up-requires : goal.give_up-requires

@@ -1,9 +1,7 @@
 -- That a tidying that hands out keeps the invariant and what it promises, for `Inner::tidy_into`.
 use Rattle.std.proofs.Common.{ℕ, List, refl, ap, subst}
 use Rattle.mt_state.specs.Views.{shown}
-use Rattle.mt_core.specs.States.{core_of}
-use Rattle.mt_core.specs.Drains.{IsLeastOf}
-use Rattle.mt_core.proofs.Tidying.{handed, floor_rises, firsts_made}
+use Rattle.mt_core.{specs.{States.core_of, Drains.IsLeastOf}, proofs.Tidying.{handed, floor_rises, firsts_made}}
 use Rattle.mt_core.proofs.inner.Inner.tidy_into.Goals as goal
 
 pub floor_needed-needed-requires : goal.floor_needed-needed-requires

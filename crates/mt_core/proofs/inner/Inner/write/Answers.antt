@@ -1,11 +1,8 @@
 -- A step that is no look: the lemmas of the steps, at what the body made of the operation.
 use Rattle.std.proofs.Common.{◌+◌, refl, sym, ap, subst, ◌∙◌}
 use Rattle.mt_table.specs.declared.steps.Made.TheVariants.{Step, Blocked, NoMemory, Nothing}
-use Rattle.mt_operation.specs.declared.operation.Operation.{Operation}
-use Rattle.mt_core.specs.States.{core_of}
-use Rattle.mt_core.specs.Writes.{parts, MayWrite}
-use Rattle.mt_operation.specs.Phases.{IsNoLook}
-use Rattle.mt_core.specs.Nexts.{ending}
+use Rattle.mt_operation.specs.{declared.operation.Operation.Operation, Phases.IsNoLook}
+use Rattle.mt_core.specs.{States.core_of, Writes.{parts, MayWrite}, Nexts.ending}
 use Rattle.mt_core.proofs.ReadSteps.{are_before}
 use Rattle.mt_core.proofs.WriteSteps.{may_write, write_unfinished, write_first, write_keeps, write_leaves, write_comes, write_blocked, write_grown, write_none, write_there, write_told}
 use Rattle.mt_core.proofs.inner.Inner.write.Goals as goal

@@ -1,8 +1,6 @@
 -- What an edge writes, for its `Display`.
-use Rattle.std.proofs.Common.{◌≡◌, Some, subst}
-use Rattle.std.specs.Fmt.{styled_digits_output, DisplaysOnOk}
-use Rattle.mt_core.specs.Shapes.{hex_digits}
-use Rattle.mt_core.proofs.Texts.{hex_written, short_written, link_written, long_written}
+use Rattle.std.{proofs.Common.{◌≡◌, Some, subst}, specs.Fmt.{styled_digits_output, DisplaysOnOk}}
+use Rattle.mt_core.{specs.Shapes.hex_digits, proofs.Texts.{hex_written, short_written, link_written, long_written}}
 use Rattle.mt_core.proofs.shape.EdgeDisplay.fmt.Goals as goal
 
 pub returns-in-Short-clause-writes : goal.returns-in-Short-clause-writes

@@ -1,6 +1,4 @@
-use Rattle.std.proofs.Common.{take}
-use Rattle.std.specs.List.{flat_map}
-use Rattle.std.specs.Fmt.{HasWritten, IsPlainFormatter}
+use Rattle.std.{proofs.Common.take, specs.{List.flat_map, Fmt.{HasWritten, IsPlainFormatter}}}
 use Rattle.mt_core.specs.Shapes.{hex_digits}
 use Rattle.mt_core.proofs.shape.HexadecimalDisplay.fmt.Given as goal
 

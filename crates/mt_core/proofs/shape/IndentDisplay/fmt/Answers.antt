@@ -1,6 +1,5 @@
 -- What an indent writes, for its `Display`.
-use Rattle.std.proofs.Common.{◌+◌, rules}
-use Rattle.std.proofs.Output.{has_written_append, has_written_of_eq}
+use Rattle.std.proofs.{Common.{◌+◌, rules}, Output.{has_written_append, has_written_of_eq}}
 use Rattle.mt_core.proofs.Texts.{two_more}
 use Rattle.mt_core.proofs.shape.IndentDisplay.fmt.Goals as goal
 

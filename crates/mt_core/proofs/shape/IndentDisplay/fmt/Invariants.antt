@@ -1,5 +1,4 @@
-use Rattle.std.proofs.Common.{◌+◌, ◌*◌, replicate}
-use Rattle.std.specs.Fmt.{HasWritten, IsPlainFormatter}
+use Rattle.std.{proofs.Common.{◌+◌, ◌*◌, replicate}, specs.Fmt.{HasWritten, IsPlainFormatter}}
 use Rattle.mt_core.proofs.shape.IndentDisplay.fmt.Given as goal
 
 -- two spaces, and two for each level so far

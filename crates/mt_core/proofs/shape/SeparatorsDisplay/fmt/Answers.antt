@@ -1,11 +1,7 @@
 -- What separators write, for their `Display`.
-use Rattle.std.proofs.Common.{◌≡◌, ℕ, List, ◌++◌, Option, Some, get_or, subst, rules}
-use Rattle.std.specs.Prelude.{codes}
-use Rattle.std.specs.Fmt.{styled_digits_output, ◌++?◌, DisplaysOnOk}
-use Rattle.std.proofs.Output.{has_written_append, has_written_of_eq}
-use Rattle.mt_core.specs.Shapes.{hex_digits}
-use Rattle.mt_core.proofs.Texts.{hex_written}
-use Rattle.mt_core.proofs.Lines.{next_piece}
+use Rattle.std.proofs.{Common.{◌≡◌, ℕ, List, ◌++◌, Option, Some, get_or, subst, rules}, Output.{has_written_append, has_written_of_eq}}
+use Rattle.std.specs.{Prelude.codes, Fmt.{styled_digits_output, ◌++?◌, DisplaysOnOk}}
+use Rattle.mt_core.{specs.Shapes.hex_digits, proofs.{Texts.hex_written, Lines.next_piece}}
 use Rattle.mt_core.proofs.shape.SeparatorsDisplay.fmt.Goals as goal
 
 -- one separator more

@@ -1,5 +1,4 @@
-use Rattle.std.proofs.Common.{take}
-use Rattle.std.specs.Fmt.{HasWritten, IsPlainFormatter}
+use Rattle.std.{proofs.Common.take, specs.Fmt.{HasWritten, IsPlainFormatter}}
 use Rattle.mt_core.specs.Shapes.{separators_text}
 use Rattle.mt_core.proofs.shape.SeparatorsDisplay.fmt.Given as goal
 

@@ -1,7 +1,6 @@
 -- That a step leaves the other tenants' maps, for `State::step`.
 use Rattle.std.proofs.Common.{subst}
-use Rattle.mt_state.specs.Views.{StateView, shown}
-use Rattle.mt_state.specs.Promises.{Tells}
+use Rattle.mt_state.specs.{Views.{StateView, shown}, Promises.Tells}
 use Rattle.mt_core.proofs.Bystanders.{others_stay}
 use Rattle.mt_core.proofs.state.State.step.Goals as goal
 

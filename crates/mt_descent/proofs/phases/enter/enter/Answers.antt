@@ -1,9 +1,7 @@
 -- What is kept at a root.
 use Rattle.std.proofs.Common.{rules, ap, subst, ◌∙◌}
 use Rattle.mt_version.specs.Changes.{IsStable}
-use Rattle.mt_arena.specs.declared.tree.Tree.{Tree}
-use Rattle.mt_arena.specs.NodeView.{NodeView}
-use Rattle.mt_arena.specs.Accesses.{at}
+use Rattle.mt_arena.specs.{declared.tree.Tree.Tree, NodeView.NodeView, Accesses.at}
 use Rattle.mt_descent.proofs.Ways.{kept_entered}
 use Rattle.mt_descent.proofs.phases.enter.enter.Goals as goal
 

@@ -1,8 +1,6 @@
 -- What is kept where a border node was deleted or split before the lock was taken, and that nothing lags behind one that was locked.
 use Rattle.std.proofs.Common.{rules, length, ap, sym, ◌∙◌}
-use Rattle.mt_arena.specs.NodeView.{NodeView}
-use Rattle.mt_arena.specs.Accesses.{at}
-use Rattle.mt_arena.proofs.SettledEdits.{settled_locked}
+use Rattle.mt_arena.{specs.{NodeView.NodeView, Accesses.at}, proofs.SettledEdits.settled_locked}
 use Rattle.mt_descent.proofs.Ways.{free_stable, kept_moved_on}
 use Rattle.mt_descent.proofs.phases.lock.lock.Goals as goal
 

@@ -1,11 +1,7 @@
 -- What is kept of the child that was picked.
 use Rattle.std.proofs.Common.{◌≡◌, ap, subst, sym, ◌∙◌}
-use Rattle.mt_arena.specs.NodeView.{NodeView}
-use Rattle.mt_arena.specs.Accesses.{at}
-use Rattle.mt_descent.specs.Seen.{child_for}
-use Rattle.mt_descent.specs.KeptWalks.{IsAtChild, slice_in}
-use Rattle.mt_descent.specs.WalkMoves.{after_pick}
-use Rattle.mt_descent.proofs.Ways.{same_child, kept_picked}
+use Rattle.mt_arena.specs.{NodeView.NodeView, Accesses.at}
+use Rattle.mt_descent.{specs.{Seen.child_for, KeptWalks.{IsAtChild, slice_in}, WalkMoves.after_pick}, proofs.Ways.{same_child, kept_picked}}
 use Rattle.mt_descent.proofs.phases.pick.pick.Goals as goal
 
 pub returns-clause-kept : goal.returns-clause-kept

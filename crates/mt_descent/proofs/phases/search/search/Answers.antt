@@ -1,7 +1,6 @@
 -- What is kept of what was found.
 use Rattle.std.proofs.Common.{ap}
-use Rattle.mt_arena.specs.NodeView.{NodeView}
-use Rattle.mt_arena.specs.Accesses.{at}
+use Rattle.mt_arena.specs.{NodeView.NodeView, Accesses.at}
 use Rattle.mt_descent.proofs.Looks.{kept_searched, finds_in}
 use Rattle.mt_descent.proofs.phases.search.search.Goals as goal
 

@@ -1,7 +1,6 @@
 -- What is kept at the child of an interior node that stands.
 use Rattle.std.proofs.Common.{ap, subst, ◌∙◌}
-use Rattle.mt_version.specs.Parts.{Parts}
-use Rattle.mt_version.specs.Changes.{SameButLock}
+use Rattle.mt_version.specs.{Parts.Parts, Changes.SameButLock}
 use Rattle.mt_arena.specs.NodeView.{NodeView}
 use Rattle.mt_descent.proofs.Ways.{kept_verified}
 use Rattle.mt_descent.proofs.phases.verify.verify.Goals as goal

@@ -1,8 +1,6 @@
 -- What `may_leave` answers is what a crash may leave: where nothing is dirty, by comparing the images.
-use Rattle.std.proofs.Common.{rules, ◌≡◌, ◌↔◌, IsTrue, []}
-use Rattle.std.proofs.lemmas.List.{nil_from_length}
-use Rattle.mt_disk.specs.Mem.{mem_state}
-use Rattle.mt_disk.proofs.Images.{all_durable}
+use Rattle.std.proofs.{Common.{rules, ◌≡◌, ◌↔◌, IsTrue, []}, lemmas.List.nil_from_length}
+use Rattle.mt_disk.{specs.Mem.mem_state, proofs.Images.all_durable}
 use Rattle.mt_disk.proofs.mem.MemDisk.may_leave.Goals as goal
 
 pub returns-then-is_empty : goal.returns-then-is_empty

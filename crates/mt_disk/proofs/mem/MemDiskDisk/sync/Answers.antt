@@ -1,7 +1,6 @@
 -- A sync of a `MemDisk` is a call that its plan allowed, also where it fails behind that.
 use Rattle.std.proofs.Common.{rules}
-use Rattle.mt_disk.specs.Disk.{IsToldToFail}
-use Rattle.mt_disk.specs.Mem.{plan_of}
+use Rattle.mt_disk.specs.{Disk.IsToldToFail, Mem.plan_of}
 use Rattle.mt_disk.proofs.mem.MemDiskDisk.sync.Goals as goal
 
 pub returns-clause-plan : goal.returns-clause-plan

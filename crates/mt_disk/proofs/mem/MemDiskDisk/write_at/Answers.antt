@@ -1,7 +1,6 @@
 -- A write of a `MemDisk` is a write of a disk, also where it fails once its range was noted.
 use Rattle.std.proofs.Common.{rules, ◌+◌, length}
-use Rattle.mt_disk.specs.Mem.{mem_state}
-use Rattle.mt_disk.proofs.Images.{wrote, wrote_nothing, tried}
+use Rattle.mt_disk.{specs.Mem.mem_state, proofs.Images.{wrote, wrote_nothing, tried}}
 use Rattle.mt_disk.proofs.mem.MemDiskDisk.write_at.Goals as goal
 
 pub returns-in_err-counted-2-clause-crash : goal.returns-in_err-counted-2-clause-crash

@@ -1,10 +1,7 @@
 -- A cut of a `MemFile`: the one that is owed next, or a first one.
 use Rattle.std.proofs.Common.{rules, ◌<◌, ◌≤◌, length, take, refl, subst, ⊎_elim, arith}
-use Rattle.mt_disk.specs.Disk.{cut_range}
-use Rattle.mt_disk.specs.Files.{CutTo, Edits}
-use Rattle.mt_disk.specs.MemFiles.{mem_file_state, IsCommit}
-use Rattle.mt_disk.proofs.Images.{still_left, kept_by_cut}
-use Rattle.mt_disk.proofs.EditLaws.{some_owed, none_owed, edits_again, edits_first}
+use Rattle.mt_disk.specs.{Disk.cut_range, Files.{CutTo, Edits}, MemFiles.{mem_file_state, IsCommit}}
+use Rattle.mt_disk.proofs.{Images.{still_left, kept_by_cut}, EditLaws.{some_owed, none_owed, edits_again, edits_first}}
 use Rattle.mt_disk.proofs.mem_file.MemFileSystemFile.set_len.Goals as goal
 
 pub returns-then-self-len-clause-edits : goal.returns-then-self-len-clause-edits

@@ -1,8 +1,6 @@
 -- While something is owed, a sync that succeeds says nothing.
 use Rattle.std.proofs.Common.{rules, ◌<◌, length, Ok, subst}
-use Rattle.mt_disk.specs.Files.{Syncs}
-use Rattle.mt_disk.specs.MemFiles.{mem_file_state}
-use Rattle.mt_disk.proofs.EditLaws.{some_owed, syncs_nothing}
+use Rattle.mt_disk.{specs.{Files.Syncs, MemFiles.mem_file_state}, proofs.EditLaws.{some_owed, syncs_nothing}}
 use Rattle.mt_disk.proofs.mem_file.MemFileSystemFile.sync.Goals as goal
 
 pub returns-then-self-len-clause-syncs : goal.returns-then-self-len-clause-syncs

@@ -1,11 +1,7 @@
 -- A write of a `MemFile`: the one that is owed next, or a first one.
-use Rattle.std.proofs.Common.{rules, ◌≡◌, ℕ, ◌+◌, ◌<◌, ◌≤◌, List, length, ◌∙◌, ap, subst}
-use Rattle.std.specs.List.{slice_get}
-use Rattle.mt_disk.specs.Disk.{Range, overwritten}
-use Rattle.mt_disk.specs.Files.{Wrote, Edits}
-use Rattle.mt_disk.specs.MemFiles.{mem_file_state, IsCommit}
-use Rattle.mt_disk.proofs.Images.{still_left, kept_by_write}
-use Rattle.mt_disk.proofs.EditLaws.{some_owed, none_owed, edits_again, edits_first}
+use Rattle.std.{proofs.Common.{rules, ◌≡◌, ℕ, ◌+◌, ◌<◌, ◌≤◌, List, length, ◌∙◌, ap, subst}, specs.List.slice_get}
+use Rattle.mt_disk.specs.{Disk.{Range, overwritten}, Files.{Wrote, Edits}, MemFiles.{mem_file_state, IsCommit}}
+use Rattle.mt_disk.proofs.{Images.{still_left, kept_by_write}, EditLaws.{some_owed, none_owed, edits_again, edits_first}}
 use Rattle.mt_disk.proofs.mem_file.MemFileSystemFile.write_at.Goals as goal
 
 pub returns-then-self-len-clause-edits : goal.returns-then-self-len-clause-edits

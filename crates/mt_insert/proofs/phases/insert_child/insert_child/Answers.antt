@@ -1,11 +1,8 @@
 -- That the right half may be put into the parent, and that all nodes of the splits may be given back then.
-use Rattle.std.proofs.Common.{sym, ap, subst, ◌∙◌, rules, ◌≡◌, ℕ, Some, refl}
-use Rattle.std.proofs.lemmas.Option.{same_Some}
-use Rattle.mt_arena.specs.Arena.{ArenaView}
-use Rattle.mt_arena.specs.Several.{MayInsert, with_right}
+use Rattle.std.proofs.{Common.{sym, ap, subst, ◌∙◌, rules, ◌≡◌, ℕ, Some, refl}, lemmas.Option.same_Some}
+use Rattle.mt_arena.specs.{Arena.ArenaView, Several.{MayInsert, with_right}}
 use Rattle.mt_operation.specs.declared.splits.Halves.{Halves}
-use Rattle.mt_insert.specs.KeptSplits.{last_of, IsAtUnlockAll, HoldsSplits}
-use Rattle.mt_insert.proofs.InsertingChildren.{may_insert, kept_inserted, holds_inserted}
+use Rattle.mt_insert.{specs.KeptSplits.{last_of, IsAtUnlockAll, HoldsSplits}, proofs.InsertingChildren.{may_insert, kept_inserted, holds_inserted}}
 use Rattle.mt_insert.proofs.phases.insert_child.insert_child.Goals as goal
 
 pub insert_child-requires : goal.insert_child-requires

@@ -1,15 +1,9 @@
 -- That the parent may be split, and what is kept of it and of its right half.
-use Rattle.mt_insert.specs.SplitEdits.{HasOneMore}
-use Rattle.std.proofs.Common.{rules, ◌≡◌, None, refl, sym, ap, subst, ◌∙◌, ℕ, Some, length}
-use Rattle.std.proofs.lemmas.Option.{same_Some}
-use Rattle.mt_arena.specs.NodeView.{NodeView}
-use Rattle.mt_arena.specs.Arena.{ArenaView}
-use Rattle.mt_arena.specs.Accesses.{at}
-use Rattle.mt_arena.specs.Several.{MaySplitInner, with_parts}
-use Rattle.mt_operation.specs.declared.splits.Halves.{Halves}
-use Rattle.mt_operation.specs.declared.splits.Splits.{Splits}
-use Rattle.mt_insert.specs.KeptSplits.{last_of, IsAtReparent, HoldsSplits}
+use Rattle.mt_insert.specs.{SplitEdits.HasOneMore, KeptSplits.{last_of, IsAtReparent, HoldsSplits}}
 use Rattle.mt_insert.proofs.SplittingParents.{may_split, kept_parted, holds_parted}
+use Rattle.std.proofs.{Common.{rules, ◌≡◌, None, refl, sym, ap, subst, ◌∙◌, ℕ, Some, length}, lemmas.Option.same_Some}
+use Rattle.mt_arena.specs.{NodeView.NodeView, Arena.ArenaView, Accesses.at, Several.{MaySplitInner, with_parts}}
+use Rattle.mt_operation.specs.{declared.splits.Halves.Halves, declared.splits.Splits.Splits}
 use Rattle.mt_insert.proofs.phases.interior_split.interior_split.Goals as goal
 
 pub split_interior-requires : goal.split_interior-requires

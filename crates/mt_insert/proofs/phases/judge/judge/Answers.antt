@@ -1,9 +1,7 @@
 -- That a put which meets a link may load its tree, and goes on there.
 use Rattle.std.proofs.Common.{rules, refl, ap, inl, inr}
-use Rattle.mt_arena.specs.NodeView.{NodeView}
-use Rattle.mt_arena.specs.Accesses.{at}
-use Rattle.mt_held.proofs.Looks.{link_there, leads_there}
-use Rattle.mt_held.proofs.Places.{meets_link}
+use Rattle.mt_arena.specs.{NodeView.NodeView, Accesses.at}
+use Rattle.mt_held.proofs.{Looks.{link_there, leads_there}, Places.meets_link}
 use Rattle.mt_insert.proofs.phases.judge.judge.Goals as goal
 
 pub tree_at-tree-requires-clause-link : goal.tree_at-tree-requires-clause-link

@@ -1,15 +1,10 @@
 -- That nobody else is making the parent's tree, and what is kept once it is held: for the right half, which names it from then on.
-use Rattle.std.proofs.Common.{◌≡◌, ℕ, ◌<◌, Option, Some, ap, sym, subst, ◌∙◌, rules}
-use Rattle.std.proofs.lemmas.Option.{same_Some, none-some}
-use Rattle.mt_arena.specs.NodeView.{NodeView}
-use Rattle.mt_arena.specs.Arena.{ArenaView, Guarantee}
-use Rattle.mt_arena.specs.Accesses.{at}
-use Rattle.mt_operation.specs.declared.phase.Phase.{Phase}
-use Rattle.mt_operation.specs.declared.splits.Halves.{Halves}
-use Rattle.mt_insert.specs.KeptSplits.{last_of}
-use Rattle.mt_held.specs.Moves.{walk_at}
-use Rattle.mt_insert.specs.SplitEdits.{with_parent, for_parent}
+use Rattle.std.proofs.{Common.{◌≡◌, ℕ, ◌<◌, Option, Some, ap, sym, subst, ◌∙◌, rules}, lemmas.Option.{same_Some, none-some}}
+use Rattle.mt_arena.specs.{NodeView.NodeView, Arena.{ArenaView, Guarantee}, Accesses.at}
+use Rattle.mt_operation.specs.{declared.phase.Phase.Phase, declared.splits.Halves.Halves}
+use Rattle.mt_insert.specs.{KeptSplits.last_of, SplitEdits.{with_parent, for_parent}}
 use Rattle.mt_insert.proofs.LockingParents.{parent_made, another_holds, parent_open, parent_interior_still, phase_same, parent_kept, parent_holds, parent_step}
+use Rattle.mt_held.specs.Moves.{walk_at}
 use Rattle.mt_insert.proofs.phases.lock_parent.lock_parent.Goals as goal
 
 -- what the left half tells of its parent

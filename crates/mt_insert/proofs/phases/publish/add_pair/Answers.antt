@@ -3,8 +3,7 @@ use Rattle.std.proofs.Common.{None, ap, sym, subst}
 use Rattle.mt_border.specs.declared.entry.Entry.{Entry}
 use Rattle.mt_arena.specs.Accesses.{MayPublish}
 use Rattle.mt_held.proofs.Places.{none_here}
-use Rattle.mt_insert.proofs.Places.{may_publish, unlock_published}
-use Rattle.mt_insert.proofs.Puts.{places}
+use Rattle.mt_insert.proofs.{Places.{may_publish, unlock_published}, Puts.places}
 use Rattle.mt_insert.proofs.phases.publish.add_pair.Goals as goal
 
 pub publish-requires : goal.publish-requires

@@ -1,13 +1,8 @@
 -- That a child of the right half may name it as its parent, and what is kept once it does: one child less names the left half.
-use Rattle.std.proofs.Common.{rules, arith, ◌≡◌, ℕ, ◌+◌, List, length, get_or, Some, ap, sym, ◌∙◌}
-use Rattle.std.proofs.lemmas.Grind.{common_steps}
-use Rattle.mt_arena.specs.NodeView.{NodeView}
-use Rattle.mt_arena.specs.Edits.{pointed}
-use Rattle.mt_arena.specs.Arena.{ArenaView}
-use Rattle.mt_arena.specs.Accesses.{at, with_node}
+use Rattle.std.proofs.{Common.{rules, arith, ◌≡◌, ℕ, ◌+◌, List, length, get_or, Some, ap, sym, ◌∙◌}, lemmas.Grind.common_steps}
+use Rattle.mt_arena.specs.{NodeView.NodeView, Edits.pointed, Arena.ArenaView, Accesses.{at, with_node}}
 use Rattle.mt_operation.specs.declared.splits.Halves.{Halves}
-use Rattle.mt_insert.specs.KeptSplits.{last_of}
-use Rattle.mt_insert.specs.SplitEdits.{with_named_parent}
+use Rattle.mt_insert.specs.{KeptSplits.last_of, SplitEdits.with_named_parent}
 use Rattle.mt_insert.proofs.Reparenting.{child_no_root, child_range, child_knows, child_open, last_kept, more_kept, child_holds}
 use Rattle.mt_insert.proofs.phases.reparent.reparent.Goals as goal
 

@@ -3,9 +3,7 @@ use Rattle.std.proofs.Common.{None, refl, ap, sym, subst}
 use Rattle.mt_border.specs.declared.entry.Entry.{Entry}
 use Rattle.mt_operation.specs.declared.splits.Halves.{Halves}
 use Rattle.mt_arena.specs.Several.{MayPlace}
-use Rattle.mt_insert.specs.KeptSplits.{last_of}
-use Rattle.mt_insert.proofs.PartingKeys.{none_here, live_here, may_place}
-use Rattle.mt_insert.proofs.Puts.{places}
+use Rattle.mt_insert.{specs.KeptSplits.last_of, proofs.{PartingKeys.{none_here, live_here, may_place}, Puts.places}}
 use Rattle.mt_insert.proofs.phases.split_move.part_with.Goals as goal
 
 pub split_border-requires-clause-live : goal.split_border-requires-clause-live

@@ -1,15 +1,12 @@
 -- That the node behind may name the right half, and what is kept once it does: only the halves' own next nodes name them as the one before.
 use Rattle.mt_held.specs.Moves.{with_named_previous}
 use Rattle.mt_insert.specs.KeptSplits.{last_of}
-use Rattle.std.proofs.lemmas.Option.{same_Some, none-some}
-use Rattle.std.proofs.Common.{◌≡◌, ℕ, Option, ap, sym, ◌∙◌, rules, refl}
-use Rattle.mt_arena.specs.NodeView.{NodeView}
-use Rattle.mt_arena.specs.Arena.{ArenaView, content_of}
-use Rattle.mt_arena.specs.Accesses.{at}
-use Rattle.mt_operation.specs.declared.splits.Halves.{Halves}
 use Rattle.mt_insert.proofs.Behind.{behind_border, behind_tied, behind_open, behind_kept, behind_holds}
-use Rattle.mt_insert.proofs.phases.split_prev.split_prev.Goals as goal
 use Rattle.mt_insert.proofs.phases.split_prev.split_prev.Goals.{in-Some, in_default}
+use Rattle.std.proofs.{lemmas.Option.{same_Some, none-some}, Common.{◌≡◌, ℕ, Option, ap, sym, ◌∙◌, rules, refl}}
+use Rattle.mt_arena.specs.{NodeView.NodeView, Arena.{ArenaView, content_of}, Accesses.at}
+use Rattle.mt_operation.specs.declared.splits.Halves.{Halves}
+use Rattle.mt_insert.proofs.phases.split_prev.split_prev.Goals as goal
 
 -- what the right half tells of its next node
 next_is : (v : ArenaView) (last halves : Halves) (n : NodeView) (told next : Option ℕ) → halves ≡ last → n ≡ at v halves.right → told ≡ n.next

@@ -1,8 +1,7 @@
 -- That the holder may store its row, what that is for contents and tape, and that its lock may be given back then.
 use Rattle.std.proofs.Common.{rules, Some, ap, sym, ◌∙◌}
 use Rattle.mt_held.proofs.Places.{row_here, may_store}
-use Rattle.mt_insert.proofs.Places.{unlock_stored}
-use Rattle.mt_insert.proofs.Puts.{places}
+use Rattle.mt_insert.proofs.{Places.unlock_stored, Puts.places}
 use Rattle.mt_insert.proofs.phases.store.store.Goals as goal
 
 pub store-before-requires : goal.store-before-requires

@@ -1,7 +1,6 @@
 -- the place that the search finds is the one part that holds the slice
 use Rattle.std.proofs.Common.{subst, sym, arith}
-use Rattle.mt_interior.specs.Node.{InteriorNode, IsInterior}
-use Rattle.mt_interior.proofs.PlaceLemmas.{between-place, place_of-between}
+use Rattle.mt_interior.{specs.Node.{InteriorNode, IsInterior}, proofs.PlaceLemmas.{between-place, place_of-between}}
 use Rattle.mt_interior.proofs.node.Interior.child_of.Goals as goal
 
 pub returns-clause-range : goal.returns-clause-range

@@ -1,7 +1,6 @@
 -- separators and children keep their shape with one more child
 use Rattle.std.proofs.Common.{ap}
-use Rattle.mt_interior.specs.Node.{InteriorNode}
-use Rattle.mt_interior.proofs.Shapes.{interior_insert}
+use Rattle.mt_interior.{specs.Node.InteriorNode, proofs.Shapes.interior_insert}
 use Rattle.mt_interior.proofs.node.Interior.insert_child.Goals as goal
 
 pub invariant_of-self : goal.invariant_of-self

@@ -1,9 +1,7 @@
 -- a count of the separators that are at most the slice is its place
 use Rattle.std.proofs.Common.{ℕ, List, ap, ◌∙◌, arith}
 use Rattle.mt_lists.proofs.Rises.{rising_upto}
-use Rattle.mt_interior.specs.Node.{InteriorNode}
-use Rattle.mt_interior.specs.Places.{place_of}
-use Rattle.mt_interior.proofs.PlaceLemmas.{place_of-parts}
+use Rattle.mt_interior.{specs.{Node.InteriorNode, Places.place_of}, proofs.PlaceLemmas.place_of-parts}
 use Rattle.mt_interior.proofs.node.Interior.place_of.Goals as goal
 
 pub count_up_to-requires-clause-rises : goal.count_up_to-requires-clause-rises

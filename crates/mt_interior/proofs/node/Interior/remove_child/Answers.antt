@@ -1,8 +1,6 @@
 -- separators and children keep their shape without a child
-use Rattle.std.proofs.Common.{◌≡◌, ◌+◌, ◌-◌, ◌∙◌, ap, length, arith}
-use Rattle.std.proofs.lemmas.List.Edits.{length-remove}
-use Rattle.mt_interior.specs.Node.{InteriorNode}
-use Rattle.mt_interior.proofs.Shapes.{interior_remove}
+use Rattle.std.proofs.{Common.{◌≡◌, ◌+◌, ◌-◌, ◌∙◌, ap, length, arith}, lemmas.List.Edits.length-remove}
+use Rattle.mt_interior.{specs.Node.InteriorNode, proofs.Shapes.interior_remove}
 use Rattle.mt_interior.proofs.node.Interior.remove_child.Goals as goal
 
 one_less : (c : goal.After-remove-2) → length c.remove.new.self + 1 ≡ length c.self.inside.separators

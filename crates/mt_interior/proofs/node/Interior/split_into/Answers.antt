@@ -1,10 +1,6 @@
 -- both parts of the sixteen separators and seventeen children keep the shape
-use Rattle.std.proofs.Common.{ℕ, List, length, ap, arith}
-use Rattle.std.proofs.lemmas.List.{length-drop}
-use Rattle.std.proofs.lemmas.List.Edits.{length-insert}
-use Rattle.mt_interior.specs.declared.node.TheConstants.{LEFT_SEPARATORS, LEFT_CHILDREN}
-use Rattle.mt_interior.specs.Node.{InteriorNode}
-use Rattle.mt_interior.proofs.Shapes.{interior_front, interior_back}
+use Rattle.std.proofs.{Common.{ℕ, List, length, ap, arith}, lemmas.List.length-drop, lemmas.List.Edits.length-insert}
+use Rattle.mt_interior.{specs.{declared.node.TheConstants.{LEFT_SEPARATORS, LEFT_CHILDREN}, Node.InteriorNode}, proofs.Shapes.{interior_front, interior_back}}
 use Rattle.mt_interior.proofs.node.Interior.split_into.Goals as goal
 
 pub invariant_of-self : goal.invariant_of-self

@@ -1,11 +1,9 @@
 -- What is kept once the pair has the number of its tree, that the operation holds no other node, and that no pair gets another stamp.
 use Rattle.std.proofs.Common.{rules, Some, None}
 use Rattle.mt_border.specs.declared.entry.Held.TheVariants.{Unstable}
-use Rattle.mt_arena.specs.Accesses.{at}
-use Rattle.mt_arena.specs.Layering.{with_held}
+use Rattle.mt_arena.specs.{Accesses.at, Layering.with_held}
 use Rattle.mt_held.proofs.Holders.{only_changed}
-use Rattle.mt_layer.proofs.Linking.{numbered, same_tree}
-use Rattle.mt_layer.proofs.Stamps.{held_keeps}
+use Rattle.mt_layer.proofs.{Linking.{numbered, same_tree}, Stamps.held_keeps}
 use Rattle.mt_layer.proofs.phases.link.link.Goals as goal
 
 pub returns : goal.returns

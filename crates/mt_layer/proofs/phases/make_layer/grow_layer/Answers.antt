@@ -1,9 +1,6 @@
 -- The tree may be made of its prefix and its entry, which are those of the next layer.
 use Rattle.std.proofs.Common.{◌≡◌, sym, ap, subst, ◌∙◌, OnOk}
-use Rattle.mt_arena.specs.NodeView.{NodeView}
-use Rattle.mt_arena.specs.Arena.{ArenaView}
-use Rattle.mt_arena.specs.Accesses.{at}
-use Rattle.mt_arena.specs.Layering.{with_layer}
+use Rattle.mt_arena.specs.{NodeView.NodeView, Arena.ArenaView, Accesses.at, Layering.with_layer}
 use Rattle.mt_layer.proofs.Making.{prefix_is, may_with, in_border}
 use Rattle.mt_layer.proofs.phases.make_layer.grow_layer.Goals as goal
 

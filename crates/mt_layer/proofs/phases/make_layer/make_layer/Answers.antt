@@ -1,9 +1,7 @@
 -- What is kept once the tree is made, that the operation holds no other node, and that no pair gets another stamp, also where there is no memory.
 use Rattle.std.proofs.Common.{rules}
 use Rattle.mt_arena.specs.Layering.{prefix_below}
-use Rattle.mt_layer.specs.NewLayers.{entry_below}
-use Rattle.mt_layer.proofs.Making.{made, only_made}
-use Rattle.mt_layer.proofs.Stamps.{layer_keeps}
+use Rattle.mt_layer.{specs.NewLayers.entry_below, proofs.{Making.{made, only_made}, Stamps.layer_keeps}}
 use Rattle.mt_layer.proofs.phases.make_layer.make_layer.Goals as goal
 
 pub returns-in-Ok-clause-makes : goal.returns-in-Ok-clause-makes

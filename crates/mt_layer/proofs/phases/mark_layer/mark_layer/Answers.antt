@@ -1,7 +1,6 @@
 -- What is kept once the slot is a link, and that no pair gets another stamp.
 use Rattle.std.proofs.Common.{rules}
-use Rattle.mt_layer.proofs.Linking.{linked, same_tree}
-use Rattle.mt_layer.proofs.Stamps.{link_keeps}
+use Rattle.mt_layer.proofs.{Linking.{linked, same_tree}, Stamps.link_keeps}
 use Rattle.mt_layer.proofs.phases.mark_layer.mark_layer.Goals as goal
 
 pub returns : goal.returns

@@ -1,12 +1,9 @@
 -- What is kept once the pair is unstable, that the operation holds no other node, and that no pair gets another stamp.
-use Rattle.std.proofs.Common.{rules}
-use Rattle.std.specs.Prelude.{None}
+use Rattle.std.{proofs.Common.rules, specs.Prelude.None}
 use Rattle.mt_border.specs.declared.entry.Held.TheVariants.{Stable, Unstable}
-use Rattle.mt_arena.specs.Accesses.{at}
-use Rattle.mt_arena.specs.Layering.{with_held}
+use Rattle.mt_arena.specs.{Accesses.at, Layering.with_held}
 use Rattle.mt_held.proofs.Holders.{only_changed}
-use Rattle.mt_layer.proofs.Linking.{unstable}
-use Rattle.mt_layer.proofs.Stamps.{held_keeps}
+use Rattle.mt_layer.proofs.{Linking.unstable, Stamps.held_keeps}
 use Rattle.mt_layer.proofs.phases.mark_unstable.mark_unstable.Goals as goal
 
 pub returns : goal.returns

@@ -1,6 +1,5 @@
 use Rattle.std.proofs.Common.{rules, ◌≡◌, ◌≢◌, None, Some, ℕ, sym, ap, subst, ◌∙◌}
-use Rattle.mt_lines.specs.Names.{Tickets, operation_of, TakesName}
-use Rattle.mt_lines.proofs.NameLemmas.{row_takes, row_same, takes_from}
+use Rattle.mt_lines.{specs.Names.{Tickets, operation_of, TakesName}, proofs.NameLemmas.{row_takes, row_same, takes_from}}
 use Rattle.mt_lines.proofs.names.Names.insert.Goals as goal
 
 pub invariant_of-self-2 : goal.invariant_of-self-2

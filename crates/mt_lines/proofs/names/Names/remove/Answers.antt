@@ -1,8 +1,6 @@
-use Rattle.std.proofs.Common.{rules, ◌≡◌, ◌<◌, Some, sym, ◌∙◌, ap, subst, length}
-use Rattle.std.specs.Option.{option_map}
+use Rattle.std.{proofs.Common.{rules, ◌≡◌, ◌<◌, Some, sym, ◌∙◌, ap, subst, length}, specs.Option.option_map}
 use Rattle.mt_core.specs.declared.answers.Ticket.{Ticket}
-use Rattle.mt_lines.specs.Names.{Tickets, operation_of, FreesName}
-use Rattle.mt_lines.proofs.NameLemmas.{row_frees, frees_from, within_row}
+use Rattle.mt_lines.{specs.Names.{Tickets, operation_of, FreesName}, proofs.NameLemmas.{row_frees, frees_from, within_row}}
 use Rattle.mt_lines.proofs.names.Names.remove.Goals as goal
 
 pub index_mut-requires : goal.index_mut-requires

@@ -1,11 +1,7 @@
 -- That an operation whose name can't be kept is cancelled, and what a refusal is told, for `NamedStore::begin`.
-use Rattle.std.proofs.Common.{refl, sym, ap, subst, rules}
-use Rattle.std.specs.Prelude.{is_some}
-use Rattle.mt_core.specs.declared.answers.Ticket.{Ticket}
-use Rattle.mt_core.specs.Tickets.{IsStill, Cancels}
-use Rattle.mt_lines.specs.Names.{Tickets}
-use Rattle.mt_lines.specs.Stores.{HaveOneName}
-use Rattle.mt_lines.proofs.NamedLemmas.{named_same, cancelled_same}
+use Rattle.std.{proofs.Common.{refl, sym, ap, subst, rules}, specs.Prelude.is_some}
+use Rattle.mt_core.specs.{declared.answers.Ticket.Ticket, Tickets.{IsStill, Cancels}}
+use Rattle.mt_lines.{specs.{Names.Tickets, Stores.HaveOneName}, proofs.NamedLemmas.{named_same, cancelled_same}}
 use Rattle.mt_lines.proofs.store.NamedStore.begin.Goals as goal
 
 pub cancel-requires : goal.cancel-requires

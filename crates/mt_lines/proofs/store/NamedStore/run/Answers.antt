@@ -1,11 +1,8 @@
-use Rattle.std.proofs.Common.{◌≡◌, ◌≢◌, None, Some, refl, sym, ap, subst}
-use Rattle.std.specs.Option.{option_map}
+use Rattle.std.{proofs.Common.{◌≡◌, ◌≢◌, None, Some, refl, sym, ap, subst}, specs.Option.option_map}
 use Rattle.mt_core.specs.declared.answers.Ticket.{Ticket}
-use Rattle.mt_lines.specs.Names.{operation_of}
+use Rattle.mt_lines.specs.{Names.operation_of, Stores.{StoreView, TellsWalk, TellsNamed}}
+use Rattle.mt_lines.proofs.{StepLemmas.{never_stops, walk_can_say, tells_walk, of_named}, NamedLemmas.{named_same, walk_same}}
 use Rattle.mt_state.specs.declared.moves.Move.TheVariants.{Moved}
-use Rattle.mt_lines.specs.Stores.{StoreView, TellsWalk, TellsNamed}
-use Rattle.mt_lines.proofs.StepLemmas.{never_stops, walk_can_say, tells_walk, of_named}
-use Rattle.mt_lines.proofs.NamedLemmas.{named_same, walk_same}
 use Rattle.mt_lines.proofs.store.NamedStore.run.Goals as goal
 
 pub respond-requires-clause-named : goal.respond-requires-clause-named

@@ -1,10 +1,7 @@
-use Rattle.std.proofs.Common.{◌≡◌, Some, refl, sym, ap, subst}
-use Rattle.std.specs.Option.{option_map}
+use Rattle.std.{proofs.Common.{◌≡◌, Some, refl, sym, ap, subst}, specs.Option.option_map}
 use Rattle.mt_core.specs.declared.answers.Ticket.{Ticket}
-use Rattle.mt_lines.specs.Names.{operation_of}
-use Rattle.mt_lines.specs.Stores.{StoreView, TellsStep, TellsNamed}
-use Rattle.mt_lines.proofs.StepLemmas.{tells_move, can_say, tells_step, of_named}
-use Rattle.mt_lines.proofs.NamedLemmas.{named_same, move_same}
+use Rattle.mt_lines.specs.{Names.operation_of, Stores.{StoreView, TellsStep, TellsNamed}}
+use Rattle.mt_lines.proofs.{StepLemmas.{tells_move, can_say, tells_step, of_named}, NamedLemmas.{named_same, move_same}}
 use Rattle.mt_lines.proofs.store.NamedStore.step.Goals as goal
 
 pub respond-requires-clause-named : goal.respond-requires-clause-named

@@ -1,11 +1,7 @@
-use Rattle.std.proofs.Common.{◌≡◌, Some, refl, sym, ap, subst}
-use Rattle.std.specs.Option.{option_map}
+use Rattle.std.{proofs.Common.{◌≡◌, Some, refl, sym, ap, subst}, specs.Option.option_map}
 use Rattle.mt_core.specs.declared.answers.Ticket.{Ticket}
-use Rattle.mt_lines.specs.Names.{operation_of}
-use Rattle.mt_lines.specs.declared.response.Response.TheVariants.{At}
-use Rattle.mt_lines.specs.Stores.{StoreView, TellsWalk, TellsNamed}
-use Rattle.mt_lines.proofs.StepLemmas.{walk_can_say, tells_walk, stands_there, of_named}
-use Rattle.mt_lines.proofs.NamedLemmas.{named_same, walk_same}
+use Rattle.mt_lines.specs.{Names.operation_of, declared.response.Response.TheVariants.At, Stores.{StoreView, TellsWalk, TellsNamed}}
+use Rattle.mt_lines.proofs.{StepLemmas.{walk_can_say, tells_walk, stands_there, of_named}, NamedLemmas.{named_same, walk_same}}
 use Rattle.mt_lines.proofs.store.NamedStore.until.Goals as goal
 
 pub invariant_of-self : goal.invariant_of-self

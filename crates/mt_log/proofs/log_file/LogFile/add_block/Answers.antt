@@ -1,12 +1,7 @@
 -- What `add` says of bytes, said of a log's contents.
 use Rattle.std.proofs.Common.{◌+◌, length, sym, ◌∙◌, subst}
-use Rattle.mt_log.specs.declared.log_file.LogFile.{LogFile}
-use Rattle.mt_log.specs.Format.{body}
-use Rattle.mt_log.specs.Contents.{log_bytes}
-use Rattle.mt_log.specs.Fronts.{IsAtRest}
-use Rattle.mt_log.specs.Logs.{Appended, FailedIn}
-use Rattle.mt_log.proofs.FrontLaws.{contents_more, more_bytes, end_more}
-use Rattle.mt_log.proofs.ReadLaws.{on_err}
+use Rattle.mt_log.specs.{declared.log_file.LogFile.LogFile, Format.body, Contents.log_bytes, Fronts.IsAtRest, Logs.{Appended, FailedIn}}
+use Rattle.mt_log.proofs.{FrontLaws.{contents_more, more_bytes, end_more}, ReadLaws.on_err}
 use Rattle.mt_log.proofs.log_file.LogFile.add_block.Goals as goal
 
 pub returns-in_err-add-clause-err : goal.returns-in_err-add-clause-err

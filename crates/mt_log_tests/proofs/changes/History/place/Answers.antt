@@ -1,11 +1,8 @@
 -- The change that was placed has a key, as those before it have, and is of the last step.
-use Rattle.std.proofs.Common.{◌≡◌, ◌+◌, ◌≤◌, ◌++◌, ◌∷◌, [], List, None, rules, sym, subst, arith}
+use Rattle.std.proofs.{Common.{◌≡◌, ◌+◌, ◌≤◌, ◌++◌, ◌∷◌, [], List, None, rules, sym, subst, arith}, lemmas.List.Elements.{All-append, All-cons, All-nil}}
 use Rattle.std.specs.List.{All}
-use Rattle.std.proofs.lemmas.List.Elements.{All-append, All-cons, All-nil}
 use Rattle.mt_rows.specs.Commands.{IsKey}
-use Rattle.mt_tape.specs.declared.entry.Entry.{Entry}
-use Rattle.mt_tape.specs.Tapes.{last_step_over}
-use Rattle.mt_tape.proofs.EntryLaws.{last_step_over-push}
+use Rattle.mt_tape.{specs.{declared.entry.Entry.Entry, Tapes.last_step_over}, proofs.EntryLaws.last_step_over-push}
 use Rattle.mt_log_tests.proofs.changes.History.place.Goals as goal
 
 pub invariant_of-self-2-clause-keys : goal.invariant_of-self-2-clause-keys

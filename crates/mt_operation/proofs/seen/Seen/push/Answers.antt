@@ -1,6 +1,5 @@
 -- The new pair stands behind those that were seen.
-use Rattle.std.proofs.Common.{◌≡◌, ◌++◌, length, ap, ◌∙◌, arith}
-use Rattle.std.proofs.lemmas.List.{length-append, append_assoc}
+use Rattle.std.proofs.{Common.{◌≡◌, ◌++◌, length, ap, ◌∙◌, arith}, lemmas.List.{length-append, append_assoc}}
 use Rattle.mt_rows.specs.Rows.{Bytes}
 use Rattle.mt_operation.proofs.Seeing.{one_more}
 use Rattle.mt_operation.proofs.seen.Seen.push.Goals as goal

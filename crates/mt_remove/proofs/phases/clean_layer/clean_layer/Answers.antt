@@ -1,14 +1,10 @@
 -- That the link leads to a tree, that another operation holds its root, and what is kept once that is held, and once the layer was taken out.
 use Rattle.std.proofs.Common.{rules, ◌≡◌, ℕ, Option, Some, None, inl, inr, sym, ap, subst, ◌∙◌}
-use Rattle.mt_arena.specs.NodeView.{NodeView}
-use Rattle.mt_arena.specs.declared.tree.Tree.{Tree}
-use Rattle.mt_arena.specs.Accesses.{at}
-use Rattle.mt_arena.specs.Removals.{without_layer}
+use Rattle.mt_arena.specs.{NodeView.NodeView, declared.tree.Tree.Tree, Accesses.at, Removals.without_layer}
 use Rattle.mt_operation.specs.declared.walk.Walk.{Walk}
 use Rattle.mt_descent.specs.WalkMoves.{Continues}
 use Rattle.mt_remove.specs.RemovalEdits.{root_of, with_lock, GoesOnEmptied}
-use Rattle.mt_remove.proofs.GoingOn.{emptied_walk, emptied_either, emptied_child}
-use Rattle.mt_remove.proofs.DroppingLayers.{tree_there}
+use Rattle.mt_remove.proofs.{GoingOn.{emptied_walk, emptied_either, emptied_child}, DroppingLayers.tree_there}
 use Rattle.mt_remove.proofs.CleaningOn.{held_link, root_another, held_done, held_holds, dropped_done, dropped_holds}
 use Rattle.mt_remove.proofs.phases.clean_layer.clean_layer.Goals as goal
 

@@ -1,7 +1,6 @@
 -- That a slot which was found with a link leads to a tree, and that no other slot leads the key anywhere.
 use Rattle.std.proofs.Common.{ap}
-use Rattle.mt_arena.specs.NodeView.{NodeView}
-use Rattle.mt_arena.specs.Accesses.{at}
+use Rattle.mt_arena.specs.{NodeView.NodeView, Accesses.at}
 use Rattle.mt_held.proofs.Looks.{link_there, leads_there}
 use Rattle.mt_remove.proofs.Linked.{none_here, none_long, none_other}
 use Rattle.mt_remove.proofs.phases.clean_layer.link_to.Goals as goal

@@ -1,10 +1,6 @@
 -- That nobody else is making the lower tree, that it may be taken out once its empty root is held, and what that leaves.
 use Rattle.std.proofs.Common.{rules, ◌≡◌, [], sym, ap, subst, ◌∙◌}
-use Rattle.mt_arena.specs.NodeView.{NodeView}
-use Rattle.mt_arena.specs.Settled.{IsSettled}
-use Rattle.mt_arena.specs.Arena.{ArenaView}
-use Rattle.mt_arena.specs.Accesses.{at, IsOpen}
-use Rattle.mt_arena.specs.Removals.{MayDropLayer, without_layer}
+use Rattle.mt_arena.specs.{NodeView.NodeView, Settled.IsSettled, Arena.ArenaView, Accesses.{at, IsOpen}, Removals.{MayDropLayer, without_layer}}
 use Rattle.mt_remove.specs.RemovalEdits.{with_lock, root_of}
 use Rattle.mt_remove.proofs.DroppingLayers.{root_open, root_now, may_drop, settled_on, locked_is, free_is, link_there, dropped_settled, dropped_step}
 use Rattle.mt_remove.proofs.phases.clean_layer.take_layer.Goals as goal

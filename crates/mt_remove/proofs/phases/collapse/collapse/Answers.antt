@@ -1,6 +1,5 @@
 -- That the root may be taken out, and what is kept then.
-use Rattle.std.proofs.Common.{ℕ, refl, ap, sym, ◌∙◌, rules}
-use Rattle.std.proofs.lemmas.Option.{same_Some}
+use Rattle.std.proofs.{Common.{ℕ, refl, ap, sym, ◌∙◌, rules}, lemmas.Option.same_Some}
 use Rattle.mt_arena.specs.Removals.{without_root}
 use Rattle.mt_remove.proofs.Collapsing.{may_done, collapse_done, collapse_done_holds}
 use Rattle.mt_remove.proofs.phases.collapse.collapse.Goals as goal

@@ -1,23 +1,15 @@
 -- That the holder may take its key's pair out, what that is for contents and tape, and what is kept then.
 use Rattle.std.proofs.Common.{rules, ℕ, sym, ap, subst, ◌∙◌}
-use Rattle.std.specs.FinMap as finite
 use Rattle.mt_rows.specs.Rows.{Bytes}
-use Rattle.mt_border.specs.declared.entry.Entry.{Entry}
-use Rattle.mt_border.specs.Entries.{without}
+use Rattle.mt_border.specs.{declared.entry.Entry.Entry, Entries.without}
 use Rattle.mt_tape.specs.declared.entry.Entry.{Entry as Write}
-use Rattle.mt_arena.specs.Edits.{with_slots}
-use Rattle.mt_arena.specs.Arena.{ArenaView, content_of}
-use Rattle.mt_arena.specs.Accesses.{at, with_node}
-use Rattle.mt_operation.specs.declared.removal.Removal.{Removal}
-use Rattle.mt_operation.specs.declared.walk.Walk.{Walk}
+use Rattle.mt_arena.specs.{Edits.with_slots, Arena.{ArenaView, content_of}, Accesses.{at, with_node}}
+use Rattle.mt_operation.specs.{declared.removal.Removal.Removal, declared.walk.Walk.Walk}
 use Rattle.mt_descent.specs.WalkMoves.{Continues}
-use Rattle.mt_held.specs.Holds.{HoldsOnly}
-use Rattle.mt_held.specs.Taping.{pushed}
-use Rattle.mt_held.specs.Moves.{walk_at}
-use Rattle.mt_held.proofs.Places.{row_here, may_store}
+use Rattle.mt_held.{specs.{Holds.HoldsOnly, Taping.pushed, Moves.walk_at}, proofs.Places.{row_here, may_store}}
 use Rattle.mt_remove.specs.KeptRemovals.{IsEmptyChild, IsUnburdened, KeptRemoval}
-use Rattle.mt_remove.proofs.Dropping.{dropped_kept, dropped_only}
-use Rattle.mt_remove.proofs.GoingOn.{emptied_walk, emptied_either, emptied_child}
+use Rattle.mt_remove.proofs.{Dropping.{dropped_kept, dropped_only}, GoingOn.{emptied_walk, emptied_either, emptied_child}}
+use Rattle.std.specs.FinMap as finite
 use Rattle.mt_remove.proofs.phases.drop_key.drop_key.Goals as goal
 
 pub drop_key-requires : goal.drop_key-requires

@@ -1,19 +1,12 @@
 -- That the node behind may name the left neighbour, and what is kept once it does.
-use Rattle.std.proofs.Common.{◌≡◌, ℕ, Option, Some, None, refl, ap, sym, ◌∙◌, rules}
-use Rattle.std.proofs.lemmas.Option.{same_Some, none-some}
+use Rattle.std.proofs.{Common.{◌≡◌, ℕ, Option, Some, None, refl, ap, sym, ◌∙◌, rules}, lemmas.Option.{same_Some, none-some}}
 use Rattle.mt_rows.specs.Rows.{Bytes}
-use Rattle.mt_arena.specs.Arena.{ArenaView, content_of}
-use Rattle.mt_arena.specs.Accesses.{at}
-use Rattle.mt_operation.specs.declared.phase.Phase.{Phase}
-use Rattle.mt_operation.specs.declared.walk.Walk.{Walk}
-use Rattle.mt_operation.specs.declared.removal.Removal.{Removal}
+use Rattle.mt_arena.specs.{Arena.{ArenaView, content_of}, Accesses.at, NodeView.NodeView}
+use Rattle.mt_operation.specs.{declared.phase.Phase.Phase, declared.walk.Walk.Walk, declared.removal.Removal.Removal}
 use Rattle.mt_held.specs.Moves.{walk_at, with_named_previous}
-use Rattle.mt_remove.specs.KeptRemovals.{IsAtFixNext}
-use Rattle.mt_remove.specs.RemovalEdits.{for_rest}
-use Rattle.mt_arena.specs.NodeView.{NodeView}
-use Rattle.mt_remove.proofs.Fixing.{named_border, named_tied, named_open, fix_done, fix_done_holds}
+use Rattle.mt_remove.specs.{KeptRemovals.IsAtFixNext, RemovalEdits.for_rest}
+use Rattle.mt_remove.proofs.{Fixing.{named_border, named_tied, named_open, fix_done, fix_done_holds}, phases.fix_next.fix_next.Goals.{in-Some, in_default}}
 use Rattle.mt_remove.proofs.phases.fix_next.fix_next.Goals as goal
-use Rattle.mt_remove.proofs.phases.fix_next.fix_next.Goals.{in-Some, in_default}
 
 pub set_previous-requires-clause-border : goal.set_previous-requires-clause-border
 set_previous-requires-clause-border c =

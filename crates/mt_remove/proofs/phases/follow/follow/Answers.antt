@@ -1,9 +1,7 @@
 -- That a removal which meets a link may load its tree, and goes on there; and that no slot has one where the node has a pair.
 use Rattle.std.proofs.Common.{ap, inl, inr}
-use Rattle.mt_arena.specs.NodeView.{NodeView}
-use Rattle.mt_arena.specs.Accesses.{at}
-use Rattle.mt_held.proofs.Looks.{link_there, leads_there}
-use Rattle.mt_held.proofs.Places.{meets_link}
+use Rattle.mt_arena.specs.{NodeView.NodeView, Accesses.at}
+use Rattle.mt_held.proofs.{Looks.{link_there, leads_there}, Places.meets_link}
 use Rattle.mt_remove.proofs.Linked.{no_link_here, no_link_long}
 use Rattle.mt_remove.proofs.phases.follow.follow.Goals as goal
 

@@ -1,11 +1,8 @@
 -- That a removal which meets a link may load its tree, and goes on there; and that the key is missing where the node has nothing of it, or another long one.
 use Rattle.std.proofs.Common.{refl, ap}
-use Rattle.mt_border.specs.declared.entry.Find.TheVariants.{Missing, Slot}
-use Rattle.mt_border.specs.declared.entry.FoundKind.TheVariants.{OtherLong}
-use Rattle.mt_arena.specs.NodeView.{NodeView}
-use Rattle.mt_arena.specs.Accesses.{at}
-use Rattle.mt_held.proofs.Looks.{link_there, leads_there}
-use Rattle.mt_held.proofs.Places.{meets_link, none_here}
+use Rattle.mt_border.specs.{declared.entry.Find.TheVariants.{Missing, Slot}, declared.entry.FoundKind.TheVariants.OtherLong}
+use Rattle.mt_arena.specs.{NodeView.NodeView, Accesses.at}
+use Rattle.mt_held.proofs.{Looks.{link_there, leads_there}, Places.{meets_link, none_here}}
 use Rattle.mt_remove.proofs.Looking.{none_beside}
 use Rattle.mt_remove.proofs.phases.judge.judge.Goals as goal
 

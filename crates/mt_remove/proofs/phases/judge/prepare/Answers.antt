@@ -1,7 +1,6 @@
 -- That the slot has a pair, and that what is made ready is the removal of its row.
 use Rattle.std.proofs.Common.{ap}
-use Rattle.mt_arena.specs.NodeView.{NodeView}
-use Rattle.mt_arena.specs.Accesses.{at}
+use Rattle.mt_arena.specs.{NodeView.NodeView, Accesses.at}
 use Rattle.mt_remove.proofs.Looking.{pair_there}
 use Rattle.mt_remove.proofs.phases.judge.prepare.Goals as goal
 

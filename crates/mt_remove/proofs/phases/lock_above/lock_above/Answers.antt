@@ -1,14 +1,10 @@
 -- That another operation is in the way, that nobody else is making the parent's tree, and what is kept once it is held.
-use Rattle.std.proofs.Common.{◌≡◌, ℕ, ◌<◌, length, Option, Some, ap, sym, subst, ◌∙◌, rules}
-use Rattle.std.proofs.lemmas.Option.{same_Some}
+use Rattle.std.proofs.{Common.{◌≡◌, ℕ, ◌<◌, length, Option, Some, ap, sym, subst, ◌∙◌, rules}, lemmas.Option.same_Some}
 use Rattle.mt_interior.specs.Places.{place_of}
-use Rattle.mt_arena.specs.NodeView.{NodeView}
-use Rattle.mt_arena.specs.Arena.{ArenaView}
-use Rattle.mt_arena.specs.Accesses.{at}
+use Rattle.mt_arena.specs.{NodeView.NodeView, Arena.ArenaView, Accesses.at}
 use Rattle.mt_operation.specs.declared.phase.Phase.{Phase}
 use Rattle.mt_held.specs.Moves.{walk_at}
-use Rattle.mt_remove.specs.RemovalEdits.{with_lock}
-use Rattle.mt_remove.specs.Unlinks.{IsChildBefore}
+use Rattle.mt_remove.specs.{RemovalEdits.with_lock, Unlinks.IsChildBefore}
 use Rattle.mt_remove.proofs.LockingAbove.{above_another, above_open, inside, in_place, before_locked, before_unlocked, above_kept, above_holds}
 use Rattle.mt_remove.proofs.phases.lock_above.lock_above.Goals as goal
 

@@ -1,7 +1,6 @@
 -- That the phase tells whether the left neighbour is the child before.
 use Rattle.std.proofs.Common.{◌≡◌, ℕ, sym, ap, subst, ◌∙◌}
-use Rattle.mt_arena.specs.NodeView.{NodeView}
-use Rattle.mt_arena.specs.Accesses.{at}
+use Rattle.mt_arena.specs.{NodeView.NodeView, Accesses.at}
 use Rattle.mt_remove.specs.Unlinks.{IsChildBefore}
 use Rattle.mt_remove.proofs.phases.lock_above.phase_above.Goals as goal
 

@@ -1,10 +1,7 @@
 -- That another operation is in the way, that nobody else is making the neighbour's tree, and what is kept once it is held.
-use Rattle.std.proofs.Common.{◌≡◌, ℕ, Option, Some, ap, sym, ◌∙◌, rules}
-use Rattle.std.proofs.lemmas.Option.{same_Some}
-use Rattle.mt_arena.specs.NodeView.{NodeView}
-use Rattle.mt_arena.specs.Accesses.{at}
-use Rattle.mt_remove.specs.RemovalEdits.{with_lock}
-use Rattle.mt_remove.proofs.Locking.{prev_another, prev_open, prev_kept, prev_holds}
+use Rattle.std.proofs.{Common.{◌≡◌, ℕ, Option, Some, ap, sym, ◌∙◌, rules}, lemmas.Option.same_Some}
+use Rattle.mt_arena.specs.{NodeView.NodeView, Accesses.at}
+use Rattle.mt_remove.{specs.RemovalEdits.with_lock, proofs.Locking.{prev_another, prev_open, prev_kept, prev_holds}}
 use Rattle.mt_remove.proofs.phases.lock_prev.lock_prev.Goals as goal
 
 -- the neighbour that the node names, and who holds it

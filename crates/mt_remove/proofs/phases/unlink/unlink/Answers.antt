@@ -1,13 +1,9 @@
 -- What is kept once the node was taken out.
-use Rattle.std.proofs.Common.{ℕ, refl, ap, sym, ◌∙◌, rules}
-use Rattle.std.proofs.lemmas.Option.{same_Some}
-use Rattle.mt_arena.specs.NodeView.{NodeView}
-use Rattle.mt_arena.specs.Accesses.{at}
-use Rattle.mt_arena.specs.Removals.{without_node}
+use Rattle.std.proofs.{Common.{ℕ, refl, ap, sym, ◌∙◌, rules}, lemmas.Option.same_Some}
+use Rattle.mt_arena.specs.{NodeView.NodeView, Accesses.at, Removals.without_node}
 use Rattle.mt_operation.specs.declared.phase.Phase.{Phase}
 use Rattle.mt_held.specs.Moves.{walk_at}
-use Rattle.mt_remove.specs.RemovalEdits.{after_unlink}
-use Rattle.mt_remove.proofs.TakingOut.{unlink_done, unlink_done_holds}
+use Rattle.mt_remove.{specs.RemovalEdits.after_unlink, proofs.TakingOut.{unlink_done, unlink_done_holds}}
 use Rattle.mt_remove.proofs.phases.unlink.unlink.Goals as goal
 
 pub returns : goal.returns

@@ -1,8 +1,7 @@
 -- What a removal leaves that gives its locks back, by whether it has left a layer empty.
 use Rattle.std.proofs.Common.{rules, Some, sym, subst}
 use Rattle.mt_operation.specs.declared.removal.Removal.{Removal}
-use Rattle.mt_remove.specs.KeptRemovals.{IsCleaning}
-use Rattle.mt_remove.proofs.Leaving.{holds_none, enters_top, goes_to_link}
+use Rattle.mt_remove.{specs.KeptRemovals.IsCleaning, proofs.Leaving.{holds_none, enters_top, goes_to_link}}
 use Rattle.mt_remove.proofs.phases.unlock.unlock.Goals as goal
 
 pub returns-then-cleans : goal.returns-then-cleans

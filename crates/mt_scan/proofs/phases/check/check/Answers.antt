@@ -1,16 +1,11 @@
 -- What Check makes of a scan, and what is kept of it.
 use Rattle.std.proofs.Common.{sym, ap, subst, ◌∙◌}
-use Rattle.mt_version.specs.Parts.{Parts}
-use Rattle.mt_version.specs.Changes.{IsStable, SameButLock}
+use Rattle.mt_version.specs.{Parts.Parts, Changes.{IsStable, SameButLock}}
 use Rattle.mt_rows.specs.Rows.{Bytes}
-use Rattle.mt_arena.specs.NodeView.{NodeView}
-use Rattle.mt_arena.specs.declared.tree.Tree.{Tree}
-use Rattle.mt_arena.specs.Accesses.{at}
+use Rattle.mt_arena.specs.{NodeView.NodeView, declared.tree.Tree.Tree, Accesses.at}
 use Rattle.mt_descent.proofs.Ways.{kept_moved_on}
 use Rattle.mt_operation.specs.Operations.{scan_of}
-use Rattle.mt_scan.specs.Snaps.{prefix_in}
-use Rattle.mt_scan.specs.Goings.{HasBehind}
-use Rattle.mt_scan.proofs.Checking.{checked, stands, has_behind, kept_kept, kept_moved}
+use Rattle.mt_scan.{specs.{Snaps.prefix_in, Goings.HasBehind}, proofs.Checking.{checked, stands, has_behind, kept_kept, kept_moved}}
 use Rattle.mt_scan.proofs.phases.check.check.Goals as goal
 
 pub keep-requires-clause-fence : goal.keep-requires-clause-fence

@@ -1,7 +1,6 @@
 -- What was seen is kept, and the scan is done or goes on.
 use Rattle.std.proofs.Common.{sym, subst}
-use Rattle.mt_scan.specs.Goings.{HasBehind}
-use Rattle.mt_scan.proofs.Checking.{keeps_all, keeps_some, on_both}
+use Rattle.mt_scan.{specs.Goings.HasBehind, proofs.Checking.{keeps_all, keeps_some, on_both}}
 use Rattle.mt_scan.proofs.phases.check.keep.Goals as goal
 
 pub returns-then-branch-clause-keeps : goal.returns-then-branch-clause-keeps

@@ -1,18 +1,11 @@
 -- What Snap reads, and what is kept of it.
-use Rattle.std.proofs.Common.{◌≡◌, ℕ, true, false, Option, Result, Ok, Err, refl, sym, ap, subst, ◌∙◌}
-use Rattle.std.specs.Prelude.{OnErr}
-use Rattle.std.specs.List.{All}
+use Rattle.std.{proofs.Common.{◌≡◌, ℕ, true, false, Option, Result, Ok, Err, refl, sym, ap, subst, ◌∙◌}, specs.{Prelude.OnErr, List.All}}
 use Rattle.mt_rows.specs.Rows.{Bytes}
 use Rattle.mt_slices.specs.Keys.{tenant_of}
-use Rattle.mt_arena.specs.NodeView.{NodeView}
-use Rattle.mt_arena.specs.declared.tree.Tree.{Tree}
-use Rattle.mt_arena.specs.Accesses.{at}
-use Rattle.mt_operation.specs.Operations.{ScanView, scan_of}
-use Rattle.mt_operation.specs.declared.phase.Phase.TheVariants.{Check}
+use Rattle.mt_arena.specs.{NodeView.NodeView, declared.tree.Tree.Tree, Accesses.at}
+use Rattle.mt_operation.specs.{Operations.{ScanView, scan_of}, declared.phase.Phase.TheVariants.Check}
 use Rattle.mt_readings.specs.Reading.{is_behind}
-use Rattle.mt_scan.specs.Snaps.{SnapsOr, StopsAt, next_at}
-use Rattle.mt_scan.specs.Looks.{has_unstable, NamesTenant, IsOfTenant}
-use Rattle.mt_scan.specs.Hops.{IsAtCheck}
+use Rattle.mt_scan.specs.{Snaps.{SnapsOr, StopsAt, next_at}, Looks.{has_unstable, NamesTenant, IsOfTenant}, Hops.IsAtCheck}
 use Rattle.mt_scan.proofs.Snapping.{same_behind, blocked, held_then, names, of_tenant, settled, ends, all_seen, at_check}
 use Rattle.mt_scan.proofs.phases.snap.snap.Goals as goal
 

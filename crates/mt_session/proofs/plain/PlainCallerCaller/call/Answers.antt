@@ -1,6 +1,5 @@
 -- a command is that of the opened tenant
-use Rattle.std.proofs.Common.{◌<◌, ℕ, length, Option, slice_set, refl, sym, subst}
-use Rattle.std.proofs.lemmas.Option.{slice_get_read}
+use Rattle.std.proofs.{Common.{◌<◌, ℕ, length, Option, slice_set, refl, sym, subst}, lemmas.Option.slice_get_read}
 use Rattle.mt_session.specs.Plain.{PlainTenants, plain_tenants, IsInList, PlainCalls}
 use Rattle.mt_session.proofs.plain.PlainCallerCaller.call.Goals as goal
 

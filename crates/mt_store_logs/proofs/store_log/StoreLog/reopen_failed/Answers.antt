@@ -1,6 +1,5 @@
 -- The log is open again by its ends, and then the batch that waited is in it or waits.
-use Rattle.std.proofs.Common.{inr}
-use Rattle.std.proofs.lemmas.Result.{on_ok_weaker, IfErr-weaker}
+use Rattle.std.proofs.{Common.inr, lemmas.Result.{on_ok_weaker, IfErr-weaker}}
 use Rattle.mt_store_logs.proofs.store_log.StoreLog.reopen_failed.Goals as goal
 
 pub returns-in-Ok-clause-ok : goal.returns-in-Ok-clause-ok

@@ -1,6 +1,5 @@
 -- What was flushed is the log of the worker that was named.
-use Rattle.std.proofs.Common.{◌≡◌, ◌∙◌, sym, ap}
-use Rattle.std.proofs.lemmas.Result.{IfOk-weaker}
+use Rattle.std.proofs.{Common.{◌≡◌, ◌∙◌, sym, ap}, lemmas.Result.IfOk-weaker}
 use Rattle.mt_store_logs.specs.declared.store_log.StoreLog.{StoreLog}
 use Rattle.mt_stored.proofs.shared.SharedLogsLogs.bring_up.Goals as goal
 

@@ -1,9 +1,6 @@
 use Rattle.std.proofs.Common.{◌≡◌, ◌∙◌, length, sym, ap, subst, arith}
-use Rattle.mt_store_logs.specs.Places.{AreInOrder}
-use Rattle.mt_store_logs.proofs.Closed.{length-closed, closed_in_order, same_order}
+use Rattle.mt_store_logs.{specs.Places.{AreInOrder, MakesAll, closed_on}, proofs.Closed.{length-closed, closed_in_order, same_order}}
 use Rattle.mt_state.specs.Begins.{new_state}
-use Rattle.mt_store_logs.specs.Places.{MakesAll}
-use Rattle.mt_store_logs.specs.Places.{closed_on}
 use Rattle.mt_stored.proofs.Slices.{whole}
 use Rattle.mt_stored.proofs.stores.Store.create.Goals as goal
 

@@ -1,13 +1,9 @@
-use Rattle.std.proofs.Common.{◌≡◌, ◌∙◌, length, sym, ap, subst, arith}
-use Rattle.std.specs.List.{All}
-use Rattle.mt_store_logs.specs.Places.{AreInOrder}
-use Rattle.mt_store_logs.proofs.Closed.{length-closed, closed_in_order, same_order}
+use Rattle.std.{proofs.Common.{◌≡◌, ◌∙◌, length, sym, ap, subst, arith}, specs.List.All}
+use Rattle.mt_store_logs.specs.{Places.{AreInOrder, closed_on}, Recovers.ServesAgain}
+use Rattle.mt_store_logs.proofs.{Closed.{length-closed, closed_in_order, same_order}, Limits.{limits_of, resumes_within}}
 use Rattle.mt_rows.specs.TenantPairs.{AreDistinct, IsTenantPair}
 use Rattle.mt_core.specs.Restores.{IsRestored}
-use Rattle.mt_store_logs.specs.Recovers.{ServesAgain}
-use Rattle.mt_store_logs.specs.Places.{closed_on}
 use Rattle.mt_recover.proofs.Limits.{distinct}
-use Rattle.mt_store_logs.proofs.Limits.{limits_of, resumes_within}
 use Rattle.mt_stored.proofs.Slices.{whole}
 use Rattle.mt_stored.proofs.stores.Store.recover_watched.Goals as goal
 

@@ -1,14 +1,9 @@
 -- That a turn is one of the store, whose logs stay as many and in order after it.
-use Rattle.std.proofs.Common.{rules, ◌≡◌, ◌<◌, length, Some, sym, subst, ap, ◌∙◌, arith}
+use Rattle.std.proofs.{Common.{rules, ◌≡◌, ◌<◌, length, Some, sym, subst, ap, ◌∙◌, arith}, lemmas.Option.slice_get-get_or, lemmas.Result.IfOk-weaker}
 use Rattle.std.specs.Prelude.{slice_get, slice_set, IfOk, IfErr}
-use Rattle.std.proofs.lemmas.Option.{slice_get-get_or}
-use Rattle.std.proofs.lemmas.Result.{IfOk-weaker}
 use Rattle.mt_settle.specs.Turns.{BroughtUp, mark_told}
-use Rattle.mt_store_logs.proofs.Closed.{same_order}
-use Rattle.mt_store_logs.proofs.Loops.{same_workers}
-use Rattle.mt_store_logs.specs.LogTurns.{BringsUp, FailsToBringUp}
-use Rattle.mt_stored.specs.Stores.{gives_own, DoesStore}
-use Rattle.mt_stored.proofs.StoreTurns.{turned, as_many}
+use Rattle.mt_store_logs.{proofs.{Closed.same_order, Loops.same_workers}, specs.LogTurns.{BringsUp, FailsToBringUp}}
+use Rattle.mt_stored.{specs.Stores.{gives_own, DoesStore}, proofs.StoreTurns.{turned, as_many}}
 use Rattle.mt_stored.proofs.stores.StoreLogs.bring_up.Goals as goal
 
 pub bring_up-requires : goal.bring_up-requires

@@ -1,6 +1,5 @@
 use Rattle.std.proofs.Common.{sym, ap, ◌∙◌}
-use Rattle.mt_table.specs.Seats.{operation_in}
-use Rattle.mt_table.proofs.Places.{shown_op}
+use Rattle.mt_table.{specs.Seats.operation_in, proofs.Places.shown_op}
 use Rattle.mt_table.proofs.table.Operations.get.Goals as goal
 
 pub returns-in-Some : goal.returns-in-Some

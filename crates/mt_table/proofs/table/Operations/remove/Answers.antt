@@ -1,7 +1,6 @@
 use Rattle.std.proofs.Common.{sym, ap, ◌∙◌}
 use Rattle.mt_table.specs.Seats.{operation_in}
-use Rattle.mt_table.proofs.Places.{shown_op, seats_kept, room_on, slot_given}
-use Rattle.mt_table.proofs.TableMoves.{before_there, after_there, gone_sound, gone_shows, gone_table}
+use Rattle.mt_table.proofs.{Places.{shown_op, seats_kept, room_on, slot_given}, TableMoves.{before_there, after_there, gone_sound, gone_shows, gone_table}}
 use Rattle.mt_table.proofs.table.Operations.remove.Goals as goal
 
 pub cut-requires-clause-before : goal.cut-requires-clause-before

@@ -1,7 +1,6 @@
 use Rattle.std.proofs.Common.{ap, arith}
 use Rattle.slab.specs.Slab.{Slab}
-use Rattle.mt_table.specs.declared.queue.Seat.{Seat}
-use Rattle.mt_table.proofs.Places.{room_shown, room_adds}
+use Rattle.mt_table.{specs.declared.queue.Seat.Seat, proofs.Places.{room_shown, room_adds}}
 use Rattle.mt_table.proofs.table.Operations.reserve.Goals as goal
 
 pub returns-clause-room : goal.returns-clause-room

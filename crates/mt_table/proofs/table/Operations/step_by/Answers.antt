@@ -1,6 +1,5 @@
 -- A step that a body makes, or none: the table stays one, and shows what has come of it.
-use Rattle.std.proofs.Common.{refl, ◌∙◌}
-use Rattle.std.specs.Fn.{CalledAtMut}
+use Rattle.std.{proofs.Common.{refl, ◌∙◌}, specs.Fn.CalledAtMut}
 use Rattle.mt_operation.specs.declared.operation.Operation.{Operation}
 use Rattle.mt_table.specs.declared.steps.Made.{Made}
 use Rattle.mt_table.proofs.Places.{shown_op, seats_kept, room_on}

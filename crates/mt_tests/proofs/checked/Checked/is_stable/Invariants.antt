@@ -1,7 +1,5 @@
 use Rattle.std.proofs.Common.{ℕ, ◌<◌}
-use Rattle.mt_arena.specs.NodeFacts.{IsUnstable}
-use Rattle.mt_arena.specs.Layers.{slot_at}
-use Rattle.mt_arena.specs.Accesses.{at}
+use Rattle.mt_arena.specs.{NodeFacts.IsUnstable, Layers.slot_at, Accesses.at}
 use Rattle.mt_tests.proofs.checked.Checked.is_stable.Given as goal
 
 abbrev pub invariant-loop-slot : goal.invariant-loop-slot

@@ -1,10 +1,7 @@
 -- Each call is for the layer of the slot, and no node is added.
-use Rattle.std.proofs.Common.{length, Some, None, ap, ◌∙◌}
-use Rattle.std.proofs.lemmas.List.{length-set}
+use Rattle.std.proofs.{Common.{length, Some, None, ap, ◌∙◌}, lemmas.List.length-set}
 use Rattle.mt_border.specs.declared.entry.Held.TheVariants.{Unstable, Link}
-use Rattle.mt_arena.specs.Arena.{ArenaView}
-use Rattle.mt_arena.specs.Accesses.{at}
-use Rattle.mt_arena.specs.Layering.{with_held}
+use Rattle.mt_arena.specs.{Arena.ArenaView, Accesses.at, Layering.with_held}
 use Rattle.mt_tests.proofs.LongKeys.{unstable, numbered, as_many}
 use Rattle.mt_tests.proofs.checked.Checked.make_link.Goals as goal
 

@@ -1,9 +1,7 @@
 use Rattle.std.proofs.Common.{rules, ◌≡◌, ◌<◌, length, false}
 use Rattle.mt_border.specs.declared.entry.Held.TheVariants.{Stable}
-use Rattle.mt_arena.specs.Layers.{slot_at}
-use Rattle.mt_arena.specs.Accesses.{at}
-use Rattle.mt_tests.specs.Checked.{IsOwn}
-use Rattle.mt_tests.proofs.FirstSlot.{may_change}
+use Rattle.mt_arena.specs.{Layers.slot_at, Accesses.at}
+use Rattle.mt_tests.{specs.Checked.IsOwn, proofs.FirstSlot.may_change}
 use Rattle.mt_tests.proofs.checked.Checked.may_change.Goals as goal
 
 pub returns-in-Some-Stable : goal.returns-in-Some-Stable

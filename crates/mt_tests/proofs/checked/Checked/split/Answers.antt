@@ -1,7 +1,6 @@
 -- The right half begins at the slice of a key of the node, or at that of the missing one.
 use Rattle.std.proofs.Common.{rules}
-use Rattle.mt_tests.specs.Checked.{Takes}
-use Rattle.mt_tests.proofs.Halves.{half_begins}
+use Rattle.mt_tests.{specs.Checked.Takes, proofs.Halves.half_begins}
 use Rattle.mt_tests.proofs.checked.Checked.split.Goals as goal
 
 pub begin_split-requires-clause-begins : goal.begin_split-requires-clause-begins
