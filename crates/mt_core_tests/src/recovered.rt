@@ -60,50 +60,53 @@ fn recovered(
     recovered.pairs
 }
 
-// The front of the only log, whose batch puts these pairs.
+// The front of the only log, whose batches put these pairs, each by a step of its own.
 fn one_front(rt: &impl Abort, alloc: Global, pairs: Vec<TenantPair>) -> Vec<Front> {
-    let batch = batch_of(rt, alloc, pairs);
-    assert!(rt; fits(&batch));
-    let front = front_of(alloc, batch).expect(rt, "a log");
+    let disk = MemDisk::new(alloc, Vec::new(alloc), None);
+    let mut log = LogFile::create(disk, 0, 1).ok().expect(rt, "a disk");
+    for pair in pairs {
+        log = with_put(rt, alloc, log, pair).expect(rt, "a disk");
+    }
+    let (_, front) = LogFile::open(alloc, log.into_disk())
+        .ok()
+        .expect(rt, "a log");
     let mut fronts = Vec::new(alloc);
     assert!(rt; fronts.push(front).is_ok());
     fronts
 }
 
-// The front of a log in memory that was given this batch.
-fn front_of(alloc: Global, batch: Batch) -> Option<Front>
-    requires { IsBatch batch }
-{
-    let disk = MemDisk::new(alloc, Vec::new(alloc), None);
-    let Ok(log) = LogFile::create(disk, 0, 1) else {
-        return None;
-    };
-    let Ok(log) = log.append(alloc, batch) else {
-        return None;
-    };
-    match LogFile::open(alloc, log.into_disk()) {
-        Ok((_, front)) => Some(front),
-        Err(_) => None,
-    }
+// A log with a put more.
+fn with_put(
+    rt: &impl Abort,
+    alloc: Global,
+    log: LogFile<MemDisk>,
+    pair: TenantPair,
+) -> Option<LogFile<MemDisk>> {
+    let batch = put_after(rt, alloc, log.mark(), pair);
+    log.append(alloc, batch).ok()
 }
 
-// A batch of a record for each pair, stamped with its place from 1 on.
-fn batch_of(rt: &impl Abort, alloc: Global, pairs: Vec<TenantPair>) -> Batch {
+// The batch of a put by the step after this one.
+fn put_after(rt: &impl Abort, alloc: Global, from: u64, pair: TenantPair) -> Batch
+    ensures { IsBatch result }
+{
+    assert!(rt; is_within(&pair) && from < u64::MAX);
     let mut records = Vec::new(alloc);
-    for pair in pairs {
-        let record = Record {
-            stamp: records.len() as u64 + 1,
-            tenant: pair.tenant,
-            key: pair.key,
-            row: Some(pair.row),
-        };
-        assert!(rt; records.push(record).is_ok());
-    }
-    Batch {
-        from: 0,
-        to: records.len() as u64,
-        records: Records::new(records),
-    }
+    let record = Record {
+        stamp: from + 1,
+        tenant: pair.tenant,
+        key: pair.key,
+        row: Some(pair.row),
+    };
+    assert!(rt; records.push(record).is_ok());
+    let records = Records::new(records);
+    let batch = Batch {
+        from,
+        to: from + 1,
+        records,
+    };
+    assert!(rt; fits(&batch));
+    batch
 }
 
 // Whether each pair is within the limits.
