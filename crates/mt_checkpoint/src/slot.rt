@@ -86,8 +86,8 @@ impl<D: Disk> Writer<D> {
         }
     }
 
-    // Its disk.
-    fn into_disk(self) -> D
+    /// Its disk. The checkpoint is given up, and the gate stays closed.
+    pub fn into_disk(self) -> D
         ensures { result ≡ self.disk }
     {
         let Writer {
