@@ -1,0 +1,179 @@
+//! Both slots at rest.
+
+ghost use Rattle.std.specs.Prelude.{◌≡◌, None, IfOk, IfErr, OnOk};
+ghost use Rattle.mt_checkpoint.specs.Slots.{ReadSlot, FailsToRead};
+ghost use Rattle.mt_slots.specs.{declared.slot.Slot.TheVariants.First, declared.fault.FaultCause.TheVariants.Device};
+ghost use Rattle.mt_slots.specs.Places.{other_of, disk_of, next_slot, slots_with, with_newest};
+ghost use Rattle.mt_slots.specs.Calls.{MakesSlot, FailsToMakeSlot, as_read_fault, MakesBoth, StopsMaking, TellsBoth, StopsReading, Begins, FailsToBeginIn};
+
+use crate::checkpointing::Checkpointing;
+use crate::fault::{FaultCause, SlotFault};
+use crate::slot::{Slot, slot_after};
+use mt_checkpoint::{Checkpoint, ReadFault, Writer, create_slot, read_valid};
+use mt_disk::{DeviceFailed, Disk};
+use std::alloc::Global;
+
+/// Two slots, each at rest, and which of them has the newest checkpoint. That one is never written over.
+#[derive(Drop)]
+pub struct StoreSlots<D: Disk> {
+    first: D,
+    second: D,
+    newest: Option<Slot>,
+}
+
+impl<D: Disk> StoreSlots<D> {
+    /// Slots on these disks, as these are found. No checkpoint of them counts as the newest one.
+    pub fn found(first: D, second: D) -> StoreSlots<D>
+        ensures { result ≡ slots_with First first second None }
+    {
+        StoreSlots {
+            first,
+            second,
+            newest: None,
+        }
+    }
+
+    /// Makes both anew, without a checkpoint, the first one first. What their disks held is lost. After an error,
+    /// which is of the device, they are made anew again.
+    pub fn create(&mut self) -> Result<(), SlotFault>
+        ensures ok { OnOk result (MakesBoth D.is_honest D.state D.failures self.old self.new) }
+        ensures err { IfErr result (λ e. StopsMaking D.is_honest D.state D.failures e self.old self.new) }
+    {
+        self.newest = None;
+        make_slot(&mut self.first, Slot::First)?;
+        make_slot(&mut self.second, Slot::Second)
+    }
+
+    /// What both slots have, the first one's first. An error tells the slot that was not read. Which one is the
+    /// newest stays as it was.
+    pub fn read(&mut self, alloc: Global) -> Result<[Option<Checkpoint>; 2], SlotFault>
+        ensures ok { IfOk result (TellsBoth D.is_honest D.state D.failures self.old self.new) }
+        ensures err { IfErr result (λ e. StopsReading D.is_honest D.state D.failures e self.old self.new) }
+    {
+        let first = read_slot(alloc, &mut self.first, Slot::First)?;
+        let second = read_slot(alloc, &mut self.second, Slot::Second)?;
+        Ok([first, second])
+    }
+
+    /// From now on this slot has the newest checkpoint: the store was recovered from it. None counts if it was
+    /// recovered without one.
+    pub fn keep(&mut self, used: Option<Slot>)
+        ensures { self.new ≡ with_newest used self.old }
+    {
+        self.newest = used;
+    }
+
+    /// The slot of the newest checkpoint.
+    pub fn newest(&self) -> Option<Slot>
+        ensures { result ≡ self.now.newest }
+    {
+        self.newest
+    }
+
+    /// The slot that the next checkpoint is written in.
+    pub fn next_slot(&self) -> Slot
+        ensures { result ≡ next_slot self.now.newest }
+    {
+        slot_after(self.newest)
+    }
+
+    /// Begins a checkpoint of a walk that began after step `first`, in the next slot. What that slot had is
+    /// lost, also after an error.
+    pub fn begin(self, first: u64) -> Result<Checkpointing<D>, (DeviceFailed, StoreSlots<D>)>
+        ensures ok { IfOk result (Begins D.is_honest D.state D.failures self first) }
+        ensures err { IfErr result (λ e. FailsToBeginIn D.is_honest D.state D.failures self e.1) }
+    {
+        let slot = self.next_slot();
+        let newest = self.newest;
+        let (disk, other) = self.parted(slot);
+        match Writer::begin(disk, first) {
+            Ok(writer) => Ok(Checkpointing::new(writer, other, newest)),
+            Err((failed, disk)) => Err((failed, StoreSlots::with(slot, disk, other, newest))),
+        }
+    }
+
+    /// Their disks, the first one's first.
+    pub fn into_disks(self) -> (D, D)
+        ensures first { result.0 ≡ self.first }
+        ensures second { result.1 ≡ self.second }
+    {
+        let StoreSlots {
+            first,
+            second,
+            newest: _,
+        } = self;
+        (first, second)
+    }
+
+    /// The slots of which this one has this disk.
+    pub(crate) fn with(slot: Slot, disk: D, other: D, newest: Option<Slot>) -> StoreSlots<D>
+        ensures { result ≡ slots_with slot disk other newest }
+    {
+        match slot {
+            Slot::First => StoreSlots {
+                first: disk,
+                second: other,
+                newest,
+            },
+            Slot::Second => StoreSlots {
+                first: other,
+                second: disk,
+                newest,
+            },
+        }
+    }
+
+    // The disk of a slot, and that of the other one.
+    fn parted(self, slot: Slot) -> (D, D)
+        ensures this { result.0 ≡ disk_of slot self }
+        ensures other { result.1 ≡ disk_of (other_of slot) self }
+    {
+        let (first, second) = self.into_disks();
+        match slot {
+            Slot::First => (first, second),
+            Slot::Second => (second, first),
+        }
+    }
+}
+
+// Makes one slot.
+fn make_slot<D: Disk>(disk: &mut D, slot: Slot) -> Result<(), SlotFault>
+    ensures ok { OnOk result (MakesSlot D.is_honest D.state D.failures disk.old disk.new) }
+    ensures err { IfErr result (λ e. (e ≡ record { slot = slot; cause = Device }) × FailsToMakeSlot D.is_honest D.state D.failures disk.old disk.new) }
+{
+    match create_slot(disk) {
+        Ok(()) => Ok(()),
+        Err(_) => Err(SlotFault {
+            slot,
+            cause: FaultCause::Device,
+        }),
+    }
+}
+
+// Reads one slot.
+fn read_slot<D: Disk>(
+    alloc: Global,
+    disk: &mut D,
+    slot: Slot,
+) -> Result<Option<Checkpoint>, SlotFault>
+    ensures ok { IfOk result (ReadSlot D.is_honest D.state D.failures disk.old disk.new) }
+    ensures err { IfErr result (λ e. (e.slot ≡ slot) × FailsToRead D.is_honest D.state D.failures disk.old disk.new (as_read_fault e.cause)) }
+{
+    match read_valid(alloc, disk) {
+        Ok(read) => Ok(read),
+        Err(fault) => Err(SlotFault {
+            slot,
+            cause: cause_of(fault),
+        }),
+    }
+}
+
+// Why a slot was not read.
+fn cause_of(fault: ReadFault) -> FaultCause
+    ensures { as_read_fault result ≡ fault }
+{
+    match fault {
+        ReadFault::Device => FaultCause::Device,
+        ReadFault::Memory => FaultCause::Memory,
+    }
+}
