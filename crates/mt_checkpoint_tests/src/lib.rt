@@ -1,5 +1,6 @@
 //! Tests of `mt_checkpoint`: bytes worked out by hand, each of their beginnings and each byte changed, walks
-//! that make no checkpoint, a file of two windows, and what a crash or a failure at any call leaves.
+//! that make no checkpoint, a file of two windows, and what a crash or a failure at any call leaves. Also tests of
+//! `mt_slots`: which slot a checkpoint is written in, and what both are read as.
 //!
 //! They stand in a crate of their own, since a crate with tests is proved twice.
 #![tactic(auto)]
@@ -8,5 +9,7 @@
 mod crashes;
 #[cfg(test)]
 mod slots;
+#[cfg(test)]
+mod two_slots;
 #[cfg(test)]
 mod vectors;

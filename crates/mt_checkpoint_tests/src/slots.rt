@@ -57,8 +57,12 @@ fn pair(alloc: Global, tenant: u32, key: u8, size: usize) -> Result<TenantPair, 
     Ok(TenantPair { tenant, key, row })
 }
 
-// Pairs of these tenants and keys.
-fn pairs_of(alloc: Global, keys: &[(u32, u8)], size: usize) -> Result<Vec<TenantPair>, AllocError> {
+/// Pairs of these tenants and keys, with columns of so many bytes.
+pub fn pairs_of(
+    alloc: Global,
+    keys: &[(u32, u8)],
+    size: usize,
+) -> Result<Vec<TenantPair>, AllocError> {
     let mut pairs = Vec::new(alloc);
     for key in keys {
         pairs.push(pair(alloc, key.0, key.1, size)?)?;
@@ -66,8 +70,8 @@ fn pairs_of(alloc: Global, keys: &[(u32, u8)], size: usize) -> Result<Vec<Tenant
     Ok(pairs)
 }
 
-// Whether the keys of pairs are user keys, as a writer asks for them.
-fn keys_fit(pairs: &[TenantPair]) -> bool
+/// Whether the keys of pairs are user keys, as a writer asks for them.
+pub fn keys_fit(pairs: &[TenantPair]) -> bool
     ensures { IsTrue result ↔ All (λ p. IsKey p.key) pairs.now }
 {
     pairs

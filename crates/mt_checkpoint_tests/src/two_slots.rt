@@ -1,0 +1,175 @@
+//! The two slots of a store: which one a checkpoint is written in, and what both are read as after a failure.
+
+use crate::slots::{Told, keys_fit, pairs_of, told_of};
+use mt_disk::MemDisk;
+use mt_slots::{FaultCause, Slot, SlotFault, StoreSlots};
+use std::alloc::{AllocError, Global};
+use std::test::Fail;
+
+// Two slots on disks that fail at these calls, and why they were not made.
+fn slots_with(
+    alloc: Global,
+    first: &[u64],
+    second: &[u64],
+) -> Result<(StoreSlots<MemDisk>, Option<SlotFault>), AllocError> {
+    let first = MemDisk::new(alloc, first.to_vec(alloc)?, None);
+    let second = MemDisk::new(alloc, second.to_vec(alloc)?, None);
+    let mut slots = StoreSlots::found(first, second);
+    match slots.create() {
+        Ok(()) => Ok((slots, None)),
+        Err(fault) => Ok((slots, Some(fault))),
+    }
+}
+
+// Writes a checkpoint of one pair from one step up to another, in this slot, and tells whether all went well.
+fn write_in(
+    alloc: Global,
+    slots: StoreSlots<MemDisk>,
+    steps: (u64, u64),
+    slot: Slot,
+) -> Result<(StoreSlots<MemDisk>, bool), AllocError> {
+    let pairs = pairs_of(alloc, &[(7, 0x6b)], 1)?;
+    if !keys_fit(&pairs) || slots.next_slot() != slot {
+        return Err(AllocError);
+    }
+    let begun = match slots.begin(steps.0) {
+        Ok(begun) => begun,
+        Err((_, slots)) => return Ok((slots, false)),
+    };
+    let added = match begun.add(alloc, &pairs) {
+        Ok(added) => added,
+        Err((_, slots)) => return Ok((slots, false)),
+    };
+    match added.end(steps.1) {
+        Ok(slots) => Ok((slots, true)),
+        Err((_, slots)) => Ok((slots, false)),
+    }
+}
+
+// What both slots are read as.
+fn told_both(alloc: Global, slots: &mut StoreSlots<MemDisk>) -> Result<[Told; 2], SlotFault> {
+    let [first, second] = slots.read(alloc)?;
+    Ok([told_of(&Ok(first)), told_of(&Ok(second))])
+}
+
+// Slots of which each has a checkpoint, the second one the newest.
+fn both_written(alloc: Global) -> Result<StoreSlots<MemDisk>, AllocError> {
+    let (slots, _) = slots_with(alloc, &[], &[])?;
+    let (slots, _) = write_in(alloc, slots, (6, 9), Slot::First)?;
+    let (slots, _) = write_in(alloc, slots, (12, 15), Slot::Second)?;
+    Ok(slots)
+}
+
+#[test]
+fn each_checkpoint_goes_to_the_other_slot(rt: HostRuntime) -> Result<(), Fail> {
+    let alloc = rt.alloc();
+    let (mut slots, fault) = slots_with(alloc, &[], &[])?;
+    assert!(rt; fault.is_none() && slots.newest().is_none());
+    assert!(rt; told_both(alloc, &mut slots) == Ok([Told::None, Told::None]));
+    for (steps, slot, told) in [
+        ((6, 9), Slot::First, [Told::Walk(6, 9, 1), Told::None]),
+        (
+            (12, 15),
+            Slot::Second,
+            [Told::Walk(6, 9, 1), Told::Walk(12, 15, 1)],
+        ),
+        (
+            (20, 22),
+            Slot::First,
+            [Told::Walk(20, 22, 1), Told::Walk(12, 15, 1)],
+        ),
+    ] {
+        let (now, whole) = write_in(alloc, slots, steps, slot)?;
+        slots = now;
+        assert!(rt; whole && slots.newest() == Some(slot));
+        assert!(rt; told_both(alloc, &mut slots) == Ok(told), "{slot:?}");
+    }
+    Ok(())
+}
+
+// A slot that is made makes two calls, and a checkpoint over a closed gate ten.
+#[test]
+fn a_failing_call_leaves_the_newest(rt: HostRuntime) -> Result<(), Fail> {
+    let alloc = rt.alloc();
+    for call in 3..13 {
+        let (slots, fault) = slots_with(alloc, &[], &[call])?;
+        let (slots, first) = write_in(alloc, slots, (6, 9), Slot::First)?;
+        let (mut slots, second) = write_in(alloc, slots, (12, 15), Slot::Second)?;
+        assert!(rt; fault.is_none() && first && !second, "{call} failing");
+        assert!(rt; slots.newest() == Some(Slot::First), "{call} failing");
+        let told = told_both(alloc, &mut slots);
+        let either = [Told::None, Told::Walk(12, 15, 1)];
+        assert!(rt;
+            either
+                .iter()
+                .any(|second| told == Ok([Told::Walk(6, 9, 1), *second])),
+            "{call} failing"
+        );
+        let (slots, again) = write_in(alloc, slots, (16, 19), Slot::Second)?;
+        assert!(rt;
+            again && slots.newest() == Some(Slot::Second),
+            "{call} failing"
+        );
+    }
+    Ok(())
+}
+
+// Begins a checkpoint and gives it up; the slot that it was begun in.
+fn begin_in_vain(slots: StoreSlots<MemDisk>) -> (StoreSlots<MemDisk>, Option<Slot>) {
+    match slots.begin(20) {
+        Ok(begun) => {
+            let slot = begun.slot();
+            (begun.give_up(), Some(slot))
+        }
+        Err((_, slots)) => (slots, None),
+    }
+}
+
+// The checkpoint that a store was recovered from is not written over. One that is given up is lost.
+#[test]
+fn what_is_kept_is_not_written_over(rt: HostRuntime) -> Result<(), Fail> {
+    let alloc = rt.alloc();
+    let (old, new) = (Told::Walk(6, 9, 1), Told::Walk(12, 15, 1));
+    for (used, slot, told) in [
+        (None, Slot::First, [Told::None, new]),
+        (Some(Slot::First), Slot::Second, [old, Told::None]),
+        (Some(Slot::Second), Slot::First, [Told::None, new]),
+    ] {
+        let (first, second) = both_written(alloc)?.into_disks();
+        let mut slots = StoreSlots::found(first, second);
+        slots.keep(used);
+        let (mut slots, begun) = begin_in_vain(slots);
+        assert!(rt; begun == Some(slot), "{used:?}");
+        assert!(rt;
+            slots.newest() == used && slots.next_slot() == slot,
+            "{used:?}"
+        );
+        assert!(rt; told_both(alloc, &mut slots) == Ok(told), "{used:?}");
+    }
+    Ok(())
+}
+
+#[test]
+fn a_fault_tells_the_slot(rt: HostRuntime) -> Result<(), Fail> {
+    let alloc = rt.alloc();
+    let device = |slot| SlotFault {
+        slot,
+        cause: FaultCause::Device,
+    };
+    for (number, slot) in [(0, Some(Slot::First)), (1, Some(Slot::Second)), (2, None)] {
+        assert!(rt; Slot::numbered(number) == slot);
+    }
+    for call in [1, 2] {
+        let (_, fault) = slots_with(alloc, &[call], &[])?;
+        assert!(rt; fault == Some(device(Slot::First)), "{call} failing");
+        let (_, fault) = slots_with(alloc, &[], &[call])?;
+        assert!(rt; fault == Some(device(Slot::Second)), "{call} failing");
+    }
+    for call in [3, 4, 5] {
+        let (mut slots, _) = slots_with(alloc, &[call], &[])?;
+        assert!(rt; told_both(alloc, &mut slots) == Err(device(Slot::First)));
+        let (mut slots, _) = slots_with(alloc, &[], &[call])?;
+        assert!(rt; told_both(alloc, &mut slots) == Err(device(Slot::Second)));
+    }
+    Ok(())
+}
