@@ -2,7 +2,7 @@
 use Rattle.std.proofs.Common.{◌≡◌, ◌⊎◌, ℕ, zero, suc, ◌≤◌, ◌^◌, Bool, true, false, cond, List, [], ◌∷◌, map, get_or, Option, Some, None, refl, sym, ap, subst, ◌∙◌, arith, inl, inr, ⊎_elim}
 use Rattle.std.proofs.{lemmas.List.Elements.recursion_from_All, lemmas.Option.{same_Some, none-some, slice_get-get_or}}
 use Rattle.std.specs.{Prelude.slice_get, Option.option_map, List.{All, AllByRecursion}, List.Sorted.IsStrictlySortedBy}
-use Rattle.std.specs.{FinMap.{get, empty, find, get-empty, get-from_entries}, Ordering.{eq_by_cmp, is_eq}, declared.cmp.Ordering.TheVariants.Less}
+use Rattle.std.specs.{FinMap.{get, find, get-empty, get-from_entries}, Ordering.{eq_by_cmp, is_eq}, declared.cmp.Ordering.TheVariants.Less}
 use Rattle.mt_rows.specs.{Rows.{Bytes, Columns, IsRow}, Tenants.{Contents as Pairs, owned_cmp}}
 use Rattle.mt_rows.specs.{TenantPairs.{owner_of, entry_of, pairs_of, IsTenantPair, AreDistinct}, Commands.IsKey, declared.record.TenantPair.TenantPair}
 use Rattle.mt_rows.specs.declared.record.Record.{Record}

@@ -12,7 +12,12 @@ use Rattle.mt_rows.specs.TenantPairs.{HasTenants, KeepsQuotas, owner_of, entry_o
 use Rattle.mt_rows.proofs.{CommandLaws.{keys_total, keys_exact}, ContentLaws.{owned_total, owned_exact, same_owner, tied_owner}}
 use Rattle.mt_crashes.proofs.Members.{no_some}
 use Rattle.mt_recover.specs.{Pairs.Ascend, Orders.DontFall, Quotas.{first_unknown, has_room, over_behind, first_over}, Refusals.{IsFirstUnknown, IsFirstOver}}
-use Rattle.mt_recover.proofs.PairMaps.{Owner, Entry}
+
+abbrev Owner : Type 0
+Owner = ℕ × Bytes
+
+abbrev Entry : Type 0
+Entry = Owner × Columns
 
 -- ---- tenants
 

@@ -1,12 +1,11 @@
 -- A walk over ranges of void numbers, and what is live of records in the order of their stamps.
 use Rattle.std.proofs.Common.{◌≡◌, ℕ, zero, suc, ◌<◌, ◌≤◌, Bool, true, false, not, ◌&&◌, ◌||◌, cond, nat_lt, leb, List, [], ◌∷◌, ◌++◌, length, get_or, drop, refl, sym, ◌∙◌, ap, subst, arith, IsPermutation}
-use Rattle.std.proofs.{lemmas.Bool.le-ltb, lemmas.Bool.Decides.nat_tests, lemmas.List.append-nil, lemmas.List.Elements.filter-append}
-use Rattle.std.proofs.lemmas.List.Sorted.{list_any-IsPermutation}
+use Rattle.std.proofs.{lemmas.Bool.le-ltb, lemmas.Bool.Decides.nat_tests, lemmas.List.Elements.filter-append, lemmas.List.Sorted.list_any-IsPermutation}
 use Rattle.std.specs.List.{filter}
-use Rattle.mt_rows.specs.{declared.record.Record.Record, Tenants.{Contents as Pairs}}
-use Rattle.mt_crashes.{specs.Fronts.{Numbers, is_void, is_replayed, with_change, after_changes}, proofs.Members.{filter_filter, filter_same}}
-use Rattle.mt_recover.specs.{Orders.DontFall, Replays.{is_reached, is_live, is_void_behind, AgreeFrom}, declared.voids.Walk.Walk}
-use Rattle.mt_recover.proofs.{Orders.{lower, filter_moved}, PairMaps.after_push}
+use Rattle.mt_rows.specs.declared.record.Record.{Record}
+use Rattle.mt_crashes.{specs.Fronts.{Numbers, is_void, is_replayed}, proofs.Members.{filter_filter, filter_same}}
+use Rattle.mt_recover.specs.{Orders.DontFall, Replays.{is_reached, is_live, is_void_behind, AgreeFrom}, Changes.{Changes, AreLast}, declared.voids.Walk.Walk}
+use Rattle.mt_recover.proofs.{Orders.{lower, filter_moved}, ChangeMaps.none_last}
 
 abbrev first : Numbers → ℕ
 first v = v.0
@@ -66,30 +65,35 @@ keeps : (vs : List Numbers) (old new : Walk) (from : ℕ) (rs : List Record) →
 keeps vs old new from [] order same knows = tt
 keeps vs old new from (r ∷ rs) order same knows = (same r.stamp order.0 ∙ knows.0, keeps vs old new r.stamp rs order.1 (λ n le. same n (omega (arith, le, order.0))) knows.1)
 
--- the changes that are live of the records so far are made, and the walk knows those that are left
-pub record AreMadeSoFar (vs : List Numbers) (walk : Walk) (left yielded : List Record) (start now : Pairs) : Type 0 where
-  pub made : now ≡ after_changes start (filter (is_live vs) yielded)
+-- the changes that are live of the records so far are added, and the walk knows those that are left
+pub record AreAddedSoFar (vs : List Numbers) (walk : Walk) (left yielded : List Record) (changes : Changes) : Type 0 where
+  pub added : AreLast (filter (is_live vs) yielded) changes
   pub order : DontFall stamp 0 left
   pub knows : Knows vs walk left
 
-pub none_so_far : (vs : List Numbers) (rs left : List Record) (start : Pairs) → left ≡ rs → DontFall stamp 0 rs → AreMadeSoFar vs (record { next = 0; reach = 0 }) left [] start start
-none_so_far vs rs left start all order = record { made = refl; order = subst (DontFall stamp 0) (sym all) order; knows = knows_all vs left }
+pub none_so_far : (vs : List Numbers) (rs left : List Record) (changes : Changes) → left ≡ rs → DontFall stamp 0 rs → changes.entries ≡ []
+    → AreAddedSoFar vs (record { next = 0; reach = 0 }) left [] changes
+none_so_far vs rs left changes all order none = record { added = none_last changes none; order = subst (DontFall stamp 0) (sym all) order; knows = knows_all vs left }
 
--- and one record more, which is void or is made
-pub one_more : (vs : List Numbers) (old new : Walk) (r : Record) (was left yielded : List Record) (start now next : Pairs) → was ≡ r ∷ left → AreMadeSoFar vs old was yielded start now
-    → next ≡ cond (is_void_behind vs old r.stamp) now (with_change now r) → AgreeFrom r.stamp (is_void_behind vs new) (is_void_behind vs old) → AreMadeSoFar vs new left (yielded ++ r ∷ []) start next
-one_more vs old new r was left yielded start now next is so_far next_is same =
+-- and one record more, which is void or is added
+pub one_more : (vs : List Numbers) (old new : Walk) (r : Record) (was left yielded : List Record) (now next : Changes) → was ≡ r ∷ left → AreAddedSoFar vs old was yielded now
+    → ((rs : List Record) → AreLast rs now → AreLast (rs ++ cond (is_void_behind vs old r.stamp) [] (r ∷ [])) next) → AgreeFrom r.stamp (is_void_behind vs new) (is_void_behind vs old)
+    → AreAddedSoFar vs new left (yielded ++ r ∷ []) next
+one_more vs old new r was left yielded now next is so_far step same =
     let knows = subst (Knows vs old) is so_far.knows in
     let order = subst (DontFall stamp 0) is so_far.order in
     record {
-      made = next_is ∙ ap (λ (b : Bool). cond b now (with_change now r)) knows.0 ∙ by (is_void vs r.stamp) ∙ ap (after_changes start) (sym (filter-append (is_live vs) yielded (r ∷ [])));
+      added = subst (λ (rs : List Record). AreLast rs next)
+          (ap (λ (b : Bool). filter (is_live vs) yielded ++ cond b [] (r ∷ [])) knows.0 ∙ ap (λ (l : List Record). filter (is_live vs) yielded ++ l) (turn (is_void vs r.stamp))
+          ∙ sym (filter-append (is_live vs) yielded (r ∷ [])))
+          (step (filter (is_live vs) yielded) so_far.added);
       order = lower stamp 0 r.stamp left (omega arith) order.1;
       knows = keeps vs old new r.stamp left order.1 same knows.1;
     }
   where
-    by : (b : Bool) → cond b now (with_change now r) ≡ after_changes start (filter (is_live vs) yielded ++ cond (not b) (r ∷ []) [])
-    by true = so_far.made ∙ ap (after_changes start) (sym (append-nil (filter (is_live vs) yielded)))
-    by false = ap (λ (m : Pairs). with_change m r) so_far.made ∙ sym (after_push start (filter (is_live vs) yielded) r)
+    turn : (b : Bool) → ◌≡◌ {A = List Record} (cond b [] (r ∷ [])) (cond (not b) (r ∷ []) [])
+    turn true = refl
+    turn false = refl
 
 -- ---- what is replayed
 

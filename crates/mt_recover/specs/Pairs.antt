@@ -1,18 +1,27 @@
--- Pairs as lists and maps of the code: what a checkpoint holds, and what a recovery gives.
-use Rattle.std.specs.{Prelude.{ℕ, List, map}, BTreeMap.BTreeMap, List.Sorted.IsStrictlySortedBy}
-use Rattle.mt_rows.specs.{Rows.{Bytes, Columns}, Tenants.{Contents as Pairs, owned_cmp}, TenantPairs.{owner_of, pairs_of}}
-use Rattle.mt_rows.specs.declared.record.TenantPair.{TenantPair}
+-- Pairs as lists: what a checkpoint holds, and what a recovery gives.
+use Rattle.std.specs.{Prelude.{◌≡◌, ℕ, List, [], ◌∷◌, map, if◌then◌else◌}, List.AllByRecursion, List.Sorted.IsStrictlySortedBy, declared.cmp.Ordering.Ordering}
+use Rattle.std.specs.{declared.cmp.Ordering.TheVariants.{Less, Greater}, Ordering.is_eq}
+use Rattle.mt_rows.specs.{Rows.Bytes, Tenants.owned_cmp, TenantPairs.{owner_of, pairs_of}, declared.record.TenantPair.TenantPair}
 use Rattle.mt_crashes.specs.Bases.{CheckpointView}
 use Rattle.mt_checkpoint.specs.declared.checkpoint.Checkpoint.{Checkpoint}
-use Rattle.std.specs.FinMap as pairs
 
 -- by tenant, and then by key: they rise strictly
 abbrev pub Ascend : List TenantPair → Type 0
 Ascend ps = IsStrictlySortedBy owned_cmp (map owner_of ps)
 
--- the pairs that a map of the code has
-abbrev pub pairs_in : BTreeMap (ℕ × Bytes) Columns → Pairs
-pairs_in m = pairs.from_entries m.entries
+-- each of these comes before an owner
+abbrev pub AreBefore : ℕ × Bytes → List TenantPair → Type 0
+AreBefore owner ps = AllByRecursion (λ p. owned_cmp (owner_of p) owner ≡ Less) ps
+
+-- how the first of these stands to an owner; the end of a list stands behind every owner
+abbrev pub first_order : ℕ × Bytes → List TenantPair → Ordering
+first_order owner [] = Greater
+first_order owner (p ∷ ps) = owned_cmp (owner_of p) owner
+
+-- without the first of these, if it is an owner's
+abbrev pub without_first : ℕ × Bytes → List TenantPair → List TenantPair
+without_first owner [] = []
+without_first owner (p ∷ ps) = if is_eq (owned_cmp (owner_of p) owner) then ps else p ∷ ps
 
 -- a checkpoint, without where it lies in memory
 abbrev pub view_of : Checkpoint → CheckpointView

@@ -1,9 +1,9 @@
 -- The steps to what is replayed: which records a recovery reaches, and one walk over the ranges of void numbers for all of these.
 use Rattle.std.specs.{Prelude.{◌≡◌, ℕ, ◌≤◌, Bool, not, ◌&&◌, ◌||◌, nat_lt, List, drop}, List.filter, List.Sorted.IsPermutation}
-use Rattle.mt_rows.specs.{Tenants.{Contents as Pairs}, declared.record.Record.Record}
+use Rattle.mt_rows.specs.declared.record.Record.{Record}
 use Rattle.mt_log.specs.Contents.{Contents}
-use Rattle.mt_recover.specs.{Orders.DontFall, declared.voids.Walk.Walk}
-use Rattle.mt_crashes.specs.Fronts.{Numbers, is_void, is_replayed, all_records, after_changes}
+use Rattle.mt_recover.specs.{Orders.DontFall, Changes.{Changes, AreLast}, declared.voids.Walk.Walk}
+use Rattle.mt_crashes.specs.Fronts.{Numbers, is_void, is_replayed, all_records}
 
 -- whether a record's stamp is over the base and at most the cutoff
 abbrev pub is_reached : ℕ → ℕ → Record → Bool
@@ -22,7 +22,7 @@ is_void_behind voids walk n = (nat_lt 0 n && not (nat_lt walk.reach n)) || is_vo
 abbrev pub AgreeFrom : ℕ → (ℕ → Bool) → (ℕ → Bool) → Type 0
 AgreeFrom from p q = (n : ℕ) → from ≤ n → p n ≡ q n
 
--- the records over a base, at most a cutoff and not void were replayed, the least stamp first
-abbrev pub HasReplayed : List Numbers → ℕ → ℕ → List Contents → Pairs → Pairs → Type 0
-HasReplayed voids base cutoff fronts old new =
-    (rs : List Record) × IsPermutation (filter (is_replayed voids base cutoff) (all_records fronts)) rs × DontFall (λ (r : Record). r.stamp) 0 rs × (new ≡ after_changes old rs)
+-- these are the last changes of the records over a base, at most a cutoff and not void, the least stamp first
+abbrev pub HaveReplayed : List Numbers → ℕ → ℕ → List Contents → Changes → Type 0
+HaveReplayed voids base cutoff fronts changes =
+    (rs : List Record) × IsPermutation (filter (is_replayed voids base cutoff) (all_records fronts)) rs × DontFall (λ (r : Record). r.stamp) 0 rs × AreLast rs changes

@@ -1,31 +1,31 @@
 //! The records that a recovery replays.
 
-ghost use Rattle.std.specs.{Prelude.{◌≡◌, ◌++◌, map, if◌then◌else◌, IfOk, OnOk, IsPermutation}, List.filter};
+ghost use Rattle.std.specs.{Prelude.{◌≡◌, ◌++◌, [], ◌∷◌, List, map, if◌then◌else◌, IfOk, OnOk, IsPermutation}, List.filter};
 ghost use Rattle.mt_log.specs.Contents.{contents_of};
-ghost use Rattle.mt_crashes.specs.Fronts.{Numbers, records_in, records_of, all_records, with_change, after_changes};
+ghost use Rattle.mt_crashes.specs.Fronts.{Numbers, records_in, records_of, all_records};
 ghost use Rattle.mt_rows.specs.declared.record.Record.{Record as AnyRecord};
-ghost use Rattle.mt_recover.specs.{Orders.DontFall, Pairs.pairs_in, Replays.{is_reached, is_live, is_void_behind, AgreeFrom, HasReplayed}};
+ghost use Rattle.mt_recover.specs.{Orders.DontFall, Changes.AreLast, Replays.{is_reached, is_live, is_void_behind, AgreeFrom, HaveReplayed}};
 
-use crate::pairs::{PairMap, make};
+use crate::changes::{Changes, add};
 use crate::voids::{Walk, by_first, is_next_void};
 use mt_log::{Front, LogBatch};
 use mt_rows::Record;
 use std::alloc::{AllocError, Global};
+use std::collections::BTreeMap;
 
-/// Replays the records of all logs with a stamp over `base`, at most `cutoff`, and not void, the least stamp
-/// first. An error leaves some of them made.
+/// The last changes of the records of all logs with a stamp over `base`, at most `cutoff`, and not void. They are
+/// replayed, the least stamp first.
 pub(crate) fn replay(
     alloc: Global,
-    pairs: &mut PairMap,
     fronts: Vec<Front>,
     voids: Vec<(u64, u64)>,
     base: u64,
     cutoff: u64,
-) -> Result<(), AllocError>
-    ensures { OnOk result (HasReplayed voids.items base cutoff (map contents_of fronts.items) (pairs_in pairs.old) (pairs_in pairs.new)) }
+) -> Result<Changes, AllocError>
+    ensures { IfOk result (HaveReplayed voids.items base cutoff (map contents_of fronts.items)) }
 {
     let reached = by_stamp(reached(alloc, fronts, base, cutoff)?);
-    make_live(pairs, reached, &by_first(voids))
+    last_changes(alloc, reached, &by_first(voids))
 }
 
 // The records of all logs with a stamp over `base` and at most `cutoff`.
@@ -96,37 +96,38 @@ fn by_stamp(records: Vec<Record>) -> Vec<Record>
     records
 }
 
-// Makes the changes that are not void, of records in the order of their stamps. One walk over the ranges, in
-// the order of their first numbers, serves all of them.
-fn make_live(
-    pairs: &mut PairMap,
+// The last changes of records that are not void, of records in the order of their stamps. One walk over the
+// ranges, in the order of their first numbers, serves all of them.
+fn last_changes(
+    alloc: Global,
     records: Vec<Record>,
     voids: &[(u64, u64)],
-) -> Result<(), AllocError>
+) -> Result<Changes, AllocError>
     requires by_stamp { DontFall (λ (r : AnyRecord). r.stamp) 0 records.items }
     requires by_first { DontFall (λ (v : Numbers). v.0) 0 voids.now }
-    ensures { OnOk result (pairs_in pairs.new ≡ after_changes (pairs_in pairs.old) (filter (is_live voids.now) records.items)) }
+    ensures { IfOk result (AreLast (filter (is_live voids.now) records.items)) }
 {
+    let mut changes = BTreeMap::new(alloc);
     let mut walk = Walk { next: 0, reach: 0 };
     for record in records {
-        make_unless_void(pairs, record, voids, &mut walk)?;
+        add_unless_void(&mut changes, record, voids, &mut walk)?;
     }
-    Ok(())
+    Ok(changes)
 }
 
-// Makes a change, unless a walk finds that it is void.
-fn make_unless_void(
-    pairs: &mut PairMap,
+// Adds a change, unless a walk finds that it is void.
+fn add_unless_void(
+    changes: &mut Changes,
     change: Record,
     voids: &[(u64, u64)],
     walk: &mut Walk,
 ) -> Result<(), AllocError>
     requires { DontFall (λ (v : Numbers). v.0) 0 voids.now }
-    ensures made { OnOk result (pairs_in pairs.new ≡ (if is_void_behind voids.now walk.old change.stamp then pairs_in pairs.old else with_change (pairs_in pairs.old) change)) }
+    ensures added { OnOk result ((rs : List AnyRecord) → AreLast rs changes.old → AreLast (rs ++ (if is_void_behind voids.now walk.old change.stamp then [] else change ∷ [])) changes.new) }
     ensures walk { OnOk result (AgreeFrom change.stamp (is_void_behind voids.now walk.new) (is_void_behind voids.now walk.old)) }
 {
     if is_next_void(voids, walk, change.stamp) {
         return Ok(());
     }
-    make(pairs, change)
+    add(changes, change)
 }
