@@ -27,14 +27,14 @@ abbrev pub failures_of : MemDisk → ℕ
 failures_of d = d.failures
 
 -- a log that rests reaches its mark
-rests_at_mark : (now : LogNow) (n : ℕ) → now.doubt ≡ None → mark_of now.had ≡ n → Reaches n now
+pub rests_at_mark : (now : LogNow) (n : ℕ) → now.doubt ≡ None → mark_of now.had ≡ n → Reaches n now
 rests_at_mark now n none mark = λ front left. ⊎_elim
     (λ same. omega (arith, ap mark_of same, mark))
     (λ more. absurd (no_some more.0 (sym none ∙ more.1)))
     left
 
 -- the mark of an open log
-open_mark : (now : LogNow) (slot : LogSlot MemDisk) (mark : ℕ) → Shows mem_state now slot → mark_in slot ≡ Some mark → mark ≡ mark_of now.had
+pub open_mark : (now : LogNow) (slot : LogSlot MemDisk) (mark : ℕ) → Shows mem_state now slot → mark_in slot ≡ Some mark → mark ≡ mark_of now.had
 open_mark now (Open log) mark shows is = sym (same_Some log.mark mark is) ∙ shows.1.mark
 open_mark now (Failed log) mark shows is = absurd (no_some mark is)
 open_mark now (Closed disk) mark shows is = absurd (no_some mark is)

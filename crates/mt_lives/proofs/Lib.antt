@@ -26,3 +26,8 @@ pub mod Goes
 pub mod Lists
 pub mod Happening
 pub mod Forcing
+pub mod Righted
+pub mod Owning
+pub mod TurnNotes
+pub mod SettleNotes
+pub mod Settlings

@@ -26,7 +26,7 @@ zip_more es ts i e t lt same is =
 -- ---- notes
 
 -- one note more
-leads_more : (quotas : Quotas) (old mid new : Standing) (notes : Notes) (event : StoreEvent) (note : StoreNote) → NotesLead quotas old notes mid
+pub leads_more : (quotas : Quotas) (old mid new : Standing) (notes : Notes) (event : StoreEvent) (note : StoreNote) → NotesLead quotas old notes mid
     → IsNoted quotas mid event note new → NotesLead quotas old (notes ++ (event, note) ∷ []) new
 leads_more quotas old mid new [] event note leads noted = (new, subst (λ (s : Standing). IsNoted quotas s event note new) leads noted, refl)
 leads_more quotas old mid new (x ∷ notes) event note leads noted = (leads.0, leads.1, leads_more quotas leads.0 mid new notes event note leads.2 noted)

@@ -74,7 +74,7 @@ more_reach s settle number mark is reach worker lt = ⊎_elim
     (λ other. reaches_less (min settle.least mark) settle.least worker s (omega arith) (is.before worker (omega (arith, lt, other))))
     (cases_eq worker settle.next)
 
-reaches_both : (m n worker : ℕ) (s : Store) → ReachesAt m s worker → ReachesAt n s worker → ReachesAt (max m n) s worker
+pub reaches_both : (m n worker : ℕ) (s : Store) → ReachesAt m s worker → ReachesAt n s worker → ReachesAt (max m n) s worker
 reaches_both m n worker s a b log there front left = let r = a log there front left in let q = b log there front left in omega (arith, r, q)
 
 -- ---- the store
@@ -96,7 +96,7 @@ module _ (accounts : Accounts) (standing : Standing) (logs : List (StoreLog MemD
   lives = lives_so accounts standing logs serving h
 
   -- all of it holds with other Settles
-  resettled : (begun : ℕ → Option ℕ) (number : ℕ) → AllReach number h.s → AreSettles h.s begun now.settles
+  pub resettled : (begun : ℕ → Option ℕ) (number : ℕ) → AllReach number h.s → AreSettles h.s begun now.settles
       → Holds accounts (record { begun = begun; settled = number; now = standing.now }) logs (Some now)
   resettled begun number reach settles = record {
     s = h.s;

@@ -5,3 +5,4 @@ pub mod Steps
 pub mod Returns
 pub mod Forced
 pub mod Earlier
+pub mod Owned
