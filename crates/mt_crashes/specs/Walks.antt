@@ -22,6 +22,13 @@ Walks maps from to count start after (page ∷ next ∷ pages) =
     (last : Bytes) × IsLawful maps (IsFromTo from to) start after count [] page × Contains (map (λ p. p.0) page) last
     × Walks maps from to count last true (next ∷ pages)
 
+-- Pages so far, and from which key on or after which the next scan goes.
+abbrev pub WalksUpto : (ℕ → Map) → ℕ → ℕ → ℕ → Bytes → Bool → List Page → Bytes → Bool → Type 0
+WalksUpto maps from to count start after [] next next_after = (next ≡ start) × (next_after ≡ after)
+WalksUpto maps from to count start after (page ∷ pages) next next_after =
+    (last : Bytes) × IsLawful maps (IsFromTo from to) start after count [] page × Contains (map (λ p. p.0) page) last
+    × WalksUpto maps from to count last true pages next next_after
+
 -- pages one behind the other
 abbrev pub joined : List Page → Page
 joined pages = flat_map (λ page. page) pages

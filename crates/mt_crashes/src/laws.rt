@@ -1,15 +1,21 @@
 //! Laws of crashes and recoveries, each the contract of a function that does nothing.
 
-ghost use Rattle.std.specs.Prelude.{◌≡◌, ◌≢◌, ◌⊎◌, ◌<◌, ◌≤◌, ℕ, true, false, List, [], ◌∷◌, length, Option, Some, None, slice_get};
+ghost use Rattle.std.specs.Prelude.{◌≡◌, ◌≢◌, ◌⊎◌, ◌<◌, ◌≤◌, ℕ, Bool, true, false, List, [], ◌∷◌, ◌++◌, map, length, Option, Some, None, slice_get};
+ghost use Rattle.std.specs.List.{Contains};
+ghost use Rattle.std.specs.Option.{option_map};
 ghost use Rattle.std.specs.FinMap as pairs;
-ghost use Rattle.mt_rows.specs.{Tenants.{Contents as Pairs}, Rows.Bytes, declared.record.Record.Record, TenantPairs.{HasTenants, KeepsQuotas}};
+ghost use Rattle.mt_rows.specs.{Tenants.{Contents as Pairs}, Rows.Bytes, Maps.Map, declared.record.Record.Record};
+ghost use Rattle.mt_rows.specs.TenantPairs.{HasTenants, KeepsQuotas, pairs_of};
 ghost use Rattle.mt_disk.specs.Disk.{DiskState, MayLeave, LeavesOnly, found_with};
 ghost use Rattle.mt_log.specs.{declared.batch.LogBatch.LogBatch, Contents.{Contents, IsContents, JoinsAndRises, mark_of, log_bytes, with_batch}};
 ghost use Rattle.mt_log.specs.Fronts.{HasFront, IsLeft, IsAtRest};
-ghost use Rattle.mt_crashes.specs.{Fronts.{In, cutoff_of, is_void, all_voids, all_records, key_of, after_changes}, Histories.pairs_upto};
-ghost use Rattle.mt_crashes.specs.{Bases.{CheckpointView, Slots, IsBase}, Walks.AreWalked};
+ghost use Rattle.mt_crashes.specs.{Fronts.{In, cutoff_of, is_void, all_voids, all_records, key_of, after_changes}, Histories.{Placed, pairs_upto, map_upto}};
+ghost use Rattle.mt_crashes.specs.{Bases.{CheckpointView, Slots, IsBase}, Walks.{AreWalked, IsFromTo, Page, Walks, WalksUpto}};
+ghost use Rattle.mt_crashes.specs.SlotDisks.{view_of_walk, slot_now, with_slot};
+ghost use Rattle.mt_checkpoint.specs.Checkpoints.{Walk, Has, IsOneOf, In as InSlot};
+ghost use Rattle.mt_runs.specs.Scans.{IsLawful};
 ghost use Rattle.mt_crashes.specs.{Recoveries.{MayUse, HasSlot, IsRecovered, AreSet, StandsTwice, NoneOlder}, Examples.{change, fronts_of_two}};
-ghost use Rattle.mt_crashes.specs.Stores.{Store, new_store, Leads, MayLeaveFronts, MayLeaveSlots, ReachesAt, AllReach};
+ghost use Rattle.mt_crashes.specs.Stores.{Store, new_store, Happens, Leads, MayLeaveFronts, MayLeaveSlots, ReachesAt, AllReach};
 
 /// Whatever has happened to a store of 1 to 64 logs, and whatever a crash then leaves of each and of the
 /// checkpoints: a recovery gives the pairs of its history up to the cutoff.
@@ -63,6 +69,23 @@ pub fn lawful_scans_make_a_base()
         0 < count → count ≤ 64 → Leads n (new_store count) s → from ≤ to → AreWalked from to page s.history base → IsBase from to s.history base }
 {}
 
+/// A walk goes on: by a page that is lawful from where it stands and shows the key behind which the next one goes; over
+/// later steps and later changes; and it ends with a page that isn't full.
+pub fn a_walk_goes_on()
+    ensures page { (maps : ℕ → Map) (from to count : ℕ) (start next last : Bytes) (after next_after : Bool) (pages : List Page) (page : Page) →
+        WalksUpto maps from to count start after pages next next_after → IsLawful maps (IsFromTo from to) next next_after count [] page →
+        Contains (map (λ p. p.0) page) last → WalksUpto maps from to count start after (pages ++ page ∷ []) last true }
+    ensures later { (from to later count t : ℕ) (history : List Placed) (p : Placed) (start next : Bytes) (after next_after : Bool) (pages : List Page) →
+        to ≤ later → to < p.change.stamp → WalksUpto (λ m. map_upto m history t) from to count start after pages next next_after →
+        WalksUpto (λ m. map_upto m (history ++ p ∷ []) t) from later count start after pages next next_after }
+    ensures end { (maps : ℕ → Map) (from to count : ℕ) (start next : Bytes) (after next_after : Bool) (pages : List Page) (page : Page) →
+        WalksUpto maps from to count start after pages next next_after → IsLawful maps (IsFromTo from to) next next_after count [] page →
+        length page < count → Walks maps from to count start after (pages ++ page ∷ []) }
+    ensures whole { (from to later count t : ℕ) (history : List Placed) (p : Placed) (start : Bytes) (after : Bool) (pages : List Page) →
+        to ≤ later → to < p.change.stamp → Walks (λ m. map_upto m history t) from to count start after pages →
+        Walks (λ m. map_upto m (history ++ p ∷ []) t) from later count start after pages }
+{}
+
 /// What a crash leaves of a disk is what the store's log may leave: of a log at rest its front; of one to
 /// which a batch was being appended the front with it or without, and the file is such a one again.
 pub fn a_disk_leaves_a_front()
@@ -74,6 +97,23 @@ pub fn a_disk_leaves_a_front()
     ensures found { (c : Contents) (b : LogBatch) (image : Bytes) → HasFront c image →
         (place : ℕ) (disk : DiskState) → IsAtRest (log_bytes c) place disk → MayLeave disk.now image →
         LeavesOnly (IsLeft c b) (found_with image) (found_with image) }
+{}
+
+/// What a crash leaves of a slot's disk is one of what the slot may have, and is read so; and the file is such a one again.
+pub fn a_disk_leaves_a_checkpoint()
+    ensures { (may : List (Option Walk)) (first disk : DiskState) (image : Bytes) → LeavesOnly (IsOneOf may) first disk → MayLeave disk.now image →
+        (x : Option Walk) × Has x image × In (option_map view_of_walk x) (slot_now may) × LeavesOnly (IsOneOf may) (found_with image) (found_with image) }
+{}
+
+/// The calls on a slot are what may happen to it: a checkpoint is begun over what it may have; it is ended, and its walk is
+/// a base; and it is known what the slot has.
+pub fn slots_are_written()
+    ensures begins { (s : Store) (k : ℕ) (may : List (Option Walk)) → slice_get s.slots k ≡ Some (slot_now may) → s.serving ≡ true →
+        Happens s (with_slot k (slot_now (None ∷ may)) s) }
+    ensures ends { (s : Store) (k : ℕ) (may : List (Option Walk)) (w : Walk) → slice_get s.slots k ≡ Some (slot_now may) → s.serving ≡ true →
+        w.first ≤ w.last → w.last ≤ s.steps → IsBase w.first w.last s.history (pairs_of w.pairs) → Happens s (with_slot k (slot_now (None ∷ Some w ∷ [])) s) }
+    ensures rests { (s : Store) (k : ℕ) (may : List (Option Walk)) (x : Option Walk) → slice_get s.slots k ≡ Some (slot_now may) → InSlot x may →
+        Happens s (with_slot k (slot_now (x ∷ [])) s) }
 {}
 
 /// What may happen can happen: a store of one log is recovered, and serves again.
