@@ -1,17 +1,17 @@
 //! Both slots at rest.
 
-ghost use Rattle.std.specs.Prelude.{◌≡◌, None, IfOk, IfErr, OnOk};
+ghost use Rattle.std.specs.Prelude.{◌≡◌, ◌↔◌, None, IsTrue, IfOk, IfErr, OnOk, OnErr};
 ghost use Rattle.mt_checkpoint.specs.Slots.{ReadSlot, FailsToRead};
 ghost use Rattle.mt_slots.specs.{declared.slot.Slot.TheVariants.First, declared.fault.FaultCause.TheVariants.Device};
-ghost use Rattle.mt_slots.specs.Places.{other_of, disk_of, next_slot, slots_with, with_newest};
+ghost use Rattle.mt_slots.specs.{Crashes.{MayLeaveBoth, AreCrashed, AreLeftOrCrashed}, Places.{other_of, disk_of, next_slot, slots_with, with_newest}};
 ghost use Rattle.mt_slots.specs.Calls.{MakesSlot, FailsToMakeSlot, as_read_fault, MakesBoth, StopsMaking, TellsBoth, StopsReading, Begins, FailsToBeginIn};
 
 use crate::checkpointing::Checkpointing;
 use crate::fault::{FaultCause, SlotFault};
 use crate::slot::{Slot, slot_after};
 use mt_checkpoint::{Checkpoint, ReadFault, Writer, create_slot, read_valid};
-use mt_disk::{DeviceFailed, Disk};
-use std::alloc::Global;
+use mt_disk::{DeviceFailed, Disk, MemDisk};
+use std::alloc::{AllocError, Global};
 
 /// Two slots, each at rest, and which of them has the newest checkpoint. That one is never written over.
 #[derive(Drop)]
@@ -133,6 +133,29 @@ impl<D: Disk> StoreSlots<D> {
             Slot::First => (first, second),
             Slot::Second => (second, first),
         }
+    }
+}
+
+impl StoreSlots<MemDisk> {
+    /// Whether a crash now may leave these files.
+    pub fn may_leave(&self, first: &[u8], second: &[u8]) -> bool
+        ensures { IsTrue result ↔ MayLeaveBoth first.now second.now self.now }
+    {
+        self.first.may_leave(first) && self.second.may_leave(second)
+    }
+
+    /// Crashes: each is found again with its file, and no checkpoint of them counts as the newest one. After an
+    /// error some have crashed.
+    pub fn crash(&mut self, alloc: Global, first: &[u8], second: &[u8]) -> Result<(), AllocError>
+        requires { MayLeaveBoth first.now second.now self.old }
+        ensures ok { OnOk result (AreCrashed first.now second.now self.old self.new) }
+        ensures err { OnErr result (AreLeftOrCrashed first.now second.now self.old self.new) }
+    {
+        let first = first.to_vec(alloc)?;
+        let second = second.to_vec(alloc)?;
+        self.newest = None;
+        self.first.crash(first)?;
+        self.second.crash(second)
     }
 }
 
