@@ -1,8 +1,7 @@
 //! Laws of crashes and recoveries, each the contract of a function that does nothing.
 
 ghost use Rattle.std.specs.Prelude.{◌≡◌, ◌≢◌, ◌⊎◌, ◌<◌, ◌≤◌, ℕ, Bool, true, false, List, [], ◌∷◌, ◌++◌, map, length, Option, Some, None, slice_get};
-ghost use Rattle.std.specs.List.{Contains};
-ghost use Rattle.std.specs.Option.{option_map};
+ghost use Rattle.std.specs.{List.Contains, Option.option_map};
 ghost use Rattle.std.specs.FinMap as pairs;
 ghost use Rattle.mt_rows.specs.{Tenants.{Contents as Pairs}, Rows.Bytes, Maps.Map, declared.record.Record.Record};
 ghost use Rattle.mt_rows.specs.TenantPairs.{HasTenants, KeepsQuotas, pairs_of};
@@ -11,11 +10,11 @@ ghost use Rattle.mt_log.specs.{declared.batch.LogBatch.LogBatch, Contents.{Conte
 ghost use Rattle.mt_log.specs.Fronts.{HasFront, IsLeft, IsAtRest};
 ghost use Rattle.mt_crashes.specs.{Fronts.{In, cutoff_of, is_void, all_voids, all_records, key_of, after_changes}, Histories.{Placed, pairs_upto, map_upto}};
 ghost use Rattle.mt_crashes.specs.{Bases.{CheckpointView, Slots, IsBase}, Walks.{AreWalked, IsFromTo, Page, Walks, WalksUpto}};
-ghost use Rattle.mt_crashes.specs.SlotDisks.{view_of_walk, slot_now, with_slot};
+ghost use Rattle.mt_crashes.specs.{SlotDisks.{view_of_walk, slot_now, with_slot}, Recoveries.{MayUse, HasSlot, IsRecovered, AreSet, StandsTwice, NoneOlder}};
+ghost use Rattle.mt_crashes.specs.Examples.{change, fronts_of_two};
+ghost use Rattle.mt_crashes.specs.Stores.{Store, new_store, Happens, Leads, MayLeaveFronts, MayLeaveSlots, ReachesAt, AllReach};
 ghost use Rattle.mt_checkpoint.specs.Checkpoints.{Walk, Has, IsOneOf, In as InSlot};
 ghost use Rattle.mt_runs.specs.Scans.{IsLawful};
-ghost use Rattle.mt_crashes.specs.{Recoveries.{MayUse, HasSlot, IsRecovered, AreSet, StandsTwice, NoneOlder}, Examples.{change, fronts_of_two}};
-ghost use Rattle.mt_crashes.specs.Stores.{Store, new_store, Happens, Leads, MayLeaveFronts, MayLeaveSlots, ReachesAt, AllReach};
 
 /// Whatever has happened to a store of 1 to 64 logs, and whatever a crash then leaves of each and of the
 /// checkpoints: a recovery gives the pairs of its history up to the cutoff.

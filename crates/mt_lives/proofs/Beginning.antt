@@ -1,5 +1,6 @@
 -- A new store: its logs were made, and nothing has happened.
 use Rattle.std.proofs.{Common.{◌≡◌, ℕ, ◌+◌, ◌<◌, ◌≤◌, List, length, Some, None, refl, sym, ap, subst, ◌∙◌, arith}, lemmas.List.Elements.All-nil}
+use Rattle.std.proofs.lemmas.Option.{same_Some}
 use Rattle.std.specs.{Prelude.slice_get, FinMap.{empty, len, get-empty, len-empty}, Ordering.nat_cmp, Cmp.Lexicographic.slice_cmp}
 use Rattle.mt_rows.specs.{Accounts.Accounts, Rows.Columns, Tenants.owned_cmp, TenantPairs.{quota_in, HasTenants, KeepsQuotas}}
 use Rattle.mt_disk.specs.{declared.mem.MemDisk.MemDisk, Mem.mem_state}
@@ -7,8 +8,10 @@ use Rattle.mt_log.specs.Contents.{mark_of, no_batches}
 use Rattle.mt_state.{specs.{Views.StateView, Begins.new_state}, proofs.HistoryStart.{content-new, tenant_map-empty}}
 use Rattle.mt_core.specs.Rights.{IsRightState}
 use Rattle.mt_crashes.{specs.{Histories.Placed, Stores.{LogNow, at_rest, new_store}}, proofs.Invariant.{within_place, new_at, new_long}}
+use Rattle.mt_slots.{specs.{declared.store_slots.StoreSlots.StoreSlots, Calls.MakesBoth, Keeps.no_checkpoints}, proofs.Keeping.{made as slots_are_made}}
 use Rattle.mt_store_logs.specs.{declared.store_log.StoreLog.StoreLog, Places.{closed_on, MakesAll}, Shows.{Shows, IsHonest}}
-use Rattle.mt_store_logs.proofs.{Closed.closed_at, CallerLemmas.makes}
+use Rattle.mt_store_logs.proofs.{Closed.{closed_at, length-closed}, CallerLemmas.makes}
+use Rattle.mt_stored.specs.Stores.{IsNewStore}
 use Rattle.mt_lives.specs.{declared.serving.Serving.Serving, Lives.new_standing, Holds.Holds, Returns.IsFresh}
 use Rattle.mt_lives.proofs.{Flushing.{keeps_rules, failures_of, within}, Leaving.AllShow, Living.{RestAt, reach_all, BeginsWith, begins_serving}}
 
@@ -61,14 +64,14 @@ module _ (accounts : Accounts) (old new : List (StoreLog MemDisk)) (some : 0 < l
       (made.each k was.0 log below was.1 at).1
 
   pub holds_new : (v : StateView) → v ≡ new_state (length new) accounts → IsRightState v → (serving : Serving) → serving.state ≡ v → IsFresh serving
-      → Holds accounts new_standing new (Some serving)
-  holds_new v is right serving state fresh = record {
+      → (bare slots : StoreSlots MemDisk) → MakesBoth keeps_rules mem_state failures_of bare slots → Holds accounts slots new_standing new (Some serving)
+  holds_new v is right serving state fresh bare slots slots_made = record {
     s = new_store (length new);
     some = subst (λ n. 0 < n) (sym made.len) some;
     few = subst (λ n. n ≤ 64) (sym made.len) few;
     come = (0, refl);
     count = count_new;
-    slots = refl;
+    stand = record { mays = no_checkpoints; shown = refl; keeps = slots_are_made keeps_rules mem_state failures_of bare slots (λ slot. refl) slots_made };
     settled = reach_all (new_store (length new)) 0 (rest_new (length new));
     keeps = λ m. (has_none accounts, keeps_none accounts);
     now =
@@ -76,3 +79,13 @@ module _ (accounts : Accounts) (old new : List (StoreLog MemDisk)) (some : 0 < l
         (new_store (length new)) refl refl count_new
         (rest_new (length new)) (All-nil (λ (p : Placed). p.change.stamp ≤ 0)) refl serving state fresh new shows_new none_waits;
   }
+
+-- a store that is owned alone and was just made
+pub owned_new : (accounts : Accounts) (bare slots : StoreSlots MemDisk) (disks : List MemDisk) (v : StateView) (logs : List (StoreLog MemDisk)) (serving : Serving)
+    → 0 < length disks → length disks ≤ 64 → IsNewStore keeps_rules mem_state failures_of disks bare accounts v logs (Some slots) → IsRightState v → serving.state ≡ v
+    → IsFresh serving → Holds accounts slots new_standing logs (Some serving)
+owned_new accounts bare slots disks v logs serving some few new right state fresh =
+    let count : length (closed_on disks) ≡ length disks = length-closed 0 disks in
+    let is : v ≡ new_state (length logs) accounts = new.state_is ∙ ap (λ n. new_state n accounts) (sym count ∙ sym new.logs_are.len) in
+    holds_new accounts (closed_on disks) logs (subst (λ n. 0 < n) (sym count) some) (subst (λ n. n ≤ 64) (sym count) few) disks refl new.logs_are v is right serving state fresh bare slots
+    (subst (MakesBoth keeps_rules mem_state failures_of bare) (sym (same_Some slots new.made new.slots_are)) new.slots_made)

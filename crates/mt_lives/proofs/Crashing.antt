@@ -1,24 +1,29 @@
 -- What a crash ends: whatever the store was, it holds of it that no life is served.
-use Rattle.std.proofs.Common.{ℕ, ◌<◌, ◌≤◌, List, length, Option, Some, None, Result, Ok, Err, sym, subst, ◌∙◌}
+use Rattle.std.proofs.Common.{◌≡◌, ℕ, ◌<◌, ◌≤◌, List, length, refl, Option, Some, None, Result, Ok, Err, sym, subst, ◌∙◌}
 use Rattle.std.specs.{Prelude.Vec, declared.alloc.Global.Global}
-use Rattle.mt_rows.specs.Accounts.{Accounts}
-use Rattle.mt_disk.specs.declared.mem.MemDisk.{MemDisk}
+use Rattle.mt_rows.specs.{Accounts.Accounts, Rows.Bytes}
+use Rattle.mt_disk.specs.{declared.mem.MemDisk.MemDisk, Disk.{MayLeave, found_with}, Mem.mem_state}
+use Rattle.mt_slots.specs.{declared.slot.Slot.Slot, declared.slot.Slot.TheVariants.{First, Second}, declared.store_slots.StoreSlots.StoreSlots}
+use Rattle.mt_slots.specs.Places.{at, disk_of}
+use Rattle.mt_slots.proofs.Settling.{crashed as slots_crashed}
 use Rattle.mt_core.specs.Tickets.{named}
-use Rattle.mt_crashes.{specs.Stores.Store, proofs.Invariant.within_place}
+use Rattle.mt_crashes.{specs.Stores.{Store, SlotNow}, proofs.Invariant.within_place}
 use Rattle.mt_store_logs.{specs.{declared.store_log.StoreLog.StoreLog, Crashes.AreCrashed}, proofs.CallerLemmas.crashed}
-use Rattle.mt_lives.specs.{declared.serving.Serving.Serving, Lives.{Life, Past, Standing, past_of, crashed_to}, Holds.{HasCome, IsDown, HoldsNow, Holds}}
-use Rattle.mt_lives.proofs.{Served.ends, Flushing.within, Leaving.{AllShow, IsLeft}}
+use Rattle.mt_lives.specs.{declared.serving.Serving.Serving, Lives.{Life, Past, Standing, past_of, crashed_to}}
+use Rattle.mt_lives.specs.Holds.{HasCome, IsDown, HoldsNow, SlotsStand, Holds}
+use Rattle.mt_lives.proofs.{Served.ends, Flushing.{within, keeps_rules, failures_of}, Leaving.{AllShow, IsLeft}}
+use Rattle.mt_slots.specs.Crashes as slots_of
 
 -- what holds of a store that serves no life
-pub holds_left : (accounts : Accounts) (standing : Standing) (past : Past) (logs : List (StoreLog MemDisk)) (s : Store) → IsLeft accounts standing.settled past (length logs) s
-    → AllShow s logs → Holds accounts (crashed_to (Err past) standing) logs None
-holds_left accounts standing past logs s l each = record {
+pub holds_left : (accounts : Accounts) (slots : StoreSlots MemDisk) (standing : Standing) (past : Past) (logs : List (StoreLog MemDisk)) (s : Store) → IsLeft accounts standing.settled past (length logs) s
+    → SlotsStand s.slots slots → AllShow s logs → Holds accounts slots (crashed_to (Err past) standing) logs None
+holds_left accounts slots standing past logs s l stand each = record {
   s = s;
   some = l.some;
   few = l.few;
   come = l.come;
   count = l.len;
-  slots = l.slots;
+  stand = stand;
   settled = l.settled_so;
   keeps = l.keeps;
   now = record { down = l.down; each = each };
@@ -43,14 +48,39 @@ shows_crashed s logs now_logs images each c = λ worker now log there at.
     crashed now one.0.items was.0.slot log.slot (each worker now was.0 there was.1) one.2.0
 
 -- what a crash leaves
-pub record Leaves (accounts : Accounts) (standing : Standing) (logs : List (StoreLog MemDisk)) : Type 0 where
+pub record Leaves (accounts : Accounts) (slots : StoreSlots MemDisk) (standing : Standing) (logs : List (StoreLog MemDisk)) : Type 0 where
   pub s : Store
   pub left : IsLeft accounts standing.settled (past_of standing.now) (length logs) s
   pub shows : AllShow s logs
+  pub stand : SlotsStand s.slots slots
 
-pub leaves : (accounts : Accounts) (standing : Standing) (logs now_logs : List (StoreLog MemDisk)) (serving : Option Serving) (images : List (Vec ℕ Global))
-    → Holds accounts standing logs serving → AreCrashed images logs now_logs → Leaves accounts standing now_logs
-leaves accounts standing logs now_logs serving images h c =
+-- a crash changes nothing of what the slots may have
+stand_crashed : (now : List SlotNow) (first second : Bytes) (slots crashed_slots : StoreSlots MemDisk) → SlotsStand now slots → slots_of.AreCrashed first second slots crashed_slots
+    → SlotsStand now crashed_slots
+stand_crashed now first second slots crashed_slots s c = record {
+  mays = s.mays;
+  shown = s.shown;
+  keeps = slots_crashed keeps_rules mem_state failures_of s.mays (record { first = first; second = second }) slots crashed_slots s.keeps
+      (record {
+        left = λ slot. by_left slot;
+        found = λ slot. by_found slot;
+        honest = λ slot. refl;
+        newest = c.newest;
+      });
+}
+  where
+    by_left : (slot : Slot) → MayLeave (mem_state (disk_of slot slots)).now (at slot (record { first = first; second = second }))
+    by_left First = c.first_so.left
+    by_left Second = c.second_so.left
+
+    by_found : (slot : Slot) → mem_state (disk_of slot crashed_slots) ≡ found_with (at slot (record { first = first; second = second }))
+    by_found First = c.first_so.state
+    by_found Second = c.second_so.state
+
+pub leaves : (accounts : Accounts) (slots crashed_slots : StoreSlots MemDisk) (standing : Standing) (logs now_logs : List (StoreLog MemDisk)) (serving : Option Serving) (images : List (Vec ℕ Global))
+    (first second : Bytes) → Holds accounts slots standing logs serving → AreCrashed images logs now_logs → slots_of.AreCrashed first second slots crashed_slots
+    → Leaves accounts crashed_slots standing now_logs
+leaves accounts slots crashed_slots standing logs now_logs serving images first second h c sc =
     let e = ended accounts standing.begun standing.now h.s logs serving h.now in
     record {
       s = h.s;
@@ -59,10 +89,10 @@ leaves accounts standing logs now_logs serving images h c =
         few = subst (λ n. n ≤ 64) (sym c.len) h.few;
         come = subst (λ n. HasCome n h.s) (sym c.len) h.come;
         len = h.count ∙ sym c.len;
-        slots = h.slots;
         settled_so = h.settled;
         keeps = h.keeps;
         down = e.0;
       };
       shows = shows_crashed h.s logs now_logs images e.1 c;
+      stand = stand_crashed h.s.slots first second slots crashed_slots h.stand sc;
     }

@@ -3,6 +3,7 @@ use Rattle.std.proofs.Common.{◌≡◌, ◌⊎◌, ℕ, zero, suc, ◌+◌, ◌
 use Rattle.std.specs.Prelude.{slice_get, slice_set}
 use Rattle.mt_rows.specs.{Accounts.Accounts, declared.refusal.Refusal.Refusal}
 use Rattle.mt_disk.specs.{declared.mem.MemDisk.MemDisk, Mem.mem_state}
+use Rattle.mt_slots.specs.declared.store_slots.StoreSlots.{StoreSlots}
 use Rattle.mt_state.specs.Views.{StateView}
 use Rattle.mt_core.specs.Tickets.{named}
 use Rattle.mt_crashes.specs.Stores.{ReachesAt}
@@ -31,25 +32,25 @@ pub turn_settles : (worker upto mark : ℕ) (old new : StoreLog MemDisk) (was is
     → is.settles ≡ was.settles
 turn_settles worker upto mark old new was is b = flush_settles worker upto mark b.mid new was is b.flushes
 
-module _ (accounts : Accounts) (standing : Standing) (worker : ℕ) where
+module _ (accounts : Accounts) (slots : StoreSlots MemDisk) (standing : Standing) (worker : ℕ) where
   -- All holds of a store whose log is this one; no batch waits for it, and the Settles are those.
   pub record Rests (logs : List (StoreLog MemDisk)) (was : Serving) (log : StoreLog MemDisk) (now : Serving) : Type 0 where
-    pub holds : Holds accounts standing (slice_set logs worker log) (Some now)
+    pub holds : Holds accounts slots standing (slice_set logs worker log) (Some now)
     pub none : log.kept ≡ None
     pub settles : now.settles ≡ was.settles
     pub steps : now.state.steps ≡ was.state.steps
 
   module _ (logs : List (StoreLog MemDisk)) (was : Serving) (here : (log : StoreLog MemDisk) → slice_get (slice_set logs worker log) worker ≡ Some log) where
     -- a log in place of another in its place
-    twice : (log new : StoreLog MemDisk) (now : Serving) → Holds accounts standing (slice_set (slice_set logs worker log) worker new) (Some now)
-        → Holds accounts standing (slice_set logs worker new) (Some now)
-    twice log new now h = subst (λ ls. Holds accounts standing ls (Some now)) (set_twice logs worker log new) h
+    twice : (log new : StoreLog MemDisk) (now : Serving) → Holds accounts slots standing (slice_set (slice_set logs worker log) worker new) (Some now)
+        → Holds accounts slots standing (slice_set logs worker new) (Some now)
+    twice log new now h = subst (λ ls. Holds accounts slots standing ls (Some now)) (set_twice logs worker log new) h
 
     -- one drain more
     more : (upto mark : ℕ) (log new : StoreLog MemDisk) (now next : Serving) → Rests logs was log now
         → DrainsIn keeps_rules mem_state failures_of DrainsServing worker upto mark log new now next → Rests logs was new next
     more upto mark log new now next r d =
-        let a = drained_again accounts standing (slice_set logs worker log) now r.holds worker log new (here log) next upto mark r.none d in
+        let a = drained_again accounts slots standing (slice_set logs worker log) now r.holds worker log new (here log) next upto mark r.none d in
         record {
           holds = twice log new next a.0.again;
           none = d.appended.appends.none;
@@ -66,7 +67,7 @@ module _ (accounts : Accounts) (standing : Standing) (worker : ℕ) where
 
     -- what a flush tells, and where the store stands then
     pub record Flushed (upto mark : ℕ) (new : StoreLog MemDisk) (now : Serving) : Type 0 where
-      pub holds : Holds accounts standing (slice_set logs worker new) (Some now)
+      pub holds : Holds accounts slots standing (slice_set logs worker new) (Some now)
       pub reach : ReachesAt mark holds.s worker
       pub settles : now.settles ≡ was.settles
       pub made : mark ≤ was.state.steps
@@ -75,7 +76,7 @@ module _ (accounts : Accounts) (standing : Standing) (worker : ℕ) where
 
     -- what it was refused for
     pub record Refuses (e : Refusal) (new : StoreLog MemDisk) (now : Serving) : Type 0 where
-      pub holds : Holds accounts standing (slice_set logs worker new) (Some now)
+      pub holds : Holds accounts slots standing (slice_set logs worker new) (Some now)
       pub settles : now.settles ≡ was.settles
       pub memory : IsMemoryOrDevice e
 
@@ -84,10 +85,10 @@ module _ (accounts : Accounts) (standing : Standing) (worker : ℕ) where
     drains_rest upto mark log new now next r h reaches =
         let before = short_rests h.times upto log h.mid now h.between r h.short in
         let d = h.last in
-        let a = drained_again accounts standing (slice_set logs worker h.mid) h.between before.holds worker h.mid new (here h.mid) next upto mark before.none d in
+        let a = drained_again accounts slots standing (slice_set logs worker h.mid) h.between before.holds worker h.mid new (here h.mid) next upto mark before.none d in
         let same = set_twice logs worker h.mid new in
-        let life = life_served accounts standing (slice_set logs worker h.mid) h.between before.holds in
-        let lives = lives_so accounts standing (slice_set logs worker h.mid) h.between before.holds in
+        let life = life_served accounts slots standing (slice_set logs worker h.mid) h.between before.holds in
+        let lives = lives_so accounts slots standing (slice_set logs worker h.mid) h.between before.holds in
         let all = moved_to (slice_set (slice_set logs worker h.mid) worker new) (slice_set logs worker new) same next mark a.0.again a.0.so in
         record {
           holds = all.0;
@@ -98,10 +99,10 @@ module _ (accounts : Accounts) (standing : Standing) (worker : ℕ) where
           given = ⊎_elim (λ all. inl (all ∙ before.steps)) (λ full. inr (life, lives, full)) a.2;
         }
       where
-        moved_to : (old_logs new_logs : List (StoreLog MemDisk)) → old_logs ≡ new_logs → (serving : Serving) (n : ℕ) (h : Holds accounts standing old_logs (Some serving))
-            → ReachesAt n h.s worker → (k : Holds accounts standing new_logs (Some serving)) × ReachesAt n k.s worker
+        moved_to : (old_logs new_logs : List (StoreLog MemDisk)) → old_logs ≡ new_logs → (serving : Serving) (n : ℕ) (h : Holds accounts slots standing old_logs (Some serving))
+            → ReachesAt n h.s worker → (k : Holds accounts slots standing new_logs (Some serving)) × ReachesAt n k.s worker
         moved_to old_logs new_logs same serving n h reach =
-            subst (λ ls. (k : Holds accounts standing ls (Some serving)) × ReachesAt n k.s worker) same (h, reach)
+            subst (λ ls. (k : Holds accounts slots standing ls (Some serving)) × ReachesAt n k.s worker) same (h, reach)
 
     drains_stop : (upto : ℕ) (e : Refusal) (log new : StoreLog MemDisk) (now next : Serving) → Rests logs was log now
         → FailsInDrains keeps_rules mem_state failures_of DrainsServing worker upto e log new now next → Refuses e new next
@@ -113,13 +114,13 @@ module _ (accounts : Accounts) (standing : Standing) (worker : ℕ) where
         by : FailsToDrain keeps_rules mem_state failures_of DrainsServing worker e f.mid new f.between next → Refuses e new next
         by (inl none) = record {
           holds =
-              subst (λ (l : StoreLog MemDisk). Holds accounts standing (slice_set logs worker l) (Some next)) (sym none.same_log)
-              (subst (λ (x : Serving). Holds accounts standing (slice_set logs worker f.mid) (Some x)) (sym none.same) before.holds);
+              subst (λ (l : StoreLog MemDisk). Holds accounts slots standing (slice_set logs worker l) (Some next)) (sym none.same_log)
+              (subst (λ (x : Serving). Holds accounts slots standing (slice_set logs worker f.mid) (Some x)) (sym none.same) before.holds);
           settles = ap (λ (x : Serving). x.settles) none.same ∙ before.settles;
           memory = inl none.told;
         }
         by (inr keeps) =
-            let a = keeps_again accounts standing (slice_set logs worker f.mid) f.between before.holds worker f.mid new (here f.mid) next e before.none keeps in
+            let a = keeps_again accounts slots standing (slice_set logs worker f.mid) f.between before.holds worker f.mid new (here f.mid) next e before.none keeps in
             record {
               holds = twice f.mid new next a.0.again;
               settles = keeps.given.settles ∙ before.settles;
@@ -127,82 +128,82 @@ module _ (accounts : Accounts) (standing : Standing) (worker : ℕ) where
             }
 
 -- a flush of a worker's log
-module _ (accounts : Accounts) (standing : Standing) (logs : List (StoreLog MemDisk)) (serving : Serving) (h : Holds accounts standing logs (Some serving))
+module _ (accounts : Accounts) (slots : StoreSlots MemDisk) (standing : Standing) (logs : List (StoreLog MemDisk)) (serving : Serving) (h : Holds accounts slots standing logs (Some serving))
     (worker : ℕ) (log : StoreLog MemDisk) (here : slice_get logs worker ≡ Some log) where
   pub there : (new : StoreLog MemDisk) → slice_get (slice_set logs worker new) worker ≡ Some new
   there new = set_there logs worker log new here
 
-  first_rests : (first : StoreLog MemDisk) → AppendsKept keeps_rules mem_state failures_of log first → Rests accounts standing worker logs serving first serving
+  first_rests : (first : StoreLog MemDisk) → AppendsKept keeps_rules mem_state failures_of log first → Rests accounts slots standing worker logs serving first serving
   first_rests first a =
-      let r = kept_again accounts standing logs serving h worker log first here a in
+      let r = kept_again accounts slots standing logs serving h worker log first here a in
       record { holds = r.again; none = a.none; settles = refl; steps = refl }
 
   pub flush_noted : (upto mark : ℕ) (new : StoreLog MemDisk) (now : Serving) → Flushes keeps_rules mem_state failures_of DrainsServing worker upto mark log new serving now
-      → Flushed accounts standing worker logs serving there upto mark new now
+      → Flushed accounts slots standing worker logs serving there upto mark new now
   flush_noted upto mark new now f =
-      drains_rest accounts standing worker logs serving there upto mark f.first new serving now (first_rests f.first f.kept) f.drains.0 f.drains.1
+      drains_rest accounts slots standing worker logs serving there upto mark f.first new serving now (first_rests f.first f.kept) f.drains.0 f.drains.1
 
   pub flush_fails : (upto : ℕ) (e : Refusal) (new : StoreLog MemDisk) (now : Serving) → FailsToFlush keeps_rules mem_state failures_of DrainsServing worker upto e log new serving now
-      → Refuses accounts standing worker logs serving there e new now
+      → Refuses accounts slots standing worker logs serving there e new now
   flush_fails upto e new now (inl f) =
-      let r = waits_again accounts standing logs serving h worker log new here e f.fails in
+      let r = waits_again accounts slots standing logs serving h worker log new here e f.fails in
       record {
-        holds = subst (λ (x : Serving). Holds accounts standing (slice_set logs worker new) (Some x)) (sym f.same) r.0.again;
+        holds = subst (λ (x : Serving). Holds accounts slots standing (slice_set logs worker new) (Some x)) (sym f.same) r.0.again;
         settles = ap (λ (x : Serving). x.settles) f.same;
         memory = r.1;
       }
-  flush_fails upto e new now (inr f) = drains_stop accounts standing worker logs serving there upto e f.first new serving now (first_rests f.first f.kept) f.fails
+  flush_fails upto e new now (inr f) = drains_stop accounts slots standing worker logs serving there upto e f.first new serving now (first_rests f.first f.kept) f.fails
 
   -- ---- a turn
 
   -- the log is open
-  reopen_rests : (mid : StoreLog MemDisk) → Reopens keeps_rules mem_state failures_of log mid → Rests accounts standing worker logs serving mid serving
+  reopen_rests : (mid : StoreLog MemDisk) → Reopens keeps_rules mem_state failures_of log mid → Rests accounts slots standing worker logs serving mid serving
   reopen_rests mid r =
-      let a = reopen_noted accounts standing logs serving h worker log mid here r in
+      let a = reopen_noted accounts slots standing logs serving h worker log mid here r in
       record { holds = a.again; none = none_waits log.slot log mid r; settles = refl; steps = refl }
 
   -- and then it is flushed
-  then_first : (mid first : StoreLog MemDisk) → Rests accounts standing worker logs serving mid serving → AppendsKept keeps_rules mem_state failures_of mid first
-      → Rests accounts standing worker logs serving first serving
+  then_first : (mid first : StoreLog MemDisk) → Rests accounts slots standing worker logs serving mid serving → AppendsKept keeps_rules mem_state failures_of mid first
+      → Rests accounts slots standing worker logs serving first serving
   then_first mid first r a =
-      let k = kept_again accounts standing (slice_set logs worker mid) serving r.holds worker mid first (there mid) a in
-      record { holds = twice accounts standing worker logs serving there mid first serving k.again; none = a.none; settles = refl; steps = refl }
+      let k = kept_again accounts slots standing (slice_set logs worker mid) serving r.holds worker mid first (there mid) a in
+      record { holds = twice accounts slots standing worker logs serving there mid first serving k.again; none = a.none; settles = refl; steps = refl }
 
   pub turn_noted : (upto mark : ℕ) (new : StoreLog MemDisk) (now : Serving) → BringsUp keeps_rules mem_state failures_of DrainsServing worker upto mark log new serving now
-      → Flushed accounts standing worker logs serving there upto mark new now
+      → Flushed accounts slots standing worker logs serving there upto mark new now
   turn_noted upto mark new now b =
       let f = b.flushes in
-      drains_rest accounts standing worker logs serving there upto mark f.first new serving now (then_first b.mid f.first (reopen_rests b.mid b.opens) f.kept)
+      drains_rest accounts slots standing worker logs serving there upto mark f.first new serving now (then_first b.mid f.first (reopen_rests b.mid b.opens) f.kept)
       f.drains.0 f.drains.1
 
   pub turn_fails : (upto : ℕ) (e : Refusal) (new : StoreLog MemDisk) (now : Serving)
-      → FailsToBringUp keeps_rules mem_state failures_of DrainsServing worker upto e log new serving now → Refuses accounts standing worker logs serving there e new now
+      → FailsToBringUp keeps_rules mem_state failures_of DrainsServing worker upto e log new serving now → Refuses accounts slots standing worker logs serving there e new now
   turn_fails upto e new now (inl f) =
-      let r = reopen_fails accounts standing logs serving h worker log new here e f.fails in
+      let r = reopen_fails accounts slots standing logs serving h worker log new here e f.fails in
       record {
-        holds = subst (λ (x : Serving). Holds accounts standing (slice_set logs worker new) (Some x)) (sym f.same) r.0.again;
+        holds = subst (λ (x : Serving). Holds accounts slots standing (slice_set logs worker new) (Some x)) (sym f.same) r.0.again;
         settles = ap (λ (x : Serving). x.settles) f.same;
         memory = r.1;
       }
   turn_fails upto e new now (inr f) = by f.fails
     where
-      open_now : Rests accounts standing worker logs serving f.mid serving
+      open_now : Rests accounts slots standing worker logs serving f.mid serving
       open_now = reopen_rests f.mid f.opens
 
-      by : FailsToFlush keeps_rules mem_state failures_of DrainsServing worker upto e f.mid new serving now → Refuses accounts standing worker logs serving there e new now
+      by : FailsToFlush keeps_rules mem_state failures_of DrainsServing worker upto e f.mid new serving now → Refuses accounts slots standing worker logs serving there e new now
       by (inl w) =
-          let r = waits_again accounts standing (slice_set logs worker f.mid) serving open_now.holds worker f.mid new (there f.mid) e w.fails in
+          let r = waits_again accounts slots standing (slice_set logs worker f.mid) serving open_now.holds worker f.mid new (there f.mid) e w.fails in
           record {
             holds =
-                subst (λ (x : Serving). Holds accounts standing (slice_set logs worker new) (Some x)) (sym w.same)
-                (twice accounts standing worker logs serving there f.mid new serving r.0.again);
+                subst (λ (x : Serving). Holds accounts slots standing (slice_set logs worker new) (Some x)) (sym w.same)
+                (twice accounts slots standing worker logs serving there f.mid new serving r.0.again);
             settles = ap (λ (x : Serving). x.settles) w.same;
             memory = r.1;
           }
-      by (inr s) = drains_stop accounts standing worker logs serving there upto e s.first new serving now (then_first f.mid s.first open_now s.kept) s.fails
+      by (inr s) = drains_stop accounts slots standing worker logs serving there upto e s.first new serving now (then_first f.mid s.first open_now s.kept) s.fails
 
   -- the steps of the life are those of its state
-  pub steps_so : steps_in (life_served accounts standing logs serving h) ≡ serving.state.steps
+  pub steps_so : steps_in (life_served accounts slots standing logs serving h) ≡ serving.state.steps
   steps_so =
-      let k = held accounts standing logs serving h in
-      last accounts (life_served accounts standing logs serving h) h.s serving.state (named serving.roster.tickets) k.serves
+      let k = held accounts slots standing logs serving h in
+      last accounts (life_served accounts slots standing logs serving h) h.s serving.state (named serving.roster.tickets) k.serves

@@ -6,6 +6,7 @@ use Rattle.mt_rows.specs.{declared.record.Batch.Batch, declared.refusal.Refusal.
 use Rattle.mt_disk.specs.{declared.mem.MemDisk.MemDisk, Disk.GoesUp, Mem.mem_state}
 use Rattle.mt_log.specs.declared.log_file.LogFile.{LogFile}
 use Rattle.mt_recover.specs.{declared.resuming.LogSlot.LogSlot, declared.resuming.LogSlot.TheVariants.{Open, Failed, Closed, Away}}
+use Rattle.mt_slots.specs.declared.store_slots.StoreSlots.{StoreSlots}
 use Rattle.mt_store_logs.specs.{declared.store_log.StoreLog.StoreLog, Places.{log_with, mark_in, disk_in, FailsToOpen}}
 use Rattle.mt_store_logs.specs.Waits.{HasAppended, HasFailed, TakesIn, AppendsKept, FailsToAppend, with_kept, opened_with, FailsAgain, ReopensAt, FailsToReopenAt, FailsToReopen}
 use Rattle.mt_store_logs.specs.{Flushes.{DrainsShort, FailsToDrain, FailsToFlush}, LogTurns.FailsToBringUp, Shows.Shows}
@@ -14,7 +15,7 @@ use Rattle.mt_lives.specs.{declared.serving.Serving.Serving, Serving.DrainsServi
 use Rattle.mt_lives.specs.{declared.events.StoreEvent.TheVariants.{Core, Flush, Reopen, SettleBegin, SettleNext, Crash}, declared.events.StoreNote.StoreNote}
 use Rattle.mt_lives.specs.{declared.events.StoreNote.TheVariants.{Turned, Settled, Refused, NoSuch}, Lives.{Standing, Notes}, Holds.Holds}
 use Rattle.mt_lives.specs.{declared.serving.Settle.Settle, Steps.{Turns, IsNoCrash}}
-use Rattle.mt_lives.specs.Forced.{Logs, FailsAt, failures_in, DiskFails, IsCrashForced, IsForced, AreForced}
+use Rattle.mt_lives.specs.Forced.{Logs, FailsAt, failures_in, DiskFails, IsCrashForced, IsForced, IsForcedAll, AreForced}
 use Rattle.mt_lives.proofs.{Comes.set_there, Noting.{found, at}, Flushing.{keeps_rules, failures_of}}
 use Rattle.mt_rows.specs.declared.refusal.Refusal.TheVariants as refusals
 
@@ -167,13 +168,13 @@ module _ (accounts : Accounts) (logs : Logs) (serving : Option Serving) (worker 
       (worker, inl (fails (turn_failed worker upto log new was is (λ e. no_some m (sym e ∙ at_mark)) f)))
   settle_forced id upto e was is mark is_mark f = tt
 
-  pub reopen_forced : (e : Refusal) (held : Serving) (standing : Standing) → Holds accounts standing logs (Some held) → mark_in log.slot ≡ None
+  pub reopen_forced : (e : Refusal) (slots : StoreSlots MemDisk) (held : Serving) (standing : Standing) → Holds accounts slots standing logs (Some held) → mark_in log.slot ≡ None
       → FailsToReopen keeps_rules mem_state failures_of e log new
       → (any : Accounts) → IsForced any (Reopen worker) (Refused e) logs serving (slice_set logs worker new)
-  reopen_forced refusals.Device held standing h shut f any =
+  reopen_forced refusals.Device slots held standing h shut f any =
       fails (reopen_failed log.worker log.slot log.kept new shut
-      (not_away (found accounts standing logs held h worker log new here).0 log.slot (at accounts standing logs held h worker log new here).stands.shows) f)
-  reopen_forced e held standing h shut f any = tt
+      (not_away (found accounts slots standing logs held h worker log new here).0 log.slot (at accounts slots standing logs held h worker log new here).stands.shows) f)
+  reopen_forced e slots held standing h shut f any = tt
 
 -- a turn of a Settle that succeeds
 pub turn_forced : (accounts : Accounts) (count id mark : ℕ) (settle : Settle) (old new : BTreeMap ℕ Settle) (logs now_logs : Logs) (serving : Option Serving) (note : StoreNote)
@@ -191,6 +192,16 @@ none_forced accounts (SettleBegin id) logs no_crash = refl
 none_forced accounts (SettleNext id) logs no_crash = refl
 none_forced accounts (Crash images) logs no_crash = absurd no_crash
 
+-- an event that is no crash leaves the slots alone
+pub slots_alone : (accounts : Accounts) (slots : StoreSlots MemDisk) (event : StoreEvent) (note : StoreNote) (old : Logs) (serving : Option Serving) (new : Logs) → IsNoCrash event
+    → IsForced accounts event note old serving new → IsForcedAll accounts slots slots event note old serving new
+slots_alone accounts slots (Core e) note old serving new no_crash forced = (forced, refl)
+slots_alone accounts slots (Flush worker) note old serving new no_crash forced = (forced, refl)
+slots_alone accounts slots (Reopen worker) note old serving new no_crash forced = (forced, refl)
+slots_alone accounts slots (SettleBegin id) note old serving new no_crash forced = (forced, refl)
+slots_alone accounts slots (SettleNext id) note old serving new no_crash forced = (forced, refl)
+slots_alone accounts slots (Crash images) note old serving new no_crash forced = absurd no_crash
+
 -- the logs that a call went over are those of the store
 module _ {E : Type 0} (first old new last : Logs) (result : Result StoreNote E) (same_old : first ≡ old) (same_new : new ≡ last) (accounts : Accounts) (event : StoreEvent) where
   abbrev All : (StoreNote → Logs → Logs → Type 0) → Logs → Logs → Type 0
@@ -199,23 +210,33 @@ module _ {E : Type 0} (first old new last : Logs) (result : Result StoreNote E) 
   moved_to : (P : StoreNote → Logs → Logs → Type 0) → All P first new → All P old last
   moved_to P all = subst (λ logs. All P old logs) same_new (subst (λ logs. All P logs new) same_old all)
 
-  pub crash_forced : (images : Vec (Vec ℕ Global) Global) (serving : Option Serving) → event ≡ Crash images
-      → IfOk result (λ note. IsCrashForced accounts images.items note first new) → IfOk result (λ note. IsForced accounts event note old serving last)
-  crash_forced images serving is forced =
-      subst (λ e. IfOk result (λ note. IsForced accounts e note old serving last)) (sym is) (moved_to (λ note before after. IsCrashForced accounts images.items note before after) forced)
+  pub crash_forced : (slots now_slots : StoreSlots MemDisk) (images : Vec (Vec ℕ Global) Global) (serving : Option Serving) → event ≡ Crash images
+      → IfOk result (λ note. IsCrashForced accounts images.items note slots now_slots first new) → IfOk result (λ note. IsForcedAll accounts slots now_slots event note old serving last)
+  crash_forced slots now_slots images serving is forced =
+      subst (λ e. IfOk result (λ note. IsForcedAll accounts slots now_slots e note old serving last)) (sym is)
+      (moved_to (λ note before after. IsCrashForced accounts images.items note slots now_slots before after) forced)
 
-  pub served_forced : (was : Serving) (serving : Option Serving) → serving ≡ Some was
-      → IfOk result (λ note. (any : Accounts) → IsForced any event note first (Some was) new) → IfOk result (λ note. IsForced accounts event note old serving last)
-  served_forced was serving is forced =
-      subst (λ s. IfOk result (λ note. IsForced accounts event note old s last)) (sym is)
-      (IfOk-weaker result _ _ (λ note all. all accounts) (moved_to (λ note before after. (any : Accounts) → IsForced any event note before (Some was) after) forced))
+  pub served_forced : (slots : StoreSlots MemDisk) (was : Serving) (serving : Option Serving) → serving ≡ Some was → IsNoCrash event
+      → IfOk result (λ note. (any : Accounts) → IsForced any event note first (Some was) new) → IfOk result (λ note. IsForcedAll accounts slots slots event note old serving last)
+  served_forced slots was serving is no_crash forced =
+      subst (λ s. IfOk result (λ note. IsForcedAll accounts slots slots event note old s last)) (sym is)
+      (IfOk-weaker result _ _ (λ note all. slots_alone accounts slots event note old (Some was) last no_crash (all accounts))
+      (moved_to (λ note before after. (any : Accounts) → IsForced any event note before (Some was) after) forced))
 
 -- ---- many events
 
 -- one event more
-pub forced_more : (accounts : Accounts) (notes : Notes) (event : StoreEvent) (note : StoreNote) (old mid new : Logs) (was between is : Option Serving)
-    → AreForced accounts notes old was mid between → IsForced accounts event note mid between new → AreForced accounts (notes ++ (event, note) ∷ []) old was new is
-forced_more accounts [] event note old mid new was between is all one =
-    (new, is, subst (λ s. IsForced accounts event note old s new) all.1 (subst (λ logs. IsForced accounts event note logs between new) all.0 one), (refl, refl))
-forced_more accounts (x ∷ notes) event note old mid new was between is all one =
-    (all.0, all.1, all.2, forced_more accounts notes event note all.0 mid new all.1 between is all.3 one)
+pub forced_more : (accounts : Accounts) (slots mid_slots now_slots : StoreSlots MemDisk) (notes : Notes) (event : StoreEvent) (note : StoreNote) (old mid new : Logs)
+    (was between is : Option Serving) → AreForced accounts slots mid_slots notes old was mid between → IsForcedAll accounts mid_slots now_slots event note mid between new
+    → AreForced accounts slots now_slots (notes ++ (event, note) ∷ []) old was new is
+forced_more accounts slots mid_slots now_slots [] event note old mid new was between is all one = (
+  new,
+  is,
+  now_slots,
+  subst (λ ss. IsForcedAll accounts ss now_slots event note old was new) all.2
+      (subst (λ s. IsForcedAll accounts mid_slots now_slots event note old s new) all.1
+      (subst (λ logs. IsForcedAll accounts mid_slots now_slots event note logs between new) all.0 one)),
+  (refl, refl, refl),
+)
+forced_more accounts slots mid_slots now_slots (x ∷ notes) event note old mid new was between is all one =
+    (all.0, all.1, all.2, all.3, forced_more accounts all.2 mid_slots now_slots notes event note all.0 mid new all.1 between is all.4 one)

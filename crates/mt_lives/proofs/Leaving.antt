@@ -1,8 +1,8 @@
 -- A store that serves no life, and goes on.
-use Rattle.std.proofs.Common.{◌≡◌, ℕ, ◌<◌, ◌≤◌, min, List, [], ◌∷◌, length, None, sym, subst, ◌∙◌}
+use Rattle.std.proofs.Common.{◌≡◌, ℕ, ◌<◌, ◌≤◌, min, List, length, sym, subst, ◌∙◌}
 use Rattle.mt_rows.specs.{Accounts.Accounts, TenantPairs.{quota_in, HasTenants, KeepsQuotas}}
 use Rattle.mt_disk.specs.{declared.mem.MemDisk.MemDisk, Mem.mem_state}
-use Rattle.mt_crashes.specs.{Histories.{Placed, pairs_upto}, Stores.{Store, LogNow, SlotNow, only_this, AllReach}}
+use Rattle.mt_crashes.specs.{Histories.{Placed, pairs_upto}, Stores.{Store, LogNow, AllReach}}
 use Rattle.mt_store_logs.specs.{declared.store_log.StoreLog.StoreLog, Shows.Shows}
 use Rattle.mt_lives.{specs.{Lives.{Past, AreLeftOf}, Holds.{quotas_of, HasCome, LeadsTo, EachLog, IsDown, KeepsAll}}, proofs.{Comes.comes_on, Logged.all_on}}
 
@@ -13,30 +13,24 @@ ShowsIn worker now log = Shows mem_state now log.slot
 abbrev pub AllShow : Store → List (StoreLog MemDisk) → Type 0
 AllShow s logs = EachLog ShowsIn s logs
 
--- no checkpoints
-abbrev pub no_slots : List SlotNow
-no_slots = only_this None ∷ only_this None ∷ []
-
 -- a store of so many logs that serves no life
 pub record IsLeft (accounts : Accounts) (settled : ℕ) (past : Past) (count : ℕ) (s : Store) : Type 0 where
   pub some : 0 < count
   pub few : count ≤ 64
   pub come : HasCome count s
   pub len : length s.logs ≡ count
-  pub slots : s.slots ≡ no_slots
   pub settled_so : AllReach settled s
   pub keeps : KeepsAll accounts s
   pub down : IsDown accounts past s
 
 -- it is so of what things led to, while the history stays
 pub left_on : (accounts : Accounts) (settled : ℕ) (past : Past) (count : ℕ) (s t : Store) → IsLeft accounts settled past count s → LeadsTo s t
-    → length t.logs ≡ length s.logs → t.slots ≡ s.slots → t.history ≡ s.history → IsLeft accounts settled past count t
-left_on accounts settled past count s t l leads len slots history = record {
+    → length t.logs ≡ length s.logs → t.history ≡ s.history → IsLeft accounts settled past count t
+left_on accounts settled past count s t l leads len history = record {
   some = l.some;
   few = l.few;
   come = comes_on count s t l.come leads;
   len = len ∙ l.len;
-  slots = slots ∙ l.slots;
   settled_so = all_on count settled s t l.some l.few l.come leads l.settled_so;
   keeps = λ m. subst
       (λ (h : List Placed). HasTenants (quota_in accounts) (pairs_upto m h) × KeepsQuotas (quota_in accounts) (pairs_upto m h))

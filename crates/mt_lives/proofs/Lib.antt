@@ -31,3 +31,5 @@ pub mod Owning
 pub mod TurnNotes
 pub mod SettleNotes
 pub mod Settlings
+pub mod SlotReading
+pub mod Parting

@@ -18,6 +18,7 @@ use Rattle.mt_lives.specs.Holds.{IsLogAt, HoldsKept, Serves, Holds}
 use Rattle.mt_lives.proofs.{Comes.{with_log, set_there, GoesTo, and_then, rests, is_in, is_in_doubt}, Logged.{set_other, serves_drained}}
 use Rattle.mt_lives.proofs.Flushing.{keeps_rules, failures_of, of_log, doubt_drained, Moves, kept_moves, waits_moves, full_or_all, flushed, keeps_moves}
 use Rattle.mt_lives.proofs.Noting.{life_served, held, HoldsAgain, found, at, moved}
+use Rattle.mt_slots.specs.declared.store_slots.StoreSlots.{StoreSlots}
 use Rattle.mt_rows.specs.declared.refusal.Refusal.TheVariants as refusals
 
 -- ---- refusals of a reopening
@@ -65,10 +66,10 @@ rest_drained now mid (Some b) waits (inr rest) = refl
 
 -- ---- one log
 
-module _ (accounts : Accounts) (standing : Standing) (logs : List (StoreLog MemDisk)) (serving : Serving) (h : Holds accounts standing logs (Some serving))
+module _ (accounts : Accounts) (slots : StoreSlots MemDisk) (standing : Standing) (logs : List (StoreLog MemDisk)) (serving : Serving) (h : Holds accounts slots standing logs (Some serving))
     (worker : ℕ) (log new : StoreLog MemDisk) (here : slice_get logs worker ≡ Some log) where
   life : Life
-  life = life_served accounts standing logs serving h
+  life = life_served accounts slots standing logs serving h
 
   v : StateView
   v = serving.state
@@ -78,22 +79,22 @@ module _ (accounts : Accounts) (standing : Standing) (logs : List (StoreLog MemD
 
   serves : Serves accounts life h.s v names
   unfolding life v names
-  serves = (held accounts standing logs serving h).serves
+  serves = (held accounts slots standing logs serving h).serves
 
   now : LogNow
-  now = (found accounts standing logs serving h worker log new here).0
+  now = (found accounts slots standing logs serving h worker log new here).0
 
   there : slice_get h.s.logs worker ≡ Some now
   unfolding now
-  there = (found accounts standing logs serving h worker log new here).1
+  there = (found accounts slots standing logs serving h worker log new here).1
 
   log_at : IsLogAt h.s v.logs worker now log
   unfolding v now
-  log_at = at accounts standing logs serving h worker log new here
+  log_at = at accounts slots standing logs serving h worker log new here
 
   -- all holds again with the log as it is, of a store of which P is so
   abbrev pub Again : Serving → (Store → Type 0) → Type 0
-  Again now_serving P = HoldsAgain accounts standing logs serving h (slice_set logs worker new) now_serving P
+  Again now_serving P = HoldsAgain accounts slots standing logs serving h (slice_set logs worker new) now_serving P
 
   abbrev pub AnyStore : Store → Type 0
   AnyStore s = Unit {0}
@@ -102,7 +103,7 @@ module _ (accounts : Accounts) (standing : Standing) (logs : List (StoreLog MemD
   undrained : (now_serving : Serving) → now_serving ≡ serving → Moves h.s v.logs worker new → Again now_serving AnyStore
   unfolding life v names
   undrained now_serving same m =
-      let a = moved accounts standing logs serving h worker log new here serving m serves refl refl (λ k other. refl) in
+      let a = moved accounts slots standing logs serving h worker log new here serving m serves refl refl (λ k other. refl) in
       subst (λ (x : Serving). Again x AnyStore) (sym same) (record { again = a.again; so = tt })
 
   -- it was
@@ -118,7 +119,7 @@ module _ (accounts : Accounts) (standing : Standing) (logs : List (StoreLog MemD
 
     drained_on : (m : Moves h.s now_serving.state.logs worker new) → Again now_serving (λ s. slice_get s.logs worker ≡ Some m.next)
     unfolding life v
-    drained_on m = moved accounts standing logs serving h worker log new here now_serving m now_serves given.roster given.settles others
+    drained_on m = moved accounts slots standing logs serving h worker log new here now_serving m now_serves given.roster given.settles others
 
   -- ---- appends and drains
 
@@ -135,7 +136,7 @@ module _ (accounts : Accounts) (standing : Standing) (logs : List (StoreLog MemD
   -- the worker was drained once, and its batch is in the log
   pub drained_again : (now_serving : Serving) (upto mark : ℕ) → log.kept ≡ None → DrainsIn keeps_rules mem_state failures_of DrainsServing worker upto mark log new serving now_serving
       → Again now_serving (λ s. ReachesAt mark s worker) × (mark ≤ serving.state.steps)
-      × ((mark ≡ serving.state.steps) ⊎ ((life_served accounts standing logs serving h).base + 4096 ≤ mark))
+      × ((mark ≡ serving.state.steps) ⊎ ((life_served accounts slots standing logs serving h).base + 4096 ≤ mark))
   unfolding life v names
   drained_again now_serving upto mark none d =
       let r = flushed accounts life h.s v names serves worker now log there log_at none now_serving.state d.batch d.given.state d.bounded new d.appended in

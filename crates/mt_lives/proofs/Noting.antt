@@ -3,6 +3,7 @@ use Rattle.std.proofs.Common.{◌≡◌, ◌≢◌, ℕ, ◌<◌, ◌≤◌, Lis
 use Rattle.std.specs.Prelude.{slice_get, slice_set}
 use Rattle.mt_rows.specs.Accounts.{Accounts}
 use Rattle.mt_disk.specs.declared.mem.MemDisk.{MemDisk}
+use Rattle.mt_slots.specs.declared.store_slots.StoreSlots.{StoreSlots}
 use Rattle.mt_state.specs.Histories.{AreById}
 use Rattle.mt_core.specs.Tickets.{named}
 use Rattle.mt_crashes.{specs.Stores.{Store, LogNow}, proofs.Invariant.within_place}
@@ -18,7 +19,7 @@ pub serving_life : (accounts : Accounts) (begun : ℕ → Option ℕ) (now : Res
 serving_life accounts begun (Ok life) s logs serving h = (life, refl)
 serving_life accounts begun (Err past) s logs serving h = absurd h
 
-module _ (accounts : Accounts) (standing : Standing) (logs : List (StoreLog MemDisk)) (serving : Serving) (h : Holds accounts standing logs (Some serving)) where
+module _ (accounts : Accounts) (slots : StoreSlots MemDisk) (standing : Standing) (logs : List (StoreLog MemDisk)) (serving : Serving) (h : Holds accounts slots standing logs (Some serving)) where
   pub life_served : Life
   life_served = (serving_life accounts standing.begun standing.now h.s logs serving h.now).0
 
@@ -31,7 +32,7 @@ module _ (accounts : Accounts) (standing : Standing) (logs : List (StoreLog MemD
 
   -- all of it holds again
   pub record HoldsAgain (now_logs : List (StoreLog MemDisk)) (now_serving : Serving) (P : Store → Type 0) : Type 0 where
-    pub again : Holds accounts standing now_logs (Some now_serving)
+    pub again : Holds accounts slots standing now_logs (Some now_serving)
     pub so : P again.s
 
   module _ (worker : ℕ) (log new : StoreLog MemDisk) (here : slice_get logs worker ≡ Some log) where
@@ -64,7 +65,7 @@ module _ (accounts : Accounts) (standing : Standing) (logs : List (StoreLog MemD
             few = subst (λ n. n ≤ 64) (sym len) h.few;
             come = subst (λ n. HasCome n t) (sym len) (comes_on count h.s t h.come m.goes);
             count = set_length h.s.logs worker m.next ∙ h.count ∙ sym len;
-            slots = h.slots;
+            stand = h.stand;
             settled = all_on count standing.settled h.s t h.some h.few h.come m.goes h.settled;
             keeps = h.keeps;
             now = subst (λ (n : Result Life Past). HoldsNow accounts standing.begun n t (slice_set logs worker new) (Some now_serving)) (sym lives_so) holds_now;

@@ -4,6 +4,7 @@ use Rattle.std.proofs.lemmas.List.{length-set}
 use Rattle.std.specs.Prelude.{IfErr}
 use Rattle.mt_rows.specs.{Accounts.Accounts, declared.record.Batch.Batch, declared.refusal.Refusal.Refusal}
 use Rattle.mt_disk.specs.{declared.mem.MemDisk.MemDisk, Mem.mem_state}
+use Rattle.mt_slots.specs.declared.store_slots.StoreSlots.{StoreSlots}
 use Rattle.mt_batches.specs.Batches.{IsBounded}
 use Rattle.mt_state.specs.Views.{StateView}
 use Rattle.mt_core.specs.Rights.{IsRightState}
@@ -120,10 +121,10 @@ DoesInMemory turn was old is new = DoesStore keeps_rules mem_state failures_of t
 abbrev pub does : {S : Type 0} → (S → OwnState) → (S → List (StoreLog MemDisk)) → S → Turn → S → Type 0
 does source logs old turn new = DoesInMemory turn (source old) (logs old) (source new) (logs new)
 
-module _ (accounts : Accounts) (standing : Standing) (serving : Serving) (count steps : ℕ) where
+module _ (accounts : Accounts) (slots : StoreSlots MemDisk) (standing : Standing) (serving : Serving) (count steps : ℕ) where
   -- all holds of the store with this state and these logs
   pub record Keeps (s : OwnState) (logs : List (StoreLog MemDisk)) : Type 0 where
-    pub holds : Holds accounts standing logs (Some (with_state s.state serving))
+    pub holds : Holds accounts slots standing logs (Some (with_state s.state serving))
     pub ready : IsReady count steps s
     pub len : length logs ≡ count
 
@@ -131,9 +132,9 @@ module _ (accounts : Accounts) (standing : Standing) (serving : Serving) (count 
       → Keeps was old → DoesInMemory (BroughtUp worker told) was old is new → Keeps is new × IfErr told IsMemoryOrDevice
   turn_keeps worker (Ok mark) was old is new k d =
       let b = brings_up serving count steps worker (subst (λ n. worker < n) k.len (within old worker d.before d.there)) was.state.steps mark d.before d.after was is k.ready d.turns in
-      let f = drains.turn_noted accounts standing old (with_state was.state serving) k.holds worker d.before d.there was.state.steps mark d.after (with_state is.state serving) b.0 in (
+      let f = drains.turn_noted accounts slots standing old (with_state was.state serving) k.holds worker d.before d.there was.state.steps mark d.after (with_state is.state serving) b.0 in (
         record {
-          holds = subst (λ ls. Holds accounts standing ls (Some (with_state is.state serving))) (sym d.stands) f.holds;
+          holds = subst (λ ls. Holds accounts slots standing ls (Some (with_state is.state serving))) (sym d.stands) f.holds;
           ready = b.1;
           len = ap (λ (ls : List (StoreLog MemDisk)). length ls) d.stands ∙ length-set old worker d.after ∙ k.len;
         },
@@ -141,9 +142,9 @@ module _ (accounts : Accounts) (standing : Standing) (serving : Serving) (count 
       )
   turn_keeps worker (Err e) was old is new k d =
       let b = fails_to_bring_up serving count steps worker (subst (λ n. worker < n) k.len (within old worker d.before d.there)) was.state.steps e d.before d.after was is k.ready d.turns in
-      let f = drains.turn_fails accounts standing old (with_state was.state serving) k.holds worker d.before d.there was.state.steps e d.after (with_state is.state serving) b.0 in (
+      let f = drains.turn_fails accounts slots standing old (with_state was.state serving) k.holds worker d.before d.there was.state.steps e d.after (with_state is.state serving) b.0 in (
         record {
-          holds = subst (λ ls. Holds accounts standing ls (Some (with_state is.state serving))) (sym d.stands) f.holds;
+          holds = subst (λ ls. Holds accounts slots standing ls (Some (with_state is.state serving))) (sym d.stands) f.holds;
           ready = b.1;
           len = ap (λ (ls : List (StoreLog MemDisk)). length ls) d.stands ∙ length-set old worker d.after ∙ k.len;
         },
@@ -165,11 +166,11 @@ last_turn does (x ∷ turns) turn old new (mid, d, rest) =
     (r.0, (mid, d, r.1), r.2)
 
 -- how a store begins that serves by this state
-pub keeps_at_first : (accounts : Accounts) (standing : Standing) (serving : Serving) (s : OwnState) (logs : List (StoreLog MemDisk)) → Holds accounts standing logs (Some serving)
-    → s.state ≡ serving.state → Keeps accounts standing serving (length logs) s.state.steps s logs
-keeps_at_first accounts standing serving s logs h same =
-    let was = held accounts standing logs serving h in record {
-      holds = subst (λ (v : StateView). Holds accounts standing logs (Some (with_state v serving))) (sym same) h;
+pub keeps_at_first : (accounts : Accounts) (slots : StoreSlots MemDisk) (standing : Standing) (serving : Serving) (s : OwnState) (logs : List (StoreLog MemDisk)) → Holds accounts slots standing logs (Some serving)
+    → s.state ≡ serving.state → Keeps accounts slots standing serving (length logs) s.state.steps s logs
+keeps_at_first accounts slots standing serving s logs h same =
+    let was = held accounts slots standing logs serving h in record {
+      holds = subst (λ (v : StateView). Holds accounts slots standing logs (Some (with_state v serving))) (sym same) h;
       ready = record {
         right = subst IsRightState (sym same) was.serves.right;
         logs = ap (λ (v : StateView). length v.logs) same ∙ was.serves.logs ∙ h.count;

@@ -1,14 +1,14 @@
 -- A store whose logs rest is recovered: up to the cutoff it is as it was, and nothing else is left of the life that ended.
-use Rattle.std.proofs.Common.{◌≡◌, ℕ, ◌≤◌, min, false, not, ◌&&◌, List, ◌∷◌, map, Option, refl, sym, ap, subst, ◌∙◌, arith, inl, inr, ⊎_elim}
+use Rattle.std.proofs.Common.{◌≡◌, ℕ, ◌≤◌, min, false, not, ◌&&◌, List, [], ◌∷◌, map, Option, refl, sym, ap, subst, ◌∙◌, arith, inl, inr, ⊎_elim}
 use Rattle.std.proofs.lemmas.Bool.{cases_lt, lt-ltb, le-ltb}
 use Rattle.std.specs.{Prelude.nat_lt, FinMap.empty}
 use Rattle.mt_rows.specs.{Accounts.Accounts, Tenants.{Contents as Pairs}, TenantPairs.{quota_in, HasTenants, KeepsQuotas}, declared.refusal.Refusal.Refusal}
 use Rattle.mt_log.specs.Contents.{Contents}
 use Rattle.mt_crashes.specs.{Fronts.{cutoff_of, after_changes}, Histories.{Placed, upto, changes_of, pairs_upto, after_recovery}}
-use Rattle.mt_crashes.specs.{Recoveries.{resume_of, IsRecovered}, Stores.{Store, at_rest, MayLeaveFronts, MayLeaveSlots, Recovers, AllReach}}
+use Rattle.mt_crashes.specs.{Recoveries.{resume_of, IsRecovered}, Stores.{Store, at_rest, only_this, MayLeaveFronts, MayLeaveSlots, Recovers, AllReach}}
+use Rattle.mt_crashes.specs.Bases.{Slots}
 use Rattle.mt_crashes.proofs.{Members.{filter_filter, filter_same}, Heart.{recovered, settled}}
 use Rattle.mt_recover.{specs.Refusals.IsRefusal, proofs.OwnFiles.for_memory}
-use Rattle.mt_store_logs.specs.Recovers.{no_checkpoints}
 use Rattle.mt_lives.specs.{Lives.{Past, AreLeftOf, KeepsUpto}, Holds.{quotas_of, LeadsTo}}
 use Rattle.mt_lives.proofs.{Comes.{stays_here, one_more, comes_on}, Logged.all_on, Walking.rest_leaves, Leaving.IsLeft}
 use Rattle.mt_rows.specs.declared.refusal.Refusal.TheVariants as refusals
@@ -37,29 +37,34 @@ pairs_twice next first history = ap (λ ps. after_changes empty (changes_of ps))
 -- ---- the recovery
 
 -- a store as a recovery leaves it
-abbrev pub recovered_from : List Contents → Store → Store
-recovered_from fronts s = record {
-  steps = resume_of fronts no_checkpoints;
+abbrev pub recovered_from : List Contents → Slots → Store → Store
+recovered_from fronts read s = record {
+  steps = resume_of fronts read;
   history = after_recovery (cutoff_of fronts) s.history;
   logs = s.logs;
   slots = s.slots;
   serving = false;
-  placed = upto (resume_of fronts no_checkpoints) s.placed;
-  voids = (cutoff_of fronts, resume_of fronts no_checkpoints) ∷ s.voids;
-  reached = resume_of fronts no_checkpoints;
+  placed = upto (resume_of fronts read) s.placed;
+  voids = (cutoff_of fronts, resume_of fronts read) ∷ s.voids;
+  reached = resume_of fronts read;
 }
 
 -- what is kept of a life that ended
 abbrev pub kept_upto : ℕ → Past → Past
 kept_upto cutoff past = record { life = past.life; kept = min past.kept cutoff }
 
-module _ (accounts : Accounts) (settled_by : ℕ) (past : Past) (count : ℕ) (s : Store) (fronts : List Contents) (l : IsLeft accounts settled_by past count s)
-    (rest : s.logs ≡ map at_rest fronts) where
+-- a slot that surely has something may be left with that
+sure_leaves : (read : Slots) → MayLeaveSlots (map only_this read) read
+sure_leaves [] = tt
+sure_leaves (x ∷ read) = (inl refl, sure_leaves read)
+
+module _ (accounts : Accounts) (settled_by : ℕ) (past : Past) (count : ℕ) (s : Store) (fronts : List Contents) (read : Slots) (l : IsLeft accounts settled_by past count s)
+    (rest : s.logs ≡ map at_rest fronts) (rest_slots : s.slots ≡ map only_this read) where
   left_fronts : MayLeaveFronts s.logs fronts
   left_fronts = subst (λ ls. MayLeaveFronts ls fronts) (sym rest) (rest_leaves fronts)
 
-  left_slots : MayLeaveSlots s.slots no_checkpoints
-  left_slots = subst (λ ss. MayLeaveSlots ss no_checkpoints) (sym l.slots) (inl refl, (inl refl, tt))
+  left_slots : MayLeaveSlots s.slots read
+  left_slots = subst (λ ss. MayLeaveSlots ss read) (sym rest_slots) (sure_leaves read)
 
   -- what all logs reach is kept
   reached : (n : ℕ) → AllReach n s → n ≤ cutoff_of fronts
@@ -72,29 +77,28 @@ module _ (accounts : Accounts) (settled_by : ℕ) (past : Past) (count : ℕ) (s
   base_kept = reached past.life.base l.down.reach
 
   -- why it may be refused
-  pub refused : (e : Refusal) → IsRefusal fronts no_checkpoints (quota_in accounts) e → e ≡ refusals.Memory
-  refused e is = for_memory count l.come.0 s fronts l.some l.few l.come.1 left_fronts (quota_in accounts) no_checkpoints e left_slots l.keeps is
+  pub refused : (e : Refusal) → IsRefusal fronts read (quota_in accounts) e → e ≡ refusals.Memory
+  refused e is = for_memory count l.come.0 s fronts l.some l.few l.come.1 left_fronts (quota_in accounts) read e left_slots l.keeps is
 
   -- what is found
-  pub found_so : (cutoff resume : ℕ) (used : Option ℕ) (found : Pairs) → IsRecovered fronts no_checkpoints cutoff resume used found
+  pub found_so : (cutoff resume : ℕ) (used : Option ℕ) (found : Pairs) → IsRecovered fronts read cutoff resume used found
       → found ≡ pairs_upto cutoff s.history
-  found_so cutoff resume used found r = recovered count l.come.0 s fronts no_checkpoints cutoff resume used found l.some l.few l.come.1 left_fronts left_slots r
+  found_so cutoff resume used found r = recovered count l.come.0 s fronts read cutoff resume used found l.some l.few l.come.1 left_fronts left_slots r
 
-  pub recovers_to : LeadsTo s (recovered_from fronts s)
+  pub recovers_to : LeadsTo s (recovered_from fronts read s)
   recovers_to =
-      let r : Recovers s (recovered_from fronts s) = record { fronts = fronts; read = no_checkpoints; rest = rest; rest_slots = l.slots; stands = refl } in
-      one_more s s (recovered_from fronts s) (stays_here s s refl) (inr (inr (inr (inr (inl r)))))
+      let r : Recovers s (recovered_from fronts read s) = record { fronts = fronts; read = read; rest = rest; rest_slots = rest_slots; stands = refl } in
+      one_more s s (recovered_from fronts read s) (stays_here s s refl) (inr (inr (inr (inr (inl r)))))
 
-  pub left_recovered : IsLeft accounts settled_by (kept_upto (cutoff_of fronts) past) count (recovered_from fronts s)
+  pub left_recovered : IsLeft accounts settled_by (kept_upto (cutoff_of fronts) past) count (recovered_from fronts read s)
   left_recovered =
-      let t = recovered_from fronts s in
+      let t = recovered_from fronts read s in
       let cutoff = cutoff_of fronts in
       record {
         some = l.some;
         few = l.few;
         come = comes_on count s t l.come recovers_to;
         len = l.len;
-        slots = l.slots;
         settled_so = all_on count settled_by s t l.some l.few l.come recovers_to l.settled_so;
         keeps = λ m. subst (λ (c : Pairs). HasTenants (quota_in accounts) c × KeepsQuotas (quota_in accounts) c) (sym (pairs_twice m cutoff s.history)) (l.keeps (min m cutoff));
         down = record {
@@ -112,7 +116,7 @@ module _ (accounts : Accounts) (settled_by : ℕ) (past : Past) (count : ℕ) (s
   keeps_upto = record { cutoff = cutoff_of fronts; settled_so = settled_kept; same = refl; kept = refl }
 
   -- and what is found are its pairs
-  pub found_left : (cutoff resume : ℕ) (used : Option ℕ) (found : Pairs) → IsRecovered fronts no_checkpoints cutoff resume used found
+  pub found_left : (cutoff resume : ℕ) (used : Option ℕ) (found : Pairs) → IsRecovered fronts read cutoff resume used found
       → AreLeftOf (quotas_of accounts) past.life (min past.kept cutoff) found
   found_left cutoff resume used found r =
       let same = r.cutoff_is in

@@ -1,24 +1,31 @@
 -- What a recovery makes of a store that a crash left, in each of its outcomes.
-use Rattle.std.proofs.Common.{◌≡◌, ℕ, ◌<◌, ◌≤◌, ◌^◌, min, Result, List, map, length, Option, Some, None, Ok, Err, refl, sym, ap, subst, ◌∙◌, arith, inl, inr, ⊎_elim}
-use Rattle.std.proofs.lemmas.List.Elements.{All-weaker}
+use Rattle.std.proofs.Common.{◌≡◌, ℕ, ◌<◌, ◌≤◌, ◌^◌, min, Result, List, [], ◌∷◌, map, length, Option, Some, None, Ok, Err, refl, sym, ap, subst, ◌∙◌, arith, inl, inr, ⊎_elim}
+use Rattle.std.proofs.{lemmas.List.Elements.All-weaker, lemmas.Option.same_Some}
 use Rattle.std.specs.{Prelude.{slice_get, Vec, IfOk}, declared.alloc.Global.Global, List.All}
 use Rattle.mt_rows.specs.{Accounts.Accounts, TenantPairs.{pairs_of, quota_in}, declared.refusal.Refusal.Refusal}
 use Rattle.mt_disk.specs.{declared.mem.MemDisk.MemDisk, Mem.mem_state}
 use Rattle.mt_log.specs.{declared.batch.Front.Front, Contents.{Contents, contents_of}}
 use Rattle.mt_core.specs.{Restores.IsRestored, Rights.IsRightState}
 use Rattle.mt_state.specs.Views.{StateView}
-use Rattle.mt_crashes.specs.{Fronts.cutoff_of, Histories.{Placed, pairs_upto}, Recoveries.{resume_of, IsRecovered}, Stores.Store}
+use Rattle.mt_crashes.specs.{Fronts.cutoff_of, Histories.{Placed, pairs_upto}, Bases.Slots, Recoveries.{resume_of, IsRecovered}, Stores.{Store, only_this}}
 use Rattle.mt_crashes.proofs.{FrontLaws.cutoff_upto_last, Invariant.within_place}
-use Rattle.mt_recover.specs.{Refusals.IsRefusal, declared.recovering.Recovered.{Recovered as Found}}
-use Rattle.mt_store_logs.specs.{declared.fault.LogRefusal.LogRefusal, declared.store_log.StoreLog.StoreLog, Crashes.AreCrashed}
-use Rattle.mt_store_logs.specs.Places.{OpensAll, StopsOpening, StopsOpeningAt}
-use Rattle.mt_store_logs.specs.Recovers.{no_checkpoints, ResumesAll, StopsResumingAt, ServesAgain, IsNotRecovered}
-use Rattle.mt_store_logs.proofs.ForResumes.{last_within, resumes_last}
+use Rattle.mt_recover.{specs.{Refusals.IsRefusal, declared.recovering.Recovered.{Recovered as Found}}, proofs.Limits.resume_within}
+use Rattle.mt_checkpoint.specs.declared.checkpoint.Checkpoint.{Checkpoint}
+use Rattle.mt_slots.specs.{declared.store_slots.StoreSlots.StoreSlots, declared.fault.SlotFault.SlotFault, Places.{Both, in_order, with_newest, refusal_for}}
+use Rattle.mt_slots.specs.Calls.{ReadsBoth, StopsReading}
+use Rattle.mt_store_logs.specs.{declared.fault.LogRefusal.LogRefusal, declared.fault.StoreRefusal.StoreRefusal}
+use Rattle.mt_store_logs.specs.{declared.fault.StoreRefusal.TheVariants.{Logs as OfLogs, Slot as OfSlot}, declared.store_log.StoreLog.StoreLog}
+use Rattle.mt_store_logs.specs.Places.{closed_on, OpensAll, StopsOpening, StopsOpeningAt}
+use Rattle.mt_store_logs.specs.Recovers.{slots_of, used_slot, refusal_in, ResumesAll, StopsResumingAt, ServesAgain, IsNotRecovered}
+use Rattle.mt_store_logs.proofs.{ForResumes.{in_format, both_in_format, resumes_last}, Closed.length-closed}
+use Rattle.mt_stored.specs.Stores.{IsRecoveredStore}
 use Rattle.mt_lives.specs.{declared.events.StoreEvent.StoreEvent, declared.events.StoreEvent.TheVariants.Crash, declared.events.StoreNote.StoreNote}
 use Rattle.mt_lives.specs.{declared.events.StoreNote.TheVariants.{Recovered, Refused, NoSuch}, declared.serving.Serving.Serving}
 use Rattle.mt_lives.specs.Lives.{Life, Past, Standing, past_of, life_from, MayKeep, AreLeftOf, IsMemoryOrDevice, crashed_to}
-use Rattle.mt_lives.specs.{Holds.{quotas_of, HasCome, HoldsServing, Holds}, Returns.{IsFresh, Begins, AreRecovered, AreNotRecovered}, Steps.{GoesOn, CrashesTo}}
+use Rattle.mt_lives.specs.{Holds.{quotas_of, HasCome, HoldsServing, SlotsStand, Holds}, Forced.AllCrash}
+use Rattle.mt_lives.specs.{Returns.{IsFresh, Begins, AreRecovered, AreNotRecovered}, Steps.{GoesOn, CrashesTo}}
 use Rattle.mt_lives.proofs.{Comes.comes_on, Logged.all_on, Flushing.{keeps_rules, failures_of, within}, Walking.with_logs, Leaving.{AllShow, IsLeft, left_on}}
+use Rattle.mt_lives.proofs.SlotReading.{told_fault, stand_unread, with_slots, AreSure, stand_sure, slots_rest, stand_used}
 use Rattle.mt_lives.proofs.{Crashing.{holds_left, Leaves, leaves}, Opening.{all_opened, in_part}}
 use Rattle.mt_lives.proofs.Recovering.{recovered_from, kept_upto, refused, found_so, found_left, settled_kept, keeps_upto, left_recovered}
 use Rattle.mt_lives.proofs.{Resuming.{all_resumed, resumed_in_part}, Living.{RestAt, served, serves_now, made_upto, begins_restored, begins_serving}}
@@ -35,7 +42,7 @@ resuming_len : (kept to : ℕ) (at : Option ℕ) (e : Refusal) (old new : List (
 resuming_len kept to None e old new stops = absurd stops
 resuming_len kept to (Some place) e old new stops = stops.len
 
-module _ (accounts : Accounts) (standing : Standing) (old : List (StoreLog MemDisk)) (from : Leaves accounts standing old) where
+module _ (accounts : Accounts) (slots : StoreSlots MemDisk) (standing : Standing) (old : List (StoreLog MemDisk)) (from : Leaves accounts slots standing old) where
   abbrev s : Store
   s = from.s
 
@@ -46,18 +53,19 @@ module _ (accounts : Accounts) (standing : Standing) (old : List (StoreLog MemDi
   IsLeftAs past_now t = IsLeft accounts standing.settled past_now (length old) t
 
   -- a recovery was refused: the store serves no life, and keeps so much of the last one
-  pub record Refuses (new : List (StoreLog MemDisk)) : Type 0 where
+  pub record Refuses (new : List (StoreLog MemDisk)) (now : StoreSlots MemDisk) : Type 0 where
     pub past_now : Past
     pub kept : MayKeep standing.settled (past_of standing.now) past_now
-    pub holds : Holds accounts (crashed_to (Err past_now) standing) new None
+    pub holds : Holds accounts now (crashed_to (Err past_now) standing) new None
 
-  holds_so : (past_now : Past) (t : Store) (new : List (StoreLog MemDisk)) → length new ≡ length old → IsLeftAs past_now t → AllShow t new
-      → Holds accounts (crashed_to (Err past_now) standing) new None
-  holds_so past_now t new len l each = holds_left accounts standing past_now new t (subst (λ n. IsLeft accounts standing.settled past_now n t) (sym len) l) each
+  holds_so : (past_now : Past) (t : Store) (new : List (StoreLog MemDisk)) (now : StoreSlots MemDisk) → length new ≡ length old → IsLeftAs past_now t → SlotsStand t.slots now
+      → AllShow t new → Holds accounts now (crashed_to (Err past_now) standing) new None
+  holds_so past_now t new now len l stand each =
+      holds_left accounts now standing past_now new t (subst (λ n. IsLeft accounts standing.settled past_now n t) (sym len) l) stand each
 
   -- ---- a log was not opened
 
-  pub not_opened : (e : LogRefusal) (new : List (StoreLog MemDisk)) → StopsOpening keeps_rules mem_state failures_of e old new → IsMemoryOrDevice e.refusal × Refuses new
+  pub not_opened : (e : LogRefusal) (new : List (StoreLog MemDisk)) → StopsOpening keeps_rules mem_state failures_of e old new → IsMemoryOrDevice e.refusal × Refuses new slots
   not_opened e new stops =
       let len = opening_len e.log e.refusal old new stops in
       let o = in_part s old new from.left.len len from.shows e.log e.refusal stops in
@@ -66,7 +74,7 @@ module _ (accounts : Accounts) (standing : Standing) (old : List (StoreLog MemDi
         record {
           past_now = past;
           kept = inl refl;
-          holds = holds_so past t new len (left_on accounts standing.settled past (length old) s t from.left o.leads o.len_so refl refl) o.shows;
+          holds = holds_so past t new slots len (left_on accounts standing.settled past (length old) s t from.left o.leads o.len_so refl) from.stand o.shows;
         },
       )
 
@@ -79,194 +87,228 @@ module _ (accounts : Accounts) (standing : Standing) (old : List (StoreLog MemDi
     opened : opening.Opened s old mid from.left.len opens.each.len from.shows fronts opens
     opened = all_opened s old mid from.left.len opens.each.len from.shows fronts opens
 
-    abbrev rested : Store
-    rested = with_logs opened.logs s
+    abbrev opened_store : Store
+    opened_store = with_logs opened.logs s
 
-    left_rested : IsLeftAs past rested
-    left_rested = left_on accounts standing.settled past (length old) s rested from.left opened.leads opened.len_so refl refl
+    left_opened : IsLeftAs past opened_store
+    left_opened = left_on accounts standing.settled past (length old) s opened_store from.left opened.leads opened.len_so refl
 
-    -- they are refused
-    pub refused_for : (e : Refusal) → IsRefusal found no_checkpoints (quota_in accounts) e → IsMemoryOrDevice e × Refuses mid
-    refused_for e is = (
-      inl (refused accounts standing.settled past (length old) rested found left_rested opened.rest e is),
-      record { past_now = past; kept = inl refl; holds = holds_so past rested mid opens.each.len left_rested opened.shows },
+    -- a slot was not read
+    pub not_read : (fault : SlotFault) (now : StoreSlots MemDisk) → StopsReading keeps_rules mem_state failures_of fault slots now
+        → IsMemoryOrDevice (refusal_for fault.cause) × Refuses mid now
+    not_read fault now stops = (
+      told_fault fault.cause,
+      record { past_now = past; kept = inl refl; holds = holds_so past opened_store mid now opens.each.len left_opened (stand_unread s.slots slots now fault from.stand stops) opened.shows },
     )
 
-    -- they are recovered
-    abbrev recovered : Store
-    recovered = recovered_from found rested
+    -- both slots were read
+    module _ (read_slots : StoreSlots MemDisk) (both : Both (Option Checkpoint)) (reads : ReadsBoth keeps_rules mem_state failures_of slots read_slots both) where
+      abbrev read : Slots
+      read = slots_of (in_order both)
 
-    abbrev past_kept : Past
-    past_kept = kept_upto (cutoff_of found) past
+      sure : AreSure opened_store read_slots both
+      sure = slots_rest opened_store slots read_slots both from.stand reads
 
-    left_now : IsLeftAs past_kept recovered
-    left_now = left_recovered accounts standing.settled past (length old) rested found left_rested opened.rest
+      abbrev rested : Store
+      rested = with_slots (map only_this read) opened_store
 
-    keeps : MayKeep standing.settled past past_kept
-    keeps = inr (keeps_upto accounts standing.settled past (length old) rested found left_rested opened.rest)
+      left_rested : IsLeftAs past rested
+      left_rested = left_on accounts standing.settled past (length old) opened_store rested left_opened sure.leads refl refl
 
-    module _ (r : Found) (is : IsRecovered found no_checkpoints r.cutoff r.resume r.used (pairs_of r.pairs.items)) where
-      fits : resume_of found no_checkpoints ≤ 2 ^ 59
-      fits =
-          let last = last_within keeps_rules mem_state failures_of old mid fronts opens in
-          let resumes = resumes_last found r.cutoff r.resume r.used (pairs_of r.pairs.items) is in
-          let same = is.resume_is in
-          omega (arith, last, resumes, same)
+      -- they are refused
+      pub refused_for : (e : Refusal) → IsRefusal found read (quota_in accounts) e → IsMemoryOrDevice e × Refuses mid read_slots
+      refused_for e is = (
+        inl (refused accounts standing.settled past (length old) rested found read left_rested opened.rest refl e is),
+        record { past_now = past; kept = inl refl; holds = holds_so past rested mid read_slots opens.each.len left_rested (stand_sure both read_slots sure.keeps) opened.shows },
+      )
 
-      count_mid : length recovered.logs ≡ length mid
-      count_mid = opened.len_so ∙ from.left.len ∙ sym opens.each.len
+      -- they are recovered
+      abbrev recovered : Store
+      recovered = recovered_from found read rested
 
-      pub settled_upto : standing.settled ≤ r.cutoff
-      settled_upto =
-          let kept_so = settled_kept accounts standing.settled past (length old) rested found left_rested opened.rest in
-          let same = is.cutoff_is in
-          omega (arith, kept_so, same)
+      abbrev past_kept : Past
+      past_kept = kept_upto (cutoff_of found) past
 
-      pub left_of : AreLeftOf (quotas_of accounts) past.life (min past.kept r.cutoff) (pairs_of r.pairs.items)
-      left_of = found_left accounts standing.settled past (length old) rested found left_rested opened.rest r.cutoff r.resume r.used (pairs_of r.pairs.items) is
+      left_now : IsLeftAs past_kept recovered
+      left_now = left_recovered accounts standing.settled past (length old) rested found read left_rested opened.rest refl
 
-      -- a log has its resume batch not for certain
-      pub not_resumed : (e : LogRefusal) (new : List (StoreLog MemDisk)) → StopsResumingAt keeps_rules mem_state failures_of r.cutoff r.resume e.log e.refusal mid new
-          → IsMemoryOrDevice e.refusal × Refuses new
-      not_resumed e new stops =
-          let len = resuming_len r.cutoff r.resume e.log e.refusal mid new stops in
-          let to = subst (λ n. StopsResumingAt keeps_rules mem_state failures_of (cutoff_of found) n e.log e.refusal mid new) is.resume_is
-          (subst (λ n. StopsResumingAt keeps_rules mem_state failures_of n r.resume e.log e.refusal mid new) is.cutoff_is stops) in
-          let o = resumed_in_part recovered (cutoff_of found) rested.voids refl refl fits found opened.rest mid new count_mid len opened.shows e.log e.refusal to in
-          let t = with_logs o.logs recovered in (
-            o.cause,
-            record {
-              past_now = past_kept;
-              kept = keeps;
-              holds = holds_so past_kept t new (len ∙ opens.each.len)
-                  (left_on accounts standing.settled past_kept (length old) recovered t left_now o.leads o.len_so refl refl) o.shows;
-            },
-          )
+      keeps : MayKeep standing.settled past past_kept
+      keeps = inr (keeps_upto accounts standing.settled past (length old) rested found read left_rested opened.rest refl)
 
-      -- all have theirs
-      module _ (new : List (StoreLog MemDisk)) (resumes : ResumesAll keeps_rules mem_state failures_of r.cutoff r.resume mid new) where
-        to_found : ResumesAll keeps_rules mem_state failures_of (cutoff_of found) (resume_of found no_checkpoints) mid new
-        to_found =
-            subst (λ n. ResumesAll keeps_rules mem_state failures_of (cutoff_of found) n mid new) is.resume_is
-            (subst (λ n. ResumesAll keeps_rules mem_state failures_of n r.resume mid new) is.cutoff_is resumes)
+      module _ (r : Found) (is : IsRecovered found read r.cutoff r.resume r.used (pairs_of r.pairs.items)) where
+        fits : resume_of found read ≤ 2 ^ 59
+        fits =
+            let within = resume_within found (in_order both) r.cutoff r.resume r.used r.pairs.items (both_in_format keeps_rules mem_state failures_of slots read_slots both reads) (in_format keeps_rules mem_state failures_of old mid fronts opens) is in
+            let same = is.resume_is in
+            omega (arith, within, same)
 
-        resumed : resuming.ResumedAll recovered (cutoff_of found) rested.voids refl refl fits found opened.rest mid new count_mid resumes.len opened.shows
-        resumed = all_resumed recovered (cutoff_of found) rested.voids refl refl fits found opened.rest mid new count_mid resumes.len opened.shows to_found
+        count_mid : length recovered.logs ≡ length mid
+        count_mid = opened.len_so ∙ from.left.len ∙ sym opens.each.len
 
-        abbrev last : Store
-        last = with_logs resumed.logs recovered
+        pub settled_upto : standing.settled ≤ r.cutoff
+        settled_upto =
+            let kept_so = settled_kept accounts standing.settled past (length old) rested found read left_rested opened.rest refl in
+            let same = is.cutoff_is in
+            omega (arith, kept_so, same)
 
-        left_last : IsLeftAs past_kept last
-        left_last = left_on accounts standing.settled past_kept (length old) recovered last left_now resumed.leads resumed.len_so refl refl
+        pub left_of : AreLeftOf (quotas_of accounts) past.life (min past.kept r.cutoff) (pairs_of r.pairs.items)
+        left_of = found_left accounts standing.settled past (length old) rested found read left_rested opened.rest refl r.cutoff r.resume r.used (pairs_of r.pairs.items) is
 
-        -- but there is no state
-        pub without_state : Refuses new
-        without_state = record { past_now = past_kept; kept = keeps; holds = holds_so past_kept last new (resumes.len ∙ opens.each.len) left_last resumed.shows }
-
-        -- the state serves
-        module _ (v : StateView) (logs : ℕ) (restored : IsRestored r.resume logs accounts r.pairs.items v) (right : IsRightState v) (count : length new ≡ logs)
-            (serving : Serving) (state : serving.state ≡ v) (fresh : IsFresh serving) where
-          abbrev next : Life
-          next = life_from (pairs_of r.pairs.items) r.resume
-
-          rest_at : RestAt (resume_of found no_checkpoints) resumed.logs
-          rest_at = record { rest = resumed.rest_so; marks = resumed.marks }
-
-          cutoff_within : cutoff_of found ≤ r.resume
-          cutoff_within =
-              let resumes_at = resumes_last found r.cutoff r.resume r.used (pairs_of r.pairs.items) is in
-              let least = cutoff_upto_last found in
-              omega (arith, resumes_at, least)
-
-          ended : All (λ p. p.change.stamp ≤ r.resume) last.history
-          ended = All-weaker (λ (p : Placed). p.change.stamp ≤ cutoff_of found) (λ p. p.change.stamp ≤ r.resume) (λ p le. omega (arith, le, cutoff_within)) last.history
-              (made_upto (cutoff_of found) s.history)
-
-          found_now : pairs_of r.pairs.items ≡ pairs_upto (cutoff_of found) s.history
-          found_now =
-              found_so accounts standing.settled past (length old) rested found left_rested opened.rest r.cutoff r.resume r.used (pairs_of r.pairs.items) is
-              ∙ ap (λ n. pairs_upto n s.history) is.cutoff_is
-
-          none_kept : (k : ℕ) (log : StoreLog MemDisk) → slice_get new k ≡ Some log → log.kept ≡ None
-          none_kept k log at =
-              let below : k < length mid = subst (λ n. k < n) resumes.len (within new k log at) in
-              let here = within_place mid k below in
-              let first : k < length old = subst (λ n. k < n) opens.each.len below in
-              let was = within_place old k first in
-              (resumes.each k here.0 log below here.1 at).1 ∙ (opens.each.each k was.0 here.0 first was.1 here.1).2.1
-
-          count_logs : length last.logs ≡ logs
-          count_logs = resumed.len_so ∙ count_mid ∙ sym resumes.len ∙ count
-
-          serving_now : HoldsServing accounts (λ id. None) next (served last) new serving
-          serving_now =
-              begins_serving accounts (pairs_of r.pairs.items) r.resume logs v (begins_restored accounts r.resume logs r.pairs.items v restored) right (served last) refl (sym is.resume_is) count_logs
-              (subst (λ n. RestAt n resumed.logs) (sym is.resume_is) rest_at) ended found_now serving state fresh new resumed.shows none_kept
-
-          -- the next life
-          pub with_state : Holds accounts (crashed_to (Ok next) standing) new (Some serving)
-          with_state =
-              let goes = serves_now last refl rest_at resumed.held in
-              let len : length new ≡ length old = resumes.len ∙ opens.each.len in
+        -- a log has its resume batch not for certain
+        pub not_resumed : (e : LogRefusal) (new : List (StoreLog MemDisk)) → StopsResumingAt keeps_rules mem_state failures_of r.cutoff r.resume e.log e.refusal mid new
+            → IsMemoryOrDevice e.refusal × Refuses new read_slots
+        not_resumed e new stops =
+            let len = resuming_len r.cutoff r.resume e.log e.refusal mid new stops in
+            let to = subst (λ n. StopsResumingAt keeps_rules mem_state failures_of (cutoff_of found) n e.log e.refusal mid new) is.resume_is
+            (subst (λ n. StopsResumingAt keeps_rules mem_state failures_of n r.resume e.log e.refusal mid new) is.cutoff_is stops) in
+            let o = resumed_in_part recovered (cutoff_of found) rested.voids refl refl fits found opened.rest mid new count_mid len opened.shows e.log e.refusal to in
+            let t = with_logs o.logs recovered in (
+              o.cause,
               record {
-                s = served last;
-                some = subst (λ n. 0 < n) (sym len) left_last.some;
-                few = subst (λ n. n ≤ 64) (sym len) left_last.few;
-                come = subst (λ n. HasCome n (served last)) (sym len) (comes_on (length old) last (served last) left_last.come goes);
-                count = left_last.len ∙ sym len;
-                slots = left_last.slots;
-                settled = all_on (length old) standing.settled last (served last) left_last.some left_last.few left_last.come goes left_last.settled_so;
-                keeps = left_last.keeps;
-                now = serving_now;
-              }
+                past_now = past_kept;
+                kept = keeps;
+                holds = holds_so past_kept t new read_slots (len ∙ opens.each.len)
+                    (left_on accounts standing.settled past_kept (length old) recovered t left_now o.leads o.len_so refl) (stand_sure both read_slots sure.keeps) o.shows;
+              },
+            )
+
+        -- all have theirs
+        module _ (new : List (StoreLog MemDisk)) (resumes : ResumesAll keeps_rules mem_state failures_of r.cutoff r.resume mid new) where
+          to_found : ResumesAll keeps_rules mem_state failures_of (cutoff_of found) (resume_of found read) mid new
+          to_found =
+              subst (λ n. ResumesAll keeps_rules mem_state failures_of (cutoff_of found) n mid new) is.resume_is
+              (subst (λ n. ResumesAll keeps_rules mem_state failures_of n r.resume mid new) is.cutoff_is resumes)
+
+          resumed : resuming.ResumedAll recovered (cutoff_of found) rested.voids refl refl fits found opened.rest mid new count_mid resumes.len opened.shows
+          resumed = all_resumed recovered (cutoff_of found) rested.voids refl refl fits found opened.rest mid new count_mid resumes.len opened.shows to_found
+
+          abbrev last : Store
+          last = with_logs resumed.logs recovered
+
+          left_last : IsLeftAs past_kept last
+          left_last = left_on accounts standing.settled past_kept (length old) recovered last left_now resumed.leads resumed.len_so refl
+
+          -- the slots, with the newest one
+          abbrev kept_slots : StoreSlots MemDisk
+          kept_slots = with_newest (used_slot r.used) read_slots
+
+          stand_now : SlotsStand (map only_this read) kept_slots
+          stand_now = stand_used found both r.used read_slots is.used_is sure.keeps
+
+          -- but there is no state
+          pub without_state : Refuses new kept_slots
+          without_state = record { past_now = past_kept; kept = keeps; holds = holds_so past_kept last new kept_slots (resumes.len ∙ opens.each.len) left_last stand_now resumed.shows }
+
+          -- the state serves
+          module _ (v : StateView) (logs : ℕ) (restored : IsRestored r.resume logs accounts r.pairs.items v) (right : IsRightState v) (count : length new ≡ logs)
+              (serving : Serving) (state : serving.state ≡ v) (fresh : IsFresh serving) where
+            abbrev next : Life
+            next = life_from (pairs_of r.pairs.items) r.resume
+
+            rest_at : RestAt (resume_of found read) resumed.logs
+            rest_at = record { rest = resumed.rest_so; marks = resumed.marks }
+
+            cutoff_within : cutoff_of found ≤ r.resume
+            cutoff_within =
+                let resumes_at = resumes_last found read r.cutoff r.resume r.used (pairs_of r.pairs.items) is in
+                let least = cutoff_upto_last found in
+                omega (arith, resumes_at, least)
+
+            ended : All (λ p. p.change.stamp ≤ r.resume) last.history
+            ended = All-weaker (λ (p : Placed). p.change.stamp ≤ cutoff_of found) (λ p. p.change.stamp ≤ r.resume) (λ p le. omega (arith, le, cutoff_within)) last.history
+                (made_upto (cutoff_of found) s.history)
+
+            found_now : pairs_of r.pairs.items ≡ pairs_upto (cutoff_of found) s.history
+            found_now =
+                found_so accounts standing.settled past (length old) rested found read left_rested opened.rest refl r.cutoff r.resume r.used (pairs_of r.pairs.items) is
+                ∙ ap (λ n. pairs_upto n s.history) is.cutoff_is
+
+            none_kept : (k : ℕ) (log : StoreLog MemDisk) → slice_get new k ≡ Some log → log.kept ≡ None
+            none_kept k log at =
+                let below : k < length mid = subst (λ n. k < n) resumes.len (within new k log at) in
+                let here = within_place mid k below in
+                let first : k < length old = subst (λ n. k < n) opens.each.len below in
+                let was = within_place old k first in
+                (resumes.each k here.0 log below here.1 at).1 ∙ (opens.each.each k was.0 here.0 first was.1 here.1).2.1
+
+            count_logs : length last.logs ≡ logs
+            count_logs = resumed.len_so ∙ count_mid ∙ sym resumes.len ∙ count
+
+            serving_now : HoldsServing accounts (λ id. None) next (served last) new serving
+            serving_now =
+                begins_serving accounts (pairs_of r.pairs.items) r.resume logs v (begins_restored accounts r.resume logs r.pairs.items v restored) right (served last) refl (sym is.resume_is) count_logs
+                (subst (λ n. RestAt n resumed.logs) (sym is.resume_is) rest_at) ended found_now serving state fresh new resumed.shows none_kept
+
+            -- the next life
+            pub with_state : Holds accounts kept_slots (crashed_to (Ok next) standing) new (Some serving)
+            with_state =
+                let goes = serves_now last refl rest_at resumed.held in
+                let len : length new ≡ length old = resumes.len ∙ opens.each.len in
+                record {
+                  s = served last;
+                  some = subst (λ n. 0 < n) (sym len) left_last.some;
+                  few = subst (λ n. n ≤ 64) (sym len) left_last.few;
+                  come = subst (λ n. HasCome n (served last)) (sym len) (comes_on (length old) last (served last) left_last.come goes);
+                  count = left_last.len ∙ sym len;
+                  stand = stand_now;
+                  settled = all_on (length old) standing.settled last (served last) left_last.some left_last.few left_last.come goes left_last.settled_so;
+                  keeps = left_last.keeps;
+                  now = serving_now;
+                }
 
   -- ---- each outcome
 
-  pub not_recovered : (e : LogRefusal) (new : List (StoreLog MemDisk)) → IsNotRecovered keeps_rules mem_state failures_of accounts e old new
-      → IsMemoryOrDevice e.refusal × Refuses new
-  not_recovered e new (inl stops) = not_opened e new stops
-  not_recovered e new (inr (inl r)) = refused_for new r.fronts r.opens e.refusal r.refused
-  not_recovered e new (inr (inr p)) = not_resumed p.mid p.fronts p.opens p.r p.recovers.recovered e new p.stops
+  pub not_recovered : (e : StoreRefusal) (new : List (StoreLog MemDisk)) (now : StoreSlots MemDisk) → IsNotRecovered keeps_rules mem_state failures_of accounts e old slots new now
+      → IsMemoryOrDevice (refusal_in e) × Refuses new now
+  not_recovered (OfLogs e) new now (inl stops) = let r = not_opened e new stops.0 in (r.0, subst (λ ss. Refuses new ss) (sym stops.1) r.1)
+  not_recovered (OfLogs e) new now (inr (inl r)) = refused_for new r.fronts r.opens now r.found r.reads e.refusal r.refused
+  not_recovered (OfLogs e) new now (inr (inr p)) = not_resumed p.mid p.fronts p.opens now p.found p.reads p.r p.recovers.recovered e new p.stops
+  not_recovered (OfSlot fault) new now r = not_read new r.fronts r.opens fault now r.stops
 
-  pub recovered_down : (r : Found) (new : List (StoreLog MemDisk)) → ServesAgain keeps_rules mem_state failures_of accounts r old new → Refuses new
-  recovered_down r new a = without_state a.mid a.fronts a.opens r a.recovers.recovered new a.resumes
+  pub recovered_down : (r : Found) (new : List (StoreLog MemDisk)) (now : StoreSlots MemDisk) → ServesAgain keeps_rules mem_state failures_of accounts r old slots new now
+      → Refuses new now
+  recovered_down r new now a =
+      subst (λ ss. Refuses new ss) (sym a.keeps) (without_state a.mid a.fronts a.opens a.rested a.found a.reads r a.recovers.recovered new a.resumes)
 
-  pub recovered_up : (r : Found) (new : List (StoreLog MemDisk)) → ServesAgain keeps_rules mem_state failures_of accounts r old new
+  pub recovered_up : (r : Found) (new : List (StoreLog MemDisk)) (now : StoreSlots MemDisk) → ServesAgain keeps_rules mem_state failures_of accounts r old slots new now
       → (v : StateView) → IsRestored r.resume (length new) accounts r.pairs.items v → IsRightState v → (serving : Serving) → serving.state ≡ v → IsFresh serving
       → (next : Standing) × (standing.settled ≤ r.cutoff) × AreLeftOf (quotas_of accounts) (past_of standing.now).life (min (past_of standing.now).kept r.cutoff) (pairs_of r.pairs.items)
-      × (next ≡ crashed_to (Ok (life_from (pairs_of r.pairs.items) r.resume)) standing) × Holds accounts next new (Some serving)
-  recovered_up r new a v restored right serving state fresh = (
+      × (next ≡ crashed_to (Ok (life_from (pairs_of r.pairs.items) r.resume)) standing) × Holds accounts now next new (Some serving)
+  recovered_up r new now a v restored right serving state fresh = (
     crashed_to (Ok (life_from (pairs_of r.pairs.items) r.resume)) standing,
-    settled_upto a.mid a.fronts a.opens r a.recovers.recovered,
-    left_of a.mid a.fronts a.opens r a.recovers.recovered,
+    settled_upto a.mid a.fronts a.opens a.rested a.found a.reads r a.recovers.recovered,
+    left_of a.mid a.fronts a.opens a.rested a.found a.reads r a.recovers.recovered,
     refl,
-    with_state a.mid a.fronts a.opens r a.recovers.recovered new a.resumes v (length new) restored right refl serving state fresh,
+    subst (λ ss. Holds accounts ss (crashed_to (Ok (life_from (pairs_of r.pairs.items) r.resume)) standing) new (Some serving)) (sym a.keeps)
+        (with_state a.mid a.fronts a.opens a.rested a.found a.reads r a.recovers.recovered new a.resumes v (length new) restored right refl serving state fresh),
   )
 
 -- ---- what is noted of a crash
 
-module _ (accounts : Accounts) (old mid new : List (StoreLog MemDisk)) (was : Option Serving) (images : List (Vec ℕ Global)) (crashed : AreCrashed images old mid) where
+module _ (accounts : Accounts) (slots between now : StoreSlots MemDisk) (old mid new : List (StoreLog MemDisk)) (was : Option Serving) (all : List (Vec ℕ Global))
+    (crash : AllCrash all old slots mid between) where
+  left_by : (standing : Standing) → Holds accounts slots standing old was → Leaves accounts between standing mid
+  left_by standing h = leaves accounts slots between standing old mid was crash.of_logs crash.first crash.second h crash.logs_crash crash.slots_crash
+
   -- the store is recovered
-  pub crashes_recovered : (r : Found) (serving : Serving) → AreRecovered accounts r mid new → Begins accounts r (length new) serving
-      → CrashesTo accounts (Recovered r) old was new (Some serving)
+  pub crashes_recovered : (r : Found) (serving : Serving) → AreRecovered accounts between now r mid new → Begins accounts r (length new) serving
+      → CrashesTo accounts slots now (Recovered r) old was new (Some serving)
   crashes_recovered r serving again begins = λ named standing h.
-      let from = leaves accounts standing old mid was images h crashed in
-      let up = recovered_up accounts standing mid from r new again serving.state begins.state begins.right serving refl begins.fresh in
+      let up = recovered_up accounts between standing mid (left_by standing h) r new now again serving.state begins.state begins.right serving refl begins.fresh in
       (up.0, (up.1, up.2, up.3), up.4)
 
   -- or not
-  pub crashes_refused : (e : Refusal) → AreNotRecovered accounts e mid new → CrashesTo accounts (Refused e) old was new None
+  pub crashes_refused : (e : Refusal) → AreNotRecovered accounts between now e mid new → CrashesTo accounts slots now (Refused e) old was new None
   crashes_refused e not = λ named standing h.
-      let from = leaves accounts standing old mid was images h crashed in
       ⊎_elim
       (λ refused.
-      let down = not_recovered accounts standing mid from refused.0 new refused.2 in (
+      let down = not_recovered accounts between standing mid (left_by standing h) refused.0 new now refused.2 in (
         crashed_to (Err down.1.past_now) standing,
         (subst IsMemoryOrDevice refused.1 down.0, (down.1.past_now, down.1.kept, refl)),
         down.1.holds,
       ))
       (λ memory.
-      let down = recovered_down accounts standing mid from memory.1.0 new memory.1.1 in (
+      let down = recovered_down accounts between standing mid (left_by standing h) memory.1.0 new now memory.1.1 in (
         crashed_to (Err down.past_now) standing,
         (inl memory.0, (down.past_now, down.kept, refl)),
         down.holds,
@@ -274,16 +316,38 @@ module _ (accounts : Accounts) (old mid new : List (StoreLog MemDisk)) (was : Op
       not.cause
 
 -- it did not crash
-pub crashes_not : (accounts : Accounts) (old new : List (StoreLog MemDisk)) (was now : Option Serving) → new ≡ old → now ≡ was → CrashesTo accounts NoSuch old was new now
-crashes_not accounts old new was now same same_serving = λ named standing h.
-    (standing, refl, subst (λ logs. Holds accounts standing logs now) (sym same) (subst (Holds accounts standing old) (sym same_serving) h))
+pub crashes_not : (accounts : Accounts) (slots now_slots : StoreSlots MemDisk) (old new : List (StoreLog MemDisk)) (was now : Option Serving) → now_slots ≡ slots → new ≡ old → now ≡ was
+    → CrashesTo accounts slots now_slots NoSuch old was new now
+crashes_not accounts slots now_slots old new was now same_slots same same_serving = λ named standing h. (
+  standing,
+  refl,
+  subst (λ ss. Holds accounts ss standing new now) (sym same_slots)
+      (subst (λ logs. Holds accounts slots standing logs now) (sym same) (subst (Holds accounts slots standing old) (sym same_serving) h)),
+)
 
 -- an event that is a crash, whatever its call answers
-pub crashed_goes : {E : Type 0} (accounts : Accounts) (images : Vec (Vec ℕ Global) Global) (event : StoreEvent) (first old new last : List (StoreLog MemDisk)) (was serving : Option Serving)
-    (result : Result StoreNote E) → event ≡ Crash images → first ≡ old → new ≡ last → IfOk result (λ note. CrashesTo accounts note first was new serving)
-    → IfOk result (λ note. GoesOn accounts event note old was last serving)
-crashed_goes accounts images event first old new last was serving (Ok note) is same_old same_new crashes =
-    subst (λ e. GoesOn accounts e note old was last serving) (sym is)
-    (subst (λ logs. GoesOn accounts (Crash images) note logs was last serving) same_old
-    (subst (λ logs. GoesOn accounts (Crash images) note first was logs serving) same_new (crashes images)))
-crashed_goes accounts images event first old new last was serving (Err e) is same_old same_new crashes = tt
+pub crashed_goes : {E : Type 0} (accounts : Accounts) (slots now_slots : StoreSlots MemDisk) (images : Vec (Vec ℕ Global) Global) (event : StoreEvent)
+    (first old new last : List (StoreLog MemDisk)) (was serving : Option Serving)
+    (result : Result StoreNote E) → event ≡ Crash images → first ≡ old → new ≡ last → IfOk result (λ note. CrashesTo accounts slots now_slots note first was new serving)
+    → IfOk result (λ note. GoesOn accounts slots now_slots event note old was last serving)
+crashed_goes accounts slots now_slots images event first old new last was serving (Ok note) is same_old same_new crashes =
+    subst (λ e. GoesOn accounts slots now_slots e note old was last serving) (sym is)
+    (subst (λ logs. GoesOn accounts slots now_slots (Crash images) note logs was last serving) same_old
+    (subst (λ logs. GoesOn accounts slots now_slots (Crash images) note first was logs serving) same_new (crashes images)))
+crashed_goes accounts slots now_slots images event first old new last was serving (Err e) is same_old same_new crashes = tt
+
+-- a store that is owned alone and was recovered
+pub owned_recovered : (accounts : Accounts) (slots found now : StoreSlots MemDisk) (old new : List (StoreLog MemDisk)) (was : Option Serving) (disks : List MemDisk)
+    (images : Vec (Vec ℕ Global) Global) (serving : Serving) → AllCrash images.items old slots (closed_on disks) found
+    → IsRecoveredStore keeps_rules mem_state failures_of disks found accounts serving.state new (Some now) → IsRightState serving.state → IsFresh serving
+    → (r : Found) × GoesOn accounts slots now (Crash images) (Recovered r) old was new (Some serving)
+owned_recovered accounts slots found now old new was disks images serving crashed is right fresh =
+    let len : length new ≡ length disks = is.serves.resumes.len ∙ is.serves.opens.each.len ∙ length-closed 0 disks in
+    let begins : Begins accounts is.recovered (length new) serving = record {
+      state = subst (λ n. IsRestored is.recovered.resume n accounts is.recovered.pairs.items serving.state) (sym len) is.restored;
+      right = right;
+      fresh = fresh;
+    } in
+    let serves : AreRecovered accounts found now is.recovered (closed_on disks) new =
+    subst (λ kept. AreRecovered accounts found kept is.recovered (closed_on disks) new) (sym (same_Some now is.kept is.slots_are)) is.serves in
+    (is.recovered, crashes_recovered accounts slots found now old (closed_on disks) new was images.items crashed is.recovered serving serves begins images)

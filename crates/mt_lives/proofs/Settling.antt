@@ -4,6 +4,7 @@ use Rattle.std.proofs.lemmas.Bool.{cases_eq, eq-eqb, ne_eqb}
 use Rattle.std.specs.{Ordering.{nat_cmp, is_eq}, FinMap.nat_cmp-IsAntisymmetric, BTreeMap.{BTreeMap, get, Updates}}
 use Rattle.mt_rows.specs.Accounts.{Accounts}
 use Rattle.mt_disk.specs.declared.mem.MemDisk.{MemDisk}
+use Rattle.mt_slots.specs.declared.store_slots.StoreSlots.{StoreSlots}
 use Rattle.mt_core.specs.Tickets.{named}
 use Rattle.mt_state.specs.Histories.{AreById}
 use Rattle.mt_crashes.specs.Stores.{Store, ReachesAt, AllReach}
@@ -79,32 +80,32 @@ reaches_both m n worker s a b log there front left = let r = a log there front l
 
 -- ---- the store
 
-module _ (accounts : Accounts) (standing : Standing) (logs : List (StoreLog MemDisk)) (serving : Serving) (h : Holds accounts standing logs (Some serving))
+module _ (accounts : Accounts) (slots : StoreSlots MemDisk) (standing : Standing) (logs : List (StoreLog MemDisk)) (serving : Serving) (h : Holds accounts slots standing logs (Some serving))
     (now : Serving) (state : now.state ≡ serving.state) (roster : now.roster ≡ serving.roster) (id : ℕ) where
   life : Life
-  life = life_served accounts standing logs serving h
+  life = life_served accounts slots standing logs serving h
 
   was : HoldsServing accounts standing.begun life h.s logs serving
   unfolding life
-  was = held accounts standing logs serving h
+  was = held accounts slots standing logs serving h
 
   steps_so : steps_in life ≡ h.s.steps
   steps_so = last accounts life h.s serving.state (named serving.roster.tickets) was.serves ∙ was.serves.steps
 
   lives : standing.now ≡ Rattle.std.proofs.Common.Ok life
   unfolding life
-  lives = lives_so accounts standing logs serving h
+  lives = lives_so accounts slots standing logs serving h
 
   -- all of it holds with other Settles
   pub resettled : (begun : ℕ → Option ℕ) (number : ℕ) → AllReach number h.s → AreSettles h.s begun now.settles
-      → Holds accounts (record { begun = begun; settled = number; now = standing.now }) logs (Some now)
+      → Holds accounts slots (record { begun = begun; settled = number; now = standing.now }) logs (Some now)
   resettled begun number reach settles = record {
     s = h.s;
     some = h.some;
     few = h.few;
     come = h.come;
     count = h.count;
-    slots = h.slots;
+    stand = h.stand;
     settled = reach;
     keeps = h.keeps;
     now =
@@ -126,7 +127,7 @@ module _ (accounts : Accounts) (standing : Standing) (logs : List (StoreLog MemD
   -- a Settle has begun
   pub begins : (settle : Settle) → get nat_cmp serving.settles id ≡ None → settle.begun ≡ serving.state.steps → settle.next ≡ 0 → settle.begun ≤ settle.least
       → Updates nat_cmp serving.settles now.settles id (Some settle)
-      → (next : Standing) × IsNoted (quotas_of accounts) standing (SettleBegin id) (Begun settle.begun) next × Holds accounts next logs (Some now)
+      → (next : Standing) × IsNoted (quotas_of accounts) standing (SettleBegin id) (Begun settle.begun) next × Holds accounts slots next logs (Some now)
   begins settle none begun first least u =
       let number : settle.begun ≡ h.s.steps = begun ∙ was.serves.steps in
       let is : IsSettle h.s settle.begun settle = record {
@@ -153,18 +154,18 @@ module _ (accounts : Accounts) (standing : Standing) (logs : List (StoreLog MemD
     is_open none = Rattle.mt_crashes.proofs.Members.no_some open_one.0 (sym none ∙ open_one.1)
 
     -- it has ended, without a number
-    pub ends : Updates nat_cmp serving.settles now.settles id None → Holds accounts (settling id None standing) logs (Some now)
+    pub ends : Updates nat_cmp serving.settles now.settles id None → Holds accounts slots (settling id None standing) logs (Some now)
     ends u = resettled (with_settle id None standing.begun) standing.settled h.settled
         (changed_to h.s standing.begun serving.settles now.settles id None None was.settles u tt)
 
     -- its next log goes up to the last step
-    module _ (mark : ℕ) (reach : ReachesAt mark h.s settle.next) (at_last : mark ≡ steps_in (life_served accounts standing logs serving h)) where
+    module _ (mark : ℕ) (reach : ReachesAt mark h.s settle.next) (at_last : mark ≡ steps_in (life_served accounts slots standing logs serving h)) where
       upto : mark ≡ h.s.steps
       unfolding life
       upto = at_last ∙ steps_so
 
       pub turns : settle.next + 1 ≢ length logs → Updates nat_cmp serving.settles now.settles id (Some (one_turn_more settle mark))
-          → (next : Standing) × IsNoted (quotas_of accounts) standing (SettleNext id) Turned next × Holds accounts next logs (Some now)
+          → (next : Standing) × IsNoted (quotas_of accounts) standing (SettleNext id) Turned next × Holds accounts slots next logs (Some now)
       turns more u =
           let is = open_one.2 in
           let new : IsSettle h.s open_one.0 (one_turn_more settle mark) = record {
@@ -181,7 +182,7 @@ module _ (accounts : Accounts) (standing : Standing) (logs : List (StoreLog MemD
           )
 
       pub settles : settle.next + 1 ≡ length logs → Updates nat_cmp serving.settles now.settles id None
-          → (next : Standing) × IsNoted (quotas_of accounts) standing (SettleNext id) (Settled (min settle.least mark)) next × Holds accounts next logs (Some now)
+          → (next : Standing) × IsNoted (quotas_of accounts) standing (SettleNext id) (Settled (min settle.least mark)) next × Holds accounts slots next logs (Some now)
       unfolding life
       settles end u =
           let is = open_one.2 in

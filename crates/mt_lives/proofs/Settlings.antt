@@ -4,6 +4,7 @@ use Rattle.std.proofs.lemmas.Option.{same_Some}
 use Rattle.std.specs.{Prelude.Vec, declared.alloc.Global.Global}
 use Rattle.mt_rows.specs.{Accounts.Accounts, declared.refusal.Refusal.Refusal}
 use Rattle.mt_disk.specs.declared.mem.MemDisk.{MemDisk}
+use Rattle.mt_slots.specs.declared.store_slots.StoreSlots.{StoreSlots}
 use Rattle.mt_runs.specs.Placings.{Quotas}
 use Rattle.mt_recover.specs.declared.recovering.Recovered.{Recovered as AnyRecovered}
 use Rattle.mt_store_logs.specs.declared.store_log.StoreLog.{StoreLog}
@@ -93,12 +94,12 @@ kept_on quotas n (x ∷ notes) old new images r le (mid, noted, rest) =
     kept_on quotas n notes mid new images r (omega (arith, le, on)) rest
 
 -- a Settle begins by a name that no open one has
-pub was_free : (accounts : Accounts) (standing : Standing) (id steps count : ℕ) (told : Result ℕ Refusal) (logs : List (StoreLog MemDisk)) (serving : Serving)
-    → IsWholeSettle accounts standing id steps count told logs serving → standing.begun id ≡ None
-was_free accounts standing id steps count told logs serving w = w.lead.1.3
+pub was_free : (accounts : Accounts) (slots : StoreSlots MemDisk) (standing : Standing) (id steps count : ℕ) (told : Result ℕ Refusal) (logs : List (StoreLog MemDisk)) (serving : Serving)
+    → IsWholeSettle accounts slots standing id steps count told logs serving → standing.begun id ≡ None
+was_free accounts slots standing id steps count told logs serving w = w.lead.1.3
 
-module _ (accounts : Accounts) (standing : Standing) (id steps count n : ℕ) (logs : List (StoreLog MemDisk)) (serving : Serving)
-    (w : IsWholeSettle accounts standing id steps count (Ok n) logs serving) where
+module _ (accounts : Accounts) (slots : StoreSlots MemDisk) (standing : Standing) (id steps count n : ℕ) (logs : List (StoreLog MemDisk)) (serving : Serving)
+    (w : IsWholeSettle accounts slots standing id steps count (Ok n) logs serving) where
   -- its number is at most the last step
   pub within_steps : (life : Life) → standing.now ≡ Ok life → n ≤ steps_in life
   within_steps life is =

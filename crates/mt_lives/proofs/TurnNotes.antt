@@ -18,6 +18,7 @@ use Rattle.mt_lives.specs.{Lives.{Standing, IsNoted, Notes, NotesLead}, Holds.{q
 use Rattle.mt_lives.proofs.{Comes.{set_there, set_same, set_twice}, Flushing.{keeps_rules, failures_of, within}, Lists.leads_more}
 use Rattle.mt_lives.proofs.Goes.{reopen_goes, reopen_stops, flush_goes, flush_stops}
 use Rattle.mt_lives.proofs.Owning.{DoesInMemory, Keeps, brings_up, fails_to_bring_up, keeps_at_first}
+use Rattle.mt_slots.specs.declared.store_slots.StoreSlots.{StoreSlots}
 use Rattle.mt_rows.specs.declared.refusal.Refusal.TheVariants as refusals
 
 -- ---- notes one after the other
@@ -57,18 +58,18 @@ takes_both log mid new a b =
     let t = subst (λ kept. TakesIn keeps_rules mem_state failures_of kept mid.slot new.slot) a.none b.takes in
     record { takes = subst (λ slot. TakesIn keeps_rules mem_state failures_of log.kept log.slot slot) (sym t.1) a.takes; none = b.none }
 
-module _ (accounts : Accounts) (standing : Standing) (logs : List (StoreLog MemDisk)) (worker : ℕ) where
+module _ (accounts : Accounts) (slots : StoreSlots MemDisk) (standing : Standing) (logs : List (StoreLog MemDisk)) (worker : ℕ) where
   -- all holds of the store with this log in its place
   record Stood (log : StoreLog MemDisk) (serving : Serving) : Type 0 where
     now : List (StoreLog MemDisk)
     there : slice_get now worker ≡ Some log
     others : (x : StoreLog MemDisk) → slice_set now worker x ≡ slice_set logs worker x
-    holds : Holds accounts standing now (Some serving)
+    holds : Holds accounts slots standing now (Some serving)
 
-  in_place : (log : StoreLog MemDisk) (serving : Serving) → Stood log serving → Holds accounts standing (slice_set logs worker log) (Some serving)
-  in_place log serving s = subst (λ ls. Holds accounts standing ls (Some serving)) (sym (set_same s.now worker log s.there) ∙ s.others log) s.holds
+  in_place : (log : StoreLog MemDisk) (serving : Serving) → Stood log serving → Holds accounts slots standing (slice_set logs worker log) (Some serving)
+  in_place log serving s = subst (λ ls. Holds accounts slots standing ls (Some serving)) (sym (set_same s.now worker log s.there) ∙ s.others log) s.holds
 
-  set_to : (log new : StoreLog MemDisk) (was serving : Serving) (s : Stood log was) → Holds accounts standing (slice_set s.now worker new) (Some serving) → Stood new serving
+  set_to : (log new : StoreLog MemDisk) (was serving : Serving) (s : Stood log was) → Holds accounts slots standing (slice_set s.now worker new) (Some serving) → Stood new serving
   set_to log new was serving s h = record {
     now = slice_set s.now worker new;
     there = set_there s.now worker log new s.there;
@@ -101,10 +102,10 @@ module _ (accounts : Accounts) (standing : Standing) (logs : List (StoreLog MemD
           omega arith,
         );
       } in
-      let g = flush_goes accounts standing s.now was s.holds worker log new s.there is mark f in
+      let g = flush_goes accounts slots standing s.now was s.holds worker log new s.there is mark f in
       let same = g.1.4 in (
         subst (λ next. IsNoted (quotas_of accounts) standing (Flush worker) (Flushed mark) next) same g.1,
-        set_to log new was is s (subst (λ next. Holds accounts next (slice_set s.now worker new) (Some is)) same g.2),
+        set_to log new was is s (subst (λ next. Holds accounts slots next (slice_set s.now worker new) (Some is)) same g.2),
         takes_nothing new (λ shut. no_some d.batch.to (sym shut ∙ d.appended.mark)) d.appended.appends.none,
       )
 
@@ -141,7 +142,7 @@ module _ (accounts : Accounts) (standing : Standing) (logs : List (StoreLog MemD
   record Ended (told : Result ℕ Refusal) (new : StoreLog MemDisk) (is : Serving) : Type 0 where
     steps : List ℕ
     lead : NotesLead (quotas_of accounts) standing (map flushed steps ++ (Flush worker, flush_note told) ∷ []) standing
-    holds : Holds accounts standing (slice_set logs worker new) (Some is)
+    holds : Holds accounts slots standing (slice_set logs worker new) (Some is)
 
   goes_up : (upto mark : ℕ) (log first new : StoreLog MemDisk) (was is : Serving) → Stood log was → AppendsKept keeps_rules mem_state failures_of log first
       → HasDrained keeps_rules mem_state failures_of DrainsServing worker upto mark first new was is → Ended (Ok mark) new is
@@ -158,10 +159,10 @@ module _ (accounts : Accounts) (standing : Standing) (logs : List (StoreLog MemD
   one_stops : (e : Refusal) (log new : StoreLog MemDisk) (was is : Serving) → Stood log was → FailsToFlush keeps_rules mem_state failures_of DrainsServing worker 0 e log new was is
       → Noted (Flush worker) (Refused e) × Stood new is
   one_stops e log new was is s f =
-      let g = flush_stops accounts standing s.now was s.holds worker log new s.there is e f in
+      let g = flush_stops accounts slots standing s.now was s.holds worker log new s.there is e f in
       let same = g.1.2 in (
         subst (λ next. IsNoted (quotas_of accounts) standing (Flush worker) (Refused e) next) same g.1,
-        set_to log new was is s (subst (λ next. Holds accounts next (slice_set s.now worker new) (Some is)) same g.2),
+        set_to log new was is s (subst (λ next. Holds accounts slots next (slice_set s.now worker new) (Some is)) same g.2),
       )
 
   stops : (upto : ℕ) (e : Refusal) (log first new : StoreLog MemDisk) (was is : Serving) → Stood log was → AppendsKept keeps_rules mem_state failures_of log first
@@ -195,11 +196,11 @@ module _ (accounts : Accounts) (standing : Standing) (logs : List (StoreLog MemD
     where
       again : mark_in mid.slot ≢ None → mid.kept ≡ None → Entered None mid was
       again is_open none =
-          let g = reopen_goes accounts standing s.now was s.holds worker log mid s.there r in
+          let g = reopen_goes accounts slots standing s.now was s.holds worker log mid s.there r in
           let same = g.1.1 in
           record {
             log = mid;
-            stood = set_to log mid was was s (subst (λ next. Holds accounts next (slice_set s.now worker mid) (Some was)) same g.2);
+            stood = set_to log mid was was s (subst (λ next. Holds accounts slots next (slice_set s.now worker mid) (Some was)) same g.2);
             kept = λ first a. a;
             is_open = is_open;
             none = none;
@@ -222,7 +223,7 @@ module _ (accounts : Accounts) (standing : Standing) (logs : List (StoreLog MemD
   -- ---- the turn
 
   ends : (mark : Option ℕ) (told : Result ℕ Refusal) (mid new : StoreLog MemDisk) (was is : Serving) → Entered mark mid was → Ended told new is
-      → IsTurn accounts standing worker mark told (slice_set logs worker new) is
+      → IsTurn accounts slots standing worker mark told (slice_set logs worker new) is
   ends mark told mid new was is a b = record {
     notes = turn_notes worker mark b.steps told;
     are = inl (b.steps, refl);
@@ -231,7 +232,7 @@ module _ (accounts : Accounts) (standing : Standing) (logs : List (StoreLog MemD
   }
 
   turn_ok : (upto mark : ℕ) (log new : StoreLog MemDisk) (was is : Serving) → Stood log was → BringsUp keeps_rules mem_state failures_of DrainsServing worker upto mark log new was is
-      → IsTurn accounts standing worker (mark_in log.slot) (Ok mark) (slice_set logs worker new) is
+      → IsTurn accounts slots standing worker (mark_in log.slot) (Ok mark) (slice_set logs worker new) is
   turn_ok upto mark log new was is s b =
       let a = enters log b.mid was s b.opens in
       let f = b.flushes in
@@ -239,22 +240,22 @@ module _ (accounts : Accounts) (standing : Standing) (logs : List (StoreLog MemD
 
   turn_err : (upto : ℕ) (e : Refusal) (log new : StoreLog MemDisk) (was is : Serving) → Stood log was
       → FailsToBringUp keeps_rules mem_state failures_of DrainsServing worker upto e log new was is
-      → IsTurn accounts standing worker (mark_in log.slot) (Err e) (slice_set logs worker new) is
+      → IsTurn accounts slots standing worker (mark_in log.slot) (Err e) (slice_set logs worker new) is
   turn_err upto e log new was is s (inl shut) =
-      subst (λ (x : Serving). IsTurn accounts standing worker (mark_in log.slot) (Err e) (slice_set logs worker new) x) (sym shut.same) (by log.slot shut.fails)
+      subst (λ (x : Serving). IsTurn accounts slots standing worker (mark_in log.slot) (Err e) (slice_set logs worker new) x) (sym shut.same) (by log.slot shut.fails)
     where
-      not_opened : IsTurn accounts standing worker None (Err e) (slice_set logs worker new) was
+      not_opened : IsTurn accounts slots standing worker None (Err e) (slice_set logs worker new) was
       not_opened =
-          let g = reopen_stops accounts standing s.now was s.holds worker log new s.there e shut.fails in
+          let g = reopen_stops accounts slots standing s.now was s.holds worker log new s.there e shut.fails in
           let same = g.1.2 in
           record {
             notes = (Reopen worker, Refused e) ∷ [];
             are = inr (refl, (e, refl, refl));
             lead = (standing, subst (λ next. IsNoted (quotas_of accounts) standing (Reopen worker) (Refused e) next) same g.1, refl);
-            holds = in_place new was (set_to log new was was s (subst (λ next. Holds accounts next (slice_set s.now worker new) (Some was)) same g.2));
+            holds = in_place new was (set_to log new was was s (subst (λ next. Holds accounts slots next (slice_set s.now worker new) (Some was)) same g.2));
           }
 
-      by : (slot : LogSlot MemDisk) → FailsToReopenAt keeps_rules mem_state failures_of e slot log new → IsTurn accounts standing worker (mark_in slot) (Err e) (slice_set logs worker new) was
+      by : (slot : LogSlot MemDisk) → FailsToReopenAt keeps_rules mem_state failures_of e slot log new → IsTurn accounts slots standing worker (mark_in slot) (Err e) (slice_set logs worker new) was
       by (Open l) a =
           let g = one_stops e log new was was s (inl (record { fails = a; same = refl })) in
           record { notes = turn_notes worker (Some l.mark) [] (Err e); are = inl ([], refl); lead = (standing, g.0, refl); holds = in_place new was g.1 }
@@ -267,37 +268,37 @@ module _ (accounts : Accounts) (standing : Standing) (logs : List (StoreLog MemD
       a = enters log not.mid was s not.opens
 
       by : FailsToFlush keeps_rules mem_state failures_of DrainsServing worker upto e not.mid new was is
-          → IsTurn accounts standing worker (mark_in log.slot) (Err e) (slice_set logs worker new) is
+          → IsTurn accounts slots standing worker (mark_in log.slot) (Err e) (slice_set logs worker new) is
       by (inl w) = absurd (none_fails e not.mid new a.is_open a.none w.fails)
       by (inr f) = ends (mark_in log.slot) (Err e) not.mid new was is a (stops upto e a.log f.first new was is a.stood (a.kept f.first f.kept) f.fails)
 
 -- a turn of a store that is owned alone
-pub owned_turn : (accounts : Accounts) (standing : Standing) (serving : Serving) (worker : ℕ) (told : Result ℕ Refusal) (log : StoreLog MemDisk)
+pub owned_turn : (accounts : Accounts) (slots : StoreSlots MemDisk) (standing : Standing) (serving : Serving) (worker : ℕ) (told : Result ℕ Refusal) (log : StoreLog MemDisk)
     (was : OwnState) (old : List (StoreLog MemDisk)) (is : OwnState) (new : List (StoreLog MemDisk))
-    → Holds accounts standing old (Some serving) → was.state ≡ serving.state → slice_get old worker ≡ Some log → DoesInMemory (BroughtUp worker told) was old is new
-    → IsTurn accounts standing worker (mark_in log.slot) told new (with_state is.state serving)
-owned_turn accounts standing serving worker told log was old is new h same here d = by told d
+    → Holds accounts slots standing old (Some serving) → was.state ≡ serving.state → slice_get old worker ≡ Some log → DoesInMemory (BroughtUp worker told) was old is new
+    → IsTurn accounts slots standing worker (mark_in log.slot) told new (with_state is.state serving)
+owned_turn accounts slots standing serving worker told log was old is new h same here d = by told d
   where
-    k : Keeps accounts standing serving (length old) was.state.steps was old
-    k = keeps_at_first accounts standing serving was old h same
+    k : Keeps accounts slots standing serving (length old) was.state.steps was old
+    k = keeps_at_first accounts slots standing serving was old h same
 
-    stood : (x : StoreLog MemDisk) → slice_get old worker ≡ Some x → Stood accounts standing old worker x (with_state was.state serving)
+    stood : (x : StoreLog MemDisk) → slice_get old worker ≡ Some x → Stood accounts slots standing old worker x (with_state was.state serving)
     stood x is_there = record { now = old; there = is_there; others = λ y. refl; holds = k.holds }
 
     at_log : (r : Result ℕ Refusal) (x after : StoreLog MemDisk) → slice_get old worker ≡ Some x → new ≡ slice_set old worker after
-        → IsTurn accounts standing worker (mark_in x.slot) r (slice_set old worker after) (with_state is.state serving)
-        → IsTurn accounts standing worker (mark_in log.slot) r new (with_state is.state serving)
+        → IsTurn accounts slots standing worker (mark_in x.slot) r (slice_set old worker after) (with_state is.state serving)
+        → IsTurn accounts slots standing worker (mark_in log.slot) r new (with_state is.state serving)
     at_log r x after is_there stands t =
-        subst (λ ls. IsTurn accounts standing worker (mark_in log.slot) r ls (with_state is.state serving)) (sym stands)
-        (subst (λ (l : StoreLog MemDisk). IsTurn accounts standing worker (mark_in l.slot) r (slice_set old worker after) (with_state is.state serving))
+        subst (λ ls. IsTurn accounts slots standing worker (mark_in log.slot) r ls (with_state is.state serving)) (sym stands)
+        (subst (λ (l : StoreLog MemDisk). IsTurn accounts slots standing worker (mark_in l.slot) r (slice_set old worker after) (with_state is.state serving))
         (same_Some x log (sym is_there ∙ here)) t)
 
-    by : (r : Result ℕ Refusal) → DoesInMemory (BroughtUp worker r) was old is new → IsTurn accounts standing worker (mark_in log.slot) r new (with_state is.state serving)
+    by : (r : Result ℕ Refusal) → DoesInMemory (BroughtUp worker r) was old is new → IsTurn accounts slots standing worker (mark_in log.slot) r new (with_state is.state serving)
     by (Ok mark) t =
         let b = brings_up serving (length old) was.state.steps worker (within old worker t.before t.there) was.state.steps mark t.before t.after was is k.ready t.turns in
         at_log (Ok mark) t.before t.after t.there t.stands
-        (turn_ok accounts standing old worker was.state.steps mark t.before t.after (with_state was.state serving) (with_state is.state serving) (stood t.before t.there) b.0)
+        (turn_ok accounts slots standing old worker was.state.steps mark t.before t.after (with_state was.state serving) (with_state is.state serving) (stood t.before t.there) b.0)
     by (Err e) t =
         let b = fails_to_bring_up serving (length old) was.state.steps worker (within old worker t.before t.there) was.state.steps e t.before t.after was is k.ready t.turns in
         at_log (Err e) t.before t.after t.there t.stands
-        (turn_err accounts standing old worker was.state.steps e t.before t.after (with_state was.state serving) (with_state is.state serving) (stood t.before t.there) b.0)
+        (turn_err accounts slots standing old worker was.state.steps e t.before t.after (with_state was.state serving) (with_state is.state serving) (stood t.before t.there) b.0)

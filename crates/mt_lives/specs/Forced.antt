@@ -1,15 +1,21 @@
 -- What an event makes of the logs of a store, by what is noted of it: why nothing happened, what a crash left, whose disk failed.
-use Rattle.std.specs.{Prelude.{◌≡◌, ◌⊎◌, ℕ, ◌≤◌, true, List, [], ◌∷◌, length, Option, Some, None, Vec, slice_get}, declared.alloc.Global.Global}
-use Rattle.mt_rows.specs.{Accounts.Accounts, declared.refusal.Refusal.TheVariants.Device}
+use Rattle.std.specs.{Prelude.{◌≡◌, ◌⊎◌, ℕ, ◌≤◌, true, List, [], ◌∷◌, ◌++◌, length, Option, Some, None, Vec, slice_get}, declared.alloc.Global.Global}
+use Rattle.mt_rows.specs.{Accounts.Accounts, Rows.Bytes, declared.refusal.Refusal.TheVariants.Device}
 use Rattle.mt_disk.specs.{declared.mem.MemDisk.MemDisk, Disk.GoesUp, Mem.mem_state}
+use Rattle.mt_slots.specs.{declared.store_slots.StoreSlots.StoreSlots, Calls.MakesBoth, Crashes.MayLeaveBoth}
 use Rattle.mt_store_logs.specs.{declared.store_log.StoreLog.StoreLog, Places.{mark_in, disk_in, MakesAll, closed_on}, Crashes.{MayLeaveLogs, AreCrashed}}
 use Rattle.mt_lives.specs.{declared.events.StoreEvent.StoreEvent, declared.events.StoreEvent.TheVariants.{Core, Flush, Reopen, SettleBegin, SettleNext, Crash}}
 use Rattle.mt_lives.specs.{declared.events.StoreNote.StoreNote, declared.events.StoreNote.TheVariants.{Recovered, Refused, NoSuch}}
 use Rattle.mt_lives.specs.{declared.running.Store.Store, declared.serving.Serving.Serving, Returns.{AreRecovered, AreNotRecovered}, Lives.Notes}
+use Rattle.mt_slots.specs.Crashes as slots_of
 
 -- logs in memory
 abbrev pub Logs : Type 0
 Logs = List (StoreLog MemDisk)
+
+-- slots in memory
+abbrev pub Slots : Type 0
+Slots = StoreSlots MemDisk
 
 -- a log is not open
 abbrev pub IsNotOpen : StoreLog MemDisk → Type 0
@@ -32,14 +38,40 @@ DiskFails old new = GoesUp (failures_in (disk_in old.slot)) (failures_in (disk_i
 abbrev pub FailsAt : ℕ → Logs → Logs → Type 0
 FailsAt place old new = (was is : StoreLog MemDisk) × (slice_get old place ≡ Some was) × (slice_get new place ≡ Some is) × DiskFails was is
 
--- a crash: the logs crashed to these images, unless their disks may not leave them, and were then recovered, or not
-abbrev pub IsCrashForced : Accounts → List (Vec ℕ Global) → StoreNote → Logs → Logs → Type 0
-IsCrashForced accounts images (Recovered r) old new = (mid : Logs) × AreCrashed images old mid × AreRecovered accounts r mid new
-IsCrashForced accounts images (Refused e) old new = (mid : Logs) × AreCrashed images old mid × AreNotRecovered accounts e mid new
-IsCrashForced accounts images NoSuch old new = (new ≡ old) × (¬ MayLeaveLogs images old)
-IsCrashForced accounts images note old new = ⊥
+-- images of all disks: those of the logs, and then the two of the slots
+pub record ArePartedInto (images logs : List (Vec ℕ Global)) (first second : Bytes) : Type 0 where
+  pub one : Vec ℕ Global
+  pub two : Vec ℕ Global
+  pub parted : images ≡ logs ++ one ∷ two ∷ []
+  pub first_so : one.items ≡ first
+  pub second_so : two.items ≡ second
 
--- Any event. NoSuch is noted of a flush if the store doesn't serve, or the worker has no open log; of a reopening if the store doesn't serve, or the
+-- a crash now may leave them
+pub record MayLeaveAll (images : List (Vec ℕ Global)) (logs : Logs) (slots : Slots) : Type 0 where
+  pub of_logs : List (Vec ℕ Global)
+  pub first : Bytes
+  pub second : Bytes
+  pub parted : ArePartedInto images of_logs first second
+  pub logs_may : MayLeaveLogs of_logs logs
+  pub slots_may : MayLeaveBoth first second slots
+
+-- it left them
+pub record AllCrash (images : List (Vec ℕ Global)) (logs : Logs) (slots : Slots) (now_logs : Logs) (now_slots : Slots) : Type 0 where
+  pub of_logs : List (Vec ℕ Global)
+  pub first : Bytes
+  pub second : Bytes
+  pub parted : ArePartedInto images of_logs first second
+  pub logs_crash : AreCrashed of_logs logs now_logs
+  pub slots_crash : slots_of.AreCrashed first second slots now_slots
+
+-- a crash: all disks crashed to these images, unless they may not leave them, and the store was then recovered, or not
+abbrev pub IsCrashForced : Accounts → List (Vec ℕ Global) → StoreNote → Slots → Slots → Logs → Logs → Type 0
+IsCrashForced accounts images (Recovered r) slots now old new = (mid : Logs) × (between : Slots) × AllCrash images old slots mid between × AreRecovered accounts between now r mid new
+IsCrashForced accounts images (Refused e) slots now old new = (mid : Logs) × (between : Slots) × AllCrash images old slots mid between × AreNotRecovered accounts between now e mid new
+IsCrashForced accounts images NoSuch slots now old new = (new ≡ old) × (now ≡ slots) × (¬ MayLeaveAll images old slots)
+IsCrashForced accounts images note slots now old new = ⊥
+
+-- What an event that is no crash makes of the logs. NoSuch is noted of a flush if the store doesn't serve, or the worker has no open log; of a reopening if the store doesn't serve, or the
 -- worker has no log that isn't open. Device is noted if a log's disk failed, or the log was not open. An operation and the beginning of a Settle leave the logs alone.
 abbrev pub IsForced : Accounts → StoreEvent → StoreNote → Logs → Option Serving → Logs → Type 0
 IsForced accounts (Core e) note old serving new = new ≡ old
@@ -51,18 +83,25 @@ IsForced accounts (Reopen worker) (Refused Device) old serving new = FailsAt wor
 IsForced accounts (SettleBegin id) note old serving new = new ≡ old
 IsForced accounts (SettleNext id) NoSuch old serving new = new ≡ old
 IsForced accounts (SettleNext id) (Refused Device) old serving new = (place : ℕ) × (FailsAt place old new ⊎ LogAt place old IsNotOpen)
-IsForced accounts (Crash images) note old serving new = IsCrashForced accounts images.items note old new
+IsForced accounts (Crash images) note old serving new = ⊥
 IsForced accounts event note old serving new = Unit {0}
 
--- events, one after the other, with their notes
-abbrev pub AreForced : Accounts → Notes → Logs → Option Serving → Logs → Option Serving → Type 0
-AreForced accounts [] old was new is = (new ≡ old) × (is ≡ was)
-AreForced accounts (x ∷ notes) old was new is =
-    (mid : Logs) × (between : Option Serving) × IsForced accounts x.0 x.1 old was mid × AreForced accounts notes mid between new is
+-- any event: all but a crash leave the slots alone
+abbrev pub IsForcedAll : Accounts → Slots → Slots → StoreEvent → StoreNote → Logs → Option Serving → Logs → Type 0
+IsForcedAll accounts slots now (Crash images) note old serving new = IsCrashForced accounts images.items note slots now old new
+IsForcedAll accounts slots now event note old serving new = IsForced accounts event note old serving new × (now ≡ slots)
 
--- they led from new logs on these disks to where a store stands
-pub record AreForcedOn (accounts : Accounts) (notes : Notes) (disks : List MemDisk) (store : Store) : Type 0 where
+-- events, one after the other, with their notes
+abbrev pub AreForced : Accounts → Slots → Slots → Notes → Logs → Option Serving → Logs → Option Serving → Type 0
+AreForced accounts slots now [] old was new is = (new ≡ old) × (is ≡ was) × (now ≡ slots)
+AreForced accounts slots now (x ∷ notes) old was new is =
+    (mid : Logs) × (between : Option Serving) × (rest : Slots) × IsForcedAll accounts slots rest x.0 x.1 old was mid × AreForced accounts rest now notes mid between new is
+
+-- they led from new logs and slots on these disks to where a store stands
+pub record AreForcedOn (accounts : Accounts) (notes : Notes) (disks : List MemDisk) (slots : Slots) (store : Store) : Type 0 where
   pub first : Logs
   pub made : MakesAll (λ (d : MemDisk). true) mem_state (λ d. d.failures) (closed_on disks) first
   pub serving : Serving
-  pub forced : AreForced accounts notes first (Some serving) store.logs.items store.serving
+  pub first_slots : Slots
+  pub made_slots : MakesBoth (λ (d : MemDisk). true) mem_state (λ d. d.failures) slots first_slots
+  pub forced : AreForced accounts first_slots store.slots notes first (Some serving) store.logs.items store.serving

@@ -2,6 +2,7 @@
 use Rattle.std.specs.Prelude.{◌≡◌, ◌⊎◌, ℕ, ◌+◌, ◌<◌, List, [], ◌∷◌, ◌++◌, map, replicate, Option, Some, None, Result, Ok, Err}
 use Rattle.mt_rows.specs.{Accounts.Accounts, declared.refusal.Refusal.Refusal}
 use Rattle.mt_disk.specs.declared.mem.MemDisk.{MemDisk}
+use Rattle.mt_slots.specs.declared.store_slots.StoreSlots.{StoreSlots}
 use Rattle.mt_state.specs.Views.{StateView}
 use Rattle.mt_store_logs.specs.declared.store_log.StoreLog.{StoreLog}
 use Rattle.mt_lives.specs.{declared.events.StoreEvent.TheVariants.{Flush, Reopen, SettleBegin, SettleNext}, declared.events.StoreNote.StoreNote}
@@ -22,7 +23,7 @@ abbrev pub flush_note : Result ℕ Refusal → StoreNote
 flush_note (Ok mark) = Flushed mark
 flush_note (Err refusal) = Refused refusal
 
--- the notes of a turn of a worker's log, which was open at a mark or not: flushes up to some steps, and the one that ended the turn
+-- the notes of a turn of a worker's log, which was open at this mark or not: the last flush tells what the turn told
 abbrev pub turn_notes : ℕ → Option ℕ → List ℕ → Result ℕ Refusal → Notes
 turn_notes worker mark steps told = opening worker mark ++ (map (λ step. (Flush worker, Flushed step)) steps ++ (Flush worker, flush_note told) ∷ [])
 
@@ -34,11 +35,11 @@ abbrev pub AreTurnNotes : ℕ → Option ℕ → Result ℕ Refusal → Notes �
 AreTurnNotes worker mark told notes = ((steps : List ℕ) × (notes ≡ turn_notes worker mark steps told)) ⊎ AreNoOpening worker mark told notes
 
 -- Such notes lead from how a store stands to just that, and the store holds it with these logs and what serves.
-pub record IsTurn (accounts : Accounts) (standing : Standing) (worker : ℕ) (mark : Option ℕ) (told : Result ℕ Refusal) (logs : List (StoreLog MemDisk)) (serving : Serving) : Type 0 where
+pub record IsTurn (accounts : Accounts) (slots : StoreSlots MemDisk) (standing : Standing) (worker : ℕ) (mark : Option ℕ) (told : Result ℕ Refusal) (logs : List (StoreLog MemDisk)) (serving : Serving) : Type 0 where
   pub notes : Notes
   pub are : AreTurnNotes worker mark told notes
   pub lead : NotesLead (quotas_of accounts) standing notes standing
-  pub holds : Holds accounts standing logs (Some serving)
+  pub holds : Holds accounts slots standing logs (Some serving)
 
 -- the last turn of a Settle tells what the Settle told
 abbrev pub settle_note : Result ℕ Refusal → StoreNote
@@ -54,10 +55,10 @@ abbrev pub GoBefore : ℕ → Result ℕ Refusal → ℕ → Type 0
 GoBefore count (Ok number) turns = turns + 1 ≡ count
 GoBefore count (Err refusal) turns = turns < count
 
--- Such notes lead from how a store of so many logs stands to another standing, and the store holds that with these logs and what serves.
-pub record IsWholeSettle (accounts : Accounts) (standing : Standing) (id steps count : ℕ) (told : Result ℕ Refusal) (logs : List (StoreLog MemDisk)) (serving : Serving) : Type 0 where
+-- Such notes lead from one standing of a store of so many logs to another, which it holds with these logs and what serves.
+pub record IsWholeSettle (accounts : Accounts) (slots : StoreSlots MemDisk) (standing : Standing) (id steps count : ℕ) (told : Result ℕ Refusal) (logs : List (StoreLog MemDisk)) (serving : Serving) : Type 0 where
   pub turns : ℕ
   pub before : GoBefore count told turns
   pub next : Standing
   pub lead : NotesLead (quotas_of accounts) standing (settle_notes id steps turns told) next
-  pub holds : Holds accounts next logs (Some serving)
+  pub holds : Holds accounts slots next logs (Some serving)

@@ -4,7 +4,9 @@ use Rattle.mt_rows.specs.{Accounts.Accounts, declared.refusal.Refusal.Refusal, d
 use Rattle.mt_disk.specs.{declared.mem.MemDisk.MemDisk, Mem.mem_state}
 use Rattle.mt_core.specs.{Restores.IsRestored, Rights.IsRightState}
 use Rattle.mt_recover.specs.declared.recovering.Recovered.{Recovered}
-use Rattle.mt_store_logs.specs.{declared.fault.LogRefusal.LogRefusal, declared.store_log.StoreLog.StoreLog, Recovers.{ServesAgain, IsNotRecovered}}
+use Rattle.mt_slots.specs.declared.store_slots.StoreSlots.{StoreSlots}
+use Rattle.mt_store_logs.specs.{declared.fault.StoreRefusal.StoreRefusal, declared.store_log.StoreLog.StoreLog}
+use Rattle.mt_store_logs.specs.Recovers.{refusal_in, ServesAgain, IsNotRecovered}
 use Rattle.mt_lives.specs.declared.serving.Serving.{Serving}
 
 -- no event has been named, and no Settle has begun
@@ -19,12 +21,12 @@ pub record Begins (accounts : Accounts) (r : Recovered) (logs : ℕ) (serving : 
   pub right : IsRightState serving.state
   pub fresh : IsFresh serving
 
--- all logs were recovered
-abbrev pub AreRecovered : Accounts → Recovered → List (StoreLog MemDisk) → List (StoreLog MemDisk) → Type 0
-AreRecovered accounts r old new = ServesAgain (λ (d : MemDisk). true) mem_state (λ d. d.failures) accounts r old new
+-- the store was recovered
+abbrev pub AreRecovered : Accounts → StoreSlots MemDisk → StoreSlots MemDisk → Recovered → List (StoreLog MemDisk) → List (StoreLog MemDisk) → Type 0
+AreRecovered accounts slots now r old new = ServesAgain (λ (d : MemDisk). true) mem_state (λ d. d.failures) accounts r old slots new now
 
--- they were not, or there was no memory for a state
-pub record AreNotRecovered (accounts : Accounts) (e : Refusal) (old new : List (StoreLog MemDisk)) : Type 0 where
+-- it was not, or there was no memory for a state
+pub record AreNotRecovered (accounts : Accounts) (slots now : StoreSlots MemDisk) (e : Refusal) (old new : List (StoreLog MemDisk)) : Type 0 where
   pub cause :
-      ((refused : LogRefusal) × (refused.refusal ≡ e) × IsNotRecovered (λ (d : MemDisk). true) mem_state (λ d. d.failures) accounts refused old new)
-      ⊎ ((e ≡ Memory) × ((r : Recovered) × AreRecovered accounts r old new))
+      ((refused : StoreRefusal) × (refusal_in refused ≡ e) × IsNotRecovered (λ (d : MemDisk). true) mem_state (λ d. d.failures) accounts refused old slots new now)
+      ⊎ ((e ≡ Memory) × ((r : Recovered) × AreRecovered accounts slots now r old new))

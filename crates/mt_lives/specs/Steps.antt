@@ -4,6 +4,7 @@ use Rattle.std.specs.declared.alloc.Global.{Global}
 use Rattle.mt_rows.specs.Accounts.{Accounts}
 use Rattle.mt_disk.specs.declared.mem.MemDisk.{MemDisk}
 use Rattle.mt_state.specs.Histories.{IsServed}
+use Rattle.mt_slots.specs.declared.store_slots.StoreSlots.{StoreSlots}
 use Rattle.mt_store_logs.specs.declared.store_log.StoreLog.{StoreLog}
 use Rattle.mt_lives.specs.{declared.events.StoreEvent.StoreEvent, declared.events.StoreEvent.TheVariants.{Core, Crash}, declared.events.StoreNote.StoreNote}
 use Rattle.mt_lives.specs.{declared.serving.Serving.Serving, declared.serving.Settle.Settle, Lives.{Standing, IsNoted, Notes, NotesLead}}
@@ -32,18 +33,18 @@ Turns count id settle mark old new note = ⊥
 
 -- it stands somehow
 abbrev pub IsHeld : List (StoreLog MemDisk) → Option Serving → Type 0
-IsHeld logs serving = (accounts : Accounts) × (standing : Standing) × Holds accounts standing logs serving
+IsHeld logs serving = (accounts : Accounts) × (slots : StoreSlots MemDisk) × (standing : Standing) × Holds accounts slots standing logs serving
 
 -- Wherever it stood, the note is one that may be, and it stands so again.
-abbrev pub GoesOn : Accounts → StoreEvent → StoreNote → List (StoreLog MemDisk) → Option Serving → List (StoreLog MemDisk) → Option Serving → Type 0
-GoesOn accounts event note logs serving now_logs now_serving = (standing : Standing) → Holds accounts standing logs serving
-    → (next : Standing) × IsNoted (quotas_of accounts) standing event note next × Holds accounts next now_logs now_serving
+abbrev pub GoesOn : Accounts → StoreSlots MemDisk → StoreSlots MemDisk → StoreEvent → StoreNote → List (StoreLog MemDisk) → Option Serving → List (StoreLog MemDisk) → Option Serving → Type 0
+GoesOn accounts slots now_slots event note logs serving now_logs now_serving = (standing : Standing) → Holds accounts slots standing logs serving
+    → (next : Standing) × IsNoted (quotas_of accounts) standing event note next × Holds accounts now_slots next now_logs now_serving
 
 -- the same of a crash, to whatever images
-abbrev pub CrashesTo : Accounts → StoreNote → List (StoreLog MemDisk) → Option Serving → List (StoreLog MemDisk) → Option Serving → Type 0
-CrashesTo accounts note logs serving now_logs now_serving = (images : Vec (Vec ℕ Global) Global) → GoesOn accounts (Crash images) note logs serving now_logs now_serving
+abbrev pub CrashesTo : Accounts → StoreSlots MemDisk → StoreSlots MemDisk → StoreNote → List (StoreLog MemDisk) → Option Serving → List (StoreLog MemDisk) → Option Serving → Type 0
+CrashesTo accounts slots now_slots note logs serving now_logs now_serving = (images : Vec (Vec ℕ Global) Global) → GoesOn accounts slots now_slots (Crash images) note logs serving now_logs now_serving
 
 -- the same of many events
-abbrev pub NotesGoOn : Accounts → Notes → List (StoreLog MemDisk) → Option Serving → List (StoreLog MemDisk) → Option Serving → Type 0
-NotesGoOn accounts notes logs serving now_logs now_serving = (standing : Standing) → Holds accounts standing logs serving
-    → (next : Standing) × NotesLead (quotas_of accounts) standing notes next × Holds accounts next now_logs now_serving
+abbrev pub NotesGoOn : Accounts → StoreSlots MemDisk → StoreSlots MemDisk → Notes → List (StoreLog MemDisk) → Option Serving → List (StoreLog MemDisk) → Option Serving → Type 0
+NotesGoOn accounts slots now_slots notes logs serving now_logs now_serving = (standing : Standing) → Holds accounts slots standing logs serving
+    → (next : Standing) × NotesLead (quotas_of accounts) standing notes next × Holds accounts now_slots next now_logs now_serving

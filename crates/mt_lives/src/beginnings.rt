@@ -2,6 +2,7 @@
 
 ghost use Rattle.std.specs.Prelude.{◌≡◌, ◌<◌, ◌≤◌, true, length, Some, IfOk, IfErr};
 ghost use Rattle.mt_disk.specs.{declared.mem.MemDisk.{MemDisk as AnyDisk}, Mem.mem_state};
+ghost use Rattle.mt_slots.specs.Calls.{MakesBoth};
 ghost use Rattle.mt_state.specs.Begins.{HaveNoPairs};
 ghost use Rattle.mt_store_logs.specs.Places.{closed_on, AreInOrder, MakesAll};
 ghost use Rattle.mt_lives.specs.{declared.serving.Serving.{Serving as AnyServing}, Lives.{new_standing, IsMemoryOrDevice}, Holds.Holds};
@@ -11,22 +12,25 @@ use crate::serving::Serving;
 use mt_core::State;
 use mt_disk::MemDisk;
 use mt_rows::{Refusal, Tenants};
+use mt_slots::StoreSlots;
 use mt_store_logs::{closed_logs, create_logs};
 use std::alloc::Global;
 
-/// A new store on these disks. Errors: `Device`, `Memory`.
+/// A new store on these disks. The logs are made before the slots. Errors: `Device`, `Memory`.
 pub(crate) fn created(
     alloc: Global,
     tenants: &Tenants,
     disks: Vec<MemDisk>,
+    mut slots: StoreSlots<MemDisk>,
 ) -> Result<Store, Refusal>
     requires some { 0 < length disks.items }
     requires few { length disks.items ≤ 64 }
     requires empty { HaveNoPairs tenants.now }
-    ensures ok { IfOk result (λ store. Holds tenants.now new_standing store.logs.items store.serving) }
+    ensures ok { IfOk result (λ store. Holds tenants.now store.slots new_standing store.logs.items store.serving) }
     ensures count { IfOk result (λ store. length store.logs.items ≡ length disks.items) }
     ensures order { IfOk result (λ store. AreInOrder store.logs.items) }
     ensures made { IfOk result (λ store. MakesAll (λ (d : AnyDisk). true) mem_state (λ d. d.failures) (closed_on disks.items) store.logs.items) }
+    ensures slots { IfOk result (λ store. MakesBoth (λ (d : AnyDisk). true) mem_state (λ d. d.failures) slots store.slots) }
     ensures serves { IfOk result (λ store. (serving : AnyServing) × (store.serving ≡ Some serving)) }
     ensures err { IfErr result IsMemoryOrDevice }
 {
@@ -34,8 +38,15 @@ pub(crate) fn created(
     if let Err(refused) = create_logs(&mut logs) {
         return Err(refused.refusal);
     }
+    if let Err(fault) = slots.create() {
+        return Err(fault.cause.refusal());
+    }
     let state = State::new(alloc, logs.len() as u8, tenants.copied()?)?;
     state.facts();
     let serving = Some(Serving::new(alloc, state));
-    Ok(Store { logs, serving })
+    Ok(Store {
+        logs,
+        slots,
+        serving,
+    })
 }

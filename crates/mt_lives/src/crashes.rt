@@ -1,11 +1,12 @@
 //! Crashes of a store, and its recoveries.
 
-ghost use Rattle.std.specs.{Prelude.{◌≡◌, ◌≤◌, ◌^◌, length, IfOk, IfErr, OnOk}, List.All};
+ghost use Rattle.std.specs.{Prelude.{◌≡◌, ◌≢◌, ◌≤◌, ◌+◌, ◌^◌, true, false, length, IfSome, IfNone, IfOk, IfErr, OnOk}, List.All};
 ghost use Rattle.mt_rows.specs.TenantPairs.{pairs_of, quota_in, IsTenantPair, AreDistinct, HasTenants, KeepsQuotas};
 ghost use Rattle.mt_state.specs.Begins.{HaveNoPairs};
 ghost use Rattle.mt_core.specs.{Restores.IsRestored, Rights.IsRightState};
 ghost use Rattle.mt_store_logs.specs.Places.{workers_of};
-ghost use Rattle.mt_lives.specs.{Returns.{Begins, AreRecovered, AreNotRecovered}, Steps.CrashesTo, Forced.IsCrashForced};
+ghost use Rattle.mt_lives.specs.{Returns.{Begins, AreRecovered, AreNotRecovered}, Steps.CrashesTo};
+ghost use Rattle.mt_lives.specs.Forced.{ArePartedInto, MayLeaveAll, AllCrash, IsCrashForced};
 
 use crate::events::StoreNote;
 use crate::serving::Serving;
@@ -13,30 +14,33 @@ use mt_core::State;
 use mt_disk::MemDisk;
 use mt_recover::Recovered;
 use mt_rows::{Refusal, Tenants};
-use mt_store_logs::{StoreLog, crash_logs, recover_logs};
+use mt_slots::StoreSlots;
+use mt_store_logs::{NoWatch, StoreLog, crash_logs, recover_store};
 use std::alloc::{AllocError, Global};
 
-/// Crashes all disks, each to its image, and recovers the store. `NoSuch` where the disks may not leave
-/// these images: then nothing has changed. After an error some disks have crashed.
+/// Crashes all disks, each to its image, those of the slots behind those of the logs, and recovers the store.
+/// `NoSuch` if the disks may not leave these images: then nothing has changed. After an error some disks have
+/// crashed.
 pub(crate) fn crash(
     alloc: Global,
     tenants: &Tenants,
     logs: &mut [StoreLog<MemDisk>],
+    slots: &mut StoreSlots<MemDisk>,
     serving: &mut Option<Serving>,
     images: &[Vec<u8>],
 ) -> Result<StoreNote, AllocError>
     requires few { length logs.old ≤ 64 }
     requires empty { HaveNoPairs tenants.now }
-    ensures crashes { IfOk result (λ note. CrashesTo tenants.now note logs.old serving.old logs.new serving.new) }
+    ensures crashes { IfOk result (λ note. CrashesTo tenants.now slots.old slots.new note logs.old serving.old logs.new serving.new) }
     ensures count { OnOk result (length logs.new ≡ length logs.old) }
     ensures workers { OnOk result (workers_of logs.new ≡ workers_of logs.old) }
-    ensures forced { IfOk result (λ note. IsCrashForced tenants.now images.now note logs.old logs.new) }
+    ensures forced { IfOk result (λ note. IsCrashForced tenants.now images.now note slots.old slots.new logs.old logs.new) }
 {
-    if !crash_logs(alloc, logs, images)? {
+    if !crash_all(alloc, logs, slots, images)? {
         return Ok(StoreNote::NoSuch);
     }
     *serving = None;
-    match come_back(alloc, tenants, logs) {
+    match come_back(alloc, tenants, logs, slots) {
         Ok((recovered, begun)) => {
             *serving = Some(begun);
             Ok(StoreNote::Recovered(recovered))
@@ -45,22 +49,59 @@ pub(crate) fn crash(
     }
 }
 
-// Recovers a store from its logs, with what it has when it serves again.
+// Crashes all disks, each to its image. False if they may not leave these: then nothing has changed.
+fn crash_all(
+    alloc: Global,
+    logs: &mut [StoreLog<MemDisk>],
+    slots: &mut StoreSlots<MemDisk>,
+    images: &[Vec<u8>],
+) -> Result<bool, AllocError>
+    ensures workers { workers_of logs.new ≡ workers_of logs.old }
+    ensures crashed { IfOk result (λ crashed. crashed ≡ true → AllCrash images.now logs.old slots.old logs.new slots.new) }
+    ensures unchanged { IfOk result (λ crashed. crashed ≡ false → (logs.new ≡ logs.old) × (slots.new ≡ slots.old) × (¬ MayLeaveAll images.now logs.old slots.old)) }
+{
+    let Some((of_logs, first, second)) = parted(images, logs.len()) else {
+        return Ok(false);
+    };
+    if !slots.may_leave(first, second) {
+        return Ok(false);
+    }
+    if !crash_logs(alloc, logs, of_logs)? {
+        return Ok(false);
+    }
+    slots.crash(alloc, first, second)?;
+    Ok(true)
+}
+
+// The images of so many logs, and the two of the slots, if they are that many.
+fn parted(images: &[Vec<u8>], logs: usize) -> Option<(&[Vec<u8>], &[u8], &[u8])>
+    ensures some { IfSome result (λ parts. (length parts.0.now ≡ logs) × ArePartedInto images.now parts.0.now parts.1.now parts.2.now) }
+    ensures none { IfNone result (length images.now ≢ logs + 2) }
+{
+    if images.len() < 2 || images.len() - 2 != logs {
+        return None;
+    }
+    let (of_logs, of_slots) = images.split_at(logs);
+    Some((of_logs, &of_slots[0], &of_slots[1]))
+}
+
+// Recovers a store from its logs and slots, with what it has when it serves again.
 fn come_back(
     alloc: Global,
     tenants: &Tenants,
     logs: &mut [StoreLog<MemDisk>],
+    slots: &mut StoreSlots<MemDisk>,
 ) -> Result<(Recovered, Serving), Refusal>
     requires few { length logs.old ≤ 64 }
     requires empty { HaveNoPairs tenants.now }
     ensures workers { workers_of logs.new ≡ workers_of logs.old }
-    ensures recovered { IfOk result (λ r. AreRecovered tenants.now r.0 logs.old logs.new) }
+    ensures recovered { IfOk result (λ r. AreRecovered tenants.now slots.old slots.new r.0 logs.old logs.new) }
     ensures begins { IfOk result (λ r. Begins tenants.now r.0 (length logs.new) r.1) }
-    ensures err { IfErr result (λ e. AreNotRecovered tenants.now e logs.old logs.new) }
+    ensures err { IfErr result (λ e. AreNotRecovered tenants.now slots.old slots.new e logs.old logs.new) }
 {
-    let recovered = match recover_logs(alloc, logs, tenants) {
+    let recovered = match recover_store(alloc, logs, slots, tenants, &mut NoWatch) {
         Ok(recovered) => recovered,
-        Err(refused) => return Err(refused.refusal),
+        Err(refused) => return Err(refused.refusal()),
     };
     match restored(alloc, tenants, logs.len() as u8, &recovered) {
         Ok(state) => Ok((recovered, Serving::new(alloc, state))),

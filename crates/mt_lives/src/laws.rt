@@ -1,14 +1,16 @@
-//! How a tape goes forward, what no notes are, and what the turns and Settles of a store that is owned alone are as
-//! events: laws, each the contract of a function that does nothing.
+//! How a tape goes forward, what no notes are, and what happens to a store that is owned alone, as events. These are
+//! laws, each the contract of a function that does nothing.
 
-ghost use Rattle.std.specs.Prelude.{◌≡◌, ◌≢◌, ◌<◌, ◌≤◌, ◌++◌, ◌∷◌, [], ℕ, map, vec_len, List, Option, Some, None, Result, Ok, Vec, slice_get};
+ghost use Rattle.std.specs.Prelude.{◌≡◌, ◌≢◌, ◌<◌, ◌≤◌, ◌++◌, ◌∷◌, [], ℕ, map, length, vec_len, List, Option, Some, None, Result, Ok, Vec, slice_get};
 ghost use Rattle.std.specs.declared.alloc.Global.{Global};
 ghost use Rattle.mt_rows.specs.{declared.refusal.Refusal.{Refusal as AnyRefusal}, declared.refusal.Refusal.TheVariants.{BadLog, StampsFall, OverQuota}};
 ghost use Rattle.mt_rows.specs.{Tenants.Contents, Accounts.Accounts};
 ghost use Rattle.mt_disk.specs.declared.mem.MemDisk.{MemDisk as AnyDisk};
-ghost use Rattle.mt_store_logs.specs.{declared.store_log.StoreLog.{StoreLog as AnyLog}, Places.mark_in};
+ghost use Rattle.mt_slots.specs.declared.store_slots.StoreSlots.{StoreSlots as AnySlots};
+ghost use Rattle.mt_store_logs.specs.{declared.store_log.StoreLog.{StoreLog as AnyLog}, Places.{mark_in, closed_on}};
 ghost use Rattle.mt_settle.specs.{Turns.BroughtUp, Settles.Settles};
-ghost use Rattle.mt_stored.specs.declared.stores.Store.{Store as AnyStore};
+ghost use Rattle.mt_core.specs.Rights.{IsRightState};
+ghost use Rattle.mt_stored.specs.{declared.stores.Store.{Store as AnyStore}, Stores.{IsNewStore, IsRecoveredStore}};
 ghost use Rattle.mt_recover.specs.declared.recovering.Recovered.{Recovered as AnyRecovered};
 ghost use Rattle.mt_tape.specs.{declared.entry.Entry.{Entry as AnyEntry}, Tapes.RisesOver, Histories.{contents_at, IsLegalTape}};
 ghost use Rattle.mt_drains.specs.Drains.{record_of};
@@ -16,8 +18,9 @@ ghost use Rattle.mt_crashes.specs.Fronts.{after_changes};
 ghost use Rattle.mt_runs.specs.{declared.event.Event.{Event as AnyEvent}, Placings.Quotas};
 ghost use Rattle.mt_lives.specs.declared.events.StoreEvent.TheVariants.{Core, SettleBegin, SettleNext, Crash};
 ghost use Rattle.mt_lives.specs.{declared.events.StoreNote.TheVariants.{Settled, Recovered, Refused, NoSuch}, Earlier.earlier_entries};
-ghost use Rattle.mt_lives.specs.{declared.serving.Serving.{Serving as AnyServing}, Holds.{quotas_of, Holds}};
-ghost use Rattle.mt_lives.specs.{Lives.{Life, Standing, steps_in, IsNoted, Notes, NotesLead}, Owned.{with_state, AreTurnNotes, IsTurn, IsWholeSettle}};
+ghost use Rattle.mt_lives.specs.{declared.serving.Serving.{Serving as AnyServing}, Holds.{quotas_of, Holds}, Returns.IsFresh, Forced.AllCrash, Steps.GoesOn};
+ghost use Rattle.mt_lives.specs.Lives.{Life, Standing, new_standing, steps_in, IsNoted, Notes, NotesLead};
+ghost use Rattle.mt_lives.specs.Owned.{with_state, AreTurnNotes, IsTurn, IsWholeSettle};
 
 use mt_disk::{Disk, MemDisk};
 use mt_settle::Logs;
@@ -53,31 +56,48 @@ pub fn wrong_notes_are_refused()
         old.now ≡ Ok life → old.begun id ≡ None → ¬ IsNoted quotas old (SettleBegin id) NoSuch new }
 {}
 
-/// A turn of the server's store that is owned alone is a list of events of its log: a reopening if the log isn't open,
-/// and flushes. Their notes tell what the turn told. All that held of the store holds behind them.
+/// The server's store that is owned alone and was just made stands as a new one. Its state is right, and nothing has a
+/// name yet: no event, and no Settle.
+pub fn an_owned_store_begins_as_a_new_one()
+    ensures { (accounts : Accounts) (serving : AnyServing) (disks : List AnyDisk) (bare slots : AnySlots AnyDisk) (logs : List (AnyLog AnyDisk)) → 0 < length disks → length disks ≤ 64
+        → IsNewStore ⟦<MemDisk as Disk>⟧.is_honest ⟦<MemDisk as Disk>⟧.state ⟦<MemDisk as Disk>⟧.failures disks bare accounts serving.state logs (Some slots)
+        → IsRightState serving.state → IsFresh serving → Holds accounts slots new_standing logs (Some serving) }
+{}
+
+/// A store whose disks crashed, each to its image, and that was recovered from them stands as behind that crash, noted
+/// Recovered. Its state is right, and nothing has a name.
+pub fn an_owned_store_is_recovered_as_behind_a_crash()
+    ensures { (accounts : Accounts) (slots found now : AnySlots AnyDisk) (was : Option AnyServing) (serving : AnyServing) (old new : List (AnyLog AnyDisk)) (disks : List AnyDisk)
+        (images : Vec (Vec ℕ Global) Global) → AllCrash images.items old slots (closed_on disks) found
+        → IsRecoveredStore ⟦<MemDisk as Disk>⟧.is_honest ⟦<MemDisk as Disk>⟧.state ⟦<MemDisk as Disk>⟧.failures disks found accounts serving.state new (Some now)
+        → IsRightState serving.state → IsFresh serving → (r : AnyRecovered) × GoesOn accounts slots now (Crash images) (Recovered r) old was new (Some serving) }
+{}
+
+/// A turn of that store is a list of events of its log: a reopening if the log isn't open, and flushes. Their notes
+/// tell what the turn told. All that held of the store holds behind them.
 pub fn a_turn_of_an_owned_store_is_a_list_of_events()
-    ensures { (accounts : Accounts) (standing : Standing) (serving : AnyServing) (worker : ℕ) (told : Result ℕ AnyRefusal) (log : AnyLog AnyDisk)
+    ensures { (accounts : Accounts) (slots : AnySlots AnyDisk) (standing : Standing) (serving : AnyServing) (worker : ℕ) (told : Result ℕ AnyRefusal) (log : AnyLog AnyDisk)
         (old new : AnyStore AnyDisk ⟦<MemDisk as Disk>⟧) →
-        Holds accounts standing old.logs.items (Some serving) → old.source.state ≡ serving.state → slice_get old.logs.items worker ≡ Some log
+        Holds accounts slots standing old.logs.items (Some serving) → old.source.state ≡ serving.state → slice_get old.logs.items worker ≡ Some log
         → ⟦<Store<MemDisk> as Logs>⟧.does old (BroughtUp worker told) new
-        → IsTurn accounts standing worker (mark_in log.slot) told new.logs.items (with_state new.source.state serving) }
+        → IsTurn accounts slots standing worker (mark_in log.slot) told new.logs.items (with_state new.source.state serving) }
 {}
 
 /// A Settle of that store is a Settle of the events, by any name that no open one has. It begins, each log has its
 /// turn, and the last turn tells what the store answered. So a number that it answered is settled. All that held of
 /// the store holds behind it.
 pub fn a_settle_of_an_owned_store_is_a_settle()
-    ensures { (accounts : Accounts) (standing : Standing) (serving : AnyServing) (id : ℕ) (told : Result ℕ AnyRefusal)
+    ensures { (accounts : Accounts) (slots : AnySlots AnyDisk) (standing : Standing) (serving : AnyServing) (id : ℕ) (told : Result ℕ AnyRefusal)
         (old new : AnyStore AnyDisk ⟦<MemDisk as Disk>⟧) →
-        Holds accounts standing old.logs.items (Some serving) → old.source.state ≡ serving.state → standing.begun id ≡ None
+        Holds accounts slots standing old.logs.items (Some serving) → old.source.state ≡ serving.state → standing.begun id ≡ None
         → Settles ⟦<Store<MemDisk> as Logs>⟧.does (vec_len old.logs) old new told
-        → IsWholeSettle accounts standing id old.source.state.steps (vec_len old.logs) told new.logs.items (with_state new.source.state serving) }
+        → IsWholeSettle accounts slots standing id old.source.state.steps (vec_len old.logs) told new.logs.items (with_state new.source.state serving) }
 {}
 
 /// The number of such a Settle is at most every later cutoff, whatever happens before that crash.
 pub fn a_number_that_an_owned_store_settled_is_kept()
-    ensures { (accounts : Accounts) (standing last : Standing) (serving : AnyServing) (id steps count number : ℕ) (logs : List (AnyLog AnyDisk))
-        (notes : Notes) (images : Vec (Vec ℕ Global) Global) (r : AnyRecovered) (settle : IsWholeSettle accounts standing id steps count (Ok number) logs serving) →
+    ensures { (accounts : Accounts) (slots : AnySlots AnyDisk) (standing last : Standing) (serving : AnyServing) (id steps count number : ℕ) (logs : List (AnyLog AnyDisk))
+        (notes : Notes) (images : Vec (Vec ℕ Global) Global) (r : AnyRecovered) (settle : IsWholeSettle accounts slots standing id steps count (Ok number) logs serving) →
         NotesLead (quotas_of accounts) settle.next (notes ++ (Crash images, Recovered r) ∷ []) last → number ≤ r.cutoff }
 {}
 
@@ -86,8 +106,8 @@ pub fn a_number_that_an_owned_store_settled_is_kept()
 pub fn wrong_turns_and_settles_are_refused()
     ensures turn_of_another_log { (worker other : ℕ) (mark other_mark : Option ℕ) (told other_told : Result ℕ AnyRefusal) (notes : Notes) →
         worker ≢ other → AreTurnNotes worker mark told notes → ¬ AreTurnNotes other other_mark other_told notes }
-    ensures settle_over_the_last_step { (accounts : Accounts) (standing : Standing) (life : Life) (serving : AnyServing) (id steps count number : ℕ) (logs : List (AnyLog AnyDisk)) →
-        standing.now ≡ Ok life → steps_in life < number → ¬ IsWholeSettle accounts standing id steps count (Ok number) logs serving }
-    ensures settle_of_an_open_name { (accounts : Accounts) (standing : Standing) (serving : AnyServing) (id steps count : ℕ) (told : Result ℕ AnyRefusal) (logs : List (AnyLog AnyDisk)) →
-        standing.begun id ≢ None → ¬ IsWholeSettle accounts standing id steps count told logs serving }
+    ensures settle_over_the_last_step { (accounts : Accounts) (slots : AnySlots AnyDisk) (standing : Standing) (life : Life) (serving : AnyServing) (id steps count number : ℕ) (logs : List (AnyLog AnyDisk)) →
+        standing.now ≡ Ok life → steps_in life < number → ¬ IsWholeSettle accounts slots standing id steps count (Ok number) logs serving }
+    ensures settle_of_an_open_name { (accounts : Accounts) (slots : AnySlots AnyDisk) (standing : Standing) (serving : AnyServing) (id steps count : ℕ) (told : Result ℕ AnyRefusal) (logs : List (AnyLog AnyDisk)) →
+        standing.begun id ≢ None → ¬ IsWholeSettle accounts slots standing id steps count told logs serving }
 {}

@@ -4,10 +4,11 @@ ghost use Rattle.std.specs.{Prelude.{◌≡◌, ◌<◌, ◌≤◌, List, length
 ghost use Rattle.mt_rows.specs.Accounts.{Accounts};
 ghost use Rattle.mt_disk.specs.declared.mem.MemDisk.{MemDisk as AnyDisk};
 ghost use Rattle.mt_state.specs.{Begins.HaveNoPairs, Histories.IsServed};
+ghost use Rattle.mt_slots.specs.declared.store_slots.StoreSlots.{StoreSlots as AnySlots};
 ghost use Rattle.mt_store_logs.specs.{declared.store_log.StoreLog.{StoreLog as AnyLog}, Places.{workers_of, AreInOrder}};
 ghost use Rattle.mt_lives.specs.{declared.events.StoreEvent.TheVariants.{Core, Crash}, declared.events.StoreNote.TheVariants.{Told as Answered}};
 ghost use Rattle.mt_lives.specs.{Lives.{Standing, HasLives, IsMemoryOrDevice}, Holds.{quotas_of, Holds}};
-ghost use Rattle.mt_lives.specs.{Steps.{IsHeld, IsNoCrash, IsServedBy, GoesOn, NotesGoOn}, Forced.{IsForced, AreForced, AreForcedOn}};
+ghost use Rattle.mt_lives.specs.{Steps.{IsHeld, IsNoCrash, IsServedBy, GoesOn, NotesGoOn}, Forced.{IsForced, IsForcedAll, AreForced, AreForcedOn}};
 
 use crate::beginnings::created;
 use crate::crashes::crash;
@@ -18,14 +19,16 @@ use mt_core::tell;
 use mt_disk::MemDisk;
 use mt_rows::{Refusal, Tenants};
 use mt_runs::{Event, Told};
+use mt_slots::StoreSlots;
 use mt_store_logs::StoreLog;
 use std::alloc::{AllocError, Global};
 use std::marker::Model;
 
-/// A store: its logs, and what it has while it serves.
+/// A store: its logs, the slots of its checkpoints, and what it has while it serves.
 #[derive(Drop)]
 pub struct Store {
     pub logs: Vec<StoreLog<MemDisk>>,
+    pub slots: StoreSlots<MemDisk>,
     pub serving: Option<Serving>,
 }
 
@@ -53,14 +56,15 @@ impl NoteList {
     }
 }
 
-/// Makes the logs of a new store, one on each of these disks, lets events happen to it, and gives it back
-/// with what is noted of each.
+/// Makes the logs of a new store, one on each of these disks, and then its slots, lets events happen to it, and
+/// gives it back with what is noted of each.
 ///
-/// Errors: `Device` where a log is not made; `Memory` where the run's own lists are refused memory.
+/// Errors: `Device` if a log or a slot is not made; `Memory` if the run's own lists are refused memory.
 pub fn run_store_events(
     alloc: Global,
     tenants: &Tenants,
     disks: Vec<MemDisk>,
+    slots: StoreSlots<MemDisk>,
     events: &[StoreEvent],
 ) -> Result<(Store, NoteList), Refusal>
     requires some { 0 < length disks.items }
@@ -69,10 +73,10 @@ pub fn run_store_events(
     requires workers { All (IsServedBy (length disks.items)) events.now }
     ensures lives { IfOk result (λ r. HasLives (quotas_of tenants.now) (zip events.now r.1)) }
     ensures count { IfOk result (λ r. length r.1 ≡ length events.now) }
-    ensures forced { IfOk result (λ r. AreForcedOn tenants.now (zip events.now r.1) disks.items r.0) }
+    ensures forced { IfOk result (λ r. AreForcedOn tenants.now (zip events.now r.1) disks.items slots r.0) }
     ensures err { IfErr result IsMemoryOrDevice }
 {
-    let mut store = created(alloc, tenants, disks)?;
+    let mut store = created(alloc, tenants, disks, slots)?;
     let notes = note_all(alloc, tenants, &mut store, events)?;
     Ok((store, NoteList { notes }))
 }
@@ -84,13 +88,13 @@ fn note_all(
     store: &mut Store,
     events: &[StoreEvent],
 ) -> Result<Vec<StoreNote>, AllocError>
-    requires held { (standing : Standing) × Holds tenants.now standing store.old.logs.items store.old.serving }
+    requires held { (standing : Standing) × Holds tenants.now store.old.slots standing store.old.logs.items store.old.serving }
     requires order { AreInOrder store.old.logs.items }
     requires empty { HaveNoPairs tenants.now }
     requires workers { All (IsServedBy (length store.old.logs.items)) events.now }
-    ensures goes { IfOk result (λ notes. NotesGoOn tenants.now (zip events.now notes.items) store.old.logs.items store.old.serving store.new.logs.items store.new.serving) }
+    ensures goes { IfOk result (λ notes. NotesGoOn tenants.now store.old.slots store.new.slots (zip events.now notes.items) store.old.logs.items store.old.serving store.new.logs.items store.new.serving) }
     ensures count { IfOk result (λ notes. length notes.items ≡ length events.now) }
-    ensures forced { IfOk result (λ notes. AreForced tenants.now (zip events.now notes.items) store.old.logs.items store.old.serving store.new.logs.items store.new.serving) }
+    ensures forced { IfOk result (λ notes. AreForced tenants.now store.old.slots store.new.slots (zip events.now notes.items) store.old.logs.items store.old.serving store.new.logs.items store.new.serving) }
 {
     let mut notes = Vec::new(alloc);
     for event in events {
@@ -107,17 +111,24 @@ fn happen(
     store: &mut Store,
     event: &StoreEvent,
 ) -> Result<StoreNote, AllocError>
-    requires held { (standing : Standing) × Holds tenants.now standing store.old.logs.items store.old.serving }
+    requires held { (standing : Standing) × Holds tenants.now store.old.slots standing store.old.logs.items store.old.serving }
     requires order { AreInOrder store.old.logs.items }
     requires empty { HaveNoPairs tenants.now }
     requires worker { IsServedBy (length store.old.logs.items) event.now }
     ensures count { OnOk result (length store.new.logs.items ≡ length store.old.logs.items) }
     ensures workers { OnOk result (workers_of store.new.logs.items ≡ workers_of store.old.logs.items) }
-    ensures goes { IfOk result (λ note. GoesOn tenants.now event.now note store.old.logs.items store.old.serving store.new.logs.items store.new.serving) }
-    ensures forced { IfOk result (λ note. IsForced tenants.now event.now note store.old.logs.items store.old.serving store.new.logs.items) }
+    ensures goes { IfOk result (λ note. GoesOn tenants.now store.old.slots store.new.slots event.now note store.old.logs.items store.old.serving store.new.logs.items store.new.serving) }
+    ensures forced { IfOk result (λ note. IsForcedAll tenants.now store.old.slots store.new.slots event.now note store.old.logs.items store.old.serving store.new.logs.items) }
 {
     if let StoreEvent::Crash { images } = event {
-        return crash(alloc, tenants, &mut store.logs, &mut store.serving, images);
+        return crash(
+            alloc,
+            tenants,
+            &mut store.logs,
+            &mut store.slots,
+            &mut store.serving,
+            images,
+        );
     }
     match &mut store.serving {
         Some(serving) => serve(alloc, &mut store.logs, serving, event),
@@ -138,7 +149,7 @@ fn serve(
     requires serves { IsNoCrash event.now }
     ensures count { OnOk result (length logs.new ≡ length logs.old) }
     ensures workers { OnOk result (workers_of logs.new ≡ workers_of logs.old) }
-    ensures goes { IfOk result (λ note. (accounts : Accounts) → GoesOn accounts event.now note logs.old (Some serving.old) logs.new (Some serving.new)) }
+    ensures goes { IfOk result (λ note. (accounts : Accounts) (slots : AnySlots AnyDisk) → GoesOn accounts slots slots event.now note logs.old (Some serving.old) logs.new (Some serving.new)) }
     ensures forced { IfOk result (λ note. (accounts : Accounts) → IsForced accounts event.now note logs.old (Some serving.old) logs.new) }
 {
     match event {
@@ -154,7 +165,7 @@ fn serve(
 // Lets an operation begin or step.
 fn core(serving: &mut Serving, event: &Event) -> Result<Told, AllocError>
     requires held { (logs : List (AnyLog AnyDisk)) × IsHeld logs (Some serving.old) × IsServed (length logs) event.now }
-    ensures goes { IfOk result (λ told. (accounts : Accounts) (logs : List (AnyLog AnyDisk)) → IsServed (length logs) event.now → GoesOn accounts (Core event.now) (Answered told) logs (Some serving.old) logs (Some serving.new)) }
+    ensures goes { IfOk result (λ told. (accounts : Accounts) (slots : AnySlots AnyDisk) (logs : List (AnyLog AnyDisk)) → IsServed (length logs) event.now → GoesOn accounts slots slots (Core event.now) (Answered told) logs (Some serving.old) logs (Some serving.new)) }
 {
     let told = tell(&mut serving.state, &mut serving.roster, event)?;
     serving.state.facts();

@@ -120,12 +120,12 @@ fn comes_back(rt: &impl Abort, alloc: Global, fate: Fate) -> bool {
     stopped == 20 || (ends && found)
 }
 
-// A disk makes some fifty calls up to the last recovery here.
+// A log's disk makes some fifty calls up to the last recovery here, and a slot's some ten.
 #[test]
 fn a_store_stopped_at_any_call_comes_back(rt: HostRuntime) -> Result<(), Fail> {
     let alloc = rt.alloc();
-    for disk in [0, 1] {
-        for stop in 1..54 {
+    for (disk, calls) in [(0, 54), (1, 54), (2, 16), (3, 16)] {
+        for stop in 1..calls {
             let fate = Fate {
                 disk,
                 first: 0,

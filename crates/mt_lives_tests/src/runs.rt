@@ -9,7 +9,7 @@ use mt_lives::{Store, StoreEvent, StoreNote, run_store_events};
 use mt_recover::LogSlot;
 use mt_rows::{Refusal, Reply};
 use mt_runs::Told;
-use mt_store_logs::StoreLog;
+use mt_slots::StoreSlots;
 use std::alloc::Global;
 use std::process::Abort;
 
@@ -41,7 +41,7 @@ pub(crate) fn run(rt: &impl Abort, alloc: Global, fate: Fate, rows: &[Row]) -> O
         if let Row::Crash = row {
             let before = rows.get(..place).unwrap_or(&[]);
             let (store, _) = run_with(rt, alloc, fate, before, &images)?;
-            let left = images_of(rt, alloc, &store.logs);
+            let left = images_of(rt, alloc, store);
             assert!(rt; images.push(left).is_ok());
         }
     }
@@ -58,7 +58,9 @@ fn run_with(
     images: &[Vec<Vec<u8>>],
 ) -> Option<(Store, Vec<Noted>)> {
     let (events, ends) = events_with_ends(rt, alloc, rows, images);
-    match run_store_events(alloc, &one_tenant(alloc), disks(rt, alloc, fate), &events) {
+    let logs = disks(rt, alloc, fate);
+    let slots = StoreSlots::found(disk(rt, alloc, fate, 2), disk(rt, alloc, fate, 3));
+    match run_store_events(alloc, &one_tenant(alloc), logs, slots, &events) {
         Ok((store, notes)) => Some((store, noted_of_rows(rt, alloc, &ends, notes.as_slice()))),
         Err(Refusal::Device) => None,
         Err(_) => panic!(rt; "memory"),
@@ -123,10 +125,11 @@ fn disk(rt: &impl Abort, alloc: Global, fate: Fate, place: usize) -> MemDisk {
     }
 }
 
-// What a read of each log's disk gives.
-fn images_of(rt: &impl Abort, alloc: Global, logs: &[StoreLog<MemDisk>]) -> Vec<Vec<u8>> {
+// What a read of each disk gives: of the logs, and then of the slots.
+fn images_of(rt: &impl Abort, alloc: Global, store: Store) -> Vec<Vec<u8>> {
+    let Store { logs, slots, .. } = store;
     let mut images = Vec::new(alloc);
-    for log in logs {
+    for log in &logs {
         let image = match log.slot() {
             LogSlot::Open(open) => open.disk().image().to_vec(alloc),
             LogSlot::Failed(log) => log.disk().image().to_vec(alloc),
@@ -134,6 +137,11 @@ fn images_of(rt: &impl Abort, alloc: Global, logs: &[StoreLog<MemDisk>]) -> Vec<
             LogSlot::Away => panic!(rt; "a disk is away"),
         };
         assert!(rt; images.push(image.expect(rt, "memory")).is_ok());
+    }
+    let (first, second) = slots.into_disks();
+    for disk in [first, second] {
+        let image = disk.image().to_vec(alloc).expect(rt, "memory");
+        assert!(rt; images.push(image).is_ok());
     }
     images
 }

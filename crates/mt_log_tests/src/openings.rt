@@ -1,10 +1,12 @@
 //! Which log is told where some are not made or opened; and crashes.
 
 use crate::slots;
-use crate::stores::{Failures, Store, closed_logs, create, images_of, mark_of};
+use crate::stores::{Failures, Store, bare_slots, closed_logs, create, images_of, mark_of};
 use mt_disk::MemDisk;
 use mt_rows::{Refusal, Tenants};
-use mt_store_logs::{LogRefusal, StoreLog, Watch, crash_logs, open_logs, recover_watched};
+use mt_store_logs::{
+    LogRefusal, StoreLog, StoreRefusal, Watch, crash_logs, open_logs, recover_store,
+};
 use std::alloc::Global;
 use std::test::Fail;
 
@@ -114,8 +116,9 @@ fn is_refused(
 ) -> bool {
     let tenants = Tenants::new(alloc);
     let mut heard = Heard { logs: 0 };
-    let recovered = recover_watched(alloc, logs, &tenants, &mut heard);
-    recovered.is_err_and(|e| e == refusal) && heard.logs == opened
+    let mut slots = bare_slots(alloc);
+    let recovered = recover_store(alloc, logs, &mut slots, &tenants, &mut heard);
+    recovered.is_err_and(|e| e == StoreRefusal::Logs(refusal)) && heard.logs == opened
 }
 
 // Whether of three logs this one is told, which ends at its first batch: each time they are opened, and by a recovery.

@@ -5,8 +5,9 @@ use mt_disk::MemDisk;
 use mt_log::Front;
 use mt_recover::{LogSlot, Recovered};
 use mt_rows::{Refusal, Tenants};
+use mt_slots::StoreSlots;
 use mt_store_logs::{
-    LogRefusal, StoreLog, crash_logs, create_logs, flush, open_logs, recover_logs,
+    LogRefusal, NoWatch, StoreLog, crash_logs, create_logs, flush, open_logs, recover_store,
 };
 use std::alloc::Global;
 
@@ -16,6 +17,12 @@ pub struct Store {
     pub alloc: Global,
     pub logs: Vec<StoreLog<MemDisk>>,
     pub history: History,
+}
+
+/// Slots on disks without a byte.
+pub fn bare_slots(alloc: Global) -> StoreSlots<MemDisk> {
+    let disk = || MemDisk::new(alloc, Vec::new(alloc), None);
+    StoreSlots::found(disk(), disk())
 }
 
 /// Which two calls of which disk fail, 0 where none does.
@@ -131,12 +138,19 @@ impl Store {
     pub fn recover(&mut self) -> Result<Recovered, Refusal> {
         let mut tenants = Tenants::new(self.alloc);
         tenants.add(7, 8)?;
-        match recover_logs(self.alloc, &mut self.logs, &tenants) {
+        let mut slots = bare_slots(self.alloc);
+        match recover_store(
+            self.alloc,
+            &mut self.logs,
+            &mut slots,
+            &tenants,
+            &mut NoWatch,
+        ) {
             Ok(recovered) => {
                 self.history = History::new(self.alloc, recovered.resume);
                 Ok(recovered)
             }
-            Err(e) => Err(e.refusal),
+            Err(e) => Err(e.refusal()),
         }
     }
 

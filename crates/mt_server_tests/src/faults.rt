@@ -2,7 +2,8 @@
 
 use mt_rows::Refusal;
 use mt_service::ServerFault;
-use mt_store_files::{FolderFault, LogCounts, StoreFault};
+use mt_slots::Slot;
+use mt_store_files::{FolderFault, LogCounts, StoreFault, StoreFile};
 use std::io::{self, ErrorKind};
 use std::test::Fail;
 
@@ -23,8 +24,12 @@ fn faults_name_the_folder(rt: HostRuntime) -> Result<(), Fail> {
             "E4: the store in 'a/b' has pairs of tenant 7, which isn't named: name each of its tenants",
         ),
         (
-            StoreFault::Refused(Some(63), Refusal::Device),
+            StoreFault::Refused(Some(StoreFile::Log(63)), Refusal::Device),
             "E10: 'a/b/wal-63': the device failed: see what the system says of it, and start again",
+        ),
+        (
+            StoreFault::Refused(Some(StoreFile::Slot(Slot::Second)), Refusal::Device),
+            "E10: 'a/b/check-1': the device failed: see what the system says of it, and start again",
         ),
         (
             StoreFault::Refused(None, falls),

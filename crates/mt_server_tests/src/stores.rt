@@ -13,6 +13,7 @@ use mt_options::Options;
 use mt_recover::LogSlot;
 use mt_rows::Tenants;
 use mt_service::run_server;
+use mt_slots::StoreSlots;
 use mt_stored::Store;
 use std::alloc::Global;
 use std::marker::{Brand, Send, Sync};
@@ -40,6 +41,12 @@ pub(crate) fn store_without_logs(rt: &impl Abort, alloc: Global) -> Store<MemDis
     Store::without_logs(alloc, tenants).expect(rt, "memory")
 }
 
+/// Slots on disks without a byte.
+pub(crate) fn bare_slots(alloc: Global) -> StoreSlots<MemDisk> {
+    let disk = || MemDisk::new(alloc, Vec::new(alloc), None);
+    StoreSlots::found(disk(), disk())
+}
+
 // A new store on this disk.
 fn new_store(rt: &impl Abort, alloc: Global, disk: MemDisk) -> Store<MemDisk>
     ensures { result.source.state.answers ≡ 0 }
@@ -48,7 +55,7 @@ fn new_store(rt: &impl Abort, alloc: Global, disk: MemDisk) -> Store<MemDisk>
     assert!(rt; tenants.add(7, 100).is_ok());
     let mut disks = Vec::new(alloc);
     assert!(rt; disks.push(disk).is_ok());
-    match Store::create(alloc, disks, tenants) {
+    match Store::create(alloc, disks, bare_slots(alloc), tenants) {
         Ok(store) => store,
         Err(_) => panic!(rt; "no store is made"),
     }
@@ -64,7 +71,7 @@ fn recovered(rt: &impl Abort, alloc: Global, image: &[u8]) -> Store<MemDisk>
     let disk = MemDisk::with_image(alloc, image, Vec::new(alloc), None).expect(rt, "memory");
     let mut disks = Vec::new(alloc);
     assert!(rt; disks.push(disk).is_ok());
-    match Store::recover(alloc, disks, tenants) {
+    match Store::recover(alloc, disks, bare_slots(alloc), tenants) {
         Ok(store) => store,
         Err(_) => panic!(rt; "no store is recovered"),
     }
@@ -72,7 +79,7 @@ fn recovered(rt: &impl Abort, alloc: Global, image: &[u8]) -> Store<MemDisk>
 
 // What the only log of a store has on its disk.
 fn image_of(rt: &impl Abort, alloc: Global, store: Store<MemDisk>) -> Vec<u8> {
-    let (_, logs) = store.into_parts();
+    let (_, logs, _) = store.into_parts();
     assert_eq!(rt; logs.len(), 1);
     match logs[0].slot() {
         LogSlot::Open(log) => log.disk().image().to_vec(alloc).expect(rt, "memory"),

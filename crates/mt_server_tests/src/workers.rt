@@ -5,7 +5,7 @@ ghost use Rattle.mt_state.specs.Begins.{HaveNoPairs};
 
 use crate::clients::{FOUND, GET, NEW, OPEN, OPENED, PUT, SETTLE, connected, is_told};
 use crate::servers::TWO_WORKERS;
-use crate::stores::{no_tenants, serve_all};
+use crate::stores::{bare_slots, no_tenants, serve_all};
 use crate::words::options_of;
 use log::Log;
 use mt_disk::MemDisk;
@@ -41,7 +41,7 @@ fn new_store(rt: &impl Abort, alloc: Global) -> Store<MemDisk>
         assert!(rt; disks.push(disk).is_ok());
     }
     assert!(rt; !disks.is_empty() && disks.len() <= 64);
-    match Store::create(alloc, disks, tenants) {
+    match Store::create(alloc, disks, bare_slots(alloc), tenants) {
         Ok(store) => store,
         Err(_) => panic!(rt; "no store is made"),
     }
@@ -84,7 +84,7 @@ fn closed_again(
     alloc: Global,
     store: Store<MemDisk>,
 ) -> Result<Vec<StoreLog<MemDisk>>, AllocError> {
-    let (_, logs) = store.into_parts();
+    let (_, logs, _) = store.into_parts();
     let mut closed = Vec::new(alloc);
     for log in &logs {
         let image = match log.slot() {

@@ -1,12 +1,15 @@
 -- What is opened for a server, and why nothing is.
-use Rattle.std.specs.Prelude.{◌≡◌, ◌⊎◌, ℕ, Bool, true, false, List, [], Option, Some, None, length}
+use Rattle.std.specs.{Prelude.{◌≡◌, ◌⊎◌, ℕ, Bool, true, false, List, [], Option, Some, None, length}, Option.option_map}
 use Rattle.mt_rows.specs.Accounts.{Accounts}
 use Rattle.mt_disk.specs.{Disk.{DiskState, found_with}, declared.cached.CachedDisk.CachedDisk, declared.file.OsFile.OsFile}
 use Rattle.mt_state.specs.{Views.StateView, Begins.new_state}
 use Rattle.mt_options.specs.{declared.options.Options.Options, declared.options.StorePlace.StorePlace, declared.tenants.TenantQuota.TenantQuota}
 use Rattle.mt_store_files.specs.{declared.fault.StoreFault.StoreFault, declared.fault.StoreFault.TheVariants.{Refused as RefusedStore, LogCount}}
-use Rattle.mt_store_files.specs.{declared.fault.FolderFault.FolderFault, Faults.{IsOfFolder, IsOfFiles}}
-use Rattle.mt_store_logs.specs.{declared.fault.LogRefusal.LogRefusal, declared.store_log.StoreLog.StoreLog}
+use Rattle.mt_store_files.specs.{declared.fault.FolderFault.FolderFault, Faults.{IsOfFolder, IsOfFiles, IsOfSlots}}
+use Rattle.mt_store_files.specs.declared.names.StoreFile.TheVariants.{Log, Slot}
+use Rattle.mt_slots.specs.{declared.store_slots.StoreSlots.StoreSlots, Places.refusal_for}
+use Rattle.mt_store_logs.specs.{declared.fault.StoreRefusal.StoreRefusal, declared.fault.StoreRefusal.TheVariants.{Logs as OfLogs, Slot as OfSlot}}
+use Rattle.mt_store_logs.specs.{declared.store_log.StoreLog.StoreLog, Recovers.refusal_in}
 use Rattle.mt_stored.specs.Stores.{IsNewStore, IsNotMade, IsRecoveredStore, IsNotRecoveredStore}
 use Rattle.mt_service.specs.{declared.served_store.OpenStore.OpenStore, declared.faults.ServerFault.ServerFault}
 use Rattle.mt_service.specs.{declared.faults.ServerFault.TheVariants.{Refused, Memory, Store as StoreFaulty}, Accounts.{AreServable, AreAccountsOf}}
@@ -26,50 +29,60 @@ holds file = found_with []
 abbrev pub failures : FileDisk → ℕ
 failures file = file.1
 
--- a store that was made anew on so many files, or recovered from them: its state and its logs
-abbrev pub IsMadeOn : ℕ → Accounts → StateView → List (StoreLog FileDisk) → Type 0
-IsMadeOn workers accounts v logs = (files : List FileDisk) × (length files ≡ workers) × IsNewStore is_honest holds failures files accounts v logs
+-- the slots of a store that has some
+abbrev pub FileSlots : Type 0
+FileSlots = Option (StoreSlots FileDisk)
 
-abbrev pub IsRecoveredFrom : ℕ → Accounts → StateView → List (StoreLog FileDisk) → Type 0
-IsRecoveredFrom workers accounts v logs = (files : List FileDisk) × (length files ≡ workers) × IsRecoveredStore is_honest holds failures files accounts v logs
+-- a store that was made anew on so many files and two slots, or recovered from them: its state, its logs and its slots
+abbrev pub IsMadeOn : ℕ → Accounts → StateView → List (StoreLog FileDisk) → FileSlots → Type 0
+IsMadeOn workers accounts v logs slots =
+    (files : List FileDisk) × (bare : StoreSlots FileDisk) × (length files ≡ workers) × IsNewStore is_honest holds failures files bare accounts v logs slots
 
-abbrev pub IsAtPlace : Bool → ℕ → Accounts → StateView → List (StoreLog FileDisk) → Type 0
-IsAtPlace true workers accounts v logs = IsMadeOn workers accounts v logs
-IsAtPlace false workers accounts v logs = IsRecoveredFrom workers accounts v logs
+abbrev pub IsRecoveredFrom : ℕ → Accounts → StateView → List (StoreLog FileDisk) → FileSlots → Type 0
+IsRecoveredFrom workers accounts v logs slots =
+    (files : List FileDisk) × (found : StoreSlots FileDisk) × (length files ≡ workers) × IsRecoveredStore is_honest holds failures files found accounts v logs slots
+
+abbrev pub IsAtPlace : Bool → ℕ → Accounts → StateView → List (StoreLog FileDisk) → FileSlots → Type 0
+IsAtPlace true workers accounts v logs slots = IsMadeOn workers accounts v logs slots
+IsAtPlace false workers accounts v logs slots = IsRecoveredFrom workers accounts v logs slots
 
 -- the store that the options name: none, so that the state is new and has no logs; one made anew; or one recovered
-abbrev pub IsNamed : Option StorePlace → ℕ → Accounts → StateView → List (StoreLog FileDisk) → Type 0
-IsNamed None workers accounts v logs = v ≡ new_state 0 accounts
-IsNamed (Some place) workers accounts v logs = IsAtPlace place.create workers accounts v logs
+abbrev pub IsNamed : Option StorePlace → ℕ → Accounts → StateView → List (StoreLog FileDisk) → FileSlots → Type 0
+IsNamed None workers accounts v logs slots = v ≡ new_state 0 accounts
+IsNamed (Some place) workers accounts v logs slots = IsAtPlace place.create workers accounts v logs slots
 
 -- It is that store, for the tenants that are named, and no answer was taken of it.
 pub record IsOpened (options : Options) (open_store : OpenStore) : Type 0 where
   pub accounts : Accounts
   pub tenants : AreAccountsOf (length options.tenants.items) options.tenants.items accounts
-  pub named : IsNamed options.store options.workers accounts open_store.store.source.state open_store.store.logs.items
+  pub named : IsNamed options.store options.workers accounts open_store.store.source.state open_store.store.logs.items open_store.store.slots
   pub untaken : open_store.store.source.state.answers ≡ 0
+
+-- the refusal of a store as it is told: with the file that is the cause, if one is
+abbrev pub fault_of : StoreRefusal → StoreFault
+fault_of (OfLogs e) = RefusedStore (option_map Log e.log) e.refusal
+fault_of (OfSlot e) = RefusedStore (Some (Slot e.slot)) (refusal_for e.cause)
 
 -- why a store is not made on its files, or not recovered from them
 abbrev pub IsOfMaking : ℕ → StoreFault → Type 0
-IsOfMaking workers (RefusedStore log refusal) = IsNotMade workers (record { log = log; refusal = refusal })
-IsOfMaking workers fault = ⊥
+IsOfMaking workers fault = (why : StoreRefusal) × IsNotMade workers why × (fault ≡ fault_of why)
 
-abbrev pub IsNotRecoveredFrom : ℕ → Accounts → LogRefusal → Type 0
-IsNotRecoveredFrom workers accounts why = (files : List FileDisk) × (length files ≡ workers) × IsNotRecoveredStore is_honest holds failures files accounts why
+abbrev pub IsNotRecoveredFrom : ℕ → Accounts → StoreRefusal → Type 0
+IsNotRecoveredFrom workers accounts why =
+    (files : List FileDisk) × (found : StoreSlots FileDisk) × (length files ≡ workers) × IsNotRecoveredStore is_honest holds failures files found accounts why
 
--- A refusal of a store's logs is told as it is; or, if they are no set, with how many workers asked for them.
-abbrev pub Tells : ℕ → LogRefusal → StoreFault → Type 0
-Tells workers why (RefusedStore log refusal) = why ≡ record { log = log; refusal = refusal }
-Tells workers why (LogCount counts) = (why.refusal ≡ refusals.LogCount) × (counts.workers ≡ workers)
-Tells workers why fault = ⊥
+-- A refusal of a store is told as it is; or, if its logs are no set, with how many workers asked for them.
+abbrev pub Tells : ℕ → StoreRefusal → StoreFault → Type 0
+Tells workers why (LogCount counts) = (refusal_in why ≡ refusals.LogCount) × (counts.workers ≡ workers)
+Tells workers why fault = fault ≡ fault_of why
 
 abbrev pub IsOfRecovery : ℕ → Accounts → StoreFault → Type 0
-IsOfRecovery workers accounts fault = (why : LogRefusal) × IsNotRecoveredFrom workers accounts why × Tells workers why fault
+IsOfRecovery workers accounts fault = (why : StoreRefusal) × IsNotRecoveredFrom workers accounts why × Tells workers why fault
 
 -- why the store at a place is not opened: its folder, its files, or what they hold
 abbrev pub IsOfPlace : Bool → ℕ → Accounts → StoreFault → Type 0
-IsOfPlace true workers accounts fault = IsOfFolder fault ⊎ IsOfFiles 64 fault ⊎ IsOfMaking workers fault
-IsOfPlace false workers accounts fault = IsOfFolder fault ⊎ IsOfFiles workers fault ⊎ IsOfRecovery workers accounts fault
+IsOfPlace true workers accounts fault = IsOfFolder fault ⊎ IsOfFiles 64 fault ⊎ IsOfSlots fault ⊎ IsOfMaking workers fault
+IsOfPlace false workers accounts fault = IsOfFolder fault ⊎ IsOfFiles workers fault ⊎ IsOfSlots fault ⊎ IsOfRecovery workers accounts fault
 
 -- and the fault names the place's folder
 abbrev pub IsOfStore : Option StorePlace → ℕ → List TenantQuota → FolderFault → Type 0

@@ -16,6 +16,7 @@ use mt_book::{Book, Pass, gather, open_pass};
 use mt_crew::{Crew, CrewFault, Served, others_of, run_crew};
 use mt_disk::Disk;
 use mt_options::{Options, TenantQuota};
+use mt_slots::StoreSlots;
 use mt_store_logs::StoreLog;
 use mt_stored::{Keeper, SharedLogs, Store, locked_logs, unlocked_logs};
 use mt_streams::{Sink, write_whole};
@@ -100,11 +101,11 @@ fn serve_store<
     ensures settled { IfOk result (λ served. IsSettled served.1.source.state served.1.logs.items) }
     ensures fault { IfErr result IsOfServing }
 {
-    let (state, logs) = store.into_parts();
+    let (state, logs, slots) = store.into_parts();
     let logs = locked_logs(alloc, logs)?;
     let book = Mutex::new(Book::<L>::new(blank, state));
     let served = serve_all(rt, alloc, &book, &logs, listener, options);
-    let store = settled(rt, alloc, book, logs)?;
+    let store = settled(rt, alloc, book, logs, slots)?;
     Ok((served?, store))
 }
 
@@ -114,12 +115,13 @@ fn settled<L: Ledger, R: Wait + Log, D: Disk + Drop>(
     alloc: Global,
     book: Mutex<Book<L>>,
     logs: Vec<Mutex<StoreLog<D>>>,
+    slots: Option<StoreSlots<D>>,
 ) -> Result<Store<D>, ServerFault>
     ensures settled { IfOk result (λ store. IsSettled store.source.state store.logs.items) }
     ensures fault { IfErr result IsOfServing }
 {
     let logs = unlocked_logs(alloc, logs)?;
-    let Some(mut store) = Store::joined(book.into_inner().into_state(), logs) else {
+    let Some(mut store) = Store::joined(book.into_inner().into_state(), logs, slots) else {
         return Err(ServerFault::Passes);
     };
     match store.settle_last(rt, alloc) {

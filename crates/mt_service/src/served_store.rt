@@ -2,8 +2,7 @@
 
 ghost use Rattle.std.specs.Prelude.{◌≡◌, ◌≤◌, true, false, IfOk, IfErr};
 ghost use Rattle.mt_state.specs.Begins.{HaveNoPairs};
-ghost use Rattle.mt_store_files.specs.declared.fault.StoreFault.TheVariants.{Refused as RefusedStore};
-ghost use Rattle.mt_service.specs.ServedStore.{IsOpened, IsOfOpening, IsMadeOn, IsRecoveredFrom, IsOfPlace, IsAtPlace, Tells};
+ghost use Rattle.mt_service.specs.ServedStore.{IsOpened, IsOfOpening, IsMadeOn, IsRecoveredFrom, IsOfPlace, IsAtPlace, fault_of, Tells};
 
 use crate::accounts::accounts_of;
 use crate::faults::ServerFault;
@@ -12,8 +11,9 @@ use log::Log;
 use mt_disk::FileDisk;
 use mt_options::{Options, StorePlace};
 use mt_rows::{Refusal, Tenants};
-use mt_store_files::{FolderFault, StoreFault, StoreFolder};
-use mt_store_logs::LogRefusal;
+use mt_slots::SlotFault;
+use mt_store_files::{FolderFault, StoreFault, StoreFile, StoreFolder};
+use mt_store_logs::{LogRefusal, StoreRefusal};
 use mt_stored::Store;
 use std::alloc::Global;
 use std::fs::File;
@@ -69,7 +69,7 @@ fn open_place<R: Files<File = File> + Clock + Log>(
     requires some { 1 ≤ workers }
     requires few { workers ≤ 64 }
     requires empty { HaveNoPairs tenants }
-    ensures ok { IfOk result (λ opened. IsAtPlace place.now.create workers tenants opened.store.source.state opened.store.logs.items) }
+    ensures ok { IfOk result (λ opened. IsAtPlace place.now.create workers tenants opened.store.source.state opened.store.logs.items opened.store.slots) }
     ensures untaken { IfOk result (λ opened. opened.store.source.state.answers ≡ 0) }
     ensures err { IfErr result (IsOfPlace place.now.create workers tenants) }
 {
@@ -92,13 +92,14 @@ fn make<R: Files<File = File>>(
     requires some { 1 ≤ workers }
     requires few { workers ≤ 64 }
     requires empty { HaveNoPairs tenants }
-    ensures ok { IfOk result (λ opened. IsMadeOn workers tenants opened.store.source.state opened.store.logs.items) }
+    ensures ok { IfOk result (λ opened. IsMadeOn workers tenants opened.store.source.state opened.store.logs.items opened.store.slots) }
     ensures untaken { IfOk result (λ opened. opened.store.source.state.answers ≡ 0) }
     ensures err { IfErr result (IsOfPlace true workers tenants) }
 {
     let folder = StoreFolder::make(rt, alloc, folder)?;
     let files = folder.create_logs(rt, alloc, workers)?;
-    match Store::create(alloc, files, tenants) {
+    let slots = folder.create_slots(rt, alloc)?;
+    match Store::create(alloc, files, slots, tenants) {
         Ok(store) => Ok(OpenStore {
             store,
             folder: Some(folder),
@@ -117,15 +118,16 @@ fn recover<R: Files<File = File> + Clock + Log>(
 ) -> Result<OpenStore, StoreFault>
     requires few { workers ≤ 64 }
     requires empty { HaveNoPairs tenants }
-    ensures ok { IfOk result (λ opened. IsRecoveredFrom workers tenants opened.store.source.state opened.store.logs.items) }
+    ensures ok { IfOk result (λ opened. IsRecoveredFrom workers tenants opened.store.source.state opened.store.logs.items opened.store.slots) }
     ensures untaken { IfOk result (λ opened. opened.store.source.state.answers ≡ 0) }
     ensures err { IfErr result (IsOfPlace false workers tenants) }
 {
     let folder = StoreFolder::open(rt, alloc, folder)?;
     let mut files = folder.open_logs(rt, alloc, workers)?;
+    let slots = folder.open_slots(rt, alloc)?;
     let mut progress = Progress::new(rt);
     progress.begin(&mut files);
-    let recovered = Store::recover_watched(alloc, files, tenants, &mut progress);
+    let recovered = Store::recover_watched(alloc, files, slots, tenants, &mut progress);
     progress.end();
     match recovered {
         Ok(store) => Ok(OpenStore {
@@ -136,24 +138,36 @@ fn recover<R: Files<File = File> + Clock + Log>(
     }
 }
 
-// What a refusal of a store's logs is told as.
-fn refused(why: LogRefusal) -> StoreFault
-    ensures { result ≡ RefusedStore why.log why.refusal }
+// What a refusal of a store is told as.
+fn refused(why: StoreRefusal) -> StoreFault
+    ensures { result ≡ fault_of why }
 {
-    StoreFault::Refused(why.log, why.refusal)
+    match why {
+        StoreRefusal::Logs(
+            LogRefusal {
+                log: Some(worker),
+                refusal,
+            },
+        ) => StoreFault::Refused(Some(StoreFile::Log(worker)), refusal),
+        StoreRefusal::Logs(LogRefusal { log: None, refusal }) => StoreFault::Refused(None, refusal),
+        StoreRefusal::Slot(SlotFault { slot, cause }) => StoreFault::Refused(
+            Some(StoreFile::Slot(slot)),
+            cause.refusal(),
+        ),
+    }
 }
 
-// The same, of logs that so many workers asked for. If they are no set, the folder's logs are counted.
+// The same, of a store whose logs so many workers asked for. If they are no set, the folder's logs are counted.
 fn not_recovered<R: Files<File = File>>(
     rt: &R,
     alloc: Global,
     folder: &StoreFolder,
     workers: u8,
-    why: LogRefusal,
+    why: StoreRefusal,
 ) -> StoreFault
     ensures { Tells workers why result }
 {
-    match why.refusal {
+    match why.refusal() {
         Refusal::LogCount => match folder.count_logs(rt, alloc, workers) {
             Ok(counts) => StoreFault::LogCount(counts),
             Err(_) => refused(why),

@@ -1,7 +1,7 @@
 -- Why a store isn't served: the refusal, the exit status, and which calls may tell what.
 use Rattle.std.specs.Prelude.{◌≡◌, ℕ, ◌<◌, Some, None}
 use Rattle.mt_rows.specs.declared.refusal.Refusal.{Refusal}
-use Rattle.mt_store_files.specs.declared.fault.StoreFault.{StoreFault}
+use Rattle.mt_store_files.specs.{declared.names.StoreFile.StoreFile, declared.names.StoreFile.TheVariants.{Log, Slot}, declared.fault.StoreFault.StoreFault}
 use Rattle.mt_store_files.specs.declared.fault.StoreFault.TheVariants.{InUse, NoFolder, NoLog, System, Memory, LogCount, Refused}
 use Rattle.mt_rows.specs.declared.refusal.Refusal.TheVariants as refusals
 
@@ -34,8 +34,23 @@ IsOfFolder fault = ⊥
 -- why the files of so many logs aren't opened or made; of one that is missing it is told how many were asked for
 abbrev pub IsOfFiles : ℕ → StoreFault → Type 0
 IsOfFiles logs (NoLog worker counts) = (worker < logs) × (counts.workers ≡ logs)
-IsOfFiles logs (System (Some worker) error) = worker < logs
+IsOfFiles logs (System (Some (Log worker)) error) = worker < logs
 IsOfFiles logs (System None error) = Unit {0}
-IsOfFiles logs (Refused (Some worker) refusals.Device) = worker < logs
+IsOfFiles logs (Refused (Some (Log worker)) refusals.Device) = worker < logs
 IsOfFiles logs Memory = Unit {0}
 IsOfFiles logs fault = ⊥
+
+-- why the files of both slots aren't opened or made
+abbrev pub IsOfSlots : StoreFault → Type 0
+IsOfSlots (System (Some (Slot slot)) error) = Unit {0}
+IsOfSlots (System None error) = Unit {0}
+IsOfSlots (Refused (Some (Slot slot)) refusals.Device) = Unit {0}
+IsOfSlots Memory = Unit {0}
+IsOfSlots fault = ⊥
+
+-- why one file isn't opened, made or removed
+abbrev pub IsOfFile : StoreFile → StoreFault → Type 0
+IsOfFile file (System (Some other) error) = other ≡ file
+IsOfFile file (Refused (Some other) refusals.Device) = other ≡ file
+IsOfFile file Memory = Unit {0}
+IsOfFile file fault = ⊥

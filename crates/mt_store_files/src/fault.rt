@@ -3,6 +3,7 @@
 ghost use Rattle.std.specs.Prelude.{◌≡◌};
 ghost use Rattle.mt_store_files.specs.{Faults.{refusal_of, status_of}, declared.fault.StoreFault.TheVariants.{Memory as MemoryFault}};
 
+use crate::names::StoreFile;
 use mt_rows::Refusal;
 use std::alloc::{AllocError, AllocFailed};
 use std::error::Error;
@@ -24,14 +25,14 @@ pub enum StoreFault {
     NoFolder,
     /// The file of this worker's log is missing.
     NoLog(u8, LogCounts),
-    /// The system failed, at the file of this worker's log or else at the folder.
-    System(Option<u8>, io::Error),
+    /// The system failed, at this file or else at the folder.
+    System(Option<StoreFile>, io::Error),
     /// A growth was refused.
     Memory,
     /// The logs aren't those that they name themselves.
     LogCount(LogCounts),
-    /// What stands in the file of this worker's log was refused, or that of all logs together.
-    Refused(Option<usize>, Refusal),
+    /// What stands in this file was refused, or that of all logs together.
+    Refused(Option<StoreFile>, Refusal),
 }
 
 impl StoreFault {
@@ -95,18 +96,15 @@ impl fmt::Display for LogCounts {
     }
 }
 
-// The file of a worker's log, or the folder.
+// A file, or the folder.
 #[derive(Clone, Copy)]
-struct Place<'a>(&'a str, Option<usize>);
+struct Place<'a>(&'a str, Option<StoreFile>);
 
 impl fmt::Display for Place<'_> {
     fn fmt<W: fmt::Write>(&self, f: &mut fmt::Formatter<W>) -> fmt::Result {
-        let Place(folder, log) = *self;
-        match log {
-            Some(worker) => {
-                let (tens, ones) = (worker / 10, worker % 10);
-                write!(f, "'{folder}/wal-{tens}{ones}'")
-            }
+        let Place(folder, file) = *self;
+        match file {
+            Some(file) => write!(f, "'{folder}/{file}'"),
             None => write!(f, "the folder '{folder}'"),
         }
     }
@@ -126,15 +124,15 @@ impl fmt::Display for FolderFault {
                 "{number}: there is no folder '{folder}': name the store's, or make a new store by --create"
             ),
             StoreFault::NoLog(worker, counts) => {
-                let place = Place(folder, Some(usize::from(*worker)));
+                let place = Place(folder, Some(StoreFile::Log(usize::from(*worker))));
                 write!(
                     f,
                     "{number}: {place} is missing; {counts}: {}",
                     remedy(*counts)
                 )
             }
-            StoreFault::System(worker, error) => {
-                let place = Place(folder, worker.map(|worker| usize::from(worker)));
+            StoreFault::System(file, error) => {
+                let place = Place(folder, *file);
                 write!(f, "{number}: {place}: {error}")
             }
             StoreFault::Memory => write!(f, "{number}: out of memory"),
@@ -143,7 +141,7 @@ impl fmt::Display for FolderFault {
                 "{number}: the logs of '{folder}' aren't all of one store; {counts}: {}",
                 remedy(*counts)
             ),
-            StoreFault::Refused(log, refusal) => told(f, folder, *log, *refusal),
+            StoreFault::Refused(file, refusal) => told(f, folder, *file, *refusal),
         }
     }
 }
@@ -163,10 +161,10 @@ fn remedy(counts: LogCounts) -> &'static str {
 fn told<W: fmt::Write>(
     f: &mut fmt::Formatter<W>,
     folder: &str,
-    log: Option<usize>,
+    file: Option<StoreFile>,
     refusal: Refusal,
 ) -> fmt::Result {
-    let place = Place(folder, log);
+    let place = Place(folder, file);
     match refusal {
         Refusal::Memory => write!(f, "{refusal}: out of memory"),
         Refusal::NoTenant(tenant) => write!(
@@ -182,7 +180,7 @@ fn told<W: fmt::Write>(
             "{refusal}: {place} is no log from byte {offset} on: put all files back from one backup"
         ),
         Refusal::StampsFall { number, stamp } => {
-            let place = Place(folder, Some(usize::from(number)));
+            let place = Place(folder, Some(StoreFile::Log(usize::from(number))));
             write!(
                 f,
                 "{refusal}: {place} doesn't go with the other logs at step {stamp}: put all files back from one backup"

@@ -1,12 +1,13 @@
 //! A store's folder, and its files as disks.
 
-ghost use Rattle.std.specs.Prelude.{◌≡◌, ◌<◌, ◌≤◌, ℕ, IfOk, IfErr, vec_len};
-ghost use Rattle.mt_store_files.specs.Faults.{IsOfFolder, IsOfFiles};
+ghost use Rattle.std.specs.Prelude.{◌≡◌, ◌<◌, ◌≤◌, IfOk, IfErr, vec_len};
+ghost use Rattle.mt_store_files.specs.Faults.{IsOfFolder, IsOfFiles, IsOfSlots, IsOfFile};
 
 use crate::fault::{LogCounts, StoreFault};
-use crate::names::{log_path, parent_path};
+use crate::names::{StoreFile, file_path, parent_path};
 use mt_disk::{FileDisk, OsFile};
 use mt_rows::Refusal;
+use mt_slots::{Slot, StoreSlots};
 use std::alloc::{AllocError, Global};
 use std::fs::{self, File, OpenOptions, TryLockError};
 use std::io::{self, ErrorKind};
@@ -77,7 +78,12 @@ impl StoreFolder {
     {
         let mut disks = Vec::new(alloc);
         for worker in 0..logs {
-            match open_log(rt, alloc, self.path.as_str(), worker)? {
+            match open_file(
+                rt,
+                alloc,
+                self.path.as_str(),
+                StoreFile::Log(usize::from(worker)),
+            )? {
                 Some(disk) => disks.push(disk)?,
                 None => {
                     let counts = self.count_logs(rt, alloc, logs)?;
@@ -101,7 +107,11 @@ impl StoreFolder {
     {
         let mut logs = 0;
         for worker in 0..MAX_LOGS {
-            let path = log_path(alloc, self.path.as_str(), worker)?;
+            let path = file_path(
+                alloc,
+                self.path.as_str(),
+                StoreFile::Log(usize::from(worker)),
+            )?;
             if fs::exists(rt, path.as_str()).unwrap_or(false) {
                 logs += 1;
             }
@@ -122,14 +132,59 @@ impl StoreFolder {
         ensures fault { IfErr result (IsOfFiles 64) }
     {
         for worker in 0..MAX_LOGS {
-            remove_log(rt, alloc, self.path.as_str(), worker)?;
+            remove_file(
+                rt,
+                alloc,
+                self.path.as_str(),
+                StoreFile::Log(usize::from(worker)),
+            )?;
         }
         let mut disks = Vec::new(alloc);
         for worker in 0..logs {
-            disks.push(create_log(rt, alloc, self.path.as_str(), worker)?)?;
+            disks.push(create_file(
+                rt,
+                alloc,
+                self.path.as_str(),
+                StoreFile::Log(usize::from(worker)),
+            )?)?;
         }
         match self.lock.sync_all() {
             Ok(()) => Ok(disks),
+            Err(error) => Err(StoreFault::System(None, error)),
+        }
+    }
+
+    /// The files of both slots made anew, without a byte. What stood in them is lost. Behind an error the folder
+    /// may have any of the files.
+    pub fn create_slots<R: Files<File = File>>(
+        &self,
+        rt: &R,
+        alloc: Global,
+    ) -> Result<StoreSlots<FileDisk>, StoreFault>
+        ensures fault { IfErr result IsOfSlots }
+    {
+        let folder = self.path.as_str();
+        let first = create_file(rt, alloc, folder, StoreFile::Slot(Slot::First))?;
+        let second = create_file(rt, alloc, folder, StoreFile::Slot(Slot::Second))?;
+        match self.lock.sync_all() {
+            Ok(()) => Ok(StoreSlots::found(first, second)),
+            Err(error) => Err(StoreFault::System(None, error)),
+        }
+    }
+
+    /// The files of both slots, as they are found. One that isn't there is made, without a byte.
+    pub fn open_slots<R: Files<File = File>>(
+        &self,
+        rt: &R,
+        alloc: Global,
+    ) -> Result<StoreSlots<FileDisk>, StoreFault>
+        ensures fault { IfErr result IsOfSlots }
+    {
+        let folder = self.path.as_str();
+        let first = open_or_make(rt, alloc, folder, StoreFile::Slot(Slot::First))?;
+        let second = open_or_make(rt, alloc, folder, StoreFile::Slot(Slot::Second))?;
+        match self.lock.sync_all() {
+            Ok(()) => Ok(StoreSlots::found(first, second)),
             Err(error) => Err(StoreFault::System(None, error)),
         }
     }
@@ -140,74 +195,89 @@ fn synced<R: Files<File = File>>(rt: &R, path: &str) -> io::Result<()> {
     File::open(rt, path)?.sync_all()
 }
 
-// How a log's file is opened.
-fn for_logs() -> OpenOptions {
+// How a file is opened.
+fn for_files() -> OpenOptions {
     let mut options = File::options();
     options.read(true).write(true);
     options
 }
 
-// The file of a worker's log as a disk: as the device has it, and not as another process left it in the
-// memory of the system.
-fn found(alloc: Global, worker: u8, file: File) -> Result<FileDisk, StoreFault>
-    ensures fault { (logs : ℕ) → worker < logs → IfErr result (IsOfFiles logs) }
+// A file as a disk: as the device has it, and not as another process left it in the memory of the system.
+fn found(alloc: Global, name: StoreFile, file: File) -> Result<FileDisk, StoreFault>
+    ensures fault { IfErr result (IsOfFile name) }
 {
     match FileDisk::found(alloc, OsFile::new(file)) {
         Ok(disk) => Ok(disk),
-        Err(_) => Err(StoreFault::Refused(Some(usize::from(worker)), Refusal::Device)),
+        Err(_) => Err(StoreFault::Refused(Some(name), Refusal::Device)),
     }
 }
 
-// The file of a worker's log, if it is there.
-fn open_log<R: Files<File = File>>(
+// A file, if it is there.
+fn open_file<R: Files<File = File>>(
     rt: &R,
     alloc: Global,
     folder: &str,
-    worker: u8,
+    name: StoreFile,
 ) -> Result<Option<FileDisk>, StoreFault>
-    ensures fault { (logs : ℕ) → worker < logs → IfErr result (IsOfFiles logs) }
+    ensures fault { IfErr result (IsOfFile name) }
 {
-    let path = log_path(alloc, folder, worker)?;
-    match for_logs().open(rt, path.as_str()) {
-        Ok(file) => Ok(Some(found(alloc, worker, file)?)),
+    let path = file_path(alloc, folder, name)?;
+    match for_files().open(rt, path.as_str()) {
+        Ok(file) => Ok(Some(found(alloc, name, file)?)),
         Err(error) if error.kind() == ErrorKind::NotFound => Ok(None),
-        Err(error) => Err(StoreFault::System(Some(worker), error)),
+        Err(error) => Err(StoreFault::System(Some(name), error)),
     }
 }
 
-// The file of a worker's log, made anew.
-fn create_log<R: Files<File = File>>(
+// A file, which is made without a byte if it isn't there.
+fn open_or_make<R: Files<File = File>>(
     rt: &R,
     alloc: Global,
     folder: &str,
-    worker: u8,
+    name: StoreFile,
 ) -> Result<FileDisk, StoreFault>
-    ensures fault { (logs : ℕ) → worker < logs → IfErr result (IsOfFiles logs) }
+    ensures fault { IfErr result (IsOfFile name) }
 {
-    let path = log_path(alloc, folder, worker)?;
-    match for_logs()
+    let path = file_path(alloc, folder, name)?;
+    match for_files().create(true).open(rt, path.as_str()) {
+        Ok(file) => found(alloc, name, file),
+        Err(error) => Err(StoreFault::System(Some(name), error)),
+    }
+}
+
+// A file, made anew.
+fn create_file<R: Files<File = File>>(
+    rt: &R,
+    alloc: Global,
+    folder: &str,
+    name: StoreFile,
+) -> Result<FileDisk, StoreFault>
+    ensures fault { IfErr result (IsOfFile name) }
+{
+    let path = file_path(alloc, folder, name)?;
+    match for_files()
         .create(true)
         .truncate(true)
         .open(rt, path.as_str())
     {
-        Ok(file) => found(alloc, worker, file),
-        Err(error) => Err(StoreFault::System(Some(worker), error)),
+        Ok(file) => found(alloc, name, file),
+        Err(error) => Err(StoreFault::System(Some(name), error)),
     }
 }
 
-// Removes the file of a worker's log, if there is one.
-fn remove_log<R: Files<File = File>>(
+// Removes a file, if there is one.
+fn remove_file<R: Files<File = File>>(
     rt: &R,
     alloc: Global,
     folder: &str,
-    worker: u8,
+    name: StoreFile,
 ) -> Result<(), StoreFault>
-    ensures fault { (logs : ℕ) → worker < logs → IfErr result (IsOfFiles logs) }
+    ensures fault { IfErr result (IsOfFile name) }
 {
-    let path = log_path(alloc, folder, worker)?;
+    let path = file_path(alloc, folder, name)?;
     match fs::remove_file(rt, path.as_str()) {
         Err(error) if error.kind() != ErrorKind::NotFound => {
-            Err(StoreFault::System(Some(worker), error))
+            Err(StoreFault::System(Some(name), error))
         }
         _ => Ok(()),
     }

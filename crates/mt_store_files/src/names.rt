@@ -1,16 +1,43 @@
-//! The names of the files.
+//! The files of a store, and their names.
 
 ghost use Rattle.std.specs.Prelude.{◌≡◌, ◌++◌, codes, IfOk};
-ghost use Rattle.mt_store_files.specs.Names.{log_name};
+ghost use Rattle.mt_store_files.specs.Names.{file_name};
 
+use mt_slots::Slot;
 use std::alloc::{AllocError, Global};
+use std::fmt;
 
-/// The path of the file of a worker's log: `wal-` and the worker in two digits, in the folder.
-pub(crate) fn log_path(alloc: Global, folder: &str, worker: u8) -> Result<String, AllocError>
-    ensures { IfOk result (λ path. path.bytes.items ≡ folder.now ++ codes "/" ++ log_name worker) }
+/// A file of a store. It is printed as its name.
+#[derive(Clone, Copy, Debug, PartialEq, Eq)]
+pub enum StoreFile {
+    /// The log of a worker: `wal-` and the worker in two digits.
+    Log(usize),
+    /// A slot of the store's checkpoints: `check-0` or `check-1`.
+    Slot(Slot),
+}
+
+impl fmt::Display for StoreFile {
+    ghost use Rattle.std.specs.Prelude.{Some};
+
+    ghost output = { λ file. Some (file_name file) };
+
+    fn fmt<W: fmt::Write>(&self, f: &mut fmt::Formatter<W>) -> fmt::Result {
+        match self {
+            StoreFile::Log(worker) => {
+                let (tens, ones) = (worker / 10, worker % 10);
+                write!(f, "wal-{tens}{ones}")
+            }
+            StoreFile::Slot(Slot::First) => f.write_str("check-0"),
+            StoreFile::Slot(Slot::Second) => f.write_str("check-1"),
+        }
+    }
+}
+
+/// The path of a file, in the folder.
+pub(crate) fn file_path(alloc: Global, folder: &str, file: StoreFile) -> Result<String, AllocError>
+    ensures { IfOk result (λ path. path.bytes.items ≡ folder.now ++ codes "/" ++ file_name file) }
 {
-    let (tens, ones) = (worker / 10, worker % 10);
-    Ok(format!(in alloc; "{folder}/wal-{tens}{ones}")?)
+    Ok(format!(in alloc; "{folder}/{file}")?)
 }
 
 /// The path of the folder in which a folder stands.

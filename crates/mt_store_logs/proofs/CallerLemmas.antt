@@ -15,8 +15,9 @@ use Rattle.mt_recover.specs.{declared.resuming.LogSlot.LogSlot, declared.resumin
 use Rattle.mt_recover.specs.Resumes.{HasResumed, FailsToResume, HasFailed as ResumeFailed}
 use Rattle.mt_store_logs.specs.{declared.store_log.StoreLog.StoreLog, Places.{log_with, mark_in, disk_in, Opens, FailsOn, FailsToOpen, Makes}}
 use Rattle.mt_store_logs.specs.Waits.{HasAppended, HasFailed, TakesIn, AppendsKept, ClosesWith, Stays, FailsToAppend, with_kept, opened_with, ReopensAt, StaysClosed, FailsAgain, StaysShut, FailsToReopenAt, Reopens, FailsToReopen}
-use Rattle.mt_store_logs.specs.Crashes.{IsFoundWith, IsCrashedOn, IsCrashedTo}
+use Rattle.mt_store_logs.specs.Crashes.{IsCrashedOn, IsCrashedTo}
 use Rattle.mt_store_logs.specs.Shows.{LeavesEither, ShowsClosed, ShowsFailed, Shows, IsHonest, Waits, WaitsIn, Stands, drained_upto, MayBegin, begun, appended, IsIn, IsInDoubt, ComesToRest}
+use Rattle.mt_slots.specs.Crashes.{IsFoundWith}
 use Rattle.mt_rows.specs.declared.refusal.Refusal.TheVariants as refusals
 
 -- ---- a disk as it is

@@ -1,20 +1,17 @@
 -- What a recovery may ask of the logs that were opened for it.
 use Rattle.std.proofs.Common.{◌≡◌, ℕ, zero, suc, ◌≤◌, ◌<◌, ◌^◌, max, Bool, List, map, length, refl, sym, ◌∙◌, ap, subst, arith, Option, Some, None}
-use Rattle.std.specs.Prelude.{slice_get, slice_index_or}
+use Rattle.std.specs.{Prelude.{slice_get, slice_index_or}, List.AllByRecursion}
+use Rattle.mt_checkpoint.specs.{declared.checkpoint.Checkpoint.Checkpoint, Slots.IsWalkOrNone}
+use Rattle.mt_slots.specs.{declared.slot.Slot.TheVariants.{First, Second}, declared.store_slots.StoreSlots.StoreSlots, Places.{Both, in_order}, Calls.ReadsBoth}
 use Rattle.mt_disk.specs.Disk.{DiskState}
 use Rattle.mt_log.specs.{declared.batch.Front.Front, Contents.{Contents, IsContents, mark_of, contents_of}}
 use Rattle.mt_rows.specs.Tenants.{Contents as Pairs}
-use Rattle.mt_crashes.specs.{Fronts.{In, last_end}, Recoveries.IsRecovered}
+use Rattle.mt_crashes.specs.{Fronts.{In, last_end}, Bases.Slots, Recoveries.IsRecovered}
 use Rattle.mt_crashes.proofs.{Members.{in_map, map_in, in_place, place_in}, FrontLaws.{upto_last, cutoff_upto_last}, Invariant.{within_place, one_there}}
 use Rattle.mt_recover.specs.{declared.resuming.LogSlot.LogSlot, declared.resuming.LogSlot.TheVariants.{Open, Failed, Closed, Away}, Resumes.IsOpenUpto}
+use Rattle.mt_recover.specs.Limits.{IsReadSlot}
 use Rattle.mt_recover.proofs.Limits.{last_within as steps_within}
-use Rattle.mt_store_logs.specs.{declared.store_log.StoreLog.StoreLog, Places.{disk_in, Opens, OpensAs, OpensAll}, Recovers.no_checkpoints}
-use Rattle.mt_store_logs.proofs.Loops.{read_or, get_within}
-use native.Mathlib.Numerals.{unary_clauses}
-
-max_zero : (n : ℕ) → max n 0 ≡ n
-max_zero zero = refl
-max_zero (suc n) = simp unary_clauses refl
+use Rattle.mt_store_logs.{specs.{declared.store_log.StoreLog.StoreLog, Places.{disk_in, Opens, OpensAs, OpensAll}}, proofs.Loops.{read_or, get_within}}
 
 module _ {D : Type 0} (is_honest : D → Bool) (state : D → DiskState) (failures : D → ℕ) where
   is_contents : (disk : Option D) (slot : LogSlot D) (front : Front) → Opens is_honest state failures disk slot front → IsContents (contents_of front)
@@ -68,15 +65,24 @@ module _ {D : Type 0} (is_honest : D → Bool) (state : D → DiskState) (failur
       let upto = upto_last (contents_of opened.1.0) (map contents_of fronts) (in_map contents_of opened.1.0 fronts (place_in opened.1.0 k fronts opened.1.1)) in
       open_upto to (disk_in opened.0.slot) is.slot opened.1.0 opened.1.2.0 (omega (arith, upto, last))
 
--- a recovery without checkpoints goes on from where the last log ends
-pub resumes_last : (fronts : List Contents) (cutoff resume : ℕ) (used : Option ℕ) (found : Pairs) → IsRecovered fronts no_checkpoints cutoff resume used found
-    → resume ≡ last_end fronts
-resumes_last fronts cutoff resume used found is = is.resume_is ∙ max_zero (last_end fronts)
+  -- both checkpoints that were read are in the format
+  pub both_in_format : (old new : StoreSlots D) (found : Both (Option Checkpoint)) → ReadsBoth is_honest state failures old new found
+      → AllByRecursion IsReadSlot (in_order found)
+  both_in_format old new found reads = (read_slot found.first (reads.each First).format, (read_slot found.second (reads.each Second).format, tt))
+    where
+      read_slot : (x : Option Checkpoint) → IsWalkOrNone is_honest state failures x → IsReadSlot x
+      read_slot None is = tt
+      read_slot (Some c) is = is
 
-pub cutoff_within : (fronts : List Contents) (cutoff resume : ℕ) (used : Option ℕ) (found : Pairs) → IsRecovered fronts no_checkpoints cutoff resume used found
+-- a recovery goes on from where the last log ends, or later
+pub resumes_last : (fronts : List Contents) (read : Slots) (cutoff resume : ℕ) (used : Option ℕ) (found : Pairs) → IsRecovered fronts read cutoff resume used found
+    → last_end fronts ≤ resume
+resumes_last fronts read cutoff resume used found is = let told = is.resume_is in omega (arith, told)
+
+pub cutoff_within : (fronts : List Contents) (read : Slots) (cutoff resume : ℕ) (used : Option ℕ) (found : Pairs) → IsRecovered fronts read cutoff resume used found
     → cutoff ≤ resume
-cutoff_within fronts cutoff resume used found is =
+cutoff_within fronts read cutoff resume used found is =
     let least = is.cutoff_is in
-    let last = resumes_last fronts cutoff resume used found is in
+    let last = resumes_last fronts read cutoff resume used found is in
     let below = cutoff_upto_last fronts in
     omega (arith, least, last, below)

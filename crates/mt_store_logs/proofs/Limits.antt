@@ -1,26 +1,25 @@
--- What is recovered of logs that were opened keeps the limits of keys and rows, and no key stands twice.
-use Rattle.std.{proofs.Common.{ℕ, ◌≤◌, ◌^◌, Bool, List, [], ◌∷◌, map, Option, None}, specs.List.All}
+-- What is recovered of logs that were opened and of slots that were read keeps the limits of keys and rows, and no key stands twice.
+use Rattle.std.{proofs.Common.{ℕ, ◌≤◌, ◌^◌, Bool, List, map}, specs.List.All}
 use Rattle.mt_rows.specs.{Accounts.Accounts, TenantPairs.IsTenantPair}
-use Rattle.mt_checkpoint.specs.declared.checkpoint.Checkpoint.{Checkpoint}
 use Rattle.mt_disk.specs.Disk.{DiskState}
+use Rattle.mt_slots.specs.{declared.store_slots.StoreSlots.StoreSlots, Places.in_order}
 use Rattle.mt_log.specs.Contents.{contents_of}
 use Rattle.mt_recover.{specs.declared.recovering.Recovered.Recovered, proofs.Limits.{pairs_within, resume_within}}
-use Rattle.mt_store_logs.{specs.{declared.store_log.StoreLog.StoreLog, Recovers.ServesAgain}, proofs.ForResumes.in_format}
-
--- no checkpoint was read of either slot
-abbrev none_read : List (Option Checkpoint)
-none_read = None ∷ None ∷ []
+use Rattle.mt_store_logs.{specs.{declared.store_log.StoreLog.StoreLog, Recovers.ServesAgain}, proofs.ForResumes.{in_format, both_in_format}}
 
 -- ---- what a recovery of logs gives may be put into a state
 
-module _ {D : Type 0} (is_honest : D → Bool) (state : D → DiskState) (failures : D → ℕ) (accounts : Accounts) (r : Recovered) (old new : List (StoreLog D))
-    (again : ServesAgain is_honest state failures accounts r old new) where
+module _ {D : Type 0} (is_honest : D → Bool) (state : D → DiskState) (failures : D → ℕ) (accounts : Accounts) (r : Recovered)
+    (old : List (StoreLog D)) (slots : StoreSlots D) (new : List (StoreLog D)) (now : StoreSlots D)
+    (again : ServesAgain is_honest state failures accounts r old slots new now) where
   pub limits_of : All IsTenantPair r.pairs.items
   limits_of =
-      pairs_within (map contents_of again.fronts) none_read r.cutoff r.resume r.used r.pairs.items (tt, (tt, tt))
+      pairs_within (map contents_of again.fronts) (in_order again.found) r.cutoff r.resume r.used r.pairs.items
+      (both_in_format is_honest state failures slots again.rested again.found again.reads)
       (in_format is_honest state failures old again.mid again.fronts again.opens) again.recovers.recovered again.recovers.ascend
 
   pub resumes_within : r.resume ≤ 2 ^ 59
   resumes_within =
-      resume_within (map contents_of again.fronts) none_read r.cutoff r.resume r.used r.pairs.items (tt, (tt, tt))
+      resume_within (map contents_of again.fronts) (in_order again.found) r.cutoff r.resume r.used r.pairs.items
+      (both_in_format is_honest state failures slots again.rested again.found again.reads)
       (in_format is_honest state failures old again.mid again.fronts again.opens) again.recovers.recovered

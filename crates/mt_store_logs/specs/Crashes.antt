@@ -1,7 +1,8 @@
 -- What a crash makes of logs in memory.
 use Rattle.std.specs.{Prelude.{◌≡◌, ◌⊎◌, ℕ, List, length, Option, Some, None, slice_get, Vec}, declared.alloc.Global.Global}
 use Rattle.mt_rows.specs.Rows.{Bytes}
-use Rattle.mt_disk.specs.{declared.mem.MemDisk.MemDisk, Disk.{MayLeave, found_with}, Mem.{mem_state, plan_of, plan_found}}
+use Rattle.mt_disk.specs.{declared.mem.MemDisk.MemDisk, Disk.MayLeave, Mem.mem_state}
+use Rattle.mt_slots.specs.Crashes.{IsFoundWith}
 use Rattle.mt_recover.specs.{declared.resuming.LogSlot.LogSlot, declared.resuming.LogSlot.TheVariants.Closed}
 use Rattle.mt_store_logs.specs.{declared.store_log.StoreLog.StoreLog, Lists.Each, Places.disk_in}
 
@@ -19,14 +20,7 @@ pub record MayLeaveLogs (images : List (Vec ℕ Global)) (logs : List (StoreLog 
   pub each : (k : ℕ) (image : Vec ℕ Global) (log : StoreLog MemDisk) → slice_get images k ≡ Some image → slice_get logs k ≡ Some log
       → MayLeaveLog image.items log
 
--- a disk is found with an image after a crash, by the plan that it had
-pub record IsFoundWith (image : Bytes) (old disk : MemDisk) : Type 0 where
-  pub left : MayLeave (mem_state old).now image
-  pub state : mem_state disk ≡ found_with image
-  pub plan : plan_of disk ≡ plan_found (plan_of old)
-  pub failures : disk.failures ≡ old.failures
-
--- and its log is closed
+-- a disk is found with an image after a crash, and its log is closed
 abbrev pub IsCrashedTo : Bytes → MemDisk → LogSlot MemDisk → Type 0
 IsCrashedTo image old (Closed disk) = IsFoundWith image old disk
 IsCrashedTo image old slot = ⊥

@@ -2,8 +2,9 @@
 //!
 //! A `StoreLog` is a log's place: open or closed, and the batch that waits for it. `flush` drains a worker
 //! into its log; `reopen` opens a log again whose disk failed; `bring_up` is a log's turn, which does both;
-//! `recover_logs` brings a store's logs up again, and `crash_logs` lets those in memory crash. `specs/Waits.antt` says what each does to the batch
-//! that waits, and `specs/Shows.antt` what a crash may leave of a log.
+//! `recover_store` brings a store up again from its logs and its slots, and `crash_logs` lets logs in memory crash.
+//! `specs/Waits.antt` says what each does to the batch that waits, and `specs/Shows.antt` what a crash may leave of
+//! a log.
 //!
 //! Units: steps, as records are stamped with them.
 #![tactic(auto)]
@@ -19,10 +20,10 @@ mod store_log;
 mod watching;
 
 pub use crashing::crash_logs;
-pub use fault::LogRefusal;
+pub use fault::{LogRefusal, StoreRefusal};
 pub use flushing::{Flushed, bring_up, flush};
 pub use opening::{closed_logs, create_logs, open_logs};
-pub use recovering::{recover_logs, recover_watched};
+pub use recovering::recover_store;
 pub use source::Source;
 pub use store_log::{StoreLog, WaitingBatch};
 pub use watching::{NoWatch, Watch};

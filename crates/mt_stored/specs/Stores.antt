@@ -1,46 +1,57 @@
 -- A store that is owned alone: how it is made and recovered, what a turn of one of its logs makes of it, and when it is settled.
-use Rattle.std.specs.Prelude.{◌≡◌, ◌⊎◌, ℕ, ◌<◌, Bool, List, length, slice_get, slice_set, Some, None, Ok, Err}
+use Rattle.std.specs.Prelude.{◌≡◌, ◌⊎◌, ℕ, ◌<◌, Bool, List, length, slice_get, slice_set, Option, Some, None, Ok, Err}
 use Rattle.mt_rows.specs.{Accounts.Accounts, declared.record.Batch.Batch, declared.refusal.Refusal.TheVariants.{Memory, Device}}
 use Rattle.mt_disk.specs.Disk.{DiskState}
 use Rattle.mt_state.specs.{Views.StateView, Begins.new_state}
 use Rattle.mt_core.specs.{Drains.Drains, Restores.IsRestored}
 use Rattle.mt_recover.specs.declared.recovering.Recovered.{Recovered}
-use Rattle.mt_store_logs.specs.{declared.fault.LogRefusal.LogRefusal, declared.store_log.StoreLog.StoreLog, Places.{mark_in, closed_on, MakesAll}}
-use Rattle.mt_store_logs.specs.{Recovers.{ServesAgain, IsNotRecovered}, LogTurns.{BringsUp, FailsToBringUp}}
+use Rattle.mt_slots.specs.{declared.store_slots.StoreSlots.StoreSlots, Calls.MakesBoth}
+use Rattle.mt_store_logs.specs.{declared.fault.StoreRefusal.StoreRefusal, declared.fault.StoreRefusal.TheVariants.{Logs as OfLogs, Slot as OfSlot}}
+use Rattle.mt_store_logs.specs.{declared.store_log.StoreLog.StoreLog, Places.{mark_in, closed_on, MakesAll}, Recovers.{ServesAgain, IsNotRecovered}}
+use Rattle.mt_store_logs.specs.LogTurns.{BringsUp, FailsToBringUp}
 use Rattle.mt_settle.specs.Turns.{Turn, BroughtUp}
 use Rattle.mt_stored.specs.declared.source.OwnState.{OwnState}
+use Rattle.mt_slots.specs.declared.fault.FaultCause.TheVariants as causes
 
 -- each log is open, and goes up to the last step that was made
 abbrev pub IsSettled : {D : Type 0} → StateView → List (StoreLog D) → Type 0
 IsSettled {D} v logs = (k : ℕ) (log : StoreLog D) → slice_get logs k ≡ Some log → mark_in log.slot ≡ Some v.steps
 
--- memory was refused, and no log is the cause
-abbrev pub no_memory : LogRefusal
-no_memory = record { log = None; refusal = Memory }
+-- memory was refused, and no file is the cause
+abbrev pub no_memory : StoreRefusal
+no_memory = OfLogs (record { log = None; refusal = Memory })
 
--- why no store of so many logs was made: the disk of one failed, or memory was refused
-abbrev pub IsNotMade : ℕ → LogRefusal → Type 0
-IsNotMade logs e = (e ≡ no_memory) ⊎ ((place : ℕ) × (place < logs) × (e ≡ record { log = Some place; refusal = Device }))
+-- why no store of so many logs was made: the disk of one failed, or that of a slot, or memory was refused
+abbrev pub IsNotMade : ℕ → StoreRefusal → Type 0
+IsNotMade logs (OfLogs e) = (OfLogs e ≡ no_memory) ⊎ ((place : ℕ) × (place < logs) × (e ≡ record { log = Some place; refusal = Device }))
+IsNotMade logs (OfSlot fault) = fault.cause ≡ causes.Device
 
 -- what a drain of a worker does to a state that is owned alone
 abbrev pub gives_own : OwnState → OwnState → ℕ → Batch → Type 0
 gives_own old new worker batch = Drains old.state new.state worker batch
 
 module _ {D : Type 0} (is_honest : D → Bool) (state : D → DiskState) (failures : D → ℕ) where
-  -- a new store over these disks: its state and its logs
-  pub record IsNewStore (disks : List D) (accounts : Accounts) (v : StateView) (logs : List (StoreLog D)) : Type 0 where
+  -- a new store over these disks and slots: its state, its logs and its slots
+  pub record IsNewStore (disks : List D) (bare : StoreSlots D) (accounts : Accounts) (v : StateView) (logs : List (StoreLog D)) (slots : Option (StoreSlots D)) : Type 0 where
     pub state_is : v ≡ new_state (length disks) accounts
     pub logs_are : MakesAll is_honest state failures (closed_on disks) logs
+    pub made : StoreSlots D
+    pub slots_are : slots ≡ Some made
+    pub slots_made : MakesBoth is_honest state failures bare made
 
-  -- a store that was recovered from these disks: its logs have what a recovery gives them, and its state has the pairs of the recovery, and goes on from there
-  pub record IsRecoveredStore (disks : List D) (accounts : Accounts) (v : StateView) (logs : List (StoreLog D)) : Type 0 where
+  -- A store that was recovered from these disks and slots: its logs have what a recovery gives them, and its state has the pairs of the recovery, and goes on
+  -- from there.
+  pub record IsRecoveredStore (disks : List D) (found : StoreSlots D) (accounts : Accounts) (v : StateView) (logs : List (StoreLog D)) (slots : Option (StoreSlots D)) : Type 0 where
     pub recovered : Recovered
-    pub serves : ServesAgain is_honest state failures accounts recovered (closed_on disks) logs
+    pub kept : StoreSlots D
+    pub slots_are : slots ≡ Some kept
+    pub serves : ServesAgain is_honest state failures accounts recovered (closed_on disks) found logs kept
     pub restored : IsRestored recovered.resume (length disks) accounts recovered.pairs.items v
 
   -- why none was recovered: for the cause of a recovery, or memory was refused
-  abbrev pub IsNotRecoveredStore : List D → Accounts → LogRefusal → Type 0
-  IsNotRecoveredStore disks accounts e = (e ≡ no_memory) ⊎ ((left : List (StoreLog D)) × IsNotRecovered is_honest state failures accounts e (closed_on disks) left)
+  abbrev pub IsNotRecoveredStore : List D → StoreSlots D → Accounts → StoreRefusal → Type 0
+  IsNotRecoveredStore disks found accounts e =
+      (e ≡ no_memory) ⊎ ((left : List (StoreLog D)) × (slots : StoreSlots D) × IsNotRecovered is_honest state failures accounts e (closed_on disks) found left slots)
 
   -- one log had a turn, with the state, and all others are as they were
   pub record TurnsLog (Turns : StoreLog D → StoreLog D → OwnState → OwnState → Type 0) (log : ℕ) (was : OwnState) (old : List (StoreLog D)) (is : OwnState) (new : List (StoreLog D)) : Type 0 where

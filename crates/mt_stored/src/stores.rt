@@ -1,4 +1,4 @@
-//! A store that is owned alone: a state, and a log for each of its workers.
+//! A store that is owned alone: a state, a log for each of its workers, and the slots of its checkpoints.
 
 ghost use Rattle.std.specs.Prelude.{◌≡◌, ◌<◌, ◌≤◌, ◌↔◌, length, vec_len, IfOk, IfErr, IfSome, IsTrue, OnOk, IsSome};
 ghost use Rattle.mt_state.specs.Begins.{HaveNoPairs, new_state};
@@ -11,27 +11,30 @@ use mt_core::State;
 use mt_disk::Disk;
 use mt_rows::{Refusal, Tenants};
 use mt_settle::{Logs, settle};
+use mt_slots::StoreSlots;
 use mt_store_logs::{
-    Flushed, LogRefusal, NoWatch, StoreLog, Watch, bring_up, closed_logs, create_logs,
-    recover_watched,
+    Flushed, LogRefusal, NoWatch, StoreLog, StoreRefusal, Watch, bring_up, closed_logs,
+    create_logs, recover_store,
 };
 use std::alloc::{AllocError, Global};
 use std::sync::Wait;
 
-/// A state, and the log of each of its workers, in their order. One without logs keeps nothing.
+/// A state, the log of each of its workers, in their order, and the slots of its checkpoints. One without logs
+/// keeps nothing, and has no slots.
 #[derive(Drop)]
 pub struct Store<D: Disk + Drop> {
     source: OwnState,
     logs: Vec<StoreLog<D>>,
+    slots: Option<StoreSlots<D>>,
     ghost all: { length source.state.logs ≡ vec_len logs },
     ghost order: { AreInOrder logs.items },
 }
 
-// No memory, for none of the logs.
-const NO_MEMORY: LogRefusal = LogRefusal {
+// No memory, for none of the files.
+const NO_MEMORY: StoreRefusal = StoreRefusal::Logs(LogRefusal {
     log: None,
     refusal: Refusal::Memory,
-};
+});
 
 impl<D: Disk + Drop> Store<D> {
     ghost use Rattle.mt_settle.specs.Settles.{StopsSettling};
@@ -46,72 +49,92 @@ impl<D: Disk + Drop> Store<D> {
         Ok(Store {
             source: OwnState { state },
             logs: Vec::new(alloc),
+            slots: None,
         })
     }
 
-    /// A new store over 1 to 64 disks, whatever they held, with the log of a worker on each, in their order.
+    /// A new store over 1 to 64 disks, whatever they held, with the log of a worker on each, in their order, and
+    /// over two slots. The logs are made before the slots.
     ///
-    /// An error tells the log whose disk failed, or, of none, that memory was refused. The disks are gone
-    /// then, and may hold anything.
-    pub fn create(alloc: Global, disks: Vec<D>, tenants: Tenants) -> Result<Store<D>, LogRefusal>
+    /// An error tells the log or the slot whose disk failed, or that memory was refused. The disks are gone then,
+    /// and may hold anything.
+    pub fn create(
+        alloc: Global,
+        disks: Vec<D>,
+        mut slots: StoreSlots<D>,
+        tenants: Tenants,
+    ) -> Result<Store<D>, StoreRefusal>
         requires some { 0 < vec_len disks }
         requires few { vec_len disks ≤ 64 }
         requires empty { HaveNoPairs tenants }
-        ensures ok { IfOk result (λ store. IsNewStore D.is_honest D.state D.failures disks.items tenants store.source.state store.logs.items) }
+        ensures ok { IfOk result (λ store. IsNewStore D.is_honest D.state D.failures disks.items slots tenants store.source.state store.logs.items store.slots) }
         ensures err { IfErr result (IsNotMade (vec_len disks)) }
     {
         let mut logs = closed(alloc, disks)?;
         create_logs(&mut logs)?;
+        slots.create()?;
         match State::new(alloc, logs.len() as u8, tenants) {
             Ok(state) => Ok(Store {
                 source: OwnState { state },
                 logs,
+                slots: Some(slots),
             }),
             Err(_) => Err(NO_MEMORY),
         }
     }
 
-    /// The store that 1 to 64 disks hold, recovered from its logs, and each of these with the batch with
-    /// which a recovery ends.
+    /// The store that 1 to 64 disks and two slots hold, recovered, and each of its logs with the batch with which
+    /// a recovery ends.
     ///
-    /// An error tells the log that was not opened or got no such batch, or, of none, why there is no recovery.
-    /// The disks are gone then, and can be recovered again.
-    pub fn recover(alloc: Global, disks: Vec<D>, tenants: Tenants) -> Result<Store<D>, LogRefusal>
+    /// An error tells the log that was not opened or got no such batch, the slot that was not read, or why there
+    /// is no recovery. The disks are gone then, and can be recovered again.
+    pub fn recover(
+        alloc: Global,
+        disks: Vec<D>,
+        slots: StoreSlots<D>,
+        tenants: Tenants,
+    ) -> Result<Store<D>, StoreRefusal>
         requires few { vec_len disks ≤ 64 }
         requires empty { HaveNoPairs tenants }
-        ensures ok { IfOk result (λ store. IsRecoveredStore D.is_honest D.state D.failures disks.items tenants store.source.state store.logs.items) }
-        ensures err { IfErr result (IsNotRecoveredStore D.is_honest D.state D.failures disks.items tenants) }
+        ensures ok { IfOk result (λ store. IsRecoveredStore D.is_honest D.state D.failures disks.items slots tenants store.source.state store.logs.items store.slots) }
+        ensures err { IfErr result (IsNotRecoveredStore D.is_honest D.state D.failures disks.items slots tenants) }
     {
-        Store::recover_watched(alloc, disks, tenants, &mut NoWatch)
+        Store::recover_watched(alloc, disks, slots, tenants, &mut NoWatch)
     }
 
     /// The same, with somebody who is told how far it is.
     pub fn recover_watched<W: Watch>(
         alloc: Global,
         disks: Vec<D>,
+        mut slots: StoreSlots<D>,
         tenants: Tenants,
         watch: &mut W,
-    ) -> Result<Store<D>, LogRefusal>
+    ) -> Result<Store<D>, StoreRefusal>
         requires few { vec_len disks ≤ 64 }
         requires empty { HaveNoPairs tenants }
-        ensures ok { IfOk result (λ store. IsRecoveredStore D.is_honest D.state D.failures disks.items tenants store.source.state store.logs.items) }
-        ensures err { IfErr result (IsNotRecoveredStore D.is_honest D.state D.failures disks.items tenants) }
+        ensures ok { IfOk result (λ store. IsRecoveredStore D.is_honest D.state D.failures disks.items slots tenants store.source.state store.logs.items store.slots) }
+        ensures err { IfErr result (IsNotRecoveredStore D.is_honest D.state D.failures disks.items slots tenants) }
     {
         let mut logs = closed(alloc, disks)?;
-        let recovered = recover_watched(alloc, &mut logs, &tenants, watch)?;
+        let recovered = recover_store(alloc, &mut logs, &mut slots, &tenants, watch)?;
         let count = logs.len() as u8;
         match State::restore(alloc, recovered.resume, count, tenants, &recovered.pairs) {
             Ok(state) => Ok(Store {
                 source: OwnState { state },
                 logs,
+                slots: Some(slots),
             }),
             Err(_) => Err(NO_MEMORY),
         }
     }
 
-    /// The state and its logs, if these are as many as it has, and each stands at its worker's place.
-    pub fn joined(state: State, logs: Vec<StoreLog<D>>) -> Option<Store<D>>
-        ensures some { IfSome result (λ store. (store.source.state ≡ state) × (store.logs ≡ logs)) }
+    /// The state, its logs and its slots, if the logs are as many as it has, and each stands at its worker's place.
+    pub fn joined(
+        state: State,
+        logs: Vec<StoreLog<D>>,
+        slots: Option<StoreSlots<D>>,
+    ) -> Option<Store<D>>
+        ensures some { IfSome result (λ store. (store.source.state ≡ state) × (store.logs ≡ logs) × (store.slots ≡ slots)) }
         ensures when { IsSome result ↔ ((length state.logs ≡ vec_len logs) × AreInOrder logs.items) }
     {
         if usize::from(state.logs()) != logs.len() {
@@ -123,16 +146,22 @@ impl<D: Disk + Drop> Store<D> {
         Some(Store {
             source: OwnState { state },
             logs,
+            slots,
         })
     }
 
-    /// The state and its logs.
-    pub fn into_parts(self) -> (State, Vec<StoreLog<D>>)
+    /// The state, its logs and its slots.
+    pub fn into_parts(self) -> (State, Vec<StoreLog<D>>, Option<StoreSlots<D>>)
         ensures state { result.0 ≡ self.source.state }
         ensures logs { result.1 ≡ self.logs }
+        ensures slots { result.2 ≡ self.slots }
     {
-        let Store { source, logs } = self;
-        (source.state, logs)
+        let Store {
+            source,
+            logs,
+            slots,
+        } = self;
+        (source.state, logs, slots)
     }
 
     /// Settles for the last time: with Ok every log goes up to the last step that was made. A store without
@@ -179,7 +208,7 @@ impl<D: Disk + Drop> Logs for Store<D> {
 }
 
 // Closed logs on these disks, in their order.
-fn closed<D: Disk + Drop>(alloc: Global, disks: Vec<D>) -> Result<Vec<StoreLog<D>>, LogRefusal>
+fn closed<D: Disk + Drop>(alloc: Global, disks: Vec<D>) -> Result<Vec<StoreLog<D>>, StoreRefusal>
     requires { vec_len disks ≤ 64 }
     ensures ok { IfOk result (λ logs. logs.items ≡ closed_on disks.items) }
     ensures count { IfOk result (λ logs. vec_len logs ≡ vec_len disks) }

@@ -69,7 +69,7 @@ fn run<L: Ledger + Send + Sync, R: Threads + Wait + Log + Abort + Sync>(
     requires name { blank.name ≡ L.name }
     requires parts { (blank.parts ≡ L.parts) × (L.parts ≡ 65536) }
 {
-    let (state, logs) = new_store(rt, alloc, &[NEVER; 4]).into_parts();
+    let (state, logs, _) = new_store(rt, alloc, &[NEVER; 4]).into_parts();
     let logs = locked_logs(alloc, logs).expect(rt, "memory");
     let book = Mutex::new(Book::<L>::new(blank, state));
     let counts = four_at_once(rt, alloc, &book, &logs);

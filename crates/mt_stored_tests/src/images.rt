@@ -8,7 +8,8 @@ use mt_disk::MemDisk;
 use mt_log::{Front, LogBatch};
 use mt_recover::LogSlot;
 use mt_rows::{Refusal, TenantPair, Tenants};
-use mt_store_logs::{StoreLog, open_logs, recover_logs};
+use mt_slots::StoreSlots;
+use mt_store_logs::{NoWatch, StoreLog, open_logs, recover_store};
 use std::alloc::Global;
 use std::process::Abort;
 
@@ -125,8 +126,10 @@ pub(crate) fn hold_all(
         Ok(fronts) => have_own(&fronts, counts),
         Err(e) => return Err(e.refusal),
     };
-    match recover_logs(alloc, &mut logs, tenants) {
+    let disk = || MemDisk::new(alloc, Vec::new(alloc), None);
+    let mut slots = StoreSlots::found(disk(), disk());
+    match recover_store(alloc, &mut logs, &mut slots, tenants, &mut NoWatch) {
         Ok(recovered) => Ok(has_own && are_pairs(&recovered.pairs, counts)),
-        Err(e) => Err(e.refusal),
+        Err(e) => Err(e.refusal()),
     }
 }

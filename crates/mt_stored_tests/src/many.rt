@@ -3,7 +3,7 @@
 use crate::asked::{expect_all, put_all};
 use crate::disks::{FlakyDisk, NEVER};
 use crate::images::{images_of, tenant_7};
-use crate::stories::new_store;
+use crate::stories::{bare_slots, new_store};
 use log::Log;
 use mt_core::State;
 use mt_store_logs::StoreLog;
@@ -25,16 +25,16 @@ fn settled<R: Wait + Log + Abort>(
     state: State,
     logs: Vec<StoreLog<FlakyDisk>>,
 ) -> Vec<Vec<u8>> {
-    let mut store = Store::joined(state, logs).expect(rt, "a store");
+    let mut store = Store::joined(state, logs, None).expect(rt, "a store");
     assert!(rt; store.settle_last(rt, alloc).is_ok());
-    let (_, logs) = store.into_parts();
+    let (_, logs, _) = store.into_parts();
     assert!(rt; logs.iter().all(|log| log.mark().is_some()));
     images_of(rt, alloc, &logs)
 }
 
 // Two workers put all pairs, scans show them, and a Settle keeps them.
 fn served<R: Wait + Log + Abort>(rt: &R, alloc: Global) -> Vec<Vec<u8>> {
-    let (mut state, logs) = new_store(rt, alloc, &[NEVER; 2]).into_parts();
+    let (mut state, logs, _) = new_store(rt, alloc, &[NEVER; 2]).into_parts();
     put_all(rt, alloc, &mut state, 0, PUTS);
     expect_all(rt, alloc, &mut state, PUTS);
     settled(rt, alloc, state, logs)
@@ -49,7 +49,7 @@ fn recovered(rt: &impl Abort, alloc: Global, images: Vec<Vec<u8>>) -> Store<Flak
     }
     let tenants = tenant_7(rt, alloc);
     assert!(rt; disks.len() <= 64);
-    match Store::recover(alloc, disks, tenants) {
+    match Store::recover(alloc, disks, bare_slots(alloc), tenants) {
         Ok(store) => store,
         Err(_) => panic!(rt; "no store is recovered"),
     }
@@ -60,7 +60,7 @@ fn a_hundred_thousand_pairs_are_recovered_and_shown(rt: HostRuntime) {
     let alloc = rt.alloc();
     let images = served(&rt, alloc);
     assert_eq!(rt; images.len(), 2);
-    let (mut state, logs) = recovered(&rt, alloc, images).into_parts();
+    let (mut state, logs, _) = recovered(&rt, alloc, images).into_parts();
     expect_all(&rt, alloc, &mut state, PUTS);
     put_all(&rt, alloc, &mut state, PUTS, GOES_ON);
     let _ = settled(&rt, alloc, state, logs);

@@ -12,6 +12,7 @@ use mt_options::TenantQuota;
 use mt_recover::LogSlot;
 use mt_rows::Refusal;
 use mt_service::DeskCaller;
+use mt_slots::StoreSlots;
 use mt_store_logs::StoreLog;
 use mt_stored::{Keeper, SharedLogs, Store, locked_logs, unlocked_logs};
 use std::alloc::Global;
@@ -38,10 +39,16 @@ pub(crate) fn new_store(rt: &impl Abort, alloc: Global, fails: &[Fails]) -> Stor
     }
     let tenants = tenant_7(rt, alloc);
     assert!(rt; !disks.is_empty() && disks.len() <= 64);
-    match Store::create(alloc, disks, tenants) {
+    match Store::create(alloc, disks, bare_slots(alloc), tenants) {
         Ok(store) => store,
         Err(_) => panic!(rt; "no store is made"),
     }
+}
+
+/// Slots on disks without a byte.
+pub(crate) fn bare_slots(alloc: Global) -> StoreSlots<FlakyDisk> {
+    let disk = || FlakyDisk::new(Vec::new(alloc), NEVER);
+    StoreSlots::found(disk(), disk())
 }
 
 /// A session of a worker.
@@ -109,7 +116,7 @@ pub(crate) fn images_now<R: Wait>(
 
 /// All that was put is in the files of a store that has ended.
 pub(crate) fn expect_kept(rt: &impl Abort, alloc: Global, store: Store<FlakyDisk>, counts: &[u16]) {
-    let (_, logs) = store.into_parts();
+    let (_, logs, _) = store.into_parts();
     let images = images_of(rt, alloc, &logs);
     let tenants = tenant_7(rt, alloc);
     assert!(rt;
@@ -126,7 +133,7 @@ pub(crate) fn joined<L: Ledger, R: Wait + Log + Abort>(
     logs: Vec<Mutex<StoreLog<FlakyDisk>>>,
 ) -> Store<FlakyDisk> {
     let logs = unlocked_logs(alloc, logs).expect(rt, "memory");
-    let mut store = Store::joined(book.into_inner().into_state(), logs).expect(rt, "a store");
+    let mut store = Store::joined(book.into_inner().into_state(), logs, None).expect(rt, "a store");
     assert!(rt; store.settle_last(rt, alloc).is_ok());
     store
 }
@@ -270,7 +277,7 @@ fn run<L: Ledger, R: Wait + Log + Abort>(
     requires some { 0 < length fails.now }
     requires few { length fails.now ≤ 64 }
 {
-    let (state, logs) = new_store(rt, alloc, fails).into_parts();
+    let (state, logs, _) = new_store(rt, alloc, fails).into_parts();
     let logs = locked_logs(alloc, logs).expect(rt, "memory");
     let book = Mutex::new(Book::<L>::new(blank, state));
     let counts = play(rt, alloc, &book, &logs, acts);

@@ -16,9 +16,9 @@ returns-clause-ok c =
     let whole : take c.in_ok-logs.logs.len (made ++ behind) ≡ made = ap (λ n. take n (made ++ behind)) len ∙ take-append_seam made behind in
     let is : c.in_ok-state.state ≡ new_state (length made) c.args.tenants.now = search rules in
     let fresh : IsFresh c.new-2.result = record { tickets = c.new-2.ensures.tickets; names = c.new-2.ensures.names; settles = c.new-2.ensures.settles } in
-    subst (λ logs. Holds c.args.tenants.now new_standing logs (Some c.new-2.result)) (sym whole)
+    subst (λ logs. Holds c.args.tenants.now c.create.new.self new_standing logs (Some c.new-2.result)) (sym whole)
     (holds_new c.args.tenants.now c.deref_mut.result.now made (subst (λ n. 0 < n) (sym count) c.requires.some) (subst (λ n. n ≤ 64) (sym count) c.requires.few) c.args.disks.items closed
-    c.in_default.ensures.ok c.in_ok-state.state is c.facts.ensures c.new-2.result c.new-2.ensures.state fresh)
+    c.in_default.ensures.ok c.in_ok-state.state is c.facts.ensures c.new-2.result c.new-2.ensures.state fresh c.args.slots c.create.new.self c.in_default-create.ensures.ok)
 
 pub returns-clause-order : goal.returns-clause-order
 returns-clause-order c =

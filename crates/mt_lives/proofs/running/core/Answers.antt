@@ -5,11 +5,11 @@ use Rattle.mt_lives.proofs.running.core.Goals as goal
 pub tell-requires-clause-held : goal.tell-requires-clause-held
 tell-requires-clause-held c = λ o n named.
     let h = c.requires.held in
-    ap is_some ((held h.1.0 h.1.1 h.0 c.args.serving.now h.1.2).serves.history.told o n named).1
+    ap is_some ((held h.1.0 h.1.1 h.1.2 h.0 c.args.serving.now h.1.3).serves.history.told o n named).1
 
 pub returns : goal.returns
 returns c = record {
-  goes = λ accounts logs served standing h.
+  goes = λ accounts slots logs served standing h.
       let now : Serving = record { state = c.tell.new.state; roster = c.tell.new.roster; settles = c.args.serving.now.settles } in
-      told accounts standing logs c.args.serving.now h now c.args.event.now c.in_ok-told.told c.in_ok-told.ensures.tells c.in_ok-told.ensures.by_id c.facts.ensures served refl;
+      told accounts slots standing logs c.args.serving.now h now c.args.event.now c.in_ok-told.told c.in_ok-told.ensures.tells c.in_ok-told.ensures.by_id c.facts.ensures served refl;
 }

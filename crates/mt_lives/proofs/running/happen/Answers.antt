@@ -3,7 +3,7 @@ use Rattle.std.{proofs.{Common.{rules, ◌≡◌, ◌++◌, List, length, take, 
 use Rattle.mt_disk.specs.declared.mem.MemDisk.{MemDisk}
 use Rattle.mt_store_logs.specs.{declared.store_log.StoreLog.StoreLog, Places.AreInOrder}
 use Rattle.mt_lives.specs.{Holds.{quotas_of, Holds}, Steps.IsServedBy, declared.events.StoreNote.TheVariants.NoSuch, Forced.{IsCrashForced, IsForced}}
-use Rattle.mt_lives.proofs.{Forcing.{none_forced, crash_forced, served_forced}, Returning.crashed_goes}
+use Rattle.mt_lives.proofs.{Forcing.{none_forced, crash_forced, served_forced, slots_alone}, Returning.crashed_goes}
 use Rattle.mt_lives.proofs.Happening.{no_crash, nothing_noted, serves_none, served_count, served_workers, served_goes}
 use Rattle.mt_lives.proofs.running.happen.Goals as goal
 
@@ -14,7 +14,7 @@ returns-in-Crash-clause-goes c =
     let behind = drop (length new) items in
     let len : c.args.store.now.logs.len ≡ length new = search rules in
     let whole : take c.args.store.now.logs.len (new ++ behind) ≡ new = ap (λ n. take n (new ++ behind)) len ∙ take-append_seam new behind in
-    crashed_goes c.args.tenants.now c.in-Crash.images c.args.event.now c.deref_mut.result.now items new (take c.args.store.now.logs.len (new ++ behind)) c.args.store.now.serving c.crash.new.serving
+    crashed_goes c.args.tenants.now c.args.store.now.slots c.crash.new.slots c.in-Crash.images c.args.event.now c.deref_mut.result.now items new (take c.args.store.now.logs.len (new ++ behind)) c.args.store.now.serving c.crash.new.serving
     c.crash.result c.in-Crash.is c.deref_mut.ensures.value (sym whole) c.crash.ensures.crashes
 
 pub returns-in-Crash-clause-forced : goal.returns-in-Crash-clause-forced
@@ -25,8 +25,8 @@ returns-in-Crash-clause-forced c =
     let len : c.args.store.now.logs.len ≡ length new = search rules in
     let whole : take c.args.store.now.logs.len (new ++ behind) ≡ new = ap (λ n. take n (new ++ behind)) len ∙ take-append_seam new behind in
     crash_forced c.deref_mut.result.now items new (take c.args.store.now.logs.len (new ++ behind)) c.crash.result c.deref_mut.ensures.value (sym whole) c.args.tenants.now c.args.event.now
-    c.in-Crash.images c.args.store.now.serving c.in-Crash.is
-    (subst (λ images. IfOk c.crash.result (λ note. IsCrashForced c.args.tenants.now images note c.deref_mut.result.now new)) c.deref.ensures.value c.crash.ensures.forced)
+    c.args.store.now.slots c.crash.new.slots c.in-Crash.images c.args.store.now.serving c.in-Crash.is
+    (subst (λ images. IfOk c.crash.result (λ note. IsCrashForced c.args.tenants.now images note c.args.store.now.slots c.crash.new.slots c.deref_mut.result.now new)) c.deref.ensures.value c.crash.ensures.forced)
 
 pub returns-in-Crash-clause-workers : goal.returns-in-Crash-clause-workers
 returns-in-Crash-clause-workers c =
@@ -44,9 +44,10 @@ serve-requires c =
     record {
       held = (
         c.args.tenants.now,
+        c.args.store.now.slots,
         held.0,
-        subst (λ logs. Holds c.args.tenants.now held.0 logs (Some c.in-Some.serving)) value
-            (subst (Holds c.args.tenants.now held.0 c.args.store.now.logs.items) c.in-Some.is held.1),
+        subst (λ logs. Holds c.args.tenants.now c.args.store.now.slots held.0 logs (Some c.in-Some.serving)) value
+            (subst (Holds c.args.tenants.now c.args.store.now.slots held.0 c.args.store.now.logs.items) c.in-Some.is held.1),
       );
       order = subst AreInOrder value c.requires.order;
       worker = subst (λ (logs : List (StoreLog MemDisk)). IsServedBy (length logs) c.args.event.now) value c.requires.worker;
@@ -66,11 +67,11 @@ returns-in-Some c =
       count = served_count c.deref_mut-in-Some.result.now items new last c.serve.result value (sym whole) c.serve.ensures.count;
       workers = served_workers c.deref_mut-in-Some.result.now items new last c.serve.result value (sym whole) c.serve.ensures.workers;
       goes =
-          served_goes c.deref_mut-in-Some.result.now items new last c.serve.result value (sym whole) c.args.tenants.now c.args.event.now c.in-Some.serving c.serve.new.serving
+          served_goes c.deref_mut-in-Some.result.now items new last c.serve.result value (sym whole) c.args.tenants.now c.args.store.now.slots c.args.event.now c.in-Some.serving c.serve.new.serving
           c.args.store.now.serving c.in-Some.is c.serve.ensures.goes;
       forced =
-          served_forced c.deref_mut-in-Some.result.now items new last c.serve.result value (sym whole) c.args.tenants.now c.args.event.now c.in-Some.serving c.args.store.now.serving
-          c.in-Some.is c.serve.ensures.forced;
+          served_forced c.deref_mut-in-Some.result.now items new last c.serve.result value (sym whole) c.args.tenants.now c.args.event.now c.args.store.now.slots c.in-Some.serving c.args.store.now.serving
+          c.in-Some.is (no_crash c.args.event.now c.in_default.not-Crash) c.serve.ensures.forced;
     }
 
 pub returns-in-None : goal.returns-in-None
@@ -78,9 +79,11 @@ returns-in-None c = record {
   count = refl;
   workers = refl;
   goes = λ standing h.
-      let held = subst (Holds c.args.tenants.now standing c.args.store.now.logs.items) c.in-None.is h in
-      (standing, nothing_noted (quotas_of c.args.tenants.now) standing c.args.event.now (serves_none c.args.tenants.now standing c.args.store.now.logs.items held), h);
+      let held = subst (Holds c.args.tenants.now c.args.store.now.slots standing c.args.store.now.logs.items) c.in-None.is h in
+      (standing, nothing_noted (quotas_of c.args.tenants.now) standing c.args.event.now (serves_none c.args.tenants.now c.args.store.now.slots standing c.args.store.now.logs.items held), h);
   forced =
-      subst (λ s. IsForced c.args.tenants.now c.args.event.now NoSuch c.args.store.now.logs.items s c.args.store.now.logs.items) (sym c.in-None.is)
-      (none_forced c.args.tenants.now c.args.event.now c.args.store.now.logs.items (no_crash c.args.event.now c.in_default.not-Crash));
+      let not = no_crash c.args.event.now c.in_default.not-Crash in
+      slots_alone c.args.tenants.now c.args.store.now.slots c.args.event.now NoSuch c.args.store.now.logs.items c.args.store.now.serving c.args.store.now.logs.items not
+      (subst (λ s. IsForced c.args.tenants.now c.args.event.now NoSuch c.args.store.now.logs.items s c.args.store.now.logs.items) (sym c.in-None.is)
+      (none_forced c.args.tenants.now c.args.event.now c.args.store.now.logs.items not));
 }

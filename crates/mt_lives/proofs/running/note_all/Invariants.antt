@@ -6,8 +6,8 @@ use Rattle.mt_lives.proofs.running.note_all.Given as goal
 -- the events so far, with their notes, led to where the store stands
 abbrev pub invariant-loop-event : goal.invariant-loop-event
 invariant-loop-event l = record {
-  goes : NotesGoOn l.fn.tenants (zip (take l.event-index l.events) l.notes.items) l.fn.store.logs.items l.fn.store.serving l.store.logs.items l.store.serving;
-  forced : AreForced l.fn.tenants (zip (take l.event-index l.events) l.notes.items) l.fn.store.logs.items l.fn.store.serving l.store.logs.items l.store.serving;
+  goes : NotesGoOn l.fn.tenants l.fn.store.slots l.store.slots (zip (take l.event-index l.events) l.notes.items) l.fn.store.logs.items l.fn.store.serving l.store.logs.items l.store.serving;
+  forced : AreForced l.fn.tenants l.fn.store.slots l.store.slots (zip (take l.event-index l.events) l.notes.items) l.fn.store.logs.items l.fn.store.serving l.store.logs.items l.store.serving;
   count : length l.notes.items ≡ l.event-index;
   order : AreInOrder l.store.logs.items;
   logs : length l.store.logs.items ≡ length l.fn.store.logs.items;

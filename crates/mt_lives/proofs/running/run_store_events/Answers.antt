@@ -14,6 +14,8 @@ returns-clause-forced c =
       first = c.in_ok-store.store.logs.items;
       made = c.in_ok-store.ensures.made;
       serving = serves.0;
+      first_slots = c.in_ok-store.store.slots;
+      made_slots = c.in_ok-store.ensures.slots;
       forced =
-          subst (λ s. AreForced c.args.tenants.now (zip c.args.events.now c.in_ok-notes.notes.items) c.in_ok-store.store.logs.items s new.logs.items new.serving) serves.1 c.in_ok-notes.ensures.forced;
+          subst (λ s. AreForced c.args.tenants.now c.in_ok-store.store.slots new.slots (zip c.args.events.now c.in_ok-notes.notes.items) c.in_ok-store.store.logs.items s new.logs.items new.serving) serves.1 c.in_ok-notes.ensures.forced;
     }

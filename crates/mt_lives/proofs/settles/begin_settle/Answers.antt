@@ -7,15 +7,15 @@ returns c =
     let now : Serving = record { state = c.args.serving.now.state; roster = c.args.serving.now.roster; settles = c.insert.new.self } in
     let settle : Settle = record { begun = c.steps-begun.result; next = 0; least = 18446744073709551615 } in
     record {
-      goes = λ accounts logs standing h.
-          begins accounts standing logs c.args.serving.now h now refl refl c.args.id settle
+      goes = λ accounts slots logs standing h.
+          begins accounts slots standing logs c.args.serving.now h now refl refl c.args.id settle
           (no_entry _ (sym c.contains_key.ensures ∙ c.if-contains_key.false)) c.steps-begun.ensures refl (search rules) c.in_ok-insert.ensures.updates;
     }
 
 pub returns-then-contains_key : goal.returns-then-contains_key
 returns-then-contains_key c = record {
-  goes = λ accounts logs standing h.
+  goes = λ accounts slots logs standing h.
       let was = c.args.serving.now in
       let open_one = an_entry _ (sym c.contains_key.ensures ∙ c.if-contains_key.true) in
-      (standing, (inr (is_open accounts standing logs was h was refl refl c.args.id open_one.0 open_one.1), refl), h);
+      (standing, (inr (is_open accounts slots standing logs was h was refl refl c.args.id open_one.0 open_one.1), refl), h);
 }

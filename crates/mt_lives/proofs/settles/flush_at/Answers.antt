@@ -7,26 +7,26 @@ use Rattle.mt_lives.proofs.{Forcing.flush_forced, Goes.{Goes, flush_goes, flush_
 use Rattle.mt_lives.proofs.settles.flush_at.Goals as goal
 
 pub returns-in-Ok-clause-goes : goal.returns-in-Ok-clause-goes
-returns-in-Ok-clause-goes c = λ accounts standing h.
+returns-in-Ok-clause-goes c = λ accounts slots standing h.
     let logs = c.args.logs.now in
     let place = c.from-place.result in
     let log = get_or logs place c.index-logs-place-2.result in
     let new = c.flush_log.new.log in
     let now = c.flush_log.new.serving in
     let here = subst (λ k. slice_get logs k ≡ Some log) c.from-place.ensures (slice_get-get_or logs place c.index-logs-place-2.result (omega (arith, c.if-place-logs.false))) in
-    subst (λ k. Goes accounts standing logs c.args.serving.now h (Flush c.args.worker) (Flushed c.in-Ok.mark) (slice_set logs k new) now) (sym c.from-place.ensures)
-    (flush_goes accounts standing logs c.args.serving.now h c.args.worker log new here now c.in-Ok.mark c.in-Ok.ensures.ok)
+    subst (λ k. Goes accounts slots standing logs c.args.serving.now h (Flush c.args.worker) (Flushed c.in-Ok.mark) (slice_set logs k new) now) (sym c.from-place.ensures)
+    (flush_goes accounts slots standing logs c.args.serving.now h c.args.worker log new here now c.in-Ok.mark c.in-Ok.ensures.ok)
 
 pub returns-in-Err-clause-goes : goal.returns-in-Err-clause-goes
-returns-in-Err-clause-goes c = λ accounts standing h.
+returns-in-Err-clause-goes c = λ accounts slots standing h.
     let logs = c.args.logs.now in
     let place = c.from-place.result in
     let log = get_or logs place c.index-logs-place-2.result in
     let new = c.flush_log.new.log in
     let now = c.flush_log.new.serving in
     let here = subst (λ k. slice_get logs k ≡ Some log) c.from-place.ensures (slice_get-get_or logs place c.index-logs-place-2.result (omega (arith, c.if-place-logs.false))) in
-    subst (λ k. Goes accounts standing logs c.args.serving.now h (Flush c.args.worker) (Refused c.in-Err.refusal) (slice_set logs k new) now) (sym c.from-place.ensures)
-    (flush_stops accounts standing logs c.args.serving.now h c.args.worker log new here now c.in-Err.refusal c.in-Err.ensures.err)
+    subst (λ k. Goes accounts slots standing logs c.args.serving.now h (Flush c.args.worker) (Refused c.in-Err.refusal) (slice_set logs k new) now) (sym c.from-place.ensures)
+    (flush_stops accounts slots standing logs c.args.serving.now h c.args.worker log new here now c.in-Err.refusal c.in-Err.ensures.err)
 
 pub returns-in-Err-clause-forced : goal.returns-in-Err-clause-forced
 returns-in-Err-clause-forced c = λ accounts.

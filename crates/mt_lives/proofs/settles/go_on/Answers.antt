@@ -9,10 +9,10 @@ use Rattle.mt_store_logs.{specs.{LogTurns.{BringsUp, FailsToBringUp}, Places.mar
 use Rattle.mt_lives.proofs.settles.go_on.Goals as goal
 
 pub returns-in_default-clause-goes : goal.returns-in_default-clause-goes
-returns-in_default-clause-goes c = λ accounts standing h.
+returns-in_default-clause-goes c = λ accounts slots standing h.
     let was = c.args.serving.now in
     let none : get nat_cmp was.settles c.args.id ≡ None = search rules in
-    (standing, (inr (not_open accounts standing c.args.logs.now was h was refl refl c.args.id none), refl), h)
+    (standing, (inr (not_open accounts slots standing c.args.logs.now was h was refl refl c.args.id none), refl), h)
 
 pub turned-requires-clause-open : goal.turned-requires-clause-open
 turned-requires-clause-open c =
@@ -24,7 +24,7 @@ turned-requires-clause-open c =
     ∙ there
 
 pub returns-in-Ok-clause-goes : goal.returns-in-Ok-clause-goes
-returns-in-Ok-clause-goes c = λ accounts standing h.
+returns-in-Ok-clause-goes c = λ accounts slots standing h.
     let logs = c.args.logs.now in
     let was = c.args.serving.now in
     let settle = c.in-Some.settle in
@@ -34,14 +34,14 @@ returns-in-Ok-clause-goes c = λ accounts standing h.
     let now = c.bring_up_log.new.serving in
     let there : get nat_cmp was.settles c.args.id ≡ Some settle = search rules in
     let here = subst (λ k. slice_get logs k ≡ Some log) c.from.ensures
-    (slice_get-get_or logs place c.index-logs-from.result (omega (arith, c.from.ensures, next_within accounts standing logs was h was refl refl c.args.id settle there))) in
-    subst (λ k. Goes accounts standing logs was h (SettleNext c.args.id) c.turned.result (slice_set logs k new) c.turned.new.serving) (sym c.from.ensures)
-    (settle_goes accounts standing logs was h settle.next log new here now c.args.id settle there refl c.turned.new.serving c.turned.ensures.state c.turned.ensures.roster c.in-Ok.mark
+    (slice_get-get_or logs place c.index-logs-from.result (omega (arith, c.from.ensures, next_within accounts slots standing logs was h was refl refl c.args.id settle there))) in
+    subst (λ k. Goes accounts slots standing logs was h (SettleNext c.args.id) c.turned.result (slice_set logs k new) c.turned.new.serving) (sym c.from.ensures)
+    (settle_goes accounts slots standing logs was h settle.next log new here now c.args.id settle there refl c.turned.new.serving c.turned.ensures.state c.turned.ensures.roster c.in-Ok.mark
     (subst (λ n. BringsUp keeps_rules mem_state failures_of DrainsServing settle.next n c.in-Ok.mark log new was now) c.steps-steps.ensures c.in-Ok.ensures.ok) c.turned.result
     (subst (λ k. Turns (length (slice_set logs k new)) c.args.id settle c.in-Ok.mark now.settles c.turned.new.serving.settles c.turned.result) c.from.ensures c.turned.ensures.turns))
 
 pub returns-in-Err-clause-goes : goal.returns-in-Err-clause-goes
-returns-in-Err-clause-goes c = λ accounts standing h.
+returns-in-Err-clause-goes c = λ accounts slots standing h.
     let logs = c.args.logs.now in
     let was = c.args.serving.now in
     let settle = c.in-Some.settle in
@@ -52,9 +52,9 @@ returns-in-Err-clause-goes c = λ accounts standing h.
     let end = record now { settles = c.remove.new.self } in
     let there : get nat_cmp was.settles c.args.id ≡ Some settle = search rules in
     let here = subst (λ k. slice_get logs k ≡ Some log) c.from.ensures
-    (slice_get-get_or logs place c.index-logs-from.result (omega (arith, c.from.ensures, next_within accounts standing logs was h was refl refl c.args.id settle there))) in
-    subst (λ k. Goes accounts standing logs was h (SettleNext c.args.id) (Refused c.in-Err.refusal) (slice_set logs k new) end) (sym c.from.ensures)
-    (settle_stops accounts standing logs was h settle.next log new here now c.args.id settle there refl end refl refl c.in-Err.refusal
+    (slice_get-get_or logs place c.index-logs-from.result (omega (arith, c.from.ensures, next_within accounts slots standing logs was h was refl refl c.args.id settle there))) in
+    subst (λ k. Goes accounts slots standing logs was h (SettleNext c.args.id) (Refused c.in-Err.refusal) (slice_set logs k new) end) (sym c.from.ensures)
+    (settle_stops accounts slots standing logs was h settle.next log new here now c.args.id settle there refl end refl refl c.in-Err.refusal
     (subst (λ n. FailsToBringUp keeps_rules mem_state failures_of DrainsServing settle.next n c.in-Err.refusal log new was now) c.steps-steps.ensures c.in-Err.ensures.err) c.remove.ensures.updates)
 
 pub returns-in-Ok-clause-forced : goal.returns-in-Ok-clause-forced
@@ -74,7 +74,7 @@ returns-in-Err-clause-forced c = λ accounts.
     let held = c.requires.held in
     let there : get nat_cmp was.settles c.args.id ≡ Some settle = search rules in
     let here = subst (λ k. slice_get logs k ≡ Some log) c.from.ensures
-    (slice_get-get_or logs place c.index-logs-from.result (omega (arith, c.from.ensures, next_within held.0 held.1 logs was held.2 was refl refl c.args.id settle there))) in
+    (slice_get-get_or logs place c.index-logs-from.result (omega (arith, c.from.ensures, next_within held.0 held.1 held.2 logs was held.3 was refl refl c.args.id settle there))) in
     subst (λ k. IsForced accounts (SettleNext c.args.id) (Refused c.in-Err.refusal) logs (Some was) (slice_set logs k new)) (sym c.from.ensures)
     (settle_forced accounts logs (Some was) settle.next log new here c.args.id c.steps-steps.result c.in-Err.refusal was c.bring_up_log.new.serving (mark_in log.slot) refl c.in-Err.ensures.err)
 
@@ -86,7 +86,7 @@ bring_up_log-requires-clause-whose c =
     let held = c.requires.held in
     let there : get nat_cmp was.settles c.args.id ≡ Some c.in-Some.settle = search rules in
     c.requires.order place (get_or logs place c.index-logs-from.result)
-    (slice_get-get_or logs place c.index-logs-from.result (omega (arith, c.from.ensures, next_within held.0 held.1 logs was held.2 was refl refl c.args.id c.in-Some.settle there)))
+    (slice_get-get_or logs place c.index-logs-from.result (omega (arith, c.from.ensures, next_within held.0 held.1 held.2 logs was held.3 was refl refl c.args.id c.in-Some.settle there)))
     ∙ c.from.ensures
 
 pub returns-in-Ok-clause-workers : goal.returns-in-Ok-clause-workers

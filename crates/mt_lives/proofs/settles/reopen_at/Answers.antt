@@ -8,24 +8,24 @@ use Rattle.mt_lives.proofs.{Forcing.reopen_forced, Goes.{Goes, reopen_goes, reop
 use Rattle.mt_lives.proofs.settles.reopen_at.Goals as goal
 
 pub returns-in-Ok-clause-goes : goal.returns-in-Ok-clause-goes
-returns-in-Ok-clause-goes c = λ accounts serving standing h.
+returns-in-Ok-clause-goes c = λ accounts slots serving standing h.
     let logs = c.args.logs.now in
     let place = c.from-place.result in
     let log = get_or logs place c.index-logs-place-2.result in
     let new = c.reopen.new.self in
     let here = subst (λ k. slice_get logs k ≡ Some log) c.from-place.ensures (slice_get-get_or logs place c.index-logs-place-2.result (omega (arith, c.if-place-logs.false))) in
-    subst (λ k. Goes accounts standing logs serving h (Reopen c.args.worker) Reopened (slice_set logs k new) serving) (sym c.from-place.ensures)
-    (reopen_goes accounts standing logs serving h c.args.worker log new here c.in-Ok.ensures.ok)
+    subst (λ k. Goes accounts slots standing logs serving h (Reopen c.args.worker) Reopened (slice_set logs k new) serving) (sym c.from-place.ensures)
+    (reopen_goes accounts slots standing logs serving h c.args.worker log new here c.in-Ok.ensures.ok)
 
 pub returns-in-Err-clause-goes : goal.returns-in-Err-clause-goes
-returns-in-Err-clause-goes c = λ accounts serving standing h.
+returns-in-Err-clause-goes c = λ accounts slots serving standing h.
     let logs = c.args.logs.now in
     let place = c.from-place.result in
     let log = get_or logs place c.index-logs-place-2.result in
     let new = c.reopen.new.self in
     let here = subst (λ k. slice_get logs k ≡ Some log) c.from-place.ensures (slice_get-get_or logs place c.index-logs-place-2.result (omega (arith, c.if-place-logs.false))) in
-    subst (λ k. Goes accounts standing logs serving h (Reopen c.args.worker) (Refused c.in-Err.refusal) (slice_set logs k new) serving) (sym c.from-place.ensures)
-    (reopen_stops accounts standing logs serving h c.args.worker log new here c.in-Err.refusal c.in-Err.ensures.err)
+    subst (λ k. Goes accounts slots standing logs serving h (Reopen c.args.worker) (Refused c.in-Err.refusal) (slice_set logs k new) serving) (sym c.from-place.ensures)
+    (reopen_stops accounts slots standing logs serving h c.args.worker log new here c.in-Err.refusal c.in-Err.ensures.err)
 
 none_of : (x : Option ℕ) → is_some x ≡ false → x ≡ None
 none_of None e = refl
@@ -45,7 +45,7 @@ returns-in-Err-clause-forced c = λ accounts serving.
     let shut : mark_in log.slot ≡ None = sym marked ∙ none_of c.mark.result (sym c.if-is_some.ensures) in
     let held = c.requires in
     subst (λ k. IsForced accounts (Reopen c.args.worker) (Refused c.in-Err.refusal) logs (Some serving) (slice_set logs k new)) (sym c.from-place.ensures)
-    (reopen_forced held.1.0 logs (Some serving) c.args.worker log new here c.in-Err.refusal held.0 held.1.1 held.1.2 shut c.in-Err.ensures.err accounts)
+    (reopen_forced held.1.0 logs (Some serving) c.args.worker log new here c.in-Err.refusal held.1.1 held.0 held.1.2 held.1.3 shut c.in-Err.ensures.err accounts)
 
 pub returns-in-Ok-clause-workers : goal.returns-in-Ok-clause-workers
 returns-in-Ok-clause-workers c = same_workers c.from-place.result c.args.logs.now c.reopen.new.self c.index-logs-place-2.result c.reopen.ensures.worker

@@ -1,4 +1,4 @@
-use Rattle.std.proofs.Common.{◌≡◌, ◌∙◌, length, sym, ap, subst, arith}
+use Rattle.std.proofs.Common.{◌≡◌, ◌∙◌, length, refl, sym, ap, subst, arith}
 use Rattle.mt_store_logs.{specs.Places.{AreInOrder, MakesAll, closed_on}, proofs.Closed.{length-closed, closed_in_order, same_order}}
 use Rattle.mt_state.specs.Begins.{new_state}
 use Rattle.mt_stored.proofs.Slices.{whole}
@@ -15,6 +15,9 @@ returns-in-Ok-clause-ok g c =
     let same : logs.len ≡ length new = omega (arith, count, makes.len, length-closed 0 disks) in
     record {
       state_is = c.in-Ok.ensures ∙ ap (λ n. new_state n c.args.tenants) (omega (arith, c.len.ensures, count, same));
+      made = c.create.new.self;
+      slots_are = refl;
+      slots_made = c.in_ok-create.ensures.ok;
       logs_are = subst (MakesAll g.D.Disk.is_honest g.D.Disk.state g.D.Disk.failures (closed_on disks)) (sym (whole logs.len new _ same)) makes;
     }
 

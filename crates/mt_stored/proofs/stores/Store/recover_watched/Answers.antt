@@ -1,5 +1,5 @@
-use Rattle.std.{proofs.Common.{◌≡◌, ◌∙◌, length, sym, ap, subst, arith}, specs.List.All}
-use Rattle.mt_store_logs.specs.{Places.{AreInOrder, closed_on}, Recovers.ServesAgain}
+use Rattle.std.{proofs.{Common.{◌≡◌, ◌∙◌, length, refl, sym, ap, subst, arith, inr}, lemmas.Result.err_from_is_err_and}, specs.List.All}
+use Rattle.mt_store_logs.specs.{Places.{AreInOrder, closed_on}, Recovers.{ServesAgain, IsNotRecovered}}
 use Rattle.mt_store_logs.proofs.{Closed.{length-closed, closed_in_order, same_order}, Limits.{limits_of, resumes_within}}
 use Rattle.mt_rows.specs.TenantPairs.{AreDistinct, IsTenantPair}
 use Rattle.mt_core.specs.Restores.{IsRestored}
@@ -9,12 +9,12 @@ use Rattle.mt_stored.proofs.stores.Store.recover_watched.Goals as goal
 
 pub restore-requires-clause-steps : goal.restore-requires-clause-steps
 restore-requires-clause-steps g c =
-    resumes_within g.D.Disk.is_honest g.D.Disk.state g.D.Disk.failures c.args.tenants c.in_ok-recovered.recovered c.deref_mut.result.now c.recover_watched.new.logs c.in_ok-recovered.ensures.ok
+    resumes_within g.D.Disk.is_honest g.D.Disk.state g.D.Disk.failures c.args.tenants c.in_ok-recovered.recovered c.deref_mut.result.now c.args.slots c.recover_store.new.logs c.recover_store.new.slots c.in_ok-recovered.ensures.ok
 
 pub restore-requires-clause-limits : goal.restore-requires-clause-limits
 restore-requires-clause-limits g c =
     subst (All IsTenantPair) (sym c.deref.ensures.value)
-    (limits_of g.D.Disk.is_honest g.D.Disk.state g.D.Disk.failures c.args.tenants c.in_ok-recovered.recovered c.deref_mut.result.now c.recover_watched.new.logs c.in_ok-recovered.ensures.ok)
+    (limits_of g.D.Disk.is_honest g.D.Disk.state g.D.Disk.failures c.args.tenants c.in_ok-recovered.recovered c.deref_mut.result.now c.args.slots c.recover_store.new.logs c.recover_store.new.slots c.in_ok-recovered.ensures.ok)
 
 pub restore-requires-clause-distinct : goal.restore-requires-clause-distinct
 restore-requires-clause-distinct g c =
@@ -25,15 +25,19 @@ returns-in-Ok-clause-ok g c =
     let disks = c.args.disks.items in
     let logs = c.in_ok-logs.logs in
     let r = c.in_ok-recovered.recovered in
-    let new = c.recover_watched.new.logs in
+    let new = c.recover_store.new.logs in
+    let kept = c.recover_store.new.slots in
     let old = c.deref_mut.ensures.value ∙ c.in_ok-logs.ensures.ok in
-    let serves = subst (λ was. ServesAgain g.D.Disk.is_honest g.D.Disk.state g.D.Disk.failures c.args.tenants r was new) old c.in_ok-recovered.ensures.ok in
+    let serves = subst (λ was. ServesAgain g.D.Disk.is_honest g.D.Disk.state g.D.Disk.failures c.args.tenants r was c.args.slots new kept) old c.in_ok-recovered.ensures.ok in
     let count : logs.len ≡ length disks = omega (arith, logs.ok.0, ap length c.in_ok-logs.ensures.ok, length-closed 0 disks) in
     let same : logs.len ≡ length new = omega (arith, count, serves.opens.each.len, serves.resumes.len, length-closed 0 disks) in
     let counted : c.len-count.result ≡ length disks = omega (arith, c.len-count.ensures, count, same) in
     record {
       recovered = r;
-      serves = subst (ServesAgain g.D.Disk.is_honest g.D.Disk.state g.D.Disk.failures c.args.tenants r (closed_on disks)) (sym (whole logs.len new _ same)) serves;
+      kept = kept;
+      slots_are = refl;
+      serves =
+          subst (λ logs_now. ServesAgain g.D.Disk.is_honest g.D.Disk.state g.D.Disk.failures c.args.tenants r (closed_on disks) c.args.slots logs_now kept) (sym (whole logs.len new _ same)) serves;
       restored =
           subst (λ ps. IsRestored r.resume (length disks) c.args.tenants ps c.in-Ok.state) c.deref.ensures.value
           (subst (λ n. IsRestored r.resume n c.args.tenants c.deref.result.now c.in-Ok.state) counted c.in-Ok.ensures);
@@ -43,10 +47,21 @@ pub invariant_of-result-clause-order : goal.invariant_of-result-clause-order
 invariant_of-result-clause-order g c =
     let disks = c.args.disks.items in
     let logs = c.in_ok-logs.logs in
-    let new = c.recover_watched.new.logs in
+    let new = c.recover_store.new.logs in
+    let kept = c.recover_store.new.slots in
     let old = c.deref_mut.ensures.value ∙ c.in_ok-logs.ensures.ok in
-    let serves = subst (λ was. ServesAgain g.D.Disk.is_honest g.D.Disk.state g.D.Disk.failures c.args.tenants c.in_ok-recovered.recovered was new) old c.in_ok-recovered.ensures.ok in
+    let serves = subst (λ was. ServesAgain g.D.Disk.is_honest g.D.Disk.state g.D.Disk.failures c.args.tenants c.in_ok-recovered.recovered was c.args.slots new kept) old c.in_ok-recovered.ensures.ok in
     let count : logs.len ≡ length disks = omega (arith, logs.ok.0, ap length c.in_ok-logs.ensures.ok, length-closed 0 disks) in
     let same : logs.len ≡ length new = omega (arith, count, serves.opens.each.len, serves.resumes.len, length-closed 0 disks) in
     subst AreInOrder (sym (whole logs.len new _ same))
-    (same_order c.deref_mut.result.now new c.recover_watched.ensures.workers (subst AreInOrder (sym old) (closed_in_order disks)))
+    (same_order c.deref_mut.result.now new c.recover_store.ensures.workers (subst AreInOrder (sym old) (closed_in_order disks)))
+
+pub returns-in_err-recovered-clause-err : goal.returns-in_err-recovered-clause-err
+returns-in_err-recovered-clause-err g c =
+    let disks = c.args.disks.items in
+    let new = c.recover_store.new.logs in
+    let kept = c.recover_store.new.slots in
+    let old = c.deref_mut.ensures.value ∙ c.in_ok-logs.ensures.ok in
+    let e = c.in_err-recovered.field-0.0 in
+    let p = err_from_is_err_and c.from_residual-in_err-recovered.result c.from_residual-in_err-recovered.ensures.1 in
+    rw (p.1, p.2) (inr (new, kept, subst (λ was. IsNotRecovered g.D.Disk.is_honest g.D.Disk.state g.D.Disk.failures c.args.tenants e was c.args.slots new kept) old c.in_err-recovered.ensures.err))
