@@ -18,7 +18,7 @@ use mt_slots::StoreSlots;
 use mt_store_logs::{NoWatch, StoreLog, crash_logs, recover_store};
 use std::alloc::{AllocError, Global};
 
-/// Crashes all disks, each to its image, those of the slots behind those of the logs, and recovers the store.
+/// Crashes all disks, each to its image, those of the slots after those of the logs, and recovers the store.
 /// `NoSuch` if the disks may not leave these images: then nothing has changed. After an error some disks have
 /// crashed.
 pub(crate) fn crash(

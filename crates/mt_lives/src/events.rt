@@ -18,7 +18,7 @@ pub enum StoreEvent {
     SettleBegin { id: u64 },
     /// Its next log has a turn: the log is opened again if its disk failed, and flushed up to the last step.
     SettleNext { id: u64 },
-    /// All disks crash at this moment, each to its image, those of the slots behind those of the logs, and the
+    /// All disks crash at this moment, each to its image, those of the slots after those of the logs, and the
     /// store is recovered.
     Crash { images: Vec<Vec<u8>> },
 }

@@ -64,9 +64,9 @@ pub fn an_owned_store_begins_as_a_new_one()
         → IsRightState serving.state → IsFresh serving → Holds accounts slots new_standing logs (Some serving) }
 {}
 
-/// A store whose disks crashed, each to its image, and that was recovered from them stands as behind that crash, noted
+/// A store whose disks crashed, each to its image, and that was recovered from them stands as after that crash, noted
 /// Recovered. Its state is right, and nothing has a name.
-pub fn an_owned_store_is_recovered_as_behind_a_crash()
+pub fn an_owned_store_is_recovered_as_after_a_crash()
     ensures { (accounts : Accounts) (slots found now : AnySlots AnyDisk) (was : Option AnyServing) (serving : AnyServing) (old new : List (AnyLog AnyDisk)) (disks : List AnyDisk)
         (images : Vec (Vec ℕ Global) Global) → AllCrash images.items old slots (closed_on disks) found
         → IsRecoveredStore ⟦<MemDisk as Disk>⟧.is_honest ⟦<MemDisk as Disk>⟧.state ⟦<MemDisk as Disk>⟧.failures disks found accounts serving.state new (Some now)
@@ -74,7 +74,7 @@ pub fn an_owned_store_is_recovered_as_behind_a_crash()
 {}
 
 /// A turn of that store is a list of events of its log: a reopening if the log isn't open, and flushes. Their notes
-/// tell what the turn told. All that held of the store holds behind them.
+/// tell what the turn told. All that held of the store holds after them.
 pub fn a_turn_of_an_owned_store_is_a_list_of_events()
     ensures { (accounts : Accounts) (slots : AnySlots AnyDisk) (standing : Standing) (serving : AnyServing) (worker : ℕ) (told : Result ℕ AnyRefusal) (log : AnyLog AnyDisk)
         (old new : AnyStore AnyDisk ⟦<MemDisk as Disk>⟧) →
@@ -85,7 +85,7 @@ pub fn a_turn_of_an_owned_store_is_a_list_of_events()
 
 /// A Settle of that store is a Settle of the events, by any name that no open one has. It begins, each log has its
 /// turn, and the last turn tells what the store answered. So a number that it answered is settled. All that held of
-/// the store holds behind it.
+/// the store holds after it.
 pub fn a_settle_of_an_owned_store_is_a_settle()
     ensures { (accounts : Accounts) (slots : AnySlots AnyDisk) (standing : Standing) (serving : AnyServing) (id : ℕ) (told : Result ℕ AnyRefusal)
         (old new : AnyStore AnyDisk ⟦<MemDisk as Disk>⟧) →
