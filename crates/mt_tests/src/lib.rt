@@ -16,6 +16,8 @@ mod interior;
 #[cfg(test)]
 mod layers;
 #[cfg(test)]
+mod order;
+#[cfg(test)]
 mod rows;
 #[cfg(test)]
 mod slices;
