@@ -4,7 +4,7 @@ use Rattle.std.proofs.lemmas.List.Elements.{All-take, All-set}
 use Rattle.std.specs.{List.All, FinMap.insert}
 use Rattle.mt_rows.specs.Rows.{Bytes, Columns}
 use Rattle.mt_border.specs.{declared.entry.Pair.Pair, declared.entry.Entry.Entry, declared.entry.Held.Held, declared.entry.Held.TheVariants.Stable}
-use Rattle.mt_border.specs.{Entry.{pair_of, order_of}, Entries.{IsBorder, IsMissing, place_in, with_entry}, Node.{Node, entries_of, entry_at, IsLive, Rewrites}}
+use Rattle.mt_border.specs.{Entry.{pair_of, order_of}, Entries.{IsBorder, IsMissing, place_in, with_entry}, Node.{Node, entries_of, entry_at, place_at, IsLive, Rewrites}}
 use Rattle.mt_border.specs.Contents.{owned, contents_of, HasKey, AreKeys}
 use Rattle.mt_border.proofs.Edits.{any_entry, place_in-le, All-insert, replaced_at}
 use Rattle.mt_border.proofs.ContentsKeys.{IsApart, owned_at, has_rewritten_key, order_of_key, missing_key, all_apart}
@@ -32,12 +32,12 @@ contents-publish prefix layer entries e key pair keys has missing is =
 -- one slot of a border that holds something else
 module _ (old new : Node) (slot : ℕ) (held : Held) (border : IsBorder (entries_of old)) (live : IsLive old slot) (writes : Rewrites old new slot held) where
   -- the entries are the old ones but for that slot's
-  pub slots-store : entries_of new ≡ set (entries_of old) slot (record (entry_at old slot) { held = held })
-  slots-store = writes.entries ∙ replaced_at old.slots slot (record (entry_at old slot) { held = held }) any_entry border.rising live refl
+  pub slots-store : entries_of new ≡ set (entries_of old) (place_at old slot) (record (entry_at old slot) { held = held })
+  slots-store = writes.entries ∙ replaced_at (entries_of old) (place_at old slot) (record (entry_at old slot) { held = held }) any_entry border.rising live refl
 
   -- what holds of each entry, and of the new one, holds of each after a store
   pub each-store : (Q : Entry → Type 0) → All Q (entries_of old) → Q (record (entry_at old slot) { held = held }) → All Q (entries_of new)
-  each-store Q all one = subst (All Q) (sym slots-store) (All-set Q old.slots slot (record (entry_at old slot) { held = held }) one all)
+  each-store Q all one = subst (All Q) (sym slots-store) (All-set Q (entries_of old) (place_at old slot) (record (entry_at old slot) { held = held }) one all)
 
 -- a store of a row and its stamp in the slot that stands for a key
 module _ (old new : Node) (slot : ℕ) (pair : Pair) (row : Columns) (stamp : ℕ) (border : IsBorder (entries_of old)) (live : IsLive old slot)
@@ -54,7 +54,7 @@ module _ (old new : Node) (slot : ℕ) (pair : Pair) (row : Columns) (stamp : �
     pub contents-store : contents_of prefix (entries_of new) ≡ insert (contents_of prefix (entries_of old)) (owned key) row
     contents-store =
         ap (contents_of prefix) (slots-store old new slot _ border live writes)
-        ∙ contents-set prefix (owned key) old.slots slot entry any_entry pair (record pair { row = row; stamp = stamp }) live is
+        ∙ contents-set prefix (owned key) (entries_of old) (place_at old slot) entry any_entry pair (record pair { row = row; stamp = stamp }) live is
         (owned_at prefix layer (entry_at old slot) key pair has is) refl
         (owned_at prefix layer entry key (record pair { row = row; stamp = stamp }) (has_rewritten_key prefix layer (entry_at old slot) key pair row stamp has is) refl)
-        (apart_before prefix layer old.slots key slot border keys has.of_tree live (order_of_key prefix layer (entry_at old slot) key has))
+        (apart_before prefix layer (entries_of old) key (place_at old slot) border keys has.of_tree live (order_of_key prefix layer (entry_at old slot) key has))

@@ -10,7 +10,7 @@ use Rattle.mt_border.specs.{declared.entry.Pair.Pair, declared.entry.Entry.Entry
 use Rattle.mt_border.specs.{declared.entry.Held.TheVariants.{Stable, Unstable, Link}, declared.entry.Find.Find, declared.entry.Find.TheVariants.{Missing, Slot}}
 use Rattle.mt_border.specs.{declared.entry.FoundKind.FoundKind, declared.entry.FoundKind.TheVariants.{ThisKey, OtherLong, Link as ToTree}}
 use Rattle.mt_border.specs.{Entry.{pair_of, order_at, order_of, IsLink, IsKind}, Entries.{orders, IsBorder, IsMissing}}
-use Rattle.mt_border.specs.{Node.{Node, entries_of, entry_at, IsLive, IsFound, Finds}, Contents.{owned, contents_of, row_found, IsOfTree, HasKey, AreKeys}}
+use Rattle.mt_border.specs.{Node.{Node, entries_of, entry_at, place_at, IsLive, IsFound, Finds}, Contents.{owned, contents_of, row_found, IsOfTree, HasKey, AreKeys}}
 use Rattle.mt_border.proofs.Edits.{any_entry}
 use Rattle.mt_border.proofs.ContentsKeys.{IsApart, by_equation, owned_at, has_found_key, order_of_key, apart_by_order, apart_by_suffix, all_apart}
 use Rattle.mt_border.proofs.ContentsLists.{get-apart, get-at}
@@ -55,8 +55,8 @@ find_missing prefix layer entries key keys of_tree missing = get-apart prefix (o
 pub row_at : (prefix : Bytes) (layer : ℕ) (node : Node) (key : Bytes) (slot : ℕ) (pair : Pair) → IsBorder (entries_of node) → AreKeys prefix layer (entries_of node) → IsLive node slot → HasKey prefix layer (entry_at node slot) key → pair_of (entry_at node slot).held ≡ Some pair
     → get (contents_of prefix (entries_of node)) (owned key) ≡ Some pair.row
 row_at prefix layer node key slot pair border keys live has is =
-    get-at prefix (owned key) node.slots slot any_entry pair live is (owned_at prefix layer (entry_at node slot) key pair has is)
-    (apart_before prefix layer node.slots key slot border keys has.of_tree live (order_of_key prefix layer (entry_at node slot) key has))
+    get-at prefix (owned key) (entries_of node) (place_at node slot) any_entry pair live is (owned_at prefix layer (entry_at node slot) key pair has is)
+    (apart_before prefix layer (entries_of node) key (place_at node slot) border keys has.of_tree live (order_of_key prefix layer (entry_at node slot) key has))
 
 -- so has one that was found with this key
 pub find_here : (prefix : Bytes) (layer : ℕ) (node : Node) (key : Bytes) (slot : ℕ) (pair : Pair) → IsBorder (entries_of node) → AreKeys prefix layer (entries_of node) → IsOfTree prefix layer key → IsFound node (slice_of key layer) (mark_of key layer) (suffix_of key layer) slot ThisKey → pair_of (entry_at node slot).held ≡ Some pair
@@ -79,14 +79,14 @@ goes_otherwise e suffix ToTree other is = by e.held is.1
 pub find_other : (prefix : Bytes) (layer : ℕ) (node : Node) (key : Bytes) (slot : ℕ) (kind : FoundKind) → IsBorder (entries_of node) → AreKeys prefix layer (entries_of node) → IsOfTree prefix layer key → kind ≢ ThisKey → IsFound node (slice_of key layer) (mark_of key layer) (suffix_of key layer) slot kind
     → get (contents_of prefix (entries_of node)) (owned key) ≡ None
 find_other prefix layer node key slot kind border keys of_tree other found =
-    get-apart prefix (owned key) node.slots
-    (apart_with prefix layer node.slots key slot border keys of_tree found.live (λ i. order_at (found.slice_is i) (found.mark_is i))
+    get-apart prefix (owned key) (entries_of node)
+    (apart_with prefix layer (entries_of node) key (place_at node slot) border keys of_tree found.live (λ i. order_at (found.slice_is i) (found.mark_is i))
     (goes_otherwise (entry_at node slot) (suffix_of key layer) kind other found.kind_is))
 
 -- whatever a find answers: the contents have the row that it has found
 pub find_tells : (prefix : Bytes) (layer : ℕ) (node : Node) (key : Bytes) (found : Find) → IsBorder (entries_of node) → AreKeys prefix layer (entries_of node) → IsOfTree prefix layer key → Finds node (slice_of key layer) (mark_of key layer) (suffix_of key layer) found
     → get (contents_of prefix (entries_of node)) (owned key) ≡ row_found node found
-find_tells prefix layer node key Missing border keys of_tree is = find_missing prefix layer node.slots key keys of_tree is
+find_tells prefix layer node key Missing border keys of_tree is = find_missing prefix layer (entries_of node) key keys of_tree is
 find_tells prefix layer node key (Slot slot OtherLong) border keys of_tree is = find_other prefix layer node key slot OtherLong border keys of_tree (λ same. cc) is
 find_tells prefix layer node key (Slot slot ToTree) border keys of_tree is = find_other prefix layer node key slot ToTree border keys of_tree (λ same. cc) is
 find_tells prefix layer node key (Slot slot ThisKey) border keys of_tree is = by (pair_of (entry_at node slot).held) refl is.kind_is

@@ -3,7 +3,7 @@ use Rattle.std.proofs.{Common.{◌≡◌, ◌≢◌, ℕ, List, get_or, set, Som
 use Rattle.std.proofs.{lemmas.List.{length-set, get_or-set_same, get_or-set_other}, lemmas.List.Elements.All-from_get_or}
 use Rattle.mt_rows.specs.Rows.{Bytes, Columns}
 use Rattle.mt_border.specs.{declared.entry.Pair.Pair, declared.entry.Entry.Entry, declared.entry.Held.TheVariants.Stable, Entry.pair_of}
-use Rattle.mt_border.specs.{Entries.{IsBorder, IsMissing, with_entry}, Node.{Node, entries_of, entry_at, IsLive, Rewrites}}
+use Rattle.mt_border.specs.{Entries.{IsBorder, IsMissing, with_entry}, Node.{Node, entries_of, entry_at, place_at, IsLive, Rewrites}}
 use Rattle.mt_border.specs.Contents.{owned, key_at, HasKey, AreKeys, IsStamped, AllStamped}
 use Rattle.mt_border.proofs.{Edits.any_entry, ContentsKeys.{IsApart, owned_at, has_rewritten_key, order_of_key, missing_key, all_apart}}
 use Rattle.mt_border.proofs.{ContentsFinds.apart_beside, ContentsEdits.{each-publish, slots-store}}
@@ -37,12 +37,12 @@ pub stamped_store : (P Q : ℕ × Bytes → ℕ → Type 0) (old new : Node) (sl
     → ((r : ℕ × Bytes) (s : ℕ) → r ≢ owned key → P r s → Q r s) → Q (owned key) stamp → AllStamped P prefix (entries_of old) → AllStamped Q prefix (entries_of new)
 stamped_store P Q old new slot pair row stamp border live is writes prefix layer key keys has weaker known stamped =
     let entry : Entry = record (entry_at old slot) { held = Stable (record pair { row = row; stamp = stamp }) } in
-    let size = length-set old.slots slot entry in
+    let size = length-set (entries_of old) (place_at old slot) entry in
     let here : IsStamped Q prefix entry = stamped_as Q prefix layer entry key (record pair { row = row; stamp = stamp }) (has_rewritten_key prefix layer (entry_at old slot) key pair row stamp has is) refl known in
     subst (AllStamped Q prefix) (sym (slots-store old new slot _ border live writes))
-    (All-from_get_or (IsStamped Q prefix) (set old.slots slot entry) any_entry (λ k inside. elim (cases_eq k slot) [
-      | inl same ↦ rw (same, get_or-set_same old.slots slot entry any_entry live) here
-      | inr differ ↦ rw (get_or-set_other old.slots slot k entry any_entry differ) (stamped_beside P Q prefix (owned key) (get_or old.slots k any_entry) weaker
-          (apart_beside prefix layer old.slots key slot border keys has.of_tree live (order_of_key prefix layer (entry_at old slot) key has) k any_entry (omega arith) differ)
+    (All-from_get_or (IsStamped Q prefix) (set (entries_of old) (place_at old slot) entry) any_entry (λ k inside. elim (cases_eq k (place_at old slot)) [
+      | inl same ↦ rw (same, get_or-set_same (entries_of old) (place_at old slot) entry any_entry live) here
+      | inr differ ↦ rw (get_or-set_other (entries_of old) (place_at old slot) k entry any_entry differ) (stamped_beside P Q prefix (owned key) (get_or (entries_of old) k any_entry) weaker
+          (apart_beside prefix layer (entries_of old) key (place_at old slot) border keys has.of_tree live (order_of_key prefix layer (entry_at old slot) key has) k any_entry (omega arith) differ)
           (stamped k any_entry (omega arith)))
     ]))

@@ -1,6 +1,7 @@
 pub mod Orders
 pub mod Edits
 pub mod RowEdits
+pub mod Slotting
 pub mod Writes
 pub mod Cuts
 pub mod Counts

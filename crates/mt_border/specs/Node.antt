@@ -1,14 +1,16 @@
 -- A border node as its callers see it, and what they say of its slots.
-use Rattle.std.specs.Prelude.{◌≡◌, ◌≢◌, ℕ, ◌<◌, ◌↔◌, List, [], length, slice_index_or, Option, None, Contains}
+use Rattle.std.specs.Prelude.{◌≡◌, ◌≢◌, ℕ, ◌<◌, ◌↔◌, List, length, slice_index_or, Option, None, Contains}
 use Rattle.mt_slices.specs.{declared.mark.Mark.Mark, declared.mark.Mark.TheVariants.Long}
 use Rattle.mt_version.specs.Parts.{Parts}
+use Rattle.mt_order.specs.Places.{place_of_slot}
 use Rattle.mt_border.specs.{declared.entry.Entry.Entry, declared.entry.Held.Held, declared.entry.Held.TheVariants.Link, declared.entry.Find.Find}
-use Rattle.mt_border.specs.{declared.entry.Find.TheVariants.{Missing, Slot}, declared.entry.FoundKind.FoundKind, Entry.IsKind, Entries.{IsMissing, replaced}}
+use Rattle.mt_border.specs.{declared.entry.Find.TheVariants.{Missing, Slot}, declared.entry.FoundKind.FoundKind, Entry.IsKind, Entries.{IsBorder, IsMissing, replaced}}
+use Rattle.mt_border.specs.Slots.{Slotted, IsSlotted, fresh_slots, listed}
 
 -- Its slots, of which the words below speak, the nodes beside it and above it, its fences, and its version.
 -- The low fence is the least slice that belongs in it, and the high one the least that belongs behind it.
 pub record Node : Type 0 where
-  pub slots : List Entry
+  pub slots : Slotted
   pub next : Option ℕ
   pub previous : Option ℕ
   pub parent : Option ℕ
@@ -19,7 +21,7 @@ pub record Node : Type 0 where
 -- a node without entries and neighbours
 abbrev pub empty_node : ℕ → Option ℕ → Parts → Node
 empty_node low high version = record {
-  slots = [];
+  slots = fresh_slots;
   next = None;
   previous = None;
   parent = None;
@@ -30,15 +32,19 @@ empty_node low high version = record {
 
 -- the entries of its live slots, in the order of their keys
 abbrev pub entries_of : Node → List Entry
-entries_of node = node.slots
+entries_of node = listed node.slots
+
+-- where a slot stands in the order of keys
+abbrev pub place_at : Node → ℕ → ℕ
+place_at node slot = place_of_slot node.slots.order.live slot
 
 -- the slot has an entry
 abbrev pub IsLive : Node → ℕ → Type 0
-IsLive node slot = slot < length node.slots
+IsLive node slot = place_at node slot < length (entries_of node)
 
 -- the entry of a live slot; of another slot it says nothing
 abbrev pub entry_at : Node → ℕ → Entry
-entry_at node slot = slice_index_or node.slots slot (record { slice = 0; mark = Long; held = Link 0 })
+entry_at node slot = slice_index_or (entries_of node) (place_at node slot) (record { slice = 0; mark = Long; held = Link 0 })
 
 -- what a live slot holds
 abbrev pub held_at : Node → ℕ → Held
@@ -64,4 +70,10 @@ pub record Rewrites (old new : Node) (slot : ℕ) (held : Held) : Type 0 where
   pub here : entry_at new slot ≡ record (entry_at old slot) { held = held }
   pub live : (other : ℕ) → IsLive new other ↔ IsLive old other
   pub others : (other : ℕ) → other ≢ slot → entry_at new other ≡ entry_at old other
+  pub helds : new.slots ≡ record old.slots { helds = new.slots.helds }
   pub rest : new ≡ record old { slots = new.slots }
+
+-- what holds of a node's slots
+pub record IsNodeSlots (s : Slotted) : Type 0 where
+  pub slotted : IsSlotted s
+  pub border : IsBorder (listed s)

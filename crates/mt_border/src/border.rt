@@ -1,6 +1,6 @@
 //! The border node: its entries, its neighbours and its parent, its fences, and its version.
 //!
-//! Invariant: `IsBorder` of the entries; that is, fifteen at most, each one that may stand in a
+//! Invariant: `IsNodeSlots`; that is, fifteen slots, and of the live ones entries that may stand in a
 //! node, in strictly rising order. How entries, fences and other nodes fit together is the arena's
 //! to keep, and so is who holds a node's lock.
 //!
@@ -11,7 +11,7 @@
 //! No call takes memory or fails; all change the node in place. A node owns its entries. Numbers of
 //! nodes and trees are the arena's.
 
-ghost use Rattle.std.specs.{Prelude.{◌≡◌, ◌-◌, ◌<◌, ◌≤◌, ◌↔◌, ℕ, [], IsTrue, IsSome, IfSome, length, slice_get}, Option.option_map};
+ghost use Rattle.std.specs.{Prelude.{◌≡◌, ◌-◌, ◌<◌, ◌≤◌, ◌↔◌, ℕ, [], IsTrue, IsSome, IfSome, length, slice_get, map}, Option.option_map};
 ghost use Rattle.mt_slices.specs.Marks.{IsMark};
 
 use crate::entry::{Entry, EntryRef, Find, Held, Pair};
@@ -43,7 +43,7 @@ pub struct Border {
 }
 
 impl Model for Border {
-    ghost use Rattle.mt_border.specs.{Entries.IsBorder, Node.Node};
+    ghost use Rattle.mt_border.specs.Node.{Node, IsNodeSlots};
 
     ghost Value = { Node };
 
@@ -57,11 +57,11 @@ impl Model for Border {
       version = b.version;
     } };
 
-    ghost invariant = { λ b. IsBorder b.slots };
+    ghost invariant = { λ b. IsNodeSlots b.slots };
 }
 
 impl Border {
-    ghost use Rattle.mt_border.specs.{Restamps.all_restamped, declared.entry.Pair.Pair, Entry.{IsEntry, IsRest, IsStablePair, IsUnlinked, IsLinked}};
+    ghost use Rattle.mt_border.specs.{Restamps.{stamped, all_restamped}, declared.entry.Pair.Pair, Entry.{IsEntry, IsRest, IsStablePair, IsUnlinked, IsLinked}};
     ghost use Rattle.mt_border.specs.{Rows.entry_seen, Entries.{IsBorder, IsMissing, with_entry, without}, Split.{IsCut, IsParted, IsSeparator, slices_with}};
     ghost use Rattle.mt_border.specs.Node.{empty_node, entries_of, entry_at, held_at, IsLive, Finds, Rewrites};
 
@@ -110,7 +110,10 @@ impl Border {
         ensures { Finds self.now slice mark suffix.now result }
     {
         match search(&self.slots, slice, mark) {
-            Some(slot) => Find::Slot(slot, self.slots.entry(slot).kind(suffix)),
+            Some(place) => {
+                let slot = self.slots.slot_at(place);
+                Find::Slot(slot, self.slots.entry(place).kind(suffix))
+            }
             None => Find::Missing,
         }
     }
@@ -120,14 +123,20 @@ impl Border {
         ensures live { IsSome result ↔ IsLive self.now slot }
         ensures value { IfSome result (λ held. held.now ≡ held_at self.now slot) }
     {
-        self.slots.get(slot).map(|entry| entry.held)
+        match self.slots.place_of(slot) {
+            Some(place) => Some(self.slots.entry(place).held),
+            None => None,
+        }
     }
 
     /// The entries in the order of their keys.
     pub fn entries(&self) -> Entries<'_>
         ensures { result ≡ entries_of self.now }
     {
-        self.slots.entries()
+        Entries {
+            slots: &self.slots,
+            place: 0,
+        }
     }
 
     /// The first entry in the order of keys.
@@ -174,7 +183,10 @@ impl Border {
 
     /// Writes the stamp of each pair.
     pub fn restamp(&mut self, stamp: u64)
-        ensures { self.new ≡ record self.old { slots = all_restamped stamp self.old.slots } }
+        ensures entries { entries_of self.new ≡ all_restamped stamp (entries_of self.old) }
+        ensures helds { self.new ≡ record self.old {
+          slots = record self.old.slots { helds = map (stamped stamp) self.old.slots.helds };
+        } }
     {
         self.slots.restamp(stamp);
     }
@@ -224,7 +236,8 @@ impl Border {
         ensures entries { entries_of self.new ≡ without (entries_of self.old) result }
         ensures others { self.new ≡ record self.old { slots = self.new.slots } }
     {
-        self.slots.remove(slot)
+        let place = self.slots.place_of(slot).unwrap();
+        self.slots.remove(place)
     }
 
     /// The first slice on the right, were the node split with this key.

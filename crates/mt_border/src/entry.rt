@@ -7,8 +7,6 @@ ghost use Rattle.std.specs.Prelude.{◌≡◌, ℕ};
 
 use mt_rows::Row;
 use mt_slices::Mark;
-use std::alloc::Global;
-use std::default::MadeWith;
 use std::marker::Model;
 use std::mem;
 
@@ -76,13 +74,6 @@ pub struct EntryRef<'a> {
     pub slice: u64,
     pub mark: Mark,
     pub held: &'a Held,
-}
-
-// What lies in the places that no slot uses. No contract sees it.
-impl MadeWith<Global> for Held {
-    fn made_with(_: Global) -> Held {
-        Held::Link(0)
-    }
 }
 
 /// The mark of a slot.

@@ -3,26 +3,24 @@
 ghost use Rattle.std.specs.Iterator.{YieldsFirstBy, item_count};
 ghost use Rattle.mt_border.specs.Rows.{entry_seen};
 
-use crate::entry::{EntryRef, Held, SlotMark};
+use crate::entry::EntryRef;
+use crate::slots::Slots;
 use std::marker::Model;
 
 /// The entries of a node, seen as the list of those that are left.
 #[derive(Drop)]
 pub struct Entries<'a> {
-    pub(crate) slices: &'a [u64],
-    pub(crate) marks: &'a [SlotMark],
-    pub(crate) helds: &'a [Held],
+    pub(crate) slots: &'a Slots,
+    pub(crate) place: usize,
 }
 
 impl<'a> Model for Entries<'a> {
-    ghost use Rattle.std.specs.Prelude.{List};
-    ghost use Rattle.mt_border.specs.{declared.entry.Entry.Entry, Rows.{entries_in, AreRows}};
+    ghost use Rattle.std.specs.Prelude.{List, drop};
+    ghost use Rattle.mt_border.specs.{declared.entry.Entry.Entry, Slots.listed};
 
     ghost Value = { List Entry };
 
-    ghost view = { λ it. entries_in it.slices.now it.marks.now it.helds.now };
-
-    ghost invariant = { λ it. AreRows it.slices.now it.marks.now it.helds.now };
+    ghost view = { λ it. drop it.place (listed it.slots.now) };
 }
 
 impl<'a> Iterator for Entries<'a> {
@@ -33,17 +31,11 @@ impl<'a> Iterator for Entries<'a> {
     ghost remaining = { item_count (λ rest. rest) };
 
     fn next(&mut self) -> Option<EntryRef<'a>> {
-        let rows = (self.slices, self.marks, self.helds);
-        let ([slice, slices @ ..], [mark, marks @ ..], [held, helds @ ..]) = rows else {
+        if self.place >= self.slots.len() {
             return None;
-        };
-        self.slices = slices;
-        self.marks = marks;
-        self.helds = helds;
-        Some(EntryRef {
-            slice: *slice,
-            mark: mark.get(),
-            held,
-        })
+        }
+        let entry = self.slots.entry(self.place);
+        self.place += 1;
+        Some(entry)
     }
 }

@@ -1,10 +1,14 @@
-//! The slots of a border node: three rows, of slices, of marks, and of what is held at them.
+//! The slots of a border node: the slices and the marks of its live slots in the order of keys, and
+//! what each of the fifteen slots holds.
 //!
-//! A search reads the slices alone, which lie side by side, and then the marks of one slice.
+//! A search reads the slices alone, which lie side by side, and then the marks of one slice. A slot
+//! keeps its number, and what it holds stays where it is, until its key is dropped: a key that comes
+//! before it moves a slice and a mark, and numbers of slots.
 //!
-//! Invariant: the rows have one length, and the entry of a slot is what stands at its place in each.
+//! Invariant: the order names each of the fifteen slots once, and there are as many slices and marks
+//! as live slots.
 
-ghost use Rattle.std.specs.Prelude.{◌≡◌, ◌<◌, ◌≤◌, [], length, take, drop, insert, remove, slice_get, slice_index_or, count_by, nat_lt, map};
+ghost use Rattle.std.specs.Prelude.{◌≡◌, ◌<◌, ◌≤◌, [], length, take, drop, insert, remove, slice_get, slice_index, slice_index_or, count_by, nat_lt, map, IfSome, IfNone};
 ghost use Rattle.std.specs.Option.{option_map};
 ghost use Rattle.mt_lists.specs.Rising.{NeverFalls};
 ghost use Rattle.arrayvec.specs.ArrayVec.{array_vec_len};
@@ -12,169 +16,192 @@ ghost use Rattle.mt_border.specs.Restamps.{stamped};
 
 use crate::border::SLOTS;
 use crate::entry::{Entry, EntryRef, Held, SlotMark};
-use crate::iter::Entries;
 use arrayvec::ArrayVec;
 use mt_lists::padded::PaddedList;
+use mt_order::Order;
 use std::alloc::Global;
 use std::default::MadeWith;
 use std::marker::Model;
+use std::mem;
 
-/// The entries in the order of their keys.
+/// Fifteen slots.
+// What a search reads stands first.
 #[derive(Debug, Drop)]
 pub(crate) struct Slots {
     slices: PaddedList,
+    order: Order,
     marks: ArrayVec<SlotMark, SLOTS, Global>,
-    pub(crate) helds: ArrayVec<Held, SLOTS, Global>,
+    dropped: [bool; SLOTS],
+    pub(crate) helds: [Held; SLOTS],
 }
 
 impl Model for Slots {
-    ghost use Rattle.std.specs.Prelude.{List};
-    ghost use Rattle.mt_border.specs.{declared.entry.Entry.Entry, Rows.{entries_in, AreRows}};
+    ghost use Rattle.mt_border.specs.Slots.{Slotted, IsSlotted, slots_in};
 
-    ghost Value = { List Entry };
+    ghost Value = { Slotted };
 
-    ghost view = { λ s. entries_in s.slices s.marks.items s.helds.items };
+    ghost view = { λ s. slots_in s.slices s.marks.items s.helds s.dropped s.order };
 
-    ghost invariant = { λ s. AreRows s.slices s.marks.items s.helds.items };
+    ghost invariant = { λ s. IsSlotted (slots_in s.slices s.marks.items s.helds s.dropped s.order) };
 }
 
 impl Slots {
     ghost use Rattle.mt_border.specs.{Restamps.all_restamped, Entries.{slices, marks}, Rows.entry_seen};
+    ghost use Rattle.mt_border.specs.Slots.{IsSlotted, fresh_slots, listed};
+    ghost use Rattle.mt_order.specs.Places.{place_of_slot};
 
     pub(crate) fn new(alloc: Global) -> Self
-        ensures { result ≡ [] }
+        ensures { result ≡ fresh_slots }
     {
         Slots {
             slices: PaddedList::new(),
+            order: Order::new(),
             marks: ArrayVec::new_in(alloc),
-            helds: ArrayVec::new_in(alloc),
+            dropped: [false; SLOTS],
+            helds: [
+                Held::Link(0),
+                Held::Link(0),
+                Held::Link(0),
+                Held::Link(0),
+                Held::Link(0),
+                Held::Link(0),
+                Held::Link(0),
+                Held::Link(0),
+                Held::Link(0),
+                Held::Link(0),
+                Held::Link(0),
+                Held::Link(0),
+                Held::Link(0),
+                Held::Link(0),
+                Held::Link(0),
+            ],
         }
     }
 
+    /// The number of live slots.
     pub(crate) fn len(&self) -> usize
-        ensures { result ≡ length self.now }
+        ensures value { result ≡ length (listed self.now) }
+        ensures slotted { IsSlotted self.now }
     {
         self.slices.len()
     }
 
+    /// The slices in the order of keys.
     pub(crate) fn slices(&self) -> &[u64]
-        ensures { result.now ≡ slices self.now }
+        ensures { result.now ≡ slices (listed self.now) }
     {
         self.slices.as_slice()
     }
 
-    /// How many slots stand before the slice.
+    /// How many live slots stand before the slice.
     pub(crate) fn count_below(&self, slice: u64) -> usize
-        requires rises { NeverFalls (slices self.now) }
-        requires few { length self.now ≤ SLOTS }
-        ensures { result ≡ count_by (λ s. nat_lt s slice) (slices self.now) }
+        requires rises { NeverFalls (slices (listed self.now)) }
+        requires few { length (listed self.now) ≤ SLOTS }
+        ensures { result ≡ count_by (λ s. nat_lt s slice) (slices (listed self.now)) }
     {
         self.slices.count_below(slice)
     }
 
+    /// The marks in the order of keys.
     pub(crate) fn marks(&self) -> &[SlotMark]
-        ensures { result.now ≡ marks self.now }
+        ensures { result.now ≡ marks (listed self.now) }
     {
         &self.marks
     }
 
-    pub(crate) fn entries(&self) -> Entries<'_>
-        ensures { result ≡ self.now }
+    /// The slot at a place of the order.
+    pub(crate) fn slot_at(&self, place: usize) -> usize
+        requires { place < length (listed self.now) }
+        ensures { place_of_slot self.now.order.live result ≡ place }
     {
-        Entries {
-            slices: self.slices.as_slice(),
-            marks: &self.marks,
-            helds: &self.helds,
-        }
+        self.order.slot(place)
     }
 
-    /// The entry of a slot that has one.
-    pub(crate) fn entry(&self, slot: usize) -> EntryRef<'_>
-        requires { slot < length self.now }
-        ensures { entry_seen result ≡ slice_index_or self.now slot (entry_seen result) }
+    /// The place of a live slot.
+    pub(crate) fn place_of(&self, slot: usize) -> Option<usize>
+        ensures live { IfSome result (λ place. place < length (listed self.now)) }
+        ensures some { IfSome result (λ place. place_of_slot self.now.order.live slot ≡ place) }
+        ensures none { IfNone result (length (listed self.now) ≤ place_of_slot self.now.order.live slot) }
     {
+        self.order.place_of(slot)
+    }
+
+    /// The entry at a place of the order that has one.
+    pub(crate) fn entry(&self, place: usize) -> EntryRef<'_>
+        requires { place < length (listed self.now) }
+        ensures { entry_seen result ≡ slice_index_or (listed self.now) place (entry_seen result) }
+    {
+        let slot = self.order.slot(place);
         EntryRef {
-            slice: self.slices.as_slice()[slot],
-            mark: self.marks[slot].get(),
+            slice: self.slices.as_slice()[place],
+            mark: self.marks[place].get(),
             held: &self.helds[slot],
         }
     }
 
-    /// The entry of a slot, if it has one.
-    pub(crate) fn get(&self, slot: usize) -> Option<EntryRef<'_>>
-        ensures { option_map entry_seen result ≡ slice_get self.now slot }
+    /// The entry at a place of the order, if it has one.
+    pub(crate) fn get(&self, place: usize) -> Option<EntryRef<'_>>
+        ensures { option_map entry_seen result ≡ slice_get (listed self.now) place }
     {
-        if slot < self.len() {
-            Some(self.entry(slot))
+        if place < self.len() {
+            Some(self.entry(place))
         } else {
             None
         }
     }
 
-    pub(crate) fn insert(&mut self, slot: usize, entry: Entry)
-        requires in_bounds { slot ≤ length self.old }
-        requires room { length self.old < SLOTS }
-        ensures { self.new ≡ insert self.old slot entry }
+    /// Puts an entry in at a place of the order. The first free slot holds it.
+    pub(crate) fn insert(&mut self, place: usize, entry: Entry)
+        requires in_bounds { place ≤ length (listed self.old) }
+        requires room { length (listed self.old) < SLOTS }
+        ensures entries { listed self.new ≡ insert (listed self.old) place entry }
+        ensures slotted { IsSlotted self.new }
     {
-        self.slices.insert(slot, entry.slice);
-        self.marks.insert(slot, SlotMark::new(entry.mark));
-        self.helds.insert(slot, entry.held);
+        self.slices.insert(place, entry.slice);
+        self.marks.insert(place, SlotMark::new(entry.mark));
+        let slot = self.order.insert(place);
+        self.helds[slot] = entry.held;
     }
 
-    pub(crate) fn remove(&mut self, slot: usize) -> Entry
-        requires { slot < length self.old }
-        ensures value { result ≡ slice_index_or self.old slot result }
-        ensures entries { self.new ≡ remove self.old slot }
+    /// Takes the entry at a place of the order out. Its slot is the first free one.
+    pub(crate) fn remove(&mut self, place: usize) -> Entry
+        requires { place < length (listed self.old) }
+        ensures value { result ≡ slice_index_or (listed self.old) place result }
+        ensures entries { listed self.new ≡ remove (listed self.old) place }
+        ensures slotted { IsSlotted self.new }
     {
-        Entry {
-            slice: self.slices.remove(slot),
-            mark: self.marks.remove(slot).get(),
-            held: self.helds.remove(slot),
-        }
+        let slice = self.slices.remove(place);
+        let mark = self.marks.remove(place).get();
+        let slot = self.order.remove(place);
+        self.dropped[slot] = true;
+        let held = mem::replace(&mut self.helds[slot], Held::Link(0));
+        Entry { slice, mark, held }
     }
 
     /// Writes the stamp of each pair.
     pub(crate) fn restamp(&mut self, stamp: u64)
-        ensures { self.new ≡ all_restamped stamp self.old }
+        ensures helds { self.new ≡ record self.old { helds = map (stamped stamp) self.old.helds } }
+        ensures entries { listed self.new ≡ all_restamped stamp (listed self.old) }
+        ensures slotted { IsSlotted self.new }
     {
-        restamp_row(&mut self.helds, stamp);
+        restamp_each(&mut self.helds, stamp);
     }
 
-    /// Moves the entries from place `keep` on into slots that have none.
+    /// Moves the entries from place `keep` on into slots of which none is live. Those that stay keep their slots.
     pub(crate) fn move_tail(&mut self, keep: usize, right: &mut Slots)
-        requires within { keep ≤ length self.old }
-        requires empty { right.old ≡ [] }
-        ensures kept { self.new ≡ take keep self.old }
-        ensures moved { right.new ≡ drop keep self.old }
+        requires within { keep ≤ length (listed self.old) }
+        requires few { length (listed self.old) ≤ SLOTS }
+        requires empty { listed right.old ≡ [] }
+        ensures kept { listed self.new ≡ take keep (listed self.old) }
+        ensures moved { listed right.new ≡ drop keep (listed self.old) }
+        ensures slotted { IsSlotted self.new }
+        ensures slotted_on_the_right { IsSlotted right.new }
     {
-        right.slices = self.slices.split_off(keep);
-        move_row_tail(&mut self.marks, keep, &mut right.marks);
-        move_row_tail(&mut self.helds, keep, &mut right.helds);
+        for place in right.len()..self.len() - keep {
+            let entry = self.remove(keep);
+            right.insert(place, entry);
+        }
     }
-}
-
-// Moves what stands from place `keep` on into an empty row.
-fn move_row_tail<T: MadeWith<Global> + Drop>(
-    left: &mut ArrayVec<T, SLOTS, Global>,
-    keep: usize,
-    right: &mut ArrayVec<T, SLOTS, Global>,
-)
-    requires within { keep ≤ array_vec_len left.old }
-    requires empty { right.old.items ≡ [] }
-    ensures kept { left.new.items ≡ take keep left.old.items }
-    ensures moved { right.new.items ≡ drop keep left.old.items }
-{
-    let end = left.len();
-    for moved in left.drain(keep..end) {
-        right.push(moved);
-    }
-}
-
-// Writes the stamp of each pair of a row.
-fn restamp_row(helds: &mut ArrayVec<Held, SLOTS, Global>, stamp: u64)
-    ensures { helds.new.items ≡ map (stamped stamp) helds.old.items }
-{
-    restamp_each(helds.as_mut_slice(), stamp);
 }
 
 // Writes the stamp of each pair.

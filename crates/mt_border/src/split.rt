@@ -6,7 +6,7 @@
 
 ghost use Rattle.std.specs.Prelude.{◌≡◌, ◌≢◌, length, slice_index};
 ghost use Rattle.mt_slices.specs.Marks.{IsMark};
-ghost use Rattle.mt_border.specs.{Entries.{IsBorder, IsMissing}, Split.{IsCut, IsSeparator, slices_with}};
+ghost use Rattle.mt_border.specs.{Entries.{IsBorder, IsMissing}, Slots.listed, Split.{IsCut, IsSeparator, slices_with}};
 
 use crate::border::SLOTS;
 use crate::places::place_of;
@@ -38,11 +38,11 @@ pub(crate) fn cut_of(slices: &[u64]) -> usize
 
 /// The first slice on the right of a cut through the entries and one more key.
 pub(crate) fn separator_of(slots: &Slots, slice: u64, mark: Mark) -> u64
-    requires full { length slots.now ≡ SLOTS }
-    requires border { IsBorder slots.now }
+    requires full { length (listed slots.now) ≡ SLOTS }
+    requires border { IsBorder (listed slots.now) }
     requires mark { IsMark mark }
-    requires missing { IsMissing slots.now slice mark }
-    ensures { IsSeparator (slices_with slots.now slice mark) result }
+    requires missing { IsMissing (listed slots.now) slice mark }
+    ensures { IsSeparator (slices_with (listed slots.now) slice mark) result }
 {
     let mut slices: ArrayVec<u64, 16> = ArrayVec::new();
     slices.try_extend_from_slice(slots.slices()).unwrap();

@@ -1,9 +1,9 @@
 -- No slot stands twice in an order.
-use Rattle.std.proofs.{Common.{◌≡◌, ◌≢◌, ℕ, zero, suc, ◌+◌, ◌<◌, List, ◌++◌, length, get_or, nat_eq, refl, sym, ◌∙◌, inl, inr, arith}, lemmas.Bool.cases_lt}
-use Rattle.std.proofs.{lemmas.Bool.Decides.{Decides-eqb, nat_tests}, lemmas.List.{get_or_append_left, length-append}, lemmas.List.Kept.AllPairs-from_increasing}
+use Rattle.std.proofs.{Common.{◌≡◌, ◌≢◌, ℕ, zero, suc, ◌+◌, ◌<◌, List, [], ◌∷◌, ◌++◌, length, get_or, nat_eq, refl, sym, ap, ◌∙◌, inl, inr, arith}, lemmas.Bool.{cases_eq, cases_lt}}
+use Rattle.std.proofs.{lemmas.Bool.Decides.{Decides-eqb, nat_tests}, lemmas.List.{get_or_append_left, get_or-append-add, get_or_default, length-append}, lemmas.List.Kept.AllPairs-from_increasing}
 use Rattle.std.proofs.{lemmas.Map.Keys.IsDistinct-IsPermutation, lemmas.Map.Made.{AllPairs-from_IsDistinct, IsDistinct-from_AllPairs}}
-use Rattle.std.specs.List.{AllPairs}
-use Rattle.mt_order.specs.Places.{Places, IsOrder, IsPlaces, fifteen}
+use Rattle.std.specs.{Prelude.{◌==◌, if◌then◌else◌}, List.{All, AllPairs}}
+use Rattle.mt_order.specs.Places.{Places, IsOrder, IsPlaces, fifteen, place_of_slot}
 
 fifteen_is : (k : ℕ) → k < 15 → get_or fifteen k 0 ≡ k
 fifteen_is zero lt = refl
@@ -55,3 +55,50 @@ pub live_below : (o : Places) (i d : ℕ) → IsPlaces o → i < length o.live �
 live_below o i d places within =
     let size = length-append o.live o.free in
     rw (← get_or_append_left o.live o.free d i within) (places.below i d (omega (arith, within, size)))
+
+-- a place of the live slots is that of its slot
+step_here : (a s n : ℕ) → a ≡ s → (if a == s then 0 else suc n) ≡ 0
+step_here a s n same = grind (arith, nat_tests)
+
+step_on : (a s n : ℕ) → a ≢ s → (if a == s then 0 else suc n) ≡ suc n
+step_on a s n differ = grind (arith, nat_tests)
+
+-- the first place that has the slot is the one that is told
+first_place : (xs : List ℕ) (slot k : ℕ) → k < length xs → get_or xs k 0 ≡ slot → ((j : ℕ) → j < k → get_or xs j 0 ≢ slot) → place_of_slot xs slot ≡ k
+first_place [] slot k within is apart = absurd (omega (arith, within))
+first_place (x ∷ xs) slot zero within is apart = step_here x slot (place_of_slot xs slot) is
+first_place (x ∷ xs) slot (suc k) within is apart =
+    step_on x slot (place_of_slot xs slot) (apart 0 (omega arith))
+    ∙ ap suc (first_place xs slot k (omega (arith, within)) is (λ j lt. apart (suc j) (omega (arith, lt))))
+
+pub place_is : (o : Places) (slot k : ℕ) → IsPlaces o → k < length o.live → get_or o.live k 0 ≡ slot → place_of_slot o.live slot ≡ k
+place_is o slot k places within is =
+    first_place o.live slot k within is (λ j lt same. omega (arith, lt, live_once o j k places (omega (arith, lt, within)) within (same ∙ sym is)))
+
+-- a slot that isn't there is told behind all others
+pub no_place : (xs : List ℕ) (slot : ℕ) → All (λ s. s ≢ slot) xs → place_of_slot xs slot ≡ length xs
+no_place [] slot apart = refl
+no_place (x ∷ xs) slot apart = step_on x slot (place_of_slot xs slot) (apart 0 0 (omega arith)) ∙ ap suc (no_place xs slot (λ k d lt. apart (suc k) d (omega (arith, lt))))
+
+-- and at a place that is told the slot stands
+pub slot_there : (xs : List ℕ) (slot : ℕ) → place_of_slot xs slot < length xs → get_or xs (place_of_slot xs slot) 0 ≡ slot
+slot_there [] slot within = absurd (omega (arith, within))
+slot_there (x ∷ xs) slot within = elim (cases_eq x slot) [
+  | inl same ↦ rw (step_here x slot (place_of_slot xs slot) same) same
+  | inr differ ↦ let on = step_on x slot (place_of_slot xs slot) differ in
+      let less = rw on at within in
+      rw on (slot_there xs slot (omega (arith, less)))
+]
+
+-- a free slot is not live
+pub free_apart : (o : Places) (k : ℕ) → IsPlaces o → k < length o.free → All (λ x. x ≢ get_or o.free k 0) o.live
+free_apart o k places free i d within =
+    let size = length-append o.live o.free in
+    λ same. once (o.live ++ o.free) (length o.live) places i (length o.live + k) d (omega (arith, within)) (omega (arith, free, size))
+    (get_or_append_left o.live o.free d i within ∙ same ∙ sym (get_or-append-add o.live o.free k d ∙ get_or_default o.free k d 0 free))
+
+-- and it is one of the fifteen
+pub free_below : (o : Places) (k : ℕ) → IsPlaces o → k < length o.free → get_or o.free k 0 < 15
+free_below o k places free =
+    let size = length-append o.live o.free in
+    rw (← get_or-append-add o.live o.free k 0) (places.below (length o.live + k) 0 (omega (arith, free, size)))

@@ -1,5 +1,5 @@
 -- The order of the slots of a border node.
-use Rattle.std.specs.{Prelude.{◌≡◌, ℕ, ◌+◌, ◌*◌, ◌<◌, ◌≤◌, List, [], ◌∷◌, ◌++◌, length}, List.All, List.Sorted.IsPermutation}
+use Rattle.std.specs.{Prelude.{◌≡◌, ℕ, suc, ◌==◌, if◌then◌else◌, ◌+◌, ◌*◌, ◌<◌, ◌≤◌, List, [], ◌∷◌, ◌++◌, length}, List.All, List.Sorted.IsPermutation}
 
 -- the live slots in the order of their keys, and the free ones in the order in which they are taken
 pub record Places : Type 0 where
@@ -31,3 +31,8 @@ number (s ∷ rest) = s + 16 * number rest
 -- how many slots are live, and then all slots
 abbrev pub word_of : Places → ℕ
 word_of o = length o.live + 16 * number (o.live ++ o.free)
+
+-- how many slots stand before a slot; all of them, where it isn't there
+abbrev pub place_of_slot : List ℕ → ℕ → ℕ
+place_of_slot [] slot = 0
+place_of_slot (s ∷ slots) slot = if s == slot then 0 else suc (place_of_slot slots slot)

@@ -2,32 +2,33 @@
 use Rattle.std.proofs.{Common.{refl, ◌<◌, length, arith, ap, below_more}, lemmas.Bool.Decides.nat_tests, lemmas.List.length-map}
 use Rattle.mt_border.specs.declared.entry.Entry.{Entry}
 use Rattle.mt_border.proofs.{Edits.place_in-is, Cuts.marks_of, Counts.{slices_fall, slices_count, mark_read, lower_slices, other_slice, lower_mark, other_mark}}
+use Rattle.mt_border.specs.Slots.{listed}
 use Rattle.mt_border.proofs.places.place_of.Goals.{then-slices-place-via-then-slices-place, then-slices-place-via-else-slices-place+then-not-is_before}
 use Rattle.mt_border.proofs.places.place_of.Goals as goal
 
 pub count_below-place-requires-clause-rises : goal.count_below-place-requires-clause-rises
-count_below-place-requires-clause-rises c = slices_fall c.args.slots.now _ c.requires.border refl
+count_below-place-requires-clause-rises c = slices_fall (listed c.args.slots.now) _ c.requires.border refl
 
 pub count_below-place-requires-clause-few : goal.count_below-place-requires-clause-few
 count_below-place-requires-clause-few c = c.requires.border.within
 
 pub loop-place-init : goal.loop-place-init
 loop-place-init c =
-    let es = c.args.slots.now in
+    let es = (listed c.args.slots.now) in
     let count = slices_count es c.args.slice _ c.requires.border c.count_below-place.ensures in
     let size = length-map es (λ (e : Entry). e.slice) in
     lower_slices es c.args.slice _ c.args.mark c.requires.border (omega (arith, count.within, size)) count.below
 
 pub is_before-requires-clause-this : goal.is_before-requires-clause-this
 is_before-requires-clause-this c =
-    let es = c.args.slots.now in
+    let es = (listed c.args.slots.now) in
     let size = length-map es (λ (e : Entry). e.slice) in
     let within : c.loop-place.place < length es = omega (arith, ap length c.slices-slices.ensures, c.loop-place-test.true, size) in
     mark_read es c.loop-place.place c.get.result (marks_of es c.requires.border) within (rw (c.get.ensures, ← c.marks-marks.ensures) c.index-marks-place.is)
 
 pub returns-then-slices-place-clause-place : goal.returns-then-slices-place-clause-place
 returns-then-slices-place-clause-place c =
-    let es = c.args.slots.now in
+    let es = (listed c.args.slots.now) in
     let count = slices_count es c.args.slice _ c.requires.border c.count_below-place.ensures in
     let size = length-map es (λ (e : Entry). e.slice) in
     let within : c.loop-place.place < length es = omega (arith, ap length c.slices-slices.ensures, c.loop-place-test.true, size) in
@@ -40,14 +41,14 @@ returns-then-slices-place-clause-place c =
 
 pub loop-place-preserved : goal.loop-place-preserved
 loop-place-preserved c =
-    let es = c.args.slots.now in
+    let es = (listed c.args.slots.now) in
     let size = length-map es (λ (e : Entry). e.slice) in
     let within : c.loop-place.place < length es = omega (arith, ap length c.slices-slices.ensures, c.loop-place-test.true, size) in
     below_more _ _ c.loop-place.invariant (lower_mark es c.args.slice c.loop-place.place c.args.mark c.get.result within (rw (← c.slices-slices.ensures) c.if-slices-place.false) (rw (c.get.ensures, ← c.marks-marks.ensures) c.index-marks-place.is) (grind (arith, nat_tests)))
 
 pub returns-clause-place : goal.returns-clause-place
 returns-clause-place c =
-    let es = c.args.slots.now in
+    let es = (listed c.args.slots.now) in
     let size = length-map es (λ (e : Entry). e.slice) in
     let whole = ap length c.slices-slices.ensures in
     place_in-is es _ (length c.slices-slices.result.now) (omega (arith, whole, size)) (λ k lt. c.loop-place.invariant k (omega (arith, lt, c.loop-place-test.false))) (λ lt. absurd (omega (arith, lt, whole, size)))

@@ -1,22 +1,23 @@
 -- what was passed has not the slice and the mark, and nothing behind an entry of another slice has it
 use Rattle.std.proofs.{Common.{refl, rules, ◌<◌, length, ap, arith}, lemmas.List.length-map}
 use Rattle.mt_border.{specs.declared.entry.Entry.Entry, proofs.{Counts.{slices_fall, slices_count}, Finds.{none_lower, none_more, missing_behind}}}
+use Rattle.mt_border.specs.Slots.{listed}
 use Rattle.mt_border.proofs.places.search.Goals as goal
 
 pub count_below-place-requires-clause-rises : goal.count_below-place-requires-clause-rises
-count_below-place-requires-clause-rises c = slices_fall c.args.slots.now _ c.requires refl
+count_below-place-requires-clause-rises c = slices_fall (listed c.args.slots.now) _ c.requires refl
 
 pub count_below-place-requires-clause-few : goal.count_below-place-requires-clause-few
 count_below-place-requires-clause-few c = c.requires.within
 
 pub loop-place-init : goal.loop-place-init
 loop-place-init c =
-    let es = c.args.slots.now in
+    let es = (listed c.args.slots.now) in
     none_lower es c.args.slice c.count_below-place.result c.args.mark (slices_count es c.args.slice _ c.requires c.count_below-place.ensures).below
 
 pub returns-then-slices-place-clause-missing : goal.returns-then-slices-place-clause-missing
 returns-then-slices-place-clause-missing c =
-    let es = c.args.slots.now in
+    let es = (listed c.args.slots.now) in
     let count = slices_count es c.args.slice _ c.requires c.count_below-place.ensures in
     let size = length-map es (λ (e : Entry). e.slice) in
     let within : c.loop-place.place < length es = omega (arith, ap length c.slices-slices.ensures, c.loop-place-test.true, size) in
@@ -24,7 +25,7 @@ returns-then-slices-place-clause-missing c =
 
 pub loop-place-preserved : goal.loop-place-preserved
 loop-place-preserved c =
-    let es = c.args.slots.now in
+    let es = (listed c.args.slots.now) in
     let size = length-map es (λ (e : Entry). e.slice) in
     let within : c.loop-place.place < length es = omega (arith, ap length c.slices-slices.ensures, c.loop-place-test.true, size) in
     none_more es c.args.slice c.loop-place.place c.args.mark c.get.result c.loop-place.invariant within (rw (c.get.ensures, ← c.marks-marks.ensures) c.index-marks-place.is) (search rules)

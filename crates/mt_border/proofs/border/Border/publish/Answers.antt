@@ -6,5 +6,8 @@ use Rattle.mt_border.proofs.border.Border.publish.Goals as goal
 pub invariant_of-self : goal.invariant_of-self
 invariant_of-self c =
     let entries_are = ap entries_of c.self.view_is in
-    rw (c.insert.ensures, c.place_of-place.ensures.place)
-    (border_with_entry _ c.args.entry c.self.invariant c.requires.entry (rw entries_are c.requires.missing) (rw entries_are c.requires.room))
+    record {
+      slotted = c.insert.ensures.slotted;
+      border = rw (c.insert.ensures.entries, c.place_of-place.ensures.place)
+          (border_with_entry _ c.args.entry c.self.invariant.border c.requires.entry (rw entries_are c.requires.missing) (rw entries_are c.requires.room));
+    }

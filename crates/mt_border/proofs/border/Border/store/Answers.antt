@@ -1,36 +1,42 @@
 -- the entries stay in order, and the slot alone changes: its pair has the new row
-use Rattle.std.proofs.Common.{◌<◌, length, ap, ◌∙◌}
-use Rattle.mt_border.{specs.Node.entries_of, proofs.Writes.{slot_within, held_is, border_written, rewrites_written}}
+use Rattle.std.proofs.Common.{◌<◌, length, ◌∙◌, arith}
+use Rattle.mt_order.specs.Places.{place_of_slot}
+use Rattle.mt_border.specs.{Slots.{listed as entries_in, slots_in}, Node.IsNodeSlots}
+use Rattle.mt_border.proofs.Writes.{slot_within, slot_below, held_is, node_written, rewrites_in}
 use Rattle.mt_border.proofs.border.Border.store.Goals as goal
 
-pub bounds-deref_mut-slot : goal.bounds-deref_mut-slot
-bounds-deref_mut-slot c =
-    let within : c.args.slot < length c.self.inside.slots = rw (ap entries_of c.self.view_is) c.requires.live in
-    slot_within _ _ _ _ _ c.args.slot c.slots.invariant c.slots.view_is c.deref_mut.ensures.value within
+-- the slot is live in the slots that are lent, and these are sound
+live : (c : goal.After-index-slots-slot) → place_of_slot c.slots.inside.order.live c.args.slot < length (entries_in (slots_in c.slots.inside.slices c.slots.inside.marks.items c.slots.inside.helds c.slots.inside.dropped c.slots.inside.order))
+live c = rw (← c.self.view_is, ← c.slots.view_is) at c.requires.live
+
+sound : (c : goal.After-index-slots-slot) → IsNodeSlots (slots_in c.slots.inside.slices c.slots.inside.marks.items c.slots.inside.helds c.slots.inside.dropped c.slots.inside.order)
+sound c = rw (c.slots.view_is) c.self.invariant
+
+pub bounds-slots-inside-slot : goal.bounds-slots-inside-slot
+bounds-slots-inside-slot c = slot_within _ c.args.slot c.slots.invariant (rw (← c.self.view_is, ← c.slots.view_is) at c.requires.live)
+
+pub listed : goal.listed
+listed c = slot_below _ c.args.slot c.slots.invariant (rw (← c.self.view_is, ← c.slots.view_is) at c.requires.live)
+
+pub offset_bounds-slots-inside-slot : goal.offset_bounds-slots-inside-slot
+offset_bounds-slots-inside-slot c = let within = slot_within _ c.args.slot c.self.invariant.slotted (rw (← c.self.view_is) at c.requires.live) in omega (arith, within)
 
 pub put_row-requires : goal.put_row-requires
-put_row-requires c =
-    let within : c.args.slot < length c.self.inside.slots = rw (ap entries_of c.self.view_is) c.requires.live in
-    rw (held_is _ _ _ _ _ c.args.slot c.slots.invariant c.slots.view_is c.deref_mut.ensures.value within _)
-    (rw (← c.self.view_is) at c.requires.stable)
+put_row-requires c = rw (held_is _ c.args.slot c.slots.invariant (live c) _) (rw (← c.self.view_is, ← c.slots.view_is) at c.requires.stable)
 
 pub invariant_of-self : goal.invariant_of-self
-invariant_of-self c =
-    let within : c.args.slot < length c.self.inside.slots = rw (ap entries_of c.self.view_is) c.requires.live in
-    border_written _ _ _ _ _ c.args.slot c.slots.invariant c.slots.view_is c.deref_mut.ensures.value within _ _ c.self.invariant (c.put_row.ensures.fits _)
+invariant_of-self c = node_written _ c.args.slot c.slots.invariant (live c.before) _ _ (sound c.before).border (c.put_row.ensures.fits _)
 
 pub returns-clause-before : goal.returns-clause-before
-returns-clause-before c = λ pair stable.
-    let within : c.args.slot < length c.self.inside.slots = rw (ap entries_of c.self.view_is) c.requires.live in
-    let here = held_is _ _ _ _ _ c.args.slot c.slots.invariant c.slots.view_is c.deref_mut.ensures.value within _ in
-    let was = rw (← c.self.view_is) at stable in
+returns-clause-before c = λ pair is.
+    let here = held_is _ c.args.slot c.slots.invariant (live c.before) _ in
+    let was = rw (← c.self.view_is, ← c.slots.view_is) at is in
     c.put_row.ensures.row pair (here ∙ was)
 
 pub returns-clause-after : goal.returns-clause-after
-returns-clause-after c = λ pair stable.
-    let within : c.args.slot < length c.self.inside.slots = rw (ap entries_of c.self.view_is) c.requires.live in
-    let here = held_is _ _ _ _ _ c.args.slot c.slots.invariant c.slots.view_is c.deref_mut.ensures.value within _ in
-    let was = rw (← c.self.view_is) at stable in
+returns-clause-after c = λ pair is.
+    let here = held_is _ c.args.slot c.slots.invariant (live c.before) _ in
+    let was = rw (← c.self.view_is, ← c.slots.view_is) at is in
     let now = c.put_row.ensures.held pair (here ∙ was) in
     rw (← c.self.view_is, ← now)
-    (rewrites_written _ _ _ _ _ c.args.slot _ c.slots.invariant c.slots.view_is c.deref_mut.ensures.value c.self.invariant within)
+    (rewrites_in _ _ c.args.slot _ c.slots.view_is c.self.invariant (rw (← c.self.view_is) at c.requires.live))

@@ -1,45 +1,38 @@
 -- what stands at a place of each row is the entry there
-use Rattle.std.proofs.{Common.{◌<◌, length, arith}, lemmas.List.get_or_default}
-use Rattle.mt_border.proofs.RowEdits.{sizes-rows, read-rows}
+use Rattle.std.proofs.{Common.{◌<◌, length, get_or, ap, arith}, lemmas.List.get_or_default}
+use Rattle.mt_border.{specs.Slots.listed, proofs.{RowEdits.read-rows, Slotting.{rows_in, size-listed, held_read}}}
 use Rattle.mt_border.proofs.slots.Slots.entry.Goals as goal
 
-pub offset_bounds-as_slice-slot : goal.offset_bounds-as_slice-slot
-offset_bounds-as_slice-slot c =
-    let size = sizes-rows _ _ _ _ c.self.invariant c.self.view_is in
-    let within : c.args.slot < length c.as_slice.result.now = rw c.as_slice.ensures.value (omega (arith, c.requires, size.0)) in
+pub slot-slot-requires : goal.slot-slot-requires
+slot-slot-requires c = omega (arith, c.requires, size-listed _ _ c.self.invariant c.self.view_is, c.self.invariant.places.within)
+
+pub bounds-as_slice-place : goal.bounds-as_slice-place
+bounds-as_slice-place c =
+    let size = size-listed _ _ c.self.invariant c.self.view_is in
+    rw (c.as_slice.ensures.value) (omega (arith, c.requires, size, c.self.invariant.slices_are))
+
+pub offset_bounds-as_slice-place : goal.offset_bounds-as_slice-place
+offset_bounds-as_slice-place c =
+    let size = size-listed _ _ c.self.invariant c.self.view_is in
+    let within : c.args.place < length c.as_slice.result.now = rw (c.as_slice.ensures.value) (omega (arith, c.requires, size, c.self.invariant.slices_are)) in
     omega (arith, within, c.as_slice.type_inv)
 
-pub bounds-as_slice-slot : goal.bounds-as_slice-slot
-bounds-as_slice-slot c =
-    let size = sizes-rows _ _ _ _ c.self.invariant c.self.view_is in
-    rw c.as_slice.ensures.value (omega (arith, c.requires, size.0))
+pub bounds-deref-place : goal.bounds-deref-place
+bounds-deref-place c =
+    let size = size-listed _ _ c.self.invariant c.self.view_is in
+    rw (c.deref.ensures.0) (omega (arith, c.requires, size, c.self.invariant.slices_are, c.self.invariant.marks_are))
 
-pub offset_bounds-deref-slot : goal.offset_bounds-deref-slot
-offset_bounds-deref-slot c =
-    let size = sizes-rows _ _ _ _ c.self.invariant c.self.view_is in
-    let within : c.args.slot < length c.deref.result.now = rw c.deref.ensures.0 (omega (arith, c.requires, size.1)) in
+pub offset_bounds-deref-place : goal.offset_bounds-deref-place
+offset_bounds-deref-place c =
+    let size = size-listed _ _ c.self.invariant c.self.view_is in
+    let within : c.args.place < length c.deref.result.now = rw (c.deref.ensures.0) (omega (arith, c.requires, size, c.self.invariant.slices_are, c.self.invariant.marks_are)) in
     omega (arith, within, c.deref.type_inv)
-
-pub bounds-deref-slot : goal.bounds-deref-slot
-bounds-deref-slot c =
-    let size = sizes-rows _ _ _ _ c.self.invariant c.self.view_is in
-    rw c.deref.ensures.0 (omega (arith, c.requires, size.1))
-
-pub offset_bounds-deref-slot-2 : goal.offset_bounds-deref-slot-2
-offset_bounds-deref-slot-2 c =
-    let size = sizes-rows _ _ _ _ c.self.invariant c.self.view_is in
-    let within : c.args.slot < length c.deref-2.result.now = rw c.deref-2.ensures.0 (omega (arith, c.requires, size.2)) in
-    omega (arith, within, c.deref-2.type_inv)
-
-pub bounds-deref-slot-2 : goal.bounds-deref-slot-2
-bounds-deref-slot-2 c =
-    let size = sizes-rows _ _ _ _ c.self.invariant c.self.view_is in
-    rw c.deref-2.ensures.0 (omega (arith, c.requires, size.2))
 
 pub returns : goal.returns
 returns c =
-    let size = sizes-rows _ _ _ _ c.self.invariant c.self.view_is in
-    read-rows _ _ _ _ c.args.slot _ c.self.invariant c.self.view_is c.requires
-    (rw c.as_slice.ensures.value (get_or_default c.self.inside.slices c.args.slot _ _ (omega (arith, c.requires, size.0))))
-    (rw (c.get.ensures, ← c.deref.ensures.0) c.index-deref-slot.is)
-    (rw (← c.deref-2.ensures.0) c.index-deref-slot-2.is)
+    let size = size-listed _ _ c.self.invariant c.self.view_is in
+    let within : c.args.place < length c.self.inside.order.live = omega (arith, c.requires, size) in
+    read-rows _ _ _ _ c.args.place _ (rows_in _ c.self.invariant) (ap listed c.self.view_is) c.requires
+    (rw c.as_slice.ensures.value (get_or_default c.self.inside.slices c.args.place _ _ (omega (arith, within, c.self.invariant.slices_are))))
+    (rw (c.get.ensures, ← c.deref.ensures.0) c.index-deref-place.is)
+    (held_read _ c.args.place c.slot-slot.result _ c.self.invariant within (c.slot-slot.ensures.live within) c.slot-slot.ensures.within (ap (λ h. get_or c.self.inside.helds c.slot-slot.result h) c.index-self-slot.is))

@@ -1,27 +1,26 @@
--- the parts of the entry go to its place in each row
+-- the parts of the entry go to its place in each row, and to the first free slot
 use Rattle.std.proofs.Common.{◌<◌, length, arith}
-use Rattle.mt_border.proofs.RowEdits.{sizes-rows, insert-rows}
+use Rattle.mt_border.proofs.Slotting.{size-listed, listed_put}
 use Rattle.mt_border.proofs.slots.Slots.insert.Goals as goal
 
 pub insert-requires : goal.insert-requires
 insert-requires c =
-    let size = sizes-rows _ _ _ _ c.self.invariant c.self.view_is in
-    record { in_bounds = omega (arith, size.0, c.requires.in_bounds); room = omega (arith, size.0, c.requires.room) }
+    let size = size-listed _ _ c.self.invariant c.self.view_is in
+    record { in_bounds = omega (arith, size, c.self.invariant.slices_are, c.requires.in_bounds); room = omega (arith, size, c.self.invariant.slices_are, c.requires.room) }
 
 pub insert-requires-2 : goal.insert-requires-2
 insert-requires-2 c =
-    let size = sizes-rows _ _ _ _ c.self.invariant c.self.view_is in
-    let room : length c.self.inside.marks.items < 15 = omega (arith, size.1, c.requires.room) in
-    (omega arith, (omega (arith, size.1, c.requires.in_bounds), room))
+    let size = size-listed _ _ c.self.invariant c.self.view_is in
+    let room : length c.self.inside.marks.items < 15 = omega (arith, size, c.self.invariant.slices_are, c.self.invariant.marks_are, c.requires.room) in
+    (omega arith, (omega (arith, size, c.self.invariant.slices_are, c.self.invariant.marks_are, c.requires.in_bounds), room))
 
-pub insert-requires-3 : goal.insert-requires-3
-insert-requires-3 c =
-    let size = sizes-rows _ _ _ _ c.self.invariant c.self.view_is in
-    let room : length c.self.inside.helds.items < 15 = omega (arith, size.2, c.requires.room) in
-    (omega arith, (omega (arith, size.2, c.requires.in_bounds), room))
+pub insert-slot-requires-clause-place : goal.insert-slot-requires-clause-place
+insert-slot-requires-clause-place c = omega (arith, c.requires.in_bounds, size-listed _ _ c.self.invariant c.self.view_is)
 
-pub returns : goal.returns
-returns c =
-    let rows = c.self.invariant in
-    rw (c.insert.ensures, c.insert-2.ensures.items, c.insert-3.ensures.items, c.new.ensures, ← c.self.view_is)
-    (insert-rows _ _ _ c.args.slot c.args.entry rows.marks_are rows.helds_are)
+pub insert-slot-requires-clause-room : goal.insert-slot-requires-clause-room
+insert-slot-requires-clause-room c = omega (arith, c.requires.room, size-listed _ _ c.self.invariant c.self.view_is)
+
+pub returns-clause-entries : goal.returns-clause-entries
+returns-clause-entries c =
+    rw (c.insert.ensures, c.insert-2.ensures.items, c.new.ensures, ← c.self.view_is)
+    (listed_put _ c.insert-slot.new.self c.args.place c.insert-slot.result c.args.entry c.self.invariant c.insert-slot.ensures.slot c.insert-slot.ensures.live)

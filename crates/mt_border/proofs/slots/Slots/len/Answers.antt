@@ -1,9 +1,10 @@
--- the row of slices is as long as the entries
-use Rattle.std.proofs.Common.{length, ap, sym, ◌∙◌}
-use Rattle.mt_border.proofs.RowEdits.{length-rows}
+-- there are as many slices as entries
+use Rattle.std.proofs.Common.{sym, ◌∙◌}
+use Rattle.mt_border.proofs.Slotting.{size-listed}
 use Rattle.mt_border.proofs.slots.Slots.len.Goals as goal
 
-pub returns : goal.returns
-returns c =
-    let rows = c.self.invariant in
-    c.len.ensures.value ∙ sym (length-rows _ _ _ rows.marks_are rows.helds_are) ∙ ap length c.self.view_is
+pub returns-clause-value : goal.returns-clause-value
+returns-clause-value c = c.len.ensures.value ∙ c.self.invariant.slices_are ∙ sym (size-listed _ _ c.self.invariant c.self.view_is)
+
+pub returns-clause-slotted : goal.returns-clause-slotted
+returns-clause-slotted c = rw (← c.self.view_is) c.self.invariant

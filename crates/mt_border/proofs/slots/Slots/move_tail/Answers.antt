@@ -1,32 +1,34 @@
--- the tail of each row is moved
-use Rattle.std.proofs.Common.{arith}
-use Rattle.mt_border.proofs.RowEdits.{sizes-rows, none-rows, take-rows, drop-rows}
+-- the entry that is moved leaves the others in their order
+use Rattle.std.proofs.Common.{◌≡◌, ◌+◌, ◌++◌, ◌<◌, length, drop, ap, sym, refl, ◌∙◌, arith}
+use Rattle.std.proofs.lemmas.List.{take-append-drop, Edits.length-insert}
+use Rattle.mt_border.{specs.Slots.listed, proofs.Slotting.{moved_left, moved_right}}
 use Rattle.mt_border.proofs.slots.Slots.move_tail.Goals as goal
 
-pub split_off-right-inside-requires : goal.split_off-right-inside-requires
-split_off-right-inside-requires c =
-    let size = sizes-rows _ _ _ _ c.self.invariant c.self.view_is in
-    omega (arith, size.0, c.requires.within)
+pub loop-place-init : goal.loop-place-init
+loop-place-init c =
+    let es = listed c.args.self.now in
+    let none : c.args.keep + c.len-place.result ≡ c.args.keep = omega (arith, c.len-place.ensures.value, ap length c.requires.empty) in
+    record {
+      left = rw none (sym (take-append-drop c.args.keep es));
+      right = rw (none, c.requires.empty) refl;
+      len = sym c.len-place.ensures.value;
+      slotted = c.len.ensures.slotted;
+      slotted_right = c.len-place.ensures.slotted;
+    }
 
-pub move_row_tail-requires : goal.move_row_tail-requires
-move_row_tail-requires c =
-    let size = sizes-rows _ _ _ _ c.self.invariant c.self.view_is in
-    let none = none-rows _ _ _ _ c.right.invariant c.right.view_is c.requires.empty in
-    (omega arith, (omega (arith, size.1, c.requires.within), none.1))
-
-pub move_row_tail-requires-2 : goal.move_row_tail-requires-2
-move_row_tail-requires-2 c =
-    let size = sizes-rows _ _ _ _ c.self.invariant c.self.view_is in
-    let none = none-rows _ _ _ _ c.right.invariant c.right.view_is c.requires.empty in
-    (omega arith, (omega (arith, size.2, c.requires.within), none.2))
-
-pub returns-clause-kept : goal.returns-clause-kept
-returns-clause-kept c =
-    rw (c.split_off-right-inside.ensures.kept, c.move_row_tail.ensures.kept, c.move_row_tail-2.ensures.kept, ← c.self.view_is)
-    (take-rows c.args.keep _ _ _)
-
-pub returns-clause-moved : goal.returns-clause-moved
-returns-clause-moved c =
-    let rows = c.self.invariant in
-    rw (c.split_off-right-inside.ensures.moved, c.move_row_tail.ensures.moved, c.move_row_tail-2.ensures.moved, ← c.self.view_is)
-    (drop-rows c.args.keep _ _ _ rows.marks_are rows.helds_are)
+pub loop-place-preserved : goal.loop-place-preserved
+loop-place-preserved c =
+    let es = listed c.args.self.now in
+    let was = c.loop-place.invariant in
+    let left = listed c.loop-place.self in
+    let right = listed c.loop-place.right in
+    let e = c.remove-entry.result in
+    let within : c.args.keep + c.loop-place.place < length es = omega (arith, c.loop-place-test.true, c.len.ensures.value) in
+    record {
+      left = c.remove-entry.ensures.entries ∙ moved_left es left right c.args.keep c.loop-place.place e within was.left was.right was.len c.remove-entry.ensures.value;
+      right = ap (λ xs. xs ++ drop (c.args.keep + (c.loop-place.place + 1)) es) c.insert.ensures.entries
+          ∙ moved_right es left right c.args.keep c.loop-place.place e within was.left was.right was.len c.remove-entry.ensures.value;
+      len = ap length c.insert.ensures.entries ∙ length-insert right c.loop-place.place e (omega (arith, was.len)) ∙ ap (λ n. n + 1) was.len;
+      slotted = c.remove-entry.ensures.slotted;
+      slotted_right = c.insert.ensures.slotted;
+    }

@@ -1,29 +1,27 @@
--- the parts of the entry leave each row
-use Rattle.std.proofs.{Common.{◌∙◌, arith}, lemmas.List.get_or_default}
-use Rattle.mt_border.proofs.RowEdits.{sizes-rows, read-rows, remove-rows}
+-- the parts of the entry leave each row and its slot
+use Rattle.std.proofs.{Common.{◌<◌, length, ap, get_or, ◌∙◌, arith}, lemmas.List.get_or_default}
+use Rattle.mt_border.{specs.Slots.listed, proofs.{RowEdits.read-rows, Slotting.{rows_in, size-listed, held_read, listed_taken}}}
 use Rattle.mt_border.proofs.slots.Slots.remove.Goals as goal
 
+pub remove-slice-requires : goal.remove-slice-requires
+remove-slice-requires c = omega (arith, c.requires, size-listed _ _ c.self.invariant c.self.view_is, c.self.invariant.slices_are)
+
 pub remove-requires : goal.remove-requires
-remove-requires c =
-    let size = sizes-rows _ _ _ _ c.self.invariant c.self.view_is in
-    omega (arith, size.0, c.requires)
-
-pub remove-requires-2 : goal.remove-requires-2
-remove-requires-2 c =
-    let size = sizes-rows _ _ _ _ c.self.invariant c.self.view_is in
-    (omega arith, omega (arith, size.1, c.requires))
-
-pub remove-requires-3 : goal.remove-requires-3
-remove-requires-3 c =
-    let size = sizes-rows _ _ _ _ c.self.invariant c.self.view_is in
-    (omega arith, omega (arith, size.2, c.requires))
+remove-requires c = (omega arith, omega (arith, c.requires, size-listed _ _ c.self.invariant c.self.view_is, c.self.invariant.slices_are, c.self.invariant.marks_are))
 
 pub returns-clause-value : goal.returns-clause-value
 returns-clause-value c =
-    read-rows _ _ _ _ c.args.slot _ c.self.invariant c.self.view_is c.requires (c.remove.ensures.value ∙ get_or_default c.self.inside.slices c.args.slot _ _ (omega (arith, c.requires, (sizes-rows _ _ _ _ c.self.invariant c.self.view_is).0))) (rw c.get.ensures c.remove-2.ensures.value) c.remove-3.ensures.value
+    let size = size-listed _ _ c.self.invariant c.self.view_is in
+    let within : c.args.place < length c.self.inside.order.live = omega (arith, c.requires, size) in
+    rw (c.replace-held.ensures.value)
+    (read-rows _ _ _ _ c.args.place _ (rows_in _ c.self.invariant) (ap listed c.self.view_is) c.requires
+    (c.remove-slice.ensures.value ∙ get_or_default c.self.inside.slices c.args.place _ _ (omega (arith, within, c.self.invariant.slices_are)))
+    (rw (c.get-mark.ensures) c.remove.ensures.value)
+    (held_read _ c.args.place c.remove-slot.result _ c.self.invariant within c.remove-slot.ensures.slot c.remove-slot.ensures.within (ap (λ h. get_or c.self.inside.helds c.remove-slot.result h) c.index-self-slot.is)))
 
 pub returns-clause-entries : goal.returns-clause-entries
 returns-clause-entries c =
-    let rows = c.self.invariant in
-    rw (c.remove.ensures.rest, c.remove-2.ensures.items, c.remove-3.ensures.items, ← c.self.view_is)
-    (remove-rows _ _ _ c.args.slot rows.marks_are rows.helds_are)
+    let within : c.args.place < length c.self.inside.order.live = omega (arith, c.requires, size-listed _ _ c.self.invariant c.self.view_is) in
+    let order = c.remove-slot.ensures in
+    rw (c.remove-slice.ensures.rest, c.remove.ensures.items, ← c.self.view_is)
+    (listed_taken _ c.remove-slot.new.self c.args.place c.remove-slot.result _ c.self.invariant within order.places order.free order.live)

@@ -1,6 +1,11 @@
--- the entries are stamped row by row
-use Rattle.mt_border.proofs.RowEdits.{stamp-rows}
+-- what is held is stamped anew, and so are the entries
+use Rattle.std.proofs.Common.{ap, ◌∙◌}
+use Rattle.mt_border.specs.{Restamps.stamped, Rows.entries_in}
+use Rattle.mt_border.proofs.{RowEdits.stamp-rows, Slotting.{helds_each, live_within}}
 use Rattle.mt_border.proofs.slots.Slots.restamp.Goals as goal
 
-pub returns : goal.returns
-returns c = rw (c.restamp_row.ensures, ← c.self.view_is) (stamp-rows _ _ _ _)
+pub returns-clause-entries : goal.returns-clause-entries
+returns-clause-entries c =
+    rw (← c.self.view_is, c.restamp_each.ensures)
+    (ap (entries_in c.self.inside.slices c.self.inside.marks.items) (helds_each (stamped c.args.stamp) c.self.inside.helds c.self.inside.order.live (live_within _ c.self.invariant))
+    ∙ stamp-rows _ _ _ _)
