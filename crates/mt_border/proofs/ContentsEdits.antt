@@ -3,7 +3,7 @@ use Rattle.std.proofs.{Common.{◌≡◌, ℕ, ◌+◌, List, length, set, Some,
 use Rattle.std.proofs.lemmas.List.Elements.{All-take, All-set}
 use Rattle.std.specs.{List.All, FinMap.insert}
 use Rattle.mt_rows.specs.Rows.{Bytes, Columns}
-use Rattle.mt_border.specs.{declared.entry.Pair.Pair, declared.entry.Entry.Entry, declared.entry.Held.Held, declared.entry.Held.TheVariants.Stable}
+use Rattle.mt_border.specs.{Held.Pair, declared.entry.Entry.Entry, Held.Held, Held.Stable}
 use Rattle.mt_border.specs.{Entry.{pair_of, order_of}, Entries.{IsBorder, IsMissing, place_in, with_entry}, Node.{Node, entries_of, entry_at, place_at, IsLive, Rewrites}}
 use Rattle.mt_border.specs.Contents.{owned, contents_of, HasKey, AreKeys}
 use Rattle.mt_border.proofs.Edits.{any_entry, place_in-le, All-insert, replaced_at}

@@ -1,3 +1,5 @@
+pub mod Held
+pub mod HeldParts
 pub mod Entry
 pub mod Entries
 pub mod Rows

@@ -61,7 +61,7 @@ impl Model for Border {
 }
 
 impl Border {
-    ghost use Rattle.mt_border.specs.{Restamps.{stamped, all_restamped}, declared.entry.Pair.Pair, Entry.{IsEntry, IsRest, IsStablePair, IsUnlinked, IsLinked}};
+    ghost use Rattle.mt_border.specs.{Restamps.{stamped, all_restamped}, Held.{Pair, Stable, Unstable, Link}, Entry.{IsEntry, IsRest, IsStablePair, IsUnlinked, IsLinked}};
     ghost use Rattle.mt_border.specs.{Rows.entry_seen, Entries.{IsBorder, IsMissing, with_entry, without}, Split.{IsCut, IsParted, IsSeparator, slices_with}};
     ghost use Rattle.mt_border.specs.Node.{empty_node, entries_of, entry_at, held_at, IsLive, Finds, Rewrites};
 
@@ -171,11 +171,11 @@ impl Border {
     pub fn store(&mut self, slot: usize, row: Row, stamp: u64) -> Row
         requires live { IsLive self.old slot }
         requires stable { IsStablePair (held_at self.old slot) }
-        ensures before { (pair : Pair) → held_at self.old slot ≡ Held.Stable pair →
+        ensures before { (pair : Pair) → held_at self.old slot ≡ Stable pair →
             result ≡ pair.row }
-        ensures after { (pair : Pair) → held_at self.old slot ≡ Held.Stable pair →
+        ensures after { (pair : Pair) → held_at self.old slot ≡ Stable pair →
             Rewrites self.old self.new slot
-            (Held.Stable (record pair { row = row; stamp = stamp })) }
+            (Stable (record pair { row = row; stamp = stamp })) }
     {
         let slots = &mut self.slots;
         slots.helds[slot].put_row(row, stamp)
@@ -196,8 +196,8 @@ impl Border {
         requires live { IsLive self.old slot }
         requires long { (entry_at self.old slot).mark ≡ Mark.Long }
         requires stable { IsStablePair (held_at self.old slot) }
-        ensures { (pair : Pair) → held_at self.old slot ≡ Held.Stable pair →
-            Rewrites self.old self.new slot (Held.Unstable pair None) }
+        ensures { (pair : Pair) → held_at self.old slot ≡ Stable pair →
+            Rewrites self.old self.new slot (Unstable pair None) }
     {
         let slots = &mut self.slots;
         slots.helds[slot].unsettle();
@@ -207,8 +207,8 @@ impl Border {
     pub fn link(&mut self, slot: usize, tree: usize)
         requires live { IsLive self.old slot }
         requires unlinked { IsUnlinked (held_at self.old slot) }
-        ensures { (pair : Pair) → held_at self.old slot ≡ Held.Unstable pair None →
-            Rewrites self.old self.new slot (Held.Unstable pair (Some tree)) }
+        ensures { (pair : Pair) → held_at self.old slot ≡ Unstable pair None →
+            Rewrites self.old self.new slot (Unstable pair (Some tree)) }
     {
         let slots = &mut self.slots;
         slots.helds[slot].put_tree(tree);
@@ -220,10 +220,10 @@ impl Border {
         requires live { IsLive self.old slot }
         requires linked { IsLinked (held_at self.old slot) }
         ensures before { (pair : Pair) (tree : ℕ) →
-            held_at self.old slot ≡ Held.Unstable pair (Some tree) → result ≡ pair }
+            held_at self.old slot ≡ Unstable pair (Some tree) → result ≡ pair }
         ensures after { (pair : Pair) (tree : ℕ) →
-            held_at self.old slot ≡ Held.Unstable pair (Some tree) →
-            Rewrites self.old self.new slot (Held.Link tree) }
+            held_at self.old slot ≡ Unstable pair (Some tree) →
+            Rewrites self.old self.new slot (Link tree) }
     {
         let slots = &mut self.slots;
         slots.helds[slot].become_link()

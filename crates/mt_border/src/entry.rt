@@ -1,12 +1,14 @@
 //! What stands in one slot of a border node.
 //!
 //! An entry is plain data, made by whoever fills a slot; what it has to keep, `IsEntry`, is asked
-//! for where it enters a node. It owns its suffix, which lies on the heap, and a share of its row.
+//! for where it enters a node. It owns its pair's block and its suffix, which lie on the heap, and a
+//! share of its row.
 
-ghost use Rattle.std.specs.Prelude.{◌≡◌, ℕ};
+ghost use Rattle.std.specs.{Prelude.{◌≡◌, ℕ, IfOk}, Option.option_map};
 
 use mt_rows::Row;
 use mt_slices::Mark;
+use std::alloc::{AllocError, Global};
 use std::marker::Model;
 use std::mem;
 
@@ -38,23 +40,100 @@ impl Suffix {
     }
 }
 
-/// A key's suffix and its row, with the number of the step that placed the row.
+/// A key's suffix and its row, with the number of the step that placed the row, in a block of their own.
 #[derive(Debug, Drop)]
 pub struct Pair {
-    pub suffix: Suffix,
-    pub row: Row,
-    pub stamp: u64,
+    parts: Box<PairParts>,
 }
 
-/// What an entry holds.
-#[derive(Debug, Drop)]
-pub enum Held {
-    /// A pair.
-    Stable(Pair),
+impl Model for Pair {
+    ghost use Rattle.mt_border.specs.Held.{Pair};
 
-    /// A pair that is on its way to a tree of its own, and that tree's number, once it is written.
-    /// Until the entry is a link, it counts as its pair.
-    Unstable(Pair, Option<usize>),
+    ghost Value = { Pair };
+
+    ghost use Rattle.mt_border.specs.HeldParts.{pair_in_parts};
+
+    ghost view = { λ p. pair_in_parts p.parts.value };
+}
+
+/// What a pair has. Where the pair is on its way to a tree of its own, that tree's number stands
+/// beside it, once it is written; else what stands there means nothing.
+#[derive(Debug, Drop)]
+pub struct PairParts {
+    pub stamp: u64,
+    pub row: Row,
+    pub suffix: Suffix,
+    pub tree: Option<usize>,
+}
+
+impl Pair {
+    ghost use Rattle.mt_border.specs.HeldParts.{pair_in_parts};
+
+    /// A pair takes memory for its block. Without it what was handed in is gone.
+    pub fn new(alloc: Global, suffix: Suffix, row: Row, stamp: u64) -> Result<Pair, AllocError>
+        ensures { IfOk result (λ pair. pair ≡ record { suffix = suffix; row = row; stamp = stamp }) }
+    {
+        let tree = None;
+        let parts = Box::new(
+            alloc,
+            PairParts {
+                stamp,
+                row,
+                suffix,
+                tree,
+            },
+        )?;
+        Ok(Pair { parts })
+    }
+
+    /// What it has.
+    pub fn parts(&self) -> &PairParts
+        ensures { pair_in_parts result.now ≡ self.now }
+    {
+        &self.parts
+    }
+
+    /// Writes another stamp.
+    pub fn set_stamp(&mut self, stamp: u64)
+        ensures { self.new ≡ record self.old { stamp = stamp } }
+    {
+        self.parts.stamp = stamp;
+    }
+}
+
+/// What an entry holds: a pair, a pair that is on its way to a tree of its own, or the number of the
+/// tree that holds all longer keys of the slice.
+// A pair is in a block of its own, so that a slot is small. A tree's number lies in that block too.
+#[derive(Debug, Drop)]
+pub struct Held {
+    kind: Kind,
+}
+
+#[derive(Debug, Drop)]
+enum Kind {
+    Stable(Box<PairParts>),
+    Unstable(Box<PairParts>),
+    Link(usize),
+}
+
+impl Model for Held {
+    ghost use Rattle.mt_border.specs.Held.{Held};
+
+    ghost Value = { Held };
+
+    ghost use Rattle.mt_border.specs.HeldParts.{held_in_kind};
+
+    ghost view = { λ h. held_in_kind h.kind };
+}
+
+/// What an entry holds, to be read.
+#[derive(Clone, Copy, Debug)]
+pub enum HeldRef<'a> {
+    /// A pair.
+    Stable(&'a PairParts),
+
+    /// A pair that is on its way to a tree of its own. Until the entry is a link, it counts as its pair.
+    Unstable(&'a PairParts),
 
     /// The number of the tree that holds all longer keys of the slice.
     Link(usize),
@@ -155,9 +234,48 @@ impl<'a> EntryRef<'a> {
 }
 
 impl Held {
-    ghost use Rattle.mt_border.specs.{Restamps.stamped, declared.entry.Pair.Pair, declared.entry.Entry.Entry};
-    ghost use Rattle.mt_border.specs.Entry.{CanHold, IsKind, IsStablePair, IsUnlinked, IsLinked};
+    ghost use Rattle.mt_border.specs.{Restamps.stamped, Held.{Pair, Stable, Unstable, Link}, HeldParts.{pair_in_parts, held_seen}, declared.entry.Entry.Entry};
+    ghost use Rattle.mt_border.specs.Entry.{CanHold, IsKind, IsStablePair, IsUnlinked, IsLinked, pair_of};
     ghost use Rattle.mt_slices.specs.declared.mark.Mark.{Mark};
+
+    /// It holds a pair.
+    pub fn stable(pair: Pair) -> Held
+        ensures { result ≡ Stable pair }
+    {
+        Held {
+            kind: Kind::Stable(pair.parts),
+        }
+    }
+
+    /// It is a link to the tree of this number.
+    pub fn link(tree: usize) -> Held
+        ensures { result ≡ Link tree }
+    {
+        Held {
+            kind: Kind::Link(tree),
+        }
+    }
+
+    /// What it is.
+    pub fn seen(&self) -> HeldRef<'_>
+        ensures { held_seen result ≡ self.now }
+    {
+        match &self.kind {
+            Kind::Stable(parts) => HeldRef::Stable(parts),
+            Kind::Unstable(parts) => HeldRef::Unstable(parts),
+            Kind::Link(tree) => HeldRef::Link(*tree),
+        }
+    }
+
+    /// The pair that it counts as, if it is no link.
+    pub fn pair(&self) -> Option<&PairParts>
+        ensures { option_map (λ parts. pair_in_parts parts.now) result ≡ pair_of self.now }
+    {
+        match &self.kind {
+            Kind::Stable(parts) | Kind::Unstable(parts) => Some(parts),
+            Kind::Link(_) => None,
+        }
+    }
 
     /// What is held of the long key of the slot's slice that goes on with the suffix. It is a call of its
     /// own, so that a search for a key that ends in its slice makes no suffix.
@@ -165,9 +283,9 @@ impl Held {
     fn kind(&self, suffix: &[u8]) -> FoundKind
         ensures { (e : Entry) → e.mark ≡ Mark.Long → e.held ≡ self.now → IsKind e suffix.now result }
     {
-        match self {
-            Held::Link(_) => FoundKind::Link,
-            Held::Stable(pair) | Held::Unstable(pair, _) => {
+        match &self.kind {
+            Kind::Link(_) => FoundKind::Link,
+            Kind::Stable(pair) | Kind::Unstable(pair) => {
                 if pair.suffix.as_bytes() == suffix {
                     FoundKind::ThisKey
                 } else {
@@ -180,13 +298,13 @@ impl Held {
     /// Puts another row and its stamp into a pair, and gives the old row back.
     pub(crate) fn put_row(&mut self, row: Row, stamp: u64) -> Row
         requires { IsStablePair self.old }
-        ensures row { (pair : Pair) → self.old ≡ Held.Stable pair → result ≡ pair.row }
-        ensures held { (pair : Pair) → self.old ≡ Held.Stable pair →
-            self.new ≡ Held.Stable (record pair { row = row; stamp = stamp }) }
+        ensures row { (pair : Pair) → self.old ≡ Stable pair → result ≡ pair.row }
+        ensures held { (pair : Pair) → self.old ≡ Stable pair →
+            self.new ≡ Stable (record pair { row = row; stamp = stamp }) }
         ensures fits { (mark : Mark) → CanHold mark self.old → CanHold mark self.new }
     {
-        match self {
-            Held::Stable(pair) => {
+        match &mut self.kind {
+            Kind::Stable(pair) => {
                 pair.stamp = stamp;
                 mem::replace(&mut pair.row, row)
             }
@@ -198,23 +316,26 @@ impl Held {
     pub(crate) fn restamp(&mut self, stamp: u64)
         ensures { self.new ≡ stamped stamp self.old }
     {
-        match self {
-            Held::Stable(pair) => pair.stamp = stamp,
-            Held::Unstable(pair, _) => pair.stamp = stamp,
-            Held::Link(_) => {}
+        match &mut self.kind {
+            Kind::Stable(pair) => pair.stamp = stamp,
+            Kind::Unstable(pair) => pair.stamp = stamp,
+            Kind::Link(_) => {}
         }
     }
 
     /// Makes a pair unstable.
     pub(crate) fn unsettle(&mut self)
         requires { IsStablePair self.old }
-        ensures held { (pair : Pair) → self.old ≡ Held.Stable pair →
-            self.new ≡ Held.Unstable pair None }
+        ensures held { (pair : Pair) → self.old ≡ Stable pair →
+            self.new ≡ Unstable pair None }
         ensures fits { (mark : Mark) → mark ≡ Mark.Long →
             CanHold mark self.old → CanHold mark self.new }
     {
-        match mem::replace(self, Held::Link(0)) {
-            Held::Stable(pair) => *self = Held::Unstable(pair, None),
+        match mem::replace(&mut self.kind, Kind::Link(0)) {
+            Kind::Stable(mut pair) => {
+                pair.tree = None;
+                self.kind = Kind::Unstable(pair);
+            }
             _ => unreachable!(),
         }
     }
@@ -222,12 +343,12 @@ impl Held {
     /// Writes a tree's number beside an unstable pair.
     pub(crate) fn put_tree(&mut self, tree: usize)
         requires { IsUnlinked self.old }
-        ensures held { (pair : Pair) → self.old ≡ Held.Unstable pair None →
-            self.new ≡ Held.Unstable pair (Some tree) }
+        ensures held { (pair : Pair) → self.old ≡ Unstable pair None →
+            self.new ≡ Unstable pair (Some tree) }
         ensures fits { (mark : Mark) → CanHold mark self.old → CanHold mark self.new }
     {
-        match self {
-            Held::Unstable(_, known) => *known = Some(tree),
+        match &mut self.kind {
+            Kind::Unstable(pair) => pair.tree = Some(tree),
             _ => unreachable!(),
         }
     }
@@ -236,15 +357,15 @@ impl Held {
     pub(crate) fn become_link(&mut self) -> Pair
         requires { IsLinked self.old }
         ensures pair { (pair : Pair) (tree : ℕ) →
-            self.old ≡ Held.Unstable pair (Some tree) → result ≡ pair }
+            self.old ≡ Unstable pair (Some tree) → result ≡ pair }
         ensures held { (pair : Pair) (tree : ℕ) →
-            self.old ≡ Held.Unstable pair (Some tree) → self.new ≡ Held.Link tree }
+            self.old ≡ Unstable pair (Some tree) → self.new ≡ Link tree }
         ensures fits { (mark : Mark) → CanHold mark self.old → CanHold mark self.new }
     {
-        match mem::replace(self, Held::Link(0)) {
-            Held::Unstable(pair, tree) => {
-                *self = Held::Link(tree.unwrap());
-                pair
+        match mem::replace(&mut self.kind, Kind::Link(0)) {
+            Kind::Unstable(parts) => {
+                self.kind = Kind::Link(parts.tree.unwrap());
+                Pair { parts }
             }
             _ => unreachable!(),
         }

@@ -20,5 +20,5 @@ mod slots;
 mod split;
 
 pub use border::{Border, SLOTS};
-pub use entry::{Entry, EntryRef, Find, FoundKind, Held, Pair, Suffix};
+pub use entry::{Entry, EntryRef, Find, FoundKind, Held, HeldRef, Pair, PairParts, Suffix};
 pub use iter::Entries;

@@ -59,21 +59,21 @@ impl Slots {
             marks: ArrayVec::new_in(alloc),
             dropped: [false; SLOTS],
             helds: [
-                Held::Link(0),
-                Held::Link(0),
-                Held::Link(0),
-                Held::Link(0),
-                Held::Link(0),
-                Held::Link(0),
-                Held::Link(0),
-                Held::Link(0),
-                Held::Link(0),
-                Held::Link(0),
-                Held::Link(0),
-                Held::Link(0),
-                Held::Link(0),
-                Held::Link(0),
-                Held::Link(0),
+                Held::link(0),
+                Held::link(0),
+                Held::link(0),
+                Held::link(0),
+                Held::link(0),
+                Held::link(0),
+                Held::link(0),
+                Held::link(0),
+                Held::link(0),
+                Held::link(0),
+                Held::link(0),
+                Held::link(0),
+                Held::link(0),
+                Held::link(0),
+                Held::link(0),
             ],
         }
     }
@@ -174,7 +174,7 @@ impl Slots {
         let mark = self.marks.remove(place).get();
         let slot = self.order.remove(place);
         self.dropped[slot] = true;
-        let held = mem::replace(&mut self.helds[slot], Held::Link(0));
+        let held = mem::replace(&mut self.helds[slot], Held::link(0));
         Entry { slice, mark, held }
     }
 
