@@ -61,9 +61,10 @@ impl Model for Border {
 }
 
 impl Border {
-    ghost use Rattle.mt_border.specs.{Restamps.{stamped, all_restamped}, Held.{Pair, Stable, Unstable, Link}, Entry.{IsEntry, IsRest, IsStablePair, IsUnlinked, IsLinked}};
-    ghost use Rattle.mt_border.specs.{Rows.entry_seen, Entries.{IsBorder, IsMissing, with_entry, without}, Split.{IsCut, IsParted, IsSeparator, slices_with}};
-    ghost use Rattle.mt_border.specs.Node.{empty_node, entries_of, entry_at, held_at, IsLive, Finds, Rewrites};
+    ghost use Rattle.mt_border.specs.{Restamps.{stamped, all_restamped}, Held.{Pair, Stable, Unstable, Link}, Entry.{order_of, IsEntry, IsRest, IsStablePair, IsUnlinked, IsLinked}};
+    ghost use Rattle.mt_border.specs.{Rows.entry_seen, Entries.{IsBorder, IsMissing, place_in, with_entry, without}, Split.{IsCut, IsParted, IsSeparator, slices_with}};
+    ghost use Rattle.mt_order.specs.Places.{order_with, order_without};
+    ghost use Rattle.mt_border.specs.Node.{empty_node, entries_of, entry_at, held_at, place_at, IsLive, Finds, Rewrites};
 
     /// A node without keys, neighbours and parent.
     pub fn new(alloc: Global, low: u64, high: Option<u64>, version: Version) -> Self
@@ -160,6 +161,8 @@ impl Border {
         requires entry { IsEntry entry }
         requires missing { IsMissing (entries_of self.old) entry.slice entry.mark }
         ensures entries { entries_of self.new ≡ with_entry (entries_of self.old) entry }
+        ensures order { let place = place_in (entries_of self.old) (order_of entry) in
+            self.new.slots.order ≡ order_with self.old.slots.order place }
         ensures others { self.new ≡ record self.old { slots = self.new.slots } }
     {
         let place = place_of(&self.slots, entry.slice, entry.mark);
@@ -234,6 +237,7 @@ impl Border {
         requires { IsLive self.old slot }
         ensures value { result ≡ entry_at self.old slot }
         ensures entries { entries_of self.new ≡ without (entries_of self.old) result }
+        ensures order { self.new.slots.order ≡ order_without self.old.slots.order (place_at self.old slot) }
         ensures others { self.new ≡ record self.old { slots = self.new.slots } }
     {
         let place = self.slots.place_of(slot).unwrap();

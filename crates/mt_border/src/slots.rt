@@ -48,7 +48,7 @@ impl Model for Slots {
 impl Slots {
     ghost use Rattle.mt_border.specs.{Restamps.all_restamped, Entries.{slices, marks}, Rows.entry_seen};
     ghost use Rattle.mt_border.specs.Slots.{IsSlotted, fresh_slots, listed};
-    ghost use Rattle.mt_order.specs.Places.{place_of_slot};
+    ghost use Rattle.mt_order.specs.Places.{place_of_slot, order_with, order_without};
 
     pub(crate) fn new(alloc: Global) -> Self
         ensures { result ≡ fresh_slots }
@@ -155,6 +155,7 @@ impl Slots {
         requires in_bounds { place ≤ length (listed self.old) }
         requires room { length (listed self.old) < SLOTS }
         ensures entries { listed self.new ≡ insert (listed self.old) place entry }
+        ensures order { self.new.order ≡ order_with self.old.order place }
         ensures slotted { IsSlotted self.new }
     {
         self.slices.insert(place, entry.slice);
@@ -168,6 +169,7 @@ impl Slots {
         requires { place < length (listed self.old) }
         ensures value { result ≡ slice_index_or (listed self.old) place result }
         ensures entries { listed self.new ≡ remove (listed self.old) place }
+        ensures order { self.new.order ≡ order_without self.old.order place }
         ensures slotted { IsSlotted self.new }
     {
         let slice = self.slices.remove(place);

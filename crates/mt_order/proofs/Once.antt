@@ -1,9 +1,9 @@
 -- No slot stands twice in an order.
-use Rattle.std.proofs.{Common.{◌≡◌, ◌≢◌, ℕ, zero, suc, ◌+◌, ◌<◌, List, [], ◌∷◌, ◌++◌, length, get_or, nat_eq, refl, sym, ap, ◌∙◌, inl, inr, arith}, lemmas.Bool.{cases_eq, cases_lt}}
+use Rattle.std.proofs.{Common.{◌≡◌, ◌≢◌, ℕ, zero, suc, ◌+◌, ◌<◌, List, [], ◌∷◌, ◌++◌, length, get_or, drop, nat_eq, refl, sym, ap, ◌∙◌, inl, inr, arith}, lemmas.Bool.{cases_eq, cases_lt}}
 use Rattle.std.proofs.{lemmas.Bool.Decides.{Decides-eqb, nat_tests}, lemmas.List.{get_or_append_left, get_or-append-add, get_or_default, length-append}, lemmas.List.Kept.AllPairs-from_increasing}
 use Rattle.std.proofs.{lemmas.Map.Keys.IsDistinct-IsPermutation, lemmas.Map.Made.{AllPairs-from_IsDistinct, IsDistinct-from_AllPairs}}
-use Rattle.std.specs.{Prelude.{◌==◌, if◌then◌else◌}, List.{All, AllPairs}}
-use Rattle.mt_order.specs.Places.{Places, IsOrder, IsPlaces, fifteen, place_of_slot}
+use Rattle.std.specs.{Prelude.{◌==◌, if◌then◌else◌}, List.{All, AllPairs, insert, remove}}
+use Rattle.mt_order.specs.Places.{Places, IsOrder, IsPlaces, fifteen, place_of_slot, order_with, order_without}
 
 fifteen_is : (k : ℕ) → k < 15 → get_or fifteen k 0 ≡ k
 fifteen_is zero lt = refl
@@ -102,3 +102,17 @@ pub free_below : (o : Places) (k : ℕ) → IsPlaces o → k < length o.free →
 free_below o k places free =
     let size = length-append o.live o.free in
     rw (← get_or-append-add o.live o.free k 0) (places.below (length o.live + k) 0 (omega (arith, free, size)))
+
+-- what becomes of an order where a slot is put in or taken out
+abbrev both : List ℕ → List ℕ → Places
+both live free = record { live = live; free = free }
+
+pub order_put : (o p : Places) (place slot : ℕ) → o.free ≡ slot ∷ p.free → p.live ≡ insert o.live place slot → p ≡ order_with o place
+order_put o p place slot free live =
+    let first : slot ≡ get_or o.free 0 0 = sym (ap (λ xs. get_or xs 0 0) free) in
+    let others : p.free ≡ drop 1 o.free = sym (ap (drop 1) free) in
+    ap (λ l. both l p.free) (live ∙ ap (insert o.live place) first) ∙ ap (both (insert o.live place (get_or o.free 0 0))) others
+
+pub order_taken : (o p : Places) (place slot : ℕ) → slot ≡ get_or o.live place 0 → p.live ≡ remove o.live place → p.free ≡ slot ∷ o.free → p ≡ order_without o place
+order_taken o p place slot is live free =
+    ap (λ l. both l p.free) live ∙ ap (both (remove o.live place)) (free ∙ ap (λ x. x ∷ o.free) is)

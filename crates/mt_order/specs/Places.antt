@@ -1,5 +1,5 @@
 -- The order of the slots of a border node.
-use Rattle.std.specs.{Prelude.{◌≡◌, ℕ, suc, ◌==◌, if◌then◌else◌, ◌+◌, ◌*◌, ◌<◌, ◌≤◌, List, [], ◌∷◌, ◌++◌, length}, List.All, List.Sorted.IsPermutation}
+use Rattle.std.specs.{Prelude.{◌≡◌, ℕ, suc, ◌==◌, if◌then◌else◌, ◌+◌, ◌*◌, ◌<◌, ◌≤◌, List, [], ◌∷◌, ◌++◌, length, drop, insert, remove, slice_index}, List.All, List.Sorted.IsPermutation}
 
 -- the live slots in the order of their keys, and the free ones in the order in which they are taken
 pub record Places : Type 0 where
@@ -31,6 +31,14 @@ number (s ∷ rest) = s + 16 * number rest
 -- how many slots are live, and then all slots
 abbrev pub word_of : Places → ℕ
 word_of o = length o.live + 16 * number (o.live ++ o.free)
+
+-- an order whose first free slot is live now, at a place
+abbrev pub order_with : Places → ℕ → Places
+order_with o place = record { live = insert o.live place (slice_index o.free 0); free = drop 1 o.free }
+
+-- an order whose live slot of a place is the first free one now
+abbrev pub order_without : Places → ℕ → Places
+order_without o place = record { live = remove o.live place; free = slice_index o.live place ∷ o.free }
 
 -- how many slots stand before a slot; all of them, where it isn't there
 abbrev pub place_of_slot : List ℕ → ℕ → ℕ

@@ -23,3 +23,8 @@ pub returns-clause-entries : goal.returns-clause-entries
 returns-clause-entries c =
     rw (← c.self.view_is, c.remove.ensures.entries)
     (sym (without_at _ _ c.remove.result c.self.invariant.border.rising (within c) c.remove.ensures.value))
+
+pub returns-clause-order : goal.returns-clause-order
+returns-clause-order c =
+    let some = rw (c.unwrap-place.ensures) at c.place_of.ensures.some in
+    rw (← c.self.view_is, some) c.remove.ensures.order

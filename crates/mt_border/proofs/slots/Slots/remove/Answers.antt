@@ -1,6 +1,7 @@
 -- the parts of the entry leave each row and its slot
 use Rattle.std.proofs.{Common.{◌<◌, length, ap, get_or, ◌∙◌, arith}, lemmas.List.get_or_default}
 use Rattle.mt_border.{specs.Slots.listed, proofs.{RowEdits.read-rows, Slotting.{rows_in, size-listed, held_read, listed_taken}}}
+use Rattle.mt_order.proofs.Once.{order_taken}
 use Rattle.mt_border.proofs.slots.Slots.remove.Goals as goal
 
 pub remove-slice-requires : goal.remove-slice-requires
@@ -25,3 +26,8 @@ returns-clause-entries c =
     let order = c.remove-slot.ensures in
     rw (c.remove-slice.ensures.rest, c.remove.ensures.items, ← c.self.view_is)
     (listed_taken _ c.remove-slot.new.self c.args.place c.remove-slot.result _ c.self.invariant within order.places order.free order.live)
+
+pub returns-clause-order : goal.returns-clause-order
+returns-clause-order c =
+    let order = c.remove-slot.ensures in
+    rw (← c.self.view_is) (order_taken c.self.inside.order c.remove-slot.new.self c.args.place c.remove-slot.result order.slot order.live order.free)
