@@ -26,7 +26,7 @@ no_numbers (x ∷ xs) none = absurd (omega (arith, none))
 -- a child that the operation holds becomes the root
 changes_crowned : (op : ℕ) (x : NodeView) → x.holder ≡ Some op → Changes op x (crowned x)
 changes_crowned op x held =
-    changes_held op x (crowned x) held held refl refl refl (ages-made_root x.version) (λ some. some) (λ whole live. omega arith) (λ whole still. record { slots = refl; separators = refl; children = refl })
+    changes_held op x (crowned x) held held refl refl refl (ages-made_root x.version) (λ some. some) (λ whole live. omega arith) (λ whole still. record { slots = refl; order = refl; separators = refl; children = refl })
 
 module _ (v : ArenaView) (room root child step op : ℕ) (sound : ArenaInvariant v.nodes v.trees v.retired room) (may : MayCollapse v root child op) where
   abbrev xs : List NodeView

@@ -4,9 +4,7 @@ use Rattle.std.proofs.{lemmas.Bool.cases_eq, lemmas.List.{append-nil, get_or_app
 use Rattle.std.proofs.lemmas.List.Concat.{flat_map-append}
 use Rattle.std.specs.{Prelude.{filter_map, if◌then◌else◌, false, true, ◌⊎◌}, List.{flat_map, cons_option, remove}, Option.option_map}
 use Rattle.mt_rows.specs.Rows.{Bytes, Columns}
-use Rattle.mt_border.specs.{declared.entry.Pair.Pair, declared.entry.Entry.Entry, declared.entry.Held.Held, declared.entry.Held.TheVariants.Link, Entry.pair_of}
-use Rattle.mt_border.specs.Contents.{owned, key_at, pair_in}
-use Rattle.mt_border.proofs.Edits.{any_entry}
+use Rattle.mt_border.{specs.{Held.{Pair, Held, Link}, declared.entry.Entry.Entry, Entry.pair_of, Contents.{owned, key_at, pair_in}}, proofs.Edits.any_entry}
 use Rattle.mt_arena.specs.{declared.tree.Tree.Tree, NodeView.{NodeView, node_at, no_node}, Forests.{tree_at, no_tree}, Layers.slot_at}
 use Rattle.mt_arena.specs.{Contents.{is_live, live_pairs, content}, Arena.IsArena, Ways.HasSlots}
 use Rattle.mt_arena.proofs.{Joins.map_of, Counted.{content-is, pairs-nil, pairs-gone, pairs-other}}

@@ -5,7 +5,7 @@ use Rattle.std.specs.{Prelude.{filter_map, if◌then◌else◌, cond}, List.{All
 use Rattle.std.specs.{Ordering.eq_by_cmp, FinMap.{get, insert, remove, get-empty, get-insert, get-remove}}
 use Rattle.mt_slices.specs.Slices.{slice_of, mark_of}
 use Rattle.mt_rows.{specs.{Rows.{Bytes, Columns}, Tenants.{owned_cmp, Contents}}, proofs.ContentLaws.{same_contents, owned_total}}
-use Rattle.mt_border.specs.{declared.entry.Pair.Pair, declared.entry.Entry.Entry, Entry.{pair_of, order_at, order_of}, Entries.IsBorder}
+use Rattle.mt_border.specs.{Held.Pair, declared.entry.Entry.Entry, Entry.{pair_of, order_at, order_of}, Entries.IsBorder}
 use Rattle.mt_border.specs.Contents.{owned, key_at, pair_in, contents_of, HasKey, AreKeys, IsOfTree}
 use Rattle.mt_border.proofs.{Edits.any_entry, ContentsKeys.{IsApart, owned_at, owned_once}, ContentsLists.get-apart, ContentsFinds.apart_beside}
 use Rattle.mt_arena.specs.{declared.tree.Tree.Tree, declared.tree.Standing.Standing, declared.tree.Standing.TheVariants.{Made, Live, Dead}}

@@ -5,7 +5,7 @@ use Rattle.std.specs.Int.{w64, to_be_bytes}
 use Rattle.mt_slices.specs.{declared.mark.Mark.TheVariants.{Short, Long}, Keys.IsStoredKey, Slices.{rest_of, slice_of, mark_of}}
 use Rattle.mt_slices.proofs.{Bytes.{AreBytes, bytes-drop}, Padding.slice_bytes}
 use Rattle.mt_rows.specs.Rows.{Bytes}
-use Rattle.mt_border.{specs.{declared.entry.Held.TheVariants.Link, Contents.IsOfTree}, proofs.Edits.any_entry}
+use Rattle.mt_border.{specs.{Held.Link, Contents.IsOfTree}, proofs.Edits.any_entry}
 use Rattle.mt_arena.specs.{declared.tree.Tree.Tree, NodeView.{NodeView, node_at}, Nodes.Holds, Forests.tree_at, Layers.{slot_at, LeadsTo}, Arena.IsArena}
 use Rattle.mt_arena.specs.{Stands.{IsLiveBorder, StandsAt}, Ways.{BelongsIn, GoesOn}}
 use Rattle.mt_arena.proofs.{Links.long_link, Elsewhere.mark_short}

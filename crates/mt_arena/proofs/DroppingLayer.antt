@@ -1,10 +1,11 @@
 -- The whole invariant, the guarantee and the contents where a tree is taken out with its root and the link to it: for `drop_layer`.
+use Rattle.mt_order.specs.Places.{order_without}
 use Rattle.std.proofs.Common.{◌≡◌, ◌≢◌, ℕ, ◌<◌, ◌++◌, List, [], length, get_or, set, true, false, Some, refl, sym, ap, subst, ◌∙◌, inl, inr, arith}
 use Rattle.std.proofs.{lemmas.Bool.cases_eq, lemmas.List.{length-set, get_or-set_other, get_or_default}}
 use Rattle.std.specs.{Prelude.{◌⊎◌}, List.{All, remove}}
 use Rattle.mt_slices.specs.{Slices.piece_bytes, declared.mark.Mark.TheVariants.{Short, Long}}
 use Rattle.mt_rows.specs.Rows.{Bytes}
-use Rattle.mt_border.specs.{declared.entry.Entry.Entry, declared.entry.Held.TheVariants.Link, Contents.HasKey, Entries.{IsBorder, slices, without}}
+use Rattle.mt_border.specs.{declared.entry.Entry.Entry, Held.Link, Contents.HasKey, Entries.{IsBorder, slices, without}}
 use Rattle.mt_border.proofs.Edits.{any_entry, All-remove, border_without, without_at}
 use Rattle.mt_arena.specs.{declared.tree.Tree.Tree, declared.tree.Standing.TheVariants.{Live, Dead}, NodeView.{NodeView, node_at}}
 use Rattle.mt_arena.specs.{Nodes.{AreNodes, Holds, HasRange}, Ranges.{AreRanged, Waits}, Forests.{IsForest, IsRoot, HaveKeys, tree_at, no_tree, layer_of}}
@@ -46,7 +47,7 @@ module _ (v : ArenaView) (room node i u step op : ℕ) (sound : ArenaInvariant v
   es = without n.slots e
 
   abbrev y : NodeView
-  y = with_slots n es
+  y = with_slots n es (order_without n.order i)
 
   abbrev w : NodeView
   w = retired x
@@ -145,10 +146,10 @@ module _ (v : ArenaView) (room node i u step op : ℕ) (sound : ArenaInvariant v
 
   -- nodes and their ranges
   nodes_ys : AreNodes ys
-  nodes_ys = nodes_slots xs node es ln nodes (is_held op n may.held.holder) may.border (border_without n.slots e was_border) inside
+  nodes_ys = nodes_slots xs node es y.order ln nodes (is_held op n may.held.holder) may.border (border_without n.slots e was_border) inside
 
   ranged_ys : AreRanged ys
-  ranged_ys = ranged_marked xs node es y.version ln sound.arena.ranged refl (λ splits. splits) (λ whole. whole)
+  ranged_ys = ranged_marked xs node es y.order y.version ln sound.arena.ranged refl (λ splits. splits) (λ whole. whole)
 
   nodes_out : AreNodes new
   nodes_out =
@@ -282,7 +283,7 @@ module _ (v : ArenaView) (room node i u step op : ℕ) (sound : ArenaInvariant v
 
   -- what others rely on
   turns_node : MayTurn op v.trees n y
-  turns_node = record { changes = changes_slots op n es may.held.holder; mine = λ q made. absurd (let both = sym live_above ∙ made in cc) }
+  turns_node = record { changes = changes_slots op n es y.order may.held.holder; mine = λ q made. absurd (let both = sym live_above ∙ made in cc) }
 
   turns_root : MayTurn op v.trees x w
   turns_root = record {

@@ -5,8 +5,7 @@ use Rattle.std.proofs.lemmas.List.{length-take-le, length-drop}
 use Rattle.std.specs.Prelude.{◌⊎◌, nat_le, if◌then◌else◌}
 use Rattle.mt_slices.specs.{declared.mark.Mark.TheVariants.{Short, Long}, Slices.{rest_of, slice_of, mark_of, suffix_of}}
 use Rattle.mt_rows.specs.Rows.{Bytes}
-use Rattle.mt_border.specs.{declared.entry.Pair.Pair, declared.entry.Entry.Entry, declared.entry.Held.Held, declared.entry.Held.TheVariants.Link, Entry.pair_of}
-use Rattle.mt_border.specs.{Entries.IsMissing, Contents.{IsOfTree, HasKey}}
+use Rattle.mt_border.specs.{Held.{Pair, Held, Link}, declared.entry.Entry.Entry, Entry.pair_of, Entries.IsMissing, Contents.{IsOfTree, HasKey}}
 use Rattle.mt_border.proofs.Edits.{any_entry}
 use Rattle.mt_arena.specs.{declared.tree.Tree.Tree, NodeView.{NodeView, node_at}, Nodes.Holds, Forests.{tree_at, layer_of}, Layers.slot_at, Arena.IsArena}
 use Rattle.mt_arena.specs.{Stands.StandsAt, Ways.{AreBegun, LinksOn, BelongsIn, StandsFor}}

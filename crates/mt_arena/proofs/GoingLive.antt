@@ -4,7 +4,7 @@ use Rattle.std.proofs.{lemmas.Bool.cases_eq, lemmas.Option.none-some, lemmas.Lis
 use Rattle.std.proofs.lemmas.List.Elements.{All-from_get_or}
 use Rattle.std.specs.{Prelude.filter_map, List.{flat_map, cons_option}, Ordering.eq_by_cmp, FinMap.{get, insert, get-empty, get-insert}}
 use Rattle.mt_rows.{specs.{Rows.{Bytes, Columns}, Tenants.owned_cmp}, proofs.ContentLaws.{same_contents, owned_total}}
-use Rattle.mt_border.specs.{declared.entry.Pair.Pair, declared.entry.Entry.Entry, Entry.pair_of, Contents.{owned, pair_in, contents_of, AreKeys}}
+use Rattle.mt_border.specs.{Held.Pair, declared.entry.Entry.Entry, Entry.pair_of, Contents.{owned, pair_in, contents_of, AreKeys}}
 use Rattle.mt_border.proofs.{Edits.any_entry, ContentsMaps.{at_owner, at_other}, ContentsKeys.{IsApart, owned_at, order_of_key}}
 use Rattle.mt_border.proofs.{ContentsLists.{get-apart, get-other, insert-this}, ContentsFinds.apart_beside}
 use Rattle.mt_arena.specs.{declared.tree.Tree.Tree, declared.tree.Standing.TheVariants.{Made, Live}, NodeView.{NodeView, node_at, no_node}}

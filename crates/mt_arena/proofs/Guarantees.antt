@@ -10,13 +10,14 @@ use Rattle.mt_version.proofs.CallerLemmas as versions
 
 -- a node that stays as it is
 pub untouched : (n : NodeView) → IsUntouched n n
-untouched n = record { holder = refl; version = refl; slots = refl; separators = refl; children = refl; next = refl; high = refl; reach = refl; parented = λ some. some; orphaned = λ none. none }
+untouched n = record { holder = refl; version = refl; slots = refl; order = refl; separators = refl; children = refl; next = refl; high = refl; reach = refl; parented = λ some. some; orphaned = λ none. none }
 
 untouched_on : (n m p : NodeView) → IsUntouched n m → IsUntouched m p → IsUntouched n p
 untouched_on n m p a b = record {
   holder = b.holder ∙ a.holder;
   version = b.version ∙ a.version;
   slots = b.slots ∙ a.slots;
+  order = b.order ∙ a.order;
   separators = b.separators ∙ a.separators;
   children = b.children ∙ a.children;
   next = b.next ∙ a.next;
@@ -28,10 +29,15 @@ untouched_on n m p a b = record {
 
 -- a node has the keys and children that it has
 pub same_keys : (n : NodeView) → HasSameKeys n n
-same_keys n = record { slots = refl; separators = refl; children = refl }
+same_keys n = record { slots = refl; order = refl; separators = refl; children = refl }
 
 same_keys_on : (n m p : NodeView) → HasSameKeys n m → HasSameKeys m p → HasSameKeys n p
-same_keys_on n m p a b = record { slots = b.slots ∙ a.slots; separators = b.separators ∙ a.separators; children = b.children ∙ a.children }
+same_keys_on n m p a b = record {
+  slots = b.slots ∙ a.slots;
+  order = b.order ∙ a.order;
+  separators = b.separators ∙ a.separators;
+  children = b.children ∙ a.children;
+}
 
 -- a node that is live now was live
 was_live : (a b : Bool) → (a ≡ true → b ≡ true) → b ≡ false → a ≡ false

@@ -7,7 +7,7 @@ use Rattle.std.specs.{Prelude.filter_map, List.{All, flat_map, cons_option}, Opt
 use Rattle.std.specs.FinMap.{get, insert, get-empty, get-insert}
 use Rattle.mt_slices.specs.Slices.{slice_of}
 use Rattle.mt_rows.{specs.{Rows.{Bytes, Columns}, Tenants.owned_cmp}, proofs.ContentLaws.{same_contents, owned_total}}
-use Rattle.mt_border.specs.{declared.entry.Pair.Pair, declared.entry.Entry.Entry, Entry.pair_of, Entries.{IsMissing, with_entry}, Split.IsParted}
+use Rattle.mt_border.specs.{Held.Pair, declared.entry.Entry.Entry, Entry.pair_of, Entries.{IsMissing, with_entry}, Split.IsParted}
 use Rattle.mt_border.specs.Contents.{owned, key_at, pair_in, contents_of, HasKey, AreKeys}
 use Rattle.mt_border.proofs.{Edits.any_entry, ContentsKeys.{IsApart, owned_at, owned_once, missing_key}, ContentsLists.get-apart}
 use Rattle.mt_border.proofs.ContentsEdits.{each-publish, keys-publish}

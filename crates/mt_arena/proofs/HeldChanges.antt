@@ -1,4 +1,5 @@
 -- Which changes of a node that an operation holds its guarantee allows: for the clause `step` of the calls that change several nodes.
+use Rattle.mt_order.specs.Places.{Places}
 use Rattle.std.proofs.Common.{◌≡◌, ◌≢◌, ℕ, suc, ◌+◌, ◌<◌, ◌≤◌, List, [], ◌∷◌, length, take, drop, Bool, Some, true, false, refl, sym, ap, ◌∙◌, arith, length-append}
 use Rattle.std.proofs.{lemmas.Option.same_Some, lemmas.List.Edits.length-remove}
 use Rattle.std.specs.List.{insert, remove}
@@ -49,21 +50,21 @@ changes_split op n m before after tree level low ages peopled marked =
     changes_held op n m before after tree level low ages peopled (λ whole. absurd (marks n.version.splitting marked whole)) (λ whole. absurd (marks n.version.splitting marked whole))
 
 -- the halves of a border node
-pub changes_left_half : (op : ℕ) (x : NodeView) (kept : List Entry) (low right : ℕ) → x.holder ≡ Some op → x.version.splitting ≡ true
-    → Changes op x (left_half x kept low right)
-changes_left_half op x kept low right held marked =
-    changes_split op x (left_half x kept low right) held held refl refl refl (versions.ages_refl x.version) (λ some. some) marked
+pub changes_left_half : (op : ℕ) (x : NodeView) (kept : List Entry) (order : Places) (low right : ℕ) → x.holder ≡ Some op → x.version.splitting ≡ true
+    → Changes op x (left_half x kept order low right)
+changes_left_half op x kept order low right held marked =
+    changes_split op x (left_half x kept order low right) held held refl refl refl (versions.ages_refl x.version) (λ some. some) marked
 
 -- a held right half may be filled
-pub changes_right_half : (op : ℕ) (x r : NodeView) (moved : List Entry) (left : ℕ) → r.holder ≡ Some op → r.version.splitting ≡ true
-    → Changes op r (right_half x r moved left)
-changes_right_half op x r moved left held marked =
-    changes_split op r (right_half x r moved left) held held refl refl refl (versions.ages_refl r.version) (λ some. some) marked
+pub changes_right_half : (op : ℕ) (x r : NodeView) (moved : List Entry) (order : Places) (left : ℕ) → r.holder ≡ Some op → r.version.splitting ≡ true
+    → Changes op r (right_half x r moved order left)
+changes_right_half op x r moved order left held marked =
+    changes_split op r (right_half x r moved order left) held held refl refl refl (versions.ages_refl r.version) (λ some. some) marked
 
 -- the left half whose range in its parent ends at its fence
 pub changes_exact : (op : ℕ) (n : NodeView) → n.holder ≡ Some op → Changes op n (exact n)
 changes_exact op n held =
-    changes_held op n (exact n) held held refl refl refl (versions.ages_refl n.version) (λ some. some) (λ whole live. omega arith) (λ whole still. record { slots = refl; separators = refl; children = refl })
+    changes_held op n (exact n) held held refl refl refl (versions.ages_refl n.version) (λ some. some) (λ whole live. omega arith) (λ whole still. record { slots = refl; order = refl; separators = refl; children = refl })
 
 -- the halves of a root below the new one: the left one is no root any more
 pub changes_left_below : (op : ℕ) (n : NodeView) (top : ℕ) → n.holder ≡ Some op → n.version.splitting ≡ true → Changes op n (left_below n top)
@@ -103,4 +104,4 @@ changes_inner_left op p separator q held marked =
 -- the left neighbour of a removed node gets its range
 pub changes_joined : (op : ℕ) (n x : NodeView) → n.holder ≡ Some op → end_of n.high ≤ end_of x.high → Changes op n (joined n x)
 changes_joined op n x held wider =
-    changes_held op n (joined n x) held held refl refl refl (versions.ages_refl n.version) (λ some. some) (λ whole live. wider) (λ whole still. record { slots = refl; separators = refl; children = refl })
+    changes_held op n (joined n x) held held refl refl refl (versions.ages_refl n.version) (λ some. some) (λ whole live. wider) (λ whole still. record { slots = refl; order = refl; separators = refl; children = refl })

@@ -4,7 +4,7 @@ use Rattle.std.proofs.{lemmas.Bool.{cases_eq, cases_lt}, lemmas.List.{length-set
 use Rattle.mt_version.specs.Parts.{Parts}
 use Rattle.mt_slices.specs.{Slices.piece_bytes, declared.mark.Mark.TheVariants.Long}
 use Rattle.mt_rows.specs.Rows.{Bytes, Columns}
-use Rattle.mt_border.specs.{declared.entry.Entry.Entry, declared.entry.Pair.Pair, declared.entry.Held.Held, Entry.pair_of, Contents.HasKey}
+use Rattle.mt_border.specs.{declared.entry.Entry.Entry, Held.{Pair, Held}, Entry.pair_of, Contents.HasKey}
 use Rattle.mt_border.proofs.{Edits.{any_entry, replaced_at}, ContentsKeys.has_held_key}
 use Rattle.mt_arena.specs.{declared.tree.Tree.Tree, declared.tree.Standing.Standing, declared.tree.Standing.TheVariants.{Made, Live, Dead}, NodeView.NodeView}
 use Rattle.mt_arena.specs.{Layers.slot_at, Forests.{tree_at, layer_of}, Guarantee.IsUntouched, Ways.IsMadeFor, Arena.{IsArena, ArenaView, Guarantee}}

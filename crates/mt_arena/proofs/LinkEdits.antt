@@ -4,7 +4,7 @@ use Rattle.std.proofs.{lemmas.Bool.{cases_eq, cases_lt}, lemmas.List.{length-set
 use Rattle.std.proofs.lemmas.List.Edits.{length-insert, length-remove, get_or-insert_below, get_or-insert_at, get_or-insert_above, get_or-remove_below, get_or-remove_above}
 use Rattle.std.specs.List.{insert, remove}
 use Rattle.mt_slices.specs.{Slices.piece_bytes, declared.mark.Mark.TheVariants.Long}
-use Rattle.mt_border.{specs.{declared.entry.Entry.Entry, declared.entry.Held.TheVariants.Link}, proofs.Edits.any_entry}
+use Rattle.mt_border.{specs.{declared.entry.Entry.Entry, Held.Link}, proofs.Edits.any_entry}
 use Rattle.mt_arena.specs.{declared.tree.Tree.Tree, NodeView.{NodeView, node_at}, Forests.tree_at, Layers.{AreLayered, AreLinks, HasLink, slot_at}}
 use Rattle.mt_arena.proofs.Pairs.{here, there}
 

@@ -6,7 +6,7 @@ use Rattle.std.specs.Int.{w64, to_be_bytes, from_be_bytes}
 use Rattle.mt_slices.specs.{declared.mark.Mark.Mark, declared.mark.Mark.TheVariants.Long, Slices.{slice_at, slice_of, rest_of}}
 use Rattle.mt_slices.proofs.{Bytes.{AreBytes, bytes-drop}, Numbers.{slice_at-number, number_lt}}
 use Rattle.mt_rows.specs.Rows.{Bytes}
-use Rattle.mt_border.{specs.{declared.entry.Entry.Entry, declared.entry.Held.TheVariants.Link, Entry.CanHold}, proofs.Edits.any_entry}
+use Rattle.mt_border.{specs.{declared.entry.Entry.Entry, Held.Link, Entry.CanHold}, proofs.Edits.any_entry}
 use Rattle.mt_arena.specs.{declared.tree.Tree.Tree, declared.tree.Standing.TheVariants.{Live, Dead}, NodeView.{NodeView, node_at}}
 use Rattle.mt_arena.specs.{Forests.{IsForest, tree_at, no_tree, layer_of}, Layers.{slot_at, HasLink, LeadsTo}, Arena.IsArena, Ways.LinksOn}
 

@@ -26,7 +26,7 @@ changes_locked op x free = record {
   ages = ages-locked x.version;
   peopled = λ some. some;
   widens = λ same whole live. omega arith;
-  keys = λ range insertion whole still. record { slots = refl; separators = refl; children = refl };
+  keys = λ range insertion whole still. record { slots = refl; order = refl; separators = refl; children = refl };
   held = λ q other e. absurd (let none = free in cc);
   taken = λ q other e. absurd (other (sym (let is = e in cc)));
 }
@@ -71,7 +71,7 @@ changes_unlocked op x mine = record {
   ages = ages-unlocked x.version;
   peopled = λ some. some;
   widens = λ same whole live. omega arith;
-  keys = λ range insertion whole still. record { slots = refl; separators = refl; children = refl };
+  keys = λ range insertion whole still. record { slots = refl; order = refl; separators = refl; children = refl };
   held = λ q other e. absurd (not_others op q x mine other e);
   taken = λ q other e. absurd (cc);
 }
@@ -87,7 +87,7 @@ pub sound_splitting : (xs : List NodeView) (trees : List Tree) (gone : List Reti
     → (node_at xs i).holder ≢ None → ArenaInvariant (set xs i (splitting (node_at xs i))) trees gone room
 sound_splitting xs trees gone room i within sound held =
     let x = node_at xs i in
-    sound_set xs trees gone room i (splitting x) within sound (nodes_splitting xs i within sound.arena.nodes held) (ranged_marked xs i x.slots (splitting x).version within sound.arena.ranged refl (λ _. refl) (λ e. absurd (cc)))
+    sound_set xs trees gone room i (splitting x) within sound (nodes_splitting xs i within sound.arena.nodes held) (ranged_marked xs i x.slots x.order (splitting x).version within sound.arena.ranged refl (λ _. refl) (λ e. absurd (cc)))
     record { tree = refl; level = refl; low = refl; deleted = refl; flag = refl; root = λ r. record { live = r.live; flag = r.flag; parentless = r.parentless; low = r.low; reach = r.reach } }
     (keys_of xs trees i within sound.arena.forest)
     record { tree = refl; deleted = refl; forth = same_links x.slots; back = same_links x.slots }
@@ -100,7 +100,7 @@ changes_splitting op x mine = record {
   ages = ages-marked_splitting x.version;
   peopled = λ some. some;
   widens = λ same whole live. omega arith;
-  keys = λ range insertion whole still. record { slots = refl; separators = refl; children = refl };
+  keys = λ range insertion whole still. record { slots = refl; order = refl; separators = refl; children = refl };
   held = λ q other e. absurd (not_others op q x mine other e);
   taken = λ q other e. e;
 }

@@ -1,9 +1,9 @@
 -- The whole invariant, the guarantee and the contents where a tree is made with one slot in its root: for `make_layer`.
+use Rattle.mt_order.specs.Places.{order_with, fresh_order}
 use Rattle.std.proofs.Common.{◌≡◌, ◌≢◌, ℕ, ◌+◌, ◌<◌, ◌≤◌, List, [], ◌∷◌, ◌++◌, length, set, refl, sym, ap, subst, ◌∙◌, arith, length-append}
 use Rattle.std.proofs.lemmas.List.{set_at}
 use Rattle.mt_rows.specs.Rows.{Bytes}
-use Rattle.mt_border.specs.{declared.entry.Entry.Entry, declared.entry.Held.Held, declared.entry.Held.TheVariants.{Stable, Unstable, Link}}
-use Rattle.mt_border.specs.{Entry.{IsEntry, IsStablePair}, Entries.IsBorder}
+use Rattle.mt_border.specs.{declared.entry.Entry.Entry, Held.{Held, Stable, Unstable, Link}, Entry.{IsEntry, IsStablePair}, Entries.IsBorder}
 use Rattle.mt_border.proofs.Edits.{any_entry}
 use Rattle.mt_arena.specs.{declared.tree.Tree.Tree, NodeView.{NodeView, node_at}, Nodes.{AreNodes, IsNode, Holds}, Ranges.AreRanged, NodeFacts.IsUnstable}
 use Rattle.mt_arena.specs.{Forests.{HaveKeys, tree_at, layer_of}, Contents.{live_pairs, content}, Edits.fresh_root}
@@ -92,13 +92,13 @@ module _ (v : ArenaView) (room more op : ℕ) (prefix : Bytes) (e : Entry) (soun
   }
 
   nodes_with : AreNodes (set ys (length xs) y)
-  nodes_with = subst (λ (n : NodeView). AreNodes (set ys (length xs) (record n { slots = e ∷ [] }))) at
-      (nodes_quiet ys (length xs) (e ∷ []) (node_at ys (length xs)).version (node_at ys (length xs)).holder within empty.arena.nodes refl (λ held. held)
-      (subst (λ (n : NodeView). IsNode (length ys) (record n { slots = e ∷ [] })) (sym at) root_node))
+  nodes_with = subst (λ (n : NodeView). AreNodes (set ys (length xs) (record n { slots = e ∷ []; order = order_with fresh_order 0 }))) at
+      (nodes_quiet ys (length xs) (e ∷ []) (order_with fresh_order 0) (node_at ys (length xs)).version (node_at ys (length xs)).holder within empty.arena.nodes refl (λ held. held)
+      (subst (λ (n : NodeView). IsNode (length ys) (record n { slots = e ∷ []; order = order_with fresh_order 0 })) (sym at) root_node))
 
   ranged_with : AreRanged (set ys (length xs) y)
-  ranged_with = subst (λ (n : NodeView). AreRanged (set ys (length xs) (record n { slots = e ∷ [] }))) at
-      (ranged_marked ys (length xs) (e ∷ []) (node_at ys (length xs)).version within empty.arena.ranged refl (λ marked. marked) (λ whole. whole))
+  ranged_with = subst (λ (n : NodeView). AreRanged (set ys (length xs) (record n { slots = e ∷ []; order = order_with fresh_order 0 }))) at
+      (ranged_marked ys (length xs) (e ∷ []) (order_with fresh_order 0) (node_at ys (length xs)).version within empty.arena.ranged refl (λ marked. marked) (λ whole. whole))
 
   keys_with : HasKeysOf ts y
   keys_with = subst (λ (t : Tree). HaveKeys t.prefix (e ∷ [])) (sym tree_is) may.keys

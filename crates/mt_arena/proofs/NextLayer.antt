@@ -3,8 +3,7 @@ use Rattle.std.proofs.{Common.{◌≡◌, ◌≢◌, ℕ, zero, suc, ◌+◌, �
 use Rattle.std.specs.Int.{w64, to_be_bytes}
 use Rattle.mt_slices.specs.declared.mark.Mark.TheVariants.{Short}
 use Rattle.mt_rows.specs.Rows.{Bytes, Columns}
-use Rattle.mt_border.specs.{declared.entry.Entry.Entry, declared.entry.Pair.Pair, Contents.{HasKey, IsOfTree}}
-use Rattle.mt_border.proofs.ContentsKeys.{new_has_key, is_mark_of, is_rest_of}
+use Rattle.mt_border.{specs.{declared.entry.Entry.Entry, Held.Pair, Contents.{HasKey, IsOfTree}}, proofs.ContentsKeys.{new_has_key, is_mark_of, is_rest_of}}
 use Rattle.mt_arena.specs.{Layers.slot_at, Forests.layer_of, Arena.{ArenaView, IsArena}, Accesses.{at, tree_of}}
 use Rattle.mt_arena.specs.Layering.{MayMakeLayer, MayUnsettle, HasKeyAt, entry_of, prefix_below}
 use Rattle.mt_arena.proofs.{Down.{long_below, next_prefix}, Slots.begun_mark, NoLayer.link_would_be_here}

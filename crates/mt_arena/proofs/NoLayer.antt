@@ -3,7 +3,7 @@ use Rattle.std.proofs.{Common.{◌≡◌, ◌≢◌, ℕ, ◌+◌, ◌^◌, ◌<
 use Rattle.std.proofs.lemmas.List.{length-append}
 use Rattle.std.specs.Int.{w64, to_be_bytes, from_be_bytes}
 use Rattle.mt_slices.specs.{Slices.piece_bytes, declared.mark.Mark.TheVariants.Long}
-use Rattle.mt_border.{specs.declared.entry.Held.TheVariants.Link, proofs.Edits.any_entry}
+use Rattle.mt_border.{specs.Held.Link, proofs.Edits.any_entry}
 use Rattle.mt_arena.specs.{declared.tree.Tree.Tree, declared.tree.Standing.TheVariants.Live, NodeView.{NodeView, node_at}, Forests.{tree_at, layer_of}}
 use Rattle.mt_arena.specs.{Layers.{slot_at, HasLink, LeadsTo}, Arena.IsArena, Stands.StandsAt}
 use Rattle.mt_arena.proofs.{Links.{one_tree, slice_of_lt, live_there}, OneLink.{IsLinkTo, leads, same_front, slice_fits, stands}, Places.one_place}

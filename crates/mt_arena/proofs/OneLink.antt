@@ -4,7 +4,7 @@ use Rattle.std.proofs.{lemmas.Bool.cases_lt, lemmas.Nat.from_be_bytes-to_be_byte
 use Rattle.std.specs.Int.{w64, to_be_bytes, from_be_bytes}
 use Rattle.mt_slices.specs.declared.mark.Mark.TheVariants.{Long}
 use Rattle.mt_rows.specs.Rows.{Bytes}
-use Rattle.mt_border.{specs.declared.entry.Held.TheVariants.Link, proofs.Edits.any_entry}
+use Rattle.mt_border.{specs.Held.Link, proofs.Edits.any_entry}
 use Rattle.mt_arena.specs.{declared.tree.Tree.Tree, NodeView.{NodeView, node_at}, Forests.{tree_at, layer_of}, Layers.{slot_at, LeadsTo}, Arena.IsArena}
 use Rattle.mt_arena.specs.Stands.{StandsAt}
 use Rattle.mt_arena.proofs.{Links.{one_tree, slice_of_lt, long_link}, Places.one_place}

@@ -3,8 +3,8 @@ use Rattle.std.proofs.Common.{◌≡◌, ◌≢◌, ℕ, ◌<◌, List, length, 
 use Rattle.std.specs.{List.{All, remove as remove_at_place}, FinMap.{get, insert, remove}}
 use Rattle.mt_slices.specs.Slices.{slice_of, mark_of, suffix_of}
 use Rattle.mt_rows.specs.Rows.{Bytes, Columns}
-use Rattle.mt_border.specs.{declared.entry.Pair.Pair, declared.entry.Entry.Entry, declared.entry.Held.TheVariants.Stable, Entry.{pair_of, order_at, order_of}}
-use Rattle.mt_border.specs.{Entries.{IsBorder, IsMissing, with_entry}, Contents.{owned, IsOfTree, HasKey, AreKeys}}
+use Rattle.mt_border.specs.{Held.{Pair, Stable}, declared.entry.Entry.Entry, Entry.{pair_of, order_at, order_of}, Entries.{IsBorder, IsMissing, with_entry}}
+use Rattle.mt_border.specs.Contents.{owned, IsOfTree, HasKey, AreKeys}
 use Rattle.mt_border.proofs.{Edits.any_entry, ContentsKeys.{IsApart, owned_at, has_rewritten_key, order_of_key, missing_key}}
 use Rattle.mt_border.proofs.{ContentsLists.{contents-set, get-at}, ContentsFinds.apart_before, ContentsEdits.contents-publish}
 use Rattle.mt_arena.specs.{declared.tree.Tree.Tree, NodeView.{NodeView, node_at}, Forests.tree_at, Layers.slot_at, Contents.content, Arena.IsArena}

@@ -3,8 +3,7 @@ use Rattle.std.proofs.Common.{◌≡◌, ◌≢◌, ℕ, zero, suc, ◌+◌, ◌
 use Rattle.std.proofs.lemmas.List.{length-map}
 use Rattle.std.specs.{Prelude.{if◌then◌else◌}, List.flat_map}
 use Rattle.mt_slices.specs.declared.mark.Mark.TheVariants.{Short, Long}
-use Rattle.mt_border.specs.{declared.entry.Entry.Entry, declared.entry.Held.Held, declared.entry.Held.TheVariants.{Stable, Unstable, Link}}
-use Rattle.mt_border.specs.Restamps.{stamped, restamped, all_restamped}
+use Rattle.mt_border.specs.{declared.entry.Entry.Entry, Held.{Held, Stable, Unstable, Link}, Restamps.{stamped, restamped, all_restamped}}
 use Rattle.mt_border.proofs.Restamping.{each-restamped, border-restamped, slices-restamped, length-restamped, keys-restamped, pairs-restamped}
 use Rattle.mt_arena.specs.{declared.tree.Tree.Tree, declared.retired.Retired.Retired, NodeView.{NodeView, node_at, no_node}, NodeFacts.{IsUnstable, FitsSlots}}
 use Rattle.mt_arena.specs.{Nodes.{AreNodes, IsNode, IsPair}, Ranges.{AreRanged, IsRanged, AreTied}}

@@ -3,7 +3,7 @@ use Rattle.std.proofs.Common.{◌≡◌, ◌≢◌, ℕ, zero, suc, ◌+◌, ◌
 use Rattle.std.proofs.{lemmas.Bool.cases_eq, lemmas.List.{length-set, get_or-set_same, get_or-set_other}, lemmas.List.Elements.All-from_get_or}
 use Rattle.std.specs.List.{All, remove}
 use Rattle.mt_version.specs.Parts.{Parts}
-use Rattle.mt_border.{specs.{declared.entry.Entry.Entry, declared.entry.Held.Held}, proofs.Edits.{any_entry, All-remove, replaced_at}}
+use Rattle.mt_border.{specs.{declared.entry.Entry.Entry, Held.Held}, proofs.Edits.{any_entry, All-remove, replaced_at}}
 use Rattle.mt_arena.specs.{declared.tree.Tree.Tree, NodeView.{NodeView, node_at}, NodeFacts.IsUnstable, Nodes.AreNodes, Layers.slot_at}
 use Rattle.mt_arena.specs.{Guarantee.{NodesGuarantee, PointsOnly}, Arena.ArenaView, Accesses.at, Settled.IsSettled, Lags.{Follows, IsUnder}}
 use Rattle.mt_arena.specs.Layering.{IsSettledBut, root_of, with_held, with_layer}

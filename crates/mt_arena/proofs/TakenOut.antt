@@ -38,7 +38,7 @@ forest_retired xs trees i within forest no_root =
 -- the operation that takes it out holds it
 pub changes_retired : (op : ℕ) (x : NodeView) → x.holder ≡ Some op → Changes op x (retired x)
 changes_retired op x held =
-    changes_held op x (retired x) held held refl refl refl (ages-deleted x.version) (λ some. some) (λ whole live. absurd (cc)) (λ whole still. record { slots = refl; separators = refl; children = refl })
+    changes_held op x (retired x) held held refl refl refl (ages-deleted x.version) (λ some. some) (λ whole live. absurd (cc)) (λ whole still. record { slots = refl; order = refl; separators = refl; children = refl })
 
 -- what does not stand is dead
 pub standing_dead : (s : Standing) → (s ≢ Dead → ⊥) → s ≡ Dead

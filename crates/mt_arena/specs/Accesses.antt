@@ -1,8 +1,7 @@
 -- What the calls of an arena need and leave.
 use Rattle.std.specs.Prelude.{◌≡◌, ◌≢◌, ℕ, ◌*◌, ◌<◌, [], ◌∷◌, ◌++◌, length, Some, slice_set}
 use Rattle.mt_rows.specs.Rows.{Bytes, Columns}
-use Rattle.mt_border.specs.{Contents.HasKey, Entry.{IsEntry, IsStablePair}, Entries.IsMissing, declared.entry.Entry.Entry, declared.entry.Pair.Pair}
-use Rattle.mt_border.specs.declared.entry.Held.TheVariants.{Stable}
+use Rattle.mt_border.specs.{Contents.HasKey, Entry.{IsEntry, IsStablePair}, Entries.IsMissing, declared.entry.Entry.Entry, Held.{Pair, Stable}}
 use Rattle.mt_arena.specs.{Layers.slot_at, Ways.{BelongsIn, StandsFor}, declared.tree.Tree.Tree, declared.tree.Standing.TheVariants.{Made, Live}}
 use Rattle.mt_arena.specs.{NodeView.{NodeView, node_at}, Forests.{tree_at, layer_of}, Edits.{splitting, fresh_half, fresh_root}, Arena.ArenaView}
 

@@ -1,12 +1,13 @@
 -- What single edits make of a node, and what they need of the others.
 use Rattle.std.specs.Prelude.{◌≡◌, ◌≢◌, ℕ, ◌<◌, ◌⊎◌, Bool, true, false, List, length, Option, Some, None}
 use Rattle.mt_version.specs.{Parts.{Parts, fresh_parts}, Changes.unlocked_parts}
+use Rattle.mt_order.specs.Places.{Places}
 use Rattle.mt_border.specs.declared.entry.Entry.{Entry}
 use Rattle.mt_arena.specs.NodeView.{NodeView, node_at, no_node}
 
 -- a node with other slots, another version and another holder
-abbrev pub turned : NodeView → List Entry → Parts → Option ℕ → NodeView
-turned n slots version holder = record n { slots = slots; version = version; holder = holder }
+abbrev pub turned : NodeView → List Entry → Places → Parts → Option ℕ → NodeView
+turned n slots order version holder = record n { slots = slots; order = order; version = version; holder = holder }
 
 -- a node whose lock an operation has taken
 abbrev pub locked : NodeView → ℕ → NodeView
@@ -28,8 +29,8 @@ abbrev pub retired : NodeView → NodeView
 retired n = record n { version = record n.version { deleted = true } }
 
 -- a border node with other slots: readers of its keys wait for it
-abbrev pub with_slots : NodeView → List Entry → NodeView
-with_slots n slots = record n { slots = slots; version = record n.version { inserting = true } }
+abbrev pub with_slots : NodeView → List Entry → Places → NodeView
+with_slots n slots order = record n { slots = slots; order = order; version = record n.version { inserting = true } }
 
 -- a node with another one before it and another parent
 abbrev pub pointed : NodeView → Option ℕ → Option ℕ → NodeView

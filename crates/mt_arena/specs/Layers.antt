@@ -1,7 +1,7 @@
 -- What holds of links and the trees to which they lead, after every step.
 use Rattle.std.specs.Prelude.{◌≡◌, ◌≢◌, ℕ, ◌<◌, ◌++◌, false, List, [], length, slice_index_or}
 use Rattle.mt_slices.specs.{Slices.piece_bytes, declared.mark.Mark.TheVariants.Long}
-use Rattle.mt_border.specs.{declared.entry.Entry.Entry, declared.entry.Held.TheVariants.Link}
+use Rattle.mt_border.specs.{declared.entry.Entry.Entry, Held.Link}
 use Rattle.mt_arena.specs.{declared.tree.Tree.Tree, declared.tree.Standing.TheVariants.Live, NodeView.{NodeView, node_at}, Forests.tree_at}
 
 -- the entry of a slot

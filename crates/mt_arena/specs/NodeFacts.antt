@@ -1,7 +1,6 @@
 -- What holds of one node after every step, grouped by what the facts read: a change passes the groups whole whose fields it leaves alone.
 use Rattle.std.specs.{Prelude.{◌≡◌, ◌≢◌, ℕ, ◌<◌, ◌≤◌, Bool, true, false, List, [], length, Option, Some, None, is_some, slice_index}, List.All}
-use Rattle.mt_border.specs.{declared.entry.Entry.Entry, declared.entry.Held.Held, declared.entry.Held.TheVariants.{Stable, Unstable, Link}}
-use Rattle.mt_border.specs.Entries.{IsBorder, slices}
+use Rattle.mt_border.specs.{declared.entry.Entry.Entry, Held.{Held, Stable, Unstable, Link}, Entries.{IsBorder, slices}}
 use Rattle.mt_lists.specs.Rising.{IsRising}
 use Rattle.mt_interior.specs.{Node.IsInterior, Fences.{end_of, bounds_of}}
 

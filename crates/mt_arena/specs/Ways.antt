@@ -2,8 +2,7 @@
 use Rattle.std.specs.{Prelude.{◌≡◌, ◌≢◌, ℕ, ◌+◌, ◌*◌, ◌<◌, false, List, [], ◌∷◌, length, take, Some, None}, List.All}
 use Rattle.mt_slices.specs.{Slices.slice_of, declared.mark.Mark.TheVariants.{Short, Long}}
 use Rattle.mt_rows.specs.Rows.{Bytes, Columns}
-use Rattle.mt_border.specs.{declared.entry.Pair.Pair, declared.entry.Entry.Entry, declared.entry.Held.TheVariants.Link, Entry.pair_of}
-use Rattle.mt_border.specs.Contents.{HasKey, IsOfTree}
+use Rattle.mt_border.specs.{Held.{Pair, Link}, declared.entry.Entry.Entry, Entry.pair_of, Contents.{HasKey, IsOfTree}}
 use Rattle.mt_arena.specs.{declared.tree.Tree.Tree, declared.tree.Standing.TheVariants.{Made, Live, Dead}, NodeView.{NodeView, node_at}, Nodes.Holds}
 use Rattle.mt_arena.specs.{Forests.tree_at, Layers.slot_at, Stands.{IsLiveBorder, StandsAt}}
 

@@ -11,10 +11,11 @@ ghost use Rattle.std.specs.Vec.{vec_len, vec_capacity};
 ghost use Rattle.std.specs.FinMap as finite;
 ghost use Rattle.mt_rows.specs.Rows.{Bytes};
 ghost use Rattle.mt_version.specs.Changes.{CanUnlock};
-ghost use Rattle.mt_border.specs.{declared.border.TheConstants.SLOTS, declared.entry.Entry.Entry, declared.entry.Pair.Pair};
-ghost use Rattle.mt_border.specs.{declared.entry.Held.TheVariants.Stable, Entry.{IsEntry, IsStablePair}, Entries.{IsMissing, with_entry, without, replaced}};
-ghost use Rattle.mt_border.specs.{Contents.{HasKey, owned}, Split.{IsParted, IsSeparator, slices_with}};
-ghost use Rattle.mt_arena.specs.{declared.tree.Standing.TheVariants.Live, NodeView.{node_at, border_view, interior_view}, Nodes.{Holds, HasRange}};
+ghost use Rattle.mt_order.specs.Places.{order_with, order_without};
+ghost use Rattle.mt_border.specs.{declared.border.TheConstants.SLOTS, declared.entry.Entry.Entry, Held.{Pair, Stable}, Entry.{IsEntry, IsStablePair, order_of}};
+ghost use Rattle.mt_border.specs.{Entries.{IsMissing, place_in, with_entry, without, replaced}, Contents.{HasKey, owned}};
+ghost use Rattle.mt_border.specs.Split.{IsParted, IsSeparator, slices_with};
+ghost use Rattle.mt_arena.specs.{declared.tree.Standing.TheVariants.Live, NodeView.{node_at, place_at, border_view, interior_view}, Nodes.{Holds, HasRange}};
 ghost use Rattle.mt_arena.specs.{Forests.{HasSlice, tree_at, layer_of}, Layers.slot_at, Settled.IsSettled, Ranges.Waits};
 ghost use Rattle.mt_arena.specs.Edits.{locked, unlocked, with_slots, pointed, fresh_root, Points};
 ghost use Rattle.mt_arena.specs.{Arena.{IsArena, AreRetired, content_of, Guarantee, live_count}, Renumbers.{all_renumbered, arena_renumbered}};
@@ -193,7 +194,8 @@ impl Arena {
     /// for readers of its keys.
     pub fn publish(&mut self, node: usize, entry: Entry, operation: usize)
         requires may { (key : Bytes) × MayPublish self.old node operation key entry }
-        ensures is { self.new ≡ with_node self.old node (with_slots (at self.old node) (with_entry (at self.old node).slots entry)) }
+        ensures is { self.new ≡ with_node self.old node (with_slots (at self.old node) (with_entry (at self.old node).slots entry)
+            (order_with (at self.old node).order (place_in (at self.old node).slots (order_of entry)))) }
         ensures step { Guarantee operation self.old self.new }
         ensures contents { (key : Bytes) (pair : Pair) → MayPublish self.old node operation key entry → entry.held ≡ Stable pair →
             content_of self.new ≡ finite.insert (content_of self.old) (owned key) pair.row }
@@ -204,13 +206,13 @@ impl Arena {
     /// Puts another row, placed by the step `stamp`, in the place of a key's, and marks the node for
     /// readers of its keys; gives the old row back.
     pub fn store(&mut self, node: usize, slot: usize, row: Row, stamp: u64, operation: usize) -> Row
-        requires may { (key : Bytes) × (pair : Pair) × MayChange self.old node operation key slot pair }
-        ensures before { (pair : Pair) → (slot_at (at self.old node) slot).held ≡ Stable pair → result ≡ pair.row }
-        ensures is { (pair : Pair) → (slot_at (at self.old node) slot).held ≡ Stable pair →
+        requires may { (key : Bytes) × (pair : Pair) × MayChange self.old node operation key (place_at (at self.old node) slot) pair }
+        ensures before { (pair : Pair) → (slot_at (at self.old node) (place_at (at self.old node) slot)).held ≡ Stable pair → result ≡ pair.row }
+        ensures is { (pair : Pair) → (slot_at (at self.old node) (place_at (at self.old node) slot)).held ≡ Stable pair →
             self.new ≡ with_node self.old node (with_slots (at self.old node)
-            (replaced (at self.old node).slots (with_row (slot_at (at self.old node) slot) pair row stamp))) }
+            (replaced (at self.old node).slots (with_row (slot_at (at self.old node) (place_at (at self.old node) slot)) pair row stamp)) (at self.old node).order) }
         ensures step { Guarantee operation self.old self.new }
-        ensures contents { (key : Bytes) (pair : Pair) → MayChange self.old node operation key slot pair →
+        ensures contents { (key : Bytes) (pair : Pair) → MayChange self.old node operation key (place_at (at self.old node) slot) pair →
             content_of self.new ≡ finite.insert (content_of self.old) (owned key) row }
     {
         self.nodes[node].store(slot, row, stamp)
@@ -218,11 +220,12 @@ impl Arena {
 
     /// Takes a key's pair out, and marks the node for readers of its keys; gives its entry back.
     pub fn drop_key(&mut self, node: usize, slot: usize, operation: usize) -> Entry
-        requires may { (key : Bytes) × (pair : Pair) × MayChange self.old node operation key slot pair }
-        ensures before { result ≡ slot_at (at self.old node) slot }
-        ensures is { self.new ≡ with_node self.old node (with_slots (at self.old node) (without (at self.old node).slots result)) }
+        requires may { (key : Bytes) × (pair : Pair) × MayChange self.old node operation key (place_at (at self.old node) slot) pair }
+        ensures before { result ≡ slot_at (at self.old node) (place_at (at self.old node) slot) }
+        ensures is { self.new ≡ with_node self.old node (with_slots (at self.old node) (without (at self.old node).slots result)
+            (order_without (at self.old node).order (place_at (at self.old node) slot))) }
         ensures step { Guarantee operation self.old self.new }
-        ensures contents { (key : Bytes) (pair : Pair) → MayChange self.old node operation key slot pair →
+        ensures contents { (key : Bytes) (pair : Pair) → MayChange self.old node operation key (place_at (at self.old node) slot) pair →
             content_of self.new ≡ finite.remove (content_of self.old) (owned key) }
     {
         self.nodes[node].drop_key(slot)

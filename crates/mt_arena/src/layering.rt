@@ -7,9 +7,8 @@
 ghost use Rattle.std.specs.Prelude.{◌≡◌, ◌<◌, ℕ, length, Some, None, IfOk, OnOk, OnErr};
 ghost use Rattle.mt_rows.specs.Rows.{Bytes};
 ghost use Rattle.mt_slices.specs.declared.mark.Mark.TheVariants.{Long};
-ghost use Rattle.mt_border.specs.{Entry.{IsEntry, IsStablePair, IsUnlinked, IsLinked}, declared.entry.Pair.Pair};
-ghost use Rattle.mt_border.specs.declared.entry.Held.TheVariants.{Stable, Unstable, Link};
-ghost use Rattle.mt_arena.specs.{Layers.slot_at, Arena.{content_of, Guarantee}, Accesses.at};
+ghost use Rattle.mt_border.specs.{Entry.{IsEntry, IsStablePair, IsUnlinked, IsLinked}, Held.{Pair, Stable, Unstable, Link}};
+ghost use Rattle.mt_arena.specs.{NodeView.place_at, Layers.slot_at, Arena.{content_of, Guarantee}, Accesses.at};
 ghost use Rattle.mt_arena.specs.Layering.{MayMakeLayer, root_of, with_layer, MayUnsettle, MayLink, MayGoLive, with_held, with_slot, with_link};
 
 use crate::arena::{Arena, make_room};
@@ -50,9 +49,9 @@ impl Arena {
     /// Makes the pair of a longer key unstable, for which a tree of its own is made, and marks the
     /// node for readers of its keys.
     pub fn mark_unstable(&mut self, node: usize, slot: usize, operation: usize)
-        requires may { (pair : Pair) × MayUnsettle self.old node slot operation pair }
-        ensures is { (pair : Pair) → (slot_at (at self.old node) slot).held ≡ Stable pair →
-            self.new ≡ with_slot self.old node slot (Unstable pair None) }
+        requires may { (pair : Pair) × MayUnsettle self.old node (place_at (at self.old node) slot) operation pair }
+        ensures is { (pair : Pair) → (slot_at (at self.old node) (place_at (at self.old node) slot)).held ≡ Stable pair →
+            self.new ≡ with_slot self.old node (place_at (at self.old node) slot) (Unstable pair None) }
         ensures step { Guarantee operation self.old self.new }
         ensures contents { content_of self.new ≡ content_of self.old }
     {
@@ -62,9 +61,9 @@ impl Arena {
     /// Writes the number of its tree beside an unstable pair, and marks the node for readers of its
     /// keys.
     pub fn link(&mut self, node: usize, slot: usize, tree: usize, operation: usize)
-        requires may { (pair : Pair) × MayLink self.old node slot operation pair }
-        ensures is { (pair : Pair) → (slot_at (at self.old node) slot).held ≡ Unstable pair None →
-            self.new ≡ with_slot self.old node slot (Unstable pair (Some tree)) }
+        requires may { (pair : Pair) × MayLink self.old node (place_at (at self.old node) slot) operation pair }
+        ensures is { (pair : Pair) → (slot_at (at self.old node) (place_at (at self.old node) slot)).held ≡ Unstable pair None →
+            self.new ≡ with_slot self.old node (place_at (at self.old node) slot) (Unstable pair (Some tree)) }
         ensures step { Guarantee operation self.old self.new }
         ensures contents { content_of self.new ≡ content_of self.old }
     {
@@ -74,9 +73,9 @@ impl Arena {
     /// Makes the slot of an unstable pair a link to its tree, which is live from now on, and marks the
     /// node for readers of its keys; gives the pair back, which stands in the tree.
     pub fn mark_layer(&mut self, node: usize, slot: usize, tree: usize, operation: usize) -> Pair
-        requires may { (key : Bytes) × (pair : Pair) × MayGoLive self.old node slot tree operation key pair }
-        ensures before { (pair : Pair) → (slot_at (at self.old node) slot).held ≡ Unstable pair (Some tree) → result ≡ pair }
-        ensures is { self.new ≡ with_link self.old node slot tree }
+        requires may { (key : Bytes) × (pair : Pair) × MayGoLive self.old node (place_at (at self.old node) slot) tree operation key pair }
+        ensures before { (pair : Pair) → (slot_at (at self.old node) (place_at (at self.old node) slot)).held ≡ Unstable pair (Some tree) → result ≡ pair }
+        ensures is { self.new ≡ with_link self.old node (place_at (at self.old node) slot) tree }
         ensures step { Guarantee operation self.old self.new }
         ensures contents { content_of self.new ≡ content_of self.old }
     {
@@ -103,11 +102,11 @@ impl Node {
     /// Makes the pair of a longer key unstable, and marks the node for its readers.
     pub(crate) fn mark_unstable(&mut self, slot: usize)
         requires border { self.old.level ≡ 0 }
-        requires live { slot < length self.old.slots }
-        requires long { (slot_at self.old slot).mark ≡ Long }
-        requires stable { IsStablePair (slot_at self.old slot).held }
-        ensures { (pair : Pair) → (slot_at self.old slot).held ≡ Stable pair →
-            self.new ≡ with_held self.old slot (Unstable pair None) }
+        requires live { place_at self.old slot < length self.old.slots }
+        requires long { (slot_at self.old (place_at self.old slot)).mark ≡ Long }
+        requires stable { IsStablePair (slot_at self.old (place_at self.old slot)).held }
+        ensures { (pair : Pair) → (slot_at self.old (place_at self.old slot)).held ≡ Stable pair →
+            self.new ≡ with_held self.old (place_at self.old slot) (Unstable pair None) }
     {
         match &mut self.kind {
             NodeKind::Leaf(border) => border.mark_unstable(slot),
@@ -119,10 +118,10 @@ impl Node {
     /// Writes a tree's number beside an unstable pair, and marks the node for its readers.
     pub(crate) fn link(&mut self, slot: usize, tree: usize)
         requires border { self.old.level ≡ 0 }
-        requires live { slot < length self.old.slots }
-        requires unlinked { IsUnlinked (slot_at self.old slot).held }
-        ensures { (pair : Pair) → (slot_at self.old slot).held ≡ Unstable pair None →
-            self.new ≡ with_held self.old slot (Unstable pair (Some tree)) }
+        requires live { place_at self.old slot < length self.old.slots }
+        requires unlinked { IsUnlinked (slot_at self.old (place_at self.old slot)).held }
+        ensures { (pair : Pair) → (slot_at self.old (place_at self.old slot)).held ≡ Unstable pair None →
+            self.new ≡ with_held self.old (place_at self.old slot) (Unstable pair (Some tree)) }
     {
         match &mut self.kind {
             NodeKind::Leaf(border) => border.link(slot, tree),
@@ -135,11 +134,11 @@ impl Node {
     /// the pair back.
     pub(crate) fn mark_layer(&mut self, slot: usize) -> Pair
         requires border { self.old.level ≡ 0 }
-        requires live { slot < length self.old.slots }
-        requires linked { IsLinked (slot_at self.old slot).held }
-        ensures before { (pair : Pair) (tree : ℕ) → (slot_at self.old slot).held ≡ Unstable pair (Some tree) → result ≡ pair }
-        ensures after { (pair : Pair) (tree : ℕ) → (slot_at self.old slot).held ≡ Unstable pair (Some tree) →
-            self.new ≡ with_held self.old slot (Link tree) }
+        requires live { place_at self.old slot < length self.old.slots }
+        requires linked { IsLinked (slot_at self.old (place_at self.old slot)).held }
+        ensures before { (pair : Pair) (tree : ℕ) → (slot_at self.old (place_at self.old slot)).held ≡ Unstable pair (Some tree) → result ≡ pair }
+        ensures after { (pair : Pair) (tree : ℕ) → (slot_at self.old (place_at self.old slot)).held ≡ Unstable pair (Some tree) →
+            self.new ≡ with_held self.old (place_at self.old slot) (Link tree) }
     {
         let pair = match &mut self.kind {
             NodeKind::Leaf(border) => border.mark_layer(slot),

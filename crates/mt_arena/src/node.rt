@@ -47,9 +47,10 @@ impl Model for Node {
 
 impl Node {
     ghost use Rattle.mt_version.specs.Changes.{CanUnlock};
-    ghost use Rattle.mt_border.specs.{Entry.{IsEntry, IsStablePair}, Entries.{IsMissing, with_entry, without, replaced}, declared.border.TheConstants.SLOTS};
-    ghost use Rattle.mt_border.specs.{declared.entry.Pair.Pair, declared.entry.Held.TheVariants.Stable, Split.{IsParted, IsSeparator, slices_with}};
-    ghost use Rattle.mt_arena.specs.{NodeView.{NodeView, border_view, interior_view, IsOfKind}, Layers.slot_at};
+    ghost use Rattle.mt_order.specs.Places.{order_with, order_without};
+    ghost use Rattle.mt_border.specs.{Entry.{IsEntry, IsStablePair, order_of}, Entries.{IsMissing, place_in, with_entry, without, replaced}};
+    ghost use Rattle.mt_border.specs.{declared.border.TheConstants.SLOTS, Held.{Pair, Stable}, Split.{IsParted, IsSeparator, slices_with}};
+    ghost use Rattle.mt_arena.specs.{NodeView.{NodeView, place_at, border_view, interior_view, IsOfKind}, Layers.slot_at};
     ghost use Rattle.mt_arena.specs.Edits.{locked, unlocked, inserting, splitting, retired, with_slots, pointed, fresh_half, fresh_root};
     ghost use Rattle.mt_arena.specs.Splits.{with_some, left_half, right_half, with_child, exact, inner_left, inner_right};
     ghost use Rattle.mt_arena.specs.{Growth.{fresh_top, below_top, left_below}, Renumbers.renumbered};
@@ -268,7 +269,7 @@ impl Node {
         requires room { length self.old.slots < SLOTS }
         requires entry { IsEntry entry }
         requires missing { IsMissing self.old.slots entry.slice entry.mark }
-        ensures { self.new ≡ with_slots self.old (with_entry self.old.slots entry) }
+        ensures { self.new ≡ with_slots self.old (with_entry self.old.slots entry) (order_with self.old.order (place_in self.old.slots (order_of entry))) }
     {
         match &mut self.kind {
             NodeKind::Leaf(border) => border.publish(entry),
@@ -281,12 +282,12 @@ impl Node {
     /// row back.
     pub(crate) fn store(&mut self, slot: usize, row: Row, stamp: u64) -> Row
         requires border { self.old.level ≡ 0 }
-        requires live { slot < length self.old.slots }
-        requires stable { IsStablePair (slot_at self.old slot).held }
-        ensures before { (pair : Pair) → (slot_at self.old slot).held ≡ Stable pair → result ≡ pair.row }
-        ensures after { (pair : Pair) → (slot_at self.old slot).held ≡ Stable pair →
+        requires live { place_at self.old slot < length self.old.slots }
+        requires stable { IsStablePair (slot_at self.old (place_at self.old slot)).held }
+        ensures before { (pair : Pair) → (slot_at self.old (place_at self.old slot)).held ≡ Stable pair → result ≡ pair.row }
+        ensures after { (pair : Pair) → (slot_at self.old (place_at self.old slot)).held ≡ Stable pair →
             self.new ≡ with_slots self.old (replaced self.old.slots
-            (record (slot_at self.old slot) { held = Stable (record pair { row = row; stamp = stamp }) })) }
+            (record (slot_at self.old (place_at self.old slot)) { held = Stable (record pair { row = row; stamp = stamp }) })) self.old.order }
     {
         let old = match &mut self.kind {
             NodeKind::Leaf(border) => border.store(slot, row, stamp),
@@ -299,9 +300,9 @@ impl Node {
     /// Takes a key out, and marks the node for its readers; gives its entry back.
     pub(crate) fn drop_key(&mut self, slot: usize) -> Entry
         requires border { self.old.level ≡ 0 }
-        requires live { slot < length self.old.slots }
-        ensures value { result ≡ slot_at self.old slot }
-        ensures after { self.new ≡ with_slots self.old (without self.old.slots result) }
+        requires live { place_at self.old slot < length self.old.slots }
+        ensures value { result ≡ slot_at self.old (place_at self.old slot) }
+        ensures after { self.new ≡ with_slots self.old (without self.old.slots result) (order_without self.old.order (place_at self.old slot)) }
     {
         let old = match &mut self.kind {
             NodeKind::Leaf(border) => border.drop_key(slot),
@@ -334,8 +335,8 @@ impl Node {
         ensures parted { IsParted (with_some self.old.slots entry) self.new.slots right.new.slots right.old.low }
         ensures some_left { 0 < length self.new.slots }
         ensures some_right { 0 < length right.new.slots }
-        ensures left { self.new ≡ left_half self.old self.new.slots right.old.low right_number }
-        ensures right { right.new ≡ right_half self.old right.old right.new.slots left_number }
+        ensures left { self.new ≡ left_half self.old self.new.slots self.new.order right.old.low right_number }
+        ensures right { right.new ≡ right_half self.old right.old right.new.slots right.new.order left_number }
     {
         match &mut self.kind {
             NodeKind::Leaf(left) => match &mut right.kind {

@@ -5,9 +5,9 @@
 //! of each node among the retired from the moment it is made.
 
 ghost use Rattle.std.specs.Prelude.{◌≡◌, ◌≢◌, ◌<◌, ℕ, length, slice_set, None};
-ghost use Rattle.mt_border.specs.{Entry.IsLink, declared.entry.Held.TheVariants.Link};
+ghost use Rattle.mt_border.specs.{Entry.IsLink, Held.Link};
 ghost use Rattle.mt_interior.specs.{Places.place_of, Fences.end_of};
-ghost use Rattle.mt_arena.specs.{NodeView.node_at, Layers.slot_at, Edits.{inserting, with_slots}, Unlinks.without_child, Collapses.crowned};
+ghost use Rattle.mt_arena.specs.{NodeView.{node_at, place_at}, Layers.slot_at, Edits.{inserting, with_slots}, Unlinks.without_child, Collapses.crowned};
 ghost use Rattle.mt_arena.specs.{Arena.{content_of, Guarantee}, Forests.tree_at, Settled.IsSettled, Lags.IsFollowedBy, Accesses.at};
 ghost use Rattle.mt_arena.specs.Removals.{MayUnlink, nodes_without, without_node, MayCollapse, nodes_under, without_root, MayDropLayer, nodes_above, without_layer};
 
@@ -15,7 +15,7 @@ use crate::arena::Arena;
 use crate::node::{Node, NodeKind};
 use crate::retired::Retired;
 use crate::tree::Standing;
-use mt_border::Held;
+use mt_border::HeldRef;
 
 impl Arena {
     /// Takes an empty border node out by the step of this number: its left neighbour gets its range,
@@ -55,15 +55,16 @@ impl Arena {
     /// Takes the link of a slot out, and by the step of this number the root of the tree to which it
     /// leads: the tree's only live node, which is empty. The tree is dead from now on.
     pub fn drop_layer(&mut self, node: usize, slot: usize, step: u64, operation: usize)
-        requires may { (u : ℕ) × MayDropLayer self.old node slot u operation }
-        ensures is { (u : ℕ) → (slot_at (at self.old node) slot).held ≡ Link u → self.new ≡ without_layer self.old node slot u step }
+        requires may { (u : ℕ) × MayDropLayer self.old node (place_at (at self.old node) slot) u operation }
+        ensures is { (u : ℕ) → (slot_at (at self.old node) (place_at (at self.old node) slot)).held ≡ Link u →
+            self.new ≡ without_layer self.old node (place_at (at self.old node) slot) u step }
         ensures step { Guarantee operation self.old self.new }
         ensures contents { content_of self.new ≡ content_of self.old }
         ensures settled { IsSettled self.old.nodes node (at self.old node) → IsSettled self.new.nodes node (at self.new node) }
-        ensures root_settled { (u : ℕ) → (slot_at (at self.old node) slot).held ≡ Link u →
+        ensures root_settled { (u : ℕ) → (slot_at (at self.old node) (place_at (at self.old node) slot)).held ≡ Link u →
             let r = (tree_at self.old.trees u).root in
             IsSettled self.old.nodes r (at self.old r) → IsSettled self.new.nodes r (at self.new r) }
-        ensures others_settled { (u k : ℕ) → (slot_at (at self.old node) slot).held ≡ Link u → k ≢ node → k ≢ (tree_at self.old.trees u).root →
+        ensures others_settled { (u k : ℕ) → (slot_at (at self.old node) (place_at (at self.old node) slot)).held ≡ Link u → k ≢ node → k ≢ (tree_at self.old.trees u).root →
             IsSettled self.old.nodes k (at self.old k) → IsSettled self.new.nodes k (at self.new k) }
     {
         let lower = self.nodes[node].link_at(slot);
@@ -118,14 +119,17 @@ impl Node {
     /// The number of the tree to which a slot leads.
     pub(crate) fn link_at(&self, slot: usize) -> usize
         requires border { self.now.level ≡ 0 }
-        requires live { slot < length self.now.slots }
-        requires link { IsLink (slot_at self.now slot).held }
-        ensures { (slot_at self.now slot).held ≡ Link result }
+        requires live { place_at self.now slot < length self.now.slots }
+        requires link { IsLink (slot_at self.now (place_at self.now slot)).held }
+        ensures { (slot_at self.now (place_at self.now slot)).held ≡ Link result }
     {
         match &self.kind {
             NodeKind::Leaf(border) => match border.load(slot) {
-                Some(Held::Link(tree)) => *tree,
-                _ => unreachable!(),
+                Some(held) => match held.seen() {
+                    HeldRef::Link(tree) => tree,
+                    _ => unreachable!(),
+                },
+                None => unreachable!(),
             },
             NodeKind::Inner(_) => unreachable!(),
         }
@@ -187,8 +191,8 @@ fn drop_link(nodes: &mut Vec<Node>, node: usize, slot: usize, root: usize)
     requires root_there { root < length nodes.old.items }
     requires differ { node ≢ root }
     requires border { (node_at nodes.old.items node).level ≡ 0 }
-    requires live { slot < length (node_at nodes.old.items node).slots }
-    ensures { nodes.new.items ≡ nodes_above nodes.old.items node slot root }
+    requires live { place_at (node_at nodes.old.items node) slot < length (node_at nodes.old.items node).slots }
+    ensures { nodes.new.items ≡ nodes_above nodes.old.items node (place_at (node_at nodes.old.items node) slot) root }
 {
     let _ = nodes[node].drop_key(slot);
     nodes[root].retire();

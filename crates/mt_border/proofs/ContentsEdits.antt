@@ -3,8 +3,8 @@ use Rattle.std.proofs.{Common.{◌≡◌, ℕ, ◌+◌, List, length, set, Some,
 use Rattle.std.proofs.lemmas.List.Elements.{All-take, All-set}
 use Rattle.std.specs.{List.All, FinMap.insert}
 use Rattle.mt_rows.specs.Rows.{Bytes, Columns}
-use Rattle.mt_border.specs.{Held.Pair, declared.entry.Entry.Entry, Held.Held, Held.Stable}
-use Rattle.mt_border.specs.{Entry.{pair_of, order_of}, Entries.{IsBorder, IsMissing, place_in, with_entry}, Node.{Node, entries_of, entry_at, place_at, IsLive, Rewrites}}
+use Rattle.mt_border.specs.{Held.{Pair, Held, Stable}, declared.entry.Entry.Entry, Entry.{pair_of, order_of}}
+use Rattle.mt_border.specs.{Entries.{IsBorder, IsMissing, place_in, with_entry}, Node.{Node, entries_of, entry_at, place_at, IsLive, Rewrites}}
 use Rattle.mt_border.specs.Contents.{owned, contents_of, HasKey, AreKeys}
 use Rattle.mt_border.proofs.Edits.{any_entry, place_in-le, All-insert, replaced_at}
 use Rattle.mt_border.proofs.ContentsKeys.{IsApart, owned_at, has_rewritten_key, order_of_key, missing_key, all_apart}

@@ -6,11 +6,11 @@ use Rattle.std.specs.{Prelude.IsSomeAnd, List.All, Option.{ForSome, option_map},
 use Rattle.mt_lists.specs.Rising.{IsRising}
 use Rattle.mt_slices.specs.Slices.{slice_of, mark_of, suffix_of}
 use Rattle.mt_rows.specs.Rows.{Bytes, Columns}
-use Rattle.mt_border.specs.{Held.Pair, declared.entry.Entry.Entry, Held.Held}
-use Rattle.mt_border.specs.{Held.{Stable, Unstable, Link}, declared.entry.Find.Find, declared.entry.Find.TheVariants.{Missing, Slot}}
-use Rattle.mt_border.specs.{declared.entry.FoundKind.FoundKind, declared.entry.FoundKind.TheVariants.{ThisKey, OtherLong, Link as ToTree}}
-use Rattle.mt_border.specs.{Entry.{pair_of, order_at, order_of, IsLink, IsKind}, Entries.{orders, IsBorder, IsMissing}}
-use Rattle.mt_border.specs.{Node.{Node, entries_of, entry_at, place_at, IsLive, IsFound, Finds}, Contents.{owned, contents_of, row_found, IsOfTree, HasKey, AreKeys}}
+use Rattle.mt_border.specs.{Held.{Pair, Held, Stable, Unstable, Link}, declared.entry.Entry.Entry, declared.entry.Find.Find}
+use Rattle.mt_border.specs.{declared.entry.Find.TheVariants.{Missing, Slot}, declared.entry.FoundKind.FoundKind}
+use Rattle.mt_border.specs.{declared.entry.FoundKind.TheVariants.{ThisKey, OtherLong, Link as ToTree}, Entry.{pair_of, order_at, order_of, IsLink, IsKind}}
+use Rattle.mt_border.specs.{Entries.{orders, IsBorder, IsMissing}, Node.{Node, entries_of, entry_at, place_at, IsLive, IsFound, Finds}}
+use Rattle.mt_border.specs.Contents.{owned, contents_of, row_found, IsOfTree, HasKey, AreKeys}
 use Rattle.mt_border.proofs.Edits.{any_entry}
 use Rattle.mt_border.proofs.ContentsKeys.{IsApart, by_equation, owned_at, has_found_key, order_of_key, apart_by_order, apart_by_suffix, all_apart}
 use Rattle.mt_border.proofs.ContentsLists.{get-apart, get-at}

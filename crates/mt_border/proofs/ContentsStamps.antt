@@ -2,9 +2,8 @@
 use Rattle.std.proofs.{Common.{◌≡◌, ◌≢◌, ℕ, List, get_or, set, Some, refl, sym, subst, ◌∙◌, inl, inr, arith}, lemmas.Bool.cases_eq, lemmas.Option.same_Some}
 use Rattle.std.proofs.{lemmas.List.{length-set, get_or-set_same, get_or-set_other}, lemmas.List.Elements.All-from_get_or}
 use Rattle.mt_rows.specs.Rows.{Bytes, Columns}
-use Rattle.mt_border.specs.{Held.Pair, declared.entry.Entry.Entry, Held.Stable, Entry.pair_of}
-use Rattle.mt_border.specs.{Entries.{IsBorder, IsMissing, with_entry}, Node.{Node, entries_of, entry_at, place_at, IsLive, Rewrites}}
-use Rattle.mt_border.specs.Contents.{owned, key_at, HasKey, AreKeys, IsStamped, AllStamped}
+use Rattle.mt_border.specs.{Held.{Pair, Stable}, declared.entry.Entry.Entry, Entry.pair_of, Entries.{IsBorder, IsMissing, with_entry}}
+use Rattle.mt_border.specs.{Node.{Node, entries_of, entry_at, place_at, IsLive, Rewrites}, Contents.{owned, key_at, HasKey, AreKeys, IsStamped, AllStamped}}
 use Rattle.mt_border.proofs.{Edits.any_entry, ContentsKeys.{IsApart, owned_at, has_rewritten_key, order_of_key, missing_key, all_apart}}
 use Rattle.mt_border.proofs.{ContentsFinds.apart_beside, ContentsEdits.{each-publish, slots-store}}
 

@@ -5,8 +5,7 @@ use Rattle.std.specs.{Prelude.filter_map, List.{All, cons_option}}
 use Rattle.mt_lists.specs.Rising.{IsRising}
 use Rattle.mt_slices.specs.declared.mark.Mark.{Mark}
 use Rattle.mt_rows.specs.Rows.{Bytes}
-use Rattle.mt_border.specs.{Held.Pair, declared.entry.Entry.Entry, Held.Held}
-use Rattle.mt_border.specs.{Held.{Stable, Unstable, Link}, Entry.{pair_of, order_of, CanHold, IsEntry}}
+use Rattle.mt_border.specs.{Held.{Pair, Held, Stable, Unstable, Link}, declared.entry.Entry.Entry, Entry.{pair_of, order_of, CanHold, IsEntry}}
 use Rattle.mt_border.specs.{Entries.{orders, slices, IsBorder}, Contents.{owned, key_at, pair_in, HasKey, AreKeys, IsStamped, AllStamped}}
 use Rattle.mt_border.specs.Restamps.{stamped, restamped, all_restamped}
 

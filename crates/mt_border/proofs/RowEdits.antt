@@ -3,8 +3,7 @@ use Rattle.std.proofs.Common.{◌≡◌, ℕ, zero, suc, ◌<◌, List, [], ◌�
 use Rattle.std.proofs.lemmas.List.{length-take}
 use Rattle.std.specs.{List.{insert, remove}, Prelude.map}
 use Rattle.mt_slices.specs.declared.mark.Mark.{Mark}
-use Rattle.mt_border.specs.{declared.entry.Entry.Entry, Held.Held, Entries.{slices, marks}, Rows.{entries_in, AreRows}}
-use Rattle.mt_border.specs.Restamps.{stamped, restamped}
+use Rattle.mt_border.specs.{declared.entry.Entry.Entry, Held.Held, Entries.{slices, marks}, Rows.{entries_in, AreRows}, Restamps.{stamped, restamped}}
 
 -- as many entries as slices
 pub length-rows : (ss : List ℕ) (ms : List Mark) (hs : List Held) → length ms ≡ length ss → length hs ≡ length ss

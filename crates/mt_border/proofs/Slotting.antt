@@ -5,7 +5,7 @@ use Rattle.std.proofs.lemmas.List.{ext_get_or, map-append, take-map, drop-map, l
 use Rattle.std.proofs.lemmas.List.Edits.{length-insert, length-remove}
 use Rattle.std.specs.{Prelude.map, Option.{IfSome, IfNone}, List.{All, insert, remove}}
 use Rattle.mt_order.{specs.Places.{Places, IsPlaces, place_of_slot}, proofs.Once.{live_once, live_below, place_is, no_place, free_apart, free_below}}
-use Rattle.mt_border.specs.{declared.entry.Entry.Entry, Held.Held, Held.Link, Entries.{slices, marks}, Rows.{entries_in, AreRows}}
+use Rattle.mt_border.specs.{declared.entry.Entry.Entry, Held.{Held, Link}, Entries.{slices, marks}, Rows.{entries_in, AreRows}}
 use Rattle.mt_border.specs.Slots.{Slotted, IsSlotted, held_in, helds_of, listed, slots_in}
 use Rattle.mt_border.proofs.RowEdits.{length-rows, slices-rows, marks-rows, insert-rows, remove-rows}
 

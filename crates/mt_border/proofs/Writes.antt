@@ -1,9 +1,8 @@
 -- A write to what one slot of a node holds leaves all else, and the entries in order: for the edits of `Border` that move no slot.
 use Rattle.std.proofs.Common.{◌≡◌, ℕ, ◌<◌, List, length, get_or, set, refl, sym, ap, subst, ◌∙◌, inl, inr, arith}
-use Rattle.std.proofs.lemmas.List.{length-set, get_or-set_same, get_or-set_other, get_or_default, get_or-map}
-use Rattle.std.proofs.lemmas.Bool.{cases_lt}
+use Rattle.std.proofs.{lemmas.List.{length-set, get_or-set_same, get_or-set_other, get_or_default, get_or-map}, lemmas.Bool.cases_lt}
 use Rattle.mt_order.{specs.Places.place_of_slot, proofs.Once.{live_below, slot_there}}
-use Rattle.mt_border.specs.{declared.entry.Entry.Entry, Held.Held, Entry.{order_of, CanHold}, Entries.IsBorder, Rows.{entries_in}}
+use Rattle.mt_border.specs.{declared.entry.Entry.Entry, Held.Held, Entry.{order_of, CanHold}, Entries.IsBorder, Rows.entries_in}
 use Rattle.mt_border.specs.{Slots.{Slotted, IsSlotted, held_in, helds_of, listed}, Node.{Node, entries_of, entry_at, place_at, IsLive, IsNodeSlots, Rewrites}}
 use Rattle.mt_border.proofs.{Edits.{any_entry, border_set, replaced_at}, RowEdits.{get_or-rows, set-rows}, Slotting.{rows_in, length-listed, helds_set}}
 

@@ -1,5 +1,6 @@
 -- What lies in memory of a pair and of what is held, as contracts see it.
-use Rattle.mt_border.specs.{Held.{Pair, Held, Stable, Unstable, Link}, declared.entry.PairParts.PairParts, declared.entry.Kind.Kind, declared.entry.HeldRef.HeldRef}
+use Rattle.mt_border.specs.{Held.{Pair, Held, Stable, Unstable, Link}, declared.entry.PairParts.PairParts, declared.entry.Kind.Kind}
+use Rattle.mt_border.specs.declared.entry.HeldRef.{HeldRef}
 use Rattle.mt_border.specs.declared.entry.Kind.TheVariants as kinds
 use Rattle.mt_border.specs.declared.entry.HeldRef.TheVariants as seen
 

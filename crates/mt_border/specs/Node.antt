@@ -3,8 +3,8 @@ use Rattle.std.specs.Prelude.{◌≡◌, ◌≢◌, ℕ, ◌<◌, ◌↔◌, Lis
 use Rattle.mt_slices.specs.{declared.mark.Mark.Mark, declared.mark.Mark.TheVariants.Long}
 use Rattle.mt_version.specs.Parts.{Parts}
 use Rattle.mt_order.specs.Places.{place_of_slot}
-use Rattle.mt_border.specs.{declared.entry.Entry.Entry, Held.Held, Held.Link, declared.entry.Find.Find}
-use Rattle.mt_border.specs.{declared.entry.Find.TheVariants.{Missing, Slot}, declared.entry.FoundKind.FoundKind, Entry.IsKind, Entries.{IsBorder, IsMissing, replaced}}
+use Rattle.mt_border.specs.{declared.entry.Entry.Entry, Held.{Held, Link}, declared.entry.Find.Find, declared.entry.Find.TheVariants.{Missing, Slot}}
+use Rattle.mt_border.specs.{declared.entry.FoundKind.FoundKind, Entry.IsKind, Entries.{IsBorder, IsMissing, replaced}}
 use Rattle.mt_border.specs.Slots.{Slotted, IsSlotted, fresh_slots, listed}
 
 -- Its slots, of which the words below speak, the nodes beside it and above it, its fences, and its version.

@@ -2,7 +2,7 @@
 use Rattle.std.specs.Prelude.{◌≡◌, ℕ, Bool, false, List, [], ◌∷◌, length, map, slice_index_or}
 use Rattle.mt_slices.specs.declared.mark.Mark.{Mark}
 use Rattle.mt_order.specs.Places.{Places, IsPlaces, fresh_order}
-use Rattle.mt_border.specs.{declared.entry.Entry.Entry, Held.Held, Held.Link, Rows.entries_in}
+use Rattle.mt_border.specs.{declared.entry.Entry.Entry, Held.{Held, Link}, Rows.entries_in}
 
 -- The order tells the slot of each place. What a slot holds stands in it as long as it is live, and so does whether it was ever dropped.
 pub record Slotted : Type 0 where

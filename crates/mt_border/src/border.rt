@@ -61,10 +61,11 @@ impl Model for Border {
 }
 
 impl Border {
-    ghost use Rattle.mt_border.specs.{Restamps.{stamped, all_restamped}, Held.{Pair, Stable, Unstable, Link}, Entry.{order_of, IsEntry, IsRest, IsStablePair, IsUnlinked, IsLinked}};
-    ghost use Rattle.mt_border.specs.{Rows.entry_seen, Entries.{IsBorder, IsMissing, place_in, with_entry, without}, Split.{IsCut, IsParted, IsSeparator, slices_with}};
-    ghost use Rattle.mt_order.specs.Places.{order_with, order_without};
+    ghost use Rattle.mt_border.specs.{Restamps.{stamped, all_restamped}, Held.{Pair, Stable, Unstable, Link}};
+    ghost use Rattle.mt_border.specs.{Entry.{order_of, IsEntry, IsRest, IsStablePair, IsUnlinked, IsLinked}, Rows.entry_seen};
+    ghost use Rattle.mt_border.specs.{Entries.{IsBorder, IsMissing, place_in, with_entry, without}, Split.{IsCut, IsParted, IsSeparator, slices_with}};
     ghost use Rattle.mt_border.specs.Node.{empty_node, entries_of, entry_at, held_at, place_at, IsLive, Finds, Rewrites};
+    ghost use Rattle.mt_order.specs.Places.{order_with, order_without};
 
     /// A node without keys, neighbours and parent.
     pub fn new(alloc: Global, low: u64, high: Option<u64>, version: Version) -> Self

@@ -46,8 +46,7 @@ impl Model for Slots {
 }
 
 impl Slots {
-    ghost use Rattle.mt_border.specs.{Restamps.all_restamped, Entries.{slices, marks}, Rows.entry_seen};
-    ghost use Rattle.mt_border.specs.Slots.{IsSlotted, fresh_slots, listed};
+    ghost use Rattle.mt_border.specs.{Restamps.all_restamped, Entries.{slices, marks}, Rows.entry_seen, Slots.{IsSlotted, fresh_slots, listed}};
     ghost use Rattle.mt_order.specs.Places.{place_of_slot, order_with, order_without};
 
     pub(crate) fn new(alloc: Global) -> Self

@@ -1,6 +1,7 @@
 -- No slot stands twice in an order.
-use Rattle.std.proofs.{Common.{◌≡◌, ◌≢◌, ℕ, zero, suc, ◌+◌, ◌<◌, List, [], ◌∷◌, ◌++◌, length, get_or, drop, nat_eq, refl, sym, ap, ◌∙◌, inl, inr, arith}, lemmas.Bool.{cases_eq, cases_lt}}
-use Rattle.std.proofs.{lemmas.Bool.Decides.{Decides-eqb, nat_tests}, lemmas.List.{get_or_append_left, get_or-append-add, get_or_default, length-append}, lemmas.List.Kept.AllPairs-from_increasing}
+use Rattle.std.proofs.Common.{◌≡◌, ◌≢◌, ℕ, zero, suc, ◌+◌, ◌<◌, List, [], ◌∷◌, ◌++◌, length, get_or, drop, nat_eq, refl, sym, ap, ◌∙◌, inl, inr, arith}
+use Rattle.std.proofs.{lemmas.Bool.{cases_eq, cases_lt}, lemmas.Bool.Decides.{Decides-eqb, nat_tests}}
+use Rattle.std.proofs.{lemmas.List.{get_or_append_left, get_or-append-add, get_or_default, length-append}, lemmas.List.Kept.AllPairs-from_increasing}
 use Rattle.std.proofs.{lemmas.Map.Keys.IsDistinct-IsPermutation, lemmas.Map.Made.{AllPairs-from_IsDistinct, IsDistinct-from_AllPairs}}
 use Rattle.std.specs.{Prelude.{◌==◌, if◌then◌else◌}, List.{All, AllPairs, insert, remove}}
 use Rattle.mt_order.specs.Places.{Places, IsOrder, IsPlaces, fifteen, place_of_slot, order_with, order_without}

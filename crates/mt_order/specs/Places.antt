@@ -1,5 +1,6 @@
 -- The order of the slots of a border node.
-use Rattle.std.specs.{Prelude.{◌≡◌, ℕ, suc, ◌==◌, if◌then◌else◌, ◌+◌, ◌*◌, ◌<◌, ◌≤◌, List, [], ◌∷◌, ◌++◌, length, drop, insert, remove, slice_index}, List.All, List.Sorted.IsPermutation}
+use Rattle.std.specs.{Prelude.{◌≡◌, ℕ, suc, ◌==◌, if◌then◌else◌, ◌+◌, ◌*◌, ◌<◌, ◌≤◌, List, [], ◌∷◌, ◌++◌, length, drop, insert, remove, slice_index}, List.All}
+use Rattle.std.specs.List.Sorted.{IsPermutation}
 
 -- the live slots in the order of their keys, and the free ones in the order in which they are taken
 pub record Places : Type 0 where

@@ -1,4 +1,4 @@
-use Rattle.mt_border.specs.declared.entry.Held.TheVariants.{Link}
+use Rattle.mt_border.specs.Held.{Link}
 use Rattle.mt_arena.proofs.SettledBut.{settled_but, settled_but_stays, settled_but_made, settled_but_held, settled_again}
 use Rattle.mt_arena.proofs.laws.settled_once_linked.Goals as goal
 

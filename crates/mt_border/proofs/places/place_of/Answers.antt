@@ -1,8 +1,7 @@
 -- the first entry that is not before the key stands at its place
 use Rattle.std.proofs.{Common.{refl, ◌<◌, length, arith, ap, below_more}, lemmas.Bool.Decides.nat_tests, lemmas.List.length-map}
-use Rattle.mt_border.specs.declared.entry.Entry.{Entry}
+use Rattle.mt_border.specs.{declared.entry.Entry.Entry, Slots.listed}
 use Rattle.mt_border.proofs.{Edits.place_in-is, Cuts.marks_of, Counts.{slices_fall, slices_count, mark_read, lower_slices, other_slice, lower_mark, other_mark}}
-use Rattle.mt_border.specs.Slots.{listed}
 use Rattle.mt_border.proofs.places.place_of.Goals.{then-slices-place-via-then-slices-place, then-slices-place-via-else-slices-place+then-not-is_before}
 use Rattle.mt_border.proofs.places.place_of.Goals as goal
 

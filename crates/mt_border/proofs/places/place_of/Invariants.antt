@@ -1,7 +1,6 @@
 -- the entries that were passed stand before the key
 use Rattle.std.proofs.Common.{ℕ, ◌<◌, get_or}
-use Rattle.mt_border.specs.{Entry.order_at, Entries.orders}
-use Rattle.mt_border.specs.Slots.{listed}
+use Rattle.mt_border.specs.{Entry.order_at, Entries.orders, Slots.listed}
 use Rattle.mt_border.proofs.places.place_of.Given as goal
 
 abbrev pub invariant-loop-place : goal.invariant-loop-place

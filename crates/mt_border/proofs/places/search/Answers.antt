@@ -1,7 +1,7 @@
 -- what was passed has not the slice and the mark, and nothing behind an entry of another slice has it
 use Rattle.std.proofs.{Common.{refl, rules, ◌<◌, length, ap, arith}, lemmas.List.length-map}
-use Rattle.mt_border.{specs.declared.entry.Entry.Entry, proofs.{Counts.{slices_fall, slices_count}, Finds.{none_lower, none_more, missing_behind}}}
-use Rattle.mt_border.specs.Slots.{listed}
+use Rattle.mt_border.specs.{declared.entry.Entry.Entry, Slots.listed}
+use Rattle.mt_border.proofs.{Counts.{slices_fall, slices_count}, Finds.{none_lower, none_more, missing_behind}}
 use Rattle.mt_border.proofs.places.search.Goals as goal
 
 pub count_below-place-requires-clause-rises : goal.count_below-place-requires-clause-rises

@@ -1,7 +1,6 @@
 -- the slices that were gathered are those of all sixteen
 use Rattle.std.proofs.Common.{◌≡◌, rules}
-use Rattle.mt_border.{specs.Entries.slices, proofs.Cuts.parted}
-use Rattle.mt_border.specs.Slots.{listed}
+use Rattle.mt_border.{specs.{Entries.slices, Slots.listed}, proofs.Cuts.parted}
 use Rattle.mt_border.proofs.split.separator_of.Goals as goal
 
 pub cut_of-cut-requires-clause-parted : goal.cut_of-cut-requires-clause-parted

@@ -6,18 +6,18 @@ invariant_of-self c =
     let may = rw (← c.self.view_is) at c.requires.may.2 in
     let now = read c.self.inside.nodes.items c.args.node c.index_mut.result.now may.held.there c.index_mut.ensures.value in
     rw (c.drop_key.ensures.after, c.drop_key.ensures.value, now)
-    (sound_dropped _ _ c.args.node c.args.operation c.requires.may.0 c.self.invariant c.args.slot c.requires.may.1 may)
+    (sound_dropped _ _ c.args.node c.args.operation c.requires.may.0 c.self.invariant _ c.requires.may.1 may)
 
 pub returns-clause-step : goal.returns-clause-step
 returns-clause-step c =
     let may = rw (← c.self.view_is) at c.requires.may.2 in
     let now = read c.self.inside.nodes.items c.args.node c.index_mut.result.now may.held.there c.index_mut.ensures.value in
     rw (← c.self.view_is, c.drop_key.ensures.after, c.drop_key.ensures.value, now)
-    (step_slots _ c.args.node c.args.operation _ may.held.there may.held.holder may.mine)
+    (step_slots _ c.args.node c.args.operation _ _ may.held.there may.held.holder may.mine)
 
 pub returns-clause-contents : goal.returns-clause-contents
 returns-clause-contents c = λ key pair may_is.
     let may = rw (← c.self.view_is) at may_is in
     let now = read c.self.inside.nodes.items c.args.node c.index_mut.result.now may.held.there c.index_mut.ensures.value in
     rw (← c.self.view_is, c.drop_key.ensures.after, c.drop_key.ensures.value, now)
-    (content_dropped _ _ c.args.node c.args.operation key c.self.invariant c.args.slot pair may)
+    (content_dropped _ _ c.args.node c.args.operation key c.self.invariant _ pair may)

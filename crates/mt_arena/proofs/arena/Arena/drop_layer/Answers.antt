@@ -1,5 +1,5 @@
 use Rattle.std.proofs.Common.{◌≡◌, ◌<◌, ℕ, length, refl, sym, ap, ◌∙◌, arith}
-use Rattle.mt_arena.specs.{NodeView.node_at, declared.tree.Tree.Tree, Forests.tree_at, Arena.ArenaView, Removals.MayDropLayer}
+use Rattle.mt_arena.specs.{NodeView.{node_at, place_at}, declared.tree.Tree.Tree, Forests.tree_at, Arena.ArenaView, Removals.MayDropLayer}
 use Rattle.mt_arena.proofs.{Pairs.read, Topping.read_tree, Retiring.retired_few}
 use Rattle.mt_arena.proofs.DroppingLayer.{the_link, same_link, lr, lu, live_root, apart, sound_dropped_layer, step_dropped_layer, content_dropped_layer, node_dropped_layer, root_dropped_layer, others_dropped_layer}
 use Rattle.mt_arena.proofs.arena.Arena.drop_layer.Goals.{After-link_at-lower, After-index-2, After-index_mut}
@@ -13,20 +13,20 @@ module _ (c : After-link_at-lower) where
   abbrev t : ℕ
   t = c.link_at-lower.result
 
-  some : (u : ℕ) × MayDropLayer v c.args.node c.args.slot u c.args.operation
+  some : (u : ℕ) × MayDropLayer v c.args.node (place_at (node_at v.nodes c.args.node) c.args.slot) u c.args.operation
   some = rw (← c.self.view_is) at c.requires.may
 
   node_is : c.index.result.now ≡ node_at v.nodes c.args.node
   node_is = read v.nodes c.args.node c.index.result.now some.1.held.there c.index.ensures
 
-  may : MayDropLayer v c.args.node c.args.slot t c.args.operation
-  may = the_link v c.args.node c.args.slot some.0 t c.args.operation (rw node_is at c.link_at-lower.ensures) some.1
+  may : MayDropLayer v c.args.node (place_at (node_at v.nodes c.args.node) c.args.slot) t c.args.operation
+  may = the_link v c.args.node _ some.0 t c.args.operation (rw node_is at c.link_at-lower.ensures) some.1
 
   tree_there : t < length v.trees
-  tree_there = lu v _ c.args.node c.args.slot t c.args.step c.args.operation c.self.invariant may
+  tree_there = lu v _ c.args.node _ t c.args.step c.args.operation c.self.invariant may
 
   root_there : (tree_at v.trees t).root < length v.nodes
-  root_there = lr v _ c.args.node c.args.slot t c.args.step c.args.operation c.self.invariant may
+  root_there = lr v _ c.args.node _ t c.args.step c.args.operation c.self.invariant may
 
 -- once its root is read
 module _ (c : After-index-2) where
@@ -59,7 +59,7 @@ pub drop_link-requires-clause-differ : goal.drop_link-requires-clause-differ
 drop_link-requires-clause-differ c =
     let at = goal.at.drop_link-requires-clause-differ c in
     let l = at.After-link_at-lower in
-    (λ same. apart (v l) _ c.args.node c.args.slot (t l) c.args.step c.args.operation c.self.invariant (may l) (same ∙ root_is at.After-index-2))
+    (λ same. apart (v l) _ c.args.node _ (t l) c.args.step c.args.operation c.self.invariant (may l) (same ∙ root_is at.After-index-2))
 
 pub index_mut-requires : goal.index_mut-requires
 index_mut-requires c = let there = tree_there (goal.at.index_mut-requires c).After-link_at-lower in omega (arith, there)
@@ -67,7 +67,7 @@ index_mut-requires c = let there = tree_there (goal.at.index_mut-requires c).Aft
 pub push_reserved-requires : goal.push_reserved-requires
 push_reserved-requires c =
     let l = (goal.at.push_reserved-requires c).After-link_at-lower in
-    let live = live_root (v l) _ c.args.node c.args.slot (t l) c.args.step c.args.operation c.self.invariant (may l) in
+    let live = live_root (v l) _ c.args.node _ (t l) c.args.step c.args.operation c.self.invariant (may l) in
     omega (arith, retired_few (v l).nodes (v l).retired (tree_at (v l).trees (t l)).root (root_there l) c.self.invariant.retired live, c.self.invariant.enough)
 
 pub invariant_of-self : goal.invariant_of-self
@@ -75,21 +75,21 @@ invariant_of-self c =
     let at = goal.at.invariant_of-self c in
     let l = at.After-link_at-lower in
     rw (c.push_reserved.ensures.items, c.push_reserved.ensures.capacity, c.drop_link.ensures, tree_is at.After-index-2, record_is at.After-index_mut)
-    (sound_dropped_layer (v l) _ c.args.node c.args.slot (t l) c.args.step c.args.operation c.self.invariant (may l))
+    (sound_dropped_layer (v l) _ c.args.node _ (t l) c.args.step c.args.operation c.self.invariant (may l))
 
 pub returns-clause-step : goal.returns-clause-step
 returns-clause-step c =
     let at = goal.at.returns-clause-step c in
     let l = at.After-link_at-lower in
     rw (← c.self.view_is, c.drop_link.ensures, tree_is at.After-index-2, record_is at.After-index_mut)
-    (let step = step_dropped_layer (v l) _ c.args.node c.args.slot (t l) c.args.step c.args.operation c.self.invariant (may l) in record { nodes = step.nodes; points = step.points })
+    (let step = step_dropped_layer (v l) _ c.args.node _ (t l) c.args.step c.args.operation c.self.invariant (may l) in record { nodes = step.nodes; points = step.points })
 
 pub returns-clause-contents : goal.returns-clause-contents
 returns-clause-contents c =
     let at = goal.at.returns-clause-contents c in
     let l = at.After-link_at-lower in
     rw (← c.self.view_is, c.drop_link.ensures, tree_is at.After-index-2, record_is at.After-index_mut)
-    (content_dropped_layer (v l) _ c.args.node c.args.slot (t l) c.args.step c.args.operation c.self.invariant (may l))
+    (content_dropped_layer (v l) _ c.args.node _ (t l) c.args.step c.args.operation c.self.invariant (may l))
 
 pub returns-clause-is : goal.returns-clause-is
 returns-clause-is c u link =
@@ -102,14 +102,14 @@ pub returns-clause-settled : goal.returns-clause-settled
 returns-clause-settled c =
     let at = goal.at.returns-clause-settled c in
     let l = at.After-link_at-lower in
-    rw (← c.self.view_is, c.drop_link.ensures, tree_is at.After-index-2) (node_dropped_layer (v l) _ c.args.node c.args.slot (t l) c.args.step c.args.operation c.self.invariant (may l))
+    rw (← c.self.view_is, c.drop_link.ensures, tree_is at.After-index-2) (node_dropped_layer (v l) _ c.args.node _ (t l) c.args.step c.args.operation c.self.invariant (may l))
 
 pub returns-clause-root_settled : goal.returns-clause-root_settled
 returns-clause-root_settled c u link =
     let at = goal.at.returns-clause-root_settled c in
     let l = at.After-link_at-lower in
     let same : t l ≡ u = same_link (sym (rw (node_is l) at c.link_at-lower.ensures) ∙ (rw (← c.self.view_is) at link)) in
-    rw (← c.self.view_is, ← same, c.drop_link.ensures, tree_is at.After-index-2) (root_dropped_layer (v l) _ c.args.node c.args.slot (t l) c.args.step c.args.operation c.self.invariant (may l))
+    rw (← c.self.view_is, ← same, c.drop_link.ensures, tree_is at.After-index-2) (root_dropped_layer (v l) _ c.args.node _ (t l) c.args.step c.args.operation c.self.invariant (may l))
 
 pub returns-clause-others_settled : goal.returns-clause-others_settled
 returns-clause-others_settled c u k link away apart_root =
@@ -117,4 +117,4 @@ returns-clause-others_settled c u k link away apart_root =
     let l = at.After-link_at-lower in
     let same : t l ≡ u = same_link (sym (rw (node_is l) at c.link_at-lower.ensures) ∙ (rw (← c.self.view_is) at link)) in
     rw (← c.self.view_is, c.drop_link.ensures, tree_is at.After-index-2)
-    (others_dropped_layer (v l) _ c.args.node c.args.slot (t l) c.args.step c.args.operation c.self.invariant (may l) k away (λ is. apart_root (rw (← c.self.view_is) (is ∙ ap (λ t. (tree_at (v l).trees t).root) same))))
+    (others_dropped_layer (v l) _ c.args.node _ (t l) c.args.step c.args.operation c.self.invariant (may l) k away (λ is. apart_root (rw (← c.self.view_is) (is ∙ ap (λ t. (tree_at (v l).trees t).root) same))))

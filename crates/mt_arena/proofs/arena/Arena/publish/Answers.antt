@@ -13,7 +13,7 @@ returns-clause-step c =
     let may = rw (← c.self.view_is) at c.requires.may.1 in
     let within = may.held.there in
     rw (← c.self.view_is, c.publish.ensures, read c.self.inside.nodes.items c.args.node c.index_mut.result.now within c.index_mut.ensures.value)
-    (step_slots _ c.args.node c.args.operation _ within may.held.holder may.mine)
+    (step_slots _ c.args.node c.args.operation _ _ within may.held.holder may.mine)
 
 pub returns-clause-contents : goal.returns-clause-contents
 returns-clause-contents c = λ key pair may_is is.

@@ -6,7 +6,7 @@ use Rattle.mt_arena.proofs.node.Node.split.Goals as goal
 
 pub returns-clause-some_right : goal.returns-clause-some_right
 returns-clause-some_right c =
-    let half = ap (λ (n : Node). length n.slots) c.hand_over.ensures.right in
+    let half = ap (λ (n : Node). length (entries_of n)) c.hand_over.ensures.right in
     elim c.match-entry.branch [
       | in-Some w ↦
           let left = entries_of c.in-Leaf.left in
@@ -15,12 +15,12 @@ returns-clause-some_right c =
           omega (
             arith,
             half,
-            ap (λ (n : Node). length n.slots) w.half-is,
+            ap (λ (n : Node). length (entries_of n)) w.half-is,
             ap length is.parted.joined,
-            length-append w.split_into.new.self.slots w.split_into.new.right.slots,
+            length-append (entries_of w.split_into.new.self) (entries_of w.split_into.new.right),
             length-publish left w.in-Some.entry,
             full,
             is.cut.at_most,
           )
-      | in-None w ↦ omega (arith, half, ap (λ (n : Node). length n.slots) w.half-is, w.split_without.ensures.two_on_the_right)
+      | in-None w ↦ omega (arith, half, ap (λ (n : Node). length (entries_of n)) w.half-is, w.split_without.ensures.two_on_the_right)
     ]

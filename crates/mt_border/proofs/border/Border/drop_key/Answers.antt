@@ -1,6 +1,5 @@
 -- the entries stay in order without the slot's, which is the one of its key
-use Rattle.std.proofs.Common.{◌<◌, length, sym, ◌∙◌}
-use Rattle.std.proofs.lemmas.List.{get_or_default}
+use Rattle.std.proofs.{Common.{◌<◌, length, sym, ◌∙◌}, lemmas.List.get_or_default}
 use Rattle.mt_border.{specs.Slots.listed, proofs.Edits.{any_entry, border_remove, without_at}}
 use Rattle.mt_border.proofs.border.Border.drop_key.Goals as goal
 

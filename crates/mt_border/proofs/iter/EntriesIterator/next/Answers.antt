@@ -1,7 +1,6 @@
 -- the first entry that is left is given
-use Rattle.std.proofs.Common.{◌+◌, ◌∷◌, ◌<◌, length, drop, ap, sym, ◌∙◌, arith}
-use Rattle.std.proofs.lemmas.List.{drop_more}
-use Rattle.mt_border.{specs.{Rows.entry_seen, Slots.listed}}
+use Rattle.std.proofs.{Common.{◌+◌, ◌∷◌, ◌<◌, length, drop, ap, sym, ◌∙◌, arith}, lemmas.List.drop_more}
+use Rattle.mt_border.specs.{Rows.entry_seen, Slots.listed}
 use Rattle.mt_border.proofs.iter.EntriesIterator.next.Goals as goal
 
 pub returns-clause-steps : goal.returns-clause-steps

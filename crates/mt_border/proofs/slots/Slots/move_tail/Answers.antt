@@ -1,6 +1,5 @@
 -- the entry that is moved leaves the others in their order
-use Rattle.std.proofs.Common.{◌≡◌, ◌+◌, ◌++◌, ◌<◌, length, drop, ap, sym, refl, ◌∙◌, arith}
-use Rattle.std.proofs.lemmas.List.{take-append-drop, Edits.length-insert}
+use Rattle.std.proofs.{Common.{◌≡◌, ◌+◌, ◌++◌, ◌<◌, length, drop, ap, sym, refl, ◌∙◌, arith}, lemmas.List.take-append-drop, lemmas.List.Edits.length-insert}
 use Rattle.mt_border.{specs.Slots.listed, proofs.Slotting.{moved_left, moved_right}}
 use Rattle.mt_border.proofs.slots.Slots.move_tail.Goals as goal
 

@@ -1,7 +1,6 @@
 -- what is held is stamped anew, and so are the entries
 use Rattle.std.proofs.Common.{ap, ◌∙◌}
-use Rattle.mt_border.specs.{Restamps.stamped, Rows.entries_in}
-use Rattle.mt_border.proofs.{RowEdits.stamp-rows, Slotting.{helds_each, live_within}}
+use Rattle.mt_border.{specs.{Restamps.stamped, Rows.entries_in}, proofs.{RowEdits.stamp-rows, Slotting.{helds_each, live_within}}}
 use Rattle.mt_border.proofs.slots.Slots.restamp.Goals as goal
 
 pub returns-clause-entries : goal.returns-clause-entries
