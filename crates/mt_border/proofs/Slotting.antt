@@ -1,12 +1,12 @@
 -- What the live slots list, through each edit of what they hold and of their order: for the slots of a node and the edits of `Border`.
-use Rattle.std.proofs.Common.{◌≡◌, ◌≢◌, ℕ, suc, ◌+◌, ◌<◌, ◌≤◌, Bool, List, [], Option, None, Some, ◌∷◌, ◌++◌, length, get_or, set, take, drop, refl, sym, ap, ◌∙◌, inl, inr, arith}
+use Rattle.std.proofs.Common.{◌≡◌, ◌≢◌, ℕ, suc, ◌+◌, ◌<◌, ◌≤◌, List, [], Option, None, Some, ◌∷◌, ◌++◌, length, get_or, set, take, drop, refl, sym, ap, ◌∙◌, inl, inr, arith}
 use Rattle.std.proofs.lemmas.Bool.{cases_eq}
-use Rattle.std.proofs.lemmas.List.{ext_get_or, map-append, take-map, drop-map, length-map, length-set, get_or-map, get_or-set_same, get_or-set_other, get_or_default, length-take, get_or-append-add, get_or-drop, drop_more, append_assoc}
-use Rattle.std.proofs.lemmas.List.Edits.{length-insert, length-remove}
+use Rattle.std.proofs.lemmas.List.{ext_get_or, map-append, take-map, drop-map, length-map, length-set, get_or-map, get_or-set_same, get_or-set_other, get_or_default, length-take, get_or-append-add, get_or-drop, drop_more, length-append, append_assoc}
 use Rattle.std.specs.{Prelude.map, Option.{IfSome, IfNone}, List.{All, insert, remove}}
+use Rattle.mt_slices.specs.declared.mark.Mark.{Mark}
 use Rattle.mt_order.{specs.Places.{Places, IsPlaces, place_of_slot}, proofs.Once.{live_once, live_below, place_is, no_place, free_apart, free_below}}
 use Rattle.mt_border.specs.{declared.entry.Entry.Entry, Held.{Held, Link}, Entries.{slices, marks}, Rows.{entries_in, AreRows}}
-use Rattle.mt_border.specs.Slots.{Slotted, IsSlotted, held_in, helds_of, listed, slots_in}
+use Rattle.mt_border.specs.Slots.{Slotted, IsSlotted, held_in, helds_of, listed, next_free}
 use Rattle.mt_border.proofs.RowEdits.{length-rows, slices-rows, marks-rows, insert-rows, remove-rows}
 
 -- the rows of the live slots are as long as one another
@@ -126,16 +126,6 @@ module _ (s : Slotted) (o : Places) (place slot : ℕ) (e : Entry) (slotted : Is
       ap (entries_in (insert s.slices place e.slice) (insert s.marks place e.mark)) third
       ∙ insert-rows s.slices s.marks (helds_of s.helds s.order.live) place e rows.marks_are rows.helds_are
 
-  pub slotted_put : (ds : List Bool) → IsPlaces o → place ≤ length s.order.live → length ds ≡ 15
-      → IsSlotted (slots_in (insert s.slices place e.slice) (insert s.marks place e.mark) (set s.helds slot e.held) ds o)
-  slotted_put ds places within dropped = record {
-    places = places;
-    slices_are = omega (arith, ap length live, length-insert s.order.live place slot within, length-insert s.slices place e.slice (omega (arith, within, slotted.slices_are)), slotted.slices_are);
-    marks_are = omega (arith, length-insert s.slices place e.slice (omega (arith, within, slotted.slices_are)), length-insert s.marks place e.mark (omega (arith, within, slotted.slices_are, slotted.marks_are)), slotted.marks_are);
-    helds_are = length-set s.helds slot e.held ∙ slotted.helds_are;
-    dropped_are = dropped;
-  }
-
 -- the entry at a place of the order is taken out, whose slot is the first free one then
 module _ (s : Slotted) (o : Places) (place slot : ℕ) (h : Held) (slotted : IsSlotted s) (within : place < length s.order.live) (places : IsPlaces o)
     (free : o.free ≡ slot ∷ s.order.free) (live : o.live ≡ remove s.order.live place) where
@@ -149,14 +139,41 @@ module _ (s : Slotted) (o : Places) (place slot : ℕ) (h : Held) (slotted : IsS
       ap (entries_in (remove s.slices place) (remove s.marks place)) third
       ∙ remove-rows s.slices s.marks (helds_of s.helds s.order.live) place rows.marks_are rows.helds_are
 
-  pub slotted_taken : (ds : List Bool) → length ds ≡ 15 → IsSlotted (slots_in (remove s.slices place) (remove s.marks place) (set s.helds slot h) ds o)
-  slotted_taken ds dropped = record {
-    places = places;
-    slices_are = omega (arith, ap length live, length-remove s.order.live place within, length-remove s.slices place (omega (arith, within, slotted.slices_are)), slotted.slices_are);
-    marks_are = omega (arith, length-remove s.slices place (omega (arith, within, slotted.slices_are)), length-remove s.marks place (omega (arith, within, slotted.slices_are, slotted.marks_are)), slotted.marks_are);
-    helds_are = length-set s.helds slot h ∙ slotted.helds_are;
-    dropped_are = dropped;
-  }
+-- where what is held stays as it is, a slot that becomes live has its entry listed, and one that becomes free has not
+pub listed_live : (s : Slotted) (o : Places) (place slice : ℕ) (mark : Mark) → IsSlotted s → o.live ≡ insert s.order.live place (next_free s)
+    → entries_in (insert s.slices place slice) (insert s.marks place mark) (helds_of s.helds o.live) ≡ insert (listed s) place (record { slice = slice; mark = mark; held = held_in s.helds (next_free s) })
+listed_live s o place slice mark slotted live =
+    let rows = rows_in s slotted in
+    ap (entries_in (insert s.slices place slice) (insert s.marks place mark)) (ap (helds_of s.helds) live ∙ helds_insert s.helds s.order.live place (next_free s))
+    ∙ insert-rows s.slices s.marks (helds_of s.helds s.order.live) place (record { slice = slice; mark = mark; held = held_in s.helds (next_free s) }) rows.marks_are rows.helds_are
+
+pub listed_freed : (s : Slotted) (o : Places) (place : ℕ) → IsSlotted s → o.live ≡ remove s.order.live place
+    → entries_in (remove s.slices place) (remove s.marks place) (helds_of s.helds o.live) ≡ remove (listed s) place
+listed_freed s o place slotted live =
+    let rows = rows_in s slotted in
+    ap (entries_in (remove s.slices place) (remove s.marks place)) (ap (helds_of s.helds) live ∙ helds_remove s.helds s.order.live place)
+    ∙ remove-rows s.slices s.marks (helds_of s.helds s.order.live) place rows.marks_are rows.helds_are
+
+-- the free slot that is taken next is not live, and is one of the fifteen
+module _ (s : Slotted) (slotted : IsSlotted s) (room : length (listed s) < 15) where
+  next_some : 0 < length s.order.free
+  next_some = omega (arith, length-append s.order.live s.order.free, slotted.places.total, room, length-listed s slotted)
+
+  pub next_below : next_free s < 15
+  next_below = free_below s.order 0 slotted.places next_some
+
+  pub next_apart : All (λ x. x ≢ next_free s) s.order.live
+  next_apart = free_apart s.order 0 slotted.places next_some
+
+  -- what is written to it is not listed
+  pub listed_beside : (h : Held) → listed (record s { helds = set s.helds (next_free s) h }) ≡ listed s
+  listed_beside h = ap (entries_in s.slices s.marks) (helds_beside s.helds s.order.live (next_free s) h next_apart)
+
+-- a slot that was read behind all live ones is the one that is taken next
+pub next_read : (s : Slotted) (n slot : ℕ) → n ≡ length s.order.live → slot ≡ get_or (s.order.live ++ s.order.free) n 0 → slot ≡ next_free s
+next_read s n slot is read =
+    let behind : n ≡ length s.order.live + 0 = omega (arith, is) in
+    read ∙ ap (λ k. get_or (s.order.live ++ s.order.free) k 0) behind ∙ get_or-append-add s.order.live s.order.free 0 0
 
 -- to put in behind the first entries and to take out from behind them
 pub taken_behind : {X : Type 0} (xs ys : List X) (y : X) → remove (xs ++ y ∷ ys) (length xs) ≡ xs ++ ys

@@ -1,11 +1,11 @@
 -- A border node as its callers see it, and what they say of its slots.
-use Rattle.std.specs.Prelude.{◌≡◌, ◌≢◌, ℕ, ◌<◌, ◌↔◌, List, length, slice_index_or, Option, None, Contains}
+use Rattle.std.specs.Prelude.{◌≡◌, ◌≢◌, ℕ, ◌<◌, ◌↔◌, List, length, slice_index_or, slice_set, Option, None, Contains}
 use Rattle.mt_slices.specs.{declared.mark.Mark.Mark, declared.mark.Mark.TheVariants.Long}
 use Rattle.mt_version.specs.Parts.{Parts}
 use Rattle.mt_order.specs.Places.{place_of_slot}
 use Rattle.mt_border.specs.{declared.entry.Entry.Entry, Held.{Held, Link}, declared.entry.Find.Find, declared.entry.Find.TheVariants.{Missing, Slot}}
 use Rattle.mt_border.specs.{declared.entry.FoundKind.FoundKind, Entry.IsKind, Entries.{IsBorder, IsMissing, replaced}}
-use Rattle.mt_border.specs.Slots.{Slotted, IsSlotted, fresh_slots, listed}
+use Rattle.mt_border.specs.Slots.{Slotted, IsSlotted, held_in, next_free, fresh_slots, listed}
 
 -- Its slots, of which the words below speak, the nodes beside it and above it, its fences, and its version.
 -- The low fence is the least slice that belongs in it, and the high one the least that belongs behind it.
@@ -50,6 +50,10 @@ entry_at node slot = slice_index_or (entries_of node) (place_at node slot) (reco
 abbrev pub held_at : Node → ℕ → Held
 held_at node slot = (entry_at node slot).held
 
+-- the entry of a slice and a mark with what the free slot holds that is taken next
+abbrev pub filled : Node → ℕ → Mark → Entry
+filled node slice mark = record { slice = slice; mark = mark; held = held_in node.slots.helds (next_free node.slots) }
+
 -- the slot has the slice and the mark, and holds this of the key that goes on with the suffix
 pub record IsFound (node : Node) (slice : ℕ) (mark : Mark) (suffix : List ℕ) (slot : ℕ) (kind : FoundKind)
     : Type 0 where
@@ -70,7 +74,7 @@ pub record Rewrites (old new : Node) (slot : ℕ) (held : Held) : Type 0 where
   pub here : entry_at new slot ≡ record (entry_at old slot) { held = held }
   pub live : (other : ℕ) → IsLive new other ↔ IsLive old other
   pub others : (other : ℕ) → other ≢ slot → entry_at new other ≡ entry_at old other
-  pub helds : new.slots ≡ record old.slots { helds = new.slots.helds }
+  pub helds : new.slots ≡ record old.slots { helds = slice_set old.slots.helds slot held }
   pub rest : new ≡ record old { slots = new.slots }
 
 -- what holds of a node's slots

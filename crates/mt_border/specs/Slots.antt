@@ -1,5 +1,5 @@
 -- The slots of a node: the slices and the marks of its live ones in the order of keys, and what each of the fifteen holds.
-use Rattle.std.specs.Prelude.{◌≡◌, ℕ, Bool, false, List, [], ◌∷◌, length, map, slice_index_or}
+use Rattle.std.specs.Prelude.{◌≡◌, ℕ, Bool, false, List, [], ◌∷◌, length, map, slice_index, slice_index_or}
 use Rattle.mt_slices.specs.declared.mark.Mark.{Mark}
 use Rattle.mt_order.specs.Places.{Places, IsPlaces, fresh_order}
 use Rattle.mt_border.specs.{declared.entry.Entry.Entry, Held.{Held, Link}, Rows.entries_in}
@@ -23,6 +23,14 @@ helds_of helds slots = map (held_in helds) slots
 -- the entries of the live slots, in the order of keys
 abbrev pub listed : Slotted → List Entry
 listed s = entries_in s.slices s.marks (helds_of s.helds s.order.live)
+
+-- the free slot that is taken next
+abbrev pub next_free : Slotted → ℕ
+next_free s = slice_index s.order.free 0
+
+-- the slot was dropped at some time
+abbrev pub is_dropped : Slotted → ℕ → Bool
+is_dropped s slot = slice_index_or s.dropped slot false
 
 abbrev pub fifteen_of : {X : Type 0} → X → List X
 fifteen_of x = x ∷ x ∷ x ∷ x ∷ x ∷ x ∷ x ∷ x ∷ x ∷ x ∷ x ∷ x ∷ x ∷ x ∷ x ∷ []

@@ -11,7 +11,7 @@
 //! No call takes memory or fails; all change the node in place. A node owns its entries. Numbers of
 //! nodes and trees are the arena's.
 
-ghost use Rattle.std.specs.{Prelude.{◌≡◌, ◌-◌, ◌<◌, ◌≤◌, ◌↔◌, ℕ, [], IsTrue, IsSome, IfSome, length, slice_get, map}, Option.option_map};
+ghost use Rattle.std.specs.{Prelude.{◌≡◌, ◌-◌, ◌<◌, ◌≤◌, ◌↔◌, ℕ, [], IsTrue, IsSome, IfSome, true, length, slice_get, slice_set, insert, remove, map}, Option.option_map};
 ghost use Rattle.mt_slices.specs.Marks.{IsMark};
 
 use crate::entry::{Entry, EntryRef, Find, Held, Pair};
@@ -62,10 +62,11 @@ impl Model for Border {
 
 impl Border {
     ghost use Rattle.mt_border.specs.{Restamps.{stamped, all_restamped}, Held.{Pair, Stable, Unstable, Link}};
-    ghost use Rattle.mt_border.specs.{Entry.{order_of, IsEntry, IsRest, IsStablePair, IsUnlinked, IsLinked}, Rows.entry_seen};
+    ghost use Rattle.mt_border.specs.{Entry.{order_at, order_of, IsEntry, IsRest, IsStablePair, IsUnlinked, IsLinked}, Rows.entry_seen};
     ghost use Rattle.mt_border.specs.{Entries.{IsBorder, IsMissing, place_in, with_entry, without}, Split.{IsCut, IsParted, IsSeparator, slices_with}};
-    ghost use Rattle.mt_border.specs.Node.{empty_node, entries_of, entry_at, held_at, place_at, IsLive, Finds, Rewrites};
-    ghost use Rattle.mt_order.specs.Places.{order_with, order_without};
+    ghost use Rattle.mt_border.specs.Node.{empty_node, entries_of, entry_at, held_at, place_at, filled, IsLive, Finds, Rewrites};
+    ghost use Rattle.mt_order.specs.Places.{order_with, order_without, word_of, IsPlaces};
+    ghost use Rattle.mt_border.specs.Slots.{held_in, next_free, is_dropped};
 
     /// A node without keys, neighbours and parent.
     pub fn new(alloc: Global, low: u64, high: Option<u64>, version: Version) -> Self
@@ -168,6 +169,90 @@ impl Border {
     {
         let place = place_of(&self.slots, entry.slice, entry.mark);
         self.slots.insert(place, entry);
+    }
+
+    /// The permutation word. Bits 0 to 3 count the live slots, and each further four bits are a slot: the
+    /// live ones in the order of their keys, and then the free ones in the order in which they are taken.
+    pub fn permutation(&self) -> u64
+        ensures word { result ≡ word_of self.now.slots.order }
+        ensures places { IsPlaces self.now.slots.order }
+    {
+        self.slots.word()
+    }
+
+    /// The free slot that is taken next.
+    pub fn next_free(&self) -> usize
+        requires room { length (entries_of self.now) < SLOTS }
+        ensures value { result ≡ next_free self.now.slots }
+        ensures within { result < SLOTS }
+    {
+        self.slots.next_free()
+    }
+
+    /// Whether a slot was dropped at some time. Who fills such a one marks the node as inserting before.
+    pub fn was_dropped(&self, slot: usize) -> bool
+        requires { slot < SLOTS }
+        ensures { result ≡ is_dropped self.now.slots slot }
+    {
+        self.slots.was_dropped(slot)
+    }
+
+    /// What a slot holds, live or not.
+    pub fn stands_in(&self, slot: usize) -> &Held
+        requires { slot < SLOTS }
+        ensures { result.now ≡ held_in self.now.slots.helds slot }
+    {
+        self.slots.held(slot)
+    }
+
+    /// Writes what the free slot holds that is taken next, which no reader finds yet, and gives back what
+    /// it held.
+    pub fn fill(&mut self, held: Held) -> Held
+        requires room { length (entries_of self.old) < SLOTS }
+        ensures before { result ≡ held_in self.old.slots.helds (next_free self.old.slots) }
+        ensures entries { entries_of self.new ≡ entries_of self.old }
+        ensures slots { let next = next_free self.old.slots in
+            self.new.slots ≡ record self.old.slots { helds = slice_set self.old.slots.helds next held } }
+        ensures others { self.new ≡ record self.old { slots = self.new.slots } }
+    {
+        let next = self.slots.next_free();
+        self.slots.write(next, held)
+    }
+
+    /// Makes the slot that was filled live, for a key of this slice and mark.
+    pub fn publish_filled(&mut self, slice: u64, mark: Mark)
+        requires room { length (entries_of self.old) < SLOTS }
+        requires entry { IsEntry (filled self.old slice mark) }
+        requires missing { IsMissing (entries_of self.old) slice mark }
+        ensures entries { entries_of self.new ≡ with_entry (entries_of self.old) (filled self.old slice mark) }
+        ensures slots { let place = place_in (entries_of self.old) (order_at slice mark) in
+            self.new.slots ≡ record self.old.slots {
+              slices = insert self.old.slots.slices place slice;
+              marks = insert self.old.slots.marks place mark;
+              order = order_with self.old.slots.order place;
+            } }
+        ensures others { self.new ≡ record self.old { slots = self.new.slots } }
+    {
+        let place = place_of(&self.slots, slice, mark);
+        self.slots.publish_at(place, slice, mark);
+    }
+
+    /// Makes a key or a link live no more. Its slot is the next one to be filled, and holds what it held
+    /// until then.
+    pub fn let_go(&mut self, slot: usize)
+        requires { IsLive self.old slot }
+        ensures entries { entries_of self.new ≡ without (entries_of self.old) (entry_at self.old slot) }
+        ensures slots { let place = place_at self.old slot in
+            self.new.slots ≡ record self.old.slots {
+              slices = remove self.old.slots.slices place;
+              marks = remove self.old.slots.marks place;
+              dropped = slice_set self.old.slots.dropped slot true;
+              order = order_without self.old.slots.order place;
+            } }
+        ensures others { self.new ≡ record self.old { slots = self.new.slots } }
+    {
+        let place = self.slots.place_of(slot).unwrap();
+        self.slots.free_at(place);
     }
 
     /// Puts another row, placed by the step `stamp`, in the place of a pair's, and gives the old

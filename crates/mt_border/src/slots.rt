@@ -8,7 +8,7 @@
 //! Invariant: the order names each of the fifteen slots once, and there are as many slices and marks
 //! as live slots.
 
-ghost use Rattle.std.specs.Prelude.{◌≡◌, ◌<◌, ◌≤◌, [], length, take, drop, insert, remove, slice_get, slice_index, slice_index_or, count_by, nat_lt, map, IfSome, IfNone};
+ghost use Rattle.std.specs.Prelude.{◌≡◌, ◌<◌, ◌≤◌, [], length, take, drop, insert, remove, slice_get, slice_index, slice_index_or, slice_set, count_by, nat_lt, map, true, IfSome, IfNone};
 ghost use Rattle.std.specs.Option.{option_map};
 ghost use Rattle.mt_lists.specs.Rising.{NeverFalls};
 ghost use Rattle.arrayvec.specs.ArrayVec.{array_vec_len};
@@ -19,6 +19,7 @@ use crate::entry::{Entry, EntryRef, Held, SlotMark};
 use arrayvec::ArrayVec;
 use mt_lists::padded::PaddedList;
 use mt_order::Order;
+use mt_slices::Mark;
 use std::alloc::Global;
 use std::default::MadeWith;
 use std::marker::Model;
@@ -46,8 +47,8 @@ impl Model for Slots {
 }
 
 impl Slots {
-    ghost use Rattle.mt_border.specs.{Restamps.all_restamped, Entries.{slices, marks}, Rows.entry_seen, Slots.{IsSlotted, fresh_slots, listed}};
-    ghost use Rattle.mt_order.specs.Places.{place_of_slot, order_with, order_without};
+    ghost use Rattle.mt_border.specs.{Restamps.all_restamped, Entries.{slices, marks}, Rows.entry_seen, Slots.{IsSlotted, held_in, next_free, is_dropped, fresh_slots, listed}};
+    ghost use Rattle.mt_order.specs.Places.{place_of_slot, order_with, order_without, word_of};
 
     pub(crate) fn new(alloc: Global) -> Self
         ensures { result ≡ fresh_slots }
@@ -147,6 +148,86 @@ impl Slots {
         } else {
             None
         }
+    }
+
+    /// What a slot holds.
+    pub(crate) fn held(&self, slot: usize) -> &Held
+        requires { slot < SLOTS }
+        ensures { result.now ≡ held_in self.now.helds slot }
+    {
+        &self.helds[slot]
+    }
+
+    /// Whether a slot was dropped at some time.
+    pub(crate) fn was_dropped(&self, slot: usize) -> bool
+        requires { slot < SLOTS }
+        ensures { result ≡ is_dropped self.now slot }
+    {
+        self.dropped[slot]
+    }
+
+    /// The free slot that is taken next.
+    pub(crate) fn next_free(&self) -> usize
+        requires { length (listed self.now) < SLOTS }
+        ensures value { result ≡ next_free self.now }
+        ensures within { result < SLOTS }
+        ensures slotted { IsSlotted self.now }
+    {
+        self.order.slot(self.order.len())
+    }
+
+    /// The word of the order.
+    pub(crate) fn word(&self) -> u64
+        ensures value { result ≡ word_of self.now.order }
+        ensures slotted { IsSlotted self.now }
+    {
+        self.order.word()
+    }
+
+    /// Writes what a slot holds, and gives back what it held.
+    pub(crate) fn write(&mut self, slot: usize, held: Held) -> Held
+        requires { slot < SLOTS }
+        ensures before { result ≡ held_in self.old.helds slot }
+        ensures after { self.new ≡ record self.old { helds = slice_set self.old.helds slot held } }
+        ensures slotted { IsSlotted self.new }
+    {
+        mem::replace(&mut self.helds[slot], held)
+    }
+
+    /// Makes the first free slot live, with what it holds, at a place of the order.
+    pub(crate) fn publish_at(&mut self, place: usize, slice: u64, mark: Mark)
+        requires in_bounds { place ≤ length (listed self.old) }
+        requires room { length (listed self.old) < SLOTS }
+        ensures entries { listed self.new ≡ insert (listed self.old) place
+            (record { slice = slice; mark = mark; held = held_in self.old.helds (next_free self.old) }) }
+        ensures slots { self.new ≡ record self.old {
+          slices = insert self.old.slices place slice;
+          marks = insert self.old.marks place mark;
+          order = order_with self.old.order place;
+        } }
+        ensures slotted { IsSlotted self.new }
+    {
+        self.slices.insert(place, slice);
+        self.marks.insert(place, SlotMark::new(mark));
+        self.order.insert(place);
+    }
+
+    /// Makes the slot at a place of the order the first free one, which holds what it held.
+    pub(crate) fn free_at(&mut self, place: usize)
+        requires { place < length (listed self.old) }
+        ensures entries { listed self.new ≡ remove (listed self.old) place }
+        ensures slots { self.new ≡ record self.old {
+          slices = remove self.old.slices place;
+          marks = remove self.old.marks place;
+          dropped = slice_set self.old.dropped (slice_index self.old.order.live place) true;
+          order = order_without self.old.order place;
+        } }
+        ensures slotted { IsSlotted self.new }
+    {
+        let _ = self.slices.remove(place);
+        let _ = self.marks.remove(place);
+        let slot = self.order.remove(place);
+        self.dropped[slot] = true;
     }
 
     /// Puts an entry in at a place of the order. The first free slot holds it.
