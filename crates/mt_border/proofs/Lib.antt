@@ -3,6 +3,7 @@ pub mod Edits
 pub mod RowEdits
 pub mod Slotting
 pub mod Writes
+pub mod KeptSlots
 pub mod Cuts
 pub mod Counts
 pub mod Finds

@@ -4,6 +4,7 @@ pub mod Entry
 pub mod Entries
 pub mod Rows
 pub mod Slots
+pub mod Keeps
 pub mod Node
 pub mod Split
 pub mod Contents

@@ -11,7 +11,8 @@
 //! No call takes memory or fails; all change the node in place. A node owns its entries. Numbers of
 //! nodes and trees are the arena's.
 
-ghost use Rattle.std.specs.{Prelude.{◌≡◌, ◌-◌, ◌<◌, ◌≤◌, ◌↔◌, ℕ, [], IsTrue, IsSome, IfSome, true, length, slice_get, slice_set, insert, remove, map}, Option.option_map};
+ghost use Rattle.std.specs.Prelude.{◌≡◌, ◌-◌, ◌<◌, ◌≤◌, ◌↔◌, ℕ, [], IsTrue, IsSome, IfSome, true, length, slice_get, slice_set, insert, remove, map};
+ghost use Rattle.std.specs.Option.{option_map};
 ghost use Rattle.mt_slices.specs.Marks.{IsMark};
 
 use crate::entry::{Entry, EntryRef, Find, Held, Pair};
@@ -65,8 +66,8 @@ impl Border {
     ghost use Rattle.mt_border.specs.{Entry.{order_at, order_of, IsEntry, IsRest, IsStablePair, IsUnlinked, IsLinked}, Rows.entry_seen};
     ghost use Rattle.mt_border.specs.{Entries.{IsBorder, IsMissing, place_in, with_entry, without}, Split.{IsCut, IsParted, IsSeparator, slices_with}};
     ghost use Rattle.mt_border.specs.Node.{empty_node, entries_of, entry_at, held_at, place_at, filled, IsLive, Finds, Rewrites};
-    ghost use Rattle.mt_order.specs.Places.{order_with, order_without, word_of, IsPlaces};
     ghost use Rattle.mt_border.specs.Slots.{held_in, next_free, is_dropped};
+    ghost use Rattle.mt_order.specs.Places.{order_with, order_without, word_of, IsPlaces};
 
     /// A node without keys, neighbours and parent.
     pub fn new(alloc: Global, low: u64, high: Option<u64>, version: Version) -> Self

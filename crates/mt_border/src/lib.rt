@@ -14,6 +14,7 @@ pub mod border;
 pub mod contents;
 pub mod entry;
 mod iter;
+pub mod keeping;
 pub mod laws;
 mod places;
 mod slots;

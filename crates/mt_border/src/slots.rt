@@ -47,7 +47,8 @@ impl Model for Slots {
 }
 
 impl Slots {
-    ghost use Rattle.mt_border.specs.{Restamps.all_restamped, Entries.{slices, marks}, Rows.entry_seen, Slots.{IsSlotted, held_in, next_free, is_dropped, fresh_slots, listed}};
+    ghost use Rattle.mt_border.specs.{Restamps.all_restamped, Entries.{slices, marks}, Rows.entry_seen};
+    ghost use Rattle.mt_border.specs.Slots.{IsSlotted, held_in, next_free, is_dropped, fresh_slots, listed};
     ghost use Rattle.mt_order.specs.Places.{place_of_slot, order_with, order_without, word_of};
 
     pub(crate) fn new(alloc: Global) -> Self

@@ -1,6 +1,6 @@
 -- what is written is not listed
 use Rattle.std.proofs.Common.{◌≡◌}
-use Rattle.mt_border.{specs.{Slots.{listed}}, proofs.Slotting.listed_beside}
+use Rattle.mt_border.{specs.Slots.listed, proofs.Slotting.listed_beside}
 use Rattle.mt_border.proofs.border.Border.fill.Goals as goal
 
 same : (c : goal.After-write) → listed c.write.new.self ≡ listed c.self.inside.slots

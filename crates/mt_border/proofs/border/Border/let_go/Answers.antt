@@ -1,9 +1,7 @@
 -- the entries stay in order without the slot's, which is the one of its key
-use Rattle.std.proofs.Common.{◌≡◌, ◌<◌, length, get_or, ap, sym, ◌∙◌, arith}
-use Rattle.std.proofs.lemmas.List.{get_or_default}
+use Rattle.std.proofs.{Common.{◌≡◌, ◌<◌, length, get_or, ap, sym, ◌∙◌, arith}, lemmas.List.get_or_default}
 use Rattle.mt_order.{specs.Places.place_of_slot, proofs.Once.slot_there}
-use Rattle.mt_border.{specs.{Slots.listed}, proofs.Edits.{any_entry, border_remove, without_at}}
-use Rattle.mt_border.proofs.Slotting.{length-listed}
+use Rattle.mt_border.{specs.Slots.listed, proofs.{Edits.{any_entry, border_remove, without_at}, Slotting.length-listed}}
 use Rattle.mt_border.proofs.border.Border.let_go.Goals as goal
 
 -- the place is one of the entries

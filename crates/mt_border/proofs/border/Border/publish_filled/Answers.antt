@@ -1,5 +1,5 @@
 -- the entries stay in order with the filled slot's at its place
-use Rattle.mt_border.{proofs.Edits.border_with_entry}
+use Rattle.mt_border.proofs.Edits.{border_with_entry}
 use Rattle.mt_border.proofs.border.Border.publish_filled.Goals as goal
 
 pub invariant_of-self : goal.invariant_of-self

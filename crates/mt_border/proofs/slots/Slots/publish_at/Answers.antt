@@ -1,6 +1,5 @@
 -- the slice and the mark go to their place, and the slot that is next becomes live
-use Rattle.std.proofs.Common.{◌<◌, length, get_or, ap, sym, ◌∙◌, arith}
-use Rattle.std.specs.List.{insert}
+use Rattle.std.{proofs.Common.{◌<◌, length, get_or, ap, sym, ◌∙◌, arith}, specs.List.insert}
 use Rattle.mt_border.proofs.Slotting.{size-listed, listed_live}
 use Rattle.mt_border.proofs.slots.Slots.publish_at.Goals as goal
 
