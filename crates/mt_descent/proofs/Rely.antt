@@ -4,6 +4,7 @@ use Rattle.mt_version.specs.{Parts.Parts, Changes.{IsStable, range_age}}
 use Rattle.mt_interior.specs.Fences.{end_of}
 use Rattle.mt_slices.specs.Slices.{slice_of, mark_of, suffix_of}
 use Rattle.mt_rows.specs.Rows.{Bytes, Columns}
+use Rattle.mt_order.specs.Places.{Places}
 use Rattle.mt_border.specs.{Contents.{IsOfTree, owned}, declared.entry.Entry.Entry, declared.entry.FoundKind.FoundKind, Entry.IsKind}
 use Rattle.mt_arena.specs.{declared.tree.Tree.Tree, declared.tree.Standing.Standing, declared.tree.Standing.TheVariants.{Made, Live, Dead}, NodeView.NodeView}
 use Rattle.mt_arena.specs.{Forests.tree_at, Layers.slot_at, Arena.ArenaView, Accesses.at, Guarantee.{NodesGuarantee, Changes, TreeChanges, HasSameKeys}}
@@ -57,17 +58,15 @@ module _ (op : ℕ) (n m : NodeView) (c : Changes op n m) (seen : Parts) (was : 
       ((versions.insert_age_tells n.version seen before.insertion).1 ∙ was.still)
 
 -- a slot stays while the keys do
-in_slot_stays : (n m : NodeView) (slot : ℕ) (key : Bytes) (layer : ℕ) (kind : FoundKind) → n.slots ≡ m.slots → IsInSlot n slot key layer kind
+in_slot_stays : (n m : NodeView) (slot : ℕ) (key : Bytes) (layer : ℕ) (kind : FoundKind) → n.slots ≡ m.slots → n.order ≡ m.order → IsInSlot n slot key layer kind
     → IsInSlot m slot key layer kind
-in_slot_stays n m slot key layer kind same h = record {
-  in_range = subst (λ (s : List Entry). slot < length s) same h.in_range;
-  slice_is = subst (λ (s : List Entry). (slot_at (record n { slots = s }) slot).slice ≡ slice_of key layer) same h.slice_is;
-  mark_is = subst (λ (s : List Entry). (slot_at (record n { slots = s }) slot).mark ≡ mark_of key layer) same h.mark_is;
-  kind_is = subst (λ (s : List Entry). IsKind (slot_at (record n { slots = s }) slot) (suffix_of key layer) kind) same h.kind_is;
-}
+in_slot_stays n m slot key layer kind slots order h =
+    let other = subst (λ (o : Places). IsInSlot (record n { order = o }) slot key layer kind) order h in
+    let same = subst (λ (s : List Entry). IsInSlot (record n { slots = s; order = m.order }) slot key layer kind) slots (record { in_range = other.in_range; slice_is = other.slice_is; mark_is = other.mark_is; kind_is = other.kind_is }) in
+    record { in_range = same.in_range; slice_is = same.slice_is; mark_is = same.mark_is; kind_is = same.kind_is }
 
-slot_stays : (n m : NodeView) (slot : ℕ) (key : Bytes) (layer : ℕ) → n.slots ≡ m.slots → HasSlot n slot key layer → HasSlot m slot key layer
-slot_stays n m slot key layer same h = record { kind = h.kind; in_slot = in_slot_stays n m slot key layer h.kind same h.in_slot; leads = h.leads }
+slot_stays : (n m : NodeView) (slot : ℕ) (key : Bytes) (layer : ℕ) → HasSameKeys n m → HasSlot n slot key layer → HasSlot m slot key layer
+slot_stays n m slot key layer same h = record { kind = h.kind; in_slot = in_slot_stays n m slot key layer h.kind (sym same.slots) (sym same.order) h.in_slot; leads = h.leads }
 
 -- a tree that is not being made never is
 unmade_stays : (op : ℕ) (tree after : Tree) → TreeChanges op tree after → ((q : ℕ) → tree.standing ≢ Made q) → (s : Standing) → tree.standing ≡ s
@@ -196,7 +195,7 @@ module _ (op : ℕ) (old new : ArenaView) (e : NodesGuarantee op old.nodes new.n
       let c = e.nodes k within in
       record {
         at_border = border_stays key w h.at_border;
-        found = λ stands. slot_stays (at old k) (at new k) w.slot key w.layer (sym (same_keys op (at old k) (at new k) c w.place.seen was stands).slots)
+        found = λ stands. slot_stays (at old k) (at new k) w.slot key w.layer (same_keys op (at old k) (at new k) c w.place.seen was stands)
             (h.found (stood op (at old k) (at new k) c w.place.seen was stands));
       }
   kept_stays before after key row w Confirm g h = record {

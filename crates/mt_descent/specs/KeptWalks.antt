@@ -5,7 +5,8 @@ use Rattle.mt_version.specs.Changes.{IsStable}
 use Rattle.mt_slices.specs.Slices.{slice_of, mark_of, suffix_of}
 use Rattle.mt_rows.specs.Rows.{Bytes, Columns}
 use Rattle.mt_border.specs.{declared.entry.FoundKind.FoundKind, declared.entry.FoundKind.TheVariants.OtherLong, Entry.IsKind, Contents.{IsOfTree, owned}}
-use Rattle.mt_arena.specs.{declared.tree.Standing.TheVariants.Made, NodeView.NodeView, Forests.tree_at, Layers.slot_at, Arena.ArenaView, Accesses.{at, IsHeld}}
+use Rattle.mt_arena.specs.{declared.tree.Standing.TheVariants.Made, NodeView.{NodeView, place_at}, Forests.tree_at, Layers.slot_at, Arena.ArenaView}
+use Rattle.mt_arena.specs.Accesses.{at, IsHeld}
 use Rattle.mt_operation.specs.declared.phase.Phase.{Phase}
 use Rattle.mt_operation.specs.declared.phase.Phase.TheVariants.{Enter, Pick, Child, Verify, Search, Load, Confirm, Forward, Lock, Snap, Check, Done}
 use Rattle.mt_operation.specs.{declared.walk.Taken.Taken, declared.walk.Taken.TheVariants.{Missing, Row, Link, Nothing}, declared.walk.Walk.Walk}
@@ -55,10 +56,10 @@ pub record IsAtBorder (v : ArenaView) (key : Bytes) (w : Walk) : Type 0 where
 
 -- the slot has the slice and the mark of the key, and holds this of it
 pub record IsInSlot (n : NodeView) (slot : ℕ) (key : Bytes) (layer : ℕ) (kind : FoundKind) : Type 0 where
-  pub in_range : slot < length n.slots
-  pub slice_is : (slot_at n slot).slice ≡ slice_of key layer
-  pub mark_is : (slot_at n slot).mark ≡ mark_of key layer
-  pub kind_is : IsKind (slot_at n slot) (suffix_of key layer) kind
+  pub in_range : place_at n slot < length n.slots
+  pub slice_is : (slot_at n (place_at n slot)).slice ≡ slice_of key layer
+  pub mark_is : (slot_at n (place_at n slot)).mark ≡ mark_of key layer
+  pub kind_is : IsKind (slot_at n (place_at n slot)) (suffix_of key layer) kind
 
 -- the slot has the key, or a link that took it in
 pub record HasSlot (n : NodeView) (slot : ℕ) (key : Bytes) (layer : ℕ) : Type 0 where

@@ -1,7 +1,7 @@
 -- The contents after each step: what the kept fact of an answer speaks of.
 use Rattle.std.specs.{Prelude.{◌≡◌, ◌≤◌, ℕ, Some}, FinMap.get}
 use Rattle.mt_rows.specs.{Rows.{Bytes, Columns}, Tenants.Contents}
-use Rattle.mt_border.specs.{Contents.owned, declared.entry.Pair.Pair}
+use Rattle.mt_border.specs.{Contents.owned, Held.Pair}
 use Rattle.mt_arena.specs.{Arena.{ArenaView, content_of}, Ways.StandsFor}
 
 -- how many steps were made, and the contents after each of them

@@ -3,15 +3,15 @@ use Rattle.std.specs.Prelude.{◌≡◌, ◌+◌, ◌<◌, ℕ, max, Bool, lengt
 use Rattle.mt_version.specs.{Parts.Parts, Changes.{IsMarked, IsStable, SameButLock}}
 use Rattle.mt_slices.specs.Slices.{slice_of, mark_of}
 use Rattle.mt_rows.specs.Rows.{Bytes, Columns}
-use Rattle.mt_border.specs.{declared.entry.Pair.Pair, declared.entry.Find.Find, declared.entry.FoundKind.TheVariants.OtherLong, Entries.IsMissing}
-use Rattle.mt_arena.specs.{declared.tree.Standing.Standing, declared.tree.Standing.TheVariants.Dead, NodeView.NodeView, NodeFacts.IsUnstable, Layers.slot_at}
-use Rattle.mt_arena.specs.{Edits.locked, Arena.{ArenaView, content_of, Guarantee}, Accesses.{at, with_node}, Settled.IsSettled}
+use Rattle.mt_border.specs.{Held.Pair, declared.entry.Find.Find, declared.entry.FoundKind.TheVariants.OtherLong, Entries.IsMissing}
+use Rattle.mt_arena.specs.{declared.tree.Standing.Standing, declared.tree.Standing.TheVariants.Dead, NodeView.{NodeView, place_at}, NodeFacts.IsUnstable}
+use Rattle.mt_arena.specs.{Layers.slot_at, Edits.locked, Arena.{ArenaView, content_of, Guarantee}, Accesses.{at, with_node}, Settled.IsSettled}
 use Rattle.mt_operation.specs.{declared.walk.Aim.Aim, declared.phase.Phase.Phase}
 use Rattle.mt_operation.specs.declared.phase.Phase.TheVariants.{Enter, Pick, Child, Verify, Search, Load, Confirm, Forward, Lock, Judge, Snap, Done}
 use Rattle.mt_operation.specs.{declared.walk.Taken.Taken, declared.walk.Taken.TheVariants.{Missing, Row, Link, Nothing}, declared.walk.Walk.Walk}
 use Rattle.mt_descent.specs.{Seen.IsOutdated, KeptWalks.{IsInSlot, IsAtJudge, IsKept}, Pasts.Past}
 use Rattle.mt_border.specs.declared.entry.Find.TheVariants as finds
-use Rattle.mt_border.specs.declared.entry.Held.TheVariants as helds
+use Rattle.mt_border.specs.Held as helds
 use Rattle.mt_operation.specs.declared.walk.Aim.TheVariants as aims
 
 -- the node is marked, and this operation holds it
@@ -26,8 +26,8 @@ AnswersAgain n before after (Some holder) = (after ≡ before) × IsBlocked n ho
 
 -- the slot is unstable, by the work of this operation, which holds the node
 pub record IsBlockedAt (n : NodeView) (slot holder : ℕ) : Type 0 where
-  pub live : slot < length n.slots
-  pub unstable : IsUnstable (slot_at n slot).held
+  pub live : place_at n slot < length n.slots
+  pub unstable : IsUnstable (slot_at n (place_at n slot)).held
   pub by : n.holder ≡ Some holder
 
 -- the walk is still that of the same operation: its aim is as before, and its first step is the same
@@ -102,9 +102,9 @@ after_search (finds.Slot slot _) w step = record w { slot = slot; right_at = ste
 abbrev pub TakesOut : NodeView → Walk → Option Columns → Taken → ℕ → Type 0
 TakesOut n w row Missing at = ⊥
 TakesOut n w row Row at =
-    (w.slot < length n.slots) × (pair : Pair) × ((slot_at n w.slot).held ≡ helds.Stable pair) × (row ≡ Some pair.row) × (at ≡ max w.first pair.stamp)
-TakesOut n w row (Link u) at = (w.slot < length n.slots) × ((slot_at n w.slot).held ≡ helds.Link u) × (row ≡ None) × (at ≡ w.right_at)
-TakesOut n w row Nothing at = ¬ (w.slot < length n.slots) × (row ≡ None) × (at ≡ w.right_at)
+    (place_at n w.slot < length n.slots) × (pair : Pair) × ((slot_at n (place_at n w.slot)).held ≡ helds.Stable pair) × (row ≡ Some pair.row) × (at ≡ max w.first pair.stamp)
+TakesOut n w row (Link u) at = (place_at n w.slot < length n.slots) × ((slot_at n (place_at n w.slot)).held ≡ helds.Link u) × (row ≡ None) × (at ≡ w.right_at)
+TakesOut n w row Nothing at = ¬ (place_at n w.slot < length n.slots) × (row ≡ None) × (at ≡ w.right_at)
 
 -- after Load: to confirm what was taken
 abbrev pub after_load : Walk → Taken → ℕ → Walk

@@ -6,8 +6,7 @@ use Rattle.std.specs.{Ordering.{nat_cmp, is_lt, ordering_then}, Cmp.Lexicographi
 use Rattle.mt_slices.specs.{Keys.{IsStoredKey, tenant_of, user_key_of}, Slices.{slice_of, mark_of, rest_of, slice_at}, Fences.IsBehindAll}
 use Rattle.mt_slices.proofs.{Bytes.{AreBytes, bytes-drop, bytes-tail}, Tenants.stored_key-again, Numbers.{number, number_lt, slice_at-number, tenant_of-number}}
 use Rattle.mt_rows.specs.{Rows.Bytes, Tenants.Contents}
-use Rattle.mt_border.specs.{declared.entry.Pair.Pair, declared.entry.Entry.Entry, Entry.pair_of, Contents.{owned, HasKey, IsOfTree}}
-use Rattle.mt_border.proofs.ContentsKeys.{is_mark_of}
+use Rattle.mt_border.{specs.{Held.Pair, declared.entry.Entry.Entry, Entry.pair_of, Contents.{owned, HasKey, IsOfTree}}, proofs.ContentsKeys.is_mark_of}
 use Rattle.mt_arena.{specs.{declared.tree.Tree.Tree, NodeView.{NodeView, node_at}, Forests.tree_at, Arena.IsArena, Contents.content}, proofs.Elsewhere.layer_is}
 use Rattle.mt_readings.specs.{Reading.{is_below, is_behind, read, stop}, Spans.{IsScanAt, TellsAll}, Tenancies.TellsTenant}
 use Rattle.mt_readings.proofs.{Readings.{read_in, rank_of}, Bytewise.{nat_less, nat_greater, nat_same, reaches}, Spanning.{not_lt, told_of, real_of}}

@@ -7,8 +7,7 @@ use Rattle.std.specs.{declared.cmp.Ordering.TheVariants.Less, Ordering.{nat_cmp,
 use Rattle.mt_slices.specs.{Keys.{IsStoredKey, stored_key, tenant_of, user_key_of}, Marks.mark_rank, Slices.{slice_of, mark_of, suffix_of}}
 use Rattle.mt_slices.proofs.{Order.cmp_tenants, Tenants.stored_key-again}
 use Rattle.mt_rows.{specs.{Rows.{Bytes, Columns}, Tenants.{Contents, tenant_map}}, proofs.ContentLaws.get-tenant_map}
-use Rattle.mt_border.specs.{declared.entry.Pair.Pair, declared.entry.Entry.Entry, Entry.{pair_of, order_at}, Entries.IsBorder}
-use Rattle.mt_border.specs.Contents.{owned, key_at, HasKey, IsOfTree}
+use Rattle.mt_border.specs.{Held.Pair, declared.entry.Entry.Entry, Entry.{pair_of, order_at}, Entries.IsBorder, Contents.{owned, key_at, HasKey, IsOfTree}}
 use Rattle.mt_border.proofs.ContentsKeys.{key_at-is, order_of_key, is_mark_of}
 use Rattle.mt_readings.specs.{Reading.{is_below, is_behind, read}, Tenancies.{own_pair, own_pairs, passed_at, HasStoredKeys, TellsTenant}}
 use Rattle.mt_readings.proofs.{Readings.{in_tree, rank_of, Ascends, ascends}, Bytewise.{nat_less, nat_same}}

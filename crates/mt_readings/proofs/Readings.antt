@@ -9,8 +9,8 @@ use Rattle.mt_slices.specs.{Marks.{mark_rank, IsMark}, Slices.{slice_of, mark_of
 use Rattle.mt_slices.specs.declared.mark.Mark.TheVariants.{Long, Short}
 use Rattle.mt_slices.proofs.Order.{cmp_below}
 use Rattle.mt_rows.{specs.Rows.Bytes, proofs.CommandLaws.keys_exact}
-use Rattle.mt_border.specs.{declared.entry.Pair.Pair, declared.entry.Entry.Entry, Entry.{pair_of, order_of, order_at, IsEntry, IsRest}}
-use Rattle.mt_border.specs.{Entries.{orders, IsBorder, IsMissing}, Contents.{IsOfTree, HasKey, AreKeys}}
+use Rattle.mt_border.specs.{Held.Pair, declared.entry.Entry.Entry, Entry.{pair_of, order_of, order_at, IsEntry, IsRest}, Entries.{orders, IsBorder, IsMissing}}
+use Rattle.mt_border.specs.Contents.{IsOfTree, HasKey, AreKeys}
 use Rattle.mt_border.proofs.{Edits.any_entry, ContentsKeys.{is_mark_of, is_rest_of}}
 use Rattle.mt_readings.specs.Reading.{is_below, behind_by, is_behind, read_on, read, stop_on, stop, HasOther, IsRead, IsStopped, IsAtLink}
 

@@ -8,9 +8,8 @@ use Rattle.mt_slices.specs.{Keys.IsStoredKey, Marks.mark_rank, Slices.{slice_of,
 use Rattle.mt_slices.specs.declared.mark.Mark.TheVariants.{Long, Short}
 use Rattle.mt_slices.proofs.{Bytes.bytes-drop, Order.cmp_below, Padding.{slice_bytes, get_or-padded}, Rejoin.{mark_short, mark_long}}
 use Rattle.mt_rows.specs.Rows.{Bytes}
-use Rattle.mt_border.specs.{declared.entry.Pair.Pair, declared.entry.Entry.Entry, Entry.{pair_of, order_of, order_at, CanHold, IsEntry}}
-use Rattle.mt_border.specs.{declared.entry.Held.Held, declared.entry.Held.TheVariants.{Stable, Unstable, Link}, Entries.{IsBorder, slices}}
-use Rattle.mt_border.specs.Contents.{owned, IsOfTree, HasKey, AreKeys}
+use Rattle.mt_border.specs.{Held.{Pair, Held, Stable, Unstable, Link}, declared.entry.Entry.Entry, Entry.{pair_of, order_of, order_at, CanHold, IsEntry}}
+use Rattle.mt_border.specs.{Entries.{IsBorder, slices}, Contents.{owned, IsOfTree, HasKey, AreKeys}}
 use Rattle.mt_border.proofs.{Edits.any_entry, ContentsKeys.{is_mark_of, order_of_key}}
 use Rattle.mt_interior.specs.Fences.{end_of}
 use Rattle.mt_arena.specs.{declared.tree.Tree.Tree, NodeView.{NodeView, node_at}, Forests.tree_at, Layers.slot_at, Arena.IsArena, Contents.content}

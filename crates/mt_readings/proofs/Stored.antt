@@ -5,7 +5,7 @@ use Rattle.std.specs.{Prelude.{filter_map, if◌then◌else◌, cond}, List.{All
 use Rattle.std.specs.FinMap.{get, get-empty, get-insert}
 use Rattle.mt_slices.specs.Keys.{IsStoredKey}
 use Rattle.mt_rows.{specs.{Rows.{Bytes, Columns}, Tenants.owned_cmp}, proofs.ContentLaws.owned_total}
-use Rattle.mt_border.specs.{declared.entry.Pair.Pair, declared.entry.Entry.Entry, Entry.pair_of, Contents.{owned, key_at, pair_in, HasKey, AreKeys}}
+use Rattle.mt_border.specs.{Held.Pair, declared.entry.Entry.Entry, Entry.pair_of, Contents.{owned, key_at, pair_in, HasKey, AreKeys}}
 use Rattle.mt_border.proofs.ContentsKeys.{owned_at}
 use Rattle.mt_arena.specs.{declared.tree.Tree.Tree, NodeView.{NodeView, node_at, no_node}, Forests.{tree_at, layer_of, HaveKeys}}
 use Rattle.mt_arena.specs.{Contents.{counts, live_pairs, content}, Arena.IsArena}

@@ -4,7 +4,7 @@ use Rattle.std.specs.{Ordering.{nat_cmp, is_le, is_lt, ordering_then}, declared.
 use Rattle.std.specs.{Cmp.Lexicographic.slice_cmp, List.Contains}
 use Rattle.mt_slices.specs.{Marks.mark_rank, Slices.{slice_of, mark_of, suffix_of}, declared.mark.Mark.TheVariants.Long}
 use Rattle.mt_rows.specs.Rows.{Bytes}
-use Rattle.mt_border.specs.{declared.entry.Pair.Pair, declared.entry.Entry.Entry, Entry.{pair_of, order_of}, Contents.{HasKey, IsOfTree}}
+use Rattle.mt_border.specs.{Held.Pair, declared.entry.Entry.Entry, Entry.{pair_of, order_of}, Contents.{HasKey, IsOfTree}}
 
 -- whether a key is done with at a fence: it stands before the fence, or is the fence itself where a scan begins behind it
 abbrev pub is_below : Bytes → Bool → Bytes → Bool

@@ -3,7 +3,7 @@ use Rattle.std.specs.Prelude.{◌≡◌, ◌≢◌, ◌⊎◌, ℕ, ◌≤◌, �
 use Rattle.std.specs.List.{Contains}
 use Rattle.mt_slices.specs.{Keys.IsStoredKey, Slices.{slice_of, rest_of}}
 use Rattle.mt_rows.specs.{Rows.Bytes, Tenants.Contents}
-use Rattle.mt_border.specs.{declared.entry.Pair.Pair, declared.entry.Entry.Entry, Contents.{owned, HasKey, IsOfTree}}
+use Rattle.mt_border.specs.{Held.Pair, declared.entry.Entry.Entry, Contents.{owned, HasKey, IsOfTree}}
 use Rattle.mt_arena.specs.{declared.tree.Tree.Tree, declared.tree.Standing.TheVariants.Live, NodeView.{NodeView, node_at}, Forests.tree_at, Stands.IsLiveBorder}
 use Rattle.mt_readings.specs.Reading.{is_below}
 use Rattle.std.specs.FinMap as pairs

@@ -2,7 +2,7 @@
 use Rattle.std.specs.{Prelude.{◌≡◌, ◌⊎◌, ℕ, ◌==◌, if◌then◌else◌, Bool, true, false, List, Option, Some, None, filter_map}, List.Contains}
 use Rattle.mt_slices.specs.Keys.{IsStoredKey, stored_key, tenant_of, user_key_of}
 use Rattle.mt_rows.specs.{Rows.{Bytes, Columns}, Tenants.Contents}
-use Rattle.mt_border.specs.{declared.entry.Pair.Pair, declared.entry.Entry.Entry, Entry.pair_of, Contents.{owned, key_at, HasKey}}
+use Rattle.mt_border.specs.{Held.Pair, declared.entry.Entry.Entry, Entry.pair_of, Contents.{owned, key_at, HasKey}}
 use Rattle.mt_readings.specs.{Reading.is_below, Spans.HasPair}
 use Rattle.std.specs.FinMap as pairs
 

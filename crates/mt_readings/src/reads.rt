@@ -3,7 +3,7 @@
 ghost use Rattle.std.specs.{Prelude.{◌≡◌, ◌⊎◌, ◌≤◌, ◌<◌, ◌+◌, ◌*◌, ℕ, Bool, true, false, List, Some}, List.Contains};
 ghost use Rattle.mt_slices.specs.Slices.{slice_of, mark_of};
 ghost use Rattle.mt_rows.specs.Rows.{Bytes};
-ghost use Rattle.mt_border.specs.{declared.entry.Pair.Pair, declared.entry.Entry.Entry, Entry.{pair_of, order_of, order_at}, Entries.{IsBorder, IsMissing}};
+ghost use Rattle.mt_border.specs.{Held.Pair, declared.entry.Entry.Entry, Entry.{pair_of, order_of, order_at}, Entries.{IsBorder, IsMissing}};
 ghost use Rattle.mt_border.specs.Contents.{IsOfTree, HasKey, AreKeys};
 ghost use Rattle.mt_readings.specs.Reading.{is_below, is_behind, read, stop, HasOther, IsRead, IsStopped, IsAtLink};
 

@@ -6,7 +6,7 @@ ghost use Rattle.mt_readings.specs.Spans.{IsScanAt, TellsAll};
 ghost use Rattle.std.specs.FinMap as pairs;
 ghost use Rattle.mt_slices.specs.{Keys.{IsStoredKey, stored_key, tenant_of}, Fences.IsBehindAll};
 ghost use Rattle.mt_rows.specs.{Rows.{Bytes, Columns}, Tenants.{Contents, tenant_map}};
-ghost use Rattle.mt_border.specs.{declared.entry.Pair.Pair, declared.entry.Entry.Entry, Contents.{HasKey, owned}, Entries.IsBorder};
+ghost use Rattle.mt_border.specs.{Held.Pair, declared.entry.Entry.Entry, Contents.{HasKey, owned}, Entries.IsBorder};
 ghost use Rattle.mt_interior.specs.Fences.{end_of};
 ghost use Rattle.mt_readings.specs.{Reading.{is_below, is_behind, read, stop}, Tenancies.{own_pairs, passed_at, HasStoredKeys, TellsTenant}};
 ghost use Rattle.mt_walks.specs.Walked.{IsStretch};

@@ -5,7 +5,7 @@ ghost use Rattle.mt_arena.specs.Accesses.{at};
 ghost use Rattle.mt_descent.specs.{Pasts.{Past, AreStamped}, KeptWalks.{IsKept, IsAtLoad}, WalkMoves.{IsBlockedAt, Continues, after_load, Loads}};
 
 use mt_arena::Arena;
-use mt_border::Held;
+use mt_border::HeldRef;
 use mt_operation::{Phase, Taken, Walk};
 use mt_rows::Row;
 use mt_slices::StoredKey;
@@ -37,22 +37,24 @@ fn taken_at<'a>(arena: &'a Arena, walk: &mut Walk) -> Result<Option<&'a Row>, us
 {
     arena.facts();
     let row = match arena.border(walk.place.node).load(walk.slot) {
-        Some(Held::Stable(pair)) => {
-            take(walk, Taken::Row, walk.first.max(pair.stamp));
-            Some(&pair.row)
-        }
-        Some(Held::Link(tree)) => {
-            take(walk, Taken::Link(*tree), walk.right_at);
-            None
-        }
+        Some(held) => match held.seen() {
+            HeldRef::Stable(pair) => {
+                take(walk, Taken::Row, walk.first.max(pair.stamp));
+                Some(&pair.row)
+            }
+            HeldRef::Link(tree) => {
+                take(walk, Taken::Link(tree), walk.right_at);
+                None
+            }
+            HeldRef::Unstable(_) => match arena.node(walk.place.node).holder() {
+                Some(holder) => return Err(holder),
+                None => unreachable!(),
+            },
+        },
         None => {
             take(walk, Taken::Nothing, walk.right_at);
             None
         }
-        Some(Held::Unstable(_, _)) => match arena.node(walk.place.node).holder() {
-            Some(holder) => return Err(holder),
-            None => unreachable!(),
-        },
     };
     Ok(row)
 }
