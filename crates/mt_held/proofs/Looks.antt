@@ -1,9 +1,9 @@
 -- What an operation finds in the border node that it holds, and that it holds it.
 use Rattle.std.{proofs.Common.{◌≡◌, ℕ, Bool, true, false, List, Option, refl, sym, ap, subst, ◌∙◌}, specs.Prelude.{if◌then◌else◌}}
 use Rattle.mt_rows.specs.Rows.{Bytes}
-use Rattle.mt_border.specs.{declared.entry.Entry.Entry, declared.entry.Held.Held, declared.entry.Held.TheVariants.{Stable, Unstable, Link}}
-use Rattle.mt_border.specs.{declared.entry.FoundKind.TheVariants.{Link as ToTree}, Entry.IsLink, Node.{Node as BorderNode, entry_at}}
-use Rattle.mt_arena.specs.{NodeView.NodeView, Layers.slot_at, Arena.ArenaView, Accesses.at, Settled.IsSettled}
+use Rattle.mt_border.specs.{declared.entry.Entry.Entry, Held.Held, Held.{Stable, Unstable, Link}}
+use Rattle.mt_border.specs.{declared.entry.FoundKind.FoundKind, declared.entry.FoundKind.TheVariants.{Link as ToTree}, Entry.IsLink, Node.{Node as BorderNode, IsLive, entry_at}}
+use Rattle.mt_arena.specs.{NodeView.{NodeView, place_at, border_view}, Layers.slot_at, Arena.ArenaView, Accesses.at, Settled.IsSettled}
 use Rattle.mt_operation.specs.{declared.phase.Phase.Phase, declared.walk.Walk.Walk, declared.task.Task.Task, declared.phase.Phase.TheVariants.{Forward, Judge}}
 use Rattle.mt_version.specs.Parts.{Parts}
 use Rattle.mt_descent.specs.{Seen.IsOutdated, KeptWalks.{IsAtJudge, IsInSlot}, WalkMoves.{Locks, after_change, walk_anew}}
@@ -16,14 +16,17 @@ linked_tree (Unstable pair tree) link = absurd link
 linked_tree (Link tree) link = (tree, refl)
 
 -- what a border node's slot holds, where its view has a link there
-pub link_there : (n : NodeView) (b : BorderNode) (slot : ℕ) (key : Bytes) (layer : ℕ) → n.slots ≡ b.slots → IsInSlot n slot key layer ToTree
-    → (tree : ℕ) × ((entry_at b slot).held ≡ Link tree)
-link_there n b slot key layer same f =
-    linked_tree (entry_at b slot).held (subst (λ (s : List Entry). IsLink (slot_at (record n { slots = s }) slot).held) same f.kind_is.1)
+module _ (n : NodeView) (b : BorderNode) (tree level : ℕ) (reach holder : Option ℕ) (slot : ℕ) (same : n ≡ border_view b tree level reach holder) where
+  pub link_there : (key : Bytes) (layer : ℕ) → IsInSlot n slot key layer ToTree → (u : ℕ) × ((entry_at b slot).held ≡ Link u)
+  link_there key layer f = linked_tree (entry_at b slot).held (subst (λ (m : NodeView). IsInSlot m slot key layer ToTree) same f).kind_is.1
 
--- and the tree that the slot leads to is that of its view
-pub leads_there : (n : NodeView) (b : BorderNode) (slot tree : ℕ) → n.slots ≡ b.slots → (entry_at b slot).held ≡ Link tree → (slot_at n slot).held ≡ Link tree
-leads_there n b slot tree same is = ap (λ (s : List Entry). (slot_at (record n { slots = s }) slot).held) same ∙ is
+  -- it is live there
+  pub live_there : (key : Bytes) (layer : ℕ) (kind : FoundKind) → IsInSlot n slot key layer kind → IsLive b slot
+  live_there key layer kind f = (subst (λ (m : NodeView). IsInSlot m slot key layer kind) same f).in_range
+
+  -- and the tree that the slot leads to is that of its view
+  pub leads_there : (u : ℕ) → (entry_at b slot).held ≡ Link u → (slot_at n (place_at n slot)).held ≡ Link u
+  leads_there u is = subst (λ (m : NodeView). (slot_at m (place_at m slot)).held ≡ Link u) (sym same) is
 
 -- the walk's phase says nothing of the node that it holds
 pub holds_on : (v : ArenaView) (op : ℕ) (task : Task) (w : Walk) (phase : Phase) (slot : ℕ) → HoldsBorder v op task.key w

@@ -2,6 +2,7 @@
 use Rattle.std.proofs.Common.{◌≡◌, ◌≢◌, ℕ, ◌<◌, List, length, Some, refl, sym, ap, subst, ◌∙◌, arith}
 use Rattle.mt_slices.specs.Slices.{slice_of, mark_of, suffix_of}
 use Rattle.mt_rows.specs.Rows.{Bytes}
+use Rattle.mt_order.specs.Places.{Places}
 use Rattle.mt_border.specs.{declared.entry.Entry.Entry, declared.entry.FoundKind.FoundKind, Entry.IsKind, Contents.IsOfTree}
 use Rattle.mt_arena.specs.{declared.tree.Tree.Tree, declared.tree.Standing.Standing, declared.tree.Standing.TheVariants.{Made, Live, Dead}, NodeView.NodeView}
 use Rattle.mt_arena.specs.{Forests.tree_at, Layers.slot_at, Settled.IsSettled, Arena.{ArenaView, Guarantee}, Accesses.{at, IsOpen, IsHeld}}
@@ -11,15 +12,13 @@ use Rattle.mt_operation.specs.declared.walk.Walk.{Walk}
 use Rattle.mt_descent.{specs.KeptWalks.{IsInSlot, GoesThrough}, proofs.Rely.judge_stays}
 use Rattle.mt_held.specs.Holds.{HoldsBorder, IsAtUnlock, MayReturn}
 
--- a slot stays while the slots do
-pub in_slot_stays : (n m : NodeView) (slot : ℕ) (key : Bytes) (layer : ℕ) (kind : FoundKind) → n.slots ≡ m.slots → IsInSlot n slot key layer kind
+-- a slot stays while the slots and their order do
+pub in_slot_stays : (n m : NodeView) (slot : ℕ) (key : Bytes) (layer : ℕ) (kind : FoundKind) → n.slots ≡ m.slots → n.order ≡ m.order → IsInSlot n slot key layer kind
     → IsInSlot m slot key layer kind
-in_slot_stays n m slot key layer kind same h = record {
-  in_range = subst (λ (s : List Entry). slot < length s) same h.in_range;
-  slice_is = subst (λ (s : List Entry). (slot_at (record n { slots = s }) slot).slice ≡ slice_of key layer) same h.slice_is;
-  mark_is = subst (λ (s : List Entry). (slot_at (record n { slots = s }) slot).mark ≡ mark_of key layer) same h.mark_is;
-  kind_is = subst (λ (s : List Entry). IsKind (slot_at (record n { slots = s }) slot) (suffix_of key layer) kind) same h.kind_is;
-}
+in_slot_stays n m slot key layer kind slots order h =
+    let other = subst (λ (o : Places). IsInSlot (record n { order = o }) slot key layer kind) order h in
+    let same = subst (λ (s : List Entry). IsInSlot (record n { slots = s; order = m.order }) slot key layer kind) slots (record { in_range = other.in_range; slice_is = other.slice_is; mark_is = other.mark_is; kind_is = other.kind_is }) in
+    record { in_range = same.in_range; slice_is = same.slice_is; mark_is = same.mark_is; kind_is = same.kind_is }
 
 -- a tree that no other operation is making, none but this one comes to make
 pub open_stays : (op o : ℕ) (tree after : Tree) → TreeChanges op tree after → o ≢ op → ((q : ℕ) → tree.standing ≡ Made q → q ≡ o) → (s : Standing)
@@ -49,6 +48,10 @@ module _ (op o : ℕ) (old new : ArenaView) (g : Guarantee op old new) (other : 
   -- the slots of the node stay
   pub same_slots : (key : Bytes) (w : Walk) → HoldsBorder old o key w → (at old w.place.node).slots ≡ (at new w.place.node).slots
   same_slots key w h = sym ((g.nodes.nodes w.place.node h.judged.held.there).held o other h.judged.held.holder).slots
+
+  -- and so does their order
+  pub same_order : (key : Bytes) (w : Walk) → HoldsBorder old o key w → (at old w.place.node).order ≡ (at new w.place.node).order
+  same_order key w h = sym ((g.nodes.nodes w.place.node h.judged.held.there).held o other h.judged.held.holder).order
 
   -- the tree of a node is there
   pub tree_there_stays : (k : ℕ) → k < length old.nodes → (at old k).tree < length old.trees → (at new k).tree < length new.trees

@@ -1,11 +1,11 @@
 -- The lock of the border node is given back: the operation is done, or goes on in a tree of the next layer.
 use Rattle.mt_held.specs.Moves.{given_back, walk_done}
 use Rattle.std.specs.Prelude.{ℕ, ◌+◌, ◌≡◌}
-use Rattle.mt_arena.specs.{Arena.ArenaView, Accesses.at, Layers.slot_at}
+use Rattle.mt_arena.specs.{NodeView.place_at, Arena.ArenaView, Accesses.at, Layers.slot_at}
 use Rattle.mt_operation.specs.declared.walk.Walk.{Walk}
 use Rattle.mt_descent.specs.{KeptWalks.{IsAtEnter, IsInSlot}, WalkMoves.{KeepsPairs, walk_into}}
 use Rattle.mt_rows.specs.Rows.{Bytes}
-use Rattle.mt_border.specs.declared.entry.Held.TheVariants.{Link}
+use Rattle.mt_border.specs.Held.{Link}
 use Rattle.mt_border.specs.declared.entry.FoundKind.TheVariants as kinds
 
 -- the lock of the border node was given back
@@ -25,6 +25,6 @@ pub record MeetsLink (op : ℕ) (key : Bytes) (old new : ArenaView) (before afte
   pub slot : ℕ
   pub in_slot : IsInSlot (at old before.place.node) slot key before.layer kinds.Link
   pub tree : ℕ
-  pub leads : (slot_at (at old before.place.node) slot).held ≡ Link tree
+  pub leads : (slot_at (at old before.place.node) (place_at (at old before.place.node) slot)).held ≡ Link tree
   pub goes : GoesInto op tree old new before after
   pub kept : IsAtEnter new key after

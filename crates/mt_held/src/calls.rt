@@ -2,7 +2,7 @@
 
 ghost use Rattle.std.specs.Prelude.{◌≡◌, ◌<◌, ℕ};
 ghost use Rattle.mt_version.specs.Changes.{CanUnlock};
-ghost use Rattle.mt_border.specs.Node.{IsLive, entry_at};
+ghost use Rattle.mt_border.specs.{Held.Link, Node.{IsLive, entry_at}};
 ghost use Rattle.mt_tape.specs.Tapes.{last_write};
 ghost use Rattle.mt_arena.specs.Accesses.{at};
 ghost use Rattle.mt_descent.specs.{KeptWalks.IsAtBorder, WalkMoves.FindsIn};
@@ -10,7 +10,7 @@ ghost use Rattle.mt_held.specs.{Holds.IsAtUnlock, Taping.pushed, Unlock.{IsUnloc
 
 use mt_arena::Arena;
 use mt_border::laws::suffix_fits_mark;
-use mt_border::{Border, Find, Held};
+use mt_border::{Border, Find, Held, HeldRef};
 use mt_operation::{Phase, Walk};
 use mt_slices::StoredKey;
 use mt_tape::{Entry, Tape};
@@ -32,11 +32,11 @@ pub fn find_here(arena: &Arena, key: &StoredKey, walk: &Walk) -> Find
 /// The tree to which a slot leads, which is a link.
 pub fn tree_at(border: &Border, slot: usize) -> usize
     requires live { IsLive border.now slot }
-    requires link { (tree : ℕ) × ((entry_at border.now slot).held ≡ Held.Link tree) }
-    ensures { (entry_at border.now slot).held ≡ Held.Link result }
+    requires link { (tree : ℕ) × ((entry_at border.now slot).held ≡ Link tree) }
+    ensures { (entry_at border.now slot).held ≡ Link result }
 {
-    match border.load(slot) {
-        Some(Held::Link(tree)) => *tree,
+    match border.load(slot).map(Held::seen) {
+        Some(HeldRef::Link(tree)) => tree,
         _ => unreachable!(),
     }
 }
