@@ -5,7 +5,7 @@ use Rattle.std.proofs.{lemmas.List.Elements.{All-tail, filter_map-append}, Math.
 use Rattle.std.specs.{Prelude.{if◌then◌else◌}, Int.{w32, w64, to_be_bytes, from_be_bytes}, List.All}
 use Rattle.mt_slices.specs.Keys.{tenant_of, user_key_of}
 use Rattle.mt_rows.specs.Rows.{Bytes, Columns}
-use Rattle.mt_border.specs.{declared.entry.Pair.Pair, declared.entry.Entry.Entry, Entry.pair_of, Contents.key_at}
+use Rattle.mt_border.specs.{Held.Pair, declared.entry.Entry.Entry, Entry.pair_of, Contents.key_at}
 use Rattle.mt_readings.specs.{Reading.{read_on, read, stop_on, stop}, Tenancies.{own_pair, own_pairs}}
 use Rattle.mt_scan.specs.Looks.{NamesTenant}
 

@@ -8,7 +8,7 @@ use Rattle.mt_slices.specs.{declared.mark.Mark.Mark, declared.mark.Mark.TheVaria
 use Rattle.mt_slices.specs.{Slices.{rest_of, slice_at, slice_of, mark_at, mark_of, suffix_of, piece_bytes}, Fences.least_from}
 use Rattle.mt_slices.proofs.{Bytes.{AreBytes, bytes-drop}, Numbers.{number_lt, slice_at-number}}
 use Rattle.mt_rows.specs.Rows.{Bytes, Columns}
-use Rattle.mt_border.specs.{declared.entry.Pair.Pair, declared.entry.Entry.Entry, declared.entry.Held.Held, Entry.pair_of}
+use Rattle.mt_border.specs.{Held.Pair, declared.entry.Entry.Entry, Held.Held, Entry.pair_of}
 use Rattle.mt_border.proofs.{Edits.any_entry, ContentsKeys.is_mark_of}
 use Rattle.mt_arena.specs.{NodeFacts.IsUnstable, NodeView.NodeView, Layers.{slot_at, LeadsTo}, Nodes.{IsNode, HasRange}, Forests.{HaveKeys, tree_at, layer_of}}
 use Rattle.mt_arena.specs.{Arena.{ArenaView, IsArena}, Accesses.at}
@@ -22,7 +22,7 @@ use Rattle.mt_scan.specs.Looks.{behind_at, unstable_on, has_unstable, TellsLink,
 use Rattle.mt_scan.specs.Hops.{KnowsLink, LeadsBelow, LeadsNext, KnowsEnd, IsAtCheck}
 use Rattle.mt_scan.proofs.{Hopping.sees_next, NextKeys.next_key_fits, Seeing.tenant_first}
 use Rattle.mt_version.proofs.CallerLemmas as versions
-use Rattle.mt_border.specs.declared.entry.Held.TheVariants as helds
+use Rattle.mt_border.specs.Held as helds
 use Rattle.mt_operation.specs.declared.scan.Stop.TheVariants as stops
 
 module _ (behind : Entry → Bool) where

@@ -3,12 +3,12 @@ use Rattle.std.specs.Prelude.{◌≡◌, ◌≢◌, ℕ, ◌≤◌, Bool, true, 
 use Rattle.std.specs.Ordering.{nat_cmp, ordering_then}
 use Rattle.mt_slices.specs.{declared.mark.Mark.Mark, Marks.{IsMark, mark_rank}, Slices.piece_bytes, Keys.tenant_of}
 use Rattle.mt_rows.specs.Rows.{Bytes}
-use Rattle.mt_border.specs.{declared.entry.Entry.Entry, declared.entry.Held.Held, Entry.pair_of}
+use Rattle.mt_border.specs.{declared.entry.Entry.Entry, Held.Held, Entry.pair_of}
 use Rattle.mt_interior.specs.Fences.{end_of}
 use Rattle.mt_operation.specs.declared.scan.Stop.{Stop}
 use Rattle.mt_readings.specs.Reading.{behind_by}
 use Rattle.mt_scan.specs.Snaps.{IsOver}
-use Rattle.mt_border.specs.declared.entry.Held.TheVariants as helds
+use Rattle.mt_border.specs.Held as helds
 use Rattle.mt_operation.specs.declared.scan.Stop.TheVariants as stops
 
 -- which entries a fence with this slice, mark and suffix is behind

@@ -2,12 +2,12 @@
 use Rattle.std.specs.{Prelude.{◌≡◌, ◌≢◌, ℕ, ◌+◌, ◌*◌, ◌≤◌, Bool, List, Option, Some, None}, List.Contains}
 use Rattle.mt_slices.specs.Keys.{tenant_of}
 use Rattle.mt_rows.specs.Rows.{Bytes}
-use Rattle.mt_border.specs.{declared.entry.Pair.Pair, declared.entry.Entry.Entry}
+use Rattle.mt_border.specs.{Held.Pair, declared.entry.Entry.Entry}
 use Rattle.mt_interior.specs.Fences.{end_of}
 use Rattle.mt_arena.specs.{NodeView.NodeView, NodeFacts.IsUnstable, Forests.tree_at, Arena.ArenaView, Accesses.at}
 use Rattle.mt_operation.specs.{declared.phase.Phase.TheVariants.Check, declared.walk.Walk.Walk, declared.scan.Stop.Stop, Operations.ScanView}
 use Rattle.mt_readings.specs.{Reading.{is_behind, read, stop}, Tenancies.own_pairs}
-use Rattle.mt_border.specs.declared.entry.Held.TheVariants as helds
+use Rattle.mt_border.specs.Held as helds
 use Rattle.mt_operation.specs.declared.scan.Stop.TheVariants as stops
 
 -- which entries of a layer a scan is done with

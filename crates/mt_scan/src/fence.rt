@@ -5,7 +5,7 @@ ghost use Rattle.mt_slices.specs.{Marks.mark_rank, Slices.{HasLayer, slice_of, m
 ghost use Rattle.mt_border.specs.Rows.{entry_seen};
 ghost use Rattle.mt_scan.specs.Looks.{behind_at};
 
-use mt_border::{EntryRef, Held};
+use mt_border::{EntryRef, HeldRef};
 use mt_slices::{Mark, StoredKey};
 use std::cmp::Ordering;
 
@@ -48,9 +48,9 @@ impl<'a> Fence<'a> {
         if own != reached {
             return own < reached;
         }
-        match entry.held {
-            Held::Link(_) => false,
-            Held::Stable(pair) | Held::Unstable(pair, _) => {
+        match entry.held.seen() {
+            HeldRef::Link(_) => false,
+            HeldRef::Stable(pair) | HeldRef::Unstable(pair) => {
                 match pair.suffix.as_bytes().cmp(self.suffix) {
                     Ordering::Less => true,
                     Ordering::Equal => self.after,

@@ -5,7 +5,7 @@ ghost use Rattle.mt_version.specs.Changes.{IsStable};
 ghost use Rattle.mt_slices.specs.{Keys.tenant_of, Slices.slice_of};
 ghost use Rattle.mt_rows.specs.Rows.{Bytes, Columns};
 ghost use Rattle.mt_arena.specs.{Arena.{ArenaView, IsArena}, Accesses.at, Guarantee.NodesGuarantee, NodeFacts.IsUnstable};
-ghost use Rattle.mt_border.specs.{declared.entry.Entry.Entry, declared.entry.Pair.Pair};
+ghost use Rattle.mt_border.specs.{declared.entry.Entry.Entry, Held.Pair};
 ghost use Rattle.mt_operation.specs.declared.scan.Stop.{Stop};
 ghost use Rattle.mt_operation.specs.declared.scan.Stop.TheVariants as stops;
 ghost use Rattle.mt_operation.specs.{declared.walk.Walk.Walk, Operations.ScanView};

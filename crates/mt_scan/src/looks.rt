@@ -2,28 +2,28 @@
 
 ghost use Rattle.std.specs.{Prelude.{◌≡◌, ◌≤◌, ◌/◌, ◌++◌, ◌∷◌, ℕ, [], take, IsTrue, ◌↔◌, Some, OnOk, IfOk, IfErr}, Int.{w64, to_be_bytes}, List.All};
 ghost use Rattle.mt_slices.specs.{Marks.IsMark, Slices.piece_bytes};
-ghost use Rattle.mt_border.specs.{Entry.pair_of, Rows.entry_seen};
+ghost use Rattle.mt_border.specs.{Held.Link, HeldParts.pair_in_parts, Entry.pair_of, Node.entries_of, Rows.entry_seen};
 ghost use Rattle.mt_readings.specs.{Reading.{read, stop}, Tenancies.own_pairs};
 ghost use Rattle.mt_scan.specs.{Snaps.IsOver, Looks.{behind_at, has_unstable, TellsLink, NamesTenant, IsOfTenant, EndsAt}};
 
 use crate::fence::Fence;
-use mt_border::{Border, EntryRef, Held, Pair};
+use mt_border::{Border, EntryRef, Held, HeldRef, PairParts};
 use mt_operation::{Seen, Stop};
 use mt_slices::Mark;
 use std::alloc::AllocError;
 
 /// Whether an unstable slot stands among the entries from the fence on, up to the first link.
 pub(crate) fn has_unstable(border: &Border, fence: Fence<'_>) -> bool
-    ensures { result ≡ has_unstable (behind_at fence.entry.slice fence.entry.mark fence.entry.suffix.now fence.entry.after) border.now.slots }
+    ensures { result ≡ has_unstable (behind_at fence.entry.slice fence.entry.mark fence.entry.suffix.now fence.entry.after) (entries_of border.now) }
 {
     for entry in border.entries() {
         if fence.is_past(entry) {
             continue;
         }
-        match entry.held {
-            Held::Stable(_) => {}
-            Held::Unstable(_, _) => return true,
-            Held::Link(_) => return false,
+        match entry.held.seen() {
+            HeldRef::Stable(_) => {}
+            HeldRef::Unstable(_) => return true,
+            HeldRef::Link(_) => return false,
         }
     }
     false
@@ -38,12 +38,12 @@ pub(crate) fn see(
     fence: Fence<'_>,
     seen: &mut Seen,
 ) -> Result<Option<(u64, usize)>, AllocError>
-    requires names { All (NamesTenant prefix.now) border.now.slots }
+    requires names { All (NamesTenant prefix.now) (entries_of border.now) }
     requires tenant { IsOfTenant prefix.now tenant }
     ensures seen { OnOk result (seen.new ≡ seen.old ++ own_pairs tenant prefix.now
-        (read (behind_at fence.entry.slice fence.entry.mark fence.entry.suffix.now fence.entry.after) border.now.slots)) }
+        (read (behind_at fence.entry.slice fence.entry.mark fence.entry.suffix.now fence.entry.after) (entries_of border.now))) }
     ensures link { IfOk result (TellsLink
-        (stop (behind_at fence.entry.slice fence.entry.mark fence.entry.suffix.now fence.entry.after) border.now.slots)) }
+        (stop (behind_at fence.entry.slice fence.entry.mark fence.entry.suffix.now fence.entry.after) (entries_of border.now))) }
 {
     for entry in border.entries() {
         if fence.is_past(entry) {
@@ -58,13 +58,13 @@ pub(crate) fn see(
 }
 
 // The pair that an entry counts as, or the number of the tree to which it links.
-fn pair_or_tree(held: &Held) -> Result<&Pair, usize>
-    ensures pair { IfOk result (λ pair. pair_of held.now ≡ Some pair.now) }
-    ensures tree { IfErr result (λ tree. held.now ≡ Held.Link tree) }
+fn pair_or_tree(held: &Held) -> Result<&PairParts, usize>
+    ensures pair { IfOk result (λ pair. pair_of held.now ≡ Some (pair_in_parts pair.now)) }
+    ensures tree { IfErr result (λ tree. held.now ≡ Link tree) }
 {
-    match held {
-        Held::Stable(pair) | Held::Unstable(pair, _) => Ok(pair),
-        Held::Link(tree) => Err(*tree),
+    match held.seen() {
+        HeldRef::Stable(pair) | HeldRef::Unstable(pair) => Ok(pair),
+        HeldRef::Link(tree) => Err(tree),
     }
 }
 
@@ -73,12 +73,12 @@ fn see_pair(
     prefix: &[u8],
     tenant: u32,
     entry: EntryRef<'_>,
-    pair: &Pair,
+    pair: &PairParts,
     seen: &mut Seen,
 ) -> Result<(), AllocError>
     requires names { NamesTenant prefix.now (entry_seen entry) }
     requires tenant { IsOfTenant prefix.now tenant }
-    ensures { OnOk result (seen.new ≡ seen.old ++ own_pairs tenant prefix.now ((entry_seen entry.entry, pair.now) ∷ [])) }
+    ensures { OnOk result (seen.new ≡ seen.old ++ own_pairs tenant prefix.now ((entry_seen entry.entry, pair_in_parts pair.now) ∷ [])) }
 {
     let own = entry.slice.to_be_bytes();
     let piece = &own[..bytes_of(entry.mark)];
