@@ -93,6 +93,13 @@ impl Pair {
         &self.parts
     }
 
+    /// Its row. The block and the suffix are gone.
+    pub fn into_row(self) -> Row
+        ensures { result ≡ self.row }
+    {
+        Box::into_inner(self.parts).row
+    }
+
     /// Writes another stamp.
     pub fn set_stamp(&mut self, stamp: u64)
         ensures { self.new ≡ record self.old { stamp = stamp } }

@@ -61,6 +61,10 @@ pub record IsInSlot (n : NodeView) (slot : ℕ) (key : Bytes) (layer : ℕ) (kin
   pub mark_is : (slot_at n (place_at n slot)).mark ≡ mark_of key layer
   pub kind_is : IsKind (slot_at n (place_at n slot)) (suffix_of key layer) kind
 
+-- where a walk's slot stands
+abbrev pub walk_place : ArenaView → Walk → ℕ
+walk_place v w = place_at (at v w.place.node) w.slot
+
 -- the slot has the key, or a link that took it in
 pub record HasSlot (n : NodeView) (slot : ℕ) (key : Bytes) (layer : ℕ) : Type 0 where
   pub kind : FoundKind

@@ -3,20 +3,20 @@ use Rattle.std.proofs.Common.{◌≡◌, ℕ, ◌==◌, ◌<◌, ◌≤◌, List
 use Rattle.std.proofs.lemmas.Bool.{cond_both, eqb-true, eqb-false}
 use Rattle.std.specs.{Prelude.IsSomeAnd, Option.option_map}
 use Rattle.mt_slices.specs.Slices.{suffix_of}
-use Rattle.mt_border.specs.{declared.entry.Entry.Entry, declared.entry.Pair.Pair, declared.entry.Held.Held}
-use Rattle.mt_border.specs.{declared.entry.Held.TheVariants.{Stable, Unstable, Link}, Entry.pair_of, Node.{Node as BorderNode, entry_at}}
+use Rattle.mt_border.specs.{declared.entry.Entry.Entry, Held.Pair, Held.Held}
+use Rattle.mt_border.specs.{Held.{Stable, Unstable, Link}, Entry.pair_of, Node.{Node as BorderNode, entry_at}}
 use Rattle.mt_border.proofs.Edits.{any_entry}
-use Rattle.mt_arena.specs.{declared.tree.Tree.Tree, NodeView.{NodeView, node_at}, NodeFacts.IsUnstable, Layers.slot_at, Arena.{ArenaView, IsArena}, Accesses.at}
+use Rattle.mt_arena.specs.{declared.tree.Tree.Tree, NodeView.{NodeView, node_at, place_at, border_view}, NodeFacts.IsUnstable, Layers.slot_at, Arena.{ArenaView, IsArena}, Accesses.at}
 use Rattle.mt_operation.specs.{declared.phase.Phase.Phase, declared.walk.Walk.Walk, declared.task.Task.Task, declared.prepared.Prepared.Prepared}
 use Rattle.mt_operation.specs.declared.phase.Phase.TheVariants.{Store, Publish, SplitStart}
 use Rattle.mt_held.{proofs.Looks.holds_on, specs.Holds.HoldsBorder}
 use Rattle.mt_insert.specs.{Puts.IsReady, KeptPuts.KeptReady, Judge.{StandsIn, ReadyFor, after_judge}}
 
 -- what is made ready over the row of a border node's slot is so over that of its view
-pub ready_over : (n : NodeView) (b : BorderNode) (task : Task) (layer slot : ℕ) (prepared : Prepared) → n.slots ≡ b.slots
+pub ready_over : (n : NodeView) (b : BorderNode) (tree level : ℕ) (reach holder : Option ℕ) (task : Task) (layer slot : ℕ) (prepared : Prepared) → n ≡ border_view b tree level reach holder
     → IsReady task (option_map (λ (p : Pair). p.row) (pair_of (entry_at b slot).held)) prepared → ReadyFor n task layer (Some slot) prepared
-ready_over n b task layer slot prepared same h pair is =
-    subst (λ (o : Option Pair). IsReady task (option_map (λ (p : Pair). p.row) o) prepared) (ap (λ (s : List Entry). pair_of (slot_at (record n { slots = s }) slot).held) (sym same) ∙ is) h
+ready_over n b tree level reach holder task layer slot prepared same h pair is =
+    subst (λ (o : Option Pair). IsReady task (option_map (λ (p : Pair). p.row) o) prepared) (ap (λ (m : NodeView). pair_of (slot_at m (place_at m slot)).held) (sym same) ∙ is) h
 
 -- a pair that is not unstable is stable
 pub stable_pair : (held : Held) (P : Pair → Type 0) → ¬ IsUnstable held → IsSomeAnd (pair_of held) P → (pair : Pair) × (held ≡ Stable pair)
@@ -35,7 +35,7 @@ pub kept_ready : (v : ArenaView) (op : ℕ) (task : Task) (prepared : Prepared) 
     → KeptReady (after_judge (at v w.place.node) slot w).phase v op task prepared (after_judge (at v w.place.node) slot w)
 kept_ready v op task prepared w (Some slot) h within stands ready =
     let n = at v w.place.node in
-    let found = stable_pair (slot_at n slot).held (λ pair. pair.suffix ≡ suffix_of task.key w.layer) (h.settled.stable slot any_entry stands.in_range) stands.kind_is in
+    let found = stable_pair (slot_at n (place_at n slot)).held (λ pair. pair.suffix ≡ suffix_of task.key w.layer) (h.settled.stable (place_at n slot) any_entry stands.in_range) stands.kind_is in
     record {
       holds = holds_on v op task w Store slot h;
       in_slot = stands;

@@ -1,11 +1,12 @@
 -- What a put keeps that holds its border node stays under each step of another operation, by what that step leaves to others: for the laws.
 use Rattle.std.proofs.Common.{◌≡◌, ◌≢◌, ℕ, ◌<◌, List, length, subst}
 use Rattle.mt_slices.specs.Slices.{slice_of, mark_of}
-use Rattle.mt_border.specs.{declared.entry.Entry.Entry, declared.entry.FoundKind.TheVariants.ThisKey, declared.entry.Held.TheVariants.Stable, Entries.IsMissing}
-use Rattle.mt_arena.specs.{Layers.slot_at, Arena.{ArenaView, Guarantee}, Accesses.at}
+use Rattle.mt_border.specs.{declared.entry.Entry.Entry, declared.entry.FoundKind.TheVariants.ThisKey, Held.Stable, Entries.IsMissing}
+use Rattle.mt_order.specs.Places.{Places, place_of_slot}
+use Rattle.mt_arena.specs.{NodeView.place_at, Layers.slot_at, Arena.{ArenaView, Guarantee}, Accesses.at}
 use Rattle.mt_operation.specs.{declared.phase.Phase.Phase, declared.phase.Phase.TheVariants.{Store, Publish, SplitStart}, declared.walk.Walk.Walk}
 use Rattle.mt_operation.specs.{declared.task.Task.Task, declared.prepared.Prepared.Prepared}
-use Rattle.mt_held.proofs.Rely.{held, in_slot_stays, same_slots}
+use Rattle.mt_held.proofs.Rely.{held, in_slot_stays, same_slots, same_order}
 use Rattle.mt_insert.specs.KeptPuts.{IsAtStore, IsAtPublish, IsAtSplitStart, KeptReady}
 
 module _ (op o : ℕ) (old new : ArenaView) (g : Guarantee op old new) (other : o ≢ op) where
@@ -14,11 +15,14 @@ module _ (op o : ℕ) (old new : ArenaView) (g : Guarantee op old new) (other : 
   store task prepared w h =
       let n = at old w.place.node in
       let same = same_slots op o old new g other task.key w h.holds in
+      let order = same_order op o old new g other task.key w h.holds in
       record {
         holds = held op o old new g other task.key w h.holds;
-        in_slot = in_slot_stays n (at new w.place.node) w.slot task.key w.layer ThisKey same h.in_slot;
+        in_slot = in_slot_stays n (at new w.place.node) w.slot task.key w.layer ThisKey same order h.in_slot;
         pair = h.pair;
-        stable = subst (λ (s : List Entry). (slot_at (record n { slots = s }) w.slot).held ≡ Stable h.pair) same h.stable;
+        stable =
+            subst (λ (s : List Entry). (slot_at (record n { slots = s }) (place_at (at new w.place.node) w.slot)).held ≡ Stable h.pair) same
+            (subst (λ (p : Places). (slot_at n (place_of_slot p.live w.slot)).held ≡ Stable h.pair) order h.stable);
         ready = h.ready;
       }
 

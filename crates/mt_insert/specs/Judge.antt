@@ -2,9 +2,9 @@
 use Rattle.std.specs.Prelude.{None, Option, Some, if◌then◌else◌, length, ℕ, ◌==◌, ◌≡◌, ◌⊎◌}
 use Rattle.mt_slices.specs.Slices.{mark_of, slice_of, suffix_of}
 use Rattle.mt_rows.specs.Rows.{Bytes}
-use Rattle.mt_border.specs.{Entries.IsMissing, declared.entry.Pair.Pair, declared.entry.FoundKind.TheVariants.ThisKey, Entry.pair_of}
+use Rattle.mt_border.specs.{Entries.IsMissing, Held.Pair, declared.entry.FoundKind.TheVariants.ThisKey, Entry.pair_of}
 use Rattle.mt_tape.specs.Tapes.{Kept}
-use Rattle.mt_arena.specs.{Arena.ArenaView, NodeView.NodeView, Accesses.at, Layers.slot_at}
+use Rattle.mt_arena.specs.{Arena.ArenaView, NodeView.{NodeView, place_at}, Accesses.at, Layers.slot_at}
 use Rattle.mt_operation.specs.{declared.phase.Phase.TheVariants.{MakeLayer, Publish, SplitStart, Store}, declared.phase.Phase.Phase}
 use Rattle.mt_operation.specs.{declared.prepared.Prepared.Prepared, declared.task.Task.Task, declared.walk.Walk.Walk}
 use Rattle.mt_descent.specs.{KeptWalks.IsInSlot, WalkMoves.KeepsPairs}
@@ -20,7 +20,7 @@ StandsIn n key layer None = IsMissing n.slots (slice_of key layer) (mark_of key 
 
 -- what is made ready: the put over the row of the slot that has its key, or over no row, with what follows the key's slice
 abbrev pub ReadyFor : NodeView → Task → ℕ → Option ℕ → Prepared → Type 0
-ReadyFor n task layer (Some slot) prepared = (pair : Pair) → pair_of (slot_at n slot).held ≡ Some pair → IsReady task (Some pair.row) prepared
+ReadyFor n task layer (Some slot) prepared = (pair : Pair) → pair_of (slot_at n (place_at n slot)).held ≡ Some pair → IsReady task (Some pair.row) prepared
 ReadyFor n task layer None prepared = IsReady task None prepared × (prepared.suffix ≡ suffix_of task.key layer)
 
 -- to store in the slot that has the key; where it is missing, to publish, or to split a full node

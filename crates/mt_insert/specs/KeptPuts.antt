@@ -2,9 +2,9 @@
 use Rattle.std.specs.Prelude.{◌≡◌, ℕ, ◌<◌, length, Some, None}
 use Rattle.mt_slices.specs.Slices.{slice_of, mark_of, suffix_of}
 use Rattle.mt_rows.specs.Rows.{Bytes}
-use Rattle.mt_border.specs.{declared.entry.Pair.Pair, declared.entry.Held.TheVariants.Stable, declared.entry.FoundKind.TheVariants.{ThisKey, OtherLong}}
+use Rattle.mt_border.specs.{Held.Pair, Held.Stable, declared.entry.FoundKind.TheVariants.{ThisKey, OtherLong}}
 use Rattle.mt_border.specs.Entries.{IsMissing}
-use Rattle.mt_arena.specs.{Layers.slot_at, Arena.ArenaView, Accesses.at}
+use Rattle.mt_arena.specs.{NodeView.place_at, Layers.slot_at, Arena.ArenaView, Accesses.at}
 use Rattle.mt_operation.specs.{declared.phase.Phase.Phase, declared.phase.Phase.TheVariants.{Store, Publish, SplitStart}, declared.walk.Walk.Walk}
 use Rattle.mt_operation.specs.{declared.task.Task.Task, declared.prepared.Prepared.Prepared}
 use Rattle.mt_descent.specs.KeptWalks.{IsInSlot}
@@ -16,7 +16,7 @@ pub record IsAtStore (v : ArenaView) (op : ℕ) (task : Task) (prepared : Prepar
   pub holds : HoldsBorder v op task.key w
   pub in_slot : IsInSlot (at v w.place.node) w.slot task.key w.layer ThisKey
   pub pair : Pair
-  pub stable : (slot_at (at v w.place.node) w.slot).held ≡ Stable pair
+  pub stable : (slot_at (at v w.place.node) (place_at (at v w.place.node) w.slot)).held ≡ Stable pair
   pub ready : IsReady task (Some pair.row) prepared
 
 -- at Publish: the node misses the key and has room for it, and what was made ready is the put over no row
@@ -40,7 +40,7 @@ pub record IsAtMakeLayer (v : ArenaView) (op : ℕ) (key : Bytes) (w : Walk) : T
   pub holds : HoldsBorder v op key w
   pub in_slot : IsInSlot (at v w.place.node) w.slot key w.layer OtherLong
   pub pair : Pair
-  pub stable : (slot_at (at v w.place.node) w.slot).held ≡ Stable pair
+  pub stable : (slot_at (at v w.place.node) (place_at (at v w.place.node) w.slot)).held ≡ Stable pair
 
 -- at the phase that places the put, or begins the split of its node
 abbrev pub KeptReady : Phase → ArenaView → ℕ → Task → Prepared → Walk → Type 0

@@ -2,7 +2,7 @@
 use Rattle.std.specs.Prelude.{◌≡◌, ℕ}
 use Rattle.mt_slices.specs.Slices.{slice_of, mark_of, suffix_of}
 use Rattle.mt_rows.specs.Rows.{Bytes, Columns}
-use Rattle.mt_border.specs.{declared.entry.Entry.Entry, declared.entry.Held.TheVariants.Stable}
+use Rattle.mt_border.specs.{declared.entry.Entry.Entry, Held.Stable}
 use Rattle.mt_tape.specs.{Tapes.Kept, Histories.with_write}
 use Rattle.mt_arena.specs.Arena.{ArenaView, content_of}
 use Rattle.mt_operation.specs.declared.task.Task.{Task}

@@ -52,7 +52,7 @@ fn prepared(
         before,
         after: Some(row.share()?),
     };
-    Ok(Prepared { suffix, row, write })
+    Prepared::new(alloc, suffix, row, write)
 }
 
 // The row of a slot, shared.
@@ -60,9 +60,9 @@ fn row_at(border: &Border, slot: usize) -> Result<Option<Row>, AllocError>
     requires { IsLive border.now slot }
     ensures { IfOk result (λ row. row ≡ option_map (λ pair. pair.row) (pair_of (entry_at border.now slot).held)) }
 {
-    match border.load(slot) {
-        Some(Held::Stable(pair) | Held::Unstable(pair, _)) => Ok(Some(pair.row.share()?)),
-        _ => Ok(None),
+    match border.load(slot).and_then(Held::pair) {
+        Some(pair) => Ok(Some(pair.row.share()?)),
+        None => Ok(None),
     }
 }
 

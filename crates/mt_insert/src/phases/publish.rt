@@ -2,17 +2,18 @@
 
 ghost use Rattle.std.specs.Prelude.{◌≡◌, ◌<◌};
 ghost use Rattle.mt_slices.specs.Slices.{HasLayer, suffix_of};
-ghost use Rattle.mt_border.specs.Entries.{with_entry};
+ghost use Rattle.mt_order.specs.Places.{order_with};
+ghost use Rattle.mt_border.specs.{Entry.order_of, Entries.{place_in, with_entry}};
 ghost use Rattle.mt_tape.specs.Tapes.{last_write};
 ghost use Rattle.mt_arena.specs.{Edits.with_slots, Arena.Guarantee, Accesses.{at, with_node}};
 ghost use Rattle.mt_insert.specs.{Puts.IsPut, KeptPuts.IsAtPublish, Placing.{entry_of, Places}, Publish.TellsPublished};
 ghost use Rattle.mt_held.specs.{Holds.IsAtUnlock, Moves.walk_placed};
 
 use mt_arena::Arena;
-use mt_border::{Entry, Held, Pair, Suffix};
+use mt_border::{Entry, Held, Pair};
 use mt_held::push_write;
 use mt_operation::{Phase, Prepared, Task, Walk};
-use mt_rows::{Row, Tenants};
+use mt_rows::Tenants;
 use mt_slices::StoredKey;
 use mt_tape::Tape;
 
@@ -61,31 +62,28 @@ fn add_pair(
     requires reserved { 0 < tape.old.reserved }
     requires later { last_write tape.old < step }
     ensures is { arena.new ≡ with_node arena.old walk.now.place.node (with_slots (at arena.old walk.now.place.node)
-        (with_entry (at arena.old walk.now.place.node).slots (entry_of task.now.key walk.now.layer prepared.row step))) }
+        (with_entry (at arena.old walk.now.place.node).slots (entry_of task.now.key walk.now.layer prepared.row step))
+        (order_with (at arena.old walk.now.place.node).order (place_in (at arena.old walk.now.place.node).slots (order_of (entry_of task.now.key walk.now.layer prepared.row step))))) }
     ensures places { Places task.now step arena.old arena.new tape.old tape.new }
     ensures step { Guarantee operation arena.old arena.new }
     ensures kept { IsAtUnlock arena.new operation (walk_placed walk.now) }
 {
     arena.facts();
-    let Prepared { suffix, row, write } = prepared;
-    let entry = new_entry(&task.key, walk.layer, suffix, row, step);
+    let (pair, write) = prepared.into_pair(step);
+    let entry = new_entry(&task.key, walk.layer, pair);
     arena.publish(walk.place.node, entry, operation);
     push_write(tape, write, step);
 }
 
-// The entry of a key's pair with this row, placed by the step of this number.
-pub(crate) fn new_entry(key: &StoredKey, layer: usize, suffix: Suffix, row: Row, step: u64) -> Entry
+// The entry of a key's pair.
+pub(crate) fn new_entry(key: &StoredKey, layer: usize, pair: Pair) -> Entry
     requires reaches { HasLayer key.now layer }
-    requires suffix { suffix ≡ suffix_of key.now layer }
-    ensures { result ≡ entry_of key.now layer row step }
+    requires suffix { pair.suffix ≡ suffix_of key.now layer }
+    ensures { result ≡ entry_of key.now layer pair.row pair.stamp }
 {
     Entry {
         slice: key.slice(layer),
         mark: key.mark(layer),
-        held: Held::Stable(Pair {
-            suffix,
-            row,
-            stamp: step,
-        }),
+        held: Held::stable(pair),
     }
 }

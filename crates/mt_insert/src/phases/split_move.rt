@@ -72,8 +72,8 @@ fn part_with(
 {
     arena.facts();
     let Halves { left, right } = last(splits);
-    let Prepared { suffix, row, write } = prepared;
-    let entry = new_entry(&task.key, walk.layer, suffix, row, step);
+    let (pair, write) = prepared.into_pair(step);
+    let entry = new_entry(&task.key, walk.layer, pair);
     arena.split_border(left, right, entry.slice, entry.mark, Some(entry), operation);
     push_write(tape, write, step);
 }

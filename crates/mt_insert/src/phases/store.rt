@@ -29,11 +29,7 @@ pub fn store(
     ensures { IsStore operation step task.now prepared.row arena.old arena.new tape.old tape.new walk.old walk.new result }
 {
     arena.facts();
-    let Prepared {
-        suffix: _,
-        row,
-        write,
-    } = prepared;
+    let (row, write) = prepared.into_row();
     let before = arena.store(walk.place.node, walk.slot, row, step, operation);
     push_write(tape, write, step);
     walk.phase = Phase::Unlock;

@@ -1,6 +1,10 @@
 -- That the holder may store its row, what that is for contents and tape, and that its lock may be given back then.
 use Rattle.std.proofs.Common.{rules, Some, ap, sym, ◌∙◌}
-use Rattle.mt_held.proofs.Places.{row_here, may_store}
+use Rattle.std.specs.FinMap.{insert}
+use Rattle.mt_border.specs.Contents.{owned}
+use Rattle.mt_tape.specs.declared.entry.Entry.{Entry as Write}
+use Rattle.mt_arena.specs.Arena.{content_of}
+use Rattle.mt_held.{specs.Taping.pushed, proofs.Places.{row_here, may_store}}
 use Rattle.mt_insert.proofs.{Places.unlock_stored, Puts.places}
 use Rattle.mt_insert.proofs.phases.store.store.Goals as goal
 
@@ -19,11 +23,12 @@ returns c = record {
       let before = row_here c.args.arena.now c.args.operation c.args.task.now.key c.args.walk.now c.facts.ensures.arena kept.holds c.args.walk.now.slot kept.pair kept.in_slot kept.stable in
       let may = may_store c.args.arena.now c.args.operation c.args.task.now.key c.args.walk.now c.facts.ensures.arena kept.holds c.args.walk.now.slot kept.pair kept.in_slot kept.stable in
       places c.args.task.now c.args.step c.args.arena.now c.store-before.new.self c.args.tape.now c.push_write.new.tape (Some kept.pair.row) c.args.prepared c.requires.put before kept.ready
-      (c.store-before.ensures.contents c.args.task.now.key kept.pair may) c.push_write.ensures;
+      (c.store-before.ensures.contents c.args.task.now.key kept.pair may ∙ ap (λ row. insert (content_of c.args.arena.now) (owned c.args.task.now.key) row) c.into_row-row.ensures.row)
+      (c.push_write.ensures ∙ ap (λ (e : Write). pushed c.args.tape.now (record e { step = c.args.step })) c.into_row-row.ensures.write);
   walk = search rules;
   same = search rules;
   guarantee = search rules;
   kept = let kept = c.requires.kept in
-      rw (c.store-before.ensures.is kept.pair kept.stable)
-      (unlock_stored c.args.arena.now c.args.operation c.args.task.now.key c.args.walk.now c.facts.ensures.arena kept.holds c.args.walk.now.slot kept.pair c.args.prepared.row c.args.step kept.in_slot.in_range);
+      rw (c.store-before.ensures.is kept.pair kept.stable, c.into_row-row.ensures.row)
+      (unlock_stored c.args.arena.now c.args.operation c.args.task.now.key c.args.walk.now c.facts.ensures.arena kept.holds _ kept.pair c.args.prepared.row c.args.step kept.in_slot.in_range);
 }
