@@ -2,13 +2,14 @@
 use Rattle.std.proofs.{Common.{◌≡◌, ◌≢◌, ℕ, ◌+◌, ◌<◌, length, Some, None, sym, ap, subst, ◌∙◌, inl, inr, arith, List, set, refl}, lemmas.Bool.cases_eq}
 use Rattle.std.proofs.lemmas.List.{length-set, get_or-set_same, get_or-set_other}
 use Rattle.mt_rows.specs.Rows.{Bytes}
-use Rattle.mt_border.specs.{declared.entry.Pair.Pair, declared.entry.Held.Held, declared.entry.Held.TheVariants.{Stable, Unstable, Link}, Entry.pair_of}
+use Rattle.mt_border.specs.{Held.Pair, Held.Held, Held.{Stable, Unstable, Link}, Entry.pair_of}
 use Rattle.mt_border.specs.{Contents.IsOfTree, declared.entry.Entry.Entry}
 use Rattle.mt_border.proofs.Edits.{any_entry, replaced_at as set_at}
-use Rattle.mt_arena.specs.{declared.tree.Tree.Tree, declared.tree.Standing.TheVariants.{Made, Live}, NodeView.NodeView, Forests.{tree_at, no_tree}}
-use Rattle.mt_arena.specs.{Arena.{ArenaView, IsArena}, Accesses.at, Layering.{with_held, with_slot, with_link}, Layers.slot_at}
+use Rattle.mt_arena.specs.{declared.tree.Tree.Tree, declared.tree.Standing.TheVariants.{Made, Live}, NodeView.{NodeView, place_at}, Forests.{tree_at, no_tree}}
+use Rattle.mt_arena.specs.{Arena.{ArenaView, IsArena}, Accesses.at, Layering.{IsLayerOf, IsSettledBut, with_held, with_slot, with_link}, Layers.slot_at}
 use Rattle.mt_arena.proofs.{Pairs.{here, there}, LayerStays.whole_rewritten, SettledBut.{settled_but_held, settled_again}}
 use Rattle.mt_operation.specs.{declared.phase.Phase.Phase, declared.walk.Taken.Taken, declared.walk.Walk.Walk}
+use Rattle.mt_descent.specs.KeptWalks.{walk_place}
 use Rattle.mt_layer.specs.{KeptLayers.{MakesLayer, IsAtMarkUnstable, IsAtLink, IsAtMarkLayer, IsAtLeave}, NewLayers.walk_at}
 use Rattle.mt_operation.specs.declared.phase.Phase.TheVariants as phases
 use Rattle.mt_operation.specs.declared.walk.Taken.TheVariants as takens
@@ -29,22 +30,24 @@ first_apart v op key w t what pair m same =
 -- the slot holds its pair otherwise
 otherwise : (v : ArenaView) (op : ℕ) (key : Bytes) (w : Walk) (t : ℕ) (what held : Held) (pair : Pair) (phase : Phase) → IsArena v.nodes v.trees
     → ((p : Pair) → pair_of held ≡ Some p → pair_of what ≡ Some p) → MakesLayer v op key w t what pair
-    → MakesLayer (with_slot v w.place.node w.slot held) op key (walk_at phase w) t held pair
+    → MakesLayer (with_slot v w.place.node (walk_place v w) held) op key (walk_at phase w) t held pair
 otherwise v op key w t what held pair phase arena goes_on m =
     let slot = m.layer.slot in
+    let new = with_slot v w.place.node (walk_place v w) held in
+    let same : walk_place new (walk_at phase w) ≡ walk_place v w = ap (λ (n : NodeView). place_at n w.slot) (here v.nodes w.place.node (with_held (at v w.place.node) (walk_place v w) held) slot.held.there) in
     record {
       taken = m.taken;
       other = m.other;
-      layer = whole_rewritten v w.place.node w.slot t op what held m.other pair.row arena m.layer goes_on;
-      settled = settled_but_held v w.place.node w.slot held arena.nodes slot.held.there slot.in_range m.settled;
+      layer = subst (λ i. IsLayerOf new w.place.node i t op held m.other pair.row) (sym same) (whole_rewritten v w.place.node (walk_place v w) t op what held m.other pair.row arena m.layer goes_on);
+      settled = subst (IsSettledBut new.nodes w.place.node) (sym same) (settled_but_held v w.place.node (walk_place v w) held arena.nodes slot.held.there slot.in_range m.settled);
       goes_on = record { there = m.goes_on.there; of_tree = m.goes_on.of_tree; begun = m.goes_on.begun };
       first =
-          ap (λ (x : NodeView). x.slots) (there v.nodes w.place.node (tree_at v.trees t).root (with_held (at v w.place.node) w.slot held) (first_apart v op key w t what pair m)) ∙ m.first;
+          ap (λ (x : NodeView). x.slots) (there v.nodes w.place.node (tree_at v.trees t).root (with_held (at v w.place.node) (walk_place v w) held) (first_apart v op key w t what pair m)) ∙ m.first;
     }
 
 -- unstable
 pub unstable : (v : ArenaView) (op : ℕ) (key : Bytes) (w : Walk) → IsArena v.nodes v.trees → (h : IsAtMarkUnstable v op key w)
-    → IsAtLink (with_slot v w.place.node w.slot (Unstable h.pair None)) op key (walk_at phases.Link w)
+    → IsAtLink (with_slot v w.place.node (walk_place v w) (Unstable h.pair None)) op key (walk_at phases.Link w)
 unstable v op key w arena h = record {
   tree = h.tree;
   pair = h.pair;
@@ -53,7 +56,7 @@ unstable v op key w arena h = record {
 
 -- with the number of the tree
 pub numbered : (v : ArenaView) (op : ℕ) (key : Bytes) (w : Walk) → IsArena v.nodes v.trees → (h : IsAtLink v op key w)
-    → IsAtMarkLayer (with_slot v w.place.node w.slot (Unstable h.pair (Some h.tree))) op key (walk_at phases.MarkLayer w)
+    → IsAtMarkLayer (with_slot v w.place.node (walk_place v w) (Unstable h.pair (Some h.tree))) op key (walk_at phases.MarkLayer w)
 numbered v op key w arena h = record {
   tree = h.tree;
   pair = h.pair;
@@ -69,13 +72,13 @@ module _ (v : ArenaView) (op : ℕ) (key : Bytes) (w : Walk) (arena : IsArena v.
   t = h.tree
 
   abbrev y : NodeView
-  y = with_held (at v k) w.slot (Link t)
+  y = with_held (at v k) (walk_place v w) (Link t)
 
   abbrev u : Tree
   u = record (tree_at v.trees t) { standing = Live }
 
   abbrev after : ArenaView
-  after = with_link v k w.slot t
+  after = with_link v k (walk_place v w) t
 
   within : k < length v.nodes
   within = h.makes.layer.slot.held.there
@@ -89,8 +92,8 @@ module _ (v : ArenaView) (op : ℕ) (key : Bytes) (w : Walk) (arena : IsArena v.
   size : length after.trees ≡ length v.trees
   size = length-set v.trees t u
 
-  slots_are : y.slots ≡ set (at v k).slots w.slot (record (slot_at (at v k) w.slot) { held = Link t })
-  slots_are = set_at (at v k).slots w.slot (record (slot_at (at v k) w.slot) { held = Link t }) any_entry (arena.nodes.each k within).slots.border.rising h.makes.layer.slot.in_range refl
+  slots_are : y.slots ≡ set (at v k).slots (walk_place v w) (record (slot_at (at v k) (walk_place v w)) { held = Link t })
+  slots_are = set_at (at v k).slots (walk_place v w) (record (slot_at (at v k) (walk_place v w)) { held = Link t }) any_entry (arena.nodes.each k within).slots.border.rising h.makes.layer.slot.in_range refl
 
   above_live : (tree_at after.trees (at v k).tree).standing ≡ Live
   above_live = elim (cases_eq (at v k).tree t) [
@@ -106,15 +109,15 @@ module _ (v : ArenaView) (op : ℕ) (key : Bytes) (w : Walk) (arena : IsArena v.
       held = record { there = omega (arith, within, length-set v.nodes k y); holder = ap (λ (x : NodeView). x.holder) node_is ∙ h.makes.layer.slot.held.holder };
       tree_there = subst (λ (x : NodeView). x.tree < length after.trees) (sym node_is) (omega (arith, size, arena.forest.tree_there k within));
       mine = λ q making. absurd (let live = sym above_live ∙ ap (λ (x : NodeView). (tree_at after.trees x.tree).standing) (sym node_is) ∙ making in cc);
-      settled = settled_again v k w.slot (Link t) arena.nodes within h.makes.layer.slot.in_range h.makes.settled (λ none. none);
+      settled = settled_again v k (walk_place v w) (Link t) arena.nodes within h.makes.layer.slot.in_range h.makes.settled (λ none. none);
     };
     live = ap (λ (x : NodeView). x.version.deleted) node_is ∙ h.makes.layer.slot.live;
-    in_range = subst (λ (x : NodeView). w.slot < length x.slots) (sym node_is)
-        (let same = ap (λ (s : List Entry). length s) slots_are ∙ length-set (at v k).slots w.slot (record (slot_at (at v k) w.slot) { held = Link t }) in
+    in_range = subst (λ (x : NodeView). place_at x w.slot < length x.slots) (sym node_is)
+        (let same = ap (λ (s : List Entry). length s) slots_are ∙ length-set (at v k).slots (walk_place v w) (record (slot_at (at v k) (walk_place v w)) { held = Link t }) in
         let was = h.makes.layer.slot.in_range in
         omega (arith, same, was));
-    link = ap (λ (x : NodeView). (slot_at x w.slot).held) node_is ∙ ap (λ (s : List Entry). (slot_at (record y { slots = s }) w.slot).held) slots_are
-        ∙ ap (λ (e : Entry). e.held) (get_or-set_same (at v k).slots w.slot (record (slot_at (at v k) w.slot) { held = Link t }) any_entry h.makes.layer.slot.in_range);
+    link = ap (λ (x : NodeView). (slot_at x (place_at x w.slot)).held) node_is ∙ ap (λ (s : List Entry). (slot_at (record y { slots = s }) (walk_place v w)).held) slots_are
+        ∙ ap (λ (e : Entry). e.held) (get_or-set_same (at v k).slots (walk_place v w) (record (slot_at (at v k) (walk_place v w)) { held = Link t }) any_entry h.makes.layer.slot.in_range);
     through = record {
       there = omega (arith, size, h.makes.goes_on.there);
       unmade = λ q making. let live = sym (ap (λ (x : Tree). x.standing) tree_is) ∙ making in absurd (cc);

@@ -1,16 +1,17 @@
 -- The tree of the next layer may be made of the other key's entry there, and what is kept once it is made: for `make_layer`.
-use Rattle.std.proofs.Common.{◌≡◌, ℕ, ◌+◌, ◌*◌, ◌<◌, List, [], ◌∷◌, length, take, drop, refl, sym, ap, subst, ◌∙◌, inl, inr, arith, length-append}
+use Rattle.std.proofs.Common.{◌≡◌, ℕ, ◌+◌, ◌*◌, ◌<◌, List, [], ◌∷◌, length, Option, take, drop, refl, sym, ap, subst, ◌∙◌, inl, inr, arith, length-append}
 use Rattle.std.proofs.lemmas.Bool.{cases_eq}
 use Rattle.mt_slices.{specs.{Slices.rest_of, declared.mark.Mark.TheVariants.Long}, proofs.Order.rest-more}
 use Rattle.mt_rows.specs.Rows.{Bytes}
-use Rattle.mt_border.specs.{declared.entry.Entry.Entry, declared.entry.Pair.Pair, declared.entry.Held.TheVariants.Stable, Entry.pair_of, Contents.HasKey}
+use Rattle.mt_border.specs.{declared.entry.Entry.Entry, Held.Pair, Held.Stable, Entry.pair_of, Contents.HasKey}
 use Rattle.mt_border.specs.Node.{Node as BorderNode, entry_at}
 use Rattle.mt_border.proofs.Edits.{any_entry}
-use Rattle.mt_arena.specs.{declared.tree.Tree.Tree, NodeView.NodeView, Forests.layer_of, Layers.slot_at, Ways.BelongsIn, Arena.{ArenaView, IsArena}}
-use Rattle.mt_arena.specs.{Accesses.{at, tree_of}, Layering.{IsHeldSlot, HasKeyAt, MayMakeLayer, entry_of, root_of, prefix_below, with_layer}}
+use Rattle.mt_arena.specs.{declared.tree.Tree.Tree, NodeView.{NodeView, place_at, border_view}, Forests.layer_of, Layers.slot_at, Ways.BelongsIn, Arena.{ArenaView, IsArena}}
+use Rattle.mt_arena.specs.{Accesses.{at, tree_of}, Layering.{IsHeldSlot, IsLayerOf, IsSettledBut, HasKeyAt, MayMakeLayer, entry_of, root_of, prefix_below, with_layer}}
 use Rattle.mt_arena.proofs.{Pairs.{last, before}, Trees.{made as made_tree, last_tree}, Steps.keys_of, Down.{long_below, next_prefix}}
 use Rattle.mt_arena.proofs.{NextLayer.{may_make, has_below}, LayerStays.whole_begun, SettledBut.{settled_but, settled_but_made}}
 use Rattle.mt_operation.specs.declared.walk.Walk.{Walk}
+use Rattle.mt_descent.specs.KeptWalks.{walk_place}
 use Rattle.mt_held.{specs.Holds.HoldsOnly, proofs.Places.belongs_here}
 use Rattle.mt_insert.specs.KeptPuts.{IsAtMakeLayer}
 use Rattle.mt_layer.specs.{KeptLayers.IsAtMarkUnstable, NewLayers.{entry_below, walk_linked}}
@@ -29,7 +30,7 @@ module _ (v : ArenaView) (op : ℕ) (key : Bytes) (w : Walk) (arena : IsArena v.
   layer = layer_of above
 
   abbrev prefix : Bytes
-  prefix = prefix_below v k w.slot
+  prefix = prefix_below v k (walk_place v w)
 
   abbrev e : Entry
   e = entry_below h.pair
@@ -40,7 +41,7 @@ module _ (v : ArenaView) (op : ℕ) (key : Bytes) (w : Walk) (arena : IsArena v.
   in_node : BelongsIn v.nodes v.trees key w.layer k
   in_node = belongs_here v op key w arena h.holds
 
-  is_long : (slot_at n w.slot).mark ≡ Long
+  is_long : (slot_at n (walk_place v w)).mark ≡ Long
   is_long = h.in_slot.kind_is.0
 
   -- the key goes on below
@@ -48,7 +49,7 @@ module _ (v : ArenaView) (op : ℕ) (key : Bytes) (w : Walk) (arena : IsArena v.
   below = long_below key w.layer (sym h.in_slot.mark_is ∙ is_long)
 
   -- the slot is the operation's
-  held_slot : IsHeldSlot v k w.slot op (Stable h.pair)
+  held_slot : IsHeldSlot v k (walk_place v w) op (Stable h.pair)
   held_slot = record {
     held = h.holds.judged.held;
     live = in_node.border.live;
@@ -60,8 +61,8 @@ module _ (v : ArenaView) (op : ℕ) (key : Bytes) (w : Walk) (arena : IsArena v.
   }
 
   -- and has another key
-  other : (key : Bytes) × HasKeyAt v k w.slot key
-  other = (keys_of v.nodes v.trees k within arena.forest).keys w.slot any_entry h.in_slot.in_range
+  other : (key : Bytes) × HasKeyAt v k (walk_place v w) key
+  other = (keys_of v.nodes v.trees k within arena.forest).keys (walk_place v w) any_entry h.in_slot.in_range
 
   rest_is : h.pair.suffix ≡ rest_of other.0 (layer + 1)
   rest_is = other.1.suffix h.pair (ap pair_of h.stable) ∙ rest-more other.0 layer
@@ -73,18 +74,22 @@ module _ (v : ArenaView) (op : ℕ) (key : Bytes) (w : Walk) (arena : IsArena v.
   -- the prefix is what the key begins with
   pub prefix_is : prefix ≡ take (8 * (w.layer + 1)) key
   prefix_is =
-      next_prefix above key w.layer (slot_at n w.slot).slice in_node.of_tree.stored.are_bytes (omega (arith, below)) in_node.of_tree.begins h.in_slot.slice_is
+      next_prefix above key w.layer (slot_at n (walk_place v w)).slice in_node.of_tree.stored.are_bytes (omega (arith, below)) in_node.of_tree.begins h.in_slot.slice_is
 
   -- so the tree may be made
   may : MayMakeLayer v prefix e
-  may = subst (λ (x : Entry). MayMakeLayer v prefix x) (sym entry_is) (may_make v k w.slot op h.pair other.0 h.pair.row h.pair.stamp arena held_slot other.1)
+  may = subst (λ (x : Entry). MayMakeLayer v prefix x) (sym entry_is) (may_make v k (walk_place v w) op h.pair other.0 h.pair.row h.pair.stamp arena held_slot other.1)
 
   pub may_with : (p : Bytes) (x : Entry) → p ≡ take (8 * (w.layer + 1)) key → x ≡ e → MayMakeLayer v p x
   may_with p x p_is x_is = rw (p_is ∙ sym prefix_is, x_is) may
 
   has : HasKey prefix (layer_of prefix) e other.0
   has =
-      subst (λ (x : Entry). HasKey prefix (layer_of prefix) x other.0) (sym entry_is) (has_below v k w.slot op h.pair other.0 h.pair.row h.pair.stamp arena held_slot other.1)
+      subst (λ (x : Entry). HasKey prefix (layer_of prefix) x other.0) (sym entry_is) (has_below v k (walk_place v w) op h.pair other.0 h.pair.row h.pair.stamp arena held_slot other.1)
+
+  -- the slot stands where it stood
+  same_place : walk_place (with_layer v prefix e op) (walk_linked w (length v.trees)) ≡ walk_place v w
+  same_place = ap (λ (x : NodeView). place_at x w.slot) (before v.nodes (root_of (length v.trees) e) k within)
 
   -- what is kept once it is
   pub made : IsAtMarkUnstable (with_layer v prefix e op) op key (walk_linked w (length v.trees))
@@ -94,8 +99,9 @@ module _ (v : ArenaView) (op : ℕ) (key : Bytes) (w : Walk) (arena : IsArena v.
     makes = record {
       taken = refl;
       other = other.0;
-      layer = whole_begun v k w.slot op (Stable h.pair) other.0 e (record h.pair { suffix = drop 8 h.pair.suffix }) arena held_slot other.1 has refl;
-      settled = settled_but_made v prefix e op k w.slot within (settled_but v.nodes k w.slot h.holds.settled);
+      layer = subst (λ i. IsLayerOf (with_layer v prefix e op) k i (length v.trees) op (Stable h.pair) other.0 h.pair.row) (sym same_place)
+          (whole_begun v k (walk_place v w) op (Stable h.pair) other.0 e (record h.pair { suffix = drop 8 h.pair.suffix }) arena held_slot other.1 has refl);
+      settled = subst (IsSettledBut (with_layer v prefix e op).nodes k) (sym same_place) (settled_but_made v prefix e op k (walk_place v w) within (settled_but v.nodes k (walk_place v w) h.holds.settled));
       goes_on = record {
         there = omega (arith, length-append v.trees (made_tree prefix (length v.nodes) op ∷ []));
         of_tree = record {
@@ -111,9 +117,9 @@ module _ (v : ArenaView) (op : ℕ) (key : Bytes) (w : Walk) (arena : IsArena v.
   }
 
 -- what a border node has in a slot, its view has there
-pub in_border : (n : NodeView) (b : BorderNode) (slot : ℕ) (pair : Pair) → n.slots ≡ b.slots → (slot_at n slot).held ≡ Stable pair
-    → (entry_at b slot).held ≡ Stable pair
-in_border n b slot pair same is = ap (λ (s : List Entry). (slot_at (record n { slots = s }) slot).held) (sym same) ∙ is
+pub in_border : (n : NodeView) (b : BorderNode) (tree level : ℕ) (reach holder : Option ℕ) (slot : ℕ) (pair : Pair) → n ≡ border_view b tree level reach holder
+    → (slot_at n (place_at n slot)).held ≡ Stable pair → (entry_at b slot).held ≡ Stable pair
+in_border n b tree level reach holder slot pair same is = subst (λ (m : NodeView). (slot_at m (place_at m slot)).held ≡ Stable pair) same is
 
 -- the root of the new tree is free
 pub only_made : (v : ArenaView) (op k : ℕ) (prefix : Bytes) (e : Entry) → HoldsOnly v op k → HoldsOnly (with_layer v prefix e op) op k

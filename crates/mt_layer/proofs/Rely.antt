@@ -2,18 +2,20 @@
 use Rattle.std.proofs.Common.{◌≡◌, ◌≢◌, ℕ, ◌+◌, ◌<◌, List, length, Some, None, refl, sym, ap, subst, ◌∙◌, arith, false}
 use Rattle.mt_slices.specs.Slices.{slice_of, mark_of, suffix_of}
 use Rattle.mt_rows.specs.Rows.{Bytes}
-use Rattle.mt_border.specs.{declared.entry.Entry.Entry, declared.entry.Pair.Pair, declared.entry.Held.Held, declared.entry.Held.TheVariants.{Stable, Unstable}}
+use Rattle.mt_border.specs.{declared.entry.Entry.Entry, Held.Pair, Held.Held, Held.{Stable, Unstable}}
 use Rattle.mt_border.specs.{declared.entry.FoundKind.TheVariants.OtherLong, Entry.IsKind, Contents.IsOfTree}
 use Rattle.mt_arena.specs.{declared.tree.Tree.Tree, declared.tree.Standing.Standing, declared.tree.Standing.TheVariants.{Made, Live, Dead}, Forests.tree_at}
+use Rattle.mt_order.specs.Places.{Places, place_of_slot}
+use Rattle.mt_arena.specs.Layering.{IsLayerOf, IsSettledBut}
 use Rattle.mt_arena.specs.{Layers.slot_at, Arena.{ArenaView, Guarantee, IsArena}, Accesses.{at, tree_of, IsHeld}, Guarantee.TreeChanges, NodeView.NodeView}
 use Rattle.mt_arena.proofs.{LayerStays.{whole_stays, tree_same, root_same}, SettledBut.settled_but_stays}
 use Rattle.mt_operation.specs.{declared.phase.Phase.Phase, declared.walk.Walk.Walk}
-use Rattle.mt_descent.specs.KeptWalks.{GoesThrough}
+use Rattle.mt_descent.specs.KeptWalks.{GoesThrough, walk_place}
 use Rattle.mt_insert.specs.KeptPuts.{IsAtMakeLayer}
-use Rattle.mt_held.proofs.Rely.{held, unlock}
+use Rattle.mt_held.proofs.Rely.{held, unlock, in_slot_stays}
 use Rattle.mt_layer.specs.KeptLayers.{GoesBelow, MakesLayer, KeptLayer}
 use Rattle.mt_version.specs.Parts.{Parts}
-use Rattle.mt_border.specs.declared.entry.Held.TheVariants as helds
+use Rattle.mt_border.specs.Held as helds
 use Rattle.mt_operation.specs.declared.phase.Phase.TheVariants as phases
 
 -- a tree that is not being made never is
@@ -53,12 +55,15 @@ module _ (op o : ℕ) (old new : ArenaView) (g : Guarantee op old new) (other : 
   makes : (key : Bytes) (w : Walk) (t : ℕ) (what : Held) (pair : Pair) → MakesLayer old o key w t what pair → MakesLayer new o key w t what pair
   makes key w t what pair m =
       let slot = m.layer.slot in
+      let order = ((g.nodes.nodes w.place.node slot.held.there).held o other slot.held.holder).order in
+      let same : walk_place new w ≡ walk_place old w = ap (λ (p : Places). place_of_slot p.live w.slot) order in
       record {
         taken = m.taken;
         other = m.other;
-        layer = whole_stays op o old new g other w.place.node w.slot t what m.other pair.row (alive w.place.node slot.held slot.live) m.layer;
-        settled =
-            settled_but_stays op o old.nodes new.nodes old.trees new.trees w.place.node w.slot g.nodes g.points other slot.held.there slot.held.holder m.settled;
+        layer = subst (λ i. IsLayerOf new w.place.node i t o what m.other pair.row) (sym same)
+            (whole_stays op o old new g other w.place.node (walk_place old w) t what m.other pair.row (alive w.place.node slot.held slot.live) m.layer);
+        settled = subst (IsSettledBut new.nodes w.place.node) (sym same)
+            (settled_but_stays op o old.nodes new.nodes old.trees new.trees w.place.node (walk_place old w) g.nodes g.points other slot.held.there slot.held.holder m.settled);
         goes_on = below t w.layer key m.goes_on;
         first =
             ap (λ (x : Tree). (at new x.root).slots) (tree_same op o old new g other t m.other pair.row m.layer.layer) ∙ ap (λ (x : NodeView). x.slots) (root_same op o old new g other t m.other pair.row m.layer.layer) ∙ m.first;
@@ -69,17 +74,16 @@ module _ (op o : ℕ) (old new : ArenaView) (g : Guarantee op old new) (other : 
   make_layer key w h =
       let n = at old w.place.node in
       let lock = h.holds.judged.held in
-      let same : n.slots ≡ (at new w.place.node).slots = sym ((g.nodes.nodes w.place.node lock.there).held o other lock.holder).slots in
+      let stays = (g.nodes.nodes w.place.node lock.there).held o other lock.holder in
+      let same : n.slots ≡ (at new w.place.node).slots = sym stays.slots in
+      let order : n.order ≡ (at new w.place.node).order = sym stays.order in
       record {
         holds = held op o old new g other key w h.holds;
-        in_slot = record {
-          in_range = subst (λ (s : List Entry). w.slot < length s) same h.in_slot.in_range;
-          slice_is = subst (λ (s : List Entry). (slot_at (record n { slots = s }) w.slot).slice ≡ slice_of key w.layer) same h.in_slot.slice_is;
-          mark_is = subst (λ (s : List Entry). (slot_at (record n { slots = s }) w.slot).mark ≡ mark_of key w.layer) same h.in_slot.mark_is;
-          kind_is = subst (λ (s : List Entry). IsKind (slot_at (record n { slots = s }) w.slot) (suffix_of key w.layer) OtherLong) same h.in_slot.kind_is;
-        };
+        in_slot = in_slot_stays n (at new w.place.node) w.slot key w.layer OtherLong same order h.in_slot;
         pair = h.pair;
-        stable = subst (λ (s : List Entry). (slot_at (record n { slots = s }) w.slot).held ≡ Stable h.pair) same h.stable;
+        stable =
+            subst (λ (s : List Entry). (slot_at (record n { slots = s }) (walk_place new w)).held ≡ Stable h.pair) same
+            (subst (λ (p : Places). (slot_at n (place_of_slot p.live w.slot)).held ≡ Stable h.pair) order h.stable);
       }
 
   -- at each phase
@@ -95,8 +99,11 @@ module _ (op o : ℕ) (old new : ArenaView) (g : Guarantee op old new) (other : 
         taken = h.taken;
         unlock = unlock op o old new g other w h.unlock;
         live = ap (λ (p : Parts). p.deleted) same.version ∙ h.live;
-        in_range = subst (λ (s : List Entry). w.slot < length s) (sym same.slots) h.in_range;
-        link = subst (λ (s : List Entry). (slot_at (record (at old w.place.node) { slots = s }) w.slot).held ≡ helds.Link h.tree) (sym same.slots) h.link;
+        in_range =
+            subst (λ (s : List Entry). walk_place new w < length s) (sym same.slots) (subst (λ (p : Places). place_of_slot p.live w.slot < length (at old w.place.node).slots) (sym same.order) h.in_range);
+        link =
+            subst (λ (s : List Entry). (slot_at (record (at old w.place.node) { slots = s }) (walk_place new w)).held ≡ helds.Link h.tree) (sym same.slots)
+            (subst (λ (p : Places). (slot_at (at old w.place.node) (place_of_slot p.live w.slot)).held ≡ helds.Link h.tree) (sym same.order) h.link);
         through = through h.tree (w.layer + 1) key h.through;
       }
   layer key w phases.Enter h = through w.place.tree w.layer key h

@@ -2,7 +2,7 @@
 use Rattle.std.proofs.Common.{◌≡◌, ◌≢◌, ℕ, ◌<◌, List, [], ◌∷◌, length, get_or, set, true, false, if◌then◌else◌, Some, refl, sym, ap, subst, ◌∙◌, inl, inr, arith, length-append}
 use Rattle.std.proofs.{lemmas.Bool.cases_eq, lemmas.Option.{none-some, same_Some}, lemmas.List.{length-set, get_or-set_same, get_or-set_other}}
 use Rattle.mt_rows.specs.Rows.{Bytes}
-use Rattle.mt_border.specs.{declared.entry.Entry.Entry, declared.entry.Pair.Pair, declared.entry.Held.Held, declared.entry.Held.TheVariants.{Unstable, Link}}
+use Rattle.mt_border.specs.{declared.entry.Entry.Entry, Held.Pair, Held.Held, Held.{Unstable, Link}}
 use Rattle.mt_border.specs.{Entry.pair_of, Contents.{HasKey, owned, key_at}}
 use Rattle.mt_border.proofs.{Edits.{any_entry, replaced_at}, ContentsKeys.owned_at}
 use Rattle.mt_arena.specs.{declared.tree.Tree.Tree, declared.tree.Standing.TheVariants.{Made, Live}, NodeView.NodeView, Contents.{counts, is_live}}
@@ -10,6 +10,7 @@ use Rattle.mt_arena.specs.{Forests.{tree_at, no_tree, layer_of}, Layers.slot_at,
 use Rattle.mt_arena.specs.Layering.{root_of, with_held, with_layer, with_slot, with_link}
 use Rattle.mt_arena.proofs.{Pairs.{here, there, last, before}, Trees.{made as made_tree, last_tree, before_tree}}
 use Rattle.mt_operation.specs.declared.walk.Walk.{Walk}
+use Rattle.mt_descent.specs.KeptWalks.{walk_place}
 use Rattle.mt_layer.specs.{KeptLayers.MakesLayer, NewLayers.{HasStamp, KeepsStamps, entry_below}}
 
 -- an entry has the slice and the mark of another one, and no pair but the other one's
@@ -121,10 +122,10 @@ module _ (v : ArenaView) (k i : ℕ) (held : Held) (arena : IsArena v.nodes v.tr
 -- the operation's slot holds its pair otherwise
 pub held_keeps : (v : ArenaView) (op : ℕ) (key : Bytes) (w : Walk) (t : ℕ) (what held : Held) (pair : Pair) → IsArena v.nodes v.trees
     → ((p : Pair) → pair_of held ≡ Some p → pair_of what ≡ Some p)
-    → MakesLayer v op key w t what pair → KeepsStamps v (with_slot v w.place.node w.slot held)
+    → MakesLayer v op key w t what pair → KeepsStamps v (with_slot v w.place.node (walk_place v w) held)
 held_keeps v op key w t what held pair arena goes_on m =
     let slot = m.layer.slot in
-    slot_keeps v w.place.node w.slot held arena slot.held.there slot.in_range (λ p is. ap pair_of slot.is ∙ goes_on p is)
+    slot_keeps v w.place.node (walk_place v w) held arena slot.held.there slot.in_range (λ p is. ap pair_of slot.is ∙ goes_on p is)
 
 -- the slot is a link, and the tree has its pair from now on
 module _ (v : ArenaView) (op : ℕ) (key : Bytes) (walk : Walk) (t : ℕ) (pair : Pair) (arena : IsArena v.nodes v.trees) (makes : MakesLayer v op key walk t (Unstable pair (Some t)) pair) where
@@ -132,7 +133,7 @@ module _ (v : ArenaView) (op : ℕ) (key : Bytes) (walk : Walk) (t : ℕ) (pair 
   k = walk.place.node
 
   abbrev i : ℕ
-  i = walk.slot
+  i = walk_place v walk
 
   abbrev old : NodeView
   old = at v k

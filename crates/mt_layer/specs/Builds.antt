@@ -1,10 +1,10 @@
 -- What the steps do that make a layer, MakeLayer, MarkUnstable, Link and MarkLayer, and Unlock behind them.
 use Rattle.std.specs.Prelude.{None, Some, length, ℕ, ◌≡◌}
 use Rattle.mt_rows.specs.Rows.{Bytes}
-use Rattle.mt_border.specs.{declared.entry.Held.TheVariants.{Stable, Unstable}, declared.entry.Pair.Pair}
+use Rattle.mt_border.specs.{Held.{Stable, Unstable}, Held.Pair}
 use Rattle.mt_arena.specs.{Arena.ArenaView, Accesses.at, Layering.{prefix_below, with_layer, with_link, with_slot}, Layers.slot_at}
 use Rattle.mt_operation.specs.{declared.phase.Phase.Phase, declared.walk.Taken.TheVariants.Link, declared.walk.Walk.Walk}
-use Rattle.mt_descent.specs.{KeptWalks.{HoldsNothing, IsAtEnter}, WalkMoves.KeepsPairs}
+use Rattle.mt_descent.specs.{KeptWalks.{HoldsNothing, IsAtEnter, walk_place}, WalkMoves.KeepsPairs}
 use Rattle.mt_held.specs.{Unlock.GoesInto, Holds.HoldsOnly}
 use Rattle.mt_layer.specs.{KeptLayers.{IsAtLeave, IsAtLink, IsAtMarkLayer, IsAtMarkUnstable}, NewLayers.{KeepsStamps, entry_below, walk_at, walk_linked}}
 use Rattle.mt_operation.specs.declared.phase.Phase.TheVariants as phases
@@ -17,31 +17,31 @@ pub record KeepsLayer (op : ℕ) (old new : ArenaView) (before after : Walk) : T
 
 -- the tree was made, with the other key's pair as its one entry
 pub record IsMakeLayer (op : ℕ) (key : Bytes) (old new : ArenaView) (before after : Walk) : Type 0 where
-  pub is : (pair : Pair) → (slot_at (at old before.place.node) before.slot).held ≡ Stable pair
-      → new ≡ with_layer old (prefix_below old before.place.node before.slot) (entry_below pair) op
+  pub is : (pair : Pair) → (slot_at (at old before.place.node) (walk_place old before)).held ≡ Stable pair
+      → new ≡ with_layer old (prefix_below old before.place.node (walk_place old before)) (entry_below pair) op
   pub walk : after ≡ walk_linked before (length old.trees)
   pub kept : IsAtMarkUnstable new op key after
   pub on : KeepsLayer op old new before after
 
 -- the pair of the other key is unstable
 pub record IsMarkUnstable (op : ℕ) (old new : ArenaView) (before after : Walk) : Type 0 where
-  pub is : (pair : Pair) → (slot_at (at old before.place.node) before.slot).held ≡ Stable pair
-      → new ≡ with_slot old before.place.node before.slot (Unstable pair None)
+  pub is : (pair : Pair) → (slot_at (at old before.place.node) (walk_place old before)).held ≡ Stable pair
+      → new ≡ with_slot old before.place.node (walk_place old before) (Unstable pair None)
   pub walk : after ≡ walk_at phases.Link before
   pub kept : (key : Bytes) → IsAtMarkUnstable old op key before → IsAtLink new op key after
   pub on : KeepsLayer op old new before after
 
 -- the number of the tree stands beside it
 pub record IsLink (op : ℕ) (old new : ArenaView) (before after : Walk) : Type 0 where
-  pub is : (pair : Pair) (tree : ℕ) → before.taken ≡ Link tree → (slot_at (at old before.place.node) before.slot).held ≡ Unstable pair None
-      → new ≡ with_slot old before.place.node before.slot (Unstable pair (Some tree))
+  pub is : (pair : Pair) (tree : ℕ) → before.taken ≡ Link tree → (slot_at (at old before.place.node) (walk_place old before)).held ≡ Unstable pair None
+      → new ≡ with_slot old before.place.node (walk_place old before) (Unstable pair (Some tree))
   pub walk : after ≡ walk_at phases.MarkLayer before
   pub kept : (key : Bytes) → IsAtLink old op key before → IsAtMarkLayer new op key after
   pub on : KeepsLayer op old new before after
 
 -- the slot is a link to the tree, which is live
 pub record IsMarkLayer (op : ℕ) (old new : ArenaView) (before after : Walk) : Type 0 where
-  pub is : (tree : ℕ) → before.taken ≡ Link tree → new ≡ with_link old before.place.node before.slot tree
+  pub is : (tree : ℕ) → before.taken ≡ Link tree → new ≡ with_link old before.place.node (walk_place old before) tree
   pub walk : after ≡ walk_at phases.Unlock before
   pub kept : (key : Bytes) → IsAtMarkLayer old op key before → IsAtLeave new op key after
   pub on : KeepsLayer op old new before after

@@ -1,14 +1,14 @@
 -- What is kept of an operation that makes a layer, by its next phase. Each fact speaks of the node and the slot that it holds, and of its tree.
 use Rattle.std.specs.Prelude.{◌≡◌, ℕ, ◌+◌, ◌*◌, ◌<◌, false, [], ◌∷◌, length, Some, None}
 use Rattle.mt_rows.specs.Rows.{Bytes}
-use Rattle.mt_border.specs.{declared.entry.Pair.Pair, declared.entry.Held.Held, declared.entry.Held.TheVariants.{Stable, Unstable}, Contents.IsOfTree}
+use Rattle.mt_border.specs.{Held.Pair, Held.Held, Held.{Stable, Unstable}, Contents.IsOfTree}
 use Rattle.mt_arena.specs.{Forests.tree_at, Layers.slot_at, Layering.{IsLayerOf, IsSettledBut}, Arena.ArenaView, Accesses.at}
 use Rattle.mt_operation.specs.{declared.phase.Phase.Phase, declared.walk.Taken.TheVariants.Link, declared.walk.Walk.Walk}
-use Rattle.mt_descent.specs.KeptWalks.{GoesThrough, IsAtEnter}
+use Rattle.mt_descent.specs.KeptWalks.{GoesThrough, IsAtEnter, walk_place}
 use Rattle.mt_insert.specs.KeptPuts.{IsAtMakeLayer}
 use Rattle.mt_held.specs.Holds.{IsAtUnlock}
 use Rattle.mt_layer.specs.NewLayers.{entry_below}
-use Rattle.mt_border.specs.declared.entry.Held.TheVariants as helds
+use Rattle.mt_border.specs.Held as helds
 use Rattle.mt_operation.specs.declared.phase.Phase.TheVariants as phases
 
 -- the key is one of tree t, which is a layer further down, and has bytes there
@@ -22,8 +22,8 @@ pub record GoesBelow (v : ArenaView) (t layer : ℕ) (key : Bytes) : Type 0 wher
 pub record MakesLayer (v : ArenaView) (op : ℕ) (key : Bytes) (w : Walk) (t : ℕ) (what : Held) (pair : Pair) : Type 0 where
   pub taken : w.taken ≡ Link t
   pub other : Bytes
-  pub layer : IsLayerOf v w.place.node w.slot t op what other pair.row
-  pub settled : IsSettledBut v.nodes w.place.node w.slot
+  pub layer : IsLayerOf v w.place.node (walk_place v w) t op what other pair.row
+  pub settled : IsSettledBut v.nodes w.place.node (walk_place v w)
   pub goes_on : GoesBelow v t w.layer key
   pub first : (at v (tree_at v.trees t).root).slots ≡ entry_below pair ∷ []
 
@@ -51,8 +51,8 @@ pub record IsAtLeave (v : ArenaView) (op : ℕ) (key : Bytes) (w : Walk) : Type 
   pub taken : w.taken ≡ Link tree
   pub unlock : IsAtUnlock v op w
   pub live : (at v w.place.node).version.deleted ≡ false
-  pub in_range : w.slot < length (at v w.place.node).slots
-  pub link : (slot_at (at v w.place.node) w.slot).held ≡ helds.Link tree
+  pub in_range : walk_place v w < length (at v w.place.node).slots
+  pub link : (slot_at (at v w.place.node) (walk_place v w)).held ≡ helds.Link tree
   pub through : GoesThrough v tree (w.layer + 1) key
 
 -- what is kept of an operation that makes a layer by its next phase, until it begins anew in the tree of the layer

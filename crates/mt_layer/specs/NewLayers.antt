@@ -2,7 +2,7 @@
 use Rattle.std.specs.Prelude.{◌≡◌, ℕ, ◌<◌, true, drop, length, Some}
 use Rattle.mt_slices.specs.Slices.{slice_at, mark_at}
 use Rattle.mt_rows.specs.Rows.{Bytes}
-use Rattle.mt_border.specs.{declared.entry.Entry.Entry, declared.entry.Pair.Pair, declared.entry.Held.TheVariants.Stable, Entry.pair_of}
+use Rattle.mt_border.specs.{declared.entry.Entry.Entry, Held.Pair, Held.Stable, Entry.pair_of}
 use Rattle.mt_border.specs.Contents.{owned, key_at}
 use Rattle.mt_arena.specs.{Contents.counts, Layers.slot_at, Arena.ArenaView, Accesses.{at, tree_of}}
 use Rattle.mt_operation.specs.{declared.phase.Phase.Phase, declared.phase.Phase.TheVariants.MarkUnstable, declared.walk.Taken.TheVariants.Link}

@@ -4,11 +4,11 @@
 
 ghost use Rattle.std.specs.Prelude.{◌≡◌, ◌<◌, ◌+◌, ◌*◌, IfOk, length, take, drop};
 ghost use Rattle.mt_slices.specs.Slices.{mark_at};
-ghost use Rattle.mt_border.specs.{declared.entry.Pair.{Pair as AnyPair}, declared.entry.Held.TheVariants.Stable, Entry.IsStablePair, Node.{IsLive, entry_at}};
+ghost use Rattle.mt_border.specs.{Held.{Pair as AnyPair}, Held.Stable, HeldParts.pair_in_parts, Entry.IsStablePair, Node.{IsLive, entry_at}};
 ghost use Rattle.mt_layer.specs.NewLayers.{entry_below};
 
 use mt_arena::Prefix;
-use mt_border::{Border, Entry, Held, Pair, Suffix};
+use mt_border::{Border, Entry, Held, HeldRef, Pair, PairParts, Suffix};
 use mt_slices::{Mark, StoredKey, slice_at};
 use std::alloc::{AllocError, Global};
 
@@ -35,8 +35,8 @@ fn rest_behind(bytes: &[u8]) -> &[u8]
 }
 
 // The entry that the pair of a longer key has in the next layer.
-fn entry_of(alloc: Global, pair: &Pair) -> Result<Entry, AllocError>
-    ensures { IfOk result (λ entry. entry ≡ entry_below pair.now) }
+fn entry_of(alloc: Global, pair: &PairParts) -> Result<Entry, AllocError>
+    ensures { IfOk result (λ entry. entry ≡ entry_below (pair_in_parts pair.now)) }
 {
     let rest = pair.suffix.as_bytes();
     let suffix = Suffix::new(Vec::from_slice(alloc, rest_behind(rest))?);
@@ -44,11 +44,7 @@ fn entry_of(alloc: Global, pair: &Pair) -> Result<Entry, AllocError>
     Ok(Entry {
         slice: slice_at(rest),
         mark: mark_at(rest),
-        held: Held::Stable(Pair {
-            suffix,
-            row,
-            stamp: pair.stamp,
-        }),
+        held: Held::stable(Pair::new(alloc, suffix, row, pair.stamp)?),
     })
 }
 
@@ -58,8 +54,8 @@ pub(crate) fn entry_below(alloc: Global, border: &Border, slot: usize) -> Result
     requires stable { IsStablePair (entry_at border.now slot).held }
     ensures { (pair : AnyPair) → (entry_at border.now slot).held ≡ Stable pair → IfOk result (λ entry. entry ≡ entry_below pair) }
 {
-    match border.load(slot) {
-        Some(Held::Stable(pair)) => entry_of(alloc, pair),
+    match border.load(slot).map(Held::seen) {
+        Some(HeldRef::Stable(pair)) => entry_of(alloc, pair),
         _ => unreachable!(),
     }
 }

@@ -1,8 +1,9 @@
 //! MakeLayer: makes the tree of the next layer.
 
 ghost use Rattle.std.specs.Prelude.{◌≡◌, IfOk, OnOk, OnErr, length};
-ghost use Rattle.mt_border.specs.{declared.entry.Pair.{Pair as AnyPair}, declared.entry.Held.TheVariants.Stable};
+ghost use Rattle.mt_border.specs.{Held.{Pair as AnyPair}, Held.Stable};
 ghost use Rattle.mt_arena.specs.{Layers.slot_at, Arena.{content_of, Guarantee}, Accesses.at, Layering.{prefix_below, with_layer}};
+ghost use Rattle.mt_descent.specs.KeptWalks.{walk_place};
 ghost use Rattle.mt_insert.specs.KeptPuts.{IsAtMakeLayer};
 ghost use Rattle.mt_layer.specs.{NewLayers.entry_below, Builds.IsMakeLayer};
 ghost use Rattle.mt_held.specs.Unlock.{IsUnlock};
@@ -51,8 +52,8 @@ fn grow_layer(
 ) -> Result<usize, AllocError>
     requires kept { IsAtMakeLayer arena.old operation key.now walk.now }
     ensures number { IfOk result (λ tree. tree ≡ length arena.old.trees) }
-    ensures is { (pair : AnyPair) → (slot_at (at arena.old walk.now.place.node) walk.now.slot).held ≡ Stable pair →
-        OnOk result (arena.new ≡ with_layer arena.old (prefix_below arena.old walk.now.place.node walk.now.slot) (entry_below pair) operation) }
+    ensures is { (pair : AnyPair) → (slot_at (at arena.old walk.now.place.node) (walk_place arena.old walk.now)).held ≡ Stable pair →
+        OnOk result (arena.new ≡ with_layer arena.old (prefix_below arena.old walk.now.place.node (walk_place arena.old walk.now)) (entry_below pair) operation) }
     ensures unchanged_on_err { OnErr result (arena.new ≡ arena.old) }
     ensures step { Guarantee operation arena.old arena.new }
     ensures contents { content_of arena.new ≡ content_of arena.old }

@@ -1,8 +1,9 @@
 -- What is kept once the pair has the number of its tree, that the operation holds no other node, and that no pair gets another stamp.
 use Rattle.std.proofs.Common.{rules, Some, None}
-use Rattle.mt_border.specs.declared.entry.Held.TheVariants.{Unstable}
+use Rattle.mt_border.specs.Held.{Unstable}
 use Rattle.mt_arena.specs.{Accesses.at, Layering.with_held}
 use Rattle.mt_held.proofs.Holders.{only_changed}
+use Rattle.mt_descent.specs.KeptWalks.{walk_place}
 use Rattle.mt_layer.proofs.{Linking.{numbered, same_tree}, Stamps.held_keeps}
 use Rattle.mt_layer.proofs.phases.link.link.Goals as goal
 
@@ -20,6 +21,6 @@ returns c = record {
         let v = c.args.arena.now in
         let w = c.args.walk.now in
         let h = c.requires.kept.1 in
-        rw (c.link.ensures.is h.pair h.makes.layer.slot.is) (only_changed v c.args.operation w.place.node (with_held (at v w.place.node) w.slot (Unstable h.pair (Some c.tree_of.result))) only);
+        rw (c.link.ensures.is h.pair h.makes.layer.slot.is) (only_changed v c.args.operation w.place.node (with_held (at v w.place.node) (walk_place v w) (Unstable h.pair (Some c.tree_of.result))) only);
   };
 }

@@ -1,6 +1,7 @@
 -- What is kept once the tree is made, that the operation holds no other node, and that no pair gets another stamp, also where there is no memory.
 use Rattle.std.proofs.Common.{rules}
 use Rattle.mt_arena.specs.Layering.{prefix_below}
+use Rattle.mt_descent.specs.KeptWalks.{walk_place}
 use Rattle.mt_layer.{specs.NewLayers.entry_below, proofs.{Making.{made, only_made}, Stamps.layer_keeps}}
 use Rattle.mt_layer.proofs.phases.make_layer.make_layer.Goals as goal
 
@@ -15,12 +16,12 @@ returns-in-Ok-clause-makes c = record {
     stamps = let v = c.args.arena.now in
         let w = c.args.walk.now in
         let h = c.requires.kept in
-        rw (c.in-Ok.ensures.is h.pair h.stable) (layer_keeps v (prefix_below v w.place.node w.slot) (entry_below h.pair) c.args.operation c.facts.ensures.arena);
+        rw (c.in-Ok.ensures.is h.pair h.stable) (layer_keeps v (prefix_below v w.place.node (walk_place v w)) (entry_below h.pair) c.args.operation c.facts.ensures.arena);
     holds = λ only.
         let v = c.args.arena.now in
         let w = c.args.walk.now in
         let h = c.requires.kept in
-        rw (c.in-Ok.ensures.is h.pair h.stable) (only_made v c.args.operation w.place.node (prefix_below v w.place.node w.slot) (entry_below h.pair) only);
+        rw (c.in-Ok.ensures.is h.pair h.stable) (only_made v c.args.operation w.place.node (prefix_below v w.place.node (walk_place v w)) (entry_below h.pair) only);
   };
 }
 

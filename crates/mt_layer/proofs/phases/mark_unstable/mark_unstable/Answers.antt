@@ -1,8 +1,9 @@
 -- What is kept once the pair is unstable, that the operation holds no other node, and that no pair gets another stamp.
 use Rattle.std.{proofs.Common.rules, specs.Prelude.None}
-use Rattle.mt_border.specs.declared.entry.Held.TheVariants.{Stable, Unstable}
+use Rattle.mt_border.specs.Held.{Stable, Unstable}
 use Rattle.mt_arena.specs.{Accesses.at, Layering.with_held}
 use Rattle.mt_held.proofs.Holders.{only_changed}
+use Rattle.mt_descent.specs.KeptWalks.{walk_place}
 use Rattle.mt_layer.proofs.{Linking.unstable, Stamps.held_keeps}
 use Rattle.mt_layer.proofs.phases.mark_unstable.mark_unstable.Goals as goal
 
@@ -20,6 +21,6 @@ returns c = record {
         let v = c.args.arena.now in
         let w = c.args.walk.now in
         let h = c.requires.kept.1 in
-        rw (c.mark_unstable.ensures.is h.pair h.makes.layer.slot.is) (only_changed v c.args.operation w.place.node (with_held (at v w.place.node) w.slot (Unstable h.pair None)) only);
+        rw (c.mark_unstable.ensures.is h.pair h.makes.layer.slot.is) (only_changed v c.args.operation w.place.node (with_held (at v w.place.node) (walk_place v w) (Unstable h.pair None)) only);
   };
 }
