@@ -1,8 +1,9 @@
 -- That the layer to which a slot leads may be taken out once its empty root is held, and what is kept then: for `clean_layer`.
 use Rattle.std.proofs.{Common.{◌≡◌, ◌≢◌, ℕ, ◌<◌, [], length, set, None, refl, sym, ap, subst, ◌∙◌, inl, inr, arith}, lemmas.Bool.cases_eq}
 use Rattle.std.proofs.lemmas.List.{length-set}
-use Rattle.mt_border.specs.{declared.entry.Held.TheVariants.Link, Entries.without}
-use Rattle.mt_arena.specs.{declared.tree.Standing.TheVariants.Dead, NodeView.NodeView, Settled.IsSettled, Forests.tree_at, Layers.{slot_at, LeadsTo}}
+use Rattle.mt_border.specs.{Held.Link, Entries.without}
+use Rattle.mt_order.specs.Places.{order_without}
+use Rattle.mt_arena.specs.{declared.tree.Standing.TheVariants.Dead, NodeView.{NodeView, place_at}, Settled.IsSettled, Forests.tree_at, Layers.{slot_at, LeadsTo}}
 use Rattle.mt_arena.specs.{Edits.{locked, retired, with_slots}, Ways.IsFreeRoot, Removals.{MayDropLayer, without_layer}, Arena.{ArenaView, IsArena, Guarantee}}
 use Rattle.mt_arena.specs.Accesses.{at, IsOpen}
 use Rattle.mt_arena.proofs.{Pairs.{here, there}, SettledEdits.settled_locked, Alone.alone, OneLink.{IsLinkTo, leads, differs}, Guarantees.guarantee_on}
@@ -94,7 +95,7 @@ module _ (v : ArenaView) (op node slot tree : ℕ) (arena : IsArena v.nodes v.tr
       u = without_layer m node slot tree step
 
       abbrev y : NodeView
-      y = with_slots (at m node) (without (at m node).slots (slot_at (at m node) slot))
+      y = with_slots (at m node) (without (at m node).slots (slot_at (at m node) slot)) (order_without (at m node).order slot)
 
       pub drop_size : length u.nodes ≡ length v.nodes
       drop_size = length-set (set m.nodes node y) r (retired (at m r)) ∙ length-set m.nodes node y ∙ length-set v.nodes r (locked (at v r) op)
@@ -153,6 +154,11 @@ module _ (v m u : ArenaView) (op node slot tree : ℕ) (arena : IsArena v.nodes 
       (clean_step v op node slot tree arena h free step
       (subst (λ (a : ArenaView). Guarantee op v a) is one)
       (subst (λ (a : ArenaView). Guarantee op a (without_layer (with_lock v (root_of v tree) op) node slot tree step)) is (subst (λ (a : ArenaView). Guarantee op m a) after two)))
+
+-- a slot stands where it stood
+pub slot_kept : (v m : ArenaView) (op node place slot tree : ℕ) (arena : IsArena v.nodes v.trees) (h : HoldsLink v op node place tree) (free : (at v (root_of v tree)).holder ≡ None) → m ≡ with_lock v (root_of v tree) op
+    → place_at (at m node) slot ≡ place_at (at v node) slot
+slot_kept v m op node place slot tree arena h free is = ap (λ (a : ArenaView). place_at (at a node) slot) is ∙ ap (λ (n : NodeView). place_at n slot) (node_still v op node place tree arena h free)
 
 -- the link of a held node as another lock is taken
 pub link_there : (v m : ArenaView) (op node slot tree : ℕ) (arena : IsArena v.nodes v.trees) (h : HoldsLink v op node slot tree) (free : (at v (root_of v tree)).holder ≡ None) → m ≡ with_lock v (root_of v tree) op → (slot_at (at m node) slot).held ≡ Link tree

@@ -3,14 +3,16 @@ use Rattle.std.proofs.{Common.{◌≡◌, ◌≢◌, ℕ, ◌-◌, ◌<◌, List
 use Rattle.mt_version.specs.Parts.{Parts}
 use Rattle.mt_slices.specs.Slices.{slice_of, mark_of, suffix_of}
 use Rattle.mt_rows.specs.Rows.{Bytes}
-use Rattle.mt_border.specs.{declared.entry.Entry.Entry, declared.entry.Held.TheVariants.Stable, declared.entry.FoundKind.TheVariants.ThisKey, Entry.IsKind}
+use Rattle.mt_border.specs.{declared.entry.Entry.Entry, Held.Stable, declared.entry.FoundKind.TheVariants.ThisKey, Entry.IsKind}
 use Rattle.mt_arena.specs.{NodeView.NodeView, Nodes.HasChild, Layers.slot_at, Guarantee.IsUntouched, Removals.AreBeside, Arena.{ArenaView, Guarantee}}
+use Rattle.mt_order.specs.Places.{Places, place_of_slot}
 use Rattle.mt_arena.specs.Accesses.{at}
+use Rattle.mt_descent.specs.KeptWalks.{walk_place}
 use Rattle.mt_arena.proofs.Settling.{followed_stays}
 use Rattle.mt_operation.specs.declared.phase.Phase.{Phase}
 use Rattle.mt_operation.specs.{declared.phase.Phase.TheVariants.{LockPrev, LockAbove, Unlink, FixNext, Collapse, CleanLayer, Unlock}, declared.walk.Walk.Walk}
 use Rattle.mt_operation.specs.{declared.task.Task.Task, declared.prepared.Prepared.Prepared, declared.removal.Removal.Removal}
-use Rattle.mt_held.proofs.Rely.{held, open_here, through_stays, untouched, held_stays, return_stays}
+use Rattle.mt_held.proofs.Rely.{held, in_slot_stays, open_here, through_stays, untouched, held_stays, return_stays}
 use Rattle.mt_remove.specs.KeptRemovals.{HoldsRemoval, IsAtDropKey, IsOurs, IsLowerRoot, IsRemoving, HoldsEmpty, HoldsLeft, HoldsAbove, IsNamedBy, KeptRemoval, IsCleaning}
 
 -- two children stay beside each other
@@ -104,14 +106,11 @@ module _ (op o : ℕ) (old new : ArenaView) (g : Guarantee op old new) (other : 
       let u = untouched op o old new g other k h.holds.judged.held in
       record {
         holds = held op o old new g other task.key w h.holds;
-        in_slot = record {
-          in_range = subst (λ (s : List Entry). w.slot < length s) (sym u.slots) h.in_slot.in_range;
-          slice_is = subst (λ (s : List Entry). (slot_at (record n { slots = s }) w.slot).slice ≡ slice_of task.key w.layer) (sym u.slots) h.in_slot.slice_is;
-          mark_is = subst (λ (s : List Entry). (slot_at (record n { slots = s }) w.slot).mark ≡ mark_of task.key w.layer) (sym u.slots) h.in_slot.mark_is;
-          kind_is = subst (λ (s : List Entry). IsKind (slot_at (record n { slots = s }) w.slot) (suffix_of task.key w.layer) ThisKey) (sym u.slots) h.in_slot.kind_is;
-        };
+        in_slot = in_slot_stays n (at new w.place.node) w.slot task.key w.layer ThisKey (sym u.slots) (sym u.order) h.in_slot;
         pair = h.pair;
-        stable = subst (λ (s : List Entry). (slot_at (record n { slots = s }) w.slot).held ≡ Stable h.pair) (sym u.slots) h.stable;
+        stable =
+            subst (λ (s : List Entry). (slot_at (record n { slots = s }) (walk_place new w)).held ≡ Stable h.pair) (sym u.slots)
+            (subst (λ (p : Places). (slot_at n (place_of_slot p.live w.slot)).held ≡ Stable h.pair) (sym u.order) h.stable);
         ready = h.ready;
       }
 

@@ -1,8 +1,8 @@
 -- What the step does that takes an empty layer out: CleanLayer.
 use Rattle.std.specs.Prelude.{◌≡◌, ◌≢◌, ◌⊎◌, ℕ, [], Some, None}
 use Rattle.mt_rows.specs.Rows.{Bytes}
-use Rattle.mt_border.specs.{declared.entry.Held.TheVariants.Link, declared.entry.FoundKind.TheVariants.{Link as LinkKind}}
-use Rattle.mt_arena.specs.{NodeView.NodeView, Layers.slot_at, Arena.ArenaView, Accesses.at, Removals.without_layer}
+use Rattle.mt_border.specs.{Held.Link, declared.entry.FoundKind.TheVariants.{Link as LinkKind}}
+use Rattle.mt_arena.specs.{NodeView.{NodeView, place_at}, Layers.slot_at, Arena.ArenaView, Accesses.at, Removals.without_layer}
 use Rattle.mt_operation.specs.{declared.phase.Phase.TheVariants.Unlock, declared.walk.Walk.Walk, declared.removal.Removal.Removal}
 use Rattle.mt_descent.specs.{KeptWalks.IsInSlot, WalkMoves.KeepsPairs}
 use Rattle.mt_held.specs.Moves.{walk_at}
@@ -11,7 +11,7 @@ use Rattle.mt_remove.specs.{KeptRemovals.{HoldsRemoval, KeptRemoval}, RemovalEdi
 -- a slot of the node leads the key to this tree
 pub record LeadsTo (n : NodeView) (key : Bytes) (layer tree slot : ℕ) : Type 0 where
   pub in_slot : IsInSlot n slot key layer LinkKind
-  pub link : (slot_at n slot).held ≡ Link tree
+  pub link : (slot_at n (place_at n slot)).held ≡ Link tree
 
 -- no slot does so: nothing is done
 pub record FindsNoLink (old new : ArenaView) (key : Bytes) (before after : Walk) (s t : Removal) (tree : ℕ) : Type 0 where
@@ -36,7 +36,7 @@ pub record DropsLayer (op step : ℕ) (old new : ArenaView) (key : Bytes) (befor
   pub empty : ((at old (root_of old tree)).level ≡ 0) × ((at old (root_of old tree)).slots ≡ [])
   pub slot : ℕ
   pub leads : LeadsTo (at old before.place.node) key before.layer tree slot
-  pub is : new ≡ without_layer (with_lock old (root_of old tree) op) before.place.node slot tree step
+  pub is : new ≡ without_layer (with_lock old (root_of old tree) op) before.place.node (place_at (at old before.place.node) slot) tree step
   pub goes : GoesOnEmptied new before after (record s { below = Some (root_of old tree) }) t
 
 -- one of these, for the tree that the operation goes to take out

@@ -1,13 +1,13 @@
 -- What is kept of a removal, by its next phase. Each fact speaks of nodes that the operation holds.
 use Rattle.std.specs.Prelude.{◌≡◌, ◌≢◌, ℕ, ◌<◌, ◌⊎◌, true, false, [], ◌∷◌, length, Option, Some, None}
 use Rattle.mt_rows.specs.Rows.{Bytes}
-use Rattle.mt_border.specs.{declared.entry.Pair.Pair, declared.entry.Held.TheVariants.{Stable, Link}, declared.entry.FoundKind.TheVariants.ThisKey}
+use Rattle.mt_border.specs.{Held.Pair, Held.{Stable, Link}, declared.entry.FoundKind.TheVariants.ThisKey}
 use Rattle.mt_arena.specs.{NodeView.NodeView, Nodes.HasChild, Layers.slot_at, Lags.IsFollowedBy, Arena.ArenaView, Accesses.{at, IsHeld, IsOpen}}
 use Rattle.mt_arena.specs.Removals.{AreBeside}
 use Rattle.mt_operation.specs.declared.phase.Phase.{Phase}
 use Rattle.mt_operation.specs.{declared.phase.Phase.TheVariants.{LockPrev, LockAbove, Unlink, FixNext, Collapse, CleanLayer, Unlock}, declared.walk.Walk.Walk}
 use Rattle.mt_operation.specs.{declared.task.Task.Task, declared.prepared.Prepared.Prepared, declared.removal.Removal.Removal}
-use Rattle.mt_descent.specs.KeptWalks.{GoesThrough, IsInSlot}
+use Rattle.mt_descent.specs.KeptWalks.{GoesThrough, IsInSlot, walk_place}
 use Rattle.mt_held.specs.Holds.{HoldsBorder, MayReturn}
 use Rattle.mt_remove.specs.Writes.{IsReady}
 
@@ -23,7 +23,7 @@ pub record IsAtDropKey (v : ArenaView) (op : ℕ) (task : Task) (prepared : Prep
   pub holds : HoldsBorder v op task.key w
   pub in_slot : IsInSlot (at v w.place.node) w.slot task.key w.layer ThisKey
   pub pair : Pair
-  pub stable : (slot_at (at v w.place.node) w.slot).held ≡ Stable pair
+  pub stable : (slot_at (at v w.place.node) (walk_place v w)).held ≡ Stable pair
   pub ready : IsReady task pair.row prepared
 
 -- a node of the walk's tree that the operation may give back, and one of another tree: the root of the layer below

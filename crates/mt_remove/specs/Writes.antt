@@ -1,7 +1,7 @@
 -- What a removal writes: the write of it for the tape.
 use Rattle.std.specs.Prelude.{◌≡◌, ℕ, Bool, true, false, Some, None}
 use Rattle.mt_rows.specs.{declared.command.Command.Command, declared.command.Command.TheVariants.Remove, Rows.Columns, Commands.key_of}
-use Rattle.mt_border.specs.{declared.entry.Held.Held, declared.entry.Pair.Pair, Entry.pair_of, Contents.owned}
+use Rattle.mt_border.specs.{Held.Held, Held.Pair, Entry.pair_of, Contents.owned}
 use Rattle.mt_tape.specs.declared.entry.Entry.{Entry as Write}
 use Rattle.mt_operation.specs.{declared.task.Task.Task, declared.prepared.Prepared.Prepared, Tasks.ask}
 

@@ -1,7 +1,7 @@
 //! CleanLayer: takes out the link to an empty layer, with its tree.
 
 ghost use Rattle.std.specs.Prelude.{◌≡◌, ◌≢◌, ◌<◌, ℕ, true, false, [], IfSome, IfNone, length, Some, None};
-ghost use Rattle.mt_arena.specs.{Settled.IsSettled, Arena.{content_of, Guarantee}, Accesses.at, Removals.without_layer};
+ghost use Rattle.mt_arena.specs.{NodeView.place_at, Settled.IsSettled, Arena.{content_of, Guarantee}, Accesses.at, Removals.without_layer};
 ghost use Rattle.mt_descent.specs.KeptWalks.{IsAtBorder};
 ghost use Rattle.mt_remove.specs.{KeptRemovals.{HoldsRemoval, HoldsLink, IsAtCleanLayer}, RemovalEdits.{with_lock, root_of}};
 ghost use Rattle.mt_remove.specs.CleanLayer.{LeadsTo, IsCleanLayer};
@@ -70,10 +70,11 @@ fn take_layer(
     step: u64,
     operation: usize,
 ) -> bool
-    requires held { HoldsLink arena.old operation walk.now.place.node slot tree }
+    requires held { HoldsLink arena.old operation walk.now.place.node (place_at (at arena.old walk.now.place.node) slot) tree }
     requires root { root ≡ root_of arena.old tree }
     requires free { (at arena.old root).holder ≡ None }
-    ensures drops { result ≡ true → arena.new ≡ without_layer (with_lock arena.old root operation) walk.now.place.node slot tree step }
+    ensures drops { result ≡ true → arena.new ≡ without_layer (with_lock arena.old root operation) walk.now.place.node
+        (place_at (at arena.old walk.now.place.node) slot) tree step }
     ensures leaves { result ≡ false → arena.new ≡ with_lock arena.old root operation }
     ensures empty { result ≡ true → ((at arena.old root).level ≡ 0) × ((at arena.old root).slots ≡ []) }
     ensures full { result ≡ false → (at arena.old root).level ≡ 0 → (at arena.old root).slots ≢ [] }

@@ -35,11 +35,7 @@ pub fn drop_key(
     ensures { IsDropKey operation step task.now arena.old arena.new tape.old tape.new tenants.old tenants.new walk.old walk.new removal.old removal.new }
 {
     arena.facts();
-    let Prepared {
-        suffix: _,
-        row: _,
-        write,
-    } = prepared;
+    let (_, write) = prepared.into_row();
     let _ = arena.drop_key(walk.place.node, walk.slot, operation);
     push_write(tape, write, step);
     tenants.count_removed(task.tenant);

@@ -2,8 +2,8 @@
 //! step that takes it out.
 
 ghost use Rattle.std.specs.Prelude.{◌≡◌, Some, IfOk, OnOk, OnErr};
-ghost use Rattle.mt_border.specs.{declared.entry.Pair.{Pair as AnyPair}, Entry.pair_of, Node.{IsLive, entry_at}, declared.entry.FoundKind.TheVariants.ThisKey};
-ghost use Rattle.mt_arena.specs.{Accesses.at, Layers.slot_at};
+ghost use Rattle.mt_border.specs.{Held.{Pair as AnyPair}, Entry.pair_of, Node.{IsLive, entry_at}, declared.entry.FoundKind.TheVariants.ThisKey};
+ghost use Rattle.mt_arena.specs.{NodeView.place_at, Accesses.at, Layers.slot_at};
 ghost use Rattle.mt_descent.specs.KeptWalks.{IsAtBorder, IsInSlot};
 ghost use Rattle.mt_held.specs.{Holds.HoldsBorder, Taping.reserving};
 ghost use Rattle.mt_remove.specs.{Writes.{IsRemoval, ReadyIn}, Judge.TellsLooked};
@@ -107,7 +107,7 @@ fn prepare(
     requires removal { IsRemoval task.now }
     requires kept { IsAtBorder arena.now task.now.key walk.now }
     requires slot { IsInSlot (at arena.now walk.now.place.node) slot task.now.key walk.now.layer ThisKey }
-    ensures ready { IfOk result (λ prepared. ReadyIn (slot_at (at arena.now walk.now.place.node) slot).held task.now prepared) }
+    ensures ready { IfOk result (λ prepared. ReadyIn (slot_at (at arena.now walk.now.place.node) (place_at (at arena.now walk.now.place.node) slot)).held task.now prepared) }
     ensures reserved { OnOk result (tape.new ≡ reserving tape.old) }
     ensures unchanged_on_err { OnErr result (tape.new ≡ tape.old) }
 {
@@ -136,11 +136,7 @@ fn prepared(
         before: Some(row.share()?),
         after: None,
     };
-    Ok(Prepared {
-        suffix: Suffix::new(Vec::new(alloc)),
-        row,
-        write,
-    })
+    Prepared::new(alloc, Suffix::new(Vec::new(alloc)), row, write)
 }
 
 // The row of a slot that has a pair, shared.
@@ -149,8 +145,8 @@ fn row_at(border: &Border, slot: usize) -> Result<Row, AllocError>
     requires pair { (pair : AnyPair) × (pair_of (entry_at border.now slot).held ≡ Some pair) }
     ensures { IfOk result (λ row. (pair : AnyPair) → pair_of (entry_at border.now slot).held ≡ Some pair → row ≡ pair.row) }
 {
-    match border.load(slot) {
-        Some(Held::Stable(pair) | Held::Unstable(pair, _)) => pair.row.share(),
-        _ => unreachable!(),
+    match border.load(slot).and_then(Held::pair) {
+        Some(pair) => pair.row.share(),
+        None => unreachable!(),
     }
 }

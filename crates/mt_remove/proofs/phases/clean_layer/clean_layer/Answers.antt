@@ -1,6 +1,6 @@
 -- That the link leads to a tree, that another operation holds its root, and what is kept once that is held, and once the layer was taken out.
 use Rattle.std.proofs.Common.{rules, ◌≡◌, ℕ, Option, Some, None, inl, inr, sym, ap, subst, ◌∙◌}
-use Rattle.mt_arena.specs.{NodeView.NodeView, declared.tree.Tree.Tree, Accesses.at, Removals.without_layer}
+use Rattle.mt_arena.specs.{NodeView.{NodeView, place_at}, declared.tree.Tree.Tree, Accesses.at, Removals.without_layer}
 use Rattle.mt_operation.specs.declared.walk.Walk.{Walk}
 use Rattle.mt_descent.specs.WalkMoves.{Continues}
 use Rattle.mt_remove.specs.RemovalEdits.{root_of, with_lock, GoesOnEmptied}
@@ -14,13 +14,13 @@ held_by n m told holder node tells is = ap (λ (x : NodeView). x.holder) (sym no
 
 pub tree-requires : goal.tree-requires
 tree-requires c =
-    tree_there c.args.arena.now c.args.operation c.args.walk.now.place.node c.in-Some.slot c.cleaned-tree.result c.facts.ensures.arena
-    (held_link c.args.arena.now c.args.operation c.in-Some.slot c.cleaned-tree.result c.args.key.now c.args.walk.now c.args.removal.now c.requires.kept c.in-Some.ensures.some.in_slot.in_range c.in-Some.ensures.some.link)
+    tree_there c.args.arena.now c.args.operation c.args.walk.now.place.node (place_at (at c.args.arena.now c.args.walk.now.place.node) c.in-Some.slot) c.cleaned-tree.result c.facts.ensures.arena
+    (held_link c.args.arena.now c.args.operation (place_at (at c.args.arena.now c.args.walk.now.place.node) c.in-Some.slot) c.cleaned-tree.result c.args.key.now c.args.walk.now c.args.removal.now c.requires.kept c.in-Some.ensures.some.in_slot.in_range c.in-Some.ensures.some.link)
 
 pub returns-in-Some-holder-clause-another : goal.returns-in-Some-holder-clause-another
 returns-in-Some-holder-clause-another c = λ holds.
-    root_another c.args.arena.now c.args.operation c.in-Some.slot c.cleaned-tree.result c.in-Some-holder.holder c.tree.result.now.root c.args.key.now c.args.walk.now c.args.removal.now c.facts.ensures.arena c.requires.kept
-    (held_link c.args.arena.now c.args.operation c.in-Some.slot c.cleaned-tree.result c.args.key.now c.args.walk.now c.args.removal.now c.requires.kept c.in-Some.ensures.some.in_slot.in_range c.in-Some.ensures.some.link)
+    root_another c.args.arena.now c.args.operation (place_at (at c.args.arena.now c.args.walk.now.place.node) c.in-Some.slot) c.cleaned-tree.result c.in-Some-holder.holder c.tree.result.now.root c.args.key.now c.args.walk.now c.args.removal.now c.facts.ensures.arena c.requires.kept
+    (held_link c.args.arena.now c.args.operation (place_at (at c.args.arena.now c.args.walk.now.place.node) c.in-Some.slot) c.cleaned-tree.result c.args.key.now c.args.walk.now c.args.removal.now c.requires.kept c.in-Some.ensures.some.in_slot.in_range c.in-Some.ensures.some.link)
     (ap (λ (t : Tree). t.root) c.tree.ensures) (held_by _ _ _ _ c.node.ensures c.holder.ensures c.in-Some-holder.is) holds
 
 pub returns-then-take_layer-clause-cleans : goal.returns-then-take_layer-clause-cleans
@@ -35,7 +35,7 @@ returns-then-take_layer-clause-cleans c =
     let r = c.args.removal.now in
     let t = c.go_on_emptied.new.removal in
     let tree = c.cleaned-tree.result in
-    let slot = c.in-Some.slot in
+    let slot = place_at (at v w.place.node) c.in-Some.slot in
     let root = c.tree.result.now.root in
     let arena = c.facts.ensures.arena in
     let kept = c.requires.kept in
@@ -53,7 +53,7 @@ returns-then-take_layer-clause-cleans c =
       is = inr (inr (record {
         free = ap (λ k. (at v k).holder) (sym root_is) ∙ free;
         empty = (ap (λ k. (at v k).level) (sym root_is) ∙ empty.0, ap (λ k. (at v k).slots) (sym root_is) ∙ empty.1);
-        slot = slot;
+        slot = c.in-Some.slot;
         leads = leads;
         is = dropped ∙ ap (λ (k : ℕ). without_layer (with_lock v k o) w.place.node slot tree step) root_is;
         goes = subst (λ (k : ℕ). GoesOnEmptied u w after (record r { below = Some k }) t) root_is goes;
@@ -73,7 +73,7 @@ returns-else-take_layer-clause-cleans c =
     let w = c.args.walk.now in
     let r = c.args.removal.now in
     let tree = c.cleaned-tree.result in
-    let slot = c.in-Some.slot in
+    let slot = place_at (at v w.place.node) c.in-Some.slot in
     let root = c.tree.result.now.root in
     let arena = c.facts.ensures.arena in
     let kept = c.requires.kept in
@@ -86,7 +86,7 @@ returns-else-take_layer-clause-cleans c =
       tree = tree;
       cleans = c.cleaned-tree.ensures;
       is = inr (inl (record {
-        slot = slot;
+        slot = c.in-Some.slot;
         leads = leads;
         free = ap (λ k. (at v k).holder) (sym root_is) ∙ free;
         full = λ border none. c.take_layer.ensures.full c.if-take_layer.false (ap (λ k. (at v k).level) root_is ∙ border) (ap (λ k. (at v k).slots) root_is ∙ none);

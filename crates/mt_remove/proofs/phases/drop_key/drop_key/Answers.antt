@@ -5,7 +5,8 @@ use Rattle.mt_border.specs.{declared.entry.Entry.Entry, Entries.without}
 use Rattle.mt_tape.specs.declared.entry.Entry.{Entry as Write}
 use Rattle.mt_arena.specs.{Edits.with_slots, Arena.{ArenaView, content_of}, Accesses.{at, with_node}}
 use Rattle.mt_operation.specs.{declared.removal.Removal.Removal, declared.walk.Walk.Walk}
-use Rattle.mt_descent.specs.WalkMoves.{Continues}
+use Rattle.mt_order.specs.Places.{order_without}
+use Rattle.mt_descent.specs.{KeptWalks.walk_place, WalkMoves.Continues}
 use Rattle.mt_held.{specs.{Holds.HoldsOnly, Taping.pushed, Moves.walk_at}, proofs.Places.{row_here, may_store}}
 use Rattle.mt_remove.specs.KeptRemovals.{IsEmptyChild, IsUnburdened, KeptRemoval}
 use Rattle.mt_remove.proofs.{Dropping.{dropped_kept, dropped_only}, GoingOn.{emptied_walk, emptied_either, emptied_child}}
@@ -30,7 +31,7 @@ returns c =
     let t = c.go_on_emptied.new.removal in
     let arena = c.facts.ensures.arena in
     let kept = c.requires.kept in
-    let is = c.drop_key.ensures.is ∙ ap (λ (e : Entry). with_node v k (with_slots (at v k) (without (at v k).slots e))) c.drop_key.ensures.before in
+    let is = c.drop_key.ensures.is ∙ ap (λ (e : Entry). with_node v k (with_slots (at v k) (without (at v k).slots e) (order_without (at v k).order (walk_place v w)))) c.drop_key.ensures.before in
     let goes = c.go_on_emptied.ensures in
     let walk = emptied_walk u w after r t goes in
     let free : IsUnburdened t = record {
@@ -45,7 +46,7 @@ returns c =
         was_there = row_here v o key w arena kept.holds w.slot kept.pair kept.in_slot kept.stable;
         contents = c.drop_key.ensures.contents key kept.pair (may_store v o key w arena kept.holds w.slot kept.pair kept.in_slot kept.stable)
             ∙ ap (λ (q : ℕ × Bytes). finite.remove (content_of v) q) c.requires.removal.owner;
-        tape_is = c.push_write.ensures ∙ ap (λ (e : Write). pushed c.args.tape.now (record e { step = c.args.step })) kept.ready;
+        tape_is = c.push_write.ensures ∙ ap (λ (e : Write). pushed c.args.tape.now (record e { step = c.args.step })) (c.into_row-write.ensures.write ∙ kept.ready);
       };
       count = c.count_removed.ensures.counted;
       others = c.count_removed.ensures.others;
@@ -54,8 +55,8 @@ returns c =
       guarantee = c.drop_key.ensures.step;
       kept = subst (λ (x : Walk). KeptRemoval after.phase u o key x t) (sym walk)
           (subst (λ (a : ArenaView). KeptRemoval after.phase a o key (walk_at after.phase w) t) (sym is)
-          (dropped_kept v o w.slot key w arena kept.holds t free after.phase (emptied_either u w after r t goes)
+          (dropped_kept v o (walk_place v w) key w arena kept.holds t free after.phase (emptied_either u w after r t goes)
           (λ prev. subst (λ (a : ArenaView). IsEmptyChild (at a k)) is (emptied_child u w after r t goes prev))));
       holds = λ only. subst (λ (x : Walk). HoldsOnly u o x.place.node) (sym walk)
-          (subst (λ (a : ArenaView). HoldsOnly a o k) (sym is) (dropped_only v o w.slot key w arena kept.holds only));
+          (subst (λ (a : ArenaView). HoldsOnly a o k) (sym is) (dropped_only v o (walk_place v w) key w arena kept.holds only));
     }

@@ -1,19 +1,24 @@
 -- That a removal which meets a link may load its tree, and goes on there; and that no slot has one where the node has a pair.
-use Rattle.std.proofs.Common.{ap, inl, inr}
-use Rattle.mt_arena.specs.{NodeView.NodeView, Accesses.at}
-use Rattle.mt_held.proofs.{Looks.{link_there, leads_there}, Places.meets_link}
+use Rattle.std.proofs.Common.{inl, inr}
+use Rattle.mt_arena.specs.Accesses.{at}
+use Rattle.mt_held.proofs.{Looks.{link_there, live_there, leads_there}, Places.meets_link}
 use Rattle.mt_remove.proofs.Linked.{no_link_here, no_link_long}
 use Rattle.mt_remove.proofs.phases.follow.follow.Goals as goal
 
 pub tree_at-tree-requires-clause-link : goal.tree_at-tree-requires-clause-link
 tree_at-tree-requires-clause-link c =
     let found = rw (c.in-Slot-default-Link.field-1-is) at c.in-Slot-default-Link.ensures in
-    link_there (at c.args.arena.now c.args.walk.now.place.node) c.border.result.now c.in-Slot-default-Link.slot c.args.key.now c.args.walk.now.layer (ap (λ (n : NodeView). n.slots) c.border.ensures) found
+    link_there (at c.args.arena.now c.args.walk.now.place.node) c.border.result.now _ _ _ _ c.in-Slot-default-Link.slot c.border.ensures c.args.key.now c.args.walk.now.layer found
+
+pub tree_at-tree-requires-clause-live : goal.tree_at-tree-requires-clause-live
+tree_at-tree-requires-clause-live c =
+    let found = rw (c.in-Slot-default-Link.field-1-is) at c.in-Slot-default-Link.ensures in
+    live_there (at c.args.arena.now c.args.walk.now.place.node) c.border.result.now _ _ _ _ c.in-Slot-default-Link.slot c.border.ensures c.args.key.now c.args.walk.now.layer _ found
 
 pub returns-in-Slot-default-Link : goal.returns-in-Slot-default-Link
 returns-in-Slot-default-Link c =
     let found = rw (c.in-Slot-default-Link.field-1-is) at c.in-Slot-default-Link.ensures in
-    let leads = leads_there (at c.args.arena.now c.args.walk.now.place.node) c.border.result.now c.in-Slot-default-Link.slot c.tree_at-tree.result (ap (λ (n : NodeView). n.slots) c.border.ensures) c.tree_at-tree.ensures in
+    let leads = leads_there (at c.args.arena.now c.args.walk.now.place.node) c.border.result.now _ _ _ _ c.in-Slot-default-Link.slot c.border.ensures c.tree_at-tree.result c.tree_at-tree.ensures in
     inl (record {
       slot = c.in-Slot-default-Link.slot;
       in_slot = found;
