@@ -3,7 +3,7 @@ use Rattle.std.proofs.Common.{None, Option, Some, [], ap, arith, false, inl, inr
 use Rattle.std.proofs.{lemmas.Bool.{cases_lt, both_ways}, lemmas.List.length-set}
 use Rattle.std.specs.Prelude.{◌⊎◌}
 use Rattle.mt_rows.specs.Rows.{Bytes}
-use Rattle.mt_border.specs.{declared.entry.Entry.Entry, declared.entry.Held.Held, declared.entry.Held.TheVariants.{Link as LinkTo, Unstable}}
+use Rattle.mt_border.specs.{declared.entry.Entry.Entry, Held.Held, Held.{Link as LinkTo, Unstable}}
 use Rattle.mt_arena.specs.{declared.tree.Tree.Tree, declared.tree.Standing.TheVariants.{Live, Made}, NodeView.{NodeView, node_at}, Forests.tree_at}
 use Rattle.mt_arena.specs.{Layering.{prefix_below, root_of, with_held, with_layer, with_link, with_slot}, Arena.{ArenaView, Guarantee, content_of}}
 use Rattle.mt_arena.specs.Accesses.{IsHeld, at}
@@ -11,7 +11,7 @@ use Rattle.mt_arena.proofs.Pairs.{before as as_before}
 use Rattle.mt_operation.specs.{declared.phase.Phase.Phase, declared.phase.Phase.TheVariants.{Done, Link, MakeLayer, MarkLayer, MarkUnstable, Unlock}}
 use Rattle.mt_operation.specs.{declared.walk.Walk.Walk, declared.outcome.Outcome.Outcome, Operations.SplitsView, Phases.{IsLayerPhase, MayFollow}}
 use Rattle.mt_operation.specs.declared.removal.Removal.{Removal}
-use Rattle.mt_descent.specs.WalkMoves.{Continues}
+use Rattle.mt_descent.specs.{KeptWalks.walk_place, WalkMoves.Continues}
 use Rattle.mt_held.specs.Holds.{HoldsOnly}
 use Rattle.mt_insert.proofs.InsertingChildren.{at_p}
 use Rattle.mt_layer.specs.{KeptLayers.KeptLayer, NewLayers.{KeepsStamps, entry_below, walk_at}, Builds.{IsLayerFrom, KeepsLayer}}
@@ -122,13 +122,13 @@ pub record BuildsLayer (o : ℕ) (old new : ArenaView) (key : Bytes) (before aft
 pub layer_leaves : (p : Phase) → IsLayerPhase p → (o : ℕ) (key : Bytes) (old new : ArenaView) (before after : Walk) → KeptLayer p old o key before
     → IsLayerFrom p o key old new before after → LeavesNodes o old new
 layer_leaves MakeLayer i o key old new before after kept b =
-    subst (LeavesNodes o old) (sym (b.is kept.pair kept.stable)) (made_leaves o old (prefix_below old before.place.node before.slot) (entry_below kept.pair))
+    subst (LeavesNodes o old) (sym (b.is kept.pair kept.stable)) (made_leaves o old (prefix_below old before.place.node (walk_place old before)) (entry_below kept.pair))
 layer_leaves MarkUnstable i o key old new before after kept b =
-    subst (LeavesNodes o old) (sym (b.is kept.pair kept.makes.layer.slot.is)) (slot_leaves o old before.place.node before.slot kept.makes.layer.slot.held kept.makes.layer.slot.live (Unstable kept.pair None))
+    subst (LeavesNodes o old) (sym (b.is kept.pair kept.makes.layer.slot.is)) (slot_leaves o old before.place.node (walk_place old before) kept.makes.layer.slot.held kept.makes.layer.slot.live (Unstable kept.pair None))
 layer_leaves Link i o key old new before after kept b =
-    subst (LeavesNodes o old) (sym (b.is kept.pair kept.tree kept.makes.taken kept.makes.layer.slot.is)) (slot_leaves o old before.place.node before.slot kept.makes.layer.slot.held kept.makes.layer.slot.live (Unstable kept.pair (Some kept.tree)))
+    subst (LeavesNodes o old) (sym (b.is kept.pair kept.tree kept.makes.taken kept.makes.layer.slot.is)) (slot_leaves o old before.place.node (walk_place old before) kept.makes.layer.slot.held kept.makes.layer.slot.live (Unstable kept.pair (Some kept.tree)))
 layer_leaves MarkLayer i o key old new before after kept b =
-    subst (LeavesNodes o old) (sym (b.is kept.tree kept.makes.taken)) (link_leaves o old before.place.node before.slot kept.makes.layer.slot.held kept.makes.layer.slot.live kept.tree)
+    subst (LeavesNodes o old) (sym (b.is kept.tree kept.makes.taken)) (link_leaves o old before.place.node (walk_place old before) kept.makes.layer.slot.held kept.makes.layer.slot.live kept.tree)
 layer_leaves _ i o key old new before after kept b = absurd i
 
 -- what they do alike

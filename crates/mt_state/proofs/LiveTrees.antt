@@ -1,7 +1,7 @@
 -- Each pair in a slot of a tree that nobody is making stands for a key: for a get that loads.
 use Rattle.std.proofs.Common.{◌≡◌, ◌≢◌, ℕ, ◌<◌, length, Some, refl, Bool, true, false, List, ap, arith}
 use Rattle.mt_rows.specs.Rows.{Bytes}
-use Rattle.mt_border.{specs.{declared.entry.Pair.Pair, Entry.pair_of, declared.entry.Entry.Entry}, proofs.Edits.any_entry}
+use Rattle.mt_border.{specs.{Held.Pair, Entry.pair_of, declared.entry.Entry.Entry}, proofs.Edits.any_entry}
 use Rattle.mt_arena.specs.{declared.tree.Standing.Standing, declared.tree.Standing.TheVariants.{Made, Live, Dead}, Forests.layer_of, Layers.slot_at}
 use Rattle.mt_arena.specs.{Arena.{ArenaView, IsArena}, Accesses.{at, tree_of}, Ways.StandsFor}
 use Rattle.mt_state.specs.Invariant.{DeletedAreEmpty}

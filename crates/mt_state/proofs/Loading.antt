@@ -5,7 +5,7 @@ use Rattle.std.specs.{Prelude.{◌^◌, IsSomeAnd}, List.Contains, FinMap.get}
 use Rattle.mt_slices.specs.{Keys.stored_key, Slices.suffix_of}
 use Rattle.mt_rows.specs.{declared.reply.Reply.TheVariants.{Found, NoMemory}, Rows.{Bytes, Columns, shown as columns_shown}, Commands.key_of, Maps.is_get}
 use Rattle.mt_rows.proofs.ContentLaws.{get-tenant_map}
-use Rattle.mt_border.specs.{declared.entry.Pair.Pair, declared.entry.Held.Held, declared.entry.FoundKind.FoundKind}
+use Rattle.mt_border.specs.{Held.Pair, Held.Held, declared.entry.FoundKind.FoundKind}
 use Rattle.mt_border.specs.{declared.entry.FoundKind.TheVariants.{ThisKey, OtherLong, Link as ToTree}, Entry.{IsKind, pair_of}}
 use Rattle.mt_border.specs.Contents.{owned, IsOfTree, HasKey}
 use Rattle.mt_border.proofs.{Edits.any_entry, ContentsKeys.owned_at}
@@ -17,7 +17,7 @@ use Rattle.mt_arena.proofs.Owners.{found}
 use Rattle.mt_operation.specs.{declared.task.Task.Task, declared.phase.Phase.Phase, declared.phase.Phase.TheVariants.{Enter, Load, Confirm, Done}}
 use Rattle.mt_operation.specs.{declared.walk.Taken.Taken, declared.walk.Walk.Walk, declared.outcome.Outcome.Outcome, declared.operation.Operation.Operation}
 use Rattle.mt_operation.specs.{Tasks.ask, Operations.view_of, Phases.{is_done, MayFollow, IsOfKind}, Tables.{op_at as operation_at}}
-use Rattle.mt_descent.specs.{Pasts.{Past, AreStamped}, KeptWalks.{IsInSlot, IsAtLoad as WalksLoad, KeptAt, IsKept}, WalkMoves.{Continues, Loads, TakesOut}}
+use Rattle.mt_descent.specs.{Pasts.{Past, AreStamped}, KeptWalks.{IsInSlot, walk_place, IsAtLoad as WalksLoad, KeptAt, IsKept}, WalkMoves.{Continues, Loads, TakesOut}}
 use Rattle.mt_state.specs.{Views.{StateView, Core, shown, past_of, map_of}, Steps.told_change, Notes.{Notes, Says, columns_asked, ShowsRow, ShowsNone}}
 use Rattle.mt_state.specs.{Ways.ShowsTaken, KeptOperations.{IsOpenOperation, TellsTaken, IsAtLoad, IsAtConfirm, HasAnswer, IsKeptAt}}
 use Rattle.mt_state.specs.Invariant.{IsStampOf, StateInvariant}
@@ -25,7 +25,7 @@ use Rattle.mt_state.proofs.{Replies.get_asks, LiveTrees.slot_key, Telling.Gives,
 use Rattle.mt_state.proofs.{Still.{IsFree, IsUnready, still, still_gives}, Reading.{key_of_owner, walk_same}, Confirming.get_of, Bound.get_untold}
 use Rattle.mt_state.proofs.Lawful.{get_no_scan, stopped_free}
 use Rattle.mt_walks.specs.Walked.{IsWithin}
-use Rattle.mt_border.specs.declared.entry.Held.TheVariants as helds
+use Rattle.mt_border.specs.Held as helds
 use Rattle.mt_arena.proofs.Homes as homes
 use Rattle.mt_operation.specs.declared.walk.Aim.TheVariants as aims
 use Rattle.mt_operation.specs.declared.walk.Taken.TheVariants as takens
@@ -124,6 +124,10 @@ module _ (c : Core) (now : StateView) (o : ℕ) (is : shown c ≡ now) (h : Stat
     abbrev pub node : NodeView
     node = at c.arena op.walk.place.node
 
+    -- where its slot stands
+    abbrev pub place : ℕ
+    place = walk_place c.arena op.walk
+
     confirms : w.phase ≡ Confirm
     confirms = ap (λ (x : Walk). x.phase) loads.is
 
@@ -136,15 +140,15 @@ module _ (c : Core) (now : StateView) (o : ℕ) (is : shown c ≡ now) (h : Stat
         subst (λ t. (q : ℕ) → (tree_at c.arena.trees t).standing ≢ Made q) (sym walks_load.at_border.covers.remembered.tree_is) walks_load.at_border.through.unmade
 
     -- a pair in the slot stands for a key
-    stands : (pair : Pair) → op.walk.slot < length node.slots → pair_of (slot_at node op.walk.slot).held ≡ Some pair
-        → (key : Bytes) × (layer : ℕ) × StandsFor c.arena.nodes c.arena.trees key layer op.walk.place.node op.walk.slot pair
+    stands : (pair : Pair) → place < length node.slots → pair_of (slot_at node place).held ≡ Some pair
+        → (key : Bytes) × (layer : ℕ) × StandsFor c.arena.nodes c.arena.trees key layer op.walk.place.node place pair
     stands pair in_range held =
-        let s = slot_key c.arena arena h.deleted op.walk.place.node within unmade op.walk.slot pair in_range held in
+        let s = slot_key c.arena arena h.deleted op.walk.place.node within unmade place pair in_range held in
         (s.0, layer_of (tree_of c.arena op.walk.place.node).prefix, s.1)
 
     -- where nobody made a step since the search, a pair in the slot is that of the get's own key
     own_suffix : (held : Held) (pair : Pair) → pair_of held ≡ Some pair → (kind : FoundKind) → kind ≢ OtherLong
-        → IsKind (record { slice = (slot_at node op.walk.slot).slice; mark = (slot_at node op.walk.slot).mark; held = held }) (suffix_of op.task.key op.walk.layer) kind
+        → IsKind (record { slice = (slot_at node place).slice; mark = (slot_at node place).mark; held = held }) (suffix_of op.task.key op.walk.layer) kind
         → pair.suffix ≡ suffix_of op.task.key op.walk.layer
     own_suffix (helds.Stable p) pair e ThisKey leads k = ap (λ (x : Pair). x.suffix) (sym (same_Some p pair e)) ∙ k
     own_suffix (helds.Unstable p tree) pair e ThisKey leads k = ap (λ (x : Pair). x.suffix) (sym (same_Some p pair e)) ∙ k
@@ -154,8 +158,8 @@ module _ (c : Core) (now : StateView) (o : ℕ) (is : shown c ≡ now) (h : Stat
     own_suffix (helds.Unstable p tree) pair e ToTree leads k = absurd k.1
     own_suffix (helds.Link tree) pair e ToTree leads k = absurd (cc)
 
-    own_key : (pair : Pair) → op.walk.slot < length node.slots → pair_of (slot_at node op.walk.slot).held ≡ Some pair → op.last ≡ c.steps
-        → HasKey (tree_of c.arena op.walk.place.node).prefix op.walk.layer (slot_at node op.walk.slot) op.task.key
+    own_key : (pair : Pair) → place < length node.slots → pair_of (slot_at node place).held ≡ Some pair → op.last ≡ c.steps
+        → HasKey (tree_of c.arena op.walk.place.node).prefix op.walk.layer (slot_at node place) op.task.key
     own_key pair in_range held last =
         let f = loading.found last in
         let through = walks_load.at_border.through in
@@ -164,18 +168,18 @@ module _ (c : Core) (now : StateView) (o : ℕ) (is : shown c ≡ now) (h : Stat
               subst (λ t. IsOfTree (tree_at c.arena.trees t).prefix op.walk.layer op.task.key) (sym walks_load.at_border.covers.remembered.tree_is) through.of_tree;
           slice = f.in_slot.slice_is;
           mark = f.in_slot.mark_is;
-          suffix = λ p e. own_suffix (slot_at node op.walk.slot).held p e f.kind f.leads f.in_slot.kind_is;
+          suffix = λ p e. own_suffix (slot_at node place).held p e f.kind f.leads f.in_slot.kind_is;
         }
 
     -- what is noted of a row
-    shows_row : (pair : Pair) → op.walk.slot < length node.slots → (slot_at node op.walk.slot).held ≡ helds.Stable pair → row ≡ Some pair.row
+    shows_row : (pair : Pair) → place < length node.slots → (slot_at node place).held ≡ helds.Stable pair → row ≡ Some pair.row
         → w.right_at ≡ max op.walk.first pair.stamp → ShowsRow (shown c) (view_of op) told
     shows_row pair in_range is_held is_row is_right =
-        let held : pair_of (slot_at node op.walk.slot).held ≡ Some pair = ap pair_of is_held in
+        let held : pair_of (slot_at node place).held ≡ Some pair = ap pair_of is_held in
         let s = stands pair in_range held in
         let asked = get_asks (ask op.task) gets in
-        let stamp = stamp_of c h arena s.0 s.1 op.walk.place.node op.walk.slot pair s.2 in
-        let now_row = row_of c h arena s.0 s.1 op.walk.place.node op.walk.slot pair s.2 in
+        let stamp = stamp_of c h arena s.0 s.1 op.walk.place.node place pair s.2 in
+        let now_row = row_of c h arena s.0 s.1 op.walk.place.node place pair s.2 in
         record {
           columns = asked.0;
           asked = asked.1;
@@ -192,22 +196,22 @@ module _ (c : Core) (now : StateView) (o : ℕ) (is : shown c ≡ now) (h : Stat
           wrote = λ later.
               let is_stamp : w.right_at ≡ pair.stamp = omega (arith, is_right, later) in
               let write = stamp.2 (omega (arith, is_stamp, later, always.floor begun)) in
-              (write.0, write.1, write.2 ∙ sym is_stamp, write.3, row_written c h arena s.0 s.1 op.walk.place.node op.walk.slot pair write.0 s.2 write.1 write.2 write.3);
+              (write.0, write.1, write.2 ∙ sym is_stamp, write.3, row_written c h arena s.0 s.1 op.walk.place.node place pair write.0 s.2 write.1 write.2 write.3);
           own = λ last.
-              sym (owned_at (tree_of c.arena op.walk.place.node).prefix s.1 (slot_at node op.walk.slot) s.0 pair s.2.has held)
-              ∙ owned_at (tree_of c.arena op.walk.place.node).prefix op.walk.layer (slot_at node op.walk.slot) op.task.key pair (own_key pair in_range held last) held
+              sym (owned_at (tree_of c.arena op.walk.place.node).prefix s.1 (slot_at node place) s.0 pair s.2.has held)
+              ∙ owned_at (tree_of c.arena op.walk.place.node).prefix op.walk.layer (slot_at node place) op.task.key pair (own_key pair in_range held last) held
               ∙ owned_is;
         }
 
     -- and of none: a link for the key, or somebody made a step since
     link_kind : (held : Held) (tree : ℕ) → held ≡ helds.Link tree → (kind : FoundKind) → kind ≢ OtherLong
-        → IsKind (record { slice = (slot_at node op.walk.slot).slice; mark = (slot_at node op.walk.slot).mark; held = held }) (suffix_of op.task.key op.walk.layer) kind
+        → IsKind (record { slice = (slot_at node place).slice; mark = (slot_at node place).mark; held = held }) (suffix_of op.task.key op.walk.layer) kind
         → kind ≡ ToTree
     link_kind held tree e ToTree leads k = refl
     link_kind held tree e OtherLong leads k = absurd (leads refl)
     link_kind held tree e ThisKey leads k = absurd (subst (λ (x : Held). IsSomeAnd (pair_of x) (λ p. p.suffix ≡ suffix_of op.task.key op.walk.layer)) e k)
 
-    shows_link : (tree : ℕ) → (slot_at node op.walk.slot).held ≡ helds.Link tree → told ≡ None → ShowsNone (shown c) (view_of op) told
+    shows_link : (tree : ℕ) → (slot_at node place).held ≡ helds.Link tree → told ≡ None → ShowsNone (shown c) (view_of op) told
     shows_link tree held none = record {
       none = none;
       why = elim (cases_eq op.last c.steps) [
@@ -216,13 +220,13 @@ module _ (c : Core) (now : StateView) (o : ℕ) (is : shown c ≡ now) (h : Stat
             inl (record {
               there = within;
               in_slot = subst (λ (key : Bytes). IsInSlot node op.walk.slot key op.walk.layer ToTree) key_asked_is
-                  (subst (IsInSlot node op.walk.slot op.task.key op.walk.layer) (link_kind (slot_at node op.walk.slot).held tree held f.kind f.leads f.in_slot.kind_is) f.in_slot);
+                  (subst (IsInSlot node op.walk.slot op.task.key op.walk.layer) (link_kind (slot_at node place).held tree held f.kind f.leads f.in_slot.kind_is) f.in_slot);
             })
         | inr since ↦ inr since
       ];
     }
 
-    shows_nothing : (op.walk.slot < length node.slots → ⊥) → told ≡ None → ShowsNone (shown c) (view_of op) told
+    shows_nothing : (place < length node.slots → ⊥) → told ≡ None → ShowsNone (shown c) (view_of op) told
     shows_nothing out none = record { none = none; why = inr (λ last. out (loading.found last).in_slot.in_range) }
 
     noted : (taken : Taken) → TakesOut node op.walk row taken w.right_at → ShowsRow (shown c) (view_of op) told ⊎ ShowsNone (shown c) (view_of op) told

@@ -16,7 +16,7 @@ use Rattle.mt_operation.specs.{Phases.{is_done, IsLayerPhase, is_prepared, IsLay
 use Rattle.mt_operation.specs.declared.task.Request.{Request}
 use Rattle.mt_operation.specs.declared.task.Request.TheVariants.{Get as GetOf, Put as PutOf, Remove as RemoveOf, Scan as ScanOf}
 use Rattle.mt_operation.specs.declared.removal.Removal.{Removal}
-use Rattle.mt_descent.specs.KeptWalks.{IsAtBorder, KeptAt, HoldsNothing}
+use Rattle.mt_descent.specs.KeptWalks.{IsAtBorder, KeptAt, HoldsNothing, walk_place}
 use Rattle.mt_insert.specs.{Puts.{IsPut, is_put}, KeptPuts.{IsAtStore, IsAtPublish}}
 use Rattle.mt_held.{specs.Holds.{HoldsBorder, IsAtUnlock}, proofs.Places.may_store}
 use Rattle.mt_layer.specs.KeptLayers.{IsAtLeave, KeptLayer}
@@ -206,7 +206,7 @@ module _ (c : Core) (o : ℕ) (h : StateInvariant c) (op : Operation) (there : o
       row =
           let may = may_store c.arena o op.task.key op.walk arena k.drops.holds op.walk.slot k.drops.pair k.drops.in_slot k.drops.stable in
           get-tenant_map op.task.tenant (content_of c.arena) (key_of (ask op.task)) ∙ ap (get (content_of c.arena)) (sym (always.owner (remove_no_scan (ask op.task) k.removes)))
-          ∙ row_of c h arena op.task.key (layer_of (tree_of c.arena op.walk.place.node).prefix) op.walk.place.node op.walk.slot k.drops.pair may.stands
+          ∙ row_of c h arena op.task.key (layer_of (tree_of c.arena op.walk.place.node).prefix) op.walk.place.node (walk_place c.arena op.walk) k.drops.pair may.stands
 
       by : (account : Option Account) → account_of c.accounts op.task.tenant ≡ account → IsSome account → HasPairs account
       by None is some = absurd (cc)

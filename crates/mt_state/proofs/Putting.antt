@@ -1,14 +1,15 @@
 -- The steps that place a put: it stores a row over the one of its key, or makes a new pair live.
-use Rattle.std.proofs.Common.{◌≡◌, ◌≢◌, ℕ, ◌+◌, ◌<◌, inl, inr, true, false, cond, List, length, get_or, set, get_or-set_same, get_or-set_other, Option, Some, None, is_some, refl, sym, ap, subst, ◌∙◌, arith, Bool}
-use Rattle.std.proofs.{lemmas.Bool.{cases_eq, both_ways}, lemmas.Option.{none-some, same_Some}, lemmas.List.length-set, lemmas.List.Elements.All-from_get_or}
+use Rattle.std.proofs.Common.{◌≡◌, ◌≢◌, ℕ, ◌+◌, ◌<◌, inl, inr, true, false, cond, List, length, get_or, set, Option, Some, None, is_some, refl, sym, ap, subst, ◌∙◌, arith, Bool}
+use Rattle.std.proofs.{lemmas.Bool.{cases_eq, both_ways}, lemmas.Option.{none-some, same_Some}, lemmas.List.Elements.All-from_get_or}
 use Rattle.std.specs.{Prelude.{◌^◌}, Option.option_map, List.All, FinMap.{get, len, insert}}
 use Rattle.mt_slices.specs.Slices.{suffix_of}
 use Rattle.mt_rows.specs.{declared.reply.Reply.Reply, declared.reply.Reply.TheVariants.{New, Replaced}, declared.tenants.Account.Account, Rows.{Bytes, Columns}}
 use Rattle.mt_rows.specs.{Commands.key_of, Maps.{is_change, reply_of, map_after}, Accounts.{Accounts, account_of, HasRoom, one_more, OthersStay}}
 use Rattle.mt_rows.specs.Tenants.{Contents, tenant_map}
 use Rattle.mt_rows.proofs.ContentLaws.{get-tenant_map}
-use Rattle.mt_border.specs.{declared.entry.Pair.Pair, declared.entry.Entry.Entry, declared.entry.Held.TheVariants.Stable, Entry.pair_of}
-use Rattle.mt_border.specs.{Entries.{IsBorder, replaced, with_entry}, Node.{Node as BorderNode, Rewrites}, Contents.{owned, AreKeys, AllStamped}}
+use Rattle.mt_border.specs.{Held.Pair, declared.entry.Entry.Entry, Held.Stable, Entry.{pair_of, order_of}}
+use Rattle.mt_border.specs.{Entries.{IsBorder, replaced, with_entry, place_in}, Contents.{owned, AreKeys, AllStamped}}
+use Rattle.mt_order.specs.Places.{Places, order_with}
 use Rattle.mt_border.proofs.{Edits.{any_entry, replaced_at as set_at}, ContentsKeys.{IsApart, owned_at}, ContentsMaps.{len_new, len_there, len_other}}
 use Rattle.mt_border.proofs.ContentsStamps.{stamped_store, stamped_publish}
 use Rattle.mt_tape.specs.Tapes.{Kept}
@@ -18,7 +19,7 @@ use Rattle.mt_arena.proofs.{Elsewhere.stands_once, Steps.keys_of}
 use Rattle.mt_operation.specs.{declared.phase.Phase.Phase, declared.phase.Phase.TheVariants.{Enter, Store, Publish, Unlock}, declared.walk.Walk.Walk}
 use Rattle.mt_operation.specs.{declared.splits.Halves.Halves, declared.operation.Operation.Operation, Tasks.ask, Operations.view_of}
 use Rattle.mt_operation.specs.{Phases.{is_done, MayFollow, IsOfKind, has_splits, is_prepared}, Tables.{op_at as operation_at}}
-use Rattle.mt_descent.specs.WalkMoves.{Continues}
+use Rattle.mt_descent.specs.{KeptWalks.walk_place, WalkMoves.Continues}
 use Rattle.mt_insert.{specs.{Puts.{IsPut, row_over}, Placing.entry_of, Store.IsStore, Publish.IsPublish}, proofs.Places.may_publish}
 use Rattle.mt_held.{specs.{Holds.{HoldsBorder, IsAtUnlock}, Moves.walk_placed, Taping.pushed}, proofs.Places.may_store}
 use Rattle.mt_state.specs.{Views.{StateView, Core, shown, quota_of, quota_in, granted_in}, Notes.Notes}
@@ -58,24 +59,11 @@ stamped_apart P Q prefix q entries weaker apart stamped k d inside pair is = wea
 
 -- the slots of a border node with another row in one of them
 module _ (n : NodeView) (slot : ℕ) (pair : Pair) (row : Columns) (stamp : ℕ) (border : IsBorder n.slots) (live : slot < length n.slots) where
-  abbrev pub as_border : List Entry → BorderNode
-  as_border slots = record { slots = slots; next = None; previous = None; parent = None; low = 0; high = None; version = n.version }
-
   abbrev e : Entry
   e = with_row (slot_at n slot) pair row stamp
 
-  set_is : replaced n.slots e ≡ set n.slots slot e
-  set_is = set_at n.slots slot e any_entry border.rising live refl
-
-  pub rewrites : Rewrites (as_border n.slots) (as_border (replaced n.slots e)) slot (Stable (record pair { row = row; stamp = stamp }))
-  rewrites = record {
-    entries = refl;
-    here = ap (λ (l : List Entry). get_or l slot any_entry) set_is ∙ get_or-set_same n.slots slot e any_entry live;
-    live =
-        λ other. let same = ap (λ (l : List Entry). length l) set_is ∙ length-set n.slots slot e in (λ lt. omega (arith, same, lt), λ lt. omega (arith, same, lt));
-    others = λ other differ. ap (λ (l : List Entry). get_or l other any_entry) set_is ∙ get_or-set_other n.slots slot other e any_entry differ;
-    rest = refl;
-  }
+  pub row_set : replaced n.slots e ≡ set n.slots slot e
+  row_set = set_at n.slots slot e any_entry border.rising live refl
 
 module _ (c : Core) (now : StateView) (o : ℕ) (is : shown c ≡ now) (h : StateInvariant c) (room : now.steps < 2 ^ 59) (op : Operation) (there : operation_at c.table o ≡ Some op) (put : IsPut op.task) where
   abbrev k : ℕ
@@ -170,10 +158,10 @@ module _ (c : Core) (now : StateView) (o : ℕ) (is : shown c ≡ now) (h : Stat
         ];
   }
 
-  -- the operation's node with other slots, which have the stamps that they should have
-  module _ (slots : List Entry) (accounts : Accounts) (w : Walk) (reply : Reply) where
+  -- the operation's node with other slots in this order, which have the stamps that they should have
+  module _ (slots : List Entry) (order : Places) (accounts : Accounts) (w : Walk) (reply : Reply) where
     abbrev y : NodeView
-    y = with_slots n slots
+    y = with_slots n slots order
 
     abbrev the_arena : ArenaView
     the_arena = with_node c.arena k y
@@ -299,26 +287,25 @@ module _ (c : Core) (now : StateView) (o : ℕ) (is : shown c ≡ now) (h : Stat
     store_done arena tape w row before arena_is t =
         let s = storing.stores in
         let j = s.holds.judged in
-        let slots = replaced n.slots (with_row (slot_at n op.walk.slot) s.pair row (c.steps + 1)) in
+        let place = walk_place c.arena op.walk in
+        let slots = replaced n.slots (with_row (slot_at n place) s.pair row (c.steps + 1)) in
         let after = went op (c.steps + 1) w (Some (record { reply = Replaced; at = c.steps + 1 })) None in
-        let takes : arena ≡ with_node c.arena k (with_slots n slots) = t.is s.pair s.stable in
+        let takes : arena ≡ with_node c.arena k (with_slots n slots n.order) = t.is s.pair s.stable in
         let may = may_store c.arena o op.task.key op.walk arena_is s.holds op.walk.slot s.pair s.in_slot s.stable in
         let contents = subst (λ (v : ArenaView). content_of v ≡ insert (content_of c.arena) (op.task.tenant, key_of (ask op.task)) (row_over op.task (get (content_of c.arena) key))) takes t.places.contents in
         let row_there : get (tenant_map op.task.tenant (content_of c.arena)) (key_of (ask op.task)) ≡ Some before =
         get-tenant_map op.task.tenant (content_of c.arena) (key_of (ask op.task)) ∙ ap (get (content_of c.arena)) (sym put.owner) ∙ t.was_there in
         let replies = put_there (quota_of (shown c) op.task.tenant) op.task.request (tenant_map op.task.tenant (content_of c.arena)) before put.put_is row_there in
         let makes = replies.1 ∙ ap (λ (b : Option Columns). insert (tenant_map op.task.tenant (content_of c.arena)) (key_of (ask op.task)) (row_over op.task b)) (sym t.was_there) in
-        let stamps = stamped_store (IsStampOf c.steps c.tape) (IsStampOf (c.steps + 1) (pushed c.tape (next_write c op)))
-        (as_border n op.walk.slot s.pair row (c.steps + 1) (border_here arena_is s.holds) s.in_slot.in_range n.slots)
-        (as_border n op.walk.slot s.pair row (c.steps + 1) (border_here arena_is s.holds) s.in_slot.in_range slots)
-        op.walk.slot s.pair row (c.steps + 1) (border_here arena_is s.holds) s.in_slot.in_range (ap pair_of s.stable)
-        (rewrites n op.walk.slot s.pair row (c.steps + 1) (border_here arena_is s.holds) s.in_slot.in_range)
+        let stamps : AllStamped (IsStampOf c.steps c.tape) (tree_of c.arena k).prefix n.slots → AllStamped (IsStampOf (c.steps + 1) (pushed c.tape (next_write c op))) (tree_of c.arena k).prefix slots =
+        λ was. subst (AllStamped (IsStampOf (c.steps + 1) (pushed c.tape (next_write c op))) (tree_of c.arena k).prefix) (sym (row_set n place s.pair row (c.steps + 1) (border_here arena_is s.holds) s.in_slot.in_range))
+        (stamped_store (IsStampOf c.steps c.tape) (IsStampOf (c.steps + 1) (pushed c.tape (next_write c op))) n.slots place s.pair row (c.steps + 1) (border_here arena_is s.holds) s.in_slot.in_range (ap pair_of s.stable)
         (tree_of c.arena k).prefix (layer_of (tree_of c.arena k).prefix) op.task.key (keys_here arena_is s.holds) may.stands.has
-        (untouched_beside c op h put) (untouched_now c op h put) in
+        (untouched_beside c op h put) (untouched_now c op h put) was) in
         subst (λ (v : ArenaView). Gives now (stepped c v tape c.accounts o after) o false) (sym takes)
-        (subst (λ (t : Kept). Gives now (stepped c (with_node c.arena k (with_slots n slots)) t c.accounts o after) o false) (sym t.places.tape)
-        (placed_gives slots c.accounts w Replaced j.held.there j.stands.live (beside_stored arena_is op.walk.slot s.pair may.stands) (subst (Guarantee o c.arena) takes t.guarantee) contents
-        (counted_there (content_of (with_node c.arena k (with_slots n slots))) (row_over op.task (get (content_of c.arena) key)) before contents t.was_there) stamps
+        (subst (λ (t : Kept). Gives now (stepped c (with_node c.arena k (with_slots n slots n.order)) t c.accounts o after) o false) (sym t.places.tape)
+        (placed_gives slots n.order c.accounts w Replaced j.held.there j.stands.live (beside_stored arena_is place s.pair may.stands) (subst (Guarantee o c.arena) takes t.guarantee) contents
+        (counted_there (content_of (with_node c.arena k (with_slots n slots n.order))) (row_over op.task (get (content_of c.arena) key)) before contents t.was_there) stamps
         refl replies.0 makes Store at_store refl refl refl (λ i one. one) (λ e. cc) tt stores_on refl t.walk t.same j.held.holder (subst (λ (v : ArenaView). IsAtUnlock v o w) takes t.kept)))
 
   module _ (at_publish : op.walk.phase ≡ Publish) where
@@ -337,6 +324,7 @@ module _ (c : Core) (now : StateView) (o : ℕ) (is : shown c ≡ now) (h : Stat
         let j = s.holds.judged in
         let added = entry_of op.task.key op.walk.layer row (c.steps + 1) in
         let slots = with_entry n.slots added in
+        let order = order_with n.order (place_in n.slots (order_of added)) in
         let after = went op (c.steps + 1) w (Some (record { reply = New; at = c.steps + 1 })) None in
         let may = may_publish c.arena o op.task.key op.walk arena_is s.holds row (c.steps + 1) s.missing s.room in
         let contents = subst (λ (v : ArenaView). content_of v ≡ insert (content_of c.arena) (op.task.tenant, key_of (ask op.task)) (row_over op.task (get (content_of c.arena) key))) t.is t.places.contents in
@@ -350,7 +338,7 @@ module _ (c : Core) (now : StateView) (o : ℕ) (is : shown c ≡ now) (h : Stat
         (tree_of c.arena k).prefix (layer_of (tree_of c.arena k).prefix) n.slots added op.task.key (record { suffix = suffix_of op.task.key op.walk.layer; row = row; stamp = c.steps + 1 })
         (keys_here arena_is s.holds) may.has s.missing refl (untouched_beside c op h put) (untouched_now c op h put) in
         subst (λ (v : ArenaView). Gives now (stepped c v tape accounts o after) o false) (sym t.is)
-        (subst (λ (t : Kept). Gives now (stepped c (with_node c.arena k (with_slots n slots)) t accounts o after) o false) (sym t.places.tape)
-        (placed_gives slots accounts w New j.held.there j.stands.live (λ l inside differ counted. beside_missing arena_is t.missing l inside counted) (subst (Guarantee o c.arena) t.is t.guarantee) contents
-        (counted_new accounts (content_of (with_node c.arena k (with_slots n slots))) (row_over op.task (get (content_of c.arena) key)) contents t.missing t.room t.more t.others) stamps
+        (subst (λ (t : Kept). Gives now (stepped c (with_node c.arena k (with_slots n slots order)) t accounts o after) o false) (sym t.places.tape)
+        (placed_gives slots order accounts w New j.held.there j.stands.live (λ l inside differ counted. beside_missing arena_is t.missing l inside counted) (subst (Guarantee o c.arena) t.is t.guarantee) contents
+        (counted_new accounts (content_of (with_node c.arena k (with_slots n slots order))) (row_over op.task (get (content_of c.arena) key)) contents t.missing t.room t.more t.others) stamps
         refl replies.0 makes Publish at_publish refl refl refl (λ i one. one) (λ e. cc) tt publishes_on (inl refl) t.walk t.same j.held.holder (subst (λ (v : ArenaView). IsAtUnlock v o w) t.is t.kept)))

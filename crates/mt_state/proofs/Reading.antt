@@ -3,10 +3,10 @@ use Rattle.std.{proofs.Common.{◌≡◌, ◌≢◌, ℕ, ◌+◌, ◌<◌, ◌�
 use Rattle.mt_slices.{specs.{Keys.{IsStoredKey, stored_key}, Slices.{slice_of, mark_of, suffix_of}, declared.mark.Mark.Mark}, proofs.Tenants.stored_key-again}
 use Rattle.mt_rows.specs.{declared.reply.Reply.TheVariants.Absent, Rows.{Bytes, Columns}, Commands.key_of}
 use Rattle.mt_border.specs.{declared.entry.FoundKind.FoundKind, declared.entry.FoundKind.TheVariants.{ThisKey, OtherLong, Link as ToTree}}
-use Rattle.mt_border.specs.{declared.entry.Find.Find, Entry.IsKind, declared.entry.Held.Held, Entries.IsMissing, Contents.owned}
+use Rattle.mt_border.specs.{declared.entry.Find.Find, Entry.IsKind, Held.Held, Entries.IsMissing, Contents.owned}
 use Rattle.mt_border.proofs.Edits.{any_entry}
 use Rattle.mt_tape.{specs.Histories.contents_at, proofs.TapeLaws.contents_at-now}
-use Rattle.mt_arena.{specs.{NodeView.NodeView, Layers.slot_at, Arena.{IsArena, content_of}, Accesses.at}, proofs.Places.same_slot}
+use Rattle.mt_arena.{specs.{NodeView.{NodeView, place_at}, Layers.slot_at, Arena.{IsArena, content_of}, Accesses.at}, proofs.Places.same_slot}
 use Rattle.mt_operation.specs.{declared.walk.Aim.Aim, declared.phase.Phase.Phase, declared.phase.Phase.TheVariants.{Enter, Search, Load, Confirm}}
 use Rattle.mt_operation.specs.{declared.walk.Taken.Taken, declared.walk.Walk.Walk, declared.outcome.Outcome.Outcome, declared.operation.Operation.Operation}
 use Rattle.mt_operation.specs.{Tasks.ask, Operations.{OperationView, view_of, moved}, Phases.{is_done, MayFollow, IsDescent, IsOfKind, is_unplaced}}
@@ -18,7 +18,7 @@ use Rattle.mt_state.specs.{KeptOperations.{IsOpenOperation, TellsTaken, IsOnItsW
 use Rattle.mt_state.proofs.{Descents.{by_way, first_aside}, Telling.Gives, Moved.{went, first_same}, Still.{IsFree, IsUnready, still, still_gives}}
 use Rattle.mt_state.proofs.{Bound.{bound_on, look_untold}, OneNode.quiet_grows, Lawful.owner_of}
 use Rattle.mt_border.specs.declared.entry.Find.TheVariants as finds
-use Rattle.mt_border.specs.declared.entry.Held.TheVariants as helds
+use Rattle.mt_border.specs.Held as helds
 use Rattle.mt_operation.specs.declared.walk.Aim.TheVariants as aims
 use Rattle.mt_operation.specs.declared.walk.Taken.TheVariants as takens
 
@@ -118,18 +118,18 @@ module _ (c : Core) (h : StateInvariant c) (arena : IsArena c.arena.nodes c.aren
   not_another held mark suffix OtherLong leads other this = leads refl
 
   -- a slot of the key is the one that was found
-  one_slot : (slot i : ℕ) (kind other : FoundKind) → IsInSlot searched_node slot key w.layer other → IsInSlot searched_node i key w.layer kind → i ≡ slot
+  one_slot : (slot i : ℕ) (kind other : FoundKind) → IsInSlot searched_node slot key w.layer other → IsInSlot searched_node i key w.layer kind → place_at searched_node i ≡ place_at searched_node slot
   one_slot slot i kind other f g =
-      same_slot c.arena.nodes w.place.node i slot arena.nodes within g.in_range f.in_range (g.slice_is ∙ sym f.slice_is) (g.mark_is ∙ sym f.mark_is)
+      same_slot c.arena.nodes w.place.node (place_at searched_node i) (place_at searched_node slot) arena.nodes within g.in_range f.in_range (g.slice_is ∙ sym f.slice_is) (g.mark_is ∙ sym f.mark_is)
 
   lacks_missing : IsMissing searched_node.slots (slice_of key w.layer) (mark_of key w.layer) → (slot : ℕ) → HasSlot searched_node slot key w.layer → ⊥
-  lacks_missing missing slot has = missing slot any_entry has.in_slot.in_range has.in_slot.slice_is has.in_slot.mark_is
+  lacks_missing missing slot has = missing (place_at searched_node slot) any_entry has.in_slot.in_range has.in_slot.slice_is has.in_slot.mark_is
 
   lacks_other : (slot : ℕ) → IsInSlot searched_node slot key w.layer OtherLong → (i : ℕ) → HasSlot searched_node i key w.layer → ⊥
   lacks_other slot f i has =
       let same = one_slot slot i has.kind OtherLong f has.in_slot in
-      let here = subst (λ j. IsInSlot searched_node j key w.layer has.kind) same has.in_slot in
-      not_another (slot_at searched_node slot).held (slot_at searched_node slot).mark (suffix_of key w.layer) has.kind has.leads f.kind_is here.kind_is
+      let here = subst (λ j. IsKind (slot_at searched_node j) (suffix_of key w.layer) has.kind) same has.in_slot.kind_is in
+      not_another (slot_at searched_node (place_at searched_node slot)).held (slot_at searched_node (place_at searched_node slot)).mark (suffix_of key w.layer) has.kind has.leads f.kind_is here
 
   pub lacks : (slot : ℕ) (found : Find) → FindsIn searched_node key w.layer found → (after_search found w 0).phase ≡ Confirm → (i : ℕ)
       → HasSlot searched_node i key w.layer → ⊥

@@ -2,7 +2,7 @@
 use Rattle.std.proofs.Common.{◌≡◌, ◌≢◌, ℕ, ◌<◌, ◌⊎◌, inl, inr, Bool, true, false, length, Option, Some, None, refl, sym, ap, subst, arith, cond, eqb}
 use Rattle.std.proofs.{lemmas.Bool.{cases_eq, cases_lt}, lemmas.Option.same_Some}
 use Rattle.mt_rows.specs.Rows.{Bytes}
-use Rattle.mt_arena.specs.{NodeView.NodeView, Arena.{ArenaView, IsArena}, Accesses.at}
+use Rattle.mt_arena.specs.{NodeView.{NodeView, place_at}, Arena.{ArenaView, IsArena}, Accesses.at}
 use Rattle.mt_operation.specs.declared.phase.Phase.{Phase}
 use Rattle.mt_operation.specs.{declared.phase.Phase.TheVariants.{LockPrev, LockAbove, Unlink, FixNext, Collapse, CleanLayer, Unlock}, declared.walk.Walk.Walk}
 use Rattle.mt_operation.specs.{declared.removal.Removal.Removal, Phases.{MayFollow, IsRemovalPhase}, declared.outcome.Outcome.Outcome, Operations.SplitsView}
@@ -140,15 +140,15 @@ module _ (o step : ℕ) (key : Bytes) (v u : ArenaView) (before after : Walk) (s
       both = elim b.is [
         | inl none ↦ (subst (LeavesNodes o v) (sym none.is) (none_leaves o v deleted), subst (MayFollow CleanLayer) (sym (at_phase Unlock none.walk)) tt)
         | inr (inl full) ↦
-            let link = held_link v o full.slot b.tree key before s k full.leads.in_slot.in_range full.leads.link in (
-              subst (LeavesNodes o v) (sym full.is) (lock_leaves o v deleted (root_of v b.tree) (root_there v o before.place.node full.slot b.tree arena link)),
+            let link = held_link v o (place_at (at v before.place.node) full.slot) b.tree key before s k full.leads.in_slot.in_range full.leads.link in (
+              subst (LeavesNodes o v) (sym full.is) (lock_leaves o v deleted (root_of v b.tree) (root_there v o before.place.node (place_at (at v before.place.node) full.slot) b.tree arena link)),
               subst (MayFollow CleanLayer) (sym (at_phase Unlock full.walk)) tt,
             )
         | inr (inr drops) ↦
-            let link = held_link v o drops.slot b.tree key before s k drops.leads.in_slot.in_range drops.leads.link in (
+            let link = held_link v o (place_at (at v before.place.node) drops.slot) b.tree key before s k drops.leads.in_slot.in_range drops.leads.link in (
               subst (LeavesNodes o v) (sym drops.is)
-                  (clean_leaves o v deleted before.place.node drops.slot b.tree step k.holds.judged.held k.holds.judged.stands.live
-                  (tree_there v o before.place.node drops.slot b.tree arena link) (root_there v o before.place.node drops.slot b.tree arena link) drops.empty.1),
+                  (clean_leaves o v deleted before.place.node (place_at (at v before.place.node) drops.slot) b.tree step k.holds.judged.held k.holds.judged.stands.live
+                  (tree_there v o before.place.node (place_at (at v before.place.node) drops.slot) b.tree arena link) (root_there v o before.place.node (place_at (at v before.place.node) drops.slot) b.tree arena link) drops.empty.1),
               elim (emptied_either u before after (record s { below = Some (root_of v b.tree) }) t drops.goes) [
                 | inl at ↦ subst (MayFollow CleanLayer) (sym at) tt
                 | inr at ↦ subst (MayFollow CleanLayer) (sym at) tt

@@ -16,6 +16,8 @@ use Rattle.mt_operation.specs.{declared.phase.Phase.Phase, declared.phase.Phase.
 use Rattle.mt_operation.specs.{declared.removal.Removal.Removal, declared.outcome.Outcome.Outcome, declared.operation.Operation.Operation, Tasks.ask}
 use Rattle.mt_operation.specs.{Operations.{view_of, IsUnsplit}, Phases.{is_done, MayFollow, IsOfKind, has_splits, row}, Tables.{op_at as operation_at}}
 use Rattle.mt_operation.proofs.Phases.{IsBehindBy}
+use Rattle.mt_order.specs.Places.{order_without}
+use Rattle.mt_descent.specs.KeptWalks.{walk_place}
 use Rattle.mt_held.specs.{Taping.pushed, Holds.HoldsOnly}
 use Rattle.mt_remove.{specs.{Writes.removal_over, KeptRemovals.KeptRemoval, DropKey.IsDropKey}, proofs.GoingOn.emptied_either}
 use Rattle.mt_state.specs.{Views.{Core, shown, granted_in, quota_of}, Notes.Notes}
@@ -74,8 +76,8 @@ module _ (c : Core) (o : ℕ) (h : StateInvariant c) (few : c.steps < 2 ^ 59) (o
 
   -- one node has another slots
   leaves : LeavesNodes o c.arena arena
-  leaves = subst (LeavesNodes o c.arena) (sym t.is) (one_leaves o c.arena h.deleted k (with_slots n (without n.slots (slot_at n op.walk.slot))) (record {
-    slots = slots_removed n (with_slots n (without n.slots (slot_at n op.walk.slot))) (place_in n.slots (order_of (slot_at n op.walk.slot))) refl;
+  leaves = subst (LeavesNodes o c.arena) (sym t.is) (one_leaves o c.arena h.deleted k (with_slots n (without n.slots (slot_at n (walk_place c.arena op.walk))) (order_without n.order (walk_place c.arena op.walk))) (record {
+    slots = slots_removed n (with_slots n (without n.slots (slot_at n (walk_place c.arena op.walk))) (order_without n.order (walk_place c.arena op.walk))) (place_in n.slots (order_of (slot_at n (walk_place c.arena op.walk)))) refl;
     tree = refl;
     gone = λ gone. gone;
     emptied = λ gone. absurd (both_ways _ dropping.drops.holds.judged.stands.live gone);

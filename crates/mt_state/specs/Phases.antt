@@ -5,7 +5,7 @@ use Rattle.mt_version.specs.Changes.{IsStable}
 use Rattle.mt_slices.specs.Keys.{stored_key}
 use Rattle.mt_rows.specs.{declared.command.Command.Command, declared.command.Command.TheVariants.Scan, Rows.{Bytes, Columns}, Maps.is_scan, Commands.key_of}
 use Rattle.mt_border.specs.declared.entry.Find.{Find}
-use Rattle.mt_arena.specs.{NodeView.NodeView, Forests.tree_at, Layers.slot_at, Arena.ArenaView, Accesses.at}
+use Rattle.mt_arena.specs.{NodeView.{NodeView, place_at}, Forests.tree_at, Layers.slot_at, Arena.ArenaView, Accesses.at}
 use Rattle.mt_operation.specs.declared.phase.Phase.{Phase}
 use Rattle.mt_operation.specs.declared.phase.Phase.TheVariants.{Enter, Pick, Child, Verify, Search, Load, Confirm, Forward, Lock, Judge, Store, Publish, SplitStart, SplitMove, SplitPrev, LockParent, InsertChild, InteriorSplit, Reparent, RootGrow, MakeLayer, MarkUnstable, Link, MarkLayer, DropKey, LockPrev, LockAbove, Unlink, FixNext, Collapse, CleanLayer, Unlock, Snap, Check, Hop}
 use Rattle.mt_operation.specs.{declared.walk.Walk.Walk, declared.outcome.Outcome.Outcome, Operations.{OperationView, SplitsView, ScanView}}
@@ -19,7 +19,7 @@ use Rattle.mt_layer.specs.NewLayers.{walk_linked}
 use Rattle.mt_state.specs.{declared.moves.Move.Move, declared.moves.Move.TheVariants.{Moved, Done as DoneMove}, Views.{StateView, op_at}}
 use Rattle.mt_remove.specs.{RemovalEdits.{IsToUnlink, for_rest, after_unlink}, Unlinks.IsChildBefore, Judge.IsAbsent, CleanLayer.{LeadsTo as LeadsKey}}
 use Rattle.mt_remove.specs.{Unlock.EmptiesLayer, Ways.IsJustBelow}
-use Rattle.mt_border.specs.declared.entry.Held.TheVariants as helds
+use Rattle.mt_border.specs.Held as helds
 use Rattle.mt_border.specs.declared.entry.FoundKind.TheVariants as kinds
 use Rattle.mt_operation.specs.declared.walk.Taken.TheVariants as takens
 use Rattle.mt_operation.specs.Phases as phase_kinds
@@ -53,7 +53,7 @@ pub record JudgesLink (n : NodeView) (key : Bytes) (w x : Walk) : Type 0 where
   pub slot : ℕ
   pub stands : IsInSlot n slot key w.layer kinds.Link
   pub tree : ℕ
-  pub leads : (slot_at n slot).held ≡ helds.Link tree
+  pub leads : (slot_at n (place_at n slot)).held ≡ helds.Link tree
   pub goes : x ≡ walk_into w tree (w.layer + 1)
 
 -- from LockParent: a root is made where there is no parent; else the parent's room decides, which nobody held
