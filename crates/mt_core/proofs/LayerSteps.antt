@@ -10,7 +10,7 @@ use Rattle.mt_operation.specs.{declared.phase.Phase.Phase, declared.phase.Phase.
 use Rattle.mt_operation.specs.{declared.walk.Walk.Walk, declared.splits.Halves.Halves, declared.splits.Splits.Splits, declared.outcome.Outcome.Outcome}
 use Rattle.mt_operation.specs.{declared.operation.Operation.Operation, Operations.{moved, noted, splits_of}, Phases.{IsLayerPhase, IsOfKind}}
 use Rattle.mt_operation.specs.{Tables.{Table, op_at as operation_at}, declared.walk.Aim.Aim}
-use Rattle.mt_descent.specs.WalkMoves.{walk_into}
+use Rattle.mt_descent.specs.{KeptWalks.walk_place, WalkMoves.walk_into}
 use Rattle.mt_held.specs.Unlock.{GoesInto, IsUnlock}
 use Rattle.mt_layer.specs.{KeptLayers.{IsAtLeave, KeptLayer}, Builds.{IsLayerFrom, IsLeave}}
 use Rattle.mt_state.specs.{declared.moves.Move.TheVariants.{Moved, Done as DoneMove}, Views.{Core, StateView, shown}, Invariant.StateInvariant}
@@ -170,7 +170,7 @@ module _ (c now : Core) (o : ℕ) (is : c ≡ now) (h : StateInvariant c) (few :
 
       live : IsLiveTree arena leaves.tree
       live = subst (λ (v : ArenaView). IsLiveTree v leaves.tree) (sym g.is)
-          (OneLink.leads c.arena.nodes c.arena.trees is_arena k x.walk.slot leaves.tree (record { there = leaves.unlock.held.there; live = leaves.live; in_range = leaves.in_range; is = leaves.link })).live
+          (OneLink.leads c.arena.nodes c.arena.trees is_arena k (walk_place c.arena x.walk) leaves.tree (record { there = leaves.unlock.held.there; live = leaves.live; in_range = leaves.in_range; is = leaves.link })).live
 
       none : x.splits.halves.items ≡ []
       none = unsplit at_unlock untold

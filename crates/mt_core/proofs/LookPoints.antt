@@ -19,7 +19,7 @@ use Rattle.mt_core.proofs.{WalkBounds.{IsWayKind, walk_kind}, Points.{below_at, 
 use Rattle.mt_core.specs.Points.{MadeBy, HasMade, MayHaveGrown, IsAtPoint}
 use Rattle.mt_core.specs.Budgets.{AreBelow, Budget, SeesNow, behind, astray, level_of, above, until, IsBudget, IsLiveTree, TookLiveTree, WalksBy, budget_of}
 use Rattle.mt_descent.specs.{Seen.{Stands, HasNext, IsRemembered}, Pasts.Past}
-use Rattle.mt_descent.specs.KeptWalks.{GoesThrough, slice_in, IsAtVerify, IsAtConfirm, IsAtForward, TakenHolds, KeptAt, IsKept, IsAtBorder}
+use Rattle.mt_descent.specs.KeptWalks.{GoesThrough, slice_in, IsAtVerify, IsAtConfirm, IsAtForward, TakenHolds, KeptAt, IsKept, IsAtBorder, walk_place}
 use Rattle.mt_descent.specs.WalkMoves.{arrival, arrival_at, walk_onto, walk_anew, walk_here, walk_to_next, after_enter, after_pick, after_child, after_search, after_confirm, after_forward, Verifies, Confirms, Loads, TakesOut}
 use Rattle.mt_descent.proofs.Ways.{same_stands}
 use Rattle.mt_state.proofs.Decides.{same_or_not, outdated_or_not}
@@ -265,7 +265,7 @@ load_nears v key w after row arena border loads t height made s point =
     took : SeesNow v w → (taken : Taken) → TakesOut (at v w.place.node) w row taken after.right_at → (tree : ℕ) → taken ≡ takens.Link tree → IsLiveTree v tree
     took now (takens.Link u) takes tree same =
         let live : (at v w.place.node).version.deleted ≡ false = ap (λ (p : Parts). p.deleted) (sym now) ∙ remembered.undeleted in
-        subst (IsLiveTree v) (same_link u tree same) (leads v.nodes v.trees arena w.place.node w.slot u (record { there = remembered.there; live = live; in_range = takes.0; is = takes.1 })).live
+        subst (IsLiveTree v) (same_link u tree same) (leads v.nodes v.trees arena w.place.node (walk_place v w) u (record { there = remembered.there; live = live; in_range = takes.0; is = takes.1 })).live
     took now takens.Missing takes tree same = absurd (cc)
     took now takens.Row takes tree same = absurd (cc)
     took now takens.Nothing takes tree same = absurd (cc)

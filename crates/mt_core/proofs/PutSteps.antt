@@ -7,7 +7,7 @@ use Rattle.mt_rows.specs.{Accounts.Accounts, Maps.is_scan}
 use Rattle.mt_border.specs.declared.entry.FoundKind.TheVariants.{OtherLong}
 use Rattle.mt_slices.specs.Keys.{IsStoredKey}
 use Rattle.mt_tape.specs.Tapes.{Kept}
-use Rattle.mt_arena.{specs.{NodeView.NodeView, Edits.{locked, unlocked}, Arena.{ArenaView, Guarantee, IsArena}, Accesses.{at, with_node}}, proofs.OneLink.leads}
+use Rattle.mt_arena.{specs.{NodeView.{NodeView, place_at}, Edits.{locked, unlocked}, Arena.{ArenaView, Guarantee, IsArena}, Accesses.{at, with_node}}, proofs.OneLink.leads}
 use Rattle.mt_operation.specs.{declared.walk.Aim.Aim, declared.phase.Phase.Phase}
 use Rattle.mt_operation.specs.declared.phase.Phase.TheVariants.{Enter, Forward, Judge, Lock, MakeLayer, Publish, SplitStart, Store, Unlock}
 use Rattle.mt_operation.specs.{declared.walk.Walk.Walk, declared.splits.Halves.Halves, declared.splits.Splits.Splits, declared.outcome.Outcome.Outcome}
@@ -255,7 +255,7 @@ module _ (c now : Core) (o : ℕ) (is : c ≡ now) (h : StateInvariant c) (few :
   link_made at_judge is_arena arena tape w table keeps t over =
       let judged = (judge_kept c o h x there at_judge).judged in
       let through = judged.at_border.through in
-      let live = leads c.arena.nodes c.arena.trees is_arena x.walk.place.node t.slot t.tree (record { there = judged.held.there; live = judged.stands.live; in_range = t.in_slot.in_range; is = t.leads }) in
+      let live = leads c.arena.nodes c.arena.trees is_arena x.walk.place.node (place_at (at c.arena x.walk.place.node) t.slot) t.tree (record { there = judged.held.there; live = judged.stands.live; in_range = t.in_slot.in_range; is = t.leads }) in
       let stored = (h.ops o x there).always.stored in
       let after = moved x (c.steps + 1) w in
       steps_on (made c arena tape c.accounts table)

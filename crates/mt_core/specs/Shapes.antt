@@ -4,7 +4,7 @@ use Rattle.std.specs.{Fmt.{digits, decimal}, List.{filter, flat_map}, List.Sorte
 use Rattle.std.specs.{Ordering.{nat_cmp, ordering_then}, declared.cmp.Ordering.Ordering, Cmp.Lexicographic.slice_cmp}
 use Rattle.mt_slices.specs.{declared.mark.Mark.Mark, declared.mark.Mark.TheVariants.{Short, Long}}
 use Rattle.mt_rows.specs.Rows.{Bytes}
-use Rattle.mt_border.specs.{declared.entry.Entry.Entry, declared.entry.Held.Held, declared.entry.Held.TheVariants.{Link as LinkTo}}
+use Rattle.mt_border.specs.{declared.entry.Entry.Entry, Held.Held, Held.{Link as LinkTo}}
 use Rattle.mt_arena.specs.{declared.tree.Tree.Tree, Arena.ArenaView, Contents.is_live, Forests.layer_of, Accesses.at}
 use Rattle.mt_core.specs.{declared.shape.Edge.Edge, declared.shape.ShapeLine.ShapeLine}
 use Rattle.mt_core.specs.declared.shape.ShapeLine.TheVariants.{Tree as TreeLine, Interior, Border}

@@ -11,7 +11,7 @@ ghost use Rattle.mt_arena.specs.Accesses.{at};
 ghost use Rattle.mt_core.specs.Shapes.{edge_in, line_in, lines_from, tree_lines, prefix_cmp, HasLiveRoot, IsListing, IsShape};
 
 use mt_arena::{Arena, Prefix, Standing, Tree};
-use mt_border::{Border, EntryRef, Held};
+use mt_border::{Border, EntryRef, HeldRef};
 use mt_slices::Mark;
 use std::alloc::{AllocError, Global};
 use std::cmp::Ordering;
@@ -287,7 +287,7 @@ fn edge_of(entry: Option<EntryRef<'_>>) -> Option<Edge>
         Some(entry) => Some(Edge {
             slice: entry.slice,
             mark: entry.mark,
-            is_link: matches!(entry.held, Held::Link(_)),
+            is_link: matches!(entry.held.seen(), HeldRef::Link(_)),
         }),
         None => None,
     }
