@@ -2,8 +2,8 @@
 use Rattle.std.specs.Prelude.{◌≡◌, ◌≢◌, ℕ, ◌<◌, true, false, [], length, Some, None}
 use Rattle.mt_slices.specs.{Keys.IsStoredKey, Slices.{slice_of, mark_of, suffix_of}}
 use Rattle.mt_rows.specs.Rows.{Bytes}
-use Rattle.mt_border.specs.{declared.entry.Pair.Pair, declared.entry.Held.TheVariants.{Stable, Link}, Entries.IsMissing}
-use Rattle.mt_arena.specs.{declared.tree.Standing.TheVariants.Live, Layers.slot_at, Layering.IsHeldSlot, Nodes.{HasChild, HasRange, Holds}, Arena.ArenaView}
+use Rattle.mt_border.specs.{Held.Pair, Held.{Stable, Link}, Entries.IsMissing}
+use Rattle.mt_arena.specs.{declared.tree.Standing.TheVariants.Live, NodeView.place_at, Layers.slot_at, Layering.IsHeldSlot, Nodes.{HasChild, HasRange, Holds}, Arena.ArenaView}
 use Rattle.mt_arena.specs.Accesses.{at, tree_of, IsHeld}
 
 -- operation 5 holds the node, which is of a live tree
@@ -61,19 +61,23 @@ pub record IsBare (v : ArenaView) (k : ℕ) : Type 0 where
   pub whole : (at v k).version.splitting ≡ false
   pub empty : (at v k).slots ≡ []
 
+-- where slot 0 of a node stands
+abbrev pub first_place : ArenaView → ℕ → ℕ
+first_place v k = place_at (at v k) 0
+
 -- slot 0 of a node of the top tree, which operation 5 holds, has the pair of a key that goes on in the next layer
 pub record HasLongKey (v : ArenaView) (k : ℕ) (key : Bytes) (pair : Pair) : Type 0 where
-  pub slot : IsHeldSlot v k 0 5 (Stable pair)
+  pub slot : IsHeldSlot v k (first_place v k) 5 (Stable pair)
   pub tree : (at v k).tree ≡ 0
   pub stored : IsStoredKey key
   pub longer : 8 < length key
-  pub slice : (slot_at (at v k) 0).slice ≡ slice_of key 0
-  pub mark : (slot_at (at v k) 0).mark ≡ mark_of key 0
+  pub slice : (slot_at (at v k) (first_place v k)).slice ≡ slice_of key 0
+  pub mark : (slot_at (at v k) (first_place v k)).mark ≡ mark_of key 0
   pub suffix : pair.suffix ≡ suffix_of key 0
 
 -- slot 0 of a live border node is a link to tree u
 pub record HasLinkTo (v : ArenaView) (k u : ℕ) : Type 0 where
   pub live : (at v k).version.deleted ≡ false
   pub border : (at v k).level ≡ 0
-  pub in_range : 0 < length (at v k).slots
-  pub link : (slot_at (at v k) 0).held ≡ Link u
+  pub in_range : first_place v k < length (at v k).slots
+  pub link : (slot_at (at v k) (first_place v k)).held ≡ Link u

@@ -5,7 +5,7 @@ ghost use Rattle.mt_border.specs.Entry.{IsRest};
 
 use crate::rows::row_of;
 use mt_border::FoundKind::{self, Link, OtherLong, ThisKey};
-use mt_border::{Border, Entry, Find, Held, Pair, Suffix};
+use mt_border::{Border, Entry, Find, Held, HeldRef, Pair, Suffix};
 use mt_slices::Mark;
 use mt_version::Version;
 use std::alloc::Global;
@@ -21,41 +21,43 @@ fn put(rt: &impl Abort, alloc: Global, border: &mut Border, mark: Mark, bytes: &
     if let Find::Missing = border.find(slice, mark, bytes) {
         let suffix = Suffix::new(Vec::from_slice(alloc, bytes).expect(rt, "memory"));
         let (row, stamp) = (row_of(rt, alloc, b"v"), 1);
-        let held = Held::Stable(Pair { suffix, row, stamp });
+        let held = Held::stable(Pair::new(alloc, suffix, row, stamp).expect(rt, "memory"));
         border.publish(Entry { slice, mark, held });
     }
 }
 
-// Puts another row in the place of the first key's by step 6, and takes the key out.
+// Puts another row in the place of that of slot 1 by step 6, and takes the key out.
 fn change(rt: &impl Abort, alloc: Global, border: &mut Border) -> Option<Entry> {
-    let Some(Held::Stable(_)) = border.load(0) else {
+    let Some(HeldRef::Stable(_)) = border.load(1).map(Held::seen) else {
         return None;
     };
-    let _ = border.store(0, row_of(rt, alloc, b"w"), 6);
-    border.load(0)?;
-    Some(border.drop_key(0))
+    let _ = border.store(1, row_of(rt, alloc, b"w"), 6);
+    border.load(1)?;
+    Some(border.drop_key(1))
 }
 
 // Whether a key was taken out whose row is of step 6.
 fn is_of_step_6(taken: &Option<Entry>) -> bool {
     match taken {
-        Some(entry) => matches!(&entry.held, Held::Stable(pair) if pair.stamp == 6),
+        Some(entry) => matches!(entry.held.seen(), HeldRef::Stable(pair) if pair.stamp == 6),
         None => false,
     }
 }
 
-// Makes the pair of the key of the suffix xyz a link to tree 5, and gives it back.
+// Makes the pair of the key of the suffix xyz, in slot 0, a link to tree 5, and gives it back.
 fn make_link(border: &mut Border) -> Option<Pair> {
-    if let Find::Slot(1, ThisKey) = border.find(9, Mark::Long, b"xyz")
-        && let Some(Held::Stable(_)) = border.load(1)
+    if let Find::Slot(0, ThisKey) = border.find(9, Mark::Long, b"xyz")
+        && let Some(HeldRef::Stable(_)) = border.load(0).map(Held::seen)
     {
-        border.mark_unstable(1);
+        border.mark_unstable(0);
     }
-    if let Some(Held::Unstable(_, None)) = border.load(1) {
-        border.link(1, 5);
+    if let Some(HeldRef::Unstable(pair)) = border.load(0).map(Held::seen)
+        && pair.tree.is_none()
+    {
+        border.link(0, 5);
     }
-    match border.load(1)? {
-        Held::Unstable(_, Some(5)) => Some(border.mark_layer(1)),
+    match border.load(0).map(Held::seen) {
+        Some(HeldRef::Unstable(pair)) if pair.tree == Some(5) => Some(border.mark_layer(0)),
         _ => None,
     }
 }
@@ -63,7 +65,10 @@ fn make_link(border: &mut Border) -> Option<Pair> {
 // Whether it is the pair of the suffix xyz, of step 1.
 fn is_of_xyz(linked: &Option<Pair>) -> bool {
     match linked {
-        Some(pair) => pair.stamp == 1 && pair.suffix.as_bytes() == b"xyz".as_slice(),
+        Some(pair) => {
+            let parts = pair.parts();
+            parts.stamp == 1 && parts.suffix.as_bytes() == b"xyz".as_slice()
+        }
         None => false,
     }
 }
@@ -80,7 +85,7 @@ fn finds(rt: &impl Abort, border: &Border, mark: Mark, suffix: &[u8], wanted: Op
     assert!(rt; kind == wanted);
 }
 
-// A longer key is put in, and then a shorter one, which stands before it.
+// A longer key is put in, in slot 0, and then a shorter one, which stands before it, in slot 1.
 fn put_both(rt: &impl Abort, alloc: Global, border: &mut Border) {
     put(rt, alloc, border, Mark::Long, b"xyz");
     finds(rt, border, Mark::Short(8), &[], None);

@@ -4,15 +4,15 @@
 ghost use Rattle.std.specs.Prelude.{◌≡◌, ℕ, ◌<◌, [], length, IsTrue};
 ghost use Rattle.mt_rows.specs.Rows.{Bytes};
 ghost use Rattle.mt_slices.specs.Slices.{slice_of, mark_of};
-ghost use Rattle.mt_border.specs.{declared.entry.Pair.{Pair as AnyPair}, Contents.HasKey, Entry.{IsEntry, IsStablePair}};
-ghost use Rattle.mt_arena.specs.{declared.tree.Standing.TheVariants.Live, NodeFacts.IsUnstable, Nodes.{HasChild, HasRange}, Layers.slot_at, Settled.IsSettled};
+ghost use Rattle.mt_border.specs.{Held.{Pair as AnyPair}, Contents.HasKey, Entry.{IsEntry, IsStablePair}};
+ghost use Rattle.mt_arena.specs.{declared.tree.Standing.TheVariants.Live, NodeView.place_at, NodeFacts.IsUnstable, Nodes.{HasChild, HasRange}, Layers.slot_at, Settled.IsSettled};
 ghost use Rattle.mt_arena.specs.{Splits.Inserts, Several.MaySplit, Removals.{AreBeside, MayUnlink}, Accesses.{at, tree_of, IsHeld, IsOpen, MayChange}};
 ghost use Rattle.mt_tests.specs.Checked.{IsOwn, KeepsUp, IsEven, Takes, AreHalves, Meet, IsBare};
 
 use crate::rows::row_of;
 use mt_arena::{Arena, Node, Standing};
 use mt_border::laws::suffix_fits_mark;
-use mt_border::{Entry, Find, FoundKind, Held, Pair, Suffix};
+use mt_border::{Entry, Find, FoundKind, Held, HeldRef, Pair, Suffix};
 use mt_slices::StoredKey;
 use std::alloc::Global;
 use std::marker::Model;
@@ -47,7 +47,7 @@ pub fn entry_of(rt: &impl Abort, alloc: Global, key: &StoredKey) -> Entry
     let suffix = Suffix::new(Vec::from_slice(alloc, key.suffix(0)).expect(rt, "memory"));
     let (row, stamp) = (row_of(rt, alloc, b""), 6);
     let (slice, mark) = (key.slice(0), key.mark(0));
-    let held = Held::Stable(Pair { suffix, row, stamp });
+    let held = Held::stable(Pair::new(alloc, suffix, row, stamp).expect(rt, "memory"));
     Entry { slice, mark, held }
 }
 
@@ -145,8 +145,8 @@ impl Checked {
         let Some(border) = self.arena.node(node).border() else {
             return false;
         };
-        for slot in 0..border.len() {
-            if let Some(Held::Unstable(..)) = border.load(slot) {
+        for entry in border.entries() {
+            if let HeldRef::Unstable(_) = entry.held.seen() {
                 return false;
             }
         }
@@ -405,24 +405,38 @@ impl Checked {
         Some(half)
     }
 
-    // Whether the first key of a node may be changed or taken out.
-    fn may_change(&self, node: usize) -> bool
-        ensures { IsTrue result → (key : Bytes) × (pair : AnyPair) × MayChange self.now node 5 key 0 pair }
+    // Whether the key in a slot of a node may be changed or taken out.
+    fn may_change(&self, node: usize, slot: usize) -> bool
+        ensures { IsTrue result → (key : Bytes) × (pair : AnyPair) × MayChange self.now node 5 key (place_at (at self.now node) slot) pair }
     {
         self.arena.facts();
         if !self.holds(node) || self.arena.node(node).version().is_deleted() {
             return false;
         }
         match self.arena.node(node).border() {
-            Some(border) => matches!(border.load(0), Some(Held::Stable(_))),
+            Some(border) => matches!(border.load(slot).map(Held::seen), Some(HeldRef::Stable(_))),
             None => false,
         }
     }
 
-    /// Takes the first key of a node out.
+    // The last slot of a border node that is live.
+    fn live_slot(&self, rt: &impl Abort, node: usize) -> usize {
+        assert!(rt; node < self.count);
+        let border = self.arena.node(node).border().expect(rt, "a border node");
+        let mut live = None;
+        for slot in 0..15 {
+            if border.load(slot).is_some() {
+                live = Some(slot);
+            }
+        }
+        live.expect(rt, "a live slot")
+    }
+
+    /// Takes the key in the last live slot of a node out.
     pub fn drop_key(&mut self, rt: &impl Abort, node: usize) -> Entry {
-        assert!(rt; self.may_change(node));
-        self.arena.drop_key(node, 0, 5)
+        let slot = self.live_slot(rt, node);
+        assert!(rt; self.may_change(node, slot));
+        self.arena.drop_key(node, slot, 5)
     }
 
     // Whether it is an empty border node that is live and is not split.

@@ -3,14 +3,14 @@
 
 ghost use Rattle.std.specs.Prelude.{◌≡◌, ◌<◌, ℕ, [], length, take, IsTrue, IfSome};
 ghost use Rattle.mt_rows.specs.Rows.{Bytes};
-ghost use Rattle.mt_border.specs.{declared.entry.Pair.{Pair as AnyPair}, declared.entry.Held.TheVariants.Stable};
-ghost use Rattle.mt_arena.specs.{Layering.{IsLayerOf, entry_of as entry_in}, Accesses.at, Removals.{IsOnlyLiveNode, MayDropLayer}};
+ghost use Rattle.mt_border.specs.{Held.{Pair as AnyPair}, Held.Stable};
+ghost use Rattle.mt_arena.specs.{NodeView.place_at, Layering.{IsLayerOf, entry_of as entry_in}, Accesses.at, Removals.{IsOnlyLiveNode, MayDropLayer}};
 ghost use Rattle.mt_tests.specs.Checked.{HasLongKey, HasLinkTo};
 
 use crate::checked::{Checked, entry_of};
 use mt_arena::{Prefix, Standing};
 use mt_border::laws::suffix_fits_mark;
-use mt_border::{Entry, Find, FoundKind, Held, Pair, Suffix};
+use mt_border::{Entry, Find, FoundKind, Held, HeldRef, Pair, Suffix};
 use mt_rows::Row;
 use mt_slices::StoredKey;
 use std::alloc::Global;
@@ -23,7 +23,7 @@ fn entry_below(rt: &impl Abort, alloc: Global, key: &StoredKey, row: Row, stamp:
 {
     let suffix = Suffix::new(Vec::from_slice(alloc, key.suffix(1)).expect(rt, "memory"));
     let (slice, mark) = (key.slice(1), key.mark(1));
-    let held = Held::Stable(Pair { suffix, row, stamp });
+    let held = Held::stable(Pair::new(alloc, suffix, row, stamp).expect(rt, "memory"));
     Entry { slice, mark, held }
 }
 
@@ -49,13 +49,16 @@ impl Checked {
         let Some(border) = seen.border() else {
             return false;
         };
-        let Some(Held::Stable(_)) = border.load(0) else {
+        let Some(HeldRef::Stable(_)) = border.load(0).map(Held::seen) else {
             return false;
         };
-        let found = border.find(key.slice(0), key.mark(0), key.suffix(0));
-        matches!(found, Find::Slot(0, FoundKind::ThisKey))
-            && seen.tree() == 0
-            && !seen.version().is_deleted()
+        if seen.tree() != 0 || seen.version().is_deleted() {
+            return false;
+        }
+        match border.find(key.slice(0), key.mark(0), key.suffix(0)) {
+            Find::Slot(0, FoundKind::ThisKey) => true,
+            _ => false,
+        }
     }
 
     // The entry that the pair of slot 0 has in the next layer.
@@ -63,8 +66,8 @@ impl Checked {
         requires { (pair : AnyPair) × HasLongKey self.now node key.now pair }
         ensures { (pair : AnyPair) → HasLongKey self.now node key.now pair → result ≡ entry_in key.now 1 pair.row pair.stamp }
     {
-        match self.arena.border(node).load(0) {
-            Some(Held::Stable(pair)) => {
+        match self.arena.border(node).load(0).map(Held::seen) {
+            Some(HeldRef::Stable(pair)) => {
                 let row = pair.row.share().expect(rt, "memory");
                 entry_below(rt, alloc, key, row, pair.stamp)
             }
@@ -76,7 +79,7 @@ impl Checked {
     fn make_tree(&mut self, rt: &impl Abort, alloc: Global, node: usize, key: &StoredKey) -> usize
         requires { (pair : AnyPair) × HasLongKey self.old node key.now pair }
         ensures { (pair : AnyPair) → HasLongKey self.old node key.now pair →
-            IsLayerOf self.new node 0 result 5 (Stable pair) key.now pair.row }
+            IsLayerOf self.new node (place_at (at self.new node) 0) result 5 (Stable pair) key.now pair.row }
     {
         self.arena.facts();
         let entry = self.first_below(rt, alloc, node, key);
@@ -88,7 +91,7 @@ impl Checked {
 
     // Makes the slot a link to it.
     fn make_link(&mut self, node: usize, tree: usize)
-        requires { (key : Bytes) × (pair : AnyPair) × IsLayerOf self.old node 0 tree 5 (Stable pair) key pair.row }
+        requires { (key : Bytes) × (pair : AnyPair) × IsLayerOf self.old node (place_at (at self.old node) 0) tree 5 (Stable pair) key pair.row }
     {
         self.arena.facts();
         self.arena.mark_unstable(node, 0, 5);
@@ -112,11 +115,9 @@ impl Checked {
     {
         let seen = self.arena.node(node);
         let border = seen.border()?;
-        match border.load(0) {
-            Some(Held::Link(tree))
-                if *tree < self.arena.trees().len() && !seen.version().is_deleted() => {
-                Some(*tree)
-            }
+        match border.load(0).map(Held::seen) {
+            Some(HeldRef::Link(tree))
+                if tree < self.arena.trees().len() && !seen.version().is_deleted() => { Some(tree) }
             _ => None,
         }
     }
@@ -147,7 +148,7 @@ impl Checked {
 
     // Whether the tree to which slot 0 of a node leads may be taken out.
     fn may_drop_layer(&self, node: usize) -> bool
-        ensures { IsTrue result → (tree : ℕ) × MayDropLayer self.now node 0 tree 5 }
+        ensures { IsTrue result → (tree : ℕ) × MayDropLayer self.now node (place_at (at self.now node) 0) tree 5 }
     {
         if !self.holds(node) {
             return false;

@@ -25,7 +25,10 @@ fn three_in_rising_order_then_one_dropped_then_one_below(rt: HostRuntime) {
     assert_eq!(rt; order.word(), 0xEDCB_A987_6543_1202);
     insert(&rt, &mut order, 0);
     assert_eq!(rt; order.word(), 0xEDCB_A987_6543_2013);
-    assert_eq!(rt; (order.slot(0), order.place_of(0), order.place_of(3)), (1, Some(1), None));
+    assert_eq!(rt;
+        (order.slot(0), order.place_of(0), order.place_of(3)),
+        (1, Some(1), None)
+    );
 }
 
 #[test]

@@ -1,6 +1,6 @@
 -- The tree is the layer of the key that was asked for.
 use Rattle.std.proofs.Common.{rules}
-use Rattle.mt_border.specs.declared.entry.Pair.{Pair}
+use Rattle.mt_border.specs.Held.{Pair}
 use Rattle.mt_tests.specs.Checked.{HasLongKey}
 use Rattle.mt_tests.proofs.checked.Checked.make_layer.Goals as goal
 
