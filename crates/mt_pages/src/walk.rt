@@ -1,6 +1,8 @@
 //! Where a walk stands, and how it goes on.
 
-ghost use Rattle.std.specs.Prelude.{◌≡◌, ◌<◌, [], false, map, slice_get, IfOk, OnErr};
+ghost use Rattle.std.specs.{Prelude.{◌≡◌, [], false, map, slice_get, IfOk, OnErr}, List.All};
+ghost use Rattle.mt_rows.specs.Commands.{IsKey};
+ghost use Rattle.mt_checkpoint.specs.Checkpoints.{IsPair};
 ghost use Rattle.mt_pages.specs.Scans.{next_scan, pair_of};
 
 use mt_rows::command::SCAN_PAIRS;
@@ -58,6 +60,7 @@ impl PageWalk {
     /// An error leaves the walk where it stands.
     pub fn take(&mut self, alloc: Global, page: &PairList) -> Result<Vec<TenantPair>, AllocError>
         ensures ok { IfOk result (λ pairs. TakesAt (slice_get self.old.tenants.items self.old.place) page.now self.old self.new pairs.items) }
+        ensures limits { IfOk result (λ pairs. All IsPair pairs.items) }
         ensures err { OnErr result (self.new ≡ self.old) }
     {
         let Some(tenant) = self.tenants.get(self.place) else {
@@ -88,12 +91,15 @@ fn with_tenant(
     tenant: u32,
     pairs: &[(Key, Row)],
 ) -> Result<Vec<TenantPair>, AllocError>
-    ensures { IfOk result (λ taken. taken.items ≡ map (pair_of tenant) pairs.now) }
+    requires { All (λ p. IsKey p.0) pairs.now }
+    ensures pairs { IfOk result (λ taken. taken.items ≡ map (pair_of tenant) pairs.now) }
+    ensures limits { IfOk result (λ taken. All IsPair taken.items) }
 {
     let mut taken = Vec::new(alloc);
     for (key, row) in pairs {
         let mut copy = Key::new(Vec::new(alloc));
         copy.copy_from(key)?;
+        let _columns = row.columns();
         taken.push(TenantPair {
             tenant,
             key: copy,

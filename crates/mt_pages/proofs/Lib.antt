@@ -1,0 +1,3 @@
+pub mod Ascending
+pub mod Walked
+pub mod Based
