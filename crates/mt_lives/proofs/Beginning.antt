@@ -12,7 +12,7 @@ use Rattle.mt_slots.{specs.{declared.store_slots.StoreSlots.StoreSlots, Calls.Ma
 use Rattle.mt_store_logs.specs.{declared.store_log.StoreLog.StoreLog, Places.{closed_on, MakesAll}, Shows.{Shows, IsHonest}}
 use Rattle.mt_store_logs.proofs.{Closed.{closed_at, length-closed}, CallerLemmas.makes}
 use Rattle.mt_stored.specs.Stores.{IsNewStore}
-use Rattle.mt_lives.specs.{declared.serving.Serving.Serving, Lives.new_standing, Holds.Holds, Returns.IsFresh}
+use Rattle.mt_lives.specs.{declared.live_slots.LiveSlots.TheVariants.Rest, declared.serving.Serving.Serving, Lives.new_standing, Holds.Holds, Returns.IsFresh}
 use Rattle.mt_lives.proofs.{Flushing.{keeps_rules, failures_of, within}, Leaving.AllShow, Living.{RestAt, reach_all, BeginsWith, begins_serving}}
 
 begins_new : (logs : ℕ) (accounts : Accounts) → BeginsWith accounts empty 0 logs (new_state logs accounts)
@@ -64,14 +64,14 @@ module _ (accounts : Accounts) (old new : List (StoreLog MemDisk)) (some : 0 < l
       (made.each k was.0 log below was.1 at).1
 
   pub holds_new : (v : StateView) → v ≡ new_state (length new) accounts → IsRightState v → (serving : Serving) → serving.state ≡ v → IsFresh serving
-      → (bare slots : StoreSlots MemDisk) → MakesBoth keeps_rules mem_state failures_of bare slots → Holds accounts slots new_standing new (Some serving)
+      → (bare slots : StoreSlots MemDisk) → MakesBoth keeps_rules mem_state failures_of bare slots → Holds accounts (Rest slots) new_standing new (Some serving)
   holds_new v is right serving state fresh bare slots slots_made = record {
     s = new_store (length new);
     some = subst (λ n. 0 < n) (sym made.len) some;
     few = subst (λ n. n ≤ 64) (sym made.len) few;
     come = (0, refl);
     count = count_new;
-    stand = record { mays = no_checkpoints; shown = refl; keeps = slots_are_made keeps_rules mem_state failures_of bare slots (λ slot. refl) slots_made };
+    stand = (refl, record { mays = no_checkpoints; shown = refl; keeps = slots_are_made keeps_rules mem_state failures_of bare slots (λ slot. refl) slots_made });
     settled = reach_all (new_store (length new)) 0 (rest_new (length new));
     keeps = λ m. (has_none accounts, keeps_none accounts);
     now =
@@ -83,7 +83,7 @@ module _ (accounts : Accounts) (old new : List (StoreLog MemDisk)) (some : 0 < l
 -- a store that is owned alone and was just made
 pub owned_new : (accounts : Accounts) (bare slots : StoreSlots MemDisk) (disks : List MemDisk) (v : StateView) (logs : List (StoreLog MemDisk)) (serving : Serving)
     → 0 < length disks → length disks ≤ 64 → IsNewStore keeps_rules mem_state failures_of disks bare accounts v logs (Some slots) → IsRightState v → serving.state ≡ v
-    → IsFresh serving → Holds accounts slots new_standing logs (Some serving)
+    → IsFresh serving → Holds accounts (Rest slots) new_standing logs (Some serving)
 owned_new accounts bare slots disks v logs serving some few new right state fresh =
     let count : length (closed_on disks) ≡ length disks = length-closed 0 disks in
     let is : v ≡ new_state (length logs) accounts = new.state_is ∙ ap (λ n. new_state n accounts) (sym count ∙ sym new.logs_are.len) in

@@ -10,20 +10,20 @@ use Rattle.mt_core.specs.Tickets.{named}
 use Rattle.mt_crashes.{specs.Stores.{Store, SlotNow}, proofs.Invariant.within_place}
 use Rattle.mt_store_logs.{specs.{declared.store_log.StoreLog.StoreLog, Crashes.AreCrashed}, proofs.CallerLemmas.crashed}
 use Rattle.mt_lives.specs.{declared.serving.Serving.Serving, Lives.{Life, Past, Standing, past_of, crashed_to}}
-use Rattle.mt_lives.specs.Holds.{HasCome, IsDown, HoldsNow, SlotsStand, Holds}
+use Rattle.mt_lives.specs.{declared.live_slots.LiveSlots.TheVariants.Rest, Checks.SlotsStand, Holds.{HasCome, IsDown, HoldsNow, Holds}}
 use Rattle.mt_lives.proofs.{Served.ends, Flushing.{within, keeps_rules, failures_of}, Leaving.{AllShow, IsLeft}}
 use Rattle.mt_slots.specs.Crashes as slots_of
 
 -- what holds of a store that serves no life
 pub holds_left : (accounts : Accounts) (slots : StoreSlots MemDisk) (standing : Standing) (past : Past) (logs : List (StoreLog MemDisk)) (s : Store) → IsLeft accounts standing.settled past (length logs) s
-    → SlotsStand s.slots slots → AllShow s logs → Holds accounts slots (crashed_to (Err past) standing) logs None
+    → SlotsStand s.slots slots → AllShow s logs → Holds accounts (Rest slots) (crashed_to (Err past) standing) logs None
 holds_left accounts slots standing past logs s l stand each = record {
   s = s;
   some = l.some;
   few = l.few;
   come = l.come;
   count = l.len;
-  stand = stand;
+  stand = (refl, stand);
   settled = l.settled_so;
   keeps = l.keeps;
   now = record { down = l.down; each = each };
@@ -78,7 +78,7 @@ stand_crashed now first second slots crashed_slots s c = record {
     by_found Second = c.second_so.state
 
 pub leaves : (accounts : Accounts) (slots crashed_slots : StoreSlots MemDisk) (standing : Standing) (logs now_logs : List (StoreLog MemDisk)) (serving : Option Serving) (images : List (Vec ℕ Global))
-    (first second : Bytes) → Holds accounts slots standing logs serving → AreCrashed images logs now_logs → slots_of.AreCrashed first second slots crashed_slots
+    (first second : Bytes) → Holds accounts (Rest slots) standing logs serving → AreCrashed images logs now_logs → slots_of.AreCrashed first second slots crashed_slots
     → Leaves accounts crashed_slots standing now_logs
 leaves accounts slots crashed_slots standing logs now_logs serving images first second h c sc =
     let e = ended accounts standing.begun standing.now h.s logs serving h.now in
@@ -94,5 +94,5 @@ leaves accounts slots crashed_slots standing logs now_logs serving images first 
         down = e.0;
       };
       shows = shows_crashed h.s logs now_logs images e.1 c;
-      stand = stand_crashed h.s.slots first second slots crashed_slots h.stand sc;
+      stand = stand_crashed h.s.slots first second slots crashed_slots h.stand.1 sc;
     }

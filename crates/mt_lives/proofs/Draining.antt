@@ -3,7 +3,7 @@ use Rattle.std.proofs.Common.{◌≡◌, ◌⊎◌, ℕ, zero, suc, ◌+◌, ◌
 use Rattle.std.specs.Prelude.{slice_get, slice_set}
 use Rattle.mt_rows.specs.{Accounts.Accounts, declared.refusal.Refusal.Refusal}
 use Rattle.mt_disk.specs.{declared.mem.MemDisk.MemDisk, Mem.mem_state}
-use Rattle.mt_slots.specs.declared.store_slots.StoreSlots.{StoreSlots}
+use Rattle.mt_lives.specs.declared.live_slots.LiveSlots.{LiveSlots}
 use Rattle.mt_state.specs.Views.{StateView}
 use Rattle.mt_core.specs.Tickets.{named}
 use Rattle.mt_crashes.specs.Stores.{ReachesAt}
@@ -32,7 +32,7 @@ pub turn_settles : (worker upto mark : ℕ) (old new : StoreLog MemDisk) (was is
     → is.settles ≡ was.settles
 turn_settles worker upto mark old new was is b = flush_settles worker upto mark b.mid new was is b.flushes
 
-module _ (accounts : Accounts) (slots : StoreSlots MemDisk) (standing : Standing) (worker : ℕ) where
+module _ (accounts : Accounts) (slots : LiveSlots) (standing : Standing) (worker : ℕ) where
   -- All holds of a store whose log is this one; no batch waits for it, and the Settles are those.
   pub record Rests (logs : List (StoreLog MemDisk)) (was : Serving) (log : StoreLog MemDisk) (now : Serving) : Type 0 where
     pub holds : Holds accounts slots standing (slice_set logs worker log) (Some now)
@@ -128,7 +128,7 @@ module _ (accounts : Accounts) (slots : StoreSlots MemDisk) (standing : Standing
             }
 
 -- a flush of a worker's log
-module _ (accounts : Accounts) (slots : StoreSlots MemDisk) (standing : Standing) (logs : List (StoreLog MemDisk)) (serving : Serving) (h : Holds accounts slots standing logs (Some serving))
+module _ (accounts : Accounts) (slots : LiveSlots) (standing : Standing) (logs : List (StoreLog MemDisk)) (serving : Serving) (h : Holds accounts slots standing logs (Some serving))
     (worker : ℕ) (log : StoreLog MemDisk) (here : slice_get logs worker ≡ Some log) where
   pub there : (new : StoreLog MemDisk) → slice_get (slice_set logs worker new) worker ≡ Some new
   there new = set_there logs worker log new here

@@ -6,7 +6,7 @@ use Rattle.mt_rows.specs.{declared.record.Batch.Batch, declared.refusal.Refusal.
 use Rattle.mt_disk.specs.{declared.mem.MemDisk.MemDisk, Disk.GoesUp, Mem.mem_state}
 use Rattle.mt_log.specs.declared.log_file.LogFile.{LogFile}
 use Rattle.mt_recover.specs.{declared.resuming.LogSlot.LogSlot, declared.resuming.LogSlot.TheVariants.{Open, Failed, Closed, Away}}
-use Rattle.mt_slots.specs.declared.store_slots.StoreSlots.{StoreSlots}
+use Rattle.mt_lives.specs.declared.live_slots.LiveSlots.{LiveSlots}
 use Rattle.mt_store_logs.specs.{declared.store_log.StoreLog.StoreLog, Places.{log_with, mark_in, disk_in, FailsToOpen}}
 use Rattle.mt_store_logs.specs.Waits.{HasAppended, HasFailed, TakesIn, AppendsKept, FailsToAppend, with_kept, opened_with, FailsAgain, ReopensAt, FailsToReopenAt, FailsToReopen}
 use Rattle.mt_store_logs.specs.{Flushes.{DrainsShort, FailsToDrain, FailsToFlush}, LogTurns.FailsToBringUp, Shows.Shows}
@@ -14,8 +14,8 @@ use Rattle.mt_crashes.{proofs.Members.no_some, specs.Stores.LogNow}
 use Rattle.mt_lives.specs.{declared.serving.Serving.Serving, Serving.DrainsServing, declared.events.StoreEvent.StoreEvent}
 use Rattle.mt_lives.specs.{declared.events.StoreEvent.TheVariants.{Core, Flush, Reopen, SettleBegin, SettleNext, Crash}, declared.events.StoreNote.StoreNote}
 use Rattle.mt_lives.specs.{declared.events.StoreNote.TheVariants.{Turned, Settled, Refused, NoSuch}, Lives.{Standing, Notes}, Holds.Holds}
-use Rattle.mt_lives.specs.{declared.serving.Settle.Settle, Steps.{Turns, IsNoCrash}}
-use Rattle.mt_lives.specs.Forced.{Logs, FailsAt, failures_in, DiskFails, IsCrashForced, IsForced, IsForcedAll, AreForced}
+use Rattle.mt_lives.specs.{declared.serving.Settle.Settle, Steps.{Turns, LeavesSlots}}
+use Rattle.mt_lives.specs.Forced.{Logs, FailsAt, failures_in, DiskFails, CrashesFrom, IsForced, IsForcedAll, AreForced}
 use Rattle.mt_lives.proofs.{Comes.set_there, Noting.{found, at}, Flushing.{keeps_rules, failures_of}}
 use Rattle.mt_rows.specs.declared.refusal.Refusal.TheVariants as refusals
 
@@ -168,7 +168,7 @@ module _ (accounts : Accounts) (logs : Logs) (serving : Option Serving) (worker 
       (worker, inl (fails (turn_failed worker upto log new was is (λ e. no_some m (sym e ∙ at_mark)) f)))
   settle_forced id upto e was is mark is_mark f = tt
 
-  pub reopen_forced : (e : Refusal) (slots : StoreSlots MemDisk) (held : Serving) (standing : Standing) → Holds accounts slots standing logs (Some held) → mark_in log.slot ≡ None
+  pub reopen_forced : (e : Refusal) (slots : LiveSlots) (held : Serving) (standing : Standing) → Holds accounts slots standing logs (Some held) → mark_in log.slot ≡ None
       → FailsToReopen keeps_rules mem_state failures_of e log new
       → (any : Accounts) → IsForced any (Reopen worker) (Refused e) logs serving (slice_set logs worker new)
   reopen_forced refusals.Device slots held standing h shut f any =
@@ -184,23 +184,23 @@ turn_forced accounts count id mark settle old new logs now_logs serving (Settled
 turn_forced accounts count id mark settle old new logs now_logs serving note t = absurd t
 
 -- where the store doesn't serve, nothing happens
-pub none_forced : (accounts : Accounts) (event : StoreEvent) (logs : Logs) → IsNoCrash event → IsForced accounts event NoSuch logs None logs
-none_forced accounts (Core e) logs no_crash = refl
-none_forced accounts (Flush worker) logs no_crash = (refl, inl refl)
-none_forced accounts (Reopen worker) logs no_crash = (refl, inl refl)
-none_forced accounts (SettleBegin id) logs no_crash = refl
-none_forced accounts (SettleNext id) logs no_crash = refl
-none_forced accounts (Crash images) logs no_crash = absurd no_crash
+pub none_forced : (accounts : Accounts) (event : StoreEvent) (logs : Logs) → LeavesSlots event → IsForced accounts event NoSuch logs None logs
+none_forced accounts (Core e) logs leaves = refl
+none_forced accounts (Flush worker) logs leaves = (refl, inl refl)
+none_forced accounts (Reopen worker) logs leaves = (refl, inl refl)
+none_forced accounts (SettleBegin id) logs leaves = refl
+none_forced accounts (SettleNext id) logs leaves = refl
+none_forced accounts event logs leaves = absurd leaves
 
--- an event that is no crash leaves the slots alone
-pub slots_alone : (accounts : Accounts) (slots : StoreSlots MemDisk) (event : StoreEvent) (note : StoreNote) (old : Logs) (serving : Option Serving) (new : Logs) → IsNoCrash event
+-- an event that leaves the slots alone
+pub slots_alone : (accounts : Accounts) (slots : LiveSlots) (event : StoreEvent) (note : StoreNote) (old : Logs) (serving : Option Serving) (new : Logs) → LeavesSlots event
     → IsForced accounts event note old serving new → IsForcedAll accounts slots slots event note old serving new
-slots_alone accounts slots (Core e) note old serving new no_crash forced = (forced, refl)
-slots_alone accounts slots (Flush worker) note old serving new no_crash forced = (forced, refl)
-slots_alone accounts slots (Reopen worker) note old serving new no_crash forced = (forced, refl)
-slots_alone accounts slots (SettleBegin id) note old serving new no_crash forced = (forced, refl)
-slots_alone accounts slots (SettleNext id) note old serving new no_crash forced = (forced, refl)
-slots_alone accounts slots (Crash images) note old serving new no_crash forced = absurd no_crash
+slots_alone accounts slots (Core e) note old serving new leaves forced = (forced, refl)
+slots_alone accounts slots (Flush worker) note old serving new leaves forced = (forced, refl)
+slots_alone accounts slots (Reopen worker) note old serving new leaves forced = (forced, refl)
+slots_alone accounts slots (SettleBegin id) note old serving new leaves forced = (forced, refl)
+slots_alone accounts slots (SettleNext id) note old serving new leaves forced = (forced, refl)
+slots_alone accounts slots event note old serving new leaves forced = absurd leaves
 
 -- the logs that a call went over are those of the store
 module _ {E : Type 0} (first old new last : Logs) (result : Result StoreNote E) (same_old : first ≡ old) (same_new : new ≡ last) (accounts : Accounts) (event : StoreEvent) where
@@ -210,23 +210,23 @@ module _ {E : Type 0} (first old new last : Logs) (result : Result StoreNote E) 
   moved_to : (P : StoreNote → Logs → Logs → Type 0) → All P first new → All P old last
   moved_to P all = subst (λ logs. All P old logs) same_new (subst (λ logs. All P logs new) same_old all)
 
-  pub crash_forced : (slots now_slots : StoreSlots MemDisk) (images : Vec (Vec ℕ Global) Global) (serving : Option Serving) → event ≡ Crash images
-      → IfOk result (λ note. IsCrashForced accounts images.items note slots now_slots first new) → IfOk result (λ note. IsForcedAll accounts slots now_slots event note old serving last)
+  pub crash_forced : (slots now_slots : LiveSlots) (images : Vec (Vec ℕ Global) Global) (serving : Option Serving) → event ≡ Crash images
+      → IfOk result (λ note. CrashesFrom accounts images.items slots now_slots note first new) → IfOk result (λ note. IsForcedAll accounts slots now_slots event note old serving last)
   crash_forced slots now_slots images serving is forced =
       subst (λ e. IfOk result (λ note. IsForcedAll accounts slots now_slots e note old serving last)) (sym is)
-      (moved_to (λ note before after. IsCrashForced accounts images.items note slots now_slots before after) forced)
+      (moved_to (λ note before after. CrashesFrom accounts images.items slots now_slots note before after) forced)
 
-  pub served_forced : (slots : StoreSlots MemDisk) (was : Serving) (serving : Option Serving) → serving ≡ Some was → IsNoCrash event
+  pub served_forced : (slots : LiveSlots) (was : Serving) (serving : Option Serving) → serving ≡ Some was → LeavesSlots event
       → IfOk result (λ note. (any : Accounts) → IsForced any event note first (Some was) new) → IfOk result (λ note. IsForcedAll accounts slots slots event note old serving last)
-  served_forced slots was serving is no_crash forced =
+  served_forced slots was serving is leaves forced =
       subst (λ s. IfOk result (λ note. IsForcedAll accounts slots slots event note old s last)) (sym is)
-      (IfOk-weaker result _ _ (λ note all. slots_alone accounts slots event note old (Some was) last no_crash (all accounts))
+      (IfOk-weaker result _ _ (λ note all. slots_alone accounts slots event note old (Some was) last leaves (all accounts))
       (moved_to (λ note before after. (any : Accounts) → IsForced any event note before (Some was) after) forced))
 
 -- ---- many events
 
 -- one event more
-pub forced_more : (accounts : Accounts) (slots mid_slots now_slots : StoreSlots MemDisk) (notes : Notes) (event : StoreEvent) (note : StoreNote) (old mid new : Logs)
+pub forced_more : (accounts : Accounts) (slots mid_slots now_slots : LiveSlots) (notes : Notes) (event : StoreEvent) (note : StoreNote) (old mid new : Logs)
     (was between is : Option Serving) → AreForced accounts slots mid_slots notes old was mid between → IsForcedAll accounts mid_slots now_slots event note mid between new
     → AreForced accounts slots now_slots (notes ++ (event, note) ∷ []) old was new is
 forced_more accounts slots mid_slots now_slots [] event note old mid new was between is all one = (

@@ -3,7 +3,7 @@ use Rattle.std.proofs.Common.{◌≡◌, ◌⊎◌, ℕ, ◌+◌, ◌≤◌, Lis
 use Rattle.std.specs.{Prelude.{slice_get, slice_set}, Ordering.nat_cmp, BTreeMap.{get, Updates}}
 use Rattle.mt_rows.specs.{Accounts.Accounts, declared.refusal.Refusal.Refusal}
 use Rattle.mt_disk.specs.{declared.mem.MemDisk.MemDisk, Mem.mem_state}
-use Rattle.mt_slots.specs.declared.store_slots.StoreSlots.{StoreSlots}
+use Rattle.mt_lives.specs.declared.live_slots.LiveSlots.{LiveSlots}
 use Rattle.mt_crashes.specs.Stores.{ReachesAt}
 use Rattle.mt_store_logs.specs.{declared.store_log.StoreLog.StoreLog, Waits.{Reopens, FailsToReopen}, Flushes.{Flushes, FailsToFlush}}
 use Rattle.mt_store_logs.specs.LogTurns.{BringsUp, FailsToBringUp}
@@ -21,7 +21,7 @@ ok_life life (Err past) = life
 
 -- ---- where it goes
 
-module _ (accounts : Accounts) (slots : StoreSlots MemDisk) (standing : Standing) (logs : List (StoreLog MemDisk)) (serving : Serving) (h : Holds accounts slots standing logs (Some serving)) where
+module _ (accounts : Accounts) (slots : LiveSlots) (standing : Standing) (logs : List (StoreLog MemDisk)) (serving : Serving) (h : Holds accounts slots standing logs (Some serving)) where
   serves : IsServing standing
   serves = (life_served accounts slots standing logs serving h, lives_so accounts slots standing logs serving h)
 

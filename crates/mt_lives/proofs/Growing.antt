@@ -4,6 +4,8 @@ use Rattle.std.proofs.{lemmas.Bool.{cases_lt, lt-ltb}, lemmas.List.append-nil, l
 use Rattle.std.specs.Prelude.{nat_lt}
 use Rattle.mt_rows.specs.{Accounts.Accounts, Tenants.Contents, TenantPairs.{quota_in, HasTenants, KeepsQuotas}, declared.record.Batch.Batch}
 use Rattle.mt_crashes.specs.{Histories.{Placed, upto, changes_of, pairs_upto}, Stores.{Store, StepsOn, Places}}
+use Rattle.mt_crashes.proofs.Walking.{map_before}
+use Rattle.mt_pages.specs.Walked.{KeepsMaps}
 use Rattle.mt_lives.{specs.Holds.{LeadsTo, HoldsChanges, KeepsAll}, proofs.{Comes.{stays_here, one_more}, Tapes.holds_more}}
 use Rattle.std.specs.FinMap as pairs
 
@@ -15,9 +17,10 @@ pub record Grows (old new : Store) : Type 0 where
   pub serving : new.serving ≡ old.serving
   pub steps : old.steps ≤ new.steps
   pub holds : (worker : ℕ) (b : Batch) → HoldsChanges old worker b → HoldsChanges new worker b
+  pub maps : KeepsMaps old.steps old.history new.history
 
 pub grows_not : (s : Store) → Grows s s
-grows_not s = record { leads = stays_here s s refl; logs = refl; slots = refl; serving = refl; steps = omega arith; holds = λ worker b h. h }
+grows_not s = record { leads = stays_here s s refl; logs = refl; slots = refl; serving = refl; steps = omega arith; holds = λ worker b h. h; maps = λ t m le. refl }
 
 -- a step that placed nothing
 abbrev pub stepped : Store → Store
@@ -33,6 +36,7 @@ grows_step s serves = record {
   serving = refl;
   steps = omega arith;
   holds = λ worker b h. record { made = omega (arith, h.made); records = h.records };
+  maps = λ t m le. refl;
 }
 
 -- one that placed a change
@@ -49,6 +53,7 @@ grows_placing s p serves number worker = record {
   serving = refl;
   steps = omega arith;
   holds = λ w b h. record { made = omega (arith, h.made); records = h.records ∙ sym (holds_more w b s.history p (omega (arith, h.made, number))) };
+  maps = λ t m le. map_before m t s.history p (omega (arith, le, number));
 }
 
 -- ---- quotas

@@ -1,28 +1,32 @@
--- An event that is no crash, of a store that serves or does not.
+-- An event that leaves the slots alone, of a store that serves or does not.
 use Rattle.std.proofs.Common.{◌≡◌, ℕ, List, length, Option, Some, None, Result, Ok, Err, inl, refl, sym, ap, subst, ◌∙◌}
 use Rattle.std.specs.{Prelude.{IfOk, OnOk, Vec}, declared.alloc.Global.Global}
 use Rattle.mt_rows.specs.Accounts.{Accounts}
 use Rattle.mt_disk.specs.declared.mem.MemDisk.{MemDisk}
-use Rattle.mt_slots.specs.declared.store_slots.StoreSlots.{StoreSlots}
+use Rattle.mt_lives.specs.declared.live_slots.LiveSlots.{LiveSlots}
 use Rattle.mt_runs.specs.Placings.{Quotas}
 use Rattle.mt_store_logs.specs.{declared.store_log.StoreLog.StoreLog, Places.workers_of}
-use Rattle.mt_lives.specs.{declared.events.StoreEvent.StoreEvent, declared.events.StoreEvent.TheVariants.{Core, SettleBegin, SettleNext, Crash}}
+use Rattle.mt_lives.specs.{declared.events.StoreEvent.StoreEvent, declared.events.StoreEvent.TheVariants.{Core, Flush, Reopen, SettleBegin, SettleNext, CheckBegin, CheckStep, Crash}}
 use Rattle.mt_lives.specs.{declared.events.StoreNote.StoreNote, declared.events.StoreNote.TheVariants.NoSuch, declared.serving.Serving.Serving}
-use Rattle.mt_lives.specs.{Lives.{Life, Past, Standing, IsServing, IsNoted}, Holds.{HoldsNow, Holds}, Steps.{IsNoCrash, GoesOn}}
+use Rattle.mt_lives.specs.{Lives.{Life, Past, Standing, IsServing, IsNoted}, Holds.{HoldsNow, Holds}, Steps.{LeavesSlots, GoesOn}, Forced.{IsCheckForced, IsForcedAll}}
 
-pub no_crash : (event : StoreEvent) → ((images : Vec (Vec ℕ Global) Global) → event ≡ Crash images → ⊥) → IsNoCrash event
-no_crash (Crash images) never = absurd (never images refl)
-no_crash event never = tt
+pub leaves_slots : (event : StoreEvent) → (event ≡ CheckBegin → ⊥) → (event ≡ CheckStep → ⊥) → ((images : Vec (Vec ℕ Global) Global) → event ≡ Crash images → ⊥) → LeavesSlots event
+leaves_slots CheckBegin begins steps crashes = absurd (begins refl)
+leaves_slots CheckStep begins steps crashes = absurd (steps refl)
+leaves_slots (Crash images) begins steps crashes = absurd (crashes images refl)
+leaves_slots event begins steps crashes = tt
 
 -- where the store serves no life, NoSuch may be noted
-pub nothing_noted : (quotas : Quotas) (standing : Standing) (event : StoreEvent) → ¬ IsServing standing → IsNoted quotas standing event NoSuch standing
-nothing_noted quotas standing (Core e) not = (not, refl)
-nothing_noted quotas standing (SettleBegin id) not = (inl not, refl)
-nothing_noted quotas standing (SettleNext id) not = (inl not, refl)
-nothing_noted quotas standing event not = refl
+pub nothing_noted : (quotas : Quotas) (standing : Standing) (event : StoreEvent) → LeavesSlots event → ¬ IsServing standing → IsNoted quotas standing event NoSuch standing
+nothing_noted quotas standing (Core e) leaves not = (not, refl)
+nothing_noted quotas standing (SettleBegin id) leaves not = (inl not, refl)
+nothing_noted quotas standing (SettleNext id) leaves not = (inl not, refl)
+nothing_noted quotas standing (Flush worker) leaves not = refl
+nothing_noted quotas standing (Reopen worker) leaves not = refl
+nothing_noted quotas standing event leaves not = absurd leaves
 
 -- a store that has nothing while it serves serves no life
-pub serves_none : (accounts : Accounts) (slots : StoreSlots MemDisk) (standing : Standing) (logs : List (StoreLog MemDisk)) → Holds accounts slots standing logs None → ¬ IsServing standing
+pub serves_none : (accounts : Accounts) (slots : LiveSlots) (standing : Standing) (logs : List (StoreLog MemDisk)) → Holds accounts slots standing logs None → ¬ IsServing standing
 serves_none accounts slots standing logs h serves = subst (λ (n : Result Life Past). HoldsNow accounts standing.begun n h.s logs None) serves.1 h.now
 
 -- the logs that a call went over are those of the store
@@ -41,15 +45,33 @@ module _ {E : Type 0} (first old new last : List (StoreLog MemDisk)) (result : R
       by (Ok note) same = ap workers_of (sym same_new) ∙ same ∙ ap workers_of same_old
       by (Err e) same = tt
 
-  pub served_goes : (accounts : Accounts) (slots : StoreSlots MemDisk) (event : StoreEvent) (was now : Serving) (serving : Option Serving) → serving ≡ Some was
-      → IfOk result (λ note. (any : Accounts) (some : StoreSlots MemDisk) → GoesOn any some some event note first (Some was) new (Some now))
+  pub served_goes : (accounts : Accounts) (slots : LiveSlots) (event : StoreEvent) (was now : Serving) (serving : Option Serving) → serving ≡ Some was
+      → IfOk result (λ note. (any : Accounts) (some : LiveSlots) → GoesOn any some some event note first (Some was) new (Some now))
       → IfOk result (λ note. GoesOn accounts slots slots event note old serving last (Some now))
   served_goes accounts slots event was now serving is = by result
     where
-      by : (r : Result StoreNote E) → IfOk r (λ note. (any : Accounts) (some : StoreSlots MemDisk) → GoesOn any some some event note first (Some was) new (Some now))
+      by : (r : Result StoreNote E) → IfOk r (λ note. (any : Accounts) (some : LiveSlots) → GoesOn any some some event note first (Some was) new (Some now))
           → IfOk r (λ note. GoesOn accounts slots slots event note old serving last (Some now))
       by (Ok note) goes =
           subst (λ s. GoesOn accounts slots slots event note old s last (Some now)) (sym is)
           (subst (λ logs. GoesOn accounts slots slots event note logs (Some was) last (Some now)) same_old
           (subst (λ logs. GoesOn accounts slots slots event note first (Some was) logs (Some now)) same_new (goes accounts slots)))
       by (Err e) goes = tt
+
+-- ---- events of a checkpoint
+
+pub begun_forced : (accounts : Accounts) (slots now : LiveSlots) (event : StoreEvent) (note : StoreNote) (logs : List (StoreLog MemDisk)) (serving : Option Serving) → event ≡ CheckBegin
+    → IsCheckForced note slots now → IsForcedAll accounts slots now event note logs serving logs
+begun_forced accounts slots now event note logs serving is forced = subst (λ e. IsForcedAll accounts slots now e note logs serving logs) (sym is) (refl, forced)
+
+module _ {E : Type 0} (accounts : Accounts) (slots now : LiveSlots) (event : StoreEvent) (logs : List (StoreLog MemDisk)) where
+  pub stepped_goes : (was is : Option Serving) (result : Result StoreNote E) → event ≡ CheckStep
+      → IfOk result (λ note. (any : Accounts) (all : List (StoreLog MemDisk)) → GoesOn any slots now CheckStep note all was all is)
+      → IfOk result (λ note. GoesOn accounts slots now event note logs was logs is)
+  stepped_goes was is (Ok note) same goes = subst (λ e. GoesOn accounts slots now e note logs was logs is) (sym same) (goes accounts logs)
+  stepped_goes was is (Err e) same goes = tt
+
+  pub stepped_forced : (serving : Option Serving) (result : Result StoreNote E) → event ≡ CheckStep → IfOk result (λ note. IsCheckForced note slots now)
+      → IfOk result (λ note. IsForcedAll accounts slots now event note logs serving logs)
+  stepped_forced serving (Ok note) same forced = subst (λ e. IsForcedAll accounts slots now e note logs serving logs) (sym same) (refl, forced)
+  stepped_forced serving (Err e) same forced = tt

@@ -33,3 +33,6 @@ pub mod SettleNotes
 pub mod Settlings
 pub mod SlotReading
 pub mod Parting
+pub mod Stories
+pub mod Checking
+pub mod CheckNotes

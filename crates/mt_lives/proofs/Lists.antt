@@ -3,7 +3,7 @@ use Rattle.std.{proofs.Common.{◌≡◌, zero, suc, ℕ, ◌+◌, ◌<◌, List
 use Rattle.mt_rows.specs.Accounts.{Accounts}
 use Rattle.mt_disk.specs.declared.mem.MemDisk.{MemDisk}
 use Rattle.mt_runs.specs.Placings.{Quotas}
-use Rattle.mt_slots.specs.declared.store_slots.StoreSlots.{StoreSlots}
+use Rattle.mt_lives.specs.declared.live_slots.LiveSlots.{LiveSlots}
 use Rattle.mt_store_logs.specs.declared.store_log.StoreLog.{StoreLog}
 use Rattle.mt_lives.specs.{declared.events.StoreEvent.StoreEvent, declared.events.StoreNote.StoreNote, declared.serving.Serving.Serving}
 use Rattle.mt_lives.specs.{Lives.{Standing, IsNoted, Notes, NotesLead}, Holds.{quotas_of, Holds}, Steps.{GoesOn, NotesGoOn}}
@@ -32,11 +32,11 @@ pub leads_more : (quotas : Quotas) (old mid new : Standing) (notes : Notes) (eve
 leads_more quotas old mid new [] event note leads noted = (new, subst (λ (s : Standing). IsNoted quotas s event note new) leads noted, refl)
 leads_more quotas old mid new (x ∷ notes) event note leads noted = (leads.0, leads.1, leads_more quotas leads.0 mid new notes event note leads.2 noted)
 
-module _ (accounts : Accounts) (slots : StoreSlots MemDisk) (logs : List (StoreLog MemDisk)) (serving : Option Serving) where
+module _ (accounts : Accounts) (slots : LiveSlots) (logs : List (StoreLog MemDisk)) (serving : Option Serving) where
   pub none_yet : NotesGoOn accounts slots slots [] logs serving logs serving
   none_yet standing h = (standing, refl, h)
 
-  pub one_more : (notes : Notes) (mid_slots now_slots : StoreSlots MemDisk) (mid_logs now_logs : List (StoreLog MemDisk)) (mid_serving now_serving : Option Serving)
+  pub one_more : (notes : Notes) (mid_slots now_slots : LiveSlots) (mid_logs now_logs : List (StoreLog MemDisk)) (mid_serving now_serving : Option Serving)
       (event : StoreEvent) (note : StoreNote)
       → NotesGoOn accounts slots mid_slots notes logs serving mid_logs mid_serving → GoesOn accounts mid_slots now_slots event note mid_logs mid_serving now_logs now_serving
       → NotesGoOn accounts slots now_slots (notes ++ (event, note) ∷ []) logs serving now_logs now_serving
@@ -45,7 +45,7 @@ module _ (accounts : Accounts) (slots : StoreSlots MemDisk) (logs : List (StoreL
       let b = one a.0 a.2 in
       (b.0, leads_more (quotas_of accounts) standing a.0 b.0 notes event note a.1 b.1, b.2)
 
-  pub stands_on : (notes : Notes) (now_slots : StoreSlots MemDisk) (now_logs : List (StoreLog MemDisk)) (now_serving : Option Serving)
+  pub stands_on : (notes : Notes) (now_slots : LiveSlots) (now_logs : List (StoreLog MemDisk)) (now_serving : Option Serving)
       → (standing : Standing) × Holds accounts slots standing logs serving
       → NotesGoOn accounts slots now_slots notes logs serving now_logs now_serving → (standing : Standing) × Holds accounts now_slots standing now_logs now_serving
   stands_on notes now_slots now_logs now_serving held all = let a = all held.0 held.1 in (a.0, a.2)

@@ -18,7 +18,7 @@ use Rattle.mt_lives.specs.Holds.{IsLogAt, HoldsKept, Serves, Holds}
 use Rattle.mt_lives.proofs.{Comes.{with_log, set_there, GoesTo, and_then, rests, is_in, is_in_doubt}, Logged.{set_other, serves_drained}}
 use Rattle.mt_lives.proofs.Flushing.{keeps_rules, failures_of, of_log, doubt_drained, Moves, kept_moves, waits_moves, full_or_all, flushed, keeps_moves}
 use Rattle.mt_lives.proofs.Noting.{life_served, held, HoldsAgain, found, at, moved}
-use Rattle.mt_slots.specs.declared.store_slots.StoreSlots.{StoreSlots}
+use Rattle.mt_lives.specs.declared.live_slots.LiveSlots.{LiveSlots}
 use Rattle.mt_rows.specs.declared.refusal.Refusal.TheVariants as refusals
 
 -- ---- refusals of a reopening
@@ -66,7 +66,7 @@ rest_drained now mid (Some b) waits (inr rest) = refl
 
 -- ---- one log
 
-module _ (accounts : Accounts) (slots : StoreSlots MemDisk) (standing : Standing) (logs : List (StoreLog MemDisk)) (serving : Serving) (h : Holds accounts slots standing logs (Some serving))
+module _ (accounts : Accounts) (slots : LiveSlots) (standing : Standing) (logs : List (StoreLog MemDisk)) (serving : Serving) (h : Holds accounts slots standing logs (Some serving))
     (worker : ℕ) (log new : StoreLog MemDisk) (here : slice_get logs worker ≡ Some log) where
   life : Life
   life = life_served accounts slots standing logs serving h

@@ -3,7 +3,7 @@ use Rattle.std.proofs.Common.{◌≡◌, ◌≢◌, ℕ, ◌<◌, ◌≤◌, Lis
 use Rattle.std.specs.Prelude.{slice_get, slice_set}
 use Rattle.mt_rows.specs.Accounts.{Accounts}
 use Rattle.mt_disk.specs.declared.mem.MemDisk.{MemDisk}
-use Rattle.mt_slots.specs.declared.store_slots.StoreSlots.{StoreSlots}
+use Rattle.mt_lives.specs.declared.live_slots.LiveSlots.{LiveSlots}
 use Rattle.mt_state.specs.Histories.{AreById}
 use Rattle.mt_core.specs.Tickets.{named}
 use Rattle.mt_crashes.{specs.Stores.{Store, LogNow}, proofs.Invariant.within_place}
@@ -19,7 +19,7 @@ pub serving_life : (accounts : Accounts) (begun : ℕ → Option ℕ) (now : Res
 serving_life accounts begun (Ok life) s logs serving h = (life, refl)
 serving_life accounts begun (Err past) s logs serving h = absurd h
 
-module _ (accounts : Accounts) (slots : StoreSlots MemDisk) (standing : Standing) (logs : List (StoreLog MemDisk)) (serving : Serving) (h : Holds accounts slots standing logs (Some serving)) where
+module _ (accounts : Accounts) (slots : LiveSlots) (standing : Standing) (logs : List (StoreLog MemDisk)) (serving : Serving) (h : Holds accounts slots standing logs (Some serving)) where
   pub life_served : Life
   life_served = (serving_life accounts standing.begun standing.now h.s logs serving h.now).0
 

@@ -4,7 +4,7 @@ use Rattle.std.proofs.lemmas.List.{length-set}
 use Rattle.std.specs.Prelude.{IfErr}
 use Rattle.mt_rows.specs.{Accounts.Accounts, declared.record.Batch.Batch, declared.refusal.Refusal.Refusal}
 use Rattle.mt_disk.specs.{declared.mem.MemDisk.MemDisk, Mem.mem_state}
-use Rattle.mt_slots.specs.declared.store_slots.StoreSlots.{StoreSlots}
+use Rattle.mt_lives.specs.declared.live_slots.LiveSlots.{LiveSlots}
 use Rattle.mt_batches.specs.Batches.{IsBounded}
 use Rattle.mt_state.specs.Views.{StateView}
 use Rattle.mt_core.specs.Rights.{IsRightState}
@@ -121,7 +121,7 @@ DoesInMemory turn was old is new = DoesStore keeps_rules mem_state failures_of t
 abbrev pub does : {S : Type 0} → (S → OwnState) → (S → List (StoreLog MemDisk)) → S → Turn → S → Type 0
 does source logs old turn new = DoesInMemory turn (source old) (logs old) (source new) (logs new)
 
-module _ (accounts : Accounts) (slots : StoreSlots MemDisk) (standing : Standing) (serving : Serving) (count steps : ℕ) where
+module _ (accounts : Accounts) (slots : LiveSlots) (standing : Standing) (serving : Serving) (count steps : ℕ) where
   -- all holds of the store with this state and these logs
   pub record Keeps (s : OwnState) (logs : List (StoreLog MemDisk)) : Type 0 where
     pub holds : Holds accounts slots standing logs (Some (with_state s.state serving))
@@ -166,7 +166,7 @@ last_turn does (x ∷ turns) turn old new (mid, d, rest) =
     (r.0, (mid, d, r.1), r.2)
 
 -- how a store begins that serves by this state
-pub keeps_at_first : (accounts : Accounts) (slots : StoreSlots MemDisk) (standing : Standing) (serving : Serving) (s : OwnState) (logs : List (StoreLog MemDisk)) → Holds accounts slots standing logs (Some serving)
+pub keeps_at_first : (accounts : Accounts) (slots : LiveSlots) (standing : Standing) (serving : Serving) (s : OwnState) (logs : List (StoreLog MemDisk)) → Holds accounts slots standing logs (Some serving)
     → s.state ≡ serving.state → Keeps accounts slots standing serving (length logs) s.state.steps s logs
 keeps_at_first accounts slots standing serving s logs h same =
     let was = held accounts slots standing logs serving h in record {

@@ -1,5 +1,5 @@
 -- The images of a crash part in one way alone into those of the logs and the two of the slots.
-use Rattle.std.proofs.Common.{◌≡◌, ℕ, ◌+◌, List, [], ◌∷◌, ◌++◌, take, drop, length, Some, refl, sym, ap, subst, ◌∙◌, arith}
+use Rattle.std.proofs.Common.{◌≡◌, ℕ, List, [], ◌∷◌, ◌++◌, take, drop, length, sym, ap, ◌∙◌, arith}
 use Rattle.std.proofs.{Math.Seq.{take-append_seam, drop-append_seam}, lemmas.List.take-append-drop, lemmas.Option.same_Some}
 use Rattle.std.specs.{Prelude.{slice_get, slice_index_or, Vec}, declared.alloc.Global.Global}
 use Rattle.mt_rows.specs.Rows.{Bytes}

@@ -1,5 +1,5 @@
 -- What a recovery makes of a store that a crash left, in each of its outcomes.
-use Rattle.std.proofs.Common.{◌≡◌, ℕ, ◌<◌, ◌≤◌, ◌^◌, min, Result, List, [], ◌∷◌, map, length, Option, Some, None, Ok, Err, refl, sym, ap, subst, ◌∙◌, arith, inl, inr, ⊎_elim}
+use Rattle.std.proofs.Common.{◌≡◌, ◌≢◌, ℕ, ◌<◌, ◌≤◌, ◌^◌, min, Result, List, map, length, Option, Some, None, Ok, Err, refl, sym, ap, subst, ◌∙◌, arith, inl, inr, ⊎_elim}
 use Rattle.std.proofs.{lemmas.List.Elements.All-weaker, lemmas.Option.same_Some}
 use Rattle.std.specs.{Prelude.{slice_get, Vec, IfOk}, declared.alloc.Global.Global, List.All}
 use Rattle.mt_rows.specs.{Accounts.Accounts, TenantPairs.{pairs_of, quota_in}, declared.refusal.Refusal.Refusal}
@@ -21,8 +21,9 @@ use Rattle.mt_store_logs.proofs.{ForResumes.{in_format, both_in_format, resumes_
 use Rattle.mt_stored.specs.Stores.{IsRecoveredStore}
 use Rattle.mt_lives.specs.{declared.events.StoreEvent.StoreEvent, declared.events.StoreEvent.TheVariants.Crash, declared.events.StoreNote.StoreNote}
 use Rattle.mt_lives.specs.{declared.events.StoreNote.TheVariants.{Recovered, Refused, NoSuch}, declared.serving.Serving.Serving}
-use Rattle.mt_lives.specs.Lives.{Life, Past, Standing, past_of, life_from, MayKeep, AreLeftOf, IsMemoryOrDevice, crashed_to}
-use Rattle.mt_lives.specs.{Holds.{quotas_of, HasCome, HoldsServing, SlotsStand, Holds}, Forced.AllCrash}
+use Rattle.mt_lives.specs.Lives.{Life, Past, Standing, past_of, life_from, MayKeep, AreLeftOf, IsMemoryOrDevice, checking, crashed_to, IsNoted}
+use Rattle.mt_lives.specs.{declared.live_slots.LiveSlots.LiveSlots, declared.live_slots.LiveSlots.TheVariants.{Rest, Writes, Away}, declared.live_slots.Check.Check}
+use Rattle.mt_lives.specs.{Checks.{at_rest, SlotsStand}, Holds.{quotas_of, HasCome, HoldsServing, Holds}, Forced.{AllCrash, IsCrashForced}}
 use Rattle.mt_lives.specs.{Returns.{IsFresh, Begins, AreRecovered, AreNotRecovered}, Steps.{GoesOn, CrashesTo}}
 use Rattle.mt_lives.proofs.{Comes.comes_on, Logged.all_on, Flushing.{keeps_rules, failures_of, within}, Walking.with_logs, Leaving.{AllShow, IsLeft, left_on}}
 use Rattle.mt_lives.proofs.SlotReading.{told_fault, stand_unread, with_slots, AreSure, stand_sure, slots_rest, stand_used}
@@ -56,10 +57,10 @@ module _ (accounts : Accounts) (slots : StoreSlots MemDisk) (standing : Standing
   pub record Refuses (new : List (StoreLog MemDisk)) (now : StoreSlots MemDisk) : Type 0 where
     pub past_now : Past
     pub kept : MayKeep standing.settled (past_of standing.now) past_now
-    pub holds : Holds accounts now (crashed_to (Err past_now) standing) new None
+    pub holds : Holds accounts (Rest now) (crashed_to (Err past_now) standing) new None
 
   holds_so : (past_now : Past) (t : Store) (new : List (StoreLog MemDisk)) (now : StoreSlots MemDisk) → length new ≡ length old → IsLeftAs past_now t → SlotsStand t.slots now
-      → AllShow t new → Holds accounts now (crashed_to (Err past_now) standing) new None
+      → AllShow t new → Holds accounts (Rest now) (crashed_to (Err past_now) standing) new None
   holds_so past_now t new now len l stand each =
       holds_left accounts now standing past_now new t (subst (λ n. IsLeft accounts standing.settled past_now n t) (sym len) l) stand each
 
@@ -240,7 +241,7 @@ module _ (accounts : Accounts) (slots : StoreSlots MemDisk) (standing : Standing
                 (subst (λ n. RestAt n resumed.logs) (sym is.resume_is) rest_at) ended found_now serving state fresh new resumed.shows none_kept
 
             -- the next life
-            pub with_state : Holds accounts kept_slots (crashed_to (Ok next) standing) new (Some serving)
+            pub with_state : Holds accounts (Rest kept_slots) (crashed_to (Ok next) standing) new (Some serving)
             with_state =
                 let goes = serves_now last refl rest_at resumed.held in
                 let len : length new ≡ length old = resumes.len ∙ opens.each.len in
@@ -250,7 +251,7 @@ module _ (accounts : Accounts) (slots : StoreSlots MemDisk) (standing : Standing
                   few = subst (λ n. n ≤ 64) (sym len) left_last.few;
                   come = subst (λ n. HasCome n (served last)) (sym len) (comes_on (length old) last (served last) left_last.come goes);
                   count = left_last.len ∙ sym len;
-                  stand = stand_now;
+                  stand = (refl, stand_now);
                   settled = all_on (length old) standing.settled last (served last) left_last.some left_last.few left_last.come goes left_last.settled_so;
                   keeps = left_last.keeps;
                   now = serving_now;
@@ -273,13 +274,13 @@ module _ (accounts : Accounts) (slots : StoreSlots MemDisk) (standing : Standing
   pub recovered_up : (r : Found) (new : List (StoreLog MemDisk)) (now : StoreSlots MemDisk) → ServesAgain keeps_rules mem_state failures_of accounts r old slots new now
       → (v : StateView) → IsRestored r.resume (length new) accounts r.pairs.items v → IsRightState v → (serving : Serving) → serving.state ≡ v → IsFresh serving
       → (next : Standing) × (standing.settled ≤ r.cutoff) × AreLeftOf (quotas_of accounts) (past_of standing.now).life (min (past_of standing.now).kept r.cutoff) (pairs_of r.pairs.items)
-      × (next ≡ crashed_to (Ok (life_from (pairs_of r.pairs.items) r.resume)) standing) × Holds accounts now next new (Some serving)
+      × (next ≡ crashed_to (Ok (life_from (pairs_of r.pairs.items) r.resume)) standing) × Holds accounts (Rest now) next new (Some serving)
   recovered_up r new now a v restored right serving state fresh = (
     crashed_to (Ok (life_from (pairs_of r.pairs.items) r.resume)) standing,
     settled_upto a.mid a.fronts a.opens a.rested a.found a.reads r a.recovers.recovered,
     left_of a.mid a.fronts a.opens a.rested a.found a.reads r a.recovers.recovered,
     refl,
-    subst (λ ss. Holds accounts ss (crashed_to (Ok (life_from (pairs_of r.pairs.items) r.resume)) standing) new (Some serving)) (sym a.keeps)
+    subst (λ (ss : StoreSlots MemDisk). Holds accounts (Rest ss) (crashed_to (Ok (life_from (pairs_of r.pairs.items) r.resume)) standing) new (Some serving)) (sym a.keeps)
         (with_state a.mid a.fronts a.opens a.rested a.found a.reads r a.recovers.recovered new a.resumes v (length new) restored right refl serving state fresh),
   )
 
@@ -287,18 +288,18 @@ module _ (accounts : Accounts) (slots : StoreSlots MemDisk) (standing : Standing
 
 module _ (accounts : Accounts) (slots between now : StoreSlots MemDisk) (old mid new : List (StoreLog MemDisk)) (was : Option Serving) (all : List (Vec ℕ Global))
     (crash : AllCrash all old slots mid between) where
-  left_by : (standing : Standing) → Holds accounts slots standing old was → Leaves accounts between standing mid
+  left_by : (standing : Standing) → Holds accounts (Rest slots) standing old was → Leaves accounts between standing mid
   left_by standing h = leaves accounts slots between standing old mid was crash.of_logs crash.first crash.second h crash.logs_crash crash.slots_crash
 
   -- the store is recovered
   pub crashes_recovered : (r : Found) (serving : Serving) → AreRecovered accounts between now r mid new → Begins accounts r (length new) serving
-      → CrashesTo accounts slots now (Recovered r) old was new (Some serving)
+      → CrashesTo accounts (Rest slots) (Rest now) (Recovered r) old was new (Some serving)
   crashes_recovered r serving again begins = λ named standing h.
       let up = recovered_up accounts between standing mid (left_by standing h) r new now again serving.state begins.state begins.right serving refl begins.fresh in
       (up.0, (up.1, up.2, up.3), up.4)
 
   -- or not
-  pub crashes_refused : (e : Refusal) → AreNotRecovered accounts between now e mid new → CrashesTo accounts slots now (Refused e) old was new None
+  pub crashes_refused : (e : Refusal) → AreNotRecovered accounts between now e mid new → CrashesTo accounts (Rest slots) (Rest now) (Refused e) old was new None
   crashes_refused e not = λ named standing h.
       ⊎_elim
       (λ refused.
@@ -317,16 +318,83 @@ module _ (accounts : Accounts) (slots between now : StoreSlots MemDisk) (old mid
 
 -- it did not crash
 pub crashes_not : (accounts : Accounts) (slots now_slots : StoreSlots MemDisk) (old new : List (StoreLog MemDisk)) (was now : Option Serving) → now_slots ≡ slots → new ≡ old → now ≡ was
-    → CrashesTo accounts slots now_slots NoSuch old was new now
+    → CrashesTo accounts (Rest slots) (Rest now_slots) NoSuch old was new now
 crashes_not accounts slots now_slots old new was now same_slots same same_serving = λ named standing h. (
   standing,
-  refl,
-  subst (λ ss. Holds accounts ss standing new now) (sym same_slots)
-      (subst (λ logs. Holds accounts slots standing logs now) (sym same) (subst (Holds accounts slots standing old) (sym same_serving) h)),
+  ap (λ check. checking check standing) h.stand.0,
+  subst (λ (ss : StoreSlots MemDisk). Holds accounts (Rest ss) standing new now) (sym same_slots)
+      (subst (λ logs. Holds accounts (Rest slots) standing logs now) (sym same) (subst (Holds accounts (Rest slots) standing old) (sym same_serving) h)),
 )
 
+-- ---- a checkpoint that is being written is given up
+
+resting_of : StoreSlots MemDisk → LiveSlots → StoreSlots MemDisk
+resting_of other (Rest slots) = slots
+resting_of other slots = other
+
+same_rest : (a b : StoreSlots MemDisk) → Rest a ≡ Rest b → a ≡ b
+unfolding resting_of
+same_rest a b e = ap (resting_of a) e
+
+pub gave_up : (accounts : Accounts) (slots : LiveSlots) (was : StoreSlots MemDisk) (standing : Standing) (logs : List (StoreLog MemDisk)) (serving : Option Serving)
+    → at_rest slots ≡ Rest was → Holds accounts slots standing logs serving → Holds accounts (Rest was) (checking None standing) logs serving
+gave_up accounts slots was standing logs serving rests h = record {
+  s = h.s;
+  some = h.some;
+  few = h.few;
+  come = h.come;
+  count = h.count;
+  stand = (refl, by slots rests h.stand);
+  settled = h.settled;
+  keeps = h.keeps;
+  now = h.now;
+}
+  where
+    by : (ss : LiveSlots) → at_rest ss ≡ Rest was → Rattle.mt_lives.specs.Checks.LiveSlotsStand accounts standing.check standing.now h.s.slots h.s.history h.s.steps ss
+        → SlotsStand h.s.slots was
+    by (Rest ss) e stand = subst (SlotsStand h.s.slots) (same_rest ss was e) stand.1
+    by (Writes c) e stand =
+        subst (SlotsStand h.s.slots) (same_rest _ was e) (record { mays = stand.1.mays; shown = stand.1.shown_so; keeps = stand.1.keeps.slots })
+    by Away e stand = absurd stand
+
+noted_at_rest : (accounts : Accounts) (standing after : Standing) (images : Vec (Vec ℕ Global) Global) (note : StoreNote)
+    → IsNoted (quotas_of accounts) (checking None standing) (Crash images) note after → IsNoted (quotas_of accounts) standing (Crash images) note after
+noted_at_rest accounts standing after images (Recovered r) n = n
+noted_at_rest accounts standing after images (Refused e) n = n
+noted_at_rest accounts standing after images NoSuch n = n
+noted_at_rest accounts standing after images note n = absurd n
+
+-- so a crash of slots at rest is one of the slots as they were
+pub crashes_live : {E : Type 0} (accounts : Accounts) (slots now : LiveSlots) (was : StoreSlots MemDisk) (old new : List (StoreLog MemDisk)) (before after : Option Serving) (result : Result StoreNote E)
+    → at_rest slots ≡ Rest was → IfOk result (λ note. CrashesTo accounts (Rest was) now note old before new after) → IfOk result (λ note. CrashesTo accounts slots now note old before new after)
+crashes_live accounts slots now was old new before after (Ok note) rests goes = λ images standing h.
+    let r = goes images (checking None standing) (gave_up accounts slots was standing old before rests h) in
+    (r.0, noted_at_rest accounts standing r.0 images note r.1, r.2)
+crashes_live accounts slots now was old new before after (Err e) rests goes = tt
+
+pub crashed_at_rest : {E : Type 0} (accounts : Accounts) (images : List (Vec ℕ Global)) (slots : LiveSlots) (was is : StoreSlots MemDisk) (old new : List (StoreLog MemDisk)) (result : Result StoreNote E)
+    → at_rest slots ≡ Rest was → IfOk result (λ note. IsCrashForced accounts images note was is old new)
+    → IfOk result (λ note. (first last : StoreSlots MemDisk) × (at_rest slots ≡ Rest first) × (Rest is ≡ Rest last) × IsCrashForced accounts images note first last old new)
+crashed_at_rest accounts images slots was is old new (Ok note) rests forced = (was, is, rests, refl, forced)
+crashed_at_rest accounts images slots was is old new (Err e) rests forced = tt
+
+-- slots at rest are not written, and are away only if they were
+pub never_writes : {P : Type 0} (slots : LiveSlots) (c : Check) → at_rest slots ≡ Writes c → P
+never_writes (Rest slots) c e = absurd cc
+never_writes (Writes check) c e = absurd cc
+never_writes Away c e = absurd cc
+
+pub never_away : {P : Type 0} (slots : LiveSlots) → slots ≢ Away → at_rest slots ≡ Away → P
+never_away (Rest slots) there e = absurd cc
+never_away (Writes check) there e = absurd cc
+never_away Away there e = absurd (there refl)
+
+pub not_away : (accounts : Accounts) (slots : LiveSlots) (standing : Standing) (logs : List (StoreLog MemDisk)) (serving : Option Serving) → Holds accounts slots standing logs serving → slots ≢ Away
+not_away accounts slots standing logs serving h e =
+    subst (Rattle.mt_lives.specs.Checks.LiveSlotsStand accounts standing.check standing.now h.s.slots h.s.history h.s.steps) e h.stand
+
 -- an event that is a crash, whatever its call answers
-pub crashed_goes : {E : Type 0} (accounts : Accounts) (slots now_slots : StoreSlots MemDisk) (images : Vec (Vec ℕ Global) Global) (event : StoreEvent)
+pub crashed_goes : {E : Type 0} (accounts : Accounts) (slots now_slots : LiveSlots) (images : Vec (Vec ℕ Global) Global) (event : StoreEvent)
     (first old new last : List (StoreLog MemDisk)) (was serving : Option Serving)
     (result : Result StoreNote E) → event ≡ Crash images → first ≡ old → new ≡ last → IfOk result (λ note. CrashesTo accounts slots now_slots note first was new serving)
     → IfOk result (λ note. GoesOn accounts slots now_slots event note old was last serving)
@@ -340,7 +408,7 @@ crashed_goes accounts slots now_slots images event first old new last was servin
 pub owned_recovered : (accounts : Accounts) (slots found now : StoreSlots MemDisk) (old new : List (StoreLog MemDisk)) (was : Option Serving) (disks : List MemDisk)
     (images : Vec (Vec ℕ Global) Global) (serving : Serving) → AllCrash images.items old slots (closed_on disks) found
     → IsRecoveredStore keeps_rules mem_state failures_of disks found accounts serving.state new (Some now) → IsRightState serving.state → IsFresh serving
-    → (r : Found) × GoesOn accounts slots now (Crash images) (Recovered r) old was new (Some serving)
+    → (r : Found) × GoesOn accounts (Rest slots) (Rest now) (Crash images) (Recovered r) old was new (Some serving)
 owned_recovered accounts slots found now old new was disks images serving crashed is right fresh =
     let len : length new ≡ length disks = is.serves.resumes.len ∙ is.serves.opens.each.len ∙ length-closed 0 disks in
     let begins : Begins accounts is.recovered (length new) serving = record {

@@ -4,7 +4,7 @@ use Rattle.std.proofs.lemmas.Bool.{cases_eq, eq-eqb, ne_eqb}
 use Rattle.std.specs.{Ordering.nat_cmp, BTreeMap.get}
 use Rattle.mt_rows.specs.{Accounts.Accounts, declared.refusal.Refusal.Refusal}
 use Rattle.mt_disk.specs.{declared.mem.MemDisk.MemDisk, Mem.mem_state}
-use Rattle.mt_slots.specs.declared.store_slots.StoreSlots.{StoreSlots}
+use Rattle.mt_lives.specs.declared.live_slots.LiveSlots.{LiveSlots}
 use Rattle.mt_runs.specs.Placings.{Quotas}
 use Rattle.mt_state.specs.Views.{StateView}
 use Rattle.mt_core.specs.Tickets.{named}
@@ -29,7 +29,7 @@ open_reaches now (Closed disk) mark shows is = absurd (no_some mark is)
 open_reaches now Away mark shows is = absurd shows
 
 -- logs that go up to the last step reach it
-settled_reach : (accounts : Accounts) (slots : StoreSlots MemDisk) (standing : Standing) (logs : List (StoreLog MemDisk)) (serving : Serving) (h : Holds accounts slots standing logs (Some serving))
+settled_reach : (accounts : Accounts) (slots : LiveSlots) (standing : Standing) (logs : List (StoreLog MemDisk)) (serving : Serving) (h : Holds accounts slots standing logs (Some serving))
     → IsSettled serving.state logs → AllReach serving.state.steps h.s
 settled_reach accounts slots standing logs serving h up worker now there =
     let log = within_place logs worker (subst (λ n. worker < n) h.count (within h.s.logs worker now there)) in
@@ -57,7 +57,7 @@ none_again id at begun none q = by (cases_eq q id)
 
 -- ---- the store
 
-module _ (accounts : Accounts) (slots : StoreSlots MemDisk) (standing : Standing) (logs : List (StoreLog MemDisk)) (serving : Serving) (h : Holds accounts slots standing logs (Some serving))
+module _ (accounts : Accounts) (slots : LiveSlots) (standing : Standing) (logs : List (StoreLog MemDisk)) (serving : Serving) (h : Holds accounts slots standing logs (Some serving))
     (id : ℕ) (none : standing.begun id ≡ None) where
   abbrev life : Life
   life = life_served accounts slots standing logs serving h
@@ -118,7 +118,7 @@ one_less : (n : ℕ) → 0 < n → (k : ℕ) × (k + 1 ≡ n)
 one_less zero some = absurd (omega (arith, some))
 one_less (suc k) some = (k, omega arith)
 
-module _ (accounts : Accounts) (slots : StoreSlots MemDisk) (standing : Standing) (serving : Serving) (id : ℕ) (none : standing.begun id ≡ None) {S : Type 0} (source : S → OwnState)
+module _ (accounts : Accounts) (slots : LiveSlots) (standing : Standing) (serving : Serving) (id : ℕ) (none : standing.begun id ≡ None) {S : Type 0} (source : S → OwnState)
     (logs : S → List (StoreLog MemDisk)) (old new : S) (h : Holds accounts slots standing (logs old) (Some serving)) (same : (source old).state ≡ serving.state) where
   abbrev now : Serving
   now = with_state (source new).state serving
@@ -189,7 +189,7 @@ module _ (accounts : Accounts) (slots : StoreSlots MemDisk) (standing : Standing
 
 -- a Settle of whatever has a state and its logs
 pub owned_settle : {S : Type 0} (old new : S) (source : S → OwnState) (logs : S → List (StoreLog MemDisk)) (count : ℕ) → count ≡ length (logs old)
-    → (accounts : Accounts) (slots : StoreSlots MemDisk) (standing : Standing) (serving : Serving) (id : ℕ) (told : Result ℕ Refusal) → Holds accounts slots standing (logs old) (Some serving)
+    → (accounts : Accounts) (slots : LiveSlots) (standing : Standing) (serving : Serving) (id : ℕ) (told : Result ℕ Refusal) → Holds accounts slots standing (logs old) (Some serving)
     → (source old).state ≡ serving.state → standing.begun id ≡ None → Settles (does source logs) count old new told
     → IsWholeSettle accounts slots standing id (source old).state.steps count told (logs new) (with_state (source new).state serving)
 owned_settle old new source logs count all accounts slots standing serving id told h same none s =

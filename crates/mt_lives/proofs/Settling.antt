@@ -4,7 +4,7 @@ use Rattle.std.proofs.lemmas.Bool.{cases_eq, eq-eqb, ne_eqb}
 use Rattle.std.specs.{Ordering.{nat_cmp, is_eq}, FinMap.nat_cmp-IsAntisymmetric, BTreeMap.{BTreeMap, get, Updates}}
 use Rattle.mt_rows.specs.Accounts.{Accounts}
 use Rattle.mt_disk.specs.declared.mem.MemDisk.{MemDisk}
-use Rattle.mt_slots.specs.declared.store_slots.StoreSlots.{StoreSlots}
+use Rattle.mt_lives.specs.declared.live_slots.LiveSlots.{LiveSlots}
 use Rattle.mt_core.specs.Tickets.{named}
 use Rattle.mt_state.specs.Histories.{AreById}
 use Rattle.mt_crashes.specs.Stores.{Store, ReachesAt, AllReach}
@@ -80,7 +80,7 @@ reaches_both m n worker s a b log there front left = let r = a log there front l
 
 -- ---- the store
 
-module _ (accounts : Accounts) (slots : StoreSlots MemDisk) (standing : Standing) (logs : List (StoreLog MemDisk)) (serving : Serving) (h : Holds accounts slots standing logs (Some serving))
+module _ (accounts : Accounts) (slots : LiveSlots) (standing : Standing) (logs : List (StoreLog MemDisk)) (serving : Serving) (h : Holds accounts slots standing logs (Some serving))
     (now : Serving) (state : now.state ≡ serving.state) (roster : now.roster ≡ serving.roster) (id : ℕ) where
   life : Life
   life = life_served accounts slots standing logs serving h
@@ -98,7 +98,7 @@ module _ (accounts : Accounts) (slots : StoreSlots MemDisk) (standing : Standing
 
   -- all of it holds with other Settles
   pub resettled : (begun : ℕ → Option ℕ) (number : ℕ) → AllReach number h.s → AreSettles h.s begun now.settles
-      → Holds accounts slots (record { begun = begun; settled = number; now = standing.now }) logs (Some now)
+      → Holds accounts slots (record { begun = begun; settled = number; check = standing.check; now = standing.now }) logs (Some now)
   resettled begun number reach settles = record {
     s = h.s;
     some = h.some;

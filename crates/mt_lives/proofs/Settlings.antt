@@ -1,16 +1,16 @@
 -- What the notes of a whole Settle say of its number.
-use Rattle.std.proofs.Common.{◌≡◌, ℕ, zero, suc, ◌≤◌, List, [], ◌∷◌, ◌++◌, replicate, Option, Some, None, Result, Ok, refl, sym, ap, ◌∙◌, inl, inr, arith}
+use Rattle.std.proofs.Common.{◌≡◌, ℕ, zero, suc, ◌≤◌, List, [], ◌∷◌, ◌++◌, replicate, Option, Some, None, Result, Ok, refl, sym, ap, ◌∙◌, inl, inr, ⊎_elim, arith}
 use Rattle.std.proofs.lemmas.Option.{same_Some}
 use Rattle.std.specs.{Prelude.Vec, declared.alloc.Global.Global}
 use Rattle.mt_rows.specs.{Accounts.Accounts, declared.refusal.Refusal.Refusal}
 use Rattle.mt_disk.specs.declared.mem.MemDisk.{MemDisk}
-use Rattle.mt_slots.specs.declared.store_slots.StoreSlots.{StoreSlots}
+use Rattle.mt_lives.specs.declared.live_slots.LiveSlots.{LiveSlots}
 use Rattle.mt_runs.specs.Placings.{Quotas}
 use Rattle.mt_recover.specs.declared.recovering.Recovered.{Recovered as AnyRecovered}
 use Rattle.mt_store_logs.specs.declared.store_log.StoreLog.{StoreLog}
-use Rattle.mt_lives.specs.{declared.events.StoreEvent.StoreEvent, declared.events.StoreEvent.TheVariants.{Core, Flush, Reopen, SettleBegin, SettleNext, Crash}}
+use Rattle.mt_lives.specs.{declared.events.StoreEvent.StoreEvent, declared.events.StoreEvent.TheVariants.{Core, Flush, Reopen, SettleBegin, SettleNext, CheckBegin, CheckStep, Crash}}
 use Rattle.mt_lives.specs.declared.events.StoreNote.{StoreNote}
-use Rattle.mt_lives.specs.declared.events.StoreNote.TheVariants.{Told, Flushed, Reopened, Begun, Turned, Settled, Recovered, Refused, NoSuch}
+use Rattle.mt_lives.specs.declared.events.StoreNote.TheVariants.{Told, Flushed, Reopened, Begun, Turned, Settled, CheckBegun, CheckTold, CheckAdded, CheckEnded, Recovered, Refused, NoSuch}
 use Rattle.mt_lives.specs.{declared.serving.Serving.Serving, Lives.{Life, Past, Standing, steps_in, IsNoted, Notes, NotesLead}, Holds.quotas_of}
 use Rattle.mt_lives.specs.Owned.{turn_notes, AreTurnNotes, IsWholeSettle}
 use Rattle.mt_lives.proofs.Goes.{ok_life}
@@ -83,6 +83,15 @@ never_falls quotas old new (Crash images) (Refused e) noted = let same = ap (λ 
 never_falls quotas old new (Flush worker) NoSuch noted = let same = ap (λ (s : Standing). s.settled) noted in omega (arith, same)
 never_falls quotas old new (Reopen worker) NoSuch noted = let same = ap (λ (s : Standing). s.settled) noted in omega (arith, same)
 never_falls quotas old new (Crash images) NoSuch noted = let same = ap (λ (s : Standing). s.settled) noted in omega (arith, same)
+never_falls quotas old new CheckBegin (CheckBegun number) noted = let same = ap (λ (s : Standing). s.settled) noted.4 in omega (arith, same)
+never_falls quotas old new CheckBegin (Refused e) noted = let same = ap (λ (s : Standing). s.settled) noted.3 in omega (arith, same)
+never_falls quotas old new CheckBegin NoSuch noted = let same = ap (λ (s : Standing). s.settled) noted.1 in omega (arith, same)
+never_falls quotas old new CheckStep (CheckTold t) noted =
+    ⊎_elim (λ e. let same = ap (λ (s : Standing). s.settled) e in omega (arith, same)) (λ e. let same = ap (λ (s : Standing). s.settled) e in omega (arith, same)) noted.6
+never_falls quotas old new CheckStep CheckAdded noted = let same = ap (λ (s : Standing). s.settled) noted.2 in omega (arith, same)
+never_falls quotas old new CheckStep (CheckEnded number) noted = let same = ap (λ (s : Standing). s.settled) noted.6 in omega (arith, same)
+never_falls quotas old new CheckStep (Refused e) noted = let same = ap (λ (s : Standing). s.settled) noted.3 in omega (arith, same)
+never_falls quotas old new CheckStep NoSuch noted = let same = ap (λ (s : Standing). s.settled) noted.1 in omega (arith, same)
 never_falls quotas old new event note noted = absurd noted
 
 -- so each later cutoff is at least that
@@ -94,11 +103,11 @@ kept_on quotas n (x ∷ notes) old new images r le (mid, noted, rest) =
     kept_on quotas n notes mid new images r (omega (arith, le, on)) rest
 
 -- a Settle begins by a name that no open one has
-pub was_free : (accounts : Accounts) (slots : StoreSlots MemDisk) (standing : Standing) (id steps count : ℕ) (told : Result ℕ Refusal) (logs : List (StoreLog MemDisk)) (serving : Serving)
+pub was_free : (accounts : Accounts) (slots : LiveSlots) (standing : Standing) (id steps count : ℕ) (told : Result ℕ Refusal) (logs : List (StoreLog MemDisk)) (serving : Serving)
     → IsWholeSettle accounts slots standing id steps count told logs serving → standing.begun id ≡ None
 was_free accounts slots standing id steps count told logs serving w = w.lead.1.3
 
-module _ (accounts : Accounts) (slots : StoreSlots MemDisk) (standing : Standing) (id steps count n : ℕ) (logs : List (StoreLog MemDisk)) (serving : Serving)
+module _ (accounts : Accounts) (slots : LiveSlots) (standing : Standing) (id steps count n : ℕ) (logs : List (StoreLog MemDisk)) (serving : Serving)
     (w : IsWholeSettle accounts slots standing id steps count (Ok n) logs serving) where
   -- its number is at most the last step
   pub within_steps : (life : Life) → standing.now ≡ Ok life → n ≤ steps_in life

@@ -5,15 +5,15 @@ use Rattle.mt_disk.specs.{declared.mem.MemDisk.MemDisk, Mem.mem_state}
 use Rattle.mt_checkpoint.specs.{declared.checkpoint.Checkpoint.Checkpoint, Checkpoints.walk_of}
 use Rattle.mt_slots.specs.{declared.slot.Slot.Slot, declared.slot.Slot.TheVariants.{First, Second}, declared.store_slots.StoreSlots.StoreSlots}
 use Rattle.mt_slots.specs.{declared.fault.SlotFault.SlotFault, declared.fault.FaultCause.FaultCause, declared.fault.FaultCause.TheVariants.{Device, Memory}}
-use Rattle.mt_slots.specs.{Places.{Both, at, in_order, with_newest, refusal_for}, Calls.{ReadsBoth, StopsReading}, Keeps.{only_these, HasOneWalk, KeepsSlots}}
+use Rattle.mt_slots.specs.{Places.{Both, in_order, with_newest, refusal_for}, Calls.{ReadsBoth, StopsReading}, Keeps.{only_these, HasOneWalk, KeepsSlots}}
 use Rattle.mt_slots.proofs.Settling.{both_read, among_these, not_read, kept_newest}
 use Rattle.mt_log.specs.Contents.{Contents}
-use Rattle.mt_crashes.specs.{Bases.{CheckpointView, Slots}, Recoveries.IsUsed, SlotDisks.{view_of_walk, slot_now, with_slot}}
+use Rattle.mt_crashes.specs.{Bases.{CheckpointView}, Recoveries.IsUsed, SlotDisks.{view_of_walk, slot_now, with_slot}}
 use Rattle.mt_crashes.specs.Stores.{Store, SlotNow, only_this}
 use Rattle.mt_crashes.proofs.{Members.no_some, SlotDisks.rests}
 use Rattle.mt_recover.specs.Pairs.{view_of}
 use Rattle.mt_store_logs.specs.Recovers.{slots_of, used_slot}
-use Rattle.mt_lives.{specs.{Lives.IsMemoryOrDevice, Holds.{LeadsTo, SlotsStand}}, proofs.{Comes.{stays_here, one_more}, Flushing.{keeps_rules, failures_of}}}
+use Rattle.mt_lives.{specs.{Lives.IsMemoryOrDevice, Checks.SlotsStand, Holds.LeadsTo}, proofs.{Comes.{stays_here, one_more}, Flushing.{keeps_rules, failures_of}}}
 
 -- ---- a slot was not read
 

@@ -1,16 +1,18 @@
 -- What an event of an operation makes of all that holds of a store, and what is noted of it.
-use Rattle.std.{proofs.Common.{◌≡◌, ℕ, ◌<◌, List, length, Option, Some, None, Ok, refl, sym, ap, subst, ◌∙◌}, specs.Prelude.slice_get}
+use Rattle.std.{proofs.Common.{◌≡◌, ℕ, ◌<◌, ◌≤◌, List, ◌++◌, length, Option, Some, None, Result, Ok, refl, sym, ap, subst, ◌∙◌, arith}, specs.Prelude.slice_get}
 use Rattle.mt_rows.specs.{Accounts.Accounts, declared.record.Batch.Batch}
 use Rattle.mt_disk.specs.declared.mem.MemDisk.{MemDisk}
-use Rattle.mt_slots.specs.declared.store_slots.StoreSlots.{StoreSlots}
+use Rattle.mt_lives.specs.{declared.live_slots.LiveSlots.LiveSlots, declared.live_slots.LiveSlots.TheVariants.{Rest, Writes, Away}}
 use Rattle.mt_runs.{specs.{declared.event.Event.Event, declared.event.Told.{Told as Answered}}, proofs.Order.one_order}
-use Rattle.mt_state.specs.{Views.{map_of, changed_at}, Histories.{AreById, TellsEvent, IsServed}}
-use Rattle.mt_core.specs.{Rights.IsRightState, Tickets.named}
+use Rattle.mt_state.specs.{Views.{map_of, changed_at}, Histories.IsServed}
+use Rattle.mt_core.specs.Tickets.{named}
+use Rattle.mt_pages.proofs.Walked.{stays}
 use Rattle.mt_crashes.specs.Stores.{Store}
 use Rattle.mt_store_logs.specs.declared.store_log.StoreLog.{StoreLog}
 use Rattle.mt_lives.specs.{declared.events.StoreEvent.TheVariants.Core, declared.events.StoreNote.TheVariants.Told, declared.serving.Serving.Serving}
-use Rattle.mt_lives.specs.{Lives.{Standing, with_event, firsts, story_in, IsNoted}, Holds.{quotas_of, HoldsKept, IsLogAt, EachLog, Serves, SlotsStand, Holds}}
-use Rattle.mt_lives.proofs.{Comes.comes_on, Growing.Grows, Cores.grown, Logged.{all_on, settles_on}, Noting.{life_served, lives_so, held}}
+use Rattle.mt_lives.specs.{Serving.TellsServing, Lives.{Life, Past, Standing, with_event, firsts, story_in, steps_in, HasOrder, checking, living, IsNoted}}
+use Rattle.mt_lives.specs.{Checks.{first_of, pending, SlotsStand, LiveSlotsStand}, Holds.{quotas_of, HoldsKept, IsLogAt, EachLog, Serves, Holds}}
+use Rattle.mt_lives.proofs.{Comes.comes_on, Growing.Grows, Cores.grown, Logged.{all_on, settles_on}, Noting.{life_served, lives_so, held}, Served.last, Stories.scan_on}
 
 -- the logs stand as they did
 kept_grown : (s t : Store) (worker : ℕ) (kept : Option Batch) → Grows s t → HoldsKept s worker kept → HoldsKept t worker kept
@@ -23,47 +25,97 @@ each_grown s t given now_given logs grows same all worker now log is_now is_log 
     let a = all worker now log (ap (λ ls. slice_get ls worker) (sym grows.logs) ∙ is_now) is_log in
     record { stands = a.stands; given_so = ap (λ g. slice_get g worker) same ∙ a.given_so; kept = kept_grown s t worker log.kept grows a.kept }
 
-pub told : (accounts : Accounts) (slots : StoreSlots MemDisk) (standing : Standing) (logs : List (StoreLog MemDisk)) (serving : Serving) (h : Holds accounts slots standing logs (Some serving))
-    (now : Serving) (e : Event) (answer : Answered)
-    → TellsEvent (named serving.roster.tickets) serving.state (named now.roster.tickets) now.state e answer
-    → AreById now.roster.names (named now.roster.tickets) → IsRightState now.state → IsServed (length logs) e → now.settles ≡ serving.settles
-    → (next : Standing) × IsNoted (quotas_of accounts) standing (Core e) (Told answer) next × Holds accounts slots next logs (Some now)
-told accounts slots standing logs serving h now e answer tells by_id right served settles =
-    let life = life_served accounts slots standing logs serving h in
-    let was = held accounts slots standing logs serving h in
-    let s = h.s in
-    let names = named serving.roster.tickets in
-    let now_names = named now.roster.tickets in
-    let count = length logs in
-    let g = grown accounts life s serving.state names was.serves h.keeps (subst (λ n. 0 < n) (sym h.count) h.some) e answer now.state now_names tells right
-    (subst (λ n. IsServed n e) (sym h.count) served) in
-    let t : Store = g.0 in
-    let grows : Grows s t = g.1 in
-    let serves : Serves accounts (with_event life e answer) t now.state now_names = g.2 in
-    let length_so : length t.logs ≡ length s.logs = ap length grows.logs in (
-      record standing { now = Ok (with_event life e answer) },
-      (
-        life,
-        lives_so accounts slots standing logs serving h,
-        one_order (quotas_of accounts) (firsts life) (story_in (with_event life e answer)) (map_of now.state) (changed_at now.state) serves.history.right,
-        refl,
-      ),
+-- A life that has gone on by an event of an operation: with whatever slots stand by the store then, all of it holds again.
+module _ (accounts : Accounts) (slots : LiveSlots) (standing : Standing) (logs : List (StoreLog MemDisk)) (serving : Serving) (h : Holds accounts slots standing logs (Some serving)) where
+  abbrev pub life_at : Life
+  life_at = life_served accounts slots standing logs serving h
+
+  pub record LivesOn (now : Serving) (e : Event) (answer : Answered) : Type 0 where
+    pub t : Store
+    pub grows : Grows h.s t
+    pub serves : Serves accounts (with_event life_at e answer) t now.state (named now.roster.tickets)
+    pub order : HasOrder (quotas_of accounts) (with_event life_at e answer)
+    pub holds : (now_slots : LiveSlots) (check : Option ℕ) → LiveSlotsStand accounts check (Ok (with_event life_at e answer)) t.slots t.history t.steps now_slots
+        → Holds accounts now_slots (living (with_event life_at e answer) (checking check standing)) logs (Some now)
+
+  pub lives_on : (now : Serving) (e : Event) (answer : Answered) → TellsServing serving now e answer → IsServed (length logs) e → LivesOn now e answer
+  lives_on now e answer tells served =
+      let life = life_served accounts slots standing logs serving h in
+      let was = held accounts slots standing logs serving h in
+      let s = h.s in
+      let names = named serving.roster.tickets in
+      let now_names = named now.roster.tickets in
+      let count = length logs in
+      let g = grown accounts life s serving.state names was.serves h.keeps (subst (λ n. 0 < n) (sym h.count) h.some) e answer now.state now_names tells.tells tells.right
+      (subst (λ n. IsServed n e) (sym h.count) served) in
+      let t : Store = g.0 in
+      let grows : Grows s t = g.1 in
+      let serves : Serves accounts (with_event life e answer) t now.state now_names = g.2 in
+      let length_so : length t.logs ≡ length s.logs = ap length grows.logs in
       record {
-        s = t;
-        some = h.some;
-        few = h.few;
-        come = comes_on count s t h.come grows.leads;
-        count = length_so ∙ h.count;
-        stand = subst (λ ss. SlotsStand ss slots) (sym grows.slots) h.stand;
-        settled = all_on count standing.settled s t h.some h.few h.come grows.leads h.settled;
-        keeps = g.3;
-        now = record {
-          serves = serves;
-          by_id = by_id;
-          each = each_grown s t serving.state.logs now.state.logs logs grows g.4 was.each;
-          settles =
-              subst (λ m. Rattle.mt_lives.specs.Holds.AreSettles t standing.begun m) (sym settles)
-              (settles_on count s t h.some h.few h.come grows.leads grows.steps length_so standing.begun serving.settles was.settles);
+        t = t;
+        grows = grows;
+        serves = serves;
+        order = one_order (quotas_of accounts) (firsts life) (story_in (with_event life e answer)) (map_of now.state) (changed_at now.state) serves.history.right;
+        holds = λ now_slots check stand. record {
+          s = t;
+          some = h.some;
+          few = h.few;
+          come = comes_on count s t h.come grows.leads;
+          count = length_so ∙ h.count;
+          stand = stand;
+          settled = all_on count standing.settled s t h.some h.few h.come grows.leads h.settled;
+          keeps = g.3;
+          now = record {
+            serves = serves;
+            by_id = tells.by_id;
+            each = each_grown s t serving.state.logs now.state.logs logs grows g.4 was.each;
+            settles =
+                subst (λ m. Rattle.mt_lives.specs.Holds.AreSettles t standing.begun m) (sym tells.settles)
+                (settles_on count s t h.some h.few h.come grows.leads grows.steps length_so standing.begun serving.settles was.settles);
+          };
         };
-      },
+      }
+
+  -- a number of steps that were made
+  pub within : (n : ℕ) → n ≤ h.s.steps → n ≤ steps_in life_at
+  within n le =
+      let serves = (held accounts slots standing logs serving h).serves in
+      let made = serves.steps in
+      let count = last accounts (life_served accounts slots standing logs serving h) h.s serving.state (named serving.roster.tickets) serves in
+      omega (arith, le, made, count)
+
+  -- the slots stand as they did
+  pub slots_on : (now : Serving) (e : Event) (answer : Answered) (on : LivesOn now e answer)
+      → LiveSlotsStand accounts standing.check (Ok (with_event life_at e answer)) on.t.slots on.t.history on.t.steps slots
+  slots_on now e answer on = by slots (subst (λ (n : Result Life Past). LiveSlotsStand accounts standing.check n h.s.slots h.s.history h.s.steps slots)
+      (lives_so accounts slots standing logs serving h) h.stand)
+    where
+      by : (ss : LiveSlots) → LiveSlotsStand accounts standing.check (Ok life_at) h.s.slots h.s.history h.s.steps ss
+          → LiveSlotsStand accounts standing.check (Ok (with_event life_at e answer)) on.t.slots on.t.history on.t.steps ss
+      by (Rest ss) stand = (stand.0, subst (λ now. SlotsStand now ss) (sym on.grows.slots) stand.1)
+      by (Writes c) stand = (
+        stand.0,
+        record {
+          mays = stand.1.mays;
+          shown_so = on.grows.slots ∙ stand.1.shown_so;
+          pairs = stand.1.pairs;
+          keeps = stand.1.keeps;
+          found = stays h.s.history on.t.history (first_of c) h.s.steps on.t.steps on.grows.steps on.grows.maps c.walk.tenants.items c.walk.place c.walk.from c.walk.after
+              (stand.1.pairs ++ pending c.stage) stand.1.found;
+          all = stand.1.all;
+          scan = scan_on life_at e answer (first_of c) c.walk c.stage (within (first_of c) stand.1.found.made) stand.1.scan;
+        },
+      )
+      by Away stand = absurd stand
+
+pub told : (accounts : Accounts) (slots : LiveSlots) (standing : Standing) (logs : List (StoreLog MemDisk)) (serving : Serving) (h : Holds accounts slots standing logs (Some serving))
+    (now : Serving) (e : Event) (answer : Answered) → TellsServing serving now e answer → IsServed (length logs) e
+    → (next : Standing) × IsNoted (quotas_of accounts) standing (Core e) (Told answer) next × Holds accounts slots next logs (Some now)
+told accounts slots standing logs serving h now e answer tells served =
+    let life = life_served accounts slots standing logs serving h in
+    let on = lives_on accounts slots standing logs serving h now e answer tells served in (
+      living (with_event life e answer) standing,
+      (life, lives_so accounts slots standing logs serving h, on.order, refl),
+      on.holds slots standing.check (slots_on accounts slots standing logs serving h now e answer on),
     )

@@ -18,7 +18,7 @@ use Rattle.mt_lives.specs.{Lives.{Standing, IsNoted, Notes, NotesLead}, Holds.{q
 use Rattle.mt_lives.proofs.{Comes.{set_there, set_same, set_twice}, Flushing.{keeps_rules, failures_of, within}, Lists.leads_more}
 use Rattle.mt_lives.proofs.Goes.{reopen_goes, reopen_stops, flush_goes, flush_stops}
 use Rattle.mt_lives.proofs.Owning.{DoesInMemory, Keeps, brings_up, fails_to_bring_up, keeps_at_first}
-use Rattle.mt_slots.specs.declared.store_slots.StoreSlots.{StoreSlots}
+use Rattle.mt_lives.specs.declared.live_slots.LiveSlots.{LiveSlots}
 use Rattle.mt_rows.specs.declared.refusal.Refusal.TheVariants as refusals
 
 -- ---- notes one after the other
@@ -58,7 +58,7 @@ takes_both log mid new a b =
     let t = subst (λ kept. TakesIn keeps_rules mem_state failures_of kept mid.slot new.slot) a.none b.takes in
     record { takes = subst (λ slot. TakesIn keeps_rules mem_state failures_of log.kept log.slot slot) (sym t.1) a.takes; none = b.none }
 
-module _ (accounts : Accounts) (slots : StoreSlots MemDisk) (standing : Standing) (logs : List (StoreLog MemDisk)) (worker : ℕ) where
+module _ (accounts : Accounts) (slots : LiveSlots) (standing : Standing) (logs : List (StoreLog MemDisk)) (worker : ℕ) where
   -- all holds of the store with this log in its place
   record Stood (log : StoreLog MemDisk) (serving : Serving) : Type 0 where
     now : List (StoreLog MemDisk)
@@ -273,7 +273,7 @@ module _ (accounts : Accounts) (slots : StoreSlots MemDisk) (standing : Standing
       by (inr f) = ends (mark_in log.slot) (Err e) not.mid new was is a (stops upto e a.log f.first new was is a.stood (a.kept f.first f.kept) f.fails)
 
 -- a turn of a store that is owned alone
-pub owned_turn : (accounts : Accounts) (slots : StoreSlots MemDisk) (standing : Standing) (serving : Serving) (worker : ℕ) (told : Result ℕ Refusal) (log : StoreLog MemDisk)
+pub owned_turn : (accounts : Accounts) (slots : LiveSlots) (standing : Standing) (serving : Serving) (worker : ℕ) (told : Result ℕ Refusal) (log : StoreLog MemDisk)
     (was : OwnState) (old : List (StoreLog MemDisk)) (is : OwnState) (new : List (StoreLog MemDisk))
     → Holds accounts slots standing old (Some serving) → was.state ≡ serving.state → slice_get old worker ≡ Some log → DoesInMemory (BroughtUp worker told) was old is new
     → IsTurn accounts slots standing worker (mark_in log.slot) told new (with_state is.state serving)

@@ -2,10 +2,11 @@
 use Rattle.std.specs.{Prelude.{◌≡◌, ◌⊎◌, ℕ, ◌≤◌, true, List, [], ◌∷◌, ◌++◌, length, Option, Some, None, Vec, slice_get}, declared.alloc.Global.Global}
 use Rattle.mt_rows.specs.{Accounts.Accounts, Rows.Bytes, declared.refusal.Refusal.TheVariants.Device}
 use Rattle.mt_disk.specs.{declared.mem.MemDisk.MemDisk, Disk.GoesUp, Mem.mem_state}
-use Rattle.mt_slots.specs.{declared.store_slots.StoreSlots.StoreSlots, Calls.MakesBoth, Crashes.MayLeaveBoth}
+use Rattle.mt_slots.specs.{declared.slot.Slot.Slot, declared.store_slots.StoreSlots.StoreSlots, Places.disk_of, Calls.MakesBoth, Crashes.MayLeaveBoth}
 use Rattle.mt_store_logs.specs.{declared.store_log.StoreLog.StoreLog, Places.{mark_in, disk_in, MakesAll, closed_on}, Crashes.{MayLeaveLogs, AreCrashed}}
-use Rattle.mt_lives.specs.{declared.events.StoreEvent.StoreEvent, declared.events.StoreEvent.TheVariants.{Core, Flush, Reopen, SettleBegin, SettleNext, Crash}}
+use Rattle.mt_lives.specs.{declared.events.StoreEvent.StoreEvent, declared.events.StoreEvent.TheVariants.{Core, Flush, Reopen, SettleBegin, SettleNext, CheckBegin, CheckStep, Crash}}
 use Rattle.mt_lives.specs.{declared.events.StoreNote.StoreNote, declared.events.StoreNote.TheVariants.{Recovered, Refused, NoSuch}}
+use Rattle.mt_lives.specs.{declared.live_slots.LiveSlots.LiveSlots, declared.live_slots.LiveSlots.TheVariants.Rest, Checks.at_rest}
 use Rattle.mt_lives.specs.{declared.running.Store.Store, declared.serving.Serving.Serving, Returns.{AreRecovered, AreNotRecovered}, Lives.Notes}
 use Rattle.mt_slots.specs.Crashes as slots_of
 
@@ -13,9 +14,13 @@ use Rattle.mt_slots.specs.Crashes as slots_of
 abbrev pub Logs : Type 0
 Logs = List (StoreLog MemDisk)
 
--- slots in memory
+-- slots in memory, at rest
 abbrev pub Slots : Type 0
 Slots = StoreSlots MemDisk
+
+-- a slot's disk failed
+abbrev pub SlotFails : LiveSlots → LiveSlots → Type 0
+SlotFails old new = (was is : Slots) × (at_rest old ≡ Rest was) × (at_rest new ≡ Rest is) × ((slot : Slot) × GoesUp (disk_of slot was).failures (disk_of slot is).failures)
 
 -- a log is not open
 abbrev pub IsNotOpen : StoreLog MemDisk → Type 0
@@ -71,7 +76,7 @@ IsCrashForced accounts images (Refused e) slots now old new = (mid : Logs) × (b
 IsCrashForced accounts images NoSuch slots now old new = (new ≡ old) × (now ≡ slots) × (¬ MayLeaveAll images old slots)
 IsCrashForced accounts images note slots now old new = ⊥
 
--- What an event that is no crash makes of the logs. NoSuch is noted of a flush if the store doesn't serve, or the worker has no open log; of a reopening if the store doesn't serve, or the
+-- What an event that leaves the slots alone makes of the logs. NoSuch is noted of a flush if the store doesn't serve, or the worker has no open log; of a reopening if the store doesn't serve, or the
 -- worker has no log that isn't open. Device is noted if a log's disk failed, or the log was not open. An operation and the beginning of a Settle leave the logs alone.
 abbrev pub IsForced : Accounts → StoreEvent → StoreNote → Logs → Option Serving → Logs → Type 0
 IsForced accounts (Core e) note old serving new = new ≡ old
@@ -83,19 +88,34 @@ IsForced accounts (Reopen worker) (Refused Device) old serving new = FailsAt wor
 IsForced accounts (SettleBegin id) note old serving new = new ≡ old
 IsForced accounts (SettleNext id) NoSuch old serving new = new ≡ old
 IsForced accounts (SettleNext id) (Refused Device) old serving new = (place : ℕ) × (FailsAt place old new ⊎ LogAt place old IsNotOpen)
+IsForced accounts CheckBegin note old serving new = ⊥
+IsForced accounts CheckStep note old serving new = ⊥
 IsForced accounts (Crash images) note old serving new = ⊥
 IsForced accounts event note old serving new = Unit {0}
 
--- any event: all but a crash leave the slots alone
-abbrev pub IsForcedAll : Accounts → Slots → Slots → StoreEvent → StoreNote → Logs → Option Serving → Logs → Type 0
-IsForcedAll accounts slots now (Crash images) note old serving new = IsCrashForced accounts images.items note slots now old new
+-- a crash of slots as they run: a checkpoint that is being written is given up
+abbrev pub CrashesFrom : Accounts → List (Vec ℕ Global) → LiveSlots → LiveSlots → StoreNote → Logs → Logs → Type 0
+CrashesFrom accounts images slots now note old new =
+    (was is : Slots) × (at_rest slots ≡ Rest was) × (now ≡ Rest is) × IsCrashForced accounts images note was is old new
+
+-- What an event of a checkpoint makes of the slots: nothing, if NoSuch is noted; and a slot's disk failed, if Device is.
+abbrev pub IsCheckForced : StoreNote → LiveSlots → LiveSlots → Type 0
+IsCheckForced NoSuch old new = new ≡ old
+IsCheckForced (Refused Device) old new = SlotFails old new
+IsCheckForced note old new = Unit {0}
+
+-- Any event: those of a checkpoint leave the logs alone, and all but these and a crash leave the slots alone.
+abbrev pub IsForcedAll : Accounts → LiveSlots → LiveSlots → StoreEvent → StoreNote → Logs → Option Serving → Logs → Type 0
+IsForcedAll accounts slots now (Crash images) note old serving new = CrashesFrom accounts images.items slots now note old new
+IsForcedAll accounts slots now CheckBegin note old serving new = (new ≡ old) × IsCheckForced note slots now
+IsForcedAll accounts slots now CheckStep note old serving new = (new ≡ old) × IsCheckForced note slots now
 IsForcedAll accounts slots now event note old serving new = IsForced accounts event note old serving new × (now ≡ slots)
 
 -- events, one after the other, with their notes
-abbrev pub AreForced : Accounts → Slots → Slots → Notes → Logs → Option Serving → Logs → Option Serving → Type 0
+abbrev pub AreForced : Accounts → LiveSlots → LiveSlots → Notes → Logs → Option Serving → Logs → Option Serving → Type 0
 AreForced accounts slots now [] old was new is = (new ≡ old) × (is ≡ was) × (now ≡ slots)
 AreForced accounts slots now (x ∷ notes) old was new is =
-    (mid : Logs) × (between : Option Serving) × (rest : Slots) × IsForcedAll accounts slots rest x.0 x.1 old was mid × AreForced accounts rest now notes mid between new is
+    (mid : Logs) × (between : Option Serving) × (rest : LiveSlots) × IsForcedAll accounts slots rest x.0 x.1 old was mid × AreForced accounts rest now notes mid between new is
 
 -- they led from new logs and slots on these disks to where a store stands
 pub record AreForcedOn (accounts : Accounts) (notes : Notes) (disks : List MemDisk) (slots : Slots) (store : Store) : Type 0 where
@@ -104,4 +124,4 @@ pub record AreForcedOn (accounts : Accounts) (notes : Notes) (disks : List MemDi
   pub serving : Serving
   pub first_slots : Slots
   pub made_slots : MakesBoth (λ (d : MemDisk). true) mem_state (λ d. d.failures) slots first_slots
-  pub forced : AreForced accounts first_slots store.slots notes first (Some serving) store.logs.items store.serving
+  pub forced : AreForced accounts (Rest first_slots) store.slots notes first (Some serving) store.logs.items store.serving

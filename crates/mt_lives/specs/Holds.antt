@@ -1,5 +1,5 @@
 -- What ties a store as it runs to what has happened to it.
-use Rattle.std.specs.Prelude.{◌≡◌, ℕ, ◌<◌, ◌≤◌, min, true, List, [], ◌∷◌, ◌++◌, map, length, Option, Some, None, Result, Ok, Err, slice_get}
+use Rattle.std.specs.Prelude.{◌≡◌, ℕ, ◌<◌, ◌≤◌, min, true, List, ◌++◌, map, length, Option, Some, None, Result, Ok, Err, slice_get}
 use Rattle.std.specs.{List.{All, filter}, Ordering.nat_cmp, BTreeMap.{BTreeMap, get}}
 use Rattle.mt_rows.specs.{Accounts.{Accounts, account_of}, TenantPairs.{quota_in, HasTenants, KeepsQuotas}, declared.record.Batch.Batch}
 use Rattle.mt_disk.specs.{declared.mem.MemDisk.MemDisk, Mem.mem_state}
@@ -9,10 +9,10 @@ use Rattle.mt_operation.specs.Operations.{OperationView}
 use Rattle.mt_state.specs.{Views.{StateView, op_at, granted}, Histories.{Names, History, AreById}}
 use Rattle.mt_drains.specs.Drains.{record_of}
 use Rattle.mt_core.specs.{Rights.IsRightState, Tickets.named}
-use Rattle.mt_crashes.specs.{Fronts.after_changes, Histories.{Placed, changes_of, pairs_upto}, SlotDisks.slot_now}
-use Rattle.mt_crashes.specs.Stores.{Store, LogNow, SlotNow, new_store, Leads, is_between, ReachesAt, AllReach}
-use Rattle.mt_slots.specs.{declared.store_slots.StoreSlots.StoreSlots, Places.in_order, Keeps.{Mays, KeepsSlots}}
+use Rattle.mt_crashes.specs.{Fronts.after_changes, Histories.{Placed, changes_of, pairs_upto}}
+use Rattle.mt_crashes.specs.Stores.{Store, LogNow, new_store, Leads, is_between, ReachesAt, AllReach}
 use Rattle.mt_store_logs.specs.{declared.store_log.StoreLog.StoreLog, Shows.{Shows, Stands, drained_upto}}
+use Rattle.mt_lives.specs.{declared.live_slots.LiveSlots.LiveSlots, Checks.LiveSlotsStand}
 use Rattle.mt_lives.specs.{declared.serving.Serving.Serving, declared.serving.Settle.Settle, Lives.{Life, Past, Standing, firsts, story_in, AreLeftOf}}
 use Rattle.std.specs.FinMap as pairs
 use Rattle.mt_state.specs.Views as views
@@ -109,20 +109,14 @@ HoldsNow accounts begun (Ok life) s logs (Some serving) = HoldsServing accounts 
 HoldsNow accounts begun (Err past) s logs None = HoldsDown accounts past s logs
 HoldsNow accounts begun now s logs serving = ⊥
 
--- The slots stand as the store tells: a crash leaves of each what it may have.
-pub record SlotsStand (now : List SlotNow) (slots : StoreSlots MemDisk) : Type 0 where
-  pub mays : Mays
-  pub shown : now ≡ map slot_now (in_order mays)
-  pub keeps : KeepsSlots (λ (d : MemDisk). true) mem_state (λ d. d.failures) mays slots
-
 -- All of it: each number that was settled is in every log, whatever a crash leaves of it.
-pub record Holds (accounts : Accounts) (slots : StoreSlots MemDisk) (standing : Standing) (logs : List (StoreLog MemDisk)) (serving : Option Serving) : Type 0 where
+pub record Holds (accounts : Accounts) (slots : LiveSlots) (standing : Standing) (logs : List (StoreLog MemDisk)) (serving : Option Serving) : Type 0 where
   pub s : Store
   pub some : 0 < length logs
   pub few : length logs ≤ 64
   pub come : HasCome (length logs) s
   pub count : length s.logs ≡ length logs
-  pub stand : SlotsStand s.slots slots
+  pub stand : LiveSlotsStand accounts standing.check standing.now s.slots s.history s.steps slots
   pub settled : AllReach standing.settled s
   pub keeps : KeepsAll accounts s
   pub now : HoldsNow accounts standing.begun standing.now s logs serving

@@ -1,5 +1,6 @@
 pub mod Serving
 pub mod Lives
+pub mod Checks
 pub mod Holds
 pub mod Steps
 pub mod Returns

@@ -1,12 +1,13 @@
 -- The lives of a store, and what a list of events with its notes may be.
-use Rattle.std.specs.Prelude.{◌≡◌, ◌≢◌, ◌⊎◌, ℕ, ◌+◌, ◌≤◌, ◌==◌, if◌then◌else◌, min, max, List, [], ◌∷◌, ◌++◌, Option, Some, None, Result, Ok, Err}
-use Rattle.mt_rows.specs.{Tenants.{Contents as Pairs, tenant_map}, TenantPairs.pairs_of, declared.refusal.Refusal.Refusal}
+use Rattle.std.specs.Prelude.{◌≡◌, ◌≢◌, ◌⊎◌, ℕ, ◌+◌, ◌≤◌, ◌==◌, if◌then◌else◌, min, max, true, List, [], ◌∷◌, ◌++◌, Option, Some, None, Result, Ok, Err}
+use Rattle.mt_rows.specs.{Tenants.{Contents as Pairs, tenant_map}, TenantPairs.pairs_of, Maps.is_scan, declared.refusal.Refusal.Refusal}
 use Rattle.mt_rows.specs.declared.refusal.Refusal.TheVariants.{Memory, Device}
-use Rattle.mt_runs.specs.{declared.event.Event.Event, declared.event.Told.{Told as Answered}, Runs.{Run, Story, story_of, last_step}}
+use Rattle.mt_runs.specs.{declared.event.Event.Event, declared.event.Event.TheVariants.{Begin, Step}, declared.event.Told.{Told as Answered}}
+use Rattle.mt_runs.specs.Runs.{Run, Story, Asked, story_of, last_step}
 use Rattle.mt_runs.specs.Placings.{Quotas, Maps, Placing, Fits, IsLegal, AreScansLawful, HasOneOrder, map_upto}
-use Rattle.mt_lives.specs.{declared.events.StoreEvent.StoreEvent, declared.events.StoreEvent.TheVariants.{Core, Flush, Reopen, SettleBegin, SettleNext, Crash}}
+use Rattle.mt_lives.specs.{declared.events.StoreEvent.StoreEvent, declared.events.StoreEvent.TheVariants.{Core, Flush, Reopen, SettleBegin, SettleNext, CheckBegin, CheckStep, Crash}}
 use Rattle.mt_lives.specs.declared.events.StoreNote.{StoreNote}
-use Rattle.mt_lives.specs.declared.events.StoreNote.TheVariants.{Told, Flushed, Reopened, Begun, Turned, Settled, Recovered, Refused, NoSuch}
+use Rattle.mt_lives.specs.declared.events.StoreNote.TheVariants.{Told, Flushed, Reopened, Begun, Turned, Settled, CheckBegun, CheckTold, CheckAdded, CheckEnded, Recovered, Refused, NoSuch}
 use Rattle.std.specs.FinMap as pairs
 
 -- A life of a store, from one recovery to the next: the pairs that it began with, how many steps were made before, and what happened to its operations.
@@ -62,16 +63,17 @@ pub record KeepsUpto (settled : ℕ) (old new : Past) : Type 0 where
 abbrev pub MayKeep : ℕ → Past → Past → Type 0
 MayKeep settled old new = (new ≡ old) ⊎ KeepsUpto settled old new
 
--- How a store stands after some events: after how many steps each open Settle began; the greatest number that a Settle has answered; and the life that it
--- serves, or the one that has ended and was not recovered yet.
+-- How a store stands after some events: after how many steps each open Settle began; the greatest number that a Settle has answered; after how many steps
+-- the checkpoint that is being written began, if one is; and the life that it serves, or the one that has ended and was not recovered yet.
 pub record Standing : Type 0 where
   pub begun : ℕ → Option ℕ
   pub settled : ℕ
+  pub check : Option ℕ
   pub now : Result Life Past
 
 -- a new store
 abbrev pub new_standing : Standing
-new_standing = record { begun = λ id. None; settled = 0; now = Ok (life_from pairs.empty 0) }
+new_standing = record { begun = λ id. None; settled = 0; check = None; now = Ok (life_from pairs.empty 0) }
 
 -- what a crash now ends: all changes of the life that is served are kept, of one that has ended those that were
 abbrev pub past_of : Result Life Past → Past
@@ -90,29 +92,46 @@ abbrev pub with_settle : ℕ → Option ℕ → (ℕ → Option ℕ) → ℕ →
 with_settle id at begun q = if q == id then at else begun q
 
 abbrev pub settling : ℕ → Option ℕ → Standing → Standing
-settling id begun standing = record { begun = with_settle id begun standing.begun; settled = standing.settled; now = standing.now }
+settling id begun standing = record { begun = with_settle id begun standing.begun; settled = standing.settled; check = standing.check; now = standing.now }
 
 -- a Settle has answered a number
 abbrev pub settled_by : ℕ → ℕ → Standing → Standing
-settled_by id number standing = record { begun = with_settle id None standing.begun; settled = max standing.settled number; now = standing.now }
+settled_by id number standing =
+    record { begun = with_settle id None standing.begun; settled = max standing.settled number; check = standing.check; now = standing.now }
 
--- a crash: no Settle is open
+-- a checkpoint is being written that began after so many steps, or none is
+abbrev pub checking : Option ℕ → Standing → Standing
+checking check standing = record { begun = standing.begun; settled = standing.settled; check = check; now = standing.now }
+
+-- the life goes on
+abbrev pub living : Life → Standing → Standing
+living life standing = record { begun = standing.begun; settled = standing.settled; check = standing.check; now = Ok life }
+
+-- a crash: no Settle is open, and no checkpoint is being written
 abbrev pub crashed_to : Result Life Past → Standing → Standing
-crashed_to now standing = record { begun = λ id. None; settled = standing.settled; now = now }
+crashed_to now standing = record { begun = λ id. None; settled = standing.settled; check = None; now = now }
 
 abbrev pub IsMemoryOrDevice : Refusal → Type 0
 IsMemoryOrDevice e = (e ≡ Memory) ⊎ (e ≡ Device)
+
+-- an event of a scan: it begins one, or an operation makes a step that was begun with one
+abbrev pub IsOfScan : Life → Event → Type 0
+IsOfScan life (Begin op worker tenant command) = is_scan command ≡ true
+IsOfScan life (Step op) = (a : Asked) × ((story_in life).asked op ≡ Some a) × (is_scan a.command ≡ true)
 
 -- What may be noted of an event, and how the store stands then.
 --
 -- An operation's event gives its life one event more, which one order explains. A flush tells the last step that was made, or it gave 4,096 changes, and
 -- tells the step of the last one. A Settle answers at least the step after which it began. A crash that is recovered begins the next life, with the pairs of the last one after its changes up to the cutoff, as far as
 -- they were kept; the cutoff is at least each number that was settled. A crash, a flush, a reopening and a Settle are refused for memory or the device alone.
--- NoSuch is noted of an operation's event where the store serves no life, of a Settle where it is open already or is not; where the store serves no life it
--- is noted of all but a crash.
+-- A checkpoint begins after the last step that was made, and ends after the last one that was made then; each event of its walk's scans gives the life one
+-- event more, as an operation's does. A checkpoint that is refused, or whose scan doesn't go on, is given up; so is one at a crash, also if the disks may not
+-- leave what the crash tells.
+-- NoSuch is noted of an operation's event where the store serves no life, of a Settle and a checkpoint where it is open already or is not; where the store
+-- serves no life it is noted of all but a crash.
 abbrev pub IsNoted : Quotas → Standing → StoreEvent → StoreNote → Standing → Type 0
 IsNoted quotas old (Core e) (Told t) new =
-    (life : Life) × Lives old life × HasOrder quotas (with_event life e t) × (new ≡ record old { now = Ok (with_event life e t) })
+    (life : Life) × Lives old life × HasOrder quotas (with_event life e t) × (new ≡ living (with_event life e t) old)
 IsNoted quotas old (Flush worker) (Flushed number) new =
     (life : Life) × Lives old life × (number ≤ steps_in life) × ((number ≡ steps_in life) ⊎ (life.base + 4096 ≤ number)) × (new ≡ old)
 IsNoted quotas old (Flush worker) (Refused e) new = IsServing old × IsMemoryOrDevice e × (new ≡ old)
@@ -124,6 +143,19 @@ IsNoted quotas old (SettleNext id) Turned new = IsServing old × (old.begun id �
 IsNoted quotas old (SettleNext id) (Settled number) new =
     (life : Life) × (begun : ℕ) × Lives old life × (old.begun id ≡ Some begun) × (begun ≤ number) × (number ≤ steps_in life) × (new ≡ settled_by id number old)
 IsNoted quotas old (SettleNext id) (Refused e) new = IsServing old × (old.begun id ≢ None) × IsMemoryOrDevice e × (new ≡ settling id None old)
+IsNoted quotas old CheckBegin (CheckBegun number) new =
+    (life : Life) × Lives old life × (number ≡ steps_in life) × (old.check ≡ None) × (new ≡ checking (Some number) old)
+IsNoted quotas old CheckBegin (Refused e) new = IsServing old × (old.check ≡ None) × IsMemoryOrDevice e × (new ≡ old)
+IsNoted quotas old CheckStep (CheckTold t) new =
+    (life : Life) × (e : Event) × Lives old life × (old.check ≢ None) × IsOfScan life e × HasOrder quotas (with_event life e t)
+    × ((new ≡ living (with_event life e t) old) ⊎ (new ≡ living (with_event life e t) (checking None old)))
+IsNoted quotas old CheckStep CheckAdded new = IsServing old × (old.check ≢ None) × (new ≡ old)
+IsNoted quotas old CheckStep (CheckEnded number) new =
+    (life : Life) × (begun : ℕ) × Lives old life × (old.check ≡ Some begun) × (begun ≤ number) × (number ≡ steps_in life) × (new ≡ checking None old)
+IsNoted quotas old CheckStep (Refused e) new = IsServing old × (old.check ≢ None) × IsMemoryOrDevice e × (new ≡ checking None old)
+IsNoted quotas old CheckBegin NoSuch new = ((¬ IsServing old) ⊎ (old.check ≢ None)) × (new ≡ old)
+IsNoted quotas old CheckStep NoSuch new = ((¬ IsServing old) ⊎ (old.check ≡ None)) × (new ≡ old)
+IsNoted quotas old (Crash images) NoSuch new = new ≡ checking None old
 IsNoted quotas old (Core e) NoSuch new = (¬ IsServing old) × (new ≡ old)
 IsNoted quotas old (SettleBegin id) NoSuch new = ((¬ IsServing old) ⊎ (old.begun id ≢ None)) × (new ≡ old)
 IsNoted quotas old (SettleNext id) NoSuch new = ((¬ IsServing old) ⊎ (old.begun id ≡ None)) × (new ≡ old)

@@ -2,7 +2,7 @@
 use Rattle.std.specs.Prelude.{◌≡◌, ◌⊎◌, ℕ, ◌+◌, ◌<◌, List, [], ◌∷◌, ◌++◌, map, replicate, Option, Some, None, Result, Ok, Err}
 use Rattle.mt_rows.specs.{Accounts.Accounts, declared.refusal.Refusal.Refusal}
 use Rattle.mt_disk.specs.declared.mem.MemDisk.{MemDisk}
-use Rattle.mt_slots.specs.declared.store_slots.StoreSlots.{StoreSlots}
+use Rattle.mt_lives.specs.declared.live_slots.LiveSlots.{LiveSlots}
 use Rattle.mt_state.specs.Views.{StateView}
 use Rattle.mt_store_logs.specs.declared.store_log.StoreLog.{StoreLog}
 use Rattle.mt_lives.specs.{declared.events.StoreEvent.TheVariants.{Flush, Reopen, SettleBegin, SettleNext}, declared.events.StoreNote.StoreNote}
@@ -35,7 +35,7 @@ abbrev pub AreTurnNotes : ℕ → Option ℕ → Result ℕ Refusal → Notes �
 AreTurnNotes worker mark told notes = ((steps : List ℕ) × (notes ≡ turn_notes worker mark steps told)) ⊎ AreNoOpening worker mark told notes
 
 -- Such notes lead from how a store stands to just that, and the store holds it with these logs and what serves.
-pub record IsTurn (accounts : Accounts) (slots : StoreSlots MemDisk) (standing : Standing) (worker : ℕ) (mark : Option ℕ) (told : Result ℕ Refusal) (logs : List (StoreLog MemDisk)) (serving : Serving) : Type 0 where
+pub record IsTurn (accounts : Accounts) (slots : LiveSlots) (standing : Standing) (worker : ℕ) (mark : Option ℕ) (told : Result ℕ Refusal) (logs : List (StoreLog MemDisk)) (serving : Serving) : Type 0 where
   pub notes : Notes
   pub are : AreTurnNotes worker mark told notes
   pub lead : NotesLead (quotas_of accounts) standing notes standing
@@ -56,7 +56,7 @@ GoBefore count (Ok number) turns = turns + 1 ≡ count
 GoBefore count (Err refusal) turns = turns < count
 
 -- Such notes lead from one standing of a store of so many logs to another, which it holds with these logs and what serves.
-pub record IsWholeSettle (accounts : Accounts) (slots : StoreSlots MemDisk) (standing : Standing) (id steps count : ℕ) (told : Result ℕ Refusal) (logs : List (StoreLog MemDisk)) (serving : Serving) : Type 0 where
+pub record IsWholeSettle (accounts : Accounts) (slots : LiveSlots) (standing : Standing) (id steps count : ℕ) (told : Result ℕ Refusal) (logs : List (StoreLog MemDisk)) (serving : Serving) : Type 0 where
   pub turns : ℕ
   pub before : GoBefore count told turns
   pub next : Standing

@@ -2,11 +2,13 @@
 
 ghost use Rattle.std.specs.Prelude.{◌≡◌, ◌<◌, ◌≤◌, true, length, Some, IfOk, IfErr};
 ghost use Rattle.mt_disk.specs.{declared.mem.MemDisk.{MemDisk as AnyDisk}, Mem.mem_state};
-ghost use Rattle.mt_slots.specs.Calls.{MakesBoth};
+ghost use Rattle.mt_slots.specs.{declared.store_slots.StoreSlots.{StoreSlots as AnySlots}, Calls.MakesBoth};
+ghost use Rattle.mt_lives.specs.declared.live_slots.LiveSlots.TheVariants.{Rest};
 ghost use Rattle.mt_state.specs.Begins.{HaveNoPairs};
 ghost use Rattle.mt_store_logs.specs.Places.{closed_on, AreInOrder, MakesAll};
 ghost use Rattle.mt_lives.specs.{declared.serving.Serving.{Serving as AnyServing}, Lives.{new_standing, IsMemoryOrDevice}, Holds.Holds};
 
+use crate::live_slots::LiveSlots;
 use crate::running::Store;
 use crate::serving::Serving;
 use mt_core::State;
@@ -30,7 +32,7 @@ pub(crate) fn created(
     ensures count { IfOk result (λ store. length store.logs.items ≡ length disks.items) }
     ensures order { IfOk result (λ store. AreInOrder store.logs.items) }
     ensures made { IfOk result (λ store. MakesAll (λ (d : AnyDisk). true) mem_state (λ d. d.failures) (closed_on disks.items) store.logs.items) }
-    ensures slots { IfOk result (λ store. MakesBoth (λ (d : AnyDisk). true) mem_state (λ d. d.failures) slots store.slots) }
+    ensures slots { IfOk result (λ store. (made : AnySlots AnyDisk) × (store.slots ≡ Rest made) × MakesBoth (λ (d : AnyDisk). true) mem_state (λ d. d.failures) slots made) }
     ensures serves { IfOk result (λ store. (serving : AnyServing) × (store.serving ≡ Some serving)) }
     ensures err { IfErr result IsMemoryOrDevice }
 {
@@ -46,7 +48,7 @@ pub(crate) fn created(
     let serving = Some(Serving::new(alloc, state));
     Ok(Store {
         logs,
-        slots,
+        slots: LiveSlots::Rest(slots),
         serving,
     })
 }

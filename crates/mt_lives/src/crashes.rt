@@ -6,9 +6,11 @@ ghost use Rattle.mt_state.specs.Begins.{HaveNoPairs};
 ghost use Rattle.mt_core.specs.{Restores.IsRestored, Rights.IsRightState};
 ghost use Rattle.mt_store_logs.specs.Places.{workers_of};
 ghost use Rattle.mt_lives.specs.{Returns.{Begins, AreRecovered, AreNotRecovered}, Steps.CrashesTo};
-ghost use Rattle.mt_lives.specs.Forced.{ArePartedInto, MayLeaveAll, AllCrash, IsCrashForced};
+ghost use Rattle.mt_lives.specs.declared.live_slots.LiveSlots.TheVariants.{Rest, Away};
+ghost use Rattle.mt_lives.specs.Forced.{ArePartedInto, MayLeaveAll, AllCrash, IsCrashForced, CrashesFrom};
 
 use crate::events::StoreNote;
+use crate::live_slots::LiveSlots;
 use crate::serving::Serving;
 use mt_core::State;
 use mt_disk::MemDisk;
@@ -18,10 +20,34 @@ use mt_slots::StoreSlots;
 use mt_store_logs::{NoWatch, StoreLog, crash_logs, recover_store};
 use std::alloc::{AllocError, Global};
 
-/// Crashes all disks, each to its image, those of the slots after those of the logs, and recovers the store.
-/// `NoSuch` if the disks may not leave these images: then nothing has changed. After an error some disks have
-/// crashed.
+/// Gives up a checkpoint that is being written. Crashes all disks, each to its image, those of the slots after those
+/// of the logs, and recovers the store. `NoSuch` if the disks may not leave these images: then nothing else has
+/// changed. After an error some disks have crashed.
 pub(crate) fn crash(
+    alloc: Global,
+    tenants: &Tenants,
+    logs: &mut [StoreLog<MemDisk>],
+    slots: &mut LiveSlots,
+    serving: &mut Option<Serving>,
+    images: &[Vec<u8>],
+) -> Result<StoreNote, AllocError>
+    requires few { length logs.old ≤ 64 }
+    requires empty { HaveNoPairs tenants.now }
+    requires there { slots.old ≢ Away }
+    ensures crashes { IfOk result (λ note. CrashesTo tenants.now slots.old slots.new note logs.old serving.old logs.new serving.new) }
+    ensures count { OnOk result (length logs.new ≡ length logs.old) }
+    ensures workers { OnOk result (workers_of logs.new ≡ workers_of logs.old) }
+    ensures forced { IfOk result (λ note. CrashesFrom tenants.now images.now slots.old slots.new note logs.old logs.new) }
+{
+    slots.rest();
+    match slots {
+        LiveSlots::Rest(slots) => crash_at_rest(alloc, tenants, logs, slots, serving, images),
+        LiveSlots::Writes(_) | LiveSlots::Away => unreachable!(),
+    }
+}
+
+// The same of slots at rest.
+fn crash_at_rest(
     alloc: Global,
     tenants: &Tenants,
     logs: &mut [StoreLog<MemDisk>],
@@ -31,7 +57,7 @@ pub(crate) fn crash(
 ) -> Result<StoreNote, AllocError>
     requires few { length logs.old ≤ 64 }
     requires empty { HaveNoPairs tenants.now }
-    ensures crashes { IfOk result (λ note. CrashesTo tenants.now slots.old slots.new note logs.old serving.old logs.new serving.new) }
+    ensures crashes { IfOk result (λ note. CrashesTo tenants.now (Rest slots.old) (Rest slots.new) note logs.old serving.old logs.new serving.new) }
     ensures count { OnOk result (length logs.new ≡ length logs.old) }
     ensures workers { OnOk result (workers_of logs.new ≡ workers_of logs.old) }
     ensures forced { IfOk result (λ note. IsCrashForced tenants.now images.now note slots.old slots.new logs.old logs.new) }

@@ -18,7 +18,11 @@ pub enum StoreEvent {
     SettleBegin { id: u64 },
     /// Its next log has a turn: the log is opened again if its disk failed, and flushed up to the last step.
     SettleNext { id: u64 },
-    /// All disks crash at this moment, each to its image, those of the slots after those of the logs, and the
+    /// A checkpoint begins in the slot that doesn't have the newest one.
+    CheckBegin,
+    /// It goes on: a scan of its walk begins or makes a step, what a scan showed is added, or it ends.
+    CheckStep,
+    /// A checkpoint that is being written is given up. All disks crash at this moment, each to its image, those of the slots after those of the logs, and the
     /// store is recovered.
     Crash { images: Vec<Vec<u8>> },
 }
@@ -38,10 +42,20 @@ pub enum StoreNote {
     Turned,
     /// So had the last one: all changes up to this step are in the logs.
     Settled(u64),
+    /// The checkpoint has begun, after so many steps.
+    CheckBegun(u64),
+    /// What the scan of its walk was answered. Unless that goes on or showed pairs, the checkpoint is given up.
+    CheckTold(Told),
+    /// It has the pairs of one scan more.
+    CheckAdded,
+    /// It has ended, after so many steps, and is the newest one.
+    CheckEnded(u64),
     /// The store serves again, with these pairs.
     Recovered(Recovered),
-    /// `Device` or `Memory`: after a crash the store does not serve, else the log may have to be opened again.
+    /// `Device` or `Memory`: after a crash the store does not serve, a checkpoint is given up, and else the log may
+    /// have to be opened again.
     Refused(Refusal),
-    /// Nothing of that name is open, or is open already; nothing has changed.
+    /// Nothing of that name is open, or is open already, or the disks may not leave what the crash tells. Nothing
+    /// has changed, but that a crash gives up a checkpoint.
     NoSuch,
 }

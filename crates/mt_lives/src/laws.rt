@@ -7,6 +7,7 @@ ghost use Rattle.mt_rows.specs.{declared.refusal.Refusal.{Refusal as AnyRefusal}
 ghost use Rattle.mt_rows.specs.{Tenants.Contents, Accounts.Accounts};
 ghost use Rattle.mt_disk.specs.declared.mem.MemDisk.{MemDisk as AnyDisk};
 ghost use Rattle.mt_slots.specs.declared.store_slots.StoreSlots.{StoreSlots as AnySlots};
+ghost use Rattle.mt_lives.specs.{declared.live_slots.LiveSlots.{LiveSlots as AnyLiveSlots}, declared.live_slots.LiveSlots.TheVariants.Rest};
 ghost use Rattle.mt_store_logs.specs.{declared.store_log.StoreLog.{StoreLog as AnyLog}, Places.{mark_in, closed_on}};
 ghost use Rattle.mt_settle.specs.{Turns.BroughtUp, Settles.Settles};
 ghost use Rattle.mt_core.specs.Rights.{IsRightState};
@@ -16,8 +17,8 @@ ghost use Rattle.mt_tape.specs.{declared.entry.Entry.{Entry as AnyEntry}, Tapes.
 ghost use Rattle.mt_drains.specs.Drains.{record_of};
 ghost use Rattle.mt_crashes.specs.Fronts.{after_changes};
 ghost use Rattle.mt_runs.specs.{declared.event.Event.{Event as AnyEvent}, Placings.Quotas};
-ghost use Rattle.mt_lives.specs.declared.events.StoreEvent.TheVariants.{Core, SettleBegin, SettleNext, Crash};
-ghost use Rattle.mt_lives.specs.{declared.events.StoreNote.TheVariants.{Settled, Recovered, Refused, NoSuch}, Earlier.earlier_entries};
+ghost use Rattle.mt_lives.specs.declared.events.StoreEvent.TheVariants.{Core, SettleBegin, SettleNext, CheckBegin, CheckStep, Crash};
+ghost use Rattle.mt_lives.specs.{declared.events.StoreNote.TheVariants.{Settled, CheckBegun, CheckEnded, Recovered, Refused, NoSuch}, Earlier.earlier_entries};
 ghost use Rattle.mt_lives.specs.{declared.serving.Serving.{Serving as AnyServing}, Holds.{quotas_of, Holds}, Returns.IsFresh, Forced.AllCrash, Steps.GoesOn};
 ghost use Rattle.mt_lives.specs.Lives.{Life, Standing, new_standing, steps_in, IsNoted, Notes, NotesLead};
 ghost use Rattle.mt_lives.specs.Owned.{with_state, AreTurnNotes, IsTurn, IsWholeSettle};
@@ -36,7 +37,8 @@ pub fn a_tape_goes_forward()
 
 /// What is never noted: a recovery with a cutoff before a number that was settled; a Settle that answers less than
 /// the step after which it began, or more than the last step; a crash whose files are told to be bad, to fall, or to
-/// be over a quota; and of a store that serves, NoSuch of an operation, or of a Settle that begins by a free name.
+/// be over a quota; of a store that serves, NoSuch of an operation, or of a Settle that begins by a free name; and a
+/// checkpoint that begins or ends at another number than that of the last step, or begins while one is written.
 pub fn wrong_notes_are_refused()
     ensures settled_number_lost { (quotas : Quotas) (old new : Standing) (images : Vec (Vec ℕ Global) Global) (r : AnyRecovered) →
         r.cutoff < old.settled → ¬ IsNoted quotas old (Crash images) (Recovered r) new }
@@ -54,6 +56,12 @@ pub fn wrong_notes_are_refused()
         old.now ≡ Ok life → ¬ IsNoted quotas old (Core e) NoSuch new }
     ensures open_settle_of_no_name { (quotas : Quotas) (old new : Standing) (life : Life) (id : ℕ) →
         old.now ≡ Ok life → old.begun id ≡ None → ¬ IsNoted quotas old (SettleBegin id) NoSuch new }
+    ensures checkpoint_begun_elsewhere { (quotas : Quotas) (old new : Standing) (life : Life) (number : ℕ) →
+        old.now ≡ Ok life → number ≢ steps_in life → ¬ IsNoted quotas old CheckBegin (CheckBegun number) new }
+    ensures checkpoint_ended_elsewhere { (quotas : Quotas) (old new : Standing) (life : Life) (number : ℕ) →
+        old.now ≡ Ok life → number ≢ steps_in life → ¬ IsNoted quotas old CheckStep (CheckEnded number) new }
+    ensures second_checkpoint { (quotas : Quotas) (old new : Standing) (number : ℕ) →
+        old.check ≢ None → ¬ IsNoted quotas old CheckBegin (CheckBegun number) new }
 {}
 
 /// The server's store that is owned alone and was just made stands as a new one. Its state is right, and nothing has a
@@ -61,7 +69,7 @@ pub fn wrong_notes_are_refused()
 pub fn an_owned_store_begins_as_a_new_one()
     ensures { (accounts : Accounts) (serving : AnyServing) (disks : List AnyDisk) (bare slots : AnySlots AnyDisk) (logs : List (AnyLog AnyDisk)) → 0 < length disks → length disks ≤ 64
         → IsNewStore ⟦<MemDisk as Disk>⟧.is_honest ⟦<MemDisk as Disk>⟧.state ⟦<MemDisk as Disk>⟧.failures disks bare accounts serving.state logs (Some slots)
-        → IsRightState serving.state → IsFresh serving → Holds accounts slots new_standing logs (Some serving) }
+        → IsRightState serving.state → IsFresh serving → Holds accounts (Rest slots) new_standing logs (Some serving) }
 {}
 
 /// A store whose disks crashed, each to its image, and that was recovered from them stands as after that crash, noted
@@ -70,13 +78,13 @@ pub fn an_owned_store_is_recovered_as_after_a_crash()
     ensures { (accounts : Accounts) (slots found now : AnySlots AnyDisk) (was : Option AnyServing) (serving : AnyServing) (old new : List (AnyLog AnyDisk)) (disks : List AnyDisk)
         (images : Vec (Vec ℕ Global) Global) → AllCrash images.items old slots (closed_on disks) found
         → IsRecoveredStore ⟦<MemDisk as Disk>⟧.is_honest ⟦<MemDisk as Disk>⟧.state ⟦<MemDisk as Disk>⟧.failures disks found accounts serving.state new (Some now)
-        → IsRightState serving.state → IsFresh serving → (r : AnyRecovered) × GoesOn accounts slots now (Crash images) (Recovered r) old was new (Some serving) }
+        → IsRightState serving.state → IsFresh serving → (r : AnyRecovered) × GoesOn accounts (Rest slots) (Rest now) (Crash images) (Recovered r) old was new (Some serving) }
 {}
 
 /// A turn of that store is a list of events of its log: a reopening if the log isn't open, and flushes. Their notes
 /// tell what the turn told. All that held of the store holds after them.
 pub fn a_turn_of_an_owned_store_is_a_list_of_events()
-    ensures { (accounts : Accounts) (slots : AnySlots AnyDisk) (standing : Standing) (serving : AnyServing) (worker : ℕ) (told : Result ℕ AnyRefusal) (log : AnyLog AnyDisk)
+    ensures { (accounts : Accounts) (slots : AnyLiveSlots) (standing : Standing) (serving : AnyServing) (worker : ℕ) (told : Result ℕ AnyRefusal) (log : AnyLog AnyDisk)
         (old new : AnyStore AnyDisk ⟦<MemDisk as Disk>⟧) →
         Holds accounts slots standing old.logs.items (Some serving) → old.source.state ≡ serving.state → slice_get old.logs.items worker ≡ Some log
         → ⟦<Store<MemDisk> as Logs>⟧.does old (BroughtUp worker told) new
@@ -87,7 +95,7 @@ pub fn a_turn_of_an_owned_store_is_a_list_of_events()
 /// turn, and the last turn tells what the store answered. So a number that it answered is settled. All that held of
 /// the store holds after it.
 pub fn a_settle_of_an_owned_store_is_a_settle()
-    ensures { (accounts : Accounts) (slots : AnySlots AnyDisk) (standing : Standing) (serving : AnyServing) (id : ℕ) (told : Result ℕ AnyRefusal)
+    ensures { (accounts : Accounts) (slots : AnyLiveSlots) (standing : Standing) (serving : AnyServing) (id : ℕ) (told : Result ℕ AnyRefusal)
         (old new : AnyStore AnyDisk ⟦<MemDisk as Disk>⟧) →
         Holds accounts slots standing old.logs.items (Some serving) → old.source.state ≡ serving.state → standing.begun id ≡ None
         → Settles ⟦<Store<MemDisk> as Logs>⟧.does (vec_len old.logs) old new told
@@ -96,7 +104,7 @@ pub fn a_settle_of_an_owned_store_is_a_settle()
 
 /// The number of such a Settle is at most every later cutoff, whatever happens before that crash.
 pub fn a_number_that_an_owned_store_settled_is_kept()
-    ensures { (accounts : Accounts) (slots : AnySlots AnyDisk) (standing last : Standing) (serving : AnyServing) (id steps count number : ℕ) (logs : List (AnyLog AnyDisk))
+    ensures { (accounts : Accounts) (slots : AnyLiveSlots) (standing last : Standing) (serving : AnyServing) (id steps count number : ℕ) (logs : List (AnyLog AnyDisk))
         (notes : Notes) (images : Vec (Vec ℕ Global) Global) (r : AnyRecovered) (settle : IsWholeSettle accounts slots standing id steps count (Ok number) logs serving) →
         NotesLead (quotas_of accounts) settle.next (notes ++ (Crash images, Recovered r) ∷ []) last → number ≤ r.cutoff }
 {}
@@ -106,8 +114,8 @@ pub fn a_number_that_an_owned_store_settled_is_kept()
 pub fn wrong_turns_and_settles_are_refused()
     ensures turn_of_another_log { (worker other : ℕ) (mark other_mark : Option ℕ) (told other_told : Result ℕ AnyRefusal) (notes : Notes) →
         worker ≢ other → AreTurnNotes worker mark told notes → ¬ AreTurnNotes other other_mark other_told notes }
-    ensures settle_over_the_last_step { (accounts : Accounts) (slots : AnySlots AnyDisk) (standing : Standing) (life : Life) (serving : AnyServing) (id steps count number : ℕ) (logs : List (AnyLog AnyDisk)) →
+    ensures settle_over_the_last_step { (accounts : Accounts) (slots : AnyLiveSlots) (standing : Standing) (life : Life) (serving : AnyServing) (id steps count number : ℕ) (logs : List (AnyLog AnyDisk)) →
         standing.now ≡ Ok life → steps_in life < number → ¬ IsWholeSettle accounts slots standing id steps count (Ok number) logs serving }
-    ensures settle_of_an_open_name { (accounts : Accounts) (slots : AnySlots AnyDisk) (standing : Standing) (serving : AnyServing) (id steps count : ℕ) (told : Result ℕ AnyRefusal) (logs : List (AnyLog AnyDisk)) →
+    ensures settle_of_an_open_name { (accounts : Accounts) (slots : AnyLiveSlots) (standing : Standing) (serving : AnyServing) (id steps count : ℕ) (told : Result ℕ AnyRefusal) (logs : List (AnyLog AnyDisk)) →
         standing.begun id ≢ None → ¬ IsWholeSettle accounts slots standing id steps count told logs serving }
 {}

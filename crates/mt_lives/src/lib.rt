@@ -8,12 +8,16 @@
 #![tactic(auto)]
 
 mod beginnings;
+mod checks;
 mod crashes;
 pub mod events;
 pub mod laws;
+pub mod live_slots;
+mod operations;
 pub mod running;
 mod serving;
 mod settles;
 
 pub use events::{StoreEvent, StoreNote};
+pub use live_slots::{Check, CheckStage, LiveSlots};
 pub use running::{NoteList, Store, run_store_events};

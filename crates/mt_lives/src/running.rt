@@ -4,21 +4,22 @@ ghost use Rattle.std.specs.{Prelude.{◌≡◌, ◌<◌, ◌≤◌, List, length
 ghost use Rattle.mt_rows.specs.Accounts.{Accounts};
 ghost use Rattle.mt_disk.specs.declared.mem.MemDisk.{MemDisk as AnyDisk};
 ghost use Rattle.mt_state.specs.{Begins.HaveNoPairs, Histories.IsServed};
-ghost use Rattle.mt_slots.specs.declared.store_slots.StoreSlots.{StoreSlots as AnySlots};
+ghost use Rattle.mt_lives.specs.declared.live_slots.LiveSlots.{LiveSlots as AnySlots};
 ghost use Rattle.mt_store_logs.specs.{declared.store_log.StoreLog.{StoreLog as AnyLog}, Places.{workers_of, AreInOrder}};
 ghost use Rattle.mt_lives.specs.{declared.events.StoreEvent.TheVariants.{Core, Crash}, declared.events.StoreNote.TheVariants.{Told as Answered}};
 ghost use Rattle.mt_lives.specs.{Lives.{Standing, HasLives, IsMemoryOrDevice}, Holds.{quotas_of, Holds}};
-ghost use Rattle.mt_lives.specs.{Steps.{IsHeld, IsNoCrash, IsServedBy, GoesOn, NotesGoOn}, Forced.{IsForced, IsForcedAll, AreForced, AreForcedOn}};
+ghost use Rattle.mt_lives.specs.{Steps.{IsHeld, LeavesSlots, IsServedBy, GoesOn, NotesGoOn}, Forced.{IsForced, IsForcedAll, AreForced, AreForcedOn}};
 
 use crate::beginnings::created;
+use crate::checks::{begin_check, step_check};
 use crate::crashes::crash;
 use crate::events::{StoreEvent, StoreNote};
+use crate::live_slots::LiveSlots;
+use crate::operations::core;
 use crate::serving::Serving;
 use crate::settles::{begin_settle, flush_at, go_on, reopen_at};
-use mt_core::tell;
 use mt_disk::MemDisk;
 use mt_rows::{Refusal, Tenants};
-use mt_runs::{Event, Told};
 use mt_slots::StoreSlots;
 use mt_store_logs::StoreLog;
 use std::alloc::{AllocError, Global};
@@ -28,7 +29,7 @@ use std::marker::Model;
 #[derive(Drop)]
 pub struct Store {
     pub logs: Vec<StoreLog<MemDisk>>,
-    pub slots: StoreSlots<MemDisk>,
+    pub slots: LiveSlots,
     pub serving: Option<Serving>,
 }
 
@@ -120,23 +121,25 @@ fn happen(
     ensures goes { IfOk result (λ note. GoesOn tenants.now store.old.slots store.new.slots event.now note store.old.logs.items store.old.serving store.new.logs.items store.new.serving) }
     ensures forced { IfOk result (λ note. IsForcedAll tenants.now store.old.slots store.new.slots event.now note store.old.logs.items store.old.serving store.new.logs.items) }
 {
-    if let StoreEvent::Crash { images } = event {
-        return crash(
+    match event {
+        StoreEvent::Crash { images } => crash(
             alloc,
             tenants,
             &mut store.logs,
             &mut store.slots,
             &mut store.serving,
             images,
-        );
-    }
-    match &mut store.serving {
-        Some(serving) => serve(alloc, &mut store.logs, serving, event),
-        None => Ok(StoreNote::NoSuch),
+        ),
+        StoreEvent::CheckBegin => Ok(begin_check(alloc, tenants, &mut store.slots, &store.serving)),
+        StoreEvent::CheckStep => step_check(alloc, &mut store.slots, &mut store.serving),
+        _ => match &mut store.serving {
+            Some(serving) => serve(alloc, &mut store.logs, serving, event),
+            None => Ok(StoreNote::NoSuch),
+        },
     }
 }
 
-// Lets an event that is no crash happen to a store that serves.
+// Lets an event that leaves the slots alone happen to a store that serves.
 fn serve(
     alloc: Global,
     logs: &mut [StoreLog<MemDisk>],
@@ -146,10 +149,10 @@ fn serve(
     requires held { IsHeld logs.old (Some serving.old) }
     requires order { AreInOrder logs.old }
     requires worker { IsServedBy (length logs.old) event.now }
-    requires serves { IsNoCrash event.now }
+    requires slots { LeavesSlots event.now }
     ensures count { OnOk result (length logs.new ≡ length logs.old) }
     ensures workers { OnOk result (workers_of logs.new ≡ workers_of logs.old) }
-    ensures goes { IfOk result (λ note. (accounts : Accounts) (slots : AnySlots AnyDisk) → GoesOn accounts slots slots event.now note logs.old (Some serving.old) logs.new (Some serving.new)) }
+    ensures goes { IfOk result (λ note. (accounts : Accounts) (slots : AnySlots) → GoesOn accounts slots slots event.now note logs.old (Some serving.old) logs.new (Some serving.new)) }
     ensures forced { IfOk result (λ note. (accounts : Accounts) → IsForced accounts event.now note logs.old (Some serving.old) logs.new) }
 {
     match event {
@@ -158,16 +161,8 @@ fn serve(
         StoreEvent::Reopen { worker } => Ok(reopen_at(alloc, logs, *worker)),
         StoreEvent::SettleBegin { id } => begin_settle(serving, *id),
         StoreEvent::SettleNext { id } => Ok(go_on(alloc, logs, serving, *id)),
-        StoreEvent::Crash { .. } => unreachable!(),
+        StoreEvent::CheckBegin | StoreEvent::CheckStep | StoreEvent::Crash { .. } => {
+            unreachable!()
+        }
     }
-}
-
-// Lets an operation begin or step.
-fn core(serving: &mut Serving, event: &Event) -> Result<Told, AllocError>
-    requires held { (logs : List (AnyLog AnyDisk)) × IsHeld logs (Some serving.old) × IsServed (length logs) event.now }
-    ensures goes { IfOk result (λ told. (accounts : Accounts) (slots : AnySlots AnyDisk) (logs : List (AnyLog AnyDisk)) → IsServed (length logs) event.now → GoesOn accounts slots slots (Core event.now) (Answered told) logs (Some serving.old) logs (Some serving.new)) }
-{
-    let told = tell(&mut serving.state, &mut serving.roster, event)?;
-    serving.state.facts();
-    Ok(told)
 }

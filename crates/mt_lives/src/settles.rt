@@ -3,7 +3,7 @@
 ghost use Rattle.std.specs.{Prelude.{◌≡◌, ◌<◌, ◌≤◌, true, List, length, Some, IfOk, IfErr}, Ordering.nat_cmp, BTreeMap.get};
 ghost use Rattle.mt_rows.specs.Accounts.{Accounts};
 ghost use Rattle.mt_disk.specs.{declared.mem.MemDisk.{MemDisk as AnyDisk}, Mem.mem_state};
-ghost use Rattle.mt_slots.specs.declared.store_slots.StoreSlots.{StoreSlots as AnySlots};
+ghost use Rattle.mt_lives.specs.declared.live_slots.LiveSlots.{LiveSlots as AnySlots};
 ghost use Rattle.mt_store_logs.specs.{declared.store_log.StoreLog.{StoreLog as AnyLog}, Places.{workers_of, AreInOrder}, Flushes.{Flushes, FailsToFlush}};
 ghost use Rattle.mt_store_logs.specs.LogTurns.{BringsUp, FailsToBringUp};
 ghost use Rattle.mt_lives.specs.declared.events.StoreEvent.TheVariants.{Flush, Reopen, SettleBegin, SettleNext};
@@ -27,7 +27,7 @@ pub(crate) fn flush_at(
     requires order { AreInOrder logs.old }
     ensures count { length logs.new ≡ length logs.old }
     ensures workers { workers_of logs.new ≡ workers_of logs.old }
-    ensures goes { (accounts : Accounts) (slots : AnySlots AnyDisk) → GoesOn accounts slots slots (Flush worker) result logs.old (Some serving.old) logs.new (Some serving.new) }
+    ensures goes { (accounts : Accounts) (slots : AnySlots) → GoesOn accounts slots slots (Flush worker) result logs.old (Some serving.old) logs.new (Some serving.new) }
     ensures forced { (accounts : Accounts) → IsForced accounts (Flush worker) result logs.old (Some serving.old) logs.new }
 {
     let place = usize::from(worker);
@@ -45,7 +45,7 @@ pub(crate) fn reopen_at(alloc: Global, logs: &mut [StoreLog<MemDisk>], worker: u
     requires { (serving : AnyServing) × IsHeld logs.old (Some serving) }
     ensures count { length logs.new ≡ length logs.old }
     ensures workers { workers_of logs.new ≡ workers_of logs.old }
-    ensures goes { (accounts : Accounts) (slots : AnySlots AnyDisk) (serving : AnyServing) → GoesOn accounts slots slots (Reopen worker) result logs.old (Some serving) logs.new (Some serving) }
+    ensures goes { (accounts : Accounts) (slots : AnySlots) (serving : AnyServing) → GoesOn accounts slots slots (Reopen worker) result logs.old (Some serving) logs.new (Some serving) }
     ensures forced { (accounts : Accounts) (serving : AnyServing) → IsForced accounts (Reopen worker) result logs.old (Some serving) logs.new }
 {
     let place = usize::from(worker);
@@ -60,7 +60,7 @@ pub(crate) fn reopen_at(alloc: Global, logs: &mut [StoreLog<MemDisk>], worker: u
 
 /// Begins a Settle, unless one of this number has begun and not ended.
 pub(crate) fn begin_settle(serving: &mut Serving, id: u64) -> Result<StoreNote, AllocError>
-    ensures goes { IfOk result (λ note. (accounts : Accounts) (slots : AnySlots AnyDisk) (logs : List (AnyLog AnyDisk)) → GoesOn accounts slots slots (SettleBegin id) note logs (Some serving.old) logs (Some serving.new)) }
+    ensures goes { IfOk result (λ note. (accounts : Accounts) (slots : AnySlots) (logs : List (AnyLog AnyDisk)) → GoesOn accounts slots slots (SettleBegin id) note logs (Some serving.old) logs (Some serving.new)) }
 {
     if serving.settles.contains_key(&id) {
         return Ok(StoreNote::NoSuch);
@@ -86,7 +86,7 @@ pub(crate) fn go_on(
     requires order { AreInOrder logs.old }
     ensures count { length logs.new ≡ length logs.old }
     ensures workers { workers_of logs.new ≡ workers_of logs.old }
-    ensures goes { (accounts : Accounts) (slots : AnySlots AnyDisk) → GoesOn accounts slots slots (SettleNext id) result logs.old (Some serving.old) logs.new (Some serving.new) }
+    ensures goes { (accounts : Accounts) (slots : AnySlots) → GoesOn accounts slots slots (SettleNext id) result logs.old (Some serving.old) logs.new (Some serving.new) }
     ensures forced { (accounts : Accounts) → IsForced accounts (SettleNext id) result logs.old (Some serving.old) logs.new }
 {
     let Some(settle) = serving.settles.get(&id).copied() else {

@@ -1,7 +1,7 @@
 -- The logs that were made, and a state in which nothing has happened, are those of a new store.
 use Rattle.std.proofs.{Common.{rules, ◌≡◌, ◌<◌, ◌≤◌, ◌++◌, length, take, drop, refl, sym, ap, subst, ◌∙◌, Some}, Math.Seq.take-append_seam}
 use Rattle.mt_state.specs.Begins.{new_state}
-use Rattle.mt_lives.{specs.{Lives.new_standing, Holds.Holds, Returns.IsFresh}, proofs.{Flushing.{keeps_rules, failures_of}, Beginning.holds_new}}
+use Rattle.mt_lives.{specs.{declared.live_slots.LiveSlots.TheVariants.Rest, Lives.new_standing, Holds.Holds, Returns.IsFresh}, proofs.{Flushing.{keeps_rules, failures_of}, Beginning.holds_new}}
 use Rattle.mt_disk.specs.Mem.{mem_state}
 use Rattle.mt_store_logs.{specs.Places.{closed_on, AreInOrder, MakesAll}, proofs.Closed.{length-closed, closed_in_order, same_order}}
 use Rattle.mt_lives.proofs.beginnings.created.Goals as goal
@@ -16,7 +16,7 @@ returns-clause-ok c =
     let whole : take c.in_ok-logs.logs.len (made ++ behind) ≡ made = ap (λ n. take n (made ++ behind)) len ∙ take-append_seam made behind in
     let is : c.in_ok-state.state ≡ new_state (length made) c.args.tenants.now = search rules in
     let fresh : IsFresh c.new-2.result = record { tickets = c.new-2.ensures.tickets; names = c.new-2.ensures.names; settles = c.new-2.ensures.settles } in
-    subst (λ logs. Holds c.args.tenants.now c.create.new.self new_standing logs (Some c.new-2.result)) (sym whole)
+    subst (λ logs. Holds c.args.tenants.now (Rest c.create.new.self) new_standing logs (Some c.new-2.result)) (sym whole)
     (holds_new c.args.tenants.now c.deref_mut.result.now made (subst (λ n. 0 < n) (sym count) c.requires.some) (subst (λ n. n ≤ 64) (sym count) c.requires.few) c.args.disks.items closed
     c.in_default.ensures.ok c.in_ok-state.state is c.facts.ensures c.new-2.result c.new-2.ensures.state fresh c.args.slots c.create.new.self c.in_default-create.ensures.ok)
 
@@ -38,6 +38,9 @@ returns-clause-made c =
     let whole : take c.in_ok-logs.logs.len (made ++ behind) ≡ made = ap (λ n. take n (made ++ behind)) len ∙ take-append_seam made behind in
     subst (λ logs. MakesAll keeps_rules mem_state failures_of (closed_on c.args.disks.items) logs) (sym whole)
     (subst (λ old. MakesAll keeps_rules mem_state failures_of old made) closed c.in_default.ensures.ok)
+
+pub returns-clause-slots : goal.returns-clause-slots
+returns-clause-slots c = (c.create.new.self, refl, c.in_default-create.ensures.ok)
 
 pub returns-clause-serves : goal.returns-clause-serves
 returns-clause-serves c = (c.new-2.result, refl)

@@ -1,28 +1,14 @@
--- What is noted of a crash, by what it made of the disks.
-use Rattle.std.proofs.Common.{refl}
-use Rattle.mt_lives.proofs.Returning.{crashes_recovered, crashes_refused, crashes_not}
+-- A checkpoint is given up, and then the disks of slots at rest crash.
+use Rattle.std.proofs.Common.{sym, ◌∙◌}
+use Rattle.mt_lives.proofs.Returning.{crashes_live, crashed_at_rest}
 use Rattle.mt_lives.proofs.crashes.crash.Goals as goal
 
-pub returns-then-not-branch-clause-crashes : goal.returns-then-not-branch-clause-crashes
-returns-then-not-branch-clause-crashes c =
-    let same = c.in_ok-crash_all.ensures.unchanged c.if-not-branch.true in
-    crashes_not c.args.tenants.now c.args.slots.now c.crash_all.new.slots c.args.logs.now c.crash_all.new.logs c.args.serving.now c.args.serving.now same.1 same.0 refl
+pub returns-clause-crashes : goal.returns-clause-crashes
+returns-clause-crashes c =
+    crashes_live c.args.tenants.now c.args.slots.now _ c.in-Rest.slots c.args.logs.now c.crash_at_rest.new.logs c.args.serving.now c.crash_at_rest.new.serving c.crash_at_rest.result
+    (sym c.rest.ensures ∙ c.in-Rest.is) c.crash_at_rest.ensures.crashes
 
-pub returns-in-Ok-clause-crashes : goal.returns-in-Ok-clause-crashes
-returns-in-Ok-clause-crashes c =
-    crashes_recovered c.args.tenants.now c.args.slots.now c.crash_all.new.slots c.come_back.new.slots c.args.logs.now c.crash_all.new.logs c.come_back.new.logs c.args.serving.now
-    c.args.images.now (c.in_ok-crash_all.ensures.crashed c.if-not-branch.false) c.in-Ok.recovered c.in-Ok.begun c.in-Ok.ensures.recovered c.in-Ok.ensures.begins
-
-pub returns-in-Err-clause-crashes : goal.returns-in-Err-clause-crashes
-returns-in-Err-clause-crashes c =
-    crashes_refused c.args.tenants.now c.args.slots.now c.crash_all.new.slots c.come_back.new.slots c.args.logs.now c.crash_all.new.logs c.come_back.new.logs c.args.serving.now
-    c.args.images.now (c.in_ok-crash_all.ensures.crashed c.if-not-branch.false) c.in-Err.refusal c.in-Err.ensures.err
-
-pub returns-then-not-branch-clause-forced : goal.returns-then-not-branch-clause-forced
-returns-then-not-branch-clause-forced c = c.in_ok-crash_all.ensures.unchanged c.if-not-branch.true
-
-pub returns-in-Ok-clause-forced : goal.returns-in-Ok-clause-forced
-returns-in-Ok-clause-forced c = (c.crash_all.new.logs, c.crash_all.new.slots, c.in_ok-crash_all.ensures.crashed c.if-not-branch.false, c.in-Ok.ensures.recovered)
-
-pub returns-in-Err-clause-forced : goal.returns-in-Err-clause-forced
-returns-in-Err-clause-forced c = (c.crash_all.new.logs, c.crash_all.new.slots, c.in_ok-crash_all.ensures.crashed c.if-not-branch.false, c.in-Err.ensures.err)
+pub returns-clause-forced : goal.returns-clause-forced
+returns-clause-forced c =
+    crashed_at_rest c.args.tenants.now c.args.images.now c.args.slots.now c.in-Rest.slots c.crash_at_rest.new.slots c.args.logs.now c.crash_at_rest.new.logs c.crash_at_rest.result
+    (sym c.rest.ensures ∙ c.in-Rest.is) c.crash_at_rest.ensures.forced

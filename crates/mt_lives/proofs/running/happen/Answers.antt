@@ -2,9 +2,9 @@
 use Rattle.std.{proofs.{Common.{rules, ◌≡◌, ◌++◌, List, length, take, drop, Some, refl, sym, ap, subst, ◌∙◌}, Math.Seq.take-append_seam}, specs.Prelude.IfOk}
 use Rattle.mt_disk.specs.declared.mem.MemDisk.{MemDisk}
 use Rattle.mt_store_logs.specs.{declared.store_log.StoreLog.StoreLog, Places.AreInOrder}
-use Rattle.mt_lives.specs.{Holds.{quotas_of, Holds}, Steps.IsServedBy, declared.events.StoreNote.TheVariants.NoSuch, Forced.{IsCrashForced, IsForced}}
-use Rattle.mt_lives.proofs.{Forcing.{none_forced, crash_forced, served_forced, slots_alone}, Returning.crashed_goes}
-use Rattle.mt_lives.proofs.Happening.{no_crash, nothing_noted, serves_none, served_count, served_workers, served_goes}
+use Rattle.mt_lives.specs.{Holds.{quotas_of, Holds}, Steps.{IsServedBy, GoesOn}, declared.events.StoreNote.TheVariants.NoSuch, Forced.{CrashesFrom, IsForced}}
+use Rattle.mt_lives.proofs.{Forcing.{none_forced, crash_forced, served_forced, slots_alone}, Returning.{not_away, crashed_goes}}
+use Rattle.mt_lives.proofs.Happening.{leaves_slots, nothing_noted, serves_none, served_count, served_workers, served_goes, begun_forced, stepped_goes, stepped_forced}
 use Rattle.mt_lives.proofs.running.happen.Goals as goal
 
 pub returns-in-Crash-clause-goes : goal.returns-in-Crash-clause-goes
@@ -26,7 +26,34 @@ returns-in-Crash-clause-forced c =
     let whole : take c.args.store.now.logs.len (new ++ behind) ≡ new = ap (λ n. take n (new ++ behind)) len ∙ take-append_seam new behind in
     crash_forced c.deref_mut.result.now items new (take c.args.store.now.logs.len (new ++ behind)) c.crash.result c.deref_mut.ensures.value (sym whole) c.args.tenants.now c.args.event.now
     c.args.store.now.slots c.crash.new.slots c.in-Crash.images c.args.store.now.serving c.in-Crash.is
-    (subst (λ images. IfOk c.crash.result (λ note. IsCrashForced c.args.tenants.now images note c.args.store.now.slots c.crash.new.slots c.deref_mut.result.now new)) c.deref.ensures.value c.crash.ensures.forced)
+    (subst (λ images. IfOk c.crash.result (λ note. CrashesFrom c.args.tenants.now images c.args.store.now.slots c.crash.new.slots note c.deref_mut.result.now new)) c.deref.ensures.value c.crash.ensures.forced)
+
+pub crash-requires-clause-there : goal.crash-requires-clause-there
+crash-requires-clause-there c = not_away c.args.tenants.now c.args.store.now.slots c.requires.held.0 c.args.store.now.logs.items c.args.store.now.serving c.requires.held.1
+
+pub returns-in-CheckBegin-clause-goes : goal.returns-in-CheckBegin-clause-goes
+returns-in-CheckBegin-clause-goes c =
+    let logs = c.args.store.now.logs.items in
+    subst (λ e. GoesOn c.args.tenants.now c.args.store.now.slots c.begin_check.new.slots e c.begin_check.result logs c.args.store.now.serving logs c.args.store.now.serving) (sym c.in-CheckBegin.is)
+    (c.begin_check.ensures.goes logs)
+
+pub returns-in-CheckBegin-clause-forced : goal.returns-in-CheckBegin-clause-forced
+returns-in-CheckBegin-clause-forced c =
+    begun_forced c.args.tenants.now c.args.store.now.slots c.begin_check.new.slots c.args.event.now c.begin_check.result c.args.store.now.logs.items c.args.store.now.serving c.in-CheckBegin.is
+    c.begin_check.ensures.forced
+
+pub step_check-requires : goal.step_check-requires
+step_check-requires c = (c.args.store.now.logs.items, (c.args.tenants.now, c.requires.held.0, c.requires.held.1))
+
+pub returns-in-CheckStep-clause-goes : goal.returns-in-CheckStep-clause-goes
+returns-in-CheckStep-clause-goes c =
+    stepped_goes c.args.tenants.now c.args.store.now.slots c.step_check.new.slots c.args.event.now c.args.store.now.logs.items c.args.store.now.serving c.step_check.new.serving c.step_check.result c.in-CheckStep.is
+    c.step_check.ensures.goes
+
+pub returns-in-CheckStep-clause-forced : goal.returns-in-CheckStep-clause-forced
+returns-in-CheckStep-clause-forced c =
+    stepped_forced c.args.tenants.now c.args.store.now.slots c.step_check.new.slots c.args.event.now c.args.store.now.logs.items c.args.store.now.serving c.step_check.result c.in-CheckStep.is
+    c.step_check.ensures.forced
 
 pub returns-in-Crash-clause-workers : goal.returns-in-Crash-clause-workers
 returns-in-Crash-clause-workers c =
@@ -51,7 +78,7 @@ serve-requires c =
       );
       order = subst AreInOrder value c.requires.order;
       worker = subst (λ (logs : List (StoreLog MemDisk)). IsServedBy (length logs) c.args.event.now) value c.requires.worker;
-      serves = no_crash c.args.event.now c.in_default.not-Crash;
+      slots = leaves_slots c.args.event.now c.in_default.not-CheckBegin c.in_default.not-CheckStep c.in_default.not-Crash;
     }
 
 pub returns-in-Some : goal.returns-in-Some
@@ -71,7 +98,7 @@ returns-in-Some c =
           c.args.store.now.serving c.in-Some.is c.serve.ensures.goes;
       forced =
           served_forced c.deref_mut-in-Some.result.now items new last c.serve.result value (sym whole) c.args.tenants.now c.args.event.now c.args.store.now.slots c.in-Some.serving c.args.store.now.serving
-          c.in-Some.is (no_crash c.args.event.now c.in_default.not-Crash) c.serve.ensures.forced;
+          c.in-Some.is (leaves_slots c.args.event.now c.in_default.not-CheckBegin c.in_default.not-CheckStep c.in_default.not-Crash) c.serve.ensures.forced;
     }
 
 pub returns-in-None : goal.returns-in-None
@@ -80,9 +107,9 @@ returns-in-None c = record {
   workers = refl;
   goes = λ standing h.
       let held = subst (Holds c.args.tenants.now c.args.store.now.slots standing c.args.store.now.logs.items) c.in-None.is h in
-      (standing, nothing_noted (quotas_of c.args.tenants.now) standing c.args.event.now (serves_none c.args.tenants.now c.args.store.now.slots standing c.args.store.now.logs.items held), h);
+      (standing, nothing_noted (quotas_of c.args.tenants.now) standing c.args.event.now (leaves_slots c.args.event.now c.in_default.not-CheckBegin c.in_default.not-CheckStep c.in_default.not-Crash) (serves_none c.args.tenants.now c.args.store.now.slots standing c.args.store.now.logs.items held), h);
   forced =
-      let not = no_crash c.args.event.now c.in_default.not-Crash in
+      let not = leaves_slots c.args.event.now c.in_default.not-CheckBegin c.in_default.not-CheckStep c.in_default.not-Crash in
       slots_alone c.args.tenants.now c.args.store.now.slots c.args.event.now NoSuch c.args.store.now.logs.items c.args.store.now.serving c.args.store.now.logs.items not
       (subst (λ s. IsForced c.args.tenants.now c.args.event.now NoSuch c.args.store.now.logs.items s c.args.store.now.logs.items) (sym c.in-None.is)
       (none_forced c.args.tenants.now c.args.event.now c.args.store.now.logs.items not));

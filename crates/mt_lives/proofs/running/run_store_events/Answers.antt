@@ -1,5 +1,5 @@
 -- The events lead on from a new store.
-use Rattle.std.{proofs.Common.subst, specs.List.zip}
+use Rattle.std.{proofs.Common.{Some, subst}, specs.List.zip}
 use Rattle.mt_lives.specs.{Lives.new_standing, Forced.AreForced}
 use Rattle.mt_lives.proofs.running.run_store_events.Goals as goal
 
@@ -9,13 +9,15 @@ returns-clause-lives c = let on = c.in_ok-notes.ensures.goes new_standing c.in_o
 pub returns-clause-forced : goal.returns-clause-forced
 returns-clause-forced c =
     let serves = c.in_ok-store.ensures.serves in
+    let slots = c.in_ok-store.ensures.slots in
     let new = c.note_all.new.store in
     record {
       first = c.in_ok-store.store.logs.items;
       made = c.in_ok-store.ensures.made;
       serving = serves.0;
-      first_slots = c.in_ok-store.store.slots;
-      made_slots = c.in_ok-store.ensures.slots;
+      first_slots = slots.0;
+      made_slots = slots.2;
       forced =
-          subst (λ s. AreForced c.args.tenants.now c.in_ok-store.store.slots new.slots (zip c.args.events.now c.in_ok-notes.notes.items) c.in_ok-store.store.logs.items s new.logs.items new.serving) serves.1 c.in_ok-notes.ensures.forced;
+          subst (λ ss. AreForced c.args.tenants.now ss new.slots (zip c.args.events.now c.in_ok-notes.notes.items) c.in_ok-store.store.logs.items (Some serves.0) new.logs.items new.serving) slots.1
+          (subst (λ s. AreForced c.args.tenants.now c.in_ok-store.store.slots new.slots (zip c.args.events.now c.in_ok-notes.notes.items) c.in_ok-store.store.logs.items s new.logs.items new.serving) serves.1 c.in_ok-notes.ensures.forced);
     }

@@ -1,0 +1,23 @@
+-- A checkpoint begins, or not.
+use Rattle.std.proofs.Common.{ℕ, Vec, inl, refl, sym, ap, subst, ◌∙◌}
+use Rattle.std.specs.declared.alloc.Global.{Global}
+use Rattle.mt_rows.specs.declared.refusal.Refusal.TheVariants.{Memory}
+use Rattle.mt_pages.specs.Walked.{Rise}
+use Rattle.mt_lives.proofs.CheckNotes.{begins_refused, begin_fails, begin_goes, begin_forced}
+use Rattle.mt_lives.proofs.checks.begun.Goals as goal
+
+pub returns-in-Err-clause-goes : goal.returns-in-Err-clause-goes
+returns-in-Err-clause-goes c = λ logs serving same standing h. begins_refused c.args.tenants.now standing logs serving c.args.slots h Memory (inl refl)
+
+pub returns-in-Ok-begin-clause-goes : goal.returns-in-Ok-begin-clause-goes
+returns-in-Ok-begin-clause-goes c = λ logs serving same standing h.
+    begin_goes c.args.tenants.now standing logs serving c.args.slots h c.args.steps c.in-Ok-begin.writing c.new.result same c.in-Ok-begin.ensures.ok
+    (subst (λ (v : Vec ℕ Global). Rise v.items) (sym c.new.ensures.tenants) c.in-Ok.ensures.rise) c.new.ensures.place c.new.ensures.from c.new.ensures.after
+    (ap (λ (v : Vec ℕ Global). v.items) c.new.ensures.tenants ∙ c.in-Ok.ensures.all)
+
+pub returns-in-Err-begin-clause-goes : goal.returns-in-Err-begin-clause-goes
+returns-in-Err-begin-clause-goes c = λ logs serving same standing h.
+    begin_fails c.args.tenants.now standing logs serving c.args.slots h c.in-Err-begin.slots c.in-Err-begin.ensures.err
+
+pub returns-in-Err-begin-clause-forced : goal.returns-in-Err-begin-clause-forced
+returns-in-Err-begin-clause-forced c = begin_forced c.args.slots c.in-Err-begin.slots c.in-Err-begin.ensures.err

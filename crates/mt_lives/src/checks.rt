@@ -1,0 +1,310 @@
+//! Checkpoints of a store that serves: a walk over all its pairs, by scans beside other operations.
+//!
+//! A scan of the walk is an operation of worker 0. Its name is as far below 2^64 as names were given before, so no two
+//! scans have one name. A checkpoint whose scan is not begun, or ends without pairs, is given up.
+
+ghost use Rattle.std.specs.{Prelude.{◌≡◌, ◌≤◌, ◌^◌, List, Some, IfOk, slice_get}, List.All};
+ghost use Rattle.mt_rows.specs.{Accounts.Accounts, Commands.IsKey};
+ghost use Rattle.mt_disk.specs.declared.mem.MemDisk.{MemDisk as AnyDisk};
+ghost use Rattle.mt_slots.specs.Places.{given_up};
+ghost use Rattle.mt_store_logs.specs.declared.store_log.StoreLog.{StoreLog as AnyLog};
+ghost use Rattle.mt_lives.specs.declared.live_slots.LiveSlots.TheVariants.{Rest, Writes};
+ghost use Rattle.mt_lives.specs.declared.live_slots.CheckStage.TheVariants.{Begins as BeginsNext, Scans as ScansBy, Adds as AddsThese};
+ghost use Rattle.mt_lives.specs.declared.events.StoreEvent.TheVariants.{CheckBegin, CheckStep};
+ghost use Rattle.mt_lives.specs.{declared.serving.Serving.{Serving as AnyServing}, Checks.{check_with, AfterBegin, AfterStep, AfterReply}};
+ghost use Rattle.mt_lives.specs.{Steps.{IsHeldBy, GoesOn}, Forced.IsCheckForced};
+
+use crate::events::StoreNote;
+use crate::live_slots::{Check, CheckStage, LiveSlots};
+use crate::operations::core;
+use crate::serving::Serving;
+use mt_core::MAX_STEPS;
+use mt_disk::{DeviceFailed, MemDisk};
+use mt_pages::PageWalk;
+use mt_rows::{Refusal, Reply, TenantPair, Tenants};
+use mt_runs::{Event, Told};
+use mt_slots::{Checkpointing, StoreSlots};
+use std::alloc::{AllocError, Global};
+use std::mem;
+
+/// Begins a checkpoint, unless the store doesn't serve or one is being written.
+pub(crate) fn begin_check(
+    alloc: Global,
+    tenants: &Tenants,
+    slots: &mut LiveSlots,
+    serving: &Option<Serving>,
+) -> StoreNote
+    ensures goes { (logs : List (AnyLog AnyDisk)) → GoesOn tenants.now slots.old slots.new CheckBegin result logs serving.now logs serving.now }
+    ensures forced { IsCheckForced result slots.old slots.new }
+{
+    let Some(serving) = serving else {
+        return StoreNote::NoSuch;
+    };
+    let steps = serving.state.steps();
+    match mem::replace(slots, LiveSlots::Away) {
+        LiveSlots::Rest(rest) => {
+            let (now, note) = begun(alloc, tenants, rest, steps);
+            *slots = now;
+            note
+        }
+        LiveSlots::Writes(check) => {
+            *slots = LiveSlots::Writes(check);
+            StoreNote::NoSuch
+        }
+        LiveSlots::Away => StoreNote::NoSuch,
+    }
+}
+
+// Begins a checkpoint after so many steps.
+fn begun(
+    alloc: Global,
+    tenants: &Tenants,
+    slots: StoreSlots<MemDisk>,
+    steps: u64,
+) -> (LiveSlots, StoreNote)
+    ensures goes { (logs : List (AnyLog AnyDisk)) (serving : AnyServing) → serving.state.steps ≡ steps → GoesOn tenants.now (Rest slots) result.0 CheckBegin result.1 logs (Some serving) logs (Some serving) }
+    ensures forced { IsCheckForced result.1 (Rest slots) result.0 }
+{
+    let numbers = match tenants.numbers(alloc) {
+        Ok(numbers) => numbers,
+        Err(AllocError) => {
+            return (LiveSlots::Rest(slots), StoreNote::Refused(Refusal::Memory));
+        }
+    };
+    match slots.begin(steps) {
+        Ok(writing) => {
+            let check = Check {
+                writing,
+                walk: PageWalk::new(alloc, numbers),
+                stage: CheckStage::Begins,
+            };
+            (LiveSlots::Writes(check), StoreNote::CheckBegun(steps))
+        }
+        Err((DeviceFailed, slots)) => (LiveSlots::Rest(slots), StoreNote::Refused(Refusal::Device)),
+    }
+}
+
+/// Goes on with the checkpoint that is being written, if the store serves and one is.
+pub(crate) fn step_check(
+    alloc: Global,
+    slots: &mut LiveSlots,
+    serving: &mut Option<Serving>,
+) -> Result<StoreNote, AllocError>
+    requires { (logs : List (AnyLog AnyDisk)) × IsHeldBy slots.old logs serving.old }
+    ensures goes { IfOk result (λ note. (accounts : Accounts) (logs : List (AnyLog AnyDisk)) → GoesOn accounts slots.old slots.new CheckStep note logs serving.old logs serving.new) }
+    ensures forced { IfOk result (λ note. IsCheckForced note slots.old slots.new) }
+{
+    match serving {
+        Some(serving) => step_serving(alloc, slots, serving),
+        None => Ok(StoreNote::NoSuch),
+    }
+}
+
+// The same of a store that serves.
+fn step_serving(
+    alloc: Global,
+    slots: &mut LiveSlots,
+    serving: &mut Serving,
+) -> Result<StoreNote, AllocError>
+    requires { (logs : List (AnyLog AnyDisk)) × IsHeldBy slots.old logs (Some serving.old) }
+    ensures goes { IfOk result (λ note. (accounts : Accounts) (logs : List (AnyLog AnyDisk)) → GoesOn accounts slots.old slots.new CheckStep note logs (Some serving.old) logs (Some serving.new)) }
+    ensures forced { IfOk result (λ note. IsCheckForced note slots.old slots.new) }
+{
+    match mem::replace(slots, LiveSlots::Away) {
+        LiveSlots::Rest(rest) => {
+            *slots = LiveSlots::Rest(rest);
+            Ok(StoreNote::NoSuch)
+        }
+        LiveSlots::Writes(check) => {
+            let (now, note) = next(alloc, check, serving)?;
+            *slots = now;
+            Ok(note)
+        }
+        LiveSlots::Away => Ok(StoreNote::NoSuch),
+    }
+}
+
+// What comes next.
+fn next(
+    alloc: Global,
+    check: Check,
+    serving: &mut Serving,
+) -> Result<(LiveSlots, StoreNote), AllocError>
+    requires { (logs : List (AnyLog AnyDisk)) × IsHeldBy (Writes check) logs (Some serving.old) }
+    ensures goes { IfOk result (λ r. (accounts : Accounts) (logs : List (AnyLog AnyDisk)) → GoesOn accounts (Writes check) r.0 CheckStep r.1 logs (Some serving.old) logs (Some serving.new)) }
+    ensures forced { IfOk result (λ r. IsCheckForced r.1 (Writes check) r.0) }
+{
+    let Check {
+        writing,
+        walk,
+        stage,
+    } = check;
+    match stage {
+        CheckStage::Begins => begin_scan(alloc, writing, walk, serving),
+        CheckStage::Scans(name) => step_scan(alloc, writing, walk, name, serving),
+        CheckStage::Adds(pairs) => Ok(add(alloc, writing, walk, pairs)),
+    }
+}
+
+// Begins the walk's next scan. After the last one the checkpoint ends.
+fn begin_scan(
+    alloc: Global,
+    writing: Checkpointing<MemDisk>,
+    walk: PageWalk,
+    serving: &mut Serving,
+) -> Result<(LiveSlots, StoreNote), AllocError>
+    requires { (logs : List (AnyLog AnyDisk)) × IsHeldBy (Writes (check_with writing walk BeginsNext)) logs (Some serving.old) }
+    ensures goes { IfOk result (λ r. (accounts : Accounts) (logs : List (AnyLog AnyDisk)) → GoesOn accounts (Writes (check_with writing walk BeginsNext)) r.0 CheckStep r.1 logs (Some serving.old) logs (Some serving.new)) }
+    ensures forced { IfOk result (λ r. IsCheckForced r.1 (Writes (check_with writing walk BeginsNext)) r.0) }
+{
+    let scan = match walk.next(alloc) {
+        Ok(scan) => scan,
+        Err(AllocError) => {
+            return Ok((
+                LiveSlots::Rest(writing.give_up()),
+                StoreNote::Refused(Refusal::Memory),
+            ));
+        }
+    };
+    match scan {
+        Some((tenant, command)) => {
+            let name = u64::MAX - serving.roster.tickets.len() as u64;
+            let begin = Event::Begin {
+                op: name,
+                worker: 0,
+                tenant,
+                command,
+            };
+            let told = core(serving, &begin)?;
+            let slots = after_begin(writing, walk, name, &told);
+            Ok((slots, StoreNote::CheckTold(told)))
+        }
+        None => {
+            let last = serving.state.steps();
+            // Steps have no greater numbers.
+            if last > MAX_STEPS {
+                return Ok((
+                    LiveSlots::Rest(writing.give_up()),
+                    StoreNote::Refused(Refusal::Memory),
+                ));
+            }
+            Ok(end(writing, walk, last))
+        }
+    }
+}
+
+// What comes after a scan was begun by a name, or was not.
+fn after_begin(writing: Checkpointing<MemDisk>, walk: PageWalk, name: u64, told: &Told) -> LiveSlots
+    ensures { AfterBegin writing walk name told.now result }
+{
+    match told {
+        Told::Begun => LiveSlots::Writes(Check {
+            writing,
+            walk,
+            stage: CheckStage::Scans(name),
+        }),
+        _ => LiveSlots::Rest(writing.give_up()),
+    }
+}
+
+// Ends the checkpoint after so many steps.
+fn end(writing: Checkpointing<MemDisk>, walk: PageWalk, last: u64) -> (LiveSlots, StoreNote)
+    requires few { last ≤ 2 ^ 59 }
+    ensures goes { (accounts : Accounts) (logs : List (AnyLog AnyDisk)) (serving : AnyServing) → serving.state.steps ≡ last → slice_get walk.tenants.items walk.place ≡ None
+        → GoesOn accounts (Writes (check_with writing walk BeginsNext)) result.0 CheckStep result.1 logs (Some serving) logs (Some serving) }
+    ensures forced { IsCheckForced result.1 (Writes (check_with writing walk BeginsNext)) result.0 }
+{
+    let _walk = walk;
+    match writing.end(last) {
+        Ok(slots) => (LiveSlots::Rest(slots), StoreNote::CheckEnded(last)),
+        Err((DeviceFailed, slots)) => (LiveSlots::Rest(slots), StoreNote::Refused(Refusal::Device)),
+    }
+}
+
+// Makes a step of the walk's scan.
+fn step_scan(
+    alloc: Global,
+    writing: Checkpointing<MemDisk>,
+    walk: PageWalk,
+    name: u64,
+    serving: &mut Serving,
+) -> Result<(LiveSlots, StoreNote), AllocError>
+    requires { (logs : List (AnyLog AnyDisk)) × IsHeldBy (Writes (check_with writing walk (ScansBy name))) logs (Some serving.old) }
+    ensures goes { IfOk result (λ r. (accounts : Accounts) (logs : List (AnyLog AnyDisk)) → GoesOn accounts (Writes (check_with writing walk (ScansBy name))) r.0 CheckStep r.1 logs (Some serving.old) logs (Some serving.new)) }
+    ensures forced { IfOk result (λ r. IsCheckForced r.1 (Writes (check_with writing walk (ScansBy name))) r.0) }
+{
+    let told = core(serving, &Event::Step { op: name })?;
+    let slots = after_step(alloc, writing, walk, name, &told);
+    Ok((slots, StoreNote::CheckTold(told)))
+}
+
+// What comes after a step of the scan of a name.
+fn after_step(
+    alloc: Global,
+    writing: Checkpointing<MemDisk>,
+    walk: PageWalk,
+    name: u64,
+    told: &Told,
+) -> LiveSlots
+    ensures { AfterStep writing walk name told.now result }
+{
+    match told {
+        Told::Done(answer) => after_reply(alloc, writing, walk, &answer.reply),
+        Told::Moved | Told::Again(_) | Told::NoMemory | Told::Spent => LiveSlots::Writes(Check {
+            writing,
+            walk,
+            stage: CheckStage::Scans(name),
+        }),
+        Told::Begun | Told::Refused(_) | Told::NoSuch => LiveSlots::Rest(writing.give_up()),
+    }
+}
+
+// What comes after the scan's reply.
+fn after_reply(
+    alloc: Global,
+    writing: Checkpointing<MemDisk>,
+    mut walk: PageWalk,
+    reply: &Reply,
+) -> LiveSlots
+    ensures { AfterReply writing walk reply.now result }
+{
+    let Reply::Pairs(page) = reply else {
+        return LiveSlots::Rest(writing.give_up());
+    };
+    match walk.take(alloc, page) {
+        Ok(pairs) => LiveSlots::Writes(Check {
+            writing,
+            walk,
+            stage: CheckStage::Adds(pairs),
+        }),
+        Err(AllocError) => LiveSlots::Rest(writing.give_up()),
+    }
+}
+
+// Adds the pairs of a page.
+fn add(
+    alloc: Global,
+    writing: Checkpointing<MemDisk>,
+    walk: PageWalk,
+    pairs: Vec<TenantPair>,
+) -> (LiveSlots, StoreNote)
+    requires { All (λ p. IsKey p.key) pairs.items }
+    ensures goes { (accounts : Accounts) (logs : List (AnyLog AnyDisk)) (serving : AnyServing)
+        → GoesOn accounts (Writes (check_with writing walk (AddsThese pairs))) result.0 CheckStep result.1 logs (Some serving) logs (Some serving) }
+    ensures forced { IsCheckForced result.1 (Writes (check_with writing walk (AddsThese pairs))) result.0 }
+{
+    match writing.add(alloc, &pairs) {
+        Ok(writing) => {
+            let check = Check {
+                writing,
+                walk,
+                stage: CheckStage::Begins,
+            };
+            (LiveSlots::Writes(check), StoreNote::CheckAdded)
+        }
+        Err((fault, slots)) => (
+            LiveSlots::Rest(slots),
+            StoreNote::Refused(fault.cause.refusal()),
+        ),
+    }
+}
