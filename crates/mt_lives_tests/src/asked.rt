@@ -25,11 +25,20 @@ pub(crate) enum Row {
     Reopen(u8),
     Settle,
     Next,
+    /// A checkpoint begins.
+    Check,
+    /// It makes so many steps.
+    Walk(u64),
+    /// It makes all its steps.
+    Ends,
     Crash,
 }
 
 /// As many steps as any operation here needs; a step behind the last one is none.
 const ENOUGH: u64 = 9;
+
+/// As many steps as any checkpoint here needs.
+const ENOUGH_FOR_CHECK: u64 = 40;
 
 /// Tenant 7, which may have a hundred pairs.
 pub(crate) fn one_tenant(alloc: Global) -> Tenants
@@ -101,6 +110,9 @@ pub(crate) fn events_of(
         Row::Reopen(worker) => push(rt, events, StoreEvent::Reopen { worker }),
         Row::Settle => push(rt, events, StoreEvent::SettleBegin { id: 1 }),
         Row::Next => push(rt, events, StoreEvent::SettleNext { id: 1 }),
+        Row::Check => push(rt, events, StoreEvent::CheckBegin),
+        Row::Walk(steps) => walk(rt, events, steps),
+        Row::Ends => walk(rt, events, ENOUGH_FOR_CHECK),
         Row::Crash => push(rt, events, crash(rt, alloc, images)),
     }
 }
@@ -119,6 +131,15 @@ fn step(rt: &impl Abort, events: &mut Vec<StoreEvent>, op: u64, steps: u64)
 {
     for _ in 0..steps {
         push(rt, events, StoreEvent::Core(Event::Step { op }));
+    }
+}
+
+fn walk(rt: &impl Abort, events: &mut Vec<StoreEvent>, steps: u64)
+    requires { All (IsServedBy 2) events.old.items }
+    ensures { All (IsServedBy 2) events.new.items }
+{
+    for _ in 0..steps {
+        push(rt, events, StoreEvent::CheckStep);
     }
 }
 

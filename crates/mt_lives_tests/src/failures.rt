@@ -90,7 +90,7 @@ fn unopened(log: usize) -> [Row; 6] {
 }
 
 // The greatest number that was settled before a row.
-fn settled_before(noted: &[Noted], place: usize) -> u64 {
+pub(crate) fn settled_before(noted: &[Noted], place: usize) -> u64 {
     let mut greatest = 0;
     for told in noted.iter().take(place) {
         if told.0 == "settled" {

@@ -7,6 +7,8 @@
 #[cfg(test)]
 mod asked;
 #[cfg(test)]
+mod checks;
+#[cfg(test)]
 mod failures;
 #[cfg(test)]
 mod runs;

@@ -5,7 +5,7 @@ ghost use Rattle.mt_lives.specs.Steps.{IsServedBy};
 
 use crate::asked::{Row, events_of, one_tenant};
 use mt_disk::MemDisk;
-use mt_lives::{Store, StoreEvent, StoreNote, run_store_events};
+use mt_lives::{LiveSlots, Store, StoreEvent, StoreNote, run_store_events};
 use mt_recover::LogSlot;
 use mt_rows::{Refusal, Reply};
 use mt_runs::Told;
@@ -138,6 +138,11 @@ fn images_of(rt: &impl Abort, alloc: Global, store: Store) -> Vec<Vec<u8>> {
         };
         assert!(rt; images.push(image.expect(rt, "memory")).is_ok());
     }
+    let slots = match slots {
+        LiveSlots::Rest(slots) => slots,
+        LiveSlots::Writes(check) => check.writing.give_up(),
+        LiveSlots::Away => panic!(rt; "the slots are away"),
+    };
     let (first, second) = slots.into_disks();
     for disk in [first, second] {
         let image = disk.image().to_vec(alloc).expect(rt, "memory");
@@ -151,6 +156,7 @@ fn last_of(notes: &[StoreNote]) -> Noted {
     for note in notes {
         match note {
             StoreNote::Told(Told::NoSuch) => (),
+            StoreNote::NoSuch if last.0 != "nothing" => (),
             note => last = noted(note),
         }
     }
@@ -165,6 +171,10 @@ fn noted(note: &StoreNote) -> Noted {
         StoreNote::Begun(steps) => ("begun", *steps),
         StoreNote::Turned => ("turned", 0),
         StoreNote::Settled(number) => ("settled", *number),
+        StoreNote::CheckBegun(steps) => ("check begun", *steps),
+        StoreNote::CheckTold(told) => told_of(told),
+        StoreNote::CheckAdded => ("check added", 0),
+        StoreNote::CheckEnded(steps) => ("check ended", *steps),
         StoreNote::Recovered(recovered) => ("recovered", recovered.cutoff),
         StoreNote::Refused(Refusal::Memory) => ("memory", 0),
         StoreNote::Refused(Refusal::Device) => ("device", 0),
@@ -180,8 +190,10 @@ fn told_of(told: &Told) -> Noted {
             Reply::Absent => ("absent", answer.last),
             Reply::New => ("new", answer.last),
             Reply::Replaced => ("replaced", answer.last),
+            Reply::Pairs(page) => ("pairs", page.as_slice().len() as u64),
             _ => ("another", answer.last),
         },
+        Told::Begun => ("begun", 0),
         Told::Moved => ("moved", 0),
         Told::Again(_) => ("again", 0),
         _ => ("another", 0),

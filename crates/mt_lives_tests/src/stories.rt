@@ -2,6 +2,8 @@
 
 use crate::asked::Row;
 use crate::runs::{AMPLE, Noted, run};
+use std::alloc::Global;
+use std::process::Abort;
 use std::test::Fail;
 
 // Two workers; a Settle between whose turns a change falls; a crash with an operation in mid-step and a change that is
@@ -40,14 +42,55 @@ const STORY: [(Row, Noted); 31] = [
     (Row::Next, ("settled", 53)),
 ];
 
-#[test]
-fn each_event_is_noted_as_its_row_says(rt: HostRuntime) -> Result<(), Fail> {
-    let alloc = rt.alloc();
-    let rows = STORY.map(|row| row.0);
-    let noted = run(&rt, alloc, AMPLE, &rows).expect(&rt, "logs");
-    for (place, row) in STORY.iter().enumerate() {
+// Two workers; a checkpoint between whose steps a change falls, and one that a crash gives up; each recovery has all
+// that was settled.
+const CHECKED: [(Row, Noted); 24] = [
+    (Row::Put(1, 0, "a", "1"), ("new", 5)),
+    (Row::Put(2, 1, "b", "1"), ("new", 10)),
+    (Row::Walk(1), ("no such", 0)),
+    (Row::Check, ("check begun", 10)),
+    (Row::Check, ("no such", 0)),
+    (Row::Walk(1), ("begun", 0)),
+    (Row::Walk(1), ("moved", 0)),
+    (Row::Put(3, 0, "c", "1"), ("new", 16)),
+    (Row::Walk(4), ("moved", 0)),
+    (Row::Walk(1), ("pairs", 3)),
+    (Row::Walk(1), ("check added", 0)),
+    (Row::Walk(1), ("check ended", 21)),
+    (Row::Walk(1), ("no such", 0)),
+    (Row::Settle, ("begun", 21)),
+    (Row::Next, ("turned", 0)),
+    (Row::Next, ("settled", 21)),
+    (Row::Check, ("check begun", 21)),
+    (Row::Walk(2), ("moved", 0)),
+    (Row::Crash, ("recovered", 21)),
+    (Row::Walk(1), ("no such", 0)),
+    (Row::Get(1, "c"), ("found", 25)),
+    (Row::Check, ("check begun", 25)),
+    (Row::Ends, ("check ended", 28)),
+    (Row::Get(2, "a"), ("found", 32)),
+];
+
+fn holds_row_by_row(rt: &impl Abort, alloc: Global, story: &[(Row, Noted)]) {
+    let mut rows = Vec::new(alloc);
+    for row in story {
+        assert!(rt; rows.push(row.0).is_ok());
+    }
+    let noted = run(rt, alloc, AMPLE, &rows).expect(rt, "logs");
+    for (place, row) in story.iter().enumerate() {
         let told = noted.get(place).copied();
         assert!(rt; told == Some(row.1), "{place}: {:?}, {told:?}", row.0);
     }
+}
+
+#[test]
+fn each_event_of_a_checkpoint_is_noted_as_its_row_says(rt: HostRuntime) -> Result<(), Fail> {
+    holds_row_by_row(&rt, rt.alloc(), &CHECKED);
+    Ok(())
+}
+
+#[test]
+fn each_event_is_noted_as_its_row_says(rt: HostRuntime) -> Result<(), Fail> {
+    holds_row_by_row(&rt, rt.alloc(), &STORY);
     Ok(())
 }
