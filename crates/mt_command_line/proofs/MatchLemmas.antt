@@ -1,10 +1,10 @@
 -- What the getters of clap's matches give, by what the command line has.
-use Rattle.std.proofs.Common.{◌≡◌, ℕ, ◌≤◌, ◌<◌, ◌^◌, Bool, true, false, List, [], Bor, Option, Some, None, Result, Ok, Err, map, option_map, codes, MatchResult, IfOk, IfErr, unwrap_or, refl, ap, sym, ◌∙◌, arith}
+use Rattle.std.proofs.Common.{◌≡◌, ◌⊎◌, inl, inr, subst, ℕ, ◌≤◌, ◌<◌, ◌^◌, Bool, true, false, List, [], Bor, Option, Some, None, Result, Ok, Err, map, option_map, codes, MatchResult, IfOk, IfErr, unwrap_or, refl, ap, sym, ◌∙◌, arith}
 use Rattle.std.specs.Str.Parse.{ParsesUnsigned}
-use Rattle.clap.specs.Words.{without_minus, first_value, ReadsOne, Text, matched_of, one_of, one_text, raw_values, rows_of}
+use Rattle.clap.specs.Words.{without_minus, first_value, ReadsOne, Row, Text, matched_of, one_of, one_text, raw_values, rows_of}
 use Rattle.clap.specs.declared.parser.matches.Found.{Found}
 use Rattle.clap.proofs.{CallerReads.signed_reads, WalkLemmas.{first_value-rows, one_text-rows, raw_values-rows}}
-use Rattle.mt_command_line.specs.{CommandLine.{folder_in, found_in, given_for, tenant_words}, Reads.{HasNumber, IsFlag, IsGiven}}
+use Rattle.mt_command_line.specs.{CommandLine.{folder_in, given_for, tenant_words}, Reads.{HasNumber, IsFlag, IsGiven, MayHaveNumber}}
 
 -- the words that matches have for tenants, by their rows
 pub words_are : (f : Found) (o : Option (Bor (List (Bor Text)))) (d r : Bor (List (Bor Text)))
@@ -19,22 +19,42 @@ words_are f o d r got is none =
     values (Some s) = refl
 
 -- the number of an option is the one that is found for it
-pub number_is : (E : Type 0) (G : List ℕ → Result ℕ E → Type 0) (k least most d : ℕ) (f : Found) (name : Text) (words : List Text) (o : Option ℕ)
+pub number_is : (E : Type 0) (G : List ℕ → Result ℕ E → Type 0) (k least most d : ℕ) (f : Found) (name : Text) (rows : List Row) (o : Option ℕ)
     → ((t : List ℕ) (x : Result ℕ E) → G t x → ParsesUnsigned k 10 t x) → most < 2 ^ k
-    → ((t : List ℕ) → one_text f name ≡ Some t → ReadsOne G t o) → HasNumber f name least most → rows_of f ≡ found_in words
-    → IsGiven name least most (found_in words) (unwrap_or o d)
-number_is E G k least most d f name words o only fits got has rows =
+    → ((t : List ℕ) → one_text f name ≡ Some t → ReadsOne G t o) → HasNumber f name least most → rows_of f ≡ rows
+    → IsGiven name least most rows (unwrap_or o d)
+number_is E G k least most d f name rows o only fits got has are =
     let read = got (without_minus has.0) has.1 in
-    let given : given_for name (found_in words) ≡ Some (without_minus has.0) = sym (one_text-rows f name ∙ ap (one_of name) rows) ∙ has.1 in
+    let given : given_for name rows ≡ Some (without_minus has.0) = sym (one_text-rows f name ∙ ap (one_of name) are) ∙ has.1 in
     go o read (signed_reads E G k least most has.0 o read only fits has.2) given
   where
     go : (o : Option ℕ) → ReadsOne G (without_minus has.0) o → (n : ℕ) × (o ≡ Some n) × (least ≤ n) × (n ≤ most)
-        → given_for name (found_in words) ≡ Some (without_minus has.0) → IsGiven name least most (found_in words) (unwrap_or o d)
+        → given_for name rows ≡ Some (without_minus has.0) → IsGiven name least most rows (unwrap_or o d)
     go (Some v) read n given =
         let parsed = only (without_minus has.0) (Ok v) read in
         let same : v ≡ n.0 = ap (λ (x : Option ℕ). unwrap_or x 0) n.1 in
         (without_minus has.0, given, parsed.0.0, parsed.1, omega (arith, same, n.2), omega (arith, same, n.3))
     go None read n given = cc
+
+-- the number of an option without a default: none, if none is found, else the one that is found
+pub number_if_any_is : (E : Type 0) (G : List ℕ → Result ℕ E → Type 0) (k least most : ℕ) (f : Found) (name : Text) (o : Option ℕ)
+    → ((t : List ℕ) (x : Result ℕ E) → G t x → ParsesUnsigned k 10 t x) → most < 2 ^ k
+    → (one_text f name ≡ None → o ≡ None) → ((t : List ℕ) → one_text f name ≡ Some t → ReadsOne G t o) → MayHaveNumber f name least most
+    → ((n : ℕ) × (o ≡ Some n) × IsGiven name least most (rows_of f) n) ⊎ ((o ≡ None) × (given_for name (rows_of f) ≡ None))
+number_if_any_is E G k least most f name o only fits none got has = go (one_text f name) refl
+  where
+    same : given_for name (rows_of f) ≡ one_text f name
+    same = sym (one_text-rows f name)
+
+    go : (t : Option Text) → one_text f name ≡ t
+        → ((n : ℕ) × (o ≡ Some n) × IsGiven name least most (rows_of f) n) ⊎ ((o ≡ None) × (given_for name (rows_of f) ≡ None))
+    go None e = inr (none e, same ∙ e)
+    go (Some text) e =
+        let value = has text e in
+        let there : one_text f name ≡ Some (without_minus value.0) = e ∙ ap Some value.1 in
+        let read = signed_reads E G k least most value.0 o (got (without_minus value.0) there) only fits value.2 in
+        let is = number_is E G k least most read.0 f name (rows_of f) o only fits got (value.0, there, value.2) refl in
+        inl (read.0, read.1, subst (λ (n : ℕ). IsGiven name least most (rows_of f) n) (ap (λ (x : Option ℕ). unwrap_or x read.0) read.1) is)
 
 -- what holds of either end, end by end
 pub parted : {T E : Type 0} (r : Result T E) (P : T → Type 0) (Q : E → Type 0) → MatchResult r P Q → IfOk r P × IfErr r Q

@@ -1,4 +1,4 @@
--- After a parse that succeeds, an option with a default has a value that its parser takes.
+-- After a parse that succeeds, an option with a default has a value that its parser takes, and one without has such a value if it has any.
 use Rattle.std.proofs.Common.{◌≡◌, ◌∙◌, ◌<◌, ◌≤◌, ℕ, zero, suc, Bool, true, false, List, [], ◌∷◌, Bor, Option, Some, None, length, is_some, option_map, slice_get, slice_index_or, refl, sym, ap, subst, inl, inr, arith}
 use Rattle.std.proofs.{lemmas.Slice.Eq.bytes_eq-Decides, lemmas.List.Elements.All-get_or}
 use Rattle.std.specs.{Prelude.find, List.All, Str.bytes_eq}
@@ -9,13 +9,12 @@ use Rattle.clap.specs.{declared.builder.command.Command.TheViews.out-Command, de
 use Rattle.clap.specs.{declared.parser.matches.ArgMatches.ArgMatches, declared.parser.matches.MatchedArg.MatchedArg}
 use Rattle.clap.proofs.CallerLemmas.{default_present, entry_by_id, same_rules_by_id}
 
--- the caller's argument of this number takes one value, by this parser, and has a default
+-- the caller's argument of this number takes one value, by this parser
 pub record IsOption (old : Command) (k : ℕ) (d : Arg) (q : ValueParser) : Type 0 where
   pub globals : (out-Command old).has_globals ≡ false
   pub ungrouped : NamesNoGroup old
   pub groups : groups_of old ≡ []
   pub within : k < length (args_of old)
-  pub default : WantsDefault (slice_index_or (args_of old) k d)
   pub set : (slice_index_or (args_of old) k d).action ≡ Some Set
   pub delimiter : (slice_index_or (args_of old) k d).val_delim ≡ None
   pub least : 1 ≤ least_values (slice_index_or (args_of old) k d)
@@ -114,11 +113,19 @@ module _ (old : Command) (m : ArgMatches) (p : IsParsedFrom old m) (k : ℕ) (d 
             let there : slice_get x.vals.items 0 ≡ Some v.0 = ap (λ (y : MatchedArg). slice_get y.vals.items 0) (sym same) ∙ v.1 in
             (v.0.now, rw (found, there, read) refl, accepts v.0.now v.2)
 
-  -- the option's text, which its parser takes
-  pub option_value : (t : List ℕ) × (one_text (found_of m) (slice_index_or (args_of old) k d).id.now ≡ Some (read_as (reading_of q) t))
+  -- the option's text, if it has any, which its parser takes
+  pub value_if_any : (x : MatchedArg) → matched_of (found_of m) a.id.now ≡ Some x
+      → (t : List ℕ) × (one_text (found_of m) a.id.now ≡ Some (read_as (reading_of q) t)) × Accepts a.ignore_case q t
+  value_if_any x e =
+      let parsed = p.parsed (p.from.globals ∙ o.globals) in
+      let got = entry_by_id (EntryPasses p.built) (found_of m).entries.items a.id.now x parsed.values e in
+      entry_value got.0 ((bytes_eq-Decides _ _).0 got.2) got.3 x e got.1
+
+  -- the option's text, if it has a default
+  pub option_value : WantsDefault (slice_index_or (args_of old) k d) → (t : List ℕ) × (one_text (found_of m) (slice_index_or (args_of old) k d).id.now ≡ Some (read_as (reading_of q) t))
       × Accepts (slice_index_or (args_of old) k d).ignore_case q t
-  option_value =
-      let has = default_present old m p o.globals k d o.within o.default in
+  option_value default =
+      let has = default_present old m p o.globals k d o.within default in
       go (matched_of (found_of m) a.id.now) refl (found_entry (found_of m).entries.items a.id.now has.0 has.1 has.2)
     where
       go : (x : Option MatchedArg) → matched_of (found_of m) a.id.now ≡ x → is_some (matched_of (found_of m) a.id.now) ≡ true
@@ -126,7 +133,4 @@ module _ (old : Command) (m : ArgMatches) (p : IsParsedFrom old m) (k : ℕ) (d 
       go None e some =
           let bad : false ≡ true = rw e at some in
           cc
-      go (Some x) e some =
-          let parsed = p.parsed (p.from.globals ∙ o.globals) in
-          let got = entry_by_id (EntryPasses p.built) (found_of m).entries.items a.id.now x parsed.values e in
-          entry_value got.0 ((bytes_eq-Decides _ _).0 got.2) got.3 x e got.1
+      go (Some x) e some = value_if_any x e

@@ -1,18 +1,22 @@
--- What the program takes: three numbers with defaults, a folder, a flag, and one word or more that name tenants. The words
+-- What the program takes: three numbers with defaults, a folder, a flag, a number without a default, and one word or more that name tenants. The words
 -- of clap say what a parse of a command line makes of such rules (`Rattle.clap.specs.Words`).
 use Rattle.std.specs.Prelude.{ℕ, List, [], ◌∷◌, Option, Some, codes, unwrap_or, pos, true}
 use Rattle.clap.specs.{Lexer.usize_max, Words.{App, Kinds, Row, Rule, Text, all_of, fault_of, first_of, matches_of, new_app, new_rule, one_of, with_rule}}
 use Rattle.clap.specs.{declared.builder.ArgAction.TheVariants.{Append, Set, SetTrue}, declared.builder.value_parser.ValueParser.TheVariants.Signed}
 
--- an option `--NAME N`, with a number from `least` to `most`, and with its default
-abbrev pub number_rule : Text → ℕ → ℕ → Text → Rule
-number_rule name least most value = record (new_rule name) {
+-- an option `--NAME N`, with a number from `least` to `most`, and with these defaults
+abbrev pub number_rule_with : List Text → Text → ℕ → ℕ → Rule
+number_rule_with values name least most = record (new_rule name) {
   long = Some name;
   value_names = 1;
   action = Some Set;
   parser = Some (Signed (pos least) (pos most));
-  defaults = value ∷ [];
+  defaults = values;
 }
+
+-- one with its default
+abbrev pub number_rule : Text → ℕ → ℕ → Text → Rule
+number_rule name least most value = number_rule_with (value ∷ []) name least most
 
 -- `--port`, 7411 if it isn't given
 abbrev pub port_rule : Rule
@@ -34,6 +38,10 @@ store_rule = record (new_rule (codes "store")) { long = Some (codes "store"); va
 abbrev pub create_rule : Rule
 create_rule = record (new_rule (codes "create")) { long = Some (codes "create"); action = Some SetTrue }
 
+-- `--checkpoint K`, which may be left out
+abbrev pub checkpoint_rule : Rule
+checkpoint_rule = number_rule_with [] (codes "checkpoint") 0 4294967295
+
 -- all other words, of which there has to be one
 abbrev pub tenants_rule : Rule
 tenants_rule = record (new_rule (codes "tenants")) {
@@ -50,8 +58,8 @@ with_version app = record app { top = record app.top { has_version = true } }
 -- what the program takes
 unfoldable pub server : App
 server =
-    with_rule (with_rule (with_rule (with_rule (with_rule (with_rule (with_version (new_app (codes "mt_server"))) port_rule) workers_rule) sessions_rule)
-    store_rule) create_rule) tenants_rule
+    with_rule (with_rule (with_rule (with_rule (with_rule (with_rule (with_rule (with_version (new_app (codes "mt_server"))) port_rule) workers_rule)
+    sessions_rule) store_rule) create_rule) checkpoint_rule) tenants_rule
 
 -- what clap finds in a command line, rule by rule; its first word is the program's name
 unfoldable pub found_in : List Text → List Row

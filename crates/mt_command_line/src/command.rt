@@ -2,7 +2,7 @@
 
 ghost use Rattle.std.specs.Prelude.{◌≡◌, IfOk, false};
 ghost use Rattle.clap.specs.Words.{app_of, rule_of};
-ghost use Rattle.mt_command_line.specs.CommandLine.{port_rule, workers_rule, sessions_rule, store_rule, create_rule, tenants_rule, server};
+ghost use Rattle.mt_command_line.specs.CommandLine.{port_rule, workers_rule, sessions_rule, store_rule, create_rule, checkpoint_rule, tenants_rule, server};
 
 use clap::{Arg, ArgAction, Command, value_parser};
 use std::alloc::{AllocError, Global};
@@ -75,6 +75,19 @@ fn create_arg<'a>(alloc: Global) -> Arg<'a>
         .help("Makes the logs of the folder anew; what they held is lost")
 }
 
+// `--checkpoint`.
+fn checkpoint_arg<'a>(alloc: Global) -> Arg<'a>
+    ensures rule { rule_of result ≡ checkpoint_rule }
+    ensures local { result.global ≡ false }
+{
+    Arg::new(alloc, "checkpoint")
+        .long("checkpoint")
+        .value_name("K")
+        .action(ArgAction::Set)
+        .value_parser(value_parser!(u32))
+        .help("Writes a checkpoint after each Kth settled answer; 0, or without it: none")
+}
+
 // The words that name tenants.
 fn tenants_arg<'a>(alloc: Global) -> Arg<'a>
     ensures rule { rule_of result ≡ tenants_rule }
@@ -101,5 +114,6 @@ pub(crate) fn command_of<'a>(alloc: Global) -> Result<Command<'a>, AllocError>
         .arg(sessions_arg(alloc))?
         .arg(store_arg(alloc))?
         .arg(create_arg(alloc))?
+        .arg(checkpoint_arg(alloc))?
         .arg(tenants_arg(alloc))
 }

@@ -18,6 +18,8 @@ pub enum OptionsFault {
     Words(WordsError),
     /// `--create` is given without `--store`.
     CreateAlone,
+    /// `--checkpoint` is given without `--store`, and `--create` isn't.
+    CheckpointAlone,
     /// This word isn't `T:Q`, for this reason. So many of the tenants' words stand before it.
     Malformed {
         word: String,
@@ -44,6 +46,7 @@ impl OptionsFault {
         match self {
             OptionsFault::Words(error) => { if error.use_stderr() { 2 } else { 0 } }
             OptionsFault::CreateAlone
+            | OptionsFault::CheckpointAlone
             | OptionsFault::Malformed { .. }
             | OptionsFault::Refused { .. } => 2,
             OptionsFault::Memory => 1,
@@ -94,6 +97,10 @@ impl fmt::Display for OptionsFault {
             OptionsFault::CreateAlone => write!(
                 f,
                 "--create makes the logs of a folder anew, and --store DIR names none"
+            ),
+            OptionsFault::CheckpointAlone => write!(
+                f,
+                "--checkpoint writes checkpoints of a folder's store, and --store DIR names none"
             ),
             OptionsFault::Malformed { word, why, .. } => write!(
                 f,

@@ -1,8 +1,8 @@
 //! Options from the words of a command line.
 
-ghost use Rattle.std.specs.Prelude.{List, ◌≡◌, ◌<◌, Some, IfOk, IfErr, MatchResult, length, map, slice_get};
+ghost use Rattle.std.specs.Prelude.{List, ◌≡◌, ◌<◌, Some, IfOk, IfErr, MatchResult, codes, length, map, slice_get};
 ghost use Rattle.clap.specs.Words.{Text, found_of, rows_of};
-ghost use Rattle.mt_command_line.specs.{CommandLine.tenant_words, Reads.{AreMatches, AsksFor, IsStoreFault, IsTold, Names, NamesStore}};
+ghost use Rattle.mt_command_line.specs.{CommandLine.tenant_words, Reads.{AreMatches, AsksFor, IsStoreFault, IsTold, MayHaveNumber, Names, NamesStore}};
 
 use crate::command::command_of;
 use crate::faults::OptionsFault;
@@ -47,18 +47,21 @@ fn named_by(alloc: Global, words: &[&str]) -> Result<Vec<TenantQuota>, OptionsFa
     }
 }
 
-// The folder that the matches name for a store, and whether it is made anew.
+// The folder that the matches name for a store, whether it is made anew, and how often a checkpoint is written.
 fn store_of(alloc: Global, matches: &ArgMatches<'_>) -> Result<Option<StorePlace>, OptionsFault>
-    ensures ok { IfOk result (NamesStore (rows_of (found_of matches.now))) }
-    ensures err { IfErr result (IsStoreFault (rows_of (found_of matches.now))) }
+    ensures { MayHaveNumber (found_of matches.now) (codes "checkpoint") 0 4294967295
+        → MatchResult result (NamesStore (rows_of (found_of matches.now))) (IsStoreFault (rows_of (found_of matches.now))) }
 {
     let create = matches.get_flag("create");
+    let checkpoint = matches.get_one::<u32>("checkpoint");
     match matches.get_str("store") {
         Some(folder) => Ok(Some(StorePlace {
             folder: String::from_str(alloc, folder)?,
             create,
+            checkpoint: checkpoint.unwrap_or(0),
         })),
         None if create => Err(OptionsFault::CreateAlone),
+        None if checkpoint.is_some() => Err(OptionsFault::CheckpointAlone),
         None => Ok(None),
     }
 }

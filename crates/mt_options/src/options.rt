@@ -7,13 +7,15 @@ use crate::tenants::TenantQuota;
 /// The greatest number of connections that are served at a time.
 pub const MAX_WORKERS: u8 = 64;
 
-/// Where a server keeps its logs.
+/// Where a server keeps its logs, and how often it writes a checkpoint of them.
 #[derive(Drop)]
 pub struct StorePlace {
     /// The folder of the store's files.
     pub folder: String,
     /// Whether these are made anew; else what is there is recovered.
     pub create: bool,
+    /// A checkpoint is written after each so many settled answers of all workers; 0: none is.
+    pub checkpoint: u32,
 }
 
 /// Where a server listens, how much it serves before it ends, what it keeps, and whom it serves.

@@ -13,4 +13,5 @@ returns c =
     let three = c.in_ok-arg-3.ensures.shape c.sessions_arg.ensures.local ∙ ap₂ with_rule two c.sessions_arg.ensures.rule in
     let four = c.in_ok-arg-4.ensures.shape c.store_arg.ensures.local ∙ ap₂ with_rule three c.store_arg.ensures.rule in
     let five = c.in_ok-arg-5.ensures.shape c.create_arg.ensures.local ∙ ap₂ with_rule four c.create_arg.ensures.rule in
-    IfOk-weaker c.arg-6.result _ _ (λ command added. added.shape c.tenants_arg.ensures.local ∙ ap₂ with_rule five c.tenants_arg.ensures.rule) c.arg-6.ensures
+    let six = c.in_ok-arg-6.ensures.shape c.checkpoint_arg.ensures.local ∙ ap₂ with_rule five c.checkpoint_arg.ensures.rule in
+    IfOk-weaker c.arg-7.result _ _ (λ command added. added.shape c.tenants_arg.ensures.local ∙ ap₂ with_rule six c.tenants_arg.ensures.rule) c.arg-7.ensures
