@@ -1,11 +1,12 @@
 //! A store's folder, and its files as disks.
 
-ghost use Rattle.std.specs.Prelude.{◌≡◌, ◌<◌, ◌≤◌, IfOk, IfErr, vec_len};
-ghost use Rattle.mt_store_files.specs.Faults.{IsOfFolder, IsOfFiles, IsOfSlots, IsOfFile};
+ghost use Rattle.std.specs.Prelude.{◌≡◌, ◌<◌, ◌≤◌, IsTrue, IfOk, IfErr, OnOk, vec_len};
+ghost use Rattle.mt_store_files.specs.{declared.names.StoreFile.TheVariants.{Slot as SlotFile}, Faults.{IsOfFolder, IsOfFiles, IsOfSlots, IsOfFile}, Slots.IsMadeIfEmpty};
 
 use crate::fault::{LogCounts, StoreFault};
 use crate::names::{StoreFile, file_path, parent_path};
-use mt_disk::{FileDisk, OsFile};
+use mt_checkpoint::create_slot;
+use mt_disk::{DeviceFailed, Disk, FileDisk, OsFile};
 use mt_rows::Refusal;
 use mt_slots::{Slot, StoreSlots};
 use std::alloc::{AllocError, Global};
@@ -172,7 +173,8 @@ impl StoreFolder {
         }
     }
 
-    /// The files of both slots, as they are found. One that isn't there is made, without a byte.
+    /// The files of both slots, as they are found. One that isn't there, or has no byte, is made a slot without a
+    /// checkpoint. A crash in that may leave anything of it.
     pub fn open_slots<R: Files<File = File>>(
         &self,
         rt: &R,
@@ -181,8 +183,8 @@ impl StoreFolder {
         ensures fault { IfErr result IsOfSlots }
     {
         let folder = self.path.as_str();
-        let first = open_or_make(rt, alloc, folder, StoreFile::Slot(Slot::First))?;
-        let second = open_or_make(rt, alloc, folder, StoreFile::Slot(Slot::Second))?;
+        let first = open_slot(rt, alloc, folder, Slot::First)?;
+        let second = open_slot(rt, alloc, folder, Slot::Second)?;
         match self.lock.sync_all() {
             Ok(()) => Ok(StoreSlots::found(first, second)),
             Err(error) => Err(StoreFault::System(None, error)),
@@ -242,6 +244,35 @@ fn open_or_make<R: Files<File = File>>(
     match for_files().create(true).open(rt, path.as_str()) {
         Ok(file) => found(alloc, name, file),
         Err(error) => Err(StoreFault::System(Some(name), error)),
+    }
+}
+
+// The file of a slot, which is made a slot if it isn't there, or has no byte.
+fn open_slot<R: Files<File = File>>(
+    rt: &R,
+    alloc: Global,
+    folder: &str,
+    slot: Slot,
+) -> Result<FileDisk, StoreFault>
+    ensures fault { IfErr result (IsOfFile (SlotFile slot)) }
+{
+    let name = StoreFile::Slot(slot);
+    let mut disk = open_or_make(rt, alloc, folder, name)?;
+    match make_if_empty(&mut disk) {
+        Ok(()) => Ok(disk),
+        Err(_) => Err(StoreFault::Refused(Some(name), Refusal::Device)),
+    }
+}
+
+// Makes a slot, without a checkpoint, of a disk that has no byte.
+fn make_if_empty<D: Disk>(disk: &mut D) -> Result<(), DeviceFailed>
+    ensures made { IsTrue (D.is_honest disk.old) → OnOk result (IsMadeIfEmpty (D.state disk.old) (D.state disk.new)) }
+    ensures honest { D.is_honest disk.new ≡ D.is_honest disk.old }
+{
+    if disk.len()? == 0 {
+        create_slot(disk)
+    } else {
+        Ok(())
     }
 }
 
