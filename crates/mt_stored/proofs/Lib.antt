@@ -1,3 +1,5 @@
+pub mod PageKeys
 pub mod Rounds
 pub mod Slices
 pub mod StoreTurns
+pub mod Written

@@ -1,12 +1,14 @@
 //! A state and the logs of its workers: how a store is made and recovered, how its logs are brought up to
-//! date, and when.
+//! date and its checkpoints written, and when.
 //!
 //! A `Store` is owned alone; `SharedLogs` are the same behind locks, one for each log and one for the
 //! book. Both are `Logs` of `mt_settle`. A `Keeper` is what a worker keeps its answers in. A `LogChange` is what
-//! is warned of.
+//! is warned of. `write_checkpoint` writes a checkpoint while the book is in use; `Checks` tell when one is due.
 #![tactic(auto)]
 
 pub mod changes;
+pub mod checkpoints;
+pub mod checks;
 pub mod keeping;
 pub mod laws;
 pub mod shared;
@@ -14,6 +16,8 @@ pub mod source;
 pub mod stores;
 
 pub use changes::{LogChange, change_of};
+pub use checkpoints::write_checkpoint;
+pub use checks::Checks;
 pub use keeping::{FLUSH_ANSWERS, Keeper};
 pub use shared::{SharedLogs, locked_logs, unlocked_logs};
 pub use source::SharedBook;
