@@ -1,3 +1,4 @@
 pub mod AccountLemmas
 pub mod LineLemmas
 pub mod Pushes
+pub mod TenantNumbers

@@ -1,15 +1,17 @@
 -- What a caller over a desk may answer to a session.
-use Rattle.std.specs.Prelude.{◌≡◌, ℕ, ◌+◌, ◌<◌, List, Option, Some, None, Result, Ok, Err, IfOk}
+use Rattle.std.specs.Prelude.{◌≡◌, ◌⊎◌, ℕ, ◌+◌, ◌<◌, Bool, List, Option, Some, None, Result, Ok, Err, IfOk}
 use Rattle.mt_rows.specs.{declared.command.Command.Command, declared.reply.Reply.Reply, declared.refusal.Refusal.Refusal}
 use Rattle.mt_rows.specs.declared.refusal.Refusal.TheVariants.{NoTenant, NotOpen}
 use Rattle.mt_runs.specs.declared.event.Answer.{Answer}
 use Rattle.mt_options.specs.{declared.tenants.TenantQuota.TenantQuota, Tenants.IsListed}
 use Rattle.mt_book.specs.{declared.calls.CallFault.CallFault, Periods.Period, Calls.{Calls, asked_by, answers_of}}
 use Rattle.mt_settle.specs.{Turns.Turn, Settles.Settles}
-use Rattle.mt_stored.specs.Keeping.{Kept, Counts}
+use Rattle.mt_disk.specs.Disk.{DiskState}
+use Rattle.mt_slots.specs.declared.store_slots.StoreSlots.{StoreSlots}
+use Rattle.mt_stored.specs.{Keeping.{Kept, Counts}, Checkpoints.{Scanner, scanner, seen_after, WritesCheckpoint, GivesUp}}
 use Rattle.mt_session.specs.{declared.caller.CallerFault.CallerFault, declared.caller.CallerFault.TheVariants.Refused}
 use Rattle.mt_session.specs.Exchanges.{Exchange, Opens, Calls as CallsFor, Settles as SettlesFor}
-use Rattle.mt_service.specs.Telling.{told_of, seen_after}
+use Rattle.mt_service.specs.{Telling.told_of, Accounts.AreRising}
 
 -- a caller between two exchanges: its desk, its pass with the last step that it knows of and the answers that it counts, the tenants that are
 -- served, the one that is opened, and what its answers are kept in
@@ -56,13 +58,38 @@ abbrev pub AsksOpened : {S K : Type 0} → (S → Period → S → Type 0) → (
 AsksOpened does keeps logs old (Some tenant) command told new = AsksCall does keeps logs old new tenant command told
 AsksOpened does keeps logs old None command told new = (told ≡ Err (Refused NotOpen)) × (new ≡ old)
 
--- a Settle is told what a Settle of all logs tells, and changes these alone; where there are no logs it is refused
-pub record AsksSettle {S K : Type 0} (keeps : K → Turn → K → Type 0) (logs : K → ℕ) (old : Asker S K) (told : Result ℕ Refusal) (new : Asker S K) : Type 0 where
-  pub settles : Settles keeps (logs old.kept.logs) old.kept.logs new.kept.logs told
-  pub same : new ≡ record old { kept = record old.kept { logs = new.kept.logs } }
+-- the caller's desk and its pass, by which a checkpoint is written
+abbrev pub scanner_of : {S K : Type 0} → Asker S K → Scanner S
+scanner_of asked = scanner asked.desk asked.seen asked.counted
 
--- what the caller answers
-abbrev pub AsksDesk : {S K : Type 0} → (S → Period → S → Type 0) → (K → Turn → K → Type 0) → (K → ℕ) → Asker S K → Exchange → Asker S K → Type 0
-AsksDesk does keeps logs old (Opens tenant refusal) new = OpensTenant old tenant refusal new
-AsksDesk does keeps logs old (CallsFor command told) new = AsksOpened does keeps logs old old.opened command told new
-AsksDesk does keeps logs old (SettlesFor told) new = AsksSettle keeps logs old told new
+module _ {S K D : Type 0} (does : S → Period → S → Type 0) (is_honest : D → Bool) (state : D → DiskState) (failures : D → ℕ) where
+  -- a checkpoint of all tenants was written in some slots, or given up, by scans of the caller's own pass; else nothing has changed
+  pub record Checkpoints (old new : Asker S K) : Type 0 where
+    pub numbers : List ℕ
+    pub rising : AreRising old.tenants numbers
+    pub slots : StoreSlots D
+    pub left : StoreSlots D
+    pub came : WritesCheckpoint does old.worker is_honest state failures (scanner_of old) numbers slots (scanner_of new) left
+        ⊎ ((refusal : Refusal) × GivesUp does old.worker is_honest state failures (scanner_of old) numbers slots refusal (scanner_of new) left)
+    pub same : new ≡ record old { desk = new.desk; seen = new.seen; counted = new.counted }
+
+  -- nothing was done, or a checkpoint was written or given up
+  abbrev pub MayWrite : Asker S K → Asker S K → Type 0
+  MayWrite old new = (new ≡ old) ⊎ Checkpoints old new
+
+  -- what comes after a Settle: a checkpoint may be written if a number is told, and nothing if it is refused
+  abbrev pub Follows : Result ℕ Refusal → Asker S K → Asker S K → Type 0
+  Follows (Ok number) old new = MayWrite old new
+  Follows (Err refusal) old new = new ≡ old
+
+  -- A Settle is told what a Settle of all logs tells, and changes these alone; where there are no logs it is refused. A checkpoint may follow it.
+  pub record AsksSettle (keeps : K → Turn → K → Type 0) (logs : K → ℕ) (old : Asker S K) (told : Result ℕ Refusal) (new : Asker S K) : Type 0 where
+    pub left : K
+    pub settles : Settles keeps (logs old.kept.logs) old.kept.logs left told
+    pub after : Follows told (record old { kept = record old.kept { logs = left } }) new
+
+  -- what the caller answers
+  abbrev pub AsksDesk : (K → Turn → K → Type 0) → (K → ℕ) → Asker S K → Exchange → Asker S K → Type 0
+  AsksDesk keeps logs old (Opens tenant refusal) new = OpensTenant old tenant refusal new
+  AsksDesk keeps logs old (CallsFor command told) new = AsksOpened does keeps logs old old.opened command told new
+  AsksDesk keeps logs old (SettlesFor told) new = AsksSettle keeps logs old told new

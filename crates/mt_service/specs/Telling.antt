@@ -1,5 +1,5 @@
 -- What a session is told of a call's result.
-use Rattle.std.specs.Prelude.{ℕ, max, Result, Ok, Err}
+use Rattle.std.specs.Prelude.{Result, Ok, Err}
 use Rattle.mt_rows.specs.{declared.reply.Reply.Reply, declared.refusal.Refusal.TheVariants.Spent}
 use Rattle.mt_runs.specs.declared.event.Answer.{Answer}
 use Rattle.mt_book.specs.declared.calls.CallFault.{CallFault}
@@ -12,8 +12,3 @@ abbrev pub told_of : Result Answer CallFault → Result Reply CallerFault
 told_of (Ok answer) = Ok answer.reply
 told_of (Err (faults.Refused refusal)) = Err (callers.Refused refusal)
 told_of (Err (faults.Spent ticket)) = Err (callers.Refused Spent)
-
--- the last step that a pass knows of after the call
-abbrev pub seen_after : ℕ → Result Answer CallFault → ℕ
-seen_after seen (Ok answer) = max seen answer.last
-seen_after seen (Err fault) = seen

@@ -1,5 +1,6 @@
--- Which worker is which.
-use Rattle.std.specs.Prelude.{◌≡◌, ℕ, zero, suc, List, Some, slice_get}
+-- Which worker is which, and after how many settled answers of theirs a checkpoint is written.
+use Rattle.std.specs.Prelude.{◌≡◌, ℕ, zero, suc, List, Option, Some, None, slice_get}
+use Rattle.mt_options.specs.declared.options.StorePlace.{StorePlace}
 
 -- the number of the worker at a place: the place, where so many logs are kept, else 0
 abbrev pub number_of : ℕ → ℕ → ℕ
@@ -14,3 +15,8 @@ pub record AreOfWorker (logs place pass keeper : ℕ) : Type 0 where
 -- P of each element of a list, with its place
 abbrev pub EachAt : {X : Type 0} → List X → (ℕ → X → Type 0) → Type 0
 EachAt {X} xs P = (place : ℕ) (x : X) → slice_get xs place ≡ Some x → P place x
+
+-- as many as the store's place says, and none without a store
+abbrev pub every_of : Option StorePlace → ℕ
+every_of (Some place) = place.checkpoint
+every_of None = 0

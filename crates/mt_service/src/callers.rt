@@ -1,52 +1,70 @@
-//! Who answers a session's commands: a pass of a book, over any desk, and over any logs.
+//! Who answers a session's commands: a pass of a book, over any desk, and over any logs. It writes the checkpoints that
+//! are due.
 
 ghost use Rattle.std.specs.Prelude.{◌≡◌, None};
 ghost use Rattle.mt_service.specs.Telling.{told_of};
 
-use log::Log;
+use crate::accounts::rising_tenants;
+use log::{Log, warn};
 use mt_book::{CallFault, Desk, NoGate, Pass, call};
+use mt_disk::Disk;
 use mt_options::{TenantQuota, is_listed};
 use mt_rows::{Command, Refusal, Reply};
 use mt_runs::Answer;
 use mt_session::{Caller, CallerFault};
 use mt_settle::Logs;
-use mt_stored::Keeper;
+use mt_slots::StoreSlots;
+use mt_stored::{Checks, Keeper, write_checkpoint};
 use std::alloc::Global;
-use std::sync::Wait;
 use std::sync::ledger::Ledger;
+use std::sync::{Mutex, Wait};
 
 /// A caller that asks a desk through a pass, for the tenant that its session opened, and keeps what it
-/// answers in logs, if there are some.
+/// answers in logs, if there are some. After an answer is settled it writes a checkpoint if one is due.
 #[derive(Drop)]
-pub struct DeskCaller<'a, L: Ledger, R: Wait, D: Desk<L> + Drop, S: Logs + Drop> {
+pub struct DeskCaller<'a, L: Ledger, R: Wait, D: Desk<L> + Drop, S: Logs + Drop, K: Disk + Drop> {
     rt: &'a R,
+    alloc: Global,
     desk: D,
     pass: Pass<L>,
     keeper: Keeper<S>,
+    checks: &'a Mutex<Checks<K>>,
     tenants: &'a [TenantQuota],
     opened: Option<u32>,
 }
 
-impl<'a, L: Ledger, R: Wait, D: Desk<L> + Drop, S: Logs + Drop> DeskCaller<'a, L, R, D, S> {
+impl<'a, L: Ledger, R: Wait, D: Desk<L> + Drop, S: Logs + Drop, K: Disk + Drop> DeskCaller<
+    'a,
+    L,
+    R,
+    D,
+    S,
+    K,
+> {
     /// A caller with this pass, of which no tenant is opened.
     pub fn new(
         rt: &'a R,
+        alloc: Global,
         desk: D,
         pass: Pass<L>,
         keeper: Keeper<S>,
+        checks: &'a Mutex<Checks<K>>,
         tenants: &'a [TenantQuota],
     ) -> Self
         ensures desk { result.desk ≡ desk }
         ensures pass { result.pass ≡ pass }
         ensures keeper { result.keeper ≡ keeper }
+        ensures checks { result.checks.now ≡ checks.now }
         ensures tenants { result.tenants.now ≡ tenants.now }
         ensures opened { result.opened ≡ None }
     {
         DeskCaller {
             rt,
+            alloc,
             desk,
             pass,
             keeper,
+            checks,
             tenants,
             opened: None,
         }
@@ -60,12 +78,66 @@ impl<'a, L: Ledger, R: Wait, D: Desk<L> + Drop, S: Logs + Drop> DeskCaller<'a, L
     }
 }
 
-impl<L: Ledger, R: Wait + Log, D: Desk<L> + Drop, S: Logs + Drop> Caller
-    for DeskCaller<'_, L, R, D, S> {
+impl<L: Ledger, R: Wait + Log, D: Desk<L> + Drop, S: Logs + Drop, K: Disk + Drop> DeskCaller<
+    '_,
+    L,
+    R,
+    D,
+    S,
+    K,
+> {
+    ghost use Rattle.mt_service.specs.Asking.{MayWrite, asker};
+    ghost use Rattle.mt_stored.specs.Keeping.{keeping};
+
+    // Writes a checkpoint if it is due after one settled answer more. Others settle meanwhile. It warns of a
+    // checkpoint that is given up.
+    fn checkpoint_if_due(&mut self)
+        ensures { MayWrite D.does K.is_honest K.state K.failures (asker self.old.desk self.old.pass.worker self.old.pass.seen self.old.pass.share.amount self.old.tenants.now self.old.opened (keeping self.old.keeper.logs self.old.keeper.worker self.old.keeper.since.answers self.old.keeper.next))
+            (asker self.new.desk self.new.pass.worker self.new.pass.seen self.new.pass.share.amount self.new.tenants.now self.new.opened (keeping self.new.keeper.logs self.new.keeper.worker self.new.keeper.since.answers self.new.keeper.next)) }
+    {
+        // The lock is free again when the walk begins.
+        let due = self.checks.lock(self.rt).count_settled();
+        let Some(slots) = due else {
+            return;
+        };
+        let slots = match self.checkpoint(slots) {
+            Ok(slots) => slots,
+            Err((refusal, slots)) => {
+                warn!(self.rt; "a checkpoint was given up: {refusal}");
+                slots
+            }
+        };
+        self.checks.lock(self.rt).put_back(slots);
+    }
+
+    // Writes a checkpoint of all tenants. The slots come back in each case.
+    fn checkpoint(
+        &mut self,
+        slots: StoreSlots<K>,
+    ) -> Result<StoreSlots<K>, (Refusal, StoreSlots<K>)>
+        ensures { MayWrite D.does K.is_honest K.state K.failures (asker self.old.desk self.old.pass.worker self.old.pass.seen self.old.pass.share.amount self.old.tenants.now self.old.opened (keeping self.old.keeper.logs self.old.keeper.worker self.old.keeper.since.answers self.old.keeper.next))
+            (asker self.new.desk self.new.pass.worker self.new.pass.seen self.new.pass.share.amount self.new.tenants.now self.new.opened (keeping self.new.keeper.logs self.new.keeper.worker self.new.keeper.since.answers self.new.keeper.next)) }
+    {
+        match rising_tenants(self.alloc, self.tenants) {
+            Ok(tenants) => write_checkpoint(
+                self.rt,
+                self.alloc,
+                &mut self.desk,
+                &mut self.pass,
+                tenants,
+                slots,
+            ),
+            Err(_) => Err((Refusal::Memory, slots)),
+        }
+    }
+}
+
+impl<L: Ledger, R: Wait + Log, D: Desk<L> + Drop, S: Logs + Drop, K: Disk + Drop> Caller
+    for DeskCaller<'_, L, R, D, S, K> {
     ghost use Rattle.mt_service.specs.Asking.{AsksDesk, asker};
     ghost use Rattle.mt_stored.specs.Keeping.{keeping};
 
-    ghost exchanges = { λ old e new. AsksDesk D.does S.does S.logs (asker old.desk old.pass.worker old.pass.seen old.pass.share.amount old.tenants.now old.opened (keeping old.keeper.logs old.keeper.worker old.keeper.since.answers old.keeper.next)) e
+    ghost exchanges = { λ old e new. AsksDesk D.does K.is_honest K.state K.failures S.does S.logs (asker old.desk old.pass.worker old.pass.seen old.pass.share.amount old.tenants.now old.opened (keeping old.keeper.logs old.keeper.worker old.keeper.since.answers old.keeper.next)) e
         (asker new.desk new.pass.worker new.pass.seen new.pass.share.amount new.tenants.now new.opened (keeping new.keeper.logs new.keeper.worker new.keeper.since.answers new.keeper.next)) };
 
     fn open(&mut self, tenant: u32) -> Result<(), Refusal> {
@@ -96,7 +168,9 @@ impl<L: Ledger, R: Wait + Log, D: Desk<L> + Drop, S: Logs + Drop> Caller
     }
 
     fn settle(&mut self) -> Result<u64, Refusal> {
-        self.keeper.settle(self.rt)
+        let settled = self.keeper.settle(self.rt)?;
+        self.checkpoint_if_due();
+        Ok(settled)
     }
 }
 

@@ -5,7 +5,7 @@ ghost use Rattle.mt_book.specs.declared.passes.Pass.{Pass};
 ghost use Rattle.mt_crew.specs.declared.crew.Served.{Served};
 ghost use Rattle.mt_streams.specs.Failures.{Failed, NoFewer};
 ghost use Rattle.mt_service.specs.{declared.workers.SessionWorker.SessionWorker, Faults.{IsOfWriting, IsOfServing, HasCause}};
-ghost use Rattle.mt_service.specs.{Workers.{number_of, AreOfWorker, EachAt}, Lines.{first_line, last_line, Begins, SaysAll, SaysPart}};
+ghost use Rattle.mt_service.specs.{Workers.{every_of, number_of, AreOfWorker, EachAt}, Lines.{first_line, last_line, Begins, SaysAll, SaysPart}};
 ghost use Rattle.mt_stored.specs.Stores.{IsSettled};
 
 use crate::callers::DeskCaller;
@@ -18,7 +18,7 @@ use mt_disk::Disk;
 use mt_options::{Options, TenantQuota};
 use mt_slots::StoreSlots;
 use mt_store_logs::StoreLog;
-use mt_stored::{Keeper, SharedLogs, Store, locked_logs, unlocked_logs};
+use mt_stored::{Checks, Keeper, SharedLogs, Store, locked_logs, unlocked_logs};
 use mt_streams::{Sink, write_whole};
 use std::alloc::{AllocError, Global};
 use std::marker::{Send, Sync};
@@ -103,10 +103,22 @@ fn serve_store<
 {
     let (state, logs, slots) = store.into_parts();
     let logs = locked_logs(alloc, logs)?;
+    let checks = Mutex::new(Checks::new(checkpoint_every(options), slots));
     let book = Mutex::new(Book::<L>::new(blank, state));
-    let served = serve_all(rt, alloc, &book, &logs, listener, options);
+    let served = serve_all(rt, alloc, &book, &logs, &checks, listener, options);
+    let slots = checks.into_inner().into_slots();
     let store = settled(rt, alloc, book, logs, slots)?;
     Ok((served?, store))
+}
+
+// After so many settled answers a checkpoint is written; 0: none is.
+fn checkpoint_every(options: &Options) -> u32
+    ensures { result ≡ every_of options.now.store }
+{
+    match &options.store {
+        Some(place) => place.checkpoint,
+        None => 0,
+    }
 }
 
 // The store, of which nobody holds a lock any more, settled for the last time.
@@ -184,13 +196,14 @@ fn serve_all<
     alloc: Global,
     book: &Mutex<Book<L>>,
     logs: &[Mutex<StoreLog<D>>],
+    checks: &Mutex<Checks<D>>,
     listener: &TcpListener,
     options: &Options,
 ) -> Result<Totals, ServerFault>
     requires { L.parts ≡ 65536 }
     ensures { IfErr result IsOfServing }
 {
-    let workers = workers_of(rt, alloc, book, logs, options)?;
+    let workers = workers_of(rt, alloc, book, logs, checks, options)?;
     match run_crew(rt, alloc, listener, options.sessions, workers) {
         Ok(
             Crew {
@@ -216,11 +229,13 @@ fn worker_at<'a, L: Ledger, R: Wait + Clock, D: Disk + Drop>(
     alloc: Global,
     book: &'a Mutex<Book<L>>,
     logs: &'a [Mutex<StoreLog<D>>],
+    checks: &'a Mutex<Checks<D>>,
     tenants: &'a [TenantQuota],
     place: u8,
 ) -> Result<SessionWorker<'a, L, R, D>, ServerFault>
     ensures own { IfOk result (λ one. AreOfWorker (length logs.now) place one.caller.pass.worker one.caller.keeper.worker) }
     ensures logs { IfOk result (λ one. one.caller.keeper.logs.logs.now ≡ logs.now) }
+    ensures checks { IfOk result (λ one. one.caller.checks.now ≡ checks.now) }
     ensures fault { IfErr result IsOfServing }
 {
     let number = number_at(logs.len(), place);
@@ -228,7 +243,7 @@ fn worker_at<'a, L: Ledger, R: Wait + Clock, D: Disk + Drop>(
         return Err(ServerFault::Passes);
     };
     let keeper = Keeper::new(alloc, SharedLogs::new(book, logs), number);
-    let caller = DeskCaller::new(rt, book, pass, keeper, tenants);
+    let caller = DeskCaller::new(rt, alloc, book, pass, keeper, checks, tenants);
     Ok(SessionWorker { rt, caller })
 }
 
@@ -239,6 +254,7 @@ fn workers_of<'a, L: Ledger, R: Wait + Clock, D: Disk + Drop>(
     alloc: Global,
     book: &'a Mutex<Book<L>>,
     logs: &'a [Mutex<StoreLog<D>>],
+    checks: &'a Mutex<Checks<D>>,
     options: &'a Options,
 ) -> Result<Vec<SessionWorker<'a, L, R, D>>, ServerFault>
     ensures workers { IfOk result (λ workers. vec_len workers ≡ options.now.workers) }
@@ -247,7 +263,15 @@ fn workers_of<'a, L: Ledger, R: Wait + Clock, D: Disk + Drop>(
 {
     let mut workers = Vec::new(alloc);
     for place in 0..options.workers {
-        workers.push(worker_at(rt, alloc, book, logs, options.tenants.as_slice(), place)?)?;
+        workers.push(worker_at(
+            rt,
+            alloc,
+            book,
+            logs,
+            checks,
+            options.tenants.as_slice(),
+            place,
+        )?)?;
     }
     Ok(workers)
 }

@@ -19,7 +19,7 @@ use std::time::Clock;
 #[derive(Drop)]
 pub struct SessionWorker<'a, L: Ledger, R: Wait + Clock, D: Disk + Drop> {
     pub rt: &'a R,
-    pub caller: DeskCaller<'a, L, R, &'a Mutex<Book<L>>, SharedLogs<'a, L, D>>,
+    pub caller: DeskCaller<'a, L, R, &'a Mutex<Book<L>>, SharedLogs<'a, L, D>, D>,
 }
 
 impl<L: Ledger, R: Wait + Clock + Log, D: Disk + Drop> Worker for SessionWorker<'_, L, R, D> {
