@@ -11,12 +11,12 @@ use mt_disk::MemDisk;
 use mt_options::TenantQuota;
 use mt_service::DeskCaller;
 use mt_session::{Ended, serve};
-use mt_stored::{Keeper, Store};
+use mt_stored::{Checks, Keeper, Store};
 use std::alloc::{AllocError, Global};
 use std::marker::Brand;
 use std::process::Abort;
-use std::sync::Wait;
 use std::sync::ledger::{Blank, Ledger};
+use std::sync::{Mutex, Wait};
 use std::test::Fail;
 
 // Tenant 7, which may have 100 pairs, in a store without logs.
@@ -55,7 +55,8 @@ fn serve_alone<L: Ledger, R: Wait + Log + Abort>(
         tenant: 7,
         quota: 100,
     }];
-    let mut caller = DeskCaller::new(rt, book, pass, keeper, &tenants);
+    let checks = Mutex::new(Checks::<MemDisk>::new(0, None));
+    let mut caller = DeskCaller::new(rt, alloc, book, pass, keeper, &checks, &tenants);
     let mut reader = requests;
     let mut written = Vec::new(alloc);
     let ended = serve(alloc, &mut reader, &mut written, &mut caller);

@@ -96,6 +96,15 @@ pub(crate) fn is_told_behind(
     Ok(&room[..wanted] == reply)
 }
 
+/// Whether a Settle is answered with a number.
+pub(crate) fn is_settled(stream: &TcpStream) -> io::Result<bool> {
+    let mut client = stream;
+    client.write_all(SETTLE)?;
+    let mut room = [0u8; 13];
+    client.read_exact(&mut room)?;
+    Ok(room.starts_with(b"\x00\x00\x00\x09\x07"))
+}
+
 /// Whether nothing more comes, and the server has ended the connection.
 pub(crate) fn is_at_end(stream: &TcpStream) -> io::Result<bool> {
     let mut client = stream;

@@ -2,7 +2,7 @@
 
 ghost use Rattle.std.specs.Prelude.{◌≡◌};
 
-use crate::stores::{LOG, RESUME, Scene, serve_scene};
+use crate::stores::{LOG, ONE_SESSION, RESUME, Scene, serve_scene};
 use crate::words::options_of;
 use log::Log;
 use mt_service::{OpenStore, open_store};
@@ -122,7 +122,7 @@ fn stores_are_opened_and_refused(rt: HostRuntime) -> Result<(), Fail> {
 }
 
 // The store that a line names.
-fn opened<R: Files<File = File> + Clock + Log + Abort>(
+pub(crate) fn opened<R: Files<File = File> + Clock + Log + Abort>(
     rt: &R,
     alloc: Global,
     line: &str,
@@ -136,21 +136,39 @@ fn opened<R: Files<File = File> + Clock + Log + Abort>(
 }
 
 // A settled put is in the file, in the bytes of the format. At the next start its log has grown by the batch
-// with which a recovery ends before anybody is served, and then the put is found.
+// with which a recovery ends before anybody is served, and then the put is found. No checkpoint is written unasked; a
+// slot whose file is missing is made at the start.
 #[test]
 fn a_store_comes_back_from_its_files(rt: HostRuntime) {
     let alloc = rt.alloc();
     let _ = fs::remove_dir_all(&rt, "mt_server_tests_files");
     let new = "mt_server --workers 1 --store mt_server_tests_files --create 7:100";
     let OpenStore { store, folder } = opened(&rt, alloc, new);
-    let left = serve_scene::<Brand, _, _>(&rt, alloc, Blank::new(65_536), store, Scene::Settles);
+    let options = options_of(&rt, alloc, ONE_SESSION);
+    let blank = Blank::new(65_536);
+    let left = serve_scene::<Brand, _, _>(&rt, alloc, blank, store, options, Scene::Settles);
     drop(left);
     drop(folder);
     expect_log(&rt, &[LOG]);
+    for slot in [
+        "mt_server_tests_files/check-0",
+        "mt_server_tests_files/check-1",
+    ] {
+        expect_file(&rt, slot, &[b"\x00"]);
+        assert!(rt; fs::remove_file(&rt, slot).is_ok());
+    }
     let again = "mt_server --workers 1 --store mt_server_tests_files 7:100";
     let OpenStore { store, folder } = opened(&rt, alloc, again);
     expect_log(&rt, &[&LOG[..54], RESUME]);
-    let left = serve_scene::<Brand, _, _>(&rt, alloc, Blank::new(65_536), store, Scene::Reads);
+    for slot in [
+        "mt_server_tests_files/check-0",
+        "mt_server_tests_files/check-1",
+    ] {
+        expect_file(&rt, slot, &[b"\x00"]);
+    }
+    let options = options_of(&rt, alloc, ONE_SESSION);
+    let blank = Blank::new(65_536);
+    let left = serve_scene::<Brand, _, _>(&rt, alloc, blank, store, options, Scene::Reads);
     drop(left);
     drop(folder);
     let _ = fs::remove_dir_all(&rt, "mt_server_tests_files");
@@ -158,11 +176,20 @@ fn a_store_comes_back_from_its_files(rt: HostRuntime) {
 
 // The only log has these bytes.
 fn expect_log<R: Files<File = File> + Alloc + Abort>(rt: &R, parts: &[&[u8]]) {
-    let bytes = fs::read(rt, "mt_server_tests_files/wal-00").expect(rt, "a file");
+    expect_file(rt, "mt_server_tests_files/wal-00", parts);
+}
+
+// A file has these bytes.
+pub(crate) fn expect_file<R: Files<File = File> + Alloc + Abort>(
+    rt: &R,
+    path: &str,
+    parts: &[&[u8]],
+) {
+    let bytes = fs::read(rt, path).expect(rt, "a file");
     let mut rest = bytes.as_slice();
     for part in parts {
-        assert!(rt; rest.starts_with(part));
+        assert!(rt; rest.starts_with(part), "{path}");
         rest = &rest[part.len()..];
     }
-    assert!(rt; rest.is_empty());
+    assert!(rt; rest.is_empty(), "{path}");
 }

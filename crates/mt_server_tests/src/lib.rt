@@ -7,6 +7,8 @@
 #[cfg(test)]
 mod callers;
 #[cfg(test)]
+mod checkpoints;
+#[cfg(test)]
 mod clients;
 #[cfg(test)]
 mod faults;

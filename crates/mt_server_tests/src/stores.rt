@@ -4,7 +4,7 @@ ghost use Rattle.std.specs.Prelude.{◌≡◌, ◌<◌, ◌≤◌, vec_len};
 ghost use Rattle.mt_state.specs.Begins.{HaveNoPairs};
 
 use crate::clients::{
-    DEVICE, FOUND, GET, NEW, OPEN, OPENED, PUT, SETTLE, SETTLED_5, are_told, connect,
+    DEVICE, FOUND, GET, NEW, OPEN, OPENED, PUT, SETTLE, SETTLED_5, are_told, connect, is_settled,
 };
 use crate::words::options_of;
 use log::Log;
@@ -95,6 +95,9 @@ pub(crate) const LOG: &[u8] =
 pub(crate) const RESUME: &[u8] =
     b"\x01\x00\x00\x00\x19\x01\x00\x00\x00\x00\x00\x00\x00\x05\x00\x00\x00\x00\x00\x00\x00\x05\x00\x00\x00\x00\x00\x00\x00\x05\x00";
 
+/// One session of one worker.
+pub(crate) const ONE_SESSION: &str = "mt_server --port 0 --workers 1 --sessions 1 7:100";
+
 // What the client of a server does.
 #[derive(Clone, Copy)]
 pub(crate) enum Scene {
@@ -106,6 +109,8 @@ pub(crate) enum Scene {
     SettlesTwice,
     /// It reads what was put before.
     Reads,
+    /// It reads that and settles.
+    ReadsAndSettles,
 }
 
 // Plays a scene; whether the client was told what it should be.
@@ -123,6 +128,9 @@ fn play(scene: Scene, client: TcpStream) -> io::Result<bool> {
             ],
         ),
         Scene::Reads => are_told(&client, &[(OPEN, OPENED), (GET, FOUND)]),
+        Scene::ReadsAndSettles => {
+            Ok(are_told(&client, &[(OPEN, OPENED), (GET, FOUND)])? && is_settled(&client)?)
+        }
     }
 }
 
@@ -159,12 +167,13 @@ fn one_connected<R: Net<Listener = TcpListener, Stream = TcpStream>>(
     Ok((listener, client))
 }
 
-// A server over a store, and its client, who is told what it should be; the store that is left.
+// A server over a store with these options, and its client, who is told what it should be; the store that is left.
 pub(crate) fn serve_scene<L: Ledger + Send + Sync, R, D: Disk + Drop + Send>(
     rt: &R,
     alloc: Global,
     blank: Blank,
     store: Store<D>,
+    options: Options,
     scene: Scene,
 ) -> Store<D>
 where
@@ -179,9 +188,7 @@ where
     requires parts { (blank.parts ≡ L.parts) × (L.parts ≡ 65536) }
     requires untaken { store.source.state.answers ≡ 0 }
 {
-    let words = "mt_server --port 0 --workers 1 --sessions 1 7:100";
     let (listener, client) = one_connected(rt).expect(rt, "a socket");
-    let options = options_of(rt, alloc, words);
     let (served, played) = thread::join(
         rt,
         move ||
@@ -211,7 +218,9 @@ fn what_was_put_is_in_the_log(rt: HostRuntime) {
     for (scene, fail) in scenes {
         let fails = [fail].to_vec(alloc).expect(&rt, "memory");
         let store = new_store(&rt, alloc, MemDisk::new(alloc, fails, None));
-        let left = serve_scene::<Brand, _, _>(&rt, alloc, Blank::new(65_536), store, scene);
+        let options = options_of(&rt, alloc, ONE_SESSION);
+        let blank = Blank::new(65_536);
+        let left = serve_scene::<Brand, _, _>(&rt, alloc, blank, store, options, scene);
         assert_eq!(rt; image_of(&rt, alloc, left).as_slice(), LOG, "{fail}");
     }
 }
@@ -220,7 +229,9 @@ fn what_was_put_is_in_the_log(rt: HostRuntime) {
 fn what_was_put_is_there_again(rt: HostRuntime) {
     let alloc = rt.alloc();
     let store = recovered(&rt, alloc, LOG);
-    let left = serve_scene::<Brand, _, _>(&rt, alloc, Blank::new(65_536), store, Scene::Reads);
+    let options = options_of(&rt, alloc, ONE_SESSION);
+    let blank = Blank::new(65_536);
+    let left = serve_scene::<Brand, _, _>(&rt, alloc, blank, store, options, Scene::Reads);
     let image = image_of(&rt, alloc, left);
     let grown = [&LOG[..54], &RESUME[..30]]
         .as_slice()

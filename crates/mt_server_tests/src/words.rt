@@ -63,13 +63,21 @@ fn words_are_read(rt: HostRuntime) -> Result<(), Fail> {
     Ok(())
 }
 
-// The folder of a line's store, and whether it is made anew.
-fn expect_store<R: Abort>(rt: &R, alloc: Global, line: &str, folder: &str, create: bool) {
+// The folder of a line's store, whether it is made anew, and how often a checkpoint is written.
+fn expect_store<R: Abort>(
+    rt: &R,
+    alloc: Global,
+    line: &str,
+    folder: &str,
+    create: bool,
+    checkpoint: u32,
+) {
     let options = options_of(rt, alloc, line);
     match &options.store {
         Some(place) => {
             assert_eq!(rt; place.folder.as_str(), folder, "{line}");
             assert_eq!(rt; place.create, create, "{line}");
+            assert_eq!(rt; place.checkpoint, checkpoint, "{line}");
         }
         None => panic!(rt; "{line}: no store"),
     }
@@ -78,14 +86,25 @@ fn expect_store<R: Abort>(rt: &R, alloc: Global, line: &str, folder: &str, creat
 #[test]
 fn stores_are_named(rt: HostRuntime) {
     let alloc = rt.alloc();
-    expect_store(&rt, alloc, "mt_server --store here 7:1", "here", false);
-    expect_store(
-        &rt,
-        alloc,
-        "mt_server 7:1 --create --store=a/b",
-        "a/b",
-        true,
-    );
+    let lines = [
+        ("mt_server --store here 7:1", "here", false, 0),
+        ("mt_server 7:1 --create --store=a/b", "a/b", true, 0),
+        (
+            "mt_server --checkpoint 0 --store here 7:1",
+            "here",
+            false,
+            0,
+        ),
+        (
+            "mt_server --store here --checkpoint=4294967295 7:1 --create",
+            "here",
+            true,
+            4_294_967_295,
+        ),
+    ];
+    for (line, folder, create, checkpoint) in lines {
+        expect_store(&rt, alloc, line, folder, create, checkpoint);
+    }
 }
 
 #[test]
@@ -109,7 +128,21 @@ fn words_are_refused(rt: HostRuntime) -> Result<(), Fail> {
         ("mt_server --store 7:1", 2, None),
         ("mt_server --store here --store there 7:1", 2, None),
         ("mt_server --create=1 --store here 7:1", 2, None),
-        ("mt_server --store here --checkpoint 1 7:1", 2, None),
+        ("mt_server --checkpoint 1 7:1", 2, None),
+        ("mt_server --checkpoint 0 7:0", 2, None),
+        ("mt_server --create --checkpoint 1 7:1", 2, None),
+        (
+            "mt_server --store here --checkpoint 4294967296 7:1",
+            2,
+            None,
+        ),
+        ("mt_server --store here --checkpoint -1 7:1", 2, None),
+        ("mt_server --store here --checkpoint 7:1", 2, None),
+        (
+            "mt_server --store here --checkpoint 1 --checkpoint 1 7:1",
+            2,
+            None,
+        ),
         ("mt_server --help", 0, None),
         ("mt_server --version", 0, None),
     ];
@@ -161,6 +194,10 @@ fn words_are_named(rt: HostRuntime) -> Result<(), Fail> {
             "mt_server --create 7:0",
             "--create makes the logs of a folder anew, and --store DIR names none",
         ),
+        (
+            "mt_server --checkpoint 0 7:0",
+            "--checkpoint writes checkpoints of a folder's store, and --store DIR names none",
+        ),
     ];
     for (line, wanted) in lines {
         let told = format!(in rt.alloc(); "{}", fault_of(&rt, rt.alloc(), line))?;
@@ -190,8 +227,12 @@ fn options_are_named(rt: HostRuntime) -> Result<(), Fail> {
             "error: invalid value 'x' for '--port <P>': ",
         ),
         (
-            "mt_server --checkpoint 1 7:1",
-            "error: unexpected argument '--checkpoint' found\n",
+            "mt_server --store here --checkpoint 4294967296 7:1",
+            "error: invalid value '4294967296' for '--checkpoint <K>': 4294967296 is not in 0..=4294967295\n",
+        ),
+        (
+            "mt_server --checkpoints 1 7:1",
+            "error: unexpected argument '--checkpoints' found\n",
         ),
     ];
     for (line, beginning) in lines {

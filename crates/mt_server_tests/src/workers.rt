@@ -3,7 +3,7 @@
 ghost use Rattle.std.specs.Prelude.{◌≡◌};
 ghost use Rattle.mt_state.specs.Begins.{HaveNoPairs};
 
-use crate::clients::{FOUND, GET, NEW, OPEN, OPENED, PUT, SETTLE, connected, is_told};
+use crate::clients::{FOUND, GET, NEW, OPEN, OPENED, PUT, connected, is_settled, is_told};
 use crate::servers::TWO_WORKERS;
 use crate::stores::{bare_slots, no_tenants, serve_all};
 use crate::words::options_of;
@@ -14,7 +14,7 @@ use mt_recover::LogSlot;
 use mt_store_logs::{StoreLog, open_logs};
 use mt_stored::Store;
 use std::alloc::{AllocError, Global};
-use std::io::{self, Read, Write};
+use std::io;
 use std::marker::{Brand, Send, Sync};
 use std::net::{Net, TcpListener, TcpStream};
 use std::process::Abort;
@@ -45,15 +45,6 @@ fn new_store(rt: &impl Abort, alloc: Global) -> Store<MemDisk>
         Ok(store) => store,
         Err(_) => panic!(rt; "no store is made"),
     }
-}
-
-// Whether a Settle is answered with a number.
-fn is_settled(stream: &TcpStream) -> io::Result<bool> {
-    let mut client = stream;
-    client.write_all(SETTLE)?;
-    let mut room = [0u8; 13];
-    client.read_exact(&mut room)?;
-    Ok(room.starts_with(b"\x00\x00\x00\x09\x07"))
 }
 
 // A client puts a key, gets it past the 1,024th answer, and settles; whether it is told what it should be.

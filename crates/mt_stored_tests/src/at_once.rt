@@ -1,13 +1,14 @@
-//! Sessions in threads, which put and settle at once.
+//! Sessions in threads, which put and settle at once, and write a checkpoint after each settled answer.
 
 ghost use Rattle.std.specs.Prelude.{◌≡◌};
 
+use crate::checks::expect_recovered;
 use crate::disks::{FlakyDisk, NEVER};
-use crate::stories::{TENANTS, expect_kept, joined, least_mark, new_store, session_of};
+use crate::stories::{TENANTS, bare_slots, joined, least_mark, new_store, session_of};
 use log::Log;
 use mt_book::Book;
 use mt_store_logs::StoreLog;
-use mt_stored::locked_logs;
+use mt_stored::{Checks, locked_logs};
 use std::alloc::Global;
 use std::marker::{Brand, Send, Sync};
 use std::process::Abort;
@@ -28,9 +29,10 @@ fn put_and_settle<L: Ledger, R: Wait + Log + Abort>(
     alloc: Global,
     book: &Mutex<Book<L>>,
     logs: &[Mutex<StoreLog<FlakyDisk>>],
+    checks: &Mutex<Checks<FlakyDisk>>,
     worker: u8,
 ) -> u16 {
-    let mut session = session_of(rt, alloc, book, logs, &TENANTS, worker);
+    let mut session = session_of(rt, alloc, book, logs, checks, &TENANTS, worker);
     let mut last = 0;
     for turn in 0..TURNS {
         assert!(rt; session.puts(alloc, PUTS), "{turn}");
@@ -51,12 +53,13 @@ fn four_at_once<L: Ledger + Send + Sync, R: Threads + Wait + Log + Abort + Sync>
     alloc: Global,
     book: &Mutex<Book<L>>,
     logs: &[Mutex<StoreLog<FlakyDisk>>],
+    checks: &Mutex<Checks<FlakyDisk>>,
 ) -> Vec<u16> {
     let workers = [0, 1, 2, 3].to_vec(alloc).expect(rt, "memory");
     let counts = thread::map_vec(
         rt,
         workers,
-        &|worker: u8| put_and_settle(rt, alloc, book, logs, worker),
+        &|worker: u8| put_and_settle(rt, alloc, book, logs, checks, worker),
     );
     counts.expect(rt, "memory")
 }
@@ -72,12 +75,14 @@ fn run<L: Ledger + Send + Sync, R: Threads + Wait + Log + Abort + Sync>(
     let (state, logs, _) = new_store(rt, alloc, &[NEVER; 4]).into_parts();
     let logs = locked_logs(alloc, logs).expect(rt, "memory");
     let book = Mutex::new(Book::<L>::new(blank, state));
-    let counts = four_at_once(rt, alloc, &book, &logs);
+    let checks = Mutex::new(Checks::new(1, Some(bare_slots(alloc))));
+    let counts = four_at_once(rt, alloc, &book, &logs, &checks);
+    let slots = checks.into_inner().into_slots().expect(rt, "the slots");
     let store = joined(rt, alloc, book, logs);
-    expect_kept(rt, alloc, store, &counts);
+    expect_recovered(rt, alloc, store, slots, &counts);
 }
 
 #[test]
-fn settles_of_several_sessions_at_once_lose_nothing(rt: HostRuntime) {
+fn settles_and_checkpoints_of_several_sessions_at_once_lose_nothing(rt: HostRuntime) {
     run::<Brand, _>(&rt, rt.alloc(), Blank::new(65_536));
 }

@@ -121,14 +121,25 @@ pub(crate) fn hold_all(
     tenants: &Tenants,
     counts: &[u16],
 ) -> Result<bool, Refusal> {
+    let disk = || MemDisk::new(alloc, Vec::new(alloc), None);
+    let mut slots = StoreSlots::found(disk(), disk());
+    hold_all_with(alloc, images, &mut slots, tenants, counts)
+}
+
+/// The same, if the recovery has these slots.
+pub(crate) fn hold_all_with(
+    alloc: Global,
+    images: Vec<Vec<u8>>,
+    slots: &mut StoreSlots<MemDisk>,
+    tenants: &Tenants,
+    counts: &[u16],
+) -> Result<bool, Refusal> {
     let mut logs = logs_of(alloc, images)?;
     let has_own = match open_logs(alloc, &mut logs) {
         Ok(fronts) => have_own(&fronts, counts),
         Err(e) => return Err(e.refusal),
     };
-    let disk = || MemDisk::new(alloc, Vec::new(alloc), None);
-    let mut slots = StoreSlots::found(disk(), disk());
-    match recover_store(alloc, &mut logs, &mut slots, tenants, &mut NoWatch) {
+    match recover_store(alloc, &mut logs, slots, tenants, &mut NoWatch) {
         Ok(recovered) => Ok(has_own && are_pairs(&recovered.pairs, counts)),
         Err(e) => Err(e.refusal()),
     }

@@ -1,5 +1,5 @@
-//! Tests of a running server's logs, each behind a lock of its own: several workers, of whom each has a log. And of a store
-//! of 100,000 pairs, with two workers and their logs.
+//! Tests of a running server's logs, each behind a lock of its own: several workers, of whom each has a log. Of the
+//! checkpoints that they write. And of a store of 100,000 pairs, with two workers and their logs.
 //!
 //! The workers' sessions are played without sockets: by one thread in the order of a table, or by a thread each.
 #![tactic(auto)]
@@ -8,6 +8,8 @@
 mod asked;
 #[cfg(test)]
 mod at_once;
+#[cfg(test)]
+mod checks;
 #[cfg(test)]
 mod disks;
 #[cfg(test)]

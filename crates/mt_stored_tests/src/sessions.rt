@@ -15,7 +15,7 @@ use std::sync::{Mutex, Wait};
 /// A worker's session, and how many keys its client has put.
 #[derive(Drop)]
 pub(crate) struct Session<'a, L: Ledger, R: Wait> {
-    pub caller: DeskCaller<'a, L, R, &'a Mutex<Book<L>>, SharedLogs<'a, L, FlakyDisk>>,
+    pub caller: DeskCaller<'a, L, R, &'a Mutex<Book<L>>, SharedLogs<'a, L, FlakyDisk>, FlakyDisk>,
     pub worker: u8,
     pub count: u16,
 }

@@ -14,7 +14,7 @@ use mt_rows::Refusal;
 use mt_service::DeskCaller;
 use mt_slots::StoreSlots;
 use mt_store_logs::StoreLog;
-use mt_stored::{Keeper, SharedLogs, Store, locked_logs, unlocked_logs};
+use mt_stored::{Checks, Keeper, SharedLogs, Store, locked_logs, unlocked_logs};
 use std::alloc::Global;
 use std::marker::Brand;
 use std::process::Abort;
@@ -57,13 +57,14 @@ pub(crate) fn session_of<'a, L: Ledger, R: Wait + Log + Abort>(
     alloc: Global,
     book: &'a Mutex<Book<L>>,
     logs: &'a [Mutex<StoreLog<FlakyDisk>>],
+    checks: &'a Mutex<Checks<FlakyDisk>>,
     tenants: &'a [TenantQuota],
     worker: u8,
 ) -> Session<'a, L, R> {
     let pass = open_pass(rt, book, worker).expect(rt, "a pass");
     let keeper = Keeper::new(alloc, SharedLogs::new(book, logs), worker);
     let mut session = Session {
-        caller: DeskCaller::new(rt, book, pass, keeper, tenants),
+        caller: DeskCaller::new(rt, alloc, book, pass, keeper, checks, tenants),
         worker,
         count: 0,
     };
@@ -77,11 +78,12 @@ pub(crate) fn sessions_of<'a, L: Ledger, R: Wait + Log + Abort>(
     alloc: Global,
     book: &'a Mutex<Book<L>>,
     logs: &'a [Mutex<StoreLog<FlakyDisk>>],
+    checks: &'a Mutex<Checks<FlakyDisk>>,
     tenants: &'a [TenantQuota],
 ) -> Vec<Session<'a, L, R>> {
     let mut sessions = Vec::new(alloc);
     for worker in 0..logs.len().min(64) as u8 {
-        let session = session_of(rt, alloc, book, logs, tenants, worker);
+        let session = session_of(rt, alloc, book, logs, checks, tenants, worker);
         sessions.push(session).expect(rt, "memory");
     }
     sessions
@@ -253,7 +255,8 @@ fn play<L: Ledger, R: Wait + Log + Abort>(
     logs: &[Mutex<StoreLog<FlakyDisk>>],
     acts: &[Act],
 ) -> Vec<u16> {
-    let mut sessions = sessions_of(rt, alloc, book, logs, &TENANTS);
+    let checks = Mutex::new(Checks::new(0, None));
+    let mut sessions = sessions_of(rt, alloc, book, logs, &checks, &TENANTS);
     let mut seen = 0;
     for (place, act) in acts.iter().enumerate() {
         assert!(rt;

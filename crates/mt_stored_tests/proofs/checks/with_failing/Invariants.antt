@@ -1,0 +1,5 @@
+use Rattle.mt_stored_tests.proofs.checks.with_failing.Given as goal
+
+-- the ledger is the one that the blank is made for
+abbrev pub ghosts-played : goal.ghosts-played
+ghosts-played g a = record { name = a.blank.name; parts = a.blank.parts }
