@@ -13,6 +13,7 @@ PHASES = set(
 REPLY = rb"absent|new|replaced|removed|full|memory|found( |$).*|pairs [0-9]+( .*)?"
 STEPPED = re.compile(rb"moved|again [1-9][0-9]*|memory|spent|none|done (" + REPLY + rb")")
 AT = re.compile(rb"at [a-z]+")
+TOP_TREE = b"tree - layer 0"  # the first line of each shape, and of no other tree
 SHAPE = re.compile(rb"tree [0-9a-f-]+ layer [0-9]+|( {2})+(border [0-9]+.*|interior.*)")
 
 
@@ -134,7 +135,8 @@ class Script:
                 if not (at in self.open and AT.fullmatch(answers[0])):
                     self._stepped(at, answers[0])
             case [b"shape"]:
-                count = next((at for at, answer in enumerate(answers) if not SHAPE.fullmatch(answer)), len(answers))
+                count = next((at for at, answer in enumerate(answers)
+                              if at and answer == TOP_TREE or not SHAPE.fullmatch(answer)), len(answers))
                 self._want(count > 0 or not self.has_begun, b"a tree")
                 return count
             case _:
