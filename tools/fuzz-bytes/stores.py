@@ -172,6 +172,12 @@ def check_all(logs: list[Log]) -> None:
         raise StoreRefused(13)
 
 
+def resumed(logs: list[bytes], slots: list[bytes]) -> int:
+    """The number from which a store of these files goes on."""
+    lasts = [found.last for image in slots if (found := checkpoint_of(image))]
+    return max([log_of(image).mark for image in logs] + lasts)
+
+
 def recovered(logs: list[bytes], slots: list[bytes], quotas: dict[int, int]) -> dict[tuple[int, bytes], Row]:
     """The pairs of a store of these files, in the order of tenants and keys."""
     fronts = [log_of(image) for image in logs]
