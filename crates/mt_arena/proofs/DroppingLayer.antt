@@ -1,5 +1,4 @@
 -- The whole invariant, the guarantee and the contents where a tree is taken out with its root and the link to it: for `drop_layer`.
-use Rattle.mt_order.specs.Places.{order_without}
 use Rattle.std.proofs.Common.{◌≡◌, ◌≢◌, ℕ, ◌<◌, ◌++◌, List, [], length, get_or, set, true, false, Some, refl, sym, ap, subst, ◌∙◌, inl, inr, arith}
 use Rattle.std.proofs.{lemmas.Bool.cases_eq, lemmas.List.{length-set, get_or-set_other, get_or_default}}
 use Rattle.std.specs.{Prelude.{◌⊎◌}, List.{All, remove}}
@@ -9,7 +8,7 @@ use Rattle.mt_border.specs.{declared.entry.Entry.Entry, Held.Link, Contents.HasK
 use Rattle.mt_border.proofs.Edits.{any_entry, All-remove, border_without, without_at}
 use Rattle.mt_arena.specs.{declared.tree.Tree.Tree, declared.tree.Standing.TheVariants.{Live, Dead}, NodeView.{NodeView, node_at}}
 use Rattle.mt_arena.specs.{Nodes.{AreNodes, Holds, HasRange}, Ranges.{AreRanged, Waits}, Forests.{IsForest, IsRoot, HaveKeys, tree_at, no_tree, layer_of}}
-use Rattle.mt_arena.specs.{Layers.{AreLayered, AreLinks, HasLink, LeadsTo, slot_at}, Contents.content, Guarantee.TreeChanges, Edits.{retired, with_slots}}
+use Rattle.mt_arena.specs.{Layers.{AreLayered, AreLinks, HasLink, LeadsTo, slot_at}, Contents.content, Guarantee.TreeChanges, Edits.{retired, with_slots, cells_without}}
 use Rattle.mt_arena.specs.{Arena.{ArenaInvariant, ArenaView, AreRetired, Guarantee}, Accesses.at, NodeFacts.IsUnstable, Settled.IsSettled}
 use Rattle.mt_arena.specs.{Lags.{Follows, IsUnder}, Removals.{MayDropLayer, nodes_above, without_layer, with_retired}}
 use Rattle.mt_arena.proofs.{Pairs.{here, there}, Locks.is_held, Quiet.nodes_slots, Slots.{within_each, within_all, changes_slots}}
@@ -47,7 +46,7 @@ module _ (v : ArenaView) (room node i u step op : ℕ) (sound : ArenaInvariant v
   es = without n.slots e
 
   abbrev y : NodeView
-  y = with_slots n es (order_without n.order i)
+  y = with_slots n es (cells_without n.cells i)
 
   abbrev w : NodeView
   w = retired x
@@ -146,10 +145,10 @@ module _ (v : ArenaView) (room node i u step op : ℕ) (sound : ArenaInvariant v
 
   -- nodes and their ranges
   nodes_ys : AreNodes ys
-  nodes_ys = nodes_slots xs node es y.order ln nodes (is_held op n may.held.holder) may.border (border_without n.slots e was_border) inside
+  nodes_ys = nodes_slots xs node es y.cells ln nodes (is_held op n may.held.holder) may.border (border_without n.slots e was_border) inside
 
   ranged_ys : AreRanged ys
-  ranged_ys = ranged_marked xs node es y.order y.version ln sound.arena.ranged refl (λ splits. splits) (λ whole. whole)
+  ranged_ys = ranged_marked xs node es y.cells y.version ln sound.arena.ranged refl (λ splits. splits) (λ whole. whole)
 
   nodes_out : AreNodes new
   nodes_out =
@@ -283,7 +282,7 @@ module _ (v : ArenaView) (room node i u step op : ℕ) (sound : ArenaInvariant v
 
   -- what others rely on
   turns_node : MayTurn op v.trees n y
-  turns_node = record { changes = changes_slots op n es y.order may.held.holder; mine = λ q made. absurd (let both = sym live_above ∙ made in cc) }
+  turns_node = record { changes = changes_slots op n es y.cells may.held.holder; mine = λ q made. absurd (let both = sym live_above ∙ made in cc) }
 
   turns_root : MayTurn op v.trees x w
   turns_root = record {

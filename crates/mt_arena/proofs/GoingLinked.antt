@@ -186,9 +186,9 @@ module _ (v : ArenaView) (room node i t op : ℕ) (key : Bytes) (pair : Pair) (s
   sound_live = record {
     arena = record {
       nodes =
-          nodes_slots xs node y.slots y.order ln sound.arena.nodes (is_held op n may.slot.held.holder) may.slot.border (border_after v room node i op sound (Unstable pair (Some t)) may.slot (Link t) holds)
+          nodes_slots xs node y.slots y.cells ln sound.arena.nodes (is_held op n may.slot.held.holder) may.slot.border (border_after v room node i op sound (Unstable pair (Some t)) may.slot (Link t) holds)
           (within_all n y.slots (inside_after v room node i op sound (Unstable pair (Some t)) may.slot (Link t) holds));
-      ranged = ranged_marked xs node y.slots y.order y.version ln sound.arena.ranged refl (λ marked. marked) (λ whole. whole);
+      ranged = ranged_marked xs node y.slots y.cells y.version ln sound.arena.ranged refl (λ marked. marked) (λ whole. whole);
       forest = forest_live new v.trees t op forest_new lt may.layer.mine fresh;
       layers = layers_new;
     };
@@ -200,7 +200,7 @@ module _ (v : ArenaView) (room node i t op : ℕ) (key : Bytes) (pair : Pair) (s
   pub step_live : Guarantee op v (with_link v node i t)
   step_live = record {
     nodes = guarantee_on op xs new new v.trees v.trees ts
-        (guarantee_set op xs v.trees node y ln (changes_slots op n y.slots y.order may.slot.held.holder) (λ q made. absurd (let both = sym may.slot.tree_live ∙ made in cc)))
+        (guarantee_set op xs v.trees node y ln (changes_slots op n y.slots y.cells may.slot.held.holder) (λ q made. absurd (let both = sym may.slot.tree_live ∙ made in cc)))
         (guarantee_record op new v.trees t (alive tree) lt (goes_live xs v.trees t op forest lt may.layer.mine fresh)) forest.tree_there;
     points = points_set op xs node y ln (record { previous = λ j is other. is; parent = λ j is other. is });
   }

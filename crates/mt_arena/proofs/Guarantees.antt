@@ -10,14 +10,14 @@ use Rattle.mt_version.proofs.CallerLemmas as versions
 
 -- a node that stays as it is
 pub untouched : (n : NodeView) → IsUntouched n n
-untouched n = record { holder = refl; version = refl; slots = refl; order = refl; separators = refl; children = refl; next = refl; high = refl; reach = refl; parented = λ some. some; orphaned = λ none. none }
+untouched n = record { holder = refl; version = refl; slots = refl; cells = refl; separators = refl; children = refl; next = refl; high = refl; reach = refl; parented = λ some. some; orphaned = λ none. none }
 
 untouched_on : (n m p : NodeView) → IsUntouched n m → IsUntouched m p → IsUntouched n p
 untouched_on n m p a b = record {
   holder = b.holder ∙ a.holder;
   version = b.version ∙ a.version;
   slots = b.slots ∙ a.slots;
-  order = b.order ∙ a.order;
+  cells = b.cells ∙ a.cells;
   separators = b.separators ∙ a.separators;
   children = b.children ∙ a.children;
   next = b.next ∙ a.next;

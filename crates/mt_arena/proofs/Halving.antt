@@ -1,6 +1,6 @@
 -- The whole invariant, the guarantee and the contents where the slots of a border node are parted, with a new key's or without: for the
 -- call that does it.
-use Rattle.mt_order.specs.Places.{Places}
+use Rattle.mt_border.specs.Slots.{Slotted}
 use Rattle.std.proofs.Common.{◌≡◌, ◌≢◌, ◌⊎◌, ℕ, ◌+◌, ◌-◌, ◌<◌, ◌≤◌, List, ◌++◌, length, take, drop, get_or, set, Option, Some, None, IfSome, refl, sym, ap, subst, ◌∙◌, inl, inr, arith, length-append}
 use Rattle.std.proofs.{lemmas.Bool.cases_lt, lemmas.Option.same_Some}
 use Rattle.std.proofs.lemmas.List.{length-set, get_or-map, get_or_append_left, get_or-append-add, take_at, drop_at}
@@ -109,7 +109,7 @@ gathers_some v room left right op slice mark (Some e) sound may (slice_is, mark_
 each_slice : (P : ℕ → Type 0) (es : List Entry) → All (λ (e : Entry). P e.slice) es → (i : ℕ) → i < length es → P (get_or (slices es) i 0)
 each_slice P es each i lt = subst P (sym (get_or-map (λ (e : Entry). e.slice) es i any_entry 0 lt)) (each i any_entry lt)
 
-module _ (v : ArenaView) (room left right op : ℕ) (all kept moved : List Entry) (kept_order moved_order : Places) (sound : ArenaInvariant v.nodes v.trees v.retired room) (half : IsHalf v left right op) (border : (at v left).level ≡ 0) (ok : Gathers v.trees (at v left) all)
+module _ (v : ArenaView) (room left right op : ℕ) (all kept moved : List Entry) (kept_cells moved_cells : Slotted) (sound : ArenaInvariant v.nodes v.trees v.retired room) (half : IsHalf v left right op) (border : (at v left).level ≡ 0) (ok : Gathers v.trees (at v left) all)
     (parted : IsParted all kept moved (at v right).low) (some_kept : 0 < length kept) (some_moved : 0 < length moved) where
   abbrev x : NodeView
   x = at v left
@@ -118,7 +118,7 @@ module _ (v : ArenaView) (room left right op : ℕ) (all kept moved : List Entry
   r = at v right
 
   abbrev new : List NodeView
-  new = set (set v.nodes left (left_half x kept kept_order r.low right)) right (right_half x r moved moved_order left)
+  new = set (set v.nodes left (left_half x kept kept_cells r.low right)) right (right_half x r moved moved_cells left)
 
   size : length kept + length moved ≤ 16
   size = omega (arith, ok.few, ap length parted.joined, length-append kept moved)
@@ -181,7 +181,7 @@ module _ (v : ArenaView) (room left right op : ℕ) (all kept moved : List Entry
 
   pub sound_halved : ArenaInvariant new v.trees v.retired room
   sound_halved =
-      sound_split v.nodes v.trees left right kept moved kept_order moved_order half.held.there half.right_held.there half.differ splits v.retired room sound half.empty half.no_root
+      sound_split v.nodes v.trees left right kept moved kept_cells moved_cells half.held.there half.right_held.there half.differ splits v.retired room sound half.empty half.no_root
       keys_kept (subst (λ t. HaveKeys (tree_at v.trees t).prefix moved) (sym half.right_tree) keys_moved)
       (links_on x.slots all kept ok.back (subst (λ (es : List Entry). HasLinksOf es kept) parted.joined (links_left kept moved)))
       (links_on x.slots all moved ok.back (subst (λ (es : List Entry). HasLinksOf es moved) parted.joined (links_right kept moved)))
@@ -189,17 +189,17 @@ module _ (v : ArenaView) (room left right op : ℕ) (all kept moved : List Entry
 
   still_held : (node_at new left).holder ≡ Some op
   still_held =
-      each_set2 (λ k n. k ≡ left → n.holder ≡ Some op) v.nodes left right (left_half x kept kept_order r.low right) (right_half x r moved moved_order left) half.held.there half.right_held.there half.differ
+      each_set2 (λ k n. k ≡ left → n.holder ≡ Some op) v.nodes left right (left_half x kept kept_cells r.low right) (right_half x r moved moved_cells left) half.held.there half.right_held.there half.differ
       (λ _. half.held.holder) (λ e. absurd (half.differ (sym e))) (λ k lt ni nj e. absurd (ni e)) left half.held.there refl
 
   pub step_halved : Guarantee op v (record v { nodes = new })
   step_halved = record {
     nodes =
-        guarantee_split v.nodes v.trees left right kept moved kept_order moved_order half.held.there half.right_held.there half.differ splits op half.held.holder half.right_held.holder sound.arena.forest half.mine;
+        guarantee_split v.nodes v.trees left right kept moved kept_cells moved_cells half.held.there half.right_held.there half.differ splits op half.held.holder half.right_held.holder sound.arena.forest half.mine;
     points =
-        points_each op v.nodes new (length-set (set v.nodes left (left_half x kept kept_order r.low right)) right (right_half x r moved moved_order left) ∙ length-set v.nodes left (left_half x kept kept_order r.low right))
-        (each_set2 (λ k n. PointsSo op new (at v k) n) v.nodes left right (left_half x kept kept_order r.low right) (right_half x r moved moved_order left) half.held.there half.right_held.there half.differ
-        (names_same op new x (left_half x kept kept_order r.low right) refl refl)
+        points_each op v.nodes new (length-set (set v.nodes left (left_half x kept kept_cells r.low right)) right (right_half x r moved moved_cells left) ∙ length-set v.nodes left (left_half x kept kept_cells r.low right))
+        (each_set2 (λ k n. PointsSo op new (at v k) n) v.nodes left right (left_half x kept kept_cells r.low right) (right_half x r moved moved_cells left) half.held.there half.right_held.there half.differ
+        (names_same op new x (left_half x kept kept_cells r.low right) refl refl)
         (record {
           previous = λ j e not_mine. absurd (not_mine (ap (λ k. (node_at new k).holder) (sym (same_Some _ _ e)) ∙ still_held));
           parent = λ j e not_mine. e;
@@ -226,11 +226,11 @@ module _ (v : ArenaView) (room left right op slice : ℕ) (mark : Mark) (entry :
 
   pub sound_parted : ArenaInvariant new v.trees v.retired room
   sound_parted = rw done.is
-      (sound_halved v room left right op _ done.kept done.moved done.kept_order done.moved_order sound may.half may.border gathers done.parted done.some_kept done.some_moved)
+      (sound_halved v room left right op _ done.kept done.moved done.kept_cells done.moved_cells sound may.half may.border gathers done.parted done.some_kept done.some_moved)
 
   pub step_parted : Guarantee op v (record v { nodes = new })
   step_parted = rw done.is
-      (step_halved v room left right op _ done.kept done.moved done.kept_order done.moved_order sound may.half may.border gathers done.parted done.some_kept done.some_moved)
+      (step_halved v room left right op _ done.kept done.moved done.kept_cells done.moved_cells sound may.half may.border gathers done.parted done.some_kept done.some_moved)
 
   -- an entry inserts its pair
   pub content_with : (key : Bytes) (e : Entry) (pair : Pair) → entry ≡ Some e → MayPlace v left op key e → e.held ≡ Stable pair

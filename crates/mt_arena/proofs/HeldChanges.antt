@@ -1,5 +1,5 @@
 -- Which changes of a node that an operation holds its guarantee allows: for the clause `step` of the calls that change several nodes.
-use Rattle.mt_order.specs.Places.{Places}
+use Rattle.mt_border.specs.Slots.{Slotted}
 use Rattle.std.proofs.Common.{◌≡◌, ◌≢◌, ℕ, suc, ◌+◌, ◌<◌, ◌≤◌, List, [], ◌∷◌, length, take, drop, Bool, Some, true, false, refl, sym, ap, ◌∙◌, arith, length-append}
 use Rattle.std.proofs.{lemmas.Option.same_Some, lemmas.List.Edits.length-remove}
 use Rattle.std.specs.List.{insert, remove}
@@ -50,16 +50,16 @@ changes_split op n m before after tree level low ages peopled marked =
     changes_held op n m before after tree level low ages peopled (λ whole. absurd (marks n.version.splitting marked whole)) (λ whole. absurd (marks n.version.splitting marked whole))
 
 -- the halves of a border node
-pub changes_left_half : (op : ℕ) (x : NodeView) (kept : List Entry) (order : Places) (low right : ℕ) → x.holder ≡ Some op → x.version.splitting ≡ true
-    → Changes op x (left_half x kept order low right)
-changes_left_half op x kept order low right held marked =
-    changes_split op x (left_half x kept order low right) held held refl refl refl (versions.ages_refl x.version) (λ some. some) marked
+pub changes_left_half : (op : ℕ) (x : NodeView) (kept : List Entry) (cells : Slotted) (low right : ℕ) → x.holder ≡ Some op → x.version.splitting ≡ true
+    → Changes op x (left_half x kept cells low right)
+changes_left_half op x kept cells low right held marked =
+    changes_split op x (left_half x kept cells low right) held held refl refl refl (versions.ages_refl x.version) (λ some. some) marked
 
 -- a held right half may be filled
-pub changes_right_half : (op : ℕ) (x r : NodeView) (moved : List Entry) (order : Places) (left : ℕ) → r.holder ≡ Some op → r.version.splitting ≡ true
-    → Changes op r (right_half x r moved order left)
-changes_right_half op x r moved order left held marked =
-    changes_split op r (right_half x r moved order left) held held refl refl refl (versions.ages_refl r.version) (λ some. some) marked
+pub changes_right_half : (op : ℕ) (x r : NodeView) (moved : List Entry) (cells : Slotted) (left : ℕ) → r.holder ≡ Some op → r.version.splitting ≡ true
+    → Changes op r (right_half x r moved cells left)
+changes_right_half op x r moved cells left held marked =
+    changes_split op r (right_half x r moved cells left) held held refl refl refl (versions.ages_refl r.version) (λ some. some) marked
 
 -- the left half whose range in its parent ends at its fence
 pub changes_exact : (op : ℕ) (n : NodeView) → n.holder ≡ Some op → Changes op n (exact n)

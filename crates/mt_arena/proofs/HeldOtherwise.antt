@@ -6,7 +6,7 @@ use Rattle.mt_rows.specs.Rows.{Bytes}
 use Rattle.mt_border.specs.{declared.entry.Entry.Entry, Held.{Pair, Held, Stable, Unstable, Link}, Entry.{CanHold, order_of, pair_of}}
 use Rattle.mt_border.specs.{Entries.{IsBorder, replaced}, Contents.HasKey}
 use Rattle.mt_border.proofs.{Edits.{any_entry, border_set, replaced_at}, ContentsKeys.has_held_key}
-use Rattle.mt_arena.specs.{NodeView.NodeView, Nodes.Holds, Layers.slot_at, Forests.{HaveKeys, layer_of}, Contents.content}
+use Rattle.mt_arena.specs.{Edits.cells_holding, NodeView.NodeView, Nodes.Holds, Layers.slot_at, Forests.{HaveKeys, layer_of}, Contents.content}
 use Rattle.mt_arena.specs.{Arena.{ArenaInvariant, ArenaView, Guarantee}, Accesses.{at, tree_of}}
 use Rattle.mt_arena.specs.Layering.{IsHeldSlot, MayUnsettle, MayLink, with_held, with_slot}
 use Rattle.mt_arena.proofs.{Steps.keys_of, Locks.is_held, Slots.{within_each, sound_slots, step_slots}, LinkEdits.{HasLinksOf, links_set, links_set_back}}
@@ -62,12 +62,12 @@ module _ (v : ArenaView) (room node i op : ℕ) (sound : ArenaInvariant v.nodes 
       })
 
   pub step_held : Guarantee op v (with_slot v node i held)
-  step_held = step_slots v node op (replaced n.slots new) n.order ln slot.held.holder (λ q made. absurd (let both = sym slot.tree_live ∙ made in cc))
+  step_held = step_slots v node op (replaced n.slots new) (cells_holding n.cells i held) ln slot.held.holder (λ q made. absurd (let both = sym slot.tree_live ∙ made in cc))
 
   -- where neither is a link
   module _ (none : (u : ℕ) → e.held ≢ Link u) (none_after : (u : ℕ) → held ≢ Link u) where
     pub sound_held : ArenaInvariant (set v.nodes node (with_held n i held)) v.trees v.retired room
-    sound_held = sound_slots v.nodes v.trees v.retired room node (replaced n.slots new) n.order ln sound (is_held op n slot.held.holder) slot.border (record {
+    sound_held = sound_slots v.nodes v.trees v.retired room node (replaced n.slots new) (cells_holding n.cells i held) ln sound (is_held op n slot.held.holder) slot.border (record {
       border = border_after;
       inside = inside_after;
       keys = keys_after;

@@ -94,7 +94,7 @@ module _ (xs : List NodeView) (i j q : ℕ) (nodes : AreNodes xs) (f : Inserts x
   pub ranged_right : AreRanged xs → AreRanged (with_right xs i j q)
   ranged_right ranged =
       subst AreRanged same (ranged_insert_child ys i j (node_at ys q).low q (omega (arith, size, f.parent_there)) (omega (arith, size, f.left_there)) apart_j
-      (ranged_marked xs i p.slots p.order (inserting p).version f.parent_there ranged refl (λ marked. marked) (λ whole. whole)))
+      (ranged_marked xs i p.slots p.cells (inserting p).version f.parent_there ranged refl (λ marked. marked) (λ whole. whole)))
 
   -- a child is no root
   pub exact_place : (trees : List Tree) → IsForest xs trees → KeepsPlace trees l (exact l)
@@ -147,7 +147,7 @@ module _ (v : ArenaView) (room parent left right op : ℕ) (sound : ArenaInvaria
   step_right = record {
     nodes = guarantee_set2 op v.nodes v.trees parent left y z may.held.there may.left_held.there apart sound.arena.forest (record {
       changes =
-          changes_on op (at v parent) (inserting (at v parent)) y (changes_slots op (at v parent) (at v parent).slots (at v parent).order may.held.holder) (changes_with_child op (inserting (at v parent)) (at v right).low right may.held.holder refl);
+          changes_on op (at v parent) (inserting (at v parent)) y (changes_slots op (at v parent) (at v parent).slots (at v parent).cells may.held.holder) (changes_with_child op (inserting (at v parent)) (at v right).low right may.held.holder refl);
       mine = may.mine;
     }) (exact_turn v.nodes parent left right sound.arena.nodes may.inserts op v.trees may.left_held.holder may.mine);
     points =

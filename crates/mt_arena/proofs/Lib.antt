@@ -16,6 +16,8 @@ pub mod Steps
 pub mod Locks
 pub mod Pointing
 pub mod Slots
+pub mod Fills
+pub mod NodeSlots
 pub mod Growing
 pub mod Places
 pub mod Joins

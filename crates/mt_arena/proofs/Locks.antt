@@ -87,7 +87,7 @@ pub sound_splitting : (xs : List NodeView) (trees : List Tree) (gone : List Reti
     → (node_at xs i).holder ≢ None → ArenaInvariant (set xs i (splitting (node_at xs i))) trees gone room
 sound_splitting xs trees gone room i within sound held =
     let x = node_at xs i in
-    sound_set xs trees gone room i (splitting x) within sound (nodes_splitting xs i within sound.arena.nodes held) (ranged_marked xs i x.slots x.order (splitting x).version within sound.arena.ranged refl (λ _. refl) (λ e. absurd (cc)))
+    sound_set xs trees gone room i (splitting x) within sound (nodes_splitting xs i within sound.arena.nodes held) (ranged_marked xs i x.slots x.cells (splitting x).version within sound.arena.ranged refl (λ _. refl) (λ e. absurd (cc)))
     record { tree = refl; level = refl; low = refl; deleted = refl; flag = refl; root = λ r. record { live = r.live; flag = r.flag; parentless = r.parentless; low = r.low; reach = r.reach } }
     (keys_of xs trees i within sound.arena.forest)
     record { tree = refl; deleted = refl; forth = same_links x.slots; back = same_links x.slots }

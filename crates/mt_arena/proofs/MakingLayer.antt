@@ -1,12 +1,11 @@
 -- The whole invariant, the guarantee and the contents where a tree is made with one slot in its root: for `make_layer`.
-use Rattle.mt_order.specs.Places.{order_with, fresh_order}
 use Rattle.std.proofs.Common.{◌≡◌, ◌≢◌, ℕ, ◌+◌, ◌<◌, ◌≤◌, List, [], ◌∷◌, ◌++◌, length, set, refl, sym, ap, subst, ◌∙◌, arith, length-append}
 use Rattle.std.proofs.lemmas.List.{set_at}
 use Rattle.mt_rows.specs.Rows.{Bytes}
 use Rattle.mt_border.specs.{declared.entry.Entry.Entry, Held.{Held, Stable, Unstable, Link}, Entry.{IsEntry, IsStablePair}, Entries.IsBorder}
-use Rattle.mt_border.proofs.Edits.{any_entry}
+use Rattle.mt_border.{specs.Slots.fresh_slots, proofs.Edits.any_entry}
 use Rattle.mt_arena.specs.{declared.tree.Tree.Tree, NodeView.{NodeView, node_at}, Nodes.{AreNodes, IsNode, Holds}, Ranges.AreRanged, NodeFacts.IsUnstable}
-use Rattle.mt_arena.specs.{Forests.{HaveKeys, tree_at, layer_of}, Contents.{live_pairs, content}, Edits.fresh_root}
+use Rattle.mt_arena.specs.{Forests.{HaveKeys, tree_at, layer_of}, Contents.{live_pairs, content}, Edits.{fresh_root, cells_with}}
 use Rattle.mt_arena.specs.{Arena.{ArenaInvariant, ArenaView, Guarantee}, Layering.{MayMakeLayer, root_of, with_layer}}
 use Rattle.mt_arena.proofs.{Pairs.last, Links.slice_of_lt, NextLayer.only, Homes.{KeepsHome, HasKeysOf}, LinkEdits.KeepsLinks, Quiet.nodes_quiet}
 use Rattle.mt_arena.proofs.{Ranged.ranged_marked, Trees.{made, last_tree}, Steps.sound_set, Slots.{no_link, within_all}, Growing.{sound_tree, content_tree}}
@@ -92,13 +91,13 @@ module _ (v : ArenaView) (room more op : ℕ) (prefix : Bytes) (e : Entry) (soun
   }
 
   nodes_with : AreNodes (set ys (length xs) y)
-  nodes_with = subst (λ (n : NodeView). AreNodes (set ys (length xs) (record n { slots = e ∷ []; order = order_with fresh_order 0 }))) at
-      (nodes_quiet ys (length xs) (e ∷ []) (order_with fresh_order 0) (node_at ys (length xs)).version (node_at ys (length xs)).holder within empty.arena.nodes refl (λ held. held)
-      (subst (λ (n : NodeView). IsNode (length ys) (record n { slots = e ∷ []; order = order_with fresh_order 0 })) (sym at) root_node))
+  nodes_with = subst (λ (n : NodeView). AreNodes (set ys (length xs) (record n { slots = e ∷ []; cells = cells_with fresh_slots 0 e }))) at
+      (nodes_quiet ys (length xs) (e ∷ []) (cells_with fresh_slots 0 e) (node_at ys (length xs)).version (node_at ys (length xs)).holder within empty.arena.nodes refl (λ held. held)
+      (subst (λ (n : NodeView). IsNode (length ys) (record n { slots = e ∷ []; cells = cells_with fresh_slots 0 e })) (sym at) root_node))
 
   ranged_with : AreRanged (set ys (length xs) y)
-  ranged_with = subst (λ (n : NodeView). AreRanged (set ys (length xs) (record n { slots = e ∷ []; order = order_with fresh_order 0 }))) at
-      (ranged_marked ys (length xs) (e ∷ []) (order_with fresh_order 0) (node_at ys (length xs)).version within empty.arena.ranged refl (λ marked. marked) (λ whole. whole))
+  ranged_with = subst (λ (n : NodeView). AreRanged (set ys (length xs) (record n { slots = e ∷ []; cells = cells_with fresh_slots 0 e }))) at
+      (ranged_marked ys (length xs) (e ∷ []) (cells_with fresh_slots 0 e) (node_at ys (length xs)).version within empty.arena.ranged refl (λ marked. marked) (λ whole. whole))
 
   keys_with : HasKeysOf ts y
   keys_with = subst (λ (t : Tree). HaveKeys t.prefix (e ∷ [])) (sym tree_is) may.keys

@@ -1,11 +1,11 @@
 -- The facts of nodes are kept as the upper slots of a border node go to its right half: for `SplitStep`.
-use Rattle.mt_order.specs.Places.{Places}
+use Rattle.mt_border.specs.Slots.{Slotted}
 use Rattle.std.proofs.{Common.{◌≡◌, ◌≢◌, ℕ, ◌<◌, List, length, set, refl, sym, ap, ◌∙◌, arith}, lemmas.Option.same_Some}
 use Rattle.mt_border.specs.declared.entry.Entry.{Entry}
 use Rattle.mt_arena.specs.{NodeView.{NodeView, node_at}, Nodes.{AreNodes, IsNode, IsPair}, Splits.{Splits, left_half, right_half}}
 use Rattle.mt_arena.proofs.{Groups.{held_lock, border_children}, Pairs.are_set2, Ranges.child_ranges}
 
-module _ (xs : List NodeView) (i j : ℕ) (kept moved : List Entry) (kept_order moved_order : Places) (nodes : AreNodes xs) (differ : i ≢ j) (li : i < length xs) (lj : j < length xs)
+module _ (xs : List NodeView) (i j : ℕ) (kept moved : List Entry) (kept_cells moved_cells : Slotted) (nodes : AreNodes xs) (differ : i ≢ j) (li : i < length xs) (lj : j < length xs)
     (splits : Splits (node_at xs i) (node_at xs j) kept moved) where
   abbrev x : NodeView
   x = node_at xs i
@@ -14,10 +14,10 @@ module _ (xs : List NodeView) (i j : ℕ) (kept moved : List Entry) (kept_order 
   r = node_at xs j
 
   abbrev y : NodeView
-  y = left_half x kept kept_order r.low j
+  y = left_half x kept kept_cells r.low j
 
   abbrev z : NodeView
-  z = right_half x r moved moved_order i
+  z = right_half x r moved moved_cells i
 
   h : IsNode (length xs) x
   h = nodes.each i li
@@ -165,7 +165,7 @@ module _ (xs : List NodeView) (i j : ℕ) (kept moved : List Entry) (kept_order 
       ))
 
 -- node i keeps some of its slots, and node j gets the others
-pub nodes_split_move : (xs : List NodeView) (i j : ℕ) (kept moved : List Entry) (kept_order moved_order : Places) → i < length xs → j < length xs → i ≢ j → AreNodes xs
+pub nodes_split_move : (xs : List NodeView) (i j : ℕ) (kept moved : List Entry) (kept_cells moved_cells : Slotted) → i < length xs → j < length xs → i ≢ j → AreNodes xs
     → Splits (node_at xs i) (node_at xs j) kept moved
-    → AreNodes (set (set xs i (left_half (node_at xs i) kept kept_order (node_at xs j).low j)) j (right_half (node_at xs i) (node_at xs j) moved moved_order i))
-nodes_split_move xs i j kept moved kept_order moved_order li lj differ nodes splits = moved_nodes xs i j kept moved kept_order moved_order nodes differ li lj splits
+    → AreNodes (set (set xs i (left_half (node_at xs i) kept kept_cells (node_at xs j).low j)) j (right_half (node_at xs i) (node_at xs j) moved moved_cells i))
+nodes_split_move xs i j kept moved kept_cells moved_cells li lj differ nodes splits = moved_nodes xs i j kept moved kept_cells moved_cells nodes differ li lj splits

@@ -30,7 +30,7 @@ changes_pointed op x previous parent stays first = record {
   widens = λ same whole live. omega arith;
   keys = λ range insertion whole still. record { slots = refl; order = refl; separators = refl; children = refl };
   held =
-      λ q other e. record { holder = refl; version = refl; slots = refl; order = refl; separators = refl; children = refl; next = refl; high = refl; reach = refl; parented = λ some none. some (stays none); orphaned = first q other e };
+      λ q other e. record { holder = refl; version = refl; slots = refl; cells = refl; separators = refl; children = refl; next = refl; high = refl; reach = refl; parented = λ some none. some (stays none); orphaned = first q other e };
   taken = λ q other e. e;
 }
 

@@ -1,6 +1,6 @@
 -- Nodes keep their ranges, and right halves that wait for theirs keep their left halves, as one node changes or is added: for the
 -- invariant of every call.
-use Rattle.mt_order.specs.Places.{Places}
+use Rattle.mt_border.specs.Slots.{Slotted}
 use Rattle.std.proofs.Common.{◌≡◌, ◌≢◌, true, false, ℕ, ◌<◌, ◌≤◌, List, [], ◌∷◌, ◌++◌, length, Option, Some, None, set, refl, sym, ◌∙◌, arith}
 use Rattle.mt_version.specs.Parts.{Parts}
 use Rattle.mt_border.specs.declared.entry.Entry.{Entry}
@@ -72,13 +72,13 @@ ranged_set xs i y within ranged one s next was =
     }
 
 -- other slots and marks
-pub ranged_marked : (xs : List NodeView) (i : ℕ) (slots : List Entry) (order : Places) (version : Parts) → i < length xs → AreRanged xs
+pub ranged_marked : (xs : List NodeView) (i : ℕ) (slots : List Entry) (cells : Slotted) (version : Parts) → i < length xs → AreRanged xs
     → version.deleted ≡ (node_at xs i).version.deleted → ((node_at xs i).version.splitting ≡ true → version.splitting ≡ true)
-    → (version.splitting ≡ false → (node_at xs i).version.splitting ≡ false) → AreRanged (set xs i (turned (node_at xs i) slots order version (node_at xs i).holder))
-ranged_marked xs i slots order version within ranged same kept marked =
+    → (version.splitting ≡ false → (node_at xs i).version.splitting ≡ false) → AreRanged (set xs i (turned (node_at xs i) slots cells version (node_at xs i).holder))
+ranged_marked xs i slots cells version within ranged same kept marked =
     let x = node_at xs i in
     let h = ranged.each i within in
-    ranged_set xs i (turned x slots order version x.holder) within ranged record {
+    ranged_set xs i (turned x slots cells version x.holder) within ranged record {
       next = h.next;
       parent = h.parent;
       unmarked = λ whole live. h.unmarked (marked whole) (sym same ∙ live);

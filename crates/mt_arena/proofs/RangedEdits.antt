@@ -1,6 +1,6 @@
 -- Nodes keep their ranges where several change at once, in splits, under a new root, and where a node is taken out: for the calls that do
 -- so.
-use Rattle.mt_order.specs.Places.{Places}
+use Rattle.mt_border.specs.Slots.{Slotted}
 use Rattle.std.proofs.Common.{◌≡◌, ◌≢◌, false, ℕ, ◌<◌, List, [], ◌∷◌, ◌++◌, length, Some, None, set, refl, sym, ap, subst, ◌∙◌, arith}
 use Rattle.std.proofs.{lemmas.Option.same_Some, lemmas.List.length-set}
 use Rattle.mt_border.specs.declared.entry.Entry.{Entry}
@@ -22,20 +22,20 @@ ranged_half xs i low op within nodes ranged live level range held =
     let ys = set xs i m in
     let y = fresh_half x i low op in
     let size = length-set xs i m in
-    ranged_push ys y (all_beside ys nodes) (ranged_marked xs i x.slots x.order m.version within ranged refl (λ _. refl) (λ e. absurd (cc)))
+    ranged_push ys y (all_beside ys nodes) (ranged_marked xs i x.slots x.cells m.version within ranged refl (λ _. refl) (λ e. absurd (cc)))
     record { next = λ some. absurd (some refl); parent = λ some. absurd (some refl); unmarked = λ whole. absurd (cc); interior = λ above. absurd (omega (arith, above, level)); named = λ _ none. absurd (cc); fits = λ none. absurd (omega (arith, none)) }
     refl (λ e. absurd (omega (arith, same_Some _ _ e, within, size)))
     (λ j lt e _. subst (λ k. IsLeftHalf (node_at ys k) y) (same_Some _ _ e) (rw (here xs i m within) (record { live = live; range = range; marked = refl; tree = refl; level = refl; holder = held })))
 
 -- both halves of a split have a range
-pub ranged_split_move : (xs : List NodeView) (i j : ℕ) (kept moved : List Entry) (kept_order moved_order : Places) → i < length xs → j < length xs → i ≢ j → AreRanged xs
+pub ranged_split_move : (xs : List NodeView) (i j : ℕ) (kept moved : List Entry) (kept_cells moved_cells : Slotted) → i < length xs → j < length xs → i ≢ j → AreRanged xs
     → Splits (node_at xs i) (node_at xs j) kept moved
-    → AreRanged (set (set xs i (left_half (node_at xs i) kept kept_order (node_at xs j).low j)) j (right_half (node_at xs i) (node_at xs j) moved moved_order i))
-ranged_split_move xs i j kept moved kept_order moved_order li lj differ ranged s =
+    → AreRanged (set (set xs i (left_half (node_at xs i) kept kept_cells (node_at xs j).low j)) j (right_half (node_at xs i) (node_at xs j) moved moved_cells i))
+ranged_split_move xs i j kept moved kept_cells moved_cells li lj differ ranged s =
     let x = node_at xs i in
     let r = node_at xs j in
-    let y = left_half x kept kept_order r.low j in
-    let z = right_half x r moved moved_order i in
+    let y = left_half x kept kept_cells r.low j in
+    let z = right_half x r moved moved_cells i in
     let fits = (ranged.each i li).fits (omega (arith, s.above, s.below)) in
     let to_y : (k : ℕ) → k < length xs → AreTied k (node_at xs k) i y = λ k lk. tied_to k (node_at xs k) i x y (stays x y refl refl (λ _. s.above) refl refl refl) (ranged.ties k i lk li) in
     let to_z : (k : ℕ) → k < length xs → AreTied k (node_at xs k) j z = λ k lk. tied_to k (node_at xs k) j r z (stays r z refl refl (λ _. s.below) refl refl refl) (ranged.ties k j lk lj) in

@@ -1,5 +1,4 @@
 -- The whole invariant, the guarantee and the contents where a key is published, stored or dropped: for the calls of these names.
-use Rattle.mt_order.specs.Places.{order_with, order_without, Places}
 use Rattle.std.proofs.Common.{◌≡◌, ◌≢◌, ℕ, ◌*◌, ◌<◌, List, length, get_or, set, Bool, true, false, Some, None, refl, sym, ap, subst, ◌∙◌, arith}
 use Rattle.std.proofs.{lemmas.List.{length-drop, get_or-map, get_or_default}, lemmas.List.Elements.All-set}
 use Rattle.std.specs.{Prelude.{if◌then◌else◌, nat_le}, List.{All, remove}}
@@ -7,11 +6,11 @@ use Rattle.mt_version.proofs.Aging.{ages-marked_inserting}
 use Rattle.mt_slices.specs.{declared.mark.Mark.TheVariants.{Short, Long}, Marks.{mark_rank as rank}, Slices.{mark_of, rest_of}}
 use Rattle.mt_rows.specs.Rows.{Bytes, Columns}
 use Rattle.mt_border.specs.{declared.entry.Entry.Entry, Held.{Pair, Held, Stable, Unstable, Link}, Entry.{IsEntry, IsStablePair, CanHold, order_of, pair_of}}
-use Rattle.mt_border.specs.{Entries.{IsBorder, IsMissing, slices, place_in, with_entry, without, replaced}, Contents.{HasKey, owned}}
+use Rattle.mt_border.specs.{Slots.Slotted, Entries.{IsBorder, IsMissing, slices, place_in, with_entry, without, replaced}, Contents.{HasKey, owned}}
 use Rattle.mt_border.proofs.Edits.{any_entry, place_in-le, All-insert, All-remove, border_with_entry, border_without, border_set, without_at, replaced_at}
 use Rattle.mt_border.proofs.{ContentsKeys.has_rewritten_key, ContentsEdits.keys-publish}
 use Rattle.mt_arena.specs.{declared.tree.Tree.Tree, declared.retired.Retired.Retired, NodeView.{NodeView, node_at}, Nodes.Holds, Layers.slot_at}
-use Rattle.mt_arena.specs.{Forests.{HaveKeys, tree_at, layer_of}, Guarantee.Changes, Edits.with_slots, Arena.{ArenaInvariant, ArenaView, Guarantee}}
+use Rattle.mt_arena.specs.{Forests.{HaveKeys, tree_at, layer_of}, Guarantee.Changes, Edits.{with_slots, cells_with, cells_holding, cells_without}, Arena.{ArenaInvariant, ArenaView, Guarantee}}
 use Rattle.mt_arena.specs.{Contents.content, Accesses.{at, tree_of, IsOpen, with_node, with_row, MayPublish, MayChange}}
 use Rattle.mt_arena.proofs.{Quiet.nodes_slots, Ranged.ranged_marked, Homes.begun, Owners.{published, stored, dropped}}
 use Rattle.mt_arena.proofs.LinkEdits.{HasLinksOf, links_insert, links_insert_back, links_set, links_set_back, links_remove, links_remove_back}
@@ -36,35 +35,35 @@ pub record MayHold (trees : List Tree) (x : NodeView) (slots : List Entry) : Typ
   pub back : HasLinksOf x.slots slots
 
 -- the whole invariant stands where a held border node gets slots that it may hold
-pub sound_slots : (xs : List NodeView) (trees : List Tree) (gone : List Retired) (room i : ℕ) (slots : List Entry) (order : Places) → i < length xs
+pub sound_slots : (xs : List NodeView) (trees : List Tree) (gone : List Retired) (room i : ℕ) (slots : List Entry) (cells : Slotted) → i < length xs
     → ArenaInvariant xs trees gone room → (node_at xs i).holder ≢ None → (node_at xs i).level ≡ 0
-    → MayHold trees (node_at xs i) slots → ArenaInvariant (set xs i (with_slots (node_at xs i) slots order)) trees gone room
-sound_slots xs trees gone room i slots order within sound held level may =
+    → MayHold trees (node_at xs i) slots → ArenaInvariant (set xs i (with_slots (node_at xs i) slots cells)) trees gone room
+sound_slots xs trees gone room i slots cells within sound held level may =
     let x = node_at xs i in
-    sound_set xs trees gone room i (with_slots x slots order) within sound (nodes_slots xs i slots order within sound.arena.nodes held level may.border (within_all x slots may.inside)) (ranged_marked xs i slots order (with_slots x slots order).version within sound.arena.ranged refl (λ marked. marked) (λ whole. whole))
+    sound_set xs trees gone room i (with_slots x slots cells) within sound (nodes_slots xs i slots cells within sound.arena.nodes held level may.border (within_all x slots may.inside)) (ranged_marked xs i slots cells (with_slots x slots cells).version within sound.arena.ranged refl (λ marked. marked) (λ whole. whole))
     record { tree = refl; level = refl; low = refl; deleted = refl; flag = refl; root = λ r. record { live = r.live; flag = r.flag; parentless = r.parentless; low = r.low; reach = r.reach } }
     may.keys
     record { tree = refl; deleted = refl; forth = may.forth; back = may.back }
 
 -- other slots under the mark for readers of keys
-pub changes_slots : (op : ℕ) (x : NodeView) (slots : List Entry) (order : Places) → x.holder ≡ Some op → Changes op x (with_slots x slots order)
-changes_slots op x slots order mine = record {
+pub changes_slots : (op : ℕ) (x : NodeView) (slots : List Entry) (cells : Slotted) → x.holder ≡ Some op → Changes op x (with_slots x slots cells)
+changes_slots op x slots cells mine = record {
   tree = refl;
   level = refl;
   low = refl;
   ages = ages-marked_inserting x.version;
   peopled = λ some. some;
   widens = λ same whole live. omega arith;
-  keys = λ range insertion whole still. absurd (let marked = (versions.insert_age_tells x.version (with_slots x slots order).version insertion).1 in cc);
+  keys = λ range insertion whole still. absurd (let marked = (versions.insert_age_tells x.version (with_slots x slots cells).version insertion).1 in cc);
   held = λ q other e. absurd (not_others op q x mine other e);
   taken = λ q other e. e;
 }
 
 -- what other slots of a held node leave to others
-pub step_slots : (v : ArenaView) (i op : ℕ) (slots : List Entry) (order : Places) → i < length v.nodes → (at v i).holder ≡ Some op → IsOpen v i op
-    → Guarantee op v (with_node v i (with_slots (at v i) slots order))
-step_slots v i op slots order within held mine =
-    step_set op v i (with_slots (at v i) slots order) within (changes_slots op (at v i) slots order held) mine record { previous = λ j e not_mine. e; parent = λ j e not_mine. e }
+pub step_slots : (v : ArenaView) (i op : ℕ) (slots : List Entry) (cells : Slotted) → i < length v.nodes → (at v i).holder ≡ Some op → IsOpen v i op
+    → Guarantee op v (with_node v i (with_slots (at v i) slots cells))
+step_slots v i op slots cells within held mine =
+    step_set op v i (with_slots (at v i) slots cells) within (changes_slots op (at v i) slots cells held) mine record { previous = λ j e not_mine. e; parent = λ j e not_mine. e }
 
 -- a pair is no link
 pub no_link : (held : Held) → IsStablePair held → (u : ℕ) → held ≢ Link u
@@ -162,16 +161,16 @@ module _ (v : ArenaView) (room k op : ℕ) (key : Bytes) (sound : ArenaInvariant
   abbrev n : NodeView
   n = at v k
 
-  pub sound_published : (e : Entry) → MayPublish v k op key e → ArenaInvariant (set v.nodes k (with_slots n (with_entry n.slots e) (order_with n.order (place_in n.slots (order_of e))))) v.trees v.retired room
+  pub sound_published : (e : Entry) → MayPublish v k op key e → ArenaInvariant (set v.nodes k (with_slots n (with_entry n.slots e) (cells_with n.cells (place_in n.slots (order_of e)) e))) v.trees v.retired room
   sound_published e may =
-      sound_slots v.nodes v.trees v.retired room k (with_entry n.slots e) (order_with n.order (place_in n.slots (order_of e))) may.held.there sound (is_held op n may.held.holder) may.belongs.border.level
+      sound_slots v.nodes v.trees v.retired room k (with_entry n.slots e) (cells_with n.cells (place_in n.slots (order_of e)) e) may.held.there sound (is_held op n may.held.holder) may.belongs.border.level
       (may_publish v.nodes v.trees v.retired room k may.held.there sound e key may.room may.entry may.missing (subst (Holds n) (sym may.has.slice) may.belongs.holds) may.stable may.has
       (λ none. begun_mark key (layer_of (tree_of v k).prefix) may.belongs.begun (sym may.has.mark ∙ none)))
 
   pub content_published : (e : Entry) (pair : Pair) → MayPublish v k op key e → e.held ≡ Stable pair
-      → content v.trees (set v.nodes k (with_slots n (with_entry n.slots e) (order_with n.order (place_in n.slots (order_of e))))) ≡ finite.insert (content v.trees v.nodes) (owned key) pair.row
+      → content v.trees (set v.nodes k (with_slots n (with_entry n.slots e) (cells_with n.cells (place_in n.slots (order_of e)) e))) ≡ finite.insert (content v.trees v.nodes) (owned key) pair.row
   content_published e pair may is =
-      published v.nodes v.trees sound.arena (begun v.nodes v.trees sound.arena.forest) key (layer_of (tree_of v k).prefix) k may.belongs (with_slots n (with_entry n.slots e) (order_with n.order (place_in n.slots (order_of e)))) e pair may.has may.missing (ap pair_of is)
+      published v.nodes v.trees sound.arena (begun v.nodes v.trees sound.arena.forest) key (layer_of (tree_of v k).prefix) k may.belongs (with_slots n (with_entry n.slots e) (cells_with n.cells (place_in n.slots (order_of e)) e)) e pair may.has may.missing (ap pair_of is)
       record { slots = refl; deleted = refl; tree = refl }
 
   module _ (i : ℕ) (pair : Pair) (may : MayChange v k op key i pair) where
@@ -182,23 +181,23 @@ module _ (v : ArenaView) (room k op : ℕ) (key : Bytes) (sound : ArenaInvariant
     is_stable = subst IsStablePair (sym may.stable) tt
 
     pub sound_stored : (row : Columns) (stamp : ℕ)
-        → ArenaInvariant (set v.nodes k (with_slots n (replaced n.slots (with_row was pair row stamp)) n.order)) v.trees v.retired room
+        → ArenaInvariant (set v.nodes k (with_slots n (replaced n.slots (with_row was pair row stamp)) (cells_holding n.cells i (with_row was pair row stamp).held))) v.trees v.retired room
     sound_stored row stamp =
-        sound_slots v.nodes v.trees v.retired room k (replaced n.slots (with_row was pair row stamp)) n.order may.held.there sound (is_held op n may.held.holder) may.level
+        sound_slots v.nodes v.trees v.retired room k (replaced n.slots (with_row was pair row stamp)) (cells_holding n.cells i (with_row was pair row stamp).held) may.held.there sound (is_held op n may.held.holder) may.level
         (may_store v.nodes v.trees v.retired room k may.held.there sound i pair row stamp may.stands.in_range may.stable)
 
     pub content_stored : (row : Columns) (stamp : ℕ)
-        → content v.trees (set v.nodes k (with_slots n (replaced n.slots (with_row was pair row stamp)) n.order)) ≡ finite.insert (content v.trees v.nodes) (owned key) row
+        → content v.trees (set v.nodes k (with_slots n (replaced n.slots (with_row was pair row stamp)) (cells_holding n.cells i (with_row was pair row stamp).held))) ≡ finite.insert (content v.trees v.nodes) (owned key) row
     content_stored row stamp =
-        stored v.nodes v.trees sound.arena (begun v.nodes v.trees sound.arena.forest) key (layer_of (tree_of v k).prefix) k i pair may.stands (with_slots n (replaced n.slots (with_row was pair row stamp)) n.order) row stamp
+        stored v.nodes v.trees sound.arena (begun v.nodes v.trees sound.arena.forest) key (layer_of (tree_of v k).prefix) k i pair may.stands (with_slots n (replaced n.slots (with_row was pair row stamp)) (cells_holding n.cells i (with_row was pair row stamp).held)) row stamp
         record { slots = replaced_at n.slots i (with_row was pair row stamp) any_entry (sound.arena.nodes.each k may.held.there).slots.border.rising may.stands.in_range refl; deleted = refl; tree = refl }
 
-    pub sound_dropped : ArenaInvariant (set v.nodes k (with_slots n (without n.slots was) (order_without n.order i))) v.trees v.retired room
+    pub sound_dropped : ArenaInvariant (set v.nodes k (with_slots n (without n.slots was) (cells_without n.cells i))) v.trees v.retired room
     sound_dropped =
-        sound_slots v.nodes v.trees v.retired room k (without n.slots was) (order_without n.order i) may.held.there sound (is_held op n may.held.holder) may.level
+        sound_slots v.nodes v.trees v.retired room k (without n.slots was) (cells_without n.cells i) may.held.there sound (is_held op n may.held.holder) may.level
         (may_drop v.nodes v.trees v.retired room k may.held.there sound i may.stands.in_range is_stable)
 
-    pub content_dropped : content v.trees (set v.nodes k (with_slots n (without n.slots was) (order_without n.order i))) ≡ finite.remove (content v.trees v.nodes) (owned key)
+    pub content_dropped : content v.trees (set v.nodes k (with_slots n (without n.slots was) (cells_without n.cells i))) ≡ finite.remove (content v.trees v.nodes) (owned key)
     content_dropped =
-        dropped v.nodes v.trees sound.arena (begun v.nodes v.trees sound.arena.forest) key (layer_of (tree_of v k).prefix) k i pair may.stands (with_slots n (without n.slots was) (order_without n.order i))
+        dropped v.nodes v.trees sound.arena (begun v.nodes v.trees sound.arena.forest) key (layer_of (tree_of v k).prefix) k i pair may.stands (with_slots n (without n.slots was) (cells_without n.cells i))
         record { slots = without_at n.slots i was (sound.arena.nodes.each k may.held.there).slots.border.rising may.stands.in_range (get_or_default n.slots i any_entry was may.stands.in_range); deleted = refl; tree = refl }

@@ -1,5 +1,5 @@
 -- The facts of nodes, trees and links, and the guarantee, where a border node is split: for `Halving`.
-use Rattle.mt_order.specs.Places.{Places}
+use Rattle.mt_border.specs.Slots.{Slotted}
 use Rattle.std.proofs.Common.{◌≡◌, ◌≢◌, ◌⊎◌, ℕ, ◌<◌, ◌++◌, List, [], length, get_or, set, Some, false, refl, sym, ap, subst, ◌∙◌, inl, inr, arith}
 use Rattle.std.proofs.{lemmas.Bool.cases_eq, lemmas.List.length-set}
 use Rattle.mt_slices.specs.{Slices.piece_bytes, declared.mark.Mark.TheVariants.Long}
@@ -11,7 +11,7 @@ use Rattle.mt_arena.proofs.{Pairs.{here, there}, Homes.{KeepsHome, forest_set}, 
 use Rattle.mt_arena.proofs.{RangedEdits.ranged_split_move, Move.nodes_split_move, Guarantees.{guarantee_set, guarantee_on}}
 use Rattle.mt_arena.proofs.HeldChanges.{changes_left_half, changes_right_half}
 
-module _ (xs : List NodeView) (trees : List Tree) (i j : ℕ) (kept moved : List Entry) (kept_order moved_order : Places) (li : i < length xs) (lj : j < length xs) (differ : i ≢ j)
+module _ (xs : List NodeView) (trees : List Tree) (i j : ℕ) (kept moved : List Entry) (kept_cells moved_cells : Slotted) (li : i < length xs) (lj : j < length xs) (differ : i ≢ j)
     (s : Splits (node_at xs i) (node_at xs j) kept moved) where
   abbrev x : NodeView
   x = node_at xs i
@@ -20,10 +20,10 @@ module _ (xs : List NodeView) (trees : List Tree) (i j : ℕ) (kept moved : List
   r = node_at xs j
 
   abbrev y : NodeView
-  y = left_half x kept kept_order r.low j
+  y = left_half x kept kept_cells r.low j
 
   abbrev z : NodeView
-  z = right_half x r moved moved_order i
+  z = right_half x r moved moved_cells i
 
   abbrev ys : List NodeView
   ys = set xs i y
@@ -130,8 +130,8 @@ module _ (xs : List NodeView) (trees : List Tree) (i j : ℕ) (kept moved : List
       → ArenaInvariant zs trees gone room
   sound_split gone room sound empty no_root left right back_kept back_moved forth = record {
     arena = record {
-      nodes = nodes_split_move xs i j kept moved kept_order moved_order li lj differ sound.arena.nodes s;
-      ranged = ranged_split_move xs i j kept moved kept_order moved_order li lj differ sound.arena.ranged s;
+      nodes = nodes_split_move xs i j kept moved kept_cells moved_cells li lj differ sound.arena.nodes s;
+      ranged = ranged_split_move xs i j kept moved kept_cells moved_cells li lj differ sound.arena.ranged s;
       forest = forest_split sound.arena.forest left right no_root;
       layers = layers_split sound.arena.layers empty back_kept back_moved forth;
     };
@@ -143,7 +143,7 @@ module _ (xs : List NodeView) (trees : List Tree) (i j : ℕ) (kept moved : List
       → ((q : ℕ) → (tree_at trees x.tree).standing ≡ Made q → q ≡ op) → NodesGuarantee op xs zs trees trees
   guarantee_split op held also forest mine =
       guarantee_on op xs ys zs trees trees trees
-      (guarantee_set op xs trees i y li (changes_left_half op x kept kept_order r.low j held s.marked) mine)
-      (guarantee_set op ys trees j z ljy (subst (λ (n : NodeView). Changes op n z) (sym old_j) (changes_right_half op x r moved moved_order i also s.right_marked))
+      (guarantee_set op xs trees i y li (changes_left_half op x kept kept_cells r.low j held s.marked) mine)
+      (guarantee_set op ys trees j z ljy (subst (λ (n : NodeView). Changes op n z) (sym old_j) (changes_right_half op x r moved moved_cells i also s.right_marked))
       (λ q e. mine q (ap (λ t. (tree_at trees t).standing) (sym s.right_tree) ∙ ap (λ (n : NodeView). (tree_at trees n.tree).standing) (sym old_j) ∙ e)))
       forest.tree_there

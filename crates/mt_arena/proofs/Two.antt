@@ -27,16 +27,16 @@ module _ (all : List Entry) (xs : List NodeView) (i j : ℕ) (y z : NodeView) wh
 
   -- the two halves as the clause of a split wants them
   pub halved : (ys : List NodeView) → ys ≡ set (set xs i y) j z → IsParted all y.slots z.slots r.low → 0 < length y.slots → 0 < length z.slots
-      → y ≡ left_half x y.slots y.order r.low j → z ≡ right_half x r z.slots z.order i → AreHalved all xs ys i j
+      → y ≡ left_half x y.slots y.cells r.low j → z ≡ right_half x r z.slots z.cells i → AreHalved all xs ys i j
   halved ys are parted some_kept some_moved left right = record {
     kept = y.slots;
     moved = z.slots;
-    kept_order = y.order;
-    moved_order = z.order;
+    kept_cells = y.cells;
+    moved_cells = z.cells;
     parted = parted;
     some_kept = some_kept;
     some_moved = some_moved;
-    is = are ∙ ap (λ (n : NodeView). set (set xs i n) j z) left ∙ ap (λ (n : NodeView). set (set xs i (left_half x y.slots y.order r.low j)) j n) right;
+    is = are ∙ ap (λ (n : NodeView). set (set xs i n) j z) left ∙ ap (λ (n : NodeView). set (set xs i (left_half x y.slots y.cells r.low j)) j n) right;
   }
 
 -- and where the right one stands before the left one
@@ -57,7 +57,7 @@ in_back xs back j d is within =
 module _ (entry : Option Entry) (xs front back : List NodeView) (i j : ℕ) (d e y z : NodeView) where
   pub halved_front : front ≡ take j xs → back ≡ drop j xs → i < j → j < length xs
       → IsParted (with_some (get_or front i d).slots entry) y.slots z.slots (get_or back 0 e).low → 0 < length y.slots → 0 < length z.slots
-      → y ≡ left_half (get_or front i d) y.slots y.order (get_or back 0 e).low j → z ≡ right_half (get_or front i d) (get_or back 0 e) z.slots z.order i
+      → y ≡ left_half (get_or front i d) y.slots y.cells (get_or back 0 e).low j → z ≡ right_half (get_or front i d) (get_or back 0 e) z.slots z.cells i
       → AreHalved (with_some (node_at xs i).slots entry) xs (set front i y ++ set back 0 z) i j
   halved_front first second lt within parted some_kept some_moved left right =
       let x_is = in_front xs front i j d first lt within in
@@ -67,7 +67,7 @@ module _ (entry : Option Entry) (xs front back : List NodeView) (i j : ℕ) (d e
 
   pub halved_back : front ≡ take i xs → back ≡ drop i xs → i ≢ j → j ≤ i → i < length xs
       → IsParted (with_some (get_or back 0 d).slots entry) y.slots z.slots (get_or front j e).low → 0 < length y.slots → 0 < length z.slots
-      → y ≡ left_half (get_or back 0 d) y.slots y.order (get_or front j e).low j → z ≡ right_half (get_or back 0 d) (get_or front j e) z.slots z.order i
+      → y ≡ left_half (get_or back 0 d) y.slots y.cells (get_or front j e).low j → z ≡ right_half (get_or back 0 d) (get_or front j e) z.slots z.cells i
       → AreHalved (with_some (node_at xs i).slots entry) xs (set front j z ++ set back 0 y) i j
   halved_back first second differ le within parted some_kept some_moved left right =
       let r_is = in_front xs front j i e first (omega (arith, differ, le)) within in

@@ -148,7 +148,7 @@ module _ (v : ArenaView) (room parent left node step op : ℕ) (sound : ArenaInv
       let zs : List NodeView = set us parent (without_child p a) in
       let size = length-set us parent (without_child p a) in
       let z = node_at zs parent in
-      subst AreRanged marked (ranged_marked zs parent z.slots z.order (inserting z).version (omega (arith, lq, size_us, size)) (ranged_unlinked xs left node parent a nodes ranged unlinks) refl (λ splits. splits) (λ whole. whole))
+      subst AreRanged marked (ranged_marked zs parent z.slots z.cells (inserting z).version (omega (arith, lq, size_us, size)) (ranged_unlinked xs left node parent a nodes ranged unlinks) refl (λ splits. splits) (λ whole. whole))
 
   -- trees: a node that has a parent is no root
   same_root : (n m : NodeView) → m.version.deleted ≡ n.version.deleted → m.version.root ≡ n.version.root → m.parent ≡ n.parent → m.low ≡ n.low
@@ -222,7 +222,7 @@ module _ (v : ArenaView) (room parent left node step op : ℕ) (sound : ArenaInv
   turns_parent : MayTurn op v.trees p q
   turns_parent = record {
     changes =
-        changes_on op p (inserting p) q (changes_slots op p p.slots p.order may.held.holder) (changes_without_child op (inserting p) a may.held.holder refl may.beside.not_first may.beside.in_range);
+        changes_on op p (inserting p) q (changes_slots op p p.slots p.cells may.held.holder) (changes_without_child op (inserting p) a may.held.holder refl may.beside.not_first may.beside.in_range);
     mine = may.mine;
   }
 

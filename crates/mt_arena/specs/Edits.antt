@@ -1,13 +1,14 @@
 -- What single edits make of a node, and what they need of the others.
-use Rattle.std.specs.Prelude.{◌≡◌, ◌≢◌, ℕ, ◌<◌, ◌⊎◌, Bool, true, false, List, length, Option, Some, None}
+use Rattle.std.specs.Prelude.{◌≡◌, ◌≢◌, ℕ, ◌<◌, ◌⊎◌, ◌||◌, Bool, true, false, List, length, insert, remove, slice_set, slice_index, Option, Some, None}
 use Rattle.mt_version.specs.{Parts.{Parts, fresh_parts}, Changes.unlocked_parts}
-use Rattle.mt_order.specs.Places.{Places}
-use Rattle.mt_border.specs.declared.entry.Entry.{Entry}
+use Rattle.mt_order.specs.Places.{order_with, order_without}
+use Rattle.mt_slices.specs.declared.mark.Mark.{Mark}
+use Rattle.mt_border.specs.{declared.entry.Entry.Entry, Held.Held, Restamps.stamped, Slots.{Slotted, held_in, next_free, is_dropped}}
 use Rattle.mt_arena.specs.NodeView.{NodeView, node_at, no_node}
 
 -- a node with other slots, another version and another holder
-abbrev pub turned : NodeView → List Entry → Places → Parts → Option ℕ → NodeView
-turned n slots order version holder = record n { slots = slots; order = order; version = version; holder = holder }
+abbrev pub turned : NodeView → List Entry → Slotted → Parts → Option ℕ → NodeView
+turned n slots cells version holder = record n { slots = slots; cells = cells; version = version; holder = holder }
 
 -- a node whose lock an operation has taken
 abbrev pub locked : NodeView → ℕ → NodeView
@@ -29,8 +30,45 @@ abbrev pub retired : NodeView → NodeView
 retired n = record n { version = record n.version { deleted = true } }
 
 -- a border node with other slots: readers of its keys wait for it
-abbrev pub with_slots : NodeView → List Entry → Places → NodeView
-with_slots n slots order = record n { slots = slots; order = order; version = record n.version { inserting = true } }
+abbrev pub with_slots : NodeView → List Entry → Slotted → NodeView
+with_slots n slots cells = record n { slots = slots; cells = cells; version = record n.version { inserting = true } }
+
+-- the cells where the slot at a place of the order holds something else
+abbrev pub cells_holding : Slotted → ℕ → Held → Slotted
+cells_holding cells place held = record cells { helds = slice_set cells.helds (slice_index cells.order.live place) held }
+
+-- the cells where the free slot that is taken next holds this
+abbrev pub cells_filled : Slotted → Held → Slotted
+cells_filled cells held = record cells { helds = slice_set cells.helds (next_free cells) held }
+
+-- the cells where that slot is live, at a place of the order, with this entry
+abbrev pub cells_with : Slotted → ℕ → Entry → Slotted
+cells_with cells place e = record cells {
+  slices = insert cells.slices place e.slice;
+  marks = insert cells.marks place e.mark;
+  helds = slice_set cells.helds (next_free cells) e.held;
+  order = order_with cells.order place;
+}
+
+-- the cells where the slot at a place of the order was dropped: it holds what it held, and is the one that is taken next
+abbrev pub cells_without : Slotted → ℕ → Slotted
+cells_without cells place = record cells {
+  slices = remove cells.slices place;
+  marks = remove cells.marks place;
+  dropped = slice_set cells.dropped (slice_index cells.order.live place) true;
+  order = order_without cells.order place;
+}
+
+-- a border node whose free slot that is taken next holds this: readers wait for it where that slot was ever dropped
+abbrev pub with_filled : NodeView → Held → NodeView
+with_filled n held = record n {
+  cells = cells_filled n.cells held;
+  version = record n.version { inserting = is_dropped n.cells (next_free n.cells) || n.version.inserting };
+}
+
+-- the entry of a slice and a mark with what that slot holds, placed by the step of this number
+abbrev pub entry_filled : NodeView → ℕ → Mark → ℕ → Entry
+entry_filled n slice mark stamp = record { slice = slice; mark = mark; held = stamped stamp (held_in n.cells.helds (next_free n.cells)) }
 
 -- a node with another one before it and another parent
 abbrev pub pointed : NodeView → Option ℕ → Option ℕ → NodeView

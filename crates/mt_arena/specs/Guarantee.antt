@@ -9,7 +9,7 @@ pub record IsUntouched (n m : NodeView) : Type 0 where
   pub holder : m.holder ≡ n.holder
   pub version : m.version ≡ n.version
   pub slots : m.slots ≡ n.slots
-  pub order : m.order ≡ n.order
+  pub cells : m.cells ≡ n.cells
   pub separators : m.separators ≡ n.separators
   pub children : m.children ≡ n.children
   pub next : m.next ≡ n.next
@@ -21,7 +21,7 @@ pub record IsUntouched (n m : NodeView) : Type 0 where
 -- what stands while the version does
 pub record HasSameKeys (n m : NodeView) : Type 0 where
   pub slots : m.slots ≡ n.slots
-  pub order : m.order ≡ n.order
+  pub order : m.cells.order ≡ n.cells.order
   pub separators : m.separators ≡ n.separators
   pub children : m.children ≡ n.children
 

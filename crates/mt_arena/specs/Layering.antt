@@ -1,12 +1,11 @@
 -- What the calls that make a layer need, and what they leave.
-use Rattle.mt_order.specs.Places.{order_with, fresh_order}
 use Rattle.std.specs.{Prelude.{◌≡◌, ℕ, ◌<◌, false, List, [], ◌∷◌, ◌++◌, length, Some, None, slice_set}, List.remove}
 use Rattle.mt_slices.specs.{Slices.{slice_of, mark_of, suffix_of, piece_bytes}, declared.mark.Mark.TheVariants.Long}
 use Rattle.mt_rows.specs.Rows.{Bytes, Columns}
-use Rattle.mt_border.specs.{Contents.HasKey, Entry.{IsEntry, IsStablePair}, Entries.replaced, declared.entry.Entry.Entry}
+use Rattle.mt_border.specs.{Contents.HasKey, Entry.{IsEntry, IsStablePair}, Entries.replaced, Slots.fresh_slots, declared.entry.Entry.Entry}
 use Rattle.mt_border.specs.Held.{Pair, Held, Stable, Unstable, Link}
 use Rattle.mt_arena.specs.{declared.tree.Standing.TheVariants.{Made, Live}, NodeView.{NodeView, node_at}, Forests.{HaveKeys, tree_at, layer_of}, Layers.slot_at}
-use Rattle.mt_arena.specs.{Ways.IsMadeFor, Settled.IsSettled, Edits.{with_slots, fresh_root}, Arena.ArenaView, Accesses.{at, tree_of, IsHeld, IsFreshPrefix}}
+use Rattle.mt_arena.specs.{Ways.IsMadeFor, Settled.IsSettled, Edits.{with_slots, cells_holding, cells_with, fresh_root}, Arena.ArenaView, Accesses.{at, tree_of, IsHeld, IsFreshPrefix}}
 
 -- a tree of this prefix may be made of this entry alone: it has a pair of a key that begins so, and no live tree has the prefix
 pub record MayMakeLayer (v : ArenaView) (prefix : Bytes) (e : Entry) : Type 0 where
@@ -17,7 +16,7 @@ pub record MayMakeLayer (v : ArenaView) (prefix : Bytes) (e : Entry) : Type 0 wh
 
 -- the first node of a tree, with one slot
 abbrev pub root_of : ℕ → Entry → NodeView
-root_of tree e = record (fresh_root tree) { slots = e ∷ []; order = order_with fresh_order 0 }
+root_of tree e = record (fresh_root tree) { slots = e ∷ []; cells = cells_with fresh_slots 0 e }
 
 -- an arena with one more tree, which the operation makes, and with its root, which has this entry alone
 abbrev pub with_layer : ArenaView → Bytes → Entry → ℕ → ArenaView
@@ -74,7 +73,7 @@ MayGoLive v node i t op key pair = IsLayerOf v node i t op (Unstable pair (Some 
 
 -- a border node of which a slot holds something else: readers of its keys wait for it
 abbrev pub with_held : NodeView → ℕ → Held → NodeView
-with_held n i held = with_slots n (replaced n.slots (record (slot_at n i) { held = held })) n.order
+with_held n i held = with_slots n (replaced n.slots (record (slot_at n i) { held = held })) (cells_holding n.cells i held)
 
 -- an arena in which a slot holds something else
 abbrev pub with_slot : ArenaView → ℕ → ℕ → Held → ArenaView

@@ -1,17 +1,18 @@
 -- A node as the arena's facts see it: one record for both kinds.
 use Rattle.std.specs.Prelude.{◌≡◌, ℕ, ◌<◌, true, false, List, [], Option, None, slice_index_or}
 use Rattle.mt_version.specs.Parts.{Parts, fresh_parts}
-use Rattle.mt_order.specs.Places.{Places, fresh_order, place_of_slot}
-use Rattle.mt_border.specs.{declared.entry.Entry.Entry, Node.{Node as BorderNode, entries_of}}
+use Rattle.mt_order.specs.Places.{place_of_slot}
+use Rattle.mt_border.specs.{declared.entry.Entry.Entry, Slots.{Slotted, fresh_slots}, Node.{Node as BorderNode, entries_of}}
 use Rattle.mt_interior.specs.Node.{InteriorNode}
 use Rattle.mt_arena.specs.{declared.node.NodeKind.NodeKind, declared.node.NodeKind.TheVariants.{Leaf, Inner}}
 
 -- The low fence is the least slice of its range, and the high one the least behind it. Its reach is the end of the range that its
 -- parent gives it: the high fence, but for a node whose right half is in no parent yet. Border nodes have level 0. A border node has
--- slots, their order and neighbours, an interior one separators and children. Facts name a slot by its place in the order of keys.
+-- slots, its cells and neighbours, an interior one separators and children. Facts name a slot by its place in the order of keys. The cells are
+-- all fifteen, in the order of their numbers, live or free, with what each holds.
 pub record NodeView : Type 0 where
   pub slots : List Entry
-  pub order : Places
+  pub cells : Slotted
   pub separators : List ℕ
   pub children : List ℕ
   pub next : Option ℕ
@@ -29,7 +30,7 @@ pub record NodeView : Type 0 where
 abbrev pub border_view : BorderNode → ℕ → ℕ → Option ℕ → Option ℕ → NodeView
 border_view b tree level reach holder = record {
   slots = entries_of b;
-  order = b.slots.order;
+  cells = b.slots;
   separators = [];
   children = [];
   next = b.next;
@@ -47,7 +48,7 @@ border_view b tree level reach holder = record {
 abbrev pub interior_view : InteriorNode → ℕ → ℕ → Option ℕ → Option ℕ → NodeView
 interior_view i tree level reach holder = record {
   slots = [];
-  order = fresh_order;
+  cells = fresh_slots;
   separators = i.separators;
   children = i.children;
   next = None;
@@ -75,7 +76,7 @@ IsOfKind (Inner i) level = 0 < level
 abbrev pub no_node : NodeView
 no_node = record {
   slots = [];
-  order = fresh_order;
+  cells = fresh_slots;
   separators = [];
   children = [];
   next = None;
@@ -92,7 +93,7 @@ no_node = record {
 
 -- the place of a slot among those of a border node's slots that have entries
 abbrev pub place_at : NodeView → ℕ → ℕ
-place_at n slot = place_of_slot n.order.live slot
+place_at n slot = place_of_slot n.cells.order.live slot
 
 -- the node of a number
 abbrev pub node_at : List NodeView → ℕ → NodeView

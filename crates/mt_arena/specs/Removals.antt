@@ -1,10 +1,9 @@
 -- What the calls that take out nodes and trees need, and what they leave.
-use Rattle.mt_order.specs.Places.{order_without}
 use Rattle.std.specs.Prelude.{◌≡◌, ℕ, ◌-◌, ◌<◌, false, List, [], ◌∷◌, ◌++◌, length, Some, slice_set, slice_index}
 use Rattle.mt_border.specs.{Entries.without, Held.Link}
 use Rattle.mt_interior.specs.Places.{place_of}
 use Rattle.mt_arena.specs.{declared.tree.Standing.TheVariants.Dead, declared.retired.Retired.Retired, NodeView.{NodeView, node_at}, Forests.tree_at}
-use Rattle.mt_arena.specs.{Layers.slot_at, Edits.{inserting, retired, with_slots}, Unlinks.{joined, without_child}, Collapses.crowned, Arena.ArenaView}
+use Rattle.mt_arena.specs.{Layers.slot_at, Edits.{inserting, retired, with_slots, cells_without}, Unlinks.{joined, without_child}, Collapses.crowned, Arena.ArenaView}
 use Rattle.mt_arena.specs.Accesses.{at, tree_of, IsHeld, IsOpen}
 
 -- the list of the retired with one more node, which the step of this number took out
@@ -89,7 +88,7 @@ pub record MayDropLayer (v : ArenaView) (node i u op : ℕ) : Type 0 where
 abbrev pub nodes_above : List NodeView → ℕ → ℕ → ℕ → List NodeView
 nodes_above nodes node i root =
     let n = node_at nodes node in
-    slice_set (slice_set nodes node (with_slots n (without n.slots (slot_at n i)) (order_without n.order i))) root (retired (node_at nodes root))
+    slice_set (slice_set nodes node (with_slots n (without n.slots (slot_at n i)) (cells_without n.cells i))) root (retired (node_at nodes root))
 
 -- an arena of which this step took a tree out, with its root and the link to it
 abbrev pub without_layer : ArenaView → ℕ → ℕ → ℕ → ℕ → ArenaView

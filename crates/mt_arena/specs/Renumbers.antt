@@ -1,12 +1,16 @@
 -- All nodes with counters at 0 and one stamp for all pairs: what is left where nobody remembers a version.
 use Rattle.std.specs.Prelude.{ℕ, List, map}
 use Rattle.mt_version.specs.Parts.{uncounted}
-use Rattle.mt_border.specs.Restamps.{all_restamped}
+use Rattle.mt_border.specs.Restamps.{all_restamped, stamped}
 use Rattle.mt_arena.specs.{NodeView.NodeView, Arena.ArenaView}
 
 -- a node whose version counts no change, and all whose pairs were placed by the step of this number
 abbrev pub renumbered : ℕ → NodeView → NodeView
-renumbered stamp n = record n { slots = all_restamped stamp n.slots; version = uncounted n.version }
+renumbered stamp n = record n {
+  slots = all_restamped stamp n.slots;
+  cells = record n.cells { helds = map (stamped stamp) n.cells.helds };
+  version = uncounted n.version;
+}
 
 -- all nodes
 abbrev pub all_renumbered : ℕ → List NodeView → List NodeView

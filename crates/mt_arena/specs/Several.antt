@@ -1,5 +1,5 @@
 -- What the calls that change several nodes at once need, and what they leave.
-use Rattle.mt_order.specs.Places.{Places}
+use Rattle.mt_border.specs.Slots.{Slotted}
 use Rattle.std.specs.Prelude.{◌≡◌, ◌≢◌, ℕ, ◌<◌, true, false, List, [], ◌∷◌, ◌++◌, length, Some, None, slice_set}
 use Rattle.mt_slices.specs.{declared.mark.Mark.Mark, Marks.IsMark}
 use Rattle.mt_rows.specs.Rows.{Bytes}
@@ -47,12 +47,12 @@ pub record MayPlace (v : ArenaView) (left op : ℕ) (key : Bytes) (e : Entry) : 
 pub record AreHalved (all : List Entry) (old new : List NodeView) (left right : ℕ) : Type 0 where
   pub kept : List Entry
   pub moved : List Entry
-  pub kept_order : Places
-  pub moved_order : Places
+  pub kept_cells : Slotted
+  pub moved_cells : Slotted
   pub parted : IsParted all kept moved (node_at old right).low
   pub some_kept : 0 < length kept
   pub some_moved : 0 < length moved
-  pub is : new ≡ slice_set (slice_set old left (left_half (node_at old left) kept kept_order (node_at old right).low right)) right (right_half (node_at old left) (node_at old right) moved moved_order left)
+  pub is : new ≡ slice_set (slice_set old left (left_half (node_at old left) kept kept_cells (node_at old right).low right)) right (right_half (node_at old left) (node_at old right) moved moved_cells left)
 
 -- the operation may put a new root over the halves of one: it holds both, both are marked, and the left one is the root
 pub record MayGrow (v : ArenaView) (left right op : ℕ) : Type 0 where

@@ -1,7 +1,7 @@
 -- What a split makes of two nodes and of their parent, and what it needs.
 use Rattle.std.specs.Prelude.{take, drop, ◌≡◌, ◌≢◌, ℕ, ◌+◌, ◌<◌, true, false, List, length, insert, Option, Some, None, slice_index}
 use Rattle.mt_border.specs.{declared.entry.Entry.Entry, Entries.{IsBorder, with_entry}}
-use Rattle.mt_order.specs.Places.{Places}
+use Rattle.mt_border.specs.Slots.{Slotted}
 use Rattle.mt_interior.specs.{Places.place_of, Fences.end_of}
 use Rattle.mt_arena.specs.{NodeView.{NodeView, node_at}, Nodes.HasChild, NodeFacts.AreWithin, Edits.bare}
 
@@ -11,12 +11,12 @@ with_some entries None = entries
 with_some entries (Some e) = with_entry entries e
 
 -- what is left of a border node that keeps these slots and ends where the right half begins
-abbrev pub left_half : NodeView → List Entry → Places → ℕ → ℕ → NodeView
-left_half x kept order low right = record x { slots = kept; order = order; high = Some low; next = Some right }
+abbrev pub left_half : NodeView → List Entry → Slotted → ℕ → ℕ → NodeView
+left_half x kept cells low right = record x { slots = kept; cells = cells; high = Some low; next = Some right }
 
 -- the right half with the other slots, which ends where the node ended
-abbrev pub right_half : NodeView → NodeView → List Entry → Places → ℕ → NodeView
-right_half x r moved order left = record r { slots = moved; order = order; high = x.high; reach = x.reach; next = x.next; previous = Some left }
+abbrev pub right_half : NodeView → NodeView → List Entry → Slotted → ℕ → NodeView
+right_half x r moved cells left = record r { slots = moved; cells = cells; high = x.high; reach = x.reach; next = x.next; previous = Some left }
 
 -- a marked border node x and a right half r without range, which begins within it; the slots that x keeps, and those that r gets
 pub record Splits (x r : NodeView) (kept moved : List Entry) : Type 0 where

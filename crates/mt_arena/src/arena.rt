@@ -11,13 +11,12 @@ ghost use Rattle.std.specs.Vec.{vec_len, vec_capacity};
 ghost use Rattle.std.specs.FinMap as finite;
 ghost use Rattle.mt_rows.specs.Rows.{Bytes};
 ghost use Rattle.mt_version.specs.Changes.{CanUnlock};
-ghost use Rattle.mt_order.specs.Places.{order_with, order_without};
 ghost use Rattle.mt_border.specs.{declared.border.TheConstants.SLOTS, declared.entry.Entry.Entry, Held.{Pair, Stable}, Entry.{IsEntry, IsStablePair, order_of}};
-ghost use Rattle.mt_border.specs.{Entries.{IsMissing, place_in, with_entry, without, replaced}, Contents.{HasKey, owned}};
+ghost use Rattle.mt_border.specs.{Slots.{held_in, next_free}, Entries.{IsMissing, place_in, with_entry, without, replaced}, Contents.{HasKey, owned}};
 ghost use Rattle.mt_border.specs.Split.{IsParted, IsSeparator, slices_with};
 ghost use Rattle.mt_arena.specs.{declared.tree.Standing.TheVariants.Live, NodeView.{node_at, place_at, border_view, interior_view}, Nodes.{Holds, HasRange}};
 ghost use Rattle.mt_arena.specs.{Forests.{HasSlice, tree_at, layer_of}, Layers.slot_at, Settled.IsSettled, Ranges.Waits};
-ghost use Rattle.mt_arena.specs.Edits.{locked, unlocked, with_slots, pointed, fresh_root, Points};
+ghost use Rattle.mt_arena.specs.Edits.{locked, unlocked, with_slots, pointed, fresh_root, Points, cells_holding, cells_with, cells_without, with_filled, entry_filled};
 ghost use Rattle.mt_arena.specs.{Arena.{IsArena, AreRetired, content_of, Guarantee, live_count}, Renumbers.{all_renumbered, arena_renumbered}};
 ghost use Rattle.mt_arena.specs.Splits.{with_some};
 ghost use Rattle.mt_arena.specs.Several.{AreHalved, MaySplit, MayPlace, MayGrow, with_top, with_root, MayInsert, with_right, MaySplitInner, with_parts};
@@ -28,7 +27,7 @@ ghost use Rattle.mt_interior.specs.Places.{IsNew};
 use crate::node::Node;
 use crate::retired::Retired;
 use crate::tree::{Prefix, Standing, Tree};
-use mt_border::{Border, Entry};
+use mt_border::{Border, Entry, Held};
 use mt_interior::Interior;
 use mt_rows::Row;
 use mt_slices::Mark;
@@ -190,17 +189,42 @@ impl Arena {
         self.nodes[node].set_parent(Some(parent));
     }
 
-    /// Makes the pair of a missing key live in the border node in which it belongs, and marks the node
-    /// for readers of its keys.
-    pub fn publish(&mut self, node: usize, entry: Entry, operation: usize)
-        requires may { (key : Bytes) × MayPublish self.old node operation key entry }
-        ensures is { self.new ≡ with_node self.old node (with_slots (at self.old node) (with_entry (at self.old node).slots entry)
-            (order_with (at self.old node).order (place_in (at self.old node).slots (order_of entry)))) }
+    /// Writes what the free slot of a border node holds that is taken next, and gives back what it held.
+    /// Where that slot was ever dropped, the node is marked for readers of its keys before.
+    pub fn fill(&mut self, node: usize, held: Held, operation: usize) -> Held
+        requires holds { IsHeld self.old node operation }
+        requires mine { IsOpen self.old node operation }
+        requires border { (at self.old node).level ≡ 0 }
+        requires room { length (at self.old node).slots < SLOTS }
+        ensures before { let cells = (at self.old node).cells in result ≡ held_in cells.helds (next_free cells) }
+        ensures is { self.new ≡ with_node self.old node (with_filled (at self.old node) held) }
+        ensures there { let cells = (with_filled (at self.old node) held).cells in held_in cells.helds (next_free cells) ≡ held }
         ensures step { Guarantee operation self.old self.new }
-        ensures contents { (key : Bytes) (pair : Pair) → MayPublish self.old node operation key entry → entry.held ≡ Stable pair →
+        ensures contents { content_of self.new ≡ content_of self.old }
+    {
+        self.nodes[node].fill(held)
+    }
+
+    /// Makes the slot that was filled live, with the pair of a missing key, placed by the step `stamp`, in
+    /// the border node in which the key belongs, and marks the node for readers of its keys.
+    pub fn publish_filled(
+        &mut self,
+        node: usize,
+        slice: u64,
+        mark: Mark,
+        stamp: u64,
+        operation: usize,
+    )
+        requires may { (key : Bytes) × MayPublish self.old node operation key (entry_filled (at self.old node) slice mark stamp) }
+        ensures is { let entry = entry_filled (at self.old node) slice mark stamp in
+            self.new ≡ with_node self.old node (with_slots (at self.old node) (with_entry (at self.old node).slots entry)
+            (cells_with (at self.old node).cells (place_in (at self.old node).slots (order_of entry)) entry)) }
+        ensures step { Guarantee operation self.old self.new }
+        ensures contents { let entry = entry_filled (at self.old node) slice mark stamp in
+            (key : Bytes) (pair : Pair) → MayPublish self.old node operation key entry → entry.held ≡ Stable pair →
             content_of self.new ≡ finite.insert (content_of self.old) (owned key) pair.row }
     {
-        self.nodes[node].publish(entry);
+        self.nodes[node].publish_filled(slice, mark, stamp);
     }
 
     /// Puts another row, placed by the step `stamp`, in the place of a key's, and marks the node for
@@ -210,7 +234,8 @@ impl Arena {
         ensures before { (pair : Pair) → (slot_at (at self.old node) (place_at (at self.old node) slot)).held ≡ Stable pair → result ≡ pair.row }
         ensures is { (pair : Pair) → (slot_at (at self.old node) (place_at (at self.old node) slot)).held ≡ Stable pair →
             self.new ≡ with_node self.old node (with_slots (at self.old node)
-            (replaced (at self.old node).slots (with_row (slot_at (at self.old node) (place_at (at self.old node) slot)) pair row stamp)) (at self.old node).order) }
+            (replaced (at self.old node).slots (with_row (slot_at (at self.old node) (place_at (at self.old node) slot)) pair row stamp))
+            (cells_holding (at self.old node).cells (place_at (at self.old node) slot) (Stable (record pair { row = row; stamp = stamp })))) }
         ensures step { Guarantee operation self.old self.new }
         ensures contents { (key : Bytes) (pair : Pair) → MayChange self.old node operation key (place_at (at self.old node) slot) pair →
             content_of self.new ≡ finite.insert (content_of self.old) (owned key) row }
@@ -218,17 +243,17 @@ impl Arena {
         self.nodes[node].store(slot, row, stamp)
     }
 
-    /// Takes a key's pair out, and marks the node for readers of its keys; gives its entry back.
-    pub fn drop_key(&mut self, node: usize, slot: usize, operation: usize) -> Entry
+    /// Makes a key's pair live no more, and marks the node for readers of its keys. Its slot holds the pair
+    /// until it is filled again.
+    pub fn let_go(&mut self, node: usize, slot: usize, operation: usize)
         requires may { (key : Bytes) × (pair : Pair) × MayChange self.old node operation key (place_at (at self.old node) slot) pair }
-        ensures before { result ≡ slot_at (at self.old node) (place_at (at self.old node) slot) }
-        ensures is { self.new ≡ with_node self.old node (with_slots (at self.old node) (without (at self.old node).slots result)
-            (order_without (at self.old node).order (place_at (at self.old node) slot))) }
+        ensures is { let n = at self.old node in let place = place_at n slot in
+            self.new ≡ with_node self.old node (with_slots n (without n.slots (slot_at n place)) (cells_without n.cells place)) }
         ensures step { Guarantee operation self.old self.new }
         ensures contents { (key : Bytes) (pair : Pair) → MayChange self.old node operation key (place_at (at self.old node) slot) pair →
             content_of self.new ≡ finite.remove (content_of self.old) (owned key) }
     {
-        self.nodes[node].drop_key(slot)
+        self.nodes[node].let_go(slot);
     }
 
     /// Begins the split of a border node: marks it for readers of its range, and makes its right half, a

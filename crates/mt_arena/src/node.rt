@@ -4,12 +4,12 @@
 //! No call takes memory; all change the node in place. What fits together between nodes is the
 //! arena's to keep: whoever changes a node does it through a call of `arena.rt`.
 
-ghost use Rattle.std.specs.Prelude.{◌≡◌, ◌≢◌, ◌<◌, ℕ, [], IfSome, IsSome, IfNone, Some, None, length, true, false, ◌↔◌};
+ghost use Rattle.std.specs.Prelude.{◌≡◌, ◌≢◌, ◌<◌, ◌||◌, ℕ, [], IfSome, IsSome, IfNone, Some, None, length, true, false, ◌↔◌};
 ghost use Rattle.mt_version.specs.Parts.{fresh_parts};
 ghost use Rattle.mt_interior.specs.{Node.childless, Places.IsNew};
 ghost use Rattle.mt_interior.specs.Changes as inner;
 
-use mt_border::{Border, Entry};
+use mt_border::{Border, Entry, Held};
 use mt_interior::Interior;
 use mt_rows::Row;
 use mt_slices::Mark;
@@ -47,11 +47,11 @@ impl Model for Node {
 
 impl Node {
     ghost use Rattle.mt_version.specs.Changes.{CanUnlock};
-    ghost use Rattle.mt_order.specs.Places.{order_with, order_without};
-    ghost use Rattle.mt_border.specs.{Entry.{IsEntry, IsStablePair, order_of}, Entries.{IsMissing, place_in, with_entry, without, replaced}};
+    ghost use Rattle.mt_border.specs.{Slots.{held_in, next_free, is_dropped}, Entry.{IsEntry, IsStablePair, order_of}, Entries.{IsMissing, place_in, with_entry, without, replaced}};
     ghost use Rattle.mt_border.specs.{declared.border.TheConstants.SLOTS, Held.{Pair, Stable}, Split.{IsParted, IsSeparator, slices_with}};
     ghost use Rattle.mt_arena.specs.{NodeView.{NodeView, place_at, border_view, interior_view, IsOfKind}, Layers.slot_at};
     ghost use Rattle.mt_arena.specs.Edits.{locked, unlocked, inserting, splitting, retired, with_slots, pointed, fresh_half, fresh_root};
+    ghost use Rattle.mt_arena.specs.Edits.{cells_holding, cells_with, cells_without, with_filled, entry_filled};
     ghost use Rattle.mt_arena.specs.Splits.{with_some, left_half, right_half, with_child, exact, inner_left, inner_right};
     ghost use Rattle.mt_arena.specs.{Growth.{fresh_top, below_top, left_below}, Renumbers.renumbered};
     ghost use Rattle.mt_slices.specs.Marks.{IsMark};
@@ -263,16 +263,58 @@ impl Node {
         }
     }
 
-    /// Makes one more key live, and marks the node for its readers.
-    pub(crate) fn publish(&mut self, entry: Entry)
+    /// Writes what the free slot holds that is taken next, and gives back what it held. Where that slot
+    /// was ever dropped, the node is marked for its readers before.
+    pub(crate) fn fill(&mut self, held: Held) -> Held
         requires border { self.old.level ≡ 0 }
         requires room { length self.old.slots < SLOTS }
-        requires entry { IsEntry entry }
-        requires missing { IsMissing self.old.slots entry.slice entry.mark }
-        ensures { self.new ≡ with_slots self.old (with_entry self.old.slots entry) (order_with self.old.order (place_in self.old.slots (order_of entry))) }
+        ensures before { result ≡ held_in self.old.cells.helds (next_free self.old.cells) }
+        ensures after { self.new ≡ with_filled self.old held }
+        ensures there { held_in self.new.cells.helds (next_free self.new.cells) ≡ held }
+    {
+        self.mark_where_dropped();
+        match &mut self.kind {
+            NodeKind::Leaf(border) => border.fill(held),
+            NodeKind::Inner(_) => unreachable!(),
+        }
+    }
+
+    // Marks the node for its readers where the free slot that is taken next was ever dropped.
+    fn mark_where_dropped(&mut self)
+        requires border { self.old.level ≡ 0 }
+        requires room { length self.old.slots < SLOTS }
+        ensures { let dropped = is_dropped self.old.cells (next_free self.old.cells) in
+            self.new ≡ record self.old { version = record self.old.version { inserting = dropped || self.old.version.inserting } } }
+    {
+        if self.was_dropped() {
+            self.mark_inserting();
+        }
+    }
+
+    // Whether the free slot that is taken next was ever dropped.
+    fn was_dropped(&self) -> bool
+        requires border { self.now.level ≡ 0 }
+        requires room { length self.now.slots < SLOTS }
+        ensures { result ≡ is_dropped self.now.cells (next_free self.now.cells) }
+    {
+        match &self.kind {
+            NodeKind::Leaf(border) => border.was_dropped(border.next_free()),
+            NodeKind::Inner(_) => unreachable!(),
+        }
+    }
+
+    /// Makes the slot that was filled live, for the key of this slice and mark, placed by the step
+    /// `stamp`, and marks the node for its readers.
+    pub(crate) fn publish_filled(&mut self, slice: u64, mark: Mark, stamp: u64)
+        requires border { self.old.level ≡ 0 }
+        requires room { length self.old.slots < SLOTS }
+        requires entry { IsEntry (entry_filled self.old slice mark stamp) }
+        requires missing { IsMissing self.old.slots slice mark }
+        ensures { let entry = entry_filled self.old slice mark stamp in
+            self.new ≡ with_slots self.old (with_entry self.old.slots entry) (cells_with self.old.cells (place_in self.old.slots (order_of entry)) entry) }
     {
         match &mut self.kind {
-            NodeKind::Leaf(border) => border.publish(entry),
+            NodeKind::Leaf(border) => border.publish_filled(slice, mark, stamp),
             NodeKind::Inner(_) => unreachable!(),
         }
         self.mark_inserting();
@@ -287,7 +329,8 @@ impl Node {
         ensures before { (pair : Pair) → (slot_at self.old (place_at self.old slot)).held ≡ Stable pair → result ≡ pair.row }
         ensures after { (pair : Pair) → (slot_at self.old (place_at self.old slot)).held ≡ Stable pair →
             self.new ≡ with_slots self.old (replaced self.old.slots
-            (record (slot_at self.old (place_at self.old slot)) { held = Stable (record pair { row = row; stamp = stamp }) })) self.old.order }
+            (record (slot_at self.old (place_at self.old slot)) { held = Stable (record pair { row = row; stamp = stamp }) }))
+            (cells_holding self.old.cells (place_at self.old slot) (Stable (record pair { row = row; stamp = stamp }))) }
     {
         let old = match &mut self.kind {
             NodeKind::Leaf(border) => border.store(slot, row, stamp),
@@ -297,19 +340,19 @@ impl Node {
         old
     }
 
-    /// Takes a key out, and marks the node for its readers; gives its entry back.
-    pub(crate) fn drop_key(&mut self, slot: usize) -> Entry
+    /// Makes a key or a link live no more, and marks the node for its readers. Its slot holds what it
+    /// held until it is filled again.
+    pub(crate) fn let_go(&mut self, slot: usize)
         requires border { self.old.level ≡ 0 }
         requires live { place_at self.old slot < length self.old.slots }
-        ensures value { result ≡ slot_at self.old (place_at self.old slot) }
-        ensures after { self.new ≡ with_slots self.old (without self.old.slots result) (order_without self.old.order (place_at self.old slot)) }
+        ensures { let place = place_at self.old slot in
+            self.new ≡ with_slots self.old (without self.old.slots (slot_at self.old place)) (cells_without self.old.cells place) }
     {
-        let old = match &mut self.kind {
-            NodeKind::Leaf(border) => border.drop_key(slot),
+        match &mut self.kind {
+            NodeKind::Leaf(border) => border.let_go(slot),
             NodeKind::Inner(_) => unreachable!(),
-        };
+        }
         self.mark_inserting();
-        old
     }
 
     /// Parts the slots of a full border node among it and its right half, which gets its range from
@@ -335,8 +378,8 @@ impl Node {
         ensures parted { IsParted (with_some self.old.slots entry) self.new.slots right.new.slots right.old.low }
         ensures some_left { 0 < length self.new.slots }
         ensures some_right { 0 < length right.new.slots }
-        ensures left { self.new ≡ left_half self.old self.new.slots self.new.order right.old.low right_number }
-        ensures right { right.new ≡ right_half self.old right.old right.new.slots right.new.order left_number }
+        ensures left { self.new ≡ left_half self.old self.new.slots self.new.cells right.old.low right_number }
+        ensures right { right.new ≡ right_half self.old right.old right.new.slots right.new.cells left_number }
     {
         match &mut self.kind {
             NodeKind::Leaf(left) => match &mut right.kind {

@@ -194,6 +194,6 @@ fn drop_link(nodes: &mut Vec<Node>, node: usize, slot: usize, root: usize)
     requires live { place_at (node_at nodes.old.items node) slot < length (node_at nodes.old.items node).slots }
     ensures { nodes.new.items ≡ nodes_above nodes.old.items node (place_at (node_at nodes.old.items node) slot) root }
 {
-    let _ = nodes[node].drop_key(slot);
+    nodes[node].let_go(slot);
     nodes[root].retire();
 }

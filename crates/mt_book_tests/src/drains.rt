@@ -25,12 +25,12 @@ const ACTS: [Act; 9] = [
     Act::Puts(0, 97),
     Act::Puts(1, 98),
     Act::Puts(0, 99),
-    Act::Drains(0, 0, 15, &[(4, 97), (14, 99)]),
+    Act::Drains(0, 0, 18, &[(5, 97), (17, 99)]),
     Act::Puts(0, 98),
-    Act::Drains(1, 0, 20, &[(9, 98)]),
-    Act::Drains(0, 15, 20, &[(19, 98)]),
-    Act::Drains(1, 20, 20, &[]),
-    Act::Drains(0, 20, 20, &[]),
+    Act::Drains(1, 0, 23, &[(11, 98)]),
+    Act::Drains(0, 18, 23, &[(22, 98)]),
+    Act::Drains(1, 23, 23, &[]),
+    Act::Drains(0, 23, 23, &[]),
 ];
 
 // Puts a key through this pass; whether it was answered.

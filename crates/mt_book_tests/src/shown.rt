@@ -77,10 +77,11 @@ static GET_OF_NONE: [Phase; 3] = [Phase::Enter, Phase::Search, Phase::Confirm];
 
 static GET: [Phase; 4] = [Phase::Enter, Phase::Search, Phase::Load, Phase::Confirm];
 
-static PUT_OF_NONE: [Phase; 5] = [
+static PUT_OF_NONE: [Phase; 6] = [
     Phase::Enter,
     Phase::Lock,
     Phase::Judge,
+    Phase::Fill,
     Phase::Publish,
     Phase::Unlock,
 ];

@@ -1,12 +1,12 @@
 -- Each edit of slots keeps them for those who remember one, and so do two: for keeping.rt.
-use Rattle.std.proofs.Common.{◌≡◌, ◌≢◌, ◌⊎◌, ℕ, zero, suc, ◌+◌, ◌-◌, ◌<◌, ◌≤◌, true, false, List, [], ◌∷◌, length, get_or, set, Option, Some, None, refl, sym, ap, subst, ◌∙◌, inl, inr, arith}
+use Rattle.std.proofs.Common.{◌≡◌, ◌≢◌, ℕ, zero, suc, ◌+◌, ◌<◌, ◌≤◌, true, false, List, [], ◌∷◌, length, get_or, set, Some, refl, sym, ap, subst, ◌∙◌, inl, inr, arith}
 use Rattle.std.proofs.{lemmas.Bool.{cases_eq, cases_lt}, lemmas.Bool.Decides.nat_tests, lemmas.List.{get_or_default, get_or-set_same, get_or-set_other}}
 use Rattle.std.proofs.lemmas.List.Edits.{length-insert, get_or-insert_below, get_or-insert_above, length-remove, get_or-remove_below, get_or-remove_above}
 use Rattle.std.specs.{Prelude.{◌==◌, if◌then◌else◌}, List.{All, insert, remove}}
 use Rattle.mt_slices.specs.{declared.mark.Mark.Mark, declared.mark.Mark.TheVariants.Long}
 use Rattle.mt_order.{specs.Places.{Places, place_of_slot, order_with, order_without}, proofs.Once.{live_once, place_is, slot_there, no_place}}
 use Rattle.mt_border.specs.{Held.{Held, Stable, Unstable, Link}, Slots.{Slotted, IsSlotted, held_in, listed, next_free, is_dropped}}
-use Rattle.mt_border.specs.{Node.{Node, IsNodeSlots, IsLive, held_at, Rewrites}, Keeps.{GoesOn, IsLiveIn, slice_in, mark_in, KeepsSlot, KeepsSlots}}
+use Rattle.mt_border.specs.{Node.{Node, IsNodeSlots, IsLive, held_at, Rewrites}, Keeps.{GoesOn, IsLiveIn, KeepsSlots}}
 use Rattle.mt_border.proofs.{Slotting.{next_apart, length-listed}, Writes.{held_is, slot_below}}
 
 goes_same : (h : Held) → GoesOn h h

@@ -1,5 +1,5 @@
 -- What others leave of the slots of a node while its version stands, for a reader who remembers one of them.
-use Rattle.std.specs.Prelude.{◌≡◌, ◌≢◌, ◌⊎◌, ℕ, ◌<◌, true, Option, Some, None, length, slice_index, slice_index_or, ⊤}
+use Rattle.std.specs.Prelude.{◌≡◌, ◌≢◌, ◌⊎◌, ℕ, ◌<◌, true, Some, None, length, slice_index, slice_index_or, ⊤}
 use Rattle.mt_slices.specs.{declared.mark.Mark.Mark, declared.mark.Mark.TheVariants.Long}
 use Rattle.mt_order.specs.Places.{place_of_slot}
 use Rattle.mt_border.specs.{Held.{Held, Stable, Unstable, Link}, Slots.{Slotted, held_in, is_dropped}}

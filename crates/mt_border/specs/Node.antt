@@ -5,6 +5,7 @@ use Rattle.mt_version.specs.Parts.{Parts}
 use Rattle.mt_order.specs.Places.{place_of_slot}
 use Rattle.mt_border.specs.{declared.entry.Entry.Entry, Held.{Held, Link}, declared.entry.Find.Find, declared.entry.Find.TheVariants.{Missing, Slot}}
 use Rattle.mt_border.specs.{declared.entry.FoundKind.FoundKind, Entry.IsKind, Entries.{IsBorder, IsMissing, replaced}}
+use Rattle.mt_border.specs.Restamps.{stamped}
 use Rattle.mt_border.specs.Slots.{Slotted, IsSlotted, held_in, next_free, fresh_slots, listed}
 
 -- Its slots, of which the words below speak, the nodes beside it and above it, its fences, and its version.
@@ -50,9 +51,9 @@ entry_at node slot = slice_index_or (entries_of node) (place_at node slot) (reco
 abbrev pub held_at : Node → ℕ → Held
 held_at node slot = (entry_at node slot).held
 
--- the entry of a slice and a mark with what the free slot holds that is taken next
-abbrev pub filled : Node → ℕ → Mark → Entry
-filled node slice mark = record { slice = slice; mark = mark; held = held_in node.slots.helds (next_free node.slots) }
+-- the entry of a slice and a mark with what the free slot holds that is taken next, placed by the step of this number
+abbrev pub filled : Node → ℕ → Mark → ℕ → Entry
+filled node slice mark stamp = record { slice = slice; mark = mark; held = stamped stamp (held_in node.slots.helds (next_free node.slots)) }
 
 -- the slot has the slice and the mark, and holds this of the key that goes on with the suffix
 pub record IsFound (node : Node) (slice : ℕ) (mark : Mark) (suffix : List ℕ) (slot : ℕ) (kind : FoundKind)

@@ -164,8 +164,13 @@ impl Border {
         requires entry { IsEntry entry }
         requires missing { IsMissing (entries_of self.old) entry.slice entry.mark }
         ensures entries { entries_of self.new ≡ with_entry (entries_of self.old) entry }
-        ensures order { let place = place_in (entries_of self.old) (order_of entry) in
-            self.new.slots.order ≡ order_with self.old.slots.order place }
+        ensures slots { let place = place_in (entries_of self.old) (order_of entry) in
+            self.new.slots ≡ record self.old.slots {
+              slices = insert self.old.slots.slices place entry.slice;
+              marks = insert self.old.slots.marks place entry.mark;
+              helds = slice_set self.old.slots.helds (next_free self.old.slots) entry.held;
+              order = order_with self.old.slots.order place;
+            } }
         ensures others { self.new ≡ record self.old { slots = self.new.slots } }
     {
         let place = place_of(&self.slots, entry.slice, entry.mark);
@@ -214,28 +219,31 @@ impl Border {
         ensures entries { entries_of self.new ≡ entries_of self.old }
         ensures slots { let next = next_free self.old.slots in
             self.new.slots ≡ record self.old.slots { helds = slice_set self.old.slots.helds next held } }
+        ensures there { held_in self.new.slots.helds (next_free self.new.slots) ≡ held }
         ensures others { self.new ≡ record self.old { slots = self.new.slots } }
     {
         let next = self.slots.next_free();
         self.slots.write(next, held)
     }
 
-    /// Makes the slot that was filled live, for a key of this slice and mark.
-    pub fn publish_filled(&mut self, slice: u64, mark: Mark)
+    /// Makes the slot that was filled live, for a key of this slice and mark, placed by the step `stamp`.
+    pub fn publish_filled(&mut self, slice: u64, mark: Mark, stamp: u64)
         requires room { length (entries_of self.old) < SLOTS }
-        requires entry { IsEntry (filled self.old slice mark) }
+        requires entry { IsEntry (filled self.old slice mark stamp) }
         requires missing { IsMissing (entries_of self.old) slice mark }
-        ensures entries { entries_of self.new ≡ with_entry (entries_of self.old) (filled self.old slice mark) }
+        ensures entries { entries_of self.new ≡ with_entry (entries_of self.old) (filled self.old slice mark stamp) }
         ensures slots { let place = place_in (entries_of self.old) (order_at slice mark) in
+            let next = next_free self.old.slots in
             self.new.slots ≡ record self.old.slots {
               slices = insert self.old.slots.slices place slice;
               marks = insert self.old.slots.marks place mark;
+              helds = slice_set self.old.slots.helds next (stamped stamp (held_in self.old.slots.helds next));
               order = order_with self.old.slots.order place;
             } }
         ensures others { self.new ≡ record self.old { slots = self.new.slots } }
     {
         let place = place_of(&self.slots, slice, mark);
-        self.slots.publish_at(place, slice, mark);
+        self.slots.publish_at(place, slice, mark, stamp);
     }
 
     /// Makes a key or a link live no more. Its slot is the next one to be filled, and holds what it held

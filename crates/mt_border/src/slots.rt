@@ -195,22 +195,24 @@ impl Slots {
         mem::replace(&mut self.helds[slot], held)
     }
 
-    /// Makes the first free slot live, with what it holds, at a place of the order.
-    pub(crate) fn publish_at(&mut self, place: usize, slice: u64, mark: Mark)
+    /// Makes the first free slot live, with what it holds, at a place of the order, placed by the step `stamp`.
+    pub(crate) fn publish_at(&mut self, place: usize, slice: u64, mark: Mark, stamp: u64)
         requires in_bounds { place ≤ length (listed self.old) }
         requires room { length (listed self.old) < SLOTS }
         ensures entries { listed self.new ≡ insert (listed self.old) place
-            (record { slice = slice; mark = mark; held = held_in self.old.helds (next_free self.old) }) }
+            (record { slice = slice; mark = mark; held = stamped stamp (held_in self.old.helds (next_free self.old)) }) }
         ensures slots { self.new ≡ record self.old {
           slices = insert self.old.slices place slice;
           marks = insert self.old.marks place mark;
+          helds = slice_set self.old.helds (next_free self.old) (stamped stamp (held_in self.old.helds (next_free self.old)));
           order = order_with self.old.order place;
         } }
         ensures slotted { IsSlotted self.new }
     {
         self.slices.insert(place, slice);
         self.marks.insert(place, SlotMark::new(mark));
-        self.order.insert(place);
+        let slot = self.order.insert(place);
+        self.helds[slot].restamp(stamp);
     }
 
     /// Makes the slot at a place of the order the first free one, which holds what it held.
@@ -227,8 +229,8 @@ impl Slots {
     {
         let _ = self.slices.remove(place);
         let _ = self.marks.remove(place);
-        let slot = self.order.remove(place);
-        self.dropped[slot] = true;
+        let freed = self.order.remove(place);
+        self.dropped[freed] = true;
     }
 
     /// Puts an entry in at a place of the order. The first free slot holds it.
@@ -236,7 +238,12 @@ impl Slots {
         requires in_bounds { place ≤ length (listed self.old) }
         requires room { length (listed self.old) < SLOTS }
         ensures entries { listed self.new ≡ insert (listed self.old) place entry }
-        ensures order { self.new.order ≡ order_with self.old.order place }
+        ensures slots { self.new ≡ record self.old {
+          slices = insert self.old.slices place entry.slice;
+          marks = insert self.old.marks place entry.mark;
+          helds = slice_set self.old.helds (next_free self.old) entry.held;
+          order = order_with self.old.order place;
+        } }
         ensures slotted { IsSlotted self.new }
     {
         self.slices.insert(place, entry.slice);

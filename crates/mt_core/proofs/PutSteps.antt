@@ -9,7 +9,7 @@ use Rattle.mt_slices.specs.Keys.{IsStoredKey}
 use Rattle.mt_tape.specs.Tapes.{Kept}
 use Rattle.mt_arena.{specs.{NodeView.{NodeView, place_at}, Edits.{locked, unlocked}, Arena.{ArenaView, Guarantee, IsArena}, Accesses.{at, with_node}}, proofs.OneLink.leads}
 use Rattle.mt_operation.specs.{declared.walk.Aim.Aim, declared.phase.Phase.Phase}
-use Rattle.mt_operation.specs.declared.phase.Phase.TheVariants.{Enter, Forward, Judge, Lock, MakeLayer, Publish, SplitStart, Store, Unlock}
+use Rattle.mt_operation.specs.declared.phase.Phase.TheVariants.{Enter, Fill, Forward, Judge, Lock, MakeLayer, Publish, SplitStart, Store, Unlock}
 use Rattle.mt_operation.specs.{declared.walk.Walk.Walk, declared.splits.Halves.Halves, declared.splits.Splits.Splits, declared.outcome.Outcome.Outcome}
 use Rattle.mt_operation.specs.{declared.prepared.Prepared.Prepared, declared.operation.Operation.Operation}
 use Rattle.mt_operation.specs.{Operations.{made_ready, moved, noted, splits_of, with_nothing_ready}, Phases.{IsOfKind, has_splits}}
@@ -17,15 +17,15 @@ use Rattle.mt_operation.specs.{Tables.{Table, op_at as operation_at}, declared.t
 use Rattle.mt_operation.specs.declared.task.Request.TheVariants.{Get as GetOf, Put as PutOf, Remove as RemoveOf, Scan as ScanOf}
 use Rattle.mt_operation.specs.Tasks.{ask, command_of, aim_of}
 use Rattle.mt_descent.specs.{Seen.IsOutdated, KeptWalks.IsInSlot, WalkMoves.{IsLock, Locks, walk_anew, walk_into}}
-use Rattle.mt_insert.specs.{Puts.is_put, Judge.{IsMadeReady, MeetsOther, StandsIn, after_judge}, Publish.{IsPublish, IsPublishFull}, Store.IsStore}
+use Rattle.mt_insert.specs.{Puts.is_put, Judge.{IsMadeReady, MeetsOther, StandsIn, after_judge}, Fill.IsFill, Publish.{IsPublish, IsPublishFull}, Store.IsStore}
 use Rattle.mt_remove.specs.Writes.{is_remove}
 use Rattle.mt_version.specs.Parts.{Parts}
-use Rattle.mt_held.specs.{Moves.walk_placed, Unlock.{MeetsLink, IsUnlock}}
+use Rattle.mt_held.specs.{Moves.{walk_at, walk_placed}, Unlock.{MeetsLink, IsUnlock}}
 use Rattle.mt_state.specs.{declared.moves.Move.TheVariants.{Moved, Done as DoneMove}, Views.{Core, shown}, Phases.{JudgesBy, JudgesLink, Leads, LocksBy}}
 use Rattle.mt_state.specs.Invariant.{StateInvariant}
 use Rattle.mt_state.proofs.{Telling.Gives, Decides.outdated_or_not, OneNode.replaced_all}
-use Rattle.mt_state.proofs.{Locking.{judge_ready, judge_refused, lock_done, publish_full, unlock_done}, LayerSteps.{below_done, meet_done}}
-use Rattle.mt_state.proofs.{Putting.{publish_done, store_done}, Needs.{judge_kept, lock_kept, publish_kept, put_at, store_kept}, Bound.put_no_remove}
+use Rattle.mt_state.proofs.{FillSteps.fill_done, Locking.{judge_ready, judge_refused, lock_done, publish_full, unlock_done}, LayerSteps.{below_done, meet_done}}
+use Rattle.mt_state.proofs.{Putting.{publish_done, store_done}, Needs.{fill_kept, judge_kept, lock_kept, publish_kept, put_at, store_kept}, Bound.put_no_remove}
 use Rattle.mt_core.specs.Budgets.{AreBelow, IsLiveTree, SeesNow, above, astray, before_unlock, behind}
 use Rattle.mt_core.specs.Points.{HasMade, HasRemoved, IsRemovalAt, IsAtPoint, MayHaveGrown, Nears, StepsOn}
 use Rattle.mt_core.proofs.Points.{below_at, few_at, nears_by, point_at, point_first, removal_first, removed_at}
@@ -88,9 +88,9 @@ judge_brings v m slot w x s goes at_judge height n point = subst (λ (y : Walk).
     below : AreBelow v height
     below = below_at height n v x s Judge at_judge (λ grown. grown) point
 
-    by_full : (full : Bool) → IsAtPoint height (n + 1) v (record x { phase = cond full SplitStart Publish }) s
+    by_full : (full : Bool) → IsAtPoint height (n + 1) v (record x { phase = cond full SplitStart Fill }) s
     by_full true = point_at height (n + 1) v _ s SplitStart refl (λ other. below) (omega (arith, few))
-    by_full false = point_at height (n + 1) v _ s Publish refl (λ other. below) (omega (arith, few))
+    by_full false = point_at height (n + 1) v _ s Fill refl (λ other. below) (omega (arith, few))
 
     by_slot : (slot : Option ℕ) → IsAtPoint height (n + 1) v (after_judge m slot x) s
     by_slot (Some i) = point_at height (n + 1) v _ s Store refl (λ other. below) (omega (arith, few))
@@ -125,10 +125,18 @@ levels_stay v arena k m within is same alike height below = subst (λ (a : Arena
     (replaced_all v k within m (λ (x : NodeView). x.version.deleted ≡ false → x.level < height)
     (λ live. subst (λ (l : ℕ). l < height) (sym same) (below k within (sym alike ∙ live))) below)
 
+-- of one that has written its pair into a free slot
+fill_brings : (v arena : ArenaView) (w x : Walk) (s : Splits) → w ≡ walk_at Publish x → x.phase ≡ Fill → ((height : ℕ) → AreBelow v height → AreBelow arena height)
+    → (height n : ℕ) → IsAtPoint height n v x s → IsAtPoint height (n + 1) arena w s
+fill_brings v arena w x s goes at_fill stays height n point =
+    let few : HasMade Fill height n v x s = few_at height n v x s Fill at_fill point in
+    subst (λ (y : Walk). IsAtPoint height (n + 1) arena y s) (sym goes) (point_at height (n + 1) arena (walk_at Publish x) s Publish refl
+    (λ other. stays height (below_at height n v x s Fill at_fill (λ grown. grown) point)) (omega (arith, few)))
+
 -- of one that has placed its change, or found its quota full: nothing is split
 place_brings : (v arena : ArenaView) (w x : Walk) (s : Splits) (p : Phase) → x.phase ≡ p → w ≡ walk_placed x → s.halves.items ≡ []
     → ¬ MayHaveGrown p s.halves.items → ((height : ℕ) → AreBelow v height → AreBelow arena height)
-    → ((height n : ℕ) → IsAtPoint height n v x s → n < above height x + 3 * height + 3) → (height n : ℕ) → IsAtPoint height n v x s
+    → ((height n : ℕ) → IsAtPoint height n v x s → n < above height x + 3 * height + 4) → (height n : ℕ) → IsAtPoint height n v x s
     → IsAtPoint height (n + 1) arena w s
 place_brings v arena w x s p at_p goes none other stays least height n point =
     let few = least height n point in
@@ -298,7 +306,7 @@ module _ (c now : Core) (o : ℕ) (is : c ≡ now) (h : StateInvariant c) (few :
     nears_placed : ((aim : Aim) → IsOfKind p aim → aim ≡ aims.Write) → ((height round n : ℕ) (v : ArenaView) (y : Walk) → HasRemoved p height round n v y → ⊥) → (arena : ArenaView) (tape : Kept) (accounts : Accounts) (w : Walk) (told : Option Outcome) (table : Table)
         → IsOver c.table table o (noted (moved (with_nothing_ready x) (c.steps + 1) w) told) → Guarantee o c.arena arena → w ≡ walk_placed x.walk
         → has_splits p ≡ false → ¬ MayHaveGrown p x.splits.halves.items → ((height : ℕ) → AreBelow c.arena height → AreBelow arena height)
-        → ((height n : ℕ) → IsAtPoint height n c.arena x.walk x.splits → n < above height x.walk + 3 * height + 3)
+        → ((height n : ℕ) → IsAtPoint height n c.arena x.walk x.splits → n < above height x.walk + 3 * height + 4)
         → Nears now (made c arena tape accounts table) o Moved
     nears_placed write none_removes arena tape accounts w told table over guarantee goes none other stays least =
         let after = noted (moved (with_nothing_ready x) (c.steps + 1) w) told in
@@ -320,6 +328,23 @@ module _ (c now : Core) (o : ℕ) (is : c ≡ now) (h : StateInvariant c) (few :
       (nears_placed Store at_store (λ aim kind. kind) (λ height round n v y few. few) arena tape c.accounts w _ table over st.guarantee st.walk refl (λ grown. grown)
       (levels_stay c.arena arena x.walk.place.node _ sk.holds.judged.held.there (st.is sk.pair sk.stable) refl refl) (λ height n point. let few = few_at height n c.arena x.walk x.splits Store at_store point in omega (arith, few)))
       (leads_over c o h x there Store at_store now is arena tape c.accounts table _ over w st.walk refl refl)
+
+  -- a pair that was written into a free slot
+  pub fill_made : x.walk.phase ≡ Fill → (prepared rest : Prepared) → x.prepared ≡ Some prepared → (arena : ArenaView) (w : Walk) (table : Table)
+      → IsFill o x.task prepared rest c.arena arena x.walk w → IsOver c.table table o (made_ready (moved x (c.steps + 1) w) rest)
+      → IsSound (made c arena c.tape c.accounts table) × StepsOn now (made c arena c.tape c.accounts table) o Moved
+  fill_made at_fill prepared rest has arena w table t over =
+      let after = made_ready (moved x (c.steps + 1) w) rest in
+      let fk = fill_kept c o h x there at_fill prepared has in
+      steps_on (made c arena c.tape c.accounts table)
+      (subst (λ (all : Table). Gives (shown now) (made c arena c.tape c.accounts all) o false) (sym over.is)
+      (fill_done c (shown now) o (ap shown is) h few x there at_fill prepared rest arena w t))
+      (nears_made after refl arena c.tape c.accounts table over t.keeps.guarantee
+      (λ height n point. point_first height (n + 1) arena w x.splits after.walk.first
+      (fill_brings c.arena arena w x.walk x.splits t.walk at_fill (levels_stay c.arena arena x.walk.place.node _ fk.holds.judged.held.there t.is refl refl) height n point))
+      (λ removes height n r. absurd (removed_at height n c.arena x.walk x.outcome x.removal Fill at_fill r))
+      (write_no_scan c o h x there Fill at_fill (λ aim kind. kind)))
+      (leads_over c o h x there Fill at_fill now is arena c.tape c.accounts table after over w t.walk refl refl)
 
   module _ (at_publish : x.walk.phase ≡ Publish) (prepared : Prepared) (has : x.prepared ≡ Some prepared) (arena : ArenaView) (tape : Kept) (accounts : Accounts) (w : Walk) (table : Table) where
     by_outcome : (reply : Reply) → IsOver c.table table o (noted (moved (with_nothing_ready x) (c.steps + 1) w) (Some (record { reply = reply; at = c.steps + 1 })))

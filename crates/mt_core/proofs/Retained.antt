@@ -6,7 +6,7 @@ use Rattle.mt_rows.specs.{declared.command.Command.Command, declared.reply.Reply
 use Rattle.mt_tape.specs.{declared.entry.Entry.{Entry as TapeEntry}, Tapes.Kept, Histories.{contents_at, is_changed}}
 use Rattle.mt_arena.specs.Arena.{ArenaView, content_of}
 use Rattle.mt_operation.specs.{declared.outcome.Outcome.Outcome, declared.operation.Operation.Operation, declared.phase.Phase.Phase}
-use Rattle.mt_operation.specs.{declared.phase.Phase.TheVariants.{Enter, Load, Confirm, Check, Hop, Store, Unlock, Done}, declared.walk.Walk.Walk}
+use Rattle.mt_operation.specs.{declared.phase.Phase.TheVariants.{Enter, Load, Confirm, Check, Hop, Store, Fill, Unlock, Done}, declared.walk.Walk.Walk}
 use Rattle.mt_operation.specs.{declared.walk.Taken.Taken, declared.walk.Taken.TheVariants.{Missing, Row, Link, Nothing}, Operations.{view_of, scan_of}}
 use Rattle.mt_operation.specs.{Tasks.ask, Tables.Table, Phases.{Kind, row}}
 use Rattle.mt_runs.proofs.Lawful.{lawful_by}
@@ -89,6 +89,7 @@ module _ (c : Core) (o : ℕ) (op : Operation) where
 
   writing : (p : Phase) → IsWritingAt p c o op → (m : ℕ) → change_in (view_of op) ≡ Some m → ⊥
   writing Store h m is = no_change h.untold m is
+  writing Fill h m is = no_change h.untold m is
   writing _ h m is = no_change h.untold m is
 
   -- a change was made by the first step or a later one
@@ -191,6 +192,7 @@ module _ (c : Core) (answers : ℕ) (logs : List ℕ) (tape : Kept) (table : Tab
 
   writing_stays : (p : Phase) → IsWritingAt p c q op → IsWritingAt p new q op
   writing_stays Store h = record { prepared = h.prepared; has = h.has; stores = h.stores; put = h.put; untold = h.untold }
+  writing_stays Fill h = record { prepared = h.prepared; has = h.has; fills = h.fills; put = h.put; untold = h.untold }
   writing_stays _ h = record { prepared = h.prepared; has = h.has; publishes = h.publishes; put = h.put; untold = h.untold }
 
   kept_stays : (of : Kind) (p : Phase) → op.walk.phase ≡ p → IsKeptFor of p c q op → IsKeptFor of p new q op

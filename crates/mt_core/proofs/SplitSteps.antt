@@ -51,8 +51,8 @@ halved_below : (all : List Entry) (old new : ArenaView) (left right : ℕ) → A
 halved_below all old new left right parted height below k within live =
     let x = node_at old.nodes left in
     let r = node_at old.nodes right in
-    let y = left_half x parted.kept parted.kept_order r.low right in
-    let z = right_half x r parted.moved parted.moved_order left in
+    let y = left_half x parted.kept parted.kept_cells r.low right in
+    let z = right_half x r parted.moved parted.moved_cells left in
     let mid = set old.nodes left y in
     let size : length new.nodes ≡ length old.nodes = ap (λ (xs : List NodeView). length xs) parted.is ∙ length-set mid right z ∙ length-set old.nodes left y in
     let same : (node_at new.nodes k).level ≡ (node_at old.nodes k).level = ap (λ (xs : List NodeView). (node_at xs k).level) parted.is ∙ level_set mid right z (sym (level_set old.nodes left y refl right)) k ∙ level_set old.nodes left y refl k in

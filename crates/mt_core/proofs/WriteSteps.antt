@@ -1,7 +1,7 @@
 -- What the steps of an operation that writes ask of the invariant, and what they tell: for `Inner::write`.
 use denote.Enum.Bare.{sameb, same_true}
 use Rattle.mt_operation.specs.{contracts.phase.Phase.the_type, declared.walk.Walk.Walk, declared.phase.Phase.Phase}
-use Rattle.mt_operation.specs.declared.phase.Phase.TheVariants.{Lock, Judge, Store, Publish, SplitStart, SplitMove, SplitPrev, LockParent, InsertChild, InteriorSplit, Reparent, RootGrow, MakeLayer, MarkUnstable, Link, MarkLayer, DropKey, LockPrev, LockAbove, Unlink, FixNext, Collapse, CleanLayer, Unlock, Done}
+use Rattle.mt_operation.specs.declared.phase.Phase.TheVariants.{Lock, Judge, Store, Fill, Publish, SplitStart, SplitMove, SplitPrev, LockParent, InsertChild, InteriorSplit, Reparent, RootGrow, MakeLayer, MarkUnstable, Link, MarkLayer, DropKey, LockPrev, LockAbove, Unlink, FixNext, Collapse, CleanLayer, Unlock, Done}
 use Rattle.mt_operation.specs.{declared.prepared.Prepared.Prepared, declared.operation.Operation.Operation}
 use Rattle.mt_operation.specs.Operations.{OperationView, view_of, splits_of, scan_of, is_unfinished, counted}
 use Rattle.mt_operation.specs.{Phases.{is_done, is_prepared, IsClimb, IsLayerPhase, IsRemovalPhase, IsNoLook, IsToGrow}, Tables.{Table, op_at as operation_at}}
@@ -18,12 +18,12 @@ use Rattle.mt_remove.specs.Ways.{Follows}
 use Rattle.mt_state.specs.{declared.moves.Move.Move, declared.moves.Move.TheVariants.{Moved, Again, NoSuch, NoMemory as NoMemoryMove, Done as DoneMove}}
 use Rattle.mt_state.specs.{Views.{Core, Shown, shown, op_at}, Promises.{Tells, IsStep, HasStep, IsInTheWay}, Invariant.StateInvariant}
 use Rattle.mt_state.proofs.{Shown.shown_there, Lawful.put_no_scan}
-use Rattle.mt_state.proofs.Needs.{lock_kept, lock_free_hands, lock_cleans, judge_kept, put_at, store_kept, store_ready, publish_kept, publish_ready, write_room, step_later, layer_kept, leave_kept, leave_room, unlock_kept, unlock_room, removal_of, drop_kept, drop_ready, drop_removes, drop_light, drop_counted, removal_kept_at, removal_held_at, removal_unlock_kept, removal_unlock_room}
+use Rattle.mt_state.proofs.Needs.{lock_kept, lock_free_hands, lock_cleans, judge_kept, put_at, store_kept, store_ready, fill_kept, fill_ready, publish_kept, publish_ready, write_room, step_later, layer_kept, leave_kept, leave_room, unlock_kept, unlock_room, removal_of, drop_kept, drop_ready, drop_removes, drop_light, drop_counted, removal_kept_at, removal_held_at, removal_unlock_kept, removal_unlock_room}
 use Rattle.mt_state.proofs.{ClimbingNodes.climb_keeps, RemovalBy.removes_by}
 use Rattle.mt_core.specs.{Nexts.{IsNext, ending}, Points.StepsOn}
-use Rattle.mt_core.specs.Writes.{Parts, parts, Telling, Writes, WritesAt, MayWrite, MayJudge, MayPlace, MayClimb, MayBuild, MayTake, MayUnlock, TellsLocked, TellsJudged, TellsStored, TellsPublished, TellsBegun, TellsParted, TellsClimbed, TellsBuilt, TellsDropped, TellsTaken, TellsUnlocked}
+use Rattle.mt_core.specs.Writes.{Parts, parts, Telling, Writes, WritesAt, MayWrite, MayJudge, MayPlace, MayClimb, MayBuild, MayTake, MayUnlock, TellsLocked, TellsJudged, TellsStored, TellsFilled, TellsPublished, TellsBegun, TellsParted, TellsClimbed, TellsBuilt, TellsDropped, TellsTaken, TellsUnlocked}
 use Rattle.mt_core.proofs.Following.{IsSound, IsOver, made, holder_open, in_the_way}
-use Rattle.mt_core.proofs.PutSteps.{judged_put, lock_made, unlock_made, ready_made, on_made, link_made, refused_made, store_made, publish_made, full_made}
+use Rattle.mt_core.proofs.PutSteps.{judged_put, lock_made, unlock_made, ready_made, on_made, link_made, refused_made, store_made, fill_made, publish_made, full_made}
 use Rattle.mt_core.proofs.LayerSteps.{build_made, stop_made, leave_made}
 use Rattle.mt_core.proofs.SplitSteps.{start_asks, start_none, start_made, start_stopped, move_ready, move_kept, parts_with, parts_without, all_unlock, all_room, returns_made}
 use Rattle.mt_core.proofs.ClimbSteps.{climb_kept, climb_holds, climb_made, climb_refused}
@@ -147,6 +147,11 @@ module _ (c now : Core) (o : ℕ) (is : c ≡ now) (h : StateInvariant c) (few :
       answers_on to after table counts (tape_gives to table Moved t.accounts
       (store_made c now o is h few op there e p.prepared p.has to.arena to.tape after.walk t.was table arena p.placed (over_by table after _ counts p.others))) answer ends
 
+  fill_comes : op.walk.phase ≡ Fill → Comes (TellsFilled o)
+  fill_comes e to after t table counts answer ends =
+      answers_on to after table counts (rest_gives to table Moved t.only
+      (fill_made c now o is h few op there e t.prepared t.rest t.has to.arena after.walk table t.fills (over_by table after _ counts t.others))) answer ends
+
   publish_comes : IsArena c.arena.nodes c.arena.trees → op.walk.phase ≡ Publish → Comes (TellsPublished o (c.steps + 1))
   publish_comes arena e to after (inl p) table counts answer ends =
       answers_on to after table counts (publish_made c now o is h few op there e p.prepared p.has to.arena to.tape to.accounts after.walk table arena p.placed (over_by table after _ counts p.others)) answer ends
@@ -211,6 +216,7 @@ module _ (c now : Core) (o : ℕ) (is : c ≡ now) (h : StateInvariant c) (few :
   write_comes arena Lock e to is_now after t = lock_comes arena e to after t
   write_comes arena Judge e to is_now after t = judge_comes arena e to after t
   write_comes arena Store e to is_now after t = store_comes arena e to after t
+  write_comes arena Fill e to is_now after t = fill_comes e to after t
   write_comes arena Publish e to is_now after t = publish_comes arena e to after t
   write_comes arena SplitStart e to is_now after t = begin_comes e to after t
   write_comes arena SplitMove e to is_now after t = part_comes arena e to after t
@@ -267,6 +273,7 @@ module _ (c now : Core) (o : ℕ) (is : c ≡ now) (h : StateInvariant c) (few :
   may_write arena Lock e = record { phase = e; kept = lock_kept c o h op there e; free = lock_free_hands c o h op there e; cleaning = lock_cleans c o h op there e }
   may_write arena Judge e = may_judge e
   may_write arena Store e = record { put = put_at c o h op there Store e tt; place = may_place Store e refl _ (some_there op.prepared (store_ready c o h op there e)) (store_kept c o h op there e) }
+  may_write arena Fill e = record { has = some_there op.prepared (fill_ready c o h op there e); kept = fill_kept c o h op there e }
   may_write arena Publish e = record { put = put_at c o h op there Publish e tt; place = may_place Publish e refl _ (some_there op.prepared (publish_ready c o h op there e)) (publish_kept c o h op there e) }
   may_write arena SplitStart e = record { kept = start_asks c now o is h few op there e; none = start_none c now o is h few op there e; room = write_room c o h op there SplitStart e refl }
   may_write arena SplitMove e = record { put = put_at c o h op there SplitMove e tt; place = may_place SplitMove e refl _ (move_ready c now o is h few op there e) (move_kept c now o is h few op there e) }
@@ -368,6 +375,7 @@ module _ (c now : Core) (o : ℕ) (is : c ≡ now) (h : StateInvariant c) (few :
   write_first arena Lock e to after t = lock_first to after t
   write_first arena Judge e to after t = judge_first to after t
   write_first arena Store e to after t = t.places.placed.same.first
+  write_first arena Fill e to after t = t.fills.keeps.same.first
   write_first arena Publish e to after t = publish_first to after t
   write_first arena SplitStart e to after t = begin_first to after t
   write_first arena SplitMove e to after t = part_first to after t
@@ -399,6 +407,7 @@ module _ (c now : Core) (o : ℕ) (is : c ≡ now) (h : StateInvariant c) (few :
   write_waits Lock to holder after t = t
   write_waits Judge to holder after t = t
   write_waits Store to holder after t = t
+  write_waits Fill to holder after t = t
   write_waits Publish to holder after t = t
   write_waits SplitStart to holder after t = t
   write_waits SplitMove to holder after t = t
@@ -468,6 +477,7 @@ module _ (c now : Core) (o : ℕ) (is : c ≡ now) (h : StateInvariant c) (few :
   refused Lock to after t = t
   refused Judge to after t = t
   refused Store to after t = t
+  refused Fill to after t = t
   refused Publish to after t = t
   refused SplitStart to after t = t
   refused SplitMove to after t = t
@@ -513,6 +523,7 @@ module _ (c now : Core) (o : ℕ) (is : c ≡ now) (h : StateInvariant c) (few :
   write_left Lock to after t = absurd t
   write_left Judge to after t = absurd t
   write_left Store to after t = absurd t
+  write_left Fill to after t = absurd t
   write_left Publish to after t = absurd t
   write_left SplitStart to after t = absurd t
   write_left SplitMove to after t = absurd t

@@ -6,14 +6,14 @@ use Rattle.mt_version.specs.Changes.{CanUnlock}
 use Rattle.mt_tape.specs.Tapes.{Kept, last_write}
 use Rattle.mt_arena.specs.{Arena.ArenaView, Accesses.at}
 use Rattle.mt_operation.specs.declared.phase.Phase.{Phase}
-use Rattle.mt_operation.specs.declared.phase.Phase.TheVariants.{Lock, Judge, Store, Publish, SplitStart, SplitMove, SplitPrev, LockParent, InsertChild, InteriorSplit, Reparent, RootGrow, MakeLayer, MarkUnstable, Link, MarkLayer, DropKey, LockPrev, LockAbove, Unlink, FixNext, Collapse, CleanLayer, Unlock}
+use Rattle.mt_operation.specs.declared.phase.Phase.TheVariants.{Lock, Judge, Store, Fill, Publish, SplitStart, SplitMove, SplitPrev, LockParent, InsertChild, InteriorSplit, Reparent, RootGrow, MakeLayer, MarkUnstable, Link, MarkLayer, DropKey, LockPrev, LockAbove, Unlink, FixNext, Collapse, CleanLayer, Unlock}
 use Rattle.mt_operation.specs.{declared.outcome.Outcome.Outcome, declared.prepared.Prepared.Prepared, declared.operation.Operation.Operation}
 use Rattle.mt_operation.specs.{Operations.{IsUnsplit, splits_of, scan_of, with_splits}, Phases.{IsClimb, IsLayerPhase, IsRemovalPhase, IsToGrow}, Tasks.ask}
 use Rattle.mt_table.specs.{declared.steps.Made.Made, declared.steps.Made.TheVariants.{Step, Blocked, NoMemory, Nothing}}
 use Rattle.mt_descent.specs.{KeptWalks.{IsAtBorder, HoldsNothing}, WalkMoves.IsLock}
-use Rattle.mt_insert.specs.{Puts.IsPut, KeptPuts.{IsAtStore, IsAtPublish, IsAtSplitStart}}
+use Rattle.mt_insert.specs.{Puts.IsPut, KeptPuts.{IsAtStore, IsAtFill, IsAtPublish, IsAtSplitStart}}
 use Rattle.mt_insert.specs.{KeptSplits.{HoldsSplits, IsAmong, IsAtSplitMove, IsAtUnlockAll, KeptSplit}, Judge.{IsMadeReady, IsShort, MeetsOther}, Store.IsStore}
-use Rattle.mt_insert.specs.{Publish.{IsPublish, IsPublishFull}, SplitStart.{IsSplitStart, IsSplitStopped}, SplitMove.{IsSplitMove, IsSplitMoveFull}}
+use Rattle.mt_insert.specs.{Fill.IsFill, Publish.{IsPublish, IsPublishFull}, SplitStart.{IsSplitStart, IsSplitStopped}, SplitMove.{IsSplitMove, IsSplitMoveFull}}
 use Rattle.mt_insert.specs.{Climbs.{AreSame, IsClimbFrom}, Unlock.IsUnlockAll}
 use Rattle.mt_held.specs.{Holds.{HoldsBorder, IsAtUnlock}, Unlock.{MeetsLink, IsUnlock}}
 use Rattle.mt_layer.specs.{KeptLayers.{KeptLayer, IsAtLeave}, Builds.{IsLayerFrom, IsLeave}}
@@ -150,6 +150,20 @@ pub record TellsStored (o step : ℕ) (from to : Parts) (op after : Operation) :
   pub places : PlacesBy step Replaced (λ p. IsStore o step op.task p.row from.arena to.arena from.tape to.tape op.walk after.walk was) op after
   pub accounts : to.accounts ≡ from.accounts
 
+-- it is to write the pair that it has ready into a free slot
+pub record MayFill (o : ℕ) (v : ArenaView) (op : Operation) : Type 0 where
+  pub has : op.prepared ≢ None
+  pub kept : (prepared : Prepared) → op.prepared ≡ Some prepared → IsAtFill v o op.task prepared op.walk
+
+-- it has, and what was ready is left without its pair
+pub record TellsFilled (o : ℕ) (from to : Parts) (op after : Operation) : Type 0 where
+  pub prepared : Prepared
+  pub rest : Prepared
+  pub has : op.prepared ≡ Some prepared
+  pub fills : IsFill o op.task prepared rest from.arena to.arena op.walk after.walk
+  pub only : to ≡ record from { arena = to.arena }
+  pub others : after ≡ record op { walk = after.walk; prepared = Some rest }
+
 -- the pair was made live, or the quota has no room for it
 abbrev pub TellsPublished : ℕ → ℕ → Parts → Parts → Operation → Operation → Type 0
 TellsPublished o step from to op after =
@@ -277,6 +291,7 @@ abbrev pub MayWrite : Phase → ℕ → ℕ → Parts → Operation → Type 0
 MayWrite Lock o step from op = MayLock o from.arena op
 MayWrite Judge o step from op = MayJudge o from.arena op
 MayWrite Store o step from op = MayPut step from.tape op (λ prepared. IsAtStore from.arena o op.task prepared op.walk)
+MayWrite Fill o step from op = MayFill o from.arena op
 MayWrite Publish o step from op = MayPut step from.tape op (λ prepared. IsAtPublish from.arena o op.task prepared op.walk)
 MayWrite SplitStart o step from op = MayBegin o from.arena from.tape op
 MayWrite SplitMove o step from op = MayPut step from.tape op (λ prepared. IsAtSplitMove from.arena o op.task prepared op.walk op.splits)
@@ -305,6 +320,7 @@ abbrev pub WritesAt : Phase → ℕ → ℕ → Parts → Parts → Operation �
 WritesAt Lock o step from to op made after = Writes o (TellsLocked o) from to op made after
 WritesAt Judge o step from to op made after = Writes o (TellsJudged o step) from to op made after
 WritesAt Store o step from to op made after = Writes o (TellsStored o step) from to op made after
+WritesAt Fill o step from to op made after = Writes o (TellsFilled o) from to op made after
 WritesAt Publish o step from to op made after = Writes o (TellsPublished o step) from to op made after
 WritesAt SplitStart o step from to op made after = Writes o (TellsBegun o step) from to op made after
 WritesAt SplitMove o step from to op made after = Writes o (TellsParted o step) from to op made after

@@ -5,7 +5,7 @@ ghost use Rattle.std.specs.Prelude.{◌≡◌, ◌≢◌, Some, None, [], false,
 ghost use Rattle.mt_operation.specs.Tasks.{ask};
 ghost use Rattle.mt_insert.specs.{KeptPuts.{IsAtStore, IsAtPublish}, KeptSplits.IsAtSplitMove};
 ghost use Rattle.mt_remove.specs.Writes.{is_remove};
-ghost use Rattle.mt_core.specs.Writes.{parts, Writes, WritesAt, WritesNodes, WritesTape, MayWrite, MayLock, MayJudge, MayPut, MayBegin, MayClimb, MayBuild, MayUnlock, TellsLocked, TellsJudged, TellsStored, TellsPublished, TellsBegun, TellsParted, TellsClimbed, TellsBuilt, TellsUnlocked};
+ghost use Rattle.mt_core.specs.Writes.{parts, Writes, WritesAt, WritesNodes, WritesTape, MayWrite, MayLock, MayJudge, MayPut, MayFill, MayBegin, MayClimb, MayBuild, MayUnlock, TellsLocked, TellsJudged, TellsStored, TellsFilled, TellsPublished, TellsBegun, TellsParted, TellsClimbed, TellsBuilt, TellsUnlocked};
 
 use crate::climbs::climb_on;
 use crate::layers::build_on;
@@ -37,6 +37,7 @@ pub(crate) fn write(
         Phase::Lock => take_lock(arena, operation, id),
         Phase::Judge => judge_node(alloc, arena, tape, operation, step, id),
         Phase::Store => store_row(arena, tape, operation, step, id),
+        Phase::Fill => fill_slot(arena, operation, id),
         Phase::Publish => publish_pair(arena, tape, tenants, operation, step, id),
         Phase::SplitStart => begin_split(arena, tape, operation, step, id),
         Phase::SplitMove => part_keys(arena, tape, tenants, operation, step, id),
@@ -158,6 +159,18 @@ fn store_row(
         id,
     );
     operation.outcome = Some(placed(Reply::Replaced, step));
+    Made::Step
+}
+
+// Writes the pair into a free slot.
+#[inline(never)]
+fn fill_slot(arena: &mut Arena, operation: &mut Operation, id: usize) -> Made
+    requires { MayFill id arena.old operation.old }
+    ensures { WritesNodes id (TellsFilled id) arena.old arena.new operation.old result operation.new }
+{
+    let mut prepared = take_ready(&mut operation.prepared);
+    mt_insert::fill(arena, &mut operation.walk, &mut prepared, id);
+    operation.prepared = Some(prepared);
     Made::Step
 }
 

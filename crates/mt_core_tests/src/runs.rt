@@ -16,7 +16,7 @@ type Row = (u64, &'static str, &'static str);
 
 // A get finds no pair, and before it compares the version a put makes the pair. It meets the mark, looks
 // again, and finds what the put wrote. A second put of another key waits for the lock of the first.
-const A_GET_LOOKS_AGAIN: [Row; 24] = [
+const A_GET_LOOKS_AGAIN: [Row; 26] = [
     (1, "k", "begun"),
     (1, "", "moved"),
     (1, "", "moved"),
@@ -29,6 +29,7 @@ const A_GET_LOOKS_AGAIN: [Row; 24] = [
     (3, "", "again 2"),
     (1, "k", "no such"),
     (2, "", "moved"),
+    (2, "", "moved"),
     (1, "", "again 2"),
     (2, "", "new"),
     (2, "", "no such"),
@@ -40,11 +41,12 @@ const A_GET_LOOKS_AGAIN: [Row; 24] = [
     (1, "", "moved"),
     (1, "", "found"),
     (3, "", "moved"),
+    (3, "", "moved"),
     (3, "", "new"),
 ];
 
 // Three gets end in another order than they began, and a put that is full changes nothing.
-const IN_ANY_ORDER: [Row; 36] = [
+const IN_ANY_ORDER: [Row; 39] = [
     (1, "a=1", "begun"),
     (1, "", "moved"),
     (1, "", "moved"),
@@ -53,6 +55,7 @@ const IN_ANY_ORDER: [Row; 36] = [
     (3, "b", "begun"),
     (3, "", "moved"),
     (2, "", "moved"),
+    (1, "", "moved"),
     (1, "", "moved"),
     (1, "", "new"),
     (4, "b=1", "begun"),
@@ -65,8 +68,10 @@ const IN_ANY_ORDER: [Row; 36] = [
     (4, "", "moved"),
     (4, "", "moved"),
     (4, "", "moved"),
+    (4, "", "moved"),
     (4, "", "new"),
     (5, "c=1", "begun"),
+    (5, "", "moved"),
     (5, "", "moved"),
     (5, "", "moved"),
     (5, "", "moved"),
@@ -85,8 +90,9 @@ const IN_ANY_ORDER: [Row; 36] = [
 
 // A get has found a pair, and before it compares the version a remove takes the pair out. It meets the mark,
 // looks again, and finds none; nor does a second remove. A name is given once.
-const A_REMOVE_IS_MET: [Row; 27] = [
+const A_REMOVE_IS_MET: [Row; 28] = [
     (1, "k=v", "begun"),
+    (1, "", "moved"),
     (1, "", "moved"),
     (1, "", "moved"),
     (1, "", "moved"),

@@ -57,7 +57,7 @@ fn a_get_goes_by_steps(rt: &impl Abort, alloc: Global, state: &mut State) {
     }
     assert!(rt; state.noted(&ticket).is_some());
     assert!(rt; state.step(&ticket) == Move::Done);
-    expect_end(rt, state, ticket, (6, 6, 9));
+    expect_end(rt, state, ticket, (7, 7, 10));
 }
 
 #[test]
@@ -66,7 +66,7 @@ fn a_put_and_a_get_of_it(rt: HostRuntime) {
     let mut state = new_store(&rt, alloc, 2);
     expect_lines(&rt, alloc, &state, &["tree - layer 0", "  border 0"]);
     let ticket = put_alone(&rt, alloc, &mut state, "k");
-    expect_end(&rt, &mut state, ticket, (1, 4, 5));
+    expect_end(&rt, &mut state, ticket, (1, 5, 6));
     expect_lines(
         &rt,
         alloc,
@@ -80,7 +80,7 @@ fn a_put_and_a_get_of_it(rt: HostRuntime) {
     state.tidy();
     state.facts();
     let numbers = (state.steps(), state.answers(), state.logs());
-    assert_eq!(rt; numbers, (9, 2, 0));
+    assert_eq!(rt; numbers, (10, 2, 0));
 }
 
 // A put by one of several workers, which is answered.
@@ -119,12 +119,12 @@ fn each_log_is_given_its_own_workers_changes_once(rt: HostRuntime) {
     for (worker, key) in [(0, "a"), (1, "b"), (0, "c")] {
         put_by(&rt, alloc, &mut state, worker, key);
     }
-    expect_batch(&rt, &mut state, 0, 0, &[(4, "a"), (14, "c")]);
+    expect_batch(&rt, &mut state, 0, 0, &[(5, "a"), (17, "c")]);
     state.tidy();
     put_by(&rt, alloc, &mut state, 0, "b");
-    expect_batch(&rt, &mut state, 1, 0, &[(9, "b")]);
-    expect_batch(&rt, &mut state, 0, 15, &[(19, "b")]);
-    expect_batch(&rt, &mut state, 0, 20, &[]);
+    expect_batch(&rt, &mut state, 1, 0, &[(11, "b")]);
+    expect_batch(&rt, &mut state, 0, 18, &[(22, "b")]);
+    expect_batch(&rt, &mut state, 0, 23, &[]);
 }
 
 #[test]

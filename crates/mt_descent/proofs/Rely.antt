@@ -58,11 +58,11 @@ module _ (op : ℕ) (n m : NodeView) (c : Changes op n m) (seen : Parts) (was : 
       ((versions.insert_age_tells n.version seen before.insertion).1 ∙ was.still)
 
 -- a slot stays while the keys do
-in_slot_stays : (n m : NodeView) (slot : ℕ) (key : Bytes) (layer : ℕ) (kind : FoundKind) → n.slots ≡ m.slots → n.order ≡ m.order → IsInSlot n slot key layer kind
+in_slot_stays : (n m : NodeView) (slot : ℕ) (key : Bytes) (layer : ℕ) (kind : FoundKind) → n.slots ≡ m.slots → n.cells.order ≡ m.cells.order → IsInSlot n slot key layer kind
     → IsInSlot m slot key layer kind
 in_slot_stays n m slot key layer kind slots order h =
-    let other = subst (λ (o : Places). IsInSlot (record n { order = o }) slot key layer kind) order h in
-    let same = subst (λ (s : List Entry). IsInSlot (record n { slots = s; order = m.order }) slot key layer kind) slots (record { in_range = other.in_range; slice_is = other.slice_is; mark_is = other.mark_is; kind_is = other.kind_is }) in
+    let other = subst (λ (o : Places). IsInSlot (record n { cells = record n.cells { order = o } }) slot key layer kind) order h in
+    let same = subst (λ (s : List Entry). IsInSlot (record n { slots = s; cells = record n.cells { order = m.cells.order } }) slot key layer kind) slots (record { in_range = other.in_range; slice_is = other.slice_is; mark_is = other.mark_is; kind_is = other.kind_is }) in
     record { in_range = same.in_range; slice_is = same.slice_is; mark_is = same.mark_is; kind_is = same.kind_is }
 
 slot_stays : (n m : NodeView) (slot : ℕ) (key : Bytes) (layer : ℕ) → HasSameKeys n m → HasSlot n slot key layer → HasSlot m slot key layer

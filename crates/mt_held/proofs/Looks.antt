@@ -7,7 +7,7 @@ use Rattle.mt_arena.specs.{NodeView.{NodeView, place_at, border_view}, Layers.sl
 use Rattle.mt_operation.specs.{declared.phase.Phase.Phase, declared.walk.Walk.Walk, declared.task.Task.Task, declared.phase.Phase.TheVariants.{Forward, Judge}}
 use Rattle.mt_version.specs.Parts.{Parts}
 use Rattle.mt_descent.specs.{Seen.IsOutdated, KeptWalks.{IsAtJudge, IsInSlot}, WalkMoves.{Locks, after_change, walk_anew}}
-use Rattle.mt_held.specs.Holds.{HoldsBorder}
+use Rattle.mt_held.specs.Holds.{HoldsBy, HoldsBorder}
 
 -- a link has a tree
 linked_tree : (held : Held) → IsLink held → (tree : ℕ) × (held ≡ Link tree)
@@ -29,9 +29,9 @@ module _ (n : NodeView) (b : BorderNode) (tree level : ℕ) (reach holder : Opti
   leads_there u is = subst (λ (m : NodeView). (slot_at m (place_at m slot)).held ≡ Link u) (sym same) is
 
 -- the walk's phase says nothing of the node that it holds
-pub holds_on : (v : ArenaView) (op : ℕ) (task : Task) (w : Walk) (phase : Phase) (slot : ℕ) → HoldsBorder v op task.key w
-    → HoldsBorder v op task.key (record w { phase = phase; slot = slot })
-holds_on v op task w phase slot h =
+pub holds_on : {marked : Bool} → (v : ArenaView) (op : ℕ) (task : Task) (w : Walk) (phase : Phase) (slot : ℕ) → HoldsBy marked v op task.key w
+    → HoldsBy marked v op task.key (record w { phase = phase; slot = slot })
+holds_on {marked} v op task w phase slot h =
     let j = h.judged in
     record {
       judged = record { at_border = record { through = j.at_border.through; covers = j.at_border.covers; border = j.at_border.border }; held = j.held; still = j.still; stands = j.stands };
@@ -54,7 +54,7 @@ held_here op old new key before after l judging judged settled =
     let n = at old before.place.node in
     let seen = before.place.seen in
     let judges : ¬ IsOutdated n seen → HoldsBorder new op key after = λ fresh. record {
-      judged = judged;
+      judged = record { at_border = judged.at_border; held = judged.held; still = judged.still; stands = judged.stands };
       settled = subst (λ (x : Walk). IsSettled new.nodes x.place.node (at new x.place.node)) (sym (l.judges fresh)) settled;
     } in
     judges (λ outdated. not_judging before n.version n.next (ap (λ (x : Walk). x.phase) (sym (l.goes_on outdated)) ∙ judging))

@@ -1,10 +1,9 @@
 -- An operation that holds its border node may change it, and then give its lock back; a link leads it on.
-use Rattle.std.proofs.{Common.{◌≡◌, ℕ, ◌+◌, ◌<◌, List, length, Some, None, refl, sym, ap, subst, ◌∙◌, arith}, lemmas.List.length-set}
+use Rattle.std.proofs.{Common.{◌≡◌, ℕ, ◌+◌, ◌<◌, Bool, List, length, Some, None, refl, sym, ap, subst, ◌∙◌, arith}, lemmas.List.length-set}
 use Rattle.std.specs.{List.All, FinMap.get}
 use Rattle.mt_slices.specs.Slices.{slice_of, mark_of, suffix_of}
 use Rattle.mt_rows.specs.Rows.{Bytes}
-use Rattle.mt_order.specs.Places.{Places}
-use Rattle.mt_border.specs.{declared.entry.Entry.Entry, Held.Pair, Held.{Stable, Link}}
+use Rattle.mt_border.specs.{Slots.Slotted, declared.entry.Entry.Entry, Held.Pair, Held.{Stable, Link}}
 use Rattle.mt_border.specs.{declared.entry.FoundKind.TheVariants.{ThisKey, Link as ToTree}, Entry.pair_of, Entries.IsMissing, Contents.owned}
 use Rattle.mt_border.proofs.ContentsKeys.{by_equation}
 use Rattle.mt_arena.specs.{NodeView.{NodeView, place_at}, NodeFacts.IsUnstable, Forests.{tree_at, layer_of}, Layers.slot_at, Ways.{BelongsIn, StandsFor, GoesOn}}
@@ -12,9 +11,9 @@ use Rattle.mt_arena.specs.{Edits.with_slots, Arena.{ArenaView, IsArena, content_
 use Rattle.mt_arena.proofs.{Pairs.here, Homes.begun, Down.goes_on, Elsewhere.layer_is, Owners.{found, none_elsewhere}, SettledEdits.settled_self}
 use Rattle.mt_operation.specs.declared.walk.Walk.{Walk}
 use Rattle.mt_descent.{specs.{KeptWalks.{IsInSlot, IsAtEnter}, WalkMoves.walk_into}, proofs.Looks.belongs}
-use Rattle.mt_held.specs.{Holds.{HoldsBorder, IsAtUnlock}, Moves.{walk_placed, given_back}}
+use Rattle.mt_held.specs.{Holds.{HoldsBy, IsAtUnlock}, Moves.{walk_placed, given_back}}
 
-module _ (v : ArenaView) (op : ℕ) (key : Bytes) (w : Walk) (arena : IsArena v.nodes v.trees) (h : HoldsBorder v op key w) where
+module _ {marked : Bool} (v : ArenaView) (op : ℕ) (key : Bytes) (w : Walk) (arena : IsArena v.nodes v.trees) (h : HoldsBy marked v op key w) where
   abbrev n : NodeView
   n = at v w.place.node
 
@@ -96,10 +95,10 @@ module _ (v : ArenaView) (op : ℕ) (key : Bytes) (w : Walk) (arena : IsArena v.
   }
 
   -- and so with other slots, none of them unstable
-  pub unlock_with : (slots : List Entry) (order : Places) → All (λ (e : Entry). ¬ IsUnstable e.held) slots
-      → IsAtUnlock (with_node v w.place.node (with_slots n slots order)) op (walk_placed w)
-  unlock_with slots order stable =
-      let y = with_slots n slots order in
+  pub unlock_with : (slots : List Entry) (cells : Slotted) → All (λ (e : Entry). ¬ IsUnstable e.held) slots
+      → IsAtUnlock (with_node v w.place.node (with_slots n slots cells)) op (walk_placed w)
+  unlock_with slots cells stable =
+      let y = with_slots n slots cells in
       let same = here v.nodes w.place.node y within in
       record {
         held = record { there = omega (arith, within, length-set v.nodes w.place.node y); holder = ap (λ (m : NodeView). m.holder) same ∙ h.judged.held.holder };

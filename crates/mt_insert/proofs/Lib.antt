@@ -1,6 +1,7 @@
 pub mod Rely
 pub mod Looks
 pub mod Places
+pub mod Filling
 pub mod Puts
 pub mod Commands
 pub mod Returns

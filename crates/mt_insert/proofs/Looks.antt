@@ -3,12 +3,12 @@ use Rattle.std.proofs.Common.{◌≡◌, ℕ, ◌==◌, ◌<◌, ◌≤◌, List
 use Rattle.std.proofs.lemmas.Bool.{cond_both, eqb-true, eqb-false}
 use Rattle.std.specs.{Prelude.IsSomeAnd, Option.option_map}
 use Rattle.mt_slices.specs.Slices.{suffix_of}
-use Rattle.mt_border.specs.{declared.entry.Entry.Entry, Held.Pair, Held.Held}
+use Rattle.mt_border.specs.{Held.Pair, Held.Held}
 use Rattle.mt_border.specs.{Held.{Stable, Unstable, Link}, Entry.pair_of, Node.{Node as BorderNode, entry_at}}
 use Rattle.mt_border.proofs.Edits.{any_entry}
 use Rattle.mt_arena.specs.{declared.tree.Tree.Tree, NodeView.{NodeView, node_at, place_at, border_view}, NodeFacts.IsUnstable, Layers.slot_at, Arena.{ArenaView, IsArena}, Accesses.at}
 use Rattle.mt_operation.specs.{declared.phase.Phase.Phase, declared.walk.Walk.Walk, declared.task.Task.Task, declared.prepared.Prepared.Prepared}
-use Rattle.mt_operation.specs.declared.phase.Phase.TheVariants.{Store, Publish, SplitStart}
+use Rattle.mt_operation.specs.declared.phase.Phase.TheVariants.{Store, Fill, SplitStart}
 use Rattle.mt_held.{proofs.Looks.holds_on, specs.Holds.HoldsBorder}
 use Rattle.mt_insert.specs.{Puts.IsReady, KeptPuts.KeptReady, Judge.{StandsIn, ReadyFor, after_judge}}
 
@@ -45,7 +45,7 @@ kept_ready v op task prepared w (Some slot) h within stands ready =
     }
 kept_ready v op task prepared w None h within stands ready =
     let full = length (at v w.place.node).slots == 15 in
-    cond_both full SplitStart Publish (λ (phase : Phase). KeptReady phase v op task prepared (record w { phase = phase }))
+    cond_both full SplitStart Fill (λ (phase : Phase). KeptReady phase v op task prepared (record w { phase = phase }))
     (λ yes. record {
       holds = holds_on v op task w SplitStart w.slot h;
       missing = stands;
@@ -54,7 +54,7 @@ kept_ready v op task prepared w None h within stands ready =
       ready = ready.0;
     })
     (λ no. record {
-      holds = holds_on v op task w Publish w.slot h;
+      holds = holds_on v op task w Fill w.slot h;
       missing = stands;
       room = let differ = eqb-false _ _ no in omega (arith, within, differ);
       suffix = ready.1;

@@ -4,7 +4,7 @@ use Rattle.std.proofs.{lemmas.Bool.cases_eq, lemmas.Option.same_Some, lemmas.Lis
 use Rattle.std.specs.{List.All, FinMap.get}
 use Rattle.mt_slices.specs.Slices.{slice_of}
 use Rattle.mt_rows.specs.Rows.{Columns}
-use Rattle.mt_order.specs.Places.{Places}
+use Rattle.mt_border.specs.Slots.{Slotted}
 use Rattle.mt_border.specs.{declared.entry.Entry.Entry, Entries.with_entry, Split.IsParted, Contents.{owned, HasKey}}
 use Rattle.mt_border.proofs.{Edits.any_entry, Parts.{All-left, All-right}, ContentsKeys.{new_has_key, new_is_entry}, ContentsEdits.each-publish}
 use Rattle.mt_interior.specs.Fences.{end_of}
@@ -24,12 +24,12 @@ no_number None refuted = refl
 no_number (Some k) refuted = absurd (refuted (λ e. absurd (cc)))
 
 -- the nodes, of which one has kept some slots, and its right half has got others
-module _ (xs : List NodeView) (i j : ℕ) (kept moved : List Entry) (kept_order moved_order : Places) (li : i < length xs) (lj : j < length xs) (differ : i ≢ j) where
+module _ (xs : List NodeView) (i j : ℕ) (kept moved : List Entry) (kept_cells moved_cells : Slotted) (li : i < length xs) (lj : j < length xs) (differ : i ≢ j) where
   abbrev y : NodeView
-  y = left_half (node_at xs i) kept kept_order (node_at xs j).low j
+  y = left_half (node_at xs i) kept kept_cells (node_at xs j).low j
 
   abbrev z : NodeView
-  z = right_half (node_at xs i) (node_at xs j) moved moved_order i
+  z = right_half (node_at xs i) (node_at xs j) moved moved_cells i
 
   abbrev halves : List NodeView
   halves = set (set xs i y) j z
@@ -147,21 +147,21 @@ module _ (v : ArenaView) (op : ℕ) (task : Task) (prepared : Prepared) (w : Wal
   right_last =
       no_number r.next (λ some. absurd (omega (arith, (arena.ranged.each q lq).next some, (arena.nodes.each q lq).reach.within, ap end_of h.may.half.right_reach)))
 
-  module _ (all kept moved : List Entry) (kept_order moved_order : Places) (stable : All (λ (e : Entry). ¬ IsUnstable e.held) all) (inside : All (λ (e : Entry). Holds x e.slice) all) (parted : IsParted all kept moved r.low) (some_kept : 0 < length kept) (some_moved : 0 < length moved) where
+  module _ (all kept moved : List Entry) (kept_cells moved_cells : Slotted) (stable : All (λ (e : Entry). ¬ IsUnstable e.held) all) (inside : All (λ (e : Entry). Holds x e.slice) all) (parted : IsParted all kept moved r.low) (some_kept : 0 < length kept) (some_moved : 0 < length moved) where
     abbrev both : List NodeView
-    both = halves v.nodes l q kept moved kept_order moved_order ll lq h.may.half.differ
+    both = halves v.nodes l q kept moved kept_cells moved_cells ll lq h.may.half.differ
 
     abbrev after : ArenaView
     after = record v { nodes = both }
 
     count : length both ≡ length v.nodes
-    count = size v.nodes l q kept moved kept_order moved_order ll lq h.may.half.differ
+    count = size v.nodes l q kept moved kept_cells moved_cells ll lq h.may.half.differ
 
-    at_l : node_at both l ≡ left_half x kept kept_order r.low q
-    at_l = at_left v.nodes l q kept moved kept_order moved_order ll lq h.may.half.differ
+    at_l : node_at both l ≡ left_half x kept kept_cells r.low q
+    at_l = at_left v.nodes l q kept moved kept_cells moved_cells ll lq h.may.half.differ
 
-    at_q : node_at both q ≡ right_half x r moved moved_order l
-    at_q = at_right v.nodes l q kept moved kept_order moved_order ll lq h.may.half.differ
+    at_q : node_at both q ≡ right_half x r moved moved_cells l
+    at_q = at_right v.nodes l q kept moved kept_cells moved_cells ll lq h.may.half.differ
 
     inside_both : All (λ (e : Entry). Holds x e.slice) (kept ++ moved)
     inside_both = subst (All (λ (e : Entry). Holds x e.slice)) (sym parted.joined) inside
@@ -214,21 +214,21 @@ module _ (v : ArenaView) (op : ℕ) (task : Task) (prepared : Prepared) (w : Wal
 
     -- who named the left node as the one before does so still, beside the right half
     followers : (k : ℕ) → Follows both l k → (k ≡ q) ⊎ (x.next ≡ Some k)
-    followers k is = elim (follows_was v.nodes l q kept moved kept_order moved_order ll lq h.may.half.differ l k is) [
+    followers k is = elim (follows_was v.nodes l q kept moved kept_cells moved_cells ll lq h.may.half.differ l k is) [
       | inl right ↦ inl right.0
       | inr old ↦ h.unparted.followers k old.1
     ]
 
     children : AreChildren both l (at after l)
-    children k is = rw at_l (h.unparted.children k (under_was v.nodes l q kept moved kept_order moved_order ll lq h.may.half.differ l k is))
+    children k is = rw at_l (h.unparted.children k (under_was v.nodes l q kept moved kept_cells moved_cells ll lq h.may.half.differ l k is))
 
     right_lags : NothingLags both q
     right_lags = record {
-      followers = λ k is. elim (follows_was v.nodes l q kept moved kept_order moved_order ll lq h.may.half.differ q k is) [
+      followers = λ k is. elim (follows_was v.nodes l q kept moved kept_cells moved_cells ll lq h.may.half.differ q k is) [
         | inl right ↦ absurd (h.may.half.differ (sym right.1))
         | inr old ↦ absurd (let some = sym right_last ∙ h.unparted.right.followers k old.1 in cc)
       ];
-      children = λ k is. rw at_q (h.unparted.right.children k (under_was v.nodes l q kept moved kept_order moved_order ll lq h.may.half.differ q k is));
+      children = λ k is. rw at_q (h.unparted.right.children k (under_was v.nodes l q kept moved kept_cells moved_cells ll lq h.may.half.differ q k is));
     }
 
     -- a node behind names the left one still
@@ -270,7 +270,7 @@ module _ (v : ArenaView) (op : ℕ) (task : Task) (prepared : Prepared) (w : Wal
     by_next (Some behind) is = at_prev behind is
 
     halves_held : HoldsSplits v op s → HoldsSplits after op s
-    halves_held holds k within holder = holds k (omega (arith, within, count)) (holder_was v.nodes l q kept moved kept_order moved_order ll lq h.may.half.differ k op holder)
+    halves_held holds k within holder = holds k (omega (arith, within, count)) (holder_was v.nodes l q kept moved kept_cells moved_cells ll lq h.may.half.differ k op holder)
 
   -- the slots of the walk's node, which is the left one
   stable_slots : All (λ (e : Entry). ¬ IsUnstable e.held) (at v w.place.node).slots
@@ -284,19 +284,19 @@ module _ (v : ArenaView) (op : ℕ) (task : Task) (prepared : Prepared) (w : Wal
     left_halved : AreHalved all v.nodes new.nodes l q
     left_halved = subst (λ k. AreHalved all v.nodes new.nodes k q) (sym h.border) halved
 
-    is_after : new ≡ record v { nodes = halves v.nodes l q left_halved.kept left_halved.moved left_halved.kept_order left_halved.moved_order ll lq h.may.half.differ }
+    is_after : new ≡ record v { nodes = halves v.nodes l q left_halved.kept left_halved.moved left_halved.kept_cells left_halved.moved_cells ll lq h.may.half.differ }
     is_after = alone ∙ ap (λ (nodes : List NodeView). record v { nodes = nodes }) left_halved.is
 
     kept_parted : KeptSplit (after_parting (at v w.place.node).next) new op s
     kept_parted =
         subst (λ k. KeptSplit (after_parting (at v k).next) new op s) h.border
         (subst (λ (a : ArenaView). KeptSplit (after_parting x.next) a op s) (sym is_after)
-        (by_next all left_halved.kept left_halved.moved left_halved.kept_order left_halved.moved_order stable inside left_halved.parted left_halved.some_kept left_halved.some_moved x.next refl))
+        (by_next all left_halved.kept left_halved.moved left_halved.kept_cells left_halved.moved_cells stable inside left_halved.parted left_halved.some_kept left_halved.some_moved x.next refl))
 
     holds_parted : HoldsSplits v op s → HoldsSplits new op s
     holds_parted holds =
         subst (λ (a : ArenaView). HoldsSplits a op s) (sym is_after)
-        (halves_held all left_halved.kept left_halved.moved left_halved.kept_order left_halved.moved_order stable inside left_halved.parted left_halved.some_kept left_halved.some_moved holds)
+        (halves_held all left_halved.kept left_halved.moved left_halved.kept_cells left_halved.moved_cells stable inside left_halved.parted left_halved.some_kept left_halved.some_moved holds)
 
   -- what is kept and held where the keys were parted alone
   pub kept_without : (new : ArenaView) → new ≡ record v { nodes = new.nodes } → AreHalved (at v w.place.node).slots v.nodes new.nodes w.place.node q

@@ -5,7 +5,7 @@ use Rattle.mt_border.specs.Contents.{owned}
 use Rattle.mt_tape.specs.{declared.entry.Entry.{Entry as Write}, Tapes.Kept, Histories.with_write}
 use Rattle.mt_arena.specs.Arena.{ArenaView, content_of}
 use Rattle.mt_operation.specs.{declared.task.Task.Task, declared.prepared.Prepared.Prepared, Tasks.ask}
-use Rattle.mt_insert.specs.{Puts.{IsPut, row_over, write_over, write_of, IsReady}, Placing.Places}
+use Rattle.mt_insert.specs.{Puts.{IsPut, row_over, write_over, write_of}, Placing.Places}
 use Rattle.mt_held.specs.Taping.{pushed}
 
 -- the row that is inserted is that of the put's write
@@ -25,10 +25,10 @@ numbered task contents before write step is write_is =
 
 -- a placing step, from what its two writes make
 pub places : (task : Task) (step : ℕ) (old new : ArenaView) (was is : Kept) (before : Option Columns) (prepared : Prepared) → IsPut task
-    → get (content_of old) (owned task.key) ≡ before → IsReady task before prepared
+    → get (content_of old) (owned task.key) ≡ before → prepared.row ≡ row_over task before → prepared.write ≡ write_over task before 0
     → content_of new ≡ insert (content_of old) (owned task.key) prepared.row → is ≡ pushed was (record prepared.write { step = step })
     → Places task step old new was is
-places task step old new was is before prepared put before_is ready inserted push = record {
-  contents = inserted ∙ inserts task (content_of old) before prepared.row step put before_is ready.row;
-  tape = push ∙ ap (pushed was) (numbered task (content_of old) before prepared.write step before_is ready.write);
+places task step old new was is before prepared put before_is row_is write_is inserted push = record {
+  contents = inserted ∙ inserts task (content_of old) before prepared.row step put before_is row_is;
+  tape = push ∙ ap (pushed was) (numbered task (content_of old) before prepared.write step before_is write_is);
 }

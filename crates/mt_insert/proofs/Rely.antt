@@ -1,13 +1,14 @@
 -- What a put keeps that holds its border node stays under each step of another operation, by what that step leaves to others: for the laws.
-use Rattle.std.proofs.Common.{◌≡◌, ◌≢◌, ℕ, ◌<◌, List, length, subst}
-use Rattle.mt_slices.specs.Slices.{slice_of, mark_of}
-use Rattle.mt_border.specs.{declared.entry.Entry.Entry, declared.entry.FoundKind.TheVariants.ThisKey, Held.Stable, Entries.IsMissing}
+use Rattle.std.proofs.Common.{◌≡◌, ◌≢◌, ℕ, ◌<◌, List, length, true, subst}
+use Rattle.mt_slices.specs.Slices.{slice_of, mark_of, suffix_of}
+use Rattle.mt_border.specs.{declared.entry.Entry.Entry, declared.entry.FoundKind.TheVariants.ThisKey, Held.Stable, Entries.IsMissing, Slots.{Slotted, held_in, next_free, is_dropped}}
+use Rattle.mt_version.specs.Parts.{Parts}
 use Rattle.mt_order.specs.Places.{Places, place_of_slot}
 use Rattle.mt_arena.specs.{NodeView.place_at, Layers.slot_at, Arena.{ArenaView, Guarantee}, Accesses.at}
-use Rattle.mt_operation.specs.{declared.phase.Phase.Phase, declared.phase.Phase.TheVariants.{Store, Publish, SplitStart}, declared.walk.Walk.Walk}
+use Rattle.mt_operation.specs.{declared.phase.Phase.Phase, declared.phase.Phase.TheVariants.{Store, Fill, SplitStart}, declared.walk.Walk.Walk}
 use Rattle.mt_operation.specs.{declared.task.Task.Task, declared.prepared.Prepared.Prepared}
-use Rattle.mt_held.proofs.Rely.{held, in_slot_stays, same_slots, same_order}
-use Rattle.mt_insert.specs.KeptPuts.{IsAtStore, IsAtPublish, IsAtSplitStart, KeptReady}
+use Rattle.mt_held.proofs.Rely.{held, in_slot_stays, same_slots, same_cells, same_order, same_version}
+use Rattle.mt_insert.specs.KeptPuts.{IsAtStore, IsAtFill, IsAtPublish, IsAtSplitStart, KeptReady}
 
 module _ (op o : ℕ) (old new : ArenaView) (g : Guarantee op old new) (other : o ≢ op) where
   -- at Store
@@ -26,9 +27,9 @@ module _ (op o : ℕ) (old new : ArenaView) (g : Guarantee op old new) (other : 
         ready = h.ready;
       }
 
-  -- at Publish
-  pub publish : (task : Task) (prepared : Prepared) (w : Walk) → IsAtPublish old o task prepared w → IsAtPublish new o task prepared w
-  publish task prepared w h =
+  -- at Fill
+  pub fill : (task : Task) (prepared : Prepared) (w : Walk) → IsAtFill old o task prepared w → IsAtFill new o task prepared w
+  fill task prepared w h =
       let same = same_slots op o old new g other task.key w h.holds in
       record {
         holds = held op o old new g other task.key w h.holds;
@@ -36,6 +37,22 @@ module _ (op o : ℕ) (old new : ArenaView) (g : Guarantee op old new) (other : 
         room = subst (λ (s : List Entry). length s < 15) same h.room;
         suffix = h.suffix;
         ready = h.ready;
+      }
+
+  -- at Publish
+  pub publish : (task : Task) (prepared : Prepared) (w : Walk) → IsAtPublish old o task prepared w → IsAtPublish new o task prepared w
+  publish task prepared w h =
+      let same = same_slots op o old new g other task.key w h.holds in
+      let cells = same_cells op o old new g other task.key w h.holds in
+      let version = same_version op o old new g other task.key w h.holds in
+      record {
+        holds = held op o old new g other task.key w h.holds;
+        missing = subst (λ (s : List Entry). IsMissing s (slice_of task.key w.layer) (mark_of task.key w.layer)) same h.missing;
+        room = subst (λ (s : List Entry). length s < 15) same h.room;
+        filled = subst (λ (c : Slotted). held_in c.helds (next_free c) ≡ Stable (record { suffix = suffix_of task.key w.layer; row = prepared.row; stamp = 0 })) cells h.filled;
+        marked = subst (λ (c : Slotted). is_dropped c (next_free c) ≡ true → (at new w.place.node).version.inserting ≡ true) cells
+            (subst (λ (p : Parts). is_dropped (at old w.place.node).cells (next_free (at old w.place.node).cells) ≡ true → p.inserting ≡ true) version h.marked);
+        left = h.left;
       }
 
   -- at SplitStart
@@ -53,6 +70,6 @@ module _ (op o : ℕ) (old new : ArenaView) (g : Guarantee op old new) (other : 
   -- at each of them
   pub ready : (task : Task) (prepared : Prepared) (w : Walk) (phase : Phase) → KeptReady phase old o task prepared w → KeptReady phase new o task prepared w
   ready task prepared w Store h = store task prepared w h
-  ready task prepared w Publish h = publish task prepared w h
+  ready task prepared w Fill h = fill task prepared w h
   ready task prepared w SplitStart h = split_start task prepared w h
   ready task prepared w _ h = absurd h

@@ -5,7 +5,6 @@ use Rattle.std.proofs.{lemmas.Bool.cases_eq, lemmas.Option.same_Some}
 use Rattle.mt_version.specs.Changes.{CanUnlock}
 use Rattle.mt_arena.specs.{NodeView.NodeView, Edits.unlocked, Guarantee.{NodesGuarantee, PointsOnly}, Arena.{ArenaView, IsArena, Guarantee, content_of}}
 use Rattle.mt_arena.specs.Accesses.{at}
-use Rattle.mt_arena.proofs.Pairs.{there}
 use Rattle.mt_operation.specs.{declared.splits.Halves.Halves, declared.splits.Splits.Splits}
 use Rattle.mt_descent.specs.KeptWalks.{HoldsNothing}
 use Rattle.mt_held.proofs.GivingBack.{GivesBack, back_none, back_more, back_one, returns_still, step_back, nodes_on}

@@ -5,13 +5,12 @@ use Rattle.mt_rows.specs.Rows.{Bytes}
 use Rattle.mt_border.specs.{Entries.IsMissing, Held.Pair, declared.entry.FoundKind.TheVariants.ThisKey, Entry.pair_of}
 use Rattle.mt_tape.specs.Tapes.{Kept}
 use Rattle.mt_arena.specs.{Arena.ArenaView, NodeView.{NodeView, place_at}, Accesses.at, Layers.slot_at}
-use Rattle.mt_operation.specs.{declared.phase.Phase.TheVariants.{MakeLayer, Publish, SplitStart, Store}, declared.phase.Phase.Phase}
+use Rattle.mt_operation.specs.{declared.phase.Phase.TheVariants.{MakeLayer, Fill, SplitStart, Store}, declared.phase.Phase.Phase}
 use Rattle.mt_operation.specs.{declared.prepared.Prepared.Prepared, declared.task.Task.Task, declared.walk.Walk.Walk}
 use Rattle.mt_descent.specs.{KeptWalks.IsInSlot, WalkMoves.KeepsPairs}
 use Rattle.mt_held.specs.{Unlock.{IsUnlock, MeetsLink}, Taping.reserving}
 use Rattle.mt_insert.specs.{KeptPuts.{IsAtMakeLayer, KeptReady}, Puts.IsReady, declared.phases.judge.Judged.Judged}
 use Rattle.mt_insert.specs.declared.phases.judge.Judged.TheVariants.{GoesOn, NoMemory, Ready}
-use Rattle.mt_border.specs.declared.entry.FoundKind.TheVariants as kinds
 
 -- the slot that has the key; none where the node misses it
 abbrev pub StandsIn : NodeView → Bytes → ℕ → Option ℕ → Type 0
@@ -23,9 +22,9 @@ abbrev pub ReadyFor : NodeView → Task → ℕ → Option ℕ → Prepared → 
 ReadyFor n task layer (Some slot) prepared = (pair : Pair) → pair_of (slot_at n (place_at n slot)).held ≡ Some pair → IsReady task (Some pair.row) prepared
 ReadyFor n task layer None prepared = IsReady task None prepared × (prepared.suffix ≡ suffix_of task.key layer)
 
--- to store in the slot that has the key; where it is missing, to publish, or to split a full node
+-- to store in the slot that has the key; where it is missing, to fill a free slot, or to split a full node
 abbrev pub for_missing : NodeView → Phase
-for_missing n = if length n.slots == 15 then SplitStart else Publish
+for_missing n = if length n.slots == 15 then SplitStart else Fill
 
 abbrev pub after_judge : NodeView → Option ℕ → Walk → Walk
 after_judge n (Some slot) w = record w { slot = slot; phase = Store }

@@ -6,6 +6,7 @@ pub mod SplitEdits
 pub mod Unlock
 pub mod Judge
 pub mod Store
+pub mod Fill
 pub mod Publish
 pub mod SplitStart
 pub mod SplitMove

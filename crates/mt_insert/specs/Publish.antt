@@ -1,10 +1,9 @@
 -- Publish: the quota is judged, and the pair of the missing key made live.
 use Rattle.std.specs.{Prelude.{Bool, None, false, true, ℕ, ◌≡◌}, FinMap.get, Option.option_map}
 use Rattle.mt_rows.specs.{Accounts.{Accounts, HasRoom, OthersStay, account_of, one_more}, Rows.Columns}
-use Rattle.mt_order.specs.Places.{order_with}
 use Rattle.mt_border.specs.{Contents.owned, Entry.order_of, Entries.{place_in, with_entry}}
 use Rattle.mt_tape.specs.Tapes.{Kept}
-use Rattle.mt_arena.specs.{Arena.{ArenaView, Guarantee, content_of}, Accesses.{at, with_node}, Edits.with_slots}
+use Rattle.mt_arena.specs.{Arena.{ArenaView, Guarantee, content_of}, Accesses.{at, with_node}, Edits.{with_slots, cells_with}}
 use Rattle.mt_operation.specs.{declared.task.Task.Task, declared.walk.Walk.Walk}
 use Rattle.mt_descent.specs.WalkMoves.{Continues}
 use Rattle.mt_held.specs.{Holds.IsAtUnlock, Taping.released, Moves.walk_placed}
@@ -17,7 +16,7 @@ pub record IsPublish (op step : ℕ) (task : Task) (row : Columns) (old new : Ar
   pub more : account_of counted task.tenant ≡ option_map one_more (account_of accounts task.tenant)
   pub others : OthersStay accounts counted task.tenant
   pub is : new ≡ with_node old before.place.node (with_slots (at old before.place.node) (with_entry (at old before.place.node).slots (entry_of task.key before.layer row step))
-      (order_with (at old before.place.node).order (place_in (at old before.place.node).slots (order_of (entry_of task.key before.layer row step)))))
+      (cells_with (at old before.place.node).cells (place_in (at old before.place.node).slots (order_of (entry_of task.key before.layer row step))) (entry_of task.key before.layer row step)))
   pub places : Places task step old new tape taped
   pub walk : after ≡ walk_placed before
   pub same : Continues before after

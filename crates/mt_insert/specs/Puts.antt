@@ -43,3 +43,9 @@ write_of task contents step = write_over task (get contents (owned task.key)) st
 pub record IsReady (task : Task) (before : Option Columns) (prepared : Prepared) : Type 0 where
   pub row : prepared.row ≡ row_over task before
   pub write : prepared.write ≡ write_over task before 0
+  pub whole : prepared.whole ≡ true
+
+-- and what is left of it once its pair stands in a slot
+pub record IsLeft (task : Task) (before : Option Columns) (prepared : Prepared) : Type 0 where
+  pub row : prepared.row ≡ row_over task before
+  pub write : prepared.write ≡ write_over task before 0

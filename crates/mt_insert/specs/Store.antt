@@ -3,7 +3,7 @@ use Rattle.std.specs.{Prelude.{Some, ℕ, ◌≡◌}, FinMap.get}
 use Rattle.mt_rows.specs.Rows.{Columns}
 use Rattle.mt_border.specs.{Held.Pair, Held.Stable, Contents.owned, Entries.replaced}
 use Rattle.mt_tape.specs.Tapes.{Kept}
-use Rattle.mt_arena.specs.{NodeView.place_at, Arena.{ArenaView, Guarantee, content_of}, Accesses.{at, with_node, with_row}, Layers.slot_at, Edits.with_slots}
+use Rattle.mt_arena.specs.{NodeView.place_at, Arena.{ArenaView, Guarantee, content_of}, Accesses.{at, with_node, with_row}, Layers.slot_at, Edits.{with_slots, cells_holding}}
 use Rattle.mt_operation.specs.{declared.task.Task.Task, declared.walk.Walk.Walk}
 use Rattle.mt_descent.specs.WalkMoves.{Continues}
 use Rattle.mt_held.specs.{Holds.IsAtUnlock, Moves.walk_placed}
@@ -13,7 +13,8 @@ use Rattle.mt_insert.specs.Placing.{Places}
 pub record IsStore (op step : ℕ) (task : Task) (row : Columns) (old new : ArenaView) (tape taped : Kept) (before after : Walk) (was : Columns) : Type 0 where
   pub was_there : get (content_of old) (owned task.key) ≡ Some was
   pub is : (pair : Pair) → (slot_at (at old before.place.node) (place_at (at old before.place.node) before.slot)).held ≡ Stable pair → new ≡ with_node old before.place.node (with_slots (at old before.place.node)
-      (replaced (at old before.place.node).slots (with_row (slot_at (at old before.place.node) (place_at (at old before.place.node) before.slot)) pair row step)) (at old before.place.node).order)
+      (replaced (at old before.place.node).slots (with_row (slot_at (at old before.place.node) (place_at (at old before.place.node) before.slot)) pair row step))
+      (cells_holding (at old before.place.node).cells (place_at (at old before.place.node) before.slot) (Stable (record pair { row = row; stamp = step }))))
   pub places : Places task step old new tape taped
   pub walk : after ≡ walk_placed before
   pub same : Continues before after

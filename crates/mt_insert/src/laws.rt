@@ -9,13 +9,19 @@ ghost use Rattle.mt_tape.specs.{declared.entry.Entry.Entry, Tapes.last_step_over
 ghost use Rattle.mt_arena.specs.Arena.{ArenaView, IsArena, content_of, Guarantee};
 ghost use Rattle.mt_operation.specs.{declared.phase.Phase.Phase, declared.walk.Walk.Walk, declared.task.Task.Task, declared.prepared.Prepared.Prepared};
 ghost use Rattle.mt_operation.specs.{declared.splits.Splits.Splits, Tasks.ask};
-ghost use Rattle.mt_insert.specs.{Puts.{IsPut, write_of}, KeptPuts.{IsAtStore, IsAtPublish, KeptReady, IsAtSplitStart}};
+ghost use Rattle.mt_insert.specs.{Puts.{IsPut, write_of}, KeptPuts.{IsAtStore, IsAtFill, IsAtPublish, KeptReady, IsAtSplitStart}};
 ghost use Rattle.mt_insert.specs.KeptSplits.{HoldsSplits, IsAtSplitMove, KeptSplit};
 
 /// What a put keeps at Store, each step of another operation leaves.
 pub fn store_stays()
     ensures { (op o : ℕ) (old new : ArenaView) (task : Task) (prepared : Prepared) (w : Walk) → Guarantee op old new → o ≢ op →
         IsAtStore old o task prepared w → IsAtStore new o task prepared w }
+{}
+
+/// What a put keeps at Fill, each step of another operation leaves.
+pub fn fill_stays()
+    ensures { (op o : ℕ) (old new : ArenaView) (task : Task) (prepared : Prepared) (w : Walk) → Guarantee op old new → o ≢ op →
+        IsAtFill old o task prepared w → IsAtFill new o task prepared w }
 {}
 
 /// What a put keeps at Publish, each step of another operation leaves.
@@ -31,10 +37,12 @@ pub fn ready_stays()
 {}
 
 /// The contents have, at the key of a put that is about to place its row, the row of its slot at Store,
-/// and none at Publish: the row before of the write that it made ready.
+/// and none at Fill and at Publish: the row before of the write that it made ready.
 pub fn the_row_before_stands()
     ensures store { (v : ArenaView) (op : ℕ) (task : Task) (prepared : Prepared) (w : Walk) → IsArena v.nodes v.trees → (kept : IsAtStore v op task prepared w) →
         get (content_of v) (owned task.key) ≡ Some kept.pair.row }
+    ensures fill { (v : ArenaView) (op : ℕ) (task : Task) (prepared : Prepared) (w : Walk) → IsArena v.nodes v.trees → IsAtFill v op task prepared w →
+        get (content_of v) (owned task.key) ≡ None }
     ensures publish { (v : ArenaView) (op : ℕ) (task : Task) (prepared : Prepared) (w : Walk) → IsArena v.nodes v.trees → IsAtPublish v op task prepared w →
         get (content_of v) (owned task.key) ≡ None }
     ensures write { (v : ArenaView) (op : ℕ) (task : Task) (prepared : Prepared) (w : Walk) (phase : Phase) → IsArena v.nodes v.trees → KeptReady phase v op task prepared w →

@@ -2,8 +2,8 @@
 //! locks back.
 //!
 //! Each phase is one call over the arena, the tape and what the operation remembers, its `Walk`, in a file
-//! named as the phase. `judge` looks for the key and makes all growths; `store` and `publish` place the
-//! row. Where the node is full, `split_start` makes the right half, `split_move` parts the keys and places
+//! named as the phase. `judge` looks for the key and makes all growths; `store`, or `fill` and
+//! `publish`, place the row. Where the node is full, `split_start` makes the right half, `split_move` parts the keys and places
 //! the pair, `split_prev` names the right half in the node behind; then, from level to level, `lock_parent`
 //! and `insert_child`, or `interior_split` and `reparent` where the parent is full, or `root_grow` where
 //! there is none. `unlock_all` gives the locks of a split back. What is kept of a put by its next phase stands in `specs/KeptPuts.antt` and
@@ -22,6 +22,7 @@ pub mod laws;
 pub mod phases;
 mod prepare;
 
+pub use phases::fill::fill;
 pub use phases::insert_child::insert_child;
 pub use phases::interior_split::interior_split;
 pub use phases::judge::{Judged, judge};

@@ -1,5 +1,6 @@
 //! The phases, each a file of its own.
 
+pub mod fill;
 pub mod insert_child;
 pub mod interior_split;
 pub mod judge;

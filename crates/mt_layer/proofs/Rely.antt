@@ -6,6 +6,7 @@ use Rattle.mt_border.specs.{declared.entry.Entry.Entry, Held.Pair, Held.Held, He
 use Rattle.mt_border.specs.{declared.entry.FoundKind.TheVariants.OtherLong, Entry.IsKind, Contents.IsOfTree}
 use Rattle.mt_arena.specs.{declared.tree.Tree.Tree, declared.tree.Standing.Standing, declared.tree.Standing.TheVariants.{Made, Live, Dead}, Forests.tree_at}
 use Rattle.mt_order.specs.Places.{Places, place_of_slot}
+use Rattle.mt_border.specs.Slots.{Slotted}
 use Rattle.mt_arena.specs.Layering.{IsLayerOf, IsSettledBut}
 use Rattle.mt_arena.specs.{Layers.slot_at, Arena.{ArenaView, Guarantee, IsArena}, Accesses.{at, tree_of, IsHeld}, Guarantee.TreeChanges, NodeView.NodeView}
 use Rattle.mt_arena.proofs.{LayerStays.{whole_stays, tree_same, root_same}, SettledBut.settled_but_stays}
@@ -55,7 +56,7 @@ module _ (op o : ℕ) (old new : ArenaView) (g : Guarantee op old new) (other : 
   makes : (key : Bytes) (w : Walk) (t : ℕ) (what : Held) (pair : Pair) → MakesLayer old o key w t what pair → MakesLayer new o key w t what pair
   makes key w t what pair m =
       let slot = m.layer.slot in
-      let order = ((g.nodes.nodes w.place.node slot.held.there).held o other slot.held.holder).order in
+      let order = ap (λ (c : Slotted). c.order) ((g.nodes.nodes w.place.node slot.held.there).held o other slot.held.holder).cells in
       let same : walk_place new w ≡ walk_place old w = ap (λ (p : Places). place_of_slot p.live w.slot) order in
       record {
         taken = m.taken;
@@ -76,7 +77,7 @@ module _ (op o : ℕ) (old new : ArenaView) (g : Guarantee op old new) (other : 
       let lock = h.holds.judged.held in
       let stays = (g.nodes.nodes w.place.node lock.there).held o other lock.holder in
       let same : n.slots ≡ (at new w.place.node).slots = sym stays.slots in
-      let order : n.order ≡ (at new w.place.node).order = sym stays.order in
+      let order : n.cells.order ≡ (at new w.place.node).cells.order = ap (λ (c : Slotted). c.order) (sym stays.cells) in
       record {
         holds = held op o old new g other key w h.holds;
         in_slot = in_slot_stays n (at new w.place.node) w.slot key w.layer OtherLong same order h.in_slot;
@@ -100,10 +101,10 @@ module _ (op o : ℕ) (old new : ArenaView) (g : Guarantee op old new) (other : 
         unlock = unlock op o old new g other w h.unlock;
         live = ap (λ (p : Parts). p.deleted) same.version ∙ h.live;
         in_range =
-            subst (λ (s : List Entry). walk_place new w < length s) (sym same.slots) (subst (λ (p : Places). place_of_slot p.live w.slot < length (at old w.place.node).slots) (sym same.order) h.in_range);
+            subst (λ (s : List Entry). walk_place new w < length s) (sym same.slots) (subst (λ (p : Places). place_of_slot p.live w.slot < length (at old w.place.node).slots) (ap (λ (c : Slotted). c.order) (sym same.cells)) h.in_range);
         link =
             subst (λ (s : List Entry). (slot_at (record (at old w.place.node) { slots = s }) (walk_place new w)).held ≡ helds.Link h.tree) (sym same.slots)
-            (subst (λ (p : Places). (slot_at (at old w.place.node) (place_of_slot p.live w.slot)).held ≡ helds.Link h.tree) (sym same.order) h.link);
+            (subst (λ (p : Places). (slot_at (at old w.place.node) (place_of_slot p.live w.slot)).held ≡ helds.Link h.tree) (ap (λ (c : Slotted). c.order) (sym same.cells)) h.link);
         through = through h.tree (w.layer + 1) key h.through;
       }
   layer key w phases.Enter h = through w.place.tree w.layer key h

@@ -55,7 +55,7 @@ const SINGLE_LINES: [(&str, &str); 53] = [
         "bad line\nbad line\nbad line\nbad line\nbad line\n",
     ),
     (
-        "until 1 Enter\nuntil 1 fill\nuntil 1 snap\nuntil 1 unlock\n",
+        "until 1 Enter\nuntil 1 fills\nuntil 1 fill\nuntil 1 unlock\n",
         "bad line\nbad line\nnone\nnone\n",
     ),
     ("tenant 7 5\nbegin 1 7 put 61\n", "ok\nbad line\n"),

@@ -2,7 +2,7 @@
 -- its step leads where, is told by the crates that have its call.
 use Rattle.std.specs.Prelude.{◌≡◌, ℕ, ◌==◌, Bool, true, false, List, [], ◌∷◌, codes}
 use Rattle.mt_operation.specs.{declared.walk.Aim.Aim, declared.phase.Phase.Phase}
-use Rattle.mt_operation.specs.declared.phase.Phase.TheVariants.{Enter, Pick, Child, Verify, Search, Load, Confirm, Forward, Lock, Judge, Store, Publish, SplitStart, SplitMove, SplitPrev, LockParent, InsertChild, InteriorSplit, Reparent, RootGrow, MakeLayer, MarkUnstable, Link, MarkLayer, DropKey, LockPrev, LockAbove, Unlink, FixNext, Collapse, CleanLayer, Unlock, Snap, Check, Hop, Done}
+use Rattle.mt_operation.specs.declared.phase.Phase.TheVariants.{Enter, Pick, Child, Verify, Search, Load, Confirm, Forward, Lock, Judge, Store, Fill, Publish, SplitStart, SplitMove, SplitPrev, LockParent, InsertChild, InteriorSplit, Reparent, RootGrow, MakeLayer, MarkUnstable, Link, MarkLayer, DropKey, LockPrev, LockAbove, Unlink, FixNext, Collapse, CleanLayer, Unlock, Snap, Check, Hop, Done}
 use Rattle.mt_operation.specs.declared.walk.Aim.TheVariants as aims
 
 -- What the step does: it goes down to the node of the key, reads there for a get or for a scan, locks the node for a write, judges what the write finds, writes, begins to
@@ -116,9 +116,10 @@ row Load = line 5 (codes "load") Reads 0 OwnSlot EndsForWant (Confirm ∷ Done �
 row Confirm = line 6 (codes "confirm") Reads 0 OwnMark TakesNone (Done ∷ Enter ∷ Forward ∷ [])
 row Forward = line 7 (codes "forward") Descends 0 NextMark TakesNone (Enter ∷ Forward ∷ Search ∷ Lock ∷ Snap ∷ [])
 row Lock = line 8 (codes "lock") Locks 0 OwnLock TakesNone (Enter ∷ Forward ∷ Judge ∷ CleanLayer ∷ [])
-row Judge = line 9 (codes "judge") Judges 1 Never EndsForWant (Store ∷ Publish ∷ SplitStart ∷ MakeLayer ∷ DropKey ∷ Enter ∷ Done ∷ [])
+row Judge = line 9 (codes "judge") Judges 1 Never EndsForWant (Store ∷ Fill ∷ SplitStart ∷ MakeLayer ∷ DropKey ∷ Enter ∷ Done ∷ [])
 row Store = line 10 (codes "store") Writes 2 Never TakesNone (Unlock ∷ [])
-row Publish = line 11 (codes "publish") Writes 2 Never TakesNone (Unlock ∷ [])
+row Fill = line 36 (codes "fill") Writes 2 Never TakesNone (Publish ∷ [])
+row Publish = line 11 (codes "publish") Writes 3 Never TakesNone (Unlock ∷ [])
 row SplitStart = line 12 (codes "splitstart") Begins 2 Never EndsForWant (SplitMove ∷ Done ∷ [])
 row SplitMove = line 13 (codes "splitmove") Splits 3 Never TakesNone (SplitPrev ∷ LockParent ∷ [])
 row SplitPrev = line 14 (codes "splitprev") Climbs 4 Never TakesNone (LockParent ∷ [])
@@ -146,7 +147,7 @@ row Done = line 35 (codes "done") Ends 0 Never TakesNone []
 
 -- those that have a step
 abbrev pub steps : List Phase
-steps = Enter ∷ Pick ∷ Child ∷ Verify ∷ Search ∷ Load ∷ Confirm ∷ Forward ∷ Lock ∷ Judge ∷ Store ∷ Publish
+steps = Enter ∷ Pick ∷ Child ∷ Verify ∷ Search ∷ Load ∷ Confirm ∷ Forward ∷ Lock ∷ Judge ∷ Store ∷ Fill ∷ Publish
     ∷ SplitStart ∷ SplitMove ∷ SplitPrev ∷ LockParent ∷ InsertChild ∷ InteriorSplit ∷ Reparent ∷ RootGrow
     ∷ MakeLayer ∷ MarkUnstable ∷ Link ∷ MarkLayer ∷ DropKey ∷ LockPrev ∷ LockAbove ∷ Unlink ∷ FixNext ∷ Collapse ∷ CleanLayer ∷ Unlock
     ∷ Snap ∷ Check ∷ Hop ∷ []

@@ -32,6 +32,8 @@ pub enum Phase {
     Judge,
     /// Writes the row over the one that is there.
     Store,
+    /// Writes the pair into the free slot.
+    Fill,
     /// Judges the quota, and makes the pair live.
     Publish,
     /// Makes the right half of the full border node.
@@ -101,6 +103,7 @@ macro_rules! each_phase {
             Lock "lock"
             Judge "judge"
             Store "store"
+            Fill "fill"
             Publish "publish"
             SplitStart "splitstart"
             SplitMove "splitmove"
@@ -143,7 +146,7 @@ macro_rules! named {
 }
 
 /// The phases that have a step, in the order of the table.
-pub const PHASES: [Phase; 35] = each_phase!(listed);
+pub const PHASES: [Phase; 36] = each_phase!(listed);
 
 impl Phase {
     /// The phase's name, as it is written.

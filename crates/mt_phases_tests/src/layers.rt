@@ -137,20 +137,20 @@ pub fn put_deep(rt: &impl Abort, on: &mut Store, name: &[u8]) -> String {
 fn long_keys_make_layers(rt: HostRuntime) {
     let mut on = empty_store(&rt, rt.alloc());
     for (name, wanted) in [
-        ("ante", "lock judge publish"),
-        ("antelope 1", "lock judge publish"),
+        ("ante", "lock judge fill"),
+        ("antelope 1", "lock judge fill"),
         (
             "antelope 2",
             "lock judge makelayer markunstable link marklayer unlock \
-            lock judge publish",
+            lock judge fill",
         ),
-        ("antelope 3", "lock judge lock judge publish"),
-        ("caterpillar 1", "lock judge publish"),
+        ("antelope 3", "lock judge lock judge fill"),
+        ("caterpillar 1", "lock judge fill"),
         (
             "caterpillar 2",
             "lock judge makelayer markunstable link marklayer unlock \
             lock judge makelayer markunstable link marklayer unlock \
-            lock judge publish",
+            lock judge fill",
         ),
     ] {
         let way = put_deep(&rt, &mut on, name.as_bytes());

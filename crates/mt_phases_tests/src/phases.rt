@@ -5,7 +5,7 @@ ghost use Rattle.mt_version.specs.Changes.{CanUnlock};
 ghost use Rattle.mt_tape.specs.Tapes.{last_write};
 ghost use Rattle.mt_arena.specs.Accesses.{at};
 ghost use Rattle.mt_descent.specs.KeptWalks.{IsAtBorder, IsAtLoad};
-ghost use Rattle.mt_insert.specs.{Puts.IsPut, KeptPuts.{IsAtStore, IsAtPublish, IsAtSplitStart, KeptReady}};
+ghost use Rattle.mt_insert.specs.{Puts.IsPut, KeptPuts.{IsAtStore, IsAtFill, IsAtPublish, IsAtSplitStart, KeptReady}};
 ghost use Rattle.mt_insert.specs.KeptSplits.{IsHalf, IsAtSplitMove, IsAtUnlockAll, KeptSplit};
 ghost use Rattle.mt_held.specs.Holds.{HoldsBorder};
 ghost use Rattle.mt_phases_tests.specs.Ways.{IsComing, AllStay};
@@ -219,8 +219,29 @@ fn replace(rt: &impl Abort, on: &mut Store, task: &Task, prepared: Prepared)
     assert!(rt; walk.phase == Phase::Enter && (walk.place.tree, walk.layer) == (3, 1));
 }
 
-/// Makes the pair live, and gives the lock back.
-pub fn place(rt: &impl Abort, on: &mut Store, task: &Task, prepared: Prepared)
+/// Writes the pair into a free slot, makes it live, and gives the lock back.
+pub fn place(rt: &impl Abort, on: &mut Store, task: &Task, mut prepared: Prepared)
+    requires put { IsPut task.now }
+    requires kept { IsAtFill on.old.arena 5 task.now prepared on.old.walk }
+    ensures { AllStay on.old.arena on.new.arena }
+{
+    fill_slot(rt, on, task, &mut prepared);
+    make_live(rt, on, task, prepared);
+}
+
+// Writes the pair into a free slot.
+fn fill_slot(rt: &impl Abort, on: &mut Store, task: &Task, prepared: &mut Prepared)
+    requires { IsAtFill on.old.arena 5 task.now prepared.old on.old.walk }
+    ensures kept { IsAtPublish on.new.arena 5 task.now prepared.new on.new.walk }
+    ensures others { AllStay on.old.arena on.new.arena }
+{
+    kept_stays();
+    fill(&mut on.arena, &mut on.walk, prepared, 5);
+    assert!(rt; on.walk.phase == Phase::Publish && !task.key.as_bytes().is_empty());
+}
+
+// Makes the pair live, and gives the lock back.
+fn make_live(rt: &impl Abort, on: &mut Store, task: &Task, prepared: Prepared)
     requires put { IsPut task.now }
     requires kept { IsAtPublish on.old.arena 5 task.now prepared on.old.walk }
     ensures { AllStay on.old.arena on.new.arena }
@@ -326,7 +347,7 @@ pub fn finish(rt: &impl Abort, on: &mut Store, task: &Task, prepared: Prepared) 
 {
     match on.walk.phase {
         Phase::Store => replace(rt, on, task, prepared),
-        Phase::Publish => place(rt, on, task, prepared),
+        Phase::Fill => place(rt, on, task, prepared),
         Phase::SplitStart => return split(rt, on, task, prepared),
         _ => panic!(rt; "nothing is ready"),
     }

@@ -69,7 +69,7 @@ fn tell_of_meetings(rt: &impl Abort, on: &mut Store, task: &Task, key: &StoredKe
     let prepared = begin(rt, on, task);
     meet_holder(rt, &mut on.arena, key, &mut other);
     match on.walk.phase {
-        Phase::Publish => place(rt, on, task, prepared),
+        Phase::Fill => place(rt, on, task, prepared),
         _ => panic!(rt; "the node is full, or has the key"),
     }
     assert!(rt; answer(rt, &on.arena, key, &mut get) == Err(4));

@@ -3,9 +3,8 @@ use Rattle.std.proofs.{Common.{◌≡◌, ◌≢◌, ◌⊎◌, ℕ, ◌<◌, le
 use Rattle.std.proofs.{lemmas.Option.same_Some, lemmas.List.{length-set, get_or-set_same, get_or-set_other}}
 use Rattle.mt_rows.specs.Rows.{Bytes}
 use Rattle.mt_border.specs.{Contents.IsOfTree, Held.Link, Entries.without}
-use Rattle.mt_order.specs.Places.{order_without}
 use Rattle.mt_arena.specs.{declared.tree.Tree.Tree, declared.tree.Standing.TheVariants.Dead, NodeView.NodeView, Settled.IsSettled, Forests.{tree_at, no_tree}}
-use Rattle.mt_arena.specs.{Edits.{locked, retired, with_slots}, Layers.slot_at, Arena.{ArenaView, IsArena}, Accesses.{at, IsOpen}, Removals.without_layer}
+use Rattle.mt_arena.specs.{Edits.{locked, retired, with_slots, cells_without}, Layers.slot_at, Arena.{ArenaView, IsArena}, Accesses.{at, IsOpen}, Removals.without_layer}
 use Rattle.mt_arena.proofs.{Pairs.there, Settled.settled_free}
 use Rattle.mt_operation.specs.{declared.phase.Phase.Phase, declared.phase.Phase.TheVariants.{LockPrev, Unlock}, declared.walk.Walk.Walk}
 use Rattle.mt_operation.specs.declared.removal.Removal.{Removal}
@@ -120,7 +119,7 @@ module _ (v : ArenaView) (op slot tree : ℕ) (key : Bytes) (w : Walk) (r : Remo
     tree_gone : (tree_at y.trees tree).standing ≡ Dead
     tree_gone = ap (λ (t : Tree). t.standing) (get_or-set_same v.trees tree dead no_tree (tree_there v op k slot tree arena h))
 
-    abbrev node_is : at y k ≡ with_slots (at m k) (without (at m k).slots (slot_at (at m k) slot)) (order_without (at m k).order slot)
+    abbrev node_is : at y k ≡ with_slots (at m k) (without (at m k).slots (slot_at (at m k) slot)) (cells_without (at m k).cells slot)
     node_is = node_after v op k slot tree arena h free step
 
     abbrev root_is : at y b ≡ retired (at m b)
@@ -213,7 +212,7 @@ dropped_holds v u op slot tree root step key w after r e arena kept h same is wa
     let b : ℕ = root_of v tree in
     let n : ℕ = w.place.node in
     let m : ArenaView = with_lock v b op in
-    let y : NodeView = with_slots (at m n) (without (at m n).slots (slot_at (at m n) slot)) (order_without (at m n).order slot) in
+    let y : NodeView = with_slots (at m n) (without (at m n).slots (slot_at (at m n) slot)) (cells_without (at m n).cells slot) in
     let now : u ≡ without_layer m n slot tree step = is ∙ ap (λ k. without_layer (with_lock v k op) n slot tree step) same in
     let size : length (without_layer m n slot tree step).nodes ≡ length v.nodes
     = length-set (set m.nodes n y) b (retired (at m b)) ∙ length-set m.nodes n y ∙ length-set v.nodes b (locked (at v b) op) in

@@ -1,9 +1,8 @@
 -- What is kept of a removal that has taken its key's pair out: for `drop_key`.
 use Rattle.std.proofs.{Common.{◌≡◌, ◌⊎◌, ℕ, sym, ap, ◌∙◌, inl, inr, arith}, lemmas.List.length-set, lemmas.Bool.cases_eq}
 use Rattle.mt_rows.specs.Rows.{Bytes}
-use Rattle.mt_order.specs.Places.{order_without}
 use Rattle.mt_border.{specs.{declared.entry.Entry.Entry, Entries.{without, place_in}, Entry.order_of}, proofs.Edits.All-remove}
-use Rattle.mt_arena.specs.{NodeView.NodeView, NodeFacts.IsUnstable, Layers.slot_at, Edits.with_slots, Arena.{ArenaView, IsArena}, Accesses.{at, with_node}}
+use Rattle.mt_arena.specs.{NodeView.NodeView, NodeFacts.IsUnstable, Layers.slot_at, Edits.{with_slots, cells_without}, Arena.{ArenaView, IsArena}, Accesses.{at, with_node}}
 use Rattle.mt_arena.proofs.Pairs.{here, there}
 use Rattle.mt_operation.specs.{declared.phase.Phase.Phase, declared.phase.Phase.TheVariants.{LockPrev, Unlock}, declared.walk.Walk.Walk}
 use Rattle.mt_operation.specs.declared.removal.Removal.{Removal}
@@ -18,7 +17,7 @@ module _ (v : ArenaView) (op slot : ℕ) (key : Bytes) (w : Walk) (arena : IsAre
   n = at v k
 
   abbrev y : NodeView
-  y = with_slots n (without n.slots (slot_at n slot)) (order_without n.order slot)
+  y = with_slots n (without n.slots (slot_at n slot)) (cells_without n.cells slot)
 
   abbrev u : ArenaView
   u = with_node v k y
@@ -28,7 +27,7 @@ module _ (v : ArenaView) (op slot : ℕ) (key : Bytes) (w : Walk) (arena : IsAre
 
   returns : MayReturn u op 0 k
   returns =
-      let back = unlock_with v op key w arena h (without n.slots (slot_at n slot)) (order_without n.order slot)
+      let back = unlock_with v op key w arena h (without n.slots (slot_at n slot)) (cells_without n.cells slot)
       (All-remove (λ (e : Entry). ¬ IsUnstable e.held) n.slots (place_in n.slots (order_of (slot_at n slot))) h.settled.stable) in
       record {
         held = back.held;

@@ -2,9 +2,8 @@
 use Rattle.std.proofs.{Common.{◌≡◌, ◌≢◌, ℕ, ◌<◌, [], length, set, None, refl, sym, ap, subst, ◌∙◌, inl, inr, arith}, lemmas.Bool.cases_eq}
 use Rattle.std.proofs.lemmas.List.{length-set}
 use Rattle.mt_border.specs.{Held.Link, Entries.without}
-use Rattle.mt_order.specs.Places.{order_without}
 use Rattle.mt_arena.specs.{declared.tree.Standing.TheVariants.Dead, NodeView.{NodeView, place_at}, Settled.IsSettled, Forests.tree_at, Layers.{slot_at, LeadsTo}}
-use Rattle.mt_arena.specs.{Edits.{locked, retired, with_slots}, Ways.IsFreeRoot, Removals.{MayDropLayer, without_layer}, Arena.{ArenaView, IsArena, Guarantee}}
+use Rattle.mt_arena.specs.{Edits.{locked, retired, with_slots, cells_without}, Ways.IsFreeRoot, Removals.{MayDropLayer, without_layer}, Arena.{ArenaView, IsArena, Guarantee}}
 use Rattle.mt_arena.specs.Accesses.{at, IsOpen}
 use Rattle.mt_arena.proofs.{Pairs.{here, there}, SettledEdits.settled_locked, Alone.alone, OneLink.{IsLinkTo, leads, differs}, Guarantees.guarantee_on}
 use Rattle.mt_arena.proofs.Naming.{points_on}
@@ -95,7 +94,7 @@ module _ (v : ArenaView) (op node slot tree : ℕ) (arena : IsArena v.nodes v.tr
       u = without_layer m node slot tree step
 
       abbrev y : NodeView
-      y = with_slots (at m node) (without (at m node).slots (slot_at (at m node) slot)) (order_without (at m node).order slot)
+      y = with_slots (at m node) (without (at m node).slots (slot_at (at m node) slot)) (cells_without (at m node).cells slot)
 
       pub drop_size : length u.nodes ≡ length v.nodes
       drop_size = length-set (set m.nodes node y) r (retired (at m r)) ∙ length-set m.nodes node y ∙ length-set v.nodes r (locked (at v r) op)

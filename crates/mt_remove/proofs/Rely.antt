@@ -6,6 +6,7 @@ use Rattle.mt_rows.specs.Rows.{Bytes}
 use Rattle.mt_border.specs.{declared.entry.Entry.Entry, Held.Stable, declared.entry.FoundKind.TheVariants.ThisKey, Entry.IsKind}
 use Rattle.mt_arena.specs.{NodeView.NodeView, Nodes.HasChild, Layers.slot_at, Guarantee.IsUntouched, Removals.AreBeside, Arena.{ArenaView, Guarantee}}
 use Rattle.mt_order.specs.Places.{Places, place_of_slot}
+use Rattle.mt_border.specs.Slots.{Slotted}
 use Rattle.mt_arena.specs.Accesses.{at}
 use Rattle.mt_descent.specs.KeptWalks.{walk_place}
 use Rattle.mt_arena.proofs.Settling.{followed_stays}
@@ -104,13 +105,14 @@ module _ (op o : ℕ) (old new : ArenaView) (g : Guarantee op old new) (other : 
       let k = w.place.node in
       let n = at old k in
       let u = untouched op o old new g other k h.holds.judged.held in
+      let order = ap (λ (c : Slotted). c.order) (sym u.cells) in
       record {
         holds = held op o old new g other task.key w h.holds;
-        in_slot = in_slot_stays n (at new w.place.node) w.slot task.key w.layer ThisKey (sym u.slots) (sym u.order) h.in_slot;
+        in_slot = in_slot_stays n (at new w.place.node) w.slot task.key w.layer ThisKey (sym u.slots) order h.in_slot;
         pair = h.pair;
         stable =
             subst (λ (s : List Entry). (slot_at (record n { slots = s }) (walk_place new w)).held ≡ Stable h.pair) (sym u.slots)
-            (subst (λ (p : Places). (slot_at n (place_of_slot p.live w.slot)).held ≡ Stable h.pair) (sym u.order) h.stable);
+            (subst (λ (p : Places). (slot_at n (place_of_slot p.live w.slot)).held ≡ Stable h.pair) order h.stable);
         ready = h.ready;
       }
 

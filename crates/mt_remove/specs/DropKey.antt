@@ -3,9 +3,8 @@ use Rattle.std.specs.{Prelude.{◌≡◌, ℕ, Some}, Option.option_map, FinMap.
 use Rattle.mt_rows.specs.{Rows.Columns, Accounts.{Accounts, account_of, one_less, OthersStay}}
 use Rattle.mt_border.specs.{Contents.owned, Entries.without}
 use Rattle.mt_tape.specs.{Tapes.Kept, Histories.with_write}
-use Rattle.mt_arena.specs.{Arena.{ArenaView, Guarantee, content_of}, Accesses.{at, with_node}, Layers.slot_at, Edits.with_slots}
+use Rattle.mt_arena.specs.{Arena.{ArenaView, Guarantee, content_of}, Accesses.{at, with_node}, Layers.slot_at, Edits.{with_slots, cells_without}}
 use Rattle.mt_operation.specs.{declared.task.Task.Task, declared.walk.Walk.Walk, declared.removal.Removal.Removal}
-use Rattle.mt_order.specs.Places.{order_without}
 use Rattle.mt_descent.specs.{KeptWalks.walk_place, WalkMoves.Continues}
 use Rattle.mt_held.specs.{Taping.pushed, Holds.HoldsOnly}
 use Rattle.mt_remove.specs.{Writes.removal_over, KeptRemovals.KeptRemoval, RemovalEdits.GoesOnEmptied}
@@ -20,7 +19,7 @@ pub record Removes (task : Task) (step : ℕ) (old new : ArenaView) (tape taped 
 pub record IsDropKey (op step : ℕ) (task : Task) (old new : ArenaView) (tape taped : Kept) (accounts counted : Accounts) (before after : Walk) (s t : Removal) : Type 0 where
   pub is : new ≡ with_node old before.place.node (with_slots (at old before.place.node)
       (without (at old before.place.node).slots (slot_at (at old before.place.node) (walk_place old before)))
-      (order_without (at old before.place.node).order (walk_place old before)))
+      (cells_without (at old before.place.node).cells (walk_place old before)))
   pub row : Columns
   pub places : Removes task step old new tape taped row
   pub count : account_of counted task.tenant ≡ option_map one_less (account_of accounts task.tenant)

@@ -97,10 +97,10 @@ fn each_settled_answer_writes_a_checkpoint(rt: HostRuntime) {
         "mt_server --workers 1 --store mt_server_tests_checks --create --checkpoint 1 --sessions 1 7:100";
     serve(&rt, alloc, new, Scene::Settles);
     let (first, last) = expect_checkpoint(&rt, alloc, CHECK_0);
-    assert_eq!(rt; first, 5);
+    assert_eq!(rt; first, 6);
     assert!(rt; first < last);
     let last_bytes = last.to_be_bytes();
-    let head = b"\x01MTCKP\x01\x00\x00\x00\x00\x00\x00\x00\x05";
+    let head = b"\x01MTCKP\x01\x00\x00\x00\x00\x00\x00\x00\x06";
     let entry = b"\x01\x00\x00\x00\x07\x00\x01k\x01\x00\x01v";
     expect_file(&rt, CHECK_0, &[head, entry, b"\x02", &last_bytes]);
     expect_file(&rt, CHECK_1, &[b"\x00"]);

@@ -36,8 +36,8 @@ pub(crate) const NO_PAIRS: &[u8] = b"\x00\x00\x00\x02\x06\x00";
 /// All is to be kept.
 pub(crate) const SETTLE: &[u8] = b"\x00\x00\x00\x01\x06";
 
-/// All is kept up to step 5.
-pub(crate) const SETTLED_5: &[u8] = b"\x00\x00\x00\x09\x07\x00\x00\x00\x00\x00\x00\x00\x05";
+/// All is kept up to step 6.
+pub(crate) const SETTLED_6: &[u8] = b"\x00\x00\x00\x09\x07\x00\x00\x00\x00\x00\x00\x00\x06";
 
 /// A disk has failed.
 pub(crate) const DEVICE: &[u8] = b"\x00\x00\x00\x01\x8a";

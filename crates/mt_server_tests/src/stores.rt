@@ -4,7 +4,7 @@ ghost use Rattle.std.specs.Prelude.{◌≡◌, ◌<◌, ◌≤◌, vec_len};
 ghost use Rattle.mt_state.specs.Begins.{HaveNoPairs};
 
 use crate::clients::{
-    DEVICE, FOUND, GET, NEW, OPEN, OPENED, PUT, SETTLE, SETTLED_5, are_told, connect, is_settled,
+    DEVICE, FOUND, GET, NEW, OPEN, OPENED, PUT, SETTLE, SETTLED_6, are_told, connect, is_settled,
 };
 use crate::words::options_of;
 use log::Log;
@@ -87,13 +87,13 @@ fn image_of(rt: &impl Abort, alloc: Global, store: Store<MemDisk>) -> Vec<u8> {
     }
 }
 
-// Log 0 of 1: one batch from 0 to 5, with the put of tenant 7, key `k`, column `v`, by step 4.
+// Log 0 of 1: one batch from 0 to 6, with the put of tenant 7, key `k`, column `v`, by step 5.
 pub(crate) const LOG: &[u8] =
-    b"MTLOG\x01\x00\x01\x01\x00\x00\x00\x29\x00\x00\x00\x00\x00\x00\x00\x00\x00\x00\x00\x00\x00\x00\x00\x00\x05\x00\x00\x00\x01\x00\x00\x00\x00\x00\x00\x00\x04\x00\x00\x00\x07\x00\x01k\x01\x01\x00\x01v\x00";
+    b"MTLOG\x01\x00\x01\x01\x00\x00\x00\x29\x00\x00\x00\x00\x00\x00\x00\x00\x00\x00\x00\x00\x00\x00\x00\x00\x06\x00\x00\x00\x01\x00\x00\x00\x00\x00\x00\x00\x05\x00\x00\x00\x07\x00\x01k\x01\x01\x00\x01v\x00";
 
-// The batch with which a recovery ends: from 5 to 5, all up to 5 kept. It opens the gate that was closed.
+// The batch with which a recovery ends: from 6 to 6, all up to 6 kept. It opens the gate that was closed.
 pub(crate) const RESUME: &[u8] =
-    b"\x01\x00\x00\x00\x19\x01\x00\x00\x00\x00\x00\x00\x00\x05\x00\x00\x00\x00\x00\x00\x00\x05\x00\x00\x00\x00\x00\x00\x00\x05\x00";
+    b"\x01\x00\x00\x00\x19\x01\x00\x00\x00\x00\x00\x00\x00\x06\x00\x00\x00\x00\x00\x00\x00\x06\x00\x00\x00\x00\x00\x00\x00\x06\x00";
 
 /// One session of one worker.
 pub(crate) const ONE_SESSION: &str = "mt_server --port 0 --workers 1 --sessions 1 7:100";
@@ -116,7 +116,7 @@ pub(crate) enum Scene {
 // Plays a scene; whether the client was told what it should be.
 fn play(scene: Scene, client: TcpStream) -> io::Result<bool> {
     match scene {
-        Scene::Settles => are_told(&client, &[(OPEN, OPENED), (PUT, NEW), (SETTLE, SETTLED_5)]),
+        Scene::Settles => are_told(&client, &[(OPEN, OPENED), (PUT, NEW), (SETTLE, SETTLED_6)]),
         Scene::Leaves => are_told(&client, &[(OPEN, OPENED), (PUT, NEW)]),
         Scene::SettlesTwice => are_told(
             &client,
@@ -124,7 +124,7 @@ fn play(scene: Scene, client: TcpStream) -> io::Result<bool> {
                 (OPEN, OPENED),
                 (PUT, NEW),
                 (SETTLE, DEVICE),
-                (SETTLE, SETTLED_5),
+                (SETTLE, SETTLED_6),
             ],
         ),
         Scene::Reads => are_told(&client, &[(OPEN, OPENED), (GET, FOUND)]),

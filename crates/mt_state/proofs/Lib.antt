@@ -37,6 +37,7 @@ pub mod HistoryGet
 pub mod OneNode
 pub mod SplitSteps
 pub mod Locking
+pub mod FillSteps
 pub mod LayerSteps
 pub mod Putting
 pub mod Parting

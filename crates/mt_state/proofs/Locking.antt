@@ -8,7 +8,7 @@ use Rattle.mt_rows.specs.{Commands.key_of, Maps.reply_of, Tenants.tenant_map}
 use Rattle.mt_rows.proofs.ContentLaws.{get-tenant_map}
 use Rattle.mt_tape.specs.Tapes.{Kept}
 use Rattle.mt_arena.specs.{NodeView.NodeView, Edits.{locked, unlocked}, Arena.{ArenaView, content_of, Guarantee}, Accesses.{at, with_node}}
-use Rattle.mt_operation.specs.{declared.phase.Phase.Phase, declared.phase.Phase.TheVariants.{Enter, Lock, Judge, Store, Publish, SplitStart, Unlock, Done}}
+use Rattle.mt_operation.specs.{declared.phase.Phase.Phase, declared.phase.Phase.TheVariants.{Enter, Lock, Judge, Store, Fill, Publish, SplitStart, Unlock, Done}}
 use Rattle.mt_operation.specs.{declared.walk.Walk.Walk, declared.outcome.Outcome.Outcome, declared.prepared.Prepared.Prepared, declared.splits.Halves.Halves}
 use Rattle.mt_operation.specs.{declared.operation.Operation.Operation, Tasks.ask, Operations.{view_of, IsUnsplit}}
 use Rattle.mt_operation.specs.{Phases.{is_done, MayFollow, IsOfKind, has_splits, is_prepared}, Tables.{Table, op_at as operation_at}}
@@ -230,11 +230,11 @@ module _ (c : Core) (now : StateView) (o : ℕ) (is : shown c ≡ now) (h : Stat
     -- where it goes on with all ready
     abbrev IsToPlace : Phase → Type 0
     IsToPlace Store = Unit {0}
-    IsToPlace Publish = Unit {0}
+    IsToPlace Fill = Unit {0}
     IsToPlace SplitStart = Unit {0}
     IsToPlace _ = ⊥
 
-    missing_to : (full : Bool) → IsToPlace (cond full SplitStart Publish)
+    missing_to : (full : Bool) → IsToPlace (cond full SplitStart Fill)
     missing_to true = tt
     missing_to false = tt
 
@@ -281,43 +281,43 @@ module _ (c : Core) (now : StateView) (o : ℕ) (is : shown c ≡ now) (h : Stat
 
         follows : (p : Phase) → IsToPlace p → MayFollow Judge p
         follows Store t = tt
-        follows Publish t = tt
+        follows Fill t = tt
         follows SplitStart t = tt
         follows _ t = absurd t
 
         kind : (p : Phase) → IsToPlace p → IsOfKind p w.aim
         kind Store i = t.keeps.same.aim ∙ judges_on
-        kind Publish i = t.keeps.same.aim ∙ judges_on
+        kind Fill i = t.keeps.same.aim ∙ judges_on
         kind SplitStart i = t.keeps.same.aim ∙ judges_on
         kind _ t = absurd t
 
         notes : (p : Phase) → IsToPlace p → Notes (shown c) (view_of op) Judge p op.outcome
         notes Store t = (untold, untold)
-        notes Publish t = (untold, untold)
+        notes Fill t = (untold, untold)
         notes SplitStart t = (untold, untold)
         notes _ t = absurd t
 
         holds_on : (p : Phase) → IsToPlace p → (j : ℕ) → j ≡ w.place.node → HoldsAt p after j
         holds_on Store t j e = e
-        holds_on Publish t j e = e
+        holds_on Fill t j e = e
         holds_on SplitStart t j e = e
         holds_on _ t j e = absurd t
 
         ready : (p : Phase) → IsToPlace p → is_prepared p ≡ true
         ready Store t = refl
-        ready Publish t = refl
+        ready Fill t = refl
         ready SplitStart t = refl
         ready _ t = absurd t
 
         open_on : (p : Phase) → IsToPlace p → is_done p ≡ false
         open_on Store t = refl
-        open_on Publish t = refl
+        open_on Fill t = refl
         open_on SplitStart t = refl
         open_on _ t = absurd t
 
         own : (p : Phase) → IsToPlace p → KeptReady p c.arena o op.task prepared after.walk → IsKeptAt p new o after
         own Store t stores = record { prepared = prepared; has = refl; stores = stores; put = put; untold = untold }
-        own Publish t publishes = record { prepared = prepared; has = refl; publishes = publishes; put = put; untold = untold }
+        own Fill t fills = record { prepared = prepared; has = refl; fills = fills; put = put; untold = untold }
         own SplitStart t starts = record { prepared = prepared; has = refl; starts = starts; put = put; untold = untold }
         own _ t kept = absurd t
 

@@ -9,7 +9,7 @@ use Rattle.mt_rows.specs.{Accounts.{account_of, HasPairs}, Tenants.tenant_map}
 use Rattle.mt_rows.proofs.ContentLaws.{get-tenant_map}
 use Rattle.mt_tape.specs.Tapes.{last_write}
 use Rattle.mt_arena.specs.{Accesses.{at, tree_of}, Arena.{IsArena, content_of}, Forests.layer_of}
-use Rattle.mt_operation.specs.{declared.phase.Phase.Phase, declared.phase.Phase.TheVariants.{Lock, Judge, Store, Publish, Unlock, Done, DropKey}}
+use Rattle.mt_operation.specs.{declared.phase.Phase.Phase, declared.phase.Phase.TheVariants.{Lock, Judge, Store, Fill, Publish, Unlock, Done, DropKey}}
 use Rattle.mt_operation.specs.{declared.outcome.Outcome.Outcome, declared.prepared.Prepared.Prepared, declared.splits.Halves.Halves}
 use Rattle.mt_operation.specs.{declared.operation.Operation.Operation, Tasks.{ask, command_of}, Operations.{view_of, splits_of, scan_of}}
 use Rattle.mt_operation.specs.{Phases.{is_done, IsLayerPhase, is_prepared, IsLayerKind, Kind, row, IsRemovalPhase}, Tables.{op_at as operation_at}}
@@ -17,11 +17,11 @@ use Rattle.mt_operation.specs.declared.task.Request.{Request}
 use Rattle.mt_operation.specs.declared.task.Request.TheVariants.{Get as GetOf, Put as PutOf, Remove as RemoveOf, Scan as ScanOf}
 use Rattle.mt_operation.specs.declared.removal.Removal.{Removal}
 use Rattle.mt_descent.specs.KeptWalks.{IsAtBorder, KeptAt, HoldsNothing, walk_place}
-use Rattle.mt_insert.specs.{Puts.{IsPut, is_put}, KeptPuts.{IsAtStore, IsAtPublish}}
+use Rattle.mt_insert.specs.{Puts.{IsPut, is_put}, KeptPuts.{IsAtStore, IsAtFill, IsAtPublish}}
 use Rattle.mt_held.{specs.Holds.{HoldsBorder, IsAtUnlock}, proofs.Places.may_store}
 use Rattle.mt_layer.specs.KeptLayers.{IsAtLeave, KeptLayer}
 use Rattle.mt_state.specs.{Views.{Core, shown, past_of}, Promises.{IsInTheWay, IsHeldByOther, HasStep}}
-use Rattle.mt_state.specs.KeptOperations.{IsOpenOperation, IsOnItsWay, IsJudging, IsStoring, IsPublishing, MayUnlock, IsUnlocking, IsLayering, IsLeaving, IsReturning, IsKeptAt, IsKeptFor, IsWritingAt, MayUnlockUnsplit, IsDropping}
+use Rattle.mt_state.specs.KeptOperations.{IsOpenOperation, IsOnItsWay, IsJudging, IsStoring, IsFilling, IsPublishing, MayUnlock, IsUnlocking, IsLayering, IsLeaving, IsReturning, IsKeptAt, IsKeptFor, IsWritingAt, MayUnlockUnsplit, IsDropping}
 use Rattle.mt_state.specs.Invariant.{HoldsAt, StateInvariant}
 use Rattle.mt_state.proofs.{Shown.shown_there, Locking.{may_unlock, room_for}, Loading.row_of, RemovalSteps.{unlinking_of, removal_holds}}
 use Rattle.mt_state.proofs.{RemovalLooks.going_back, Lawful.{put_no_scan, remove_no_scan}}
@@ -41,6 +41,7 @@ IsOfPut p = IsOfPutKind (row p).kind
 
 pub writing_put : (p : Phase) (c : Core) (o : ℕ) (op : Operation) → IsWritingAt p c o op → is_put (ask op.task) ≡ true
 writing_put Store c o op k = k.put
+writing_put Fill c o op k = k.put
 writing_put _ c o op k = k.put
 
 kept_put : (of : Kind) (p : Phase) → IsOfPutKind of → (c : Core) (o : ℕ) (op : Operation) → IsKeptFor of p c o op → is_put (ask op.task) ≡ true
@@ -131,6 +132,12 @@ module _ (c : Core) (o : ℕ) (h : StateInvariant c) (op : Operation) (there : o
       subst (λ (x : Prepared). IsAtStore c.arena o op.task x op.walk) (same_Some k.prepared prepared (sym k.has ∙ has)) k.stores
 
   -- or over no row
+  pub fill_kept : op.walk.phase ≡ Fill → (prepared : Prepared) → op.prepared ≡ Some prepared → IsAtFill c.arena o op.task prepared op.walk
+  fill_kept at_fill prepared has =
+      let k : IsFilling c o op = subst (λ (p : Phase). IsKeptAt p c o op) at_fill (h.ops o op there).kept in
+      subst (λ (x : Prepared). IsAtFill c.arena o op.task x op.walk) (same_Some k.prepared prepared (sym k.has ∙ has)) k.fills
+
+  -- and what is left of that stands beside the slot that has its pair
   pub publish_kept : op.walk.phase ≡ Publish → (prepared : Prepared) → op.prepared ≡ Some prepared → IsAtPublish c.arena o op.task prepared op.walk
   publish_kept at_publish prepared has =
       let k : IsPublishing c o op = subst (λ (p : Phase). IsKeptAt p c o op) at_publish (h.ops o op there).kept in
@@ -139,6 +146,9 @@ module _ (c : Core) (o : ℕ) (h : StateInvariant c) (op : Operation) (there : o
   -- it is there
   pub store_ready : op.walk.phase ≡ Store → IsSome op.prepared
   store_ready at_store = let k : IsStoring c o op = subst (λ (p : Phase). IsKeptAt p c o op) at_store (h.ops o op there).kept in ap is_some k.has
+
+  pub fill_ready : op.walk.phase ≡ Fill → IsSome op.prepared
+  fill_ready at_fill = let k : IsFilling c o op = subst (λ (p : Phase). IsKeptAt p c o op) at_fill (h.ops o op there).kept in ap is_some k.has
 
   pub publish_ready : op.walk.phase ≡ Publish → IsSome op.prepared
   publish_ready at_publish = let k : IsPublishing c o op = subst (λ (p : Phase). IsKeptAt p c o op) at_publish (h.ops o op there).kept in ap is_some k.has

@@ -67,10 +67,10 @@ module _ (c : Core) (o : ℕ) (h : StateInvariant c) (few : c.steps < 2 ^ 59) (o
   r = at c.arena (last_of op.splits).right
 
   abbrev y : NodeView
-  y = left_half x is.kept is.kept_order r.low q
+  y = left_half x is.kept is.kept_cells r.low q
 
   abbrev z : NodeView
-  z = right_half x r is.moved is.moved_order l
+  z = right_half x r is.moved is.moved_cells l
 
   always : IsOpenOperation c op
   always = (h.ops o op at_op).always

@@ -1,5 +1,5 @@
 -- The steps that place a put: it stores a row over the one of its key, or makes a new pair live.
-use Rattle.std.proofs.Common.{◌≡◌, ◌≢◌, ℕ, ◌+◌, ◌<◌, inl, inr, true, false, cond, List, length, get_or, set, Option, Some, None, is_some, refl, sym, ap, subst, ◌∙◌, arith, Bool}
+use Rattle.std.proofs.Common.{◌≡◌, ◌≢◌, ℕ, ◌+◌, ◌<◌, inl, inr, Bool, true, false, cond, List, length, set, Option, Some, None, is_some, refl, sym, ap, subst, ◌∙◌, arith, Bool}
 use Rattle.std.proofs.{lemmas.Bool.{cases_eq, both_ways}, lemmas.Option.{none-some, same_Some}, lemmas.List.Elements.All-from_get_or}
 use Rattle.std.specs.{Prelude.{◌^◌}, Option.option_map, List.All, FinMap.{get, len, insert}}
 use Rattle.mt_slices.specs.Slices.{suffix_of}
@@ -9,11 +9,11 @@ use Rattle.mt_rows.specs.Tenants.{Contents, tenant_map}
 use Rattle.mt_rows.proofs.ContentLaws.{get-tenant_map}
 use Rattle.mt_border.specs.{Held.Pair, declared.entry.Entry.Entry, Held.Stable, Entry.{pair_of, order_of}}
 use Rattle.mt_border.specs.{Entries.{IsBorder, replaced, with_entry, place_in}, Contents.{owned, AreKeys, AllStamped}}
-use Rattle.mt_order.specs.Places.{Places, order_with}
+use Rattle.mt_border.specs.Slots.{Slotted}
 use Rattle.mt_border.proofs.{Edits.{any_entry, replaced_at as set_at}, ContentsKeys.{IsApart, owned_at}, ContentsMaps.{len_new, len_there, len_other}}
 use Rattle.mt_border.proofs.ContentsStamps.{stamped_store, stamped_publish}
 use Rattle.mt_tape.specs.Tapes.{Kept}
-use Rattle.mt_arena.specs.{NodeView.NodeView, Forests.{tree_at, layer_of}, Layers.slot_at, Ways.StandsFor, Contents.counts, Edits.with_slots}
+use Rattle.mt_arena.specs.{NodeView.NodeView, Forests.{tree_at, layer_of}, Layers.slot_at, Ways.StandsFor, Contents.counts, Edits.{with_slots, cells_holding, cells_with}}
 use Rattle.mt_arena.specs.{Arena.{ArenaView, IsArena, content_of, Guarantee}, Accesses.{at, tree_of, with_node, with_row}}
 use Rattle.mt_arena.proofs.{Elsewhere.stands_once, Steps.keys_of}
 use Rattle.mt_operation.specs.{declared.phase.Phase.Phase, declared.phase.Phase.TheVariants.{Enter, Store, Publish, Unlock}, declared.walk.Walk.Walk}
@@ -21,7 +21,7 @@ use Rattle.mt_operation.specs.{declared.splits.Halves.Halves, declared.operation
 use Rattle.mt_operation.specs.{Phases.{is_done, MayFollow, IsOfKind, has_splits, is_prepared}, Tables.{op_at as operation_at}}
 use Rattle.mt_descent.specs.{KeptWalks.walk_place, WalkMoves.Continues}
 use Rattle.mt_insert.{specs.{Puts.{IsPut, row_over}, Placing.entry_of, Store.IsStore, Publish.IsPublish}, proofs.Places.may_publish}
-use Rattle.mt_held.{specs.{Holds.{HoldsBorder, IsAtUnlock}, Moves.walk_placed, Taping.pushed}, proofs.Places.may_store}
+use Rattle.mt_held.{specs.{Holds.{HoldsBy, IsAtUnlock}, Moves.walk_placed, Taping.pushed}, proofs.Places.may_store}
 use Rattle.mt_state.specs.{Views.{StateView, Core, shown, quota_of, quota_in, granted_in}, Notes.Notes}
 use Rattle.mt_state.specs.KeptOperations.{IsOpenOperation, IsStoring, IsPublishing, MayUnlock, IsUnlocking, IsKeptAt, IsPlacedOnce, IsKeptOf, MayUnlockUnsplit}
 use Rattle.mt_state.specs.Invariant.{IsStampOf, HoldsLast, HoldsAt, StateInvariant}
@@ -158,10 +158,10 @@ module _ (c : Core) (now : StateView) (o : ℕ) (is : shown c ≡ now) (h : Stat
         ];
   }
 
-  -- the operation's node with other slots in this order, which have the stamps that they should have
-  module _ (slots : List Entry) (order : Places) (accounts : Accounts) (w : Walk) (reply : Reply) where
+  -- the operation's node with other slots, in these cells, which have the stamps that they should have
+  module _ (slots : List Entry) (cells : Slotted) (accounts : Accounts) (w : Walk) (reply : Reply) where
     abbrev y : NodeView
-    y = with_slots n slots order
+    y = with_slots n slots cells
 
     abbrev the_arena : ArenaView
     the_arena = with_node c.arena k y
@@ -263,7 +263,7 @@ module _ (c : Core) (now : StateView) (o : ℕ) (is : shown c ≡ now) (h : Stat
           false (sym (ap is_done ends))
 
   -- the slots of a held border node, and their keys, which are of its tree
-  module _ (arena_is : IsArena c.arena.nodes c.arena.trees) (holds : HoldsBorder c.arena o op.task.key op.walk) where
+  module _ {marked : Bool} (arena_is : IsArena c.arena.nodes c.arena.trees) (holds : HoldsBy marked c.arena o op.task.key op.walk) where
     within_here : k < length c.arena.nodes
     within_here = holds.judged.held.there
 
@@ -290,7 +290,8 @@ module _ (c : Core) (now : StateView) (o : ℕ) (is : shown c ≡ now) (h : Stat
         let place = walk_place c.arena op.walk in
         let slots = replaced n.slots (with_row (slot_at n place) s.pair row (c.steps + 1)) in
         let after = went op (c.steps + 1) w (Some (record { reply = Replaced; at = c.steps + 1 })) None in
-        let takes : arena ≡ with_node c.arena k (with_slots n slots n.order) = t.is s.pair s.stable in
+        let cells = cells_holding n.cells place (Stable (record s.pair { row = row; stamp = c.steps + 1 })) in
+        let takes : arena ≡ with_node c.arena k (with_slots n slots cells) = t.is s.pair s.stable in
         let may = may_store c.arena o op.task.key op.walk arena_is s.holds op.walk.slot s.pair s.in_slot s.stable in
         let contents = subst (λ (v : ArenaView). content_of v ≡ insert (content_of c.arena) (op.task.tenant, key_of (ask op.task)) (row_over op.task (get (content_of c.arena) key))) takes t.places.contents in
         let row_there : get (tenant_map op.task.tenant (content_of c.arena)) (key_of (ask op.task)) ≡ Some before =
@@ -303,9 +304,9 @@ module _ (c : Core) (now : StateView) (o : ℕ) (is : shown c ≡ now) (h : Stat
         (tree_of c.arena k).prefix (layer_of (tree_of c.arena k).prefix) op.task.key (keys_here arena_is s.holds) may.stands.has
         (untouched_beside c op h put) (untouched_now c op h put) was) in
         subst (λ (v : ArenaView). Gives now (stepped c v tape c.accounts o after) o false) (sym takes)
-        (subst (λ (t : Kept). Gives now (stepped c (with_node c.arena k (with_slots n slots n.order)) t c.accounts o after) o false) (sym t.places.tape)
-        (placed_gives slots n.order c.accounts w Replaced j.held.there j.stands.live (beside_stored arena_is place s.pair may.stands) (subst (Guarantee o c.arena) takes t.guarantee) contents
-        (counted_there (content_of (with_node c.arena k (with_slots n slots n.order))) (row_over op.task (get (content_of c.arena) key)) before contents t.was_there) stamps
+        (subst (λ (t : Kept). Gives now (stepped c (with_node c.arena k (with_slots n slots cells)) t c.accounts o after) o false) (sym t.places.tape)
+        (placed_gives slots cells c.accounts w Replaced j.held.there j.stands.live (beside_stored arena_is place s.pair may.stands) (subst (Guarantee o c.arena) takes t.guarantee) contents
+        (counted_there (content_of (with_node c.arena k (with_slots n slots cells))) (row_over op.task (get (content_of c.arena) key)) before contents t.was_there) stamps
         refl replies.0 makes Store at_store refl refl refl (λ i one. one) (λ e. cc) tt stores_on refl t.walk t.same j.held.holder (subst (λ (v : ArenaView). IsAtUnlock v o w) takes t.kept)))
 
   module _ (at_publish : op.walk.phase ≡ Publish) where
@@ -324,7 +325,7 @@ module _ (c : Core) (now : StateView) (o : ℕ) (is : shown c ≡ now) (h : Stat
         let j = s.holds.judged in
         let added = entry_of op.task.key op.walk.layer row (c.steps + 1) in
         let slots = with_entry n.slots added in
-        let order = order_with n.order (place_in n.slots (order_of added)) in
+        let cells = cells_with n.cells (place_in n.slots (order_of added)) added in
         let after = went op (c.steps + 1) w (Some (record { reply = New; at = c.steps + 1 })) None in
         let may = may_publish c.arena o op.task.key op.walk arena_is s.holds row (c.steps + 1) s.missing s.room in
         let contents = subst (λ (v : ArenaView). content_of v ≡ insert (content_of c.arena) (op.task.tenant, key_of (ask op.task)) (row_over op.task (get (content_of c.arena) key))) t.is t.places.contents in
@@ -338,7 +339,7 @@ module _ (c : Core) (now : StateView) (o : ℕ) (is : shown c ≡ now) (h : Stat
         (tree_of c.arena k).prefix (layer_of (tree_of c.arena k).prefix) n.slots added op.task.key (record { suffix = suffix_of op.task.key op.walk.layer; row = row; stamp = c.steps + 1 })
         (keys_here arena_is s.holds) may.has s.missing refl (untouched_beside c op h put) (untouched_now c op h put) in
         subst (λ (v : ArenaView). Gives now (stepped c v tape accounts o after) o false) (sym t.is)
-        (subst (λ (t : Kept). Gives now (stepped c (with_node c.arena k (with_slots n slots order)) t accounts o after) o false) (sym t.places.tape)
-        (placed_gives slots order accounts w New j.held.there j.stands.live (λ l inside differ counted. beside_missing arena_is t.missing l inside counted) (subst (Guarantee o c.arena) t.is t.guarantee) contents
-        (counted_new accounts (content_of (with_node c.arena k (with_slots n slots order))) (row_over op.task (get (content_of c.arena) key)) contents t.missing t.room t.more t.others) stamps
+        (subst (λ (t : Kept). Gives now (stepped c (with_node c.arena k (with_slots n slots cells)) t accounts o after) o false) (sym t.places.tape)
+        (placed_gives slots cells accounts w New j.held.there j.stands.live (λ l inside differ counted. beside_missing arena_is t.missing l inside counted) (subst (Guarantee o c.arena) t.is t.guarantee) contents
+        (counted_new accounts (content_of (with_node c.arena k (with_slots n slots cells))) (row_over op.task (get (content_of c.arena) key)) contents t.missing t.room t.more t.others) stamps
         refl replies.0 makes Publish at_publish refl refl refl (λ i one. one) (λ e. cc) tt publishes_on (inl refl) t.walk t.same j.held.holder (subst (λ (v : ArenaView). IsAtUnlock v o w) t.is t.kept)))

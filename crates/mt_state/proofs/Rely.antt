@@ -6,7 +6,7 @@ use Rattle.mt_runs.proofs.Lawful.{lawful_by}
 use Rattle.mt_walks.specs.Walked.{IsWithin}
 use Rattle.mt_arena.specs.{Arena.{ArenaView, Guarantee, IsArena}, Accesses.at}
 use Rattle.mt_operation.specs.{declared.outcome.Outcome.Outcome, declared.operation.Operation.Operation, declared.phase.Phase.Phase}
-use Rattle.mt_operation.specs.{declared.phase.Phase.TheVariants.{Load, Confirm, Store, Unlock, Check, Hop}, declared.splits.Halves.Halves}
+use Rattle.mt_operation.specs.{declared.phase.Phase.TheVariants.{Load, Confirm, Store, Fill, Unlock, Check, Hop}, declared.splits.Halves.Halves}
 use Rattle.mt_operation.specs.{Operations.{OperationView, view_of, scan_of}, Tasks.ask, Phases.{Kind, row}}
 use Rattle.mt_descent.specs.{Pasts.ExtendsPast, KeptWalks.{IsKept, IsAtBorder}}
 use Rattle.mt_scan.{specs.Snaps.prefix_in, proofs.Staying.{check_stays, kept_hop_stays}}
@@ -156,6 +156,13 @@ module _ (old new : Core) (o q : ℕ) (arena : IsArena new.arena.nodes new.arena
     prepared = h.prepared;
     has = h.has;
     stores = insert.store o q old.arena new.arena g.arena other op.task h.prepared op.walk h.stores;
+    put = h.put;
+    untold = h.untold;
+  }
+  writing_stays Fill h = record {
+    prepared = h.prepared;
+    has = h.has;
+    fills = insert.fill o q old.arena new.arena g.arena other op.task h.prepared op.walk h.fills;
     put = h.put;
     untold = h.untold;
   }

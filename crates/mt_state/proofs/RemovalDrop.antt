@@ -9,14 +9,13 @@ use Rattle.mt_border.specs.{Entries.{without, place_in}, Entry.order_of, Content
 use Rattle.mt_border.proofs.{Edits.any_entry, ContentsKeys.{owned_at, IsApart}}
 use Rattle.mt_tape.specs.{declared.entry.Entry.{Entry as Write}, Tapes.Kept, Histories.with_row}
 use Rattle.mt_tape.proofs.TapeLaws.{get-with_row_same, tenant_map-with_row, tenant_map-with_row_other}
-use Rattle.mt_arena.specs.{NodeView.NodeView, Layers.slot_at, Forests.layer_of, Contents.counts, Edits.with_slots, Arena.{ArenaView, IsArena, content_of}}
+use Rattle.mt_arena.specs.{NodeView.NodeView, Layers.slot_at, Forests.layer_of, Contents.counts, Edits.{with_slots, cells_without}, Arena.{ArenaView, IsArena, content_of}}
 use Rattle.mt_arena.specs.{Accesses.{at, tree_of}, Ways.StandsFor}
 use Rattle.mt_arena.proofs.{Owners.found, Steps.keys_of}
 use Rattle.mt_operation.specs.{declared.phase.Phase.Phase, declared.phase.Phase.TheVariants.{DropKey, LockPrev, Unlock, Enter}, declared.walk.Walk.Walk}
 use Rattle.mt_operation.specs.{declared.removal.Removal.Removal, declared.outcome.Outcome.Outcome, declared.operation.Operation.Operation, Tasks.ask}
 use Rattle.mt_operation.specs.{Operations.{view_of, IsUnsplit}, Phases.{is_done, MayFollow, IsOfKind, has_splits, row}, Tables.{op_at as operation_at}}
 use Rattle.mt_operation.proofs.Phases.{IsBehindBy}
-use Rattle.mt_order.specs.Places.{order_without}
 use Rattle.mt_descent.specs.KeptWalks.{walk_place}
 use Rattle.mt_held.specs.{Taping.pushed, Holds.HoldsOnly}
 use Rattle.mt_remove.{specs.{Writes.removal_over, KeptRemovals.KeptRemoval, DropKey.IsDropKey}, proofs.GoingOn.emptied_either}
@@ -76,8 +75,8 @@ module _ (c : Core) (o : ℕ) (h : StateInvariant c) (few : c.steps < 2 ^ 59) (o
 
   -- one node has another slots
   leaves : LeavesNodes o c.arena arena
-  leaves = subst (LeavesNodes o c.arena) (sym t.is) (one_leaves o c.arena h.deleted k (with_slots n (without n.slots (slot_at n (walk_place c.arena op.walk))) (order_without n.order (walk_place c.arena op.walk))) (record {
-    slots = slots_removed n (with_slots n (without n.slots (slot_at n (walk_place c.arena op.walk))) (order_without n.order (walk_place c.arena op.walk))) (place_in n.slots (order_of (slot_at n (walk_place c.arena op.walk)))) refl;
+  leaves = subst (LeavesNodes o c.arena) (sym t.is) (one_leaves o c.arena h.deleted k (with_slots n (without n.slots (slot_at n (walk_place c.arena op.walk))) (cells_without n.cells (walk_place c.arena op.walk))) (record {
+    slots = slots_removed n (with_slots n (without n.slots (slot_at n (walk_place c.arena op.walk))) (cells_without n.cells (walk_place c.arena op.walk))) (place_in n.slots (order_of (slot_at n (walk_place c.arena op.walk)))) refl;
     tree = refl;
     gone = λ gone. gone;
     emptied = λ gone. absurd (both_ways _ dropping.drops.holds.judged.stands.live gone);

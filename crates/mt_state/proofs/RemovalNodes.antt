@@ -4,8 +4,7 @@ use Rattle.std.proofs.{lemmas.Bool.{both_ways, cases_eq}, lemmas.List.{length-se
 use Rattle.std.specs.List.{All, remove}
 use Rattle.mt_border.{specs.{declared.entry.Entry.Entry, Entries.{without, place_in}, Entry.order_of}, proofs.Edits.{any_entry, All-remove}}
 use Rattle.mt_arena.specs.{declared.tree.Tree.Tree, declared.tree.Standing.Standing, declared.tree.Standing.TheVariants.{Live, Dead}, NodeView.NodeView}
-use Rattle.mt_order.specs.Places.{order_without}
-use Rattle.mt_arena.specs.{Layers.slot_at, Forests.{no_tree, tree_at}, Contents.{counts, is_live}, Edits.{pointed, locked, retired, with_slots, inserting}}
+use Rattle.mt_arena.specs.{Layers.slot_at, Forests.{no_tree, tree_at}, Contents.{counts, is_live}, Edits.{pointed, locked, retired, with_slots, cells_without, inserting}}
 use Rattle.mt_arena.specs.{Arena.{ArenaView, content_of, Guarantee}, Accesses.{at, tree_of, IsHeld, with_node}}
 use Rattle.mt_arena.specs.{Removals.{without_node, without_root, without_layer}, Unlinks.{joined, without_child}, Collapses.crowned}
 use Rattle.mt_arena.proofs.Pairs.{here, there as there_other}
@@ -263,7 +262,7 @@ module _ (o : ℕ) (v : ArenaView) (deleted : DeletedAreEmpty v) where
     locking = with_node v root (locked (at v root) o)
 
     abbrev without_link : NodeView
-    without_link = with_slots (at locking node) (without (at locking node).slots (slot_at (at locking node) i)) (order_without (at locking node).order i)
+    without_link = with_slots (at locking node) (without (at locking node).slots (slot_at (at locking node) i)) (cells_without (at locking node).cells i)
 
     locks : LeavesNodes o v locking
     locks = lock_leaves o v deleted root root_there

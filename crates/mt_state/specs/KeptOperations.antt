@@ -6,11 +6,11 @@ use Rattle.mt_rows.specs.{Commands.{key_of, HasColumns, HasShortColumns, HasCoun
 use Rattle.mt_border.specs.Contents.{owned}
 use Rattle.mt_tape.specs.declared.entry.Entry.{Entry as TapeEntry}
 use Rattle.mt_arena.specs.{Arena.ArenaView, Accesses.at}
-use Rattle.mt_operation.specs.{declared.phase.Phase.Phase, declared.phase.Phase.TheVariants.{Enter, Load, Confirm, Store, Unlock, Check, Hop}}
+use Rattle.mt_operation.specs.{declared.phase.Phase.Phase, declared.phase.Phase.TheVariants.{Enter, Load, Confirm, Store, Fill, Unlock, Check, Hop}}
 use Rattle.mt_operation.specs.{declared.walk.Taken.Taken, declared.walk.Taken.TheVariants.{Missing, Row, Link, Nothing}, declared.outcome.Outcome.Outcome}
 use Rattle.mt_operation.specs.{declared.prepared.Prepared.Prepared, declared.operation.Operation.Operation, Phases.{IsOfKind, has_splits, is_done, Kind, row}}
 use Rattle.mt_operation.specs.{Tasks.{ask, aim_of}, declared.splits.Halves.Halves, Operations.{ScanView, view_of, scan_of, no_scan, IsUnsplit, no_removal}}
-use Rattle.mt_insert.specs.{Puts.is_put, KeptPuts.{IsAtStore, IsAtPublish, IsAtSplitStart}, KeptSplits.{IsAtSplitMove, IsAtUnlockAll, KeptSplit}}
+use Rattle.mt_insert.specs.{Puts.is_put, KeptPuts.{IsAtStore, IsAtFill, IsAtPublish, IsAtSplitStart}, KeptSplits.{IsAtSplitMove, IsAtUnlockAll, KeptSplit}}
 use Rattle.mt_descent.specs.{Pasts.Past, Seen.RangeStands, KeptWalks.{HasSlot, IsKept}}
 use Rattle.mt_scan.specs.{Snaps.prefix_in, Hops.{IsAtCheck, KeptHop}}
 use Rattle.mt_stretches.specs.Scanned.{HasScanned, HasSeen}
@@ -103,11 +103,18 @@ pub record IsJudging (c : Core) (o : ℕ) (op : Operation) : Type 0 where
   pub bound : IsBound op.outcome c op
   pub unprepared : op.prepared ≡ None
 
--- one that has all ready to write over its key's row, and one that has all ready to make a pair
+-- one that has all ready to write over its key's row; one that has all ready to make a pair; and one whose pair stands in a free slot
 pub record IsStoring (c : Core) (o : ℕ) (op : Operation) : Type 0 where
   pub prepared : Prepared
   pub has : op.prepared ≡ Some prepared
   pub stores : IsAtStore c.arena o op.task prepared op.walk
+  pub put : is_put (ask op.task) ≡ true
+  pub untold : op.outcome ≡ None
+
+pub record IsFilling (c : Core) (o : ℕ) (op : Operation) : Type 0 where
+  pub prepared : Prepared
+  pub has : op.prepared ≡ Some prepared
+  pub fills : IsAtFill c.arena o op.task prepared op.walk
   pub put : is_put (ask op.task) ≡ true
   pub untold : op.outcome ≡ None
 
@@ -200,6 +207,7 @@ IsScanningAt _ c op = IsOnItsWay c op
 
 abbrev pub IsWritingAt : Phase → Core → ℕ → Operation → Type 0
 IsWritingAt Store c o op = IsStoring c o op
+IsWritingAt Fill c o op = IsFilling c o op
 IsWritingAt _ c o op = IsPublishing c o op
 
 -- what is kept of an operation by what its next step does

@@ -7,7 +7,7 @@ use Rattle.mt_rows.specs.{declared.command.Command.Command, declared.command.Com
 use Rattle.mt_border.specs.declared.entry.Find.{Find}
 use Rattle.mt_arena.specs.{NodeView.{NodeView, place_at}, Forests.tree_at, Layers.slot_at, Arena.ArenaView, Accesses.at}
 use Rattle.mt_operation.specs.declared.phase.Phase.{Phase}
-use Rattle.mt_operation.specs.declared.phase.Phase.TheVariants.{Enter, Pick, Child, Verify, Search, Load, Confirm, Forward, Lock, Judge, Store, Publish, SplitStart, SplitMove, SplitPrev, LockParent, InsertChild, InteriorSplit, Reparent, RootGrow, MakeLayer, MarkUnstable, Link, MarkLayer, DropKey, LockPrev, LockAbove, Unlink, FixNext, Collapse, CleanLayer, Unlock, Snap, Check, Hop}
+use Rattle.mt_operation.specs.declared.phase.Phase.TheVariants.{Enter, Pick, Child, Verify, Search, Load, Confirm, Forward, Lock, Judge, Store, Fill, Publish, SplitStart, SplitMove, SplitPrev, LockParent, InsertChild, InteriorSplit, Reparent, RootGrow, MakeLayer, MarkUnstable, Link, MarkLayer, DropKey, LockPrev, LockAbove, Unlink, FixNext, Collapse, CleanLayer, Unlock, Snap, Check, Hop}
 use Rattle.mt_operation.specs.{declared.walk.Walk.Walk, declared.outcome.Outcome.Outcome, Operations.{OperationView, SplitsView, ScanView}}
 use Rattle.mt_operation.specs.{Phases.{is_done, Kind, row}, declared.removal.Removal.Removal, declared.splits.Halves.Halves}
 use Rattle.mt_descent.specs.{Seen.child_for, KeptWalks.{IsInSlot, slice_in}}
@@ -190,6 +190,7 @@ LeadsTo Forward old new o step key told s r g w x = GoesForward w.next old key w
 LeadsTo Lock old new o step key told s r g w x = ((at old w.place.node).holder ≡ None) × LocksBy told o old new r w x
 LeadsTo Judge old new o step key told s r g w x = JudgesBy told (at old w.place.node) key w x
 LeadsTo Store old new o step key told s r g w x = x ≡ walk_placed w
+LeadsTo Fill old new o step key told s r g w x = x ≡ walk_at Publish w
 LeadsTo Publish old new o step key told s r g w x = x ≡ walk_placed w
 LeadsTo SplitStart old new o step key told s r g w x = (x ≡ walk_at SplitMove w) ⊎ (x ≡ walk_done w)
 LeadsTo SplitMove old new o step key told s r g w x = x ≡ walk_at (after_parting (at old w.place.node).next) w

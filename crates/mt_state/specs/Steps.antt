@@ -2,7 +2,7 @@
 use Rattle.std.specs.Prelude.{◌≡◌, ℕ, ◌==◌, if◌then◌else◌, Option, Some, None}
 use Rattle.mt_rows.specs.Maps.{is_change}
 use Rattle.mt_operation.specs.declared.phase.Phase.{Phase}
-use Rattle.mt_operation.specs.declared.phase.Phase.TheVariants.{Enter, Search, Load, Lock, Store, Publish, Snap, Hop, MarkUnstable, Link, MarkLayer, SplitStart, LockParent, DropKey, Unlink, Unlock, Done}
+use Rattle.mt_operation.specs.declared.phase.Phase.TheVariants.{Enter, Search, Load, Lock, Judge, Store, Publish, Snap, Hop, MarkUnstable, Link, MarkLayer, SplitStart, LockParent, DropKey, Unlink, Unlock, Done}
 use Rattle.mt_operation.specs.{declared.outcome.Outcome.Outcome, Phases.MayFollow, Operations.OperationView}
 
 -- the operation is asked the same, of the same worker for the same tenant
@@ -12,13 +12,14 @@ pub record IsSameAsked (before after : OperationView) : Type 0 where
   pub command : after.command ≡ before.command
 
 -- Pairs of phases of which no step leads from the first to the second: one between them would be left out. So nobody is done with what he has only entered or
--- searched, places what he has not judged, keeps what he has not compared, or takes a slot for a link that is not written.
+-- searched, places what he has not judged, makes live what he has not written into its slot, keeps what he has not compared, or takes a slot for a link that is not written.
 abbrev pub LeavesOut : Phase → Phase → Type 0
 LeavesOut Enter Load = Unit {0}
 LeavesOut Enter Done = Unit {0}
 LeavesOut Search Done = Unit {0}
 LeavesOut Lock Store = Unit {0}
 LeavesOut Lock Publish = Unit {0}
+LeavesOut Judge Publish = Unit {0}
 LeavesOut Snap Hop = Unit {0}
 LeavesOut MarkUnstable MarkLayer = Unit {0}
 LeavesOut Link Unlock = Unit {0}

@@ -4,9 +4,9 @@ ghost use Rattle.std.specs.Prelude.{◌≡◌, ◌≢◌, ◌+◌, ◌<◌, ◌^
 ghost use Rattle.mt_rows.specs.{Rows.Columns, Accounts.Accounts, declared.reply.Reply.TheVariants.{New, Replaced, Full, NoMemory}};
 ghost use Rattle.mt_tape.specs.Tapes.{Kept};
 ghost use Rattle.mt_arena.specs.Arena.{ArenaView, IsArena};
-ghost use Rattle.mt_operation.specs.{declared.phase.Phase.TheVariants.{Lock, Judge, Store, Publish, Unlock}, declared.walk.Walk.Walk};
+ghost use Rattle.mt_operation.specs.{declared.phase.Phase.TheVariants.{Lock, Judge, Store, Fill, Publish, Unlock}, declared.walk.Walk.Walk};
 ghost use Rattle.mt_operation.specs.{declared.prepared.Prepared.Prepared, declared.operation.Operation.Operation, Tables.{op_at as operation_at}, Tasks.ask};
-ghost use Rattle.mt_insert.specs.{Puts.IsPut, Publish.{IsPublish, IsPublishFull}, Store.IsStore, Judge.IsMadeReady};
+ghost use Rattle.mt_insert.specs.{Puts.IsPut, Fill.IsFill, Publish.{IsPublish, IsPublishFull}, Store.IsStore, Judge.IsMadeReady};
 ghost use Rattle.mt_state.specs.{Views.Core, Invariant.StateInvariant, Calls.IsLawful, Writes.wrote};
 ghost use Rattle.mt_descent.specs.WalkMoves.{IsLock};
 ghost use Rattle.mt_held.specs.Unlock.{IsUnlock};
@@ -14,8 +14,8 @@ ghost use Rattle.mt_remove.specs.Writes.{is_remove};
 
 /// Each phase of a put makes a lawful step, by what its call ensures, and the invariant stays: where it
 /// takes the lock of its border node, or goes on its way; where it makes all ready, or has no memory
-/// and gives the lock back; where it writes over its key's row, makes a new pair, or finds no room in
-/// the quota; and where it gives the lock back.
+/// and gives the lock back; where it writes over its key's row, writes a new pair into a free slot,
+/// makes that pair live, or finds no room in the quota; and where it gives the lock back.
 pub fn a_write_is_a_step()
     ensures locks { (c : Core) (o : ℕ) (op : Operation) (arena : ArenaView) (w : Walk) → StateInvariant c → c.steps < 2 ^ 59 → operation_at c.table o ≡ Some op →
         op.walk.phase ≡ Lock → IsLock o op.task.key c.arena arena op.walk w →
@@ -30,6 +30,9 @@ pub fn a_write_is_a_step()
         c.steps < 2 ^ 59 → operation_at c.table o ≡ Some op → IsPut op.task → op.walk.phase ≡ Store →
         IsStore o (c.steps + 1) op.task row c.arena arena c.tape tape op.walk w before →
         IsLawful c (wrote c arena tape c.accounts o op w (Some (record { reply = Replaced; at = c.steps + 1 })) None) o false }
+    ensures fills_slot { (c : Core) (o : ℕ) (op : Operation) (arena : ArenaView) (w : Walk) (prepared rest : Prepared) → StateInvariant c → c.steps < 2 ^ 59 → operation_at c.table o ≡ Some op →
+        op.walk.phase ≡ Fill → IsFill o op.task prepared rest c.arena arena op.walk w →
+        IsLawful c (wrote c arena c.tape c.accounts o op w op.outcome (Some rest)) o false }
     ensures publishes { (c : Core) (o : ℕ) (op : Operation) (arena : ArenaView) (tape : Kept) (accounts : Accounts) (w : Walk) (row : Columns) → StateInvariant c → IsArena c.arena.nodes c.arena.trees →
         c.steps < 2 ^ 59 → operation_at c.table o ≡ Some op → IsPut op.task → op.walk.phase ≡ Publish →
         IsPublish o (c.steps + 1) op.task row c.arena arena c.tape tape c.accounts accounts op.walk w →

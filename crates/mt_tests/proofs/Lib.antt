@@ -2,3 +2,4 @@ pub mod Settling
 pub mod FirstSlot
 pub mod LongKeys
 pub mod Halves
+pub mod Filled

@@ -287,7 +287,11 @@ impl Checked {
     {
         assert!(rt; self.takes(node, key) && !self.arena.border(node).is_full());
         self.arena.facts();
-        self.arena.publish(node, entry, 5);
+        let Entry { slice, mark, held } = entry;
+        let _ = self.arena.fill(node, held, 5);
+        assert!(rt; self.takes(node, key) && !self.arena.border(node).is_full());
+        self.arena.facts();
+        self.arena.publish_filled(node, slice, mark, 6, 5);
     }
 
     /// Splits a full border node as with a missing key, which is left out, and gives the number of its
@@ -432,11 +436,11 @@ impl Checked {
         live.expect(rt, "a live slot")
     }
 
-    /// Takes the key in the last live slot of a node out.
-    pub fn drop_key(&mut self, rt: &impl Abort, node: usize) -> Entry {
+    /// Makes the key in the last live slot of a node live no more.
+    pub fn let_go(&mut self, rt: &impl Abort, node: usize) {
         let slot = self.live_slot(rt, node);
         assert!(rt; self.may_change(node, slot));
-        self.arena.drop_key(node, slot, 5)
+        self.arena.let_go(node, slot, 5);
     }
 
     // Whether it is an empty border node that is live and is not split.

@@ -196,7 +196,7 @@ fn make(rt: &impl Abort, alloc: Global, tree: &mut Checked) -> usize {
 fn take_out(rt: &impl Abort, tree: &mut Checked, root: usize) {
     tree.lock(rt, 0);
     tree.lock(rt, root);
-    let _ = tree.drop_key(rt, root);
+    tree.let_go(rt, root);
     tree.drop_layer(rt, 0);
     tree.unlock(rt, 0);
     tree.unlock(rt, root);

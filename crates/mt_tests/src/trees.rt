@@ -81,7 +81,7 @@ fn a_tree_grows_to_three_levels(rt: HostRuntime) {
 fn take_out(rt: &impl Abort, tree: &mut Checked, node: usize) {
     tree.lock(rt, node);
     for _key in 0..tree.len(rt, node) {
-        let _ = tree.drop_key(rt, node);
+        tree.let_go(rt, node);
     }
     let left = tree.seen(rt, node).previous().expect(rt, "one before");
     let parent = tree.seen(rt, node).parent().expect(rt, "a parent");

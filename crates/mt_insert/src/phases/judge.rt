@@ -28,8 +28,8 @@ pub enum Judged {
 }
 
 /// Looks for the key in the border node that the operation holds. Where the node has it or misses it,
-/// all growths are made of the step that will place the row: `store`, `publish`, or `split_move` behind
-/// `split_start` where the node is full. A link leads into its tree; where another long key stands in
+/// all growths are made of the step that will place the row: `store`, `publish` behind `fill`, or
+/// `split_move` behind `split_start` where the node is full. A link leads into its tree; where another long key stands in
 /// the key's place, a layer is to be made for both.
 pub fn judge(
     alloc: Global,
@@ -107,11 +107,11 @@ fn go_on(arena: &Arena, walk: &mut Walk, slot: Option<usize>)
 
 // What comes next where the node misses the key.
 fn for_missing(border: &Border) -> Phase
-    ensures { result ≡ (if length (entries_of border.now) == 15 then Phase.SplitStart else Phase.Publish) }
+    ensures { result ≡ (if length (entries_of border.now) == 15 then Phase.SplitStart else Phase.Fill) }
 {
     if border.is_full() {
         Phase::SplitStart
     } else {
-        Phase::Publish
+        Phase::Fill
     }
 }

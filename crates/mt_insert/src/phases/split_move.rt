@@ -1,6 +1,7 @@
 //! SplitMove: judges the quota, and parts the keys and the new pair among the halves.
 
 ghost use Rattle.std.specs.Prelude.{◌≡◌, ◌<◌, length};
+ghost use Rattle.mt_slices.specs.Slices.{HasLayer, suffix_of};
 ghost use Rattle.mt_border.specs.Entries.{with_entry};
 ghost use Rattle.mt_tape.specs.Tapes.{last_write};
 ghost use Rattle.mt_arena.specs.{Arena.{content_of, Guarantee}, Accesses.at, Several.AreHalved};
@@ -8,8 +9,8 @@ ghost use Rattle.mt_insert.specs.{Puts.IsPut, Placing.{entry_of, Places}, KeptSp
 ghost use Rattle.mt_operation.specs.{declared.task.Task.{Task as AnyTask}, declared.prepared.Prepared.{Prepared as AnyPrepared}};
 
 use crate::halves::last;
-use crate::phases::publish::new_entry;
 use mt_arena::Arena;
+use mt_border::{Entry, Held, Pair};
 use mt_held::push_write;
 use mt_operation::{Halves, Phase, Prepared, Splits, Task, Walk};
 use mt_rows::Tenants;
@@ -106,5 +107,18 @@ fn phase_after_parting(arena: &Arena, walk: &Walk) -> Phase
     match arena.node(walk.place.node).next() {
         Some(_) => Phase::SplitPrev,
         None => Phase::LockParent,
+    }
+}
+
+// The entry of a key's pair.
+fn new_entry(key: &StoredKey, layer: usize, pair: Pair) -> Entry
+    requires reaches { HasLayer key.now layer }
+    requires suffix { pair.suffix ≡ suffix_of key.now layer }
+    ensures { result ≡ entry_of key.now layer pair.row pair.stamp }
+{
+    Entry {
+        slice: key.slice(layer),
+        mark: key.mark(layer),
+        held: Held::stable(pair),
     }
 }

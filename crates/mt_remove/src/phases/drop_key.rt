@@ -1,4 +1,4 @@
-//! DropKey: takes the key's pair out.
+//! DropKey: makes the key's pair live no more.
 
 ghost use Rattle.std.specs.Prelude.{◌<◌};
 ghost use Rattle.mt_rows.specs.Accounts.{account_of, HasPairs};
@@ -12,8 +12,8 @@ use mt_operation::{Prepared, Removal, Task, Walk};
 use mt_rows::Tenants;
 use mt_tape::Tape;
 
-/// Takes the pair of the key out by the step of this number; its write goes on the tape, and the
-/// tenant's count is one less. An empty border node that is not the first child of its parent is taken
+/// Makes the pair of the key live no more by the step of this number; its write goes on the tape, and the
+/// tenant's count is one less. Its slot holds the pair until it is filled again. An empty border node that is not the first child of its parent is taken
 /// out next.
 pub fn drop_key(
     arena: &mut Arena,
@@ -35,9 +35,8 @@ pub fn drop_key(
     ensures { IsDropKey operation step task.now arena.old arena.new tape.old tape.new tenants.old tenants.new walk.old walk.new removal.old removal.new }
 {
     arena.facts();
-    let (_, write) = prepared.into_row();
-    let _ = arena.drop_key(walk.place.node, walk.slot, operation);
-    push_write(tape, write, step);
+    arena.let_go(walk.place.node, walk.slot, operation);
+    push_write(tape, prepared.into_write(), step);
     tenants.count_removed(task.tenant);
     go_on_emptied(arena, walk, removal);
 }

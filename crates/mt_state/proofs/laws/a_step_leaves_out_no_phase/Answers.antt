@@ -1,7 +1,7 @@
 -- No row of the table of phases leads so.
 use Rattle.std.proofs.Common.{subst}
 use Rattle.mt_operation.specs.declared.phase.Phase.{Phase}
-use Rattle.mt_operation.specs.declared.phase.Phase.TheVariants.{Enter, Search, Load, Lock, Store, Publish, Snap, Hop, MarkUnstable, Link, MarkLayer, SplitStart, LockParent, DropKey, Unlink, Unlock, Done}
+use Rattle.mt_operation.specs.declared.phase.Phase.TheVariants.{Enter, Search, Load, Lock, Judge, Store, Publish, Snap, Hop, MarkUnstable, Link, MarkLayer, SplitStart, LockParent, DropKey, Unlink, Unlock, Done}
 use Rattle.mt_operation.specs.Phases.{MayFollow}
 use Rattle.mt_state.specs.Steps.{LeavesOut}
 use Rattle.mt_state.proofs.laws.a_step_leaves_out_no_phase.Goals as goal
@@ -12,6 +12,7 @@ no_way Enter Done left follows = follows
 no_way Search Done left follows = follows
 no_way Lock Store left follows = follows
 no_way Lock Publish left follows = follows
+no_way Judge Publish left follows = follows
 no_way Snap Hop left follows = follows
 no_way MarkUnstable MarkLayer left follows = follows
 no_way Link Unlock left follows = follows

@@ -1,5 +1,5 @@
 use Rattle.std.proofs.Common.{refl}
-use Rattle.mt_state.{specs.Views.shown, proofs.{Locking.{lock_done, unlock_done, judge_ready, judge_refused, publish_full}, Putting.{store_done, publish_done}}}
+use Rattle.mt_state.{specs.Views.shown, proofs.{Locking.{lock_done, unlock_done, judge_ready, judge_refused, publish_full}, FillSteps.fill_done, Putting.{store_done, publish_done}}}
 use Rattle.mt_state.proofs.writes.a_write_is_a_step.Goals as goal
 
 pub returns-clause-locks : goal.returns-clause-locks
@@ -17,6 +17,10 @@ returns-clause-stops c =
 pub returns-clause-stores : goal.returns-clause-stores
 returns-clause-stores c =
     λ core o op arena tape w row before h is_arena few there put at_store t. let g = store_done core (shown core) o refl h few op there put at_store arena tape w row before is_arena t in record { invariant = g.0; step = g.1 }
+
+pub returns-clause-fills_slot : goal.returns-clause-fills_slot
+returns-clause-fills_slot c =
+    λ core o op arena w prepared rest h few there at_fill t. let g = fill_done core (shown core) o refl h few op there at_fill prepared rest arena w t in record { invariant = g.0; step = g.1 }
 
 pub returns-clause-publishes : goal.returns-clause-publishes
 returns-clause-publishes c =

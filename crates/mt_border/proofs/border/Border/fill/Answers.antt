@@ -1,6 +1,7 @@
 -- what is written is not listed
-use Rattle.std.proofs.Common.{◌≡◌}
-use Rattle.mt_border.{specs.Slots.listed, proofs.Slotting.listed_beside}
+use Rattle.std.proofs.Common.{◌≡◌, ◌<◌, length, arith}
+use Rattle.std.proofs.lemmas.List.{get_or-set_same}
+use Rattle.mt_border.{specs.{Held.Link, Slots.{listed, next_free}}, proofs.Slotting.listed_beside}
 use Rattle.mt_border.proofs.border.Border.fill.Goals as goal
 
 same : (c : goal.After-write) → listed c.write.new.self ≡ listed c.self.inside.slots
@@ -13,3 +14,9 @@ invariant_of-self c = record { slotted = c.write.ensures.slotted; border = rw (s
 
 pub returns-clause-entries : goal.returns-clause-entries
 returns-clause-entries c = rw (← c.self.view_is) (same c)
+
+pub returns-clause-there : goal.returns-clause-there
+returns-clause-there c =
+    let next = c.next_free-next.ensures in
+    rw (c.write.ensures.after, next.value)
+    (get_or-set_same c.self.inside.slots.helds (next_free c.self.inside.slots) c.args.held (Link 0) (omega (arith, next.within, next.value, next.slotted.helds_are)))

@@ -1,6 +1,5 @@
 -- the entries stay in order with the new one at its place
-use Rattle.std.proofs.Common.{ap, ◌∙◌}
-use Rattle.mt_order.specs.Places.{order_with}
+use Rattle.std.proofs.Common.{ap}
 use Rattle.mt_border.{specs.Node.entries_of, proofs.Edits.border_with_entry}
 use Rattle.mt_border.proofs.border.Border.publish.Goals as goal
 
@@ -12,6 +11,3 @@ invariant_of-self c =
       border = rw (c.insert.ensures.entries, c.place_of-place.ensures.place)
           (border_with_entry _ c.args.entry c.self.invariant.border c.requires.entry (rw entries_are c.requires.missing) (rw entries_are c.requires.room));
     }
-
-pub returns-clause-order : goal.returns-clause-order
-returns-clause-order c = rw (← c.self.view_is) (c.insert.ensures.order ∙ ap (order_with c.self.inside.slots.order) c.place_of-place.ensures.place)

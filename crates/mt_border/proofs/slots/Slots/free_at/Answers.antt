@@ -12,4 +12,4 @@ remove-requires-2 c = (omega arith, omega (arith, c.requires, size-listed _ _ c.
 pub returns-clause-entries : goal.returns-clause-entries
 returns-clause-entries c =
     rw (c.remove.ensures.rest, c.remove-2.ensures.items, ← c.self.view_is)
-    (listed_freed _ c.remove-slot.new.self c.args.place c.self.invariant c.remove-slot.ensures.live)
+    (listed_freed _ c.remove-freed.new.self c.args.place c.self.invariant c.remove-freed.ensures.live)

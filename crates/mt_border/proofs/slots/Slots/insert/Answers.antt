@@ -1,7 +1,6 @@
 -- the parts of the entry go to its place in each row, and to the first free slot
 use Rattle.std.proofs.Common.{◌<◌, length, arith}
 use Rattle.mt_border.proofs.Slotting.{size-listed, listed_put}
-use Rattle.mt_order.proofs.Once.{order_put}
 use Rattle.mt_border.proofs.slots.Slots.insert.Goals as goal
 
 pub insert-requires : goal.insert-requires
@@ -25,6 +24,3 @@ pub returns-clause-entries : goal.returns-clause-entries
 returns-clause-entries c =
     rw (c.insert.ensures, c.insert-2.ensures.items, c.new.ensures, ← c.self.view_is)
     (listed_put _ c.insert-slot.new.self c.args.place c.insert-slot.result c.args.entry c.self.invariant c.insert-slot.ensures.slot c.insert-slot.ensures.live)
-
-pub returns-clause-order : goal.returns-clause-order
-returns-clause-order c = rw (← c.self.view_is) (order_put c.self.inside.order c.insert-slot.new.self c.args.place c.insert-slot.result c.insert-slot.ensures.slot c.insert-slot.ensures.live)

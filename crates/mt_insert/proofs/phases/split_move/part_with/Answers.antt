@@ -29,5 +29,5 @@ returns-clause-places c =
     (subst (λ (e : Entry). MayPlace c.args.arena.now (last_of c.args.splits.now).left c.args.operation c.args.task.now.key e) (sym (made_entry c.args.task.now.key c.args.walk.now.layer _ _ _ _ _ c.new_entry-entry.ensures c.into_pair-pair.ensures.pair))
     (may_place c.args.arena.now c.args.operation c.args.task.now c.args.prepared c.args.walk.now c.args.splits.now c.facts.ensures.arena c.requires.kept c.args.prepared.row c.args.step)) in
     places c.args.task.now c.args.step c.args.arena.now c.split_border.new.self c.args.tape.now c.push_write.new.tape None c.args.prepared c.requires.put
-    (none_here c.args.arena.now c.args.operation c.args.task.now c.args.prepared c.args.walk.now c.args.splits.now c.facts.ensures.arena c.requires.kept) c.requires.kept.ready
+    (none_here c.args.arena.now c.args.operation c.args.task.now c.args.prepared c.args.walk.now c.args.splits.now c.facts.ensures.arena c.requires.kept) c.requires.kept.ready.row c.requires.kept.ready.write
     (c.split_border.ensures.contents c.args.task.now.key _ _ refl may (ap (λ (e : Entry). e.held) (made_entry c.args.task.now.key c.args.walk.now.layer _ _ _ _ _ c.new_entry-entry.ensures c.into_pair-pair.ensures.pair))) (c.push_write.ensures ∙ ap (λ (e : Write). pushed c.args.tape.now (record e { step = c.args.step })) c.into_pair-pair.ensures.write)

@@ -22,7 +22,7 @@ returns c = record {
   places = let kept = c.requires.kept in
       let before = row_here c.args.arena.now c.args.operation c.args.task.now.key c.args.walk.now c.facts.ensures.arena kept.holds c.args.walk.now.slot kept.pair kept.in_slot kept.stable in
       let may = may_store c.args.arena.now c.args.operation c.args.task.now.key c.args.walk.now c.facts.ensures.arena kept.holds c.args.walk.now.slot kept.pair kept.in_slot kept.stable in
-      places c.args.task.now c.args.step c.args.arena.now c.store-before.new.self c.args.tape.now c.push_write.new.tape (Some kept.pair.row) c.args.prepared c.requires.put before kept.ready
+      places c.args.task.now c.args.step c.args.arena.now c.store-before.new.self c.args.tape.now c.push_write.new.tape (Some kept.pair.row) c.args.prepared c.requires.put before kept.ready.row kept.ready.write
       (c.store-before.ensures.contents c.args.task.now.key kept.pair may ∙ ap (λ row. insert (content_of c.args.arena.now) (owned c.args.task.now.key) row) c.into_row-row.ensures.row)
       (c.push_write.ensures ∙ ap (λ (e : Write). pushed c.args.tape.now (record e { step = c.args.step })) c.into_row-row.ensures.write);
   walk = search rules;

@@ -3,9 +3,8 @@ use Rattle.std.proofs.Common.{rules, ℕ, sym, ap, subst, ◌∙◌}
 use Rattle.mt_rows.specs.Rows.{Bytes}
 use Rattle.mt_border.specs.{declared.entry.Entry.Entry, Entries.without}
 use Rattle.mt_tape.specs.declared.entry.Entry.{Entry as Write}
-use Rattle.mt_arena.specs.{Edits.with_slots, Arena.{ArenaView, content_of}, Accesses.{at, with_node}}
+use Rattle.mt_arena.specs.{Edits.{with_slots, cells_without}, Arena.{ArenaView, content_of}, Accesses.{at, with_node}}
 use Rattle.mt_operation.specs.{declared.removal.Removal.Removal, declared.walk.Walk.Walk}
-use Rattle.mt_order.specs.Places.{order_without}
 use Rattle.mt_descent.specs.{KeptWalks.walk_place, WalkMoves.Continues}
 use Rattle.mt_held.{specs.{Holds.HoldsOnly, Taping.pushed, Moves.walk_at}, proofs.Places.{row_here, may_store}}
 use Rattle.mt_remove.specs.KeptRemovals.{IsEmptyChild, IsUnburdened, KeptRemoval}
@@ -13,15 +12,15 @@ use Rattle.mt_remove.proofs.{Dropping.{dropped_kept, dropped_only}, GoingOn.{emp
 use Rattle.std.specs.FinMap as finite
 use Rattle.mt_remove.proofs.phases.drop_key.drop_key.Goals as goal
 
-pub drop_key-requires : goal.drop_key-requires
-drop_key-requires c =
+pub let_go-requires : goal.let_go-requires
+let_go-requires c =
     let kept = c.requires.kept in
     record { may = (c.args.task.now.key, kept.pair, may_store c.args.arena.now c.args.operation c.args.task.now.key c.args.walk.now c.facts.ensures.arena kept.holds c.args.walk.now.slot kept.pair kept.in_slot kept.stable) }
 
 pub returns : goal.returns
 returns c =
     let v = c.args.arena.now in
-    let u = c.drop_key.new.self in
+    let u = c.let_go.new.self in
     let o = c.args.operation in
     let key = c.args.task.now.key in
     let w = c.args.walk.now in
@@ -31,7 +30,7 @@ returns c =
     let t = c.go_on_emptied.new.removal in
     let arena = c.facts.ensures.arena in
     let kept = c.requires.kept in
-    let is = c.drop_key.ensures.is ∙ ap (λ (e : Entry). with_node v k (with_slots (at v k) (without (at v k).slots e) (order_without (at v k).order (walk_place v w)))) c.drop_key.ensures.before in
+    let is = c.let_go.ensures.is in
     let goes = c.go_on_emptied.ensures in
     let walk = emptied_walk u w after r t goes in
     let free : IsUnburdened t = record {
@@ -44,15 +43,15 @@ returns c =
       row = kept.pair.row;
       places = record {
         was_there = row_here v o key w arena kept.holds w.slot kept.pair kept.in_slot kept.stable;
-        contents = c.drop_key.ensures.contents key kept.pair (may_store v o key w arena kept.holds w.slot kept.pair kept.in_slot kept.stable)
+        contents = c.let_go.ensures.contents key kept.pair (may_store v o key w arena kept.holds w.slot kept.pair kept.in_slot kept.stable)
             ∙ ap (λ (q : ℕ × Bytes). finite.remove (content_of v) q) c.requires.removal.owner;
-        tape_is = c.push_write.ensures ∙ ap (λ (e : Write). pushed c.args.tape.now (record e { step = c.args.step })) (c.into_row-write.ensures.write ∙ kept.ready);
+        tape_is = c.push_write.ensures ∙ ap (λ (e : Write). pushed c.args.tape.now (record e { step = c.args.step })) (c.into_write.ensures ∙ kept.ready);
       };
       count = c.count_removed.ensures.counted;
       others = c.count_removed.ensures.others;
       goes = goes;
       same = subst (λ (x : Walk). Continues w x) (sym walk) (search rules);
-      guarantee = c.drop_key.ensures.step;
+      guarantee = c.let_go.ensures.step;
       kept = subst (λ (x : Walk). KeptRemoval after.phase u o key x t) (sym walk)
           (subst (λ (a : ArenaView). KeptRemoval after.phase a o key (walk_at after.phase w) t) (sym is)
           (dropped_kept v o (walk_place v w) key w arena kept.holds t free after.phase (emptied_either u w after r t goes)
