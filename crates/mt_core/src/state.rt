@@ -156,10 +156,12 @@ impl State {
         shape_of(alloc, &self.inner.arena)
     }
 
-    /// How many steps were made.
+    /// How many steps were made, at most 2 to the 59th.
     pub fn steps(&self) -> u64
-        ensures { result ≡ self.now.steps }
+        ensures value { result ≡ self.now.steps }
+        ensures few { result ≤ 2 ^ 59 }
     {
+        self.inner.kept();
         self.inner.steps
     }
 

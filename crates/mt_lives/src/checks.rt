@@ -18,7 +18,6 @@ use crate::events::StoreNote;
 use crate::live_slots::{Check, CheckStage, LiveSlots};
 use crate::operations::core;
 use crate::serving::Serving;
-use mt_core::MAX_STEPS;
 use mt_disk::{DeviceFailed, MemDisk};
 use mt_pages::PageWalk;
 use mt_rows::{Refusal, Reply, TenantPair, Tenants};
@@ -181,13 +180,6 @@ fn begin_scan(
         }
         None => {
             let last = serving.state.steps();
-            // Steps have no greater numbers.
-            if last > MAX_STEPS {
-                return Ok((
-                    LiveSlots::Rest(writing.give_up()),
-                    StoreNote::Refused(Refusal::Memory),
-                ));
-            }
             Ok(end(writing, walk, last))
         }
     }

@@ -9,7 +9,7 @@ returns-then-steps-ge-MAX_STEPS c = record {
   steps = c.loop-stop.invariant.0;
   mid = c.loop-stop.state;
   walks = c.loop-stop.invariant.1;
-  ends = (refl, omega (arith, c.steps.ensures, c.if-steps-ge-MAX_STEPS.true));
+  ends = (refl, omega (arith, c.steps.ensures.value, c.if-steps-ge-MAX_STEPS.true));
 }
 
 pub returns-then-ne : goal.returns-then-ne

@@ -11,7 +11,7 @@ pub returns-in-Rest-clause-goes : goal.returns-in-Rest-clause-goes
 returns-in-Rest-clause-goes c = λ logs.
     subst (λ (s : Option Serving). GoesOn c.args.tenants.now c.args.slots.now c.begun-now.result.0 CheckBegin c.begun-now.result.1 logs s logs s) (sym c.in-Some.is)
     (subst (λ (ss : LiveSlots). GoesOn c.args.tenants.now ss c.begun-now.result.0 CheckBegin c.begun-now.result.1 logs (Some c.in-Some.serving) logs (Some c.in-Some.serving)) (sym c.in-Rest.is ∙ c.replace.ensures.value)
-    (c.begun-now.ensures.goes logs c.in-Some.serving (sym c.steps-steps.ensures)))
+    (c.begun-now.ensures.goes logs c.in-Some.serving (sym c.steps-steps.ensures.value)))
 
 pub returns-in-Writes-clause-goes : goal.returns-in-Writes-clause-goes
 returns-in-Writes-clause-goes c = λ logs.

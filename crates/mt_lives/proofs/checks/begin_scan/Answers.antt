@@ -24,11 +24,6 @@ returns-in_ok-told-in-Some-clause-goes c = λ accounts logs standing h.
     begin_goes_on accounts standing logs c.args.serving.now c.args.writing c.args.walk h c.core.new.serving _ c.in-Some.tenant c.in-Some.command (sym c.in-Some.is ∙ c.in-Ok.ensures) c.in_ok-told-in-Some.told
     c.in_ok-told-in-Some.ensures.tells c.after_begin-slots.result c.after_begin-slots.ensures
 
-pub returns-then-last-gt-MAX_STEPS-clause-goes : goal.returns-then-last-gt-MAX_STEPS-clause-goes
-returns-then-last-gt-MAX_STEPS-clause-goes c = λ accounts logs standing h.
-    subst (λ (ss : StoreSlots MemDisk). Goes accounts standing logs c.args.serving.now CheckStep (Refused Memory) (Rest ss) c.args.serving.now) (sym c.give_up-then-last-gt-MAX_STEPS.ensures)
-    (given_so accounts standing logs c.args.serving.now c.args.writing c.args.walk Begins h Memory (inl refl))
-
-pub returns-else-last-gt-MAX_STEPS-clause-goes : goal.returns-else-last-gt-MAX_STEPS-clause-goes
-returns-else-last-gt-MAX_STEPS-clause-goes c = λ accounts logs standing h.
-    c.end.ensures.goes accounts logs c.args.serving.now (sym c.steps-last.ensures) (none_is c.args.walk.tenants.items c.args.walk.place c.args.walk.from c.args.walk.after (sym c.in-None.is ∙ c.in-Ok.ensures)) standing h
+pub returns-in-None-clause-goes : goal.returns-in-None-clause-goes
+returns-in-None-clause-goes c = λ accounts logs standing h.
+    c.end.ensures.goes accounts logs c.args.serving.now (sym c.steps-last.ensures.value) (none_is c.args.walk.tenants.items c.args.walk.place c.args.walk.from c.args.walk.after (sym c.in-None.is ∙ c.in-Ok.ensures)) standing h

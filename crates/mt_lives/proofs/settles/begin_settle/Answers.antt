@@ -9,7 +9,7 @@ returns c =
     record {
       goes = λ accounts slots logs standing h.
           begins accounts slots standing logs c.args.serving.now h now refl refl c.args.id settle
-          (no_entry _ (sym c.contains_key.ensures ∙ c.if-contains_key.false)) c.steps-begun.ensures refl (search rules) c.in_ok-insert.ensures.updates;
+          (no_entry _ (sym c.contains_key.ensures ∙ c.if-contains_key.false)) c.steps-begun.ensures.value refl (search rules) c.in_ok-insert.ensures.updates;
     }
 
 pub returns-then-contains_key : goal.returns-then-contains_key

@@ -37,7 +37,7 @@ returns-in-Ok-clause-goes c = λ accounts slots standing h.
     (slice_get-get_or logs place c.index-logs-from.result (omega (arith, c.from.ensures, next_within accounts slots standing logs was h was refl refl c.args.id settle there))) in
     subst (λ k. Goes accounts slots standing logs was h (SettleNext c.args.id) c.turned.result (slice_set logs k new) c.turned.new.serving) (sym c.from.ensures)
     (settle_goes accounts slots standing logs was h settle.next log new here now c.args.id settle there refl c.turned.new.serving c.turned.ensures.state c.turned.ensures.roster c.in-Ok.mark
-    (subst (λ n. BringsUp keeps_rules mem_state failures_of DrainsServing settle.next n c.in-Ok.mark log new was now) c.steps-steps.ensures c.in-Ok.ensures.ok) c.turned.result
+    (subst (λ n. BringsUp keeps_rules mem_state failures_of DrainsServing settle.next n c.in-Ok.mark log new was now) c.steps-steps.ensures.value c.in-Ok.ensures.ok) c.turned.result
     (subst (λ k. Turns (length (slice_set logs k new)) c.args.id settle c.in-Ok.mark now.settles c.turned.new.serving.settles c.turned.result) c.from.ensures c.turned.ensures.turns))
 
 pub returns-in-Err-clause-goes : goal.returns-in-Err-clause-goes
@@ -55,7 +55,7 @@ returns-in-Err-clause-goes c = λ accounts slots standing h.
     (slice_get-get_or logs place c.index-logs-from.result (omega (arith, c.from.ensures, next_within accounts slots standing logs was h was refl refl c.args.id settle there))) in
     subst (λ k. Goes accounts slots standing logs was h (SettleNext c.args.id) (Refused c.in-Err.refusal) (slice_set logs k new) end) (sym c.from.ensures)
     (settle_stops accounts slots standing logs was h settle.next log new here now c.args.id settle there refl end refl refl c.in-Err.refusal
-    (subst (λ n. FailsToBringUp keeps_rules mem_state failures_of DrainsServing settle.next n c.in-Err.refusal log new was now) c.steps-steps.ensures c.in-Err.ensures.err) c.remove.ensures.updates)
+    (subst (λ n. FailsToBringUp keeps_rules mem_state failures_of DrainsServing settle.next n c.in-Err.refusal log new was now) c.steps-steps.ensures.value c.in-Err.ensures.err) c.remove.ensures.updates)
 
 pub returns-in-Ok-clause-forced : goal.returns-in-Ok-clause-forced
 returns-in-Ok-clause-forced c = λ accounts.

@@ -16,7 +16,7 @@ bring_up-requires g c =
     let whose : before.worker ≡ place = c.args.self.now.order place before there in
     let all = c.args.self.now.all in
     let len = c.args.self.now.logs.ok.0 in
-    (omega (arith, whose, within, all, len), omega (arith, c.steps-steps.ensures))
+    (omega (arith, whose, within, all, len), omega (arith, c.steps-steps.ensures.value))
 
 pub returns-clause-whose : goal.returns-clause-whose
 returns-clause-whose g c =
@@ -42,8 +42,8 @@ returns-clause-does g c =
     subst (λ k. DoesStore g.D.Disk.is_honest g.D.Disk.state g.D.Disk.failures (BroughtUp c.args.log (mark_told r)) was logs is (slice_set logs k after)) (sym c.from.ensures)
     (turned g.D.Disk.is_honest g.D.Disk.state g.D.Disk.failures c.args.log before.worker r was is logs before after
     (subst (λ k. slice_get logs k ≡ Some before) c.from.ensures there) whose
-    (subst (λ n. IfOk r (λ f. BringsUp g.D.Disk.is_honest g.D.Disk.state g.D.Disk.failures gives_own before.worker n f.mark before after was is)) c.steps-steps.ensures c.bring_up.ensures.ok)
-    (subst (λ n. IfErr r (λ e. FailsToBringUp g.D.Disk.is_honest g.D.Disk.state g.D.Disk.failures gives_own before.worker n e before after was is)) c.steps-steps.ensures c.bring_up.ensures.err))
+    (subst (λ n. IfOk r (λ f. BringsUp g.D.Disk.is_honest g.D.Disk.state g.D.Disk.failures gives_own before.worker n f.mark before after was is)) c.steps-steps.ensures.value c.bring_up.ensures.ok)
+    (subst (λ n. IfErr r (λ e. FailsToBringUp g.D.Disk.is_honest g.D.Disk.state g.D.Disk.failures gives_own before.worker n e before after was is)) c.steps-steps.ensures.value c.bring_up.ensures.err))
 
 pub invariant_of-self : goal.invariant_of-self
 invariant_of-self g c =
