@@ -37,7 +37,6 @@ use std::marker::Model;
 /// All nodes and trees.
 #[derive(Drop)]
 pub struct Arena {
-    pub(crate) alloc: Global,
     pub(crate) nodes: Vec<Node>,
     pub(crate) trees: Vec<Tree>,
     pub(crate) retired: Vec<Retired>,
@@ -60,7 +59,7 @@ impl Arena {
         ensures { IfOk result (λ arena. arena ≡ new_arena) }
     {
         let mut nodes = Vec::new(alloc);
-        nodes.push(Node::root(alloc, 0))?;
+        nodes.push(Node::root(0))?;
         let mut trees = Vec::new(alloc);
         trees.push(Tree {
             prefix: Prefix::new(Vec::new(alloc)),
@@ -70,7 +69,6 @@ impl Arena {
         let mut retired = Vec::new(alloc);
         retired.reserve(1)?;
         Ok(Arena {
-            alloc,
             nodes,
             trees,
             retired,
@@ -279,7 +277,7 @@ impl Arena {
     {
         make_room(&mut self.nodes, &mut self.trees, &mut self.retired)?;
         let number = self.nodes.len();
-        let half = self.nodes[left].half(self.alloc, left, low, operation);
+        let half = self.nodes[left].half(left, low, operation);
         self.nodes[left].mark_splitting();
         self.nodes.push_reserved(half);
         Ok(number)

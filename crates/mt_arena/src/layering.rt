@@ -15,7 +15,7 @@ use crate::arena::{Arena, make_room};
 use crate::node::{Node, NodeKind};
 use crate::tree::{Prefix, Standing, Tree};
 use mt_border::{Entry, Pair};
-use std::alloc::{AllocError, Global};
+use std::alloc::AllocError;
 
 impl Arena {
     /// A tree for keys that begin with these bytes, which the operation begins to make: its root is a
@@ -41,8 +41,7 @@ impl Arena {
             root,
             standing: Standing::Made { by: operation },
         });
-        self.nodes
-            .push_reserved(Node::root_of(self.alloc, number, entry));
+        self.nodes.push_reserved(Node::root_of(number, entry));
         Ok(number)
     }
 
@@ -87,11 +86,11 @@ impl Arena {
 
 impl Node {
     /// The first node of a tree, with one entry.
-    pub(crate) fn root_of(alloc: Global, tree: usize, entry: Entry) -> Self
+    pub(crate) fn root_of(tree: usize, entry: Entry) -> Self
         requires { IsEntry entry }
         ensures { result ≡ root_of tree entry }
     {
-        let mut root = Node::root(alloc, tree);
+        let mut root = Node::root(tree);
         match &mut root.kind {
             NodeKind::Leaf(border) => border.publish(entry),
             NodeKind::Inner(_) => unreachable!(),

@@ -14,7 +14,6 @@ use mt_interior::Interior;
 use mt_rows::Row;
 use mt_slices::Mark;
 use mt_version::Version;
-use std::alloc::Global;
 use std::marker::Model;
 
 /// The two kinds of node.
@@ -57,11 +56,11 @@ impl Node {
     ghost use Rattle.mt_slices.specs.Marks.{IsMark};
 
     /// The first node of a tree.
-    pub(crate) fn root(alloc: Global, tree: usize) -> Self
+    pub(crate) fn root(tree: usize) -> Self
         ensures { result ≡ fresh_root tree }
     {
         Node {
-            kind: NodeKind::Leaf(Border::new(alloc, 0, None, Version::root_border())),
+            kind: NodeKind::Leaf(Border::new(0, None, Version::root_border())),
             tree,
             level: 0,
             reach: None,
@@ -71,12 +70,12 @@ impl Node {
 
     /// A border node without range, which an operation holds, to the right of one that it splits: the
     /// node of the number `left`, which is this one.
-    pub(crate) fn half(&self, alloc: Global, left: usize, low: u64, operation: usize) -> Self
+    pub(crate) fn half(&self, left: usize, low: u64, operation: usize) -> Self
         requires border { self.now.level ≡ 0 }
         ensures { result ≡ fresh_half self.now left low operation }
     {
         let version = Version::child_border().locked().marked_splitting();
-        let mut half = Border::new(alloc, low, Some(low), version);
+        let mut half = Border::new(low, Some(low), version);
         half.set_previous(Some(left));
         Node {
             kind: NodeKind::Leaf(half),

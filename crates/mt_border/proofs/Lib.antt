@@ -1,3 +1,4 @@
+pub mod Ranks
 pub mod Orders
 pub mod Edits
 pub mod RowEdits

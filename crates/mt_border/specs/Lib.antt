@@ -1,3 +1,5 @@
+pub mod Ranks
+pub mod Suffixes
 pub mod Held
 pub mod HeldParts
 pub mod Entry

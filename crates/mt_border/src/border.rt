@@ -23,8 +23,8 @@ use crate::split::separator_of;
 use mt_rows::Row;
 use mt_slices::Mark;
 use mt_version::Version;
-use std::alloc::Global;
 use std::marker::Model;
+use std::mem::size_of;
 
 /// The number of slots of a border node.
 pub const SLOTS: usize = 15;
@@ -42,6 +42,9 @@ pub struct Border {
     low: u64,
     high: Option<u64>,
 }
+
+// What a store takes is mostly its nodes and its pairs.
+const _: () = prove!(size_of::<Border>() == 512);
 
 impl Model for Border {
     ghost use Rattle.mt_border.specs.Node.{Node, IsNodeSlots};
@@ -70,12 +73,12 @@ impl Border {
     ghost use Rattle.mt_order.specs.Places.{order_with, order_without, word_of, IsPlaces};
 
     /// A node without keys, neighbours and parent.
-    pub fn new(alloc: Global, low: u64, high: Option<u64>, version: Version) -> Self
+    pub fn new(low: u64, high: Option<u64>, version: Version) -> Self
         ensures { result ≡ empty_node low high version }
     {
         Border {
             version,
-            slots: Slots::new(alloc),
+            slots: Slots::new(),
             next: None,
             previous: None,
             parent: None,

@@ -6,39 +6,13 @@
 
 ghost use Rattle.std.specs.{Prelude.{◌≡◌, ℕ, IfOk}, Option.option_map};
 
+use crate::suffix::Suffix;
 use mt_rows::Row;
 use mt_slices::Mark;
 use std::alloc::{AllocError, Global};
 use std::marker::Model;
 use std::mem;
-
-/// The bytes of a key behind its slice; none, where the key ends in it.
-#[derive(Debug, Drop)]
-pub struct Suffix {
-    bytes: Vec<u8>,
-}
-
-impl Model for Suffix {
-    ghost use Rattle.std.specs.Prelude.{List, ℕ};
-
-    ghost Value = { List ℕ };
-
-    ghost view = { λ s. s.bytes.items };
-}
-
-impl Suffix {
-    pub fn new(bytes: Vec<u8>) -> Self
-        ensures { result ≡ bytes.items }
-    {
-        Suffix { bytes }
-    }
-
-    pub fn as_bytes(&self) -> &[u8]
-        ensures { result.now ≡ self.now }
-    {
-        &self.bytes
-    }
-}
+use std::mem::size_of;
 
 /// A key's suffix and its row, with the number of the step that placed the row, in a block of their own.
 #[derive(Debug, Drop)]
@@ -65,6 +39,9 @@ pub struct PairParts {
     pub suffix: Suffix,
     pub tree: Option<usize>,
 }
+
+// A block of 72 bytes is the largest that a common allocator serves from its class of 80.
+const _: () = prove!(size_of::<PairParts>() == 72);
 
 impl Pair {
     ghost use Rattle.mt_border.specs.HeldParts.{pair_in_parts};
@@ -160,43 +137,6 @@ pub struct EntryRef<'a> {
     pub slice: u64,
     pub mark: Mark,
     pub held: &'a Held,
-}
-
-/// The mark of a slot.
-#[derive(Clone, Copy, Debug)]
-pub(crate) struct SlotMark {
-    mark: Mark,
-}
-
-impl Model for SlotMark {
-    ghost use Rattle.mt_slices.specs.declared.mark.Mark.{Mark};
-
-    ghost Value = { Mark };
-
-    ghost view = { λ m. m.mark };
-
-    ghost inverse = { λ mark. record { mark = mark } };
-}
-
-impl SlotMark {
-    pub(crate) fn new(mark: Mark) -> Self
-        ensures { result ≡ mark }
-    {
-        SlotMark { mark }
-    }
-
-    pub(crate) fn get(self) -> Mark
-        ensures { result ≡ self }
-    {
-        self.mark
-    }
-}
-
-// What lies in the places that no slot uses. No contract sees it.
-impl Default for SlotMark {
-    fn default() -> SlotMark {
-        SlotMark { mark: Mark::Long }
-    }
 }
 
 /// What the slot with a key's slice and mark holds of that key.

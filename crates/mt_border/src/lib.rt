@@ -16,10 +16,13 @@ pub mod entry;
 mod iter;
 pub mod keeping;
 pub mod laws;
+mod marks;
 mod places;
 mod slots;
 mod split;
+pub mod suffix;
 
 pub use border::{Border, SLOTS};
-pub use entry::{Entry, EntryRef, Find, FoundKind, Held, HeldRef, Pair, PairParts, Suffix};
+pub use entry::{Entry, EntryRef, Find, FoundKind, Held, HeldRef, Pair, PairParts};
 pub use iter::Entries;
+pub use suffix::Suffix;

@@ -15,9 +15,8 @@ pub(crate) fn place_of(slots: &Slots, slice: u64, mark: Mark) -> usize
     ensures within { result ≤ length (listed slots.now) }
 {
     let slices = slots.slices();
-    let marks = slots.marks();
     for place in slots.count_below(slice)..slices.len() {
-        if slices[place] != slice || !marks[place].get().is_before(mark) {
+        if slices[place] != slice || !slots.mark(place).is_before(mark) {
             return place;
         }
     }
@@ -31,12 +30,11 @@ pub(crate) fn search(slots: &Slots, slice: u64, mark: Mark) -> Option<usize>
     ensures missing { IfNone result (IsMissing (listed slots.now) slice mark) }
 {
     let slices = slots.slices();
-    let marks = slots.marks();
     for place in slots.count_below(slice)..slices.len() {
         if slices[place] != slice {
             return None;
         }
-        if marks[place].get() == mark {
+        if slots.mark(place) == mark {
             return Some(place);
         }
     }

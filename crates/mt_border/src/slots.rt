@@ -11,17 +11,15 @@
 ghost use Rattle.std.specs.Prelude.{◌≡◌, ◌<◌, ◌≤◌, [], length, take, drop, insert, remove, slice_get, slice_index, slice_index_or, slice_set, count_by, nat_lt, map, true, IfSome, IfNone};
 ghost use Rattle.std.specs.Option.{option_map};
 ghost use Rattle.mt_lists.specs.Rising.{NeverFalls};
-ghost use Rattle.arrayvec.specs.ArrayVec.{array_vec_len};
+ghost use Rattle.mt_slices.specs.Marks.{IsMark};
 ghost use Rattle.mt_border.specs.Restamps.{stamped};
 
 use crate::border::SLOTS;
-use crate::entry::{Entry, EntryRef, Held, SlotMark};
-use arrayvec::ArrayVec;
+use crate::entry::{Entry, EntryRef, Held};
+use crate::marks::MarkList;
 use mt_lists::padded::PaddedList;
 use mt_order::Order;
 use mt_slices::Mark;
-use std::alloc::Global;
-use std::default::MadeWith;
 use std::marker::Model;
 use std::mem;
 
@@ -31,7 +29,7 @@ use std::mem;
 pub(crate) struct Slots {
     slices: PaddedList,
     order: Order,
-    marks: ArrayVec<SlotMark, SLOTS, Global>,
+    marks: MarkList,
     dropped: [bool; SLOTS],
     pub(crate) helds: [Held; SLOTS],
 }
@@ -41,9 +39,9 @@ impl Model for Slots {
 
     ghost Value = { Slotted };
 
-    ghost view = { λ s. slots_in s.slices s.marks.items s.helds s.dropped s.order };
+    ghost view = { λ s. slots_in s.slices s.marks s.helds s.dropped s.order };
 
-    ghost invariant = { λ s. IsSlotted (slots_in s.slices s.marks.items s.helds s.dropped s.order) };
+    ghost invariant = { λ s. IsSlotted (slots_in s.slices s.marks s.helds s.dropped s.order) };
 }
 
 impl Slots {
@@ -51,13 +49,13 @@ impl Slots {
     ghost use Rattle.mt_border.specs.Slots.{IsSlotted, held_in, next_free, is_dropped, fresh_slots, listed};
     ghost use Rattle.mt_order.specs.Places.{place_of_slot, order_with, order_without, word_of};
 
-    pub(crate) fn new(alloc: Global) -> Self
+    pub(crate) fn new() -> Self
         ensures { result ≡ fresh_slots }
     {
         Slots {
             slices: PaddedList::new(),
             order: Order::new(),
-            marks: ArrayVec::new_in(alloc),
+            marks: MarkList::new(),
             dropped: [false; SLOTS],
             helds: [
                 Held::link(0),
@@ -103,11 +101,14 @@ impl Slots {
         self.slices.count_below(slice)
     }
 
-    /// The marks in the order of keys.
-    pub(crate) fn marks(&self) -> &[SlotMark]
-        ensures { result.now ≡ marks (listed self.now) }
+    /// The mark at a place of the order.
+    #[inline(always)]
+    pub(crate) fn mark(&self, place: usize) -> Mark
+        requires { place < length (listed self.now) }
+        ensures value { result ≡ slice_index_or (marks (listed self.now)) place result }
+        ensures sound { IsMark result }
     {
-        &self.marks
+        self.marks.get(place)
     }
 
     /// The slot at a place of the order.
@@ -135,7 +136,7 @@ impl Slots {
         let slot = self.order.slot(place);
         EntryRef {
             slice: self.slices.as_slice()[place],
-            mark: self.marks[place].get(),
+            mark: self.marks.get(place),
             held: &self.helds[slot],
         }
     }
@@ -199,6 +200,7 @@ impl Slots {
     pub(crate) fn publish_at(&mut self, place: usize, slice: u64, mark: Mark, stamp: u64)
         requires in_bounds { place ≤ length (listed self.old) }
         requires room { length (listed self.old) < SLOTS }
+        requires mark { IsMark mark }
         ensures entries { listed self.new ≡ insert (listed self.old) place
             (record { slice = slice; mark = mark; held = stamped stamp (held_in self.old.helds (next_free self.old)) }) }
         ensures slots { self.new ≡ record self.old {
@@ -210,7 +212,7 @@ impl Slots {
         ensures slotted { IsSlotted self.new }
     {
         self.slices.insert(place, slice);
-        self.marks.insert(place, SlotMark::new(mark));
+        self.marks.insert(place, mark);
         let slot = self.order.insert(place);
         self.helds[slot].restamp(stamp);
     }
@@ -237,6 +239,7 @@ impl Slots {
     pub(crate) fn insert(&mut self, place: usize, entry: Entry)
         requires in_bounds { place ≤ length (listed self.old) }
         requires room { length (listed self.old) < SLOTS }
+        requires mark { IsMark entry.mark }
         ensures entries { listed self.new ≡ insert (listed self.old) place entry }
         ensures slots { self.new ≡ record self.old {
           slices = insert self.old.slices place entry.slice;
@@ -247,7 +250,7 @@ impl Slots {
         ensures slotted { IsSlotted self.new }
     {
         self.slices.insert(place, entry.slice);
-        self.marks.insert(place, SlotMark::new(entry.mark));
+        self.marks.insert(place, entry.mark);
         let slot = self.order.insert(place);
         self.helds[slot] = entry.held;
     }
@@ -256,12 +259,13 @@ impl Slots {
     pub(crate) fn remove(&mut self, place: usize) -> Entry
         requires { place < length (listed self.old) }
         ensures value { result ≡ slice_index_or (listed self.old) place result }
+        ensures mark { IsMark result.mark }
         ensures entries { listed self.new ≡ remove (listed self.old) place }
         ensures order { self.new.order ≡ order_without self.old.order place }
         ensures slotted { IsSlotted self.new }
     {
         let slice = self.slices.remove(place);
-        let mark = self.marks.remove(place).get();
+        let mark = self.marks.remove(place);
         let slot = self.order.remove(place);
         self.dropped[slot] = true;
         let held = mem::replace(&mut self.helds[slot], Held::link(0));

@@ -78,7 +78,7 @@ fn prepared_over(
     ensures { IfOk result (λ prepared. IsReady task.now (option_map (λ pair. pair.row) (pair_of (entry_at border.now slot).held)) prepared) }
 {
     let before = row_at(border, slot)?;
-    prepared(alloc, task, before, Suffix::new(Vec::new(alloc)))
+    prepared(alloc, task, before, Suffix::empty())
 }
 
 // What is made ready where the key is missing.
@@ -88,7 +88,7 @@ fn prepared_new(alloc: Global, task: &Task, layer: usize) -> Result<Prepared, Al
     ensures suffix { IfOk result (λ prepared. prepared.suffix ≡ suffix_of task.now.key layer) }
     ensures ready { IfOk result (λ prepared. IsReady task.now None prepared) }
 {
-    let suffix = Suffix::new(Vec::from_slice(alloc, task.key.suffix(layer))?);
+    let suffix = Suffix::from_slice(alloc, task.key.suffix(layer))?;
     prepared(alloc, task, None, suffix)
 }
 

@@ -39,7 +39,7 @@ fn entry_of(alloc: Global, pair: &PairParts) -> Result<Entry, AllocError>
     ensures { IfOk result (λ entry. entry ≡ entry_below (pair_in_parts pair.now)) }
 {
     let rest = pair.suffix.as_bytes();
-    let suffix = Suffix::new(Vec::from_slice(alloc, rest_behind(rest))?);
+    let suffix = Suffix::from_slice(alloc, rest_behind(rest))?;
     let row = pair.row.share()?;
     Ok(Entry {
         slice: slice_at(rest),

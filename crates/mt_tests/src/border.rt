@@ -19,7 +19,7 @@ fn put(rt: &impl Abort, alloc: Global, border: &mut Border, mark: Mark, bytes: &
     let slice = 9;
     assert!(rt; !border.is_full());
     if let Find::Missing = border.find(slice, mark, bytes) {
-        let suffix = Suffix::new(Vec::from_slice(alloc, bytes).expect(rt, "memory"));
+        let suffix = Suffix::from_slice(alloc, bytes).expect(rt, "memory");
         let (row, stamp) = (row_of(rt, alloc, b"v"), 1);
         let held = Held::stable(Pair::new(alloc, suffix, row, stamp).expect(rt, "memory"));
         border.publish(Entry { slice, mark, held });
@@ -108,7 +108,7 @@ fn give_way(rt: &impl Abort, alloc: Global, border: &mut Border) {
 
 #[test]
 fn keys_of_one_slice_are_told_apart(rt: HostRuntime) {
-    let mut border = Border::new(rt.alloc(), 0, None, Version::root_border());
+    let mut border = Border::new(0, None, Version::root_border());
     put_both(&rt, rt.alloc(), &mut border);
     give_way(&rt, rt.alloc(), &mut border);
 }
@@ -122,7 +122,7 @@ fn tells_fields(rt: &impl Abort, border: &Border) {
 
 #[test]
 fn a_node_tells_what_was_set(rt: HostRuntime) {
-    let mut border = Border::new(rt.alloc(), 3, None, Version::root_border());
+    let mut border = Border::new(3, None, Version::root_border());
     border.set_previous(Some(1));
     border.set_next(Some(2));
     border.set_parent(Some(4));

@@ -44,7 +44,7 @@ pub fn entry_of(rt: &impl Abort, alloc: Global, key: &StoredKey) -> Entry
 {
     suffix_fits_mark();
     assert!(rt; !key.as_bytes().is_empty());
-    let suffix = Suffix::new(Vec::from_slice(alloc, key.suffix(0)).expect(rt, "memory"));
+    let suffix = Suffix::from_slice(alloc, key.suffix(0)).expect(rt, "memory");
     let (row, stamp) = (row_of(rt, alloc, b""), 6);
     let (slice, mark) = (key.slice(0), key.mark(0));
     let held = Held::stable(Pair::new(alloc, suffix, row, stamp).expect(rt, "memory"));

@@ -21,7 +21,7 @@ fn entry_below(rt: &impl Abort, alloc: Global, key: &StoredKey, row: Row, stamp:
     requires { 8 < length key.now }
     ensures { result ≡ entry_in key.now 1 row stamp }
 {
-    let suffix = Suffix::new(Vec::from_slice(alloc, key.suffix(1)).expect(rt, "memory"));
+    let suffix = Suffix::from_slice(alloc, key.suffix(1)).expect(rt, "memory");
     let (slice, mark) = (key.slice(1), key.mark(1));
     let held = Held::stable(Pair::new(alloc, suffix, row, stamp).expect(rt, "memory"));
     Entry { slice, mark, held }

@@ -136,7 +136,7 @@ fn prepared(
         before: Some(row.share()?),
         after: None,
     };
-    Prepared::new(alloc, Suffix::new(Vec::new(alloc)), row, write)
+    Prepared::new(alloc, Suffix::empty(), row, write)
 }
 
 // The row of a slot that has a pair, shared.

@@ -1,7 +1,7 @@
 -- the first entry that is not before the key stands at its place
 use Rattle.std.proofs.{Common.{refl, ◌<◌, length, arith, ap, below_more}, lemmas.Bool.Decides.nat_tests, lemmas.List.length-map}
 use Rattle.mt_border.specs.{declared.entry.Entry.Entry, Slots.listed}
-use Rattle.mt_border.proofs.{Edits.place_in-is, Cuts.marks_of, Counts.{slices_fall, slices_count, mark_read, lower_slices, other_slice, lower_mark, other_mark}}
+use Rattle.mt_border.proofs.{Edits.place_in-is, Counts.{slices_fall, slices_count, lower_slices, other_slice, lower_mark, other_mark}}
 use Rattle.mt_border.proofs.places.place_of.Goals.{then-slices-place-via-then-slices-place, then-slices-place-via-else-slices-place+then-not-is_before}
 use Rattle.mt_border.proofs.places.place_of.Goals as goal
 
@@ -18,12 +18,11 @@ loop-place-init c =
     let size = length-map es (λ (e : Entry). e.slice) in
     lower_slices es c.args.slice _ c.args.mark c.requires.border (omega (arith, count.within, size)) count.below
 
-pub is_before-requires-clause-this : goal.is_before-requires-clause-this
-is_before-requires-clause-this c =
+pub mark-requires : goal.mark-requires
+mark-requires c =
     let es = (listed c.args.slots.now) in
     let size = length-map es (λ (e : Entry). e.slice) in
-    let within : c.loop-place.place < length es = omega (arith, ap length c.slices-slices.ensures, c.loop-place-test.true, size) in
-    mark_read es c.loop-place.place c.get.result (marks_of es c.requires.border) within (rw (c.get.ensures, ← c.marks-marks.ensures) c.index-marks-place.is)
+    omega (arith, ap length c.slices-slices.ensures, c.loop-place-test.true, size)
 
 pub returns-then-slices-place-clause-place : goal.returns-then-slices-place-clause-place
 returns-then-slices-place-clause-place c =
@@ -35,7 +34,7 @@ returns-then-slices-place-clause-place c =
       | then-slices-place-via-then-slices-place w ↦
           other_slice es c.args.slice c.count_below-place.result c.loop-place.place c.args.mark c.requires.border c.requires.mark (λ lt. count.above (omega (arith, lt, size))) c.loop-place.auto.place within (rw (← c.slices-slices.ensures) w.if-slices-place.true)
       | then-slices-place-via-else-slices-place+then-not-is_before w ↦
-          other_mark es c.args.slice c.loop-place.place c.args.mark w.get.result within (rw (← c.slices-slices.ensures) w.if-slices-place.false) (rw (w.get.ensures, ← c.marks-marks.ensures) w.index-marks-place.is) (grind (arith, nat_tests))
+          other_mark es c.args.slice c.loop-place.place c.args.mark w.mark.result within (rw (← c.slices-slices.ensures) w.if-slices-place.false) w.mark.ensures.value (grind (arith, nat_tests))
     ])
 
 pub loop-place-preserved : goal.loop-place-preserved
@@ -43,7 +42,7 @@ loop-place-preserved c =
     let es = (listed c.args.slots.now) in
     let size = length-map es (λ (e : Entry). e.slice) in
     let within : c.loop-place.place < length es = omega (arith, ap length c.slices-slices.ensures, c.loop-place-test.true, size) in
-    below_more _ _ c.loop-place.invariant (lower_mark es c.args.slice c.loop-place.place c.args.mark c.get.result within (rw (← c.slices-slices.ensures) c.if-slices-place.false) (rw (c.get.ensures, ← c.marks-marks.ensures) c.index-marks-place.is) (grind (arith, nat_tests)))
+    below_more _ _ c.loop-place.invariant (lower_mark es c.args.slice c.loop-place.place c.args.mark c.mark.result within (rw (← c.slices-slices.ensures) c.if-slices-place.false) c.mark.ensures.value (grind (arith, nat_tests)))
 
 pub returns-clause-place : goal.returns-clause-place
 returns-clause-place c =

@@ -15,6 +15,12 @@ loop-place-init c =
     let es = (listed c.args.slots.now) in
     none_lower es c.args.slice c.count_below-place.result c.args.mark (slices_count es c.args.slice _ c.requires c.count_below-place.ensures).below
 
+pub mark-requires : goal.mark-requires
+mark-requires c =
+    let es = (listed c.args.slots.now) in
+    let size = length-map es (λ (e : Entry). e.slice) in
+    omega (arith, ap length c.slices-slices.ensures, c.loop-place-test.true, size)
+
 pub returns-then-slices-place-clause-missing : goal.returns-then-slices-place-clause-missing
 returns-then-slices-place-clause-missing c =
     let es = (listed c.args.slots.now) in
@@ -28,4 +34,4 @@ loop-place-preserved c =
     let es = (listed c.args.slots.now) in
     let size = length-map es (λ (e : Entry). e.slice) in
     let within : c.loop-place.place < length es = omega (arith, ap length c.slices-slices.ensures, c.loop-place-test.true, size) in
-    none_more es c.args.slice c.loop-place.place c.args.mark c.get.result c.loop-place.invariant within (rw (c.get.ensures, ← c.marks-marks.ensures) c.index-marks-place.is) (search rules)
+    none_more es c.args.slice c.loop-place.place c.args.mark c.mark.result c.loop-place.invariant within c.mark.ensures.value (search rules)

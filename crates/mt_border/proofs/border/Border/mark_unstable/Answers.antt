@@ -6,10 +6,10 @@ use Rattle.mt_border.proofs.Writes.{slot_within, slot_below, held_is, node_writt
 use Rattle.mt_border.proofs.border.Border.mark_unstable.Goals as goal
 
 -- the slot is live in the slots that are lent, and these are sound
-live : (c : goal.After-index-slots-slot) → place_of_slot c.slots.inside.order.live c.args.slot < length (entries_in (slots_in c.slots.inside.slices c.slots.inside.marks.items c.slots.inside.helds c.slots.inside.dropped c.slots.inside.order))
+live : (c : goal.After-index-slots-slot) → place_of_slot c.slots.inside.order.live c.args.slot < length (entries_in (slots_in c.slots.inside.slices c.slots.inside.marks c.slots.inside.helds c.slots.inside.dropped c.slots.inside.order))
 live c = rw (← c.self.view_is, ← c.slots.view_is) at c.requires.live
 
-sound : (c : goal.After-index-slots-slot) → IsNodeSlots (slots_in c.slots.inside.slices c.slots.inside.marks.items c.slots.inside.helds c.slots.inside.dropped c.slots.inside.order)
+sound : (c : goal.After-index-slots-slot) → IsNodeSlots (slots_in c.slots.inside.slices c.slots.inside.marks c.slots.inside.helds c.slots.inside.dropped c.slots.inside.order)
 sound c = rw (c.slots.view_is) c.self.invariant
 
 pub bounds-slots-inside-slot : goal.bounds-slots-inside-slot

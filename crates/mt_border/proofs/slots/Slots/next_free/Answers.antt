@@ -9,7 +9,7 @@ slot-requires c = omega (arith, c.requires, c.len.ensures.live, size-listed _ _ 
 pub returns-clause-value : goal.returns-clause-value
 returns-clause-value c =
     rw (← c.self.view_is)
-    (next_read (slots_in c.self.inside.slices c.self.inside.marks.items c.self.inside.helds c.self.inside.dropped c.self.inside.order) c.len.result c.slot.result c.len.ensures.live (c.slot.ensures.free (omega (arith, c.len.ensures.live))))
+    (next_read (slots_in c.self.inside.slices c.self.inside.marks c.self.inside.helds c.self.inside.dropped c.self.inside.order) c.len.result c.slot.result c.len.ensures.live (c.slot.ensures.free (omega (arith, c.len.ensures.live))))
 
 pub returns-clause-slotted : goal.returns-clause-slotted
 returns-clause-slotted c = rw (← c.self.view_is) c.self.invariant

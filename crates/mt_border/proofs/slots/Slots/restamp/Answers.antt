@@ -6,5 +6,5 @@ use Rattle.mt_border.proofs.slots.Slots.restamp.Goals as goal
 pub returns-clause-entries : goal.returns-clause-entries
 returns-clause-entries c =
     rw (← c.self.view_is, c.restamp_each.ensures)
-    (ap (entries_in c.self.inside.slices c.self.inside.marks.items) (helds_each (stamped c.args.stamp) c.self.inside.helds c.self.inside.order.live (live_within _ c.self.invariant))
+    (ap (entries_in c.self.inside.slices c.self.inside.marks) (helds_each (stamped c.args.stamp) c.self.inside.helds c.self.inside.order.live (live_within _ c.self.invariant))
     ∙ stamp-rows _ _ _ _)
