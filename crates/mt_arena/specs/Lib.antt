@@ -8,6 +8,7 @@ pub mod Contents
 pub mod Guarantee
 pub mod Settled
 pub mod Arena
+pub mod Numbers
 pub mod RootLevels
 pub mod Stands
 pub mod Ways

@@ -27,12 +27,15 @@ ghost use Rattle.mt_interior.specs.Places.{IsNew};
 use crate::node::Node;
 use crate::retired::Retired;
 use crate::tree::{Prefix, Standing, Tree};
-use mt_border::{Border, Entry, Held};
+use mt_border::{Border, Entry, Held, NodeNumber};
 use mt_interior::Interior;
 use mt_rows::Row;
 use mt_slices::Mark;
 use std::alloc::{AllocError, Global};
 use std::marker::Model;
+
+/// The most nodes of an arena, and the most trees. Their numbers lie in 32 bits in the nodes.
+pub const MOST: usize = 0xFFFF_FFFF;
 
 /// All nodes and trees.
 #[derive(Drop)]
@@ -44,13 +47,13 @@ pub struct Arena {
 
 impl Model for Arena {
     ghost use Rattle.std.specs.Vec.{vec_capacity};
-    ghost use Rattle.mt_arena.specs.Arena.{ArenaView, ArenaInvariant};
+    ghost use Rattle.mt_arena.specs.{Arena.{ArenaView, ArenaInvariant}, Numbers.room_for};
 
     ghost Value = { ArenaView };
 
     ghost view = { λ a. record { nodes = a.nodes.items; trees = a.trees.items; retired = a.retired.items } };
 
-    ghost invariant = { λ a. ArenaInvariant a.nodes.items a.trees.items a.retired.items (vec_capacity a.retired) };
+    ghost invariant = { λ a. ArenaInvariant a.nodes.items a.trees.items a.retired.items (room_for (vec_capacity a.retired)) };
 }
 
 impl Arena {
@@ -169,7 +172,7 @@ impl Arena {
         ensures step { Guarantee operation self.old self.new }
         ensures contents { content_of self.new ≡ content_of self.old }
     {
-        self.nodes[node].set_previous(Some(previous));
+        self.nodes[node].set_previous(NodeNumber::of(previous));
     }
 
     /// Writes the parent of a node that is no root: one that the operation holds.
@@ -184,7 +187,7 @@ impl Arena {
         ensures step { Guarantee operation self.old self.new }
         ensures contents { content_of self.new ≡ content_of self.old }
     {
-        self.nodes[node].set_parent(Some(parent));
+        self.nodes[node].set_parent(NodeNumber::of(parent));
     }
 
     /// Writes what the free slot of a border node holds that is taken next, and gives back what it held.
@@ -413,6 +416,7 @@ fn halve(
 )
     requires there { left < length nodes.old }
     requires right_there { right < length nodes.old }
+    requires few { length nodes.old ≤ MOST }
     requires differ { left ≢ right }
     requires border { (node_at nodes.old left).level ≡ 0 }
     requires right_border { (node_at nodes.old right).level ≡ 0 }
@@ -438,15 +442,16 @@ fn put_top(nodes: &mut Vec<Node>, left: usize, right: usize, operation: usize)
     requires there { left < length nodes.old.items }
     requires right_there { right < length nodes.old.items }
     requires differ { left ≢ right }
-    requires not_too_high { (node_at nodes.old.items left).level < 18446744073709551615 }
+    requires not_too_high { (node_at nodes.old.items left).level < 4294967295 }
     requires room { vec_len nodes.old < vec_capacity nodes.old }
+    requires few { vec_len nodes.old < MOST }
     ensures { nodes.new.items ≡ with_top nodes.old.items left right operation }
 {
     let number = nodes.len();
     let separator = nodes[right].low();
     let top = nodes[left].top(left, separator, right, operation);
     nodes[left].put_below(number);
-    nodes[right].set_parent(Some(number));
+    nodes[right].set_parent(NodeNumber::of(number));
     nodes.push_reserved(top);
 }
 
@@ -486,7 +491,7 @@ fn part_parent(nodes: &mut Vec<Node>, parent: usize, left: usize, right: usize, 
 }
 
 // Takes the memory for one more node and one more tree, and for the number of each node among the
-// retired.
+// retired. Where there are as many as there can be, that counts as want of memory.
 pub(crate) fn make_room(
     nodes: &mut Vec<Node>,
     trees: &mut Vec<Tree>,
@@ -500,7 +505,12 @@ pub(crate) fn make_room(
     ensures tree_room { OnOk result (vec_len trees.new < vec_capacity trees.new) }
     ensures room { OnOk result (vec_len nodes.new + 1 ≤ vec_capacity retired.new) }
     ensures no_less { vec_capacity retired.old ≤ vec_capacity retired.new }
+    ensures few_nodes { OnOk result (vec_len nodes.new < MOST) }
+    ensures few_trees { OnOk result (vec_len trees.new < MOST) }
 {
+    if nodes.len() >= MOST || trees.len() >= MOST {
+        return Err(AllocError);
+    }
     nodes.reserve(1)?;
     trees.reserve(1)?;
     retired.reserve(nodes.len() + 1 - retired.len())?;

@@ -41,7 +41,8 @@ impl Arena {
             root,
             standing: Standing::Made { by: operation },
         });
-        self.nodes.push_reserved(Node::root_of(number, entry));
+        self.nodes
+            .push_reserved(Node::root_of(number as u32, entry));
         Ok(number)
     }
 
@@ -86,7 +87,7 @@ impl Arena {
 
 impl Node {
     /// The first node of a tree, with one entry.
-    pub(crate) fn root_of(tree: usize, entry: Entry) -> Self
+    pub(crate) fn root_of(tree: u32, entry: Entry) -> Self
         requires { IsEntry entry }
         ensures { result ≡ root_of tree entry }
     {

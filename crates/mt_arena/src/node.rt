@@ -9,12 +9,13 @@ ghost use Rattle.mt_version.specs.Parts.{fresh_parts};
 ghost use Rattle.mt_interior.specs.{Node.childless, Places.IsNew};
 ghost use Rattle.mt_interior.specs.Changes as inner;
 
-use mt_border::{Border, Entry, Held};
+use mt_border::{Border, Entry, Held, NodeNumber};
 use mt_interior::Interior;
 use mt_rows::Row;
 use mt_slices::Mark;
 use mt_version::Version;
 use std::marker::Model;
+use std::mem::size_of;
 
 /// The two kinds of node.
 #[derive(Drop)]
@@ -28,11 +29,14 @@ pub enum NodeKind {
 #[derive(Drop)]
 pub struct Node {
     pub(crate) kind: NodeKind,
-    tree: usize,
-    level: usize,
+    tree: u32,
+    level: u32,
     pub(crate) reach: Option<u64>,
     holder: Option<usize>,
 }
+
+// Most of what a store takes are such nodes. An interior one takes as much.
+const _: () = prove!(size_of::<Node>() == 544);
 
 impl Model for Node {
     ghost use Rattle.mt_arena.specs.NodeView.{NodeView, node_view, IsOfKind};
@@ -56,7 +60,7 @@ impl Node {
     ghost use Rattle.mt_slices.specs.Marks.{IsMark};
 
     /// The first node of a tree.
-    pub(crate) fn root(tree: usize) -> Self
+    pub(crate) fn root(tree: u32) -> Self
         ensures { result ≡ fresh_root tree }
     {
         Node {
@@ -72,11 +76,12 @@ impl Node {
     /// node of the number `left`, which is this one.
     pub(crate) fn half(&self, left: usize, low: u64, operation: usize) -> Self
         requires border { self.now.level ≡ 0 }
+        requires few { left < 4294967295 }
         ensures { result ≡ fresh_half self.now left low operation }
     {
         let version = Version::child_border().locked().marked_splitting();
         let mut half = Border::new(low, Some(low), version);
-        half.set_previous(Some(left));
+        half.set_previous(NodeNumber::of(left));
         Node {
             kind: NodeKind::Leaf(half),
             tree: self.tree,
@@ -112,14 +117,14 @@ impl Node {
     pub fn tree(&self) -> usize
         ensures { result ≡ self.now.tree }
     {
-        self.tree
+        self.tree as usize
     }
 
     /// How many levels of nodes are below it.
     pub fn level(&self) -> usize
         ensures { result ≡ self.now.level }
     {
-        self.level
+        self.level as usize
     }
 
     /// The operation that holds its lock.
@@ -175,6 +180,16 @@ impl Node {
         match &self.kind {
             NodeKind::Leaf(border) => border.next(),
             NodeKind::Inner(_) => None,
+        }
+    }
+
+    // The same, as it is kept.
+    pub(crate) fn next_number(&self) -> NodeNumber
+        ensures { result ≡ self.now.next }
+    {
+        match &self.kind {
+            NodeKind::Leaf(border) => border.next_number(),
+            NodeKind::Inner(_) => NodeNumber::none(),
         }
     }
 
@@ -243,16 +258,16 @@ impl Node {
         }
     }
 
-    pub(crate) fn set_parent(&mut self, parent: Option<usize>)
+    pub(crate) fn set_parent(&mut self, parent: NodeNumber)
         ensures { self.new ≡ pointed self.old self.old.previous parent }
     {
         match &mut self.kind {
             NodeKind::Leaf(border) => border.set_parent(parent),
-            NodeKind::Inner(interior) => interior.set_parent(parent),
+            NodeKind::Inner(interior) => interior.set_parent(parent.get()),
         }
     }
 
-    pub(crate) fn set_previous(&mut self, previous: Option<usize>)
+    pub(crate) fn set_previous(&mut self, previous: NodeNumber)
         requires { self.old.level ≡ 0 }
         ensures { self.new ≡ pointed self.old previous self.old.parent }
     {
@@ -366,6 +381,8 @@ impl Node {
         left_number: usize,
         right_number: usize,
     )
+        requires few_left { left_number < 4294967295 }
+        requires few_right { right_number < 4294967295 }
         requires border { self.old.level ≡ 0 }
         requires right_border { right.old.level ≡ 0 }
         requires full { length self.old.slots ≡ SLOTS }
@@ -399,7 +416,7 @@ impl Node {
     /// A root over two halves of one, which meet at the separator: this node is the left one. The
     /// operation holds it.
     pub(crate) fn top(&self, left: usize, separator: u64, right: usize, operation: usize) -> Self
-        requires { self.now.level < 18446744073709551615 }
+        requires { self.now.level < 4294967295 }
         ensures { result ≡ fresh_top self.now left separator right operation }
     {
         let mut root = Interior::new(0, None, Version::root_interior().locked());
@@ -415,10 +432,11 @@ impl Node {
 
     /// Puts a left half that was the root below a new one, in which its range ends at its fence.
     pub(crate) fn put_below(&mut self, top: usize)
+        requires few { top < 4294967295 }
         ensures { self.new ≡ left_below self.old top }
     {
         self.set_version(self.version().made_child());
-        self.set_parent(Some(top));
+        self.set_parent(NodeNumber::of(top));
         self.reach = self.high();
     }
 
@@ -487,12 +505,14 @@ fn part(left: &mut Interior, separator: u64, child: usize) -> Interior
 
 // The right half gets the range from its low fence on, and stands between the left one and the next.
 fn hand_over(left: &mut Border, right: &mut Border, left_number: usize, right_number: usize)
+    requires few_left { left_number < 4294967295 }
+    requires few_right { right_number < 4294967295 }
     ensures left { left.new ≡ record left.old { high = Some right.old.low; next = Some right_number } }
     ensures right { right.new ≡ record right.old { high = left.old.high; next = left.old.next; previous = Some left_number } }
 {
     right.set_high(left.high());
-    right.set_next(left.next());
-    right.set_previous(Some(left_number));
+    right.set_next(left.next_number());
+    right.set_previous(NodeNumber::of(left_number));
     left.set_high(Some(right.low()));
-    left.set_next(Some(right_number));
+    left.set_next(NodeNumber::of(right_number));
 }

@@ -15,7 +15,7 @@ use crate::arena::Arena;
 use crate::node::{Node, NodeKind};
 use crate::retired::Retired;
 use crate::tree::Standing;
-use mt_border::HeldRef;
+use mt_border::{HeldRef, NodeNumber};
 
 impl Arena {
     /// Takes an empty border node out by the step of this number: its left neighbour gets its range,
@@ -84,7 +84,7 @@ impl Node {
     }
 
     /// A border node's range ends elsewhere from now on, and another node comes next.
-    pub(crate) fn extend(&mut self, high: Option<u64>, reach: Option<u64>, next: Option<usize>)
+    pub(crate) fn extend(&mut self, high: Option<u64>, reach: Option<u64>, next: NodeNumber)
         requires border { self.old.level ≡ 0 }
         ensures { self.new ≡ record self.old { high = high; reach = reach; next = next } }
     {
@@ -143,7 +143,7 @@ impl Node {
     {
         prove!(self.reach.is_none());
         self.set_version(self.version().made_root());
-        self.set_parent(None);
+        self.set_parent(NodeNumber::none());
     }
 }
 
@@ -166,7 +166,7 @@ fn take_out(nodes: &mut Vec<Node>, parent: usize, left: usize, node: usize)
     let low = nodes[node].low();
     let high = nodes[node].high();
     let reach = nodes[node].reach();
-    let next = nodes[node].next();
+    let next = nodes[node].next_number();
     nodes[left].extend(high, reach, next);
     nodes[node].retire();
     nodes[parent].remove_child(low);

@@ -1,4 +1,5 @@
 pub mod Ranks
+pub mod Numbers
 pub mod Suffixes
 pub mod Held
 pub mod HeldParts

@@ -9,7 +9,7 @@
 //! Contracts read a slot by `IsLive` and `entry_at`, and never say where in the order it stands.
 //!
 //! No call takes memory or fails; all change the node in place. A node owns its entries. Numbers of
-//! nodes and trees are the arena's.
+//! nodes and trees are the arena's; those of nodes are kept in 32 bits.
 
 ghost use Rattle.std.specs.Prelude.{◌≡◌, ◌-◌, ◌<◌, ◌≤◌, ◌↔◌, ℕ, [], IsTrue, IsSome, IfSome, true, length, slice_get, slice_set, insert, remove, map};
 ghost use Rattle.std.specs.Option.{option_map};
@@ -17,6 +17,7 @@ ghost use Rattle.mt_slices.specs.Marks.{IsMark};
 
 use crate::entry::{Entry, EntryRef, Find, Held, Pair};
 use crate::iter::Entries;
+use crate::number::NodeNumber;
 use crate::places::{place_of, search};
 use crate::slots::Slots;
 use crate::split::separator_of;
@@ -36,15 +37,15 @@ pub const SLOTS: usize = 15;
 pub struct Border {
     version: Version,
     slots: Slots,
-    next: Option<usize>,
-    previous: Option<usize>,
-    parent: Option<usize>,
+    next: NodeNumber,
+    previous: NodeNumber,
+    parent: NodeNumber,
     low: u64,
     high: Option<u64>,
 }
 
 // What a store takes is mostly its nodes and its pairs.
-const _: () = prove!(size_of::<Border>() == 512);
+const _: () = prove!(size_of::<Border>() == 480);
 
 impl Model for Border {
     ghost use Rattle.mt_border.specs.Node.{Node, IsNodeSlots};
@@ -79,9 +80,9 @@ impl Border {
         Border {
             version,
             slots: Slots::new(),
-            next: None,
-            previous: None,
-            parent: None,
+            next: NodeNumber::none(),
+            previous: NodeNumber::none(),
+            parent: NodeNumber::none(),
             low,
             high,
         }
@@ -403,10 +404,17 @@ impl Border {
     pub fn next(&self) -> Option<usize>
         ensures { result ≡ self.now.next }
     {
-        self.next
+        self.next.get()
     }
 
-    pub fn set_next(&mut self, next: Option<usize>)
+    /// The same, as it is kept.
+    pub fn next_number(&self) -> NodeNumber
+        ensures { result ≡ self.now.next }
+    {
+        self.next.copied()
+    }
+
+    pub fn set_next(&mut self, next: NodeNumber)
         ensures { self.new ≡ record self.old { next = next } }
     {
         self.next = next;
@@ -416,10 +424,10 @@ impl Border {
     pub fn previous(&self) -> Option<usize>
         ensures { result ≡ self.now.previous }
     {
-        self.previous
+        self.previous.get()
     }
 
-    pub fn set_previous(&mut self, previous: Option<usize>)
+    pub fn set_previous(&mut self, previous: NodeNumber)
         ensures { self.new ≡ record self.old { previous = previous } }
     {
         self.previous = previous;
@@ -429,10 +437,10 @@ impl Border {
     pub fn parent(&self) -> Option<usize>
         ensures { result ≡ self.now.parent }
     {
-        self.parent
+        self.parent.get()
     }
 
-    pub fn set_parent(&mut self, parent: Option<usize>)
+    pub fn set_parent(&mut self, parent: NodeNumber)
         ensures { self.new ≡ record self.old { parent = parent } }
     {
         self.parent = parent;

@@ -5,7 +5,7 @@ ghost use Rattle.mt_border.specs.Entry.{IsRest};
 
 use crate::rows::row_of;
 use mt_border::FoundKind::{self, Link, OtherLong, ThisKey};
-use mt_border::{Border, Entry, Find, Held, HeldRef, Pair, Suffix};
+use mt_border::{Border, Entry, Find, Held, HeldRef, NodeNumber, Pair, Suffix};
 use mt_slices::Mark;
 use mt_version::Version;
 use std::alloc::Global;
@@ -123,9 +123,9 @@ fn tells_fields(rt: &impl Abort, border: &Border) {
 #[test]
 fn a_node_tells_what_was_set(rt: HostRuntime) {
     let mut border = Border::new(3, None, Version::root_border());
-    border.set_previous(Some(1));
-    border.set_next(Some(2));
-    border.set_parent(Some(4));
+    border.set_previous(NodeNumber::of(1));
+    border.set_next(NodeNumber::of(2));
+    border.set_parent(NodeNumber::of(4));
     border.set_high(Some(7));
     border.set_version(border.version().locked());
     tells_fields(&rt, &border);

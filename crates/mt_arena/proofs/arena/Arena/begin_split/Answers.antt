@@ -16,7 +16,7 @@ invariant_of-self-2 c =
     let again : c.index_mut.result.now ≡ node_at c.self.inside.nodes.items c.args.left = read c.self.inside.nodes.items c.args.left c.index_mut.result.now held.there (rw room.nodes at c.index_mut.ensures.value) in
     rw (c.push_reserved.ensures.items, c.half-half.ensures, c.mark_splitting.ensures, now, again, room.nodes, room.trees, room.retired)
     (sound_half c.self.inside.nodes.items c.args.left c.args.low c.args.operation held.there held.holder (rw (← c.self.view_is) at c.requires.live) (rw (← c.self.view_is) at c.requires.border)
-    c.self.inside.trees.items c.self.inside.retired.items _ _ c.self.invariant (omega (arith, room.room, ap length room.nodes)) (rw (← c.self.view_is) at c.requires.range) (rw (← c.self.view_is) at c.requires.begins))
+    c.self.inside.trees.items c.self.inside.retired.items _ _ c.self.invariant (omega (arith, room.room, room.few_nodes, ap length room.nodes)) (rw (← c.self.view_is) at c.requires.range) (rw (← c.self.view_is) at c.requires.begins))
 
 pub returns-clause-step : goal.returns-clause-step
 returns-clause-step c =

@@ -21,6 +21,7 @@ put_top-requires-clause-not_too_high c =
       c.len-top.ensures,
       c.len-top.type_inv,
       ap length room.nodes,
+      room.few_nodes,
     ))
 
 pub invariant_of-self-2 : goal.invariant_of-self-2
@@ -32,7 +33,7 @@ invariant_of-self-2 c =
     let tree_is : c.tree-tree.result ≡ (at v c.args.left).tree = c.tree-tree.ensures ∙ ap (λ (n : NodeView). n.tree) (read v.nodes c.args.left c.index.result.now may.held.there (rw room.nodes at c.index.ensures)) in
     let record_is : c.index_mut.result.now ≡ tree_of v c.args.left = read_tree v.trees (at v c.args.left).tree c.index_mut.result.now (c.self.invariant.arena.forest.tree_there c.args.left may.held.there) (rw (room.trees, tree_is) at c.index_mut.ensures.value) in
     rw (c.put_top.ensures, room.nodes, room.trees, room.retired, top_is, tree_is, record_is)
-    (sound_grown v _ _ c.args.left c.args.right c.args.operation c.self.invariant may (omega (arith, room.room, ap length room.nodes)))
+    (sound_grown v _ _ c.args.left c.args.right c.args.operation c.self.invariant may (omega (arith, room.room, room.few_nodes, ap length room.nodes)))
 
 pub returns-clause-step : goal.returns-clause-step
 returns-clause-step c =

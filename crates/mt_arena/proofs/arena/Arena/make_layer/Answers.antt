@@ -15,7 +15,7 @@ invariant_of-self-2 c =
     let trees_len : vec_len c.make_room.new.trees ≡ length c.self.inside.trees.items = omega (arith, ap length c.in_ok-make_room.ensures.trees) in
     rw (c.push_reserved-2.ensures.items, c.push_reserved.ensures.items, c.root_of.ensures, c.len-number.ensures, c.len-root.ensures, nodes_len, trees_len, c.in_ok-make_room.ensures.nodes, c.in_ok-make_room.ensures.trees, c.in_ok-make_room.ensures.retired)
     (sound_layer v _ _ c.args.operation c.args.prefix c.args.entry c.self.invariant (rw (← c.self.view_is) at c.requires)
-    (omega (arith, c.in_ok-make_room.ensures.room, ap length c.in_ok-make_room.ensures.nodes)))
+    (omega (arith, c.in_ok-make_room.ensures.room, c.in_ok-make_room.ensures.few_nodes, ap length c.in_ok-make_room.ensures.nodes)))
 
 pub returns-clause-is : goal.returns-clause-is
 returns-clause-is c =

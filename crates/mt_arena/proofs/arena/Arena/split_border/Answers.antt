@@ -1,6 +1,9 @@
-use Rattle.std.proofs.Common.{ap, sym, ◌∙◌, length, rules}
+use Rattle.std.proofs.Common.{ap, sym, ◌∙◌, length, rules, arith}
 use Rattle.mt_arena.{proofs.{Halving.{sound_parted, step_parted, content_with, content_without}, Two.written}, specs.Arena.ArenaView}
 use Rattle.mt_arena.proofs.arena.Arena.split_border.Goals as goal
+
+pub halve-requires-clause-few : goal.halve-requires-clause-few
+halve-requires-clause-few c = rw c.deref_mut.ensures.value (omega (arith, c.self.invariant.enough))
 
 pub halve-requires-clause-missing : goal.halve-requires-clause-missing
 halve-requires-clause-missing c =

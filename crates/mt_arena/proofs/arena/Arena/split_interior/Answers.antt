@@ -22,7 +22,7 @@ invariant_of-self-2 c =
     let v : ArenaView = record { nodes = c.self.inside.nodes.items; trees = c.self.inside.trees.items; retired = c.self.inside.retired.items } in
     let room = c.in_ok-make_room.ensures in
     rw (c.part_parent.ensures, room.nodes, room.trees, room.retired)
-    (sound_parts v _ _ c.args.parent c.args.left c.args.right c.args.operation c.self.invariant may (omega (arith, room.room, ap length room.nodes)))
+    (sound_parts v _ _ c.args.parent c.args.left c.args.right c.args.operation c.self.invariant may (omega (arith, room.room, room.few_nodes, ap length room.nodes)))
 
 pub returns-clause-is : goal.returns-clause-is
 returns-clause-is c =
