@@ -2,24 +2,28 @@
 //!
 //! Units: steps are numbered from 1; a batch goes over step `from` and up to step `to`.
 
-ghost use Rattle.std.specs.Prelude.{◌≡◌, ◌↔◌, IsTrue};
+ghost use Rattle.std.specs.Prelude.{◌≡◌, ◌↔◌, IsTrue, IfOk, map};
+ghost use Rattle.mt_rows.specs.declared.record.Record.{Record as AnyRecord};
 ghost use Rattle.mt_log.specs.{Contents.{IsBatch, from_of, to_of}, Reading.{are_steps, is_step, rise_within}};
 
+use crate::records::SpelledRecords;
 use crate::writer::{BODY_LIMIT, RECORDS_HEAD, records_len};
 use mt_rows::key::USER_KEY_BYTES;
 use mt_rows::{Batch, Record};
+use std::alloc::{AllocError, Global};
 use std::marker::Model;
 
 /// The greatest number of a step.
 pub const MAX_STEP: u64 = 1 << 59;
 
 /// A batch of records as it stands in a log. It is in the format, and seen as a `Batch`; but its steps
-/// and its stamps may be any, so that no `Batch` is made of it.
+/// and its stamps may be any, so that no `Batch` is made of it. It holds the bytes that spell its records,
+/// and these are made when they are asked for.
 #[derive(Debug, Drop)]
 pub struct LoggedBatch {
     from: u64,
     to: u64,
-    records: Vec<Record>,
+    records: SpelledRecords,
 }
 
 impl Model for LoggedBatch {
@@ -27,12 +31,12 @@ impl Model for LoggedBatch {
 
     ghost Value = { Batch };
 
-    ghost view = { λ b. record { from = b.from; to = b.to; records = b.records.items } };
+    ghost view = { λ b. record { from = b.from; to = b.to; records = b.records } };
 }
 
 impl LoggedBatch {
-    pub(crate) fn new(from: u64, to: u64, records: Vec<Record>) -> Self
-        ensures { result ≡ record { from = from; to = to; records = records.items } }
+    pub(crate) fn new(from: u64, to: u64, records: SpelledRecords) -> Self
+        ensures { result ≡ record { from = from; to = to; records = records } }
     {
         LoggedBatch { from, to, records }
     }
@@ -51,18 +55,18 @@ impl LoggedBatch {
         self.to
     }
 
-    /// Its records, in the order of the file.
-    pub fn records(&self) -> &[Record]
-        ensures { result.now ≡ self.now.records }
+    /// The stamps of its records, in the order of the file.
+    pub fn stamps(&self) -> &[u64]
+        ensures { result.now ≡ map (λ (r : AnyRecord). r.stamp) self.now.records }
     {
-        &self.records
+        self.records.stamps()
     }
 
-    /// Its records, as its own list.
-    pub fn into_records(self) -> Vec<Record>
-        ensures { result.items ≡ self.records }
+    /// Its records, in the order of the file.
+    pub fn records(&self, alloc: Global) -> Result<Vec<Record>, AllocError>
+        ensures { IfOk result (λ records. records.items ≡ self.now.records) }
     {
-        self.records
+        self.records.list(alloc)
     }
 }
 

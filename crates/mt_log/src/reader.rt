@@ -1,18 +1,16 @@
-//! A log's bytes as its header, its gates and its batches. Each byte is read once. No list of records is
-//! made by a number that was read: it grows with the records that stand there.
+//! A log's bytes as its header, its gates and its batches.
 
 ghost use Rattle.std.specs.Prelude.{◌≡◌, ◌<◌, ◌≤◌, ◌^◌, [], ◌∷◌, ◌++◌, length, drop, IfSome, IfNone, IfOk, IfErr};
-ghost use Rattle.mt_fields.specs.Reading.{Gives, each_at};
+ghost use Rattle.mt_fields.specs.Reading.{Gives};
 ghost use Rattle.mt_log.specs.{Format.header, Fronts.HasNoHeader};
-ghost use Rattle.mt_log.specs.Reading.{written_at, change_kind_at, change_at, record_at, records_at, resume_at, batch_kind_at, batch_in};
+ghost use Rattle.mt_log.specs.Reading.{records_at, resume_at, batch_kind_at, batch_in};
 ghost use Rattle.mt_log.specs.Stops.{IsHead, IsStart, IsBadStart, IsBehind};
 
 use crate::batch::{LogBatch, LoggedBatch, is_step};
 use crate::fault::{DecodeFault, ReadFault};
 use crate::gate::OPEN;
+use crate::records::spelled_of;
 use mt_fields::{u8_at, u32_at, u64_at};
-use mt_row_fields::{key_of, row_of};
-use mt_rows::{Record, Row};
 use std::alloc::{AllocError, Global};
 
 /// The bytes of a header.
@@ -167,74 +165,9 @@ fn records_of(alloc: Global, bytes: &[u8]) -> Result<(LogBatch, &[u8]), DecodeFa
     let (from, rest) = u64_at(bytes)?;
     let (to, rest) = u64_at(rest)?;
     let (count, rest) = u32_at(rest)?;
-    let (records, rest) = record_list_of(alloc, count, rest)?;
+    let (records, rest) = spelled_of(alloc, count as usize, rest)?;
     if !is_step(to) {
         return Err(DecodeFault::Bad);
     }
     Ok((LogBatch::Records(LoggedBatch::new(from, to, records)), rest))
-}
-
-// So many records. The list grows as they are read: the count is the file's.
-fn record_list_of(
-    alloc: Global,
-    count: u32,
-    bytes: &[u8],
-) -> Result<(Vec<Record>, &[u8]), DecodeFault>
-    ensures { Gives (λ x. (x.0.items, x.1.now)) result (each_at record_at count bytes.now) }
-{
-    let mut records = Vec::new(alloc);
-    let mut rest = bytes;
-    for _ in 0..count {
-        let (record, after) = record_of(alloc, rest)?;
-        records.push(record)?;
-        rest = after;
-    }
-    Ok((records, rest))
-}
-
-#[tactic(auto, unfolding(crate::specs::Reading::record_at))]
-fn record_of(alloc: Global, bytes: &[u8]) -> Result<(Record, &[u8]), DecodeFault>
-    ensures { Gives (λ x. (x.0, x.1.now)) result (record_at bytes.now) }
-{
-    let (stamp, rest) = u64_at(bytes)?;
-    let (tenant, rest) = u32_at(rest)?;
-    let (key, rest) = key_of(alloc, rest)?;
-    let (row, rest) = change_of(alloc, rest)?;
-    Ok((
-        Record {
-            stamp,
-            tenant,
-            key,
-            row,
-        },
-        rest,
-    ))
-}
-
-// What became of a key.
-#[tactic(auto, unfolding(crate::specs::Reading::change_at))]
-fn change_of(alloc: Global, bytes: &[u8]) -> Result<(Option<Row>, &[u8]), DecodeFault>
-    ensures { Gives (λ x. (x.0, x.1.now)) result (change_at bytes.now) }
-{
-    let (kind, rest) = u8_at(bytes)?;
-    change_kind_of(alloc, kind, rest)
-}
-
-#[tactic(auto, unfolding(crate::specs::Reading::change_kind_at))]
-fn change_kind_of(alloc: Global, kind: u8, rest: &[u8]) -> Result<(Option<Row>, &[u8]), DecodeFault>
-    ensures { Gives (λ x. (x.0, x.1.now)) result (change_kind_at kind rest.now) }
-{
-    match kind {
-        0 => Ok((None, rest)),
-        1 => written_of(alloc, rest),
-        _ => Err(DecodeFault::Bad),
-    }
-}
-
-#[tactic(auto, unfolding(crate::specs::Reading::written_at))]
-fn written_of(alloc: Global, bytes: &[u8]) -> Result<(Option<Row>, &[u8]), DecodeFault>
-    ensures { Gives (λ x. (x.0, x.1.now)) result (written_at bytes.now) }
-{
-    let (row, rest) = row_of(alloc, bytes)?;
-    Ok((Some(row), rest))
 }

@@ -136,11 +136,11 @@ pub fn not_opened<D: Disk>(fault: OpenFault<D>) -> (D, Told) {
 // Whether the stamps of a batch rise strictly, over its beginning and up to its end.
 fn rises(batch: &LoggedBatch) -> bool {
     let mut last = batch.from();
-    for record in batch.records() {
-        if record.stamp <= last || record.stamp > batch.to() {
+    for stamp in batch.stamps() {
+        if *stamp <= last || *stamp > batch.to() {
             return false;
         }
-        last = record.stamp;
+        last = *stamp;
     }
     last <= batch.to()
 }

@@ -16,7 +16,11 @@ const VECTOR: [u8; 85] = [
 
 // What is read of it.
 const FRONT: &str =
-    "Front { worker: 0, logs: 1, batches: [Records(LoggedBatch { from: 0, to: 6, records: [Record { stamp: 5, tenant: 7, key: Key { bytes: [107] }, row: Some(Row { columns: [Column { bytes: [118] }] }) }] }), Resume { from: 6, to: 9, kept: 4 }] }";
+    "Front { worker: 0, logs: 1, batches: [Records(LoggedBatch { from: 0, to: 6, records: SpelledRecords { stamps: [5], bytes: [0, 0, 0, 0, 0, 0, 0, 5, 0, 0, 0, 7, 0, 1, 107, 1, 1, 0, 1, 118] } }), Resume { from: 6, to: 9, kept: 4 }] }";
+
+// The records of its first batch.
+const RECORDS: &str =
+    "[Record { stamp: 5, tenant: 7, key: Key { bytes: [107] }, row: Some(Row { columns: [Column { bytes: [118] }] }) }]";
 
 // The front of a disk, as text.
 fn front_of(alloc: Global, disk: MemDisk) -> Result<String, AllocError> {
@@ -32,12 +36,26 @@ fn front_of(alloc: Global, disk: MemDisk) -> Result<String, AllocError> {
     }
 }
 
-// The stamps of what a front's batches hold. The records are moved out of it.
-fn stamps_of(alloc: Global, front: Front) -> Result<Vec<u64>, AllocError> {
+// The records of a front's batches, batch by batch, as text.
+fn records_of(alloc: Global, disk: MemDisk) -> Result<String, AllocError> {
+    let mut text = String::new(alloc);
+    if let Ok((_log, front)) = LogFile::open(alloc, disk) {
+        for batch in &front.batches {
+            if let LogBatch::Records(batch) = batch {
+                let records = batch.records(alloc)?;
+                text.push_str(&format!(in alloc; "{records:?}")?)?;
+            }
+        }
+    }
+    Ok(text)
+}
+
+// The stamps of the records of a front's batches.
+fn stamps_of(alloc: Global, front: &Front) -> Result<Vec<u64>, AllocError> {
     let mut stamps = Vec::new(alloc);
-    for batch in front.batches {
+    for batch in &front.batches {
         if let LogBatch::Records(batch) = batch {
-            for record in batch.into_records() {
+            for record in batch.records(alloc)? {
                 stamps.push(record.stamp)?;
             }
         }
@@ -48,7 +66,7 @@ fn stamps_of(alloc: Global, front: Front) -> Result<Vec<u64>, AllocError> {
 // Whether these are the stamps in the front of a disk.
 fn has_stamps(alloc: Global, disk: MemDisk, stamps: &[u64]) -> Result<bool, AllocError> {
     match LogFile::open(alloc, disk) {
-        Ok((_log, front)) => Ok(stamps_of(alloc, front)?.as_slice() == stamps),
+        Ok((_log, front)) => Ok(stamps_of(alloc, &front)?.as_slice() == stamps),
         Err(_) => Ok(false),
     }
 }
@@ -83,6 +101,10 @@ fn the_vector_is_written_and_read(rt: HostRuntime) -> Result<(), Fail> {
     assert!(rt; told == Told::Front(9, 2) && disk.image() == VECTOR.as_slice());
     assert_eq!(rt; front_of(alloc, disk)?.as_str(), FRONT);
     assert!(rt; has_stamps(alloc, disk_with(alloc, &VECTOR, 0, 99)?, &[5])?);
+    assert_eq!(rt;
+        records_of(alloc, disk_with(alloc, &VECTOR, 0, 99)?)?.as_str(),
+        RECORDS
+    );
     let (_disk, told) = made(alloc, MemDisk::new(alloc, Vec::new(alloc), None), 2);
     assert!(rt; told == Told::Turn(2, 0));
     Ok(())

@@ -11,7 +11,7 @@ use Rattle.mt_recover.{specs.Falls.{first_of, fall_in, goes_on, stamp_fall, fall
 
 -- ---- records in order
 
-in_order : (last to : ℕ) (rs : List Record) → fall_in last to rs ≡ None → IsStrictlyIncreasing (stamps rs) × All (Within last to) rs
+in_order : (last to : ℕ) (rs : List Record) → fall_in last to (stamps rs) ≡ None → IsStrictlyIncreasing (stamps rs) × All (Within last to) rs
 in_order last to [] h = (λ k lt. absurd (omega arith), All-nil (Within last to))
 in_order last to (r ∷ rs) h =
     let is = tested _ _ _ h in
@@ -22,14 +22,14 @@ in_order last to (r ∷ rs) h =
       All-cons (Within last to) r rs (over, ltb-false to r.stamp (not-true _ tests.1)) (All-weaker (Within r.stamp to) (Within last to) (λ x h. (omega (arith, over, h.0), h.1)) rs rest.1),
     )
 
-no_fall : (last to : ℕ) (rs : List Record) → (0 < length (stamps rs) → last < get_or (stamps rs) 0 0) → IsStrictlyIncreasing (stamps rs) → All (λ (r : Record). r.stamp ≤ to) rs → fall_in last to rs ≡ None
+no_fall : (last to : ℕ) (rs : List Record) → (0 < length (stamps rs) → last < get_or (stamps rs) 0 0) → IsStrictlyIncreasing (stamps rs) → All (λ (r : Record). r.stamp ≤ to) rs → fall_in last to (stamps rs) ≡ None
 no_fall last to [] over rising upto = refl
 no_fall last to (r ∷ rs) over rising upto =
     let small : r.stamp ≤ to = All-head (λ (x : Record). x.stamp ≤ to) r rs upto in
     let rest = no_fall r.stamp to rs (λ lt. rising 0 (omega arith))
     (λ k lt. subst (λ j. get_or (stamps (r ∷ rs)) (suc k) 0 < get_or (stamps (r ∷ rs)) j 0) (sym (suc_more k)) (rising (suc k) (omega arith)))
     (All-tail (λ (x : Record). x.stamp ≤ to) r rs upto) in
-    ap (λ (b : Bool). cond b (fall_in r.stamp to rs) (Some r.stamp)) (and_from _ _ (lt-ltb last r.stamp (over (omega arith))) (not_from_false _ (le-ltb to r.stamp small))) ∙ rest
+    ap (λ (b : Bool). cond b (fall_in r.stamp to (stamps rs)) (Some r.stamp)) (and_from _ _ (lt-ltb last r.stamp (over (omega arith))) (not_from_false _ (le-ltb to r.stamp small))) ∙ rest
 
 -- ---- batches
 

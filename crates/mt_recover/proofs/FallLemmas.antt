@@ -1,5 +1,5 @@
 -- A log in which nothing falls rises: for `first_twice`, and the law that nothing falls just where logs join and rise.
-use Rattle.std.proofs.Common.{◌≡◌, inl, inr, ◌∙◌, ap, ℕ, ◌≤◌, Bool, true, false, cond, List, [], ◌∷◌, ◌++◌, refl, sym, arith, Option, Some, None}
+use Rattle.std.proofs.Common.{◌≡◌, inl, inr, ◌∙◌, ap, ℕ, ◌≤◌, Bool, true, false, cond, List, [], ◌∷◌, ◌++◌, map, refl, sym, arith, Option, Some, None}
 use Rattle.std.proofs.lemmas.Bool.{and_parts, eqb-true, ltb-true, ltb-false, not-true}
 use Rattle.std.specs.List.{flat_map}
 use Rattle.mt_rows.specs.declared.record.Record.{Record}
@@ -22,7 +22,7 @@ rise_lower low over [] le h = tt
 rise_lower low over (r ∷ rs) le h = (omega (arith, le, h.0), h.1)
 
 -- stamps up to a number, and then stamps over it
-rise_on : (last to : ℕ) (rs qs : List Record) → last ≤ to → fall_in last to rs ≡ None → Rise to qs → Rise last (rs ++ qs)
+rise_on : (last to : ℕ) (rs qs : List Record) → last ≤ to → fall_in last to (map (λ (r : Record). r.stamp) rs) ≡ None → Rise to qs → Rise last (rs ++ qs)
 rise_on last to [] qs le h over = rise_lower last to qs le over
 rise_on last to (r ∷ rs) qs le h over =
     let is = tested _ _ _ h in

@@ -1,25 +1,28 @@
 -- One merge of ascending pairs and changes: what stands at each owner, and the order. For `merged`.
 use Rattle.std.proofs.Common.{◌≡◌, ℕ, Bool, true, false, cond, List, [], ◌∷◌, ◌++◌, map, Option, Some, None, refl, sym, ◌∙◌, ap, subst}
 use Rattle.std.proofs.{lemmas.Bool.{true≢false}, lemmas.List.append_assoc}
-use Rattle.std.specs.{List.AllByRecursion, List.Sorted.IsStrictlySortedBy, Option.unwrap_or, Map.{lookup, keys_of}, BTreeMap.is_at}
+use Rattle.std.specs.{List.AllByRecursion, List.Sorted.IsStrictlySortedBy, Option.{option_map, unwrap_or}, Map.{lookup, keys_of}, BTreeMap.is_at}
 use Rattle.std.specs.{declared.cmp.Ordering.Ordering, declared.cmp.Ordering.TheVariants.{Less, Equal, Greater}}
 use Rattle.std.specs.{Ordering.{is_lt, is_eq, eq_by_cmp, ordering_reverse}, FinMap.{get, find, get-from_entries}}
 use Rattle.mt_rows.specs.{Rows.{Bytes, Columns}, Tenants.owned_cmp, declared.record.TenantPair.TenantPair, TenantPairs.{owner_of, entry_of, pairs_of}}
 use Rattle.mt_rows.proofs.ContentLaws.{owned_total, owned_exact, same_contents, same_owner, tied_owner}
 use Rattle.mt_tape.{specs.Histories.with_row, proofs.RowLaws.get-with_row}
-use Rattle.mt_recover.specs.Pairs.{Ascend, AreBefore, first_order, without_first}
+use Rattle.mt_recover.specs.{Pairs.{Ascend, AreBefore, first_order, without_first}, declared.changes.Change.Change}
 
 abbrev Owner : Type 0
 Owner = ℕ × Bytes
 
-abbrev Change : Type 0
-Change = Owner × Option Columns
+abbrev Entry : Type 0
+Entry = Owner × Change
+
+abbrev row_in : Change → Option Columns
+row_in c = c.row
 
 abbrev row_of : List TenantPair → Owner → Option Columns
 row_of ps q = find owned_cmp q (map entry_of ps)
 
-abbrev change_of : List Change → Owner → Option (Option Columns)
-change_of es q = lookup (is_at (owned_cmp q)) es
+abbrev change_of : List Entry → Owner → Option (Option Columns)
+change_of es q = option_map row_in (lookup (is_at (owned_cmp q)) es)
 
 -- the pair that a row makes of an owner
 abbrev pub pair_for : ℕ × Bytes → Option Columns → List TenantPair
@@ -172,62 +175,62 @@ is_made owner row first second listed left more rest same order before all rest_
 -- ---- all changes, one after the other
 
 -- the changes so far are made, and each that is left is behind what is listed
-pub record IsMerged (base : List TenantPair) (all : List ((ℕ × Bytes) × Option Columns)) (listed left : List TenantPair) (rest : List ((ℕ × Bytes) × Option Columns)) : Type 0 where
+pub record IsMerged (base : List TenantPair) (all : List ((ℕ × Bytes) × Change)) (listed left : List TenantPair) (rest : List ((ℕ × Bytes) × Change)) : Type 0 where
   pub after : (q : ℕ × Bytes) → unwrap_or (change_of rest q) (get (pairs_of (listed ++ left)) q) ≡ unwrap_or (change_of all q) (get (pairs_of base) q)
   pub order : Ascend (listed ++ left)
   pub rising : IsStrictlySortedBy owned_cmp (keys_of rest)
-  pub before : AllByRecursion (λ (e : Change). AreBefore e.0 listed) rest
+  pub before : AllByRecursion (λ (e : Entry). AreBefore e.0 listed) rest
 
-nothing_before : (es : List Change) → AllByRecursion (λ (e : Change). AreBefore e.0 []) es
+nothing_before : (es : List Entry) → AllByRecursion (λ (e : Entry). AreBefore e.0 []) es
 nothing_before [] = tt
 nothing_before (e ∷ es) = (tt, nothing_before es)
 
-pub none_made : (base : List TenantPair) (all rest : List Change) (listed : List TenantPair) → listed ≡ [] → rest ≡ all → Ascend base → IsStrictlySortedBy owned_cmp (keys_of all)
+pub none_made : (base : List TenantPair) (all rest : List Entry) (listed : List TenantPair) → listed ≡ [] → rest ≡ all → Ascend base → IsStrictlySortedBy owned_cmp (keys_of all)
     → IsMerged base all listed base rest
 none_made base all rest listed none is order rising =
     subst (λ (ps : List TenantPair). IsMerged base all ps base rest) (sym none)
     (record {
-      after = λ q. ap (λ (es : List Change). unwrap_or (change_of es q) (get (pairs_of base) q)) is;
+      after = λ q. ap (λ (es : List Entry). unwrap_or (change_of es q) (get (pairs_of base) q)) is;
       order = order;
-      rising = subst (λ (es : List Change). IsStrictlySortedBy owned_cmp (keys_of es)) (sym is) rising;
+      rising = subst (λ (es : List Entry). IsStrictlySortedBy owned_cmp (keys_of es)) (sym is) rising;
       before = nothing_before rest;
     })
 
-no_change : (owner : Owner) (es : List Change) → AllByRecursion (λ o. owned_cmp owner o ≡ Less) (keys_of es) → change_of es owner ≡ None
+no_change : (owner : Owner) (es : List Entry) → AllByRecursion (λ o. owned_cmp owner o ≡ Less) (keys_of es) → change_of es owner ≡ None
 no_change owner [] h = refl
-no_change owner (e ∷ es) h = ap (λ b. cond b (Some e.1) (change_of es owner)) (ap is_eq h.0) ∙ no_change owner es h.1
+no_change owner (e ∷ es) h = ap (λ b. option_map row_in (cond b (Some e.1) (lookup (is_at (owned_cmp owner)) es))) (ap is_eq h.0) ∙ no_change owner es h.1
 
-before_all : (owner : Owner) (listed : List TenantPair) (es : List Change) → AllByRecursion (λ o. owned_cmp owner o ≡ Less) (keys_of es)
-    → ((next : Owner) → owned_cmp owner next ≡ Less → AreBefore next listed) → AllByRecursion (λ (e : Change). AreBefore e.0 listed) es
+before_all : (owner : Owner) (listed : List TenantPair) (es : List Entry) → AllByRecursion (λ o. owned_cmp owner o ≡ Less) (keys_of es)
+    → ((next : Owner) → owned_cmp owner next ≡ Less → AreBefore next listed) → AllByRecursion (λ (e : Entry). AreBefore e.0 listed) es
 before_all owner listed [] h before = tt
 before_all owner listed (e ∷ es) h before = (before e.0 h.0, before_all owner listed es h.1 before)
 
-pub one_made : (base : List TenantPair) (all was rest : List Change) (e : Change) (listed left more remain : List TenantPair) → was ≡ e ∷ rest → IsMerged base all listed left was
-    → pairs_of (more ++ remain) ≡ with_row (pairs_of (listed ++ left)) e.0 e.1 → Ascend (more ++ remain) → ((next : ℕ × Bytes) → owned_cmp e.0 next ≡ Less → AreBefore next more)
+pub one_made : (base : List TenantPair) (all was rest : List Entry) (e : Entry) (listed left more remain : List TenantPair) → was ≡ e ∷ rest → IsMerged base all listed left was
+    → pairs_of (more ++ remain) ≡ with_row (pairs_of (listed ++ left)) e.0 e.1.row → Ascend (more ++ remain) → ((next : ℕ × Bytes) → owned_cmp e.0 next ≡ Less → AreBefore next more)
     → IsMerged base all more remain rest
 unfolding IsStrictlySortedBy
 one_made base all was rest e listed left more remain is so_far pairs order before = record {
-  after = λ q. ap (λ m. unwrap_or (change_of rest q) (get m q)) pairs ∙ ap (unwrap_or (change_of rest q)) (get-with_row (pairs_of (listed ++ left)) e.0 e.1 q)
-      ∙ by q (eq_by_cmp owned_cmp q e.0) refl ∙ ap (λ (es : List Change). unwrap_or (change_of es q) (get (pairs_of (listed ++ left)) q)) (sym is) ∙ so_far.after q;
+  after = λ q. ap (λ m. unwrap_or (change_of rest q) (get m q)) pairs ∙ ap (unwrap_or (change_of rest q)) (get-with_row (pairs_of (listed ++ left)) e.0 e.1.row q)
+      ∙ by q (eq_by_cmp owned_cmp q e.0) refl ∙ ap (λ (es : List Entry). unwrap_or (change_of es q) (get (pairs_of (listed ++ left)) q)) (sym is) ∙ so_far.after q;
   order = order;
   rising = rising.1;
   before = before_all e.0 more rest rising.0 before;
 }
   where
     rising : IsStrictlySortedBy owned_cmp (keys_of (e ∷ rest))
-    rising = subst (λ (es : List Change). IsStrictlySortedBy owned_cmp (keys_of es)) is so_far.rising
+    rising = subst (λ (es : List Entry). IsStrictlySortedBy owned_cmp (keys_of es)) is so_far.rising
 
     by : (q : Owner) (b : Bool) → eq_by_cmp owned_cmp q e.0 ≡ b
-        → unwrap_or (change_of rest q) (cond b e.1 (get (pairs_of (listed ++ left)) q)) ≡ unwrap_or (cond b (Some e.1) (change_of rest q)) (get (pairs_of (listed ++ left)) q)
-    by q true tied = ap (λ o. unwrap_or o e.1) (ap (change_of rest) (tied_owner q e.0 tied) ∙ no_change e.0 rest rising.0)
+        → unwrap_or (change_of rest q) (cond b e.1.row (get (pairs_of (listed ++ left)) q)) ≡ unwrap_or (option_map row_in (cond b (Some e.1) (lookup (is_at (owned_cmp q)) rest))) (get (pairs_of (listed ++ left)) q)
+    by q true tied = ap (λ o. unwrap_or o e.1.row) (ap (change_of rest) (tied_owner q e.0 tied) ∙ no_change e.0 rest rising.0)
     by q false apart = refl
 
 -- what is listed is before the next change
-pub before_first : (base : List TenantPair) (all was rest : List Change) (e : Change) (listed left : List TenantPair) → was ≡ e ∷ rest → IsMerged base all listed left was
+pub before_first : (base : List TenantPair) (all was rest : List Entry) (e : Entry) (listed left : List TenantPair) → was ≡ e ∷ rest → IsMerged base all listed left was
     → AreBefore e.0 listed
-before_first base all was rest e listed left is so_far = (subst (AllByRecursion (λ (x : Change). AreBefore x.0 listed)) is so_far.before).0
+before_first base all was rest e listed left is so_far = (subst (AllByRecursion (λ (x : Entry). AreBefore x.0 listed)) is so_far.before).0
 
 -- all changes are made
-pub all_made : (base : List TenantPair) (all rest : List Change) (listed left : List TenantPair) → rest ≡ [] → IsMerged base all listed left rest
+pub all_made : (base : List TenantPair) (all rest : List Entry) (listed left : List TenantPair) → rest ≡ [] → IsMerged base all listed left rest
     → (q : ℕ × Bytes) → get (pairs_of (listed ++ left)) q ≡ unwrap_or (change_of all q) (get (pairs_of base) q)
-all_made base all rest listed left none so_far q = ap (λ (es : List Change). unwrap_or (change_of es q) (get (pairs_of (listed ++ left)) q)) (sym none) ∙ so_far.after q
+all_made base all rest listed left none so_far q = ap (λ (es : List Entry). unwrap_or (change_of es q) (get (pairs_of (listed ++ left)) q)) (sym none) ∙ so_far.after q

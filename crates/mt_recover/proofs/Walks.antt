@@ -1,17 +1,15 @@
--- A walk over ranges of void numbers, and what is live of records in the order of their stamps.
-use Rattle.std.proofs.Common.{◌≡◌, ℕ, zero, suc, ◌<◌, ◌≤◌, Bool, true, false, not, ◌&&◌, ◌||◌, cond, nat_lt, leb, List, [], ◌∷◌, ◌++◌, length, get_or, drop, refl, sym, ◌∙◌, ap, subst, arith, IsPermutation}
+-- A walk over ranges of void numbers, a search by such walks, and what is replayed of logs, one after the other.
+use Rattle.std.proofs.Common.{◌≡◌, ℕ, zero, suc, ◌<◌, ◌≤◌, Bool, true, false, not, ◌&&◌, ◌||◌, cond, nat_lt, leb, List, [], ◌∷◌, ◌++◌, length, get_or, drop, map, refl, sym, ◌∙◌, ap, arith, IsPermutation}
 use Rattle.std.proofs.{lemmas.Bool.le-ltb, lemmas.Bool.Decides.nat_tests, lemmas.List.Elements.filter-append, lemmas.List.Sorted.list_any-IsPermutation}
-use Rattle.std.specs.List.{filter}
+use Rattle.std.proofs.lemmas.List.{append_assoc, flat_map_more, map-append}
+use Rattle.std.specs.List.{filter, flat_map}
 use Rattle.mt_rows.specs.declared.record.Record.{Record}
-use Rattle.mt_crashes.{specs.Fronts.{Numbers, is_void, is_replayed}, proofs.Members.{filter_filter, filter_same}}
-use Rattle.mt_recover.specs.{Orders.DontFall, Replays.{is_reached, is_live, is_void_behind, AgreeFrom}, Changes.{Changes, AreLast}, declared.voids.Walk.Walk}
-use Rattle.mt_recover.proofs.{Orders.{lower, filter_moved}, ChangeMaps.none_last}
+use Rattle.mt_log.specs.{declared.batch.LogBatch.LogBatch, declared.batch.Front.Front, Contents.contents_of}
+use Rattle.mt_crashes.{specs.Fronts.{Numbers, is_void, is_replayed, records_in, records_of, all_records}, proofs.Members.filter_same}
+use Rattle.mt_recover.specs.{Orders.DontFall, Replays.{is_void_behind, AgreeFrom, Knows}, declared.voids.{Walk.Walk, Search.Search}}
 
 abbrev first : Numbers → ℕ
 first v = v.0
-
-abbrev stamp : Record → ℕ
-stamp r = r.stamp
 
 -- ---- where a walk stops
 
@@ -43,12 +41,7 @@ within n reach over = grind (arith, nat_tests)
 pub without : (n reach : ℕ) → n ≤ 0 → nat_lt 0 n ≡ (nat_lt 0 n && not (nat_lt reach n))
 without n reach none = grind (arith, nat_tests)
 
--- ---- a walk for records
-
--- a walk knows of each of these records whether it is void
-abbrev Knows : List Numbers → Walk → List Record → Type 0
-Knows vs walk [] = Unit {0}
-Knows vs walk (r ∷ rs) = (is_void_behind vs walk r.stamp ≡ is_void vs r.stamp) × Knows vs walk rs
+-- ---- a search
 
 begun : (vs : List Numbers) (n : ℕ) → is_void_behind vs (record { next = 0; reach = 0 }) n ≡ is_void vs n
 begun vs n = ap (λ (b : Bool). b || is_void vs n) (never (nat_lt 0 n))
@@ -57,51 +50,45 @@ begun vs n = ap (λ (b : Bool). b || is_void vs n) (never (nat_lt 0 n))
     never true = refl
     never false = refl
 
-knows_all : (vs : List Numbers) (rs : List Record) → Knows vs (record { next = 0; reach = 0 }) rs
-knows_all vs [] = tt
-knows_all vs (r ∷ rs) = (begun vs r.stamp, knows_all vs rs)
+-- one whose walk has not begun tells all
+pub knows_all : (vs : List Numbers) (from : ℕ) → Knows vs (record { walk = record { next = 0; reach = 0 }; from = from })
+knows_all vs from n le = begun vs n
 
-keeps : (vs : List Numbers) (old new : Walk) (from : ℕ) (rs : List Record) → DontFall stamp from rs → AgreeFrom from (is_void_behind vs new) (is_void_behind vs old) → Knows vs old rs → Knows vs new rs
-keeps vs old new from [] order same knows = tt
-keeps vs old new from (r ∷ rs) order same knows = (same r.stamp order.0 ∙ knows.0, keeps vs old new r.stamp rs order.1 (λ n le. same n (omega (arith, le, order.0))) knows.1)
+-- it tells what is void over a greater number
+pub knows_over : (vs : List Numbers) (search : Search) (number : ℕ) → search.from ≤ number → Knows vs search → Knows vs (record { walk = search.walk; from = number })
+knows_over vs search number le knows n over = knows n (omega (arith, le, over))
 
--- the changes that are live of the records so far are added, and the walk knows those that are left
-pub record AreAddedSoFar (vs : List Numbers) (walk : Walk) (left yielded : List Record) (changes : Changes) : Type 0 where
-  pub added : AreLast (filter (is_live vs) yielded) changes
-  pub order : DontFall stamp 0 left
-  pub knows : Knows vs walk left
-
-pub none_so_far : (vs : List Numbers) (rs left : List Record) (changes : Changes) → left ≡ rs → DontFall stamp 0 rs → changes.entries ≡ []
-    → AreAddedSoFar vs (record { next = 0; reach = 0 }) left [] changes
-none_so_far vs rs left changes all order none = record { added = none_last changes none; order = subst (DontFall stamp 0) (sym all) order; knows = knows_all vs left }
-
--- and one record more, which is void or is added
-pub one_more : (vs : List Numbers) (old new : Walk) (r : Record) (was left yielded : List Record) (now next : Changes) → was ≡ r ∷ left → AreAddedSoFar vs old was yielded now
-    → ((rs : List Record) → AreLast rs now → AreLast (rs ++ cond (is_void_behind vs old r.stamp) [] (r ∷ [])) next) → AgreeFrom r.stamp (is_void_behind vs new) (is_void_behind vs old)
-    → AreAddedSoFar vs new left (yielded ++ r ∷ []) next
-one_more vs old new r was left yielded now next is so_far step same =
-    let knows = subst (Knows vs old) is so_far.knows in
-    let order = subst (DontFall stamp 0) is so_far.order in
-    record {
-      added = subst (λ (rs : List Record). AreLast rs next)
-          (ap (λ (b : Bool). filter (is_live vs) yielded ++ cond b [] (r ∷ [])) knows.0 ∙ ap (λ (l : List Record). filter (is_live vs) yielded ++ l) (turn (is_void vs r.stamp))
-          ∙ sym (filter-append (is_live vs) yielded (r ∷ [])))
-          (step (filter (is_live vs) yielded) so_far.added);
-      order = lower stamp 0 r.stamp left (omega arith) order.1;
-      knows = keeps vs old new r.stamp left order.1 same knows.1;
-    }
-  where
-    turn : (b : Bool) → ◌≡◌ {A = List Record} (cond b [] (r ∷ [])) (cond (not b) (r ∷ []) [])
-    turn true = refl
-    turn false = refl
+-- a walk that knows the same tells the same
+pub knows_still : (vs : List Numbers) (old new : Search) → new.from ≡ old.from → AgreeFrom old.from (is_void_behind vs new.walk) (is_void_behind vs old.walk) → Knows vs old → Knows vs new
+knows_still vs old new from same knows n over = same n (omega (arith, from, over)) ∙ knows n (omega (arith, from, over))
 
 -- ---- what is replayed
 
--- what is live of the records that are reached, in another order, by ranges in another order
-pub is_moved : (vs ordered : List Numbers) (base cutoff : ℕ) (all sorted out : List Record) → IsPermutation vs ordered → IsPermutation (filter (is_reached base cutoff) all) sorted
-    → out ≡ filter (is_live ordered) sorted → IsPermutation (filter (is_replayed vs base cutoff) all) out
-is_moved vs ordered base cutoff all sorted out ranges records is =
-    let same : filter (is_live ordered) sorted ≡ filter (is_live vs) sorted =
-    filter_same (is_live ordered) (is_live vs) sorted (λ r at. ap (λ (b : Bool). not b) (sym (list_any-IsPermutation (λ (v : Numbers). nat_lt v.0 r.stamp && not (nat_lt v.1 r.stamp)) vs ordered ranges))) in
-    subst (λ (l : List Record). IsPermutation l out) (filter_filter (is_live vs) (is_reached base cutoff) all)
-    (subst (λ (l : List Record). IsPermutation (filter (is_live vs) (filter (is_reached base cutoff) all)) l) (sym (is ∙ same)) (filter_moved (is_live vs) (filter (is_reached base cutoff) all) sorted records))
+-- ranges in another order let the same records through
+pub same_replayed : (vs ordered : List Numbers) (base cutoff : ℕ) (rs : List Record) → IsPermutation vs ordered
+    → filter (is_replayed ordered base cutoff) rs ≡ filter (is_replayed vs base cutoff) rs
+same_replayed vs ordered base cutoff rs ranges = filter_same (is_replayed ordered base cutoff) (is_replayed vs base cutoff) rs
+    (λ r at. ap (λ (b : Bool). (nat_lt base r.stamp && not (nat_lt cutoff r.stamp)) && not b)
+    (sym (list_any-IsPermutation (λ (v : Numbers). nat_lt v.0 r.stamp && not (nat_lt v.1 r.stamp)) vs ordered ranges)))
+
+module _ (test : Record → Bool) (rs : List Record) where
+  -- what passes a test of more records
+  pub records_more : (ys zs : List Record) → (rs ++ filter test ys) ++ filter test zs ≡ rs ++ filter test (ys ++ zs)
+  records_more ys zs = append_assoc rs (filter test ys) (filter test zs) ∙ ap (λ (l : List Record). rs ++ l) (sym (filter-append test ys zs))
+
+  -- of one batch more
+  pub batches_more : (bs : List LogBatch) (b : LogBatch) → (rs ++ filter test (flat_map records_in bs)) ++ filter test (records_in b) ≡ rs ++ filter test (flat_map records_in (bs ++ b ∷ []))
+  batches_more bs b = records_more (flat_map records_in bs) (records_in b) ∙ ap (λ (l : List Record). rs ++ filter test l) (flat_map_more records_in [] bs b)
+
+-- whose records were listed
+pub after : (test : Record → Bool) (rs : List Record) (bs : List LogBatch) (b : LogBatch) (listed : List Record) → listed ≡ records_in b
+    → (rs ++ filter test (flat_map records_in bs)) ++ filter test listed ≡ rs ++ filter test (flat_map records_in (bs ++ b ∷ []))
+after test rs bs b listed is = ap (λ (l : List Record). (rs ++ filter test (flat_map records_in bs)) ++ filter test l) is ∙ batches_more test rs bs b
+
+-- and of one log more
+pub fronts_more : (test : Record → Bool) (fs : List Front) (f : Front)
+    → filter test (all_records (map contents_of fs)) ++ filter test (records_of (contents_of f)) ≡ filter test (all_records (map contents_of (fs ++ f ∷ [])))
+fronts_more test fs f =
+    sym (filter-append test (all_records (map contents_of fs)) (records_of (contents_of f)))
+    ∙ ap (filter test) (flat_map_more records_of [] (map contents_of fs) (contents_of f)
+    ∙ ap all_records (sym (map-append contents_of fs (f ∷ []))))

@@ -1,6 +1,5 @@
 -- What a recovery finds wrong in a single log: its first number that falls.
-use Rattle.std.specs.Prelude.{ℕ, ◌==◌, Bool, not, ◌&&◌, nat_lt, List, [], ◌∷◌, Option, Some, None, if◌then◌else◌}
-use Rattle.mt_rows.specs.declared.record.Record.{Record}
+use Rattle.std.specs.Prelude.{ℕ, ◌==◌, Bool, not, ◌&&◌, nat_lt, List, [], ◌∷◌, map, Option, Some, None, if◌then◌else◌}
 use Rattle.mt_log.specs.{declared.batch.LogBatch.LogBatch, declared.batch.LogBatch.TheVariants.{Records, Resume}, Contents.{Contents, from_of, to_of}}
 
 -- the first of two, if it is there, else the second
@@ -9,9 +8,9 @@ first_of None other = other
 first_of (Some x) other = Some x
 
 -- the first stamp that isn't over the one before it, or is over `to`
-abbrev pub fall_in : ℕ → ℕ → List Record → Option ℕ
+abbrev pub fall_in : ℕ → ℕ → List ℕ → Option ℕ
 fall_in last to [] = None
-fall_in last to (r ∷ rs) = if nat_lt last r.stamp && not (nat_lt to r.stamp) then fall_in r.stamp to rs else Some r.stamp
+fall_in last to (stamp ∷ stamps) = if nat_lt last stamp && not (nat_lt to stamp) then fall_in stamp to stamps else Some stamp
 
 -- whether a batch doesn't go back, and keeps no more than it ends at
 abbrev pub goes_on : LogBatch → Bool
@@ -20,7 +19,7 @@ goes_on (Resume from to kept) = not (nat_lt to from) && not (nat_lt to kept)
 
 -- the first stamp of a batch that falls
 abbrev pub stamp_fall : LogBatch → Option ℕ
-stamp_fall (Records b) = fall_in b.from b.to b.records
+stamp_fall (Records b) = fall_in b.from b.to (map (λ r. r.stamp) b.records)
 stamp_fall (Resume from to kept) = None
 
 -- What is wrong in a batch behind a mark: where it begins, if that isn't the mark or it doesn't go on; else its first stamp that falls.

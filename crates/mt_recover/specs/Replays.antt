@@ -1,17 +1,9 @@
--- The steps to what is replayed: which records a recovery reaches, and one walk over the ranges of void numbers for all of these.
+-- The steps to what is replayed: one walk over the ranges of void numbers for numbers that rise.
 use Rattle.std.specs.{Prelude.{◌≡◌, ℕ, ◌≤◌, Bool, not, ◌&&◌, ◌||◌, nat_lt, List, drop}, List.filter, List.Sorted.IsPermutation}
 use Rattle.mt_rows.specs.declared.record.Record.{Record}
 use Rattle.mt_log.specs.Contents.{Contents}
-use Rattle.mt_recover.specs.{Orders.DontFall, Changes.{Changes, AreLast}, declared.voids.Walk.Walk}
+use Rattle.mt_recover.specs.{Orders.DontFall, Changes.{Changes, AreLast}, declared.voids.{Walk.Walk, Search.Search}}
 use Rattle.mt_crashes.specs.Fronts.{Numbers, is_void, is_replayed, all_records}
-
--- whether a record's stamp is over the base and at most the cutoff
-abbrev pub is_reached : ℕ → ℕ → Record → Bool
-is_reached base cutoff r = nat_lt base r.stamp && not (nat_lt cutoff r.stamp)
-
--- whether its stamp is not void
-abbrev pub is_live : List Numbers → Record → Bool
-is_live voids r = not (is_void voids r.stamp)
 
 -- Whether a number is void, as a walk knows it: the ranges behind it count as if they held all numbers up to where they reach, and those that are left are
 -- looked at. Of a walk that has not begun this is `is_void`.
@@ -21,6 +13,14 @@ is_void_behind voids walk n = (nat_lt 0 n && not (nat_lt walk.reach n)) || is_vo
 -- two tests agree on a number and all over it
 abbrev pub AgreeFrom : ℕ → (ℕ → Bool) → (ℕ → Bool) → Type 0
 AgreeFrom from p q = (n : ℕ) → from ≤ n → p n ≡ q n
+
+-- a search knows of each number from its own on whether it is void
+abbrev pub Knows : List Numbers → Search → Type 0
+Knows voids search = AgreeFrom search.from (is_void_behind voids search.walk) (is_void voids)
+
+-- whether a record of this stamp is replayed
+abbrev pub counts : List Numbers → ℕ → ℕ → ℕ → Bool
+counts voids base cutoff stamp = nat_lt base stamp && not (nat_lt cutoff stamp) && not (is_void voids stamp)
 
 -- these are the last changes of the records over a base, at most a cutoff and not void, the least stamp first
 abbrev pub HaveReplayed : List Numbers → ℕ → ℕ → List Contents → Changes → Type 0

@@ -5,7 +5,6 @@ ghost use Rattle.mt_log.specs.Contents.{contents_of};
 ghost use Rattle.mt_recover.specs.Falls.{fall_in, goes_on, batch_fall, fall_of, first_fall};
 
 use mt_log::{Front, LogBatch};
-use mt_rows::Record;
 
 /// The first number that falls in a log, and the log's worker; of several logs the one that is given
 /// first.
@@ -42,7 +41,7 @@ fn batch_fall(mark: u64, batch: &LogBatch) -> Option<u64>
         return Some(batch.from());
     }
     match batch {
-        LogBatch::Records(batch) => fall_in(batch.from(), batch.to(), batch.records()),
+        LogBatch::Records(batch) => fall_in(batch.from(), batch.to(), batch.stamps()),
         LogBatch::Resume { .. } => None,
     }
 }
@@ -58,15 +57,15 @@ fn goes_on(batch: &LogBatch) -> bool
 }
 
 // The first stamp that isn't over the one before it, or is over `to`.
-fn fall_in(from: u64, to: u64, records: &[Record]) -> Option<u64>
-    ensures { result ≡ fall_in from to records.now }
+fn fall_in(from: u64, to: u64, stamps: &[u64]) -> Option<u64>
+    ensures { result ≡ fall_in from to stamps.now }
 {
     let mut last = from;
-    for record in records {
-        if record.stamp <= last || record.stamp > to {
-            return Some(record.stamp);
+    for stamp in stamps {
+        if *stamp <= last || *stamp > to {
+            return Some(*stamp);
         }
-        last = record.stamp;
+        last = *stamp;
     }
     None
 }

@@ -37,8 +37,8 @@ fn with_changes(
     ensures ascend { IfOk result (λ listed. Ascend (listed.items ++ left.new.items)) }
 {
     let mut listed = Vec::new(alloc);
-    for (owner, row) in changes {
-        make(&mut listed, left, owner, row)?;
+    for (owner, change) in changes {
+        make(&mut listed, left, owner, change.row)?;
     }
     Ok(listed)
 }

@@ -1,13 +1,12 @@
 //! Whether a stamp stands in two logs.
 
-ghost use Rattle.std.specs.Prelude.{◌≡◌, ◌++◌, map, Option, None, IfOk, OnOk, MatchOption, IsPermutation};
+ghost use Rattle.std.specs.Prelude.{◌≡◌, ◌++◌, ℕ, map, Option, None, IfOk, OnOk, MatchOption, IsPermutation};
 ghost use Rattle.mt_rows.specs.declared.record.Record.{Record as AnyRecord};
 ghost use Rattle.mt_log.specs.Contents.{contents_of};
 ghost use Rattle.mt_crashes.specs.{Fronts.records_in, Recoveries.AreSet};
 ghost use Rattle.mt_recover.specs.{Falls.first_fall, Orders.DontFall, Twice.{AreApart, IsFirstTwice, Stamp, stamps_of, all_stamps, first_twice, highest_of}};
 
 use mt_log::{Front, LogBatch};
-use mt_rows::Record;
 use std::alloc::{AllocError, Global};
 
 /// The least stamp that stands in two logs, and the highest worker in whose log it stands; none where no
@@ -50,17 +49,17 @@ fn take_batch(out: &mut Vec<(u64, u8)>, batch: &LogBatch, worker: u8) -> Result<
     ensures { OnOk result (out.new.items ≡ out.old.items ++ map (λ (r : AnyRecord). (r.stamp, worker)) (records_in batch.now)) }
 {
     match batch {
-        LogBatch::Records(batch) => take_records(out, batch.records(), worker),
+        LogBatch::Records(batch) => take_stamps(out, batch.stamps(), worker),
         LogBatch::Resume { .. } => Ok(()),
     }
 }
 
-// Those of records.
-fn take_records(out: &mut Vec<(u64, u8)>, records: &[Record], worker: u8) -> Result<(), AllocError>
-    ensures { OnOk result (out.new.items ≡ out.old.items ++ map (λ (r : AnyRecord). (r.stamp, worker)) records.now) }
+// These stamps.
+fn take_stamps(out: &mut Vec<(u64, u8)>, stamps: &[u64], worker: u8) -> Result<(), AllocError>
+    ensures { OnOk result (out.new.items ≡ out.old.items ++ map (λ (n : ℕ). (n, worker)) stamps.now) }
 {
-    for record in records {
-        out.push((record.stamp, worker))?;
+    for stamp in stamps {
+        out.push((*stamp, worker))?;
     }
     Ok(())
 }

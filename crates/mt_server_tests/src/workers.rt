@@ -91,29 +91,32 @@ fn closed_again(
 }
 
 // Whether one change is in a log, and is of this key.
-fn has_one(front: &Front, key: u8) -> bool {
+fn has_one(alloc: Global, front: &Front, key: u8) -> Result<bool, AllocError> {
     let mut count: u8 = 0;
     for batch in &front.batches {
         if let LogBatch::Records(batch) = batch {
-            for record in batch.records() {
+            for record in batch.records(alloc)? {
                 if record.key.as_bytes() != [key].as_slice() {
-                    return false;
+                    return Ok(false);
                 }
                 count = count.saturating_add(1);
             }
         }
     }
-    count == 1
+    Ok(count == 1)
 }
 
 // Whether each of two logs has the change of one client, at its worker's place.
-fn have_one_each(fronts: &[Front]) -> bool {
+fn have_one_each(alloc: Global, fronts: &[Front]) -> Result<bool, AllocError> {
     let [first, second] = fronts else {
-        return false;
+        return Ok(false);
     };
-    (first.worker, second.worker) == (0, 1)
-        && (has_one(first, b'k') && has_one(second, b'l')
-            || has_one(first, b'l') && has_one(second, b'k'))
+    if (first.worker, second.worker) != (0, 1) {
+        return Ok(false);
+    }
+    let in_order = has_one(alloc, first, b'k')? && has_one(alloc, second, b'l')?;
+    let crossed = has_one(alloc, first, b'l')? && has_one(alloc, second, b'k')?;
+    Ok(in_order || crossed)
 }
 
 fn serve_two<L: Ledger + Send + Sync, R>(rt: &R, alloc: Global, blank: Blank) -> Store<MemDisk>
@@ -150,7 +153,10 @@ fn each_worker_has_a_log_of_its_own(rt: HostRuntime) {
     let store = serve_two::<Brand, _>(&rt, alloc, Blank::new(65_536));
     let mut logs = closed_again(&rt, alloc, store).expect(&rt, "memory");
     match open_logs(alloc, &mut logs) {
-        Ok(fronts) => assert!(&rt; have_one_each(&fronts)),
+        Ok(fronts) => {
+            let one_each = have_one_each(alloc, &fronts).expect(&rt, "memory");
+            assert!(&rt; one_each);
+        }
         Err(_) => panic!(&rt; "a log is not opened"),
     }
 }

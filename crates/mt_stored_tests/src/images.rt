@@ -10,7 +10,7 @@ use mt_recover::LogSlot;
 use mt_rows::{Refusal, TenantPair, Tenants};
 use mt_slots::StoreSlots;
 use mt_store_logs::{NoWatch, StoreLog, open_logs, recover_store};
-use std::alloc::Global;
+use std::alloc::{AllocError, Global};
 use std::process::Abort;
 
 /// A client's key: the client, and the number of the put.
@@ -70,29 +70,29 @@ fn logs_of(alloc: Global, images: Vec<Vec<u8>>) -> Result<Vec<StoreLog<MemDisk>>
 }
 
 // Whether a log has exactly so many first keys of a client, each once and in order.
-fn has_own(front: &Front, owner: u8, count: u16) -> bool {
+fn has_own(alloc: Global, front: &Front, owner: u8, count: u16) -> Result<bool, AllocError> {
     let mut number: u16 = 0;
     for batch in &front.batches {
         if let LogBatch::Records(batch) = batch {
-            for record in batch.records() {
+            for record in batch.records(alloc)? {
                 if record.key.as_bytes() != key_of(owner, number).as_slice() {
-                    return false;
+                    return Ok(false);
                 }
                 number = number.saturating_add(1);
             }
         }
     }
-    number == count
+    Ok(number == count)
 }
 
 // Whether each log stands at its worker's place, and has its own keys.
-fn have_own(fronts: &[Front], counts: &[u16]) -> bool {
+fn have_own(alloc: Global, fronts: &[Front], counts: &[u16]) -> Result<bool, AllocError> {
     for (place, (front, count)) in fronts.iter().zip(counts).enumerate() {
-        if usize::from(front.worker) != place || !has_own(front, front.worker, *count) {
-            return false;
+        if usize::from(front.worker) != place || !has_own(alloc, front, front.worker, *count)? {
+            return Ok(false);
         }
     }
-    fronts.len() == counts.len()
+    Ok(fronts.len() == counts.len())
 }
 
 // Whether these are exactly the pairs of the clients' first keys.
@@ -136,7 +136,7 @@ pub(crate) fn hold_all_with(
 ) -> Result<bool, Refusal> {
     let mut logs = logs_of(alloc, images)?;
     let has_own = match open_logs(alloc, &mut logs) {
-        Ok(fronts) => have_own(&fronts, counts),
+        Ok(fronts) => have_own(alloc, &fronts, counts)?,
         Err(e) => return Err(e.refusal),
     };
     match recover_store(alloc, &mut logs, slots, tenants, &mut NoWatch) {

@@ -2,7 +2,7 @@
 use Rattle.std.proofs.lemmas.Result.{err_from_is_err_and}
 use Rattle.mt_fields.{specs.Reading.each_at, proofs.Loop.{goes_on, ends, is_done}}
 use Rattle.mt_log.specs.Reading.{record_at}
-use Rattle.mt_log.proofs.reader.record_list_of.Goals as goal
+use Rattle.mt_log.proofs.records.record_list_of.Goals as goal
 
 pub returns-in_err-record : goal.returns-in_err-record
 returns-in_err-record c =

@@ -2,7 +2,7 @@
 use Rattle.std.proofs.Common.{◌≡◌, ◌-◌}
 use Rattle.mt_fields.{specs.Reading.each_at, proofs.Loop.with_front}
 use Rattle.mt_log.specs.Reading.{record_at}
-use Rattle.mt_log.proofs.reader.record_list_of.Given as goal
+use Rattle.mt_log.proofs.records.record_list_of.Given as goal
 
 abbrev pub invariant-loop : goal.invariant-loop
 invariant-loop l = with_front l.records.items (each_at record_at (l.count - l.counter) l.rest) ≡ each_at record_at l.count l.bytes
