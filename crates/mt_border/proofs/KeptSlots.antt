@@ -9,12 +9,12 @@ use Rattle.mt_border.specs.{Held.{Held, Stable, Unstable, Link}, Slots.{Slotted,
 use Rattle.mt_border.specs.{Node.{Node, IsNodeSlots, IsLive, held_at, Rewrites}, Keeps.{GoesOn, IsLiveIn, KeepsSlots}}
 use Rattle.mt_border.proofs.{Slotting.{next_apart, length-listed}, Writes.{held_is, slot_below}}
 
-goes_same : (h : Held) → GoesOn h h
+pub goes_same : (h : Held) → GoesOn h h
 goes_same (Stable p) = refl
 goes_same (Unstable p tree) = (refl, λ known. refl)
 goes_same (Link u) = refl
 
-goes_on : (a b c : Held) → GoesOn a b → GoesOn b c → GoesOn a c
+pub goes_on : (a b c : Held) → GoesOn a b → GoesOn b c → GoesOn a c
 goes_on (Stable p) (Stable q) (Stable r) x y = y ∙ x
 goes_on (Stable p) (Stable q) (Unstable r tree) x y = y ∙ x
 goes_on (Stable p) (Stable q) (Link u) x y = tt
@@ -182,6 +182,19 @@ read_remove ys xs place i d within differ long =
     place_apart : (xs : List ℕ) (place i : ℕ) → place < length xs → get_or xs place 0 ≢ i → place_of_slot xs i ≢ place
     place_apart xs place i within differ same = differ (ap (λ k. get_or xs k 0) (sym same) ∙ slot_there xs i (omega (arith, same, within)))
 
+-- a live slot stays live beside one that is made so
+pub live_published : (s : Slotted) (place : ℕ) → IsSlotted s → length (listed s) < 15 → place ≤ length s.order.live → (i : ℕ) → IsLiveIn s i
+    → place_of_slot (order_with s.order place).live i < length (order_with s.order place).live
+live_published s place slotted room within i l =
+    let n = next_free s in
+    let xs = s.order.live in
+    let size = length-insert xs place n within in
+    let moved = place_insert xs place n i (λ same. apart_live s i n (next_apart s slotted room) l (sym same)) within in
+    elim (cases_lt (place_of_slot xs i) place) [
+      | inl before ↦ omega (arith, moved.0 before, l, size)
+      | inr from ↦ omega (arith, moved.1 from, l, size)
+    ]
+
 pub kept_publishes : (s : Slotted) (place slice : ℕ) (mark : Mark) → IsSlotted s → length (listed s) < 15 → place ≤ length s.order.live → is_dropped s (next_free s) ≡ false
     → KeepsSlots s (record s { slices = insert s.slices place slice; marks = insert s.marks place mark; order = order_with s.order place })
 kept_publishes s place slice mark slotted room within unflagged i below =
@@ -191,12 +204,7 @@ kept_publishes s place slice mark slotted room within unflagged i below =
     let other : IsLiveIn s i → n ≢ i = λ l same. apart_live s i n (next_apart s slotted room) l (sym same) in
     record {
       flag = λ f. f;
-      live = λ l.
-          let moved = place_insert xs place n i (other l) within in
-          inl (elim (cases_lt (place_of_slot xs i) place) [
-            | inl before ↦ omega (arith, moved.0 before, l, size)
-            | inr from ↦ omega (arith, moved.1 from, l, size)
-          ]);
+      live = λ l. inl (live_published s place slotted room within i l);
       slice = λ l m. read_insert s.slices xs place n i slice 0 (other l) within slotted.slices_are;
       mark = λ l m. read_insert s.marks xs place n i mark Long (other l) within (slotted.marks_are ∙ slotted.slices_are);
       held = λ l. goes_same (held_in s.helds i);
@@ -225,6 +233,18 @@ gone o place once within k d lt same =
           omega (arith, from, once (k + 1) place (omega (arith, lt, one)) within read)
     ]
 
+-- and beside one that is dropped
+pub live_left : (s : Slotted) (place : ℕ) → IsSlotted s → place < length s.order.live → (i : ℕ) → IsLiveIn s i → i ≢ get_or s.order.live place 0
+    → place_of_slot (order_without s.order place).live i < length (order_without s.order place).live
+live_left s place slotted within i l differ =
+    let xs = s.order.live in
+    let size = length-remove xs place within in
+    let moved = place_remove xs place i within (λ same. differ (sym same)) in
+    elim (cases_lt (place_of_slot xs i) place) [
+      | inl before ↦ omega (arith, moved.0 before, before, within, size)
+      | inr from ↦ omega (arith, moved.1 from, l, size)
+    ]
+
 pub kept_lets_go : (s : Slotted) (place : ℕ) → IsSlotted s → place < length s.order.live
     → KeepsSlots s (record s { slices = remove s.slices place; marks = remove s.marks place; dropped = set s.dropped (get_or s.order.live place 0) true; order = order_without s.order place })
 kept_lets_go s place slotted within i below =
@@ -240,12 +260,7 @@ kept_lets_go s place slotted within i below =
       ];
       live = λ l. elim (cases_eq i slot) [
         | inl same ↦ inr (rw same (get_or-set_same s.dropped slot true false (omega (arith, same, below, slotted.dropped_are))), rw same (λ there. omega (arith, there, left)))
-        | inr differ ↦
-            let moved = place_remove xs place i within (λ same. differ (sym same)) in
-            inl (elim (cases_lt (place_of_slot xs i) place) [
-              | inl before ↦ omega (arith, moved.0 before, before, within, size)
-              | inr from ↦ omega (arith, moved.1 from, l, size)
-            ])
+        | inr differ ↦ inl (live_left s place slotted within i l differ)
       ];
       slice = λ l m. read_remove s.slices xs place i 0 within (λ same. omega (arith, m, left, ap (place_of_slot (remove xs place)) same)) slotted.slices_are;
       mark = λ l m. read_remove s.marks xs place i Long within (λ same. omega (arith, m, left, ap (place_of_slot (remove xs place)) same)) (slotted.marks_are ∙ slotted.slices_are);

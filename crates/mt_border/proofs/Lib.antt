@@ -5,6 +5,7 @@ pub mod RowEdits
 pub mod Slotting
 pub mod Writes
 pub mod KeptSlots
+pub mod KeptEntries
 pub mod Cuts
 pub mod Counts
 pub mod Finds

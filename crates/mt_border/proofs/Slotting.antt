@@ -1,12 +1,12 @@
 -- What the live slots list, through each edit of what they hold and of their order: for the slots of a node and the edits of `Border`.
-use Rattle.std.proofs.Common.{◌≡◌, ◌≢◌, ℕ, suc, ◌+◌, ◌<◌, ◌≤◌, List, [], Option, None, Some, ◌∷◌, ◌++◌, length, get_or, set, take, drop, refl, sym, ap, ◌∙◌, inl, inr, arith}
+use Rattle.std.proofs.Common.{◌≡◌, ◌≢◌, ℕ, zero, suc, ◌+◌, ◌<◌, ◌≤◌, List, [], Option, None, Some, ◌∷◌, ◌++◌, length, get_or, set, take, drop, refl, sym, ap, ◌∙◌, inl, inr, arith}
 use Rattle.std.proofs.lemmas.Bool.{cases_eq}
 use Rattle.std.proofs.lemmas.List.{ext_get_or, map-append, take-map, drop-map, length-map, length-set, get_or-map, get_or-set_same, get_or-set_other, get_or_default, length-take, get_or-append-add, get_or-drop, drop_more, length-append, append_assoc}
 use Rattle.std.specs.{Prelude.map, Option.{IfSome, IfNone}, List.{All, insert, remove}}
 use Rattle.mt_slices.specs.declared.mark.Mark.{Mark}
-use Rattle.mt_order.{specs.Places.{Places, IsPlaces, place_of_slot}, proofs.Once.{live_once, live_below, place_is, no_place, free_apart, free_below}}
+use Rattle.mt_order.{specs.Places.{Places, IsPlaces, fifteen, order_with, place_of_slot}, proofs.Once.{live_once, live_below, place_is, no_place, free_apart, free_below}}
 use Rattle.mt_border.specs.{declared.entry.Entry.Entry, Held.{Held, Link}, Entries.{slices, marks}, Rows.{entries_in, AreRows}}
-use Rattle.mt_border.specs.Slots.{Slotted, IsSlotted, held_in, helds_of, listed, next_free}
+use Rattle.mt_border.specs.Slots.{Slotted, IsSlotted, held_in, helds_of, listed, next_free, first_slots}
 use Rattle.mt_border.proofs.RowEdits.{length-rows, slices-rows, marks-rows, insert-rows, remove-rows}
 
 -- the rows of the live slots are as long as one another
@@ -211,3 +211,21 @@ module _ (es left right : List Entry) (keep place : ℕ) (e : Entry) (within : k
   moved_right =
       ap (λ k. insert right k e ++ drop (keep + (place + 1)) es) (sym len) ∙ ap (λ xs. xs ++ drop (keep + (place + 1)) es) (put_behind right e)
       ∙ append_assoc right (e ∷ []) (drop (keep + (place + 1)) es) ∙ ap (λ xs. right ++ xs) (sym next) ∙ right_is
+
+-- the first slots are taken one after the other
+put_next : (xs : List ℕ) (n : ℕ) → n < length xs → insert (take n xs) n (get_or (drop n xs) 0 0) ≡ take (suc n) xs
+put_next [] n below = absurd (omega (arith, below))
+put_next (x ∷ xs) zero below = refl
+put_next (x ∷ xs) (suc n) below = ap (λ zs. x ∷ zs) (put_next xs n (omega (arith, below)))
+
+drop_next : (xs : List ℕ) (n : ℕ) → drop 1 (drop n xs) ≡ drop (suc n) xs
+drop_next [] zero = refl
+drop_next [] (suc n) = refl
+drop_next (x ∷ xs) zero = refl
+drop_next (x ∷ xs) (suc n) = drop_next xs n
+
+pub next_first : (n : ℕ) → n < 15 → order_with (first_slots n) n ≡ first_slots (n + 1)
+next_first n below =
+    let on : suc n ≡ n + 1 = omega arith in
+    ap (λ live. record { live = live; free = drop 1 (drop n fifteen) }) (put_next fifteen n below)
+    ∙ ap (λ free. record { live = take (suc n) fifteen; free = free }) (drop_next fifteen n) ∙ ap first_slots on

@@ -1,8 +1,8 @@
 -- What others leave of the slots of a node while its version stands, for a reader who remembers one of them.
-use Rattle.std.specs.Prelude.{◌≡◌, ◌≢◌, ◌⊎◌, ℕ, ◌<◌, true, Some, None, length, slice_index, slice_index_or, ⊤}
+use Rattle.std.specs.Prelude.{◌≡◌, ◌≢◌, ◌⊎◌, ℕ, ◌<◌, true, List, Some, None, length, slice_index, slice_index_or, ⊤}
 use Rattle.mt_slices.specs.{declared.mark.Mark.Mark, declared.mark.Mark.TheVariants.Long}
 use Rattle.mt_order.specs.Places.{place_of_slot}
-use Rattle.mt_border.specs.{Held.{Held, Stable, Unstable, Link}, Slots.{Slotted, held_in, is_dropped}}
+use Rattle.mt_border.specs.{Held.{Held, Stable, Unstable, Link}, declared.entry.Entry.Entry, Slots.{Slotted, held_in, is_dropped}}
 
 -- what is held stays, or goes on: a pair gets another row, or becomes unstable; an unstable one gets its tree, and becomes the link to that
 abbrev pub GoesOn : Held → Held → Type 0
@@ -39,3 +39,27 @@ pub record KeepsSlot (s t : Slotted) (slot : ℕ) : Type 0 where
 -- all of them
 abbrev pub KeepsSlots : Slotted → Slotted → Type 0
 KeepsSlots s t = (slot : ℕ) → slot < 15 → KeepsSlot s t slot
+
+-- a slot has an entry, by what a node shows of its slots: the entries in the order of keys, and the cells
+abbrev pub HasEntry : List Entry → Slotted → ℕ → Type 0
+HasEntry entries cells slot = place_of_slot cells.order.live slot < length entries
+
+-- and which one
+abbrev pub entry_in : List Entry → Slotted → ℕ → Entry
+entry_in entries cells slot = slice_index_or entries (place_of_slot cells.order.live slot) (record { slice = 0; mark = Long; held = Link 0 })
+
+-- what `KeepsSlot` says of cells, by what a node shows
+pub record KeepsEntry (es : List Entry) (s : Slotted) (fs : List Entry) (t : Slotted) (slot : ℕ) : Type 0 where
+  pub flag : is_dropped s slot ≡ true → is_dropped t slot ≡ true
+  pub live : HasEntry es s slot → HasEntry fs t slot ⊎ ((is_dropped t slot ≡ true) × ¬ HasEntry fs t slot)
+  pub slice : HasEntry es s slot → HasEntry fs t slot → (entry_in fs t slot).slice ≡ (entry_in es s slot).slice
+  pub mark : HasEntry es s slot → HasEntry fs t slot → (entry_in fs t slot).mark ≡ (entry_in es s slot).mark
+  pub held : HasEntry es s slot → HasEntry fs t slot → GoesOn (entry_in es s slot).held (entry_in fs t slot).held
+  pub free : ¬ HasEntry es s slot → is_dropped s slot ≡ true → (¬ HasEntry fs t slot) × (held_in t.helds slot ≡ held_in s.helds slot)
+
+abbrev pub KeepsEntries : List Entry → Slotted → List Entry → Slotted → Type 0
+KeepsEntries es s fs t = (slot : ℕ) → slot < 15 → KeepsEntry es s fs t slot
+
+-- of all slots this one alone may lose its entry, and holds what it held
+abbrev pub LosesOnly : List Entry → Slotted → List Entry → Slotted → ℕ → Type 0
+LosesOnly es s fs t slot = (other : ℕ) → HasEntry es s other → ¬ HasEntry fs t other → (other ≡ slot) × (held_in t.helds other ≡ (entry_in es s other).held)

@@ -58,6 +58,7 @@ filled node slice mark stamp = record { slice = slice; mark = mark; held = stamp
 -- the slot has the slice and the mark, and holds this of the key that goes on with the suffix
 pub record IsFound (node : Node) (slice : ℕ) (mark : Mark) (suffix : List ℕ) (slot : ℕ) (kind : FoundKind)
     : Type 0 where
+  pub within : slot < 15
   pub live : IsLive node slot
   pub among : Contains (entries_of node) (entry_at node slot)
   pub slice_is : (entry_at node slot).slice ≡ slice

@@ -1,7 +1,7 @@
 -- The slots of a node: the slices and the marks of its live ones in the order of keys, and what each of the fifteen holds.
-use Rattle.std.specs.Prelude.{◌≡◌, ℕ, Bool, false, List, [], ◌∷◌, length, map, slice_index, slice_index_or}
+use Rattle.std.specs.Prelude.{◌≡◌, ℕ, Bool, false, List, [], ◌∷◌, length, take, drop, map, slice_index, slice_index_or}
 use Rattle.mt_slices.specs.declared.mark.Mark.{Mark}
-use Rattle.mt_order.specs.Places.{Places, IsPlaces, fresh_order}
+use Rattle.mt_order.specs.Places.{Places, IsPlaces, fifteen, fresh_order}
 use Rattle.mt_border.specs.{declared.entry.Entry.Entry, Held.{Held, Link}, Rows.entries_in}
 
 -- The order tells the slot of each place. What a slot holds stands in it as long as it is live, and so does whether it was ever dropped.
@@ -38,6 +38,15 @@ fifteen_of x = x ∷ x ∷ x ∷ x ∷ x ∷ x ∷ x ∷ x ∷ x ∷ x ∷ x ∷
 -- none is live, and none was dropped
 abbrev pub fresh_slots : Slotted
 fresh_slots = record { slices = []; marks = []; helds = fifteen_of (Link 0); dropped = fifteen_of false; order = fresh_order }
+
+-- the order in which so many of the first slots are live, one after the other
+abbrev pub first_slots : ℕ → Places
+first_slots count = record { live = take count fifteen; free = drop count fifteen }
+
+-- the live slots are the first ones in the order of keys, and none was dropped
+pub record IsFresh (s : Slotted) : Type 0 where
+  pub order : s.order ≡ first_slots (length (listed s))
+  pub unflagged : s.dropped ≡ fifteen_of false
 
 -- fifteen slots, of which each live one has a slice and a mark
 pub record IsSlotted (s : Slotted) : Type 0 where

@@ -11,7 +11,7 @@
 //! No call takes memory or fails; all change the node in place. A node owns its entries. Numbers of
 //! nodes and trees are the arena's; those of nodes are kept in 32 bits.
 
-ghost use Rattle.std.specs.Prelude.{◌≡◌, ◌-◌, ◌<◌, ◌≤◌, ◌↔◌, ℕ, [], IsTrue, IsSome, IfSome, true, length, slice_get, slice_set, insert, remove, map};
+ghost use Rattle.std.specs.Prelude.{◌≡◌, ◌-◌, ◌<◌, ◌≤◌, ◌↔◌, ℕ, [], IsTrue, IsSome, IfSome, true, false, length, slice_get, slice_set, insert, remove, map};
 ghost use Rattle.std.specs.Option.{option_map};
 ghost use Rattle.mt_slices.specs.Marks.{IsMark};
 
@@ -70,7 +70,7 @@ impl Border {
     ghost use Rattle.mt_border.specs.{Entry.{order_at, order_of, IsEntry, IsRest, IsStablePair, IsUnlinked, IsLinked}, Rows.entry_seen};
     ghost use Rattle.mt_border.specs.{Entries.{IsBorder, IsMissing, place_in, with_entry, without}, Split.{IsCut, IsParted, IsSeparator, slices_with}};
     ghost use Rattle.mt_border.specs.Node.{empty_node, entries_of, entry_at, held_at, place_at, filled, IsLive, Finds, Rewrites};
-    ghost use Rattle.mt_border.specs.Slots.{held_in, next_free, is_dropped};
+    ghost use Rattle.mt_border.specs.{Slots.{held_in, next_free, is_dropped, IsFresh}, Keeps.{KeepsEntries, LosesOnly}};
     ghost use Rattle.mt_order.specs.Places.{order_with, order_without, word_of, IsPlaces};
 
     /// A node without keys, neighbours and parent.
@@ -210,7 +210,8 @@ impl Border {
     /// What a slot holds, live or not.
     pub fn stands_in(&self, slot: usize) -> &Held
         requires { slot < SLOTS }
-        ensures { result.now ≡ held_in self.now.slots.helds slot }
+        ensures value { result.now ≡ held_in self.now.slots.helds slot }
+        ensures live { IsLive self.now slot → result.now ≡ held_at self.now slot }
     {
         self.slots.held(slot)
     }
@@ -224,6 +225,8 @@ impl Border {
         ensures slots { let next = next_free self.old.slots in
             self.new.slots ≡ record self.old.slots { helds = slice_set self.old.slots.helds next held } }
         ensures there { held_in self.new.slots.helds (next_free self.new.slots) ≡ held }
+        ensures keeps { is_dropped self.old.slots (next_free self.old.slots) ≡ false →
+            KeepsEntries (entries_of self.old) self.old.slots (entries_of self.new) self.new.slots }
         ensures others { self.new ≡ record self.old { slots = self.new.slots } }
     {
         let next = self.slots.next_free();
@@ -244,6 +247,9 @@ impl Border {
               helds = slice_set self.old.slots.helds next (stamped stamp (held_in self.old.slots.helds next));
               order = order_with self.old.slots.order place;
             } }
+        ensures live { (other : ℕ) → IsLive self.old other → IsLive self.new other }
+        ensures keeps { is_dropped self.old.slots (next_free self.old.slots) ≡ false →
+            KeepsEntries (entries_of self.old) self.old.slots (entries_of self.new) self.new.slots }
         ensures others { self.new ≡ record self.old { slots = self.new.slots } }
     {
         let place = place_of(&self.slots, slice, mark);
@@ -262,6 +268,8 @@ impl Border {
               dropped = slice_set self.old.slots.dropped slot true;
               order = order_without self.old.slots.order place;
             } }
+        ensures lost { LosesOnly (entries_of self.old) self.old.slots (entries_of self.new) self.new.slots slot }
+        ensures keeps { KeepsEntries (entries_of self.old) self.old.slots (entries_of self.new) self.new.slots }
         ensures others { self.new ≡ record self.old { slots = self.new.slots } }
     {
         let place = self.slots.place_of(slot).unwrap();
@@ -278,6 +286,7 @@ impl Border {
         ensures after { (pair : Pair) → held_at self.old slot ≡ Stable pair →
             Rewrites self.old self.new slot
             (Stable (record pair { row = row; stamp = stamp })) }
+        ensures keeps { KeepsEntries (entries_of self.old) self.old.slots (entries_of self.new) self.new.slots }
     {
         let slots = &mut self.slots;
         slots.helds[slot].put_row(row, stamp)
@@ -298,8 +307,9 @@ impl Border {
         requires live { IsLive self.old slot }
         requires long { (entry_at self.old slot).mark ≡ Mark.Long }
         requires stable { IsStablePair (held_at self.old slot) }
-        ensures { (pair : Pair) → held_at self.old slot ≡ Stable pair →
+        ensures after { (pair : Pair) → held_at self.old slot ≡ Stable pair →
             Rewrites self.old self.new slot (Unstable pair None) }
+        ensures keeps { KeepsEntries (entries_of self.old) self.old.slots (entries_of self.new) self.new.slots }
     {
         let slots = &mut self.slots;
         slots.helds[slot].unsettle();
@@ -309,8 +319,9 @@ impl Border {
     pub fn link(&mut self, slot: usize, tree: usize)
         requires live { IsLive self.old slot }
         requires unlinked { IsUnlinked (held_at self.old slot) }
-        ensures { (pair : Pair) → held_at self.old slot ≡ Unstable pair None →
+        ensures after { (pair : Pair) → held_at self.old slot ≡ Unstable pair None →
             Rewrites self.old self.new slot (Unstable pair (Some tree)) }
+        ensures keeps { KeepsEntries (entries_of self.old) self.old.slots (entries_of self.new) self.new.slots }
     {
         let slots = &mut self.slots;
         slots.helds[slot].put_tree(tree);
@@ -326,6 +337,7 @@ impl Border {
         ensures after { (pair : Pair) (tree : ℕ) →
             held_at self.old slot ≡ Unstable pair (Some tree) →
             Rewrites self.old self.new slot (Link tree) }
+        ensures keeps { KeepsEntries (entries_of self.old) self.old.slots (entries_of self.new) self.new.slots }
     {
         let slots = &mut self.slots;
         slots.helds[slot].become_link()
@@ -354,7 +366,8 @@ impl Border {
     }
 
     /// Splits a full node as if it had this key too, which is in neither half: keys from the
-    /// separator on move to the right. Gives the separator.
+    /// separator on move to the right. Both halves have their keys in the first slots, in order, and no
+    /// slot that counts as dropped. Gives the separator.
     pub fn split_without(&mut self, slice: u64, mark: Mark, right: &mut Border) -> u64
         requires full { length (entries_of self.old) ≡ SLOTS }
         requires mark { IsMark mark }
@@ -366,17 +379,19 @@ impl Border {
             (entries_of self.new) (entries_of right.new) result }
         ensures two_on_the_left { 2 ≤ length (entries_of self.new) }
         ensures two_on_the_right { 2 ≤ length (entries_of right.new) }
+        ensures fresh { IsFresh self.new.slots }
+        ensures fresh_on_the_right { IsFresh right.new.slots }
         ensures others { self.new ≡ record self.old { slots = self.new.slots } }
         ensures others_on_the_right { right.new ≡ record right.old { slots = right.new.slots } }
     {
         let separator = self.separator(slice, mark);
         let keep = self.slots.count_below(separator);
-        self.slots.move_tail(keep, &mut right.slots);
+        self.slots.part(keep, &mut right.slots);
         separator
     }
 
-    /// Splits a full node and this key: keys from the separator on stand on the right afterwards.
-    /// Gives the separator.
+    /// Splits a full node and this key: keys from the separator on stand on the right afterwards. Slots
+    /// are as after `split_without`. Gives the separator.
     pub fn split_into(&mut self, entry: Entry, right: &mut Border) -> u64
         requires full { length (entries_of self.old) ≡ SLOTS }
         requires entry { IsEntry entry }
@@ -388,16 +403,31 @@ impl Border {
             IsCut sixteen (length (entries_of self.new)) }
         ensures parted { IsParted (with_entry (entries_of self.old) entry)
             (entries_of self.new) (entries_of right.new) result }
+        ensures fresh { IsFresh self.new.slots }
+        ensures fresh_on_the_right { IsFresh right.new.slots }
         ensures others { self.new ≡ record self.old { slots = self.new.slots } }
         ensures others_on_the_right { right.new ≡ record right.old { slots = right.new.slots } }
     {
         let separator = self.split_without(entry.slice, entry.mark, right);
         if entry.slice < separator {
-            self.publish(entry);
+            self.put_in(entry);
         } else {
-            right.publish(entry);
+            right.put_in(entry);
         }
         separator
+    }
+
+    // Makes one more key live, and moves all into the first slots.
+    fn put_in(&mut self, entry: Entry)
+        requires room { length (entries_of self.old) < SLOTS }
+        requires entry { IsEntry entry }
+        requires missing { IsMissing (entries_of self.old) entry.slice entry.mark }
+        ensures entries { entries_of self.new ≡ with_entry (entries_of self.old) entry }
+        ensures fresh { IsFresh self.new.slots }
+        ensures others { self.new ≡ record self.old { slots = self.new.slots } }
+    {
+        self.publish(entry);
+        self.slots.renew();
     }
 
     /// The node whose slices come next.

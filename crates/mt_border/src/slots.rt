@@ -46,7 +46,7 @@ impl Model for Slots {
 
 impl Slots {
     ghost use Rattle.mt_border.specs.{Restamps.all_restamped, Entries.{slices, marks}, Rows.entry_seen};
-    ghost use Rattle.mt_border.specs.Slots.{IsSlotted, held_in, next_free, is_dropped, fresh_slots, listed};
+    ghost use Rattle.mt_border.specs.Slots.{IsSlotted, held_in, next_free, is_dropped, fresh_slots, listed, IsFresh};
     ghost use Rattle.mt_order.specs.Places.{place_of_slot, order_with, order_without, word_of};
 
     pub(crate) fn new() -> Self
@@ -114,7 +114,8 @@ impl Slots {
     /// The slot at a place of the order.
     pub(crate) fn slot_at(&self, place: usize) -> usize
         requires { place < length (listed self.now) }
-        ensures { place_of_slot self.now.order.live result ≡ place }
+        ensures place { place_of_slot self.now.order.live result ≡ place }
+        ensures within { result < SLOTS }
     {
         self.order.slot(place)
     }
@@ -281,13 +282,45 @@ impl Slots {
         restamp_each(&mut self.helds, stamp);
     }
 
-    /// Moves the entries from place `keep` on into slots of which none is live. Those that stay keep their slots.
-    pub(crate) fn move_tail(&mut self, keep: usize, right: &mut Slots)
+    /// Moves the entries from place `keep` on into other slots, whatever these hold. On both sides they
+    /// stand in the first slots then, in the order of keys, and none of these counts as dropped.
+    pub(crate) fn part(&mut self, keep: usize, right: &mut Slots)
         requires within { keep ≤ length (listed self.old) }
         requires few { length (listed self.old) ≤ SLOTS }
-        requires empty { listed right.old ≡ [] }
         ensures kept { listed self.new ≡ take keep (listed self.old) }
         ensures moved { listed right.new ≡ drop keep (listed self.old) }
+        ensures fresh { IsFresh self.new }
+        ensures fresh_on_the_right { IsFresh right.new }
+        ensures slotted { IsSlotted self.new }
+        ensures slotted_on_the_right { IsSlotted right.new }
+    {
+        let mut behind = Slots::new();
+        self.move_tail(keep, &mut behind);
+        *right = behind;
+        self.renew();
+    }
+
+    /// Moves the entries into the first slots, in the order of keys. None of the slots counts as dropped
+    /// any more.
+    pub(crate) fn renew(&mut self)
+        requires few { length (listed self.old) ≤ SLOTS }
+        ensures entries { listed self.new ≡ listed self.old }
+        ensures fresh { IsFresh self.new }
+        ensures slotted { IsSlotted self.new }
+    {
+        let mut renewed = Slots::new();
+        self.move_tail(0, &mut renewed);
+        *self = renewed;
+    }
+
+    // Moves the entries from place `keep` on into fresh slots. Those that stay keep their slots.
+    fn move_tail(&mut self, keep: usize, right: &mut Slots)
+        requires within { keep ≤ length (listed self.old) }
+        requires few { length (listed self.old) ≤ SLOTS }
+        requires empty { right.old ≡ fresh_slots }
+        ensures kept { listed self.new ≡ take keep (listed self.old) }
+        ensures moved { listed right.new ≡ drop keep (listed self.old) }
+        ensures fresh { IsFresh right.new }
         ensures slotted { IsSlotted self.new }
         ensures slotted_on_the_right { IsSlotted right.new }
     {

@@ -1,8 +1,9 @@
 -- the entries stay in order, and the slot alone changes: its pair is a link
-use Rattle.std.proofs.Common.{◌<◌, length, ◌∙◌, arith}
+use Rattle.std.proofs.Common.{◌<◌, length, refl, ◌∙◌, arith}
 use Rattle.mt_order.specs.Places.{place_of_slot}
 use Rattle.mt_border.specs.{Slots.{listed as entries_in, slots_in}, Node.IsNodeSlots}
 use Rattle.mt_border.proofs.Writes.{slot_within, slot_below, held_is, node_written, rewrites_in}
+use Rattle.mt_border.proofs.KeptEntries.{shown_written, linked_is, on_as}
 use Rattle.mt_border.proofs.border.Border.mark_layer.Goals as goal
 
 -- the slot is live in the slots that are lent, and these are sound
@@ -40,3 +41,10 @@ returns-clause-after c = λ pair tree is.
     let now = c.become_link.ensures.held pair tree (here ∙ was) in
     rw (← c.self.view_is, ← now)
     (rewrites_in _ _ c.args.slot _ c.slots.view_is c.self.invariant (rw (← c.self.view_is) at c.requires.live))
+
+pub returns-clause-keeps : goal.returns-clause-keeps
+returns-clause-keeps c =
+    let here = held_is _ c.args.slot c.slots.invariant (live c.before) _ in
+    let some = linked_is _ (rw (← c.self.view_is, ← c.slots.view_is) at c.requires.linked) in
+    let now = c.become_link.ensures.held some.0 some.1 (here ∙ some.2) in
+    rw (← c.self.view_is) (shown_written _ _ c.args.slot _ c.slots.view_is (sound c.before) (live c.before) (on_as _ _ _ _ some.2 now (λ known. refl)))

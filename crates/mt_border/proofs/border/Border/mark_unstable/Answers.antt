@@ -1,8 +1,9 @@
 -- the entries stay in order, and the slot alone changes: its pair is unstable
-use Rattle.std.proofs.Common.{◌<◌, length, ◌∙◌, arith}
+use Rattle.std.proofs.Common.{◌<◌, length, refl, ◌∙◌, arith}
 use Rattle.mt_order.specs.Places.{place_of_slot}
 use Rattle.mt_border.specs.{Slots.{listed as entries_in, slots_in}, Node.IsNodeSlots}
 use Rattle.mt_border.proofs.Writes.{slot_within, slot_below, held_is, node_written, rewrites_in}
+use Rattle.mt_border.proofs.KeptEntries.{shown_written, stable_is, on_as}
 use Rattle.mt_border.proofs.border.Border.mark_unstable.Goals as goal
 
 -- the slot is live in the slots that are lent, and these are sound
@@ -27,10 +28,17 @@ unsettle-requires c = rw (held_is _ c.args.slot c.slots.invariant (live c) _) (r
 pub invariant_of-self : goal.invariant_of-self
 invariant_of-self c = node_written _ c.args.slot c.slots.invariant (live c.before) _ _ (sound c.before).border (c.unsettle.ensures.fits _ (rw (← c.self.view_is, ← c.slots.view_is) at c.requires.long))
 
-pub returns : goal.returns
-returns c = λ pair is.
+pub returns-clause-after : goal.returns-clause-after
+returns-clause-after c = λ pair is.
     let here = held_is _ c.args.slot c.slots.invariant (live c.before) _ in
     let was = rw (← c.self.view_is, ← c.slots.view_is) at is in
     let now = c.unsettle.ensures.held pair (here ∙ was) in
     rw (← c.self.view_is, ← now)
     (rewrites_in _ _ c.args.slot _ c.slots.view_is c.self.invariant (rw (← c.self.view_is) at c.requires.live))
+
+pub returns-clause-keeps : goal.returns-clause-keeps
+returns-clause-keeps c =
+    let here = held_is _ c.args.slot c.slots.invariant (live c.before) _ in
+    let some = stable_is _ (rw (← c.self.view_is, ← c.slots.view_is) at c.requires.stable) in
+    let now = c.unsettle.ensures.held some.0 (here ∙ some.1) in
+    rw (← c.self.view_is) (shown_written _ _ c.args.slot _ c.slots.view_is (sound c.before) (live c.before) (on_as _ _ _ _ some.1 now refl))

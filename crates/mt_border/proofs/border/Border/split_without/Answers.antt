@@ -14,12 +14,12 @@ pub invariant_of-self : goal.invariant_of-self
 invariant_of-self c =
     let count = slices_count (listed c.self.inside.slots) c.separator-separator.result _ c.self.invariant.border c.count_below-keep.ensures in
     let size = length-map (listed c.self.inside.slots) (λ (e : Entry). e.slice) in
-    record { slotted = c.move_tail.ensures.slotted; border = rw c.move_tail.ensures.kept (border_take _ c.count_below-keep.result c.self.invariant.border.rising c.self.invariant.border.each (omega (arith, count.within, size, c.self.invariant.border.within))) }
+    record { slotted = c.part.ensures.slotted; border = rw c.part.ensures.kept (border_take _ c.count_below-keep.result c.self.invariant.border.rising c.self.invariant.border.each (omega (arith, count.within, size, c.self.invariant.border.within))) }
 
 pub invariant_of-right : goal.invariant_of-right
 invariant_of-right c = record {
-  slotted = c.move_tail.ensures.slotted_on_the_right;
-  border = rw c.move_tail.ensures.moved (border_drop _ c.count_below-keep.result c.self.invariant.border.rising c.self.invariant.border.each (omega (arith, c.self.invariant.border.within)));
+  slotted = c.part.ensures.slotted_on_the_right;
+  border = rw c.part.ensures.moved (border_drop _ c.count_below-keep.result c.self.invariant.border.rising c.self.invariant.border.each (omega (arith, c.self.invariant.border.within)));
 }
 
 pub returns-clause-parted : goal.returns-clause-parted
@@ -27,7 +27,7 @@ returns-clause-parted c =
     let es = (listed c.self.inside.slots) in
     let count = slices_count (listed c.self.inside.slots) c.separator-separator.result _ c.self.invariant.border c.count_below-keep.ensures in
     let size = length-map es (λ (e : Entry). e.slice) in
-    rw (← c.self.view_is, c.move_tail.ensures.kept, c.move_tail.ensures.moved)
+    rw (← c.self.view_is, c.part.ensures.kept, c.part.ensures.moved)
     (parted_at es _ c.count_below-keep.result c.self.invariant.border.rising (marks_of _ c.self.invariant.border) (omega (arith, count.within, size)) count.below (λ lt. count.above (omega (arith, lt, size))))
 
 pub returns-clause-two_on_the_left : goal.returns-clause-two_on_the_left
@@ -40,7 +40,7 @@ returns-clause-two_on_the_left c =
     let missing : IsMissing es c.args.slice c.args.mark = rw entries_are c.requires.missing in
     let separator = rw (← entries_are) at c.separator-separator.ensures in
     let keep = least_left es c.args.slice c.args.mark c.self.invariant.border c.requires.mark missing full _ _ separator (λ lt. count.above (omega (arith, lt, size))) in
-    rw c.move_tail.ensures.kept (omega (arith, length-take c.count_below-keep.result es, keep, count.within, size))
+    rw c.part.ensures.kept (omega (arith, length-take c.count_below-keep.result es, keep, count.within, size))
 
 pub returns-clause-two_on_the_right : goal.returns-clause-two_on_the_right
 returns-clause-two_on_the_right c =
@@ -51,4 +51,4 @@ returns-clause-two_on_the_right c =
     let missing : IsMissing es c.args.slice c.args.mark = rw entries_are c.requires.missing in
     let separator = rw (← entries_are) at c.separator-separator.ensures in
     let keep = least_right es c.args.slice c.args.mark c.self.invariant.border c.requires.mark missing full _ _ separator count.below in
-    rw c.move_tail.ensures.moved (omega (arith, length-drop c.count_below-keep.result es, keep, full))
+    rw c.part.ensures.moved (omega (arith, length-drop c.count_below-keep.result es, keep, full))
