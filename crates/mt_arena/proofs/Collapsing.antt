@@ -1,4 +1,6 @@
 -- The whole invariant, the guarantee and the contents where a root gives way to its only child: for `collapse`.
+use Rattle.mt_border.proofs.KeptEntries.{entries_none}
+use Rattle.mt_arena.specs.Guarantee.{LosesHeld}
 use Rattle.std.proofs.Common.{◌≡◌, ◌≢◌, ℕ, ◌<◌, List, [], ◌∷◌, length, get_or, set, Some, None, refl, sym, ap, subst, ◌∙◌, inl, inr, arith}
 use Rattle.std.proofs.{lemmas.Bool.cases_eq, lemmas.List.{length-set, get_or-set_same, get_or-set_other}}
 use Rattle.mt_version.proofs.Aging.{ages-made_root}
@@ -10,7 +12,7 @@ use Rattle.mt_arena.specs.{Arena.{ArenaInvariant, ArenaView, AreRetired, Guarant
 use Rattle.mt_arena.specs.{Lags.{Follows, IsUnder}, Removals.{MayCollapse, nodes_under, without_root, with_retired}}
 use Rattle.mt_arena.proofs.{Pairs.{here, there}, Begins.{KeepsSeat, begins_set, begins_trees}, Locks.is_held, Collapse.{nodes_collapsed, ranged_collapsed}}
 use Rattle.mt_arena.proofs.{LinkEdits.{KeepsLinks, same_links, layers_set, layers_empty}, Retiring.{retired_set, retired_more}}
-use Rattle.mt_arena.proofs.{TakenOut.{changes_retired, same_of_trees}, HeldChanges.changes_held, Guarantees.{PointsSo, guarantee_on}}
+use Rattle.mt_arena.proofs.{TakenOut.{changes_retired, same_of_trees}, HeldChanges.changes_held, Guarantees.{PointsSo, guarantee_on, lost_none}}
 use Rattle.mt_arena.proofs.{Naming.{names_same, points_each, each_set2}, Several.{MayTurn, guarantee_set2}, Topping.{layers_trees, guarantee_record}}
 use Rattle.mt_arena.proofs.Settling.{NamesNoMore, names_none_more, follows_was, under_was, settled_same}
 use Rattle.mt_arena.proofs.ContentQuiet.{stands_unchanged, stands_without_slots, stands_tree_set}
@@ -26,7 +28,7 @@ no_numbers (x ∷ xs) none = absurd (omega (arith, none))
 -- a child that the operation holds becomes the root
 changes_crowned : (op : ℕ) (x : NodeView) → x.holder ≡ Some op → Changes op x (crowned x)
 changes_crowned op x held =
-    changes_held op x (crowned x) held held refl refl refl (ages-made_root x.version) (λ some. some) (λ whole live. omega arith) (λ whole still. record { slots = refl; order = refl; separators = refl; children = refl })
+    changes_held op x (crowned x) held held refl refl refl (ages-made_root x.version) (λ some. some) (λ whole live. omega arith) (λ whole still. record { slots = entries_none _ _; separators = refl; children = refl })
 
 module _ (v : ArenaView) (room root child step op : ℕ) (sound : ArenaInvariant v.nodes v.trees v.retired room) (may : MayCollapse v root child op) where
   abbrev xs : List NodeView
@@ -314,6 +316,7 @@ module _ (v : ArenaView) (room root child step op : ℕ) (sound : ArenaInvariant
         (guarantee_record op new v.trees t rooted lt_t record_changes) sound.arena.forest.tree_there;
     points = points_each op xs new size (each_set2 (λ k n. PointsSo op new (at v k) n) xs root child w y lr lc apart
         (names_same op new p w refl refl) names_none (λ k lt nr nc. names_same op new (at v k) (at v k) refl refl));
+    lost = each_set2 (λ k n. LosesHeld (at v k) n) xs root child w y lr lc apart (lost_none p) (lost_none x) (λ k lt nr nc. lost_none (at v k));
   }
 
   pub content_collapsed : content ts (nodes_under xs root child) ≡ content v.trees xs

@@ -4,18 +4,18 @@ use Rattle.std.proofs.{lemmas.Bool.cases_eq, lemmas.List.{length-set, get_or-set
 use Rattle.std.specs.{Prelude.{◌⊎◌}, List.{All, remove}}
 use Rattle.mt_slices.specs.{Slices.piece_bytes, declared.mark.Mark.TheVariants.{Short, Long}}
 use Rattle.mt_rows.specs.Rows.{Bytes}
-use Rattle.mt_border.specs.{declared.entry.Entry.Entry, Held.Link, Contents.HasKey, Entries.{IsBorder, slices, without}}
+use Rattle.mt_border.specs.{declared.entry.Entry.Entry, Held.Link, Keeps.KeepsEntries, Contents.HasKey, Entries.{IsBorder, slices, without}}
 use Rattle.mt_border.proofs.Edits.{any_entry, All-remove, border_without, without_at}
 use Rattle.mt_arena.specs.{declared.tree.Tree.Tree, declared.tree.Standing.TheVariants.{Live, Dead}, NodeView.{NodeView, node_at}}
 use Rattle.mt_arena.specs.{Nodes.{AreNodes, Holds, HasRange}, Ranges.{AreRanged, Waits}, Forests.{IsForest, IsRoot, HaveKeys, tree_at, no_tree, layer_of}}
-use Rattle.mt_arena.specs.{Layers.{AreLayered, AreLinks, HasLink, LeadsTo, slot_at}, Contents.content, Guarantee.TreeChanges, Edits.{retired, with_slots, cells_without}}
+use Rattle.mt_arena.specs.{Layers.{AreLayered, AreLinks, HasLink, LeadsTo, slot_at}, Contents.content, Guarantee.{TreeChanges, LosesHeld}, Edits.{retired, with_slots, cells_without}}
 use Rattle.mt_arena.specs.{Arena.{ArenaInvariant, ArenaView, AreRetired, Guarantee}, Accesses.at, NodeFacts.IsUnstable, Settled.IsSettled}
 use Rattle.mt_arena.specs.{Lags.{Follows, IsUnder}, Removals.{MayDropLayer, nodes_above, without_layer, with_retired}}
 use Rattle.mt_arena.proofs.{Pairs.{here, there}, Locks.is_held, Quiet.nodes_slots, Slots.{within_each, within_all, changes_slots}}
 use Rattle.mt_arena.proofs.{Ranged.{no_wait, ranged_marked, ranged_retired}, Retire.nodes_retired, Collapse.{is_true, root_left}, Homes.forest_set}
 use Rattle.mt_arena.proofs.{Steps.keys_of, SlotPlaces.{was_at, at_still}, OneLink.{IsLinkTo, leads, differs, below_top, one_link}}
 use Rattle.mt_arena.proofs.{DeadTree.{dead, stood, forest_dead}, TakenOut.{changes_retired, same_of_trees}, Retiring.{retired_set, retired_more}}
-use Rattle.mt_arena.proofs.{Guarantees.{PointsSo, guarantee_on}, Naming.{names_same, points_each, each_set2}, Several.{MayTurn, guarantee_set2}}
+use Rattle.mt_arena.proofs.{Guarantees.{PointsSo, guarantee_on, lost_none}, Naming.{names_same, points_each, each_set2}, Several.{MayTurn, guarantee_set2}}
 use Rattle.mt_arena.proofs.{Topping.guarantee_record, Settling.{NamesNoMore, names_none_more, follows_was, under_was, settled_same}}
 use Rattle.mt_arena.proofs.ContentQuiet.{stands_unlinked, stands_without_slots, stands_tree_left}
 
@@ -281,8 +281,8 @@ module _ (v : ArenaView) (room node i u step op : ℕ) (sound : ArenaInvariant v
   }
 
   -- what others rely on
-  turns_node : MayTurn op v.trees n y
-  turns_node = record { changes = changes_slots op n es y.cells may.held.holder; mine = λ q made. absurd (let both = sym live_above ∙ made in cc) }
+  turns_node : KeepsEntries n.slots n.cells es y.cells → MayTurn op v.trees n y
+  turns_node keeps = record { changes = changes_slots op n es y.cells may.held.holder (λ still. keeps); mine = λ q made. absurd (let both = sym live_above ∙ made in cc) }
 
   turns_root : MayTurn op v.trees x w
   turns_root = record {
@@ -298,12 +298,13 @@ module _ (v : ArenaView) (room node i u step op : ℕ) (sound : ArenaInvariant v
     live = λ _ q f. absurd (cc);
   }
 
-  pub step_dropped_layer : Guarantee op v (without_layer v node i u step)
-  step_dropped_layer = record {
-    nodes = guarantee_on op xs new new v.trees v.trees ts (guarantee_set2 op xs v.trees node r y w ln lr apart forest turns_node turns_root)
+  pub step_dropped_layer : KeepsEntries n.slots n.cells es y.cells → LosesHeld n y → Guarantee op v (without_layer v node i u step)
+  step_dropped_layer keeps lost = record {
+    nodes = guarantee_on op xs new new v.trees v.trees ts (guarantee_set2 op xs v.trees node r y w ln lr apart forest (turns_node keeps) turns_root)
         (guarantee_record op new v.trees u (dead tree) lu record_changes) forest.tree_there;
     points = points_each op xs new size (each_set2 (λ k m. PointsSo op new (at v k) m) xs node r y w ln lr apart
         (names_same op new n y refl refl) (names_same op new x w refl refl) (λ k lk nn nr. names_same op new (at v k) (at v k) refl refl));
+    lost = each_set2 (λ k m. LosesHeld (at v k) m) xs node r y w ln lr apart lost (lost_none x) (λ k lk nn nr. lost_none (at v k));
   }
 
   -- the contents: no node of the tree has a pair any more

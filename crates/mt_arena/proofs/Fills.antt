@@ -1,8 +1,8 @@
 -- The whole invariant, the guarantee and the contents where the free slot that is taken next is written: for `fill`.
-use Rattle.std.{proofs.Common.{◌≡◌, ◌≢◌, ℕ, ◌<◌, List, length, set, Bool, true, false, Some, None, refl, arith}, specs.Prelude.{◌||◌}}
+use Rattle.std.{proofs.Common.{◌≡◌, ◌≢◌, ℕ, ◌<◌, List, length, set, Bool, true, false, Some, None, refl, sym, ◌∙◌, arith}, specs.Prelude.{◌||◌}}
 use Rattle.mt_version.specs.{Parts.Parts, Changes.Ages}
 use Rattle.mt_version.proofs.Aging.{ages-marked_inserting}
-use Rattle.mt_border.specs.{Held.Held, Slots.{next_free, is_dropped}}
+use Rattle.mt_border.specs.{Held.Held, Slots.{next_free, is_dropped}, Keeps.KeepsEntries}
 use Rattle.mt_arena.specs.{declared.tree.Tree.Tree, declared.retired.Retired.Retired, NodeView.{NodeView, node_at}, Nodes.AreNodes, Contents.content}
 use Rattle.mt_arena.specs.{Guarantee.Changes, Edits.{with_filled, cells_filled}, Arena.{ArenaInvariant, ArenaView, Guarantee}, Accesses.{at, IsOpen, with_node}}
 use Rattle.mt_arena.proofs.{Quiet.{nodes_quiet, held_node}, Ranged.ranged_marked, Steps.{sound_set, keys_of, step_set}, LinkEdits.same_links, Locks.not_others}
@@ -36,24 +36,36 @@ sound_filled xs trees gone room i held within sound has =
     (keys_of xs trees i within sound.arena.forest)
     record { tree = refl; deleted = refl; forth = same_links x.slots; back = same_links x.slots }
 
--- the keys stand, whatever the version tells
-pub changes_filled : (op : ℕ) (x : NodeView) (held : Held) → x.holder ≡ Some op → Changes op x (with_filled x held)
-changes_filled op x held mine = record {
+-- a version that says nothing new was not marked
+unmarked : (dropped was : Bool) → was ≡ (dropped || was) → was ≡ false → dropped ≡ false
+unmarked true was same still = absurd (let marked = sym still ∙ same in cc)
+unmarked false was same still = refl
+
+-- what a reader may remember is kept, or the version tells
+pub changes_filled : (op : ℕ) (x : NodeView) (held : Held) → x.holder ≡ Some op
+    → (is_dropped x.cells (next_free x.cells) ≡ false → KeepsEntries x.slots x.cells x.slots (cells_filled x.cells held)) → Changes op x (with_filled x held)
+changes_filled op x held mine keeps = record {
   tree = refl;
   level = refl;
   low = refl;
   ages = ages_marked_so (is_dropped x.cells (next_free x.cells)) x.version;
   peopled = λ some. some;
   widens = λ same whole live. omega arith;
-  keys = λ range insertion whole still. record { slots = refl; order = refl; separators = refl; children = refl };
+  keys = λ range insertion whole still. record {
+    slots = keeps (unmarked (is_dropped x.cells (next_free x.cells)) x.version.inserting (versions.insert_age_tells x.version (version_filled x) insertion).1 still);
+    separators = refl;
+    children = refl;
+  };
   held = λ q other e. absurd (not_others op q x mine other e);
   taken = λ q other e. e;
 }
 
 pub step_filled : (v : ArenaView) (i op : ℕ) (held : Held) → i < length v.nodes → (at v i).holder ≡ Some op → IsOpen v i op
+    → (is_dropped (at v i).cells (next_free (at v i).cells) ≡ false → KeepsEntries (at v i).slots (at v i).cells (at v i).slots (cells_filled (at v i).cells held))
     → Guarantee op v (with_node v i (with_filled (at v i) held))
-step_filled v i op held within has mine =
-    step_set op v i (with_filled (at v i) held) within (changes_filled op (at v i) held has) mine record { previous = λ j e not_mine. e; parent = λ j e not_mine. e }
+step_filled v i op held within has mine keeps =
+    step_set op v i (with_filled (at v i) held) within (changes_filled op (at v i) held has keeps) mine (record { previous = λ j e not_mine. e; parent = λ j e not_mine. e })
+    (λ whole slot live gone. absurd (gone live))
 
 pub content_filled : (trees : List Tree) (nodes : List NodeView) (i : ℕ) (held : Held) → content trees (set nodes i (with_filled (node_at nodes i) held)) ≡ content trees nodes
 content_filled trees nodes i held = stands_unchanged trees nodes i (with_filled (node_at nodes i) held) record { slots = refl; deleted = refl; tree = refl }

@@ -1,4 +1,5 @@
 -- The whole invariant, the guarantee and the contents where a slot becomes a link and its tree goes live: for `mark_layer`.
+use Rattle.mt_border.specs.Keeps.{KeepsEntries}
 use Rattle.std.proofs.{Common.{◌≡◌, ◌≢◌, ℕ, ◌<◌, ◌++◌, List, length, get_or, set, Some, refl, sym, ap, subst, ◌∙◌, inl, inr, arith}, lemmas.Bool.cases_eq}
 use Rattle.std.proofs.{lemmas.Option.none-some, lemmas.List.{length-set, get_or-set_same, get_or-set_other}}
 use Rattle.mt_slices.specs.{Slices.piece_bytes, declared.mark.Mark.TheVariants.Long}
@@ -8,7 +9,7 @@ use Rattle.mt_arena.specs.{declared.tree.Tree.Tree, declared.tree.Standing.TheVa
 use Rattle.mt_arena.specs.{Forests.{IsForest, tree_at, layer_of}, Layers.{AreLayered, AreLinks, HasLink, LeadsTo, slot_at}, Contents.content}
 use Rattle.mt_arena.specs.{Arena.{ArenaInvariant, ArenaView, Guarantee}, Accesses.{at, tree_of}, Layering.{MayGoLive, with_held, with_link}}
 use Rattle.mt_arena.proofs.{Pairs.{here, there}, Locks.is_held, Quiet.nodes_slots, Ranged.ranged_marked, Homes.{forest_set, begun}, Retiring.retired_set}
-use Rattle.mt_arena.proofs.{Slots.{within_all, changes_slots}, Guarantees.{guarantee_on, guarantee_set, points_set}, Topping.guarantee_record}
+use Rattle.mt_arena.proofs.{Slots.{within_all, changes_slots, lost_held}, Guarantees.{guarantee_on, guarantee_set, points_set, lost_set}, Topping.guarantee_record}
 use Rattle.mt_arena.proofs.{HeldOtherwise.{MayHoldThis, slots_are, border_after, inside_after, keys_after}, NoLayer.link_would_be_here}
 use Rattle.mt_arena.proofs.{LiveTree.{alive, trees_size, tree_t, same_prefix, live_stays, was_live, forest_live, goes_live}, GoingLive.layered}
 
@@ -197,12 +198,13 @@ module _ (v : ArenaView) (room node i t op : ℕ) (key : Bytes) (pair : Pair) (s
   }
 
   -- what others rely on
-  pub step_live : Guarantee op v (with_link v node i t)
-  step_live = record {
+  pub step_live : KeepsEntries n.slots n.cells y.slots y.cells → Guarantee op v (with_link v node i t)
+  step_live keeps = record {
     nodes = guarantee_on op xs new new v.trees v.trees ts
-        (guarantee_set op xs v.trees node y ln (changes_slots op n y.slots y.cells may.slot.held.holder) (λ q made. absurd (let both = sym may.slot.tree_live ∙ made in cc)))
+        (guarantee_set op xs v.trees node y ln (changes_slots op n y.slots y.cells may.slot.held.holder (λ still. keeps)) (λ q made. absurd (let both = sym may.slot.tree_live ∙ made in cc)))
         (guarantee_record op new v.trees t (alive tree) lt (goes_live xs v.trees t op forest lt may.layer.mine fresh)) forest.tree_there;
     points = points_set op xs node y ln (record { previous = λ j is other. is; parent = λ j is other. is });
+    lost = lost_set xs node y ln (lost_held n i new_e (Link t));
   }
 
   -- the tree has the slot's pair from now on

@@ -10,7 +10,7 @@ use Rattle.mt_arena.specs.{Guarantee.{NodesGuarantee, PointsOnly}, Edits.{splitt
 use Rattle.mt_arena.specs.{Arena.{IsArena, ArenaInvariant, ArenaView, Guarantee}, Accesses.{at, IsOpen, with_half}}
 use Rattle.mt_arena.proofs.{Pairs.{here, last, before}, Push.{nodes_half, nodes_root}, Ranged.ranged_root, RangedEdits.ranged_half, Homes.forest_push}
 use Rattle.mt_arena.proofs.{Trees.{forest_tree, made, last_tree, before_tree}, LinkEdits.no_links, Retiring.retired_push}
-use Rattle.mt_arena.proofs.Guarantees.{guarantee_on, guarantee_set, guarantee_push, points_set, points_push}
+use Rattle.mt_arena.proofs.Guarantees.{guarantee_on, guarantee_set, guarantee_push, points_set, points_push, lost_none, lost_set, lost_push}
 use Rattle.mt_arena.proofs.{ContentQuiet.{content-set, stands_pushed, stands_tree_pushed}, Locks.{is_held, sound_splitting, changes_splitting}}
 use Rattle.mt_arena.proofs.Naming.{points_on}
 
@@ -101,6 +101,7 @@ pub step_half : (v : ArenaView) (room i low op : ℕ) → i < length v.nodes →
 step_half v room i low op within held live level sound mine = record {
   nodes = guarantee_half v.nodes i low op within held live level v.trees sound.arena.forest mine;
   points = points_half v.nodes i low op within held live level;
+  lost = lost_push v.nodes (set v.nodes i (splitting (at v i))) (fresh_half (at v i) i low op) (omega (arith, length-set v.nodes i (splitting (at v i)))) (lost_set v.nodes i (splitting (at v i)) within (lost_none (at v i)));
 }
 
 -- links where a tree is added that is not live

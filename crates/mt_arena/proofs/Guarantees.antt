@@ -2,9 +2,10 @@
 use Rattle.std.proofs.Common.{◌≡◌, ◌≢◌, ℕ, ◌+◌, ◌<◌, ◌≤◌, List, [], ◌∷◌, ◌++◌, length, set, Bool, true, false, Some, None, refl, sym, ap, subst, ◌∙◌, inl, inr, arith, length-append}
 use Rattle.std.proofs.{lemmas.Bool.{cases_eq, cases_lt}, lemmas.List.{length-set, get_or_past}}
 use Rattle.mt_version.specs.Changes.{range_age, insert_age}
+use Rattle.mt_border.proofs.KeptEntries.{entries_none, entries_two}
 use Rattle.mt_arena.specs.{declared.tree.Tree.Tree, declared.tree.Standing.Standing, declared.tree.Standing.TheVariants.{Made, Live, Dead}}
 use Rattle.mt_arena.specs.{NodeView.{NodeView, node_at}, Forests.{tree_at, no_tree}}
-use Rattle.mt_arena.specs.Guarantee.{NodesGuarantee, Changes, TreeChanges, IsUntouched, HasSameKeys, PointsOnly}
+use Rattle.mt_arena.specs.Guarantee.{NodesGuarantee, Changes, TreeChanges, IsUntouched, HasSameKeys, PointsOnly, LosesHeld, LoseHeld}
 use Rattle.mt_arena.proofs.{Pairs.{here, there, last, before}, Trees.before_tree}
 use Rattle.mt_version.proofs.CallerLemmas as versions
 
@@ -29,12 +30,11 @@ untouched_on n m p a b = record {
 
 -- a node has the keys and children that it has
 pub same_keys : (n : NodeView) → HasSameKeys n n
-same_keys n = record { slots = refl; order = refl; separators = refl; children = refl }
+same_keys n = record { slots = entries_none n.slots n.cells; separators = refl; children = refl }
 
 same_keys_on : (n m p : NodeView) → HasSameKeys n m → HasSameKeys m p → HasSameKeys n p
 same_keys_on n m p a b = record {
-  slots = b.slots ∙ a.slots;
-  order = b.order ∙ a.order;
+  slots = entries_two n.slots n.cells m.slots m.cells p.slots p.cells a.slots b.slots;
   separators = b.separators ∙ a.separators;
   children = b.children ∙ a.children;
 }
@@ -232,3 +232,38 @@ points_push op xs y previous parent =
           let is : k ≡ length xs = omega arith in
           absurd (let at = sym parent ∙ ap (λ (n : NodeView). n.parent) (sym (last xs y)) ∙ ap (λ k. (node_at (xs ++ y ∷ []) k).parent) (sym is) ∙ e in cc);
     }
+
+-- a node that keeps its entries loses none
+pub lost_none : (n : NodeView) → LosesHeld n n
+lost_none n whole slot live gone = absurd (gone live)
+
+pub lost_same : (n m : NodeView) → m.slots ≡ n.slots → m.cells ≡ n.cells → LosesHeld n m
+lost_same n m slots cells whole slot live gone = absurd (gone (rw (slots, cells) live))
+
+pub lost_all : (xs : List NodeView) → LoseHeld xs xs
+lost_all xs k lt = lost_none (node_at xs k)
+
+-- one node changes, and a node more
+pub lost_set : (xs : List NodeView) (i : ℕ) (y : NodeView) → i < length xs → LosesHeld (node_at xs i) y → LoseHeld xs (set xs i y)
+lost_set xs i y within lost k lt = elim (cases_eq k i) [
+  | inl same ↦ rw (same, here xs i y within) lost
+  | inr differ ↦ rw (there xs i k y differ) (lost_none (node_at xs k))
+]
+
+pub lost_push : (old new : List NodeView) (g : NodeView) → length old ≤ length new → LoseHeld old new → LoseHeld old (new ++ g ∷ [])
+lost_push old new g more lost k lt = rw (before new g k (omega (arith, lt, more))) (lost k lt)
+
+-- a node that has the entries and the cells that it had, and isn't split meanwhile
+pub record HasSameCells (n m : NodeView) : Type 0 where
+  pub slots : m.slots ≡ n.slots
+  pub cells : m.cells ≡ n.cells
+  pub whole : n.version.splitting ≡ false → m.version.splitting ≡ false
+
+-- two steps, of which the first one leaves all cells as they were
+pub lost_then : (old mid new : List NodeView) → length old ≤ length mid → ((k : ℕ) → k < length old → HasSameCells (node_at old k) (node_at mid k)) → LoseHeld mid new → LoseHeld old new
+lost_then old mid new more same lost k lt =
+    let s = same k lt in
+    by (node_at old k) (node_at mid k) (node_at new k) s.slots s.cells s.whole (lost k (omega (arith, lt, more)))
+  where
+    by : (n m p : NodeView) → m.slots ≡ n.slots → m.cells ≡ n.cells → (n.version.splitting ≡ false → m.version.splitting ≡ false) → LosesHeld m p → LosesHeld n p
+    by n m p slots cells still lost whole = rw (← slots, ← cells) (lost (still whole))

@@ -1,5 +1,6 @@
 -- The whole invariant, the guarantee and the contents where the slots of a border node are parted, with a new key's or without: for the
 -- call that does it.
+use Rattle.mt_arena.specs.Guarantee.{LosesHeld}
 use Rattle.mt_border.specs.Slots.{Slotted}
 use Rattle.std.proofs.Common.{◌≡◌, ◌≢◌, ◌⊎◌, ℕ, ◌+◌, ◌-◌, ◌<◌, ◌≤◌, List, ◌++◌, length, take, drop, get_or, set, Option, Some, None, IfSome, refl, sym, ap, subst, ◌∙◌, inl, inr, arith, length-append}
 use Rattle.std.proofs.{lemmas.Bool.cases_lt, lemmas.Option.same_Some}
@@ -19,7 +20,7 @@ use Rattle.mt_arena.specs.{Arena.{ArenaInvariant, ArenaView, Guarantee}, Accesse
 use Rattle.mt_arena.specs.Several.{IsHalf, MaySplit, MayPlace, AreHalved}
 use Rattle.mt_arena.proofs.{LinkEdits.{HasSlot, HasLinksOf, same_links, links_insert, links_insert_back}, Homes.begun, Locks.is_held, Steps.keys_of}
 use Rattle.mt_arena.proofs.{Slots.{within_each, no_link, begun_mark}, SplitStep.{sound_split, guarantee_split}, Naming.{names_same, points_each, each_set2}}
-use Rattle.mt_arena.proofs.{Halves.{halved, parted_as_were}, Guarantees.PointsSo}
+use Rattle.mt_arena.proofs.{Halves.{halved, parted_as_were}, Guarantees.{PointsSo, lost_none}}
 use Rattle.std.specs.FinMap as finite
 
 -- links of links
@@ -205,6 +206,8 @@ module _ (v : ArenaView) (room left right op : ℕ) (all kept moved : List Entry
           parent = λ j e not_mine. e;
         })
         (λ k lt ni nj. names_same op new (at v k) (at v k) refl refl));
+    lost = each_set2 (λ k n. LosesHeld (at v k) n) v.nodes left right (left_half x kept kept_cells r.low right) (right_half x r moved moved_cells left) half.held.there half.right_held.there half.differ
+        (λ whole. absurd (let both = sym half.marked ∙ whole in cc)) (λ whole. absurd (let both = sym half.right_marked ∙ whole in cc)) (λ k lt ni nj. lost_none (at v k));
   }
 
 -- the right half is a node without slots of the same tree

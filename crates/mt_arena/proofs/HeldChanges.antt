@@ -1,4 +1,5 @@
 -- Which changes of a node that an operation holds its guarantee allows: for the clause `step` of the calls that change several nodes.
+use Rattle.mt_border.proofs.KeptEntries.{entries_none}
 use Rattle.mt_border.specs.Slots.{Slotted}
 use Rattle.std.proofs.Common.{◌≡◌, ◌≢◌, ℕ, suc, ◌+◌, ◌<◌, ◌≤◌, List, [], ◌∷◌, length, take, drop, Bool, Some, true, false, refl, sym, ap, ◌∙◌, arith, length-append}
 use Rattle.std.proofs.{lemmas.Option.same_Some, lemmas.List.Edits.length-remove}
@@ -64,7 +65,7 @@ changes_right_half op x r moved cells left held marked =
 -- the left half whose range in its parent ends at its fence
 pub changes_exact : (op : ℕ) (n : NodeView) → n.holder ≡ Some op → Changes op n (exact n)
 changes_exact op n held =
-    changes_held op n (exact n) held held refl refl refl (versions.ages_refl n.version) (λ some. some) (λ whole live. omega arith) (λ whole still. record { slots = refl; order = refl; separators = refl; children = refl })
+    changes_held op n (exact n) held held refl refl refl (versions.ages_refl n.version) (λ some. some) (λ whole live. omega arith) (λ whole still. record { slots = entries_none _ _; separators = refl; children = refl })
 
 -- the halves of a root below the new one: the left one is no root any more
 pub changes_left_below : (op : ℕ) (n : NodeView) (top : ℕ) → n.holder ≡ Some op → n.version.splitting ≡ true → Changes op n (left_below n top)
@@ -104,4 +105,4 @@ changes_inner_left op p separator q held marked =
 -- the left neighbour of a removed node gets its range
 pub changes_joined : (op : ℕ) (n x : NodeView) → n.holder ≡ Some op → end_of n.high ≤ end_of x.high → Changes op n (joined n x)
 changes_joined op n x held wider =
-    changes_held op n (joined n x) held held refl refl refl (versions.ages_refl n.version) (λ some. some) (λ whole live. wider) (λ whole still. record { slots = refl; order = refl; separators = refl; children = refl })
+    changes_held op n (joined n x) held held refl refl refl (versions.ages_refl n.version) (λ some. some) (λ whole live. wider) (λ whole still. record { slots = entries_none _ _; separators = refl; children = refl })

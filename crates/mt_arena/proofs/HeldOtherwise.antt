@@ -1,4 +1,5 @@
 -- The whole invariant, the guarantee and the contents where a slot holds its pair otherwise: for `mark_unstable` and `link`.
+use Rattle.mt_border.specs.Keeps.{KeepsEntries}
 use Rattle.std.proofs.{Common.{◌≡◌, ◌≢◌, ℕ, ◌<◌, length, set, Some, None, refl, sym, ap, subst, ◌∙◌}, lemmas.List.get_or-map, lemmas.List.Elements.All-set}
 use Rattle.std.specs.List.{All}
 use Rattle.mt_slices.specs.declared.mark.Mark.TheVariants.{Short}
@@ -9,7 +10,7 @@ use Rattle.mt_border.proofs.{Edits.{any_entry, border_set, replaced_at}, Content
 use Rattle.mt_arena.specs.{Edits.cells_holding, NodeView.NodeView, Nodes.Holds, Layers.slot_at, Forests.{HaveKeys, layer_of}, Contents.content}
 use Rattle.mt_arena.specs.{Arena.{ArenaInvariant, ArenaView, Guarantee}, Accesses.{at, tree_of}}
 use Rattle.mt_arena.specs.Layering.{IsHeldSlot, MayUnsettle, MayLink, with_held, with_slot}
-use Rattle.mt_arena.proofs.{Steps.keys_of, Locks.is_held, Slots.{within_each, sound_slots, step_slots}, LinkEdits.{HasLinksOf, links_set, links_set_back}}
+use Rattle.mt_arena.proofs.{Steps.keys_of, Locks.is_held, Slots.{within_each, sound_slots, step_slots, lost_held}, LinkEdits.{HasLinksOf, links_set, links_set_back}}
 use Rattle.mt_arena.proofs.ContentQuiet.{stands_held}
 
 -- what a slot that holds something else may hold: of the same key, if of any
@@ -61,8 +62,9 @@ module _ (v : ArenaView) (room node i op : ℕ) (sound : ArenaInvariant v.nodes 
         begun = All-set (λ (d : Entry). d.mark ≢ Short 0) n.slots i new (keys.begun i any_entry slot.in_range) keys.begun;
       })
 
-  pub step_held : Guarantee op v (with_slot v node i held)
-  step_held = step_slots v node op (replaced n.slots new) (cells_holding n.cells i held) ln slot.held.holder (λ q made. absurd (let both = sym slot.tree_live ∙ made in cc))
+  pub step_held : KeepsEntries n.slots n.cells (replaced n.slots new) (cells_holding n.cells i held) → Guarantee op v (with_slot v node i held)
+  step_held keeps = step_slots v node op (replaced n.slots new) (cells_holding n.cells i held) ln slot.held.holder (λ q made. absurd (let both = sym slot.tree_live ∙ made in cc))
+      (λ still. keeps) (lost_held n i new held)
 
   -- where neither is a link
   module _ (none : (u : ℕ) → e.held ≢ Link u) (none_after : (u : ℕ) → held ≢ Link u) where
@@ -95,7 +97,7 @@ module _ (v : ArenaView) (room node i op : ℕ) (sound : ArenaInvariant v.nodes 
     sound_unsettled =
         sound_held v room node i op sound (Stable pair) may (Unstable pair None) may_unsettle (λ u is. absurd (let both = sym may.is ∙ is in cc)) (λ u is. absurd (cc))
 
-    pub step_unsettled : Guarantee op v (with_slot v node i (Unstable pair None))
+    pub step_unsettled : (let n = at v node in let m = with_held n i (Unstable pair None) in KeepsEntries n.slots n.cells m.slots m.cells) → Guarantee op v (with_slot v node i (Unstable pair None))
     step_unsettled = step_held v room node i op sound (Stable pair) may (Unstable pair None) may_unsettle
 
     pub content_unsettled : content v.trees (set v.nodes node (with_held (at v node) i (Unstable pair None))) ≡ content v.trees v.nodes
@@ -116,7 +118,8 @@ module _ (v : ArenaView) (room node i op : ℕ) (sound : ArenaInvariant v.nodes 
     sound_linked =
         sound_held v room node i op sound (Unstable pair None) may (Unstable pair (Some t)) may_link (λ u is. absurd (let both = sym may.is ∙ is in cc)) (λ u is. absurd (cc))
 
-    pub step_linked : Guarantee op v (with_slot v node i (Unstable pair (Some t)))
+    pub step_linked : (let n = at v node in let m = with_held n i (Unstable pair (Some t)) in KeepsEntries n.slots n.cells m.slots m.cells)
+        → Guarantee op v (with_slot v node i (Unstable pair (Some t)))
     step_linked = step_held v room node i op sound (Unstable pair None) may (Unstable pair (Some t)) may_link
 
     pub content_linked : content v.trees (set v.nodes node (with_held (at v node) i (Unstable pair (Some t)))) ≡ content v.trees v.nodes

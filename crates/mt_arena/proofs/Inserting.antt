@@ -1,4 +1,5 @@
 -- The whole invariant, the guarantee and the contents where a right half comes to stand in its parent: for `insert_child`.
+use Rattle.mt_arena.specs.Guarantee.{LosesHeld}
 use Rattle.std.proofs.Common.{◌≡◌, ◌≢◌, ℕ, suc, ◌+◌, ◌<◌, List, ◌∷◌, [], length, get_or, set, Some, refl, sym, ap, subst, ◌∙◌, inl, inr, arith}
 use Rattle.std.proofs.{lemmas.Bool.cases_lt, lemmas.List.{length-set, set-set, get_or_append_left}}
 use Rattle.mt_interior.specs.{Places.IsNew, Fences.end_of}
@@ -6,8 +7,8 @@ use Rattle.mt_arena.specs.{declared.tree.Tree.Tree, NodeView.{NodeView, node_at}
 use Rattle.mt_arena.specs.{Ranges.AreRanged, Nodes.{AreNodes, IsChild, bounds}, Contents.content, Arena.{ArenaInvariant, ArenaView, Guarantee}, Accesses.at}
 use Rattle.mt_arena.specs.{Edits.inserting, Splits.{Inserts, with_child, exact}, Several.{MayInsert, with_right}}
 use Rattle.mt_arena.proofs.{Pairs.{here, there}, Quiet.nodes_inserting, Ranges.{rises, not_empty, length_bounds}, Ranged.ranged_marked}
-use Rattle.mt_arena.proofs.{RangedEdits.ranged_insert_child, Child.{nodes_insert_child, left_child, differ_ij}, Steps.keys_of, Slots.changes_slots}
-use Rattle.mt_arena.proofs.{HeldChanges.{changes_with_child, changes_exact}, Guarantees.{changes_on, PointsSo}, Naming.{names_same, points_each, each_set2}}
+use Rattle.mt_arena.proofs.{RangedEdits.ranged_insert_child, Child.{nodes_insert_child, left_child, differ_ij}, Steps.keys_of, Slots.changes_inserting}
+use Rattle.mt_arena.proofs.{HeldChanges.{changes_with_child, changes_exact}, Guarantees.{changes_on, PointsSo, lost_none}, Naming.{names_same, points_each, each_set2}}
 use Rattle.mt_arena.proofs.Several.{AreKept, kept_set2, KeepsPlace, forest_set2, MayTurn, guarantee_set2}
 
 module _ (xs : List NodeView) (i j q : ℕ) (nodes : AreNodes xs) (f : Inserts xs i j q) where
@@ -147,12 +148,13 @@ module _ (v : ArenaView) (room parent left right op : ℕ) (sound : ArenaInvaria
   step_right = record {
     nodes = guarantee_set2 op v.nodes v.trees parent left y z may.held.there may.left_held.there apart sound.arena.forest (record {
       changes =
-          changes_on op (at v parent) (inserting (at v parent)) y (changes_slots op (at v parent) (at v parent).slots (at v parent).cells may.held.holder) (changes_with_child op (inserting (at v parent)) (at v right).low right may.held.holder refl);
+          changes_on op (at v parent) (inserting (at v parent)) y (changes_inserting op (at v parent) may.held.holder) (changes_with_child op (inserting (at v parent)) (at v right).low right may.held.holder refl);
       mine = may.mine;
     }) (exact_turn v.nodes parent left right sound.arena.nodes may.inserts op v.trees may.left_held.holder may.mine);
     points =
         points_each op v.nodes new kept.count (each_set2 (λ k n. PointsSo op new (at v k) n) v.nodes parent left y z may.held.there may.left_held.there apart
         (names_same op new (at v parent) y refl refl) (names_same op new (at v left) z refl refl) (λ k lt ni nj. names_same op new (at v k) (at v k) refl refl));
+    lost = each_set2 (λ k n. LosesHeld (at v k) n) v.nodes parent left y z may.held.there may.left_held.there apart (lost_none (at v parent)) (lost_none (at v left)) (λ k lt ni nj. lost_none (at v k));
   }
 
   pub content_right : content v.trees new ≡ content v.trees v.nodes

@@ -1,5 +1,7 @@
 -- The whole invariant and the guarantee where a lock is taken or given back, for `lock` and `unlock`; and where a node is marked for readers of its range, for the calls that split one.
-use Rattle.std.proofs.{Common.{◌≡◌, ◌≢◌, ℕ, ◌<◌, List, length, set, false, Option, Some, None, refl, sym, ap, ◌∙◌, arith}, lemmas.Option.same_Some}
+use Rattle.mt_arena.proofs.{Pairs.{here, there}, Guarantees.{lost_none, HasSameCells}}
+use Rattle.mt_border.proofs.KeptEntries.{entries_none}
+use Rattle.std.proofs.{Common.{◌≡◌, ◌≢◌, ℕ, ◌<◌, List, length, set, false, Option, Some, None, refl, sym, ap, ◌∙◌, inl, inr, arith}, lemmas.Option.same_Some, lemmas.Bool.cases_eq}
 use Rattle.mt_interior.specs.Fences.{end_of}
 use Rattle.mt_arena.specs.{Nodes.HasRange, Settled.IsSettled, declared.tree.Tree.Tree, declared.retired.Retired.Retired, NodeView.{NodeView, node_at}}
 use Rattle.mt_arena.specs.{Guarantee.Changes, Edits.{locked, unlocked, splitting}, Arena.{IsArena, ArenaInvariant, ArenaView, Guarantee}}
@@ -26,7 +28,7 @@ changes_locked op x free = record {
   ages = ages-locked x.version;
   peopled = λ some. some;
   widens = λ same whole live. omega arith;
-  keys = λ range insertion whole still. record { slots = refl; order = refl; separators = refl; children = refl };
+  keys = λ range insertion whole still. record { slots = entries_none _ _; separators = refl; children = refl };
   held = λ q other e. absurd (let none = free in cc);
   taken = λ q other e. absurd (other (sym (let is = e in cc)));
 }
@@ -34,7 +36,14 @@ changes_locked op x free = record {
 -- what a lock that is taken leaves to others
 pub step_locked : (v : ArenaView) (i op : ℕ) → i < length v.nodes → (at v i).holder ≡ None → IsOpen v i op → Guarantee op v (with_node v i (locked (at v i) op))
 step_locked v i op within free mine =
-    step_set op v i (locked (at v i) op) within (changes_locked op (at v i) free) mine record { previous = λ j e not_mine. e; parent = λ j e not_mine. e }
+    step_set op v i (locked (at v i) op) within (changes_locked op (at v i) free) mine (record { previous = λ j e not_mine. e; parent = λ j e not_mine. e }) (lost_none (at v i))
+
+-- all nodes have the cells that they had
+pub same_locked : (xs : List NodeView) (i op : ℕ) → i < length xs → (k : ℕ) → k < length xs → HasSameCells (node_at xs k) (node_at (set xs i (locked (node_at xs i) op)) k)
+same_locked xs i op within k lt = elim (cases_eq k i) [
+  | inl same ↦ rw (same, here xs i (locked (node_at xs i) op) within) (record { slots = refl; cells = refl; whole = λ whole. whole })
+  | inr differ ↦ rw (there xs i k (locked (node_at xs i) op) differ) (record { slots = refl; cells = refl; whole = λ whole. whole })
+]
 
 -- a live node behind which nothing lags has a range: it has a parent, or is a root
 settled_range : (xs : List NodeView) (trees : List Tree) (i : ℕ) → i < length xs → IsArena xs trees → IsSettled xs i (node_at xs i)
@@ -71,7 +80,7 @@ changes_unlocked op x mine = record {
   ages = ages-unlocked x.version;
   peopled = λ some. some;
   widens = λ same whole live. omega arith;
-  keys = λ range insertion whole still. record { slots = refl; order = refl; separators = refl; children = refl };
+  keys = λ range insertion whole still. record { slots = entries_none _ _; separators = refl; children = refl };
   held = λ q other e. absurd (not_others op q x mine other e);
   taken = λ q other e. absurd (cc);
 }
@@ -80,7 +89,7 @@ changes_unlocked op x mine = record {
 pub step_unlocked : (v : ArenaView) (i op : ℕ) → i < length v.nodes → (at v i).holder ≡ Some op → IsOpen v i op
     → Guarantee op v (with_node v i (unlocked (at v i)))
 step_unlocked v i op within held mine =
-    step_set op v i (unlocked (at v i)) within (changes_unlocked op (at v i) held) mine record { previous = λ j e not_mine. e; parent = λ j e not_mine. e }
+    step_set op v i (unlocked (at v i)) within (changes_unlocked op (at v i) held) mine (record { previous = λ j e not_mine. e; parent = λ j e not_mine. e }) (lost_none (at v i))
 
 -- the mark that readers of the range wait for
 pub sound_splitting : (xs : List NodeView) (trees : List Tree) (gone : List Retired) (room i : ℕ) → i < length xs → ArenaInvariant xs trees gone room
@@ -100,7 +109,7 @@ changes_splitting op x mine = record {
   ages = ages-marked_splitting x.version;
   peopled = λ some. some;
   widens = λ same whole live. omega arith;
-  keys = λ range insertion whole still. record { slots = refl; order = refl; separators = refl; children = refl };
+  keys = λ range insertion whole still. record { slots = entries_none _ _; separators = refl; children = refl };
   held = λ q other e. absurd (not_others op q x mine other e);
   taken = λ q other e. e;
 }

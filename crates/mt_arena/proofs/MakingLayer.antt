@@ -9,7 +9,7 @@ use Rattle.mt_arena.specs.{Forests.{HaveKeys, tree_at, layer_of}, Contents.{live
 use Rattle.mt_arena.specs.{Arena.{ArenaInvariant, ArenaView, Guarantee}, Layering.{MayMakeLayer, root_of, with_layer}}
 use Rattle.mt_arena.proofs.{Pairs.last, Links.slice_of_lt, NextLayer.only, Homes.{KeepsHome, HasKeysOf}, LinkEdits.KeepsLinks, Quiet.nodes_quiet}
 use Rattle.mt_arena.proofs.{Ranged.ranged_marked, Trees.{made, last_tree}, Steps.sound_set, Slots.{no_link, within_all}, Growing.{sound_tree, content_tree}}
-use Rattle.mt_arena.proofs.{Guarantees.{guarantee_tree, points_push}, Counted.{pairs-made, pairs-nil}, ContentQuiet.content-set}
+use Rattle.mt_arena.proofs.{Guarantees.{guarantee_tree, points_push, lost_all, lost_push}, Counted.{pairs-made, pairs-nil}, ContentQuiet.content-set}
 
 -- a stable pair is not unstable
 not_unstable : (held : Held) → IsStablePair held → IsUnstable held → ⊥
@@ -129,4 +129,5 @@ pub step_layer : (v : ArenaView) (prefix : Bytes) (e : Entry) (op : ℕ) → Gua
 step_layer v prefix e op = record {
   nodes = guarantee_tree op v.nodes v.trees (root_of (length v.trees) e) (made prefix (length v.nodes) op) (omega arith) (λ q other e. absurd (cc));
   points = points_push op v.nodes (root_of (length v.trees) e) (λ j lt e. absurd (cc)) refl;
+  lost = lost_push v.nodes v.nodes (root_of (length v.trees) e) (omega arith) (lost_all v.nodes);
 }

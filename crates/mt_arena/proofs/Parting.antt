@@ -1,5 +1,6 @@
 -- The whole invariant, the guarantee and the contents where a right half comes to stand in a full parent, which is parted: for
 -- `split_interior`.
+use Rattle.mt_arena.specs.Guarantee.{LosesHeld}
 use Rattle.std.proofs.Common.{◌≡◌, ◌≢◌, ℕ, ◌+◌, ◌<◌, ◌≤◌, List, [], ◌∷◌, ◌++◌, length, set, false, None, refl, sym, ap, subst, ◌∙◌, arith, length-append}
 use Rattle.std.proofs.{lemmas.Option.same_Some, lemmas.List.{length-set, set-set, set-append_left, set_at}}
 use Rattle.mt_arena.specs.{NodeView.{NodeView, node_at}, Nodes.{AreNodes, HasRange}, NodeFacts.TellsKind, Forests.tree_at, Contents.content}
@@ -8,7 +9,7 @@ use Rattle.mt_arena.specs.{Splits.{Inserts, with_child, exact, middle, inner_lef
 use Rattle.mt_arena.proofs.{Pairs.{here, there, last, before}, Quiet.nodes_splitting, Push.nodes_bare, Homes.forest_push, Growing.{layers_push, no_keys}}
 use Rattle.mt_arena.proofs.{Retiring.retired_push, RangedEdits.ranged_parts, Steps.keys_of, Inner.SplitsInner}
 use Rattle.mt_arena.proofs.{InnerSplit.{given, nodes_split_inner, ranges_split_inner}, HeldChanges.changes_inner_left, Locks.changes_splitting}
-use Rattle.mt_arena.proofs.{Guarantees.{changes_on, guarantee_on, guarantee_push, PointsSo}, Naming.{names_same, points_more, each_set2}}
+use Rattle.mt_arena.proofs.{Guarantees.{changes_on, guarantee_on, guarantee_push, PointsSo, lost_none, lost_push}, Naming.{names_same, points_more, each_set2}}
 use Rattle.mt_arena.proofs.{Several.{AreKept, kept_set2, forest_set2, guarantee_set2}, ContentQuiet.stands_pushed}
 use Rattle.mt_arena.proofs.Inserting.{apart_j, is_interior, exact_place, exact_turn}
 
@@ -204,6 +205,8 @@ module _ (v : ArenaView) (room more parent left right op : ℕ) (sound : ArenaIn
         (guarantee_push op halves v.trees u may.mine (λ q other e. other (same_Some q op (sym e)))) sound.arena.forest.tree_there;
     points = points_more op v.nodes halves u kept.count refl refl (each_set2 (λ k n. PointsSo op new (at v k) n) v.nodes parent left y z li lj apart
         (names_same op new x y refl refl) (names_same op new (at v left) z refl refl) (λ k lt ni nj. names_same op new (at v k) (at v k) refl refl));
+    lost = lost_push v.nodes halves u (omega (arith, kept.count)) (each_set2 (λ k n. LosesHeld (at v k) n) v.nodes parent left y z li lj apart
+        (lost_none x) (lost_none (at v left)) (λ k lt ni nj. lost_none (at v k)));
   }
 
   pub content_parts : content v.trees new ≡ content v.trees v.nodes

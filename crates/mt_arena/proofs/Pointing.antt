@@ -1,4 +1,6 @@
 -- The whole invariant and the guarantee where the node before another one or its parent is written: for `set_previous` and `set_parent`.
+use Rattle.mt_arena.proofs.Guarantees.{lost_none}
+use Rattle.mt_border.proofs.KeptEntries.{entries_none}
 use Rattle.std.proofs.Common.{◌≡◌, ◌≢◌, ℕ, ◌<◌, ◌⊎◌, List, length, set, true, false, Option, Some, None, refl, sym, ap, ◌∙◌, inl, inr, arith}
 use Rattle.std.proofs.{lemmas.Bool.cases_eq, lemmas.Option.same_Some}
 use Rattle.mt_arena.specs.{declared.tree.Tree.Tree, declared.retired.Retired.Retired, NodeView.{NodeView, node_at}, Nodes.HasRange, Ranges.Waits}
@@ -28,7 +30,7 @@ changes_pointed op x previous parent stays first = record {
   ages = versions.ages_refl x.version;
   peopled = λ some. some;
   widens = λ same whole live. omega arith;
-  keys = λ range insertion whole still. record { slots = refl; order = refl; separators = refl; children = refl };
+  keys = λ range insertion whole still. record { slots = entries_none _ _; separators = refl; children = refl };
   held =
       λ q other e. record { holder = refl; version = refl; slots = refl; cells = refl; separators = refl; children = refl; next = refl; high = refl; reach = refl; parented = λ some none. some (stays none); orphaned = first q other e };
   taken = λ q other e. e;
@@ -60,11 +62,11 @@ pub step_pointed : (v : ArenaView) (i op : ℕ) (previous parent : Option ℕ) �
     → Guarantee op v (with_node v i (pointed (at v i) previous parent))
 step_pointed v i op previous parent within mine before above stays first =
     let x = at v i in
-    step_set op v i (pointed x previous parent) within (changes_pointed op x previous parent stays first) mine record {
+    step_set op v i (pointed x previous parent) within (changes_pointed op x previous parent stays first) mine (record {
       previous =
           λ j e not_mine. own_or_old op v.nodes x.previous previous j before e (λ held. not_mine (holder_pointed v.nodes i j previous parent within ∙ held));
       parent = λ j e not_mine. own_or_old op v.nodes x.parent parent j above e (λ held. not_mine (holder_pointed v.nodes i j previous parent within ∙ held));
-    }
+    }) (lost_none x)
 
 -- a node names what it named, or one that the operation holds
 pub names_same : (op : ℕ) (nodes : List NodeView) (was : Option ℕ) → NamesOwn op nodes was was

@@ -106,6 +106,5 @@ pub nodes_slots : (xs : List NodeView) (i : ℕ) (slots : List Entry) (cells : S
 nodes_slots xs i slots cells within nodes held level border inside =
     let x = node_at xs i in
     let h = nodes.each i within in
-    let version : Parts = record x.version { inserting = true } in
-    nodes_quiet xs i slots cells version x.holder within nodes refl (λ e. e)
-    (held_node (length xs) x slots cells version x.holder h held h.lock.locked refl refl (λ e. e) record { border = border; within = inside; slotless = λ above. absurd (omega (arith, above, level)) })
+    nodes_quiet xs i slots cells x.version x.holder within nodes refl (λ e. e)
+    (held_node (length xs) x slots cells x.version x.holder h held h.lock.locked refl refl (λ e. e) record { border = border; within = inside; slotless = λ above. absurd (omega (arith, above, level)) })

@@ -1,6 +1,6 @@
 -- The whole invariant, the guarantee and the contents where a key is published, stored or dropped: for the calls of these names.
 use Rattle.std.proofs.Common.{◌≡◌, ◌≢◌, ℕ, ◌*◌, ◌<◌, List, length, get_or, set, Bool, true, false, Some, None, refl, sym, ap, subst, ◌∙◌, arith}
-use Rattle.std.proofs.{lemmas.List.{length-drop, get_or-map, get_or_default}, lemmas.List.Elements.All-set}
+use Rattle.std.proofs.{lemmas.List.{length-drop, length-set, get_or-map, get_or_default}, lemmas.List.Elements.All-set}
 use Rattle.std.specs.{Prelude.{if◌then◌else◌, nat_le}, List.{All, remove}}
 use Rattle.mt_version.proofs.Aging.{ages-marked_inserting}
 use Rattle.mt_slices.specs.{declared.mark.Mark.TheVariants.{Short, Long}, Marks.{mark_rank as rank}, Slices.{mark_of, rest_of}}
@@ -8,9 +8,11 @@ use Rattle.mt_rows.specs.Rows.{Bytes, Columns}
 use Rattle.mt_border.specs.{declared.entry.Entry.Entry, Held.{Pair, Held, Stable, Unstable, Link}, Entry.{IsEntry, IsStablePair, CanHold, order_of, pair_of}}
 use Rattle.mt_border.specs.{Slots.Slotted, Entries.{IsBorder, IsMissing, slices, place_in, with_entry, without, replaced}, Contents.{HasKey, owned}}
 use Rattle.mt_border.proofs.Edits.{any_entry, place_in-le, All-insert, All-remove, border_with_entry, border_without, border_set, without_at, replaced_at}
+use Rattle.mt_border.specs.Keeps.{HasEntry, KeepsEntries, LosesOnly}
+use Rattle.mt_border.proofs.KeptEntries.{entries_none}
 use Rattle.mt_border.proofs.{ContentsKeys.has_rewritten_key, ContentsEdits.keys-publish}
-use Rattle.mt_arena.specs.{declared.tree.Tree.Tree, declared.retired.Retired.Retired, NodeView.{NodeView, node_at}, Nodes.Holds, Layers.slot_at}
-use Rattle.mt_arena.specs.{Forests.{HaveKeys, tree_at, layer_of}, Guarantee.Changes, Edits.{with_slots, cells_with, cells_holding, cells_without}, Arena.{ArenaInvariant, ArenaView, Guarantee}}
+use Rattle.mt_arena.specs.{declared.tree.Tree.Tree, declared.retired.Retired.Retired, NodeView.{NodeView, node_at, place_at}, NodeFacts.IsUnstable, Nodes.Holds, Layers.slot_at}
+use Rattle.mt_arena.specs.{Forests.{HaveKeys, tree_at, layer_of}, Guarantee.{Changes, LosesHeld}, Edits.{inserting, with_slots, cells_with, cells_holding, cells_without}, Arena.{ArenaInvariant, ArenaView, Guarantee}}
 use Rattle.mt_arena.specs.{Contents.content, Accesses.{at, tree_of, IsOpen, with_node, with_row, MayPublish, MayChange}}
 use Rattle.mt_arena.proofs.{Quiet.nodes_slots, Ranged.ranged_marked, Homes.begun, Owners.{published, stored, dropped}}
 use Rattle.mt_arena.proofs.LinkEdits.{HasLinksOf, links_insert, links_insert_back, links_set, links_set_back, links_remove, links_remove_back}
@@ -45,25 +47,61 @@ sound_slots xs trees gone room i slots cells within sound held level may =
     may.keys
     record { tree = refl; deleted = refl; forth = may.forth; back = may.back }
 
--- other slots under the mark for readers of keys
-pub changes_slots : (op : ℕ) (x : NodeView) (slots : List Entry) (cells : Slotted) → x.holder ≡ Some op → Changes op x (with_slots x slots cells)
-changes_slots op x slots cells mine = record {
+-- the mark for readers of keys and children
+pub changes_inserting : (op : ℕ) (x : NodeView) → x.holder ≡ Some op → Changes op x (inserting x)
+changes_inserting op x mine = record {
   tree = refl;
   level = refl;
   low = refl;
   ages = ages-marked_inserting x.version;
   peopled = λ some. some;
   widens = λ same whole live. omega arith;
-  keys = λ range insertion whole still. absurd (let marked = (versions.insert_age_tells x.version (with_slots x slots cells).version insertion).1 in cc);
+  keys = λ range insertion whole still. record { slots = entries_none x.slots x.cells; separators = refl; children = refl };
+  held = λ q other e. absurd (not_others op q x mine other e);
+  taken = λ q other e. e;
+}
+
+-- other slots, which keep what a reader may remember where the node is unmarked
+pub changes_slots : (op : ℕ) (x : NodeView) (slots : List Entry) (cells : Slotted) → x.holder ≡ Some op
+    → (x.version.inserting ≡ false → KeepsEntries x.slots x.cells slots cells) → Changes op x (with_slots x slots cells)
+changes_slots op x slots cells mine keeps = record {
+  tree = refl;
+  level = refl;
+  low = refl;
+  ages = versions.ages_refl x.version;
+  peopled = λ some. some;
+  widens = λ same whole live. omega arith;
+  keys = λ range insertion whole still. record { slots = keeps still; separators = refl; children = refl };
   held = λ q other e. absurd (not_others op q x mine other e);
   taken = λ q other e. e;
 }
 
 -- what other slots of a held node leave to others
 pub step_slots : (v : ArenaView) (i op : ℕ) (slots : List Entry) (cells : Slotted) → i < length v.nodes → (at v i).holder ≡ Some op → IsOpen v i op
+    → ((at v i).version.inserting ≡ false → KeepsEntries (at v i).slots (at v i).cells slots cells) → LosesHeld (at v i) (with_slots (at v i) slots cells)
     → Guarantee op v (with_node v i (with_slots (at v i) slots cells))
-step_slots v i op slots cells within held mine =
-    step_set op v i (with_slots (at v i) slots cells) within (changes_slots op (at v i) slots cells held) mine record { previous = λ j e not_mine. e; parent = λ j e not_mine. e }
+step_slots v i op slots cells within held mine keeps lost =
+    step_set op v i (with_slots (at v i) slots cells) within (changes_slots op (at v i) slots cells held keeps) mine (record { previous = λ j e not_mine. e; parent = λ j e not_mine. e }) lost
+
+-- where one slot holds something else, none loses its entry
+pub lost_held : (n : NodeView) (i : ℕ) (e : Entry) (held : Held) → LosesHeld n (with_slots n (replaced n.slots e) (cells_holding n.cells i held))
+lost_held n i e held whole slot live gone = absurd (gone (omega (arith, live, length-set n.slots (place_in n.slots (order_of e)) e)))
+
+-- where one more is live, neither
+pub lost_live : (n : NodeView) (slots : List Entry) (cells : Slotted) → ((slot : ℕ) → HasEntry n.slots n.cells slot → HasEntry slots cells slot) → LosesHeld n (with_slots n slots cells)
+lost_live n slots cells still whole slot live gone = absurd (gone (still slot live))
+
+-- and where one is dropped, it holds what it held
+pub lost_dropped : (n : NodeView) (slots : List Entry) (cells : Slotted) (slot : ℕ) → LosesOnly n.slots n.cells slots cells slot
+    → ¬ IsUnstable (slot_at n (place_at n slot)).held → LosesHeld n (with_slots n slots cells)
+lost_dropped n slots cells slot only stable whole other live gone =
+    let one = only other live gone in
+    (one.1, subst (λ k. ¬ IsUnstable (slot_at n (place_at n k)).held) (sym one.0) stable)
+
+-- the free slot that is live now was never dropped where the node is unmarked
+pub unflagged : (dropped marked : Bool) → (dropped ≡ true → marked ≡ true) → marked ≡ false → dropped ≡ false
+unflagged true marked so still = absurd (let is = so refl in cc)
+unflagged false marked so still = refl
 
 -- a pair is no link
 pub no_link : (held : Held) → IsStablePair held → (u : ℕ) → held ≢ Link u

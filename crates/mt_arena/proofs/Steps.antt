@@ -1,9 +1,9 @@
 -- The whole invariant and the guarantee where one node changes: for the calls that change one node.
 use Rattle.std.proofs.{Common.{ℕ, ◌<◌, List, length, set, refl, arith}, lemmas.List.length-set}
 use Rattle.mt_arena.specs.{declared.tree.Tree.Tree, declared.retired.Retired.Retired, NodeView.{NodeView, node_at}, Nodes.AreNodes, Ranges.AreRanged}
-use Rattle.mt_arena.specs.{Forests.IsForest, Guarantee.Changes, Arena.{ArenaInvariant, ArenaView, Guarantee}, Accesses.{at, IsOpen, with_node}}
+use Rattle.mt_arena.specs.{Forests.IsForest, Guarantee.{Changes, LosesHeld}, Arena.{ArenaInvariant, ArenaView, Guarantee}, Accesses.{at, IsOpen, with_node}}
 use Rattle.mt_arena.proofs.{Homes.{KeepsHome, HasKeysOf, forest_set}, LinkEdits.{KeepsLinks, layers_set}, Retiring.retired_set}
-use Rattle.mt_arena.proofs.Guarantees.{guarantee_set, points_set, PointsSo}
+use Rattle.mt_arena.proofs.Guarantees.{guarantee_set, points_set, PointsSo, lost_set}
 
 -- a node changes and keeps its place among nodes, trees and links
 pub sound_set : (xs : List NodeView) (trees : List Tree) (gone : List Retired) (room i : ℕ) (y : NodeView) → i < length xs
@@ -26,8 +26,9 @@ keys_of xs trees k within forest = (forest.homes k (node_at xs k).tree within (f
 
 -- one node changes: what others rely on
 pub step_set : (op : ℕ) (v : ArenaView) (i : ℕ) (y : NodeView) → i < length v.nodes → Changes op (at v i) y → IsOpen v i op
-    → PointsSo op (set v.nodes i y) (at v i) y → Guarantee op v (with_node v i y)
-step_set op v i y within changes mine points = record {
+    → PointsSo op (set v.nodes i y) (at v i) y → LosesHeld (at v i) y → Guarantee op v (with_node v i y)
+step_set op v i y within changes mine points lost = record {
   nodes = guarantee_set op v.nodes v.trees i y within changes mine;
   points = points_set op v.nodes i y within points;
+  lost = lost_set v.nodes i y within lost;
 }

@@ -1,4 +1,5 @@
 -- A node that is taken out, and a tree's record that changes: for `Unlinking`, `Collapsing` and `DroppingLayer`.
+use Rattle.mt_border.proofs.KeptEntries.{entries_none}
 use Rattle.std.proofs.{Common.{◌≡◌, ◌≢◌, ℕ, ◌<◌, List, length, set, Some, refl, sym, ap, ◌∙◌, inl, inr, arith}, lemmas.Bool.cases_eq}
 use Rattle.std.proofs.lemmas.List.{length-set, get_or-set_same, get_or-set_other}
 use Rattle.mt_version.proofs.Aging.{ages-deleted}
@@ -38,7 +39,7 @@ forest_retired xs trees i within forest no_root =
 -- the operation that takes it out holds it
 pub changes_retired : (op : ℕ) (x : NodeView) → x.holder ≡ Some op → Changes op x (retired x)
 changes_retired op x held =
-    changes_held op x (retired x) held held refl refl refl (ages-deleted x.version) (λ some. some) (λ whole live. absurd (cc)) (λ whole still. record { slots = refl; order = refl; separators = refl; children = refl })
+    changes_held op x (retired x) held held refl refl refl (ages-deleted x.version) (λ some. some) (λ whole live. absurd (cc)) (λ whole still. record { slots = entries_none _ _; separators = refl; children = refl })
 
 -- what does not stand is dead
 pub standing_dead : (s : Standing) → (s ≢ Dead → ⊥) → s ≡ Dead

@@ -1,4 +1,5 @@
 -- The whole invariant, the guarantee and the contents where a new root comes over two halves: for `grow_root`.
+use Rattle.mt_arena.specs.Guarantee.{LosesHeld}
 use Rattle.std.proofs.Common.{◌≡◌, ℕ, ◌+◌, ◌<◌, ◌≤◌, ◌++◌, List, ◌∷◌, [], length, get_or, set, Some, refl, sym, ap, subst, ◌∙◌, inl, inr, arith, length-append}
 use Rattle.std.proofs.{lemmas.Bool.cases_eq, lemmas.Option.same_Some, lemmas.List.{length-set, get_or-set_same, get_or-set_other, get_or_default}}
 use Rattle.mt_slices.specs.{Slices.piece_bytes, declared.mark.Mark.TheVariants.Long}
@@ -8,7 +9,7 @@ use Rattle.mt_arena.specs.{Guarantee.{NodesGuarantee, Changes, TreeChanges}, Set
 use Rattle.mt_arena.specs.{Accesses.{at, tree_of}, Growth.{fresh_top, left_below, right_below}, Several.{MayGrow, with_root}}
 use Rattle.mt_arena.proofs.{Pairs.{there, last}, Grow.{nodes_root_grow, settled_root_grow}, RangedEdits.ranged_root_grow}
 use Rattle.mt_arena.proofs.{GrowStep.{forest_grown, same_prefix, same_standing}, Growing.layers_push, Retiring.retired_push}
-use Rattle.mt_arena.proofs.Guarantees.{changes_none, guarantee_set, guarantee_push, guarantee_on, tree_changes_none, PointsSo}
+use Rattle.mt_arena.proofs.Guarantees.{changes_none, guarantee_set, guarantee_push, guarantee_on, tree_changes_none, PointsSo, lost_none, lost_push}
 use Rattle.mt_arena.proofs.{HeldChanges.{changes_left_below, changes_right_below}, Naming.{names_same, points_more, each_set2}, Several.{AreKept, kept_set2}}
 use Rattle.mt_arena.proofs.ContentQuiet.{stands_pushed, stands_tree_set}
 
@@ -155,6 +156,7 @@ module _ (v : ArenaView) (room more left right op : ℕ) (sound : ArenaInvariant
     nodes = guarantee_grown;
     points = points_more op xs ws g kept.count refl refl (each_set2 (λ k n. PointsSo op (ws ++ g ∷ []) (at v k) n) xs left right y z li lj may.grows.differ
         (names_top l y refl refl) (names_top r z refl refl) (λ k lt ni nj. names_same op (ws ++ g ∷ []) (at v k) (at v k) refl refl));
+    lost = lost_push xs ws g (omega (arith, kept.count)) (each_set2 (λ k n. LosesHeld (at v k) n) xs left right y z li lj may.grows.differ (lost_none l) (lost_none r) (λ k lt ni nj. lost_none (at v k)));
   }
 
   pub content_grown : content ts (ws ++ g ∷ []) ≡ content v.trees v.nodes

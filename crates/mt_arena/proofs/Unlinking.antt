@@ -1,4 +1,5 @@
 -- The whole invariant, the guarantee and the contents where a border node is taken out, and what lags behind its neighbours: for `unlink`.
+use Rattle.mt_arena.specs.Guarantee.{LosesHeld}
 use Rattle.std.proofs.{Common.{◌≡◌, ◌≢◌, ℕ, ◌-◌, ◌<◌, List, [], length, set, false, None, refl, sym, ap, subst, ◌∙◌, arith}, lemmas.List.{length-set, set-set}}
 use Rattle.std.proofs.lemmas.Option.{same_Some}
 use Rattle.mt_interior.specs.{Fences.end_of, Places.place_of}
@@ -9,8 +10,8 @@ use Rattle.mt_arena.specs.{Settled.IsSettled, Lags.IsFollowedBy, Removals.{MayUn
 use Rattle.mt_arena.proofs.{Pairs.{here, there}, Quiet.nodes_inserting, ChildPlace.child_place, Ranged.ranged_marked, RangedEdits.ranged_unlinked}
 use Rattle.mt_arena.proofs.{Unlink.nodes_unlinked, Locks.is_held, Homes.{KeepsHome, forest_set}, Steps.keys_of}
 use Rattle.mt_arena.proofs.{LinkEdits.{KeepsLinks, same_links, layers_set, layers_empty}, Retiring.{retired_set, retired_more}}
-use Rattle.mt_arena.proofs.{TakenOut.{forest_retired, changes_retired, standing_dead}, Slots.changes_slots, HeldChanges.{changes_joined, changes_without_child}}
-use Rattle.mt_arena.proofs.{Guarantees.{changes_on, PointsSo}, Naming.{names_same, points_each, each_set3}, Several.{MayTurn, guarantee_set3}}
+use Rattle.mt_arena.proofs.{TakenOut.{forest_retired, changes_retired, standing_dead}, Slots.changes_inserting, HeldChanges.{changes_joined, changes_without_child}}
+use Rattle.mt_arena.proofs.{Guarantees.{changes_on, PointsSo, lost_none}, Naming.{names_same, points_each, each_set3}, Several.{MayTurn, guarantee_set3}}
 use Rattle.mt_arena.proofs.Settling.{NamesNoMore, names_none_more, follows_was, under_was, settled_same, child_less}
 use Rattle.mt_arena.proofs.ContentQuiet.{stands_unchanged, stands_without_slots}
 
@@ -222,7 +223,7 @@ module _ (v : ArenaView) (room parent left node step op : ℕ) (sound : ArenaInv
   turns_parent : MayTurn op v.trees p q
   turns_parent = record {
     changes =
-        changes_on op p (inserting p) q (changes_slots op p p.slots p.cells may.held.holder) (changes_without_child op (inserting p) a may.held.holder refl may.beside.not_first may.beside.in_range);
+        changes_on op p (inserting p) q (changes_inserting op p may.held.holder) (changes_without_child op (inserting p) a may.held.holder refl may.beside.not_first may.beside.in_range);
     mine = may.mine;
   }
 
@@ -233,6 +234,7 @@ module _ (v : ArenaView) (room parent left node step op : ℕ) (sound : ArenaInv
     points =
         points_each op xs new (length-set us parent q ∙ size_us) (each_set3 (λ k n. PointsSo op new (at v k) n) xs left node parent y w q li lj lq apart_nodes apart_left apart_node
         (names_same op new l y refl refl) (names_same op new x w refl refl) (names_same op new p q refl refl) (λ k lt ni nj nq. names_same op new (at v k) (at v k) refl refl));
+    lost = each_set3 (λ k n. LosesHeld (at v k) n) xs left node parent y w q li lj lq apart_nodes apart_left apart_node (lost_none l) (lost_none x) (lost_none p) (λ k lt ni nj nq. lost_none (at v k));
   }
 
   pub step_unlinked : Guarantee op v (without_node v parent left node step)

@@ -2,7 +2,7 @@
 use Rattle.std.specs.{Prelude.{◌≡◌, ◌≢◌, ℕ, ◌+◌, ◌<◌, ◌≤◌, true, List, [], ◌∷◌, length, if◌then◌else◌, slice_index_or}, List.All}
 use Rattle.mt_rows.specs.Tenants.{Contents}
 use Rattle.mt_arena.specs.{declared.tree.Tree.Tree, declared.retired.Retired.Retired, NodeView.{NodeView, node_at}, Nodes.AreNodes, Ranges.AreRanged}
-use Rattle.mt_arena.specs.{Forests.IsForest, Layers.AreLayered, Contents.content, Guarantee.{NodesGuarantee, PointsOnly}}
+use Rattle.mt_arena.specs.{Forests.IsForest, Layers.AreLayered, Contents.content, Guarantee.{NodesGuarantee, PointsOnly, LoseHeld}}
 
 -- all nodes and all trees by their numbers, and the nodes that were taken out, each with its step
 pub record ArenaView : Type 0 where
@@ -53,3 +53,4 @@ pub record ArenaInvariant (nodes : List NodeView) (trees : List Tree) (gone : Li
 pub record Guarantee (op : ℕ) (old new : ArenaView) : Type 0 where
   pub nodes : NodesGuarantee op old.nodes new.nodes old.trees new.trees
   pub points : PointsOnly op old.nodes new.nodes
+  pub lost : LoseHeld old.nodes new.nodes

@@ -29,9 +29,9 @@ splitting n = record n { version = record n.version { splitting = true } }
 abbrev pub retired : NodeView → NodeView
 retired n = record n { version = record n.version { deleted = true } }
 
--- a border node with other slots: readers of its keys wait for it
+-- a border node with other slots: its version stays, and readers need not look again
 abbrev pub with_slots : NodeView → List Entry → Slotted → NodeView
-with_slots n slots cells = record n { slots = slots; cells = cells; version = record n.version { inserting = true } }
+with_slots n slots cells = record n { slots = slots; cells = cells }
 
 -- the cells where the slot at a place of the order holds something else
 abbrev pub cells_holding : Slotted → ℕ → Held → Slotted
@@ -65,6 +65,10 @@ with_filled n held = record n {
   cells = cells_filled n.cells held;
   version = record n.version { inserting = is_dropped n.cells (next_free n.cells) || n.version.inserting };
 }
+
+-- readers wait for the node where the free slot that is taken next was ever dropped
+abbrev pub IsMarkedWhereDropped : NodeView → Type 0
+IsMarkedWhereDropped n = is_dropped n.cells (next_free n.cells) ≡ true → n.version.inserting ≡ true
 
 -- the entry of a slice and a mark with what that slot holds, placed by the step of this number
 abbrev pub entry_filled : NodeView → ℕ → Mark → ℕ → Entry

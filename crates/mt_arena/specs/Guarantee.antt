@@ -2,7 +2,8 @@
 use Rattle.std.specs.Prelude.{◌≡◌, ◌≢◌, ℕ, ◌<◌, ◌≤◌, false, List, [], length, Some, None}
 use Rattle.mt_version.specs.Changes.{Ages, range_age, insert_age}
 use Rattle.mt_interior.specs.Fences.{end_of}
-use Rattle.mt_arena.specs.{declared.tree.Tree.Tree, declared.tree.Standing.TheVariants.{Made, Live, Dead}, NodeView.{NodeView, node_at}, Forests.tree_at}
+use Rattle.mt_border.specs.{Slots.held_in, Keeps.{HasEntry, entry_in, KeepsEntries}}
+use Rattle.mt_arena.specs.{declared.tree.Tree.Tree, declared.tree.Standing.TheVariants.{Made, Live, Dead}, NodeView.{NodeView, node_at}, NodeFacts.IsUnstable, Forests.tree_at}
 
 -- what a node keeps that another operation holds: all but its neighbour before it and its parent, and some parent where it has one
 pub record IsUntouched (n m : NodeView) : Type 0 where
@@ -18,10 +19,9 @@ pub record IsUntouched (n m : NodeView) : Type 0 where
   pub parented : n.parent ≢ None → m.parent ≢ None
   pub orphaned : n.parent ≡ None → m.parent ≡ None
 
--- what stands while the version does
+-- what stands while the version does: each slot that was found keeps what it held, live or dropped, and what is held goes on
 pub record HasSameKeys (n m : NodeView) : Type 0 where
-  pub slots : m.slots ≡ n.slots
-  pub order : m.cells.order ≡ n.cells.order
+  pub slots : KeepsEntries n.slots n.cells m.slots m.cells
   pub separators : m.separators ≡ n.separators
   pub children : m.children ≡ n.children
 
@@ -34,7 +34,7 @@ pub record Changes (op : ℕ) (n m : NodeView) : Type 0 where
   pub peopled : n.children ≢ [] → m.children ≢ []
   -- while its range part stands unmarked, its range only widens
   pub widens : range_age n.version ≡ range_age m.version → n.version.splitting ≡ false → m.version.deleted ≡ false → end_of n.high ≤ end_of m.high
-  -- while its version stands unmarked, its keys and children stand
+  -- while its version stands unmarked, its slots keep what they hold, and its children stand
   pub keys : range_age n.version ≡ range_age m.version → insert_age n.version ≡ insert_age m.version → n.version.splitting ≡ false
       → n.version.inserting ≡ false → HasSameKeys n m
   -- another operation's lock protects it
@@ -69,3 +69,11 @@ pub record PointsOnly (op : ℕ) (old new : List NodeView) : Type 0 where
       → (node_at old k).parent ≡ Some j
   pub new_previous : (k j : ℕ) → length old ≤ k → k < length new → j < length old → (node_at new k).previous ≡ Some j → (node_at new j).holder ≡ Some op
   pub new_parent : (k j : ℕ) → length old ≤ k → k < length new → j < length old → (node_at new k).parent ≡ Some j → (node_at new j).holder ≡ Some op
+
+-- a slot that loses its entry holds what that held, which is not unstable, unless the node is being split
+abbrev pub LosesHeld : NodeView → NodeView → Type 0
+LosesHeld n m = n.version.splitting ≡ false → (slot : ℕ) → HasEntry n.slots n.cells slot → ¬ HasEntry m.slots m.cells slot →
+    (held_in m.cells.helds slot ≡ (entry_in n.slots n.cells slot).held) × ¬ IsUnstable (entry_in n.slots n.cells slot).held
+
+abbrev pub LoseHeld : List NodeView → List NodeView → Type 0
+LoseHeld old new = (k : ℕ) → k < length old → LosesHeld (node_at old k) (node_at new k)

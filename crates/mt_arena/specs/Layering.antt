@@ -71,7 +71,7 @@ pub record IsLayerOf (v : ArenaView) (node i t op : ℕ) (what : Held) (key : By
 abbrev pub MayGoLive : ArenaView → ℕ → ℕ → ℕ → ℕ → Bytes → Pair → Type 0
 MayGoLive v node i t op key pair = IsLayerOf v node i t op (Unstable pair (Some t)) key pair.row
 
--- a border node of which a slot holds something else: readers of its keys wait for it
+-- a border node of which a slot holds something else
 abbrev pub with_held : NodeView → ℕ → Held → NodeView
 with_held n i held = with_slots n (replaced n.slots (record (slot_at n i) { held = held })) (cells_holding n.cells i held)
 

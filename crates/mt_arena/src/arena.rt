@@ -16,7 +16,7 @@ ghost use Rattle.mt_border.specs.{Slots.{held_in, next_free}, Entries.{IsMissing
 ghost use Rattle.mt_border.specs.Split.{IsParted, IsSeparator, slices_with};
 ghost use Rattle.mt_arena.specs.{declared.tree.Standing.TheVariants.Live, NodeView.{node_at, place_at, border_view, interior_view}, Nodes.{Holds, HasRange}};
 ghost use Rattle.mt_arena.specs.{Forests.{HasSlice, tree_at, layer_of}, Layers.slot_at, Settled.IsSettled, Ranges.Waits};
-ghost use Rattle.mt_arena.specs.Edits.{locked, unlocked, with_slots, pointed, fresh_root, Points, cells_holding, cells_with, cells_without, with_filled, entry_filled};
+ghost use Rattle.mt_arena.specs.Edits.{locked, unlocked, with_slots, pointed, fresh_root, Points, cells_holding, cells_with, cells_without, with_filled, entry_filled, IsMarkedWhereDropped};
 ghost use Rattle.mt_arena.specs.{Arena.{IsArena, AreRetired, content_of, Guarantee, live_count}, Renumbers.{all_renumbered, arena_renumbered}};
 ghost use Rattle.mt_arena.specs.Splits.{with_some};
 ghost use Rattle.mt_arena.specs.Several.{AreHalved, MaySplit, MayPlace, MayGrow, with_top, with_root, MayInsert, with_right, MaySplitInner, with_parts};
@@ -207,7 +207,8 @@ impl Arena {
     }
 
     /// Makes the slot that was filled live, with the pair of a missing key, placed by the step `stamp`, in
-    /// the border node in which the key belongs, and marks the node for readers of its keys.
+    /// the border node in which the key belongs. The version stays: where the slot was ever dropped, the
+    /// node is marked.
     pub fn publish_filled(
         &mut self,
         node: usize,
@@ -217,6 +218,7 @@ impl Arena {
         operation: usize,
     )
         requires may { (key : Bytes) × MayPublish self.old node operation key (entry_filled (at self.old node) slice mark stamp) }
+        requires marked { IsMarkedWhereDropped (at self.old node) }
         ensures is { let entry = entry_filled (at self.old node) slice mark stamp in
             self.new ≡ with_node self.old node (with_slots (at self.old node) (with_entry (at self.old node).slots entry)
             (cells_with (at self.old node).cells (place_in (at self.old node).slots (order_of entry)) entry)) }
@@ -228,8 +230,7 @@ impl Arena {
         self.nodes[node].publish_filled(slice, mark, stamp);
     }
 
-    /// Puts another row, placed by the step `stamp`, in the place of a key's, and marks the node for
-    /// readers of its keys; gives the old row back.
+    /// Puts another row, placed by the step `stamp`, in the place of a key's; gives the old row back.
     pub fn store(&mut self, node: usize, slot: usize, row: Row, stamp: u64, operation: usize) -> Row
         requires may { (key : Bytes) × (pair : Pair) × MayChange self.old node operation key (place_at (at self.old node) slot) pair }
         ensures before { (pair : Pair) → (slot_at (at self.old node) (place_at (at self.old node) slot)).held ≡ Stable pair → result ≡ pair.row }
@@ -244,8 +245,7 @@ impl Arena {
         self.nodes[node].store(slot, row, stamp)
     }
 
-    /// Makes a key's pair live no more, and marks the node for readers of its keys. Its slot holds the pair
-    /// until it is filled again.
+    /// Makes a key's pair live no more. Its slot holds the pair until it is filled again.
     pub fn let_go(&mut self, node: usize, slot: usize, operation: usize)
         requires may { (key : Bytes) × (pair : Pair) × MayChange self.old node operation key (place_at (at self.old node) slot) pair }
         ensures is { let n = at self.old node in let place = place_at n slot in

@@ -7,7 +7,7 @@
 ghost use Rattle.std.specs.Prelude.{◌≡◌, ◌<◌, ℕ, length, Some, None, IfOk, OnOk, OnErr};
 ghost use Rattle.mt_rows.specs.Rows.{Bytes};
 ghost use Rattle.mt_slices.specs.declared.mark.Mark.TheVariants.{Long};
-ghost use Rattle.mt_border.specs.{Entry.{IsEntry, IsStablePair, IsUnlinked, IsLinked}, Held.{Pair, Stable, Unstable, Link}};
+ghost use Rattle.mt_border.specs.{Keeps.KeepsEntries, Entry.{IsEntry, IsStablePair, IsUnlinked, IsLinked}, Held.{Pair, Stable, Unstable, Link}};
 ghost use Rattle.mt_arena.specs.{NodeView.place_at, Layers.slot_at, Arena.{content_of, Guarantee}, Accesses.at};
 ghost use Rattle.mt_arena.specs.Layering.{MayMakeLayer, root_of, with_layer, MayUnsettle, MayLink, MayGoLive, with_held, with_slot, with_link};
 
@@ -46,8 +46,7 @@ impl Arena {
         Ok(number)
     }
 
-    /// Makes the pair of a longer key unstable, for which a tree of its own is made, and marks the
-    /// node for readers of its keys.
+    /// Makes the pair of a longer key unstable, for which a tree of its own is made.
     pub fn mark_unstable(&mut self, node: usize, slot: usize, operation: usize)
         requires may { (pair : Pair) × MayUnsettle self.old node (place_at (at self.old node) slot) operation pair }
         ensures is { (pair : Pair) → (slot_at (at self.old node) (place_at (at self.old node) slot)).held ≡ Stable pair →
@@ -58,8 +57,7 @@ impl Arena {
         self.nodes[node].mark_unstable(slot);
     }
 
-    /// Writes the number of its tree beside an unstable pair, and marks the node for readers of its
-    /// keys.
+    /// Writes the number of its tree beside an unstable pair.
     pub fn link(&mut self, node: usize, slot: usize, tree: usize, operation: usize)
         requires may { (pair : Pair) × MayLink self.old node (place_at (at self.old node) slot) operation pair }
         ensures is { (pair : Pair) → (slot_at (at self.old node) (place_at (at self.old node) slot)).held ≡ Unstable pair None →
@@ -70,8 +68,8 @@ impl Arena {
         self.nodes[node].link(slot, tree);
     }
 
-    /// Makes the slot of an unstable pair a link to its tree, which is live from now on, and marks the
-    /// node for readers of its keys; gives the pair back, which stands in the tree.
+    /// Makes the slot of an unstable pair a link to its tree, which is live from now on; gives the pair
+    /// back, which stands in the tree.
     pub fn mark_layer(&mut self, node: usize, slot: usize, tree: usize, operation: usize) -> Pair
         requires may { (key : Bytes) × (pair : Pair) × MayGoLive self.old node (place_at (at self.old node) slot) tree operation key pair }
         ensures before { (pair : Pair) → (slot_at (at self.old node) (place_at (at self.old node) slot)).held ≡ Unstable pair (Some tree) → result ≡ pair }
@@ -99,39 +97,38 @@ impl Node {
         root
     }
 
-    /// Makes the pair of a longer key unstable, and marks the node for its readers.
+    /// Makes the pair of a longer key unstable.
     pub(crate) fn mark_unstable(&mut self, slot: usize)
         requires border { self.old.level ≡ 0 }
         requires live { place_at self.old slot < length self.old.slots }
         requires long { (slot_at self.old (place_at self.old slot)).mark ≡ Long }
         requires stable { IsStablePair (slot_at self.old (place_at self.old slot)).held }
-        ensures { (pair : Pair) → (slot_at self.old (place_at self.old slot)).held ≡ Stable pair →
+        ensures after { (pair : Pair) → (slot_at self.old (place_at self.old slot)).held ≡ Stable pair →
             self.new ≡ with_held self.old (place_at self.old slot) (Unstable pair None) }
+        ensures keeps { KeepsEntries self.old.slots self.old.cells self.new.slots self.new.cells }
     {
         match &mut self.kind {
             NodeKind::Leaf(border) => border.mark_unstable(slot),
             NodeKind::Inner(_) => unreachable!(),
         }
-        self.mark_inserting();
     }
 
-    /// Writes a tree's number beside an unstable pair, and marks the node for its readers.
+    /// Writes a tree's number beside an unstable pair.
     pub(crate) fn link(&mut self, slot: usize, tree: usize)
         requires border { self.old.level ≡ 0 }
         requires live { place_at self.old slot < length self.old.slots }
         requires unlinked { IsUnlinked (slot_at self.old (place_at self.old slot)).held }
-        ensures { (pair : Pair) → (slot_at self.old (place_at self.old slot)).held ≡ Unstable pair None →
+        ensures after { (pair : Pair) → (slot_at self.old (place_at self.old slot)).held ≡ Unstable pair None →
             self.new ≡ with_held self.old (place_at self.old slot) (Unstable pair (Some tree)) }
+        ensures keeps { KeepsEntries self.old.slots self.old.cells self.new.slots self.new.cells }
     {
         match &mut self.kind {
             NodeKind::Leaf(border) => border.link(slot, tree),
             NodeKind::Inner(_) => unreachable!(),
         }
-        self.mark_inserting();
     }
 
-    /// Makes the slot of an unstable pair a link to its tree, and marks the node for its readers; gives
-    /// the pair back.
+    /// Makes the slot of an unstable pair a link to its tree; gives the pair back.
     pub(crate) fn mark_layer(&mut self, slot: usize) -> Pair
         requires border { self.old.level ≡ 0 }
         requires live { place_at self.old slot < length self.old.slots }
@@ -139,12 +136,11 @@ impl Node {
         ensures before { (pair : Pair) (tree : ℕ) → (slot_at self.old (place_at self.old slot)).held ≡ Unstable pair (Some tree) → result ≡ pair }
         ensures after { (pair : Pair) (tree : ℕ) → (slot_at self.old (place_at self.old slot)).held ≡ Unstable pair (Some tree) →
             self.new ≡ with_held self.old (place_at self.old slot) (Link tree) }
+        ensures keeps { KeepsEntries self.old.slots self.old.cells self.new.slots self.new.cells }
     {
-        let pair = match &mut self.kind {
+        match &mut self.kind {
             NodeKind::Leaf(border) => border.mark_layer(slot),
             NodeKind::Inner(_) => unreachable!(),
-        };
-        self.mark_inserting();
-        pair
+        }
     }
 }

@@ -52,6 +52,7 @@ impl Node {
     ghost use Rattle.mt_version.specs.Changes.{CanUnlock};
     ghost use Rattle.mt_border.specs.{Slots.{held_in, next_free, is_dropped}, Entry.{IsEntry, IsStablePair, order_of}, Entries.{IsMissing, place_in, with_entry, without, replaced}};
     ghost use Rattle.mt_border.specs.{declared.border.TheConstants.SLOTS, Held.{Pair, Stable}, Split.{IsParted, IsSeparator, slices_with}};
+    ghost use Rattle.mt_border.specs.Keeps.{HasEntry, KeepsEntries, LosesOnly};
     ghost use Rattle.mt_arena.specs.{NodeView.{NodeView, place_at, border_view, interior_view, IsOfKind}, Layers.slot_at};
     ghost use Rattle.mt_arena.specs.Edits.{locked, unlocked, inserting, splitting, retired, with_slots, pointed, fresh_half, fresh_root};
     ghost use Rattle.mt_arena.specs.Edits.{cells_holding, cells_with, cells_without, with_filled, entry_filled};
@@ -285,6 +286,8 @@ impl Node {
         ensures before { result ≡ held_in self.old.cells.helds (next_free self.old.cells) }
         ensures after { self.new ≡ with_filled self.old held }
         ensures there { held_in self.new.cells.helds (next_free self.new.cells) ≡ held }
+        ensures keeps { is_dropped self.old.cells (next_free self.old.cells) ≡ false →
+            KeepsEntries self.old.slots self.old.cells self.new.slots self.new.cells }
     {
         self.mark_where_dropped();
         match &mut self.kind {
@@ -318,24 +321,25 @@ impl Node {
     }
 
     /// Makes the slot that was filled live, for the key of this slice and mark, placed by the step
-    /// `stamp`, and marks the node for its readers.
+    /// `stamp`. The version stays: where the slot was ever dropped, the fill has marked the node.
     pub(crate) fn publish_filled(&mut self, slice: u64, mark: Mark, stamp: u64)
         requires border { self.old.level ≡ 0 }
         requires room { length self.old.slots < SLOTS }
         requires entry { IsEntry (entry_filled self.old slice mark stamp) }
         requires missing { IsMissing self.old.slots slice mark }
-        ensures { let entry = entry_filled self.old slice mark stamp in
+        ensures after { let entry = entry_filled self.old slice mark stamp in
             self.new ≡ with_slots self.old (with_entry self.old.slots entry) (cells_with self.old.cells (place_in self.old.slots (order_of entry)) entry) }
+        ensures live { (other : ℕ) → HasEntry self.old.slots self.old.cells other → HasEntry self.new.slots self.new.cells other }
+        ensures keeps { is_dropped self.old.cells (next_free self.old.cells) ≡ false →
+            KeepsEntries self.old.slots self.old.cells self.new.slots self.new.cells }
     {
         match &mut self.kind {
             NodeKind::Leaf(border) => border.publish_filled(slice, mark, stamp),
             NodeKind::Inner(_) => unreachable!(),
         }
-        self.mark_inserting();
     }
 
-    /// Puts another row and its stamp into a slot, and marks the node for its readers; gives the old
-    /// row back.
+    /// Puts another row and its stamp into a slot; gives the old row back.
     pub(crate) fn store(&mut self, slot: usize, row: Row, stamp: u64) -> Row
         requires border { self.old.level ≡ 0 }
         requires live { place_at self.old slot < length self.old.slots }
@@ -345,28 +349,27 @@ impl Node {
             self.new ≡ with_slots self.old (replaced self.old.slots
             (record (slot_at self.old (place_at self.old slot)) { held = Stable (record pair { row = row; stamp = stamp }) }))
             (cells_holding self.old.cells (place_at self.old slot) (Stable (record pair { row = row; stamp = stamp }))) }
+        ensures keeps { KeepsEntries self.old.slots self.old.cells self.new.slots self.new.cells }
     {
-        let old = match &mut self.kind {
+        match &mut self.kind {
             NodeKind::Leaf(border) => border.store(slot, row, stamp),
             NodeKind::Inner(_) => unreachable!(),
-        };
-        self.mark_inserting();
-        old
+        }
     }
 
-    /// Makes a key or a link live no more, and marks the node for its readers. Its slot holds what it
-    /// held until it is filled again.
+    /// Makes a key or a link live no more. Its slot holds what it held until it is filled again.
     pub(crate) fn let_go(&mut self, slot: usize)
         requires border { self.old.level ≡ 0 }
         requires live { place_at self.old slot < length self.old.slots }
-        ensures { let place = place_at self.old slot in
+        ensures after { let place = place_at self.old slot in
             self.new ≡ with_slots self.old (without self.old.slots (slot_at self.old place)) (cells_without self.old.cells place) }
+        ensures lost { LosesOnly self.old.slots self.old.cells self.new.slots self.new.cells slot }
+        ensures keeps { KeepsEntries self.old.slots self.old.cells self.new.slots self.new.cells }
     {
         match &mut self.kind {
             NodeKind::Leaf(border) => border.let_go(slot),
             NodeKind::Inner(_) => unreachable!(),
         }
-        self.mark_inserting();
     }
 
     /// Parts the slots of a full border node among it and its right half, which gets its range from

@@ -5,9 +5,9 @@
 //! of each node among the retired from the moment it is made.
 
 ghost use Rattle.std.specs.Prelude.{◌≡◌, ◌≢◌, ◌<◌, ℕ, length, slice_set, None};
-ghost use Rattle.mt_border.specs.{Entry.IsLink, Held.Link};
+ghost use Rattle.mt_border.specs.{Entry.IsLink, Held.Link, Entries.without, Keeps.{KeepsEntries, LosesOnly}};
 ghost use Rattle.mt_interior.specs.{Places.place_of, Fences.end_of};
-ghost use Rattle.mt_arena.specs.{NodeView.{node_at, place_at}, Layers.slot_at, Edits.{inserting, with_slots}, Unlinks.without_child, Collapses.crowned};
+ghost use Rattle.mt_arena.specs.{NodeView.{node_at, place_at}, Layers.slot_at, Edits.{inserting, with_slots, cells_without}, Unlinks.without_child, Collapses.crowned};
 ghost use Rattle.mt_arena.specs.{Arena.{content_of, Guarantee}, Forests.tree_at, Settled.IsSettled, Lags.IsFollowedBy, Accesses.at};
 ghost use Rattle.mt_arena.specs.Removals.{MayUnlink, nodes_without, without_node, MayCollapse, nodes_under, without_root, MayDropLayer, nodes_above, without_layer};
 
@@ -192,7 +192,11 @@ fn drop_link(nodes: &mut Vec<Node>, node: usize, slot: usize, root: usize)
     requires differ { node ≢ root }
     requires border { (node_at nodes.old.items node).level ≡ 0 }
     requires live { place_at (node_at nodes.old.items node) slot < length (node_at nodes.old.items node).slots }
-    ensures { nodes.new.items ≡ nodes_above nodes.old.items node (place_at (node_at nodes.old.items node) slot) root }
+    ensures nodes { nodes.new.items ≡ nodes_above nodes.old.items node (place_at (node_at nodes.old.items node) slot) root }
+    ensures lost { let n = node_at nodes.old.items node in let place = place_at n slot in
+        LosesOnly n.slots n.cells (without n.slots (slot_at n place)) (cells_without n.cells place) slot }
+    ensures keeps { let n = node_at nodes.old.items node in let place = place_at n slot in
+        KeepsEntries n.slots n.cells (without n.slots (slot_at n place)) (cells_without n.cells place) }
 {
     nodes[node].let_go(slot);
     nodes[root].retire();

@@ -37,7 +37,7 @@ returns-clause-step c =
     let tree_is : c.tree-tree.result ≡ (at v c.args.root).tree = c.tree-tree.ensures ∙ ap (λ (n : NodeView). n.tree) (read v.nodes c.args.root c.index.result.now may.held.there c.index.ensures) in
     let record_is : c.index_mut.result.now ≡ tree_of v c.args.root = read_tree v.trees (at v c.args.root).tree c.index_mut.result.now (c.self.invariant.arena.forest.tree_there c.args.root may.held.there) (rw tree_is at c.index_mut.ensures.value) in
     rw (← c.self.view_is, c.hand_on.ensures.nodes, tree_is, record_is)
-    (let step = step_collapsed v _ c.args.root c.args.child c.args.step c.args.operation c.self.invariant may in record { nodes = step.nodes; points = step.points })
+    (let step = step_collapsed v _ c.args.root c.args.child c.args.step c.args.operation c.self.invariant may in record { nodes = step.nodes; points = step.points; lost = step.lost })
 
 pub returns-clause-contents : goal.returns-clause-contents
 returns-clause-contents c =

@@ -1,4 +1,6 @@
-use Rattle.std.proofs.Common.{◌≡◌, ◌<◌, ℕ, length, refl, sym, ap, ◌∙◌, arith}
+use Rattle.std.proofs.Common.{◌≡◌, ◌<◌, ℕ, length, refl, sym, ap, subst, ◌∙◌, arith}
+use Rattle.mt_border.specs.Entries.{without}
+use Rattle.mt_arena.{specs.{NodeFacts.IsUnstable, Layers.slot_at, Edits.cells_without}, proofs.Slots.lost_dropped}
 use Rattle.mt_arena.specs.{NodeView.{node_at, place_at}, declared.tree.Tree.Tree, Forests.tree_at, Arena.ArenaView, Removals.MayDropLayer}
 use Rattle.mt_arena.proofs.{Pairs.read, Topping.read_tree, Retiring.retired_few}
 use Rattle.mt_arena.proofs.DroppingLayer.{the_link, same_link, lr, lu, live_root, apart, sound_dropped_layer, step_dropped_layer, content_dropped_layer, node_dropped_layer, root_dropped_layer, others_dropped_layer}
@@ -74,21 +76,24 @@ pub invariant_of-self : goal.invariant_of-self
 invariant_of-self c =
     let at = goal.at.invariant_of-self c in
     let l = at.After-link_at-lower in
-    rw (c.push_reserved.ensures.items, c.push_reserved.ensures.capacity, c.drop_link.ensures, tree_is at.After-index-2, record_is at.After-index_mut)
+    rw (c.push_reserved.ensures.items, c.push_reserved.ensures.capacity, c.drop_link.ensures.nodes, tree_is at.After-index-2, record_is at.After-index_mut)
     (sound_dropped_layer (v l) _ c.args.node _ (t l) c.args.step c.args.operation c.self.invariant (may l))
 
 pub returns-clause-step : goal.returns-clause-step
 returns-clause-step c =
     let at = goal.at.returns-clause-step c in
     let l = at.After-link_at-lower in
-    rw (← c.self.view_is, c.drop_link.ensures, tree_is at.After-index-2, record_is at.After-index_mut)
-    (let step = step_dropped_layer (v l) _ c.args.node _ (t l) c.args.step c.args.operation c.self.invariant (may l) in record { nodes = step.nodes; points = step.points })
+    let n = node_at (v l).nodes c.args.node in
+    let stable : ¬ IsUnstable (slot_at n (place_at n c.args.slot)).held = subst (λ h. ¬ IsUnstable h) (sym (may l).link) (λ unstable. unstable) in
+    let lost = lost_dropped n (without n.slots (slot_at n (place_at n c.args.slot))) (cells_without n.cells (place_at n c.args.slot)) c.args.slot c.drop_link.ensures.lost stable in
+    rw (← c.self.view_is, c.drop_link.ensures.nodes, tree_is at.After-index-2, record_is at.After-index_mut)
+    (let step = step_dropped_layer (v l) _ c.args.node _ (t l) c.args.step c.args.operation c.self.invariant (may l) c.drop_link.ensures.keeps lost in record { nodes = step.nodes; points = step.points; lost = step.lost })
 
 pub returns-clause-contents : goal.returns-clause-contents
 returns-clause-contents c =
     let at = goal.at.returns-clause-contents c in
     let l = at.After-link_at-lower in
-    rw (← c.self.view_is, c.drop_link.ensures, tree_is at.After-index-2, record_is at.After-index_mut)
+    rw (← c.self.view_is, c.drop_link.ensures.nodes, tree_is at.After-index-2, record_is at.After-index_mut)
     (content_dropped_layer (v l) _ c.args.node _ (t l) c.args.step c.args.operation c.self.invariant (may l))
 
 pub returns-clause-is : goal.returns-clause-is
@@ -96,25 +101,25 @@ returns-clause-is c u link =
     let at = goal.at.returns-clause-is c in
     let l = at.After-link_at-lower in
     let same : t l ≡ u = same_link (sym (rw (node_is l) at c.link_at-lower.ensures) ∙ (rw (← c.self.view_is) at link)) in
-    rw (← c.self.view_is, ← same, c.drop_link.ensures, c.push_reserved.ensures.items, tree_is at.After-index-2, record_is at.After-index_mut) refl
+    rw (← c.self.view_is, ← same, c.drop_link.ensures.nodes, c.push_reserved.ensures.items, tree_is at.After-index-2, record_is at.After-index_mut) refl
 
 pub returns-clause-settled : goal.returns-clause-settled
 returns-clause-settled c =
     let at = goal.at.returns-clause-settled c in
     let l = at.After-link_at-lower in
-    rw (← c.self.view_is, c.drop_link.ensures, tree_is at.After-index-2) (node_dropped_layer (v l) _ c.args.node _ (t l) c.args.step c.args.operation c.self.invariant (may l))
+    rw (← c.self.view_is, c.drop_link.ensures.nodes, tree_is at.After-index-2) (node_dropped_layer (v l) _ c.args.node _ (t l) c.args.step c.args.operation c.self.invariant (may l))
 
 pub returns-clause-root_settled : goal.returns-clause-root_settled
 returns-clause-root_settled c u link =
     let at = goal.at.returns-clause-root_settled c in
     let l = at.After-link_at-lower in
     let same : t l ≡ u = same_link (sym (rw (node_is l) at c.link_at-lower.ensures) ∙ (rw (← c.self.view_is) at link)) in
-    rw (← c.self.view_is, ← same, c.drop_link.ensures, tree_is at.After-index-2) (root_dropped_layer (v l) _ c.args.node _ (t l) c.args.step c.args.operation c.self.invariant (may l))
+    rw (← c.self.view_is, ← same, c.drop_link.ensures.nodes, tree_is at.After-index-2) (root_dropped_layer (v l) _ c.args.node _ (t l) c.args.step c.args.operation c.self.invariant (may l))
 
 pub returns-clause-others_settled : goal.returns-clause-others_settled
 returns-clause-others_settled c u k link away apart_root =
     let at = goal.at.returns-clause-others_settled c in
     let l = at.After-link_at-lower in
     let same : t l ≡ u = same_link (sym (rw (node_is l) at c.link_at-lower.ensures) ∙ (rw (← c.self.view_is) at link)) in
-    rw (← c.self.view_is, c.drop_link.ensures, tree_is at.After-index-2)
+    rw (← c.self.view_is, c.drop_link.ensures.nodes, tree_is at.After-index-2)
     (others_dropped_layer (v l) _ c.args.node _ (t l) c.args.step c.args.operation c.self.invariant (may l) k away (λ is. apart_root (rw (← c.self.view_is) (is ∙ ap (λ t. (tree_at (v l).trees t).root) same))))

@@ -13,8 +13,9 @@ pub returns-clause-step : goal.returns-clause-step
 returns-clause-step c =
     let holds = rw (← c.self.view_is) at c.requires.holds in
     let now = read c.self.inside.nodes.items c.args.node c.index_mut.result.now holds.there c.index_mut.ensures.value in
+    let keeps = rw (c.fill.ensures.after, now) at c.fill.ensures.keeps in
     rw (← c.self.view_is, c.fill.ensures.after, now)
-    (step_filled _ c.args.node c.args.operation c.args.held holds.there holds.holder (rw (← c.self.view_is) at c.requires.mine))
+    (step_filled _ c.args.node c.args.operation c.args.held holds.there holds.holder (rw (← c.self.view_is) at c.requires.mine) keeps)
 
 pub returns-clause-contents : goal.returns-clause-contents
 returns-clause-contents c =

@@ -6,7 +6,7 @@ pub invariant_of-self : goal.invariant_of-self
 invariant_of-self c =
     let may = rw (← c.self.view_is) at c.requires.may.1 in
     let now = read c.self.inside.nodes.items c.args.node c.index_mut.result.now may.held.there c.index_mut.ensures.value in
-    let after = c.link.ensures c.requires.may.0 (ap (λ (n : NodeView). (slot_at n (place_at n c.args.slot)).held) now ∙ may.is) in
+    let after = c.link.ensures.after c.requires.may.0 (ap (λ (n : NodeView). (slot_at n (place_at n c.args.slot)).held) now ∙ may.is) in
     rw (after, now)
     (sound_linked _ _ c.args.node _ c.args.operation c.self.invariant c.requires.may.0 c.args.tree may)
 
@@ -14,14 +14,15 @@ pub returns-clause-step : goal.returns-clause-step
 returns-clause-step c =
     let may = rw (← c.self.view_is) at c.requires.may.1 in
     let now = read c.self.inside.nodes.items c.args.node c.index_mut.result.now may.held.there c.index_mut.ensures.value in
-    let after = c.link.ensures c.requires.may.0 (ap (λ (n : NodeView). (slot_at n (place_at n c.args.slot)).held) now ∙ may.is) in
+    let after = c.link.ensures.after c.requires.may.0 (ap (λ (n : NodeView). (slot_at n (place_at n c.args.slot)).held) now ∙ may.is) in
+    let keeps = rw (after, now) at c.link.ensures.keeps in
     rw (← c.self.view_is, after, now)
-    (step_linked _ _ c.args.node _ c.args.operation c.self.invariant c.requires.may.0 c.args.tree may)
+    (step_linked _ _ c.args.node _ c.args.operation c.self.invariant c.requires.may.0 c.args.tree may keeps)
 
 pub returns-clause-contents : goal.returns-clause-contents
 returns-clause-contents c =
     let may = rw (← c.self.view_is) at c.requires.may.1 in
     let now = read c.self.inside.nodes.items c.args.node c.index_mut.result.now may.held.there c.index_mut.ensures.value in
-    let after = c.link.ensures c.requires.may.0 (ap (λ (n : NodeView). (slot_at n (place_at n c.args.slot)).held) now ∙ may.is) in
+    let after = c.link.ensures.after c.requires.may.0 (ap (λ (n : NodeView). (slot_at n (place_at n c.args.slot)).held) now ∙ may.is) in
     rw (← c.self.view_is, after, now)
     (content_linked _ _ c.args.node _ c.args.operation c.self.invariant c.requires.may.0 c.args.tree may)

@@ -31,7 +31,8 @@ returns-clause-step c =
     let after = c.mark_layer-pair.ensures.after c.requires.may.1 c.args.tree (ap (λ (n : NodeView). (slot_at n (place_at n c.args.slot)).held) now ∙ may.slot.is) in
     let within = lt v _ c.args.node _ c.args.tree c.args.operation c.requires.may.0 c.requires.may.1 c.self.invariant may in
     let tree_is : c.index_mut-2.result.now ≡ tree_at v.trees c.args.tree = read_tree v.trees c.args.tree c.index_mut-2.result.now within c.index_mut-2.ensures.value in
-    rw (← c.self.view_is, after, now, tree_is) (step_live v _ c.args.node _ c.args.tree c.args.operation c.requires.may.0 c.requires.may.1 c.self.invariant may)
+    let keeps = rw (after, now) at c.mark_layer-pair.ensures.keeps in
+    rw (← c.self.view_is, after, now, tree_is) (step_live v _ c.args.node _ c.args.tree c.args.operation c.requires.may.0 c.requires.may.1 c.self.invariant may keeps)
 
 pub returns-clause-contents : goal.returns-clause-contents
 returns-clause-contents c =

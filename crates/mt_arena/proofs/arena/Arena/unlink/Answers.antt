@@ -45,7 +45,7 @@ returns-clause-step c =
     let may = rw (← c.self.view_is) at c.requires in
     let v : ArenaView = record { nodes = c.self.inside.nodes.items; trees = c.self.inside.trees.items; retired = c.self.inside.retired.items } in
     rw (← c.self.view_is, c.take_out.ensures)
-    (let step = step_unlinked v _ c.args.parent c.args.left c.args.node c.args.step c.args.operation c.self.invariant may in record { nodes = step.nodes; points = step.points })
+    (let step = step_unlinked v _ c.args.parent c.args.left c.args.node c.args.step c.args.operation c.self.invariant may in record { nodes = step.nodes; points = step.points; lost = step.lost })
 
 pub returns-clause-contents : goal.returns-clause-contents
 returns-clause-contents c =
