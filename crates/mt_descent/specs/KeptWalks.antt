@@ -1,16 +1,18 @@
 -- What is kept of an operation that holds nothing, by its next phase. Each fact speaks of a node and a slot that it remembers, as long as the
 -- range or the version of the node stands.
-use Rattle.std.specs.{Prelude.{◌≡◌, ◌≢◌, ◌<◌, ◌≤◌, ◌*◌, ◌+◌, ℕ, length, Option, Some, None}, FinMap.get}
+use Rattle.std.specs.{Prelude.{◌≡◌, ◌≢◌, ◌⊎◌, ◌<◌, ◌≤◌, ◌*◌, ◌+◌, ℕ, max, true, length, Option, Some, None}, FinMap.get}
 use Rattle.mt_version.specs.Changes.{IsStable}
 use Rattle.mt_slices.specs.Slices.{slice_of, mark_of, suffix_of}
 use Rattle.mt_rows.specs.Rows.{Bytes, Columns}
+use Rattle.mt_border.specs.{Held.Held, Slots.{held_in, is_dropped}}
 use Rattle.mt_border.specs.{declared.entry.FoundKind.FoundKind, declared.entry.FoundKind.TheVariants.OtherLong, Entry.IsKind, Contents.{IsOfTree, owned}}
-use Rattle.mt_arena.specs.{declared.tree.Standing.TheVariants.Made, NodeView.{NodeView, place_at}, Forests.tree_at, Layers.slot_at, Arena.ArenaView}
+use Rattle.mt_arena.specs.{declared.tree.Standing.TheVariants.Made, NodeFacts.IsUnstable, NodeView.{NodeView, place_at}, Forests.tree_at, Layers.slot_at, Arena.ArenaView}
 use Rattle.mt_arena.specs.Accesses.{at, IsHeld}
 use Rattle.mt_operation.specs.declared.phase.Phase.{Phase}
 use Rattle.mt_operation.specs.declared.phase.Phase.TheVariants.{Enter, Pick, Child, Verify, Search, Load, Confirm, Forward, Lock, Snap, Check, Done}
 use Rattle.mt_operation.specs.{declared.walk.Taken.Taken, declared.walk.Taken.TheVariants.{Missing, Row, Link, Nothing}, declared.walk.Walk.Walk}
 use Rattle.mt_descent.specs.{Seen.{RangeStands, Stands, WasSeen, IsRemembered, Covers, IsPicked, HasNext}, Pasts.Past}
+use Rattle.mt_border.specs.Held as helds
 
 -- the key goes through tree t of the layer, which is live, or was
 pub record GoesThrough (v : ArenaView) (t layer : ℕ) (key : Bytes) : Type 0 where
@@ -56,6 +58,7 @@ pub record IsAtBorder (v : ArenaView) (key : Bytes) (w : Walk) : Type 0 where
 
 -- the slot has the slice and the mark of the key, and holds this of it
 pub record IsInSlot (n : NodeView) (slot : ℕ) (key : Bytes) (layer : ℕ) (kind : FoundKind) : Type 0 where
+  pub within : slot < 15
   pub in_range : place_at n slot < length n.slots
   pub slice_is : (slot_at n (place_at n slot)).slice ≡ slice_of key layer
   pub mark_is : (slot_at n (place_at n slot)).mark ≡ mark_of key layer
@@ -71,16 +74,36 @@ pub record HasSlot (n : NodeView) (slot : ℕ) (key : Bytes) (layer : ℕ) : Typ
   pub in_slot : IsInSlot n slot key layer kind
   pub leads : kind ≢ OtherLong
 
--- at Load
-pub record IsAtLoad (v : ArenaView) (key : Bytes) (w : Walk) : Type 0 where
-  pub at_border : IsAtBorder v key w
-  pub found : Stands (at v w.place.node) w.place.seen → HasSlot (at v w.place.node) w.slot key w.layer
-
 -- the contents after the step of this number, which is the operation's first one or a later one, had this for the key
 pub record Had (past : Past) (first step : ℕ) (key : Bytes) (row : Option Columns) : Type 0 where
   pub since : first ≤ step
   pub made : step ≤ past.steps
   pub had : get (past.contents step) (owned key) ≡ row
+
+-- What is held is of the key, by the first step and the layer of its walk: a row that was the key's at the first step or the later one that placed it, or
+-- a link to a tree through which the key goes.
+abbrev pub IsOfKey : ArenaView → Past → Bytes → ℕ → ℕ → Held → Type 0
+IsOfKey v past key first layer (helds.Stable pair) = Had past first (max first pair.stamp) key (Some pair.row)
+IsOfKey v past key first layer (helds.Unstable pair tree) = ⊥
+IsOfKey v past key first layer (helds.Link u) = GoesThrough v u (layer + 1) key
+
+-- the slot is live: it has the key or a link, and what it holds is of the key unless it is unstable
+pub record StillHas (v : ArenaView) (past : Past) (key : Bytes) (w : Walk) : Type 0 where
+  pub has : HasSlot (at v w.place.node) w.slot key w.layer
+  pub held : ¬ IsUnstable (slot_at (at v w.place.node) (walk_place v w)).held → IsOfKey v past key w.first w.layer (slot_at (at v w.place.node) (walk_place v w)).held
+
+-- the slot was dropped, and holds what it held of the key
+pub record WasDropped (v : ArenaView) (past : Past) (key : Bytes) (w : Walk) : Type 0 where
+  pub flag : is_dropped (at v w.place.node).cells w.slot ≡ true
+  pub free : ¬ (walk_place v w < length (at v w.place.node).slots)
+  pub held : IsOfKey v past key w.first w.layer (held_in (at v w.place.node).cells.helds w.slot)
+
+-- at Load: as long as the version stands, the slot that was found is live, or was dropped since
+pub record IsAtLoad (v : ArenaView) (past : Past) (key : Bytes) (w : Walk) : Type 0 where
+  pub at_border : IsAtBorder v key w
+  pub within : w.slot < 15
+  pub since : w.first ≤ past.steps
+  pub found : Stands (at v w.place.node) w.place.seen → StillHas v past key w ⊎ WasDropped v past key w
 
 -- what was taken is right: that the key is missing as long as the range stands, a row or a link as long as the version does
 abbrev pub TakenHolds : ArenaView → Past → Bytes → Option Columns → Walk → Taken → Type 0
@@ -123,7 +146,7 @@ KeptAt Pick v past key row w = IsAtPick v key w
 KeptAt Child v past key row w = IsAtChild v key w
 KeptAt Verify v past key row w = IsAtVerify v key w
 KeptAt Search v past key row w = IsAtBorder v key w
-KeptAt Load v past key row w = IsAtLoad v key w
+KeptAt Load v past key row w = IsAtLoad v past key w
 KeptAt Confirm v past key row w = IsAtConfirm v past key row w
 KeptAt Forward v past key row w = IsAtForward v key w
 KeptAt Lock v past key row w = IsAtBorder v key w

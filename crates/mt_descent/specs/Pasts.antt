@@ -2,7 +2,7 @@
 use Rattle.std.specs.{Prelude.{◌≡◌, ◌≤◌, ℕ, Some}, FinMap.get}
 use Rattle.mt_rows.specs.{Rows.{Bytes, Columns}, Tenants.Contents}
 use Rattle.mt_border.specs.{Contents.owned, Held.Pair}
-use Rattle.mt_arena.specs.{Arena.{ArenaView, content_of}, Ways.StandsFor}
+use Rattle.mt_arena.specs.{Arena.{ArenaView, IsArena, content_of}, Guarantee.LoseHeld, Ways.StandsFor}
 
 -- how many steps were made, and the contents after each of them
 pub record Past : Type 0 where
@@ -27,3 +27,10 @@ pub record StoodSince (past : Past) (step : ℕ) (key : Bytes) (row : Columns) :
 -- each pair of the arena has stood since the step of its stamp
 abbrev pub AreStamped : Past → ArenaView → Type 0
 AreStamped past v = (key : Bytes) (layer k i : ℕ) (pair : Pair) → StandsFor v.nodes v.trees key layer k i pair → StoodSince past pair.stamp key pair.row
+
+-- what the step of another operation has to leave to one that remembers a slot: the nodes fit together, each row has stood since its stamp, and a slot
+-- that was dropped holds what it held
+pub record KeepsRows (old new : ArenaView) (after : Past) : Type 0 where
+  pub sound : IsArena new.nodes new.trees
+  pub stamped : AreStamped after new
+  pub lost : LoseHeld old.nodes new.nodes

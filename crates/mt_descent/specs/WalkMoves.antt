@@ -3,7 +3,7 @@ use Rattle.std.specs.Prelude.{◌≡◌, ◌+◌, ◌<◌, ℕ, max, Bool, lengt
 use Rattle.mt_version.specs.{Parts.Parts, Changes.{IsMarked, IsStable, SameButLock}}
 use Rattle.mt_slices.specs.Slices.{slice_of, mark_of}
 use Rattle.mt_rows.specs.Rows.{Bytes, Columns}
-use Rattle.mt_border.specs.{Held.Pair, declared.entry.Find.Find, declared.entry.FoundKind.TheVariants.OtherLong, Entries.IsMissing}
+use Rattle.mt_border.specs.{Held.Pair, Slots.held_in, declared.entry.Find.Find, declared.entry.FoundKind.TheVariants.OtherLong, Entries.IsMissing}
 use Rattle.mt_arena.specs.{declared.tree.Standing.Standing, declared.tree.Standing.TheVariants.Dead, NodeView.{NodeView, place_at}, NodeFacts.IsUnstable}
 use Rattle.mt_arena.specs.{Layers.slot_at, Edits.locked, Arena.{ArenaView, content_of, Guarantee}, Accesses.{at, with_node}, Settled.IsSettled}
 use Rattle.mt_operation.specs.{declared.walk.Aim.Aim, declared.phase.Phase.Phase}
@@ -97,14 +97,17 @@ after_search finds.Missing w step = record w { taken = Missing; right_at = step;
 after_search (finds.Slot slot OtherLong) w step = record w { taken = Missing; right_at = step; phase = Confirm }
 after_search (finds.Slot slot _) w step = record w { slot = slot; right_at = step; phase = Load }
 
--- What a load takes out of the walk's slot, the row that it answers, and the step after which that is right: a row at the first step or the later
--- one that placed it; the tree of a link, or nothing where the slot is no more, at the step of the search.
+-- What a load takes out of the walk's slot, live or not, the row that it answers, and the step after which that is right: a row at the first step or
+-- the later one that placed it; the tree of a link, or nothing of a slot that is free and unstable, at the step of the search.
 abbrev pub TakesOut : NodeView → Walk → Option Columns → Taken → ℕ → Type 0
 TakesOut n w row Missing at = ⊥
-TakesOut n w row Row at =
-    (place_at n w.slot < length n.slots) × (pair : Pair) × ((slot_at n (place_at n w.slot)).held ≡ helds.Stable pair) × (row ≡ Some pair.row) × (at ≡ max w.first pair.stamp)
-TakesOut n w row (Link u) at = (place_at n w.slot < length n.slots) × ((slot_at n (place_at n w.slot)).held ≡ helds.Link u) × (row ≡ None) × (at ≡ w.right_at)
-TakesOut n w row Nothing at = ¬ (place_at n w.slot < length n.slots) × (row ≡ None) × (at ≡ w.right_at)
+TakesOut n w row Row at = (pair : Pair) × (held_in n.cells.helds w.slot ≡ helds.Stable pair) × (row ≡ Some pair.row) × (at ≡ max w.first pair.stamp)
+TakesOut n w row (Link u) at = (held_in n.cells.helds w.slot ≡ helds.Link u) × (row ≡ None) × (at ≡ w.right_at)
+TakesOut n w row Nothing at = ¬ (place_at n w.slot < length n.slots) × IsUnstable (held_in n.cells.helds w.slot) × (row ≡ None) × (at ≡ w.right_at)
+
+-- what a live slot holds is what its entry has
+abbrev pub IsShownAt : NodeView → ℕ → Type 0
+IsShownAt n slot = place_at n slot < length n.slots → held_in n.cells.helds slot ≡ (slot_at n (place_at n slot)).held
 
 -- after Load: to confirm what was taken
 abbrev pub after_load : Walk → Taken → ℕ → Walk
@@ -113,6 +116,7 @@ after_load w taken at = record w { taken = taken; right_at = at; phase = Confirm
 -- a load of the walk's slot, and the row that it answers
 pub record Loads (n : NodeView) (before after : Walk) (row : Option Columns) : Type 0 where
   pub takes : TakesOut n before row after.taken after.right_at
+  pub shown : IsShownAt n before.slot
   pub is : after ≡ after_load before after.taken after.right_at
 
 -- after Confirm where the version stands: into the tree of a link, else done

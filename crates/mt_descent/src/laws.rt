@@ -5,7 +5,7 @@ ghost use Rattle.mt_slices.specs.Keys.{IsStoredKey};
 ghost use Rattle.mt_rows.specs.Rows.{Bytes, Columns};
 ghost use Rattle.mt_arena.specs.{Arena.{ArenaView, IsArena}, Ways.BelongsIn, Accesses.{at, IsOpen}, Guarantee.NodesGuarantee};
 ghost use Rattle.mt_operation.specs.{declared.walk.Aim.Aim, declared.walk.Walk.Walk, Walks.walk_from_top};
-ghost use Rattle.mt_descent.specs.{Pasts.{Past, ExtendsPast}, KeptWalks.{HoldsNothing, IsAtJudge, IsKept}};
+ghost use Rattle.mt_descent.specs.{Pasts.{Past, ExtendsPast, KeepsRows}, KeptWalks.{HoldsNothing, IsAtJudge, IsKept}};
 
 /// A stored key may be looked for from the top tree on.
 pub fn walks_begin()
@@ -15,10 +15,10 @@ pub fn walks_begin()
 
 /// Whatever an operation that holds nothing keeps at its phase, it keeps through each step of any
 /// operation: what counts is what the step leaves to others, and that the past stands from the
-/// operation's first step on.
+/// operation's first step on. A row that it may load later has stood since its stamp.
 pub fn kept_stays()
     ensures { (op : ℕ) (old new : ArenaView) (before after : Past) (key : Bytes) (row : Option Columns) (w : Walk) →
-        NodesGuarantee op old.nodes new.nodes old.trees new.trees → ExtendsPast w.first before after →
+        NodesGuarantee op old.nodes new.nodes old.trees new.trees → KeepsRows old new after → ExtendsPast w.first before after →
         IsKept old before key row w → IsKept new after key row w }
 {}
 

@@ -4,5 +4,5 @@ use Rattle.mt_descent.proofs.Looks.{kept_loads}
 use Rattle.mt_descent.proofs.phases.load.load.Goals as goal
 
 pub returns-clause-kept : goal.returns-clause-kept
-returns-clause-kept c past stamped since = IfOk-weaker c.taken_at.result _ _
-    (λ taken l. kept_loads c.args.arena.now c.args.key.now c.args.walk.now c.taken_at.new.walk past _ c.facts.ensures.arena c.requires.kept stamped since l) c.taken_at.ensures.is
+returns-clause-kept c past loading = IfOk-weaker c.taken_at.result _ _
+    (λ taken l. kept_loads c.args.arena.now c.args.key.now c.args.walk.now c.taken_at.new.walk past _ loading l) c.taken_at.ensures.is
