@@ -1,14 +1,15 @@
 -- That what may be given back still may as the locks of other nodes are given back, and what that leaves of nodes and guarantees.
 use Rattle.std.proofs.{Common.{◌≡◌, ◌⊎◌, ℕ, ◌<◌, length, refl, sym, subst, ◌∙◌, inl, inr, arith}, lemmas.Bool.cases_eq, lemmas.List.length-set}
 use Rattle.mt_arena.specs.{NodeView.NodeView, Edits.unlocked, Guarantee.NodesGuarantee, Arena.{ArenaView, IsArena, Guarantee}, Accesses.at}
-use Rattle.mt_arena.proofs.{Pairs.{here, there}, Guarantees.guarantee_on, Naming.{names_same, points_each}}
+use Rattle.mt_arena.proofs.{Pairs.{here, there}, Guarantees.{guarantee_on, HasSameCells, lost_same}, Naming.{names_same, points_each}}
 use Rattle.mt_held.{specs.{Holds.MayReturn, Moves.given_back}, proofs.Returns.{TreesStand, trees_same, stays_whole, returnable_still}}
 
--- a node that names the same neighbour before it and the same parent, and is live as it was
+-- a node that names the same neighbour before it and the same parent, is live as it was, and has the slots that it had
 pub record NamesTheSame (n m : NodeView) : Type 0 where
   pub previous : m.previous ≡ n.previous
   pub parent : m.parent ≡ n.parent
   pub deleted : m.version.deleted ≡ n.version.deleted
+  pub same : HasSameCells n m
 
 -- the locks of the nodes of which P tells were given back, and nothing else was done
 pub record GivesBack (P : ℕ → Type 0) (old new : ArenaView) : Type 0 where
@@ -25,7 +26,7 @@ back_none P v none = record {
   count = refl;
   given = λ k p. absurd (none k p);
   others = λ k np. refl;
-  names = λ k. record { previous = refl; parent = refl; deleted = refl };
+  names = λ k. record { previous = refl; parent = refl; deleted = refl; same = record { slots = refl; cells = refl; whole = λ whole. whole } };
   trees = refl;
   retired = refl;
 }
@@ -44,7 +45,7 @@ back_more P Q v u i b within not_yet from to at_i =
       ];
       others = λ k nq. there u.nodes i k y (λ is. nq (subst Q (sym is) at_i)) ∙ b.others k (λ p. nq (to k p));
       names = λ k. elim (cases_eq k i) [
-        | inl is ↦ let n = b.names i in rw (is, here u.nodes i y inside) (record { previous = n.previous; parent = n.parent; deleted = n.deleted })
+        | inl is ↦ let n = b.names i in rw (is, here u.nodes i y inside) (record { previous = n.previous; parent = n.parent; deleted = n.deleted; same = record { slots = n.same.slots; cells = n.same.cells; whole = λ whole. refl } })
         | inr other ↦ rw (there u.nodes i k y other) (b.names k)
       ];
       trees = b.trees;
@@ -71,6 +72,7 @@ pub step_back : (P : ℕ → Type 0) (op : ℕ) (v u : ArenaView) → GivesBack 
 step_back P op v u b nodes = record {
   nodes = nodes;
   points = points_each op v.nodes u.nodes b.count (λ k lt. let n = b.names k in names_same op u.nodes (at v k) (at u k) n.previous n.parent);
+  lost = λ k lt. let n = b.names k in lost_same (at v k) (at u k) n.same.slots n.same.cells;
 }
 
 -- the guarantees of nodes and trees add up

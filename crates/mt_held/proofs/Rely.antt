@@ -18,8 +18,8 @@ pub in_slot_stays : (n m : NodeView) (slot : ℕ) (key : Bytes) (layer : ℕ) (k
     → IsInSlot m slot key layer kind
 in_slot_stays n m slot key layer kind slots order h =
     let other = subst (λ (o : Places). IsInSlot (record n { cells = record n.cells { order = o } }) slot key layer kind) order h in
-    let same = subst (λ (s : List Entry). IsInSlot (record n { slots = s; cells = record n.cells { order = m.cells.order } }) slot key layer kind) slots (record { in_range = other.in_range; slice_is = other.slice_is; mark_is = other.mark_is; kind_is = other.kind_is }) in
-    record { in_range = same.in_range; slice_is = same.slice_is; mark_is = same.mark_is; kind_is = same.kind_is }
+    let same = subst (λ (s : List Entry). IsInSlot (record n { slots = s; cells = record n.cells { order = m.cells.order } }) slot key layer kind) slots (record { within = other.within; in_range = other.in_range; slice_is = other.slice_is; mark_is = other.mark_is; kind_is = other.kind_is }) in
+    record { within = same.within; in_range = same.in_range; slice_is = same.slice_is; mark_is = same.mark_is; kind_is = same.kind_is }
 
 -- a tree that no other operation is making, none but this one comes to make
 pub open_stays : (op o : ℕ) (tree after : Tree) → TreeChanges op tree after → o ≢ op → ((q : ℕ) → tree.standing ≡ Made q → q ≡ o) → (s : Standing)

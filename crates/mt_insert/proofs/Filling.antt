@@ -6,7 +6,7 @@ use Rattle.mt_rows.specs.Rows.{Columns, columns_of}
 use Rattle.mt_border.specs.{Held.{Held, Stable}, Slots.{held_in, next_free, is_dropped}, Entries.IsMissing}
 use Rattle.mt_tape.specs.declared.entry.Entry.{Entry as Write}
 use Rattle.mt_arena.specs.{NodeView.NodeView, Edits.with_filled, Arena.{ArenaView, IsArena, Guarantee}, Accesses.{at, IsOpen, with_node}}
-use Rattle.mt_arena.proofs.{Pairs.here, Fills.step_filled, SettledEdits.settled_self}
+use Rattle.mt_arena.proofs.{Pairs.here, SettledEdits.settled_self}
 use Rattle.mt_operation.specs.{declared.phase.Phase.TheVariants.Publish, declared.prepared.Prepared.Prepared, Ready.without_pair}
 use Rattle.mt_operation.specs.{declared.task.Task.Task, declared.walk.Walk.Walk}
 use Rattle.mt_descent.proofs.Rely.{border_stays}
@@ -36,12 +36,9 @@ module _ (v : ArenaView) (op : ℕ) (task : Task) (prepared : Prepared) (w : Wal
   node_is : at u w.place.node ≡ y
   node_is = here v.nodes w.place.node y within
 
-  step : Guarantee op v u
-  step = step_filled v w.place.node op (held_ready prepared) within h.holds.judged.held.holder open_to_fill
-
   -- it holds its node as before
-  holds_filled : HoldsBy true u op task.key w
-  holds_filled = record {
+  holds_filled : Guarantee op v u → HoldsBy true u op task.key w
+  holds_filled step = record {
     judged = record {
       at_border = border_stays op v u step.nodes task.key w h.holds.judged.at_border;
       held = record { there = omega (arith, within, length-set v.nodes w.place.node y); holder = ap (λ (m : NodeView). m.holder) node_is ∙ h.holds.judged.held.holder };
@@ -64,9 +61,9 @@ module _ (v : ArenaView) (op : ℕ) (task : Task) (prepared : Prepared) (w : Wal
       ap (λ suffix. Stable (record { suffix = suffix; row = prepared.row; stamp = 0 })) h.suffix
       ∙ ap (λ (row : Columns). Stable (record { suffix = suffix_of task.key w.layer; row = row; stamp = 0 })) (h.ready.row ∙ sym row_left)
 
-  pub kept_filled : held_in y.cells.helds (next_free y.cells) ≡ held_ready prepared → IsAtPublish u op task (without_pair prepared.write) (walk_at Publish w)
-  kept_filled there = record {
-    holds = holds_on u op task w Publish w.slot holds_filled;
+  pub kept_filled : Guarantee op v u → held_in y.cells.helds (next_free y.cells) ≡ held_ready prepared → IsAtPublish u op task (without_pair prepared.write) (walk_at Publish w)
+  kept_filled step there = record {
+    holds = holds_on u op task w Publish w.slot (holds_filled step);
     missing = subst (λ (m : NodeView). IsMissing m.slots (slice_of task.key w.layer) (mark_of task.key w.layer)) (sym node_is) h.missing;
     room = subst (λ (m : NodeView). length m.slots < 15) (sym node_is) h.room;
     filled = ap (λ (m : NodeView). held_in m.cells.helds (next_free m.cells)) node_is ∙ there ∙ pair_is;

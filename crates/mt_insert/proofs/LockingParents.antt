@@ -4,7 +4,7 @@ use Rattle.std.proofs.Common.{◌==◌, Bool, ◌≡◌, ◌≢◌, ℕ, ◌-◌
 use Rattle.std.proofs.{lemmas.Bool.{cases_eq, cases_lt, eq-eqb, eqb-true}, lemmas.Option.same_Some, lemmas.List.length-set}
 use Rattle.mt_arena.specs.{NodeView.NodeView, Nodes.{HasChild, IsChild}, Lags.{Follows, IsUnder}, Settled.IsSettled, Forests.tree_at, Edits.{locked, pointed}}
 use Rattle.mt_arena.specs.{Arena.{ArenaView, IsArena, Guarantee}, Accesses.{at, IsOpen, with_node}}
-use Rattle.mt_arena.proofs.{Pairs.{here, there}, Settled.settled_free, Lags.{follows_in, under_in, followers_of}, Guarantees.guarantee_on, Naming.points_on}
+use Rattle.mt_arena.proofs.{Pairs.{here, there}, Settled.settled_free, Lags.{follows_in, under_in, followers_of}, Guarantees.{guarantee_on, lost_then}, Locks.same_locked, Naming.points_on}
 use Rattle.mt_operation.specs.{declared.phase.Phase.Phase, declared.phase.Phase.TheVariants.{InsertChild, InteriorSplit}, declared.splits.Halves.Halves}
 use Rattle.mt_operation.specs.declared.splits.Splits.{Splits}
 use Rattle.mt_insert.specs.{KeptSplits.{halves_at, last_of, HoldsSplits, IsAtLockParent, IsAtParent, IsParent, KeptSplit}, SplitEdits.{with_parent, for_parent}}
@@ -214,4 +214,5 @@ module _ (v : ArenaView) (op p : ℕ) (s : Splits) (arena : IsArena v.nodes v.tr
       nodes = guarantee_on op v.nodes mid.nodes u.nodes v.trees v.trees v.trees first.nodes second.nodes arena.forest.tree_there;
       points =
           points_on op v.nodes mid.nodes u.nodes first.nodes.count first.points second.points (λ j lt holder. ap (λ (n : NodeView). n.holder) (keeps_each mid.nodes q y mid_there (record { is = refl; parented = λ none. absurd (cc) }) j).is ∙ holder);
+      lost = lost_then v.nodes mid.nodes u.nodes first.nodes.count (same_locked v.nodes p op parent_there) second.lost;
     }

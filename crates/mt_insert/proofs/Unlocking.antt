@@ -7,6 +7,7 @@ use Rattle.mt_arena.specs.{NodeView.NodeView, Edits.unlocked, Guarantee.{NodesGu
 use Rattle.mt_arena.specs.Accesses.{at}
 use Rattle.mt_operation.specs.{declared.splits.Halves.Halves, declared.splits.Splits.Splits}
 use Rattle.mt_descent.specs.KeptWalks.{HoldsNothing}
+use Rattle.mt_arena.proofs.Guarantees.{lost_then}
 use Rattle.mt_held.proofs.GivingBack.{GivesBack, back_none, back_more, back_one, returns_still, step_back, nodes_on}
 use Rattle.mt_held.specs.{Holds.MayReturn, Moves.given_back}
 use Rattle.mt_insert.specs.{KeptSplits.{halves_at, IsHalf, IsAmong, HoldsSplits, MayReturnBoth, AreReturnable, IsAtUnlockAll}, Unlock.Returns}
@@ -187,4 +188,4 @@ module _ (v : ArenaView) (op : ℕ) (s : Splits) (kept : IsAtUnlockAll v op s) (
         not_among (holds k (omega (arith, lt, all_returned.count)) (sym (ap (λ (n : NodeView). n.holder) (all_returned.others k not_among)) ∙ mine))
 
     pub all_step : IsArena v.nodes v.trees → Guarantee op v u → Guarantee op u w → Guarantee op v w
-    all_step arena one two = record { nodes = nodes_on op v u w arena one.nodes two; points = points_after IsAbove op v u w back_above two.points }
+    all_step arena one two = record { nodes = nodes_on op v u w arena one.nodes two; points = points_after IsAbove op v u w back_above two.points; lost = lost_then v.nodes u.nodes w.nodes (omega (arith, back_above.count)) (λ k lt. (back_above.names k).same) two.lost }

@@ -5,7 +5,7 @@ use Rattle.mt_border.specs.{Held.Link, Entries.without}
 use Rattle.mt_arena.specs.{declared.tree.Standing.TheVariants.Dead, NodeView.{NodeView, place_at}, Settled.IsSettled, Forests.tree_at, Layers.{slot_at, LeadsTo}}
 use Rattle.mt_arena.specs.{Edits.{locked, retired, with_slots, cells_without}, Ways.IsFreeRoot, Removals.{MayDropLayer, without_layer}, Arena.{ArenaView, IsArena, Guarantee}}
 use Rattle.mt_arena.specs.Accesses.{at, IsOpen}
-use Rattle.mt_arena.proofs.{Pairs.{here, there}, SettledEdits.settled_locked, Alone.alone, OneLink.{IsLinkTo, leads, differs}, Guarantees.guarantee_on}
+use Rattle.mt_arena.proofs.{Pairs.{here, there}, SettledEdits.settled_locked, Alone.alone, OneLink.{IsLinkTo, leads, differs}, Guarantees.{guarantee_on, lost_then}, Locks.same_locked}
 use Rattle.mt_arena.proofs.Naming.{points_on}
 use Rattle.mt_held.proofs.Returns.{settled_still, stays_whole, names_no_more}
 use Rattle.mt_remove.{specs.{KeptRemovals.HoldsLink, RemovalEdits.{with_lock, root_of}}, proofs.Held.{same_at, new_at}}
@@ -117,6 +117,7 @@ module _ (v : ArenaView) (op node slot tree : ℕ) (arena : IsArena v.nodes v.tr
             | inr not_node ↦ ap (λ (n : NodeView). n.holder) (there (set m.nodes node y) r j (retired (at m r)) not_root ∙ there m.nodes node j y not_node) ∙ holder
           ]
         ]);
+        lost = lost_then v.nodes m.nodes u.nodes one.nodes.count (same_locked v.nodes r op root_there) two.lost;
       }
 
 -- the lock of the root that a tree's record names

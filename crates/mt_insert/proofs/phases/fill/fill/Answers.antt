@@ -15,5 +15,6 @@ returns c = λ task kept. record {
   walk = refl;
   keeps = record { same = record { aim = refl; first = refl }; guarantee = c.fill.ensures.step; contents = c.fill.ensures.contents };
   kept = rw (c.fill.ensures.is, c.stable.ensures, c.take_pair-pair.ensures.pair, c.take_pair-pair.ensures.left)
-      (kept_filled c.args.arena.now c.args.operation task c.args.prepared.now c.args.walk.now c.facts.ensures.arena kept (rw (c.stable.ensures, c.take_pair-pair.ensures.pair) at c.fill.ensures.there));
+      (kept_filled c.args.arena.now c.args.operation task c.args.prepared.now c.args.walk.now c.facts.ensures.arena kept
+      (rw (c.fill.ensures.is, c.stable.ensures, c.take_pair-pair.ensures.pair) at c.fill.ensures.step) (rw (c.stable.ensures, c.take_pair-pair.ensures.pair) at c.fill.ensures.there));
 }

@@ -18,6 +18,7 @@ publish_filled-requires c =
         c.args.task.now.key,
         rw entry (may_publish c.args.arena.now c.args.operation c.args.task.now.key w c.facts.ensures.arena kept.holds c.args.prepared.row c.args.step kept.missing kept.room),
       );
+      marked = kept.marked;
     }
 
 pub returns-clause-is : goal.returns-clause-is
