@@ -29,7 +29,7 @@ same_past past = record { steps = omega arith; same = λ n from upto. refl }
 
 module _ (op : ℕ) (old new : ArenaView) (g : NodesGuarantee op old.nodes new.nodes old.trees new.trees) where
   pub through : (past : Past) (tree layer : ℕ) (key : Bytes) → GoesThrough old tree layer key → GoesThrough new tree layer key
-  through past tree layer key h = kept_stays op old new g past past key None (at_tree tree layer) Enter (same_past past) h
+  through past tree layer key h = kept_stays op old new g past past key None (at_tree tree layer) Enter (same_past past) (λ e. absurd (cc)) h
 
   pub next_stays : (tree slice x : ℕ) → IsNextFrom old tree slice x → IsNextFrom new tree slice x
   next_stays tree slice x h =

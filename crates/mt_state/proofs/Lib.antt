@@ -6,6 +6,7 @@ pub mod Rely
 pub mod Answered
 pub mod Growing
 pub mod Writing
+pub mod Stamps
 pub mod Moving
 pub mod Telling
 pub mod Quiet

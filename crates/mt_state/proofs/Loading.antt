@@ -17,56 +17,25 @@ use Rattle.mt_arena.proofs.Owners.{found}
 use Rattle.mt_operation.specs.{declared.task.Task.Task, declared.phase.Phase.Phase, declared.phase.Phase.TheVariants.{Enter, Load, Confirm, Done}}
 use Rattle.mt_operation.specs.{declared.walk.Taken.Taken, declared.walk.Walk.Walk, declared.outcome.Outcome.Outcome, declared.operation.Operation.Operation}
 use Rattle.mt_operation.specs.{Tasks.ask, Operations.view_of, Phases.{is_done, MayFollow, IsOfKind}, Tables.{op_at as operation_at}}
-use Rattle.mt_descent.specs.{Pasts.{Past, AreStamped}, KeptWalks.{IsInSlot, walk_place, IsAtLoad as WalksLoad, KeptAt, IsKept}, WalkMoves.{Continues, Loads, TakesOut}}
+use Rattle.mt_descent.specs.{Pasts.Past, KeptWalks.{IsInSlot, walk_place, Had, IsOfKey, IsAtLoad as WalksLoad, KeptAt, IsKept}, WalkMoves.{Continues, Loads, TakesOut}}
 use Rattle.mt_state.specs.{Views.{StateView, Core, shown, past_of, map_of}, Steps.told_change, Notes.{Notes, Says, columns_asked, ShowsRow, ShowsNone}}
 use Rattle.mt_state.specs.{Ways.ShowsTaken, KeptOperations.{IsOpenOperation, TellsTaken, IsAtLoad, IsAtConfirm, HasAnswer, IsKeptAt}}
 use Rattle.mt_state.specs.Invariant.{IsStampOf, StateInvariant}
 use Rattle.mt_state.proofs.{Replies.get_asks, LiveTrees.slot_key, Telling.Gives, Moved.{went, first_begun, first_upto}}
-use Rattle.mt_state.proofs.{Still.{IsFree, IsUnready, still, still_gives}, Reading.{key_of_owner, walk_same}, Confirming.get_of, Bound.get_untold}
+use Rattle.mt_border.specs.Slots.{held_in}
+use Rattle.mt_state.proofs.{Stamps.{stamp_of, row_of, row_written}, Still.{IsFree, IsUnready, still, still_gives}, Reading.{key_of_owner, walk_same}, Confirming.get_of, Bound.get_untold}
 use Rattle.mt_state.proofs.Lawful.{get_no_scan, stopped_free}
 use Rattle.mt_walks.specs.Walked.{IsWithin}
 use Rattle.mt_border.specs.Held as helds
-use Rattle.mt_arena.proofs.Homes as homes
+use Rattle.mt_descent.proofs.Rely as descent
 use Rattle.mt_operation.specs.declared.walk.Aim.TheVariants as aims
 use Rattle.mt_operation.specs.declared.walk.Taken.TheVariants as takens
 
--- the pairs of live nodes of live trees count
-counts_live : (deleted : Bool) (s : Standing) → deleted ≡ false → s ≡ Live → cond deleted false (is_live s) ≡ true
-counts_live true s live tree = absurd (cc)
-counts_live false s live tree = ap is_live tree
-
-module _ (c : Core) (h : StateInvariant c) (arena : IsArena c.arena.nodes c.arena.trees) where
-  -- what is known of the stamp of a pair that stands
-  pub stamp_of : (key : Bytes) (layer k i : ℕ) (pair : Pair) → StandsFor c.arena.nodes c.arena.trees key layer k i pair
-      → IsStampOf c.steps c.tape (owned key) pair.stamp
-  stamp_of key layer k i pair s =
-      let n = at c.arena k in
-      subst (λ q. IsStampOf c.steps c.tape q pair.stamp) (owned_at (tree_of c.arena k).prefix layer (slot_at n i) key pair s.has s.pair_is)
-      (h.stamps k s.there (counts_live n.version.deleted (tree_of c.arena k).standing s.live s.tree_live) i any_entry s.in_range pair s.pair_is)
-
-  pub row_of : (key : Bytes) (layer k i : ℕ) (pair : Pair) → StandsFor c.arena.nodes c.arena.trees key layer k i pair
-      → get (content_of c.arena) (owned key) ≡ Some pair.row
-  row_of key layer k i pair s = found c.arena.nodes c.arena.trees arena (homes.begun c.arena.nodes c.arena.trees arena.forest) key layer k i pair s
-
-  -- each pair has stood since the step of its stamp
-  pub stamped : (past : Past) → c.steps ≤ past.steps → ((n : ℕ) → past.contents n ≡ contents_at c.tape.entries (content_of c.arena) n) → AreStamped past c.arena
-  stamped past steps same key layer k i pair s =
-      let stamp = stamp_of key layer k i pair s in
-      record {
-        made = omega (arith, stamp.0, steps);
-        stood =
-            λ n since upto. ap (λ m. get m (owned key)) (same n) ∙ get-contents_at c.tape.entries (content_of c.arena) (owned key) pair.stamp n stamp.1 since ∙ row_of key layer k i pair s;
-      }
-
-  -- the write of a row that stands since its step left that row
-  pub row_written : (key : Bytes) (layer k i : ℕ) (pair : Pair) (e : Write) → StandsFor c.arena.nodes c.arena.trees key layer k i pair
-      → Contains c.tape.entries e → e.step ≡ pair.stamp → written_key e ≡ owned key → e.after ≡ Some pair.row
-  row_written key layer k i pair e s has step is =
-      let stamp = stamp_of key layer k i pair s in
-      sym (All-contains (λ x. get (contents_at c.tape.entries (content_of c.arena) x.step) (written_key x) ≡ x.after) c.tape.entries e h.tape.legal has)
-      ∙ ap (get (contents_at c.tape.entries (content_of c.arena) e.step)) is
-      ∙ get-contents_at c.tape.entries (content_of c.arena) (owned key) pair.stamp e.step stamp.1 (omega (arith, step))
-      ∙ row_of key layer k i pair s
+-- a load is as right by a longer past
+pub load_on : (c : Core) (op : Operation) → WalksLoad c.arena (past_of c) op.task.key op.walk → (past : Past) → c.steps ≤ past.steps
+    → ((n : ℕ) → past.contents n ≡ contents_at c.tape.entries (content_of c.arena) n) → WalksLoad c.arena past op.task.key op.walk
+load_on c op loads past steps same =
+    descent.load_longer c.arena (past_of c) past op.task.key op.walk (record { steps = steps; same = λ n from upto. same n }) loads
 
 module _ (c : Core) (now : StateView) (o : ℕ) (is : shown c ≡ now) (h : StateInvariant c) (room : now.steps < 2 ^ 59) (arena : IsArena c.arena.nodes c.arena.trees) (op : Operation) (there : operation_at c.table o ≡ Some op) (at_load : op.walk.phase ≡ Load) where
   loading : IsAtLoad c op
@@ -96,7 +65,7 @@ module _ (c : Core) (now : StateView) (o : ℕ) (is : shown c ≡ now) (h : Stat
   key_asked_is : op.task.key ≡ stored_key op.task.tenant (key_of (ask op.task))
   key_asked_is = key_of_owner op.task.key op.task.tenant (key_of (ask op.task)) always.stored owned_is
 
-  walks_load : WalksLoad c.arena op.task.key op.walk
+  walks_load : WalksLoad c.arena (past_of c) op.task.key op.walk
   walks_load = subst (λ (p : Phase). KeptAt p c.arena (past_of c) op.task.key None op.walk) at_load loading.way.kept
 
   -- there is no memory for the row that it shows
@@ -120,7 +89,7 @@ module _ (c : Core) (now : StateView) (o : ℕ) (is : shown c ≡ now) (h : Stat
       (subst (λ (p : Phase). IsKeptAt p new o after) (sym done) own) true (sym (ap is_done done))
 
   module _ (w : Walk) (row : Option Columns) (told : Option Outcome) (loads : Loads (at c.arena op.walk.place.node) op.walk w row) (shows : ShowsTaken op row w told) (same : Continues op.walk w)
-      (kept : (past : Past) → AreStamped past c.arena → op.walk.first ≤ past.steps → IsKept c.arena past op.task.key row w) where
+      (kept : (past : Past) → WalksLoad c.arena past op.task.key op.walk → IsKept c.arena past op.task.key row w) where
     abbrev pub node : NodeView
     node = at c.arena op.walk.place.node
 
@@ -172,35 +141,44 @@ module _ (c : Core) (now : StateView) (o : ℕ) (is : shown c ≡ now) (h : Stat
         }
 
     -- what is noted of a row
-    shows_row : (pair : Pair) → place < length node.slots → (slot_at node place).held ≡ helds.Stable pair → row ≡ Some pair.row
-        → w.right_at ≡ max op.walk.first pair.stamp → ShowsRow (shown c) (view_of op) told
-    shows_row pair in_range is_held is_row is_right =
-        let held : pair_of (slot_at node place).held ≡ Some pair = ap pair_of is_held in
-        let s = stands pair in_range held in
+    shows_row : (pair : Pair) → held_in node.cells.helds op.walk.slot ≡ helds.Stable pair → row ≡ Some pair.row → w.right_at ≡ max op.walk.first pair.stamp
+        → ShowsRow (shown c) (view_of op) told
+    shows_row pair is_held is_row is_right =
         let asked = get_asks (ask op.task) gets in
-        let stamp = stamp_of c h arena s.0 s.1 op.walk.place.node place pair s.2 in
-        let now_row = row_of c h arena s.0 s.1 op.walk.place.node place pair s.2 in
         record {
           columns = asked.0;
           asked = asked.1;
-          key = owned s.0;
           row = pair.row;
           number = w.right_at;
           says = shows.some pair.row asked.0 is_row asked.1;
-          from = (in_range, pair, is_held, refl, is_right);
-          there = now_row;
+          from = (pair, is_held, refl, is_right);
           since = omega (arith, is_right);
-          made = omega (arith, is_right, stamp.0, always.order, always.made);
-          stood = λ m le. get-tenant_map (owned s.0).0 (contents_at c.tape.entries (content_of c.arena) m) (owned s.0).1
-              ∙ get-contents_at c.tape.entries (content_of c.arena) (owned s.0) pair.stamp m stamp.1 (omega (arith, is_right, le)) ∙ now_row;
-          wrote = λ later.
-              let is_stamp : w.right_at ≡ pair.stamp = omega (arith, is_right, later) in
-              let write = stamp.2 (omega (arith, is_stamp, later, always.floor begun)) in
-              (write.0, write.1, write.2 ∙ sym is_stamp, write.3, row_written c h arena s.0 s.1 op.walk.place.node place pair write.0 s.2 write.1 write.2 write.3);
-          own = λ last.
-              sym (owned_at (tree_of c.arena op.walk.place.node).prefix s.1 (slot_at node place) s.0 pair s.2.has held)
-              ∙ owned_at (tree_of c.arena op.walk.place.node).prefix op.walk.layer (slot_at node place) op.task.key pair (own_key pair in_range held last) held
-              ∙ owned_is;
+          live = λ in_range.
+              let held : pair_of (slot_at node place).held ≡ Some pair = ap pair_of (sym (loads.shown in_range) ∙ is_held) in
+              let s = stands pair in_range held in
+              let stamp = stamp_of c h.stamps arena s.0 s.1 op.walk.place.node place pair s.2 in
+              let now_row = row_of c h.stamps arena s.0 s.1 op.walk.place.node place pair s.2 in
+              record {
+                key = owned s.0;
+                there = now_row;
+                made = omega (arith, is_right, stamp.0, always.order, always.made);
+                stood = λ m le. get-tenant_map (owned s.0).0 (contents_at c.tape.entries (content_of c.arena) m) (owned s.0).1
+                    ∙ get-contents_at c.tape.entries (content_of c.arena) (owned s.0) pair.stamp m stamp.1 (omega (arith, is_right, le)) ∙ now_row;
+                wrote = λ later.
+                    let is_stamp : w.right_at ≡ pair.stamp = omega (arith, is_right, later) in
+                    let write = stamp.2 (omega (arith, is_stamp, later, always.floor begun)) in
+                    (write.0, write.1, write.2 ∙ sym is_stamp, write.3, row_written c h.stamps arena s.0 s.1 op.walk.place.node place pair write.0 s.2 h.tape write.1 write.2 write.3);
+                own = λ last.
+                    sym (owned_at (tree_of c.arena op.walk.place.node).prefix s.1 (slot_at node place) s.0 pair s.2.has held)
+                    ∙ owned_at (tree_of c.arena op.walk.place.node).prefix op.walk.layer (slot_at node place) op.task.key pair (own_key pair in_range held last) held
+                    ∙ owned_is;
+              };
+          dropped = λ gone still. elim (walks_load.found still) [
+            | inl l ↦ absurd (gone l.has.in_slot.in_range)
+            | inr d ↦
+                let had : Had (past_of c) op.walk.first (max op.walk.first pair.stamp) op.task.key (Some pair.row) = subst (IsOfKey c.arena (past_of c) op.task.key op.walk.first op.walk.layer) is_held d.held in
+                (omega (arith, had.made, is_right), get-tenant_map op.task.tenant (contents_at c.tape.entries (content_of c.arena) w.right_at) (key_of (ask op.task)) ∙ rw (is_right, ← owned_is) had.had)
+          ];
         }
 
     -- and of none: a link for the key, or somebody made a step since
@@ -211,12 +189,13 @@ module _ (c : Core) (now : StateView) (o : ℕ) (is : shown c ≡ now) (h : Stat
     link_kind held tree e OtherLong leads k = absurd (leads refl)
     link_kind held tree e ThisKey leads k = absurd (subst (λ (x : Held). IsSomeAnd (pair_of x) (λ p. p.suffix ≡ suffix_of op.task.key op.walk.layer)) e k)
 
-    shows_link : (tree : ℕ) → (slot_at node place).held ≡ helds.Link tree → told ≡ None → ShowsNone (shown c) (view_of op) told
-    shows_link tree held none = record {
+    shows_link : (tree : ℕ) → held_in node.cells.helds op.walk.slot ≡ helds.Link tree → told ≡ None → ShowsNone (shown c) (view_of op) told
+    shows_link tree is_held none = record {
       none = none;
       why = elim (cases_eq op.last c.steps) [
         | inl last ↦
             let f = loading.found last in
+            let held = sym (loads.shown f.in_slot.in_range) ∙ is_held in
             inl (record {
               there = within;
               in_slot = subst (λ (key : Bytes). IsInSlot node op.walk.slot key op.walk.layer ToTree) key_asked_is
@@ -231,29 +210,29 @@ module _ (c : Core) (now : StateView) (o : ℕ) (is : shown c ≡ now) (h : Stat
 
     noted : (taken : Taken) → TakesOut node op.walk row taken w.right_at → ShowsRow (shown c) (view_of op) told ⊎ ShowsNone (shown c) (view_of op) told
     noted takens.Missing t = absurd t
-    noted takens.Row t = inl (shows_row t.1 t.0 t.2 t.3 t.4)
-    noted (takens.Link tree) t = inr (shows_link tree t.1 (shows.none t.2))
-    noted takens.Nothing t = inr (shows_nothing t.0 (shows.none t.1))
+    noted takens.Row t = inl (shows_row t.0 t.1 t.2 t.3)
+    noted (takens.Link tree) t = inr (shows_link tree t.0 (shows.none t.1))
+    noted takens.Nothing t = inr (shows_nothing t.0 (shows.none t.2))
 
     tells : (taken : Taken) (after : Operation) → after.task ≡ op.task → after.outcome ≡ told → after.walk ≡ w
         → TakesOut node op.walk row taken w.right_at → TellsTaken after row taken
     tells takens.Missing after task outcome walk t = absurd t
     tells takens.Row after task outcome walk t =
         let asked = get_asks (ask op.task) gets in (
-          t.1.row,
+          t.0.row,
           asked.0,
-          t.3,
+          t.2,
           subst (λ (x : Task). columns_asked (ask x) ≡ Some asked.0) (sym task) asked.1,
-          outcome ∙ subst (λ (x : Walk). Says told (Found (columns_shown asked.0 t.1.row)) x.right_at) (sym walk) (shows.some t.1.row asked.0 t.3 asked.1),
+          outcome ∙ subst (λ (x : Walk). Says told (Found (columns_shown asked.0 t.0.row)) x.right_at) (sym walk) (shows.some t.0.row asked.0 t.2 asked.1),
         )
-    tells (takens.Link tree) after task outcome walk t = outcome ∙ shows.none t.2
-    tells takens.Nothing after task outcome walk t = outcome ∙ shows.none t.1
+    tells (takens.Link tree) after task outcome walk t = outcome ∙ shows.none t.1
+    tells takens.Nothing after task outcome walk t = outcome ∙ shows.none t.2
 
     no_change : (taken : Taken) → TakesOut node op.walk row taken w.right_at → told_change told ≡ None
     no_change takens.Missing t = absurd t
-    no_change takens.Row t = let asked = get_asks (ask op.task) gets in ap told_change (shows.some t.1.row asked.0 t.3 asked.1)
-    no_change (takens.Link tree) t = ap told_change (shows.none t.2)
-    no_change takens.Nothing t = ap told_change (shows.none t.1)
+    no_change takens.Row t = let asked = get_asks (ask op.task) gets in ap told_change (shows.some t.0.row asked.0 t.2 asked.1)
+    no_change (takens.Link tree) t = ap told_change (shows.none t.1)
+    no_change takens.Nothing t = ap told_change (shows.none t.2)
 
     pub load_taken : Gives now (still c now o is h room op there load_free w told) o false
     load_taken =
@@ -263,7 +242,7 @@ module _ (c : Core) (now : StateView) (o : ℕ) (is : shown c ≡ now) (h : Stat
         let own : IsAtConfirm new after = record {
           row = row;
           kept =
-              subst (λ (x : Walk). IsKept c.arena (past_of new) op.task.key row x) (sym is_walk) (kept (past_of new) (stamped c h arena (past_of new) (omega arith) (λ n. refl)) (omega (arith, always.order, always.made)));
+              subst (λ (x : Walk). IsKept c.arena (past_of new) op.task.key row x) (sym is_walk) (kept (past_of new) (load_on c op walks_load (past_of new) (omega arith) (λ n. refl)));
           tells = subst (λ (x : Walk). TellsTaken after row x.taken) (sym is_walk) (tells w.taken after refl refl is_walk loads.takes);
           unprepared = loading.way.unprepared;
         } in

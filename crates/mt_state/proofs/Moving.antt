@@ -9,7 +9,7 @@ use Rattle.mt_descent.specs.Pasts.{ExtendsPast}
 use Rattle.mt_state.specs.{Views.{Core, shown, past_of}, KeptOperations.{HasScannedFor, KeepsScan, IsScanKept, IsKeptOf}}
 use Rattle.mt_state.specs.{Invariant.{AreHolders, AreScansKept, StateInvariant, one_if_prepared, prepared_count, made_count}, Moves.{IsMove, IsTold}}
 use Rattle.mt_state.proofs.{ScanKept.{scanned_for_stays, fresh_scan}, Moved.first_is, Shown.shown_table, Answered.made_set}
-use Rattle.mt_state.proofs.Writing.{quotas_stay, written_stays}
+use Rattle.mt_state.proofs.{Stamps.stamped_now, Writing.{quotas_stay, written_stays}}
 use Rattle.mt_arena.specs.Arena.{IsArena}
 use Rattle.mt_state.proofs.Rely as rely
 
@@ -42,7 +42,7 @@ module _ (old new : Core) (o : ℕ) (before after : Operation) (h : StateInvaria
   ops_stay : (q : ℕ) (op : Operation) → operation_at new.table q ≡ Some op → IsKeptOf new q op
   ops_stay q op is = elim (was q op is) [
     | inl (same, it) ↦ subst (λ (w : Operation). IsKeptOf new q w) it (subst (λ k. IsKeptOf new k after) (sym same) m.kept)
-    | inr (other, there) ↦ rely.stays old new o q arena m.leaves other (omega (arith, m.number)) op (h.ops q op there)
+    | inr (other, there) ↦ rely.stays old new o q arena (stamped_now new m.stamps arena) m.leaves other (omega (arith, m.number)) op (h.ops q op there)
   ]
 
   -- what its scan has done: that was kept, or it hadn't begun; or the step brings it
@@ -71,7 +71,7 @@ module _ (old new : Core) (o : ℕ) (before after : Operation) (h : StateInvaria
   scans_stay : AreScansKept new
   scans_stay q op is = elim (was q op is) [
     | inl (same, it) ↦ subst (IsScanKept new) it (record { fresh = λ none. absurd (omega (arith, begun_now, none)); walked = λ begun unfinished. own_scan unfinished })
-    | inr (other, there) ↦ rely.scan_stays old new o q arena m.leaves other (omega (arith, m.number)) op (h.scans q op there)
+    | inr (other, there) ↦ rely.scan_stays old new o q arena (stamped_now new m.stamps arena) m.leaves other (omega (arith, m.number)) op (h.scans q op there)
   ]
 
   holders_stay : AreHolders new

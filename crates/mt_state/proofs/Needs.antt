@@ -23,7 +23,7 @@ use Rattle.mt_layer.specs.KeptLayers.{IsAtLeave, KeptLayer}
 use Rattle.mt_state.specs.{Views.{Core, shown, past_of}, Promises.{IsInTheWay, IsHeldByOther, HasStep}}
 use Rattle.mt_state.specs.KeptOperations.{IsOpenOperation, IsOnItsWay, IsJudging, IsStoring, IsFilling, IsPublishing, MayUnlock, IsUnlocking, IsLayering, IsLeaving, IsReturning, IsKeptAt, IsKeptFor, IsWritingAt, MayUnlockUnsplit, IsDropping}
 use Rattle.mt_state.specs.Invariant.{HoldsAt, StateInvariant}
-use Rattle.mt_state.proofs.{Shown.shown_there, Locking.{may_unlock, room_for}, Loading.row_of, RemovalSteps.{unlinking_of, removal_holds}}
+use Rattle.mt_state.proofs.{Shown.shown_there, Locking.{may_unlock, room_for}, Stamps.row_of, RemovalSteps.{unlinking_of, removal_holds}}
 use Rattle.mt_state.proofs.{RemovalLooks.going_back, Lawful.{put_no_scan, remove_no_scan}}
 use Rattle.mt_remove.specs.Writes.{is_remove, IsRemoval}
 use Rattle.mt_remove.specs.KeptRemovals.{IsAtDropKey, IsUnburdened, KeptRemoval, HoldsRemoval, IsAtUnlockRemoval, IsCleaning, IsAmong as IsOfRemoval}
@@ -216,7 +216,7 @@ module _ (c : Core) (o : ℕ) (h : StateInvariant c) (op : Operation) (there : o
       row =
           let may = may_store c.arena o op.task.key op.walk arena k.drops.holds op.walk.slot k.drops.pair k.drops.in_slot k.drops.stable in
           get-tenant_map op.task.tenant (content_of c.arena) (key_of (ask op.task)) ∙ ap (get (content_of c.arena)) (sym (always.owner (remove_no_scan (ask op.task) k.removes)))
-          ∙ row_of c h arena op.task.key (layer_of (tree_of c.arena op.walk.place.node).prefix) op.walk.place.node (walk_place c.arena op.walk) k.drops.pair may.stands
+          ∙ row_of c h.stamps arena op.task.key (layer_of (tree_of c.arena op.walk.place.node).prefix) op.walk.place.node (walk_place c.arena op.walk) k.drops.pair may.stands
 
       by : (account : Option Account) → account_of c.accounts op.task.tenant ≡ account → IsSome account → HasPairs account
       by None is some = absurd (cc)

@@ -28,7 +28,7 @@ use Rattle.mt_state.specs.Invariant.{IsStampOf, HoldsLast, HoldsAt, StateInvaria
 use Rattle.mt_state.proofs.{Replies.{put_there, put_new}, Telling.{Gives, gives}}
 use Rattle.mt_state.proofs.Placing.{Counts, next_write, placed, PlacesPair, untouched_beside, untouched_now, placed_move, placed_right, is_placing, placed_once}
 use Rattle.mt_state.proofs.{Moved.{went, first_begun, first_upto, open_moved, has_moved}, Still.{floor_made, unready_none}, Reading.{key_of_owner, walk_same}}
-use Rattle.mt_state.proofs.Loading.{row_of}
+use Rattle.mt_state.proofs.Stamps.{row_of}
 use Rattle.mt_state.proofs.OneNode.{stepped, counted_live, replaced_at, replaced_holds, replaced_versions, replaced_touches, few_steps, holds_here, replaced_deleted}
 use Rattle.mt_state.proofs.{Locking.{ready_one, room_for}, Growing.makes_set, LiveTrees.slot_lives, Bound.put_no_remove}
 use Rattle.mt_arena.proofs.Homes as homes
@@ -102,7 +102,7 @@ module _ (c : Core) (now : StateView) (o : ℕ) (is : shown c ≡ now) (h : Stat
     pub beside_missing : get (content_of c.arena) key ≡ None → (l : ℕ) → l < length c.arena.nodes → counts c.arena.trees (at c.arena l) ≡ true
         → All (IsApart (tree_of c.arena l).prefix key) (at c.arena l).slots
     beside_missing missing l inside counted =
-        apart_in l inside counted (λ q layer i other also same. none-some other.row (sym missing ∙ ap (get (content_of c.arena)) (sym same) ∙ row_of c h arena_is q layer l i other also))
+        apart_in l inside counted (λ q layer i other also same. none-some other.row (sym missing ∙ ap (get (content_of c.arena)) (sym same) ∙ row_of c h.stamps arena_is q layer l i other also))
 
   -- how many pairs each tenant has once the put's row is inserted at its key
   more_at : (all : Contents) (row : Columns) → all ≡ insert (content_of c.arena) (op.task.tenant, key_of (ask op.task)) row → (t : ℕ)

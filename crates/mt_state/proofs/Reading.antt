@@ -12,9 +12,10 @@ use Rattle.mt_operation.specs.{declared.walk.Taken.Taken, declared.walk.Walk.Wal
 use Rattle.mt_operation.specs.{Tasks.ask, Operations.{OperationView, view_of, moved}, Phases.{is_done, MayFollow, IsDescent, IsOfKind, is_unplaced}}
 use Rattle.mt_operation.specs.Tables.{op_at as operation_at}
 use Rattle.mt_operation.proofs.Phases.{by_descent}
-use Rattle.mt_descent.specs.{Pasts.{Past, IsNow}, KeptWalks.{GoesThrough, IsInSlot, HasSlot, IsAtBorder, KeptAt, IsKept}, WalkMoves.{FindsIn, after_search}}
+use Rattle.mt_descent.specs.{Pasts.{Past, IsNow, AreStamped}, KeptWalks.{GoesThrough, IsInSlot, HasSlot, IsAtBorder, KeptAt, IsKept}, WalkMoves.{FindsIn, after_search}}
 use Rattle.mt_state.specs.{Views.{StateView, Core, shown, past_of}, Steps.told_change, Notes.{Notes, Keeps}, Ways.{IsOnWay, Descends}}
 use Rattle.mt_state.specs.{KeptOperations.{IsOpenOperation, TellsTaken, IsOnItsWay, IsAtLoad, IsAtConfirm, IsKeptAt, IsBound}, Invariant.StateInvariant}
+use Rattle.mt_state.proofs.Stamps.{stamped}
 use Rattle.mt_state.proofs.{Descents.{by_way, first_aside}, Telling.Gives, Moved.{went, first_same}, Still.{IsFree, IsUnready, still, still_gives}}
 use Rattle.mt_state.proofs.{Bound.{bound_on, look_untold}, OneNode.quiet_grows, Lawful.owner_of}
 use Rattle.mt_border.specs.declared.entry.Find.TheVariants as finds
@@ -158,7 +159,7 @@ module _ (c : Core) (now : StateView) (o : ℕ) (is : shown c ≡ now) (h : Stat
       (owner_of c op k aims.Read (subst (λ (p : Phase). IsOfKind p op.walk.aim) at_search k.kind) (λ e. absurd (cc)))
 
   module _ (w : Walk) (found : Find) (has_found : FindsIn (at c.arena op.walk.place.node) op.task.key op.walk.layer found) (is_after : w ≡ after_search found op.walk (c.steps + 1))
-      (kept : (past : Past) (row : Option Columns) → IsNow past (c.steps + 1) c.arena → op.walk.first ≤ c.steps + 1 → IsKept c.arena past op.task.key row w) where
+      (kept : (past : Past) (row : Option Columns) → AreStamped past c.arena → IsNow past (c.steps + 1) c.arena → op.walk.first ≤ c.steps + 1 → IsKept c.arena past op.task.key row w) where
     first_upto_now : op.walk.first ≤ c.steps + 1
     first_upto_now = let k = (h.ops o op there).always in omega (arith, k.order, k.made)
 
@@ -206,7 +207,7 @@ module _ (c : Core) (now : StateView) (o : ℕ) (is : shown c ≡ now) (h : Stat
         let own : IsAtConfirm new after = record {
           row = None;
           kept =
-              subst (λ (x : Walk). IsKept c.arena (past_of new) op.task.key None x) (sym same) (kept (past_of new) None (now_is c h new refl refl refl) first_upto_now);
+              subst (λ (x : Walk). IsKept c.arena (past_of new) op.task.key None x) (sym same) (kept (past_of new) None (stamped c h.stamps arena (past_of new) (omega arith) (λ n. refl)) (now_is c h new refl refl refl) first_upto_now);
           tells =
               subst (λ (t : Taken). TellsTaken after None t) (sym (ap (λ (x : Walk). x.taken) (same ∙ is_after) ∙ t.0)) (ap (λ n. Some (record { reply = Absent; at = n })) (sym (ap (λ (x : Walk). x.right_at) (same ∙ is_after) ∙ t.1)));
           unprepared = searching.unprepared;
@@ -247,7 +248,7 @@ module _ (c : Core) (now : StateView) (o : ℕ) (is : shown c ≡ now) (h : Stat
         let own : IsAtLoad new after = record {
           way = record {
             kept =
-                subst (λ (x : Walk). IsKept c.arena (past_of new) op.task.key None x) (sym same) (kept (past_of new) None (now_is c h new refl refl refl) first_upto_now);
+                subst (λ (x : Walk). IsKept c.arena (past_of new) op.task.key None x) (sym same) (kept (past_of new) None (stamped c h.stamps arena (past_of new) (omega arith) (λ n. refl)) (now_is c h new refl refl refl) first_upto_now);
             bound = bound_on c new op k (quiet_grows c o c.arena c.tape.reserved after refl) w searching.unprepared refl op.outcome searching.bound;
             unprepared = searching.unprepared;
           };

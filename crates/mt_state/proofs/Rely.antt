@@ -8,7 +8,7 @@ use Rattle.mt_arena.specs.{Arena.{ArenaView, Guarantee, IsArena}, Accesses.at}
 use Rattle.mt_operation.specs.{declared.outcome.Outcome.Outcome, declared.operation.Operation.Operation, declared.phase.Phase.Phase}
 use Rattle.mt_operation.specs.{declared.phase.Phase.TheVariants.{Load, Confirm, Store, Fill, Unlock, Check, Hop}, declared.splits.Halves.Halves}
 use Rattle.mt_operation.specs.{Operations.{OperationView, view_of, scan_of}, Tasks.ask, Phases.{Kind, row}}
-use Rattle.mt_descent.specs.{Pasts.ExtendsPast, KeptWalks.{IsKept, IsAtBorder}}
+use Rattle.mt_descent.specs.{Pasts.{ExtendsPast, AreStamped}, KeptWalks.{IsKept, IsAtBorder}}
 use Rattle.mt_scan.{specs.Snaps.prefix_in, proofs.Staying.{check_stays, kept_hop_stays}}
 use Rattle.mt_stretches.{specs.Scanned.HasSeen, proofs.Beginning.seen_stays}
 use Rattle.mt_state.proofs.{ScanKept.scanned_for_stays, Granted.quota_stays}
@@ -56,12 +56,13 @@ holder_was op q k old new g within holds other = elim (cases_lt k (length old.no
 ]
 
 -- one operation, and a step of another one
-module _ (old new : Core) (o q : ℕ) (arena : IsArena new.arena.nodes new.arena.trees) (g : StateGuarantee old new o) (other : q ≢ o) (later : old.steps < new.steps) (op : Operation) where
+module _ (old new : Core) (o q : ℕ) (arena : IsArena new.arena.nodes new.arena.trees) (stamped : AreStamped (past_of new) new.arena) (g : StateGuarantee old new o) (other : q ≢ o) (later : old.steps < new.steps) (op : Operation) where
   past_stays : ExtendsPast op.walk.first (past_of old) (past_of new)
   past_stays = record { steps = g.past.steps; same = λ n from upto. g.past.same n (omega arith) upto }
 
   walk_stays : (row : Option Columns) → IsKept old.arena (past_of old) op.task.key row op.walk → IsKept new.arena (past_of new) op.task.key row op.walk
-  walk_stays row h = descent.kept_stays o old.arena new.arena g.arena.nodes (past_of old) (past_of new) op.task.key row op.walk op.walk.phase past_stays h
+  walk_stays row h = descent.kept_stays o old.arena new.arena g.arena.nodes (past_of old) (past_of new) op.task.key row op.walk op.walk.phase past_stays
+      (λ loads. record { sound = arena; stamped = stamped; lost = g.arena.lost }) h
 
   told_stays : IsOpenOperation old op → HasAnswer old op → HasAnswer new op
   told_stays k h = record {

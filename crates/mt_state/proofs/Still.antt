@@ -2,7 +2,7 @@
 use Rattle.std.proofs.{Common.{◌≡◌, ℕ, ◌+◌, ◌<◌, ◌≤◌, inl, Bool, false, length, Option, Some, refl, sym, ap, subst, ◌∙◌, arith}, lemmas.Option.same_Some}
 use Rattle.std.specs.Prelude.{◌^◌, if◌then◌else◌}
 use Rattle.mt_tape.proofs.EntryLaws.{floor_upto_last}
-use Rattle.mt_arena.{specs.{Arena.{ArenaView, Guarantee}, Accesses.at}, proofs.Guarantees.guarantee_none}
+use Rattle.mt_arena.{specs.{Arena.{ArenaView, Guarantee}, Accesses.at}, proofs.Guarantees.{guarantee_none, lost_all}}
 use Rattle.mt_operation.specs.{declared.phase.Phase.Phase, declared.phase.Phase.TheVariants.Done, declared.walk.Walk.Walk, declared.outcome.Outcome.Outcome}
 use Rattle.mt_operation.specs.{declared.operation.Operation.Operation, Operations.view_of}
 use Rattle.mt_operation.specs.Phases.{is_done, MayFollow, IsOfKind, has_splits, Change, Kind, Ready, change_at, holds_of, is_ready, may_be_parts, row}
@@ -26,6 +26,7 @@ nothing_changes o v = record {
     new_previous = λ k j out within there is. absurd (omega arith);
     new_parent = λ k j out within there is. absurd (omega arith);
   };
+  lost = lost_all v.nodes;
 }
 
 pub leaves_all : (c : Core) (o : ℕ) → StateInvariant c → LeavesPairs c o c.arena

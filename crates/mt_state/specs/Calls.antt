@@ -5,7 +5,7 @@ use Rattle.mt_rows.specs.Rows.{Columns}
 use Rattle.mt_border.specs.declared.entry.Find.{Find}
 use Rattle.mt_arena.specs.{Accesses.at, Arena.IsArena}
 use Rattle.mt_operation.specs.{declared.task.Task.Task, declared.walk.Walk.Walk, declared.operation.Operation.Operation}
-use Rattle.mt_descent.specs.{Pasts.{Past, IsNow, AreStamped}, KeptWalks.{IsAtConfirm, IsKept}, WalkMoves.{Continues, FindsIn, after_search, Loads, Confirms}}
+use Rattle.mt_descent.specs.{Pasts.{Past, IsNow, AreStamped}, KeptWalks.{IsAtLoad, IsAtConfirm, IsKept}, WalkMoves.{Continues, FindsIn, after_search, Loads, Confirms}}
 use Rattle.mt_state.specs.{Views.{Core, shown}, Promises.IsStep, Invariant.StateInvariant}
 
 -- a step of operation o that keeps the invariant, as the arena keeps its own, and does what a step may do
@@ -17,13 +17,13 @@ pub record IsLawful (old new : Core) (o : ℕ) (done : Bool) : Type 0 where
 pub record Searches (c : Core) (op : Operation) (w : Walk) (found : Find) : Type 0 where
   pub finds : FindsIn (at c.arena op.walk.place.node) op.task.key op.walk.layer found
   pub is : w ≡ after_search found op.walk (c.steps + 1)
-  pub kept : (past : Past) (row : Option Columns) → IsNow past (c.steps + 1) c.arena → op.walk.first ≤ c.steps + 1 → IsKept c.arena past op.task.key row w
+  pub kept : (past : Past) (row : Option Columns) → AreStamped past c.arena → IsNow past (c.steps + 1) c.arena → op.walk.first ≤ c.steps + 1 → IsKept c.arena past op.task.key row w
 
 -- the walk after a load, and the row that it took
 pub record Takes (c : Core) (op : Operation) (w : Walk) (row : Option Columns) : Type 0 where
   pub loads : Loads (at c.arena op.walk.place.node) op.walk w row
   pub same : Continues op.walk w
-  pub kept : (past : Past) → AreStamped past c.arena → op.walk.first ≤ past.steps → IsKept c.arena past op.task.key row w
+  pub kept : (past : Past) → IsAtLoad c.arena past op.task.key op.walk → IsKept c.arena past op.task.key row w
 
 -- the walk after the version was compared
 pub record Compares (c : Core) (op : Operation) (w : Walk) : Type 0 where

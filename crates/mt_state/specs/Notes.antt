@@ -7,7 +7,7 @@ use Rattle.mt_slices.specs.{Keys.stored_key, Slices.slice_of}
 use Rattle.mt_border.specs.declared.entry.FoundKind.TheVariants.{Link}
 use Rattle.mt_tape.specs.{declared.entry.Entry.{Entry as TapeEntry}, Histories.written_key}
 use Rattle.mt_arena.specs.Accesses.{at}
-use Rattle.mt_descent.specs.{KeptWalks.{GoesThrough, IsInSlot, HasSlot}, WalkMoves.TakesOut}
+use Rattle.mt_descent.specs.{Seen.Stands, KeptWalks.{GoesThrough, IsInSlot, HasSlot, walk_place}, WalkMoves.TakesOut}
 use Rattle.mt_operation.specs.declared.phase.Phase.{Phase}
 use Rattle.mt_operation.specs.declared.phase.Phase.TheVariants.{Enter, Search, Load, Confirm, Forward, Judge, Store, Publish, SplitStart, SplitMove, MakeLayer, DropKey, Unlock, Snap, Check, Hop, Done}
 use Rattle.mt_operation.specs.{declared.walk.Taken.TheVariants.Row, declared.walk.Walk.Walk, declared.outcome.Outcome.Outcome, Operations.OperationView}
@@ -49,24 +49,34 @@ pub record NotesAbsent (old : StateView) (op : OperationView) (told : Option Out
   pub says : Says told replies.Absent (old.steps + 1)
   pub lacks : LacksKey old op.walk (stored_key op.tenant (key_of op.command))
 
--- What a load shows is what the get asks of the row of the pair in its slot, which that pair had at this step, and after each step from the reply's number on.
--- That number is the get's first step, or a later one by which the row was written, as the tape tells. The pair is that of the get's own key
--- wherever nobody made a step since its search.
-pub record ShowsRow (old : StateView) (op : OperationView) (told : Option Outcome) : Type 0 where
-  pub columns : List ℕ
-  pub asked : columns_asked op.command ≡ Some columns
+-- A pair had this row at this step, and after each step from this number on, which is the get's first step, or a later one by which the row was written, as the
+-- tape tells. The pair is that of the get's own key wherever nobody made a step since its search.
+pub record StoodSince (old : StateView) (op : OperationView) (row : Columns) (number : ℕ) : Type 0 where
   pub key : ℕ × Bytes
-  pub row : Columns
-  pub number : ℕ
-  pub says : Says told (replies.Found (shown columns row)) number
-  pub from : TakesOut (at old.arena op.walk.place.node) op.walk (Some row) Row number
   pub there : pairs.get (contents_of old) key ≡ Some row
-  pub since : op.first ≤ number
   pub made : number ≤ old.steps
   pub stood : (m : ℕ) → number ≤ m → pairs.get (map_of old key.0 m) key.1 ≡ Some row
   pub wrote : op.first < number
       → (entry : TapeEntry) × Contains old.tape.entries entry × (entry.step ≡ number) × (written_key entry ≡ key) × (entry.after ≡ Some row)
   pub own : op.last ≡ old.steps → key ≡ key_asked op
+
+-- the get's own key had this row after the step of this number
+abbrev pub HadOwn : StateView → OperationView → Columns → ℕ → Type 0
+HadOwn old op row number = (number ≤ old.steps) × (pairs.get (map_of old op.tenant number) (key_of op.command) ≡ Some row)
+
+-- What a load shows is what the get asks of the row in its slot. Where the slot is live, its pair had that row since the reply's number. Where it was dropped, it
+-- was the row of the get's own key at that number, if the version stands that the search has seen.
+pub record ShowsRow (old : StateView) (op : OperationView) (told : Option Outcome) : Type 0 where
+  pub columns : List ℕ
+  pub asked : columns_asked op.command ≡ Some columns
+  pub row : Columns
+  pub number : ℕ
+  pub says : Says told (replies.Found (shown columns row)) number
+  pub from : TakesOut (at old.arena op.walk.place.node) op.walk (Some row) Row number
+  pub since : op.first ≤ number
+  pub live : walk_place old.arena op.walk < length (at old.arena op.walk.place.node).slots → StoodSince old op row number
+  pub dropped : ¬ (walk_place old.arena op.walk < length (at old.arena op.walk.place.node).slots) → Stands (at old.arena op.walk.place.node) op.walk.place.seen
+      → HadOwn old op row number
 
 -- or it shows none, since it took a link, or somebody made a step since its search
 pub record ShowsNone (old : StateView) (op : OperationView) (told : Option Outcome) : Type 0 where

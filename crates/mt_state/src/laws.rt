@@ -10,7 +10,7 @@ ghost use Rattle.mt_operation.specs.{Operations.{OperationView, SplitsView, Scan
 ghost use Rattle.mt_operation.specs.Tables.{op_at as operation_at};
 ghost use Rattle.mt_state.specs.{Views.{StateView, Core, shown, KeepsPast}, Steps.LeavesOut};
 ghost use Rattle.mt_state.specs.{Promises.{IsAnswer, IsInTheWay, needed_node, locks_next, Touches, IsStep}, KeptOperations.{IsKeptOf, IsScanKept}};
-ghost use Rattle.mt_state.specs.{Invariant.{StateInvariant, StateGuarantee}, Moves.{IsMove, IsTold}, Ways.{Descends, walked, ShowsTaken}};
+ghost use Rattle.mt_state.specs.{Invariant.{AreStamps, StateInvariant, StateGuarantee}, Moves.{IsMove, IsTold}, Ways.{Descends, walked, ShowsTaken}};
 ghost use Rattle.mt_state.specs.Calls.{IsLawful, Searches, Takes, Compares};
 ghost use Rattle.mt_descent.specs.{Pasts.Past, KeptWalks.IsKept, WalkMoves.Continues};
 ghost use Rattle.mt_rows.specs.{Rows.Columns, declared.reply.Reply.TheVariants.{Absent, NoMemory}};
@@ -19,9 +19,9 @@ ghost use Rattle.mt_border.specs.declared.entry.Find.{Find};
 /// All that is kept of an operation, at whatever phase it is, each step of another one keeps, and what a
 /// scan has done too: what counts is what that step leaves to others. An answer that was right stays right.
 pub fn others_keep_theirs()
-    ensures kept { (old new : Core) (o q : ℕ) (op : Operation) → IsArena new.arena.nodes new.arena.trees → StateGuarantee old new o → q ≢ o → old.steps < new.steps →
+    ensures kept { (old new : Core) (o q : ℕ) (op : Operation) → IsArena new.arena.nodes new.arena.trees → AreStamps new → StateGuarantee old new o → q ≢ o → old.steps < new.steps →
         IsKeptOf old q op → IsKeptOf new q op }
-    ensures scanned { (old new : Core) (o q : ℕ) (op : Operation) → IsArena new.arena.nodes new.arena.trees → StateGuarantee old new o → q ≢ o → old.steps < new.steps →
+    ensures scanned { (old new : Core) (o q : ℕ) (op : Operation) → IsArena new.arena.nodes new.arena.trees → AreStamps new → StateGuarantee old new o → q ≢ o → old.steps < new.steps →
         IsScanKept old op → IsScanKept new op }
     ensures answers { (old new : StateView) (op : OperationView) (told : Outcome) → KeepsPast old new → op.last ≤ old.steps →
         IsAnswer old op told → IsAnswer new op told }
