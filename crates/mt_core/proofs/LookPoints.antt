@@ -7,6 +7,7 @@ use Rattle.mt_interior.{specs.Places.place_of, proofs.CallerLemmas.place_of-le-l
 use Rattle.mt_slices.specs.Keys.{IsStoredKey}
 use Rattle.mt_rows.specs.Rows.{Bytes, Columns}
 use Rattle.mt_border.specs.{declared.entry.Find.Find, declared.entry.FoundKind.TheVariants.{ThisKey, OtherLong, Link as ToTree}}
+use Rattle.mt_arena.specs.NodeView.{place_at}
 use Rattle.mt_arena.specs.{declared.tree.Standing.Standing, declared.tree.Standing.TheVariants.{Made, Live, Dead}, Nodes.IsChild, Forests.tree_at}
 use Rattle.mt_arena.specs.{Arena.{ArenaView, IsArena}, Accesses.at}
 use Rattle.mt_arena.proofs.OneLink.{leads}
@@ -17,10 +18,10 @@ use Rattle.mt_operation.specs.{declared.splits.Halves.Halves, declared.splits.Sp
 use Rattle.mt_operation.proofs.Phases.{by_descent}
 use Rattle.mt_core.proofs.{WalkBounds.{IsWayKind, walk_kind}, Points.{below_at, few_at}, Astray.behind_fewer}
 use Rattle.mt_core.specs.Points.{MadeBy, HasMade, MayHaveGrown, IsAtPoint}
-use Rattle.mt_core.specs.Budgets.{AreBelow, Budget, SeesNow, behind, astray, level_of, above, until, IsBudget, IsLiveTree, TookLiveTree, WalksBy, budget_of}
+use Rattle.mt_core.specs.Budgets.{AreBelow, Budget, SeesNow, SeesSlot, behind, astray, level_of, above, until, IsBudget, IsLiveTree, TookLiveTree, WalksBy, budget_of}
 use Rattle.mt_descent.specs.{Seen.{Stands, HasNext, IsRemembered}, Pasts.Past}
 use Rattle.mt_descent.specs.KeptWalks.{GoesThrough, slice_in, IsAtVerify, IsAtConfirm, IsAtForward, TakenHolds, KeptAt, IsKept, IsAtBorder, walk_place}
-use Rattle.mt_descent.specs.WalkMoves.{arrival, arrival_at, walk_onto, walk_anew, walk_here, walk_to_next, after_enter, after_pick, after_child, after_search, after_confirm, after_forward, Verifies, Confirms, Loads, TakesOut}
+use Rattle.mt_descent.specs.WalkMoves.{FindsIn, arrival, arrival_at, walk_onto, walk_anew, walk_here, walk_to_next, after_enter, after_pick, after_child, after_search, after_confirm, after_forward, Verifies, Confirms, Loads, TakesOut}
 use Rattle.mt_descent.proofs.Ways.{same_stands}
 use Rattle.mt_state.proofs.Decides.{same_or_not, outdated_or_not}
 use Rattle.mt_border.specs.declared.entry.Find.TheVariants as finds
@@ -215,9 +216,9 @@ module _ (v : ArenaView) (arena : IsArena v.nodes v.trees) (key : Bytes) (past :
       by_next b made here there (Some j) e = there j e
 
 -- a search leaves its walk at the node
-pub search_nears : (v : ArenaView) (w after : Walk) (f : Find) (step : ℕ) → w.phase ≡ Search → after ≡ after_search f w step
+pub search_nears : (v : ArenaView) (key : Bytes) (w after : Walk) (f : Find) (step : ℕ) → w.phase ≡ Search → FindsIn (at v w.place.node) key w.layer f → after ≡ after_search f w step
     → (height made : ℕ) (s : Splits) → IsAtPoint height made v w s → IsAtPoint height (made + 1) v after s
-search_nears v w after f step looks is height made s point = subst (λ (x : Walk). IsAtPoint height (made + 1) v x s) (sym is) (by f)
+search_nears v key w after f step looks found is height made s point = subst (λ (x : Walk). IsAtPoint height (made + 1) v x s) (sym is) (by f found)
   where
     below : AreBelow v height
     below = below_at height made v w s Search looks (λ grown. grown) point
@@ -225,9 +226,10 @@ search_nears v w after f step looks is height made s point = subst (λ (x : Walk
     few : (SeesNow v w × (made ≤ above height w + 3 * height)) ⊎ (made + (5 + behind v w.place.node) ≤ astray height)
     few = few_at height made v w s Search looks point
 
-    load : (SeesNow v w × (made + 1 ≤ above height w + 3 * height + 1)) ⊎ (made + 1 + (4 + behind v w.place.node) ≤ astray height)
-    load = elim few [
-      | inl now ↦ inl (now.0, omega (arith, now.1))
+    load : (slot : ℕ) → place_at (at v w.place.node) slot < length (at v w.place.node).slots
+        → (SeesNow v w × SeesSlot v (record w { slot = slot }) × (made + 1 ≤ above height w + 3 * height + 1)) ⊎ (made + 1 + (4 + behind v w.place.node) ≤ astray height)
+    load slot live = elim few [
+      | inl now ↦ inl (now.0, live, omega (arith, now.1))
       | inr strays ↦ inr (omega (arith, strays))
     ]
 
@@ -237,11 +239,11 @@ search_nears v w after f step looks is height made s point = subst (λ (x : Walk
       | inr strays ↦ inr (omega (arith, strays))
     ]
 
-    by : (f : Find) → IsAtPoint height (made + 1) v (after_search f w step) s
-    by finds.Missing = record { below = λ other. below; few = confirm }
-    by (finds.Slot slot OtherLong) = record { below = λ other. below; few = confirm }
-    by (finds.Slot slot ThisKey) = record { below = λ other. below; few = load }
-    by (finds.Slot slot ToTree) = record { below = λ other. below; few = load }
+    by : (f : Find) → FindsIn (at v w.place.node) key w.layer f → IsAtPoint height (made + 1) v (after_search f w step) s
+    by finds.Missing has = record { below = λ other. below; few = confirm }
+    by (finds.Slot slot OtherLong) has = record { below = λ other. below; few = confirm }
+    by (finds.Slot slot ThisKey) has = record { below = λ other. below; few = load slot has.in_range }
+    by (finds.Slot slot ToTree) has = record { below = λ other. below; few = load slot has.in_range }
 
 -- so does a load that took something
 pub load_nears : (v : ArenaView) (key : Bytes) (w after : Walk) (row : Option Columns) → IsArena v.nodes v.trees → IsAtBorder v key w → w.phase ≡ Load
@@ -249,11 +251,11 @@ pub load_nears : (v : ArenaView) (key : Bytes) (w after : Walk) (row : Option Co
     → (height made : ℕ) (s : Splits) → IsAtPoint height made v w s → IsAtPoint height (made + 1) v after s
 load_nears v key w after row arena border loads t height made s point =
     let below = below_at height made v w s Load loads (λ grown. grown) point in
-    let few : (SeesNow v w × (made ≤ above height w + 3 * height + 1)) ⊎ (made + (4 + behind v w.place.node) ≤ astray height) = few_at height made v w s Load loads point in
+    let few : (SeesNow v w × SeesSlot v w × (made ≤ above height w + 3 * height + 1)) ⊎ (made + (4 + behind v w.place.node) ≤ astray height) = few_at height made v w s Load loads point in
     subst (λ (x : Walk). IsAtPoint height (made + 1) v x s) (sym t.is) (record {
       below = λ other. below;
       few = elim few [
-        | inl now ↦ inl (now.0, took now.0 after.taken t.takes, omega (arith, now.1))
+        | inl now ↦ inl (now.0, took now.0 now.1 after.taken t.takes, omega (arith, now.2))
         | inr strays ↦ inr (omega (arith, strays))
       ];
     })
@@ -262,13 +264,13 @@ load_nears v key w after row arena border loads t height made s point =
     remembered = border.covers.remembered
 
     -- a link that stands in a live node leads to a live tree
-    took : SeesNow v w → (taken : Taken) → TakesOut (at v w.place.node) w row taken after.right_at → (tree : ℕ) → taken ≡ takens.Link tree → IsLiveTree v tree
-    took now (takens.Link u) takes tree same =
+    took : SeesNow v w → SeesSlot v w → (taken : Taken) → TakesOut (at v w.place.node) w row taken after.right_at → (tree : ℕ) → taken ≡ takens.Link tree → IsLiveTree v tree
+    took now here (takens.Link u) takes tree same =
         let live : (at v w.place.node).version.deleted ≡ false = ap (λ (p : Parts). p.deleted) (sym now) ∙ remembered.undeleted in
-        subst (IsLiveTree v) (same_link u tree same) (leads v.nodes v.trees arena w.place.node (walk_place v w) u (record { there = remembered.there; live = live; in_range = takes.0; is = takes.1 })).live
-    took now takens.Missing takes tree same = absurd (cc)
-    took now takens.Row takes tree same = absurd (cc)
-    took now takens.Nothing takes tree same = absurd (cc)
+        subst (IsLiveTree v) (same_link u tree same) (leads v.nodes v.trees arena w.place.node (walk_place v w) u (record { there = remembered.there; live = live; in_range = here; is = sym (t.shown here) ∙ takes.0 })).live
+    took now here takens.Missing takes tree same = absurd (cc)
+    took now here takens.Row takes tree same = absurd (cc)
+    took now here takens.Nothing takes tree same = absurd (cc)
 
 -- a step into the next layer is within what the layers above it may take
 layer_more : (height layer made : ℕ) → made ≤ astray height + layer * (3 * height + 12) + 3 * height + 10

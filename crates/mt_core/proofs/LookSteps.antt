@@ -140,7 +140,7 @@ pub blocked_load : (v : ArenaView) (op : Operation) (w : Walk) (holder : ℕ) �
     → (w ≡ op.walk) × IsBlockedAt (at v op.walk.place.node) op.walk.slot holder
     → IsInTheWay v op.walk.phase op.walk (splits_of op.splits) op.removal (scan_of op.task op.scan) holder × (record op { walk = w } ≡ op)
 blocked_load v op w holder may again =
-    (subst (λ (p : Phase). IsInTheWay v p op.walk (splits_of op.splits) op.removal (scan_of op.task op.scan) holder) (sym may.phase) (op.walk.place.node, refl, may.kept.at_border.covers.remembered.there, again.1), same_operation op w again.0)
+    (subst (λ (p : Phase). IsInTheWay v p op.walk (splits_of op.splits) op.removal (scan_of op.task op.scan) holder) (sym may.phase) (op.walk.place.node, refl, may.kept.1.at_border.covers.remembered.there, again.1), same_operation op w again.0)
 
 pub blocked_confirm : (v : ArenaView) (op : Operation) (w : Walk) (holder : ℕ) → MayConfirm v op → (w ≡ op.walk) × IsBlocked (at v op.walk.place.node) holder
     → IsInTheWay v op.walk.phase op.walk (splits_of op.splits) op.removal (scan_of op.task op.scan) holder × (record op { walk = w } ≡ op)

@@ -14,7 +14,7 @@ use Rattle.mt_operation.specs.{Operations.{view_of, splits_of, scan_of, is_unfin
 use Rattle.mt_operation.specs.Tables.{Table, AreBefore, op_at as operation_at}
 use Rattle.mt_operation.proofs.Tables.{set_is}
 use Rattle.mt_table.specs.{declared.steps.Made.Made, declared.steps.Made.TheVariants.{Step, Blocked, NoMemory as NoMemoryMade, Nothing}}
-use Rattle.mt_descent.specs.{Pasts.{Past, IsNow}, KeptWalks.{IsAtBorder, IsAtLoad as WalksLoad, IsAtConfirm as WalksConfirm, KeptAt, IsKept}}
+use Rattle.mt_descent.specs.{Pasts.{Past, IsNow, AreStamped}, KeptWalks.{IsAtBorder, IsAtLoad as WalksLoad, IsAtConfirm as WalksConfirm, KeptAt, IsKept}}
 use Rattle.mt_descent.specs.WalkMoves.{Continues, FindsIn, after_search, Confirms}
 use Rattle.mt_descent.proofs.Looks.{kept_loads}
 use Rattle.mt_state.specs.{declared.moves.Move.Move, declared.moves.Move.TheVariants.{Moved, Again, Done as DoneMove}, Views.{Core, shown, past_of}}
@@ -149,7 +149,7 @@ module _ (c now : Core) (o : ℕ) (is : c ≡ now) (h : StateInvariant c) (room 
       subst (λ (p : Phase). KeptAt p c.arena (past_of c) op.task.key None op.walk) at_search way.kept
 
   -- of one that is to load, which is a get
-  pub load_kept : op.walk.phase ≡ Load → WalksLoad c.arena op.task.key op.walk
+  pub load_kept : op.walk.phase ≡ Load → WalksLoad c.arena (past_of c) op.task.key op.walk
   load_kept at_load =
       let loading : IsAtLoad c op = subst (λ (p : Phase). IsKeptAt p c o op) at_load (h.ops o op there).kept in
       subst (λ (p : Phase). KeptAt p c.arena (past_of c) op.task.key None op.walk) at_load loading.way.kept
@@ -174,12 +174,12 @@ module _ (c now : Core) (o : ℕ) (is : c ≡ now) (h : StateInvariant c) (room 
   -- a search that found nothing
   pub search_gives_missing : IsArena c.arena.nodes c.arena.trees → (at_search : op.walk.phase ≡ Search) → (w : Walk)
       → (found : (f : Find) × FindsIn (at c.arena op.walk.place.node) op.task.key op.walk.layer f × (w ≡ after_search f op.walk (c.steps + 1)))
-      → ((past : Past) (row : Option Columns) → IsNow past (c.steps + 1) c.arena → op.walk.first ≤ c.steps + 1 → IsKept c.arena past op.task.key row w)
+      → ((past : Past) (row : Option Columns) → AreStamped past c.arena → IsNow past (c.steps + 1) c.arena → op.walk.first ≤ c.steps + 1 → IsKept c.arena past op.task.key row w)
       → w.phase ≡ Confirm
       → (told : Outcome) → told ≡ record { reply = Absent; at = c.steps + 1 } → (table : Table) → table ≡ led w (Some told) → StepGives table Moved
   search_gives_missing arena at_search w found kept confirms told says table e =
       moved_gives w (Some (record { reply = Absent; at = c.steps + 1 })) (search_missing c (shown now) o (ap shown is) h room arena op there at_search w found.0 found.1 found.2 kept confirms)
-      (λ height made point. search_nears c.arena op.walk w found.0 (c.steps + 1) at_search found.2 height made op.splits point)
+      (λ height made point. search_nears c.arena op.task.key op.walk w found.0 (c.steps + 1) at_search found.1 found.2 height made op.splits point)
       (reads_get Search at_search (λ kind. kind) w (Some (record { reply = Absent; at = c.steps + 1 })))
       (get_scans Search at_search (λ kind. kind) w)
       (goes_at Search at_search w found)
@@ -188,12 +188,12 @@ module _ (c now : Core) (o : ℕ) (is : c ≡ now) (h : StateInvariant c) (room 
   -- a search that found a slot
   pub search_gives_found : IsArena c.arena.nodes c.arena.trees → (at_search : op.walk.phase ≡ Search) → (w : Walk)
       → (found : (f : Find) × FindsIn (at c.arena op.walk.place.node) op.task.key op.walk.layer f × (w ≡ after_search f op.walk (c.steps + 1)))
-      → ((past : Past) (row : Option Columns) → IsNow past (c.steps + 1) c.arena → op.walk.first ≤ c.steps + 1 → IsKept c.arena past op.task.key row w)
+      → ((past : Past) (row : Option Columns) → AreStamped past c.arena → IsNow past (c.steps + 1) c.arena → op.walk.first ≤ c.steps + 1 → IsKept c.arena past op.task.key row w)
       → w.phase ≢ Confirm
       → (table : Table) → table ≡ set c.table o (Some (moved op (c.steps + 1) w)) → StepGives table Moved
   search_gives_found arena at_search w found kept other =
       moved_gives w op.outcome (search_found c (shown now) o (ap shown is) h room arena op there at_search w found.0 found.1 found.2 kept (loads found.0 found.2))
-      (λ height made point. search_nears c.arena op.walk w found.0 (c.steps + 1) at_search found.2 height made op.splits point)
+      (λ height made point. search_nears c.arena op.task.key op.walk w found.0 (c.steps + 1) at_search found.1 found.2 height made op.splits point)
       (reads_get Search at_search (λ kind. kind) w op.outcome)
       (get_scans Search at_search (λ kind. kind) w)
       (goes_at Search at_search w found)
@@ -240,7 +240,7 @@ module _ (c now : Core) (o : ℕ) (is : c ≡ now) (h : StateInvariant c) (room 
           subst (StepGives table) (sym (ends ∙ ap (λ (x : Walk). ending x.phase) same ∙ ap (λ (x : Walk). ending x.phase) t.loads.is))
           (moved_gives t.walk after.outcome
           (load_taken c (shown now) o (ap shown is) h room arena op there at_load t.walk t.row after.outcome t.loads shows same_now
-          (λ past stamped since. kept_loads c.arena op.task.key op.walk t.walk past t.row arena (load_kept at_load) stamped since t.loads))
+          (λ past loading. kept_loads c.arena op.task.key op.walk t.walk past t.row loading t.loads))
           (λ height made point. load_nears c.arena op.task.key op.walk t.walk t.row arena (load_kept at_load).at_border at_load t.loads height made op.splits point)
           (reads_get Load at_load (λ kind. kind) t.walk after.outcome)
           (get_scans Load at_load (λ kind. kind) t.walk)
@@ -321,7 +321,7 @@ module _ (c now : Core) (o : ℕ) (is : c ≡ now) (h : StateInvariant c) (room 
   may_look Verify e = may_descend (subst IsDescent (sym e) tt)
   may_look Forward e = may_descend (subst IsDescent (sym e) tt)
   may_look Search e = record { phase = e; kept = search_kept e }
-  may_look Load e = record { phase = e; get = load_gets e; columns = asked_columns; kept = load_kept e }
+  may_look Load e = record { phase = e; get = load_gets e; columns = asked_columns; kept = (past_of c, load_kept e) }
   may_look Confirm e = record { phase = e; kept = confirm_kept e }
   may_look Snap e = may_snap c now o is h room op there e
   may_look Check e = may_compare c now o is h room op there e

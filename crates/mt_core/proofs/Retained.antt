@@ -35,8 +35,9 @@ pub record TellsOf (c : Core) (tape : Kept) (op : Operation) : Type 0 where
 -- a walk that has begun goes on by a past that tells the same from its first step on
 kept_past : (v : ArenaView) (old new : Past) (key : Bytes) (row : Option Columns) (w : Walk) (p : Phase) → (p ≢ Enter → ExtendsPast w.first old new)
     → KeptAt p v old key row w → KeptAt p v new key row w
-kept_past v old new key row w Confirm past h = descent.kept_stays 0 v v (nothing_changes 0 v).nodes old new key row w Confirm (past (λ e. cc)) h
-kept_past v old new key row w Done past h = descent.kept_stays 0 v v (nothing_changes 0 v).nodes old new key row w Done (past (λ e. cc)) h
+kept_past v old new key row w Confirm past h = descent.kept_stays 0 v v (nothing_changes 0 v).nodes old new key row w Confirm (past (λ e. cc)) (λ e. absurd (cc)) h
+kept_past v old new key row w Done past h = descent.kept_stays 0 v v (nothing_changes 0 v).nodes old new key row w Done (past (λ e. cc)) (λ e. absurd (cc)) h
+kept_past v old new key row w Load past h = descent.load_longer v old new key w (past (λ e. cc)) h
 kept_past v old new key row w _ past h = h
 
 -- a change that was made is told with the reply

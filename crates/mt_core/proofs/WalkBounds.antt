@@ -18,7 +18,7 @@ few_walked Verify b made v w few = elim few [
 ]
 few_walked Search b made v w few = elim few [ inl now ↦ inl (omega (arith, now.1)) | inr strays ↦ inr (omega (arith, strays)) ]
 few_walked Snap b made v w few = elim few [ inl now ↦ inl (omega (arith, now.1)) | inr strays ↦ inr (omega (arith, strays)) ]
-few_walked Load b made v w few = elim few [ inl now ↦ inl (omega (arith, now.1)) | inr strays ↦ inr (omega (arith, strays)) ]
+few_walked Load b made v w few = elim few [ inl now ↦ inl (omega (arith, now.2)) | inr strays ↦ inr (omega (arith, strays)) ]
 few_walked Confirm b made v w few = elim few [ inl now ↦ inl (omega (arith, now.2)) | inr strays ↦ inr (omega (arith, strays)) ]
 few_walked Forward b made v w few = elim few [ inl now ↦ inr (omega (arith, now.1)) | inr strays ↦ inr (omega (arith, strays)) ]
 few_walked Lock b made v w few = elim few [ inl now ↦ inl (omega (arith, now.1)) | inr strays ↦ inr (omega (arith, strays)) ]

@@ -1,6 +1,6 @@
 -- How many steps an operation makes at most on its way to its border node, also where it was disturbed before: the budget of a way, and what a walk has made of it.
 use Rattle.std.specs.Prelude.{◌≡◌, ℕ, ◌+◌, ◌*◌, ◌<◌, ◌≤◌, ◌⊎◌, if◌then◌else◌, nat_lt, min, List, [], ◌∷◌, length, false}
-use Rattle.mt_arena.specs.{NodeView.NodeView, Arena.{ArenaView, one_if_live}, Accesses.at, Forests.tree_at, declared.tree.Standing.TheVariants.Live}
+use Rattle.mt_arena.specs.{NodeView.{NodeView, place_at}, Arena.{ArenaView, one_if_live}, Accesses.at, Forests.tree_at, declared.tree.Standing.TheVariants.Live}
 use Rattle.mt_operation.specs.declared.phase.Phase.{Phase}
 use Rattle.mt_operation.specs.declared.phase.Phase.TheVariants.{Enter, Pick, Child, Verify, Search, Load, Confirm, Forward, Lock, Snap}
 use Rattle.mt_operation.specs.{declared.walk.Walk.Walk, declared.splits.Halves.Halves, declared.splits.Splits.Splits}
@@ -75,6 +75,10 @@ pub record IsBudget (v : ArenaView) (b : Budget) : Type 0 where
   pub under : (k : ℕ) → k < length v.nodes → (at v k).version.deleted ≡ false → (layer t : ℕ) → b.lost + 3 * (at v k).level ≤ b.enters layer + 3 * b.tall t
   pub roots : (t : ℕ) → t < length v.trees → IsLiveTree v t → (at v (tree_at v.trees t).root).level < b.tall t
 
+-- the slot that the walk has found is live still
+abbrev pub SeesSlot : ArenaView → Walk → Type 0
+SeesSlot v w = place_at (at v w.place.node) w.slot < length (at v w.place.node).slots
+
 -- How many steps an operation has made at most that comes to this phase on its way. A walk that compares a version remembers that of now, and one that begins
 -- anew is in a live tree; or it is still finding its way: back to the top, down to the child that it picked, or from one border node to the next.
 abbrev pub WalksBy : Phase → Budget → ℕ → ArenaView → Walk → Type 0
@@ -84,7 +88,7 @@ WalksBy Child b made v w = (SeesNow v w × (made + 3 * level_of v w ≤ until b 
 WalksBy Verify b made v w = (SeesNow v w × SeesChild v w × (made + 3 * level_of v w ≤ until b w + 2)) ⊎ (SeesChild v w × (made + 2 ≤ b.lost)) ⊎ (made + (6 + behind v w.child) ≤ b.lost)
 WalksBy Search b made v w = (SeesNow v w × (made ≤ until b w)) ⊎ (made + (5 + behind v w.place.node) ≤ b.lost)
 WalksBy Snap b made v w = (SeesNow v w × (made ≤ until b w)) ⊎ (made + (5 + behind v w.place.node) ≤ b.lost)
-WalksBy Load b made v w = (SeesNow v w × (made ≤ until b w + 1)) ⊎ (made + (4 + behind v w.place.node) ≤ b.lost)
+WalksBy Load b made v w = (SeesNow v w × SeesSlot v w × (made ≤ until b w + 1)) ⊎ (made + (4 + behind v w.place.node) ≤ b.lost)
 WalksBy Confirm b made v w = (SeesNow v w × TookLiveTree v w × (made ≤ until b w + 2)) ⊎ (made + (3 + behind v w.place.node) ≤ b.lost)
 WalksBy Forward b made v w = (SeesNow v w × (made + (2 + behind v w.place.node) ≤ b.lost)) ⊎ (made + (6 + behind v w.place.node) ≤ b.lost)
 WalksBy Lock b made v w = (SeesNow v w × (made ≤ until b w)) ⊎ (made + (3 + behind v w.place.node) ≤ b.lost)

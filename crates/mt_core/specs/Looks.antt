@@ -10,7 +10,7 @@ use Rattle.mt_operation.specs.{declared.walk.Walk.Walk, declared.outcome.Outcome
 use Rattle.mt_operation.specs.{declared.removal.Removal.Removal, declared.task.Task.Task, declared.scan.Scan.Scan, Tasks.ask}
 use Rattle.mt_operation.specs.{Operations.{SplitsView, splits_of, scan_of}, Phases.IsDescent}
 use Rattle.mt_table.specs.{declared.steps.Made.Made, declared.steps.Made.TheVariants.{Step, Blocked, NoMemory as NoMemoryMade, Nothing}}
-use Rattle.mt_descent.specs.{Pasts.{Past, IsNow}, KeptWalks.{IsKept, IsAtBorder, IsAtLoad, IsAtConfirm}}
+use Rattle.mt_descent.specs.{Pasts.{Past, IsNow, AreStamped}, KeptWalks.{IsKept, IsAtBorder, IsAtLoad, IsAtConfirm}}
 use Rattle.mt_descent.specs.WalkMoves.{Continues, FindsIn, Loads, Confirms, after_search}
 use Rattle.mt_held.specs.Moves.{walk_done}
 use Rattle.mt_scan.specs.{Snaps.{prefix_in, AreSettled, IsSnap}, Checks.{Asks, MayCheck, IsUnchanged, IsCheck}, Hops.{IsAtCheck, KeptHop, KeptScan, HopsTo}}
@@ -42,7 +42,7 @@ pub record MayLoad (v : ArenaView) (op : Operation) : Type 0 where
   pub phase : op.walk.phase ≡ Load
   pub get : is_get (ask op.task) ≡ true
   pub columns : HasColumns (ask op.task)
-  pub kept : IsAtLoad v op.task.key op.walk
+  pub kept : (past : Past) × IsAtLoad v past op.task.key op.walk
 
 pub record MayConfirm (v : ArenaView) (op : Operation) : Type 0 where
   pub phase : op.walk.phase ≡ Confirm
@@ -60,7 +60,7 @@ pub record TellsDescended (v : ArenaView) (op after : Operation) : Type 0 where
 pub record TellsSearched (v : ArenaView) (step : ℕ) (op after : Operation) : Type 0 where
   pub found : (f : Find) × FindsIn (at v op.walk.place.node) op.task.key op.walk.layer f × (after.walk ≡ after_search f op.walk step)
   pub same : Continues op.walk after.walk
-  pub kept : (past : Past) (row : Option Columns) → IsNow past step v → op.walk.first ≤ step → IsKept v past op.task.key row after.walk
+  pub kept : (past : Past) (row : Option Columns) → AreStamped past v → IsNow past step v → op.walk.first ≤ step → IsKept v past op.task.key row after.walk
   pub missing : after.walk.phase ≡ Confirm → after ≡ led_to op after.walk (Some (record { reply = Absent; at = step }))
   pub there : after.walk.phase ≢ Confirm → after ≡ led_to op after.walk op.outcome
 

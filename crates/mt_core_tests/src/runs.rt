@@ -14,9 +14,9 @@ use std::process::Abort;
 // a value, a remove of a key and `-`, or a step where nothing stands.
 type Row = (u64, &'static str, &'static str);
 
-// A get finds no pair, and before it compares the version a put makes the pair. It meets the mark, looks
-// again, and finds what the put wrote. A second put of another key waits for the lock of the first.
-const A_GET_LOOKS_AGAIN: [Row; 26] = [
+// A get finds no pair, and before it compares the version a put makes the pair. It stands before the put. A second
+// put of another key waits for the lock of the first.
+const A_GET_STANDS_BEFORE_A_PUT: [Row; 21] = [
     (1, "k", "begun"),
     (1, "", "moved"),
     (1, "", "moved"),
@@ -30,23 +30,18 @@ const A_GET_LOOKS_AGAIN: [Row; 26] = [
     (1, "k", "no such"),
     (2, "", "moved"),
     (2, "", "moved"),
-    (1, "", "again 2"),
+    (1, "", "absent"),
     (2, "", "new"),
     (2, "", "no such"),
-    (1, "", "moved"),
     (3, "", "moved"),
-    (1, "", "moved"),
-    (1, "", "moved"),
     (3, "", "moved"),
-    (1, "", "moved"),
-    (1, "", "found"),
     (3, "", "moved"),
     (3, "", "moved"),
     (3, "", "new"),
 ];
 
 // Three gets end in another order than they began, and a put that is full changes nothing.
-const IN_ANY_ORDER: [Row; 39] = [
+const IN_ANY_ORDER: [Row; 36] = [
     (1, "a=1", "begun"),
     (1, "", "moved"),
     (1, "", "moved"),
@@ -60,9 +55,6 @@ const IN_ANY_ORDER: [Row; 39] = [
     (1, "", "new"),
     (4, "b=1", "begun"),
     (4, "", "moved"),
-    (3, "", "moved"),
-    (3, "", "moved"),
-    (3, "", "moved"),
     (3, "", "moved"),
     (3, "", "absent"),
     (4, "", "moved"),
@@ -85,12 +77,12 @@ const IN_ANY_ORDER: [Row; 39] = [
     (6, "", "replaced"),
     (2, "", "moved"),
     (2, "", "moved"),
-    (2, "", "moved"),
+    (2, "", "found"),
 ];
 
-// A get has found a pair, and before it compares the version a remove takes the pair out. It meets the mark,
-// looks again, and finds none; nor does a second remove. A name is given once.
-const A_REMOVE_IS_MET: [Row; 28] = [
+// A get has found a pair, and before it compares the version a remove takes the pair out. It stands before the
+// remove. A second remove finds none. A name is given once.
+const A_REMOVE_IS_MET: [Row; 24] = [
     (1, "k=v", "begun"),
     (1, "", "moved"),
     (1, "", "moved"),
@@ -107,18 +99,48 @@ const A_REMOVE_IS_MET: [Row; 28] = [
     (2, "", "moved"),
     (3, "", "moved"),
     (2, "", "moved"),
-    (3, "", "again 2"),
+    (3, "", "found"),
     (2, "", "removed"),
-    (3, "", "moved"),
-    (3, "", "moved"),
-    (3, "", "moved"),
-    (3, "", "absent"),
     (4, "k-", "begun"),
     (4, "", "moved"),
     (4, "", "moved"),
     (4, "", "absent"),
     (4, "", "no such"),
     (2, "k", "no such"),
+];
+
+// A get has read a slot whose pair is removed then, and a put of another key takes that slot. The get meets the mark,
+// looks again, and finds no pair.
+const A_SLOT_IS_TAKEN: [Row; 29] = [
+    (1, "k=v", "begun"),
+    (1, "", "moved"),
+    (1, "", "moved"),
+    (1, "", "moved"),
+    (1, "", "moved"),
+    (1, "", "moved"),
+    (1, "", "new"),
+    (3, "k", "begun"),
+    (3, "", "moved"),
+    (3, "", "moved"),
+    (3, "", "moved"),
+    (4, "k-", "begun"),
+    (4, "", "moved"),
+    (4, "", "moved"),
+    (4, "", "moved"),
+    (4, "", "moved"),
+    (4, "", "removed"),
+    (2, "l=w", "begun"),
+    (2, "", "moved"),
+    (2, "", "moved"),
+    (2, "", "moved"),
+    (2, "", "moved"),
+    (3, "", "again 2"),
+    (2, "", "moved"),
+    (2, "", "new"),
+    (3, "", "moved"),
+    (3, "", "moved"),
+    (3, "", "moved"),
+    (3, "", "absent"),
 ];
 
 // The events of a run, by the only worker, for tenant 7.
@@ -185,7 +207,8 @@ fn text_of(told: &Told) -> &'static str {
 #[test]
 fn each_event_is_told_what_its_row_says(rt: HostRuntime) {
     let alloc = rt.alloc();
-    expect_run(&rt, alloc, &A_GET_LOOKS_AGAIN);
+    expect_run(&rt, alloc, &A_GET_STANDS_BEFORE_A_PUT);
     expect_run(&rt, alloc, &IN_ANY_ORDER);
     expect_run(&rt, alloc, &A_REMOVE_IS_MET);
+    expect_run(&rt, alloc, &A_SLOT_IS_TAKEN);
 }
