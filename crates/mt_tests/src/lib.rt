@@ -1,8 +1,7 @@
-//! Tests of the lower crates: examples with known answers, and each public call once. And of `mt_arena`: its calls once on
-//! their happy path.
+//! Tests of the lower crates: examples with known answers, and each public call once.
 //!
-//! `PairList::fits` and `Records` are left to `mt_session_tests` and `mt_log_tests`. Left to the scripts of
-//! `mt_lines_tests`, whose puts make them on every run, are `Arena::store`, and `Arena::split_border` with an entry.
+//! `PairList::fits` and `Records` are left to `mt_session_tests` and `mt_log_tests`. The calls of `mt_arena` and of the phases
+//! over it are left to the scripts of `mt_script_tests`, which make them on every run.
 //!
 //! They stand in a crate of their own, since a crate with tests is proved twice.
 #![tactic(auto)]
@@ -10,11 +9,7 @@
 #[cfg(test)]
 mod border;
 #[cfg(test)]
-mod checked;
-#[cfg(test)]
 mod interior;
-#[cfg(test)]
-mod layers;
 #[cfg(test)]
 mod order;
 #[cfg(test)]
@@ -23,7 +18,5 @@ mod rows;
 mod slices;
 #[cfg(test)]
 mod tape;
-#[cfg(test)]
-mod trees;
 #[cfg(test)]
 mod version;

@@ -1,4 +1,0 @@
-pub mod Rooms
-pub mod Cases
-pub mod Staying
-pub mod Leading
