@@ -1,9 +1,10 @@
 -- What the fronts of all logs tell together: where they end, which numbers are void, and what is replayed.
-use Rattle.std.specs.Prelude.{◌≡◌, ◌⊎◌, ℕ, ◌<◌, ◌≤◌, min, max, Bool, not, ◌&&◌, nat_lt, List, [], ◌∷◌, map, Option, Some, None}
-use Rattle.std.specs.{List.{filter, filter_map, flat_map, list_any}, List.Sorted.IsPermutation}
+use Rattle.std.specs.Prelude.{◌≡◌, ◌⊎◌, ℕ, ◌<◌, ◌≤◌, min, max, Bool, not, ◌&&◌, nat_lt, List, [], ◌∷◌, map}
+use Rattle.std.specs.{List.{filter, filter_map, flat_map}, List.Sorted.IsPermutation}
 use Rattle.mt_rows.specs.{Rows.Bytes, Tenants.{Contents as Pairs}, declared.record.Record.Record}
 use Rattle.mt_log.specs.{declared.batch.LogBatch.LogBatch, declared.batch.LogBatch.TheVariants.{Records, Resume}, Contents.{Contents, mark_of}}
 use Rattle.mt_tape.specs.Histories.{with_row}
+pub use Rattle.mt_log.specs.Voids.{Numbers, voids_in, is_void, records_in}
 
 -- the least of some numbers, 0 of none
 abbrev pub least : List ℕ → ℕ
@@ -24,19 +25,6 @@ cutoff_of fronts = least (map mark_of fronts)
 abbrev pub last_end : List Contents → ℕ
 last_end fronts = greatest (map mark_of fronts)
 
--- the numbers over one and up to another
-abbrev pub Numbers : Type 0
-Numbers = ℕ × ℕ
-
--- the numbers that a batch makes void: those over what a recovery kept, up to the number from which the store then went on
-abbrev pub voids_in : LogBatch → Option Numbers
-voids_in (Records b) = None
-voids_in (Resume from to kept) = Some (kept, to)
-
--- whether a number is void
-abbrev pub is_void : List Numbers → ℕ → Bool
-is_void voids n = list_any (λ v. nat_lt v.0 n && not (nat_lt v.1 n)) voids
-
 -- what one log makes void, and what all do
 abbrev pub voids_of : Contents → List Numbers
 voids_of front = filter_map voids_in front.batches
@@ -44,11 +32,7 @@ voids_of front = filter_map voids_in front.batches
 abbrev pub all_voids : List Contents → List Numbers
 all_voids fronts = flat_map voids_of fronts
 
--- the records of a batch, of a log, and of all logs
-abbrev pub records_in : LogBatch → List Record
-records_in (Records b) = b.records
-records_in (Resume from to kept) = []
-
+-- the records of a log, and of all logs
 abbrev pub records_of : Contents → List Record
 records_of front = flat_map records_in front.batches
 

@@ -52,7 +52,7 @@ change_again (Some row) rest h = rw (row_again row rest h) refl
 
 -- ---- records
 
-record_takes : (bytes : Bytes) (x : Record × Bytes) → IsBytes bytes → record_at bytes ≡ Some x → Takes bytes (record_bytes x.0) x.1 × IsRecord x.0
+pub record_takes : (bytes : Bytes) (x : Record × Bytes) → IsBytes bytes → record_at bytes ≡ Some x → Takes bytes (record_bytes x.0) x.1 × IsRecord x.0
 unfolding record_at
 record_takes bytes x fits e =
     let a = bind_some (number_at w64 bytes) (λ stamp. number_at w32 stamp.1 >>= λ tenant. key_at tenant.1 >>= λ key. change_at key.1 >>= λ row. Some (record_of stamp.0 tenant.0 key.0 row.0, row.1)) x e in
@@ -70,7 +70,7 @@ record_takes bytes x fits e =
     subst (λ (y : Record × Bytes). Takes bytes (record_bytes y.0) y.1 × IsRecord y.0) (same_Some made x f.2)
     (whole, record { stamp = s.1; tenant = t.1; key = u.1; row = v.1 })
 
-record_again : (r : Record) (rest : Bytes) → IsRecord r → record_at (record_bytes r ++ rest) ≡ Some (r, rest)
+pub record_again : (r : Record) (rest : Bytes) → IsRecord r → record_at (record_bytes r ++ rest) ≡ Some (r, rest)
 unfolding record_at
 record_again r rest fits =
     let change = change_bytes r.row ++ rest in

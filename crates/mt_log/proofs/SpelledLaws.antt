@@ -1,6 +1,7 @@
 -- What is read of records, and of their stamps alone.
-use Rattle.std.proofs.Common.{◌≡◌, ℕ, zero, suc, List, [], ◌∷◌, map, length, refl, sym, ◌∙◌, ap, subst, arith, Option, Some, None}
-use Rattle.std.proofs.lemmas.Option.{same_Some}
+use Rattle.std.proofs.Common.{◌≡◌, ℕ, zero, suc, ◌≤◌, List, [], ◌∷◌, map, refl, sym, ◌∙◌, ap, subst, Option, Some, None}
+use Rattle.std.proofs.{lemmas.Option.same_Some, lemmas.List.Elements.{All-nil, All-cons, All-head, All-tail}}
+use Rattle.std.specs.List.{All}
 use Rattle.mt_rows.specs.{Rows.Bytes, declared.record.Record.Record}
 use Rattle.mt_fields.specs.{declared.fault.DecodeFault.DecodeFault, Reading.{◌>>=◌, Fails, each_at}}
 use Rattle.mt_log.specs.Reading.{record_at, stamp_at, records_read, records_from}
@@ -37,24 +38,6 @@ stamps_are (suc n) bytes = by (record_at bytes) (λ rest. stamps_are n rest)
     by None same = refl
     by (Some r) same = ap (λ (o : Option (List ℕ × Bytes)). o >>= with_stamp r.0.stamp) (same r.1) ∙ joined r.0 (each_at record_at n r.1)
 
-abbrev HasLen : ℕ → Option (List ℕ × Bytes) → Type 0
-HasLen n None = Unit {0}
-HasLen n (Some x) = length x.0 ≡ n
-
--- as many are read as are asked for
-len_is : (n : ℕ) (bytes : Bytes) → HasLen n (each_at stamp_at n bytes)
-unfolding each_at
-len_is zero bytes = refl
-len_is (suc n) bytes = by (stamp_at bytes) (λ rest. len_is n rest)
-  where
-    joined : (s : ℕ) (o : Option (List ℕ × Bytes)) → HasLen n o → HasLen (suc n) (o >>= with_stamp s)
-    joined s None h = tt
-    joined s (Some x) h = ap (λ (k : ℕ). suc k) h
-
-    by : (o : Option (ℕ × Bytes)) → ((rest : Bytes) → HasLen n (each_at stamp_at n rest)) → HasLen (suc n) (o >>= λ first. each_at stamp_at n first.1 >>= with_stamp first.0)
-    by None same = tt
-    by (Some s) same = joined s.0 (each_at stamp_at n s.1) (same s.1)
-
 -- where no stamps are read, no records are
 pub none_spelled : (n : ℕ) (bytes : Bytes) (e : DecodeFault) → Fails e (each_at stamp_at n bytes) → Fails e (each_at record_at n bytes)
 none_spelled n bytes faults.Memory h = tt
@@ -64,10 +47,16 @@ none_spelled n bytes faults.Bad h = by (each_at record_at n bytes) (sym (stamps_
     by None is = refl
     by (Some x) is = absurd cc
 
-module _ (n : ℕ) (bytes rest : Bytes) (stamps : List ℕ) (is : each_at stamp_at n bytes ≡ Some (stamps, rest)) where
-  many : length stamps ≡ n
-  many = subst (HasLen n) is (len_is n bytes)
+abbrev IsWithin : ℕ → ℕ → ℕ → Type 0
+IsWithin least greatest n = (least ≤ n) × (n ≤ greatest)
 
+-- what holds of stamps holds of the records that have them
+of_stamps : (P : ℕ → Type 0) (rs : List Record) → All P (map stamp rs) → All (λ (r : Record). P r.stamp) rs
+of_stamps P [] each = All-nil (λ (r : Record). P r.stamp)
+of_stamps P (r ∷ rs) each =
+    All-cons (λ (q : Record). P q.stamp) r rs (All-head P r.stamp (map stamp rs) each) (of_stamps P rs (All-tail P r.stamp (map stamp rs) each))
+
+module _ (n : ℕ) (bytes rest : Bytes) (stamps : List ℕ) (is : each_at stamp_at n bytes ≡ Some (stamps, rest)) where
   abbrev AreRead : Option (List Record × Bytes) → Type 0
   AreRead o = (o ≡ Some (records_read o, rest)) × (stamps ≡ map stamp (records_read o))
 
@@ -81,8 +70,12 @@ module _ (n : ℕ) (bytes rest : Bytes) (stamps : List ℕ) (is : each_at stamp_
           (ap (λ (b : Bytes). Some (x.0, b)) (ap (λ (y : List ℕ × Bytes). y.1) same), sym (ap (λ (y : List ℕ × Bytes). y.0) same))
 
   -- the bytes are those of the records whose stamps were read
-  pub stamps_spelled : stamps ≡ map stamp (records_from (length stamps) bytes)
-  stamps_spelled = both.1 ∙ ap (λ (k : ℕ). map stamp (records_from k bytes)) (sym many)
+  pub stamps_spelled : stamps ≡ map stamp (records_from n bytes)
+  stamps_spelled = both.1
 
-  pub are_spelled : each_at record_at n bytes ≡ Some (records_from (length stamps) bytes, rest)
-  are_spelled = both.0 ∙ ap (λ (k : ℕ). Some (records_from k bytes, rest)) (sym many)
+  pub are_spelled : each_at record_at n bytes ≡ Some (records_from n bytes, rest)
+  are_spelled = both.0
+
+  -- bounds of the stamps are bounds of theirs
+  pub within_spelled : (least greatest : ℕ) → All (IsWithin least greatest) stamps → All (λ (r : Record). (least ≤ r.stamp) × (r.stamp ≤ greatest)) (records_from n bytes)
+  within_spelled least greatest each = of_stamps (IsWithin least greatest) (records_from n bytes) (subst (All (IsWithin least greatest)) stamps_spelled each)

@@ -2,43 +2,54 @@
 //!
 //! Units: steps are numbered from 1; a batch goes over step `from` and up to step `to`.
 
-ghost use Rattle.std.specs.Prelude.{◌≡◌, ◌↔◌, IsTrue, IfOk, map};
+ghost use Rattle.std.specs.Prelude.{◌≡◌, ◌++◌, map, IfOk, OnOk};
 ghost use Rattle.mt_rows.specs.declared.record.Record.{Record as AnyRecord};
-ghost use Rattle.mt_log.specs.{Contents.{IsBatch, from_of, to_of}, Reading.{are_steps, is_step, rise_within}};
+ghost use Rattle.mt_log.specs.Voids.{held_in, joined};
 
 use crate::records::SpelledRecords;
-use crate::writer::{BODY_LIMIT, RECORDS_HEAD, records_len};
-use mt_rows::key::USER_KEY_BYTES;
-use mt_rows::{Batch, Record};
+use mt_rows::Record;
 use std::alloc::{AllocError, Global};
+use std::fmt;
 use std::marker::Model;
+use std::snapshot::Snapshot;
 
 /// The greatest number of a step.
 pub const MAX_STEP: u64 = 1 << 59;
 
 /// A batch of records as it stands in a log. It is in the format, and seen as a `Batch`; but its steps
-/// and its stamps may be any, so that no `Batch` is made of it. It holds the bytes that spell its records,
-/// and these are made when they are asked for.
-#[derive(Debug, Drop)]
+/// and its stamps may be any, so that no `Batch` is made of it. In memory it has the stamps of its records alone:
+/// the front holds those of them that count.
+#[derive(Drop)]
 pub struct LoggedBatch {
     from: u64,
     to: u64,
-    records: SpelledRecords,
+    stamps: Vec<u64>,
+    records: Snapshot<SpelledRecords>,
 }
 
 impl Model for LoggedBatch {
-    ghost use Rattle.mt_rows.specs.declared.record.Batch.{Batch};
+    ghost use Rattle.std.specs.Prelude.{◌≡◌, map};
+    ghost use Rattle.mt_rows.specs.declared.record.{Batch.Batch, Record.Record};
 
     ghost Value = { Batch };
 
-    ghost view = { λ b. record { from = b.from; to = b.to; records = b.records } };
+    ghost view = { λ b. record { from = b.from; to = b.to; records = b.records.value } };
+
+    ghost invariant = { λ b. b.stamps.items ≡ map (λ (r : Record). r.stamp) b.records.value };
 }
 
 impl LoggedBatch {
-    pub(crate) fn new(from: u64, to: u64, records: SpelledRecords) -> Self
-        ensures { result ≡ record { from = from; to = to; records = records } }
+    // A batch of these records, which have these stamps.
+    pub(crate) fn new(from: u64, to: u64, stamps: Vec<u64>, records: &SpelledRecords) -> Self
+        requires { stamps.items ≡ map (λ (r : AnyRecord). r.stamp) records.now }
+        ensures { result ≡ record { from = from; to = to; records = records.now } }
     {
-        LoggedBatch { from, to, records }
+        LoggedBatch {
+            from,
+            to,
+            stamps,
+            records: Snapshot::of(records),
+        }
     }
 
     /// The step over which it is to go.
@@ -59,14 +70,18 @@ impl LoggedBatch {
     pub fn stamps(&self) -> &[u64]
         ensures { result.now ≡ map (λ (r : AnyRecord). r.stamp) self.now.records }
     {
-        self.records.stamps()
+        &self.stamps
     }
+}
 
-    /// Its records, in the order of the file.
-    pub fn records(&self, alloc: Global) -> Result<Vec<Record>, AllocError>
-        ensures { IfOk result (λ records. records.items ≡ self.now.records) }
-    {
-        self.records.list(alloc)
+// A batch is printed with what it has in memory.
+impl fmt::Debug for LoggedBatch {
+    fn fmt<W: fmt::Write>(&self, f: &mut fmt::Formatter<W>) -> fmt::Result {
+        f.debug_struct("LoggedBatch")
+            .field("from", &self.from)
+            .field("to", &self.to)
+            .field("stamps", &self.stamps)
+            .finish()
     }
 }
 
@@ -80,6 +95,8 @@ pub enum LogBatch {
 }
 
 impl LogBatch {
+    ghost use Rattle.mt_log.specs.Contents.{from_of, to_of};
+
     /// The step over which it goes.
     pub fn from(&self) -> u64
         ensures { result ≡ from_of self.now }
@@ -101,59 +118,75 @@ impl LogBatch {
     }
 }
 
-/// What was read of a log: that it is the one of this worker, of so many logs, and its batches.
+/// What was read of a log: that it is the one of this worker, of so many logs, and its batches. Of their records it
+/// holds those that none of its own resume batches makes void.
 #[derive(Debug, Drop)]
 pub struct Front {
     pub worker: u8,
     pub logs: u8,
     pub batches: Vec<LogBatch>,
+    held: Vec<SpelledRecords>,
+    ghost holds: { joined held.items ≡ held_in batches.items },
 }
 
-/// Whether an append takes a batch: its steps are in order and at most 2^59, its stamps lie over
-/// `from` and up to `to`, and both its number of records and its length in bytes fit four bytes.
-pub fn fits(batch: &Batch) -> bool
-    ensures { IsTrue result ↔ IsBatch batch.now }
-{
-    let records = batch.records.as_slice();
-    if !are_steps(batch.from, batch.to) {
-        return false;
-    }
-    if !rise_within(batch.from, batch.to, records) {
-        return false;
-    }
-    if records.len() >= BODY_LIMIT {
-        return false;
-    }
-    RECORDS_HEAD + records_len(records) < BODY_LIMIT
-}
-
-// Whether steps are in order, and not past the greatest.
-fn are_steps(from: u64, to: u64) -> bool
-    ensures { result ≡ are_steps from to }
-{
-    from <= to && to <= MAX_STEP
-}
-
-// Whether a step is none past the greatest.
-pub(crate) fn is_step(to: u64) -> bool
-    ensures { result ≡ is_step to }
-{
-    to <= MAX_STEP
-}
-
-// Whether stamps rise strictly over `from` and up to `to`, and keys are user keys.
-fn rise_within(from: u64, to: u64, records: &[Record]) -> bool
-    ensures { result ≡ rise_within from to records.now }
-{
-    let mut last = from;
-    for record in records {
-        if record.stamp <= last
-            || record.stamp > to
-            || record.key.as_bytes().len() > USER_KEY_BYTES
-        {
-            return false;
+impl Front {
+    // What was read of a log, with what is held of its records.
+    pub(crate) fn new(
+        worker: u8,
+        logs: u8,
+        batches: Vec<LogBatch>,
+        held: Vec<SpelledRecords>,
+    ) -> Front
+        requires { joined held.items ≡ held_in batches.items }
+        ensures worker { result.worker ≡ worker }
+        ensures logs { result.logs ≡ logs }
+        ensures batches { result.batches.items ≡ batches.items }
+    {
+        Front {
+            worker,
+            logs,
+            batches,
+            held,
         }
-        last = record.stamp;
     }
-    true
+
+    /// The records that it holds, in the order of the file.
+    pub fn records(&self, alloc: Global) -> Result<Vec<Record>, AllocError>
+        ensures { IfOk result (λ records. records.items ≡ held_in self.now.batches.items) }
+    {
+        let mut records = Vec::new(alloc);
+        add_parts(alloc, &mut records, &self.held)?;
+        Ok(records)
+    }
+
+    /// The same, as the bytes that spell them, in parts. All else is let go.
+    pub fn into_held(self) -> Vec<SpelledRecords>
+        ensures { joined result.items ≡ held_in self.batches.items }
+    {
+        self.held
+    }
+}
+
+// The records of parts stand behind others.
+fn add_parts(
+    alloc: Global,
+    out: &mut Vec<Record>,
+    parts: &[SpelledRecords],
+) -> Result<(), AllocError>
+    ensures { OnOk result (out.new.items ≡ out.old.items ++ joined parts.now) }
+{
+    for part in parts {
+        add_records(out, part.list(alloc)?)?;
+    }
+    Ok(())
+}
+
+// These records stand behind others.
+fn add_records(out: &mut Vec<Record>, records: Vec<Record>) -> Result<(), AllocError>
+    ensures { OnOk result (out.new.items ≡ out.old.items ++ records.items) }
+{
+    for record in records {
+        out.push(record)?;
+    }
+    Ok(())
 }

@@ -6,9 +6,10 @@ ghost use Rattle.mt_log.specs.{Format.header, Fronts.HasNoHeader};
 ghost use Rattle.mt_log.specs.Reading.{records_at, resume_at, batch_kind_at, batch_in};
 ghost use Rattle.mt_log.specs.Stops.{IsHead, IsStart, IsBadStart, IsBehind};
 
-use crate::batch::{LogBatch, LoggedBatch, is_step};
 use crate::fault::{DecodeFault, ReadFault};
 use crate::gate::OPEN;
+use crate::held::ReadBatch;
+use crate::order::is_step;
 use crate::records::spelled_of;
 use mt_fields::{u8_at, u32_at, u64_at};
 use std::alloc::{AllocError, Global};
@@ -106,7 +107,7 @@ pub fn batch_of(
     alloc: Global,
     size: usize,
     bytes: &[u8],
-) -> Result<Option<(LogBatch, Head)>, AllocError>
+) -> Result<Option<(ReadBatch, Head)>, AllocError>
     requires few { size < 2 ^ 32 }
     requires within { size ≤ length bytes.now }
     ensures { IfOk result (IsBehind size bytes.now) }
@@ -121,7 +122,7 @@ pub fn batch_of(
 
 // A batch that takes all of the bytes.
 #[tactic(auto, unfolding(crate::specs::Reading::batch_in))]
-fn body_of(alloc: Global, bytes: &[u8]) -> Result<LogBatch, DecodeFault>
+fn body_of(alloc: Global, bytes: &[u8]) -> Result<ReadBatch, DecodeFault>
     ensures { Gives (λ b. b) result (batch_in bytes.now) }
 {
     let (kind, rest) = u8_at(bytes)?;
@@ -133,19 +134,19 @@ fn body_of(alloc: Global, bytes: &[u8]) -> Result<LogBatch, DecodeFault>
 }
 
 #[tactic(auto, unfolding(crate::specs::Reading::batch_kind_at))]
-fn kind_of(alloc: Global, kind: u8, rest: &[u8]) -> Result<(LogBatch, &[u8]), DecodeFault>
+fn kind_of(alloc: Global, kind: u8, rest: &[u8]) -> Result<(ReadBatch, &[u8]), DecodeFault>
     ensures { Gives (λ x. (x.0, x.1.now)) result (batch_kind_at kind rest.now) }
 {
     match kind {
         0 => records_of(alloc, rest),
-        1 => resume_of(rest),
+        1 => resume_of(alloc, rest),
         _ => Err(DecodeFault::Bad),
     }
 }
 
 // A resume batch, behind its first byte.
 #[tactic(auto, unfolding(crate::specs::Reading::resume_at))]
-fn resume_of(bytes: &[u8]) -> Result<(LogBatch, &[u8]), DecodeFault>
+fn resume_of(alloc: Global, bytes: &[u8]) -> Result<(ReadBatch, &[u8]), DecodeFault>
     ensures { Gives (λ x. (x.0, x.1.now)) result (resume_at bytes.now) }
 {
     let (from, rest) = u64_at(bytes)?;
@@ -154,20 +155,20 @@ fn resume_of(bytes: &[u8]) -> Result<(LogBatch, &[u8]), DecodeFault>
     if !is_step(to) {
         return Err(DecodeFault::Bad);
     }
-    Ok((LogBatch::Resume { from, to, kept }, rest))
+    Ok((ReadBatch::resume(alloc, from, to, kept), rest))
 }
 
 // A batch of records, behind its first byte.
 #[tactic(auto, unfolding(crate::specs::Reading::records_at))]
-fn records_of(alloc: Global, bytes: &[u8]) -> Result<(LogBatch, &[u8]), DecodeFault>
+fn records_of(alloc: Global, bytes: &[u8]) -> Result<(ReadBatch, &[u8]), DecodeFault>
     ensures { Gives (λ x. (x.0, x.1.now)) result (records_at bytes.now) }
 {
     let (from, rest) = u64_at(bytes)?;
     let (to, rest) = u64_at(rest)?;
     let (count, rest) = u32_at(rest)?;
-    let (records, rest) = spelled_of(alloc, count as usize, rest)?;
+    let (stamps, records, rest) = spelled_of(alloc, count as usize, rest)?;
     if !is_step(to) {
         return Err(DecodeFault::Bad);
     }
-    Ok((LogBatch::Records(LoggedBatch::new(from, to, records)), rest))
+    Ok((ReadBatch::of_records(from, to, stamps, records), rest))
 }

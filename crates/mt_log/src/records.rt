@@ -3,67 +3,153 @@
 //!
 //! No list is made by a number that was read: it grows with the records that stand there.
 
-ghost use Rattle.std.specs.Prelude.{◌≡◌, map, IfOk};
+ghost use Rattle.std.specs.{Prelude.{◌≡◌, ◌≤◌, ◌++◌, [], ℕ, map, length, IfOk, OnOk}, List.{All, flat_map}};
 ghost use Rattle.mt_rows.specs.declared.record.Record.{Record as AnyRecord};
+ghost use Rattle.mt_batches.specs.Batches.{IsRecord};
 ghost use Rattle.mt_fields.specs.Reading.{Gives, each_at};
+ghost use Rattle.mt_log.specs.{Format.record_bytes, Voids.held_of};
 ghost use Rattle.mt_log.specs.Reading.{written_at, change_kind_at, change_at, record_at, stamp_at};
 
 use crate::fault::DecodeFault;
+use crate::voids::{is_in_void, meets};
+use crate::writer::put_record;
 use mt_fields::{u8_at, u32_at, u64_at};
 use mt_row_fields::{key_of, row_of};
 use mt_rows::{Record, Row};
 use std::alloc::{AllocError, Global};
 use std::marker::Model;
 
-/// Records as the bytes that spell them, and their stamps. Seen as the records.
+/// Records as the bytes that spell them. Seen as the records. Their stamps are `least` or more, and `greatest` or
+/// less.
 #[derive(Debug, Drop)]
-pub(crate) struct SpelledRecords {
-    stamps: Vec<u64>,
+pub struct SpelledRecords {
+    count: usize,
+    least: u64,
+    greatest: u64,
     bytes: Vec<u8>,
 }
 
 impl Model for SpelledRecords {
-    ghost use Rattle.std.specs.Prelude.{◌≡◌, List, length, map};
+    ghost use Rattle.std.specs.{Prelude.{◌≤◌, List}, List.All};
     ghost use Rattle.mt_rows.specs.declared.record.Record.{Record};
     ghost use Rattle.mt_log.specs.Reading.{records_from};
 
     ghost Value = { List Record };
 
-    ghost view = { λ s. records_from (length s.stamps.items) s.bytes.items };
+    ghost view = { λ s. records_from s.count s.bytes.items };
 
-    ghost invariant = { λ s. s.stamps.items ≡ map (λ (r : Record). r.stamp) (records_from (length s.stamps.items) s.bytes.items) };
+    ghost invariant = { λ s. All (λ (r : Record). (s.least ≤ r.stamp) × (r.stamp ≤ s.greatest)) (records_from s.count s.bytes.items) };
 }
 
 impl SpelledRecords {
-    /// Their stamps.
-    pub(crate) fn stamps(&self) -> &[u64]
-        ensures { result.now ≡ map (λ (r : AnyRecord). r.stamp) self.now }
+    /// None.
+    pub(crate) fn none(alloc: Global) -> SpelledRecords
+        ensures { result ≡ [] }
     {
-        &self.stamps
+        SpelledRecords {
+            count: 0,
+            least: 0,
+            greatest: 0,
+            bytes: Vec::new(alloc),
+        }
     }
 
     /// The records, as a list. They were read before, so that memory alone may be wanting.
-    pub(crate) fn list(&self, alloc: Global) -> Result<Vec<Record>, AllocError>
-        ensures { IfOk result (λ records. records.items ≡ self.now) }
+    pub fn list(&self, alloc: Global) -> Result<Vec<Record>, AllocError>
+        ensures same { IfOk result (λ records. records.items ≡ self.now) }
+        ensures each { IfOk result (λ records. All IsRecord records.items) }
     {
-        match record_list_of(alloc, self.stamps.len(), &self.bytes) {
+        match record_list_of(alloc, self.count, &self.bytes) {
             Ok((records, _)) => Ok(records),
             Err(_) => Err(AllocError),
         }
     }
+
+    /// Lets go of those whose stamps lie in one of these ranges.
+    pub(crate) fn let_go(&mut self, alloc: Global, voids: &[(u64, u64)]) -> Result<(), AllocError>
+        ensures { OnOk result (self.new ≡ held_of voids.now self.old) }
+    {
+        if !meets(voids, self.least, self.greatest) {
+            return Ok(());
+        }
+        let records = self.list(alloc)?;
+        let (count, bytes) = spell_held(alloc, &records, voids)?;
+        self.count = count;
+        self.bytes = bytes;
+        Ok(())
+    }
 }
 
-/// So many records, and the bytes behind them.
+// How many records are held, and their bytes.
+fn spell_held(
+    alloc: Global,
+    records: &[Record],
+    voids: &[(u64, u64)],
+) -> Result<(usize, Vec<u8>), AllocError>
+    requires { All IsRecord records.now }
+    ensures count { IfOk result (λ x. x.0 ≡ length (held_of voids.now records.now)) }
+    ensures bytes { IfOk result (λ x. x.1.items ≡ flat_map record_bytes (held_of voids.now records.now)) }
+{
+    let mut bytes = Vec::new(alloc);
+    let count = put_held(&mut bytes, records, voids)?;
+    Ok((count, Vec::from_slice(alloc, &bytes)?))
+}
+
+// Those of records that are held, one after the other, and how many they are.
+fn put_held(
+    out: &mut Vec<u8>,
+    records: &[Record],
+    voids: &[(u64, u64)],
+) -> Result<usize, AllocError>
+    requires { All IsRecord records.now }
+    ensures count { IfOk result (λ count. count ≡ length (held_of voids.now records.now)) }
+    ensures bytes { OnOk result (out.new.items ≡ out.old.items ++ flat_map record_bytes (held_of voids.now records.now)) }
+{
+    let mut count = 0;
+    for record in records {
+        if !is_in_void(voids, record.stamp) {
+            put_record(out, record)?;
+            count += 1;
+        }
+    }
+    Ok(count)
+}
+
+/// So many records: their stamps, they themselves, and the bytes behind them.
 pub(crate) fn spelled_of(
     alloc: Global,
     count: usize,
     bytes: &[u8],
-) -> Result<(SpelledRecords, &[u8]), DecodeFault>
-    ensures { Gives (λ x. (x.0, x.1.now)) result (each_at record_at count bytes.now) }
+) -> Result<(Vec<u64>, SpelledRecords, &[u8]), DecodeFault>
+    ensures read { Gives (λ x. (x.1, x.2.now)) result (each_at record_at count bytes.now) }
+    ensures stamps { IfOk result (λ x. x.0.items ≡ map (λ (r : AnyRecord). r.stamp) x.1) }
 {
     let (stamps, rest) = stamps_of(alloc, count, bytes)?;
+    let (least, greatest) = bounds_of(&stamps);
     let bytes = Vec::from_slice(alloc, bytes)?;
-    Ok((SpelledRecords { stamps, bytes }, rest))
+    Ok((
+        stamps,
+        SpelledRecords {
+            count,
+            least,
+            greatest,
+            bytes,
+        },
+        rest,
+    ))
+}
+
+// A number that none of these is below, and one that none is over.
+fn bounds_of(stamps: &[u64]) -> (u64, u64)
+    ensures { All (λ n. (result.0 ≤ n) × (n ≤ result.1)) stamps.now }
+{
+    let mut least = u64::MAX;
+    let mut greatest = 0;
+    for stamp in stamps {
+        least = least.min(*stamp);
+        greatest = greatest.max(*stamp);
+    }
+    (least, greatest)
 }
 
 // The stamps of so many records, each of which is read and dropped.
@@ -95,7 +181,8 @@ fn record_list_of(
     count: usize,
     bytes: &[u8],
 ) -> Result<(Vec<Record>, &[u8]), DecodeFault>
-    ensures { Gives (λ x. (x.0.items, x.1.now)) result (each_at record_at count bytes.now) }
+    ensures read { Gives (λ x. (x.0.items, x.1.now)) result (each_at record_at count bytes.now) }
+    ensures each { IfOk result (λ x. All IsRecord x.0.items) }
 {
     let mut records = Vec::new(alloc);
     let mut rest = bytes;

@@ -8,8 +8,9 @@ ghost use Rattle.mt_rows.specs.Rows.{Bytes};
 ghost use Rattle.mt_log.specs.declared.fault.ReadFault.TheVariants.{Bad};
 ghost use Rattle.mt_log.specs.Stops.{CountsReads, IsWindow, OfImage, IsHead, IsOpenGate, IsAtGate, FitsGate, AreBatches, IsHeader, IsStop, IsFoundAt, IsRead, IsBadRead, IsNotBad, IsStartOf, IsStopOf, IsFrontOf, IsFaultOf};
 
-use crate::batch::{Front, LogBatch};
+use crate::batch::Front;
 use crate::fault::ReadFault;
+use crate::held::{ReadBatch, ReadBatches};
 use crate::reader::{HEADER_BYTES, Head, Start, batch_of, start_of};
 use mt_disk::Disk;
 use std::alloc::Global;
@@ -32,7 +33,7 @@ pub enum AtGate {
     /// A gate that isn't open.
     Shut(u8),
     /// An open gate and a batch, of this many bytes together; and what stands at the gate behind them.
-    Open(LogBatch, usize, Head),
+    Open(ReadBatch, usize, Head),
     /// Neither.
     Bad,
 }
@@ -59,28 +60,24 @@ pub(crate) fn read_front<D: Disk>(
     ensures count { CountsReads result (D.failures disk.old) (D.failures disk.new) }
 {
     let start = read_start(alloc, disk, len)?;
-    let mut batches = Vec::new(alloc);
+    let mut batches = ReadBatches::new(alloc);
     let stop = read_batches(alloc, disk, len, start.head, &mut batches)?;
     found_of(start, batches, &stop)
 }
 
 // The front that begins so, and whose batches stop there.
-fn found_of(start: Start, batches: Vec<LogBatch>, stop: &Stop) -> Result<Found, ReadFault>
+fn found_of(start: Start, batches: ReadBatches, stop: &Stop) -> Result<Found, ReadFault>
     requires worker { start.worker < start.logs }
     requires logs { start.logs ≤ 64 }
-    requires batches { AreBatches stop.now.mark batches.items }
+    requires batches { AreBatches stop.now.mark batches }
     ensures ok { IfOk result (IsFoundAt stop.now.place) }
     ensures err { IfErr result (λ e. e ≡ Bad start.worker stop.now.place) }
-    ensures told { (image : Bytes) → IsHeader image start → IsStop image batches.items stop.now → MatchResult result (IsRead image) (IsBadRead image) }
+    ensures told { (image : Bytes) → IsHeader image start → IsStop image batches stop.now → MatchResult result (IsRead image) (IsBadRead image) }
 {
     let Start { worker, logs, .. } = start;
     match stop.gate {
         Some(gate) => Ok(Found {
-            front: Front {
-                worker,
-                logs,
-                batches,
-            },
+            front: batches.into_front(worker, logs),
             end: stop.place,
             gate,
             mark: stop.mark,
@@ -110,12 +107,12 @@ fn read_batches<D: Disk>(
     disk: &mut D,
     len: usize,
     first: Head,
-    batches: &mut Vec<LogBatch>,
+    batches: &mut ReadBatches,
 ) -> Result<Stop, ReadFault>
-    requires none { batches.old.items ≡ [] }
+    requires none { batches.old ≡ [] }
     requires header { 8 ≤ len }
     requires short { len < 2 ^ 63 }
-    ensures ok { IfOk result (IsStopOf D.is_honest D.state disk.old len first batches.new.items) }
+    ensures ok { IfOk result (IsStopOf D.is_honest D.state disk.old len first batches.new) }
     ensures err { IfErr result IsNotBad }
     ensures same { IsTrue (D.is_honest disk.old) → D.state disk.new ≡ D.state disk.old }
     ensures honest { D.is_honest disk.new ≡ D.is_honest disk.old }
@@ -144,7 +141,7 @@ fn read_batches<D: Disk>(
                 place += size;
                 mark = batch.to();
                 head = next;
-                batches.push(batch)?;
+                batches.add(alloc, batch)?;
             }
         }
     }

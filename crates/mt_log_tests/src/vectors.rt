@@ -14,11 +14,11 @@ const VECTOR: [u8; 85] = [
     0, 0, 0x19, 1, 0, 0, 0, 0, 0, 0, 0, 6, 0, 0, 0, 0, 0, 0, 0, 9, 0, 0, 0, 0, 0, 0, 0, 4, 0,
 ];
 
-// What is read of it.
+// What is read of it. Its record is void, so that its stamp alone is held.
 const FRONT: &str =
-    "Front { worker: 0, logs: 1, batches: [Records(LoggedBatch { from: 0, to: 6, records: SpelledRecords { stamps: [5], bytes: [0, 0, 0, 0, 0, 0, 0, 5, 0, 0, 0, 7, 0, 1, 107, 1, 1, 0, 1, 118] } }), Resume { from: 6, to: 9, kept: 4 }] }";
+    "Front { worker: 0, logs: 1, batches: [Records(LoggedBatch { from: 0, to: 6, stamps: [5] }), Resume { from: 6, to: 9, kept: 4 }], held: [SpelledRecords { count: 0, least: 5, greatest: 5, bytes: [] }] }";
 
-// The records of its first batch.
+// The record of its first batch.
 const RECORDS: &str =
     "[Record { stamp: 5, tenant: 7, key: Key { bytes: [107] }, row: Some(Row { columns: [Column { bytes: [118] }] }) }]";
 
@@ -36,37 +36,49 @@ fn front_of(alloc: Global, disk: MemDisk) -> Result<String, AllocError> {
     }
 }
 
-// The records of a front's batches, batch by batch, as text.
+// The records that the front of a disk holds, as text.
 fn records_of(alloc: Global, disk: MemDisk) -> Result<String, AllocError> {
-    let mut text = String::new(alloc);
-    if let Ok((_log, front)) = LogFile::open(alloc, disk) {
-        for batch in &front.batches {
-            if let LogBatch::Records(batch) = batch {
-                let records = batch.records(alloc)?;
-                text.push_str(&format!(in alloc; "{records:?}")?)?;
-            }
+    match LogFile::open(alloc, disk) {
+        Ok((_log, front)) => {
+            let records = front.records(alloc)?;
+            format!(in alloc; "{records:?}")
         }
+        Err(_) => Ok(String::new(alloc)),
     }
-    Ok(text)
 }
 
-// The stamps of the records of a front's batches.
+// The stamps of the records of a front's batches, held or not.
 fn stamps_of(alloc: Global, front: &Front) -> Result<Vec<u64>, AllocError> {
     let mut stamps = Vec::new(alloc);
     for batch in &front.batches {
         if let LogBatch::Records(batch) = batch {
-            for record in batch.records(alloc)? {
-                stamps.push(record.stamp)?;
-            }
+            stamps.extend_from_slice(batch.stamps())?;
         }
     }
     Ok(stamps)
 }
 
-// Whether these are the stamps in the front of a disk.
-fn has_stamps(alloc: Global, disk: MemDisk, stamps: &[u64]) -> Result<bool, AllocError> {
+// The stamps of the records that a front holds.
+fn held_of(alloc: Global, front: &Front) -> Result<Vec<u64>, AllocError> {
+    let mut stamps = Vec::new(alloc);
+    for record in front.records(alloc)? {
+        stamps.push(record.stamp)?;
+    }
+    Ok(stamps)
+}
+
+// Whether these are the stamps in the front of a disk, and those of the records that it holds.
+fn has_stamps(
+    alloc: Global,
+    disk: MemDisk,
+    stamps: &[u64],
+    held: &[u64],
+) -> Result<bool, AllocError> {
     match LogFile::open(alloc, disk) {
-        Ok((_log, front)) => Ok(stamps_of(alloc, &front)?.as_slice() == stamps),
+        Ok((_log, front)) => Ok(
+            stamps_of(alloc, &front)?.as_slice() == stamps
+                && held_of(alloc, &front)?.as_slice() == held,
+        ),
         Err(_) => Ok(false),
     }
 }
@@ -82,15 +94,24 @@ fn made(alloc: Global, disk: MemDisk, from: u64) -> (MemDisk, Told) {
     }
 }
 
-fn resumed(alloc: Global, log: LogFile<MemDisk>) -> (MemDisk, Told) {
+// Appends a resume batch up to 9, of which 4 are kept, or gives the log's disk back.
+fn resume(alloc: Global, log: LogFile<MemDisk>) -> Result<LogFile<MemDisk>, (MemDisk, Told)> {
     let mark = log.mark();
     if mark != 6 {
-        return (log.into_disk(), Told::Turn(6, mark));
+        return Err((log.into_disk(), Told::Turn(6, mark)));
     }
     match log.append_resume(alloc, 4, 9) {
+        Ok(log) => Ok(log),
+        Err(ResumeFault::Memory(log)) => Err((log.into_disk(), Told::Memory)),
+        Err(ResumeFault::Device(disk)) => Err((disk, Told::Device)),
+    }
+}
+
+// The same, and opens the log again.
+fn resumed(alloc: Global, log: LogFile<MemDisk>) -> (MemDisk, Told) {
+    match resume(alloc, log) {
         Ok(log) => opened_on(alloc, log.into_disk()),
-        Err(ResumeFault::Memory(log)) => (log.into_disk(), Told::Memory),
-        Err(ResumeFault::Device(disk)) => (disk, Told::Device),
+        Err(back) => back,
     }
 }
 
@@ -100,13 +121,74 @@ fn the_vector_is_written_and_read(rt: HostRuntime) -> Result<(), Fail> {
     let (disk, told) = made(alloc, MemDisk::new(alloc, Vec::new(alloc), None), 0);
     assert!(rt; told == Told::Front(9, 2) && disk.image() == VECTOR.as_slice());
     assert_eq!(rt; front_of(alloc, disk)?.as_str(), FRONT);
-    assert!(rt; has_stamps(alloc, disk_with(alloc, &VECTOR, 0, 99)?, &[5])?);
+    assert!(rt; has_stamps(alloc, disk_with(alloc, &VECTOR, 0, 99)?, &[5], &[])?);
+    let mut front = VECTOR;
+    front[54] = 0;
+    let (front, _) = front.split_at(55);
+    assert!(rt; has_stamps(alloc, disk_with(alloc, front, 0, 99)?, &[5], &[5])?);
     assert_eq!(rt;
-        records_of(alloc, disk_with(alloc, &VECTOR, 0, 99)?)?.as_str(),
+        records_of(alloc, disk_with(alloc, front, 0, 99)?)?.as_str(),
         RECORDS
     );
     let (_disk, told) = made(alloc, MemDisk::new(alloc, Vec::new(alloc), None), 2);
     assert!(rt; told == Told::Turn(2, 0));
+    Ok(())
+}
+
+// The last number of the vector's resume batch, how many it keeps, and the stamps whose records are held then.
+const HELD: [(u8, u8, &[u64]); 6] = [
+    (9, 4, &[]),
+    (9, 5, &[5]),
+    (5, 4, &[]),
+    (4, 3, &[5]),
+    (4, 9, &[5]),
+    (9, 0, &[]),
+];
+
+#[test]
+fn a_record_is_held_where_no_resume_batch_makes_it_void(rt: HostRuntime) -> Result<(), Fail> {
+    let alloc = rt.alloc();
+    for (to, kept, held) in HELD {
+        let mut image = VECTOR;
+        image[75] = to;
+        image[83] = kept;
+        let disk = disk_with(alloc, &image, 0, 99)?;
+        assert!(rt;
+            has_stamps(alloc, disk, &[5], held)?,
+            "up to {to}, of which {kept} are kept"
+        );
+    }
+    Ok(())
+}
+
+// Appends two batches, of the stamps 3 and 5; a resume batch that keeps 4; and a batch of the stamp 10.
+fn batches_around(
+    alloc: Global,
+    log: LogFile<MemDisk>,
+) -> Result<LogFile<MemDisk>, (MemDisk, Told)> {
+    let log = append(alloc, log, 0, 3, 3)?;
+    let log = append(alloc, log, 3, 6, 5)?;
+    let log = resume(alloc, log)?;
+    append(alloc, log, 9, 12, 10)
+}
+
+// The same, and opens the log again.
+fn resumed_between(alloc: Global, log: LogFile<MemDisk>) -> (MemDisk, Told) {
+    match batches_around(alloc, log) {
+        Ok(log) => opened_on(alloc, log.into_disk()),
+        Err(back) => back,
+    }
+}
+
+#[test]
+fn what_a_resume_batch_makes_void_is_let_go(rt: HostRuntime) -> Result<(), Fail> {
+    let alloc = rt.alloc();
+    let (disk, told) = match LogFile::create(MemDisk::new(alloc, Vec::new(alloc), None), 0, 1) {
+        Ok(log) => resumed_between(alloc, log),
+        Err((_, disk)) => (disk, Told::Device),
+    };
+    assert!(rt; told == Told::Front(12, 4), "{told:?}");
+    assert!(rt; has_stamps(alloc, disk, &[3, 5, 10], &[3, 10])?);
     Ok(())
 }
 
@@ -140,52 +222,57 @@ fn with_byte(alloc: Global, place: usize, byte: u8) -> Result<Told, AllocError> 
     opened(alloc, &image)
 }
 
-// A place in the vector, the byte that is put there, and what is told then.
-const CHANGED: [(usize, u8, Told); 36] = [
-    // The format's number, the worker, the number of logs.
-    (5, 2, Told::Bad(0, 0)),
-    (6, 1, Told::Bad(1, 0)),
-    (6, 5, Told::Bad(5, 0)),
-    (7, 0, Told::Bad(0, 0)),
-    (7, 64, Told::Front(9, 2)),
-    (7, 65, Told::Bad(0, 0)),
-    // A gate that isn't open ends the front, also one that was torn.
-    (8, 0, Told::Front(0, 0)),
-    (8, 7, Told::Front(0, 0)),
-    (54, 0, Told::Front(6, 1)),
-    (54, 7, Told::Front(6, 1)),
-    (84, 7, Told::Front(9, 2)),
-    (84, 1, Told::Bad(0, 84)),
-    // A length past the end of the file, one that is too short, and one that takes in the next gate.
-    (9, 255, Told::Bad(0, 8)),
-    (12, 40, Told::Bad(0, 8)),
-    (55, 255, Told::Bad(0, 54)),
-    (58, 26, Told::Bad(0, 54)),
-    (58, 27, Told::Bad(0, 54)),
-    // The kind of a batch, and an end past the greatest step.
-    (13, 1, Told::Bad(0, 8)),
-    (13, 2, Told::Bad(0, 8)),
-    (22, 8, Told::Bad(0, 8)),
-    (68, 8, Told::Bad(0, 54)),
-    // Batches that don't join; a beginning over its end; how many are kept.
-    (14, 255, Told::Falls(9, 2)),
-    (21, 1, Told::Falls(9, 2)),
-    (29, 5, Told::Falls(9, 2)),
-    (29, 4, Told::Falls(9, 2)),
-    (75, 8, Told::Front(8, 2)),
-    (75, 5, Told::Falls(5, 2)),
-    (76, 255, Told::Falls(9, 2)),
-    (83, 9, Told::Front(9, 2)),
-    (83, 10, Told::Falls(9, 2)),
-    // A stamp that isn't over the batch's beginning, or is over its end.
-    (41, 0, Told::Falls(9, 2)),
-    (41, 7, Told::Falls(9, 2)),
-    (41, 6, Told::Front(9, 2)),
-    (34, 255, Told::Falls(9, 2)),
-    // A row that isn't told as there or not, and one without columns.
-    (49, 2, Told::Bad(0, 8)),
-    (50, 0, Told::Bad(0, 8)),
-];
+// What is told of batches that rise and join, or else of ones that don't.
+fn rising(rises: bool, mark: u64) -> Told {
+    if rises {
+        Told::Front(mark, 2)
+    } else {
+        Told::Falls(mark, 2)
+    }
+}
+
+// The end of the second batch with one of its bytes changed.
+fn changed_end(place: usize, byte: u8) -> u64 {
+    let mut bytes = [0, 0, 0, 0, 0, 0, 0, 9];
+    if let Some(at) = bytes.get_mut(place) {
+        *at = byte;
+    }
+    u64::from_be_bytes(bytes)
+}
+
+// What is to be told with this byte in a place where another one stood.
+fn want(place: usize, byte: u8) -> Told {
+    match place {
+        // The worker, and the number of logs; a header's other bytes are always the same.
+        6 => Told::Bad(byte, 0),
+        7 if (1..=64).contains(&byte) => Told::Front(9, 2),
+        0..=7 => Told::Bad(0, 0),
+        // A gate that isn't open ends the front, also one that was torn.
+        8 => Told::Front(0, 0),
+        54 => Told::Front(6, 1),
+        84 if byte == 1 => Told::Bad(0, 84),
+        84 => Told::Front(9, 2),
+        // An end over 2^59 is not in the format, and any other beginning or end doesn't join.
+        22 if byte > 7 => Told::Bad(0, 8),
+        14..=29 => Told::Falls(9, 2),
+        // A stamp over the batch's beginning, and up to its end; another tenant, key or column.
+        41 => rising((1..=6).contains(&byte), 9),
+        34..=40 => Told::Falls(9, 2),
+        42..=45 | 48 | 53 => Told::Front(9, 2),
+        // A batch whose length or kind, or whose number, key or row of a record doesn't fit its body.
+        9..=53 => Told::Bad(0, 8),
+        55..=59 => Told::Bad(0, 54),
+        // The beginning and the end of the second batch, and how much it keeps.
+        60..=67 => Told::Falls(9, 2),
+        68 if byte > 7 => Told::Bad(0, 54),
+        68..=75 => {
+            let end = changed_end(place - 68, byte);
+            rising(end >= 6, end)
+        }
+        83 => rising(byte <= 9, 9),
+        _ => Told::Falls(9, 2),
+    }
+}
 
 #[test]
 fn each_prefix_and_changed_byte_is_told_for_what_it_is(rt: HostRuntime) -> Result<(), Fail> {
@@ -201,9 +288,13 @@ fn each_prefix_and_changed_byte_is_told_for_what_it_is(rt: HostRuntime) -> Resul
         let told = opened(alloc, prefix)?;
         assert!(rt; told == Told::Bad(0, offset), "the first {len} bytes");
     }
-    for (place, byte, want) in CHANGED {
-        let told = with_byte(alloc, place, byte)?;
-        assert!(rt; told == want, "{byte} at {place}: {told:?}");
+    for place in 0..85 {
+        for byte in 0..=255 {
+            if VECTOR.get(place) != Some(&byte) {
+                let told = with_byte(alloc, place, byte)?;
+                assert!(rt; told == want(place, byte), "{byte} at {place}: {told:?}");
+            }
+        }
     }
     Ok(())
 }

@@ -4,9 +4,9 @@ use Rattle.std.proofs.{lemmas.Bool.le-ltb, lemmas.Bool.Decides.nat_tests, lemmas
 use Rattle.std.proofs.lemmas.List.{append_assoc, flat_map_more, map-append}
 use Rattle.std.specs.List.{filter, flat_map}
 use Rattle.mt_rows.specs.declared.record.Record.{Record}
-use Rattle.mt_log.specs.{declared.batch.LogBatch.LogBatch, declared.batch.Front.Front, Contents.contents_of}
-use Rattle.mt_crashes.{specs.Fronts.{Numbers, is_void, is_replayed, records_in, records_of, all_records}, proofs.Members.filter_same}
-use Rattle.mt_recover.specs.{Orders.DontFall, Replays.{is_void_behind, AgreeFrom, Knows}, declared.voids.{Walk.Walk, Search.Search}}
+use Rattle.mt_log.specs.{declared.batch.Front.Front, Contents.{Contents, contents_of}, Voids.{held_in, joined}}
+use Rattle.mt_crashes.{specs.Fronts.{Numbers, is_void, is_replayed}, proofs.Members.filter_same}
+use Rattle.mt_recover.specs.{Orders.DontFall, Replays.{is_void_behind, AgreeFrom, Knows, all_held}, declared.voids.{Walk.Walk, Search.Search}}
 
 abbrev first : Numbers → ℕ
 first v = v.0
@@ -76,19 +76,17 @@ module _ (test : Record → Bool) (rs : List Record) where
   pub records_more : (ys zs : List Record) → (rs ++ filter test ys) ++ filter test zs ≡ rs ++ filter test (ys ++ zs)
   records_more ys zs = append_assoc rs (filter test ys) (filter test zs) ∙ ap (λ (l : List Record). rs ++ l) (sym (filter-append test ys zs))
 
-  -- of one batch more
-  pub batches_more : (bs : List LogBatch) (b : LogBatch) → (rs ++ filter test (flat_map records_in bs)) ++ filter test (records_in b) ≡ rs ++ filter test (flat_map records_in (bs ++ b ∷ []))
-  batches_more bs b = records_more (flat_map records_in bs) (records_in b) ∙ ap (λ (l : List Record). rs ++ filter test l) (flat_map_more records_in [] bs b)
+  -- of one part more
+  pub parts_more : (parts : List (List Record)) (part listed : List Record) → listed ≡ part
+      → (rs ++ filter test (joined parts)) ++ filter test listed ≡ rs ++ filter test (joined (parts ++ part ∷ []))
+  parts_more parts part listed is =
+      ap (λ (l : List Record). (rs ++ filter test (joined parts)) ++ filter test l) is
+      ∙ records_more (joined parts) part ∙ ap (λ (l : List Record). rs ++ filter test l) (flat_map_more (λ (l : List Record). l) [] parts part)
 
--- whose records were listed
-pub after : (test : Record → Bool) (rs : List Record) (bs : List LogBatch) (b : LogBatch) (listed : List Record) → listed ≡ records_in b
-    → (rs ++ filter test (flat_map records_in bs)) ++ filter test listed ≡ rs ++ filter test (flat_map records_in (bs ++ b ∷ []))
-after test rs bs b listed is = ap (λ (l : List Record). (rs ++ filter test (flat_map records_in bs)) ++ filter test l) is ∙ batches_more test rs bs b
-
--- and of one log more
+-- and of what one log more holds
 pub fronts_more : (test : Record → Bool) (fs : List Front) (f : Front)
-    → filter test (all_records (map contents_of fs)) ++ filter test (records_of (contents_of f)) ≡ filter test (all_records (map contents_of (fs ++ f ∷ [])))
+    → filter test (all_held (map contents_of fs)) ++ filter test (held_in f.batches.items) ≡ filter test (all_held (map contents_of (fs ++ f ∷ [])))
 fronts_more test fs f =
-    sym (filter-append test (all_records (map contents_of fs)) (records_of (contents_of f)))
-    ∙ ap (filter test) (flat_map_more records_of [] (map contents_of fs) (contents_of f)
-    ∙ ap all_records (sym (map-append contents_of fs (f ∷ []))))
+    sym (filter-append test (all_held (map contents_of fs)) (held_in f.batches.items))
+    ∙ ap (filter test) (flat_map_more (λ (c : Contents). held_in c.batches) [] (map contents_of fs) (contents_of f)
+    ∙ ap all_held (sym (map-append contents_of fs (f ∷ []))))

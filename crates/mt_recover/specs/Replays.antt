@@ -1,7 +1,7 @@
 -- The steps to what is replayed: one walk over the ranges of void numbers for numbers that rise.
-use Rattle.std.specs.{Prelude.{◌≡◌, ℕ, ◌≤◌, Bool, not, ◌&&◌, ◌||◌, nat_lt, List, drop}, List.filter, List.Sorted.IsPermutation}
+use Rattle.std.specs.{Prelude.{◌≡◌, ℕ, ◌≤◌, Bool, not, ◌&&◌, ◌||◌, nat_lt, List, drop}, List.{filter, flat_map}, List.Sorted.IsPermutation}
 use Rattle.mt_rows.specs.declared.record.Record.{Record}
-use Rattle.mt_log.specs.Contents.{Contents}
+use Rattle.mt_log.specs.{Contents.Contents, Voids.held_in}
 use Rattle.mt_recover.specs.{Orders.DontFall, Changes.{Changes, AreLast}, declared.voids.{Walk.Walk, Search.Search}}
 use Rattle.mt_crashes.specs.Fronts.{Numbers, is_void, is_replayed, all_records}
 
@@ -21,6 +21,10 @@ Knows voids search = AgreeFrom search.from (is_void_behind voids search.walk) (i
 -- whether a record of this stamp is replayed
 abbrev pub counts : List Numbers → ℕ → ℕ → ℕ → Bool
 counts voids base cutoff stamp = nat_lt base stamp && not (nat_lt cutoff stamp) && not (is_void voids stamp)
+
+-- what all logs hold of their records once they were read: each those that none of its own resume batches makes void
+abbrev pub all_held : List Contents → List Record
+all_held fronts = flat_map (λ (f : Contents). held_in f.batches) fronts
 
 -- these are the last changes of the records over a base, at most a cutoff and not void, the least stamp first
 abbrev pub HaveReplayed : List Numbers → ℕ → ℕ → List Contents → Changes → Type 0

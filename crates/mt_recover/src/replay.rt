@@ -1,14 +1,14 @@
 //! The records that a recovery replays.
 
 ghost use Rattle.std.specs.{Prelude.{◌≡◌, ◌++◌, [], ◌∷◌, List, map, if◌then◌else◌, IfOk, OnOk}, List.filter};
-ghost use Rattle.mt_log.specs.Contents.{contents_of};
-ghost use Rattle.mt_crashes.specs.Fronts.{Numbers, records_in, records_of, all_records, is_replayed};
+ghost use Rattle.mt_log.specs.{Contents.contents_of, Voids.held_in};
+ghost use Rattle.mt_crashes.specs.Fronts.{Numbers, all_voids, is_replayed};
 ghost use Rattle.mt_rows.specs.declared.record.Record.{Record as AnyRecord};
-ghost use Rattle.mt_recover.specs.{Orders.DontFall, Changes.AreLatest, Replays.{counts, Knows, HaveReplayed}};
+ghost use Rattle.mt_recover.specs.{Orders.DontFall, Changes.AreLatest, Replays.{all_held, counts, Knows, HaveReplayed}};
 
 use crate::changes::{Changes, add};
 use crate::voids::{Search, by_first, is_found_void, new_search};
-use mt_log::{Front, LogBatch};
+use mt_log::Front;
 use mt_rows::Record;
 use std::alloc::{AllocError, Global};
 use std::collections::BTreeMap;
@@ -17,7 +17,7 @@ use std::collections::BTreeMap;
 /// by their stamps, in whatever order they come.
 ///
 /// One batch at a time is read into records, and its bytes are let go. So no more is held of the records than the
-/// changes that count so far.
+/// changes that count so far. A front has let go of what its own resume batches make void, which is none of these.
 pub(crate) fn replay(
     alloc: Global,
     fronts: Vec<Front>,
@@ -25,13 +25,14 @@ pub(crate) fn replay(
     base: u64,
     cutoff: u64,
 ) -> Result<Changes, AllocError>
+    requires { voids.items ≡ all_voids (map contents_of fronts.items) }
     ensures { IfOk result (HaveReplayed voids.items base cutoff (map contents_of fronts.items)) }
 {
     let voids = by_first(voids);
     latest(alloc, fronts, &voids, base, cutoff)
 }
 
-// The same, by ranges in the order of their first numbers.
+// The same of what the fronts hold, by ranges in the order of their first numbers.
 fn latest(
     alloc: Global,
     fronts: Vec<Front>,
@@ -40,7 +41,7 @@ fn latest(
     cutoff: u64,
 ) -> Result<Changes, AllocError>
     requires { DontFall (λ (v : Numbers). v.0) 0 voids.now }
-    ensures { IfOk result (AreLatest (filter (is_replayed voids.now base cutoff) (all_records (map contents_of fronts.items)))) }
+    ensures { IfOk result (AreLatest (filter (is_replayed voids.now base cutoff) (all_held (map contents_of fronts.items)))) }
 {
     let mut changes = BTreeMap::new(alloc);
     for front in fronts {
@@ -49,7 +50,7 @@ fn latest(
     Ok(changes)
 }
 
-// Adds what is replayed of a log.
+// Adds what is replayed of what a front holds.
 fn add_front(
     alloc: Global,
     changes: &mut Changes,
@@ -59,23 +60,13 @@ fn add_front(
     cutoff: u64,
 ) -> Result<(), AllocError>
     requires { DontFall (λ (v : Numbers). v.0) 0 voids.now }
-    ensures { OnOk result ((rs : List AnyRecord) → AreLatest rs changes.old → AreLatest (rs ++ filter (is_replayed voids.now base cutoff) (records_of (contents_of front))) changes.new) }
+    ensures { OnOk result ((rs : List AnyRecord) → AreLatest rs changes.old → AreLatest (rs ++ filter (is_replayed voids.now base cutoff) (held_in front.batches.items)) changes.new) }
 {
-    for batch in front.batches {
-        let records = listed(alloc, batch)?;
+    for part in front.into_held() {
+        let records = part.list(alloc)?;
         add_records(changes, records, voids, base, cutoff)?;
     }
     Ok(())
-}
-
-// The records of a batch, as a list. Its bytes are let go.
-fn listed(alloc: Global, batch: LogBatch) -> Result<Vec<Record>, AllocError>
-    ensures { IfOk result (λ records. records.items ≡ records_in batch) }
-{
-    match batch {
-        LogBatch::Records(batch) => batch.records(alloc),
-        LogBatch::Resume { .. } => Ok(Vec::new(alloc)),
-    }
 }
 
 // Adds what is replayed of records. One search of the ranges serves those that rise.

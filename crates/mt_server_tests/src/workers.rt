@@ -9,7 +9,7 @@ use crate::stores::{bare_slots, no_tenants, serve_all};
 use crate::words::options_of;
 use log::Log;
 use mt_disk::MemDisk;
-use mt_log::{Front, LogBatch};
+use mt_log::Front;
 use mt_recover::LogSlot;
 use mt_store_logs::{StoreLog, open_logs};
 use mt_stored::Store;
@@ -93,15 +93,11 @@ fn closed_again(
 // Whether one change is in a log, and is of this key.
 fn has_one(alloc: Global, front: &Front, key: u8) -> Result<bool, AllocError> {
     let mut count: u8 = 0;
-    for batch in &front.batches {
-        if let LogBatch::Records(batch) = batch {
-            for record in batch.records(alloc)? {
-                if record.key.as_bytes() != [key].as_slice() {
-                    return Ok(false);
-                }
-                count = count.saturating_add(1);
-            }
+    for record in front.records(alloc)? {
+        if record.key.as_bytes() != [key].as_slice() {
+            return Ok(false);
         }
+        count = count.saturating_add(1);
     }
     Ok(count == 1)
 }

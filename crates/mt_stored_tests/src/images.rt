@@ -5,7 +5,7 @@ ghost use Rattle.mt_state.specs.Begins.{HaveNoPairs};
 
 use crate::disks::FlakyDisk;
 use mt_disk::MemDisk;
-use mt_log::{Front, LogBatch};
+use mt_log::Front;
 use mt_recover::LogSlot;
 use mt_rows::{Refusal, TenantPair, Tenants};
 use mt_slots::StoreSlots;
@@ -72,15 +72,11 @@ fn logs_of(alloc: Global, images: Vec<Vec<u8>>) -> Result<Vec<StoreLog<MemDisk>>
 // Whether a log has exactly so many first keys of a client, each once and in order.
 fn has_own(alloc: Global, front: &Front, owner: u8, count: u16) -> Result<bool, AllocError> {
     let mut number: u16 = 0;
-    for batch in &front.batches {
-        if let LogBatch::Records(batch) = batch {
-            for record in batch.records(alloc)? {
-                if record.key.as_bytes() != key_of(owner, number).as_slice() {
-                    return Ok(false);
-                }
-                number = number.saturating_add(1);
-            }
+    for record in front.records(alloc)? {
+        if record.key.as_bytes() != key_of(owner, number).as_slice() {
+            return Ok(false);
         }
+        number = number.saturating_add(1);
     }
     Ok(number == count)
 }

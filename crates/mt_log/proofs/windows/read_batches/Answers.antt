@@ -8,10 +8,10 @@ pub loop-gate-preserved : goal.loop-gate-preserved
 loop-gate-preserved g c =
     let before = c.loop-gate.invariant in
     let place = c.loop-gate.place in
-    let bs = c.loop-gate.batches.items in
+    let bs = c.loop-gate.batches in
     let b = c.in-Open.batch in
     let fits = subst (FitsGate (c.args.len - place)) c.in-Open.is c.in_ok-gate.ensures.fits in
-    let more : c.push.new.self.items ≡ bs ++ b ∷ [] = c.in_ok-push-in-Open.ensures.items in
+    let more : c.add.new.self ≡ bs ++ b ∷ [] = c.in_ok-add-in-Open.ensures in
     let here = before.within in
     let left = fits.within in
     record {

@@ -1,0 +1,34 @@
+-- Which numbers the resume batches of a log make void, and what is held of its records once it was read.
+use Rattle.std.specs.{Prelude.{ℕ, Bool, not, ◌&&◌, nat_lt, List, [], Option, Some, None}, List.{filter, filter_map, flat_map, list_any}}
+use Rattle.mt_rows.specs.declared.record.Record.{Record}
+use Rattle.mt_log.specs.{declared.batch.LogBatch.LogBatch, declared.batch.LogBatch.TheVariants.{Records, Resume}}
+
+-- the numbers over one and up to another
+abbrev pub Numbers : Type 0
+Numbers = ℕ × ℕ
+
+-- the numbers that a batch makes void: those over what a recovery kept, up to the number from which the store then went on
+abbrev pub voids_in : LogBatch → Option Numbers
+voids_in (Records b) = None
+voids_in (Resume from to kept) = Some (kept, to)
+
+-- whether a number is void
+abbrev pub is_void : List Numbers → ℕ → Bool
+is_void voids n = list_any (λ v. nat_lt v.0 n && not (nat_lt v.1 n)) voids
+
+-- the records of a batch
+abbrev pub records_in : LogBatch → List Record
+records_in (Records b) = b.records
+records_in (Resume from to kept) = []
+
+-- what is held of records: those whose stamps are not void
+abbrev pub held_of : List Numbers → List Record → List Record
+held_of voids records = filter (λ r. not (is_void voids r.stamp)) records
+
+-- what is held of the records of batches: those that no resume batch among them makes void
+abbrev pub held_in : List LogBatch → List Record
+held_in batches = held_of (filter_map voids_in batches) (flat_map records_in batches)
+
+-- lists of records, one behind the other
+abbrev pub joined : List (List Record) → List Record
+joined parts = flat_map (λ part. part) parts
