@@ -78,14 +78,21 @@ fn last_step(byte: usize, by: u8) -> u64 {
     u64::from_be_bytes(bytes)
 }
 
-// What they are to be read as. Another first or last step, tenant, key or column is another checkpoint, and
-// all else is none.
+// What they are to be read as. Another first or last step, tenant, key or column is another checkpoint. So is one that
+// ends before its pair: the next eight bytes are its last step then. All else is none.
 fn want(place: usize, by: u8) -> Told {
     match place {
         14 if 6 ^ by <= 9 => Told::Walk(u64::from(6 ^ by), 9, 1),
+        15 if 1 ^ by == 2 => Told::Walk(6, 0x7_0001_6b01, 0),
         16..=19 | 22 | 26 => Told::Walk(6, 9, 1),
-        28 if by > 7 => Told::None,
-        28..=35 => Told::Walk(6, last_step(place - 28, by), 1),
+        28..=35 => {
+            let last = last_step(place - 28, by);
+            if (6..=MAX_STEP).contains(&last) {
+                Told::Walk(6, last, 1)
+            } else {
+                Told::None
+            }
+        }
         _ => Told::None,
     }
 }
@@ -94,7 +101,7 @@ fn want(place: usize, by: u8) -> Told {
 fn each_changed_byte_is_told_for_what_it_is(rt: HostRuntime) -> Result<(), Fail> {
     let alloc = rt.alloc();
     for place in 0..36 {
-        for by in [1, 2, 7, 128, 255] {
+        for by in 1..=255 {
             let told = changed(alloc, place, by)?;
             assert!(rt;
                 told == want(place, by),

@@ -39,6 +39,12 @@ pub(crate) const SETTLE: &[u8] = b"\x00\x00\x00\x01\x06";
 /// All is kept up to step 6.
 pub(crate) const SETTLED_6: &[u8] = b"\x00\x00\x00\x09\x07\x00\x00\x00\x00\x00\x00\x00\x06";
 
+/// All is kept up to the last step that there is.
+pub(crate) const SETTLED_LAST: &[u8] = b"\x00\x00\x00\x09\x07\x08\x00\x00\x00\x00\x00\x00\x00";
+
+/// All numbers of steps are given.
+pub(crate) const SPENT: &[u8] = b"\x00\x00\x00\x01\x89";
+
 /// A disk has failed.
 pub(crate) const DEVICE: &[u8] = b"\x00\x00\x00\x01\x8a";
 

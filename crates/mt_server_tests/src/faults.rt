@@ -3,26 +3,14 @@
 use mt_rows::Refusal;
 use mt_service::ServerFault;
 use mt_slots::Slot;
-use mt_store_files::{FolderFault, LogCounts, StoreFault, StoreFile};
+use mt_store_files::{FolderFault, StoreFault, StoreFile};
 use std::io::{self, ErrorKind};
 use std::test::Fail;
 
 #[test]
 fn faults_name_the_folder(rt: HostRuntime) -> Result<(), Fail> {
-    let counts = LogCounts {
-        logs: 2,
-        workers: 2,
-    };
-    let falls = Refusal::StampsFall {
-        number: 1,
-        stamp: 5,
-    };
     let faults = [
         (StoreFault::Memory, "E2: out of memory"),
-        (
-            StoreFault::Refused(None, Refusal::NoTenant(7)),
-            "E4: the store in 'a/b' has pairs of tenant 7, which isn't named: name each of its tenants",
-        ),
         (
             StoreFault::Refused(Some(StoreFile::Log(63)), Refusal::Device),
             "E10: 'a/b/wal-63': the device failed: see what the system says of it, and start again",
@@ -30,18 +18,6 @@ fn faults_name_the_folder(rt: HostRuntime) -> Result<(), Fail> {
         (
             StoreFault::Refused(Some(StoreFile::Slot(Slot::Second)), Refusal::Device),
             "E10: 'a/b/check-1': the device failed: see what the system says of it, and start again",
-        ),
-        (
-            StoreFault::Refused(None, falls),
-            "E13: 'a/b/wal-01' doesn't go with the other logs at step 5: put all files back from one backup",
-        ),
-        (
-            StoreFault::Refused(None, Refusal::OverQuota(7)),
-            "E14: tenant 7 has more pairs in 'a/b' than its quota: give it a greater one",
-        ),
-        (
-            StoreFault::LogCount(counts),
-            "E15: the logs of 'a/b' aren't all of one store; the folder has 2 logs for 2 workers: put all files back from one backup",
         ),
     ];
     for (fault, wanted) in faults {

@@ -6,7 +6,7 @@ use crate::stores::{LOG, ONE_SESSION, RESUME, Scene, serve_scene};
 use crate::words::options_of;
 use log::Log;
 use mt_service::{OpenStore, open_store};
-use std::alloc::Global;
+use std::alloc::{AllocError, Global};
 use std::fs::{self, File};
 use std::marker::Brand;
 use std::process::Abort;
@@ -105,10 +105,6 @@ fn stores_are_opened_and_refused(rt: HostRuntime) -> Result<(), Fail> {
         }
         Err(_) => panic!(rt; "not opened"),
     }
-    // A file that is no log.
-    fs::write(&rt, "mt_server_tests_store/wal-00", "MTLOG")?;
-    let told = "E12: 'mt_server_tests_store/wal-00' is no log from byte 0 on: ";
-    expect_told(&rt, alloc, line, 3, told);
     // No log, and in its place a folder.
     fs::remove_file(&rt, "mt_server_tests_store/wal-00")?;
     let told =
@@ -118,6 +114,95 @@ fn stores_are_opened_and_refused(rt: HostRuntime) -> Result<(), Fail> {
     let told = "E10: 'mt_server_tests_store/wal-00': ";
     expect_told(&rt, alloc, line, 1, told);
     fs::remove_dir_all(&rt, "mt_server_tests_store")?;
+    Ok(())
+}
+
+// Bytes that are put in places of `LOG`.
+type Edits = &'static [(usize, u8)];
+
+// What is changed of the only log, which is cut to a length; and from which byte on it is told to be no log.
+const BAD: [(Edits, usize, usize); 8] = [
+    (&[], 5, 0),
+    (&[], 8, 8),
+    (&[], 30, 8),
+    (&[], 54, 54),
+    // Another format; a worker that is none of so many; no logs, and more than there may be.
+    (&[(5, 2)], 55, 0),
+    (&[(6, 1)], 55, 0),
+    (&[(7, 0)], 55, 0),
+    (&[(7, 65)], 55, 0),
+];
+
+// What is changed of each log, and what is said of the folder `mt_server_tests_bad`: two logs of one worker, a stamp in both, two pairs if
+// one may be, a pair of another tenant.
+const REFUSED: [(&[Edits], &str); 4] = [
+    (
+        &[&[(7, 2)], &[(7, 2)]],
+        "E15: the logs of 'mt_server_tests_bad' aren't all of one store; the folder has 2 logs for 2 workers: put all files back from one backup",
+    ),
+    (
+        &[&[(7, 2)], &[(6, 1), (7, 2)]],
+        "E13: 'mt_server_tests_bad/wal-01' doesn't go with the other logs at step 5: put all files back from one backup",
+    ),
+    (
+        &[&[(7, 2)], &[(6, 1), (7, 2), (41, 4), (48, b'l')]],
+        "E14: tenant 7 has more pairs in 'mt_server_tests_bad' than its quota: give it a greater one",
+    ),
+    (
+        &[&[(45, 8)]],
+        "E4: the store in 'mt_server_tests_bad' has pairs of tenant 8, which isn't named: name each of its tenants",
+    ),
+];
+
+// The bytes of `LOG` with these changed, cut to a length.
+fn image_with(alloc: Global, edits: Edits, len: usize) -> Result<Vec<u8>, AllocError> {
+    let mut image = LOG.to_vec(alloc)?;
+    for (place, byte) in edits {
+        if let Some(old) = image.get_mut(*place) {
+            *old = *byte;
+        }
+    }
+    image.truncate(len);
+    Ok(image)
+}
+
+// A store in the folder `mt_server_tests_bad` whose logs are replaced by such ones is refused so.
+fn expect_refused<R: Files<File = File> + Clock + Log + Abort>(
+    rt: &R,
+    alloc: Global,
+    logs: &[Edits],
+    len: usize,
+    told: &str,
+) {
+    let workers = logs.len();
+    let new = format!(in alloc;
+        "mt_server --workers {workers} --store mt_server_tests_bad 7:1 --create"
+    );
+    let new = new.expect(rt, "memory");
+    expect_told(rt, alloc, new.as_str(), 0, "");
+    for (place, edits) in logs.iter().enumerate() {
+        let path = format!(in alloc; "mt_server_tests_bad/wal-0{place}").expect(rt, "memory");
+        let image = image_with(alloc, edits, len).expect(rt, "memory");
+        fs::write(rt, path.as_str(), image.as_slice()).expect(rt, "a file");
+    }
+    let line = new.strip_suffix(" --create").unwrap_or("");
+    expect_told(rt, alloc, line, 3, told);
+}
+
+#[test]
+fn hostile_logs_are_refused(rt: HostRuntime) -> Result<(), Fail> {
+    let alloc = rt.alloc();
+    let _ = fs::remove_dir_all(&rt, "mt_server_tests_bad");
+    for (edits, len, byte) in BAD {
+        let told = format!(in alloc;
+            "E12: 'mt_server_tests_bad/wal-00' is no log from byte {byte} on: "
+        )?;
+        expect_refused(&rt, alloc, &[edits], len, told.as_str());
+    }
+    for (logs, told) in REFUSED {
+        expect_refused(&rt, alloc, logs, 55, told);
+    }
+    fs::remove_dir_all(&rt, "mt_server_tests_bad")?;
     Ok(())
 }
 

@@ -1,11 +1,9 @@
-//! Tests of the server's parts: its words, its caller over a book that is owned alone, and whole
-//! servers with clients in threads of the same process.
+//! Tests of the server's parts: its words, the stores in its folders, and whole servers with clients in threads of
+//! the same process.
 //!
 //! They stand in a crate of their own, since a crate with tests is proved twice.
 #![tactic(auto)]
 
-#[cfg(test)]
-mod callers;
 #[cfg(test)]
 mod checkpoints;
 #[cfg(test)]

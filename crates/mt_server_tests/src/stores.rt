@@ -4,7 +4,8 @@ ghost use Rattle.std.specs.Prelude.{◌≡◌, ◌<◌, ◌≤◌, vec_len};
 ghost use Rattle.mt_state.specs.Begins.{HaveNoPairs};
 
 use crate::clients::{
-    DEVICE, FOUND, GET, NEW, OPEN, OPENED, PUT, SETTLE, SETTLED_6, are_told, connect, is_settled,
+    DEVICE, FOUND, GET, NEW, OPEN, OPENED, PUT, SETTLE, SETTLED_6, SETTLED_LAST, SPENT, are_told,
+    connect, is_settled,
 };
 use crate::words::options_of;
 use log::Log;
@@ -95,6 +96,10 @@ pub(crate) const LOG: &[u8] =
 pub(crate) const RESUME: &[u8] =
     b"\x01\x00\x00\x00\x19\x01\x00\x00\x00\x00\x00\x00\x00\x06\x00\x00\x00\x00\x00\x00\x00\x06\x00\x00\x00\x00\x00\x00\x00\x06\x00";
 
+// A log of 1 without a change, which goes up to the step before the last that there is.
+const LAST_LOG: &[u8] =
+    b"MTLOG\x01\x00\x01\x01\x00\x00\x00\x19\x01\x00\x00\x00\x00\x00\x00\x00\x00\x07\xff\xff\xff\xff\xff\xff\xff\x07\xff\xff\xff\xff\xff\xff\xff\x00";
+
 /// One session of one worker.
 pub(crate) const ONE_SESSION: &str = "mt_server --port 0 --workers 1 --sessions 1 7:100";
 
@@ -111,6 +116,8 @@ pub(crate) enum Scene {
     Reads,
     /// It reads that and settles.
     ReadsAndSettles,
+    /// It reads and puts, while one number is left or none, and settles.
+    FindsAllSpent,
 }
 
 // Plays a scene; whether the client was told what it should be.
@@ -131,6 +138,15 @@ fn play(scene: Scene, client: TcpStream) -> io::Result<bool> {
         Scene::ReadsAndSettles => {
             Ok(are_told(&client, &[(OPEN, OPENED), (GET, FOUND)])? && is_settled(&client)?)
         }
+        Scene::FindsAllSpent => are_told(
+            &client,
+            &[
+                (OPEN, OPENED),
+                (GET, SPENT),
+                (PUT, SPENT),
+                (SETTLE, SETTLED_LAST),
+            ],
+        ),
     }
 }
 
@@ -225,17 +241,21 @@ fn what_was_put_is_in_the_log(rt: HostRuntime) {
     }
 }
 
+// A server starts twice from a log, and each time its client is told the same. The log grows behind its last batch.
 #[test]
-fn what_was_put_is_there_again(rt: HostRuntime) {
+fn what_was_put_is_there_again_and_numbers_stay_given(rt: HostRuntime) {
     let alloc = rt.alloc();
-    let store = recovered(&rt, alloc, LOG);
-    let options = options_of(&rt, alloc, ONE_SESSION);
-    let blank = Blank::new(65_536);
-    let left = serve_scene::<Brand, _, _>(&rt, alloc, blank, store, options, Scene::Reads);
-    let image = image_of(&rt, alloc, left);
-    let grown = [&LOG[..54], &RESUME[..30]]
-        .as_slice()
-        .concat(alloc)
-        .expect(&rt, "memory");
-    assert!(rt; image.as_slice().starts_with(grown.as_slice()));
+    for (log, scene) in [(LOG, Scene::Reads), (LAST_LOG, Scene::FindsAllSpent)] {
+        let mut image = log.to_vec(alloc).expect(&rt, "memory");
+        for _ in 0..2u32 {
+            let store = recovered(&rt, alloc, &image);
+            let options = options_of(&rt, alloc, ONE_SESSION);
+            let blank = Blank::new(65_536);
+            let left = serve_scene::<Brand, _, _>(&rt, alloc, blank, store, options, scene);
+            let grown = image_of(&rt, alloc, left);
+            let batches = image.split_last().map(|(_, front)| front).unwrap_or(&[]);
+            assert!(rt; grown.starts_with(batches) && grown.len() > image.len());
+            image = grown;
+        }
+    }
 }

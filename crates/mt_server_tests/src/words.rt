@@ -2,7 +2,6 @@
 
 use mt_command_line::{OptionsFault, VERSION, read_options};
 use mt_options::Options;
-use mt_rows::Refusal;
 use std::alloc::{AllocError, Global};
 use std::process::Abort;
 use std::test::Fail;
@@ -31,14 +30,6 @@ fn fault_of<R: Abort>(rt: &R, alloc: Global, line: &str) -> OptionsFault {
     match read_options(alloc, words.as_slice()) {
         Ok(_) => panic!(rt; "{line}: taken"),
         Err(fault) => fault,
-    }
-}
-
-// The refusal of a fault, if it has one.
-fn refusal_of(fault: &OptionsFault) -> Option<Refusal> {
-    match fault {
-        OptionsFault::Refused { refusal, .. } => Some(*refusal),
-        _ => None,
     }
 }
 
@@ -107,137 +98,49 @@ fn stores_are_named(rt: HostRuntime) {
     }
 }
 
+// The words after the program's, the status, and how what is said begins. A fault names the word, what is wrong with it,
+// and its bounds.
+const REFUSED: [&str; 29] = [
+    "7:0 => 2: E7: '7:0': a quota is 1 to 1048576 pairs",
+    "8:1 7:1048577 => 2: E7: '7:1048577': a quota is 1 to 1048576 pairs",
+    "--store here 7:0 => 2: E7: '7:0': a quota is 1 to 1048576 pairs",
+    "7:1 7:1 => 2: E3: '7:1': a tenant is named twice: name each once",
+    "7:1 8:1 7:0 => 2: E3: '7:0': a tenant is named twice: name each once",
+    " => 2: ",
+    "8:1 7 => 2: '7' isn't T:Q, a tenant's number and its quota: it has no colon",
+    ":1 => 2: ':1' isn't T:Q, a tenant's number and its quota: T is 0 to 4294967295, in decimal digits",
+    "4294967296:x => 2: '4294967296:x' isn't T:Q, a tenant's number and its quota: T is 0 to 4294967295, in decimal digits",
+    "7: => 2: '7:' isn't T:Q, a tenant's number and its quota: Q is 1 to 1048576, in decimal digits",
+    "7:+1 => 2: '7:+1' isn't T:Q, a tenant's number and its quota: Q is 1 to 1048576, in decimal digits",
+    "7:1:2 => 2: '7:1:2' isn't T:Q, a tenant's number and its quota: Q is 1 to 1048576, in decimal digits",
+    "--create 7:0 => 2: --create makes the logs of a folder anew, and --store DIR names none",
+    "--create --checkpoint 1 7:1 => 2: --create makes the logs of a folder anew, and --store DIR names none",
+    "--checkpoint 0 7:0 => 2: --checkpoint writes checkpoints of a folder's store, and --store DIR names none",
+    "--port 65536 7:1 => 2: error: invalid value '65536' for '--port <P>': 65536 is not in 0..=65535",
+    "--port x 7:1 => 2: error: invalid value 'x' for '--port <P>': ",
+    "--workers 0 7:1 => 2: error: invalid value '0' for '--workers <N>': 0 is not in 1..=64",
+    "--workers 65 7:1 => 2: error: invalid value '65' for '--workers <N>': 65 is not in 1..=64",
+    "--sessions 4294967296 7:1 => 2: error: invalid value '4294967296' for '--sessions <S>': 4294967296 is not in 0..=4294967295",
+    "--store here --checkpoint 4294967296 7:1 => 2: error: invalid value '4294967296' for '--checkpoint <K>': 4294967296 is not in 0..=4294967295",
+    "--store here --checkpoint -1 7:1 => 2: error: ",
+    "--store here --checkpoint 7:1 => 2: error: ",
+    "--store here --checkpoint 1 --checkpoint 1 7:1 => 2: error: ",
+    "--store 7:1 => 2: error: ",
+    "--store here --store there 7:1 => 2: error: ",
+    "--create=1 --store here 7:1 => 2: error: ",
+    "--checkpoints 1 7:1 => 2: error: unexpected argument '--checkpoints' found",
+    "--help => 0: ",
+];
+
 #[test]
 fn words_are_refused(rt: HostRuntime) -> Result<(), Fail> {
-    let lines = [
-        ("mt_server 7:0", 2, Some(Refusal::Quota)),
-        ("mt_server 7:1048577", 2, Some(Refusal::Quota)),
-        ("mt_server 7:1 7:1", 2, Some(Refusal::TenantThere)),
-        ("mt_server 7:1 7:0", 2, Some(Refusal::TenantThere)),
-        ("mt_server", 2, None),
-        ("mt_server 7", 2, None),
-        ("mt_server 7:", 2, None),
-        ("mt_server 7:+1", 2, None),
-        ("mt_server 4294967296:1", 2, None),
-        ("mt_server --workers 0 7:1", 2, None),
-        ("mt_server --workers 65 7:1", 2, None),
-        ("mt_server --port 65536 7:1", 2, None),
-        ("mt_server --store here 7:0", 2, Some(Refusal::Quota)),
-        ("mt_server --create 7:1", 2, None),
-        ("mt_server --create 7:0", 2, None),
-        ("mt_server --store 7:1", 2, None),
-        ("mt_server --store here --store there 7:1", 2, None),
-        ("mt_server --create=1 --store here 7:1", 2, None),
-        ("mt_server --checkpoint 1 7:1", 2, None),
-        ("mt_server --checkpoint 0 7:0", 2, None),
-        ("mt_server --create --checkpoint 1 7:1", 2, None),
-        (
-            "mt_server --store here --checkpoint 4294967296 7:1",
-            2,
-            None,
-        ),
-        ("mt_server --store here --checkpoint -1 7:1", 2, None),
-        ("mt_server --store here --checkpoint 7:1", 2, None),
-        (
-            "mt_server --store here --checkpoint 1 --checkpoint 1 7:1",
-            2,
-            None,
-        ),
-        ("mt_server --help", 0, None),
-        ("mt_server --version", 0, None),
-    ];
-    for (line, status, refusal) in lines {
-        let fault = fault_of(&rt, rt.alloc(), line);
-        assert_eq!(rt;
-            (fault.status(), refusal_of(&fault)),
-            (status, refusal),
-            "{line}"
-        );
-    }
-    Ok(())
-}
-
-// A fault names the word, what is wrong with it, and its bounds.
-#[test]
-fn words_are_named(rt: HostRuntime) -> Result<(), Fail> {
-    let lines = [
-        ("mt_server 7:0", "E7: '7:0': a quota is 1 to 1048576 pairs"),
-        (
-            "mt_server 8:1 7:1048577",
-            "E7: '7:1048577': a quota is 1 to 1048576 pairs",
-        ),
-        (
-            "mt_server 7:1 8:1 7:0",
-            "E3: '7:0': a tenant is named twice: name each once",
-        ),
-        (
-            "mt_server 8:1 7",
-            "'7' isn't T:Q, a tenant's number and its quota: it has no colon",
-        ),
-        (
-            "mt_server :1",
-            "':1' isn't T:Q, a tenant's number and its quota: T is 0 to 4294967295, in decimal digits",
-        ),
-        (
-            "mt_server 4294967296:x",
-            "'4294967296:x' isn't T:Q, a tenant's number and its quota: T is 0 to 4294967295, in decimal digits",
-        ),
-        (
-            "mt_server 7:+1",
-            "'7:+1' isn't T:Q, a tenant's number and its quota: Q is 1 to 1048576, in decimal digits",
-        ),
-        (
-            "mt_server 7:1:2",
-            "'7:1:2' isn't T:Q, a tenant's number and its quota: Q is 1 to 1048576, in decimal digits",
-        ),
-        (
-            "mt_server --create 7:0",
-            "--create makes the logs of a folder anew, and --store DIR names none",
-        ),
-        (
-            "mt_server --checkpoint 0 7:0",
-            "--checkpoint writes checkpoints of a folder's store, and --store DIR names none",
-        ),
-    ];
-    for (line, wanted) in lines {
-        let told = format!(in rt.alloc(); "{}", fault_of(&rt, rt.alloc(), line))?;
-        assert_eq!(rt; told.as_str(), wanted, "{line}");
-    }
-    Ok(())
-}
-
-// So does a fault that clap words, in its first line.
-#[test]
-fn options_are_named(rt: HostRuntime) -> Result<(), Fail> {
-    let lines = [
-        (
-            "mt_server --port 65536 7:1",
-            "error: invalid value '65536' for '--port <P>': 65536 is not in 0..=65535\n",
-        ),
-        (
-            "mt_server --workers 65 7:1",
-            "error: invalid value '65' for '--workers <N>': 65 is not in 1..=64\n",
-        ),
-        (
-            "mt_server --sessions 4294967296 7:1",
-            "error: invalid value '4294967296' for '--sessions <S>': 4294967296 is not in 0..=4294967295\n",
-        ),
-        (
-            "mt_server --port x 7:1",
-            "error: invalid value 'x' for '--port <P>': ",
-        ),
-        (
-            "mt_server --store here --checkpoint 4294967296 7:1",
-            "error: invalid value '4294967296' for '--checkpoint <K>': 4294967296 is not in 0..=4294967295\n",
-        ),
-        (
-            "mt_server --checkpoints 1 7:1",
-            "error: unexpected argument '--checkpoints' found\n",
-        ),
-    ];
-    for (line, beginning) in lines {
-        let told = format!(in rt.alloc(); "{}", fault_of(&rt, rt.alloc(), line))?;
-        assert!(rt; told.starts_with(beginning), "{line}: {told}");
+    let alloc = rt.alloc();
+    for row in REFUSED {
+        let (words, wanted) = row.split_once(" => ").expect(&rt, "a row has two parts");
+        let line = format!(in alloc; "mt_server {words}")?;
+        let fault = fault_of(&rt, alloc, line.as_str());
+        let told = format!(in alloc; "{}: {fault}", fault.status())?;
+        assert!(rt; told.starts_with(wanted), "{words}: {told}");
     }
     Ok(())
 }

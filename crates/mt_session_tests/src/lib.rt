@@ -1,5 +1,5 @@
-//! Tests of `mt_wire`, `mt_session` and `mt_alone`: frames byte by byte, both ways, and whole sessions, over plain
-//! maps and over a state, from worked bytes to worked bytes.
+//! Tests of `mt_wire`, `mt_session` and `mt_alone`: frames byte by byte, both ways, and whole sessions, from worked
+//! bytes to worked bytes. The sessions are over plain maps, over a state, and over a book by the server's caller.
 //!
 //! `rows` has the worked sessions, `ways` the ways in which each is run. `pieces`, `interrupts` and `turns` have
 //! streams that cut, fail, are interrupted and wait. A client of `turns` fails if it is asked for more while a
@@ -10,6 +10,8 @@
 //! how many writes a session takes.
 #![tactic(auto)]
 
+#[cfg(test)]
+mod books;
 #[cfg(test)]
 mod frames;
 #[cfg(test)]

@@ -60,6 +60,24 @@ pub const ROWS: [&str; 23] = [
     00000009 06 01 0001 6b 01 0001 76 00000009 06 01 0001 6a 01 0001 75 > closed",
 ];
 
+/// Sessions over such tenants without pairs, after so many steps: the step after which numbers are left for a put and
+/// a get alone; the one before the last; and the last. Each begun command takes what numbers are left, and then none begins.
+pub const LAST_ROWS: [(u64, &str); 3] = [
+    (
+        (1 << 59) - 10,
+        "00000005 01 00000007 00000009 03 0001 6b 01 00 0001 76 00000005 02 0001 6b 00 00000005 02 0001 6b 00 \
+        > 00000001 00 00000001 03 00000005 02 01 0001 76 00000001 89 > closed",
+    ),
+    ((1 << 59) - 1, ALL_SPENT),
+    (1 << 59, ALL_SPENT),
+];
+
+// A get twice, a put, a remove and a scan, of which none ends; a get of a column past the last; a Settle and a second Open.
+const ALL_SPENT: &str =
+    "00000005 01 00000007 00000005 02 0001 6b 00 00000005 02 0001 6b 00 00000009 03 0001 6b 01 00 0001 76 00000004 04 0001 6b \
+    00000006 05 00 0000 02 00 00000006 02 0001 6b 01 10 00000001 06 00000005 01 00000007 \
+    > 00000001 00 00000001 89 00000001 89 00000001 89 00000001 89 00000001 89 00000001 85 00000001 94 00000001 92 > closed";
+
 /// A worked session.
 #[derive(Drop)]
 pub struct Row<'a> {

@@ -1,19 +1,23 @@
-//! Worked sessions over plain maps and over a state: however their bytes are cut, whatever read or write fails, with
+//! Worked sessions over plain maps, over a state and over a book: however their bytes are cut, whatever read or write fails, with
 //! interruptions, and with a client that waits for each reply. How many writes a session takes. Several sessions
 //! over one state.
 
 ghost use Rattle.mt_state.specs.Begins.{HaveNoPairs};
 
+use crate::books::{Booked, Restored};
 use crate::framing::framed;
 use crate::hexadecimal::{bytes_of, many};
 use crate::pieces::{ALL, streams};
+use crate::rows::{LAST_ROWS, ROWS};
 use crate::ways::{TestServer, Way, name_of, session, wrong_row};
+use log::Log;
 use mt_alone::{Alone, serve_alone, serve_tenants};
 use mt_rows::{PlainMap, Tenants};
 use mt_session::{Ended, PlainCaller, PlainTenant, ServeFault, serve};
 use mt_streams::{Sink, Source};
 use std::alloc::{AllocError, Global};
 use std::process::Abort;
+use std::sync::Wait;
 use std::test::Fail;
 
 // Tenants 7 and 8, without pairs, of which the first may have a hundred and the second one.
@@ -46,8 +50,8 @@ impl TestServer for Plain {
     }
 }
 
-// The same tenants, for a state.
-fn two_tenants(alloc: Global) -> Tenants
+/// The same tenants, for a state.
+pub(crate) fn two_tenants(alloc: Global) -> Tenants
     ensures { HaveNoPairs result }
 {
     let mut tenants = Tenants::new(alloc);
@@ -73,16 +77,34 @@ impl TestServer for Stated {
     }
 }
 
-// All rows are told in this way, over either.
-fn expect_rows(rt: &impl Abort, alloc: Global, way: Way) {
-    assert_eq!(rt; wrong_row(&Plain, alloc, way), None);
-    assert_eq!(rt; wrong_row(&Stated, alloc, way), None);
+// All rows are told in this way, over each.
+fn expect_rows<T: Wait + Log + Abort>(rt: &T, alloc: Global, way: Way) {
+    assert_eq!(rt; wrong_row(&Plain, alloc, &ROWS, way), None);
+    assert_eq!(rt; wrong_row(&Stated, alloc, &ROWS, way), None);
+    assert_eq!(rt;
+        wrong_row(&Booked { rt, steps: 0 }, alloc, &ROWS, way),
+        None
+    );
 }
 
 #[test]
 fn each_row_however_it_is_cut_and_whatever_fails(rt: HostRuntime) {
     expect_rows(&rt, rt.alloc(), Way::InPieces);
     expect_rows(&rt, rt.alloc(), Way::WithFaults);
+}
+
+#[test]
+fn no_command_ends_once_all_numbers_are_given(rt: HostRuntime) {
+    let alloc = rt.alloc();
+    for (steps, row) in LAST_ROWS {
+        for way in [Way::InPieces, Way::WithFaults] {
+            assert_eq!(&rt; wrong_row(&Restored { steps }, alloc, &[row], way), None);
+            assert_eq!(&rt;
+                wrong_row(&Booked { rt: &rt, steps }, alloc, &[row], way),
+                None
+            );
+        }
+    }
 }
 
 #[test]

@@ -1,8 +1,9 @@
 //! Sessions over the streams of this crate, in each way, and whether they are told as rows say.
 
+use crate::framing::front_len;
 use crate::interrupts::Interrupted;
 use crate::pieces::{ALL, Written, streams};
-use crate::rows::{ROWS, Row, row_of};
+use crate::rows::{Row, row_of};
 use crate::turns::{Counted, Waiting};
 use mt_session::{Ended, ServeFault};
 use mt_streams::{Sink, Source};
@@ -91,13 +92,34 @@ fn reads_to_the_end(row: &Row<'_>) -> bool {
     row.end == "closed" || row.end == "cut"
 }
 
-// Whether the row is told byte by byte, and at every cut in two.
+// Whether the row is told byte by byte, and at every cut in two, and each beginning of it.
 fn is_told_in_pieces<S: TestServer>(server: &S, alloc: Global, row: &Row<'_>) -> bool {
     let asked = row.asked.as_slice();
     is_whole(row, &session(server, alloc, asked, [1, 1, ALL, ALL]))
         && (0..asked.len() + 1).all(|cut| {
             is_whole(row, &session(server, alloc, asked, [cut, ALL, ALL, ALL]))
         })
+        && (!reads_to_the_end(row)
+            || (0..asked.len()).all(|cut| is_told_cut_off(server, alloc, row, cut)))
+}
+
+// Whether a session that asks for a row's first bytes alone is told its replies to whole frames, and ends so.
+fn is_told_cut_off<S: TestServer>(server: &S, alloc: Global, row: &Row<'_>, cut: usize) -> bool {
+    let (asked, _) = row.asked.split_at(cut.min(row.asked.len()));
+    let (writer, ended) = session(server, alloc, asked, [ALL; 4]);
+    let (mut rest, mut replies) = (row.asked.as_slice(), row.told.as_slice());
+    let mut left = cut;
+    for _ in 0..cut {
+        let len = front_len(rest);
+        if len > left {
+            break;
+        }
+        left -= len;
+        rest = &rest[len..];
+        replies = &replies[front_len(replies)..];
+    }
+    let end = if left == 0 { "closed" } else { "cut" };
+    row.told.strip_suffix(replies) == Some(writer.text.as_slice()) && ended == end
 }
 
 // Whether the row is begun and ends so, with each read of a byte and each write of one failing in turn. A
@@ -116,7 +138,7 @@ fn is_begun_with_faults<S: TestServer>(server: &S, alloc: Global, row: &Row<'_>)
 /// How the sessions of a row are run.
 #[derive(Clone, Copy)]
 pub enum Way {
-    /// Byte by byte, and cut in two at every place.
+    /// Byte by byte, and cut in two at every place; and cut off there.
     InPieces,
     /// Byte by byte, with each read and each write failing in turn.
     WithFaults,
@@ -142,14 +164,19 @@ fn is_told<S: TestServer>(server: &S, alloc: Global, row: &Row<'_>, way: Way) ->
 }
 
 /// The first row that isn't told in this way, or is no row.
-pub fn wrong_row<S: TestServer>(server: &S, alloc: Global, way: Way) -> Option<&'static str> {
-    for text in ROWS {
+pub fn wrong_row<S: TestServer>(
+    server: &S,
+    alloc: Global,
+    rows: &[&'static str],
+    way: Way,
+) -> Option<&'static str> {
+    for text in rows {
         let is_right = match row_of(alloc, text) {
             Some(row) => is_told(server, alloc, &row, way),
             None => false,
         };
         if !is_right {
-            return Some(text);
+            return Some(*text);
         }
     }
     None
