@@ -238,7 +238,7 @@ fn a_settle_opens_a_log_again(rt: HostRuntime) -> Result<(), Fail> {
 }
 
 // With a growth refused in a flush the same is so; elsewhere the test tells of memory. The growths are refused one after
-// the other by `tools/refuse-growths mt_lives_tests`.
+// the other by `tools/refuse-growths/tests-of mt_lives_tests`.
 #[test]
 fn a_settle_ends_behind_a_growth_that_was_refused(rt: HostRuntime) -> Result<(), Fail> {
     assert!(rt; settles(&rt, rt.alloc(), AMPLE));
