@@ -1,2 +1,3 @@
+pub mod BufferLemmas
 pub mod FailureLemmas
 pub mod StreamLemmas

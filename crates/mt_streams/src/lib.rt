@@ -2,8 +2,10 @@
 //! and how often they failed.
 #![tactic(auto)]
 
+pub mod buffering;
 pub mod streams;
 pub mod writing;
 
+pub use buffering::{BUFFER_BYTES, flush, write_buffered};
 pub use streams::{Sink, Source};
 pub use writing::write_whole;
