@@ -1,4 +1,5 @@
 pub mod FrameLaws
+pub mod Putting
 pub mod RequestFields
 pub mod RequestLaws
 pub mod ReplyLaws

@@ -10,8 +10,10 @@ pub mod laws;
 pub mod message;
 pub mod replies;
 pub mod requests;
+pub mod writing;
 
 pub use fault::EncodeFault;
 pub use message::{Front, RefusalNumber, ReplyFront, Request, WireReply};
 pub use replies::{decode_reply, encode};
 pub use requests::{decode, encode_request};
+pub use writing::write_reply;

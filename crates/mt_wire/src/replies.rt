@@ -1,19 +1,21 @@
 //! Replies as bytes.
 
-ghost use Rattle.std.specs.{Prelude.{◌≡◌, ◌≤◌, ◌*◌, ◌++◌, ◌∷◌, [], length, take, IfOk, OnOk, OnErr}, List.flat_map, Int.{w32, w64, to_be_bytes}};
-ghost use Rattle.mt_rows.specs.Limits.{ArePairs};
+ghost use Rattle.std.specs.Prelude.{◌≡◌, ◌++◌, length, take, IfOk, OnOk, OnErr};
 ghost use Rattle.mt_fields.specs.Reading.{Gives, each_at};
-ghost use Rattle.mt_row_fields.specs.Format.{row_bytes};
-ghost use Rattle.mt_wire.specs.{Replies.{shown_pair, reply_spelling}, Fronts.IsReplyFront};
+ghost use Rattle.mt_wire.specs.{Replies.reply_spelling, Fronts.IsReplyFront};
 ghost use Rattle.mt_wire.specs.ReplyReading.{pair_at, pairs_at, found_at, scanned_at, settled_at, reply_kind_at, reply_in};
 
 use crate::fault::DecodeFault;
-use crate::frame::{Announced, LENGTH_BYTES, put_length, read_length};
+use crate::frame::{Announced, LENGTH_BYTES, read_length};
 use crate::message::{RefusalNumber, ReplyFront, WireReply};
-use mt_fields::{put_u64, string_of, u8_at, u64_at};
-use mt_row_fields::{put_key, put_row, row_len, row_of};
+use crate::writing::write_reply;
+use bytes::BytesMut;
+use mt_fields::{string_of, u8_at, u64_at};
+use mt_row_fields::row_of;
 use mt_rows::{Key, PairList, Reply, Row};
+use mt_streams::flush;
 use std::alloc::{AllocError, Global};
+use std::io;
 
 /// The longest body of a reply's frame: 64 pairs, each of a key of 251 bytes and a row of 16 columns
 /// of 1,024 bytes.
@@ -25,11 +27,22 @@ pub fn encode(reply: &WireReply, out: &mut Vec<u8>) -> Result<(), AllocError>
     ensures err { OnErr result (out.new.items ≡ out.old.items) }
 {
     let len = out.len();
-    let written = put_reply(out, reply);
+    let written = write_unbuffered(reply, out);
     if written.is_err() {
         out.truncate(len);
+        return Err(AllocError);
     }
-    written
+    Ok(())
+}
+
+// Writes a reply's frame at the end, or a beginning of it: a buffer without room keeps nothing back.
+fn write_unbuffered(reply: &WireReply, out: &mut Vec<u8>) -> io::Result<()>
+    ensures ok { OnOk result (out.new.items ≡ out.old.items ++ reply_spelling reply.now) }
+    ensures front { take (length out.old.items) out.new.items ≡ out.old.items }
+{
+    let mut buffer = BytesMut::new(*out.allocator());
+    write_reply(reply, &mut buffer, out)?;
+    flush(&mut buffer, out)
 }
 
 /// What stands at the front of these bytes. Only a refused growth is an error.
@@ -48,100 +61,6 @@ pub fn decode_reply(alloc: Global, bytes: &[u8]) -> Result<ReplyFront, AllocErro
                 Err(DecodeFault::Memory) => Err(AllocError),
             }
         }
-    }
-}
-
-// A frame of one byte.
-fn put_code(out: &mut Vec<u8>, code: u8) -> Result<(), AllocError>
-    ensures ok { OnOk result (out.new.items ≡ out.old.items ++ 0 ∷ 0 ∷ 0 ∷ 1 ∷ code ∷ []) }
-    ensures front { take (length out.old.items) out.new.items ≡ out.old.items }
-{
-    out.extend_from_slice(&[0, 0, 0, 1, code])
-}
-
-// The frame of a row found.
-fn put_found(out: &mut Vec<u8>, found: &Row) -> Result<(), AllocError>
-    ensures ok { OnOk result (out.new.items ≡ out.old.items ++ to_be_bytes w32 (length (2 ∷ row_bytes found.now)) ++ 2 ∷ row_bytes found.now) }
-    ensures front { take (length out.old.items) out.new.items ≡ out.old.items }
-{
-    put_length(out, 1 + row_len(found))?;
-    out.push(2)?;
-    put_row(out, found)
-}
-
-// The frame of a number.
-fn put_settled(out: &mut Vec<u8>, number: u64) -> Result<(), AllocError>
-    ensures ok { OnOk result (out.new.items ≡ out.old.items ++ 0 ∷ 0 ∷ 0 ∷ 9 ∷ 7 ∷ to_be_bytes w64 number) }
-    ensures front { take (length out.old.items) out.new.items ≡ out.old.items }
-{
-    out.extend_from_slice(&[0, 0, 0, 9, 7])?;
-    put_u64(out, number)
-}
-
-// How many bytes a scan's pairs are spelled with.
-fn pairs_len(pairs: &[(Key, Row)]) -> usize
-    requires { ArePairs pairs.now }
-    ensures exact { result ≡ length (flat_map shown_pair pairs.now) }
-    ensures few { result ≤ 64 * 16670 }
-{
-    let mut len = 0;
-    for pair in pairs {
-        len += 2 + pair.0.as_bytes().len() + row_len(&pair.1);
-    }
-    len
-}
-
-// A pair of a scan.
-fn put_pair(out: &mut Vec<u8>, key: &Key, row: &Row) -> Result<(), AllocError>
-    requires { length key.now ≤ 251 }
-    ensures ok { OnOk result (out.new.items ≡ out.old.items ++ shown_pair (key.now, row.now)) }
-    ensures front { take (length out.old.items) out.new.items ≡ out.old.items }
-{
-    put_key(out, key)?;
-    put_row(out, row)
-}
-
-// The frame of a scan's pairs.
-fn put_pairs(out: &mut Vec<u8>, pairs: &[(Key, Row)]) -> Result<(), AllocError>
-    requires { ArePairs pairs.now }
-    ensures ok { OnOk result (out.new.items ≡ out.old.items ++ to_be_bytes w32 (length (6 ∷ length pairs.now ∷ flat_map shown_pair pairs.now)) ++ 6 ∷ length pairs.now ∷ flat_map shown_pair pairs.now) }
-    ensures front { take (length out.old.items) out.new.items ≡ out.old.items }
-{
-    put_length(out, 2 + pairs_len(pairs))?;
-    out.push(6)?;
-    out.push(pairs.len() as u8)?;
-    for pair in pairs {
-        put_pair(out, &pair.0, &pair.1)?;
-    }
-    Ok(())
-}
-
-fn put_told(out: &mut Vec<u8>, reply: &Reply) -> Result<(), AllocError>
-    ensures ok { OnOk result (out.new.items ≡ out.old.items ++ reply_spelling (WireReply.Told reply.now)) }
-    ensures front { take (length out.old.items) out.new.items ≡ out.old.items }
-{
-    match reply {
-        Reply::Absent => put_code(out, 1),
-        Reply::Found(row) => put_found(out, row),
-        Reply::New => put_code(out, 3),
-        Reply::Replaced => put_code(out, 4),
-        Reply::Removed => put_code(out, 5),
-        Reply::Pairs(pairs) => put_pairs(out, pairs.as_slice()),
-        Reply::Full => put_code(out, 8),
-        Reply::NoMemory => put_code(out, 9),
-    }
-}
-
-// The frame of a reply, or a beginning of it.
-fn put_reply(out: &mut Vec<u8>, reply: &WireReply) -> Result<(), AllocError>
-    ensures ok { OnOk result (out.new.items ≡ out.old.items ++ reply_spelling reply.now) }
-    ensures front { take (length out.old.items) out.new.items ≡ out.old.items }
-{
-    match reply {
-        WireReply::Opened => put_code(out, 0),
-        WireReply::Told(reply) => put_told(out, reply),
-        WireReply::Settled(number) => put_settled(out, *number),
-        WireReply::Refused(number) => put_code(out, 128 + number.get()),
     }
 }
 
