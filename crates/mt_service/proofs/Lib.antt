@@ -1,4 +1,5 @@
 pub mod AccountLemmas
 pub mod LineLemmas
 pub mod Pushes
+pub mod ShareLemmas
 pub mod TenantNumbers

@@ -38,3 +38,9 @@ pub cause_of : (before mid after : Option ℕ) (e : ServerFault) → NoFewer bef
 cause_of before mid after Memory none h = tt
 cause_of before mid after (Output error) none h = then-Failed before mid after none h
 cause_of before mid after e none h = absurd h
+
+-- and why the first one isn't
+pub cause_at : (before after : Option ℕ) (e : ServerFault) → IsOfWriting (Failed before after) e → HasCause (Failed before after) e
+cause_at before after Memory h = tt
+cause_at before after (Output error) h = h
+cause_at before after e h = absurd h

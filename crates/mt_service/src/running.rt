@@ -16,6 +16,7 @@ use mt_book::{Book, Pass, gather, open_pass};
 use mt_crew::{Crew, CrewFault, Served, others_of, run_crew};
 use mt_disk::Disk;
 use mt_options::{Options, TenantQuota};
+use mt_session::SessionBuffers;
 use mt_slots::StoreSlots;
 use mt_store_logs::StoreLog;
 use mt_stored::{Checks, Keeper, SharedLogs, Store, locked_logs, unlocked_logs};
@@ -223,7 +224,7 @@ fn number_at(logs: usize, place: u8) -> u8
     if logs == 0 { 0 } else { place }
 }
 
-// The worker at a place, with a pass, and with a log of its own, where logs are kept.
+// The worker at a place, with buffers and a pass, and with a log of its own, if logs are kept.
 fn worker_at<'a, L: Ledger, R: Wait + Clock, D: Disk + Drop>(
     rt: &'a R,
     alloc: Global,
@@ -238,13 +239,19 @@ fn worker_at<'a, L: Ledger, R: Wait + Clock, D: Disk + Drop>(
     ensures checks { IfOk result (λ one. one.caller.checks.now ≡ checks.now) }
     ensures fault { IfErr result IsOfServing }
 {
+    // They are taken before the first connection: at a limit of memory a session would find none.
+    let buffers = SessionBuffers::new(alloc)?;
     let number = number_at(logs.len(), place);
     let Some(pass) = open_pass(rt, book, number) else {
         return Err(ServerFault::Passes);
     };
     let keeper = Keeper::new(alloc, SharedLogs::new(book, logs), number);
     let caller = DeskCaller::new(rt, alloc, book, pass, keeper, checks, tenants);
-    Ok(SessionWorker { rt, caller })
+    Ok(SessionWorker {
+        rt,
+        caller,
+        buffers,
+    })
 }
 
 // So many workers as the options say, each with a pass, and with a log of its own, if logs are kept: the one at each
@@ -308,7 +315,7 @@ fn passes_of<L: Ledger, R: Wait + Clock + Log, D: Disk + Drop>(
 {
     let mut passes = Vec::new(alloc);
     for one in served {
-        passes.push(one.worker.caller.into_pass())?;
+        passes.push(one.worker.into_pass())?;
     }
     Ok(passes)
 }

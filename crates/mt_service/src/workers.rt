@@ -1,12 +1,14 @@
-//! A worker of the crew: it serves a stream's session with the pass that its caller holds.
+//! A worker of the crew: it serves a stream's session with the pass that its caller holds, and with buffers of its own.
+
+ghost use Rattle.std.specs.Prelude.{◌≡◌};
 
 use crate::callers::DeskCaller;
 use crate::connections::{linger, set_up};
 use log::Log;
-use mt_book::Book;
+use mt_book::{Book, Pass};
 use mt_crew::Worker;
 use mt_disk::Disk;
-use mt_session::{Ended, serve};
+use mt_session::{Ended, SessionBuffers, serve_with};
 use mt_stored::SharedLogs;
 use std::alloc::Global;
 use std::net::TcpStream;
@@ -14,12 +16,22 @@ use std::sync::ledger::Ledger;
 use std::sync::{Mutex, Wait};
 use std::time::Clock;
 
-/// A worker with a caller of its own, which it lends to one session after the other. A session asks it
-/// for nothing before its own Open was answered.
+/// A worker with a caller and buffers of its own, which it lends to one session after the other. A session
+/// asks the caller for nothing before its own Open was answered.
 #[derive(Drop)]
 pub struct SessionWorker<'a, L: Ledger, R: Wait + Clock, D: Disk + Drop> {
     pub rt: &'a R,
     pub caller: DeskCaller<'a, L, R, &'a Mutex<Book<L>>, SharedLogs<'a, L, D>, D>,
+    pub buffers: SessionBuffers,
+}
+
+impl<L: Ledger, R: Wait + Clock, D: Disk + Drop> SessionWorker<'_, L, R, D> {
+    /// The pass that its caller held.
+    pub fn into_pass(self) -> Pass<L>
+        ensures { result ≡ self.entry.caller.pass }
+    {
+        self.caller.into_pass()
+    }
 }
 
 impl<L: Ledger, R: Wait + Clock + Log, D: Disk + Drop> Worker for SessionWorker<'_, L, R, D> {
@@ -27,7 +39,13 @@ impl<L: Ledger, R: Wait + Clock + Log, D: Disk + Drop> Worker for SessionWorker<
         set_up(stream);
         let mut reader = stream;
         let mut writer = stream;
-        match serve(alloc, &mut reader, &mut writer, &mut self.caller) {
+        match serve_with(
+            alloc,
+            &mut self.buffers,
+            &mut reader,
+            &mut writer,
+            &mut self.caller,
+        ) {
             Ok(Ended::Closed) => true,
             Ok(Ended::Refused) => {
                 // What fails here fails a connection that is given up in any case.

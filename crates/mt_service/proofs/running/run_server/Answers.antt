@@ -1,5 +1,5 @@
-use Rattle.std.proofs.Common.{◌≡◌, Err, rules}
-use Rattle.mt_service.proofs.LineLemmas.{on_any, says_nothing, says_less, says_first, says_more, says_all, cause_of}
+use Rattle.std.proofs.{Common.{◌≡◌, ◌∙◌, Err, ap}, lemmas.Result.err_from_is_err_and}
+use Rattle.mt_service.proofs.LineLemmas.{on_any, says_nothing, says_less, says_first, says_more, says_all, cause_of, cause_at}
 use Rattle.mt_service.proofs.running.run_server.Goals as goal
 
 pub returns-in-Err-clause-err : goal.returns-in-Err-clause-err
@@ -7,6 +7,12 @@ returns-in-Err-clause-err g c = says_nothing (g.W.Sink.contents c.args.out.now) 
 
 pub returns-in_err-say_first-clause-err : goal.returns-in_err-say_first-clause-err
 returns-in_err-say_first-clause-err g c = on_any _ (says_less _ _ _ _ c.in_err-say_first.ensures.err)
+
+pub returns-in_err-say_first-clause-cause : goal.returns-in_err-say_first-clause-cause
+returns-in_err-say_first-clause-cause g c =
+    let p = err_from_is_err_and c.from_residual.result c.from_residual.ensures.1 in
+    let is : c.from_residual.result ≡ Err c.in_err-say_first.field-0.0 = p.1 ∙ ap Err p.2 in
+    rw is (cause_at _ _ _ c.in_err-say_first.ensures.cause)
 
 pub returns-in_err-answers-clause-err : goal.returns-in_err-answers-clause-err
 returns-in_err-answers-clause-err g c = on_any _ (says_first _ _ c.port-port.result _ c.in_ok-say_first.ensures.ok)
@@ -16,7 +22,8 @@ returns-in_err-say_last-clause-err g c = on_any _ (says_more _ _ _ c.port-port.r
 
 pub returns-in_err-say_last-clause-cause : goal.returns-in_err-say_last-clause-cause
 returns-in_err-say_last-clause-cause g c =
-    let is : c.from_residual-in_err-say_last.result ≡ Err c.in_err-say_last.field-0.0 = search rules in
+    let p = err_from_is_err_and c.from_residual-in_err-say_last.result c.from_residual-in_err-say_last.ensures.1 in
+    let is : c.from_residual-in_err-say_last.result ≡ Err c.in_err-say_last.field-0.0 = p.1 ∙ ap Err p.2 in
     rw is (cause_of _ _ _ _ c.in_ok-say_first.ensures.failures c.in_err-say_last.ensures.cause)
 
 pub returns-clause-ok : goal.returns-clause-ok
