@@ -1,6 +1,6 @@
 //! Worked sessions over plain maps, over a state and over a book: however their bytes are cut, whatever read or write fails, with
 //! interruptions, and with a client that waits for each reply. How many writes a session takes. Several sessions
-//! over one state.
+//! over one state, and over the same buffers.
 
 ghost use Rattle.mt_state.specs.Begins.{HaveNoPairs};
 
@@ -13,8 +13,9 @@ use crate::ways::{TestServer, Way, name_of, session, wrong_row};
 use log::Log;
 use mt_alone::{Alone, serve_alone, serve_tenants};
 use mt_rows::{PlainMap, Tenants};
-use mt_session::{Ended, PlainCaller, PlainTenant, ServeFault, serve};
+use mt_session::{Ended, PlainCaller, PlainTenant, ServeFault, SessionBuffers, serve, serve_with};
 use mt_streams::{Sink, Source};
+use mt_wire::{ReplyFront, decode_reply};
 use std::alloc::{AllocError, Global};
 use std::process::Abort;
 use std::sync::Wait;
@@ -121,7 +122,7 @@ fn each_reply_is_written_before_the_next_request_is_read(rt: HostRuntime) {
 const OPEN_7: [u8; 9] = [0, 0, 0, 5, 1, 0, 0, 0, 7];
 
 // A put and a thousand gets of a row, in one read: their replies have 58 bytes each, and are told by one
-// write; or 1,008, of which 66 pass 65,536 bytes, which are written before more is answered.
+// write; or 1,008, of which 66 don't fit into 65,536 bytes, which are written before more is answered.
 #[test]
 fn answers_are_written_together_up_to_a_mark(rt: HostRuntime) -> Result<(), Fail> {
     let alloc = rt.alloc();
@@ -138,6 +139,65 @@ fn answers_are_written_together_up_to_a_mark(rt: HostRuntime) -> Result<(), Fail
         assert_eq!(rt; writer.text.len(), 10 + 1_000 * (8 + size as usize));
     }
     Ok(())
+}
+
+// Sixty-four puts of rows of 1,024 bytes, and a scan of all: its reply of 65,926 bytes is longer than the
+// output, and is told whole.
+#[test]
+fn a_reply_longer_than_the_output_is_told_whole(rt: HostRuntime) -> Result<(), Fail> {
+    let alloc = rt.alloc();
+    let mut asked = Vec::from_slice(alloc, &OPEN_7)?;
+    for key in 0..64u8 {
+        let front = format!(in alloc; "03 0001 {key:02x} 01 00 0400")?;
+        let put = framed(alloc, front.as_str(), "76", 1_024).expect(&rt, "bytes");
+        asked.extend_from_slice(&put)?;
+    }
+    let scan = bytes_of(alloc, "00000006 05 00 0000 40 00").expect(&rt, "bytes");
+    asked.extend_from_slice(&scan)?;
+    let (writer, ended) = session(&Plain, alloc, &asked, [ALL, ALL, ALL, ALL]);
+    assert_eq!(rt; ended, "closed");
+    assert_eq!(rt; writer.text.len(), 5 * 65 + 65_926);
+    let (_, reply) = writer.text.as_slice().split_at(5 * 65);
+    assert!(rt; matches!(decode_reply(alloc, reply), Ok(ReplyFront::Whole(_, 65_926))));
+    Ok(())
+}
+
+// A session over these buffers, in which so many writes go well: what it told, and the name of its end.
+fn over(
+    rt: &impl Abort,
+    alloc: Global,
+    buffers: &mut SessionBuffers,
+    (asked, writes): (&str, usize),
+) -> (Vec<u8>, &'static str) {
+    let asked = bytes_of(alloc, asked).expect(rt, "bytes");
+    let mut caller = plain_tenants(alloc).expect(rt, "memory");
+    let (mut reader, mut writer) = streams(alloc, &asked, [ALL, ALL, ALL, writes]);
+    let ended = serve_with(alloc, buffers, &mut reader, &mut writer, &mut caller);
+    (writer.text, name_of(&ended))
+}
+
+// Sessions that leave half a frame in the input, a reply in the output, and what is no frame; behind each of
+// them one that opens a tenant and gets a key.
+#[test]
+fn a_session_finds_nothing_of_the_one_before_it(rt: HostRuntime) {
+    let alloc = rt.alloc();
+    let mut buffers = SessionBuffers::new(alloc).expect(&rt, "memory");
+    for (asked, writes, end) in [
+        ("00000005 01 00000007 00000005 02 0001", ALL, "cut"),
+        ("00000005 01 00000007", 0, "write"),
+        ("00000005 01 00000007 00000000 0001", ALL, "refused"),
+    ] {
+        assert_eq!(rt; over(&rt, alloc, &mut buffers, (asked, writes)).1, end);
+        let (told, ended) = over(
+            &rt,
+            alloc,
+            &mut buffers,
+            ("00000005 01 00000007 00000005 02 0001 6b 00", ALL),
+        );
+        let wanted = bytes_of(alloc, "00000001 00 00000001 01").expect(&rt, "bytes");
+        assert!(rt; told.as_slice() == wanted.as_slice());
+        assert_eq!(rt; ended, "closed");
+    }
 }
 
 // A frame, and so many times another one, as `many`; none as `bytes_of`.
