@@ -20,7 +20,7 @@ is_true false live = absurd (live refl)
 pub root_left : (xs : List NodeView) (i : ℕ) → i < length xs → AreNodes xs → AreRanged xs → (node_at xs i).low ≡ 0 → (node_at xs i).parent ≡ None → IsLeft xs i
 root_left xs i within nodes ranged low parentless = record {
   nobodys_next = λ k lt e. is_true _ (λ live.
-      let high = ap end_of (((nodes.pairs k i lt within).next e).meets) in
+      let high = ap end_of (((nodes.pairs k i lt within).next live e).meets) in
       let range = (ranged.each k lt).next (some_is _ i e) in
       omega (arith, high, range, low));
   nobodys_child = λ k a lt la e. is_true _ (λ live. ((nodes.pairs k i lt within).child a la e live).knows parentless);

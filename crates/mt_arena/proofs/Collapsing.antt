@@ -244,8 +244,8 @@ module _ (v : ArenaView) (room root child step op : ℕ) (sound : ArenaInvariant
     -- both nodes begin where they began
     begins_new : AllBegin new v.trees
     begins_new =
-        begins_set ys v.trees child y (omega (arith, lc, size_ys)) (subst (λ (n : NodeView). KeepsSeat n y) (sym at_child) (record { tree = refl; level = refl; low = refl }))
-        (begins_set xs v.trees root w lr (record { tree = refl; level = refl; low = refl }) sound.arena.forest.begins)
+        begins_set ys v.trees child y (omega (arith, lc, size_ys)) (subst (λ (n : NodeView). KeepsSeat n y) (sym at_child) (record { tree = refl; level = refl; low = refl; live = λ live. live }))
+        (begins_set xs v.trees root w lr (record { tree = refl; level = refl; low = refl; live = λ live. absurd (cc) }) sound.arena.forest.begins)
 
     forest_out : IsForest new ts
     forest_out =
@@ -345,7 +345,7 @@ module _ (v : ArenaView) (room root child step op : ℕ) (sound : ArenaInvariant
   no_follower settled k is =
       let was = follows_was xs new size each root k is in
       let high : p.high ≡ None = sym ((sound.arena.nodes.each root lr).reach.exact may.whole) ∙ was_root.reach in
-      let meets = ((sound.arena.nodes.pairs root k lr was.0).next (settled.previous k was.0 was.1 was.2)).meets in
+      let meets = ((sound.arena.nodes.pairs root k lr was.0).next may.live (settled.previous k was.0 was.1 was.2)).meets in
       absurd (let both = sym high ∙ meets in cc)
 
   no_child : IsSettled xs root p → (k : ℕ) → IsUnder new root k → ⊥

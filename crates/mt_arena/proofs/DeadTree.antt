@@ -121,7 +121,7 @@ module _ (xs : List NodeView) (trees : List Tree) (u r : ℕ) (forest : IsForest
     tree_there = λ k lk. omega (arith, tree_of_node k (omega (arith, lk, size)), trees_size);
     homes = λ k t lk lt. home_at k (omega (arith, lk, size)) t (omega (arith, lt, trees_size));
     begins = begins_trees new trees ts (λ k lk. same_prefix (node_at new k).tree)
-        (begins_set xs trees r (retired x) lr (record { tree = refl; level = refl; low = refl }) forest.begins);
+        (begins_set xs trees r (retired x) lr (record { tree = refl; level = refl; low = refl; live = λ live. absurd (cc) }) forest.begins);
     each = λ t lt. each_tree t (omega (arith, lt, trees_size));
     peers = λ a b la lb. record {
       one_live = λ differ one two e. (forest.peers a b (omega (arith, la, trees_size)) (omega (arith, lb, trees_size))).one_live differ

@@ -342,7 +342,7 @@ module _ (v : ArenaView) (room node i u step op : ℕ) (sound : ArenaInvariant v
   no_follower : IsSettled xs r x → (k : ℕ) → Follows new r k → ⊥
   no_follower settled k is =
       let was = follows_was xs new size each r k is in
-      let meets = ((nodes.pairs r k lr was.0).next (settled.previous k was.0 was.1 was.2)).meets in
+      let meets = ((nodes.pairs r k lr was.0).next root.live (settled.previous k was.0 was.1 was.2)).meets in
       absurd (let both = sym root.reach ∙ settled.reach ∙ meets in cc)
 
   no_child : IsSettled xs r x → (k : ℕ) → IsUnder new r k → ⊥

@@ -189,7 +189,7 @@ module _ (xs : List NodeView) (i j op : ℕ) (nodes : AreNodes xs) (f : AreRootH
 
   top_from : (k : ℕ) → k < length ws → IsPair (length ws) g k (node_at ws k)
   top_from k lt = record {
-    next = λ e. absurd (cc);
+    next = λ _ e. absurd (cc);
     named = λ _ _. names_none;
     child = λ a la is live. top_child k a la is;
     apart = λ differ tree level live also s hg hk. absurd (omega (arith, top_alone k (omega (arith, lt, size)) (sym tree) (sym level) also s hk, hg.1));
@@ -197,7 +197,7 @@ module _ (xs : List NodeView) (i j op : ℕ) (nodes : AreNodes xs) (f : AreRootH
 
   top_self : IsPair (length ws) g (length ws) g
   top_self = record {
-    next = λ e. absurd (cc);
+    next = λ _ e. absurd (cc);
     named = λ _ _. names_none;
     child = λ a la is live. absurd (beyond a la is);
     apart = λ differ. absurd (differ refl);
@@ -215,7 +215,7 @@ module _ (xs : List NodeView) (i j op : ℕ) (nodes : AreNodes xs) (f : AreRootH
       → (m.tree ≡ l.tree → m.level ≡ l.level + 1 → m.version.deleted ≡ false → (s : ℕ) → Holds m s → 18446744073709551616 ≤ s)
       → IsPair k m (length ws) g
   to_top k m h next previous children knows lonely = record {
-    next = λ e. absurd (omega (arith, next (length ws) e, size));
+    next = λ _ e. absurd (omega (arith, next (length ws) e, size));
     named = λ _ _. record {
       back = λ e. absurd (omega (arith, previous (length ws) e, size));
       live = λ e. absurd (omega (arith, previous (length ws) e, size));

@@ -219,19 +219,19 @@ module _ (xs : List NodeView) (trees : List Tree) (i j op : ℕ) (f : AreRootHal
 
   -- the halves begin where they began
   begins_left : AllBegin (set xs i y) trees
-  begins_left = begins_set xs trees i y li (record { tree = refl; level = refl; low = refl }) forest.begins
+  begins_left = begins_set xs trees i y li (record { tree = refl; level = refl; low = refl; live = λ live. live }) forest.begins
 
   begins_halves : AllBegin ws trees
   begins_halves =
       let at_right = there xs i j y (λ e. f.differ (sym e)) in
-      let keeps = subst (λ (n : NodeView). KeepsSeat n z) (sym at_right) (record { tree = refl; level = refl; low = refl }) in
+      let keeps = subst (λ (n : NodeView). KeepsSeat n z) (sym at_right) (record { tree = refl; level = refl; low = refl; live = λ live. live }) in
       begins_set (set xs i y) trees j z (omega (arith, lj, length-set xs i y)) keeps begins_left
 
   pub forest_grown : IsForest vs ts
   forest_grown = record {
     tree_there = λ k lk. omega (arith, tree_of_node k lk, trees_size);
     homes = λ k u lk lu. home_at k lk u (omega (arith, lu, trees_size));
-    begins = begins_trees vs trees ts (λ k lk. same_prefix (node_at vs k).tree) (begins_push ws trees g (λ border over. absurd (omega (arith, over))) begins_halves);
+    begins = begins_trees vs trees ts (λ k lk. same_prefix (node_at vs k).tree) (begins_push ws trees g (λ _ border over. absurd (omega (arith, over))) begins_halves);
     each = λ u lu. each_tree u (omega (arith, lu, trees_size));
     peers = λ a b la lb. record {
       one_live = λ d live also e. (forest.peers a b (omega (arith, la, trees_size)) (omega (arith, lb, trees_size))).one_live d

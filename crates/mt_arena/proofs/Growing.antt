@@ -70,7 +70,7 @@ module _ (xs : List NodeView) (i low op : ℕ) (within : i < length xs) (held : 
           nodes = nodes_half ys x i low op (omega (arith, within, size_y)) (rw at_m (is_held op x held)) level marked.arena.nodes;
           ranged = ranged_half xs i low op within marked.arena.nodes sound.arena.ranged live level range held;
           forest =
-              forest_push ys trees half forest there_is ((sound.arena.forest.homes i x.tree within there_is).standing refl live) refl (no_keys (tree_at trees x.tree).prefix [] refl) (λ border over. begins);
+              forest_push ys trees half forest there_is ((sound.arena.forest.homes i x.tree within there_is).standing refl live) refl (no_keys (tree_at trees x.tree).prefix [] refl) (λ _ border over. begins);
           layers = layers_push ys trees half refl marked.arena.layers;
         };
         retired = retired_push ys gone half marked.retired refl;

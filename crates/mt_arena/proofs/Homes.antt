@@ -50,7 +50,7 @@ forest_set xs trees i y within forest keeps keys =
             (λ e. subst (λ u. HaveKeys (tree_at trees u).prefix y.slots) (keeps.tree ∙ e) keys) (forest.homes i t within lt_t))
         | inr other ↦ rw (there xs i k y other) (forest.homes k t (omega (arith, lt, size)) lt_t)
       ];
-      begins = begins_set xs trees i y within (record { tree = keeps.tree; level = keeps.level; low = keeps.low }) forest.begins;
+      begins = begins_set xs trees i y within (record { tree = keeps.tree; level = keeps.level; low = keeps.low; live = λ live. sym keeps.deleted ∙ live }) forest.begins;
       each = λ t lt. tree_more (length xs) (length (set xs i y)) (tree_at trees t) (omega (arith, size)) (forest.each t lt);
       peers = forest.peers;
       top = forest.top;

@@ -197,7 +197,7 @@ module _ (ws : List NodeView) (i h k : ℕ) (p : NodeView) (separators children 
   -- the left half beside any node
   left_from : (m : ℕ) (n : NodeView) → IsPair i w m n → IsPair i y m n
   left_from m n g = record {
-    next = λ e. absurd (let none = f.next in cc);
+    next = λ _ e. absurd (let none = f.next in cc);
     named = g.named;
     child = λ b lt e _. left_child m n g b lt e;
     apart = λ d tree level one also s hy hn. g.apart d tree level one also s (hy.0, omega (arith, hy.1, middle_high)) hn;
@@ -214,7 +214,7 @@ module _ (ws : List NodeView) (i h k : ℕ) (p : NodeView) (separators children 
   -- the right half beside any node but the left one
   right_from : (m : ℕ) (n : NodeView) → m ≢ i → IsPair i w m n → IsPair h t m n → IsPair h u m n
   right_from m n ni g e = record {
-    next = λ is. absurd (let none = f.right_next in cc);
+    next = λ _ is. absurd (let none = f.right_next in cc);
     named = e.named;
     child = λ b lt is _. right_child m n g b lt is;
     apart =
@@ -236,7 +236,7 @@ module _ (ws : List NodeView) (i h k : ℕ) (p : NodeView) (separators children 
 
   right_self : IsPair h u h u
   right_self = record {
-    next = λ is. absurd (let none = f.right_next in cc);
+    next = λ _ is. absurd (let none = f.right_next in cc);
     named = λ _ free. absurd (f.right_held free);
     child = λ b lt is _. absurd (wide_child (suc k + b) (omega (arith, lt, right_count)) (sym (get_or-drop (suc k) children b 0) ∙ is));
     apart = λ d. absurd (d refl);
@@ -244,7 +244,7 @@ module _ (ws : List NodeView) (i h k : ℕ) (p : NodeView) (separators children 
 
   left_right : IsPair i y h u
   left_right = record {
-    next = λ is. absurd (let none = f.next in cc);
+    next = λ _ is. absurd (let none = f.next in cc);
     named = λ _ free. absurd (f.right_held free);
     child = λ b lt is _.
         let small : b < suc k = omega (arith, lt, left_count) in
@@ -254,7 +254,7 @@ module _ (ws : List NodeView) (i h k : ℕ) (p : NodeView) (separators children 
 
   right_left : IsPair h u i y
   right_left = record {
-    next = λ is. absurd (let none = f.right_next in cc);
+    next = λ _ is. absurd (let none = f.right_next in cc);
     named = λ _ free. absurd (held free);
     child = λ b lt is _. absurd (own_child (suc k + b) (omega (arith, lt, right_count)) (sym (get_or-drop (suc k) children b 0) ∙ is));
     apart = λ d tree level _ _ s hu hy. absurd (omega (arith, hy.1, hu.0, f.right_low));

@@ -88,7 +88,7 @@ module _ (xs : List NodeView) (i j : ℕ) (kept moved : List Entry) (kept_cells 
   -- the left half and any node but the right half
   left_from : (k : ℕ) (m : NodeView) → k ≢ j → IsPair i x k m → IsPair i y k m
   left_from k m other p = record {
-    next = λ e. absurd (other (sym (same_Some _ _ e)));
+    next = λ _ e. absurd (other (sym (same_Some _ _ e)));
     named = p.named;
     child = λ a lt. absurd (no_child a lt);
     apart = λ d t l live also s hy hm. p.apart d t l live also s (hy.0, omega (arith, hy.1, splits.below)) hm;
@@ -105,8 +105,8 @@ module _ (xs : List NodeView) (i j : ℕ) (kept moved : List Entry) (kept_cells 
   -- the right half and any node but the left half
   right_from : (k : ℕ) (m : NodeView) → k ≢ i → IsPair i x k m → IsPair j r k m → IsPair j z k m
   right_from k m other p q = record {
-    next = λ e.
-        let s = p.next e in
+    next = λ _ e.
+        let s = p.next splits.live e in
         record { meets = s.meets; tree = s.tree ∙ sym splits.right_tree; level = s.level ∙ sym splits.right_level; live = λ _. s.live splits.live };
     named = λ live free. record {
       back = λ e. absurd (other (sym (same_Some _ _ e)));
@@ -131,7 +131,7 @@ module _ (xs : List NodeView) (i j : ℕ) (kept moved : List Entry) (kept_cells 
   -- the halves
   left_right : IsPair i y j z
   left_right = record {
-    next = λ e. record { meets = refl; tree = splits.right_tree; level = splits.right_level; live = λ live. splits.right_live };
+    next = λ _ e. record { meets = refl; tree = splits.right_tree; level = splits.right_level; live = λ live. splits.right_live };
     named = λ _ free. absurd (splits.right_held free);
     child = λ a lt. absurd (no_child a lt);
     apart = λ d t l live also s hy hz. absurd (omega (arith, hy.1, hz.0));
@@ -139,7 +139,7 @@ module _ (xs : List NodeView) (i j : ℕ) (kept moved : List Entry) (kept_cells 
 
   right_left : IsPair i x i x → IsPair j z i y
   right_left p = record {
-    next = λ e. record { meets = (p.next e).meets; tree = sym splits.right_tree; level = sym splits.right_level; live = λ _. splits.live };
+    next = λ _ e. record { meets = (p.next splits.live e).meets; tree = sym splits.right_tree; level = sym splits.right_level; live = λ _. splits.live };
     named = λ _ free. absurd (splits.held free);
     child = λ a lt. absurd (no_right_child a lt);
     apart = λ d t l live also s hz hy. absurd (omega (arith, hy.1, hz.0));
@@ -147,7 +147,7 @@ module _ (xs : List NodeView) (i j : ℕ) (kept moved : List Entry) (kept_cells 
 
   right_right : IsPair i x j r → IsPair j z j z
   right_right p = record {
-    next = λ e. record { meets = (p.next e).meets; tree = refl; level = refl; live = λ live. live };
+    next = λ _ e. record { meets = (p.next splits.live e).meets; tree = refl; level = refl; live = λ live. live };
     named = λ _ free. absurd (splits.right_held free);
     child = λ a lt. absurd (no_right_child a lt);
     apart = λ d. absurd (d refl);

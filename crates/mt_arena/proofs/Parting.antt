@@ -187,7 +187,7 @@ module _ (v : ArenaView) (room more parent left right op : ℕ) (sound : ArenaIn
             home = record { tree = refl; level = refl; low = refl; deleted = refl; flag = refl; root = λ h. record { live = h.live; flag = h.flag; parentless = h.parentless; low = h.low; reach = h.reach } };
             keys = keys_of v.nodes v.trees parent li forest;
           }) (exact_place v.nodes parent left right sound.arena.nodes may.inserts v.trees forest))
-              there_is ((forest.homes parent x.tree li there_is).standing refl may.inserts.parent_live) refl (no_keys (tree_at v.trees x.tree).prefix u.slots refl) (λ border over. absurd (omega (arith, border, may.inserts.right_level)));
+              there_is ((forest.homes parent x.tree li there_is).standing refl may.inserts.parent_live) refl (no_keys (tree_at v.trees x.tree).prefix u.slots refl) (λ _ border over. absurd (omega (arith, border, may.inserts.right_level)));
           layers = layers_push halves v.trees u refl (kept.layers sound.arena.layers);
         };
         retired = retired_push halves v.retired u (kept.retired sound.retired) refl;

@@ -36,7 +36,7 @@ bare_node count border tree level low op kind = record {
 -- beside a node that it does not name
 bare_from : (k : ℕ) (border : Bool) (tree level low op j : ℕ) (m : NodeView) → IsPair k (bare border tree level low op) j m
 bare_from k border tree level low op j m = record {
-  next = λ e. absurd (cc);
+  next = λ _ e. absurd (cc);
   named = λ _ _. names_none;
   child = λ i lt. absurd (omega arith);
   apart = λ differ tree level live also s holds _. absurd (omega (arith, holds.0, holds.1));
@@ -44,7 +44,7 @@ bare_from k border tree level low op j m = record {
 
 bare_to : (count k : ℕ) (m : NodeView) (border : Bool) (tree level low op : ℕ) → IsNode count m → IsPair k m count (bare border tree level low op)
 bare_to count k m border tree level low op h = record {
-  next = λ e. absurd (omega (arith, h.names.next count e));
+  next = λ _ e. absurd (omega (arith, h.names.next count e));
   named = λ _ _. record {
     back = λ e. absurd (omega (arith, h.names.previous count e));
     live = λ e. absurd (omega (arith, h.names.previous count e));
@@ -109,7 +109,7 @@ root_node count tree = record {
 
 root_from : (k tree j : ℕ) (m : NodeView) → (k ≢ j → m.tree ≢ tree) → IsPair k (fresh_root tree) j m
 root_from k tree j m new = record {
-  next = λ e. absurd (cc);
+  next = λ _ e. absurd (cc);
   named = λ _ _. names_none;
   child = λ i lt. absurd (omega arith);
   apart = λ differ same. absurd (new differ (sym same));
@@ -117,7 +117,7 @@ root_from k tree j m new = record {
 
 root_to : (count k : ℕ) (m : NodeView) (tree : ℕ) → IsNode count m → m.tree ≢ tree → IsPair k m count (fresh_root tree)
 root_to count k m tree h new = record {
-  next = λ e. absurd (omega (arith, h.names.next count e));
+  next = λ _ e. absurd (omega (arith, h.names.next count e));
   named = λ _ _. record {
     back = λ e. absurd (omega (arith, h.names.previous count e));
     live = λ e. absurd (omega (arith, h.names.previous count e));

@@ -11,8 +11,8 @@ use Rattle.mt_arena.proofs.{Groups.held_lock, Pairs.are_set}
 turned_from : (k : ℕ) (n : NodeView) (j : ℕ) (m : NodeView) (slots : List Entry) (cells : Slotted) (version : Parts) (holder : Option ℕ) → IsPair k n j m
     → version.deleted ≡ n.version.deleted → IsPair k (turned n slots cells version holder) j m
 turned_from k n j m slots cells version holder h same = record {
-  next = λ e.
-      let s = h.next e in
+  next = λ live e.
+      let s = h.next (sym same ∙ live) e in
       record { meets = s.meets; tree = s.tree; level = s.level; live = λ live. s.live (sym same ∙ live) };
   named = λ live free. h.named (sym same ∙ live) free;
   child = λ i lt e live. h.child i lt e (sym same ∙ live);
@@ -28,8 +28,8 @@ was_free (Some q) new held free = absurd (held (λ e. absurd (cc)) free)
 turned_to : (k : ℕ) (n : NodeView) (j : ℕ) (m : NodeView) (slots : List Entry) (cells : Slotted) (version : Parts) (holder : Option ℕ) → IsPair k n j m
     → version.deleted ≡ m.version.deleted → (m.holder ≢ None → holder ≢ None) → IsPair k n j (turned m slots cells version holder)
 turned_to k n j m slots cells version holder h same held = record {
-  next = λ e.
-      let s = h.next e in
+  next = λ live e.
+      let s = h.next live e in
       record { meets = s.meets; tree = s.tree; level = s.level; live = λ live. same ∙ s.live live };
   named = λ live free.
       let s = h.named live (was_free m.holder holder held free) in

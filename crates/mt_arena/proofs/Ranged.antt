@@ -24,6 +24,7 @@ waits_held count n h ranged waits = h.lock.splitting (by n.version.splitting ref
 -- a node takes another one's place beside those that name it and that it names
 pub record Stays (x y : NodeView) : Type 0 where
   pub live : x.version.deleted ≡ false → y.version.deleted ≡ false
+  pub was : y.version.deleted ≡ false → x.version.deleted ≡ false
   pub range : HasRange x → HasRange y
   pub marked : x.version.splitting ≡ true → y.version.splitting ≡ true
   pub tree : y.tree ≡ x.tree
@@ -33,20 +34,20 @@ pub record Stays (x y : NodeView) : Type 0 where
 -- one that keeps its deleted mark, its splitting mark, its tree, its level and its holder
 pub stays : (x y : NodeView) → y.version.deleted ≡ x.version.deleted → y.version.splitting ≡ x.version.splitting → (HasRange x → HasRange y)
     → y.tree ≡ x.tree → y.level ≡ x.level → y.holder ≡ x.holder → Stays x y
-stays x y deleted splitting range tree level holder = record { live = λ live. deleted ∙ live; range = range; marked = λ marked. splitting ∙ marked; tree = tree; level = level; holder = holder }
+stays x y deleted splitting range tree level holder = record { live = λ live. deleted ∙ live; was = λ live. sym deleted ∙ live; range = range; marked = λ marked. splitting ∙ marked; tree = tree; level = level; holder = holder }
 
 left_stays : (x y n : NodeView) → Stays x y → IsLeftHalf x n → IsLeftHalf y n
 left_stays x y n s l = record { live = s.live l.live; range = s.range l.range; marked = s.marked l.marked; tree = s.tree ∙ l.tree; level = s.level ∙ l.level; holder = s.holder ∙ l.holder }
 
 -- the other node as the one that is named, and as the one that names
 pub tied_to : (k : ℕ) (n : NodeView) (j : ℕ) (x y : NodeView) → Stays x y → AreTied k n j x → AreTied k n j y
-tied_to k n j x y s h = record { next = λ e. s.range (h.next e); left = λ e waits. left_stays x y n s (h.left e waits) }
+tied_to k n j x y s h = record { next = λ live e. s.range (h.next live e); left = λ e waits. left_stays x y n s (h.left e waits) }
 
 -- what ties a node to those that it names stays where the node changes little
 pub tied_from : (k : ℕ) (x y : NodeView) (j : ℕ) (m : NodeView) → Stays x y → y.next ≡ x.next → (Waits y → Waits x × (y.previous ≡ x.previous))
     → AreTied k x j m → AreTied k y j m
 tied_from k x y j m s next was h = record {
-  next = λ e. h.next (sym next ∙ e);
+  next = λ live e. h.next (s.was live) (sym next ∙ e);
   left = λ e waits.
       let old = was waits in
       let l = h.left (sym old.1 ∙ e) old.0 in
@@ -54,7 +55,7 @@ tied_from k x y j m s next was h = record {
 }
 
 -- a node with a range is tied to its next one alone
-pub ranged_from : (k : ℕ) (y : NodeView) (j : ℕ) (m : NodeView) → HasRange y → (y.next ≡ Some j → HasRange m) → AreTied k y j m
+pub ranged_from : (k : ℕ) (y : NodeView) (j : ℕ) (m : NodeView) → HasRange y → (y.version.deleted ≡ false → y.next ≡ Some j → HasRange m) → AreTied k y j m
 ranged_from k y j m range next = record { next = next; left = λ e waits. absurd (no_wait y range waits) }
 
 -- a node changes, and keeps its place beside the others
@@ -85,7 +86,7 @@ ranged_marked xs i slots cells version within ranged same kept marked =
       interior = λ above live. h.interior above (sym same ∙ live);
       named = λ waits. h.named (sym same ∙ waits.0, waits.1);
       fits = h.fits;
-    } record { live = λ live. same ∙ live; range = λ range. range; marked = kept; tree = refl; level = refl; holder = refl } refl (λ waits. ((sym same ∙ waits.0, waits.1), refl))
+    } record { live = λ live. same ∙ live; was = λ live. sym same ∙ live; range = λ range. range; marked = kept; tree = refl; level = refl; holder = refl } refl (λ waits. ((sym same ∙ waits.0, waits.1), refl))
 
 -- a lock is taken: nobody waits at a node that nobody holds
 pub ranged_locked : (xs : List NodeView) (i op : ℕ) → i < length xs → AreNodes xs → AreRanged xs → (node_at xs i).holder ≡ None
@@ -119,7 +120,7 @@ ranged_unlocked xs i within ranged settled range =
     let none : Waits x → ⊥ = λ waits. no_wait x (range waits.0) waits in
     let to : (k : ℕ) → k < length xs → AreTied k (node_at xs k) i y = λ k lk. record {
       next = (ranged.ties k i lk within).next;
-      left = λ e waits. absurd (no_wait (node_at xs k) ((ranged.ties i k within lk).next (settled.previous k lk e waits.0)) waits);
+      left = λ e waits. absurd (no_wait (node_at xs k) ((ranged.ties i k within lk).next (settled.previous_live k lk e waits.0) (settled.previous k lk e waits.0)) waits);
     } in
     record {
       each =
@@ -141,8 +142,8 @@ ranged_retired xs i within ranged unawaited =
       each =
           nodes_set IsRanged xs i y within ranged.each record { next = h.next; parent = h.parent; unmarked = λ whole live. absurd (cc); interior = λ above live. absurd (cc); named = λ waits. absurd (let dead = waits.0 in cc); fits = h.fits };
       ties = pairs_set AreTied xs i y within ranged.ties
-          record { next = (ranged.ties i i within within).next; left = λ e waits. absurd (let dead = waits.0 in cc) }
-          (λ j lt _. record { next = (ranged.ties i j within lt).next; left = λ e waits. absurd (let dead = waits.0 in cc) })
+          record { next = λ live. absurd (cc); left = λ e waits. absurd (let dead = waits.0 in cc) }
+          (λ j lt _. record { next = λ live. absurd (cc); left = λ e waits. absurd (let dead = waits.0 in cc) })
           (λ j lt _. record { next = (ranged.ties j i lt within).next; left = λ e waits. absurd (unawaited j lt e waits) });
     }
 
@@ -155,7 +156,7 @@ ranged_pointed xs i previous parent within ranged range tied =
     let h = ranged.each i within in
     ranged_set xs i (pointed x previous parent) within ranged
     record { next = h.next; parent = range; unmarked = h.unmarked; interior = h.interior; named = λ waits none. h.named waits (sym (tied waits) ∙ none); fits = h.fits }
-    record { live = λ live. live; range = λ range. range; marked = λ marked. marked; tree = refl; level = refl; holder = refl } refl (λ waits. (waits, tied waits))
+    record { live = λ live. live; was = λ live. live; range = λ range. range; marked = λ marked. marked; tree = refl; level = refl; holder = refl } refl (λ waits. (waits, tied waits))
 
 -- the node does not name number c as its next one or as the one before
 abbrev pub IsBeside : ℕ → NodeView → Type 0
@@ -173,9 +174,9 @@ pub ranged_push : (xs : List NodeView) (y : NodeView) → ((j : ℕ) → j < len
 ranged_push xs y beside ranged one none self left = record {
   each = nodes_push IsRanged xs y ranged.each one;
   ties = pairs_push AreTied xs y ranged.ties
-      record { next = λ e. absurd (let no = none in cc); left = self }
-      (λ j lt. record { next = λ e. absurd (let no = none in cc); left = left j lt })
-      (λ j lt. record { next = λ e. absurd ((beside j lt).0 e); left = λ e. absurd ((beside j lt).1 e) });
+      record { next = λ _ e. absurd (let no = none in cc); left = self }
+      (λ j lt. record { next = λ _ e. absurd (let no = none in cc); left = left j lt })
+      (λ j lt. record { next = λ _ e. absurd ((beside j lt).0 e); left = λ e. absurd ((beside j lt).1 e) });
 }
 
 -- what holds of a node with a range

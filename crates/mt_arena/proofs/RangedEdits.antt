@@ -1,7 +1,7 @@
 -- Nodes keep their ranges where several change at once, in splits, under a new root, and where a node is taken out: for the calls that do
 -- so.
 use Rattle.mt_border.specs.Slots.{Slotted}
-use Rattle.std.proofs.Common.{◌≡◌, ◌≢◌, false, ℕ, ◌<◌, List, [], ◌∷◌, ◌++◌, length, Some, None, set, refl, sym, ap, subst, ◌∙◌, arith}
+use Rattle.std.proofs.Common.{◌≡◌, ◌-◌, ◌≢◌, false, ℕ, ◌<◌, List, [], ◌∷◌, ◌++◌, length, Some, None, set, refl, sym, ap, subst, ◌∙◌, arith}
 use Rattle.std.proofs.{lemmas.Option.same_Some, lemmas.List.length-set}
 use Rattle.mt_border.specs.declared.entry.Entry.{Entry}
 use Rattle.mt_interior.specs.Fences.{end_of}
@@ -43,13 +43,13 @@ ranged_split_move xs i j kept moved kept_cells moved_cells li lj differ ranged s
       each =
           nodes_set IsRanged (set xs i y) j z (omega (arith, lj, length-set xs i y)) (nodes_set IsRanged xs i y li ranged.each (with_range y s.above (omega (arith, s.below, fits)))) (with_range z s.below fits);
       ties = pairs_set2 AreTied xs i j y z li lj differ ranged.ties
-          (ranged_from i y i y s.above (λ e. s.above))
-          (ranged_from j z j z s.below (λ e. s.below))
-          (ranged_from i y j z s.above (λ e. s.below))
-          (ranged_from j z i y s.below (λ e. s.above))
+          (ranged_from i y i y s.above (λ _ e. s.above))
+          (ranged_from j z j z s.below (λ _ e. s.below))
+          (ranged_from i y j z s.above (λ _ e. s.below))
+          (ranged_from j z i y s.below (λ _ e. s.above))
           (λ k lk ni nj. (
-            (ranged_from i y k (node_at xs k) s.above (λ e. absurd (nj (sym (same_Some _ _ e)))), to_y k lk),
-            (ranged_from j z k (node_at xs k) s.below (ranged.ties i k li lk).next, to_z k lk),
+            (ranged_from i y k (node_at xs k) s.above (λ _ e. absurd (nj (sym (same_Some _ _ e)))), to_y k lk),
+            (ranged_from j z k (node_at xs k) s.below (λ _ e. (ranged.ties i k li lk).next s.live e), to_z k lk),
           ));
     }
 
@@ -89,7 +89,7 @@ ranged_parts xs i j s q op li lj differ nodes ranged none left right =
     let fits = (ranged.each i li).fits (omega (arith, left, right)) in
     ranged_more ws (inner_right wide op)
     (λ k lk. subst (λ c. IsBeside c (node_at ws k)) (sym size) (each_set2 (λ k n. IsBeside (length xs) n) xs i j y z li lj differ (all_beside xs nodes i li) (all_beside xs nodes j lj) (λ k lk _ _. all_beside xs nodes k lk) k (omega (arith, lk, size))))
-    (exact_beside xs i j y differ lj (ranged_set xs i y li ranged (with_range y left (omega (arith, right, fits))) (record { live = λ live. live; range = λ _. left; marked = λ _. refl; tree = refl; level = refl; holder = refl }) refl (λ waits. absurd (no_wait y left waits))))
+    (exact_beside xs i j y differ lj (ranged_set xs i y li ranged (with_range y left (omega (arith, right, fits))) (record { live = λ live. live; was = λ live. live; range = λ _. left; marked = λ _. refl; tree = refl; level = refl; holder = refl }) refl (λ waits. absurd (no_wait y left waits))))
     right fits refl
 
 -- the halves of a root have one each, and the new root has the whole one
@@ -126,9 +126,10 @@ ranged_unlinked xs i j q a nodes ranged f =
     let w = retired x in
     let v = without_child p a in
     let old = (nodes.pairs q j f.parent_there f.removed_there).child a f.in_range f.child f.parent_live in
+    let left_old = (nodes.pairs q i f.parent_there f.left_there).child (a - 1) (omega (arith, f.in_range)) f.left_child f.parent_live in
     let some : l.next ≢ None = λ none. absurd (let next = f.next in cc) in
     let behind : HasRange x = (ranged.each j f.removed_there).parent old.knows in
-    let range : HasRange y = omega (arith, (ranged.each i f.left_there).next some, behind, ap end_of (((nodes.pairs i j f.left_there f.removed_there).next f.next).meets)) in
+    let range : HasRange y = omega (arith, (ranged.each i f.left_there).next some, behind, ap end_of (((nodes.pairs i j f.left_there f.removed_there).next left_old.live f.next).meets)) in
     let fits = (ranged.each j f.removed_there).fits behind in
     let size = length-set xs i y in
     let size2 = length-set (set xs i y) j w in
@@ -146,8 +147,8 @@ ranged_unlinked xs i j q a nodes ranged f =
       left =
           λ e waits. let t = h.left e waits in record { live = t.live; range = t.range; marked = t.marked; tree = t.tree; level = t.level; holder = t.holder };
     } in
-    let from_y : (k : ℕ) (m : NodeView) → (y.next ≡ Some k → HasRange m) → AreTied i y k m = λ k m next. ranged_from i y k m range next in
-    let from_w : (k : ℕ) (m : NodeView) → (x.next ≡ Some k → HasRange m) → AreTied j w k m = λ k m next. record { next = next; left = λ e waits. absurd (gone waits) } in
+    let from_y : (k : ℕ) (m : NodeView) → (y.next ≡ Some k → HasRange m) → AreTied i y k m = λ k m next. ranged_from i y k m range (λ _ e. next e) in
+    let from_w : (k : ℕ) (m : NodeView) → AreTied j w k m = λ k m. record { next = λ live. absurd (cc); left = λ e waits. absurd (gone waits) } in
     record {
       each = nodes_set IsRanged (set (set xs i y) j w) q v (omega (arith, f.parent_there, size, size2))
           (nodes_set IsRanged (set xs i y) j w (omega (arith, f.removed_there, size))
@@ -155,13 +156,13 @@ ranged_unlinked xs i j q a nodes ranged f =
           (record { next = h.next; parent = h.parent; unmarked = λ whole live. absurd (cc); interior = λ above live. absurd (cc); named = λ waits. absurd (gone waits); fits = h.fits }))
           (record { next = g.next; parent = g.parent; unmarked = g.unmarked; interior = g.interior; named = g.named; fits = g.fits });
       ties = pairs_set3 AreTied xs i j q y w v f.left_there f.removed_there f.parent_there ij iq jq ranged.ties
-          (from_y i y (λ _. range)) (from_w j w (λ _. behind)) (from_v q v (to_v q f.parent_there))
-          (from_y j w (λ _. behind), from_w i y (λ _. range))
-          (from_y q v (ranged.ties j q f.removed_there f.parent_there).next, from_v i y (to_y q f.parent_there))
-          (from_w q v (ranged.ties j q f.removed_there f.parent_there).next, from_v j w (to_w q f.parent_there))
+          (from_y i y (λ _. range)) (from_w j w) (from_v q v (to_v q f.parent_there))
+          (from_y j w (λ _. behind), from_w i y)
+          (from_y q v ((ranged.ties j q f.removed_there f.parent_there).next f.removed_live), from_v i y (to_y q f.parent_there))
+          (from_w q v, from_v j w (to_w q f.parent_there))
           (λ k lk ni nj nq. (
-            (from_y k (node_at xs k) (ranged.ties j k f.removed_there lk).next, to_y k lk),
-            (from_w k (node_at xs k) (ranged.ties j k f.removed_there lk).next, to_w k lk),
+            (from_y k (node_at xs k) ((ranged.ties j k f.removed_there lk).next f.removed_live), to_y k lk),
+            (from_w k (node_at xs k), to_w k lk),
             (from_v k (node_at xs k) (ranged.ties q k f.parent_there lk), to_v k lk),
           ));
     }

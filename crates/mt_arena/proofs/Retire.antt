@@ -11,7 +11,7 @@ pub record IsLeft (nodes : List NodeView) (i : ℕ) : Type 0 where
 -- the first node of a pair
 retired_from : (k : ℕ) (n : NodeView) (j : ℕ) (m : NodeView) → IsPair k n j m → IsPair k (retired n) j m
 retired_from k n j m h = record {
-  next = λ e. record { meets = (h.next e).meets; tree = (h.next e).tree; level = (h.next e).level; live = λ live. absurd (cc) };
+  next = λ live. absurd (cc);
   named = λ live. absurd (cc);
   child = λ i lt e live. absurd (cc);
   apart = λ differ tree level live. absurd (cc);
@@ -21,8 +21,7 @@ retired_from k n j m h = record {
 retired_to : (nodes : List NodeView) (k i : ℕ) (x : NodeView) → k < length nodes → x.holder ≢ None → IsLeft nodes i → IsPair k (node_at nodes k) i x
     → IsPair k (node_at nodes k) i (retired x)
 retired_to nodes k i x within held left h = record {
-  next =
-      λ e. record { meets = (h.next e).meets; tree = (h.next e).tree; level = (h.next e).level; live = λ live. absurd (let dead = left.nobodys_next k within e in cc) };
+  next = λ live e. absurd (let dead = left.nobodys_next k within e in cc);
   named = λ _ free. absurd (held free);
   child = λ a lt e live. absurd (let dead = left.nobodys_child k a within lt e in cc);
   apart = λ differ tree level live also. absurd (cc);

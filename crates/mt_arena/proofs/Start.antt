@@ -26,7 +26,7 @@ first_forest : IsForest first_nodes first_trees
 first_forest = record {
   tree_there = λ k lt. by k lt;
   homes = λ k t lt lt_t. first_home k t lt lt_t;
-  begins = begins_push [] first_trees (fresh_root 0) (λ border over. absurd (omega (arith, over))) (begins_none first_trees);
+  begins = begins_push [] first_trees (fresh_root 0) (λ _ border over. absurd (omega (arith, over))) (begins_none first_trees);
   each = λ t lt. at t lt;
   peers = λ t u lt lt_u. record { one_live = λ differ. absurd (differ (omega arith)) };
   top = record { there = omega arith; live = refl; prefix = refl };

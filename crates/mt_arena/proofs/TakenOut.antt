@@ -30,7 +30,7 @@ forest_retired xs trees i within forest no_root =
         })
         | inr other ↦ rw (there xs i k y other) (forest.homes k t (omega (arith, lt, size)) lt_t)
       ];
-      begins = begins_set xs trees i y within (record { tree = refl; level = refl; low = refl }) forest.begins;
+      begins = begins_set xs trees i y within (record { tree = refl; level = refl; low = refl; live = λ live. absurd (cc) }) forest.begins;
       each = λ t lt. let h = forest.each t lt in record { root_there = omega (arith, size, h.root_there); whole = h.whole };
       peers = forest.peers;
       top = forest.top;

@@ -75,7 +75,7 @@ forest_tree xs trees prefix op forest whole =
           | inr t_other ↦ rw (before xs y k (omega arith), before_tree trees u t (omega arith)) (forest.homes k t (omega arith) (omega arith))
         ]
       ];
-      begins = begins_push xs (trees ++ u ∷ []) y (λ border over. absurd (omega (arith, over)))
+      begins = begins_push xs (trees ++ u ∷ []) y (λ _ border over. absurd (omega (arith, over)))
           (begins_trees xs trees (trees ++ u ∷ []) (λ k lt. ap (λ (t : Tree). t.prefix) (before_tree trees u (node_at xs k).tree (forest.tree_there k lt))) forest.begins);
       each = λ t lt. elim (cases_eq t (length trees)) [
         | inl is ↦ rw (is, last_tree trees u) record { root_there = omega arith; whole = whole }

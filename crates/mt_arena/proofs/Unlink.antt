@@ -69,7 +69,7 @@ module _ (xs : List NodeView) (i j q a : ℕ) (nodes : AreNodes xs) (ranged : Ar
 
   -- where the two meet, and where they end
   meet : end_of l.high ≡ x.low
-  meet = ap end_of (((nodes.pairs i j li lj).next f.next).meets)
+  meet = ap end_of (((nodes.pairs i j li lj).next left_child.live f.next).meets)
 
   left_range : l.low < x.low
   left_range = omega (arith, meet, (ranged.each i li).parent left_child.knows)
@@ -95,15 +95,15 @@ module _ (xs : List NodeView) (i j q a : ℕ) (nodes : AreNodes xs) (ranged : Ar
   only_next k lk ni e live =
       let m = node_at xs k in
       let from = nodes.pairs k j lk lj in
-      let high : end_of m.high ≡ x.low = ap end_of ((from.next e).meets) in
+      let high : end_of m.high ≡ x.low = ap end_of ((from.next live e).meets) in
       let some : m.next ≢ None = λ none. absurd (cc) in
       let wide : m.low < x.low = omega (arith, high, (ranged.each k lk).next some) in
       let here = nodes.pairs i j li lj in
-      (nodes.pairs k i lk li).apart ni (sym ((from.next e).tree) ∙ (here.next f.next).tree) (sym ((from.next e).level) ∙ (here.next f.next).level) live left_child.live (x.low - 1)
+      (nodes.pairs k i lk li).apart ni (sym ((from.next live e).tree) ∙ (here.next left_child.live f.next).tree) (sym ((from.next live e).level) ∙ (here.next left_child.live f.next).level) live left_child.live (x.low - 1)
       (omega (arith, wide), omega (arith, wide, high)) (omega (arith, left_range), omega (arith, left_range, meet))
 
   not_own_next : x.next ≢ Some j
-  not_own_next e = omega (arith, range, ap end_of (((nodes.pairs j j lj lj).next e).meets))
+  not_own_next e = omega (arith, range, ap end_of (((nodes.pairs j j lj lj).next f.removed_live e).meets))
 
   only_child : (k b : ℕ) → k < length xs → k ≢ q → b < length (node_at xs k).children → get_or (node_at xs k).children b 0 ≡ j
       → (node_at xs k).version.deleted ≡ false → ⊥
@@ -261,12 +261,12 @@ module _ (xs : List NodeView) (i j q a : ℕ) (nodes : AreNodes xs) (ranged : Ar
   left_from : (k : ℕ) (m : NodeView) → k ≢ j → IsPair i l k m → IsPair j x k m → IsPair i y k m
   left_from k m nj g h = record {
     next =
-        λ e. record { meets = (h.next e).meets; tree = (h.next e).tree ∙ ((nodes.pairs i j li lj).next f.next).tree; level = (h.next e).level ∙ ((nodes.pairs i j li lj).next f.next).level; live = λ live. (h.next e).live f.removed_live };
+        λ _ e. record { meets = (h.next f.removed_live e).meets; tree = (h.next f.removed_live e).tree ∙ ((nodes.pairs i j li lj).next left_child.live f.next).tree; level = (h.next f.removed_live e).level ∙ ((nodes.pairs i j li lj).next left_child.live f.next).level; live = λ live. (h.next f.removed_live e).live f.removed_live };
     named = g.named;
     child = λ b lt. absurd (no_child b lt);
     apart = λ differ tree level live also s hy hm. elim (cases_lt s x.low) [
       | inl low ↦ g.apart differ tree level live also s (hy.0, omega (arith, low, meet)) hm
-      | inr high ↦ h.apart (λ e. nj (sym e)) (((nodes.pairs i j li lj).next f.next).tree ∙ tree) (((nodes.pairs i j li lj).next f.next).level ∙ level) f.removed_live also s (high, hy.1) hm
+      | inr high ↦ h.apart (λ e. nj (sym e)) (((nodes.pairs i j li lj).next left_child.live f.next).tree ∙ tree) (((nodes.pairs i j li lj).next left_child.live f.next).level ∙ level) f.removed_live also s (high, hy.1) hm
     ];
   }
 
@@ -278,14 +278,14 @@ module _ (xs : List NodeView) (i j q a : ℕ) (nodes : AreNodes xs) (ranged : Ar
     child = child;
     apart = λ differ tree level live also s hm hy. elim (cases_lt s x.low) [
       | inl low ↦ g.apart differ tree level live also s hm (hy.0, omega (arith, low, meet))
-      | inr high ↦ h.apart nj (tree ∙ sym (((nodes.pairs i j li lj).next f.next).tree)) (level ∙ sym (((nodes.pairs i j li lj).next f.next).level)) live f.removed_live s hm (high, hy.1)
+      | inr high ↦ h.apart nj (tree ∙ sym (((nodes.pairs i j li lj).next left_child.live f.next).tree)) (level ∙ sym (((nodes.pairs i j li lj).next left_child.live f.next).level)) live f.removed_live s hm (high, hy.1)
     ];
   }
 
   -- the removed node
   removed_from : (k : ℕ) (m : NodeView) → IsPair j x k m → IsPair j w k m
   removed_from k m h = record {
-    next = λ e. record { meets = (h.next e).meets; tree = (h.next e).tree; level = (h.next e).level; live = λ live. absurd (cc) };
+    next = λ live. absurd (cc);
     named = λ live. absurd (cc);
     child = λ b lt e live. absurd (cc);
     apart = λ differ tree level live. absurd (cc);
@@ -294,7 +294,7 @@ module _ (xs : List NodeView) (i j q a : ℕ) (nodes : AreNodes xs) (ranged : Ar
   removed_to : (k : ℕ) (m : NodeView) → IsPair k m j x → (m.next ≡ Some j → m.version.deleted ≡ false → ⊥)
       → ((b : ℕ) → b < length m.children → get_or m.children b 0 ≡ j → m.version.deleted ≡ false → ⊥) → IsPair k m j w
   removed_to k m h none childless = record {
-    next = λ e. record { meets = (h.next e).meets; tree = (h.next e).tree; level = (h.next e).level; live = λ live. absurd (none e live) };
+    next = λ live e. absurd (none e live);
     named = λ _ free. absurd (f.removed_held free);
     child = λ b lt e live. absurd (childless b lt e live);
     apart = λ differ tree level live also. absurd (cc);
@@ -346,7 +346,7 @@ module _ (xs : List NodeView) (i j q a : ℕ) (nodes : AreNodes xs) (ranged : Ar
       let h = nodes.pairs q j lq lj in
       record {
         next =
-            λ e. record { meets = (h.next e).meets; tree = (h.next e).tree; level = (h.next e).level; live = λ live. absurd (only_next q lq (λ e. differ_iq (sym e)) e live) };
+            λ live e. absurd (only_next q lq (λ e. differ_iq (sym e)) e live);
         named = λ _ free. absurd (f.removed_held free);
         child = λ b lt e live. absurd (removed_no_child b lt e);
         apart = λ differ tree level live also. absurd (cc);
@@ -356,7 +356,7 @@ module _ (xs : List NodeView) (i j q a : ℕ) (nodes : AreNodes xs) (ranged : Ar
   left_removed =
       let h = nodes.pairs j j lj lj in
       record {
-        next = λ e. absurd (not_own_next e);
+        next = λ _ e. absurd (not_own_next e);
         named = λ _ free. absurd (f.removed_held free);
         child = λ b lt. absurd (no_child b lt);
         apart = λ differ tree level live also. absurd (cc);
@@ -366,7 +366,7 @@ module _ (xs : List NodeView) (i j q a : ℕ) (nodes : AreNodes xs) (ranged : Ar
   removed_left =
       let h = nodes.pairs j i lj li in
       record {
-        next = λ e. record { meets = (h.next e).meets; tree = (h.next e).tree; level = (h.next e).level; live = λ live. absurd (cc) };
+        next = λ live. absurd (cc);
         named = λ live. absurd (cc);
         child = λ b lt e live. absurd (cc);
         apart = λ differ tree level live. absurd (cc);
@@ -376,7 +376,7 @@ module _ (xs : List NodeView) (i j q a : ℕ) (nodes : AreNodes xs) (ranged : Ar
   left_self =
       let h = nodes.pairs j i lj li in
       record {
-        next = λ e. record { meets = (h.next e).meets; tree = refl; level = refl; live = λ live. live };
+        next = λ _ e. record { meets = (h.next f.removed_live e).meets; tree = refl; level = refl; live = λ live. live };
         named = λ _ free. absurd (f.left_held free);
         child = λ b lt. absurd (no_child b lt);
         apart = λ differ. absurd (differ refl);
@@ -386,7 +386,7 @@ module _ (xs : List NodeView) (i j q a : ℕ) (nodes : AreNodes xs) (ranged : Ar
   removed_self =
       let h = nodes.pairs j j lj lj in
       record {
-        next = λ e. record { meets = (h.next e).meets; tree = (h.next e).tree; level = (h.next e).level; live = λ live. absurd (cc) };
+        next = λ live. absurd (cc);
         named = λ live. absurd (cc);
         child = λ b lt e live. absurd (cc);
         apart = λ differ. absurd (differ refl);

@@ -96,7 +96,7 @@ module _ (v : ArenaView) (room parent left node step op : ℕ) (sound : ArenaInv
   range = (ranged.each node lj).parent child.knows
 
   meet : end_of l.high ≡ x.low
-  meet = ap end_of ((nodes.pairs left node li lj).next may.next).meets
+  meet = ap end_of ((nodes.pairs left node li lj).next left_child.live may.next).meets
 
   left_range : HasRange l
   left_range = (ranged.each left li).parent left_child.knows

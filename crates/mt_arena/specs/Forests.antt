@@ -30,9 +30,9 @@ pub record HasSlice (prefix : Bytes) (slice : ℕ) : Type 0 where
 
 -- a border node of that tree begins at the slice of a stored key, unless it begins at 0
 abbrev pub BeginsAtKey : Bytes → NodeView → Type 0
-BeginsAtKey prefix n = n.level ≡ 0 → 0 < n.low → HasSlice prefix n.low
+BeginsAtKey prefix n = n.version.deleted ≡ false → n.level ≡ 0 → 0 < n.low → HasSlice prefix n.low
 
--- so does each border node in its own tree, also one that was taken out; proofs open it by `begins_at` of `proofs/Begins`
+-- so does each live border node in its own tree; proofs open it by `begins_at` of `proofs/Begins`
 unfoldable pub AllBegin : List NodeView → List Tree → Type 0
 AllBegin nodes trees = (k : ℕ) → k < length nodes → BeginsAtKey (tree_at trees (node_at nodes k).tree).prefix (node_at nodes k)
 

@@ -38,7 +38,7 @@ pub record Seat : Type 0 where
 abbrev pub seat_of : NodeView → Seat
 seat_of n = record { tree = n.tree; level = n.level; low = n.low; deleted = n.version.deleted }
 
--- the next node begins where this one ends; that of a live one is live
+-- the next node of a live one begins where that ends, and is live
 pub record IsNeighbour (high : Option ℕ) (n m : Seat) : Type 0 where
   pub meets : high ≡ Some m.low
   pub tree : m.tree ≡ n.tree
@@ -76,7 +76,7 @@ IsChild n i m = IsBelow n.tree n.level (slice_index (bounds n) i) (slice_index (
 
 -- what holds of nodes k and j, also where they are one
 pub record IsPair (k : ℕ) (n : NodeView) (j : ℕ) (m : NodeView) : Type 0 where
-  pub next : n.next ≡ Some j → IsNeighbour n.high (seat_of n) (seat_of m)
+  pub next : n.version.deleted ≡ false → n.next ≡ Some j → IsNeighbour n.high (seat_of n) (seat_of m)
   -- what nobody holds is no longer lagged behind
   pub named : n.version.deleted ≡ false → m.holder ≡ None → IsNamed k n.previous n.parent j m.version.deleted m.next m.children
   -- children never lag

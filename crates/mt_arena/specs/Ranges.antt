@@ -28,7 +28,7 @@ pub record IsLeftHalf (m n : NodeView) : Type 0 where
 
 -- what a node with a range is to those that name it: the next one, and the left half where it is named by one that waits
 pub record AreTied (k : ℕ) (n : NodeView) (j : ℕ) (m : NodeView) : Type 0 where
-  pub next : n.next ≡ Some j → HasRange m
+  pub next : n.version.deleted ≡ false → n.next ≡ Some j → HasRange m
   pub left : n.previous ≡ Some j → Waits n → IsLeftHalf m n
 
 pub record AreRanged (nodes : List NodeView) : Type 0 where

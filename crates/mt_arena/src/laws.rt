@@ -255,15 +255,14 @@ pub fn a_child_stands_where_it_begins()
         place_of (node_at nodes parent).separators (node_at nodes k).low ≡ place }
 {}
 
-/// Where a border node has a next one, it ends where that one begins, and that is the slice of a stored
-/// key of its tree. So is the high fence of a border node that has a range and such a fence. Both hold
-/// also of nodes that were taken out.
+/// If a live border node has a next one, it ends where that one begins, and that is the slice of a stored
+/// key of its tree. So is the high fence of a live border node that has a range and such a fence.
 pub fn a_next_node_begins_at_a_key()
     ensures next { (nodes : List NodeView) (trees : List Tree) (k x : ℕ) → IsArena nodes trees → k < length nodes →
-        (node_at nodes k).level ≡ 0 → (node_at nodes k).next ≡ Some x →
+        (node_at nodes k).version.deleted ≡ false → (node_at nodes k).level ≡ 0 → (node_at nodes k).next ≡ Some x →
         ((node_at nodes k).high ≡ Some (node_at nodes x).low) × HasSlice (tree_at trees (node_at nodes k).tree).prefix (node_at nodes x).low }
     ensures high { (nodes : List NodeView) (trees : List Tree) (k high : ℕ) → IsArena nodes trees → k < length nodes →
-        (node_at nodes k).level ≡ 0 → HasRange (node_at nodes k) → (node_at nodes k).high ≡ Some high →
+        (node_at nodes k).version.deleted ≡ false → (node_at nodes k).level ≡ 0 → HasRange (node_at nodes k) → (node_at nodes k).high ≡ Some high →
         HasSlice (tree_at trees (node_at nodes k).tree).prefix high }
 {}
 
