@@ -123,7 +123,7 @@ module _ (v : ArenaView) (arena : IsArena v.nodes v.trees) (height trees made : 
           let there = border.covers.remembered.there in
           let live : (at v k).version.deleted ≡ false = ap (λ (p : Parts). p.deleted) (sym now) ∙ border.covers.remembered.undeleted in
           let j_there = (arena.nodes.each k there).names.next j is_next in
-          (((arena.nodes.pairs k j there j_there).next) is_next).live live
+          ((arena.nodes.pairs k j there j_there).next live is_next).live live
       onward now stops.Tree ends = tt
       onward now stops.Tenant ends = tt
 

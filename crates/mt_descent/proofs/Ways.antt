@@ -168,11 +168,11 @@ next_now v k arena within border stable live =
     let node = arena.nodes.each k within in
     record {
       there = λ j is. node.names.next j is;
-      tree_is = λ j is. ((arena.nodes.pairs k j within (node.names.next j is)).next is).tree;
-      border = λ j is. ((arena.nodes.pairs k j within (node.names.next j is)).next is).level ∙ border;
+      tree_is = λ j is. ((arena.nodes.pairs k j within (node.names.next j is)).next live is).tree;
+      border = λ j is. ((arena.nodes.pairs k j within (node.names.next j is)).next live is).level ∙ border;
       after =
-          λ j is. omega (arith, (arena.ranged.each k within).unmarked stable.1 live, ap end_of (((arena.nodes.pairs k j within (node.names.next j is)).next is).meets));
-      meets = λ j is stands. omega (arith, ap end_of (((arena.nodes.pairs k j within (node.names.next j is)).next is).meets));
+          λ j is. omega (arith, (arena.ranged.each k within).unmarked stable.1 live, ap end_of (((arena.nodes.pairs k j within (node.names.next j is)).next live is).meets));
+      meets = λ j is stands. omega (arith, ap end_of (((arena.nodes.pairs k j within (node.names.next j is)).next live is).meets));
       last = λ none stands. omega (arith, ap end_of (node.chain.last border ((arena.ranged.each k within).unmarked stable.1 live) none));
     }
 

@@ -113,14 +113,14 @@ module _ (v : ArenaView) (op behind : ℕ) (s : Splits) (arena : IsArena v.nodes
   behind_there = (arena.nodes.each q right_there).names.next behind next
 
   neighbour : IsNeighbour (at v q).high (seat_of (at v q)) (seat_of (at v behind))
-  neighbour = (arena.nodes.pairs q behind right_there behind_there).next next
+  neighbour = (arena.nodes.pairs q behind right_there behind_there).next kept.splits.parted.right.live next
 
   -- it is a border node with a range, in a tree that nobody else is making
   pub behind_border : (at v behind).level ≡ 0
   behind_border = omega (arith, neighbour.level, kept.splits.parted.right.level_is, kept.one)
 
   pub behind_tied : Waits (at v behind) → (at v behind).previous ≡ Some q
-  behind_tied waits = let range = (arena.ranged.ties q behind right_there behind_there).next next in absurd (omega (arith, range, waits.1))
+  behind_tied waits = let range = (arena.ranged.ties q behind right_there behind_there).next kept.splits.parted.right.live next in absurd (omega (arith, range, waits.1))
 
   pub behind_open : IsOpen v behind op
   behind_open by making = kept.splits.parted.mine by (ap (λ t. (tree_at v.trees t).standing) (sym (neighbour.tree ∙ kept.splits.parted.tree)) ∙ making)

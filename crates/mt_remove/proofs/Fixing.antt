@@ -31,10 +31,10 @@ module _ (v : ArenaView) (op : ℕ) (key : Bytes) (w : Walk) (r : Removal) (aren
   behind_there = (arena.nodes.each l left_there).names.next b kept.next
 
   n : IsNeighbour (at v l).high (seat_of (at v l)) (seat_of (at v b))
-  n = (arena.nodes.pairs l b left_there behind_there).next kept.next
+  n = (arena.nodes.pairs l b left_there behind_there).next kept.live kept.next
 
   range : HasRange (at v b)
-  range = (arena.ranged.ties l b left_there behind_there).next kept.next
+  range = (arena.ranged.ties l b left_there behind_there).next kept.live kept.next
 
   -- the node behind is a border node with a range, of the same tree
   pub behind_border : (at v b).level ≡ 0

@@ -29,7 +29,7 @@ module _ (v : ArenaView) (op left : ℕ) (key : Bytes) (w : Walk) (r : Removal) 
   next_of settled = settled.previous k node_there before kept.node.live
 
   neighbour : IsSettled v.nodes left (at v left) → IsNeighbour (at v left).high (seat_of (at v left)) (seat_of (at v k))
-  neighbour settled = (arena.nodes.pairs left k left_there node_there).next (next_of settled)
+  neighbour settled = (arena.nodes.pairs left k left_there node_there).next (settled.previous_live k node_there before kept.node.live) (next_of settled)
 
   -- the node does not come before itself
   pub apart : left ≢ k

@@ -9,11 +9,11 @@ use Rattle.mt_descent.{specs.{Seen.Covers, Pasts.{Past, ExtendsPast}, KeptWalks.
 use Rattle.mt_scan.specs.Hops.{IsNextFrom, IsAtHop}
 
 -- what stands beside a node in its tree
-pub sees_next : (v : ArenaView) (k x : ℕ) → IsArena v.nodes v.trees → k < length v.nodes → (at v k).level ≡ 0 → (at v k).next ≡ Some x
+pub sees_next : (v : ArenaView) (k x : ℕ) → IsArena v.nodes v.trees → k < length v.nodes → (at v k).version.deleted ≡ false → (at v k).level ≡ 0 → (at v k).next ≡ Some x
     → ((at v k).high ≡ Some (at v x).low) × IsNextFrom v (at v k).tree (at v x).low x
-sees_next v k x arena there border next =
+sees_next v k x arena there live border next =
     let within = (arena.nodes.each k there).names.next x next in
-    let beside : IsNeighbour (at v k).high (seat_of (at v k)) (seat_of (at v x)) = (arena.nodes.pairs k x there within).next next in
+    let beside : IsNeighbour (at v k).high (seat_of (at v k)) (seat_of (at v x)) = (arena.nodes.pairs k x there within).next live next in
     (beside.meets, record { there = within; tree_is = beside.tree; border = beside.level ∙ border; begins = refl })
 
 pub last_one : (v : ArenaView) (k : ℕ) → IsArena v.nodes v.trees → k < length v.nodes → (at v k).level ≡ 0 → (at v k).version.deleted ≡ false

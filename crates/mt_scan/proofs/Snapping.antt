@@ -297,12 +297,12 @@ module _ (v : ArenaView) (s : ScanView) (w : Walk) (arena : IsArena v.nodes v.tr
       by : (o : Option ℕ) → n.next ≡ o → LeadsNext v (record w { next = n.next }) slice
       by None none = absurd (let end = node.chain.last h.border (ranged stands) none in let both = sym end ∙ high in cc)
       by (Some x) is =
-          let seen = sees_next v k x arena h.covers.remembered.there h.border is in
+          let seen = sees_next v k x arena h.covers.remembered.there stands.in_range.live h.border is in
           let same : (at v x).low ≡ slice = same_Some (at v x).low slice (sym seen.0 ∙ high) in
           let there = seen.1.there in
-          let range : HasRange (at v x) = (arena.ranged.ties k x h.covers.remembered.there there).next is in
+          let range : HasRange (at v x) = (arena.ranged.ties k x h.covers.remembered.there there).next stands.in_range.live is in
           let most = (arena.ranged.each x there).fits range in
-          let key = next_key_fits v w.place.tree k x arena h.covers.remembered.there h.covers.remembered.tree_is h.border is in
+          let key = next_key_fits v w.place.tree k x arena h.covers.remembered.there h.covers.remembered.tree_is stands.in_range.live h.border is in
           record {
             fits = omega (arith, range, most, same);
             node = x;

@@ -13,9 +13,10 @@ ghost use Rattle.mt_readings.specs.Tenancies.{own_pairs};
 ghost use Rattle.mt_descent.specs.Seen.{Covers};
 ghost use Rattle.mt_scan.specs.{Snaps.{read_in, link_in, IsOver, prefix_in, IsSnap}, Hops.{IsNextFrom, IsAtHop, IsAtCheck, KeptHop}};
 
-/// The next node of a border node begins at its end, and there is none exactly where it has no end.
+/// The next node of a live border node begins at its end. A live, unmarked one without a next node has no end.
 pub fn a_node_tells_its_next()
-    ensures next { (v : ArenaView) (k x : ℕ) → IsArena v.nodes v.trees → k < length v.nodes → (at v k).level ≡ 0 → (at v k).next ≡ Some x →
+    ensures next { (v : ArenaView) (k x : ℕ) → IsArena v.nodes v.trees → k < length v.nodes → (at v k).version.deleted ≡ false → (at v k).level ≡ 0 →
+        (at v k).next ≡ Some x →
         ((at v k).high ≡ Some (at v x).low) × IsNextFrom v (at v k).tree (at v x).low x }
     ensures last { (v : ArenaView) (k : ℕ) → IsArena v.nodes v.trees → k < length v.nodes → (at v k).level ≡ 0 → (at v k).version.deleted ≡ false → IsStable (at v k).version →
         (at v k).next ≡ None → (at v k).high ≡ None }

@@ -185,9 +185,9 @@ module _ (v : ArenaView) (w : Walk) (s : ScanView) (arena : IsArena v.nodes v.tr
             absurd (let both = sym none ∙ high in cc)
         by (Some j) e =
             let there = (arena.nodes.each k scan.border.there).names.next j e in
-            let beside : IsNeighbour n.high (seat_of n) (seat_of (at v j)) = (arena.nodes.pairs k j scan.border.there there).next e in
+            let beside : IsNeighbour n.high (seat_of n) (seat_of (at v j)) = (arena.nodes.pairs k j scan.border.there there).next scan.border.live e in
             let begins : slice ≡ (at v j).low = same_Some slice (at v j).low (sym high ∙ beside.meets) in
-            let some = (arena.ranged.ties k j scan.border.there there).next e in
+            let some = (arena.ranged.ties k j scan.border.there there).next scan.border.live e in
             let ends = (arena.ranged.each j there).fits some in
             omega (arith, begins, some, ends)
 
