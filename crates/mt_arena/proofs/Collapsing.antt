@@ -1,5 +1,6 @@
 -- The whole invariant, the guarantee and the contents where a root gives way to its only child: for `collapse`.
 use Rattle.mt_border.proofs.KeptEntries.{entries_none}
+use Rattle.mt_arena.specs.Idle.{Rooms, AreRetired, with_interior}
 use Rattle.mt_arena.specs.Guarantee.{LosesHeld}
 use Rattle.std.proofs.Common.{◌≡◌, ◌≢◌, ℕ, ◌<◌, List, [], ◌∷◌, length, get_or, set, Some, None, refl, sym, ap, subst, ◌∙◌, inl, inr, arith}
 use Rattle.std.proofs.{lemmas.Bool.cases_eq, lemmas.List.{length-set, get_or-set_same, get_or-set_other}}
@@ -8,10 +9,10 @@ use Rattle.mt_interior.specs.Fences.{end_of, bounds_of}
 use Rattle.mt_arena.specs.{declared.tree.Tree.Tree, declared.tree.Standing.TheVariants.Dead, NodeView.{NodeView, node_at}, Nodes.{IsChild, HasChild, bounds}}
 use Rattle.mt_arena.specs.{Forests.{IsForest, IsHome, IsRoot, IsTree, AllBegin, tree_at, no_tree}, Layers.AreLayered, Contents.content}
 use Rattle.mt_arena.specs.{Guarantee.{Changes, TreeChanges}, Edits.retired, Collapses.{Collapses, crowned}}
-use Rattle.mt_arena.specs.{Arena.{ArenaInvariant, ArenaView, AreRetired, Guarantee}, Accesses.{at, tree_of}, Ways.HasSlots, Settled.IsSettled}
-use Rattle.mt_arena.specs.{Lags.{Follows, IsUnder}, Removals.{MayCollapse, nodes_under, without_root, with_retired}}
+use Rattle.mt_arena.specs.{Arena.{ArenaInvariant, ArenaView, Guarantee}, Accesses.{at, tree_of}, Ways.HasSlots, Settled.IsSettled}
+use Rattle.mt_arena.specs.{Lags.{Follows, IsUnder}, Removals.{MayCollapse, nodes_under, without_root}}
 use Rattle.mt_arena.proofs.{Pairs.{here, there}, Begins.{KeepsSeat, begins_set, begins_trees}, Locks.is_held, Collapse.{nodes_collapsed, ranged_collapsed}}
-use Rattle.mt_arena.proofs.{LinkEdits.{KeepsLinks, same_links, layers_set, layers_empty}, Retiring.{retired_set, retired_more}}
+use Rattle.mt_arena.proofs.{LinkEdits.{KeepsLinks, same_links, layers_set, layers_empty}, Retiring.{retired_set, interior_retired, retired_tree_set}}
 use Rattle.mt_arena.proofs.{TakenOut.{changes_retired, same_of_trees}, HeldChanges.changes_held, Guarantees.{PointsSo, guarantee_on, lost_none}}
 use Rattle.mt_arena.proofs.{Naming.{names_same, points_each, each_set2}, Several.{MayTurn, guarantee_set2}, Topping.{layers_trees, guarantee_record}}
 use Rattle.mt_arena.proofs.Settling.{NamesNoMore, names_none_more, follows_was, under_was, settled_same}
@@ -30,7 +31,7 @@ changes_crowned : (op : ℕ) (x : NodeView) → x.holder ≡ Some op → Changes
 changes_crowned op x held =
     changes_held op x (crowned x) held held refl refl refl (ages-made_root x.version) (λ some. some) (λ whole live. omega arith) (λ whole still. record { slots = entries_none _ _; separators = refl; children = refl })
 
-module _ (v : ArenaView) (room root child step op : ℕ) (sound : ArenaInvariant v.nodes v.trees v.retired room) (may : MayCollapse v root child op) where
+module _ (v : ArenaView) (room : Rooms) (root child step op : ℕ) (sound : ArenaInvariant v.nodes v.trees v.retired room) (may : MayCollapse v root child op) where
   abbrev xs : List NodeView
   xs = v.nodes
 
@@ -272,12 +273,14 @@ module _ (v : ArenaView) (room root child step op : ℕ) (sound : ArenaInvariant
         (layers_set ys v.trees child y (omega (arith, lc, size_ys)) (layers_empty xs v.trees root w lr sound.arena.layers (record { old = slotless; new = slotless }))
         (subst (λ (n : NodeView). KeepsLinks n y) (sym at_child) keeps_child))
 
-    retired_out : AreRetired new (with_retired v.retired root step)
+    retired_out : AreRetired new ts (with_interior v.retired root step)
     retired_out =
-        retired_set ys (with_retired v.retired root step) child y (omega (arith, lc, size_ys)) (retired_more xs v.retired root step lr sound.retired may.live)
-        (ap (λ (n : NodeView). n.version.deleted) (sym at_child))
+        retired_tree_set new v.trees (with_interior v.retired root step) t rooted lt_t
+        (retired_set ys v.trees (with_interior v.retired root step) child y (omega (arith, lc, size_ys))
+        (interior_retired xs v.trees v.retired root step lr sound.retired may.live is_interior)
+        (ap (λ (n : NodeView). n.version.deleted) (sym at_child)) (ap (λ (n : NodeView). n.level) (sym at_child))) refl
 
-    pub sound_collapsed : ArenaInvariant (nodes_under xs root child) ts (with_retired v.retired root step) room
+    pub sound_collapsed : ArenaInvariant (nodes_under xs root child) ts (with_interior v.retired root step) room
     sound_collapsed = record {
       arena = record {
         nodes = nodes_collapsed xs child root sound.arena.nodes sound.arena.ranged collapses;
@@ -287,6 +290,7 @@ module _ (v : ArenaView) (room root child step op : ℕ) (sound : ArenaInvariant
       };
       retired = retired_out;
       enough = omega (arith, size, sound.enough);
+      trees_enough = omega (arith, length-set v.trees t rooted, sound.trees_enough);
     }
 
   -- what others rely on

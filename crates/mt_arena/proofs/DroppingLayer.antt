@@ -1,20 +1,22 @@
 -- The whole invariant, the guarantee and the contents where a tree is taken out with its root and the link to it: for `drop_layer`.
-use Rattle.std.proofs.Common.{◌≡◌, ◌≢◌, ℕ, ◌<◌, ◌++◌, List, [], length, get_or, set, true, false, Some, refl, sym, ap, subst, ◌∙◌, inl, inr, arith}
+use Rattle.std.proofs.Common.{◌≡◌, ◌≢◌, ℕ, zero, suc, ◌<◌, ◌++◌, List, [], length, get_or, set, true, false, Some, refl, sym, ap, subst, ◌∙◌, inl, inr, arith}
 use Rattle.std.proofs.{lemmas.Bool.cases_eq, lemmas.List.{length-set, get_or-set_other, get_or_default}}
 use Rattle.std.specs.{Prelude.{◌⊎◌}, List.{All, remove}}
 use Rattle.mt_slices.specs.{Slices.piece_bytes, declared.mark.Mark.TheVariants.{Short, Long}}
 use Rattle.mt_rows.specs.Rows.{Bytes}
 use Rattle.mt_border.specs.{declared.entry.Entry.Entry, Held.Link, Keeps.KeepsEntries, Contents.HasKey, Entries.{IsBorder, slices, without}}
 use Rattle.mt_border.proofs.Edits.{any_entry, All-remove, border_without, without_at}
+use Rattle.mt_arena.specs.Idle.{Rooms, AreRetired, has_ended, is_idle_tree, with_border, with_tree}
 use Rattle.mt_arena.specs.{declared.tree.Tree.Tree, declared.tree.Standing.TheVariants.{Live, Dead}, NodeView.{NodeView, node_at}}
 use Rattle.mt_arena.specs.{Nodes.{AreNodes, Holds, HasRange}, Ranges.{AreRanged, Waits}, Forests.{IsForest, IsRoot, HaveKeys, tree_at, no_tree, layer_of}}
 use Rattle.mt_arena.specs.{Layers.{AreLayered, AreLinks, HasLink, LeadsTo, slot_at}, Contents.content, Guarantee.{TreeChanges, LosesHeld}, Edits.{retired, with_slots, cells_without}}
-use Rattle.mt_arena.specs.{Arena.{ArenaInvariant, ArenaView, AreRetired, Guarantee}, Accesses.at, NodeFacts.IsUnstable, Settled.IsSettled}
-use Rattle.mt_arena.specs.{Lags.{Follows, IsUnder}, Removals.{MayDropLayer, nodes_above, without_layer, with_retired}}
+use Rattle.mt_arena.specs.{Arena.{ArenaInvariant, ArenaView, Guarantee}, Accesses.at, NodeFacts.IsUnstable, Settled.IsSettled}
+use Rattle.mt_arena.specs.{Lags.{Follows, IsUnder}, Removals.{MayDropLayer, nodes_above, without_layer}}
 use Rattle.mt_arena.proofs.{Pairs.{here, there}, Locks.is_held, Quiet.nodes_slots, Slots.{within_each, within_all, changes_slots}}
-use Rattle.mt_arena.proofs.{Ranged.{no_wait, ranged_marked, ranged_retired}, Retire.nodes_retired, Collapse.{is_true, root_left}, Homes.forest_set}
+use Rattle.mt_arena.proofs.{Ranged.{no_wait, ranged_marked, ranged_retired}, Retire.nodes_retired, Collapse.{is_true, root_left}}
 use Rattle.mt_arena.proofs.{Steps.keys_of, SlotPlaces.{was_at, at_still}, OneLink.{IsLinkTo, leads, differs, below_top, one_link}}
-use Rattle.mt_arena.proofs.{DeadTree.{dead, stood, forest_dead}, TakenOut.{changes_retired, same_of_trees}, Retiring.{retired_set, retired_more}}
+use Rattle.mt_arena.proofs.{DeadTree.{dead, stood, forest_dead}, TakenOut.{changes_retired, same_of_trees}}
+use Rattle.mt_arena.proofs.{Homes.forest_set, Grow.not_none, Retiring.{retired_set, border_retired, tree_retired}}
 use Rattle.mt_arena.proofs.{Guarantees.{PointsSo, guarantee_on, lost_none}, Naming.{names_same, points_each, each_set2}, Several.{MayTurn, guarantee_set2}}
 use Rattle.mt_arena.proofs.{Topping.guarantee_record, Settling.{NamesNoMore, names_none_more, follows_was, under_was, settled_same}}
 use Rattle.mt_arena.proofs.ContentQuiet.{stands_unlinked, stands_without_slots, stands_tree_left}
@@ -23,7 +25,7 @@ use Rattle.mt_arena.proofs.ContentQuiet.{stands_unlinked, stands_without_slots, 
 pub same_link : {t u : ℕ} → Link t ≡ Link u → t ≡ u
 same_link same = cc
 
-module _ (v : ArenaView) (room node i u step op : ℕ) (sound : ArenaInvariant v.nodes v.trees v.retired room) (may : MayDropLayer v node i u op) where
+module _ (v : ArenaView) (room : Rooms) (node i u step op : ℕ) (sound : ArenaInvariant v.nodes v.trees v.retired room) (may : MayDropLayer v node i u op) where
   abbrev xs : List NodeView
   xs = v.nodes
 
@@ -83,6 +85,10 @@ module _ (v : ArenaView) (room node i u step op : ℕ) (sound : ArenaInvariant v
 
   live_above : (tree_at v.trees n.tree).standing ≡ Live
   live_above = (leads xs v.trees sound.arena node i u this).from
+
+  -- it is no dead tree yet
+  pub idle_not : is_idle_tree tree ≡ false
+  idle_not = ap has_ended live_tree
 
   stands : tree.standing ≢ Dead
   stands d = absurd (let both = sym live_tree ∙ d in cc)
@@ -268,16 +274,35 @@ module _ (v : ArenaView) (room node i u step op : ℕ) (sound : ArenaInvariant v
         linked_out t within was.0 (sound.arena.layers.linked t within was.1 (λ none. deep (same_prefix t ∙ none)));
   }
 
-  retired_out : AreRetired new (with_retired v.retired r step)
-  retired_out =
-      subst (λ (m : NodeView). AreRetired (set ys r (retired m)) (with_retired v.retired r step)) at_root
-      (retired_more ys v.retired r step lr_ys (retired_set xs v.retired node y ln sound.retired refl) (ap (λ (m : NodeView). m.version.deleted) at_root ∙ root.live))
+  -- the root has no child, which would be a live node of the tree too
+  root_level : x.level ≡ 0
+  root_level = by x.level refl
+    where
+      by : (level : ℕ) → x.level ≡ level → x.level ≡ 0
+      by zero is = is
+      by (suc level) is =
+          let above : 0 < x.level = omega (arith, is) in
+          let some = not_none x.children ((nodes.each r lr).children.peopled above ((sound.arena.ranged.each r lr).interior above root.live)) in
+          let child = get_or x.children 0 0 in
+          let lc : child < length xs = (nodes.each r lr).names.children 0 some in
+          let below = (nodes.pairs r child lr lc).child 0 some refl root.live in
+          let same : child ≡ r = may.alone child lc (below.tree ∙ root_tree) below.live in
+          omega (arith, below.level, ap (λ k. (at v k).level) same)
 
-  pub sound_dropped_layer : ArenaInvariant (nodes_above xs node i r) ts (with_retired v.retired r step) room
+  retired_out : AreRetired new ts (with_tree (with_border v.retired r step) u step)
+  retired_out =
+      tree_retired new v.trees (with_border v.retired r step) u step (dead tree) lu
+      (subst (λ (m : NodeView). AreRetired (set ys r (retired m)) v.trees (with_border v.retired r step)) at_root
+      (border_retired ys v.trees v.retired r step lr_ys (retired_set xs v.trees v.retired node y ln sound.retired refl refl)
+      (ap (λ (m : NodeView). m.version.deleted) at_root ∙ root.live) (ap (λ (m : NodeView). m.level) at_root ∙ root_level)))
+      idle_not refl
+
+  pub sound_dropped_layer : ArenaInvariant (nodes_above xs node i r) ts (with_tree (with_border v.retired r step) u step) room
   sound_dropped_layer = record {
     arena = record { nodes = nodes_out; ranged = ranged_out; forest = forest_out; layers = layers_out };
     retired = retired_out;
     enough = omega (arith, size, sound.enough);
+    trees_enough = omega (arith, trees_size, sound.trees_enough);
   }
 
   -- what others rely on

@@ -3,7 +3,7 @@ use Rattle.std.{proofs.Common.{◌≡◌, ◌≢◌, ℕ, ◌<◌, List, length,
 use Rattle.mt_version.specs.{Parts.Parts, Changes.Ages}
 use Rattle.mt_version.proofs.Aging.{ages-marked_inserting}
 use Rattle.mt_border.specs.{Held.Held, Slots.{next_free, is_dropped}, Keeps.KeepsEntries}
-use Rattle.mt_arena.specs.{declared.tree.Tree.Tree, declared.retired.Retired.Retired, NodeView.{NodeView, node_at}, Nodes.AreNodes, Contents.content}
+use Rattle.mt_arena.specs.{declared.tree.Tree.Tree, Idle.{RetiredPlaces, Rooms}, NodeView.{NodeView, node_at}, Nodes.AreNodes, Contents.content}
 use Rattle.mt_arena.specs.{Guarantee.Changes, Edits.{with_filled, cells_filled}, Arena.{ArenaInvariant, ArenaView, Guarantee}, Accesses.{at, IsOpen, with_node}}
 use Rattle.mt_arena.proofs.{Quiet.{nodes_quiet, held_node}, Ranged.ranged_marked, Steps.{sound_set, keys_of, step_set}, LinkEdits.same_links, Locks.not_others}
 use Rattle.mt_arena.proofs.ContentQuiet.{stands_unchanged}
@@ -26,7 +26,7 @@ nodes_filled xs i held within nodes has =
     nodes_quiet xs i x.slots (cells_filled x.cells held) (version_filled x) x.holder within nodes refl (λ e. e)
     (held_node (length xs) x x.slots (cells_filled x.cells held) (version_filled x) x.holder h has h.lock.locked refl refl (λ e. e) h.slots)
 
-pub sound_filled : (xs : List NodeView) (trees : List Tree) (gone : List Retired) (room i : ℕ) (held : Held) → i < length xs → ArenaInvariant xs trees gone room
+pub sound_filled : (xs : List NodeView) (trees : List Tree) (gone : RetiredPlaces) (room : Rooms) (i : ℕ) (held : Held) → i < length xs → ArenaInvariant xs trees gone room
     → (node_at xs i).holder ≢ None → ArenaInvariant (set xs i (with_filled (node_at xs i) held)) trees gone room
 sound_filled xs trees gone room i held within sound has =
     let x = node_at xs i in

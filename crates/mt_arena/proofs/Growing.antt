@@ -4,12 +4,12 @@ use Rattle.std.proofs.Common.{◌≡◌, ℕ, ◌+◌, ◌*◌, ◌<◌, ◌≤�
 use Rattle.std.proofs.{lemmas.Bool.cases_eq, lemmas.List.length-set, lemmas.Option.same_Some}
 use Rattle.mt_rows.specs.Rows.{Bytes}
 use Rattle.mt_border.specs.declared.entry.Entry.{Entry}
-use Rattle.mt_arena.specs.{declared.tree.Tree.Tree, declared.tree.Standing.TheVariants.Made, declared.retired.Retired.Retired, NodeView.{NodeView, node_at}}
+use Rattle.mt_arena.specs.{declared.tree.Tree.Tree, declared.tree.Standing.TheVariants.Made, Idle.{RetiredPlaces, Rooms}, NodeView.{NodeView, node_at}}
 use Rattle.mt_arena.specs.{Forests.{IsForest, HaveKeys, HasSlice, tree_at, layer_of}, Layers.{AreLayered, LeadsTo, HasLink, slot_at}, Nodes.HasRange}
 use Rattle.mt_arena.specs.{Guarantee.{NodesGuarantee, PointsOnly}, Edits.{splitting, fresh_half, fresh_root}, Contents.content}
 use Rattle.mt_arena.specs.{Arena.{IsArena, ArenaInvariant, ArenaView, Guarantee}, Accesses.{at, IsOpen, with_half}}
 use Rattle.mt_arena.proofs.{Pairs.{here, last, before}, Push.{nodes_half, nodes_root}, Ranged.ranged_root, RangedEdits.ranged_half, Homes.forest_push}
-use Rattle.mt_arena.proofs.{Trees.{forest_tree, made, last_tree, before_tree}, LinkEdits.no_links, Retiring.retired_push}
+use Rattle.mt_arena.proofs.{Trees.{forest_tree, made, last_tree, before_tree}, LinkEdits.no_links, Retiring.{retired_push, retired_tree_push}}
 use Rattle.mt_arena.proofs.Guarantees.{guarantee_on, guarantee_set, guarantee_push, points_set, points_push, lost_none, lost_set, lost_push}
 use Rattle.mt_arena.proofs.{ContentQuiet.{content-set, stands_pushed, stands_tree_pushed}, Locks.{is_held, sound_splitting, changes_splitting}}
 use Rattle.mt_arena.proofs.Naming.{points_on}
@@ -58,9 +58,9 @@ module _ (xs : List NodeView) (i low op : ℕ) (within : i < length xs) (held : 
   at_m : node_at ys i ≡ m
   at_m = here xs i m within
 
-  pub sound_half : (trees : List Tree) (gone : List Retired) (room more : ℕ) → ArenaInvariant xs trees gone room → length xs + 1 ≤ more
+  pub sound_half : (trees : List Tree) (gone : RetiredPlaces) (room more : Rooms) → ArenaInvariant xs trees gone room → length xs + 1 ≤ more.nodes → length trees ≤ more.trees
       → HasRange (node_at xs i) → HasSlice (tree_at trees (node_at xs i).tree).prefix low → ArenaInvariant (ys ++ half ∷ []) trees gone more
-  sound_half trees gone room more sound enough range begins =
+  sound_half trees gone room more sound enough trees_enough range begins =
       let marked = sound_splitting xs trees gone room i within sound (is_held op (node_at xs i) held) in
       let forest = marked.arena.forest in
       let x = node_at xs i in
@@ -73,8 +73,9 @@ module _ (xs : List NodeView) (i low op : ℕ) (within : i < length xs) (held : 
               forest_push ys trees half forest there_is ((sound.arena.forest.homes i x.tree within there_is).standing refl live) refl (no_keys (tree_at trees x.tree).prefix [] refl) (λ _ border over. begins);
           layers = layers_push ys trees half refl marked.arena.layers;
         };
-        retired = retired_push ys gone half marked.retired refl;
+        retired = retired_push ys trees gone half marked.retired refl;
         enough = omega (arith, length-append ys (half ∷ []), size_y, enough);
+        trees_enough = trees_enough;
       }
 
   -- the guarantee: of nodes and trees, and of who names whom
@@ -96,7 +97,7 @@ module _ (xs : List NodeView) (i low op : ℕ) (within : i < length xs) (held : 
   content_half trees = stands_pushed trees ys half refl ∙ content-set trees xs i m refl
 
 -- what the start of a border split leaves to others
-pub step_half : (v : ArenaView) (room i low op : ℕ) → i < length v.nodes → (at v i).holder ≡ Some op → (at v i).version.deleted ≡ false
+pub step_half : (v : ArenaView) (room : Rooms) (i low op : ℕ) → i < length v.nodes → (at v i).holder ≡ Some op → (at v i).version.deleted ≡ false
     → (at v i).level ≡ 0 → ArenaInvariant v.nodes v.trees v.retired room → IsOpen v i op → Guarantee op v (with_half v i low op)
 step_half v room i low op within held live level sound mine = record {
   nodes = guarantee_half v.nodes i low op within held live level v.trees sound.arena.forest mine;
@@ -132,11 +133,12 @@ layers_tree xs trees y u op none standing forest layers = record {
 }
 
 -- a tree more that an operation makes
-pub sound_tree : (xs : List NodeView) (trees : List Tree) (gone : List Retired) (room more op : ℕ) (prefix : Bytes)
-    → ArenaInvariant xs trees gone room → length xs + 1 ≤ more → 8 * layer_of prefix ≡ length prefix
+pub sound_tree : (xs : List NodeView) (trees : List Tree) (gone : RetiredPlaces) (room more : Rooms) (op : ℕ) (prefix : Bytes)
+    → ArenaInvariant xs trees gone room → length xs + 1 ≤ more.nodes → length trees + 1 ≤ more.trees → 8 * layer_of prefix ≡ length prefix
     → ArenaInvariant (xs ++ fresh_root (length trees) ∷ []) (trees ++ made prefix (length xs) op ∷ []) gone more
-sound_tree xs trees gone room more op prefix sound enough whole =
+sound_tree xs trees gone room more op prefix sound enough trees_enough whole =
     let y = fresh_root (length trees) in
+    let u = made prefix (length xs) op in
     let forest = sound.arena.forest in
     record {
       arena = record {
@@ -145,8 +147,9 @@ sound_tree xs trees gone room more op prefix sound enough whole =
         forest = forest_tree xs trees prefix op forest whole;
         layers = layers_tree xs trees y (made prefix (length xs) op) op refl refl forest sound.arena.layers;
       };
-      retired = retired_push xs gone y sound.retired refl;
+      retired = retired_tree_push (xs ++ y ∷ []) trees gone u (retired_push xs trees gone y sound.retired refl) refl;
       enough = omega (arith, length-append xs (y ∷ []), enough);
+      trees_enough = omega (arith, length-append trees (u ∷ []), trees_enough);
     }
 
 -- one more tree with an empty root leaves the contents

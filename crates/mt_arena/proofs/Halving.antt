@@ -14,7 +14,7 @@ use Rattle.mt_border.proofs.{Edits.{any_entry, place_in-le, All-insert, border_t
 use Rattle.mt_border.proofs.ContentsEdits.{keys-publish, length-publish}
 use Rattle.mt_lists.specs.Rising.{IsRising}
 use Rattle.mt_interior.specs.Fences.{end_of}
-use Rattle.mt_arena.specs.{declared.tree.Tree.Tree, declared.retired.Retired.Retired, NodeView.{NodeView, node_at}, Nodes.Holds}
+use Rattle.mt_arena.specs.{declared.tree.Tree.Tree, Idle.{RetiredPlaces, Rooms}, NodeView.{NodeView, node_at}, Nodes.Holds}
 use Rattle.mt_arena.specs.{Forests.{HaveKeys, tree_at, layer_of}, Contents.content, Ways.{AreBegun, IsUnfilled}, declared.tree.Standing.TheVariants.Live}
 use Rattle.mt_arena.specs.{Arena.{ArenaInvariant, ArenaView, Guarantee}, Accesses.{at, tree_of}, Splits.{Splits, with_some, left_half, right_half}}
 use Rattle.mt_arena.specs.Several.{IsHalf, MaySplit, MayPlace, AreHalved}
@@ -62,7 +62,7 @@ pub record Gathers (trees : List Tree) (x : NodeView) (all : List Entry) : Type 
   pub back : HasLinksOf x.slots all
 
 -- those of a node, and those with one key more
-pub gathers_same : (xs : List NodeView) (trees : List Tree) (gone : List Retired) (room i : ℕ) → i < length xs → ArenaInvariant xs trees gone room
+pub gathers_same : (xs : List NodeView) (trees : List Tree) (gone : RetiredPlaces) (room : Rooms) (i : ℕ) → i < length xs → ArenaInvariant xs trees gone room
     → Gathers trees (node_at xs i) (node_at xs i).slots
 gathers_same xs trees gone room i within sound =
     let x = node_at xs i in
@@ -82,7 +82,7 @@ abbrev pub MayCome : ArenaView → ℕ → ℕ → ℕ → Mark → Option Entry
 MayCome v left op slice mark entry = IfSome entry (λ e. (e.slice ≡ slice) × (e.mark ≡ mark) × ((key : Bytes) × MayPlace v left op key e))
 
 -- the slots of a node, with one more entry where there is one, are what both halves hold together
-pub gathers_some : (v : ArenaView) (room left right op slice : ℕ) (mark : Mark) (entry : Option Entry) → ArenaInvariant v.nodes v.trees v.retired room
+pub gathers_some : (v : ArenaView) (room : Rooms) (left right op slice : ℕ) (mark : Mark) (entry : Option Entry) → ArenaInvariant v.nodes v.trees v.retired room
     → MaySplit v left right op slice mark → MayCome v left op slice mark entry → Gathers v.trees (at v left) (with_some (at v left).slots entry)
 gathers_some v room left right op slice mark None sound may come = gathers_same v.nodes v.trees v.retired room left may.half.held.there sound
 gathers_some v room left right op slice mark (Some e) sound may (slice_is, mark_is, (key, place)) =
@@ -110,7 +110,7 @@ gathers_some v room left right op slice mark (Some e) sound may (slice_is, mark_
 each_slice : (P : ℕ → Type 0) (es : List Entry) → All (λ (e : Entry). P e.slice) es → (i : ℕ) → i < length es → P (get_or (slices es) i 0)
 each_slice P es each i lt = subst P (sym (get_or-map (λ (e : Entry). e.slice) es i any_entry 0 lt)) (each i any_entry lt)
 
-module _ (v : ArenaView) (room left right op : ℕ) (all kept moved : List Entry) (kept_cells moved_cells : Slotted) (sound : ArenaInvariant v.nodes v.trees v.retired room) (half : IsHalf v left right op) (border : (at v left).level ≡ 0) (ok : Gathers v.trees (at v left) all)
+module _ (v : ArenaView) (room : Rooms) (left right op : ℕ) (all kept moved : List Entry) (kept_cells moved_cells : Slotted) (sound : ArenaInvariant v.nodes v.trees v.retired room) (half : IsHalf v left right op) (border : (at v left).level ≡ 0) (ok : Gathers v.trees (at v left) all)
     (parted : IsParted all kept moved (at v right).low) (some_kept : 0 < length kept) (some_moved : 0 < length moved) where
   abbrev x : NodeView
   x = at v left
@@ -215,7 +215,7 @@ unfilled : (v : ArenaView) (left right op : ℕ) → IsHalf v left right op → 
 unfilled v left right op half = record { other = half.differ; there = half.right_held.there; live = half.right_live; tree = half.right_tree; empty = half.empty }
 
 -- what a split leaves, with the key's entry or without
-module _ (v : ArenaView) (room left right op slice : ℕ) (mark : Mark) (entry : Option Entry) (new : List NodeView)
+module _ (v : ArenaView) (room : Rooms) (left right op slice : ℕ) (mark : Mark) (entry : Option Entry) (new : List NodeView)
     (sound : ArenaInvariant v.nodes v.trees v.retired room) (may : MaySplit v left right op slice mark) (come : MayCome v left op slice mark entry)
     (done : AreHalved (with_some (at v left).slots entry) v.nodes new left right) where
   gathers : Gathers v.trees (at v left) (with_some (at v left).slots entry)

@@ -7,6 +7,7 @@ use Rattle.mt_rows.specs.Rows.{Bytes}
 use Rattle.mt_border.specs.{declared.entry.Entry.Entry, Held.{Pair, Held, Stable, Unstable, Link}, Entry.{CanHold, order_of, pair_of}}
 use Rattle.mt_border.specs.{Entries.{IsBorder, replaced}, Contents.HasKey}
 use Rattle.mt_border.proofs.{Edits.{any_entry, border_set, replaced_at}, ContentsKeys.has_held_key}
+use Rattle.mt_arena.specs.Idle.{Rooms}
 use Rattle.mt_arena.specs.{Edits.cells_holding, NodeView.NodeView, Nodes.Holds, Layers.slot_at, Forests.{HaveKeys, layer_of}, Contents.content}
 use Rattle.mt_arena.specs.{Arena.{ArenaInvariant, ArenaView, Guarantee}, Accesses.{at, tree_of}}
 use Rattle.mt_arena.specs.Layering.{IsHeldSlot, MayUnsettle, MayLink, with_held, with_slot}
@@ -18,7 +19,7 @@ pub record MayHoldThis (e : Entry) (held : Held) : Type 0 where
   pub can : CanHold e.mark held
   pub goes_on : (pair : Pair) → pair_of held ≡ Some pair → pair_of e.held ≡ Some pair
 
-module _ (v : ArenaView) (room node i op : ℕ) (sound : ArenaInvariant v.nodes v.trees v.retired room) (was : Held) (slot : IsHeldSlot v node i op was) (held : Held) (may : MayHoldThis (slot_at (at v node) i) held) where
+module _ (v : ArenaView) (room : Rooms) (node i op : ℕ) (sound : ArenaInvariant v.nodes v.trees v.retired room) (was : Held) (slot : IsHeldSlot v node i op was) (held : Held) (may : MayHoldThis (slot_at (at v node) i) held) where
   abbrev n : NodeView
   n = at v node
 
@@ -81,7 +82,7 @@ module _ (v : ArenaView) (room node i op : ℕ) (sound : ArenaInvariant v.nodes 
   pub content_held : pair_of held ≡ pair_of e.held → content v.trees (set v.nodes node (with_held n i held)) ≡ content v.trees v.nodes
   content_held same = stands_held v.trees v.nodes node i (with_held n i held) held same (record { slots = slots_are; deleted = refl; tree = refl })
 
-module _ (v : ArenaView) (room node i op : ℕ) (sound : ArenaInvariant v.nodes v.trees v.retired room) (pair : Pair) where
+module _ (v : ArenaView) (room : Rooms) (node i op : ℕ) (sound : ArenaInvariant v.nodes v.trees v.retired room) (pair : Pair) where
   -- a pair that becomes unstable
   module _ (may : MayUnsettle v node i op pair) where
     abbrev stable : Entry

@@ -1,4 +1,5 @@
 -- The whole invariant, the guarantee and the contents where a right half comes to stand in its parent: for `insert_child`.
+use Rattle.mt_arena.specs.Idle.{Rooms}
 use Rattle.mt_arena.specs.Guarantee.{LosesHeld}
 use Rattle.std.proofs.Common.{◌≡◌, ◌≢◌, ℕ, suc, ◌+◌, ◌<◌, List, ◌∷◌, [], length, get_or, set, Some, refl, sym, ap, subst, ◌∙◌, inl, inr, arith}
 use Rattle.std.proofs.{lemmas.Bool.cases_lt, lemmas.List.{length-set, set-set, get_or_append_left}}
@@ -112,7 +113,7 @@ module _ (xs : List NodeView) (i j q : ℕ) (nodes : AreNodes xs) (f : Inserts x
     mine = λ q e. mine q (ap (λ t. (tree_at trees t).standing) (sym child.tree) ∙ e);
   }
 
-module _ (v : ArenaView) (room parent left right op : ℕ) (sound : ArenaInvariant v.nodes v.trees v.retired room) (may : MayInsert v parent left right op) where
+module _ (v : ArenaView) (room : Rooms) (parent left right op : ℕ) (sound : ArenaInvariant v.nodes v.trees v.retired room) (may : MayInsert v parent left right op) where
   abbrev y : NodeView
   y = with_child (inserting (at v parent)) (at v right).low right
 
@@ -127,7 +128,7 @@ module _ (v : ArenaView) (room parent left right op : ℕ) (sound : ArenaInvaria
 
   kept : AreKept v.nodes new v.trees v.retired
   kept =
-      kept_set2 v.nodes v.trees v.retired parent left y z may.held.there may.left_held.there apart (record { slots = refl; deleted = refl; tree = refl }) (record { slots = refl; deleted = refl; tree = refl })
+      kept_set2 v.nodes v.trees v.retired parent left y z may.held.there may.left_held.there apart (record { slots = refl; deleted = refl; tree = refl }) (record { slots = refl; deleted = refl; tree = refl }) refl refl
 
   pub sound_right : ArenaInvariant new v.trees v.retired room
   sound_right = record {
@@ -141,6 +142,7 @@ module _ (v : ArenaView) (room parent left right op : ℕ) (sound : ArenaInvaria
       layers = kept.layers sound.arena.layers;
     };
     retired = kept.retired sound.retired;
+    trees_enough = sound.trees_enough;
     enough = omega (arith, kept.count, sound.enough);
   }
 

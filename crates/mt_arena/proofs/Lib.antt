@@ -10,6 +10,7 @@ pub mod Begins
 pub mod Homes
 pub mod Trees
 pub mod LinkEdits
+pub mod Listed
 pub mod Retiring
 pub mod Guarantees
 pub mod Steps

@@ -3,7 +3,7 @@ use Rattle.mt_arena.proofs.{Pairs.{here, there}, Guarantees.{lost_none, HasSameC
 use Rattle.mt_border.proofs.KeptEntries.{entries_none}
 use Rattle.std.proofs.{Common.{◌≡◌, ◌≢◌, ℕ, ◌<◌, List, length, set, false, Option, Some, None, refl, sym, ap, ◌∙◌, inl, inr, arith}, lemmas.Option.same_Some, lemmas.Bool.cases_eq}
 use Rattle.mt_interior.specs.Fences.{end_of}
-use Rattle.mt_arena.specs.{Nodes.HasRange, Settled.IsSettled, declared.tree.Tree.Tree, declared.retired.Retired.Retired, NodeView.{NodeView, node_at}}
+use Rattle.mt_arena.specs.{Nodes.HasRange, Settled.IsSettled, declared.tree.Tree.Tree, Idle.{RetiredPlaces, Rooms}, NodeView.{NodeView, node_at}}
 use Rattle.mt_arena.specs.{Guarantee.Changes, Edits.{locked, unlocked, splitting}, Arena.{IsArena, ArenaInvariant, ArenaView, Guarantee}}
 use Rattle.mt_arena.specs.Accesses.{at, IsOpen, with_node}
 use Rattle.mt_arena.proofs.{Quiet.{nodes_locked, nodes_splitting}, Ranged.{ranged_locked, ranged_unlocked, ranged_marked}, Unlock.nodes_unlocked}
@@ -11,7 +11,7 @@ use Rattle.mt_arena.proofs.{LinkEdits.same_links, Steps.{sound_set, keys_of, ste
 use Rattle.mt_version.proofs.Aging.{ages-locked, ages-unlocked, ages-marked_splitting}
 
 -- the whole invariant stands as a lock is taken
-pub sound_locked : (xs : List NodeView) (trees : List Tree) (gone : List Retired) (room i op : ℕ) → i < length xs → ArenaInvariant xs trees gone room
+pub sound_locked : (xs : List NodeView) (trees : List Tree) (gone : RetiredPlaces) (room : Rooms) (i op : ℕ) → i < length xs → ArenaInvariant xs trees gone room
     → (node_at xs i).holder ≡ None → ArenaInvariant (set xs i (locked (node_at xs i) op)) trees gone room
 sound_locked xs trees gone room i op within sound free =
     let x = node_at xs i in
@@ -59,7 +59,7 @@ settled_range xs trees i within arena settled live = by (node_at xs i).parent re
         omega (arith, root.low, ap end_of (sym settled.reach ∙ root.reach))
 
 -- a lock is given back
-pub sound_unlocked : (xs : List NodeView) (trees : List Tree) (gone : List Retired) (room i : ℕ) → i < length xs → ArenaInvariant xs trees gone room
+pub sound_unlocked : (xs : List NodeView) (trees : List Tree) (gone : RetiredPlaces) (room : Rooms) (i : ℕ) → i < length xs → ArenaInvariant xs trees gone room
     → IsSettled xs i (node_at xs i) → ArenaInvariant (set xs i (unlocked (node_at xs i))) trees gone room
 sound_unlocked xs trees gone room i within sound settled =
     let x = node_at xs i in
@@ -92,7 +92,7 @@ step_unlocked v i op within held mine =
     step_set op v i (unlocked (at v i)) within (changes_unlocked op (at v i) held) mine (record { previous = λ j e not_mine. e; parent = λ j e not_mine. e }) (lost_none (at v i))
 
 -- the mark that readers of the range wait for
-pub sound_splitting : (xs : List NodeView) (trees : List Tree) (gone : List Retired) (room i : ℕ) → i < length xs → ArenaInvariant xs trees gone room
+pub sound_splitting : (xs : List NodeView) (trees : List Tree) (gone : RetiredPlaces) (room : Rooms) (i : ℕ) → i < length xs → ArenaInvariant xs trees gone room
     → (node_at xs i).holder ≢ None → ArenaInvariant (set xs i (splitting (node_at xs i))) trees gone room
 sound_splitting xs trees gone room i within sound held =
     let x = node_at xs i in

@@ -4,6 +4,7 @@ use Rattle.std.proofs.lemmas.List.{set_at}
 use Rattle.mt_rows.specs.Rows.{Bytes}
 use Rattle.mt_border.specs.{declared.entry.Entry.Entry, Held.{Held, Stable, Unstable, Link}, Entry.{IsEntry, IsStablePair}, Entries.IsBorder}
 use Rattle.mt_border.{specs.Slots.fresh_slots, proofs.Edits.any_entry}
+use Rattle.mt_arena.specs.Idle.{Rooms}
 use Rattle.mt_arena.specs.{declared.tree.Tree.Tree, NodeView.{NodeView, node_at}, Nodes.{AreNodes, IsNode, Holds}, Ranges.AreRanged, NodeFacts.IsUnstable}
 use Rattle.mt_arena.specs.{Forests.{HaveKeys, tree_at, layer_of}, Contents.{live_pairs, content}, Edits.{fresh_root, cells_with}}
 use Rattle.mt_arena.specs.{Arena.{ArenaInvariant, ArenaView, Guarantee}, Layering.{MayMakeLayer, root_of, with_layer}}
@@ -25,7 +26,7 @@ border_of e entry = record {
   rising = λ i j lt within. absurd (omega arith);
 }
 
-module _ (v : ArenaView) (room more op : ℕ) (prefix : Bytes) (e : Entry) (sound : ArenaInvariant v.nodes v.trees v.retired room) (may : MayMakeLayer v prefix e) (enough : length v.nodes + 1 ≤ more) where
+module _ (v : ArenaView) (room more : Rooms) (op : ℕ) (prefix : Bytes) (e : Entry) (sound : ArenaInvariant v.nodes v.trees v.retired room) (may : MayMakeLayer v prefix e) (enough : length v.nodes + 1 ≤ more.nodes) (trees_enough : length v.trees + 1 ≤ more.trees) where
   abbrev xs : List NodeView
   xs = v.nodes
 
@@ -46,7 +47,7 @@ module _ (v : ArenaView) (room more op : ℕ) (prefix : Bytes) (e : Entry) (soun
   ys = xs ++ x ∷ []
 
   empty : ArenaInvariant ys ts v.retired more
-  empty = sound_tree xs v.trees v.retired room more op prefix sound enough may.prefix_is.whole
+  empty = sound_tree xs v.trees v.retired room more op prefix sound enough trees_enough may.prefix_is.whole
 
   same : set ys (length xs) y ≡ xs ++ y ∷ []
   same = set_at xs x [] y (length xs) refl

@@ -1,5 +1,6 @@
 -- The whole invariant, the guarantee and the contents where a right half comes to stand in a full parent, which is parted: for
 -- `split_interior`.
+use Rattle.mt_arena.specs.Idle.{Rooms}
 use Rattle.mt_arena.specs.Guarantee.{LosesHeld}
 use Rattle.std.proofs.Common.{◌≡◌, ◌≢◌, ℕ, ◌+◌, ◌<◌, ◌≤◌, List, [], ◌∷◌, ◌++◌, length, set, false, None, refl, sym, ap, subst, ◌∙◌, arith, length-append}
 use Rattle.std.proofs.{lemmas.Option.same_Some, lemmas.List.{length-set, set-set, set-append_left, set_at}}
@@ -137,7 +138,7 @@ module _ (xs : List NodeView) (i j q op : ℕ) (nodes : AreNodes xs) (f : Insert
   pub ranges_parts : HasRange (inner_left wide) × HasRange (inner_right wide op)
   ranges_parts = rw (at_i, at_q, at_h) at ranges_z
 
-module _ (v : ArenaView) (room more parent left right op : ℕ) (sound : ArenaInvariant v.nodes v.trees v.retired room) (may : MaySplitInner v parent left right op) where
+module _ (v : ArenaView) (room more : Rooms) (parent left right op : ℕ) (sound : ArenaInvariant v.nodes v.trees v.retired room) (may : MaySplitInner v parent left right op) where
   abbrev x : NodeView
   x = at v parent
 
@@ -170,13 +171,13 @@ module _ (v : ArenaView) (room more parent left right op : ℕ) (sound : ArenaIn
 
   kept : AreKept v.nodes halves v.trees v.retired
   kept =
-      kept_set2 v.nodes v.trees v.retired parent left y z li lj apart (record { slots = refl; deleted = refl; tree = refl }) (record { slots = refl; deleted = refl; tree = refl })
+      kept_set2 v.nodes v.trees v.retired parent left y z li lj apart (record { slots = refl; deleted = refl; tree = refl }) (record { slots = refl; deleted = refl; tree = refl }) refl refl
 
   ranges : HasRange y × HasRange u
   ranges = ranges_parts v.nodes parent left right op sound.arena.nodes may.inserts may.full may.next
 
-  pub sound_parts : length v.nodes + 1 ≤ more → ArenaInvariant new v.trees v.retired more
-  sound_parts enough =
+  pub sound_parts : length v.nodes + 1 ≤ more.nodes → length v.trees ≤ more.trees → ArenaInvariant new v.trees v.retired more
+  sound_parts enough trees_enough =
       let forest = sound.arena.forest in
       let there_is = forest.tree_there parent li in
       record {
@@ -190,7 +191,8 @@ module _ (v : ArenaView) (room more parent left right op : ℕ) (sound : ArenaIn
               there_is ((forest.homes parent x.tree li there_is).standing refl may.inserts.parent_live) refl (no_keys (tree_at v.trees x.tree).prefix u.slots refl) (λ _ border over. absurd (omega (arith, border, may.inserts.right_level)));
           layers = layers_push halves v.trees u refl (kept.layers sound.arena.layers);
         };
-        retired = retired_push halves v.retired u (kept.retired sound.retired) refl;
+        retired = retired_push halves v.trees v.retired u (kept.retired sound.retired) refl;
+        trees_enough = trees_enough;
         enough = omega (arith, length-append halves (u ∷ []), kept.count, enough);
       }
 

@@ -3,13 +3,13 @@ use Rattle.mt_arena.proofs.Guarantees.{lost_none}
 use Rattle.mt_border.proofs.KeptEntries.{entries_none}
 use Rattle.std.proofs.Common.{◌≡◌, ◌≢◌, ℕ, ◌<◌, ◌⊎◌, List, length, set, true, false, Option, Some, None, refl, sym, ap, ◌∙◌, inl, inr, arith}
 use Rattle.std.proofs.{lemmas.Bool.cases_eq, lemmas.Option.same_Some}
-use Rattle.mt_arena.specs.{declared.tree.Tree.Tree, declared.retired.Retired.Retired, NodeView.{NodeView, node_at}, Nodes.HasRange, Ranges.Waits}
+use Rattle.mt_arena.specs.{declared.tree.Tree.Tree, Idle.{RetiredPlaces, Rooms}, NodeView.{NodeView, node_at}, Nodes.HasRange, Ranges.Waits}
 use Rattle.mt_arena.specs.{Guarantee.Changes, Edits.{pointed, Points}, Arena.{ArenaInvariant, ArenaView, Guarantee}, Accesses.{at, IsOpen, with_node}}
 use Rattle.mt_arena.proofs.{Pairs.{here, there}, Point.nodes_pointed, Ranged.ranged_pointed, LinkEdits.same_links, Steps.{sound_set, keys_of, step_set}}
 use Rattle.mt_version.proofs.CallerLemmas as versions
 
 -- where a live root keeps its want of a parent
-pub sound_pointed : (xs : List NodeView) (trees : List Tree) (gone : List Retired) (room i : ℕ) (previous parent : Option ℕ) → i < length xs
+pub sound_pointed : (xs : List NodeView) (trees : List Tree) (gone : RetiredPlaces) (room : Rooms) (i : ℕ) (previous parent : Option ℕ) → i < length xs
     → ArenaInvariant xs trees gone room → Points xs (node_at xs i) previous parent
     → ((node_at xs i).version.root ≡ true → parent ≡ (node_at xs i).parent) → (parent ≢ None → HasRange (node_at xs i))
     → (Waits (node_at xs i) → previous ≡ (node_at xs i).previous)
@@ -77,7 +77,7 @@ pub names_own : (op : ℕ) (nodes : List NodeView) (was : Option ℕ) (k : ℕ) 
 names_own op nodes was k held = record { names = λ j e. inr (ap (λ k. (node_at nodes k).holder) (sym (same_Some k j e)) ∙ held) }
 
 -- the neighbour before a node is one that the operation holds
-pub sound_previous : (xs : List NodeView) (trees : List Tree) (gone : List Retired) (room i k op : ℕ) → i < length xs → k < length xs
+pub sound_previous : (xs : List NodeView) (trees : List Tree) (gone : RetiredPlaces) (room : Rooms) (i k op : ℕ) → i < length xs → k < length xs
     → (node_at xs k).holder ≡ Some op → ArenaInvariant xs trees gone room
     → (Waits (node_at xs i) → (node_at xs i).previous ≡ Some k)
     → ArenaInvariant (set xs i (pointed (node_at xs i) (Some k) (node_at xs i).parent)) trees gone room
@@ -99,7 +99,7 @@ step_previous v i k op within held mine =
     step_pointed v i op (Some k) (at v i).parent within mine (names_own op v.nodes (at v i).previous k held) (names_same op v.nodes (at v i).parent) (λ none. none) (λ q other e none. none)
 
 -- the parent of a node that is no root is one that the operation holds
-pub sound_parent : (xs : List NodeView) (trees : List Tree) (gone : List Retired) (room i k op : ℕ) → i < length xs → k < length xs
+pub sound_parent : (xs : List NodeView) (trees : List Tree) (gone : RetiredPlaces) (room : Rooms) (i k op : ℕ) → i < length xs → k < length xs
     → (node_at xs k).holder ≡ Some op → ArenaInvariant xs trees gone room
     → (node_at xs i).version.root ≡ false → HasRange (node_at xs i)
     → ArenaInvariant (set xs i (pointed (node_at xs i) (node_at xs i).previous (Some k))) trees gone room

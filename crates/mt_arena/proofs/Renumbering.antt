@@ -1,14 +1,15 @@
 -- Where all nodes are renumbered, all that holds of an arena holds again, and the contents stand: for `renumber`.
-use Rattle.std.proofs.Common.{◌≡◌, ◌≢◌, ℕ, zero, suc, ◌+◌, ◌<◌, List, [], ◌∷◌, ◌++◌, length, Option, true, false, refl, sym, ap, subst, ◌∙◌, arith}
+use Rattle.std.proofs.Common.{◌≡◌, ◌≢◌, ℕ, zero, suc, ◌+◌, ◌<◌, List, [], ◌∷◌, ◌++◌, length, Option, Bool, true, false, refl, sym, ap, subst, ◌∙◌, arith}
 use Rattle.std.proofs.lemmas.List.{length-map}
 use Rattle.std.specs.{Prelude.{if◌then◌else◌}, List.flat_map}
 use Rattle.mt_slices.specs.declared.mark.Mark.TheVariants.{Short, Long}
 use Rattle.mt_border.specs.{declared.entry.Entry.Entry, Held.{Held, Stable, Unstable, Link}, Restamps.{stamped, restamped, all_restamped}}
 use Rattle.mt_border.proofs.Restamping.{each-restamped, border-restamped, slices-restamped, length-restamped, keys-restamped, pairs-restamped}
+use Rattle.mt_arena.specs.Idle.{RetiredPlaces, Rooms, AreRetired, AreListed, is_idle_border, is_idle_interior, place_of_idle, count_of, one_if}
 use Rattle.mt_arena.specs.{declared.tree.Tree.Tree, declared.retired.Retired.Retired, NodeView.{NodeView, node_at, no_node}, NodeFacts.{IsUnstable, FitsSlots}}
 use Rattle.mt_arena.specs.{Nodes.{AreNodes, IsNode, IsPair}, Ranges.{AreRanged, IsRanged, AreTied}}
 use Rattle.mt_arena.specs.{Forests.{IsForest, IsHome, IsTree, AllBegin, BeginsAtKey, tree_at, layer_of}, Layers.{AreLayered, AreLinks, HasLink, slot_at}}
-use Rattle.mt_arena.specs.{Contents.{live_pairs, is_live, content}, Arena.{ArenaInvariant, IsArena, AreRetired, live_count}}
+use Rattle.mt_arena.specs.{Contents.{live_pairs, is_live, content}, Arena.{ArenaInvariant, IsArena}}
 use Rattle.mt_arena.specs.Renumbers.{renumbered, all_renumbered}
 use Rattle.mt_arena.proofs.{Joins.map_of, Counted.content-is}
 
@@ -164,25 +165,34 @@ layers_so s nodes trees h = record {
 pub arena_so : (s : ℕ) (nodes : List NodeView) (trees : List Tree) → IsArena nodes trees → IsArena (all_renumbered s nodes) trees
 arena_so s nodes trees h = record { nodes = nodes_so s nodes h.nodes; ranged = ranged_so s nodes h.ranged; forest = forest_so s nodes trees h.forest; layers = layers_so s nodes trees h.layers }
 
-live_so : (s : ℕ) (nodes : List NodeView) → live_count (all_renumbered s nodes) ≡ live_count nodes
-live_so s [] = refl
-live_so s (n ∷ nodes) = ap (λ c. (if n.version.deleted then 0 else 1) + c) (live_so s nodes)
-
-retired_so : (s : ℕ) (nodes : List NodeView) (gone : List Retired) → AreRetired nodes gone → AreRetired (all_renumbered s nodes) gone
-retired_so s nodes gone h = record {
-  each = λ k d inside.
-      let was = h.each k d inside in
-      (omega (arith, was.0, size-renumbered s nodes), subst (λ (n : NodeView). n.version.deleted ≡ true) (sym (at-renumbered s nodes _)) was.1);
+-- the list of idle nodes stands, since none changes its deleted mark or its level
+listed_so : (idle : NodeView → Bool) (s : ℕ) (nodes : List NodeView) (gone : List Retired) → ((n : NodeView) → idle (renumbered s n) ≡ idle n)
+    → AreListed idle no_node nodes gone → AreListed idle no_node (all_renumbered s nodes) gone
+listed_so idle s nodes gone same h = record {
+  there = λ i lt. omega (arith, h.there i lt, size-renumbered s nodes);
+  idle_there = λ i lt. ap idle (at-renumbered s nodes (place_of_idle gone i)) ∙ same (node_at nodes (place_of_idle gone i)) ∙ h.idle_there i lt;
   once = h.once;
-  counted = omega (arith, live_so s nodes, size-renumbered s nodes, h.counted);
+  counted = count nodes ∙ h.counted;
+}
+  where
+    count : (ns : List NodeView) → count_of idle (all_renumbered s ns) ≡ count_of idle ns
+    count [] = refl
+    count (n ∷ ns) = let first = ap one_if (same n) in let rest = count ns in omega (arith, first, rest)
+
+retired_so : (s : ℕ) (nodes : List NodeView) (trees : List Tree) (gone : RetiredPlaces) → AreRetired nodes trees gone → AreRetired (all_renumbered s nodes) trees gone
+retired_so s nodes trees gone h = record {
+  of_borders = listed_so is_idle_border s nodes gone.borders (λ n. refl) h.of_borders;
+  of_interiors = listed_so is_idle_interior s nodes gone.interiors (λ n. refl) h.of_interiors;
+  of_trees = h.of_trees;
 }
 
 -- with all that is kept inside
-pub sound_so : (s : ℕ) (nodes : List NodeView) (trees : List Tree) (gone : List Retired) (room : ℕ) → ArenaInvariant nodes trees gone room → ArenaInvariant (all_renumbered s nodes) trees gone room
+pub sound_so : (s : ℕ) (nodes : List NodeView) (trees : List Tree) (gone : RetiredPlaces) (room : Rooms) → ArenaInvariant nodes trees gone room → ArenaInvariant (all_renumbered s nodes) trees gone room
 sound_so s nodes trees gone room h = record {
   arena = arena_so s nodes trees h.arena;
-  retired = retired_so s nodes gone h.retired;
+  retired = retired_so s nodes trees gone h.retired;
   enough = omega (arith, size-renumbered s nodes, h.enough);
+  trees_enough = h.trees_enough;
 }
 
 -- the contents stand

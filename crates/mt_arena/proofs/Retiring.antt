@@ -1,88 +1,124 @@
--- The list of the retired where a node changes, is taken out or added: for the invariant of every call.
-use Rattle.std.proofs.Common.{◌≡◌, ℕ, zero, suc, ◌+◌, ◌<◌, List, [], ◌∷◌, ◌++◌, length, get_or, set, Bool, true, false, refl, sym, ap, ◌∙◌, inl, inr, arith, length-append}
-use Rattle.std.proofs.{lemmas.Bool.cases_eq, lemmas.List.{length-set, get_or_append_left}, Math.Seq.get_or-append_seam}
-use Rattle.std.proofs.lemmas.List.Elements.{All-append, All-cons}
-use Rattle.std.specs.Prelude.{if◌then◌else◌}
-use Rattle.mt_arena.specs.{declared.retired.Retired.Retired, NodeView.{NodeView, node_at}, Edits.retired}
-use Rattle.mt_arena.specs.Arena.{AreRetired, WasRetired, retired_at, live_count, one_if_live}
-use Rattle.mt_arena.proofs.Pairs.{here, there, before}
+-- The lists of idle places where a node or a tree changes, is taken out or added: for the invariant of every call.
+use Rattle.std.proofs.Common.{◌≡◌, ℕ, ◌+◌, ◌<◌, ◌≤◌, List, [], ◌∷◌, ◌++◌, length, set, Bool, true, false, refl, ap, ◌∙◌, sym, arith}
+use Rattle.std.proofs.lemmas.Bool.{ne_eqb}
+use Rattle.std.specs.Prelude.{◌==◌, ◌&&◌, not, if◌then◌else◌}
+use Rattle.mt_arena.specs.{declared.tree.Tree.Tree, NodeView.{NodeView, node_at, no_node}, Forests.{tree_at, no_tree}}
+use Rattle.mt_arena.specs.{Edits.retired, Arena.{live_count, one_if_live}}
+use Rattle.mt_arena.specs.Idle.{RetiredPlaces, AreRetired, is_idle_border, is_idle_interior, is_idle_tree, with_border, with_interior, with_tree, no_places}
+use Rattle.mt_arena.proofs.Listed.{listed_few, listed_same, listed_push, listed_more, listed_none}
 
--- how many are live, where one changes
-pub live-set : (xs : List NodeView) (i : ℕ) (y : NodeView) → i < length xs
-    → live_count (set xs i y) + one_if_live (node_at xs i) ≡ live_count xs + one_if_live y
-live-set [] i y within = absurd (omega arith)
-live-set (x ∷ xs) zero y within = omega arith
-live-set (x ∷ xs) (suc i) y within = omega (arith, live-set xs i y (omega arith))
+-- a node is idle as before where its deleted mark and its level stay
+same_border : (x y : NodeView) → y.version.deleted ≡ x.version.deleted → y.level ≡ x.level → is_idle_border y ≡ is_idle_border x
+same_border x y deleted level = λ i. deleted i && (level i == 0)
 
--- how one more node is counted among the live ones
-pub live-push : (xs : List NodeView) (y : NodeView) → live_count (xs ++ y ∷ []) ≡ live_count xs + one_if_live y
-live-push [] y = omega arith
-live-push (x ∷ xs) y = omega (arith, live-push xs y)
+same_interior : (x y : NodeView) → y.version.deleted ≡ x.version.deleted → y.level ≡ x.level → is_idle_interior y ≡ is_idle_interior x
+same_interior x y deleted level = λ i. deleted i && not (level i == 0)
 
-same_count : (x y : NodeView) → y.version.deleted ≡ x.version.deleted → one_if_live y ≡ one_if_live x
-same_count x y same = ap (λ (b : Bool). if b then 0 else 1) same
+-- a live node isn't
+used_border : (n : NodeView) → n.version.deleted ≡ false → is_idle_border n ≡ false
+used_border n live = ap (λ b. b && (n.level == 0)) live
 
--- the retired stay so where a node keeps its deleted mark
-was_set : (xs : List NodeView) (i : ℕ) (y : NodeView) (r : Retired) → i < length xs
-    → ((node_at xs i).version.deleted ≡ true → y.version.deleted ≡ true) → WasRetired xs r → WasRetired (set xs i y) r
-was_set xs i y r within stays was = (
-  omega (arith, length-set xs i y, was.0),
-  elim (cases_eq r.node i) [
-    | inl is ↦ ap (λ k. (node_at (set xs i y) k).version.deleted) is ∙ ap (λ (n : NodeView). n.version.deleted) (here xs i y within) ∙ stays (ap (λ k. (node_at xs k).version.deleted) (sym is) ∙ was.1)
-    | inr other ↦ ap (λ (n : NodeView). n.version.deleted) (there xs i r.node y other) ∙ was.1
-  ],
-)
+used_interior : (n : NodeView) → n.version.deleted ≡ false → is_idle_interior n ≡ false
+used_interior n live = ap (λ b. b && not (n.level == 0)) live
 
--- the list of the retired stands where a node stays live, or stays taken out
-pub retired_set : (xs : List NodeView) (gone : List Retired) (i : ℕ) (y : NodeView) → i < length xs → AreRetired xs gone
-    → y.version.deleted ≡ (node_at xs i).version.deleted → AreRetired (set xs i y) gone
-retired_set xs gone i y within are same = record {
-  each = λ k d lt. was_set xs i y (get_or gone k d) within (λ e. same ∙ e) (are.each k d lt);
-  once = are.once;
-  counted = omega (arith, live-set xs i y within, same_count (node_at xs i) y same, length-set xs i y, are.counted);
+above : (level : ℕ) → 0 < level → (level == 0) ≡ false
+above level some = ne_eqb level 0 (λ none. omega (arith, some, none))
+
+-- the lists stand where a node stays live, or stays taken out
+pub retired_set : (xs : List NodeView) (trees : List Tree) (gone : RetiredPlaces) (i : ℕ) (y : NodeView) → i < length xs → AreRetired xs trees gone
+    → y.version.deleted ≡ (node_at xs i).version.deleted → y.level ≡ (node_at xs i).level → AreRetired (set xs i y) trees gone
+retired_set xs trees gone i y within are deleted level = record {
+  of_borders = listed_same is_idle_border no_node xs gone.borders i y within are.of_borders (same_border (node_at xs i) y deleted level);
+  of_interiors = listed_same is_idle_interior no_node xs gone.interiors i y within are.of_interiors (same_interior (node_at xs i) y deleted level);
+  of_trees = are.of_trees;
 }
 
 -- a live node more
-pub retired_push : (xs : List NodeView) (gone : List Retired) (y : NodeView) → AreRetired xs gone → y.version.deleted ≡ false → AreRetired (xs ++ y ∷ []) gone
-retired_push xs gone y are live =
-    let size : length (xs ++ y ∷ []) ≡ length xs + 1 = length-append xs (y ∷ []) in
-    let one : one_if_live y ≡ 1 = ap (λ (b : Bool). if b then 0 else 1) live in
+pub retired_push : (xs : List NodeView) (trees : List Tree) (gone : RetiredPlaces) (y : NodeView) → AreRetired xs trees gone → y.version.deleted ≡ false
+    → AreRetired (xs ++ y ∷ []) trees gone
+retired_push xs trees gone y are live = record {
+  of_borders = listed_push is_idle_border no_node xs gone.borders y are.of_borders (used_border y live);
+  of_interiors = listed_push is_idle_interior no_node xs gone.interiors y are.of_interiors (used_interior y live);
+  of_trees = are.of_trees;
+}
+
+-- a border node is taken out
+pub border_retired : (xs : List NodeView) (trees : List Tree) (gone : RetiredPlaces) (i step : ℕ) → i < length xs → AreRetired xs trees gone
+    → (node_at xs i).version.deleted ≡ false → (node_at xs i).level ≡ 0 → AreRetired (set xs i (retired (node_at xs i))) trees (with_border gone i step)
+border_retired xs trees gone i step within are live border =
+    let x = node_at xs i in
     record {
-      each =
-          λ k d lt. let was = are.each k d lt in (omega (arith, was.0), ap (λ (n : NodeView). n.version.deleted) (before xs y (get_or gone k d).node was.0) ∙ was.1);
-      once = are.once;
-      counted = omega (arith, live-push xs y, are.counted);
+      of_borders = listed_more is_idle_border no_node xs gone.borders i step (retired x) within are.of_borders (used_border x live) (ap (λ l. l == 0) border);
+      of_interiors =
+          listed_same is_idle_interior no_node xs gone.interiors i (retired x) within are.of_interiors (ap (λ l. not (l == 0)) border ∙ sym (used_interior x live));
+      of_trees = are.of_trees;
     }
 
--- a node is taken out
-pub retired_more : (xs : List NodeView) (gone : List Retired) (i step : ℕ) → i < length xs → AreRetired xs gone → (node_at xs i).version.deleted ≡ false
-    → AreRetired (set xs i (retired (node_at xs i))) (gone ++ (record { node = i; step = step }) ∷ [])
-retired_more xs gone i step within are live =
-    let y = retired (node_at xs i) in
-    let r : Retired = record { node = i; step = step } in
-    let one : one_if_live (node_at xs i) ≡ 1 = ap (λ (b : Bool). if b then 0 else 1) live in
-    let none : one_if_live y ≡ 0 = refl in
-    let more : length (gone ++ r ∷ []) ≡ length gone + 1 = length-append gone (r ∷ []) in
-    let blank : Retired = record { node = 0; step = 0 } in
-    let old : (k : ℕ) → k < length gone → retired_at (gone ++ r ∷ []) k ≡ retired_at gone k = λ k lt. ap (λ (r : Retired). r.node) (get_or_append_left gone (r ∷ []) blank k lt) in
-    let last_one : retired_at (gone ++ r ∷ []) (length gone) ≡ i = ap (λ (r : Retired). r.node) (get_or-append_seam gone r [] blank) in
+-- an interior node is taken out
+pub interior_retired : (xs : List NodeView) (trees : List Tree) (gone : RetiredPlaces) (i step : ℕ) → i < length xs → AreRetired xs trees gone
+    → (node_at xs i).version.deleted ≡ false → 0 < (node_at xs i).level → AreRetired (set xs i (retired (node_at xs i))) trees (with_interior gone i step)
+interior_retired xs trees gone i step within are live interior =
+    let x = node_at xs i in
+    let level = above x.level interior in
     record {
-      each = All-append (WasRetired (set xs i y)) gone (r ∷ []) (λ k d lt. was_set xs i y (get_or gone k d) within (λ e. refl) (are.each k d lt))
-          (All-cons (WasRetired (set xs i y)) r [] (omega (arith, length-set xs i y), ap (λ (n : NodeView). n.version.deleted) (here xs i y within)) (λ k d lt. absurd (omega arith)));
-      once = λ a b lt inside same. elim (cases_eq b (length gone)) [
-        | inl is ↦
-            let node_is : retired_at gone a ≡ i = sym (old a (omega arith)) ∙ same ∙ ap (retired_at (gone ++ r ∷ [])) is ∙ last_one in
-            let dead : (node_at xs i).version.deleted ≡ true = ap (λ k. (node_at xs k).version.deleted) (sym node_is) ∙ (are.each a blank (omega arith)).1 in
-            absurd (let alive = live in cc)
-        | inr other ↦ are.once a b lt (omega arith) (sym (old a (omega arith)) ∙ same ∙ old b (omega arith))
-      ];
-      counted = omega (arith, live-set xs i y within, length-set xs i y, are.counted);
+      of_borders = listed_same is_idle_border no_node xs gone.borders i (retired x) within are.of_borders (level ∙ sym (used_border x live));
+      of_interiors = listed_more is_idle_interior no_node xs gone.interiors i step (retired x) within are.of_interiors (used_interior x live) (ap not level);
+      of_trees = are.of_trees;
     }
 
--- a live node is none of the retired, so that these are fewer than all
-pub retired_few : (xs : List NodeView) (gone : List Retired) (i : ℕ) → i < length xs → AreRetired xs gone → (node_at xs i).version.deleted ≡ false
-    → length gone < length xs
-retired_few xs gone i within are live =
-    let one : one_if_live (node_at xs i) ≡ 1 = ap (λ (b : Bool). if b then 0 else 1) live in
-    let none : one_if_live (retired (node_at xs i)) ≡ 0 = refl in
-    omega (arith, live-set xs i (retired (node_at xs i)) within, are.counted)
+-- a tree goes on, or stays dead
+pub retired_tree_set : (xs : List NodeView) (trees : List Tree) (gone : RetiredPlaces) (t : ℕ) (u : Tree) → t < length trees → AreRetired xs trees gone
+    → is_idle_tree u ≡ is_idle_tree (tree_at trees t) → AreRetired xs (set trees t u) gone
+retired_tree_set xs trees gone t u within are same = record {
+  of_borders = are.of_borders;
+  of_interiors = are.of_interiors;
+  of_trees = listed_same is_idle_tree no_tree trees gone.trees t u within are.of_trees same;
+}
+
+-- a tree more, which isn't dead
+pub retired_tree_push : (xs : List NodeView) (trees : List Tree) (gone : RetiredPlaces) (u : Tree) → AreRetired xs trees gone → is_idle_tree u ≡ false
+    → AreRetired xs (trees ++ u ∷ []) gone
+retired_tree_push xs trees gone u are used = record {
+  of_borders = are.of_borders;
+  of_interiors = are.of_interiors;
+  of_trees = listed_push is_idle_tree no_tree trees gone.trees u are.of_trees used;
+}
+
+-- a tree dies
+pub tree_retired : (xs : List NodeView) (trees : List Tree) (gone : RetiredPlaces) (t step : ℕ) (u : Tree) → t < length trees → AreRetired xs trees gone
+    → is_idle_tree (tree_at trees t) ≡ false → is_idle_tree u ≡ true → AreRetired xs (set trees t u) (with_tree gone t step)
+tree_retired xs trees gone t step u within are used dead = record {
+  of_borders = are.of_borders;
+  of_interiors = are.of_interiors;
+  of_trees = listed_more is_idle_tree no_tree trees gone.trees t step u within are.of_trees used dead;
+}
+
+-- a live node's place is none of the idle ones, so that these are fewer than all; nor is that of a tree that isn't dead
+pub borders_few : (xs : List NodeView) (trees : List Tree) (gone : RetiredPlaces) (i : ℕ) → i < length xs → AreRetired xs trees gone
+    → (node_at xs i).version.deleted ≡ false → length gone.borders < length xs
+borders_few xs trees gone i within are live = listed_few is_idle_border no_node xs gone.borders i within are.of_borders (used_border (node_at xs i) live)
+
+pub interiors_few : (xs : List NodeView) (trees : List Tree) (gone : RetiredPlaces) (i : ℕ) → i < length xs → AreRetired xs trees gone
+    → (node_at xs i).version.deleted ≡ false → length gone.interiors < length xs
+interiors_few xs trees gone i within are live = listed_few is_idle_interior no_node xs gone.interiors i within are.of_interiors (used_interior (node_at xs i) live)
+
+pub trees_few : (xs : List NodeView) (trees : List Tree) (gone : RetiredPlaces) (t : ℕ) → t < length trees → AreRetired xs trees gone
+    → is_idle_tree (tree_at trees t) ≡ false → length gone.trees < length trees
+trees_few xs trees gone t within are used = listed_few is_idle_tree no_tree trees gone.trees t within are.of_trees used
+
+-- no place is idle where there is none
+pub retired_none : AreRetired [] [] no_places
+retired_none = record {
+  of_borders = listed_none is_idle_border no_node;
+  of_interiors = listed_none is_idle_interior no_node;
+  of_trees = listed_none is_idle_tree no_tree;
+}
+
+-- no more nodes are live than there are
+one_live : (b : Bool) → (if b then 0 else 1) ≤ 1
+one_live true = omega arith
+one_live false = omega arith
+
+pub live-le : (xs : List NodeView) → live_count xs ≤ length xs
+live-le [] = omega arith
+live-le (x ∷ xs) = omega (arith, live-le xs, one_live x.version.deleted)

@@ -11,7 +11,7 @@ use Rattle.mt_border.proofs.Edits.{any_entry, place_in-le, All-insert, All-remov
 use Rattle.mt_border.specs.Keeps.{HasEntry, KeepsEntries, LosesOnly}
 use Rattle.mt_border.proofs.KeptEntries.{entries_none}
 use Rattle.mt_border.proofs.{ContentsKeys.has_rewritten_key, ContentsEdits.keys-publish}
-use Rattle.mt_arena.specs.{declared.tree.Tree.Tree, declared.retired.Retired.Retired, NodeView.{NodeView, node_at, place_at}, NodeFacts.IsUnstable, Nodes.Holds, Layers.slot_at}
+use Rattle.mt_arena.specs.{declared.tree.Tree.Tree, Idle.{RetiredPlaces, Rooms}, NodeView.{NodeView, node_at, place_at}, NodeFacts.IsUnstable, Nodes.Holds, Layers.slot_at}
 use Rattle.mt_arena.specs.{Forests.{HaveKeys, tree_at, layer_of}, Guarantee.{Changes, LosesHeld}, Edits.{inserting, with_slots, cells_with, cells_holding, cells_without}, Arena.{ArenaInvariant, ArenaView, Guarantee}}
 use Rattle.mt_arena.specs.{Contents.content, Accesses.{at, tree_of, IsOpen, with_node, with_row, MayPublish, MayChange}}
 use Rattle.mt_arena.proofs.{Quiet.nodes_slots, Ranged.ranged_marked, Homes.begun, Owners.{published, stored, dropped}}
@@ -37,7 +37,7 @@ pub record MayHold (trees : List Tree) (x : NodeView) (slots : List Entry) : Typ
   pub back : HasLinksOf x.slots slots
 
 -- the whole invariant stands where a held border node gets slots that it may hold
-pub sound_slots : (xs : List NodeView) (trees : List Tree) (gone : List Retired) (room i : ℕ) (slots : List Entry) (cells : Slotted) → i < length xs
+pub sound_slots : (xs : List NodeView) (trees : List Tree) (gone : RetiredPlaces) (room : Rooms) (i : ℕ) (slots : List Entry) (cells : Slotted) → i < length xs
     → ArenaInvariant xs trees gone room → (node_at xs i).holder ≢ None → (node_at xs i).level ≡ 0
     → MayHold trees (node_at xs i) slots → ArenaInvariant (set xs i (with_slots (node_at xs i) slots cells)) trees gone room
 sound_slots xs trees gone room i slots cells within sound held level may =
@@ -109,7 +109,7 @@ no_link (Stable pair) stable u e = absurd (cc)
 no_link (Unstable pair tree) stable u e = absurd stable
 no_link (Link tree) stable u e = absurd stable
 
-module _ (xs : List NodeView) (trees : List Tree) (gone : List Retired) (room i : ℕ) (within : i < length xs) (sound : ArenaInvariant xs trees gone room) where
+module _ (xs : List NodeView) (trees : List Tree) (gone : RetiredPlaces) (room : Rooms) (i : ℕ) (within : i < length xs) (sound : ArenaInvariant xs trees gone room) where
   abbrev x : NodeView
   x = node_at xs i
 
@@ -195,7 +195,7 @@ begun_mark key layer some = by_length (length (rest_of key layer)) (omega (arith
         by false e = absurd (cc)
 
 -- what the calls of an arena make of it: all that holds, and the contents
-module _ (v : ArenaView) (room k op : ℕ) (key : Bytes) (sound : ArenaInvariant v.nodes v.trees v.retired room) where
+module _ (v : ArenaView) (room : Rooms) (k op : ℕ) (key : Bytes) (sound : ArenaInvariant v.nodes v.trees v.retired room) where
   abbrev n : NodeView
   n = at v k
 

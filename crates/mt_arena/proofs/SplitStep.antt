@@ -4,7 +4,7 @@ use Rattle.std.proofs.Common.{◌≡◌, ◌≢◌, ◌⊎◌, ℕ, ◌<◌, ◌
 use Rattle.std.proofs.{lemmas.Bool.cases_eq, lemmas.List.length-set}
 use Rattle.mt_slices.specs.{Slices.piece_bytes, declared.mark.Mark.TheVariants.Long}
 use Rattle.mt_border.{specs.{declared.entry.Entry.Entry, Held.Link}, proofs.Edits.any_entry}
-use Rattle.mt_arena.specs.{declared.tree.Tree.Tree, declared.tree.Standing.TheVariants.Made, declared.retired.Retired.Retired, NodeView.{NodeView, node_at}}
+use Rattle.mt_arena.specs.{declared.tree.Tree.Tree, declared.tree.Standing.TheVariants.Made, Idle.{RetiredPlaces, Rooms}, NodeView.{NodeView, node_at}}
 use Rattle.mt_arena.specs.{Forests.{IsForest, tree_at, HaveKeys}, Layers.{AreLayered, AreLinks, HasLink, slot_at}, Guarantee.{NodesGuarantee, Changes}}
 use Rattle.mt_arena.specs.{Arena.ArenaInvariant, Splits.{Splits, left_half, right_half}}
 use Rattle.mt_arena.proofs.{Pairs.{here, there}, Homes.{KeepsHome, forest_set}, LinkEdits.{HasSlot, HasLinksOf}, Retiring.retired_set}
@@ -123,7 +123,7 @@ module _ (xs : List NodeView) (trees : List Tree) (i j : ℕ) (kept moved : List
         ]
       ]
 
-  pub sound_split : (gone : List Retired) (room : ℕ) → ArenaInvariant xs trees gone room → r.slots ≡ [] → r.version.root ≡ false
+  pub sound_split : (gone : RetiredPlaces) (room : Rooms) → ArenaInvariant xs trees gone room → r.slots ≡ [] → r.version.root ≡ false
       → HaveKeys (tree_at trees x.tree).prefix kept → HaveKeys (tree_at trees r.tree).prefix moved → HasLinksOf x.slots kept
       → HasLinksOf x.slots moved
       → ((a u : ℕ) → a < length x.slots → (get_or x.slots a any_entry).held ≡ Link u → HasSlot kept u (get_or x.slots a any_entry).slice ⊎ HasSlot moved u (get_or x.slots a any_entry).slice)
@@ -135,8 +135,10 @@ module _ (xs : List NodeView) (trees : List Tree) (i j : ℕ) (kept moved : List
       forest = forest_split sound.arena.forest left right no_root;
       layers = layers_split sound.arena.layers empty back_kept back_moved forth;
     };
-    retired = retired_set ys gone j z ljy (retired_set xs gone i y li sound.retired refl) (ap (λ (n : NodeView). n.version.deleted) (sym old_j));
+    retired = retired_set ys trees gone j z ljy (retired_set xs trees gone i y li sound.retired refl refl) (ap (λ (n : NodeView). n.version.deleted) (sym old_j))
+        (ap (λ (n : NodeView). n.level) (sym old_j));
     enough = omega (arith, size, sound.enough);
+    trees_enough = sound.trees_enough;
   }
 
   pub guarantee_split : (op : ℕ) → x.holder ≡ Some op → r.holder ≡ Some op → IsForest xs trees

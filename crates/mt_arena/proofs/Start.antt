@@ -1,8 +1,9 @@
 -- The invariant of an arena with an empty top tree: for `new`.
 use Rattle.std.proofs.Common.{◌≢◌, ℕ, zero, suc, ◌<◌, ◌≤◌, List, [], ◌∷◌, refl, arith}
+use Rattle.mt_arena.specs.Idle.{Rooms, no_places}
 use Rattle.mt_arena.specs.{declared.tree.Tree.Tree, NodeView.{NodeView, node_at}, Forests.{IsForest, IsHome, IsTree, tree_at}, Layers.AreLinks}
 use Rattle.mt_arena.specs.{Edits.fresh_root, Arena.ArenaInvariant, Accesses.top_tree}
-use Rattle.mt_arena.proofs.{Begins.{begins_none, begins_push}, Ranged.ranged_root, Push.nodes_root}
+use Rattle.mt_arena.proofs.{Begins.{begins_none, begins_push}, Ranged.ranged_root, Push.nodes_root, Retiring.{retired_push, retired_tree_push, retired_none}}
 
 -- what there is at first
 abbrev first_nodes : List NodeView
@@ -41,8 +42,8 @@ first_forest = record {
     at (suc t) lt = absurd (omega arith)
 
 -- a new arena has the whole invariant
-pub sound_first : (room : ℕ) → 1 ≤ room → ArenaInvariant first_nodes first_trees [] room
-sound_first room enough = record {
+pub sound_first : (room : Rooms) → 1 ≤ room.nodes → 1 ≤ room.trees → ArenaInvariant first_nodes first_trees no_places room
+sound_first room enough trees_enough = record {
   arena = record {
     nodes = nodes_root [] 0 record { each = λ k lt. absurd (omega arith); pairs = λ k j lt. absurd (omega arith) } (λ k lt. absurd (omega arith));
     ranged =
@@ -50,8 +51,9 @@ sound_first room enough = record {
     forest = first_forest;
     layers = record { links = λ k lt. none k lt; linked = λ u lt live deep. absurd (shallow u lt deep) };
   };
-  retired = record { each = λ k d lt. absurd (omega arith); once = λ i j lt inside. absurd (omega arith); counted = refl };
+  retired = retired_tree_push first_nodes [] no_places top_tree (retired_push [] [] no_places (fresh_root 0) retired_none refl) refl;
   enough = enough;
+  trees_enough = trees_enough;
 }
   where
     none : (k : ℕ) → k < 1 → AreLinks first_trees (node_at first_nodes k)

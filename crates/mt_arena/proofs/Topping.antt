@@ -1,4 +1,5 @@
 -- The whole invariant, the guarantee and the contents where a new root comes over two halves: for `grow_root`.
+use Rattle.mt_arena.specs.Idle.{Rooms}
 use Rattle.mt_arena.specs.Guarantee.{LosesHeld}
 use Rattle.std.proofs.Common.{◌≡◌, ℕ, ◌+◌, ◌<◌, ◌≤◌, ◌++◌, List, ◌∷◌, [], length, get_or, set, Some, refl, sym, ap, subst, ◌∙◌, inl, inr, arith, length-append}
 use Rattle.std.proofs.{lemmas.Bool.cases_eq, lemmas.Option.same_Some, lemmas.List.{length-set, get_or-set_same, get_or-set_other, get_or_default}}
@@ -8,7 +9,7 @@ use Rattle.mt_arena.specs.{declared.tree.Tree.Tree, NodeView.{NodeView, node_at}
 use Rattle.mt_arena.specs.{Guarantee.{NodesGuarantee, Changes, TreeChanges}, Settled.IsSettled, Arena.{ArenaInvariant, ArenaView, Guarantee}}
 use Rattle.mt_arena.specs.{Accesses.{at, tree_of}, Growth.{fresh_top, left_below, right_below}, Several.{MayGrow, with_root}}
 use Rattle.mt_arena.proofs.{Pairs.{there, last}, Grow.{nodes_root_grow, settled_root_grow}, RangedEdits.ranged_root_grow}
-use Rattle.mt_arena.proofs.{GrowStep.{forest_grown, same_prefix, same_standing}, Growing.layers_push, Retiring.retired_push}
+use Rattle.mt_arena.proofs.{GrowStep.{forest_grown, same_prefix, same_standing}, Growing.layers_push, Retiring.{retired_push, retired_tree_set}}
 use Rattle.mt_arena.proofs.Guarantees.{changes_none, guarantee_set, guarantee_push, guarantee_on, tree_changes_none, PointsSo, lost_none, lost_push}
 use Rattle.mt_arena.proofs.{HeldChanges.{changes_left_below, changes_right_below}, Naming.{names_same, points_more, each_set2}, Several.{AreKept, kept_set2}}
 use Rattle.mt_arena.proofs.ContentQuiet.{stands_pushed, stands_tree_set}
@@ -50,7 +51,7 @@ guarantee_record op nodes trees t tree within change = record {
   taken_new = λ k q from lt. absurd (omega (arith, from, lt));
 }
 
-module _ (v : ArenaView) (room more left right op : ℕ) (sound : ArenaInvariant v.nodes v.trees v.retired room) (may : MayGrow v left right op) where
+module _ (v : ArenaView) (room more : Rooms) (left right op : ℕ) (sound : ArenaInvariant v.nodes v.trees v.retired room) (may : MayGrow v left right op) where
   abbrev xs : List NodeView
   xs = v.nodes
 
@@ -86,13 +87,13 @@ module _ (v : ArenaView) (room more left right op : ℕ) (sound : ArenaInvariant
 
   kept : AreKept xs ws v.trees v.retired
   kept =
-      kept_set2 xs v.trees v.retired left right y z li lj may.grows.differ (record { slots = refl; deleted = refl; tree = refl }) (record { slots = refl; deleted = refl; tree = refl })
+      kept_set2 xs v.trees v.retired left right y z li lj may.grows.differ (record { slots = refl; deleted = refl; tree = refl }) (record { slots = refl; deleted = refl; tree = refl }) refl refl
 
   lt_t : l.tree < length v.trees
   lt_t = sound.arena.forest.tree_there left li
 
-  pub sound_grown : length xs + 1 ≤ more → ArenaInvariant (ws ++ g ∷ []) ts v.retired more
-  sound_grown enough =
+  pub sound_grown : length xs + 1 ≤ more.nodes → length v.trees ≤ more.trees → ArenaInvariant (ws ++ g ∷ []) ts v.retired more
+  sound_grown enough trees_enough =
       let forest = sound.arena.forest in
       record {
         arena = record {
@@ -103,8 +104,9 @@ module _ (v : ArenaView) (room more left right op : ℕ) (sound : ArenaInvariant
               (same_prefix xs v.trees left right op may.grows forest may.is_root may.no_root) (same_standing xs v.trees left right op may.grows forest may.is_root may.no_root)
               (layers_push ws v.trees g refl (kept.layers sound.arena.layers));
         };
-        retired = retired_push ws v.retired g (kept.retired sound.retired) refl;
+        retired = retired_tree_set (ws ++ g ∷ []) v.trees v.retired l.tree grown lt_t (retired_push ws v.trees v.retired g (kept.retired sound.retired) refl) refl;
         enough = omega (arith, length-append ws (g ∷ []), kept.count, enough);
+        trees_enough = omega (arith, length-set v.trees l.tree grown, trees_enough);
       }
 
   old_right : node_at (set xs left y) right ≡ r

@@ -1,21 +1,22 @@
 -- The whole invariant, the guarantee and the contents where a border node is taken out, and what lags behind its neighbours: for `unlink`.
+use Rattle.mt_arena.specs.Idle.{Rooms, AreRetired, with_border}
 use Rattle.mt_arena.specs.Guarantee.{LosesHeld}
 use Rattle.std.proofs.{Common.{◌≡◌, ◌≢◌, ℕ, ◌-◌, ◌<◌, List, [], length, set, false, None, refl, sym, ap, subst, ◌∙◌, arith}, lemmas.List.{length-set, set-set}}
 use Rattle.std.proofs.lemmas.Option.{same_Some}
 use Rattle.mt_interior.specs.{Fences.end_of, Places.place_of}
 use Rattle.mt_arena.specs.{declared.tree.Standing.TheVariants.Dead, NodeView.{NodeView, node_at}, Nodes.{AreNodes, IsChild, HasChild, HasRange}}
 use Rattle.mt_arena.specs.{Ranges.AreRanged, Forests.{IsForest, IsRoot, tree_at}, Layers.AreLayered, Contents.content, Edits.{inserting, retired}}
-use Rattle.mt_arena.specs.{Unlinks.{Unlinks, joined, without_child}, Arena.{ArenaInvariant, ArenaView, AreRetired, Guarantee}, Accesses.at, Ways.HasSlots}
-use Rattle.mt_arena.specs.{Settled.IsSettled, Lags.IsFollowedBy, Removals.{MayUnlink, nodes_without, without_node, with_retired}}
+use Rattle.mt_arena.specs.{Unlinks.{Unlinks, joined, without_child}, Arena.{ArenaInvariant, ArenaView, Guarantee}, Accesses.at, Ways.HasSlots}
+use Rattle.mt_arena.specs.{Settled.IsSettled, Lags.IsFollowedBy, Removals.{MayUnlink, nodes_without, without_node}}
 use Rattle.mt_arena.proofs.{Pairs.{here, there}, Quiet.nodes_inserting, ChildPlace.child_place, Ranged.ranged_marked, RangedEdits.ranged_unlinked}
 use Rattle.mt_arena.proofs.{Unlink.nodes_unlinked, Locks.is_held, Homes.{KeepsHome, forest_set}, Steps.keys_of}
-use Rattle.mt_arena.proofs.{LinkEdits.{KeepsLinks, same_links, layers_set, layers_empty}, Retiring.{retired_set, retired_more}}
+use Rattle.mt_arena.proofs.{LinkEdits.{KeepsLinks, same_links, layers_set, layers_empty}, Retiring.{retired_set, border_retired}}
 use Rattle.mt_arena.proofs.{TakenOut.{forest_retired, changes_retired, standing_dead}, Slots.changes_inserting, HeldChanges.{changes_joined, changes_without_child}}
 use Rattle.mt_arena.proofs.{Guarantees.{changes_on, PointsSo, lost_none}, Naming.{names_same, points_each, each_set3}, Several.{MayTurn, guarantee_set3}}
 use Rattle.mt_arena.proofs.Settling.{NamesNoMore, names_none_more, follows_was, under_was, settled_same, child_less}
 use Rattle.mt_arena.proofs.ContentQuiet.{stands_unchanged, stands_without_slots}
 
-module _ (v : ArenaView) (room parent left node step op : ℕ) (sound : ArenaInvariant v.nodes v.trees v.retired room) (may : MayUnlink v parent left node op) where
+module _ (v : ArenaView) (room : Rooms) (parent left node step op : ℕ) (sound : ArenaInvariant v.nodes v.trees v.retired room) (may : MayUnlink v parent left node op) where
   abbrev xs : List NodeView
   xs = v.nodes
 
@@ -193,18 +194,20 @@ module _ (v : ArenaView) (room parent left node step op : ℕ) (sound : ArenaInv
       (layers_empty ys v.trees node w (omega (arith, lj, size_ys)) (layers_set xs v.trees left y li sound.arena.layers keeps_left) (record { old = ap (λ (n : NodeView). n.slots) at_node ∙ may.empty; new = may.empty }))
       (subst (λ (n : NodeView). KeepsLinks n q) (sym at_parent) keeps_above)
 
-  retired_out : AreRetired new (with_retired v.retired node step)
+  retired_out : AreRetired new v.trees (with_border v.retired node step)
   retired_out =
-      retired_set us (with_retired v.retired node step) parent q (omega (arith, lq, size_us))
-      (subst (λ (n : NodeView). AreRetired (set ys node (retired n)) (with_retired v.retired node step)) at_node
-      (retired_more ys v.retired node step (omega (arith, lj, size_ys)) (retired_set xs v.retired left y li sound.retired refl) (ap (λ (n : NodeView). n.version.deleted) at_node ∙ may.live)))
-      (ap (λ (n : NodeView). n.version.deleted) (sym at_parent))
+      retired_set us v.trees (with_border v.retired node step) parent q (omega (arith, lq, size_us))
+      (subst (λ (n : NodeView). AreRetired (set ys node (retired n)) v.trees (with_border v.retired node step)) at_node
+      (border_retired ys v.trees v.retired node step (omega (arith, lj, size_ys)) (retired_set xs v.trees v.retired left y li sound.retired refl refl)
+      (ap (λ (n : NodeView). n.version.deleted) at_node ∙ may.live) (ap (λ (n : NodeView). n.level) at_node ∙ may.border)))
+      (ap (λ (n : NodeView). n.version.deleted) (sym at_parent)) (ap (λ (n : NodeView). n.level) (sym at_parent))
 
-  pub sound_unlinked : ArenaInvariant (nodes_without xs parent left node) v.trees (with_retired v.retired node step) room
-  sound_unlinked = subst (λ (ns : List NodeView). ArenaInvariant ns v.trees (with_retired v.retired node step) room) (sym new_is) (record {
+  pub sound_unlinked : ArenaInvariant (nodes_without xs parent left node) v.trees (with_border v.retired node step) room
+  sound_unlinked = subst (λ (ns : List NodeView). ArenaInvariant ns v.trees (with_border v.retired node step) room) (sym new_is) (record {
     arena = record { nodes = nodes_out; ranged = ranged_out; forest = forest_out; layers = layers_out };
     retired = retired_out;
     enough = omega (arith, length-set us parent q, size_us, sound.enough);
+    trees_enough = sound.trees_enough;
   })
 
   -- what others rely on

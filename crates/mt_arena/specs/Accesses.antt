@@ -3,14 +3,15 @@ use Rattle.std.specs.Prelude.{◌≡◌, ◌≢◌, ℕ, ◌*◌, ◌<◌, [], �
 use Rattle.mt_rows.specs.Rows.{Bytes, Columns}
 use Rattle.mt_border.specs.{Contents.HasKey, Entry.{IsEntry, IsStablePair}, Entries.IsMissing, declared.entry.Entry.Entry, Held.{Pair, Stable}}
 use Rattle.mt_arena.specs.{Layers.slot_at, Ways.{BelongsIn, StandsFor}, declared.tree.Tree.Tree, declared.tree.Standing.TheVariants.{Made, Live}}
-use Rattle.mt_arena.specs.{NodeView.{NodeView, node_at}, Forests.{tree_at, layer_of}, Edits.{splitting, fresh_half, fresh_root}, Arena.ArenaView}
+use Rattle.mt_arena.specs.{NodeView.{NodeView, node_at}, Forests.{tree_at, layer_of}, Edits.{splitting, fresh_half, fresh_root}}
+use Rattle.mt_arena.specs.{Idle.no_places, Arena.ArenaView}
 
 -- the top tree of a new arena, and what such an arena shows
 abbrev pub top_tree : Tree
 top_tree = record { prefix = []; root = 0; standing = Live }
 
 abbrev pub new_arena : ArenaView
-new_arena = record { nodes = fresh_root 0 ∷ []; trees = top_tree ∷ []; retired = [] }
+new_arena = record { nodes = fresh_root 0 ∷ []; trees = top_tree ∷ []; retired = no_places }
 
 -- the node of a number, and the tree of it
 abbrev pub at : ArenaView → ℕ → NodeView

@@ -7,8 +7,8 @@ pub mod Layers
 pub mod Contents
 pub mod Guarantee
 pub mod Settled
+pub mod Idle
 pub mod Arena
-pub mod Numbers
 pub mod RootLevels
 pub mod Stands
 pub mod Ways

@@ -1,14 +1,10 @@
 -- What the calls that take out nodes and trees need, and what they leave.
-use Rattle.std.specs.Prelude.{◌≡◌, ℕ, ◌-◌, ◌<◌, false, List, [], ◌∷◌, ◌++◌, length, Some, slice_set, slice_index}
+use Rattle.std.specs.Prelude.{◌≡◌, ℕ, ◌-◌, ◌<◌, false, List, [], ◌∷◌, length, Some, slice_set, slice_index}
 use Rattle.mt_border.specs.{Entries.without, Held.Link}
 use Rattle.mt_interior.specs.Places.{place_of}
-use Rattle.mt_arena.specs.{declared.tree.Standing.TheVariants.Dead, declared.retired.Retired.Retired, NodeView.{NodeView, node_at}, Forests.tree_at}
+use Rattle.mt_arena.specs.{declared.tree.Standing.TheVariants.Dead, Idle.{with_border, with_interior, with_tree}, NodeView.{NodeView, node_at}, Forests.tree_at}
 use Rattle.mt_arena.specs.{Layers.slot_at, Edits.{inserting, retired, with_slots, cells_without}, Unlinks.{joined, without_child}, Collapses.crowned, Arena.ArenaView}
 use Rattle.mt_arena.specs.Accesses.{at, tree_of, IsHeld, IsOpen}
-
--- the list of the retired with one more node, which the step of this number took out
-abbrev pub with_retired : List Retired → ℕ → ℕ → List Retired
-with_retired gone node step = gone ++ (record { node = node; step = step }) ∷ []
 
 -- these two are children of a live node, the second one just behind the first
 pub record AreBeside (p : NodeView) (left right : ℕ) : Type 0 where
@@ -43,7 +39,7 @@ nodes_without nodes parent left node =
 abbrev pub without_node : ArenaView → ℕ → ℕ → ℕ → ℕ → ArenaView
 without_node v parent left node step = record v {
   nodes = nodes_without v.nodes parent left node;
-  retired = with_retired v.retired node step;
+  retired = with_border v.retired node step;
 }
 
 -- the operation may take out a tree's root, which has one child: it holds both, and does not split the root
@@ -65,7 +61,7 @@ abbrev pub without_root : ArenaView → ℕ → ℕ → ℕ → ArenaView
 without_root v root child step = record v {
   nodes = nodes_under v.nodes root child;
   trees = slice_set v.trees (at v root).tree (record (tree_of v root) { root = child });
-  retired = with_retired v.retired root step;
+  retired = with_interior v.retired root step;
 }
 
 -- node r is the only live node of tree u
@@ -97,5 +93,5 @@ without_layer v node i u step =
     record v {
       nodes = nodes_above v.nodes node i tree.root;
       trees = slice_set v.trees u (record tree { standing = Dead });
-      retired = with_retired v.retired tree.root step;
+      retired = with_tree (with_border v.retired tree.root step) u step;
     }

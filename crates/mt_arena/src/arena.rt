@@ -17,7 +17,7 @@ ghost use Rattle.mt_border.specs.Split.{IsParted, IsSeparator, slices_with};
 ghost use Rattle.mt_arena.specs.{declared.tree.Standing.TheVariants.Live, NodeView.{node_at, place_at, border_view, interior_view}, Nodes.{Holds, HasRange}};
 ghost use Rattle.mt_arena.specs.{Forests.{HasSlice, tree_at, layer_of}, Layers.slot_at, Settled.IsSettled, Ranges.Waits};
 ghost use Rattle.mt_arena.specs.Edits.{locked, unlocked, with_slots, pointed, fresh_root, Points, cells_holding, cells_with, cells_without, with_filled, entry_filled, IsMarkedWhereDropped};
-ghost use Rattle.mt_arena.specs.{Arena.{IsArena, AreRetired, content_of, Guarantee, live_count}, Renumbers.{all_renumbered, arena_renumbered}};
+ghost use Rattle.mt_arena.specs.{Idle.AreRetired, Arena.{IsArena, content_of, Guarantee, live_count}, Renumbers.{all_renumbered, arena_renumbered}};
 ghost use Rattle.mt_arena.specs.Splits.{with_some};
 ghost use Rattle.mt_arena.specs.Several.{AreHalved, MaySplit, MayPlace, MayGrow, with_top, with_root, MayInsert, with_right, MaySplitInner, with_parts};
 ghost use Rattle.mt_arena.specs.Accesses.{new_arena, at, tree_of, IsHeld, IsOpen, with_node, with_half, with_row, MayPublish, MayChange};
@@ -25,7 +25,7 @@ ghost use Rattle.mt_slices.specs.Marks.{IsMark};
 ghost use Rattle.mt_interior.specs.Places.{IsNew};
 
 use crate::node::Node;
-use crate::retired::Retired;
+use crate::retired::IdlePlaces;
 use crate::tree::{Prefix, Standing, Tree};
 use mt_border::{Border, Entry, Held, NodeNumber};
 use mt_interior::Interior;
@@ -42,18 +42,17 @@ pub const MOST: usize = 0xFFFF_FFFF;
 pub struct Arena {
     pub(crate) nodes: Vec<Node>,
     pub(crate) trees: Vec<Tree>,
-    pub(crate) retired: Vec<Retired>,
+    pub(crate) retired: IdlePlaces,
 }
 
 impl Model for Arena {
-    ghost use Rattle.std.specs.Vec.{vec_capacity};
-    ghost use Rattle.mt_arena.specs.{Arena.{ArenaView, ArenaInvariant}, Numbers.room_for};
+    ghost use Rattle.mt_arena.specs.{Arena.{ArenaView, ArenaInvariant}, Idle.rooms_for};
 
     ghost Value = { ArenaView };
 
-    ghost view = { λ a. record { nodes = a.nodes.items; trees = a.trees.items; retired = a.retired.items } };
+    ghost view = { λ a. record { nodes = a.nodes.items; trees = a.trees.items; retired = a.retired.places } };
 
-    ghost invariant = { λ a. ArenaInvariant a.nodes.items a.trees.items a.retired.items (room_for (vec_capacity a.retired)) };
+    ghost invariant = { λ a. ArenaInvariant a.nodes.items a.trees.items a.retired.places (rooms_for a.retired.room) };
 }
 
 impl Arena {
@@ -69,8 +68,8 @@ impl Arena {
             root: 0,
             standing: Standing::Live,
         })?;
-        let mut retired = Vec::new(alloc);
-        retired.reserve(1)?;
+        let mut retired = IdlePlaces::new(alloc);
+        retired.make_room(1, 1)?;
         Ok(Arena {
             nodes,
             trees,
@@ -78,11 +77,11 @@ impl Arena {
         })
     }
 
-    /// What holds of all nodes, all trees and the retired after every step, for the proofs of callers:
+    /// What holds of all nodes, all trees and the idle places after every step, for the proofs of callers:
     /// nothing runs.
     pub fn facts(&self)
         ensures arena { IsArena self.now.nodes self.now.trees }
-        ensures retired { AreRetired self.now.nodes self.now.retired }
+        ensures retired { AreRetired self.now.nodes self.now.trees self.now.retired }
     {
         // For the proof.
         let _ = &self.nodes;
@@ -490,21 +489,22 @@ fn part_parent(nodes: &mut Vec<Node>, parent: usize, left: usize, right: usize, 
     nodes.push_reserved(half);
 }
 
-// Takes the memory for one more node and one more tree, and for the number of each node among the
-// retired. Where there are as many as there can be, that counts as want of memory.
+// Takes the memory for one more node and one more tree, and for the number of each of them among the
+// idle places. If there are as many as there can be, that counts as want of memory.
 pub(crate) fn make_room(
     nodes: &mut Vec<Node>,
     trees: &mut Vec<Tree>,
-    retired: &mut Vec<Retired>,
+    retired: &mut IdlePlaces,
 ) -> Result<(), AllocError>
-    requires few { vec_len retired.old ≤ vec_len nodes.old }
     ensures nodes { nodes.new.items ≡ nodes.old.items }
     ensures trees { trees.new.items ≡ trees.old.items }
-    ensures retired { retired.new.items ≡ retired.old.items }
+    ensures retired { retired.new.places ≡ retired.old.places }
     ensures node_room { OnOk result (vec_len nodes.new < vec_capacity nodes.new) }
     ensures tree_room { OnOk result (vec_len trees.new < vec_capacity trees.new) }
-    ensures room { OnOk result (vec_len nodes.new + 1 ≤ vec_capacity retired.new) }
-    ensures no_less { vec_capacity retired.old ≤ vec_capacity retired.new }
+    ensures room { OnOk result (vec_len nodes.new + 1 ≤ retired.new.room.nodes) }
+    ensures trees_room { OnOk result (vec_len trees.new + 1 ≤ retired.new.room.trees) }
+    ensures no_less { retired.old.room.nodes ≤ retired.new.room.nodes }
+    ensures no_fewer { retired.old.room.trees ≤ retired.new.room.trees }
     ensures few_nodes { OnOk result (vec_len nodes.new < MOST) }
     ensures few_trees { OnOk result (vec_len trees.new < MOST) }
 {
@@ -513,6 +513,5 @@ pub(crate) fn make_room(
     }
     nodes.reserve(1)?;
     trees.reserve(1)?;
-    retired.reserve(nodes.len() + 1 - retired.len())?;
-    Ok(())
+    retired.make_room(nodes.len() + 1, trees.len() + 1)
 }

@@ -16,5 +16,5 @@ pub mod tree;
 
 pub use arena::Arena;
 pub use node::Node;
-pub use retired::Retired;
+pub use retired::{Idle, IdlePlaces, Retired};
 pub use tree::{Prefix, Standing, Tree};

@@ -1,8 +1,8 @@
 //! The calls by which nodes and trees are taken out, each with all its writes at once.
 //!
-//! A node that is taken out is deleted and stands among the retired from the same step on; it keeps
-//! what it had for those who still remember it. No call takes memory: there is room for the number
-//! of each node among the retired from the moment it is made.
+//! A node that is taken out is deleted, and its place is idle, from the same step on; so is that of a
+//! tree. It keeps what it had for those who still remember it. No call takes memory: there is room for
+//! the number of each node and tree among the idle places from the moment it is made.
 
 ghost use Rattle.std.specs.Prelude.{◌≡◌, ◌≢◌, ◌<◌, ℕ, length, slice_set, None};
 ghost use Rattle.mt_border.specs.{Entry.IsLink, Held.Link, Entries.without, Keeps.{KeepsEntries, LosesOnly}};
@@ -13,7 +13,6 @@ ghost use Rattle.mt_arena.specs.Removals.{MayUnlink, nodes_without, without_node
 
 use crate::arena::Arena;
 use crate::node::{Node, NodeKind};
-use crate::retired::Retired;
 use crate::tree::Standing;
 use mt_border::{HeldRef, NodeNumber};
 
@@ -33,7 +32,7 @@ impl Arena {
             IsSettled self.old.nodes k (at self.old k) → IsSettled self.new.nodes k (at self.new k) }
     {
         take_out(&mut self.nodes, parent, left, node);
-        self.retired.push_reserved(Retired { node, step });
+        self.retired.retire_border(node, step);
     }
 
     /// Takes the root of a tree out by the step of this number: its only child is the root from now on.
@@ -49,7 +48,7 @@ impl Arena {
         let tree = self.nodes[root].tree();
         hand_on(&mut self.nodes, root, child);
         self.trees[tree].root = child;
-        self.retired.push_reserved(Retired { node: root, step });
+        self.retired.retire_interior(root, step);
     }
 
     /// Takes the link of a slot out, and by the step of this number the root of the tree to which it
@@ -71,7 +70,8 @@ impl Arena {
         let root = self.trees[lower].root;
         drop_link(&mut self.nodes, node, slot, root);
         self.trees[lower].standing = Standing::Dead;
-        self.retired.push_reserved(Retired { node: root, step });
+        self.retired.retire_border(root, step);
+        self.retired.retire_tree(lower, step);
     }
 }
 

@@ -2,15 +2,15 @@ use Rattle.std.proofs.Common.{◌≡◌, ◌<◌, ℕ, length, refl, sym, ap, su
 use Rattle.mt_border.specs.Entries.{without}
 use Rattle.mt_arena.{specs.{NodeFacts.IsUnstable, Layers.slot_at, Edits.cells_without}, proofs.Slots.lost_dropped}
 use Rattle.mt_arena.specs.{NodeView.{node_at, place_at}, declared.tree.Tree.Tree, Forests.tree_at, Arena.ArenaView, Removals.MayDropLayer}
-use Rattle.mt_arena.proofs.{Pairs.read, Topping.read_tree, Retiring.retired_few}
-use Rattle.mt_arena.proofs.DroppingLayer.{the_link, same_link, lr, lu, live_root, apart, sound_dropped_layer, step_dropped_layer, content_dropped_layer, node_dropped_layer, root_dropped_layer, others_dropped_layer}
+use Rattle.mt_arena.proofs.{Pairs.read, Topping.read_tree, Retiring.{borders_few, trees_few}}
+use Rattle.mt_arena.proofs.DroppingLayer.{the_link, same_link, lr, lu, live_root, idle_not, apart, sound_dropped_layer, step_dropped_layer, content_dropped_layer, node_dropped_layer, root_dropped_layer, others_dropped_layer}
 use Rattle.mt_arena.proofs.arena.Arena.drop_layer.Goals.{After-link_at-lower, After-index-2, After-index_mut}
 use Rattle.mt_arena.proofs.arena.Arena.drop_layer.Goals as goal
 
 -- once the link is read: the arena as it was, the tree to which the slot leads, and that it may be taken out
 module _ (c : After-link_at-lower) where
   abbrev v : ArenaView
-  v = record { nodes = c.self.inside.nodes.items; trees = c.self.inside.trees.items; retired = c.self.inside.retired.items }
+  v = record { nodes = c.self.inside.nodes.items; trees = c.self.inside.trees.items; retired = c.self.inside.retired.places }
 
   abbrev t : ℕ
   t = c.link_at-lower.result
@@ -66,17 +66,24 @@ drop_link-requires-clause-differ c =
 pub index_mut-requires : goal.index_mut-requires
 index_mut-requires c = let there = tree_there (goal.at.index_mut-requires c).After-link_at-lower in omega (arith, there)
 
-pub push_reserved-requires : goal.push_reserved-requires
-push_reserved-requires c =
-    let l = (goal.at.push_reserved-requires c).After-link_at-lower in
+pub retire_border-requires : goal.retire_border-requires
+retire_border-requires c =
+    let l = (goal.at.retire_border-requires c).After-link_at-lower in
     let live = live_root (v l) _ c.args.node _ (t l) c.args.step c.args.operation c.self.invariant (may l) in
-    omega (arith, retired_few (v l).nodes (v l).retired (tree_at (v l).trees (t l)).root (root_there l) c.self.invariant.retired live, c.self.invariant.enough)
+    omega (arith, borders_few (v l).nodes (v l).trees (v l).retired (tree_at (v l).trees (t l)).root (root_there l) c.self.invariant.retired live, c.self.invariant.enough)
+
+pub retire_tree-requires : goal.retire_tree-requires
+retire_tree-requires c =
+    let l = (goal.at.retire_tree-requires c).After-link_at-lower in
+    let used = idle_not (v l) _ c.args.node _ (t l) c.args.step c.args.operation c.self.invariant (may l) in
+    rw c.retire_border.ensures
+    (omega (arith, trees_few (v l).nodes (v l).trees (v l).retired (t l) (tree_there l) c.self.invariant.retired used, c.self.invariant.trees_enough))
 
 pub invariant_of-self : goal.invariant_of-self
 invariant_of-self c =
     let at = goal.at.invariant_of-self c in
     let l = at.After-link_at-lower in
-    rw (c.push_reserved.ensures.items, c.push_reserved.ensures.capacity, c.drop_link.ensures.nodes, tree_is at.After-index-2, record_is at.After-index_mut)
+    rw (c.retire_tree.ensures, c.retire_border.ensures, c.drop_link.ensures.nodes, tree_is at.After-index-2, record_is at.After-index_mut)
     (sound_dropped_layer (v l) _ c.args.node _ (t l) c.args.step c.args.operation c.self.invariant (may l))
 
 pub returns-clause-step : goal.returns-clause-step
@@ -101,7 +108,7 @@ returns-clause-is c u link =
     let at = goal.at.returns-clause-is c in
     let l = at.After-link_at-lower in
     let same : t l ≡ u = same_link (sym (rw (node_is l) at c.link_at-lower.ensures) ∙ (rw (← c.self.view_is) at link)) in
-    rw (← c.self.view_is, ← same, c.drop_link.ensures.nodes, c.push_reserved.ensures.items, tree_is at.After-index-2, record_is at.After-index_mut) refl
+    rw (← c.self.view_is, ← same, c.drop_link.ensures.nodes, c.retire_tree.ensures, c.retire_border.ensures, tree_is at.After-index-2, record_is at.After-index_mut) refl
 
 pub returns-clause-settled : goal.returns-clause-settled
 returns-clause-settled c =

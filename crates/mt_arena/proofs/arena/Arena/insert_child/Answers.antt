@@ -12,17 +12,17 @@ put_child-requires-clause-missing c =
 pub invariant_of-self : goal.invariant_of-self
 invariant_of-self c =
     let may = rw (← c.self.view_is) at c.requires in
-    let v : ArenaView = record { nodes = c.self.inside.nodes.items; trees = c.self.inside.trees.items; retired = c.self.inside.retired.items } in
+    let v : ArenaView = record { nodes = c.self.inside.nodes.items; trees = c.self.inside.trees.items; retired = c.self.inside.retired.places } in
     rw c.put_child.ensures (sound_right v _ c.args.parent c.args.left c.args.right c.args.operation c.self.invariant may)
 
 pub returns-clause-step : goal.returns-clause-step
 returns-clause-step c =
     let may = rw (← c.self.view_is) at c.requires in
-    let v : ArenaView = record { nodes = c.self.inside.nodes.items; trees = c.self.inside.trees.items; retired = c.self.inside.retired.items } in
+    let v : ArenaView = record { nodes = c.self.inside.nodes.items; trees = c.self.inside.trees.items; retired = c.self.inside.retired.places } in
     rw (← c.self.view_is, c.put_child.ensures) (step_right v _ c.args.parent c.args.left c.args.right c.args.operation c.self.invariant may)
 
 pub returns-clause-contents : goal.returns-clause-contents
 returns-clause-contents c =
     let may = rw (← c.self.view_is) at c.requires in
-    let v : ArenaView = record { nodes = c.self.inside.nodes.items; trees = c.self.inside.trees.items; retired = c.self.inside.retired.items } in
+    let v : ArenaView = record { nodes = c.self.inside.nodes.items; trees = c.self.inside.trees.items; retired = c.self.inside.retired.places } in
     rw (← c.self.view_is, c.put_child.ensures) (content_right v _ c.args.parent c.args.left c.args.right c.args.operation c.self.invariant may)

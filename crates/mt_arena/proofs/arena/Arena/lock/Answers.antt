@@ -6,7 +6,7 @@ pub invariant_of-self : goal.invariant_of-self
 invariant_of-self c =
     let within = rw (← c.self.view_is) at c.requires.there in
     rw (c.lock.ensures, read c.self.inside.nodes.items c.args.node c.index_mut.result.now within c.index_mut.ensures.value)
-    (sound_locked c.self.inside.nodes.items c.self.inside.trees.items c.self.inside.retired.items _ c.args.node c.args.operation within c.self.invariant (rw (← c.self.view_is) at c.requires.free))
+    (sound_locked c.self.inside.nodes.items c.self.inside.trees.items c.self.inside.retired.places _ c.args.node c.args.operation within c.self.invariant (rw (← c.self.view_is) at c.requires.free))
 
 pub returns-clause-step : goal.returns-clause-step
 returns-clause-step c =

@@ -6,7 +6,7 @@ use Rattle.mt_arena.proofs.arena.Arena.mark_layer.Goals as goal
 pub invariant_of-self : goal.invariant_of-self
 invariant_of-self c =
     let may = rw (← c.self.view_is) at c.requires.may.2 in
-    let v : ArenaView = record { nodes = c.self.inside.nodes.items; trees = c.self.inside.trees.items; retired = c.self.inside.retired.items } in
+    let v : ArenaView = record { nodes = c.self.inside.nodes.items; trees = c.self.inside.trees.items; retired = c.self.inside.retired.places } in
     let now = read v.nodes c.args.node c.index_mut.result.now may.slot.held.there c.index_mut.ensures.value in
     let after = c.mark_layer-pair.ensures.after c.requires.may.1 c.args.tree (ap (λ (n : NodeView). (slot_at n (place_at n c.args.slot)).held) now ∙ may.slot.is) in
     let within = lt v _ c.args.node _ c.args.tree c.args.operation c.requires.may.0 c.requires.may.1 c.self.invariant may in
@@ -16,7 +16,7 @@ invariant_of-self c =
 pub returns-clause-is : goal.returns-clause-is
 returns-clause-is c =
     let may = rw (← c.self.view_is) at c.requires.may.2 in
-    let v : ArenaView = record { nodes = c.self.inside.nodes.items; trees = c.self.inside.trees.items; retired = c.self.inside.retired.items } in
+    let v : ArenaView = record { nodes = c.self.inside.nodes.items; trees = c.self.inside.trees.items; retired = c.self.inside.retired.places } in
     let now = read v.nodes c.args.node c.index_mut.result.now may.slot.held.there c.index_mut.ensures.value in
     let after = c.mark_layer-pair.ensures.after c.requires.may.1 c.args.tree (ap (λ (n : NodeView). (slot_at n (place_at n c.args.slot)).held) now ∙ may.slot.is) in
     let within = lt v _ c.args.node _ c.args.tree c.args.operation c.requires.may.0 c.requires.may.1 c.self.invariant may in
@@ -26,7 +26,7 @@ returns-clause-is c =
 pub returns-clause-step : goal.returns-clause-step
 returns-clause-step c =
     let may = rw (← c.self.view_is) at c.requires.may.2 in
-    let v : ArenaView = record { nodes = c.self.inside.nodes.items; trees = c.self.inside.trees.items; retired = c.self.inside.retired.items } in
+    let v : ArenaView = record { nodes = c.self.inside.nodes.items; trees = c.self.inside.trees.items; retired = c.self.inside.retired.places } in
     let now = read v.nodes c.args.node c.index_mut.result.now may.slot.held.there c.index_mut.ensures.value in
     let after = c.mark_layer-pair.ensures.after c.requires.may.1 c.args.tree (ap (λ (n : NodeView). (slot_at n (place_at n c.args.slot)).held) now ∙ may.slot.is) in
     let within = lt v _ c.args.node _ c.args.tree c.args.operation c.requires.may.0 c.requires.may.1 c.self.invariant may in
@@ -37,7 +37,7 @@ returns-clause-step c =
 pub returns-clause-contents : goal.returns-clause-contents
 returns-clause-contents c =
     let may = rw (← c.self.view_is) at c.requires.may.2 in
-    let v : ArenaView = record { nodes = c.self.inside.nodes.items; trees = c.self.inside.trees.items; retired = c.self.inside.retired.items } in
+    let v : ArenaView = record { nodes = c.self.inside.nodes.items; trees = c.self.inside.trees.items; retired = c.self.inside.retired.places } in
     let now = read v.nodes c.args.node c.index_mut.result.now may.slot.held.there c.index_mut.ensures.value in
     let after = c.mark_layer-pair.ensures.after c.requires.may.1 c.args.tree (ap (λ (n : NodeView). (slot_at n (place_at n c.args.slot)).held) now ∙ may.slot.is) in
     let within = lt v _ c.args.node _ c.args.tree c.args.operation c.requires.may.0 c.requires.may.1 c.self.invariant may in

@@ -7,7 +7,7 @@ invariant_of-self c =
     let within = rw (← c.self.view_is) at c.requires.there in
     let held = rw (← c.self.view_is) at c.requires.held in
     rw (c.set_previous.ensures, c.of.ensures, read c.self.inside.nodes.items c.args.node c.index_mut.result.now within c.index_mut.ensures.value)
-    (sound_previous c.self.inside.nodes.items c.self.inside.trees.items c.self.inside.retired.items _ c.args.node c.args.previous c.args.operation within held.there held.holder c.self.invariant (rw (← c.self.view_is) at c.requires.tied))
+    (sound_previous c.self.inside.nodes.items c.self.inside.trees.items c.self.inside.retired.places _ c.args.node c.args.previous c.args.operation within held.there held.holder c.self.invariant (rw (← c.self.view_is) at c.requires.tied))
 
 pub returns-clause-step : goal.returns-clause-step
 returns-clause-step c =

@@ -17,7 +17,7 @@ halve-requires-clause-separator c =
 
 pub invariant_of-self : goal.invariant_of-self
 invariant_of-self c =
-    let v : ArenaView = record { nodes = c.self.inside.nodes.items; trees = c.self.inside.trees.items; retired = c.self.inside.retired.items } in
+    let v : ArenaView = record { nodes = c.self.inside.nodes.items; trees = c.self.inside.trees.items; retired = c.self.inside.retired.places } in
     let may = rw (← c.self.view_is) at c.requires.may in
     let come = rw (← c.self.view_is) at c.requires.entry in
     let done = rw c.deref_mut.ensures.value at c.halve.ensures in
@@ -27,7 +27,7 @@ invariant_of-self c =
 
 pub returns : goal.returns
 returns c =
-    let v : ArenaView = record { nodes = c.self.inside.nodes.items; trees = c.self.inside.trees.items; retired = c.self.inside.retired.items } in
+    let v : ArenaView = record { nodes = c.self.inside.nodes.items; trees = c.self.inside.trees.items; retired = c.self.inside.retired.places } in
     let may = rw (← c.self.view_is) at c.requires.may in
     let come = rw (← c.self.view_is) at c.requires.entry in
     let live = rw (← c.self.view_is) at c.requires.live in

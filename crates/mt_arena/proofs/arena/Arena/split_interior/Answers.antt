@@ -19,7 +19,7 @@ pub invariant_of-self : goal.invariant_of-self
 invariant_of-self c =
     let room = c.in_err-make_room.ensures in
     rw (room.nodes, room.trees, room.retired)
-    (record { arena = c.self.invariant.arena; retired = c.self.invariant.retired; enough = omega (arith, c.self.invariant.enough, room.no_less) })
+    (record { arena = c.self.invariant.arena; retired = c.self.invariant.retired; enough = omega (arith, c.self.invariant.enough, room.no_less); trees_enough = omega (arith, c.self.invariant.trees_enough, room.no_fewer) })
 
 pub part_parent-requires-clause-differ : goal.part_parent-requires-clause-differ
 part_parent-requires-clause-differ c =
@@ -32,15 +32,15 @@ part_parent-requires-clause-missing c =
 pub invariant_of-self-2 : goal.invariant_of-self-2
 invariant_of-self-2 c =
     let may = rw (← c.self.view_is) at c.requires in
-    let v : ArenaView = record { nodes = c.self.inside.nodes.items; trees = c.self.inside.trees.items; retired = c.self.inside.retired.items } in
+    let v : ArenaView = record { nodes = c.self.inside.nodes.items; trees = c.self.inside.trees.items; retired = c.self.inside.retired.places } in
     let room = c.in_ok-make_room.ensures in
     rw (c.part_parent.ensures, room.nodes, room.trees, room.retired)
-    (sound_parts v _ _ c.args.parent c.args.left c.args.right c.args.operation c.self.invariant may (omega (arith, room.room, room.few_nodes, ap length room.nodes)))
+    (sound_parts v _ _ c.args.parent c.args.left c.args.right c.args.operation c.self.invariant may (omega (arith, room.room, room.few_nodes, ap length room.nodes)) (omega (arith, c.self.invariant.trees_enough, room.no_fewer)))
 
 pub returns-in_err-make_room-clause-step : goal.returns-in_err-make_room-clause-step
 returns-in_err-make_room-clause-step c =
     let room = c.in_err-make_room.ensures in
-    let v : ArenaView = record { nodes = c.self.inside.nodes.items; trees = c.self.inside.trees.items; retired = c.self.inside.retired.items } in
+    let v : ArenaView = record { nodes = c.self.inside.nodes.items; trees = c.self.inside.trees.items; retired = c.self.inside.retired.places } in
     rw (← c.self.view_is, room.nodes, room.trees, room.retired) (same v c.args.operation)
 
 pub returns-clause-is : goal.returns-clause-is
@@ -51,15 +51,15 @@ returns-clause-is c =
 pub returns-clause-step : goal.returns-clause-step
 returns-clause-step c =
     let may = rw (← c.self.view_is) at c.requires in
-    let v : ArenaView = record { nodes = c.self.inside.nodes.items; trees = c.self.inside.trees.items; retired = c.self.inside.retired.items } in
+    let v : ArenaView = record { nodes = c.self.inside.nodes.items; trees = c.self.inside.trees.items; retired = c.self.inside.retired.places } in
     let room = c.in_ok-make_room.ensures in
     rw (← c.self.view_is, c.part_parent.ensures, room.nodes, room.trees, room.retired)
-    (step_parts v _ 0 c.args.parent c.args.left c.args.right c.args.operation c.self.invariant may)
+    (step_parts v _ (record { nodes = 0; trees = 0 }) c.args.parent c.args.left c.args.right c.args.operation c.self.invariant may)
 
 pub returns-clause-contents : goal.returns-clause-contents
 returns-clause-contents c =
     let may = rw (← c.self.view_is) at c.requires in
-    let v : ArenaView = record { nodes = c.self.inside.nodes.items; trees = c.self.inside.trees.items; retired = c.self.inside.retired.items } in
+    let v : ArenaView = record { nodes = c.self.inside.nodes.items; trees = c.self.inside.trees.items; retired = c.self.inside.retired.places } in
     let room = c.in_ok-make_room.ensures in
     rw (← c.self.view_is, c.part_parent.ensures, room.nodes, room.trees)
-    (content_parts v _ 0 c.args.parent c.args.left c.args.right c.args.operation c.self.invariant may)
+    (content_parts v _ (record { nodes = 0; trees = 0 }) c.args.parent c.args.left c.args.right c.args.operation c.self.invariant may)

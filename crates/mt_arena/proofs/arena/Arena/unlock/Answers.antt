@@ -7,7 +7,7 @@ invariant_of-self c =
     let held = rw (← c.self.view_is) at c.requires.held in
     let within = held.there in
     rw (c.unlock.ensures, read c.self.inside.nodes.items c.args.node c.index_mut.result.now within c.index_mut.ensures.value)
-    (sound_unlocked c.self.inside.nodes.items c.self.inside.trees.items c.self.inside.retired.items _ c.args.node within c.self.invariant (rw (← c.self.view_is) at c.requires.settled))
+    (sound_unlocked c.self.inside.nodes.items c.self.inside.trees.items c.self.inside.retired.places _ c.args.node within c.self.invariant (rw (← c.self.view_is) at c.requires.settled))
 
 pub returns-clause-step : goal.returns-clause-step
 returns-clause-step c =
