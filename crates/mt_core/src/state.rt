@@ -172,6 +172,13 @@ impl State {
         self.inner.answers
     }
 
+    /// How many places of nodes there are, those of nodes that were taken out among them.
+    pub fn places(&self) -> u64
+        ensures { result ≡ length self.now.arena.nodes }
+    {
+        self.inner.arena.node_count() as u64
+    }
+
     /// How many logs are served, 0 where none are kept.
     pub fn logs(&self) -> u8
         ensures { result ≡ length self.now.logs }
