@@ -37,12 +37,14 @@ scan_of task s = record { fence = task.key; after = s.after; collected = s.colle
 abbrev pub no_scan : Bytes → Command → ScanView
 no_scan key command = record { fence = key; after = begins_after command; collected = []; seen = []; stop = stops.Tree }
 
--- what is shown of an operation: whose command it is, the numbers of its first and last step so far, 0 where it has made none, what its next step
--- does, what it answers, once that is known, what it remembers of its way, what it has split, and what it remembers of its removal, and of its scan
+-- what is shown of an operation: whose command it is, after how many steps it was begun, the numbers of its first and last step so far, 0 where it has made
+-- none, what its next step does, what it answers, once that is known, what it remembers of its way, what it has split, and what it remembers of its removal,
+-- and of its scan
 pub record OperationView : Type 0 where
   pub worker : ℕ
   pub tenant : ℕ
   pub command : Command
+  pub birth : ℕ
   pub first : ℕ
   pub last : ℕ
   pub phase : Phase
@@ -57,6 +59,7 @@ view_of op = record {
   worker = op.task.worker;
   tenant = op.task.tenant;
   command = ask op.task;
+  birth = op.birth;
   first = op.walk.first;
   last = op.last;
   phase = op.walk.phase;
@@ -81,18 +84,23 @@ pub record IsUnsplit (s : Splits) : Type 0 where
 abbrev pub no_removal : Removal
 no_removal = record { emptied = false; left = None; parent = None; below = None; cleans = None }
 
--- an operation before its first step, with the splits of one that has split nothing, and with what one remembers that has scanned nothing
+-- an operation before its first step, not admitted yet, with the splits of one that has split nothing, and with what one remembers that has scanned nothing
 abbrev pub begun : Task → Splits → Scan → Operation
 begun task splits scan = record {
   task = task;
   walk = walk_from_top (aim_of (ask task)) 0;
   last = 0;
+  birth = 0;
   outcome = None;
   prepared = None;
   splits = splits;
   removal = no_removal;
   scan = scan;
 }
+
+-- the same operation, begun after so many steps
+abbrev pub born : Operation → ℕ → Operation
+born op steps = record op { birth = steps }
 
 -- an operation that has made the step of this number, which is its first where it had made none, and walks on so
 abbrev pub moved : Operation → ℕ → Walk → Operation

@@ -42,3 +42,17 @@ pub record IsFloorNeeded (table : Table) (steps floor : ℕ) : Type 0 where
   pub made : floor ≤ steps
   pub before : IsBeforeFirsts table floor
   pub greatest : (n : ℕ) → n ≤ steps → IsBeforeFirsts table n → n ≤ floor
+
+-- every operation of the table was begun after at least so many steps
+abbrev pub AreBornFrom : Table → ℕ → Type 0
+AreBornFrom table n = (o : ℕ) (op : Operation) → op_at table o ≡ Some op → n ≤ op.birth
+
+-- every operation of the table was begun after at most so many steps
+abbrev pub AreBornUpTo : Table → ℕ → Type 0
+AreBornUpTo table n = (o : ℕ) (op : Operation) → op_at table o ≡ Some op → op.birth ≤ n
+
+-- the least birth after so many steps: the greatest number of steps after which, or later, each operation of the table was begun
+pub record IsLeastBirth (table : Table) (steps least : ℕ) : Type 0 where
+  pub made : least ≤ steps
+  pub below : AreBornFrom table least
+  pub greatest : (n : ℕ) → n ≤ steps → AreBornFrom table n → n ≤ least

@@ -15,11 +15,13 @@ use std::alloc::Global;
 
 /// An operation that was begun and whose answer was not taken. Its first step has the number
 /// `walk.first`, and its last one so far the number `last`; both are 0 where it has made none. Each step
-/// writes these two, so they stand first.
+/// writes these two, so they stand first. Its birth is the number of steps made when it was begun: the
+/// state writes it as it admits the operation, and no step changes it.
 #[derive(Drop)]
 pub struct Operation {
     pub walk: Walk,
     pub last: u64,
+    pub birth: u64,
     pub task: Task,
     pub outcome: Option<Outcome>,
     pub prepared: Option<Prepared>,
@@ -29,7 +31,8 @@ pub struct Operation {
 }
 
 impl Operation {
-    /// An operation that has made no step: its walk begins at the top tree.
+    /// An operation that has made no step: its walk begins at the top tree. Its birth is 0 until it is
+    /// admitted.
     pub fn new(alloc: Global, task: Task) -> Self
         ensures is { result ≡ begun task result.splits result.scan }
         ensures unsplit { IsUnsplit result.splits }
@@ -41,6 +44,7 @@ impl Operation {
             task,
             walk: Walk::new(aim, 0),
             last: 0,
+            birth: 0,
             outcome: None,
             prepared: None,
             splits: Splits::new(alloc),
