@@ -3,10 +3,10 @@ use Rattle.std.proofs.{Common.{◌≡◌, ◌≢◌, ℕ, Bool, true, false, set
 use Rattle.mt_operation.specs.{declared.phase.Phase.Phase, declared.walk.Walk.Walk, declared.operation.Operation.Operation, Operations.counted}
 use Rattle.mt_operation.specs.Tables.{Table, op_at, AreBefore, MayMove}
 use Rattle.mt_operation.proofs.Tables.{set_same}
-use Rattle.mt_table.specs.{declared.queue.Seat.Seat, declared.queue.Ends.Ends, declared.steps.Made.Made}
+use Rattle.mt_table.specs.{declared.queue.Seat.Seat, declared.queue.Ends.Ends, declared.queue.Queue.TheVariants.FirstSteps, declared.steps.Made.Made}
 use Rattle.mt_table.specs.{declared.steps.Made.TheVariants.{Step, Blocked as BlockedBy, NoMemory as RefusedBy, Nothing}, declared.steps.Stepped.Stepped}
 use Rattle.mt_table.specs.declared.steps.Stepped.TheVariants.{To, Blocked, NoMemory, Left, Absent}
-use Rattle.mt_table.specs.{Seats.{Seats, seat_at, with_operation, operation_in, table_of, padded, is_still, IsEndOrSeat}, Queues.{IsTable, LinksLast, Becomes}}
+use Rattle.mt_table.specs.{Seats.{Seats, seat_at, with_operation, operation_in, table_of, padded, is_still, IsEndOrSeat}, Queues.{IsStepQueue, LinksLast, Becomes}}
 use Rattle.mt_table.specs.Bodies.{Body, MovesUnfinished, KeepsWalk, LeavesElse, MovesBy, StaysBy, GrowsBy, StepsBy, SeatMovesBy, SeatStaysBy, SeatStepsBy}
 use Rattle.mt_table.proofs.{Places.shown_op, TableMoves.{became_table, changed_sound, last_new, moved_there, moved_last, moved_first, moved_later}}
 
@@ -39,7 +39,7 @@ module _ (Makes : Body) (n : ℕ) (p0 p1 : Seats) (now : Table) (o : ℕ) (is : 
         ∙ ap (λ (x : Seat). set p0 o (Some (with_operation x (grown x.operation.value)))) (same_Some s.seat seat (sym s.there ∙ at))
 
     -- the table stays one
-    grown_table : (ends : Ends) → IsTable p0 ends → IsTable p1 ends
+    grown_table : (ends : Ends) → IsStepQueue p0 ends → IsStepQueue p1 ends
     grown_table ends h = changed_sound p0 p1 ends o grown h (λ op. refl) grows (λ none. absurd (gone none))
       where
         gone : seat_at p0 o ≡ None → ⊥
@@ -55,7 +55,7 @@ module _ (Makes : Body) (n : ℕ) (p0 p1 : Seats) (now : Table) (o : ℕ) (is : 
           ∙ ap (λ (op : Operation). set now o (Some op)) (sym is_grown);
     }
 
-  module _ (ends : Ends) (step : ℕ) (h : IsTable p0 ends) (later : AreBefore now step) (moves : MovesUnfinished Makes now o) (is_first : Bool) (phase : Phase) (s : SeatMovesBy Makes p0 p1 o step is_first phase) where
+  module _ (ends : Ends) (step : ℕ) (h : IsStepQueue p0 ends) (later : AreBefore now step) (moves : MovesUnfinished Makes now o) (is_first : Bool) (phase : Phase) (s : SeatMovesBy Makes p0 p1 o step is_first phase) where
     abbrev to : Operation → Operation
     to op = counted s.after step op.walk.first
 
@@ -81,10 +81,10 @@ module _ (Makes : Body) (n : ℕ) (p0 p1 : Seats) (now : Table) (o : ℕ) (is : 
     move_new first = last_new p0 ends o h (still_is ∙ first)
 
     -- the table stays one
-    move_first : (p2 : Seats) (e1 : Ends) → is_first ≡ true → LinksLast p1 ends p2 e1 o → IsTable p2 e1
+    move_first : (p2 : Seats) (e1 : Ends) → is_first ≡ true → LinksLast FirstSteps p1 ends p2 e1 o → IsStepQueue p2 e1
     move_first p2 e1 first l = moved_first n p0 p1 ends now o step s.after.walk is h may to (λ op. refl) becomes p2 e1 (still_is ∙ first) l
 
-    move_later : is_first ≡ false → IsTable p1 ends
+    move_later : is_first ≡ false → IsStepQueue p1 ends
     move_later still = moved_later n p0 p1 ends now o step s.after.walk is h may to (λ op. refl) becomes (λ none. absurd (gone none)) (still_is ∙ still)
       where
         gone : seat_at p0 o ≡ None → ⊥
@@ -102,7 +102,7 @@ module _ (Makes : Body) (n : ℕ) (p0 p1 : Seats) (now : Table) (o : ℕ) (is : 
     }
 
   -- whatever comes of it
-  module _ (ends : Ends) (step : ℕ) (h : IsTable p0 ends) (later : AreBefore now step) (moves : MovesUnfinished Makes now o) (keeps : KeepsWalk Makes now o) (leaves : LeavesElse Makes now o) (is_first : Bool) where
+  module _ (ends : Ends) (step : ℕ) (h : IsStepQueue p0 ends) (later : AreBefore now step) (moves : MovesUnfinished Makes now o) (keeps : KeepsWalk Makes now o) (leaves : LeavesElse Makes now o) (is_first : Bool) where
     no_first : (b : Bool) → b ≡ false → b ≡ true → ⊥
     no_first b e f = let no : false ≡ true = sym e ∙ f in cc
 
@@ -129,19 +129,19 @@ module _ (Makes : Body) (n : ℕ) (p0 p1 : Seats) (now : Table) (o : ℕ) (is : 
     first_new Absent s first = absurd (no_first is_first s.2 first)
 
     -- the table stays one
-    pub first_table : (stepped : Stepped) → SeatStepsBy Makes p0 p1 o step is_first stepped → is_first ≡ true → (p2 : Seats) (e1 : Ends) → LinksLast p1 ends p2 e1 o → IsTable p2 e1
+    pub first_table : (stepped : Stepped) → SeatStepsBy Makes p0 p1 o step is_first stepped → is_first ≡ true → (p2 : Seats) (e1 : Ends) → LinksLast FirstSteps p1 ends p2 e1 o → IsStepQueue p2 e1
     first_table (To phase) s first p2 e1 l = move_first ends step h later moves is_first phase s p2 e1 first l
     first_table (Blocked holder) s first p2 e1 l = absurd (no_first is_first s.first first)
     first_table NoMemory s first p2 e1 l = absurd (no_first is_first s.first first)
     first_table Left s first p2 e1 l = absurd (no_first is_first s.first first)
     first_table Absent s first p2 e1 l = absurd (no_first is_first s.2 first)
 
-    pub later_table : (stepped : Stepped) → SeatStepsBy Makes p0 p1 o step is_first stepped → is_first ≡ false → IsTable p1 ends
+    pub later_table : (stepped : Stepped) → SeatStepsBy Makes p0 p1 o step is_first stepped → is_first ≡ false → IsStepQueue p1 ends
     later_table (To phase) s still = move_later ends step h later moves is_first phase s still
-    later_table (Blocked holder) s still = subst (λ (p : Seats). IsTable p ends) (sym (stays_same leaves is_first (BlockedBy holder) (λ e. absurd (cc)) (λ e. absurd (cc)) s)) h
+    later_table (Blocked holder) s still = subst (λ (p : Seats). IsStepQueue p ends) (sym (stays_same leaves is_first (BlockedBy holder) (λ e. absurd (cc)) (λ e. absurd (cc)) s)) h
     later_table NoMemory s still = grown_table keeps is_first s ends h
-    later_table Left s still = subst (λ (p : Seats). IsTable p ends) (sym (stays_same leaves is_first Nothing (λ e. absurd (cc)) (λ e. absurd (cc)) s)) h
-    later_table Absent s still = subst (λ (p : Seats). IsTable p ends) (sym s.1) h
+    later_table Left s still = subst (λ (p : Seats). IsStepQueue p ends) (sym (stays_same leaves is_first Nothing (λ e. absurd (cc)) (λ e. absurd (cc)) s)) h
+    later_table Absent s still = subst (λ (p : Seats). IsStepQueue p ends) (sym s.1) h
 
     -- and shows what has come of it
     pub steps_by : (stepped : Stepped) → SeatStepsBy Makes p0 p1 o step is_first stepped → (p2 : Seats) → table_of p2 ≡ table_of p1 → StepsBy Makes now (padded n (table_of p2)) o step stepped

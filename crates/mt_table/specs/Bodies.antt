@@ -17,6 +17,10 @@ MovesUnfinished Makes table o = (op after : Operation) → op_at table o ≡ Som
 abbrev pub KeepsFirst : Body → Table → ℕ → Type 0
 KeepsFirst Makes table o = (op after : Operation) → op_at table o ≡ Some op → Makes op Step after → after.walk.first ≡ op.walk.first
 
+-- whatever comes of the step, the body leaves its birth
+abbrev pub KeepsBirth : Body → Table → ℕ → Type 0
+KeepsBirth Makes table o = (op after : Operation) (made : Made) → op_at table o ≡ Some op → Makes op made after → after.birth ≡ op.birth
+
 -- where memory is refused, the body leaves its walk
 abbrev pub KeepsWalk : Body → Table → ℕ → Type 0
 KeepsWalk Makes table o = (op after : Operation) → op_at table o ≡ Some op → Makes op RefusedBy after → after.walk ≡ op.walk

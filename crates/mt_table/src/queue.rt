@@ -1,11 +1,12 @@
-//! Operations in their seats, and the queue of those that have made a step.
+//! Operations in their seats, and the two queues through them: in the order of first steps, of those
+//! that have made a step, and in the order of begins, of all.
 //!
-//! Each seat names its neighbours in the order of first steps. What these functions do to the links
-//! and to one operation is said seat by seat; `table.rt` keeps what holds of all of them. None of them
-//! adds a seat or gives one up.
+//! Each seat names its neighbours in either queue. What these functions do to the links and to one
+//! operation is said seat by seat; `table.rt` keeps what holds of all of them. Each takes the queue that
+//! it writes, with the ends of that one. None of them adds a seat or gives one up.
 
 ghost use Rattle.std.specs.{Prelude.{◌≡◌, ◌≢◌, ◌<◌, false, Some, None}, Option.ForSome, Fn.{FnOnceTakesAtMut, CalledAtMut}};
-ghost use Rattle.mt_table.specs.{declared.steps.Stepped.TheVariants.{Absent as NobodyIsThere}, Seats.{Seats, seat_at, operation_in, IsEndOrSeat, KeepsRoom}};
+ghost use Rattle.mt_table.specs.{declared.steps.Stepped.TheVariants.{Absent as NobodyIsThere}, Seats.{Seats, seat_at, operation_in, links_of, with_links, IsEndOrSeat, KeepsRoom}};
 ghost use Rattle.mt_table.specs.{Bodies.{SeatKeepsFirst, SeatStepsBy}, Queues.{SetsAfter, SetsBefore, CutsOut, LinksLast}};
 
 use crate::steps::{Made, Stepped};
@@ -13,15 +14,31 @@ use mt_operation::Operation;
 use slab::Slab;
 use std::boxed::Box;
 
-/// An operation in the box in which it was handed in, and its neighbours in the queue.
-#[derive(Drop)]
-pub(crate) struct Seat {
-    pub operation: Box<Operation>,
+/// One of the queues.
+#[derive(Clone, Copy)]
+pub(crate) enum Queue {
+    /// In the order of first steps, of the operations that have made a step.
+    FirstSteps,
+    /// In the order of begins, of all operations.
+    Begins,
+}
+
+/// The neighbours of a seat in one queue.
+#[derive(Clone, Copy)]
+pub(crate) struct Links {
     pub before: Option<usize>,
     pub after: Option<usize>,
 }
 
-/// The operations at the ends of the queue.
+/// An operation in the box in which it was handed in, and its neighbours in either queue.
+#[derive(Drop)]
+pub(crate) struct Seat {
+    pub operation: Box<Operation>,
+    pub first_steps: Links,
+    pub begins: Links,
+}
+
+/// The operations at the ends of a queue.
 #[derive(Clone, Copy)]
 pub(crate) struct Ends {
     pub first: Option<usize>,
@@ -33,6 +50,28 @@ pub(crate) struct Ends {
 pub(crate) struct SeatStep {
     pub stepped: Stepped,
     pub is_first: bool,
+}
+
+impl Seat {
+    // Its neighbours in a queue.
+    fn links_in(&self, queue: Queue) -> Links
+        ensures { result ≡ links_of queue self.now }
+    {
+        match queue {
+            Queue::FirstSteps => self.first_steps,
+            Queue::Begins => self.begins,
+        }
+    }
+
+    // Names other neighbours in a queue.
+    fn set_links(&mut self, queue: Queue, links: Links)
+        ensures { self.new ≡ with_links queue links self.old }
+    {
+        match queue {
+            Queue::FirstSteps => self.first_steps = links,
+            Queue::Begins => self.begins = links,
+        }
+    }
 }
 
 /// An operation makes the step of this number in place, as `makes` does it.
@@ -74,84 +113,103 @@ pub(crate) fn step_at<F: FnMut(&mut Operation) -> Made>(
     }
 }
 
-/// Makes neighbours of the two between which a seat was, where its operation has made a step.
+/// Makes neighbours of the two between which a seat was by its first step, where its operation has made one.
 pub(crate) fn cut(seats: &mut Slab<Seat>, ends: &mut Ends, seat: &Seat)
-    requires before { 0 < seat.now.operation.value.walk.first → IsEndOrSeat seats.old.slots seat.now.before }
-    requires after { 0 < seat.now.operation.value.walk.first → IsEndOrSeat seats.old.slots seat.now.after }
-    ensures unlinks { 0 < seat.now.operation.value.walk.first → CutsOut seats.old.slots ends.old seats.new.slots ends.new seat.now.before seat.now.after }
+    requires before { 0 < seat.now.operation.value.walk.first → IsEndOrSeat seats.old.slots seat.now.first_steps.before }
+    requires after { 0 < seat.now.operation.value.walk.first → IsEndOrSeat seats.old.slots seat.now.first_steps.after }
+    ensures unlinks { 0 < seat.now.operation.value.walk.first → CutsOut Queue.FirstSteps seats.old.slots ends.old seats.new.slots ends.new seat.now.first_steps }
     ensures same { seat.now.operation.value.walk.first ≡ 0 → (seats.new.slots ≡ seats.old.slots) × (ends.new ≡ ends.old) }
     ensures room { KeepsRoom seats.old seats.new }
 {
     if seat.operation.walk.first > 0 {
-        unlink(seats, ends, seat.before, seat.after);
+        unlink(seats, Queue::FirstSteps, ends, seat.first_steps);
     }
 }
 
-/// Puts an operation behind all others of the queue.
+/// Puts an operation behind all others of a queue.
 #[inline(never)]
-pub(crate) fn link_last(seats: &mut Slab<Seat>, ends: &mut Ends, id: usize)
+pub(crate) fn link_last(seats: &mut Slab<Seat>, queue: Queue, ends: &mut Ends, id: usize)
     requires there { IsEndOrSeat seats.old.slots (Some id) }
     requires last { IsEndOrSeat seats.old.slots ends.old.last }
     requires new { ends.old.last ≢ Some id }
-    ensures links { LinksLast seats.old.slots ends.old seats.new.slots ends.new id }
+    ensures links { LinksLast queue seats.old.slots ends.old seats.new.slots ends.new id }
     ensures room { KeepsRoom seats.old seats.new }
 {
     let before = ends.last;
-    set_after(seats, ends, before, Some(id));
-    put_behind(seats, ends, id, before);
-    set_before(seats, ends, None, Some(id));
+    set_after(seats, queue, ends, before, Some(id));
+    put_behind(seats, queue, ends, id, before);
+    set_before(seats, queue, ends, None, Some(id));
 }
 
 // Names another neighbour before a seat, or none, and none after it.
-fn put_behind(seats: &mut Slab<Seat>, ends: &Ends, id: usize, before: Option<usize>)
+fn put_behind(seats: &mut Slab<Seat>, queue: Queue, ends: &Ends, id: usize, before: Option<usize>)
     requires { IsEndOrSeat seats.old.slots (Some id) }
-    ensures sets { (mid : Seats) × SetsAfter seats.old.slots ends.now mid ends.now (Some id) None × SetsBefore mid ends.now seats.new.slots ends.now (Some id) before }
+    ensures sets { (mid : Seats) × SetsAfter queue seats.old.slots ends.now mid ends.now (Some id) None × SetsBefore queue mid ends.now seats.new.slots ends.now (Some id) before }
     ensures room { KeepsRoom seats.old seats.new }
 {
     if let Some(seat) = seats.get_mut(id) {
-        seat.before = before;
-        seat.after = None;
+        seat.set_links(
+            queue,
+            Links {
+                before,
+                after: None,
+            },
+        );
     }
 }
 
-// Makes neighbours of two that had one between them.
-fn unlink(seats: &mut Slab<Seat>, ends: &mut Ends, before: Option<usize>, after: Option<usize>)
-    requires before { IsEndOrSeat seats.old.slots before }
-    requires after { IsEndOrSeat seats.old.slots after }
-    ensures cuts { CutsOut seats.old.slots ends.old seats.new.slots ends.new before after }
+/// Makes neighbours of two that had one between them, with these links.
+pub(crate) fn unlink(seats: &mut Slab<Seat>, queue: Queue, ends: &mut Ends, links: Links)
+    requires before { IsEndOrSeat seats.old.slots links.before }
+    requires after { IsEndOrSeat seats.old.slots links.after }
+    ensures cuts { CutsOut queue seats.old.slots ends.old seats.new.slots ends.new links }
     ensures room { KeepsRoom seats.old seats.new }
 {
-    set_after(seats, ends, before, after);
-    set_before(seats, ends, after, before);
+    set_after(seats, queue, ends, links.before, links.after);
+    set_before(seats, queue, ends, links.after, links.before);
 }
 
 // Names another neighbour after a seat, or the queue's first where there is none.
-fn set_after(seats: &mut Slab<Seat>, ends: &mut Ends, of: Option<usize>, to: Option<usize>)
+fn set_after(
+    seats: &mut Slab<Seat>,
+    queue: Queue,
+    ends: &mut Ends,
+    of: Option<usize>,
+    to: Option<usize>,
+)
     requires { IsEndOrSeat seats.old.slots of }
-    ensures sets { SetsAfter seats.old.slots ends.old seats.new.slots ends.new of to }
+    ensures sets { SetsAfter queue seats.old.slots ends.old seats.new.slots ends.new of to }
     ensures room { KeepsRoom seats.old seats.new }
 {
     match of {
         None => ends.first = to,
         Some(id) => {
             if let Some(seat) = seats.get_mut(id) {
-                seat.after = to;
+                let before = seat.links_in(queue).before;
+                seat.set_links(queue, Links { before, after: to });
             }
         }
     }
 }
 
 // Names another neighbour before a seat, or the queue's last where there is none.
-fn set_before(seats: &mut Slab<Seat>, ends: &mut Ends, of: Option<usize>, to: Option<usize>)
+fn set_before(
+    seats: &mut Slab<Seat>,
+    queue: Queue,
+    ends: &mut Ends,
+    of: Option<usize>,
+    to: Option<usize>,
+)
     requires { IsEndOrSeat seats.old.slots of }
-    ensures sets { SetsBefore seats.old.slots ends.old seats.new.slots ends.new of to }
+    ensures sets { SetsBefore queue seats.old.slots ends.old seats.new.slots ends.new of to }
     ensures room { KeepsRoom seats.old seats.new }
 {
     match of {
         None => ends.last = to,
         Some(id) => {
             if let Some(seat) = seats.get_mut(id) {
-                seat.before = to;
+                let after = seat.links_in(queue).after;
+                seat.set_links(queue, Links { before: to, after });
             }
         }
     }

@@ -1,18 +1,19 @@
 //! The table of operations, in which no call walks from one to the next.
 //!
-//! Each operation has an id, its key in a slab, which is given again once it is free. Those that have
-//! made a step stand in a queue, in the order of their first steps, in which each names its
-//! neighbours; so the earliest first step is read at its head, and an operation that leaves is cut
-//! out of it. Invariant: `IsTable` and `HasSeats` of `specs/Queues.antt`. Memory: one seat for each
-//! operation, as many as stood open at once or were made room for; each is shown as a place, which is
-//! empty if no operation is there.
+//! Each operation has an id, its key in a slab, which is given again once it is free. All stand in a
+//! queue, in the order of their begins, and those that have made a step in a second one, in the order
+//! of their first steps. In each queue an operation names its neighbours; so the least birth and the
+//! earliest first step are read at the heads, and an operation that leaves is cut out of both.
+//! Invariant: `IsTable` and `HasSeats` of `specs/Queues.antt`. Memory: one seat for each operation, as
+//! many as stood open at once or were made room for; each is shown as a place, which is empty if no
+//! operation is there.
 
 ghost use Rattle.std.specs.Prelude.{◌≡◌, ◌≢◌, ◌+◌, ◌≤◌, ℕ, [], length, IsOk, IfOk, IfErr, OnOk, OnErr, OnSome, IfNone, Some, None, slice_set, option_copied};
 ghost use Rattle.std.specs.{Option.{ForSome, option_map}, Box.box_value, Fn.{FnOnceTakesAtMut, CalledAtMut}};
 ghost use Rattle.mt_table.specs.declared.steps.Stepped.TheVariants.{Absent as NobodyIsThere};
 ghost use Rattle.mt_operation.specs.declared.operation.Operation.{Operation as AnyOperation};
 
-use crate::queue::{Ends, Seat, cut, link_last, step_at};
+use crate::queue::{Ends, Links, Queue, Seat, cut, link_last, step_at, unlink};
 use crate::steps::{Made, Stepped};
 use mt_operation::Operation;
 use mt_rows::Refusal;
@@ -26,7 +27,8 @@ use std::marker::Model;
 pub struct Operations {
     seats: Slab<Seat>,
     places: usize,
-    ends: Ends,
+    first_steps: Ends,
+    begins: Ends,
 }
 
 impl Model for Operations {
@@ -37,12 +39,12 @@ impl Model for Operations {
 
     ghost view = { λ t. padded t.places (table_of t.seats.slots) };
 
-    ghost invariant = { λ t. IsTable t.seats.slots t.ends × HasSeats t.seats t.places };
+    ghost invariant = { λ t. IsTable t.seats.slots t.first_steps t.begins × HasSeats t.seats t.places };
 }
 
 impl Operations {
-    ghost use Rattle.mt_table.specs.Bodies.{StepsBy, MovesUnfinished, KeepsFirst, KeepsWalk, LeavesElse};
-    ghost use Rattle.mt_operation.specs.Tables.{op_at, open_count, HasPlaces, AddsPlaces, AreBefore, IsFloorNeeded};
+    ghost use Rattle.mt_table.specs.Bodies.{StepsBy, MovesUnfinished, KeepsFirst, KeepsBirth, KeepsWalk, LeavesElse};
+    ghost use Rattle.mt_operation.specs.Tables.{op_at, open_count, HasPlaces, AddsPlaces, AreBefore, IsFloorNeeded, AreBornUpTo, IsLeastBirth};
 
     /// A table of no operation.
     pub fn new(alloc: Global) -> Self
@@ -51,7 +53,11 @@ impl Operations {
         Operations {
             seats: Slab::new(alloc),
             places: 0,
-            ends: Ends {
+            first_steps: Ends {
+                first: None,
+                last: None,
+            },
+            begins: Ends {
                 first: None,
                 last: None,
             },
@@ -68,10 +74,11 @@ impl Operations {
         }
     }
 
-    /// Keeps an operation that has made no step, at an id that was free. An error comes if there was no
-    /// place for it and memory is refused.
+    /// Keeps an operation that has made no step, at an id that was free. None of the table was begun after
+    /// it. An error comes if there was no place for it and memory is refused.
     pub fn keep(&mut self, operation: Box<Operation>) -> Result<usize, Refusal>
         requires new { operation.value.walk.first ≡ 0 }
+        requires latest { AreBornUpTo self.old operation.value.birth }
         ensures memory { IfErr result (λ refusal. refusal ≡ Refusal.Memory) }
         ensures vacant { IfOk result (λ id. op_at self.old id ≡ None) }
         ensures there { IfOk result (λ id. op_at self.new id ≡ Some operation.value) }
@@ -83,10 +90,17 @@ impl Operations {
     {
         let id = self.seats.insert(Seat {
             operation,
-            before: None,
-            after: None,
+            first_steps: Links {
+                before: None,
+                after: None,
+            },
+            begins: Links {
+                before: None,
+                after: None,
+            },
         })?;
         self.places = self.seats.capacity();
+        link_last(&mut self.seats, Queue::Begins, &mut self.begins, id);
         Ok(id)
     }
 
@@ -109,12 +123,18 @@ impl Operations {
         ensures absent { IfNone result (self.new ≡ self.old) }
     {
         let seat = self.seats.try_remove(id)?;
-        cut(&mut self.seats, &mut self.ends, &seat);
+        cut(&mut self.seats, &mut self.first_steps, &seat);
+        unlink(
+            &mut self.seats,
+            Queue::Begins,
+            &mut self.begins,
+            seat.begins,
+        );
         Some(seat.operation)
     }
 
     /// An operation makes the step of this number in its place, by `makes`, which leaves the number of its
-    /// first step. Nothing happens if `makes` tells that somebody is in the way or that the step is not
+    /// first step, and its birth. Nothing happens if `makes` tells that somebody is in the way or that the step is not
     /// its own, or if no operation has the id. `makes` is lent, so that the caller knows what it has
     /// left in what it borrows.
     #[inline]
@@ -128,6 +148,7 @@ impl Operations {
         requires may { ForSome (op_at self.old id) (FnOnceTakesAtMut F.FnOnce makes.old) }
         requires moves { (left : F) → MovesUnfinished (λ op made after. CalledAtMut F.FnMut makes.old op made left after) self.old id }
         requires first { (left : F) → KeepsFirst (λ op made after. CalledAtMut F.FnMut makes.old op made left after) self.old id }
+        requires birth { (left : F) → KeepsBirth (λ op made after. CalledAtMut F.FnMut makes.old op made left after) self.old id }
         requires keeps { (left : F) → KeepsWalk (λ op made after. CalledAtMut F.FnMut makes.old op made left after) self.old id }
         requires leaves { (left : F) → LeavesElse (λ op made after. CalledAtMut F.FnMut makes.old op made left after) self.old id }
         ensures steps { StepsBy (λ op made after. CalledAtMut F.FnMut makes.old op made makes.new after) self.old self.new id step result }
@@ -135,7 +156,12 @@ impl Operations {
     {
         let step = step_at(&mut self.seats, id, step, makes);
         if step.is_first {
-            link_last(&mut self.seats, &mut self.ends, id);
+            link_last(
+                &mut self.seats,
+                Queue::FirstSteps,
+                &mut self.first_steps,
+                id,
+            );
         }
         step.stepped
     }
@@ -148,9 +174,26 @@ impl Operations {
         requires { (o : ℕ) (op : AnyOperation) → op_at self.now o ≡ Some op → op.walk.first ≤ steps }
         ensures { IsFloorNeeded self.now steps result }
     {
-        match self.ends.first {
+        match self.first_steps.first {
             Some(id) => match self.seats.get(id) {
                 Some(seat) => seat.operation.walk.first - 1,
+                None => unreachable!(),
+            },
+            None => steps,
+        }
+    }
+
+    /// The least birth of all operations, or the number of steps made where none is open.
+    ///
+    /// An operation remembers nothing that was taken out by a step up to its birth. So what was taken
+    /// out by a step up to the least one is remembered by none.
+    pub fn least_birth(&self, steps: u64) -> u64
+        requires { AreBornUpTo self.now steps }
+        ensures { IsLeastBirth self.now steps result }
+    {
+        match self.begins.first {
+            Some(id) => match self.seats.get(id) {
+                Some(seat) => seat.operation.birth,
                 None => unreachable!(),
             },
             None => steps,

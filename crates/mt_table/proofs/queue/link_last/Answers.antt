@@ -6,4 +6,4 @@ pub put_behind-requires : goal.put_behind-requires
 put_behind-requires c = seat_kept c.args.seats.now.slots c.set_after.new.seats.slots (Some c.args.id) c.set_after.ensures.sets.table c.requires.there
 
 pub returns-clause-links : goal.returns-clause-links
-returns-clause-links c = linked _ _ _ _ _ _ _ _ _ _ c.args.id c.requires.new c.set_after.ensures.sets c.put_behind.ensures.sets.1 c.put_behind.ensures.sets.2 c.set_before.ensures.sets
+returns-clause-links c = linked c.args.queue _ _ _ _ _ _ _ _ _ _ c.args.id c.requires.new c.set_after.ensures.sets c.put_behind.ensures.sets.1 c.put_behind.ensures.sets.2 c.set_before.ensures.sets
