@@ -38,7 +38,7 @@ module _ (quotas : Quotas) (first : Maps) (story : Story) (old new : StateView) 
   unowned : (m : ℕ) → owner story m ≡ Some o → ⊥
   unowned m own = h.owners m o own unknown
 
-  new_told : StoryTells (with_begin story o what) after o (before_any worker tenant command)
+  new_told : StoryTells (with_begin story o what) after o (before_any worker tenant command old.steps)
   new_told = record {
     asked_so = asked_here;
     first = λ lt. absurd (omega (arith, lt));
@@ -72,7 +72,7 @@ module _ (quotas : Quotas) (first : Maps) (story : Story) (old new : StateView) 
       | inl is ↦
           let same : n ≡ m = same_Some n m (same_Some _ _ (sym r.here ∙ ap now (sym is) ∙ e)) in
           subst (λ p. (op : OperationView) × (op_at new.table m ≡ Some op) × StoryTells (with_begin story o what) after p op) (sym is)
-          (before_any worker tenant command, ap (op_at new.table) (sym same) ∙ b.there, new_told)
+          (before_any worker tenant command old.steps, ap (op_at new.table) (sym same) ∙ b.there, new_told)
       | inr ne ↦
           let was : names q ≡ Some (Some m) = sym (r.others q ne) ∙ e in
           let k = h.told q m was in

@@ -80,7 +80,7 @@ module _ (logs : ℕ) (accounts : Accounts) where
   }
 
   abbrev at_first : OperationView
-  at_first = begun 0 7 get_k
+  at_first = begun 0 7 get_k 0
 
   abbrev searching : OperationView
   searching = record at_first { first = 1; last = 1; phase = Search; walk = record at_first.walk { first = 1; phase = Search } }
@@ -125,17 +125,17 @@ module _ (logs : ℕ) (accounts : Accounts) where
 
   step_1 : IsStep (reached 0 at_first) (reached 1 searching) 0 false
   step_1 =
-      step 0 at_first searching false refl (record { asked = record { worker = refl; tenant = refl; command = refl }; first = refl; last = refl; follows = tt }) (refl, refl) refl refl (λ e. absurd (cc))
+      step 0 at_first searching false refl (record { asked = record { worker = refl; tenant = refl; command = refl }; birth = refl; first = refl; last = refl; follows = tt }) (refl, refl) refl refl (λ e. absurd (cc))
 
   step_2 : IsStep (reached 1 searching) (reached 2 confirming) 0 false
   step_2 =
-      step 1 searching confirming false refl (record { asked = record { worker = refl; tenant = refl; command = refl }; first = refl; last = refl; follows = tt })
+      step 1 searching confirming false refl (record { asked = record { worker = refl; tenant = refl; command = refl }; birth = refl; first = refl; last = refl; follows = tt })
       (record { says = refl; lacks = record { through = through_top; there = omega arith; tree_is = refl; border = refl; from = omega arith; missing = λ slot has. omega (arith, has.in_slot.in_range) } })
       refl refl (λ e. absurd (cc))
 
   step_3 : IsStep (reached 2 confirming) (reached 3 ended) 0 true
   step_3 =
-      step 2 confirming ended true refl (record { asked = record { worker = refl; tenant = refl; command = refl }; first = refl; last = refl; follows = tt }) refl refl refl
+      step 2 confirming ended true refl (record { asked = record { worker = refl; tenant = refl; command = refl }; birth = refl; first = refl; last = refl; follows = tt }) refl refl refl
       (λ e. (absent, refl, right))
 
   abbrev pub left : StateView

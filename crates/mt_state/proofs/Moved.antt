@@ -61,6 +61,11 @@ module _ (c : Core) (op : Operation) (k : IsOpenOperation c op) (w : Walk) where
     kind = kind;
     order = first_upto;
     made = omega (arith, steps);
+    born = omega (arith, steps, k.born);
+    birth = λ begun. elim (first_is op.walk.first (c.steps + 1)) [
+      | inl (none, is) ↦ omega (arith, is, k.born)
+      | inr (some, is) ↦ omega (arith, is, k.birth some)
+    ];
     floor = λ begun. elim (first_is op.walk.first (c.steps + 1)) [
       | inl (none, is) ↦ omega (arith, is, floor, upto)
       | inr (some, is) ↦ omega (arith, is, floor, k.floor some)
@@ -86,6 +91,7 @@ module _ (c : Core) (op : Operation) (k : IsOpenOperation c op) (w : Walk) where
       → HasMoved (view_of op) (view_of (went_on op (c.steps + 1) w told prepared s r)) (c.steps + 1)
   has_moved_on told prepared s r follows = record {
     asked = record { worker = refl; tenant = refl; command = refl };
+    birth = refl;
     first = refl;
     last = refl;
     follows = follows;

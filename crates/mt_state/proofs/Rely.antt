@@ -227,6 +227,8 @@ module _ (old new : Core) (o q : ℕ) (arena : IsArena new.arena.nodes new.arena
     kind = h.kind;
     order = h.order;
     made = omega (arith, h.made, later);
+    born = omega (arith, h.born, later);
+    birth = h.birth;
     floor = λ begun. subst (λ n. n < op.walk.first) (sym g.floor) (h.floor begun);
     begun = h.begun;
     short = h.short;

@@ -74,6 +74,8 @@ module _ (c : Core) (o : ℕ) (h : StateInvariant c) (few : c.steps < 2 ^ 59) (o
       kind = scan_open.kind;
       order = scan_open.order;
       made = scan_open.made;
+      born = scan_open.born;
+      birth = scan_open.birth;
       floor = scan_open.floor;
       begun = scan_open.begun;
       short = scan_open.short;
@@ -109,7 +111,7 @@ module _ (c : Core) (o : ℕ) (h : StateInvariant c) (few : c.steps < 2 ^ 59) (o
         }))
         (record {
           logs = refl;
-          moves = record { asked = record { worker = refl; tenant = refl; command = refl }; first = refl; last = refl; follows = follows };
+          moves = record { asked = record { worker = refl; tenant = refl; command = refl }; birth = refl; first = refl; last = refl; follows = follows };
           notes = notes;
           touches = λ j within. inl refl;
           effect = inl (is_quiet c o op after c.arena c.tape.reserved h leaves same_change);

@@ -28,12 +28,13 @@ HaveNoPairs accounts = (t : ℕ) (a : Account) → account_of accounts t ≡ Som
 abbrev pub IsWorker : ℕ → ℕ → Type 0
 IsWorker logs worker = worker < max logs 1
 
--- an operation before its first step
-abbrev pub begun : ℕ → ℕ → Command → OperationView
-begun worker tenant command = record {
+-- an operation before its first step, begun after so many steps
+abbrev pub begun : ℕ → ℕ → Command → ℕ → OperationView
+begun worker tenant command birth = record {
   worker = worker;
   tenant = tenant;
   command = command;
+  birth = birth;
   first = 0;
   last = 0;
   phase = Enter;
@@ -44,10 +45,10 @@ begun worker tenant command = record {
   scan = no_scan (stored_key tenant (key_of command)) command;
 }
 
--- an operation more, at an id that was free; all else is as it was
+-- an operation more, at an id that was free, with the number of steps made for its birth; all else is as it was
 pub record Begins (old new : StateView) (o worker tenant : ℕ) (command : Command) : Type 0 where
   pub free : op_at old.table o ≡ None
-  pub there : op_at new.table o ≡ Some (begun worker tenant command)
+  pub there : op_at new.table o ≡ Some (begun worker tenant command old.steps)
   pub others : (q : ℕ) → q ≢ o → op_at new.table q ≡ op_at old.table q
   pub stands : new ≡ record old { table = new.table }
 

@@ -22,7 +22,8 @@ use Rattle.mt_rows.specs.declared.reply.Reply.TheVariants as replies
 use Rattle.mt_operation.specs.Phases as kinds
 
 -- what is kept of every operation: its key is one of its tenant's, which is there, and its command's, unless it is a scan, whose key is the fence that it has reached;
--- its numbers are those of steps made; it has made one where it isn't at its beginning; and it remembers nothing of a removal where it removes nothing
+-- its numbers are those of steps made; its birth is before its first step; it has made one where it isn't at its beginning; and it remembers nothing of a removal
+-- where it removes nothing
 pub record IsOpenOperation (c : Core) (op : Operation) : Type 0 where
   pub stored : IsStoredKey op.task.key
   pub tenant_is : tenant_of op.task.key ≡ op.task.tenant
@@ -33,6 +34,8 @@ pub record IsOpenOperation (c : Core) (op : Operation) : Type 0 where
   pub kind : IsOfKind op.walk.phase op.walk.aim
   pub order : op.walk.first ≤ op.last
   pub made : op.last ≤ c.steps
+  pub born : op.birth ≤ c.steps
+  pub birth : 0 < op.walk.first → op.birth < op.walk.first
   pub floor : 0 < op.walk.first → c.tape.floor < op.walk.first
   pub begun : op.walk.phase ≢ Enter → 0 < op.walk.first
   pub short : HasShortColumns (ask op.task)

@@ -27,9 +27,10 @@ LeavesOut SplitStart LockParent = Unit {0}
 LeavesOut DropKey Unlink = Unit {0}
 LeavesOut _ _ = ⊥
 
--- the operation has made the step of this number
+-- the operation has made the step of this number; its birth stays
 pub record HasMoved (before after : OperationView) (step : ℕ) : Type 0 where
   pub asked : IsSameAsked before after
+  pub birth : after.birth ≡ before.birth
   pub first : after.first ≡ (if before.first == 0 then step else before.first)
   pub last : after.last ≡ step
   pub follows : MayFollow before.phase after.phase
