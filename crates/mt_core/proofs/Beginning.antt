@@ -6,11 +6,11 @@ use Rattle.mt_rows.specs.{declared.refusal.Refusal.Refusal, declared.refusal.Ref
 use Rattle.mt_rows.specs.Rows.{Bytes}
 use Rattle.mt_slices.specs.Keys.{IsStoredKey}
 use Rattle.mt_arena.{specs.Arena.{ArenaView, IsArena}, proofs.Down.goes_on_top}
-use Rattle.mt_operation.specs.{declared.operation.Operation.Operation, declared.walk.Walk.Walk, Tasks.ask, Operations.{OperationView, view_of}}
-use Rattle.mt_operation.specs.{Tables.{Table, op_at as operation_at}, declared.outcome.Outcome.Outcome, Phases.IsOfKind}
+use Rattle.mt_operation.specs.{declared.operation.Operation.Operation, declared.walk.Walk.Walk, Tasks.ask, Operations.{OperationView, view_of, born}}
+use Rattle.mt_operation.specs.{Tables.{Table, AreBornUpTo, op_at as operation_at}, declared.outcome.Outcome.Outcome, Phases.IsOfKind}
 use Rattle.mt_descent.specs.KeptWalks.{GoesThrough, KeptAt}
 use Rattle.mt_state.specs.{Views.{Core, StateView, shown, past_of}, KeptOperations.{IsBound, IsKeptAt, IsKeptOf, IsScanKept}, Steps.change_in}
-use Rattle.mt_state.specs.{Invariant.{StateInvariant, one_if_prepared}, Begins.Begins}
+use Rattle.mt_state.specs.{Invariant.{StateInvariant, one_if_prepared}, Begins.{Begins, begun}}
 use Rattle.mt_state.proofs.Shown.{shown_at, shown_there}
 use Rattle.mt_core.specs.{declared.answers.Ticket.Ticket, Admitted.{IsAdmitted, OpeningView, IsAccepted, TellsAdmitted, IsRefusedFor, RefusesOpening}}
 use Rattle.mt_core.specs.Places.{HasPlaces, TakesPlace}
@@ -30,16 +30,20 @@ through_top v key arena stored =
 
 -- an opening's operation that a state accepts which shows this
 module _ (c : Core) (now : StateView) (opening : OpeningView) (op : Operation) (is : shown c ≡ now) (accepted : IsAccepted now opening op) where
-  module _ (h : StateInvariant c) (arena : IsArena c.arena.nodes c.arena.trees) (o : ℕ) (table : Table) (vacant : operation_at c.table o ≡ None) (there : operation_at table o ≡ Some op)
+  module _ (h : StateInvariant c) (arena : IsArena c.arena.nodes c.arena.trees) (o : ℕ) (table : Table) (vacant : operation_at c.table o ≡ None) (there : operation_at table o ≡ Some (born op c.steps))
       (others : (q : ℕ) → q ≢ o → operation_at table q ≡ operation_at c.table q) where
     a : IsAdmitted op
     a = accepted.right.admitted
+
+    -- what is shown of it, with its birth
+    is_begun : view_of (born op c.steps) ≡ begun op.task.worker op.task.tenant (ask op.task) c.steps
+    is_begun = ap (λ (v : OperationView). record v { birth = c.steps }) a.is_begun
 
     known_tenant : IsSome (account_of c.accounts op.task.tenant)
     known_tenant =
         subst (λ t. IsSome (account_of c.accounts t)) (sym accepted.right.tenant_is) (subst (λ (v : StateView). IsSome (account_of v.accounts opening.tenant)) (sym is) accepted.tenant)
 
-    kept_begun : IsKeptOf (with_table c c.answers table) o op
+    kept_begun : IsKeptOf (with_table c c.answers table) o (born op c.steps)
     kept_begun = record {
       always = record {
         stored = a.stored;
@@ -51,16 +55,18 @@ module _ (c : Core) (now : StateView) (opening : OpeningView) (op : Operation) (
         kind = subst (λ (w : Walk). IsOfKind w.phase w.aim) (sym a.walk) tt;
         order = let first = ap (λ (w : Walk). w.first) a.walk in omega (arith, first);
         made = let last = ap (λ (v : OperationView). v.last) a.is_begun in omega (arith, last);
+        born = omega arith;
+        birth = λ begun. let first = ap (λ (w : Walk). w.first) a.walk in absurd (omega (arith, first, begun));
         floor = λ begun. let first = ap (λ (w : Walk). w.first) a.walk in absurd (omega (arith, first, begun));
         begun = λ other. absurd (other (ap (λ (w : Walk). w.phase) a.walk));
         short = a.short;
         counts = a.counts;
         light = λ none. ap (λ (v : OperationView). v.removal) a.is_begun;
       };
-      kept = subst (λ p. IsKeptAt p (with_table c c.answers table) o op) (sym (ap (λ (w : Walk). w.phase) a.walk)) (record {
+      kept = subst (λ p. IsKeptAt p (with_table c c.answers table) o (born op c.steps)) (sym (ap (λ (w : Walk). w.phase) a.walk)) (record {
         kept = subst (λ (w : Walk). KeptAt w.phase c.arena (past_of c) op.task.key None w) (sym a.walk) (through_top c.arena op.task.key arena a.stored);
         bound =
-            subst (λ (told : Option Outcome). IsBound told (with_table c c.answers table) op) (sym (ap (λ (v : OperationView). v.outcome) a.is_begun)) (ap (λ (v : OperationView). v.removal) a.is_begun);
+            subst (λ (told : Option Outcome). IsBound told (with_table c c.answers table) (born op c.steps)) (sym (ap (λ (v : OperationView). v.outcome) a.is_begun)) (ap (λ (v : OperationView). v.removal) a.is_begun);
         unprepared = a.unprepared;
       });
       unsplit = λ none. a.unsplit;
@@ -68,7 +74,7 @@ module _ (c : Core) (now : StateView) (opening : OpeningView) (op : Operation) (
     }
 
     -- it has scanned nothing
-    scan_begun : IsScanKept (with_table c c.answers table) op
+    scan_begun : IsScanKept (with_table c c.answers table) (born op c.steps)
     scan_begun = record {
       fresh = λ none. ap (λ (v : OperationView). v.scan) a.is_begun;
       walked = λ begun. let first = ap (λ (w : Walk). w.first) a.walk in absurd (omega (arith, first, begun));
@@ -77,7 +83,7 @@ module _ (c : Core) (now : StateView) (opening : OpeningView) (op : Operation) (
     -- the invariant with it
     pub begun_keeps : StateInvariant (with_table c c.answers table)
     begun_keeps =
-        begun_sound c o op table h vacant there others (ap (λ (w : Walk). w.first) a.walk) (ap (λ (w : Walk). one_if_prepared (Some (record op { walk = w }))) a.walk) kept_begun scan_begun
+        begun_sound c o (born op c.steps) table h vacant there others (ap (λ (w : Walk). w.first) a.walk) (ap (λ (w : Walk). one_if_prepared (Some (record op { walk = w }))) a.walk) kept_begun scan_begun
 
     -- and what is told of it
     pub begun_tells : (ticket : Ticket) → ticket.id ≡ o → TellsAdmitted now (shown (with_table c c.answers table)) opening (Ok ticket)
@@ -87,7 +93,7 @@ module _ (c : Core) (now : StateView) (opening : OpeningView) (op : Operation) (
       subst (λ (v : StateView). Begins v (shown (with_table c c.answers table)) ticket.id op.task.worker op.task.tenant (ask op.task)) is
           (subst (λ i. Begins (shown c) (shown (with_table c c.answers table)) i op.task.worker op.task.tenant (ask op.task)) (sym ticket_is) (record {
             free = shown_at c.table o ∙ ap (option_map view_of) vacant;
-            there = shown_there table o op there ∙ ap Some a.is_begun;
+            there = shown_there table o (born op c.steps) there ∙ ap Some is_begun;
             others = λ q other. shown_at table q ∙ ap (option_map view_of) (others q other) ∙ sym (shown_at c.table q);
             stands = refl;
           })),
@@ -106,3 +112,7 @@ module _ (c : Core) (now : StateView) (opening : OpeningView) (op : Operation) (
   pub begun_takes : (table : Table) → tables.open_count table ≡ tables.open_count c.table + 1 → length c.table ≤ length table
       → TakesPlace now (shown (with_table c c.answers table))
   begun_takes table one more = subst (λ v. TakesPlace v (shown (with_table c c.answers table))) is (place_taken c table one more)
+
+-- no operation of a state was begun after the steps that it has made
+pub born_upto : (c : Core) → StateInvariant c → AreBornUpTo c.table c.steps
+born_upto c h o op there = (h.ops o op there).always.born

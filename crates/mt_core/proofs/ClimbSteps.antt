@@ -130,6 +130,8 @@ module _ (c : Core) (o : ℕ) (op : Operation) (h : StateInvariant c) (there : o
             kind = a.kind;
             order = a.order;
             made = a.made;
+            born = a.born;
+            birth = a.birth;
             floor = a.floor;
             begun = a.begun;
             short = a.short;

@@ -359,6 +359,46 @@ module _ (c now : Core) (o : ℕ) (is : c ≡ now) (h : StateInvariant c) (room 
   look_first Hop step after t = t.same.first
   look_first _ step after t = absurd (let no_step : ◌≡◌ {A = Made} Step Nothing = t.0 in cc)
 
+  -- and its birth
+  descended_birth : (after : Operation) → TellsDescended c.arena op after → after.birth ≡ op.birth
+  descended_birth after t = ap (λ (x : Operation). x.birth) t.others
+
+  searched_birth : (step : ℕ) (after : Operation) → TellsSearched c.arena step op after → after.birth ≡ op.birth
+  searched_birth step after t = elim (confirm_or after.walk.phase) [
+    | inl confirms ↦ ap (λ (x : Operation). x.birth) (t.missing confirms)
+    | inr other ↦ ap (λ (x : Operation). x.birth) (t.there other)
+  ]
+
+  confirmed_birth : (after : Operation) → TellsConfirmed c.arena op after → after.birth ≡ op.birth
+  confirmed_birth after t = elim (done_or after.walk.phase) [
+    | inl done ↦ ap (λ (x : Operation). x.birth) (t.done done)
+    | inr other ↦ ap (λ (x : Operation). x.birth) (t.goes_on other)
+  ]
+
+  stopped_birth : (step : ℕ) (after : Operation) → IsStopped step op after → after.birth ≡ op.birth
+  stopped_birth step after t = ap (λ (x : Operation). x.birth) t.is
+
+  compared_birth : (step : ℕ) (after : Operation) → TellsCompared c.arena step op after → after.birth ≡ op.birth
+  compared_birth step after (inl t) = elim (done_or after.walk.phase) [
+    | inl done ↦ ap (λ (x : Operation). x.birth) (t.ends done)
+    | inr other ↦ ap (λ (x : Operation). x.birth) (t.goes_on other)
+  ]
+  compared_birth step after (inr t) = stopped_birth step after t.1
+
+  step_birth : (p : Phase) (step : ℕ) (after : Operation) → LooksAt p c.arena step op Step after → after.birth ≡ op.birth
+  step_birth Enter step after t = descended_birth after t
+  step_birth Pick step after t = descended_birth after t
+  step_birth Child step after t = descended_birth after t
+  step_birth Verify step after t = descended_birth after t
+  step_birth Forward step after t = descended_birth after t
+  step_birth Search step after t = searched_birth step after t
+  step_birth Load step after t = ap (λ (x : Operation). x.birth) t.others
+  step_birth Confirm step after t = confirmed_birth after t
+  step_birth Snap step after t = elim t [ inl sees ↦ ap (λ (x : Operation). x.birth) sees.others | inr stops ↦ stopped_birth step after stops.1 ]
+  step_birth Check step after t = compared_birth step after t
+  step_birth Hop step after t = ap (λ (x : Operation). x.birth) t.others
+  step_birth _ step after t = absurd (let no_step : ◌≡◌ {A = Made} Step Nothing = t.0 in cc)
+
   -- and leaves it as it was where none is made
   looks_leave : (Tells : Operation → Operation → Type 0) (made : Made) (after : Operation) → made ≢ Step → Looks c.arena Tells op made after → after ≡ op
   looks_leave Tells Step after other t = absurd (other refl)
@@ -379,6 +419,13 @@ module _ (c now : Core) (o : ℕ) (is : c ≡ now) (h : StateInvariant c) (room 
   look_leaves Check step made after other t = looks_leave (TellsCompared c.arena step) made after other t
   look_leaves Hop step made after other t = looks_leave (TellsHopped c.arena) made after other t
   look_leaves _ step made after other t = t.1
+
+  -- so it leaves its birth, whatever comes of it
+  pub look_birth : (p : Phase) (step : ℕ) (made : Made) (after : Operation) → LooksAt p c.arena step op made after → after.birth ≡ op.birth
+  look_birth p step Step after t = step_birth p step after t
+  look_birth p step (Blocked holder) after t = ap (λ (x : Operation). x.birth) (look_leaves p step (Blocked holder) after (λ e. absurd (cc)) t)
+  look_birth p step NoMemoryMade after t = ap (λ (x : Operation). x.birth) (look_leaves p step NoMemoryMade after (λ e. absurd (cc)) t)
+  look_birth p step Nothing after t = ap (λ (x : Operation). x.birth) (look_leaves p step Nothing after (λ e. absurd (cc)) t)
 
   -- no look is refused memory so that it stands
   pub look_granted : (p : Phase) (step : ℕ) (after : Operation) → LooksAt p c.arena step op NoMemoryMade after → ⊥

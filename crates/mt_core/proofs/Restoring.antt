@@ -147,7 +147,7 @@ module _ (v0 : StateView) (p : TenantPair) (idle : IsIdle v0) (may : MayPut v0 p
       omega (arith, maps, quotas, most, may.room)
 
   -- it is alone, so that it runs to its end
-  pub is_alone : (c : Core) → shown c ≡ v1 → StateInvariant c → v1.steps + 256 * (live_count v1.arena.nodes + 64) ≤ 2 ^ 59 → IsAlone v1 o (begun 0 p.tenant (put_of p))
+  pub is_alone : (c : Core) → shown c ≡ v1 → StateInvariant c → v1.steps + 256 * (live_count v1.arena.nodes + 64) ≤ 2 ^ 59 → IsAlone v1 o (begun 0 p.tenant (put_of p) v0.steps)
   is_alone c is sound numbers = record {
     there = begins.there;
     first = refl;
@@ -172,7 +172,7 @@ module _ (v0 : StateView) (p : TenantPair) (idle : IsIdle v0) (may : MayPut v0 p
       by k within (Some q) e = absurd (held_by_none k q within (ap (λ (v : StateView). (at v.arena k).holder) is ∙ e))
 
   -- once it has run to its end, and was told something else than that there was no memory
-  module _ (v2 v3 : StateView) (answer : Answer) (runs : Runs v1 v2 o DoneMove) (ends : EndsAlone v1 v2 o (begun 0 p.tenant (put_of p)) DoneMove) (takes : Takes v2 v3 o answer) where
+  module _ (v2 v3 : StateView) (answer : Answer) (runs : Runs v1 v2 o DoneMove) (ends : EndsAlone v1 v2 o (begun 0 p.tenant (put_of p) v0.steps) DoneMove) (takes : Takes v2 v3 o answer) where
     told : answer.reply ≡ ends.told.reply
     told =
         let same : takes.op ≡ ends.after = same_Some _ _ (sym takes.there ∙ ends.there) in
@@ -186,7 +186,7 @@ module _ (v0 : StateView) (p : TenantPair) (idle : IsIdle v0) (may : MayPut v0 p
     ]
 
     -- the maps have the pair then
-    made : IsRun v1 v2 (begun 0 p.tenant (put_of p)) ends.told.reply → (t : ℕ) → tenant_map t (contents_of v2) ≡ tenant_map t (with_pair p (contents_of v0))
+    made : IsRun v1 v2 (begun 0 p.tenant (put_of p) v0.steps) ends.told.reply → (t : ℕ) → tenant_map t (contents_of v2) ≡ tenant_map t (with_pair p (contents_of v0))
     made run t = run.makes t ∙ here (eqb t p.tenant) refl
       where
         here : (b : Bool) → eqb t p.tenant ≡ b

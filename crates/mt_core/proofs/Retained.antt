@@ -224,6 +224,8 @@ module _ (c : Core) (answers : ℕ) (logs : List ℕ) (tape : Kept) (table : Tab
     kind = k.kind;
     order = k.order;
     made = k.made;
+    born = k.born;
+    birth = k.birth;
     floor = t.floor;
     begun = k.begun;
     short = k.short;

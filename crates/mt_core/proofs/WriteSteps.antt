@@ -399,6 +399,81 @@ module _ (c now : Core) (o : ℕ) (is : c ≡ now) (h : StateInvariant c) (few :
   write_first arena Unlock e to after t = unlock_first e to after t
   write_first arena _ e to after t = absurd (let no_step : ◌≡◌ {A = Made} Step Nothing = t.none in cc)
 
+  -- and its birth
+  abbrev KeepsBirth : Telling → Type 0
+  KeepsBirth Tells = (to : Parts) (after : Operation) → Tells here to op after → after.birth ≡ op.birth
+
+  abbrev birth_in : Operation → ℕ
+  birth_in y = y.birth
+
+  lock_birth : KeepsBirth (TellsLocked o)
+  lock_birth to after (inl t) = ap birth_in t.on.others
+  lock_birth to after (inr t) = ap birth_in t.on.others
+
+  judge_birth : KeepsBirth (TellsJudged o (c.steps + 1))
+  judge_birth to after (inl t) = elim t.comes [
+    | inl ready ↦ ap birth_in ready.others
+    | inr (inl goes) ↦ ap birth_in goes.1.others
+    | inr (inr short) ↦ ap birth_in short.1.others
+  ]
+  judge_birth to after (inr (inl t)) = elim t.comes [
+    | inl ready ↦ ap birth_in ready.others
+    | inr (inl goes) ↦ ap birth_in goes.1.others
+    | inr (inr (inl missing)) ↦ ap birth_in missing.1.others
+    | inr (inr (inr short)) ↦ ap birth_in short.1.others
+  ]
+  judge_birth to after (inr (inr t)) = ap birth_in t.on.others
+
+  publish_birth : KeepsBirth (TellsPublished o (c.steps + 1))
+  publish_birth to after (inl p) = ap birth_in p.others
+  publish_birth to after (inr p) = ap birth_in p.others
+
+  begin_birth : KeepsBirth (TellsBegun o (c.steps + 1))
+  begin_birth to after (inl t) = ap birth_in t.others
+  begin_birth to after (inr t) = ap birth_in t.others
+
+  part_birth : KeepsBirth (TellsParted o (c.steps + 1))
+  part_birth to after (inl p) = ap birth_in p.others
+  part_birth to after (inr p) = ap birth_in p.others
+
+  build_birth : KeepsBirth (TellsBuilt o (c.steps + 1))
+  build_birth to after (inl t) = ap birth_in t.on.others
+  build_birth to after (inr t) = ap birth_in t.on.others
+
+  unlock_birth : KeepsBirth (TellsUnlocked o)
+  unlock_birth to after (inl t) = ap birth_in t.on.others
+  unlock_birth to after (inr (inl t)) = ap birth_in t.others
+  unlock_birth to after (inr (inr (inl t))) = ap birth_in t.others
+  unlock_birth to after (inr (inr (inr t))) = ap birth_in t.on.others
+
+  step_birth : (p : Phase) (to : Parts) (after : Operation) → WritesAt p o (c.steps + 1) here to op Step after → after.birth ≡ op.birth
+  step_birth Lock to after t = lock_birth to after t
+  step_birth Judge to after t = judge_birth to after t
+  step_birth Store to after t = ap birth_in t.places.others
+  step_birth Fill to after t = ap birth_in t.others
+  step_birth Publish to after t = publish_birth to after t
+  step_birth SplitStart to after t = begin_birth to after t
+  step_birth SplitMove to after t = part_birth to after t
+  step_birth SplitPrev to after t = ap birth_in t.others
+  step_birth LockParent to after t = ap birth_in t.others
+  step_birth InsertChild to after t = ap birth_in t.others
+  step_birth InteriorSplit to after t = ap birth_in t.others
+  step_birth Reparent to after t = ap birth_in t.others
+  step_birth RootGrow to after t = ap birth_in t.others
+  step_birth MakeLayer to after t = build_birth to after t
+  step_birth MarkUnstable to after t = build_birth to after t
+  step_birth Link to after t = build_birth to after t
+  step_birth MarkLayer to after t = build_birth to after t
+  step_birth DropKey to after t = ap birth_in t.others
+  step_birth LockPrev to after t = ap birth_in t.others
+  step_birth LockAbove to after t = ap birth_in t.others
+  step_birth Unlink to after t = ap birth_in t.others
+  step_birth FixNext to after t = ap birth_in t.others
+  step_birth Collapse to after t = ap birth_in t.others
+  step_birth CleanLayer to after t = ap birth_in t.others
+  step_birth Unlock to after t = unlock_birth to after t
+  step_birth _ to after t = absurd (let no_step : ◌≡◌ {A = Made} Step Nothing = t.none in cc)
+
   -- where another operation is in the way, that one is told
   abbrev pub Waits : Parts → ℕ → Operation → Type 0
   Waits to holder after = IsInTheWay c.arena op.walk.phase op.walk (splits_of op.splits) op.removal (scan_of op.task op.scan) holder × (holder ≢ o) × (to ≡ here) × (after ≡ op)
@@ -566,6 +641,13 @@ module _ (c now : Core) (o : ℕ) (is : c ≡ now) (h : StateInvariant c) (few :
   write_leaves to (Blocked holder) after other granted t = (write_waits op.walk.phase to holder after t).3
   write_leaves to NoMemory after other granted t = absurd (granted refl)
   write_leaves to Nothing after other granted t = (write_left op.walk.phase to after t).1
+
+  -- so its birth is as it was, whatever comes of the step
+  pub write_birth : (to : Parts) (made : Made) (after : Operation) → WritesAt op.walk.phase o (c.steps + 1) here to op made after → after.birth ≡ op.birth
+  write_birth to Step after t = step_birth op.walk.phase to after t
+  write_birth to (Blocked holder) after t = ap birth_in (write_waits op.walk.phase to holder after t).3
+  write_birth to NoMemory after t = ap birth_in (refused op.walk.phase to after t).3
+  write_birth to Nothing after t = ap birth_in (write_left op.walk.phase to after t).1
 
   -- what is told of the operation as it is, by what a call tells that was lent it
   pub write_told : (to : Parts) (made : Made) (shown left after : Operation) → shown ≡ op → left ≡ after → WritesAt shown.walk.phase o (c.steps + 1) here to shown made left → WritesAt op.walk.phase o (c.steps + 1) here to op made after

@@ -16,7 +16,7 @@ pub record IsRequest (request : Request) (command : Command) : Type 0 where
 
 -- an operation before its first step, with its key in stored form
 pub record IsAdmitted (op : Operation) : Type 0 where
-  pub is_begun : view_of op ≡ begun op.task.worker op.task.tenant (ask op.task)
+  pub is_begun : view_of op ≡ begun op.task.worker op.task.tenant (ask op.task) op.birth
   pub walk : op.walk ≡ walk_from_top (aim_of (ask op.task)) 0
   pub unprepared : op.prepared ≡ None
   pub unsplit : IsUnsplit op.splits
@@ -45,9 +45,9 @@ abbrev pub IsRightOpening : ℕ → Result (Box Operation Global) Refusal → Ty
 IsRightOpening tenant (Ok op) = IsOpening tenant op.value
 IsRightOpening tenant (Err refusal) = Unit {0}
 
--- what is made of a command that has no fault
+-- what is made of a command that has no fault; its birth is written as it is admitted
 abbrev pub IsMadeOf : Result OperationView Refusal → ℕ → ℕ → Command → Type 0
-IsMadeOf (Ok op) worker tenant command = op ≡ begun worker tenant command
+IsMadeOf (Ok op) worker tenant command = op ≡ begun worker tenant command 0
 IsMadeOf (Err refusal) worker tenant command = Unit {0}
 
 -- the operation of an opening is of a worker of the state

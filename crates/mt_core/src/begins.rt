@@ -86,7 +86,7 @@ fn admitted(
     command: Command,
 ) -> Result<Box<Operation>, Refusal>
     ensures admitted { IfOk result (λ op. IsAdmitted op.value) }
-    ensures is { IfOk result (λ op. view_in op ≡ begun worker tenant command) }
+    ensures is { IfOk result (λ op. view_in op ≡ begun worker tenant command 0) }
     ensures refused { Makes command result }
 {
     let request = request_of(alloc, command)?;

@@ -11,7 +11,7 @@ ghost use Rattle.mt_rows.specs.Accounts.{account_of};
 ghost use Rattle.mt_batches.specs.Batches.{IsBounded, BringsOn};
 ghost use Rattle.mt_arena.specs.Arena.{IsArena};
 ghost use Rattle.mt_state.specs.{Views.shown, Invariant.StateInvariant, Begins.{new_state, HaveNoPairs}};
-ghost use Rattle.mt_operation.specs.{Phases.IsNoLook, declared.operation.Operation.{Operation as AnyOperation}, Operations.{OperationView, view_of}};
+ghost use Rattle.mt_operation.specs.{Phases.IsNoLook, declared.operation.Operation.{Operation as AnyOperation}, Operations.{OperationView, view_of, born}};
 ghost use Rattle.mt_operation.specs.Tables.{op_at as operation_at};
 ghost use Rattle.mt_core.specs.{Looks.{LooksAt, MayLook}, Writes.{parts, WritesAt, MayWrite}, Tickets.{TellsTake, TellsCancel}};
 ghost use Rattle.mt_core.specs.{Places.{HasPlaces, TakesPlace, AddsPlaces}, Admitted.{MayAdmit, TellsAdmitted, RefusesOpening, IsAccepted, IsRefusedFor}};
@@ -83,7 +83,8 @@ impl Inner {
         })
     }
 
-    /// Begins the operation of an opening.
+    /// Begins the operation of an opening. Its birth is the number of steps made by now: the opening was
+    /// made outside the state, which went on meanwhile.
     pub(crate) fn admit(&mut self, opening: Opening) -> Result<Ticket, Refusal>
         requires { MayAdmit (shown self.old) opening.made }
         ensures told { TellsAdmitted (shown self.old) (shown self.new) opening result }
@@ -92,6 +93,7 @@ impl Inner {
     {
         self.arena.facts();
         let operation = self.accepted(opening)?;
+        let operation = born(operation, self.steps);
         let id = self.operations.keep(operation)?;
         Ok(Ticket { id })
     }
@@ -351,6 +353,14 @@ impl Inner {
     {
         self.arena.facts();
     }
+}
+
+// The operation, begun after so many steps.
+fn born(mut operation: Box<Operation>, steps: u64) -> Box<Operation>
+    ensures { result.value ≡ born operation.value steps }
+{
+    operation.birth = steps;
+    operation
 }
 
 // Another operation is in the way.

@@ -8,20 +8,20 @@ use Rattle.mt_core.proofs.restore.run.Goals as goal
 pub unreachable-requires : goal.unreachable-requires
 unreachable-requires c =
     let b = c.requires.begun in
-    let ends = c.run_alone.ensures.alone (begun 0 b.1.tenant (put_of b.1)) (is_alone b.0 b.1 b.2 b.3 (shown c.args.inner.now) c.args.ticket.id b.4 c.args.inner.now refl c.kept.ensures.invariant c.requires.numbers) in
+    let ends = c.run_alone.ensures.alone (begun 0 b.1.tenant (put_of b.1) b.0.steps) (is_alone b.0 b.1 b.2 b.3 (shown c.args.inner.now) c.args.ticket.id b.4 c.args.inner.now refl c.kept.ensures.invariant c.requires.numbers) in
     ends_so c.run_alone.result ends.after.phase ends.ends c.in_default.not-Done c.in_default.not-NoMemory
 
 pub returns-in-New : goal.returns-in-New
 returns-in-New c = λ v p idle may begins.
     has_put v p idle may (shown c.args.inner.now) c.args.ticket.id begins (shown c.run_alone.new.self) (shown c.take.new.self) c.in-Ok.answer c.in-Done.ensures.runs
-    (c.in-Done.ensures.alone (begun 0 p.tenant (put_of p)) (is_alone v p idle may (shown c.args.inner.now) c.args.ticket.id begins c.args.inner.now refl c.kept.ensures.invariant c.requires.numbers))
+    (c.in-Done.ensures.alone (begun 0 p.tenant (put_of p) v.steps) (is_alone v p idle may (shown c.args.inner.now) c.args.ticket.id begins c.args.inner.now refl c.kept.ensures.invariant c.requires.numbers))
     c.in-Ok.ensures.told c.in-New.is
 
 pub unreachable-requires-in_default-reply : goal.unreachable-requires-in_default-reply
 unreachable-requires-in_default-reply c =
     let b = c.requires.begun in
     elim (told_new b.0 b.1 b.2 b.3 (shown c.args.inner.now) c.args.ticket.id b.4 (shown c.run_alone.new.self) (shown c.take.new.self) c.in-Ok.answer c.in-Done.ensures.runs
-    (c.in-Done.ensures.alone (begun 0 b.1.tenant (put_of b.1)) (is_alone b.0 b.1 b.2 b.3 (shown c.args.inner.now) c.args.ticket.id b.4 c.args.inner.now refl c.kept.ensures.invariant c.requires.numbers))
+    (c.in-Done.ensures.alone (begun 0 b.1.tenant (put_of b.1) b.0.steps) (is_alone b.0 b.1 b.2 b.3 (shown c.args.inner.now) c.args.ticket.id b.4 c.args.inner.now refl c.kept.ensures.invariant c.requires.numbers))
     c.in-Ok.ensures.told) [
       | inl none ↦ c.in_default-reply.not-NoMemory none
       | inr new ↦ c.in_default-reply.not-New new
@@ -30,6 +30,6 @@ unreachable-requires-in_default-reply c =
 pub unreachable-requires-in-Err : goal.unreachable-requires-in-Err
 unreachable-requires-in-Err c =
     let b = c.requires.begun in
-    let ends : EndsAlone (shown c.args.inner.now) (shown c.run_alone.new.self) c.args.ticket.id (begun 0 b.1.tenant (put_of b.1)) DoneMove =
-    c.in-Done.ensures.alone (begun 0 b.1.tenant (put_of b.1)) (is_alone b.0 b.1 b.2 b.3 (shown c.args.inner.now) c.args.ticket.id b.4 c.args.inner.now refl c.kept.ensures.invariant c.requires.numbers) in
+    let ends : EndsAlone (shown c.args.inner.now) (shown c.run_alone.new.self) c.args.ticket.id (begun 0 b.1.tenant (put_of b.1) b.0.steps) DoneMove =
+    c.in-Done.ensures.alone (begun 0 b.1.tenant (put_of b.1) b.0.steps) (is_alone b.0 b.1 b.2 b.3 (shown c.args.inner.now) c.args.ticket.id b.4 c.args.inner.now refl c.kept.ensures.invariant c.requires.numbers) in
     c.in-Err.ensures.told.2 (ends.after, ends.there, ap is_done ends.ends)

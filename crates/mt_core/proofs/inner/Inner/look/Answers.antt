@@ -4,7 +4,7 @@ use Rattle.mt_table.specs.declared.steps.Made.TheVariants.{Step, Blocked, NoMemo
 use Rattle.mt_operation.specs.{declared.operation.Operation.Operation, Tables.{Table, op_at as operation_at}}
 use Rattle.mt_state.specs.Views.{Core}
 use Rattle.mt_core.specs.{States.core_of, Looks.MayLook, Nexts.ending, Points.StepsOn}
-use Rattle.mt_core.proofs.ReadSteps.{are_before, may_look, look_unfinished, look_first, look_leaves, look_granted, look_comes, look_blocked, look_left, look_told}
+use Rattle.mt_core.proofs.ReadSteps.{are_before, may_look, look_unfinished, look_first, look_birth, look_leaves, look_granted, look_comes, look_blocked, look_left, look_told}
 use Rattle.mt_core.proofs.inner.Inner.look.Goals as goal
 
 pub step_by-stepped-requires-clause-later : goal.step_by-stepped-requires-clause-later
@@ -23,6 +23,11 @@ pub step_by-stepped-requires-clause-first : goal.step_by-stepped-requires-clause
 step_by-stepped-requires-clause-first c =
     λ left op after there e. look_first (core_of c.self.inside) _ c.args.id c.self.view_is c.self.invariant c.requires.few op there op.walk.phase (c.self.inside.steps + 1) after
     (look_told (core_of c.self.inside) _ c.args.id c.self.view_is c.self.invariant c.requires.few op there (c.self.inside.steps + 1) Step _ _ after e.shows e.leaves e.called.met.1)
+
+pub step_by-stepped-requires-clause-birth : goal.step_by-stepped-requires-clause-birth
+step_by-stepped-requires-clause-birth c =
+    λ left op after made there e. look_birth (core_of c.self.inside) _ c.args.id c.self.view_is c.self.invariant c.requires.few op there op.walk.phase (c.self.inside.steps + 1) made after
+    (look_told (core_of c.self.inside) _ c.args.id c.self.view_is c.self.invariant c.requires.few op there (c.self.inside.steps + 1) made _ _ after e.shows e.leaves e.called.met.1)
 
 pub step_by-stepped-requires-clause-keeps : goal.step_by-stepped-requires-clause-keeps
 step_by-stepped-requires-clause-keeps c =

@@ -4,7 +4,7 @@ use Rattle.mt_table.specs.declared.steps.Made.TheVariants.{Step, Blocked, NoMemo
 use Rattle.mt_operation.specs.{declared.operation.Operation.Operation, Phases.IsNoLook}
 use Rattle.mt_core.specs.{States.core_of, Writes.{parts, MayWrite}, Nexts.ending}
 use Rattle.mt_core.proofs.ReadSteps.{are_before}
-use Rattle.mt_core.proofs.WriteSteps.{may_write, write_unfinished, write_first, write_keeps, write_leaves, write_comes, write_blocked, write_grown, write_none, write_there, write_told}
+use Rattle.mt_core.proofs.WriteSteps.{may_write, write_unfinished, write_first, write_birth, write_keeps, write_leaves, write_comes, write_blocked, write_grown, write_none, write_there, write_told}
 use Rattle.mt_core.proofs.inner.Inner.write.Goals as goal
 
 pub step_by-stepped-requires-clause-later : goal.step_by-stepped-requires-clause-later
@@ -24,6 +24,11 @@ pub step_by-stepped-requires-clause-first : goal.step_by-stepped-requires-clause
 step_by-stepped-requires-clause-first c =
     λ left op after there e. write_first (core_of c.self.inside) _ c.args.id c.self.view_is c.self.invariant c.requires.few op there c.facts.ensures.arena op.walk.phase refl _ after
     (write_told (core_of c.self.inside) _ c.args.id c.self.view_is c.self.invariant c.requires.few op there _ Step _ _ after e.shows e.leaves e.called.met.1)
+
+pub step_by-stepped-requires-clause-birth : goal.step_by-stepped-requires-clause-birth
+step_by-stepped-requires-clause-birth c =
+    λ left op after made there e. write_birth (core_of c.self.inside) _ c.args.id c.self.view_is c.self.invariant c.requires.few op there _ made after
+    (write_told (core_of c.self.inside) _ c.args.id c.self.view_is c.self.invariant c.requires.few op there _ made _ _ after e.shows e.leaves e.called.met.1)
 
 pub step_by-stepped-requires-clause-keeps : goal.step_by-stepped-requires-clause-keeps
 step_by-stepped-requires-clause-keeps c =
