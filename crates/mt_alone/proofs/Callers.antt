@@ -107,7 +107,7 @@ numbers_for mid new command k numbers =
 -- a begin in a state in which no operation is open, as long as a number is left
 module _ (old mid : StateView) (o tenant : ℕ) (command : Command) (right : IsRightState old) (idle : old.steps ≢ 2 ^ 59 → IsIdle old) (b : Begins old mid o 0 tenant command) (may : IsAdmissible old tenant command) where
   abbrev op : OperationView
-  op = begun 0 tenant command
+  op = begun 0 tenant command old.steps
 
   arena_stands : mid.arena ≡ old.arena
   arena_stands = ap (λ (v : StateView). v.arena) b.stands

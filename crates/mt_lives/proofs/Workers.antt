@@ -18,7 +18,7 @@ pub below_begun : (count : ℕ) (old new : StateView) (n worker tenant : ℕ) (c
     → AreBelow count old.table → AreBelow count new.table
 below_begun count old new n worker tenant command few b all = λ q op there. elim (cases_eq q n) [
   | inl same ↦
-      let is : begins.begun worker tenant command ≡ op = same_Some _ op (sym b.there ∙ ap (λ k. op_at new.table k) (sym same) ∙ there) in
+      let is : begins.begun worker tenant command old.steps ≡ op = same_Some _ op (sym b.there ∙ ap (λ k. op_at new.table k) (sym same) ∙ there) in
       subst (λ (o : OperationView). o.worker < count) is few
   | inr other ↦ all q op (sym (b.others q other) ∙ there)
 ]
