@@ -4,7 +4,7 @@ use crate::asked::drained;
 use crate::pairs::{expect_pairs, get, push_given, push_pairs, put_pair, tenant_of};
 use crate::recovered::restored;
 use mt_core::State;
-use mt_rows::Reply;
+use mt_rows::{Refusal, Reply};
 use mt_state::Move;
 use std::alloc::Global;
 use std::process::Abort;
@@ -96,5 +96,5 @@ fn restores_near_the_last_number(host: HostRuntime) {
     assert!(rt; state.step(&ticket) == Move::Moved);
     assert!(rt; state.step(&ticket) == Move::Spent);
     assert!(rt; state.take(ticket).is_err());
-    assert!(rt; state.begin(0, 7, get(rt, alloc, 1)).is_err());
+    assert!(rt; matches!(state.begin(0, 7, get(rt, alloc, 1)), Err(Refusal::Spent)));
 }
