@@ -29,6 +29,15 @@ begins_set xs trees i y within keeps begins = λ k lt. elim (cases_eq k i) [
   | inr other ↦ rw (there xs i k y other) (begins k (omega (arith, lt, length-set xs i y)))
 ]
 
+-- another node comes in the place of one
+pub begins_again : (xs : List NodeView) (trees : List Tree) (i : ℕ) (y : NodeView) → i < length xs → BeginsAtKey (tree_at trees y.tree).prefix y → AllBegin xs trees
+    → AllBegin (set xs i y) trees
+unfolding AllBegin
+begins_again xs trees i y within new begins = λ k lt. elim (cases_eq k i) [
+  | inl is ↦ rw (is, here xs i y within) new
+  | inr other ↦ rw (there xs i k y other) (begins k (omega (arith, lt, length-set xs i y)))
+]
+
 -- one node more
 pub begins_push : (xs : List NodeView) (trees : List Tree) (y : NodeView) → BeginsAtKey (tree_at trees y.tree).prefix y → AllBegin xs trees
     → AllBegin (xs ++ y ∷ []) trees

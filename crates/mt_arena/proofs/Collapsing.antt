@@ -1,18 +1,19 @@
 -- The whole invariant, the guarantee and the contents where a root gives way to its only child: for `collapse`.
 use Rattle.mt_border.proofs.KeptEntries.{entries_none}
-use Rattle.mt_arena.specs.Idle.{Rooms, AreRetired, with_interior}
+use Rattle.mt_arena.specs.{Idle.{Rooms, AreRetired, with_interior}, Given.{NamesNode, IsNamedLate, AreOutUpTo}}
 use Rattle.mt_arena.specs.Guarantee.{LosesHeld}
-use Rattle.std.proofs.Common.{◌≡◌, ◌≢◌, ℕ, ◌<◌, List, [], ◌∷◌, length, get_or, set, Some, None, refl, sym, ap, subst, ◌∙◌, inl, inr, arith}
+use Rattle.std.proofs.Common.{◌≡◌, ◌≢◌, ℕ, ◌<◌, List, [], ◌∷◌, length, get_or, set, true, Some, None, refl, sym, ap, subst, ◌∙◌, inl, inr, arith}
 use Rattle.std.proofs.{lemmas.Bool.cases_eq, lemmas.List.{length-set, get_or-set_same, get_or-set_other}}
 use Rattle.mt_version.proofs.Aging.{ages-made_root}
 use Rattle.mt_interior.specs.Fences.{end_of, bounds_of}
 use Rattle.mt_arena.specs.{declared.tree.Tree.Tree, declared.tree.Standing.TheVariants.Dead, NodeView.{NodeView, node_at}, Nodes.{IsChild, HasChild, bounds}}
 use Rattle.mt_arena.specs.{Forests.{IsForest, IsHome, IsRoot, IsTree, AllBegin, tree_at, no_tree}, Layers.AreLayered, Contents.content}
 use Rattle.mt_arena.specs.{Guarantee.{Changes, TreeChanges}, Edits.retired, Collapses.{Collapses, crowned}}
-use Rattle.mt_arena.specs.{Arena.{ArenaInvariant, ArenaView, Guarantee}, Accesses.{at, tree_of}, Ways.HasSlots, Settled.IsSettled}
+use Rattle.mt_arena.specs.{Invariant.ArenaInvariant, Arena.{ArenaView, Guarantee}, Accesses.{at, tree_of}, Ways.HasSlots, Settled.IsSettled}
 use Rattle.mt_arena.specs.{Lags.{Follows, IsUnder}, Removals.{MayCollapse, nodes_under, without_root}}
 use Rattle.mt_arena.proofs.{Pairs.{here, there}, Begins.{KeepsSeat, begins_set, begins_trees}, Locks.is_held, Collapse.{nodes_collapsed, ranged_collapsed}}
 use Rattle.mt_arena.proofs.{LinkEdits.{KeepsLinks, same_links, layers_set, layers_empty}, Retiring.{retired_set, interior_retired, retired_tree_set}}
+use Rattle.mt_arena.proofs.NamedLate.{KeepsNames, names_stand, roots_set, named_kept, named_live, named_interior}
 use Rattle.mt_arena.proofs.{TakenOut.{changes_retired, same_of_trees}, HeldChanges.changes_held, Guarantees.{PointsSo, guarantee_on, lost_none}}
 use Rattle.mt_arena.proofs.{Naming.{names_same, points_each, each_set2}, Several.{MayTurn, guarantee_set2}, Topping.{layers_trees, guarantee_record}}
 use Rattle.mt_arena.proofs.Settling.{NamesNoMore, names_none_more, follows_was, under_was, settled_same}
@@ -280,8 +281,19 @@ module _ (v : ArenaView) (room : Rooms) (root child step op : ℕ) (sound : Aren
         (interior_retired xs v.trees v.retired root step lr sound.retired may.live is_interior)
         (ap (λ (n : NodeView). n.version.deleted) (sym at_child)) (ap (λ (n : NodeView). n.level) (sym at_child))) refl
 
-    pub sound_collapsed : ArenaInvariant (nodes_under xs root child) ts (with_interior v.retired root step) room
-    sound_collapsed = record {
+    -- what the root names is live, and each other one that was taken out keeps its names
+    named_out : AreOutUpTo step v.retired → IsNamedLate new ts (with_interior v.retired root step)
+    named_out upto =
+        named_interior new ts v.retired root step upto
+        (λ k names. named_live xs v.trees v.retired step root lr sound.arena.nodes sound.retired may.live k (subst (λ (n : NodeView). NamesNode n k) new_root names))
+        (named_kept xs new v.trees ts v.retired sound.retired (record {
+          nodes = each_set2 (λ k n. (at v k).version.deleted ≡ true → KeepsNames (at v k) n) xs root child w y lr lc apart
+              (λ out. record { next = refl; children = refl }) (λ out. record { next = refl; children = refl }) (λ k lt nr nc out. names_stand (at v k));
+          trees = λ u lu. roots_set v.trees t rooted lt_t (λ dead. absurd (stands dead)) u;
+        }) sound.named)
+
+    pub sound_collapsed : AreOutUpTo step v.retired → ArenaInvariant (nodes_under xs root child) ts (with_interior v.retired root step) room
+    sound_collapsed upto = record {
       arena = record {
         nodes = nodes_collapsed xs child root sound.arena.nodes sound.arena.ranged collapses;
         ranged = ranged_collapsed xs child root sound.arena.nodes sound.arena.ranged collapses;
@@ -289,6 +301,7 @@ module _ (v : ArenaView) (room : Rooms) (root child step op : ℕ) (sound : Aren
         layers = layers_out;
       };
       retired = retired_out;
+      named = named_out upto;
       enough = omega (arith, size, sound.enough);
       trees_enough = omega (arith, length-set v.trees t rooted, sound.trees_enough);
     }

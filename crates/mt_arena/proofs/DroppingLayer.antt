@@ -1,22 +1,23 @@
 -- The whole invariant, the guarantee and the contents where a tree is taken out with its root and the link to it: for `drop_layer`.
 use Rattle.std.proofs.Common.{◌≡◌, ◌≢◌, ℕ, zero, suc, ◌<◌, ◌++◌, List, [], length, get_or, set, true, false, Some, refl, sym, ap, subst, ◌∙◌, inl, inr, arith}
-use Rattle.std.proofs.{lemmas.Bool.cases_eq, lemmas.List.{length-set, get_or-set_other, get_or_default}}
+use Rattle.std.proofs.{lemmas.Bool.cases_eq, lemmas.List.{length-set, get_or-set_same, get_or-set_other, get_or_default}}
 use Rattle.std.specs.{Prelude.{◌⊎◌}, List.{All, remove}}
 use Rattle.mt_slices.specs.{Slices.piece_bytes, declared.mark.Mark.TheVariants.{Short, Long}}
 use Rattle.mt_rows.specs.Rows.{Bytes}
 use Rattle.mt_border.specs.{declared.entry.Entry.Entry, Held.Link, Keeps.KeepsEntries, Contents.HasKey, Entries.{IsBorder, slices, without}}
 use Rattle.mt_border.proofs.Edits.{any_entry, All-remove, border_without, without_at}
-use Rattle.mt_arena.specs.Idle.{Rooms, AreRetired, has_ended, is_idle_tree, with_border, with_tree}
+use Rattle.mt_arena.specs.{Idle.{Rooms, AreRetired, has_ended, is_idle_tree, with_border, with_tree}, Given.{IsNodeOutFrom, NamesNode, IsNamedLate, AreOutUpTo}}
 use Rattle.mt_arena.specs.{declared.tree.Tree.Tree, declared.tree.Standing.TheVariants.{Live, Dead}, NodeView.{NodeView, node_at}}
 use Rattle.mt_arena.specs.{Nodes.{AreNodes, Holds, HasRange}, Ranges.{AreRanged, Waits}, Forests.{IsForest, IsRoot, HaveKeys, tree_at, no_tree, layer_of}}
 use Rattle.mt_arena.specs.{Layers.{AreLayered, AreLinks, HasLink, LeadsTo, slot_at}, Contents.content, Guarantee.{TreeChanges, LosesHeld}, Edits.{retired, with_slots, cells_without}}
-use Rattle.mt_arena.specs.{Arena.{ArenaInvariant, ArenaView, Guarantee}, Accesses.at, NodeFacts.IsUnstable, Settled.IsSettled}
+use Rattle.mt_arena.specs.{Invariant.ArenaInvariant, Arena.{ArenaView, Guarantee}, Accesses.at, NodeFacts.IsUnstable, Settled.IsSettled}
 use Rattle.mt_arena.specs.{Lags.{Follows, IsUnder}, Removals.{MayDropLayer, nodes_above, without_layer}}
 use Rattle.mt_arena.proofs.{Pairs.{here, there}, Locks.is_held, Quiet.nodes_slots, Slots.{within_each, within_all, changes_slots}}
 use Rattle.mt_arena.proofs.{Ranged.{no_wait, ranged_marked, ranged_retired}, Retire.nodes_retired, Collapse.{is_true, root_left}}
 use Rattle.mt_arena.proofs.{Steps.keys_of, SlotPlaces.{was_at, at_still}, OneLink.{IsLinkTo, leads, differs, below_top, one_link}}
 use Rattle.mt_arena.proofs.{DeadTree.{dead, stood, forest_dead}, TakenOut.{changes_retired, same_of_trees}}
-use Rattle.mt_arena.proofs.{Homes.forest_set, Grow.not_none, Retiring.{retired_set, border_retired, tree_retired}}
+use Rattle.mt_arena.proofs.{Homes.forest_set, Grow.not_none, Retiring.{retired_set, border_retired, tree_retired}, Out.node_out_border}
+use Rattle.mt_arena.proofs.NamedLate.{KeepsNames, names_stand, roots_set, live_out, named_kept, named_live, named_border, named_tree}
 use Rattle.mt_arena.proofs.{Guarantees.{PointsSo, guarantee_on, lost_none}, Naming.{names_same, points_each, each_set2}, Several.{MayTurn, guarantee_set2}}
 use Rattle.mt_arena.proofs.{Topping.guarantee_record, Settling.{NamesNoMore, names_none_more, follows_was, under_was, settled_same}}
 use Rattle.mt_arena.proofs.ContentQuiet.{stands_unlinked, stands_without_slots, stands_tree_left}
@@ -297,10 +298,25 @@ module _ (v : ArenaView) (room : Rooms) (node i u step op : ℕ) (sound : ArenaI
       (ap (λ (m : NodeView). m.version.deleted) at_root ∙ root.live) (ap (λ (m : NodeView). m.level) at_root ∙ root_level)))
       idle_not refl
 
-  pub sound_dropped_layer : ArenaInvariant (nodes_above xs node i r) ts (with_tree (with_border v.retired r step) u step) room
-  sound_dropped_layer = record {
+  -- what the root names is live, the tree names the root, and each other one that was taken out keeps its names
+  named_out : AreOutUpTo step v.retired → IsNamedLate new ts (with_tree (with_border v.retired r step) u step)
+  named_out upto =
+      named_tree new ts (with_border v.retired r step) u step
+      (subst (IsNodeOutFrom step (with_border v.retired r step)) (sym (ap (λ (t : Tree). t.root) (get_or-set_same v.trees u (dead tree) no_tree lu)))
+      (node_out_border step v.retired r step r (omega arith) (live_out xs v.trees v.retired step r sound.retired root.live)))
+      (named_border new ts v.retired r step upto
+      (λ k names. named_live xs v.trees v.retired step r lr nodes sound.retired root.live k (subst (λ (m : NodeView). NamesNode m k) new_root names))
+      (named_kept xs new v.trees ts v.retired sound.retired (record {
+        nodes = each_set2 (λ k m. (at v k).version.deleted ≡ true → KeepsNames (at v k) m) xs node r y w ln lr apart
+            (λ out. record { next = refl; children = refl }) (λ out. record { next = refl; children = refl }) (λ k lk nn nr out. names_stand (at v k));
+        trees = λ t lt. roots_set v.trees u (dead tree) lu (λ _. refl) t;
+      }) sound.named))
+
+  pub sound_dropped_layer : AreOutUpTo step v.retired → ArenaInvariant (nodes_above xs node i r) ts (with_tree (with_border v.retired r step) u step) room
+  sound_dropped_layer upto = record {
     arena = record { nodes = nodes_out; ranged = ranged_out; forest = forest_out; layers = layers_out };
     retired = retired_out;
+    named = named_out upto;
     enough = omega (arith, size, sound.enough);
     trees_enough = omega (arith, trees_size, sound.trees_enough);
   }

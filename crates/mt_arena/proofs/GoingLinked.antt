@@ -8,9 +8,9 @@ use Rattle.mt_border.{specs.{declared.entry.Entry.Entry, Held.{Pair, Unstable, L
 use Rattle.mt_arena.specs.Idle.{Rooms, has_ended}
 use Rattle.mt_arena.specs.{declared.tree.Tree.Tree, declared.tree.Standing.TheVariants.Live, NodeView.{NodeView, node_at}}
 use Rattle.mt_arena.specs.{Forests.{IsForest, tree_at, layer_of}, Layers.{AreLayered, AreLinks, HasLink, LeadsTo, slot_at}, Contents.content}
-use Rattle.mt_arena.specs.{Arena.{ArenaInvariant, ArenaView, Guarantee}, Accesses.{at, tree_of}, Layering.{MayGoLive, with_held, with_link}}
+use Rattle.mt_arena.specs.{Invariant.ArenaInvariant, Arena.{ArenaView, Guarantee}, Accesses.{at, tree_of}, Layering.{MayGoLive, with_held, with_link}}
 use Rattle.mt_arena.proofs.{Pairs.{here, there}, Locks.is_held, Quiet.nodes_slots, Ranged.ranged_marked}
-use Rattle.mt_arena.proofs.{Homes.{forest_set, begun}, Retiring.{retired_set, retired_tree_set}}
+use Rattle.mt_arena.proofs.{Homes.{forest_set, begun}, Retiring.{retired_set, retired_tree_set}, NamedLate.{named_set, named_tree_set}}
 use Rattle.mt_arena.proofs.{Slots.{within_all, changes_slots, lost_held}, Guarantees.{guarantee_on, guarantee_set, points_set, lost_set}, Topping.guarantee_record}
 use Rattle.mt_arena.proofs.{HeldOtherwise.{MayHoldThis, slots_are, border_after, inside_after, keys_after}, NoLayer.link_would_be_here}
 use Rattle.mt_arena.proofs.{LiveTree.{alive, trees_size, tree_t, same_prefix, live_stays, was_live, forest_live, goes_live}, GoingLive.layered}
@@ -196,6 +196,8 @@ module _ (v : ArenaView) (room : Rooms) (node i t op : ℕ) (key : Bytes) (pair 
       layers = layers_new;
     };
     retired = retired_tree_set new v.trees v.retired t (alive tree) lt (retired_set xs v.trees v.retired node y ln sound.retired refl refl) (sym (ap has_ended may.layer.made.made));
+    named = named_tree_set new v.trees v.retired t (alive tree) lt (retired_set xs v.trees v.retired node y ln sound.retired refl refl) (λ dead. refl)
+        (named_set xs v.trees v.retired node y ln sound.retired (λ out. record { next = refl; children = refl }) sound.named);
     enough = omega (arith, size, sound.enough);
     trees_enough = omega (arith, length-set v.trees t (alive tree), sound.trees_enough);
   }

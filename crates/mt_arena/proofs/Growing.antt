@@ -7,9 +7,9 @@ use Rattle.mt_border.specs.declared.entry.Entry.{Entry}
 use Rattle.mt_arena.specs.{declared.tree.Tree.Tree, declared.tree.Standing.TheVariants.Made, Idle.{RetiredPlaces, Rooms}, NodeView.{NodeView, node_at}}
 use Rattle.mt_arena.specs.{Forests.{IsForest, HaveKeys, HasSlice, tree_at, layer_of}, Layers.{AreLayered, LeadsTo, HasLink, slot_at}, Nodes.HasRange}
 use Rattle.mt_arena.specs.{Guarantee.{NodesGuarantee, PointsOnly}, Edits.{splitting, fresh_half, fresh_root}, Contents.content}
-use Rattle.mt_arena.specs.{Arena.{IsArena, ArenaInvariant, ArenaView, Guarantee}, Accesses.{at, IsOpen, with_half}}
+use Rattle.mt_arena.specs.{Invariant.ArenaInvariant, Arena.{IsArena, ArenaView, Guarantee}, Accesses.{at, IsOpen, with_half}}
 use Rattle.mt_arena.proofs.{Pairs.{here, last, before}, Push.{nodes_half, nodes_root}, Ranged.ranged_root, RangedEdits.ranged_half, Homes.forest_push}
-use Rattle.mt_arena.proofs.{Trees.{forest_tree, made, last_tree, before_tree}, LinkEdits.no_links, Retiring.{retired_push, retired_tree_push}}
+use Rattle.mt_arena.proofs.{Trees.{forest_tree, made, last_tree, before_tree}, LinkEdits.no_links, Retiring.{retired_push, retired_tree_push}, NamedLate.{named_push, named_tree_push}}
 use Rattle.mt_arena.proofs.Guarantees.{guarantee_on, guarantee_set, guarantee_push, points_set, points_push, lost_none, lost_set, lost_push}
 use Rattle.mt_arena.proofs.{ContentQuiet.{content-set, stands_pushed, stands_tree_pushed}, Locks.{is_held, sound_splitting, changes_splitting}}
 use Rattle.mt_arena.proofs.Naming.{points_on}
@@ -74,6 +74,7 @@ module _ (xs : List NodeView) (i low op : ℕ) (within : i < length xs) (held : 
           layers = layers_push ys trees half refl marked.arena.layers;
         };
         retired = retired_push ys trees gone half marked.retired refl;
+        named = named_push ys trees gone half marked.retired marked.named;
         enough = omega (arith, length-append ys (half ∷ []), size_y, enough);
         trees_enough = trees_enough;
       }
@@ -148,6 +149,8 @@ sound_tree xs trees gone room more op prefix sound enough trees_enough whole =
         layers = layers_tree xs trees y (made prefix (length xs) op) op refl refl forest sound.arena.layers;
       };
       retired = retired_tree_push (xs ++ y ∷ []) trees gone u (retired_push xs trees gone y sound.retired refl) refl;
+      named =
+          named_tree_push (xs ++ y ∷ []) trees gone u (retired_push xs trees gone y sound.retired refl) (named_push xs trees gone y sound.retired sound.named);
       enough = omega (arith, length-append xs (y ∷ []), enough);
       trees_enough = omega (arith, length-append trees (u ∷ []), trees_enough);
     }

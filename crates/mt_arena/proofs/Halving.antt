@@ -16,7 +16,7 @@ use Rattle.mt_lists.specs.Rising.{IsRising}
 use Rattle.mt_interior.specs.Fences.{end_of}
 use Rattle.mt_arena.specs.{declared.tree.Tree.Tree, Idle.{RetiredPlaces, Rooms}, NodeView.{NodeView, node_at}, Nodes.Holds}
 use Rattle.mt_arena.specs.{Forests.{HaveKeys, tree_at, layer_of}, Contents.content, Ways.{AreBegun, IsUnfilled}, declared.tree.Standing.TheVariants.Live}
-use Rattle.mt_arena.specs.{Arena.{ArenaInvariant, ArenaView, Guarantee}, Accesses.{at, tree_of}, Splits.{Splits, with_some, left_half, right_half}}
+use Rattle.mt_arena.specs.{Invariant.ArenaInvariant, Arena.{ArenaView, Guarantee}, Accesses.{at, tree_of}, Splits.{Splits, with_some, left_half, right_half}}
 use Rattle.mt_arena.specs.Several.{IsHalf, MaySplit, MayPlace, AreHalved}
 use Rattle.mt_arena.proofs.{LinkEdits.{HasSlot, HasLinksOf, same_links, links_insert, links_insert_back}, Homes.begun, Locks.is_held, Steps.keys_of}
 use Rattle.mt_arena.proofs.{Slots.{within_each, no_link, begun_mark}, SplitStep.{sound_split, guarantee_split}, Naming.{names_same, points_each, each_set2}}

@@ -9,7 +9,7 @@ use Rattle.mt_border.specs.{Entries.{IsBorder, replaced}, Contents.HasKey}
 use Rattle.mt_border.proofs.{Edits.{any_entry, border_set, replaced_at}, ContentsKeys.has_held_key}
 use Rattle.mt_arena.specs.Idle.{Rooms}
 use Rattle.mt_arena.specs.{Edits.cells_holding, NodeView.NodeView, Nodes.Holds, Layers.slot_at, Forests.{HaveKeys, layer_of}, Contents.content}
-use Rattle.mt_arena.specs.{Arena.{ArenaInvariant, ArenaView, Guarantee}, Accesses.{at, tree_of}}
+use Rattle.mt_arena.specs.{Invariant.ArenaInvariant, Arena.{ArenaView, Guarantee}, Accesses.{at, tree_of}}
 use Rattle.mt_arena.specs.Layering.{IsHeldSlot, MayUnsettle, MayLink, with_held, with_slot}
 use Rattle.mt_arena.proofs.{Steps.keys_of, Locks.is_held, Slots.{within_each, sound_slots, step_slots, lost_held}, LinkEdits.{HasLinksOf, links_set, links_set_back}}
 use Rattle.mt_arena.proofs.ContentQuiet.{stands_held}

@@ -31,7 +31,8 @@ home_kept k x y t tree keeps keys h = record {
   keys = λ e. keys (sym keeps.tree ∙ e);
 }
 
-tree_more : (count more : ℕ) (tree : Tree) → count ≤ more → IsTree count tree → IsTree more tree
+-- a tree fits among more nodes
+pub tree_more : (count more : ℕ) (tree : Tree) → count ≤ more → IsTree count tree → IsTree more tree
 tree_more count more tree le h = record { root_there = omega (arith, h.root_there); whole = h.whole }
 
 -- the forest stands where one node changes and keeps its place and its keys

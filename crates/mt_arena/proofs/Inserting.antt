@@ -5,7 +5,7 @@ use Rattle.std.proofs.Common.{◌≡◌, ◌≢◌, ℕ, suc, ◌+◌, ◌<◌, 
 use Rattle.std.proofs.{lemmas.Bool.cases_lt, lemmas.List.{length-set, set-set, get_or_append_left}}
 use Rattle.mt_interior.specs.{Places.IsNew, Fences.end_of}
 use Rattle.mt_arena.specs.{declared.tree.Tree.Tree, NodeView.{NodeView, node_at}, declared.tree.Standing.TheVariants.Made, Forests.{IsForest, tree_at}}
-use Rattle.mt_arena.specs.{Ranges.AreRanged, Nodes.{AreNodes, IsChild, bounds}, Contents.content, Arena.{ArenaInvariant, ArenaView, Guarantee}, Accesses.at}
+use Rattle.mt_arena.specs.{Ranges.AreRanged, Nodes.{AreNodes, IsChild, bounds}, Contents.content, Invariant.ArenaInvariant, Arena.{ArenaView, Guarantee}, Accesses.at}
 use Rattle.mt_arena.specs.{Edits.inserting, Splits.{Inserts, with_child, exact}, Several.{MayInsert, with_right}}
 use Rattle.mt_arena.proofs.{Pairs.{here, there}, Quiet.nodes_inserting, Ranges.{rises, not_empty, length_bounds}, Ranged.ranged_marked}
 use Rattle.mt_arena.proofs.{RangedEdits.ranged_insert_child, Child.{nodes_insert_child, left_child, differ_ij}, Steps.keys_of, Slots.changes_inserting}
@@ -129,6 +129,7 @@ module _ (v : ArenaView) (room : Rooms) (parent left right op : ℕ) (sound : Ar
   kept : AreKept v.nodes new v.trees v.retired
   kept =
       kept_set2 v.nodes v.trees v.retired parent left y z may.held.there may.left_held.there apart (record { slots = refl; deleted = refl; tree = refl }) (record { slots = refl; deleted = refl; tree = refl }) refl refl
+      (λ out. absurd (let live = may.inserts.parent_live in cc)) (λ out. record { next = refl; children = refl })
 
   pub sound_right : ArenaInvariant new v.trees v.retired room
   sound_right = record {
@@ -142,6 +143,7 @@ module _ (v : ArenaView) (room : Rooms) (parent left right op : ℕ) (sound : Ar
       layers = kept.layers sound.arena.layers;
     };
     retired = kept.retired sound.retired;
+    named = kept.named sound.retired sound.named;
     trees_enough = sound.trees_enough;
     enough = omega (arith, kept.count, sound.enough);
   }

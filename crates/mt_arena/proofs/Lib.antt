@@ -12,6 +12,8 @@ pub mod Trees
 pub mod LinkEdits
 pub mod Listed
 pub mod Retiring
+pub mod Out
+pub mod NamedLate
 pub mod Guarantees
 pub mod Steps
 pub mod Locks
@@ -76,3 +78,4 @@ pub mod SettledBut
 pub mod Separators
 pub mod NextBegins
 pub mod Renumbering
+pub mod Again

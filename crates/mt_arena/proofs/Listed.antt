@@ -98,6 +98,20 @@ module _ {X : Type 0} (idle : X → Bool) (blank : X) where
         counted = omega (arith, h.counted, more, count-set xs i y within, ap one_if used, ap one_if idle_now);
       }
 
+  -- the first place of the list is given out, to one that isn't idle
+  pub listed_give : (xs : List X) (r : Retired) (gone : List Retired) (y : X) → AreListed idle blank xs (r ∷ gone) → idle y ≡ false
+      → AreListed idle blank (set xs r.place y) gone
+  listed_give xs r gone y h used =
+      let within : r.place < length xs = h.there 0 (omega arith) in
+      let was : idle (at xs r.place) ≡ true = h.idle_there 0 (omega arith) in
+      let apart : (k : ℕ) → k < length gone → place_of_idle gone k ≢ r.place = λ k lt is. h.once 0 (suc k) (omega arith) (omega (arith, lt)) (sym is) in
+      record {
+        there = λ k lt. omega (arith, h.there (suc k) (omega (arith, lt)), length-set xs r.place y);
+        idle_there = λ k lt. ap idle (get_or-set_other xs r.place (place_of_idle gone k) y blank (apart k lt)) ∙ h.idle_there (suc k) (omega (arith, lt));
+        once = λ a b lt inside. h.once (suc a) (suc b) (omega (arith, lt)) (omega (arith, inside));
+        counted = omega (arith, h.counted, count-set xs r.place y within, ap one_if was, ap one_if used);
+      }
+
   -- none are idle where there are none
   pub listed_none : AreListed idle blank [] []
   listed_none = record { there = λ i lt. absurd (omega arith); idle_there = λ i lt. absurd (omega arith); once = λ i j lt inside. absurd (omega arith); counted = refl }

@@ -4,7 +4,7 @@ use Rattle.mt_border.proofs.KeptEntries.{entries_none}
 use Rattle.std.proofs.{Common.{◌≡◌, ◌≢◌, ℕ, ◌<◌, List, length, set, false, Option, Some, None, refl, sym, ap, ◌∙◌, inl, inr, arith}, lemmas.Option.same_Some, lemmas.Bool.cases_eq}
 use Rattle.mt_interior.specs.Fences.{end_of}
 use Rattle.mt_arena.specs.{Nodes.HasRange, Settled.IsSettled, declared.tree.Tree.Tree, Idle.{RetiredPlaces, Rooms}, NodeView.{NodeView, node_at}}
-use Rattle.mt_arena.specs.{Guarantee.Changes, Edits.{locked, unlocked, splitting}, Arena.{IsArena, ArenaInvariant, ArenaView, Guarantee}}
+use Rattle.mt_arena.specs.{Guarantee.Changes, Edits.{locked, unlocked, splitting}, Invariant.ArenaInvariant, Arena.{IsArena, ArenaView, Guarantee}}
 use Rattle.mt_arena.specs.Accesses.{at, IsOpen, with_node}
 use Rattle.mt_arena.proofs.{Quiet.{nodes_locked, nodes_splitting}, Ranged.{ranged_locked, ranged_unlocked, ranged_marked}, Unlock.nodes_unlocked}
 use Rattle.mt_arena.proofs.{LinkEdits.same_links, Steps.{sound_set, keys_of, step_set}}
@@ -19,6 +19,7 @@ sound_locked xs trees gone room i op within sound free =
     record { tree = refl; level = refl; low = refl; deleted = refl; flag = refl; root = λ r. record { live = r.live; flag = r.flag; parentless = r.parentless; low = r.low; reach = r.reach } }
     (keys_of xs trees i within sound.arena.forest)
     record { tree = refl; deleted = refl; forth = same_links x.slots; back = same_links x.slots }
+    record { next = refl; children = refl }
 
 changes_locked : (op : ℕ) (x : NodeView) → x.holder ≡ None → Changes op x (locked x op)
 changes_locked op x free = record {
@@ -67,6 +68,7 @@ sound_unlocked xs trees gone room i within sound settled =
     record { tree = refl; level = refl; low = refl; deleted = refl; flag = refl; root = λ r. record { live = r.live; flag = r.flag; parentless = r.parentless; low = r.low; reach = r.reach } }
     (keys_of xs trees i within sound.arena.forest)
     record { tree = refl; deleted = refl; forth = same_links x.slots; back = same_links x.slots }
+    record { next = refl; children = refl }
 
 -- what another operation would hold is not this one's
 pub not_others : (op q : ℕ) (x : NodeView) → x.holder ≡ Some op → q ≢ op → x.holder ≢ Some q
@@ -100,6 +102,7 @@ sound_splitting xs trees gone room i within sound held =
     record { tree = refl; level = refl; low = refl; deleted = refl; flag = refl; root = λ r. record { live = r.live; flag = r.flag; parentless = r.parentless; low = r.low; reach = r.reach } }
     (keys_of xs trees i within sound.arena.forest)
     record { tree = refl; deleted = refl; forth = same_links x.slots; back = same_links x.slots }
+    record { next = refl; children = refl }
 
 pub changes_splitting : (op : ℕ) (x : NodeView) → x.holder ≡ Some op → Changes op x (splitting x)
 changes_splitting op x mine = record {

@@ -7,9 +7,9 @@ use Rattle.mt_border.{specs.Slots.fresh_slots, proofs.Edits.any_entry}
 use Rattle.mt_arena.specs.Idle.{Rooms}
 use Rattle.mt_arena.specs.{declared.tree.Tree.Tree, NodeView.{NodeView, node_at}, Nodes.{AreNodes, IsNode, Holds}, Ranges.AreRanged, NodeFacts.IsUnstable}
 use Rattle.mt_arena.specs.{Forests.{HaveKeys, tree_at, layer_of}, Contents.{live_pairs, content}, Edits.{fresh_root, cells_with}}
-use Rattle.mt_arena.specs.{Arena.{ArenaInvariant, ArenaView, Guarantee}, Layering.{MayMakeLayer, root_of, with_layer}}
+use Rattle.mt_arena.specs.{Invariant.ArenaInvariant, Arena.{ArenaView, Guarantee}, Layering.{MayMakeLayer, root_of, with_layer}}
 use Rattle.mt_arena.proofs.{Pairs.last, Links.slice_of_lt, NextLayer.only, Homes.{KeepsHome, HasKeysOf}, LinkEdits.KeepsLinks, Quiet.nodes_quiet}
-use Rattle.mt_arena.proofs.{Ranged.ranged_marked, Trees.{made, last_tree}, Steps.sound_set, Slots.{no_link, within_all}, Growing.{sound_tree, content_tree}}
+use Rattle.mt_arena.proofs.{Ranged.ranged_marked, NamedLate.KeepsNames, Trees.{made, last_tree}, Steps.sound_set, Slots.{no_link, within_all}, Growing.{sound_tree, content_tree}}
 use Rattle.mt_arena.proofs.{Guarantees.{guarantee_tree, points_push, lost_all, lost_push}, Counted.{pairs-made, pairs-nil}, ContentQuiet.content-set}
 
 -- a stable pair is not unstable
@@ -116,7 +116,7 @@ module _ (v : ArenaView) (room more : Rooms) (op : ℕ) (prefix : Bytes) (e : En
 
   pub sound_layer : ArenaInvariant (xs ++ y ∷ []) ts v.retired more
   sound_layer = subst (λ ns. ArenaInvariant ns ts v.retired more) same
-      (sound_set ys ts v.retired more (length xs) y within empty nodes_with ranged_with (subst (λ (n : NodeView). KeepsHome n y) (sym at) keeps_home) keys_with (subst (λ (n : NodeView). KeepsLinks n y) (sym at) keeps_links))
+      (sound_set ys ts v.retired more (length xs) y within empty nodes_with ranged_with (subst (λ (n : NodeView). KeepsHome n y) (sym at) keeps_home) keys_with (subst (λ (n : NodeView). KeepsLinks n y) (sym at) keeps_links) (subst (λ (n : NodeView). KeepsNames n y) (sym at) record { next = refl; children = refl }))
 
   -- the tree does not count yet
   pub content_layer : content ts (xs ++ y ∷ []) ≡ content v.trees xs

@@ -5,10 +5,10 @@ use Rattle.mt_arena.specs.Guarantee.{LosesHeld}
 use Rattle.std.proofs.Common.{◌≡◌, ◌≢◌, ℕ, ◌+◌, ◌<◌, ◌≤◌, List, [], ◌∷◌, ◌++◌, length, set, false, None, refl, sym, ap, subst, ◌∙◌, arith, length-append}
 use Rattle.std.proofs.{lemmas.Option.same_Some, lemmas.List.{length-set, set-set, set-append_left, set_at}}
 use Rattle.mt_arena.specs.{NodeView.{NodeView, node_at}, Nodes.{AreNodes, HasRange}, NodeFacts.TellsKind, Forests.tree_at, Contents.content}
-use Rattle.mt_arena.specs.{Arena.{ArenaInvariant, ArenaView, Guarantee}, Accesses.at, Edits.{bare, splitting}}
+use Rattle.mt_arena.specs.{Invariant.ArenaInvariant, Arena.{ArenaView, Guarantee}, Accesses.at, Edits.{bare, splitting}}
 use Rattle.mt_arena.specs.{Splits.{Inserts, with_child, exact, middle, inner_left, inner_right}, Several.{MaySplitInner, with_parts}}
 use Rattle.mt_arena.proofs.{Pairs.{here, there, last, before}, Quiet.nodes_splitting, Push.nodes_bare, Homes.forest_push, Growing.{layers_push, no_keys}}
-use Rattle.mt_arena.proofs.{Retiring.retired_push, RangedEdits.ranged_parts, Steps.keys_of, Inner.SplitsInner}
+use Rattle.mt_arena.proofs.{Retiring.retired_push, NamedLate.named_push, RangedEdits.ranged_parts, Steps.keys_of, Inner.SplitsInner}
 use Rattle.mt_arena.proofs.{InnerSplit.{given, nodes_split_inner, ranges_split_inner}, HeldChanges.changes_inner_left, Locks.changes_splitting}
 use Rattle.mt_arena.proofs.{Guarantees.{changes_on, guarantee_on, guarantee_push, PointsSo, lost_none, lost_push}, Naming.{names_same, points_more, each_set2}}
 use Rattle.mt_arena.proofs.{Several.{AreKept, kept_set2, forest_set2, guarantee_set2}, ContentQuiet.stands_pushed}
@@ -172,6 +172,7 @@ module _ (v : ArenaView) (room more : Rooms) (parent left right op : ℕ) (sound
   kept : AreKept v.nodes halves v.trees v.retired
   kept =
       kept_set2 v.nodes v.trees v.retired parent left y z li lj apart (record { slots = refl; deleted = refl; tree = refl }) (record { slots = refl; deleted = refl; tree = refl }) refl refl
+      (λ out. absurd (let live = may.inserts.parent_live in cc)) (λ out. record { next = refl; children = refl })
 
   ranges : HasRange y × HasRange u
   ranges = ranges_parts v.nodes parent left right op sound.arena.nodes may.inserts may.full may.next
@@ -192,6 +193,7 @@ module _ (v : ArenaView) (room more : Rooms) (parent left right op : ℕ) (sound
           layers = layers_push halves v.trees u refl (kept.layers sound.arena.layers);
         };
         retired = retired_push halves v.trees v.retired u (kept.retired sound.retired) refl;
+        named = named_push halves v.trees v.retired u (kept.retired sound.retired) (kept.named sound.retired sound.named);
         trees_enough = trees_enough;
         enough = omega (arith, length-append halves (u ∷ []), kept.count, enough);
       }

@@ -4,7 +4,7 @@ use Rattle.mt_border.proofs.KeptEntries.{entries_none}
 use Rattle.std.proofs.Common.{◌≡◌, ◌≢◌, ℕ, ◌<◌, ◌⊎◌, List, length, set, true, false, Option, Some, None, refl, sym, ap, ◌∙◌, inl, inr, arith}
 use Rattle.std.proofs.{lemmas.Bool.cases_eq, lemmas.Option.same_Some}
 use Rattle.mt_arena.specs.{declared.tree.Tree.Tree, Idle.{RetiredPlaces, Rooms}, NodeView.{NodeView, node_at}, Nodes.HasRange, Ranges.Waits}
-use Rattle.mt_arena.specs.{Guarantee.Changes, Edits.{pointed, Points}, Arena.{ArenaInvariant, ArenaView, Guarantee}, Accesses.{at, IsOpen, with_node}}
+use Rattle.mt_arena.specs.{Guarantee.Changes, Edits.{pointed, Points}, Invariant.ArenaInvariant, Arena.{ArenaView, Guarantee}, Accesses.{at, IsOpen, with_node}}
 use Rattle.mt_arena.proofs.{Pairs.{here, there}, Point.nodes_pointed, Ranged.ranged_pointed, LinkEdits.same_links, Steps.{sound_set, keys_of, step_set}}
 use Rattle.mt_version.proofs.CallerLemmas as versions
 
@@ -20,6 +20,7 @@ sound_pointed xs trees gone room i previous parent within sound points no_root r
     record { tree = refl; level = refl; low = refl; deleted = refl; flag = refl; root = λ r. record { live = r.live; flag = r.flag; parentless = no_root r.flag ∙ r.parentless; low = r.low; reach = r.reach } }
     (keys_of xs trees i within sound.arena.forest)
     record { tree = refl; deleted = refl; forth = same_links x.slots; back = same_links x.slots }
+    record { next = refl; children = refl }
 
 changes_pointed : (op : ℕ) (x : NodeView) (previous parent : Option ℕ) → (parent ≡ None → x.parent ≡ None)
     → ((q : ℕ) → q ≢ op → x.holder ≡ Some q → x.parent ≡ None → parent ≡ None) → Changes op x (pointed x previous parent)

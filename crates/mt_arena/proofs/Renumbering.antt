@@ -1,17 +1,17 @@
 -- Where all nodes are renumbered, all that holds of an arena holds again, and the contents stand: for `renumber`.
-use Rattle.std.proofs.Common.{◌≡◌, ◌≢◌, ℕ, zero, suc, ◌+◌, ◌<◌, List, [], ◌∷◌, ◌++◌, length, Option, Bool, true, false, refl, sym, ap, subst, ◌∙◌, arith}
+use Rattle.std.proofs.Common.{◌≡◌, ◌≢◌, ℕ, zero, suc, ◌<◌, List, [], ◌∷◌, ◌++◌, length, Option, Bool, false, refl, sym, ap, subst, ◌∙◌, arith}
 use Rattle.std.proofs.lemmas.List.{length-map}
 use Rattle.std.specs.{Prelude.{if◌then◌else◌}, List.flat_map}
 use Rattle.mt_slices.specs.declared.mark.Mark.TheVariants.{Short, Long}
 use Rattle.mt_border.specs.{declared.entry.Entry.Entry, Held.{Held, Stable, Unstable, Link}, Restamps.{stamped, restamped, all_restamped}}
 use Rattle.mt_border.proofs.Restamping.{each-restamped, border-restamped, slices-restamped, length-restamped, keys-restamped, pairs-restamped}
-use Rattle.mt_arena.specs.Idle.{RetiredPlaces, Rooms, AreRetired, AreListed, is_idle_border, is_idle_interior, place_of_idle, count_of, one_if}
+use Rattle.mt_arena.specs.Idle.{RetiredPlaces, Rooms, AreRetired, AreListed, all_out_at, is_idle_border, is_idle_interior, place_of_idle, count_of, one_if}
 use Rattle.mt_arena.specs.{declared.tree.Tree.Tree, declared.retired.Retired.Retired, NodeView.{NodeView, node_at, no_node}, NodeFacts.{IsUnstable, FitsSlots}}
 use Rattle.mt_arena.specs.{Nodes.{AreNodes, IsNode, IsPair}, Ranges.{AreRanged, IsRanged, AreTied}}
 use Rattle.mt_arena.specs.{Forests.{IsForest, IsHome, IsTree, AllBegin, BeginsAtKey, tree_at, layer_of}, Layers.{AreLayered, AreLinks, HasLink, slot_at}}
-use Rattle.mt_arena.specs.{Contents.{live_pairs, is_live, content}, Arena.{ArenaInvariant, IsArena}}
+use Rattle.mt_arena.specs.{Contents.{live_pairs, is_live, content}, Invariant.ArenaInvariant, Arena.IsArena}
 use Rattle.mt_arena.specs.Renumbers.{renumbered, all_renumbered}
-use Rattle.mt_arena.proofs.{Joins.map_of, Counted.content-is}
+use Rattle.mt_arena.proofs.{Joins.map_of, Counted.content-is, Out.retired_anew, NamedLate.named_anew}
 
 -- the node of a number
 pub at-renumbered : (s : ℕ) (nodes : List NodeView) (k : ℕ) → node_at (all_renumbered s nodes) k ≡ renumbered s (node_at nodes k)
@@ -186,11 +186,13 @@ retired_so s nodes trees gone h = record {
   of_trees = h.of_trees;
 }
 
--- with all that is kept inside
-pub sound_so : (s : ℕ) (nodes : List NodeView) (trees : List Tree) (gone : RetiredPlaces) (room : Rooms) → ArenaInvariant nodes trees gone room → ArenaInvariant (all_renumbered s nodes) trees gone room
+-- with all that is kept inside, where one step took out all
+pub sound_so : (s : ℕ) (nodes : List NodeView) (trees : List Tree) (gone : RetiredPlaces) (room : Rooms) → ArenaInvariant nodes trees gone room
+    → ArenaInvariant (all_renumbered s nodes) trees (all_out_at s gone) room
 sound_so s nodes trees gone room h = record {
   arena = arena_so s nodes trees h.arena;
-  retired = retired_so s nodes trees gone h.retired;
+  retired = retired_anew s (all_renumbered s nodes) trees gone (retired_so s nodes trees gone h.retired);
+  named = named_anew s (all_renumbered s nodes) trees gone;
   enough = omega (arith, size-renumbered s nodes, h.enough);
   trees_enough = h.trees_enough;
 }

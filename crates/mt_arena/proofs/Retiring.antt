@@ -1,11 +1,11 @@
--- The lists of idle places where a node or a tree changes, is taken out or added: for the invariant of every call.
-use Rattle.std.proofs.Common.{◌≡◌, ℕ, ◌+◌, ◌<◌, ◌≤◌, List, [], ◌∷◌, ◌++◌, length, set, Bool, true, false, refl, ap, ◌∙◌, sym, arith}
+-- The lists of idle places where a node or a tree changes, is taken out or added, and where a place is given out: for the invariant of every call.
+use Rattle.std.proofs.Common.{◌≡◌, ℕ, ◌<◌, ◌≤◌, List, [], ◌∷◌, ◌++◌, length, set, Bool, true, false, refl, ap, ◌∙◌, sym, arith}
 use Rattle.std.proofs.lemmas.Bool.{ne_eqb}
 use Rattle.std.specs.Prelude.{◌==◌, ◌&&◌, not, if◌then◌else◌}
-use Rattle.mt_arena.specs.{declared.tree.Tree.Tree, NodeView.{NodeView, node_at, no_node}, Forests.{tree_at, no_tree}}
-use Rattle.mt_arena.specs.{Edits.retired, Arena.{live_count, one_if_live}}
+use Rattle.mt_arena.specs.{declared.retired.Retired.Retired, declared.tree.Tree.Tree, NodeView.{NodeView, node_at, no_node}, Forests.{tree_at, no_tree}}
+use Rattle.mt_arena.specs.{Edits.retired, Arena.{live_count}}
 use Rattle.mt_arena.specs.Idle.{RetiredPlaces, AreRetired, is_idle_border, is_idle_interior, is_idle_tree, with_border, with_interior, with_tree, no_places}
-use Rattle.mt_arena.proofs.Listed.{listed_few, listed_same, listed_push, listed_more, listed_none}
+use Rattle.mt_arena.proofs.Listed.{listed_few, listed_same, listed_push, listed_more, listed_give, listed_none}
 
 -- a node is idle as before where its deleted mark and its level stay
 same_border : (x y : NodeView) → y.version.deleted ≡ x.version.deleted → y.level ≡ x.level → is_idle_border y ≡ is_idle_border x
@@ -92,6 +92,24 @@ tree_retired xs trees gone t step u within are used dead = record {
   of_interiors = are.of_interiors;
   of_trees = listed_more is_idle_tree no_tree trees gone.trees t step u within are.of_trees used dead;
 }
+
+-- the place of a border node that was taken out is given out, to a live node
+both_idle : (a b : Bool) → (a && b) ≡ true → (a && not b) ≡ false
+both_idle true true both = refl
+both_idle true false both = absurd (cc)
+both_idle false b both = refl
+
+pub border_given : (xs : List NodeView) (trees : List Tree) (gone : RetiredPlaces) (r : Retired) (rest : List Retired) (y : NodeView)
+    → AreRetired xs trees (record gone { borders = r ∷ rest }) → y.version.deleted ≡ false → AreRetired (set xs r.place y) trees (record gone { borders = rest })
+border_given xs trees gone r rest y are live =
+    let x = node_at xs r.place in
+    let idle : is_idle_border x ≡ true = are.of_borders.idle_there 0 (omega arith) in
+    record {
+      of_borders = listed_give is_idle_border no_node xs r rest y are.of_borders (used_border y live);
+      of_interiors = listed_same is_idle_interior no_node xs gone.interiors r.place y (are.of_borders.there 0 (omega arith)) are.of_interiors
+          (used_interior y live ∙ sym (both_idle x.version.deleted (x.level == 0) idle));
+      of_trees = are.of_trees;
+    }
 
 -- a live node's place is none of the idle ones, so that these are fewer than all; nor is that of a tree that isn't dead
 pub borders_few : (xs : List NodeView) (trees : List Tree) (gone : RetiredPlaces) (i : ℕ) → i < length xs → AreRetired xs trees gone

@@ -12,7 +12,7 @@ use Rattle.mt_border.specs.Keeps.{HasEntry, KeepsEntries, LosesOnly}
 use Rattle.mt_border.proofs.KeptEntries.{entries_none}
 use Rattle.mt_border.proofs.{ContentsKeys.has_rewritten_key, ContentsEdits.keys-publish}
 use Rattle.mt_arena.specs.{declared.tree.Tree.Tree, Idle.{RetiredPlaces, Rooms}, NodeView.{NodeView, node_at, place_at}, NodeFacts.IsUnstable, Nodes.Holds, Layers.slot_at}
-use Rattle.mt_arena.specs.{Forests.{HaveKeys, tree_at, layer_of}, Guarantee.{Changes, LosesHeld}, Edits.{inserting, with_slots, cells_with, cells_holding, cells_without}, Arena.{ArenaInvariant, ArenaView, Guarantee}}
+use Rattle.mt_arena.specs.{Forests.{HaveKeys, tree_at, layer_of}, Guarantee.{Changes, LosesHeld}, Edits.{inserting, with_slots, cells_with, cells_holding, cells_without}, Invariant.ArenaInvariant, Arena.{ArenaView, Guarantee}}
 use Rattle.mt_arena.specs.{Contents.content, Accesses.{at, tree_of, IsOpen, with_node, with_row, MayPublish, MayChange}}
 use Rattle.mt_arena.proofs.{Quiet.nodes_slots, Ranged.ranged_marked, Homes.begun, Owners.{published, stored, dropped}}
 use Rattle.mt_arena.proofs.LinkEdits.{HasLinksOf, links_insert, links_insert_back, links_set, links_set_back, links_remove, links_remove_back}
@@ -46,6 +46,7 @@ sound_slots xs trees gone room i slots cells within sound held level may =
     record { tree = refl; level = refl; low = refl; deleted = refl; flag = refl; root = λ r. record { live = r.live; flag = r.flag; parentless = r.parentless; low = r.low; reach = r.reach } }
     may.keys
     record { tree = refl; deleted = refl; forth = may.forth; back = may.back }
+    record { next = refl; children = refl }
 
 -- the mark for readers of keys and children
 pub changes_inserting : (op : ℕ) (x : NodeView) → x.holder ≡ Some op → Changes op x (inserting x)

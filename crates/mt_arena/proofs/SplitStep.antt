@@ -1,13 +1,13 @@
 -- The facts of nodes, trees and links, and the guarantee, where a border node is split: for `Halving`.
 use Rattle.mt_border.specs.Slots.{Slotted}
-use Rattle.std.proofs.Common.{◌≡◌, ◌≢◌, ◌⊎◌, ℕ, ◌<◌, ◌++◌, List, [], length, get_or, set, Some, false, refl, sym, ap, subst, ◌∙◌, inl, inr, arith}
+use Rattle.std.proofs.Common.{◌≡◌, ◌≢◌, ◌⊎◌, ℕ, ◌<◌, ◌++◌, List, [], length, get_or, set, Some, true, false, refl, sym, ap, subst, ◌∙◌, inl, inr, arith}
 use Rattle.std.proofs.{lemmas.Bool.cases_eq, lemmas.List.length-set}
 use Rattle.mt_slices.specs.{Slices.piece_bytes, declared.mark.Mark.TheVariants.Long}
 use Rattle.mt_border.{specs.{declared.entry.Entry.Entry, Held.Link}, proofs.Edits.any_entry}
 use Rattle.mt_arena.specs.{declared.tree.Tree.Tree, declared.tree.Standing.TheVariants.Made, Idle.{RetiredPlaces, Rooms}, NodeView.{NodeView, node_at}}
 use Rattle.mt_arena.specs.{Forests.{IsForest, tree_at, HaveKeys}, Layers.{AreLayered, AreLinks, HasLink, slot_at}, Guarantee.{NodesGuarantee, Changes}}
-use Rattle.mt_arena.specs.{Arena.ArenaInvariant, Splits.{Splits, left_half, right_half}}
-use Rattle.mt_arena.proofs.{Pairs.{here, there}, Homes.{KeepsHome, forest_set}, LinkEdits.{HasSlot, HasLinksOf}, Retiring.retired_set}
+use Rattle.mt_arena.specs.{Invariant.ArenaInvariant, Splits.{Splits, left_half, right_half}}
+use Rattle.mt_arena.proofs.{Pairs.{here, there}, Homes.{KeepsHome, forest_set}, LinkEdits.{HasSlot, HasLinksOf}, Retiring.retired_set, Naming.each_set2, NamedLate.{KeepsNames, names_stand, named_kept}}
 use Rattle.mt_arena.proofs.{RangedEdits.ranged_split_move, Move.nodes_split_move, Guarantees.{guarantee_set, guarantee_on}}
 use Rattle.mt_arena.proofs.HeldChanges.{changes_left_half, changes_right_half}
 
@@ -137,6 +137,11 @@ module _ (xs : List NodeView) (trees : List Tree) (i j : ℕ) (kept moved : List
     };
     retired = retired_set ys trees gone j z ljy (retired_set xs trees gone i y li sound.retired refl refl) (ap (λ (n : NodeView). n.version.deleted) (sym old_j))
         (ap (λ (n : NodeView). n.level) (sym old_j));
+    named = named_kept xs zs trees trees gone sound.retired (record {
+      nodes = each_set2 (λ k n. (node_at xs k).version.deleted ≡ true → KeepsNames (node_at xs k) n) xs i j y z li lj differ
+          (λ out. absurd (let live = s.live in cc)) (λ out. absurd (let live = s.right_live in cc)) (λ k lt ni nj out. names_stand (node_at xs k));
+      trees = λ t lt dead. refl;
+    }) sound.named;
     enough = omega (arith, size, sound.enough);
     trees_enough = sound.trees_enough;
   }

@@ -2,8 +2,8 @@
 use Rattle.std.proofs.Common.{◌≢◌, ℕ, zero, suc, ◌<◌, ◌≤◌, List, [], ◌∷◌, refl, arith}
 use Rattle.mt_arena.specs.Idle.{Rooms, no_places}
 use Rattle.mt_arena.specs.{declared.tree.Tree.Tree, NodeView.{NodeView, node_at}, Forests.{IsForest, IsHome, IsTree, tree_at}, Layers.AreLinks}
-use Rattle.mt_arena.specs.{Edits.fresh_root, Arena.ArenaInvariant, Accesses.top_tree}
-use Rattle.mt_arena.proofs.{Begins.{begins_none, begins_push}, Ranged.ranged_root, Push.nodes_root, Retiring.{retired_push, retired_tree_push, retired_none}}
+use Rattle.mt_arena.specs.{Edits.fresh_root, Invariant.ArenaInvariant, Accesses.top_tree}
+use Rattle.mt_arena.proofs.{Begins.{begins_none, begins_push}, Ranged.ranged_root, Push.nodes_root, Retiring.{retired_push, retired_tree_push, retired_none}, NamedLate.named_none}
 
 -- what there is at first
 abbrev first_nodes : List NodeView
@@ -52,6 +52,7 @@ sound_first room enough trees_enough = record {
     layers = record { links = λ k lt. none k lt; linked = λ u lt live deep. absurd (shallow u lt deep) };
   };
   retired = retired_tree_push first_nodes [] no_places top_tree (retired_push [] [] no_places (fresh_root 0) retired_none refl) refl;
+  named = named_none first_nodes first_trees;
   enough = enough;
   trees_enough = trees_enough;
 }

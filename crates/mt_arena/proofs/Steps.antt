@@ -1,15 +1,15 @@
 -- The whole invariant and the guarantee where one node changes: for the calls that change one node.
 use Rattle.std.proofs.{Common.{ℕ, ◌<◌, List, length, set, refl, arith}, lemmas.List.length-set}
 use Rattle.mt_arena.specs.{declared.tree.Tree.Tree, Idle.{RetiredPlaces, Rooms}, NodeView.{NodeView, node_at}, Nodes.AreNodes, Ranges.AreRanged}
-use Rattle.mt_arena.specs.{Forests.IsForest, Guarantee.{Changes, LosesHeld}, Arena.{ArenaInvariant, ArenaView, Guarantee}, Accesses.{at, IsOpen, with_node}}
-use Rattle.mt_arena.proofs.{Homes.{KeepsHome, HasKeysOf, forest_set}, LinkEdits.{KeepsLinks, layers_set}, Retiring.retired_set}
+use Rattle.mt_arena.specs.{Forests.IsForest, Guarantee.{Changes, LosesHeld}, Invariant.ArenaInvariant, Arena.{ArenaView, Guarantee}, Accesses.{at, IsOpen, with_node}}
+use Rattle.mt_arena.proofs.{Homes.{KeepsHome, HasKeysOf, forest_set}, LinkEdits.{KeepsLinks, layers_set}, Retiring.retired_set, NamedLate.{KeepsNames, named_set}}
 use Rattle.mt_arena.proofs.Guarantees.{guarantee_set, points_set, PointsSo, lost_set}
 
--- a node changes and keeps its place among nodes, trees and links
+-- a node changes and keeps its place among nodes, trees and links, and its names
 pub sound_set : (xs : List NodeView) (trees : List Tree) (gone : RetiredPlaces) (room : Rooms) (i : ℕ) (y : NodeView) → i < length xs
     → ArenaInvariant xs trees gone room → AreNodes (set xs i y) → AreRanged (set xs i y)
-    → KeepsHome (node_at xs i) y → HasKeysOf trees y → KeepsLinks (node_at xs i) y → ArenaInvariant (set xs i y) trees gone room
-sound_set xs trees gone room i y within sound nodes ranged home keys links = record {
+    → KeepsHome (node_at xs i) y → HasKeysOf trees y → KeepsLinks (node_at xs i) y → KeepsNames (node_at xs i) y → ArenaInvariant (set xs i y) trees gone room
+sound_set xs trees gone room i y within sound nodes ranged home keys links names = record {
   arena = record {
     nodes = nodes;
     ranged = ranged;
@@ -17,6 +17,7 @@ sound_set xs trees gone room i y within sound nodes ranged home keys links = rec
     layers = layers_set xs trees i y within sound.arena.layers links;
   };
   retired = retired_set xs trees gone i y within sound.retired home.deleted home.level;
+  named = named_set xs trees gone i y within sound.retired (λ out. names) sound.named;
   enough = omega (arith, length-set xs i y, sound.enough);
   trees_enough = sound.trees_enough;
 }

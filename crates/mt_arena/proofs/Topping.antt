@@ -1,15 +1,15 @@
 -- The whole invariant, the guarantee and the contents where a new root comes over two halves: for `grow_root`.
 use Rattle.mt_arena.specs.Idle.{Rooms}
 use Rattle.mt_arena.specs.Guarantee.{LosesHeld}
-use Rattle.std.proofs.Common.{◌≡◌, ℕ, ◌+◌, ◌<◌, ◌≤◌, ◌++◌, List, ◌∷◌, [], length, get_or, set, Some, refl, sym, ap, subst, ◌∙◌, inl, inr, arith, length-append}
+use Rattle.std.proofs.Common.{◌≡◌, ◌≢◌, ℕ, ◌+◌, ◌<◌, ◌≤◌, ◌++◌, List, ◌∷◌, [], length, get_or, set, Some, refl, sym, ap, subst, ◌∙◌, inl, inr, arith, length-append}
 use Rattle.std.proofs.{lemmas.Bool.cases_eq, lemmas.Option.same_Some, lemmas.List.{length-set, get_or-set_same, get_or-set_other, get_or_default}}
 use Rattle.mt_slices.specs.{Slices.piece_bytes, declared.mark.Mark.TheVariants.Long}
 use Rattle.mt_rows.specs.Rows.{Bytes}
-use Rattle.mt_arena.specs.{declared.tree.Tree.Tree, NodeView.{NodeView, node_at}, Forests.{tree_at, no_tree}, Layers.{AreLayered, slot_at}, Contents.content}
-use Rattle.mt_arena.specs.{Guarantee.{NodesGuarantee, Changes, TreeChanges}, Settled.IsSettled, Arena.{ArenaInvariant, ArenaView, Guarantee}}
+use Rattle.mt_arena.specs.{declared.tree.Tree.Tree, declared.tree.Standing.TheVariants.Dead, NodeView.{NodeView, node_at}, Forests.{tree_at, no_tree}, Layers.{AreLayered, slot_at}, Contents.content}
+use Rattle.mt_arena.specs.{Guarantee.{NodesGuarantee, Changes, TreeChanges}, Settled.IsSettled, Invariant.ArenaInvariant, Arena.{ArenaView, Guarantee}}
 use Rattle.mt_arena.specs.{Accesses.{at, tree_of}, Growth.{fresh_top, left_below, right_below}, Several.{MayGrow, with_root}}
 use Rattle.mt_arena.proofs.{Pairs.{there, last}, Grow.{nodes_root_grow, settled_root_grow}, RangedEdits.ranged_root_grow}
-use Rattle.mt_arena.proofs.{GrowStep.{forest_grown, same_prefix, same_standing}, Growing.layers_push, Retiring.{retired_push, retired_tree_set}}
+use Rattle.mt_arena.proofs.{GrowStep.{forest_grown, same_prefix, same_standing}, Growing.layers_push, Retiring.{retired_push, retired_tree_set}, NamedLate.{named_push, named_tree_set}}
 use Rattle.mt_arena.proofs.Guarantees.{changes_none, guarantee_set, guarantee_push, guarantee_on, tree_changes_none, PointsSo, lost_none, lost_push}
 use Rattle.mt_arena.proofs.{HeldChanges.{changes_left_below, changes_right_below}, Naming.{names_same, points_more, each_set2}, Several.{AreKept, kept_set2}}
 use Rattle.mt_arena.proofs.ContentQuiet.{stands_pushed, stands_tree_set}
@@ -88,13 +88,19 @@ module _ (v : ArenaView) (room more : Rooms) (left right op : ℕ) (sound : Aren
   kept : AreKept xs ws v.trees v.retired
   kept =
       kept_set2 xs v.trees v.retired left right y z li lj may.grows.differ (record { slots = refl; deleted = refl; tree = refl }) (record { slots = refl; deleted = refl; tree = refl }) refl refl
+      (λ out. record { next = refl; children = refl }) (λ out. record { next = refl; children = refl })
 
   lt_t : l.tree < length v.trees
   lt_t = sound.arena.forest.tree_there left li
 
+  stands : (tree_of v left).standing ≢ Dead
+  stands = (sound.arena.forest.homes left l.tree li lt_t).standing refl may.grows.left_live
+
   pub sound_grown : length xs + 1 ≤ more.nodes → length v.trees ≤ more.trees → ArenaInvariant (ws ++ g ∷ []) ts v.retired more
   sound_grown enough trees_enough =
       let forest = sound.arena.forest in
+      let listed = kept.retired sound.retired in
+      let listed_more = retired_push ws v.trees v.retired g listed refl in
       record {
         arena = record {
           nodes = nodes_root_grow xs left right op sound.arena.nodes sound.arena.ranged may.grows;
@@ -104,7 +110,9 @@ module _ (v : ArenaView) (room more : Rooms) (left right op : ℕ) (sound : Aren
               (same_prefix xs v.trees left right op may.grows forest may.is_root may.no_root) (same_standing xs v.trees left right op may.grows forest may.is_root may.no_root)
               (layers_push ws v.trees g refl (kept.layers sound.arena.layers));
         };
-        retired = retired_tree_set (ws ++ g ∷ []) v.trees v.retired l.tree grown lt_t (retired_push ws v.trees v.retired g (kept.retired sound.retired) refl) refl;
+        retired = retired_tree_set (ws ++ g ∷ []) v.trees v.retired l.tree grown lt_t listed_more refl;
+        named = named_tree_set (ws ++ g ∷ []) v.trees v.retired l.tree grown lt_t listed_more (λ dead. absurd (stands dead))
+            (named_push ws v.trees v.retired g listed (kept.named sound.retired sound.named));
         enough = omega (arith, length-append ws (g ∷ []), kept.count, enough);
         trees_enough = omega (arith, length-set v.trees l.tree grown, trees_enough);
       }
@@ -115,7 +123,7 @@ module _ (v : ArenaView) (room more : Rooms) (left right op : ℕ) (sound : Aren
   record_changes : TreeChanges op (tree_of v left) grown
   record_changes = record {
     prefix = refl;
-    dead = λ e. absurd (((sound.arena.forest.homes left l.tree li lt_t).standing refl may.grows.left_live) e);
+    dead = λ e. absurd (stands e);
     made = λ q other e. absurd (other (may.mine q e));
     live = λ e q f. absurd (let both = sym e ∙ f in cc);
   }

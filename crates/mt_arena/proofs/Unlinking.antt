@@ -1,16 +1,17 @@
 -- The whole invariant, the guarantee and the contents where a border node is taken out, and what lags behind its neighbours: for `unlink`.
-use Rattle.mt_arena.specs.Idle.{Rooms, AreRetired, with_border}
+use Rattle.mt_arena.specs.{Idle.{Rooms, AreRetired, with_border}, Given.{NamesNode, IsNamedLate, AreOutUpTo}}
 use Rattle.mt_arena.specs.Guarantee.{LosesHeld}
-use Rattle.std.proofs.{Common.{◌≡◌, ◌≢◌, ℕ, ◌-◌, ◌<◌, List, [], length, set, false, None, refl, sym, ap, subst, ◌∙◌, arith}, lemmas.List.{length-set, set-set}}
+use Rattle.std.proofs.{Common.{◌≡◌, ◌≢◌, ℕ, ◌-◌, ◌<◌, List, [], length, set, true, false, None, refl, sym, ap, subst, ◌∙◌, arith}, lemmas.List.{length-set, set-set}}
 use Rattle.std.proofs.lemmas.Option.{same_Some}
 use Rattle.mt_interior.specs.{Fences.end_of, Places.place_of}
 use Rattle.mt_arena.specs.{declared.tree.Standing.TheVariants.Dead, NodeView.{NodeView, node_at}, Nodes.{AreNodes, IsChild, HasChild, HasRange}}
 use Rattle.mt_arena.specs.{Ranges.AreRanged, Forests.{IsForest, IsRoot, tree_at}, Layers.AreLayered, Contents.content, Edits.{inserting, retired}}
-use Rattle.mt_arena.specs.{Unlinks.{Unlinks, joined, without_child}, Arena.{ArenaInvariant, ArenaView, Guarantee}, Accesses.at, Ways.HasSlots}
+use Rattle.mt_arena.specs.{Unlinks.{Unlinks, joined, without_child}, Invariant.ArenaInvariant, Arena.{ArenaView, Guarantee}, Accesses.at, Ways.HasSlots}
 use Rattle.mt_arena.specs.{Settled.IsSettled, Lags.IsFollowedBy, Removals.{MayUnlink, nodes_without, without_node}}
 use Rattle.mt_arena.proofs.{Pairs.{here, there}, Quiet.nodes_inserting, ChildPlace.child_place, Ranged.ranged_marked, RangedEdits.ranged_unlinked}
 use Rattle.mt_arena.proofs.{Unlink.nodes_unlinked, Locks.is_held, Homes.{KeepsHome, forest_set}, Steps.keys_of}
 use Rattle.mt_arena.proofs.{LinkEdits.{KeepsLinks, same_links, layers_set, layers_empty}, Retiring.{retired_set, border_retired}}
+use Rattle.mt_arena.proofs.NamedLate.{KeepsNames, names_stand, named_kept, named_live, named_border}
 use Rattle.mt_arena.proofs.{TakenOut.{forest_retired, changes_retired, standing_dead}, Slots.changes_inserting, HeldChanges.{changes_joined, changes_without_child}}
 use Rattle.mt_arena.proofs.{Guarantees.{changes_on, PointsSo, lost_none}, Naming.{names_same, points_each, each_set3}, Several.{MayTurn, guarantee_set3}}
 use Rattle.mt_arena.proofs.Settling.{NamesNoMore, names_none_more, follows_was, under_was, settled_same, child_less}
@@ -202,10 +203,24 @@ module _ (v : ArenaView) (room : Rooms) (parent left node step op : ℕ) (sound 
       (ap (λ (n : NodeView). n.version.deleted) at_node ∙ may.live) (ap (λ (n : NodeView). n.level) at_node ∙ may.border)))
       (ap (λ (n : NodeView). n.version.deleted) (sym at_parent)) (ap (λ (n : NodeView). n.level) (sym at_parent))
 
-  pub sound_unlinked : ArenaInvariant (nodes_without xs parent left node) v.trees (with_border v.retired node step) room
-  sound_unlinked = subst (λ (ns : List NodeView). ArenaInvariant ns v.trees (with_border v.retired node step) room) (sym new_is) (record {
+  -- what the node names is live, and each other one that was taken out keeps its names
+  named_out : AreOutUpTo step v.retired → IsNamedLate new v.trees (with_border v.retired node step)
+  named_out upto =
+      named_border new v.trees v.retired node step upto
+      (λ k names. named_live xs v.trees v.retired step node lj nodes sound.retired may.live k
+      (subst (λ (n : NodeView). NamesNode n k) (there us parent node q apart_node ∙ here ys node w (omega (arith, lj, size_ys))) names))
+      (named_kept xs new v.trees v.trees v.retired sound.retired (record {
+        nodes = each_set3 (λ k n. (at v k).version.deleted ≡ true → KeepsNames (at v k) n) xs left node parent y w q li lj lq apart_nodes apart_left apart_node
+            (λ out. absurd (let live : l.version.deleted ≡ false = left_child.live in cc)) (λ out. record { next = refl; children = refl }) (λ out. absurd (let live = may.beside.live in cc))
+            (λ k lt ni nj nq out. names_stand (at v k));
+        trees = λ t lt dead. refl;
+      }) sound.named)
+
+  pub sound_unlinked : AreOutUpTo step v.retired → ArenaInvariant (nodes_without xs parent left node) v.trees (with_border v.retired node step) room
+  sound_unlinked upto = subst (λ (ns : List NodeView). ArenaInvariant ns v.trees (with_border v.retired node step) room) (sym new_is) (record {
     arena = record { nodes = nodes_out; ranged = ranged_out; forest = forest_out; layers = layers_out };
     retired = retired_out;
+    named = named_out upto;
     enough = omega (arith, length-set us parent q, size_us, sound.enough);
     trees_enough = sound.trees_enough;
   })

@@ -1,7 +1,7 @@
--- What an arena shows, and what holds of it after every step.
-use Rattle.std.specs.Prelude.{ℕ, ◌+◌, ◌≤◌, List, [], ◌∷◌, length, if◌then◌else◌}
+-- What an arena shows, what holds of its nodes and trees after every step, and what a step leaves to others.
+use Rattle.std.specs.Prelude.{ℕ, ◌+◌, List, [], ◌∷◌, if◌then◌else◌}
 use Rattle.mt_rows.specs.Tenants.{Contents}
-use Rattle.mt_arena.specs.{declared.tree.Tree.Tree, NodeView.NodeView, Nodes.AreNodes, Ranges.AreRanged, Idle.{RetiredPlaces, Rooms, AreRetired}}
+use Rattle.mt_arena.specs.{declared.tree.Tree.Tree, NodeView.NodeView, Nodes.AreNodes, Ranges.AreRanged, Idle.RetiredPlaces}
 use Rattle.mt_arena.specs.{Forests.IsForest, Layers.AreLayered, Contents.content, Guarantee.{NodesGuarantee, PointsOnly, LoseHeld}}
 
 -- all nodes and all trees by their numbers, and the places of those that were taken out, each with its step
@@ -28,13 +28,6 @@ one_if_live n = if n.version.deleted then 0 else 1
 abbrev pub live_count : List NodeView → ℕ
 live_count [] = 0
 live_count (n ∷ nodes) = one_if_live n + live_count nodes
-
--- what holds of all that is inside; the lists of idle places have room for every node and every tree
-pub record ArenaInvariant (nodes : List NodeView) (trees : List Tree) (gone : RetiredPlaces) (room : Rooms) : Type 0 where
-  pub arena : IsArena nodes trees
-  pub retired : AreRetired nodes trees gone
-  pub enough : length nodes ≤ room.nodes
-  pub trees_enough : length trees ≤ room.trees
 
 -- what a step of an operation leaves to all others
 pub record Guarantee (op : ℕ) (old new : ArenaView) : Type 0 where

@@ -1,6 +1,6 @@
 -- What single edits make of a node, and what they need of the others.
 use Rattle.std.specs.Prelude.{◌≡◌, ◌≢◌, ℕ, ◌<◌, ◌⊎◌, ◌||◌, Bool, true, false, List, length, insert, remove, slice_set, slice_index, Option, Some, None}
-use Rattle.mt_version.specs.{Parts.{Parts, fresh_parts}, Changes.unlocked_parts}
+use Rattle.mt_version.specs.{Parts.{Parts, fresh_parts}, Changes.{unlocked_parts, renewed}}
 use Rattle.mt_order.specs.Places.{order_with, order_without}
 use Rattle.mt_slices.specs.declared.mark.Mark.{Mark}
 use Rattle.mt_border.specs.{declared.entry.Entry.Entry, Held.Held, Restamps.stamped, Slots.{Slotted, held_in, next_free, is_dropped}}
@@ -102,6 +102,14 @@ bare border tree level low op = record no_node {
 -- the right half of a border node that an operation splits, whose number it has: it names the node as the one before
 abbrev pub fresh_half : NodeView → ℕ → ℕ → ℕ → NodeView
 fresh_half n left low op = record (bare true n.tree n.level low op) { previous = Some left }
+
+-- the same in the place of a node that was taken out: its counters go on
+abbrev pub again_half : NodeView → NodeView → ℕ → ℕ → ℕ → NodeView
+again_half old n left low op = record (fresh_half n left low op) { version = record (renewed old.version false) { locked = true; splitting = true } }
+
+-- what stands in that place between the two: a live node in its new seat that nobody holds, without range, slots and children, which names nobody
+abbrev pub blank_again : NodeView → NodeView → ℕ → NodeView
+blank_again old n low = record no_node { low = low; high = Some low; reach = Some low; version = renewed old.version false; tree = n.tree; level = n.level }
 
 -- the first node of a tree
 abbrev pub fresh_root : ℕ → NodeView

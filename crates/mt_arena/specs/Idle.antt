@@ -1,5 +1,5 @@
 -- The places of nodes and trees that were taken out: each stands once in the list of its kind, and no other does.
-use Rattle.std.specs.Prelude.{◌≡◌, ◌≢◌, ℕ, ◌+◌, ◌<◌, ◌==◌, ◌&&◌, not, Bool, true, false, List, [], ◌∷◌, ◌++◌, length, if◌then◌else◌, min, slice_index_or}
+use Rattle.std.specs.Prelude.{◌≡◌, ◌≢◌, ℕ, ◌+◌, ◌<◌, ◌==◌, ◌&&◌, not, Bool, true, false, List, [], ◌∷◌, ◌++◌, length, map, if◌then◌else◌, min, slice_index_or}
 use Rattle.mt_arena.specs.{declared.arena.TheConstants.MOST, declared.retired.Retired.Retired, declared.tree.Tree.Tree, declared.tree.Standing.Standing}
 use Rattle.mt_arena.specs.{declared.tree.Standing.TheVariants.{Made, Live, Dead}, NodeView.{NodeView, no_node}, Forests.no_tree}
 
@@ -43,6 +43,16 @@ with_interior gone node step = record gone { interiors = with_retired gone.inter
 
 abbrev pub with_tree : RetiredPlaces → ℕ → ℕ → RetiredPlaces
 with_tree gone tree step = record gone { trees = with_retired gone.trees tree step }
+
+-- a list of which the step of this number took all out, and all lists so
+abbrev pub retired_by : ℕ → Retired → Retired
+retired_by step r = record r { step = step }
+
+abbrev pub out_at : ℕ → List Retired → List Retired
+out_at step gone = map (retired_by step) gone
+
+abbrev pub all_out_at : ℕ → RetiredPlaces → RetiredPlaces
+all_out_at step gone = record { borders = out_at step gone.borders; interiors = out_at step gone.interiors; trees = out_at step gone.trees }
 
 -- a border node that was taken out, such an interior node, and a dead tree
 abbrev pub is_idle_border : NodeView → Bool

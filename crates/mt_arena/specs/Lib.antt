@@ -14,6 +14,8 @@ pub mod Stands
 pub mod Ways
 pub mod Edits
 pub mod Accesses
+pub mod Given
+pub mod Invariant
 pub mod Splits
 pub mod Growth
 pub mod Unlinks

@@ -17,7 +17,7 @@ ghost use Rattle.mt_border.specs.Split.{IsParted, IsSeparator, slices_with};
 ghost use Rattle.mt_arena.specs.{declared.tree.Standing.TheVariants.Live, NodeView.{node_at, place_at, border_view, interior_view}, Nodes.{Holds, HasRange}};
 ghost use Rattle.mt_arena.specs.{Forests.{HasSlice, tree_at, layer_of}, Layers.slot_at, Settled.IsSettled, Ranges.Waits};
 ghost use Rattle.mt_arena.specs.Edits.{locked, unlocked, with_slots, pointed, fresh_root, Points, cells_holding, cells_with, cells_without, with_filled, entry_filled, IsMarkedWhereDropped};
-ghost use Rattle.mt_arena.specs.{Idle.AreRetired, Arena.{IsArena, content_of, Guarantee, live_count}, Renumbers.{all_renumbered, arena_renumbered}};
+ghost use Rattle.mt_arena.specs.{Idle.AreRetired, Given.IsNamedLate, Arena.{IsArena, content_of, Guarantee, live_count}, Renumbers.{all_renumbered, arena_renumbered}};
 ghost use Rattle.mt_arena.specs.Splits.{with_some};
 ghost use Rattle.mt_arena.specs.Several.{AreHalved, MaySplit, MayPlace, MayGrow, with_top, with_root, MayInsert, with_right, MaySplitInner, with_parts};
 ghost use Rattle.mt_arena.specs.Accesses.{new_arena, at, tree_of, IsHeld, IsOpen, with_node, with_half, with_row, MayPublish, MayChange};
@@ -46,7 +46,7 @@ pub struct Arena {
 }
 
 impl Model for Arena {
-    ghost use Rattle.mt_arena.specs.{Arena.{ArenaView, ArenaInvariant}, Idle.rooms_for};
+    ghost use Rattle.mt_arena.specs.{Arena.ArenaView, Invariant.ArenaInvariant, Idle.rooms_for};
 
     ghost Value = { ArenaView };
 
@@ -82,6 +82,7 @@ impl Arena {
     pub fn facts(&self)
         ensures arena { IsArena self.now.nodes self.now.trees }
         ensures retired { AreRetired self.now.nodes self.now.trees self.now.retired }
+        ensures named { IsNamedLate self.now.nodes self.now.trees self.now.retired }
     {
         // For the proof.
         let _ = &self.nodes;
@@ -335,13 +336,14 @@ impl Arena {
     }
 
     /// Begins the counting of changes anew: no node's version counts any, and each pair was placed by the
-    /// step `stamp`. Only where no operation is open may a caller do this, since an operation may
-    /// remember a version that a node has left.
+    /// step `stamp`, which also took out all that is out. Only where no operation is open may a caller do
+    /// this, since an operation may remember a version that a node has left.
     pub fn renumber(&mut self, stamp: u64)
         ensures is { self.new ≡ arena_renumbered stamp self.old }
         ensures contents { content_of self.new ≡ content_of self.old }
     {
         renumber_all(&mut self.nodes, stamp);
+        self.retired.renumber(stamp);
     }
 
     /// How many nodes there are.

@@ -13,7 +13,7 @@ ghost use Rattle.mt_arena.specs.{declared.tree.Tree.Tree, declared.tree.Standing
 ghost use Rattle.mt_arena.specs.{Nodes.{Holds, HasRange}, Forests.{HasSlice, tree_at, layer_of}, RootLevels.{levels_above, levels_of}, Layers.slot_at};
 ghost use Rattle.mt_arena.specs.{Contents.content, Arena.{IsArena, ArenaView, Guarantee, live_count}, Guarantee.{NodesGuarantee, PointsOnly}};
 ghost use Rattle.mt_arena.specs.Layering.{MayMakeLayer, MayUnsettle, IsHeldSlot, HasKeyAt, IsLayerOf, IsSettledBut, entry_of, prefix_below, with_layer, with_slot, with_link};
-ghost use Rattle.mt_arena.specs.{Settled.IsSettled, Lags.IsFollowedBy, Edits.{pointed, locked}, Accesses.{at, tree_of, with_node}, Removals.IsOnlyLiveNode};
+ghost use Rattle.mt_arena.specs.{Settled.IsSettled, Lags.IsFollowedBy, Edits.{pointed, locked, splitting, again_half, blank_again}, Given.GivesOut, Accesses.{at, tree_of, with_node, IsOpen}, Removals.IsOnlyLiveNode};
 ghost use Rattle.mt_arena.specs.{Stands.{IsLiveBorder, StandsAt}, Ways.{LinksOn, BelongsIn, StandsFor, GoesOn, HasSlots, IsUnfilled, IsMadeFor, IsFreeRoot}};
 ghost use Rattle.mt_interior.specs.Places.{place_of};
 
@@ -308,4 +308,28 @@ pub fn steps_add_up()
     ensures settled { (op holder : ℕ) (old new : List NodeView) (were are : List Tree) (k : ℕ) →
         NodesGuarantee op old new were are → PointsOnly op old new → holder ≢ op → k < length old →
         (node_at old k).holder ≡ Some holder → IsSettled old k (node_at old k) → IsSettled new k (node_at new k) }
+{}
+
+/// The place of a border node that was taken out, and that nobody holds, may be given out again as the
+/// right half of a border node that is being split: all facts stand, and so do the contents. No other
+/// node changes.
+pub fn a_place_may_be_given_out_again()
+    ensures arena { (nodes : List NodeView) (trees : List Tree) (left k low op : ℕ) → IsArena nodes trees → left < length nodes → k < length nodes → left ≢ k →
+        (node_at nodes k).version.deleted ≡ true → (node_at nodes k).holder ≡ None → (node_at nodes k).version.border ≡ true →
+        (node_at nodes left).version.deleted ≡ false → (node_at nodes left).holder ≡ Some op → (node_at nodes left).version.splitting ≡ true →
+        (node_at nodes left).level ≡ 0 → HasRange (node_at nodes left) → HasSlice (tree_at trees (node_at nodes left).tree).prefix low →
+        IsArena (slice_set nodes k (again_half (node_at nodes k) (node_at nodes left) left low op)) trees }
+    ensures contents { (nodes : List NodeView) (trees : List Tree) (left k low op : ℕ) → (node_at nodes k).version.deleted ≡ true →
+        content trees (slice_set nodes k (again_half (node_at nodes k) (node_at nodes left) left low op)) ≡ content trees nodes }
+{}
+
+/// What the giving out of a place leaves to others: it is as if the place had a blank node first, which
+/// nobody holds and which names nobody. From there on it is a step as any other.
+pub fn a_place_that_is_given_out_changes_as_a_node()
+    ensures gives { (v : ArenaView) (left k low : ℕ) → k < length v.nodes → (at v k).version.deleted ≡ true → (at v k).holder ≡ None →
+        GivesOut v (with_node v k (blank_again (at v k) (at v left) low)) }
+    ensures step { (v : ArenaView) (left k low op : ℕ) → left < length v.nodes → k < length v.nodes → left ≢ k → (at v left).holder ≡ Some op → IsOpen v left op →
+        ((j : ℕ) → j < length v.nodes → (at v j).tree < length v.trees) →
+        let mid = slice_set v.nodes k (blank_again (at v k) (at v left) low) in
+        Guarantee op (record v { nodes = mid }) (record v { nodes = slice_set (slice_set mid left (splitting (at v left))) k (again_half (at v k) (at v left) left low op) }) }
 {}

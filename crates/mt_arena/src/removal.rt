@@ -1,14 +1,15 @@
 //! The calls by which nodes and trees are taken out, each with all its writes at once.
 //!
 //! A node that is taken out is deleted, and its place is idle, from the same step on; so is that of a
-//! tree. It keeps what it had for those who still remember it. No call takes memory: there is room for
-//! the number of each node and tree among the idle places from the moment it is made.
+//! tree. It keeps what it had for those who still remember it. The step is at least each one that took
+//! something out before, so that the steps of a list rise. No call takes memory: there is room for the
+//! number of each node and tree among the idle places from the moment it is made.
 
 ghost use Rattle.std.specs.Prelude.{◌≡◌, ◌≢◌, ◌<◌, ℕ, length, slice_set, None};
 ghost use Rattle.mt_border.specs.{Entry.IsLink, Held.Link, Entries.without, Keeps.{KeepsEntries, LosesOnly}};
 ghost use Rattle.mt_interior.specs.{Places.place_of, Fences.end_of};
 ghost use Rattle.mt_arena.specs.{NodeView.{node_at, place_at}, Layers.slot_at, Edits.{inserting, with_slots, cells_without}, Unlinks.without_child, Collapses.crowned};
-ghost use Rattle.mt_arena.specs.{Arena.{content_of, Guarantee}, Forests.tree_at, Settled.IsSettled, Lags.IsFollowedBy, Accesses.at};
+ghost use Rattle.mt_arena.specs.{Arena.{content_of, Guarantee}, Given.AreOutUpTo, Forests.tree_at, Settled.IsSettled, Lags.IsFollowedBy, Accesses.at};
 ghost use Rattle.mt_arena.specs.Removals.{MayUnlink, nodes_without, without_node, MayCollapse, nodes_under, without_root, MayDropLayer, nodes_above, without_layer};
 
 use crate::arena::Arena;
@@ -20,7 +21,8 @@ impl Arena {
     /// Takes an empty border node out by the step of this number: its left neighbour gets its range,
     /// and its parent loses it and is marked for readers of its children.
     pub fn unlink(&mut self, parent: usize, left: usize, node: usize, step: u64, operation: usize)
-        requires { MayUnlink self.old parent left node operation }
+        requires may { MayUnlink self.old parent left node operation }
+        requires upto { AreOutUpTo step self.old.retired }
         ensures is { self.new ≡ without_node self.old parent left node step }
         ensures step { Guarantee operation self.old self.new }
         ensures contents { content_of self.new ≡ content_of self.old }
@@ -37,7 +39,8 @@ impl Arena {
 
     /// Takes the root of a tree out by the step of this number: its only child is the root from now on.
     pub fn collapse(&mut self, root: usize, child: usize, step: u64, operation: usize)
-        requires { MayCollapse self.old root child operation }
+        requires may { MayCollapse self.old root child operation }
+        requires upto { AreOutUpTo step self.old.retired }
         ensures is { self.new ≡ without_root self.old root child step }
         ensures step { Guarantee operation self.old self.new }
         ensures contents { content_of self.new ≡ content_of self.old }
@@ -55,6 +58,7 @@ impl Arena {
     /// leads: the tree's only live node, which is empty. The tree is dead from now on.
     pub fn drop_layer(&mut self, node: usize, slot: usize, step: u64, operation: usize)
         requires may { (u : ℕ) × MayDropLayer self.old node (place_at (at self.old node) slot) u operation }
+        requires upto { AreOutUpTo step self.old.retired }
         ensures is { (u : ℕ) → (slot_at (at self.old node) (place_at (at self.old node) slot)).held ≡ Link u →
             self.new ≡ without_layer self.old node (place_at (at self.old node) slot) u step }
         ensures step { Guarantee operation self.old self.new }

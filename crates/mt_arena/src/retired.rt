@@ -1,10 +1,11 @@
 //! Which places are idle: nodes and trees that were taken out stand there, each with the step that did it.
 //!
-//! A list for each kind of place, in the order in which they were taken out. Only `make_room` takes
-//! memory. Errors: `AllocError`, from `make_room` alone. Units: places and steps by their numbers.
+//! A list for each kind of place, in the order in which they were taken out, so that the steps of a list
+//! rise. Only `make_room` takes memory. Errors: `AllocError`, from `make_room` alone. Units: places and
+//! steps by their numbers.
 
 ghost use Rattle.std.specs.Prelude.{◌≡◌, ◌<◌, ◌≤◌, [], length, OnOk};
-ghost use Rattle.mt_arena.specs.Idle.{no_places, with_retired, with_border, with_interior, with_tree};
+ghost use Rattle.mt_arena.specs.Idle.{no_places, with_retired, with_border, with_interior, with_tree, out_at, all_out_at};
 
 use std::alloc::{AllocError, Global};
 use std::collections::VecDeque;
@@ -57,6 +58,22 @@ impl Idle {
         ensures { self.new ≡ record self.old { places = with_retired self.old.places place step } }
     {
         self.queue.push_back_reserved(Retired { place, step });
+    }
+
+    // From now on the step of this number took all out.
+    fn renumber(&mut self, step: u64)
+        ensures { self.new ≡ record self.old { places = out_at step self.old.places } }
+    {
+        renumber_places(self.queue.make_contiguous(), step);
+    }
+}
+
+// The same of those of a slice.
+fn renumber_places(places: &mut [Retired], step: u64)
+    ensures { places.new ≡ out_at step places.old }
+{
+    for retired in places.iter_mut() {
+        retired.step = step;
     }
 }
 
@@ -126,5 +143,14 @@ impl IdlePlaces {
         ensures { self.new ≡ record self.old { places = with_tree self.old.places tree step } }
     {
         self.trees.retire(tree, step);
+    }
+
+    /// From now on the step of this number took all out.
+    pub(crate) fn renumber(&mut self, step: u64)
+        ensures { self.new ≡ record self.old { places = all_out_at step self.old.places } }
+    {
+        self.borders.renumber(step);
+        self.interiors.renumber(step);
+        self.trees.renumber(step);
     }
 }

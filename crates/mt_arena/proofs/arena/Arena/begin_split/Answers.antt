@@ -6,7 +6,7 @@ pub invariant_of-self : goal.invariant_of-self
 invariant_of-self c =
     let room = c.in_err-make_room.ensures in
     rw (room.nodes, room.trees, room.retired)
-    (record { arena = c.self.invariant.arena; retired = c.self.invariant.retired; enough = omega (arith, c.self.invariant.enough, room.no_less); trees_enough = omega (arith, c.self.invariant.trees_enough, room.no_fewer) })
+    (record { arena = c.self.invariant.arena; retired = c.self.invariant.retired; named = c.self.invariant.named; enough = omega (arith, c.self.invariant.enough, room.no_less); trees_enough = omega (arith, c.self.invariant.trees_enough, room.no_fewer) })
 
 pub invariant_of-self-2 : goal.invariant_of-self-2
 invariant_of-self-2 c =

@@ -84,7 +84,7 @@ invariant_of-self c =
     let at = goal.at.invariant_of-self c in
     let l = at.After-link_at-lower in
     rw (c.retire_tree.ensures, c.retire_border.ensures, c.drop_link.ensures.nodes, tree_is at.After-index-2, record_is at.After-index_mut)
-    (sound_dropped_layer (v l) _ c.args.node _ (t l) c.args.step c.args.operation c.self.invariant (may l))
+    (sound_dropped_layer (v l) _ c.args.node _ (t l) c.args.step c.args.operation c.self.invariant (may l) (rw (← c.self.view_is) at c.requires.upto))
 
 pub returns-clause-step : goal.returns-clause-step
 returns-clause-step c =

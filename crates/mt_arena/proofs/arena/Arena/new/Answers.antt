@@ -1,6 +1,6 @@
 -- the invariant of an arena with one tree, by the lists that were made
-use Rattle.std.proofs.{Common.{◌≡◌, ◌≤◌, [], ◌∷◌, ◌∙◌, ap, arith, rules}}
-use Rattle.mt_arena.{specs.{Idle.{IdlePlacesView, no_places, rooms_for}, Edits.fresh_root, Accesses.top_tree}, proofs.Start.sound_first}
+use Rattle.std.proofs.{Common.{◌≡◌, ◌≤◌, [], ◌∷◌, arith, rules}}
+use Rattle.mt_arena.{specs.{Idle.{no_places, rooms_for}, Edits.fresh_root, Accesses.top_tree}, proofs.Start.sound_first}
 use Rattle.mt_arena.proofs.arena.Arena.new.Goals as goal
 
 pub invariant_of-result : goal.invariant_of-result
