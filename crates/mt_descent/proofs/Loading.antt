@@ -1,5 +1,5 @@
 -- What a load of a border node's slot takes out of its view: for the phase Load.
-use Rattle.std.proofs.Common.{◌≡◌, ℕ, max, Option, Some, None, refl, sym, subst}
+use Rattle.std.proofs.Common.{◌≡◌, ℕ, max, Option, Some, None, refl}
 use Rattle.mt_rows.specs.Rows.{Columns}
 use Rattle.mt_border.specs.{Held.Pair, Slots.held_in, Node.{Node as BorderNode, IsLive, held_at}}
 use Rattle.mt_arena.specs.{NodeFacts.IsUnstable, NodeView.{NodeView, border_view}}

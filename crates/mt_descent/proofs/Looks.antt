@@ -1,5 +1,5 @@
 -- What a search finds and a load takes, as long as the range or the version stands.
-use Rattle.std.proofs.{Common.{◌≡◌, ◌≢◌, ℕ, ◌+◌, ◌<◌, ◌≤◌, max, List, length, Option, Some, None, refl, sym, ap, subst, ◌∙◌, inl, inr, arith}, lemmas.Option.same_Some}
+use Rattle.std.proofs.{Common.{◌≡◌, ◌≢◌, ℕ, ◌+◌, ◌≤◌, max, List, Option, Some, None, refl, sym, ap, subst, ◌∙◌, inl, inr, arith}, lemmas.Option.same_Some}
 use Rattle.std.proofs.Math.Nat.{le-max_left, le-max_right, max-le}
 use Rattle.std.specs.{Prelude.IsSomeAnd, FinMap.get}
 use Rattle.mt_slices.specs.Slices.{slice_of, mark_of, suffix_of}

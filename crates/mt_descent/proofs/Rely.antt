@@ -2,7 +2,7 @@
 use Rattle.std.{proofs.Common.{◌≡◌, ◌≢◌, ℕ, ◌+◌, ◌<◌, ◌≤◌, max, Bool, true, false, List, length, Option, Some, None, refl, sym, ap, subst, ◌∙◌, inl, inr, arith}, specs.{Prelude.IsSomeAnd, FinMap.get}}
 use Rattle.mt_version.specs.{Parts.Parts, Changes.{IsStable, range_age}}
 use Rattle.mt_interior.specs.Fences.{end_of}
-use Rattle.mt_slices.specs.Slices.{slice_of, mark_of, suffix_of}
+use Rattle.mt_slices.specs.Slices.{suffix_of}
 use Rattle.mt_rows.specs.Rows.{Bytes, Columns}
 use Rattle.mt_border.specs.{Contents.{IsOfTree, owned}, declared.entry.Entry.Entry, declared.entry.FoundKind.FoundKind, Entry.{IsKind, IsLink, CanHold, pair_of}, Entries.IsBorder}
 use Rattle.mt_border.{specs.{declared.entry.FoundKind.TheVariants.{ThisKey, OtherLong, Link as ToTree}, Held.Held, Slots.held_in, Keeps.{GoesOn, KeepsEntry}}, proofs.Edits.any_entry}
@@ -45,7 +45,7 @@ module _ (op : ℕ) (n m : NodeView) (c : Changes op n m) (seen : Parts) (was : 
       }
 
   -- and was unmarked
-  whole_before : RangeStands m seen → n.version.splitting ≡ false
+  pub whole_before : RangeStands m seen → n.version.splitting ≡ false
   whole_before stands = (versions.range_age_tells n.version seen (range_stood stands).range).1 ∙ was.whole
 
   -- the range only widens while it stands

@@ -95,7 +95,7 @@ kept_entered v past key row w arena through undead stable =
     arrived v past key row w k (at v k).version arena through (covers_root v w.place.tree w.layer key arena through undead stable)
 
 -- the child of an interior node for a slice is there
-has_child : (count : ℕ) (n : NodeView) (slice : ℕ) → IsNode count n → n.children ≢ [] → place_of n.separators slice < length n.children
+pub has_child : (count : ℕ) (n : NodeView) (slice : ℕ) → IsNode count n → n.children ≢ [] → place_of n.separators slice < length n.children
 has_child count n slice node some = by n.children refl
   where
     by : (xs : List ℕ) → n.children ≡ xs → place_of n.separators slice < length n.children
