@@ -1,4 +1,5 @@
 pub mod GivingBack
+pub mod Given
 pub mod Holders
 pub mod Looks
 pub mod Places

@@ -1,12 +1,13 @@
 //! What an operation keeps of the node that it holds stays under the steps of all others. Contracts alone:
 //! no code runs.
 
-ghost use Rattle.std.specs.Prelude.{◌≡◌, ◌≢◌, ◌<◌, ℕ, length};
+ghost use Rattle.std.specs.Prelude.{◌≡◌, ◌≢◌, ◌<◌, ℕ, Bool, length};
 ghost use Rattle.mt_rows.specs.Rows.{Bytes};
 ghost use Rattle.mt_arena.specs.{Arena.{ArenaView, Guarantee}, Settled.IsSettled, NodeView.NodeView, Edits.unlocked, Accesses.{at, with_node}};
+ghost use Rattle.mt_arena.specs.Given.{GivesOut, GivesOutBeside};
 ghost use Rattle.mt_operation.specs.{declared.phase.Phase.TheVariants.Judge, declared.walk.Walk.Walk};
 ghost use Rattle.mt_descent.specs.{KeptWalks.{HoldsNothing, IsAtJudge}, WalkMoves.Locks};
-ghost use Rattle.mt_held.specs.Holds.{HoldsBorder, IsAtUnlock, HoldsOnly};
+ghost use Rattle.mt_held.specs.Holds.{HoldsNode, HoldsBy, HoldsBorder, IsAtUnlock, HoldsOnly, MayReturn};
 
 /// An operation that has locked its border node holds it as `judge` asks.
 pub fn holds_once_locked()
@@ -35,4 +36,17 @@ pub fn one_node_is_held()
     ensures unlocked { (v : ArenaView) (op k : ℕ) → k < length v.nodes → HoldsOnly v op k →
         HoldsNothing (with_node v k (unlocked (at v k))) op }
     ensures stays { (op o k : ℕ) (old new : ArenaView) → Guarantee op old new → o ≢ op → HoldsOnly old o k → HoldsOnly new o k }
+{}
+
+/// What an operation keeps of the nodes that it holds stays when places are given out beside it. Neither does
+/// it come to hold another node by that.
+pub fn kept_stays_where_places_are_given_out()
+    ensures node { (o : ℕ) (old mid : ArenaView) (marked : Bool) (key : Bytes) (w : Walk) → GivesOutBeside o old mid →
+        HoldsNode marked old o key w → HoldsNode marked mid o key w }
+    ensures judge { (o : ℕ) (old mid : ArenaView) (marked : Bool) (key : Bytes) (w : Walk) → GivesOutBeside o old mid →
+        HoldsBy marked old o key w → HoldsBy marked mid o key w }
+    ensures unlock { (o : ℕ) (old mid : ArenaView) (w : Walk) → GivesOutBeside o old mid → IsAtUnlock old o w → IsAtUnlock mid o w }
+    ensures may_return { (o level k : ℕ) (old mid : ArenaView) → GivesOutBeside o old mid → MayReturn old o level k → MayReturn mid o level k }
+    ensures only { (o k : ℕ) (old mid : ArenaView) → GivesOut old mid → HoldsOnly old o k → HoldsOnly mid o k }
+    ensures nothing { (o : ℕ) (old mid : ArenaView) → GivesOut old mid → HoldsNothing old o → HoldsNothing mid o }
 {}

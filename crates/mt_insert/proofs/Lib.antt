@@ -6,6 +6,7 @@ pub mod Puts
 pub mod Commands
 pub mod Returns
 pub mod SplitRely
+pub mod Given
 pub mod SplitKeys
 pub mod PartingKeys
 pub mod Starting

@@ -2,14 +2,14 @@
 //! places is its command's change. Contracts alone: no code runs.
 
 ghost use Rattle.std.specs.{Prelude.{◌≡◌, ◌≢◌, ◌<◌, ◌≤◌, ℕ, List, Some, None}, FinMap.{get, len}};
-ghost use Rattle.mt_rows.specs.{declared.reply.Reply.TheVariants.{New, Replaced, Full}, Rows.Columns, Maps.{reply_of, map_after}};
+ghost use Rattle.mt_rows.specs.{declared.reply.Reply.TheVariants.{New, Replaced, Full}, Rows.{Bytes, Columns}, Maps.{reply_of, map_after}};
 ghost use Rattle.mt_rows.specs.Tenants.{Contents, tenant_map};
 ghost use Rattle.mt_border.specs.Contents.{owned};
 ghost use Rattle.mt_tape.specs.{declared.entry.Entry.Entry, Tapes.last_step_over, Histories.{IsNextWrite, with_write}};
-ghost use Rattle.mt_arena.specs.Arena.{ArenaView, IsArena, content_of, Guarantee};
+ghost use Rattle.mt_arena.specs.{Arena.{ArenaView, IsArena, content_of, Guarantee}, Given.{GivesOut, GivesOutBeside}};
 ghost use Rattle.mt_operation.specs.{declared.phase.Phase.Phase, declared.walk.Walk.Walk, declared.task.Task.Task, declared.prepared.Prepared.Prepared};
 ghost use Rattle.mt_operation.specs.{declared.splits.Splits.Splits, Tasks.ask};
-ghost use Rattle.mt_insert.specs.{Puts.{IsPut, write_of}, KeptPuts.{IsAtStore, IsAtFill, IsAtPublish, KeptReady, IsAtSplitStart}};
+ghost use Rattle.mt_insert.specs.{Puts.{IsPut, write_of}, KeptPuts.{IsAtStore, IsAtFill, IsAtPublish, KeptReady, IsAtSplitStart, IsAtMakeLayer}};
 ghost use Rattle.mt_insert.specs.KeptSplits.{HoldsSplits, IsAtSplitMove, KeptSplit};
 
 /// What a put keeps at Store, each step of another operation leaves.
@@ -102,4 +102,20 @@ pub fn no_row_before_a_split()
         get (content_of v) (owned task.key) ≡ None }
     ensures at_move { (v : ArenaView) (op : ℕ) (task : Task) (prepared : Prepared) (w : Walk) (s : Splits) → IsArena v.nodes v.trees → IsAtSplitMove v op task prepared w s →
         get (content_of v) (owned task.key) ≡ None }
+{}
+
+/// What a put keeps of the nodes that it holds stays when places are given out beside it, by its phase.
+/// Neither does it come to hold a node beside its splits by that.
+pub fn kept_stays_where_places_are_given_out()
+    ensures ready { (o : ℕ) (old mid : ArenaView) (task : Task) (prepared : Prepared) (w : Walk) (phase : Phase) → GivesOutBeside o old mid →
+        KeptReady phase old o task prepared w → KeptReady phase mid o task prepared w }
+    ensures publish { (o : ℕ) (old mid : ArenaView) (task : Task) (prepared : Prepared) (w : Walk) → GivesOutBeside o old mid →
+        IsAtPublish old o task prepared w → IsAtPublish mid o task prepared w }
+    ensures make_layer { (o : ℕ) (old mid : ArenaView) (key : Bytes) (w : Walk) → GivesOutBeside o old mid →
+        IsAtMakeLayer old o key w → IsAtMakeLayer mid o key w }
+    ensures split_move { (o : ℕ) (old mid : ArenaView) (task : Task) (prepared : Prepared) (w : Walk) (s : Splits) → GivesOutBeside o old mid →
+        IsAtSplitMove old o task prepared w s → IsAtSplitMove mid o task prepared w s }
+    ensures split { (o : ℕ) (old mid : ArenaView) (phase : Phase) (s : Splits) → GivesOutBeside o old mid →
+        KeptSplit phase old o s → KeptSplit phase mid o s }
+    ensures holds { (o : ℕ) (old mid : ArenaView) (s : Splits) → GivesOut old mid → HoldsSplits old o s → HoldsSplits mid o s }
 {}

@@ -1,8 +1,9 @@
 -- What is kept of an operation that makes a layer, by its next phase. Each fact speaks of the node and the slot that it holds, and of its tree.
-use Rattle.std.specs.Prelude.{◌≡◌, ℕ, ◌+◌, ◌*◌, ◌<◌, false, [], ◌∷◌, length, Some, None}
+use Rattle.std.specs.Prelude.{◌≡◌, ◌≢◌, ℕ, ◌+◌, ◌*◌, ◌<◌, false, [], ◌∷◌, length, Some, None}
 use Rattle.mt_rows.specs.Rows.{Bytes}
 use Rattle.mt_border.specs.{Held.Pair, Held.Held, Held.{Stable, Unstable}, Contents.IsOfTree}
-use Rattle.mt_arena.specs.{Forests.tree_at, Layers.slot_at, Layering.{IsLayerOf, IsSettledBut}, Arena.ArenaView, Accesses.at}
+use Rattle.mt_arena.specs.{Forests.tree_at, Layers.slot_at, Layering.{IsLayerOf, IsSettledBut}, Arena.ArenaView, Accesses.at, Given.IsGiven}
+use Rattle.mt_arena.specs.declared.tree.Standing.TheVariants.{Made}
 use Rattle.mt_operation.specs.{declared.phase.Phase.Phase, declared.walk.Taken.TheVariants.Link, declared.walk.Walk.Walk}
 use Rattle.mt_descent.specs.KeptWalks.{GoesThrough, IsAtEnter, walk_place}
 use Rattle.mt_insert.specs.KeptPuts.{IsAtMakeLayer}
@@ -64,3 +65,7 @@ KeptLayer phases.MarkLayer v op key w = IsAtMarkLayer v op key w
 KeptLayer phases.Unlock v op key w = IsAtLeave v op key w
 KeptLayer phases.Enter v op key w = IsAtEnter v key w
 KeptLayer _ v op key w = ⊥
+
+-- no place of a node was given out for a tree that operation o was making
+abbrev pub GivesNoneInto : ℕ → ArenaView → ArenaView → Type 0
+GivesNoneInto o old new = (k : ℕ) → k < length old.nodes → IsGiven (at old k) (at new k) → (tree_at old.trees (at new k).tree).standing ≢ Made o
