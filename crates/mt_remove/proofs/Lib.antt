@@ -1,4 +1,5 @@
 pub mod Rely
+pub mod Given
 pub mod Held
 pub mod Locking
 pub mod LockingAbove

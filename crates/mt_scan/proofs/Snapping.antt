@@ -243,7 +243,7 @@ module _ (v : ArenaView) (s : ScanView) (w : Walk) (arena : IsArena v.nodes v.tr
 
   -- a link's slot stands for a key that goes on behind its slice
   module _ (slice tree : ℕ) (at_link : StopsAtLink n s w.layer slice tree) where
-    place : Contains n.slots at_link.link
+    pub place : Contains n.slots at_link.link
     place = stop_in behind n.slots at_link.link at_link.is
 
     slot_is : slot_at n place.0 ≡ at_link.link
@@ -263,9 +263,13 @@ module _ (v : ArenaView) (s : ScanView) (w : Walk) (arena : IsArena v.nodes v.tr
         let whole = (arena.forest.each w.place.tree h.through.there).whole in
         omega (arith, below, whole, own.1.of_tree.stored.within)
 
+    -- a live node's link leads to a live tree
+    pub leads_to : n.version.deleted ≡ false → LeadsTo v.trees n place.0 tree
+    leads_to live = arena.layers.links k h.covers.remembered.there live place.0 tree place.1 link_held
+
     leads : Stands n w.place.seen → LeadsBelow v prefix slice tree
     leads stands =
-        let to : LeadsTo v.trees n place.0 tree = arena.layers.links k h.covers.remembered.there stands.in_range.live place.0 tree place.1 link_held in
+        let to : LeadsTo v.trees n place.0 tree = leads_to stands.in_range.live in
         record {
           there = to.there;
           unmade = λ q making. absurd (let both = sym to.live ∙ making in cc);

@@ -1,17 +1,18 @@
-//! What a scan keeps between its steps, and how it comes to the next node. Contracts alone: no code runs.
+//! What a scan keeps and remembers between its steps, and how it comes to the next node. Contracts alone: no code runs.
 
-ghost use Rattle.std.specs.{Prelude.{◌≡◌, ◌≢◌, ◌<◌, ℕ, false, length, Some, None}, List.Contains};
-ghost use Rattle.mt_version.specs.Changes.{IsStable};
+ghost use Rattle.std.specs.{Prelude.{◌≡◌, ◌≢◌, ◌<◌, ℕ, true, false, [], length, Some, None}, List.Contains};
+ghost use Rattle.mt_version.specs.{Parts.Parts, Changes.IsStable};
 ghost use Rattle.mt_slices.specs.{Keys.tenant_of, Slices.slice_of};
 ghost use Rattle.mt_rows.specs.Rows.{Bytes, Columns};
 ghost use Rattle.mt_arena.specs.{Arena.{ArenaView, IsArena}, Accesses.at, Guarantee.NodesGuarantee, NodeFacts.IsUnstable};
 ghost use Rattle.mt_border.specs.{declared.entry.Entry.Entry, Held.Pair};
 ghost use Rattle.mt_operation.specs.declared.scan.Stop.{Stop};
 ghost use Rattle.mt_operation.specs.declared.scan.Stop.TheVariants as stops;
-ghost use Rattle.mt_operation.specs.{declared.walk.Walk.Walk, Operations.ScanView};
+ghost use Rattle.mt_operation.specs.{declared.phase.Phase.TheVariants.{Snap, Check, Hop, Done}, declared.walk.Walk.Walk, Operations.ScanView};
 ghost use Rattle.mt_readings.specs.Tenancies.{own_pairs};
-ghost use Rattle.mt_descent.specs.Seen.{Covers};
-ghost use Rattle.mt_scan.specs.{Snaps.{read_in, link_in, IsOver, prefix_in, IsSnap}, Hops.{IsNextFrom, IsAtHop, IsAtCheck, KeptHop}};
+ghost use Rattle.mt_descent.specs.{Seen.Covers, KeptWalks.IsAtBorder, WalkMoves.after_change};
+ghost use Rattle.mt_scan.specs.{Snaps.{read_in, link_in, IsOver, prefix_in, IsSnap}, Checks.{walk_to, GoesBehind}, Hops.{IsNextFrom, IsAtHop, IsAtCheck, KeptHop, HopsTo}};
+ghost use Rattle.mt_scan.specs.Remembered.{IsGivenElsewhere, Learns};
 
 /// The next node of a live border node begins at its end. A live, unmarked one without a next node has no end.
 pub fn a_node_tells_its_next()
@@ -49,6 +50,23 @@ pub fn scans_stay()
         IsAtCheck old key w stop → IsAtCheck new key w stop }
     ensures hop { (op : ℕ) (old new : ArenaView) (key : Bytes) (w : Walk) (stop : Stop) → NodesGuarantee op old.nodes new.nodes old.trees new.trees →
         KeptHop old key w stop → KeptHop new key w stop }
+{}
+
+/// What a scan keeps at Check and at Hop stays when places are given out that it does not remember.
+pub fn kept_stays_where_places_are_given_out()
+    ensures check { (old new : ArenaView) (key : Bytes) (w : Walk) (stop : Stop) → IsGivenElsewhere old new Check w stop → IsAtCheck old key w stop → IsAtCheck new key w stop }
+    ensures hop { (old new : ArenaView) (key : Bytes) (w : Walk) (stop : Stop) → IsGivenElsewhere old new Hop w stop → KeptHop old key w stop → KeptHop new key w stop }
+{}
+
+/// What a look of a scan comes to remember is live, or it remembered it, or a node names it that it remembered.
+/// The tree of the link at which Snap ends is live, since a deleted node has no slots.
+pub fn a_scan_learns_what_is_named()
+    ensures snap { (v : ArenaView) (w x : Walk) (s is : ScanView) → IsArena v.nodes v.trees → w.phase ≡ Snap → IsAtBorder v s.fence w →
+        ((at v w.place.node).version.deleted ≡ true → (at v w.place.node).slots ≡ []) → IsSnap v w x s is → Learns v w x s.stop is.stop }
+    ensures behind { (v : ArenaView) (prefix : Bytes) (w x : Walk) (s is : ScanView) → w.phase ≡ Check → GoesBehind prefix s.stop s is w x → Learns v w x s.stop is.stop }
+    ensures ends { (v : ArenaView) (w : Walk) (was is : Stop) → Learns v w (walk_to Done w) was is }
+    ensures changed { (v : ArenaView) (w : Walk) (now : Parts) (was is : Stop) → w.phase ≡ Check → Learns v w (after_change w now (at v w.place.node).next) was is }
+    ensures hop { (v : ArenaView) (w x : Walk) (stop : Stop) → IsArena v.nodes v.trees → w.phase ≡ Hop → HopsTo v stop w x → Learns v w x stop stop }
 {}
 
 /// No step of Snap drops a pair of the tenant's among those that it reads, or notes a pair that is none of them;

@@ -1,7 +1,7 @@
 //! CleanLayer: takes out the link to an empty layer, with its tree.
 
 ghost use Rattle.std.specs.Prelude.{◌≡◌, ◌≢◌, ◌<◌, ℕ, true, false, [], IfSome, IfNone, length, Some, None};
-ghost use Rattle.mt_arena.specs.{NodeView.place_at, Settled.IsSettled, Arena.{content_of, Guarantee}, Accesses.at, Removals.without_layer};
+ghost use Rattle.mt_arena.specs.{NodeView.place_at, Settled.IsSettled, Arena.{content_of, Guarantee}, Given.AreOutUpTo, Accesses.at, Removals.without_layer};
 ghost use Rattle.mt_descent.specs.KeptWalks.{IsAtBorder};
 ghost use Rattle.mt_remove.specs.{KeptRemovals.{HoldsRemoval, HoldsLink, IsAtCleanLayer}, RemovalEdits.{with_lock, root_of}};
 ghost use Rattle.mt_remove.specs.CleanLayer.{LeadsTo, IsCleanLayer};
@@ -25,6 +25,7 @@ pub fn clean_layer(
     operation: usize,
 ) -> Option<usize>
     requires kept { IsAtCleanLayer arena.old operation key.now walk.old removal.old }
+    requires upto { AreOutUpTo step arena.old.retired }
     ensures again { IfSome result (λ holder. (tree : ℕ) × (removal.old.cleans ≡ Some tree) × ((at arena.old (root_of arena.old tree)).holder ≡ Some holder)) }
     ensures unchanged { IfSome result (λ holder. (arena.new ≡ arena.old) × (walk.new ≡ walk.old) × (removal.new ≡ removal.old)) }
     ensures another { HoldsRemoval arena.old operation walk.old removal.old → IfSome result (λ holder. holder ≢ operation) }
@@ -73,6 +74,7 @@ fn take_layer(
     requires held { HoldsLink arena.old operation walk.now.place.node (place_at (at arena.old walk.now.place.node) slot) tree }
     requires root { root ≡ root_of arena.old tree }
     requires free { (at arena.old root).holder ≡ None }
+    requires upto { AreOutUpTo step arena.old.retired }
     ensures drops { result ≡ true → arena.new ≡ without_layer (with_lock arena.old root operation) walk.now.place.node
         (place_at (at arena.old walk.now.place.node) slot) tree step }
     ensures leaves { result ≡ false → arena.new ≡ with_lock arena.old root operation }

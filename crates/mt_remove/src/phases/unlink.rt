@@ -2,7 +2,7 @@
 
 ghost use Rattle.std.specs.Prelude.{◌≡◌, ◌<◌, length};
 ghost use Rattle.mt_rows.specs.Rows.{Bytes};
-ghost use Rattle.mt_arena.specs.Accesses.{at};
+ghost use Rattle.mt_arena.specs.{Given.AreOutUpTo, Accesses.at};
 ghost use Rattle.mt_remove.specs.{KeptRemovals.IsAtUnlink, RemovalEdits.after_unlink, Unlinks.IsUnlink};
 
 use crate::neighbours::{left_of, parent_of, phase_without};
@@ -13,6 +13,7 @@ use mt_operation::{Phase, Removal, Walk};
 /// parent loses it.
 pub fn unlink(arena: &mut Arena, walk: &mut Walk, removal: &Removal, step: u64, operation: usize)
     requires kept { (key : Bytes) × IsAtUnlink arena.old operation key walk.old removal.now }
+    requires upto { AreOutUpTo step arena.old.retired }
     ensures { IsUnlink operation step arena.old arena.new walk.old walk.new removal.now removal.now }
 {
     arena.facts();

@@ -4,8 +4,8 @@ use Rattle.mt_arena.specs.Removals.{without_root}
 use Rattle.mt_remove.proofs.Collapsing.{may_done, collapse_done, collapse_done_holds}
 use Rattle.mt_remove.proofs.phases.collapse.collapse.Goals as goal
 
-pub collapse-requires : goal.collapse-requires
-collapse-requires c = may_done c.args.arena.now c.args.operation c.requires.kept.0 c.args.walk.now c.args.removal.now c.facts.ensures.arena c.requires.kept.1 c.left_of-left.result c.parent_of-parent.result c.left_of-left.ensures c.parent_of-parent.ensures
+pub collapse-requires-clause-may : goal.collapse-requires-clause-may
+collapse-requires-clause-may c = may_done c.args.arena.now c.args.operation c.requires.kept.0 c.args.walk.now c.args.removal.now c.facts.ensures.arena c.requires.kept.1 c.left_of-left.result c.parent_of-parent.result c.left_of-left.ensures c.parent_of-parent.ensures
 
 pub returns : goal.returns
 returns c =
