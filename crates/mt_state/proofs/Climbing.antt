@@ -1,11 +1,11 @@
 -- What each step of a split leaves of all nodes, and what is told of it by that: no pair moves, and no version counts a change.
-use Rattle.std.proofs.Common.{List, [], ap, arith, cond, false, inl, inr, length, length-append, refl, set, subst, sym, true, ℕ, ◌++◌, ◌+◌, ◌<◌, ◌∙◌, ◌∷◌, ◌≡◌, ◌≤◌, ◌⊎◌}
+use Rattle.std.proofs.Common.{List, Some, [], ap, arith, cond, false, inl, inr, length, length-append, refl, set, subst, sym, true, ℕ, ◌++◌, ◌+◌, ◌<◌, ◌∙◌, ◌∷◌, ◌≡◌, ◌≤◌, ◌⊎◌}
 use Rattle.std.proofs.lemmas.Bool.{cases_eq, cases_lt, both_ways}
 use Rattle.mt_arena.specs.{declared.tree.Tree.Tree, declared.tree.Standing.Standing, NodeView.{NodeView, node_at}, Forests.tree_at, Edits.pointed}
 use Rattle.mt_arena.specs.{Contents.{counts, is_live}, Arena.{ArenaView, Guarantee, content_of}, Accesses.at}
 use Rattle.mt_arena.proofs.Pairs.{before as as_before, here, last as as_pushed, there}
-use Rattle.mt_state.specs.{Promises.{HoldsEither, Touches}, Invariant.{IsCountedUpTo, StateInvariant, DeletedAreEmpty}, Growth.MakesFew, Views.Core}
-use Rattle.mt_state.proofs.Quiet.{HasPairsOf, same_slots}
+use Rattle.mt_state.specs.{Promises.{HoldsEither, Touches}, Invariant.{IsCountedUpTo, StateInvariant, DeletedAreEmpty}, Growth.MakesFew, KeptBack.{Retires, TakesLive}, Views.Core}
+use Rattle.mt_state.proofs.{Quiet.{HasPairsOf, same_slots}, Growing.retires_same}
 
 -- the same pairs, tree, level and version's counts; the operation held the node or holds it then, or others name another one in it
 pub record Stays (o : ℕ) (x y : NodeView) : Type 0 where
@@ -16,9 +16,10 @@ pub record Stays (o : ℕ) (x y : NodeView) : Type 0 where
   pub inserts : y.version.inserts ≡ x.version.inserts
   pub splits : y.version.splits ≡ x.version.splits
   pub touched : (y ≡ x) ⊎ HoldsEither o x y ⊎ (y ≡ pointed x y.previous y.parent)
+  pub taken : y.holder ≡ Some o → (x.holder ≡ Some o) ⊎ (x.version.deleted ≡ false)
 
 pub stays_same : (o : ℕ) (x : NodeView) → Stays o x x
-stays_same o x = record { slots = refl; tree = refl; level = refl; deleted = refl; inserts = refl; splits = refl; touched = inl refl }
+stays_same o x = record { slots = refl; tree = refl; level = refl; deleted = refl; inserts = refl; splits = refl; touched = inl refl; taken = λ held. inl held }
 
 -- a new node, without pairs
 pub record IsBare (n : NodeView) : Type 0 where
@@ -27,7 +28,7 @@ pub record IsBare (n : NodeView) : Type 0 where
   pub inserts : n.version.inserts ≡ 0
   pub splits : n.version.splits ≡ 0
 
--- all nodes stay so, those that were added are new, and the trees are as they were but for their roots
+-- all nodes stay so, those that were added are new, the trees are as they were but for their roots, and none is taken out
 pub record LeavesNodes (o : ℕ) (old new : ArenaView) : Type 0 where
   pub more : length old.nodes ≤ length new.nodes
   pub each : (k : ℕ) → k < length old.nodes → Stays o (at old k) (at new k)
@@ -36,6 +37,7 @@ pub record LeavesNodes (o : ℕ) (old new : ArenaView) : Type 0 where
   pub prefix : (t : ℕ) → (tree_at new.trees t).prefix ≡ (tree_at old.trees t).prefix
   pub standing : (t : ℕ) → (tree_at new.trees t).standing ≡ (tree_at old.trees t).standing
   pub one : length new.nodes ≤ length old.nodes + 1
+  pub retired : new.retired ≡ old.retired
 
 -- what holds of each node and its number, where one node is another
 pub each_set : (P : ℕ → NodeView → Type 0) (xs : List NodeView) (i : ℕ) (y : NodeView) → ((j : ℕ) → j < length xs → P j (node_at xs j)) → P i y
@@ -66,6 +68,7 @@ leaves_set o old ys size each = record {
   prefix = λ t. refl;
   standing = λ t. refl;
   one = omega (arith, size);
+  retired = refl;
 }
 
 -- a node of the same tree counts as before
@@ -94,6 +97,12 @@ module _ (o : ℕ) (old new : ArenaView) (l : LeavesNodes o old new) where
     | inr late ↦ inr (l.fresh k late within).slots
   ]
 
+  pub takes : TakesLive o old new
+  takes k within holds = elim (cases_lt k (length old.nodes)) [
+    | inl was ↦ inl (was, (l.each k was).taken holds)
+    | inr late ↦ inr (late, (l.fresh k late within).live)
+  ]
+
   pub versions : (steps : ℕ) → ((k : ℕ) → k < length old.nodes → IsCountedUpTo steps (at old k)) → (k : ℕ) → k < length new.nodes
       → IsCountedUpTo steps (at new k)
   versions steps were k within = elim (cases_lt k (length old.nodes)) [
@@ -115,6 +124,8 @@ pub record MovesNoPair (c : Core) (o : ℕ) (arena : ArenaView) : Type 0 where
   pub stood : (k : ℕ) → k < length arena.nodes → counts arena.trees (at arena k) ≡ true → HasPairsOf c.arena arena k ⊎ ((at arena k).slots ≡ [])
   pub versions : (k : ℕ) → k < length arena.nodes → IsCountedUpTo c.steps (at arena k)
   pub deleted : DeletedAreEmpty arena
+  pub taken_out : Retires c.steps c.arena.retired arena.retired
+  pub takes : TakesLive o c.arena arena
   pub makes : MakesFew c.arena arena
 
 -- so by what is left of the nodes
@@ -127,5 +138,7 @@ moves_by c o arena h leaves guarantee contents = record {
   stood = stood o c.arena arena leaves;
   versions = versions o c.arena arena leaves c.steps h.versions;
   deleted = deleted o c.arena arena leaves h.deleted;
+  taken_out = retires_same c arena h.late leaves.retired;
+  takes = takes o c.arena arena leaves;
   makes = makes o c.arena arena leaves;
 }

@@ -5,7 +5,7 @@ use Rattle.mt_arena.specs.{Several.{with_parts, with_right, with_root}, Splits.{
 use Rattle.mt_state.proofs.Climbing.{IsBare, LeavesNodes, Stays, each_pushed, each_set, leaves_set, pushed_at, stays_same}
 use Rattle.mt_state.specs.Phases.{GoesAbove, ScanStep, LeadsTo}
 use Rattle.mt_insert.specs.SplitEdits.{after_reparent, for_parent, with_parent}
-use Rattle.mt_insert.specs.KeptSplits.{HasSplits, IsAtInsertChild, IsAtInteriorSplit, IsAtLockParent, IsAtRootGrow, IsAtSplitPrev, KeptSplit, last_of}
+use Rattle.mt_insert.specs.KeptSplits.{HasSplits, IsAtInsertChild, IsAtInteriorSplit, IsAtLockParent, IsAtParent, IsAtRootGrow, IsAtSplitPrev, KeptSplit, last_of}
 use Rattle.mt_insert.specs.Climbs.{IsClimbFrom, IsInsertChild, IsLockParent, IsReparent, IsSplitPrev, KeepsSplits}
 use Rattle.mt_insert.proofs.SplittingParents.{count_more}
 use Rattle.mt_held.specs.Moves.{walk_at}
@@ -15,7 +15,7 @@ use Rattle.mt_operation.specs.declared.phase.Phase.TheVariants.{InsertChild, Int
 use Rattle.mt_operation.specs.{declared.splits.Halves.Halves, declared.splits.Splits.Splits, declared.walk.Walk.Walk, declared.outcome.Outcome.Outcome}
 use Rattle.mt_operation.specs.{declared.phase.Phase.Phase, Operations.splits_of, declared.removal.Removal.Removal}
 use Rattle.std.proofs.Common.{Bool, List, None, Option, Some, [], ap, arith, false, inl, inr, length, length-append, refl, set, slice_index, subst, sym, true, ℕ, ◌+◌, ◌<◌, ◌==◌, ◌∙◌, ◌∷◌, ◌≡◌, ◌≢◌}
-use Rattle.std.proofs.{lemmas.Bool.cases_eq, lemmas.List.{get_or-set_other, get_or-set_same, length-set}}
+use Rattle.std.proofs.{lemmas.Bool.cases_eq, lemmas.List.{get_or-set_other, get_or-set_same, length-set}, lemmas.Option.same_Some}
 use Rattle.std.specs.Prelude.{if◌then◌else◌}
 use Rattle.mt_rows.specs.Rows.{Bytes}
 
@@ -24,7 +24,7 @@ leaves_pointed : (op : ℕ) (old : ArenaView) (k : ℕ) (previous parent : Optio
 leaves_pointed op old k previous parent =
     leaves_set op old (set old.nodes k (pointed (at old k) previous parent)) (length-set old.nodes k (pointed (at old k) previous parent))
     (each_set (λ j n. Stays op (at old j) n) old.nodes k (pointed (at old k) previous parent) (λ j lt. stays_same op (at old j))
-    (record { slots = refl; tree = refl; level = refl; deleted = refl; inserts = refl; splits = refl; touched = inr (inr refl) }))
+    (record { slots = refl; tree = refl; level = refl; deleted = refl; inserts = refl; splits = refl; touched = inr (inr refl); taken = λ held. inl held }))
 
 -- two nodes that the operation holds are others
 each_two : (op : ℕ) (xs : List NodeView) (i j : ℕ) (y z : NodeView) → Stays op (node_at xs i) y → Stays op (node_at xs j) z
@@ -63,34 +63,61 @@ module _ (op : ℕ) (old new : ArenaView) (before after : Walk) (s t : Splits) w
     size_mid : length mid.nodes ≡ length old.nodes
     size_mid = length-set old.nodes p (locked (at old p) op)
 
-    each_mid : (j : ℕ) → j < length old.nodes → Stays op (at old j) (at mid j)
-    each_mid = each_set (λ j n. Stays op (at old j) n) old.nodes p (locked (at old p) op) (λ j lt. stays_same op (at old j))
-        (record { slots = refl; tree = refl; level = refl; deleted = refl; inserts = refl; splits = refl; touched = inr (inl (inr refl)) })
-
-    right_stays : Stays op (at old q) y
-    right_stays = let m = each_mid q kept.named.splits.parted.right.held.there in record {
-      slots = m.slots;
-      tree = m.tree;
-      level = m.level;
-      deleted = m.deleted;
-      inserts = m.inserts;
-      splits = m.splits;
-      touched = inr (inl (inl kept.named.splits.parted.right.held.holder));
-    }
-
     pub size_locked : length (with_parent old p q op).nodes ≡ length old.nodes
     size_locked = length-set mid.nodes q y ∙ size_mid
 
-    pub locked_leaves : LeavesNodes op old (with_parent old p q op)
-    locked_leaves = leaves_set op old (set mid.nodes q y) size_locked
-        (λ j lt. each_set (λ i n. i < length old.nodes → Stays op (at old i) n) mid.nodes q y (λ i _ within. each_mid i within) (λ _. right_stays) j (omega (arith, lt, size_mid)) lt)
+    -- a lock that is taken, and another parent, leave the mark of deleted nodes
+    same_deleted : (k : ℕ) → k < length old.nodes → (at (with_parent old p q op) k).version.deleted ≡ (at old k).version.deleted
+    same_deleted k within =
+        let in_mid : (j : ℕ) → j < length old.nodes → (at mid j).version.deleted ≡ (at old j).version.deleted =
+        each_set (λ j n. n.version.deleted ≡ (at old j).version.deleted) old.nodes p (locked (at old p) op) (λ j lt. refl) refl in
+        each_set (λ j n. j < length old.nodes → n.version.deleted ≡ (at old j).version.deleted) mid.nodes q y (λ j _ lt. in_mid j lt) (λ lt. in_mid q lt) k (omega (arith, within, size_mid)) within
+
+    module _ (live : (at old p).version.deleted ≡ false) where
+      each_mid : (j : ℕ) → j < length old.nodes → Stays op (at old j) (at mid j)
+      each_mid = each_set (λ j n. Stays op (at old j) n) old.nodes p (locked (at old p) op) (λ j lt. stays_same op (at old j))
+          (record { slots = refl; tree = refl; level = refl; deleted = refl; inserts = refl; splits = refl; touched = inr (inl (inr refl)); taken = λ held. inr live })
+
+      right_stays : Stays op (at old q) y
+      right_stays = let m = each_mid q kept.named.splits.parted.right.held.there in record {
+        slots = m.slots;
+        tree = m.tree;
+        level = m.level;
+        deleted = m.deleted;
+        inserts = m.inserts;
+        splits = m.splits;
+        touched = inr (inl (inl kept.named.splits.parted.right.held.holder));
+        taken = λ held. inl kept.named.splits.parted.right.held.holder;
+      }
+
+      pub locked_leaves : LeavesNodes op old (with_parent old p q op)
+      locked_leaves = leaves_set op old (set mid.nodes q y) size_locked
+          (λ j lt. each_set (λ i n. i < length old.nodes → Stays op (at old i) n) mid.nodes q y (λ i _ within. each_mid i within) (λ _. right_stays) j (omega (arith, lt, size_mid)) lt)
+
+  -- the parent that is locked is live
+  parent_live : IsAtLockParent old op s → IsLockParent op old new before after s t → (p : ℕ) → (at old l).parent ≡ Some p → (at old p).version.deleted ≡ false
+  parent_live kept c p named = by (length (at old p).separators == 15) (subst (λ (phase : Phase). KeptSplit phase new op t) (ap (λ (w : Walk). w.phase) is.2) c.on.kept)
+    where
+      is : ((at old p).holder ≡ None) × (new ≡ with_parent old p q op) × (after ≡ walk_at (for_parent (at old p)) before) × (t ≡ record s { above = Some p })
+      is = c.is p named
+
+      of_parent : (j : ℕ) → IsAtParent new op t j → (at old p).version.deleted ≡ false
+      of_parent j at_parent =
+          let same : j ≡ p = same_Some j p (sym at_parent.above ∙ ap (λ (r : Splits). r.above) is.3) in
+          let there : j < length old.nodes = omega (arith, at_parent.parent.held.there, ap (λ (v : ArenaView). length v.nodes) is.1, size_locked kept p) in
+          subst (λ i. (at old i).version.deleted ≡ false) same
+          (sym (same_deleted kept p j there) ∙ ap (λ (v : ArenaView). (at v j).version.deleted) (sym is.1) ∙ at_parent.parent.live)
+
+      by : (full : Bool) → KeptSplit (if full then InteriorSplit else InsertChild) new op t → (at old p).version.deleted ≡ false
+      by true k = of_parent k.p k.at_parent
+      by false k = of_parent k.p k.at_parent
 
   pub lock_leaves : IsAtLockParent old op s → IsLockParent op old new before after s t → LeavesNodes op old new
   lock_leaves kept c = by (at old l).parent refl
     where
       by : (parent : Option ℕ) → (at old l).parent ≡ parent → LeavesNodes op old new
       by None none = subst (LeavesNodes op old) (sym (c.root none).0) (leaves_set op old old.nodes refl (λ k lt. stays_same op (at old k)))
-      by (Some p) named = subst (LeavesNodes op old) (sym (c.is p named).1) (locked_leaves kept p)
+      by (Some p) named = subst (LeavesNodes op old) (sym (c.is p named).1) (locked_leaves kept p (parent_live kept c p named))
 
   -- the parent has room
   pub inserted_leaves : IsAtInsertChild old op s → IsInsertChild op old new before after s t → LeavesNodes op old new
@@ -98,8 +125,8 @@ module _ (op : ℕ) (old new : ArenaView) (before after : Walk) (s t : Splits) w
       let y = with_child (inserting (at old kept.p)) (at old q).low q in
       let z = exact (at old l) in
       subst (LeavesNodes op old) (sym (c.is kept.p kept.at_parent.above)) (leaves_set op old (with_right old.nodes kept.p l q) (size_two old.nodes kept.p l y z) (each_two op old.nodes kept.p l y z
-      (record { slots = refl; tree = refl; level = refl; deleted = refl; inserts = refl; splits = refl; touched = inr (inl (inl kept.at_parent.parent.held.holder)) })
-      (record { slots = refl; tree = refl; level = refl; deleted = refl; inserts = refl; splits = refl; touched = inr (inl (inl kept.at_parent.named.splits.parted.left.held.holder)) })))
+      (record { slots = refl; tree = refl; level = refl; deleted = refl; inserts = refl; splits = refl; touched = inr (inl (inl kept.at_parent.parent.held.holder)); taken = λ held. inl kept.at_parent.parent.held.holder })
+      (record { slots = refl; tree = refl; level = refl; deleted = refl; inserts = refl; splits = refl; touched = inr (inl (inl kept.at_parent.named.splits.parted.left.held.holder)); taken = λ held. inl kept.at_parent.named.splits.parted.left.held.holder })))
 
   -- it is full, and is split
   module _ (kept : IsAtInteriorSplit old op s) where
@@ -125,14 +152,15 @@ module _ (op : ℕ) (old new : ArenaView) (before after : Walk) (s t : Splits) w
     parts_leaves = record {
       more = omega (arith, size_z, length-append zs (half ∷ []));
       each = each_pushed (λ k n. Stays op (at old k) n) (length old.nodes) zs half size_z (each_two op old.nodes p l (inner_left wide) (exact (at old l))
-          (record { slots = refl; tree = refl; level = refl; deleted = refl; inserts = refl; splits = refl; touched = inr (inl (inl kept.at_parent.parent.held.holder)) })
-          (record { slots = refl; tree = refl; level = refl; deleted = refl; inserts = refl; splits = refl; touched = inr (inl (inl kept.at_parent.named.splits.parted.left.held.holder)) }));
+          (record { slots = refl; tree = refl; level = refl; deleted = refl; inserts = refl; splits = refl; touched = inr (inl (inl kept.at_parent.parent.held.holder)); taken = λ held. inl kept.at_parent.parent.held.holder })
+          (record { slots = refl; tree = refl; level = refl; deleted = refl; inserts = refl; splits = refl; touched = inr (inl (inl kept.at_parent.named.splits.parted.left.held.holder)); taken = λ held. inl kept.at_parent.named.splits.parted.left.held.holder }));
       fresh =
           λ k from lt. subst IsBare (sym (pushed_at zs half (length old.nodes) k size_z from lt)) (record { slots = refl; live = refl; inserts = refl; splits = refl });
       trees = refl;
       prefix = λ t. refl;
       standing = λ t. refl;
       one = omega (arith, size_z, length-append zs (half ∷ []));
+      retired = refl;
     }
 
   -- there is none: a root is made
@@ -167,13 +195,14 @@ module _ (op : ℕ) (old new : ArenaView) (before after : Walk) (s t : Splits) w
     root_leaves = record {
       more = omega (arith, size_w, length-append ws (root ∷ []));
       each = each_pushed (λ k n. Stays op (at old k) n) top ws root size_w (each_two op old.nodes l q (left_below (at old l) top) (right_below (at old q) top)
-          (record { slots = refl; tree = refl; level = refl; deleted = refl; inserts = refl; splits = refl; touched = inr (inl (inl kept.at_root.named.splits.parted.left.held.holder)) })
-          (record { slots = refl; tree = refl; level = refl; deleted = refl; inserts = refl; splits = refl; touched = inr (inl (inl kept.at_root.named.splits.parted.right.held.holder)) }));
+          (record { slots = refl; tree = refl; level = refl; deleted = refl; inserts = refl; splits = refl; touched = inr (inl (inl kept.at_root.named.splits.parted.left.held.holder)); taken = λ held. inl kept.at_root.named.splits.parted.left.held.holder })
+          (record { slots = refl; tree = refl; level = refl; deleted = refl; inserts = refl; splits = refl; touched = inr (inl (inl kept.at_root.named.splits.parted.right.held.holder)); taken = λ held. inl kept.at_root.named.splits.parted.right.held.holder }));
       fresh = λ k from lt. subst IsBare (sym (pushed_at ws root top k size_w from lt)) (record { slots = refl; live = refl; inserts = refl; splits = refl });
       trees = length-set old.trees (at old l).tree grown;
       prefix = tree_as (λ (t : Tree). t.prefix) refl;
       standing = tree_as (λ (t : Tree). t.standing) refl;
       one = omega (arith, size_w, length-append ws (root ∷ []));
+      retired = refl;
     }
 
   -- a child of a parted parent names the right half
@@ -269,13 +298,14 @@ begun_leaves o v k low held = record {
   more = omega (arith, size, length-append ys (half ∷ []));
   each = each_pushed (λ j n. Stays o (at v j) n) (length v.nodes) ys half size
       (each_set (λ j n. Stays o (at v j) n) v.nodes k (splitting (at v k)) (λ j lt. stays_same o (at v j))
-      (record { slots = refl; tree = refl; level = refl; deleted = refl; inserts = refl; splits = refl; touched = inr (inl (inl held.holder)) }));
+      (record { slots = refl; tree = refl; level = refl; deleted = refl; inserts = refl; splits = refl; touched = inr (inl (inl held.holder)); taken = λ mine. inl held.holder }));
   fresh =
       λ j from lt. subst IsBare (sym (pushed_at ys half (length v.nodes) j size from lt)) (record { slots = refl; live = refl; inserts = refl; splits = refl });
   trees = refl;
   prefix = λ t. refl;
   standing = λ t. refl;
   one = omega (arith, size, length-append ys (half ∷ []));
+  retired = refl;
 }
   where
     half : NodeView

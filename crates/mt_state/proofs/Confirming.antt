@@ -13,12 +13,15 @@ use Rattle.mt_operation.specs.{declared.walk.Taken.Taken, declared.walk.Taken.Th
 use Rattle.mt_operation.specs.{declared.operation.Operation.Operation, Tasks.{ask, aim_of}, Operations.view_of, Phases.{is_done, MayFollow, IsOfKind}}
 use Rattle.mt_operation.specs.Tables.{op_at as operation_at}
 use Rattle.mt_operation.proofs.Phases.{by_descent}
-use Rattle.mt_descent.specs.{Pasts.Past, KeptWalks.{IsAtConfirm as WalksConfirm, KeptAt, IsKept, TakenWasRight}, WalkMoves.{Continues, Confirms, after_confirm}}
+use Rattle.mt_descent.specs.{Pasts.Past, KeptWalks.{IsAtBorder, IsAtConfirm as WalksConfirm, KeptAt, IsKept, TakenWasRight}, WalkMoves.{Continues, Confirms, after_confirm}}
 use Rattle.mt_state.specs.{Views.{StateView, Core, shown, past_of, map_of, quota_of}, Steps.told_change, Notes.Notes, Ways.IsOnWay}
-use Rattle.mt_state.specs.{KeptOperations.{IsOpenOperation, TellsTaken, IsOnItsWay, IsAtConfirm, HasAnswer, IsKeptAt}, Invariant.StateInvariant}
-use Rattle.mt_state.proofs.{Replies.{get_absent, get_found}, Decides.same_or_not, Descents.{Leads, by_way, first_aside, changed_leads}, Telling.Gives}
+use Rattle.mt_state.specs.{KeptOperations.{IsOpenOperation, TellsTaken, IsOnItsWay, IsAtConfirm, HasAnswer, IsKeptAt}, Invariant.StateInvariant, KeptBack.IsBackAt}
+use Rattle.mt_descent.proofs.Decides.{same_or_not}
+use Rattle.mt_state.proofs.{Replies.{get_absent, get_found}, Descents.{Leads, by_way, first_aside, changed_leads}, Telling.Gives}
 use Rattle.mt_state.proofs.{Moved.{went, first_same, first_begun}, Still.{IsFree, IsUnready, still, still_gives}}
 use Rattle.mt_state.proofs.{Reading.{kept_on_way, on_way_unready, on_way_open}, Bound.get_no_remove, Lawful.{get_no_scan, scan_free}}
+use Rattle.mt_state.proofs.KeptBack.{on_walk, look_back}
+use Rattle.mt_descent.proofs.Learning.{learns_confirm}
 use Rattle.mt_walks.specs.Walked.{IsWithin}
 use Rattle.mt_operation.specs.declared.walk.Aim.TheVariants as aims
 
@@ -45,6 +48,13 @@ module _ (c : Core) (now : StateView) (o : ℕ) (is : shown c ≡ now) (h : Stat
 
   abbrev pub confirm_free : IsFree op.walk.phase
   confirm_free = subst IsFree (sym at_confirm) tt
+
+  -- its walk is at its border node
+  at_border : IsAtBorder c.arena op.task.key op.walk
+  at_border =
+      let kept : WalksConfirm c.arena (past_of c) op.task.key confirming.row op.walk =
+      subst (λ (p : Phase). KeptAt p c.arena (past_of c) op.task.key confirming.row op.walk) at_confirm confirming.kept in
+      kept.at_border
 
   always : IsOpenOperation c op
   always = (h.ops o op there).always
@@ -122,7 +132,8 @@ module _ (c : Core) (now : StateView) (o : ℕ) (is : shown c ≡ now) (h : Stat
         (subst IsUnready (sym done) tt) same.aim (subst (λ (p : Phase). IsOfKind p w.aim) (sym done) tt)
         refl
         (subst (λ (p : Phase). Notes (shown c) (view_of op) p w.phase op.outcome) (sym at_confirm) (subst (λ (p : Phase). Notes (shown c) (view_of op) Confirm p op.outcome) (sym done) refl))
-        (subst (λ (p : Phase). IsKeptAt p new o after) (sym done) own) true (sym (ap is_done done))
+        (subst (λ (p : Phase). IsKeptAt p new o after) (sym done) own)
+        (λ facts. subst (λ (p : Phase). IsBackAt p c.arena after) (sym done) tt) true (sym (ap is_done done))
       where
         first_is_same : the_after.walk.first ≡ op.walk.first
         first_is_same = first_same c op always w begun
@@ -175,7 +186,10 @@ module _ (c : Core) (now : StateView) (o : ℕ) (is : shown c ≡ now) (h : Stat
             (on_way_unready w.phase leads.0) same.aim leads.2
             (sym (no_change op.walk.taken confirming.tells))
             (notes w.phase leads.1 leads.0)
-            (kept_on_way w.phase leads.0 new o after on) false (sym (on_way_open w.phase leads.0))
+            (kept_on_way w.phase leads.0 new o after on)
+            (λ facts. on_walk w.phase leads.0 c.arena after (look_back op.birth c.arena op.walk w after.walk.first facts
+            (learns_confirm c.arena op.walk op.task.key at_confirm at_border w confirms) (subst (λ (p : Phase). IsBackAt p c.arena op) at_confirm (h.remembered o op there).walk)))
+            false (sym (on_way_open w.phase leads.0))
           where
             notes : (p : Phase) → MayFollow Confirm p → IsOnWay p → Notes (shown c) (view_of op) op.walk.phase p None
             notes p follows on = subst (λ (q : Phase). Notes (shown c) (view_of op) q p None) (sym at_confirm) (by_phase p follows on)

@@ -9,7 +9,8 @@ use Rattle.mt_operation.specs.Phases.{MayFollow, IsOfKind, IsDescent}
 use Rattle.mt_operation.proofs.Phases.{by_descent}
 use Rattle.mt_descent.specs.WalkMoves.{Continues, arrival, arrival_at, walk_anew, walk_here, walk_to_next, after_enter, after_change, after_forward, Verifies}
 use Rattle.mt_descent.specs.{Pasts.Past, KeptWalks.KeptAt}
-use Rattle.mt_state.{specs.Ways.{IsOnWay, Descends}, proofs.Decides.{same_or_not, outdated_or_not}}
+use Rattle.mt_descent.proofs.Decides.{same_or_not, outdated_or_not}
+use Rattle.mt_state.specs.Ways.{IsOnWay, Descends}
 use Rattle.mt_operation.specs.declared.walk.Aim.TheVariants as aims
 
 -- what a walk may go on with from a phase, by whether it comes to lock

@@ -8,7 +8,7 @@ use Rattle.mt_operation.specs.{Phases.{is_done, MayFollow, IsOfKind}, Tables.{op
 use Rattle.mt_insert.{specs.{KeptPuts.IsAtPublish, Fill.IsFill}, proofs.Filling.held_ready}
 use Rattle.mt_state.specs.{Views.{StateView, Core, shown}, Notes.Notes, Promises.Touches}
 use Rattle.mt_state.specs.KeptOperations.{IsOpenOperation, IsFilling, IsPublishing, IsKeptAt}
-use Rattle.mt_state.specs.Invariant.{IsCountedUpTo, HoldsAt, StateInvariant}
+use Rattle.mt_state.specs.{Invariant.{IsCountedUpTo, HoldsAt, StateInvariant}, KeptBack.IsBackAt}
 use Rattle.mt_state.proofs.{Telling.Gives, Quiet.LeavesPairs, Moved.went, Reading.walk_same, Locking.{ready_one, unsplit_at}}
 use Rattle.mt_state.proofs.OneNode.{stepped, replaced_holds, replaced_touches, replaced_leaves, holds_here, quiet_gives}
 use Rattle.mt_operation.specs.declared.walk.Aim.TheVariants as aims
@@ -56,7 +56,7 @@ module _ (c : Core) (now : StateView) (o : ℕ) (is : shown c ≡ now) (h : Stat
     counted = let was = h.versions k within in record { inserts = omega (arith, was.inserts); splits = omega (arith, was.splits) }
 
     leaves : LeavesPairs c o (with_node c.arena k y)
-    leaves = replaced_leaves c o h k within y refl refl refl counted
+    leaves = replaced_leaves c o h k within y refl refl refl counted (λ held. inl held)
         (subst (Guarantee o c.arena) t.is t.keeps.guarantee) (subst (λ (v : ArenaView). content_of v ≡ content_of c.arena) t.is t.keeps.contents)
 
     -- it holds its border node alone, as before
@@ -85,6 +85,7 @@ module _ (c : Core) (now : StateView) (o : ℕ) (is : shown c ≡ now) (h : Stat
         (subst (λ (p : Phase). Notes (shown c) (view_of op) Fill p op.outcome) (sym ends) (filling.untold, filling.untold)))
         (λ j inside holds. subst (λ (p : Phase). HoldsAt p after j) (sym ends) (held_alone j (subst (λ (v : ArenaView). j < length v.nodes) t.is inside) (subst (λ (v : ArenaView). (at v j).holder ≡ Some o) t.is holds) ∙ sym place))
         (subst (λ (p : Phase). IsKeptAt p new o after) (sym ends) own)
+        (λ facts. subst (λ (p : Phase). IsBackAt p arena after) (sym ends) tt)
         (unsplit_at c now o is h room op there Fill at_fill refl)
         (let one = ready_one op Fill at_fill refl in let also = ready_one after Publish ends refl in omega (arith, one, also))
         (subst (Touches o c.arena) (sym t.is) (replaced_touches c.arena k within y o (inl filling.fills.holds.judged.held.holder)))

@@ -1,7 +1,9 @@
--- Where no node and no tree is made: for the phases that make none.
-use Rattle.std.proofs.{Common.{◌≡◌, ℕ, length, refl, arith}, lemmas.List.length-set}
-use Rattle.mt_arena.specs.{NodeView.NodeView, Arena.ArenaView, Accesses.with_node}
-use Rattle.mt_state.specs.Growth.{MakesFew}
+-- Where no node and no tree is made, and none is taken out: for the phases that make none, and for those that take none out.
+use Rattle.std.proofs.{Common.{◌≡◌, ℕ, zero, suc, ◌+◌, ◌<◌, List, [], ◌∷◌, length, refl, sym, subst, arith}, lemmas.List.length-set}
+use Rattle.mt_arena.specs.{declared.retired.Retired.Retired, NodeView.NodeView, Idle.{RetiredPlaces, with_retired, with_border, with_interior, with_tree}}
+use Rattle.mt_arena.{specs.{Given.{AreOutUpTo, step_of_idle}, Arena.ArenaView, Accesses.with_node}, proofs.Out.upto_later}
+use Rattle.mt_descent.{specs.KeptBack.{ListsAfter, RetiresAfter}, proofs.KeptBack.{lists_same, lists_more}}
+use Rattle.mt_state.specs.{Growth.MakesFew, KeptBack.Retires, Views.Core}
 
 -- as many nodes and trees as before
 pub makes_same : (old new : ArenaView) → length new.nodes ≡ length old.nodes → length new.trees ≡ length old.trees → MakesFew old new
@@ -15,3 +17,44 @@ makes_same old new nodes trees = record {
 -- one node in the place of another
 pub makes_set : (v : ArenaView) (k : ℕ) (n : NodeView) → MakesFew v (with_node v k n)
 makes_set v k n = makes_same v (with_node v k n) (length-set v.nodes k n) refl
+
+-- lists that stay are listed after each birth
+pub after_same : (birth : ℕ) (gone : RetiredPlaces) → RetiresAfter birth gone gone
+after_same birth gone = record { borders = lists_same birth gone.borders; interiors = lists_same birth gone.interiors; trees = lists_same birth gone.trees }
+
+-- so are those with one more, of a later step
+abbrev one : ℕ → ℕ → Retired
+one place step = record { place = place; step = step }
+
+later_one : (birth place step : ℕ) → birth < step → (i : ℕ) → i < length (one place step ∷ []) → birth < step_of_idle (one place step ∷ []) i
+later_one birth place step later zero lt = later
+later_one birth place step later (suc i) lt = absurd (omega (arith, lt))
+
+more_after : (birth : ℕ) (gone : List Retired) (place step : ℕ) → birth < step → ListsAfter birth gone (with_retired gone place step)
+more_after birth gone place step later = lists_more birth gone (one place step ∷ []) (later_one birth place step later)
+
+pub after_border : (birth : ℕ) (gone : RetiredPlaces) (node step : ℕ) → birth < step → RetiresAfter birth gone (with_border gone node step)
+after_border birth gone node step later =
+    record { borders = more_after birth gone.borders node step later; interiors = lists_same birth gone.interiors; trees = lists_same birth gone.trees }
+
+pub after_interior : (birth : ℕ) (gone : RetiredPlaces) (node step : ℕ) → birth < step → RetiresAfter birth gone (with_interior gone node step)
+after_interior birth gone node step later =
+    record { borders = lists_same birth gone.borders; interiors = more_after birth gone.interiors node step later; trees = lists_same birth gone.trees }
+
+pub after_layer : (birth : ℕ) (gone : RetiredPlaces) (node tree step : ℕ) → birth < step → RetiresAfter birth gone (with_tree (with_border gone node step) tree step)
+after_layer birth gone node tree step later = record {
+  borders = more_after birth gone.borders node step later;
+  interiors = lists_same birth gone.interiors;
+  trees = more_after birth gone.trees tree step later;
+}
+
+-- all that is out was taken out before, so that the next step is later
+pub retires_none : (steps : ℕ) (gone : RetiredPlaces) → AreOutUpTo steps gone → Retires steps gone gone
+retires_none steps gone late = record {
+  upto = upto_later steps (steps + 1) gone (omega arith) late;
+  after = λ birth born. after_same birth gone;
+}
+
+pub retires_same : (c : Core) (arena : ArenaView) → AreOutUpTo c.steps c.arena.retired → arena.retired ≡ c.arena.retired
+    → Retires c.steps c.arena.retired arena.retired
+retires_same c arena late same = subst (Retires c.steps c.arena.retired) (sym same) (retires_none c.steps c.arena.retired late)

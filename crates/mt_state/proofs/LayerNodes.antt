@@ -15,7 +15,7 @@ use Rattle.mt_descent.specs.{KeptWalks.walk_place, WalkMoves.Continues}
 use Rattle.mt_held.specs.Holds.{HoldsOnly}
 use Rattle.mt_insert.proofs.InsertingChildren.{at_p}
 use Rattle.mt_layer.specs.{KeptLayers.KeptLayer, NewLayers.{KeepsStamps, entry_below, walk_at}, Builds.{IsLayerFrom, KeepsLayer}}
-use Rattle.mt_state.specs.{Promises.{HoldsEither, Touches}, Invariant.{IsCountedUpTo, DeletedAreEmpty}, Phases.{ScanStep, LeadsTo}, Growth.MakesFew}
+use Rattle.mt_state.specs.{Promises.{HoldsEither, Touches}, Invariant.{IsCountedUpTo, DeletedAreEmpty}, Phases.{ScanStep, LeadsTo}, Growth.MakesFew, KeptBack.TakesLive}
 use Rattle.mt_state.proofs.{Growing.{makes_same, makes_set}, Climbing.{each_set, pushed_at}}
 
 -- a node's level and its version's counts stay, it is not taken out, and only one that the operation holds is another
@@ -26,9 +26,10 @@ pub record Stays (o : ℕ) (x y : NodeView) : Type 0 where
   pub inserts : y.version.inserts ≡ x.version.inserts
   pub splits : y.version.splits ≡ x.version.splits
   pub touched : (y ≡ x) ⊎ HoldsEither o x y
+  pub taken : y.holder ≡ Some o → x.holder ≡ Some o
 
 stays_same : (o : ℕ) (x : NodeView) → Stays o x x
-stays_same o x = record { level = refl; deleted = refl; emptied = λ gone. refl; inserts = refl; splits = refl; touched = inl refl }
+stays_same o x = record { level = refl; deleted = refl; emptied = λ gone. refl; inserts = refl; splits = refl; touched = inl refl; taken = λ held. held }
 
 -- the root of a new tree
 pub record IsRoot (n : NodeView) : Type 0 where
@@ -37,11 +38,12 @@ pub record IsRoot (n : NodeView) : Type 0 where
   pub inserts : n.version.inserts ≡ 0
   pub splits : n.version.splits ≡ 0
 
--- all nodes stay so, and those that were added are roots of new trees
+-- all nodes stay so, those that were added are roots of new trees, and none is taken out
 pub record LeavesNodes (o : ℕ) (old new : ArenaView) : Type 0 where
   pub each : (k : ℕ) → k < length old.nodes → Stays o (at old k) (at new k)
   pub fresh : (k : ℕ) → length old.nodes ≤ k → k < length new.nodes → IsRoot (at new k)
   pub makes : MakesFew old new
+  pub retired : new.retired ≡ old.retired
 
 -- so where a tree is made
 made_leaves : (o : ℕ) (v : ArenaView) (prefix : Bytes) (e : Entry) → LeavesNodes o v (with_layer v prefix e o)
@@ -53,6 +55,7 @@ made_leaves o v prefix e = record {
       let nodes = length-append v.nodes (root_of (length v.trees) e ∷ []) in
       let trees = length-append v.trees (tree ∷ []) in
       record { nodes_stay = omega (arith, nodes); one_node = omega (arith, nodes); trees_stay = omega (arith, trees); one_tree = omega (arith, trees) };
+  retired = refl;
 }
   where
     tree : Tree
@@ -61,7 +64,7 @@ made_leaves o v prefix e = record {
 module _ (o : ℕ) (v : ArenaView) (k i : ℕ) (mine : IsHeld v k o) (live : (at v k).version.deleted ≡ false) where
   held_each : (held : Held) (j : ℕ) → j < length v.nodes → Stays o (at v j) (node_at (set v.nodes k (with_held (at v k) i held)) j)
   held_each held = each_set (λ j m. Stays o (at v j) m) v.nodes k (with_held (at v k) i held) (λ j lt. stays_same o (at v j))
-      (record { level = refl; deleted = refl; emptied = λ gone. absurd (both_ways _ live gone); inserts = refl; splits = refl; touched = inr (inl mine.holder) })
+      (record { level = refl; deleted = refl; emptied = λ gone. absurd (both_ways _ live gone); inserts = refl; splits = refl; touched = inr (inl mine.holder); taken = λ held. held })
 
   held_fresh : (held : Held) (j : ℕ) → length v.nodes ≤ j → j < length (set v.nodes k (with_held (at v k) i held))
       → IsRoot (node_at (set v.nodes k (with_held (at v k) i held)) j)
@@ -69,7 +72,7 @@ module _ (o : ℕ) (v : ArenaView) (k i : ℕ) (mine : IsHeld v k o) (live : (at
 
   -- where a slot of the held node holds something else
   slot_leaves : (held : Held) → LeavesNodes o v (with_slot v k i held)
-  slot_leaves held = record { each = held_each held; fresh = held_fresh held; makes = makes_set v k (with_held (at v k) i held) }
+  slot_leaves held = record { each = held_each held; fresh = held_fresh held; makes = makes_set v k (with_held (at v k) i held); retired = refl }
 
   -- and where it is a link to a tree, which is live
   link_leaves : (t : ℕ) → LeavesNodes o v (with_link v k i t)
@@ -77,6 +80,7 @@ module _ (o : ℕ) (v : ArenaView) (k i : ℕ) (mine : IsHeld v k o) (live : (at
     each = held_each (LinkTo t);
     fresh = held_fresh (LinkTo t);
     makes = makes_same v (with_link v k i t) (length-set v.nodes k (with_held (at v k) i (LinkTo t))) (length-set v.trees t tree);
+    retired = refl;
   }
     where
       tree : Tree
@@ -95,6 +99,12 @@ module _ (o : ℕ) (old new : ArenaView) (l : LeavesNodes o old new) where
     | inr late ↦ let n = l.fresh k late within in record { inserts = omega (arith, n.inserts); splits = omega (arith, n.splits) }
   ]
 
+  takes : TakesLive o old new
+  takes k within holds = elim (cases_lt k (length old.nodes)) [
+    | inl was ↦ inl (was, inl ((l.each k was).taken holds))
+    | inr late ↦ inr (late, (l.fresh k late within).live)
+  ]
+
   deleted : DeletedAreEmpty old → DeletedAreEmpty new
   deleted all k within gone = elim (cases_lt k (length old.nodes)) [
     | inl was ↦ let n = l.each k was in let went = sym n.deleted ∙ gone in n.emptied went ∙ all k was went
@@ -110,6 +120,7 @@ pub record BuildsLayer (o : ℕ) (old new : ArenaView) (key : Bytes) (before aft
   pub versions : (steps : ℕ) → ((k : ℕ) → k < length old.nodes → IsCountedUpTo steps (at old k)) → (k : ℕ) → k < length new.nodes
       → IsCountedUpTo steps (at new k)
   pub deleted : DeletedAreEmpty old → DeletedAreEmpty new
+  pub retired : new.retired ≡ old.retired
   pub follows : MayFollow before.phase after.phase
   pub on : after.phase ≢ Done
   pub same : Continues before after
@@ -117,6 +128,7 @@ pub record BuildsLayer (o : ℕ) (old new : ArenaView) (key : Bytes) (before aft
   pub kept : KeptLayer after.phase new o key after
   pub holds : HoldsOnly old o before.place.node → HoldsOnly new o after.place.node
   pub makes : MakesFew old new
+  pub takes : TakesLive o old new
 
 -- what is left, by the phase
 pub layer_leaves : (p : Phase) → IsLayerPhase p → (o : ℕ) (key : Bytes) (old new : ArenaView) (before after : Walk) → KeptLayer p old o key before
@@ -202,6 +214,7 @@ builds_by p i o key old new before after at_p kept b =
       stamps = on.stamps;
       versions = versions o old new leaves;
       deleted = deleted o old new leaves;
+      retired = leaves.retired;
       follows = subst (λ (q : Phase). MayFollow q after.phase) (sym at_p) (subst (MayFollow p) (sym goes.at) next.0);
       on = λ done. next.1 (sym goes.at ∙ done);
       same = on.keeps.same;
@@ -209,4 +222,5 @@ builds_by p i o key old new before after at_p kept b =
       kept = subst (λ (q : Phase). KeptLayer q new o key after) (sym goes.at) (kept_next p i o key old new before after kept b);
       holds = on.holds;
       makes = leaves.makes;
+      takes = takes o old new leaves;
     }

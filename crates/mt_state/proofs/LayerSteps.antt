@@ -5,7 +5,7 @@ use Rattle.std.specs.{Prelude.{◌^◌}, FinMap.len}
 use Rattle.mt_rows.specs.{declared.reply.Reply.TheVariants.NoMemory, Rows.Bytes, Tenants.{Contents, tenant_map}}
 use Rattle.mt_border.{specs.Contents.IsStamped, proofs.Edits.any_entry}
 use Rattle.mt_tape.specs.Histories.{contents_at, IsLegalTape}
-use Rattle.mt_arena.specs.{NodeView.NodeView, Edits.unlocked, Arena.{ArenaView, content_of, Guarantee}, Accesses.{at, tree_of, IsHeld, with_node}}
+use Rattle.mt_arena.specs.{NodeView.{NodeView, place_at}, Edits.unlocked, Arena.{ArenaView, content_of, Guarantee}, Accesses.{at, tree_of, IsHeld, with_node}}
 use Rattle.mt_operation.specs.{declared.walk.Aim.Aim, declared.phase.Phase.Phase}
 use Rattle.mt_operation.specs.{declared.phase.Phase.TheVariants.{Enter, Judge, MakeLayer, MarkUnstable, Link, MarkLayer, Unlock, Done}, declared.walk.Walk.Walk}
 use Rattle.mt_operation.specs.{declared.outcome.Outcome.Outcome, declared.splits.Halves.Halves, declared.operation.Operation.Operation}
@@ -13,17 +13,19 @@ use Rattle.mt_operation.specs.Operations.{OperationView, view_of, IsUnsplit}
 use Rattle.mt_operation.specs.Phases.{is_done, MayFollow, IsOfKind, has_splits, IsLayerPhase, FitsAim, IsLayerKind, Kind, change_at, holds_of, may_be_parts, row, is_unplaced}
 use Rattle.mt_operation.specs.{Tasks.ask, Tables.{op_at as operation_at}}
 use Rattle.mt_remove.specs.Writes.{is_remove}
-use Rattle.mt_descent.specs.{KeptWalks.{IsAtEnter, KeptAt}, WalkMoves.KeepsPairs}
+use Rattle.mt_descent.specs.{KeptWalks.{IsAtEnter, KeptAt, walk_place}, WalkMoves.KeepsPairs}
 use Rattle.mt_insert.specs.{KeptPuts.IsAtMakeLayer, Judge.MeetsOther}
 use Rattle.mt_held.specs.{Holds.HoldsOnly, Unlock.{MeetsLink, IsUnlock}}
 use Rattle.mt_layer.specs.{KeptLayers.KeptLayer, NewLayers.HasStamp, Builds.{IsLayerFrom, IsLeave}}
 use Rattle.mt_state.specs.{Views.{StateView, Core, shown, past_of, map_of}, Steps.told_change, Notes.{Notes, Keeps}, Promises.Touches}
 use Rattle.mt_state.specs.KeptOperations.{IsOpenOperation, IsJudging, IsLayering, IsLeaving, IsReturning, HasAnswer, IsKeptAt, IsKeptOf, IsKeptFor, IsBound}
+use Rattle.mt_state.specs.KeptBack.{ArenaFacts, IsWalkBack, IsBackAt}
+use Rattle.mt_descent.specs.{KeptBack.RemembersKept, WalkMoves.walk_into}
 use Rattle.mt_state.specs.Invariant.{IsTape, IsStampOf, AreStamps, HoldsLast, HoldsAt, StateInvariant, StateGuarantee, HoldsBy}
 use Rattle.mt_state.proofs.{Telling.{Gives, gives, logs_later}, Quiet.{quiet, LeavesPairs}, Moved.{went, open_moved, has_moved, first_begun, first_upto}}
 use Rattle.mt_state.proofs.{Still.{IsUnready, floor_made, leaves_all, unready_none, IsUnreadyBy}, Reading.walk_same}
 use Rattle.mt_state.proofs.OneNode.{counted_unlocked, counted_later, replaced_at, replaced_touches, replaced_leaves, quiet_grows, holds_here, quiet_gives, border_alone}
-use Rattle.mt_state.proofs.{LayerNodes.{BuildsLayer, builds_by}, Bound.bound_on, Lawful.stopped_free}
+use Rattle.mt_state.proofs.{LayerNodes.{BuildsLayer, builds_by}, Growing.retires_same, KeptBack.{own_back, first_aside_back, link_back}, Bound.bound_on, Lawful.stopped_free}
 use Rattle.mt_walks.specs.Walked.{IsWithin}
 use Rattle.mt_operation.specs.declared.walk.Aim.TheVariants as aims
 use Rattle.mt_operation.specs.Phases as kinds
@@ -123,6 +125,14 @@ made_unready p i = by (row p).kind i
     by kinds.Returns i = tt
     by _ i = absurd i
 
+made_back : (p : Phase) → HasLayer p → (v : ArenaView) (op : Operation) → IsBackAt p v op
+made_back p i v op = by (row p).kind i
+  where
+    by : (of : Kind) → HasLayerBy of → IsWalkBack of p v op
+    by kinds.Layers i = tt
+    by kinds.Returns i = tt
+    by _ i = absurd i
+
 made_held : (p : Phase) → HasLayer p → (op : Operation) (k : ℕ) → op.splits.halves.items ≡ [] → k ≡ op.walk.place.node → HoldsAt p op k
 made_held p i op k none is = by (row p).kind i
   where
@@ -182,7 +192,7 @@ module _ (c : Core) (o : ℕ) (h : StateInvariant c) (few : c.steps < 2 ^ 59) (o
 
     back_leaves : LeavesPairs c o arena
     back_leaves =
-        subst (LeavesPairs c o) (sym is) (replaced_leaves c o h k held.there (unlocked n) refl refl refl (counted_unlocked n c.steps (h.versions k held.there) (unlocked n) refl)
+        subst (LeavesPairs c o) (sym is) (replaced_leaves c o h k held.there (unlocked n) refl refl refl (counted_unlocked n c.steps (h.versions k held.there) (unlocked n) refl) (λ e. absurd (cc))
         (subst (Guarantee o c.arena) is keeps.guarantee) (subst (λ (v : ArenaView). content_of v ≡ content_of c.arena) is keeps.contents))
 
     free : (j : ℕ) → j < length (with_node c.arena k (unlocked n)).nodes → (at (with_node c.arena k (unlocked n)) j).holder ≡ Some o → ⊥
@@ -193,9 +203,10 @@ module _ (c : Core) (o : ℕ) (h : StateInvariant c) (few : c.steps < 2 ^ 59) (o
 
     pub back_gives : (p q : Phase) → op.walk.phase ≡ p → w.phase ≡ q → is_done p ≡ false → IsUnready p → IsUnready q → MayFollow p q
         → w.aim ≡ op.walk.aim → IsOfKind q w.aim
-        → told_change told ≡ told_change op.outcome → Notes (shown c) (view_of op) p q told → IsKeptAt q new o after → IsUnsplit op.splits
+        → told_change told ≡ told_change op.outcome → Notes (shown c) (view_of op) p q told → IsKeptAt q new o after
+        → (ArenaFacts c.arena → IsBackAt q arena after) → IsUnsplit op.splits
         → Gives (shown c) new o (is_done q)
-    back_gives p q at_p at_q unfinished was_unready unready follows writes kind same notes kept unsplit =
+    back_gives p q at_p at_q unfinished was_unready unready follows writes kind same notes kept back unsplit =
         quiet_gives c (shown c) o refl h few op there arena c.tape.reserved w told op.prepared
         back_leaves (ap is_done at_p ∙ unfinished)
         (subst (λ (p : Phase). MayFollow p w.phase) (sym at_p) (subst (MayFollow p) (sym at_q) follows))
@@ -203,10 +214,18 @@ module _ (c : Core) (o : ℕ) (h : StateInvariant c) (few : c.steps < 2 ^ 59) (o
         (subst (λ (p : Phase). Notes (shown c) (view_of op) p w.phase told) (sym at_p) (subst (λ (q : Phase). Notes (shown c) (view_of op) p q told) (sym at_q) notes))
         (λ j inside holds. absurd (free j (subst (λ (v : ArenaView). j < length v.nodes) is inside) (subst (λ (v : ArenaView). (at v j).holder ≡ Some o) is holds)))
         (subst (λ (q : Phase). IsKeptAt q new o after) (sym at_q) kept)
+        (λ facts. subst (λ (q : Phase). IsBackAt q arena after) (sym at_q) (back facts))
         unsplit
         (let none = unready_none op p at_p was_unready in let no = unready_none after q at_q unready in omega (arith, none, no))
         (subst (Touches o c.arena) (sym is) (replaced_touches c.arena k held.there (unlocked n) o (inl held.holder)))
         (is_done q) (sym (ap is_done at_q))
+
+  -- what one remembers that goes on in this tree of the next layer
+  goes_back : (arena : ArenaView) (w : Walk) (tree : ℕ) → w ≡ walk_into op.walk tree (op.walk.layer + 1)
+      → RemembersKept op.birth arena (walk_into op.walk tree (op.walk.layer + 1)) → IsBackAt Enter arena (went op (c.steps + 1) w op.outcome op.prepared)
+  goes_back arena w tree goes h =
+      let after = went op (c.steps + 1) w op.outcome op.prepared in
+      first_aside_back op.birth arena w after.walk.first (subst (λ (x : Walk). RemembersKept op.birth arena x) (sym goes) h)
 
   -- an operation that goes on below is on its way there
   below_kept : (arena : ArenaView) (w : Walk) → w.phase ≡ Enter → IsAtEnter arena op.task.key w → op.prepared ≡ None
@@ -251,6 +270,7 @@ module _ (c : Core) (o : ℕ) (h : StateInvariant c) (few : c.steps < 2 ^ 59) (o
         (subst (λ (p : Phase). Notes (shown c) (view_of op) p w.phase op.outcome) (sym at_judge) (subst (λ (q : Phase). Notes (shown c) (view_of op) Judge q op.outcome) (sym makes) (untold, untold)))
         (λ j inside holds. subst (λ (q : Phase). HoldsAt q after j) (sym makes) (holds_here c (shown c) o refl h few op there Judge at_judge j inside holds ∙ sym place))
         (subst (λ (q : Phase). IsKeptAt q new o after) (sym makes) own)
+        (λ facts. subst (λ (q : Phase). IsBackAt q c.arena after) (sym makes) tt)
         (unsplit_at Judge at_judge refl)
         (let none = unready_none op Judge at_judge tt in let no = unready_none after MakeLayer makes tt in omega (arith, none, no))
         (λ j inside. inl refl)
@@ -264,7 +284,10 @@ module _ (c : Core) (o : ℕ) (h : StateInvariant c) (few : c.steps < 2 ^ 59) (o
         back_gives arena w op.outcome t.goes.is t.goes.keeps judging.judges.judged.held (holds_here c (shown c) o refl h few op there Judge at_judge)
         Judge Enter at_judge enters refl tt tt tt t.goes.keeps.same.aim tt refl refl
         (below_kept arena w enters t.kept judging.unprepared
-        (bound_on c (quiet c arena c.tape.reserved o (went op (c.steps + 1) w op.outcome op.prepared)) op always (quiet_grows c o arena c.tape.reserved (went op (c.steps + 1) w op.outcome op.prepared) t.goes.keeps.contents) w judging.unprepared (ap (λ (v : ArenaView). v.trees) t.goes.is) op.outcome judging.bound)) (unsplit_at Judge at_judge refl)
+        (bound_on c (quiet c arena c.tape.reserved o (went op (c.steps + 1) w op.outcome op.prepared)) op always (quiet_grows c o arena c.tape.reserved (went op (c.steps + 1) w op.outcome op.prepared) t.goes.keeps.contents) w judging.unprepared (ap (λ (v : ArenaView). v.trees) t.goes.is) op.outcome judging.bound))
+        (λ facts. goes_back arena w t.tree t.goes.walk (link_back op.birth c.arena facts arena (ap (λ (v : ArenaView). v.retired) t.goes.is) op.walk.place.node (place_at (at c.arena op.walk.place.node) t.slot) t.tree
+        judging.judges.judged.held.there judging.judges.judged.stands.live t.in_slot.in_range t.leads op.walk (op.walk.layer + 1)))
+        (unsplit_at Judge at_judge refl)
 
   module _ (at_unlock : op.walk.phase ≡ Unlock) (untold : op.outcome ≡ None) where
     leaving : IsLeaving c o op
@@ -283,7 +306,10 @@ module _ (c : Core) (o : ℕ) (h : StateInvariant c) (few : c.steps < 2 ^ 59) (o
         back_gives arena w op.outcome g.is g.keeps leaving.layering.makes.unlock.held only
         Unlock Enter at_unlock enters refl tt tt tt g.keeps.same.aim tt refl refl
         (below_kept arena w enters (t.kept op.task.key k) leaving.layering.unprepared
-        (subst (λ (told : Option Outcome). IsBound told (quiet c arena c.tape.reserved o (went op (c.steps + 1) w op.outcome op.prepared)) (went op (c.steps + 1) w op.outcome op.prepared)) (sym untold) leaving.layering.light)) leaving.unsplit
+        (subst (λ (told : Option Outcome). IsBound told (quiet c arena c.tape.reserved o (went op (c.steps + 1) w op.outcome op.prepared)) (went op (c.steps + 1) w op.outcome op.prepared)) (sym untold) leaving.layering.light))
+        (λ facts. goes_back arena w k.tree g.walk (link_back op.birth c.arena facts arena (ap (λ (v : ArenaView). v.retired) g.is) op.walk.place.node (walk_place c.arena op.walk) k.tree
+        k.unlock.held.there k.live k.in_range k.link op.walk (op.walk.layer + 1)))
+        leaving.unsplit
 
   module _ (at_make : op.walk.phase ≡ MakeLayer) where
     making : IsLayering c o op MakeLayer
@@ -308,7 +334,7 @@ module _ (c : Core) (o : ℕ) (h : StateInvariant c) (few : c.steps < 2 ^ 59) (o
           unprepared = making.unprepared;
         } in
         back_gives arena w told t.is t.keeps making.makes.holds.judged.held (holds_here c (shown c) o refl h few op there MakeLayer at_make)
-        MakeLayer Done at_make (ap (λ (x : Walk). x.phase) t.walk) refl tt tt tt t.keeps.same.aim tt (sym (ap told_change making.untold)) refl own (unsplit_at MakeLayer at_make refl)
+        MakeLayer Done at_make (ap (λ (x : Walk). x.phase) t.walk) refl tt tt tt t.keeps.same.aim tt (sym (ap told_change making.untold)) refl own (λ facts. tt) (unsplit_at MakeLayer at_make refl)
 
   -- a layer comes one step nearer
   module _ (arena : ArenaView) (w : Walk) (layer : IsLayerPhase op.walk.phase) (from : IsLayerFrom op.walk.phase o op.task.key c.arena arena op.walk w) where
@@ -338,6 +364,7 @@ module _ (c : Core) (o : ℕ) (h : StateInvariant c) (few : c.steps < 2 ^ 59) (o
       writes = λ e there. there;
       accounts = λ t there. there;
       floor = refl;
+      retires = (retires_same c arena h.late t.retired).after;
     }
 
     build_tape : IsTape building
@@ -412,6 +439,12 @@ module _ (c : Core) (o : ℕ) (h : StateInvariant c) (few : c.steps < 2 ^ 59) (o
           reserved =
               let none = unready_none op op.walk.phase refl (layer_unready op.walk.phase layer) in let no = unready_none built w.phase refl (made_unready w.phase leads) in omega (arith, none, no);
           deleted = t.deleted h.deleted;
+          late = (retires_same c arena h.late t.retired).upto;
+          remembered = own_back c o op h there arena t.guarantee (retires_same c arena h.late t.retired) t.takes built (record {
+            birth = refl;
+            walk = λ facts. made_back w.phase leads arena built;
+            cleans = λ facts. (h.remembered o op there).cleans;
+          });
         })
         (record {
           logs = refl;

@@ -3,6 +3,7 @@ pub mod Granted
 pub mod Lawful
 pub mod ScanKept
 pub mod Rely
+pub mod Given
 pub mod Answered
 pub mod Growing
 pub mod Writing
@@ -13,10 +14,12 @@ pub mod Quiet
 pub mod Placing
 pub mod Moved
 pub mod Bound
-pub mod Decides
 pub mod Replies
 pub mod Still
 pub mod Descents
+pub mod KeptBack
+pub mod Learning
+pub mod Spares
 pub mod Reading
 pub mod Confirming
 pub mod LiveTrees

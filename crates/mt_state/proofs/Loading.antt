@@ -20,11 +20,13 @@ use Rattle.mt_operation.specs.{Tasks.ask, Operations.view_of, Phases.{is_done, M
 use Rattle.mt_descent.specs.{Pasts.Past, KeptWalks.{IsInSlot, walk_place, Had, IsOfKey, IsAtLoad as WalksLoad, KeptAt, IsKept}, WalkMoves.{Continues, Loads, TakesOut}}
 use Rattle.mt_state.specs.{Views.{StateView, Core, shown, past_of, map_of}, Steps.told_change, Notes.{Notes, Says, columns_asked, ShowsRow, ShowsNone}}
 use Rattle.mt_state.specs.{Ways.ShowsTaken, KeptOperations.{IsOpenOperation, TellsTaken, IsAtLoad, IsAtConfirm, HasAnswer, IsKeptAt}}
-use Rattle.mt_state.specs.Invariant.{IsStampOf, StateInvariant}
+use Rattle.mt_state.specs.{Invariant.{IsStampOf, StateInvariant}, KeptBack.IsBackAt}
 use Rattle.mt_state.proofs.{Replies.get_asks, LiveTrees.slot_key, Telling.Gives, Moved.{went, first_begun, first_upto}}
 use Rattle.mt_border.specs.Slots.{held_in}
 use Rattle.mt_state.proofs.{Stamps.{stamp_of, row_of, row_written}, Still.{IsFree, IsUnready, still, still_gives}, Reading.{key_of_owner, walk_same}, Confirming.get_of, Bound.get_untold}
 use Rattle.mt_state.proofs.Lawful.{get_no_scan, stopped_free}
+use Rattle.mt_state.proofs.KeptBack.{look_back}
+use Rattle.mt_descent.proofs.Learning.{learns_load}
 use Rattle.mt_walks.specs.Walked.{IsWithin}
 use Rattle.mt_border.specs.Held as helds
 use Rattle.mt_descent.proofs.Rely as descent
@@ -86,7 +88,8 @@ module _ (c : Core) (now : StateView) (o : ℕ) (is : shown c ≡ now) (h : Stat
       (subst IsUnready (sym done) tt) same.aim (subst (λ (p : Phase). IsOfKind p w.aim) (sym done) tt)
       (sym (ap told_change load_untold))
       (subst (λ (p : Phase). Notes (shown c) (view_of op) p w.phase told) (sym at_load) (subst (λ (p : Phase). Notes (shown c) (view_of op) Load p told) (sym done) refl))
-      (subst (λ (p : Phase). IsKeptAt p new o after) (sym done) own) true (sym (ap is_done done))
+      (subst (λ (p : Phase). IsKeptAt p new o after) (sym done) own)
+      (λ facts. subst (λ (p : Phase). IsBackAt p c.arena after) (sym done) tt) true (sym (ap is_done done))
 
   module _ (w : Walk) (row : Option Columns) (told : Option Outcome) (loads : Loads (at c.arena op.walk.place.node) op.walk w row) (shows : ShowsTaken op row w told) (same : Continues op.walk w)
       (kept : (past : Past) → WalksLoad c.arena past op.task.key op.walk → IsKept c.arena past op.task.key row w) where
@@ -251,4 +254,7 @@ module _ (c : Core) (now : StateView) (o : ℕ) (is : shown c ≡ now) (h : Stat
         (subst IsUnready (sym confirms) tt) same.aim (subst (λ (p : Phase). IsOfKind p w.aim) (sym confirms) (same.aim ∙ looks_on))
         (no_change w.taken loads.takes ∙ sym (ap told_change load_untold))
         (subst (λ (p : Phase). Notes (shown c) (view_of op) p w.phase told) (sym at_load) (subst (λ (p : Phase). Notes (shown c) (view_of op) Load p told) (sym confirms) (noted w.taken loads.takes)))
-        (subst (λ (p : Phase). IsKeptAt p new o after) (sym confirms) own) false (sym (ap is_done confirms))
+        (subst (λ (p : Phase). IsKeptAt p new o after) (sym confirms) own)
+        (λ facts. subst (λ (p : Phase). IsBackAt p c.arena after) (sym confirms) (look_back op.birth c.arena op.walk w after.walk.first facts
+        (learns_load c.arena op.walk (past_of c) op.task.key at_load walks_load w row loads) (subst (λ (p : Phase). IsBackAt p c.arena op) at_load (h.remembered o op there).walk)))
+        false (sym (ap is_done confirms))

@@ -19,12 +19,16 @@ use Rattle.mt_state.specs.{Views.{StateView, Core, shown, past_of, quota_of, quo
 use Rattle.mt_state.specs.Promises.{IsAnswer, Touches}
 use Rattle.mt_state.specs.KeptOperations.{IsOpenOperation, IsOnItsWay, IsJudging, IsPublishing, MayUnlock, IsUnlocking, HasAnswer, IsKeptAt, MayUnlockUnsplit}
 use Rattle.mt_state.specs.Invariant.{IsCountedUpTo, HoldsLast, HoldsAt, StateInvariant, one_if_prepared, prepared_count}
-use Rattle.mt_state.proofs.{Decides.outdated_or_not, Descents.{Leads, first_aside, changed_leads}, Rely.answer_stays, Replies.put_full}
+use Rattle.mt_descent.proofs.Decides.{outdated_or_not}
+use Rattle.mt_state.proofs.{Descents.{Leads, first_aside, changed_leads}, Rely.answer_stays, Replies.put_full}
 use Rattle.mt_state.proofs.{Telling.{Gives, map_now}, Quiet.LeavesPairs, Moved.{went, first_same, first_begun, first_upto}}
 use Rattle.mt_state.proofs.Still.{IsFree, still, still_gives, leaves_all, unready_none}
 use Rattle.mt_state.proofs.Reading.{kept_on_way, on_way_unready, on_way_open, walk_same, keeps_on}
 use Rattle.mt_state.proofs.OneNode.{stepped, returning_told, can_unlock, counted_unlocked, replaced_at, replaced_holds, replaced_touches, replaced_leaves, quiet_grows, holds_here, quiet_gives, border_alone}
 use Rattle.mt_state.proofs.{Bound.{bound_on, put_no_remove}, Lawful.{lawful_more, stopped_free, scan_free, put_no_scan}}
+use Rattle.mt_state.{specs.KeptBack.IsBackAt, proofs.KeptBack.{on_walk, look_back}}
+use Rattle.mt_descent.proofs.Learning.{learns_lock}
+use Rattle.mt_arena.proofs.Settled.{not_true}
 use Rattle.mt_remove.specs.Writes.{is_remove}
 use Rattle.mt_walks.specs.Walked.{IsWithin}
 use Rattle.mt_operation.specs.declared.walk.Aim.TheVariants as aims
@@ -68,7 +72,7 @@ module _ (c : Core) (now : StateView) (o : ℕ) (is : shown c ≡ now) (h : Stat
 
   back_leaves : k < length c.arena.nodes → Guarantee o c.arena given_back → content_of given_back ≡ content_of c.arena → LeavesPairs c o given_back
   back_leaves within guarantee contents =
-      replaced_leaves c o h k within (unlocked n) refl refl refl (counted_unlocked n c.steps (counted_here within) (unlocked n) refl) guarantee contents
+      replaced_leaves c o h k within (unlocked n) refl refl refl (counted_unlocked n c.steps (counted_here within) (unlocked n) refl) (λ e. absurd (cc)) guarantee contents
 
   -- nothing is held then, where it held no other node
   back_free : (within : k < length c.arena.nodes) → HoldsOnly c.arena o k → (j : ℕ) → j < length given_back.nodes → (at given_back j).holder ≡ Some o → ⊥
@@ -118,18 +122,21 @@ module _ (c : Core) (now : StateView) (o : ℕ) (is : shown c ≡ now) (h : Stat
           (subst (λ (p : Phase). MayFollow p w.phase) (sym at_lock) leads.1) (on_way_unready w.phase leads.0) t.keeps.same.aim leads.2 refl
           (subst (λ (p : Phase). Notes (shown c) (view_of op) p w.phase op.outcome) (sym at_lock)
           (keeps_on w.phase leads.0 w.aim leads.2 op.outcome (λ reads. absurd (reads (t.keeps.same.aim ∙ locks_on)))))
-          (kept_on_way w.phase leads.0 new o after on) false (sym (on_way_open w.phase leads.0)))
+          (kept_on_way w.phase leads.0 new o after on)
+          (λ facts. on_walk w.phase leads.0 c.arena after (look_back op.birth c.arena op.walk w after.walk.first facts
+          (learns_lock o c.arena arena op.walk w at_lock t.locks) (subst (λ (p : Phase). IsBackAt p c.arena op) at_lock (h.remembered o op there).walk)))
+          false (sym (on_way_open w.phase leads.0)))
 
       -- the operation holds its node
-      lock_taken : arena ≡ with_node c.arena k (locked n o) → w ≡ record op.walk { phase = Judge } → Gives now (locked_core arena) o false
-      lock_taken takes goes =
+      lock_taken : n.version.deleted ≡ false → arena ≡ with_node c.arena k (locked n o) → w ≡ record op.walk { phase = Judge } → Gives now (locked_core arena) o false
+      lock_taken live takes goes =
           let after = went op (c.steps + 1) w op.outcome op.prepared in
           let within = at_border.covers.remembered.there in
           let judges : w.phase ≡ Judge = ap (λ (x : Walk). x.phase) goes in
           let place : w.place.node ≡ k = ap (λ (x : Walk). x.place.node) goes in
           let whole = walk_same c op always w begun_lock t.keeps.same.first in
           let counted : IsCountedUpTo (c.steps + 1) (locked n o) = let was = counted_here within in record { inserts = omega (arith, was.inserts); splits = omega (arith, was.splits) } in
-          let leaves : LeavesPairs c o (with_node c.arena k (locked n o)) = replaced_leaves c o h k within (locked n o) refl refl refl counted
+          let leaves : LeavesPairs c o (with_node c.arena k (locked n o)) = replaced_leaves c o h k within (locked n o) refl refl refl counted (λ held. inr live)
           (subst (Guarantee o c.arena) takes t.keeps.guarantee) (subst (λ (v : ArenaView). content_of v ≡ content_of c.arena) takes t.keeps.contents) in
           let own : IsJudging (locked_core arena) o after = record {
             judges =
@@ -144,6 +151,7 @@ module _ (c : Core) (now : StateView) (o : ℕ) (is : shown c ≡ now) (h : Stat
           (subst (λ (p : Phase). Notes (shown c) (view_of op) p w.phase op.outcome) (sym at_lock) (subst (λ (p : Phase). Notes (shown c) (view_of op) Lock p op.outcome) (sym judges) refl))
           (λ j inside holds. subst (λ (p : Phase). HoldsAt p after j) (sym judges) (locked_here within j (subst (λ (v : ArenaView). j < length v.nodes) takes inside) (subst (λ (v : ArenaView). (at v j).holder ≡ Some o) takes holds) ∙ sym place))
           (subst (λ (p : Phase). IsKeptAt p (locked_core arena) o after) (sym judges) own)
+          (λ facts. subst (λ (p : Phase). IsBackAt p arena after) (sym judges) tt)
           (unsplit_at Lock at_lock refl)
           (let none = unready_none op Lock at_lock tt in let no = unready_none after Judge judges tt in omega (arith, none, no))
           (subst (Touches o c.arena) (sym takes) (replaced_touches c.arena k within (locked n o) o (inr refl)))
@@ -160,7 +168,7 @@ module _ (c : Core) (now : StateView) (o : ℕ) (is : shown c ≡ now) (h : Stat
       pub lock_done : Gives now (stepped c arena c.tape c.accounts o (went op (c.steps + 1) w op.outcome op.prepared)) o false
       lock_done = elim (outdated_or_not n op.walk.place.seen) [
         | inl outdated ↦ lock_left (t.locks.leaves outdated) (t.locks.goes_on outdated)
-        | inr fresh ↦ lock_taken (t.locks.takes fresh) (t.locks.judges fresh)
+        | inr fresh ↦ lock_taken (not_true n.version.deleted (λ gone. fresh (inl gone))) (t.locks.takes fresh) (t.locks.judges fresh)
       ]
 
   module _ (at_unlock : op.walk.phase ≡ Unlock) (puts : is_remove (ask op.task) ≡ false) (told : op.outcome ≢ None) (none : op.splits.halves.items ≡ []) where
@@ -212,6 +220,7 @@ module _ (c : Core) (now : StateView) (o : ℕ) (is : shown c ≡ now) (h : Stat
         (subst (λ (p : Phase). Notes (shown c) (view_of op) p w.phase op.outcome) (sym at_unlock) (subst (λ (p : Phase). Notes (shown c) (view_of op) Unlock p op.outcome) (sym ends) refl))
         (λ j inside holds. absurd (back_free within holds_only j (subst (λ (v : ArenaView). j < length v.nodes) t.is inside) (subst (λ (v : ArenaView). (at v j).holder ≡ Some o) t.is holds)))
         (subst (λ (p : Phase). IsKeptAt p new o after) (sym ends) own)
+        (λ facts. subst (λ (p : Phase). IsBackAt p arena after) (sym ends) tt)
         unlocks.1
         (let none = unready_none op Unlock at_unlock tt in let no = unready_none after Done ends tt in omega (arith, none, no))
         (subst (Touches o c.arena) (sym t.is) (replaced_touches c.arena k within (unlocked n) o (inl unlocks.0.held.holder)))
@@ -259,6 +268,7 @@ module _ (c : Core) (now : StateView) (o : ℕ) (is : shown c ≡ now) (h : Stat
         (subst (λ (p : Phase). Notes (shown c) (view_of op) p w.phase op.outcome) (sym at_judge) (notes w.phase to))
         (λ j inside holds. holds_on w.phase to j (holds_here c now o is h room op there Judge at_judge j inside holds ∙ sym place))
         (own w.phase to (subst (λ (x : Walk). KeptReady w.phase c.arena o op.task prepared x) (sym whole) t.kept))
+        (λ facts. back_at w.phase to)
         (unsplit_at Judge at_judge refl)
         (let none = unready_none op Judge at_judge tt in let one = ready_one after w.phase refl (ready w.phase to) in omega (arith, none, one))
         (λ j inside. inl refl)
@@ -321,6 +331,12 @@ module _ (c : Core) (now : StateView) (o : ℕ) (is : shown c ≡ now) (h : Stat
         own SplitStart t starts = record { prepared = prepared; has = refl; starts = starts; put = put; untold = untold }
         own _ t kept = absurd t
 
+        back_at : (p : Phase) → IsToPlace p → IsBackAt p c.arena after
+        back_at Store t = tt
+        back_at Fill t = tt
+        back_at SplitStart t = tt
+        back_at _ t = absurd t
+
     -- a put that memory stops: its lock is given back in the same step
     pub judge_refused : op.outcome ≡ None → (arena : ArenaView) (tape : Kept) (w : Walk) → tape ≡ c.tape → IsUnlock o c.arena arena op.walk w
         → Gives now (stepped c arena tape c.accounts o (went op (c.steps + 1) w (Some (record { reply = NoMemory; at = c.steps + 1 })) op.prepared)) o true
@@ -351,6 +367,7 @@ module _ (c : Core) (now : StateView) (o : ℕ) (is : shown c ≡ now) (h : Stat
         (subst (λ (p : Phase). Notes (shown c) (view_of op) p w.phase told) (sym at_judge) (subst (λ (p : Phase). Notes (shown c) (view_of op) Judge p told) (sym ends) (subst (λ had. EndsJudging had (shown c) (view_of op) told) (sym untold) (inl refl))))
         (λ j inside holds. absurd (back_free within (holds_here c now o is h room op there Judge at_judge) j (subst (λ (v : ArenaView). j < length v.nodes) t.is inside) (subst (λ (v : ArenaView). (at v j).holder ≡ Some o) t.is holds)))
         (subst (λ (p : Phase). IsKeptAt p new o after) (sym ends) own)
+        (λ facts. subst (λ (p : Phase). IsBackAt p arena after) (sym ends) tt)
         (unsplit_at Judge at_judge refl)
         (let none = unready_none op Judge at_judge tt in let no = unready_none after Done ends tt in omega (arith, none, no))
         (subst (Touches o c.arena) (sym t.is) (replaced_touches c.arena k within (unlocked n) o (inl judging.judges.judged.held.holder)))
@@ -421,6 +438,7 @@ module _ (c : Core) (now : StateView) (o : ℕ) (is : shown c ≡ now) (h : Stat
         (subst (λ (p : Phase). Notes (shown c) (view_of op) p w.phase told) (sym at_publish) (subst (λ (p : Phase). Notes (shown c) (view_of op) Publish p told) (sym ends) (inr refl)))
         (λ j inside holds. subst (λ (p : Phase). HoldsAt p after j) (sym ends) (subst (λ (halves : List Halves). HoldsLast halves after j) (sym unsplit.halves) (inl (holds_here c now o is h room op there Publish at_publish j inside holds ∙ sym place))))
         (subst (λ (p : Phase). IsKeptAt p new o after) (sym ends) own)
+        (λ facts. subst (λ (p : Phase). IsBackAt p c.arena after) (sym ends) tt)
         unsplit
         (let one = ready_one op Publish at_publish refl in let no = unready_none after Unlock ends tt in let some = room_for c h o op Publish there at_publish refl in omega (arith, one, no, some))
         (λ j inside. inl refl)

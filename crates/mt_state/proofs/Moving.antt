@@ -7,9 +7,10 @@ use Rattle.mt_operation.specs.{Phases.is_done, Tables.{Table, op_at as operation
 use Rattle.mt_operation.proofs.Tables.{set_is, set_here, set_there}
 use Rattle.mt_descent.specs.Pasts.{ExtendsPast}
 use Rattle.mt_state.specs.{Views.{Core, shown, past_of}, KeptOperations.{HasScannedFor, KeepsScan, IsScanKept, IsKeptOf}}
-use Rattle.mt_state.specs.{Invariant.{AreHolders, AreScansKept, StateInvariant, one_if_prepared, prepared_count, made_count}, Moves.{IsMove, IsTold}}
+use Rattle.mt_state.specs.{Invariant.{AreHolders, AreKeptBack, AreScansKept, StateInvariant, one_if_prepared, prepared_count, made_count}, Moves.{IsMove, IsTold}}
+use Rattle.mt_state.specs.KeptBack.{ArenaFacts, IsKeptBack}
 use Rattle.mt_state.proofs.{ScanKept.{scanned_for_stays, fresh_scan}, Moved.first_is, Shown.shown_table, Answered.made_set}
-use Rattle.mt_state.proofs.{Stamps.stamped_now, Writing.{quotas_stay, written_stays}}
+use Rattle.mt_state.proofs.{Stamps.stamped_now, Writing.{quotas_stay, written_stays}, KeptBack.kept_back_stays}
 use Rattle.mt_arena.specs.Arena.{IsArena}
 use Rattle.mt_state.proofs.Rely as rely
 
@@ -20,7 +21,11 @@ counted_set [] o before after e = absurd (cc)
 counted_set (x ∷ table) zero before after e = let is = ap one_if_prepared e in omega (arith, is)
 counted_set (x ∷ table) (suc o) before after e = let rest = counted_set table o before after e in omega (arith, rest)
 
-module _ (old new : Core) (o : ℕ) (before after : Operation) (h : StateInvariant old) (m : IsMove old new o before after) (t : IsTold old new o before after) (few : old.steps < 2 ^ 59) (arena : IsArena new.arena.nodes new.arena.trees) where
+module _ (old new : Core) (o : ℕ) (before after : Operation) (h : StateInvariant old) (m : IsMove old new o before after) (t : IsTold old new o before after) (few : old.steps < 2 ^ 59)
+    (were : ArenaFacts old.arena) (are : ArenaFacts new.arena) where
+  arena : IsArena new.arena.nodes new.arena.trees
+  arena = are.arena
+
   -- the operation of an id is that of the step, or was there before
   abbrev Was : ℕ → Operation → Type 0
   Was q op = ((q ≡ o) × (after ≡ op)) ⊎ ((q ≢ o) × (operation_at old.table q ≡ Some op))
@@ -74,6 +79,12 @@ module _ (old new : Core) (o : ℕ) (before after : Operation) (h : StateInvaria
     | inr (other, there) ↦ rely.scan_stays old new o q arena (stamped_now new m.stamps arena) m.leaves other (omega (arith, m.number)) op (h.scans q op there)
   ]
 
+  remembered_stays : AreKeptBack new
+  remembered_stays q op is = elim (was q op is) [
+    | inl (same, it) ↦ subst (λ (w : Operation). IsKeptBack new.arena q w) it (subst (λ k. IsKeptBack new.arena k after) (sym same) (m.remembered were are))
+    | inr (other, there) ↦ kept_back_stays old new o q are m.leaves other op (h.ops q op there) (h.remembered q op there)
+  ]
+
   holders_stay : AreHolders new
   holders_stay k q within is = elim (cases_eq q o) [
     | inl same ↦ (after, ap (operation_at new.table) same ∙ here_now, m.held k within (is ∙ ap Some same))
@@ -106,6 +117,8 @@ module _ (old new : Core) (o : ℕ) (before after : Operation) (h : StateInvaria
     reserved = reserved_stays;
     answered = answered_stays;
     deleted = m.deleted;
+    late = m.late;
+    remembered = remembered_stays;
     few = omega (arith, m.number);
     quotas = quotas_stay old new o before after h m;
     written = written_stays old new o before after h m t;

@@ -8,15 +8,16 @@ use Rattle.mt_tape.specs.{Tapes.Kept, Histories.contents_at}
 use Rattle.mt_arena.specs.{declared.tree.Tree.Tree, declared.tree.Standing.Standing, declared.tree.Standing.TheVariants.{Made, Live, Dead}}
 use Rattle.mt_arena.specs.{NodeView.{NodeView, node_at}, Forests.tree_at, Contents.{counts, is_live}, Arena.{ArenaView, content_of, Guarantee}}
 use Rattle.mt_arena.specs.Accesses.{at, with_node}
+use Rattle.mt_arena.specs.Given.{IsTreeOutFrom}
 use Rattle.mt_arena.proofs.Pairs.{here, there}
 use Rattle.mt_operation.specs.{declared.phase.Phase.Phase, declared.walk.Walk.Walk, declared.outcome.Outcome.Outcome, declared.prepared.Prepared.Prepared}
 use Rattle.mt_operation.specs.{declared.splits.Splits.Splits, declared.operation.Operation.Operation, Operations.{view_of, IsUnsplit, no_removal}}
 use Rattle.mt_operation.specs.{Phases.{is_done, MayFollow, IsOfKind, has_splits}, Tables.{op_at as operation_at}, declared.removal.Removal.Removal, Tasks.ask}
 use Rattle.mt_state.specs.{Views.{StateView, Core, shown, KeepsPast}, Steps.change_in, Notes.Notes, Promises.Touches}
-use Rattle.mt_state.specs.KeptOperations.{IsUnlocking, IsReturning, IsKeptAt, IsKeptOf}
+use Rattle.mt_state.specs.{KeptOperations.{IsUnlocking, IsReturning, IsKeptAt, IsKeptOf}, KeptBack.{ArenaFacts, IsBackAt, TakesLive}}
 use Rattle.mt_state.specs.Invariant.{IsCountedUpTo, HoldsAt, StateInvariant, one_if_prepared, DeletedAreEmpty}
 use Rattle.mt_state.proofs.{Quiet.{HasPairsOf, quiet, LeavesPairs, quiet_move, is_quiet, same_slots}, Telling.{Gives, gives}}
-use Rattle.mt_state.proofs.{Moved.{went, went_with, went_on, open_moved_on, has_moved_on}, Still.floor_made, Growing.makes_set}
+use Rattle.mt_state.proofs.{Moved.{went, went_with, went_on, open_moved_on, has_moved_on}, Still.floor_made, Growing.{makes_set, retires_same}}
 use Rattle.mt_remove.specs.{KeptRemovals.{IsAmong as IsOfRemoval}, Writes.is_remove}
 
 -- what is left of a state by a step of operation o: another arena, tape, accounts, and the operation after it
@@ -114,6 +115,14 @@ module _ (v : ArenaView) (k : ℕ) (within : k < length v.nodes) (n : NodeView) 
     | inr other ↦ inr (r.0, ap (λ (m : NodeView). m.holder) (sym other.1) ∙ holds)
   ]
 
+  -- so where it held that one, or takes it live
+  pub replaced_takes : (o : ℕ) → (n.holder ≡ Some o → ((at v k).holder ≡ Some o) ⊎ ((at v k).version.deleted ≡ false)) → TakesLive o v (with_node v k n)
+  replaced_takes o takes j inside holds = elim (replaced_holds o j inside holds) [
+    | inl (same, held) ↦
+        inl ((replaced_at j inside).0, subst (λ i. ((at v i).holder ≡ Some o) ⊎ ((at v i).version.deleted ≡ false)) (sym same) (takes held))
+    | inr (was, held) ↦ inl (was, inl held)
+  ]
+
   -- those that were taken out have no slots
   pub replaced_deleted : DeletedAreEmpty v → (n.version.deleted ≡ true → n.slots ≡ []) → DeletedAreEmpty (with_node v k n)
   replaced_deleted all empty = replaced_all (λ (m : NodeView). m.version.deleted ≡ true → m.slots ≡ []) empty all
@@ -144,13 +153,16 @@ module _ (c : Core) (o : ℕ) (h : StateInvariant c) (k : ℕ) (within : k < len
 
   pub replaced_leaves : n.slots ≡ (at c.arena k).slots → n.tree ≡ (at c.arena k).tree → n.version.deleted ≡ (at c.arena k).version.deleted
       → IsCountedUpTo (c.steps + 1) n
+      → (n.holder ≡ Some o → ((at c.arena k).holder ≡ Some o) ⊎ ((at c.arena k).version.deleted ≡ false))
       → Guarantee o c.arena (with_node c.arena k n) → content_of (with_node c.arena k n) ≡ content_of c.arena → LeavesPairs c o (with_node c.arena k n)
-  replaced_leaves slots tree deleted counted guarantee contents = record {
+  replaced_leaves slots tree deleted counted takes guarantee contents = record {
     guarantee = guarantee;
     contents = contents;
     stood = λ j inside is_counted. inl (stood j inside is_counted);
     versions = replaced_versions counted;
     deleted = replaced_deleted c.arena k within n h.deleted (λ gone. slots ∙ h.deleted k within (sym deleted ∙ gone));
+    taken_out = retires_same c (with_node c.arena k n) h.late refl;
+    takes = replaced_takes c.arena k within n o takes;
     makes = makes_set c.arena k n;
   }
     where
@@ -207,11 +219,13 @@ module _ (c : Core) (now : StateView) (o : ℕ) (is : shown c ≡ now) (h : Stat
       → Notes (shown c) (view_of op) op.walk.phase w.phase told
       → ((k : ℕ) → k < length arena.nodes → (at arena k).holder ≡ Some o → HoldsAt w.phase (went_on op (c.steps + 1) w told prepared s r) k)
       → IsKeptAt w.phase (quiet c arena reserved o (went_on op (c.steps + 1) w told prepared s r)) o (went_on op (c.steps + 1) w told prepared s r)
+      → (ArenaFacts c.arena → IsBackAt w.phase arena (went_on op (c.steps + 1) w told prepared s r))
+      → (ArenaFacts c.arena → (t : ℕ) → r.cleans ≡ Some t → IsTreeOutFrom (op.birth + 1) c.arena.retired t)
       → (has_splits w.phase ≡ false → IsUnsplit s)
       → reserved + one_if_prepared (Some op) ≡ c.tape.reserved + one_if_prepared (Some (went_on op (c.steps + 1) w told prepared s r))
       → Touches o c.arena arena → (done : Bool) → done ≡ is_done w.phase
       → Gives now (quiet c arena reserved o (went_on op (c.steps + 1) w told prepared s r)) o done
-  quiet_gives_on arena reserved w told prepared s r leaves light unfinished follows writes kind same notes held kept unsplit reserves touches done ends =
+  quiet_gives_on arena reserved w told prepared s r leaves light unfinished follows writes kind same notes held kept back cleans unsplit reserves touches done ends =
       let after = went_on op (c.steps + 1) w told prepared s r in
       let new = quiet c arena reserved o after in
       let k = h.ops o op there in
@@ -238,6 +252,7 @@ module _ (c : Core) (now : StateView) (o : ℕ) (is : shown c ≡ now) (h : Stat
         scan = inl (refl, refl);
         held = held;
         kept = own;
+        back = record { birth = refl; walk = back; cleans = cleans };
         reserved = reserves;
       }))
       (record {
@@ -257,11 +272,14 @@ module _ (c : Core) (now : StateView) (o : ℕ) (is : shown c ≡ now) (h : Stat
       → Notes (shown c) (view_of op) op.walk.phase w.phase told
       → ((k : ℕ) → k < length arena.nodes → (at arena k).holder ≡ Some o → HoldsAt w.phase (went_with op (c.steps + 1) w told prepared s) k)
       → IsKeptAt w.phase (quiet c arena reserved o (went_with op (c.steps + 1) w told prepared s)) o (went_with op (c.steps + 1) w told prepared s)
+      → (ArenaFacts c.arena → IsBackAt w.phase arena (went_with op (c.steps + 1) w told prepared s))
       → (has_splits w.phase ≡ false → IsUnsplit s)
       → reserved + one_if_prepared (Some op) ≡ c.tape.reserved + one_if_prepared (Some (went_with op (c.steps + 1) w told prepared s))
       → Touches o c.arena arena → (done : Bool) → done ≡ is_done w.phase
       → Gives now (quiet c arena reserved o (went_with op (c.steps + 1) w told prepared s)) o done
-  quiet_gives_with arena reserved w told prepared s leaves = quiet_gives_on arena reserved w told prepared s op.removal leaves (h.ops o op there).always.light
+  quiet_gives_with arena reserved w told prepared s leaves unfinished follows writes kind same notes held kept back =
+      quiet_gives_on arena reserved w told prepared s op.removal leaves (h.ops o op there).always.light unfinished follows writes kind same notes held kept back
+      (λ facts. (h.remembered o op there).cleans)
 
   -- one that leaves the splits, of an operation that has none
   pub quiet_gives : (arena : ArenaView) (reserved : ℕ) (w : Walk) (told : Option Outcome) (prepared : Option Prepared) → LeavesPairs c o arena
@@ -270,8 +288,9 @@ module _ (c : Core) (now : StateView) (o : ℕ) (is : shown c ≡ now) (h : Stat
       → Notes (shown c) (view_of op) op.walk.phase w.phase told
       → ((k : ℕ) → k < length arena.nodes → (at arena k).holder ≡ Some o → HoldsAt w.phase (went op (c.steps + 1) w told prepared) k)
       → IsKeptAt w.phase (quiet c arena reserved o (went op (c.steps + 1) w told prepared)) o (went op (c.steps + 1) w told prepared)
+      → (ArenaFacts c.arena → IsBackAt w.phase arena (went op (c.steps + 1) w told prepared))
       → IsUnsplit op.splits
       → reserved + one_if_prepared (Some op) ≡ c.tape.reserved + one_if_prepared (Some (went op (c.steps + 1) w told prepared))
       → Touches o c.arena arena → (done : Bool) → done ≡ is_done w.phase → Gives now (quiet c arena reserved o (went op (c.steps + 1) w told prepared)) o done
-  quiet_gives arena reserved w told prepared leaves unfinished follows writes kind same notes held kept unsplit =
-      quiet_gives_with arena reserved w told prepared op.splits leaves unfinished follows writes kind same notes held kept (λ none. unsplit)
+  quiet_gives arena reserved w told prepared leaves unfinished follows writes kind same notes held kept back unsplit =
+      quiet_gives_with arena reserved w told prepared op.splits leaves unfinished follows writes kind same notes held kept back (λ none. unsplit)

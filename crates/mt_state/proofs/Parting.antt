@@ -23,13 +23,15 @@ use Rattle.mt_held.specs.Taping.{pushed, released}
 use Rattle.mt_state.specs.{Views.{Core, shown, map_of, quota_of}, Steps.told_change, Notes.{IsJudged, Notes}, Promises.Touches}
 use Rattle.mt_state.specs.KeptOperations.{IsOpenOperation, IsSplitMoving, HasAnswer, IsKeptAt, IsPlacedOnce, IsKeptOf}
 use Rattle.mt_state.specs.{Invariant.{IsStampOf, IsCountedUpTo, StateInvariant, DeletedAreEmpty}, Moves.IsMove, Writes.splitting, Growth.MakesFew}
-use Rattle.mt_state.proofs.{Replies.{put_full, put_new}, Growing.makes_same, Telling.{Gives, gives, logs_later, map_now}}
+use Rattle.mt_state.proofs.{Replies.{put_full, put_new}, Growing.{makes_same, retires_same}, Telling.{Gives, gives, logs_later, map_now}}
 use Rattle.mt_state.proofs.{Moved.{went_with, first_begun, first_upto, open_moved_with, has_moved}, Still.{floor_made, unready_none}}
 use Rattle.mt_state.proofs.{OneNode.{same_counts, quiet_grows, holds_here}, Locking.{ready_one, room_for, no_room_left}}
 use Rattle.mt_state.proofs.Placing.{Counts, next_write, placed, PlacesPair, untouched_beside, untouched_now, placed_move, placed_right, is_placing, placed_once}
 use Rattle.mt_state.proofs.{Putting.{stamped_apart, room_left, beside_missing, counted_new}, Bound.put_no_remove}
-use Rattle.mt_state.proofs.SplitSteps.{HasHalves, halves_kind, halves_open, halves_unready, halves_split, halves_held, halves_kept}
+use Rattle.mt_state.proofs.SplitSteps.{HasHalves, halves_back, halves_kind, halves_open, halves_unready, halves_split, halves_held, halves_kept}
 use Rattle.mt_state.proofs.Lawful.{scan_free, put_no_scan}
+use Rattle.mt_state.{specs.KeptBack.{IsBackAt, Retires, TakesLive}, proofs.KeptBack.{BringsBack, own_back}}
+use Rattle.mt_operation.specs.declared.removal.Removal.{Removal}
 use Rattle.mt_walks.specs.Walked.{IsWithin}
 
 -- once the keys are parted the halves are there, and the quota was judged
@@ -123,6 +125,13 @@ module _ (c : Core) (o : ℕ) (h : StateInvariant c) (few : c.steps < 2 ^ 59) (o
         ]
       ]
 
+  parted_lists : Retires c.steps c.arena.retired arena.retired
+  parted_lists = retires_same c arena h.late (ap (λ (v : ArenaView). v.retired) p.nodes_alone)
+
+  -- no lock is taken
+  parted_takes : TakesLive o c.arena arena
+  parted_takes k inside holds = inl (omega (arith, inside, size), inl (sym (like k).holder ∙ holds))
+
   parted_touches : Touches o c.arena arena
   parted_touches k inside = elim (cases_eq k l) [
     | inl e ↦ inr (inl (inl (subst (λ i. (at c.arena i).holder ≡ Some o) (sym e) half.held.holder)))
@@ -194,6 +203,14 @@ module _ (c : Core) (o : ℕ) (h : StateInvariant c) (few : c.steps < 2 ^ 59) (o
   kind : IsOfKind w.phase w.aim
   kind = halves_kind w.phase leads w.aim (p.same.aim ∙ subst (λ (p : Phase). IsOfKind p op.walk.aim) at_move always.kind)
 
+  -- what it remembers then
+  parted_back : (after : Operation) → after.birth ≡ op.birth → after.walk.phase ≡ w.phase → after.removal ≡ op.removal → BringsBack c arena op after
+  parted_back after birth at_phase removal = record {
+    birth = birth;
+    walk = λ facts. subst (λ (q : Phase). IsBackAt q arena after) (sym at_phase) (halves_back w.phase leads arena after);
+    cleans = λ facts t is. (h.remembered o op at_op).cleans t (ap (λ (x : Removal). x.cleans) (sym removal) ∙ is);
+  }
+
   -- its tenant's map misses the key
   missing_there : IsPut op.task → get (tenant_map op.task.tenant (content_of c.arena)) (key_of (ask op.task)) ≡ None
   missing_there put = get-tenant_map op.task.tenant (content_of c.arena) (key_of (ask op.task)) ∙ ap (get (content_of c.arena)) (sym put.owner) ∙ p.missing
@@ -260,6 +277,7 @@ module _ (c : Core) (o : ℕ) (h : StateInvariant c) (few : c.steps < 2 ^ 59) (o
         writes = λ e there. there;
         accounts = λ t there. there;
         floor = refl;
+        retires = parted_lists.after;
       };
       tape = record {
         rises = h.tape.rises;
@@ -278,6 +296,8 @@ module _ (c : Core) (o : ℕ) (h : StateInvariant c) (few : c.steps < 2 ^ 59) (o
       reserved =
           let one = ready_one op SplitMove at_move refl in let no = unready_none after_full w.phase refl (halves_unready w.phase leads) in let room = room_for c h o op SplitMove at_op at_move refl in omega (arith, one, no, room);
       deleted = parted_deleted;
+      late = parted_lists.upto;
+      remembered = own_back c o op h at_op arena p.guarantee parted_lists parted_takes after_full (parted_back after_full refl refl refl);
     }
 
     parted_full : Gives (shown c) new_full o false
@@ -336,6 +356,8 @@ module _ (c : Core) (o : ℕ) (h : StateInvariant c) (few : c.steps < 2 ^ 59) (o
           (beside_missing c (shown c) o refl h few op at_op put arena_is p.missing k inside counts) (h.stamps k inside counts));
       versions = parted_versions;
       deleted = parted_deleted;
+      taken_out = parted_lists;
+      takes = parted_takes;
       counts = counted;
     }
 
@@ -367,6 +389,7 @@ module _ (c : Core) (o : ℕ) (h : StateInvariant c) (few : c.steps < 2 ^ 59) (o
           scan = refl;
           held = λ k inside holds. halves_held w.phase leads after_new k some (p.holds held_alone k inside holds);
           kept = own;
+          back = parted_back after_new refl refl refl;
           reserved =
               let one = ready_one op SplitMove at_move refl in let no = unready_none after_new w.phase refl (halves_unready w.phase leads) in let room = room_for c h o op SplitMove at_op at_move refl in omega (arith, one, no, room);
         }))

@@ -17,7 +17,8 @@ use Rattle.mt_held.specs.Taping.{pushed}
 use Rattle.mt_state.specs.{Views.{Core, shown, map_of, quota_of, granted_in, KeepsPast}, Notes.key_asked, Promises.{IsPlacing, IsAnswer}}
 use Rattle.mt_state.specs.KeptOperations.{IsKeptOf, IsPlacedOnce}
 use Rattle.mt_state.specs.Invariant.{IsStampOf, IsTape, AreStamps, IsCountedUpTo, HoldsAt, DeletedAreEmpty, StateInvariant, StateGuarantee, one_if_prepared}
-use Rattle.mt_state.specs.{Moves.IsMove, Written.row_left}
+use Rattle.mt_state.specs.{Moves.IsMove, Written.row_left, KeptBack.{Retires, TakesLive}}
+use Rattle.mt_state.proofs.KeptBack.{BringsBack, own_back}
 use Rattle.mt_state.proofs.{Lawful.{scan_free, change_no_scan}, Telling.{logs_later, map_now}, Granted.quota_same, Writing.row_left_put, Bound.put_no_remove}
 use Rattle.mt_walks.specs.Walked.{IsWithin}
 use Rattle.mt_remove.specs.Writes.{is_remove}
@@ -58,6 +59,8 @@ pub record Places (c : Core) (o : ℕ) (write : Write) (after : Operation) (aren
   pub stamps : AreStamps (placed_by c arena accounts o write after)
   pub versions : (k : ℕ) → k < length arena.nodes → IsCountedUpTo (c.steps + 1) (at arena k)
   pub deleted : DeletedAreEmpty arena
+  pub taken_out : Retires c.steps c.arena.retired arena.retired
+  pub takes : TakesLive o c.arena arena
   pub counts : Counts c accounts (content_of arena)
 
 -- what it brings of its own operation
@@ -68,6 +71,7 @@ pub record IsPlacer (c new : Core) (o : ℕ) (before after : Operation) : Type 0
   pub scan : after.scan ≡ before.scan
   pub held : (k : ℕ) → k < length new.arena.nodes → (at new.arena k).holder ≡ Some o → HoldsAt after.walk.phase after k
   pub kept : IsKeptOf new o after
+  pub back : BringsBack c new.arena before after
   pub reserved : c.tape.reserved - 1 + one_if_prepared (Some before) ≡ c.tape.reserved + one_if_prepared (Some after)
 
 -- a task that is the same is asked the same
@@ -125,6 +129,7 @@ module _ (c : Core) (o : ℕ) (before after : Operation) (arena : ArenaView) (ac
     writes = λ e there. Contains-append_left c.tape.entries (wrote ∷ []) e there;
     accounts = p.counts.there;
     floor = refl;
+    retires = p.taken_out.after;
   }
 
   -- the key that it writes is a user's, since it was stored
@@ -161,6 +166,8 @@ module _ (c : Core) (o : ℕ) (before after : Operation) (arena : ArenaView) (ac
     kept = own.kept;
     reserved = own.reserved;
     deleted = p.deleted;
+    late = p.taken_out.upto;
+    remembered = own_back c o before h own.there arena p.guarantee p.taken_out p.takes after own.back;
   }
 
   -- the tenant's map just before the step

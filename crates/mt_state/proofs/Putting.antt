@@ -24,13 +24,13 @@ use Rattle.mt_insert.{specs.{Puts.{IsPut, row_over}, Placing.entry_of, Store.IsS
 use Rattle.mt_held.{specs.{Holds.{HoldsBy, IsAtUnlock}, Moves.walk_placed, Taping.pushed}, proofs.Places.may_store}
 use Rattle.mt_state.specs.{Views.{StateView, Core, shown, quota_of, quota_in, granted_in}, Notes.Notes}
 use Rattle.mt_state.specs.KeptOperations.{IsOpenOperation, IsStoring, IsPublishing, MayUnlock, IsUnlocking, IsKeptAt, IsPlacedOnce, IsKeptOf, MayUnlockUnsplit}
-use Rattle.mt_state.specs.Invariant.{IsStampOf, HoldsLast, HoldsAt, StateInvariant}
+use Rattle.mt_state.specs.{Invariant.{IsStampOf, HoldsLast, HoldsAt, StateInvariant}, KeptBack.IsBackAt}
 use Rattle.mt_state.proofs.{Replies.{put_there, put_new}, Telling.{Gives, gives}}
 use Rattle.mt_state.proofs.Placing.{Counts, next_write, placed, PlacesPair, untouched_beside, untouched_now, placed_move, placed_right, is_placing, placed_once}
 use Rattle.mt_state.proofs.{Moved.{went, first_begun, first_upto, open_moved, has_moved}, Still.{floor_made, unready_none}, Reading.{key_of_owner, walk_same}}
 use Rattle.mt_state.proofs.Stamps.{row_of}
-use Rattle.mt_state.proofs.OneNode.{stepped, counted_live, replaced_at, replaced_holds, replaced_versions, replaced_touches, few_steps, holds_here, replaced_deleted}
-use Rattle.mt_state.proofs.{Locking.{ready_one, room_for}, Growing.makes_set, LiveTrees.slot_lives, Bound.put_no_remove}
+use Rattle.mt_state.proofs.OneNode.{stepped, counted_live, replaced_at, replaced_holds, replaced_versions, replaced_touches, few_steps, holds_here, replaced_deleted, replaced_takes}
+use Rattle.mt_state.proofs.{Locking.{ready_one, room_for}, Growing.{makes_set, retires_same}, LiveTrees.slot_lives, Bound.put_no_remove}
 use Rattle.mt_arena.proofs.Homes as homes
 use Rattle.mt_operation.specs.declared.walk.Aim.TheVariants as aims
 
@@ -196,6 +196,8 @@ module _ (c : Core) (now : StateView) (o : ℕ) (is : shown c ≡ now) (h : Stat
         versions =
             replaced_versions c o h k within y (let was = h.versions k within in record { inserts = omega (arith, was.inserts); splits = omega (arith, was.splits) });
         deleted = replaced_deleted c.arena k within y h.deleted (λ gone. absurd (both_ways _ lives gone));
+        taken_out = retires_same c (with_node c.arena k y) h.late refl;
+        takes = replaced_takes c.arena k within y o (λ held. inl held);
         counts = counted;
       }
 
@@ -247,6 +249,11 @@ module _ (c : Core) (now : StateView) (o : ℕ) (is : shown c ≡ now) (h : Stat
                   | inr was ↦ holds_one j (holds_here c now o is h room op there p at_p j was.0 was.1) ∙ sym place
                 ])));
             kept = kept;
+            back = record {
+              birth = refl;
+              walk = λ facts. subst (λ (q : Phase). IsBackAt q the_arena the_after) (sym ends) tt;
+              cleans = λ facts. (h.remembered o op there).cleans;
+            };
             reserved =
                 let one = ready_one op p at_p ready in let no = unready_none the_after Unlock ends tt in let some = room_for c h o op p there at_p ready in omega (arith, one, no, some);
           }))

@@ -7,10 +7,10 @@ use Rattle.mt_border.{specs.{Contents.{AllStamped, IsStamped}, declared.entry.En
 use Rattle.mt_tape.specs.Histories.{contents_at, IsLegalTape}
 use Rattle.mt_arena.specs.{Arena.{ArenaView, content_of, Guarantee}, Contents.counts, Accesses.{at, tree_of}, NodeView.NodeView, Layers.slot_at}
 use Rattle.mt_operation.specs.{declared.operation.Operation.Operation, Operations.view_of, Phases.is_done, Tables.{op_at as operation_at}}
-use Rattle.mt_state.specs.{Views.{Core, shown, KeepsPast}, Steps.change_in, Promises.IsQuiet, KeptOperations.IsKeptOf}
+use Rattle.mt_state.specs.{Views.{Core, shown, KeepsPast}, Steps.change_in, Promises.IsQuiet, KeptOperations.IsKeptOf, KeptBack.{Retires, TakesLive}}
 use Rattle.mt_state.specs.Invariant.{IsTape, AreStamps, IsStampOf, IsCountedUpTo, HoldsAt, DeletedAreEmpty, StateInvariant, StateGuarantee, one_if_prepared}
 use Rattle.mt_state.specs.{Moves.{IsMove, IsStillAsked, BringsScan}, Growth.MakesFew}
-use Rattle.mt_state.proofs.Telling.{logs_later}
+use Rattle.mt_state.proofs.{Telling.logs_later, KeptBack.{BringsBack, own_back}}
 
 -- each slot of the second node is one of the first
 abbrev pub AreSlotsOf : NodeView → NodeView → Type 0
@@ -46,6 +46,8 @@ pub record LeavesPairs (c : Core) (o : ℕ) (arena : ArenaView) : Type 0 where
   pub stood : (k : ℕ) → k < length arena.nodes → counts arena.trees (at arena k) ≡ true → HasPairsOf c.arena arena k ⊎ ((at arena k).slots ≡ [])
   pub versions : (k : ℕ) → k < length arena.nodes → IsCountedUpTo (c.steps + 1) (at arena k)
   pub deleted : DeletedAreEmpty arena
+  pub taken_out : Retires c.steps c.arena.retired arena.retired
+  pub takes : TakesLive o c.arena arena
   pub makes : MakesFew c.arena arena
 
 -- what it brings of its own operation
@@ -56,6 +58,7 @@ pub record IsOwn (c new : Core) (o : ℕ) (before after : Operation) : Type 0 wh
   pub scan : BringsScan new before after
   pub held : (k : ℕ) → k < length new.arena.nodes → (at new.arena k).holder ≡ Some o → HoldsAt after.walk.phase after k
   pub kept : IsKeptOf new o after
+  pub back : BringsBack c new.arena before after
   pub reserved : new.tape.reserved + one_if_prepared (Some before) ≡ c.tape.reserved + one_if_prepared (Some after)
 
 module _ (c : Core) (o : ℕ) (before after : Operation) (arena : ArenaView) (reserved : ℕ) (h : StateInvariant c) (leaves : LeavesPairs c o arena) where
@@ -75,6 +78,7 @@ module _ (c : Core) (o : ℕ) (before after : Operation) (arena : ArenaView) (re
     writes = λ e there. there;
     accounts = λ t there. there;
     floor = refl;
+    retires = leaves.taken_out.after;
   }
 
   tape : IsTape (quiet c arena reserved o after)
@@ -116,6 +120,8 @@ module _ (c : Core) (o : ℕ) (before after : Operation) (arena : ArenaView) (re
     kept = own.kept;
     reserved = own.reserved;
     deleted = leaves.deleted;
+    late = leaves.taken_out.upto;
+    remembered = own_back c o before h own.there arena leaves.guarantee leaves.taken_out leaves.takes after own.back;
   }
 
   pub is_quiet : change_in (view_of after) ≡ change_in (view_of before)

@@ -13,9 +13,10 @@ use Rattle.mt_operation.specs.{Tasks.ask, Operations.{OperationView, view_of, mo
 use Rattle.mt_operation.specs.Tables.{op_at as operation_at}
 use Rattle.mt_operation.proofs.Phases.{by_descent}
 use Rattle.mt_descent.specs.{Pasts.{Past, IsNow, AreStamped}, KeptWalks.{GoesThrough, IsInSlot, HasSlot, IsAtBorder, KeptAt, IsKept}, WalkMoves.{FindsIn, after_search}}
+use Rattle.mt_descent.{specs.{Remembered.Learns, KeptBack.RemembersKept}, proofs.Learning.learns_search}
 use Rattle.mt_state.specs.{Views.{StateView, Core, shown, past_of}, Steps.told_change, Notes.{Notes, Keeps}, Ways.{IsOnWay, Descends}}
 use Rattle.mt_state.specs.{KeptOperations.{IsOpenOperation, TellsTaken, IsOnItsWay, IsAtLoad, IsAtConfirm, IsKeptAt, IsBound}, Invariant.StateInvariant}
-use Rattle.mt_state.proofs.Stamps.{stamped}
+use Rattle.mt_state.{specs.KeptBack.{ArenaFacts, IsBackAt}, proofs.{Stamps.stamped, KeptBack.{on_walk, walk_on_way, look_back}}}
 use Rattle.mt_state.proofs.{Descents.{by_way, first_aside}, Telling.Gives, Moved.{went, first_same}, Still.{IsFree, IsUnready, still, still_gives}}
 use Rattle.mt_state.proofs.{Bound.{bound_on, look_untold}, OneNode.quiet_grows, Lawful.owner_of}
 use Rattle.mt_border.specs.declared.entry.Find.TheVariants as finds
@@ -49,6 +50,10 @@ keeps_on q on aim kind told reads =
     (λ kind. let none = reads (λ writes. absurd (let no = sym kind ∙ writes in cc)) in (none, none))
     q on kind
 
+-- an operation that goes down is on its way
+descent_on : (p : Phase) → IsDescent p → IsOnWay p
+descent_on = by_descent IsOnWay tt tt tt tt tt
+
 descent_notes : (p : Phase) → IsDescent p → (old : StateView) (op : OperationView) (next : Phase) (told : Option Outcome)
     → Keeps (is_unplaced next) op.outcome told → Notes old op p next told
 descent_notes p d old op next told = by_descent (λ q. Keeps (is_unplaced next) op.outcome told → Notes old op q next told) (λ k. k) (λ k. k) (λ k. k) (λ k. k) (λ k. k) p d
@@ -59,7 +64,7 @@ reads_untold c op k reads bound = look_untold op.outcome c op (λ writes. reads 
 
 module _ (c : Core) (now : StateView) (o : ℕ) (is : shown c ≡ now) (h : StateInvariant c) (room : now.steps < 2 ^ 59) (op : Operation) (there : operation_at c.table o ≡ Some op) where
   -- an operation that goes down
-  pub descend_done : (w : Walk) → IsDescent op.walk.phase → Descends op.walk w → ((past : Past) → IsKept c.arena past op.task.key None w) → Gives now (record {
+  pub descend_done : (w : Walk) → IsDescent op.walk.phase → Descends op.walk w → Learns c.arena op.walk w → ((past : Past) → IsKept c.arena past op.task.key None w) → Gives now (record {
     steps = c.steps + 1;
     answers = c.answers;
     logs = c.logs;
@@ -68,7 +73,7 @@ module _ (c : Core) (now : StateView) (o : ℕ) (is : shown c ≡ now) (h : Stat
     tape = c.tape;
     table = set c.table o (Some (moved op (c.steps + 1) w));
   }) o false
-  descend_done w descends goes kept =
+  descend_done w descends goes learns kept =
       let k = h.ops o op there in
       let way = way_of op.walk.phase descends c o op k.kept in
       let after = went op (c.steps + 1) w op.outcome op.prepared in
@@ -82,7 +87,10 @@ module _ (c : Core) (now : StateView) (o : ℕ) (is : shown c ≡ now) (h : Stat
       still_gives c now o is h room op there (descent_free op.walk.phase descends) w op.outcome goes.follows (on_way_unready w.phase goes.on_way) goes.same.aim goes.kind refl
       (descent_notes op.walk.phase descends (shown c) (view_of op) w.phase op.outcome
       (keeps_on w.phase goes.on_way w.aim goes.kind op.outcome (λ reads. reads_untold c op k.always (λ writes. reads (goes.same.aim ∙ writes)) way.bound)))
-      (kept_on_way w.phase goes.on_way (still c now o is h room op there (descent_free op.walk.phase descends) w op.outcome) o after on) false (sym (on_way_open w.phase goes.on_way))
+      (kept_on_way w.phase goes.on_way (still c now o is h room op there (descent_free op.walk.phase descends) w op.outcome) o after on)
+      (λ facts. on_walk w.phase goes.on_way c.arena after (look_back op.birth c.arena op.walk w after.walk.first facts learns
+      (walk_on_way op.walk.phase (descent_on op.walk.phase descends) c.arena op (h.remembered o op there).walk)))
+      false (sym (on_way_open w.phase goes.on_way))
 
 -- a stored key is that of its tenant and its user's key
 pub key_of_owner : (key : Bytes) (tenant : ℕ) (user : Bytes) → IsStoredKey key → owned key ≡ (tenant, user) → key ≡ stored_key tenant user
@@ -184,6 +192,13 @@ module _ (c : Core) (now : StateView) (o : ℕ) (is : shown c ≡ now) (h : Stat
     looks_on : op.walk.aim ≡ aims.Read
     looks_on = subst (λ (p : Phase). IsOfKind p op.walk.aim) at_search (h.ops o op there).always.kind
 
+    -- what the walk remembers then is kept back
+    searched_back : (n : ℕ) → ArenaFacts c.arena → RemembersKept op.birth c.arena (record w { first = n })
+    searched_back n facts =
+        let learns : Learns c.arena op.walk w =
+        subst (λ (x : Walk). Learns c.arena op.walk x) (sym is_after) (learns_search c.arena op.walk op.task.key (c.steps + 1) arena at_search at_border found has_found) in
+        look_back op.birth c.arena op.walk w n facts learns (subst (λ (p : Phase). IsBackAt p c.arena op) at_search (h.remembered o op there).walk)
+
     search_untold : op.outcome ≡ None
     search_untold = reads_untold c op (h.ops o op there).always (λ writes. absurd (let no = sym looks_on ∙ writes in cc)) searching.bound
 
@@ -228,7 +243,8 @@ module _ (c : Core) (now : StateView) (o : ℕ) (is : shown c ≡ now) (h : Stat
                 (λ slot has. lacks c h arena op.task.key op.walk at_border.covers.remembered.there at_border.border at_border.covers.remembered.from slot found has_found t.2 slot has);
           };
         })))
-        (subst (λ (p : Phase). IsKeptAt p new o after) (sym confirms) own) false (sym (ap is_done confirms))
+        (subst (λ (p : Phase). IsKeptAt p new o after) (sym confirms) own)
+        (λ facts. subst (λ (p : Phase). IsBackAt p c.arena after) (sym confirms) (searched_back after.walk.first facts)) false (sym (ap is_done confirms))
 
     -- a search that found a slot of the key, or of its link
     slot_found : (f : Find) → FindsIn (at c.arena op.walk.place.node) op.task.key op.walk.layer f
@@ -260,7 +276,8 @@ module _ (c : Core) (now : StateView) (o : ℕ) (is : shown c ≡ now) (h : Stat
         (subst IsUnready (sym loads) tt) writes_same (subst (λ (p : Phase). IsOfKind p w.aim) (sym loads) (writes_same ∙ looks_on))
         refl
         (subst (λ (p : Phase). Notes (shown c) (view_of op) p w.phase op.outcome) (sym at_search) (subst (λ (p : Phase). Notes (shown c) (view_of op) Search p op.outcome) (sym loads) (search_untold, search_untold)))
-        (subst (λ (p : Phase). IsKeptAt p new o after) (sym loads) own) false (sym (ap is_done loads))
+        (subst (λ (p : Phase). IsKeptAt p new o after) (sym loads) own)
+        (λ facts. subst (λ (p : Phase). IsBackAt p c.arena after) (sym loads) (searched_back after.walk.first facts)) false (sym (ap is_done loads))
       where
         in_place : (f : Find) → HasSlot (at c.arena op.walk.place.node) (after_search f op.walk (c.steps + 1)).slot op.task.key op.walk.layer
             → HasSlot (at c.arena (after_search f op.walk (c.steps + 1)).place.node) (after_search f op.walk (c.steps + 1)).slot op.task.key (after_search f op.walk (c.steps + 1)).layer

@@ -1,8 +1,10 @@
 -- What each step of a removal behind DropKey leaves of all nodes, and where it leads, by its phase.
-use Rattle.std.proofs.Common.{◌≡◌, ◌≢◌, ℕ, ◌<◌, ◌⊎◌, inl, inr, Bool, true, false, length, Option, Some, None, refl, sym, ap, subst, arith, cond, eqb}
+use Rattle.std.proofs.Common.{◌≡◌, ◌≢◌, ℕ, ◌+◌, ◌<◌, ◌⊎◌, inl, inr, Bool, true, false, length, Option, Some, None, refl, sym, ap, subst, ◌∙◌, arith, cond, eqb}
 use Rattle.std.proofs.{lemmas.Bool.{cases_eq, cases_lt}, lemmas.Option.same_Some}
 use Rattle.mt_rows.specs.Rows.{Bytes}
-use Rattle.mt_arena.specs.{NodeView.{NodeView, place_at}, Arena.{ArenaView, IsArena}, Accesses.at}
+use Rattle.mt_arena.specs.{NodeView.{NodeView, place_at}, Idle.with_border, Given.AreOutUpTo, Arena.{ArenaView, IsArena}, Accesses.at}
+use Rattle.mt_arena.proofs.{Settled.settled_free, Out.{upto_later, upto_border, upto_interior, upto_tree}}
+use Rattle.mt_descent.specs.KeptBack.{RetiresAfter}
 use Rattle.mt_operation.specs.declared.phase.Phase.{Phase}
 use Rattle.mt_operation.specs.{declared.phase.Phase.TheVariants.{LockPrev, LockAbove, Unlink, FixNext, Collapse, CleanLayer, Unlock}, declared.walk.Walk.Walk}
 use Rattle.mt_operation.specs.{declared.removal.Removal.Removal, Phases.{MayFollow, IsRemovalPhase}, declared.outcome.Outcome.Outcome, Operations.SplitsView}
@@ -10,11 +12,12 @@ use Rattle.mt_operation.proofs.Phases.{by_removal}
 use Rattle.mt_descent.specs.WalkMoves.{KeepsPairs}
 use Rattle.mt_held.specs.Moves.{walk_at}
 use Rattle.mt_remove.specs.KeptRemovals.{HoldsRemoval, KeptRemoval, HoldsEmpty, IsAtLockPrev, IsAtLockAbove, IsAtUnlink, IsAtFixNext, IsAtCollapse, IsAtCleanLayer}
-use Rattle.mt_remove.specs.{RemovalEdits.{for_rest, after_unlink, root_of}, Unlinks.{IsChildBefore, IsLockPrev, IsLockAbove, IsUnlink, IsFixNext, IsCollapse}}
+use Rattle.mt_remove.specs.{RemovalEdits.{for_rest, after_unlink, root_of, with_lock}, Unlinks.{IsChildBefore, IsLockPrev, IsLockAbove, IsUnlink, IsFixNext, IsCollapse}}
 use Rattle.mt_remove.specs.{CleanLayer.IsCleanLayer, Steps.IsRemovalFrom}
 use Rattle.mt_remove.proofs.{GoingOn.emptied_either, Locking.left_there, LockingAbove.parent_there, CleaningOn.held_link}
-use Rattle.mt_remove.proofs.DroppingLayers.{tree_there, root_there}
-use Rattle.mt_state.specs.{Invariant.DeletedAreEmpty, Phases.{ScanStep, LeadsTo}}
+use Rattle.mt_remove.{specs.KeptRemovals.HoldsLink, proofs.DroppingLayers.{tree_there, root_there}}
+use Rattle.mt_state.specs.{Invariant.DeletedAreEmpty, Phases.{ScanStep, LeadsTo}, KeptBack.Retires}
+use Rattle.mt_state.proofs.Growing.{after_same, after_border, after_interior, after_layer}
 use Rattle.mt_state.proofs.RemovalNodes.{LeavesNodes, none_leaves, lock_leaves, named_leaves, unlink_leaves, collapse_leaves, clean_leaves}
 
 -- what a step brings: what is left of all nodes, where it leads, and what is kept then
@@ -70,12 +73,23 @@ module _ (o step : ℕ) (key : Bytes) (v u : ArenaView) (before after : Walk) (s
   has_parent : HoldsEmpty v o before → (parent : ℕ) × ((at v before.place.node).parent ≡ Some parent)
   has_parent e = elim (some_or_none (at v before.place.node).parent) [ inl is ↦ is | inr none ↦ absurd (e.child none) ]
 
+  -- a free node that a live one names as the one before, or as its parent, is live
+  left_live : IsAtLockPrev v o key before s → (left : ℕ) → (at v before.place.node).previous ≡ Some left → (at v left).holder ≡ None
+      → (at v left).version.deleted ≡ false
+  left_live k left named free =
+      (settled_free v.nodes left (left_there v o left key before s arena k named) arena.nodes free).previous_live before.place.node k.node.node.returns.held.there named k.node.live
+
+  above_live : IsAtLockAbove v o key before s → (parent : ℕ) → (at v before.place.node).parent ≡ Some parent → (at v parent).holder ≡ None
+      → (at v parent).version.deleted ≡ false
+  above_live k parent named free =
+      ((settled_free v.nodes parent (parent_there v o parent key before s arena k named) arena.nodes free).parent before.place.node k.node.node.returns.held.there named k.node.live).live
+
   lock_prev_removes : IsAtLockPrev v o key before s → IsLockPrev o v u before after s t → Removes LockPrev o key v u before after s t
   lock_prev_removes k b =
       let left = has_previous k.node in
       let is = b.is left.0 left.1 in
       record {
-        leaves = subst (LeavesNodes o v) (sym is.1) (lock_leaves o v deleted left.0 (left_there v o left.0 key before s arena k left.1));
+        leaves = subst (LeavesNodes o v) (sym is.1) (lock_leaves o v deleted left.0 (left_there v o left.0 key before s arena k left.1) (left_live k left.0 left.1 is.0));
         keeps = b.on.keeps;
         follows = subst (MayFollow LockPrev) (sym (at_phase LockAbove b.walk)) tt;
         kept = b.on.kept key k;
@@ -88,7 +102,7 @@ module _ (o step : ℕ) (key : Bytes) (v u : ArenaView) (before after : Walk) (s
       let is = b.is parent.0 parent.1 in
       let before_it : IsChildBefore (at v parent.0) (at v before.place.node).low s.left ⊎ ¬ IsChildBefore (at v parent.0) (at v before.place.node).low s.left = child_before _ s.left _ in
       record {
-        leaves = subst (LeavesNodes o v) (sym is.1) (lock_leaves o v deleted parent.0 (parent_there v o parent.0 key before s arena k parent.1));
+        leaves = subst (LeavesNodes o v) (sym is.1) (lock_leaves o v deleted parent.0 (parent_there v o parent.0 key before s arena k parent.1) (above_live k parent.0 parent.1 is.0));
         keeps = b.on.keeps;
         follows = elim before_it [
           | inl is ↦ subst (MayFollow LockAbove) (sym (at_phase Unlink (b.unlinks parent.0 parent.1 is))) tt
@@ -133,6 +147,13 @@ module _ (o step : ℕ) (key : Bytes) (v u : ArenaView) (before after : Walk) (s
         holds = b.on.holds;
       }
 
+  -- the root of the tree to which a held link leads is live
+  root_live : (slot tree : ℕ) → HoldsLink v o before.place.node slot tree → (at v (root_of v tree)).version.deleted ≡ false
+  root_live slot tree link =
+      let there = tree_there v o before.place.node slot tree arena link in
+      let leads = arena.layers.links before.place.node link.held.there link.live slot tree link.in_range link.link in
+      ((arena.forest.homes (root_of v tree) tree (root_there v o before.place.node slot tree arena link) there).root_is refl (λ dead. absurd (let both = sym leads.live ∙ dead in cc))).live
+
   clean_layer_removes : IsAtCleanLayer v o key before s → IsCleanLayer o step v u key before after s t → Removes CleanLayer o key v u before after s t
   clean_layer_removes k b = record { leaves = both.0; keeps = b.keeps; follows = both.1; kept = b.kept; holds = b.holds }
     where
@@ -141,14 +162,16 @@ module _ (o step : ℕ) (key : Bytes) (v u : ArenaView) (before after : Walk) (s
         | inl none ↦ (subst (LeavesNodes o v) (sym none.is) (none_leaves o v deleted), subst (MayFollow CleanLayer) (sym (at_phase Unlock none.walk)) tt)
         | inr (inl full) ↦
             let link = held_link v o (place_at (at v before.place.node) full.slot) b.tree key before s k full.leads.in_slot.in_range full.leads.link in (
-              subst (LeavesNodes o v) (sym full.is) (lock_leaves o v deleted (root_of v b.tree) (root_there v o before.place.node (place_at (at v before.place.node) full.slot) b.tree arena link)),
+              subst (LeavesNodes o v) (sym full.is) (lock_leaves o v deleted (root_of v b.tree) (root_there v o before.place.node (place_at (at v before.place.node) full.slot) b.tree arena link)
+                  (root_live (place_at (at v before.place.node) full.slot) b.tree link)),
               subst (MayFollow CleanLayer) (sym (at_phase Unlock full.walk)) tt,
             )
         | inr (inr drops) ↦
             let link = held_link v o (place_at (at v before.place.node) drops.slot) b.tree key before s k drops.leads.in_slot.in_range drops.leads.link in (
               subst (LeavesNodes o v) (sym drops.is)
                   (clean_leaves o v deleted before.place.node (place_at (at v before.place.node) drops.slot) b.tree step k.holds.judged.held k.holds.judged.stands.live
-                  (tree_there v o before.place.node (place_at (at v before.place.node) drops.slot) b.tree arena link) (root_there v o before.place.node (place_at (at v before.place.node) drops.slot) b.tree arena link) drops.empty.1),
+                  (tree_there v o before.place.node (place_at (at v before.place.node) drops.slot) b.tree arena link) (root_there v o before.place.node (place_at (at v before.place.node) drops.slot) b.tree arena link) drops.empty.1
+                  (root_live (place_at (at v before.place.node) drops.slot) b.tree link)),
               elim (emptied_either u before after (record s { below = Some (root_of v b.tree) }) t drops.goes) [
                 | inl at ↦ subst (MayFollow CleanLayer) (sym at) tt
                 | inr at ↦ subst (MayFollow CleanLayer) (sym at) tt
@@ -160,6 +183,70 @@ module _ (o step : ℕ) (key : Bytes) (v u : ArenaView) (before after : Walk) (s
   pub removes_by : (p : Phase) → IsRemovalPhase p → KeptRemoval p v o key before s → IsRemovalFrom p o step key v u before after s t
       → Removes p o key v u before after s t
   removes_by = by_removal _ lock_prev_removes lock_above_removes unlink_removes fix_next_removes collapse_removes clean_layer_removes
+
+  -- all that is out was taken out by this step or before
+  abbrev IsUpTo : ArenaView → Type 0
+  IsUpTo w = AreOutUpTo step w.retired
+
+  clean_layer_upto : IsAtCleanLayer v o key before s → IsCleanLayer o step v u key before after s t → IsUpTo v → IsUpTo u
+  clean_layer_upto k b upto = elim b.is [
+    | inl none ↦ subst IsUpTo (sym none.is) upto
+    | inr (inl full) ↦ subst IsUpTo (sym full.is) upto
+    | inr (inr drops) ↦
+        let locking = with_lock v (root_of v b.tree) o in
+        let root = root_of locking b.tree in
+        subst IsUpTo (sym drops.is) (upto_tree (with_border v.retired root step) b.tree step (upto_border v.retired root step upto))
+  ]
+
+  pub upto_by : (p : Phase) → IsRemovalPhase p → KeptRemoval p v o key before s → IsRemovalFrom p o step key v u before after s t
+      → AreOutUpTo step v.retired → AreOutUpTo step u.retired
+  upto_by = by_removal _
+      (λ k b upto. let left = has_previous k.node in subst IsUpTo (sym (b.is left.0 left.1).1) upto)
+      (λ k b upto. let parent = has_parent k.node in subst IsUpTo (sym (b.is parent.0 parent.1).1) upto)
+      (λ k b upto. subst IsUpTo (sym (b.is k.left k.parent k.left_is k.parent_is)) (upto_border v.retired before.place.node step upto))
+      (λ k b upto. subst IsUpTo (sym (b.is k.left k.behind k.left_is k.next)) upto)
+      (λ k b upto. subst IsUpTo (sym (b.is k.left k.parent k.left_is k.parent_is)) (upto_interior v.retired k.parent step upto))
+      clean_layer_upto
+
+  -- and it was listed after each birth that is before this step
+  clean_layer_after : (birth : ℕ) → birth < step → IsAtCleanLayer v o key before s → IsCleanLayer o step v u key before after s t → RetiresAfter birth v.retired u.retired
+  clean_layer_after birth later k b = elim b.is [
+    | inl none ↦ subst (λ (w : ArenaView). RetiresAfter birth v.retired w.retired) (sym none.is) (after_same birth v.retired)
+    | inr (inl full) ↦ subst (λ (w : ArenaView). RetiresAfter birth v.retired w.retired) (sym full.is) (after_same birth v.retired)
+    | inr (inr drops) ↦
+        let locking = with_lock v (root_of v b.tree) o in
+        subst (λ (w : ArenaView). RetiresAfter birth v.retired w.retired) (sym drops.is) (after_layer birth v.retired (root_of locking b.tree) b.tree step later)
+  ]
+
+  pub after_by : (birth : ℕ) → birth < step → (p : Phase) → IsRemovalPhase p → KeptRemoval p v o key before s → IsRemovalFrom p o step key v u before after s t
+      → RetiresAfter birth v.retired u.retired
+  after_by birth later = by_removal _
+      (λ k b. let left = has_previous k.node in stays_so (sym (b.is left.0 left.1).1) (after_same birth v.retired))
+      (λ k b. let parent = has_parent k.node in stays_so (sym (b.is parent.0 parent.1).1) (after_same birth v.retired))
+      (λ k b. stays_so (sym (b.is k.left k.parent k.left_is k.parent_is)) (after_border birth v.retired before.place.node step later))
+      (λ k b. stays_so (sym (b.is k.left k.behind k.left_is k.next)) (after_same birth v.retired))
+      (λ k b. stays_so (sym (b.is k.left k.parent k.left_is k.parent_is)) (after_interior birth v.retired k.parent step later))
+      (λ k b. clean_layer_after birth later k b)
+    where
+      stays_so : {w x : ArenaView} → w ≡ x → RetiresAfter birth v.retired w.retired → RetiresAfter birth v.retired x.retired
+      stays_so same = subst (λ (y : ArenaView). RetiresAfter birth v.retired y.retired) same
+
+  -- it goes to take out the same link
+  clean_layer_cleans : IsCleanLayer o step v u key before after s t → t.cleans ≡ s.cleans
+  clean_layer_cleans b = elim b.is [
+    | inl none ↦ ap (λ (r : Removal). r.cleans) none.removal
+    | inr (inl full) ↦ ap (λ (r : Removal). r.cleans) full.removal
+    | inr (inr drops) ↦ ap (λ (r : Removal). r.cleans) drops.goes.removal
+  ]
+
+  pub cleans_by : (p : Phase) → IsRemovalPhase p → KeptRemoval p v o key before s → IsRemovalFrom p o step key v u before after s t → t.cleans ≡ s.cleans
+  cleans_by = by_removal _
+      (λ k b. let left = has_previous k.node in ap (λ (r : Removal). r.cleans) (b.is left.0 left.1).2)
+      (λ k b. let parent = has_parent k.node in ap (λ (r : Removal). r.cleans) (b.is parent.0 parent.1).2)
+      (λ k b. ap (λ (r : Removal). r.cleans) b.removal)
+      (λ k b. ap (λ (r : Removal). r.cleans) b.removal)
+      (λ k b. ap (λ (r : Removal). r.cleans) b.removal)
+      (λ k b. clean_layer_cleans b)
 
   -- where it leads, by the table of phases
   pub removal_leads : (p : Phase) → IsRemovalPhase p → KeptRemoval p v o key before s → IsRemovalFrom p o step key v u before after s t
@@ -187,3 +274,12 @@ module _ (o step : ℕ) (key : Bytes) (v u : ArenaView) (before after : Walk) (s
     ],
   )
   removal_leads _ i k b told splits g = absurd i
+
+-- so by the step after so many
+pub retires_by : (o steps : ℕ) (key : Bytes) (v u : ArenaView) (before after : Walk) (s t : Removal) → IsArena v.nodes v.trees → DeletedAreEmpty v
+    → AreOutUpTo steps v.retired → (p : Phase) → IsRemovalPhase p → KeptRemoval p v o key before s
+    → IsRemovalFrom p o (steps + 1) key v u before after s t → Retires steps v.retired u.retired
+retires_by o steps key v u before after s t arena deleted late p i kept from = record {
+  upto = upto_by o (steps + 1) key v u before after s t arena deleted p i kept from (upto_later steps (steps + 1) v.retired (omega arith) late);
+  after = λ birth born. after_by o (steps + 1) key v u before after s t arena deleted birth (omega (arith, born)) p i kept from;
+}

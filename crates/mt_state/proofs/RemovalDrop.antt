@@ -25,8 +25,8 @@ use Rattle.mt_state.specs.{Invariant.{IsStampOf, AreStamps, StateInvariant, Dele
 use Rattle.mt_state.proofs.{Telling.{Gives, gives}, Moved.{went_on, first_begun, first_upto, open_moved_on, has_moved_on}, Still.{floor_made, unready_none}}
 use Rattle.mt_state.proofs.{Reading.walk_same, OneNode.{counted_live, holds_here}, Locking.{ready_one, room_for}, Replies.remove_there, Writing.row_left_remove}
 use Rattle.mt_state.proofs.{LiveTrees.slot_lives, Placing.{Counts, IsWriteOf, placed_by, Places, beside_write, wrote_move, wrote_right, is_writing, wrote_once}}
-use Rattle.mt_state.proofs.{Putting.stamped_apart, RemovalNodes.{LeavesNodes, one_leaves, slots_removed, stood, versions, removal_touches}}
-use Rattle.mt_state.proofs.RemovalSteps.{HasRemoval, has_removal, removal_kept, removal_held, removal_kind, removal_open, removal_unready}
+use Rattle.mt_state.proofs.{Putting.stamped_apart, Growing.retires_same, RemovalNodes.{LeavesNodes, one_leaves, slots_removed, stood, versions, removal_touches, removal_takes}}
+use Rattle.mt_state.proofs.RemovalSteps.{HasRemoval, has_removal, removal_back, removal_kept, removal_held, removal_kind, removal_open, removal_unready}
 use Rattle.mt_state.proofs.Lawful.{remove_no_scan}
 use Rattle.mt_arena.proofs.Homes as homes
 
@@ -83,6 +83,7 @@ module _ (c : Core) (o : ℕ) (h : StateInvariant c) (few : c.steps < 2 ^ 59) (o
     inserts = refl;
     splits = refl;
     touched = inr (inl (inl dropping.drops.holds.judged.held.holder));
+    taken = λ held. inl dropping.drops.holds.judged.held.holder;
   }))
 
   deleted : DeletedAreEmpty arena
@@ -177,6 +178,8 @@ module _ (c : Core) (o : ℕ) (h : StateInvariant c) (few : c.steps < 2 ^ 59) (o
     stamps = stamps;
     versions = versions c o h arena leaves;
     deleted = deleted;
+    taken_out = retires_same c arena h.late (ap (λ (v : ArenaView). v.retired) t.is);
+    takes = removal_takes c o h arena leaves;
     counts = counts_less;
   }
 
@@ -231,6 +234,11 @@ module _ (c : Core) (o : ℕ) (h : StateInvariant c) (few : c.steps < 2 ^ 59) (o
         scan = refl;
         held = λ j inside holds. removal_held w.phase (behind w.phase follows) after j unsplit.halves (inl (t.holds holds_only j inside holds));
         kept = kept;
+        back = record {
+          birth = refl;
+          walk = λ facts. removal_back w.phase leads arena after;
+          cleans = λ facts u is. (h.remembered o op there).cleans u (ap (λ (x : Removal). x.cleans) (sym t.goes.removal) ∙ is);
+        };
         reserved =
             let one = ready_one op DropKey at_drop refl in
             let no = unready_none after w.phase refl (removal_unready w.phase leads) in

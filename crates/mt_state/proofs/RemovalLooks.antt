@@ -1,6 +1,6 @@
 -- The steps of a removal that change no pair: it judges its border node, gives its locks back, and locks and judges on its way back to a link.
 use Rattle.std.proofs.Common.{◌≡◌, ◌≢◌, ℕ, ◌+◌, ◌<◌, ◌⊎◌, inl, inr, Bool, true, false, List, [], ◌∷◌, length, Option, Some, None, refl, sym, ap, subst, ◌∙◌, arith}
-use Rattle.std.proofs.lemmas.Bool.{cases_eq, cases_lt, both_ways}
+use Rattle.std.proofs.{lemmas.Bool.{cases_eq, cases_lt, both_ways}, lemmas.Option.same_Some}
 use Rattle.std.specs.{Prelude.{◌^◌}, FinMap.get}
 use Rattle.mt_rows.specs.{declared.reply.Reply.TheVariants.Absent, Commands.key_of, Maps.reply_of, Tenants.{Contents, tenant_map}}
 use Rattle.mt_rows.proofs.ContentLaws.{get-tenant_map}
@@ -20,11 +20,15 @@ use Rattle.mt_remove.specs.Ways.{IsLockWay, FindsEnd}
 use Rattle.mt_state.specs.{Views.{StateView, Core, shown, past_of, quota_of, map_of}, Steps.told_change, Notes.{Notes, EndsJudging}}
 use Rattle.mt_state.specs.KeptOperations.{IsOpenOperation, IsOnItsWay, IsJudging, IsDropping, IsGoingBack, IsBound, HasAnswer, IsUnlocking, MayUnlock, MayUnlockUnsplit, IsKeptAt}
 use Rattle.mt_state.specs.{Invariant.{HoldsAt, HoldsLast, IsCountedUpTo, StateInvariant}, Writes.{wrote, removing}, Ways.IsOnWay, Promises.Touches}
-use Rattle.mt_state.proofs.{Telling.{Gives, map_now}, Decides.outdated_or_not, Descents.changed_leads, Moved.{went, went_on, first_begun, first_upto}}
+use Rattle.mt_descent.proofs.Decides.{outdated_or_not}
+use Rattle.mt_state.proofs.{Telling.{Gives, map_now}, Descents.changed_leads, Moved.{went, went_on, first_begun, first_upto}}
 use Rattle.mt_state.proofs.{Bound.answered_on, Quiet.LeavesPairs, Still.{leaves_all, unready_none, IsUnready}, Reading.walk_same, Replies.remove_missing}
 use Rattle.mt_state.proofs.OneNode.{returning_told, replaced_leaves, replaced_holds, replaced_touches, quiet_grows, holds_here, quiet_gives, quiet_gives_on}
 use Rattle.mt_state.proofs.{Locking.{ready_one, lock_done}, LayerSteps.back_gives, SplitSteps.{returned_leaves, returned_touches, is_held_or_not}}
 use Rattle.mt_state.proofs.{RemovalSteps.removal_kept, Lawful.{remove_no_scan, scan_free}}
+use Rattle.mt_state.{specs.KeptBack.{ArenaFacts, IsBackAt}, proofs.KeptBack.{first_aside_back, top_back}}
+use Rattle.mt_descent.specs.KeptBack.{RemembersKept}
+use Rattle.mt_arena.{specs.Given.IsTreeOutFrom, proofs.Settled.not_true}
 use Rattle.mt_walks.specs.Walked.{IsWithin}
 
 -- an operation that was told something goes back
@@ -88,6 +92,7 @@ module _ (c : Core) (o : ℕ) (h : StateInvariant c) (few : c.steps < 2 ^ 59) (o
         (subst (λ (p : Phase). Notes (shown c) (view_of op) p w.phase op.outcome) (sym at_judge) (subst (λ (q : Phase). Notes (shown c) (view_of op) Judge q op.outcome) (sym drops) (untold, untold)))
         (λ j inside holds. subst (λ (q : Phase). HoldsAt q after j) (sym drops) (holds_here c (shown c) o refl h few op there Judge at_judge j inside holds ∙ sym place))
         (subst (λ (q : Phase). IsKeptAt q new o after) (sym drops) own)
+        (λ facts. subst (λ (q : Phase). IsBackAt q c.arena after) (sym drops) tt)
         (unsplit_at Judge at_judge refl)
         (let none = unready_none op Judge at_judge tt in let one = ready_one after DropKey drops refl in omega (arith, none, one))
         (λ j inside. inl refl)
@@ -122,7 +127,7 @@ module _ (c : Core) (o : ℕ) (h : StateInvariant c) (few : c.steps < 2 ^ 59) (o
         back_gives c o h few op there arena w told u.is u.keeps judging.judges.judged.held (holds_here c (shown c) o refl h few op there Judge at_judge)
         Judge Done at_judge (ap (λ (x : Walk). x.phase) u.walk) refl tt tt tt u.keeps.same.aim tt (sym (ap told_change untold))
         (subst (λ had. EndsJudging had (shown c) (view_of op) told) (sym untold) (inr (removes, refl)))
-        own (unsplit_at Judge at_judge refl)
+        own (λ facts. tt) (unsplit_at Judge at_judge refl)
 
     -- one on its way back that finds no link
     pub back_ended : op.outcome ≢ None → (arena : ArenaView) (w : Walk) → FindsEnd o op.task.key c.arena arena op.walk w
@@ -135,7 +140,7 @@ module _ (c : Core) (o : ℕ) (h : StateInvariant c) (few : c.steps < 2 ^ 59) (o
         back_gives c o h few op there arena w op.outcome u.is u.keeps judging.judges.judged.held (holds_here c (shown c) o refl h few op there Judge at_judge)
         Judge Done at_judge (ap (λ (x : Walk). x.phase) u.walk) refl tt tt tt u.keeps.same.aim tt refl
         (ends_judging op.outcome told (shown c) (view_of op))
-        (answered_on c new op always grows w op.prepared op.splits op.removal judging.unprepared going.answer) (unsplit_at Judge at_judge refl)
+        (answered_on c new op always grows w op.prepared op.splits op.removal judging.unprepared going.answer) (λ facts. tt) (unsplit_at Judge at_judge refl)
 
   module _ (at_lock : op.walk.phase ≡ Lock) (told : op.outcome ≢ None) where
     locking : IsOnItsWay c op
@@ -160,9 +165,9 @@ module _ (c : Core) (o : ℕ) (h : StateInvariant c) (few : c.steps < 2 ^ 59) (o
           (lock_done c (shown c) o refl h few op there at_lock arena t.reached t.locks)
 
       -- it holds the border node of the link
-      at_link : arena ≡ with_node c.arena k (locked n o) → t.reached ≡ record op.walk { phase = Judge } → w ≡ walk_at CleanLayer t.reached
+      at_link : n.version.deleted ≡ false → arena ≡ with_node c.arena k (locked n o) → t.reached ≡ record op.walk { phase = Judge } → w ≡ walk_at CleanLayer t.reached
           → Gives (shown c) locked_core o false
-      at_link takes reached goes =
+      at_link live takes reached goes =
           let after = went op (c.steps + 1) w op.outcome op.prepared in
           let within = at_border.covers.remembered.there in
           let cleans : w.phase ≡ CleanLayer = ap (λ (x : Walk). x.phase) goes in
@@ -170,7 +175,7 @@ module _ (c : Core) (o : ℕ) (h : StateInvariant c) (few : c.steps < 2 ^ 59) (o
           let writes : w.aim ≡ op.walk.aim = ap (λ (x : Walk). x.aim) goes ∙ t.locks.keeps.same.aim in
           let whole = walk_same c op always w begun_lock (ap (λ (x : Walk). x.first) goes ∙ t.locks.keeps.same.first) in
           let counted : IsCountedUpTo (c.steps + 1) (locked n o) = let was = h.versions k within in record { inserts = omega (arith, was.inserts); splits = omega (arith, was.splits) } in
-          let leaves : LeavesPairs c o (with_node c.arena k (locked n o)) = replaced_leaves c o h k within (locked n o) refl refl refl counted
+          let leaves : LeavesPairs c o (with_node c.arena k (locked n o)) = replaced_leaves c o h k within (locked n o) refl refl refl counted (λ held. inr live)
           (subst (Guarantee o c.arena) takes t.locks.keeps.guarantee) (subst (λ (v : ArenaView). content_of v ≡ content_of c.arena) takes t.locks.keeps.contents) in
           let grows = quiet_grows c o arena c.tape.reserved after t.locks.keeps.contents in
           let answer = answered_on c locked_core op always grows w op.prepared op.splits op.removal locking.unprepared going.answer in
@@ -182,6 +187,7 @@ module _ (c : Core) (o : ℕ) (h : StateInvariant c) (few : c.steps < 2 ^ 59) (o
           (λ j inside holds. subst (λ (p : Phase). HoldsAt p after j) (sym cleans) (locked_here within j (subst (λ (v : ArenaView). j < length v.nodes) takes inside) (subst (λ (v : ArenaView). (at v j).holder ≡ Some o) takes holds) ∙ sym place))
           (subst (λ (p : Phase). IsKeptAt p locked_core o after) (sym cleans)
           (removal_kept CleanLayer locked_core o after going.removes (unsplit_at Lock at_lock refl) (subst (λ (x : Walk). IsAtCleanLayer arena o op.task.key x op.removal) (sym whole) (t.kept cleans)) answer))
+          (λ facts. subst (λ (p : Phase). IsBackAt p arena after) (sym cleans) tt)
           (unsplit_at Lock at_lock refl)
           (let none = unready_none op Lock at_lock tt in let no = unready_none after CleanLayer cleans tt in omega (arith, none, no))
           (subst (Touches o c.arena) (sym takes) (replaced_touches c.arena k within (locked n o) o (inr refl)))
@@ -201,7 +207,7 @@ module _ (c : Core) (o : ℕ) (h : StateInvariant c) (few : c.steps < 2 ^ 59) (o
         | inr fresh ↦
             let reached = t.locks.locks.judges fresh in
             elim (cases_eq (layer_of (tree_at c.arena.trees t.tree).prefix) (op.walk.layer + 1)) [
-              | inl below ↦ at_link (t.locks.locks.takes fresh) reached (t.cleans (ap (λ (x : Walk). x.phase) reached) below)
+              | inl below ↦ at_link (not_true n.version.deleted (λ gone. fresh (inl gone))) (t.locks.locks.takes fresh) reached (t.cleans (ap (λ (x : Walk). x.phase) reached) below)
               | inr other ↦ as_put (t.goes (λ judges. other))
             ]
       ]
@@ -288,17 +294,19 @@ module _ (c : Core) (o : ℕ) (h : StateInvariant c) (few : c.steps < 2 ^ 59) (o
       answer = answered_on c new op always (quiet_grows c o arena c.tape.reserved after t.keeps.contents) w op.prepared op.splits r unlocking.answer.unprepared unlocking.answer
 
       returned_on : (q : Phase) → w.phase ≡ q → MayFollow Unlock q → IsUnready q → IsOfKind q w.aim → Notes (shown c) (view_of op) Unlock q op.outcome → IsKeptAt q new o after
+          → (ArenaFacts c.arena → IsBackAt q arena after) → (ArenaFacts c.arena → (u : ℕ) → r.cleans ≡ Some u → IsTreeOutFrom (op.birth + 1) c.arena.retired u)
           → Gives (shown c) new o (is_done w.phase)
-      returned_on q at_q follows unready kind notes kept =
+      returned_on q at_q follows unready kind notes kept back cleans =
           let each = each_returned arena t.is in
           quiet_gives_on c (shown c) o refl h few op there arena c.tape.reserved w op.outcome op.prepared op.splits r
-          (returned_leaves c o h arena t.is.count t.is.trees each t.keeps.guarantee t.keeps.contents)
+          (returned_leaves c o h arena t.is.count t.is.trees each t.keeps.guarantee t.keeps.contents t.is.retired)
           (λ puts. absurd (both_ways _ puts removes)) (ap is_done at_unlock)
           (subst (λ (p : Phase). MayFollow p w.phase) (sym at_unlock) (subst (MayFollow Unlock) (sym at_q) follows))
           t.keeps.same.aim (subst (λ (p : Phase). IsOfKind p w.aim) (sym at_q) kind) refl
           (subst (λ (p : Phase). Notes (shown c) (view_of op) p w.phase op.outcome) (sym at_unlock) (subst (λ (p : Phase). Notes (shown c) (view_of op) Unlock p op.outcome) (sym at_q) notes))
           (λ j inside holds. absurd (t.nothing holds_removal j inside holds))
           (subst (λ (p : Phase). IsKeptAt p new o after) (sym at_q) kept)
+          (λ facts. subst (λ (p : Phase). IsBackAt p arena after) (sym at_q) (back facts)) cleans
           (λ unsplit. both.1)
           (let was = unready_none op Unlock at_unlock tt in let no = unready_none after q at_q unready in omega (arith, was, no))
           (returned_touches c o h arena t.is.count t.is.trees each) (is_done w.phase) refl
@@ -307,7 +315,8 @@ module _ (c : Core) (o : ℕ) (h : StateInvariant c) (few : c.steps < 2 ^ 59) (o
       pub removal_returned : Gives (shown c) new o (is_done w.phase)
       removal_returned = elim empties_or_not [
         | inr stays ↦
-            returned_on Done (ap (λ (x : Walk). x.phase) (t.ends stays).0) tt tt tt refl answer
+            returned_on Done (ap (λ (x : Walk). x.phase) (t.ends stays).0) tt tt tt refl answer (λ facts. tt)
+            (λ facts u is. absurd (let none = ap (λ (x : Removal). x.cleans) (sym (t.ends stays).1) ∙ is in cc))
         | inl empties ↦
             let goes = t.cleans empties in
             let back = t.kept op.task.key unlocks empties in
@@ -319,4 +328,9 @@ module _ (c : Core) (o : ℕ) (h : StateInvariant c) (few : c.steps < 2 ^ 59) (o
               bound = bound_told op.outcome unlocking.answer.outcome unlocking.answer.told new after (record { removes = removes; answer = answer; cleans = back.1 });
               unprepared = unlocking.answer.unprepared;
             })
+            (λ facts. first_aside_back op.birth arena w after.walk.first (subst (λ (x : Walk). RemembersKept op.birth arena x) (sym goes.0) (top_back op.birth c.arena facts arena t.is.retired op.walk)))
+            (λ facts u is.
+            let of : op.walk.place.tree ≡ u = same_Some op.walk.place.tree u (ap (λ (x : Removal). x.cleans) (sym goes.1) ∙ is) in
+            subst (λ i. IsTreeOutFrom (op.birth + 1) c.arena.retired i) (unlocks.node.tree ∙ of)
+            ((h.remembered o op there).held op.walk.place.node unlocks.node.returns.held.there unlocks.node.returns.held.holder).1)
       ]

@@ -8,6 +8,7 @@ use Rattle.mt_arena.specs.{Layers.slot_at, Forests.{no_tree, tree_at}, Contents.
 use Rattle.mt_arena.specs.{Arena.{ArenaView, content_of, Guarantee}, Accesses.{at, tree_of, IsHeld, with_node}}
 use Rattle.mt_arena.specs.{Removals.{without_node, without_root, without_layer}, Unlinks.{joined, without_child}, Collapses.crowned}
 use Rattle.mt_arena.proofs.Pairs.{here, there as there_other}
+use Rattle.mt_state.specs.KeptBack.{Retires, TakesLive}
 use Rattle.mt_state.specs.{Views.Core, Promises.{HoldsEither, Touches}, Invariant.{IsCountedUpTo, DeletedAreEmpty, StateInvariant}}
 use Rattle.mt_state.proofs.{Quiet.{AreSlotsOf, HasPairsOf, LeavesPairs}, Climbing.each_set}
 
@@ -21,6 +22,7 @@ pub record Stays (o : ℕ) (x y : NodeView) : Type 0 where
   pub inserts : y.version.inserts ≡ x.version.inserts
   pub splits : y.version.splits ≡ x.version.splits
   pub touched : (y ≡ x) ⊎ HoldsEither o x y ⊎ (y ≡ pointed x y.previous y.parent)
+  pub taken : y.holder ≡ Some o → (x.holder ≡ Some o) ⊎ (x.version.deleted ≡ false)
 
 -- all nodes stay so, and each tree that is live was live, with the same prefix
 pub record LeavesNodes (o : ℕ) (old new : ArenaView) : Type 0 where
@@ -39,6 +41,7 @@ stays_same o x emptied = record {
   inserts = refl;
   splits = refl;
   touched = inl refl;
+  taken = λ held. inl held;
 }
 
 -- a live node counts in a live tree alone
@@ -80,14 +83,20 @@ module _ (c : Core) (o : ℕ) (h : StateInvariant c) (new : ArenaView) (l : Leav
   pub removal_touches : Touches o c.arena new
   removal_touches k within = (l.each k within).touched
 
+  -- what it holds then it held before, or it was live
+  pub removal_takes : TakesLive o c.arena new
+  removal_takes k within holds = let was : k < length c.arena.nodes = omega (arith, within, l.count) in inl (was, (l.each k was).taken holds)
+
   -- what a step of a removal leaves
-  pub removal_leaves : Guarantee o c.arena new → content_of new ≡ content_of c.arena → LeavesPairs c o new
-  removal_leaves guarantee contents = record {
+  pub removal_leaves : Guarantee o c.arena new → content_of new ≡ content_of c.arena → Retires c.steps c.arena.retired new.retired → LeavesPairs c o new
+  removal_leaves guarantee contents taken_out = record {
     guarantee = guarantee;
     contents = contents;
     stood = λ k within counted. inl (stood k within counted);
     versions = versions;
     deleted = λ k within gone. (l.each k (omega (arith, within, l.count))).emptied gone;
+    taken_out = taken_out;
+    takes = removal_takes;
     makes =
         let count = l.count in
         let trees = l.trees in
@@ -112,9 +121,9 @@ module _ (o : ℕ) (v : ArenaView) (deleted : DeletedAreEmpty v) where
     standing = λ t live. live;
   }
 
-  -- a node was locked that nobody held
-  pub lock_leaves : (k : ℕ) → k < length v.nodes → LeavesNodes o v (with_node v k (locked (at v k) o))
-  lock_leaves k within = one_leaves k (locked (at v k) o) (record {
+  -- a live node was locked that nobody held
+  pub lock_leaves : (k : ℕ) → k < length v.nodes → (at v k).version.deleted ≡ false → LeavesNodes o v (with_node v k (locked (at v k) o))
+  lock_leaves k within live = one_leaves k (locked (at v k) o) (record {
     slots = λ i inside. (i, inside, refl);
     tree = refl;
     gone = λ gone. gone;
@@ -122,6 +131,7 @@ module _ (o : ℕ) (v : ArenaView) (deleted : DeletedAreEmpty v) where
     inserts = refl;
     splits = refl;
     touched = inr (inl (inr refl));
+    taken = λ held. inr live;
   })
 
   -- the node behind names another one as the one before
@@ -134,6 +144,7 @@ module _ (o : ℕ) (v : ArenaView) (deleted : DeletedAreEmpty v) where
     inserts = refl;
     splits = refl;
     touched = inr (inr refl);
+    taken = λ held. inl held;
   })
 
 -- the slots without one are slots that were there
@@ -182,6 +193,7 @@ module _ (o : ℕ) (v : ArenaView) (deleted : DeletedAreEmpty v) where
         inserts = refl;
         splits = refl;
         touched = inr (inl (inl left_held.holder));
+        taken = λ held. inl left_held.holder;
       }
 
       new_node : Stays o (at v node) (retired (at v node))
@@ -193,6 +205,7 @@ module _ (o : ℕ) (v : ArenaView) (deleted : DeletedAreEmpty v) where
         inserts = refl;
         splits = refl;
         touched = inr (inl (inl node_held.holder));
+        taken = λ held. inl node_held.holder;
       }
 
       new_parent : (a : ℕ) → Stays o (at v parent) (without_child (inserting (at v parent)) a)
@@ -204,6 +217,7 @@ module _ (o : ℕ) (v : ArenaView) (deleted : DeletedAreEmpty v) where
         inserts = refl;
         splits = refl;
         touched = inr (inl (inl parent_held.holder));
+        taken = λ held. inl parent_held.holder;
       }
 
   -- a root gave way to its only child
@@ -239,6 +253,7 @@ module _ (o : ℕ) (v : ArenaView) (deleted : DeletedAreEmpty v) where
         inserts = refl;
         splits = refl;
         touched = inr (inl (inl root_held.holder));
+        taken = λ held. inl root_held.holder;
       }
 
       new_child : Stays o (at v child) (crowned (at v child))
@@ -250,11 +265,12 @@ module _ (o : ℕ) (v : ArenaView) (deleted : DeletedAreEmpty v) where
         inserts = refl;
         splits = refl;
         touched = inr (inl (inl child_held.holder));
+        taken = λ held. inl child_held.holder;
       }
 
   -- an empty layer was taken out, once the root of its tree was locked
   module _ (node i u step : ℕ) (node_held : IsHeld v node o) (live : (at v node).version.deleted ≡ false) (tree_there : u < length v.trees) (root_there : (tree_at v.trees u).root < length v.nodes)
-      (empty : (at v (tree_at v.trees u).root).slots ≡ []) where
+      (empty : (at v (tree_at v.trees u).root).slots ≡ []) (root_live : (at v (tree_at v.trees u).root).version.deleted ≡ false) where
     abbrev root : ℕ
     root = (tree_at v.trees u).root
 
@@ -265,7 +281,7 @@ module _ (o : ℕ) (v : ArenaView) (deleted : DeletedAreEmpty v) where
     without_link = with_slots (at locking node) (without (at locking node).slots (slot_at (at locking node) i)) (cells_without (at locking node).cells i)
 
     locks : LeavesNodes o v locking
-    locks = lock_leaves o v deleted root root_there
+    locks = lock_leaves o v deleted root root_there root_live
 
     -- the node is live as before
     still_live : (at locking node).version.deleted ≡ false
@@ -288,6 +304,7 @@ module _ (o : ℕ) (v : ArenaView) (deleted : DeletedAreEmpty v) where
           inserts = s.inserts;
           splits = s.splits;
           touched = inr (inl (inl node_held.holder));
+          taken = λ held. inl node_held.holder;
         }
 
     new_root : Stays o (at v root) (retired (at locking root))
@@ -301,6 +318,7 @@ module _ (o : ℕ) (v : ArenaView) (deleted : DeletedAreEmpty v) where
           inserts = refl;
           splits = refl;
           touched = inr (inl (inr refl));
+          taken = λ held. inr root_live;
         })
 
     pub clean_leaves : LeavesNodes o v (without_layer locking node i u step)

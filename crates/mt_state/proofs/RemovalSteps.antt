@@ -14,10 +14,10 @@ use Rattle.mt_descent.specs.WalkMoves.{KeepsPairs}
 use Rattle.mt_remove.specs.{Writes.is_remove, KeptRemovals.{IsAmong as IsOfRemoval, HoldsRemoval, KeptRemoval}, Steps.IsRemovalFrom}
 use Rattle.mt_state.specs.{Views.{StateView, Core, shown}, Notes.{Notes, Keeps}}
 use Rattle.mt_state.specs.KeptOperations.{IsOpenOperation, HasAnswer, MayUnlock, MayUnlockUnsplit, IsUnlinking, IsKeptAt, IsKeptFor}
-use Rattle.mt_state.specs.{Invariant.{HoldsAt, HoldsBy, HoldsLast, StateInvariant}, Writes.removing}
+use Rattle.mt_state.specs.{Invariant.{HoldsAt, HoldsBy, HoldsLast, StateInvariant}, Writes.removing, KeptBack.{IsWalkBack, IsBackAt, Retires}}
 use Rattle.mt_state.proofs.{Telling.Gives, Moved.went_on, Bound.answered_on, Still.{IsUnready, unready_none, IsUnreadyBy}, Reading.walk_same}
 use Rattle.mt_state.proofs.{OneNode.{returning_by, quiet_grows, holds_here, quiet_gives_on}, RemovalNodes.{LeavesNodes, removal_leaves, removal_touches}}
-use Rattle.mt_state.proofs.RemovalBy.{removes_by}
+use Rattle.mt_state.proofs.RemovalBy.{removes_by, retires_by, cleans_by}
 use Rattle.mt_operation.specs.declared.walk.Aim.TheVariants as aims
 use Rattle.mt_operation.specs.Phases as kinds
 
@@ -94,6 +94,16 @@ removal_settled p i told = by (row p).kind i
     by kinds.Returns i = refl
     by _ i = absurd i
 
+-- its walk tells nothing of what it remembers
+pub removal_back : (p : Phase) → HasRemoval p → (v : ArenaView) (op : Operation) → IsBackAt p v op
+removal_back p i v op = by (row p).kind i
+  where
+    by : (of : Kind) → HasRemovalBy of → IsWalkBack of p v op
+    by kinds.Unlinks i = tt
+    by kinds.Cleans i = tt
+    by kinds.Returns i = tt
+    by _ i = absurd i
+
 removal_notes : (p q : Phase) → IsRemovalPhase p → HasRemoval q → (old : StateView) (op : OperationView) → Notes old op p q op.outcome
 removal_notes p q i j old op = by_removal (λ p. Notes old op p q op.outcome) settled settled settled settled settled settled p i
   where
@@ -166,10 +176,10 @@ module _ (c : Core) (o : ℕ) (h : StateInvariant c) (few : c.steps < 2 ^ 59) (o
     holds_removal k within held = removal_holds op.walk.phase takes op k (holds_here c (shown c) o refl h few op there op.walk.phase refl k within held)
 
     -- it goes on so
-    pub removed_on : (arena : ArenaView) (w : Walk) (r : Removal) → LeavesNodes o c.arena arena → KeepsPairs o c.arena arena op.walk w
+    pub removed_on : (arena : ArenaView) (w : Walk) (r : Removal) → LeavesNodes o c.arena arena → Retires c.steps c.arena.retired arena.retired → r.cleans ≡ op.removal.cleans → KeepsPairs o c.arena arena op.walk w
         → MayFollow op.walk.phase w.phase → KeptRemoval w.phase arena o op.task.key w r → HoldsRemoval arena o w r
         → Gives (shown c) (removing c arena c.tape c.accounts o op w op.outcome op.prepared r) o false
-    removed_on arena w r leaves keeps follows kept holds =
+    removed_on arena w r leaves taken_out cleans keeps follows kept holds =
         let p = op.walk.phase in
         let after = went_on op (c.steps + 1) w op.outcome op.prepared op.splits r in
         let new = removing c arena c.tape c.accounts o op w op.outcome op.prepared r in
@@ -178,7 +188,7 @@ module _ (c : Core) (o : ℕ) (h : StateInvariant c) (few : c.steps < 2 ^ 59) (o
         let whole = walk_same c op always w (always.begun (removal_begun p was)) keeps.same.first in
         let answer = answered_on c new op always (quiet_grows c o arena c.tape.reserved after keeps.contents) w op.prepared op.splits r unlinking.answer.unprepared unlinking.answer in
         quiet_gives_on c (shown c) o refl h few op there arena c.tape.reserved w op.outcome op.prepared op.splits r
-        (removal_leaves c o h arena leaves keeps.guarantee keeps.contents)
+        (removal_leaves c o h arena leaves keeps.guarantee keeps.contents taken_out)
         (λ puts. absurd (both_ways _ puts unlinking.removes))
         (removal_open p was) follows keeps.same.aim
         (removal_kind w.phase leads w.aim (keeps.same.aim ∙ removal_writes p was op.walk.aim always.kind)) refl
@@ -186,6 +196,8 @@ module _ (c : Core) (o : ℕ) (h : StateInvariant c) (few : c.steps < 2 ^ 59) (o
         (λ k within held. removal_held w.phase (behind_removal p w.phase takes follows).0 after k unsplit.halves
         (subst (λ (x : Walk). IsOfRemoval x r k) (sym whole) (holds k within held)))
         (removal_kept w.phase new o after unlinking.removes unsplit (subst (λ (x : Walk). KeptRemoval w.phase arena o op.task.key x r) (sym whole) kept) answer)
+        (λ facts. removal_back w.phase leads arena after)
+        (λ facts u is. (h.remembered o op there).cleans u (sym cleans ∙ is))
         (λ none. unsplit)
         (let none = unready_none op p refl (removal_unready p was) in let no = unready_none after w.phase refl (removal_unready w.phase leads) in omega (arith, none, no))
         (removal_touches c o h arena leaves) false (sym (removal_open w.phase leads))
@@ -196,4 +208,7 @@ module _ (c : Core) (o : ℕ) (h : StateInvariant c) (few : c.steps < 2 ^ 59) (o
         → Gives (shown c) (removing c arena c.tape c.accounts o op w op.outcome op.prepared r) o false
     removed_done is_arena arena w r from =
         let b = removes_by o (c.steps + 1) op.task.key c.arena arena op.walk w op.removal r is_arena h.deleted op.walk.phase takes unlinking.kept from in
-        removed_on arena w r b.leaves b.keeps b.follows b.kept (b.holds holds_removal)
+        removed_on arena w r b.leaves
+        (retires_by o c.steps op.task.key c.arena arena op.walk w op.removal r is_arena h.deleted h.late op.walk.phase takes unlinking.kept from)
+        (cleans_by o (c.steps + 1) op.task.key c.arena arena op.walk w op.removal r is_arena h.deleted op.walk.phase takes unlinking.kept from)
+        b.keeps b.follows b.kept (b.holds holds_removal)

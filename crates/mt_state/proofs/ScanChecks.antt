@@ -19,9 +19,13 @@ use Rattle.mt_stretches.specs.Scanned.{maps_of, HasScanned, IsSeenTo, HasSeen}
 use Rattle.mt_stretches.proofs.{Beginning.seen_stays, Checking.{checked_on, checked_off, checked_short, dropped}}
 use Rattle.mt_state.specs.{Views.{Core, shown, past_of}, Steps.told_change, Notes.Notes, Ways.IsOnWay}
 use Rattle.mt_state.specs.{KeptOperations.{HasScannedFor, IsOpenOperation, IsChecking, IsHopping, HasAnswer, IsKeptAt}, Invariant.StateInvariant}
-use Rattle.mt_state.proofs.{Decides.same_or_not, Descents.{Leads, changed_leads}, Telling.Gives, Quiet.quiet, Moved.{first_begun, first_upto, first_same}}
+use Rattle.mt_descent.proofs.Decides.{same_or_not}
+use Rattle.mt_state.proofs.{Descents.{Leads, changed_leads}, Telling.Gives, Quiet.quiet, Moved.{first_begun, first_upto, first_same}}
 use Rattle.mt_state.proofs.{Still.{IsFree, IsUnready}, Reading.walk_same, Scanning.{went_scan, scans, next_past, longer, still_scanned, scan_gives}}
-use Rattle.mt_state.proofs.{ScanLooks.{scan_leads, scan_stopped}, ScanNeeds.sorted_pairs}
+use Rattle.mt_state.proofs.{ScanLooks.{scan_leads, scan_stopped}, ScanNeeds.sorted_pairs, KeptBack.{scan_look_back, walk_of_scan}}
+use Rattle.mt_state.specs.KeptBack.{ScanRemembersKept, IsBackAt}
+use Rattle.mt_scan.proofs.Learning.{learns_behind, learns_changed}
+use Rattle.mt_scan.specs.Remembered.{Learns}
 use Rattle.mt_operation.specs.declared.walk.Aim.TheVariants as aims
 use Rattle.mt_operation.specs.declared.scan.Stop.TheVariants as stops
 
@@ -128,6 +132,11 @@ module _ (c : Core) (o : ℕ) (h : StateInvariant c) (few : c.steps < 2 ^ 59) (o
   abbrev node : NodeView
   node = at c.arena op.walk.place.node
 
+  -- what it remembers
+  check_back : ScanRemembersKept op.birth c.arena op.walk.phase op.walk op.scan.stop
+  check_back = subst (λ (p : Phase). ScanRemembersKept op.birth c.arena p op.walk op.scan.stop) (sym at_check)
+      (subst (λ (p : Phase). IsBackAt p c.arena op) at_check (h.remembered o op there).walk)
+
   -- the past as the step leaves it
   abbrev past : Past
   past = next_past c o h few op there check_free check_scans
@@ -163,6 +172,13 @@ module _ (c : Core) (o : ℕ) (h : StateInvariant c) (few : c.steps < 2 ^ 59) (o
         subst (λ first. HasScannedFor (ask op.task) past first now) (sym (first_same c op always w begun))
         (subst (λ (command : Command). HasScannedFor command past op.walk.first now) (sym asks) has)
 
+    -- where it goes on it comes to remember nothing that it did not
+    learns_on : SameButLock node.version op.walk.place.seen → w.phase ≡ Hop → Learns c.arena op.walk w op.scan.stop scan.stop
+    learns_on stood hops = elim (cases_eq (length (collects count columns was)) count) [
+      | inl full ↦ absurd (let both : Hop ≡ Done = sym hops ∙ ap (λ (y : Walk). y.phase) (check.full stood full).1 in cc)
+      | inr short ↦ learns_behind c.arena op.walk at_check prefix (kept_seen count columns was) now w (check.goes stood short)
+    ]
+
     -- it keeps what it has seen, and goes on from its next fence
     pub check_keeps : w.phase ≡ Hop → KeptHop c.arena key w scan.stop
         → Gives (shown c) (quiet c c.arena c.tape.reserved o (went_scan op (c.steps + 1) key w scan op.outcome)) o false
@@ -182,6 +198,9 @@ module _ (c : Core) (o : ℕ) (h : StateInvariant c) (few : c.steps < 2 ^ 59) (o
         (subst (λ (q : Phase). Notes (shown c) (view_of op) q w.phase op.outcome) (sym at_check)
         (subst (λ (q : Phase). Notes (shown c) (view_of op) Check q op.outcome) (sym hops) (checking.untold, checking.untold)))
         (subst (λ (q : Phase). IsKeptAt q new o after) (sym hops) own)
+        (λ facts. subst (λ (q : Phase). IsBackAt q c.arena after) (sym hops) (subst (λ (x : Walk). ScanRemembersKept op.birth c.arena Hop x scan.stop) (sym whole)
+        (subst (λ (p : Phase). ScanRemembersKept op.birth c.arena p w scan.stop) hops
+        (scan_look_back op.birth c.arena op.walk w op.scan.stop scan.stop facts (learns_on stood hops) check_back))))
         (λ unfinished. done_so
         (checked_on past op.walk.first from after_from node prefix count columns op.walk w was now scanned_so check seen stood stored hops))
         false (sym (ap is_done hops))
@@ -225,6 +244,7 @@ module _ (c : Core) (o : ℕ) (h : StateInvariant c) (few : c.steps < 2 ^ 59) (o
         (subst (λ (q : Phase). Notes (shown c) (view_of op) q w.phase told) (sym at_check)
         (subst (λ (q : Phase). Notes (shown c) (view_of op) Check q told) (sym ends) (inr (scan.collected.items, refl))))
         (subst (λ (q : Phase). IsKeptAt q new o after) (sym ends) own)
+        (λ facts. subst (λ (q : Phase). IsBackAt q c.arena after) (sym ends) tt)
         (λ unfinished. absurd (let is = ap is_done ends in let no = sym unfinished ∙ is in cc)) true (sym (ap is_done ends))
 
     -- those are pairs that may be shown
@@ -248,6 +268,9 @@ module _ (c : Core) (o : ℕ) (h : StateInvariant c) (few : c.steps < 2 ^ 59) (o
         let leads : Leads Check w.phase w.aim = subst (λ (x : Walk). Leads Check x.phase x.aim) (sym changed.1) (changed_leads Check tt tt op.walk node.version node.next) in
         scan_leads c o h few op there Check at_check tt check_scans begun checking.untold checking.unprepared
         key stored (ap (λ (y : ScanView). tenant_of y.fence) changed.0) w scan same leads notes kept
+        (λ facts. walk_of_scan op.birth c.arena w scan.stop leads.0
+        (scan_look_back op.birth c.arena op.walk w op.scan.stop scan.stop facts
+        (subst (λ (x : Walk). Learns c.arena op.walk x op.scan.stop scan.stop) (sym changed.1) (learns_changed c.arena op.walk at_check node.version op.scan.stop scan.stop)) check_back))
         (done_so (dropped past op.walk.first from after_from node prefix count columns op.walk w was now scanned_so check other))
       where
         notes : (q : Phase) → MayFollow Check q → is_done q ≡ false → Notes (shown c) (view_of op) Check q op.outcome

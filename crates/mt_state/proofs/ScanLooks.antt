@@ -15,7 +15,10 @@ use Rattle.mt_scan.specs.{Snaps.{prefix_in, IsSnap}, Hops.{IsAtHop, IsAtCheck, K
 use Rattle.mt_stretches.{specs.Scanned.HasSeen, proofs.Snapping.snap_sees}
 use Rattle.mt_state.specs.{Views.{Core, shown, map_of, past_of}, Steps.told_change, Notes.Notes}
 use Rattle.mt_state.specs.KeptOperations.{HasScannedFor, IsOpenOperation, IsOnItsWay, IsChecking, IsHopping, HasAnswer, IsBound, IsKeptAt}
-use Rattle.mt_state.specs.Invariant.{StateInvariant}
+use Rattle.mt_state.specs.{Invariant.StateInvariant, Ways.IsOnWay, KeptBack.{ArenaFacts, ScanRemembersKept, IsBackAt}}
+use Rattle.mt_descent.specs.KeptBack.{RemembersKept}
+use Rattle.mt_scan.proofs.Learning.{learns_snap, learns_hop}
+use Rattle.mt_state.proofs.KeptBack.{on_walk, first_aside_back, scan_look_back, scan_of_walk, walk_of_scan}
 use Rattle.mt_state.proofs.{Lawful.{stopped_free, scan_no_remove}, Descents.{Leads, first_aside}, Telling.Gives, Quiet.quiet, Moved.{first_begun, first_upto}}
 use Rattle.mt_state.proofs.{Still.{IsFree, IsUnready}, Reading.{reads_untold, walk_same, now_is, on_way_unready, on_way_open, kept_on_way}}
 use Rattle.mt_state.proofs.Scanning.{went_scan, seen_aside, scans, still_scanned, scan_gives}
@@ -35,10 +38,10 @@ module _ (c : Core) (o : ℕ) (h : StateInvariant c) (few : c.steps < 2 ^ 59) (o
       → (key : Bytes) → IsStoredKey key → tenant_of key ≡ tenant_of op.task.key
       → (w : Walk) (scan : Memory) → Continues op.walk w → Leads p w.phase w.aim
       → ((q : Phase) → MayFollow p q → is_done q ≡ false → Notes (shown c) (view_of op) p q op.outcome)
-      → ((past : Past) → IsKept c.arena past key None w)
+      → ((past : Past) → IsKept c.arena past key None w) → (ArenaFacts c.arena → RemembersKept op.birth c.arena w)
       → HasScannedFor (ask op.task) (past_of (quiet c c.arena c.tape.reserved o op)) (moved op (c.steps + 1) w).walk.first (scan_of (record op.task { key = key }) scan)
       → Gives (shown c) (quiet c c.arena c.tape.reserved o (went_scan op (c.steps + 1) key w scan op.outcome)) o false
-  scan_leads p at_p free scanning begun untold unprepared key stored same_tenant w scan same leads notes kept brings =
+  scan_leads p at_p free scanning begun untold unprepared key stored same_tenant w scan same leads notes kept back brings =
       let is_free : IsFree op.walk.phase = subst IsFree (sym at_p) free in
       let after = went_scan op (c.steps + 1) key w scan op.outcome in
       let new = quiet c c.arena c.tape.reserved o after in
@@ -52,6 +55,7 @@ module _ (c : Core) (o : ℕ) (h : StateInvariant c) (few : c.steps < 2 ^ 59) (o
       (on_way_unready w.phase leads.0) same.aim leads.2 untold (ap told_change untold)
       (subst (λ (q : Phase). Notes (shown c) (view_of op) q w.phase op.outcome) (sym at_p) (notes w.phase leads.1 (on_way_open w.phase leads.0)))
       (kept_on_way w.phase leads.0 new o after on)
+      (λ facts. on_walk w.phase leads.0 c.arena after (first_aside_back op.birth c.arena w after.walk.first (back facts)))
       (λ unfinished. brings) false (sym (on_way_open w.phase leads.0))
 
   -- there is no memory for what it sees, or keeps
@@ -81,6 +85,7 @@ module _ (c : Core) (o : ℕ) (h : StateInvariant c) (few : c.steps < 2 ^ 59) (o
       (subst IsUnready (sym done) tt) same.aim (subst (λ (q : Phase). IsOfKind q w.aim) (sym done) tt) untold refl
       (subst (λ (q : Phase). Notes (shown c) (view_of op) q w.phase told) (sym at_p) (subst (λ (q : Phase). Notes (shown c) (view_of op) p q told) (sym done) notes))
       (subst (λ (q : Phase). IsKeptAt q new o after) (sym done) own)
+      (λ facts. subst (λ (q : Phase). IsBackAt q c.arena after) (sym done) tt)
       (λ unfinished. absurd (let is = ap is_done done in let no = sym unfinished ∙ is in cc)) true (sym (ap is_done done))
 
   module _ (at_snap : op.walk.phase ≡ Snap) where
@@ -105,6 +110,11 @@ module _ (c : Core) (o : ℕ) (h : StateInvariant c) (few : c.steps < 2 ^ 59) (o
     pub snap_stopped : (key : Bytes) → IsStoredKey key → tenant_of key ≡ tenant_of op.task.key → (w : Walk) (left : Memory) → w.phase ≡ Done → Continues op.walk w
         → Gives (shown c) (quiet c c.arena c.tape.reserved o (went_scan op (c.steps + 1) key w left (Some (record { reply = NoMemory; at = c.steps + 1 })))) o true
     snap_stopped = scan_stopped Snap at_snap tt tt snap_scans untold way.unprepared refl
+
+    -- what it remembers at its node
+    snap_back : (stop : Stop) → ScanRemembersKept op.birth c.arena op.walk.phase op.walk stop
+    snap_back stop = scan_of_walk op.birth c.arena op.walk stop (subst IsOnWay (sym at_snap) tt)
+        (subst (λ (p : Phase). IsBackAt p c.arena op) at_snap (h.remembered o op there).walk)
 
     -- it has seen the pairs of its node
     pub snap_done : IsArena c.arena.nodes c.arena.trees → (w : Walk) (scan : Memory) → IsSnap c.arena op.walk w (scan_of op.task op.scan) (scan_of op.task scan)
@@ -132,10 +142,18 @@ module _ (c : Core) (o : ℕ) (h : StateInvariant c) (few : c.steps < 2 ^ 59) (o
         (subst (λ (q : Phase). Notes (shown c) (view_of op) q w.phase op.outcome) (sym at_snap)
         (subst (λ (q : Phase). Notes (shown c) (view_of op) Snap q op.outcome) (sym checks) (untold, untold)))
         (subst (λ (q : Phase). IsKeptAt q new o after) (sym checks) own)
+        (λ facts. subst (λ (q : Phase). IsBackAt q c.arena after) (sym checks) (snapped_back facts))
         (λ unfinished. subst (HasScannedFor (ask op.task) (past_of new) after.walk.first) (sym s.rest)
         (seen_aside (ask op.task) (past_of new) after.walk.first (scan_of op.task op.scan) (scan_of op.task scan).seen (scan_of op.task scan).stop
         (still_scanned c o h few op there snap_free snap_scans begun w)))
         false (sym (ap is_done checks))
+      where
+        snapped_back : ArenaFacts c.arena → ScanRemembersKept op.birth c.arena Check (went_scan op (c.steps + 1) op.task.key w scan op.outcome).walk scan.stop
+        snapped_back facts =
+            let learns = learns_snap c.arena op.walk (scan_of op.task op.scan) arena border at_snap (h.deleted op.walk.place.node border.covers.remembered.there) w (scan_of op.task scan) s in
+            let at_check : ScanRemembersKept op.birth c.arena w.phase w scan.stop = scan_look_back op.birth c.arena op.walk w op.scan.stop scan.stop facts learns (snap_back op.scan.stop) in
+            subst (λ (x : Walk). ScanRemembersKept op.birth c.arena Check x scan.stop) (sym (walk_same c op always w begun (ap (λ (x : Walk). x.first) s.walk)))
+            (subst (λ (p : Phase). ScanRemembersKept op.birth c.arena p w scan.stop) (ap (λ (x : Walk). x.phase) s.walk) at_check)
 
   module _ (at_hop : op.walk.phase ≡ Hop) where
     hopping : IsHopping c op
@@ -187,4 +205,8 @@ module _ (c : Core) (o : ℕ) (h : StateInvariant c) (few : c.steps < 2 ^ 59) (o
         scan_leads Hop at_hop tt hop_scans hop_begun hopping.untold hopping.unprepared op.task.key always.stored refl w op.scan same
         (hop_leads arena op.scan.stop hopping.kept w goes)
         (λ q follows unfinished. (hopping.untold, hopping.untold)) kept
+        (λ facts. walk_of_scan op.birth c.arena w op.scan.stop (hop_leads arena op.scan.stop hopping.kept w goes).0
+        (scan_look_back op.birth c.arena op.walk w op.scan.stop op.scan.stop facts (learns_hop c.arena op.walk arena at_hop op.scan.stop w goes)
+        (subst (λ (p : Phase). ScanRemembersKept op.birth c.arena p op.walk op.scan.stop) (sym at_hop)
+        (subst (λ (p : Phase). IsBackAt p c.arena op) at_hop (h.remembered o op there).walk))))
         (still_scanned c o h few op there hop_free hop_scans hop_begun w)

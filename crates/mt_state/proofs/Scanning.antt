@@ -11,6 +11,7 @@ use Rattle.mt_descent.specs.Pasts.{Past, ExtendsPast}
 use Rattle.mt_state.specs.{Views.{Core, shown, past_of}, Steps.{told_change, change_in}, Notes.Notes}
 use Rattle.mt_state.specs.{KeptOperations.{HasScannedFor, KeepsScan, IsOpenOperation, IsKeptAt, IsKeptOf}, Invariant.StateInvariant}
 use Rattle.mt_state.proofs.{Lawful.aim_scan, ScanKept.scanned_for_stays, Quiet.{quiet, quiet_move, is_quiet}, Telling.{Gives, gives}}
+use Rattle.mt_state.specs.KeptBack.{ArenaFacts, IsBackAt}
 use Rattle.mt_state.proofs.Moved.{open_moved, first_same}
 use Rattle.mt_state.proofs.Still.{IsFree, IsUnready, floor_made, leaves_all, free_open, free_unsplit, free_unready, unready_none, holds_nothing}
 use Rattle.mt_operation.specs.declared.walk.Aim.TheVariants as aims
@@ -84,9 +85,10 @@ module _ (c : Core) (o : ℕ) (h : StateInvariant c) (few : c.steps < 2 ^ 59) (o
     }
 
     pub scan_gives : MayFollow op.walk.phase w.phase → IsUnready w.phase → w.aim ≡ op.walk.aim → IsOfKind w.phase w.aim
-        → op.outcome ≡ None → told_change told ≡ None → Notes (shown c) (view_of op) op.walk.phase w.phase told → IsKeptAt w.phase new o after → (is_done w.phase ≡ false → KeepsScan new after)
+        → op.outcome ≡ None → told_change told ≡ None → Notes (shown c) (view_of op) op.walk.phase w.phase told → IsKeptAt w.phase new o after
+        → (ArenaFacts c.arena → IsBackAt w.phase c.arena after) → (is_done w.phase ≡ false → KeepsScan new after)
         → (done : Bool) → done ≡ is_done w.phase → Gives (shown c) new o done
-    scan_gives follows unready aim kind untold no_change notes kept brings done ends =
+    scan_gives follows unready aim kind untold no_change notes kept back brings done ends =
         let k = h.ops o op there in
         let leaves = leaves_all c o h in
         let same_change : change_in (view_of after) ≡ change_in (view_of op) = no_change ∙ sym (ap told_change untold) in
@@ -104,6 +106,7 @@ module _ (c : Core) (o : ℕ) (h : StateInvariant c) (few : c.steps < 2 ^ 59) (o
           scan = inr brings;
           held = λ j within held. absurd (holds_nothing c (shown c) o refl h few op there free j within held);
           kept = own;
+          back = record { birth = refl; walk = back; cleans = λ facts. (h.remembered o op there).cleans };
           reserved =
               let none = unready_none op op.walk.phase refl (free_unready op.walk.phase free) in
               let no = unready_none after w.phase refl unready in

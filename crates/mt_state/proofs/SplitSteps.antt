@@ -20,10 +20,11 @@ use Rattle.mt_insert.specs.{SplitStart.{IsSplitStart, IsSplitStopped}, Climbs.Is
 use Rattle.mt_state.specs.{Views.{StateView, Core, shown, map_of}, Steps.told_change, Notes.{Notes, Keeps}, Promises.{IsAnswer, Touches}}
 use Rattle.mt_state.specs.KeptOperations.{IsOpenOperation, IsSplitStarting, IsSplitMoving, HasAnswer, MayUnlock, IsUnlocking, IsKeptAt, IsClimbing, IsKeptFor}
 use Rattle.mt_state.specs.{Invariant.{IsCountedUpTo, HoldsLast, HoldsAt, StateInvariant, HoldsBy, DeletedAreEmpty}, Writes.splitting}
+use Rattle.mt_state.specs.KeptBack.{IsWalkBack, IsBackAt, TakesLive}
 use Rattle.mt_state.proofs.{Rely.answer_stays, Telling.Gives, Quiet.{LeavesPairs, HasPairsOf, same_slots}}
 use Rattle.mt_state.proofs.{Moved.{went_with, first_same, first_begun, first_upto}, Still.{IsUnready, unready_none, IsUnreadyBy}, Reading.walk_same}
 use Rattle.mt_state.proofs.OneNode.{same_counts, returning_by, returning_told, counted_unlocked, replaced_at, replaced_touches, replaced_leaves, quiet_grows, holds_here, quiet_gives_with}
-use Rattle.mt_state.proofs.{Locking.{ready_one, room_for}, Growing.makes_same, Climbing.{LeavesNodes, MovesNoPair, moves_by}}
+use Rattle.mt_state.proofs.{Locking.{ready_one, room_for}, Growing.{makes_same, retires_same}, Climbing.{LeavesNodes, MovesNoPair, moves_by}}
 use Rattle.mt_state.proofs.{ClimbingNodes.{climb_leaves, climb_keeps, climb_follows, climb_some, begun_leaves}, Lawful.{lawful_more, stopped_free}}
 use Rattle.mt_descent.specs.WalkMoves.{Continues}
 use Rattle.mt_walks.specs.Walked.{IsWithin}
@@ -128,6 +129,18 @@ holds_last : (l : List Halves) (op : Operation) (k : ℕ) → l ≢ [] → IsAmo
 holds_last [] op k some among = absurd (some refl)
 holds_last (x ∷ l) op k some among = among
 
+-- so its walk tells nothing of what it remembers
+pub halves_back : (p : Phase) → HasHalves p → (v : ArenaView) (op : Operation) → IsBackAt p v op
+halves_back p i v op = by (row p).kind i
+  where
+    by : (of : Kind) → HasHalvesBy of → IsWalkBack of p v op
+    by kinds.Climbs i = tt
+    by kinds.Returns i = tt
+    by _ i = absurd i
+
+pub climb_back : (p : Phase) → IsClimb p → (v : ArenaView) (op : Operation) → IsBackAt p v op
+climb_back p i = halves_back p (halves_of p i)
+
 pub halves_held : (p : Phase) → HasHalves p → (op : Operation) (k : ℕ) → op.splits.halves.items ≢ [] → IsAmong op.splits k → HoldsAt p op k
 halves_held p i op k some among = by (row p).kind i
   where
@@ -217,6 +230,8 @@ module _ (c : Core) (o : ℕ) (h : StateInvariant c) (arena : ArenaView) where
     stood = m.stood;
     versions = λ k inside. let was = m.versions k inside in record { inserts = omega (arith, was.inserts); splits = omega (arith, was.splits) };
     deleted = m.deleted;
+    taken_out = m.taken_out;
+    takes = m.takes;
     makes = m.makes;
   }
 
@@ -253,13 +268,23 @@ module _ (c : Core) (o : ℕ) (h : StateInvariant c) (arena : ArenaView) where
     returned_deleted k inside gone =
         let was : k < length c.arena.nodes = omega (arith, inside, count) in let is = same k was in is.0 ∙ h.deleted k was (sym is.2 ∙ gone)
 
-    pub returned_leaves : Guarantee o c.arena arena → content_of arena ≡ content_of c.arena → LeavesPairs c o arena
-    returned_leaves guarantee contents = record {
+    returned_takes : TakesLive o c.arena arena
+    returned_takes k inside holds =
+        let was : k < length c.arena.nodes = omega (arith, inside, count) in
+        elim (each k was) [
+          | inl (held, is) ↦ inl (was, inl held)
+          | inr is ↦ inl (was, inl (ap (λ (n : NodeView). n.holder) (sym is) ∙ holds))
+        ]
+
+    pub returned_leaves : Guarantee o c.arena arena → content_of arena ≡ content_of c.arena → arena.retired ≡ c.arena.retired → LeavesPairs c o arena
+    returned_leaves guarantee contents retired = record {
       guarantee = guarantee;
       contents = contents;
       stood = λ k inside counted. inl (stood k inside counted);
       versions = returned_versions;
       deleted = returned_deleted;
+      taken_out = retires_same c arena h.late retired;
+      takes = returned_takes;
       makes = makes_same c.arena arena count (ap (λ (ts : List Tree). length ts) trees);
     }
 
@@ -320,6 +345,7 @@ module _ (c : Core) (o : ℕ) (h : StateInvariant c) (few : c.steps < 2 ^ 59) (o
       (climb_notes op.walk.phase w.phase climb leads (shown c) (view_of op))
       (λ k inside holds. halves_held w.phase leads after k t.some (t.holds k inside holds))
       (halves_kept w.phase leads new o after (climbing_of op.walk.phase climb c o op (h.ops o op there).kept).stays t.some t.kept answer)
+      (λ facts. halves_back w.phase leads arena after)
       (λ none. absurd (both_ways _ none (halves_split w.phase leads)))
       (let none = unready_none op op.walk.phase refl (halves_unready op.walk.phase was) in let no = unready_none after w.phase refl (halves_unready w.phase leads) in omega (arith, none, no))
       t.moves.touches false (sym (halves_open w.phase leads))
@@ -378,6 +404,7 @@ module _ (c : Core) (o : ℕ) (h : StateInvariant c) (few : c.steps < 2 ^ 59) (o
         (subst (λ (p : Phase). Notes (shown c) (view_of op) p w.phase op.outcome) (sym at_start) (subst (λ (p : Phase). Notes (shown c) (view_of op) SplitStart p op.outcome) (sym moves) (starting.untold, starting.untold)))
         (λ k inside holds. subst (λ (p : Phase). HoldsAt p after k) (sym moves) (t.holds k inside holds))
         (subst (λ (p : Phase). IsKeptAt p new o after) (sym moves) own)
+        (λ facts. subst (λ (p : Phase). IsBackAt p arena after) (sym moves) tt)
         (λ none. absurd (both_ways _ none (ap has_splits moves)))
         (let one = ready_one op SplitStart at_start refl in let now = ready_one after SplitMove moves refl in omega (arith, one, now))
         t.moves.touches false (sym (ap is_done moves))
@@ -428,7 +455,7 @@ module _ (c : Core) (o : ℕ) (h : StateInvariant c) (few : c.steps < 2 ^ 59) (o
         } in
         subst (λ (tape : Kept). Gives (shown c) (splitting c arena tape c.accounts o op w told None s) o true) (sym t.tape_is)
         (quiet_gives_with c (shown c) o refl h few op there arena (c.tape.reserved - 1) w told None s
-        (subst (LeavesPairs c o) (sym g.is) (replaced_leaves c o h k within (unlocked n) refl refl refl (counted_unlocked n c.steps (h.versions k within) (unlocked n) refl)
+        (subst (LeavesPairs c o) (sym g.is) (replaced_leaves c o h k within (unlocked n) refl refl refl (counted_unlocked n c.steps (h.versions k within) (unlocked n) refl) (λ e. absurd (cc))
         (subst (Guarantee o c.arena) g.is g.keeps.guarantee) (subst (λ (v : ArenaView). content_of v ≡ content_of c.arena) g.is g.keeps.contents)))
         (ap is_done at_start)
         (subst (λ (p : Phase). MayFollow p w.phase) (sym at_start) (subst (MayFollow SplitStart) (sym ends) tt))
@@ -436,6 +463,7 @@ module _ (c : Core) (o : ℕ) (h : StateInvariant c) (few : c.steps < 2 ^ 59) (o
         (subst (λ (p : Phase). Notes (shown c) (view_of op) p w.phase told) (sym at_start) (subst (λ (p : Phase). Notes (shown c) (view_of op) SplitStart p told) (sym ends) refl))
         (λ j inside holds. absurd (free within j (subst (λ (v : ArenaView). j < length v.nodes) g.is inside) (subst (λ (v : ArenaView). (at v j).holder ≡ Some o) g.is holds)))
         (subst (λ (p : Phase). IsKeptAt p new o after) (sym ends) own)
+        (λ facts. subst (λ (p : Phase). IsBackAt p arena after) (sym ends) tt)
         (λ none. t.unsplit)
         (let one = ready_one op SplitStart at_start refl in let no = unready_none after Done ends tt in let some = room_for c h o op SplitStart there at_start refl in omega (arith, one, no, some))
         (subst (Touches o c.arena) (sym g.is) (replaced_touches c.arena k within (unlocked n) o (inl starting.starts.holds.judged.held.holder)))
@@ -480,13 +508,14 @@ module _ (c : Core) (o : ℕ) (h : StateInvariant c) (few : c.steps < 2 ^ 59) (o
         let ends : w.phase ≡ Done = ap (λ (x : Walk). x.phase) t.walk in
         let each = each_returned arena t.is in
         quiet_gives_with c (shown c) o refl h few op there arena c.tape.reserved w op.outcome op.prepared s
-        (returned_leaves c o h arena t.is.count t.is.trees each t.keeps.guarantee t.keeps.contents)
+        (returned_leaves c o h arena t.is.count t.is.trees each t.keeps.guarantee t.keeps.contents t.is.retired)
         (ap is_done at_unlock)
         (subst (λ (p : Phase). MayFollow p w.phase) (sym at_unlock) (subst (MayFollow Unlock) (sym ends) tt))
         t.keeps.same.aim (subst (λ (p : Phase). IsOfKind p w.aim) (sym ends) tt) refl
         (subst (λ (p : Phase). Notes (shown c) (view_of op) p w.phase op.outcome) (sym at_unlock) (subst (λ (p : Phase). Notes (shown c) (view_of op) Unlock p op.outcome) (sym ends) refl))
         (λ k inside holds. absurd (t.nothing (λ j within held. last_among op.splits.halves.items j some (holds_here c (shown c) o refl h few op there Unlock at_unlock j within held)) k inside holds))
         (subst (λ (p : Phase). IsKeptAt p new o after) (sym ends) (answer_on arena w s t.keeps.contents begun_unlock unlocking.answer))
+        (λ facts. subst (λ (p : Phase). IsBackAt p arena after) (sym ends) tt)
         (λ none. t.unsplit)
         (let none = unready_none op Unlock at_unlock tt in let no = unready_none after Done ends tt in omega (arith, none, no))
         (returned_touches c o h arena t.is.count t.is.trees each)

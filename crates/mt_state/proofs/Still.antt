@@ -7,9 +7,9 @@ use Rattle.mt_operation.specs.{declared.phase.Phase.Phase, declared.phase.Phase.
 use Rattle.mt_operation.specs.{declared.operation.Operation.Operation, Operations.view_of}
 use Rattle.mt_operation.specs.Phases.{is_done, MayFollow, IsOfKind, has_splits, Change, Kind, Ready, change_at, holds_of, is_ready, may_be_parts, row}
 use Rattle.mt_operation.specs.Tables.{op_at as operation_at}
-use Rattle.mt_state.specs.{Views.{StateView, Core, shown}, Steps.change_in, Notes.Notes, KeptOperations.{IsKeptAt, IsKeptOf}}
+use Rattle.mt_state.specs.{Views.{StateView, Core, shown}, Steps.change_in, Notes.Notes, KeptOperations.{IsKeptAt, IsKeptOf}, KeptBack.{ArenaFacts, IsBackAt}}
 use Rattle.mt_state.specs.Invariant.{IsTape, HoldsAt, StateInvariant, one_if_prepared, HoldsBy}
-use Rattle.mt_state.proofs.{Quiet.{quiet, LeavesPairs, quiet_move, is_quiet}, Telling.{Gives, gives}, Moved.{went, open_moved, has_moved}, Growing.makes_same}
+use Rattle.mt_state.proofs.{Quiet.{quiet, LeavesPairs, quiet_move, is_quiet}, Telling.{Gives, gives}, Moved.{went, open_moved, has_moved}, Growing.{makes_same, retires_same}}
 use Rattle.mt_operation.specs.Phases as kinds
 
 -- the tape's floor is a step that was made
@@ -36,6 +36,8 @@ leaves_all c o h = record {
   stood = λ k within counted. inl (record { there = within; counted = counted; prefix = refl; slots = λ i inside. (i, inside, refl) });
   versions = λ k within. let was = h.versions k within in record { inserts = omega (arith, was.inserts); splits = omega (arith, was.splits) };
   deleted = h.deleted;
+  taken_out = retires_same c c.arena h.late refl;
+  takes = λ k within holds. inl (within, inl holds);
   makes = makes_same c.arena c.arena refl refl;
 }
 
@@ -122,8 +124,9 @@ module _ (c : Core) (now : StateView) (o : ℕ) (is : shown c ≡ now) (h : Stat
       → IsOfKind w.phase w.aim → change_in (view_of (went op (c.steps + 1) w told op.prepared)) ≡ change_in (view_of op)
       → Notes (shown c) (view_of op) op.walk.phase w.phase told
       → IsKeptAt w.phase (still w told) o (went op (c.steps + 1) w told op.prepared)
+      → (ArenaFacts c.arena → IsBackAt w.phase c.arena (went op (c.steps + 1) w told op.prepared))
       → (done : Bool) → done ≡ is_done w.phase → Gives now (still w told) o done
-  still_gives w told follows unready writes kind same notes kept done ends =
+  still_gives w told follows unready writes kind same notes kept back done ends =
       let after = went op (c.steps + 1) w told op.prepared in
       let k = h.ops o op there in
       let leaves = leaves_all c o h in
@@ -150,6 +153,7 @@ module _ (c : Core) (now : StateView) (o : ℕ) (is : shown c ≡ now) (h : Stat
         scan = inl (refl, refl);
         held = λ k within held. absurd (holds_nothing k within held);
         kept = own;
+        back = record { birth = refl; walk = back; cleans = λ facts. (h.remembered o op there).cleans };
         reserved =
             let none = unready_none op op.walk.phase refl (free_unready op.walk.phase free) in let no = unready_none after w.phase refl unready in omega (arith, none, no);
       }))

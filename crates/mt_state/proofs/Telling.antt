@@ -2,11 +2,11 @@
 use Rattle.std.{proofs.Common.{◌≡◌, ℕ, ◌+◌, ◌<◌, ◌≤◌, Bool, true, List, Some, sym, ap, subst, ◌∙◌, arith}, specs.Prelude.{◌^◌}}
 use Rattle.mt_rows.specs.Tenants.{tenant_map}
 use Rattle.mt_tape.proofs.TapeLaws.{contents_at-now}
-use Rattle.mt_arena.specs.Arena.{content_of, IsArena}
+use Rattle.mt_arena.specs.Arena.{content_of}
 use Rattle.mt_operation.specs.{declared.phase.Phase.Phase, declared.phase.Phase.TheVariants.Done, declared.operation.Operation.Operation, Operations.view_of}
 use Rattle.mt_operation.specs.Phases.{is_done}
 use Rattle.mt_state.specs.{Views.{StateView, Core, shown, map_of}, Promises.IsStep, KeptOperations.{HasAnswer, IsKeptAt}}
-use Rattle.mt_state.specs.{Invariant.{AreLogs, IsTape, StateInvariant}, Moves.{IsMove, IsTold}}
+use Rattle.mt_state.specs.{Invariant.{AreLogs, IsTape, StateInvariant}, Moves.{IsMove, IsTold}, KeptBack.ArenaFacts}
 use Rattle.mt_state.proofs.{Shown.{shown_table, shown_there, shown_set}, Moving.invariant_stays}
 
 -- a step leaves the logs as they are
@@ -19,7 +19,7 @@ map_now c tape t m le = ap (tenant_map t) (contents_at-now c.tape.floor m c.tape
 
 -- what the step gives: a state with the invariant, as its arena has its own, and a step that may be told
 abbrev pub Gives : StateView → Core → ℕ → Bool → Type 0
-Gives now new o done = (IsArena new.arena.nodes new.arena.trees → StateInvariant new) × IsStep now (shown new) o done
+Gives now new o done = (ArenaFacts now.arena → ArenaFacts new.arena → StateInvariant new) × IsStep now (shown new) o done
 
 -- who is done has an answer
 answer_of : (c : Core) (o : ℕ) (op : Operation) (p : Phase) → IsKeptAt p c o op → is_done p ≡ true → HasAnswer c op
@@ -30,7 +30,7 @@ answer_of c o op _ h e = absurd (cc)
 pub gives : (now : StateView) (old new : Core) (o : ℕ) (before after : Operation) → shown old ≡ now → StateInvariant old → old.steps < 2 ^ 59
     → IsMove old new o before after → IsTold old new o before after → (done : Bool) → done ≡ is_done after.walk.phase → Gives now new o done
 gives now old new o before after view h few m t done ends = (
-  λ arena. invariant_stays old new o before after h m t few arena,
+  λ was are. invariant_stays old new o before after h m t few (subst (λ (v : StateView). ArenaFacts v.arena) (sym view) was) are,
   subst (λ v. IsStep v (shown new) o done) view (record {
     before = view_of before;
     after = view_of after;

@@ -3,14 +3,14 @@ use Rattle.std.specs.Prelude.{◌≡◌, ℕ, ◌+◌, ◌≤◌, Bool, Option}
 use Rattle.mt_slices.specs.Keys.{IsStoredKey}
 use Rattle.mt_rows.specs.Rows.{Columns}
 use Rattle.mt_border.specs.declared.entry.Find.{Find}
-use Rattle.mt_arena.specs.{Accesses.at, Arena.IsArena}
+use Rattle.mt_arena.specs.Accesses.{at}
 use Rattle.mt_operation.specs.{declared.task.Task.Task, declared.walk.Walk.Walk, declared.operation.Operation.Operation}
 use Rattle.mt_descent.specs.{Pasts.{Past, IsNow, AreStamped}, KeptWalks.{IsAtLoad, IsAtConfirm, IsKept}, WalkMoves.{Continues, FindsIn, after_search, Loads, Confirms}}
-use Rattle.mt_state.specs.{Views.{Core, shown}, Promises.IsStep, Invariant.StateInvariant}
+use Rattle.mt_state.specs.{Views.{Core, shown}, Promises.IsStep, Invariant.StateInvariant, KeptBack.ArenaFacts}
 
 -- a step of operation o that keeps the invariant, as the arena keeps its own, and does what a step may do
 pub record IsLawful (old new : Core) (o : ℕ) (done : Bool) : Type 0 where
-  pub invariant : IsArena new.arena.nodes new.arena.trees → StateInvariant new
+  pub invariant : ArenaFacts old.arena → ArenaFacts new.arena → StateInvariant new
   pub step : IsStep (shown old) (shown new) o done
 
 -- the walk after a search by the next step

@@ -5,12 +5,13 @@ use Rattle.mt_rows.specs.{declared.tenants.Account.Account, Rows.Bytes, Commands
 use Rattle.mt_border.specs.Contents.{AllStamped}
 use Rattle.mt_tape.specs.{declared.entry.Entry.{Entry as TapeEntry}, Tapes.{Kept, RisesOver, last_write}}
 use Rattle.mt_tape.specs.Histories.{IsLegalTape, IsUnwrittenSince, written_key}
-use Rattle.mt_arena.specs.{NodeView.NodeView, Arena.{ArenaView, content_of, Guarantee}, Contents.counts, Accesses.{at, tree_of}}
+use Rattle.mt_arena.specs.{NodeView.NodeView, Given.AreOutUpTo, Arena.{ArenaView, content_of, Guarantee}, Contents.counts, Accesses.{at, tree_of}}
 use Rattle.mt_operation.specs.{declared.phase.Phase.Phase, Phases.{Holding, Free, Border, Parts, Emptied, Last, row, is_prepared, holds_of}}
 use Rattle.mt_operation.specs.{declared.splits.Halves.Halves, declared.operation.Operation.Operation, Tables.{Table, op_at as operation_at}}
 use Rattle.mt_operation.specs.Operations.{OperationView}
-use Rattle.mt_descent.specs.Pasts.{ExtendsPast}
-use Rattle.mt_state.specs.{Views.{Shown, Core, shown, past_of, KeepsPast}, KeptOperations.{IsKeptOf, IsScanKept}, Written.{KeepsQuotas, IsMadeByChange}}
+use Rattle.mt_descent.specs.{Pasts.ExtendsPast, KeptBack.RetiresAfter}
+use Rattle.mt_state.specs.{Views.{Shown, Core, shown, past_of, KeepsPast}, KeptOperations.{IsKeptOf, IsScanKept}, KeptBack.IsKeptBack}
+use Rattle.mt_state.specs.Written.{KeepsQuotas, IsMadeByChange}
 use Rattle.mt_insert.specs.KeptSplits.{IsAmong}
 use Rattle.mt_remove.specs.KeptRemovals.{IsAmong as IsOfRemoval}
 
@@ -98,11 +99,16 @@ AreKept c = (o : ℕ) (op : Operation) → operation_at c.table o ≡ Some op �
 abbrev pub AreScansKept : Core → Type 0
 AreScansKept c = (o : ℕ) (op : Operation) → operation_at c.table o ≡ Some op → IsScanKept c op
 
+-- and what they remember
+abbrev pub AreKeptBack : Core → Type 0
+AreKeptBack c = (o : ℕ) (op : Operation) → operation_at c.table o ≡ Some op → IsKeptBack c.arena o op
+
 -- a node that was taken out has no slots
 abbrev pub DeletedAreEmpty : ArenaView → Type 0
 DeletedAreEmpty v = (k : ℕ) → k < length v.nodes → (at v k).version.deleted ≡ true → (at v k).slots ≡ []
 
--- the invariant; `IsArena` is the arena's own; by `answered` each answer that was taken, and each operation that has made a step, has a step of its own
+-- the invariant; `IsArena` is the arena's own; by `answered` each answer that was taken, and each operation that has made a step, has a step of its own;
+-- by `late` all that is out was taken out by a step that was made; by `remembered` what an operation remembers was not, or after its birth
 pub record StateInvariant (c : Core) : Type 0 where
   pub tape : IsTape c
   pub stamps : AreStamps c
@@ -114,11 +120,14 @@ pub record StateInvariant (c : Core) : Type 0 where
   pub reserved : c.tape.reserved ≡ prepared_count c.table
   pub answered : c.answers + made_count (shown c).table ≤ c.steps
   pub deleted : DeletedAreEmpty c.arena
+  pub late : AreOutUpTo c.steps c.arena.retired
+  pub remembered : AreKeptBack c
   pub few : c.steps ≤ 2 ^ 59
   pub quotas : KeepsQuotas (shown c)
   pub written : All IsMadeByChange c.tape.entries
 
--- What a step of operation o leaves to all others: what the arena leaves them, and the past; no account is lost, and the tape goes as far back.
+-- What a step of operation o leaves to all others: what the arena leaves them, and the past; no account is lost, the tape goes as far back, and what it takes
+-- out is listed after the birth of each.
 pub record StateGuarantee (old new : Core) (o : ℕ) : Type 0 where
   pub arena : Guarantee o old.arena new.arena
   pub grows : KeepsPast (shown old) (shown new)
@@ -126,3 +135,4 @@ pub record StateGuarantee (old new : Core) (o : ℕ) : Type 0 where
   pub writes : (e : TapeEntry) → Contains old.tape.entries e → Contains new.tape.entries e
   pub accounts : (t : ℕ) → IsSome (account_of old.accounts t) → IsSome (account_of new.accounts t)
   pub floor : new.tape.floor ≡ old.tape.floor
+  pub retires : (birth : ℕ) → birth ≤ old.steps → RetiresAfter birth old.arena.retired new.arena.retired

@@ -3,6 +3,8 @@ pub mod Steps
 pub mod Notes
 pub mod Promises
 pub mod KeptOperations
+pub mod Given
+pub mod KeptBack
 pub mod Invariant
 pub mod Moves
 pub mod Ways

@@ -1,8 +1,8 @@
 -- What a step of one operation has to bring, so that the invariant stays and the step may be told.
 use Rattle.std.specs.Prelude.{◌≡◌, ℕ, ◌+◌, ◌<◌, ◌⊎◌, false, length, Some, slice_set}
-use Rattle.mt_arena.specs.Accesses.{at}
+use Rattle.mt_arena.specs.{Given.AreOutUpTo, Accesses.at}
 use Rattle.mt_operation.specs.{declared.operation.Operation.Operation, Operations.view_of, Phases.is_done, Tables.{op_at as operation_at}}
-use Rattle.mt_state.specs.{Views.{Core, shown}, Steps.HasMoved, Notes.Notes, Promises.{IsQuiet, IsPlacing, Touches}, KeptOperations.{IsKeptOf, KeepsScan}}
+use Rattle.mt_state.specs.{Views.{Core, shown}, Steps.HasMoved, Notes.Notes, Promises.{IsQuiet, IsPlacing, Touches}, KeptOperations.{IsKeptOf, KeepsScan}, KeptBack.{ArenaFacts, IsKeptBack}}
 use Rattle.mt_state.specs.{Growth.MakesFew, Invariant.{IsTape, AreStamps, AreVersions, HoldsAt, AreCounted, DeletedAreEmpty, StateGuarantee, one_if_prepared}}
 
 -- an operation is asked the same: nothing of its task has changed, but for the key of a scan
@@ -32,6 +32,8 @@ pub record IsMove (old new : Core) (o : ℕ) (before after : Operation) : Type 0
   pub kept : IsKeptOf new o after
   pub reserved : new.tape.reserved + one_if_prepared (Some before) ≡ old.tape.reserved + one_if_prepared (Some after)
   pub deleted : DeletedAreEmpty new.arena
+  pub late : AreOutUpTo new.steps new.arena.retired
+  pub remembered : ArenaFacts old.arena → ArenaFacts new.arena → IsKeptBack new.arena o after
 
 -- what a step tells, beside what it brings
 pub record IsTold (old new : Core) (o : ℕ) (before after : Operation) : Type 0 where

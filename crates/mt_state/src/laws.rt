@@ -3,7 +3,7 @@
 
 ghost use Rattle.std.specs.Prelude.{◌≡◌, ◌≢◌, ◌+◌, ◌<◌, ◌≤◌, ◌^◌, ℕ, Bool, true, false, Option, Some, None, length};
 ghost use Rattle.mt_version.specs.Changes.{IsStable};
-ghost use Rattle.mt_arena.specs.{Arena.{ArenaView, IsArena}, Layers.slot_at, NodeFacts.IsUnstable, Accesses.at};
+ghost use Rattle.mt_arena.specs.{Arena.{ArenaView, IsArena, content_of}, Layers.slot_at, NodeFacts.IsUnstable, Accesses.at};
 ghost use Rattle.mt_operation.specs.{declared.phase.Phase.Phase, declared.phase.Phase.TheVariants.{Search, Load, Confirm, Snap, Done}};
 ghost use Rattle.mt_operation.specs.{declared.outcome.Outcome.Outcome, declared.operation.Operation.Operation, declared.removal.Removal.Removal};
 ghost use Rattle.mt_operation.specs.{Operations.{OperationView, SplitsView, ScanView}, Phases.{is_done, IsDescent}, declared.walk.Walk.Walk};
@@ -11,27 +11,44 @@ ghost use Rattle.mt_operation.specs.Tables.{op_at as operation_at};
 ghost use Rattle.mt_state.specs.{Views.{StateView, Core, shown, KeepsPast}, Steps.LeavesOut};
 ghost use Rattle.mt_state.specs.{Promises.{IsAnswer, IsInTheWay, needed_node, locks_next, Touches, IsStep}, KeptOperations.{IsKeptOf, IsScanKept}};
 ghost use Rattle.mt_state.specs.{Invariant.{AreStamps, StateInvariant, StateGuarantee}, Moves.{IsMove, IsTold}, Ways.{Descends, walked, ShowsTaken}};
-ghost use Rattle.mt_state.specs.Calls.{IsLawful, Searches, Takes, Compares};
-ghost use Rattle.mt_descent.specs.{Pasts.Past, KeptWalks.IsKept, WalkMoves.Continues};
+ghost use Rattle.mt_state.specs.{Calls.{IsLawful, Searches, Takes, Compares}, Given.{with_given, SparesOperation}, KeptBack.{ArenaFacts, IsKeptBack}};
+ghost use Rattle.mt_descent.specs.{Pasts.Past, KeptWalks.IsKept, WalkMoves.Continues, Remembered.Learns, KeptBack.GivesOutBefore};
+ghost use Rattle.mt_layer.specs.KeptLayers.{GivesNoneInto};
 ghost use Rattle.mt_rows.specs.{Rows.Columns, declared.reply.Reply.TheVariants.{Absent, NoMemory}};
 ghost use Rattle.mt_border.specs.declared.entry.Find.{Find};
 
 /// All that is kept of an operation, at whatever phase it is, each step of another one keeps, and what a
-/// scan has done too: what counts is what that step leaves to others. An answer that was right stays right.
+/// scan has done too: what counts is what that step leaves to others. What the operation remembers stays
+/// kept back. An answer that was right stays right.
 pub fn others_keep_theirs()
     ensures kept { (old new : Core) (o q : ℕ) (op : Operation) → IsArena new.arena.nodes new.arena.trees → AreStamps new → StateGuarantee old new o → q ≢ o → old.steps < new.steps →
         IsKeptOf old q op → IsKeptOf new q op }
     ensures scanned { (old new : Core) (o q : ℕ) (op : Operation) → IsArena new.arena.nodes new.arena.trees → AreStamps new → StateGuarantee old new o → q ≢ o → old.steps < new.steps →
         IsScanKept old op → IsScanKept new op }
+    ensures remembered { (old new : Core) (o q : ℕ) (op : Operation) → ArenaFacts new.arena → StateGuarantee old new o → q ≢ o →
+        IsKeptOf old q op → IsKeptBack old.arena q op → IsKeptBack new.arena q op }
     ensures answers { (old new : StateView) (op : OperationView) (told : Outcome) → KeepsPast old new → op.last ≤ old.steps →
         IsAnswer old op told → IsAnswer new op told }
+{}
+
+/// All that is kept of an operation stays where blank nodes come in places that it has nothing to do with.
+pub fn kept_stays_where_places_are_given_out()
+    ensures { (c : Core) (mid : ArenaView) (o : ℕ) (op : Operation) → IsArena c.arena.nodes c.arena.trees → SparesOperation c.arena mid o op →
+        IsKeptOf c o op → IsKeptOf (with_given c mid) o op }
+{}
+
+/// Nothing that an operation remembers is given out if only those places are that were taken out by its
+/// birth.
+pub fn nothing_remembered_is_given_out()
+    ensures { (old mid : ArenaView) (o : ℕ) (op : Operation) → GivesOutBefore op.birth old mid → IsKeptBack old o op → GivesNoneInto o old mid →
+        content_of mid ≡ content_of old → SparesOperation old mid o op }
 {}
 
 /// A step that brings of its own operation what it has to keeps the invariant over all operations,
 /// and may be told.
 pub fn a_step_keeps_the_invariant()
     ensures invariant { (old new : Core) (o : ℕ) (before after : Operation) → StateInvariant old → IsMove old new o before after →
-        IsTold old new o before after → old.steps < 2 ^ 59 → IsArena new.arena.nodes new.arena.trees → StateInvariant new }
+        IsTold old new o before after → old.steps < 2 ^ 59 → ArenaFacts old.arena → ArenaFacts new.arena → StateInvariant new }
     ensures told { (old new : Core) (o : ℕ) (before after : Operation) → StateInvariant old → IsMove old new o before after →
         IsTold old new o before after → old.steps < 2 ^ 59 → IsStep (shown old) (shown new) o (is_done after.walk.phase) }
 {}
@@ -60,7 +77,7 @@ pub fn a_step_leaves_out_no_phase()
 /// compares the version, and is done or goes on its way.
 pub fn a_look_is_a_step()
     ensures descends { (c : Core) (o : ℕ) (op : Operation) (w : Walk) → StateInvariant c → c.steps < 2 ^ 59 → operation_at c.table o ≡ Some op →
-        IsDescent op.walk.phase → Descends op.walk w → ((past : Past) → IsKept c.arena past op.task.key None w) →
+        IsDescent op.walk.phase → Descends op.walk w → Learns c.arena op.walk w → ((past : Past) → IsKept c.arena past op.task.key None w) →
         IsLawful c (walked c o op w op.outcome) o false }
     ensures misses { (c : Core) (o : ℕ) (op : Operation) (w : Walk) (found : Find) → StateInvariant c → IsArena c.arena.nodes c.arena.trees → c.steps < 2 ^ 59 →
         operation_at c.table o ≡ Some op → op.walk.phase ≡ Search → Searches c op w found → w.phase ≡ Confirm →

@@ -5,7 +5,7 @@ use Rattle.mt_state.proofs.laws.a_look_is_a_step.Goals as goal
 
 pub returns-clause-descends : goal.returns-clause-descends
 returns-clause-descends c =
-    λ core o op w h few there descends goes kept. let g = descend_done core (shown core) o refl h few op there w descends goes kept in record { invariant = g.0; step = g.1 }
+    λ core o op w h few there descends goes learns kept. let g = descend_done core (shown core) o refl h few op there w descends goes learns kept in record { invariant = g.0; step = g.1 }
 
 pub returns-clause-misses : goal.returns-clause-misses
 returns-clause-misses c =

@@ -1,0 +1,38 @@
+-- What a step that gives places out has to leave as it was for an operation: the places that it remembers at its phase.
+use Rattle.std.specs.Prelude.{◌≡◌, ℕ, Some}
+use Rattle.mt_arena.specs.{Forests.tree_at, Arena.{ArenaView, content_of}, Given.GivesOutBeside}
+use Rattle.mt_operation.specs.{declared.phase.Phase.Phase, declared.phase.Phase.TheVariants.{Enter, Check, Hop}, declared.operation.Operation.Operation, Phases.{Kind, row}}
+use Rattle.mt_layer.specs.KeptLayers.{GivesNoneInto}
+use Rattle.mt_state.specs.Views.{Core}
+use Rattle.mt_descent.specs.Remembered as walks
+use Rattle.mt_scan.specs.Remembered as scans
+use Rattle.mt_operation.specs.Phases as kinds
+
+-- the state with blank nodes in the places that a step is to give out
+abbrev pub with_given : Core → ArenaView → Core
+with_given c mid = record c { arena = mid }
+
+-- of an operation that holds nothing no place is given out that its walk remembers, or what it has scanned
+abbrev pub SparesOneWalk : ArenaView → ArenaView → Operation → Type 0
+SparesOneWalk old mid op = walks.IsGivenElsewhere old mid op.walk.phase op.walk
+
+abbrev pub SparesScan : Phase → ArenaView → ArenaView → Operation → Type 0
+SparesScan Check old mid op = scans.IsGivenElsewhere old mid Check op.walk op.scan.stop
+SparesScan Hop old mid op = scans.IsGivenElsewhere old mid Hop op.walk op.scan.stop
+SparesScan _ old mid op = SparesOneWalk old mid op
+
+abbrev pub SparesWalk : Kind → Phase → ArenaView → ArenaView → Operation → Type 0
+SparesWalk kinds.Descends p old mid op = SparesOneWalk old mid op
+SparesWalk kinds.Locks p old mid op = SparesOneWalk old mid op
+SparesWalk kinds.Reads p old mid op = SparesOneWalk old mid op
+SparesWalk kinds.Scans p old mid op = SparesScan p old mid op
+SparesWalk _ p old mid op = Unit {0}
+
+-- nor one that it has to do with otherwise: the trees of the nodes that it holds, a tree that it makes, and the one whose link it goes to take out
+pub record SparesOperation (old mid : ArenaView) (o : ℕ) (op : Operation) : Type 0 where
+  pub beside : GivesOutBeside o old mid
+  pub making : GivesNoneInto o old mid
+  pub contents : content_of mid ≡ content_of old
+  pub walk : SparesWalk (row op.walk.phase).kind op.walk.phase old mid op
+  pub enter : op.walk.phase ≡ Enter → tree_at mid.trees op.walk.place.tree ≡ tree_at old.trees op.walk.place.tree
+  pub cleans : (t : ℕ) → op.removal.cleans ≡ Some t → tree_at mid.trees t ≡ tree_at old.trees t
