@@ -5,7 +5,9 @@ use Rattle.std.specs.Option.{option_map}
 use Rattle.mt_rows.specs.{declared.refusal.Refusal.Refusal, declared.refusal.Refusal.TheVariants.Memory, declared.tenants.Account.Account, Accounts.account_of}
 use Rattle.mt_rows.specs.Rows.{Bytes}
 use Rattle.mt_slices.specs.Keys.{IsStoredKey}
-use Rattle.mt_arena.{specs.Arena.{ArenaView, IsArena}, proofs.Down.goes_on_top}
+use Rattle.mt_arena.{specs.{Idle.AreRetired, Arena.{ArenaView, IsArena}}, proofs.Down.goes_on_top}
+use Rattle.mt_descent.{specs.KeptBack.RemembersKept, proofs.KeptBack.kept_at_top}
+use Rattle.mt_state.specs.KeptBack.{IsBackAt, IsKeptBack}
 use Rattle.mt_operation.specs.{declared.operation.Operation.Operation, declared.walk.Walk.Walk, Tasks.ask, Operations.{OperationView, view_of, born}}
 use Rattle.mt_operation.specs.{Tables.{Table, AreBornUpTo, op_at as operation_at}, declared.outcome.Outcome.Outcome, Phases.IsOfKind}
 use Rattle.mt_descent.specs.KeptWalks.{GoesThrough, KeptAt}
@@ -80,10 +82,19 @@ module _ (c : Core) (now : StateView) (opening : OpeningView) (op : Operation) (
       walked = λ begun. let first = ap (λ (w : Walk). w.first) a.walk in absurd (omega (arith, first, begun));
     }
 
+    -- it remembers the top tree alone
+    back_begun : AreRetired c.arena.nodes c.arena.trees c.arena.retired → IsKeptBack c.arena o (born op c.steps)
+    back_begun retired = record {
+      walk = subst (λ p. IsBackAt p c.arena (born op c.steps)) (sym (ap (λ (w : Walk). w.phase) a.walk))
+          (subst (λ (w : Walk). RemembersKept c.steps c.arena w) (sym a.walk) (kept_at_top c.arena retired c.steps _ _ arena.forest.top.live));
+      held = λ k within holds. let w = h.holders k o within holds in absurd (none-some w.0 (sym vacant ∙ w.1));
+      cleans = λ t is. absurd (let none = sym (ap (λ (v : OperationView). v.removal.cleans) a.is_begun) ∙ is in cc);
+    }
+
     -- the invariant with it
-    pub begun_keeps : StateInvariant (with_table c c.answers table)
-    begun_keeps =
-        begun_sound c o (born op c.steps) table h vacant there others (ap (λ (w : Walk). w.first) a.walk) (ap (λ (w : Walk). one_if_prepared (Some (record op { walk = w }))) a.walk) kept_begun scan_begun
+    pub begun_keeps : AreRetired c.arena.nodes c.arena.trees c.arena.retired → StateInvariant (with_table c c.answers table)
+    begun_keeps retired =
+        begun_sound c o (born op c.steps) table h vacant there others (ap (λ (w : Walk). w.first) a.walk) (ap (λ (w : Walk). one_if_prepared (Some (record op { walk = w }))) a.walk) kept_begun scan_begun (back_begun retired)
 
     -- and what is told of it
     pub begun_tells : (ticket : Ticket) → ticket.id ≡ o → TellsAdmitted now (shown (with_table c c.answers table)) opening (Ok ticket)

@@ -10,9 +10,9 @@ use Rattle.mt_operation.proofs.Tables.{set_is, set_there}
 use Rattle.mt_insert.specs.KeptSplits.{AreParted, AreReturnable, HasSplits, HasSplitsNamed, HoldsSplits, IsAmong, IsParent, KeptSplit, NothingLags, halves_at, last_of}
 use Rattle.mt_insert.specs.Climbs.{AreSame, IsClimbFrom}
 use Rattle.mt_state.specs.{declared.moves.Move.TheVariants.{Moved, NoMemory}, Views.{Core, Shown, shown}, Promises.IsAnswer}
-use Rattle.mt_state.specs.{KeptOperations.{IsClimbing, IsKeptOf, IsScanKept}, Invariant.{HoldsAt, StateInvariant, made_count, one_if_prepared, prepared_count}}
+use Rattle.mt_state.specs.{KeptOperations.{IsClimbing, IsKeptOf, IsScanKept}, KeptBack.IsKeptBack, Invariant.{HoldsAt, StateInvariant, made_count, one_if_prepared, prepared_count}}
 use Rattle.mt_state.proofs.{Shown.{shown_set, shown_table, shown_there}, Telling.Gives}
-use Rattle.mt_state.proofs.{SplitSteps.{climb_among, climb_done, climbing_of, among_climb, kept_climbing}, ClimbingNodes.{climb_keeps, climb_leads}}
+use Rattle.mt_state.proofs.{SplitSteps.{climb_among, climb_back, climb_done, climbing_of, among_climb, kept_climbing}, ClimbingNodes.{climb_keeps, climb_leads}}
 use Rattle.mt_core.specs.{Budgets.above, Points.StepsOn}
 use Rattle.mt_core.proofs.{Climbing.{climb_none, climb_writes}, Points.{nears_by, point_first}, Following.{IsOver, IsSound, made, set_back, write_no_scan}}
 use Rattle.mt_core.proofs.{Leading.{no_step, leads_over}, Retained.{own_tape, retained, scan_retained}, ClimbingNears.climb_nears}
@@ -162,6 +162,9 @@ module _ (c : Core) (o : ℕ) (op : Operation) (h : StateInvariant c) (there : o
         let s = scan_retained c c.answers c.logs c.tape new.table o op (own_tape c op always) always (h.scans o op there) in
         record { fresh = s.fresh; walked = s.walked }
 
+    own_back : IsKeptBack c.arena o y
+    own_back = let b = h.remembered o op there in record { walk = climb_back op.walk.phase climbs c.arena y; held = b.held; cleans = b.cleans }
+
     same_sound : StateInvariant new
     same_sound = record {
       tape = record { rises = h.tape.rises; made = h.tape.made; legal = h.tape.legal; keys = h.tape.keys; logs = h.tape.logs };
@@ -188,6 +191,11 @@ module _ (c : Core) (o : ℕ) (op : Operation) (h : StateInvariant c) (there : o
       reserved = h.reserved ∙ sym (count_back c.table o op y there refl);
       answered = subst (λ (all : Shown). c.answers + made_count all ≤ c.steps) (sym (ap (λ v. v.table) (same_shown same))) h.answered;
       deleted = h.deleted;
+      late = h.late;
+      remembered = λ q x at_q. elim (cases_eq q o) [
+        | inl is ↦ subst (λ n. IsKeptBack c.arena n x) (sym is) (subst (IsKeptBack c.arena o) (same_Some y x (sym here ∙ ap (operation_at new.table) (sym is) ∙ at_q)) own_back)
+        | inr other ↦ h.remembered q x (sym (set_there c.table o q (Some y) other) ∙ at_q)
+      ];
       few = h.few;
       quotas = h.quotas;
       written = h.written;
@@ -210,7 +218,7 @@ module _ (c now : Core) (o : ℕ) (is : c ≡ now) (h : StateInvariant c) (few :
   -- the step was made
   pub climb_made : IsArena c.arena.nodes c.arena.trees → (arena : ArenaView) (w : Walk) (t : Splits) (table : Table)
       → IsClimbFrom op.walk.phase o c.arena arena op.walk w op.splits t → IsOver c.table table o (moved (with_splits op t) (c.steps + 1) w)
-      → IsSound (made c arena c.tape c.accounts table) × StepsOn now (made c arena c.tape c.accounts table) o Moved
+      → IsSound c.arena (made c arena c.tape c.accounts table) × StepsOn now (made c arena c.tape c.accounts table) o Moved
   climb_made is_arena arena w t table told over =
       let after = moved (with_splits op t) (c.steps + 1) w in
       let new = made c arena c.tape c.accounts table in

@@ -1,14 +1,14 @@
 -- The table after a step, the state that it leaves, and who may be in its way: for each step that an operation makes in its place.
-use Rattle.std.proofs.Common.{◌≡◌, ℕ, zero, suc, ◌+◌, ◌<◌, false, List, [], ◌∷◌, length, set, Option, Some, None, refl, sym, ap, subst, ◌∙◌}
+use Rattle.std.proofs.Common.{◌≡◌, ℕ, zero, suc, ◌+◌, ◌<◌, Bool, false, List, [], ◌∷◌, length, set, Option, Some, None, refl, sym, ap, subst, ◌∙◌}
 use Rattle.std.specs.Prelude.{slice_index_or}
 use Rattle.mt_rows.specs.{Accounts.Accounts, Maps.is_scan}
 use Rattle.mt_tape.specs.Tapes.{Kept}
-use Rattle.mt_arena.specs.{NodeView.NodeView, Arena.{ArenaView, IsArena}, Accesses.at}
+use Rattle.mt_arena.specs.{NodeView.NodeView, Arena.ArenaView, Accesses.at}
 use Rattle.mt_operation.specs.declared.phase.Phase.{Phase}
 use Rattle.mt_operation.specs.{declared.phase.Phase.TheVariants.{Load, Lock, LockParent, LockPrev, LockAbove, CleanLayer, Done, Snap}, declared.walk.Walk.Walk}
 use Rattle.mt_operation.specs.{declared.operation.Operation.Operation, Operations.{SplitsView, ScanView}, Phases.{is_done, IsOfKind}, declared.walk.Aim.Aim}
 use Rattle.mt_operation.specs.{Tasks.ask, Tables.{Table, op_at as operation_at}, declared.removal.Removal.Removal}
-use Rattle.mt_state.{proofs.Lawful.aim_no_scan, specs.{Views.Core, Promises.{Blocks, IsInTheWay}, Invariant.{HoldsAt, StateInvariant}}}
+use Rattle.mt_state.{proofs.{Lawful.aim_no_scan, Telling.Gives}, specs.{Views.{Core, shown}, Promises.{Blocks, IsInTheWay}, Invariant.{HoldsAt, StateInvariant}, KeptBack.ArenaFacts}}
 use Rattle.mt_operation.specs.declared.walk.Aim.TheVariants as aims
 
 -- what is written over itself stays
@@ -42,9 +42,13 @@ in_the_way v p w s rem g holder way = (way.0, way.2, held_by p (at v way.0) way.
     held_by Snap n blocks = blocks.by
     held_by _ n blocks = blocks.by
 
--- the state keeps its invariant, as its arena keeps its own
-abbrev pub IsSound : Core → Type 0
-IsSound new = IsArena new.arena.nodes new.arena.trees → StateInvariant new
+-- the state keeps its invariant, by what its arena keeps before and after the step
+abbrev pub IsSound : ArenaView → Core → Type 0
+IsSound was new = ArenaFacts was → ArenaFacts new.arena → StateInvariant new
+
+-- the same, where the step was told of the state as it is shown
+pub sound_by : (c now new : Core) (o : ℕ) (done : Bool) → c ≡ now → Gives (shown now) new o done → IsSound c.arena new
+sound_by c now new o done is g = λ were are. g.0 (subst (λ (v : Core). ArenaFacts v.arena) is were) are
 
 -- the state after the step, by what is left of it
 abbrev pub made : Core → ArenaView → Kept → Accounts → Table → Core

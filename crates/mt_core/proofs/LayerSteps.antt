@@ -19,7 +19,7 @@ use Rattle.mt_state.proofs.{OneNode.replaced_all, Needs.{layer_kept, leave_kept}
 use Rattle.mt_state.proofs.LayerNodes.{LeavesNodes, layer_keeps, layer_goes, layer_leads, layer_leaves, layer_next}
 use Rattle.mt_core.specs.Budgets.{AreBelow, IsLiveTree, above, astray, before_unlock}
 use Rattle.mt_core.specs.Points.{HasMade, HasRemoved, IsRemovalAt, IsAtPoint, MayHaveGrown, Nears, StepsOn}
-use Rattle.mt_core.proofs.{Following.{IsSound, IsOver, made, write_no_scan}, Leading.{no_step, leads_over}, LookPoints.{next_layer, shallow_below}}
+use Rattle.mt_core.proofs.{Following.{IsSound, sound_by, IsOver, made, write_no_scan}, Leading.{no_step, leads_over}, LookPoints.{next_layer, shallow_below}}
 use Rattle.mt_core.proofs.Points.{below_at, few_at, nears_by, rounds_at, point_at, point_first}
 use Rattle.mt_arena.proofs.OneLink as OneLink
 use Rattle.mt_operation.specs.declared.walk.Aim.TheVariants as aims
@@ -102,12 +102,12 @@ module _ (c now : Core) (o : ℕ) (is : c ≡ now) (h : StateInvariant c) (few :
       → ((aim : Aim) → IsOfKind x.walk.phase aim → aim ≡ aims.Write)
       → LeadsTo x.walk.phase c.arena arena o (c.steps + 1) x.task.key x.outcome (splits_of x.splits) x.removal (no_step x) x.walk w
       → Gives (shown c) (made c arena c.tape c.accounts (set c.table o (Some (moved x (c.steps + 1) w)))) o false
-      → IsSound (made c arena c.tape c.accounts table) × StepsOn now (made c arena c.tape c.accounts table) o Moved
+      → IsSound c.arena (made c arena c.tape c.accounts table) × StepsOn now (made c arena c.tape c.accounts table) o Moved
   steps_on arena w table over guarantee brings none write leads g =
       let after = moved x (c.steps + 1) w in
       let new = made c arena c.tape c.accounts table in
       let told : Gives (shown now) new o false = gives_now new false (subst (λ (all : Table). Gives (shown c) (made c arena c.tape c.accounts all) o false) (sym over.is) g) in (
-        told.0,
+        sound_by c now new o false is told,
         record {
           tells = told.1;
           nears = subst (λ (v : Core). Nears v new o Moved) is
@@ -119,7 +119,7 @@ module _ (c now : Core) (o : ℕ) (is : c ≡ now) (h : StateInvariant c) (few :
 
   -- a layer that came one step nearer
   pub build_made : IsLayerPhase x.walk.phase → (arena : ArenaView) (w : Walk) (table : Table) → IsLayerFrom x.walk.phase o x.task.key c.arena arena x.walk w
-      → IsOver c.table table o (moved x (c.steps + 1) w) → IsSound (made c arena c.tape c.accounts table) × StepsOn now (made c arena c.tape c.accounts table) o Moved
+      → IsOver c.table table o (moved x (c.steps + 1) w) → IsSound c.arena (made c arena c.tape c.accounts table) × StepsOn now (made c arena c.tape c.accounts table) o Moved
   build_made layer arena w table b over =
       let p = x.walk.phase in
       let kept = layer_kept c o h x there p refl layer in
@@ -132,11 +132,11 @@ module _ (c now : Core) (o : ℕ) (is : c ≡ now) (h : StateInvariant c) (few :
   -- no memory for it
   pub stop_made : (arena : ArenaView) (w : Walk) (table : Table) → x.walk.phase ≡ MakeLayer → IsUnlock o c.arena arena x.walk w
       → IsOver c.table table o (noted (moved x (c.steps + 1) w) (Some (record { reply = NoMemory; at = c.steps + 1 })))
-      → IsSound (made c arena c.tape c.accounts table) × StepsOn now (made c arena c.tape c.accounts table) o DoneMove
+      → IsSound c.arena (made c arena c.tape c.accounts table) × StepsOn now (made c arena c.tape c.accounts table) o DoneMove
   stop_made arena w table at_make t over =
       let new = made c arena c.tape c.accounts table in
       let told : Gives (shown now) new o true = gives_now new true (subst (λ (all : Table). Gives (shown c) (made c arena c.tape c.accounts all) o true) (sym over.is) (make_stopped c o h few_inside x there at_make arena w t)) in (
-        told.0,
+        sound_by c now new o true is told,
         record { tells = told.1; nears = tt; leads = leads_over c o h x there MakeLayer at_make now is arena c.tape c.accounts table _ over w (inr t.walk) refl refl },
       )
 
@@ -149,7 +149,7 @@ module _ (c now : Core) (o : ℕ) (is : c ≡ now) (h : StateInvariant c) (few :
   -- its lock was given back, and it goes on in the tree of the next layer
   pub leave_made : IsArena c.arena.nodes c.arena.trees → x.walk.phase ≡ Unlock → x.outcome ≡ None
       → (arena : ArenaView) (w : Walk) (table : Table) → IsLeave o c.arena arena x.walk w → IsOver c.table table o (moved x (c.steps + 1) w)
-      → IsSound (made c arena c.tape c.accounts table) × StepsOn now (made c arena c.tape c.accounts table) o Moved
+      → IsSound c.arena (made c arena c.tape c.accounts table) × StepsOn now (made c arena c.tape c.accounts table) o Moved
   leave_made is_arena at_unlock untold arena w table t over = steps_on arena w table over g.keeps.guarantee brings
       (λ height n r. (rounds_at height n c.arena x.walk x.outcome x.removal Unlock at_unlock r).1 untold)
       (λ aim. subst (λ (p : Phase). IsOfKind p aim → aim ≡ aims.Write) (sym at_unlock) (λ kind. kind)) leads

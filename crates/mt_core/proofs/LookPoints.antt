@@ -23,7 +23,7 @@ use Rattle.mt_descent.specs.{Seen.{Stands, HasNext, IsRemembered}, Pasts.Past}
 use Rattle.mt_descent.specs.KeptWalks.{GoesThrough, slice_in, IsAtVerify, IsAtConfirm, IsAtForward, TakenHolds, KeptAt, IsKept, IsAtBorder, walk_place}
 use Rattle.mt_descent.specs.WalkMoves.{FindsIn, arrival, arrival_at, walk_onto, walk_anew, walk_here, walk_to_next, after_enter, after_pick, after_child, after_search, after_confirm, after_forward, Verifies, Confirms, Loads, TakesOut}
 use Rattle.mt_descent.proofs.Ways.{same_stands}
-use Rattle.mt_state.proofs.Decides.{same_or_not, outdated_or_not}
+use Rattle.mt_descent.proofs.Decides.{same_or_not, outdated_or_not}
 use Rattle.mt_border.specs.declared.entry.Find.TheVariants as finds
 use Rattle.mt_operation.specs.Phases as kinds
 use Rattle.mt_operation.specs.declared.walk.Aim.TheVariants as aims

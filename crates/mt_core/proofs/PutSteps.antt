@@ -23,14 +23,15 @@ use Rattle.mt_version.specs.Parts.{Parts}
 use Rattle.mt_held.specs.{Moves.{walk_at, walk_placed}, Unlock.{MeetsLink, IsUnlock}}
 use Rattle.mt_state.specs.{declared.moves.Move.TheVariants.{Moved, Done as DoneMove}, Views.{Core, shown}, Phases.{JudgesBy, JudgesLink, Leads, LocksBy}}
 use Rattle.mt_state.specs.Invariant.{StateInvariant}
-use Rattle.mt_state.proofs.{Telling.Gives, Decides.outdated_or_not, OneNode.replaced_all}
+use Rattle.mt_descent.proofs.Decides.{outdated_or_not}
+use Rattle.mt_state.proofs.{Telling.Gives, OneNode.replaced_all}
 use Rattle.mt_state.proofs.{FillSteps.fill_done, Locking.{judge_ready, judge_refused, lock_done, publish_full, unlock_done}, LayerSteps.{below_done, meet_done}}
 use Rattle.mt_state.proofs.{Putting.{publish_done, store_done}, Needs.{fill_kept, judge_kept, lock_kept, publish_kept, put_at, store_kept}, Bound.put_no_remove}
 use Rattle.mt_core.specs.Budgets.{AreBelow, IsLiveTree, SeesNow, above, astray, before_unlock, behind}
 use Rattle.mt_core.specs.Points.{HasMade, HasRemoved, IsRemovalAt, IsAtPoint, MayHaveGrown, Nears, StepsOn}
 use Rattle.mt_core.proofs.Points.{below_at, few_at, nears_by, point_at, point_first, removal_first, removed_at}
 use Rattle.mt_core.proofs.{RemovalNears.{link_removal, lock_removal, tree_layer, tree_stands}, LookPoints.{next_layer, shallow_below}}
-use Rattle.mt_core.proofs.{Following.{IsSound, IsOver, made, write_no_scan}, Leading.{done_from, leads_over}}
+use Rattle.mt_core.proofs.{Following.{IsSound, sound_by, IsOver, made, write_no_scan}, Leading.{done_from, leads_over}}
 use Rattle.mt_operation.specs.declared.walk.Aim.TheVariants as aims
 
 -- the walk of a put that takes its lock, that goes on to the next node, or that begins anew where its own was deleted
@@ -181,12 +182,12 @@ module _ (c now : Core) (o : ℕ) (is : c ≡ now) (h : StateInvariant c) (few :
 
   -- what is told of it, and that
   steps_on : (new : Core) → Gives (shown now) new o false → Nears now new o Moved → Leads (shown now) (shown new) o
-      → IsSound new × StepsOn now new o Moved
-  steps_on new g nears leads = (g.0, record { tells = g.1; nears = nears; leads = leads })
+      → IsSound c.arena new × StepsOn now new o Moved
+  steps_on new g nears leads = (sound_by c now new o false is g, record { tells = g.1; nears = nears; leads = leads })
 
   -- and of one that ends
-  ends_it : (new : Core) → Gives (shown now) new o true → Leads (shown now) (shown new) o → IsSound new × StepsOn now new o DoneMove
-  ends_it new g leads = (g.0, record { tells = g.1; nears = tt; leads = leads })
+  ends_it : (new : Core) → Gives (shown now) new o true → Leads (shown now) (shown new) o → IsSound c.arena new × StepsOn now new o DoneMove
+  ends_it new g leads = (sound_by c now new o true is g, record { tells = g.1; nears = tt; leads = leads })
 
   -- what a step tells that leaves the tape, by the table that is left
   gives_on : (arena : ArenaView) (tape : Kept) (w : Walk) (table : Table) → IsOver c.table table o (moved x (c.steps + 1) w) → tape ≡ c.tape
@@ -200,7 +201,7 @@ module _ (c now : Core) (o : ℕ) (is : c ≡ now) (h : StateInvariant c) (few :
 
   -- a lock that was taken, or not because the node was deleted or split
   pub lock_made : x.walk.phase ≡ Lock → x.outcome ≡ None → (arena : ArenaView) (w : Walk) (table : Table) → IsLock o x.task.key c.arena arena x.walk w
-      → IsOver c.table table o (moved x (c.steps + 1) w) → IsSound (made c arena c.tape c.accounts table) × StepsOn now (made c arena c.tape c.accounts table) o Moved
+      → IsOver c.table table o (moved x (c.steps + 1) w) → IsSound c.arena (made c arena c.tape c.accounts table) × StepsOn now (made c arena c.tape c.accounts table) o Moved
   lock_made at_lock untold arena w table t over =
       let remembered = (lock_kept c o h x there at_lock).covers.remembered in
       let after = moved x (c.steps + 1) w in
@@ -216,7 +217,7 @@ module _ (c now : Core) (o : ℕ) (is : c ≡ now) (h : StateInvariant c) (few :
   -- a lock that was given back
   pub unlock_made : x.walk.phase ≡ Unlock → is_remove (ask x.task) ≡ false → x.outcome ≢ None → x.splits.halves.items ≡ []
       → (arena : ArenaView) (w : Walk) (table : Table) → IsUnlock o c.arena arena x.walk w → IsOver c.table table o (moved x (c.steps + 1) w)
-      → IsSound (made c arena c.tape c.accounts table) × StepsOn now (made c arena c.tape c.accounts table) o DoneMove
+      → IsSound c.arena (made c arena c.tape c.accounts table) × StepsOn now (made c arena c.tape c.accounts table) o DoneMove
   unlock_made at_unlock stays told none arena w table t over =
       ends_it (made c arena c.tape c.accounts table)
       (subst (λ (all : Table). Gives (shown now) (made c arena c.tape c.accounts all) o true) (sym over.is)
@@ -227,7 +228,7 @@ module _ (c now : Core) (o : ℕ) (is : c ≡ now) (h : StateInvariant c) (few :
   -- all that was made ready
   pub ready_made : x.walk.phase ≡ Judge → x.outcome ≡ None → is_put (ask x.task) ≡ true → (arena : ArenaView) (tape : Kept) (w : Walk) (prepared : Prepared) (table : Table)
       → IsMadeReady o x.task c.arena arena c.tape tape x.walk w prepared → IsOver c.table table o (made_ready (moved x (c.steps + 1) w) prepared)
-      → IsSound (made c arena tape c.accounts table) × StepsOn now (made c arena tape c.accounts table) o Moved
+      → IsSound c.arena (made c arena tape c.accounts table) × StepsOn now (made c arena tape c.accounts table) o Moved
   ready_made at_judge untold put arena tape w prepared table t over =
       let after = made_ready (moved x (c.steps + 1) w) prepared in
       steps_on (made c arena tape c.accounts table)
@@ -242,7 +243,7 @@ module _ (c now : Core) (o : ℕ) (is : c ≡ now) (h : StateInvariant c) (few :
   -- another long key in the key's place
   meets_made : x.walk.phase ≡ Judge → x.outcome ≡ None → is_remove (ask x.task) ≡ false → (arena : ArenaView) (tape : Kept) (w : Walk) (table : Table) → tape ≡ c.tape
       → MeetsOther o x.task.key c.arena arena x.walk w → IsOver c.table table o (moved x (c.steps + 1) w)
-      → IsSound (made c arena tape c.accounts table) × StepsOn now (made c arena tape c.accounts table) o Moved
+      → IsSound c.arena (made c arena tape c.accounts table) × StepsOn now (made c arena tape c.accounts table) o Moved
   meets_made at_judge untold stays arena tape w table keeps t over =
       let after = moved x (c.steps + 1) w in
       steps_on (made c arena tape c.accounts table)
@@ -259,7 +260,7 @@ module _ (c now : Core) (o : ℕ) (is : c ≡ now) (h : StateInvariant c) (few :
   -- a link that leads on
   pub link_made : x.walk.phase ≡ Judge → IsArena c.arena.nodes c.arena.trees → (arena : ArenaView) (tape : Kept) (w : Walk) (table : Table) → tape ≡ c.tape
       → MeetsLink o x.task.key c.arena arena x.walk w → IsOver c.table table o (moved x (c.steps + 1) w)
-      → IsSound (made c arena tape c.accounts table) × StepsOn now (made c arena tape c.accounts table) o Moved
+      → IsSound c.arena (made c arena tape c.accounts table) × StepsOn now (made c arena tape c.accounts table) o Moved
   link_made at_judge is_arena arena tape w table keeps t over =
       let judged = (judge_kept c o h x there at_judge).judged in
       let through = judged.at_border.through in
@@ -282,7 +283,7 @@ module _ (c now : Core) (o : ℕ) (is : c ≡ now) (h : StateInvariant c) (few :
   pub on_made : x.walk.phase ≡ Judge → IsArena c.arena.nodes c.arena.trees → x.outcome ≡ None → is_remove (ask x.task) ≡ false
       → (arena : ArenaView) (tape : Kept) (w : Walk) (table : Table) → tape ≡ c.tape
       → MeetsOther o x.task.key c.arena arena x.walk w ⊎ MeetsLink o x.task.key c.arena arena x.walk w → IsOver c.table table o (moved x (c.steps + 1) w)
-      → IsSound (made c arena tape c.accounts table) × StepsOn now (made c arena tape c.accounts table) o Moved
+      → IsSound c.arena (made c arena tape c.accounts table) × StepsOn now (made c arena tape c.accounts table) o Moved
   on_made at_judge is_arena untold stays arena tape w table keeps (inl t) over = meets_made at_judge untold stays arena tape w table keeps t over
   on_made at_judge is_arena untold stays arena tape w table keeps (inr t) over = link_made at_judge is_arena arena tape w table keeps t over
 
@@ -290,7 +291,7 @@ module _ (c now : Core) (o : ℕ) (is : c ≡ now) (h : StateInvariant c) (few :
   pub refused_made : x.walk.phase ≡ Judge → x.outcome ≡ None → (arena : ArenaView) (tape : Kept) (w : Walk) (table : Table) → tape ≡ c.tape
       → IsUnlock o c.arena arena x.walk w → (slot : Option ℕ) → StandsIn (at c.arena x.walk.place.node) x.task.key x.walk.layer slot
       → IsOver c.table table o (noted (moved x (c.steps + 1) w) (Some (record { reply = NoMemory; at = c.steps + 1 })))
-      → IsSound (made c arena tape c.accounts table) × StepsOn now (made c arena tape c.accounts table) o DoneMove
+      → IsSound c.arena (made c arena tape c.accounts table) × StepsOn now (made c arena tape c.accounts table) o DoneMove
   refused_made at_judge untold arena tape w table keeps t slot stands over =
       ends_it (made c arena tape c.accounts table)
       (subst (λ (all : Table). Gives (shown now) (made c arena tape c.accounts all) o true) (sym over.is)
@@ -319,7 +320,7 @@ module _ (c now : Core) (o : ℕ) (is : c ≡ now) (h : StateInvariant c) (few :
   pub store_made : x.walk.phase ≡ Store → (prepared : Prepared) → x.prepared ≡ Some prepared → (arena : ArenaView) (tape : Kept) (w : Walk) (before : Columns) (table : Table)
       → IsArena c.arena.nodes c.arena.trees → IsStore o (c.steps + 1) x.task prepared.row c.arena arena c.tape tape x.walk w before
       → IsOver c.table table o (noted (moved (with_nothing_ready x) (c.steps + 1) w) (Some (record { reply = Replaced; at = c.steps + 1 })))
-      → IsSound (made c arena tape c.accounts table) × StepsOn now (made c arena tape c.accounts table) o Moved
+      → IsSound c.arena (made c arena tape c.accounts table) × StepsOn now (made c arena tape c.accounts table) o Moved
   store_made at_store prepared has arena tape w before table is_arena st over =
       let sk = store_kept c o h x there at_store prepared has in
       steps_on (made c arena tape c.accounts table)
@@ -332,7 +333,7 @@ module _ (c now : Core) (o : ℕ) (is : c ≡ now) (h : StateInvariant c) (few :
   -- a pair that was written into a free slot
   pub fill_made : x.walk.phase ≡ Fill → (prepared rest : Prepared) → x.prepared ≡ Some prepared → (arena : ArenaView) (w : Walk) (table : Table)
       → IsFill o x.task prepared rest c.arena arena x.walk w → IsOver c.table table o (made_ready (moved x (c.steps + 1) w) rest)
-      → IsSound (made c arena c.tape c.accounts table) × StepsOn now (made c arena c.tape c.accounts table) o Moved
+      → IsSound c.arena (made c arena c.tape c.accounts table) × StepsOn now (made c arena c.tape c.accounts table) o Moved
   fill_made at_fill prepared rest has arena w table t over =
       let after = made_ready (moved x (c.steps + 1) w) rest in
       let fk = fill_kept c o h x there at_fill prepared has in
@@ -350,7 +351,7 @@ module _ (c now : Core) (o : ℕ) (is : c ≡ now) (h : StateInvariant c) (few :
     by_outcome : (reply : Reply) → IsOver c.table table o (noted (moved (with_nothing_ready x) (c.steps + 1) w) (Some (record { reply = reply; at = c.steps + 1 })))
         → Guarantee o c.arena arena → w ≡ walk_placed x.walk → ((height : ℕ) → AreBelow c.arena height → AreBelow arena height)
         → Gives (shown now) (made c arena tape accounts (set c.table o (Some (noted (moved (with_nothing_ready x) (c.steps + 1) w) (Some (record { reply = reply; at = c.steps + 1 })))))) o false
-        → IsSound (made c arena tape accounts table) × StepsOn now (made c arena tape accounts table) o Moved
+        → IsSound c.arena (made c arena tape accounts table) × StepsOn now (made c arena tape accounts table) o Moved
     by_outcome reply over guarantee goes stays gives =
         steps_on (made c arena tape accounts table)
         (subst (λ (all : Table). Gives (shown now) (made c arena tape accounts all) o false) (sym over.is) gives)
@@ -360,7 +361,7 @@ module _ (c now : Core) (o : ℕ) (is : c ≡ now) (h : StateInvariant c) (few :
     -- a pair that was made live
     pub publish_made : IsArena c.arena.nodes c.arena.trees → IsPublish o (c.steps + 1) x.task prepared.row c.arena arena c.tape tape c.accounts accounts x.walk w
         → IsOver c.table table o (noted (moved (with_nothing_ready x) (c.steps + 1) w) (Some (record { reply = New; at = c.steps + 1 })))
-        → IsSound (made c arena tape accounts table) × StepsOn now (made c arena tape accounts table) o Moved
+        → IsSound c.arena (made c arena tape accounts table) × StepsOn now (made c arena tape accounts table) o Moved
     publish_made is_arena pb over =
         let pk = publish_kept c o h x there at_publish prepared has in
         by_outcome New over pb.guarantee pb.walk (levels_stay c.arena arena x.walk.place.node _ pk.holds.judged.held.there pb.is refl refl)
@@ -369,7 +370,7 @@ module _ (c now : Core) (o : ℕ) (is : c ≡ now) (h : StateInvariant c) (few :
     -- a quota that had no room
     pub full_made : IsPublishFull o x.task c.arena arena c.tape tape c.accounts accounts x.walk w
         → IsOver c.table table o (noted (moved (with_nothing_ready x) (c.steps + 1) w) (Some (record { reply = Full; at = c.steps + 1 })))
-        → IsSound (made c arena tape accounts table) × StepsOn now (made c arena tape accounts table) o Moved
+        → IsSound c.arena (made c arena tape accounts table) × StepsOn now (made c arena tape accounts table) o Moved
     full_made ff over =
         by_outcome Full over ff.guarantee ff.walk (λ height. subst (λ (v : ArenaView). AreBelow v height) (sym ff.stays))
         (publish_full c (shown now) o (ap shown is) h few x there at_publish (put_at c o h x there Publish at_publish tt) arena tape accounts w ff)

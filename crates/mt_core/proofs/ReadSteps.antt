@@ -22,12 +22,14 @@ use Rattle.mt_state.specs.{Promises.{Tells, IsInTheWay}, Phases.LeadsTo, Notes.S
 use Rattle.mt_state.specs.{KeptOperations.{IsOnItsWay, IsAtLoad, IsAtConfirm, IsKeptAt}, Invariant.StateInvariant}
 use Rattle.mt_state.proofs.{Shown.shown_there, Telling.Gives, Still.{IsFree, holds_nothing, nothing_changes}}
 use Rattle.mt_state.proofs.{Reading.{way_of, descend_done, search_missing, search_found}, Loading.{load_taken, load_stopped}}
+use Rattle.mt_descent.specs.Remembered.{Learns}
+use Rattle.mt_state.proofs.Learning.{descent_learns}
 use Rattle.mt_state.proofs.{Confirming.{get_of, confirm_done, confirm_back}, Lawful.get_no_scan, Bound.get_no_remove}
 use Rattle.mt_core.specs.Nexts.{ending}
 use Rattle.mt_core.specs.Looks.{Looks, LooksAt, MayDescend, MayLook, led_to, TellsDescended, TellsSearched, TellsLoaded, TellsConfirmed, TellsSnapped, TellsCompared, TellsHopped, IsStopped}
 use Rattle.mt_core.specs.{Points.{IsAtPoint, Nears, StepsOn, IsRemovalAt}, ScanPoints.IsScanAt}
 use Rattle.mt_core.proofs.{Points.{point_first, removal_first, nears_by}, ScanNears.{scan_first, scan_aim, down_nears}, RemovalNears.descent_removal}
-use Rattle.mt_core.proofs.{Following.{IsSound, IsOver, holder_open, in_the_way}, Leading.{no_step, leads_over}}
+use Rattle.mt_core.proofs.{Following.{IsSound, sound_by, IsOver, holder_open, in_the_way}, Leading.{no_step, leads_over}}
 use Rattle.mt_core.proofs.PhaseTests.{free_unfinished, confirm_or, done_or, other_moves, way_moves}
 use Rattle.mt_core.proofs.ScanSteps.{may_snap, may_compare, may_hop, snap_comes, check_comes, hop_comes}
 use Rattle.mt_core.proofs.LookPoints.{search_nears, load_nears, confirm_nears, descent_nears}
@@ -64,7 +66,7 @@ module _ (c now : Core) (o : ℕ) (is : c ≡ now) (h : StateInvariant c) (room 
 
   -- what a step gives that leaves all nodes as they were: the invariant, and what it answers
   abbrev StepGives : Table → Move → Type 0
-  StepGives table answer = IsSound (stepped c table) × StepsOn now (stepped c table) o answer
+  StepGives table answer = IsSound c.arena (stepped c table) × StepsOn now (stepped c table) o answer
 
   -- the walk comes to the next point
   abbrev BringsOn : Walk → Type 0
@@ -103,7 +105,7 @@ module _ (c now : Core) (o : ℕ) (is : c ≡ now) (h : StateInvariant c) (room 
   moved_gives : (w : Walk) (told : Option Outcome) → Gives (shown now) (stepped c (led w told)) o false → BringsOn w → BringsRemoval w told → BringsScan w → GoesOn op.walk.phase w
       → (table : Table) → table ≡ led w told → StepGives table Moved
   moved_gives w told g brings removes scans goes table e = subst (λ (t : Table). StepGives t Moved) (sym e) (
-    g.0,
+    sound_by c now (stepped c (led w told)) o false is g,
     record {
       tells = g.1;
       nears = subst (λ (x : Core). Nears x (stepped c (led w told)) o Moved) is nears;
@@ -122,7 +124,7 @@ module _ (c now : Core) (o : ℕ) (is : c ≡ now) (h : StateInvariant c) (room 
   done_gives : (w : Walk) (told : Option Outcome) → Gives (shown now) (stepped c (led w told)) o true → GoesOn op.walk.phase w → (table : Table)
       → table ≡ led w told → StepGives table DoneMove
   done_gives w told g goes table e = subst (λ (t : Table). StepGives t DoneMove) (sym e) (
-    g.0,
+    sound_by c now (stepped c (led w told)) o true is g,
     record {
       tells = g.1;
       nears = tt;
@@ -138,9 +140,9 @@ module _ (c now : Core) (o : ℕ) (is : c ≡ now) (h : StateInvariant c) (room 
   descent_kept descent = (way_of op.walk.phase descent c o op (h.ops o op there).kept).kept
 
   -- a step down
-  pub descent_gives : (w : Walk) → IsDescent op.walk.phase → Descends op.walk w → ((past : Past) → IsKept c.arena past op.task.key None w)
+  pub descent_gives : (w : Walk) → IsDescent op.walk.phase → Descends op.walk w → Learns c.arena op.walk w → ((past : Past) → IsKept c.arena past op.task.key None w)
       → BringsOn w → BringsRemoval w op.outcome → BringsScan w → GoesOn op.walk.phase w → (table : Table) → table ≡ set c.table o (Some (moved op (c.steps + 1) w)) → StepGives table Moved
-  descent_gives w descent goes kept brings = moved_gives w op.outcome (descend_done c (shown now) o (ap shown is) h room op there w descent goes kept) brings
+  descent_gives w descent goes learns kept brings = moved_gives w op.outcome (descend_done c (shown now) o (ap shown is) h room op there w descent goes learns kept) brings
 
   -- what is kept of an operation that is to search
   pub search_kept : op.walk.phase ≡ Search → IsAtBorder c.arena op.task.key op.walk
@@ -270,7 +272,10 @@ module _ (c now : Core) (o : ℕ) (is : c ≡ now) (h : StateInvariant c) (room 
   pub descent_comes : IsArena c.arena.nodes c.arena.trees → IsDescent op.walk.phase → Comes (TellsDescended c.arena)
   descent_comes arena descent after t table e answer ends =
       subst (StepGives table) (sym (ends ∙ way_moves after.walk.phase t.goes.on_way))
-      (descent_gives after.walk descent t.goes t.kept (descent_nears c.arena op.walk after.walk op.splits arena descent t.nears)
+      (descent_gives after.walk descent t.goes
+      (descent_learns c.arena (past_of c) op.task.key o (c.steps + 1) op.outcome (splits_of op.splits) op.removal (no_step op) op.walk after.walk arena descent (descent_kept descent)
+      (t.leads o (c.steps + 1) op.outcome (splits_of op.splits) op.removal (no_step op)))
+      t.kept (descent_nears c.arena op.walk after.walk op.splits arena descent t.nears)
       (λ removes. descent_removal c.arena op.walk after.walk op.outcome op.removal arena descent t.nears)
       (λ scans height trees made r. down_nears c.arena arena height trees made op.walk after.walk op.scan.stop op.task.key descent t.goes.kind
       (t.goes.same.aim ∙ (h.ops o op there).always.aim ∙ scan_aim (ask op.task) scans) t.nears r)

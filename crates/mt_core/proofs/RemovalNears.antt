@@ -21,7 +21,8 @@ use Rattle.mt_descent.specs.{Seen.{IsOutdated, IsRemembered}, KeptWalks.{GoesThr
 use Rattle.mt_remove.{specs.{Ways.IsLockWay, RemovalEdits.{GoesOnEmptied, after_unlink, for_rest}}, proofs.GoingOn.unlinks_or_not}
 use Rattle.mt_held.specs.Moves.{walk_at}
 use Rattle.mt_interior.specs.Places.{place_of}
-use Rattle.mt_state.{specs.Phases.{LeadsTo, ScanStep}, proofs.{RemovalBy.child_before, Decides.outdated_or_not}}
+use Rattle.mt_descent.proofs.Decides.{outdated_or_not}
+use Rattle.mt_state.{specs.Phases.{LeadsTo, ScanStep}, proofs.RemovalBy.child_before}
 use Rattle.mt_operation.specs.Phases as kinds
 
 -- nodes of the same levels make the same levels of trees

@@ -98,17 +98,17 @@ module _ (c now : Core) (o : ℕ) (is : c ≡ now) (h : StateInvariant c) (few :
       (nears_removal c (made c arena tape accounts table) o x after there over.there guarantee (ap ask asked) removes brings)
 
   -- what is told of one that moves, and of one that ends
-  moves_on : (new : Core) → Gives (shown c) new o false → Nears now new o Moved → Leads (shown now) (shown new) o → IsSound new × StepsOn now new o Moved
+  moves_on : (new : Core) → Gives (shown c) new o false → Nears now new o Moved → Leads (shown now) (shown new) o → IsSound c.arena new × StepsOn now new o Moved
   moves_on new g nears leads = (g.0, record { tells = subst (λ (v : StateView). IsStep v (shown new) o false) (ap shown is) g.1; nears = nears; leads = leads })
 
-  ends_it : (new : Core) → Gives (shown c) new o true → Leads (shown now) (shown new) o → IsSound new × StepsOn now new o DoneMove
+  ends_it : (new : Core) → Gives (shown c) new o true → Leads (shown now) (shown new) o → IsSound c.arena new × StepsOn now new o DoneMove
   ends_it new g leads = (g.0, record { tells = subst (λ (v : StateView). IsStep v (shown new) o true) (ap shown is) g.1; nears = tt; leads = leads })
 
   -- Judge: all that was made ready, or no key
   module _ (at_judge : x.walk.phase ≡ Judge) (untold : x.outcome ≡ None) (removes : is_remove (ask x.task) ≡ true) where
     pub removal_ready : IsArena c.arena.nodes c.arena.trees → (arena : ArenaView) (tape : Kept) (w : Walk) (prepared : Prepared) (table : Table)
         → IsMadeReady o x.task c.arena arena c.tape tape x.walk w prepared → IsOver c.table table o (made_ready (moved x (c.steps + 1) w) prepared)
-        → IsSound (made c arena tape c.accounts table) × StepsOn now (made c arena tape c.accounts table) o Moved
+        → IsSound c.arena (made c arena tape c.accounts table) × StepsOn now (made c arena tape c.accounts table) o Moved
     removal_ready is_arena arena tape w prepared table t over =
         let judged = (judge_kept c o h x there at_judge).judged in
         let through = judged.at_border.through in
@@ -127,7 +127,7 @@ module _ (c now : Core) (o : ℕ) (is : c ≡ now) (h : StateInvariant c) (few :
 
     pub removal_missing : (arena : ArenaView) (tape : Kept) (w : Walk) (table : Table) → tape ≡ c.tape → FindsAbsent o x.task c.arena arena x.walk w
         → IsOver c.table table o (noted (moved x (c.steps + 1) w) (Some (record { reply = Absent; at = c.steps + 1 })))
-        → IsSound (made c arena tape c.accounts table) × StepsOn now (made c arena tape c.accounts table) o DoneMove
+        → IsSound c.arena (made c arena tape c.accounts table) × StepsOn now (made c arena tape c.accounts table) o DoneMove
     removal_missing arena tape w table keeps t over =
         let told : Outcome = record { reply = Absent; at = c.steps + 1 } in
         ends_it (made c arena tape c.accounts table)
@@ -142,12 +142,12 @@ module _ (c now : Core) (o : ℕ) (is : c ≡ now) (h : StateInvariant c) (few :
     pub follow_made : IsArena c.arena.nodes c.arena.trees → (arena : ArenaView) (w : Walk) (table : Table) → Follows o x.task.key c.arena arena x.walk w
         → IsOver c.table table o (moved x (c.steps + 1) w)
         → (answer : Move) → answer ≡ ending w.phase
-        → IsSound (made c arena c.tape c.accounts table) × StepsOn now (made c arena c.tape c.accounts table) o answer
+        → IsSound c.arena (made c arena c.tape c.accounts table) × StepsOn now (made c arena c.tape c.accounts table) o answer
     follow_made is_arena arena w table (inl t) over answer says =
-        subst (λ (a : Move). IsSound (made c arena c.tape c.accounts table) × StepsOn now (made c arena c.tape c.accounts table) o a)
+        subst (λ (a : Move). IsSound c.arena (made c arena c.tape c.accounts table) × StepsOn now (made c arena c.tape c.accounts table) o a)
         (sym (says ∙ ap (λ (y : Walk). ending y.phase) t.goes.walk)) (link_made c now o is h few x there at_judge is_arena arena c.tape w table refl t over)
     follow_made is_arena arena w table (inr t) over answer says =
-        subst (λ (a : Move). IsSound (made c arena c.tape c.accounts table) × StepsOn now (made c arena c.tape c.accounts table) o a)
+        subst (λ (a : Move). IsSound c.arena (made c arena c.tape c.accounts table) × StepsOn now (made c arena c.tape c.accounts table) o a)
         (sym (says ∙ ap (λ (y : Walk). ending y.phase) t.unlocks.walk)) (ends_it (made c arena c.tape c.accounts table)
         (subst (λ (all : Table). Gives (shown c) (made c arena c.tape c.accounts all) o true) (sym over.is) (back_ended c o h few_here x there at_judge told arena w t))
         (leads_over c o h x there Judge at_judge now is arena c.tape c.accounts table _ over w (judged_none x.outcome told) refl refl))
@@ -160,7 +160,7 @@ module _ (c now : Core) (o : ℕ) (is : c ≡ now) (h : StateInvariant c) (few :
   module _ (at_lock : x.walk.phase ≡ Lock) (told : x.outcome ≢ None) where
     pub back_made : IsArena c.arena.nodes c.arena.trees → (arena : ArenaView) (w : Walk) (table : Table) → IsLockWay o x.task.key c.arena arena x.walk w x.removal
         → IsOver c.table table o (moved x (c.steps + 1) w)
-        → IsSound (made c arena c.tape c.accounts table) × StepsOn now (made c arena c.tape c.accounts table) o Moved
+        → IsSound c.arena (made c arena c.tape c.accounts table) × StepsOn now (made c arena c.tape c.accounts table) o Moved
     back_made is_arena arena w table t over =
         let after = moved x (c.steps + 1) w in
         moves_on (made c arena c.tape c.accounts table)
@@ -184,7 +184,7 @@ module _ (c now : Core) (o : ℕ) (is : c ≡ now) (h : StateInvariant c) (few :
   pub drop_made : x.walk.phase ≡ DropKey → IsArena c.arena.nodes c.arena.trees → (arena : ArenaView) → IsArena arena.nodes arena.trees → (tape : Kept) (accounts : Accounts) (w : Walk) (r : Removal) (table : Table)
       → IsDropKey o (c.steps + 1) x.task c.arena arena c.tape tape c.accounts accounts x.walk w x.removal r
       → IsOver c.table table o (with_removal (noted (moved (with_nothing_ready x) (c.steps + 1) w) (Some (record { reply = Removed; at = c.steps + 1 }))) r)
-      → IsSound (made c arena tape accounts table) × StepsOn now (made c arena tape accounts table) o Moved
+      → IsSound c.arena (made c arena tape accounts table) × StepsOn now (made c arena tape accounts table) o Moved
   drop_made at_drop was arena is_now tape accounts w r table d over =
       let told : Outcome = record { reply = Removed; at = c.steps + 1 } in
       let after = with_removal (noted (moved (with_nothing_ready x) (c.steps + 1) w) (Some told)) r in
@@ -207,7 +207,7 @@ module _ (c now : Core) (o : ℕ) (is : c ≡ now) (h : StateInvariant c) (few :
     pub take_made : IsArena c.arena.nodes c.arena.trees → (arena : ArenaView) (w : Walk) (r : Removal)
         → IsRemovalFrom x.walk.phase o (c.steps + 1) x.task.key c.arena arena x.walk w x.removal r
         → (last : Table) → IsOver c.table last o (with_removal (moved x (c.steps + 1) w) r)
-        → IsSound (made c arena c.tape c.accounts last) × StepsOn now (made c arena c.tape c.accounts last) o Moved
+        → IsSound c.arena (made c arena c.tape c.accounts last) × StepsOn now (made c arena c.tape c.accounts last) o Moved
     take_made is_arena arena w r from last over =
         let p = x.walk.phase in
         let after = with_removal (moved x (c.steps + 1) w) r in
@@ -241,7 +241,7 @@ module _ (c now : Core) (o : ℕ) (is : c ≡ now) (h : StateInvariant c) (few :
     pub return_made : IsArena c.arena.nodes c.arena.trees → (arena : ArenaView) (w : Walk) (r : Removal) → IsUnlockRemoval o c.arena arena x.walk w x.removal r
         → (last : Table) → IsOver c.table last o (with_removal (moved x (c.steps + 1) w) r)
         → (answer : Move) → answer ≡ ending w.phase
-        → IsSound (made c arena c.tape c.accounts last) × StepsOn now (made c arena c.tape c.accounts last) o answer
+        → IsSound c.arena (made c arena c.tape c.accounts last) × StepsOn now (made c arena c.tape c.accounts last) o answer
     return_made is_arena arena w r t last over answer says =
         let new = made c arena c.tape c.accounts last in
         let gives : Gives (shown c) new o (is_done w.phase) = subst (λ (all : Table). Gives (shown c) (made c arena c.tape c.accounts all) o (is_done w.phase)) (sym over.is)
@@ -253,7 +253,7 @@ module _ (c now : Core) (o : ℕ) (is : c ≡ now) (h : StateInvariant c) (few :
               let goes = t.cleans empties in
               let at_enter : w.phase ≡ Enter = ap (λ (y : Walk). y.phase) goes.0 in
               let after = with_removal (moved x (c.steps + 1) w) r in
-              subst (λ (a : Move). IsSound new × StepsOn now new o a) (sym (says ∙ ap ending at_enter)) (moves_on new (subst (λ (p : Phase). Gives (shown c) new o (is_done p)) at_enter gives)
+              subst (λ (a : Move). IsSound c.arena new × StepsOn now new o a) (sym (says ∙ ap ending at_enter)) (moves_on new (subst (λ (p : Phase). Gives (shown c) new o (is_done p)) at_enter gives)
               (nears_by_removal removes arena c.tape c.accounts last after over refl t.keeps.guarantee (λ height n point. removal_first height (n + 1) arena w x.outcome r after.walk.first
               (back_removal c.arena arena x.walk w x.outcome x.removal r at_unlock goes.0 (ap (λ (y : Removal). y.cleans) goes.1) is_arena t.is.trees
               (layer_is (tree_at c.arena.trees x.walk.place.tree).prefix x.task.key x.walk.layer return_kept.removes.through.of_tree)
@@ -261,5 +261,5 @@ module _ (c now : Core) (o : ℕ) (is : c ≡ now) (h : StateInvariant c) (few :
               leads)
           | inr keeps ↦
               let at_done : w.phase ≡ Done = ap (λ (y : Walk). y.phase) (t.ends keeps).0 in
-              subst (λ (a : Move). IsSound new × StepsOn now new o a) (sym (says ∙ ap ending at_done)) (ends_it new (subst (λ (p : Phase). Gives (shown c) new o (is_done p)) at_done gives) leads)
+              subst (λ (a : Move). IsSound c.arena new × StepsOn now new o a) (sym (says ∙ ap ending at_done)) (ends_it new (subst (λ (p : Phase). Gives (shown c) new o (is_done p)) at_done gives) leads)
         ]

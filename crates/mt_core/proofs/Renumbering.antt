@@ -6,7 +6,7 @@ use Rattle.mt_rows.specs.{Rows.Bytes, Tenants.tenant_map}
 use Rattle.mt_border.{specs.{Contents.AllStamped, Restamps.all_restamped}, proofs.Restamping.all-restamped}
 use Rattle.mt_tape.specs.Tapes.{Kept}
 use Rattle.mt_arena.specs.{NodeView.NodeView, Arena.{ArenaView, content_of}, Forests.tree_at, Accesses.at, Renumbers.{renumbered, arena_renumbered}}
-use Rattle.mt_arena.proofs.Renumbering.{at-renumbered, size-renumbered, content-renumbered}
+use Rattle.mt_arena.proofs.{Renumbering.{at-renumbered, size-renumbered, content-renumbered}, Out.upto_anew}
 use Rattle.mt_operation.specs.Tables.{Table, op_at as operation_at}
 use Rattle.mt_state.specs.{Views.Core, Invariant.{StateInvariant, AreStamps, AreVersions, AreHolders, AreCounted, DeletedAreEmpty, IsStampOf, IsCountedUpTo}}
 use Rattle.mt_core.specs.Renumbers.{core_renumbered}
@@ -78,6 +78,8 @@ module _ (steps : ℕ) (c : Core) (sound : StateInvariant c) (idle : (o : ℕ) �
     reserved = refl;
     answered = omega arith;
     deleted = deleted;
+    late = upto_anew steps c.arena.retired;
+    remembered = λ o op there. absurd (cc);
     few = few;
     quotas = λ t m a there from upto. let h = counted t a there in omega (arith, h.0, h.1);
     written = λ k d lt. never k lt;

@@ -66,6 +66,8 @@ module _ (c : Core) (table : Table) where
       reserved = h.reserved ∙ sym (same_count table c.table (λ q. ap one_if_prepared (adds.same q)));
       answered = omega (arith, h.answered, same_made (shown_table table) (shown_table c.table) (λ q. ap one_if_made (shown_same q)));
       deleted = h.deleted;
+      late = h.late;
+      remembered = λ o op there. h.remembered o op (sym (adds.same o) ∙ there);
       few = h.few;
       quotas = h.quotas;
       written = h.written;

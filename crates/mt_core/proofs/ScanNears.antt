@@ -19,7 +19,7 @@ use Rattle.mt_readings.proofs.Readings.{stop_in}
 use Rattle.mt_scan.specs.{Snaps.{StopsAt, behind_in, prefix_in, IsSnap}, Checks.{IsCheck, GoesBehind, at_fence, past_link, kept_seen, walk_to, collects}}
 use Rattle.mt_scan.specs.Hops.{KnowsEnd, LeadsNext, IsAtCheck, KeptHop, HopsTo, after_next}
 use Rattle.mt_stretches.specs.Scanned.{IsSeenTo}
-use Rattle.mt_state.proofs.Decides.{same_or_not}
+use Rattle.mt_descent.proofs.Decides.{same_or_not}
 use Rattle.mt_core.specs.Budgets.{Budget, IsBudget, SeesNow, WalksBy, astray, behind, budget_of, until}
 use Rattle.mt_core.specs.ScanPoints.{LeadsOnward, HopsBy, ScansBy, IsScanAt, trees_ahead, nodes_ahead, begin_of, is_behind_tree, round_of}
 use Rattle.mt_core.proofs.{WalkBounds.few_walked, Ahead.{behind_all, not_behind, not_below, not_itself, trees_less, trees_fewer, nodes_less, nodes_fewer}}

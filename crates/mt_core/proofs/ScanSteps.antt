@@ -51,7 +51,7 @@ module _ (c now : Core) (o : ℕ) (is : c ≡ now) (h : StateInvariant c) (room 
   stepped table = record c { steps = c.steps + 1; table = table }
 
   abbrev StepGives : Table → Move → Type 0
-  StepGives table answer = IsSound (stepped table) × StepsOn now (stepped table) o answer
+  StepGives table answer = IsSound c.arena (stepped table) × StepsOn now (stepped table) o answer
 
   -- where the table of phases leads it
   abbrev GoesOn : Phase → Walk → ScanView → Type 0

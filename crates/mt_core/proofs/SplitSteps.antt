@@ -85,10 +85,10 @@ module _ (c now : Core) (o : ℕ) (is : c ≡ now) (h : StateInvariant c) (few :
   few_here = subst (λ (v : Core). v.steps < 2 ^ 59) (sym is) few
 
   -- a step that moves the operation, and one that ends it
-  moves_on : (new : Core) → Gives (shown c) new o false → Nears c new o Moved → Leads (shown c) (shown new) o → IsSound new × StepsOn now new o Moved
+  moves_on : (new : Core) → Gives (shown c) new o false → Nears c new o Moved → Leads (shown c) (shown new) o → IsSound c.arena new × StepsOn now new o Moved
   moves_on new gives nears leads = (gives.0, subst (λ (v : Core). StepsOn v new o Moved) is (record { tells = gives.1; nears = nears; leads = leads }))
 
-  ends_it : (new : Core) → Gives (shown c) new o true → Leads (shown c) (shown new) o → IsSound new × StepsOn now new o DoneMove
+  ends_it : (new : Core) → Gives (shown c) new o true → Leads (shown c) (shown new) o → IsSound c.arena new × StepsOn now new o DoneMove
   ends_it new gives leads = (gives.0, subst (λ (v : Core). StepsOn v new o DoneMove) is (record { tells = gives.1; nears = tt; leads = leads }))
 
   module _ (at_start : op.walk.phase ≡ SplitStart) where
@@ -105,7 +105,7 @@ module _ (c now : Core) (o : ℕ) (is : c ≡ now) (h : StateInvariant c) (few :
     module _ (arena : ArenaView) (tape : Kept) (w : Walk) (t : Splits) (table : Table) where
       -- the right half of the full node is made, and nobody's level rises
       pub start_made : IsSplitStart o op.task.key c.arena arena c.tape tape op.walk w op.splits t → IsOver c.table table o (moved (with_splits op t) (c.steps + 1) w)
-          → IsSound (made c arena tape c.accounts table) × StepsOn now (made c arena tape c.accounts table) o Moved
+          → IsSound c.arena (made c arena tape c.accounts table) × StepsOn now (made c arena tape c.accounts table) o Moved
       start_made b over =
           let after = moved (with_splits op t) (c.steps + 1) w in
           let moves : w.phase ≡ SplitMove = ap (λ (x : Walk). x.phase) b.walk in
@@ -124,7 +124,7 @@ module _ (c now : Core) (o : ℕ) (is : c ≡ now) (h : StateInvariant c) (few :
       -- there is no memory for it
       pub start_stopped : IsSplitStopped o c.arena arena c.tape tape op.walk w t
           → IsOver c.table table o (noted (moved (with_nothing_ready (with_splits op t)) (c.steps + 1) w) (Some (record { reply = NoMemory; at = c.steps + 1 })))
-          → IsSound (made c arena tape c.accounts table) × StepsOn now (made c arena tape c.accounts table) o DoneMove
+          → IsSound c.arena (made c arena tape c.accounts table) × StepsOn now (made c arena tape c.accounts table) o DoneMove
       start_stopped stops over =
           ends_it (made c arena tape c.accounts table)
           (subst (λ (all : Table). Gives (shown c) (made c arena tape c.accounts all) o true) (sym over.is) (stop_done c o h few_here op there at_start arena tape w t stops))
@@ -148,7 +148,7 @@ module _ (c now : Core) (o : ℕ) (is : c ≡ now) (h : StateInvariant c) (few :
           → (all : List Entry) → AreHalved all c.arena.nodes arena.nodes op.walk.place.node (last_of op.splits).right
           → w ≡ walk_at (after_parting (at c.arena op.walk.place.node).next) op.walk → Guarantee o c.arena arena
           → Gives (shown c) (split_core c arena tape accounts o op w (Some (record { reply = reply; at = c.steps + 1 })) None op.splits) o false
-          → IsSound (made c arena tape accounts table) × StepsOn now (made c arena tape accounts table) o Moved
+          → IsSound c.arena (made c arena tape accounts table) × StepsOn now (made c arena tape accounts table) o Moved
       by_reply reply over all halved goes step gives =
           let next = (at c.arena op.walk.place.node).next in
           let phase : w.phase ≡ after_parting next = ap (λ (x : Walk). x.phase) goes in
@@ -168,14 +168,14 @@ module _ (c now : Core) (o : ℕ) (is : c ≡ now) (h : StateInvariant c) (few :
       pub parts_with : IsArena c.arena.nodes c.arena.trees → (row : Columns)
           → IsSplitMove o (c.steps + 1) op.task row c.arena arena c.tape tape c.accounts accounts op.walk w op.splits
           → IsOver c.table table o (noted (moved (with_nothing_ready op) (c.steps + 1) w) (Some (record { reply = New; at = c.steps + 1 })))
-          → IsSound (made c arena tape accounts table) × StepsOn now (made c arena tape accounts table) o Moved
+          → IsSound c.arena (made c arena tape accounts table) × StepsOn now (made c arena tape accounts table) o Moved
       parts_with is_arena row parts over =
           by_reply New over _ parts.is parts.parts.walk parts.parts.guarantee (part_done c o h few_here op there (put_at c o h op there SplitMove at_move tt) at_move arena tape accounts w row is_arena parts)
 
       -- and without it
       pub parts_without : IsSplitMoveFull o op.task c.arena arena c.tape tape c.accounts accounts op.walk w op.splits
           → IsOver c.table table o (noted (moved (with_nothing_ready op) (c.steps + 1) w) (Some (record { reply = Full; at = c.steps + 1 })))
-          → IsSound (made c arena tape accounts table) × StepsOn now (made c arena tape accounts table) o Moved
+          → IsSound c.arena (made c arena tape accounts table) × StepsOn now (made c arena tape accounts table) o Moved
       parts_without parts over =
           by_reply Full over _ parts.is parts.parts.walk parts.parts.guarantee (fill_done c o h few_here op there (put_at c o h op there SplitMove at_move tt) at_move arena tape accounts w parts)
 
@@ -192,7 +192,7 @@ module _ (c now : Core) (o : ℕ) (is : c ≡ now) (h : StateInvariant c) (few :
     -- the locks of all nodes of the splits are given back
     pub returns_made : (arena : ArenaView) (w : Walk) (t : Splits) (table : Table) → IsUnlockAll o c.arena arena op.walk w op.splits t
         → IsOver c.table table o (moved (with_splits op t) (c.steps + 1) w)
-        → IsSound (made c arena c.tape c.accounts table) × StepsOn now (made c arena c.tape c.accounts table) o DoneMove
+        → IsSound c.arena (made c arena c.tape c.accounts table) × StepsOn now (made c arena c.tape c.accounts table) o DoneMove
     returns_made arena w t table returns over =
         ends_it (made c arena c.tape c.accounts table)
         (subst (λ (all : Table). Gives (shown c) (made c arena c.tape c.accounts all) o true) (sym over.is) (return_done c o h few_here op there at_unlock told some arena w t returns))

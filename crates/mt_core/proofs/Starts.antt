@@ -4,7 +4,7 @@ use Rattle.std.proofs.lemmas.List.Elements.{All-replicate}
 use Rattle.std.specs.{FinMap.{len, len-empty}, Ordering.nat_cmp, Cmp.Lexicographic.slice_cmp}
 use Rattle.mt_rows.specs.{Rows.Columns, Accounts.Accounts, Tenants.tenant_map}
 use Rattle.mt_tape.specs.Tapes.{Kept}
-use Rattle.mt_arena.specs.{Arena.{ArenaView, content_of}, Accesses.new_arena}
+use Rattle.mt_arena.{specs.{Arena.{ArenaView, content_of}, Accesses.new_arena}, proofs.Out.upto_none}
 use Rattle.mt_operation.specs.Tables.{Table}
 use Rattle.mt_state.specs.{Views.Core, Invariant.{DeletedAreEmpty, StateInvariant, AreStamps, AreVersions, AreHolders}, Begins.HaveNoPairs}
 use Rattle.mt_state.proofs.HistoryStart.{content-new, tenant_map-empty}
@@ -47,6 +47,8 @@ start_sound logs accounts few none = record {
   reserved = refl;
   answered = omega arith;
   deleted = deleted;
+  late = upto_none 0;
+  remembered = λ o op there. absurd (cc);
   few = omega arith;
   quotas = λ t m a there from upto. subst (λ n. n ≤ a.quota) (sym (no_len t)) (omega arith);
   written = λ k d lt. never k lt;

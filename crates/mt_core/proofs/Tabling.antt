@@ -5,7 +5,7 @@ use Rattle.std.specs.{Prelude.{if◌then◌else◌}, Option.option_map}
 use Rattle.mt_arena.specs.Accesses.{at}
 use Rattle.mt_operation.specs.{declared.operation.Operation.Operation, Operations.view_of, Tables.{Table, op_at as operation_at}, Phases.is_prepared}
 use Rattle.mt_operation.proofs.Tables.{set_there, set_none}
-use Rattle.mt_state.specs.{Views.{Core, Shown}, KeptOperations.{IsKeptOf, IsScanKept}}
+use Rattle.mt_state.specs.{Views.{Core, Shown}, KeptOperations.{IsKeptOf, IsScanKept}, KeptBack.IsKeptBack}
 use Rattle.mt_state.specs.Invariant.{HoldsAt, StateInvariant, one_if_prepared, prepared_count, made_count}
 use Rattle.mt_state.proofs.{Shown.{shown_table, shown_at, shown_there, shown_set}, Answered.answered_begun}
 use Rattle.mt_core.proofs.Retained.{retained, scan_retained, own_tape}
@@ -26,9 +26,10 @@ module _ (c : Core) (o answers : ℕ) (table : Table) (h : StateInvariant c) (ot
   table_sound : ((k : ℕ) → k < length c.arena.nodes → (at c.arena k).holder ≡ Some o → ⊥)
       → ((op : Operation) → operation_at table o ≡ Some op → IsKeptOf (with_table c answers table) o op)
       → ((op : Operation) → operation_at table o ≡ Some op → IsScanKept (with_table c answers table) op)
+      → ((op : Operation) → operation_at table o ≡ Some op → IsKeptBack c.arena o op)
       → one_if_prepared (operation_at table o) ≡ one_if_prepared (operation_at c.table o) → answers + made_count (shown_table table) ≤ c.steps
       → StateInvariant (with_table c answers table)
-  table_sound free own scans weight bound = record {
+  table_sound free own scans back weight bound = record {
     tape = record { rises = h.tape.rises; made = h.tape.made; legal = h.tape.legal; keys = h.tape.keys; logs = h.tape.logs };
     stamps = h.stamps;
     versions = h.versions;
@@ -52,6 +53,11 @@ module _ (c : Core) (o answers : ℕ) (table : Table) (h : StateInvariant c) (ot
     ]));
     answered = bound;
     deleted = h.deleted;
+    late = h.late;
+    remembered = λ q op there. elim (cases_eq q o) [
+      | inl is ↦ subst (λ n. IsKeptBack c.arena n op) (sym is) (back op (ap (operation_at table) (sym is) ∙ there))
+      | inr other ↦ h.remembered q op (sym (others q other) ∙ there)
+    ];
     few = h.few;
     quotas = h.quotas;
     written = h.written;
@@ -78,6 +84,7 @@ removed_sound c o answers op h there free unready bound =
     free k (subst (λ (x : Operation). HoldsAt x.walk.phase x k) same w.2))
     (λ x is. absurd (none-some x (sym (set_none c.table o) ∙ is)))
     (λ x is. absurd (none-some x (sym (set_none c.table o) ∙ is)))
+    (λ x is. absurd (none-some x (sym (set_none c.table o) ∙ is)))
     (ap one_if_prepared (set_none c.table o) ∙ sym (ap one_if_prepared there ∙ ap (λ b. if b then 1 else 0) unready))
     bound
 
@@ -85,11 +92,12 @@ removed_sound c o answers op h there free unready bound =
 module _ (c : Core) (o : ℕ) (op : Operation) (table : Table) (h : StateInvariant c) (vacant : operation_at c.table o ≡ None) (there : operation_at table o ≡ Some op) (others : (q : ℕ) → q ≢ o → operation_at table q ≡ operation_at c.table q) where
   -- the invariant with an operation more
   pub begun_sound : op.walk.first ≡ 0 → one_if_prepared (Some op) ≡ 0 → IsKeptOf (with_table c c.answers table) o op → IsScanKept (with_table c c.answers table) op
-      → StateInvariant (with_table c c.answers table)
-  begun_sound still unready kept scan = table_sound c o c.answers table h others
+      → IsKeptBack c.arena o op → StateInvariant (with_table c c.answers table)
+  begun_sound still unready kept scan back = table_sound c o c.answers table h others
       (λ k within held. let w = h.holders k o within held in none-some w.0 (sym vacant ∙ w.1))
       (λ x is. subst (IsKeptOf (with_table c c.answers table) o) (same_Some op x (sym there ∙ is)) kept)
       (λ x is. subst (IsScanKept (with_table c c.answers table)) (same_Some op x (sym there ∙ is)) scan)
+      (λ x is. subst (IsKeptBack c.arena o) (same_Some op x (sym there ∙ is)) back)
       (ap one_if_prepared there ∙ unready ∙ sym (ap one_if_prepared vacant))
       (answered_begun c.answers c.steps (shown_table c.table) (shown_table table) o (view_of op) (shown_at c.table o ∙ ap (option_map view_of) vacant) (shown_there table o op there) still
       (λ q other. shown_at table q ∙ ap (option_map view_of) (others q other) ∙ sym (shown_at c.table q)) h.answered)

@@ -83,6 +83,8 @@ module _ (c : Core) (floor : ℕ) (h : StateInvariant c) (rises : c.tape.floor �
     reserved = h.reserved;
     answered = h.answered;
     deleted = h.deleted;
+    late = h.late;
+    remembered = h.remembered;
     few = h.few;
     quotas =
         λ t m a there from upto. subst (λ all. len all ≤ a.quota) (sym (map_at-trim floor m c.tape.entries (content_of c.arena) t from)) (h.quotas t m a there (omega (arith, rises, from)) upto);

@@ -7,10 +7,10 @@ use Rattle.mt_operation.specs.Operations.{OperationView, view_of, splits_of, sca
 use Rattle.mt_operation.specs.{Phases.{is_done, is_prepared, IsClimb, IsLayerPhase, IsRemovalPhase, IsNoLook, IsToGrow}, Tables.{Table, op_at as operation_at}}
 use Rattle.mt_operation.specs.Tasks.{ask}
 use Rattle.mt_operation.proofs.Tables.{set_is}
-use Rattle.std.proofs.Common.{rules, ◌⊎◌, ◌≡◌, ◌≢◌, ℕ, ◌+◌, ◌<◌, inl, inr, true, false, not, set, Bool, Option, Some, None, IsSome, refl, sym, ap, subst, ◌∙◌}
+use Rattle.std.proofs.Common.{rules, ◌⊎◌, ◌≡◌, ◌≢◌, ℕ, ◌+◌, ◌<◌, inl, inr, true, false, not, set, Bool, Option, Some, None, IsSome, refl, sym, ap, subst, ◌∙◌, arith}
 use Rattle.std.proofs.{lemmas.Option.same_Some, lemmas.Bool.{cases_eq, both_ways}}
 use Rattle.std.specs.Prelude.{◌^◌}
-use Rattle.mt_arena.specs.{Forests.{layer_of, tree_at}, Arena.{ArenaView, IsArena}}
+use Rattle.mt_arena.{specs.{Forests.{layer_of, tree_at}, Arena.{ArenaView, IsArena}}, proofs.Out.upto_later}
 use Rattle.mt_rows.specs.{Rows.Bytes, Accounts.Accounts}
 use Rattle.mt_table.specs.{declared.steps.Made.Made, declared.steps.Made.TheVariants.{Step, Blocked, NoMemory, Nothing}}
 use Rattle.mt_layer.specs.Builds.{IsLayerFrom}
@@ -69,7 +69,7 @@ module _ (c now : Core) (o : ℕ) (is : c ≡ now) (h : StateInvariant c) (few :
 
   -- what it gives: the invariant, and what it answers
   abbrev pub StepGives : Parts → Table → Move → Type 0
-  StepGives to table answer = IsSound (left to table) × StepsOn now (left to table) o answer
+  StepGives to table answer = IsSound c.arena (left to table) × StepsOn now (left to table) o answer
 
   -- the table that it leaves, by what the body makes of the operation
   abbrev pub IsCounted : Table → Operation → Type 0
@@ -99,11 +99,11 @@ module _ (c now : Core) (o : ℕ) (is : c ≡ now) (h : StateInvariant c) (few :
 
   -- tape and tenants are as they were, or the tenants alone
   rest_gives : (to : Parts) (table : Table) (answer : Move) → to ≡ record here { arena = to.arena }
-      → IsSound (made c to.arena c.tape c.accounts table) × StepsOn now (made c to.arena c.tape c.accounts table) o answer → StepGives to table answer
+      → IsSound c.arena (made c to.arena c.tape c.accounts table) × StepsOn now (made c to.arena c.tape c.accounts table) o answer → StepGives to table answer
   rest_gives to table answer rest = subst (λ (x : Parts). StepGives x table answer) (sym rest)
 
   tape_gives : (to : Parts) (table : Table) (answer : Move) → to.accounts ≡ c.accounts
-      → IsSound (made c to.arena to.tape c.accounts table) × StepsOn now (made c to.arena to.tape c.accounts table) o answer → StepGives to table answer
+      → IsSound c.arena (made c to.arena to.tape c.accounts table) × StepsOn now (made c to.arena to.tape c.accounts table) o answer → StepGives to table answer
   tape_gives to table answer same = subst (λ (a : Accounts). StepGives (parts to.arena to.tape a) table answer) (sym same)
 
   -- the tape as it was, where the nodes alone have changed
@@ -258,8 +258,13 @@ module _ (c now : Core) (o : ℕ) (is : c ≡ now) (h : StateInvariant c) (few :
   may_build : IsLayerPhase op.walk.phase → MayBuild o c.arena op
   may_build layer = record { phase = layer; kept = layer_kept c o h op there op.walk.phase refl layer }
 
-  may_take : IsRemovalPhase op.walk.phase → MayTake o c.arena op
-  may_take takes = record { phase = takes; kept = removal_kept_at c o h op there op.walk.phase refl takes; holds = removal_held_at c o h op there takes }
+  may_take : IsRemovalPhase op.walk.phase → MayTake o (c.steps + 1) c.arena op
+  may_take takes = record {
+    phase = takes;
+    kept = removal_kept_at c o h op there op.walk.phase refl takes;
+    holds = removal_held_at c o h op there takes;
+    upto = upto_later c.steps (c.steps + 1) c.arena.retired (omega arith) h.late;
+  }
 
   may_give_back : op.walk.phase ≡ Unlock → MayUnlock o c.arena op
   may_give_back e = record {

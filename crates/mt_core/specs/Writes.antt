@@ -4,7 +4,7 @@ use Rattle.mt_rows.specs.{Rows.Columns, Accounts.{Accounts, HasPairs, account_of
 use Rattle.mt_rows.specs.declared.reply.Reply.TheVariants.{Absent, Full, New, NoMemory as NoMemoryReply, Removed, Replaced}
 use Rattle.mt_version.specs.Changes.{CanUnlock}
 use Rattle.mt_tape.specs.Tapes.{Kept, last_write}
-use Rattle.mt_arena.specs.{Arena.ArenaView, Accesses.at}
+use Rattle.mt_arena.specs.{Arena.ArenaView, Given.AreOutUpTo, Accesses.at}
 use Rattle.mt_operation.specs.declared.phase.Phase.{Phase}
 use Rattle.mt_operation.specs.declared.phase.Phase.TheVariants.{Lock, Judge, Store, Fill, Publish, SplitStart, SplitMove, SplitPrev, LockParent, InsertChild, InteriorSplit, Reparent, RootGrow, MakeLayer, MarkUnstable, Link, MarkLayer, DropKey, LockPrev, LockAbove, Unlink, FixNext, Collapse, CleanLayer, Unlock}
 use Rattle.mt_operation.specs.{declared.outcome.Outcome.Outcome, declared.prepared.Prepared.Prepared, declared.operation.Operation.Operation}
@@ -234,11 +234,12 @@ pub record TellsDropped (o step : ℕ) (from to : Parts) (op after : Operation) 
   pub drops : IsDropKey o step op.task from.arena to.arena from.tape to.tape from.accounts to.accounts op.walk after.walk op.removal after.removal
   pub others : after ≡ record op { walk = after.walk; prepared = None; outcome = reply_at step Removed; removal = after.removal }
 
--- it is to bring an empty node or an empty layer nearer to its end
-pub record MayTake (o : ℕ) (v : ArenaView) (op : Operation) : Type 0 where
+-- it is to bring an empty node or an empty layer nearer to its end; all that is out was taken out by this step or before
+pub record MayTake (o step : ℕ) (v : ArenaView) (op : Operation) : Type 0 where
   pub phase : IsRemovalPhase op.walk.phase
   pub kept : KeptRemoval op.walk.phase v o op.task.key op.walk op.removal
   pub holds : HoldsRemoval v o op.walk op.removal
+  pub upto : AreOutUpTo step v.retired
 
 pub record TellsTaken (o step : ℕ) (from to : Parts) (op after : Operation) : Type 0 where
   pub takes : IsRemovalFrom op.walk.phase o step op.task.key from.arena to.arena op.walk after.walk op.removal after.removal
@@ -306,12 +307,12 @@ MayWrite MarkUnstable o step from op = MayBuild o from.arena op
 MayWrite Link o step from op = MayBuild o from.arena op
 MayWrite MarkLayer o step from op = MayBuild o from.arena op
 MayWrite DropKey o step from op = MayDrop o step from op
-MayWrite LockPrev o step from op = MayTake o from.arena op
-MayWrite LockAbove o step from op = MayTake o from.arena op
-MayWrite Unlink o step from op = MayTake o from.arena op
-MayWrite FixNext o step from op = MayTake o from.arena op
-MayWrite Collapse o step from op = MayTake o from.arena op
-MayWrite CleanLayer o step from op = MayTake o from.arena op
+MayWrite LockPrev o step from op = MayTake o step from.arena op
+MayWrite LockAbove o step from op = MayTake o step from.arena op
+MayWrite Unlink o step from op = MayTake o step from.arena op
+MayWrite FixNext o step from op = MayTake o step from.arena op
+MayWrite Collapse o step from op = MayTake o step from.arena op
+MayWrite CleanLayer o step from op = MayTake o step from.arena op
 MayWrite Unlock o step from op = MayUnlock o from.arena op
 MayWrite _ o step from op = Unit {0}
 

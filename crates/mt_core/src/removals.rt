@@ -2,6 +2,7 @@
 //! it has left empty.
 
 ghost use Rattle.std.specs.Prelude.{◌≡◌, ◌≢◌, IfSome, IfNone, ℕ, None, [], true};
+ghost use Rattle.mt_arena.specs.Given.{AreOutUpTo};
 ghost use Rattle.mt_operation.specs.{Operations.{SplitsView, ScanView}, Phases.IsRemovalPhase, Tasks.ask};
 ghost use Rattle.mt_remove.specs.{KeptRemovals.{HoldsRemoval, KeptRemoval}, Steps.IsRemovalFrom, Writes.is_remove};
 ghost use Rattle.mt_state.specs.Promises.{IsInTheWay};
@@ -84,7 +85,7 @@ pub(crate) fn drop_pair(
 /// Brings an empty border node one step nearer to its end, or an empty layer.
 #[inline(never)]
 pub(crate) fn take_out(arena: &mut Arena, operation: &mut Operation, step: u64, id: usize) -> Made
-    requires { MayTake id arena.old operation.old }
+    requires { MayTake id step arena.old operation.old }
     ensures { WritesNodes id (TellsTaken id step) arena.old arena.new operation.old result operation.new }
 {
     match take_out_by(
@@ -152,6 +153,7 @@ fn take_out_by(
 ) -> Option<usize>
     requires phase { IsRemovalPhase walk.old.phase }
     requires kept { KeptRemoval walk.old.phase arena.old operation key.now walk.old removal.old }
+    requires upto { AreOutUpTo step arena.old.retired }
     ensures again { IfSome result (λ holder. (s : SplitsView) (g : ScanView) → IsInTheWay arena.old walk.old.phase walk.old s removal.old g holder) }
     ensures unchanged { IfSome result (λ holder. (arena.new ≡ arena.old) × (walk.new ≡ walk.old) × (removal.new ≡ removal.old)) }
     ensures another { HoldsRemoval arena.old operation walk.old removal.old → IfSome result (λ holder. holder ≢ operation) }

@@ -11,6 +11,9 @@ take_out_by-requires-clause-phase c = c.requires.phase
 pub take_out_by-requires-clause-kept : goal.take_out_by-requires-clause-kept
 take_out_by-requires-clause-kept c = c.requires.kept
 
+pub take_out_by-requires-clause-upto : goal.take_out_by-requires-clause-upto
+take_out_by-requires-clause-upto c = c.requires.upto
+
 pub returns-in-Some : goal.returns-in-Some
 returns-in-Some c = λ tape accounts. (
   c.in-Some.ensures.again _ _,

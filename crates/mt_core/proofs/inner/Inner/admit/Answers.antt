@@ -15,7 +15,7 @@ keep-requires-clause-latest c =
 pub invariant_of-self-2 : goal.invariant_of-self-2
 invariant_of-self-2 c =
     begun_keeps (core_of c.self.inside) _ _ c.in_ok-operation.operation.value (ap shown c.self.view_is) c.in_ok-operation.ensures.accepts c.self.invariant c.facts.ensures.arena
-    c.in_ok-id.id _ c.in_ok-id.ensures.vacant (c.in_ok-id.ensures.there ∙ ap Some c.born-operation.ensures) c.in_ok-id.ensures.others
+    c.in_ok-id.id _ c.in_ok-id.ensures.vacant (c.in_ok-id.ensures.there ∙ ap Some c.born-operation.ensures) c.in_ok-id.ensures.others c.facts.ensures.retired
 
 pub returns-clause-told : goal.returns-clause-told
 returns-clause-told c =

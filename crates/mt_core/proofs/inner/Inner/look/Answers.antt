@@ -43,7 +43,9 @@ pub invariant_of-self : goal.invariant_of-self
 invariant_of-self c =
     let s = c.in-To.ensures.steps in
     (look_comes (core_of c.self.inside) _ c.args.id c.self.view_is c.self.invariant c.requires.few s.op s.there c.facts.ensures.arena s.op.walk.phase refl s.after
-    (look_told (core_of c.self.inside) _ c.args.id c.self.view_is c.self.invariant c.requires.few s.op s.there (c.self.inside.steps + 1) Step _ _ s.after s.makes.shows s.makes.leaves s.makes.called.met.1) c.step_by-stepped.new.self s.table c.ending.result (c.ending.ensures ∙ ap ending s.phase_is)).0 c.facts.ensures.arena
+    (look_told (core_of c.self.inside) _ c.args.id c.self.view_is c.self.invariant c.requires.few s.op s.there (c.self.inside.steps + 1) Step _ _ s.after s.makes.shows s.makes.leaves s.makes.called.met.1) c.step_by-stepped.new.self s.table c.ending.result (c.ending.ensures ∙ ap ending s.phase_is)).0
+    (record { arena = c.facts.ensures.arena; retired = c.facts.ensures.retired; named = c.facts.ensures.named })
+    (record { arena = c.facts.ensures.arena; retired = c.facts.ensures.retired; named = c.facts.ensures.named })
 
 pub returns-in-To-clause-looks : goal.returns-in-To-clause-looks
 returns-in-To-clause-looks c =
