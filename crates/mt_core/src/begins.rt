@@ -107,10 +107,22 @@ fn admitted(
     Ok(operation)
 }
 
+// How many bytes a put leaves to commands that need less: it begins only if so many can be had.
+const BYTES_LEFT: usize = 49_152;
+
+// So many bytes, for a moment. Inlined they would be left out, since nothing is written to them.
+#[inline(never)]
+fn bytes_left(alloc: Global) -> Result<Vec<u8>, AllocError> {
+    Vec::with_capacity(alloc, BYTES_LEFT)
+}
+
 // Memory for what an operation writes on the tape, if it is one that changes something.
 fn spare_for(alloc: Global, request: &Request) -> Result<Spare, AllocError> {
     match request {
-        Request::Put { key, .. } => Spare::for_row(alloc, key.as_bytes().len()),
+        Request::Put { key, .. } => {
+            let _ = bytes_left(alloc)?;
+            Spare::for_row(alloc, key.as_bytes().len())
+        }
         Request::Remove { key } => Spare::for_key(alloc, key.as_bytes().len()),
         Request::Get { .. } | Request::Scan { .. } => Ok(Spare::none()),
     }
