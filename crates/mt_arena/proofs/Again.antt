@@ -4,13 +4,13 @@ use Rattle.std.proofs.Common.{◌≡◌, ◌≢◌, ℕ, ◌<◌, List, [], ◌�
 use Rattle.std.proofs.{lemmas.Bool.cases_eq, lemmas.List.length-set, lemmas.Option.same_Some}
 use Rattle.std.specs.Prelude.{◌&&◌, ◌==◌}
 use Rattle.mt_version.proofs.Aging.{ages-renewed}
-use Rattle.mt_arena.specs.{declared.retired.Retired.Retired, declared.tree.Tree.Tree, declared.tree.Standing.TheVariants.{Made, Dead}}
+use Rattle.mt_arena.specs.{declared.retired.Retired.Retired, declared.tree.Tree.Tree, declared.tree.Standing.TheVariants.Made}
 use Rattle.mt_arena.specs.{Guarantee.{NodesGuarantee, Changes, PointsOnly, LosesHeld, LoseHeld}, NodeView.{NodeView, node_at}}
 use Rattle.mt_arena.specs.{Nodes.{AreNodes, IsNode, IsPair, HasRange}, Ranges.{IsRanged, AreRanged, AreTied, IsLeftHalf}, Forests.{IsForest, HasSlice, tree_at}}
-use Rattle.mt_arena.specs.{Layers.{AreLayered, HasLink, slot_at}, Contents.{content, live_pairs}, Idle.{RetiredPlaces, Rooms, is_idle_border}, Given.{IsGiven, GivesOut}}
+use Rattle.mt_arena.specs.{Layers.AreLayered, Contents.{content, live_pairs}, Idle.{RetiredPlaces, Rooms, is_idle_border}, Given.{IsGiven, GivesOut}}
 use Rattle.mt_arena.specs.{Arena.{IsArena, ArenaView, Guarantee}, Invariant.ArenaInvariant, Accesses.at, Edits.{splitting, again_half, blank_again}}
-use Rattle.mt_arena.proofs.{Pairs.{here, there, are_set, nodes_set, pairs_set}, Groups.held_lock, Push.{no_slots, no_children}, LinkEdits.no_links}
-use Rattle.mt_arena.proofs.{Begins.begins_again, Homes.tree_more, Counted.{pairs-nil, pairs-gone}, ContentQuiet.content-set}
+use Rattle.mt_arena.proofs.{Pairs.{here, there, are_set, nodes_set, pairs_set}, Groups.held_lock, Push.{no_slots, no_children}, Vacant.{IsVacant, forest_vacant, layers_vacant}}
+use Rattle.mt_arena.proofs.{Counted.{pairs-nil, pairs-gone}, ContentQuiet.content-set}
 use Rattle.mt_arena.proofs.{Guarantees.{guarantee_on, guarantee_set, points_set, lost_none, lost_same}, Naming.{points_on, each_set2}}
 use Rattle.mt_arena.proofs.{Locks.{is_held, sound_splitting, changes_splitting}, Retiring.border_given, NamedLate.{border_out, named_border_given}}
 
@@ -114,55 +114,9 @@ module _ (xs : List NodeView) (i k low op : ℕ) (li : i < length xs) (lk : k < 
         });
   }
 
-  -- trees name no node that was taken out, but for dead ones
-  pub forest_again : (trees : List Tree) → IsForest xs trees → HasSlice (tree_at trees x.tree).prefix low → IsForest (set xs k y) trees
-  forest_again trees forest begins =
-      let size = length-set xs k y in
-      let there_is = forest.tree_there i li in
-      let stands = (forest.homes i x.tree li there_is).standing refl live in
-      record {
-        tree_there = λ j lj. elim (cases_eq j k) [
-          | inl is ↦ rw (is, here xs k y lk) there_is
-          | inr other ↦ rw (there xs k j y other) (forest.tree_there j (omega (arith, lj, size)))
-        ];
-        homes = λ j t lj lt. elim (cases_eq j k) [
-          | inl is ↦ rw (is, here xs k y lk) record {
-            root_tree = λ e standing. absurd (let alive = ((forest.homes k t lk lt).root_is e standing).live in cc);
-            root_is = λ e standing. absurd (let alive = ((forest.homes k t lk lt).root_is e standing).live in cc);
-            root_named = λ e alive flag. absurd (cc);
-            standing = λ e alive. subst (λ u. (tree_at trees u).standing ≢ Dead) e stands;
-            keys = λ e. record { keys = λ a d inside. absurd (omega arith); begun = λ a d inside. absurd (omega arith) };
-          }
-          | inr other ↦ rw (there xs k j y other) (forest.homes j t (omega (arith, lj, size)) lt)
-        ];
-        begins = begins_again xs trees k y lk (λ _ border over. begins) forest.begins;
-        each = λ t lt. tree_more (length xs) (length (set xs k y)) (tree_at trees t) (omega (arith, size)) (forest.each t lt);
-        peers = forest.peers;
-        top = forest.top;
-      }
-
-  -- a link stands in a live node
-  has_link : (u : ℕ) → HasLink xs u → HasLink (set xs k y) u
-  has_link u h =
-      let other : h.node ≢ k = λ is. absurd (let dead = ap (λ n. (node_at xs n).version.deleted) is ∙ gone in let alive = h.live in cc) in
-      let same = there xs k h.node y other in
-      record {
-        node = h.node;
-        slot = h.slot;
-        there = omega (arith, length-set xs k y, h.there);
-        live = ap (λ (n : NodeView). n.version.deleted) same ∙ h.live;
-        in_range = subst (λ (n : NodeView). h.slot < length n.slots) (sym same) h.in_range;
-        is = ap (λ (n : NodeView). (slot_at n h.slot).held) same ∙ h.is;
-      }
-
-  pub layers_again : (trees : List Tree) → AreLayered xs trees → AreLayered (set xs k y) trees
-  layers_again trees layers = record {
-    links = λ j lj. elim (cases_eq j k) [
-      | inl is ↦ rw (is, here xs k y lk) (no_links trees y refl)
-      | inr other ↦ rw (there xs k j y other) (layers.links j (omega (arith, lj, length-set xs k y)))
-    ];
-    linked = λ u lu alive deep. has_link u (layers.linked u lu alive deep);
-  }
+  -- the place is vacant
+  vacant : IsVacant xs k
+  vacant = record { there = lk; out = gone; free = free }
 
   -- the whole
   pub arena_again : (trees : List Tree) → AreRanged xs → IsForest xs trees → AreLayered xs trees → HasRange x
@@ -170,8 +124,8 @@ module _ (xs : List NodeView) (i k low op : ℕ) (li : i < length xs) (lk : k < 
   arena_again trees ranged forest layers range begins = record {
     nodes = nodes_again;
     ranged = ranged_again ranged range;
-    forest = forest_again trees forest begins;
-    layers = layers_again trees layers;
+    forest = forest_vacant xs trees k y vacant refl forest (forest.tree_there i li) ((forest.homes i x.tree li (forest.tree_there i li)).standing refl live) refl (λ _ border over. begins);
+    layers = layers_vacant xs trees k y vacant refl layers;
   }
 
   -- and the contents stand
@@ -298,11 +252,11 @@ gives_again v i k low lists within out free =
     }
 
 -- a node of level 0 is a border node
-is_border : (border : Bool) (level : ℕ) → (border ≡ false → 0 < level) → level ≡ 0 → border ≡ true
+pub is_border : (border : Bool) (level : ℕ) → (border ≡ false → 0 < level) → level ≡ 0 → border ≡ true
 is_border true level interior none = refl
 is_border false level interior none = absurd (omega (arith, interior refl, none))
 
-second_true : (a b : Bool) → (a && b) ≡ true → b ≡ true
+pub second_true : (a b : Bool) → (a && b) ≡ true → b ≡ true
 second_true true b both = both
 second_true false b both = absurd (cc)
 

@@ -62,6 +62,11 @@ pub begins_none : (trees : List Tree) → AllBegin [] trees
 unfolding AllBegin
 begins_none trees = λ k lt. absurd (omega (arith, lt))
 
+-- it is said of each node
+pub begins_each : (xs : List NodeView) (trees : List Tree) → ((k : ℕ) → k < length xs → BeginsAtKey (tree_at trees (node_at xs k).tree).prefix (node_at xs k)) → AllBegin xs trees
+unfolding AllBegin
+begins_each xs trees each = each
+
 -- what it says of one node
 pub begins_at : (xs : List NodeView) (trees : List Tree) (k : ℕ) → k < length xs → AllBegin xs trees
     → BeginsAtKey (tree_at trees (node_at xs k).tree).prefix (node_at xs k)

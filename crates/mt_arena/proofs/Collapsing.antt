@@ -15,7 +15,7 @@ use Rattle.mt_arena.proofs.{Pairs.{here, there}, Begins.{KeepsSeat, begins_set, 
 use Rattle.mt_arena.proofs.{LinkEdits.{KeepsLinks, same_links, layers_set, layers_empty}, Retiring.{retired_set, interior_retired, retired_tree_set}}
 use Rattle.mt_arena.proofs.NamedLate.{KeepsNames, names_stand, roots_set, named_kept, named_live, named_interior}
 use Rattle.mt_arena.proofs.{TakenOut.{changes_retired, same_of_trees}, HeldChanges.changes_held, Guarantees.{PointsSo, guarantee_on, lost_none}}
-use Rattle.mt_arena.proofs.{Naming.{names_same, points_each, each_set2}, Several.{MayTurn, guarantee_set2}, Topping.{layers_trees, guarantee_record}}
+use Rattle.mt_arena.proofs.{Naming.{names_same, points_each, each_set2}, Several.{MayTurn, guarantee_set2}, TopNodes.{layers_trees, guarantee_record}}
 use Rattle.mt_arena.proofs.Settling.{NamesNoMore, names_none_more, follows_was, under_was, settled_same}
 use Rattle.mt_arena.proofs.ContentQuiet.{stands_unchanged, stands_without_slots, stands_tree_set}
 
@@ -257,6 +257,13 @@ module _ (v : ArenaView) (room : Rooms) (root child step op : ℕ) (sound : Aren
           tree_there = λ k lk. omega (arith, tree_of_node k (omega (arith, lk, size)), trees_size);
           homes = λ k u lk lu. home_at k (omega (arith, lk, size)) u (omega (arith, lu, trees_size));
           begins = begins_trees new v.trees ts (λ k lk. same_prefix (node_at new k).tree) begins_new;
+          emptied = λ k lk. elim (cases_eq k root) [
+            | inl k_root ↦ rw (k_root, new_root) (λ out. slotless)
+            | inr nr ↦ elim (cases_eq k child) [
+              | inl k_child ↦ rw (k_child, new_child) (forest.emptied child lc)
+              | inr nc ↦ rw (new_other k nr nc) (forest.emptied k (omega (arith, lk, size)))
+            ]
+          ];
           each = λ u lu. each_tree u (omega (arith, lu, trees_size));
           peers = λ b d lb ld. record {
             one_live = λ differ live also e. (forest.peers b d (omega (arith, lb, trees_size)) (omega (arith, ld, trees_size))).one_live differ
@@ -329,7 +336,7 @@ module _ (v : ArenaView) (room : Rooms) (root child step op : ℕ) (sound : Aren
 
   pub step_collapsed : Guarantee op v (without_root v root child step)
   step_collapsed = record {
-    nodes = guarantee_on op xs new new v.trees v.trees ts (guarantee_set2 op xs v.trees root child w y lr lc apart sound.arena.forest turns_root turns_child)
+    nodes = guarantee_on op xs new new v.trees v.trees ts (guarantee_set2 op xs v.trees root child w y lr lc apart sound.arena.forest.tree_there turns_root turns_child)
         (guarantee_record op new v.trees t rooted lt_t record_changes) sound.arena.forest.tree_there;
     points = points_each op xs new size (each_set2 (λ k n. PointsSo op new (at v k) n) xs root child w y lr lc apart
         (names_same op new p w refl refl) names_none (λ k lt nr nc. names_same op new (at v k) (at v k) refl refl));

@@ -37,12 +37,21 @@ pub stands_without_slots : (trees : List Tree) (nodes : List NodeView) (i : ℕ)
     → content trees (set nodes i y) ≡ content trees nodes
 stands_without_slots trees nodes i y were are = content-set trees nodes i y (pairs-nil trees y are ∙ sym (pairs-nil trees (node_at nodes i) were))
 
+-- one more node of which no pair counts
+pub content-pushed : (trees : List Tree) (nodes : List NodeView) (y : NodeView) → live_pairs trees y ≡ [] → content trees (nodes ++ y ∷ []) ≡ content trees nodes
+content-pushed trees nodes y none =
+    content-is trees (nodes ++ y ∷ [])
+    ∙ ap map_of (flat_map-append (live_pairs trees) nodes (y ∷ []) ∙ ap (λ ps. flat_map (live_pairs trees) nodes ++ (ps ++ [])) none ∙ append-nil (flat_map (live_pairs trees) nodes))
+    ∙ sym (content-is trees nodes)
+
 -- one more node without slots
 pub stands_pushed : (trees : List Tree) (nodes : List NodeView) (y : NodeView) → y.slots ≡ [] → content trees (nodes ++ y ∷ []) ≡ content trees nodes
-stands_pushed trees nodes y none =
-    content-is trees (nodes ++ y ∷ [])
-    ∙ ap map_of (flat_map-append (live_pairs trees) nodes (y ∷ []) ∙ ap (λ ps. flat_map (live_pairs trees) nodes ++ (ps ++ [])) (pairs-nil trees y none) ∙ append-nil (flat_map (live_pairs trees) nodes))
-    ∙ sym (content-is trees nodes)
+stands_pushed trees nodes y none = content-pushed trees nodes y (pairs-nil trees y none)
+
+-- other trees, of which each node has the same pairs
+pub content-agree : (are were : List Tree) (nodes : List NodeView) → ((k : ℕ) → k < length nodes → live_pairs are (node_at nodes k) ≡ live_pairs were (node_at nodes k))
+    → content are nodes ≡ content were nodes
+content-agree are were nodes same = content-is are nodes ∙ ap map_of (flat_agree no_node (live_pairs are) (live_pairs were) nodes same) ∙ sym (content-is were nodes)
 
 -- trees of which those that nodes name have the same prefix and standing
 pub stands_of_trees : (were are : List Tree) (nodes : List NodeView)

@@ -74,6 +74,10 @@ pub pairs-other : (trees : List Tree) (t : ℕ) (tree : Tree) (n : NodeView) →
 pairs-other trees t tree n differ =
     ap (λ (u : Tree). counted n.version.deleted u.standing (filter_map (pair_in u.prefix) n.slots)) (get_or-set_other trees t n.tree tree no_tree differ)
 
+-- nor does what becomes of all trees but its own
+pub pairs-of_tree : (are were : List Tree) (n : NodeView) → tree_at are n.tree ≡ tree_at were n.tree → live_pairs are n ≡ live_pairs were n
+pairs-of_tree are were n same = ap (λ (u : Tree). counted n.version.deleted u.standing (filter_map (pair_in u.prefix) n.slots)) same
+
 -- the entry of one place taken out of a list, behind and before entries of other keys
 remove_again : (c : Contents) (q : ℕ × Bytes) (row : Columns) → get c q ≡ None → c ≡ remove (insert c q row) q
 remove_again c q row none = same_contents _ _ (λ r. sym (

@@ -1,5 +1,5 @@
 -- Trees and their nodes where a tree becomes dead as its root, its only live node, is taken out: for `DroppingLayer`.
-use Rattle.std.proofs.{Common.{◌≡◌, ◌≢◌, ℕ, ◌<◌, List, length, set, false, refl, sym, ap, subst, ◌∙◌, inl, inr, arith}, lemmas.Bool.cases_eq}
+use Rattle.std.proofs.{Common.{◌≡◌, ◌≢◌, ℕ, ◌<◌, List, [], length, set, false, refl, sym, ap, subst, ◌∙◌, inl, inr, arith}, lemmas.Bool.cases_eq}
 use Rattle.std.proofs.lemmas.List.{length-set, get_or-set_same, get_or-set_other}
 use Rattle.mt_arena.specs.{declared.tree.Tree.Tree, declared.tree.Standing.TheVariants.{Live, Dead}, NodeView.{NodeView, node_at}}
 use Rattle.mt_arena.specs.{Forests.{IsForest, IsHome, IsTree, tree_at, no_tree}, Edits.retired}
@@ -18,7 +18,7 @@ stood trees u t within live = elim (cases_eq t u) [
 ]
 
 module _ (xs : List NodeView) (trees : List Tree) (u r : ℕ) (forest : IsForest xs trees) (lu : u < length trees) (live : (tree_at trees u).standing ≡ Live) (below_top : u ≢ 0)
-    (root_is : (tree_at trees u).root ≡ r) (alone : (k : ℕ) → k < length xs → (node_at xs k).tree ≡ u → (node_at xs k).version.deleted ≡ false → k ≡ r) where
+    (root_is : (tree_at trees u).root ≡ r) (alone : (k : ℕ) → k < length xs → (node_at xs k).tree ≡ u → (node_at xs k).version.deleted ≡ false → k ≡ r) (empty : (node_at xs r).slots ≡ []) where
   abbrev tree : Tree
   tree = tree_at trees u
 
@@ -122,6 +122,10 @@ module _ (xs : List NodeView) (trees : List Tree) (u r : ℕ) (forest : IsForest
     homes = λ k t lk lt. home_at k (omega (arith, lk, size)) t (omega (arith, lt, trees_size));
     begins = begins_trees new trees ts (λ k lk. same_prefix (node_at new k).tree)
         (begins_set xs trees r (retired x) lr (record { tree = refl; level = refl; low = refl; live = λ live. absurd (cc) }) forest.begins);
+    emptied = λ k lk. elim (cases_eq k r) [
+      | inl k_r ↦ rw (k_r, new_r) (λ out. empty)
+      | inr other ↦ rw (new_k k other) (forest.emptied k (omega (arith, lk, size)))
+    ];
     each = λ t lt. each_tree t (omega (arith, lt, trees_size));
     peers = λ a b la lb. record {
       one_live = λ differ one two e. (forest.peers a b (omega (arith, la, trees_size)) (omega (arith, lb, trees_size))).one_live differ

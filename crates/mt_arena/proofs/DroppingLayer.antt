@@ -16,10 +16,10 @@ use Rattle.mt_arena.proofs.{Pairs.{here, there}, Locks.is_held, Quiet.nodes_slot
 use Rattle.mt_arena.proofs.{Ranged.{no_wait, ranged_marked, ranged_retired}, Retire.nodes_retired, Collapse.{is_true, root_left}}
 use Rattle.mt_arena.proofs.{Steps.keys_of, SlotPlaces.{was_at, at_still}, OneLink.{IsLinkTo, leads, differs, below_top, one_link}}
 use Rattle.mt_arena.proofs.{DeadTree.{dead, stood, forest_dead}, TakenOut.{changes_retired, same_of_trees}}
-use Rattle.mt_arena.proofs.{Homes.forest_set, Grow.not_none, Retiring.{retired_set, border_retired, tree_retired}, Out.node_out_border}
+use Rattle.mt_arena.proofs.{Homes.{forest_set, live_keys}, Grow.not_none, Retiring.{retired_set, border_retired, tree_retired}, Out.node_out_border}
 use Rattle.mt_arena.proofs.NamedLate.{KeepsNames, names_stand, roots_set, live_out, named_kept, named_live, named_border, named_tree}
 use Rattle.mt_arena.proofs.{Guarantees.{PointsSo, guarantee_on, lost_none}, Naming.{names_same, points_each, each_set2}, Several.{MayTurn, guarantee_set2}}
-use Rattle.mt_arena.proofs.{Topping.guarantee_record, Settling.{NamesNoMore, names_none_more, follows_was, under_was, settled_same}}
+use Rattle.mt_arena.proofs.{TopNodes.guarantee_record, Settling.{NamesNoMore, names_none_more, follows_was, under_was, settled_same}}
 use Rattle.mt_arena.proofs.ContentQuiet.{stands_unlinked, stands_without_slots, stands_tree_left}
 
 -- two links that are one lead to one tree
@@ -182,11 +182,11 @@ module _ (v : ArenaView) (room : Rooms) (node i u step op : ℕ) (sound : ArenaI
   -- trees
   forest_ys : IsForest ys v.trees
   forest_ys =
-      forest_set xs v.trees node y ln forest (record { tree = refl; level = refl; low = refl; deleted = refl; flag = refl; root = λ h. record { live = h.live; flag = h.flag; parentless = h.parentless; low = h.low; reach = h.reach } }) keys
+      forest_set xs v.trees node y ln forest (record { tree = refl; level = refl; low = refl; deleted = refl; flag = refl; root = λ h. record { live = h.live; flag = h.flag; parentless = h.parentless; low = h.low; reach = h.reach } }) (live_keys v.trees y may.live keys)
 
   forest_out : IsForest new ts
   forest_out = subst (λ (m : NodeView). IsForest (set ys r (retired m)) ts) at_root
-      (forest_dead ys v.trees u r forest_ys lu live_tree (below_top xs v.trees sound.arena node i u this) refl alone_ys)
+      (forest_dead ys v.trees u r forest_ys lu live_tree (below_top xs v.trees sound.arena node i u this) refl alone_ys (ap (λ (m : NodeView). m.slots) at_root ∙ may.empty))
 
   -- links
   same_prefix : (t : ℕ) → (tree_at ts t).prefix ≡ (tree_at v.trees t).prefix
@@ -341,7 +341,7 @@ module _ (v : ArenaView) (room : Rooms) (node i u step op : ℕ) (sound : ArenaI
 
   pub step_dropped_layer : KeepsEntries n.slots n.cells es y.cells → LosesHeld n y → Guarantee op v (without_layer v node i u step)
   step_dropped_layer keeps lost = record {
-    nodes = guarantee_on op xs new new v.trees v.trees ts (guarantee_set2 op xs v.trees node r y w ln lr apart forest (turns_node keeps) turns_root)
+    nodes = guarantee_on op xs new new v.trees v.trees ts (guarantee_set2 op xs v.trees node r y w ln lr apart forest.tree_there (turns_node keeps) turns_root)
         (guarantee_record op new v.trees u (dead tree) lu record_changes) forest.tree_there;
     points = points_each op xs new size (each_set2 (λ k m. PointsSo op new (at v k) m) xs node r y w ln lr apart
         (names_same op new n y refl refl) (names_same op new x w refl refl) (λ k lk nn nr. names_same op new (at v k) (at v k) refl refl));

@@ -5,7 +5,7 @@ use Rattle.mt_version.proofs.Aging.{ages-marked_inserting}
 use Rattle.mt_border.specs.{Held.Held, Slots.{next_free, is_dropped}, Keeps.KeepsEntries}
 use Rattle.mt_arena.specs.{declared.tree.Tree.Tree, Idle.{RetiredPlaces, Rooms}, NodeView.{NodeView, node_at}, Nodes.AreNodes, Contents.content}
 use Rattle.mt_arena.specs.{Guarantee.Changes, Edits.{with_filled, cells_filled}, Invariant.ArenaInvariant, Arena.{ArenaView, Guarantee}, Accesses.{at, IsOpen, with_node}}
-use Rattle.mt_arena.proofs.{Quiet.{nodes_quiet, held_node}, Ranged.ranged_marked, Steps.{sound_set, keys_of, step_set}, LinkEdits.same_links, Locks.not_others}
+use Rattle.mt_arena.proofs.{Quiet.{nodes_quiet, held_node}, Ranged.ranged_marked, Steps.{sound_set, own_keys, step_set}, LinkEdits.same_links, Locks.not_others}
 use Rattle.mt_arena.proofs.ContentQuiet.{stands_unchanged}
 use Rattle.mt_version.proofs.CallerLemmas as versions
 
@@ -33,7 +33,7 @@ sound_filled xs trees gone room i held within sound has =
     sound_set xs trees gone room i (with_filled x held) within sound (nodes_filled xs i held within sound.arena.nodes has)
     (ranged_marked xs i x.slots (cells_filled x.cells held) (version_filled x) within sound.arena.ranged refl (λ marked. marked) (λ whole. whole))
     record { tree = refl; level = refl; low = refl; deleted = refl; flag = refl; root = λ r. record { live = r.live; flag = r.flag; parentless = r.parentless; low = r.low; reach = r.reach } }
-    (keys_of xs trees i within sound.arena.forest)
+    (own_keys xs trees i within sound.arena.forest)
     record { tree = refl; deleted = refl; forth = same_links x.slots; back = same_links x.slots }
     record { next = refl; children = refl }
 

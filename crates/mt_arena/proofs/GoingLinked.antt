@@ -10,8 +10,8 @@ use Rattle.mt_arena.specs.{declared.tree.Tree.Tree, declared.tree.Standing.TheVa
 use Rattle.mt_arena.specs.{Forests.{IsForest, tree_at, layer_of}, Layers.{AreLayered, AreLinks, HasLink, LeadsTo, slot_at}, Contents.content}
 use Rattle.mt_arena.specs.{Invariant.ArenaInvariant, Arena.{ArenaView, Guarantee}, Accesses.{at, tree_of}, Layering.{MayGoLive, with_held, with_link}}
 use Rattle.mt_arena.proofs.{Pairs.{here, there}, Locks.is_held, Quiet.nodes_slots, Ranged.ranged_marked}
-use Rattle.mt_arena.proofs.{Homes.{forest_set, begun}, Retiring.{retired_set, retired_tree_set}, NamedLate.{named_set, named_tree_set}}
-use Rattle.mt_arena.proofs.{Slots.{within_all, changes_slots, lost_held}, Guarantees.{guarantee_on, guarantee_set, points_set, lost_set}, Topping.guarantee_record}
+use Rattle.mt_arena.proofs.{Homes.{forest_set, begun, live_keys}, Retiring.{retired_set, retired_tree_set}, NamedLate.{named_set, named_tree_set}}
+use Rattle.mt_arena.proofs.{Slots.{within_all, changes_slots, lost_held}, Guarantees.{guarantee_on, guarantee_set, points_set, lost_set}, TopNodes.guarantee_record}
 use Rattle.mt_arena.proofs.{HeldOtherwise.{MayHoldThis, slots_are, border_after, inside_after, keys_after}, NoLayer.link_would_be_here}
 use Rattle.mt_arena.proofs.{LiveTree.{alive, trees_size, tree_t, same_prefix, live_stays, was_live, forest_live, goes_live}, GoingLive.layered}
 
@@ -183,7 +183,7 @@ module _ (v : ArenaView) (room : Rooms) (node i t op : ℕ) (key : Bytes) (pair 
   forest_new : IsForest new v.trees
   forest_new =
       forest_set xs v.trees node y ln forest (record { tree = refl; level = refl; low = refl; deleted = refl; flag = refl; root = λ h. record { live = h.live; flag = h.flag; parentless = h.parentless; low = h.low; reach = h.reach } })
-      (keys_after v room node i op sound (Unstable pair (Some t)) may.slot (Link t) holds)
+      (live_keys v.trees y may.slot.live (keys_after v room node i op sound (Unstable pair (Some t)) may.slot (Link t) holds))
 
   pub sound_live : ArenaInvariant new ts v.retired room
   sound_live = record {

@@ -10,7 +10,7 @@ use Rattle.mt_border.proofs.{ContentsLists.{get-apart, get-other, insert-this}, 
 use Rattle.mt_arena.specs.{declared.tree.Tree.Tree, declared.tree.Standing.TheVariants.{Made, Live}, NodeView.{NodeView, node_at, no_node}}
 use Rattle.mt_arena.specs.{Forests.{tree_at, no_tree}, Layers.slot_at, Contents.{live_pairs, content}, Arena.IsArena}
 use Rattle.mt_arena.specs.Ways.{AreBegun, StandsFor, HasSlots, IsMadeFor}
-use Rattle.mt_arena.proofs.{Joins.{Pairs, map_of, tied_owner, same_owner, only_at, agree_by}, Counted.{content-is, pairs-live, pairs-made, pairs-other}}
+use Rattle.mt_arena.proofs.{Joins.{Pairs, map_of, tied_owner, same_owner, only_at, agree_by}, Counted.{content-is, pairs-live, pairs-made, pairs-other, pairs-gone}}
 use Rattle.mt_arena.proofs.Owners.{keys_of, others, found}
 
 -- an entry without a pair of that owner stands for no other key's either
@@ -106,7 +106,11 @@ module _ (nodes : List NodeView) (trees : List Tree) (arena : IsArena nodes tree
 
   -- any other node is of another tree
   others_same : (l : ℕ) → l < length nodes → l ≢ r → live_pairs are (node_at nodes l) ≡ live_pairs trees (node_at nodes l)
-  others_same l lt differ = pairs-other trees t tree (node_at nodes l) (λ same. differ (made.alone l lt same))
+  others_same l lt differ = by (node_at nodes l).version.deleted refl
+    where
+      by : (d : _) → (node_at nodes l).version.deleted ≡ d → live_pairs are (node_at nodes l) ≡ live_pairs trees (node_at nodes l)
+      by true out = pairs-gone are (node_at nodes l) out ∙ sym (pairs-gone trees (node_at nodes l) out)
+      by false live = pairs-other trees t tree (node_at nodes l) (λ same. differ (made.alone l lt same live))
 
   -- the key's pair is in the made tree's node alone
   key_none : (l : ℕ) → l < length new → l ≢ r → get (map_of (live_pairs are (node_at new l))) (owned key) ≡ None

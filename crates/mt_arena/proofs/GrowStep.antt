@@ -1,16 +1,19 @@
 -- The facts of trees are kept as a new root comes over the halves of the old one: for `Topping`.
-use Rattle.std.proofs.Common.{◌≡◌, ◌≢◌, ℕ, ◌+◌, ◌<◌, ◌++◌, List, [], ◌∷◌, length, set, true, false, refl, sym, ap, subst, ◌∙◌, inl, inr, arith, length-append}
+use Rattle.std.proofs.Common.{◌≡◌, ◌≢◌, ℕ, ◌<◌, List, [], length, set, true, false, refl, sym, ap, subst, ◌∙◌, inl, inr, arith}
 use Rattle.std.proofs.{lemmas.Bool.cases_eq, lemmas.List.{length-set, get_or-set_same, get_or-set_other}}
 use Rattle.mt_rows.specs.Rows.{Bytes}
 use Rattle.mt_arena.specs.{declared.tree.Tree.Tree, declared.tree.Standing.TheVariants.Dead, NodeView.{NodeView, node_at}}
-use Rattle.mt_arena.specs.{Forests.{IsForest, IsHome, IsTree, HaveKeys, AllBegin, tree_at, no_tree}, Growth.{AreRootHalves, fresh_top, left_below, right_below}}
-use Rattle.mt_arena.proofs.{Pairs.{here, there, last, before}, Begins.{KeepsSeat, begins_set, begins_push, begins_trees}}
+use Rattle.mt_arena.specs.{Forests.{IsForest, IsHome, IsTree, HaveKeys, AllBegin, tree_at, no_tree}, Growth.{AreRootHalves, left_below, right_below}}
+use Rattle.mt_version.specs.Parts.{Parts}
+use Rattle.mt_arena.proofs.{Pairs.{here, there}, Grow.{IsOfTop, top_with}, Begins.{KeepsSeat, begins_set, begins_again, begins_trees}}
 
 no_keys_at_all : (prefix : Bytes) → HaveKeys prefix []
 no_keys_at_all prefix = record { keys = λ k d inside. absurd (omega arith); begun = λ k d inside. absurd (omega arith) }
 
-module _ (xs : List NodeView) (trees : List Tree) (i j op : ℕ) (f : AreRootHalves xs i j) (forest : IsForest xs trees)
-    (is_root : (node_at xs i).version.root ≡ true) (no_root : (node_at xs j).version.root ≡ false) where
+-- the new root comes to a number h, where another node stands now, which is no root
+module _ (xs : List NodeView) (trees : List Tree) (i j h op : ℕ) (version : Parts) (of_top : IsOfTop version) (f : AreRootHalves xs i j)
+    (forest : IsForest xs trees) (is_root : (node_at xs i).version.root ≡ true) (no_root : (node_at xs j).version.root ≡ false)
+    (lh : h < length xs) (ih : i ≢ h) (jh : j ≢ h) (rootless : (node_at xs h).version.root ≡ false) where
   abbrev l : NodeView
   l = node_at xs i
 
@@ -24,25 +27,25 @@ module _ (xs : List NodeView) (trees : List Tree) (i j op : ℕ) (f : AreRootHal
   tree = tree_at trees t
 
   abbrev grown : Tree
-  grown = record tree { root = length xs }
+  grown = record tree { root = h }
 
   abbrev ts : List Tree
   ts = set trees t grown
 
   abbrev y : NodeView
-  y = left_below l (length xs)
+  y = left_below l h
 
   abbrev z : NodeView
-  z = right_below r (length xs)
+  z = right_below r h
 
   abbrev g : NodeView
-  g = fresh_top l i r.low j op
+  g = top_with version xs i j op
 
   abbrev ws : List NodeView
   ws = set (set xs i y) j z
 
   abbrev vs : List NodeView
-  vs = ws ++ g ∷ []
+  vs = set ws h g
 
   li : i < length xs
   li = f.left_there
@@ -53,20 +56,20 @@ module _ (xs : List NodeView) (trees : List Tree) (i j op : ℕ) (f : AreRootHal
   size : length ws ≡ length xs
   size = length-set (set xs i y) j z ∙ length-set xs i y
 
-  more : length vs ≡ length xs + 1
-  more = omega (arith, length-append ws (g ∷ []), size)
+  more : length vs ≡ length xs
+  more = length-set ws h g ∙ size
 
   at_i : node_at vs i ≡ y
-  at_i = before ws g i (omega (arith, li, size)) ∙ there (set xs i y) j i z f.differ ∙ here xs i y li
+  at_i = there ws h i g ih ∙ there (set xs i y) j i z f.differ ∙ here xs i y li
 
   at_j : node_at vs j ≡ z
-  at_j = before ws g j (omega (arith, lj, size)) ∙ here (set xs i y) j z (omega (arith, lj, length-set xs i y))
+  at_j = there ws h j g jh ∙ here (set xs i y) j z (omega (arith, lj, length-set xs i y))
 
-  at : (k : ℕ) → k < length xs → k ≢ i → k ≢ j → node_at vs k ≡ node_at xs k
-  at k lt ni nj = before ws g k (omega (arith, lt, size)) ∙ there (set xs i y) j k z nj ∙ there xs i k y ni
+  at : (k : ℕ) → k ≢ i → k ≢ j → k ≢ h → node_at vs k ≡ node_at xs k
+  at k ni nj nh = there ws h k g nh ∙ there (set xs i y) j k z nj ∙ there xs i k y ni
 
-  at_top : node_at vs (length xs) ≡ g
-  at_top = ap (node_at vs) (sym size) ∙ last ws g
+  at_top : node_at vs h ≡ g
+  at_top = here ws h g (omega (arith, lh, size))
 
   lt_t : t < length trees
   lt_t = forest.tree_there i li
@@ -90,23 +93,23 @@ module _ (xs : List NodeView) (trees : List Tree) (i j op : ℕ) (f : AreRootHal
   trees_size = length-set trees t grown
 
   -- every tree keeps its prefix and its standing
-  pub same_prefix : (u : ℕ) → (tree_at ts u).prefix ≡ (tree_at trees u).prefix
+  same_prefix : (u : ℕ) → (tree_at ts u).prefix ≡ (tree_at trees u).prefix
   same_prefix u = elim (cases_eq u t) [
     | inl is ↦ ap (λ u. (tree_at ts u).prefix) is ∙ ap (λ (w : Tree). w.prefix) tree_t ∙ ap (λ u. (tree_at trees u).prefix) (sym is)
     | inr other ↦ ap (λ (w : Tree). w.prefix) (tree_u u other)
   ]
 
-  pub same_standing : (u : ℕ) → (tree_at ts u).standing ≡ (tree_at trees u).standing
+  same_standing : (u : ℕ) → (tree_at ts u).standing ≡ (tree_at trees u).standing
   same_standing u = elim (cases_eq u t) [
     | inl is ↦ ap (λ u. (tree_at ts u).standing) is ∙ ap (λ (w : Tree). w.standing) tree_t ∙ ap (λ u. (tree_at trees u).standing) (sym is)
     | inr other ↦ ap (λ (w : Tree). w.standing) (tree_u u other)
   ]
 
   -- each node and the tree that grew
-  top_home : IsHome (length xs) g t grown
+  top_home : IsHome h g t grown
   top_home = record {
     root_tree = λ e standing. refl;
-    root_is = λ e standing. record { live = refl; flag = refl; parentless = refl; low = refl; reach = refl };
+    root_is = λ e standing. record { live = of_top.deleted; flag = of_top.root; parentless = refl; low = refl; reach = refl };
     root_named = λ e live flag. refl;
     standing = λ e live. stands;
     keys = λ e. no_keys_at_all grown.prefix;
@@ -115,7 +118,7 @@ module _ (xs : List NodeView) (trees : List Tree) (i j op : ℕ) (f : AreRootHal
   left_home : IsHome i y t grown
   left_home = record {
     root_tree = λ e standing. refl;
-    root_is = λ e standing. absurd (omega (arith, e, li));
+    root_is = λ e standing. absurd (ih (sym e));
     root_named = λ e live flag. absurd (cc);
     standing = λ e live. stands;
     keys = λ e. home.keys refl;
@@ -123,31 +126,34 @@ module _ (xs : List NodeView) (trees : List Tree) (i j op : ℕ) (f : AreRootHal
 
   right_home : IsHome j z t grown
   right_home =
-      let h = forest.homes j t lj lt_t in
+      let was = forest.homes j t lj lt_t in
       record {
         root_tree = λ e standing. f.right_tree;
-        root_is = λ e standing. absurd (omega (arith, e, lj));
+        root_is = λ e standing. absurd (jh (sym e));
         root_named = λ e live flag. absurd (let both = sym flag ∙ no_root in cc);
         standing = λ e live. stands;
-        keys = λ e. h.keys e;
+        keys = λ e. was.keys e;
       }
 
-  kept_home : (k : ℕ) → k < length xs → k ≢ i → IsHome k (node_at xs k) t grown
-  kept_home k lt ni =
-      let h = forest.homes k t lt lt_t in
+  kept_home : (k : ℕ) → k < length xs → k ≢ i → k ≢ h → IsHome k (node_at xs k) t grown
+  kept_home k lt ni nh =
+      let was = forest.homes k t lt lt_t in
       record {
-        root_tree = λ e standing. absurd (omega (arith, e, lt));
-        root_is = λ e standing. absurd (omega (arith, e, lt));
-        root_named = λ e live flag. absurd (ni (sym (h.root_named e live flag) ∙ was_root));
-        standing = h.standing;
-        keys = h.keys;
+        root_tree = λ e standing. absurd (nh (sym e));
+        root_is = λ e standing. absurd (nh (sym e));
+        root_named = λ e live flag. absurd (ni (sym (was.root_named e live flag) ∙ was_root));
+        standing = was.standing;
+        keys = was.keys;
       }
 
   -- and any other tree
-  top_away : (u : ℕ) → u < length trees → u ≢ t → IsHome (length xs) g u (tree_at trees u)
+  no_top : (u : ℕ) → u < length trees → (tree_at trees u).root ≡ h → (tree_at trees u).standing ≢ Dead → ⊥
+  no_top u lt e standing = absurd (let both = sym rootless ∙ ((forest.homes h u lh lt).root_is e standing).flag in cc)
+
+  top_away : (u : ℕ) → u < length trees → u ≢ t → IsHome h g u (tree_at trees u)
   top_away u lt other = record {
-    root_tree = λ e standing. absurd (omega (arith, e, (forest.each u lt).root_there));
-    root_is = λ e standing. absurd (omega (arith, e, (forest.each u lt).root_there));
+    root_tree = λ e standing. absurd (no_top u lt e standing);
+    root_is = λ e standing. absurd (no_top u lt e standing);
     root_named = λ e live flag. absurd (other (sym e));
     standing = λ e live. absurd (other (sym e));
     keys = λ e. no_keys_at_all (tree_at trees u).prefix;
@@ -155,65 +161,65 @@ module _ (xs : List NodeView) (trees : List Tree) (i j op : ℕ) (f : AreRootHal
 
   left_away : (u : ℕ) → u < length trees → u ≢ t → IsHome i y u (tree_at trees u)
   left_away u lt other =
-      let h = forest.homes i u li lt in
+      let was = forest.homes i u li lt in
       record {
-        root_tree = h.root_tree;
-        root_is = λ e standing. absurd (other (sym (h.root_tree e standing)));
+        root_tree = was.root_tree;
+        root_is = λ e standing. absurd (other (sym (was.root_tree e standing)));
         root_named = λ e live flag. absurd (other (sym e));
-        standing = h.standing;
-        keys = h.keys;
+        standing = was.standing;
+        keys = was.keys;
       }
 
   right_away : (u : ℕ) → u < length trees → u ≢ t → IsHome j z u (tree_at trees u)
   right_away u lt other =
-      let h = forest.homes j u lj lt in
+      let was = forest.homes j u lj lt in
       record {
-        root_tree = h.root_tree;
-        root_is = λ e standing. absurd (other (sym (h.root_tree e standing) ∙ f.right_tree));
-        root_named = h.root_named;
-        standing = h.standing;
-        keys = h.keys;
+        root_tree = was.root_tree;
+        root_is = λ e standing. absurd (other (sym (was.root_tree e standing) ∙ f.right_tree));
+        root_named = was.root_named;
+        standing = was.standing;
+        keys = was.keys;
       }
 
   home_at : (k : ℕ) → k < length vs → (u : ℕ) → u < length trees → IsHome k (node_at vs k) u (tree_at ts u)
   home_at k lk u lu = elim (cases_eq u t) [
-    | inl is ↦ rw (is, tree_t) (elim (cases_eq k (length xs)) [
+    | inl is ↦ rw (is, tree_t) (elim (cases_eq k h) [
       | inl top ↦ rw (top, at_top) top_home
       | inr ntop ↦ elim (cases_eq k i) [
         | inl k_i ↦ rw (k_i, at_i) left_home
         | inr ni ↦ elim (cases_eq k j) [
           | inl k_j ↦ rw (k_j, at_j) right_home
-          | inr nj ↦ rw (at k (omega (arith, lk, more, ntop)) ni nj) (kept_home k (omega (arith, lk, more, ntop)) ni)
+          | inr nj ↦ rw (at k ni nj ntop) (kept_home k (omega (arith, lk, more)) ni ntop)
         ]
       ]
     ])
-    | inr other ↦ rw (tree_u u other) (elim (cases_eq k (length xs)) [
+    | inr other ↦ rw (tree_u u other) (elim (cases_eq k h) [
       | inl top ↦ rw (top, at_top) (top_away u lu other)
       | inr ntop ↦ elim (cases_eq k i) [
         | inl k_i ↦ rw (k_i, at_i) (left_away u lu other)
         | inr ni ↦ elim (cases_eq k j) [
           | inl k_j ↦ rw (k_j, at_j) (right_away u lu other)
-          | inr nj ↦ rw (at k (omega (arith, lk, more, ntop)) ni nj) (forest.homes k u (omega (arith, lk, more, ntop)) lu)
+          | inr nj ↦ rw (at k ni nj ntop) (forest.homes k u (omega (arith, lk, more)) lu)
         ]
       ]
     ])
   ]
 
   tree_of_node : (k : ℕ) → k < length vs → (node_at vs k).tree < length trees
-  tree_of_node k lk = elim (cases_eq k (length xs)) [
+  tree_of_node k lk = elim (cases_eq k h) [
     | inl top ↦ rw (top, at_top) lt_t
     | inr ntop ↦ elim (cases_eq k i) [
       | inl k_i ↦ rw (k_i, at_i) lt_t
       | inr ni ↦ elim (cases_eq k j) [
         | inl k_j ↦ rw (k_j, at_j) (forest.tree_there j lj)
-        | inr nj ↦ rw (at k (omega (arith, lk, more, ntop)) ni nj) (forest.tree_there k (omega (arith, lk, more, ntop)))
+        | inr nj ↦ rw (at k ni nj ntop) (forest.tree_there k (omega (arith, lk, more)))
       ]
     ]
   ]
 
   each_tree : (u : ℕ) → u < length trees → IsTree (length vs) (tree_at ts u)
   each_tree u lu = elim (cases_eq u t) [
-    | inl is ↦ rw (is, tree_t) (record { root_there = omega (arith, more); whole = (forest.each t lt_t).whole })
+    | inl is ↦ rw (is, tree_t) (record { root_there = omega (arith, more, lh); whole = (forest.each t lt_t).whole })
     | inr other ↦ rw (tree_u u other) (record { root_there = omega (arith, more, (forest.each u lu).root_there); whole = (forest.each u lu).whole })
   ]
 
@@ -231,7 +237,17 @@ module _ (xs : List NodeView) (trees : List Tree) (i j op : ℕ) (f : AreRootHal
   forest_grown = record {
     tree_there = λ k lk. omega (arith, tree_of_node k lk, trees_size);
     homes = λ k u lk lu. home_at k lk u (omega (arith, lu, trees_size));
-    begins = begins_trees vs trees ts (λ k lk. same_prefix (node_at vs k).tree) (begins_push ws trees g (λ _ border over. absurd (omega (arith, over))) begins_halves);
+    begins = begins_trees vs trees ts (λ k lk. same_prefix (node_at vs k).tree) (begins_again ws trees h g (omega (arith, lh, size)) (λ _ border over. absurd (omega (arith, over))) begins_halves);
+    emptied = λ k lk. elim (cases_eq k h) [
+      | inl top ↦ rw (top, at_top) (λ out. refl)
+      | inr ntop ↦ elim (cases_eq k i) [
+        | inl k_i ↦ rw (k_i, at_i) (forest.emptied i li)
+        | inr ni ↦ elim (cases_eq k j) [
+          | inl k_j ↦ rw (k_j, at_j) (forest.emptied j lj)
+          | inr nj ↦ rw (at k ni nj ntop) (forest.emptied k (omega (arith, lk, more)))
+        ]
+      ]
+    ];
     each = λ u lu. each_tree u (omega (arith, lu, trees_size));
     peers = λ a b la lb. record {
       one_live = λ d live also e. (forest.peers a b (omega (arith, la, trees_size)) (omega (arith, lb, trees_size))).one_live d

@@ -1,17 +1,16 @@
--- The whole invariant, the guarantee and the contents where a right half is made, or a tree with its root: for `begin_split` and
--- `MakingLayer`.
-use Rattle.std.proofs.Common.{◌≡◌, ℕ, ◌+◌, ◌*◌, ◌<◌, ◌≤◌, List, [], ◌∷◌, ◌++◌, length, set, false, Some, refl, sym, ap, subst, ◌∙◌, inl, inr, arith, length-append}
+-- The whole invariant, the guarantee and the contents where a right half is made: for `begin_split`.
+use Rattle.std.proofs.Common.{◌≡◌, ℕ, ◌+◌, ◌<◌, ◌≤◌, List, [], ◌∷◌, ◌++◌, length, set, false, Some, refl, sym, ap, subst, ◌∙◌, inl, inr, arith, length-append}
 use Rattle.std.proofs.{lemmas.Bool.cases_eq, lemmas.List.length-set, lemmas.Option.same_Some}
 use Rattle.mt_rows.specs.Rows.{Bytes}
 use Rattle.mt_border.specs.declared.entry.Entry.{Entry}
 use Rattle.mt_arena.specs.{declared.tree.Tree.Tree, declared.tree.Standing.TheVariants.Made, Idle.{RetiredPlaces, Rooms}, NodeView.{NodeView, node_at}}
-use Rattle.mt_arena.specs.{Forests.{IsForest, HaveKeys, HasSlice, tree_at, layer_of}, Layers.{AreLayered, LeadsTo, HasLink, slot_at}, Nodes.HasRange}
-use Rattle.mt_arena.specs.{Guarantee.{NodesGuarantee, PointsOnly}, Edits.{splitting, fresh_half, fresh_root}, Contents.content}
-use Rattle.mt_arena.specs.{Invariant.ArenaInvariant, Arena.{IsArena, ArenaView, Guarantee}, Accesses.{at, IsOpen, with_half}}
-use Rattle.mt_arena.proofs.{Pairs.{here, last, before}, Push.{nodes_half, nodes_root}, Ranged.ranged_root, RangedEdits.ranged_half, Homes.forest_push}
-use Rattle.mt_arena.proofs.{Trees.{forest_tree, made, last_tree, before_tree}, LinkEdits.no_links, Retiring.{retired_push, retired_tree_push}, NamedLate.{named_push, named_tree_push}}
+use Rattle.mt_arena.specs.{Forests.{IsForest, HaveKeys, HasSlice, tree_at}, Layers.{AreLayered, HasLink, slot_at}, Nodes.HasRange}
+use Rattle.mt_arena.specs.{Guarantee.{NodesGuarantee, PointsOnly}, Edits.{splitting, fresh_half}, Contents.content}
+use Rattle.mt_arena.specs.{Invariant.ArenaInvariant, Arena.{ArenaView, Guarantee}, Accesses.{at, IsOpen, with_half}}
+use Rattle.mt_arena.proofs.{Pairs.{here, last, before}, Push.nodes_half, RangedEdits.ranged_half, Homes.forest_push}
+use Rattle.mt_arena.proofs.{LinkEdits.no_links, Retiring.retired_push, NamedLate.named_push}
 use Rattle.mt_arena.proofs.Guarantees.{guarantee_on, guarantee_set, guarantee_push, points_set, points_push, lost_none, lost_set, lost_push}
-use Rattle.mt_arena.proofs.{ContentQuiet.{content-set, stands_pushed, stands_tree_pushed}, Locks.{is_held, sound_splitting, changes_splitting}}
+use Rattle.mt_arena.proofs.{ContentQuiet.{content-set, stands_pushed}, Locks.{is_held, sound_splitting, changes_splitting}}
 use Rattle.mt_arena.proofs.Naming.{points_on}
 
 -- a link stays where a node is added
@@ -70,7 +69,7 @@ module _ (xs : List NodeView) (i low op : ℕ) (within : i < length xs) (held : 
           nodes = nodes_half ys x i low op (omega (arith, within, size_y)) (rw at_m (is_held op x held)) level marked.arena.nodes;
           ranged = ranged_half xs i low op within marked.arena.nodes sound.arena.ranged live level range held;
           forest =
-              forest_push ys trees half forest there_is ((sound.arena.forest.homes i x.tree within there_is).standing refl live) refl (no_keys (tree_at trees x.tree).prefix [] refl) (λ _ border over. begins);
+              forest_push ys trees half forest there_is ((sound.arena.forest.homes i x.tree within there_is).standing refl live) refl (no_keys (tree_at trees x.tree).prefix [] refl, λ out. refl) (λ _ border over. begins);
           layers = layers_push ys trees half refl marked.arena.layers;
         };
         retired = retired_push ys trees gone half marked.retired refl;
@@ -105,57 +104,3 @@ step_half v room i low op within held live level sound mine = record {
   points = points_half v.nodes i low op within held live level;
   lost = lost_push v.nodes (set v.nodes i (splitting (at v i))) (fresh_half (at v i) i low op) (omega (arith, length-set v.nodes i (splitting (at v i)))) (lost_set v.nodes i (splitting (at v i)) within (lost_none (at v i)));
 }
-
--- links where a tree is added that is not live
-leads_more : (trees : List Tree) (u : Tree) (n : NodeView) (i k : ℕ) → n.tree < length trees → LeadsTo trees n i k → LeadsTo (trees ++ u ∷ []) n i k
-leads_more trees u n i k lt leads = record {
-  from = ap (λ (t : Tree). t.standing) (before_tree trees u n.tree lt) ∙ leads.from;
-  there = omega (arith, length-append trees (u ∷ []), leads.there);
-  live = ap (λ (t : Tree). t.standing) (before_tree trees u k leads.there) ∙ leads.live;
-  prefix = rw (before_tree trees u k leads.there, before_tree trees u n.tree lt) leads.prefix;
-}
-
-layers_tree : (xs : List NodeView) (trees : List Tree) (y : NodeView) (u : Tree) (op : ℕ) → y.slots ≡ [] → u.standing ≡ Made op → IsForest xs trees
-    → AreLayered xs trees → AreLayered (xs ++ y ∷ []) (trees ++ u ∷ [])
-layers_tree xs trees y u op none standing forest layers = record {
-  links = λ k lt. elim (cases_eq k (length xs)) [
-    | inl is ↦ rw (is, last xs y) (no_links (trees ++ u ∷ []) y none)
-    | inr other ↦
-        let inside : k < length xs = omega (arith, lt, other, length-append xs (y ∷ [])) in
-        rw (before xs y k inside) (λ live i t within is. leads_more trees u (node_at xs k) i t (forest.tree_there k inside) (layers.links k inside live i t within is))
-  ];
-  linked = λ t lt live deep. elim (cases_eq t (length trees)) [
-    | inl is ↦ absurd (let made_is = sym standing ∙ ap (λ (t : Tree). t.standing) (sym (last_tree trees u)) ∙ ap (λ t. (tree_at (trees ++ u ∷ []) t).standing) (sym is) ∙ live in cc)
-    | inr other ↦
-        let inside : t < length trees = omega (arith, lt, other, length-append trees (u ∷ [])) in
-        let same = before_tree trees u t inside in
-        has_link_push xs y t (layers.linked t inside (rw same at live) (rw same at deep))
-  ];
-}
-
--- a tree more that an operation makes
-pub sound_tree : (xs : List NodeView) (trees : List Tree) (gone : RetiredPlaces) (room more : Rooms) (op : ℕ) (prefix : Bytes)
-    → ArenaInvariant xs trees gone room → length xs + 1 ≤ more.nodes → length trees + 1 ≤ more.trees → 8 * layer_of prefix ≡ length prefix
-    → ArenaInvariant (xs ++ fresh_root (length trees) ∷ []) (trees ++ made prefix (length xs) op ∷ []) gone more
-sound_tree xs trees gone room more op prefix sound enough trees_enough whole =
-    let y = fresh_root (length trees) in
-    let u = made prefix (length xs) op in
-    let forest = sound.arena.forest in
-    record {
-      arena = record {
-        nodes = nodes_root xs (length trees) sound.arena.nodes (λ k lt e. absurd (omega (arith, e, forest.tree_there k lt)));
-        ranged = ranged_root xs (length trees) sound.arena.nodes sound.arena.ranged;
-        forest = forest_tree xs trees prefix op forest whole;
-        layers = layers_tree xs trees y (made prefix (length xs) op) op refl refl forest sound.arena.layers;
-      };
-      retired = retired_tree_push (xs ++ y ∷ []) trees gone u (retired_push xs trees gone y sound.retired refl) refl;
-      named =
-          named_tree_push (xs ++ y ∷ []) trees gone u (retired_push xs trees gone y sound.retired refl) (named_push xs trees gone y sound.retired sound.named);
-      enough = omega (arith, length-append xs (y ∷ []), enough);
-      trees_enough = omega (arith, length-append trees (u ∷ []), trees_enough);
-    }
-
--- one more tree with an empty root leaves the contents
-pub content_tree : (xs : List NodeView) (trees : List Tree) (y : NodeView) (u : Tree) → IsArena xs trees → y.slots ≡ []
-    → content (trees ++ u ∷ []) (xs ++ y ∷ []) ≡ content trees xs
-content_tree xs trees y u arena none = stands_pushed (trees ++ u ∷ []) xs y none ∙ stands_tree_pushed trees xs u arena

@@ -6,7 +6,7 @@ use Rattle.mt_border.proofs.KeptEntries.{entries_none, entries_two}
 use Rattle.mt_arena.specs.{declared.tree.Tree.Tree, declared.tree.Standing.Standing, declared.tree.Standing.TheVariants.{Made, Live, Dead}}
 use Rattle.mt_arena.specs.{NodeView.{NodeView, node_at}, Forests.{tree_at, no_tree}}
 use Rattle.mt_arena.specs.Guarantee.{NodesGuarantee, Changes, TreeChanges, IsUntouched, HasSameKeys, PointsOnly, LosesHeld, LoseHeld}
-use Rattle.mt_arena.proofs.{Pairs.{here, there, last, before}, Trees.before_tree}
+use Rattle.mt_arena.proofs.{Pairs.{here, there, last, before}}
 use Rattle.mt_version.proofs.CallerLemmas as versions
 
 -- a node that stays as it is
@@ -40,7 +40,7 @@ same_keys_on n m p a b = record {
 }
 
 -- a node that is live now was live
-was_live : (a b : Bool) → (a ≡ true → b ≡ true) → b ≡ false → a ≡ false
+pub was_live : (a b : Bool) → (a ≡ true → b ≡ true) → b ≡ false → a ≡ false
 was_live true b stays live = absurd (let dead = stays refl in cc)
 was_live false b stays live = refl
 
@@ -177,21 +177,6 @@ guarantee_push op xs trees y mine holder = record {
   made = λ k q lt other e. before xs y k lt;
   made_new =
       λ k q from lt other e. other (mine q (ap (λ (n : NodeView). (tree_at trees n.tree).standing) (sym (last xs y)) ∙ ap (λ k. (tree_at trees (node_at (xs ++ y ∷ []) k).tree).standing) {x = length xs} {y = k} (omega (arith, from, lt, length-append xs (y ∷ []))) ∙ e));
-  taken_new =
-      λ k q from lt other e. holder q other (ap (λ (n : NodeView). n.holder) (sym (last xs y)) ∙ ap (λ k. (node_at (xs ++ y ∷ []) k).holder) {x = length xs} {y = k} (omega (arith, from, lt, length-append xs (y ∷ []))) ∙ e);
-}
-
--- one more node in one more tree leaves all that was there
-pub guarantee_tree : (op : ℕ) (xs : List NodeView) (trees : List Tree) (y : NodeView) (u : Tree) → length trees ≤ y.tree
-    → ((q : ℕ) → q ≢ op → y.holder ≢ Some q) → NodesGuarantee op xs (xs ++ y ∷ []) trees (trees ++ u ∷ [])
-guarantee_tree op xs trees y u new_tree holder = record {
-  count = omega (arith, length-append xs (y ∷ []));
-  tree_count = omega (arith, length-append trees (u ∷ []));
-  nodes = λ k lt. rw (before xs y k lt) (changes_none op (node_at xs k));
-  trees = λ t lt. rw (before_tree trees u t lt) (tree_changes_none op (tree_at trees t));
-  made = λ k q lt other e. before xs y k lt;
-  made_new =
-      λ k q from lt other e. omega (arith, new_tree, made_there trees y.tree q (ap (λ (n : NodeView). (tree_at trees n.tree).standing) (sym (last xs y)) ∙ ap (λ k. (tree_at trees (node_at (xs ++ y ∷ []) k).tree).standing) {x = length xs} {y = k} (omega (arith, from, lt, length-append xs (y ∷ []))) ∙ e));
   taken_new =
       λ k q from lt other e. holder q other (ap (λ (n : NodeView). n.holder) (sym (last xs y)) ∙ ap (λ k. (node_at (xs ++ y ∷ []) k).holder) {x = length xs} {y = k} (omega (arith, from, lt, length-append xs (y ∷ []))) ∙ e);
 }

@@ -70,7 +70,7 @@ module _ (v : ArenaView) (room : Rooms) (node i op : ℕ) (sound : ArenaInvarian
   -- where neither is a link
   module _ (none : (u : ℕ) → e.held ≢ Link u) (none_after : (u : ℕ) → held ≢ Link u) where
     pub sound_held : ArenaInvariant (set v.nodes node (with_held n i held)) v.trees v.retired room
-    sound_held = sound_slots v.nodes v.trees v.retired room node (replaced n.slots new) (cells_holding n.cells i held) ln sound (is_held op n slot.held.holder) slot.border (record {
+    sound_held = sound_slots v.nodes v.trees v.retired room node (replaced n.slots new) (cells_holding n.cells i held) ln sound (is_held op n slot.held.holder) slot.live slot.border (record {
       border = border_after;
       inside = inside_after;
       keys = keys_after;

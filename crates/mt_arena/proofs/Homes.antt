@@ -14,9 +14,13 @@ pub record KeepsHome (x y : NodeView) : Type 0 where
   pub flag : y.version.root ≡ x.version.root
   pub root : IsRoot x → IsRoot y
 
--- its keys are those of its tree
+-- its keys are those of its tree, and it has none if it was taken out
 abbrev pub HasKeysOf : List Tree → NodeView → Type 0
-HasKeysOf trees n = HaveKeys (tree_at trees n.tree).prefix n.slots
+HasKeysOf trees n = HaveKeys (tree_at trees n.tree).prefix n.slots × (n.version.deleted ≡ true → n.slots ≡ [])
+
+-- so has a live node
+pub live_keys : (trees : List Tree) (n : NodeView) → n.version.deleted ≡ false → HaveKeys (tree_at trees n.tree).prefix n.slots → HasKeysOf trees n
+live_keys trees n live keys = (keys, λ out. absurd (let both = sym live ∙ out in cc))
 
 -- each slot's key has a byte in its layer
 pub begun : (xs : List NodeView) (trees : List Tree) → IsForest xs trees → AreBegun xs
@@ -48,10 +52,14 @@ forest_set xs trees i y within forest keeps keys =
       ];
       homes = λ k t lt lt_t. elim (cases_eq k i) [
         | inl is ↦ rw (is, here xs i y within) (home_kept i x y t (tree_at trees t) keeps
-            (λ e. subst (λ u. HaveKeys (tree_at trees u).prefix y.slots) (keeps.tree ∙ e) keys) (forest.homes i t within lt_t))
+            (λ e. subst (λ u. HaveKeys (tree_at trees u).prefix y.slots) (keeps.tree ∙ e) keys.0) (forest.homes i t within lt_t))
         | inr other ↦ rw (there xs i k y other) (forest.homes k t (omega (arith, lt, size)) lt_t)
       ];
       begins = begins_set xs trees i y within (record { tree = keeps.tree; level = keeps.level; low = keeps.low; live = λ live. sym keeps.deleted ∙ live }) forest.begins;
+      emptied = λ k lt. elim (cases_eq k i) [
+        | inl is ↦ rw (is, here xs i y within) keys.1
+        | inr other ↦ rw (there xs i k y other) (forest.emptied k (omega (arith, lt, size)))
+      ];
       each = λ t lt. tree_more (length xs) (length (set xs i y)) (tree_at trees t) (omega (arith, size)) (forest.each t lt);
       peers = forest.peers;
       top = forest.top;
@@ -74,11 +82,15 @@ forest_push xs trees y forest there_is stands no_root keys new =
           root_is = λ e standing. absurd (omega (arith, e, (forest.each t lt_t).root_there));
           root_named = λ e live flag. absurd (let no = no_root in cc);
           standing = λ e live. subst (λ u. (tree_at trees u).standing ≢ Dead) e stands;
-          keys = λ e. subst (λ u. HaveKeys (tree_at trees u).prefix y.slots) e keys;
+          keys = λ e. subst (λ u. HaveKeys (tree_at trees u).prefix y.slots) e keys.0;
         }
         | inr other ↦ rw (before xs y k (omega arith)) (forest.homes k t (omega arith) lt_t)
       ];
       begins = begins_push xs trees y new forest.begins;
+      emptied = λ k lt. elim (cases_eq k (length xs)) [
+        | inl is ↦ rw (is, last xs y) keys.1
+        | inr other ↦ rw (before xs y k (omega arith)) (forest.emptied k (omega arith))
+      ];
       each = λ t lt. tree_more (length xs) (length (xs ++ y ∷ [])) (tree_at trees t) (omega arith) (forest.each t lt);
       peers = forest.peers;
       top = forest.top;

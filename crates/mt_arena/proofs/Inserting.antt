@@ -8,7 +8,7 @@ use Rattle.mt_arena.specs.{declared.tree.Tree.Tree, NodeView.{NodeView, node_at}
 use Rattle.mt_arena.specs.{Ranges.AreRanged, Nodes.{AreNodes, IsChild, bounds}, Contents.content, Invariant.ArenaInvariant, Arena.{ArenaView, Guarantee}, Accesses.at}
 use Rattle.mt_arena.specs.{Edits.inserting, Splits.{Inserts, with_child, exact}, Several.{MayInsert, with_right}}
 use Rattle.mt_arena.proofs.{Pairs.{here, there}, Quiet.nodes_inserting, Ranges.{rises, not_empty, length_bounds}, Ranged.ranged_marked}
-use Rattle.mt_arena.proofs.{RangedEdits.ranged_insert_child, Child.{nodes_insert_child, left_child, differ_ij}, Steps.keys_of, Slots.changes_inserting}
+use Rattle.mt_arena.proofs.{RangedEdits.ranged_insert_child, Child.{nodes_insert_child, left_child, differ_ij}, Steps.own_keys, Slots.changes_inserting}
 use Rattle.mt_arena.proofs.{HeldChanges.{changes_with_child, changes_exact}, Guarantees.{changes_on, PointsSo, lost_none}, Naming.{names_same, points_each, each_set2}}
 use Rattle.mt_arena.proofs.Several.{AreKept, kept_set2, KeepsPlace, forest_set2, MayTurn, guarantee_set2}
 
@@ -102,7 +102,7 @@ module _ (xs : List NodeView) (i j q : ℕ) (nodes : AreNodes xs) (f : Inserts x
   pub exact_place : (trees : List Tree) → IsForest xs trees → KeepsPlace trees l (exact l)
   exact_place trees forest = record {
     home = record { tree = refl; level = refl; low = refl; deleted = refl; flag = refl; root = λ root. absurd (child.knows root.parentless) };
-    keys = keys_of xs trees j f.left_there forest;
+    keys = own_keys xs trees j f.left_there forest;
   }
 
   -- and of the parent's tree
@@ -138,7 +138,7 @@ module _ (v : ArenaView) (room : Rooms) (parent left right op : ℕ) (sound : Ar
       ranged = ranged_right v.nodes parent left right sound.arena.nodes may.inserts sound.arena.ranged;
       forest = forest_set2 v.nodes v.trees parent left y z may.held.there may.left_held.there apart sound.arena.forest (record {
         home = record { tree = refl; level = refl; low = refl; deleted = refl; flag = refl; root = λ h. record { live = h.live; flag = h.flag; parentless = h.parentless; low = h.low; reach = h.reach } };
-        keys = keys_of v.nodes v.trees parent may.held.there sound.arena.forest;
+        keys = own_keys v.nodes v.trees parent may.held.there sound.arena.forest;
       }) (exact_place v.nodes parent left right sound.arena.nodes may.inserts v.trees sound.arena.forest);
       layers = kept.layers sound.arena.layers;
     };
@@ -150,7 +150,7 @@ module _ (v : ArenaView) (room : Rooms) (parent left right op : ℕ) (sound : Ar
 
   pub step_right : Guarantee op v (record v { nodes = new })
   step_right = record {
-    nodes = guarantee_set2 op v.nodes v.trees parent left y z may.held.there may.left_held.there apart sound.arena.forest (record {
+    nodes = guarantee_set2 op v.nodes v.trees parent left y z may.held.there may.left_held.there apart sound.arena.forest.tree_there (record {
       changes =
           changes_on op (at v parent) (inserting (at v parent)) y (changes_inserting op (at v parent) may.held.holder) (changes_with_child op (inserting (at v parent)) (at v right).low right may.held.holder refl);
       mine = may.mine;

@@ -1,5 +1,5 @@
 -- What an operation needs for the layer that it makes stays so while others go on, and through its own steps: for the laws.
-use Rattle.std.proofs.Common.{◌≡◌, ◌≢◌, ℕ, ◌+◌, ◌<◌, List, [], ◌∷◌, ◌++◌, length, get_or, set, false, Some, refl, sym, ap, subst, ◌∙◌, inl, inr, arith, length-append}
+use Rattle.std.proofs.Common.{◌≡◌, ◌≢◌, ℕ, ◌+◌, ◌<◌, List, ◌++◌, length, get_or, set, false, Some, refl, sym, ap, subst, ◌∙◌, inl, inr, arith}
 use Rattle.std.proofs.{lemmas.Bool.{cases_eq, cases_lt}, lemmas.List.{length-set, get_or-set_same}}
 use Rattle.mt_version.specs.Parts.{Parts}
 use Rattle.mt_slices.specs.{Slices.piece_bytes, declared.mark.Mark.TheVariants.Long}
@@ -9,8 +9,10 @@ use Rattle.mt_border.proofs.{Edits.{any_entry, replaced_at}, ContentsKeys.has_he
 use Rattle.mt_arena.specs.{declared.tree.Tree.Tree, declared.tree.Standing.Standing, declared.tree.Standing.TheVariants.{Made, Live, Dead}, NodeView.NodeView}
 use Rattle.mt_arena.specs.{Layers.slot_at, Forests.{tree_at, layer_of}, Guarantee.IsUntouched, Ways.IsMadeFor, Arena.{IsArena, ArenaView, Guarantee}}
 use Rattle.mt_arena.specs.Accesses.{at, tree_of}
-use Rattle.mt_arena.specs.Layering.{IsHeldSlot, IsLayerFor, IsLayerOf, HasKeyAt, prefix_below, root_of, with_held, with_layer, with_slot}
-use Rattle.mt_arena.proofs.{Pairs.{here, there, last, before}, Trees.{made as made_tree, last_tree, before_tree}, Links.live_there, Guarantees.made_there}
+use Rattle.mt_arena.specs.Layering.{IsHeldSlot, IsLayerFor, IsLayerOf, HasKeyAt, prefix_below, layer_tree, tree_number, border_number, with_held, with_layer_at, with_slot}
+use Rattle.mt_arena.specs.{Idle.{AreRetired, chosen}, Given.AreForgotten}
+use Rattle.mt_arena.proofs.{Pairs.{here, there}, Links.live_there, Guarantees.{made_there, was_live}}
+use Rattle.mt_arena.proofs.LayerIn.{RootIn, TreeIn, root_with, root_in, tree_in}
 
 -- a tree that was live is live, where it is neither being made nor dead
 still_live : (standing : Standing) → ((q : ℕ) → standing ≢ Made q) → standing ≢ Dead → standing ≡ Live
@@ -74,9 +76,9 @@ module _ (op maker : ℕ) (old new : ArenaView) (step : Guarantee op old new) (o
     pub root_same : at new r ≡ at old r
     root_same = step.nodes.made r maker layer.made.there other (ap (λ t. (tree_at old.trees t).standing) layer.made.tree ∙ layer.mine)
 
-    alone : (l : ℕ) → l < length new.nodes → (at new l).tree ≡ t → l ≡ r
-    alone l lt in_tree = elim (cases_lt l (length old.nodes)) [
-      | inl was ↦ layer.made.alone l was (sym (step.nodes.nodes l was).tree ∙ in_tree)
+    alone : (l : ℕ) → l < length new.nodes → (at new l).tree ≡ t → (at new l).version.deleted ≡ false → l ≡ r
+    alone l lt in_tree live = elim (cases_lt l (length old.nodes)) [
+      | inl was ↦ layer.made.alone l was (sym (step.nodes.nodes l was).tree ∙ in_tree) (was_live (at old l).version.deleted (at new l).version.deleted (step.nodes.nodes l was).ages.deleted live)
       | inr new_one ↦ absurd (step.nodes.made_new l maker new_one lt other (ap (λ t. (tree_at old.trees t).standing) in_tree ∙ layer.mine))
     ]
 
@@ -113,55 +115,70 @@ module _ (op maker : ℕ) (old new : ArenaView) (step : Guarantee op old new) (o
       }
 
 -- the tree was just made
-module _ (v : ArenaView) (node i op : ℕ) (what : Held) (key : Bytes) (e : Entry) (pair : Pair) (arena : IsArena v.nodes v.trees) (slot : IsHeldSlot v node i op what) (has : HasKeyAt v node i key)
+module _ (v : ArenaView) (node i op least : ℕ) (what : Held) (key : Bytes) (e : Entry) (pair : Pair) (arena : IsArena v.nodes v.trees)
+    (listed : AreRetired v.nodes v.trees v.retired) (forgotten : AreForgotten least v) (slot : IsHeldSlot v node i op what) (has : HasKeyAt v node i key)
     (below : HasKey (prefix_below v node i) (layer_of (prefix_below v node i)) e key) (is : pair_of e.held ≡ Some pair) where
   abbrev prefix : Bytes
   prefix = prefix_below v node i
 
-  abbrev y : NodeView
-  y = root_of (length v.trees) e
+  abbrev t : ℕ
+  t = tree_number least v
+
+  abbrev h : ℕ
+  h = border_number least v
 
   abbrev u : Tree
-  u = made_tree prefix (length v.nodes) op
+  u = layer_tree prefix h op
 
   abbrev w : ArenaView
-  w = with_layer v prefix e op
+  w = with_layer_at v prefix e least op
+
+  root_made : RootIn v op least t e (chosen v.retired.borders least)
+  root_made = root_in v op least e arena.nodes listed forgotten t
+
+  tree_made : TreeIn v op least u (chosen v.retired.trees least)
+  tree_made = tree_in v op least e arena.nodes listed forgotten u refl
+
+  node_apart : node ≢ h
+  node_apart = root_made.node.kept node slot.held.there slot.live
 
   node_same : at w node ≡ at v node
-  node_same = before v.nodes y node slot.held.there
+  node_same = (root_made.node.others node (omega (arith, slot.held.there, root_made.node.more)) node_apart).1
+
+  tree_apart : (at v node).tree ≢ t
+  tree_apart same = absurd (let both = sym slot.tree_live ∙ ap (λ s. (tree_at v.trees s).standing) same ∙ tree_made.tree.vacant in cc)
 
   above_same : tree_at w.trees (at v node).tree ≡ tree_of v node
-  above_same = before_tree v.trees u (at v node).tree (arena.forest.tree_there node slot.held.there)
+  above_same = (tree_made.tree.others (at v node).tree (omega (arith, arena.forest.tree_there node slot.held.there, tree_made.tree.more)) tree_apart).1
 
-  tree_is : tree_at w.trees (length v.trees) ≡ u
-  tree_is = last_tree v.trees u
+  tree_is : tree_at w.trees t ≡ u
+  tree_is = tree_made.tree.is
 
-  root_is : at w (length v.nodes) ≡ y
-  root_is = last v.nodes y
-
-  size : length w.nodes ≡ length v.nodes + 1
-  size = length-append v.nodes (y ∷ [])
+  root_is : at w h ≡ root_with root_made.version t e
+  root_is = root_made.node.is
 
   above_is : tree_of w node ≡ tree_of v node
   above_is = ap (λ (x : NodeView). tree_at w.trees x.tree) node_same ∙ above_same
 
-  alone_there : (l : ℕ) → l < length w.nodes → (at w l).tree ≡ length v.trees → l ≡ length v.nodes
-  alone_there l lt in_tree = elim (cases_eq l (length v.nodes)) [
+  alone_there : (l : ℕ) → l < length w.nodes → (at w l).tree ≡ t → (at w l).version.deleted ≡ false → l ≡ h
+  alone_there l lt in_tree live = elim (cases_eq l h) [
     | inl same ↦ same
     | inr differ ↦
-        let inside : l < length v.nodes = omega (arith, lt, differ, size) in
-        absurd (omega (arith, arena.forest.tree_there l inside, ap (λ (x : NodeView). x.tree) (sym (before v.nodes y l inside)) ∙ in_tree))
+        let was = root_made.node.others l lt differ in
+        let alive : (at v l).version.deleted ≡ false = ap (λ (x : NodeView). x.version.deleted) (sym was.1) ∙ live in
+        let of_tree : (at v l).tree ≡ t = ap (λ (x : NodeView). x.tree) (sym was.1) ∙ in_tree in
+        absurd ((arena.forest.homes l (at v l).tree was.0 (arena.forest.tree_there l was.0)).standing refl alive (ap (λ s. (tree_at v.trees s).standing) of_tree ∙ tree_made.tree.vacant))
   ]
 
-  layer_begun : IsLayerFor w (length v.trees) op key pair.row
+  layer_begun : IsLayerFor w t op key pair.row
   layer_begun = record {
     mine = ap (λ (x : Tree). x.standing) tree_is;
-    made = subst (λ (x : Tree). IsMadeFor w.nodes w.trees key (layer_of x.prefix) (length v.trees) x.root pair.row) (sym tree_is) (record {
+    made = subst (λ (x : Tree). IsMadeFor w.nodes w.trees key (layer_of x.prefix) t x.root pair.row) (sym tree_is) (record {
       maker = op;
       made = ap (λ (x : Tree). x.standing) tree_is;
-      there = omega (arith, size);
+      there = root_made.node.inside;
       tree = ap (λ (x : NodeView). x.tree) root_is;
-      live = ap (λ (x : NodeView). x.version.deleted) root_is;
+      live = ap (λ (x : NodeView). x.version.deleted) root_is ∙ root_made.of_root.deleted;
       alone = alone_there;
       slot = e;
       pair = pair;
@@ -172,10 +189,10 @@ module _ (v : ArenaView) (node i op : ℕ) (what : Held) (key : Bytes) (e : Entr
     });
   }
 
-  pub whole_begun : IsLayerOf w node i (length v.trees) op what key pair.row
+  pub whole_begun : IsLayerOf w node i t op what key pair.row
   whole_begun = record {
     slot = record {
-      held = record { there = omega (arith, size, slot.held.there); holder = ap (λ (x : NodeView). x.holder) node_same ∙ slot.held.holder };
+      held = record { there = omega (arith, root_made.node.more, slot.held.there); holder = ap (λ (x : NodeView). x.holder) node_same ∙ slot.held.holder };
       live = ap (λ (x : NodeView). x.version.deleted) node_same ∙ slot.live;
       border = ap (λ (x : NodeView). x.level) node_same ∙ slot.border;
       tree_live = ap (λ (x : Tree). x.standing) above_is ∙ slot.tree_live;
@@ -232,6 +249,12 @@ module _ (v : ArenaView) (node i t op : ℕ) (what held : Held) (key : Bytes) (r
     | inr differ ↦ ap (λ (y : NodeView). y.tree) (there v.nodes node l z differ)
   ]
 
+  live_still : (l : ℕ) → (at rewritten l).version.deleted ≡ (at v l).version.deleted
+  live_still l = elim (cases_eq l node) [
+    | inl same ↦ rw (same, now) refl
+    | inr differ ↦ ap (λ (y : NodeView). y.version.deleted) (there v.nodes node l z differ)
+  ]
+
   has_key : HasKey (tree_of v node).prefix (layer_of (tree_of v node).prefix) after key
   has_key =
       has_held_key (tree_of v node).prefix (layer_of (tree_of v node).prefix) d key held whole.has (λ pair is. whole.has.suffix pair (ap pair_of whole.slot.is ∙ goes_on pair is))
@@ -259,7 +282,7 @@ module _ (v : ArenaView) (node i t op : ℕ) (what held : Held) (key : Bytes) (r
             there = omega (arith, made.there, length-set v.nodes node z);
             tree = tree_still (tree_at v.trees t).root ∙ made.tree;
             live = ap (λ (y : NodeView). y.version.deleted) root_still ∙ made.live;
-            alone = λ l lt in_tree. made.alone l (omega (arith, lt, length-set v.nodes node z)) (sym (tree_still l) ∙ in_tree);
+            alone = λ l lt in_tree live. made.alone l (omega (arith, lt, length-set v.nodes node z)) (sym (tree_still l) ∙ in_tree) (sym (live_still l) ∙ live);
             slot = made.slot;
             pair = made.pair;
             slots = ap (λ (y : NodeView). y.slots) root_still ∙ made.slots;

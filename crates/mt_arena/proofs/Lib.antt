@@ -52,6 +52,7 @@ pub mod Two
 pub mod Naming
 pub mod Halving
 pub mod Several
+pub mod TopNodes
 pub mod Topping
 pub mod Inserting
 pub mod Parting
@@ -68,7 +69,10 @@ pub mod Settling
 pub mod Alone
 pub mod ChildPlace
 pub mod HeldOtherwise
+pub mod LayerIn
 pub mod MakingLayer
+pub mod LayerStep
+pub mod LayerAt
 pub mod NoLayer
 pub mod LiveTree
 pub mod GoingLinked
@@ -78,4 +82,8 @@ pub mod SettledBut
 pub mod Separators
 pub mod NextBegins
 pub mod Renumbering
+pub mod Vacant
 pub mod Again
+pub mod Giving
+pub mod PartingAgain
+pub mod PartingAt

@@ -81,6 +81,7 @@ module _ (xs : List NodeView) (trees : List Tree) (t op : ℕ) (forest : IsFores
     tree_there = λ k lk. omega (arith, forest.tree_there k lk, trees_size);
     homes = λ k u lk lu. home_at k u lk (omega (arith, lu, trees_size));
     begins = begins_trees xs trees ts (λ k lk. same_prefix (node_at xs k).tree) forest.begins;
+    emptied = forest.emptied;
     each = λ u lu. each_tree u (omega (arith, lu, trees_size));
     peers = λ a b la lb. record {
       one_live =

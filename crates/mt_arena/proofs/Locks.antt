@@ -7,7 +7,7 @@ use Rattle.mt_arena.specs.{Nodes.HasRange, Settled.IsSettled, declared.tree.Tree
 use Rattle.mt_arena.specs.{Guarantee.Changes, Edits.{locked, unlocked, splitting}, Invariant.ArenaInvariant, Arena.{IsArena, ArenaView, Guarantee}}
 use Rattle.mt_arena.specs.Accesses.{at, IsOpen, with_node}
 use Rattle.mt_arena.proofs.{Quiet.{nodes_locked, nodes_splitting}, Ranged.{ranged_locked, ranged_unlocked, ranged_marked}, Unlock.nodes_unlocked}
-use Rattle.mt_arena.proofs.{LinkEdits.same_links, Steps.{sound_set, keys_of, step_set}}
+use Rattle.mt_arena.proofs.{LinkEdits.same_links, Steps.{sound_set, own_keys, step_set}}
 use Rattle.mt_version.proofs.Aging.{ages-locked, ages-unlocked, ages-marked_splitting}
 
 -- the whole invariant stands as a lock is taken
@@ -17,7 +17,7 @@ sound_locked xs trees gone room i op within sound free =
     let x = node_at xs i in
     sound_set xs trees gone room i (locked x op) within sound (nodes_locked xs i op within sound.arena.nodes) (ranged_locked xs i op within sound.arena.nodes sound.arena.ranged free)
     record { tree = refl; level = refl; low = refl; deleted = refl; flag = refl; root = λ r. record { live = r.live; flag = r.flag; parentless = r.parentless; low = r.low; reach = r.reach } }
-    (keys_of xs trees i within sound.arena.forest)
+    (own_keys xs trees i within sound.arena.forest)
     record { tree = refl; deleted = refl; forth = same_links x.slots; back = same_links x.slots }
     record { next = refl; children = refl }
 
@@ -66,7 +66,7 @@ sound_unlocked xs trees gone room i within sound settled =
     let x = node_at xs i in
     sound_set xs trees gone room i (unlocked x) within sound (nodes_unlocked xs i within sound.arena.nodes settled) (ranged_unlocked xs i within sound.arena.ranged settled (settled_range xs trees i within sound.arena settled))
     record { tree = refl; level = refl; low = refl; deleted = refl; flag = refl; root = λ r. record { live = r.live; flag = r.flag; parentless = r.parentless; low = r.low; reach = r.reach } }
-    (keys_of xs trees i within sound.arena.forest)
+    (own_keys xs trees i within sound.arena.forest)
     record { tree = refl; deleted = refl; forth = same_links x.slots; back = same_links x.slots }
     record { next = refl; children = refl }
 
@@ -100,7 +100,7 @@ sound_splitting xs trees gone room i within sound held =
     let x = node_at xs i in
     sound_set xs trees gone room i (splitting x) within sound (nodes_splitting xs i within sound.arena.nodes held) (ranged_marked xs i x.slots x.cells (splitting x).version within sound.arena.ranged refl (λ _. refl) (λ e. absurd (cc)))
     record { tree = refl; level = refl; low = refl; deleted = refl; flag = refl; root = λ r. record { live = r.live; flag = r.flag; parentless = r.parentless; low = r.low; reach = r.reach } }
-    (keys_of xs trees i within sound.arena.forest)
+    (own_keys xs trees i within sound.arena.forest)
     record { tree = refl; deleted = refl; forth = same_links x.slots; back = same_links x.slots }
     record { next = refl; children = refl }
 

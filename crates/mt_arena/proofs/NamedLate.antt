@@ -7,7 +7,7 @@ use Rattle.mt_arena.specs.{NodeView.{NodeView, node_at}, Nodes.AreNodes, Forests
 use Rattle.mt_arena.specs.Idle.{RetiredPlaces, AreRetired, no_places, has_ended, is_idle_border, is_idle_interior, place_of_idle, with_retired, with_border, with_interior, with_tree, all_out_at}
 use Rattle.mt_arena.specs.Given.{step_of_idle, IsNodeOutFrom, NamesNode, NameLater, IsNamedLate, AreOutUpTo}
 use Rattle.mt_arena.proofs.{Pairs.{here, there, before}, Trees.before_tree}
-use Rattle.mt_arena.proofs.Out.{last_or_before, place_before, step_before, place_last, step_last, node_out_border, node_out_interior, node_out_border_given, node_out_anew, step_anew}
+use Rattle.mt_arena.proofs.Out.{last_or_before, place_before, step_before, place_last, step_last, node_out_border, node_out_interior, node_out_border_given, node_out_interior_given, node_out_anew, step_anew}
 
 -- the node names to its readers what it named
 pub record KeepsNames (x y : NodeView) : Type 0 where
@@ -34,10 +34,10 @@ first_true false b both = absurd (cc)
 pub border_out : (n : NodeView) → is_idle_border n ≡ true → n.version.deleted ≡ true
 border_out n idle = first_true n.version.deleted (n.level == 0) idle
 
-interior_out : (n : NodeView) → is_idle_interior n ≡ true → n.version.deleted ≡ true
+pub interior_out : (n : NodeView) → is_idle_interior n ≡ true → n.version.deleted ≡ true
 interior_out n idle = first_true n.version.deleted (not (n.level == 0)) idle
 
-ended_dead : (s : Standing) → has_ended s ≡ true → s ≡ Dead
+pub ended_dead : (s : Standing) → has_ended s ≡ true → s ≡ Dead
 ended_dead (Made q) ended = absurd (cc)
 ended_dead Live ended = absurd (cc)
 ended_dead Dead ended = refl
@@ -188,6 +188,37 @@ named_border_given xs trees gone r rest y listed named =
       of_interiors = λ i k lt names.
           less (step_of_idle gone.interiors i) k (named.of_interiors i k lt (subst (λ (n : NodeView). NamesNode n k) (there xs r.place (place_of_idle gone.interiors i) y (other i lt)) names));
       of_trees = λ i lt. less (step_of_idle gone.trees i) (tree_at trees (place_of_idle gone.trees i)).root (named.of_trees i lt);
+    }
+
+-- so is that of an interior node
+pub named_interior_given : (xs : List NodeView) (trees : List Tree) (gone : RetiredPlaces) (r : Retired) (rest : List Retired) (y : NodeView)
+    → AreRetired xs trees (record gone { interiors = r ∷ rest }) → IsNamedLate xs trees (record gone { interiors = r ∷ rest })
+    → IsNamedLate (set xs r.place y) trees (record gone { interiors = rest })
+named_interior_given xs trees gone r rest y listed named =
+    let less : (from k : ℕ) → IsNodeOutFrom from (record gone { interiors = r ∷ rest }) k → IsNodeOutFrom from (record gone { interiors = rest }) k = λ from k. node_out_interior_given from gone r rest k in
+    let apart : (i : ℕ) → i < length rest → place_of_idle rest i ≢ r.place = λ i lt is. listed.of_interiors.once 0 (suc i) (omega arith) (omega (arith, lt)) (sym is) in
+    let other : (i : ℕ) → i < length gone.borders → place_of_idle gone.borders i ≢ r.place = λ i lt is.
+    border_apart (node_at xs r.place) (subst (λ p. is_idle_border (node_at xs p) ≡ true) is (listed.of_borders.idle_there i lt)) (listed.of_interiors.idle_there 0 (omega arith)) in
+    record {
+      of_borders = λ i k lt names.
+          less (step_of_idle gone.borders i) k (named.of_borders i k lt (subst (λ (n : NodeView). NamesNode n k) (there xs r.place (place_of_idle gone.borders i) y (other i lt)) names));
+      of_interiors = λ i k lt names.
+          less (step_of_idle rest i) k (named.of_interiors (suc i) k (omega (arith, lt)) (subst (λ (n : NodeView). NamesNode n k) (there xs r.place (place_of_idle rest i) y (apart i lt)) names));
+      of_trees = λ i lt. less (step_of_idle gone.trees i) (tree_at trees (place_of_idle gone.trees i)).root (named.of_trees i lt);
+    }
+
+-- and a tree's record
+pub named_tree_given : (xs : List NodeView) (trees : List Tree) (gone : RetiredPlaces) (r : Retired) (rest : List Retired) (u : Tree)
+    → AreRetired xs trees (record gone { trees = r ∷ rest }) → IsNamedLate xs trees (record gone { trees = r ∷ rest })
+    → IsNamedLate xs (set trees r.place u) (record gone { trees = rest })
+named_tree_given xs trees gone r rest u listed named =
+    let still : (from k : ℕ) → IsNodeOutFrom from (record gone { trees = r ∷ rest }) k → IsNodeOutFrom from (record gone { trees = rest }) k = λ from k out. record { border = out.border; interior = out.interior } in
+    let apart : (i : ℕ) → i < length rest → place_of_idle rest i ≢ r.place = λ i lt is. listed.of_trees.once 0 (suc i) (omega arith) (omega (arith, lt)) (sym is) in
+    record {
+      of_borders = λ i k lt names. still (step_of_idle gone.borders i) k (named.of_borders i k lt names);
+      of_interiors = λ i k lt names. still (step_of_idle gone.interiors i) k (named.of_interiors i k lt names);
+      of_trees = λ i lt. rw (get_or-set_other trees r.place (place_of_idle rest i) u no_tree (apart i lt))
+          (still (step_of_idle rest i) (tree_at trees (place_of_idle rest i)).root (named.of_trees (suc i) (omega (arith, lt))));
     }
 
 -- where one step took out all, and where nothing was taken out

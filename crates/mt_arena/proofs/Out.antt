@@ -108,6 +108,18 @@ pub node_out_border_given : (from : ℕ) (gone : RetiredPlaces) (r : Retired) (r
     → IsNodeOutFrom from (record gone { borders = rest }) k
 node_out_border_given from gone r rest k out = record { border = λ i lt is. out.border (suc i) (omega (arith, lt)) is; interior = out.interior }
 
+pub upto_interior_given : (step : ℕ) (gone : RetiredPlaces) (r : Retired) (rest : List Retired) → AreOutUpTo step (record gone { interiors = r ∷ rest })
+    → AreOutUpTo step (record gone { interiors = rest })
+upto_interior_given step gone r rest h = record { borders = h.borders; interiors = rises_less step r rest h.interiors; trees = h.trees }
+
+pub node_out_interior_given : (from : ℕ) (gone : RetiredPlaces) (r : Retired) (rest : List Retired) (k : ℕ) → IsNodeOutFrom from (record gone { interiors = r ∷ rest }) k
+    → IsNodeOutFrom from (record gone { interiors = rest }) k
+node_out_interior_given from gone r rest k out = record { border = out.border; interior = λ i lt is. out.interior (suc i) (omega (arith, lt)) is }
+
+pub upto_tree_given : (step : ℕ) (gone : RetiredPlaces) (r : Retired) (rest : List Retired) → AreOutUpTo step (record gone { trees = r ∷ rest })
+    → AreOutUpTo step (record gone { trees = rest })
+upto_tree_given step gone r rest h = record { borders = h.borders; interiors = h.interiors; trees = rises_less step r rest h.trees }
+
 -- where one step took out all, the places stand as they stood
 pub place_anew : (step : ℕ) (gone : List Retired) (i : ℕ) → place_of_idle (out_at step gone) i ≡ place_of_idle gone i
 place_anew step [] i = refl

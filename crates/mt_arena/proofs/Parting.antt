@@ -4,14 +4,15 @@ use Rattle.mt_arena.specs.Idle.{Rooms}
 use Rattle.mt_arena.specs.Guarantee.{LosesHeld}
 use Rattle.std.proofs.Common.{◌≡◌, ◌≢◌, ℕ, ◌+◌, ◌<◌, ◌≤◌, List, [], ◌∷◌, ◌++◌, length, set, false, None, refl, sym, ap, subst, ◌∙◌, arith, length-append}
 use Rattle.std.proofs.{lemmas.Option.same_Some, lemmas.List.{length-set, set-set, set-append_left, set_at}}
-use Rattle.mt_arena.specs.{NodeView.{NodeView, node_at}, Nodes.{AreNodes, HasRange}, NodeFacts.TellsKind, Forests.tree_at, Contents.content}
+use Rattle.mt_arena.specs.{NodeView.{NodeView, node_at}, Nodes.{AreNodes, HasRange}, NodeFacts.TellsKind, Forests.{IsForest, tree_at}, Contents.content}
+use Rattle.mt_arena.specs.declared.tree.Standing.TheVariants.{Dead}
 use Rattle.mt_arena.specs.{Invariant.ArenaInvariant, Arena.{ArenaView, Guarantee}, Accesses.at, Edits.{bare, splitting}}
 use Rattle.mt_arena.specs.{Splits.{Inserts, with_child, exact, middle, inner_left, inner_right}, Several.{MaySplitInner, with_parts}}
 use Rattle.mt_arena.proofs.{Pairs.{here, there, last, before}, Quiet.nodes_splitting, Push.nodes_bare, Homes.forest_push, Growing.{layers_push, no_keys}}
-use Rattle.mt_arena.proofs.{Retiring.retired_push, NamedLate.named_push, RangedEdits.ranged_parts, Steps.keys_of, Inner.SplitsInner}
+use Rattle.mt_arena.proofs.{Retiring.retired_push, NamedLate.named_push, RangedEdits.ranged_parts, Steps.own_keys, Inner.SplitsInner}
 use Rattle.mt_arena.proofs.{InnerSplit.{given, nodes_split_inner, ranges_split_inner}, HeldChanges.changes_inner_left, Locks.changes_splitting}
 use Rattle.mt_arena.proofs.{Guarantees.{changes_on, guarantee_on, guarantee_push, PointsSo, lost_none, lost_push}, Naming.{names_same, points_more, each_set2}}
-use Rattle.mt_arena.proofs.{Several.{AreKept, kept_set2, forest_set2, guarantee_set2}, ContentQuiet.stands_pushed}
+use Rattle.mt_arena.proofs.{Several.{AreKept, MayTurn, kept_set2, forest_set2, guarantee_set2}, ContentQuiet.stands_pushed}
 use Rattle.mt_arena.proofs.Inserting.{apart_j, is_interior, exact_place, exact_turn}
 
 -- the nodes: the parent is marked, a node without range is added, and the children are parted
@@ -166,46 +167,57 @@ module _ (v : ArenaView) (room more : Rooms) (parent left right op : ℕ) (sound
   lj : left < length v.nodes
   lj = may.left_held.there
 
-  apart : parent ≢ left
+  pub apart : parent ≢ left
   apart = apart_j v.nodes parent left right sound.arena.nodes may.inserts
 
-  kept : AreKept v.nodes halves v.trees v.retired
+  pub kept : AreKept v.nodes halves v.trees v.retired
   kept =
       kept_set2 v.nodes v.trees v.retired parent left y z li lj apart (record { slots = refl; deleted = refl; tree = refl }) (record { slots = refl; deleted = refl; tree = refl }) refl refl
       (λ out. absurd (let live = may.inserts.parent_live in cc)) (λ out. record { next = refl; children = refl })
 
-  ranges : HasRange y × HasRange u
+  pub ranges : HasRange y × HasRange u
   ranges = ranges_parts v.nodes parent left right op sound.arena.nodes may.inserts may.full may.next
 
-  pub sound_parts : length v.nodes + 1 ≤ more.nodes → length v.trees ≤ more.trees → ArenaInvariant new v.trees v.retired more
-  sound_parts enough trees_enough =
+  -- trees and their nodes without the right half
+  pub forest_left : IsForest halves v.trees
+  forest_left =
       let forest = sound.arena.forest in
-      let there_is = forest.tree_there parent li in
-      record {
-        arena = record {
-          nodes = nodes_parts v.nodes parent left right op sound.arena.nodes may.inserts may.full may.next;
-          ranged = ranged_parts v.nodes parent left (at v right).low right op li lj apart sound.arena.nodes sound.arena.ranged may.next ranges.0 ranges.1;
-          forest = forest_push halves v.trees u (forest_set2 v.nodes v.trees parent left y z li lj apart forest (record {
-            home = record { tree = refl; level = refl; low = refl; deleted = refl; flag = refl; root = λ h. record { live = h.live; flag = h.flag; parentless = h.parentless; low = h.low; reach = h.reach } };
-            keys = keys_of v.nodes v.trees parent li forest;
-          }) (exact_place v.nodes parent left right sound.arena.nodes may.inserts v.trees forest))
-              there_is ((forest.homes parent x.tree li there_is).standing refl may.inserts.parent_live) refl (no_keys (tree_at v.trees x.tree).prefix u.slots refl) (λ _ border over. absurd (omega (arith, border, may.inserts.right_level)));
-          layers = layers_push halves v.trees u refl (kept.layers sound.arena.layers);
-        };
-        retired = retired_push halves v.trees v.retired u (kept.retired sound.retired) refl;
-        named = named_push halves v.trees v.retired u (kept.retired sound.retired) (kept.named sound.retired sound.named);
-        trees_enough = trees_enough;
-        enough = omega (arith, length-append halves (u ∷ []), kept.count, enough);
-      }
+      forest_set2 v.nodes v.trees parent left y z li lj apart forest (record {
+        home = record { tree = refl; level = refl; low = refl; deleted = refl; flag = refl; root = λ h. record { live = h.live; flag = h.flag; parentless = h.parentless; low = h.low; reach = h.reach } };
+        keys = own_keys v.nodes v.trees parent li forest;
+      }) (exact_place v.nodes parent left right sound.arena.nodes may.inserts v.trees forest)
+
+  pub stands : (tree_at v.trees x.tree).standing ≢ Dead
+  stands = (sound.arena.forest.homes parent x.tree li (sound.arena.forest.tree_there parent li)).standing refl may.inserts.parent_live
+
+  pub sound_parts : length v.nodes + 1 ≤ more.nodes → length v.trees ≤ more.trees → ArenaInvariant new v.trees v.retired more
+  sound_parts enough trees_enough = record {
+    arena = record {
+      nodes = nodes_parts v.nodes parent left right op sound.arena.nodes may.inserts may.full may.next;
+      ranged = ranged_parts v.nodes parent left (at v right).low right op li lj apart sound.arena.nodes sound.arena.ranged ranges.0 ranges.1;
+      forest = forest_push halves v.trees u forest_left (sound.arena.forest.tree_there parent li) stands refl (no_keys (tree_at v.trees x.tree).prefix u.slots refl, λ out. refl) (λ _ border over. absurd (omega (arith, border, may.inserts.right_level)));
+      layers = layers_push halves v.trees u refl (kept.layers sound.arena.layers);
+    };
+    retired = retired_push halves v.trees v.retired u (kept.retired sound.retired) refl;
+    named = named_push halves v.trees v.retired u (kept.retired sound.retired) (kept.named sound.retired sound.named);
+    trees_enough = trees_enough;
+    enough = omega (arith, length-append halves (u ∷ []), kept.count, enough);
+  }
+
+  -- how the parent and the left half change
+  pub turn_parent : MayTurn op v.trees x y
+  turn_parent = record {
+    changes = changes_on op x (splitting x) y (changes_splitting op x may.held.holder) (changes_inner_left op (splitting x) (at v right).low right may.held.holder refl);
+    mine = may.mine;
+  }
+
+  pub turn_left : MayTurn op v.trees (at v left) z
+  turn_left = exact_turn v.nodes parent left right sound.arena.nodes may.inserts op v.trees may.left_held.holder may.mine
 
   pub step_parts : Guarantee op v (record v { nodes = new })
   step_parts = record {
     nodes = guarantee_on op v.nodes halves new v.trees v.trees v.trees
-        (guarantee_set2 op v.nodes v.trees parent left y z li lj apart sound.arena.forest (record {
-          changes =
-              changes_on op x (splitting x) y (changes_splitting op x may.held.holder) (changes_inner_left op (splitting x) (at v right).low right may.held.holder refl);
-          mine = may.mine;
-        }) (exact_turn v.nodes parent left right sound.arena.nodes may.inserts op v.trees may.left_held.holder may.mine))
+        (guarantee_set2 op v.nodes v.trees parent left y z li lj apart sound.arena.forest.tree_there turn_parent turn_left)
         (guarantee_push op halves v.trees u may.mine (λ q other e. other (same_Some q op (sym e)))) sound.arena.forest.tree_there;
     points = points_more op v.nodes halves u kept.count refl refl (each_set2 (λ k n. PointsSo op new (at v k) n) v.nodes parent left y z li lj apart
         (names_same op new x y refl refl) (names_same op new (at v left) z refl refl) (λ k lt ni nj. names_same op new (at v k) (at v k) refl refl));

@@ -5,7 +5,7 @@ use Rattle.std.proofs.Common.{◌≡◌, ◌≢◌, ℕ, ◌<◌, ◌⊎◌, Lis
 use Rattle.std.proofs.{lemmas.Bool.cases_eq, lemmas.Option.same_Some}
 use Rattle.mt_arena.specs.{declared.tree.Tree.Tree, Idle.{RetiredPlaces, Rooms}, NodeView.{NodeView, node_at}, Nodes.HasRange, Ranges.Waits}
 use Rattle.mt_arena.specs.{Guarantee.Changes, Edits.{pointed, Points}, Invariant.ArenaInvariant, Arena.{ArenaView, Guarantee}, Accesses.{at, IsOpen, with_node}}
-use Rattle.mt_arena.proofs.{Pairs.{here, there}, Point.nodes_pointed, Ranged.ranged_pointed, LinkEdits.same_links, Steps.{sound_set, keys_of, step_set}}
+use Rattle.mt_arena.proofs.{Pairs.{here, there}, Point.nodes_pointed, Ranged.ranged_pointed, LinkEdits.same_links, Steps.{sound_set, own_keys, step_set}}
 use Rattle.mt_version.proofs.CallerLemmas as versions
 
 -- where a live root keeps its want of a parent
@@ -18,7 +18,7 @@ sound_pointed xs trees gone room i previous parent within sound points no_root r
     let x = node_at xs i in
     sound_set xs trees gone room i (pointed x previous parent) within sound (nodes_pointed xs i previous parent within sound.arena.nodes points) (ranged_pointed xs i previous parent within sound.arena.ranged range tied)
     record { tree = refl; level = refl; low = refl; deleted = refl; flag = refl; root = λ r. record { live = r.live; flag = r.flag; parentless = no_root r.flag ∙ r.parentless; low = r.low; reach = r.reach } }
-    (keys_of xs trees i within sound.arena.forest)
+    (own_keys xs trees i within sound.arena.forest)
     record { tree = refl; deleted = refl; forth = same_links x.slots; back = same_links x.slots }
     record { next = refl; children = refl }
 

@@ -8,7 +8,7 @@ use Rattle.mt_interior.specs.Fences.{end_of}
 use Rattle.mt_arena.specs.{NodeView.{NodeView, node_at}, Nodes.{AreNodes, HasRange}, Ranges.{IsRanged, AreRanged, AreTied, IsLeftHalf, Waits}}
 use Rattle.mt_arena.specs.{Edits.{retired, splitting, fresh_half}, Unlinks.{Unlinks, joined, without_child}}
 use Rattle.mt_arena.specs.Splits.{Splits, left_half, right_half, with_child, exact, inner_left, inner_right}
-use Rattle.mt_arena.specs.Growth.{AreRootHalves, fresh_top, left_below, right_below}
+use Rattle.mt_arena.specs.{Growth.{AreRootHalves, left_below, right_below}, Several.halves_below}
 use Rattle.mt_arena.proofs.{Pairs.{here, there, nodes_set, pairs_set2, pairs_set3}, Naming.each_set2, Unlink.{differ_ij, differ_iq, differ_jq}}
 use Rattle.mt_arena.proofs.Ranged.{stays, IsBeside, all_beside, no_wait, tied_to, ranged_from, ranged_set, ranged_marked, with_range, ranged_push, ranged_more}
 
@@ -75,42 +75,42 @@ ranged_insert_child xs i j s q li lj differ ranged =
     exact_beside xs i j y differ lj (ranged_set xs i y li ranged (record { next = h.next; parent = h.parent; unmarked = h.unmarked; interior = h.interior; named = h.named; fits = h.fits })
     (stays (node_at xs i) y refl refl (λ range. range) refl refl refl) refl (λ waits. (waits, refl)))
 
--- an interior node that is parted, and its right half, have one each
-pub ranged_parts : (xs : List NodeView) (i j s q op : ℕ) → i < length xs → j < length xs → i ≢ j → AreNodes xs → AreRanged xs → (node_at xs i).next ≡ None
+-- an interior node that is parted has one, and so has its right half
+pub ranged_parts_left : (xs : List NodeView) (i j s q op : ℕ) → i < length xs → j < length xs → i ≢ j → AreRanged xs
+    → HasRange (inner_left (with_child (splitting (node_at xs i)) s q)) → HasRange (inner_right (with_child (splitting (node_at xs i)) s q) op)
+    → AreRanged (set (set xs i (inner_left (with_child (splitting (node_at xs i)) s q))) j (exact (node_at xs j)))
+ranged_parts_left xs i j s q op li lj differ ranged left right =
+    let x = node_at xs i in
+    let y = inner_left (with_child (splitting x) s q) in
+    let fits = (ranged.each i li).fits (omega (arith, left, right)) in
+    exact_beside xs i j y differ lj (ranged_set xs i y li ranged (with_range y left (omega (arith, right, fits))) (record { live = λ live. live; was = λ live. live; range = λ _. left; marked = λ _. refl; tree = refl; level = refl; holder = refl }) refl (λ waits. absurd (no_wait y left waits)))
+
+pub ranged_parts : (xs : List NodeView) (i j s q op : ℕ) → i < length xs → j < length xs → i ≢ j → AreNodes xs → AreRanged xs
     → HasRange (inner_left (with_child (splitting (node_at xs i)) s q)) → HasRange (inner_right (with_child (splitting (node_at xs i)) s q) op)
     → AreRanged (set (set xs i (inner_left (with_child (splitting (node_at xs i)) s q))) j (exact (node_at xs j)) ++ inner_right (with_child (splitting (node_at xs i)) s q) op ∷ [])
-ranged_parts xs i j s q op li lj differ nodes ranged none left right =
-    let x = node_at xs i in
-    let wide = with_child (splitting x) s q in
+ranged_parts xs i j s q op li lj differ nodes ranged left right =
+    let wide = with_child (splitting (node_at xs i)) s q in
     let y = inner_left wide in
     let z = exact (node_at xs j) in
     let ws = set (set xs i y) j z in
     let size : length ws ≡ length xs = length-set (set xs i y) j z ∙ length-set xs i y in
-    let fits = (ranged.each i li).fits (omega (arith, left, right)) in
     ranged_more ws (inner_right wide op)
     (λ k lk. subst (λ c. IsBeside c (node_at ws k)) (sym size) (each_set2 (λ k n. IsBeside (length xs) n) xs i j y z li lj differ (all_beside xs nodes i li) (all_beside xs nodes j lj) (λ k lk _ _. all_beside xs nodes k lk) k (omega (arith, lk, size))))
-    (exact_beside xs i j y differ lj (ranged_set xs i y li ranged (with_range y left (omega (arith, right, fits))) (record { live = λ live. live; was = λ live. live; range = λ _. left; marked = λ _. refl; tree = refl; level = refl; holder = refl }) refl (λ waits. absurd (no_wait y left waits))))
-    right fits refl
+    (ranged_parts_left xs i j s q op li lj differ ranged left right) right ((ranged.each i li).fits (omega (arith, left, right))) refl
 
--- the halves of a root have one each, and the new root has the whole one
-pub ranged_root_grow : (xs : List NodeView) (i j op : ℕ) → AreNodes xs → AreRanged xs → AreRootHalves xs i j
-    → AreRanged (set (set xs i (left_below (node_at xs i) (length xs))) j (right_below (node_at xs j) (length xs)) ++ fresh_top (node_at xs i) i (node_at xs j).low j op ∷ [])
-ranged_root_grow xs i j op nodes ranged f =
+-- the halves of a root have one each below a new root
+pub ranged_halves_below : (xs : List NodeView) (i j top : ℕ) → AreRanged xs → AreRootHalves xs i j → AreRanged (halves_below xs i j top)
+ranged_halves_below xs i j top ranged f =
     let x = node_at xs i in
     let r = node_at xs j in
-    let y = left_below x (length xs) in
-    let z = right_below r (length xs) in
-    let ws = set (set xs i y) j z in
-    let size : length ws ≡ length xs = length-set (set xs i y) j z ∙ length-set xs i y in
+    let y = left_below x top in
+    let z = right_below r top in
     let left : HasRange y = omega (arith, f.left_low, f.above, ap end_of f.fence) in
     let right : HasRange z = omega (arith, f.below, ap end_of f.right_high) in
     let one = ranged_set xs i y f.left_there ranged (with_range y left ((ranged.each i f.left_there).fits left)) (stays x y refl refl (λ range. range) refl refl refl) refl (λ waits. absurd (no_wait y left waits)) in
     let at_j : node_at (set xs i y) j ≡ r = there xs i j y (λ e. f.differ (sym e)) in
-    let two = ranged_set (set xs i y) j z (omega (arith, f.right_there, length-set xs i y)) one (with_range z right ((ranged.each j f.right_there).fits right))
-    (rw at_j (stays r z refl refl (λ range. range) refl refl refl)) (rw at_j refl) (λ waits. absurd (no_wait z right waits)) in
-    ranged_more ws (fresh_top x i r.low j op)
-    (λ k lk. subst (λ c. IsBeside c (node_at ws k)) (sym size) (each_set2 (λ k n. IsBeside (length xs) n) xs i j y z f.left_there f.right_there f.differ (all_beside xs nodes i f.left_there) (all_beside xs nodes j f.right_there) (λ k lk _ _. all_beside xs nodes k lk) k (omega (arith, lk, size))))
-    two (omega arith) (omega arith) refl
+    ranged_set (set xs i y) j z (omega (arith, f.right_there, length-set xs i y)) one (with_range z right ((ranged.each j f.right_there).fits right))
+    (rw at_j (stays r z refl refl (λ range. range) refl refl refl)) (rw at_j refl) (λ waits. absurd (no_wait z right waits))
 
 -- the left neighbour of a node that is taken out ends where that ended; nobody waits at a node that is not being split
 pub ranged_unlinked : (xs : List NodeView) (i j q a : ℕ) → AreNodes xs → AreRanged xs → Unlinks xs i j q a

@@ -1,5 +1,5 @@
 -- Where all nodes are renumbered, all that holds of an arena holds again, and the contents stand: for `renumber`.
-use Rattle.std.proofs.Common.{◌≡◌, ◌≢◌, ℕ, zero, suc, ◌<◌, List, [], ◌∷◌, ◌++◌, length, Option, Bool, false, refl, sym, ap, subst, ◌∙◌, arith}
+use Rattle.std.proofs.Common.{◌≡◌, ◌≢◌, ℕ, zero, suc, ◌<◌, List, [], ◌∷◌, ◌++◌, length, Option, Bool, true, false, refl, sym, ap, subst, ◌∙◌, arith}
 use Rattle.std.proofs.lemmas.List.{length-map}
 use Rattle.std.specs.{Prelude.{if◌then◌else◌}, List.flat_map}
 use Rattle.mt_slices.specs.declared.mark.Mark.TheVariants.{Short, Long}
@@ -120,6 +120,8 @@ forest_so s nodes trees h = record {
       (home_so s k t (node_at nodes k) (tree_at trees t) (h.homes k t (omega (arith, lt, size-renumbered s nodes)) lt_t));
   each = λ t lt. subst (λ count. IsTree count (tree_at trees t)) (sym (size-renumbered s nodes)) (h.each t lt);
   begins = begins_so s nodes trees h.begins;
+  emptied = λ k lt. subst (λ (n : NodeView). n.version.deleted ≡ true → n.slots ≡ []) (sym (at-renumbered s nodes k))
+      (λ out. ap (all_restamped s) (h.emptied k (omega (arith, lt, size-renumbered s nodes)) out));
   peers = h.peers;
   top = h.top;
 }

@@ -111,6 +111,34 @@ border_given xs trees gone r rest y are live =
       of_trees = are.of_trees;
     }
 
+-- so is that of an interior node
+neither_idle : (a b : Bool) → (a && not b) ≡ true → (a && b) ≡ false
+neither_idle true true one = absurd (cc)
+neither_idle true false one = refl
+neither_idle false b one = refl
+
+pub interior_given : (xs : List NodeView) (trees : List Tree) (gone : RetiredPlaces) (r : Retired) (rest : List Retired) (y : NodeView)
+    → AreRetired xs trees (record gone { interiors = r ∷ rest }) → y.version.deleted ≡ false
+    → AreRetired (set xs r.place y) trees (record gone { interiors = rest })
+interior_given xs trees gone r rest y are live =
+    let x = node_at xs r.place in
+    let idle : is_idle_interior x ≡ true = are.of_interiors.idle_there 0 (omega arith) in
+    record {
+      of_borders = listed_same is_idle_border no_node xs gone.borders r.place y (are.of_interiors.there 0 (omega arith)) are.of_borders
+          (used_border y live ∙ sym (neither_idle x.version.deleted (x.level == 0) idle));
+      of_interiors = listed_give is_idle_interior no_node xs r rest y are.of_interiors (used_interior y live);
+      of_trees = are.of_trees;
+    }
+
+-- and the record of a dead tree, to one that isn't dead
+pub tree_given : (xs : List NodeView) (trees : List Tree) (gone : RetiredPlaces) (r : Retired) (rest : List Retired) (u : Tree)
+    → AreRetired xs trees (record gone { trees = r ∷ rest }) → is_idle_tree u ≡ false → AreRetired xs (set trees r.place u) (record gone { trees = rest })
+tree_given xs trees gone r rest u are used = record {
+  of_borders = are.of_borders;
+  of_interiors = are.of_interiors;
+  of_trees = listed_give is_idle_tree no_tree trees r rest u are.of_trees used;
+}
+
 -- a live node's place is none of the idle ones, so that these are fewer than all; nor is that of a tree that isn't dead
 pub borders_few : (xs : List NodeView) (trees : List Tree) (gone : RetiredPlaces) (i : ℕ) → i < length xs → AreRetired xs trees gone
     → (node_at xs i).version.deleted ≡ false → length gone.borders < length xs

@@ -1,13 +1,15 @@
 -- What lags behind a node while an operation makes a layer at one of its slots: for the laws.
-use Rattle.std.proofs.Common.{◌≡◌, ◌≢◌, ℕ, zero, suc, ◌+◌, ◌<◌, List, [], ◌∷◌, ◌++◌, length, get_or, set, true, false, Some, None, refl, sym, ap, subst, ◌∙◌, inl, inr, arith, length-append}
+use Rattle.std.proofs.Common.{◌≡◌, ◌≢◌, ℕ, zero, suc, ◌<◌, List, [], ◌∷◌, length, get_or, set, true, false, Some, None, refl, sym, ap, subst, ◌∙◌, inl, inr, arith}
 use Rattle.std.proofs.{lemmas.Bool.cases_eq, lemmas.List.{length-set, get_or-set_same, get_or-set_other}, lemmas.List.Elements.All-from_get_or}
 use Rattle.std.specs.List.{All, remove}
 use Rattle.mt_version.specs.Parts.{Parts}
 use Rattle.mt_border.{specs.{declared.entry.Entry.Entry, Held.Held}, proofs.Edits.{any_entry, All-remove, replaced_at}}
 use Rattle.mt_arena.specs.{declared.tree.Tree.Tree, NodeView.{NodeView, node_at}, NodeFacts.IsUnstable, Nodes.AreNodes, Layers.slot_at}
 use Rattle.mt_arena.specs.{Guarantee.{NodesGuarantee, PointsOnly}, Arena.ArenaView, Accesses.at, Settled.IsSettled, Lags.{Follows, IsUnder}}
-use Rattle.mt_arena.specs.Layering.{IsSettledBut, root_of, with_held, with_layer}
-use Rattle.mt_arena.proofs.{Pairs.{here, there, last, before}, Settled.was_none, SlotPlaces.at_still, Lags.{follows_before, under_before}}
+use Rattle.mt_arena.specs.Layering.{IsSettledBut, tree_number, border_number, with_held, with_layer_at}
+use Rattle.mt_arena.specs.{Idle.{AreRetired, chosen}, Given.AreForgotten}
+use Rattle.mt_arena.proofs.{Pairs.{here, there}, Settled.was_none, SlotPlaces.at_still, Lags.{follows_before, under_before}}
+use Rattle.mt_arena.proofs.LayerIn.{RootIn, root_in}
 use Rattle.mt_rows.specs.Rows.{Bytes}
 
 abbrev IsCalm : Entry → Type 0
@@ -86,29 +88,25 @@ settled_but_stays op q old new were are k i guarantee points other within holder
     settled
 
 -- as a tree is made
-pub settled_but_made : (v : ArenaView) (prefix : Bytes) (e : Entry) (op k i : ℕ) → k < length v.nodes → IsSettledBut v.nodes k i
-    → IsSettledBut (with_layer v prefix e op).nodes k i
-settled_but_made v prefix e op k i within settled =
+pub settled_but_made : (v : ArenaView) (prefix : Bytes) (e : Entry) (least op k i : ℕ) → AreNodes v.nodes → AreRetired v.nodes v.trees v.retired
+    → AreForgotten least v → k < length v.nodes → (at v k).version.deleted ≡ false → IsSettledBut v.nodes k i
+    → IsSettledBut (with_layer_at v prefix e least op).nodes k i
+settled_but_made v prefix e least op k i nodes listed forgotten within live settled =
     let xs = v.nodes in
-    let y = root_of (length v.trees) e in
-    let ys = xs ++ y ∷ [] in
+    let ys : List NodeView = (with_layer_at v prefix e least op).nodes in
     let n = node_at xs k in
-    let size : length ys ≡ length xs + 1 = length-append xs (y ∷ []) in
-    subst (λ (m : NodeView). IsSettled ys k (record m { slots = remove m.slots i })) (sym (before xs y k within))
+    let h = border_number least v in
+    let made : RootIn v op least (tree_number least v) e (chosen v.retired.borders least) = root_in v op least e nodes listed forgotten (tree_number least v) in
+    let same : node_at ys k ≡ n = (made.node.others k (omega (arith, within, made.node.more)) (made.node.kept k within live)).1 in
+    subst (λ (m : NodeView). IsSettled ys k (record m { slots = remove m.slots i })) (sym same)
     (settled_as xs ys k (record n { slots = remove n.slots i }) (record n { slots = remove n.slots i })
-    (λ j is. elim (cases_eq j (length xs)) [
-      | inl same ↦ absurd (let none = ap (λ (m : NodeView). m.previous) (sym (last xs y)) ∙ ap (λ j. (node_at ys j).previous) (sym same) ∙ is.1 in cc)
-      | inr other ↦
-          let lt : j < length xs = omega (arith, is.0, other, size) in
-          let same = before xs y j lt in
-          (lt, ap (λ (m : NodeView). m.previous) (sym same) ∙ is.1, ap (λ (m : NodeView). m.version.deleted) (sym same) ∙ is.2)
+    (λ j is. elim (cases_eq j h) [
+      | inl own ↦ absurd (let none = ap (λ (m : NodeView). m.previous) (sym made.node.is) ∙ ap (λ j. (node_at ys j).previous) (sym own) ∙ is.1 in cc)
+      | inr other ↦ let was = made.node.others j is.0 other in (was.0, ap (λ (m : NodeView). m.previous) (sym was.1) ∙ is.1, ap (λ (m : NodeView). m.version.deleted) (sym was.1) ∙ is.2)
     ])
-    (λ j is. elim (cases_eq j (length xs)) [
-      | inl same ↦ absurd (let none = ap (λ (m : NodeView). m.parent) (sym (last xs y)) ∙ ap (λ j. (node_at ys j).parent) (sym same) ∙ is.1 in cc)
-      | inr other ↦
-          let lt : j < length xs = omega (arith, is.0, other, size) in
-          let same = before xs y j lt in
-          (lt, ap (λ (m : NodeView). m.parent) (sym same) ∙ is.1, ap (λ (m : NodeView). m.version.deleted) (sym same) ∙ is.2)
+    (λ j is. elim (cases_eq j h) [
+      | inl own ↦ absurd (let none = ap (λ (m : NodeView). m.parent) (sym made.node.is) ∙ ap (λ j. (node_at ys j).parent) (sym own) ∙ is.1 in cc)
+      | inr other ↦ let was = made.node.others j is.0 other in (was.0, ap (λ (m : NodeView). m.parent) (sym was.1) ∙ is.1, ap (λ (m : NodeView). m.version.deleted) (sym was.1) ∙ is.2)
     ])
     (record { next = refl; children = refl; deleted = refl; high = refl; reach = refl; rooted = λ was. was }) settled.stable settled)
 

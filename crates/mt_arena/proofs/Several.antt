@@ -82,17 +82,21 @@ guarantee_beside : (op : ℕ) (xs ys : List NodeView) (trees : List Tree) (j : �
 guarantee_beside op xs ys trees j z lj same may =
     guarantee_set op ys trees j z lj (subst (λ (n : NodeView). Changes op n z) (sym same) may.changes) (λ q e. may.mine q (ap (λ (n : NodeView). (tree_at trees n.tree).standing) (sym same) ∙ e))
 
+-- the tree of each node is there
+abbrev pub AreOfTrees : List NodeView → List Tree → Type 0
+AreOfTrees xs trees = (k : ℕ) → k < length xs → (node_at xs k).tree < length trees
+
 pub guarantee_set2 : (op : ℕ) (xs : List NodeView) (trees : List Tree) (i j : ℕ) (y z : NodeView) → i < length xs → j < length xs → i ≢ j
-    → IsForest xs trees → MayTurn op trees (node_at xs i) y → MayTurn op trees (node_at xs j) z
+    → AreOfTrees xs trees → MayTurn op trees (node_at xs i) y → MayTurn op trees (node_at xs j) z
     → NodesGuarantee op xs (set (set xs i y) j z) trees trees
-guarantee_set2 op xs trees i j y z li lj ij forest one two =
+guarantee_set2 op xs trees i j y z li lj ij inside one two =
     guarantee_on op xs (set xs i y) (set (set xs i y) j z) trees trees trees (guarantee_set op xs trees i y li one.changes one.mine)
-    (guarantee_beside op xs (set xs i y) trees j z (omega (arith, lj, length-set xs i y)) (there xs i j y (λ e. ij (sym e))) two) forest.tree_there
+    (guarantee_beside op xs (set xs i y) trees j z (omega (arith, lj, length-set xs i y)) (there xs i j y (λ e. ij (sym e))) two) inside
 
 pub guarantee_set3 : (op : ℕ) (xs : List NodeView) (trees : List Tree) (i j q : ℕ) (y z w : NodeView) → i < length xs → j < length xs → q < length xs
-    → i ≢ j → i ≢ q → j ≢ q → IsForest xs trees → MayTurn op trees (node_at xs i) y → MayTurn op trees (node_at xs j) z
+    → i ≢ j → i ≢ q → j ≢ q → AreOfTrees xs trees → MayTurn op trees (node_at xs i) y → MayTurn op trees (node_at xs j) z
     → MayTurn op trees (node_at xs q) w
     → NodesGuarantee op xs (set (set (set xs i y) j z) q w) trees trees
-guarantee_set3 op xs trees i j q y z w li lj lq ij iq jq forest one two three =
-    guarantee_on op xs (set (set xs i y) j z) (set (set (set xs i y) j z) q w) trees trees trees (guarantee_set2 op xs trees i j y z li lj ij forest one two)
-    (guarantee_beside op xs (set (set xs i y) j z) trees q w (omega (arith, lq, length-set xs i y, length-set (set xs i y) j z)) (there (set xs i y) j q z (λ e. jq (sym e)) ∙ there xs i q y (λ e. iq (sym e))) three) forest.tree_there
+guarantee_set3 op xs trees i j q y z w li lj lq ij iq jq inside one two three =
+    guarantee_on op xs (set (set xs i y) j z) (set (set (set xs i y) j z) q w) trees trees trees (guarantee_set2 op xs trees i j y z li lj ij inside one two)
+    (guarantee_beside op xs (set (set xs i y) j z) trees q w (omega (arith, lq, length-set xs i y, length-set (set xs i y) j z)) (there (set xs i y) j q z (λ e. jq (sym e)) ∙ there xs i q y (λ e. iq (sym e))) three) inside

@@ -14,7 +14,7 @@ use Rattle.mt_border.proofs.{ContentsKeys.has_rewritten_key, ContentsEdits.keys-
 use Rattle.mt_arena.specs.{declared.tree.Tree.Tree, Idle.{RetiredPlaces, Rooms}, NodeView.{NodeView, node_at, place_at}, NodeFacts.IsUnstable, Nodes.Holds, Layers.slot_at}
 use Rattle.mt_arena.specs.{Forests.{HaveKeys, tree_at, layer_of}, Guarantee.{Changes, LosesHeld}, Edits.{inserting, with_slots, cells_with, cells_holding, cells_without}, Invariant.ArenaInvariant, Arena.{ArenaView, Guarantee}}
 use Rattle.mt_arena.specs.{Contents.content, Accesses.{at, tree_of, IsOpen, with_node, with_row, MayPublish, MayChange}}
-use Rattle.mt_arena.proofs.{Quiet.nodes_slots, Ranged.ranged_marked, Homes.begun, Owners.{published, stored, dropped}}
+use Rattle.mt_arena.proofs.{Quiet.nodes_slots, Ranged.ranged_marked, Homes.{begun, live_keys}, Owners.{published, stored, dropped}}
 use Rattle.mt_arena.proofs.LinkEdits.{HasLinksOf, links_insert, links_insert_back, links_set, links_set_back, links_remove, links_remove_back}
 use Rattle.mt_arena.proofs.{Locks.{not_others, is_held}, Steps.{sound_set, keys_of, step_set}}
 use Rattle.std.specs.FinMap as finite
@@ -38,13 +38,13 @@ pub record MayHold (trees : List Tree) (x : NodeView) (slots : List Entry) : Typ
 
 -- the whole invariant stands where a held border node gets slots that it may hold
 pub sound_slots : (xs : List NodeView) (trees : List Tree) (gone : RetiredPlaces) (room : Rooms) (i : ℕ) (slots : List Entry) (cells : Slotted) → i < length xs
-    → ArenaInvariant xs trees gone room → (node_at xs i).holder ≢ None → (node_at xs i).level ≡ 0
+    → ArenaInvariant xs trees gone room → (node_at xs i).holder ≢ None → (node_at xs i).version.deleted ≡ false → (node_at xs i).level ≡ 0
     → MayHold trees (node_at xs i) slots → ArenaInvariant (set xs i (with_slots (node_at xs i) slots cells)) trees gone room
-sound_slots xs trees gone room i slots cells within sound held level may =
+sound_slots xs trees gone room i slots cells within sound held live level may =
     let x = node_at xs i in
     sound_set xs trees gone room i (with_slots x slots cells) within sound (nodes_slots xs i slots cells within sound.arena.nodes held level may.border (within_all x slots may.inside)) (ranged_marked xs i slots cells (with_slots x slots cells).version within sound.arena.ranged refl (λ marked. marked) (λ whole. whole))
     record { tree = refl; level = refl; low = refl; deleted = refl; flag = refl; root = λ r. record { live = r.live; flag = r.flag; parentless = r.parentless; low = r.low; reach = r.reach } }
-    may.keys
+    (live_keys trees (with_slots x slots cells) live may.keys)
     record { tree = refl; deleted = refl; forth = may.forth; back = may.back }
     record { next = refl; children = refl }
 
@@ -202,7 +202,7 @@ module _ (v : ArenaView) (room : Rooms) (k op : ℕ) (key : Bytes) (sound : Aren
 
   pub sound_published : (e : Entry) → MayPublish v k op key e → ArenaInvariant (set v.nodes k (with_slots n (with_entry n.slots e) (cells_with n.cells (place_in n.slots (order_of e)) e))) v.trees v.retired room
   sound_published e may =
-      sound_slots v.nodes v.trees v.retired room k (with_entry n.slots e) (cells_with n.cells (place_in n.slots (order_of e)) e) may.held.there sound (is_held op n may.held.holder) may.belongs.border.level
+      sound_slots v.nodes v.trees v.retired room k (with_entry n.slots e) (cells_with n.cells (place_in n.slots (order_of e)) e) may.held.there sound (is_held op n may.held.holder) may.belongs.border.live may.belongs.border.level
       (may_publish v.nodes v.trees v.retired room k may.held.there sound e key may.room may.entry may.missing (subst (Holds n) (sym may.has.slice) may.belongs.holds) may.stable may.has
       (λ none. begun_mark key (layer_of (tree_of v k).prefix) may.belongs.begun (sym may.has.mark ∙ none)))
 
@@ -222,7 +222,7 @@ module _ (v : ArenaView) (room : Rooms) (k op : ℕ) (key : Bytes) (sound : Aren
     pub sound_stored : (row : Columns) (stamp : ℕ)
         → ArenaInvariant (set v.nodes k (with_slots n (replaced n.slots (with_row was pair row stamp)) (cells_holding n.cells i (with_row was pair row stamp).held))) v.trees v.retired room
     sound_stored row stamp =
-        sound_slots v.nodes v.trees v.retired room k (replaced n.slots (with_row was pair row stamp)) (cells_holding n.cells i (with_row was pair row stamp).held) may.held.there sound (is_held op n may.held.holder) may.level
+        sound_slots v.nodes v.trees v.retired room k (replaced n.slots (with_row was pair row stamp)) (cells_holding n.cells i (with_row was pair row stamp).held) may.held.there sound (is_held op n may.held.holder) may.stands.live may.level
         (may_store v.nodes v.trees v.retired room k may.held.there sound i pair row stamp may.stands.in_range may.stable)
 
     pub content_stored : (row : Columns) (stamp : ℕ)
@@ -233,7 +233,7 @@ module _ (v : ArenaView) (room : Rooms) (k op : ℕ) (key : Bytes) (sound : Aren
 
     pub sound_dropped : ArenaInvariant (set v.nodes k (with_slots n (without n.slots was) (cells_without n.cells i))) v.trees v.retired room
     sound_dropped =
-        sound_slots v.nodes v.trees v.retired room k (without n.slots was) (cells_without n.cells i) may.held.there sound (is_held op n may.held.holder) may.level
+        sound_slots v.nodes v.trees v.retired room k (without n.slots was) (cells_without n.cells i) may.held.there sound (is_held op n may.held.holder) may.stands.live may.level
         (may_drop v.nodes v.trees v.retired room k may.held.there sound i may.stands.in_range is_stable)
 
     pub content_dropped : content v.trees (set v.nodes k (with_slots n (without n.slots was) (cells_without n.cells i))) ≡ finite.remove (content v.trees v.nodes) (owned key)

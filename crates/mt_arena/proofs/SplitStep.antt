@@ -7,7 +7,7 @@ use Rattle.mt_border.{specs.{declared.entry.Entry.Entry, Held.Link}, proofs.Edit
 use Rattle.mt_arena.specs.{declared.tree.Tree.Tree, declared.tree.Standing.TheVariants.Made, Idle.{RetiredPlaces, Rooms}, NodeView.{NodeView, node_at}}
 use Rattle.mt_arena.specs.{Forests.{IsForest, tree_at, HaveKeys}, Layers.{AreLayered, AreLinks, HasLink, slot_at}, Guarantee.{NodesGuarantee, Changes}}
 use Rattle.mt_arena.specs.{Invariant.ArenaInvariant, Splits.{Splits, left_half, right_half}}
-use Rattle.mt_arena.proofs.{Pairs.{here, there}, Homes.{KeepsHome, forest_set}, LinkEdits.{HasSlot, HasLinksOf}, Retiring.retired_set, Naming.each_set2, NamedLate.{KeepsNames, names_stand, named_kept}}
+use Rattle.mt_arena.proofs.{Pairs.{here, there}, Homes.{KeepsHome, forest_set, live_keys}, LinkEdits.{HasSlot, HasLinksOf}, Retiring.retired_set, Naming.each_set2, NamedLate.{KeepsNames, names_stand, named_kept}}
 use Rattle.mt_arena.proofs.{RangedEdits.ranged_split_move, Move.nodes_split_move, Guarantees.{guarantee_set, guarantee_on}}
 use Rattle.mt_arena.proofs.HeldChanges.{changes_left_half, changes_right_half}
 
@@ -52,9 +52,9 @@ module _ (xs : List NodeView) (trees : List Tree) (i j : ℕ) (kept moved : List
   forest_split : IsForest xs trees → HaveKeys (tree_at trees x.tree).prefix kept → HaveKeys (tree_at trees r.tree).prefix moved
       → r.version.root ≡ false → IsForest zs trees
   forest_split forest left right no_root =
-      let one = forest_set xs trees i y li forest (record { tree = refl; level = refl; low = refl; deleted = refl; flag = refl; root = λ h. record { live = h.live; flag = h.flag; parentless = h.parentless; low = h.low; reach = h.reach } }) left in
+      let one = forest_set xs trees i y li forest (record { tree = refl; level = refl; low = refl; deleted = refl; flag = refl; root = λ h. record { live = h.live; flag = h.flag; parentless = h.parentless; low = h.low; reach = h.reach } }) (live_keys trees y s.live left) in
       forest_set ys trees j z ljy one
-      (subst (λ (n : NodeView). KeepsHome n z) (sym old_j) (record { tree = refl; level = refl; low = refl; deleted = refl; flag = refl; root = λ h. absurd (let e = h.flag in cc) })) right
+      (subst (λ (n : NodeView). KeepsHome n z) (sym old_j) (record { tree = refl; level = refl; low = refl; deleted = refl; flag = refl; root = λ h. absurd (let e = h.flag in cc) })) (live_keys trees z s.right_live right)
 
   layers_split : AreLayered xs trees → r.slots ≡ [] → HasLinksOf x.slots kept → HasLinksOf x.slots moved
       → ((a u : ℕ) → a < length x.slots → (get_or x.slots a any_entry).held ≡ Link u → HasSlot kept u (get_or x.slots a any_entry).slice ⊎ HasSlot moved u (get_or x.slots a any_entry).slice)

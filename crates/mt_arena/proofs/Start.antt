@@ -1,5 +1,5 @@
 -- The invariant of an arena with an empty top tree: for `new`.
-use Rattle.std.proofs.Common.{◌≢◌, ℕ, zero, suc, ◌<◌, ◌≤◌, List, [], ◌∷◌, refl, arith}
+use Rattle.std.proofs.Common.{◌≡◌, ◌≢◌, ℕ, zero, suc, ◌<◌, ◌≤◌, List, [], ◌∷◌, true, refl, arith}
 use Rattle.mt_arena.specs.Idle.{Rooms, no_places}
 use Rattle.mt_arena.specs.{declared.tree.Tree.Tree, NodeView.{NodeView, node_at}, Forests.{IsForest, IsHome, IsTree, tree_at}, Layers.AreLinks}
 use Rattle.mt_arena.specs.{Edits.fresh_root, Invariant.ArenaInvariant, Accesses.top_tree}
@@ -28,6 +28,7 @@ first_forest = record {
   tree_there = λ k lt. by k lt;
   homes = λ k t lt lt_t. first_home k t lt lt_t;
   begins = begins_push [] first_trees (fresh_root 0) (λ _ border over. absurd (omega (arith, over))) (begins_none first_trees);
+  emptied = λ k lt. none k lt;
   each = λ t lt. at t lt;
   peers = λ t u lt lt_u. record { one_live = λ differ. absurd (differ (omega arith)) };
   top = record { there = omega arith; live = refl; prefix = refl };
@@ -36,6 +37,10 @@ first_forest = record {
     by : (k : ℕ) → k < 1 → (node_at first_nodes k).tree < 1
     by zero lt = omega arith
     by (suc k) lt = absurd (omega arith)
+
+    none : (k : ℕ) → k < 1 → (node_at first_nodes k).version.deleted ≡ true → (node_at first_nodes k).slots ≡ []
+    none zero lt out = refl
+    none (suc k) lt out = absurd (omega arith)
 
     at : (t : ℕ) → t < 1 → IsTree 1 (tree_at first_trees t)
     at zero lt = record { root_there = omega arith; whole = refl }

@@ -1,7 +1,7 @@
 -- The whole invariant and the guarantee where one node changes: for the calls that change one node.
 use Rattle.std.proofs.{Common.{ℕ, ◌<◌, List, length, set, refl, arith}, lemmas.List.length-set}
 use Rattle.mt_arena.specs.{declared.tree.Tree.Tree, Idle.{RetiredPlaces, Rooms}, NodeView.{NodeView, node_at}, Nodes.AreNodes, Ranges.AreRanged}
-use Rattle.mt_arena.specs.{Forests.IsForest, Guarantee.{Changes, LosesHeld}, Invariant.ArenaInvariant, Arena.{ArenaView, Guarantee}, Accesses.{at, IsOpen, with_node}}
+use Rattle.mt_arena.specs.{Forests.{IsForest, HaveKeys, tree_at}, Guarantee.{Changes, LosesHeld}, Invariant.ArenaInvariant, Arena.{ArenaView, Guarantee}, Accesses.{at, IsOpen, with_node}}
 use Rattle.mt_arena.proofs.{Homes.{KeepsHome, HasKeysOf, forest_set}, LinkEdits.{KeepsLinks, layers_set}, Retiring.retired_set, NamedLate.{KeepsNames, named_set}}
 use Rattle.mt_arena.proofs.Guarantees.{guarantee_set, points_set, PointsSo, lost_set}
 
@@ -23,8 +23,12 @@ sound_set xs trees gone room i y within sound nodes ranged home keys links names
 }
 
 -- the keys of a node are those of its tree
-pub keys_of : (xs : List NodeView) (trees : List Tree) (k : ℕ) → k < length xs → IsForest xs trees → HasKeysOf trees (node_at xs k)
+pub keys_of : (xs : List NodeView) (trees : List Tree) (k : ℕ) → k < length xs → IsForest xs trees → HaveKeys (tree_at trees (node_at xs k).tree).prefix (node_at xs k).slots
 keys_of xs trees k within forest = (forest.homes k (node_at xs k).tree within (forest.tree_there k within)).keys refl
+
+-- and it has none if it was taken out
+pub own_keys : (xs : List NodeView) (trees : List Tree) (k : ℕ) → k < length xs → IsForest xs trees → HasKeysOf trees (node_at xs k)
+own_keys xs trees k within forest = (keys_of xs trees k within forest, forest.emptied k within)
 
 -- one node changes: what others rely on
 pub step_set : (op : ℕ) (v : ArenaView) (i : ℕ) (y : NodeView) → i < length v.nodes → Changes op (at v i) y → IsOpen v i op

@@ -1,6 +1,6 @@
 -- A node that is taken out, and a tree's record that changes: for `Unlinking`, `Collapsing` and `DroppingLayer`.
 use Rattle.mt_border.proofs.KeptEntries.{entries_none}
-use Rattle.std.proofs.{Common.{◌≡◌, ◌≢◌, ℕ, ◌<◌, List, length, set, Some, refl, sym, ap, ◌∙◌, inl, inr, arith}, lemmas.Bool.cases_eq}
+use Rattle.std.proofs.{Common.{◌≡◌, ◌≢◌, ℕ, ◌<◌, List, [], length, set, Some, refl, sym, ap, ◌∙◌, inl, inr, arith}, lemmas.Bool.cases_eq}
 use Rattle.std.proofs.lemmas.List.{length-set, get_or-set_same, get_or-set_other}
 use Rattle.mt_version.proofs.Aging.{ages-deleted}
 use Rattle.mt_arena.specs.{declared.tree.Tree.Tree, declared.tree.Standing.Standing, declared.tree.Standing.TheVariants.{Made, Live, Dead}}
@@ -8,10 +8,10 @@ use Rattle.mt_arena.specs.{NodeView.{NodeView, node_at}, Forests.{IsForest, tree
 use Rattle.mt_arena.proofs.{Pairs.{here, there}, Begins.begins_set, HeldChanges.changes_held}
 
 -- trees and their nodes, where the node is no root of a tree that stands
-pub forest_retired : (xs : List NodeView) (trees : List Tree) (i : ℕ) → i < length xs → IsForest xs trees
+pub forest_retired : (xs : List NodeView) (trees : List Tree) (i : ℕ) → i < length xs → IsForest xs trees → (node_at xs i).slots ≡ []
     → ((t : ℕ) → t < length trees → (tree_at trees t).root ≡ i → (tree_at trees t).standing ≡ Dead)
     → IsForest (set xs i (retired (node_at xs i))) trees
-forest_retired xs trees i within forest no_root =
+forest_retired xs trees i within forest empty no_root =
     let x = node_at xs i in
     let y = retired x in
     let size = length-set xs i y in
@@ -31,6 +31,10 @@ forest_retired xs trees i within forest no_root =
         | inr other ↦ rw (there xs i k y other) (forest.homes k t (omega (arith, lt, size)) lt_t)
       ];
       begins = begins_set xs trees i y within (record { tree = refl; level = refl; low = refl; live = λ live. absurd (cc) }) forest.begins;
+      emptied = λ k lt. elim (cases_eq k i) [
+        | inl is ↦ rw (is, here xs i y within) (λ out. empty)
+        | inr other ↦ rw (there xs i k y other) (forest.emptied k (omega (arith, lt, size)))
+      ];
       each = λ t lt. let h = forest.each t lt in record { root_there = omega (arith, size, h.root_there); whole = h.whole };
       peers = forest.peers;
       top = forest.top;

@@ -9,7 +9,7 @@ use Rattle.mt_arena.specs.{Ranges.AreRanged, Forests.{IsForest, IsRoot, tree_at}
 use Rattle.mt_arena.specs.{Unlinks.{Unlinks, joined, without_child}, Invariant.ArenaInvariant, Arena.{ArenaView, Guarantee}, Accesses.at, Ways.HasSlots}
 use Rattle.mt_arena.specs.{Settled.IsSettled, Lags.IsFollowedBy, Removals.{MayUnlink, nodes_without, without_node}}
 use Rattle.mt_arena.proofs.{Pairs.{here, there}, Quiet.nodes_inserting, ChildPlace.child_place, Ranged.ranged_marked, RangedEdits.ranged_unlinked}
-use Rattle.mt_arena.proofs.{Unlink.nodes_unlinked, Locks.is_held, Homes.{KeepsHome, forest_set}, Steps.keys_of}
+use Rattle.mt_arena.proofs.{Unlink.nodes_unlinked, Locks.is_held, Homes.{KeepsHome, forest_set}, Steps.own_keys}
 use Rattle.mt_arena.proofs.{LinkEdits.{KeepsLinks, same_links, layers_set, layers_empty}, Retiring.{retired_set, border_retired}}
 use Rattle.mt_arena.proofs.NamedLate.{KeepsNames, names_stand, named_kept, named_live, named_border}
 use Rattle.mt_arena.proofs.{TakenOut.{forest_retired, changes_retired, standing_dead}, Slots.changes_inserting, HeldChanges.{changes_joined, changes_without_child}}
@@ -169,18 +169,18 @@ module _ (v : ArenaView) (room : Rooms) (parent left node step op : ℕ) (sound 
 
   forest_ys : IsForest ys v.trees
   forest_ys =
-      forest_set xs v.trees left y li sound.arena.forest (record { tree = refl; level = refl; low = refl; deleted = refl; flag = refl; root = λ root. absurd (left_child.knows root.parentless) }) (keys_of xs v.trees left li sound.arena.forest)
+      forest_set xs v.trees left y li sound.arena.forest (record { tree = refl; level = refl; low = refl; deleted = refl; flag = refl; root = λ root. absurd (left_child.knows root.parentless) }) (own_keys xs v.trees left li sound.arena.forest)
 
   no_root : (t : ℕ) → t < length v.trees → (tree_at v.trees t).root ≡ node → (tree_at v.trees t).standing ≡ Dead
   no_root t lt is = standing_dead ((tree_at v.trees t).standing) (λ stands. child.knows ((sound.arena.forest.homes node t lj lt).root_is is stands).parentless)
 
   forest_us : IsForest us v.trees
   forest_us =
-      subst (λ (n : NodeView). IsForest (set ys node (retired n)) v.trees) at_node (forest_retired ys v.trees node (omega (arith, lj, size_ys)) forest_ys no_root)
+      subst (λ (n : NodeView). IsForest (set ys node (retired n)) v.trees) at_node (forest_retired ys v.trees node (omega (arith, lj, size_ys)) forest_ys (ap (λ (n : NodeView). n.slots) at_node ∙ may.empty) no_root)
 
   forest_out : IsForest new v.trees
   forest_out =
-      forest_set us v.trees parent q (omega (arith, lq, size_us)) forest_us (subst (λ (n : NodeView). KeepsHome n q) (sym at_parent) keeps_parent) (keys_of xs v.trees parent lq sound.arena.forest)
+      forest_set us v.trees parent q (omega (arith, lq, size_us)) forest_us (subst (λ (n : NodeView). KeepsHome n q) (sym at_parent) keeps_parent) (own_keys xs v.trees parent lq sound.arena.forest)
 
   -- links, and the list of the retired
   keeps_left : KeepsLinks l y
@@ -248,7 +248,7 @@ module _ (v : ArenaView) (room : Rooms) (parent left node step op : ℕ) (sound 
   guarantee_out : Guarantee op v (record (without_node v parent left node step) { nodes = new })
   guarantee_out = record {
     nodes =
-        guarantee_set3 op xs v.trees left node parent y w q li lj lq apart_nodes apart_left apart_node sound.arena.forest turns_left turns_node turns_parent;
+        guarantee_set3 op xs v.trees left node parent y w q li lj lq apart_nodes apart_left apart_node sound.arena.forest.tree_there turns_left turns_node turns_parent;
     points =
         points_each op xs new (length-set us parent q ∙ size_us) (each_set3 (λ k n. PointsSo op new (at v k) n) xs left node parent y w q li lj lq apart_nodes apart_left apart_node
         (names_same op new l y refl refl) (names_same op new x w refl refl) (names_same op new p q refl refl) (λ k lt ni nj nq. names_same op new (at v k) (at v k) refl refl));

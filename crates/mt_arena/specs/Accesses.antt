@@ -1,10 +1,10 @@
 -- What the calls of an arena need and leave.
-use Rattle.std.specs.Prelude.{◌≡◌, ◌≢◌, ℕ, ◌*◌, ◌<◌, [], ◌∷◌, ◌++◌, length, Some, slice_set}
+use Rattle.std.specs.Prelude.{◌≡◌, ◌≢◌, ℕ, ◌*◌, ◌<◌, List, [], ◌∷◌, ◌++◌, length, Option, Some, None, slice_set}
 use Rattle.mt_rows.specs.Rows.{Bytes, Columns}
 use Rattle.mt_border.specs.{Contents.HasKey, Entry.{IsEntry, IsStablePair}, Entries.IsMissing, declared.entry.Entry.Entry, Held.{Pair, Stable}}
 use Rattle.mt_arena.specs.{Layers.slot_at, Ways.{BelongsIn, StandsFor}, declared.tree.Tree.Tree, declared.tree.Standing.TheVariants.{Made, Live}}
-use Rattle.mt_arena.specs.{NodeView.{NodeView, node_at}, Forests.{tree_at, layer_of}, Edits.{splitting, fresh_half, fresh_root}}
-use Rattle.mt_arena.specs.{Idle.no_places, Arena.ArenaView}
+use Rattle.mt_arena.specs.{NodeView.{NodeView, node_at}, Forests.{tree_at, layer_of}, Edits.{splitting, fresh_half, again_half, fresh_root}}
+use Rattle.mt_arena.specs.{Idle.{no_places, chosen, given_border}, Arena.ArenaView}
 
 -- the top tree of a new arena, and what such an arena shows
 abbrev pub top_tree : Tree
@@ -64,3 +64,12 @@ pub record IsFreshPrefix (v : ArenaView) (prefix : Bytes) : Type 0 where
 -- a node that is being split, and one more node, without range, as its right half
 abbrev pub with_half : ArenaView → ℕ → ℕ → ℕ → ArenaView
 with_half v k low op = record v { nodes = slice_set v.nodes k (splitting (at v k)) ++ fresh_half (at v k) k low op ∷ [] }
+
+-- the nodes with the right half in the chosen place, or else in a new one
+abbrev pub nodes_with_half : Option ℕ → ArenaView → ℕ → ℕ → ℕ → List NodeView
+nodes_with_half None v k low op = (with_half v k low op).nodes
+nodes_with_half (Some place) v k low op = slice_set (slice_set v.nodes k (splitting (at v k))) place (again_half (at v place) (at v k) k low op)
+
+-- a node that is being split, and its right half: in the place that is chosen by this step, or else in a new one
+abbrev pub with_half_at : ArenaView → ℕ → ℕ → ℕ → ℕ → ArenaView
+with_half_at v k low least op = record v { nodes = nodes_with_half (chosen v.retired.borders least) v k low op; retired = given_border v.retired least }

@@ -1,5 +1,5 @@
 -- What single edits make of a node, and what they need of the others.
-use Rattle.std.specs.Prelude.{◌≡◌, ◌≢◌, ℕ, ◌<◌, ◌⊎◌, ◌||◌, Bool, true, false, List, length, insert, remove, slice_set, slice_index, Option, Some, None}
+use Rattle.std.specs.Prelude.{◌≡◌, ◌≢◌, ℕ, ◌<◌, ◌⊎◌, ◌||◌, Bool, true, false, List, [], ◌∷◌, ◌++◌, length, insert, remove, slice_set, slice_index, Option, Some, None}
 use Rattle.mt_version.specs.{Parts.{Parts, fresh_parts}, Changes.{unlocked_parts, renewed}}
 use Rattle.mt_order.specs.Places.{order_with, order_without}
 use Rattle.mt_slices.specs.declared.mark.Mark.{Mark}
@@ -110,6 +110,20 @@ again_half old n left low op = record (fresh_half n left low op) { version = rec
 -- what stands in that place between the two: a live node in its new seat that nobody holds, without range, slots and children, which names nobody
 abbrev pub blank_again : NodeView → NodeView → ℕ → NodeView
 blank_again old n low = record no_node { low = low; high = Some low; reach = Some low; version = renewed old.version false; tree = n.tree; level = n.level }
+
+-- a new node in the place of one that was taken out: its counters go on
+abbrev pub again : NodeView → NodeView → NodeView
+again old n = record n { version = record (renewed old.version n.version.root) { locked = n.version.locked; splitting = n.version.splitting } }
+
+-- the version with which a node begins in the chosen place, and in a new one
+abbrev pub version_in : Option ℕ → List NodeView → Parts → Parts
+version_in None nodes fresh = fresh
+version_in (Some place) nodes fresh = renewed (node_at nodes place).version fresh.root
+
+-- the nodes with a new one in the chosen place, or else in a new place
+abbrev pub placed : Option ℕ → List NodeView → NodeView → List NodeView
+placed None nodes n = nodes ++ n ∷ []
+placed (Some place) nodes n = slice_set nodes place (again (node_at nodes place) n)
 
 -- the first node of a tree
 abbrev pub fresh_root : ℕ → NodeView

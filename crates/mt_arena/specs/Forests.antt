@@ -36,6 +36,10 @@ BeginsAtKey prefix n = n.version.deleted ≡ false → n.level ≡ 0 → 0 < n.l
 unfoldable pub AllBegin : List NodeView → List Tree → Type 0
 AllBegin nodes trees = (k : ℕ) → k < length nodes → BeginsAtKey (tree_at trees (node_at nodes k).tree).prefix (node_at nodes k)
 
+-- a node that was taken out has no slots
+abbrev pub AreEmptiedOut : List NodeView → Type 0
+AreEmptiedOut nodes = (k : ℕ) → k < length nodes → (node_at nodes k).version.deleted ≡ true → (node_at nodes k).slots ≡ []
+
 -- the root of a tree: it has the whole range, and its version says that it is one
 pub record IsRoot (n : NodeView) : Type 0 where
   pub live : n.version.deleted ≡ false
@@ -74,6 +78,7 @@ pub record IsForest (nodes : List NodeView) (trees : List Tree) : Type 0 where
   pub tree_there : (k : ℕ) → k < length nodes → (node_at nodes k).tree < length trees
   pub homes : (k t : ℕ) → k < length nodes → t < length trees → IsHome k (node_at nodes k) t (tree_at trees t)
   pub begins : AllBegin nodes trees
+  pub emptied : AreEmptiedOut nodes
   pub each : (t : ℕ) → t < length trees → IsTree (length nodes) (tree_at trees t)
   pub peers : (t u : ℕ) → t < length trees → u < length trees → ArePeers t (tree_at trees t) u (tree_at trees u)
   pub top : IsTop trees

@@ -1,8 +1,8 @@
 -- Which places an operation keeps back, and what stands between two arenas where places are given out again.
 use Rattle.std.specs.Prelude.{◌≡◌, ℕ, ◌<◌, ◌≤◌, ◌⊎◌, true, false, List, [], length, slice_index, slice_index_or, Some, None}
-use Rattle.mt_version.specs.Changes.{AgesOn}
-use Rattle.mt_arena.specs.{declared.retired.Retired.Retired, declared.tree.Tree.Tree, declared.tree.Standing.TheVariants.Dead}
-use Rattle.mt_arena.specs.{NodeView.{NodeView, node_at}, Forests.tree_at, Idle.{RetiredPlaces, place_of_idle}, Arena.ArenaView, Accesses.at}
+use Rattle.mt_version.specs.Changes.{AgesOn, CanRenew}
+use Rattle.mt_arena.specs.{declared.retired.Retired.Retired, declared.tree.Tree.Tree, declared.tree.Standing.TheVariants.{Made, Dead}}
+use Rattle.mt_arena.specs.{NodeView.{NodeView, node_at}, Forests.tree_at, Idle.{RetiredPlaces, place_of_idle}, Arena.{ArenaView, Guarantee, content_of}, Accesses.at}
 
 -- the step that took out one of a list
 abbrev pub step_of_idle : List Retired → ℕ → ℕ
@@ -68,6 +68,35 @@ pub record GivesOut (old new : ArenaView) : Type 0 where
   pub tree_count : length new.trees ≡ length old.trees
   pub nodes : (k : ℕ) → k < length old.nodes → (at new k ≡ at old k) ⊎ IsGiven (at old k) (at new k)
   pub trees : (t : ℕ) → t < length old.trees → (tree_at new.trees t ≡ tree_at old.trees t) ⊎ ((tree_at old.trees t).standing ≡ Dead)
+
+-- the place stands in the list, and this step or an earlier one took it out
+pub record IsOutBy (step : ℕ) (gone : List Retired) (place : ℕ) : Type 0 where
+  pub index : ℕ
+  pub within : index < length gone
+  pub place_is : place_of_idle gone index ≡ place
+  pub upto : step_of_idle gone index ≤ step
+
+-- the place of a node is idle so
+abbrev pub IsNodeOutBy : ℕ → RetiredPlaces → ℕ → Type 0
+IsNodeOutBy step gone k = IsOutBy step gone.borders k ⊎ IsOutBy step gone.interiors k
+
+-- nobody holds a node that this step or an earlier one took out, and its version has room for one split more
+abbrev pub AreForgotten : ℕ → ArenaView → Type 0
+AreForgotten step v = (k : ℕ) → IsNodeOutBy step v.retired k → (at v k).holder ≡ None
+
+abbrev pub MayRenew : ℕ → ArenaView → Type 0
+MayRenew step v = (k : ℕ) → IsNodeOutBy step v.retired k → CanRenew (at v k).version
+
+-- what a step of an operation that may give places out leaves to all others. First blank nodes and other trees come into places that step `least` or an
+-- earlier one took out, and no node comes into a tree that another operation makes. From there on it is a step as any other
+pub record StepsFrom (least op : ℕ) (old new : ArenaView) : Type 0 where
+  pub mid : ArenaView
+  pub gives : GivesOut old mid
+  pub nodes_out : (k : ℕ) → (at mid k ≡ at old k) ⊎ IsNodeOutBy least old.retired k
+  pub trees_out : (t : ℕ) → (tree_at mid.trees t ≡ tree_at old.trees t) ⊎ IsOutBy least old.retired.trees t
+  pub into : (k q : ℕ) → k < length old.nodes → IsGiven (at old k) (at mid k) → (tree_at old.trees (at mid k).tree).standing ≡ Made q → q ≡ op
+  pub contents : content_of mid ≡ content_of old
+  pub step : Guarantee op mid new
 
 -- operation o is none of those that it concerns: the tree of each node that it holds is as it was
 pub record GivesOutBeside (o : ℕ) (old new : ArenaView) : Type 0 where

@@ -1,5 +1,5 @@
 -- The places of nodes and trees that were taken out: each stands once in the list of its kind, and no other does.
-use Rattle.std.specs.Prelude.{◌≡◌, ◌≢◌, ℕ, ◌+◌, ◌<◌, ◌==◌, ◌&&◌, not, Bool, true, false, List, [], ◌∷◌, ◌++◌, length, map, if◌then◌else◌, min, slice_index_or}
+use Rattle.std.specs.Prelude.{◌≡◌, ◌≢◌, ℕ, ◌+◌, ◌<◌, ◌==◌, ◌&&◌, nat_le, not, Bool, true, false, List, [], ◌∷◌, ◌++◌, length, map, if◌then◌else◌, min, slice_index_or, Option, Some, None}
 use Rattle.mt_arena.specs.{declared.arena.TheConstants.MOST, declared.retired.Retired.Retired, declared.tree.Tree.Tree, declared.tree.Standing.Standing}
 use Rattle.mt_arena.specs.{declared.tree.Standing.TheVariants.{Made, Live, Dead}, NodeView.{NodeView, no_node}, Forests.no_tree}
 
@@ -53,6 +53,33 @@ out_at step gone = map (retired_by step) gone
 
 abbrev pub all_out_at : ℕ → RetiredPlaces → RetiredPlaces
 all_out_at step gone = record { borders = out_at step gone.borders; interiors = out_at step gone.interiors; trees = out_at step gone.trees }
+
+-- the place of a list that is given out: the first one, if this step or an earlier one took it out; and the list that is left
+abbrev pub chosen : List Retired → ℕ → Option ℕ
+chosen [] least = None
+chosen (r ∷ gone) least = if nat_le r.step least then Some r.place else None
+
+abbrev pub left_of : List Retired → ℕ → List Retired
+left_of [] least = []
+left_of (r ∷ gone) least = if nat_le r.step least then gone else r ∷ gone
+
+abbrev pub given_border : RetiredPlaces → ℕ → RetiredPlaces
+given_border gone least = record gone { borders = left_of gone.borders least }
+
+abbrev pub given_interior : RetiredPlaces → ℕ → RetiredPlaces
+given_interior gone least = record gone { interiors = left_of gone.interiors least }
+
+abbrev pub given_tree : RetiredPlaces → ℕ → RetiredPlaces
+given_tree gone least = record gone { trees = left_of gone.trees least }
+
+-- the place of a border node and that of a tree
+abbrev pub given_layer : RetiredPlaces → ℕ → RetiredPlaces
+given_layer gone least = given_tree (given_border gone least) least
+
+-- the number of the place: the chosen one, or else that of a new one behind so many
+abbrev pub number_of : Option ℕ → ℕ → ℕ
+number_of None count = count
+number_of (Some place) count = place
 
 -- a border node that was taken out, such an interior node, and a dead tree
 abbrev pub is_idle_border : NodeView → Bool

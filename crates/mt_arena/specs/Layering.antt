@@ -1,11 +1,12 @@
 -- What the calls that make a layer need, and what they leave.
-use Rattle.std.specs.{Prelude.{◌≡◌, ℕ, ◌<◌, false, List, [], ◌∷◌, ◌++◌, length, Some, None, slice_set}, List.remove}
+use Rattle.std.specs.{Prelude.{◌≡◌, ℕ, ◌<◌, false, List, [], ◌∷◌, ◌++◌, length, Option, Some, None, slice_set}, List.remove}
+use Rattle.mt_arena.specs.{declared.tree.Tree.Tree, Idle.{chosen, number_of, given_layer}}
 use Rattle.mt_slices.specs.{Slices.{slice_of, mark_of, suffix_of, piece_bytes}, declared.mark.Mark.TheVariants.Long}
 use Rattle.mt_rows.specs.Rows.{Bytes, Columns}
 use Rattle.mt_border.specs.{Contents.HasKey, Entry.{IsEntry, IsStablePair}, Entries.replaced, Slots.fresh_slots, declared.entry.Entry.Entry}
 use Rattle.mt_border.specs.Held.{Pair, Held, Stable, Unstable, Link}
 use Rattle.mt_arena.specs.{declared.tree.Standing.TheVariants.{Made, Live}, NodeView.{NodeView, node_at}, Forests.{HaveKeys, tree_at, layer_of}, Layers.slot_at}
-use Rattle.mt_arena.specs.{Ways.IsMadeFor, Settled.IsSettled, Edits.{with_slots, cells_holding, cells_with, fresh_root}, Arena.ArenaView, Accesses.{at, tree_of, IsHeld, IsFreshPrefix}}
+use Rattle.mt_arena.specs.{Ways.IsMadeFor, Settled.IsSettled, Edits.{with_slots, cells_holding, cells_with, fresh_root, placed}, Arena.ArenaView, Accesses.{at, tree_of, IsHeld, IsFreshPrefix}}
 
 -- a tree of this prefix may be made of this entry alone: it has a pair of a key that begins so, and no live tree has the prefix
 pub record MayMakeLayer (v : ArenaView) (prefix : Bytes) (e : Entry) : Type 0 where
@@ -23,6 +24,30 @@ abbrev pub with_layer : ArenaView → Bytes → Entry → ℕ → ArenaView
 with_layer v prefix e op = record v {
   nodes = v.nodes ++ root_of (length v.trees) e ∷ [];
   trees = v.trees ++ (record { prefix = prefix; root = length v.nodes; standing = Made op }) ∷ [];
+}
+
+-- a tree of this root, which the operation makes
+abbrev pub layer_tree : Bytes → ℕ → ℕ → Tree
+layer_tree prefix root op = record { prefix = prefix; root = root; standing = Made op }
+
+-- the trees with one more in the chosen place, or else in a new one
+abbrev pub placed_tree : Option ℕ → List Tree → Tree → List Tree
+placed_tree None trees tree = trees ++ tree ∷ []
+placed_tree (Some place) trees tree = slice_set trees place tree
+
+-- the numbers of a tree that is made and of its root: those of the places that are chosen by this step, or else those of new ones
+abbrev pub tree_number : ℕ → ArenaView → ℕ
+tree_number least v = number_of (chosen v.retired.trees least) (length v.trees)
+
+abbrev pub border_number : ℕ → ArenaView → ℕ
+border_number least v = number_of (chosen v.retired.borders least) (length v.nodes)
+
+-- the tree in its place, and its root in its own
+abbrev pub with_layer_at : ArenaView → Bytes → Entry → ℕ → ℕ → ArenaView
+with_layer_at v prefix e least op = record {
+  nodes = placed (chosen v.retired.borders least) v.nodes (root_of (tree_number least v) e);
+  trees = placed_tree (chosen v.retired.trees least) v.trees (layer_tree prefix (border_number least v) op);
+  retired = given_layer v.retired least;
 }
 
 -- slot i of a live border node of a live tree, which the operation holds, is that of a longer key and holds this

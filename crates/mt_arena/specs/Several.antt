@@ -6,8 +6,9 @@ use Rattle.mt_rows.specs.Rows.{Bytes}
 use Rattle.mt_border.specs.{Contents.HasKey, Entry.{IsEntry, IsStablePair}, Entries.IsMissing, Split.{IsParted, IsSeparator, slices_with}}
 use Rattle.mt_border.specs.declared.entry.Entry.{Entry}
 use Rattle.mt_arena.specs.{NodeView.{NodeView, node_at}, Ways.BelongsIn, Forests.layer_of}
-use Rattle.mt_arena.specs.{Splits.{Inserts, left_half, right_half, with_child, exact, inner_left, inner_right}, Edits.{inserting, splitting}}
-use Rattle.mt_arena.specs.{Growth.{AreRootHalves, fresh_top, left_below, right_below}, Arena.ArenaView, Accesses.{at, tree_of, IsHeld, IsOpen}}
+use Rattle.mt_arena.specs.{Splits.{Inserts, left_half, right_half, with_child, exact, inner_left, inner_right}, Edits.{inserting, splitting, placed}}
+use Rattle.mt_arena.specs.{Growth.{AreRootHalves, fresh_top, left_below, right_below}, Arena.ArenaView, Idle.{chosen, number_of, given_interior}}
+use Rattle.mt_arena.specs.Accesses.{at, tree_of, IsHeld, IsOpen}
 
 -- the operation splits the left node: it holds both, both are marked, and the right one has neither range nor keys nor children yet
 pub record IsHalf (v : ArenaView) (left right op : ℕ) : Type 0 where
@@ -65,18 +66,37 @@ pub record MayGrow (v : ArenaView) (left right op : ℕ) : Type 0 where
   pub is_root : (at v left).version.root ≡ true
   pub no_root : (at v right).version.root ≡ false
 
--- the halves of a root below a new one, which the operation holds, and the nodes with it
-abbrev pub with_top : List NodeView → ℕ → ℕ → ℕ → List NodeView
-with_top nodes left right op =
-    slice_set (slice_set nodes left (left_below (node_at nodes left) (length nodes))) right (right_below (node_at nodes right) (length nodes))
-    ++ fresh_top (node_at nodes left) left (node_at nodes right).low right op ∷ []
+-- the halves of a root below a new one, which has this number
+abbrev pub halves_below : List NodeView → ℕ → ℕ → ℕ → List NodeView
+halves_below nodes left right top = slice_set (slice_set nodes left (left_below (node_at nodes left) top)) right (right_below (node_at nodes right) top)
 
--- one more node, which is the root from now on
+-- the root above them, which the operation holds
+abbrev pub top_over : List NodeView → ℕ → ℕ → ℕ → NodeView
+top_over nodes left right op = fresh_top (node_at nodes left) left (node_at nodes right).low right op
+
+-- the nodes with it in a new place, which is the root from now on
+abbrev pub with_top : List NodeView → ℕ → ℕ → ℕ → List NodeView
+with_top nodes left right op = halves_below nodes left right (length nodes) ++ top_over nodes left right op ∷ []
+
 abbrev pub with_root : ArenaView → ℕ → ℕ → ℕ → ArenaView
 with_root v left right op = record v {
   nodes = with_top v.nodes left right op;
   trees = slice_set v.trees (at v left).tree (record (tree_of v left) { root = length v.nodes });
 }
+
+-- its number: that of the interior place that is chosen by this step, or else that of a new one
+abbrev pub interior_number : ℕ → ArenaView → ℕ
+interior_number least v = number_of (chosen v.retired.interiors least) (length v.nodes)
+
+-- the root in that place
+abbrev pub with_root_at : ArenaView → ℕ → ℕ → ℕ → ℕ → ArenaView
+with_root_at v left right least op =
+    let top = interior_number least v in
+    record {
+      nodes = placed (chosen v.retired.interiors least) (halves_below v.nodes left right top) (top_over v.nodes left right op);
+      trees = slice_set v.trees (at v left).tree (record (tree_of v left) { root = top });
+      retired = given_interior v.retired least;
+    }
 
 -- the operation may put a right half into the parent, behind the left one: it holds both the parent and the left half
 pub record MayInsert (v : ArenaView) (parent left right op : ℕ) : Type 0 where
@@ -100,8 +120,21 @@ pub record MaySplitInner (v : ArenaView) (parent left right op : ℕ) : Type 0 w
   pub full : length (at v parent).separators ≡ 15
   pub next : (at v parent).next ≡ None
 
--- a marked parent with one more child, of which the upper ones go to a new node, its right half, and the left half of the two children
+-- a marked parent with one more child, which has too many
+abbrev pub wide_parent : List NodeView → ℕ → ℕ → NodeView
+wide_parent nodes parent right = with_child (splitting (node_at nodes parent)) (node_at nodes right).low right
+
+-- what is left of it without the upper ones, and the left half of the two children
+abbrev pub parts_left : List NodeView → ℕ → ℕ → ℕ → List NodeView
+parts_left nodes parent left right = slice_set (slice_set nodes parent (inner_left (wide_parent nodes parent right))) left (exact (node_at nodes left))
+
+-- the upper ones go to one more node, its right half
 abbrev pub with_parts : List NodeView → ℕ → ℕ → ℕ → ℕ → List NodeView
-with_parts nodes parent left right op =
-    let wide = with_child (splitting (node_at nodes parent)) (node_at nodes right).low right in
-    slice_set (slice_set nodes parent (inner_left wide)) left (exact (node_at nodes left)) ++ inner_right wide op ∷ []
+with_parts nodes parent left right op = parts_left nodes parent left right ++ inner_right (wide_parent nodes parent right) op ∷ []
+
+-- which comes into the interior place that is chosen by this step, or else in a new one
+abbrev pub with_parts_at : ArenaView → ℕ → ℕ → ℕ → ℕ → ℕ → ArenaView
+with_parts_at v parent left right least op = record v {
+  nodes = placed (chosen v.retired.interiors least) (parts_left v.nodes parent left right) (inner_right (wide_parent v.nodes parent right) op);
+  retired = given_interior v.retired least;
+}

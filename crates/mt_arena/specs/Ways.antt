@@ -55,14 +55,14 @@ pub record IsUnfilled (nodes : List NodeView) (k j : ℕ) : Type 0 where
   pub tree : (node_at nodes j).tree ≡ (node_at nodes k).tree
   pub empty : (node_at nodes j).slots ≡ []
 
--- tree t is being made: node r alone is of it, and its one slot has the key with this row
+-- tree t is being made: node r alone of the live ones is of it, and its one slot has the key with this row
 pub record IsMadeFor (nodes : List NodeView) (trees : List Tree) (key : Bytes) (layer t r : ℕ) (row : Columns) : Type 0 where
   pub maker : ℕ
   pub made : (tree_at trees t).standing ≡ Made maker
   pub there : r < length nodes
   pub tree : (node_at nodes r).tree ≡ t
   pub live : (node_at nodes r).version.deleted ≡ false
-  pub alone : (l : ℕ) → l < length nodes → (node_at nodes l).tree ≡ t → l ≡ r
+  pub alone : (l : ℕ) → l < length nodes → (node_at nodes l).tree ≡ t → (node_at nodes l).version.deleted ≡ false → l ≡ r
   pub slot : Entry
   pub pair : Pair
   pub slots : (node_at nodes r).slots ≡ slot ∷ []

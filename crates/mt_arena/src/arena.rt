@@ -6,21 +6,21 @@
 //! Owns its nodes. Errors: `AllocError`, from `new`, `begin_split`, `make_layer`, `grow_root` and
 //! `split_interior` alone. Units: nodes, trees and operations by their numbers, from 0.
 
-ghost use Rattle.std.specs.Prelude.{◌≡◌, ◌≢◌, ◌<◌, ◌≤◌, ℕ, [], ◌∷◌, ◌++◌, ◌+◌, length, slice_set, true, false, Some, None, IfSome, IfOk, OnOk, OnErr};
+ghost use Rattle.std.specs.Prelude.{◌≡◌, ◌≢◌, ◌<◌, ◌≤◌, ℕ, [], ◌∷◌, ◌++◌, ◌+◌, length, slice_set, true, false, Some, None, IfSome, IsSome, IsOk, IfOk, OnOk, OnErr};
 ghost use Rattle.std.specs.Vec.{vec_len, vec_capacity};
 ghost use Rattle.std.specs.FinMap as finite;
 ghost use Rattle.mt_rows.specs.Rows.{Bytes};
-ghost use Rattle.mt_version.specs.Changes.{CanUnlock};
+ghost use Rattle.mt_version.specs.Changes.{CanUnlock, CanRenew};
 ghost use Rattle.mt_border.specs.{declared.border.TheConstants.SLOTS, declared.entry.Entry.Entry, Held.{Pair, Stable}, Entry.{IsEntry, IsStablePair, order_of}};
 ghost use Rattle.mt_border.specs.{Slots.{held_in, next_free}, Entries.{IsMissing, place_in, with_entry, without, replaced}, Contents.{HasKey, owned}};
 ghost use Rattle.mt_border.specs.Split.{IsParted, IsSeparator, slices_with};
 ghost use Rattle.mt_arena.specs.{declared.tree.Standing.TheVariants.Live, NodeView.{node_at, place_at, border_view, interior_view}, Nodes.{Holds, HasRange}};
 ghost use Rattle.mt_arena.specs.{Forests.{HasSlice, tree_at, layer_of}, Layers.slot_at, Settled.IsSettled, Ranges.Waits};
 ghost use Rattle.mt_arena.specs.Edits.{locked, unlocked, with_slots, pointed, fresh_root, Points, cells_holding, cells_with, cells_without, with_filled, entry_filled, IsMarkedWhereDropped};
-ghost use Rattle.mt_arena.specs.{Idle.AreRetired, Given.IsNamedLate, Arena.{IsArena, content_of, Guarantee, live_count}, Renumbers.{all_renumbered, arena_renumbered}};
-ghost use Rattle.mt_arena.specs.Splits.{with_some};
-ghost use Rattle.mt_arena.specs.Several.{AreHalved, MaySplit, MayPlace, MayGrow, with_top, with_root, MayInsert, with_right, MaySplitInner, with_parts};
-ghost use Rattle.mt_arena.specs.Accesses.{new_arena, at, tree_of, IsHeld, IsOpen, with_node, with_half, with_row, MayPublish, MayChange};
+ghost use Rattle.mt_arena.specs.{Idle.{AreRetired, chosen, number_of, given_interior}, Given.{IsNamedLate, StepsFrom, AreForgotten, MayRenew}, Arena.{IsArena, content_of, Guarantee, live_count}, Renumbers.{all_renumbered, arena_renumbered}};
+ghost use Rattle.mt_arena.specs.{Splits.{with_some, inner_right}, Edits.version_in};
+ghost use Rattle.mt_arena.specs.Several.{AreHalved, MaySplit, MayPlace, MayGrow, halves_below, top_over, with_root_at, MayInsert, with_right, MaySplitInner, wide_parent, parts_left, with_parts_at};
+ghost use Rattle.mt_arena.specs.Accesses.{new_arena, at, tree_of, IsHeld, IsOpen, with_node, with_half_at, with_row, MayPublish, MayChange};
 ghost use Rattle.mt_slices.specs.Marks.{IsMark};
 ghost use Rattle.mt_interior.specs.Places.{IsNew};
 
@@ -31,6 +31,7 @@ use mt_border::{Border, Entry, Held, NodeNumber};
 use mt_interior::Interior;
 use mt_rows::Row;
 use mt_slices::Mark;
+use mt_version::Version;
 use std::alloc::{AllocError, Global};
 use std::marker::Model;
 
@@ -259,11 +260,14 @@ impl Arena {
 
     /// Begins the split of a border node: marks it for readers of its range, and makes its right half, a
     /// node without range that names it as the one before, and which the operation holds. It begins at
-    /// the slice of a stored key. An error leaves all as it was.
+    /// the slice of a stored key. It comes into the place of a border node that was taken out, if the step
+    /// `least` or an earlier one did it: then no memory is taken. Else it comes into a new place. An error
+    /// leaves all as it was.
     pub fn begin_split(
         &mut self,
         left: usize,
         low: u64,
+        least: u64,
         operation: usize,
     ) -> Result<usize, AllocError>
         requires held { IsHeld self.old left operation }
@@ -272,18 +276,32 @@ impl Arena {
         requires range { HasRange (at self.old left) }
         requires begins { HasSlice (tree_of self.old left).prefix low }
         requires mine { IsOpen self.old left operation }
-        ensures number { IfOk result (λ node. node ≡ length self.old.nodes) }
-        ensures is { OnOk result (self.new ≡ with_half self.old left low operation) }
+        requires forgotten { AreForgotten least self.old }
+        requires renews { MayRenew least self.old }
+        ensures number { IfOk result (λ node. node ≡ number_of (chosen self.old.retired.borders least) (length self.old.nodes)) }
+        ensures is { OnOk result (self.new ≡ with_half_at self.old left low least operation) }
+        ensures no_memory { IsSome (chosen self.old.retired.borders least) → IsOk result }
         ensures unchanged_on_err { OnErr result (self.new ≡ self.old) }
-        ensures step { Guarantee operation self.old self.new }
+        ensures step { StepsFrom least operation self.old self.new }
         ensures contents { content_of self.new ≡ content_of self.old }
     {
-        make_room(&mut self.nodes, &mut self.trees, &mut self.retired)?;
-        let number = self.nodes.len();
-        let half = self.nodes[left].half(left, low, operation);
-        self.nodes[left].mark_splitting();
-        self.nodes.push_reserved(half);
-        Ok(number)
+        match self.retired.give_border(least) {
+            Some(place) => {
+                let version = self.nodes[place].version().renewed(false);
+                let half = self.nodes[left].half(left, low, version, operation);
+                self.nodes[left].mark_splitting();
+                self.nodes[place] = half;
+                Ok(place)
+            }
+            None => {
+                make_room(&mut self.nodes, &mut self.trees, &mut self.retired)?;
+                let number = self.nodes.len();
+                let half = self.nodes[left].half(left, low, Version::child_border(), operation);
+                self.nodes[left].mark_splitting();
+                self.nodes.push_reserved(half);
+                Ok(number)
+            }
+        }
     }
 
     /// Parts the slots of a full border node among it and its right half, where they are parted with
@@ -311,28 +329,41 @@ impl Arena {
         halve(&mut self.nodes, left, right, slice, mark, entry);
     }
 
-    /// Makes an interior root over the two halves of one, which the operation holds: it may unlock it at
-    /// once. An error leaves all as it was.
+    /// Makes an interior root over the two halves of one. The operation holds it, and may unlock it at
+    /// once. It comes into the place of an interior node that was taken out, if the step `least` or an
+    /// earlier one did it: then no memory is taken. Else it comes into a new place. An error leaves all
+    /// as it was.
     pub fn grow_root(
         &mut self,
         left: usize,
         right: usize,
+        least: u64,
         operation: usize,
     ) -> Result<usize, AllocError>
-        requires { MayGrow self.old left right operation }
-        ensures number { IfOk result (λ top. top ≡ length self.old.nodes) }
-        ensures is { OnOk result (self.new ≡ with_root self.old left right operation) }
+        requires may { MayGrow self.old left right operation }
+        requires forgotten { AreForgotten least self.old }
+        requires renews { MayRenew least self.old }
+        ensures number { IfOk result (λ top. top ≡ number_of (chosen self.old.retired.interiors least) (length self.old.nodes)) }
+        ensures is { OnOk result (self.new ≡ with_root_at self.old left right least operation) }
         ensures settled { IfOk result (λ top. IsSettled self.new.nodes top (at self.new top)) }
+        ensures no_memory { IsSome (chosen self.old.retired.interiors least) → IsOk result }
         ensures unchanged_on_err { OnErr result (self.new ≡ self.old) }
-        ensures step { Guarantee operation self.old self.new }
+        ensures step { StepsFrom least operation self.old self.new }
         ensures contents { content_of self.new ≡ content_of self.old }
     {
-        make_room(&mut self.nodes, &mut self.trees, &mut self.retired)?;
-        let top = self.nodes.len();
+        let fresh = Version::root_interior();
+        let place = inner_place(
+            &mut self.nodes,
+            &mut self.trees,
+            &mut self.retired,
+            least,
+            fresh,
+        )?;
+        let number = place.number;
         let tree = self.nodes[left].tree();
-        put_top(&mut self.nodes, left, right, operation);
-        self.trees[tree].root = top;
-        Ok(top)
+        put_top(&mut self.nodes, left, right, place, operation);
+        self.trees[tree].root = number;
+        Ok(number)
     }
 
     /// Begins the counting of changes anew: no node's version counts any, and each pair was placed by the
@@ -365,26 +396,39 @@ impl Arena {
         put_child(&mut self.nodes, parent, left, right);
     }
 
-    /// Puts a right half into a full parent, behind the left one, marks the parent for readers of its
-    /// range, and gives its upper children to a new right half, which the operation holds and which
-    /// gets the range from the middle on. An error leaves all as it was.
+    /// Puts a right half into a full parent, after the left one, and marks the parent for readers of its
+    /// range. Its upper children go to a right half of its own, which the operation holds and which gets
+    /// the range from the middle on. This half comes into the place of an interior node that was taken
+    /// out, if the step `least` or an earlier one did it: then no memory is taken. Else it comes into a
+    /// new place. An error leaves all as it was.
     pub fn split_interior(
         &mut self,
         parent: usize,
         left: usize,
         right: usize,
+        least: u64,
         operation: usize,
     ) -> Result<usize, AllocError>
-        requires { MaySplitInner self.old parent left right operation }
-        ensures number { IfOk result (λ half. half ≡ length self.old.nodes) }
-        ensures is { OnOk result (self.new ≡ record self.old { nodes = with_parts self.old.nodes parent left right operation }) }
+        requires may { MaySplitInner self.old parent left right operation }
+        requires forgotten { AreForgotten least self.old }
+        requires renews { MayRenew least self.old }
+        ensures number { IfOk result (λ half. half ≡ number_of (chosen self.old.retired.interiors least) (length self.old.nodes)) }
+        ensures is { OnOk result (self.new ≡ with_parts_at self.old parent left right least operation) }
+        ensures no_memory { IsSome (chosen self.old.retired.interiors least) → IsOk result }
         ensures unchanged_on_err { OnErr result (self.new ≡ self.old) }
-        ensures step { Guarantee operation self.old self.new }
+        ensures step { StepsFrom least operation self.old self.new }
         ensures contents { content_of self.new ≡ content_of self.old }
     {
-        make_room(&mut self.nodes, &mut self.trees, &mut self.retired)?;
-        let number = self.nodes.len();
-        part_parent(&mut self.nodes, parent, left, right, operation);
+        let fresh = Version::child_interior();
+        let place = inner_place(
+            &mut self.nodes,
+            &mut self.trees,
+            &mut self.retired,
+            least,
+            fresh,
+        )?;
+        let number = place.number;
+        part_parent(&mut self.nodes, parent, left, right, place, operation);
         Ok(number)
     }
 }
@@ -438,22 +482,87 @@ fn halve(
     }
 }
 
+// The place of a node that is made: an old one or a new one, with the version that the node begins with.
+#[derive(Clone, Copy)]
+pub(crate) struct Place {
+    pub(crate) number: usize,
+    pub(crate) version: Version,
+}
+
+// The place of an interior node that is made, whose version in a new place is this one. An old place is
+// chosen, if there is one, and else room is made for a new one.
+fn inner_place(
+    nodes: &mut Vec<Node>,
+    trees: &mut Vec<Tree>,
+    retired: &mut IdlePlaces,
+    least: u64,
+    fresh: Version,
+) -> Result<Place, AllocError>
+    requires there { (place : ℕ) → chosen retired.old.places.interiors least ≡ Some place → place < length nodes.old.items }
+    requires renews { (place : ℕ) → chosen retired.old.places.interiors least ≡ Some place → CanRenew (node_at nodes.old.items place).version }
+    ensures number { IfOk result (λ p. p.number ≡ number_of (chosen retired.old.places.interiors least) (length nodes.old.items)) }
+    ensures version { IfOk result (λ p. p.version ≡ version_in (chosen retired.old.places.interiors least) nodes.old.items fresh) }
+    ensures nodes { nodes.new.items ≡ nodes.old.items }
+    ensures trees { trees.new.items ≡ trees.old.items }
+    ensures given { OnOk result (retired.new.places ≡ given_interior retired.old.places least) }
+    ensures unchanged_on_err { OnErr result (retired.new.places ≡ retired.old.places) }
+    ensures no_memory { IsSome (chosen retired.old.places.interiors least) → IsOk result }
+    ensures capacity { OnOk result (chosen retired.old.places.interiors least ≡ None → vec_len nodes.new < vec_capacity nodes.new) }
+    ensures few { OnOk result (chosen retired.old.places.interiors least ≡ None → vec_len nodes.new < MOST) }
+    ensures room { OnOk result (chosen retired.old.places.interiors least ≡ None → vec_len nodes.new + 1 ≤ retired.new.room.nodes) }
+    ensures no_less { retired.old.room.nodes ≤ retired.new.room.nodes }
+    ensures no_fewer { retired.old.room.trees ≤ retired.new.room.trees }
+{
+    match retired.give_interior(least) {
+        Some(number) => {
+            let version = nodes[number].version().renewed(fresh.is_root());
+            Ok(Place { number, version })
+        }
+        None => {
+            make_room(nodes, trees, retired)?;
+            let number = nodes.len();
+            Ok(Place {
+                number,
+                version: fresh,
+            })
+        }
+    }
+}
+
+// Puts a node into the place of one that was taken out, or into a new place, for which there is room.
+pub(crate) fn put(nodes: &mut Vec<Node>, number: usize, node: Node)
+    requires there { number ≤ length nodes.old.items }
+    requires room { number ≡ length nodes.old.items → vec_len nodes.old < vec_capacity nodes.old }
+    ensures old_place { number < length nodes.old.items → nodes.new.items ≡ slice_set nodes.old.items number node }
+    ensures new_place { number ≡ length nodes.old.items → nodes.new.items ≡ nodes.old.items ++ node ∷ [] }
+{
+    if number < nodes.len() {
+        nodes[number] = node;
+    } else {
+        nodes.push_reserved(node);
+    }
+}
+
 // Puts a new root over two nodes.
-fn put_top(nodes: &mut Vec<Node>, left: usize, right: usize, operation: usize)
+fn put_top(nodes: &mut Vec<Node>, left: usize, right: usize, place: Place, operation: usize)
     requires there { left < length nodes.old.items }
     requires right_there { right < length nodes.old.items }
     requires differ { left ≢ right }
     requires not_too_high { (node_at nodes.old.items left).level < 4294967295 }
-    requires room { vec_len nodes.old < vec_capacity nodes.old }
-    requires few { vec_len nodes.old < MOST }
-    ensures { nodes.new.items ≡ with_top nodes.old.items left right operation }
+    requires number { place.number ≤ length nodes.old.items }
+    requires room { place.number ≡ length nodes.old.items → vec_len nodes.old < vec_capacity nodes.old }
+    requires few { place.number < MOST }
+    ensures old_place { place.number < length nodes.old.items → nodes.new.items ≡ slice_set (halves_below nodes.old.items left right place.number)
+        place.number (record (top_over nodes.old.items left right operation) { version = record place.version { locked = true } }) }
+    ensures new_place { place.number ≡ length nodes.old.items → nodes.new.items ≡ halves_below nodes.old.items left right place.number ++
+        (record (top_over nodes.old.items left right operation) { version = record place.version { locked = true } }) ∷ [] }
 {
-    let number = nodes.len();
+    let Place { number, version } = place;
     let separator = nodes[right].low();
-    let top = nodes[left].top(left, separator, right, operation);
+    let top = nodes[left].top(left, separator, right, version, operation);
     nodes[left].put_below(number);
     nodes[right].set_parent(NodeNumber::of(number));
-    nodes.push_reserved(top);
+    put(nodes, number, top);
 }
 
 // Puts a child into a node, behind another one.
@@ -473,8 +582,15 @@ fn put_child(nodes: &mut Vec<Node>, parent: usize, left: usize, right: usize)
     nodes[left].make_exact();
 }
 
-// Puts a child into a full node, behind another one, and gives its upper children to a new right half.
-fn part_parent(nodes: &mut Vec<Node>, parent: usize, left: usize, right: usize, operation: usize)
+// Puts a child into a full node, after another one, and gives its upper children to a new right half.
+fn part_parent(
+    nodes: &mut Vec<Node>,
+    parent: usize,
+    left: usize,
+    right: usize,
+    place: Place,
+    operation: usize,
+)
     requires there { parent < length nodes.old.items }
     requires left_there { left < length nodes.old.items }
     requires right_there { right < length nodes.old.items }
@@ -482,13 +598,18 @@ fn part_parent(nodes: &mut Vec<Node>, parent: usize, left: usize, right: usize, 
     requires interior { 0 < (node_at nodes.old.items parent).level }
     requires full { length (node_at nodes.old.items parent).separators ≡ 15 }
     requires missing { IsNew (node_at nodes.old.items parent).separators (node_at nodes.old.items right).low }
-    requires room { vec_len nodes.old < vec_capacity nodes.old }
-    ensures { nodes.new.items ≡ with_parts nodes.old.items parent left right operation }
+    requires number { place.number ≤ length nodes.old.items }
+    requires room { place.number ≡ length nodes.old.items → vec_len nodes.old < vec_capacity nodes.old }
+    ensures old_place { place.number < length nodes.old.items → nodes.new.items ≡ slice_set (parts_left nodes.old.items parent left right) place.number
+        (record (inner_right (wide_parent nodes.old.items parent right) operation) { version = record place.version { locked = true; splitting = true } }) }
+    ensures new_place { place.number ≡ length nodes.old.items → nodes.new.items ≡ parts_left nodes.old.items parent left right ++
+        (record (inner_right (wide_parent nodes.old.items parent right) operation) { version = record place.version { locked = true; splitting = true } }) ∷ [] }
 {
+    let Place { number, version } = place;
     let separator = nodes[right].low();
-    let half = nodes[parent].split_inner(separator, right, operation);
+    let half = nodes[parent].split_inner(separator, right, version, operation);
     nodes[left].make_exact();
-    nodes.push_reserved(half);
+    put(nodes, number, half);
 }
 
 // Takes the memory for one more node and one more tree, and for the number of each of them among the

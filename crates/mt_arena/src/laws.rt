@@ -12,8 +12,8 @@ ghost use Rattle.mt_border.specs.Contents.{owned, HasKey};
 ghost use Rattle.mt_arena.specs.{declared.tree.Tree.Tree, declared.tree.Standing.TheVariants.{Dead, Live}, NodeView.{NodeView, node_at}};
 ghost use Rattle.mt_arena.specs.{Nodes.{Holds, HasRange}, Forests.{HasSlice, tree_at, layer_of}, RootLevels.{levels_above, levels_of}, Layers.slot_at};
 ghost use Rattle.mt_arena.specs.{Contents.content, Arena.{IsArena, ArenaView, Guarantee, live_count}, Guarantee.{NodesGuarantee, PointsOnly}};
-ghost use Rattle.mt_arena.specs.Layering.{MayMakeLayer, MayUnsettle, IsHeldSlot, HasKeyAt, IsLayerOf, IsSettledBut, entry_of, prefix_below, with_layer, with_slot, with_link};
-ghost use Rattle.mt_arena.specs.{Settled.IsSettled, Lags.IsFollowedBy, Edits.{pointed, locked, splitting, again_half, blank_again}, Given.GivesOut, Accesses.{at, tree_of, with_node, IsOpen}, Removals.IsOnlyLiveNode};
+ghost use Rattle.mt_arena.specs.Layering.{MayMakeLayer, MayUnsettle, IsHeldSlot, HasKeyAt, IsLayerOf, IsSettledBut, entry_of, prefix_below, tree_number, with_layer_at, with_slot, with_link};
+ghost use Rattle.mt_arena.specs.{Settled.IsSettled, Lags.IsFollowedBy, Edits.{pointed, locked, splitting, again_half, blank_again}, Idle.AreRetired, Given.{GivesOut, AreForgotten}, Accesses.{at, tree_of, with_node, IsOpen}, Removals.IsOnlyLiveNode};
 ghost use Rattle.mt_arena.specs.{Stands.{IsLiveBorder, StandsAt}, Ways.{LinksOn, BelongsIn, StandsFor, GoesOn, HasSlots, IsUnfilled, IsMadeFor, IsFreeRoot}};
 ghost use Rattle.mt_interior.specs.Places.{place_of};
 
@@ -187,11 +187,12 @@ pub fn a_layer_stays_its_makers()
     ensures layer { (op maker : ℕ) (old new : ArenaView) (node i t : ℕ) (what : Held) (key : Bytes) (row : Columns) →
         (tree_of new node).standing ≢ Dead → Guarantee op old new → maker ≢ op →
         IsLayerOf old node i t maker what key row → IsLayerOf new node i t maker what key row }
-    ensures made { (v : ArenaView) (node i op : ℕ) (what : Held) (key : Bytes) (e : Entry) (pair : Pair) →
-        IsArena v.nodes v.trees → IsHeldSlot v node i op what → HasKeyAt v node i key →
+    ensures made { (v : ArenaView) (node i op least : ℕ) (what : Held) (key : Bytes) (e : Entry) (pair : Pair) →
+        IsArena v.nodes v.trees → AreRetired v.nodes v.trees v.retired → AreForgotten least v →
+        IsHeldSlot v node i op what → HasKeyAt v node i key →
         let prefix = prefix_below v node i in
         HasKey prefix (layer_of prefix) e key → pair_of e.held ≡ Some pair →
-        IsLayerOf (with_layer v prefix e op) node i (length v.trees) op what key pair.row }
+        IsLayerOf (with_layer_at v prefix e least op) node i (tree_number least v) op what key pair.row }
     ensures held { (v : ArenaView) (node i t op : ℕ) (what held : Held) (key : Bytes) (row : Columns) →
         IsArena v.nodes v.trees → IsLayerOf v node i t op what key row →
         ((pair : Pair) → pair_of held ≡ Some pair → pair_of what ≡ Some pair) →
@@ -205,8 +206,10 @@ pub fn settled_once_linked()
     ensures others { (op holder : ℕ) (old new : List NodeView) (were are : List Tree) (k i : ℕ) →
         NodesGuarantee op old new were are → PointsOnly op old new → holder ≢ op → k < length old →
         (node_at old k).holder ≡ Some holder → IsSettledBut old k i → IsSettledBut new k i }
-    ensures made { (v : ArenaView) (prefix : Bytes) (e : Entry) (op k i : ℕ) → k < length v.nodes →
-        IsSettledBut v.nodes k i → IsSettledBut (with_layer v prefix e op).nodes k i }
+    ensures made { (v : ArenaView) (prefix : Bytes) (e : Entry) (least op k i : ℕ) →
+        IsArena v.nodes v.trees → AreRetired v.nodes v.trees v.retired → AreForgotten least v →
+        k < length v.nodes → (at v k).version.deleted ≡ false →
+        IsSettledBut v.nodes k i → IsSettledBut (with_layer_at v prefix e least op).nodes k i }
     ensures held { (v : ArenaView) (k i : ℕ) (held : Held) → IsArena v.nodes v.trees → k < length v.nodes → i < length (at v k).slots →
         IsSettledBut v.nodes k i → IsSettledBut (with_slot v k i held).nodes k i }
     ensures linked { (v : ArenaView) (k i t : ℕ) → IsArena v.nodes v.trees → k < length v.nodes → i < length (at v k).slots →

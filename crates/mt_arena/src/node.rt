@@ -74,13 +74,14 @@ impl Node {
     }
 
     /// A border node without range, which an operation holds, to the right of one that it splits: the
-    /// node of the number `left`, which is this one.
-    pub(crate) fn half(&self, left: usize, low: u64, operation: usize) -> Self
+    /// node of the number `left`, which is this one. Its version is this one with the lock and the mark.
+    pub(crate) fn half(&self, left: usize, low: u64, version: Version, operation: usize) -> Self
         requires border { self.now.level ≡ 0 }
+        requires kind { version.border ≡ true }
         requires few { left < 4294967295 }
-        ensures { result ≡ fresh_half self.now left low operation }
+        ensures { result ≡ record (fresh_half self.now left low operation) { version = record version { locked = true; splitting = true } } }
     {
-        let version = Version::child_border().locked().marked_splitting();
+        let version = version.locked().marked_splitting();
         let mut half = Border::new(low, Some(low), version);
         half.set_previous(NodeNumber::of(left));
         Node {
@@ -417,12 +418,19 @@ impl Node {
     }
 
     /// A root over two halves of one, which meet at the separator: this node is the left one. The
-    /// operation holds it.
-    pub(crate) fn top(&self, left: usize, separator: u64, right: usize, operation: usize) -> Self
+    /// operation holds it. Its version is this one with the lock.
+    pub(crate) fn top(
+        &self,
+        left: usize,
+        separator: u64,
+        right: usize,
+        version: Version,
+        operation: usize,
+    ) -> Self
         requires { self.now.level < 4294967295 }
-        ensures { result ≡ fresh_top self.now left separator right operation }
+        ensures { result ≡ record (fresh_top self.now left separator right operation) { version = record version { locked = true } } }
     {
-        let mut root = Interior::new(0, None, Version::root_interior().locked());
+        let mut root = Interior::new(0, None, version.locked());
         root.put_over(left, separator, right);
         Node {
             kind: NodeKind::Inner(root),
@@ -467,18 +475,26 @@ impl Node {
 
     /// Puts a child that begins at the separator into a full node, marks the node for readers of its
     /// range, and gives its upper children to a new right half, which the operation holds and which
-    /// gets the range from the middle on.
-    pub(crate) fn split_inner(&mut self, separator: u64, child: usize, operation: usize) -> Self
+    /// gets the range from the middle on. The right half's version is this one with the lock and the
+    /// mark.
+    pub(crate) fn split_inner(
+        &mut self,
+        separator: u64,
+        child: usize,
+        version: Version,
+        operation: usize,
+    ) -> Self
         requires interior { 0 < self.old.level }
         requires full { length self.old.separators ≡ 15 }
         requires missing { IsNew self.old.separators separator }
         ensures left { self.new ≡ inner_left (with_child (splitting self.old) separator child) }
-        ensures right { result ≡ inner_right (with_child (splitting self.old) separator child) operation }
+        ensures right { let half = inner_right (with_child (splitting self.old) separator child) operation in
+            result ≡ record half { version = record version { locked = true; splitting = true } } }
     {
         self.mark_splitting();
         let half = match &mut self.kind {
             NodeKind::Leaf(_) => unreachable!(),
-            NodeKind::Inner(left) => part(left, separator, child),
+            NodeKind::Inner(left) => part(left, separator, child, version),
         };
         Node {
             kind: NodeKind::Inner(half),
@@ -490,16 +506,17 @@ impl Node {
     }
 }
 
-// Puts a child into a full interior node, and gives its upper children to a new right half.
-fn part(left: &mut Interior, separator: u64, child: usize) -> Interior
+// Puts a child into a full interior node, and gives its upper children to a new right half, whose version
+// is this one with the lock and the mark.
+fn part(left: &mut Interior, separator: u64, child: usize, version: Version) -> Interior
     requires full { length left.old.separators ≡ 15 }
     requires missing { IsNew left.old.separators separator }
     ensures left { let wide = inner.with_child left.old separator child in
         left.new ≡ record (inner.left_half wide) { high = Some (inner.middle wide) } }
     ensures right { let wide = inner.with_child left.old separator child in
-        result ≡ inner.right_half wide (childless (inner.middle wide) left.old.high (record (fresh_parts false false) { locked = true; splitting = true })) }
+        result ≡ inner.right_half wide (childless (inner.middle wide) left.old.high (record version { locked = true; splitting = true })) }
 {
-    let version = Version::child_interior().locked().marked_splitting();
+    let version = version.locked().marked_splitting();
     let mut right = Interior::new(left.middle_with(separator), left.high(), version);
     let middle = left.split_into(separator, child, &mut right);
     left.set_high(Some(middle));

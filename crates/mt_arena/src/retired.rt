@@ -4,15 +4,15 @@
 //! rise. Only `make_room` takes memory. Errors: `AllocError`, from `make_room` alone. Units: places and
 //! steps by their numbers.
 
-ghost use Rattle.std.specs.Prelude.{◌≡◌, ◌<◌, ◌≤◌, [], length, OnOk};
-ghost use Rattle.mt_arena.specs.Idle.{no_places, with_retired, with_border, with_interior, with_tree, out_at, all_out_at};
+ghost use Rattle.std.specs.Prelude.{◌≡◌, ◌<◌, ◌≤◌, [], length, IsTrue, IsSome, OnOk, IfNone, ◌↔◌};
+ghost use Rattle.mt_arena.specs.Idle.{no_places, with_retired, with_border, with_interior, with_tree, out_at, all_out_at, chosen, left_of, given_border, given_interior, given_tree};
 
 use std::alloc::{AllocError, Global};
 use std::collections::VecDeque;
 use std::marker::Model;
 
 /// The place of a node or a tree that was taken out, and the step that did it. What stands there keeps
-/// what it had, for those who still remember it; the place is not given out again.
+/// what it had, for those who still remember it, until the place is given out again.
 #[derive(Clone, Copy, PartialEq, Eq, Debug)]
 pub struct Retired {
     pub place: usize,
@@ -58,6 +58,44 @@ impl Idle {
         ensures { self.new ≡ record self.old { places = with_retired self.old.places place step } }
     {
         self.queue.push_back_reserved(Retired { place, step });
+    }
+
+    // The place that waits longest, if the step of this number or an earlier one took it out. If it did not,
+    // then no later place of the list may be given out, since the steps rise.
+    fn first(&self, least: u64) -> Option<usize>
+        ensures { result ≡ chosen self.now.places least }
+    {
+        let first = self.queue.front();
+        match first {
+            Some(idle) => {
+                if idle.step <= least {
+                    Some(idle.place)
+                } else {
+                    None
+                }
+            }
+            None => None,
+        }
+    }
+
+    // Gives that place out.
+    fn give(&mut self, least: u64) -> Option<usize>
+        ensures chosen { result ≡ chosen self.old.places least }
+        ensures left { self.new ≡ record self.old { places = left_of self.old.places least } }
+        ensures none { IfNone result (self.new ≡ self.old) }
+    {
+        match self.queue.front() {
+            Some(first) => {
+                let place = first.place;
+                if first.step <= least {
+                    let _ = self.queue.pop_front();
+                    Some(place)
+                } else {
+                    None
+                }
+            }
+            None => None,
+        }
     }
 
     // From now on the step of this number took all out.
@@ -143,6 +181,42 @@ impl IdlePlaces {
         ensures { self.new ≡ record self.old { places = with_tree self.old.places tree step } }
     {
         self.trees.retire(tree, step);
+    }
+
+    /// Gives out the place of a border node that waits longest, if the step of this number or an earlier one
+    /// took it out. No memory is taken.
+    pub(crate) fn give_border(&mut self, least: u64) -> Option<usize>
+        ensures chosen { result ≡ chosen self.old.places.borders least }
+        ensures left { self.new ≡ record self.old { places = given_border self.old.places least } }
+        ensures none { IfNone result (self.new ≡ self.old) }
+    {
+        self.borders.give(least)
+    }
+
+    /// The same of an interior node.
+    pub(crate) fn give_interior(&mut self, least: u64) -> Option<usize>
+        ensures chosen { result ≡ chosen self.old.places.interiors least }
+        ensures left { self.new ≡ record self.old { places = given_interior self.old.places least } }
+        ensures none { IfNone result (self.new ≡ self.old) }
+    {
+        self.interiors.give(least)
+    }
+
+    /// The same of a tree.
+    pub(crate) fn give_tree(&mut self, least: u64) -> Option<usize>
+        ensures chosen { result ≡ chosen self.old.places.trees least }
+        ensures left { self.new ≡ record self.old { places = given_tree self.old.places least } }
+        ensures none { IfNone result (self.new ≡ self.old) }
+    {
+        self.trees.give(least)
+    }
+
+    /// Whether the place of a border node and that of a tree may be given out, each of which the step of
+    /// this number or an earlier one took out.
+    pub(crate) fn has_layer(&self, least: u64) -> bool
+        ensures { IsTrue result ↔ (IsSome (chosen self.now.places.borders least) × IsSome (chosen self.now.places.trees least)) }
+    {
+        self.borders.first(least).is_some() && self.trees.first(least).is_some()
     }
 
     /// From now on the step of this number took all out.

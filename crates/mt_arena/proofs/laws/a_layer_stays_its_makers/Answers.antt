@@ -5,6 +5,6 @@ pub returns : goal.returns
 returns c = record {
   slot = λ op maker old new node i what alive step other slot. slot_stays op maker old new step other node i what slot alive;
   layer = λ op maker old new node i t what key row alive step other whole. whole_stays op maker old new step other node i t what key row alive whole;
-  made = λ v node i op what key e pair arena slot has below is. whole_begun v node i op what key e pair arena slot has below is;
+  made = λ v node i op least what key e pair arena listed forgotten slot has below is. whole_begun v node i op least what key e pair arena listed forgotten slot has below is;
   held = λ v node i t op what held key row arena whole goes_on. whole_rewritten v node i t op what held key row arena whole goes_on;
 }

@@ -6,7 +6,7 @@ pub returns : goal.returns
 returns c = record {
   before = settled_but;
   others = settled_but_stays;
-  made = settled_but_made;
+  made = λ v prefix e least op k i arena listed forgotten within live settled. settled_but_made v prefix e least op k i arena.nodes listed forgotten within live settled;
   held = λ v k i held arena within inside settled. settled_but_held v k i held arena.nodes within inside settled;
   linked = λ v k i t arena within inside settled. settled_again v k i (Link t) arena.nodes within inside settled (λ none. none);
 }

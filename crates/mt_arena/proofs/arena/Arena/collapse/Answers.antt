@@ -1,6 +1,6 @@
 use Rattle.std.proofs.Common.{◌≡◌, ap, ◌∙◌, arith}
 use Rattle.mt_arena.specs.{NodeView.NodeView, Arena.ArenaView, Accesses.{at, tree_of}}
-use Rattle.mt_arena.proofs.{Pairs.read, Topping.read_tree, Retiring.interiors_few}
+use Rattle.mt_arena.proofs.{Pairs.read, TopNodes.read_tree, Retiring.interiors_few}
 use Rattle.mt_arena.proofs.Collapsing.{apart, ends_nowhere, sound_collapsed, step_collapsed, content_collapsed, child_collapsed, root_collapsed, others_collapsed}
 use Rattle.mt_arena.proofs.arena.Arena.collapse.Goals as goal
 

@@ -2,7 +2,7 @@ use Rattle.std.proofs.Common.{◌≡◌, ◌<◌, ℕ, length, refl, sym, ap, su
 use Rattle.mt_border.specs.Entries.{without}
 use Rattle.mt_arena.{specs.{NodeFacts.IsUnstable, Layers.slot_at, Edits.cells_without}, proofs.Slots.lost_dropped}
 use Rattle.mt_arena.specs.{NodeView.{node_at, place_at}, declared.tree.Tree.Tree, Forests.tree_at, Arena.ArenaView, Removals.MayDropLayer}
-use Rattle.mt_arena.proofs.{Pairs.read, Topping.read_tree, Retiring.{borders_few, trees_few}}
+use Rattle.mt_arena.proofs.{Pairs.read, TopNodes.read_tree, Retiring.{borders_few, trees_few}}
 use Rattle.mt_arena.proofs.DroppingLayer.{the_link, same_link, lr, lu, live_root, idle_not, apart, sound_dropped_layer, step_dropped_layer, content_dropped_layer, node_dropped_layer, root_dropped_layer, others_dropped_layer}
 use Rattle.mt_arena.proofs.arena.Arena.drop_layer.Goals.{After-link_at-lower, After-index-2, After-index_mut}
 use Rattle.mt_arena.proofs.arena.Arena.drop_layer.Goals as goal

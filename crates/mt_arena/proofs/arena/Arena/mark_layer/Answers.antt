@@ -1,6 +1,6 @@
 use Rattle.std.proofs.Common.{◌≡◌, refl, ap, ◌∙◌}
 use Rattle.mt_arena.specs.{NodeView.{NodeView, place_at}, Layers.slot_at, Forests.tree_at, Arena.ArenaView}
-use Rattle.mt_arena.proofs.{Pairs.read, Topping.read_tree, GoingLinked.{lt, sound_live, step_live, content_live}}
+use Rattle.mt_arena.proofs.{Pairs.read, TopNodes.read_tree, GoingLinked.{lt, sound_live, step_live, content_live}}
 use Rattle.mt_arena.proofs.arena.Arena.mark_layer.Goals as goal
 
 pub invariant_of-self : goal.invariant_of-self
