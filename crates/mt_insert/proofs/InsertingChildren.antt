@@ -1,12 +1,12 @@
 -- A right half comes to stand in its parent, and then all nodes of the splits may be given back: for `insert_child` and `split_interior`.
-use Rattle.std.proofs.Common.{◌≡◌, ◌≢◌, ℕ, ◌+◌, ◌-◌, ◌<◌, ◌≤◌, List, [], ◌∷◌, ◌++◌, length, set, None, refl, sym, ap, subst, ◌∙◌, inl, inr, arith, length-append}
+use Rattle.std.proofs.Common.{◌≡◌, ◌≢◌, ◌⊎◌, ℕ, ◌-◌, ◌<◌, ◌≤◌, List, length, set, Some, None, refl, sym, ap, subst, ◌∙◌, inl, inr, arith}
 use Rattle.std.proofs.{lemmas.Bool.cases_lt, lemmas.List.length-set, lemmas.Option.same_Some}
 use Rattle.std.specs.List.{All}
 use Rattle.mt_border.specs.declared.entry.Entry.{Entry}
 use Rattle.mt_arena.specs.{NodeView.{NodeView, node_at}, Nodes.{AreNodes, HasChild, IsChild}, NodeFacts.IsUnstable, Forests.tree_at}
 use Rattle.mt_arena.specs.{Lags.{Follows, IsUnder, AreChildren}, Settled.IsSettled, Edits.inserting, Splits.{Inserts, with_child, exact}}
-use Rattle.mt_arena.specs.{Several.{MayInsert, with_right}, Arena.ArenaView, Accesses.{at, IsOpen}}
-use Rattle.mt_arena.proofs.{Pairs.{here, there, before, last as pushed}, Naming.each_set2, Lags.{settled_of, children_again}, Inserting.{apart_j, is_interior}}
+use Rattle.mt_arena.specs.{Several.{MayInsert, with_right}, Idle.RetiredPlaces, Arena.ArenaView, Accesses.{at, IsOpen}}
+use Rattle.mt_arena.proofs.{Pairs.{here, there}, Naming.each_set2, Lags.{settled_of, children_again}, Inserting.{apart_j, is_interior}}
 use Rattle.mt_operation.specs.declared.splits.Splits.{Splits}
 use Rattle.mt_insert.specs.KeptSplits.{halves_at, last_of, MayReturnBoth, AreReturnable, AreParted, NothingLags, IsAtParent, IsAtInsertChild, IsAtUnlockAll, HoldsSplits}
 use Rattle.mt_insert.proofs.Returns.{all_returnable_still}
@@ -19,48 +19,38 @@ pub record KeepsNames (x y : NodeView) : Type 0 where
   pub deleted : y.version.deleted ≡ x.version.deleted
   pub holder : y.holder ≡ x.holder
 
--- all nodes are so, and those that were added name none
+-- a node that names none
+abbrev pub NamesNone : NodeView → Type 0
+NamesNone n = (n.previous ≡ None) × (n.parent ≡ None)
+
+-- all nodes are so, but for new ones, which name none
 pub record KeepNames (xs ys : List NodeView) : Type 0 where
   pub more : length xs ≤ length ys
-  pub each : (k : ℕ) → k < length xs → KeepsNames (node_at xs k) (node_at ys k)
-  pub fresh : (k : ℕ) → length xs ≤ k → k < length ys → ((node_at ys k).previous ≡ None) × ((node_at ys k).parent ≡ None)
+  pub each : (k : ℕ) → k < length ys → NamesNone (node_at ys k) ⊎ ((k < length xs) × KeepsNames (node_at xs k) (node_at ys k))
 
 module _ (xs ys : List NodeView) (names : KeepNames xs ys) (i : ℕ) where
   -- then who names a node named it before
   pub followed_before : (k : ℕ) → Follows ys i k → Follows xs i k
-  followed_before k is = elim (cases_lt k (length xs)) [
-    | inl was ↦ let same = names.each k was in (was, sym same.previous ∙ is.1, sym same.deleted ∙ is.2)
-    | inr new_one ↦ absurd (let none = sym (names.fresh k new_one is.0).0 ∙ is.1 in cc)
+  followed_before k is = elim (names.each k is.0) [
+    | inl none ↦ absurd (let both = sym none.0 ∙ is.1 in cc)
+    | inr same ↦ (same.0, sym same.1.previous ∙ is.1, sym same.1.deleted ∙ is.2)
   ]
 
   -- also as its parent
   pub named_before : (k : ℕ) → IsUnder ys i k → IsUnder xs i k
-  named_before k is = elim (cases_lt k (length xs)) [
-    | inl was ↦ let same = names.each k was in (was, sym same.parent ∙ is.1, sym same.deleted ∙ is.2)
-    | inr new_one ↦ absurd (let none = sym (names.fresh k new_one is.0).1 ∙ is.1 in cc)
+  named_before k is = elim (names.each k is.0) [
+    | inl none ↦ absurd (let both = sym none.1 ∙ is.1 in cc)
+    | inr same ↦ (same.0, sym same.1.parent ∙ is.1, sym same.1.deleted ∙ is.2)
   ]
 
   pub named_no_more : NamesNoMoreOf xs ys i
   named_no_more = record { follows = followed_before; under = named_before }
 
--- a list with one more node, which names none
-pub names_pushed : (xs ys : List NodeView) (y : NodeView) → length ys ≡ length xs → KeepNames xs ys → y.previous ≡ None → y.parent ≡ None
-    → KeepNames xs (ys ++ y ∷ [])
-names_pushed xs ys y same names no_previous no_parent =
-    let size : length (ys ++ y ∷ []) ≡ length ys + 1 = length-append ys (y ∷ []) in
-    record {
-      more = omega (arith, size, same);
-      each = λ k lt. subst (λ (n : NodeView). KeepsNames (node_at xs k) n) (sym (before ys y k (omega (arith, lt, same)))) (names.each k lt);
-      fresh = λ k from lt.
-          let is : node_at (ys ++ y ∷ []) k ≡ y = ap (node_at (ys ++ y ∷ [])) {x = k} {y = length ys} (omega (arith, from, lt, size, same)) ∙ pushed ys y in
-          (ap (λ (n : NodeView). n.previous) is ∙ no_previous, ap (λ (n : NodeView). n.parent) is ∙ no_parent);
-    }
-
 -- the halves of a split, once the left one's range in the parent ends at its fence
-module _ (v : ArenaView) (op level l q : ℕ) (ys : List NodeView) (names : KeepNames v.nodes ys) (parted : AreParted v op level l q)
+module _ (v : ArenaView) (op level l q : ℕ) (ys : List NodeView) (gone : RetiredPlaces) (names : KeepNames v.nodes ys) (parted : AreParted v op level l q)
     (left_is : node_at ys l ≡ exact (at v l)) (right_is : node_at ys q ≡ at v q) (left : NothingLags v.nodes l) (right : NothingLags v.nodes q) (knows : (at v q).parent ≢ None) where
   abbrev u : ArenaView
-  u = record v { nodes = ys }
+  u = record v { nodes = ys; retired = gone }
 
   left_returns : MayReturn u op level l
   left_returns = record {
@@ -173,13 +163,15 @@ module _ (v : ArenaView) (op : ℕ) (s : Splits) (p : ℕ) (nodes : AreNodes v.n
     pub at_other : (k : ℕ) → k ≢ p → k ≢ l → node_at zs k ≡ at v k
     at_other k np nl = there (set v.nodes p y) l k (exact (at v l)) nl ∙ there v.nodes p k y np
 
+    pub names_each : (k : ℕ) → k < length v.nodes → KeepsNames (at v k) (node_at zs k)
+    names_each =
+        each_set2 (λ k n. KeepsNames (at v k) n) v.nodes p l y (exact (at v l)) parent_is_there left_is_there apart_left keeps (record { previous = refl; parent = refl; deleted = refl; holder = refl })
+        (λ k lt np nl. record { previous = refl; parent = refl; deleted = refl; holder = refl })
+
     pub names : KeepNames v.nodes zs
     names = record {
       more = omega (arith, size);
-      each =
-          each_set2 (λ k n. KeepsNames (at v k) n) v.nodes p l y (exact (at v l)) parent_is_there left_is_there apart_left keeps (record { previous = refl; parent = refl; deleted = refl; holder = refl })
-          (λ k lt np nl. record { previous = refl; parent = refl; deleted = refl; holder = refl });
-      fresh = λ k from lt. absurd (omega (arith, from, lt, size));
+      each = λ k lt. let was : k < length v.nodes = omega (arith, lt, size) in inr (was, names_each k was);
     }
 
   -- all that name the parent are children of it and of the right half as one more
@@ -187,26 +179,26 @@ module _ (v : ArenaView) (op : ℕ) (s : Splits) (p : ℕ) (nodes : AreNodes v.n
   children_then k is =
       let y = with_child (at v p) (at v q).low q in
       let keeps : KeepsNames (at v p) y = record { previous = refl; parent = refl; deleted = refl; holder = refl } in
-      let same = (names y keeps).each k is.0 in
+      let same = names_each y keeps k is.0 in
       children_again v.nodes p l q nodes inserts (λ j nq under. elim (h.parent.children j under) [ inl right ↦ absurd (nq right) | inr child ↦ child ])
       k (omega (arith, is.0, size y keeps), same.parent ∙ is.1, same.deleted ∙ is.2)
 
-  -- after that, and where others are added behind, the halves of all splits may be given back
-  pub halves_return : (ys : List NodeView) → KeepNames v.nodes ys → node_at ys l ≡ exact (at v l)
-      → ((k : ℕ) → k < length v.nodes → k ≢ p → k ≢ l → node_at ys k ≡ at v k)
-      → AreReturnable (record v { nodes = ys }) op s.halves.items count
-  halves_return ys names left_is other i lt = elim (cases_lt i (count - 1)) [
-    | inl low ↦ all_returnable_still v (record v { nodes = ys }) op names.more (trees_same v.trees) s.halves.items (count - 1)
+  -- after that, and where new ones come that the operation did not hold, the halves of all splits may be given back
+  pub halves_return : (ys : List NodeView) (gone : RetiredPlaces) → KeepNames v.nodes ys → node_at ys l ≡ exact (at v l)
+      → ((k : ℕ) → k < length v.nodes → (at v k).holder ≡ Some op → k ≢ p → k ≢ l → node_at ys k ≡ at v k)
+      → AreReturnable (record v { nodes = ys; retired = gone }) op s.halves.items count
+  halves_return ys gone names left_is other i lt = elim (cases_lt i (count - 1)) [
+    | inl low ↦ all_returnable_still v (record v { nodes = ys; retired = gone }) op names.more (trees_same v.trees) s.halves.items (count - 1)
         (λ level k below m. (
-          stays_whole (at v k) (node_at ys k) (other k m.held.there
+          stays_whole (at v k) (node_at ys k) (other k m.held.there m.held.holder
               (λ e. omega (arith, below, m.level_is, ap (λ j. (at v j).level) e, h.parent.level_is))
               (λ e. omega (arith, below, m.level_is, ap (λ j. (at v j).level) e, parted_is.left.level_is))),
           named_no_more v.nodes ys names k,
         )) h.named.splits.lower i low
     | inr high ↦
         let is : count - 1 ≡ i = omega (arith, high, lt) in
-        subst (λ j. MayReturnBoth (record v { nodes = ys }) op j (halves_at s.halves.items j)) is
-        (both_return v op (count - 1) l q ys names parted_is left_is (other q right_is_there (λ e. apart_right (sym e)) (λ e. parted_is.differ (sym e))) h.named.left h.named.right h.parent.knows)
+        subst (λ j. MayReturnBoth (record v { nodes = ys; retired = gone }) op j (halves_at s.halves.items j)) is
+        (both_return v op (count - 1) l q ys gone names parted_is left_is (other q right_is_there parted_is.right.held.holder (λ e. apart_right (sym e)) (λ e. parted_is.differ (sym e))) h.named.left h.named.right h.parent.knows)
   ]
 
 -- at InsertChild
@@ -261,11 +253,11 @@ module _ (v : ArenaView) (op : ℕ) (s : Splits) (nodes : AreNodes v.nodes) (k :
   -- then all may be given back
   pub kept_inserted : IsAtUnlockAll (record v { nodes = ys }) op s
   kept_inserted = record {
-    halves = halves_return v op s k.p nodes c ys same_names (at_l v op s k.p nodes c y keeps) (λ j lt np nl. at_other v op s k.p nodes c y keeps j np nl);
+    halves = halves_return v op s k.p nodes c ys v.retired same_names (at_l v op s k.p nodes c y keeps) (λ j lt mine np nl. at_other v op s k.p nodes c y keeps j np nl);
     above = λ j is. subst (λ b. MayReturn (record v { nodes = ys }) op (length s.halves.items) b) (same_Some _ _ (sym c.above ∙ is)) above_returns;
   }
 
   -- and no other node is held
   pub holds_inserted : HoldsSplits v op s → HoldsSplits (record v { nodes = ys }) op s
   holds_inserted holds j lt held =
-      let was : j < length v.nodes = omega (arith, lt, size v op s k.p nodes c y keeps) in holds j was (sym (same_names.each j was).holder ∙ held)
+      let was : j < length v.nodes = omega (arith, lt, size v op s k.p nodes c y keeps) in holds j was (sym (names_each v op s k.p nodes c y keeps j was).holder ∙ held)

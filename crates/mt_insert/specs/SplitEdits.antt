@@ -2,16 +2,20 @@
 use Rattle.std.specs.Prelude.{◌≡◌, ℕ, ◌+◌, ◌==◌, if◌then◌else◌, length, Some, None, ◌++◌, ◌∷◌, []}
 use Rattle.mt_slices.specs.Slices.{slice_of, mark_of}
 use Rattle.mt_border.specs.Split.{IsSeparator, slices_with}
-use Rattle.mt_arena.specs.{NodeView.NodeView, Edits.{locked, pointed}, Arena.ArenaView, Accesses.{at, with_node, with_half}}
+use Rattle.mt_arena.specs.{NodeView.NodeView, Edits.{locked, pointed}, Arena.ArenaView, Idle.{chosen, number_of}, Accesses.{at, with_node, with_half_at}}
 use Rattle.mt_operation.specs.{declared.phase.Phase.Phase, declared.phase.Phase.TheVariants.{LockParent, InsertChild, InteriorSplit, Reparent}}
 use Rattle.mt_operation.specs.{declared.walk.Walk.Walk, declared.splits.Splits.Splits}
 use Rattle.mt_rows.specs.Rows.{Bytes}
 
 -- after SplitStart: the node has a right half, which begins where its keys and this one would be parted
-pub record Starts (op : ℕ) (old new : ArenaView) (key : Bytes) (w : Walk) : Type 0 where
+pub record Starts (least op : ℕ) (old new : ArenaView) (key : Bytes) (w : Walk) : Type 0 where
   pub low : ℕ
   pub separator : IsSeparator (slices_with (at old w.place.node).slots (slice_of key w.layer) (mark_of key w.layer)) low
-  pub is : new ≡ with_half old w.place.node low op
+  pub is : new ≡ with_half_at old w.place.node low least op
+
+-- its number: that of the place that is chosen by this step, or else that of a new one
+abbrev pub half_number : ℕ → ArenaView → ℕ
+half_number least v = number_of (chosen v.retired.borders least) (length v.nodes)
 
 -- the same splits and these of one more node
 pub record HasOneMore (old new : Splits) (left right : ℕ) : Type 0 where

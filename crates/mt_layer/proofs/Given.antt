@@ -44,11 +44,11 @@ module _ (o : ℕ) (old new : ArenaView) (g : GivesOutBeside o old new) (none : 
     pub root_same : at new r ≡ at old r
     root_same = live_same old new g.gives r layer.made.there layer.made.live
 
-    alone : (l : ℕ) → l < length new.nodes → (at new l).tree ≡ t → l ≡ r
-    alone l lt in_tree =
+    alone : (l : ℕ) → l < length new.nodes → (at new l).tree ≡ t → (at new l).version.deleted ≡ false → l ≡ r
+    alone l lt in_tree live =
         let was : l < length old.nodes = omega (arith, lt, g.gives.count) in
         elim (g.gives.nodes l was) [
-          | inl same ↦ layer.made.alone l was (ap (λ (n : NodeView). n.tree) (sym same) ∙ in_tree)
+          | inl same ↦ layer.made.alone l was (ap (λ (n : NodeView). n.tree) (sym same) ∙ in_tree) (ap (λ (n : NodeView). n.version.deleted) (sym same) ∙ live)
           | inr given ↦ absurd (none l was given (ap (λ (u : ℕ). (tree_at old.trees u).standing) in_tree ∙ layer.mine))
         ]
 

@@ -1,5 +1,5 @@
 -- The tree of the next layer may be made of the other key's entry there, and what is kept once it is made: for `make_layer`.
-use Rattle.std.proofs.Common.{◌≡◌, ℕ, ◌+◌, ◌*◌, ◌<◌, List, [], ◌∷◌, length, Option, take, drop, refl, sym, ap, subst, ◌∙◌, inl, inr, arith, length-append}
+use Rattle.std.proofs.Common.{◌≡◌, ℕ, ◌+◌, ◌*◌, ◌<◌, length, Option, take, drop, refl, sym, ap, subst, ◌∙◌, inl, inr, arith}
 use Rattle.std.proofs.lemmas.Bool.{cases_eq}
 use Rattle.mt_slices.{specs.{Slices.rest_of, declared.mark.Mark.TheVariants.Long}, proofs.Order.rest-more}
 use Rattle.mt_rows.specs.Rows.{Bytes}
@@ -7,8 +7,9 @@ use Rattle.mt_border.specs.{declared.entry.Entry.Entry, Held.Pair, Held.Stable, 
 use Rattle.mt_border.specs.Node.{Node as BorderNode, entry_at}
 use Rattle.mt_border.proofs.Edits.{any_entry}
 use Rattle.mt_arena.specs.{declared.tree.Tree.Tree, NodeView.{NodeView, place_at, border_view}, Forests.layer_of, Layers.slot_at, Ways.BelongsIn, Arena.{ArenaView, IsArena}}
-use Rattle.mt_arena.specs.{Accesses.{at, tree_of}, Layering.{IsHeldSlot, IsLayerOf, IsSettledBut, HasKeyAt, MayMakeLayer, entry_of, root_of, prefix_below, with_layer}}
-use Rattle.mt_arena.proofs.{Pairs.{last, before}, Trees.{made as made_tree, last_tree}, Steps.keys_of, Down.{long_below, next_prefix}}
+use Rattle.mt_arena.specs.{Accesses.{at, tree_of}, Layering.{IsHeldSlot, IsLayerOf, IsSettledBut, HasKeyAt, MayMakeLayer, entry_of, prefix_below, layer_tree, tree_number, border_number, with_layer_at}}
+use Rattle.mt_arena.specs.{Nodes.AreNodes, Idle.{AreRetired, chosen}, Given.AreForgotten}
+use Rattle.mt_arena.proofs.{LayerIn.{RootIn, TreeIn, root_in, tree_in}, Steps.keys_of, Down.{long_below, next_prefix}}
 use Rattle.mt_arena.proofs.{NextLayer.{may_make, has_below}, LayerStays.whole_begun, SettledBut.{settled_but, settled_but_made}}
 use Rattle.mt_operation.specs.declared.walk.Walk.{Walk}
 use Rattle.mt_descent.specs.KeptWalks.{walk_place}
@@ -87,34 +88,51 @@ module _ (v : ArenaView) (op : ℕ) (key : Bytes) (w : Walk) (arena : IsArena v.
   has =
       subst (λ (x : Entry). HasKey prefix (layer_of prefix) x other.0) (sym entry_is) (has_below v k (walk_place v w) op h.pair other.0 h.pair.row h.pair.stamp arena held_slot other.1)
 
-  -- the slot stands where it stood
-  same_place : walk_place (with_layer v prefix e op) (walk_linked w (length v.trees)) ≡ walk_place v w
-  same_place = ap (λ (x : NodeView). place_at x w.slot) (before v.nodes (root_of (length v.trees) e) k within)
+  -- where the tree and its root may come
+  module _ (least : ℕ) (listed : AreRetired v.nodes v.trees v.retired) (forgotten : AreForgotten least v) where
+    abbrev t : ℕ
+    t = tree_number least v
 
-  -- what is kept once it is
-  pub made : IsAtMarkUnstable (with_layer v prefix e op) op key (walk_linked w (length v.trees))
-  made = record {
-    tree = length v.trees;
-    pair = h.pair;
-    makes = record {
-      taken = refl;
-      other = other.0;
-      layer = subst (λ i. IsLayerOf (with_layer v prefix e op) k i (length v.trees) op (Stable h.pair) other.0 h.pair.row) (sym same_place)
-          (whole_begun v k (walk_place v w) op (Stable h.pair) other.0 e (record h.pair { suffix = drop 8 h.pair.suffix }) arena held_slot other.1 has refl);
-      settled = subst (IsSettledBut (with_layer v prefix e op).nodes k) (sym same_place) (settled_but_made v prefix e op k (walk_place v w) within (settled_but v.nodes k (walk_place v w) h.holds.settled));
-      goes_on = record {
-        there = omega (arith, length-append v.trees (made_tree prefix (length v.nodes) op ∷ []));
-        of_tree = record {
-          stored = in_node.of_tree.stored;
-          reaches = omega (arith, below);
-          begins = ap (λ (t : Tree). t.prefix) (last_tree v.trees (made_tree prefix (length v.nodes) op)) ∙ prefix_is;
+    abbrev new : ArenaView
+    new = with_layer_at v prefix e least op
+
+    root_made : RootIn v op least t e (chosen v.retired.borders least)
+    root_made = root_in v op least e arena.nodes listed forgotten t
+
+    tree_made : TreeIn v op least (layer_tree prefix (border_number least v) op) (chosen v.retired.trees least)
+    tree_made = tree_in v op least e arena.nodes listed forgotten (layer_tree prefix (border_number least v) op) refl
+
+    same_node : at new k ≡ n
+    same_node = (root_made.node.others k (omega (arith, within, root_made.node.more)) (root_made.node.kept k within in_node.border.live)).1
+
+    -- the slot stands where it stood
+    same_place : walk_place new (walk_linked w t) ≡ walk_place v w
+    same_place = ap (λ (x : NodeView). place_at x w.slot) same_node
+
+    -- what is kept once the tree is made
+    pub made : IsAtMarkUnstable new op key (walk_linked w t)
+    made = record {
+      tree = t;
+      pair = h.pair;
+      makes = record {
+        taken = refl;
+        other = other.0;
+        layer = subst (λ i. IsLayerOf new k i t op (Stable h.pair) other.0 h.pair.row) (sym same_place)
+            (whole_begun v k (walk_place v w) op least (Stable h.pair) other.0 e (record h.pair { suffix = drop 8 h.pair.suffix }) arena listed forgotten held_slot other.1 has refl);
+        settled = subst (IsSettledBut new.nodes k) (sym same_place)
+            (settled_but_made v prefix e least op k (walk_place v w) arena.nodes listed forgotten within in_node.border.live (settled_but v.nodes k (walk_place v w) h.holds.settled));
+        goes_on = record {
+          there = tree_made.tree.inside;
+          of_tree = record {
+            stored = in_node.of_tree.stored;
+            reaches = omega (arith, below);
+            begins = ap (λ (t : Tree). t.prefix) tree_made.tree.is ∙ prefix_is;
+          };
+          begun = below;
         };
-        begun = below;
+        first = ap (λ (x : Tree). (at new x.root).slots) tree_made.tree.is ∙ ap (λ (x : NodeView). x.slots) root_made.node.is;
       };
-      first =
-          ap (λ (x : Tree). (at (with_layer v prefix e op) x.root).slots) (last_tree v.trees (made_tree prefix (length v.nodes) op)) ∙ ap (λ (x : NodeView). x.slots) (last v.nodes (root_of (length v.trees) e));
-    };
-  }
+    }
 
 -- what a border node has in a slot, its view has there
 pub in_border : (n : NodeView) (b : BorderNode) (tree level : ℕ) (reach holder : Option ℕ) (slot : ℕ) (pair : Pair) → n ≡ border_view b tree level reach holder
@@ -122,12 +140,12 @@ pub in_border : (n : NodeView) (b : BorderNode) (tree level : ℕ) (reach holder
 in_border n b tree level reach holder slot pair same is = subst (λ (m : NodeView). (slot_at m (place_at m slot)).held ≡ Stable pair) same is
 
 -- the root of the new tree is free
-pub only_made : (v : ArenaView) (op k : ℕ) (prefix : Bytes) (e : Entry) → HoldsOnly v op k → HoldsOnly (with_layer v prefix e op) op k
-only_made v op k prefix e only j within holds =
-    let y = root_of (length v.trees) e in
-    elim (cases_eq j (length v.nodes)) [
-      | inl same ↦ absurd (let free = ap (λ (m : NodeView). m.holder) (sym (last v.nodes y)) ∙ ap (λ j. (at (with_layer v prefix e op) j).holder) (sym same) ∙ holds in cc)
-      | inr differ ↦
-          let lt : j < length v.nodes = omega (arith, within, differ, length-append v.nodes (y ∷ [])) in
-          only j lt (ap (λ (m : NodeView). m.holder) (sym (before v.nodes y j lt)) ∙ holds)
+pub only_made : (v : ArenaView) (op least k : ℕ) (prefix : Bytes) (e : Entry) → AreNodes v.nodes → AreRetired v.nodes v.trees v.retired → AreForgotten least v
+    → HoldsOnly v op k → HoldsOnly (with_layer_at v prefix e least op) op k
+only_made v op least k prefix e nodes listed forgotten only j within holds =
+    let h = border_number least v in
+    let root_made : RootIn v op least (tree_number least v) e (chosen v.retired.borders least) = root_in v op least e nodes listed forgotten (tree_number least v) in
+    elim (cases_eq j h) [
+      | inl same ↦ absurd (let free = ap (λ (m : NodeView). m.holder) (sym root_made.node.is) ∙ ap (λ j. (at (with_layer_at v prefix e least op) j).holder) (sym same) ∙ holds in cc)
+      | inr differ ↦ let was = root_made.node.others j within differ in only j was.0 (ap (λ (m : NodeView). m.holder) (sym was.1) ∙ holds)
     ]

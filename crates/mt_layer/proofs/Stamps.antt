@@ -1,14 +1,14 @@
 -- No pair gets another stamp as a layer is made: for `make_layer`, `mark_unstable`, `link` and `mark_layer`.
-use Rattle.std.proofs.Common.{◌≡◌, ◌≢◌, ℕ, ◌<◌, List, [], ◌∷◌, length, get_or, set, true, false, if◌then◌else◌, Some, refl, sym, ap, subst, ◌∙◌, inl, inr, arith, length-append}
+use Rattle.std.proofs.Common.{◌≡◌, ◌≢◌, ℕ, ◌<◌, List, [], ◌∷◌, length, get_or, set, Bool, true, false, if◌then◌else◌, Some, refl, sym, ap, subst, ◌∙◌, inl, inr, arith}
 use Rattle.std.proofs.{lemmas.Bool.cases_eq, lemmas.Option.{none-some, same_Some}, lemmas.List.{length-set, get_or-set_same, get_or-set_other}}
 use Rattle.mt_rows.specs.Rows.{Bytes}
 use Rattle.mt_border.specs.{declared.entry.Entry.Entry, Held.Pair, Held.Held, Held.{Unstable, Link}}
 use Rattle.mt_border.specs.{Entry.pair_of, Contents.{HasKey, owned, key_at}}
 use Rattle.mt_border.proofs.{Edits.{any_entry, replaced_at}, ContentsKeys.owned_at}
-use Rattle.mt_arena.specs.{declared.tree.Tree.Tree, declared.tree.Standing.TheVariants.{Made, Live}, NodeView.NodeView, Contents.{counts, is_live}}
+use Rattle.mt_arena.specs.{declared.tree.Tree.Tree, declared.tree.Standing.Standing, declared.tree.Standing.TheVariants.{Made, Live}, NodeView.NodeView, Contents.{counts, is_live}}
 use Rattle.mt_arena.specs.{Forests.{tree_at, no_tree, layer_of}, Layers.slot_at, Arena.{ArenaView, IsArena}, Accesses.{at, tree_of}}
-use Rattle.mt_arena.specs.Layering.{root_of, with_held, with_layer, with_slot, with_link}
-use Rattle.mt_arena.proofs.{Pairs.{here, there, last, before}, Trees.{made as made_tree, last_tree, before_tree}}
+use Rattle.mt_arena.specs.{Layering.{layer_tree, tree_number, border_number, with_held, with_layer_at, with_slot, with_link}, Idle.{AreRetired, chosen}, Given.AreForgotten}
+use Rattle.mt_arena.proofs.{Pairs.{here, there}, LayerIn.{RootIn, TreeIn, root_in, tree_in}}
 use Rattle.mt_operation.specs.declared.walk.Walk.{Walk}
 use Rattle.mt_descent.specs.KeptWalks.{walk_place}
 use Rattle.mt_layer.specs.{KeptLayers.MakesLayer, NewLayers.{HasStamp, KeepsStamps, entry_below}}
@@ -48,21 +48,44 @@ node_as_was v w k i owner stamp within same same_tree =
     (ap (λ (x : NodeView). length x.slots) same)
     (subst (λ (x : NodeView). IsLike (slot_at n i) (slot_at x i)) (sym same) (itself (slot_at n i)))
 
+-- a node that counts is live, and so is its tree
+counts_live : (trees : List Tree) (n : NodeView) → counts trees n ≡ true → n.version.deleted ≡ false
+counts_live trees n = by n.version.deleted
+  where
+    by : (d : Bool) → (if d then false else is_live (tree_at trees n.tree).standing) ≡ true → d ≡ false
+    by true counted = absurd (cc)
+    by false counted = refl
+
+made_counts : (trees : List Tree) (n : NodeView) (op : ℕ) → (tree_at trees n.tree).standing ≡ Made op → counts trees n ≡ true → ⊥
+made_counts trees n op made counted = by n.version.deleted (sym (ap (λ (s : Standing). if n.version.deleted then false else is_live s) made) ∙ counted)
+  where
+    by : (d : Bool) → (if d then false else false) ≡ true → ⊥
+    by true is = absurd (cc)
+    by false is = absurd (cc)
+
 -- a tree is made, whose pairs do not count
-pub layer_keeps : (v : ArenaView) (prefix : Bytes) (e : Entry) (op : ℕ) → IsArena v.nodes v.trees → KeepsStamps v (with_layer v prefix e op)
-layer_keeps v prefix e op arena j m owner stamp h =
-    let y = root_of (length v.trees) e in
-    let u = made_tree prefix (length v.nodes) op in
-    let w = with_layer v prefix e op in
-    elim (cases_eq j (length v.nodes)) [
-      | inl same ↦ absurd (
-          let made : counts w.trees y ≡ false = ap (λ (t : Tree). is_live t.standing) (last_tree v.trees u) in
-          let counted : counts w.trees y ≡ true = ap (counts w.trees) (sym (last v.nodes y)) ∙ ap (λ j. counts w.trees (at w j)) (sym same) ∙ h.counted in
-          let both : false ≡ true = sym made ∙ counted in
-          cc)
+pub layer_keeps : (v : ArenaView) (prefix : Bytes) (e : Entry) (least op : ℕ) → IsArena v.nodes v.trees → AreRetired v.nodes v.trees v.retired → AreForgotten least v
+    → KeepsStamps v (with_layer_at v prefix e least op)
+layer_keeps v prefix e least op arena listed forgotten j m owner stamp has =
+    let t = tree_number least v in
+    let h = border_number least v in
+    let w : ArenaView = with_layer_at v prefix e least op in
+    let root_made : RootIn v op least t e (chosen v.retired.borders least) = root_in v op least e arena.nodes listed forgotten t in
+    let tree_made : TreeIn v op least (layer_tree prefix h op) (chosen v.retired.trees least) = tree_in v op least e arena.nodes listed forgotten (layer_tree prefix h op) refl in
+    elim (cases_eq j h) [
+      | inl same ↦
+          let of_tree : (at w j).tree ≡ t = ap (λ j. (at w j).tree) same ∙ ap (λ (n : NodeView). n.tree) root_made.node.is in
+          absurd (made_counts w.trees (at w j) op (ap (λ s. (tree_at w.trees s).standing) of_tree ∙ ap (λ (u : Tree). u.standing) tree_made.tree.is) has.counted)
       | inr other ↦
-          let inside : j < length v.nodes = omega (arith, h.there, other, length-append v.nodes (y ∷ [])) in
-          (j, m, node_as_was v w j m owner stamp inside (before v.nodes y j inside) (before_tree v.trees u (at v j).tree (arena.forest.tree_there j inside)) h)
+          let was = root_made.node.others j has.there other in
+          elim (cases_eq (at v j).tree t) [
+            | inl of_tree ↦
+                let same : (at w j).tree ≡ t = ap (λ (n : NodeView). n.tree) was.1 ∙ of_tree in
+                absurd (made_counts w.trees (at w j) op (ap (λ s. (tree_at w.trees s).standing) same ∙ ap (λ (u : Tree). u.standing) tree_made.tree.is) has.counted)
+            | inr apart ↦
+                let tree_same = (tree_made.tree.others (at v j).tree (omega (arith, arena.forest.tree_there j was.0, tree_made.tree.more)) apart).1 in
+                (j, m, node_as_was v w j m owner stamp was.0 was.1 tree_same has)
+          ]
     ]
 
 -- a slot holds something else
@@ -195,7 +218,7 @@ module _ (v : ArenaView) (op : ℕ) (key : Bytes) (walk : Walk) (t : ℕ) (pair 
         let now : at w j ≡ at v j = there v.nodes k j written other in
         elim (cases_eq (at v j).tree t) [
           | inl of_tree ↦
-              let root : j ≡ tree.root = makes.layer.layer.made.alone j inside of_tree in
+              let root : j ≡ tree.root = makes.layer.layer.made.alone j inside of_tree (ap (λ (x : NodeView). x.version.deleted) (sym now) ∙ counts_live w.trees (at w j) h.counted) in
               let tree_is : (tree_of w j).prefix ≡ tree.prefix = ap (λ (x : NodeView). (tree_at w.trees x.tree).prefix) now ∙ ap (λ u. (tree_at w.trees u).prefix) of_tree ∙ prefix_is in (
                 k,
                 i,

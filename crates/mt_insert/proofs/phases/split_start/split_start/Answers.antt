@@ -9,9 +9,11 @@ returns-in-Ok-clause-starts c = record {
   splits = search rules;
   walk = search rules;
   tape_stays = search rules;
-  keeps = search rules;
+  same = search rules;
+  steps = search rules;
+  contents = search rules;
   kept =
-      λ task prepared same h. kept_start c.args.arena.now c.halve.new.arena c.args.operation c.args.key.now task prepared c.args.walk.now c.args.splits.now c.halve.new.splits c.facts.ensures.arena c.requires.none c.in-Ok.ensures.is c.in-Ok.ensures.splits same h;
+      λ task prepared same h. kept_start c.args.arena.now c.halve.new.arena c.args.least c.args.operation c.args.key.now task prepared c.args.walk.now c.args.splits.now c.halve.new.splits c.facts.ensures.arena c.facts.ensures.retired c.requires.forgotten c.requires.none c.in-Ok.ensures.is c.in-Ok.ensures.splits same h;
   holds =
-      holds_start c.args.arena.now c.halve.new.arena c.args.operation c.args.key.now c.args.walk.now c.args.splits.now c.halve.new.splits c.requires.none c.in-Ok.ensures.is c.in-Ok.ensures.splits;
+      λ only. holds_start c.args.arena.now c.halve.new.arena c.args.least c.args.operation c.args.key.now c.requires.kept.0 c.requires.kept.1 c.args.walk.now c.args.splits.now c.halve.new.splits c.facts.ensures.arena c.facts.ensures.retired c.requires.forgotten c.requires.kept.3 c.requires.none c.in-Ok.ensures.is c.in-Ok.ensures.splits only;
 }

@@ -1,11 +1,11 @@
 -- The tree may be made of its prefix and its entry, which are those of the next layer.
 use Rattle.std.proofs.Common.{◌≡◌, sym, ap, subst, ◌∙◌, OnOk}
-use Rattle.mt_arena.specs.{Arena.ArenaView, Accesses.at, Layering.with_layer}
+use Rattle.mt_arena.specs.{Arena.ArenaView, Accesses.at, Layering.with_layer_at}
 use Rattle.mt_layer.proofs.Making.{prefix_is, may_with, in_border}
 use Rattle.mt_layer.proofs.phases.make_layer.grow_layer.Goals as goal
 
-pub make_layer-requires : goal.make_layer-requires
-make_layer-requires c =
+pub make_layer-requires-clause-may : goal.make_layer-requires-clause-may
+make_layer-requires-clause-may c =
     let v = c.args.arena.now in
     let w = c.args.walk.now in
     let h = c.requires.kept in
@@ -18,4 +18,4 @@ returns-clause-is c = λ pair is.
     let w = c.args.walk.now in
     let prefix = c.in_ok-prefix.ensures ∙ sym (prefix_is v c.args.operation c.args.key.now w c.facts.ensures.arena c.requires.kept) in
     let entry = c.in_ok-entry.ensures pair (in_border (at v w.place.node) c.border.result.now _ _ _ _ w.slot pair c.border.ensures is) in
-    subst (λ (z : ArenaView). OnOk c.make_layer.result (c.make_layer.new.self ≡ z)) (λ a. with_layer v (prefix a) (entry a) c.args.operation) c.make_layer.ensures.is
+    subst (λ (z : ArenaView). OnOk c.make_layer.result (c.make_layer.new.self ≡ z)) (λ a. with_layer_at v (prefix a) (entry a) c.args.least c.args.operation) c.make_layer.ensures.is

@@ -10,18 +10,20 @@ returns-in-Ok-clause-makes c = record {
   is = search rules;
   walk = search rules;
   kept = let h = c.requires.kept in
-      rw (c.in-Ok.ensures.is h.pair h.stable, c.in-Ok.ensures.number) (made c.args.arena.now c.args.operation c.args.key.now c.args.walk.now c.facts.ensures.arena h);
+      rw (c.in-Ok.ensures.is h.pair h.stable, c.in-Ok.ensures.number) (made c.args.arena.now c.args.operation c.args.key.now c.args.walk.now c.facts.ensures.arena h c.args.least c.facts.ensures.retired c.requires.forgotten);
   on = record {
-    keeps = search rules;
+    same = search rules;
+    steps = search rules;
+    contents = search rules;
     stamps = let v = c.args.arena.now in
         let w = c.args.walk.now in
         let h = c.requires.kept in
-        rw (c.in-Ok.ensures.is h.pair h.stable) (layer_keeps v (prefix_below v w.place.node (walk_place v w)) (entry_below h.pair) c.args.operation c.facts.ensures.arena);
+        rw (c.in-Ok.ensures.is h.pair h.stable) (layer_keeps v (prefix_below v w.place.node (walk_place v w)) (entry_below h.pair) c.args.least c.args.operation c.facts.ensures.arena c.facts.ensures.retired c.requires.forgotten);
     holds = λ only.
         let v = c.args.arena.now in
         let w = c.args.walk.now in
         let h = c.requires.kept in
-        rw (c.in-Ok.ensures.is h.pair h.stable) (only_made v c.args.operation w.place.node (prefix_below v w.place.node (walk_place v w)) (entry_below h.pair) only);
+        rw (c.in-Ok.ensures.is h.pair h.stable) (only_made v c.args.operation c.args.least w.place.node (prefix_below v w.place.node (walk_place v w)) (entry_below h.pair) c.facts.ensures.arena.nodes c.facts.ensures.retired c.requires.forgotten only);
   };
 }
 
