@@ -1,9 +1,9 @@
--- Where no node and no tree is made, and none is taken out: for the phases that make none, and for those that take none out.
-use Rattle.std.proofs.{Common.{◌≡◌, ℕ, zero, suc, ◌+◌, ◌<◌, List, [], ◌∷◌, length, refl, sym, subst, arith}, lemmas.List.length-set}
+-- If no node and no tree is made, none is taken out, and no place is given out: for the phases that do nothing of it.
+use Rattle.std.proofs.{Common.{◌≡◌, ℕ, zero, suc, ◌+◌, ◌<◌, inl, List, [], ◌∷◌, length, refl, sym, subst, arith}, lemmas.List.length-set}
 use Rattle.mt_arena.specs.{declared.retired.Retired.Retired, NodeView.NodeView, Idle.{RetiredPlaces, with_retired, with_border, with_interior, with_tree}}
-use Rattle.mt_arena.{specs.{Given.{AreOutUpTo, step_of_idle}, Arena.ArenaView, Accesses.with_node}, proofs.Out.upto_later}
+use Rattle.mt_arena.{specs.{Given.{AreOutUpTo, StepsFrom, step_of_idle}, Arena.{ArenaView, Guarantee}, Accesses.with_node}, proofs.Out.upto_later}
 use Rattle.mt_descent.{specs.KeptBack.{ListsAfter, RetiresAfter}, proofs.KeptBack.{lists_same, lists_more}}
-use Rattle.mt_state.specs.{Growth.MakesFew, KeptBack.Retires, Views.Core}
+use Rattle.mt_state.specs.{Growth.MakesFew, KeptBack.Retires, Given.{GivesPlaces, ChangesArena}, Views.{StateView, Core, shown}}
 
 -- as many nodes and trees as before
 pub makes_same : (old new : ArenaView) → length new.nodes ≡ length old.nodes → length new.trees ≡ length old.trees → MakesFew old new
@@ -58,3 +58,21 @@ retires_none steps gone late = record {
 pub retires_same : (c : Core) (arena : ArenaView) → AreOutUpTo c.steps c.arena.retired → arena.retired ≡ c.arena.retired
     → Retires c.steps c.arena.retired arena.retired
 retires_same c arena late same = subst (Retires c.steps c.arena.retired) (sym same) (retires_none c.steps c.arena.retired late)
+
+-- no place is given out
+pub nothing_given : (v : StateView) → GivesPlaces v v.arena
+nothing_given v = record {
+  least = 0;
+  before = λ q op there. omega arith;
+  given = record {
+    gives = record { count = refl; tree_count = refl; nodes = λ k within. inl refl; trees = λ t within. inl refl };
+    nodes = λ k out. refl;
+    trees = λ t out. refl;
+  };
+  contents = refl;
+  lists = λ birth born. after_same birth v.arena.retired;
+}
+
+-- so does a step that gives none out
+pub changes_on : (c : Core) (o : ℕ) (arena : ArenaView) → Guarantee o c.arena arena → Retires c.steps c.arena.retired arena.retired → ChangesArena (shown c) o arena
+changes_on c o arena step out = record { mid = c.arena; gives = nothing_given (shown c); step = step; retires = out.after }

@@ -6,13 +6,13 @@ use Rattle.mt_rows.specs.{Maps.{reply_of, is_get}, Tenants.tenant_map, declared.
 use Rattle.mt_runs.specs.{Runs.{Asked, story_of, first_of}, WrongRuns.{key_k, get_k}}
 use Rattle.mt_slices.specs.Keys.{stored_key}
 use Rattle.mt_border.proofs.ContentsKeys.{in_top_tree}
-use Rattle.mt_arena.specs.Accesses.{new_arena}
+use Rattle.mt_arena.specs.{Accesses.new_arena, Idle.no_places}
 use Rattle.mt_operation.specs.{declared.phase.Phase.TheVariants.{Search, Confirm, Done}, declared.outcome.Outcome.Outcome, Operations.OperationView}
 use Rattle.mt_operation.specs.Phases.{is_done}
 use Rattle.mt_descent.specs.KeptWalks.{GoesThrough}
 use Rattle.mt_state.specs.{Views.{StateView, op_at, quota_of}, Steps.{HasMoved, change_in}, Notes.Notes, Promises.{IsAnswer, IsStep}, Refused.IsAdmissible}
 use Rattle.mt_state.specs.{Begins.{new_state, begun, Begins, Takes}, Histories.{Names, no_names, BringsTo}, OneGet.one_get}
-use Rattle.mt_state.proofs.{Still.nothing_changes, Growing.makes_same, HistoryStart.{content-new, tenant_map-empty}, HistoryGets.get_absent}
+use Rattle.mt_state.proofs.{Still.nothing_changes, Growing.{makes_same, nothing_given, after_same}, HistoryStart.{content-new, tenant_map-empty}, HistoryGets.get_absent}
 use Rattle.mt_state.proofs.HistoryNew.{nothing_found}
 
 -- one name alone
@@ -69,7 +69,12 @@ module _ (logs : ℕ) (accounts : Accounts) where
     answers = refl;
     logs = refl;
     grows = record { steps = omega arith; quotas = λ t. refl; maps = λ t m le. refl; changes = λ m le. refl };
-    arena = nothing_changes 0 (new_state logs accounts).arena;
+    arena = record {
+      mid = new_arena;
+      gives = nothing_given (reached n before);
+      step = nothing_changes 0 (new_state logs accounts).arena;
+      retires = λ birth born. after_same birth no_places;
+    };
     touches = λ k within. inl refl;
     effect = inl (record { contents = refl; entries = refl; change = same });
     ends = ends;

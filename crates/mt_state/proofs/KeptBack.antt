@@ -1,8 +1,8 @@
 -- What an operation remembers stays kept back: through the steps of others and through its own: for all phases.
-use Rattle.std.proofs.Common.{◌≡◌, ◌≢◌, ℕ, ◌+◌, ◌<◌, inl, inr, false, length, Option, Some, None, refl, sym, subst}
+use Rattle.std.proofs.Common.{◌≡◌, ◌≢◌, ℕ, ◌+◌, ◌<◌, ◌⊎◌, inl, inr, false, length, Option, Some, None, refl, sym, ap, subst, ◌∙◌, arith}
 use Rattle.mt_rows.specs.Rows.{Columns}
 use Rattle.mt_arena.specs.{declared.tree.Standing.Standing, declared.tree.Standing.TheVariants.{Made, Live, Dead}, Forests.{tree_at, no_tree}, Layers.slot_at}
-use Rattle.mt_arena.specs.{Idle.{AreRetired, is_idle_tree, has_ended}, Arena.{ArenaView, Guarantee}, Accesses.at, Given.IsTreeOutFrom}
+use Rattle.mt_arena.specs.{NodeView.NodeView, Idle.{AreRetired, is_idle_tree, has_ended}, Arena.{ArenaView, Guarantee}, Accesses.at, Given.IsTreeOutFrom}
 use Rattle.mt_border.specs.Held.{Link as LinkTo}
 use Rattle.mt_operation.specs.declared.phase.Phase.{Phase}
 use Rattle.mt_operation.specs.declared.phase.Phase.TheVariants.{Enter, Child, Verify, Load, Confirm, Forward, Check, Hop, Done}
@@ -11,9 +11,9 @@ use Rattle.mt_operation.specs.Tables.{op_at as operation_at}
 use Rattle.mt_operation.proofs.Phases.{by_descent}
 use Rattle.mt_descent.specs.{KeptWalks.IsKept, Remembered.{RemembersNode, RemembersTree, Learns}, KeptBack.{RemembersKept, RetiresAfter}, WalkMoves.walk_into}
 use Rattle.mt_descent.proofs.{Listing.unlisted, KeptBack.{node_stays_out, tree_stays_out, live_node_out, live_tree_out, named_out, kept_by_look, kept_by_step, kept_into}}
-use Rattle.mt_state.specs.{Views.{Core, past_of}, Ways.IsOnWay, KeptOperations.{IsKeptFor, IsReadingAt, IsScanningAt, IsKeptOf}}
+use Rattle.mt_state.specs.{Views.{Core, shown, past_of}, Ways.IsOnWay, KeptOperations.{IsKeptFor, IsReadingAt, IsScanningAt, IsKeptOf}}
 use Rattle.mt_state.specs.KeptBack.{ArenaFacts, ScanRemembersKept, IsScanBack, IsWalkBack, IsBackAt, IsHeldBack, IsKeptBack, Retires, TakesLive}
-use Rattle.mt_state.specs.Invariant.{StateInvariant, StateGuarantee}
+use Rattle.mt_state.specs.{Given.{with_given, ChangesArena}, Invariant.{StateInvariant, StateGuarantee}}
 use Rattle.mt_state.proofs.{Rely.holder_was, Descents.by_way}
 use Rattle.mt_scan.specs.Remembered as scans
 use Rattle.mt_operation.specs.Phases as kinds
@@ -36,52 +36,55 @@ live_back v facts birth k within live = (
 )
 
 -- what was kept back still is
-back_stays : (birth : ℕ) (old new : ArenaView) (k : ℕ) → RetiresAfter birth old.retired new.retired → (at new k).tree ≡ (at old k).tree
+pub back_stays : (birth : ℕ) (old new : ArenaView) (k : ℕ) → RetiresAfter birth old.retired new.retired → (at new k).tree ≡ (at old k).tree
     → IsHeldBack birth old k → IsHeldBack birth new k
 back_stays birth old new k lists same h = (
   node_stays_out birth old.retired new.retired k lists h.0,
   subst (λ t. IsTreeOutFrom (birth + 1) new.retired t) (sym same) (tree_stays_out birth old.retired new.retired (at old k).tree lists h.1),
 )
 
--- the step of another operation
-module _ (old new : Core) (o q : ℕ) (facts : ArenaFacts new.arena) (g : StateGuarantee old new o) (other : q ≢ o) (op : Operation) (kept : IsKeptOf old q op) where
-  lists : RetiresAfter op.birth old.arena.retired new.arena.retired
-  lists = g.retires op.birth kept.always.born
+-- the step of another operation, from where places were given out
+module _ (old new : Core) (o q : ℕ) (facts : ArenaFacts new.arena) (g : StateGuarantee old new o) (other : q ≢ o) (op : Operation) (kept : IsKeptOf (with_given old g.arena.mid) q op) where
+  abbrev start : Core
+  start = with_given old g.arena.mid
 
-  walk_on : (row : Option Columns) → IsKept old.arena (past_of old) op.task.key row op.walk → RemembersKept op.birth old.arena op.walk
+  lists : RetiresAfter op.birth start.arena.retired new.arena.retired
+  lists = g.arena.retires op.birth kept.always.born
+
+  walk_on : (row : Option Columns) → IsKept start.arena (past_of start) op.task.key row op.walk → RemembersKept op.birth start.arena op.walk
       → RemembersKept op.birth new.arena op.walk
-  walk_on row k h = kept_by_step o op.birth old.arena new.arena g.arena.nodes g.arena.lost facts.arena facts.retired lists (past_of old) op.task.key row op.walk k h
+  walk_on row k h = kept_by_step o op.birth start.arena new.arena g.arena.step.nodes g.arena.step.lost facts.arena facts.retired lists (past_of start) op.task.key row op.walk k h
 
-  scan_on : (p : Phase) → ScanRemembersKept op.birth old.arena p op.walk op.scan.stop → ScanRemembersKept op.birth new.arena p op.walk op.scan.stop
+  scan_on : (p : Phase) → ScanRemembersKept op.birth start.arena p op.walk op.scan.stop → ScanRemembersKept op.birth new.arena p op.walk op.scan.stop
   scan_on p h = record {
-    nodes = λ k r. node_stays_out op.birth old.arena.retired new.arena.retired k lists (h.nodes k r);
-    trees = λ t r. tree_stays_out op.birth old.arena.retired new.arena.retired t lists (h.trees t r);
+    nodes = λ k r. node_stays_out op.birth start.arena.retired new.arena.retired k lists (h.nodes k r);
+    trees = λ t r. tree_stays_out op.birth start.arena.retired new.arena.retired t lists (h.trees t r);
   }
 
-  reading_on : (p : Phase) → IsReadingAt p old op → RemembersKept op.birth old.arena op.walk → RemembersKept op.birth new.arena op.walk
+  reading_on : (p : Phase) → IsReadingAt p start op → RemembersKept op.birth start.arena op.walk → RemembersKept op.birth new.arena op.walk
   reading_on Load k h = walk_on None k.way.kept h
   reading_on Confirm k h = walk_on k.row k.kept h
   reading_on _ k h = walk_on None k.kept h
 
-  scanning_on : (p : Phase) → IsScanningAt p old op → IsScanBack p old.arena op → IsScanBack p new.arena op
+  scanning_on : (p : Phase) → IsScanningAt p start op → IsScanBack p start.arena op → IsScanBack p new.arena op
   scanning_on Check k h = scan_on Check h
   scanning_on Hop k h = scan_on Hop h
   scanning_on _ k h = walk_on None k.kept h
 
-  on_by : (of : Kind) (p : Phase) → IsKeptFor of p old q op → IsWalkBack of p old.arena op → IsWalkBack of p new.arena op
+  on_by : (of : Kind) (p : Phase) → IsKeptFor of p start q op → IsWalkBack of p start.arena op → IsWalkBack of p new.arena op
   on_by kinds.Descends p k h = walk_on None k.kept h
   on_by kinds.Locks p k h = walk_on None k.kept h
   on_by kinds.Reads p k h = reading_on p k h
   on_by kinds.Scans p k h = scanning_on p k h
   on_by _ p k h = tt
 
-  pub kept_back_stays : IsKeptBack old.arena q op → IsKeptBack new.arena q op
+  pub kept_back_stays : IsKeptBack g.arena.mid q op → IsKeptBack new.arena q op
   kept_back_stays h = record {
     walk = on_by (row op.walk.phase).kind op.walk.phase kept.kept h.walk;
     held = λ k within holds.
-        let was = holder_was o q k old.arena new.arena g.arena within holds other in
-        back_stays op.birth old.arena new.arena k lists (g.arena.nodes.nodes k was.0).tree (h.held k was.0 was.1);
-    cleans = λ t is. tree_stays_out op.birth old.arena.retired new.arena.retired t lists (h.cleans t is);
+        let was = holder_was o q k start.arena new.arena g.arena.step within holds other in
+        back_stays op.birth start.arena new.arena k lists (g.arena.step.nodes.nodes k was.0).tree (h.held k was.0 was.1);
+    cleans = λ t is. tree_stays_out op.birth start.arena.retired new.arena.retired t lists (h.cleans t is);
   }
 
 -- what a step brings of what its own operation remembers: all that its walk does, and that the tree whose link it goes to take out was there, or was taken out
@@ -92,10 +95,20 @@ pub record BringsBack (c : Core) (arena : ArenaView) (before after : Operation) 
   pub cleans : ArenaFacts c.arena → (t : ℕ) → after.removal.cleans ≡ Some t → IsTreeOutFrom (before.birth + 1) c.arena.retired t
 
 -- a step of one's own
-module _ (c : Core) (o : ℕ) (before : Operation) (h : StateInvariant c) (there : operation_at c.table o ≡ Some before) (arena : ArenaView) (guarantee : Guarantee o c.arena arena)
+module _ (c : Core) (o : ℕ) (before : Operation) (h : StateInvariant c) (there : operation_at c.table o ≡ Some before) (arena : ArenaView) (changes : ChangesArena (shown c) o arena)
     (taken_out : Retires c.steps c.arena.retired arena.retired) (takes : TakesLive o c.arena arena) where
   own_lists : RetiresAfter before.birth c.arena.retired arena.retired
   own_lists = taken_out.after before.birth (h.ops o before there).always.born
+
+  -- a node that it held, or that was live, is in no place that was given out: it is of the same tree after the step
+  same_tree : (k : ℕ) → k < length c.arena.nodes → ((at c.arena k).holder ≡ Some o) ⊎ ((at c.arena k).version.deleted ≡ false) → (at arena k).tree ≡ (at c.arena k).tree
+  same_tree k inside by = elim (changes.gives.given.gives.nodes k inside) [
+    | inl same ↦ (changes.step.nodes.nodes k (omega (arith, inside, changes.gives.given.gives.count))).tree ∙ ap (λ (n : NodeView). n.tree) same
+    | inr given ↦ elim by [
+      | inl held ↦ absurd (let none = sym given.free ∙ held in cc)
+      | inr live ↦ absurd (let both = sym given.out ∙ live in cc)
+    ]
+  ]
 
   -- what it held is kept back, and so is what it takes, which is live
   own_held : ArenaFacts c.arena → ArenaFacts arena → (k : ℕ) → k < length arena.nodes → (at arena k).holder ≡ Some o → IsHeldBack before.birth arena k
@@ -105,8 +118,8 @@ module _ (c : Core) (o : ℕ) (before : Operation) (h : StateInvariant c) (there
           | inl held ↦ (h.remembered o before there).held k inside held
           | inr live ↦ live_back c.arena was before.birth k inside live
         ] in
-        back_stays before.birth c.arena arena k own_lists (guarantee.nodes.nodes k inside).tree in_old
-    | inr (fresh, live) ↦ live_back arena are before.birth k within live
+        back_stays before.birth c.arena arena k own_lists (same_tree k inside by) in_old
+    | inr live ↦ live_back arena are before.birth k within live
   ]
 
   pub own_back : (after : Operation) → BringsBack c arena before after → ArenaFacts c.arena → ArenaFacts arena → IsKeptBack arena o after

@@ -11,21 +11,21 @@ use Rattle.mt_operation.specs.{declared.phase.Phase.TheVariants.{Enter, Judge, M
 use Rattle.mt_operation.specs.{declared.outcome.Outcome.Outcome, declared.splits.Halves.Halves, declared.operation.Operation.Operation}
 use Rattle.mt_operation.specs.Operations.{OperationView, view_of, IsUnsplit}
 use Rattle.mt_operation.specs.Phases.{is_done, MayFollow, IsOfKind, has_splits, IsLayerPhase, FitsAim, IsLayerKind, Kind, change_at, holds_of, may_be_parts, row, is_unplaced}
-use Rattle.mt_operation.specs.{Tasks.ask, Tables.{op_at as operation_at}}
+use Rattle.mt_operation.specs.{Tasks.ask, Tables.{AreBornFrom, op_at as operation_at}}
 use Rattle.mt_remove.specs.Writes.{is_remove}
 use Rattle.mt_descent.specs.{KeptWalks.{IsAtEnter, KeptAt, walk_place}, WalkMoves.KeepsPairs}
 use Rattle.mt_insert.specs.{KeptPuts.IsAtMakeLayer, Judge.MeetsOther}
 use Rattle.mt_held.specs.{Holds.HoldsOnly, Unlock.{MeetsLink, IsUnlock}}
 use Rattle.mt_layer.specs.{KeptLayers.KeptLayer, NewLayers.HasStamp, Builds.{IsLayerFrom, IsLeave}}
-use Rattle.mt_state.specs.{Views.{StateView, Core, shown, past_of, map_of}, Steps.told_change, Notes.{Notes, Keeps}, Promises.Touches}
+use Rattle.mt_state.specs.{Views.{StateView, Core, shown, past_of, map_of}, Steps.told_change, Notes.{Notes, Keeps}, Promises.Touches, Given.ChangesArena}
 use Rattle.mt_state.specs.KeptOperations.{IsOpenOperation, IsJudging, IsLayering, IsLeaving, IsReturning, HasAnswer, IsKeptAt, IsKeptOf, IsKeptFor, IsBound}
-use Rattle.mt_state.specs.KeptBack.{ArenaFacts, IsWalkBack, IsBackAt}
+use Rattle.mt_state.specs.KeptBack.{ArenaFacts, IsWalkBack, IsBackAt, Retires}
 use Rattle.mt_descent.specs.{KeptBack.RemembersKept, WalkMoves.walk_into}
 use Rattle.mt_state.specs.Invariant.{IsTape, IsStampOf, AreStamps, HoldsLast, HoldsAt, StateInvariant, StateGuarantee, HoldsBy}
 use Rattle.mt_state.proofs.{Telling.{Gives, gives, logs_later}, Quiet.{quiet, LeavesPairs}, Moved.{went, open_moved, has_moved, first_begun, first_upto}}
 use Rattle.mt_state.proofs.{Still.{IsUnready, floor_made, leaves_all, unready_none, IsUnreadyBy}, Reading.walk_same}
-use Rattle.mt_state.proofs.OneNode.{counted_unlocked, counted_later, replaced_at, replaced_touches, replaced_leaves, quiet_grows, holds_here, quiet_gives, border_alone}
-use Rattle.mt_state.proofs.{LayerNodes.{BuildsLayer, builds_by}, Growing.retires_same, KeptBack.{own_back, first_aside_back, link_back}, Bound.bound_on, Lawful.stopped_free}
+use Rattle.mt_state.proofs.OneNode.{counted_unlocked, replaced_at, replaced_touches, replaced_leaves, quiet_grows, holds_here, quiet_gives, border_alone}
+use Rattle.mt_state.proofs.{LayerNodes.{BuildsLayer, builds_by}, Giving.{are_forgotten, changes_from, retires_given}, KeptBack.{own_back, first_aside_back, link_back}, Bound.bound_on, Lawful.stopped_free}
 use Rattle.mt_walks.specs.Walked.{IsWithin}
 use Rattle.mt_operation.specs.declared.walk.Aim.TheVariants as aims
 use Rattle.mt_operation.specs.Phases as kinds
@@ -337,7 +337,8 @@ module _ (c : Core) (o : ℕ) (h : StateInvariant c) (few : c.steps < 2 ^ 59) (o
         MakeLayer Done at_make (ap (λ (x : Walk). x.phase) t.walk) refl tt tt tt t.keeps.same.aim tt (sym (ap told_change making.untold)) refl own (λ facts. tt) (unsplit_at MakeLayer at_make refl)
 
   -- a layer comes one step nearer
-  module _ (arena : ArenaView) (w : Walk) (layer : IsLayerPhase op.walk.phase) (from : IsLayerFrom op.walk.phase o op.task.key c.arena arena op.walk w) where
+  module _ (arena : ArenaView) (w : Walk) (least : ℕ) (facts : ArenaFacts c.arena) (born : AreBornFrom c.table least) (layer : IsLayerPhase op.walk.phase)
+      (from : IsLayerFrom op.walk.phase least o op.task.key c.arena arena op.walk w) where
     abbrev built : Operation
     built = went op (c.steps + 1) w op.outcome op.prepared
 
@@ -347,8 +348,11 @@ module _ (c : Core) (o : ℕ) (h : StateInvariant c) (few : c.steps < 2 ^ 59) (o
     layering : IsLayering c o op op.walk.phase
     layering = layer_kept op.walk.phase layer c o op (h.ops o op there).kept
 
-    t : BuildsLayer o c.arena arena op.task.key op.walk w
-    t = builds_by op.walk.phase layer o op.task.key c.arena arena op.walk w refl layering.makes from
+    t : BuildsLayer least o c.arena arena op.task.key op.walk w
+    t = builds_by op.walk.phase layer least o op.task.key c.arena arena op.walk w refl facts.retired (are_forgotten c h facts least born) layering.makes from
+
+    build_lists : Retires c.steps c.arena.retired arena.retired
+    build_lists = retires_given c.steps c.arena.retired arena.retired h.late t.retired
 
     leads : HasLayer w.phase
     leads = layer_leads op.walk.phase w.phase layer t.follows t.on
@@ -356,15 +360,17 @@ module _ (c : Core) (o : ℕ) (h : StateInvariant c) (few : c.steps < 2 ^ 59) (o
     unsplit : IsUnsplit op.splits
     unsplit = unsplit_at op.walk.phase refl (layer_unsplit op.walk.phase layer)
 
+    build_changes : ChangesArena (shown c) o arena
+    build_changes = changes_from c least o arena born t.steps build_lists
+
     build_guarantee : StateGuarantee c building o
     build_guarantee = record {
-      arena = t.guarantee;
+      arena = build_changes;
       grows = quiet_grows c o arena c.tape.reserved built t.contents;
       past = record { steps = omega arith; same = λ n from upto. ap (λ (all : Contents). contents_at c.tape.entries all n) t.contents };
       writes = λ e there. there;
       accounts = λ t there. there;
       floor = refl;
-      retires = (retires_same c arena h.late t.retired).after;
     }
 
     build_tape : IsTape building
@@ -431,7 +437,7 @@ module _ (c : Core) (o : ℕ) (h : StateInvariant c) (few : c.steps < 2 ^ 59) (o
           leaves = build_guarantee;
           tape = build_tape;
           stamps = build_stamps;
-          versions = t.versions (c.steps + 1) (λ k inside. counted_later c.steps (at c.arena k) (h.versions k inside));
+          versions = t.versions c.steps h.versions;
           held = λ k inside holds. made_held w.phase leads built k unsplit.halves (t.holds only k inside holds);
           counts =
               λ tenant a is. subst (λ (all : Contents). (a.count ≡ len (tenant_map tenant all)) × (a.count ≤ a.quota)) (sym t.contents) (h.counts tenant a is);
@@ -439,8 +445,8 @@ module _ (c : Core) (o : ℕ) (h : StateInvariant c) (few : c.steps < 2 ^ 59) (o
           reserved =
               let none = unready_none op op.walk.phase refl (layer_unready op.walk.phase layer) in let no = unready_none built w.phase refl (made_unready w.phase leads) in omega (arith, none, no);
           deleted = t.deleted h.deleted;
-          late = (retires_same c arena h.late t.retired).upto;
-          remembered = own_back c o op h there arena t.guarantee (retires_same c arena h.late t.retired) t.takes built (record {
+          late = build_lists.upto;
+          remembered = own_back c o op h there arena build_changes build_lists t.takes built (record {
             birth = refl;
             walk = λ facts. made_back w.phase leads arena built;
             cleans = λ facts. (h.remembered o op there).cleans;

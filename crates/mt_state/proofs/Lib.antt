@@ -6,6 +6,7 @@ pub mod Rely
 pub mod Given
 pub mod Answered
 pub mod Growing
+pub mod Giving
 pub mod Writing
 pub mod Stamps
 pub mod Moving
@@ -20,6 +21,8 @@ pub mod Descents
 pub mod KeptBack
 pub mod Learning
 pub mod Spares
+pub mod Others
+pub mod GivenContents
 pub mod Reading
 pub mod Confirming
 pub mod LiveTrees

@@ -10,8 +10,8 @@ use Rattle.mt_state.specs.{Views.{Core, shown, past_of}, KeptOperations.{HasScan
 use Rattle.mt_state.specs.{Invariant.{AreHolders, AreKeptBack, AreScansKept, StateInvariant, one_if_prepared, prepared_count, made_count}, Moves.{IsMove, IsTold}}
 use Rattle.mt_state.specs.KeptBack.{ArenaFacts, IsKeptBack}
 use Rattle.mt_state.proofs.{ScanKept.{scanned_for_stays, fresh_scan}, Moved.first_is, Shown.shown_table, Answered.made_set}
-use Rattle.mt_state.proofs.{Stamps.stamped_now, Writing.{quotas_stay, written_stays}, KeptBack.kept_back_stays}
-use Rattle.mt_arena.specs.Arena.{IsArena}
+use Rattle.mt_state.proofs.{Stamps.stamped_now, Writing.{quotas_stay, written_stays}, Others.{kept_over, back_over}}
+use Rattle.mt_arena.specs.{NodeView.NodeView, Arena.IsArena}
 use Rattle.mt_state.proofs.Rely as rely
 
 -- an operation with a place in the table counts once
@@ -47,7 +47,7 @@ module _ (old new : Core) (o : ℕ) (before after : Operation) (h : StateInvaria
   ops_stay : (q : ℕ) (op : Operation) → operation_at new.table q ≡ Some op → IsKeptOf new q op
   ops_stay q op is = elim (was q op is) [
     | inl (same, it) ↦ subst (λ (w : Operation). IsKeptOf new q w) it (subst (λ k. IsKeptOf new k after) (sym same) m.kept)
-    | inr (other, there) ↦ rely.stays old new o q arena (stamped_now new m.stamps arena) m.leaves other (omega (arith, m.number)) op (h.ops q op there)
+    | inr (other, there) ↦ kept_over old new o q were.arena arena m.leaves other op there (h.remembered q op there) (stamped_now new m.stamps arena) (omega (arith, m.number)) (h.ops q op there)
   ]
 
   -- what its scan has done: that was kept, or it hadn't begun; or the step brings it
@@ -82,15 +82,16 @@ module _ (old new : Core) (o : ℕ) (before after : Operation) (h : StateInvaria
   remembered_stays : AreKeptBack new
   remembered_stays q op is = elim (was q op is) [
     | inl (same, it) ↦ subst (λ (w : Operation). IsKeptBack new.arena q w) it (subst (λ k. IsKeptBack new.arena k after) (sym same) (m.remembered were are))
-    | inr (other, there) ↦ kept_back_stays old new o q are m.leaves other op (h.ops q op there) (h.remembered q op there)
+    | inr (other, there) ↦ back_over old new o q were.arena arena m.leaves other op there (h.remembered q op there) are (h.ops q op there)
   ]
 
   holders_stay : AreHolders new
   holders_stay k q within is = elim (cases_eq q o) [
     | inl same ↦ (after, ap (operation_at new.table) same ∙ here_now, m.held k within (is ∙ ap Some same))
     | inr other ↦
-        let w = rely.holder_was o q k old.arena new.arena m.leaves.arena within is other in
-        let f = h.holders k q w.0 w.1 in
+        let w = rely.holder_was o q k m.leaves.arena.mid new.arena m.leaves.arena.step within is other in
+        let earlier = rely.held_was q k old.arena m.leaves.arena.mid m.leaves.arena.gives.given.gives w.0 w.1 in
+        let f = h.holders k q earlier.0 (ap (λ (n : NodeView). n.holder) (sym earlier.1) ∙ w.1) in
         (f.0, there_now q f.0 other f.1, f.2)
   ]
 

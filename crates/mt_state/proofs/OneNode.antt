@@ -17,7 +17,7 @@ use Rattle.mt_state.specs.{Views.{StateView, Core, shown, KeepsPast}, Steps.chan
 use Rattle.mt_state.specs.{KeptOperations.{IsUnlocking, IsReturning, IsKeptAt, IsKeptOf}, KeptBack.{ArenaFacts, IsBackAt, TakesLive}}
 use Rattle.mt_state.specs.Invariant.{IsCountedUpTo, HoldsAt, StateInvariant, one_if_prepared, DeletedAreEmpty}
 use Rattle.mt_state.proofs.{Quiet.{HasPairsOf, quiet, LeavesPairs, quiet_move, is_quiet, same_slots}, Telling.{Gives, gives}}
-use Rattle.mt_state.proofs.{Moved.{went, went_with, went_on, open_moved_on, has_moved_on}, Still.floor_made, Growing.{makes_set, retires_same}}
+use Rattle.mt_state.proofs.{Moved.{went, went_with, went_on, open_moved_on, has_moved_on}, Still.floor_made, Growing.{makes_set, retires_same, changes_on}}
 use Rattle.mt_remove.specs.{KeptRemovals.{IsAmong as IsOfRemoval}, Writes.is_remove}
 
 -- what is left of a state by a step of operation o: another arena, tape, accounts, and the operation after it
@@ -156,7 +156,7 @@ module _ (c : Core) (o : ℕ) (h : StateInvariant c) (k : ℕ) (within : k < len
       → (n.holder ≡ Some o → ((at c.arena k).holder ≡ Some o) ⊎ ((at c.arena k).version.deleted ≡ false))
       → Guarantee o c.arena (with_node c.arena k n) → content_of (with_node c.arena k n) ≡ content_of c.arena → LeavesPairs c o (with_node c.arena k n)
   replaced_leaves slots tree deleted counted takes guarantee contents = record {
-    guarantee = guarantee;
+    changes = changes_on c o (with_node c.arena k n) guarantee (retires_same c (with_node c.arena k n) h.late refl);
     contents = contents;
     stood = λ j inside is_counted. inl (stood j inside is_counted);
     versions = replaced_versions counted;

@@ -20,10 +20,10 @@ use Rattle.mt_insert.specs.{Puts.{IsPut, row_over}, Placing.entry_of, KeptSplits
 use Rattle.mt_insert.specs.SplitMove.{after_parting, PartsKeys, IsSplitMove, IsSplitMoveFull}
 use Rattle.mt_insert.proofs.PartingKeys.{may_place}
 use Rattle.mt_held.specs.Taping.{pushed, released}
-use Rattle.mt_state.specs.{Views.{Core, shown, map_of, quota_of}, Steps.told_change, Notes.{IsJudged, Notes}, Promises.Touches}
+use Rattle.mt_state.specs.{Views.{Core, shown, map_of, quota_of}, Steps.told_change, Notes.{IsJudged, Notes}, Promises.Touches, Given.ChangesArena}
 use Rattle.mt_state.specs.KeptOperations.{IsOpenOperation, IsSplitMoving, HasAnswer, IsKeptAt, IsPlacedOnce, IsKeptOf}
 use Rattle.mt_state.specs.{Invariant.{IsStampOf, IsCountedUpTo, StateInvariant, DeletedAreEmpty}, Moves.IsMove, Writes.splitting, Growth.MakesFew}
-use Rattle.mt_state.proofs.{Replies.{put_full, put_new}, Growing.{makes_same, retires_same}, Telling.{Gives, gives, logs_later, map_now}}
+use Rattle.mt_state.proofs.{Replies.{put_full, put_new}, Growing.{makes_same, retires_same, changes_on}, Telling.{Gives, gives, logs_later, map_now}}
 use Rattle.mt_state.proofs.{Moved.{went_with, first_begun, first_upto, open_moved_with, has_moved}, Still.{floor_made, unready_none}}
 use Rattle.mt_state.proofs.{OneNode.{same_counts, quiet_grows, holds_here}, Locking.{ready_one, room_for, no_room_left}}
 use Rattle.mt_state.proofs.Placing.{Counts, next_write, placed, PlacesPair, untouched_beside, untouched_now, placed_move, placed_right, is_placing, placed_once}
@@ -127,6 +127,9 @@ module _ (c : Core) (o : ℕ) (h : StateInvariant c) (few : c.steps < 2 ^ 59) (o
 
   parted_lists : Retires c.steps c.arena.retired arena.retired
   parted_lists = retires_same c arena h.late (ap (λ (v : ArenaView). v.retired) p.nodes_alone)
+
+  parted_changes : ChangesArena (shown c) o arena
+  parted_changes = changes_on c o arena p.guarantee parted_lists
 
   -- no lock is taken
   parted_takes : TakesLive o c.arena arena
@@ -271,13 +274,12 @@ module _ (c : Core) (o : ℕ) (h : StateInvariant c) (few : c.steps < 2 ^ 59) (o
       number = refl;
       answers = refl;
       leaves = record {
-        arena = p.guarantee;
+        arena = parted_changes;
         grows = quiet_grows c o arena (c.tape.reserved - 1) after_full without;
         past = record { steps = omega arith; same = λ n from upto. ap (λ (every : Contents). contents_at c.tape.entries every n) without };
         writes = λ e there. there;
         accounts = λ t there. there;
         floor = refl;
-        retires = parted_lists.after;
       };
       tape = record {
         rises = h.tape.rises;
@@ -297,7 +299,7 @@ module _ (c : Core) (o : ℕ) (h : StateInvariant c) (few : c.steps < 2 ^ 59) (o
           let one = ready_one op SplitMove at_move refl in let no = unready_none after_full w.phase refl (halves_unready w.phase leads) in let room = room_for c h o op SplitMove at_op at_move refl in omega (arith, one, no, room);
       deleted = parted_deleted;
       late = parted_lists.upto;
-      remembered = own_back c o op h at_op arena p.guarantee parted_lists parted_takes after_full (parted_back after_full refl refl refl);
+      remembered = own_back c o op h at_op arena parted_changes parted_lists parted_takes after_full (parted_back after_full refl refl refl);
     }
 
     parted_full : Gives (shown c) new_full o false
@@ -349,7 +351,7 @@ module _ (c : Core) (o : ℕ) (h : StateInvariant c) (few : c.steps < 2 ^ 59) (o
 
     pair : PlacesPair c o op after_new arena accounts
     pair = record {
-      guarantee = p.guarantee;
+      changes = parted_changes;
       contents = contents;
       stamps = parted_stamps Q whole_new
           (λ k inside counts. stamped_apart P Q (tree_of c.arena k).prefix (owned op.task.key) (at c.arena k).slots (untouched_beside c op h put)

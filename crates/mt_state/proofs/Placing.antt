@@ -14,11 +14,11 @@ use Rattle.mt_operation.specs.{declared.task.Task.Task, declared.operation.Opera
 use Rattle.mt_operation.specs.Tables.{op_at as operation_at}
 use Rattle.mt_insert.specs.Puts.{IsPut, row_over, write_of}
 use Rattle.mt_held.specs.Taping.{pushed}
-use Rattle.mt_state.specs.{Views.{Core, shown, map_of, quota_of, granted_in, KeepsPast}, Notes.key_asked, Promises.{IsPlacing, IsAnswer}}
+use Rattle.mt_state.specs.{Views.{Core, shown, map_of, quota_of, granted_in, KeepsPast}, Notes.key_asked, Promises.{IsPlacing, IsAnswer}, Given.ChangesArena}
 use Rattle.mt_state.specs.KeptOperations.{IsKeptOf, IsPlacedOnce}
 use Rattle.mt_state.specs.Invariant.{IsStampOf, IsTape, AreStamps, IsCountedUpTo, HoldsAt, DeletedAreEmpty, StateInvariant, StateGuarantee, one_if_prepared}
 use Rattle.mt_state.specs.{Moves.IsMove, Written.row_left, KeptBack.{Retires, TakesLive}}
-use Rattle.mt_state.proofs.KeptBack.{BringsBack, own_back}
+use Rattle.mt_state.proofs.{KeptBack.{BringsBack, own_back}}
 use Rattle.mt_state.proofs.{Lawful.{scan_free, change_no_scan}, Telling.{logs_later, map_now}, Granted.quota_same, Writing.row_left_put, Bound.put_no_remove}
 use Rattle.mt_walks.specs.Walked.{IsWithin}
 use Rattle.mt_remove.specs.Writes.{is_remove}
@@ -54,7 +54,7 @@ placed_by c arena accounts o write after = record {
 
 -- what it makes of the arena and of the accounts
 pub record Places (c : Core) (o : ℕ) (write : Write) (after : Operation) (arena : ArenaView) (accounts : Accounts) : Type 0 where
-  pub guarantee : Guarantee o c.arena arena
+  pub changes : ChangesArena (shown c) o arena
   pub contents : content_of arena ≡ with_write (content_of c.arena) write
   pub stamps : AreStamps (placed_by c arena accounts o write after)
   pub versions : (k : ℕ) → k < length arena.nodes → IsCountedUpTo (c.steps + 1) (at arena k)
@@ -123,13 +123,12 @@ module _ (c : Core) (o : ℕ) (before after : Operation) (arena : ArenaView) (ac
 
   pub wrote_guarantee : StateGuarantee c new o
   wrote_guarantee = record {
-    arena = p.guarantee;
+    arena = p.changes;
     grows = wrote_grows;
     past = record { steps = omega arith; same = λ n from upto. past_stands n upto };
     writes = λ e there. Contains-append_left c.tape.entries (wrote ∷ []) e there;
     accounts = p.counts.there;
     floor = refl;
-    retires = p.taken_out.after;
   }
 
   -- the key that it writes is a user's, since it was stored
@@ -167,7 +166,7 @@ module _ (c : Core) (o : ℕ) (before after : Operation) (arena : ArenaView) (ac
     reserved = own.reserved;
     deleted = p.deleted;
     late = p.taken_out.upto;
-    remembered = own_back c o before h own.there arena p.guarantee p.taken_out p.takes after own.back;
+    remembered = own_back c o before h own.there arena p.changes p.taken_out p.takes after own.back;
   }
 
   -- the tenant's map just before the step

@@ -30,7 +30,7 @@ use Rattle.mt_state.proofs.Placing.{Counts, next_write, placed, PlacesPair, unto
 use Rattle.mt_state.proofs.{Moved.{went, first_begun, first_upto, open_moved, has_moved}, Still.{floor_made, unready_none}, Reading.{key_of_owner, walk_same}}
 use Rattle.mt_state.proofs.Stamps.{row_of}
 use Rattle.mt_state.proofs.OneNode.{stepped, counted_live, replaced_at, replaced_holds, replaced_versions, replaced_touches, few_steps, holds_here, replaced_deleted, replaced_takes}
-use Rattle.mt_state.proofs.{Locking.{ready_one, room_for}, Growing.{makes_set, retires_same}, LiveTrees.slot_lives, Bound.put_no_remove}
+use Rattle.mt_state.proofs.{Locking.{ready_one, room_for}, Growing.{makes_set, retires_same, changes_on}, LiveTrees.slot_lives, Bound.put_no_remove}
 use Rattle.mt_arena.proofs.Homes as homes
 use Rattle.mt_operation.specs.declared.walk.Aim.TheVariants as aims
 
@@ -180,7 +180,7 @@ module _ (c : Core) (now : StateView) (o : ℕ) (is : shown c ≡ now) (h : Stat
         (stamps : AllStamped (IsStampOf c.steps c.tape) (tree_of c.arena k).prefix n.slots → AllStamped (IsStampOf (c.steps + 1) (pushed c.tape (next_write c op))) (tree_of c.arena k).prefix slots) where
       places_pair : PlacesPair c o op the_after the_arena accounts
       places_pair = record {
-        guarantee = guarantee;
+        changes = changes_on c o (with_node c.arena k y) guarantee (retires_same c (with_node c.arena k y) h.late refl);
         contents = contents;
         stamps = λ j inside is_counted.
             let r = replaced_at c.arena k within y j inside in

@@ -5,9 +5,9 @@ use Rattle.std.specs.FinMap.{len}
 use Rattle.mt_rows.specs.{Rows.Bytes, Tenants.{Contents, tenant_map}}
 use Rattle.mt_border.{specs.{Contents.{AllStamped, IsStamped}, declared.entry.Entry.Entry}, proofs.{ContentsStamps.stamped_weaker, Edits.any_entry}}
 use Rattle.mt_tape.specs.Histories.{contents_at, IsLegalTape}
-use Rattle.mt_arena.specs.{Arena.{ArenaView, content_of, Guarantee}, Contents.counts, Accesses.{at, tree_of}, NodeView.NodeView, Layers.slot_at}
+use Rattle.mt_arena.specs.{Arena.{ArenaView, content_of}, Contents.counts, Accesses.{at, tree_of}, NodeView.NodeView, Layers.slot_at}
 use Rattle.mt_operation.specs.{declared.operation.Operation.Operation, Operations.view_of, Phases.is_done, Tables.{op_at as operation_at}}
-use Rattle.mt_state.specs.{Views.{Core, shown, KeepsPast}, Steps.change_in, Promises.IsQuiet, KeptOperations.IsKeptOf, KeptBack.{Retires, TakesLive}}
+use Rattle.mt_state.specs.{Views.{Core, shown, KeepsPast}, Steps.change_in, Promises.IsQuiet, KeptOperations.IsKeptOf, KeptBack.{Retires, TakesLive}, Given.ChangesArena}
 use Rattle.mt_state.specs.Invariant.{IsTape, AreStamps, IsStampOf, IsCountedUpTo, HoldsAt, DeletedAreEmpty, StateInvariant, StateGuarantee, one_if_prepared}
 use Rattle.mt_state.specs.{Moves.{IsMove, IsStillAsked, BringsScan}, Growth.MakesFew}
 use Rattle.mt_state.proofs.{Telling.logs_later, KeptBack.{BringsBack, own_back}}
@@ -41,7 +41,7 @@ quiet c arena reserved o after = record {
 
 -- what it makes of the arena: the pairs stand as they did, each where it stood, and what is new has none
 pub record LeavesPairs (c : Core) (o : ℕ) (arena : ArenaView) : Type 0 where
-  pub guarantee : Guarantee o c.arena arena
+  pub changes : ChangesArena (shown c) o arena
   pub contents : content_of arena ≡ content_of c.arena
   pub stood : (k : ℕ) → k < length arena.nodes → counts arena.trees (at arena k) ≡ true → HasPairsOf c.arena arena k ⊎ ((at arena k).slots ≡ [])
   pub versions : (k : ℕ) → k < length arena.nodes → IsCountedUpTo (c.steps + 1) (at arena k)
@@ -72,13 +72,12 @@ module _ (c : Core) (o : ℕ) (before after : Operation) (arena : ArenaView) (re
 
   guarantee : StateGuarantee c (quiet c arena reserved o after) o
   guarantee = record {
-    arena = leaves.guarantee;
+    arena = leaves.changes;
     grows = grows;
     past = record { steps = omega arith; same = λ n from upto. ap (λ (all : Contents). contents_at c.tape.entries all n) leaves.contents };
     writes = λ e there. there;
     accounts = λ t there. there;
     floor = refl;
-    retires = leaves.taken_out.after;
   }
 
   tape : IsTape (quiet c arena reserved o after)
@@ -121,7 +120,7 @@ module _ (c : Core) (o : ℕ) (before after : Operation) (arena : ArenaView) (re
     reserved = own.reserved;
     deleted = leaves.deleted;
     late = leaves.taken_out.upto;
-    remembered = own_back c o before h own.there arena leaves.guarantee leaves.taken_out leaves.takes after own.back;
+    remembered = own_back c o before h own.there arena leaves.changes leaves.taken_out leaves.takes after own.back;
   }
 
   pub is_quiet : change_in (view_of after) ≡ change_in (view_of before)

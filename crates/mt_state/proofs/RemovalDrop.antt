@@ -25,7 +25,7 @@ use Rattle.mt_state.specs.{Invariant.{IsStampOf, AreStamps, StateInvariant, Dele
 use Rattle.mt_state.proofs.{Telling.{Gives, gives}, Moved.{went_on, first_begun, first_upto, open_moved_on, has_moved_on}, Still.{floor_made, unready_none}}
 use Rattle.mt_state.proofs.{Reading.walk_same, OneNode.{counted_live, holds_here}, Locking.{ready_one, room_for}, Replies.remove_there, Writing.row_left_remove}
 use Rattle.mt_state.proofs.{LiveTrees.slot_lives, Placing.{Counts, IsWriteOf, placed_by, Places, beside_write, wrote_move, wrote_right, is_writing, wrote_once}}
-use Rattle.mt_state.proofs.{Putting.stamped_apart, Growing.retires_same, RemovalNodes.{LeavesNodes, one_leaves, slots_removed, stood, versions, removal_touches, removal_takes}}
+use Rattle.mt_state.proofs.{Putting.stamped_apart, Growing.{retires_same, changes_on}, RemovalNodes.{LeavesNodes, one_leaves, slots_removed, stood, versions, removal_touches, removal_takes}}
 use Rattle.mt_state.proofs.RemovalSteps.{HasRemoval, has_removal, removal_back, removal_kept, removal_held, removal_kind, removal_open, removal_unready}
 use Rattle.mt_state.proofs.Lawful.{remove_no_scan}
 use Rattle.mt_arena.proofs.Homes as homes
@@ -173,7 +173,7 @@ module _ (c : Core) (o : ℕ) (h : StateInvariant c) (few : c.steps < 2 ^ 59) (o
 
   places : Places c o write after arena accounts
   places = record {
-    guarantee = t.guarantee;
+    changes = changes_on c o arena t.guarantee (retires_same c arena h.late (ap (λ (v : ArenaView). v.retired) t.is));
     contents = t.places.contents;
     stamps = stamps;
     versions = versions c o h arena leaves;

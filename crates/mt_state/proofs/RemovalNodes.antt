@@ -10,7 +10,7 @@ use Rattle.mt_arena.specs.{Removals.{without_node, without_root, without_layer},
 use Rattle.mt_arena.proofs.Pairs.{here, there as there_other}
 use Rattle.mt_state.specs.KeptBack.{Retires, TakesLive}
 use Rattle.mt_state.specs.{Views.Core, Promises.{HoldsEither, Touches}, Invariant.{IsCountedUpTo, DeletedAreEmpty, StateInvariant}}
-use Rattle.mt_state.proofs.{Quiet.{AreSlotsOf, HasPairsOf, LeavesPairs}, Climbing.each_set}
+use Rattle.mt_state.proofs.{Quiet.{AreSlotsOf, HasPairsOf, LeavesPairs}, Climbing.each_set, Growing.changes_on}
 
 -- the same tree; each slot is one that was there, and none is left where the node was taken out; the version's counts stay; and the operation held the
 -- node or holds it then, or others name another one in it
@@ -81,7 +81,11 @@ module _ (c : Core) (o : ℕ) (h : StateInvariant c) (new : ArenaView) (l : Leav
       let n = l.each k was in let v = h.versions k was in record { inserts = omega (arith, n.inserts, v.inserts); splits = omega (arith, n.splits, v.splits) }
 
   pub removal_touches : Touches o c.arena new
-  removal_touches k within = (l.each k within).touched
+  removal_touches k within = elim (l.each k within).touched [
+    | inl same ↦ inl same
+    | inr (inl holds) ↦ inr (inl holds)
+    | inr (inr named) ↦ inr (inr (inl named))
+  ]
 
   -- what it holds then it held before, or it was live
   pub removal_takes : TakesLive o c.arena new
@@ -90,7 +94,7 @@ module _ (c : Core) (o : ℕ) (h : StateInvariant c) (new : ArenaView) (l : Leav
   -- what a step of a removal leaves
   pub removal_leaves : Guarantee o c.arena new → content_of new ≡ content_of c.arena → Retires c.steps c.arena.retired new.retired → LeavesPairs c o new
   removal_leaves guarantee contents taken_out = record {
-    guarantee = guarantee;
+    changes = changes_on c o new guarantee taken_out;
     contents = contents;
     stood = λ k within counted. inl (stood k within counted);
     versions = versions;

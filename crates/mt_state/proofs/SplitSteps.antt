@@ -5,13 +5,13 @@ use Rattle.std.specs.Prelude.{◌^◌}
 use Rattle.mt_rows.specs.declared.reply.Reply.TheVariants.{NoMemory}
 use Rattle.mt_tape.specs.Tapes.{Kept}
 use Rattle.mt_arena.specs.{declared.tree.Tree.Tree, NodeView.NodeView, Edits.unlocked, Forests.tree_at, Contents.counts}
-use Rattle.mt_arena.specs.{Arena.{ArenaView, content_of, Guarantee}, Accesses.{at, IsHeld, with_node, with_half}}
+use Rattle.mt_arena.specs.{Arena.{ArenaView, content_of, Guarantee}, Accesses.{at, IsHeld, with_node}}
 use Rattle.mt_operation.specs.{declared.walk.Aim.Aim, declared.phase.Phase.Phase}
 use Rattle.mt_operation.specs.declared.phase.Phase.TheVariants.{Enter, SplitStart, SplitMove, SplitPrev, LockParent, InsertChild, InteriorSplit, Reparent, RootGrow, Unlock, Done}
 use Rattle.mt_operation.specs.{declared.walk.Walk.Walk, declared.outcome.Outcome.Outcome, declared.splits.Halves.Halves, declared.splits.Splits.Splits}
 use Rattle.mt_operation.specs.{declared.operation.Operation.Operation, Operations.{OperationView, view_of}}
 use Rattle.mt_operation.specs.Phases.{is_done, MayFollow, IsOfKind, has_splits, IsClimb, FitsAim, IsClimbKind, Kind, change_at, holds_of, may_be_parts, row, is_unplaced, is_to_come}
-use Rattle.mt_operation.specs.{Tasks.ask, Tables.{op_at as operation_at}, declared.prepared.Prepared.Prepared}
+use Rattle.mt_operation.specs.{Tasks.ask, Tables.{AreBornFrom, op_at as operation_at}, declared.prepared.Prepared.Prepared}
 use Rattle.mt_operation.proofs.Phases.{by_climb}
 use Rattle.mt_remove.specs.Writes.{is_remove}
 use Rattle.mt_held.specs.{Taping.released, Holds.HoldsOnly, Moves.walk_at}
@@ -20,12 +20,12 @@ use Rattle.mt_insert.specs.{SplitStart.{IsSplitStart, IsSplitStopped}, Climbs.Is
 use Rattle.mt_state.specs.{Views.{StateView, Core, shown, map_of}, Steps.told_change, Notes.{Notes, Keeps}, Promises.{IsAnswer, Touches}}
 use Rattle.mt_state.specs.KeptOperations.{IsOpenOperation, IsSplitStarting, IsSplitMoving, HasAnswer, MayUnlock, IsUnlocking, IsKeptAt, IsClimbing, IsKeptFor}
 use Rattle.mt_state.specs.{Invariant.{IsCountedUpTo, HoldsLast, HoldsAt, StateInvariant, HoldsBy, DeletedAreEmpty}, Writes.splitting}
-use Rattle.mt_state.specs.KeptBack.{IsWalkBack, IsBackAt, TakesLive}
+use Rattle.mt_state.specs.KeptBack.{ArenaFacts, IsWalkBack, IsBackAt, TakesLive}
 use Rattle.mt_state.proofs.{Rely.answer_stays, Telling.Gives, Quiet.{LeavesPairs, HasPairsOf, same_slots}}
 use Rattle.mt_state.proofs.{Moved.{went_with, first_same, first_begun, first_upto}, Still.{IsUnready, unready_none, IsUnreadyBy}, Reading.walk_same}
 use Rattle.mt_state.proofs.OneNode.{same_counts, returning_by, returning_told, counted_unlocked, replaced_at, replaced_touches, replaced_leaves, quiet_grows, holds_here, quiet_gives_with}
-use Rattle.mt_state.proofs.{Locking.{ready_one, room_for}, Growing.{makes_same, retires_same}, Climbing.{LeavesNodes, MovesNoPair, moves_by}}
-use Rattle.mt_state.proofs.{ClimbingNodes.{climb_leaves, climb_keeps, climb_follows, climb_some, begun_leaves}, Lawful.{lawful_more, stopped_free}}
+use Rattle.mt_state.proofs.{Locking.{ready_one, room_for}, Growing.{makes_same, retires_same, changes_on}, Giving.{are_forgotten, changes_from, retires_given}, Climbing.{LeavesNodes, MovesNoPair, moves_by}}
+use Rattle.mt_state.proofs.{ClimbingNodes.{climb_leaves, climb_makes, climb_follows, climb_some, begun_leaves}, Lawful.{lawful_more, stopped_free}}
 use Rattle.mt_descent.specs.WalkMoves.{Continues}
 use Rattle.mt_walks.specs.Walked.{IsWithin}
 use Rattle.mt_operation.specs.declared.walk.Aim.TheVariants as aims
@@ -225,10 +225,10 @@ module _ (c : Core) (o : ℕ) (h : StateInvariant c) (arena : ArenaView) where
   -- what moves no pair leaves all pairs
   moves_leave : MovesNoPair c o arena → LeavesPairs c o arena
   moves_leave m = record {
-    guarantee = m.guarantee;
+    changes = m.changes;
     contents = m.contents;
     stood = m.stood;
-    versions = λ k inside. let was = m.versions k inside in record { inserts = omega (arith, was.inserts); splits = omega (arith, was.splits) };
+    versions = m.versions;
     deleted = m.deleted;
     taken_out = m.taken_out;
     takes = m.takes;
@@ -278,7 +278,7 @@ module _ (c : Core) (o : ℕ) (h : StateInvariant c) (arena : ArenaView) where
 
     pub returned_leaves : Guarantee o c.arena arena → content_of arena ≡ content_of c.arena → arena.retired ≡ c.arena.retired → LeavesPairs c o arena
     returned_leaves guarantee contents retired = record {
-      guarantee = guarantee;
+      changes = changes_on c o arena guarantee (retires_same c arena h.late retired);
       contents = contents;
       stood = λ k inside counted. inl (stood k inside counted);
       versions = returned_versions;
@@ -358,17 +358,19 @@ module _ (c : Core) (o : ℕ) (h : StateInvariant c) (few : c.steps < 2 ^ 59) (o
   holds_among climb k within held =
       climb_among op.walk.phase climb op k (holds_here c (shown c) o refl h few op there op.walk.phase refl k within held)
 
-  pub climb_done : (arena : ArenaView) (w : Walk) (s : Splits) → IsClimb op.walk.phase → IsClimbFrom op.walk.phase o c.arena arena op.walk w op.splits s
+  pub climb_done : (arena : ArenaView) (w : Walk) (s : Splits) (least : ℕ) → ArenaFacts c.arena → AreBornFrom c.table least → IsClimb op.walk.phase
+      → IsClimbFrom op.walk.phase least o c.arena arena op.walk w op.splits s
       → Gives (shown c) (splitting c arena c.tape c.accounts o op w op.outcome op.prepared s) o false
-  climb_done arena w s climb t =
+  climb_done arena w s least facts born climb t =
       let kept = (climbing climb).climbs in
-      let on = climb_keeps op.walk.phase climb o c.arena arena op.walk w op.splits s t in
+      let on = climb_makes op.walk.phase climb least o c.arena arena op.walk w op.splits s t in
+      let leaves = climb_leaves op.walk.phase climb least o c.arena arena op.walk w op.splits s facts.retired (are_forgotten c h facts least born) kept t in
       climbed_done arena w s climb (record {
-        moves = moves_by c o arena h (climb_leaves op.walk.phase climb o c.arena arena op.walk w op.splits s kept t) on.keeps.guarantee on.keeps.contents;
-        follows = climb_follows op.walk.phase climb o c.arena arena op.walk w op.splits s t;
-        same = on.keeps.same;
+        moves = moves_by c o arena h leaves (changes_from c least o arena born on.steps (retires_given c.steps c.arena.retired arena.retired h.late leaves.retired)) on.contents;
+        follows = climb_follows op.walk.phase climb least o c.arena arena op.walk w op.splits s t;
+        same = on.same;
         kept = on.kept;
-        some = climb_some op.walk.phase climb o c.arena arena op.walk w op.splits s kept t;
+        some = climb_some op.walk.phase climb least o c.arena arena op.walk w op.splits s kept t;
         holds = on.holds (holds_among climb);
       })
 
@@ -413,17 +415,18 @@ module _ (c : Core) (o : ℕ) (h : StateInvariant c) (few : c.steps < 2 ^ 59) (o
     start_only : HoldsOnly c.arena o op.walk.place.node
     start_only j within holds = holds_here c (shown c) o refl h few op there SplitStart at_start j within holds
 
-    pub half_leaves : (low : ℕ) → LeavesNodes o c.arena (with_half c.arena op.walk.place.node low o)
-    half_leaves low = begun_leaves o c.arena op.walk.place.node low starting.starts.holds.judged.held
-
-    pub start_done : (arena : ArenaView) (tape : Kept) (w : Walk) (s : Splits) → IsSplitStart o op.task.key c.arena arena c.tape tape op.walk w op.splits s
+    pub start_done : (arena : ArenaView) (tape : Kept) (w : Walk) (s : Splits) (least : ℕ) → ArenaFacts c.arena → AreBornFrom c.table least
+        → IsSplitStart least o op.task.key c.arena arena c.tape tape op.walk w op.splits s
         → Gives (shown c) (splitting c arena tape c.accounts o op w op.outcome op.prepared s) o false
-    start_done arena tape w s t =
+    start_done arena tape w s least facts born t =
+        let leaves : LeavesNodes o c.arena arena = subst (LeavesNodes o c.arena) (sym t.is.is)
+        (begun_leaves o c.arena op.walk.place.node t.is.low least starting.starts.holds.judged.held facts.retired (are_forgotten c h facts least born)) in
+        let changes = changes_from c least o arena born t.steps (retires_given c.steps c.arena.retired arena.retired h.late leaves.retired) in
         subst (λ (tape : Kept). Gives (shown c) (splitting c arena tape c.accounts o op w op.outcome op.prepared s) o false) (sym t.tape_stays)
         (started_done arena w s (record {
-          moves = moves_by c o arena h (subst (LeavesNodes o c.arena) (sym t.is.is) (half_leaves t.is.low)) t.keeps.guarantee t.keeps.contents;
+          moves = moves_by c o arena h leaves changes t.contents;
           walk = t.walk;
-          same = t.keeps.same;
+          same = t.same;
           kept =
               λ prepared has. t.kept op.task prepared refl (subst (λ (x : Prepared). IsAtSplitStart c.arena o op.task x op.walk) (same_Some starting.prepared prepared (sym starting.has ∙ has)) starting.starts);
           holds = t.holds start_only;

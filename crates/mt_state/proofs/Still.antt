@@ -9,7 +9,7 @@ use Rattle.mt_operation.specs.Phases.{is_done, MayFollow, IsOfKind, has_splits, 
 use Rattle.mt_operation.specs.Tables.{op_at as operation_at}
 use Rattle.mt_state.specs.{Views.{StateView, Core, shown}, Steps.change_in, Notes.Notes, KeptOperations.{IsKeptAt, IsKeptOf}, KeptBack.{ArenaFacts, IsBackAt}}
 use Rattle.mt_state.specs.Invariant.{IsTape, HoldsAt, StateInvariant, one_if_prepared, HoldsBy}
-use Rattle.mt_state.proofs.{Quiet.{quiet, LeavesPairs, quiet_move, is_quiet}, Telling.{Gives, gives}, Moved.{went, open_moved, has_moved}, Growing.{makes_same, retires_same}}
+use Rattle.mt_state.proofs.{Quiet.{quiet, LeavesPairs, quiet_move, is_quiet}, Telling.{Gives, gives}, Moved.{went, open_moved, has_moved}, Growing.{makes_same, retires_same, changes_on}}
 use Rattle.mt_operation.specs.Phases as kinds
 
 -- the tape's floor is a step that was made
@@ -31,7 +31,7 @@ nothing_changes o v = record {
 
 pub leaves_all : (c : Core) (o : ℕ) → StateInvariant c → LeavesPairs c o c.arena
 leaves_all c o h = record {
-  guarantee = nothing_changes o c.arena;
+  changes = changes_on c o c.arena (nothing_changes o c.arena) (retires_same c c.arena h.late refl);
   contents = refl;
   stood = λ k within counted. inl (record { there = within; counted = counted; prefix = refl; slots = λ i inside. (i, inside, refl) });
   versions = λ k within. let was = h.versions k within in record { inserts = omega (arith, was.inserts); splits = omega (arith, was.splits) };

@@ -1,9 +1,11 @@
 -- What a step that gives places out has to leave as it was for an operation: the places that it remembers at its phase.
-use Rattle.std.specs.Prelude.{◌≡◌, ℕ, Some}
-use Rattle.mt_arena.specs.{Forests.tree_at, Arena.{ArenaView, content_of}, Given.GivesOutBeside}
+use Rattle.std.specs.Prelude.{◌≡◌, ℕ, ◌≤◌, Some}
+use Rattle.mt_arena.specs.{Forests.tree_at, Arena.{ArenaView, Guarantee, content_of}, Given.GivesOutBeside}
 use Rattle.mt_operation.specs.{declared.phase.Phase.Phase, declared.phase.Phase.TheVariants.{Enter, Check, Hop}, declared.operation.Operation.Operation, Phases.{Kind, row}}
+use Rattle.mt_operation.specs.Operations.{OperationView}
+use Rattle.mt_descent.specs.KeptBack.{RetiresAfter, GivesOutBefore}
 use Rattle.mt_layer.specs.KeptLayers.{GivesNoneInto}
-use Rattle.mt_state.specs.Views.{Core}
+use Rattle.mt_state.specs.Views.{StateView, Core, op_at}
 use Rattle.mt_descent.specs.Remembered as walks
 use Rattle.mt_scan.specs.Remembered as scans
 use Rattle.mt_operation.specs.Phases as kinds
@@ -36,3 +38,20 @@ pub record SparesOperation (old mid : ArenaView) (o : ℕ) (op : Operation) : Ty
   pub walk : SparesWalk (row op.walk.phase).kind op.walk.phase old mid op
   pub enter : op.walk.phase ≡ Enter → tree_at mid.trees op.walk.place.tree ≡ tree_at old.trees op.walk.place.tree
   pub cleans : (t : ℕ) → op.removal.cleans ≡ Some t → tree_at mid.trees t ≡ tree_at old.trees t
+
+-- What is given out before a step goes on: places alone that were taken out at each open operation's birth or before it, so by the step `least` at most. The
+-- lists of what is out lose some, and the contents stand.
+pub record GivesPlaces (v : StateView) (mid : ArenaView) : Type 0 where
+  pub least : ℕ
+  pub before : (q : ℕ) (op : OperationView) → op_at v.table q ≡ Some op → least ≤ op.birth
+  pub given : GivesOutBefore least v.arena mid
+  pub contents : content_of mid ≡ content_of v.arena
+  pub lists : (birth : ℕ) → birth ≤ v.steps → RetiresAfter birth v.arena.retired mid.retired
+
+-- How a step of operation o changes the arena. First places are given out, and blank nodes come there. From there it goes on as the arena allows, and what it
+-- takes out is listed after the birth of each operation.
+pub record ChangesArena (v : StateView) (o : ℕ) (new : ArenaView) : Type 0 where
+  pub mid : ArenaView
+  pub gives : GivesPlaces v mid
+  pub step : Guarantee o mid new
+  pub retires : (birth : ℕ) → birth ≤ v.steps → RetiresAfter birth mid.retired new.retired

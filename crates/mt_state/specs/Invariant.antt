@@ -10,7 +10,7 @@ use Rattle.mt_operation.specs.{declared.phase.Phase.Phase, Phases.{Holding, Free
 use Rattle.mt_operation.specs.{declared.splits.Halves.Halves, declared.operation.Operation.Operation, Tables.{Table, op_at as operation_at}}
 use Rattle.mt_operation.specs.Operations.{OperationView}
 use Rattle.mt_descent.specs.{Pasts.ExtendsPast, KeptBack.RetiresAfter}
-use Rattle.mt_state.specs.{Views.{Shown, Core, shown, past_of, KeepsPast}, KeptOperations.{IsKeptOf, IsScanKept}, KeptBack.IsKeptBack}
+use Rattle.mt_state.specs.{Views.{Shown, Core, shown, past_of, KeepsPast}, KeptOperations.{IsKeptOf, IsScanKept}, KeptBack.IsKeptBack, Given.ChangesArena}
 use Rattle.mt_state.specs.Written.{KeepsQuotas, IsMadeByChange}
 use Rattle.mt_insert.specs.KeptSplits.{IsAmong}
 use Rattle.mt_remove.specs.KeptRemovals.{IsAmong as IsOfRemoval}
@@ -126,13 +126,11 @@ pub record StateInvariant (c : Core) : Type 0 where
   pub quotas : KeepsQuotas (shown c)
   pub written : All IsMadeByChange c.tape.entries
 
--- What a step of operation o leaves to all others: what the arena leaves them, and the past; no account is lost, the tape goes as far back, and what it takes
--- out is listed after the birth of each.
+-- what a step of operation o leaves to all others: of the arena what `ChangesArena` says; the past stands, no account is lost, and the tape goes as far back
 pub record StateGuarantee (old new : Core) (o : ℕ) : Type 0 where
-  pub arena : Guarantee o old.arena new.arena
+  pub arena : ChangesArena (shown old) o new.arena
   pub grows : KeepsPast (shown old) (shown new)
   pub past : ExtendsPast 0 (past_of old) (past_of new)
   pub writes : (e : TapeEntry) → Contains old.tape.entries e → Contains new.tape.entries e
   pub accounts : (t : ℕ) → IsSome (account_of old.accounts t) → IsSome (account_of new.accounts t)
   pub floor : new.tape.floor ≡ old.tape.floor
-  pub retires : (birth : ℕ) → birth ≤ old.steps → RetiresAfter birth old.arena.retired new.arena.retired

@@ -49,8 +49,8 @@ pub record Retires (steps : ℕ) (old new : RetiredPlaces) : Type 0 where
   pub upto : AreOutUpTo (steps + 1) new
   pub after : (birth : ℕ) → birth ≤ steps → RetiresAfter birth old new
 
--- each node that operation o holds after a step was there, and o held it or it was live; or it is new and live
+-- each node that operation o holds after a step was there, and o held it or it was live; or it is live after the step
 abbrev pub TakesLive : ℕ → ArenaView → ArenaView → Type 0
 TakesLive o old new = (k : ℕ) → k < length new.nodes → (at new k).holder ≡ Some o →
     ((k < length old.nodes) × (((at old k).holder ≡ Some o) ⊎ ((at old k).version.deleted ≡ false)))
-    ⊎ ((length old.nodes ≤ k) × ((at new k).version.deleted ≡ false))
+    ⊎ ((at new k).version.deleted ≡ false)

@@ -5,7 +5,7 @@ use Rattle.mt_version.specs.Changes.{IsStable}
 use Rattle.mt_slices.specs.Keys.{stored_key}
 use Rattle.mt_rows.specs.{declared.command.Command.Command, declared.command.Command.TheVariants.Scan, Rows.{Bytes, Columns}, Maps.is_scan, Commands.key_of}
 use Rattle.mt_border.specs.declared.entry.Find.{Find}
-use Rattle.mt_arena.specs.{NodeView.{NodeView, place_at}, Forests.tree_at, Layers.slot_at, Arena.ArenaView, Accesses.at}
+use Rattle.mt_arena.specs.{declared.tree.Standing.TheVariants.{Made, Dead}, NodeView.{NodeView, place_at}, Forests.tree_at, Layers.slot_at, Arena.ArenaView, Accesses.at}
 use Rattle.mt_operation.specs.declared.phase.Phase.{Phase}
 use Rattle.mt_operation.specs.declared.phase.Phase.TheVariants.{Enter, Pick, Child, Verify, Search, Load, Confirm, Forward, Lock, Judge, Store, Fill, Publish, SplitStart, SplitMove, SplitPrev, LockParent, InsertChild, InteriorSplit, Reparent, RootGrow, MakeLayer, MarkUnstable, Link, MarkLayer, DropKey, LockPrev, LockAbove, Unlink, FixNext, Collapse, CleanLayer, Unlock, Snap, Check, Hop}
 use Rattle.mt_operation.specs.{declared.walk.Walk.Walk, declared.outcome.Outcome.Outcome, Operations.{OperationView, SplitsView, ScanView}}
@@ -23,6 +23,13 @@ use Rattle.mt_border.specs.Held as helds
 use Rattle.mt_border.specs.declared.entry.FoundKind.TheVariants as kinds
 use Rattle.mt_operation.specs.declared.walk.Taken.TheVariants as takens
 use Rattle.mt_operation.specs.Phases as phase_kinds
+
+-- from MakeLayer: on to make the layer of a tree that the operation has begun at this step: a new one, or one in the record of a dead one
+pub record BeginsTree (o : ℕ) (old new : ArenaView) (w x : Walk) : Type 0 where
+  pub tree : ℕ
+  pub idle : (tree ≡ length old.trees) ⊎ ((tree_at old.trees tree).standing ≡ Dead)
+  pub made : (tree_at new.trees tree).standing ≡ Made o
+  pub goes : x ≡ walk_linked w tree
 
 -- from Forward: by the next node, which is unmarked; where there is none, the walk stays at its own
 abbrev pub GoesForward : Option ℕ → ArenaView → Bytes → Walk → Walk → Type 0
@@ -200,7 +207,7 @@ LeadsTo InsertChild old new o step key told s r g w x = x ≡ walk_at Unlock w
 LeadsTo InteriorSplit old new o step key told s r g w x = x ≡ walk_at Reparent w
 LeadsTo Reparent old new o step key told s r g w x = x ≡ walk_at (after_reparent (at old (last_half s).right) s.moved) w
 LeadsTo RootGrow old new o step key told s r g w x = x ≡ walk_at Unlock w
-LeadsTo MakeLayer old new o step key told s r g w x = (x ≡ walk_linked w (length old.trees)) ⊎ (x ≡ walk_done w)
+LeadsTo MakeLayer old new o step key told s r g w x = BeginsTree o old new w x ⊎ (x ≡ walk_done w)
 LeadsTo MarkUnstable old new o step key told s r g w x = x ≡ walk_at Link w
 LeadsTo Link old new o step key told s r g w x = x ≡ walk_at MarkLayer w
 LeadsTo MarkLayer old new o step key told s r g w x = x ≡ walk_at Unlock w

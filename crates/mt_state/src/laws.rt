@@ -3,7 +3,7 @@
 
 ghost use Rattle.std.specs.Prelude.{◌≡◌, ◌≢◌, ◌+◌, ◌<◌, ◌≤◌, ◌^◌, ℕ, Bool, true, false, Option, Some, None, length};
 ghost use Rattle.mt_version.specs.Changes.{IsStable};
-ghost use Rattle.mt_arena.specs.{Arena.{ArenaView, IsArena, content_of}, Layers.slot_at, NodeFacts.IsUnstable, Accesses.at};
+ghost use Rattle.mt_arena.specs.{Arena.{ArenaView, IsArena, content_of}, Layers.slot_at, NodeFacts.IsUnstable, Accesses.at, Given.GivesOut};
 ghost use Rattle.mt_operation.specs.{declared.phase.Phase.Phase, declared.phase.Phase.TheVariants.{Search, Load, Confirm, Snap, Done}};
 ghost use Rattle.mt_operation.specs.{declared.outcome.Outcome.Outcome, declared.operation.Operation.Operation, declared.removal.Removal.Removal};
 ghost use Rattle.mt_operation.specs.{Operations.{OperationView, SplitsView, ScanView}, Phases.{is_done, IsDescent}, declared.walk.Walk.Walk};
@@ -18,15 +18,16 @@ ghost use Rattle.mt_rows.specs.{Rows.Columns, declared.reply.Reply.TheVariants.{
 ghost use Rattle.mt_border.specs.declared.entry.Find.{Find};
 
 /// All that is kept of an operation, at whatever phase it is, each step of another one keeps, and what a
-/// scan has done too: what counts is what that step leaves to others. What the operation remembers stays
-/// kept back. An answer that was right stays right.
+/// scan has done too: what counts is what that step leaves to others. The step may give places out before
+/// it goes on: none that the operation remembers, which stays kept back. An answer that was right stays
+/// right.
 pub fn others_keep_theirs()
-    ensures kept { (old new : Core) (o q : ℕ) (op : Operation) → IsArena new.arena.nodes new.arena.trees → AreStamps new → StateGuarantee old new o → q ≢ o → old.steps < new.steps →
-        IsKeptOf old q op → IsKeptOf new q op }
+    ensures kept { (old new : Core) (o q : ℕ) (op : Operation) → IsArena old.arena.nodes old.arena.trees → IsArena new.arena.nodes new.arena.trees → AreStamps new → StateGuarantee old new o →
+        q ≢ o → old.steps < new.steps → operation_at old.table q ≡ Some op → IsKeptBack old.arena q op → IsKeptOf old q op → IsKeptOf new q op }
     ensures scanned { (old new : Core) (o q : ℕ) (op : Operation) → IsArena new.arena.nodes new.arena.trees → AreStamps new → StateGuarantee old new o → q ≢ o → old.steps < new.steps →
         IsScanKept old op → IsScanKept new op }
-    ensures remembered { (old new : Core) (o q : ℕ) (op : Operation) → ArenaFacts new.arena → StateGuarantee old new o → q ≢ o →
-        IsKeptOf old q op → IsKeptBack old.arena q op → IsKeptBack new.arena q op }
+    ensures remembered { (old new : Core) (o q : ℕ) (op : Operation) → IsArena old.arena.nodes old.arena.trees → ArenaFacts new.arena → StateGuarantee old new o →
+        q ≢ o → operation_at old.table q ≡ Some op → IsKeptBack old.arena q op → IsKeptOf old q op → IsKeptBack new.arena q op }
     ensures answers { (old new : StateView) (op : OperationView) (told : Outcome) → KeepsPast old new → op.last ≤ old.steps →
         IsAnswer old op told → IsAnswer new op told }
 {}
@@ -42,6 +43,11 @@ pub fn kept_stays_where_places_are_given_out()
 pub fn nothing_remembered_is_given_out()
     ensures { (old mid : ArenaView) (o : ℕ) (op : Operation) → GivesOutBefore op.birth old mid → IsKeptBack old o op → GivesNoneInto o old mid →
         content_of mid ≡ content_of old → SparesOperation old mid o op }
+{}
+
+/// The contents stand where places are given out.
+pub fn contents_stand_where_places_are_given_out()
+    ensures { (old mid : ArenaView) → IsArena old.nodes old.trees → GivesOut old mid → content_of mid ≡ content_of old }
 {}
 
 /// A step that brings of its own operation what it has to keeps the invariant over all operations,

@@ -50,5 +50,6 @@ returns-clause-of_another c = λ o q k old new touches within other held free. e
   | inl same ↦ ap (λ (n : NodeView). n.slots) same
   | inr (inl (inl mine)) ↦ absurd (other (same_Some q o (sym held ∙ mine)))
   | inr (inl (inr mine)) ↦ absurd (free mine)
-  | inr (inr is) ↦ ap (λ (n : NodeView). n.slots) is
+  | inr (inr (inl is)) ↦ ap (λ (n : NodeView). n.slots) is
+  | inr (inr (inr given)) ↦ absurd (let none = sym given.free ∙ held in cc)
 ]
