@@ -36,7 +36,7 @@ no_value e = cc
 -- a step keeps what is to be kept
 module _ (v w : StateView) (o : ℕ) (done : Bool) (s : IsStep v w o done) where
   step_keeps : Keeps v w
-  step_keeps = record { steps = omega (arith, s.number); nodes = s.arena.nodes.count; trees = s.arena.nodes.tree_count; logs = s.logs; tenants = s.grows.quotas }
+  step_keeps = record { steps = omega (arith, s.number); nodes = s.makes.nodes_stay; trees = s.makes.trees_stay; logs = s.logs; tenants = s.grows.quotas }
 
   -- and all other operations
   step_beside : (q : ℕ) → q ≢ o → op_at w.table q ≡ op_at v.table q

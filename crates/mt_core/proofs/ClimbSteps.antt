@@ -2,19 +2,19 @@
 use Rattle.std.proofs.Common.{List, None, Some, [], ap, arith, false, inl, inr, is_some, length, refl, set, subst, suc, sym, zero, ℕ, ◌+◌, ◌-◌, ◌<◌, ◌∙◌, ◌∷◌, ◌≡◌, ◌≤◌}
 use Rattle.std.proofs.{lemmas.Bool.{cases_eq, both_ways}, lemmas.Option.same_Some}
 use Rattle.std.specs.Prelude.{◌^◌, ◌⊎◌}
-use Rattle.mt_arena.specs.{Arena.{ArenaView, IsArena}, Accesses.at}
+use Rattle.mt_arena.specs.{Arena.ArenaView, Accesses.at}
 use Rattle.mt_operation.specs.{declared.phase.Phase.Phase, declared.phase.Phase.TheVariants.{InteriorSplit, RootGrow}, declared.walk.Walk.Walk}
 use Rattle.mt_operation.specs.{declared.splits.Halves.Halves, declared.splits.Splits.Splits, declared.operation.Operation.Operation}
-use Rattle.mt_operation.specs.{Operations.{OperationView, moved, view_of, with_splits}, Phases.{IsClimb, IsToGrow}, Tables.{Table, op_at as operation_at}}
+use Rattle.mt_operation.specs.{Operations.{OperationView, moved, view_of, with_splits}, Phases.{IsClimb, IsToGrow}, Tables.{Table, AreBornFrom, op_at as operation_at}}
 use Rattle.mt_operation.proofs.Tables.{set_is, set_there}
 use Rattle.mt_insert.specs.KeptSplits.{AreParted, AreReturnable, HasSplits, HasSplitsNamed, HoldsSplits, IsAmong, IsParent, KeptSplit, NothingLags, halves_at, last_of}
 use Rattle.mt_insert.specs.Climbs.{AreSame, IsClimbFrom}
 use Rattle.mt_state.specs.{declared.moves.Move.TheVariants.{Moved, NoMemory}, Views.{Core, Shown, shown}, Promises.IsAnswer}
-use Rattle.mt_state.specs.{KeptOperations.{IsClimbing, IsKeptOf, IsScanKept}, KeptBack.IsKeptBack, Invariant.{HoldsAt, StateInvariant, made_count, one_if_prepared, prepared_count}}
+use Rattle.mt_state.specs.{KeptOperations.{IsClimbing, IsKeptOf, IsScanKept}, KeptBack.{ArenaFacts, IsKeptBack}, Invariant.{HoldsAt, StateInvariant, made_count, one_if_prepared, prepared_count}}
 use Rattle.mt_state.proofs.{Shown.{shown_set, shown_table, shown_there}, Telling.Gives}
-use Rattle.mt_state.proofs.{SplitSteps.{climb_among, climb_back, climb_done, climbing_of, among_climb, kept_climbing}, ClimbingNodes.{climb_keeps, climb_leads}}
+use Rattle.mt_state.proofs.{SplitSteps.{climb_among, climb_back, climb_done, climbing_of, among_climb, kept_climbing}, ClimbingNodes.{climb_makes, climb_leads}, Giving.are_forgotten}
 use Rattle.mt_core.specs.{Budgets.above, Points.StepsOn}
-use Rattle.mt_core.proofs.{Climbing.{climb_none, climb_writes}, Points.{nears_by, point_first}, Following.{IsOver, IsSound, made, set_back, write_no_scan}}
+use Rattle.mt_core.proofs.{Climbing.{climb_none, climb_writes}, Points.{free_from, nears_by, point_first}, Following.{IsOver, IsSound, made, set_back, write_no_scan}}
 use Rattle.mt_core.proofs.{Leading.{no_step, leads_over}, Retained.{own_tape, retained, scan_retained}, ClimbingNears.climb_nears}
 
 -- as many operations have all ready where the one that is written has as it had
@@ -216,25 +216,25 @@ module _ (c now : Core) (o : ℕ) (is : c ≡ now) (h : StateInvariant c) (few :
       climb_among op.walk.phase at_climb op k (subst (λ (x : Operation). HoldsAt x.walk.phase x k) (same_Some f.0 op (sym f.1 ∙ there)) f.2)
 
   -- the step was made
-  pub climb_made : IsArena c.arena.nodes c.arena.trees → (arena : ArenaView) (w : Walk) (t : Splits) (table : Table)
-      → IsClimbFrom op.walk.phase o c.arena arena op.walk w op.splits t → IsOver c.table table o (moved (with_splits op t) (c.steps + 1) w)
+  pub climb_made : ArenaFacts c.arena → (arena : ArenaView) (w : Walk) (t : Splits) (table : Table) (least : ℕ) → AreBornFrom c.table least
+      → IsClimbFrom op.walk.phase least o c.arena arena op.walk w op.splits t → IsOver c.table table o (moved (with_splits op t) (c.steps + 1) w)
       → IsSound c.arena (made c arena c.tape c.accounts table) × StepsOn now (made c arena c.tape c.accounts table) o Moved
-  climb_made is_arena arena w t table told over =
+  climb_made facts arena w t table least born told over =
       let after = moved (with_splits op t) (c.steps + 1) w in
       let new = made c arena c.tape c.accounts table in
       let gives : Gives (shown c) new o false = subst (λ (u : Table). Gives (shown c) (made c arena c.tape c.accounts u) o false) (sym over.is)
-      (climb_done c o h (subst (λ (v : Core). v.steps < 2 ^ 59) (sym is) few) op there arena w t at_climb told) in (
+      (climb_done c o h (subst (λ (v : Core). v.steps < 2 ^ 59) (sym is) few) op there arena w t least facts born at_climb told) in (
         gives.0,
         subst (λ (v : Core). StepsOn v new o Moved) is (record {
           tells = gives.1;
           nears =
-              nears_by c new o op after there over.there (climb_keeps op.walk.phase at_climb o c.arena arena op.walk w op.splits t told).keeps.guarantee refl
+              nears_by c new o op after there over.there (free_from least o c.arena arena (climb_makes op.walk.phase at_climb least o c.arena arena op.walk w op.splits t told).steps) refl
               (λ height n p. point_first height (n + 1) arena w t after.walk.first
-              (climb_nears op.walk.phase at_climb o c.arena arena op.walk w op.splits t refl is_arena.nodes climb_kept told height n p))
+              (climb_nears op.walk.phase at_climb least o c.arena arena op.walk w op.splits t refl facts (are_forgotten c h facts least born) climb_kept told height n p))
               (λ removes height n r. absurd (climb_none op.walk.phase at_climb height r.round n c.arena op.walk r.few))
               (λ scans. absurd (both_ways _ (write_no_scan c o h op there op.walk.phase refl (climb_writes op.walk.phase at_climb)) scans));
           leads =
-              leads_over c o h op there op.walk.phase refl c refl arena c.tape c.accounts table after over w (climb_leads op.walk.phase at_climb o c.arena arena op.walk w op.splits t told (c.steps + 1) op.task.key op.outcome op.removal (no_step op)) refl refl;
+              leads_over c o h op there op.walk.phase refl c refl arena c.tape c.accounts table after over w (climb_leads op.walk.phase at_climb least o c.arena arena op.walk w op.splits t told (c.steps + 1) op.task.key op.outcome op.removal (no_step op)) refl refl;
         }),
       )
 

@@ -1,6 +1,6 @@
 -- How near a step of a climb brings its operation, and that no level is new: for `Inner::climb`.
 use Rattle.std.proofs.{Common.{List, [], ap, arith, inl, inr, length, refl, subst, sym, false, ℕ, ◌*◌, ◌+◌, ◌<◌, ◌∷◌, ◌∙◌, ◌≡◌, ◌≢◌, ◌≤◌}, lemmas.Bool.cases_lt}
-use Rattle.mt_arena.specs.{Arena.ArenaView, Accesses.at}
+use Rattle.mt_arena.specs.{NodeView.NodeView, Arena.ArenaView, Accesses.at}
 use Rattle.mt_operation.proofs.Phases.{by_climb}
 use Rattle.mt_operation.specs.{declared.phase.Phase.Phase, declared.phase.Phase.TheVariants.Unlock, declared.walk.Walk.Walk, declared.splits.Halves.Halves}
 use Rattle.mt_operation.specs.{declared.splits.Splits.Splits, declared.walk.Aim.Aim, Phases.{IsOfKind, IsClimb}}
@@ -8,19 +8,30 @@ use Rattle.mt_insert.specs.KeptSplits.{HasSplits, KeptSplit}
 use Rattle.mt_held.specs.Moves.{walk_at}
 use Rattle.mt_core.specs.{Budgets.{AreBelow, before_unlock}, Points.{HasMade, HasRemoved, IsAtPoint, MayHaveGrown}}
 use Rattle.mt_core.proofs.Points.{below_at, few_at, point_at}
-use Rattle.mt_state.proofs.Climbing.{LeavesNodes}
+use Rattle.mt_state.proofs.Climbing.{ComesAgain, LeavesNodes}
 use Rattle.mt_operation.specs.declared.walk.Aim.TheVariants as aims
 
--- each node that was added stands on the level of a live one that was there
-abbrev pub AreOnLevels : ArenaView → ArenaView → Type 0
-AreOnLevels old new = (k : ℕ) → length old.nodes ≤ k → k < length new.nodes → (j : ℕ) × (j < length old.nodes) × ((at old j).version.deleted ≡ false) × ((at new k).level ≡ (at old j).level)
+-- the node stands on the level of a live one that was there
+pub record IsOnLevel (old : ArenaView) (n : NodeView) : Type 0 where
+  pub beside : ℕ
+  pub there : beside < length old.nodes
+  pub live : (at old beside).version.deleted ≡ false
+  pub level : n.level ≡ (at old beside).level
+
+-- so does each node that was added, or that came in a place that was given out
+pub record AreOnLevels (old new : ArenaView) : Type 0 where
+  pub added : (k : ℕ) → length old.nodes ≤ k → k < length new.nodes → IsOnLevel old (at new k)
+  pub again : (k : ℕ) → k < length old.nodes → ComesAgain (at old k) (at new k) → IsOnLevel old (at new k)
 
 module _ (o : ℕ) (old new : ArenaView) (l : LeavesNodes o old new) where
   -- all nodes stand below a level, where each new one stands on the level of another
   pub stays_below : AreOnLevels old new → (height : ℕ) → AreBelow old height → AreBelow new height
   stays_below levels height below k within live = elim (cases_lt k (length old.nodes)) [
-    | inl was ↦ let n = l.each k was in omega (arith, n.level, below k was (sym n.deleted ∙ live))
-    | inr late ↦ let level = levels k late within in omega (arith, level.3, below level.0 level.1 level.2)
+    | inl was ↦ elim (l.each k was) [
+      | inl n ↦ omega (arith, n.level, below k was (sym n.deleted ∙ live))
+      | inr again ↦ let on = levels.again k was again in omega (arith, on.level, below on.beside on.there on.live)
+    ]
+    | inr late ↦ let on = levels.added k late within in omega (arith, on.level, below on.beside on.there on.live)
   ]
 
 -- no root was made before a step of a climb

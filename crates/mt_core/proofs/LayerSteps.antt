@@ -4,23 +4,23 @@ use Rattle.std.proofs.lemmas.Bool.{cases_lt, both_ways}
 use Rattle.std.specs.Prelude.{min, ◌*◌, ◌^◌}
 use Rattle.mt_slices.specs.Keys.{IsStoredKey}
 use Rattle.mt_rows.specs.{declared.reply.Reply.TheVariants.NoMemory, Rows.Bytes}
-use Rattle.mt_arena.specs.{NodeView.NodeView, Edits.unlocked, Arena.{ArenaView, Guarantee, IsArena}, Accesses.at}
+use Rattle.mt_arena.specs.{NodeView.NodeView, Edits.unlocked, Arena.{ArenaView, IsArena}, Accesses.at, Idle.AreRetired, Given.AreForgotten}
 use Rattle.mt_operation.proofs.Phases.{by_layer}
 use Rattle.mt_operation.specs.{declared.phase.Phase.Phase, declared.phase.Phase.TheVariants.{Enter, Link, MakeLayer, MarkLayer, MarkUnstable, Unlock}}
 use Rattle.mt_operation.specs.{declared.walk.Walk.Walk, declared.splits.Halves.Halves, declared.splits.Splits.Splits, declared.outcome.Outcome.Outcome}
 use Rattle.mt_operation.specs.{declared.operation.Operation.Operation, Operations.{moved, noted, splits_of}, Phases.{IsLayerPhase, IsOfKind}}
-use Rattle.mt_operation.specs.{Tables.{Table, op_at as operation_at}, declared.walk.Aim.Aim}
+use Rattle.mt_operation.specs.{Tables.{Table, AreBornFrom, op_at as operation_at}, declared.walk.Aim.Aim}
 use Rattle.mt_descent.specs.{KeptWalks.walk_place, WalkMoves.walk_into}
 use Rattle.mt_held.specs.Unlock.{GoesInto, IsUnlock}
 use Rattle.mt_layer.specs.{KeptLayers.{IsAtLeave, KeptLayer}, Builds.{IsLayerFrom, IsLeave}}
-use Rattle.mt_state.specs.{declared.moves.Move.TheVariants.{Moved, Done as DoneMove}, Views.{Core, StateView, shown}, Invariant.StateInvariant}
+use Rattle.mt_state.specs.{declared.moves.Move.TheVariants.{Moved, Done as DoneMove}, Views.{Core, StateView, shown}, KeptBack.ArenaFacts, Invariant.StateInvariant}
 use Rattle.mt_state.specs.{KeptOperations.{IsKeptAt, IsLeaving, IsReturning}, Phases.{GoesFromUnlock, LeadsTo}}
-use Rattle.mt_state.proofs.{OneNode.replaced_all, Needs.{layer_kept, leave_kept}, Telling.Gives, LayerSteps.{build_done, leave_done, make_stopped}}
-use Rattle.mt_state.proofs.LayerNodes.{LeavesNodes, layer_keeps, layer_goes, layer_leads, layer_leaves, layer_next}
+use Rattle.mt_state.proofs.{Giving.are_forgotten, OneNode.replaced_all, Needs.{layer_kept, leave_kept}, Telling.Gives, LayerSteps.{build_done, leave_done, make_stopped}}
+use Rattle.mt_state.proofs.LayerNodes.{LeavesNodes, layer_makes, layer_goes, layer_leads, layer_leaves, layer_next}
 use Rattle.mt_core.specs.Budgets.{AreBelow, IsLiveTree, above, astray, before_unlock}
-use Rattle.mt_core.specs.Points.{HasMade, HasRemoved, IsRemovalAt, IsAtPoint, MayHaveGrown, Nears, StepsOn}
+use Rattle.mt_core.specs.Points.{HasMade, HasRemoved, IsFreeOfOthers, IsRemovalAt, IsAtPoint, MayHaveGrown, Nears, StepsOn}
 use Rattle.mt_core.proofs.{Following.{IsSound, sound_by, IsOver, made, write_no_scan}, Leading.{no_step, leads_over}, LookPoints.{next_layer, shallow_below}}
-use Rattle.mt_core.proofs.Points.{below_at, few_at, nears_by, rounds_at, point_at, point_first}
+use Rattle.mt_core.proofs.Points.{below_at, few_at, free_from, free_on, nears_by, rounds_at, point_at, point_first}
 use Rattle.mt_arena.proofs.OneLink as OneLink
 use Rattle.mt_operation.specs.declared.walk.Aim.TheVariants as aims
 
@@ -28,7 +28,10 @@ module _ (o : ℕ) (old new : ArenaView) (l : LeavesNodes o old new) where
   -- all nodes stand below a level where one did
   stays_below : (height : ℕ) → 0 < height → AreBelow old height → AreBelow new height
   stays_below height some below k within live = elim (cases_lt k (length old.nodes)) [
-    | inl was ↦ let n = l.each k was in omega (arith, n.level, below k was (sym n.deleted ∙ live))
+    | inl was ↦ elim (l.each k was) [
+      | inl n ↦ omega (arith, n.level, below k was (sym n.deleted ∙ live))
+      | inr root ↦ omega (arith, root.level, some)
+    ]
     | inr late ↦ omega (arith, (l.fresh k late within).level, some)
   ]
 
@@ -51,14 +54,15 @@ layer_made MarkLayer i old new before after s height n alike few = by s.halves.i
 layer_made _ i old new before after s height n alike few = absurd i
 
 -- so it comes nearer
-layer_nears : (p : Phase) → IsLayerPhase p → (o : ℕ) (key : Bytes) (old new : ArenaView) (before after : Walk) (s : Splits) → before.phase ≡ p
-    → before.place.node < length old.nodes → (at old before.place.node).version.deleted ≡ false → KeptLayer p old o key before → IsLayerFrom p o key old new before after
+layer_nears : (p : Phase) → IsLayerPhase p → (least o : ℕ) (key : Bytes) (old new : ArenaView) (before after : Walk) (s : Splits) → before.phase ≡ p
+    → before.place.node < length old.nodes → (at old before.place.node).version.deleted ≡ false → AreRetired old.nodes old.trees old.retired → AreForgotten least old
+    → KeptLayer p old o key before → IsLayerFrom p least o key old new before after
     → (height n : ℕ) → IsAtPoint height n old before s → IsAtPoint height (n + 1) new after s
-layer_nears p i o key old new before after s at_p within live kept b height n point =
-    let goes = layer_goes p i o key old new before after b in
+layer_nears p i least o key old new before after s at_p within live retired forgotten kept b height n point =
+    let goes = layer_goes p i least o key old new before after b in
     let below : AreBelow old height = below_at height n old before s p at_p (layer_ungrown p i s.halves.items) point in
     let some : 0 < height = omega (arith, below before.place.node within live) in
-    point_at height (n + 1) new after s (layer_next p) goes.at (λ other. stays_below o old new (layer_leaves p i o key old new before after kept b) height some below)
+    point_at height (n + 1) new after s (layer_next p) goes.at (λ other. stays_below o old new (layer_leaves p i least o key old new before after retired forgotten kept b) height some below)
     (layer_made p i old new before after s height n (ap (λ l. astray height + min l 31 * (3 * height + 12)) goes.layer) (few_at height n old before s p at_p point))
 
 -- the node of an operation that makes a layer is there
@@ -96,14 +100,14 @@ module _ (c now : Core) (o : ℕ) (is : c ≡ now) (h : StateInvariant c) (few :
   few_inside : c.steps < 2 ^ 59
   few_inside = subst (λ (v : Core). v.steps < 2 ^ 59) (sym is) few
 
-  steps_on : (arena : ArenaView) (w : Walk) (table : Table) → IsOver c.table table o (moved x (c.steps + 1) w) → Guarantee o c.arena arena
+  steps_on : (arena : ArenaView) (w : Walk) (table : Table) → IsOver c.table table o (moved x (c.steps + 1) w) → (IsFreeOfOthers c.arena o → IsFreeOfOthers arena o)
       → ((height n : ℕ) → IsAtPoint height n c.arena x.walk x.splits → IsAtPoint height (n + 1) arena w x.splits)
       → ((height n : ℕ) → IsRemovalAt height n c.arena x.walk x.outcome x.removal → ⊥)
       → ((aim : Aim) → IsOfKind x.walk.phase aim → aim ≡ aims.Write)
       → LeadsTo x.walk.phase c.arena arena o (c.steps + 1) x.task.key x.outcome (splits_of x.splits) x.removal (no_step x) x.walk w
       → Gives (shown c) (made c arena c.tape c.accounts (set c.table o (Some (moved x (c.steps + 1) w)))) o false
       → IsSound c.arena (made c arena c.tape c.accounts table) × StepsOn now (made c arena c.tape c.accounts table) o Moved
-  steps_on arena w table over guarantee brings none write leads g =
+  steps_on arena w table over frees brings none write leads g =
       let after = moved x (c.steps + 1) w in
       let new = made c arena c.tape c.accounts table in
       let told : Gives (shown now) new o false = gives_now new false (subst (λ (all : Table). Gives (shown c) (made c arena c.tape c.accounts all) o false) (sym over.is) g) in (
@@ -111,23 +115,24 @@ module _ (c now : Core) (o : ℕ) (is : c ≡ now) (h : StateInvariant c) (few :
         record {
           tells = told.1;
           nears = subst (λ (v : Core). Nears v new o Moved) is
-              (nears_by c new o x after there over.there guarantee refl (λ height n point. point_first height (n + 1) arena w x.splits after.walk.first (brings height n point)) (λ removes height n r. absurd (none height n r))
+              (nears_by c new o x after there over.there frees refl (λ height n point. point_first height (n + 1) arena w x.splits after.walk.first (brings height n point)) (λ removes height n r. absurd (none height n r))
               (λ scans. absurd (both_ways _ (write_no_scan c o h x there x.walk.phase refl write) scans)));
           leads = leads_over c o h x there x.walk.phase refl now is arena c.tape c.accounts table after over w leads refl refl;
         },
       )
 
   -- a layer that came one step nearer
-  pub build_made : IsLayerPhase x.walk.phase → (arena : ArenaView) (w : Walk) (table : Table) → IsLayerFrom x.walk.phase o x.task.key c.arena arena x.walk w
+  pub build_made : ArenaFacts c.arena → IsLayerPhase x.walk.phase → (arena : ArenaView) (w : Walk) (table : Table) (least : ℕ) → AreBornFrom c.table least
+      → IsLayerFrom x.walk.phase least o x.task.key c.arena arena x.walk w
       → IsOver c.table table o (moved x (c.steps + 1) w) → IsSound c.arena (made c arena c.tape c.accounts table) × StepsOn now (made c arena c.tape c.accounts table) o Moved
-  build_made layer arena w table b over =
+  build_made facts layer arena w table least born b over =
       let p = x.walk.phase in
       let kept = layer_kept c o h x there p refl layer in
-      steps_on arena w table over (layer_keeps p layer o x.task.key c.arena arena x.walk w b).keeps.guarantee
-      (λ height n. layer_nears p layer o x.task.key c.arena arena x.walk w x.splits refl (layer_there p layer c.arena o x.task.key x.walk kept) (layer_live p layer c.arena o x.task.key x.walk kept) kept b height n)
+      steps_on arena w table over (free_from least o c.arena arena (layer_makes p layer least o x.task.key c.arena arena x.walk w b).steps)
+      (λ height n. layer_nears p layer least o x.task.key c.arena arena x.walk w x.splits refl (layer_there p layer c.arena o x.task.key x.walk kept) (layer_live p layer c.arena o x.task.key x.walk kept) facts.retired (are_forgotten c h facts least born) kept b height n)
       (λ height n r. layer_none p layer height r.round n c.arena x.walk r.few) (layer_writes p layer)
-      (layer_leads p layer o x.task.key c.arena arena x.walk w b (c.steps + 1) x.outcome (splits_of x.splits) x.removal (no_step x))
-      (build_done c o h few_inside x there arena w layer b)
+      (layer_leads p layer least o x.task.key c.arena arena x.walk w facts.retired b (c.steps + 1) x.outcome (splits_of x.splits) x.removal (no_step x))
+      (build_done c o h few_inside x there arena w least facts born layer b)
 
   -- no memory for it
   pub stop_made : (arena : ArenaView) (w : Walk) (table : Table) → x.walk.phase ≡ MakeLayer → IsUnlock o c.arena arena x.walk w
@@ -150,7 +155,7 @@ module _ (c now : Core) (o : ℕ) (is : c ≡ now) (h : StateInvariant c) (few :
   pub leave_made : IsArena c.arena.nodes c.arena.trees → x.walk.phase ≡ Unlock → x.outcome ≡ None
       → (arena : ArenaView) (w : Walk) (table : Table) → IsLeave o c.arena arena x.walk w → IsOver c.table table o (moved x (c.steps + 1) w)
       → IsSound c.arena (made c arena c.tape c.accounts table) × StepsOn now (made c arena c.tape c.accounts table) o Moved
-  leave_made is_arena at_unlock untold arena w table t over = steps_on arena w table over g.keeps.guarantee brings
+  leave_made is_arena at_unlock untold arena w table t over = steps_on arena w table over (free_on o c.arena arena g.keeps.guarantee) brings
       (λ height n r. (rounds_at height n c.arena x.walk x.outcome x.removal Unlock at_unlock r).1 untold)
       (λ aim. subst (λ (p : Phase). IsOfKind p aim → aim ≡ aims.Write) (sym at_unlock) (λ kind. kind)) leads
       (leave_done c o h few_inside x there at_unlock untold arena w t)

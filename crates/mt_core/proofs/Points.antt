@@ -1,12 +1,12 @@
 -- How a step brings an operation on that nobody is in the way of: by the point to which its walk came. For each phase of `Inner`.
-use Rattle.std.proofs.{Common.{◌≡◌, ℕ, ◌+◌, inl, inr, Bool, true, false, length, Option, Some, refl, sym, subst, ◌∙◌}, lemmas.Bool.{cases_lt, cases_eq}}
+use Rattle.std.proofs.{Common.{◌≡◌, ℕ, ◌+◌, inl, inr, Bool, true, false, length, Option, Some, refl, sym, ap, subst, ◌∙◌}, lemmas.Bool.{cases_lt, cases_eq}}
 use Rattle.std.proofs.lemmas.Option.{same_Some}
-use Rattle.mt_arena.specs.Arena.{ArenaView, Guarantee}
+use Rattle.mt_arena.specs.{NodeView.NodeView, Arena.{ArenaView, Guarantee}, Given.StepsFrom, Accesses.at}
 use Rattle.mt_operation.specs.{declared.phase.Phase.Phase, declared.phase.Phase.TheVariants.Enter, declared.walk.Walk.Walk, declared.splits.Splits.Splits}
 use Rattle.mt_operation.specs.{Tasks.ask, declared.operation.Operation.Operation, Tables.{op_at as operation_at}, declared.outcome.Outcome.Outcome}
 use Rattle.mt_operation.specs.declared.removal.Removal.{Removal}
 use Rattle.mt_rows.specs.{declared.command.Command.Command, Maps.is_scan}
-use Rattle.mt_state.{proofs.Lawful.remove_no_scan, specs.{declared.moves.Move.TheVariants.Moved, Views.Core}}
+use Rattle.mt_state.{proofs.{Lawful.remove_no_scan, Rely.held_was}, specs.{declared.moves.Move.TheVariants.Moved, Views.Core}}
 use Rattle.mt_core.specs.{ScanPoints.IsScanAt, Budgets.AreBelow}
 use Rattle.mt_core.specs.Points.{HasMade, HasRemoved, MayHaveGrown, IsAtPoint, IsFreeOfOthers, IsRemovalAt, IsSoFar, IsComing, Nears, RoundsAt}
 use Rattle.mt_remove.specs.Writes.{is_remove}
@@ -77,17 +77,23 @@ removal_first height made v w told r first p = record {
   few = removed_first w.phase height p.round made v w first p.few;
 }
 
-module _ (c new : Core) (o : ℕ) (op after : Operation) (there : operation_at c.table o ≡ Some op) (came : operation_at new.table o ≡ Some after) (g : Guarantee o c.arena new.arena) (asked : ask after.task ≡ ask op.task) where
-  -- nobody else comes to hold a node
-  free_after : IsFreeOfOthers c.arena o → IsFreeOfOthers new.arena o
-  free_after free k q within holds = elim (cases_eq q o) [
-    | inl is ↦ is
-    | inr other ↦ elim (cases_lt k (length c.arena.nodes)) [
-      | inl was ↦ free k q was ((g.nodes.nodes k was).taken q other holds)
-      | inr late ↦ absurd (g.nodes.taken_new k q late within other holds)
-    ]
+-- nobody else comes to hold a node by a step of the operation
+pub free_on : (o : ℕ) (old new : ArenaView) → Guarantee o old new → IsFreeOfOthers old o → IsFreeOfOthers new o
+free_on o old new g free k q within holds = elim (cases_eq q o) [
+  | inl is ↦ is
+  | inr other ↦ elim (cases_lt k (length old.nodes)) [
+    | inl was ↦ free k q was ((g.nodes.nodes k was).taken q other holds)
+    | inr late ↦ absurd (g.nodes.taken_new k q late within other holds)
   ]
+]
 
+-- nor if it gives places out, since nobody holds what comes there
+pub free_from : (least o : ℕ) (old new : ArenaView) → StepsFrom least o old new → IsFreeOfOthers old o → IsFreeOfOthers new o
+free_from least o old new s free = free_on o s.mid new s.step (λ k q within holds. let was = held_was q k old s.mid s.gives within holds in
+    free k q was.0 (ap (λ (n : NodeView). n.holder) (sym was.1) ∙ holds))
+
+module _ (c new : Core) (o : ℕ) (op after : Operation) (there : operation_at c.table o ≡ Some op) (came : operation_at new.table o ≡ Some after)
+    (stays_free : IsFreeOfOthers c.arena o → IsFreeOfOthers new.arena o) (asked : ask after.task ≡ ask op.task) where
   -- a scan that comes to its next point
   abbrev pub BringsScan : Type 0
   BringsScan = (height trees made : ℕ) → IsScanAt height trees made c.arena op.walk op.scan.stop op.task.key
@@ -101,7 +107,7 @@ module _ (c new : Core) (o : ℕ) (op after : Operation) (there : operation_at c
   nears_by brings removes scans height trees made u = record {
     op = after;
     there = came;
-    free = free_after u.free;
+    free = stays_free u.free;
     point = subst (λ (command : Command). IsComing (is_scan command) height trees (made + 1) new.arena after) (sym asked)
         (by (is_scan (ask op.task)) refl (subst (λ (x : Operation). IsComing (is_scan (ask x.task)) height trees made c.arena x) (same_Some u.op op (sym u.there ∙ there)) u.point));
   }
@@ -118,7 +124,7 @@ module _ (c new : Core) (o : ℕ) (op after : Operation) (there : operation_at c
   nears_removal is removes height trees made u = record {
     op = after;
     there = came;
-    free = free_after u.free;
+    free = stays_free u.free;
     point = subst (λ (command : Command). IsComing (is_scan command) height trees (made + 1) new.arena after) (sym asked)
         (by (is_scan (ask op.task)) (remove_no_scan (ask op.task) is)
         (subst (λ (x : Operation). IsComing (is_scan (ask x.task)) height trees made c.arena x) (same_Some u.op op (sym u.there ∙ there)) u.point));
@@ -135,7 +141,7 @@ module _ (c new : Core) (o : ℕ) (op after : Operation) (there : operation_at c
   nears_scan is scans height trees made u = record {
     op = after;
     there = came;
-    free = free_after u.free;
+    free = stays_free u.free;
     point = subst (λ (command : Command). IsComing (is_scan command) height trees (made + 1) new.arena after) (sym asked)
         (subst (λ (b : Bool). IsComing b height trees (made + 1) new.arena after) (sym is) (scans height trees made
         (subst (λ (b : Bool). IsComing b height trees made c.arena op) is

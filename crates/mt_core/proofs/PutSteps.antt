@@ -29,7 +29,7 @@ use Rattle.mt_state.proofs.{FillSteps.fill_done, Locking.{judge_ready, judge_ref
 use Rattle.mt_state.proofs.{Putting.{publish_done, store_done}, Needs.{fill_kept, judge_kept, lock_kept, publish_kept, put_at, store_kept}, Bound.put_no_remove}
 use Rattle.mt_core.specs.Budgets.{AreBelow, IsLiveTree, SeesNow, above, astray, before_unlock, behind}
 use Rattle.mt_core.specs.Points.{HasMade, HasRemoved, IsRemovalAt, IsAtPoint, MayHaveGrown, Nears, StepsOn}
-use Rattle.mt_core.proofs.Points.{below_at, few_at, nears_by, point_at, point_first, removal_first, removed_at}
+use Rattle.mt_core.proofs.Points.{below_at, few_at, free_on, nears_by, point_at, point_first, removal_first, removed_at}
 use Rattle.mt_core.proofs.{RemovalNears.{link_removal, lock_removal, tree_layer, tree_stands}, LookPoints.{next_layer, shallow_below}}
 use Rattle.mt_core.proofs.{Following.{IsSound, sound_by, IsOver, made, write_no_scan}, Leading.{done_from, leads_over}}
 use Rattle.mt_operation.specs.declared.walk.Aim.TheVariants as aims
@@ -178,7 +178,7 @@ module _ (c now : Core) (o : ℕ) (is : c ≡ now) (h : StateInvariant c) (few :
       → (is_remove (ask x.task) ≡ true → (height n : ℕ) → IsRemovalAt height n c.arena x.walk x.outcome x.removal → IsRemovalAt height (n + 1) arena after.walk after.outcome after.removal)
       → is_scan (ask x.task) ≡ false → Nears now (made c arena tape accounts table) o Moved
   nears_made after asked arena tape accounts table over guarantee brings removes plain = subst (λ (v : Core). Nears v (made c arena tape accounts table) o Moved) is
-      (nears_by c (made c arena tape accounts table) o x after there over.there guarantee (ap ask asked) brings removes (λ scans. absurd (both_ways _ plain scans)))
+      (nears_by c (made c arena tape accounts table) o x after there over.there (free_on o c.arena arena guarantee) (ap ask asked) brings removes (λ scans. absurd (both_ways _ plain scans)))
 
   -- what is told of it, and that
   steps_on : (new : Core) → Gives (shown now) new o false → Nears now new o Moved → Leads (shown now) (shown new) o

@@ -116,7 +116,7 @@ module _ (c now : Core) (o : ℕ) (is : c ≡ now) (h : StateInvariant c) (room 
       nears : Nears c (stepped c (led w told)) o Moved
       nears =
           let after = noted (moved op (c.steps + 1) w) told in
-          nears_by c (stepped c (led w told)) o op after there (set_is c.table o after op there) (nothing_changes o c.arena) refl
+          nears_by c (stepped c (led w told)) o op after there (set_is c.table o after op there) (λ free. free) refl
           (λ height made point. point_first height (made + 1) c.arena w op.splits after.walk.first (brings height made point))
           (λ is height made r. removal_first height (made + 1) c.arena w told op.removal after.walk.first (removes is height made r))
           (λ is height trees made r. scan_first height trees (made + 1) after.walk.first c.arena w op.scan.stop op.task.key (scans is height trees made r))

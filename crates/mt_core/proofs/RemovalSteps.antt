@@ -23,7 +23,7 @@ use Rattle.mt_operation.specs.{Phases.{IsRemovalPhase, is_done}, Tables.{Table, 
 use Rattle.mt_remove.specs.{DropKey.IsDropKey, Judge.{FindsAbsent, IsMadeReady}, KeptRemovals.{IsAmong, IsAtUnlockRemoval, KeptRemoval}, RemovalEdits.root_of}
 use Rattle.mt_remove.specs.{Steps.IsRemovalFrom, Unlock.IsUnlockRemoval, Ways.{Follows, IsLockWay}, Writes.is_remove}
 use Rattle.mt_core.specs.{Nexts.ending, Points.{IsRemovalAt, Nears, StepsOn}}
-use Rattle.mt_core.proofs.{Following.{IsOver, IsSound, made}, Leading.{no_step, leads_over}, Points.{nears_removal, removal_first, removed_at, rounds_at}}
+use Rattle.mt_core.proofs.{Following.{IsOver, IsSound, made}, Leading.{no_step, leads_over}, Points.{free_on, nears_removal, removal_first, removed_at, rounds_at}}
 use Rattle.mt_core.proofs.RemovalNears.{back_lock, back_removal, emptied_removal, live_fewer, live_stays, ready_removal, shallow_layer, taken_removal, taken_walk, tree_layer, tree_stands}
 use Rattle.mt_core.proofs.PutSteps.{judges_none, link_made}
 
@@ -95,7 +95,7 @@ module _ (c now : Core) (o : ℕ) (is : c ≡ now) (h : StateInvariant c) (few :
       → ((height n : ℕ) → IsRemovalAt height n c.arena x.walk x.outcome x.removal → IsRemovalAt height (n + 1) arena after.walk after.outcome after.removal)
       → Nears now (made c arena tape accounts table) o Moved
   nears_by_removal removes arena tape accounts table after over asked guarantee brings = subst (λ (v : Core). Nears v (made c arena tape accounts table) o Moved) is
-      (nears_removal c (made c arena tape accounts table) o x after there over.there guarantee (ap ask asked) removes brings)
+      (nears_removal c (made c arena tape accounts table) o x after there over.there (free_on o c.arena arena guarantee) (ap ask asked) removes brings)
 
   -- what is told of one that moves, and of one that ends
   moves_on : (new : Core) → Gives (shown c) new o false → Nears now new o Moved → Leads (shown now) (shown new) o → IsSound c.arena new × StepsOn now new o Moved

@@ -77,7 +77,7 @@ module _ (c now : Core) (o : ℕ) (is : c ≡ now) (h : StateInvariant c) (room 
     record {
       tells = (gives_now (stepped (went_table task w told scan)) false g).1;
       nears = subst (λ (x : Core). Nears x (stepped (went_table task w told scan)) o Moved) is
-          (nears_scan c (stepped (went_table task w told scan)) o op (went task w told scan) there (set_is c.table o (went task w told scan) op there) (nothing_changes o c.arena) asked scans
+          (nears_scan c (stepped (went_table task w told scan)) o op (went task w told scan) there (set_is c.table o (went task w told scan) op there) (λ free. free) asked scans
           (λ height trees made r. scan_first height trees (made + 1) (went task w told scan).walk.first c.arena w scan.stop task.key (brings height trees made r)));
       leads = leads_scanned c o h op there p at_p now is c.arena c.tape c.accounts (went_table task w told scan) _ (went_over task w told scan) w goes stays refl;
     },

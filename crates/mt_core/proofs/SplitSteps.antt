@@ -5,29 +5,32 @@ use Rattle.std.specs.Prelude.{◌^◌}
 use Rattle.mt_rows.specs.{declared.reply.Reply.Reply, declared.reply.Reply.TheVariants.{Full, New, NoMemory}, Rows.Columns, Accounts.Accounts}
 use Rattle.mt_border.specs.declared.entry.Entry.{Entry}
 use Rattle.mt_tape.specs.Tapes.{Kept}
-use Rattle.mt_arena.specs.{NodeView.{NodeView, node_at}, Edits.{fresh_half, splitting}, Splits.{left_half, right_half}, Several.AreHalved}
-use Rattle.mt_arena.specs.{Arena.{ArenaView, Guarantee, IsArena}, Accesses.{IsHeld, at, with_half}}
+use Rattle.mt_arena.specs.{NodeView.{NodeView, node_at}, Splits.{left_half, right_half}, Several.AreHalved}
+use Rattle.mt_arena.specs.{Arena.{ArenaView, Guarantee, IsArena}, Accesses.{IsHeld, at, with_half_at}, Idle.AreRetired, Given.AreForgotten}
 use Rattle.mt_version.specs.{Parts.Parts, Changes.CanUnlock}
 use Rattle.mt_operation.specs.{declared.phase.Phase.Phase, declared.phase.Phase.TheVariants.{SplitMove, SplitStart, Unlock}, declared.walk.Walk.Walk}
 use Rattle.mt_operation.specs.{declared.prepared.Prepared.Prepared, declared.splits.Halves.Halves, declared.splits.Splits.Splits}
 use Rattle.mt_operation.specs.{declared.operation.Operation.Operation, Operations.{IsUnsplit, moved, noted, splits_of, with_nothing_ready, with_splits}}
-use Rattle.mt_operation.specs.{Phases.has_splits, Tables.{Table, op_at as operation_at}}
+use Rattle.mt_operation.specs.{Phases.has_splits, Tables.{Table, AreBornFrom, op_at as operation_at}}
 use Rattle.mt_insert.specs.{KeptPuts.IsAtSplitStart, Unlock.IsUnlockAll, KeptSplits.{IsAmong, IsAtSplitMove, IsAtUnlockAll, last_of}}
 use Rattle.mt_insert.specs.{SplitMove.{IsSplitMove, IsSplitMoveFull, after_parting}, SplitStart.{IsSplitStart, IsSplitStopped}}
 use Rattle.mt_held.specs.Moves.{walk_at}
 use Rattle.mt_state.specs.{declared.moves.Move.TheVariants.{Done as DoneMove, Moved}, Views.{Core, shown}, Phases.Leads}
-use Rattle.mt_state.specs.{KeptOperations.{IsKeptAt, IsSplitMoving, IsSplitStarting, IsUnlocking, MayUnlock}, Invariant.StateInvariant}
+use Rattle.mt_state.specs.{KeptOperations.{IsKeptAt, IsSplitMoving, IsSplitStarting, IsUnlocking, MayUnlock}, KeptBack.ArenaFacts, Invariant.StateInvariant}
 use Rattle.mt_state.specs.Writes.{splitting as split_core}
 use Rattle.mt_state.proofs.{Telling.Gives, OneNode.returning_told, Needs.put_at, Locking.may_unlock, SplitSteps.{return_done, start_done, stop_done}}
-use Rattle.mt_state.proofs.{Parting.{fill_done, part_done}, ClimbingNodes.begun_leaves, Climbing.pushed_at}
+use Rattle.mt_state.proofs.{Parting.{fill_done, part_done}, ClimbingNodes.{begun_leaves, half_added, half_comes_again}, Giving.are_forgotten}
 use Rattle.mt_core.specs.{Budgets.{AreBelow, above}, Points.{HasMade, Nears, StepsOn}}
-use Rattle.mt_core.proofs.{Points.{below_at, few_at, nears_by, removed_at, point_at, point_first}, Climbing.stays_below}
+use Rattle.mt_core.proofs.{Points.{below_at, few_at, free_from, free_on, nears_by, removed_at, point_at, point_first}, Climbing.stays_below}
 use Rattle.mt_core.proofs.{Following.{IsSound, IsOver, made, write_no_scan}, Leading.{done_from, leads_over}}
 
--- no level is new where a right half is made of a node that the operation holds
-half_below : (o : ℕ) (v : ArenaView) (k low : ℕ) → IsHeld v k o → (at v k).version.deleted ≡ false → (height : ℕ) → AreBelow v height → AreBelow (with_half v k low o) height
-half_below o v k low held live = stays_below o v (with_half v k low o) (begun_leaves o v k low held)
-    (λ j from lt. (k, held.there, live, ap (λ (n : NodeView). n.level) (pushed_at (set v.nodes k (splitting (at v k))) (fresh_half (at v k) k low o) (length v.nodes) j (length-set v.nodes k (splitting (at v k))) from lt)))
+-- no level is new if a right half is made of a node that the operation holds
+half_below : (o least : ℕ) (v : ArenaView) (k low : ℕ) → IsHeld v k o → (at v k).version.deleted ≡ false → AreRetired v.nodes v.trees v.retired → AreForgotten least v → (height : ℕ)
+    → AreBelow v height → AreBelow (with_half_at v k low least o) height
+half_below o least v k low held live retired forgotten = stays_below o v (with_half_at v k low least o) (begun_leaves o v k low least held retired forgotten) (record {
+  added = λ j from lt. record { beside = k; there = held.there; live = live; level = half_added o v k low least held j from lt };
+  again = λ j lt again. record { beside = k; there = held.there; live = live; level = half_comes_again o v k low least held j lt again };
+})
 
 -- where one node is another of its level, each level stays
 level_set : (xs : List NodeView) (i : ℕ) (y : NodeView) → y.level ≡ (node_at xs i).level → (k : ℕ) → (node_at (set xs i y) k).level ≡ (node_at xs k).level
@@ -104,18 +107,18 @@ module _ (c now : Core) (o : ℕ) (is : c ≡ now) (h : StateInvariant c) (few :
 
     module _ (arena : ArenaView) (tape : Kept) (w : Walk) (t : Splits) (table : Table) where
       -- the right half of the full node is made, and nobody's level rises
-      pub start_made : IsSplitStart o op.task.key c.arena arena c.tape tape op.walk w op.splits t → IsOver c.table table o (moved (with_splits op t) (c.steps + 1) w)
+      pub start_made : (least : ℕ) → ArenaFacts c.arena → AreBornFrom c.table least → IsSplitStart least o op.task.key c.arena arena c.tape tape op.walk w op.splits t → IsOver c.table table o (moved (with_splits op t) (c.steps + 1) w)
           → IsSound c.arena (made c arena tape c.accounts table) × StepsOn now (made c arena tape c.accounts table) o Moved
-      start_made b over =
+      start_made least facts born b over =
           let after = moved (with_splits op t) (c.steps + 1) w in
           let moves : w.phase ≡ SplitMove = ap (λ (x : Walk). x.phase) b.walk in
           moves_on (made c arena tape c.accounts table)
-          (subst (λ (all : Table). Gives (shown c) (made c arena tape c.accounts all) o false) (sym over.is) (start_done c o h few_here op there at_start arena tape w t b))
-          (nears_by c (made c arena tape c.accounts table) o op after there over.there b.keeps.guarantee refl (λ height made point.
+          (subst (λ (all : Table). Gives (shown c) (made c arena tape c.accounts all) o false) (sym over.is) (start_done c o h few_here op there at_start arena tape w t least facts born b))
+          (nears_by c (made c arena tape c.accounts table) o op after there over.there (free_from least o c.arena arena b.steps) refl (λ height made point.
           let was = few_at height made c.arena op.walk op.splits SplitStart at_start point in
           point_first height (made + 1) arena w t after.walk.first (point_at height (made + 1) arena w t SplitMove moves
           (λ _. subst (λ (v : ArenaView). AreBelow v height) (sym b.is.is)
-          (half_below o c.arena op.walk.place.node b.is.low starting.starts.holds.judged.held starting.starts.holds.judged.stands.live height (below_at height made c.arena op.walk op.splits SplitStart at_start (λ grown. grown) point)))
+          (half_below o least c.arena op.walk.place.node b.is.low starting.starts.holds.judged.held starting.starts.holds.judged.stands.live facts.retired (are_forgotten c h facts least born) height (below_at height made c.arena op.walk op.splits SplitStart at_start (λ grown. grown) point)))
           (subst (λ (x : Walk). HasMade SplitMove height (made + 1) arena x t) (sym b.walk) (omega (arith, was)))))
           (λ removes height made r. absurd (removed_at height made c.arena op.walk op.outcome op.removal SplitStart at_start r))
           (λ scans. absurd (both_ways _ (write_no_scan c o h op there SplitStart at_start (λ aim kind. kind)) scans)))
@@ -155,7 +158,7 @@ module _ (c now : Core) (o : ℕ) (is : c ≡ now) (h : StateInvariant c) (few :
           let after = noted (moved (with_nothing_ready op) (c.steps + 1) w) (Some (record { reply = reply; at = c.steps + 1 })) in
           moves_on (made c arena tape accounts table)
           (subst (λ (all : Table). Gives (shown c) (made c arena tape accounts all) o false) (sym over.is) gives)
-          (nears_by c (made c arena tape accounts table) o op after there over.there step refl (λ height made point.
+          (nears_by c (made c arena tape accounts table) o op after there over.there (free_on o c.arena arena step) refl (λ height made point.
           point_first height (made + 1) arena w op.splits after.walk.first (point_at height (made + 1) arena w op.splits (after_parting next) phase
           (λ _. halved_below all c.arena arena op.walk.place.node (last_of op.splits).right halved height (below_at height made c.arena op.walk op.splits SplitMove at_move (λ grown. grown) point))
           (subst (λ (x : Walk). HasMade (after_parting next) height (made + 1) arena x op.splits) (sym goes)

@@ -4,13 +4,14 @@ use Rattle.mt_operation.specs.{contracts.phase.Phase.the_type, declared.walk.Wal
 use Rattle.mt_operation.specs.declared.phase.Phase.TheVariants.{Lock, Judge, Store, Fill, Publish, SplitStart, SplitMove, SplitPrev, LockParent, InsertChild, InteriorSplit, Reparent, RootGrow, MakeLayer, MarkUnstable, Link, MarkLayer, DropKey, LockPrev, LockAbove, Unlink, FixNext, Collapse, CleanLayer, Unlock, Done}
 use Rattle.mt_operation.specs.{declared.prepared.Prepared.Prepared, declared.operation.Operation.Operation}
 use Rattle.mt_operation.specs.Operations.{OperationView, view_of, splits_of, scan_of, is_unfinished, counted}
-use Rattle.mt_operation.specs.{Phases.{is_done, is_prepared, IsClimb, IsLayerPhase, IsRemovalPhase, IsNoLook, IsToGrow}, Tables.{Table, op_at as operation_at}}
+use Rattle.mt_operation.specs.{Phases.{is_done, is_prepared, IsClimb, IsLayerPhase, IsRemovalPhase, IsNoLook, IsToGrow}, Tables.{Table, AreBornFrom, op_at as operation_at}}
 use Rattle.mt_operation.specs.Tasks.{ask}
 use Rattle.mt_operation.proofs.Tables.{set_is}
 use Rattle.std.proofs.Common.{rules, ◌⊎◌, ◌≡◌, ◌≢◌, ℕ, ◌+◌, ◌<◌, inl, inr, true, false, not, set, Bool, Option, Some, None, IsSome, refl, sym, ap, subst, ◌∙◌, arith}
 use Rattle.std.proofs.{lemmas.Option.same_Some, lemmas.Bool.{cases_eq, both_ways}}
 use Rattle.std.specs.Prelude.{◌^◌}
 use Rattle.mt_arena.{specs.{Forests.{layer_of, tree_at}, Arena.{ArenaView, IsArena}}, proofs.Out.upto_later}
+use Rattle.mt_state.{specs.KeptBack.ArenaFacts, proofs.Giving.{are_forgotten, may_renew}}
 use Rattle.mt_rows.specs.{Rows.Bytes, Accounts.Accounts}
 use Rattle.mt_table.specs.{declared.steps.Made.Made, declared.steps.Made.TheVariants.{Step, Blocked, NoMemory, Nothing}}
 use Rattle.mt_layer.specs.Builds.{IsLayerFrom}
@@ -19,9 +20,9 @@ use Rattle.mt_state.specs.{declared.moves.Move.Move, declared.moves.Move.TheVari
 use Rattle.mt_state.specs.{Views.{Core, Shown, shown, op_at}, Promises.{Tells, IsStep, HasStep, IsInTheWay}, Invariant.StateInvariant}
 use Rattle.mt_state.proofs.{Shown.shown_there, Lawful.put_no_scan}
 use Rattle.mt_state.proofs.Needs.{lock_kept, lock_free_hands, lock_cleans, judge_kept, put_at, store_kept, store_ready, fill_kept, fill_ready, publish_kept, publish_ready, write_room, step_later, layer_kept, leave_kept, leave_room, unlock_kept, unlock_room, removal_of, drop_kept, drop_ready, drop_removes, drop_light, drop_counted, removal_kept_at, removal_held_at, removal_unlock_kept, removal_unlock_room}
-use Rattle.mt_state.proofs.{ClimbingNodes.climb_keeps, RemovalBy.removes_by}
+use Rattle.mt_state.proofs.{ClimbingNodes.climb_makes, RemovalBy.removes_by}
 use Rattle.mt_core.specs.{Nexts.{IsNext, ending}, Points.StepsOn}
-use Rattle.mt_core.specs.Writes.{Parts, parts, Telling, Writes, WritesAt, MayWrite, MayJudge, MayPlace, MayClimb, MayBuild, MayTake, MayUnlock, TellsLocked, TellsJudged, TellsStored, TellsFilled, TellsPublished, TellsBegun, TellsParted, TellsClimbed, TellsBuilt, TellsDropped, TellsTaken, TellsUnlocked}
+use Rattle.mt_core.specs.Writes.{Parts, parts, Telling, Writes, WritesAt, MayWrite, MayGive, MayJudge, MayPlace, MayClimb, MayBuild, MayTake, MayUnlock, TellsLocked, TellsJudged, TellsStored, TellsFilled, TellsPublished, TellsBegun, TellsParted, TellsClimbed, TellsBuilt, TellsDropped, TellsTaken, TellsUnlocked}
 use Rattle.mt_core.proofs.Following.{IsSound, IsOver, made, holder_open, in_the_way}
 use Rattle.mt_core.proofs.PutSteps.{judged_put, lock_made, unlock_made, ready_made, on_made, link_made, refused_made, store_made, fill_made, publish_made, full_made}
 use Rattle.mt_core.proofs.LayerSteps.{build_made, stop_made, leave_made}
@@ -52,14 +53,15 @@ judge_or p = by (sameb the_type p Judge) refl
     by false e = inr (λ is. let no : false ≡ true = e ∙ ap (λ (q : Phase). sameb the_type q Judge) is in cc)
 
 -- a step of a layer leaves the number of the first step
-layer_first : (p : Phase) (o : ℕ) (key : Bytes) (old new : ArenaView) (before after : Walk) → IsLayerFrom p o key old new before after → after.first ≡ before.first
-layer_first MakeLayer o key old new before after b = b.on.keeps.same.first
-layer_first MarkUnstable o key old new before after b = b.on.keeps.same.first
-layer_first Link o key old new before after b = b.on.keeps.same.first
-layer_first MarkLayer o key old new before after b = b.on.keeps.same.first
-layer_first _ o key old new before after b = absurd b
+layer_first : (p : Phase) (least o : ℕ) (key : Bytes) (old new : ArenaView) (before after : Walk) → IsLayerFrom p least o key old new before after → after.first ≡ before.first
+layer_first MakeLayer least o key old new before after b = b.on.same.first
+layer_first MarkUnstable least o key old new before after b = b.on.keeps.same.first
+layer_first Link least o key old new before after b = b.on.keeps.same.first
+layer_first MarkLayer least o key old new before after b = b.on.keeps.same.first
+layer_first _ least o key old new before after b = absurd b
 
-module _ (c now : Core) (o : ℕ) (is : c ≡ now) (h : StateInvariant c) (few : now.steps < 2 ^ 59) (op : Operation) (there : operation_at c.table o ≡ Some op) where
+module _ (c now : Core) (o : ℕ) (is : c ≡ now) (h : StateInvariant c) (few : now.steps < 2 ^ 59) (op : Operation) (there : operation_at c.table o ≡ Some op)
+    (least : ℕ) (born : AreBornFrom c.table least) where
   -- what the step may change, and the state that it leaves
   abbrev pub here : Parts
   here = parts c.arena c.tape c.accounts
@@ -158,11 +160,11 @@ module _ (c now : Core) (o : ℕ) (is : c ≡ now) (h : StateInvariant c) (few :
   publish_comes arena e to after (inr p) table counts answer ends =
       answers_on to after table counts (full_made c now o is h few op there e p.prepared p.has to.arena to.tape to.accounts after.walk table p.placed (over_by table after _ counts p.others)) answer ends
 
-  begin_comes : op.walk.phase ≡ SplitStart → Comes (TellsBegun o (c.steps + 1))
-  begin_comes e to after (inl t) table counts answer ends =
+  begin_comes : ArenaFacts c.arena → op.walk.phase ≡ SplitStart → Comes (TellsBegun o (c.steps + 1) least)
+  begin_comes facts e to after (inl t) table counts answer ends =
       answers_on to after table counts (tape_gives to table Moved t.accounts
-      (start_made c now o is h few op there e to.arena to.tape after.walk after.splits table t.begins (over_by table after _ counts t.others))) answer ends
-  begin_comes e to after (inr t) table counts answer ends =
+      (start_made c now o is h few op there e to.arena to.tape after.walk after.splits table least facts born t.begins (over_by table after _ counts t.others))) answer ends
+  begin_comes facts e to after (inr t) table counts answer ends =
       answers_end to after table counts (tape_gives to table DoneMove t.accounts
       (start_stopped c now o is h few op there e to.arena to.tape after.walk after.splits table t.stops (over_by table after _ counts t.others))) answer ends
 
@@ -172,16 +174,16 @@ module _ (c now : Core) (o : ℕ) (is : c ≡ now) (h : StateInvariant c) (few :
   part_comes arena e to after (inr p) table counts answer ends =
       answers_on to after table counts (parts_without c now o is h few op there e to.arena to.tape to.accounts after.walk table p.placed (over_by table after _ counts p.others)) answer ends
 
-  climb_comes : IsArena c.arena.nodes c.arena.trees → IsClimb op.walk.phase → Comes (TellsClimbed o)
-  climb_comes arena climbs to after t table counts answer ends =
+  climb_comes : ArenaFacts c.arena → IsClimb op.walk.phase → Comes (TellsClimbed o least)
+  climb_comes facts climbs to after t table counts answer ends =
       answers_on to after table counts (rest_gives to table Moved t.rest
-      (climb_made c now o is h few op there climbs arena to.arena after.walk after.splits table t.climbs (over_by table after _ counts t.others))) answer ends
+      (climb_made c now o is h few op there climbs facts to.arena after.walk after.splits table least born t.climbs (over_by table after _ counts t.others))) answer ends
 
-  build_comes : IsLayerPhase op.walk.phase → Comes (TellsBuilt o (c.steps + 1))
-  build_comes layer to after (inl t) table counts answer ends =
+  build_comes : ArenaFacts c.arena → IsLayerPhase op.walk.phase → Comes (TellsBuilt o (c.steps + 1) least)
+  build_comes facts layer to after (inl t) table counts answer ends =
       answers_on to after table counts (rest_gives to table Moved t.on.rest
-      (build_made c now o is h few op there layer to.arena after.walk table t.builds (over_by table after _ counts t.on.others))) answer ends
-  build_comes layer to after (inr t) table counts answer ends =
+      (build_made c now o is h few op there facts layer to.arena after.walk table least born t.builds (over_by table after _ counts t.on.others))) answer ends
+  build_comes facts layer to after (inr t) table counts answer ends =
       answers_end to after table counts (rest_gives to table DoneMove t.on.rest
       (stop_made c now o is h few op there to.arena after.walk table t.phase t.unlocks (over_by table after _ counts t.on.others))) answer ends
 
@@ -211,34 +213,34 @@ module _ (c now : Core) (o : ℕ) (is : c ≡ now) (h : StateInvariant c) (few :
       (unlock_made c now o is h few op there e t.stays t.told t.none to.arena after.walk table t.unlocks (over_by table after _ counts t.on.others))) answer ends
 
   -- what a step gives that was made, where the nodes that it leaves are an arena
-  pub write_comes : IsArena c.arena.nodes c.arena.trees → (p : Phase) → op.walk.phase ≡ p → (to : Parts) → IsArena to.arena.nodes to.arena.trees → (after : Operation)
-      → WritesAt p o (c.steps + 1) here to op Step after → (table : Table) → IsCounted table after → (answer : Move) → answer ≡ ending after.walk.phase → StepGives to table answer
-  write_comes arena Lock e to is_now after t = lock_comes arena e to after t
-  write_comes arena Judge e to is_now after t = judge_comes arena e to after t
-  write_comes arena Store e to is_now after t = store_comes arena e to after t
-  write_comes arena Fill e to is_now after t = fill_comes e to after t
-  write_comes arena Publish e to is_now after t = publish_comes arena e to after t
-  write_comes arena SplitStart e to is_now after t = begin_comes e to after t
-  write_comes arena SplitMove e to is_now after t = part_comes arena e to after t
-  write_comes arena SplitPrev e to is_now after t = climb_comes arena (subst IsClimb (sym e) tt) to after t
-  write_comes arena LockParent e to is_now after t = climb_comes arena (subst IsClimb (sym e) tt) to after t
-  write_comes arena InsertChild e to is_now after t = climb_comes arena (subst IsClimb (sym e) tt) to after t
-  write_comes arena InteriorSplit e to is_now after t = climb_comes arena (subst IsClimb (sym e) tt) to after t
-  write_comes arena Reparent e to is_now after t = climb_comes arena (subst IsClimb (sym e) tt) to after t
-  write_comes arena RootGrow e to is_now after t = climb_comes arena (subst IsClimb (sym e) tt) to after t
-  write_comes arena MakeLayer e to is_now after t = build_comes (subst IsLayerPhase (sym e) tt) to after t
-  write_comes arena MarkUnstable e to is_now after t = build_comes (subst IsLayerPhase (sym e) tt) to after t
-  write_comes arena Link e to is_now after t = build_comes (subst IsLayerPhase (sym e) tt) to after t
-  write_comes arena MarkLayer e to is_now after t = build_comes (subst IsLayerPhase (sym e) tt) to after t
-  write_comes arena DropKey e to is_now after t = drop_comes arena e to is_now after t
-  write_comes arena LockPrev e to is_now after t = take_comes arena (subst IsRemovalPhase (sym e) tt) to after t
-  write_comes arena LockAbove e to is_now after t = take_comes arena (subst IsRemovalPhase (sym e) tt) to after t
-  write_comes arena Unlink e to is_now after t = take_comes arena (subst IsRemovalPhase (sym e) tt) to after t
-  write_comes arena FixNext e to is_now after t = take_comes arena (subst IsRemovalPhase (sym e) tt) to after t
-  write_comes arena Collapse e to is_now after t = take_comes arena (subst IsRemovalPhase (sym e) tt) to after t
-  write_comes arena CleanLayer e to is_now after t = take_comes arena (subst IsRemovalPhase (sym e) tt) to after t
-  write_comes arena Unlock e to is_now after t = unlock_comes arena e to after t
-  write_comes arena _ e to is_now after t = absurd (let no_step : ◌≡◌ {A = Made} Step Nothing = t.none in cc)
+  pub write_comes : ArenaFacts c.arena → (p : Phase) → op.walk.phase ≡ p → (to : Parts) → IsArena to.arena.nodes to.arena.trees → (after : Operation)
+      → WritesAt p o (c.steps + 1) least here to op Step after → (table : Table) → IsCounted table after → (answer : Move) → answer ≡ ending after.walk.phase → StepGives to table answer
+  write_comes facts Lock e to is_now after t = lock_comes facts.arena e to after t
+  write_comes facts Judge e to is_now after t = judge_comes facts.arena e to after t
+  write_comes facts Store e to is_now after t = store_comes facts.arena e to after t
+  write_comes facts Fill e to is_now after t = fill_comes e to after t
+  write_comes facts Publish e to is_now after t = publish_comes facts.arena e to after t
+  write_comes facts SplitStart e to is_now after t = begin_comes facts e to after t
+  write_comes facts SplitMove e to is_now after t = part_comes facts.arena e to after t
+  write_comes facts SplitPrev e to is_now after t = climb_comes facts (subst IsClimb (sym e) tt) to after t
+  write_comes facts LockParent e to is_now after t = climb_comes facts (subst IsClimb (sym e) tt) to after t
+  write_comes facts InsertChild e to is_now after t = climb_comes facts (subst IsClimb (sym e) tt) to after t
+  write_comes facts InteriorSplit e to is_now after t = climb_comes facts (subst IsClimb (sym e) tt) to after t
+  write_comes facts Reparent e to is_now after t = climb_comes facts (subst IsClimb (sym e) tt) to after t
+  write_comes facts RootGrow e to is_now after t = climb_comes facts (subst IsClimb (sym e) tt) to after t
+  write_comes facts MakeLayer e to is_now after t = build_comes facts (subst IsLayerPhase (sym e) tt) to after t
+  write_comes facts MarkUnstable e to is_now after t = build_comes facts (subst IsLayerPhase (sym e) tt) to after t
+  write_comes facts Link e to is_now after t = build_comes facts (subst IsLayerPhase (sym e) tt) to after t
+  write_comes facts MarkLayer e to is_now after t = build_comes facts (subst IsLayerPhase (sym e) tt) to after t
+  write_comes facts DropKey e to is_now after t = drop_comes facts.arena e to is_now after t
+  write_comes facts LockPrev e to is_now after t = take_comes facts.arena (subst IsRemovalPhase (sym e) tt) to after t
+  write_comes facts LockAbove e to is_now after t = take_comes facts.arena (subst IsRemovalPhase (sym e) tt) to after t
+  write_comes facts Unlink e to is_now after t = take_comes facts.arena (subst IsRemovalPhase (sym e) tt) to after t
+  write_comes facts FixNext e to is_now after t = take_comes facts.arena (subst IsRemovalPhase (sym e) tt) to after t
+  write_comes facts Collapse e to is_now after t = take_comes facts.arena (subst IsRemovalPhase (sym e) tt) to after t
+  write_comes facts CleanLayer e to is_now after t = take_comes facts.arena (subst IsRemovalPhase (sym e) tt) to after t
+  write_comes facts Unlock e to is_now after t = unlock_comes facts.arena e to after t
+  write_comes facts _ e to is_now after t = absurd (let no_step : ◌≡◌ {A = Made} Step Nothing = t.none in cc)
 
   -- who is about to write may do so
   may_place : (p : Phase) → op.walk.phase ≡ p → is_prepared p ≡ true → (IsAt : Prepared → Type 0) → op.prepared ≢ None → ((prepared : Prepared) → op.prepared ≡ Some prepared → IsAt prepared)
@@ -252,11 +254,15 @@ module _ (c now : Core) (o : ℕ) (is : c ≡ now) (h : StateInvariant c) (few :
     removes = removal_of c o h op there;
   }
 
-  may_climb : IsClimb op.walk.phase → MayClimb o c.arena op
-  may_climb climbs = record { phase = climbs; kept = climb_kept c now o is h few op there climbs; holds = climb_holds c now o is h few op there climbs }
+  -- the places that were taken out by the least birth may be given out
+  may_give : ArenaFacts c.arena → MayGive least c.arena
+  may_give facts = record { forgotten = are_forgotten c h facts least born; renews = may_renew c h facts least born }
 
-  may_build : IsLayerPhase op.walk.phase → MayBuild o c.arena op
-  may_build layer = record { phase = layer; kept = layer_kept c o h op there op.walk.phase refl layer }
+  may_climb : ArenaFacts c.arena → IsClimb op.walk.phase → MayClimb o least c.arena op
+  may_climb facts climbs = record { gives = may_give facts; phase = climbs; kept = climb_kept c now o is h few op there climbs; holds = climb_holds c now o is h few op there climbs }
+
+  may_build : ArenaFacts c.arena → IsLayerPhase op.walk.phase → MayBuild o least c.arena op
+  may_build facts layer = record { gives = may_give facts; phase = layer; kept = layer_kept c o h op there op.walk.phase refl layer }
 
   may_take : IsRemovalPhase op.walk.phase → MayTake o (c.steps + 1) c.arena op
   may_take takes = record {
@@ -274,41 +280,41 @@ module _ (c now : Core) (o : ℕ) (is : c ≡ now) (h : StateInvariant c) (few :
     one = λ told none stays. (unlock_kept c o h op there e stays told none, unlock_room c o h op there e stays told none);
   }
 
-  pub may_write : IsArena c.arena.nodes c.arena.trees → (p : Phase) → op.walk.phase ≡ p → MayWrite p o (c.steps + 1) here op
-  may_write arena Lock e = record { phase = e; kept = lock_kept c o h op there e; free = lock_free_hands c o h op there e; cleaning = lock_cleans c o h op there e }
-  may_write arena Judge e = may_judge e
-  may_write arena Store e = record { put = put_at c o h op there Store e tt; place = may_place Store e refl _ (some_there op.prepared (store_ready c o h op there e)) (store_kept c o h op there e) }
-  may_write arena Fill e = record { has = some_there op.prepared (fill_ready c o h op there e); kept = fill_kept c o h op there e }
-  may_write arena Publish e = record { put = put_at c o h op there Publish e tt; place = may_place Publish e refl _ (some_there op.prepared (publish_ready c o h op there e)) (publish_kept c o h op there e) }
-  may_write arena SplitStart e = record { kept = start_asks c now o is h few op there e; none = start_none c now o is h few op there e; room = write_room c o h op there SplitStart e refl }
-  may_write arena SplitMove e = record { put = put_at c o h op there SplitMove e tt; place = may_place SplitMove e refl _ (move_ready c now o is h few op there e) (move_kept c now o is h few op there e) }
-  may_write arena SplitPrev e = may_climb (subst IsClimb (sym e) tt)
-  may_write arena LockParent e = may_climb (subst IsClimb (sym e) tt)
-  may_write arena InsertChild e = may_climb (subst IsClimb (sym e) tt)
-  may_write arena InteriorSplit e = may_climb (subst IsClimb (sym e) tt)
-  may_write arena Reparent e = may_climb (subst IsClimb (sym e) tt)
-  may_write arena RootGrow e = may_climb (subst IsClimb (sym e) tt)
-  may_write arena MakeLayer e = may_build (subst IsLayerPhase (sym e) tt)
-  may_write arena MarkUnstable e = may_build (subst IsLayerPhase (sym e) tt)
-  may_write arena Link e = may_build (subst IsLayerPhase (sym e) tt)
-  may_write arena MarkLayer e = may_build (subst IsLayerPhase (sym e) tt)
-  may_write arena DropKey e = record {
+  pub may_write : ArenaFacts c.arena → (p : Phase) → op.walk.phase ≡ p → MayWrite p o (c.steps + 1) least here op
+  may_write facts Lock e = record { phase = e; kept = lock_kept c o h op there e; free = lock_free_hands c o h op there e; cleaning = lock_cleans c o h op there e }
+  may_write facts Judge e = may_judge e
+  may_write facts Store e = record { put = put_at c o h op there Store e tt; place = may_place Store e refl _ (some_there op.prepared (store_ready c o h op there e)) (store_kept c o h op there e) }
+  may_write facts Fill e = record { has = some_there op.prepared (fill_ready c o h op there e); kept = fill_kept c o h op there e }
+  may_write facts Publish e = record { put = put_at c o h op there Publish e tt; place = may_place Publish e refl _ (some_there op.prepared (publish_ready c o h op there e)) (publish_kept c o h op there e) }
+  may_write facts SplitStart e = record { kept = start_asks c now o is h few op there e; none = start_none c now o is h few op there e; room = write_room c o h op there SplitStart e refl; gives = may_give facts }
+  may_write facts SplitMove e = record { put = put_at c o h op there SplitMove e tt; place = may_place SplitMove e refl _ (move_ready c now o is h few op there e) (move_kept c now o is h few op there e) }
+  may_write facts SplitPrev e = may_climb facts (subst IsClimb (sym e) tt)
+  may_write facts LockParent e = may_climb facts (subst IsClimb (sym e) tt)
+  may_write facts InsertChild e = may_climb facts (subst IsClimb (sym e) tt)
+  may_write facts InteriorSplit e = may_climb facts (subst IsClimb (sym e) tt)
+  may_write facts Reparent e = may_climb facts (subst IsClimb (sym e) tt)
+  may_write facts RootGrow e = may_climb facts (subst IsClimb (sym e) tt)
+  may_write facts MakeLayer e = may_build facts (subst IsLayerPhase (sym e) tt)
+  may_write facts MarkUnstable e = may_build facts (subst IsLayerPhase (sym e) tt)
+  may_write facts Link e = may_build facts (subst IsLayerPhase (sym e) tt)
+  may_write facts MarkLayer e = may_build facts (subst IsLayerPhase (sym e) tt)
+  may_write facts DropKey e = record {
     removal = drop_removes c o h op there e;
     place = may_place DropKey e refl _ (some_there op.prepared (drop_ready c o h op there e)) (drop_kept c o h op there e);
     free = drop_light c o h op there e;
-    counted = drop_counted c o h op there arena e;
+    counted = drop_counted c o h op there facts.arena e;
   }
-  may_write arena LockPrev e = may_take (subst IsRemovalPhase (sym e) tt)
-  may_write arena LockAbove e = may_take (subst IsRemovalPhase (sym e) tt)
-  may_write arena Unlink e = may_take (subst IsRemovalPhase (sym e) tt)
-  may_write arena FixNext e = may_take (subst IsRemovalPhase (sym e) tt)
-  may_write arena Collapse e = may_take (subst IsRemovalPhase (sym e) tt)
-  may_write arena CleanLayer e = may_take (subst IsRemovalPhase (sym e) tt)
-  may_write arena Unlock e = may_give_back e
-  may_write arena _ e = tt
+  may_write facts LockPrev e = may_take (subst IsRemovalPhase (sym e) tt)
+  may_write facts LockAbove e = may_take (subst IsRemovalPhase (sym e) tt)
+  may_write facts Unlink e = may_take (subst IsRemovalPhase (sym e) tt)
+  may_write facts FixNext e = may_take (subst IsRemovalPhase (sym e) tt)
+  may_write facts Collapse e = may_take (subst IsRemovalPhase (sym e) tt)
+  may_write facts CleanLayer e = may_take (subst IsRemovalPhase (sym e) tt)
+  may_write facts Unlock e = may_give_back e
+  may_write facts _ e = tt
 
   -- a step is made by an operation that has one left
-  pub write_unfinished : (p : Phase) → op.walk.phase ≡ p → (to : Parts) (after : Operation) → WritesAt p o (c.steps + 1) here to op Step after → is_unfinished op ≡ true
+  pub write_unfinished : (p : Phase) → op.walk.phase ≡ p → (to : Parts) (after : Operation) → WritesAt p o (c.steps + 1) least here to op Step after → is_unfinished op ≡ true
   write_unfinished Done e to after t = absurd (let no_step : ◌≡◌ {A = Made} Step Nothing = t.none in cc)
   write_unfinished _ e to after t = ap (λ (q : Phase). not (is_done q)) e
 
@@ -351,19 +357,19 @@ module _ (c now : Core) (o : ℕ) (is : c ≡ now) (h : StateInvariant c) (few :
   publish_first to after (inl p) = p.placed.same.first
   publish_first to after (inr p) = p.placed.same.first
 
-  begin_first : KeepsFirst (TellsBegun o (c.steps + 1))
-  begin_first to after (inl t) = t.begins.keeps.same.first
+  begin_first : KeepsFirst (TellsBegun o (c.steps + 1) least)
+  begin_first to after (inl t) = t.begins.same.first
   begin_first to after (inr t) = t.stops.unlocks.keeps.same.first
 
   part_first : KeepsFirst (TellsParted o (c.steps + 1))
   part_first to after (inl p) = p.placed.parts.same.first
   part_first to after (inr p) = p.placed.parts.same.first
 
-  climb_first : IsClimb op.walk.phase → KeepsFirst (TellsClimbed o)
-  climb_first climbs to after t = (climb_keeps op.walk.phase climbs o c.arena to.arena op.walk after.walk op.splits after.splits t.climbs).keeps.same.first
+  climb_first : IsClimb op.walk.phase → KeepsFirst (TellsClimbed o least)
+  climb_first climbs to after t = (climb_makes op.walk.phase climbs least o c.arena to.arena op.walk after.walk op.splits after.splits t.climbs).same.first
 
-  build_first : KeepsFirst (TellsBuilt o (c.steps + 1))
-  build_first to after (inl t) = layer_first op.walk.phase o op.task.key c.arena to.arena op.walk after.walk t.builds
+  build_first : KeepsFirst (TellsBuilt o (c.steps + 1) least)
+  build_first to after (inl t) = layer_first op.walk.phase least o op.task.key c.arena to.arena op.walk after.walk t.builds
   build_first to after (inr t) = t.unlocks.keeps.same.first
 
   take_first : IsArena c.arena.nodes c.arena.trees → IsRemovalPhase op.walk.phase → KeepsFirst (TellsTaken o (c.steps + 1))
@@ -376,7 +382,7 @@ module _ (c now : Core) (o : ℕ) (is : c ≡ now) (h : StateInvariant c) (few :
   unlock_first e to after (inr (inr (inl t))) = t.returns.keeps.same.first
   unlock_first e to after (inr (inr (inr t))) = t.unlocks.keeps.same.first
 
-  pub write_first : IsArena c.arena.nodes c.arena.trees → (p : Phase) → op.walk.phase ≡ p → (to : Parts) (after : Operation) → WritesAt p o (c.steps + 1) here to op Step after → after.walk.first ≡ op.walk.first
+  pub write_first : IsArena c.arena.nodes c.arena.trees → (p : Phase) → op.walk.phase ≡ p → (to : Parts) (after : Operation) → WritesAt p o (c.steps + 1) least here to op Step after → after.walk.first ≡ op.walk.first
   write_first arena Lock e to after t = lock_first to after t
   write_first arena Judge e to after t = judge_first to after t
   write_first arena Store e to after t = t.places.placed.same.first
@@ -433,7 +439,7 @@ module _ (c now : Core) (o : ℕ) (is : c ≡ now) (h : StateInvariant c) (few :
   publish_birth to after (inl p) = ap birth_in p.others
   publish_birth to after (inr p) = ap birth_in p.others
 
-  begin_birth : KeepsBirth (TellsBegun o (c.steps + 1))
+  begin_birth : KeepsBirth (TellsBegun o (c.steps + 1) least)
   begin_birth to after (inl t) = ap birth_in t.others
   begin_birth to after (inr t) = ap birth_in t.others
 
@@ -441,7 +447,7 @@ module _ (c now : Core) (o : ℕ) (is : c ≡ now) (h : StateInvariant c) (few :
   part_birth to after (inl p) = ap birth_in p.others
   part_birth to after (inr p) = ap birth_in p.others
 
-  build_birth : KeepsBirth (TellsBuilt o (c.steps + 1))
+  build_birth : KeepsBirth (TellsBuilt o (c.steps + 1) least)
   build_birth to after (inl t) = ap birth_in t.on.others
   build_birth to after (inr t) = ap birth_in t.on.others
 
@@ -451,7 +457,7 @@ module _ (c now : Core) (o : ℕ) (is : c ≡ now) (h : StateInvariant c) (few :
   unlock_birth to after (inr (inr (inl t))) = ap birth_in t.others
   unlock_birth to after (inr (inr (inr t))) = ap birth_in t.on.others
 
-  step_birth : (p : Phase) (to : Parts) (after : Operation) → WritesAt p o (c.steps + 1) here to op Step after → after.birth ≡ op.birth
+  step_birth : (p : Phase) (to : Parts) (after : Operation) → WritesAt p o (c.steps + 1) least here to op Step after → after.birth ≡ op.birth
   step_birth Lock to after t = lock_birth to after t
   step_birth Judge to after t = judge_birth to after t
   step_birth Store to after t = ap birth_in t.places.others
@@ -483,7 +489,7 @@ module _ (c now : Core) (o : ℕ) (is : c ≡ now) (h : StateInvariant c) (few :
   abbrev pub Waits : Parts → ℕ → Operation → Type 0
   Waits to holder after = IsInTheWay c.arena op.walk.phase op.walk (splits_of op.splits) op.removal (scan_of op.task op.scan) holder × (holder ≢ o) × (to ≡ here) × (after ≡ op)
 
-  pub write_waits : (p : Phase) → (to : Parts) (holder : ℕ) (after : Operation) → WritesAt p o (c.steps + 1) here to op (Blocked holder) after → Waits to holder after
+  pub write_waits : (p : Phase) → (to : Parts) (holder : ℕ) (after : Operation) → WritesAt p o (c.steps + 1) least here to op (Blocked holder) after → Waits to holder after
   write_waits Lock to holder after t = t
   write_waits Judge to holder after t = t
   write_waits Store to holder after t = t
@@ -512,7 +518,7 @@ module _ (c now : Core) (o : ℕ) (is : c ≡ now) (h : StateInvariant c) (few :
   write_waits _ to holder after t = absurd (let no_block : ◌≡◌ {A = Made} (Blocked holder) Nothing = t.none in cc)
 
   -- who waits has a step left
-  waits_open : (p : Phase) → (to : Parts) (holder : ℕ) (after : Operation) → WritesAt p o (c.steps + 1) here to op (Blocked holder) after → is_done p ≡ false
+  waits_open : (p : Phase) → (to : Parts) (holder : ℕ) (after : Operation) → WritesAt p o (c.steps + 1) least here to op (Blocked holder) after → is_done p ≡ false
   waits_open Done to holder after t = absurd (let no_block : ◌≡◌ {A = Made} (Blocked holder) Nothing = t.none in cc)
   waits_open _ to holder after t = refl
 
@@ -530,7 +536,7 @@ module _ (c now : Core) (o : ℕ) (is : c ≡ now) (h : StateInvariant c) (few :
         subst (λ (x : Core). StepsOn now x o answer) kept (subst (λ (x : Core). StepsOn x c o answer) is steps),
       )
 
-  pub write_blocked : (to : Parts) (holder : ℕ) (after : Operation) → WritesAt op.walk.phase o (c.steps + 1) here to op (Blocked holder) after → (table : Table) → table ≡ c.table
+  pub write_blocked : (to : Parts) (holder : ℕ) (after : Operation) → WritesAt op.walk.phase o (c.steps + 1) least here to op (Blocked holder) after → (table : Table) → table ≡ c.table
       → (answer : Move) → answer ≡ Again holder → StateInvariant (kept_as to table) × StepsOn now (kept_as to table) o answer
   write_blocked to holder after t table e answer again =
       let way = write_waits op.walk.phase to holder after t in
@@ -551,9 +557,9 @@ module _ (c now : Core) (o : ℕ) (is : c ≡ now) (h : StateInvariant c) (few :
 
   -- where memory is refused, the step can be tried again: all is as it was, but for what the splits have grown
   abbrev Refused : Parts → Operation → Type 0
-  Refused to after = Writes o (TellsClimbed o) here to op NoMemory after
+  Refused to after = Writes o (TellsClimbed o least) here to op NoMemory after
 
-  refused : (p : Phase) → (to : Parts) (after : Operation) → WritesAt p o (c.steps + 1) here to op NoMemory after → Refused to after
+  refused : (p : Phase) → (to : Parts) (after : Operation) → WritesAt p o (c.steps + 1) least here to op NoMemory after → Refused to after
   refused Lock to after t = t
   refused Judge to after t = t
   refused Store to after t = t
@@ -586,7 +592,7 @@ module _ (c now : Core) (o : ℕ) (is : c ≡ now) (h : StateInvariant c) (few :
   grow_climbs RootGrow i = tt
   grow_climbs _ i = absurd i
 
-  pub write_grown : (to : Parts) (after : Operation) → WritesAt op.walk.phase o (c.steps + 1) here to op NoMemory after → (table : Table) → table ≡ set c.table o (Some after)
+  pub write_grown : (to : Parts) (after : Operation) → WritesAt op.walk.phase o (c.steps + 1) least here to op NoMemory after → (table : Table) → table ≡ set c.table o (Some after)
       → StateInvariant (kept_as to table) × StepsOn now (kept_as to table) o NoMemoryMove
   write_grown to after t table e =
       let r = refused op.walk.phase to after t in
@@ -595,11 +601,11 @@ module _ (c now : Core) (o : ℕ) (is : c ≡ now) (h : StateInvariant c) (few :
       (climb_refused c now o is h few op there (grow_climbs op.walk.phase r.0) r.0 after.splits r.2)
 
   -- its walk is as it was then
-  pub write_keeps : (to : Parts) (after : Operation) → WritesAt op.walk.phase o (c.steps + 1) here to op NoMemory after → after.walk ≡ op.walk
+  pub write_keeps : (to : Parts) (after : Operation) → WritesAt op.walk.phase o (c.steps + 1) least here to op NoMemory after → after.walk ≡ op.walk
   write_keeps to after t = ap (λ (y : Operation). y.walk) (refused op.walk.phase to after t).3
 
   -- a step that is left to others is a look, or none, and changes nothing
-  pub write_left : (p : Phase) → (to : Parts) (after : Operation) → WritesAt p o (c.steps + 1) here to op Nothing after → (to ≡ here) × (after ≡ op) × (IsNoLook p → is_done p ≡ true)
+  pub write_left : (p : Phase) → (to : Parts) (after : Operation) → WritesAt p o (c.steps + 1) least here to op Nothing after → (to ≡ here) × (after ≡ op) × (IsNoLook p → is_done p ≡ true)
   write_left Lock to after t = absurd t
   write_left Judge to after t = absurd t
   write_left Store to after t = absurd t
@@ -632,7 +638,7 @@ module _ (c now : Core) (o : ℕ) (is : c ≡ now) (h : StateInvariant c) (few :
   no_step : is_done op.walk.phase ≡ true → ¬ HasStep (shown c) o
   no_step done s = both_ways _ s.2 (ap (λ (v : OperationView). is_done v.phase) (same_Some s.0 (view_of op) (sym s.1 ∙ shown_there c.table o op there)) ∙ done)
 
-  pub write_none : IsNext now o IsNoLook → (to : Parts) (after : Operation) → WritesAt op.walk.phase o (c.steps + 1) here to op Nothing after → (table : Table) → table ≡ c.table
+  pub write_none : IsNext now o IsNoLook → (to : Parts) (after : Operation) → WritesAt op.walk.phase o (c.steps + 1) least here to op Nothing after → (table : Table) → table ≡ c.table
       → StateInvariant (kept_as to table) × StepsOn now (kept_as to table) o NoSuch
   write_none next to after t table e =
       let n = subst (λ (v : Core). IsNext v o IsNoLook) (sym is) next in
@@ -641,24 +647,24 @@ module _ (c now : Core) (o : ℕ) (is : c ≡ now) (h : StateInvariant c) (few :
       stays_so to table none.0 e NoSuch (record { tells = (refl, no_step done); nears = tt; leads = tt })
 
   -- where no step is made, and memory was granted, the operation is as it was
-  pub write_leaves : (to : Parts) (made : Made) (after : Operation) → made ≢ Step → made ≢ NoMemory → WritesAt op.walk.phase o (c.steps + 1) here to op made after → after ≡ op
+  pub write_leaves : (to : Parts) (made : Made) (after : Operation) → made ≢ Step → made ≢ NoMemory → WritesAt op.walk.phase o (c.steps + 1) least here to op made after → after ≡ op
   write_leaves to Step after other granted t = absurd (other refl)
   write_leaves to (Blocked holder) after other granted t = (write_waits op.walk.phase to holder after t).3
   write_leaves to NoMemory after other granted t = absurd (granted refl)
   write_leaves to Nothing after other granted t = (write_left op.walk.phase to after t).1
 
   -- so its birth is as it was, whatever comes of the step
-  pub write_birth : (to : Parts) (made : Made) (after : Operation) → WritesAt op.walk.phase o (c.steps + 1) here to op made after → after.birth ≡ op.birth
+  pub write_birth : (to : Parts) (made : Made) (after : Operation) → WritesAt op.walk.phase o (c.steps + 1) least here to op made after → after.birth ≡ op.birth
   write_birth to Step after t = step_birth op.walk.phase to after t
   write_birth to (Blocked holder) after t = ap birth_in (write_waits op.walk.phase to holder after t).3
   write_birth to NoMemory after t = ap birth_in (refused op.walk.phase to after t).3
   write_birth to Nothing after t = ap birth_in (write_left op.walk.phase to after t).1
 
   -- what is told of the operation as it is, by what a call tells that was lent it
-  pub write_told : (to : Parts) (made : Made) (shown left after : Operation) → shown ≡ op → left ≡ after → WritesAt shown.walk.phase o (c.steps + 1) here to shown made left → WritesAt op.walk.phase o (c.steps + 1) here to op made after
+  pub write_told : (to : Parts) (made : Made) (shown left after : Operation) → shown ≡ op → left ≡ after → WritesAt shown.walk.phase o (c.steps + 1) least here to shown made left → WritesAt op.walk.phase o (c.steps + 1) least here to op made after
   write_told to made shown left after shows leaves met =
-      subst (λ (x : Operation). WritesAt x.walk.phase o (c.steps + 1) here to x made after) shows
-      (subst (λ (y : Operation). WritesAt shown.walk.phase o (c.steps + 1) here to shown made y) leaves met)
+      subst (λ (x : Operation). WritesAt x.walk.phase o (c.steps + 1) least here to x made after) shows
+      (subst (λ (y : Operation). WritesAt shown.walk.phase o (c.steps + 1) least here to shown made y) leaves met)
 
 -- an operation that is to make a step is there
 pub write_there : (c now : Core) (o : ℕ) (P : Phase → Type 0) → c ≡ now → IsNext now o P → operation_at c.table o ≡ None → ⊥

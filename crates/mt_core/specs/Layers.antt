@@ -7,6 +7,6 @@ use Rattle.mt_held.specs.Unlock.{IsUnlock}
 use Rattle.mt_layer.specs.Builds.{IsLayerFrom}
 
 -- what a step answers: a layer came one step nearer, or there is no memory for its tree, and the lock was given back
-abbrev pub TellsBuilt : ℕ → ArenaView → ArenaView → Bytes → Walk → Walk → Result (Unit {0}) AllocError → Type 0
-TellsBuilt o old new key before after (Ok done) = IsLayerFrom before.phase o key old new before after
-TellsBuilt o old new key before after (Err error) = (before.phase ≡ MakeLayer) × IsUnlock o old new before after
+abbrev pub TellsBuilt : ℕ → ℕ → ArenaView → ArenaView → Bytes → Walk → Walk → Result (Unit {0}) AllocError → Type 0
+TellsBuilt least o old new key before after (Ok done) = IsLayerFrom before.phase least o key old new before after
+TellsBuilt least o old new key before after (Err error) = (before.phase ≡ MakeLayer) × IsUnlock o old new before after

@@ -4,7 +4,7 @@ use Rattle.mt_rows.specs.{Rows.Columns, Accounts.{Accounts, HasPairs, account_of
 use Rattle.mt_rows.specs.declared.reply.Reply.TheVariants.{Absent, Full, New, NoMemory as NoMemoryReply, Removed, Replaced}
 use Rattle.mt_version.specs.Changes.{CanUnlock}
 use Rattle.mt_tape.specs.Tapes.{Kept, last_write}
-use Rattle.mt_arena.specs.{Arena.ArenaView, Given.AreOutUpTo, Accesses.at}
+use Rattle.mt_arena.specs.{Arena.ArenaView, Given.{AreOutUpTo, AreForgotten, MayRenew}, Accesses.at}
 use Rattle.mt_operation.specs.declared.phase.Phase.{Phase}
 use Rattle.mt_operation.specs.declared.phase.Phase.TheVariants.{Lock, Judge, Store, Fill, Publish, SplitStart, SplitMove, SplitPrev, LockParent, InsertChild, InteriorSplit, Reparent, RootGrow, MakeLayer, MarkUnstable, Link, MarkLayer, DropKey, LockPrev, LockAbove, Unlink, FixNext, Collapse, CleanLayer, Unlock}
 use Rattle.mt_operation.specs.{declared.outcome.Outcome.Outcome, declared.prepared.Prepared.Prepared, declared.operation.Operation.Operation}
@@ -176,14 +176,20 @@ TellsParted o step from to op after =
     PlacesBy step New (λ p. IsSplitMove o step op.task p.row from.arena to.arena from.tape to.tape from.accounts to.accounts op.walk after.walk op.splits) op after
     ⊎ PlacesBy step Full (λ p. IsSplitMoveFull o op.task from.arena to.arena from.tape to.tape from.accounts to.accounts op.walk after.walk op.splits) op after
 
+-- the places that step `least` or an earlier one took out may be given out: nobody holds what stands there, and it may be used once more
+pub record MayGive (least : ℕ) (v : ArenaView) : Type 0 where
+  pub forgotten : AreForgotten least v
+  pub renews : MayRenew least v
+
 -- it is to make the right half of its full node; it has, or there was no memory for it
-pub record MayBegin (o : ℕ) (v : ArenaView) (tape : Kept) (op : Operation) : Type 0 where
+pub record MayBegin (o least : ℕ) (v : ArenaView) (tape : Kept) (op : Operation) : Type 0 where
   pub kept : (prepared : Prepared) × IsAtSplitStart v o op.task prepared op.walk
   pub none : IsUnsplit op.splits
   pub room : 0 < tape.reserved
+  pub gives : MayGive least v
 
-pub record Begins (o : ℕ) (from to : Parts) (op after : Operation) : Type 0 where
-  pub begins : IsSplitStart o op.task.key from.arena to.arena from.tape to.tape op.walk after.walk op.splits after.splits
+pub record Begins (o least : ℕ) (from to : Parts) (op after : Operation) : Type 0 where
+  pub begins : IsSplitStart least o op.task.key from.arena to.arena from.tape to.tape op.walk after.walk op.splits after.splits
   pub accounts : to.accounts ≡ from.accounts
   pub others : after ≡ record op { walk = after.walk; splits = after.splits }
 
@@ -192,27 +198,29 @@ pub record StopsSplit (o step : ℕ) (from to : Parts) (op after : Operation) : 
   pub accounts : to.accounts ≡ from.accounts
   pub others : after ≡ record op { walk = after.walk; splits = after.splits; prepared = None; outcome = reply_at step NoMemoryReply }
 
-abbrev pub TellsBegun : ℕ → ℕ → Parts → Parts → Operation → Operation → Type 0
-TellsBegun o step from to op after = Begins o from to op after ⊎ StopsSplit o step from to op after
+abbrev pub TellsBegun : ℕ → ℕ → ℕ → Parts → Parts → Operation → Operation → Type 0
+TellsBegun o step least from to op after = Begins o least from to op after ⊎ StopsSplit o step from to op after
 
 -- its right half is to come to its parent
-pub record MayClimb (o : ℕ) (v : ArenaView) (op : Operation) : Type 0 where
+pub record MayClimb (o least : ℕ) (v : ArenaView) (op : Operation) : Type 0 where
   pub phase : IsClimb op.walk.phase
   pub kept : KeptSplit op.walk.phase v o op.splits
   pub holds : HoldsSplits v o op.splits
+  pub gives : MayGive least v
 
-pub record TellsClimbed (o : ℕ) (from to : Parts) (op after : Operation) : Type 0 where
-  pub climbs : IsClimbFrom op.walk.phase o from.arena to.arena op.walk after.walk op.splits after.splits
+pub record TellsClimbed (o least : ℕ) (from to : Parts) (op after : Operation) : Type 0 where
+  pub climbs : IsClimbFrom op.walk.phase least o from.arena to.arena op.walk after.walk op.splits after.splits
   pub rest : to ≡ record from { arena = to.arena }
   pub others : after ≡ record op { walk = after.walk; splits = after.splits }
 
 -- it is to bring a layer nearer; it has, or there was no memory for the layer's tree, and it has given its lock back
-pub record MayBuild (o : ℕ) (v : ArenaView) (op : Operation) : Type 0 where
+pub record MayBuild (o least : ℕ) (v : ArenaView) (op : Operation) : Type 0 where
   pub phase : IsLayerPhase op.walk.phase
   pub kept : KeptLayer op.walk.phase v o op.task.key op.walk
+  pub gives : MayGive least v
 
-pub record Builds (o : ℕ) (from to : Parts) (op after : Operation) : Type 0 where
-  pub builds : IsLayerFrom op.walk.phase o op.task.key from.arena to.arena op.walk after.walk
+pub record Builds (o least : ℕ) (from to : Parts) (op after : Operation) : Type 0 where
+  pub builds : IsLayerFrom op.walk.phase least o op.task.key from.arena to.arena op.walk after.walk
   pub on : WalksOn op.outcome from to op after
 
 pub record StopsLayer (o step : ℕ) (from to : Parts) (op after : Operation) : Type 0 where
@@ -220,8 +228,8 @@ pub record StopsLayer (o step : ℕ) (from to : Parts) (op after : Operation) : 
   pub unlocks : IsUnlock o from.arena to.arena op.walk after.walk
   pub on : WalksOn (reply_at step NoMemoryReply) from to op after
 
-abbrev pub TellsBuilt : ℕ → ℕ → Parts → Parts → Operation → Operation → Type 0
-TellsBuilt o step from to op after = Builds o from to op after ⊎ StopsLayer o step from to op after
+abbrev pub TellsBuilt : ℕ → ℕ → ℕ → Parts → Parts → Operation → Operation → Type 0
+TellsBuilt o step least from to op after = Builds o least from to op after ⊎ StopsLayer o step from to op after
 
 -- it is to take the pair of its key out
 pub record MayDrop (o step : ℕ) (from : Parts) (op : Operation) : Type 0 where
@@ -287,60 +295,60 @@ pub record ReturnsOne (o : ℕ) (from to : Parts) (op after : Operation) : Type 
 abbrev pub TellsUnlocked : ℕ → Parts → Parts → Operation → Operation → Type 0
 TellsUnlocked o from to op after = Leaves o from to op after ⊎ ReturnsAll o from to op after ⊎ ReturnsRemoval o from to op after ⊎ ReturnsOne o from to op after
 
--- an operation of this number may make the step of this number, by its phase, or that step is left to others
-abbrev pub MayWrite : Phase → ℕ → ℕ → Parts → Operation → Type 0
-MayWrite Lock o step from op = MayLock o from.arena op
-MayWrite Judge o step from op = MayJudge o from.arena op
-MayWrite Store o step from op = MayPut step from.tape op (λ prepared. IsAtStore from.arena o op.task prepared op.walk)
-MayWrite Fill o step from op = MayFill o from.arena op
-MayWrite Publish o step from op = MayPut step from.tape op (λ prepared. IsAtPublish from.arena o op.task prepared op.walk)
-MayWrite SplitStart o step from op = MayBegin o from.arena from.tape op
-MayWrite SplitMove o step from op = MayPut step from.tape op (λ prepared. IsAtSplitMove from.arena o op.task prepared op.walk op.splits)
-MayWrite SplitPrev o step from op = MayClimb o from.arena op
-MayWrite LockParent o step from op = MayClimb o from.arena op
-MayWrite InsertChild o step from op = MayClimb o from.arena op
-MayWrite InteriorSplit o step from op = MayClimb o from.arena op
-MayWrite Reparent o step from op = MayClimb o from.arena op
-MayWrite RootGrow o step from op = MayClimb o from.arena op
-MayWrite MakeLayer o step from op = MayBuild o from.arena op
-MayWrite MarkUnstable o step from op = MayBuild o from.arena op
-MayWrite Link o step from op = MayBuild o from.arena op
-MayWrite MarkLayer o step from op = MayBuild o from.arena op
-MayWrite DropKey o step from op = MayDrop o step from op
-MayWrite LockPrev o step from op = MayTake o step from.arena op
-MayWrite LockAbove o step from op = MayTake o step from.arena op
-MayWrite Unlink o step from op = MayTake o step from.arena op
-MayWrite FixNext o step from op = MayTake o step from.arena op
-MayWrite Collapse o step from op = MayTake o step from.arena op
-MayWrite CleanLayer o step from op = MayTake o step from.arena op
-MayWrite Unlock o step from op = MayUnlock o from.arena op
-MayWrite _ o step from op = Unit {0}
+-- an operation of this number may make the step of this number by its phase, and give out what step `least` or an earlier one took out; or it is left to others
+abbrev pub MayWrite : Phase → ℕ → ℕ → ℕ → Parts → Operation → Type 0
+MayWrite Lock o step least from op = MayLock o from.arena op
+MayWrite Judge o step least from op = MayJudge o from.arena op
+MayWrite Store o step least from op = MayPut step from.tape op (λ prepared. IsAtStore from.arena o op.task prepared op.walk)
+MayWrite Fill o step least from op = MayFill o from.arena op
+MayWrite Publish o step least from op = MayPut step from.tape op (λ prepared. IsAtPublish from.arena o op.task prepared op.walk)
+MayWrite SplitStart o step least from op = MayBegin o least from.arena from.tape op
+MayWrite SplitMove o step least from op = MayPut step from.tape op (λ prepared. IsAtSplitMove from.arena o op.task prepared op.walk op.splits)
+MayWrite SplitPrev o step least from op = MayClimb o least from.arena op
+MayWrite LockParent o step least from op = MayClimb o least from.arena op
+MayWrite InsertChild o step least from op = MayClimb o least from.arena op
+MayWrite InteriorSplit o step least from op = MayClimb o least from.arena op
+MayWrite Reparent o step least from op = MayClimb o least from.arena op
+MayWrite RootGrow o step least from op = MayClimb o least from.arena op
+MayWrite MakeLayer o step least from op = MayBuild o least from.arena op
+MayWrite MarkUnstable o step least from op = MayBuild o least from.arena op
+MayWrite Link o step least from op = MayBuild o least from.arena op
+MayWrite MarkLayer o step least from op = MayBuild o least from.arena op
+MayWrite DropKey o step least from op = MayDrop o step from op
+MayWrite LockPrev o step least from op = MayTake o step from.arena op
+MayWrite LockAbove o step least from op = MayTake o step from.arena op
+MayWrite Unlink o step least from op = MayTake o step from.arena op
+MayWrite FixNext o step least from op = MayTake o step from.arena op
+MayWrite Collapse o step least from op = MayTake o step from.arena op
+MayWrite CleanLayer o step least from op = MayTake o step from.arena op
+MayWrite Unlock o step least from op = MayUnlock o from.arena op
+MayWrite _ o step least from op = Unit {0}
 
 -- what it makes then
-abbrev pub WritesAt : Phase → ℕ → ℕ → Parts → Parts → Operation → Made → Operation → Type 0
-WritesAt Lock o step from to op made after = Writes o (TellsLocked o) from to op made after
-WritesAt Judge o step from to op made after = Writes o (TellsJudged o step) from to op made after
-WritesAt Store o step from to op made after = Writes o (TellsStored o step) from to op made after
-WritesAt Fill o step from to op made after = Writes o (TellsFilled o) from to op made after
-WritesAt Publish o step from to op made after = Writes o (TellsPublished o step) from to op made after
-WritesAt SplitStart o step from to op made after = Writes o (TellsBegun o step) from to op made after
-WritesAt SplitMove o step from to op made after = Writes o (TellsParted o step) from to op made after
-WritesAt SplitPrev o step from to op made after = Writes o (TellsClimbed o) from to op made after
-WritesAt LockParent o step from to op made after = Writes o (TellsClimbed o) from to op made after
-WritesAt InsertChild o step from to op made after = Writes o (TellsClimbed o) from to op made after
-WritesAt InteriorSplit o step from to op made after = Writes o (TellsClimbed o) from to op made after
-WritesAt Reparent o step from to op made after = Writes o (TellsClimbed o) from to op made after
-WritesAt RootGrow o step from to op made after = Writes o (TellsClimbed o) from to op made after
-WritesAt MakeLayer o step from to op made after = Writes o (TellsBuilt o step) from to op made after
-WritesAt MarkUnstable o step from to op made after = Writes o (TellsBuilt o step) from to op made after
-WritesAt Link o step from to op made after = Writes o (TellsBuilt o step) from to op made after
-WritesAt MarkLayer o step from to op made after = Writes o (TellsBuilt o step) from to op made after
-WritesAt DropKey o step from to op made after = Writes o (TellsDropped o step) from to op made after
-WritesAt LockPrev o step from to op made after = Writes o (TellsTaken o step) from to op made after
-WritesAt LockAbove o step from to op made after = Writes o (TellsTaken o step) from to op made after
-WritesAt Unlink o step from to op made after = Writes o (TellsTaken o step) from to op made after
-WritesAt FixNext o step from to op made after = Writes o (TellsTaken o step) from to op made after
-WritesAt Collapse o step from to op made after = Writes o (TellsTaken o step) from to op made after
-WritesAt CleanLayer o step from to op made after = Writes o (TellsTaken o step) from to op made after
-WritesAt Unlock o step from to op made after = Writes o (TellsUnlocked o) from to op made after
-WritesAt _ o step from to op made after = IsLeft from to op made after
+abbrev pub WritesAt : Phase → ℕ → ℕ → ℕ → Parts → Parts → Operation → Made → Operation → Type 0
+WritesAt Lock o step least from to op made after = Writes o (TellsLocked o) from to op made after
+WritesAt Judge o step least from to op made after = Writes o (TellsJudged o step) from to op made after
+WritesAt Store o step least from to op made after = Writes o (TellsStored o step) from to op made after
+WritesAt Fill o step least from to op made after = Writes o (TellsFilled o) from to op made after
+WritesAt Publish o step least from to op made after = Writes o (TellsPublished o step) from to op made after
+WritesAt SplitStart o step least from to op made after = Writes o (TellsBegun o step least) from to op made after
+WritesAt SplitMove o step least from to op made after = Writes o (TellsParted o step) from to op made after
+WritesAt SplitPrev o step least from to op made after = Writes o (TellsClimbed o least) from to op made after
+WritesAt LockParent o step least from to op made after = Writes o (TellsClimbed o least) from to op made after
+WritesAt InsertChild o step least from to op made after = Writes o (TellsClimbed o least) from to op made after
+WritesAt InteriorSplit o step least from to op made after = Writes o (TellsClimbed o least) from to op made after
+WritesAt Reparent o step least from to op made after = Writes o (TellsClimbed o least) from to op made after
+WritesAt RootGrow o step least from to op made after = Writes o (TellsClimbed o least) from to op made after
+WritesAt MakeLayer o step least from to op made after = Writes o (TellsBuilt o step least) from to op made after
+WritesAt MarkUnstable o step least from to op made after = Writes o (TellsBuilt o step least) from to op made after
+WritesAt Link o step least from to op made after = Writes o (TellsBuilt o step least) from to op made after
+WritesAt MarkLayer o step least from to op made after = Writes o (TellsBuilt o step least) from to op made after
+WritesAt DropKey o step least from to op made after = Writes o (TellsDropped o step) from to op made after
+WritesAt LockPrev o step least from to op made after = Writes o (TellsTaken o step) from to op made after
+WritesAt LockAbove o step least from to op made after = Writes o (TellsTaken o step) from to op made after
+WritesAt Unlink o step least from to op made after = Writes o (TellsTaken o step) from to op made after
+WritesAt FixNext o step least from to op made after = Writes o (TellsTaken o step) from to op made after
+WritesAt Collapse o step least from to op made after = Writes o (TellsTaken o step) from to op made after
+WritesAt CleanLayer o step least from to op made after = Writes o (TellsTaken o step) from to op made after
+WritesAt Unlock o step least from to op made after = Writes o (TellsUnlocked o) from to op made after
+WritesAt _ o step least from to op made after = IsLeft from to op made after

@@ -107,8 +107,9 @@ fn admitted(
     Ok(operation)
 }
 
-// How many bytes a put leaves to commands that need less: it begins only if so many can be had.
-const BYTES_LEFT: usize = 49_152;
+// How many bytes a put leaves to commands that need less: it begins only if so many can be had. Once the C library
+// can't make its own room larger, each piece of memory takes a page of the system. These are 256 pages.
+const BYTES_LEFT: usize = 1_048_576;
 
 // So many bytes, for a moment. Inlined they would be left out, since nothing is written to them.
 #[inline(never)]

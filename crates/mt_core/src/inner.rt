@@ -312,7 +312,8 @@ impl Inner {
         }
     }
 
-    // Makes a step that is no look, where one is left.
+    // Makes a step that is no look, if one is left. It may give out the places that were taken out at each
+    // open operation's birth or before.
     #[inline(never)]
     fn write(&mut self, id: usize) -> Move
         requires others { IsNext self.old id IsNoLook }
@@ -325,13 +326,14 @@ impl Inner {
         let arena = &mut self.arena;
         let tape = &mut self.tape;
         let tenants = &mut self.tenants;
+        let least = self.operations.least_birth(self.steps);
         let stepped = self.operations.step_by(
             id,
             step,
             &mut |operation: &mut Operation|
-                requires { MayWrite operation.old.walk.phase id step (parts arena.now tape.now tenants.now) operation.old }
-                ensures { WritesAt operation.old.walk.phase id step (parts arena.entry.now tape.entry.now tenants.entry.now) (parts arena.exit.now tape.exit.now tenants.exit.now) operation.old result operation.new }
-            { write(alloc, arena, tape, tenants, operation, step, id) },
+                requires { MayWrite operation.old.walk.phase id step least (parts arena.now tape.now tenants.now) operation.old }
+                ensures { WritesAt operation.old.walk.phase id step least (parts arena.entry.now tape.entry.now tenants.entry.now) (parts arena.exit.now tape.exit.now tenants.exit.now) operation.old result operation.new }
+            { write(alloc, arena, tape, tenants, operation, step, least, id) },
         );
         self.arena.facts();
         match stepped {

@@ -172,7 +172,8 @@ impl State {
         self.inner.answers
     }
 
-    /// How many places of nodes there are, those of nodes that were taken out among them.
+    /// How many places of nodes were ever made. A place whose node was taken out is used again, once each
+    /// operation that was begun before has ended.
     pub fn places(&self) -> u64
         ensures { result ≡ length self.now.arena.nodes }
     {

@@ -19,8 +19,9 @@ use mt_table::Made;
 use mt_tape::Tape;
 use std::alloc::Global;
 
-/// Makes the step of this number of the operation of this id, that locks, writes or gives back; all
-/// other steps it leaves to others.
+/// Makes the step of this number of the operation of this id, that locks, writes or gives back. All
+/// other steps it leaves to others. It may give out places that the step `least` or an earlier one took
+/// out.
 pub(crate) fn write(
     alloc: Global,
     arena: &mut Arena,
@@ -28,10 +29,11 @@ pub(crate) fn write(
     tenants: &mut Tenants,
     operation: &mut Operation,
     step: u64,
+    least: u64,
     id: usize,
 ) -> Made
-    requires { MayWrite operation.old.walk.phase id step (parts arena.old tape.old tenants.old) operation.old }
-    ensures { WritesAt operation.old.walk.phase id step (parts arena.old tape.old tenants.old) (parts arena.new tape.new tenants.new) operation.old result operation.new }
+    requires { MayWrite operation.old.walk.phase id step least (parts arena.old tape.old tenants.old) operation.old }
+    ensures { WritesAt operation.old.walk.phase id step least (parts arena.old tape.old tenants.old) (parts arena.new tape.new tenants.new) operation.old result operation.new }
 {
     match operation.walk.phase {
         Phase::Lock => take_lock(arena, operation, id),
@@ -39,18 +41,18 @@ pub(crate) fn write(
         Phase::Store => store_row(arena, tape, operation, step, id),
         Phase::Fill => fill_slot(arena, operation, id),
         Phase::Publish => publish_pair(arena, tape, tenants, operation, step, id),
-        Phase::SplitStart => begin_split(arena, tape, operation, step, id),
+        Phase::SplitStart => begin_split(arena, tape, operation, step, least, id),
         Phase::SplitMove => part_keys(arena, tape, tenants, operation, step, id),
-        Phase::SplitPrev => climb(arena, operation, id),
-        Phase::LockParent => climb(arena, operation, id),
-        Phase::InsertChild => climb(arena, operation, id),
-        Phase::InteriorSplit => climb(arena, operation, id),
-        Phase::Reparent => climb(arena, operation, id),
-        Phase::RootGrow => climb(arena, operation, id),
-        Phase::MakeLayer => build(alloc, arena, operation, step, id),
-        Phase::MarkUnstable => build(alloc, arena, operation, step, id),
-        Phase::Link => build(alloc, arena, operation, step, id),
-        Phase::MarkLayer => build(alloc, arena, operation, step, id),
+        Phase::SplitPrev => climb(arena, operation, least, id),
+        Phase::LockParent => climb(arena, operation, least, id),
+        Phase::InsertChild => climb(arena, operation, least, id),
+        Phase::InteriorSplit => climb(arena, operation, least, id),
+        Phase::Reparent => climb(arena, operation, least, id),
+        Phase::RootGrow => climb(arena, operation, least, id),
+        Phase::MakeLayer => build(alloc, arena, operation, step, least, id),
+        Phase::MarkUnstable => build(alloc, arena, operation, step, least, id),
+        Phase::Link => build(alloc, arena, operation, step, least, id),
+        Phase::MarkLayer => build(alloc, arena, operation, step, least, id),
         Phase::DropKey => drop_pair(arena, tape, tenants, operation, step, id),
         Phase::LockPrev => take_out(arena, operation, step, id),
         Phase::LockAbove => take_out(arena, operation, step, id),
@@ -202,17 +204,18 @@ fn publish_pair(
     Made::Step
 }
 
-// Makes the right half of the full border node. Where there is no memory for it, the operation is done.
+// Makes the right half of the full border node. If there is no memory for it, the operation is done.
 #[inline(never)]
 fn begin_split(
     arena: &mut Arena,
     tape: &mut Tape,
     operation: &mut Operation,
     step: u64,
+    least: u64,
     id: usize,
 ) -> Made
-    requires { MayBegin id arena.old tape.old operation.old }
-    ensures { WritesTape id (TellsBegun id step) arena.old arena.new tape.old tape.new operation.old result operation.new }
+    requires { MayBegin id least arena.old tape.old operation.old }
+    ensures { WritesTape id (TellsBegun id step least) arena.old arena.new tape.old tape.new operation.old result operation.new }
 {
     match mt_insert::split_start(
         arena,
@@ -220,6 +223,7 @@ fn begin_split(
         &operation.task.key,
         &mut operation.walk,
         &mut operation.splits,
+        least,
         id,
     ) {
         Ok(()) => Made::Step,
@@ -262,20 +266,34 @@ fn part_keys(
 
 // Brings a right half nearer to its place in its parent, or makes a root.
 #[inline(never)]
-fn climb(arena: &mut Arena, operation: &mut Operation, id: usize) -> Made
-    requires { MayClimb id arena.old operation.old }
-    ensures { WritesNodes id (TellsClimbed id) arena.old arena.new operation.old result operation.new }
+fn climb(arena: &mut Arena, operation: &mut Operation, least: u64, id: usize) -> Made
+    requires { MayClimb id least arena.old operation.old }
+    ensures { WritesNodes id (TellsClimbed id least) arena.old arena.new operation.old result operation.new }
 {
-    climb_on(arena, &mut operation.walk, &mut operation.splits, id)
+    climb_on(arena, &mut operation.walk, &mut operation.splits, least, id)
 }
 
-// Brings a layer one step nearer. Where there is no memory for its tree, the operation is done.
+// Brings a layer one step nearer. If there is no memory for its tree, the operation is done.
 #[inline(never)]
-fn build(alloc: Global, arena: &mut Arena, operation: &mut Operation, step: u64, id: usize) -> Made
-    requires { MayBuild id arena.old operation.old }
-    ensures { WritesNodes id (TellsBuilt id step) arena.old arena.new operation.old result operation.new }
+fn build(
+    alloc: Global,
+    arena: &mut Arena,
+    operation: &mut Operation,
+    step: u64,
+    least: u64,
+    id: usize,
+) -> Made
+    requires { MayBuild id least arena.old operation.old }
+    ensures { WritesNodes id (TellsBuilt id step least) arena.old arena.new operation.old result operation.new }
 {
-    match build_on(alloc, arena, &operation.task.key, &mut operation.walk, id) {
+    match build_on(
+        alloc,
+        arena,
+        &operation.task.key,
+        &mut operation.walk,
+        least,
+        id,
+    ) {
         Ok(()) => Made::Step,
         Err(_) => {
             operation.outcome = Some(no_memory(step));

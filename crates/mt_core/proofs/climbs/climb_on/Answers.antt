@@ -8,15 +8,15 @@ use Rattle.mt_insert.specs.{KeptSplits.{IsAtLockParent, KeptSplit, last_of}, Cli
 use Rattle.mt_core.proofs.climbs.climb_on.Goals as goal
 
 -- the step from the phase at which the walk is
-from_here : (p : Phase) (op : ℕ) (old new : ArenaView) (before after : Walk) (s t : Splits) → before.phase ≡ p
-    → IsClimbFrom p op old new before after s t → IsClimbFrom before.phase op old new before after s t
-from_here p op old new before after s t at_p = subst (λ (q : Phase). IsClimbFrom q op old new before after s t) (sym at_p)
+from_here : (p : Phase) (least op : ℕ) (old new : ArenaView) (before after : Walk) (s t : Splits) → before.phase ≡ p
+    → IsClimbFrom p least op old new before after s t → IsClimbFrom before.phase least op old new before after s t
+from_here p least op old new before after s t at_p = subst (λ (q : Phase). IsClimbFrom q least op old new before after s t) (sym at_p)
 
 pub returns-in-SplitPrev : goal.returns-in-SplitPrev
-returns-in-SplitPrev c = from_here SplitPrev _ _ _ _ _ _ _ c.in-SplitPrev.is c.split_prev.ensures
+returns-in-SplitPrev c = from_here SplitPrev _ _ _ _ _ _ _ _ c.in-SplitPrev.is c.split_prev.ensures
 
 pub returns-in-None : goal.returns-in-None
-returns-in-None c = from_here LockParent _ _ _ _ _ _ _ c.in-LockParent.is c.in-None.ensures.locks
+returns-in-None c = from_here LockParent _ _ _ _ _ _ _ _ c.in-LockParent.is c.in-None.ensures.locks
 
 pub returns-in-Some : goal.returns-in-Some
 returns-in-Some c =
@@ -27,13 +27,13 @@ returns-in-Some c =
     (e.unchanged.0, e.unchanged.1, e.unchanged.2, c.in-LockParent.is, e.again.0, e.again.1, there, e.again.2, e.another)
 
 pub returns-in-InsertChild : goal.returns-in-InsertChild
-returns-in-InsertChild c = from_here InsertChild _ _ _ _ _ _ _ c.in-InsertChild.is c.insert_child.ensures
+returns-in-InsertChild c = from_here InsertChild _ _ _ _ _ _ _ _ c.in-InsertChild.is c.insert_child.ensures
 
 pub returns-in-Ok : goal.returns-in-Ok
-returns-in-Ok c = from_here InteriorSplit _ _ _ _ _ _ _ c.in-InteriorSplit.is c.in-Ok.ensures.splits
+returns-in-Ok c = from_here InteriorSplit _ _ _ _ _ _ _ _ c.in-InteriorSplit.is c.in-Ok.ensures.splits
 
 pub returns-in-Reparent : goal.returns-in-Reparent
-returns-in-Reparent c = from_here Reparent _ _ _ _ _ _ _ c.in-Reparent.is c.reparent.ensures
+returns-in-Reparent c = from_here Reparent _ _ _ _ _ _ _ _ c.in-Reparent.is c.reparent.ensures
 
 pub returns-in-Ok-root_grow : goal.returns-in-Ok-root_grow
-returns-in-Ok-root_grow c = from_here RootGrow _ _ _ _ _ _ _ c.in-RootGrow.is c.in-Ok-root_grow.ensures.grows
+returns-in-Ok-root_grow c = from_here RootGrow _ _ _ _ _ _ _ _ c.in-RootGrow.is c.in-Ok-root_grow.ensures.grows

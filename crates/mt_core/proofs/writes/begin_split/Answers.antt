@@ -12,6 +12,12 @@ split_start-requires-clause-none c = c.requires.none
 pub split_start-requires-clause-reserved : goal.split_start-requires-clause-reserved
 split_start-requires-clause-reserved c = c.requires.room
 
+pub split_start-requires-clause-forgotten : goal.split_start-requires-clause-forgotten
+split_start-requires-clause-forgotten c = c.requires.gives.forgotten
+
+pub split_start-requires-clause-renews : goal.split_start-requires-clause-renews
+split_start-requires-clause-renews c = c.requires.gives.renews
+
 pub returns-in-Ok : goal.returns-in-Ok
 returns-in-Ok c = λ accounts. inl (record { begins = c.in-Ok.ensures.starts; accounts = refl; others = refl })
 

@@ -10,6 +10,12 @@ build_on-requires-clause-phase c = c.requires.phase
 pub build_on-requires-clause-kept : goal.build_on-requires-clause-kept
 build_on-requires-clause-kept c = c.requires.kept
 
+pub build_on-requires-clause-forgotten : goal.build_on-requires-clause-forgotten
+build_on-requires-clause-forgotten c = c.requires.gives.forgotten
+
+pub build_on-requires-clause-renews : goal.build_on-requires-clause-renews
+build_on-requires-clause-renews c = c.requires.gives.renews
+
 pub returns-in-Ok : goal.returns-in-Ok
 returns-in-Ok c = λ tape accounts. inl (record { builds = c.in-Ok.ensures; on = record { others = refl; rest = refl } })
 
