@@ -147,7 +147,18 @@ fn is_of_one_connection(kind: ErrorKind) -> bool {
     )
 }
 
-// Serves the streams of the channel till it is closed.
+// How many bytes a worker's thread takes, for a moment, before its first stream.
+const FIRST_BYTES: usize = 64;
+
+// So many bytes. The C library sets address space aside for a thread when that first takes memory. If none is
+// left by then, each piece that the thread takes has a page of its own. Inlined they would be left out.
+#[inline(never)]
+fn first_bytes(alloc: Global) -> Result<Vec<u8>, AllocError> {
+    Vec::with_capacity(alloc, FIRST_BYTES)
+}
+
+// Serves the streams of the channel till it is closed. The thread first has its own place for memory, while
+// there is some; a worker without one serves all the same.
 fn work<R: Wait, W: Worker>(
     rt: &R,
     alloc: Global,
@@ -156,6 +167,7 @@ fn work<R: Wait, W: Worker>(
 ) -> Served<W>
     ensures { result.others ≤ result.sessions }
 {
+    let _ = first_bytes(alloc);
     let mut worker = worker;
     let mut sessions = 0u32;
     let mut others = 0u32;
