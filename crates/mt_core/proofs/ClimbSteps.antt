@@ -5,7 +5,7 @@ use Rattle.std.specs.Prelude.{◌^◌, ◌⊎◌}
 use Rattle.mt_arena.specs.{Arena.ArenaView, Accesses.at}
 use Rattle.mt_operation.specs.{declared.phase.Phase.Phase, declared.phase.Phase.TheVariants.{InteriorSplit, RootGrow}, declared.walk.Walk.Walk}
 use Rattle.mt_operation.specs.{declared.splits.Halves.Halves, declared.splits.Splits.Splits, declared.operation.Operation.Operation}
-use Rattle.mt_operation.specs.{Operations.{OperationView, moved, view_of, with_splits}, Phases.{IsClimb, IsToGrow}, Tables.{Table, AreBornFrom, op_at as operation_at}}
+use Rattle.mt_operation.specs.{Operations.{OperationView, moved, view_of, with_splits}, Phases.{IsClimb, IsToGrow}, Tables.{Table, IsLeastBirth, op_at as operation_at}}
 use Rattle.mt_operation.proofs.Tables.{set_is, set_there}
 use Rattle.mt_insert.specs.KeptSplits.{AreParted, AreReturnable, HasSplits, HasSplitsNamed, HoldsSplits, IsAmong, IsParent, KeptSplit, NothingLags, halves_at, last_of}
 use Rattle.mt_insert.specs.Climbs.{AreSame, IsClimbFrom}
@@ -216,21 +216,21 @@ module _ (c now : Core) (o : ℕ) (is : c ≡ now) (h : StateInvariant c) (few :
       climb_among op.walk.phase at_climb op k (subst (λ (x : Operation). HoldsAt x.walk.phase x k) (same_Some f.0 op (sym f.1 ∙ there)) f.2)
 
   -- the step was made
-  pub climb_made : ArenaFacts c.arena → (arena : ArenaView) (w : Walk) (t : Splits) (table : Table) (least : ℕ) → AreBornFrom c.table least
+  pub climb_made : ArenaFacts c.arena → (arena : ArenaView) (w : Walk) (t : Splits) (table : Table) (least : ℕ) → IsLeastBirth c.table c.steps least
       → IsClimbFrom op.walk.phase least o c.arena arena op.walk w op.splits t → IsOver c.table table o (moved (with_splits op t) (c.steps + 1) w)
       → IsSound c.arena (made c arena c.tape c.accounts table) × StepsOn now (made c arena c.tape c.accounts table) o Moved
-  climb_made facts arena w t table least born told over =
+  climb_made facts arena w t table least is_least told over =
       let after = moved (with_splits op t) (c.steps + 1) w in
       let new = made c arena c.tape c.accounts table in
       let gives : Gives (shown c) new o false = subst (λ (u : Table). Gives (shown c) (made c arena c.tape c.accounts u) o false) (sym over.is)
-      (climb_done c o h (subst (λ (v : Core). v.steps < 2 ^ 59) (sym is) few) op there arena w t least facts born at_climb told) in (
+      (climb_done c o h (subst (λ (v : Core). v.steps < 2 ^ 59) (sym is) few) op there arena w t least facts is_least at_climb told) in (
         gives.0,
         subst (λ (v : Core). StepsOn v new o Moved) is (record {
           tells = gives.1;
           nears =
               nears_by c new o op after there over.there (free_from least o c.arena arena (climb_makes op.walk.phase at_climb least o c.arena arena op.walk w op.splits t told).steps) refl
               (λ height n p. point_first height (n + 1) arena w t after.walk.first
-              (climb_nears op.walk.phase at_climb least o c.arena arena op.walk w op.splits t refl facts (are_forgotten c h facts least born) climb_kept told height n p))
+              (climb_nears op.walk.phase at_climb least o c.arena arena op.walk w op.splits t refl facts (are_forgotten c h facts least is_least.below) climb_kept told height n p))
               (λ removes height n r. absurd (climb_none op.walk.phase at_climb height r.round n c.arena op.walk r.few))
               (λ scans. absurd (both_ways _ (write_no_scan c o h op there op.walk.phase refl (climb_writes op.walk.phase at_climb)) scans));
           leads =

@@ -23,7 +23,7 @@ pub record AreOnLevels (old new : ArenaView) : Type 0 where
   pub added : (k : ℕ) → length old.nodes ≤ k → k < length new.nodes → IsOnLevel old (at new k)
   pub again : (k : ℕ) → k < length old.nodes → ComesAgain (at old k) (at new k) → IsOnLevel old (at new k)
 
-module _ (o : ℕ) (old new : ArenaView) (l : LeavesNodes o old new) where
+module _ (least o : ℕ) (old new : ArenaView) (l : LeavesNodes least o old new) where
   -- all nodes stand below a level, where each new one stands on the level of another
   pub stays_below : AreOnLevels old new → (height : ℕ) → AreBelow old height → AreBelow new height
   stays_below levels height below k within live = elim (cases_lt k (length old.nodes)) [
@@ -59,15 +59,15 @@ pub climb_none : (p : Phase) → IsClimb p → (height round made : ℕ) (v : Ar
 climb_none p i height round made v w = by_climb (λ p. HasRemoved p height round made v w → ⊥) (λ k. k) (λ k. k) (λ k. k) (λ k. k) (λ k. k) (λ k. k) p i
 
 -- so a step from one phase to another comes nearer, by what it leaves of the nodes and how many steps were made
-pub nears_on : (op : ℕ) (old new : ArenaView) (before after : Walk) (s t : Splits) (p q : Phase) → before.phase ≡ p → IsClimb p → after ≡ walk_at q before
-    → LeavesNodes op old new → (q ≢ Unlock → AreOnLevels old new) → t.halves.items ≢ []
+pub nears_on : (least op : ℕ) (old new : ArenaView) (before after : Walk) (s t : Splits) (p q : Phase) → before.phase ≡ p → IsClimb p → after ≡ walk_at q before
+    → LeavesNodes least op old new → (q ≢ Unlock → AreOnLevels old new) → t.halves.items ≢ []
     → ((height made : ℕ) → AreBelow old height → HasMade p height made old before s → HasMade q height (made + 1) new (walk_at q before) t)
     → (height made : ℕ) → IsAtPoint height made old before s → IsAtPoint height (made + 1) new after t
-nears_on op old new before after s t p q at_p climb goes leaves levels some counts_on height made point =
+nears_on least op old new before after s t p q at_p climb goes leaves levels some counts_on height made point =
     let at_q : after.phase ≡ q = ap (λ (w : Walk). w.phase) goes in
     let below : AreBelow old height = below_at height made old before s p at_p (climb_ungrown p climb s.halves.items) point in
     point_at height (made + 1) new after t q at_q
-    (λ ungrown. stays_below op old new leaves (levels (λ is. ungrown (subst (λ (x : Phase). MayHaveGrown x t.halves.items) (sym is) (unlock_grown t.halves.items some)))) height below)
+    (λ ungrown. stays_below least op old new leaves (levels (λ is. ungrown (subst (λ (x : Phase). MayHaveGrown x t.halves.items) (sym is) (unlock_grown t.halves.items some)))) height below)
     (subst (λ (w : Walk). HasMade q height (made + 1) new w t) (sym goes) (counts_on height made below (few_at height made old before s p at_p point)))
 
 -- and none but a put makes one

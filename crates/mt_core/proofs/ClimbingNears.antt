@@ -21,10 +21,10 @@ last_same : (s t : Splits) → t.halves.items ≡ s.halves.items → last_of t �
 last_same s t same = ap (λ (hs : List Halves). halves_at hs (length hs - 1)) same
 
 -- the level of the last split stays
-level_stays : (op : ℕ) (old new : ArenaView) (s t : Splits) → HasSplits old op s → LeavesNodes op old new → t.halves.items ≡ s.halves.items
+level_stays : (least op : ℕ) (old new : ArenaView) (s t : Splits) → HasSplits old op s → LeavesNodes least op old new → t.halves.items ≡ s.halves.items
     → split_level new t ≡ split_level old s
-level_stays op old new s t h leaves same =
-    ap (λ (b : Halves). (at new b.left).level) (last_same s t same) ∙ (stays_live op old new leaves (last_of s).left h.parted.left.held.there h.parted.left.live).level
+level_stays least op old new s t h leaves same =
+    ap (λ (b : Halves). (at new b.left).level) (last_same s t same) ∙ (stays_live least op old new leaves (last_of s).left h.parted.left.held.there h.parted.left.live).level
 
 -- and it is below the height
 level_below : (op height : ℕ) (old : ArenaView) (s : Splits) → HasSplits old op s → AreBelow old height → split_level old s < height
@@ -65,14 +65,14 @@ module _ (least op : ℕ) (old new : ArenaView) (before after : Walk) (s t : Spl
       by None next = absurd (kept.some_next next)
       by (Some behind) next =
           let size : length new.nodes ≡ length old.nodes = ap (λ (v : ArenaView). length v.nodes) (c.is behind next) ∙ length-set old.nodes behind _ in
-          nears_on op old new before after s t SplitPrev LockParent at_p tt c.walk (climb_leaves SplitPrev tt least op old new before after s t facts.retired forgotten kept c)
-          (λ more. no_new op old new c.on.keeps.guarantee size) (climb_some SplitPrev tt least op old new before after s t kept c) (λ height made below few. let level = level_stays op old new s t kept.splits (climb_leaves SplitPrev tt least op old new before after s t facts.retired forgotten kept c) (ap (λ (x : Splits). x.halves.items) c.splits) in omega (arith, few, level))
+          nears_on least op old new before after s t SplitPrev LockParent at_p tt c.walk (climb_leaves SplitPrev tt least op old new before after s t facts.retired forgotten kept c)
+          (λ more. no_new op old new c.on.keeps.guarantee size) (climb_some SplitPrev tt least op old new before after s t kept c) (λ height made below few. let level = level_stays least op old new s t kept.splits (climb_leaves SplitPrev tt least op old new before after s t facts.retired forgotten kept c) (ap (λ (x : Splits). x.halves.items) c.splits) in omega (arith, few, level))
 
   -- a parent is locked, or there is none
   lock_nears : ArenaFacts old → AreForgotten least old → before.phase ≡ LockParent → IsAtLockParent old op s → IsLockParent op old new before after s t → Nearer
   lock_nears facts forgotten at_p kept c = by (at old l).parent refl
     where
-      leaves : LeavesNodes op old new
+      leaves : LeavesNodes least op old new
       leaves = climb_leaves LockParent tt least op old new before after s t facts.retired forgotten kept c
 
       some : t.halves.items ≢ []
@@ -81,24 +81,24 @@ module _ (least op : ℕ) (old new : ArenaView) (before after : Walk) (s t : Spl
       by : (parent : Option ℕ) → (at old l).parent ≡ parent → Nearer
       by None none =
           let r = c.root none in
-          nears_on op old new before after s t LockParent RootGrow at_p tt r.1 leaves (λ more. no_new op old new c.on.keeps.guarantee (ap (λ (v : ArenaView). length v.nodes) r.0)) some
-          (λ height made below few. let level = level_stays op old new s t kept.named.splits leaves (ap (λ (x : Splits). x.halves.items) r.2) in omega (arith, few, level))
+          nears_on least op old new before after s t LockParent RootGrow at_p tt r.1 leaves (λ more. no_new op old new c.on.keeps.guarantee (ap (λ (v : ArenaView). length v.nodes) r.0)) some
+          (λ height made below few. let level = level_stays least op old new s t kept.named.splits leaves (ap (λ (x : Splits). x.halves.items) r.2) in omega (arith, few, level))
       by (Some p) named =
           let r = c.is p named in
-          nears_on op old new before after s t LockParent (for_parent (at old p)) at_p tt r.2 leaves
+          nears_on least op old new before after s t LockParent (for_parent (at old p)) at_p tt r.2 leaves
           (λ more. no_new op old new c.on.keeps.guarantee (ap (λ (v : ArenaView). length v.nodes) r.1 ∙ size_locked op old new before after s t kept p)) some
           (counts (length (at old p).separators == 15) (ap (λ (x : Splits). x.halves.items) r.3))
         where
           counts : (b : Bool) → t.halves.items ≡ s.halves.items → (height made : ℕ) → AreBelow old height → HasMade LockParent height made old before s
               → HasMade (if b then InteriorSplit else InsertChild) height (made + 1) new (walk_at (if b then InteriorSplit else InsertChild) before) t
-          counts true same height made below few = let level = level_stays op old new s t kept.named.splits leaves same in omega (arith, few, level)
-          counts false same height made below few = let level = level_stays op old new s t kept.named.splits leaves same in omega (arith, few, level)
+          counts true same height made below few = let level = level_stays least op old new s t kept.named.splits leaves same in omega (arith, few, level)
+          counts false same height made below few = let level = level_stays least op old new s t kept.named.splits leaves same in omega (arith, few, level)
 
   -- the parent has room
   insert_nears : ArenaFacts old → AreForgotten least old → before.phase ≡ InsertChild → IsAtInsertChild old op s → IsInsertChild op old new before after s t → Nearer
   insert_nears facts forgotten at_p kept c =
       let some = climb_some InsertChild tt least op old new before after s t kept c in
-      nears_on op old new before after s t InsertChild Unlock at_p tt c.walk (climb_leaves InsertChild tt least op old new before after s t facts.retired forgotten kept c) (λ more. absurd (more refl)) some
+      nears_on least op old new before after s t InsertChild Unlock at_p tt c.walk (climb_leaves InsertChild tt least op old new before after s t facts.retired forgotten kept c) (λ more. absurd (more refl)) some
       (λ height made below few. let low = level_below op height old s kept.at_parent.named.splits below in omega (arith, few, low, unlock_most t.halves.items height some))
 
   -- it is full, and was split
@@ -150,18 +150,18 @@ module _ (least op : ℕ) (old new : ArenaView) (before after : Walk) (s t : Spl
         let leaves = climb_leaves InteriorSplit tt least op old new before after s t facts.retired forgotten kept c in
         let last = last_more s t p (interior_number least old) one in
         let parent_level : (at new (last_of t).left).level ≡ length s.halves.items =
-        ap (λ (b : Halves). (at new b.left).level) last ∙ (stays_live op old new leaves p kept.at_parent.parent.held.there kept.at_parent.parent.live).level ∙ kept.at_parent.parent.level_is in
+        ap (λ (b : Halves). (at new b.left).level) last ∙ (stays_live least op old new leaves p kept.at_parent.parent.held.there kept.at_parent.parent.live).level ∙ kept.at_parent.parent.level_is in
         let children : length (at new (last_of t).right).children ≡ length upper.children =
         ap (λ (b : Halves). length (at new b.right).children) last ∙ ap (λ (v : ArenaView). length (at v (interior_number least old)).children) is
         ∙ ap (λ (ks : List ℕ). length ks) half_children in
-        nears_on op old new before after s t InteriorSplit Reparent at_p tt c.walk leaves (λ more. subst (AreOnLevels old) (sym is) split_levels)
+        nears_on least op old new before after s t InteriorSplit Reparent at_p tt c.walk leaves (λ more. subst (AreOnLevels old) (sym is) split_levels)
         (climb_some InteriorSplit tt least op old new before after s t kept c)
         (λ height made below few. omega (arith, few, parent_level, children, few_children, kept.at_parent.named.splits.parted.left.level_is, kept.at_parent.named.splits.some))
 
   -- a child of a parted parent names the right half
   reparent_nears : ArenaFacts old → AreForgotten least old → before.phase ≡ Reparent → IsAtReparent old op s → IsReparent op old new before after s t → Nearer
   reparent_nears facts forgotten at_p kept c =
-      nears_on op old new before after s t Reparent (after_reparent (at old q) s.moved) at_p tt c.walk leaves
+      nears_on least op old new before after s t Reparent (after_reparent (at old q) s.moved) at_p tt c.walk leaves
       (λ more. no_new op old new c.on.keeps.guarantee (ap (λ (v : ArenaView). length v.nodes) c.is ∙ length-set old.nodes child named)) (climb_some Reparent tt least op old new before after s t kept c)
       (counts (s.moved + 1 == n) refl (ap (λ (x : Splits). x.moved) c.splits))
     where
@@ -174,7 +174,7 @@ module _ (least op : ℕ) (old new : ArenaView) (before after : Walk) (s t : Spl
       n : ℕ
       n = length (at old q).children
 
-      leaves : LeavesNodes op old new
+      leaves : LeavesNodes least op old new
       leaves = climb_leaves Reparent tt least op old new before after s t facts.retired forgotten kept c
 
       same : t.halves.items ≡ s.halves.items
@@ -190,17 +190,17 @@ module _ (least op : ℕ) (old new : ArenaView) (before after : Walk) (s t : Spl
           → AreBelow old height → HasMade Reparent height made old before s
           → HasMade (if b then LockParent else Reparent) height (made + 1) new (walk_at (if b then LockParent else Reparent) before) t
       counts true last moved height made below few =
-          let level = level_stays op old new s t kept.splits leaves same in
+          let level = level_stays least op old new s t kept.splits leaves same in
           let all = eqb-true (s.moved + 1) (length (at old q).children) last in
           omega (arith, few, level, all)
       counts false last moved height made below few =
-          let level = level_stays op old new s t kept.splits leaves same in omega (arith, few, level, moved, same_children, kept.more)
+          let level = level_stays least op old new s t kept.splits leaves same in omega (arith, few, level, moved, same_children, kept.more)
 
   -- a root was made
   grow_nears : ArenaFacts old → AreForgotten least old → before.phase ≡ RootGrow → IsAtRootGrow old op s → IsRootGrow least op old new before after s t → Nearer
   grow_nears facts forgotten at_p kept c =
       let some = climb_some RootGrow tt least op old new before after s t kept c in
-      nears_on op old new before after s t RootGrow Unlock at_p tt c.walk (climb_leaves RootGrow tt least op old new before after s t facts.retired forgotten kept c) (λ more. absurd (more refl)) some
+      nears_on least op old new before after s t RootGrow Unlock at_p tt c.walk (climb_leaves RootGrow tt least op old new before after s t facts.retired forgotten kept c) (λ more. absurd (more refl)) some
       (λ height made below few. let low = level_below op height old s kept.at_root.named.splits below in omega (arith, few, low, unlock_most t.halves.items height some))
 
 -- so each, by its phase

@@ -9,7 +9,7 @@ use Rattle.mt_operation.proofs.Phases.{by_layer}
 use Rattle.mt_operation.specs.{declared.phase.Phase.Phase, declared.phase.Phase.TheVariants.{Enter, Link, MakeLayer, MarkLayer, MarkUnstable, Unlock}}
 use Rattle.mt_operation.specs.{declared.walk.Walk.Walk, declared.splits.Halves.Halves, declared.splits.Splits.Splits, declared.outcome.Outcome.Outcome}
 use Rattle.mt_operation.specs.{declared.operation.Operation.Operation, Operations.{moved, noted, splits_of}, Phases.{IsLayerPhase, IsOfKind}}
-use Rattle.mt_operation.specs.{Tables.{Table, AreBornFrom, op_at as operation_at}, declared.walk.Aim.Aim}
+use Rattle.mt_operation.specs.{Tables.{Table, IsLeastBirth, op_at as operation_at}, declared.walk.Aim.Aim}
 use Rattle.mt_descent.specs.{KeptWalks.walk_place, WalkMoves.walk_into}
 use Rattle.mt_held.specs.Unlock.{GoesInto, IsUnlock}
 use Rattle.mt_layer.specs.{KeptLayers.{IsAtLeave, KeptLayer}, Builds.{IsLayerFrom, IsLeave}}
@@ -24,7 +24,7 @@ use Rattle.mt_core.proofs.Points.{below_at, few_at, free_from, free_on, nears_by
 use Rattle.mt_arena.proofs.OneLink as OneLink
 use Rattle.mt_operation.specs.declared.walk.Aim.TheVariants as aims
 
-module _ (o : ℕ) (old new : ArenaView) (l : LeavesNodes o old new) where
+module _ (least o : ℕ) (old new : ArenaView) (l : LeavesNodes least o old new) where
   -- all nodes stand below a level where one did
   stays_below : (height : ℕ) → 0 < height → AreBelow old height → AreBelow new height
   stays_below height some below k within live = elim (cases_lt k (length old.nodes)) [
@@ -62,7 +62,7 @@ layer_nears p i least o key old new before after s at_p within live retired forg
     let goes = layer_goes p i least o key old new before after b in
     let below : AreBelow old height = below_at height n old before s p at_p (layer_ungrown p i s.halves.items) point in
     let some : 0 < height = omega (arith, below before.place.node within live) in
-    point_at height (n + 1) new after s (layer_next p) goes.at (λ other. stays_below o old new (layer_leaves p i least o key old new before after retired forgotten kept b) height some below)
+    point_at height (n + 1) new after s (layer_next p) goes.at (λ other. stays_below least o old new (layer_leaves p i least o key old new before after retired forgotten kept b) height some below)
     (layer_made p i old new before after s height n (ap (λ l. astray height + min l 31 * (3 * height + 12)) goes.layer) (few_at height n old before s p at_p point))
 
 -- the node of an operation that makes a layer is there
@@ -122,17 +122,17 @@ module _ (c now : Core) (o : ℕ) (is : c ≡ now) (h : StateInvariant c) (few :
       )
 
   -- a layer that came one step nearer
-  pub build_made : ArenaFacts c.arena → IsLayerPhase x.walk.phase → (arena : ArenaView) (w : Walk) (table : Table) (least : ℕ) → AreBornFrom c.table least
+  pub build_made : ArenaFacts c.arena → IsLayerPhase x.walk.phase → (arena : ArenaView) (w : Walk) (table : Table) (least : ℕ) → IsLeastBirth c.table c.steps least
       → IsLayerFrom x.walk.phase least o x.task.key c.arena arena x.walk w
       → IsOver c.table table o (moved x (c.steps + 1) w) → IsSound c.arena (made c arena c.tape c.accounts table) × StepsOn now (made c arena c.tape c.accounts table) o Moved
-  build_made facts layer arena w table least born b over =
+  build_made facts layer arena w table least is_least b over =
       let p = x.walk.phase in
       let kept = layer_kept c o h x there p refl layer in
       steps_on arena w table over (free_from least o c.arena arena (layer_makes p layer least o x.task.key c.arena arena x.walk w b).steps)
-      (λ height n. layer_nears p layer least o x.task.key c.arena arena x.walk w x.splits refl (layer_there p layer c.arena o x.task.key x.walk kept) (layer_live p layer c.arena o x.task.key x.walk kept) facts.retired (are_forgotten c h facts least born) kept b height n)
+      (λ height n. layer_nears p layer least o x.task.key c.arena arena x.walk w x.splits refl (layer_there p layer c.arena o x.task.key x.walk kept) (layer_live p layer c.arena o x.task.key x.walk kept) facts.retired (are_forgotten c h facts least is_least.below) kept b height n)
       (λ height n r. layer_none p layer height r.round n c.arena x.walk r.few) (layer_writes p layer)
       (layer_leads p layer least o x.task.key c.arena arena x.walk w facts.retired b (c.steps + 1) x.outcome (splits_of x.splits) x.removal (no_step x))
-      (build_done c o h few_inside x there arena w least facts born layer b)
+      (build_done c o h few_inside x there arena w least facts is_least layer b)
 
   -- no memory for it
   pub stop_made : (arena : ArenaView) (w : Walk) (table : Table) → x.walk.phase ≡ MakeLayer → IsUnlock o c.arena arena x.walk w

@@ -11,7 +11,7 @@ use Rattle.mt_version.specs.{Parts.Parts, Changes.CanUnlock}
 use Rattle.mt_operation.specs.{declared.phase.Phase.Phase, declared.phase.Phase.TheVariants.{SplitMove, SplitStart, Unlock}, declared.walk.Walk.Walk}
 use Rattle.mt_operation.specs.{declared.prepared.Prepared.Prepared, declared.splits.Halves.Halves, declared.splits.Splits.Splits}
 use Rattle.mt_operation.specs.{declared.operation.Operation.Operation, Operations.{IsUnsplit, moved, noted, splits_of, with_nothing_ready, with_splits}}
-use Rattle.mt_operation.specs.{Phases.has_splits, Tables.{Table, AreBornFrom, op_at as operation_at}}
+use Rattle.mt_operation.specs.{Phases.has_splits, Tables.{Table, IsLeastBirth, op_at as operation_at}}
 use Rattle.mt_insert.specs.{KeptPuts.IsAtSplitStart, Unlock.IsUnlockAll, KeptSplits.{IsAmong, IsAtSplitMove, IsAtUnlockAll, last_of}}
 use Rattle.mt_insert.specs.{SplitMove.{IsSplitMove, IsSplitMoveFull, after_parting}, SplitStart.{IsSplitStart, IsSplitStopped}}
 use Rattle.mt_held.specs.Moves.{walk_at}
@@ -27,7 +27,7 @@ use Rattle.mt_core.proofs.{Following.{IsSound, IsOver, made, write_no_scan}, Lea
 -- no level is new if a right half is made of a node that the operation holds
 half_below : (o least : ℕ) (v : ArenaView) (k low : ℕ) → IsHeld v k o → (at v k).version.deleted ≡ false → AreRetired v.nodes v.trees v.retired → AreForgotten least v → (height : ℕ)
     → AreBelow v height → AreBelow (with_half_at v k low least o) height
-half_below o least v k low held live retired forgotten = stays_below o v (with_half_at v k low least o) (begun_leaves o v k low least held retired forgotten) (record {
+half_below o least v k low held live retired forgotten = stays_below least o v (with_half_at v k low least o) (begun_leaves o v k low least held retired forgotten) (record {
   added = λ j from lt. record { beside = k; there = held.there; live = live; level = half_added o v k low least held j from lt };
   again = λ j lt again. record { beside = k; there = held.there; live = live; level = half_comes_again o v k low least held j lt again };
 })
@@ -107,18 +107,18 @@ module _ (c now : Core) (o : ℕ) (is : c ≡ now) (h : StateInvariant c) (few :
 
     module _ (arena : ArenaView) (tape : Kept) (w : Walk) (t : Splits) (table : Table) where
       -- the right half of the full node is made, and nobody's level rises
-      pub start_made : (least : ℕ) → ArenaFacts c.arena → AreBornFrom c.table least → IsSplitStart least o op.task.key c.arena arena c.tape tape op.walk w op.splits t → IsOver c.table table o (moved (with_splits op t) (c.steps + 1) w)
+      pub start_made : (least : ℕ) → ArenaFacts c.arena → IsLeastBirth c.table c.steps least → IsSplitStart least o op.task.key c.arena arena c.tape tape op.walk w op.splits t → IsOver c.table table o (moved (with_splits op t) (c.steps + 1) w)
           → IsSound c.arena (made c arena tape c.accounts table) × StepsOn now (made c arena tape c.accounts table) o Moved
-      start_made least facts born b over =
+      start_made least facts is_least b over =
           let after = moved (with_splits op t) (c.steps + 1) w in
           let moves : w.phase ≡ SplitMove = ap (λ (x : Walk). x.phase) b.walk in
           moves_on (made c arena tape c.accounts table)
-          (subst (λ (all : Table). Gives (shown c) (made c arena tape c.accounts all) o false) (sym over.is) (start_done c o h few_here op there at_start arena tape w t least facts born b))
+          (subst (λ (all : Table). Gives (shown c) (made c arena tape c.accounts all) o false) (sym over.is) (start_done c o h few_here op there at_start arena tape w t least facts is_least b))
           (nears_by c (made c arena tape c.accounts table) o op after there over.there (free_from least o c.arena arena b.steps) refl (λ height made point.
           let was = few_at height made c.arena op.walk op.splits SplitStart at_start point in
           point_first height (made + 1) arena w t after.walk.first (point_at height (made + 1) arena w t SplitMove moves
           (λ _. subst (λ (v : ArenaView). AreBelow v height) (sym b.is.is)
-          (half_below o least c.arena op.walk.place.node b.is.low starting.starts.holds.judged.held starting.starts.holds.judged.stands.live facts.retired (are_forgotten c h facts least born) height (below_at height made c.arena op.walk op.splits SplitStart at_start (λ grown. grown) point)))
+          (half_below o least c.arena op.walk.place.node b.is.low starting.starts.holds.judged.held starting.starts.holds.judged.stands.live facts.retired (are_forgotten c h facts least is_least.below) height (below_at height made c.arena op.walk op.splits SplitStart at_start (λ grown. grown) point)))
           (subst (λ (x : Walk). HasMade SplitMove height (made + 1) arena x t) (sym b.walk) (omega (arith, was)))))
           (λ removes height made r. absurd (removed_at height made c.arena op.walk op.outcome op.removal SplitStart at_start r))
           (λ scans. absurd (both_ways _ (write_no_scan c o h op there SplitStart at_start (λ aim kind. kind)) scans)))

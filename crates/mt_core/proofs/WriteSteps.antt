@@ -4,7 +4,7 @@ use Rattle.mt_operation.specs.{contracts.phase.Phase.the_type, declared.walk.Wal
 use Rattle.mt_operation.specs.declared.phase.Phase.TheVariants.{Lock, Judge, Store, Fill, Publish, SplitStart, SplitMove, SplitPrev, LockParent, InsertChild, InteriorSplit, Reparent, RootGrow, MakeLayer, MarkUnstable, Link, MarkLayer, DropKey, LockPrev, LockAbove, Unlink, FixNext, Collapse, CleanLayer, Unlock, Done}
 use Rattle.mt_operation.specs.{declared.prepared.Prepared.Prepared, declared.operation.Operation.Operation}
 use Rattle.mt_operation.specs.Operations.{OperationView, view_of, splits_of, scan_of, is_unfinished, counted}
-use Rattle.mt_operation.specs.{Phases.{is_done, is_prepared, IsClimb, IsLayerPhase, IsRemovalPhase, IsNoLook, IsToGrow}, Tables.{Table, AreBornFrom, op_at as operation_at}}
+use Rattle.mt_operation.specs.{Phases.{is_done, is_prepared, IsClimb, IsLayerPhase, IsRemovalPhase, IsNoLook, IsToGrow}, Tables.{Table, IsLeastBirth, op_at as operation_at}}
 use Rattle.mt_operation.specs.Tasks.{ask}
 use Rattle.mt_operation.proofs.Tables.{set_is}
 use Rattle.std.proofs.Common.{rules, ◌⊎◌, ◌≡◌, ◌≢◌, ℕ, ◌+◌, ◌<◌, inl, inr, true, false, not, set, Bool, Option, Some, None, IsSome, refl, sym, ap, subst, ◌∙◌, arith}
@@ -61,7 +61,7 @@ layer_first MarkLayer least o key old new before after b = b.on.keeps.same.first
 layer_first _ least o key old new before after b = absurd b
 
 module _ (c now : Core) (o : ℕ) (is : c ≡ now) (h : StateInvariant c) (few : now.steps < 2 ^ 59) (op : Operation) (there : operation_at c.table o ≡ Some op)
-    (least : ℕ) (born : AreBornFrom c.table least) where
+    (least : ℕ) (is_least : IsLeastBirth c.table c.steps least) where
   -- what the step may change, and the state that it leaves
   abbrev pub here : Parts
   here = parts c.arena c.tape c.accounts
@@ -163,7 +163,7 @@ module _ (c now : Core) (o : ℕ) (is : c ≡ now) (h : StateInvariant c) (few :
   begin_comes : ArenaFacts c.arena → op.walk.phase ≡ SplitStart → Comes (TellsBegun o (c.steps + 1) least)
   begin_comes facts e to after (inl t) table counts answer ends =
       answers_on to after table counts (tape_gives to table Moved t.accounts
-      (start_made c now o is h few op there e to.arena to.tape after.walk after.splits table least facts born t.begins (over_by table after _ counts t.others))) answer ends
+      (start_made c now o is h few op there e to.arena to.tape after.walk after.splits table least facts is_least t.begins (over_by table after _ counts t.others))) answer ends
   begin_comes facts e to after (inr t) table counts answer ends =
       answers_end to after table counts (tape_gives to table DoneMove t.accounts
       (start_stopped c now o is h few op there e to.arena to.tape after.walk after.splits table t.stops (over_by table after _ counts t.others))) answer ends
@@ -177,12 +177,12 @@ module _ (c now : Core) (o : ℕ) (is : c ≡ now) (h : StateInvariant c) (few :
   climb_comes : ArenaFacts c.arena → IsClimb op.walk.phase → Comes (TellsClimbed o least)
   climb_comes facts climbs to after t table counts answer ends =
       answers_on to after table counts (rest_gives to table Moved t.rest
-      (climb_made c now o is h few op there climbs facts to.arena after.walk after.splits table least born t.climbs (over_by table after _ counts t.others))) answer ends
+      (climb_made c now o is h few op there climbs facts to.arena after.walk after.splits table least is_least t.climbs (over_by table after _ counts t.others))) answer ends
 
   build_comes : ArenaFacts c.arena → IsLayerPhase op.walk.phase → Comes (TellsBuilt o (c.steps + 1) least)
   build_comes facts layer to after (inl t) table counts answer ends =
       answers_on to after table counts (rest_gives to table Moved t.on.rest
-      (build_made c now o is h few op there facts layer to.arena after.walk table least born t.builds (over_by table after _ counts t.on.others))) answer ends
+      (build_made c now o is h few op there facts layer to.arena after.walk table least is_least t.builds (over_by table after _ counts t.on.others))) answer ends
   build_comes facts layer to after (inr t) table counts answer ends =
       answers_end to after table counts (rest_gives to table DoneMove t.on.rest
       (stop_made c now o is h few op there to.arena after.walk table t.phase t.unlocks (over_by table after _ counts t.on.others))) answer ends
@@ -256,7 +256,7 @@ module _ (c now : Core) (o : ℕ) (is : c ≡ now) (h : StateInvariant c) (few :
 
   -- the places that were taken out by the least birth may be given out
   may_give : ArenaFacts c.arena → MayGive least c.arena
-  may_give facts = record { forgotten = are_forgotten c h facts least born; renews = may_renew c h facts least born }
+  may_give facts = record { forgotten = are_forgotten c h facts least is_least.below; renews = may_renew c h facts least is_least.below }
 
   may_climb : ArenaFacts c.arena → IsClimb op.walk.phase → MayClimb o least c.arena op
   may_climb facts climbs = record { gives = may_give facts; phase = climbs; kept = climb_kept c now o is h few op there climbs; holds = climb_holds c now o is h few op there climbs }

@@ -6,7 +6,7 @@ use Rattle.mt_arena.specs.{Contents.{counts, is_live}, Arena.{ArenaView, content
 use Rattle.mt_arena.proofs.Pairs.{before as as_before, here, last as as_pushed, there}
 use Rattle.mt_state.specs.{Promises.{HoldsEither, Touches}, Invariant.{IsCountedUpTo, StateInvariant, DeletedAreEmpty}, Growth.MakesFew, KeptBack.{Retires, TakesLive}}
 use Rattle.mt_state.specs.{Given.ChangesArena, Views.{Core, shown}}
-use Rattle.mt_state.proofs.{Quiet.{HasPairsOf, same_slots}, Giving.{GivesFirsts, gives_none, retires_given}}
+use Rattle.mt_state.proofs.{Quiet.{HasPairsOf, same_slots}, Giving.{GivesFirsts, MakesUnchosen, gives_none, makes_none, retires_given}}
 
 -- the same pairs, tree, level and version's counts; the operation held the node or holds it then, or others name another one in it
 pub record Stays (o : ℕ) (x y : NodeView) : Type 0 where
@@ -40,7 +40,7 @@ pub record IsBare (n : NodeView) : Type 0 where
 
 -- all nodes stay so, or one comes in the place of one that was taken out; those that were added are new, the trees are as they were but for their roots, and
 -- none is taken out
-pub record LeavesNodes (o : ℕ) (old new : ArenaView) : Type 0 where
+pub record LeavesNodes (least o : ℕ) (old new : ArenaView) : Type 0 where
   pub more : length old.nodes ≤ length new.nodes
   pub each : (k : ℕ) → k < length old.nodes → Stays o (at old k) (at new k) ⊎ ComesAgain (at old k) (at new k)
   pub fresh : (k : ℕ) → length old.nodes ≤ k → k < length new.nodes → IsBare (at new k)
@@ -49,6 +49,7 @@ pub record LeavesNodes (o : ℕ) (old new : ArenaView) : Type 0 where
   pub standing : (t : ℕ) → (tree_at new.trees t).standing ≡ (tree_at old.trees t).standing
   pub one : length new.nodes ≤ length old.nodes + 1
   pub retired : GivesFirsts old.retired new.retired
+  pub last : MakesUnchosen least old new
 
 -- what holds of each node and its number, where one node is another
 pub each_set : (P : ℕ → NodeView → Type 0) (xs : List NodeView) (i : ℕ) (y : NodeView) → ((j : ℕ) → j < length xs → P j (node_at xs j)) → P i y
@@ -69,9 +70,9 @@ pushed_at xs y count k size from lt =
     ap (node_at (xs ++ y ∷ [])) {x = k} {y = length xs} (omega (arith, size, from, lt, length-append xs (y ∷ []))) ∙ as_pushed xs y
 
 -- the nodes of another list in the same trees
-pub leaves_set : (o : ℕ) (old : ArenaView) (ys : List NodeView) → length ys ≡ length old.nodes
-    → ((k : ℕ) → k < length old.nodes → Stays o (at old k) (node_at ys k)) → LeavesNodes o old (record old { nodes = ys })
-leaves_set o old ys size each = record {
+pub leaves_set : (least o : ℕ) (old : ArenaView) (ys : List NodeView) → length ys ≡ length old.nodes
+    → ((k : ℕ) → k < length old.nodes → Stays o (at old k) (node_at ys k)) → LeavesNodes least o old (record old { nodes = ys })
+leaves_set least o old ys size each = record {
   more = omega (arith, size);
   each = λ k lt. inl (each k lt);
   fresh = λ k from lt. absurd (omega (arith, from, lt, size));
@@ -80,6 +81,7 @@ leaves_set o old ys size each = record {
   standing = λ t. refl;
   one = omega (arith, size);
   retired = gives_none old.retired;
+  last = makes_none least old (record old { nodes = ys }) size refl;
 }
 
 -- a node of the same tree counts as before
@@ -90,7 +92,7 @@ same_counts was now n m deleted tree standing =
     ap (λ d. cond d false (is_live (tree_at now m.tree).standing)) deleted ∙ ap (λ t. cond n.version.deleted false (is_live (tree_at now t).standing)) tree
     ∙ ap (λ (st : Standing). cond n.version.deleted false (is_live st)) standing
 
-module _ (o : ℕ) (old new : ArenaView) (l : LeavesNodes o old new) where
+module _ (least o : ℕ) (old new : ArenaView) (l : LeavesNodes least o old new) where
   -- a live node stays
   pub stays_live : (k : ℕ) → k < length old.nodes → (at old k).version.deleted ≡ false → Stays o (at old k) (at new k)
   stays_live k lt live = elim (l.each k lt) [
@@ -166,16 +168,16 @@ pub record MovesNoPair (c : Core) (o : ℕ) (arena : ArenaView) : Type 0 where
   pub makes : MakesFew c.arena arena
 
 -- so by what is left of the nodes
-pub moves_by : (c : Core) (o : ℕ) (arena : ArenaView) → StateInvariant c → LeavesNodes o c.arena arena → ChangesArena (shown c) o arena
+pub moves_by : (c : Core) (least o : ℕ) (arena : ArenaView) → StateInvariant c → LeavesNodes least o c.arena arena → ChangesArena (shown c) o arena
     → content_of arena ≡ content_of c.arena → MovesNoPair c o arena
-moves_by c o arena h leaves changes contents = record {
+moves_by c least o arena h leaves changes contents = record {
   changes = changes;
   contents = contents;
-  touches = touches o c.arena arena leaves;
-  stood = stood o c.arena arena leaves;
-  versions = versions o c.arena arena leaves c.steps h.versions;
-  deleted = deleted o c.arena arena leaves h.deleted;
+  touches = touches least o c.arena arena leaves;
+  stood = stood least o c.arena arena leaves;
+  versions = versions least o c.arena arena leaves c.steps h.versions;
+  deleted = deleted least o c.arena arena leaves h.deleted;
   taken_out = retires_given c.steps c.arena.retired arena.retired h.late leaves.retired;
-  takes = takes o c.arena arena leaves;
-  makes = makes o c.arena arena leaves;
+  takes = takes least o c.arena arena leaves;
+  makes = makes least o c.arena arena leaves;
 }

@@ -1,12 +1,12 @@
 -- What the steps of a climb leave of all nodes, by what their calls ensure, and where they lead: for `climb_done`.
 use Rattle.mt_arena.specs.{Accesses.{IsHeld, at, tree_of, nodes_with_half, with_half_at, with_node}, Arena.ArenaView, Edits.{again, again_half, fresh_half, inserting, locked, placed, pointed, splitting}}
-use Rattle.mt_arena.specs.{Idle.{AreRetired, RetiredPlaces, chosen, given_border, given_interior, number_of}, Given.AreForgotten}
+use Rattle.mt_arena.specs.{declared.retired.Retired.Retired, Idle.{AreRetired, RetiredPlaces, chosen, given_border, given_interior, number_of}, Given.AreForgotten}
 use Rattle.mt_arena.proofs.{Giving.{chosen_inner, chosen_place, steps_from_none}, Pairs.here}
 use Rattle.mt_arena.specs.{Forests.{no_tree, tree_at}, Growth.{left_below, right_below}, NodeView.{NodeView, node_at}}
 use Rattle.mt_arena.specs.{Several.{halves_below, interior_number, parts_left, top_over, with_parts_at, with_right, with_root_at}, Splits.{exact, inner_left, inner_right, with_child}, declared.tree.Tree.Tree}
-use Rattle.mt_state.proofs.Giving.{GivesFirsts, gives_border, gives_interior}
+use Rattle.mt_state.proofs.Giving.{GivesFirsts, makes_none, gives_border, gives_interior}
 use Rattle.mt_state.proofs.Climbing.{ComesAgain, IsBare, LeavesNodes, Stays, each_pushed, each_set, leaves_set, pushed_at, stays_same}
-use Rattle.mt_state.specs.Phases.{GoesAbove, ScanStep, LeadsTo}
+use Rattle.mt_state.specs.{Phases.{GoesAbove, ScanStep, LeadsTo}, Given.idle_of}
 use Rattle.mt_insert.specs.SplitEdits.{after_reparent, for_parent, with_parent}
 use Rattle.mt_insert.specs.KeptSplits.{HasSplits, IsAtInsertChild, IsAtInteriorSplit, IsAtLockParent, IsAtParent, IsAtRootGrow, IsAtSplitPrev, KeptSplit, last_of}
 use Rattle.mt_insert.specs.Climbs.{IsClimbFrom, IsInsertChild, IsLockParent, IsReparent, IsSplitPrev, KeepsSplits, MakesSplits}
@@ -23,9 +23,9 @@ use Rattle.std.specs.Prelude.{if◌then◌else◌}
 use Rattle.mt_rows.specs.Rows.{Bytes}
 
 -- another node before one and another parent of it
-leaves_pointed : (op : ℕ) (old : ArenaView) (k : ℕ) (previous parent : Option ℕ) → LeavesNodes op old (with_node old k (pointed (at old k) previous parent))
-leaves_pointed op old k previous parent =
-    leaves_set op old (set old.nodes k (pointed (at old k) previous parent)) (length-set old.nodes k (pointed (at old k) previous parent))
+leaves_pointed : (least op : ℕ) (old : ArenaView) (k : ℕ) (previous parent : Option ℕ) → LeavesNodes least op old (with_node old k (pointed (at old k) previous parent))
+leaves_pointed least op old k previous parent =
+    leaves_set least op old (set old.nodes k (pointed (at old k) previous parent)) (length-set old.nodes k (pointed (at old k) previous parent))
     (each_set (λ j n. Stays op (at old j) n) old.nodes k (pointed (at old k) previous parent) (λ j lt. stays_same op (at old j))
     (record { slots = refl; tree = refl; level = refl; deleted = refl; inserts = refl; splits = refl; touched = inr (inr refl); taken = λ held. inl held }))
 
@@ -44,8 +44,9 @@ module _ (o : ℕ) (old : ArenaView) (zs : List NodeView) (size : length zs ≡ 
   abbrev over : List NodeView → List Tree → RetiredPlaces → ArenaView
   over nodes trees gone = record { nodes = nodes; trees = trees; retired = gone }
 
-  one_pushed : (n : NodeView) (trees : List Tree) (gone : RetiredPlaces) → IsBare n → LeavesTrees old trees gone → LeavesNodes o old (over (zs ++ n ∷ []) trees gone)
-  one_pushed n trees gone bare t = record {
+  one_pushed : (least : ℕ) (n : NodeView) (trees : List Tree) (gone : RetiredPlaces) → chosen (idle_of n old.retired) least ≡ None → IsBare n → LeavesTrees old trees gone
+      → LeavesNodes least o old (over (zs ++ n ∷ []) trees gone)
+  one_pushed least n trees gone none bare t = record {
     more = omega (arith, size, length-append zs (n ∷ []));
     each = λ k lt. inl (each_pushed (λ i m. Stays o (at old i) m) (length old.nodes) zs n size stays k lt);
     fresh = λ k from lt. subst IsBare (sym (pushed_at zs n (length old.nodes) k size from lt)) bare;
@@ -54,11 +55,15 @@ module _ (o : ℕ) (old : ArenaView) (zs : List NodeView) (size : length zs ≡ 
     standing = t.standing;
     one = omega (arith, size, length-append zs (n ∷ []));
     retired = t.lists;
+    last = record {
+      nodes = λ k from lt. ap (λ (m : NodeView). chosen (idle_of m old.retired) least) (pushed_at zs n (length old.nodes) k size from lt) ∙ none;
+      trees = λ more. absurd (omega (arith, more, t.count));
+    };
   }
 
-  one_again : (p : ℕ) (n : NodeView) (trees : List Tree) (gone : RetiredPlaces) → ComesAgain (at old p) n → LeavesTrees old trees gone
-      → LeavesNodes o old (over (set zs p n) trees gone)
-  one_again p n trees gone comes t =
+  one_again : (least p : ℕ) (n : NodeView) (trees : List Tree) (gone : RetiredPlaces) → ComesAgain (at old p) n → LeavesTrees old trees gone
+      → LeavesNodes least o old (over (set zs p n) trees gone)
+  one_again least p n trees gone comes t =
       let all = length-set zs p n ∙ size in
       record {
         more = omega (arith, all);
@@ -70,6 +75,7 @@ module _ (o : ℕ) (old : ArenaView) (zs : List NodeView) (size : length zs ≡ 
         standing = t.standing;
         one = omega (arith, all);
         retired = t.lists;
+        last = makes_none least old (over (set zs p n) trees gone) all t.count;
       }
 
   -- no node that stays comes again
@@ -102,18 +108,21 @@ size_two xs i j y z = length-set (set xs i y) j z ∙ length-set xs i y
 
 -- an interior node more, in the place that is chosen by this step, or else in a new one
 pub placed_leaves : (least op : ℕ) (old : ArenaView) (zs : List NodeView) (n : NodeView) (trees : List Tree) → length zs ≡ length old.nodes
-    → ((k : ℕ) → k < length old.nodes → Stays op (at old k) (node_at zs k)) → IsBare n → LeavesTrees old trees (given_interior old.retired least)
+    → ((k : ℕ) → k < length old.nodes → Stays op (at old k) (node_at zs k)) → n.version.border ≡ false → IsBare n → LeavesTrees old trees (given_interior old.retired least)
     → AreRetired old.nodes old.trees old.retired → AreForgotten least old
-    → LeavesNodes op old (record { nodes = placed (chosen old.retired.interiors least) zs n; trees = trees; retired = given_interior old.retired least })
-placed_leaves least op old zs n trees size stays bare t retired forgotten = by (chosen old.retired.interiors least) refl
+    → LeavesNodes least op old (record { nodes = placed (chosen old.retired.interiors least) zs n; trees = trees; retired = given_interior old.retired least })
+placed_leaves least op old zs n trees size stays inner bare t retired forgotten = by (chosen old.retired.interiors least) refl
   where
+    idle_by : Bool → List Retired
+    idle_by b = if b then old.retired.borders else old.retired.interiors
+
     by : (place : Option ℕ) → chosen old.retired.interiors least ≡ place
-        → LeavesNodes op old (record { nodes = placed place zs n; trees = trees; retired = given_interior old.retired least })
-    by None none = one_pushed op old zs size stays n trees (given_interior old.retired least) bare t
+        → LeavesNodes least op old (record { nodes = placed place zs n; trees = trees; retired = given_interior old.retired least })
+    by None none = one_pushed op old zs size stays least n trees (given_interior old.retired least) (ap (λ (b : Bool). chosen (idle_by b) least) inner ∙ none) bare t
     by (Some p) is =
         let vacant = chosen_inner old least p retired is forgotten in
         let kept = stays p vacant.there in
-        one_again op old zs size stays p (again (node_at zs p) n) trees (given_interior old.retired least)
+        one_again op old zs size stays least p (again (node_at zs p) n) trees (given_interior old.retired least)
         (record { out = vacant.out; free = vacant.free; slots = bare.slots; live = refl; inserts = kept.inserts; splits = ap (λ k. k + 1) kept.splits }) t
 
 -- it has this number there, with the children that it has
@@ -143,12 +152,12 @@ module _ (op : ℕ) (old new : ArenaView) (before after : Walk) (s t : Splits) w
   q = (last_of s).right
 
   -- the node behind a right half names it
-  pub named_leaves : IsAtSplitPrev old op s → IsSplitPrev op old new before after s t → LeavesNodes op old new
-  named_leaves kept c = by (at old q).next refl
+  pub named_leaves : (least : ℕ) → IsAtSplitPrev old op s → IsSplitPrev op old new before after s t → LeavesNodes least op old new
+  named_leaves least kept c = by (at old q).next refl
     where
-      by : (next : Option ℕ) → (at old q).next ≡ next → LeavesNodes op old new
+      by : (next : Option ℕ) → (at old q).next ≡ next → LeavesNodes least op old new
       by None next = absurd (kept.some_next next)
-      by (Some behind) next = subst (LeavesNodes op old) (sym (c.is behind next)) (leaves_pointed op old behind (Some q) (at old behind).parent)
+      by (Some behind) next = subst (LeavesNodes least op old) (sym (c.is behind next)) (leaves_pointed least op old behind (Some q) (at old behind).parent)
 
   -- the parent is locked, and the right half names it
   module _ (kept : IsAtLockParent old op s) (p : ℕ) where
@@ -188,8 +197,8 @@ module _ (op : ℕ) (old new : ArenaView) (before after : Walk) (s t : Splits) w
         taken = λ held. inl kept.named.splits.parted.right.held.holder;
       }
 
-      pub locked_leaves : LeavesNodes op old (with_parent old p q op)
-      locked_leaves = leaves_set op old (set mid.nodes q y) size_locked
+      pub locked_leaves : (least : ℕ) → LeavesNodes least op old (with_parent old p q op)
+      locked_leaves least = leaves_set least op old (set mid.nodes q y) size_locked
           (λ j lt. each_set (λ i n. i < length old.nodes → Stays op (at old i) n) mid.nodes q y (λ i _ within. each_mid i within) (λ _. right_stays) j (omega (arith, lt, size_mid)) lt)
 
   -- the parent that is locked is live
@@ -210,19 +219,19 @@ module _ (op : ℕ) (old new : ArenaView) (before after : Walk) (s t : Splits) w
       by true k = of_parent k.p k.at_parent
       by false k = of_parent k.p k.at_parent
 
-  pub lock_leaves : IsAtLockParent old op s → IsLockParent op old new before after s t → LeavesNodes op old new
-  lock_leaves kept c = by (at old l).parent refl
+  pub lock_leaves : (least : ℕ) → IsAtLockParent old op s → IsLockParent op old new before after s t → LeavesNodes least op old new
+  lock_leaves least kept c = by (at old l).parent refl
     where
-      by : (parent : Option ℕ) → (at old l).parent ≡ parent → LeavesNodes op old new
-      by None none = subst (LeavesNodes op old) (sym (c.root none).0) (leaves_set op old old.nodes refl (λ k lt. stays_same op (at old k)))
-      by (Some p) named = subst (LeavesNodes op old) (sym (c.is p named).1) (locked_leaves kept p (parent_live kept c p named))
+      by : (parent : Option ℕ) → (at old l).parent ≡ parent → LeavesNodes least op old new
+      by None none = subst (LeavesNodes least op old) (sym (c.root none).0) (leaves_set least op old old.nodes refl (λ k lt. stays_same op (at old k)))
+      by (Some p) named = subst (LeavesNodes least op old) (sym (c.is p named).1) (locked_leaves kept p (parent_live kept c p named) least)
 
   -- the parent has room
-  pub inserted_leaves : IsAtInsertChild old op s → IsInsertChild op old new before after s t → LeavesNodes op old new
-  inserted_leaves kept c =
+  pub inserted_leaves : (least : ℕ) → IsAtInsertChild old op s → IsInsertChild op old new before after s t → LeavesNodes least op old new
+  inserted_leaves least kept c =
       let y = with_child (inserting (at old kept.p)) (at old q).low q in
       let z = exact (at old l) in
-      subst (LeavesNodes op old) (sym (c.is kept.p kept.at_parent.above)) (leaves_set op old (with_right old.nodes kept.p l q) (size_two old.nodes kept.p l y z) (each_two op old.nodes kept.p l y z
+      subst (LeavesNodes least op old) (sym (c.is kept.p kept.at_parent.above)) (leaves_set least op old (with_right old.nodes kept.p l q) (size_two old.nodes kept.p l y z) (each_two op old.nodes kept.p l y z
       (record { slots = refl; tree = refl; level = refl; deleted = refl; inserts = refl; splits = refl; touched = inr (inl (inl kept.at_parent.parent.held.holder)); taken = λ held. inl kept.at_parent.parent.held.holder })
       (record { slots = refl; tree = refl; level = refl; deleted = refl; inserts = refl; splits = refl; touched = inr (inl (inl kept.at_parent.named.splits.parted.left.held.holder)); taken = λ held. inl kept.at_parent.named.splits.parted.left.held.holder })))
 
@@ -248,9 +257,9 @@ module _ (op : ℕ) (old new : ArenaView) (before after : Walk) (s t : Splits) w
         (record { slots = refl; tree = refl; level = refl; deleted = refl; inserts = refl; splits = refl; touched = inr (inl (inl kept.at_parent.parent.held.holder)); taken = λ held. inl kept.at_parent.parent.held.holder })
         (record { slots = refl; tree = refl; level = refl; deleted = refl; inserts = refl; splits = refl; touched = inr (inl (inl kept.at_parent.named.splits.parted.left.held.holder)); taken = λ held. inl kept.at_parent.named.splits.parted.left.held.holder })
 
-    pub parts_leaves : (least : ℕ) → AreRetired old.nodes old.trees old.retired → AreForgotten least old → LeavesNodes op old (with_parts_at old p l q least op)
+    pub parts_leaves : (least : ℕ) → AreRetired old.nodes old.trees old.retired → AreForgotten least old → LeavesNodes least op old (with_parts_at old p l q least op)
     parts_leaves least retired forgotten =
-        placed_leaves least op old zs half old.trees size_z parts_stay (record { slots = refl; live = refl; inserts = refl; splits = refl })
+        placed_leaves least op old zs half old.trees size_z parts_stay refl (record { slots = refl; live = refl; inserts = refl; splits = refl })
         (leaves_all_trees old (given_interior old.retired least) (gives_interior old.retired least)) retired forgotten
 
   -- there is none: a root is made
@@ -276,13 +285,13 @@ module _ (op : ℕ) (old new : ArenaView) (before after : Walk) (s t : Splits) w
         | inr other ↦ ap f (get_or-set_other old.trees (at old l).tree t grown no_tree other)
       ]
 
-      pub root_leaves : AreRetired old.nodes old.trees old.retired → AreForgotten least old → LeavesNodes op old (with_root_at old l q least op)
+      pub root_leaves : AreRetired old.nodes old.trees old.retired → AreForgotten least old → LeavesNodes least op old (with_root_at old l q least op)
       root_leaves retired forgotten =
           placed_leaves least op old ws (top_over old.nodes l q op) grown_trees (size_two old.nodes l q (left_below (at old l) top) (right_below (at old q) top))
           (each_two op old.nodes l q (left_below (at old l) top) (right_below (at old q) top)
           (record { slots = refl; tree = refl; level = refl; deleted = refl; inserts = refl; splits = refl; touched = inr (inl (inl kept.at_root.named.splits.parted.left.held.holder)); taken = λ held. inl kept.at_root.named.splits.parted.left.held.holder })
           (record { slots = refl; tree = refl; level = refl; deleted = refl; inserts = refl; splits = refl; touched = inr (inl (inl kept.at_root.named.splits.parted.right.held.holder)); taken = λ held. inl kept.at_root.named.splits.parted.right.held.holder }))
-          (record { slots = refl; live = refl; inserts = refl; splits = refl })
+          refl (record { slots = refl; live = refl; inserts = refl; splits = refl })
           (record {
             count = length-set old.trees (at old l).tree grown;
             prefix = tree_as (λ (t : Tree). t.prefix) refl;
@@ -292,22 +301,22 @@ module _ (op : ℕ) (old new : ArenaView) (before after : Walk) (s t : Splits) w
           retired forgotten
 
   -- a child of a parted parent names the right half
-  pub reparented_leaves : IsReparent op old new before after s t → LeavesNodes op old new
-  reparented_leaves c =
+  pub reparented_leaves : (least : ℕ) → IsReparent op old new before after s t → LeavesNodes least op old new
+  reparented_leaves least c =
       let child = slice_index (at old q).children s.moved in
-      subst (LeavesNodes op old) (sym c.is) (leaves_pointed op old child (at old child).previous (Some q))
+      subst (LeavesNodes least op old) (sym c.is) (leaves_pointed least op old child (at old child).previous (Some q))
 
 -- so each step, by its phase
 pub climb_leaves : (p : Phase) → IsClimb p → (least op : ℕ) (old new : ArenaView) (before after : Walk) (s t : Splits) → AreRetired old.nodes old.trees old.retired
-    → AreForgotten least old → KeptSplit p old op s → IsClimbFrom p least op old new before after s t → LeavesNodes op old new
+    → AreForgotten least old → KeptSplit p old op s → IsClimbFrom p least op old new before after s t → LeavesNodes least op old new
 climb_leaves p i least op old new before after s t retired forgotten =
-    by_climb (λ p. KeptSplit p old op s → IsClimbFrom p least op old new before after s t → LeavesNodes op old new)
-    (named_leaves op old new before after s t)
-    (lock_leaves op old new before after s t)
-    (inserted_leaves op old new before after s t)
-    (λ kept c. subst (LeavesNodes op old) (sym (c.is kept.p kept.at_parent.above)) (parts_leaves op old new before after s t kept least retired forgotten))
-    (λ kept c. reparented_leaves op old new before after s t c)
-    (λ kept c. subst (LeavesNodes op old) (sym c.is) (root_leaves op old new before after s t kept least retired forgotten))
+    by_climb (λ p. KeptSplit p old op s → IsClimbFrom p least op old new before after s t → LeavesNodes least op old new)
+    (named_leaves op old new before after s t least)
+    (lock_leaves op old new before after s t least)
+    (inserted_leaves op old new before after s t least)
+    (λ kept c. subst (LeavesNodes least op old) (sym (c.is kept.p kept.at_parent.above)) (parts_leaves op old new before after s t kept least retired forgotten))
+    (λ kept c. reparented_leaves op old new before after s t least c)
+    (λ kept c. subst (LeavesNodes least op old) (sym c.is) (root_leaves op old new before after s t kept least retired forgotten))
     p i
 
 -- what they do alike, those that make no node among them
@@ -405,17 +414,17 @@ module _ (o : ℕ) (v : ArenaView) (k low least : ℕ) (held : IsHeld v k o) whe
   abbrev with_half_in : Option ℕ → ArenaView
   with_half_in place = record v { nodes = nodes_with_half place v k low o; retired = given_border v.retired least }
 
-  pub begun_leaves : AreRetired v.nodes v.trees v.retired → AreForgotten least v → LeavesNodes o v (with_half_at v k low least o)
+  pub begun_leaves : AreRetired v.nodes v.trees v.retired → AreForgotten least v → LeavesNodes least o v (with_half_at v k low least o)
   begun_leaves retired forgotten = by (chosen v.retired.borders least) refl
     where
       lists : LeavesTrees v v.trees (given_border v.retired least)
       lists = leaves_all_trees v (given_border v.retired least) (gives_border v.retired least)
 
-      by : (place : Option ℕ) → chosen v.retired.borders least ≡ place → LeavesNodes o v (with_half_in place)
-      by None none = one_pushed o v marked marked_size marked_stays (fresh_half (at v k) k low o) v.trees (given_border v.retired least) (record { slots = refl; live = refl; inserts = refl; splits = refl }) lists
+      by : (place : Option ℕ) → chosen v.retired.borders least ≡ place → LeavesNodes least o v (with_half_in place)
+      by None none = one_pushed o v marked marked_size marked_stays least (fresh_half (at v k) k low o) v.trees (given_border v.retired least) none (record { slots = refl; live = refl; inserts = refl; splits = refl }) lists
       by (Some p) is =
           let vacant = chosen_place v least p retired is forgotten in
-          one_again o v marked marked_size marked_stays p (again_half (at v p) (at v k) k low o) v.trees (given_border v.retired least)
+          one_again o v marked marked_size marked_stays least p (again_half (at v p) (at v k) k low o) v.trees (given_border v.retired least)
           (record { out = vacant.out; free = vacant.free; slots = refl; live = refl; inserts = refl; splits = refl }) lists
 
   -- it stands on the level of the other one

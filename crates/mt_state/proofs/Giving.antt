@@ -1,14 +1,15 @@
 -- A step that may give places out: what it makes of the lists, that nobody holds what stands there, and what it leaves to others by that.
 use Rattle.std.proofs.Common.{◌≡◌, ℕ, zero, suc, ◌+◌, ◌<◌, ◌≤◌, ◌⊎◌, inl, inr, List, [], ◌∷◌, length, Bool, true, false, Option, Some, None, refl, sym, ap, subst, ◌∙◌, arith}
 use Rattle.std.specs.Prelude.{◌^◌, nat_le, if◌then◌else◌}
+use Rattle.std.proofs.lemmas.Bool.{le-leb}
 use Rattle.mt_version.specs.Changes.{CanRenew}
-use Rattle.mt_arena.specs.{declared.retired.Retired.Retired, NodeView.NodeView, Idle.{RetiredPlaces, place_of_idle, left_of, given_border, given_interior, given_layer}}
+use Rattle.mt_arena.specs.{declared.retired.Retired.Retired, NodeView.NodeView, Idle.{RetiredPlaces, place_of_idle, chosen, left_of, given_border, given_interior, given_layer}}
 use Rattle.mt_arena.specs.Given.{AreOutUpTo, RisesUpTo, IsOutBy, IsNodeOutBy, IsOutFrom, AreForgotten, MayRenew, StepsFrom, step_of_idle}
 use Rattle.mt_arena.specs.{Arena.{ArenaView, content_of}, Accesses.at}
-use Rattle.mt_operation.specs.{declared.operation.Operation.Operation, Operations.{OperationView, view_of}, Tables.AreBornFrom}
+use Rattle.mt_operation.specs.{declared.operation.Operation.Operation, Operations.{OperationView, view_of}, Tables.{AreBornFrom, IsLeastBirth}}
 use Rattle.mt_descent.specs.KeptBack.{ListsAfter, RetiresAfter}
-use Rattle.mt_state.specs.{Views.{Core, shown}, Given.ChangesArena, KeptBack.{ArenaFacts, Retires}, Invariant.StateInvariant}
-use Rattle.mt_state.proofs.{Growing.after_same, Shown.inside_of}
+use Rattle.mt_state.specs.{Views.{Core, shown}, Given.{ChangesArena, MakesLast, AreAllKeptBack, idle_of}, KeptBack.{ArenaFacts, Retires}, Invariant.StateInvariant}
+use Rattle.mt_state.proofs.{Growing.after_same, Shown.{inside_of, shown_there}}
 
 -- a list is as it was, or without its first place
 abbrev pub IsRest : List Retired → List Retired → Type 0
@@ -114,14 +115,54 @@ module _ (c : Core) (h : StateInvariant c) (facts : ArenaFacts c.arena) (least :
   pub may_renew : MayRenew least c.arena
   may_renew k out = let upto = (h.versions k (node_there k out)).splits in omega (arith, upto, h.few)
 
--- what a step that gives places out leaves to others, and what it makes of the lists
-pub changes_from : (c : Core) (least o : ℕ) (arena : ArenaView) → AreBornFrom c.table least → StepsFrom least o c.arena arena
+-- a new place is made only if none of its kind is chosen
+pub record MakesUnchosen (least : ℕ) (old new : ArenaView) : Type 0 where
+  pub nodes : (k : ℕ) → length old.nodes ≤ k → k < length new.nodes → chosen (idle_of (at new k) old.retired) least ≡ None
+  pub trees : length old.trees < length new.trees → chosen old.retired.trees least ≡ None
+
+pub makes_none : (least : ℕ) (old new : ArenaView) → length new.nodes ≡ length old.nodes → length new.trees ≡ length old.trees → MakesUnchosen least old new
+makes_none least old new nodes trees = record { nodes = λ k from lt. absurd (omega (arith, from, lt, nodes)); trees = λ more. absurd (omega (arith, more, trees)) }
+
+-- if no place of a list is chosen by the least birth, all are kept back
+module _ (c : Core) (least : ℕ) (is_least : IsLeastBirth c.table c.steps least) where
+  unchosen : (r : Retired) (gone : List Retired) → chosen (r ∷ gone) least ≡ None → r.step ≤ least → ⊥
+  unchosen r gone none upto = by (nat_le r.step least) (le-leb r.step least upto) none
+    where
+      by : (b : Bool) → b ≡ true → ◌≡◌ {A = Option ℕ} (if b then Some r.place else None) None → ⊥
+      by true is none = cc
+      by false is none = cc
+
+  all_kept_back : (gone : List Retired) → RisesUpTo c.steps gone → chosen gone least ≡ None → AreAllKeptBack (shown c) gone
+  all_kept_back [] rises none i within all = omega (arith, within)
+  all_kept_back (r ∷ gone) rises none i within all =
+      let out = is_least.greatest (step_of_idle (r ∷ gone) i) (rises.upto i within) (λ q op there. all q (view_of op) (shown_there c.table q op there)) in
+      let first = first_before i within in
+      unchosen r gone none (omega (arith, first, out))
+    where
+      first_before : (i : ℕ) → i < length (r ∷ gone) → r.step ≤ step_of_idle (r ∷ gone) i
+      first_before zero within = omega arith
+      first_before (suc i) within = rises.rises 0 (suc i) (omega arith) within
+
+  makes_last : (arena : ArenaView) → AreOutUpTo c.steps c.arena.retired → MakesUnchosen least c.arena arena → MakesLast (shown c) arena
+  makes_last arena late m = record {
+    nodes = λ k from lt. by_kind (at arena k).version.border (m.nodes k from lt);
+    trees = λ more. all_kept_back c.arena.retired.trees late.trees (m.trees more);
+  }
+    where
+      by_kind : (b : Bool) → chosen (if b then c.arena.retired.borders else c.arena.retired.interiors) least ≡ None
+          → AreAllKeptBack (shown c) (if b then c.arena.retired.borders else c.arena.retired.interiors)
+      by_kind true none = all_kept_back c.arena.retired.borders late.borders none
+      by_kind false none = all_kept_back c.arena.retired.interiors late.interiors none
+
+-- what a step that gives places out leaves to others, what it makes of the lists, and that it makes none where one may be given out
+pub changes_from : (c : Core) (least o : ℕ) (arena : ArenaView) → AreOutUpTo c.steps c.arena.retired → IsLeastBirth c.table c.steps least
+    → MakesUnchosen least c.arena arena → StepsFrom least o c.arena arena
     → Retires c.steps c.arena.retired arena.retired → ChangesArena (shown c) o arena
-changes_from c least o arena born s out = record {
+changes_from c least o arena late is_least made s out = record {
   mid = record s.mid { retired = arena.retired };
   gives = record {
     least = least;
-    before = λ q view there. let op = inside_of c.table q view there in omega (arith, born q op.0 op.1, ap (λ (v : OperationView). v.birth) op.2);
+    before = λ q view there. let op = inside_of c.table q view there in omega (arith, is_least.below q op.0 op.1, ap (λ (v : OperationView). v.birth) op.2);
     given = record {
       gives = record { count = s.gives.count; tree_count = s.gives.tree_count; nodes = s.gives.nodes; trees = s.gives.trees };
       nodes = λ k from. elim (s.nodes_out k) [
@@ -139,4 +180,5 @@ changes_from c least o arena born s out = record {
   };
   step = record { nodes = s.step.nodes; points = s.step.points; lost = s.step.lost };
   retires = λ birth born. after_same birth arena.retired;
+  last = makes_last c least is_least arena late made;
 }

@@ -3,7 +3,7 @@ use Rattle.std.proofs.{Common.{◌≡◌, ℕ, zero, suc, ◌+◌, ◌<◌, inl,
 use Rattle.mt_arena.specs.{declared.retired.Retired.Retired, NodeView.NodeView, Idle.{RetiredPlaces, with_retired, with_border, with_interior, with_tree}}
 use Rattle.mt_arena.{specs.{Given.{AreOutUpTo, StepsFrom, step_of_idle}, Arena.{ArenaView, Guarantee}, Accesses.with_node}, proofs.Out.upto_later}
 use Rattle.mt_descent.{specs.KeptBack.{ListsAfter, RetiresAfter}, proofs.KeptBack.{lists_same, lists_more}}
-use Rattle.mt_state.specs.{Growth.MakesFew, KeptBack.Retires, Given.{GivesPlaces, ChangesArena}, Views.{StateView, Core, shown}}
+use Rattle.mt_state.specs.{Growth.MakesFew, KeptBack.Retires, Given.{GivesPlaces, MakesLast, ChangesArena}, Views.{StateView, Core, shown}}
 
 -- as many nodes and trees as before
 pub makes_same : (old new : ArenaView) → length new.nodes ≡ length old.nodes → length new.trees ≡ length old.trees → MakesFew old new
@@ -73,6 +73,12 @@ nothing_given v = record {
   lists = λ birth born. after_same birth v.arena.retired;
 }
 
--- so does a step that gives none out
-pub changes_on : (c : Core) (o : ℕ) (arena : ArenaView) → Guarantee o c.arena arena → Retires c.steps c.arena.retired arena.retired → ChangesArena (shown c) o arena
-changes_on c o arena step out = record { mid = c.arena; gives = nothing_given (shown c); step = step; retires = out.after }
+-- none is made
+pub nothing_made : (v : StateView) (new : ArenaView) → length new.nodes ≡ length v.arena.nodes → length new.trees ≡ length v.arena.trees → MakesLast v new
+nothing_made v new nodes trees = record { nodes = λ k from lt. absurd (omega (arith, from, lt, nodes)); trees = λ more. absurd (omega (arith, more, trees)) }
+
+-- so does a step that makes no node and gives no place out
+pub changes_on : (c : Core) (o : ℕ) (arena : ArenaView) → length arena.nodes ≡ length c.arena.nodes → length arena.trees ≡ length c.arena.trees → Guarantee o c.arena arena
+    → Retires c.steps c.arena.retired arena.retired → ChangesArena (shown c) o arena
+changes_on c o arena nodes trees step out =
+    record { mid = c.arena; gives = nothing_given (shown c); step = step; retires = out.after; last = nothing_made (shown c) arena nodes trees }

@@ -12,7 +12,7 @@ use Rattle.mt_operation.specs.Phases.{is_done}
 use Rattle.mt_descent.specs.KeptWalks.{GoesThrough}
 use Rattle.mt_state.specs.{Views.{StateView, op_at, quota_of}, Steps.{HasMoved, change_in}, Notes.Notes, Promises.{IsAnswer, IsStep}, Refused.IsAdmissible}
 use Rattle.mt_state.specs.{Begins.{new_state, begun, Begins, Takes}, Histories.{Names, no_names, BringsTo}, OneGet.one_get}
-use Rattle.mt_state.proofs.{Still.nothing_changes, Growing.{makes_same, nothing_given, after_same}, HistoryStart.{content-new, tenant_map-empty}, HistoryGets.get_absent}
+use Rattle.mt_state.proofs.{Still.nothing_changes, Growing.{makes_same, nothing_given, nothing_made, after_same}, HistoryStart.{content-new, tenant_map-empty}, HistoryGets.get_absent}
 use Rattle.mt_state.proofs.HistoryNew.{nothing_found}
 
 -- one name alone
@@ -74,6 +74,7 @@ module _ (logs : ℕ) (accounts : Accounts) where
       gives = nothing_given (reached n before);
       step = nothing_changes 0 (new_state logs accounts).arena;
       retires = λ birth born. after_same birth no_places;
+      last = nothing_made (reached n before) new_arena refl refl;
     };
     touches = λ k within. inl refl;
     effect = inl (record { contents = refl; entries = refl; change = same });

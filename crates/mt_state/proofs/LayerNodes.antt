@@ -17,8 +17,8 @@ use Rattle.mt_descent.specs.{KeptWalks.walk_place, WalkMoves.Continues}
 use Rattle.mt_held.specs.Holds.{HoldsOnly}
 use Rattle.mt_insert.proofs.InsertingChildren.{at_p}
 use Rattle.mt_layer.specs.{KeptLayers.KeptLayer, NewLayers.{KeepsStamps, entry_below, walk_at}, Builds.{IsLayerFrom, IsMakeLayer, KeepsLayer, BeginsLayer}}
-use Rattle.mt_state.specs.{Promises.{HoldsEither, Touches}, Invariant.{IsCountedUpTo, DeletedAreEmpty}, Phases.{ScanStep, LeadsTo, BeginsTree}, Growth.MakesFew, KeptBack.TakesLive}
-use Rattle.mt_state.proofs.{Growing.{makes_same, makes_set}, Giving.{GivesFirsts, gives_layer, gives_none}, Climbing.{each_set, pushed_at}}
+use Rattle.mt_state.specs.{Promises.{HoldsEither, Touches}, Invariant.{IsCountedUpTo, DeletedAreEmpty}, Phases.{ScanStep, LeadsTo, BeginsTree}, Growth.MakesFew, Given.idle_of, KeptBack.TakesLive}
+use Rattle.mt_state.proofs.{Growing.{makes_same, makes_set}, Giving.{GivesFirsts, MakesUnchosen, makes_none, gives_layer, gives_none}, Climbing.{each_set, pushed_at}}
 
 -- a node's level and its version's counts stay, it is not taken out, and only one that the operation holds is another
 pub record Stays (o : ℕ) (x y : NodeView) : Type 0 where
@@ -50,11 +50,12 @@ pub record IsRoot (n : NodeView) : Type 0 where
   pub splits : n.version.splits ≡ 0
 
 -- all nodes stay so, or a root comes in the place of one that was taken out; those that were added are roots of new trees, and none is taken out
-pub record LeavesNodes (o : ℕ) (old new : ArenaView) : Type 0 where
+pub record LeavesNodes (least o : ℕ) (old new : ArenaView) : Type 0 where
   pub each : (k : ℕ) → k < length old.nodes → Stays o (at old k) (at new k) ⊎ RootAgain (at old k) (at new k)
   pub fresh : (k : ℕ) → length old.nodes ≤ k → k < length new.nodes → IsRoot (at new k)
   pub makes : MakesFew old new
   pub retired : GivesFirsts old.retired new.retired
+  pub last : MakesUnchosen least old new
 
 -- one more at most, in a new place or in an old one
 placed_more : (place : Option ℕ) (zs : List NodeView) (n : NodeView) → (length zs ≤ length (placed place zs n)) × (length (placed place zs n) ≤ length zs + 1)
@@ -67,7 +68,7 @@ trees_more (Some p) ts t = let size = length-set ts p t in (omega (arith, size),
 
 -- so if a tree is made, whose root comes in the place that is chosen by this step, or else in a new one
 made_leaves : (least o : ℕ) (v : ArenaView) (prefix : Bytes) (e : Entry) → AreRetired v.nodes v.trees v.retired → AreForgotten least v
-    → LeavesNodes o v (with_layer_at v prefix e least o)
+    → LeavesNodes least o v (with_layer_at v prefix e least o)
 made_leaves least o v prefix e retired forgotten = record {
   each = by (chosen v.retired.borders least) refl;
   fresh = new (chosen v.retired.borders least);
@@ -76,6 +77,7 @@ made_leaves least o v prefix e retired forgotten = record {
       let trees = trees_more (chosen v.retired.trees least) v.trees (layer_tree prefix (border_number least v) o) in
       record { nodes_stay = nodes.0; one_node = nodes.1; trees_stay = trees.0; one_tree = trees.1 };
   retired = gives_layer v.retired least;
+  last = record { nodes = unchosen (chosen v.retired.borders least) refl; trees = unchosen_tree (chosen v.retired.trees least) refl };
 }
   where
     root : NodeView
@@ -88,6 +90,17 @@ made_leaves least o v prefix e retired forgotten = record {
         let vacant = chosen_place v least p retired is forgotten in
         each_set (λ j n. Stays o (at v j) n ⊎ RootAgain (at v j) n) v.nodes p (again (at v p) root) (λ j _. inl (stays_same o (at v j)))
         (inr (record { out = vacant.out; free = vacant.free; level = refl; live = refl; inserts = refl; splits = refl })) k lt
+
+    unchosen : (place : Option ℕ) → chosen v.retired.borders least ≡ place → (k : ℕ) → length v.nodes ≤ k → k < length (placed place v.nodes root)
+        → chosen (idle_of (node_at (placed place v.nodes root) k) v.retired) least ≡ None
+    unchosen None none k from within =
+        ap (λ (m : NodeView). chosen (idle_of m v.retired) least) (pushed_at v.nodes root (length v.nodes) k refl from within) ∙ none
+    unchosen (Some p) is k from within = absurd (omega (arith, from, within, length-set v.nodes p (again (node_at v.nodes p) root)))
+
+    unchosen_tree : (place : Option ℕ) → chosen v.retired.trees least ≡ place
+        → length v.trees < length (placed_tree place v.trees (layer_tree prefix (border_number least v) o)) → chosen v.retired.trees least ≡ None
+    unchosen_tree None none more = none
+    unchosen_tree (Some t) is more = absurd (omega (arith, more, length-set v.trees t (layer_tree prefix (border_number least v) o)))
 
     new : (place : Option ℕ) (k : ℕ) → length v.nodes ≤ k → k < length (placed place v.nodes root) → IsRoot (node_at (placed place v.nodes root) k)
     new None k from within =
@@ -104,22 +117,29 @@ module _ (o : ℕ) (v : ArenaView) (k i : ℕ) (mine : IsHeld v k o) (live : (at
   held_fresh held j from within = absurd (omega (arith, from, within, length-set v.nodes k (with_held (at v k) i held)))
 
   -- where a slot of the held node holds something else
-  slot_leaves : (held : Held) → LeavesNodes o v (with_slot v k i held)
-  slot_leaves held = record { each = λ j lt. inl (held_each held j lt); fresh = held_fresh held; makes = makes_set v k (with_held (at v k) i held); retired = gives_none v.retired }
+  slot_leaves : (least : ℕ) (held : Held) → LeavesNodes least o v (with_slot v k i held)
+  slot_leaves least held = record {
+    each = λ j lt. inl (held_each held j lt);
+    fresh = held_fresh held;
+    makes = makes_set v k (with_held (at v k) i held);
+    retired = gives_none v.retired;
+    last = makes_none least v (with_slot v k i held) (length-set v.nodes k (with_held (at v k) i held)) refl;
+  }
 
   -- and where it is a link to a tree, which is live
-  link_leaves : (t : ℕ) → LeavesNodes o v (with_link v k i t)
-  link_leaves t = record {
+  link_leaves : (least t : ℕ) → LeavesNodes least o v (with_link v k i t)
+  link_leaves least t = record {
     each = λ j lt. inl (held_each (LinkTo t) j lt);
     fresh = held_fresh (LinkTo t);
     makes = makes_same v (with_link v k i t) (length-set v.nodes k (with_held (at v k) i (LinkTo t))) (length-set v.trees t tree);
     retired = gives_none v.retired;
+    last = makes_none least v (with_link v k i t) (length-set v.nodes k (with_held (at v k) i (LinkTo t))) (length-set v.trees t tree);
   }
     where
       tree : Tree
       tree = record (tree_at v.trees t) { standing = Live }
 
-module _ (o : ℕ) (old new : ArenaView) (l : LeavesNodes o old new) where
+module _ (least o : ℕ) (old new : ArenaView) (l : LeavesNodes least o old new) where
   touches : Touches o old new
   touches k lt = elim (l.each k lt) [
     | inl n ↦ elim n.touched [
@@ -173,19 +193,20 @@ pub record BuildsLayer (least o : ℕ) (old new : ArenaView) (key : Bytes) (befo
   pub kept : KeptLayer after.phase new o key after
   pub holds : HoldsOnly old o before.place.node → HoldsOnly new o after.place.node
   pub makes : MakesFew old new
+  pub last : MakesUnchosen least old new
   pub takes : TakesLive o old new
 
 -- what is left, by the phase
 pub layer_leaves : (p : Phase) → IsLayerPhase p → (least o : ℕ) (key : Bytes) (old new : ArenaView) (before after : Walk) → AreRetired old.nodes old.trees old.retired
-    → AreForgotten least old → KeptLayer p old o key before → IsLayerFrom p least o key old new before after → LeavesNodes o old new
+    → AreForgotten least old → KeptLayer p old o key before → IsLayerFrom p least o key old new before after → LeavesNodes least o old new
 layer_leaves MakeLayer i least o key old new before after retired forgotten kept b =
-    subst (LeavesNodes o old) (sym (b.is kept.pair kept.stable)) (made_leaves least o old (prefix_below old before.place.node (walk_place old before)) (entry_below kept.pair) retired forgotten)
+    subst (LeavesNodes least o old) (sym (b.is kept.pair kept.stable)) (made_leaves least o old (prefix_below old before.place.node (walk_place old before)) (entry_below kept.pair) retired forgotten)
 layer_leaves MarkUnstable i least o key old new before after retired forgotten kept b =
-    subst (LeavesNodes o old) (sym (b.is kept.pair kept.makes.layer.slot.is)) (slot_leaves o old before.place.node (walk_place old before) kept.makes.layer.slot.held kept.makes.layer.slot.live (Unstable kept.pair None))
+    subst (LeavesNodes least o old) (sym (b.is kept.pair kept.makes.layer.slot.is)) (slot_leaves o old before.place.node (walk_place old before) kept.makes.layer.slot.held kept.makes.layer.slot.live least (Unstable kept.pair None))
 layer_leaves Link i least o key old new before after retired forgotten kept b =
-    subst (LeavesNodes o old) (sym (b.is kept.pair kept.tree kept.makes.taken kept.makes.layer.slot.is)) (slot_leaves o old before.place.node (walk_place old before) kept.makes.layer.slot.held kept.makes.layer.slot.live (Unstable kept.pair (Some kept.tree)))
+    subst (LeavesNodes least o old) (sym (b.is kept.pair kept.tree kept.makes.taken kept.makes.layer.slot.is)) (slot_leaves o old before.place.node (walk_place old before) kept.makes.layer.slot.held kept.makes.layer.slot.live least (Unstable kept.pair (Some kept.tree)))
 layer_leaves MarkLayer i least o key old new before after retired forgotten kept b =
-    subst (LeavesNodes o old) (sym (b.is kept.tree kept.makes.taken)) (link_leaves o old before.place.node (walk_place old before) kept.makes.layer.slot.held kept.makes.layer.slot.live kept.tree)
+    subst (LeavesNodes least o old) (sym (b.is kept.tree kept.makes.taken)) (link_leaves o old before.place.node (walk_place old before) kept.makes.layer.slot.held kept.makes.layer.slot.live least kept.tree)
 layer_leaves _ i least o key old new before after retired forgotten kept b = absurd i
 
 -- what they do alike, those that make no tree among them
@@ -288,10 +309,10 @@ builds_by p i least o key old new before after at_p retired forgotten kept b =
     record {
       steps = on.steps;
       contents = on.contents;
-      touches = touches o old new leaves;
+      touches = touches least o old new leaves;
       stamps = on.stamps;
-      versions = versions o old new leaves;
-      deleted = deleted o old new leaves;
+      versions = versions least o old new leaves;
+      deleted = deleted least o old new leaves;
       retired = leaves.retired;
       follows = subst (λ (q : Phase). MayFollow q after.phase) (sym at_p) (subst (MayFollow p) (sym goes.at) next.0);
       on = λ done. next.1 (sym goes.at ∙ done);
@@ -300,5 +321,6 @@ builds_by p i least o key old new before after at_p retired forgotten kept b =
       kept = subst (λ (q : Phase). KeptLayer q new o key after) (sym goes.at) (kept_next p i least o key old new before after kept b);
       holds = on.holds;
       makes = leaves.makes;
-      takes = takes o old new leaves;
+      last = leaves.last;
+      takes = takes least o old new leaves;
     }

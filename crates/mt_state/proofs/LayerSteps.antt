@@ -11,7 +11,7 @@ use Rattle.mt_operation.specs.{declared.phase.Phase.TheVariants.{Enter, Judge, M
 use Rattle.mt_operation.specs.{declared.outcome.Outcome.Outcome, declared.splits.Halves.Halves, declared.operation.Operation.Operation}
 use Rattle.mt_operation.specs.Operations.{OperationView, view_of, IsUnsplit}
 use Rattle.mt_operation.specs.Phases.{is_done, MayFollow, IsOfKind, has_splits, IsLayerPhase, FitsAim, IsLayerKind, Kind, change_at, holds_of, may_be_parts, row, is_unplaced}
-use Rattle.mt_operation.specs.{Tasks.ask, Tables.{AreBornFrom, op_at as operation_at}}
+use Rattle.mt_operation.specs.{Tasks.ask, Tables.{IsLeastBirth, op_at as operation_at}}
 use Rattle.mt_remove.specs.Writes.{is_remove}
 use Rattle.mt_descent.specs.{KeptWalks.{IsAtEnter, KeptAt, walk_place}, WalkMoves.KeepsPairs}
 use Rattle.mt_insert.specs.{KeptPuts.IsAtMakeLayer, Judge.MeetsOther}
@@ -337,7 +337,7 @@ module _ (c : Core) (o : ℕ) (h : StateInvariant c) (few : c.steps < 2 ^ 59) (o
         MakeLayer Done at_make (ap (λ (x : Walk). x.phase) t.walk) refl tt tt tt t.keeps.same.aim tt (sym (ap told_change making.untold)) refl own (λ facts. tt) (unsplit_at MakeLayer at_make refl)
 
   -- a layer comes one step nearer
-  module _ (arena : ArenaView) (w : Walk) (least : ℕ) (facts : ArenaFacts c.arena) (born : AreBornFrom c.table least) (layer : IsLayerPhase op.walk.phase)
+  module _ (arena : ArenaView) (w : Walk) (least : ℕ) (facts : ArenaFacts c.arena) (is_least : IsLeastBirth c.table c.steps least) (layer : IsLayerPhase op.walk.phase)
       (from : IsLayerFrom op.walk.phase least o op.task.key c.arena arena op.walk w) where
     abbrev built : Operation
     built = went op (c.steps + 1) w op.outcome op.prepared
@@ -349,7 +349,7 @@ module _ (c : Core) (o : ℕ) (h : StateInvariant c) (few : c.steps < 2 ^ 59) (o
     layering = layer_kept op.walk.phase layer c o op (h.ops o op there).kept
 
     t : BuildsLayer least o c.arena arena op.task.key op.walk w
-    t = builds_by op.walk.phase layer least o op.task.key c.arena arena op.walk w refl facts.retired (are_forgotten c h facts least born) layering.makes from
+    t = builds_by op.walk.phase layer least o op.task.key c.arena arena op.walk w refl facts.retired (are_forgotten c h facts least is_least.below) layering.makes from
 
     build_lists : Retires c.steps c.arena.retired arena.retired
     build_lists = retires_given c.steps c.arena.retired arena.retired h.late t.retired
@@ -361,7 +361,7 @@ module _ (c : Core) (o : ℕ) (h : StateInvariant c) (few : c.steps < 2 ^ 59) (o
     unsplit = unsplit_at op.walk.phase refl (layer_unsplit op.walk.phase layer)
 
     build_changes : ChangesArena (shown c) o arena
-    build_changes = changes_from c least o arena born t.steps build_lists
+    build_changes = changes_from c least o arena h.late is_least t.last t.steps build_lists
 
     build_guarantee : StateGuarantee c building o
     build_guarantee = record {

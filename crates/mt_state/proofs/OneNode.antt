@@ -156,7 +156,7 @@ module _ (c : Core) (o : ℕ) (h : StateInvariant c) (k : ℕ) (within : k < len
       → (n.holder ≡ Some o → ((at c.arena k).holder ≡ Some o) ⊎ ((at c.arena k).version.deleted ≡ false))
       → Guarantee o c.arena (with_node c.arena k n) → content_of (with_node c.arena k n) ≡ content_of c.arena → LeavesPairs c o (with_node c.arena k n)
   replaced_leaves slots tree deleted counted takes guarantee contents = record {
-    changes = changes_on c o (with_node c.arena k n) guarantee (retires_same c (with_node c.arena k n) h.late refl);
+    changes = changes_on c o (with_node c.arena k n) (length-set c.arena.nodes k n) refl guarantee (retires_same c (with_node c.arena k n) h.late refl);
     contents = contents;
     stood = λ j inside is_counted. inl (stood j inside is_counted);
     versions = replaced_versions counted;

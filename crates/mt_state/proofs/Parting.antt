@@ -129,7 +129,7 @@ module _ (c : Core) (o : ℕ) (h : StateInvariant c) (few : c.steps < 2 ^ 59) (o
   parted_lists = retires_same c arena h.late (ap (λ (v : ArenaView). v.retired) p.nodes_alone)
 
   parted_changes : ChangesArena (shown c) o arena
-  parted_changes = changes_on c o arena p.guarantee parted_lists
+  parted_changes = changes_on c o arena size (ap (λ (ts : List Tree). length ts) trees) p.guarantee parted_lists
 
   -- no lock is taken
   parted_takes : TakesLive o c.arena arena

@@ -1,6 +1,6 @@
 -- The steps that place a put: it stores a row over the one of its key, or makes a new pair live.
 use Rattle.std.proofs.Common.{◌≡◌, ◌≢◌, ℕ, ◌+◌, ◌<◌, inl, inr, Bool, true, false, cond, List, length, set, Option, Some, None, is_some, refl, sym, ap, subst, ◌∙◌, arith, Bool}
-use Rattle.std.proofs.{lemmas.Bool.{cases_eq, both_ways}, lemmas.Option.{none-some, same_Some}, lemmas.List.Elements.All-from_get_or}
+use Rattle.std.proofs.{lemmas.Bool.{cases_eq, both_ways}, lemmas.Option.{none-some, same_Some}, lemmas.List.{length-set, Elements.All-from_get_or}}
 use Rattle.std.specs.{Prelude.{◌^◌}, Option.option_map, List.All, FinMap.{get, len, insert}}
 use Rattle.mt_slices.specs.Slices.{suffix_of}
 use Rattle.mt_rows.specs.{declared.reply.Reply.Reply, declared.reply.Reply.TheVariants.{New, Replaced}, declared.tenants.Account.Account, Rows.{Bytes, Columns}}
@@ -180,7 +180,7 @@ module _ (c : Core) (now : StateView) (o : ℕ) (is : shown c ≡ now) (h : Stat
         (stamps : AllStamped (IsStampOf c.steps c.tape) (tree_of c.arena k).prefix n.slots → AllStamped (IsStampOf (c.steps + 1) (pushed c.tape (next_write c op))) (tree_of c.arena k).prefix slots) where
       places_pair : PlacesPair c o op the_after the_arena accounts
       places_pair = record {
-        changes = changes_on c o (with_node c.arena k y) guarantee (retires_same c (with_node c.arena k y) h.late refl);
+        changes = changes_on c o (with_node c.arena k y) (length-set c.arena.nodes k y) refl guarantee (retires_same c (with_node c.arena k y) h.late refl);
         contents = contents;
         stamps = λ j inside is_counted.
             let r = replaced_at c.arena k within y j inside in

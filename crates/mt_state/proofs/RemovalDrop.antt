@@ -173,7 +173,7 @@ module _ (c : Core) (o : ℕ) (h : StateInvariant c) (few : c.steps < 2 ^ 59) (o
 
   places : Places c o write after arena accounts
   places = record {
-    changes = changes_on c o arena t.guarantee (retires_same c arena h.late (ap (λ (v : ArenaView). v.retired) t.is));
+    changes = changes_on c o arena leaves.count leaves.trees t.guarantee (retires_same c arena h.late (ap (λ (v : ArenaView). v.retired) t.is));
     contents = t.places.contents;
     stamps = stamps;
     versions = versions c o h arena leaves;

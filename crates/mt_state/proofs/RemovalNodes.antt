@@ -94,7 +94,7 @@ module _ (c : Core) (o : ℕ) (h : StateInvariant c) (new : ArenaView) (l : Leav
   -- what a step of a removal leaves
   pub removal_leaves : Guarantee o c.arena new → content_of new ≡ content_of c.arena → Retires c.steps c.arena.retired new.retired → LeavesPairs c o new
   removal_leaves guarantee contents taken_out = record {
-    changes = changes_on c o new guarantee taken_out;
+    changes = changes_on c o new l.count l.trees guarantee taken_out;
     contents = contents;
     stood = λ k within counted. inl (stood k within counted);
     versions = versions;

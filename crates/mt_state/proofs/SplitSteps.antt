@@ -11,7 +11,7 @@ use Rattle.mt_operation.specs.declared.phase.Phase.TheVariants.{Enter, SplitStar
 use Rattle.mt_operation.specs.{declared.walk.Walk.Walk, declared.outcome.Outcome.Outcome, declared.splits.Halves.Halves, declared.splits.Splits.Splits}
 use Rattle.mt_operation.specs.{declared.operation.Operation.Operation, Operations.{OperationView, view_of}}
 use Rattle.mt_operation.specs.Phases.{is_done, MayFollow, IsOfKind, has_splits, IsClimb, FitsAim, IsClimbKind, Kind, change_at, holds_of, may_be_parts, row, is_unplaced, is_to_come}
-use Rattle.mt_operation.specs.{Tasks.ask, Tables.{AreBornFrom, op_at as operation_at}, declared.prepared.Prepared.Prepared}
+use Rattle.mt_operation.specs.{Tasks.ask, Tables.{IsLeastBirth, op_at as operation_at}, declared.prepared.Prepared.Prepared}
 use Rattle.mt_operation.proofs.Phases.{by_climb}
 use Rattle.mt_remove.specs.Writes.{is_remove}
 use Rattle.mt_held.specs.{Taping.released, Holds.HoldsOnly, Moves.walk_at}
@@ -278,7 +278,7 @@ module _ (c : Core) (o : ℕ) (h : StateInvariant c) (arena : ArenaView) where
 
     pub returned_leaves : Guarantee o c.arena arena → content_of arena ≡ content_of c.arena → arena.retired ≡ c.arena.retired → LeavesPairs c o arena
     returned_leaves guarantee contents retired = record {
-      changes = changes_on c o arena guarantee (retires_same c arena h.late retired);
+      changes = changes_on c o arena count (ap (λ (ts : List Tree). length ts) trees) guarantee (retires_same c arena h.late retired);
       contents = contents;
       stood = λ k inside counted. inl (stood k inside counted);
       versions = returned_versions;
@@ -358,15 +358,15 @@ module _ (c : Core) (o : ℕ) (h : StateInvariant c) (few : c.steps < 2 ^ 59) (o
   holds_among climb k within held =
       climb_among op.walk.phase climb op k (holds_here c (shown c) o refl h few op there op.walk.phase refl k within held)
 
-  pub climb_done : (arena : ArenaView) (w : Walk) (s : Splits) (least : ℕ) → ArenaFacts c.arena → AreBornFrom c.table least → IsClimb op.walk.phase
+  pub climb_done : (arena : ArenaView) (w : Walk) (s : Splits) (least : ℕ) → ArenaFacts c.arena → IsLeastBirth c.table c.steps least → IsClimb op.walk.phase
       → IsClimbFrom op.walk.phase least o c.arena arena op.walk w op.splits s
       → Gives (shown c) (splitting c arena c.tape c.accounts o op w op.outcome op.prepared s) o false
-  climb_done arena w s least facts born climb t =
+  climb_done arena w s least facts is_least climb t =
       let kept = (climbing climb).climbs in
       let on = climb_makes op.walk.phase climb least o c.arena arena op.walk w op.splits s t in
-      let leaves = climb_leaves op.walk.phase climb least o c.arena arena op.walk w op.splits s facts.retired (are_forgotten c h facts least born) kept t in
+      let leaves = climb_leaves op.walk.phase climb least o c.arena arena op.walk w op.splits s facts.retired (are_forgotten c h facts least is_least.below) kept t in
       climbed_done arena w s climb (record {
-        moves = moves_by c o arena h leaves (changes_from c least o arena born on.steps (retires_given c.steps c.arena.retired arena.retired h.late leaves.retired)) on.contents;
+        moves = moves_by c least o arena h leaves (changes_from c least o arena h.late is_least leaves.last on.steps (retires_given c.steps c.arena.retired arena.retired h.late leaves.retired)) on.contents;
         follows = climb_follows op.walk.phase climb least o c.arena arena op.walk w op.splits s t;
         same = on.same;
         kept = on.kept;
@@ -415,16 +415,16 @@ module _ (c : Core) (o : ℕ) (h : StateInvariant c) (few : c.steps < 2 ^ 59) (o
     start_only : HoldsOnly c.arena o op.walk.place.node
     start_only j within holds = holds_here c (shown c) o refl h few op there SplitStart at_start j within holds
 
-    pub start_done : (arena : ArenaView) (tape : Kept) (w : Walk) (s : Splits) (least : ℕ) → ArenaFacts c.arena → AreBornFrom c.table least
+    pub start_done : (arena : ArenaView) (tape : Kept) (w : Walk) (s : Splits) (least : ℕ) → ArenaFacts c.arena → IsLeastBirth c.table c.steps least
         → IsSplitStart least o op.task.key c.arena arena c.tape tape op.walk w op.splits s
         → Gives (shown c) (splitting c arena tape c.accounts o op w op.outcome op.prepared s) o false
-    start_done arena tape w s least facts born t =
-        let leaves : LeavesNodes o c.arena arena = subst (LeavesNodes o c.arena) (sym t.is.is)
-        (begun_leaves o c.arena op.walk.place.node t.is.low least starting.starts.holds.judged.held facts.retired (are_forgotten c h facts least born)) in
-        let changes = changes_from c least o arena born t.steps (retires_given c.steps c.arena.retired arena.retired h.late leaves.retired) in
+    start_done arena tape w s least facts is_least t =
+        let leaves : LeavesNodes least o c.arena arena = subst (LeavesNodes least o c.arena) (sym t.is.is)
+        (begun_leaves o c.arena op.walk.place.node t.is.low least starting.starts.holds.judged.held facts.retired (are_forgotten c h facts least is_least.below)) in
+        let changes = changes_from c least o arena h.late is_least leaves.last t.steps (retires_given c.steps c.arena.retired arena.retired h.late leaves.retired) in
         subst (λ (tape : Kept). Gives (shown c) (splitting c arena tape c.accounts o op w op.outcome op.prepared s) o false) (sym t.tape_stays)
         (started_done arena w s (record {
-          moves = moves_by c o arena h leaves changes t.contents;
+          moves = moves_by c least o arena h leaves changes t.contents;
           walk = t.walk;
           same = t.same;
           kept =

@@ -31,7 +31,7 @@ nothing_changes o v = record {
 
 pub leaves_all : (c : Core) (o : ℕ) → StateInvariant c → LeavesPairs c o c.arena
 leaves_all c o h = record {
-  changes = changes_on c o c.arena (nothing_changes o c.arena) (retires_same c c.arena h.late refl);
+  changes = changes_on c o c.arena refl refl (nothing_changes o c.arena) (retires_same c c.arena h.late refl);
   contents = refl;
   stood = λ k within counted. inl (record { there = within; counted = counted; prefix = refl; slots = λ i inside. (i, inside, refl) });
   versions = λ k within. let was = h.versions k within in record { inserts = omega (arith, was.inserts); splits = omega (arith, was.splits) };

@@ -1,6 +1,7 @@
 -- What a step that gives places out has to leave as it was for an operation: the places that it remembers at its phase.
-use Rattle.std.specs.Prelude.{◌≡◌, ℕ, ◌≤◌, Some}
-use Rattle.mt_arena.specs.{Forests.tree_at, Arena.{ArenaView, Guarantee, content_of}, Given.GivesOutBeside}
+use Rattle.std.specs.Prelude.{◌≡◌, ℕ, ◌<◌, ◌≤◌, if◌then◌else◌, List, length, Some}
+use Rattle.mt_arena.specs.{declared.retired.Retired.Retired, NodeView.NodeView, Idle.RetiredPlaces, Accesses.at}
+use Rattle.mt_arena.specs.{Forests.tree_at, Arena.{ArenaView, Guarantee, content_of}, Given.{GivesOutBeside, step_of_idle}}
 use Rattle.mt_operation.specs.{declared.phase.Phase.Phase, declared.phase.Phase.TheVariants.{Enter, Check, Hop}, declared.operation.Operation.Operation, Phases.{Kind, row}}
 use Rattle.mt_operation.specs.Operations.{OperationView}
 use Rattle.mt_descent.specs.KeptBack.{RetiresAfter, GivesOutBefore}
@@ -48,6 +49,19 @@ pub record GivesPlaces (v : StateView) (mid : ArenaView) : Type 0 where
   pub contents : content_of mid ≡ content_of v.arena
   pub lists : (birth : ℕ) → birth ≤ v.steps → RetiresAfter birth v.arena.retired mid.retired
 
+-- the idle places of a node's kind
+abbrev pub idle_of : NodeView → RetiredPlaces → List Retired
+idle_of n gone = if n.version.border then gone.borders else gone.interiors
+
+-- of each place of the list: an open operation was begun before the step that took it out
+abbrev pub AreAllKeptBack : StateView → List Retired → Type 0
+AreAllKeptBack v gone = (i : ℕ) → i < length gone → ¬ ((q : ℕ) (op : OperationView) → op_at v.table q ≡ Some op → step_of_idle gone i ≤ op.birth)
+
+-- a new place is made only if all idle ones of its kind are kept back
+pub record MakesLast (v : StateView) (new : ArenaView) : Type 0 where
+  pub nodes : (k : ℕ) → length v.arena.nodes ≤ k → k < length new.nodes → AreAllKeptBack v (idle_of (at new k) v.arena.retired)
+  pub trees : length v.arena.trees < length new.trees → AreAllKeptBack v v.arena.retired.trees
+
 -- How a step of operation o changes the arena. First places are given out, and blank nodes come there. From there it goes on as the arena allows, and what it
 -- takes out is listed after the birth of each operation.
 pub record ChangesArena (v : StateView) (o : ℕ) (new : ArenaView) : Type 0 where
@@ -55,3 +69,4 @@ pub record ChangesArena (v : StateView) (o : ℕ) (new : ArenaView) : Type 0 whe
   pub gives : GivesPlaces v mid
   pub step : Guarantee o mid new
   pub retires : (birth : ℕ) → birth ≤ v.steps → RetiresAfter birth mid.retired new.retired
+  pub last : MakesLast v new

@@ -5,7 +5,7 @@ ghost use Rattle.std.specs.Prelude.{◌≡◌, ◌+◌, ◌<◌, ◌^◌, ℕ, t
 ghost use Rattle.mt_rows.specs.declared.reply.Reply.TheVariants.{NoMemory};
 ghost use Rattle.mt_arena.specs.Arena.{ArenaView};
 ghost use Rattle.mt_operation.specs.{declared.phase.Phase.TheVariants.{Judge, MakeLayer, Unlock}, declared.walk.Walk.Walk};
-ghost use Rattle.mt_operation.specs.{declared.operation.Operation.Operation, Tables.{AreBornFrom, op_at as operation_at}, Phases.IsLayerPhase, Tasks.ask};
+ghost use Rattle.mt_operation.specs.{declared.operation.Operation.Operation, Tables.{IsLeastBirth, op_at as operation_at}, Phases.IsLayerPhase, Tasks.ask};
 ghost use Rattle.mt_state.specs.{Views.Core, Invariant.StateInvariant, KeptBack.ArenaFacts, Calls.IsLawful, Writes.wrote};
 ghost use Rattle.mt_layer.specs.Builds.{IsLayerFrom, IsLeave};
 ghost use Rattle.mt_remove.specs.Writes.{is_remove};
@@ -20,7 +20,7 @@ pub fn a_layer_is_a_step()
     ensures meets { (c : Core) (o : ℕ) (op : Operation) (arena : ArenaView) (w : Walk) → StateInvariant c → c.steps < 2 ^ 59 → operation_at c.table o ≡ Some op →
         op.walk.phase ≡ Judge → op.outcome ≡ None → is_remove (ask op.task) ≡ false → MeetsOther o op.task.key c.arena arena op.walk w →
         IsLawful c (wrote c arena c.tape c.accounts o op w op.outcome op.prepared) o false }
-    ensures builds { (c : Core) (o : ℕ) (op : Operation) (arena : ArenaView) (w : Walk) (least : ℕ) → StateInvariant c → ArenaFacts c.arena → AreBornFrom c.table least → c.steps < 2 ^ 59 →
+    ensures builds { (c : Core) (o : ℕ) (op : Operation) (arena : ArenaView) (w : Walk) (least : ℕ) → StateInvariant c → ArenaFacts c.arena → IsLeastBirth c.table c.steps least → c.steps < 2 ^ 59 →
         operation_at c.table o ≡ Some op → IsLayerPhase op.walk.phase → IsLayerFrom op.walk.phase least o op.task.key c.arena arena op.walk w →
         IsLawful c (wrote c arena c.tape c.accounts o op w op.outcome op.prepared) o false }
     ensures stops { (c : Core) (o : ℕ) (op : Operation) (arena : ArenaView) (w : Walk) → StateInvariant c → c.steps < 2 ^ 59 → operation_at c.table o ≡ Some op →

@@ -7,7 +7,7 @@ returns-clause-meets c =
 
 pub returns-clause-builds : goal.returns-clause-builds
 returns-clause-builds c =
-    λ core o op arena w least h facts born few there layer t. let g = build_done core o h few op there arena w least facts born layer t in record { invariant = g.0; step = g.1 }
+    λ core o op arena w least h facts is_least few there layer t. let g = build_done core o h few op there arena w least facts is_least layer t in record { invariant = g.0; step = g.1 }
 
 pub returns-clause-stops : goal.returns-clause-stops
 returns-clause-stops c =

@@ -3,7 +3,7 @@ use Rattle.mt_state.proofs.splits.a_split_is_a_step.Goals as goal
 
 pub returns-clause-starts : goal.returns-clause-starts
 returns-clause-starts c =
-    λ core o op arena tape w s least h facts born few there at_start t. let g = start_done core o h few op there at_start arena tape w s least facts born t in record { invariant = g.0; step = g.1 }
+    λ core o op arena tape w s least h facts is_least few there at_start t. let g = start_done core o h few op there at_start arena tape w s least facts is_least t in record { invariant = g.0; step = g.1 }
 
 pub returns-clause-stops : goal.returns-clause-stops
 returns-clause-stops c =
@@ -11,7 +11,7 @@ returns-clause-stops c =
 
 pub returns-clause-climbs : goal.returns-clause-climbs
 returns-clause-climbs c =
-    λ core o op arena w s least h facts born few there climb t. let g = climb_done core o h few op there arena w s least facts born climb t in record { invariant = g.0; step = g.1 }
+    λ core o op arena w s least h facts is_least few there climb t. let g = climb_done core o h few op there arena w s least facts is_least climb t in record { invariant = g.0; step = g.1 }
 
 pub returns-clause-returns_all : goal.returns-clause-returns_all
 returns-clause-returns_all c =
