@@ -3,7 +3,7 @@ use Rattle.std.specs.Prelude.{◌≡◌, ◌≢◌, ℕ, ◌<◌, ◌⊎◌, ◌
 use Rattle.mt_version.specs.{Parts.{Parts, fresh_parts}, Changes.{unlocked_parts, renewed}}
 use Rattle.mt_order.specs.Places.{order_with, order_without}
 use Rattle.mt_slices.specs.declared.mark.Mark.{Mark}
-use Rattle.mt_border.specs.{declared.entry.Entry.Entry, Held.Held, Restamps.stamped, Slots.{Slotted, held_in, next_free, is_dropped}}
+use Rattle.mt_border.specs.{declared.entry.Entry.Entry, Held.Held, Restamps.stamped, Slots.{Slotted, held_in, helds_left, next_free, is_dropped}}
 use Rattle.mt_arena.specs.NodeView.{NodeView, node_at, no_node}
 
 -- a node with other slots, another version and another holder
@@ -39,7 +39,7 @@ cells_holding cells place held = record cells { helds = slice_set cells.helds (s
 
 -- the cells where the free slot that is taken next holds this
 abbrev pub cells_filled : Slotted → Held → Slotted
-cells_filled cells held = record cells { helds = slice_set cells.helds (next_free cells) held }
+cells_filled cells held = record cells { helds = slice_set (helds_left cells) (next_free cells) held }
 
 -- the cells where that slot is live, at a place of the order, with this entry
 abbrev pub cells_with : Slotted → ℕ → Entry → Slotted

@@ -191,20 +191,19 @@ impl Arena {
         self.nodes[node].set_parent(NodeNumber::of(parent));
     }
 
-    /// Writes what the free slot of a border node holds that is taken next, and gives back what it held.
-    /// Where that slot was ever dropped, the node is marked for readers of its keys before.
-    pub fn fill(&mut self, node: usize, held: Held, operation: usize) -> Held
+    /// Writes what the free slot of a border node holds that is taken next. If that slot was ever dropped,
+    /// the node is marked for readers of its keys before, and all other free slots give up what they hold.
+    pub fn fill(&mut self, node: usize, held: Held, operation: usize)
         requires holds { IsHeld self.old node operation }
         requires mine { IsOpen self.old node operation }
         requires border { (at self.old node).level ≡ 0 }
         requires room { length (at self.old node).slots < SLOTS }
-        ensures before { let cells = (at self.old node).cells in result ≡ held_in cells.helds (next_free cells) }
         ensures is { self.new ≡ with_node self.old node (with_filled (at self.old node) held) }
         ensures there { let cells = (with_filled (at self.old node) held).cells in held_in cells.helds (next_free cells) ≡ held }
         ensures step { Guarantee operation self.old self.new }
         ensures contents { content_of self.new ≡ content_of self.old }
     {
-        self.nodes[node].fill(held)
+        self.nodes[node].fill(held);
     }
 
     /// Makes the slot that was filled live, with the pair of a missing key, placed by the step `stamp`, in

@@ -279,12 +279,11 @@ impl Node {
         }
     }
 
-    /// Writes what the free slot holds that is taken next, and gives back what it held. Where that slot
-    /// was ever dropped, the node is marked for its readers before.
-    pub(crate) fn fill(&mut self, held: Held) -> Held
+    /// Writes what the free slot holds that is taken next. If that slot was ever dropped, the node is
+    /// marked for its readers before, and all other free slots give up what they hold.
+    pub(crate) fn fill(&mut self, held: Held)
         requires border { self.old.level ≡ 0 }
         requires room { length self.old.slots < SLOTS }
-        ensures before { result ≡ held_in self.old.cells.helds (next_free self.old.cells) }
         ensures after { self.new ≡ with_filled self.old held }
         ensures there { held_in self.new.cells.helds (next_free self.new.cells) ≡ held }
         ensures keeps { is_dropped self.old.cells (next_free self.old.cells) ≡ false →

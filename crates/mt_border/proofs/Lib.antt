@@ -3,6 +3,7 @@ pub mod Orders
 pub mod Edits
 pub mod RowEdits
 pub mod Slotting
+pub mod Emptied
 pub mod Writes
 pub mod KeptSlots
 pub mod KeptEntries

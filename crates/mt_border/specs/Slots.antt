@@ -1,5 +1,5 @@
 -- The slots of a node: the slices and the marks of its live ones in the order of keys, and what each of the fifteen holds.
-use Rattle.std.specs.Prelude.{◌≡◌, ℕ, Bool, false, List, [], ◌∷◌, length, take, drop, map, slice_index, slice_index_or}
+use Rattle.std.specs.Prelude.{◌≡◌, ℕ, Bool, false, if◌then◌else◌, List, [], ◌∷◌, length, take, drop, map, slice_index, slice_index_or, slice_set}
 use Rattle.mt_slices.specs.declared.mark.Mark.{Mark}
 use Rattle.mt_order.specs.Places.{Places, IsPlaces, fifteen, fresh_order}
 use Rattle.mt_border.specs.{declared.entry.Entry.Entry, Held.{Held, Link}, Rows.entries_in}
@@ -31,6 +31,15 @@ next_free s = slice_index s.order.free 0
 -- the slot was dropped at some time
 abbrev pub is_dropped : Slotted → ℕ → Bool
 is_dropped s slot = slice_index_or s.dropped slot false
+
+-- what the slots hold, where some hold nothing any more: a link to tree 0, as in a fresh node
+abbrev pub emptied : List Held → List ℕ → List Held
+emptied helds [] = helds
+emptied helds (slot ∷ slots) = emptied (slice_set helds slot (Link 0)) slots
+
+-- what a fill finds in the slots: if the free one that is taken next was ever dropped, no free one holds anything any more
+abbrev pub helds_left : Slotted → List Held
+helds_left s = if is_dropped s (next_free s) then emptied s.helds s.order.free else s.helds
 
 abbrev pub fifteen_of : {X : Type 0} → X → List X
 fifteen_of x = x ∷ x ∷ x ∷ x ∷ x ∷ x ∷ x ∷ x ∷ x ∷ x ∷ x ∷ x ∷ x ∷ x ∷ x ∷ []

@@ -70,7 +70,7 @@ impl Border {
     ghost use Rattle.mt_border.specs.{Entry.{order_at, order_of, IsEntry, IsRest, IsStablePair, IsUnlinked, IsLinked}, Rows.entry_seen};
     ghost use Rattle.mt_border.specs.{Entries.{IsBorder, IsMissing, place_in, with_entry, without}, Split.{IsCut, IsParted, IsSeparator, slices_with}};
     ghost use Rattle.mt_border.specs.Node.{empty_node, entries_of, entry_at, held_at, place_at, filled, IsLive, Finds, Rewrites};
-    ghost use Rattle.mt_border.specs.{Slots.{held_in, next_free, is_dropped, IsFresh}, Keeps.{KeepsEntries, LosesOnly}};
+    ghost use Rattle.mt_border.specs.{Slots.{held_in, helds_left, next_free, is_dropped, IsFresh}, Keeps.{KeepsEntries, LosesOnly}};
     ghost use Rattle.mt_order.specs.Places.{order_with, order_without, word_of, IsPlaces};
 
     /// A node without keys, neighbours and parent.
@@ -216,21 +216,19 @@ impl Border {
         self.slots.held(slot)
     }
 
-    /// Writes what the free slot holds that is taken next, which no reader finds yet, and gives back what
-    /// it held.
-    pub fn fill(&mut self, held: Held) -> Held
+    /// Writes what the free slot holds that is taken next, which no reader finds yet. If that slot was ever
+    /// dropped, all other free slots give up what they hold.
+    pub fn fill(&mut self, held: Held)
         requires room { length (entries_of self.old) < SLOTS }
-        ensures before { result ≡ held_in self.old.slots.helds (next_free self.old.slots) }
         ensures entries { entries_of self.new ≡ entries_of self.old }
         ensures slots { let next = next_free self.old.slots in
-            self.new.slots ≡ record self.old.slots { helds = slice_set self.old.slots.helds next held } }
+            self.new.slots ≡ record self.old.slots { helds = slice_set (helds_left self.old.slots) next held } }
         ensures there { held_in self.new.slots.helds (next_free self.new.slots) ≡ held }
         ensures keeps { is_dropped self.old.slots (next_free self.old.slots) ≡ false →
             KeepsEntries (entries_of self.old) self.old.slots (entries_of self.new) self.new.slots }
         ensures others { self.new ≡ record self.old { slots = self.new.slots } }
     {
-        let next = self.slots.next_free();
-        self.slots.write(next, held)
+        self.slots.fill(held);
     }
 
     /// Makes the slot that was filled live, for a key of this slice and mark, placed by the step `stamp`.

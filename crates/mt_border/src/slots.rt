@@ -12,7 +12,7 @@ ghost use Rattle.std.specs.Prelude.{◌≡◌, ◌<◌, ◌≤◌, [], length, t
 ghost use Rattle.std.specs.Option.{option_map};
 ghost use Rattle.mt_lists.specs.Rising.{NeverFalls};
 ghost use Rattle.mt_slices.specs.Marks.{IsMark};
-ghost use Rattle.mt_border.specs.Restamps.{stamped};
+ghost use Rattle.mt_border.specs.{Restamps.stamped, Slots.emptied};
 
 use crate::border::SLOTS;
 use crate::entry::{Entry, EntryRef, Held};
@@ -46,7 +46,7 @@ impl Model for Slots {
 
 impl Slots {
     ghost use Rattle.mt_border.specs.{Restamps.all_restamped, Entries.{slices, marks}, Rows.entry_seen};
-    ghost use Rattle.mt_border.specs.Slots.{IsSlotted, held_in, next_free, is_dropped, fresh_slots, listed, IsFresh};
+    ghost use Rattle.mt_border.specs.Slots.{IsSlotted, held_in, helds_left, next_free, is_dropped, fresh_slots, listed, IsFresh};
     ghost use Rattle.mt_order.specs.Places.{place_of_slot, order_with, order_without, word_of};
 
     pub(crate) fn new() -> Self
@@ -187,14 +187,18 @@ impl Slots {
         self.order.word()
     }
 
-    /// Writes what a slot holds, and gives back what it held.
-    pub(crate) fn write(&mut self, slot: usize, held: Held) -> Held
-        requires { slot < SLOTS }
-        ensures before { result ≡ held_in self.old.helds slot }
-        ensures after { self.new ≡ record self.old { helds = slice_set self.old.helds slot held } }
+    /// Writes what the free slot holds that is taken next. If it was ever dropped, the other free slots
+    /// give up what they hold.
+    pub(crate) fn fill(&mut self, held: Held)
+        requires { length (listed self.old) < SLOTS }
+        ensures after { self.new ≡ record self.old { helds = slice_set (helds_left self.old) (next_free self.old) held } }
         ensures slotted { IsSlotted self.new }
     {
-        mem::replace(&mut self.helds[slot], held)
+        let next = self.next_free();
+        if self.dropped[next] {
+            empty_each(&mut self.helds, &self.order);
+        }
+        self.helds[next] = held;
     }
 
     /// Makes the first free slot live, with what it holds, at a place of the order, placed by the step `stamp`.
@@ -328,6 +332,17 @@ impl Slots {
             let entry = self.remove(keep);
             right.insert(place, entry);
         }
+    }
+}
+
+// Gives up what the free slots of an order hold.
+fn empty_each(helds: &mut [Held], order: &Order)
+    requires { length helds.old ≡ SLOTS }
+    ensures { helds.new ≡ emptied helds.old order.now.free }
+{
+    for place in order.len()..SLOTS {
+        let slot = order.slot(place);
+        helds[slot] = Held::link(0);
     }
 }
 

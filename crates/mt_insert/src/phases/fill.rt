@@ -9,7 +9,7 @@ use mt_operation::{Phase, Prepared, Walk};
 
 /// Writes the pair of the missing key into the free slot that is taken next. No reader finds it there
 /// yet, and no step has placed it. Where the slot was ever dropped, the node is marked for its readers
-/// before: one of them may remember the slot. What the slot held until now is gone.
+/// before: one of them may remember the slot. What this slot and the other free ones held is gone then.
 pub fn fill(arena: &mut Arena, walk: &mut Walk, prepared: &mut Prepared, operation: usize)
     requires kept { (task : AnyTask) × IsAtFill arena.old operation task prepared.old walk.old }
     ensures { (task : AnyTask) → IsAtFill arena.old operation task prepared.old walk.old →
@@ -17,6 +17,6 @@ pub fn fill(arena: &mut Arena, walk: &mut Walk, prepared: &mut Prepared, operati
 {
     arena.facts();
     let pair = prepared.take_pair(0);
-    let _ = arena.fill(walk.place.node, Held::stable(pair), operation);
+    arena.fill(walk.place.node, Held::stable(pair), operation);
     walk.phase = Phase::Publish;
 }
