@@ -117,12 +117,23 @@ fn bytes_left(alloc: Global) -> Result<Vec<u8>, AllocError> {
     Vec::with_capacity(alloc, BYTES_LEFT)
 }
 
+// Whether a change names the first column alone: it makes a row of several columns only over another such one.
+fn names_first_alone(change: &Change) -> bool {
+    let columns = change.columns();
+    columns.len() == 1 && columns[0].0 == 0
+}
+
 // Memory for what an operation writes on the tape, if it is one that changes something.
 fn spare_for(alloc: Global, request: &Request) -> Result<Spare, AllocError> {
     match request {
-        Request::Put { key, .. } => {
+        Request::Put { key, change } => {
             let _ = bytes_left(alloc)?;
-            Spare::for_row(alloc, key.as_bytes().len())
+            let bytes = key.as_bytes().len();
+            if names_first_alone(change) {
+                Spare::for_key(alloc, bytes)
+            } else {
+                Spare::for_row(alloc, bytes)
+            }
         }
         Request::Remove { key } => Spare::for_key(alloc, key.as_bytes().len()),
         Request::Get { .. } | Request::Scan { .. } => Ok(Spare::none()),
