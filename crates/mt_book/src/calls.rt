@@ -15,6 +15,7 @@ use std::alloc::{AllocError, Global};
 use std::sync::Wait;
 use std::sync::ledger::Ledger;
 use std::thread;
+use std::time::Clock;
 
 /// Why a call has no answer.
 #[derive(Drop)]
@@ -60,7 +61,7 @@ fn set_aside(alloc: Global, kept: Option<Aside>, command: &Command) -> Result<As
 }
 
 // Looks again for ever.
-fn never<T, L: Ledger, R: Wait, D: Desk<L>>(rt: &R, desk: &mut D) -> T
+fn never<T, L: Ledger, R: Wait + Clock, D: Desk<L>>(rt: &R, desk: &mut D) -> T
     ensures { ⊥ }
 {
     for _ in rt.forever() {
@@ -71,7 +72,7 @@ fn never<T, L: Ledger, R: Wait, D: Desk<L>>(rt: &R, desk: &mut D) -> T
 }
 
 // Begins the operation, as soon as the desk has made the steps that the pass saw.
-fn start<L: Ledger, R: Wait, D: Desk<L>>(
+fn start<L: Ledger, R: Wait + Clock, D: Desk<L>>(
     rt: &R,
     desk: &mut D,
     pass: &Pass<L>,
@@ -107,7 +108,7 @@ fn start<L: Ledger, R: Wait, D: Desk<L>>(
 }
 
 // Steps the operation to its end: whether it is done, or else all step numbers are given.
-fn stepped<L: Ledger, R: Wait, D: Desk<L>, G: Gate>(
+fn stepped<L: Ledger, R: Wait + Clock, D: Desk<L>, G: Gate>(
     rt: &R,
     desk: &mut D,
     pass: &Pass<L>,
@@ -143,7 +144,7 @@ fn stepped<L: Ledger, R: Wait, D: Desk<L>, G: Gate>(
 }
 
 // Takes the answer.
-fn answered<L: Ledger, R: Wait, D: Desk<L>>(
+fn answered<L: Ledger, R: Wait + Clock, D: Desk<L>>(
     rt: &R,
     desk: &mut D,
     pass: &mut Pass<L>,
@@ -173,7 +174,7 @@ fn answered<L: Ledger, R: Wait, D: Desk<L>>(
 
 // The answer, where it is one to the command, begun behind these steps; a desk that gives another one
 // lies, and is looked at for ever.
-fn believed<L: Ledger, R: Wait, D: Desk<L>>(
+fn believed<L: Ledger, R: Wait + Clock, D: Desk<L>>(
     rt: &R,
     desk: &mut D,
     answer: Answer,
@@ -192,7 +193,7 @@ fn believed<L: Ledger, R: Wait, D: Desk<L>>(
 }
 
 // Begins the operation of an opening, steps it to its end and takes its answer.
-fn ran<L: Ledger, R: Wait, D: Desk<L>, G: Gate>(
+fn ran<L: Ledger, R: Wait + Clock, D: Desk<L>, G: Gate>(
     rt: &R,
     desk: &mut D,
     pass: &mut Pass<L>,
@@ -235,7 +236,7 @@ fn ran<L: Ledger, R: Wait, D: Desk<L>, G: Gate>(
 /// Errors: the refusal of the begin, or `Memory` before it; `Spent` with the ticket. A desk that shows
 /// fewer steps than the pass saw, or too few logs, is asked again; one that lost the operation, or gives
 /// another's answer, is never believed: the call looks again for ever, in periods that do nothing.
-pub fn call<L: Ledger, R: Wait, D: Desk<L>, G: Gate>(
+pub fn call<L: Ledger, R: Wait + Clock, D: Desk<L>, G: Gate>(
     rt: &R,
     alloc: Global,
     desk: &mut D,

@@ -12,6 +12,7 @@ use mt_runs::Answer;
 use mt_state::Move;
 use std::sync::Wait;
 use std::sync::ledger::Ledger;
+use std::time::Clock;
 
 /// What a period showed that did nothing.
 #[derive(Drop)]
@@ -71,24 +72,30 @@ pub trait Desk<L: Ledger> {
     ghost does: { Self → Period → Self → Type 0 };
 
     /// Shows how many steps were made, and how many logs there are.
-    fn look<R: Wait>(&mut self, rt: &R) -> Look
+    fn look<R: Wait + Clock>(&mut self, rt: &R) -> Look
         ensures { does self.old (look_period result) self.new };
 
     /// Begins the operation of an opening for a pass.
-    fn admit<R: Wait>(&mut self, rt: &R, pass: &Pass<L>, opening: Opening) -> Admission
+    fn admit<R: Wait + Clock>(&mut self, rt: &R, pass: &Pass<L>, opening: Opening) -> Admission
         requires { IsOfWorker pass.now.worker opening.made }
         ensures does { does self.old (admission_period opening result) self.new }
         ensures fits { FitsAdmission pass.now.seen pass.now.worker opening result };
 
     /// Makes one step of an operation, for which the gate was called.
-    fn step<R: Wait>(&mut self, rt: &R, pass: &Pass<L>, turned: Turned, ticket: &Ticket) -> Stepping
+    fn step<R: Wait + Clock>(
+        &mut self,
+        rt: &R,
+        pass: &Pass<L>,
+        turned: Turned,
+        ticket: &Ticket,
+    ) -> Stepping
         requires { turned.op ≡ ticket.now.id }
         ensures does { does self.old (step_period ticket.now.id turned result) self.new }
         ensures fits { FitsStepping pass.now.seen result };
 
     /// Takes an operation's answer, which counts in the pass's share, and tidies with the room of the list.
     /// What the period displaces is handed out, to be freed after it. Without an answer nothing is.
-    fn take<R: Wait>(
+    fn take<R: Wait + Clock>(
         &mut self,
         rt: &R,
         pass: &mut Pass<L>,

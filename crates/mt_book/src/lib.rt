@@ -17,4 +17,4 @@ pub use calls::{CallFault, call};
 pub use desks::{Admission, Admitted, Desk, Look, Stepping, Taken, Taking};
 pub use gates::{Gate, NoGate, Turned, passed};
 pub use passes::Pass;
-pub use shared::{drain, gather, locked, open_pass};
+pub use shared::{BookLock, drain, gather, locked, open_pass};

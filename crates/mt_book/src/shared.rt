@@ -13,6 +13,7 @@ use mt_drains::DrainedBatch;
 use std::alloc::AllocError;
 use std::sync::ledger::Ledger;
 use std::sync::{Mutex, MutexGuard, Wait};
+use std::time::{Clock, Duration};
 use std::{hint, thread};
 
 /// A book that is owned alone: each period says all that it did to the state.
@@ -21,14 +22,14 @@ impl<L: Ledger> Desk<L> for Book<L> {
 
     ghost does = { λ old p new. DoesState old.state p new.state };
 
-    fn look<R: Wait>(&mut self, _rt: &R) -> Look {
+    fn look<R: Wait + Clock>(&mut self, _rt: &R) -> Look {
         Look {
             steps: self.steps(),
             logs: self.logs(),
         }
     }
 
-    fn admit<R: Wait>(&mut self, _rt: &R, pass: &Pass<L>, opening: Opening) -> Admission {
+    fn admit<R: Wait + Clock>(&mut self, _rt: &R, pass: &Pass<L>, opening: Opening) -> Admission {
         let (steps, logs) = (self.steps(), self.logs());
         let told = if steps < pass.seen() || pass.worker() >= logs.max(1) {
             Admitted::Early(opening)
@@ -44,7 +45,7 @@ impl<L: Ledger> Desk<L> for Book<L> {
         Admission { steps, logs, told }
     }
 
-    fn step<R: Wait>(
+    fn step<R: Wait + Clock>(
         &mut self,
         _rt: &R,
         pass: &Pass<L>,
@@ -69,7 +70,7 @@ impl<L: Ledger> Desk<L> for Book<L> {
         }
     }
 
-    fn take<R: Wait>(
+    fn take<R: Wait + Clock>(
         &mut self,
         _rt: &R,
         pass: &mut Pass<L>,
@@ -95,22 +96,83 @@ impl<L: Ledger> Desk<L> for Book<L> {
     }
 }
 
+/// A book under the lock that many threads share. Of all threads that wait for it one goes on looking, and the
+/// others sleep.
+#[derive(Drop)]
+pub struct BookLock<L: Ledger> {
+    book: Mutex<Book<L>>,
+    looking: Mutex<()>,
+}
+
+impl<L: Ledger> BookLock<L> {
+    pub fn new(book: Book<L>) -> Self {
+        BookLock {
+            book: Mutex::new(book),
+            looking: Mutex::new(()),
+        }
+    }
+
+    /// The book, of which nobody holds the lock any more.
+    pub fn into_inner(self) -> Book<L> {
+        let BookLock { book, looking: _ } = self;
+        book.into_inner()
+    }
+}
+
 /// The lock, tried before it is waited for: a sleeping waiter makes every unlock wake somebody. What
 /// stands behind it is right, whenever it is free.
-pub fn locked<'a, L: Ledger, R: Wait>(rt: &R, book: &'a Mutex<Book<L>>) -> MutexGuard<'a, Book<L>>
+pub fn locked<'a, L: Ledger, R: Wait + Clock>(
+    rt: &R,
+    shared: &'a BookLock<L>,
+) -> MutexGuard<'a, Book<L>>
     ensures { IsRightBook result.value.state result.value.total.total result.value.rest.parts result.value.opened }
 {
-    let guard = waited(rt, book);
+    let guard = waited(rt, shared);
     guard.facts();
     guard
 }
 
-// The lock. Turns of looking double from 4 to 4,096; then others may go first.
-fn waited<'a, L: Ledger, R: Wait>(rt: &R, book: &'a Mutex<Book<L>>) -> MutexGuard<'a, Book<L>> {
-    let mut turns = 4u32;
+// At so many looks a thread finds the lock soon if its holder is at work: some 500 turns.
+const FIRST_LOOKS: u32 = 7;
+
+// So many microseconds a thread sleeps first, and at most.
+const FIRST_NAP: u64 = 50;
+
+const LONGEST_NAP: u64 = 400;
+
+// The lock. A thread that has not found it free goes on looking if no other one does, and else it sleeps. So
+// those who wait take one processor, and no unlock has to wake them.
+fn waited<'a, L: Ledger, R: Wait + Clock>(
+    rt: &R,
+    shared: &'a BookLock<L>,
+) -> MutexGuard<'a, Book<L>> {
+    let mut nap = FIRST_NAP;
     for _ in 0..1000u32 {
-        if let Some(guard) = book.try_lock() {
+        if let Some(guard) = looked(&shared.book, FIRST_LOOKS) {
             return guard;
+        }
+        match shared.looking.try_lock() {
+            Some(_alone) => {
+                if let Some(guard) = looked(&shared.book, 1000) {
+                    return guard;
+                }
+            }
+            None => {
+                thread::sleep(rt, Duration::from_micros(nap));
+                nap = nap.saturating_mul(2).min(LONGEST_NAP);
+            }
+        }
+    }
+    shared.book.lock(rt)
+}
+
+// The lock, if it is free at one of so many looks. The turns between two looks double from 4 to 4,096; from
+// there on others may go first.
+fn looked<L: Ledger>(book: &Mutex<Book<L>>, looks: u32) -> Option<MutexGuard<'_, Book<L>>> {
+    let mut turns = 4u32;
+    for _ in 0..looks {
+        if let Some(guard) = book.try_lock() {
+            return Some(guard);
         }
         for _ in 0..turns {
             hint::spin_loop();
@@ -121,22 +183,22 @@ fn waited<'a, L: Ledger, R: Wait>(rt: &R, book: &'a Mutex<Book<L>>) -> MutexGuar
             thread::yield_now();
         }
     }
-    book.lock(rt)
+    None
 }
 
 /// A book under a lock: others use it between two periods, so a period says nothing of the next one.
-impl<L: Ledger> Desk<L> for &Mutex<Book<L>> {
+impl<L: Ledger> Desk<L> for &BookLock<L> {
     ghost does = { λ old p new. Unit {0} };
 
-    fn look<R: Wait>(&mut self, rt: &R) -> Look {
+    fn look<R: Wait + Clock>(&mut self, rt: &R) -> Look {
         Desk::look(&mut *locked(rt, *self), rt)
     }
 
-    fn admit<R: Wait>(&mut self, rt: &R, pass: &Pass<L>, opening: Opening) -> Admission {
+    fn admit<R: Wait + Clock>(&mut self, rt: &R, pass: &Pass<L>, opening: Opening) -> Admission {
         Desk::admit(&mut *locked(rt, *self), rt, pass, opening)
     }
 
-    fn step<R: Wait>(
+    fn step<R: Wait + Clock>(
         &mut self,
         rt: &R,
         pass: &Pass<L>,
@@ -146,7 +208,7 @@ impl<L: Ledger> Desk<L> for &Mutex<Book<L>> {
         Desk::step(&mut *locked(rt, *self), rt, pass, turned, ticket)
     }
 
-    fn take<R: Wait>(
+    fn take<R: Wait + Clock>(
         &mut self,
         rt: &R,
         pass: &mut Pass<L>,
@@ -159,7 +221,11 @@ impl<L: Ledger> Desk<L> for &Mutex<Book<L>> {
 
 /// A pass for a worker, which has seen no step; none where 65,535 were opened, the total was told or
 /// there is no such worker.
-pub fn open_pass<L: Ledger, R: Wait>(rt: &R, book: &Mutex<Book<L>>, worker: u8) -> Option<Pass<L>>
+pub fn open_pass<L: Ledger, R: Wait + Clock>(
+    rt: &R,
+    book: &BookLock<L>,
+    worker: u8,
+) -> Option<Pass<L>>
     ensures { IfSome result (λ pass. (pass.worker ≡ worker) × (pass.seen ≡ 0) × (pass.share.amount ≡ 0)) }
 {
     locked(rt, book).open_pass(worker)
@@ -168,9 +234,9 @@ pub fn open_pass<L: Ledger, R: Wait>(rt: &R, book: &Mutex<Book<L>>, worker: u8) 
 /// The next batch of a worker's log, in a period of its own. It goes up to the step `upto` at least, or it is full.
 /// While the book has no log of this worker, or fewer steps, it is asked again. An error comes if memory is refused;
 /// then nothing is drained.
-pub fn drain<L: Ledger, R: Wait>(
+pub fn drain<L: Ledger, R: Wait + Clock>(
     rt: &R,
-    book: &Mutex<Book<L>>,
+    book: &BookLock<L>,
     worker: u8,
     upto: u64,
 ) -> Result<DrainedBatch, AllocError>
@@ -188,9 +254,9 @@ pub fn drain<L: Ledger, R: Wait>(
 }
 
 // The same, unless there is no such log, or there are fewer steps.
-fn drained<L: Ledger, R: Wait>(
+fn drained<L: Ledger, R: Wait + Clock>(
     rt: &R,
-    book: &Mutex<Book<L>>,
+    book: &BookLock<L>,
     worker: u8,
     upto: u64,
 ) -> Option<Result<DrainedBatch, AllocError>>
@@ -206,9 +272,9 @@ fn drained<L: Ledger, R: Wait>(
 }
 
 /// The total, once, where the passes are all that were opened; else they come back.
-pub fn gather<L: Ledger, R: Wait>(
+pub fn gather<L: Ledger, R: Wait + Clock>(
     rt: &R,
-    book: &Mutex<Book<L>>,
+    book: &BookLock<L>,
     passes: Vec<Pass<L>>,
 ) -> Result<u64, Vec<Pass<L>>>
     requires { L.parts ≡ 65536 }

@@ -3,13 +3,14 @@
 ghost use Rattle.std.specs.Prelude.{◌≡◌};
 
 use crate::threads::{new_store, put_of};
-use mt_book::{Book, NoGate, Pass, call, drain, open_pass};
+use mt_book::{Book, BookLock, NoGate, Pass, call, drain, open_pass};
 use std::alloc::{AllocError, Global};
 use std::marker::Brand;
 use std::process::Abort;
+use std::sync::Wait;
 use std::sync::ledger::{Blank, Ledger};
-use std::sync::{Mutex, Wait};
 use std::test::Fail;
+use std::time::Clock;
 
 // What is done with a book.
 #[derive(Clone, Copy, Debug)]
@@ -34,10 +35,10 @@ const ACTS: [Act; 9] = [
 ];
 
 // Puts a key through this pass; whether it was answered.
-fn puts<L: Ledger, R: Wait>(
+fn puts<L: Ledger, R: Wait + Clock>(
     rt: &R,
     alloc: Global,
-    book: &Mutex<Book<L>>,
+    book: &BookLock<L>,
     pass: &mut Pass<L>,
     key: u8,
 ) -> Result<bool, AllocError> {
@@ -47,9 +48,9 @@ fn puts<L: Ledger, R: Wait>(
 }
 
 // Whether a worker's log is given this batch, with the worker's number.
-fn drains<L: Ledger, R: Wait>(
+fn drains<L: Ledger, R: Wait + Clock>(
     rt: &R,
-    book: &Mutex<Book<L>>,
+    book: &BookLock<L>,
     worker: u8,
     (from, to): (u64, u64),
     wanted: &[(u64, u8)],
@@ -67,10 +68,10 @@ fn drains<L: Ledger, R: Wait>(
 }
 
 // Whether an act comes out as it should.
-fn comes_out<L: Ledger, R: Wait>(
+fn comes_out<L: Ledger, R: Wait + Clock>(
     rt: &R,
     alloc: Global,
-    book: &Mutex<Book<L>>,
+    book: &BookLock<L>,
     passes: &mut [Pass<L>],
     act: Act,
 ) -> Result<bool, AllocError> {
@@ -83,10 +84,10 @@ fn comes_out<L: Ledger, R: Wait>(
     }
 }
 
-fn play<L: Ledger, R: Wait + Abort>(
+fn play<L: Ledger, R: Wait + Clock + Abort>(
     rt: &R,
     alloc: Global,
-    book: &Mutex<Book<L>>,
+    book: &BookLock<L>,
 ) -> Result<(), AllocError> {
     let mut passes = Vec::new(alloc);
     for worker in [0, 1] {
@@ -98,11 +99,15 @@ fn play<L: Ledger, R: Wait + Abort>(
     Ok(())
 }
 
-fn run<L: Ledger, R: Wait + Abort>(rt: &R, alloc: Global, blank: Blank) -> Result<(), AllocError>
+fn run<L: Ledger, R: Wait + Clock + Abort>(
+    rt: &R,
+    alloc: Global,
+    blank: Blank,
+) -> Result<(), AllocError>
     requires name { blank.name ≡ L.name }
     requires parts { (blank.parts ≡ L.parts) × (L.parts ≡ 65536) }
 {
-    let book = Mutex::new(Book::<L>::new(blank, new_store(rt, alloc, 2)?));
+    let book = BookLock::new(Book::<L>::new(blank, new_store(rt, alloc, 2)?));
     play(rt, alloc, &book)
 }
 

@@ -3,14 +3,14 @@
 ghost use Rattle.std.specs.Prelude.{◌≡◌};
 
 use crate::threads::{get_of, new_store};
-use mt_book::{Book, Gate, NoGate, Pass, call, open_pass};
+use mt_book::{Book, BookLock, Gate, NoGate, Pass, call, open_pass};
 use mt_operation::Phase;
 use std::alloc::{AllocError, Global};
 use std::marker::{Brand, Send, Sync};
 use std::process::Abort;
+use std::sync::Wait;
 use std::sync::atomic::{AtomicU64, Ordering};
 use std::sync::ledger::{Blank, Ledger};
-use std::sync::{Mutex, Wait};
 use std::test::Fail;
 use std::thread;
 use std::thread::Threads;
@@ -48,10 +48,10 @@ impl<R: Clock> Gate for Holding<'_, R> {
 }
 
 // A get through a pass, with the numbers of its first and last step.
-fn numbers<L: Ledger, R: Wait, G: Gate>(
+fn numbers<L: Ledger, R: Wait + Clock, G: Gate>(
     rt: &R,
     alloc: Global,
-    book: &Mutex<Book<L>>,
+    book: &BookLock<L>,
     pass: &mut Pass<L>,
     gate: &G,
 ) -> (u64, u64) {
@@ -69,7 +69,7 @@ fn numbers<L: Ledger, R: Wait, G: Gate>(
 fn one_of_two<L: Ledger, R: Wait + Clock>(
     rt: &R,
     alloc: Global,
-    book: &Mutex<Book<L>>,
+    book: &BookLock<L>,
     turn: &AtomicU64,
     is_held: bool,
     pass: &mut Pass<L>,
@@ -84,10 +84,10 @@ fn one_of_two<L: Ledger, R: Wait + Clock>(
 }
 
 // The passes of the two gets, of which the first one is held.
-fn two_calls<L: Ledger, R: Wait + Abort>(
+fn two_calls<L: Ledger, R: Wait + Clock + Abort>(
     rt: &R,
     alloc: Global,
-    book: &Mutex<Book<L>>,
+    book: &BookLock<L>,
 ) -> Vec<(bool, Pass<L>)> {
     let mut calls = Vec::new(alloc);
     for is_held in [true, false] {
@@ -111,7 +111,7 @@ fn is_between(rt: &impl Abort, told: &[(u64, u64)]) {
 fn make_both<L: Ledger + Send + Sync, R: Threads + Wait + Clock + Abort + Sync>(
     rt: &R,
     alloc: Global,
-    book: &Mutex<Book<L>>,
+    book: &BookLock<L>,
 ) {
     let turn = &AtomicU64::new(0);
     let told = thread::map_vec(
@@ -132,7 +132,7 @@ fn run<L: Ledger + Send + Sync, R: Threads + Wait + Clock + Abort + Sync>(
     requires name { blank.name ≡ L.name }
     requires parts { (blank.parts ≡ L.parts) × (L.parts ≡ 65536) }
 {
-    let book = Mutex::new(Book::<L>::new(blank, new_store(rt, alloc, 0)?));
+    let book = BookLock::new(Book::<L>::new(blank, new_store(rt, alloc, 0)?));
     make_both(rt, alloc, &book);
     Ok(())
 }

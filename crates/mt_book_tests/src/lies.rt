@@ -51,12 +51,12 @@ impl<L: Ledger> Liar<L> {
 impl<L: Ledger> Desk<L> for Liar<L> {
     ghost does = { λ old p new. Unit {0} };
 
-    fn look<R: Wait>(&mut self, rt: &R) -> Look {
+    fn look<R: Wait + Clock>(&mut self, rt: &R) -> Look {
         self.count();
         Desk::look(&mut self.book, rt)
     }
 
-    fn admit<R: Wait>(&mut self, rt: &R, pass: &Pass<L>, opening: Opening) -> Admission {
+    fn admit<R: Wait + Clock>(&mut self, rt: &R, pass: &Pass<L>, opening: Opening) -> Admission {
         self.count();
         match self.lie {
             Some(Lie::FewerSteps) if pass.seen() > 0 => Admission {
@@ -68,7 +68,7 @@ impl<L: Ledger> Desk<L> for Liar<L> {
         }
     }
 
-    fn step<R: Wait>(
+    fn step<R: Wait + Clock>(
         &mut self,
         rt: &R,
         pass: &Pass<L>,
@@ -83,7 +83,7 @@ impl<L: Ledger> Desk<L> for Liar<L> {
         told
     }
 
-    fn take<R: Wait>(
+    fn take<R: Wait + Clock>(
         &mut self,
         rt: &R,
         pass: &mut Pass<L>,
@@ -107,7 +107,7 @@ impl<L: Ledger> Desk<L> for Liar<L> {
 }
 
 // A true call, and then one to which the desk lies; it doesn't come back.
-fn call_twice<L: Ledger, R: Wait>(rt: &R, alloc: Global, liar: &mut Liar<L>, lie: Lie) {
+fn call_twice<L: Ledger, R: Wait + Clock>(rt: &R, alloc: Global, liar: &mut Liar<L>, lie: Lie) {
     let Some(mut pass) = liar.book.open_pass(0) else {
         return;
     };

@@ -3,16 +3,17 @@
 ghost use Rattle.std.specs.Prelude.{◌≡◌};
 
 use crate::threads::{get_of, new_store, put_of};
-use mt_book::{Book, Gate, Pass, call, open_pass};
+use mt_book::{Book, BookLock, Gate, Pass, call, open_pass};
 use mt_operation::Phase;
 use mt_rows::Command;
 use std::alloc::{AllocError, Global};
 use std::cell::Cell;
 use std::marker::Brand;
 use std::process::Abort;
+use std::sync::Wait;
 use std::sync::ledger::{Blank, Ledger};
-use std::sync::{Mutex, Wait};
 use std::test::Fail;
+use std::time::Clock;
 
 // Keeps the phases that it is called with, in order.
 struct Recording {
@@ -29,10 +30,10 @@ impl Gate for Recording {
 }
 
 // The phases that a gate is called with, of one call.
-fn phases_of<L: Ledger, R: Wait + Abort>(
+fn phases_of<L: Ledger, R: Wait + Clock + Abort>(
     rt: &R,
     alloc: Global,
-    book: &Mutex<Book<L>>,
+    book: &BookLock<L>,
     pass: &mut Pass<L>,
     command: Command,
 ) -> Vec<Phase> {
@@ -48,10 +49,10 @@ fn phases_of<L: Ledger, R: Wait + Abort>(
 }
 
 // A get of one key calls the gate with these phases.
-fn expect_of_get<L: Ledger, R: Wait + Abort>(
+fn expect_of_get<L: Ledger, R: Wait + Clock + Abort>(
     rt: &R,
     alloc: Global,
-    book: &Mutex<Book<L>>,
+    book: &BookLock<L>,
     pass: &mut Pass<L>,
     wanted: &[Phase],
 ) {
@@ -61,10 +62,10 @@ fn expect_of_get<L: Ledger, R: Wait + Abort>(
 }
 
 // So does a put of it.
-fn expect_of_put<L: Ledger, R: Wait + Abort>(
+fn expect_of_put<L: Ledger, R: Wait + Clock + Abort>(
     rt: &R,
     alloc: Global,
-    book: &Mutex<Book<L>>,
+    book: &BookLock<L>,
     pass: &mut Pass<L>,
     wanted: &[Phase],
 ) {
@@ -95,7 +96,7 @@ static PUT: [Phase; 5] = [
 ];
 
 // A key that is missing is read, put, read and put again, by the only pass.
-fn make_four<L: Ledger, R: Wait + Abort>(rt: &R, alloc: Global, book: &Mutex<Book<L>>) {
+fn make_four<L: Ledger, R: Wait + Clock + Abort>(rt: &R, alloc: Global, book: &BookLock<L>) {
     let mut pass = open_pass(rt, book, 0).expect(rt, "a pass");
     expect_of_get(rt, alloc, book, &mut pass, &GET_OF_NONE);
     expect_of_put(rt, alloc, book, &mut pass, &PUT_OF_NONE);
@@ -103,11 +104,15 @@ fn make_four<L: Ledger, R: Wait + Abort>(rt: &R, alloc: Global, book: &Mutex<Boo
     expect_of_put(rt, alloc, book, &mut pass, &PUT);
 }
 
-fn run<L: Ledger, R: Wait + Abort>(rt: &R, alloc: Global, blank: Blank) -> Result<(), AllocError>
+fn run<L: Ledger, R: Wait + Clock + Abort>(
+    rt: &R,
+    alloc: Global,
+    blank: Blank,
+) -> Result<(), AllocError>
     requires name { blank.name ≡ L.name }
     requires parts { (blank.parts ≡ L.parts) × (L.parts ≡ 65536) }
 {
-    let book = Mutex::new(Book::<L>::new(blank, new_store(rt, alloc, 0)?));
+    let book = BookLock::new(Book::<L>::new(blank, new_store(rt, alloc, 0)?));
     make_four(rt, alloc, &book);
     Ok(())
 }

@@ -3,17 +3,18 @@
 ghost use Rattle.std.specs.Prelude.{◌≡◌, ◌≤◌, IfOk};
 ghost use Rattle.mt_state.specs.Begins.{HaveNoPairs};
 
-use mt_book::{Book, Desk, NoGate, Pass, call, gather, open_pass};
+use mt_book::{Book, BookLock, Desk, NoGate, Pass, call, gather, open_pass};
 use mt_core::State;
 use mt_rows::{Column, ColumnIndexes, Command, Key, NamedColumns, Reply, Tenants};
 use std::alloc::{AllocError, Global};
 use std::marker::{Brand, Send, Sync};
 use std::process::Abort;
+use std::sync::Wait;
 use std::sync::ledger::{Blank, Ledger};
-use std::sync::{Mutex, Wait};
 use std::test::Fail;
 use std::thread;
 use std::thread::Threads;
+use std::time::Clock;
 
 // How many puts each thread makes.
 const PUTS: u32 = 250;
@@ -52,10 +53,10 @@ pub(crate) fn get_of(alloc: Global, key: u8) -> Result<Command, AllocError> {
 }
 
 /// Puts so many times through a pass of its own; gives it back.
-pub(crate) fn put_all<L: Ledger, R: Wait>(
+pub(crate) fn put_all<L: Ledger, R: Wait + Clock>(
     rt: &R,
     alloc: Global,
-    book: &Mutex<Book<L>>,
+    book: &BookLock<L>,
     pass: Pass<L>,
     puts: u32,
 ) -> (Pass<L>, u32) {
@@ -74,10 +75,10 @@ pub(crate) fn put_all<L: Ledger, R: Wait>(
 }
 
 /// Four passes of the only worker; another one has none.
-pub(crate) fn four_passes<L: Ledger, R: Wait + Abort>(
+pub(crate) fn four_passes<L: Ledger, R: Wait + Clock + Abort>(
     rt: &R,
     alloc: Global,
-    book: &Mutex<Book<L>>,
+    book: &BookLock<L>,
 ) -> Vec<Pass<L>> {
     let mut passes = Vec::new(alloc);
     for _ in 0..4u32 {
@@ -99,9 +100,9 @@ fn passes_of<L: Ledger>(rt: &impl Abort, alloc: Global, done: Vec<(Pass<L>, u32)
 }
 
 // Three of four passes gather nothing, and come back.
-fn expect_back<L: Ledger, R: Wait + Abort>(
+fn expect_back<L: Ledger, R: Wait + Clock + Abort>(
     rt: &R,
-    book: &Mutex<Book<L>>,
+    book: &BookLock<L>,
     passes: Vec<Pass<L>>,
 ) -> Vec<Pass<L>>
     requires { L.parts ≡ 65536 }
@@ -115,7 +116,7 @@ fn expect_back<L: Ledger, R: Wait + Abort>(
 }
 
 // All passes gather a thousand answers, but not where one is missing.
-fn gather_all<L: Ledger, R: Wait + Abort>(rt: &R, book: &Mutex<Book<L>>, passes: Vec<Pass<L>>)
+fn gather_all<L: Ledger, R: Wait + Clock + Abort>(rt: &R, book: &BookLock<L>, passes: Vec<Pass<L>>)
     requires { L.parts ≡ 65536 }
 {
     let mut passes = passes;
@@ -129,7 +130,7 @@ fn gather_all<L: Ledger, R: Wait + Abort>(rt: &R, book: &Mutex<Book<L>>, passes:
 }
 
 // Four threads make their puts.
-fn run<L: Ledger + Send + Sync, R: Threads + Wait + Abort + Sync>(
+fn run<L: Ledger + Send + Sync, R: Threads + Wait + Clock + Abort + Sync>(
     rt: &R,
     alloc: Global,
     blank: Blank,
@@ -137,7 +138,7 @@ fn run<L: Ledger + Send + Sync, R: Threads + Wait + Abort + Sync>(
     requires name { blank.name ≡ L.name }
     requires parts { (blank.parts ≡ L.parts) × (L.parts ≡ 65536) }
 {
-    let book = Mutex::new(Book::<L>::new(blank, new_store(rt, alloc, 0)?));
+    let book = BookLock::new(Book::<L>::new(blank, new_store(rt, alloc, 0)?));
     let (shared, passes) = (&book, four_passes(rt, alloc, &book));
     let done = thread::map_vec(
         rt,
@@ -155,7 +156,7 @@ fn four_threads_make_a_thousand_answers(rt: HostRuntime) -> Result<(), Fail> {
 }
 
 // The reply to a command, through this pass.
-fn told<L: Ledger, R: Wait + Abort, D: Desk<L>>(
+fn told<L: Ledger, R: Wait + Clock + Abort, D: Desk<L>>(
     rt: &R,
     alloc: Global,
     desk: &mut D,
@@ -169,7 +170,7 @@ fn told<L: Ledger, R: Wait + Abort, D: Desk<L>>(
 }
 
 // Whether a get of the key finds a row, through this pass; else the key is absent.
-fn is_found<L: Ledger, R: Wait + Abort, D: Desk<L>>(
+fn is_found<L: Ledger, R: Wait + Clock + Abort, D: Desk<L>>(
     rt: &R,
     alloc: Global,
     desk: &mut D,
@@ -184,7 +185,7 @@ fn is_found<L: Ledger, R: Wait + Abort, D: Desk<L>>(
 }
 
 // Whether a put of the key is told that the key is new.
-fn is_new<L: Ledger, R: Wait + Abort, D: Desk<L>>(
+fn is_new<L: Ledger, R: Wait + Clock + Abort, D: Desk<L>>(
     rt: &R,
     alloc: Global,
     desk: &mut D,
@@ -195,7 +196,7 @@ fn is_new<L: Ledger, R: Wait + Abort, D: Desk<L>>(
 }
 
 // A put through a pass is read back through it, and through another.
-fn read_back<L: Ledger, R: Wait + Abort, D: Desk<L>>(
+fn read_back<L: Ledger, R: Wait + Clock + Abort, D: Desk<L>>(
     rt: &R,
     alloc: Global,
     desk: &mut D,
@@ -209,24 +210,32 @@ fn read_back<L: Ledger, R: Wait + Abort, D: Desk<L>>(
 }
 
 // Through a lock.
-fn read_back_locked<L: Ledger, R: Wait + Abort>(rt: &R, alloc: Global, book: &Mutex<Book<L>>) {
+fn read_back_locked<L: Ledger, R: Wait + Clock + Abort>(rt: &R, alloc: Global, book: &BookLock<L>) {
     let mut mine = open_pass(rt, book, 0).expect(rt, "a pass");
     let mut other = open_pass(rt, book, 0).expect(rt, "a pass");
     let mut desk = book;
     read_back(rt, alloc, &mut desk, &mut mine, &mut other);
 }
 
-fn locked<L: Ledger, R: Wait + Abort>(rt: &R, alloc: Global, blank: Blank) -> Result<(), AllocError>
+fn locked<L: Ledger, R: Wait + Clock + Abort>(
+    rt: &R,
+    alloc: Global,
+    blank: Blank,
+) -> Result<(), AllocError>
     requires name { blank.name ≡ L.name }
     requires parts { (blank.parts ≡ L.parts) × (L.parts ≡ 65536) }
 {
-    let book = Mutex::new(Book::<L>::new(blank, new_store(rt, alloc, 0)?));
+    let book = BookLock::new(Book::<L>::new(blank, new_store(rt, alloc, 0)?));
     read_back_locked(rt, alloc, &book);
     Ok(())
 }
 
 // Over a book that is owned alone.
-fn alone<L: Ledger, R: Wait + Abort>(rt: &R, alloc: Global, blank: Blank) -> Result<(), AllocError>
+fn alone<L: Ledger, R: Wait + Clock + Abort>(
+    rt: &R,
+    alloc: Global,
+    blank: Blank,
+) -> Result<(), AllocError>
     requires name { blank.name ≡ L.name }
     requires parts { (blank.parts ≡ L.parts) × (L.parts ≡ 65536) }
 {

@@ -3,15 +3,16 @@
 ghost use Rattle.std.specs.Prelude.{◌≡◌};
 
 use crate::threads::{four_passes, new_store, put_all};
-use mt_book::{Book, Pass, locked, open_pass};
+use mt_book::{Book, BookLock, Pass, locked, open_pass};
 use mt_core::Displaced;
 use std::alloc::{AllocError, Global};
 use std::marker::{Brand, Send, Sync};
 use std::process::Abort;
+use std::sync::Wait;
 use std::sync::ledger::{Blank, Ledger};
-use std::sync::{Mutex, Wait};
 use std::test::Fail;
 use std::thread::{self, Threads};
+use std::time::Clock;
 
 // How many puts each of the threads makes.
 const PUTS: u32 = 2_500;
@@ -20,17 +21,17 @@ const PUTS: u32 = 2_500;
 const MORE: u32 = 3_400;
 
 // How many writes a tidying gives up, of 64 at most: so many the tape holds while nobody is in a call.
-fn held<L: Ledger, R: Wait + Abort>(rt: &R, alloc: Global, book: &Mutex<Book<L>>) -> usize {
+fn held<L: Ledger, R: Wait + Clock + Abort>(rt: &R, alloc: Global, book: &BookLock<L>) -> usize {
     let mut displaced = Displaced::with_room(alloc, 64).expect(rt, "memory");
     locked(rt, book).tidy(&mut displaced);
     displaced.writes.len()
 }
 
 // Four threads put, then one alone.
-fn put_by_four<L: Ledger + Send + Sync, R: Threads + Wait + Abort + Sync>(
+fn put_by_four<L: Ledger + Send + Sync, R: Threads + Wait + Clock + Abort + Sync>(
     rt: &R,
     alloc: Global,
-    book: &Mutex<Book<L>>,
+    book: &BookLock<L>,
 ) {
     let told = thread::map_vec(
         rt,
@@ -45,7 +46,7 @@ fn put_by_four<L: Ledger + Send + Sync, R: Threads + Wait + Abort + Sync>(
     assert_eq!(rt; held(rt, alloc, book), 0);
 }
 
-fn run<L: Ledger + Send + Sync, R: Threads + Wait + Abort + Sync>(
+fn run<L: Ledger + Send + Sync, R: Threads + Wait + Clock + Abort + Sync>(
     rt: &R,
     alloc: Global,
     blank: Blank,
@@ -53,7 +54,7 @@ fn run<L: Ledger + Send + Sync, R: Threads + Wait + Abort + Sync>(
     requires name { blank.name ≡ L.name }
     requires parts { (blank.parts ≡ L.parts) × (L.parts ≡ 65536) }
 {
-    let book = Mutex::new(Book::<L>::new(blank, new_store(rt, alloc, 0)?));
+    let book = BookLock::new(Book::<L>::new(blank, new_store(rt, alloc, 0)?));
     put_by_four(rt, alloc, &book);
     Ok(())
 }

@@ -18,11 +18,19 @@ use mt_stored::{Checks, Keeper, write_checkpoint};
 use std::alloc::Global;
 use std::sync::ledger::Ledger;
 use std::sync::{Mutex, Wait};
+use std::time::Clock;
 
 /// A caller that asks a desk through a pass, for the tenant that its session opened, and keeps what it
 /// answers in logs, if there are some. After an answer is settled it writes a checkpoint if one is due.
 #[derive(Drop)]
-pub struct DeskCaller<'a, L: Ledger, R: Wait, D: Desk<L> + Drop, S: Logs + Drop, K: Disk + Drop> {
+pub struct DeskCaller<
+    'a,
+    L: Ledger,
+    R: Wait + Clock,
+    D: Desk<L> + Drop,
+    S: Logs + Drop,
+    K: Disk + Drop,
+> {
     rt: &'a R,
     alloc: Global,
     desk: D,
@@ -33,7 +41,7 @@ pub struct DeskCaller<'a, L: Ledger, R: Wait, D: Desk<L> + Drop, S: Logs + Drop,
     opened: Option<u32>,
 }
 
-impl<'a, L: Ledger, R: Wait, D: Desk<L> + Drop, S: Logs + Drop, K: Disk + Drop> DeskCaller<
+impl<'a, L: Ledger, R: Wait + Clock, D: Desk<L> + Drop, S: Logs + Drop, K: Disk + Drop> DeskCaller<
     'a,
     L,
     R,
@@ -78,14 +86,13 @@ impl<'a, L: Ledger, R: Wait, D: Desk<L> + Drop, S: Logs + Drop, K: Disk + Drop> 
     }
 }
 
-impl<L: Ledger, R: Wait + Log, D: Desk<L> + Drop, S: Logs + Drop, K: Disk + Drop> DeskCaller<
-    '_,
-    L,
-    R,
-    D,
-    S,
-    K,
-> {
+impl<
+    L: Ledger,
+    R: Wait + Clock + Log,
+    D: Desk<L> + Drop,
+    S: Logs + Drop,
+    K: Disk + Drop,
+> DeskCaller<'_, L, R, D, S, K> {
     ghost use Rattle.mt_service.specs.Asking.{MayWrite, asker};
     ghost use Rattle.mt_stored.specs.Keeping.{keeping};
 
@@ -132,7 +139,7 @@ impl<L: Ledger, R: Wait + Log, D: Desk<L> + Drop, S: Logs + Drop, K: Disk + Drop
     }
 }
 
-impl<L: Ledger, R: Wait + Log, D: Desk<L> + Drop, S: Logs + Drop, K: Disk + Drop> Caller
+impl<L: Ledger, R: Wait + Clock + Log, D: Desk<L> + Drop, S: Logs + Drop, K: Disk + Drop> Caller
     for DeskCaller<'_, L, R, D, S, K> {
     ghost use Rattle.mt_service.specs.Asking.{AsksDesk, asker};
     ghost use Rattle.mt_stored.specs.Keeping.{keeping};

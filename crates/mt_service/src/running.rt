@@ -12,7 +12,7 @@ use crate::callers::DeskCaller;
 use crate::faults::ServerFault;
 use crate::workers::SessionWorker;
 use log::Log;
-use mt_book::{Book, Pass, gather, open_pass};
+use mt_book::{Book, BookLock, Pass, gather, open_pass};
 use mt_crew::{Crew, CrewFault, Served, others_of, run_crew};
 use mt_disk::Disk;
 use mt_options::{Options, TenantQuota};
@@ -105,7 +105,7 @@ fn serve_store<
     let (state, logs, slots) = store.into_parts();
     let logs = locked_logs(alloc, logs)?;
     let checks = Mutex::new(Checks::new(checkpoint_every(options), slots));
-    let book = Mutex::new(Book::<L>::new(blank, state));
+    let book = BookLock::new(Book::<L>::new(blank, state));
     let served = serve_all(rt, alloc, &book, &logs, &checks, listener, options);
     let slots = checks.into_inner().into_slots();
     let store = settled(rt, alloc, book, logs, slots)?;
@@ -123,10 +123,10 @@ fn checkpoint_every(options: &Options) -> u32
 }
 
 // The store, of which nobody holds a lock any more, settled for the last time.
-fn settled<L: Ledger, R: Wait + Log, D: Disk + Drop>(
+fn settled<L: Ledger, R: Wait + Clock + Log, D: Disk + Drop>(
     rt: &R,
     alloc: Global,
-    book: Mutex<Book<L>>,
+    book: BookLock<L>,
     logs: Vec<Mutex<StoreLog<D>>>,
     slots: Option<StoreSlots<D>>,
 ) -> Result<Store<D>, ServerFault>
@@ -195,7 +195,7 @@ fn serve_all<
 >(
     rt: &R,
     alloc: Global,
-    book: &Mutex<Book<L>>,
+    book: &BookLock<L>,
     logs: &[Mutex<StoreLog<D>>],
     checks: &Mutex<Checks<D>>,
     listener: &TcpListener,
@@ -228,7 +228,7 @@ fn number_at(logs: usize, place: u8) -> u8
 fn worker_at<'a, L: Ledger, R: Wait + Clock, D: Disk + Drop>(
     rt: &'a R,
     alloc: Global,
-    book: &'a Mutex<Book<L>>,
+    book: &'a BookLock<L>,
     logs: &'a [Mutex<StoreLog<D>>],
     checks: &'a Mutex<Checks<D>>,
     tenants: &'a [TenantQuota],
@@ -259,7 +259,7 @@ fn worker_at<'a, L: Ledger, R: Wait + Clock, D: Disk + Drop>(
 fn workers_of<'a, L: Ledger, R: Wait + Clock, D: Disk + Drop>(
     rt: &'a R,
     alloc: Global,
-    book: &'a Mutex<Book<L>>,
+    book: &'a BookLock<L>,
     logs: &'a [Mutex<StoreLog<D>>],
     checks: &'a Mutex<Checks<D>>,
     options: &'a Options,
@@ -289,7 +289,7 @@ fn workers_of<'a, L: Ledger, R: Wait + Clock, D: Disk + Drop>(
 pub fn totals_of<L: Ledger, R: Wait + Clock + Log, D: Disk + Drop>(
     rt: &R,
     alloc: Global,
-    book: &Mutex<Book<L>>,
+    book: &BookLock<L>,
     served: Vec<Served<SessionWorker<'_, L, R, D>>>,
 ) -> Result<Totals, ServerFault>
     requires parts { L.parts ≡ 65536 }

@@ -5,15 +5,15 @@ ghost use Rattle.std.specs.Prelude.{◌≡◌};
 use crate::callers::DeskCaller;
 use crate::connections::{linger, set_up};
 use log::Log;
-use mt_book::{Book, Pass};
+use mt_book::{BookLock, Pass};
 use mt_crew::Worker;
 use mt_disk::Disk;
 use mt_session::{Ended, SessionBuffers, serve_with};
 use mt_stored::SharedLogs;
 use std::alloc::Global;
 use std::net::TcpStream;
+use std::sync::Wait;
 use std::sync::ledger::Ledger;
-use std::sync::{Mutex, Wait};
 use std::time::Clock;
 
 /// A worker with a caller and buffers of its own, which it lends to one session after the other. A session
@@ -21,7 +21,7 @@ use std::time::Clock;
 #[derive(Drop)]
 pub struct SessionWorker<'a, L: Ledger, R: Wait + Clock, D: Disk + Drop> {
     pub rt: &'a R,
-    pub caller: DeskCaller<'a, L, R, &'a Mutex<Book<L>>, SharedLogs<'a, L, D>, D>,
+    pub caller: DeskCaller<'a, L, R, &'a BookLock<L>, SharedLogs<'a, L, D>, D>,
     pub buffers: SessionBuffers,
 }
 

@@ -19,6 +19,7 @@ use std::alloc::{AllocError, Global};
 use std::marker::Brand;
 use std::sync::ledger::{Blank, Ledger};
 use std::sync::{Mutex, Wait};
+use std::time::Clock;
 
 // The tenants of `two_tenants`.
 const TENANTS: [TenantQuota; 2] = [
@@ -63,12 +64,12 @@ impl TestServer for Restored {
 
 /// Sessions over a book of such a state.
 #[derive(Drop)]
-pub struct Booked<'a, T: Wait + Log> {
+pub struct Booked<'a, T: Wait + Clock + Log> {
     pub rt: &'a T,
     pub steps: u64,
 }
 
-impl<T: Wait + Log> TestServer for Booked<'_, T> {
+impl<T: Wait + Clock + Log> TestServer for Booked<'_, T> {
     fn serve_new<R: Source, W: Sink>(
         &self,
         alloc: Global,
@@ -86,7 +87,7 @@ impl<T: Wait + Log> TestServer for Booked<'_, T> {
 }
 
 // A session by the server's caller, over a book that is owned alone.
-fn serve_booked<L: Ledger, T: Wait + Log, R: Source, W: Sink>(
+fn serve_booked<L: Ledger, T: Wait + Clock + Log, R: Source, W: Sink>(
     rt: &T,
     alloc: Global,
     blank: Blank,

@@ -20,6 +20,7 @@ use std::alloc::{AllocError, Global};
 use std::process::Abort;
 use std::sync::Wait;
 use std::test::Fail;
+use std::time::Clock;
 
 // Tenants 7 and 8, without pairs, of which the first may have a hundred and the second one.
 fn plain_tenants(alloc: Global) -> Result<PlainCaller, AllocError> {
@@ -79,7 +80,7 @@ impl TestServer for Stated {
 }
 
 // All rows are told in this way, over each.
-fn expect_rows<T: Wait + Log + Abort>(rt: &T, alloc: Global, way: Way) {
+fn expect_rows<T: Wait + Clock + Log + Abort>(rt: &T, alloc: Global, way: Way) {
     assert_eq!(rt; wrong_row(&Plain, alloc, &ROWS, way), None);
     assert_eq!(rt; wrong_row(&Stated, alloc, &ROWS, way), None);
     assert_eq!(rt;

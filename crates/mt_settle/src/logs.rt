@@ -8,6 +8,7 @@ use mt_rows::Refusal;
 use mt_store_logs::Flushed;
 use std::alloc::Global;
 use std::sync::Wait;
+use std::time::Clock;
 
 /// The logs of a store, one for each worker. `does` is what they say of a turn, and may say nothing.
 pub trait Logs {
@@ -24,7 +25,7 @@ pub trait Logs {
     /// Opens a log again if its disk failed, then gives it what its worker has changed since the last time.
     /// Returns that this log was flushed, and up to which step. An error loses nothing: what the log lacks goes
     /// into it before anything else. It may warn through `rt`.
-    fn bring_up<R: Wait + Log>(
+    fn bring_up<R: Wait + Clock + Log>(
         &mut self,
         rt: &R,
         alloc: Global,

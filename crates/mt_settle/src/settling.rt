@@ -8,13 +8,18 @@ use log::Log;
 use mt_rows::Refusal;
 use std::alloc::Global;
 use std::sync::Wait;
+use std::time::Clock;
 
 /// Brings each log up to date, in their order, and answers the least step that they told: up to it every
 /// log has all of its worker's changes.
 ///
 /// Errors: `NoStore` where there are no logs; else that of the first log that could not be brought up to
 /// date. Those before it were; of those behind it none was asked.
-pub fn settle<R: Wait + Log, S: Logs>(rt: &R, alloc: Global, logs: &mut S) -> Result<u64, Refusal>
+pub fn settle<R: Wait + Clock + Log, S: Logs>(
+    rt: &R,
+    alloc: Global,
+    logs: &mut S,
+) -> Result<u64, Refusal>
     ensures settles { Settles S.does (S.logs logs.old) logs.old logs.new result }
     ensures same { S.logs logs.new ≡ S.logs logs.old }
 {
@@ -30,7 +35,7 @@ pub fn settle<R: Wait + Log, S: Logs>(rt: &R, alloc: Global, logs: &mut S) -> Re
 }
 
 // Brings a log up to date; the step up to which it was flushed.
-fn brought_up<R: Wait + Log, S: Logs>(
+fn brought_up<R: Wait + Clock + Log, S: Logs>(
     rt: &R,
     alloc: Global,
     logs: &mut S,

@@ -17,6 +17,7 @@ use mt_slots::{Checkpointing, StoreSlots};
 use std::alloc::{AllocError, Global};
 use std::sync::Wait;
 use std::sync::ledger::Ledger;
+use std::time::Clock;
 
 /// Writes a checkpoint of these tenants' pairs into the slot that doesn't hold the newest one. It begins at the number
 /// of steps that the desk shows before its first scan, and ends at the one that the desk shows after its last. Only if
@@ -24,7 +25,7 @@ use std::sync::ledger::Ledger;
 ///
 /// The slots come back in each case. After an error the newest checkpoint is as before. Errors: `Device`; `Memory`, also
 /// for a scan that is answered so; what refuses a scan; `Spent`.
-pub fn write_checkpoint<L: Ledger, R: Wait, D: Desk<L>, K: Disk>(
+pub fn write_checkpoint<L: Ledger, R: Wait + Clock, D: Desk<L>, K: Disk>(
     rt: &R,
     alloc: Global,
     desk: &mut D,
@@ -54,7 +55,7 @@ pub fn write_checkpoint<L: Ledger, R: Wait, D: Desk<L>, K: Disk>(
 }
 
 // Adds the pages of a walk, up to its end. A page that isn't shown gives the checkpoint up.
-fn add_pages<L: Ledger, R: Wait, D: Desk<L>, K: Disk>(
+fn add_pages<L: Ledger, R: Wait + Clock, D: Desk<L>, K: Disk>(
     rt: &R,
     alloc: Global,
     desk: &mut D,
@@ -81,7 +82,7 @@ fn add_pages<L: Ledger, R: Wait, D: Desk<L>, K: Disk>(
 }
 
 // The pairs of a walk's next page, as a scan of the desk shows them. After the last page there are none.
-fn next_page<L: Ledger, R: Wait, D: Desk<L>>(
+fn next_page<L: Ledger, R: Wait + Clock, D: Desk<L>>(
     rt: &R,
     alloc: Global,
     desk: &mut D,

@@ -7,6 +7,7 @@ use mt_rows::Refusal;
 use mt_settle::{Logs, settle};
 use std::alloc::Global;
 use std::sync::Wait;
+use std::time::Clock;
 
 /// After so many answers a worker's own log has a turn, and one log more.
 pub const FLUSH_ANSWERS: u32 = 1_024;
@@ -67,7 +68,7 @@ impl<S: Logs + Drop> Keeper<S> {
     /// Counts an answer. At each 1,024th it gives the worker's own log a turn, and then one log more: the next
     /// one of a round over all of them. So a log whose disk failed is opened again, and one whose worker answers
     /// nothing has its changes too. What fails there waits for the log's next turn.
-    pub fn count_answer<R: Wait + Log>(&mut self, rt: &R)
+    pub fn count_answer<R: Wait + Clock + Log>(&mut self, rt: &R)
         ensures counts { Counts S.does S.logs (keeping self.old.logs self.old.worker self.old.since.answers self.old.next) (keeping self.new.logs self.new.worker self.new.since.answers self.new.next) }
     {
         if !self.since.count() {
@@ -86,7 +87,7 @@ impl<S: Logs + Drop> Keeper<S> {
     }
 
     /// Brings all logs up to date, and answers the step up to which all is kept.
-    pub fn settle<R: Wait + Log>(&mut self, rt: &R) -> Result<u64, Refusal>
+    pub fn settle<R: Wait + Clock + Log>(&mut self, rt: &R) -> Result<u64, Refusal>
         ensures settles { Settles S.does (S.logs self.old.logs) self.old.logs self.new.logs result }
         ensures same { (self.new.since ≡ self.old.since) × (self.new.worker ≡ self.old.worker) × (self.new.next ≡ self.old.next) }
     {

@@ -5,7 +5,7 @@ ghost use Rattle.std.specs.Prelude.{◌≡◌, vec_len, IfOk};
 use crate::changes::change_of;
 use crate::source::SharedBook;
 use log::{Log, warn};
-use mt_book::{Book, locked};
+use mt_book::{BookLock, locked};
 use mt_disk::Disk;
 use mt_rows::Refusal;
 use mt_settle::Logs;
@@ -13,18 +13,19 @@ use mt_store_logs::{Flushed, StoreLog, bring_up};
 use std::alloc::{AllocError, Global};
 use std::sync::ledger::Ledger;
 use std::sync::{Mutex, Wait};
+use std::time::Clock;
 
 /// The logs of a book, at most 255, of which others give turns too: a turn says nothing of the next one. It warns
 /// of a log that closes, and of one that is open again. A log at the place of another worker has no turn, and is
 /// refused by `LogCount`.
 #[derive(Drop)]
 pub struct SharedLogs<'a, L: Ledger, D: Disk + Drop> {
-    book: &'a Mutex<Book<L>>,
+    book: &'a BookLock<L>,
     logs: &'a [Mutex<StoreLog<D>>],
 }
 
 impl<'a, L: Ledger, D: Disk + Drop> SharedLogs<'a, L, D> {
-    pub fn new(book: &'a Mutex<Book<L>>, logs: &'a [Mutex<StoreLog<D>>]) -> Self
+    pub fn new(book: &'a BookLock<L>, logs: &'a [Mutex<StoreLog<D>>]) -> Self
         ensures book { result.book.now ≡ book.now }
         ensures logs { result.logs.now ≡ logs.now }
     {
@@ -43,7 +44,7 @@ impl<L: Ledger, D: Disk + Drop> Logs for SharedLogs<'_, L, D> {
         self.logs.len().min(255) as u8
     }
 
-    fn bring_up<R: Wait + Log>(
+    fn bring_up<R: Wait + Clock + Log>(
         &mut self,
         rt: &R,
         alloc: Global,

@@ -2,13 +2,14 @@
 
 ghost use Rattle.std.specs.Prelude.{◌≡◌};
 
-use mt_book::{Book, drain};
+use mt_book::{BookLock, drain};
 use mt_core::State;
 use mt_drains::DrainedBatch;
 use mt_store_logs::Source;
 use std::alloc::AllocError;
+use std::sync::Wait;
 use std::sync::ledger::Ledger;
-use std::sync::{Mutex, Wait};
+use std::time::Clock;
 
 /// A state that is owned alone. It says all that a drain did to it.
 #[derive(Drop)]
@@ -31,18 +32,18 @@ impl Source for OwnState {
 
 /// A book behind its lock, which others use too. A drain waits till the book has as many steps as it is to go up to.
 #[derive(Drop)]
-pub struct SharedBook<'a, 'b, L: Ledger, R: Wait> {
+pub struct SharedBook<'a, 'b, L: Ledger, R: Wait + Clock> {
     rt: &'a R,
-    book: &'b Mutex<Book<L>>,
+    book: &'b BookLock<L>,
 }
 
-impl<'a, 'b, L: Ledger, R: Wait> SharedBook<'a, 'b, L, R> {
-    pub fn new(rt: &'a R, book: &'b Mutex<Book<L>>) -> Self {
+impl<'a, 'b, L: Ledger, R: Wait + Clock> SharedBook<'a, 'b, L, R> {
+    pub fn new(rt: &'a R, book: &'b BookLock<L>) -> Self {
         SharedBook { rt, book }
     }
 }
 
-impl<L: Ledger, R: Wait> Source for SharedBook<'_, '_, L, R> {
+impl<L: Ledger, R: Wait + Clock> Source for SharedBook<'_, '_, L, R> {
     ghost serves = { λ s worker upto. Unit {0} };
 
     ghost gives = { λ old new worker batch. Unit {0} };

@@ -18,6 +18,7 @@ use mt_store_logs::{
 };
 use std::alloc::{AllocError, Global};
 use std::sync::Wait;
+use std::time::Clock;
 
 /// A state, the log of each of its workers, in their order, and the slots of its checkpoints. One without logs
 /// keeps nothing, and has no slots.
@@ -166,7 +167,11 @@ impl<D: Disk + Drop> Store<D> {
 
     /// Settles for the last time: with Ok every log goes up to the last step that was made. A store without
     /// logs has nothing to settle. An error is that of the first log that was not brought up to date.
-    pub fn settle_last<R: Wait + Log>(&mut self, rt: &R, alloc: Global) -> Result<(), Refusal>
+    pub fn settle_last<R: Wait + Clock + Log>(
+        &mut self,
+        rt: &R,
+        alloc: Global,
+    ) -> Result<(), Refusal>
         ensures settled { OnOk result (IsSettled self.new.source.state self.new.logs.items) }
         ensures state { self.new.source.state.steps ≡ self.old.source.state.steps }
         ensures err { IfErr result (StopsSettling (λ old turn new. DoesStore D.is_honest D.state D.failures turn old.source old.logs.items new.source new.logs.items) (vec_len self.old.logs) self.old self.new) }
@@ -191,7 +196,7 @@ impl<D: Disk + Drop> Logs for Store<D> {
         self.source.state.logs()
     }
 
-    fn bring_up<R: Wait + Log>(
+    fn bring_up<R: Wait + Clock + Log>(
         &mut self,
         _rt: &R,
         alloc: Global,

@@ -6,7 +6,7 @@ use crate::checks::expect_recovered;
 use crate::disks::{FlakyDisk, NEVER};
 use crate::stories::{TENANTS, bare_slots, joined, least_mark, new_store, session_of};
 use log::Log;
-use mt_book::Book;
+use mt_book::{Book, BookLock};
 use mt_store_logs::StoreLog;
 use mt_stored::{Checks, locked_logs};
 use std::alloc::Global;
@@ -15,6 +15,7 @@ use std::process::Abort;
 use std::sync::ledger::{Blank, Ledger};
 use std::sync::{Mutex, Wait};
 use std::thread::{self, Threads};
+use std::time::Clock;
 
 // So often each session puts keys, and settles.
 const TURNS: u16 = 20;
@@ -24,10 +25,10 @@ const PUTS: u16 = 60;
 
 // The turns of a worker's session; how many keys it has put. A settled number is later than the last one, and each log
 // goes up to it.
-fn put_and_settle<L: Ledger, R: Wait + Log + Abort>(
+fn put_and_settle<L: Ledger, R: Wait + Clock + Log + Abort>(
     rt: &R,
     alloc: Global,
-    book: &Mutex<Book<L>>,
+    book: &BookLock<L>,
     logs: &[Mutex<StoreLog<FlakyDisk>>],
     checks: &Mutex<Checks<FlakyDisk>>,
     worker: u8,
@@ -48,10 +49,10 @@ fn put_and_settle<L: Ledger, R: Wait + Log + Abort>(
 }
 
 // A session of each of four workers, in a thread of its own; how many keys each has put.
-fn four_at_once<L: Ledger + Send + Sync, R: Threads + Wait + Log + Abort + Sync>(
+fn four_at_once<L: Ledger + Send + Sync, R: Threads + Wait + Clock + Log + Abort + Sync>(
     rt: &R,
     alloc: Global,
-    book: &Mutex<Book<L>>,
+    book: &BookLock<L>,
     logs: &[Mutex<StoreLog<FlakyDisk>>],
     checks: &Mutex<Checks<FlakyDisk>>,
 ) -> Vec<u16> {
@@ -64,7 +65,7 @@ fn four_at_once<L: Ledger + Send + Sync, R: Threads + Wait + Log + Abort + Sync>
     counts.expect(rt, "memory")
 }
 
-fn run<L: Ledger + Send + Sync, R: Threads + Wait + Log + Abort + Sync>(
+fn run<L: Ledger + Send + Sync, R: Threads + Wait + Clock + Log + Abort + Sync>(
     rt: &R,
     alloc: Global,
     blank: Blank,
@@ -74,7 +75,7 @@ fn run<L: Ledger + Send + Sync, R: Threads + Wait + Log + Abort + Sync>(
 {
     let (state, logs, _) = new_store(rt, alloc, &[NEVER; 4]).into_parts();
     let logs = locked_logs(alloc, logs).expect(rt, "memory");
-    let book = Mutex::new(Book::<L>::new(blank, state));
+    let book = BookLock::new(Book::<L>::new(blank, state));
     let checks = Mutex::new(Checks::new(1, Some(bare_slots(alloc))));
     let counts = four_at_once(rt, alloc, &book, &logs, &checks);
     let slots = checks.into_inner().into_slots().expect(rt, "the slots");

@@ -8,7 +8,7 @@ use crate::sessions::Session;
 use crate::stories::{TENANTS, joined, new_store, session_of};
 use log::sink::Locked;
 use log::{Level, Log, Logged};
-use mt_book::Book;
+use mt_book::{Book, BookLock};
 use mt_checkpoint::Checkpoint;
 use mt_disk::MemDisk;
 use mt_rows::Refusal;
@@ -19,6 +19,7 @@ use std::marker::Brand;
 use std::process::Abort;
 use std::sync::ledger::{Blank, Ledger};
 use std::sync::{Mutex, Wait};
+use std::time::Clock;
 
 // How many pairs the checkpoint of each slot has, if there is one, and which slot has the newest.
 type Found = (Option<usize>, Option<usize>, Option<Slot>);
@@ -98,7 +99,7 @@ fn found_in(rt: &impl Abort, alloc: Global, slots: StoreSlots<FlakyDisk>) -> Fou
 }
 
 // Whether the client settles so many times, and is told a number each time.
-fn settles<L: Ledger, R: Wait + Log>(session: &mut Session<'_, L, R>, count: u8) -> bool {
+fn settles<L: Ledger, R: Wait + Clock + Log>(session: &mut Session<'_, L, R>, count: u8) -> bool {
     for _ in 0..count {
         if session.settle().is_err() {
             return false;
@@ -108,7 +109,7 @@ fn settles<L: Ledger, R: Wait + Log>(session: &mut Session<'_, L, R>, count: u8)
 }
 
 // Whether an act comes out as it should.
-fn comes_out<L: Ledger, R: Wait + Log>(
+fn comes_out<L: Ledger, R: Wait + Clock + Log>(
     rt: &R,
     alloc: Global,
     checks: &Mutex<Checks<FlakyDisk>>,
@@ -133,7 +134,7 @@ fn comes_out<L: Ledger, R: Wait + Log>(
 
 // What the slots have after a story of one client, if a checkpoint is due after each so many settled answers. Some calls
 // of the log's disk and of the slots' fail.
-fn played<L: Ledger, R: Wait + Log + Abort>(
+fn played<L: Ledger, R: Wait + Clock + Log + Abort>(
     rt: &R,
     alloc: Global,
     blank: Blank,
@@ -147,7 +148,7 @@ fn played<L: Ledger, R: Wait + Log + Abort>(
     let [log, first, second] = fails;
     let (state, logs, _) = new_store(rt, alloc, &[log]).into_parts();
     let logs = locked_logs(alloc, logs).expect(rt, "memory");
-    let book = Mutex::new(Book::<L>::new(blank, state));
+    let book = BookLock::new(Book::<L>::new(blank, state));
     let slots = slots_with(alloc, [first, second]).expect(rt, "memory");
     let checks = Mutex::new(Checks::new(every, Some(slots)));
     let mut session = session_of(rt, alloc, &book, &logs, &checks, &TENANTS, 0);
@@ -274,7 +275,12 @@ const CALLS: u64 = 10;
 const WARNING: &str = "[WARN  mt_service::callers] a checkpoint was given up: E10\n";
 
 // What is warned of, and what the slots have, if one call of the first slot's disk fails.
-fn with_failing<R: Wait + Abort>(rt: &R, alloc: Global, call: u64, acts: &[Act]) -> (bool, Found) {
+fn with_failing<R: Wait + Clock + Abort>(
+    rt: &R,
+    alloc: Global,
+    call: u64,
+    acts: &[Act],
+) -> (bool, Found) {
     let fails = [NEVER, (call, call.saturating_add(1)), NEVER];
     let logged = Logged::new(rt, Level::Warn, Locked::new(rt, Vec::new(alloc)));
     let found = played::<Brand, _>(&logged, alloc, Blank::new(65_536), 1, fails, acts);

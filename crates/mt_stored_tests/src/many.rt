@@ -11,6 +11,7 @@ use mt_stored::Store;
 use std::alloc::Global;
 use std::process::Abort;
 use std::sync::Wait;
+use std::time::Clock;
 
 // So many times each client puts.
 const PUTS: u16 = 50_050;
@@ -19,7 +20,7 @@ const PUTS: u16 = 50_050;
 const GOES_ON: u16 = 50_300;
 
 // Settles once; what the logs' files hold then.
-fn settled<R: Wait + Log + Abort>(
+fn settled<R: Wait + Clock + Log + Abort>(
     rt: &R,
     alloc: Global,
     state: State,
@@ -33,7 +34,7 @@ fn settled<R: Wait + Log + Abort>(
 }
 
 // Two workers put all pairs, scans show them, and a Settle keeps them.
-fn served<R: Wait + Log + Abort>(rt: &R, alloc: Global) -> Vec<Vec<u8>> {
+fn served<R: Wait + Clock + Log + Abort>(rt: &R, alloc: Global) -> Vec<Vec<u8>> {
     let (mut state, logs, _) = new_store(rt, alloc, &[NEVER; 2]).into_parts();
     put_all(rt, alloc, &mut state, 0, PUTS);
     expect_all(rt, alloc, &mut state, PUTS);

@@ -3,19 +3,20 @@
 use crate::disks::FlakyDisk;
 use crate::images::key_of;
 use log::Log;
-use mt_book::Book;
+use mt_book::BookLock;
 use mt_rows::{Column, ColumnIndexes, Command, Key, NamedColumns, Refusal, Reply};
 use mt_service::DeskCaller;
 use mt_session::Caller;
 use mt_stored::SharedLogs;
 use std::alloc::{AllocError, Global};
+use std::sync::Wait;
 use std::sync::ledger::Ledger;
-use std::sync::{Mutex, Wait};
+use std::time::Clock;
 
 /// A worker's session, and how many keys its client has put.
 #[derive(Drop)]
-pub(crate) struct Session<'a, L: Ledger, R: Wait> {
-    pub caller: DeskCaller<'a, L, R, &'a Mutex<Book<L>>, SharedLogs<'a, L, FlakyDisk>, FlakyDisk>,
+pub(crate) struct Session<'a, L: Ledger, R: Wait + Clock> {
+    pub caller: DeskCaller<'a, L, R, &'a BookLock<L>, SharedLogs<'a, L, FlakyDisk>, FlakyDisk>,
     pub worker: u8,
     pub count: u16,
 }
@@ -35,7 +36,7 @@ fn get_of(alloc: Global, key: [u8; 3]) -> Result<Command, AllocError> {
     Ok(Command::Get { key, columns })
 }
 
-impl<L: Ledger, R: Wait + Log> Session<'_, L, R> {
+impl<L: Ledger, R: Wait + Clock + Log> Session<'_, L, R> {
     /// Opens tenant 7.
     pub(crate) fn open(&mut self) -> bool {
         self.caller.open(7).is_ok()

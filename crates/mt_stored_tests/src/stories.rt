@@ -7,7 +7,7 @@ use crate::images::{hold_all, image_of, images_of, tenant_7};
 use crate::sessions::Session;
 use log::sink::Locked;
 use log::{Level, Log, Logged};
-use mt_book::{Book, open_pass};
+use mt_book::{Book, BookLock, open_pass};
 use mt_options::TenantQuota;
 use mt_recover::LogSlot;
 use mt_rows::Refusal;
@@ -20,6 +20,7 @@ use std::marker::Brand;
 use std::process::Abort;
 use std::sync::ledger::{Blank, Ledger};
 use std::sync::{Mutex, Wait};
+use std::time::Clock;
 
 /// The tenants that are served.
 pub(crate) const TENANTS: [TenantQuota; 1] = [TenantQuota {
@@ -52,10 +53,10 @@ pub(crate) fn bare_slots(alloc: Global) -> StoreSlots<FlakyDisk> {
 }
 
 /// A session of a worker.
-pub(crate) fn session_of<'a, L: Ledger, R: Wait + Log + Abort>(
+pub(crate) fn session_of<'a, L: Ledger, R: Wait + Clock + Log + Abort>(
     rt: &'a R,
     alloc: Global,
-    book: &'a Mutex<Book<L>>,
+    book: &'a BookLock<L>,
     logs: &'a [Mutex<StoreLog<FlakyDisk>>],
     checks: &'a Mutex<Checks<FlakyDisk>>,
     tenants: &'a [TenantQuota],
@@ -73,10 +74,10 @@ pub(crate) fn session_of<'a, L: Ledger, R: Wait + Log + Abort>(
 }
 
 /// A session of each worker.
-pub(crate) fn sessions_of<'a, L: Ledger, R: Wait + Log + Abort>(
+pub(crate) fn sessions_of<'a, L: Ledger, R: Wait + Clock + Log + Abort>(
     rt: &'a R,
     alloc: Global,
-    book: &'a Mutex<Book<L>>,
+    book: &'a BookLock<L>,
     logs: &'a [Mutex<StoreLog<FlakyDisk>>],
     checks: &'a Mutex<Checks<FlakyDisk>>,
     tenants: &'a [TenantQuota],
@@ -90,7 +91,7 @@ pub(crate) fn sessions_of<'a, L: Ledger, R: Wait + Log + Abort>(
 }
 
 /// How many keys each of the sessions has put.
-pub(crate) fn counts_of<L: Ledger, R: Wait>(
+pub(crate) fn counts_of<L: Ledger, R: Wait + Clock>(
     rt: &impl Abort,
     alloc: Global,
     sessions: &[Session<'_, L, R>],
@@ -103,7 +104,7 @@ pub(crate) fn counts_of<L: Ledger, R: Wait>(
 }
 
 /// What stands in the files of these logs now.
-pub(crate) fn images_now<R: Wait>(
+pub(crate) fn images_now<R: Wait + Clock>(
     rt: &R,
     alloc: Global,
     logs: &[Mutex<StoreLog<FlakyDisk>>],
@@ -128,10 +129,10 @@ pub(crate) fn expect_kept(rt: &impl Abort, alloc: Global, store: Store<FlakyDisk
 }
 
 /// A store's end: its logs are joined with its state again, and settled for the last time.
-pub(crate) fn joined<L: Ledger, R: Wait + Log + Abort>(
+pub(crate) fn joined<L: Ledger, R: Wait + Clock + Log + Abort>(
     rt: &R,
     alloc: Global,
-    book: Mutex<Book<L>>,
+    book: BookLock<L>,
     logs: Vec<Mutex<StoreLog<FlakyDisk>>>,
 ) -> Store<FlakyDisk> {
     let logs = unlocked_logs(alloc, logs).expect(rt, "memory");
@@ -162,7 +163,10 @@ enum Act {
 }
 
 /// The least step up to which one of the logs goes, if all are open.
-pub(crate) fn least_mark<R: Wait>(rt: &R, logs: &[Mutex<StoreLog<FlakyDisk>>]) -> Option<u64> {
+pub(crate) fn least_mark<R: Wait + Clock>(
+    rt: &R,
+    logs: &[Mutex<StoreLog<FlakyDisk>>],
+) -> Option<u64> {
     let mut least = u64::MAX;
     for log in logs {
         let mark = log.lock(rt).mark();
@@ -172,7 +176,7 @@ pub(crate) fn least_mark<R: Wait>(rt: &R, logs: &[Mutex<StoreLog<FlakyDisk>>]) -
 }
 
 // Whether a log is there, and open.
-fn is_open<R: Wait>(rt: &R, logs: &[Mutex<StoreLog<FlakyDisk>>], log: usize) -> bool {
+fn is_open<R: Wait + Clock>(rt: &R, logs: &[Mutex<StoreLog<FlakyDisk>>], log: usize) -> bool {
     match logs.get(log) {
         Some(log) => log.lock(rt).mark().is_some(),
         None => false,
@@ -180,7 +184,11 @@ fn is_open<R: Wait>(rt: &R, logs: &[Mutex<StoreLog<FlakyDisk>>], log: usize) -> 
 }
 
 // How many bytes of a log have been read, if it is there.
-fn bytes_read<R: Wait>(rt: &R, logs: &[Mutex<StoreLog<FlakyDisk>>], log: usize) -> Option<u64> {
+fn bytes_read<R: Wait + Clock>(
+    rt: &R,
+    logs: &[Mutex<StoreLog<FlakyDisk>>],
+    log: usize,
+) -> Option<u64> {
     match logs.get(log)?.lock(rt).slot() {
         LogSlot::Open(log) => Some(log.disk().bytes_read()),
         LogSlot::Failed(log) => Some(log.disk().bytes_read()),
@@ -190,7 +198,7 @@ fn bytes_read<R: Wait>(rt: &R, logs: &[Mutex<StoreLog<FlakyDisk>>], log: usize) 
 }
 
 // Whether all that was put is in the files.
-fn is_kept<L: Ledger, R: Wait + Abort>(
+fn is_kept<L: Ledger, R: Wait + Clock + Abort>(
     rt: &R,
     alloc: Global,
     logs: &[Mutex<StoreLog<FlakyDisk>>],
@@ -205,7 +213,7 @@ fn is_kept<L: Ledger, R: Wait + Abort>(
 }
 
 // Whether an act comes out as it should, after which the logs were last seen to go up to a step.
-fn comes_out<L: Ledger, R: Wait + Log + Abort>(
+fn comes_out<L: Ledger, R: Wait + Clock + Log + Abort>(
     rt: &R,
     alloc: Global,
     logs: &[Mutex<StoreLog<FlakyDisk>>],
@@ -248,10 +256,10 @@ fn comes_out<L: Ledger, R: Wait + Log + Abort>(
 }
 
 // Plays a story, each of whose acts comes out as it should; how many keys each client has put.
-fn play<L: Ledger, R: Wait + Log + Abort>(
+fn play<L: Ledger, R: Wait + Clock + Log + Abort>(
     rt: &R,
     alloc: Global,
-    book: &Mutex<Book<L>>,
+    book: &BookLock<L>,
     logs: &[Mutex<StoreLog<FlakyDisk>>],
     acts: &[Act],
 ) -> Vec<u16> {
@@ -268,7 +276,7 @@ fn play<L: Ledger, R: Wait + Log + Abort>(
 }
 
 // A store over such disks, and a story.
-fn run<L: Ledger, R: Wait + Log + Abort>(
+fn run<L: Ledger, R: Wait + Clock + Log + Abort>(
     rt: &R,
     alloc: Global,
     blank: Blank,
@@ -282,7 +290,7 @@ fn run<L: Ledger, R: Wait + Log + Abort>(
 {
     let (state, logs, _) = new_store(rt, alloc, fails).into_parts();
     let logs = locked_logs(alloc, logs).expect(rt, "memory");
-    let book = Mutex::new(Book::<L>::new(blank, state));
+    let book = BookLock::new(Book::<L>::new(blank, state));
     let counts = play(rt, alloc, &book, &logs, acts);
     let store = joined(rt, alloc, book, logs);
     expect_kept(rt, alloc, store, &counts);
@@ -387,7 +395,7 @@ const WARNINGS: &str =
 ";
 
 // A story over two logs, the second of whose disks fails; what is warned of.
-fn run_failing<R: Wait + Abort>(rt: &R, alloc: Global, fails: Fails, acts: &[Act]) {
+fn run_failing<R: Wait + Clock + Abort>(rt: &R, alloc: Global, fails: Fails, acts: &[Act]) {
     let logged = Logged::new(rt, Level::Warn, Locked::new(rt, Vec::new(alloc)));
     run::<Brand, _>(&logged, alloc, Blank::new(65_536), &[NEVER, fails], acts);
     let (_, sink) = logged.into_parts();
