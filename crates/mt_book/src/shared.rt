@@ -11,6 +11,7 @@ use crate::passes::Pass;
 use mt_core::{Displaced, Opening, Ticket};
 use mt_drains::DrainedBatch;
 use std::alloc::AllocError;
+use std::sync::atomic::{AtomicU64, Ordering};
 use std::sync::ledger::Ledger;
 use std::sync::{Mutex, MutexGuard, Wait};
 use std::time::{Clock, Duration};
@@ -102,6 +103,7 @@ impl<L: Ledger> Desk<L> for Book<L> {
 pub struct BookLock<L: Ledger> {
     book: Mutex<Book<L>>,
     looking: Mutex<()>,
+    sleeping: AtomicU64,
 }
 
 impl<L: Ledger> BookLock<L> {
@@ -109,12 +111,17 @@ impl<L: Ledger> BookLock<L> {
         BookLock {
             book: Mutex::new(book),
             looking: Mutex::new(()),
+            sleeping: AtomicU64::new(0),
         }
     }
 
     /// The book, of which nobody holds the lock any more.
     pub fn into_inner(self) -> Book<L> {
-        let BookLock { book, looking: _ } = self;
+        let BookLock {
+            book,
+            looking: _,
+            sleeping: _,
+        } = self;
         book.into_inner()
     }
 }
@@ -132,13 +139,11 @@ pub fn locked<'a, L: Ledger, R: Wait + Clock>(
     guard
 }
 
-// At so many looks a thread finds the lock soon if its holder is at work: some 500 turns.
-const FIRST_LOOKS: u32 = 7;
+// At so many looks a thread finds the lock soon if its holder is at work: some 1,000 turns.
+const FIRST_LOOKS: u32 = 8;
 
-// So many microseconds a thread sleeps first, and at most.
-const FIRST_NAP: u64 = 50;
-
-const LONGEST_NAP: u64 = 400;
+// So many microseconds a thread sleeps for each that sleeps.
+const NAP: u64 = 50;
 
 // The lock. A thread that has not found it free goes on looking if no other one does, and else it sleeps. So
 // those who wait take one processor, and no unlock has to wake them.
@@ -146,7 +151,6 @@ fn waited<'a, L: Ledger, R: Wait + Clock>(
     rt: &R,
     shared: &'a BookLock<L>,
 ) -> MutexGuard<'a, Book<L>> {
-    let mut nap = FIRST_NAP;
     for _ in 0..1000u32 {
         if let Some(guard) = looked(&shared.book, FIRST_LOOKS) {
             return guard;
@@ -157,13 +161,18 @@ fn waited<'a, L: Ledger, R: Wait + Clock>(
                     return guard;
                 }
             }
-            None => {
-                thread::sleep(rt, Duration::from_micros(nap));
-                nap = nap.saturating_mul(2).min(LONGEST_NAP);
-            }
+            None => nap(rt, &shared.sleeping),
         }
     }
     shared.book.lock(rt)
+}
+
+// Sleeps, and longer the more threads sleep: one of them wakes every 50 microseconds or so, however many they are.
+fn nap<R: Clock>(rt: &R, sleeping: &AtomicU64) {
+    let others = sleeping.fetch_add(1, Ordering::Relaxed);
+    let time = Duration::from_micros(NAP.saturating_mul(others.saturating_add(1)));
+    thread::sleep(rt, time);
+    let _ = sleeping.fetch_sub(1, Ordering::Relaxed);
 }
 
 // The lock, if it is free at one of so many looks. The turns between two looks double from 4 to 4,096; from
