@@ -66,13 +66,20 @@ pub fn slice_of(count: usize, bytes: &[u8]) -> Result<(&[u8], &[u8]), DecodeFaul
     Ok(bytes.split_at(count))
 }
 
-/// A string.
+/// The bytes of a string, where they are.
 #[tactic(auto, unfolding(crate::specs::Reading::string_at))]
+pub fn text_of(bytes: &[u8]) -> Result<(&[u8], &[u8]), DecodeFault>
+    ensures { Gives (λ x. (x.0.now, x.1.now)) result (string_at bytes.now) }
+{
+    let (count, rest) = u16_at(bytes)?;
+    slice_of(usize::from(count), rest)
+}
+
+/// A string, copied.
 pub fn string_of(alloc: Global, bytes: &[u8]) -> Result<(Vec<u8>, &[u8]), DecodeFault>
     ensures { Gives (λ x. (x.0.items, x.1.now)) result (string_at bytes.now) }
 {
-    let (count, rest) = u16_at(bytes)?;
-    let (text, rest) = slice_of(usize::from(count), rest)?;
+    let (text, rest) = text_of(bytes)?;
     Ok((Vec::from_slice(alloc, text)?, rest))
 }
 

@@ -10,5 +10,5 @@ mod fields;
 
 pub use fault::DecodeFault;
 pub use fields::{
-    put_string, put_u32, put_u64, slice_of, string_of, u8_at, u16_at, u32_at, u64_at,
+    put_string, put_u32, put_u64, slice_of, string_of, text_of, u8_at, u16_at, u32_at, u64_at,
 };

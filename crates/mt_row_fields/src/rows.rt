@@ -8,7 +8,7 @@ ghost use Rattle.mt_rows.specs.{Rows.IsRow, Commands.IsKey};
 ghost use Rattle.mt_fields.specs.{Fields.string, Reading.{Gives, string_at, each_at}};
 ghost use Rattle.mt_row_fields.specs.{Format.row_bytes, Reading.{row_at, key_at}};
 
-use mt_fields::{DecodeFault, put_string, string_of, u8_at};
+use mt_fields::{DecodeFault, put_string, string_of, text_of, u8_at};
 use mt_rows::key::USER_KEY_BYTES;
 use mt_rows::{Column, Key, Row};
 use std::alloc::{AllocError, Global};
@@ -55,8 +55,8 @@ fn columns_of(alloc: Global, count: u8, bytes: &[u8]) -> Result<(Vec<Column>, &[
 fn column_of(alloc: Global, bytes: &[u8]) -> Result<(Column, &[u8]), DecodeFault>
     ensures { Gives (λ x. (x.0, x.1.now)) result (string_at bytes.now) }
 {
-    let (text, rest) = string_of(alloc, bytes)?;
-    Ok((Column::new(alloc, text)?, rest))
+    let (text, rest) = text_of(bytes)?;
+    Ok((Column::from_slice(alloc, text)?, rest))
 }
 
 /// A user key. What was written before stays, also if it fails.

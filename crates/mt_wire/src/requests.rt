@@ -9,7 +9,7 @@ ghost use Rattle.mt_wire.specs.Fronts.{IsFront};
 use crate::fault::{DecodeFault, EncodeFault};
 use crate::frame::{Announced, LENGTH_BYTES, put_length, read_length};
 use crate::message::{Front, Request};
-use mt_fields::{put_string, put_u32, slice_of, string_of, u8_at, u32_at};
+use mt_fields::{put_string, put_u32, slice_of, string_of, text_of, u8_at, u32_at};
 use mt_rows::{Column, ColumnIndexes, Command, Key, NamedColumns};
 use std::alloc::{AllocError, Global};
 
@@ -93,8 +93,8 @@ fn named_column_of(alloc: Global, bytes: &[u8]) -> Result<((u8, Column), &[u8]),
     ensures { Gives (λ x. (x.0, x.1.now)) result (named_column_at bytes.now) }
 {
     let (index, rest) = u8_at(bytes)?;
-    let (text, rest) = string_of(alloc, rest)?;
-    Ok(((index, Column::new(alloc, text)?), rest))
+    let (text, rest) = text_of(rest)?;
+    Ok(((index, Column::from_slice(alloc, text)?), rest))
 }
 
 fn columns_of(
