@@ -6,7 +6,7 @@ ghost use Rattle.mt_book.specs.{Periods.{IsOfWorker, room_of, least_room}, Calls
 use crate::desks::{Admission, Admitted, Desk, Stepping, Taken, Taking};
 use crate::gates::{Gate, passed};
 use crate::passes::{Aside, Pass};
-use mt_core::{Displaced, Opening, Ticket, prepare};
+use mt_core::{Displaced, Opening, Ticket, prepare_in};
 use mt_operation::Phase;
 use mt_rows::{Command, Refusal};
 use mt_runs::Answer;
@@ -56,6 +56,7 @@ fn set_aside(alloc: Global, kept: Option<Aside>, command: &Command) -> Result<As
         None => Ok(Aside {
             command: command.copied()?,
             displaced: Displaced::with_room(alloc, ROOM)?,
+            over: None,
         }),
     }
 }
@@ -256,9 +257,9 @@ pub fn call<L: Ledger, R: Wait + Clock, D: Desk<L>, G: Gate>(
     let Ok(mut aside) = set_aside(alloc, pass.aside.take(), &command) else {
         return Err(CallFault::Refused(Refusal::Memory));
     };
-    let opening = prepare(alloc, pass.worker, tenant, command);
+    let opening = prepare_in(alloc, aside.over.take(), pass.worker, tenant, command);
     let told = ran(rt, desk, pass, opening, gate, &mut aside);
-    aside.displaced.clear();
+    aside.clear(alloc);
     pass.aside = Some(aside);
     told
 }

@@ -2,7 +2,8 @@
 
 ghost use Rattle.std.specs.Prelude.{◌≡◌, ◌≢◌, ◌<◌, ◌≤◌, ℕ, true, false, IsTrue, OnSome, IfSome, IfNone, IfOk, length, slice_set, Some, None};
 ghost use Rattle.mt_operation.specs.{declared.operation.Operation.{Operation as AnyOperation}, Operations.{view_of, is_unfinished}};
-ghost use Rattle.mt_operation.specs.Tables.{op_at as operation_at};
+ghost use Rattle.mt_operation.specs.{Tables.{op_at as operation_at}, Tasks.{command_of}};
+ghost use Rattle.mt_rows.specs.Commands.{IsTaken};
 ghost use Rattle.mt_state.specs.{Begins.{begun, IsAnswerOf}, Refused.Makes};
 ghost use Rattle.mt_core.specs.{Tidies.{IsRestOf, DisplacesRestOf}, Admitted.{IsRequest, IsAdmitted, IsMadeOf, view_in}};
 
@@ -72,15 +73,31 @@ pub fn prepare(alloc: Global, worker: u8, tenant: u32, command: Command) -> Open
     ensures made { IsMadeOf result.made worker tenant command }
     ensures refused { Makes command result.made }
 {
+    prepare_in(alloc, None, worker, tenant, command)
+}
+
+/// The same in the memory of an operation that is over, if there is one. What that still has is freed.
+pub fn prepare_in(
+    alloc: Global,
+    over: Option<Box<Operation>>,
+    worker: u8,
+    tenant: u32,
+    command: Command,
+) -> Opening
+    ensures tenant { result.tenant ≡ tenant }
+    ensures made { IsMadeOf result.made worker tenant command }
+    ensures refused { Makes command result.made }
+{
     Opening {
         tenant,
-        made: admitted(alloc, worker, tenant, command),
+        made: admitted(alloc, over, worker, tenant, command),
     }
 }
 
 // An operation before its first step.
 fn admitted(
     alloc: Global,
+    over: Option<Box<Operation>>,
     worker: u8,
     tenant: u32,
     command: Command,
@@ -90,12 +107,26 @@ fn admitted(
     ensures refused { Makes command result }
 {
     let request = request_of(alloc, command)?;
+    match over {
+        Some(operation) => renewed(alloc, operation, worker, tenant, request),
+        None => made(alloc, worker, tenant, request),
+    }
+}
+
+// An operation before its first step, of a request that is taken.
+fn made(alloc: Global, worker: u8, tenant: u32, request: Request) -> Result<Box<Operation>, Refusal>
+    requires { IsTaken (command_of request) }
+    ensures admitted { IfOk result (λ op. IsAdmitted op.value) }
+    ensures is { IfOk result (λ op. view_in op ≡ begun worker tenant (command_of request) 0) }
+    ensures refused { Makes (command_of request) result }
+{
     let key = match StoredKey::new(alloc, tenant, request.key().as_bytes()) {
         Ok(key) => key,
         Err(KeyRefusal::KeyLong) => return Err(Refusal::KeyLong),
         Err(KeyRefusal::Memory) => return Err(Refusal::Memory),
     };
-    let spare = spare_for(alloc, &request)?;
+    let mut spare = Spare::none();
+    make_room(alloc, &mut spare, &request)?;
     let task = Task {
         worker,
         tenant,
@@ -105,6 +136,29 @@ fn admitted(
     };
     let operation = Box::new(alloc, Operation::new(alloc, task))?;
     Ok(operation)
+}
+
+// The same in the box of an operation that is over.
+fn renewed(
+    alloc: Global,
+    operation: Box<Operation>,
+    worker: u8,
+    tenant: u32,
+    request: Request,
+) -> Result<Box<Operation>, Refusal>
+    requires { IsTaken (command_of request) }
+    ensures admitted { IfOk result (λ op. IsAdmitted op.value) }
+    ensures is { IfOk result (λ op. view_in op ≡ begun worker tenant (command_of request) 0) }
+    ensures refused { Makes (command_of request) result }
+{
+    let mut operation = operation;
+    let place = operation.as_mut();
+    make_room(alloc, &mut place.task.spare, &request)?;
+    match place.renew(alloc, worker, tenant, request) {
+        Ok(()) => Ok(operation),
+        Err(KeyRefusal::KeyLong) => Err(Refusal::KeyLong),
+        Err(KeyRefusal::Memory) => Err(Refusal::Memory),
+    }
 }
 
 // How many bytes a put leaves to commands that need less: it begins only if so many can be had. Once the C library
@@ -123,20 +177,20 @@ fn names_first_alone(change: &Change) -> bool {
     columns.len() == 1 && columns[0].0 == 0
 }
 
-// Memory for what an operation writes on the tape, if it is one that changes something.
-fn spare_for(alloc: Global, request: &Request) -> Result<Spare, AllocError> {
+// Makes room for what an operation writes on the tape, if it is one that changes something.
+fn make_room(alloc: Global, spare: &mut Spare, request: &Request) -> Result<(), AllocError> {
     match request {
         Request::Put { key, change } => {
             let _ = bytes_left(alloc)?;
-            let bytes = key.as_bytes().len();
+            spare.make_key_room(alloc, key.as_bytes().len())?;
             if names_first_alone(change) {
-                Spare::for_key(alloc, bytes)
+                Ok(())
             } else {
-                Spare::for_row(alloc, bytes)
+                spare.make_row_room(alloc)
             }
         }
-        Request::Remove { key } => Spare::for_key(alloc, key.as_bytes().len()),
-        Request::Get { .. } | Request::Scan { .. } => Ok(Spare::none()),
+        Request::Remove { key } => spare.make_key_room(alloc, key.as_bytes().len()),
+        Request::Get { .. } | Request::Scan { .. } => Ok(()),
     }
 }
 

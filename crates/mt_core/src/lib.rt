@@ -23,7 +23,7 @@ pub mod state;
 mod writes;
 
 pub use answers::Ticket;
-pub use begins::{Opening, prepare};
+pub use begins::{Opening, prepare, prepare_in};
 pub use displaced::Displaced;
 pub use events::{Roster, ToldList, run_events, tell};
 pub use inner::MAX_STEPS;

@@ -13,12 +13,14 @@ ghost use Rattle.mt_state.specs.{Views.{StateView, shown, contents_of, granted},
 ghost use Rattle.mt_core.specs.Restores.{put_of, with_pair, IsIdle, MayPut, HasPut, IsRestored};
 
 use crate::answers::Ticket;
-use crate::begins::prepare;
+use crate::begins::prepare_in;
 use crate::displaced::Displaced;
 use crate::inner::{Inner, MAX_STEPS};
+use mt_operation::Operation;
 use mt_rows::{Command, NamedColumns, Refusal, Reply, TenantPair, Tenants};
 use mt_state::Move;
 use std::alloc::{AllocError, Global};
+use std::boxed::Box;
 
 /// What is inside a state that has made so many steps, and has these pairs.
 pub(crate) fn restored(
@@ -53,25 +55,35 @@ fn put_all(inner: &mut Inner, pairs: &[TenantPair]) -> Result<(), AllocError>
     requires quotas { KeepsQuotas (granted (shown inner.old)) (pairs_of pairs.now) }
     ensures { OnOk result (HasPut (shown inner.old) (shown inner.new) (pairs_of pairs.now)) }
 {
+    let mut over = None;
     for pair in pairs {
-        put_alone(inner, pair)?;
+        over = put_alone(inner, over, pair)?;
     }
     Ok(())
 }
 
-// Puts a pair of a missing key, where no operation is open.
-fn put_alone(inner: &mut Inner, pair: &TenantPair) -> Result<(), AllocError>
+// Puts a pair of a missing key, where no operation is open, in the memory of the put before it, and hands
+// that on.
+fn put_alone(
+    inner: &mut Inner,
+    over: Option<Box<Operation>>,
+    pair: &TenantPair,
+) -> Result<Option<Box<Operation>>, AllocError>
     requires idle { IsIdle (shown inner.old) }
     requires pair { MayPut (shown inner.old) pair.now }
     ensures { OnOk result (HasPut (shown inner.old) (shown inner.new) (with_pair pair.now (contents_of (shown inner.old)))) }
 {
     make_numbers(inner)?;
-    let ticket = begin(inner, pair)?;
+    let ticket = begin(inner, over, pair)?;
     run(inner, ticket)
 }
 
 // Begins the put of a pair whose tenant is there.
-fn begin(inner: &mut Inner, pair: &TenantPair) -> Result<Ticket, AllocError>
+fn begin(
+    inner: &mut Inner,
+    over: Option<Box<Operation>>,
+    pair: &TenantPair,
+) -> Result<Ticket, AllocError>
     requires limits { IsTenantPair pair.now }
     requires tenant { account_of inner.old.accounts pair.now.tenant ≢ None }
     requires numbers { inner.old.steps < 2 ^ 59 }
@@ -79,7 +91,8 @@ fn begin(inner: &mut Inner, pair: &TenantPair) -> Result<Ticket, AllocError>
 {
     let change = NamedColumns::of_row(inner.alloc, &pair.row)?;
     let key = pair.key.clone()?;
-    let opening = prepare(inner.alloc, 0, pair.tenant, Command::Put { key, change });
+    let command = Command::Put { key, change };
+    let opening = prepare_in(inner.alloc, over, 0, pair.tenant, command);
     match inner.admit(opening) {
         Ok(ticket) => Ok(ticket),
         Err(Refusal::Memory) => Err(AllocError),
@@ -87,8 +100,8 @@ fn begin(inner: &mut Inner, pair: &TenantPair) -> Result<Ticket, AllocError>
     }
 }
 
-// Runs the put of a pair of a missing key to its end.
-fn run(inner: &mut Inner, ticket: Ticket) -> Result<(), AllocError>
+// Runs the put of a pair of a missing key to its end, and hands out what is left of it.
+fn run(inner: &mut Inner, ticket: Ticket) -> Result<Option<Box<Operation>>, AllocError>
     requires begun { (v : StateView) × (p : AnyPair) × IsIdle v × MayPut v p × Begins v (shown inner.old) ticket.id 0 p.tenant (put_of p) }
     requires numbers { inner.old.steps + 256 * (live_count inner.old.arena.nodes + 64) ≤ 2 ^ 59 }
     ensures { (v : StateView) (p : AnyPair) → IsIdle v → MayPut v p → Begins v (shown inner.old) ticket.id 0 p.tenant (put_of p) →
@@ -103,7 +116,7 @@ fn run(inner: &mut Inner, ticket: Ticket) -> Result<(), AllocError>
     let mut displaced = Displaced::new(inner.alloc);
     match inner.take(ticket, &mut displaced) {
         Ok(answer) => match answer.reply {
-            Reply::New => Ok(()),
+            Reply::New => Ok(displaced.rest),
             Reply::NoMemory => Err(AllocError),
             _ => unreachable!(),
         },

@@ -13,7 +13,7 @@ use std::cell::Cell;
 /// Room for one more copy of an operation's key, until it is used, and for a row.
 #[derive(Drop)]
 pub struct Spare {
-    key: Cell<Option<Vec<u8>>>,
+    key: Cell<Option<Key>>,
     row: RowRoom,
 }
 
@@ -26,24 +26,26 @@ impl Spare {
         }
     }
 
-    /// Room for a key of so many bytes: for a removal. An error comes where memory is refused.
-    pub fn for_key(alloc: Global, bytes: usize) -> Result<Self, AllocError> {
-        let key = Vec::with_capacity(alloc, bytes)?;
-        Ok(Spare {
-            key: Cell::new(Some(key)),
-            row: RowRoom::none(),
-        })
+    /// Makes room for a key of so many bytes, if the key that was kept has fewer. An error comes where memory
+    /// is refused.
+    pub fn make_key_room(&mut self, alloc: Global, bytes: usize) -> Result<(), AllocError> {
+        let room = match self.key.take() {
+            Some(kept) if kept.as_bytes().len() >= bytes => kept,
+            _ => Key::new(Vec::with_capacity(alloc, bytes)?),
+        };
+        self.key.set(Some(room));
+        Ok(())
     }
 
-    /// Room for a key of so many bytes, and for a row of several columns: for a put. An error comes where
-    /// memory is refused.
-    pub fn for_row(alloc: Global, bytes: usize) -> Result<Self, AllocError> {
-        let key = Vec::with_capacity(alloc, bytes)?;
-        let row = RowRoom::new(alloc)?;
-        Ok(Spare {
-            key: Cell::new(Some(key)),
-            row,
-        })
+    /// Keeps the memory of a key that nobody needs any more.
+    pub fn keep_key(&mut self, key: Key) {
+        self.key.set(Some(key));
+    }
+
+    /// Makes room for a row of several columns. An error comes where memory is refused.
+    pub fn make_row_room(&mut self, alloc: Global) -> Result<(), AllocError> {
+        self.row = RowRoom::new(alloc)?;
+        Ok(())
     }
 
     /// The room for a row.
@@ -57,18 +59,11 @@ impl Spare {
         ensures { IfOk result (λ copy. copy ≡ key.now) }
     {
         match self.key.take() {
-            Some(room) => copied_into(room, key),
+            Some(mut room) => {
+                room.copy_from(key)?;
+                Ok(room)
+            }
             None => key.clone(),
         }
     }
-}
-
-// A copy of a key in this memory.
-fn copied_into(room: Vec<u8>, key: &Key) -> Result<Key, AllocError>
-    ensures { IfOk result (λ copy. copy ≡ key.now) }
-{
-    let mut bytes = room;
-    bytes.clear();
-    bytes.extend_from_slice(key.as_bytes())?;
-    Ok(Key::new(bytes))
 }

@@ -4,4 +4,4 @@ use Rattle.mt_book.proofs.calls.call.Goals as goal
 
 pub returns-clause-periods : goal.returns-clause-periods
 returns-clause-periods g c = c.ran-told.ensures.periods (asked_by c.args.pass.now.worker c.args.tenant c.args.command) refl
-    (record { tenant_is = c.prepare-opening.ensures.tenant; made = c.prepare-opening.ensures.made; refused = c.prepare-opening.ensures.refused })
+    (record { tenant_is = c.prepare_in-opening.ensures.tenant; made = c.prepare_in-opening.ensures.made; refused = c.prepare_in-opening.ensures.refused })

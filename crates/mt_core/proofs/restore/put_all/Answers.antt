@@ -17,7 +17,7 @@ pub loop-pair-preserved : goal.loop-pair-preserved
 loop-pair-preserved c =
     has_more c.args.pairs.now c.requires.distinct (shown c.args.inner.now) (shown c.loop-pair.inner) c.loop-pair.pair-index c.pair-item.result
     (slice_get_read c.args.pairs.now (length c.args.pairs.now) c.loop-pair.pair-index c.pair-item.result refl c.loop-pair-test.true c.pair-item.is)
-    c.loop-pair.invariant (shown c.put_alone.new.inner) c.in_ok-put_alone.ensures
+    c.loop-pair.invariant (shown c.put_alone.new.inner) c.in_ok-over.ensures
 
 pub returns : goal.returns
 returns c =
