@@ -43,10 +43,7 @@ fn columns_of(rt: &impl Abort, alloc: Global, n: u64) -> NamedColumns {
     let mut columns = Vec::new(alloc);
     let count = (1 + n % 3) as u8;
     for index in 0..count {
-        let mut bytes = Vec::new(alloc);
-        assert!(rt; bytes.push((n % 256) as u8).is_ok());
-        assert!(rt; bytes.push(index).is_ok());
-        let column = Column::new(alloc, bytes).expect(rt, "memory");
+        let column = Column::from_slice(alloc, &[(n % 256) as u8, index]).expect(rt, "memory");
         assert!(rt; columns.push((index, column)).is_ok());
     }
     NamedColumns::new(columns)

@@ -50,8 +50,7 @@ pub(crate) fn one_tenant(alloc: Global) -> Tenants
 }
 
 fn put(rt: &impl Abort, alloc: Global, key: &str, value: &str) -> Command {
-    let value = Vec::from_slice(alloc, value.as_bytes()).expect(rt, "memory");
-    let column = Column::new(alloc, value).expect(rt, "memory");
+    let column = Column::from_slice(alloc, value.as_bytes()).expect(rt, "memory");
     let mut columns = Vec::new(alloc);
     assert!(rt; columns.push((0, column)).is_ok());
     let change = NamedColumns::new(columns);

@@ -41,7 +41,7 @@ pub struct Walk {
 /// A row of one column of one byte.
 pub fn row_of(alloc: Global, byte: u8) -> Result<Row, AllocError> {
     let mut columns = Vec::new(alloc);
-    columns.push(Column::new(alloc, [byte].to_vec(alloc)?)?)?;
+    columns.push(Column::from_slice(alloc, &[byte])?)?;
     if Row::fits(&columns) {
         Row::new(alloc, columns)
     } else {

@@ -25,7 +25,7 @@ pub(crate) struct Session<'a, L: Ledger, R: Wait + Clock> {
 pub(crate) fn put_of(alloc: Global, key: &[u8], value: u8) -> Result<Command, AllocError> {
     let key = Key::new(Vec::from_slice(alloc, key)?);
     let mut columns = Vec::new(alloc);
-    columns.push((0, Column::new(alloc, Vec::from_slice(alloc, &[value])?)?))?;
+    columns.push((0, Column::from_slice(alloc, &[value])?))?;
     let change = NamedColumns::new(columns);
     Ok(Command::Put { key, change })
 }
