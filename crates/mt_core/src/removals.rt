@@ -20,11 +20,9 @@ use mt_rows::{Reply, Tenants};
 use mt_slices::StoredKey;
 use mt_table::Made;
 use mt_tape::Tape;
-use std::alloc::Global;
 
 /// Looks for the key under the lock, and makes all growths of the step that takes it out.
 pub(crate) fn judge_removal(
-    alloc: Global,
     arena: &mut Arena,
     tape: &mut Tape,
     operation: &mut Operation,
@@ -36,7 +34,7 @@ pub(crate) fn judge_removal(
     requires removes { is_remove (ask operation.old.task) ≡ true }
     ensures { WritesTape id (TellsJudged id step) arena.old arena.new tape.old tape.new operation.old result operation.new }
 {
-    match judge(alloc, arena, tape, &operation.task, &mut operation.walk, id) {
+    match judge(arena, tape, &operation.task, &mut operation.walk, id) {
         Looked::Ready(prepared) => {
             operation.prepared = Some(prepared);
             Made::Step

@@ -103,9 +103,7 @@ fn judge_node(
     ensures { WritesTape id (TellsJudged id step) arena.old arena.new tape.old tape.new operation.old result operation.new }
 {
     match operation.outcome {
-        None if removes(&operation.task) => {
-            judge_removal(alloc, arena, tape, operation, step, id)
-        }
+        None if removes(&operation.task) => judge_removal(arena, tape, operation, step, id),
         None => judge_put(alloc, arena, tape, operation, step, id),
         Some(_) => judge_back(arena, operation, id),
     }

@@ -7,7 +7,7 @@ use Rattle.mt_border.specs.{Held.{Held, Stable}, Slots.{held_in, next_free, is_d
 use Rattle.mt_tape.specs.declared.entry.Entry.{Entry as Write}
 use Rattle.mt_arena.specs.{NodeView.NodeView, Edits.with_filled, Arena.{ArenaView, IsArena, Guarantee}, Accesses.{at, IsOpen, with_node}}
 use Rattle.mt_arena.proofs.{Pairs.here, SettledEdits.settled_self}
-use Rattle.mt_operation.specs.{declared.phase.Phase.TheVariants.Publish, declared.prepared.Prepared.Prepared, Ready.without_pair}
+use Rattle.mt_operation.specs.{declared.phase.Phase.TheVariants.Publish, declared.prepared.Prepared.Prepared, Ready.placed}
 use Rattle.mt_operation.specs.{declared.task.Task.Task, declared.walk.Walk.Walk}
 use Rattle.mt_descent.proofs.Rely.{border_stays}
 use Rattle.mt_held.{specs.{Holds.HoldsBy, Moves.walk_at}, proofs.{Looks.holds_on, Places.open_here}}
@@ -61,7 +61,7 @@ module _ (v : ArenaView) (op : ℕ) (task : Task) (prepared : Prepared) (w : Wal
       ap (λ suffix. Stable (record { suffix = suffix; row = prepared.row; stamp = 0 })) h.suffix
       ∙ ap (λ (row : Columns). Stable (record { suffix = suffix_of task.key w.layer; row = row; stamp = 0 })) (h.ready.row ∙ sym row_left)
 
-  pub kept_filled : Guarantee op v u → held_in y.cells.helds (next_free y.cells) ≡ held_ready prepared → IsAtPublish u op task (without_pair prepared.write) (walk_at Publish w)
+  pub kept_filled : Guarantee op v u → held_in y.cells.helds (next_free y.cells) ≡ held_ready prepared → IsAtPublish u op task (placed prepared.write) (walk_at Publish w)
   kept_filled step there = record {
     holds = holds_on u op task w Publish w.slot (holds_filled step);
     missing = subst (λ (m : NodeView). IsMissing m.slots (slice_of task.key w.layer) (mark_of task.key w.layer)) (sym node_is) h.missing;

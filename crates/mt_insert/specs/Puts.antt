@@ -1,5 +1,5 @@
 -- What a put writes: the row that it makes of the one that is there, and the write of it for the tape.
-use Rattle.std.specs.{Prelude.{◌≡◌, ℕ, Bool, true, false, [], Option, Some}, FinMap.get}
+use Rattle.std.specs.{Prelude.{◌≡◌, ℕ, Bool, true, false, [], Option, Some}, Option.is_none, FinMap.get}
 use Rattle.mt_rows.specs.{declared.command.Command.Command, declared.command.Command.TheVariants.Put, Rows.{Columns, columns_of}, Changes.{Named, changed}}
 use Rattle.mt_rows.specs.{Commands.key_of, Tenants.Contents}
 use Rattle.mt_border.specs.Contents.{owned}
@@ -39,11 +39,13 @@ write_over task before step = record {
 abbrev pub write_of : Task → Contents → ℕ → Write
 write_of task contents step = write_over task (get contents (owned task.key)) step
 
--- what is made ready for the step that places a put: the row that it makes of this one, or of none, and the write of it, still without its number
+-- what is made ready for the step that places a put: the row that it makes of this one, or the pair of a row that it makes of none, and the write of
+-- it, still without its number
 pub record IsReady (task : Task) (before : Option Columns) (prepared : Prepared) : Type 0 where
   pub row : prepared.row ≡ row_over task before
   pub write : prepared.write ≡ write_over task before 0
   pub whole : prepared.whole ≡ true
+  pub paired : prepared.paired ≡ is_none before
 
 -- and what is left of it once its pair stands in a slot
 pub record IsLeft (task : Task) (before : Option Columns) (prepared : Prepared) : Type 0 where

@@ -39,11 +39,12 @@ fn prepared(
     suffix: Suffix,
 ) -> Result<Prepared, AllocError>
     requires put { is_put (ask task.now) ≡ true }
-    ensures suffix { IfOk result (λ prepared. prepared.suffix ≡ suffix) }
+    ensures suffix { before ≡ None → IfOk result (λ prepared. prepared.suffix ≡ suffix) }
     ensures ready { IfOk result (λ prepared. IsReady task.now before prepared) }
 {
     let change = change_of(&task.request);
     let row = merge_in(alloc, task.spare.row(), before.as_ref(), change)?;
+    let is_new = before.is_none();
     let write = Entry {
         step: 0,
         worker: task.worker,
@@ -52,7 +53,11 @@ fn prepared(
         before,
         after: Some(row.share()?),
     };
-    Prepared::new(alloc, suffix, row, write)
+    if is_new {
+        Prepared::new(alloc, suffix, row, write)
+    } else {
+        Ok(Prepared::of_row(row, write))
+    }
 }
 
 // The row of a slot, shared.

@@ -1,4 +1,4 @@
-//! What a put has made ready.
+//! What a change has made ready.
 
 ghost use Rattle.std.specs.Prelude.{◌≡◌, true, IfOk};
 
@@ -7,14 +7,23 @@ use mt_rows::Row;
 use mt_tape::Entry;
 use std::alloc::{AllocError, Global};
 use std::marker::Model;
+use std::mem;
 
-/// All that the steps which place a put need. It is grown under the lock, so that these steps
-/// allocate nothing. The suffix is empty where a row is written over; the write has its number
-/// only once it is placed. The pair is there until it is written into a slot.
-// The pair's stamp means nothing until then.
+// What is to stand in a slot. The pair's stamp means nothing until it stands there.
+#[derive(Drop)]
+enum Made {
+    Pair(Pair),
+    Row(Row),
+    Nothing,
+}
+
+/// All that the steps which place a change need. It is grown under the lock, so that these steps
+/// allocate nothing. A new key's pair is there until it is written into a slot. A row that is written
+/// over another one is there alone, and a removal has its write alone. The write has its number only
+/// once it is placed.
 #[derive(Drop)]
 pub struct Prepared {
-    pair: Option<Pair>,
+    made: Made,
     write: Entry,
 }
 
@@ -23,44 +32,69 @@ impl Model for Prepared {
 
     ghost Value = { Prepared };
 
-    ghost view = { λ p. prepared_in p.pair p.write };
+    ghost view = { λ p. prepared_in p.made p.write };
 }
 
 impl Prepared {
-    ghost use Rattle.mt_operation.specs.Ready.{without_pair};
+    ghost use Rattle.mt_operation.specs.Ready.{pair_ready, row_ready, placed};
 
-    /// An error comes where memory is refused. What was handed in is gone then.
+    /// The pair of a new key, and the write. An error comes where memory is refused. What was handed in
+    /// is gone then.
     pub fn new(
         alloc: Global,
         suffix: Suffix,
         row: Row,
         write: Entry,
     ) -> Result<Prepared, AllocError>
-        ensures { IfOk result (λ prepared. prepared ≡ record { suffix = suffix; row = row; write = write; whole = true }) }
+        ensures { IfOk result (λ prepared. prepared ≡ pair_ready suffix row write) }
     {
-        let pair = Some(Pair::new(alloc, suffix, row, 0)?);
-        Ok(Prepared { pair, write })
+        let made = Made::Pair(Pair::new(alloc, suffix, row, 0)?);
+        Ok(Prepared { made, write })
+    }
+
+    /// The row that is written over another one, and the write.
+    pub fn of_row(row: Row, write: Entry) -> Prepared
+        ensures { result ≡ row_ready row write }
+    {
+        Prepared {
+            made: Made::Row(row),
+            write,
+        }
+    }
+
+    /// The write alone.
+    pub fn of_write(write: Entry) -> Prepared
+        ensures { result ≡ placed write }
+    {
+        Prepared {
+            made: Made::Nothing,
+            write,
+        }
     }
 
     /// Takes the pair of a new key, placed by the step `stamp`; what is left is the write.
     pub fn take_pair(&mut self, stamp: u64) -> Pair
-        requires { self.old.whole ≡ true }
+        requires { self.old.paired ≡ true }
         ensures pair { result ≡ record { suffix = self.old.suffix; row = self.old.row; stamp = stamp } }
-        ensures left { self.new ≡ without_pair self.old.write }
+        ensures left { self.new ≡ placed self.old.write }
     {
-        let mut pair = self.pair.take().unwrap();
+        let Made::Pair(mut pair) = mem::replace(&mut self.made, Made::Nothing) else {
+            unreachable!()
+        };
         pair.set_stamp(stamp);
         pair
     }
 
     /// The pair of a new key, placed by the step `stamp`, and the write.
     pub fn into_pair(self, stamp: u64) -> (Pair, Entry)
-        requires { self.whole ≡ true }
+        requires { self.paired ≡ true }
         ensures pair { result.0 ≡ record { suffix = self.suffix; row = self.row; stamp = stamp } }
         ensures write { result.1 ≡ self.write }
     {
-        let Prepared { pair, write } = self;
-        let mut pair = pair.unwrap();
+        let Prepared { made, write } = self;
+        let Made::Pair(mut pair) = made else {
+            unreachable!()
+        };
         pair.set_stamp(stamp);
         (pair, write)
     }
@@ -71,8 +105,13 @@ impl Prepared {
         ensures row { result.0 ≡ self.row }
         ensures write { result.1 ≡ self.write }
     {
-        let Prepared { pair, write } = self;
-        (pair.unwrap().into_row(), write)
+        let Prepared { made, write } = self;
+        let row = match made {
+            Made::Pair(pair) => pair.into_row(),
+            Made::Row(row) => row,
+            Made::Nothing => unreachable!(),
+        };
+        (row, write)
     }
 
     /// The write alone.

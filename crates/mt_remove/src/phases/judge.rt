@@ -9,12 +9,12 @@ ghost use Rattle.mt_held.specs.{Holds.HoldsBorder, Taping.reserving};
 ghost use Rattle.mt_remove.specs.{Writes.{IsRemoval, ReadyIn}, Judge.TellsLooked};
 
 use mt_arena::Arena;
-use mt_border::{Border, Find, FoundKind, Held, Suffix};
+use mt_border::{Border, Find, FoundKind, Held};
 use mt_held::{find_here, go_below, tree_at, unlock};
 use mt_operation::{Phase, Prepared, Task, Walk};
 use mt_rows::Row;
 use mt_tape::{Entry, Tape};
-use std::alloc::{AllocError, Global};
+use std::alloc::AllocError;
 
 /// What became of a removal's look at its border node.
 #[derive(Drop)]
@@ -33,7 +33,6 @@ pub enum Looked {
 /// of the step that takes it out. A link leads into its tree; where the node misses the key, or has another
 /// long one in its place, the lock is given back.
 pub fn judge(
-    alloc: Global,
     arena: &mut Arena,
     tape: &mut Tape,
     task: &Task,
@@ -47,7 +46,7 @@ pub fn judge(
     arena.facts();
     match find_here(arena, &task.key, walk) {
         Find::Slot(slot, FoundKind::ThisKey) => {
-            make_ready(alloc, arena, tape, task, walk, slot, operation)
+            make_ready(arena, tape, task, walk, slot, operation)
         }
         Find::Slot(slot, FoundKind::Link) => {
             let tree = tree_at(arena.border(walk.place.node), slot);
@@ -67,7 +66,6 @@ pub fn judge(
 
 // Makes all growths of the step that takes the key out of its slot.
 fn make_ready(
-    alloc: Global,
     arena: &mut Arena,
     tape: &mut Tape,
     task: &Task,
@@ -81,7 +79,7 @@ fn make_ready(
     ensures { TellsLooked operation task.now arena.old arena.new tape.old tape.new walk.old walk.new result }
 {
     arena.facts();
-    match prepare(alloc, arena, tape, task, walk, slot) {
+    match prepare(arena, tape, task, walk, slot) {
         Ok(prepared) => {
             walk.slot = slot;
             walk.phase = Phase::DropKey;
@@ -97,7 +95,6 @@ fn make_ready(
 // All growths of the step that takes the key out of its slot, with room for its write on the tape. An error
 // leaves the tape as it was.
 fn prepare(
-    alloc: Global,
     arena: &Arena,
     tape: &mut Tape,
     task: &Task,
@@ -111,32 +108,26 @@ fn prepare(
     ensures reserved { OnOk result (tape.new ≡ reserving tape.old) }
     ensures unchanged_on_err { OnErr result (tape.new ≡ tape.old) }
 {
-    let prepared = prepared(alloc, arena.border(walk.place.node), task, slot)?;
+    let prepared = prepared(arena.border(walk.place.node), task, slot)?;
     tape.reserve()?;
     Ok(prepared)
 }
 
 // The removal of a slot's row.
-fn prepared(
-    alloc: Global,
-    border: &Border,
-    task: &Task,
-    slot: usize,
-) -> Result<Prepared, AllocError>
+fn prepared(border: &Border, task: &Task, slot: usize) -> Result<Prepared, AllocError>
     requires live { IsLive border.now slot }
     requires pair { (pair : AnyPair) × (pair_of (entry_at border.now slot).held ≡ Some pair) }
     ensures { IfOk result (λ prepared. ReadyIn (entry_at border.now slot).held task.now prepared) }
 {
-    let row = row_at(border, slot)?;
     let write = Entry {
         step: 0,
         worker: task.worker,
         tenant: task.tenant,
         key: task.spare.copied(task.request.key())?,
-        before: Some(row.share()?),
+        before: Some(row_at(border, slot)?),
         after: None,
     };
-    Prepared::new(alloc, Suffix::empty(), row, write)
+    Ok(Prepared::of_write(write))
 }
 
 // The row of a slot that has a pair, shared.
