@@ -161,16 +161,6 @@ fn renewed(
     }
 }
 
-// How many bytes a put leaves to commands that need less: it begins only if so many can be had. Once the C library
-// can't make its own room larger, each piece of memory takes a page of the system. These are 256 pages.
-const BYTES_LEFT: usize = 1_048_576;
-
-// So many bytes, for a moment. Inlined they would be left out, since nothing is written to them.
-#[inline(never)]
-fn bytes_left(alloc: Global) -> Result<Vec<u8>, AllocError> {
-    Vec::with_capacity(alloc, BYTES_LEFT)
-}
-
 // Whether a change names the first column alone: it makes a row of several columns only over another such one.
 fn names_first_alone(change: &Change) -> bool {
     let columns = change.columns();
@@ -181,7 +171,7 @@ fn names_first_alone(change: &Change) -> bool {
 fn make_room(alloc: Global, spare: &mut Spare, request: &Request) -> Result<(), AllocError> {
     match request {
         Request::Put { key, change } => {
-            let _ = bytes_left(alloc)?;
+            spare.leave_bytes(alloc)?;
             spare.make_key_room(alloc, key.as_bytes().len())?;
             if names_first_alone(change) {
                 Ok(())

@@ -10,11 +10,21 @@ use mt_rows::{Key, RowRoom};
 use std::alloc::{AllocError, Global};
 use std::cell::Cell;
 
+// How many bytes a put leaves to commands that need less. Once the C library can't make its own room larger,
+// each piece of memory takes a page of the system. These are 256 pages.
+const BYTES_LEFT: usize = 1_048_576;
+
+// How many puts in the memory of one another begin after one look for these bytes. To take so large a piece
+// makes the C library join its free ones.
+const PUTS_A_LOOK: u8 = 16;
+
 /// Room for one more copy of an operation's key, until it is used, and for a row.
 #[derive(Drop)]
 pub struct Spare {
     key: Cell<Option<Key>>,
     row: RowRoom,
+    // How many puts more may begin before the next look for the bytes that they leave.
+    unlooked: u8,
 }
 
 impl Spare {
@@ -23,7 +33,20 @@ impl Spare {
         Spare {
             key: Cell::new(None),
             row: RowRoom::none(),
+            unlooked: 0,
         }
+    }
+
+    /// Leaves 1 MB to commands that need less: the first put in an operation's memory, and each sixteenth after
+    /// it, begins only if so much can be had for a moment. An error comes where it can't; the next put looks
+    /// again then.
+    pub fn leave_bytes(&mut self, alloc: Global) -> Result<(), AllocError> {
+        if self.unlooked == 0 {
+            let _ = bytes_left(alloc)?;
+            self.unlooked = PUTS_A_LOOK;
+        }
+        self.unlooked -= 1;
+        Ok(())
     }
 
     /// Makes room for a key of so many bytes, if the key that was kept has fewer. An error comes where memory
@@ -66,4 +89,10 @@ impl Spare {
             None => key.clone(),
         }
     }
+}
+
+// So many bytes, for a moment. Inlined they would be left out, since nothing is written to them.
+#[inline(never)]
+fn bytes_left(alloc: Global) -> Result<Vec<u8>, AllocError> {
+    Vec::with_capacity(alloc, BYTES_LEFT)
 }
