@@ -1,18 +1,20 @@
 -- What a worker's batch is before its length is asked for: its steps, its stamps, and the limits of its records.
-use Rattle.std.specs.{Prelude.{◌≡◌, ◌⊎◌, ℕ, ◌<◌, ◌≤◌, ◌^◌, List, length, Option, Some, None}, List.All}
-use Rattle.mt_rows.specs.{Rows.{Columns, IsRow}, Commands.IsKey, Limits.AreRecords, declared.record.Record.Record, declared.record.Batch.Batch}
+use Rattle.std.specs.{Prelude.{◌≡◌, ◌⊎◌, ℕ, ◌<◌, ◌≤◌, ◌^◌, List, length}, List.All}
+use Rattle.mt_rows.specs.{Rows.IsRow, Commands.IsKey, Limits.AreRecords, declared.record.Record.Record, declared.record.Batch.Batch, Changes.IsChange}
+use Rattle.mt_rows.specs.{declared.record.Write.TheVariants.{Changed, Removed, Whole}, declared.record.Write.Write}
 
--- a row within its limits, or none
-abbrev pub IsRowOrNone : Option Columns → Type 0
-IsRowOrNone None = Unit {0}
-IsRowOrNone (Some row) = IsRow row
+-- a write within its limits
+abbrev pub IsWrite : Write → Type 0
+IsWrite Removed = Unit {0}
+IsWrite (Whole row) = IsRow row
+IsWrite (Changed change) = IsChange change
 
 -- a record whose fields have their limits
 pub record IsRecord (r : Record) : Type 0 where
   pub stamp : r.stamp < 2 ^ 64
   pub tenant : r.tenant < 2 ^ 32
   pub key : IsKey r.key
-  pub row : IsRowOrNone r.row
+  pub write : IsWrite r.write
 
 -- the records of a batch: stamps rise strictly, each over `from` and at most `to`
 pub record AreLogged (from to : ℕ) (records : List Record) : Type 0 where
