@@ -91,7 +91,7 @@ module _ (quotas : Quotas) (first : Maps) (story : Story) (map_at now_at : ℕ �
         asked_so = c.asked_so;
         not_scan = c.not_scan;
         changes = ap (λ w. is_change (reply_in quotas c.what w)) same ∙ c.changes;
-        makes = λ t. g.maps t (suc m) (omega arith) le ∙ c.makes t ∙ ap (λ w. maps_after_one quotas (Some c.what) w t) (sym same);
+        makes = λ t. g.maps t (suc m) (omega arith) le ∙ c.makes t ∙ ap (λ w. maps_after_one quotas (suc m) (Some c.what) w t) (sym same);
         told = λ a done.
             let Told : Maps → Type 0 = λ w. (a.command ≡ c.what.command) × (a.reply ≡ reply_in quotas c.what w) × (a.at ≡ suc m) in
             let found : Told (maps_at map_at m) = elim (finished_cases story o answer c.op a done) [

@@ -15,11 +15,11 @@ use Rattle.mt_runs.proofs.{Once.{StandsAt, one_answer, count_small, count_of_sta
 use mathlib.Core.Path.{fun_ext}
 
 -- a command whose reply is of no change leaves all maps
-leaves_one : (quotas : Quotas) (what : Asked) (maps : Maps) → is_change (reply_in quotas what maps) ≡ false → maps_after_one quotas (Some what) maps ≡ maps
-leaves_one quotas what maps e = fun_ext (λ t. by t (eqb t what.tenant) refl)
+leaves_one : (quotas : Quotas) (m : ℕ) (what : Asked) (maps : Maps) → is_change (reply_in quotas what maps) ≡ false → maps_after_one quotas m (Some what) maps ≡ maps
+leaves_one quotas m what maps e = fun_ext (λ t. by t (eqb t what.tenant) refl)
   where
-    by : (t : ℕ) (b : Bool) → eqb t what.tenant ≡ b → cond b (map_after (quotas t) what.command (maps t)) (maps t) ≡ maps t
-    by t true same = let is : t ≡ what.tenant = eqb-true _ _ same in same_map_after (quotas t) what.command (maps t) (subst (λ u. is_change (reply_of (quotas u) what.command (maps u)) ≡ false) (sym is) e)
+    by : (t : ℕ) (b : Bool) → eqb t what.tenant ≡ b → cond b (map_after (quotas t) m what.command (maps t)) (maps t) ≡ maps t
+    by t true same = let is : t ≡ what.tenant = eqb-true _ _ same in same_map_after (quotas t) m what.command (maps t) (subst (λ u. is_change (reply_of (quotas u) what.command (maps u)) ≡ false) (sym is) e)
     by t false other = refl
 
 -- a list of nothing is empty
@@ -52,7 +52,7 @@ module _ (quotas : Quotas) (first : Maps) (story : Story) (map_at : ℕ → ℕ 
       let same : answer.reply ≡ reply_in quotas a.what (maps_at map_at m) = subst (λ k. answer.reply ≡ reply_in quotas a.what (maps_at map_at k)) parts.2 (a.looked parts.0 parts.1) in
       record {
         number = refl;
-        leaves = ap (λ w. maps_after_one quotas w (maps_at map_at m)) a.asked_so ∙ leaves_one quotas a.what (maps_at map_at m) (ap is_change (sym same) ∙ parts.1);
+        leaves = ap (λ w. maps_after_one quotas m w (maps_at map_at m)) a.asked_so ∙ leaves_one quotas m a.what (maps_at map_at m) (ap is_change (sym same) ∙ parts.1);
       })
 
   -- no answer was looked at in the maps of a number from before the run
@@ -80,7 +80,7 @@ module _ (quotas : Quotas) (first : Maps) (story : Story) (map_at : ℕ → ℕ 
       by : (b : Bool) → changed (suc n) ≡ b → maps_after quotas story (maps_at map_at n) (change_here story changed (suc n)) ≡ maps_at map_at (suc n)
       by true e = let c = r.changes n from le e in
           ap (maps_after quotas story (maps_at map_at n)) (change_here-true story changed (suc n) c.op e c.own)
-          ∙ ap (λ w. maps_after_one quotas w (maps_at map_at n)) c.asked_so ∙ fun_ext (λ t. sym (c.makes t))
+          ∙ ap (λ w. maps_after_one quotas (suc n) w (maps_at map_at n)) c.asked_so ∙ fun_ext (λ t. sym (c.makes t))
       by false e = ap (maps_after quotas story (maps_at map_at n)) (change_here-false story changed (suc n) e) ∙ fun_ext (λ t. sym (r.stays n t from le e))
 
   -- so at the run's beginning the maps are the first ones

@@ -56,7 +56,7 @@ module _ (quotas : Quotas) (story : Story) where
   stands_at maps before [] o h s = absurd (none_stands o s)
   stands_at maps before (p ∷ ps) o h s = elim (here_or_behind p ps o s) [
     | inl is ↦ (p.1, h.0.rises, subst (λ q. IsSinceFirst story q p.1) is h.0.since, λ answer done. subst (λ q. IsUpToLast story q p.1) is (h.0.finished answer (subst (λ q. Finished story q answer) (sym is) done)).2)
-    | inr later ↦ let w = stands_at (maps_after_one quotas (story.asked p.0) maps) p.1 ps o h.1 later in (w.0, omega (arith, w.1, h.0.rises), w.2, w.3)
+    | inr later ↦ let w = stands_at (maps_after_one quotas p.1 (story.asked p.0) maps) p.1 ps o h.1 later in (w.0, omega (arith, w.1, h.0.rises), w.2, w.3)
   ]
 
   -- an operation that precedes another does not stand behind it
@@ -66,7 +66,7 @@ module _ (quotas : Quotas) (story : Story) where
     | inl is ↦ let since = h.0.since in let lt = precedes since.0 since.0 (since.2 ∙ ap (λ q. Some q) is) since.2 in absurd (omega arith)
     | inr later ↦
         let since = h.0.since in
-        let at = stands_at (maps_after_one quotas (story.asked p.0) maps) p.1 ps o h.1 later in
+        let at = stands_at (maps_after_one quotas p.1 (story.asked p.0) maps) p.1 ps o h.1 later in
         let upto = at.3 answer done in
         absurd (omega (arith, since.1, at.1, upto.1, precedes upto.0 since.0 upto.2 since.2))
   ]
@@ -80,7 +80,7 @@ module _ (quotas : Quotas) (story : Story) where
     | inr behind ↦ elim (here_or_behind x ps o so) [
       | inl is ↦ (x ∷ [], ps, refl, stands_here x [] o is, behind)
       | inr later ↦
-          let w = before_in (maps_after_one quotas (story.asked x.0) maps) x.1 ps o p answer done precedes h.1 later behind in
+          let w = before_in (maps_after_one quotas x.1 (story.asked x.0) maps) x.1 ps o p answer done precedes h.1 later behind in
           (x ∷ w.0, w.1, ap (λ qs. x ∷ qs) w.2, stands_behind x w.0 o w.3, w.4)
     ]
   ]
@@ -102,7 +102,7 @@ may_stand : (quotas : Quotas) (story : Story) (maps : Maps) (before : ℕ) (ps :
 may_stand quotas story maps before [] o h s = absurd (none_stands o s)
 may_stand quotas story maps before (p ∷ ps) o h s = elim (here_or_behind p ps o s) [
   | inl is ↦ (p.1, contains_here p ps o is, (maps, before, subst (λ q. MayStand quotas story maps before q p.1) is h.0))
-  | inr later ↦ let w = may_stand quotas story (maps_after_one quotas (story.asked p.0) maps) p.1 ps o h.1 later in (w.0, contains_behind p (o, w.0) ps w.1, w.2)
+  | inr later ↦ let w = may_stand quotas story (maps_after_one quotas p.1 (story.asked p.0) maps) p.1 ps o h.1 later in (w.0, contains_behind p (o, w.0) ps w.1, w.2)
 ]
 
 -- a placed answer names the number at which its operation stands, between that one's first and last step

@@ -5,7 +5,7 @@ use Rattle.std.specs.{Ordering.nat_cmp, Cmp.Lexicographic.slice_cmp, FinMap.get-
 use Rattle.mt_rows.specs.{declared.reply.Reply.TheVariants.{New, Pairs}, Maps.{is_change, is_scan}}
 use Rattle.mt_runs.specs.{declared.event.Answer.Answer, Runs.{Story, Asked, story_of, owner, first_of}}
 use Rattle.mt_runs.specs.Placings.{Placing, Quotas, no_pairs, Along, MayStand, Fits, IsLegal, HasOneOrder, count_of, map_upto}
-use Rattle.mt_runs.specs.WrongRuns.{key_k, row_v, change_v, put_k, scan_two, pair_from_nowhere, missed_pair}
+use Rattle.mt_runs.specs.WrongRuns.{key_k, change_v, put_k, scan_two, pair_from_nowhere, missed_pair, row_at}
 use Rattle.mt_runs.proofs.OwnWrites.{row_after_put}
 use Rattle.std.specs.FinMap as pairs
 
@@ -37,8 +37,8 @@ nothing_stands quotas (p ∷ ps) h = let c = h.0.command in absurd (no_scan c.0 
 -- a scan of an empty store shows no pair
 pub pair_from_nowhere_refused : (quotas : Quotas) → HasOneOrder quotas no_pairs (story_of 0 pair_from_nowhere) → ⊥
 pair_from_nowhere_refused quotas h =
-    let answer : Answer = record { command = scan_two; reply = Pairs ((key_k, row_v) ∷ []); first = 1; at = 1; last = 1 } in
-    let w = (h.3 1 answer asked_scan (1, refl) refl).real 0 (key_k, row_v) (omega arith) in
+    let answer : Answer = record { command = scan_two; reply = Pairs ((key_k, row_at 1) ∷ []); first = 1; at = 1; last = 1 } in
+    let w = (h.3 1 answer asked_scan (1, refl) refl).real 0 (key_k, row_at 1) (omega arith) in
     let none = ap (λ ps. pairs.get (map_upto quotas no_pairs nowhere ps 7 w.0) key_k) (nothing_stands quotas h.0 h.1.stands) ∙ get-empty (slice_cmp nat_cmp) key_k in
     let wrong : None ≡ Some w.2.0 = sym none ∙ w.2.1 in
     absurd (cc)
@@ -83,7 +83,7 @@ put_alone quotas (p ∷ q ∷ ps) f =
 row_there : (quotas : Quotas) → IsLegal quotas no_pairs missed ((1, 1) ∷ []) → (m : ℕ) → m ≡ 2 → IsSome (pairs.get (map_upto quotas no_pairs missed ((1, 1) ∷ []) 7 m) key_k)
 row_there quotas legal m is =
     let told = (legal.0 put_answer asked_put (1, refl) refl).1 in
-    let row = row_after_put (quotas 7) key_k change_v pairs.empty (ap is_change (sym told)) in
+    let row = row_after_put (quotas 7) 1 key_k change_v pairs.empty (ap is_change (sym told)) in
     subst (λ n. IsSome (pairs.get (map_upto quotas no_pairs missed ((1, 1) ∷ []) 7 n) key_k)) (sym is) (subst (λ w. IsSome w) (sym row) refl)
 
 -- a scan that an answered put precedes shows its key

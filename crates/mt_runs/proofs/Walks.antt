@@ -16,19 +16,19 @@ module _ (quotas : Quotas) (story : Story) where
   -- the maps after two placings, one behind the other
   pub maps_after-append : (maps : Maps) (ps qs : Placing) → maps_after quotas story maps (ps ++ qs) ≡ maps_after quotas story (maps_after quotas story maps ps) qs
   maps_after-append maps [] qs = refl
-  maps_after-append maps (p ∷ ps) qs = maps_after-append (maps_after_one quotas (story.asked p.0) maps) ps qs
+  maps_after-append maps (p ∷ ps) qs = maps_after-append (maps_after_one quotas p.1 (story.asked p.0) maps) ps qs
 
 module _ (P : Maps → ℕ → ℕ → ℕ → Type 0) (quotas : Quotas) (story : Story) where
   -- what holds along each of two placings holds along the one behind the other
   pub Along-append : (maps : Maps) (before : ℕ) (ps qs : Placing) → Along P quotas story maps before ps
       → Along P quotas story (maps_after quotas story maps ps) (last_number before ps) qs → Along P quotas story maps before (ps ++ qs)
   Along-append maps before [] qs h k = k
-  Along-append maps before (p ∷ ps) qs h k = (h.0, Along-append (maps_after_one quotas (story.asked p.0) maps) p.1 ps qs h.1 k)
+  Along-append maps before (p ∷ ps) qs h k = (h.0, Along-append (maps_after_one quotas p.1 (story.asked p.0) maps) p.1 ps qs h.1 k)
 
 -- a pair of this number that leaves the maps
 pub record LeavesMaps (quotas : Quotas) (story : Story) (maps : Maps) (m : ℕ) (p : ℕ × ℕ) : Type 0 where
   pub number : p.1 ≡ m
-  pub leaves : maps_after_one quotas (story.asked p.0) maps ≡ maps
+  pub leaves : maps_after_one quotas p.1 (story.asked p.0) maps ≡ maps
 
 module _ (quotas : Quotas) (story : Story) (maps : Maps) (m : ℕ) where
   -- pairs that leave the maps leave them

@@ -1,6 +1,6 @@
 -- What a reader takes from one order: which operation precedes another in time, and which stands before another.
 use Rattle.std.specs.{Prelude.{◌≡◌, ◌≢◌, ◌⊎◌, ℕ, ◌<◌, ◌++◌, Some}, List.Contains}
-use Rattle.mt_rows.specs.{declared.command.Command.Command, declared.command.Command.TheVariants.{Put, Remove}, declared.reply.Reply.Reply, Rows.Bytes}
+use Rattle.mt_rows.specs.{declared.command.Command.Command, declared.command.Command.TheVariants.{Put, Remove, PutIf}, declared.reply.Reply.Reply, Rows.Bytes}
 use Rattle.mt_runs.specs.{declared.event.Answer.Answer, Runs.{Story, Asked, owner, Finished}, Placings.Placing}
 
 -- an operation precedes another in time: each of its numbered steps comes before each of the other's
@@ -22,9 +22,10 @@ pub record WasTold (story : Story) (o tenant : ℕ) (command : Command) (reply :
   pub finished : Finished story o answer
   pub told : answer.reply ≡ reply
 
--- a command puts or removes the key
+-- a command puts the key, on condition or without, or removes it
 abbrev pub IsWriteOf : Bytes → Command → Type 0
 IsWriteOf key (Put k change) = k ≡ key
+IsWriteOf key (PutIf k stamp change) = k ≡ key
 IsWriteOf key (Remove k) = k ≡ key
 IsWriteOf key _ = ⊥
 

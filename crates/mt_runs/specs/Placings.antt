@@ -30,20 +30,20 @@ is_placed a = not (is_scan a.command) && not (is_no_memory a.reply)
 abbrev pub reply_in : Quotas → Asked → Maps → Reply
 reply_in quotas a maps = reply_of (quotas a.tenant) a.command (maps a.tenant)
 
--- the maps after a command on its tenant's map
-abbrev pub maps_after_one : Quotas → Option Asked → Maps → Maps
-maps_after_one quotas None maps = maps
-maps_after_one quotas (Some a) maps = λ t. if t == a.tenant then map_after (quotas t) a.command (maps t) else maps t
+-- the maps after the command of a number on its tenant's map
+abbrev pub maps_after_one : Quotas → ℕ → Option Asked → Maps → Maps
+maps_after_one quotas m None maps = maps
+maps_after_one quotas m (Some a) maps = λ t. if t == a.tenant then map_after (quotas t) m a.command (maps t) else maps t
 
 -- the maps after the commands of a placing, from these maps on
 abbrev pub maps_after : Quotas → Story → Maps → Placing → Maps
 maps_after quotas story maps [] = maps
-maps_after quotas story maps (p ∷ placing) = maps_after quotas story (maps_after_one quotas (story.asked p.0) maps) placing
+maps_after quotas story maps (p ∷ placing) = maps_after quotas story (maps_after_one quotas p.1 (story.asked p.0) maps) placing
 
 -- P of each operation and its number in a placing, with the maps and the number before it
 abbrev pub Along : (Maps → ℕ → ℕ → ℕ → Type 0) → Quotas → Story → Maps → ℕ → Placing → Type 0
 Along P quotas story maps before [] = Unit {0}
-Along P quotas story maps before (p ∷ placing) = P maps before p.0 p.1 × Along P quotas story (maps_after_one quotas (story.asked p.0) maps) p.1 placing
+Along P quotas story maps before (p ∷ placing) = P maps before p.0 p.1 × Along P quotas story (maps_after_one quotas p.1 (story.asked p.0) maps) p.1 placing
 
 -- an operation may stand at a number: numbers don't fall, and it is a get, put or remove that memory did not stop, between its own first and last step,
 -- at the number that its answer names; where it changes its map it stands at a step of its own, before all others of that number
@@ -96,12 +96,12 @@ abbrev pub command_of : ℕ → Option Asked → Option Command
 command_of t None = None
 command_of t (Some a) = if t == a.tenant then Some a.command else None
 
--- the commands of a tenant in a placing, in their order
-abbrev pub commands_of : Story → ℕ → Placing → List Command
-commands_of story t placing = filter_map (λ p. command_of t (story.asked p.0)) placing
+-- the commands of a tenant in a placing, in their order, each with its number
+abbrev pub commands_of : Story → ℕ → Placing → List (ℕ × Command)
+commands_of story t placing = filter_map (λ p. option_map (λ c. (p.1, c)) (command_of t (story.asked p.0))) placing
 
 -- the replies to a tenant's commands in a placing, each on the maps that the commands before it leave
 abbrev pub replies_of : Quotas → Story → ℕ → Maps → Placing → List Reply
 replies_of quotas story t maps [] = []
 replies_of quotas story t maps (p ∷ placing) =
-    cons_option (option_map (λ c. reply_of (quotas t) c (maps t)) (command_of t (story.asked p.0))) (replies_of quotas story t (maps_after_one quotas (story.asked p.0) maps) placing)
+    cons_option (option_map (λ c. reply_of (quotas t) c (maps t)) (command_of t (story.asked p.0))) (replies_of quotas story t (maps_after_one quotas p.1 (story.asked p.0) maps) placing)

@@ -17,7 +17,7 @@ pub record IsChangeAfter (quotas : Quotas) (story : Story) (map_at : ℕ → ℕ
   pub asked_so : story.asked op ≡ Some what
   pub not_scan : is_scan what.command ≡ false
   pub changes : is_change (reply_in quotas what (maps_at map_at m)) ≡ true
-  pub makes : (t : ℕ) → map_at t (suc m) ≡ maps_after_one quotas (Some what) (maps_at map_at m) t
+  pub makes : (t : ℕ) → map_at t (suc m) ≡ maps_after_one quotas (suc m) (Some what) (maps_at map_at m) t
   pub told : (answer : Answer) → Finished story op answer → (answer.command ≡ what.command) × (answer.reply ≡ reply_in quotas what (maps_at map_at m)) × (answer.at ≡ suc m)
 
 -- a finished operation was told of its own command, with the numbers of its first and last step; unless it is a scan or memory stopped it, it stands

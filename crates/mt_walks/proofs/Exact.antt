@@ -5,7 +5,7 @@ use Rattle.std.proofs.lemmas.List.Folds.{list_any_at}
 use Rattle.std.specs.{List.{All, Contains, AllByRecursion, filter}, declared.cmp.Ordering.Ordering, declared.cmp.Ordering.TheVariants.{Less, Equal, Greater}}
 use Rattle.std.specs.{Ordering.{nat_cmp, is_le, is_lt, eq_by_cmp}, Cmp.eq_by_cmp_equiv, Cmp.Lexicographic.slice_cmp}
 use Rattle.std.specs.{FinMap.{find, is_sorted, entries_sorted, get-entries, contains_key-keys}, FinMap.Entries.{below_all, is_sorted-where_key}}
-use Rattle.mt_rows.{specs.{Rows.{Bytes, Columns, shown}, Maps.{Map, is_walked, scanned}}, proofs.CommandLaws.{keys_exact, keys_total, ties}}
+use Rattle.mt_rows.{specs.{Rows.Bytes, Maps.{Map, is_walked, scanned}, Stamps.{Stamped, as_shown}}, proofs.CommandLaws.{keys_exact, keys_total, ties}}
 use Rattle.mt_runs.specs.Scans.{Shown, IsReached, IsLawful}
 use Rattle.mt_walks.specs.Walked.{keys_of, shown_all}
 use Rattle.mt_walks.proofs.Walks.{Rises, rises_none, rises_more, rises_first, rises_rest, of_keys, le_itself, not_le, here, later}
@@ -34,7 +34,7 @@ first_below : (x : Bytes) (xs : List Bytes) (b : Bytes) → Rises (x ∷ xs) →
 first_below x xs b h has = All-contains (λ y. cmp x y ≡ Less) xs b (All-from_recursion (λ y. cmp x y ≡ Less) xs (rises_first x xs h)) has
 
 -- the key of a pair is one of the pairs' keys
-key_in : (ps : Shown) (p : Bytes × Columns) → Contains ps p → Contains (keys_of ps) p.0
+key_in : (ps : Shown) (p : Bytes × Stamped) → Contains ps p → Contains (keys_of ps) p.0
 key_in [] p h = absurd (none_in p h)
 key_in (q ∷ ps) p h = elim (first_or q ps p h) [
   | inl is ↦ subst (λ k. Contains (q.0 ∷ keys_of ps) k) (ap (λ r. r.0) is) (here q.0 (keys_of ps))
@@ -42,25 +42,25 @@ key_in (q ∷ ps) p h = elim (first_or q ps p h) [
 ]
 
 -- a pair is shown of one of these
-abbrev pub IsOf : List ℕ → Shown → Bytes × Columns → Type 0
-IsOf columns all p = (row : Columns) × Contains all (p.0, row) × (p.1 ≡ shown columns row)
+abbrev pub IsOf : List ℕ → Shown → Bytes × Stamped → Type 0
+IsOf columns all p = (row : Stamped) × Contains all (p.0, row) × (p.1 ≡ as_shown columns row)
 
 -- of one of the others, where its key is above the first
-of_rest : (columns : List ℕ) (f : Bytes × Columns) (all : Shown) (p : Bytes × Columns) → cmp f.0 p.0 ≡ Less → IsOf columns (f ∷ all) p → IsOf columns all p
+of_rest : (columns : List ℕ) (f : Bytes × Stamped) (all : Shown) (p : Bytes × Stamped) → cmp f.0 p.0 ≡ Less → IsOf columns (f ∷ all) p → IsOf columns all p
 of_rest columns f all p less w = elim (first_or f all (p.0, w.0) w.1) [
   | inl is ↦ absurd (not_itself p.0 (subst (λ k. cmp k p.0 ≡ Less) (ap (λ r. r.0) is) less))
   | inr has ↦ (w.0, has, w.2)
 ]
 
 -- the first of the pairs, where its key is the first one
-of_first : (columns : List ℕ) (f : Bytes × Columns) (all : Shown) (p : Bytes × Columns) → Rises (keys_of (f ∷ all)) → f.0 ≡ p.0 → IsOf columns (f ∷ all) p → p ≡ (f.0, shown columns f.1)
+of_first : (columns : List ℕ) (f : Bytes × Stamped) (all : Shown) (p : Bytes × Stamped) → Rises (keys_of (f ∷ all)) → f.0 ≡ p.0 → IsOf columns (f ∷ all) p → p ≡ (f.0, as_shown columns f.1)
 of_first columns f all p h same w = elim (first_or f all (p.0, w.0) w.1) [
-  | inl is ↦ λ i. (sym same i, (w.2 ∙ ap (λ (r : Bytes × Columns). shown columns r.1) (sym is)) i)
+  | inl is ↦ λ i. (sym same i, (w.2 ∙ ap (λ (r : Bytes × Stamped). as_shown columns r.1) (sym is)) i)
   | inr has ↦ absurd (not_itself p.0 (subst (λ k. cmp k p.0 ≡ Less) same (first_below f.0 (keys_of all) p.0 h (key_in all (p.0, w.0) has))))
 ]
 
 -- the first pair shown has the first key, where each key that is at most one shown is shown
-same_first : (columns : List ℕ) (f : Bytes × Columns) (all : Shown) (p : Bytes × Columns) (ps : Shown) → Rises (keys_of (f ∷ all)) → Rises (keys_of (p ∷ ps)) → IsOf columns (f ∷ all) p
+same_first : (columns : List ℕ) (f : Bytes × Stamped) (all : Shown) (p : Bytes × Stamped) (ps : Shown) → Rises (keys_of (f ∷ all)) → Rises (keys_of (p ∷ ps)) → IsOf columns (f ∷ all) p
     → (is_le (cmp f.0 p.0) ≡ true → Contains (keys_of (p ∷ ps)) f.0) → f.0 ≡ p.0
 same_first columns f all p ps h rises w whole = elim (first_or f all (p.0, w.0) w.1) [
   | inl is ↦ ap (λ r. r.0) is
@@ -118,7 +118,7 @@ sorted_rises [] h = rises_none
 sorted_rises (e ∷ es) h = rises_more e.0 (keys_of es) (all_below e.0 es (left (below_all cmp e.0 es) (is_sorted cmp es) h)) (sorted_rises es (right (below_all cmp e.0 es) (is_sorted cmp es) h))
 
 -- a row that is found is an entry's, and one that passes a filter where its key does
-found : (key : Bytes) (es : Shown) (row : Columns) → find cmp key es ≡ Some row → Contains es (key, row)
+found : (key : Bytes) (es : Shown) (row : Stamped) → find cmp key es ≡ Some row → Contains es (key, row)
 found key [] row is = absurd (cc)
 found key (e ∷ es) row is = by (eq_by_cmp cmp key e.0) refl (λ one. found key es row one) is
   where
@@ -126,7 +126,7 @@ found key (e ∷ es) row is = by (eq_by_cmp cmp key e.0) refl (λ one. found key
     by true at more one = subst (λ p. Contains (e ∷ es) p) (let k = keys_exact key e.0 (ties (cmp key e.0) at) in let r : e.1 ≡ row = cc in λ i. (sym k i, r i)) (here e es)
     by false at more one = later e es (key, row) (more one)
 
-kept : (test : Bytes → Bool) (es : Shown) (p : Bytes × Columns) → test p.0 ≡ true → Contains es p → Contains (filter (λ q. test q.0) es) p
+kept : (test : Bytes → Bool) (es : Shown) (p : Bytes × Stamped) → test p.0 ≡ true → Contains es p → Contains (filter (λ q. test q.0) es) p
 kept test [] p passes h = absurd (none_in p h)
 kept test (e ∷ es) p passes h = by (test e.0) refl (λ more. kept test es p passes more)
   where
@@ -136,7 +136,7 @@ kept test (e ∷ es) p passes h = by (test e.0) refl (λ more. kept test es p pa
       | inr more ↦ later e (filter (λ q. test q.0) es) p (rest more)
     ]
     by false is rest = elim (first_or e es p h) [
-      | inl same ↦ absurd (let both = sym is ∙ ap (λ (q : Bytes × Columns). test q.0) same ∙ passes in cc)
+      | inl same ↦ absurd (let both = sym is ∙ ap (λ (q : Bytes × Stamped). test q.0) same ∙ passes in cc)
       | inr more ↦ rest more
     ]
 

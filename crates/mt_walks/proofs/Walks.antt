@@ -5,7 +5,7 @@ use Rattle.std.proofs.lemmas.List.Elements.{All-append, All-map, All-contains, A
 use Rattle.std.proofs.lemmas.List.Folds.{list_any_at}
 use Rattle.std.specs.{List.{All, Contains, AllByRecursion}, List.Sorted.IsStrictlySortedBy, declared.cmp.Ordering.Ordering}
 use Rattle.std.specs.{declared.cmp.Ordering.TheVariants.{Less, Equal, Greater}, Ordering.{nat_cmp, is_le, ordering_reverse}, Cmp.Lexicographic.slice_cmp}
-use Rattle.mt_rows.{specs.{Rows.{Bytes, Columns, shown}, Maps.{Map, is_walked}}, proofs.CommandLaws.keys_total}
+use Rattle.mt_rows.{specs.{Rows.Bytes, Maps.{Map, is_walked}, Stamps.{Stamped, as_shown}}, proofs.CommandLaws.keys_total}
 use Rattle.mt_runs.specs.Scans.{Shown, IsReached, IsLawful}
 use Rattle.mt_walks.specs.Walked.{HasWalked, IsStretch, IsFront, keys_of, shown_all, is_upto}
 use Rattle.std.specs.FinMap as pairs
@@ -95,7 +95,7 @@ pub of_keys : (P : Bytes → Type 0) (ps : Shown) → All (λ p. P p.0) ps → A
 of_keys P ps h = All-map P (λ p. p.0) ps h
 
 keys_with : (ps qs : Shown) → keys_of (ps ++ qs) ≡ keys_of ps ++ keys_of qs
-keys_with ps qs = map-append (λ (p : Bytes × Columns). p.0) ps qs
+keys_with ps qs = map-append (λ (p : Bytes × Stamped). p.0) ps qs
 
 -- a key that is at most one of them
 upto_more : (k : Bytes) (ks : List Bytes) (key : Bytes) (b : Bool) → is_le (cmp key k) ≡ b → is_upto (k ∷ ks) key ≡ true → (is_upto ks key ≡ true → (j : Bytes) × Contains ks j × (is_le (cmp key j) ≡ true)) →
@@ -136,7 +136,7 @@ lawful maps Between from after count columns passed ps h few over = record {
   ];
 }
   where
-    missing : (x : Option Columns) → IsSome x → x ≡ None → ⊥
+    missing : (x : Option Stamped) → IsSome x → x ≡ None → ⊥
     missing None some e = cc
     missing (Some row) some e = cc
 
@@ -176,13 +176,13 @@ module _ (maps : ℕ → Map) (Between : ℕ → Type 0) (from : Bytes) (after :
         apart passed front a b
         (All-contains (λ k. passed k ≡ true) (keys_of ps) a (of_keys (λ k. passed k ≡ true) ps h.below) in_ps)
         (All-contains (λ k. passed k ≡ false) (keys_of seen) b (of_keys (λ k. passed k ≡ false) seen s.behind) in_seen)));
-    walked = All-append (λ (p : Bytes × Columns). is_walked from after p.0 ≡ true) ps (shown_all columns seen) h.walked
-        (All-map (λ (p : Bytes × Columns). is_walked from after p.0 ≡ true) (λ p. (p.0, shown columns p.1)) seen (λ k d lt. started (get_or seen k d).0 (s.behind k d lt)));
-    below = All-append (λ (p : Bytes × Columns). reached p.0 ≡ true) ps (shown_all columns seen)
+    walked = All-append (λ (p : Bytes × Stamped). is_walked from after p.0 ≡ true) ps (shown_all columns seen) h.walked
+        (All-map (λ (p : Bytes × Stamped). is_walked from after p.0 ≡ true) (λ p. (p.0, as_shown columns p.1)) seen (λ k d lt. started (get_or seen k d).0 (s.behind k d lt)));
+    below = All-append (λ (p : Bytes × Stamped). reached p.0 ≡ true) ps (shown_all columns seen)
         (λ k d lt. further (get_or ps k d).0 (h.below k d lt))
-        (All-map (λ (p : Bytes × Columns). reached p.0 ≡ true) (λ p. (p.0, shown columns p.1)) seen s.below);
-    real = All-append (λ (p : Bytes × Columns). (n : ℕ) × Between n × ((row : Columns) × (pairs.get (maps n) p.0 ≡ Some row) × (p.1 ≡ shown columns row))) ps (shown_all columns seen) h.real
-        (All-map (λ (p : Bytes × Columns). (n : ℕ) × Between n × ((row : Columns) × (pairs.get (maps n) p.0 ≡ Some row) × (p.1 ≡ shown columns row))) (λ p. (p.0, shown columns p.1)) seen
+        (All-map (λ (p : Bytes × Stamped). reached p.0 ≡ true) (λ p. (p.0, as_shown columns p.1)) seen s.below);
+    real = All-append (λ (p : Bytes × Stamped). (n : ℕ) × Between n × ((row : Stamped) × (pairs.get (maps n) p.0 ≡ Some row) × (p.1 ≡ as_shown columns row))) ps (shown_all columns seen) h.real
+        (All-map (λ (p : Bytes × Stamped). (n : ℕ) × Between n × ((row : Stamped) × (pairs.get (maps n) p.0 ≡ Some row) × (p.1 ≡ as_shown columns row))) (λ p. (p.0, as_shown columns p.1)) seen
         (λ k d lt. (m, between, ((get_or seen k d).1, s.real k d lt, refl))));
     whole = λ key walked done. subst (λ ks. Contains ks key ⊎ ((n : ℕ) × Between n × (pairs.get (maps n) key ≡ None))) (sym new_keys) (by key walked done (passed key) refl);
   }
@@ -219,17 +219,17 @@ keys_in_parts n seen = sym (keys_with (take n seen) (drop n seen)) ∙ ap keys_o
 first_stretch : (m : Map) (passed reached : Bytes → Bool) (seen : Shown) (n : ℕ) → IsFront reached → IsStretch m passed reached seen → IsStretch m passed (cut passed (take n seen)) (take n seen)
 first_stretch m passed reached seen n front s = record {
   rises = rises_front (keys_of (take n seen)) (keys_of (drop n seen)) rises;
-  behind = All-take (λ (p : Bytes × Columns). passed p.0 ≡ false) n seen s.behind;
+  behind = All-take (λ (p : Bytes × Stamped). passed p.0 ≡ false) n seen s.behind;
   below = λ k d lt.
       let p = get_or (take n seen) k d in
       or_right (passed p.0) (is_upto (keys_of (take n seen)) p.0)
       (upto_yes (keys_of (take n seen)) p.0 p.0 (has_key k d lt) (le_itself p.0 (cmp p.0 p.0) refl));
-  real = All-take (λ (p : Bytes × Columns). pairs.get m p.0 ≡ Some p.1) n seen s.real;
+  real = All-take (λ (p : Bytes × Stamped). pairs.get m p.0 ≡ Some p.1) n seen s.real;
   whole = λ key new done. elim (or_cases (passed key) (is_upto (keys_of (take n seen)) key) done) [
     | inl old ↦ absurd (let both = sym new ∙ old in cc)
     | inr upto ↦
         let w = upto_found (keys_of (take n seen)) key upto in
-        let reach = All-contains (λ k. reached k ≡ true) (keys_of (take n seen)) w.0 (of_keys (λ k. reached k ≡ true) (take n seen) (All-take (λ (p : Bytes × Columns). reached p.0 ≡ true) n seen s.below)) w.1 in
+        let reach = All-contains (λ k. reached k ≡ true) (keys_of (take n seen)) w.0 (of_keys (λ k. reached k ≡ true) (take n seen) (All-take (λ (p : Bytes × Stamped). reached p.0 ≡ true) n seen s.below)) w.1 in
         elim (s.whole key new (front.down key w.0 w.2 reach)) [
           | inl has ↦ elim (Contains-append_cases (keys_of (take n seen)) (keys_of (drop n seen)) key (subst (λ ks. Contains ks key) (sym (keys_in_parts n seen)) has)) [
             | inl early ↦ inl early
@@ -243,10 +243,10 @@ first_stretch m passed reached seen n front s = record {
     rises : Rises (keys_of (take n seen) ++ keys_of (drop n seen))
     rises = subst Rises (sym (keys_in_parts n seen)) s.rises
 
-    has_key : (k : ℕ) (d : Bytes × Columns) → k < length (take n seen) → Contains (keys_of (take n seen)) (get_or (take n seen) k d).0
+    has_key : (k : ℕ) (d : Bytes × Stamped) → k < length (take n seen) → Contains (keys_of (take n seen)) (get_or (take n seen) k d).0
     has_key k d lt =
-        let long = length-map (take n seen) (λ (p : Bytes × Columns). p.0) in
-        (k, omega (arith, lt, long), get_or-map (λ (p : Bytes × Columns). p.0) (take n seen) k d (get_or (take n seen) k d).0 lt)
+        let long = length-map (take n seen) (λ (p : Bytes × Stamped). p.0) in
+        (k, omega (arith, lt, long), get_or-map (λ (p : Bytes × Stamped). p.0) (take n seen) k d (get_or (take n seen) k d).0 lt)
 
 -- what is collected, with the first pairs of a stretch
 abbrev first_of : List ℕ → Shown → Shown → ℕ → Shown
@@ -262,10 +262,10 @@ goes_on_partly maps Between from after columns passed reached ps seen m n h fron
     (goes_on maps Between from after columns passed (cut passed (take n seen)) ps (take n seen) m h front between (first_stretch (maps m) passed reached seen n rfront s)
     (λ key done. or_left (passed key) (is_upto (keys_of (take n seen)) key) done) started)
   where
-    has_key : (k : ℕ) (d : Bytes × Columns) → k < length (first_of columns ps seen n) → Contains (keys_of (first_of columns ps seen n)) (get_or (first_of columns ps seen n) k d).0
+    has_key : (k : ℕ) (d : Bytes × Stamped) → k < length (first_of columns ps seen n) → Contains (keys_of (first_of columns ps seen n)) (get_or (first_of columns ps seen n) k d).0
     has_key k d lt =
-        let long = length-map (first_of columns ps seen n) (λ (p : Bytes × Columns). p.0) in
-        (k, omega (arith, lt, long), get_or-map (λ (p : Bytes × Columns). p.0) (first_of columns ps seen n) k d (get_or (first_of columns ps seen n) k d).0 lt)
+        let long = length-map (first_of columns ps seen n) (λ (p : Bytes × Stamped). p.0) in
+        (k, omega (arith, lt, long), get_or-map (λ (p : Bytes × Stamped). p.0) (first_of columns ps seen n) k d (get_or (first_of columns ps seen n) k d).0 lt)
 
     parts : keys_of (first_of columns ps seen n) ≡ keys_of ps ++ keys_of (take n seen)
     parts = keys_with ps (shown_all columns (take n seen)) ∙ ap (λ ks. keys_of ps ++ ks) (keys_shown columns (take n seen))
@@ -279,7 +279,7 @@ goes_on_partly maps Between from after columns passed reached ps seen m n h fron
         ]
 
 -- a list that rises has no key twice
-pub not_twice : (front back : Shown) (key : Bytes) (row other : Columns) → Rises (keys_of (front ++ (key, row) ∷ (key, other) ∷ back)) → ⊥
+pub not_twice : (front back : Shown) (key : Bytes) (row other : Stamped) → Rises (keys_of (front ++ (key, row) ∷ (key, other) ∷ back)) → ⊥
 not_twice front back key row other h =
     let cross = rises_cross (keys_of front ++ key ∷ []) (key ∷ keys_of back)
     (subst Rises (keys_with front ((key, row) ∷ (key, other) ∷ back) ∙ sym (assoc (keys_of front))) h)

@@ -3,7 +3,7 @@
 ghost use Rattle.std.specs.{Prelude.{◌≡◌, ◌≢◌, ◌<◌, ◌≤◌, ◌++◌, ℕ, Bool, true, false, List, [], ◌∷◌, take, length, Some, None}, List.Contains};
 ghost use Rattle.std.specs.{Ordering.{nat_cmp, is_le}, Cmp.Lexicographic.slice_cmp};
 ghost use Rattle.std.specs.FinMap as pairs;
-ghost use Rattle.mt_rows.specs.{Rows.{Bytes, Columns}, Maps.{Map, is_walked, scanned}};
+ghost use Rattle.mt_rows.specs.{Rows.Bytes, Maps.{Map, is_walked, scanned}, Stamps.Stamped};
 ghost use Rattle.mt_runs.specs.Scans.{Shown, IsReached, IsLawful};
 ghost use Rattle.mt_walks.specs.Walked.{IsWithin, HasWalked, IsStretch, IsFront, keys_of, shown_all, is_upto};
 
@@ -55,13 +55,13 @@ pub fn a_walk_goes_on()
 pub fn wrong_scans_are_refused()
     ensures too_many { (maps : ℕ → Map) (first last : ℕ) (from : Bytes) (after : Bool) (count : ℕ) (columns : List ℕ) (ps : Shown) →
         count < length ps → ¬ IsLawful maps (IsWithin first last) from after count columns ps }
-    ensures key_twice { (maps : ℕ → Map) (first last : ℕ) (from : Bytes) (after : Bool) (count : ℕ) (columns : List ℕ) (front back : Shown) (key : Bytes) (row other : Columns) →
+    ensures key_twice { (maps : ℕ → Map) (first last : ℕ) (from : Bytes) (after : Bool) (count : ℕ) (columns : List ℕ) (front back : Shown) (key : Bytes) (row other : Stamped) →
         ¬ IsLawful maps (IsWithin first last) from after count columns (front ++ ((key, row) ∷ (key, other) ∷ back)) }
-    ensures before_its_start { (maps : ℕ → Map) (first last : ℕ) (from : Bytes) (after : Bool) (count : ℕ) (columns : List ℕ) (ps : Shown) (p : Bytes × Columns) →
+    ensures before_its_start { (maps : ℕ → Map) (first last : ℕ) (from : Bytes) (after : Bool) (count : ℕ) (columns : List ℕ) (ps : Shown) (p : Bytes × Stamped) →
         Contains ps p → is_walked from after p.0 ≡ false → ¬ IsLawful maps (IsWithin first last) from after count columns ps }
-    ensures not_there { (maps : ℕ → Map) (first last : ℕ) (from : Bytes) (after : Bool) (count : ℕ) (ps : Shown) (p : Bytes × Columns) →
+    ensures not_there { (maps : ℕ → Map) (first last : ℕ) (from : Bytes) (after : Bool) (count : ℕ) (ps : Shown) (p : Bytes × Stamped) →
         Contains ps p → ((m : ℕ) → IsWithin first last m → pairs.get (maps m) p.0 ≢ Some p.1) → ¬ IsLawful maps (IsWithin first last) from after count [] ps }
-    ensures skipped { (maps : ℕ → Map) (first last : ℕ) (from : Bytes) (after : Bool) (count : ℕ) (columns : List ℕ) (ps : Shown) (key : Bytes) (row : ℕ → Columns) →
+    ensures skipped { (maps : ℕ → Map) (first last : ℕ) (from : Bytes) (after : Bool) (count : ℕ) (columns : List ℕ) (ps : Shown) (key : Bytes) (row : ℕ → Stamped) →
         is_walked from after key ≡ true → length ps < count → ((m : ℕ) → IsWithin first last m → pairs.get (maps m) key ≡ Some (row m)) → ¬ Contains (keys_of ps) key →
         ¬ IsLawful maps (IsWithin first last) from after count columns ps }
 {}
@@ -69,11 +69,11 @@ pub fn wrong_scans_are_refused()
 /// A stretch is refused that misses a pair of its map between its fences, and so is one that has a row which its map hasn't
 /// there; and a walk that has passed a key which was there after each step between, and hasn't collected it.
 pub fn wrong_walks_are_refused()
-    ensures missed { (m : Map) (passed reached : Bytes → Bool) (seen : Shown) (key : Bytes) (row : Columns) →
+    ensures missed { (m : Map) (passed reached : Bytes → Bool) (seen : Shown) (key : Bytes) (row : Stamped) →
         passed key ≡ false → reached key ≡ true → pairs.get m key ≡ Some row → ¬ Contains (keys_of seen) key → ¬ IsStretch m passed reached seen }
-    ensures not_there { (m : Map) (passed reached : Bytes → Bool) (seen : Shown) (p : Bytes × Columns) →
+    ensures not_there { (m : Map) (passed reached : Bytes → Bool) (seen : Shown) (p : Bytes × Stamped) →
         Contains seen p → pairs.get m p.0 ≢ Some p.1 → ¬ IsStretch m passed reached seen }
-    ensures passed_by { (maps : ℕ → Map) (first last : ℕ) (from : Bytes) (after : Bool) (columns : List ℕ) (passed : Bytes → Bool) (ps : Shown) (key : Bytes) (row : ℕ → Columns) →
+    ensures passed_by { (maps : ℕ → Map) (first last : ℕ) (from : Bytes) (after : Bool) (columns : List ℕ) (passed : Bytes → Bool) (ps : Shown) (key : Bytes) (row : ℕ → Stamped) →
         is_walked from after key ≡ true → passed key ≡ true → ((m : ℕ) → IsWithin first last m → pairs.get (maps m) key ≡ Some (row m)) → ¬ Contains (keys_of ps) key →
         ¬ HasWalked maps (IsWithin first last) from after columns passed ps }
 {}

@@ -1,5 +1,5 @@
 use Rattle.std.proofs.{Common.{◌≡◌, inl, inr, Some, sym, ◌∙◌}, lemmas.List.Elements.All-contains}
-use Rattle.mt_rows.specs.Rows.{Bytes, Columns}
+use Rattle.mt_rows.specs.{Rows.Bytes, Stamps.Stamped}
 use Rattle.std.specs.FinMap as pairs
 use Rattle.mt_walks.proofs.laws.wrong_walks_are_refused.Goals as goal
 
@@ -10,7 +10,7 @@ returns-clause-missed c = λ m passed reached seen key row ahead upto there miss
 ]
 
 pub returns-clause-not_there : goal.returns-clause-not_there
-returns-clause-not_there c = λ m passed reached seen p has other s. other (All-contains (λ (q : Bytes × Columns). pairs.get m q.0 ≡ Some q.1) seen p s.real has)
+returns-clause-not_there c = λ m passed reached seen p has other s. other (All-contains (λ (q : Bytes × Stamped). pairs.get m q.0 ≡ Some q.1) seen p s.real has)
 
 pub returns-clause-passed_by : goal.returns-clause-passed_by
 returns-clause-passed_by c = λ maps first last from after columns passed ps key row walked done stayed missing w. elim (w.whole key walked done) [
