@@ -2,11 +2,11 @@
 use Rattle.std.specs.Prelude.{◌≡◌, ◌⊎◌, ℕ, ◌+◌, ◌<◌, ◌≤◌, ◌==◌, Bool, not, ◌&&◌, nat_lt, List, ◌++◌, map, length, drop, Option, Some, None, slice_get}
 use Rattle.std.specs.List.{All, filter}
 use Rattle.mt_rows.specs.{declared.record.Record.Record, declared.record.Batch.Batch}
-use Rattle.mt_tape.specs.declared.entry.Entry.{Entry}
+use Rattle.mt_tape.specs.{declared.entry.Entry.Entry, Histories.logged}
 
--- a placed change, as it is logged: the step that placed it, and the key's row after it
+-- a placed change, as it is logged: the step that placed it, and what it did to the key's row
 abbrev pub record_of : Entry → Record
-record_of e = record { stamp = e.step; tenant = e.tenant; key = e.key; row = e.after }
+record_of e = record { stamp = e.step; tenant = e.tenant; key = e.key; write = logged e }
 
 -- whether a change was placed by a worker's operation, over one step and up to another
 abbrev pub is_between : ℕ → ℕ → ℕ → Entry → Bool

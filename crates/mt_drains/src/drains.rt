@@ -2,12 +2,12 @@
 
 ghost use Rattle.std.specs.{Prelude.{ℕ, ◌≡◌, ◌++◌, ◌≤◌, ◌^◌, [], ◌∷◌, length, IfOk, OnOk}, List.All};
 ghost use Rattle.mt_rows.specs.Commands.{IsKey};
-ghost use Rattle.mt_batches.specs.Batches.{IsRecord, IsRowOrNone, IsBounded, BringsOn};
-ghost use Rattle.mt_tape.specs.Tapes.{RisesOver, last_write};
+ghost use Rattle.mt_batches.specs.Batches.{IsRecord, IsBounded, BringsOn, IsWrite};
+ghost use Rattle.mt_tape.specs.{Tapes.{RisesOver, last_write}, Histories.logged};
 ghost use Rattle.mt_drains.specs.Drains.{record_of, records_of, IsNextBatch, Gathers};
 
 use mt_batches::MAX_RECORDS;
-use mt_rows::{Batch, Record, Records, Row};
+use mt_rows::{Batch, Record, Records, Write};
 use mt_tape::{Entry, Tape};
 use std::alloc::{AllocError, Global};
 
@@ -114,28 +114,33 @@ fn recorded(entry: &Entry) -> Result<Record, AllocError>
     ensures is { IfOk result (λ r. r ≡ record_of entry.now) }
     ensures limits { IfOk result (λ r. IsKey r.key → IsRecord r) }
 {
-    let row = shared(&entry.after)?;
+    let write = logged(entry)?;
     let key = entry.key.clone()?;
     let (stamp, tenant) = (entry.step, entry.tenant);
     Ok(Record {
         stamp,
         tenant,
         key,
-        row,
+        write,
     })
 }
 
-// The same row again, or none.
-fn shared(row: &Option<Row>) -> Result<Option<Row>, AllocError>
-    ensures same { IfOk result (λ r. r ≡ row.now) }
-    ensures limits { IfOk result IsRowOrNone }
+// What a log tells of a placed change. It shares the row, or the columns that were changed.
+fn logged(entry: &Entry) -> Result<Write, AllocError>
+    ensures is { IfOk result (λ write. write ≡ logged entry.now) }
+    ensures limits { IfOk result IsWrite }
 {
-    match row {
-        Some(row) => {
+    match (&entry.after, &entry.before, &entry.change) {
+        (None, _, _) => Ok(Write::Removed),
+        (Some(_), Some(_), Some(change)) => {
+            // For the proof: a change is within its limits.
+            let _columns = change.columns();
+            Ok(Write::Changed(change.share()?))
+        }
+        (Some(row), _, _) => {
             // For the proof: a row is within its limits.
             let _columns = row.columns();
-            Ok(Some(row.share()?))
+            Ok(Write::Whole(row.share()?))
         }
-        None => Ok(None),
     }
 }

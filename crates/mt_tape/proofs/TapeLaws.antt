@@ -4,7 +4,7 @@ use Rattle.std.proofs.{lemmas.Bool.{ltb-true, cases_lt, cases_eq}, lemmas.List.E
 use Rattle.std.specs.{List.{All, Contains}, FinMap.get}
 use Rattle.mt_rows.{specs.{Rows.Bytes, Maps.Map, Tenants.{Contents, tenant_map}}, proofs.ContentLaws.get-tenant_map}
 use Rattle.mt_tape.specs.{declared.entry.Entry.Entry, Tapes.{RisesOver, last_step_over, later_entries}}
-use Rattle.mt_tape.specs.Histories.{with_row, written_key, with_write, without_write, undone, contents_at, map_at, is_changed, IsLegalTape, IsNextWrite, IsQuietStep, IsQuietFor, IsUnwrittenSince}
+use Rattle.mt_tape.specs.Histories.{with_row, written_key, with_write, without_write, undone, contents_at, map_at, is_changed, IsLegalTape, IsNextWrite, IsQuietStep, IsQuietFor, IsUnwrittenSince, after_of}
 use Rattle.mt_tape.proofs.EntryLaws.{later_entries-kept, later_entries-dropped, later_entries-past_last, later_entries-push, later_entries-later_entries, later_entries-quiet, later_entries-before}
 pub use Rattle.mt_tape.proofs.EntryLaws.{all_upto_last, rises-push, last_step_over-push, rises-later_entries, last_step_over-later_entries, is_changed-past_last, is_changed-push_other, is_changed-push, is_changed-later_entries, quiet_where_unchanged}
 pub use Rattle.mt_tape.proofs.RowLaws.{get-with_row_same, get-with_row_other, with_row-put_back, tenant_map-with_row, tenant_map-with_row_other}
@@ -28,7 +28,7 @@ pub contents_at-push : (floor m : ℕ) (entries : List Entry) (contents : Conten
 contents_at-push floor m entries contents e next lt =
     ap (λ es. undone es (with_write contents e)) (later_entries-push m entries e lt)
     ∙ undone-push (later_entries m entries) e (with_write contents e)
-    ∙ ap (undone (later_entries m entries)) (with_row-put_back contents (written_key e) e.after e.before next.before)
+    ∙ ap (undone (later_entries m entries)) (with_row-put_back contents (written_key e) (after_of e) e.before next.before)
 
 -- in each tenant's map too
 pub map_at-push : (floor m : ℕ) (entries : List Entry) (contents : Contents) (e : Entry) (t : ℕ) → IsNextWrite floor entries contents e → m < e.step
@@ -45,14 +45,14 @@ contents_at-pushed floor m entries contents e rises later le =
 pub legal-push : (floor : ℕ) (entries : List Entry) (contents : Contents) (e : Entry) → RisesOver floor entries → IsNextWrite floor entries contents e → IsLegalTape entries contents
     → IsLegalTape (entries ++ e ∷ []) (with_write contents e)
 legal-push floor entries contents e rises next legal =
-    All-push (λ x. get (contents_at (entries ++ e ∷ []) (with_write contents e) x.step) (written_key x) ≡ x.after) entries e
+    All-push (λ x. get (contents_at (entries ++ e ∷ []) (with_write contents e) x.step) (written_key x) ≡ after_of x) entries e
     (λ k d in_.
     let x : Entry = get_or entries k d in
     let up = all_upto_last floor entries rises k d in_ in
     let later = next.later in
     ap (λ (c : Contents). get c (written_key x)) (contents_at-push floor x.step entries contents e next (omega arith)) ∙ legal k d in_)
     (ap (λ (c : Contents). get c (written_key e)) (contents_at-pushed floor e.step entries (with_write contents e) e rises next.later (omega arith))
-    ∙ get-with_row_same contents (written_key e) e.after)
+    ∙ get-with_row_same contents (written_key e) (after_of e))
 
 -- giving up the entries up to a floor leaves the pairs from the floor on
 pub contents_at-trim : (floor m : ℕ) (entries : List Entry) (contents : Contents) → floor ≤ m → contents_at (later_entries floor entries) contents m ≡ contents_at entries contents m
@@ -65,7 +65,7 @@ map_at-trim floor m entries contents t le = ap (tenant_map t) (contents_at-trim 
 -- and the tape legal
 pub legal-trim : (floor : ℕ) (entries : List Entry) (contents : Contents) → IsLegalTape entries contents → IsLegalTape (later_entries floor entries) contents
 legal-trim floor entries contents legal =
-    let kept = All-filter (λ x. ltb floor x.step) (λ x. get (contents_at entries contents x.step) (written_key x) ≡ x.after) entries legal in
+    let kept = All-filter (λ x. ltb floor x.step) (λ x. get (contents_at entries contents x.step) (written_key x) ≡ after_of x) entries legal in
     let after = filter_passes (λ x. ltb floor x.step) entries in
     λ k d in_.
     let x : Entry = get_or (later_entries floor entries) k d in
@@ -127,7 +127,7 @@ pub contents_at-write : (floor m : ℕ) (entries : List Entry) (contents : Conte
     → contents_at entries contents e.step ≡ with_write (contents_at entries contents m) e
 contents_at-write floor m entries contents e rises legal in_ is =
     sym (ap (λ (c : Contents). with_write c e) (contents_at-undo floor m entries contents e rises in_ is)
-    ∙ with_row-put_back (contents_at entries contents e.step) (written_key e) e.before e.after (All-contains (λ x. get (contents_at entries contents x.step) (written_key x) ≡ x.after) entries e legal in_))
+    ∙ with_row-put_back (contents_at entries contents e.step) (written_key e) e.before (after_of e) (All-contains (λ x. get (contents_at entries contents x.step) (written_key x) ≡ after_of x) entries e legal in_))
 
 -- a write of one tenant leaves every other tenant's map as it was just before
 pub map_at-other_tenant : (floor m : ℕ) (entries : List Entry) (contents : Contents) (e : Entry) (t : ℕ) → RisesOver floor entries → Contains entries e → e.step ≡ m + 1 → e.tenant ≢ t
@@ -138,10 +138,10 @@ map_at-other_tenant floor m entries contents e t rises in_ is other =
 
 -- and changes its own tenant's map at its key
 pub map_at-write : (floor m : ℕ) (entries : List Entry) (contents : Contents) (e : Entry) → RisesOver floor entries → IsLegalTape entries contents → Contains entries e → e.step ≡ m + 1
-    → map_at entries contents e.tenant e.step ≡ with_row (map_at entries contents e.tenant m) e.key e.after
+    → map_at entries contents e.tenant e.step ≡ with_row (map_at entries contents e.tenant m) e.key (after_of e)
 map_at-write floor m entries contents e rises legal in_ is =
     ap (tenant_map e.tenant) (contents_at-write floor m entries contents e rises legal in_ is)
-    ∙ tenant_map-with_row e.tenant (contents_at entries contents m) e.key e.after
+    ∙ tenant_map-with_row e.tenant (contents_at entries contents m) e.key (after_of e)
 
 -- between two numbers, none of which wrote, the pairs are the same
 pub contents_at-quiet : (m n : ℕ) (entries : List Entry) (contents : Contents) → m ≤ n → IsQuietStep entries m n → contents_at entries contents m ≡ contents_at entries contents n

@@ -6,7 +6,7 @@ ghost use Rattle.std.specs.{Prelude.{◌≡◌, ◌≢◌, ◌+◌, ◌<◌, ◌
 ghost use Rattle.std.specs.FinMap as pairs;
 ghost use Rattle.mt_rows.specs.{Rows.Bytes, Tenants.{Contents, tenant_map}};
 ghost use Rattle.mt_tape.specs.{declared.entry.Entry.Entry, Tapes.{RisesOver, last_step_over, later_entries}};
-ghost use Rattle.mt_tape.specs.Histories.{contents_at, map_at, is_changed, written_key, with_row, with_write, IsLegalTape, IsNextWrite, IsQuietStep, IsQuietFor, IsUnwrittenSince};
+ghost use Rattle.mt_tape.specs.Histories.{contents_at, map_at, is_changed, written_key, with_row, with_write, IsLegalTape, IsNextWrite, IsQuietStep, IsQuietFor, IsUnwrittenSince, after_of};
 
 /// From the last write on the pairs are the present ones, and no step after it wrote.
 pub fn the_last_map_is_the_present_one()
@@ -56,7 +56,7 @@ pub fn an_untouched_key_keeps_its_row()
 pub fn a_write_is_one_change()
     ensures before { (floor m : ℕ) (entries : List Entry) (now : Contents) (e : Entry) → RisesOver floor entries → Contains entries e → e.step ≡ m + 1 → pairs.get (contents_at entries now m) (written_key e) ≡ e.before }
     ensures contents { (floor m : ℕ) (entries : List Entry) (now : Contents) (e : Entry) → RisesOver floor entries → IsLegalTape entries now → Contains entries e → e.step ≡ m + 1 → contents_at entries now e.step ≡ with_write (contents_at entries now m) e }
-    ensures own_map { (floor m : ℕ) (entries : List Entry) (now : Contents) (e : Entry) → RisesOver floor entries → IsLegalTape entries now → Contains entries e → e.step ≡ m + 1 → map_at entries now e.tenant e.step ≡ with_row (map_at entries now e.tenant m) e.key e.after }
+    ensures own_map { (floor m : ℕ) (entries : List Entry) (now : Contents) (e : Entry) → RisesOver floor entries → IsLegalTape entries now → Contains entries e → e.step ≡ m + 1 → map_at entries now e.tenant e.step ≡ with_row (map_at entries now e.tenant m) e.key (after_of e) }
     ensures other_maps { (floor m : ℕ) (entries : List Entry) (now : Contents) (e : Entry) (t : ℕ) → RisesOver floor entries → Contains entries e → e.step ≡ m + 1 → e.tenant ≢ t → map_at entries now t e.step ≡ map_at entries now t m }
 {}
 
