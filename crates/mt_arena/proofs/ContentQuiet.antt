@@ -3,8 +3,8 @@ use Rattle.std.proofs.Common.{◌≡◌, ℕ, zero, suc, ◌<◌, List, [], ◌�
 use Rattle.std.proofs.{lemmas.Bool.cases_eq, lemmas.List.{append-nil, get_or_append_left, get_or-set_same, get_or-set_other}}
 use Rattle.std.proofs.lemmas.List.Concat.{flat_map-append}
 use Rattle.std.specs.{Prelude.{filter_map, if◌then◌else◌, false, true, ◌⊎◌}, List.{flat_map, cons_option, remove}, Option.option_map}
-use Rattle.mt_rows.specs.Rows.{Bytes, Columns}
-use Rattle.mt_border.{specs.{Held.{Pair, Held, Link}, declared.entry.Entry.Entry, Entry.pair_of, Contents.{owned, key_at, pair_in}}, proofs.Edits.any_entry}
+use Rattle.mt_rows.specs.{Rows.Bytes, Stamps.Stamped}
+use Rattle.mt_border.{specs.{Held.{Pair, Held, Link}, declared.entry.Entry.Entry, Entry.pair_of, Contents.{owned, key_at, pair_in, row_of}}, proofs.Edits.any_entry}
 use Rattle.mt_arena.specs.{declared.tree.Tree.Tree, NodeView.{NodeView, node_at, no_node}, Forests.{tree_at, no_tree}, Layers.slot_at}
 use Rattle.mt_arena.specs.{Contents.{is_live, live_pairs, content}, Arena.IsArena, Ways.HasSlots}
 use Rattle.mt_arena.proofs.{Joins.map_of, Counted.{content-is, pairs-nil, pairs-gone, pairs-other}}
@@ -85,7 +85,7 @@ stands_tree_set trees nodes t tree there prefix standing =
     ]
 
 -- an entry with the same pair in the place of one, and one without a pair taken out
-module _ (h : Entry → Option ((ℕ × Bytes) × Columns)) where
+module _ (h : Entry → Option ((ℕ × Bytes) × Stamped)) where
   filter_map-set : (es : List Entry) (i : ℕ) (e : Entry) → h e ≡ h (get_or es i any_entry) → filter_map h (set es i e) ≡ filter_map h es
   filter_map-set [] i e same = refl
   filter_map-set (x ∷ es) zero e same = ap (λ o. cons_option o (filter_map h es)) same
@@ -114,7 +114,7 @@ stands_held trees nodes k i y held same has =
     let n = node_at nodes k in
     let begins = (tree_at trees n.tree).prefix in
     stands_same_pairs trees nodes k y _ has (filter_map-set (pair_in begins) n.slots i (record (slot_at n i) { held = held })
-    (ap (option_map (λ (p : Pair). (owned (key_at begins (slot_at n i) p), p.row))) same))
+    (ap (option_map (λ (p : Pair). (owned (key_at begins (slot_at n i) p), row_of p))) same))
 
 -- a link that is taken out
 pub stands_unlinked : (trees : List Tree) (nodes : List NodeView) (k i u : ℕ) (y : NodeView) → (slot_at (node_at nodes k) i).held ≡ Link u
@@ -122,7 +122,7 @@ pub stands_unlinked : (trees : List Tree) (nodes : List NodeView) (k i u : ℕ) 
 stands_unlinked trees nodes k i u y link has =
     let n = node_at nodes k in
     let begins = (tree_at trees n.tree).prefix in
-    stands_same_pairs trees nodes k y _ has (filter_map-remove (pair_in begins) n.slots i (ap (λ held. option_map (λ (p : Pair). (owned (key_at begins (slot_at n i) p), p.row)) (pair_of held)) link))
+    stands_same_pairs trees nodes k y _ has (filter_map-remove (pair_in begins) n.slots i (ap (λ held. option_map (λ (p : Pair). (owned (key_at begins (slot_at n i) p), row_of p)) (pair_of held)) link))
 
 -- a tree whose nodes are deleted or have no slots, whatever becomes of it
 pub stands_tree_left : (trees : List Tree) (nodes : List NodeView) (t : ℕ) (tree : Tree)

@@ -4,9 +4,9 @@ use Rattle.std.proofs.{lemmas.List.{length-drop, get_or-drop, get_or-set_other},
 use Rattle.std.specs.{Prelude.{filter_map, if◌then◌else◌, cond}, List.{All, flat_map, cons_option, remove as remove_at_place}, Option.option_map}
 use Rattle.std.specs.{Ordering.eq_by_cmp, FinMap.{get, insert, remove, get-empty, get-insert, get-remove}}
 use Rattle.mt_slices.specs.Slices.{slice_of, mark_of}
-use Rattle.mt_rows.{specs.{Rows.{Bytes, Columns}, Tenants.{owned_cmp, Contents}}, proofs.ContentLaws.{same_contents, owned_total}}
+use Rattle.mt_rows.{specs.{Rows.Bytes, Stamps.Stamped, Tenants.{owned_cmp, Contents}}, proofs.ContentLaws.{same_contents, owned_total}}
 use Rattle.mt_border.specs.{Held.Pair, declared.entry.Entry.Entry, Entry.{pair_of, order_at, order_of}, Entries.IsBorder}
-use Rattle.mt_border.specs.Contents.{owned, key_at, pair_in, contents_of, HasKey, AreKeys, IsOfTree}
+use Rattle.mt_border.specs.Contents.{owned, key_at, pair_in, contents_of, HasKey, AreKeys, IsOfTree, row_of}
 use Rattle.mt_border.proofs.{Edits.any_entry, ContentsKeys.{IsApart, owned_at, owned_once}, ContentsLists.get-apart, ContentsFinds.apart_beside}
 use Rattle.mt_arena.specs.{declared.tree.Tree.Tree, declared.tree.Standing.Standing, declared.tree.Standing.TheVariants.{Made, Live, Dead}}
 use Rattle.mt_arena.specs.{NodeView.{NodeView, node_at, no_node}, Forests.{tree_at, no_tree, layer_of}, Layers.slot_at, Contents.{is_live, live_pairs, content}}
@@ -79,13 +79,13 @@ pub pairs-of_tree : (are were : List Tree) (n : NodeView) → tree_at are n.tree
 pairs-of_tree are were n same = ap (λ (u : Tree). counted n.version.deleted u.standing (filter_map (pair_in u.prefix) n.slots)) same
 
 -- the entry of one place taken out of a list, behind and before entries of other keys
-remove_again : (c : Contents) (q : ℕ × Bytes) (row : Columns) → get c q ≡ None → c ≡ remove (insert c q row) q
+remove_again : (c : Contents) (q : ℕ × Bytes) (row : Stamped) → get c q ≡ None → c ≡ remove (insert c q row) q
 remove_again c q row none = same_contents _ _ (λ r. sym (
     get-remove owned_total (insert c q row) q r
     ∙ ap (cond (eq_by_cmp owned_cmp r q) None) (get-insert owned_total c q row r)
     ∙ by (eq_by_cmp owned_cmp r q) (get c r) (λ tied. ap (get c) (tied_owner r q tied) ∙ none)))
   where
-    by : (b : Bool) (x : Option Columns) → (b ≡ true → x ≡ None) → cond b None (cond b (Some row) x) ≡ x
+    by : (b : Bool) (x : Option Stamped) → (b ≡ true → x ≡ None) → cond b None (cond b (Some row) x) ≡ x
     by true x none = sym (none refl)
     by false x none = refl
 
@@ -98,15 +98,15 @@ contents-remove prefix q es at pair within is here before behind =
     let front = filter_map (pair_in prefix) (take at es) in
     let back = filter_map (pair_in prefix) (drop (suc at) es) in
     let e = get_or es at any_entry in
-    let paired : pair_in prefix e ≡ Some (q, pair.row) = ap (option_map (λ (p : Pair). (owned (key_at prefix e p), p.row))) is ∙ ap (λ (k : ℕ × Bytes). Some (k, pair.row)) here in
+    let paired : pair_in prefix e ≡ Some (q, row_of pair) = ap (option_map (λ (p : Pair). (owned (key_at prefix e p), row_of p))) is ∙ ap (λ (k : ℕ × Bytes). Some (k, row_of pair)) here in
     let split : es ≡ take at es ++ e ∷ drop (suc at) es = sym (take-append-drop at es) ∙ ap (λ rest. take at es ++ rest) (drop-cons es at any_entry within) in
-    let listed : filter_map (pair_in prefix) es ≡ front ++ (q, pair.row) ∷ back =
+    let listed : filter_map (pair_in prefix) es ≡ front ++ (q, row_of pair) ∷ back =
     ap (filter_map (pair_in prefix)) split ∙ filter_map-append (pair_in prefix) (take at es) (e ∷ drop (suc at) es) ∙ ap (λ o. front ++ cons_option o back) paired in
     let none_front : get (map_of front) q ≡ None = ap (λ c. get c q) (sym (contents_of-is prefix (take at es))) ∙ get-apart prefix q (take at es) before in
     let none_back : get (map_of back) q ≡ None = ap (λ c. get c q) (sym (contents_of-is prefix (drop (suc at) es))) ∙ get-apart prefix q (drop (suc at) es) behind in
     contents_of-is prefix (remove_at_place es at)
     ∙ ap map_of (filter_map-append (pair_in prefix) (take at es) (drop (suc at) es))
-    ∙ remove-second front ((q, pair.row) ∷ back) back q none_front (remove_again (map_of back) q pair.row none_back)
+    ∙ remove-second front ((q, row_of pair) ∷ back) back q none_front (remove_again (map_of back) q (row_of pair) none_back)
     ∙ ap (λ c. remove c q) (sym (contents_of-is prefix es ∙ ap map_of listed))
 
 -- the other entries of a border than the key's stand for other keys
@@ -135,7 +135,7 @@ module _ (trees : List Tree) (nodes : List NodeView) (q : ℕ × Bytes) where
     here : map_of (live_pairs trees (node_at nodes i)) ≡ contents_of prefix (node_at nodes i).slots
     here = pairs-live trees (node_at nodes i) live tree_live
 
-    pub content-some : (row : Columns) → get (contents_of prefix (node_at nodes i).slots) q ≡ Some row → get (content trees nodes) q ≡ Some row
+    pub content-some : (row : Stamped) → get (contents_of prefix (node_at nodes i).slots) q ≡ Some row → get (content trees nodes) q ≡ Some row
     content-some row some =
         ap (λ c. get c q) (content-is trees nodes) ∙ some_at (live_pairs trees) q no_node nodes i row there none (ap (λ c. get c q) here ∙ some)
 
@@ -145,7 +145,7 @@ module _ (trees : List Tree) (nodes : List NodeView) (q : ℕ × Bytes) where
           pairs-live trees y (has.deleted ∙ live) (ap (λ t. (tree_at trees t).standing) has.tree ∙ tree_live)
           ∙ (λ a. contents_of (tree_at trees (has.tree a)).prefix (has.slots a))
 
-      pub content-insert : (row : Columns) → contents_of prefix entries ≡ insert (contents_of prefix (node_at nodes i).slots) q row
+      pub content-insert : (row : Stamped) → contents_of prefix entries ≡ insert (contents_of prefix (node_at nodes i).slots) q row
           → content trees (set nodes i y) ≡ insert (content trees nodes) q row
       content-insert row is =
           content-is trees (set nodes i y)

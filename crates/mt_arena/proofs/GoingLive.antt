@@ -3,8 +3,8 @@ use Rattle.std.proofs.Common.{◌≡◌, ◌≢◌, ℕ, zero, suc, ◌<◌, Boo
 use Rattle.std.proofs.{lemmas.Bool.cases_eq, lemmas.Option.none-some, lemmas.List.{length-set, get_or-set_same, get_or-set_other}}
 use Rattle.std.proofs.lemmas.List.Elements.{All-from_get_or}
 use Rattle.std.specs.{Prelude.filter_map, List.{flat_map, cons_option}, Ordering.eq_by_cmp, FinMap.{get, insert, get-empty, get-insert}}
-use Rattle.mt_rows.{specs.{Rows.{Bytes, Columns}, Tenants.owned_cmp}, proofs.ContentLaws.{same_contents, owned_total}}
-use Rattle.mt_border.specs.{Held.Pair, declared.entry.Entry.Entry, Entry.pair_of, Contents.{owned, pair_in, contents_of, AreKeys}}
+use Rattle.mt_rows.{specs.{Rows.Bytes, Stamps.Stamped, Tenants.owned_cmp}, proofs.ContentLaws.{same_contents, owned_total}}
+use Rattle.mt_border.specs.{Held.Pair, declared.entry.Entry.Entry, Entry.pair_of, Contents.{owned, pair_in, contents_of, AreKeys, row_of}}
 use Rattle.mt_border.proofs.{Edits.any_entry, ContentsMaps.{at_owner, at_other}, ContentsKeys.{IsApart, owned_at, order_of_key}}
 use Rattle.mt_border.proofs.{ContentsLists.{get-apart, get-other, insert-this}, ContentsFinds.apart_beside}
 use Rattle.mt_arena.specs.{declared.tree.Tree.Tree, declared.tree.Standing.TheVariants.{Made, Live}, NodeView.{NodeView, node_at, no_node}}
@@ -18,7 +18,7 @@ pairless : (prefix : Bytes) (q : ℕ × Bytes) (e : Entry) → pair_of e.held �
 pairless prefix q e none pair is = absurd (none-some pair (sym none ∙ is))
 
 -- one pair more before two maps that say the same of an owner
-more : (o : Option ((ℕ × Bytes) × Columns)) (ps qs : Pairs) (q : ℕ × Bytes) → get (map_of ps) q ≡ get (map_of qs) q
+more : (o : Option ((ℕ × Bytes) × Stamped)) (ps qs : Pairs) (q : ℕ × Bytes) → get (map_of ps) q ≡ get (map_of qs) q
     → get (map_of (cons_option o ps)) q ≡ get (map_of (cons_option o qs)) q
 more None ps qs q same = same
 more (Some p) ps qs q same =
@@ -37,7 +37,7 @@ get-set prefix q (x ∷ es) zero e within new old = get-other prefix q e es new 
 get-set prefix q (x ∷ es) (suc i) e within new old = more_of prefix x (set es i e) es q (get-set prefix q es i e (omega arith) new old)
 
 module _ (nodes : List NodeView) (trees : List Tree) (arena : IsArena nodes trees) (begun : AreBegun nodes) (key : Bytes) (layer k i : ℕ) (pair : Pair) (at : StandsFor nodes trees key layer k i pair)
-    (low t r : ℕ) (made : IsMadeFor nodes trees key low t r pair.row) (tree : Tree) (prefix : tree.prefix ≡ (tree_at trees t).prefix) (standing : tree.standing ≡ Live)
+    (low t r : ℕ) (made : IsMadeFor nodes trees key low t r (row_of pair)) (tree : Tree) (prefix : tree.prefix ≡ (tree_at trees t).prefix) (standing : tree.standing ≡ Live)
     (y : NodeView) (e : Entry) (none : pair_of e.held ≡ None) (has : HasSlots (node_at nodes k) y (set (node_at nodes k).slots i e)) where
   abbrev n : NodeView
   n = node_at nodes k
@@ -95,7 +95,7 @@ module _ (nodes : List NodeView) (trees : List Tree) (arena : IsArena nodes tree
   r_prefix : (tree_at are (node_at nodes r).tree).prefix ≡ (tree_at trees t).prefix
   r_prefix = ap (λ (u : Tree). u.prefix) r_tree ∙ prefix
 
-  r_is : map_of (live_pairs are (node_at nodes r)) ≡ insert (contents_of (tree_at trees t).prefix []) (owned key) made.pair.row
+  r_is : map_of (live_pairs are (node_at nodes r)) ≡ insert (contents_of (tree_at trees t).prefix []) (owned key) (row_of made.pair)
   r_is =
       pairs-live are (node_at nodes r) made.live (ap (λ (u : Tree). u.standing) r_tree ∙ standing)
       ∙ (λ a. contents_of (r_prefix a) (made.slots a))
@@ -129,10 +129,10 @@ module _ (nodes : List NodeView) (trees : List Tree) (arena : IsArena nodes tree
             (apart_beside begins layer n.slots key i (arena.nodes.each k at.there).slots.border keys at.has.of_tree at.in_range (order_of_key begins layer (slot_at n i) key at.has) j any_entry (omega (arith, long)) not_i)
       ]
 
-  key_at_r : get (map_of (live_pairs are (node_at new r))) (owned key) ≡ Some pair.row
+  key_at_r : get (map_of (live_pairs are (node_at new r))) (owned key) ≡ Some (row_of pair)
   key_at_r =
       ap (λ m. get (map_of (live_pairs are m)) (owned key)) (new_l r node_differs) ∙ ap (λ c. get c (owned key)) r_is
-      ∙ at_owner (contents_of (tree_at trees t).prefix []) (owned key) made.pair.row ∙ ap Some made.row_is
+      ∙ at_owner (contents_of (tree_at trees t).prefix []) (owned key) (row_of made.pair) ∙ ap Some made.row_is
 
   here : get (map_of (flat_map (live_pairs are) new)) (owned key) ≡ get (map_of (flat_map (live_pairs trees) nodes)) (owned key)
   here =
@@ -148,7 +148,7 @@ module _ (nodes : List NodeView) (trees : List Tree) (arena : IsArena nodes tree
         ∙ sym (ap (λ m. get (map_of (live_pairs trees (node_at nodes m))) q) is_k ∙ ap (λ c. get c q) k_was)
     | inr not_k ↦ elim (cases_eq l r) [
       | inl is_r ↦ ap (λ m. get (map_of (live_pairs are m)) q) (new_l l not_k) ∙ ap (λ m. get (map_of (live_pairs are (node_at nodes m))) q) is_r ∙ ap (λ c. get c q) r_is
-          ∙ at_other (contents_of (tree_at trees t).prefix []) (owned key) q made.pair.row differ ∙ empty_at q
+          ∙ at_other (contents_of (tree_at trees t).prefix []) (owned key) q (row_of made.pair) differ ∙ empty_at q
           ∙ sym (ap (λ m. get (map_of (live_pairs trees (node_at nodes m))) q) is_r ∙ ap (λ ps. get (map_of ps) q) r_was ∙ get-empty owned_cmp q)
       | inr not_r ↦ ap (λ m. get (map_of (live_pairs are m)) q) (new_l l not_k) ∙ ap (λ ps. get (map_of ps) q) (others_same l (omega (arith, size)) not_r)
     ]

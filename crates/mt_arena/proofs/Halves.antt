@@ -6,9 +6,9 @@ use Rattle.std.proofs.lemmas.List.Elements.{filter_map-append, All-from_get_or}
 use Rattle.std.specs.{Prelude.filter_map, List.{All, flat_map, cons_option}, Option.{option_map, option_or}, Ordering.eq_by_cmp}
 use Rattle.std.specs.FinMap.{get, insert, get-empty, get-insert}
 use Rattle.mt_slices.specs.Slices.{slice_of}
-use Rattle.mt_rows.{specs.{Rows.{Bytes, Columns}, Tenants.owned_cmp}, proofs.ContentLaws.{same_contents, owned_total}}
+use Rattle.mt_rows.{specs.{Rows.Bytes, Stamps.Stamped, Tenants.owned_cmp}, proofs.ContentLaws.{same_contents, owned_total}}
 use Rattle.mt_border.specs.{Held.Pair, declared.entry.Entry.Entry, Entry.pair_of, Entries.{IsMissing, with_entry}, Split.IsParted}
-use Rattle.mt_border.specs.Contents.{owned, key_at, pair_in, contents_of, HasKey, AreKeys}
+use Rattle.mt_border.specs.Contents.{owned, key_at, pair_in, contents_of, HasKey, AreKeys, row_of}
 use Rattle.mt_border.proofs.{Edits.any_entry, ContentsKeys.{IsApart, owned_at, owned_once, missing_key}, ContentsLists.get-apart}
 use Rattle.mt_border.proofs.ContentsEdits.{each-publish, keys-publish}
 use Rattle.mt_arena.specs.{declared.tree.Tree.Tree, declared.tree.Standing.TheVariants.Live, NodeView.{NodeView, node_at, no_node}, Forests.tree_at}
@@ -36,20 +36,20 @@ owns_later : (prefix : Bytes) (e : Entry) (es : List Entry) (q : ℕ × Bytes) �
 owns_later prefix e es q o = record { place = suc o.place; within = omega (arith, o.within); pair = o.pair; is = o.is; owner = o.owner }
 
 -- of one entry more, by what it holds
-module _ (prefix : Bytes) (e : Entry) (es : List Entry) (q : ℕ × Bytes) (row : Columns) (rest : get (map_of (filter_map (pair_in prefix) es)) q ≡ Some row → Owns prefix es q) where
+module _ (prefix : Bytes) (e : Entry) (es : List Entry) (q : ℕ × Bytes) (row : Stamped) (rest : get (map_of (filter_map (pair_in prefix) es)) q ≡ Some row → Owns prefix es q) where
   owns_here : (pair : Pair) → pair_of e.held ≡ Some pair → (b : Bool) → eq_by_cmp owned_cmp q (owned (key_at prefix e pair)) ≡ b
-      → cond b (Some pair.row) (get (map_of (filter_map (pair_in prefix) es)) q) ≡ Some row → Owns prefix (e ∷ es) q
+      → cond b (Some (row_of pair)) (get (map_of (filter_map (pair_in prefix) es)) q) ≡ Some row → Owns prefix (e ∷ es) q
   owns_here pair is true tied said = record { place = 0; within = omega arith; pair = pair; is = is; owner = sym (tied_owner q (owned (key_at prefix e pair)) tied) }
   owns_here pair is false apart said = owns_later prefix e es q (rest said)
 
   owns_by : (o : Option Pair) → pair_of e.held ≡ o
-      → get (map_of (cons_option (option_map (λ (pair : Pair). (owned (key_at prefix e pair), pair.row)) o) (filter_map (pair_in prefix) es))) q ≡ Some row
+      → get (map_of (cons_option (option_map (λ (pair : Pair). (owned (key_at prefix e pair), row_of pair)) o) (filter_map (pair_in prefix) es))) q ≡ Some row
       → Owns prefix (e ∷ es) q
   owns_by None is said = owns_later prefix e es q (rest said)
   owns_by (Some pair) is said = owns_here pair is (eq_by_cmp owned_cmp q (owned (key_at prefix e pair))) refl
-      (sym (get-insert owned_total (map_of (filter_map (pair_in prefix) es)) (owned (key_at prefix e pair)) pair.row q) ∙ said)
+      (sym (get-insert owned_total (map_of (filter_map (pair_in prefix) es)) (owned (key_at prefix e pair)) (row_of pair) q) ∙ said)
 
-owns : (prefix : Bytes) (es : List Entry) (q : ℕ × Bytes) (row : Columns) → get (map_of (filter_map (pair_in prefix) es)) q ≡ Some row → Owns prefix es q
+owns : (prefix : Bytes) (es : List Entry) (q : ℕ × Bytes) (row : Stamped) → get (map_of (filter_map (pair_in prefix) es)) q ≡ Some row → Owns prefix es q
 owns prefix [] q row some = absurd (none-some row (sym (get-empty owned_cmp q) ∙ some))
 owns prefix (e ∷ es) q row some = owns_by prefix e es q row (owns prefix es q row) (pair_of e.held) refl some
 
@@ -57,15 +57,15 @@ owns prefix (e ∷ es) q row some = owns_by prefix e es q row (owns prefix es q 
 module _ (trees : List Tree) (nodes : List NodeView) (k j : ℕ) (x y z : NodeView) (differ : k ≢ j) (there : k < length nodes) (also : j < length nodes)
     (whole : (q : ℕ × Bytes) → get (map_of (live_pairs trees z)) q ≡ option_or (get (map_of (live_pairs trees x)) q) (get (map_of (live_pairs trees y)) q))
     (empty : (q : ℕ × Bytes) → HasNone trees nodes q j)
-    (left_none : (q : ℕ × Bytes) (row : Columns) → get (map_of (live_pairs trees y)) q ≡ Some row → get (map_of (live_pairs trees x)) q ≡ None)
-    (others_none : (q : ℕ × Bytes) (row : Columns) → get (map_of (live_pairs trees y)) q ≡ Some row → (l : ℕ) → l < length nodes → l ≢ k → HasNone trees nodes q l) where
+    (left_none : (q : ℕ × Bytes) (row : Stamped) → get (map_of (live_pairs trees y)) q ≡ Some row → get (map_of (live_pairs trees x)) q ≡ None)
+    (others_none : (q : ℕ × Bytes) (row : Stamped) → get (map_of (live_pairs trees y)) q ≡ Some row → (l : ℕ) → l < length nodes → l ≢ k → HasNone trees nodes q l) where
   abbrev two : List NodeView
   two = set (set nodes k x) j y
 
   abbrev one : List NodeView
   one = set nodes k z
 
-  abbrev at : (ℕ × Bytes) → NodeView → Option Columns
+  abbrev at : (ℕ × Bytes) → NodeView → Option Stamped
   at q n = get (map_of (live_pairs trees n)) q
 
   two_j : node_at two j ≡ y
@@ -100,16 +100,16 @@ module _ (trees : List Tree) (nodes : List NodeView) (k j : ℕ) (x y z : NodeVi
   ]
 
   -- where it has something, no other node has
-  two_none : (q : ℕ × Bytes) (row : Columns) → at q y ≡ Some row → (l : ℕ) → l < length two → l ≢ j → at q (node_at two l) ≡ None
+  two_none : (q : ℕ × Bytes) (row : Stamped) → at q y ≡ Some row → (l : ℕ) → l < length two → l ≢ j → at q (node_at two l) ≡ None
   two_none q row some l lt not_j = elim (cases_eq l k) [
     | inl is_k ↦ ap (λ m. at q (node_at two m)) is_k ∙ ap (at q) two_k ∙ left_none q row some
     | inr not_k ↦ ap (at q) (two_l l not_k not_j) ∙ others_none q row some l (omega (arith, long, size)) not_k
   ]
 
-  one_none : (q : ℕ × Bytes) (row : Columns) → at q y ≡ Some row → (l : ℕ) → l < length one → l ≢ k → at q (node_at one l) ≡ None
+  one_none : (q : ℕ × Bytes) (row : Stamped) → at q y ≡ Some row → (l : ℕ) → l < length one → l ≢ k → at q (node_at one l) ≡ None
   one_none q row some l lt not_k = ap (at q) (one_l l not_k) ∙ others_none q row some l (omega (arith, size)) not_k
 
-  parted_at : (q : ℕ × Bytes) (o : Option Columns) → at q y ≡ o
+  parted_at : (q : ℕ × Bytes) (o : Option Stamped) → at q y ≡ o
       → get (map_of (flat_map (live_pairs trees) two)) q ≡ get (map_of (flat_map (live_pairs trees) one)) q
   parted_at q None none = agree_by (live_pairs trees) (live_pairs trees) q no_node two one long (λ l lt. without q none l)
   parted_at q (Some row) some =
@@ -157,7 +157,7 @@ module _ (nodes : List NodeView) (trees : List Tree) (layer k j : ℕ) (within :
     empty : (q : ℕ × Bytes) → HasNone trees nodes q j
     empty q = ap (λ ps. get (map_of ps) q) (pairs-nil trees (node_at nodes j) half.empty) ∙ get-empty owned_cmp q
 
-    right_owns : (q : ℕ × Bytes) (row : Columns) → get (map_of (live_pairs trees y)) q ≡ Some row → Owns bytes right q
+    right_owns : (q : ℕ × Bytes) (row : Stamped) → get (map_of (live_pairs trees y)) q ≡ Some row → Owns bytes right q
     right_owns q row some = owns bytes right q row (ap (λ c. get c q) (sym y_is) ∙ some)
 
     -- entries of the left half have other slices, and so other owners
@@ -170,10 +170,10 @@ module _ (nodes : List NodeView) (trees : List Tree) (layer k j : ℕ) (within :
         let slices : (get_or left i any_entry).slice ≡ (get_or right o.place any_entry).slice = this.1.slice ∙ ap (λ k. slice_of k layer) one ∙ sym that.1.slice in
         omega (arith, slices, below i any_entry inside, above o.place any_entry o.within))
 
-    left_none : (q : ℕ × Bytes) (row : Columns) → get (map_of (live_pairs trees y)) q ≡ Some row → get (map_of (live_pairs trees x)) q ≡ None
+    left_none : (q : ℕ × Bytes) (row : Stamped) → get (map_of (live_pairs trees y)) q ≡ Some row → get (map_of (live_pairs trees x)) q ≡ None
     left_none q row some = ap (λ c. get c q) (x_is ∙ sym (contents_of-is bytes left)) ∙ get-apart bytes q left (left_apart q (right_owns q row some))
 
-    others_none : (q : ℕ × Bytes) (row : Columns) → get (map_of (live_pairs trees y)) q ≡ Some row → (l : ℕ) → l < length nodes → l ≢ k
+    others_none : (q : ℕ × Bytes) (row : Stamped) → get (map_of (live_pairs trees y)) q ≡ Some row → (l : ℕ) → l < length nodes → l ≢ k
         → HasNone trees nodes q l
     others_none q row some l lt differ =
         let o = right_owns q row some in
@@ -230,7 +230,7 @@ module _ (nodes : List NodeView) (trees : List Tree) (arena : IsArena nodes tree
         (nodes_missing nodes trees arena begun key layer k in_k (missing_key begins layer n.slots e key has missing) l lt)
 
     -- to part a node with the key's entry in one of the halves inserts its pair
-    pub halved : content trees (set (set nodes k x) j y) ≡ insert (content trees nodes) (owned key) pair.row
+    pub halved : content trees (set (set nodes k x) j y) ≡ insert (content trees nodes) (owned key) (row_of pair)
     halved =
         as_one nodes trees layer k j in_k.border.there in_k.border.live in_k.tree_live half x y left right separator
         (subst (AreKeys begins layer) (sym parts.joined) (keys-publish begins layer n.slots e key keys has))

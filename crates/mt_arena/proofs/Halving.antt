@@ -9,7 +9,7 @@ use Rattle.std.specs.List.{All}
 use Rattle.mt_slices.specs.{declared.mark.Mark.Mark, declared.mark.Mark.TheVariants.Short}
 use Rattle.mt_rows.specs.Rows.{Bytes}
 use Rattle.mt_border.specs.{declared.entry.Entry.Entry, Held.{Pair, Stable}, Entry.{IsEntry, order_of, pair_of}, Entries.{IsBorder, orders, slices, place_in}}
-use Rattle.mt_border.specs.{Split.IsParted, Contents.{HasKey, owned}}
+use Rattle.mt_border.specs.{Split.IsParted, Contents.{HasKey, owned, row_of}}
 use Rattle.mt_border.proofs.{Edits.{any_entry, place_in-le, All-insert, border_take, border_drop, orders-insert, rising_with}, Parts.{All-left, All-right}}
 use Rattle.mt_border.proofs.ContentsEdits.{keys-publish, length-publish}
 use Rattle.mt_lists.specs.Rising.{IsRising}
@@ -237,7 +237,7 @@ module _ (v : ArenaView) (room : Rooms) (left right op slice : ℕ) (mark : Mark
 
   -- an entry inserts its pair
   pub content_with : (key : Bytes) (e : Entry) (pair : Pair) → entry ≡ Some e → MayPlace v left op key e → e.held ≡ Stable pair
-      → content v.trees new ≡ finite.insert (content v.trees v.nodes) (owned key) pair.row
+      → content v.trees new ≡ finite.insert (content v.trees v.nodes) (owned key) (row_of pair)
   content_with key e pair some place is =
       let (slice_is, mark_is, _) = rw some at come in
       rw done.is

@@ -3,11 +3,11 @@ use Rattle.std.proofs.Common.{◌≡◌, ◌≢◌, ℕ, zero, suc, ◌<◌, Boo
 use Rattle.std.specs.{List.flat_map, Option.option_or, Ordering.{nat_cmp, eq_by_cmp, is_eq, ordering_then}, declared.cmp.Ordering.Ordering}
 use Rattle.std.specs.{declared.cmp.Ordering.TheVariants.{Less, Equal, Greater}, Cmp.eq_by_cmp_equiv, Cmp.Lexicographic.slice_cmp}
 use Rattle.std.specs.FinMap.{get, insert, remove, get-empty, from_entries, get-insert, get-remove, nat_cmp-IsAntisymmetric}
-use Rattle.mt_rows.{specs.{Rows.{Bytes, Columns}, Tenants.{owned_cmp, Contents}}, proofs.{CommandLaws.keys_exact, ContentLaws.{same_contents, owned_total}}}
+use Rattle.mt_rows.{specs.{Rows.Bytes, Stamps.Stamped, Tenants.{owned_cmp, Contents}}, proofs.{CommandLaws.keys_exact, ContentLaws.{same_contents, owned_total}}}
 
 -- pairs with their owners, as a list and as a map
 abbrev pub Pairs : Type 0
-Pairs = List ((ℕ × Bytes) × Columns)
+Pairs = List ((ℕ × Bytes) × Stamped)
 
 abbrev pub map_of : Pairs → Contents
 map_of ps = from_entries ps
@@ -32,12 +32,12 @@ pub same_owner : (q : ℕ × Bytes) → eq_by_cmp owned_cmp q q ≡ true
 same_owner q = (eq_by_cmp_equiv owned_total).refl q
 
 -- what the first list says comes first
-or_cond : (b : Bool) (row : Columns) (x y : Option Columns) → cond b (Some row) (option_or x y) ≡ option_or (cond b (Some row) x) y
+or_cond : (b : Bool) (row : Stamped) (x y : Option Stamped) → cond b (Some row) (option_or x y) ≡ option_or (cond b (Some row) x) y
 or_cond true row x y = refl
 or_cond false row x y = refl
 
 -- what the first list does not say the second one does
-pub or_none : (x y : Option Columns) → x ≡ None → option_or x y ≡ y
+pub or_none : (x y : Option Stamped) → x ≡ None → option_or x y ≡ y
 or_none x y none = ap (λ o. option_or o y) none
 
 -- a key's row in both is that of the first list that has it
@@ -50,7 +50,7 @@ get-append (p ∷ ps) qs q =
     ∙ ap (λ o. option_or o (get (map_of qs) q)) (sym (get-insert owned_total (map_of ps) p.0 p.1 q))
 
 -- an insert in the first list is one in both
-pub insert-first : (ps new qs : Pairs) (q : ℕ × Bytes) (row : Columns) → map_of new ≡ insert (map_of ps) q row
+pub insert-first : (ps new qs : Pairs) (q : ℕ × Bytes) (row : Stamped) → map_of new ≡ insert (map_of ps) q row
     → map_of (new ++ qs) ≡ insert (map_of (ps ++ qs)) q row
 insert-first ps new qs q row is = same_contents _ _ (λ r.
     get-append new qs r
@@ -59,13 +59,13 @@ insert-first ps new qs q row is = same_contents _ _ (λ r.
     ∙ sym (get-insert owned_total (map_of (ps ++ qs)) q row r ∙ ap (cond (eq_by_cmp owned_cmp r q) (Some row)) (get-append ps qs r) ∙ or_cond (eq_by_cmp owned_cmp r q) row (get (map_of ps) r) (get (map_of qs) r)))
 
 -- so is one in the second list, where the first has nothing there
-insert_behind : (b : Bool) (row : Columns) (x y : Option Columns) → (b ≡ true → x ≡ None)
+insert_behind : (b : Bool) (row : Stamped) (x y : Option Stamped) → (b ≡ true → x ≡ None)
     → option_or x (cond b (Some row) y) ≡ cond b (Some row) (option_or x y)
 insert_behind true row x y none = or_none x (Some row) (none refl)
 insert_behind false row x y none = refl
 
 -- in two lists of pairs of which the first lacks the key, a pair may be put into the second
-pub insert-second : (ps qs new : Pairs) (q : ℕ × Bytes) (row : Columns) → get (map_of ps) q ≡ None → map_of new ≡ insert (map_of qs) q row
+pub insert-second : (ps qs new : Pairs) (q : ℕ × Bytes) (row : Stamped) → get (map_of ps) q ≡ None → map_of new ≡ insert (map_of qs) q row
     → map_of (ps ++ new) ≡ insert (map_of (ps ++ qs)) q row
 insert-second ps qs new q row none is = same_contents _ _ (λ r.
     get-append ps new r
@@ -75,11 +75,11 @@ insert-second ps qs new q row none is = same_contents _ _ (λ r.
     ∙ sym (get-insert owned_total (map_of (ps ++ qs)) q row r ∙ ap (cond (eq_by_cmp owned_cmp r q) (Some row)) (get-append ps qs r)))
 
 -- a removal in one list is one in both, where the other one has nothing there
-remove_before : (b : Bool) (x y : Option Columns) → (b ≡ true → y ≡ None) → option_or (cond b None x) y ≡ cond b None (option_or x y)
+remove_before : (b : Bool) (x y : Option Stamped) → (b ≡ true → y ≡ None) → option_or (cond b None x) y ≡ cond b None (option_or x y)
 remove_before true x y none = none refl
 remove_before false x y none = refl
 
-remove_behind : (b : Bool) (x y : Option Columns) → (b ≡ true → x ≡ None) → option_or x (cond b None y) ≡ cond b None (option_or x y)
+remove_behind : (b : Bool) (x y : Option Stamped) → (b ≡ true → x ≡ None) → option_or x (cond b None y) ≡ cond b None (option_or x y)
 remove_behind true x y none = or_none x None (none refl)
 remove_behind false x y none = refl
 
@@ -108,16 +108,16 @@ pub none-append : (ps qs : Pairs) (q : ℕ × Bytes) → get (map_of ps) q ≡ N
 none-append ps qs q none also = get-append ps qs q ∙ or_none (get (map_of ps) q) (get (map_of qs) q) none ∙ also
 
 -- a key's row in the first list is its row in both
-pub some-first : (ps qs : Pairs) (q : ℕ × Bytes) (row : Columns) → get (map_of ps) q ≡ Some row → get (map_of (ps ++ qs)) q ≡ Some row
+pub some-first : (ps qs : Pairs) (q : ℕ × Bytes) (row : Stamped) → get (map_of ps) q ≡ Some row → get (map_of (ps ++ qs)) q ≡ Some row
 some-first ps qs q row some = get-append ps qs q ∙ ap (λ o. option_or o (get (map_of qs) q)) some
 
 -- a row in the second list is the key's in both, where the first lacks it
-pub some-second : (ps qs : Pairs) (q : ℕ × Bytes) (row : Columns) → get (map_of ps) q ≡ None → get (map_of qs) q ≡ Some row
+pub some-second : (ps qs : Pairs) (q : ℕ × Bytes) (row : Stamped) → get (map_of ps) q ≡ None → get (map_of qs) q ≡ Some row
     → get (map_of (ps ++ qs)) q ≡ Some row
 some-second ps qs q row none some = get-append ps qs q ∙ or_none (get (map_of ps) q) (get (map_of qs) q) none ∙ some
 
 -- of two lists what one says where the other has nothing
-pub or_none_right : (x : Option Columns) → option_or x None ≡ x
+pub or_none_right : (x : Option Stamped) → option_or x None ≡ x
 or_none_right None = refl
 or_none_right (Some row) = refl
 
@@ -135,7 +135,7 @@ module _ {X : Type 0} (f : X → Pairs) (q : ℕ × Bytes) (d : X) where
   all_none [] none = get-empty owned_cmp q
   all_none (x ∷ xs) none = none-append (f x) (flat_map f xs) q (none 0 (omega arith)) (all_none xs (λ k lt. none (suc k) (omega arith)))
 
-  pub some_at : (xs : List X) (i : ℕ) (row : Columns) → i < length xs → ((k : ℕ) → k < length xs → k ≢ i → get (map_of (f (get_or xs k d))) q ≡ None)
+  pub some_at : (xs : List X) (i : ℕ) (row : Stamped) → i < length xs → ((k : ℕ) → k < length xs → k ≢ i → get (map_of (f (get_or xs k d))) q ≡ None)
       → get (map_of (f (get_or xs i d))) q ≡ Some row → get (map_of (flat_map f xs)) q ≡ Some row
   some_at [] i row lt none is = absurd (omega arith)
   some_at (x ∷ xs) zero row lt none is = some-first (f x) (flat_map f xs) q row is
@@ -143,7 +143,7 @@ module _ {X : Type 0} (f : X → Pairs) (q : ℕ × Bytes) (d : X) where
       some-second (f x) (flat_map f xs) q row (none 0 (omega arith) (omega arith))
       (some_at xs i row (omega arith) (λ k within differ. none (suc k) (omega arith) (omega arith)) is)
 
-  pub insert_at : (xs : List X) (i : ℕ) (y : X) (row : Columns) → i < length xs
+  pub insert_at : (xs : List X) (i : ℕ) (y : X) (row : Stamped) → i < length xs
       → ((k : ℕ) → k < length xs → k ≢ i → get (map_of (f (get_or xs k d))) q ≡ None) → map_of (f y) ≡ insert (map_of (f (get_or xs i d))) q row
       → map_of (flat_map f (set xs i y)) ≡ insert (map_of (flat_map f xs)) q row
   insert_at [] i y row lt none is = absurd (omega arith)

@@ -3,8 +3,8 @@ use Rattle.std.proofs.Common.{◌≡◌, ◌≢◌, ℕ, ◌+◌, ◌<◌, List,
 use Rattle.std.proofs.{lemmas.Bool.{cases_eq, cases_lt}, lemmas.List.{length-set, get_or-set_same}}
 use Rattle.mt_version.specs.Parts.{Parts}
 use Rattle.mt_slices.specs.{Slices.piece_bytes, declared.mark.Mark.TheVariants.Long}
-use Rattle.mt_rows.specs.Rows.{Bytes, Columns}
-use Rattle.mt_border.specs.{declared.entry.Entry.Entry, Held.{Pair, Held}, Entry.pair_of, Contents.HasKey}
+use Rattle.mt_rows.specs.{Rows.Bytes, Stamps.Stamped}
+use Rattle.mt_border.specs.{declared.entry.Entry.Entry, Held.{Pair, Held}, Entry.pair_of, Contents.{HasKey, row_of}}
 use Rattle.mt_border.proofs.{Edits.{any_entry, replaced_at}, ContentsKeys.has_held_key}
 use Rattle.mt_arena.specs.{declared.tree.Tree.Tree, declared.tree.Standing.Standing, declared.tree.Standing.TheVariants.{Made, Live, Dead}, NodeView.NodeView}
 use Rattle.mt_arena.specs.{Layers.slot_at, Forests.{tree_at, layer_of}, Guarantee.IsUntouched, Ways.IsMadeFor, Arena.{IsArena, ArenaView, Guarantee}}
@@ -66,7 +66,7 @@ module _ (op maker : ℕ) (old new : ArenaView) (step : Guarantee op old new) (o
         }
 
   -- and the tree that is made
-  module _ (t : ℕ) (key : Bytes) (row : Columns) (layer : IsLayerFor old t maker key row) where
+  module _ (t : ℕ) (key : Bytes) (row : Stamped) (layer : IsLayerFor old t maker key row) where
     abbrev r : ℕ
     r = (tree_at old.trees t).root
 
@@ -102,7 +102,7 @@ module _ (op maker : ℕ) (old new : ArenaView) (step : Guarantee op old new) (o
     }
 
   -- and both
-  pub whole_stays : (node i t : ℕ) (what : Held) (key : Bytes) (row : Columns) → (tree_of new node).standing ≢ Dead
+  pub whole_stays : (node i t : ℕ) (what : Held) (key : Bytes) (row : Stamped) → (tree_of new node).standing ≢ Dead
       → IsLayerOf old node i t maker what key row → IsLayerOf new node i t maker what key row
   whole_stays node i t what key row alive whole =
       let slot = slot_same node i what whole.slot in
@@ -170,10 +170,10 @@ module _ (v : ArenaView) (node i op least : ℕ) (what : Held) (key : Bytes) (e 
         absurd ((arena.forest.homes l (at v l).tree was.0 (arena.forest.tree_there l was.0)).standing refl alive (ap (λ s. (tree_at v.trees s).standing) of_tree ∙ tree_made.tree.vacant))
   ]
 
-  layer_begun : IsLayerFor w t op key pair.row
+  layer_begun : IsLayerFor w t op key (row_of pair)
   layer_begun = record {
     mine = ap (λ (x : Tree). x.standing) tree_is;
-    made = subst (λ (x : Tree). IsMadeFor w.nodes w.trees key (layer_of x.prefix) t x.root pair.row) (sym tree_is) (record {
+    made = subst (λ (x : Tree). IsMadeFor w.nodes w.trees key (layer_of x.prefix) t x.root (row_of pair)) (sym tree_is) (record {
       maker = op;
       made = ap (λ (x : Tree). x.standing) tree_is;
       there = root_made.node.inside;
@@ -189,7 +189,7 @@ module _ (v : ArenaView) (node i op least : ℕ) (what : Held) (key : Bytes) (e 
     });
   }
 
-  pub whole_begun : IsLayerOf w node i t op what key pair.row
+  pub whole_begun : IsLayerOf w node i t op what key (row_of pair)
   whole_begun = record {
     slot = record {
       held = record { there = omega (arith, root_made.node.more, slot.held.there); holder = ap (λ (x : NodeView). x.holder) node_same ∙ slot.held.holder };
@@ -206,7 +206,7 @@ module _ (v : ArenaView) (node i op least : ℕ) (what : Held) (key : Bytes) (e 
   }
 
 -- the slot holds its pair otherwise
-module _ (v : ArenaView) (node i t op : ℕ) (what held : Held) (key : Bytes) (row : Columns) (arena : IsArena v.nodes v.trees) (whole : IsLayerOf v node i t op what key row)
+module _ (v : ArenaView) (node i t op : ℕ) (what held : Held) (key : Bytes) (row : Stamped) (arena : IsArena v.nodes v.trees) (whole : IsLayerOf v node i t op what key row)
     (goes_on : (pair : Pair) → pair_of held ≡ Some pair → pair_of what ≡ Some pair) where
   abbrev x : NodeView
   x = at v node

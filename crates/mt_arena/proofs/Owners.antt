@@ -4,7 +4,7 @@ use Rattle.std.specs.{List.{All, remove as remove_at_place}, FinMap.{get, insert
 use Rattle.mt_slices.specs.Slices.{slice_of, mark_of, suffix_of}
 use Rattle.mt_rows.specs.Rows.{Bytes, Columns}
 use Rattle.mt_border.specs.{Held.{Pair, Stable}, declared.entry.Entry.Entry, Entry.{pair_of, order_at, order_of}, Entries.{IsBorder, IsMissing, with_entry}}
-use Rattle.mt_border.specs.Contents.{owned, IsOfTree, HasKey, AreKeys}
+use Rattle.mt_border.specs.Contents.{owned, IsOfTree, HasKey, AreKeys, row_of}
 use Rattle.mt_border.proofs.{Edits.any_entry, ContentsKeys.{IsApart, owned_at, has_rewritten_key, order_of_key, missing_key}}
 use Rattle.mt_border.proofs.{ContentsLists.{contents-set, get-at}, ContentsFinds.apart_before, ContentsEdits.contents-publish}
 use Rattle.mt_arena.specs.{declared.tree.Tree.Tree, NodeView.{NodeView, node_at}, Forests.tree_at, Layers.slot_at, Contents.content, Arena.IsArena}
@@ -43,11 +43,11 @@ module _ (nodes : List NodeView) (trees : List Tree) (arena : IsArena nodes tree
     -- to publish its entry there is to insert its pair
     pub published : (y : NodeView) (e : Entry) (pair : Pair) → HasKey begins layer e key → IsMissing n.slots e.slice e.mark
         → pair_of e.held ≡ Some pair → HasSlots n y (with_entry n.slots e)
-        → content trees (set nodes k y) ≡ insert (content trees nodes) (owned key) pair.row
+        → content trees (set nodes k y) ≡ insert (content trees nodes) (owned key) (row_of pair)
     published y e pair has missing is slots =
         let there = in_k.border.there in
         let none = nodes_missing (missing_key begins layer n.slots e key has missing) in
-        content-insert trees nodes (owned key) k there in_k.border.live in_k.tree_live (λ l within differ. none l within) y (with_entry n.slots e) slots pair.row
+        content-insert trees nodes (owned key) k there in_k.border.live in_k.tree_live (λ l within differ. none l within) y (with_entry n.slots e) slots (row_of pair)
         (contents-publish begins layer n.slots e key pair (keys_of there in_k.of_tree) has missing is)
 
   -- where a slot has the key's pair
@@ -70,18 +70,18 @@ module _ (nodes : List NodeView) (trees : List Tree) (arena : IsArena nodes tree
     before = apart_before begins layer n.slots key i border keys at.has.of_tree at.in_range place
 
     -- the contents have its row
-    pub found : get (content trees nodes) (owned key) ≡ Some pair.row
-    found = content-some trees nodes (owned key) k at.there at.live at.tree_live others pair.row
+    pub found : get (content trees nodes) (owned key) ≡ Some (row_of pair)
+    found = content-some trees nodes (owned key) k at.there at.live at.tree_live others (row_of pair)
         (get-at begins (owned key) n.slots i any_entry pair at.in_range at.pair_is (owned_at begins layer (slot_at n i) key pair at.has at.pair_is) before)
 
     -- another entry of the key in its place inserts that one's row
     pub replaced : (y : NodeView) (e : Entry) (new : Pair) → HasKey begins layer e key → pair_of e.held ≡ Some new → HasSlots n y (set n.slots i e)
-        → content trees (set nodes k y) ≡ insert (content trees nodes) (owned key) new.row
-    replaced y e new has is slots = content-insert trees nodes (owned key) k at.there at.live at.tree_live others y (set n.slots i e) slots new.row
+        → content trees (set nodes k y) ≡ insert (content trees nodes) (owned key) (row_of new)
+    replaced y e new has is slots = content-insert trees nodes (owned key) k at.there at.live at.tree_live others y (set n.slots i e) slots (row_of new)
         (contents-set begins (owned key) n.slots i e any_entry pair new at.in_range at.pair_is (owned_at begins layer (slot_at n i) key pair at.has at.pair_is) is (owned_at begins layer e key new has is) before)
 
     -- as another row with its stamp does
-    pub stored : (y : NodeView) (row : Columns) (stamp : ℕ) → HasSlots n y (set n.slots i (record (slot_at n i) { held = Stable (record pair { row = row; stamp = stamp }) })) → content trees (set nodes k y) ≡ insert (content trees nodes) (owned key) row
+    pub stored : (y : NodeView) (row : Columns) (stamp : ℕ) → HasSlots n y (set n.slots i (record (slot_at n i) { held = Stable (record pair { row = row; stamp = stamp }) })) → content trees (set nodes k y) ≡ insert (content trees nodes) (owned key) (record { stamp = stamp; row = row })
     stored y row stamp slots =
         replaced y (record (slot_at n i) { held = Stable (record pair { row = row; stamp = stamp }) }) (record pair { row = row; stamp = stamp })
         (has_rewritten_key begins layer (slot_at n i) key pair row stamp at.has at.pair_is) refl slots

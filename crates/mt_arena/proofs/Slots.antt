@@ -6,7 +6,7 @@ use Rattle.mt_version.proofs.Aging.{ages-marked_inserting}
 use Rattle.mt_slices.specs.{declared.mark.Mark.TheVariants.{Short, Long}, Marks.{mark_rank as rank}, Slices.{mark_of, rest_of}}
 use Rattle.mt_rows.specs.Rows.{Bytes, Columns}
 use Rattle.mt_border.specs.{declared.entry.Entry.Entry, Held.{Pair, Held, Stable, Unstable, Link}, Entry.{IsEntry, IsStablePair, CanHold, order_of, pair_of}}
-use Rattle.mt_border.specs.{Slots.Slotted, Entries.{IsBorder, IsMissing, slices, place_in, with_entry, without, replaced}, Contents.{HasKey, owned}}
+use Rattle.mt_border.specs.{Slots.Slotted, Entries.{IsBorder, IsMissing, slices, place_in, with_entry, without, replaced}, Contents.{HasKey, owned, row_of}}
 use Rattle.mt_border.proofs.Edits.{any_entry, place_in-le, All-insert, All-remove, border_with_entry, border_without, border_set, without_at, replaced_at}
 use Rattle.mt_border.specs.Keeps.{HasEntry, KeepsEntries, LosesOnly}
 use Rattle.mt_border.proofs.KeptEntries.{entries_none}
@@ -207,7 +207,7 @@ module _ (v : ArenaView) (room : Rooms) (k op : ℕ) (key : Bytes) (sound : Aren
       (λ none. begun_mark key (layer_of (tree_of v k).prefix) may.belongs.begun (sym may.has.mark ∙ none)))
 
   pub content_published : (e : Entry) (pair : Pair) → MayPublish v k op key e → e.held ≡ Stable pair
-      → content v.trees (set v.nodes k (with_slots n (with_entry n.slots e) (cells_with n.cells (place_in n.slots (order_of e)) e))) ≡ finite.insert (content v.trees v.nodes) (owned key) pair.row
+      → content v.trees (set v.nodes k (with_slots n (with_entry n.slots e) (cells_with n.cells (place_in n.slots (order_of e)) e))) ≡ finite.insert (content v.trees v.nodes) (owned key) (row_of pair)
   content_published e pair may is =
       published v.nodes v.trees sound.arena (begun v.nodes v.trees sound.arena.forest) key (layer_of (tree_of v k).prefix) k may.belongs (with_slots n (with_entry n.slots e) (cells_with n.cells (place_in n.slots (order_of e)) e)) e pair may.has may.missing (ap pair_of is)
       record { slots = refl; deleted = refl; tree = refl }
@@ -226,7 +226,7 @@ module _ (v : ArenaView) (room : Rooms) (k op : ℕ) (key : Bytes) (sound : Aren
         (may_store v.nodes v.trees v.retired room k may.held.there sound i pair row stamp may.stands.in_range may.stable)
 
     pub content_stored : (row : Columns) (stamp : ℕ)
-        → content v.trees (set v.nodes k (with_slots n (replaced n.slots (with_row was pair row stamp)) (cells_holding n.cells i (with_row was pair row stamp).held))) ≡ finite.insert (content v.trees v.nodes) (owned key) row
+        → content v.trees (set v.nodes k (with_slots n (replaced n.slots (with_row was pair row stamp)) (cells_holding n.cells i (with_row was pair row stamp).held))) ≡ finite.insert (content v.trees v.nodes) (owned key) (record { stamp = stamp; row = row })
     content_stored row stamp =
         stored v.nodes v.trees sound.arena (begun v.nodes v.trees sound.arena.forest) key (layer_of (tree_of v k).prefix) k i pair may.stands (with_slots n (replaced n.slots (with_row was pair row stamp)) (cells_holding n.cells i (with_row was pair row stamp).held)) row stamp
         record { slots = replaced_at n.slots i (with_row was pair row stamp) any_entry (sound.arena.nodes.each k may.held.there).slots.border.rising may.stands.in_range refl; deleted = refl; tree = refl }

@@ -2,8 +2,8 @@
 use Rattle.std.specs.{Prelude.{◌≡◌, ℕ, ◌<◌, false, List, [], ◌∷◌, ◌++◌, length, Option, Some, None, slice_set}, List.remove}
 use Rattle.mt_arena.specs.{declared.tree.Tree.Tree, Idle.{chosen, number_of, given_layer}}
 use Rattle.mt_slices.specs.{Slices.{slice_of, mark_of, suffix_of, piece_bytes}, declared.mark.Mark.TheVariants.Long}
-use Rattle.mt_rows.specs.Rows.{Bytes, Columns}
-use Rattle.mt_border.specs.{Contents.HasKey, Entry.{IsEntry, IsStablePair}, Entries.replaced, Slots.fresh_slots, declared.entry.Entry.Entry}
+use Rattle.mt_rows.specs.{Rows.{Bytes, Columns}, Stamps.Stamped}
+use Rattle.mt_border.specs.{Contents.{HasKey, row_of}, Entry.{IsEntry, IsStablePair}, Entries.replaced, Slots.fresh_slots, declared.entry.Entry.Entry}
 use Rattle.mt_border.specs.Held.{Pair, Held, Stable, Unstable, Link}
 use Rattle.mt_arena.specs.{declared.tree.Standing.TheVariants.{Made, Live}, NodeView.{NodeView, node_at}, Forests.{HaveKeys, tree_at, layer_of}, Layers.slot_at}
 use Rattle.mt_arena.specs.{Ways.IsMadeFor, Settled.IsSettled, Edits.{with_slots, cells_holding, cells_with, fresh_root, placed}, Arena.ArenaView, Accesses.{at, tree_of, IsHeld, IsFreshPrefix}}
@@ -80,13 +80,13 @@ prefix_below v node i = (tree_of v node).prefix ++ piece_bytes (slot_at (at v no
 abbrev pub HasKeyAt : ArenaView → ℕ → ℕ → Bytes → Type 0
 HasKeyAt v node i key = HasKey (tree_of v node).prefix (layer_of (tree_of v node).prefix) (slot_at (at v node) i) key
 
--- the operation makes tree t, which has the key with this row alone
-pub record IsLayerFor (v : ArenaView) (t op : ℕ) (key : Bytes) (row : Columns) : Type 0 where
+-- the operation makes tree t, which has the key with this row and stamp alone
+pub record IsLayerFor (v : ArenaView) (t op : ℕ) (key : Bytes) (row : Stamped) : Type 0 where
   pub mine : (tree_at v.trees t).standing ≡ Made op
   pub made : IsMadeFor v.nodes v.trees key (layer_of (tree_at v.trees t).prefix) t (tree_at v.trees t).root row
 
 -- and slot i of the node, which the operation holds, holds this of that key: the tree's keys are all that begin as the slot says
-pub record IsLayerOf (v : ArenaView) (node i t op : ℕ) (what : Held) (key : Bytes) (row : Columns) : Type 0 where
+pub record IsLayerOf (v : ArenaView) (node i t op : ℕ) (what : Held) (key : Bytes) (row : Stamped) : Type 0 where
   pub slot : IsHeldSlot v node i op what
   pub has : HasKeyAt v node i key
   pub layer : IsLayerFor v t op key row
@@ -94,7 +94,7 @@ pub record IsLayerOf (v : ArenaView) (node i t op : ℕ) (what : Held) (key : By
 
 -- it may make a link of the slot, to the tree that it made
 abbrev pub MayGoLive : ArenaView → ℕ → ℕ → ℕ → ℕ → Bytes → Pair → Type 0
-MayGoLive v node i t op key pair = IsLayerOf v node i t op (Unstable pair (Some t)) key pair.row
+MayGoLive v node i t op key pair = IsLayerOf v node i t op (Unstable pair (Some t)) key (row_of pair)
 
 -- a border node of which a slot holds something else
 abbrev pub with_held : NodeView → ℕ → Held → NodeView

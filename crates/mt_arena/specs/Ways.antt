@@ -1,8 +1,8 @@
 -- The way of a key down the layers, and the slots that stand for it.
 use Rattle.std.specs.{Prelude.{◌≡◌, ◌≢◌, ℕ, ◌+◌, ◌*◌, ◌<◌, false, List, [], ◌∷◌, length, take, Some, None}, List.All}
 use Rattle.mt_slices.specs.{Slices.slice_of, declared.mark.Mark.TheVariants.{Short, Long}}
-use Rattle.mt_rows.specs.Rows.{Bytes, Columns}
-use Rattle.mt_border.specs.{Held.{Pair, Link}, declared.entry.Entry.Entry, Entry.pair_of, Contents.{HasKey, IsOfTree}}
+use Rattle.mt_rows.specs.{Rows.Bytes, Stamps.Stamped}
+use Rattle.mt_border.specs.{Held.{Pair, Link}, declared.entry.Entry.Entry, Entry.pair_of, Contents.{HasKey, IsOfTree, row_of}}
 use Rattle.mt_arena.specs.{declared.tree.Tree.Tree, declared.tree.Standing.TheVariants.{Made, Live, Dead}, NodeView.{NodeView, node_at}, Nodes.Holds}
 use Rattle.mt_arena.specs.{Forests.tree_at, Layers.slot_at, Stands.{IsLiveBorder, StandsAt}}
 
@@ -55,8 +55,8 @@ pub record IsUnfilled (nodes : List NodeView) (k j : ℕ) : Type 0 where
   pub tree : (node_at nodes j).tree ≡ (node_at nodes k).tree
   pub empty : (node_at nodes j).slots ≡ []
 
--- tree t is being made: node r alone of the live ones is of it, and its one slot has the key with this row
-pub record IsMadeFor (nodes : List NodeView) (trees : List Tree) (key : Bytes) (layer t r : ℕ) (row : Columns) : Type 0 where
+-- tree t is being made: node r alone of the live ones is of it, and its one slot has the key with this row and stamp
+pub record IsMadeFor (nodes : List NodeView) (trees : List Tree) (key : Bytes) (layer t r : ℕ) (row : Stamped) : Type 0 where
   pub maker : ℕ
   pub made : (tree_at trees t).standing ≡ Made maker
   pub there : r < length nodes
@@ -68,7 +68,7 @@ pub record IsMadeFor (nodes : List NodeView) (trees : List Tree) (key : Bytes) (
   pub slots : (node_at nodes r).slots ≡ slot ∷ []
   pub has : HasKey (tree_at trees t).prefix layer slot key
   pub pair_is : pair_of slot.held ≡ Some pair
-  pub row_is : pair.row ≡ row
+  pub row_is : row_of pair ≡ row
 
 -- a descent for the key may go on in live tree u of the layer
 pub record GoesOn (trees : List Tree) (key : Bytes) (layer u : ℕ) : Type 0 where

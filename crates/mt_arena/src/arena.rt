@@ -12,12 +12,12 @@ ghost use Rattle.std.specs.FinMap as finite;
 ghost use Rattle.mt_rows.specs.Rows.{Bytes};
 ghost use Rattle.mt_version.specs.Changes.{CanUnlock, CanRenew};
 ghost use Rattle.mt_border.specs.{declared.border.TheConstants.SLOTS, declared.entry.Entry.Entry, Held.{Pair, Stable}, Entry.{IsEntry, IsStablePair, order_of}};
-ghost use Rattle.mt_border.specs.{Slots.{held_in, next_free}, Entries.{IsMissing, place_in, with_entry, without, replaced}, Contents.{HasKey, owned}};
-ghost use Rattle.mt_border.specs.Split.{IsParted, IsSeparator, slices_with};
+ghost use Rattle.mt_border.specs.{Slots.{held_in, next_free}, Entries.{IsMissing, place_in, with_entry, without, replaced}, Contents.{HasKey, owned, row_of}};
+ghost use Rattle.mt_border.specs.{Split.{IsParted, IsSeparator, slices_with}, Restamps.new_stamp};
 ghost use Rattle.mt_arena.specs.{declared.tree.Standing.TheVariants.Live, NodeView.{node_at, place_at, border_view, interior_view}, Nodes.{Holds, HasRange}};
 ghost use Rattle.mt_arena.specs.{Forests.{HasSlice, tree_at, layer_of}, Layers.slot_at, Settled.IsSettled, Ranges.Waits};
 ghost use Rattle.mt_arena.specs.Edits.{locked, unlocked, with_slots, pointed, fresh_root, Points, cells_holding, cells_with, cells_without, with_filled, entry_filled, IsMarkedWhereDropped};
-ghost use Rattle.mt_arena.specs.{Idle.{AreRetired, chosen, number_of, given_interior}, Given.{IsNamedLate, StepsFrom, AreForgotten, MayRenew}, Arena.{IsArena, content_of, Guarantee, live_count}, Renumbers.{all_renumbered, arena_renumbered}};
+ghost use Rattle.mt_arena.specs.{Idle.{AreRetired, chosen, number_of, given_interior}, Given.{IsNamedLate, StepsFrom, AreForgotten, MayRenew}, Arena.{IsArena, content_of, Guarantee, live_count}, Renumbers.{all_renumbered, arena_renumbered, AreRestamped}};
 ghost use Rattle.mt_arena.specs.{Splits.{with_some, inner_right}, Edits.version_in};
 ghost use Rattle.mt_arena.specs.Several.{AreHalved, MaySplit, MayPlace, MayGrow, halves_below, top_over, with_root_at, MayInsert, with_right, MaySplitInner, wide_parent, parts_left, with_parts_at};
 ghost use Rattle.mt_arena.specs.Accesses.{new_arena, at, tree_of, IsHeld, IsOpen, with_node, with_half_at, with_row, MayPublish, MayChange};
@@ -33,6 +33,7 @@ use mt_rows::Row;
 use mt_slices::Mark;
 use mt_version::Version;
 use std::alloc::{AllocError, Global};
+use std::collections::BTreeMap;
 use std::marker::Model;
 
 /// The most nodes of an arena, and the most trees. Their numbers lie in 32 bits in the nodes.
@@ -225,7 +226,7 @@ impl Arena {
         ensures step { Guarantee operation self.old self.new }
         ensures contents { let entry = entry_filled (at self.old node) slice mark stamp in
             (key : Bytes) (pair : Pair) → MayPublish self.old node operation key entry → entry.held ≡ Stable pair →
-            content_of self.new ≡ finite.insert (content_of self.old) (owned key) pair.row }
+            content_of self.new ≡ finite.insert (content_of self.old) (owned key) (row_of pair) }
     {
         self.nodes[node].publish_filled(slice, mark, stamp);
     }
@@ -240,7 +241,7 @@ impl Arena {
             (cells_holding (at self.old node).cells (place_at (at self.old node) slot) (Stable (record pair { row = row; stamp = stamp })))) }
         ensures step { Guarantee operation self.old self.new }
         ensures contents { (key : Bytes) (pair : Pair) → MayChange self.old node operation key (place_at (at self.old node) slot) pair →
-            content_of self.new ≡ finite.insert (content_of self.old) (owned key) row }
+            content_of self.new ≡ finite.insert (content_of self.old) (owned key) (record { stamp = stamp; row = row }) }
     {
         self.nodes[node].store(slot, row, stamp)
     }
@@ -322,7 +323,7 @@ impl Arena {
         ensures others { self.new ≡ record self.old { nodes = self.new.nodes } }
         ensures step { Guarantee operation self.old self.new }
         ensures contents { (key : Bytes) (e : Entry) (pair : Pair) → entry ≡ Some e → MayPlace self.old left operation key e → e.held ≡ Stable pair →
-            content_of self.new ≡ finite.insert (content_of self.old) (owned key) pair.row }
+            content_of self.new ≡ finite.insert (content_of self.old) (owned key) (row_of pair) }
         ensures kept { entry ≡ None → content_of self.new ≡ content_of self.old }
     {
         halve(&mut self.nodes, left, right, slice, mark, entry);
@@ -365,15 +366,16 @@ impl Arena {
         Ok(number)
     }
 
-    /// Begins the counting of changes anew: no node's version counts any, and each pair was placed by the
-    /// step `stamp`, which also took out all that is out. Only where no operation is open may a caller do
-    /// this, since an operation may remember a version that a node has left.
-    pub fn renumber(&mut self, stamp: u64)
-        ensures is { self.new ≡ arena_renumbered stamp self.old }
-        ensures contents { content_of self.new ≡ content_of self.old }
+    /// Begins the counting of changes anew: no node's version counts any. Each pair gets the stamp that the
+    /// list has for its own, and keeps one that the list lacks. The step `step` took out all that is out.
+    /// Only where no operation is open may a caller do this, since an operation may remember a version that
+    /// a node has left.
+    pub fn renumber(&mut self, step: u64, stamps: &BTreeMap<u64, u64>)
+        ensures is { self.new ≡ arena_renumbered step (new_stamp stamps.now) self.old }
+        ensures contents { AreRestamped (new_stamp stamps.now) (content_of self.old) (content_of self.new) }
     {
-        renumber_all(&mut self.nodes, stamp);
-        self.retired.renumber(stamp);
+        renumber_all(&mut self.nodes, stamps);
+        self.retired.renumber(step);
     }
 
     /// How many nodes there are.
@@ -432,19 +434,19 @@ impl Arena {
     }
 }
 
-// Sets the counters of all nodes to 0, and the stamp of each pair.
-fn renumber_all(nodes: &mut Vec<Node>, stamp: u64)
-    ensures { nodes.new.items ≡ all_renumbered stamp nodes.old.items }
+// Sets the counters of all nodes to 0, and gives each pair the stamp that the list has for its own.
+fn renumber_all(nodes: &mut Vec<Node>, stamps: &BTreeMap<u64, u64>)
+    ensures { nodes.new.items ≡ all_renumbered (new_stamp stamps.now) nodes.old.items }
 {
-    renumber_each(nodes.as_mut_slice(), stamp);
+    renumber_each(nodes.as_mut_slice(), stamps);
 }
 
 // The same of those of a slice.
-fn renumber_each(nodes: &mut [Node], stamp: u64)
-    ensures { nodes.new ≡ all_renumbered stamp nodes.old }
+fn renumber_each(nodes: &mut [Node], stamps: &BTreeMap<u64, u64>)
+    ensures { nodes.new ≡ all_renumbered (new_stamp stamps.now) nodes.old }
 {
     for node in nodes.iter_mut() {
-        node.renumber(stamp);
+        node.renumber(stamps);
     }
 }
 

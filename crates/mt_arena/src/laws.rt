@@ -6,9 +6,9 @@ ghost use Rattle.std.specs.List.{remove};
 ghost use Rattle.std.specs.FinMap as pairs;
 ghost use Rattle.mt_slices.specs.{Keys.IsStoredKey, Slices.{slice_of, mark_of, suffix_of, piece_bytes}, declared.mark.Mark.TheVariants.Long};
 ghost use Rattle.mt_slices.specs.declared.mark.Mark.{Mark};
-ghost use Rattle.mt_rows.specs.Rows.{Bytes, Columns};
+ghost use Rattle.mt_rows.specs.{Rows.{Bytes, Columns}, Stamps.Stamped};
 ghost use Rattle.mt_border.specs.{Held.{Pair, Held, Stable, Link}, declared.entry.Entry.Entry, Entry.pair_of, Entries.{IsMissing, with_entry}, Split.IsParted};
-ghost use Rattle.mt_border.specs.Contents.{owned, HasKey};
+ghost use Rattle.mt_border.specs.Contents.{owned, HasKey, row_of};
 ghost use Rattle.mt_arena.specs.{declared.tree.Tree.Tree, declared.tree.Standing.TheVariants.{Dead, Live}, NodeView.{NodeView, node_at}};
 ghost use Rattle.mt_arena.specs.{Nodes.{Holds, HasRange}, Forests.{HasSlice, tree_at, layer_of}, RootLevels.{levels_above, levels_of}, Layers.slot_at};
 ghost use Rattle.mt_arena.specs.{Contents.content, Arena.{IsArena, ArenaView, Guarantee, live_count}, Guarantee.{NodesGuarantee, PointsOnly}};
@@ -70,7 +70,7 @@ pub fn none_elsewhere()
         pairs.get (content trees nodes) (owned key) ≡ None }
     ensures found { (nodes : List NodeView) (trees : List Tree) (key : Bytes) (layer k i : ℕ) (pair : Pair) →
         IsArena nodes trees → StandsFor nodes trees key layer k i pair →
-        pairs.get (content trees nodes) (owned key) ≡ Some pair.row }
+        pairs.get (content trees nodes) (owned key) ≡ Some (row_of pair) }
     ensures once { (nodes : List NodeView) (trees : List Tree) (key : Bytes) (layer k i : ℕ) (pair : Pair) (low l j : ℕ) (other : Pair) →
         IsArena nodes trees → StandsFor nodes trees key layer k i pair →
         StandsFor nodes trees key low l j other → (k ≡ l) × (i ≡ j) }
@@ -85,23 +85,23 @@ pub fn contents_by_slot()
         HasKey (tree_at trees (node_at nodes k).tree).prefix layer e key →
         IsMissing (node_at nodes k).slots e.slice e.mark → pair_of e.held ≡ Some pair →
         HasSlots (node_at nodes k) y (with_entry (node_at nodes k).slots e) →
-        content trees (slice_set nodes k y) ≡ pairs.insert (content trees nodes) (owned key) pair.row }
+        content trees (slice_set nodes k y) ≡ pairs.insert (content trees nodes) (owned key) (row_of pair) }
     ensures split { (nodes : List NodeView) (trees : List Tree) (key : Bytes) (layer k j : ℕ) (x y : NodeView) (left right : List Entry) (separator : ℕ) (e : Entry) (pair : Pair) →
         IsArena nodes trees → BelongsIn nodes trees key layer k → IsUnfilled nodes k j →
         HasKey (tree_at trees (node_at nodes k).tree).prefix layer e key →
         IsMissing (node_at nodes k).slots e.slice e.mark → pair_of e.held ≡ Some pair →
         IsParted (with_entry (node_at nodes k).slots e) left right separator →
         HasSlots (node_at nodes k) x left → HasSlots (node_at nodes j) y right →
-        content trees (slice_set (slice_set nodes k x) j y) ≡ pairs.insert (content trees nodes) (owned key) pair.row }
+        content trees (slice_set (slice_set nodes k x) j y) ≡ pairs.insert (content trees nodes) (owned key) (row_of pair) }
     ensures store { (nodes : List NodeView) (trees : List Tree) (key : Bytes) (layer k i : ℕ) (pair : Pair) (y : NodeView) (row : Columns) (stamp : ℕ) →
         IsArena nodes trees → StandsFor nodes trees key layer k i pair →
         HasSlots (node_at nodes k) y (slice_set (node_at nodes k).slots i (record (slot_at (node_at nodes k) i) { held = Stable (record pair { row = row; stamp = stamp }) })) →
-        content trees (slice_set nodes k y) ≡ pairs.insert (content trees nodes) (owned key) row }
+        content trees (slice_set nodes k y) ≡ pairs.insert (content trees nodes) (owned key) (record { stamp = stamp; row = row }) }
     ensures replace { (nodes : List NodeView) (trees : List Tree) (key : Bytes) (layer k i : ℕ) (pair : Pair) (y : NodeView) (e : Entry) (new : Pair) →
         IsArena nodes trees → StandsFor nodes trees key layer k i pair →
         HasKey (tree_at trees (node_at nodes k).tree).prefix layer e key → pair_of e.held ≡ Some new →
         HasSlots (node_at nodes k) y (slice_set (node_at nodes k).slots i e) →
-        content trees (slice_set nodes k y) ≡ pairs.insert (content trees nodes) (owned key) new.row }
+        content trees (slice_set nodes k y) ≡ pairs.insert (content trees nodes) (owned key) (row_of new) }
     ensures drop { (nodes : List NodeView) (trees : List Tree) (key : Bytes) (layer k i : ℕ) (pair : Pair) (y : NodeView) →
         IsArena nodes trees → StandsFor nodes trees key layer k i pair →
         HasSlots (node_at nodes k) y (remove (node_at nodes k).slots i) →
@@ -151,7 +151,7 @@ pub fn contents_stand()
 pub fn contents_stand_as_a_tree_goes_live()
     ensures { (nodes : List NodeView) (trees : List Tree) (key : Bytes) (layer k i : ℕ) (pair : Pair) (low t r : ℕ) (tree : Tree) (y : NodeView) (e : Entry) →
         IsArena nodes trees → StandsFor nodes trees key layer k i pair →
-        IsMadeFor nodes trees key low t r pair.row →
+        IsMadeFor nodes trees key low t r (row_of pair) →
         tree.prefix ≡ (tree_at trees t).prefix → tree.standing ≡ Live → pair_of e.held ≡ None →
         HasSlots (node_at nodes k) y (slice_set (node_at nodes k).slots i e) →
         content (slice_set trees t tree) (slice_set nodes k y) ≡ content trees nodes }
@@ -184,7 +184,7 @@ pub fn a_layer_stays_its_makers()
     ensures slot { (op maker : ℕ) (old new : ArenaView) (node i : ℕ) (what : Held) →
         (tree_of new node).standing ≢ Dead → Guarantee op old new → maker ≢ op →
         IsHeldSlot old node i maker what → IsHeldSlot new node i maker what }
-    ensures layer { (op maker : ℕ) (old new : ArenaView) (node i t : ℕ) (what : Held) (key : Bytes) (row : Columns) →
+    ensures layer { (op maker : ℕ) (old new : ArenaView) (node i t : ℕ) (what : Held) (key : Bytes) (row : Stamped) →
         (tree_of new node).standing ≢ Dead → Guarantee op old new → maker ≢ op →
         IsLayerOf old node i t maker what key row → IsLayerOf new node i t maker what key row }
     ensures made { (v : ArenaView) (node i op least : ℕ) (what : Held) (key : Bytes) (e : Entry) (pair : Pair) →
@@ -192,8 +192,8 @@ pub fn a_layer_stays_its_makers()
         IsHeldSlot v node i op what → HasKeyAt v node i key →
         let prefix = prefix_below v node i in
         HasKey prefix (layer_of prefix) e key → pair_of e.held ≡ Some pair →
-        IsLayerOf (with_layer_at v prefix e least op) node i (tree_number least v) op what key pair.row }
-    ensures held { (v : ArenaView) (node i t op : ℕ) (what held : Held) (key : Bytes) (row : Columns) →
+        IsLayerOf (with_layer_at v prefix e least op) node i (tree_number least v) op what key (row_of pair) }
+    ensures held { (v : ArenaView) (node i t op : ℕ) (what held : Held) (key : Bytes) (row : Stamped) →
         IsArena v.nodes v.trees → IsLayerOf v node i t op what key row →
         ((pair : Pair) → pair_of held ≡ Some pair → pair_of what ≡ Some pair) →
         IsLayerOf (with_slot v node i held) node i t op held key row }

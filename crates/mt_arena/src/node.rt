@@ -6,6 +6,7 @@
 
 ghost use Rattle.std.specs.Prelude.{◌≡◌, ◌≢◌, ◌<◌, ◌||◌, ℕ, [], IfSome, IsSome, IfNone, Some, None, length, true, false, ◌↔◌};
 ghost use Rattle.mt_version.specs.Parts.{fresh_parts};
+ghost use Rattle.mt_border.specs.Restamps.{new_stamp};
 ghost use Rattle.mt_interior.specs.{Node.childless, Places.IsNew};
 ghost use Rattle.mt_interior.specs.Changes as inner;
 
@@ -14,6 +15,7 @@ use mt_interior::Interior;
 use mt_rows::Row;
 use mt_slices::Mark;
 use mt_version::Version;
+use std::collections::BTreeMap;
 use std::marker::Model;
 use std::mem::size_of;
 
@@ -249,13 +251,13 @@ impl Node {
         self.set_version(self.version().deleted());
     }
 
-    /// Sets the counters of its version to 0, and the stamp of each pair.
-    pub(crate) fn renumber(&mut self, stamp: u64)
-        ensures { self.new ≡ renumbered stamp self.old }
+    /// Sets the counters of its version to 0, and gives each pair the stamp that the list has for its own.
+    pub(crate) fn renumber(&mut self, stamps: &BTreeMap<u64, u64>)
+        ensures { self.new ≡ renumbered (new_stamp stamps.now) self.old }
     {
         self.set_version(self.version().uncounted());
         match &mut self.kind {
-            NodeKind::Leaf(border) => border.restamp(stamp),
+            NodeKind::Leaf(border) => border.restamp(stamps),
             NodeKind::Inner(_) => {}
         }
     }

@@ -5,7 +5,7 @@ use Rattle.std.specs.{List.All, FinMap.insert}
 use Rattle.mt_rows.specs.Rows.{Bytes, Columns}
 use Rattle.mt_border.specs.{Held.{Pair, Held, Stable}, declared.entry.Entry.Entry, Entry.{pair_of, order_of}}
 use Rattle.mt_border.specs.{Entries.{IsBorder, IsMissing, place_in, with_entry}, Node.{Node, entries_of, entry_at, place_at, IsLive, Rewrites}}
-use Rattle.mt_border.specs.Contents.{owned, contents_of, HasKey, AreKeys}
+use Rattle.mt_border.specs.Contents.{owned, contents_of, HasKey, AreKeys, row_of}
 use Rattle.mt_border.proofs.Edits.{any_entry, place_in-le, All-insert, replaced_at}
 use Rattle.mt_border.proofs.ContentsKeys.{IsApart, owned_at, has_rewritten_key, order_of_key, missing_key, all_apart}
 use Rattle.mt_border.proofs.{ContentsLists.{contents-insert, contents-set}, ContentsFinds.apart_before}
@@ -24,7 +24,7 @@ keys-publish prefix layer entries e key keys has = each-publish (λ e. (key : By
 
 -- to publish the pair of a missing key is to insert it
 pub contents-publish : (prefix : Bytes) (layer : ℕ) (entries : List Entry) (e : Entry) (key : Bytes) (pair : Pair) → AreKeys prefix layer entries → HasKey prefix layer e key → IsMissing entries e.slice e.mark → pair_of e.held ≡ Some pair
-    → contents_of prefix (with_entry entries e) ≡ insert (contents_of prefix entries) (owned key) pair.row
+    → contents_of prefix (with_entry entries e) ≡ insert (contents_of prefix entries) (owned key) (row_of pair)
 contents-publish prefix layer entries e key pair keys has missing is =
     let apart = all_apart prefix layer entries key keys has.of_tree (missing_key prefix layer entries e key has missing) in
     contents-insert prefix (owned key) entries (place_in entries (order_of e)) e pair is (owned_at prefix layer e key pair has is) (All-take (IsApart prefix (owned key)) (place_in entries (order_of e)) entries apart)
@@ -50,8 +50,8 @@ module _ (old new : Node) (slot : ℕ) (pair : Pair) (row : Columns) (stamp : �
     pub keys-store : AreKeys prefix layer (entries_of new)
     keys-store = each-store old new slot _ border live writes (λ e. (key : Bytes) × HasKey prefix layer e key) keys (key, has_rewritten_key prefix layer (entry_at old slot) key pair row stamp has is)
 
-    -- to store a row is to insert it over the old one
-    pub contents-store : contents_of prefix (entries_of new) ≡ insert (contents_of prefix (entries_of old)) (owned key) row
+    -- to store a row is to insert it with its stamp over the old one
+    pub contents-store : contents_of prefix (entries_of new) ≡ insert (contents_of prefix (entries_of old)) (owned key) (record { stamp = stamp; row = row })
     contents-store =
         ap (contents_of prefix) (slots-store old new slot _ border live writes)
         ∙ contents-set prefix (owned key) (entries_of old) (place_at old slot) entry any_entry pair (record pair { row = row; stamp = stamp }) live is

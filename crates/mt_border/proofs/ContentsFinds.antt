@@ -5,12 +5,12 @@ use Rattle.std.proofs.lemmas.List.Elements.{All-from_get_or}
 use Rattle.std.specs.{Prelude.IsSomeAnd, List.All, Option.{ForSome, option_map}, FinMap.get}
 use Rattle.mt_lists.specs.Rising.{IsRising}
 use Rattle.mt_slices.specs.Slices.{slice_of, mark_of, suffix_of}
-use Rattle.mt_rows.specs.Rows.{Bytes, Columns}
+use Rattle.mt_rows.specs.{Rows.Bytes, Stamps.Stamped}
 use Rattle.mt_border.specs.{Held.{Pair, Held, Stable, Unstable, Link}, declared.entry.Entry.Entry, declared.entry.Find.Find}
 use Rattle.mt_border.specs.{declared.entry.Find.TheVariants.{Missing, Slot}, declared.entry.FoundKind.FoundKind}
 use Rattle.mt_border.specs.{declared.entry.FoundKind.TheVariants.{ThisKey, OtherLong, Link as ToTree}, Entry.{pair_of, order_at, order_of, IsLink, IsKind}}
 use Rattle.mt_border.specs.{Entries.{orders, IsBorder, IsMissing}, Node.{Node, entries_of, entry_at, place_at, IsLive, IsFound, Finds}}
-use Rattle.mt_border.specs.Contents.{owned, contents_of, row_found, IsOfTree, HasKey, AreKeys}
+use Rattle.mt_border.specs.Contents.{owned, contents_of, row_found, IsOfTree, HasKey, AreKeys, row_of}
 use Rattle.mt_border.proofs.Edits.{any_entry}
 use Rattle.mt_border.proofs.ContentsKeys.{IsApart, by_equation, owned_at, has_found_key, order_of_key, apart_by_order, apart_by_suffix, all_apart}
 use Rattle.mt_border.proofs.ContentsLists.{get-apart, get-at}
@@ -53,14 +53,14 @@ find_missing prefix layer entries key keys of_tree missing = get-apart prefix (o
 
 -- a live slot that stands for the key has its row
 pub row_at : (prefix : Bytes) (layer : ℕ) (node : Node) (key : Bytes) (slot : ℕ) (pair : Pair) → IsBorder (entries_of node) → AreKeys prefix layer (entries_of node) → IsLive node slot → HasKey prefix layer (entry_at node slot) key → pair_of (entry_at node slot).held ≡ Some pair
-    → get (contents_of prefix (entries_of node)) (owned key) ≡ Some pair.row
+    → get (contents_of prefix (entries_of node)) (owned key) ≡ Some (row_of pair)
 row_at prefix layer node key slot pair border keys live has is =
     get-at prefix (owned key) (entries_of node) (place_at node slot) any_entry pair live is (owned_at prefix layer (entry_at node slot) key pair has is)
     (apart_before prefix layer (entries_of node) key (place_at node slot) border keys has.of_tree live (order_of_key prefix layer (entry_at node slot) key has))
 
 -- so has one that was found with this key
 pub find_here : (prefix : Bytes) (layer : ℕ) (node : Node) (key : Bytes) (slot : ℕ) (pair : Pair) → IsBorder (entries_of node) → AreKeys prefix layer (entries_of node) → IsOfTree prefix layer key → IsFound node (slice_of key layer) (mark_of key layer) (suffix_of key layer) slot ThisKey → pair_of (entry_at node slot).held ≡ Some pair
-    → get (contents_of prefix (entries_of node)) (owned key) ≡ Some pair.row
+    → get (contents_of prefix (entries_of node)) (owned key) ≡ Some (row_of pair)
 find_here prefix layer node key slot pair border keys of_tree found is =
     row_at prefix layer node key slot pair border keys found.live (has_found_key prefix layer node key slot of_tree found) is
 
@@ -91,12 +91,12 @@ find_tells prefix layer node key (Slot slot OtherLong) border keys of_tree is = 
 find_tells prefix layer node key (Slot slot ToTree) border keys of_tree is = find_other prefix layer node key slot ToTree border keys of_tree (λ same. cc) is
 find_tells prefix layer node key (Slot slot ThisKey) border keys of_tree is = by (pair_of (entry_at node slot).held) refl is.kind_is
   where
-    by : (o : Option Pair) → pair_of (entry_at node slot).held ≡ o → IsSomeAnd o (λ pair. pair.suffix ≡ suffix_of key layer) → get (contents_of prefix (entries_of node)) (owned key) ≡ option_map (λ pair. pair.row) o
+    by : (o : Option Pair) → pair_of (entry_at node slot).held ≡ o → IsSomeAnd o (λ pair. pair.suffix ≡ suffix_of key layer) → get (contents_of prefix (entries_of node)) (owned key) ≡ option_map row_of o
     by None none kind = absurd kind
     by (Some pair) some kind = find_here prefix layer node key slot pair border keys of_tree is some
 
 -- a key that is in the contents is found
-pub found_where_there : (prefix : Bytes) (layer : ℕ) (node : Node) (key : Bytes) (row : Columns) (found : Find) → IsBorder (entries_of node) → AreKeys prefix layer (entries_of node) → IsOfTree prefix layer key → get (contents_of prefix (entries_of node)) (owned key) ≡ Some row → Finds node (slice_of key layer) (mark_of key layer) (suffix_of key layer) found
+pub found_where_there : (prefix : Bytes) (layer : ℕ) (node : Node) (key : Bytes) (row : Stamped) (found : Find) → IsBorder (entries_of node) → AreKeys prefix layer (entries_of node) → IsOfTree prefix layer key → get (contents_of prefix (entries_of node)) (owned key) ≡ Some row → Finds node (slice_of key layer) (mark_of key layer) (suffix_of key layer) found
     → (slot : ℕ) × (found ≡ Slot slot ThisKey)
 found_where_there prefix layer node key row found border keys of_tree there is = by found (sym (find_tells prefix layer node key found border keys of_tree is) ∙ there)
   where

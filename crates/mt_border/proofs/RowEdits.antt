@@ -3,7 +3,7 @@ use Rattle.std.proofs.Common.{◌≡◌, ℕ, zero, suc, ◌<◌, List, [], ◌�
 use Rattle.std.proofs.lemmas.List.{length-take}
 use Rattle.std.specs.{List.{insert, remove}, Prelude.map}
 use Rattle.mt_slices.specs.declared.mark.Mark.{Mark}
-use Rattle.mt_border.specs.{declared.entry.Entry.Entry, Held.Held, Entries.{slices, marks}, Rows.{entries_in, AreRows}, Restamps.{stamped, restamped}}
+use Rattle.mt_border.specs.{declared.entry.Entry.Entry, Held.Held, Entries.{slices, marks}, Rows.{entries_in, AreRows}, Restamps.{with_stamps, restamped}}
 
 -- as many entries as slices
 pub length-rows : (ss : List ℕ) (ms : List Mark) (hs : List Held) → length ms ≡ length ss → length hs ≡ length ss
@@ -128,8 +128,8 @@ none-rows ss ms hs es rows view_is empty =
     (none ss (omega (arith, size.0, zero_is)), none ms (omega (arith, size.1, zero_is)), none hs (omega (arith, size.2, zero_is)))
 
 -- what is held is stamped anew row by row
-pub stamp-rows : (s : ℕ) (ss : List ℕ) (ms : List Mark) (hs : List Held) → entries_in ss ms (map (stamped s) hs) ≡ map (restamped s) (entries_in ss ms hs)
-stamp-rows s [] ms hs = refl
-stamp-rows s (x ∷ ss) [] hs = refl
-stamp-rows s (x ∷ ss) (m ∷ ms) [] = refl
-stamp-rows s (x ∷ ss) (m ∷ ms) (h ∷ hs) = ap (λ xs. record { slice = x; mark = m; held = stamped s h } ∷ xs) (stamp-rows s ss ms hs)
+pub stamp-rows : (f : ℕ → ℕ) (ss : List ℕ) (ms : List Mark) (hs : List Held) → entries_in ss ms (map (with_stamps f) hs) ≡ map (restamped f) (entries_in ss ms hs)
+stamp-rows f [] ms hs = refl
+stamp-rows f (x ∷ ss) [] hs = refl
+stamp-rows f (x ∷ ss) (m ∷ ms) [] = refl
+stamp-rows f (x ∷ ss) (m ∷ ms) (h ∷ hs) = ap (λ xs. record { slice = x; mark = m; held = with_stamps f h } ∷ xs) (stamp-rows f ss ms hs)

@@ -24,6 +24,7 @@ use crate::split::separator_of;
 use mt_rows::Row;
 use mt_slices::Mark;
 use mt_version::Version;
+use std::collections::BTreeMap;
 use std::marker::Model;
 use std::mem::size_of;
 
@@ -66,7 +67,7 @@ impl Model for Border {
 }
 
 impl Border {
-    ghost use Rattle.mt_border.specs.{Restamps.{stamped, all_restamped}, Held.{Pair, Stable, Unstable, Link}};
+    ghost use Rattle.mt_border.specs.{Restamps.{stamped, with_stamps, all_restamped, new_stamp}, Held.{Pair, Stable, Unstable, Link}};
     ghost use Rattle.mt_border.specs.{Entry.{order_at, order_of, IsEntry, IsRest, IsStablePair, IsUnlinked, IsLinked}, Rows.entry_seen};
     ghost use Rattle.mt_border.specs.{Entries.{IsBorder, IsMissing, place_in, with_entry, without}, Split.{IsCut, IsParted, IsSeparator, slices_with}};
     ghost use Rattle.mt_border.specs.Node.{empty_node, entries_of, entry_at, held_at, place_at, filled, IsLive, Finds, Rewrites};
@@ -290,14 +291,14 @@ impl Border {
         slots.helds[slot].put_row(row, stamp)
     }
 
-    /// Writes the stamp of each pair.
-    pub fn restamp(&mut self, stamp: u64)
-        ensures entries { entries_of self.new ≡ all_restamped stamp (entries_of self.old) }
+    /// Gives each pair the stamp that the list has for its own. A pair whose stamp the list lacks keeps it.
+    pub fn restamp(&mut self, stamps: &BTreeMap<u64, u64>)
+        ensures entries { entries_of self.new ≡ all_restamped (new_stamp stamps.now) (entries_of self.old) }
         ensures helds { self.new ≡ record self.old {
-          slots = record self.old.slots { helds = map (stamped stamp) self.old.slots.helds };
+          slots = record self.old.slots { helds = map (with_stamps (new_stamp stamps.now)) self.old.slots.helds };
         } }
     {
-        self.slots.restamp(stamp);
+        self.slots.restamp(stamps);
     }
 
     /// Makes the pair of a longer key unstable, for which a tree of its own is made.

@@ -5,11 +5,13 @@
 //! share of its row.
 
 ghost use Rattle.std.specs.{Prelude.{◌≡◌, ℕ, IfOk}, Option.option_map};
+ghost use Rattle.mt_border.specs.Restamps.{new_stamp};
 
 use crate::suffix::Suffix;
 use mt_rows::Row;
 use mt_slices::Mark;
 use std::alloc::{AllocError, Global};
+use std::collections::BTreeMap;
 use std::marker::Model;
 use std::mem;
 use std::mem::size_of;
@@ -181,7 +183,7 @@ impl<'a> EntryRef<'a> {
 }
 
 impl Held {
-    ghost use Rattle.mt_border.specs.{Restamps.stamped, Held.{Pair, Stable, Unstable, Link}, HeldParts.{pair_in_parts, held_seen}, declared.entry.Entry.Entry};
+    ghost use Rattle.mt_border.specs.{Restamps.{stamped, with_stamps}, Held.{Pair, Stable, Unstable, Link}, HeldParts.{pair_in_parts, held_seen}, declared.entry.Entry.Entry};
     ghost use Rattle.mt_border.specs.Entry.{CanHold, IsKind, IsStablePair, IsUnlinked, IsLinked, pair_of};
     ghost use Rattle.mt_slices.specs.declared.mark.Mark.{Mark};
 
@@ -270,6 +272,17 @@ impl Held {
         }
     }
 
+    /// Gives a pair the stamp that the list has for its own; a link has none.
+    pub(crate) fn restamp_by(&mut self, stamps: &BTreeMap<u64, u64>)
+        ensures { self.new ≡ with_stamps (new_stamp stamps.now) self.old }
+    {
+        match &mut self.kind {
+            Kind::Stable(pair) => pair.stamp = new_stamp(stamps, pair.stamp),
+            Kind::Unstable(pair) => pair.stamp = new_stamp(stamps, pair.stamp),
+            Kind::Link(_) => {}
+        }
+    }
+
     /// Makes a pair unstable.
     pub(crate) fn unsettle(&mut self)
         requires { IsStablePair self.old }
@@ -316,5 +329,15 @@ impl Held {
             }
             _ => unreachable!(),
         }
+    }
+}
+
+// The stamp that the list has for another one, or that one itself.
+fn new_stamp(stamps: &BTreeMap<u64, u64>, stamp: u64) -> u64
+    ensures { result ≡ new_stamp stamps.now stamp }
+{
+    match stamps.get(&stamp) {
+        Some(new) => *new,
+        None => stamp,
     }
 }

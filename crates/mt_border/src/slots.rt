@@ -12,7 +12,7 @@ ghost use Rattle.std.specs.Prelude.{◌≡◌, ◌<◌, ◌≤◌, [], length, t
 ghost use Rattle.std.specs.Option.{option_map};
 ghost use Rattle.mt_lists.specs.Rising.{NeverFalls};
 ghost use Rattle.mt_slices.specs.Marks.{IsMark};
-ghost use Rattle.mt_border.specs.{Restamps.stamped, Slots.emptied};
+ghost use Rattle.mt_border.specs.{Restamps.{stamped, with_stamps, new_stamp}, Slots.emptied};
 
 use crate::border::SLOTS;
 use crate::entry::{Entry, EntryRef, Held};
@@ -20,6 +20,7 @@ use crate::marks::MarkList;
 use mt_lists::padded::PaddedList;
 use mt_order::Order;
 use mt_slices::Mark;
+use std::collections::BTreeMap;
 use std::marker::Model;
 use std::mem;
 
@@ -45,7 +46,7 @@ impl Model for Slots {
 }
 
 impl Slots {
-    ghost use Rattle.mt_border.specs.{Restamps.all_restamped, Entries.{slices, marks}, Rows.entry_seen};
+    ghost use Rattle.mt_border.specs.{Restamps.{all_restamped}, Entries.{slices, marks}, Rows.entry_seen};
     ghost use Rattle.mt_border.specs.Slots.{IsSlotted, held_in, helds_left, next_free, is_dropped, fresh_slots, listed, IsFresh};
     ghost use Rattle.mt_order.specs.Places.{place_of_slot, order_with, order_without, word_of};
 
@@ -277,13 +278,13 @@ impl Slots {
         Entry { slice, mark, held }
     }
 
-    /// Writes the stamp of each pair.
-    pub(crate) fn restamp(&mut self, stamp: u64)
-        ensures helds { self.new ≡ record self.old { helds = map (stamped stamp) self.old.helds } }
-        ensures entries { listed self.new ≡ all_restamped stamp (listed self.old) }
+    /// Gives each pair the stamp that the list has for its own.
+    pub(crate) fn restamp(&mut self, stamps: &BTreeMap<u64, u64>)
+        ensures helds { self.new ≡ record self.old { helds = map (with_stamps (new_stamp stamps.now)) self.old.helds } }
+        ensures entries { listed self.new ≡ all_restamped (new_stamp stamps.now) (listed self.old) }
         ensures slotted { IsSlotted self.new }
     {
-        restamp_each(&mut self.helds, stamp);
+        restamp_each(&mut self.helds, stamps);
     }
 
     /// Moves the entries from place `keep` on into other slots, whatever these hold. On both sides they
@@ -346,11 +347,11 @@ fn empty_each(helds: &mut [Held], order: &Order)
     }
 }
 
-// Writes the stamp of each pair.
-fn restamp_each(helds: &mut [Held], stamp: u64)
-    ensures { helds.new ≡ map (stamped stamp) helds.old }
+// Gives each pair the stamp that the list has for its own.
+fn restamp_each(helds: &mut [Held], stamps: &BTreeMap<u64, u64>)
+    ensures { helds.new ≡ map (with_stamps (new_stamp stamps.now)) helds.old }
 {
     for held in helds.iter_mut() {
-        held.restamp(stamp);
+        held.restamp_by(stamps);
     }
 }

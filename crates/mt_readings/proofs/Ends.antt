@@ -6,7 +6,7 @@ use Rattle.std.specs.{Ordering.{nat_cmp, is_lt, ordering_then}, Cmp.Lexicographi
 use Rattle.mt_slices.specs.{Keys.{IsStoredKey, tenant_of, user_key_of}, Slices.{slice_of, mark_of, rest_of, slice_at}, Fences.IsBehindAll}
 use Rattle.mt_slices.proofs.{Bytes.{AreBytes, bytes-drop, bytes-tail}, Tenants.stored_key-again, Numbers.{number, number_lt, slice_at-number, tenant_of-number}}
 use Rattle.mt_rows.specs.{Rows.Bytes, Tenants.Contents}
-use Rattle.mt_border.{specs.{Held.Pair, declared.entry.Entry.Entry, Entry.pair_of, Contents.{owned, HasKey, IsOfTree}}, proofs.ContentsKeys.is_mark_of}
+use Rattle.mt_border.{specs.{Held.Pair, declared.entry.Entry.Entry, Entry.pair_of, Contents.{owned, HasKey, IsOfTree, row_of}}, proofs.ContentsKeys.is_mark_of}
 use Rattle.mt_arena.{specs.{declared.tree.Tree.Tree, NodeView.{NodeView, node_at}, Forests.tree_at, Arena.IsArena, Contents.content}, proofs.Elsewhere.layer_is}
 use Rattle.mt_readings.specs.{Reading.{is_below, is_behind, read, stop}, Spans.{IsScanAt, TellsAll}, Tenancies.TellsTenant}
 use Rattle.mt_readings.proofs.{Readings.{read_in, rank_of}, Bytewise.{nat_less, nat_greater, nat_same, reaches}, Spanning.{not_lt, told_of, real_of}}
@@ -188,7 +188,7 @@ module _ (nodes : List NodeView) (trees : List Tree) (k layer : ℕ) (fence : By
       sym size ∙ ap (λ m. 8 * m) is
 
   real_pairs : (reached : Bytes → Bool) → ((key : Bytes) → IsOfTree prefix layer key → tenant_of key ≡ t → reached key ≡ true) → (x : Entry × Pair) → Contains (read behind n.slots) x →
-      (key : Bytes) × HasKey prefix layer x.0 key × (pair_of x.0.held ≡ Some x.1) × (get (content trees nodes) (owned key) ≡ Some x.1.row) × (is_below fence after key ≡ false) × (tenant_of key ≡ t → reached key ≡ true)
+      (key : Bytes) × HasKey prefix layer x.0 key × (pair_of x.0.held ≡ Some x.1) × (get (content trees nodes) (owned key) ≡ Some (row_of x.1)) × (is_below fence after key ≡ false) × (tenant_of key ≡ t → reached key ≡ true)
   real_pairs reached reach x among =
       let w = real_of nodes trees k layer fence after arena scan x among in
       let r = read_in behind n.slots x among in

@@ -6,8 +6,8 @@ use Rattle.std.specs.{Prelude.{if◌then◌else◌}, List.{All, Contains, cons_o
 use Rattle.std.specs.{declared.cmp.Ordering.TheVariants.Less, Ordering.{nat_cmp, ordering_then}, Cmp.Lexicographic.slice_cmp}
 use Rattle.mt_slices.specs.{Keys.{IsStoredKey, stored_key, tenant_of, user_key_of}, Marks.mark_rank, Slices.{slice_of, mark_of, suffix_of}}
 use Rattle.mt_slices.proofs.{Order.cmp_tenants, Tenants.stored_key-again}
-use Rattle.mt_rows.{specs.{Rows.{Bytes, Columns}, Tenants.{Contents, tenant_map}}, proofs.ContentLaws.get-tenant_map}
-use Rattle.mt_border.specs.{Held.Pair, declared.entry.Entry.Entry, Entry.{pair_of, order_at}, Entries.IsBorder, Contents.{owned, key_at, HasKey, IsOfTree}}
+use Rattle.mt_rows.{specs.{Rows.Bytes, Stamps.Stamped, Tenants.{Contents, tenant_map}}, proofs.ContentLaws.get-tenant_map}
+use Rattle.mt_border.specs.{Held.Pair, declared.entry.Entry.Entry, Entry.{pair_of, order_at}, Entries.IsBorder, Contents.{owned, key_at, HasKey, IsOfTree, row_of}}
 use Rattle.mt_border.proofs.ContentsKeys.{key_at-is, order_of_key, is_mark_of}
 use Rattle.mt_readings.specs.{Reading.{is_below, is_behind, read}, Tenancies.{own_pair, own_pairs, passed_at, HasStoredKeys, TellsTenant}}
 use Rattle.mt_readings.proofs.{Readings.{in_tree, rank_of, Ascends, ascends}, Bytewise.{nat_less, nat_same}}
@@ -49,40 +49,40 @@ module _ (c : Contents) (t : ℕ) (prefix : Bytes) (layer : ℕ) (fence : Bytes)
     pub key : Bytes
     pub has : HasKey prefix layer x.0 key
     pub pair_is : pair_of x.0.held ≡ Some x.1
-    pub row : get c (owned key) ≡ Some x.1.row
+    pub row : get c (owned key) ≡ Some (row_of x.1)
     pub ahead : is_below fence after key ≡ false
     pub reach : tenant_of key ≡ t → reached key ≡ true
 
-  abbrev one : Entry × Pair → Option (Bytes × Columns)
-  one x = own_pair t prefix (key_at prefix x.0 x.1) x.1.row
+  abbrev one : Entry × Pair → Option (Bytes × Stamped)
+  one x = own_pair t prefix (key_at prefix x.0 x.1) (row_of x.1)
 
   key_is : (x : Entry × Pair) (r : Real x) → key_at prefix x.0 x.1 ≡ r.key
   key_is x r = key_at-is prefix layer x.0 r.key x.1 r.has r.pair_is
 
   -- it is the tenant's or another's
-  one_own : (x : Entry × Pair) (r : Real x) → tenant_of r.key ≡ t → one x ≡ Some (user_key_of r.key, x.1.row)
-  one_own x r mine = ap (λ k. own_pair t prefix k x.1.row) (key_is x r) ∙ ap (λ b. if b then Some (user_key_of r.key, x.1.row) else None) (same_eqb (tenant_of r.key) t mine)
+  one_own : (x : Entry × Pair) (r : Real x) → tenant_of r.key ≡ t → one x ≡ Some (user_key_of r.key, row_of x.1)
+  one_own x r mine = ap (λ k. own_pair t prefix k (row_of x.1)) (key_is x r) ∙ ap (λ b. if b then Some (user_key_of r.key, row_of x.1) else None) (same_eqb (tenant_of r.key) t mine)
     where
       same_eqb : (m n : ℕ) → m ≡ n → eqb m n ≡ true
       same_eqb m n e = grind (arith, nat_tests)
 
   one_other : (x : Entry × Pair) (r : Real x) → tenant_of r.key ≢ t → one x ≡ None
-  one_other x r other = ap (λ k. own_pair t prefix k x.1.row) (key_is x r) ∙ ap (λ b. if b then Some (user_key_of r.key, x.1.row) else None) (ne_eqb (tenant_of r.key) t other)
+  one_other x r other = ap (λ k. own_pair t prefix k (row_of x.1)) (key_is x r) ∙ ap (λ b. if b then Some (user_key_of r.key, row_of x.1) else None) (ne_eqb (tenant_of r.key) t other)
 
-  seen_own : (x : Entry × Pair) (xs : List (Entry × Pair)) (r : Real x) → tenant_of r.key ≡ t → own_pairs t prefix (x ∷ xs) ≡ (user_key_of r.key, x.1.row) ∷ own_pairs t prefix xs
+  seen_own : (x : Entry × Pair) (xs : List (Entry × Pair)) (r : Real x) → tenant_of r.key ≡ t → own_pairs t prefix (x ∷ xs) ≡ (user_key_of r.key, row_of x.1) ∷ own_pairs t prefix xs
   seen_own x xs r mine = ap (λ o. cons_option o (own_pairs t prefix xs)) (one_own x r mine)
 
   seen_other : (x : Entry × Pair) (xs : List (Entry × Pair)) (r : Real x) → tenant_of r.key ≢ t → own_pairs t prefix (x ∷ xs) ≡ own_pairs t prefix xs
   seen_other x xs r other = ap (λ o. cons_option o (own_pairs t prefix xs)) (one_other x r other)
 
   -- what holds of each of the tenant's pairs
-  seen_all : (P : Bytes × Columns → Type 0) (xs : List (Entry × Pair)) → ((x : Entry × Pair) → Contains xs x → Real x) → ((x : Entry × Pair) (r : Real x) → Contains xs x → tenant_of r.key ≡ t → P (user_key_of r.key, x.1.row)) → All P (own_pairs t prefix xs)
+  seen_all : (P : Bytes × Stamped → Type 0) (xs : List (Entry × Pair)) → ((x : Entry × Pair) → Contains xs x → Real x) → ((x : Entry × Pair) (r : Real x) → Contains xs x → tenant_of r.key ≡ t → P (user_key_of r.key, row_of x.1)) → All P (own_pairs t prefix xs)
   seen_all P [] real each = All-nil P
   seen_all P (x ∷ xs) real each =
       let r = real x (here x xs) in
       let rest = seen_all P xs (λ y h. real y (later x xs y h)) (λ y s h mine. each y s (later x xs y h) mine) in
       elim (cases_eq (tenant_of r.key) t) [
-        | inl mine ↦ subst (All P) (sym (seen_own x xs r mine)) (All-cons P (user_key_of r.key, x.1.row) (own_pairs t prefix xs) (each x r (here x xs) mine) rest)
+        | inl mine ↦ subst (All P) (sym (seen_own x xs r mine)) (All-cons P (user_key_of r.key, row_of x.1) (own_pairs t prefix xs) (each x r (here x xs) mine) rest)
         | inr other ↦ subst (All P) (sym (seen_other x xs r other)) rest
       ]
 
@@ -110,7 +110,7 @@ module _ (c : Contents) (t : ℕ) (prefix : Bytes) (layer : ℕ) (fence : Bytes)
       let rest = seen_rises xs (λ y h. real y (later x xs y h)) up.1 in
       elim (cases_eq (tenant_of r.key) t) [
         | inl mine ↦ subst (λ ps. Rises (keys_of ps)) (sym (seen_own x xs r mine)) (rises_more (user_key_of r.key) (keys_of (own_pairs t prefix xs))
-            (recursion_from_All (λ k. cmp (user_key_of r.key) k ≡ Less) (keys_of (own_pairs t prefix xs)) (All-map (λ k. cmp (user_key_of r.key) k ≡ Less) (λ (p : Bytes × Columns). p.0) (own_pairs t prefix xs)
+            (recursion_from_All (λ k. cmp (user_key_of r.key) k ≡ Less) (keys_of (own_pairs t prefix xs)) (All-map (λ k. cmp (user_key_of r.key) k ≡ Less) (λ (p : Bytes × Stamped). p.0) (own_pairs t prefix xs)
             (seen_all (λ p. cmp (user_key_of r.key) p.0 ≡ Less) xs (λ y h. real y (later x xs y h)) (λ y s h own.
             of_users r.key s.key r.has.of_tree.stored s.has.of_tree.stored (mine ∙ sym own)
             (in_order prefix layer r.key s.key r.has.of_tree s.has.of_tree (let lt = up.0 y h in let ox = order_of_key prefix layer x.0 r.key r.has in let oy = order_of_key prefix layer y.0 s.key s.has in omega (arith, lt, ox, oy)))))))
@@ -138,7 +138,7 @@ module _ (c : Contents) (t : ℕ) (prefix : Bytes) (layer : ℕ) (fence : Bytes)
       real : (x : Entry × Pair) → Contains xs x → Real x
       real x h = let w = tells.real x h in record { key = w.0; has = w.1; pair_is = w.2; row = w.3; ahead = w.4; reach = w.5 }
 
-      whole : (key : Bytes) → passed_at t fence after key ≡ false → reached (stored_key t key) ≡ true → (o : Option Columns) → get c (t, key) ≡ o → Contains (keys_of (own_pairs t prefix xs)) key ⊎ (get (tenant_map t c) key ≡ None)
+      whole : (key : Bytes) → passed_at t fence after key ≡ false → reached (stored_key t key) ≡ true → (o : Option Stamped) → get c (t, key) ≡ o → Contains (keys_of (own_pairs t prefix xs)) key ⊎ (get (tenant_map t c) key ≡ None)
       whole key ahead to None is = inr (get-tenant_map t c key ∙ is)
       whole key ahead to (Some row) is =
           let w = keys (t, key) row is in

@@ -9,7 +9,7 @@ use Rattle.mt_slices.specs.declared.mark.Mark.TheVariants.{Long, Short}
 use Rattle.mt_slices.proofs.{Bytes.bytes-drop, Order.cmp_below, Padding.{slice_bytes, get_or-padded}, Rejoin.{mark_short, mark_long}}
 use Rattle.mt_rows.specs.Rows.{Bytes}
 use Rattle.mt_border.specs.{Held.{Pair, Held, Stable, Unstable, Link}, declared.entry.Entry.Entry, Entry.{pair_of, order_of, order_at, CanHold, IsEntry}}
-use Rattle.mt_border.specs.{Entries.{IsBorder, slices}, Contents.{owned, IsOfTree, HasKey, AreKeys}}
+use Rattle.mt_border.specs.{Entries.{IsBorder, slices}, Contents.{owned, IsOfTree, HasKey, AreKeys, row_of}}
 use Rattle.mt_border.proofs.{Edits.any_entry, ContentsKeys.{is_mark_of, order_of_key}}
 use Rattle.mt_interior.specs.Fences.{end_of}
 use Rattle.mt_arena.specs.{declared.tree.Tree.Tree, NodeView.{NodeView, node_at}, Forests.tree_at, Layers.slot_at, Arena.IsArena, Contents.content}
@@ -79,8 +79,8 @@ module _ (nodes : List NodeView) (trees : List Tree) (k layer : ℕ) (fence : By
       holds = (let low = at.from in let more = slice_from of in omega (arith, low, more), below);
     }
 
-    row_of : IsOfTree prefix layer key → (r : IsRead prefix layer behind n.slots key) → HasPair (content trees nodes) prefix layer (read behind n.slots) key
-    row_of of r =
+    pair_told : IsOfTree prefix layer key → (r : IsRead prefix layer behind n.slots key) → HasPair (content trees nodes) prefix layer (read behind n.slots) key
+    pair_told of r =
         let w = read_in behind n.slots r.x r.among in
         let i = w.0.0 in
         let is : slot_at n i ≡ r.x.0 = get_or_any n.slots i r.x.0 w.0.1 ∙ w.0.2 in
@@ -110,7 +110,7 @@ module _ (nodes : List NodeView) (trees : List Tree) (k layer : ℕ) (fence : By
     pub told_of : (of : IsOfTree prefix layer key) → slice_of key layer < end_of n.high → (IsStopped behind n.slots (order_at (slice_of key layer) (mark_of key layer)) → ⊥) →
         HasPair (content trees nodes) prefix layer (read behind n.slots) key ⊎ (get (content trees nodes) (owned key) ≡ None)
     told_of of below unstopped = elim (tells prefix fence after layer n.slots key border_is keys_are at.of_tree of ahead) [
-      | inl r ↦ inl (row_of of r)
+      | inl r ↦ inl (pair_told of r)
       | inr rest ↦ elim rest [
         | inl missing ↦ inr (none_elsewhere nodes trees arena (begun nodes trees arena.forest) key layer k (belongs of below) missing)
         | inr more ↦ elim more [
@@ -121,7 +121,7 @@ module _ (nodes : List NodeView) (trees : List Tree) (k layer : ℕ) (fence : By
     ]
 
   -- a pair that was read has a key, and its row
-  pub real_of : (x : Entry × Pair) → Contains (read behind n.slots) x → (key : Bytes) × HasKey prefix layer x.0 key × (get (content trees nodes) (owned key) ≡ Some x.1.row) × (is_below fence after key ≡ false)
+  pub real_of : (x : Entry × Pair) → Contains (read behind n.slots) x → (key : Bytes) × HasKey prefix layer x.0 key × (get (content trees nodes) (owned key) ≡ Some (row_of x.1)) × (is_below fence after key ≡ false)
   real_of x among =
       let w = read_in behind n.slots x among in
       let i = w.0.0 in

@@ -4,8 +4,8 @@ use Rattle.std.proofs.lemmas.List.Elements.{All-append, All-nil, All-cons, All-h
 use Rattle.std.specs.{Prelude.{filter_map, if◌then◌else◌, cond}, List.{All, flat_map, cons_option}, Option.option_map, Ordering.eq_by_cmp}
 use Rattle.std.specs.FinMap.{get, get-empty, get-insert}
 use Rattle.mt_slices.specs.Keys.{IsStoredKey}
-use Rattle.mt_rows.{specs.{Rows.{Bytes, Columns}, Tenants.owned_cmp}, proofs.ContentLaws.owned_total}
-use Rattle.mt_border.specs.{Held.Pair, declared.entry.Entry.Entry, Entry.pair_of, Contents.{owned, key_at, pair_in, HasKey, AreKeys}}
+use Rattle.mt_rows.{specs.{Rows.Bytes, Stamps.Stamped, Tenants.owned_cmp}, proofs.ContentLaws.owned_total}
+use Rattle.mt_border.specs.{Held.Pair, declared.entry.Entry.Entry, Entry.pair_of, Contents.{owned, key_at, pair_in, HasKey, AreKeys, row_of}}
 use Rattle.mt_border.proofs.ContentsKeys.{owned_at}
 use Rattle.mt_arena.specs.{declared.tree.Tree.Tree, NodeView.{NodeView, node_at, no_node}, Forests.{tree_at, layer_of, HaveKeys}}
 use Rattle.mt_arena.specs.{Contents.{counts, live_pairs, content}, Arena.IsArena}
@@ -19,11 +19,11 @@ IsOwner q = (key : Bytes) × IsStoredKey key × (owned key ≡ q)
 abbrev AreOwned : Pairs → Type 0
 AreOwned ps = All (λ p. IsOwner p.0) ps
 
-owned_by : (p : (ℕ × Bytes) × Columns) (ps : Pairs) → IsOwner p.0 → (q : ℕ × Bytes) (row : Columns) (b : Bool) → eq_by_cmp owned_cmp q p.0 ≡ b → cond b (Some p.1) (get (map_of ps) q) ≡ Some row → (get (map_of ps) q ≡ Some row → IsOwner q) → IsOwner q
+owned_by : (p : (ℕ × Bytes) × Stamped) (ps : Pairs) → IsOwner p.0 → (q : ℕ × Bytes) (row : Stamped) (b : Bool) → eq_by_cmp owned_cmp q p.0 ≡ b → cond b (Some p.1) (get (map_of ps) q) ≡ Some row → (get (map_of ps) q ≡ Some row → IsOwner q) → IsOwner q
 owned_by p ps w q row true tied e rest = (w.0, w.1, w.2 ∙ sym (tied_owner q p.0 tied))
 owned_by p ps w q row false other e rest = rest e
 
-owned_get : (ps : Pairs) → AreOwned ps → (q : ℕ × Bytes) (row : Columns) → get (map_of ps) q ≡ Some row → IsOwner q
+owned_get : (ps : Pairs) → AreOwned ps → (q : ℕ × Bytes) (row : Stamped) → get (map_of ps) q ≡ Some row → IsOwner q
 owned_get [] all q row is = absurd (let none = get-empty owned_cmp q in let both = sym none ∙ is in cc)
 owned_get (p ∷ ps) all q row is = owned_by p ps (All-head (λ p. IsOwner p.0) p ps all) q row (eq_by_cmp owned_cmp q p.0) refl (sym (get-insert owned_total (map_of ps) p.0 p.1 q) ∙ is)
     (λ e. owned_get ps (All-tail (λ p. IsOwner p.0) p ps all) q row e)
@@ -32,11 +32,11 @@ slots_owned : (prefix : Bytes) (layer : ℕ) (es : List Entry) → AreKeys prefi
 slots_owned prefix layer [] keys = All-nil (λ p. IsOwner p.0)
 slots_owned prefix layer (e ∷ es) keys = by (pair_of e.held) refl (slots_owned prefix layer es (All-tail (λ x. (key : Bytes) × HasKey prefix layer x key) e es keys))
   where
-    by : (o : Option Pair) → pair_of e.held ≡ o → AreOwned (filter_map (pair_in prefix) es) → AreOwned (cons_option (option_map (λ pair. (owned (key_at prefix e pair), pair.row)) o) (filter_map (pair_in prefix) es))
+    by : (o : Option Pair) → pair_of e.held ≡ o → AreOwned (filter_map (pair_in prefix) es) → AreOwned (cons_option (option_map (λ pair. (owned (key_at prefix e pair), row_of pair)) o) (filter_map (pair_in prefix) es))
     by None is rest = rest
     by (Some pair) is rest =
         let w = All-head (λ x. (key : Bytes) × HasKey prefix layer x key) e es keys in
-        All-cons (λ p. IsOwner p.0) (owned (key_at prefix e pair), pair.row) (filter_map (pair_in prefix) es) (w.0, w.1.of_tree.stored, sym (owned_at prefix layer e w.0 pair w.1 is)) rest
+        All-cons (λ p. IsOwner p.0) (owned (key_at prefix e pair), row_of pair) (filter_map (pair_in prefix) es) (w.0, w.1.of_tree.stored, sym (owned_at prefix layer e w.0 pair w.1 is)) rest
 
 node_owned : (trees : List Tree) (n : NodeView) → HaveKeys (tree_at trees n.tree).prefix n.slots → AreOwned (live_pairs trees n)
 node_owned trees n has = by (counts trees n)

@@ -3,7 +3,7 @@ use Rattle.std.specs.Prelude.{◌≡◌, ◌≢◌, ◌⊎◌, ℕ, ◌≤◌, �
 use Rattle.std.specs.List.{Contains}
 use Rattle.mt_slices.specs.{Keys.IsStoredKey, Slices.{slice_of, rest_of}}
 use Rattle.mt_rows.specs.{Rows.Bytes, Tenants.Contents}
-use Rattle.mt_border.specs.{Held.Pair, declared.entry.Entry.Entry, Contents.{owned, HasKey, IsOfTree}}
+use Rattle.mt_border.specs.{Held.Pair, declared.entry.Entry.Entry, Contents.{owned, HasKey, IsOfTree, row_of}}
 use Rattle.mt_arena.specs.{declared.tree.Tree.Tree, declared.tree.Standing.TheVariants.Live, NodeView.{NodeView, node_at}, Forests.tree_at, Stands.IsLiveBorder}
 use Rattle.mt_readings.specs.Reading.{is_below}
 use Rattle.std.specs.FinMap as pairs
@@ -16,17 +16,17 @@ pub record IsScanAt (nodes : List NodeView) (trees : List Tree) (k layer : ℕ) 
   pub begun : 8 * layer < length fence
   pub from : (node_at nodes k).low ≤ slice_of fence layer
 
--- a pair that was read is the key's, and the contents have its row
+-- a pair that was read is the key's, and the contents have its row with its stamp
 pub record HasPair (c : Contents) (prefix : Bytes) (layer : ℕ) (xs : List (Entry × Pair)) (key : Bytes) : Type 0 where
   pub x : Entry × Pair
   pub among : Contains xs x
   pub has : HasKey prefix layer x.0 key
-  pub row : pairs.get c (owned key) ≡ Some x.1.row
+  pub row : pairs.get c (owned key) ≡ Some (row_of x.1)
 
 -- what was read is all that the contents have from one fence to another
 pub record TellsAll (c : Contents) (prefix : Bytes) (layer : ℕ) (fence : Bytes) (after : Bool) (reached : Bytes) (xs : List (Entry × Pair)) : Type 0 where
   pub whole : (key : Bytes) → IsStoredKey key → is_below fence after key ≡ false → is_below reached false key ≡ true → HasPair c prefix layer xs key ⊎ (pairs.get c (owned key) ≡ None)
-  pub real : (x : Entry × Pair) → Contains xs x → (key : Bytes) × HasKey prefix layer x.0 key × (pairs.get c (owned key) ≡ Some x.1.row) × (is_below fence after key ≡ false) × (is_below reached false key ≡ true)
+  pub real : (x : Entry × Pair) → Contains xs x → (key : Bytes) × HasKey prefix layer x.0 key × (pairs.get c (owned key) ≡ Some (row_of x.1)) × (is_below fence after key ≡ false) × (is_below reached false key ≡ true)
 
 -- the fewest bytes that a key has in a layer
 abbrev pub least_in : ℕ → ℕ

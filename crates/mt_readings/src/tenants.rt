@@ -5,8 +5,8 @@ ghost use Rattle.mt_arena.specs.{declared.tree.Tree.Tree, NodeView.{NodeView, no
 ghost use Rattle.mt_readings.specs.Spans.{IsScanAt, TellsAll};
 ghost use Rattle.std.specs.FinMap as pairs;
 ghost use Rattle.mt_slices.specs.{Keys.{IsStoredKey, stored_key, tenant_of}, Fences.IsBehindAll};
-ghost use Rattle.mt_rows.specs.{Rows.{Bytes, Columns}, Tenants.{Contents, tenant_map}};
-ghost use Rattle.mt_border.specs.{Held.Pair, declared.entry.Entry.Entry, Contents.{HasKey, owned}, Entries.IsBorder};
+ghost use Rattle.mt_rows.specs.{Rows.Bytes, Stamps.Stamped, Tenants.{Contents, tenant_map}};
+ghost use Rattle.mt_border.specs.{Held.Pair, declared.entry.Entry.Entry, Contents.{HasKey, owned, row_of}, Entries.IsBorder};
 ghost use Rattle.mt_interior.specs.Fences.{end_of};
 ghost use Rattle.mt_readings.specs.{Reading.{is_below, is_behind, read, stop}, Tenancies.{own_pairs, passed_at, HasStoredKeys, TellsTenant}};
 ghost use Rattle.mt_walks.specs.Walked.{IsStretch};
@@ -65,12 +65,12 @@ pub fn contents_have_stored_keys()
 
 /// A reading tells not all that misses a key's pair between its fences, be it of all tenants or of one.
 pub fn wrong_readings_are_refused()
-    ensures missed { (c : Contents) (prefix : Bytes) (layer : ℕ) (fence : Bytes) (after : Bool) (reached : Bytes) (xs : List (Entry × Pair)) (key : Bytes) (row : Columns) →
+    ensures missed { (c : Contents) (prefix : Bytes) (layer : ℕ) (fence : Bytes) (after : Bool) (reached : Bytes) (xs : List (Entry × Pair)) (key : Bytes) (row : Stamped) →
         IsStoredKey key → is_below fence after key ≡ false → is_below reached false key ≡ true → pairs.get c (owned key) ≡ Some row →
         ((x : Entry × Pair) → Contains xs x → ¬ HasKey prefix layer x.0 key) → ¬ TellsAll c prefix layer fence after reached xs }
-    ensures missed_of_its_tenant { (c : Contents) (t : ℕ) (prefix : Bytes) (layer : ℕ) (fence : Bytes) (after : Bool) (reached : Bytes → Bool) (xs : List (Entry × Pair)) (key : Bytes) (row : Columns) →
+    ensures missed_of_its_tenant { (c : Contents) (t : ℕ) (prefix : Bytes) (layer : ℕ) (fence : Bytes) (after : Bool) (reached : Bytes → Bool) (xs : List (Entry × Pair)) (key : Bytes) (row : Stamped) →
         IsStoredKey key → tenant_of key ≡ t → is_below fence after key ≡ false → reached key ≡ true → pairs.get c (owned key) ≡ Some row →
         ((x : Entry × Pair) → Contains xs x → ¬ HasKey prefix layer x.0 key) → ¬ TellsTenant c t prefix layer fence after reached xs }
     ensures another_row { (c : Contents) (t : ℕ) (prefix : Bytes) (layer : ℕ) (fence : Bytes) (after : Bool) (reached : Bytes → Bool) (xs : List (Entry × Pair)) (x : Entry × Pair) →
-        Contains xs x → ((key : Bytes) → HasKey prefix layer x.0 key → pairs.get c (owned key) ≢ Some x.1.row) → ¬ TellsTenant c t prefix layer fence after reached xs }
+        Contains xs x → ((key : Bytes) → HasKey prefix layer x.0 key → pairs.get c (owned key) ≢ Some (row_of x.1)) → ¬ TellsTenant c t prefix layer fence after reached xs }
 {}
