@@ -2,7 +2,8 @@
 -- For the callers of the crates above.
 use Rattle.std.proofs.Common.{◌≡◌, Bool, true, false, List, [], ◌∷◌, Option, Result, Ok, Err, ap, subst, inl, inr}
 use Rattle.mt_rows.specs.Rows.{Bytes}
-use Rattle.mt_wire.specs.{declared.message.Request.Request, declared.message.Request.TheVariants.{Open, Call, Settle}, declared.message.WireReply.WireReply}
+use Rattle.mt_wire.specs.{declared.message.Request.Request, declared.message.Request.TheVariants.{Open, Call, Settle, GetStamped}}
+use Rattle.mt_wire.specs.declared.message.WireReply.{WireReply}
 use Rattle.mt_session.specs.{declared.ended.Ended.Ended, declared.ended.ServeFault.ServeFault, Exchanges.Exchange}
 use Rattle.mt_session.specs.{Sessions.{CallerRelation, IsReply, IsStuck, AreReplies, Transcript}, Endings.{AsksAtMostOne, EndsAs, Serves}}
 use Rattle.mt_session.specs.declared.ended.Ended.TheVariants as ends
@@ -23,6 +24,8 @@ module _ {S T : Type 0} (exchanges : CallerRelation S) (other : CallerRelation T
   reply_along true o s t (Open tenant) reply p h = ((p.0, p.1, ap view p.2), same_back s t p.2 h)
   reply_along false o s t (Call command) reply p h = ((p.0, p.1, ap view p.2), same_back s t p.2 h)
   reply_along true o s t (Call command) reply p h = ((p.0, along s _ t p.1 h, p.2, p.3), back s _ t p.1 h)
+  reply_along false o s t (GetStamped key columns) reply p h = ((p.0, p.1, ap view p.2), same_back s t p.2 h)
+  reply_along true o s t (GetStamped key columns) reply p h = ((p.0, along s _ t p.1 h, p.2, p.3), back s _ t p.1 h)
   reply_along false o s t Settle reply p h = ((p.0, p.1, ap view p.2), same_back s t p.2 h)
   reply_along true o s t Settle reply p h = ((p.0, along s _ t p.1 h, p.2, p.3), back s _ t p.1 h)
 
@@ -53,6 +56,7 @@ module _ {S T : Type 0} (exchanges : CallerRelation S) (other : CallerRelation T
   stuck_along : (opened : Bool) (s t : S) (request : Request) → IsStuck exchanges opened s request t → well t
       → IsStuck other opened (view s) request (view t) × well s
   stuck_along true s t (Call command) p h = (along s _ t p h, back s _ t p h)
+  stuck_along true s t (GetStamped key columns) p h = (along s _ t p h, back s _ t p h)
   stuck_along true s t (Open tenant) p h = absurd p
   stuck_along true s t Settle p h = absurd p
   stuck_along false s t request p h = absurd p

@@ -4,13 +4,14 @@ use Rattle.std.proofs.lemmas.Option.{same_Some}
 use Rattle.std.specs.{Prelude.slice_set, List.{flat_map, AllByRecursion}}
 use Rattle.mt_rows.specs.{Rows.Bytes, declared.command.Command.Command, declared.reply.Reply.Reply, declared.reply.Reply.TheVariants.NoMemory}
 use Rattle.mt_rows.specs.{declared.refusal.Refusal.Refusal, declared.refusal.Refusal.TheVariants.{KeyLong, Column, ColumnLong, ScanCount}}
-use Rattle.mt_rows.specs.{Commands.{IsTaken, IsFirstFault}, Maps.{reply_of, map_after}}
-use Rattle.mt_wire.specs.{declared.message.Request.Request, declared.message.Request.TheVariants.{Open, Call, Settle}, declared.message.WireReply.WireReply}
-use Rattle.mt_wire.specs.{declared.message.WireReply.TheVariants.Told, Fronts.IsReadingEnd, Replies.reply_spelling}
+use Rattle.mt_rows.specs.{Commands.{IsTaken, IsFirstFault}, Maps.{reply_of, map_after}, declared.command.Command.TheVariants.Get}
+use Rattle.mt_wire.specs.{declared.message.Request.Request, declared.message.Request.TheVariants.{Open, Call, Settle, GetStamped}}
+use Rattle.mt_wire.specs.{declared.message.WireReply.WireReply, declared.message.WireReply.TheVariants.Told, Fronts.IsReadingEnd, Replies.reply_spelling}
+use Rattle.mt_wire.specs.Asked.{shown_as}
 use Rattle.mt_wire.proofs.{FrameLaws.one_reading, RequestLaws.requests}
 use Rattle.mt_session.specs.{declared.caller.CallerFault.CallerFault, declared.caller.CallerFault.TheVariants.{Refused, Stuck}}
 use Rattle.mt_session.specs.{declared.plain.PlainTenant.PlainTenant, Sessions.{IsReply, AreReplies, Transcript, call_told, open_told, open_after, settle_told}}
-use Rattle.mt_session.specs.Plain.{PlainTenants, place_of, PlainOpens, TenantCalls, PlainCalls, PlainExchanges, IsAmple}
+use Rattle.mt_session.specs.Plain.{PlainTenants, place_of, PlainOpens, TenantCalls, PlainCalls, PlainExchanges, IsAmple, next_number}
 
 -- a command that is taken has no fault
 pub fault_not_taken : (command : Command) (fault : Refusal) → IsTaken command → IsFirstFault command fault → ⊥
@@ -51,36 +52,36 @@ open_same None d t a b e f p q = (p.0 ∙ sym q.0, p.1 ∙ sym q.1)
 open_same (Some place) d t a b e f p q = (p.0 ∙ sym q.0, p.1 ∙ sym q.1)
 
 -- a reply that was given by the map, where memory sufficed
-by_map : (x : PlainTenant) (command : Command) (reply : Reply) (e : PlainTenant) (w : WireReply)
-    → ((reply ≡ reply_of x.quota command x.map) × (e ≡ record x { map = map_after x.quota command x.map })) ⊎ ((reply ≡ NoMemory) × (e ≡ x))
-    → call_told (Ok reply) ≡ Some w → IsAmple w
-    → (w ≡ Told (reply_of x.quota command x.map)) × (e ≡ record x { map = map_after x.quota command x.map })
-by_map x command reply e w (inl h) told ample = let given = h.0 in (cc, h.1)
-by_map x command reply e w (inr h) told ample = let given = h.0 in absurd (ample cc)
+by_map : (stamps : Bool) (x : PlainTenant) (number : ℕ) (command : Command) (reply : Reply) (e : PlainTenant) (w : WireReply)
+    → ((reply ≡ reply_of x.quota command x.map) × (e ≡ record x { map = map_after x.quota number command x.map })) ⊎ ((reply ≡ NoMemory) × (e ≡ x))
+    → call_told stamps (Ok reply) ≡ Some w → IsAmple w
+    → (w ≡ Told (shown_as stamps (reply_of x.quota command x.map))) × (e ≡ record x { map = map_after x.quota number command x.map })
+by_map stamps x number command reply e w (inl h) told ample = (sym (same_Some (Told (shown_as stamps reply)) w told) ∙ ap (λ r. Told (shown_as stamps r)) h.0, h.1)
+by_map stamps x number command reply e w (inr h) told ample = absurd (ample (sym (same_Some (Told (shown_as stamps reply)) w told) ∙ ap (λ r. Told (shown_as stamps r)) h.0))
 
 -- a tenant's command has one answer
-tenant_same : (x : PlainTenant) (command : Command) (a b : Result Reply CallerFault) (e f : PlainTenant) (w v : WireReply) → TenantCalls x command a e
-    → TenantCalls x command b f → call_told a ≡ Some w → call_told b ≡ Some v → IsAmple w → IsAmple v → (w ≡ v) × (e ≡ f)
-tenant_same x command (Ok r) (Ok y) e f w v p q s t ample enough =
-    let one = by_map x command r e w p.1 s ample in
-    let two = by_map x command y f v q.1 t enough in
+tenant_same : (stamps : Bool) (x : PlainTenant) (number : ℕ) (command : Command) (a b : Result Reply CallerFault) (e f : PlainTenant) (w v : WireReply) → TenantCalls x number command a e
+    → TenantCalls x number command b f → call_told stamps a ≡ Some w → call_told stamps b ≡ Some v → IsAmple w → IsAmple v → (w ≡ v) × (e ≡ f)
+tenant_same stamps x number command (Ok r) (Ok y) e f w v p q s t ample enough =
+    let one = by_map stamps x number command r e w p.1 s ample in
+    let two = by_map stamps x number command y f v q.1 t enough in
     (one.0 ∙ sym two.0, one.1 ∙ sym two.1)
-tenant_same x command (Ok r) (Err (Refused g)) e f w v p q s t ample enough = absurd (fault_not_taken command g p.0 q.0)
-tenant_same x command (Err (Refused g)) (Ok y) e f w v p q s t ample enough = absurd (fault_not_taken command g q.0 p.0)
-tenant_same x command (Err (Refused g)) (Err (Refused h)) e f w v p q s t ample enough = let same = fault_same command g h p.0 q.0 in (cc, p.1 ∙ sym q.1)
-tenant_same x command (Err Stuck) b e f w v p q s t ample enough = absurd p
-tenant_same x command (Ok r) (Err Stuck) e f w v p q s t ample enough = absurd q
-tenant_same x command (Err (Refused g)) (Err Stuck) e f w v p q s t ample enough = absurd q
+tenant_same stamps x number command (Ok r) (Err (Refused g)) e f w v p q s t ample enough = absurd (fault_not_taken command g p.0 q.0)
+tenant_same stamps x number command (Err (Refused g)) (Ok y) e f w v p q s t ample enough = absurd (fault_not_taken command g q.0 p.0)
+tenant_same stamps x number command (Err (Refused g)) (Err (Refused h)) e f w v p q s t ample enough = let same = fault_same command g h p.0 q.0 in (cc, p.1 ∙ sym q.1)
+tenant_same stamps x number command (Err Stuck) b e f w v p q s t ample enough = absurd p
+tenant_same stamps x number command (Ok r) (Err Stuck) e f w v p q s t ample enough = absurd q
+tenant_same stamps x number command (Err (Refused g)) (Err Stuck) e f w v p q s t ample enough = absurd q
 
 -- and so has a command of the opened tenant
-call_same : (opened : Option ℕ) (command : Command) (d : PlainTenants) (a b : Result Reply CallerFault) (e f : PlainTenants) (w v : WireReply)
-    → PlainCalls opened d command a e → PlainCalls opened d command b f → call_told a ≡ Some w → call_told b ≡ Some v → IsAmple w → IsAmple v
+call_same : (stamps : Bool) (opened : Option ℕ) (command : Command) (d : PlainTenants) (a b : Result Reply CallerFault) (e f : PlainTenants) (w v : WireReply)
+    → PlainCalls opened d command a e → PlainCalls opened d command b f → call_told stamps a ≡ Some w → call_told stamps b ≡ Some v → IsAmple w → IsAmple v
     → (w ≡ v) × (e ≡ f)
-call_same None command d a b e f w v p q s t ample enough = let same : a ≡ b = p.0 ∙ sym q.0 in (same_Some w v (sym s ∙ ap call_told same ∙ t), p.1 ∙ sym q.1)
-call_same (Some place) command d a b e f w v (x, u, at, p, is) (y, z, here, q, becomes) s t ample enough =
+call_same stamps None command d a b e f w v p q s t ample enough = let same : a ≡ b = p.0 ∙ sym q.0 in (same_Some w v (sym s ∙ ap (call_told stamps) same ∙ t), p.1 ∙ sym q.1)
+call_same stamps (Some place) command d a b e f w v (x, u, at, p, is) (y, z, here, q, becomes) s t ample enough =
     let same : y ≡ x = same_Some y x (sym here ∙ at) in
-    let one = tenant_same x command a b u z w v p (subst (λ k. TenantCalls k command b z) same q) s t ample enough in
-    (one.0, is ∙ ap (λ k. record d { list = slice_set d.list place k }) one.1 ∙ sym becomes)
+    let one = tenant_same stamps x (next_number d.last) command a b u z w v p (subst (λ k. TenantCalls k (next_number d.last) command b z) same q) s t ample enough in
+    (one.0, is ∙ ap (λ k. record d { list = slice_set d.list place k; last = next_number d.last }) one.1 ∙ sym becomes)
 
 -- a request has one reply
 reply_same : (r : Request) (o : Bool) (d : PlainTenants) (w v : WireReply) (p q : Bool) (e f : PlainTenants) → IsReply PlainExchanges o d r w p e
@@ -93,7 +94,12 @@ reply_same (Open tenant) true d w v p q e f (told, stands, stays) (said, opened,
 reply_same (Call command) false d w v p q e f (told, stands, stays) (said, opened, stayed) ample enough =
     (told ∙ sym said, stands ∙ sym opened, stays ∙ sym stayed)
 reply_same (Call command) true d w v p q e f (a, given, told, stands) (b, gave, said, opened) ample enough =
-    let same = call_same d.opened command d a b e f w v given gave told said ample enough in
+    let same = call_same false d.opened command d a b e f w v given gave told said ample enough in
+    (same.0, stands ∙ sym opened, same.1)
+reply_same (GetStamped key columns) false d w v p q e f (told, stands, stays) (said, opened, stayed) ample enough =
+    (told ∙ sym said, stands ∙ sym opened, stays ∙ sym stayed)
+reply_same (GetStamped key columns) true d w v p q e f (a, given, told, stands) (b, gave, said, opened) ample enough =
+    let same = call_same true d.opened (Get key columns) d a b e f w v given gave told said ample enough in
     (same.0, stands ∙ sym opened, same.1)
 reply_same Settle false d w v p q e f (told, stands, stays) (said, opened, stayed) ample enough = (told ∙ sym said, stands ∙ sym opened, stays ∙ sym stayed)
 reply_same Settle true d w v p q e f (a, given, told, stands) (b, gave, said, opened) ample enough =

@@ -1,9 +1,10 @@
 -- What a session tells for the requests that its bytes spell.
-use Rattle.std.specs.{Prelude.{◌≡◌, ℕ, Bool, true, false, List, [], ◌∷◌, ◌++◌, Option, Some, None, Result, Ok, Err}, List.{flat_map, AllByRecursion}}
+use Rattle.std.specs.{Prelude.{◌≡◌, ℕ, Bool, true, false, List, [], ◌∷◌, ◌++◌, Option, Some, None, Result, Ok, Err, ◌⊎◌}, List.{flat_map, AllByRecursion}}
 use Rattle.mt_rows.specs.{Rows.Bytes, Refusals.number_of, declared.reply.Reply.Reply, declared.refusal.Refusal.Refusal}
-use Rattle.mt_rows.specs.declared.refusal.Refusal.TheVariants.{NotOpen, OpenTwice}
-use Rattle.mt_wire.specs.{declared.message.Request.Request, declared.message.Request.TheVariants.{Open, Call, Settle}, declared.message.WireReply.WireReply}
-use Rattle.mt_wire.specs.{declared.message.WireReply.TheVariants.{Opened, Told, Settled, Refused}, Requests.{spelling, IsSpellable}, Replies.reply_spelling}
+use Rattle.mt_rows.specs.{declared.refusal.Refusal.TheVariants.{NotOpen, OpenTwice}, declared.command.Command.TheVariants.Get, declared.command.Command.Command}
+use Rattle.mt_wire.specs.{declared.message.Request.Request, declared.message.Request.TheVariants.{Open, Call, Settle, GetStamped}}
+use Rattle.mt_wire.specs.{declared.message.WireReply.WireReply, declared.message.WireReply.TheVariants.{Opened, Told, Settled, Refused}}
+use Rattle.mt_wire.specs.{Requests.{spelling, IsSpellable}, Replies.reply_spelling, Asked.shown_as}
 use Rattle.mt_session.specs.{declared.caller.CallerFault.CallerFault, Exchanges.{Exchange, Opens, Calls, Settles}}
 use Rattle.mt_session.specs.declared.caller.CallerFault.TheVariants as callers
 
@@ -25,11 +26,16 @@ abbrev pub open_after : Option Refusal → Bool
 open_after None = true
 open_after (Some refusal) = false
 
--- the reply to a command, by what the caller answered; none where it is stuck
-abbrev pub call_told : Result Reply CallerFault → Option WireReply
-call_told (Ok reply) = Some (Told reply)
-call_told (Err (callers.Refused refusal)) = Some (refused refusal)
-call_told (Err callers.Stuck) = None
+-- the reply to a command, with the stamp of the row found or without, by what the caller answered; none where it is stuck
+abbrev pub call_told : Bool → Result Reply CallerFault → Option WireReply
+call_told stamps (Ok reply) = Some (Told (shown_as stamps reply))
+call_told stamps (Err (callers.Refused refusal)) = Some (refused refusal)
+call_told stamps (Err callers.Stuck) = None
+
+-- a command of an open session, whose reply shows the stamp of the row found or doesn't
+abbrev pub IsCall : {S : Type 0} → CallerRelation S → S → Command → Bool → WireReply → Bool → S → Type 0
+IsCall exchanges old command stamps reply now_open new =
+    (answer : Result Reply CallerFault) × exchanges old (Calls command answer) new × (call_told stamps answer ≡ Some reply) × (now_open ≡ true)
 
 -- the reply to a Settle, by what the caller answered
 abbrev pub settle_told : Result ℕ Refusal → WireReply
@@ -43,16 +49,18 @@ abbrev pub IsReply : {S : Type 0} → CallerRelation S → Bool → S → Reques
 IsReply exchanges false old (Open tenant) reply now_open new =
     (refusal : Option Refusal) × exchanges old (Opens tenant refusal) new × (reply ≡ open_told refusal) × (now_open ≡ open_after refusal)
 IsReply exchanges false old (Call command) reply now_open new = (reply ≡ refused NotOpen) × (now_open ≡ false) × (new ≡ old)
+IsReply exchanges false old (GetStamped key columns) reply now_open new = (reply ≡ refused NotOpen) × (now_open ≡ false) × (new ≡ old)
 IsReply exchanges false old Settle reply now_open new = (reply ≡ refused NotOpen) × (now_open ≡ false) × (new ≡ old)
 IsReply exchanges true old (Open tenant) reply now_open new = (reply ≡ refused OpenTwice) × (now_open ≡ true) × (new ≡ old)
-IsReply exchanges true old (Call command) reply now_open new =
-    (answer : Result Reply CallerFault) × exchanges old (Calls command answer) new × (call_told answer ≡ Some reply) × (now_open ≡ true)
+IsReply exchanges true old (Call command) reply now_open new = IsCall exchanges old command false reply now_open new
+IsReply exchanges true old (GetStamped key columns) reply now_open new = IsCall exchanges old (Get key columns) true reply now_open new
 IsReply exchanges true old Settle reply now_open new =
     (answer : Result ℕ Refusal) × exchanges old (Settles answer) new × (reply ≡ settle_told answer) × (now_open ≡ true)
 
 -- a command of an open session that the caller could not finish: it has no reply
 abbrev pub IsStuck : {S : Type 0} → CallerRelation S → Bool → S → Request → S → Type 0
 IsStuck exchanges true old (Call command) new = exchanges old (Calls command (Err callers.Stuck)) new
+IsStuck exchanges true old (GetStamped key columns) new = exchanges old (Calls (Get key columns) (Err callers.Stuck)) new
 IsStuck exchanges was_open old request new = ⊥
 
 -- the replies to requests, one each, in their order

@@ -1,7 +1,7 @@
 //! A caller that keeps a plain map for each of its tenants: slow, and obviously right.
 
 ghost use Rattle.std.specs.Prelude.{◌≡◌, None};
-ghost use Rattle.mt_session.specs.Plain.{plain_tenants, place_of, TenantCalls};
+ghost use Rattle.mt_session.specs.Plain.{plain_tenants, place_of, TenantCalls, next_number};
 
 use crate::caller::{Caller, CallerFault};
 use mt_rows::{Command, PlainMap, Refusal, Reply};
@@ -16,11 +16,12 @@ pub struct PlainTenant {
     pub map: PlainMap,
 }
 
-/// A list of tenants, of which one may be opened.
+/// A list of tenants, of which one may be opened. Commands are numbered from 1 on.
 #[derive(Drop)]
 pub struct PlainCaller {
     tenants: Vec<PlainTenant>,
     opened: Option<usize>,
+    last: u64,
 }
 
 impl Model for PlainCaller {
@@ -32,7 +33,7 @@ impl Model for PlainCaller {
 
     ghost coded = { Prim.hlevel (codes, maps.the_row.coded) };
 
-    ghost view = { λ c. plain_tenants c.tenants.items c.opened };
+    ghost view = { λ c. plain_tenants c.tenants.items c.opened c.last };
 
     ghost invariant = { λ c. IsInList c.tenants.items c.opened };
 }
@@ -40,11 +41,12 @@ impl Model for PlainCaller {
 impl PlainCaller {
     /// A caller with these tenants, of which none is opened.
     pub fn new(tenants: Vec<PlainTenant>) -> Self
-        ensures { result ≡ plain_tenants tenants.items None }
+        ensures { result ≡ plain_tenants tenants.items None 0 }
     {
         PlainCaller {
             tenants,
             opened: None,
+            last: 0,
         }
     }
 }
@@ -66,7 +68,10 @@ impl Caller for PlainCaller {
 
     fn call(&mut self, alloc: Global, command: Command) -> Result<Reply, CallerFault> {
         match self.opened {
-            Some(place) => call_tenant(alloc, &mut self.tenants[place], command),
+            Some(place) => {
+                self.last = self.last.saturating_add(1);
+                call_tenant(alloc, &mut self.tenants[place], self.last, command)
+            }
             None => Err(CallerFault::Refused(Refusal::NotOpen)),
         }
     }
@@ -83,18 +88,19 @@ fn find_tenant(tenants: &[PlainTenant], tenant: u32) -> Option<usize>
     tenants.iter().position(|t| t.tenant == tenant)
 }
 
-// The reply to a command of this tenant.
+// The reply to the command of a number, of this tenant.
 fn call_tenant(
     alloc: Global,
     tenant: &mut PlainTenant,
+    number: u64,
     command: Command,
 ) -> Result<Reply, CallerFault>
-    ensures { TenantCalls tenant.old command result tenant.new }
+    ensures { TenantCalls tenant.old number command result tenant.new }
 {
     if let Err(refusal) = command.check() {
         return Err(CallerFault::Refused(refusal));
     }
-    match tenant.map.apply(alloc, tenant.quota, command) {
+    match tenant.map.apply(alloc, tenant.quota, number, command) {
         Ok(reply) => Ok(reply),
         Err(_) => Ok(Reply::NoMemory),
     }

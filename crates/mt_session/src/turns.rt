@@ -1,15 +1,16 @@
 //! Answering what has been read.
 
-ghost use Rattle.std.specs.Prelude.{◌≤◌, length, OnOk, IfSome, IfNone};
-ghost use Rattle.mt_session.specs.{Sessions.{IsReply, IsStuck}, Turns.{IsTurn, IsRound, IsWritten}};
+ghost use Rattle.std.specs.Prelude.{◌≤◌, length, OnOk, IfSome, IfNone, Err, ◌⊎◌};
+ghost use Rattle.mt_session.specs.{Sessions.{IsReply, IsStuck, IsCall}, Turns.{IsTurn, IsRound, IsWritten}, Exchanges.Calls};
+ghost use Rattle.mt_session.specs.declared.caller.CallerFault.{CallerFault};
 ghost use Rattle.mt_streams.specs.Buffering.{Counts};
 
 use crate::caller::{Caller, CallerFault};
 use crate::ended::ServeFault;
 use bytes::BytesMut;
-use mt_rows::Refusal;
+use mt_rows::{Command, Refusal};
 use mt_streams::{Sink, flush};
-use mt_wire::{Front, Request, WireReply, decode, write_reply};
+use mt_wire::{Front, Request, Shown, WireReply, decode, write_reply};
 use std::alloc::Global;
 
 /// What became of the front of the input.
@@ -49,11 +50,13 @@ fn reply_to<C: Caller>(
             if !opened {
                 return Some((WireReply::refused(Refusal::NotOpen), false));
             }
-            match caller.call(alloc, command) {
-                Ok(reply) => Some((WireReply::Told(reply), true)),
-                Err(CallerFault::Refused(refusal)) => Some((WireReply::refused(refusal), true)),
-                Err(CallerFault::Stuck) => None,
+            call_for(alloc, caller, command, false)
+        }
+        Request::GetStamped { key, columns } => {
+            if !opened {
+                return Some((WireReply::refused(Refusal::NotOpen), false));
             }
+            call_for(alloc, caller, Command::Get { key, columns }, true)
         }
         Request::Settle => {
             if !opened {
@@ -64,6 +67,23 @@ fn reply_to<C: Caller>(
                 Err(refusal) => Some((WireReply::refused(refusal), true)),
             }
         }
+    }
+}
+
+// The reply to a command of an open session, with the stamp of the row found or without.
+fn call_for<C: Caller>(
+    alloc: Global,
+    caller: &mut C,
+    command: Command,
+    stamps: bool,
+) -> Option<(WireReply, bool)>
+    ensures replied { IfSome result (λ a. IsCall C.exchanges caller.old command stamps a.0 a.1 caller.new) }
+    ensures stuck { IfNone result (C.exchanges caller.old (Calls command (Err CallerFault.Stuck)) caller.new) }
+{
+    match caller.call(alloc, command) {
+        Ok(reply) => Some((WireReply::Told(Shown::of(reply, stamps)), true)),
+        Err(CallerFault::Refused(refusal)) => Some((WireReply::refused(refusal), true)),
+        Err(CallerFault::Stuck) => None,
     }
 }
 

@@ -4,13 +4,13 @@ use Rattle.std.proofs.{lemmas.Bool.{eqb-true, ltb-true}, lemmas.Bool.Decides.nat
 use Rattle.std.proofs.{lemmas.List.Concat.flat_map-cons, lemmas.List.Elements.{All-weaker, All-from_recursion, recursion_from_All}, lemmas.Option.same_Some}
 use Rattle.std.specs.{Int.{w64, to_be_bytes}, List.{flat_map, All, AllByRecursion}}
 use Rattle.mt_rows.specs.{Rows.{Bytes, Columns, IsRow}, Limits.ArePairs}
-use Rattle.mt_rows.specs.declared.reply.Reply.TheVariants.{Absent, Found, New, Replaced, Full, Removed, Pairs, NoMemory}
 use Rattle.mt_fields.specs.{Fields.string, Reading.{◌>>=◌, byte_at, number_at, string_at, each_at}}
-use Rattle.mt_fields.proofs.FieldLaws.{IsBytes, bind_some, guard_ended, choose, Takes, Takes-then, Takes-more, byte_takes, wide64, number_takes, string_takes, string_again, each_takes, each_again}
+use Rattle.mt_fields.proofs.FieldLaws.{IsBytes, bind_some, guard_ended, choose, Takes, Takes-then, Takes-more, byte_takes, wide64, number_takes, string_takes, string_again, each_takes, each_again, number_again}
 use Rattle.mt_row_fields.{specs.{Format.row_bytes, Reading.row_at}, proofs.RowLaws.{row_takes, row_again, row_short}}
 use Rattle.mt_wire.specs.{declared.message.WireReply.WireReply, declared.message.WireReply.TheVariants.{Opened, Told, Settled, Refused}}
 use Rattle.mt_wire.specs.Replies.{shown_pair, reply_body, IsSpellableReply}
-use Rattle.mt_wire.specs.ReplyReading.{are_pairs, pair_at, pairs_at, found_at, scanned_at, settled_at, reply_kind_at, reply_in}
+use Rattle.mt_wire.specs.ReplyReading.{are_pairs, pair_at, pairs_at, found_at, scanned_at, settled_at, reply_kind_at, reply_in, found_stamped_at, stale_at}
+use Rattle.mt_wire.specs.declared.message.Shown.TheVariants.{Absent, FoundStamped, Found, Full, New, NoMemory, Pairs, Removed, Replaced, Stale}
 use Rattle.mt_wire.proofs.{Tests.{pairs_from_test, test_from_pairs}, FrameLaws.AreMessages}
 
 -- ---- pairs
@@ -73,6 +73,25 @@ found_takes bytes x fits e =
     let made : WireReply × Bytes = (Told (Found a.0.0), a.0.1) in
     subst (Reads 2 bytes) (same_Some made x a.2) (Takes-more 2 bytes (row_bytes a.0.0) a.0.1 t.0, t.1)
 
+found_stamped_takes : (bytes : Bytes) (x : WireReply × Bytes) → IsBytes bytes → found_stamped_at bytes ≡ Some x → Reads 10 bytes x
+unfolding found_stamped_at
+found_stamped_takes bytes x fits e =
+    let a = bind_some (number_at w64 bytes) (λ stamp. row_at stamp.1 >>= λ row. Some (Told (FoundStamped (record { stamp = stamp.0; row = row.0 })), row.1)) x e in
+    let b = bind_some (row_at a.0.1) (λ row. Some (Told (FoundStamped (record { stamp = a.0.0; row = row.0 })), row.1)) x a.2 in
+    let t = number_takes w64 (2 ^ 64) wide64 bytes a.0.0 a.0.1 fits a.1 in
+    let s = row_takes a.0.1 b.0 t.0.rest_fits b.1 in
+    let both = Takes-then bytes (to_be_bytes w64 a.0.0) a.0.1 (row_bytes b.0.0) b.0.1 t.0 s.0 in
+    let made : WireReply × Bytes = (Told (FoundStamped (record { stamp = a.0.0; row = b.0.0 })), b.0.1) in
+    subst (Reads 10 bytes) (same_Some made x b.2) (Takes-more 10 bytes (to_be_bytes w64 a.0.0 ++ row_bytes b.0.0) b.0.1 both, (t.1, s.1))
+
+stale_takes : (bytes : Bytes) (x : WireReply × Bytes) → IsBytes bytes → stale_at bytes ≡ Some x → Reads 11 bytes x
+unfolding stale_at
+stale_takes bytes x fits e =
+    let a = bind_some (number_at w64 bytes) (λ stamp. Some (Told (Stale stamp.0), stamp.1)) x e in
+    let t = number_takes w64 (2 ^ 64) wide64 bytes a.0.0 a.0.1 fits a.1 in
+    let made : WireReply × Bytes = (Told (Stale a.0.0), a.0.1) in
+    subst (Reads 11 bytes) (same_Some made x a.2) (Takes-more 11 bytes (to_be_bytes w64 a.0.0) a.0.1 t.0, t.1)
+
 scanned_takes : (bytes : Bytes) (x : WireReply × Bytes) → IsBytes bytes → scanned_at bytes ≡ Some x → Reads 6 bytes x
 unfolding scanned_at
 scanned_takes bytes x fits e =
@@ -115,7 +134,9 @@ kind_takes kind bytes x small fits e =
     choose (eqb kind 7) _ _ _ e7 (λ t h. at 7 t (settled_takes bytes x fits h)) (λ _ e8.
     choose (eqb kind 8) _ _ _ e8 (λ t h. at 8 t (plain_takes 8 bytes (Told Full) x fits refl tt h)) (λ _ e9.
     choose (eqb kind 9) _ _ _ e9 (λ t h. at 9 t (plain_takes 9 bytes (Told NoMemory) x fits refl tt h)) (λ _ e10.
-    choose (ltb 128 kind) _ _ _ e10 (λ t h. refused_takes kind bytes x small (ltb-true 128 kind t) fits h) (λ _ h. absurd cc)))))))))))
+    choose (eqb kind 10) _ _ _ e10 (λ t h. at 10 t (found_stamped_takes bytes x fits h)) (λ _ e11.
+    choose (eqb kind 11) _ _ _ e11 (λ t h. at 11 t (stale_takes bytes x fits h)) (λ _ e12.
+    choose (ltb 128 kind) _ _ _ e12 (λ t h. refused_takes kind bytes x small (ltb-true 128 kind t) fits h) (λ _ h. absurd cc)))))))))))))
 
 -- what is read is spelled so
 pub reply_takes : (bytes : Bytes) (r : WireReply) → IsBytes bytes → reply_in bytes ≡ Some r → (bytes ≡ reply_body r) × IsSpellableReply r
@@ -141,14 +162,17 @@ unfolding reply_kind_at
 refused_again number some =
     let k = 128 + number in
     let back : 128 + number - 128 ≡ number = omega arith in
-    rw (unlike (128 + number) 0 (omega arith), unlike (128 + number) 1 (omega arith), unlike (128 + number) 2 (omega arith), unlike (128 + number) 3 (omega arith), unlike (128 + number) 4 (omega arith), unlike (128 + number) 5 (omega arith), unlike (128 + number) 6 (omega arith), unlike (128 + number) 7 (omega arith), unlike (128 + number) 8 (omega arith), unlike (128 + number) 9 (omega arith), above 128 (128 + number) (omega arith)) (ap (λ (n : ℕ). Some (Refused n, [])) back)
+    rw (unlike (128 + number) 0 (omega arith), unlike (128 + number) 1 (omega arith), unlike (128 + number) 2 (omega arith), unlike (128 + number) 3 (omega arith), unlike (128 + number) 4 (omega arith), unlike (128 + number) 5 (omega arith), unlike (128 + number) 6 (omega arith), unlike (128 + number) 7 (omega arith), unlike (128 + number) 8 (omega arith), unlike (128 + number) 9 (omega arith), unlike (128 + number) 10 (omega arith), unlike (128 + number) 11 (omega arith), above 128 (128 + number) (omega arith)) (ap (λ (n : ℕ). Some (Refused n, [])) back)
 
 -- what is spelled so is read
 pub reply_again : (r : WireReply) → IsSpellableReply r → reply_in (reply_body r) ≡ Some r
-unfolding reply_in reply_kind_at found_at scanned_at settled_at
+unfolding reply_in reply_kind_at found_at found_stamped_at stale_at scanned_at settled_at
 reply_again Opened fits = refl
 reply_again (Told Absent) fits = refl
 reply_again (Told (Found columns)) fits = ap (λ (t : Bytes). reply_in (2 ∷ t)) (sym (append-nil (row_bytes columns))) ∙ rw (row_again columns [] fits) refl
+reply_again (Told (FoundStamped row)) fits =
+    ap (λ (t : Bytes). reply_in (10 ∷ (to_be_bytes w64 row.stamp ++ t))) (sym (append-nil (row_bytes row.row))) ∙ rw (number_again w64 (2 ^ 64) wide64 row.stamp (row_bytes row.row ++ []) fits.0, row_again row.row [] fits.1) refl
+reply_again (Told (Stale stamp)) fits = ap (λ (n : ℕ). Some (Told (Stale n))) (wide64.again stamp fits)
 reply_again (Told New) fits = refl
 reply_again (Told Replaced) fits = refl
 reply_again (Told Full) fits = refl
@@ -178,6 +202,8 @@ some_body : (r : WireReply) → 1 ≤ length (reply_body r)
 some_body Opened = omega arith
 some_body (Told Absent) = omega arith
 some_body (Told (Found columns)) = omega arith
+some_body (Told (FoundStamped row)) = omega arith
+some_body (Told (Stale stamp)) = omega arith
 some_body (Told New) = omega arith
 some_body (Told Replaced) = omega arith
 some_body (Told Full) = omega arith
@@ -191,6 +217,8 @@ short_body : (r : WireReply) → IsSpellableReply r → length (reply_body r) �
 short_body Opened fits = omega arith
 short_body (Told Absent) fits = omega arith
 short_body (Told (Found columns)) fits = let row = row_short columns fits in omega arith
+short_body (Told (FoundStamped row)) fits = let short = row_short row.row fits.1 in omega arith
+short_body (Told (Stale stamp)) fits = omega arith
 short_body (Told New) fits = omega arith
 short_body (Told Replaced) fits = omega arith
 short_body (Told Full) fits = omega arith

@@ -1,13 +1,13 @@
 -- A request that is read is spelled so, and a spelled request is read again.
 use Rattle.std.proofs.{Common.{◌≡◌, ℕ, ◌^◌, ◌≤◌, arith, true, cond, eqb, [], ◌∷◌, ◌++◌, length, Some, None, refl, sym, ap, subst, ◌∙◌}, lemmas.Bool.eqb-true}
 use Rattle.std.proofs.{lemmas.List.{append-nil, nil_from_length}, lemmas.Option.same_Some}
-use Rattle.std.specs.Int.{w32, to_be_bytes}
-use Rattle.mt_rows.specs.{Rows.Bytes, declared.command.Command.TheVariants.{Get, Put, Remove, Scan}}
+use Rattle.std.specs.Int.{w32, to_be_bytes, w64}
+use Rattle.mt_rows.specs.{Rows.Bytes, declared.command.Command.TheVariants.{Get, Put, Remove, Scan, PutIf}}
 use Rattle.mt_fields.specs.{Fields.string, Reading.{◌>>=◌, byte_at, number_at, string_at}}
-use Rattle.mt_fields.proofs.FieldLaws.{IsBytes, bind_some, guard_ended, choose, Takes, Takes-then, Takes-more, byte_takes, wide32, number_takes, string_takes, string_again}
-use Rattle.mt_wire.specs.{declared.message.Request.Request, declared.message.Request.TheVariants.{Open, Call, Settle}}
+use Rattle.mt_fields.proofs.FieldLaws.{IsBytes, bind_some, guard_ended, choose, Takes, Takes-then, Takes-more, byte_takes, wide32, number_takes, string_takes, string_again, number_again, wide64}
+use Rattle.mt_wire.specs.{declared.message.Request.Request, declared.message.Request.TheVariants.{Open, Call, Settle, GetStamped}}
 use Rattle.mt_wire.specs.Requests.{asked_columns, named_columns, start_flag, request_body, RequestFits, IsSpellable}
-use Rattle.mt_wire.specs.RequestReading.{start_at, asked_at, named_columns_at, open_at, get_at, put_at, remove_at, scan_at, kind_at, request_in}
+use Rattle.mt_wire.specs.RequestReading.{start_at, asked_at, named_columns_at, open_at, get_at, put_at, remove_at, scan_at, kind_at, request_in, get_stamped_at, put_if_at}
 use Rattle.mt_wire.proofs.{FrameLaws.AreMessages, RequestFields.{asked_takes, asked_again, named_columns_takes, named_columns_again, start_takes, start_again}}
 
 -- what was read behind the first byte
@@ -43,6 +43,32 @@ put_takes bytes x fits e =
     let both = Takes-then bytes (string a.0.0) a.0.1 (named_columns b.0.0) b.0.1 t.0 s.0 in
     let made : Request × Bytes = (Call (Put a.0.0 b.0.0), b.0.1) in
     subst (Reads 3 bytes) (same_Some made x b.2) (Takes-more 3 bytes (string a.0.0 ++ named_columns b.0.0) b.0.1 both, (t.1, s.1, s.2))
+
+put_if_takes : (bytes : Bytes) (x : Request × Bytes) → IsBytes bytes → put_if_at bytes ≡ Some x → Reads 8 bytes x
+unfolding put_if_at
+put_if_takes bytes x fits e =
+    let a = bind_some (string_at bytes) (λ key. number_at w64 key.1 >>= λ stamp. named_columns_at stamp.1 >>= λ cs. Some (Call (PutIf key.0 stamp.0 cs.0), cs.1)) x e in
+    let b = bind_some (number_at w64 a.0.1) (λ stamp. named_columns_at stamp.1 >>= λ cs. Some (Call (PutIf a.0.0 stamp.0 cs.0), cs.1)) x a.2 in
+    let d = bind_some (named_columns_at b.0.1) (λ cs. Some (Call (PutIf a.0.0 b.0.0 cs.0), cs.1)) x b.2 in
+    let t = string_takes bytes a.0.0 a.0.1 fits a.1 in
+    let s = number_takes w64 (2 ^ 64) wide64 a.0.1 b.0.0 b.0.1 t.0.rest_fits b.1 in
+    let u = named_columns_takes b.0.1 d.0.0 d.0.1 s.0.rest_fits d.1 in
+    let last = Takes-then a.0.1 (to_be_bytes w64 b.0.0) b.0.1 (named_columns d.0.0) d.0.1 s.0 u.0 in
+    let whole = Takes-then bytes (string a.0.0) a.0.1 (to_be_bytes w64 b.0.0 ++ named_columns d.0.0) d.0.1 t.0 last in
+    let made : Request × Bytes = (Call (PutIf a.0.0 b.0.0 d.0.0), d.0.1) in
+    subst (Reads 8 bytes) (same_Some made x d.2)
+    (Takes-more 8 bytes (string a.0.0 ++ (to_be_bytes w64 b.0.0 ++ named_columns d.0.0)) d.0.1 whole, (t.1, s.1, u.1, u.2))
+
+get_stamped_takes : (bytes : Bytes) (x : Request × Bytes) → IsBytes bytes → get_stamped_at bytes ≡ Some x → Reads 7 bytes x
+unfolding get_stamped_at
+get_stamped_takes bytes x fits e =
+    let a = bind_some (string_at bytes) (λ key. asked_at key.1 >>= λ columns. Some (GetStamped key.0 columns.0, columns.1)) x e in
+    let b = bind_some (asked_at a.0.1) (λ columns. Some (GetStamped a.0.0 columns.0, columns.1)) x a.2 in
+    let t = string_takes bytes a.0.0 a.0.1 fits a.1 in
+    let s = asked_takes a.0.1 b.0.0 b.0.1 t.0.rest_fits b.1 in
+    let both = Takes-then bytes (string a.0.0) a.0.1 (asked_columns b.0.0) b.0.1 t.0 s.0 in
+    let made : Request × Bytes = (GetStamped a.0.0 b.0.0, b.0.1) in
+    subst (Reads 7 bytes) (same_Some made x b.2) (Takes-more 7 bytes (string a.0.0 ++ asked_columns b.0.0) b.0.1 both, (t.1, s.1))
 
 remove_takes : (bytes : Bytes) (x : Request × Bytes) → IsBytes bytes → remove_at bytes ≡ Some x → Reads 4 bytes x
 unfolding remove_at
@@ -80,7 +106,9 @@ kind_takes kind bytes x fits e =
     choose (eqb kind 4) _ _ _ e4 (λ t h. at 4 t (remove_takes bytes x fits h)) (λ _ e5.
     choose (eqb kind 5) _ _ _ e5 (λ t h. at 5 t (scan_takes bytes x fits h)) (λ _ e6.
     choose (eqb kind 6) _ _ _ e6 (λ t h. at 6 t (subst (Reads 6 bytes) (same_Some (Settle, bytes) x h) (record { parts = refl; rest_fits = fits }, tt)))
-    (λ _ h. absurd cc))))))
+    (λ _ e7.
+    choose (eqb kind 7) _ _ _ e7 (λ t h. at 7 t (get_stamped_takes bytes x fits h)) (λ _ e8.
+    choose (eqb kind 8) _ _ _ e8 (λ t h. at 8 t (put_if_takes bytes x fits h)) (λ _ h. absurd cc))))))))
 
 -- what is read is spelled so
 pub request_takes : (bytes : Bytes) (r : Request) → IsBytes bytes → request_in bytes ≡ Some r → (bytes ≡ request_body r) × RequestFits r
@@ -97,12 +125,17 @@ request_takes bytes r fits e =
 
 -- what is spelled so is read
 pub request_again : (r : Request) → RequestFits r → request_in (request_body r) ≡ Some r
-unfolding request_in kind_at open_at get_at put_at remove_at scan_at
+unfolding request_in kind_at open_at get_at put_at put_if_at get_stamped_at remove_at scan_at
 request_again (Open tenant) fits = ap (λ (n : ℕ). Some (Open n)) (wide32.again tenant fits)
 request_again (Call (Get key columns)) fits =
     ap (λ (t : Bytes). request_in (2 ∷ (string key ++ t))) (sym (append-nil (asked_columns columns))) ∙ rw (string_again key (asked_columns columns ++ []) fits.0, asked_again columns []) refl
 request_again (Call (Put key cs)) fits =
     ap (λ (t : Bytes). request_in (3 ∷ (string key ++ t))) (sym (append-nil (named_columns cs))) ∙ rw (string_again key (named_columns cs ++ []) fits.0, named_columns_again cs [] fits.2) refl
+request_again (Call (PutIf key stamp cs)) fits =
+    ap (λ (t : Bytes). request_in (8 ∷ (string key ++ (to_be_bytes w64 stamp ++ t)))) (sym (append-nil (named_columns cs)))
+    ∙ rw (string_again key (to_be_bytes w64 stamp ++ (named_columns cs ++ [])) fits.0, number_again w64 (2 ^ 64) wide64 stamp (named_columns cs ++ []) fits.1, named_columns_again cs [] fits.3) refl
+request_again (GetStamped key columns) fits =
+    ap (λ (t : Bytes). request_in (7 ∷ (string key ++ t))) (sym (append-nil (asked_columns columns))) ∙ rw (string_again key (asked_columns columns ++ []) fits.0, asked_again columns []) refl
 request_again (Call (Remove key)) fits = ap (λ (t : Bytes). request_in (4 ∷ t)) (sym (append-nil (string key))) ∙ rw (string_again key [] fits) refl
 request_again (Call (Scan from after count columns)) fits =
     ap (λ (t : Bytes). request_in (5 ∷ start_flag after ∷ (string from ++ (count ∷ t)))) (sym (append-nil (asked_columns columns))) ∙ rw (start_again after (string from ++ (count ∷ (asked_columns columns ++ []))), string_again from (count ∷ (asked_columns columns ++ [])) fits.0, asked_again columns []) refl
@@ -112,6 +145,8 @@ some_body : (r : Request) → 1 ≤ length (request_body r)
 some_body (Open tenant) = omega arith
 some_body (Call (Get key columns)) = omega arith
 some_body (Call (Put key cs)) = omega arith
+some_body (Call (PutIf key stamp cs)) = omega arith
+some_body (GetStamped key columns) = omega arith
 some_body (Call (Remove key)) = omega arith
 some_body (Call (Scan from after count columns)) = omega arith
 some_body Settle = omega arith

@@ -1,10 +1,11 @@
 -- Reading a reply's body from left to right: for the functions that do it, whose callers see the spellings alone.
 use Rattle.std.specs.{Prelude.{ℕ, ◌-◌, Bool, ◌&&◌, List, length, Option, Some, None, nat_lt, ◌==◌, if◌then◌else◌}, List.list_all, Int.w64, Ordering.nat_cmp}
 use Rattle.std.specs.{Cmp.Lexicographic.slice_cmp, FinMap.is_sorted}
-use Rattle.mt_rows.specs.{Rows.{Bytes, Columns}, declared.reply.Reply.TheVariants.{Absent, Found, New, Replaced, Full, Removed, Pairs, NoMemory}}
+use Rattle.mt_rows.specs.Rows.{Bytes, Columns}
 use Rattle.mt_fields.specs.Reading.{◌>>=◌, byte_at, number_at, string_at, each_at}
 use Rattle.mt_row_fields.specs.Reading.{row_at}
 use Rattle.mt_wire.specs.{declared.message.WireReply.WireReply, declared.message.WireReply.TheVariants.{Opened, Told, Settled, Refused}}
+use Rattle.mt_wire.specs.declared.message.Shown.TheVariants.{Absent, FoundStamped, Found, Full, New, NoMemory, Pairs, Removed, Replaced, Stale}
 
 -- whether a scan may show these pairs
 abbrev pub are_pairs : List (Bytes × Columns) → Bool
@@ -24,11 +25,22 @@ pairs_at bytes = do
   pairs ← each_at pair_at n.0 n.1
   if are_pairs pairs.0 then Some pairs else None
 
--- the fields of a row found, of a scan's pairs and of a number
+-- the fields of a row found, with its stamp or without, of a stamp, of a scan's pairs and of a number
 unfoldable pub found_at : Bytes → Option (WireReply × Bytes)
 found_at bytes = do
   row ← row_at bytes
   Some (Told (Found row.0), row.1)
+
+unfoldable pub found_stamped_at : Bytes → Option (WireReply × Bytes)
+found_stamped_at bytes = do
+  stamp ← number_at w64 bytes
+  row ← row_at stamp.1
+  Some (Told (FoundStamped (record { stamp = stamp.0; row = row.0 })), row.1)
+
+unfoldable pub stale_at : Bytes → Option (WireReply × Bytes)
+stale_at bytes = do
+  stamp ← number_at w64 bytes
+  Some (Told (Stale stamp.0), stamp.1)
 
 unfoldable pub scanned_at : Bytes → Option (WireReply × Bytes)
 scanned_at bytes = do
@@ -53,6 +65,8 @@ reply_kind_at kind rest =
     if kind == 7 then settled_at rest else
     if kind == 8 then Some (Told Full, rest) else
     if kind == 9 then Some (Told NoMemory, rest) else
+    if kind == 10 then found_stamped_at rest else
+    if kind == 11 then stale_at rest else
     if nat_lt 128 kind then Some (Refused (kind - 128), rest) else None
 
 -- a reply that takes all of the bytes

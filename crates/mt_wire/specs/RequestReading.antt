@@ -1,8 +1,8 @@
 -- Reading a request's body from left to right: for the functions that do it, whose callers see the spellings alone.
-use Rattle.std.specs.{Prelude.{ℕ, zero, suc, Bool, true, false, List, [], ◌∷◌, length, Option, Some, None, ◌==◌, if◌then◌else◌}, Int.w32}
-use Rattle.mt_rows.specs.{Rows.Bytes, Changes.Named, declared.command.Command.TheVariants.{Get, Put, Remove, Scan}}
+use Rattle.std.specs.{Prelude.{ℕ, zero, suc, Bool, true, false, List, [], ◌∷◌, length, Option, Some, None, ◌==◌, if◌then◌else◌}, Int.{w32, w64}}
+use Rattle.mt_rows.specs.{Rows.Bytes, Changes.Named, declared.command.Command.TheVariants.{Get, Put, Remove, Scan, PutIf}}
 use Rattle.mt_fields.specs.Reading.{◌>>=◌, byte_at, number_at, taken_at, string_at, each_at}
-use Rattle.mt_wire.specs.{declared.message.Request.Request, declared.message.Request.TheVariants.{Open, Call, Settle}}
+use Rattle.mt_wire.specs.{declared.message.Request.Request, declared.message.Request.TheVariants.{Open, Call, Settle, GetStamped}}
 
 -- where a scan starts
 abbrev pub start_at : Bytes → Option (Bool × Bytes)
@@ -48,6 +48,19 @@ put_at bytes = do
   cs ← named_columns_at key.1
   Some (Call (Put key.0 cs.0), cs.1)
 
+unfoldable pub put_if_at : Bytes → Option (Request × Bytes)
+put_if_at bytes = do
+  key ← string_at bytes
+  stamp ← number_at w64 key.1
+  cs ← named_columns_at stamp.1
+  Some (Call (PutIf key.0 stamp.0 cs.0), cs.1)
+
+unfoldable pub get_stamped_at : Bytes → Option (Request × Bytes)
+get_stamped_at bytes = do
+  key ← string_at bytes
+  columns ← asked_at key.1
+  Some (GetStamped key.0 columns.0, columns.1)
+
 unfoldable pub remove_at : Bytes → Option (Request × Bytes)
 remove_at bytes = do
   key ← string_at bytes
@@ -69,7 +82,9 @@ kind_at kind rest =
     if kind == 3 then put_at rest else
     if kind == 4 then remove_at rest else
     if kind == 5 then scan_at rest else
-    if kind == 6 then Some (Settle, rest) else None
+    if kind == 6 then Some (Settle, rest) else
+    if kind == 7 then get_stamped_at rest else
+    if kind == 8 then put_if_at rest else None
 
 -- a request that takes all of the bytes
 unfoldable pub request_in : Bytes → Option Request

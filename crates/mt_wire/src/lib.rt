@@ -13,7 +13,7 @@ pub mod requests;
 pub mod writing;
 
 pub use fault::EncodeFault;
-pub use message::{Front, RefusalNumber, ReplyFront, Request, WireReply};
+pub use message::{Front, RefusalNumber, ReplyFront, Request, Shown, WireReply};
 pub use replies::{decode_reply, encode};
 pub use requests::{decode, encode_request};
 pub use writing::write_reply;

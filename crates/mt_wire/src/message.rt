@@ -2,9 +2,9 @@
 
 ghost use Rattle.std.specs.Prelude.{◌≡◌};
 ghost use Rattle.mt_rows.specs.Refusals.{number_of};
-ghost use Rattle.mt_wire.specs.Replies.{IsRefusalNumber};
+ghost use Rattle.mt_wire.specs.{Replies.IsRefusalNumber, Asked.shown_as};
 
-use mt_rows::{Command, Refusal, Reply};
+use mt_rows::{ColumnIndexes, Command, Key, Refusal, Reply, Row, ShownPairs, StampedRow};
 use std::marker::Model;
 
 /// What a client asks.
@@ -12,10 +12,48 @@ use std::marker::Model;
 pub enum Request {
     /// To be served as this tenant.
     Open(u32),
-    /// A command of the opened tenant.
+    /// A command of the opened tenant, whose reply shows no stamp of a row.
     Call(Command),
+    /// A get of the opened tenant whose reply shows the row's stamp.
+    GetStamped { key: Key, columns: ColumnIndexes },
     /// That all that was answered be kept.
     Settle,
+}
+
+/// What is told of a command: a reply, with the stamps that its frame shows.
+#[derive(Debug, Drop)]
+pub enum Shown {
+    Absent,
+    Found(Row),
+    FoundStamped(StampedRow),
+    New,
+    Replaced,
+    Full,
+    Removed,
+    Stale(u64),
+    Pairs(ShownPairs),
+    NoMemory,
+}
+
+impl Shown {
+    /// What is told for a reply: a row that was found with its stamp or without, pairs without. It takes
+    /// no memory.
+    pub fn of(reply: Reply, stamps: bool) -> Shown
+        ensures { result ≡ shown_as stamps reply }
+    {
+        match reply {
+            Reply::Absent => Shown::Absent,
+            Reply::Found(row) if stamps => Shown::FoundStamped(row),
+            Reply::Found(StampedRow { row, .. }) => Shown::Found(row),
+            Reply::New => Shown::New,
+            Reply::Replaced => Shown::Replaced,
+            Reply::Full => Shown::Full,
+            Reply::Removed => Shown::Removed,
+            Reply::Stale(stamp) => Shown::Stale(stamp),
+            Reply::Pairs(pairs) => Shown::Pairs(ShownPairs::of(pairs)),
+            Reply::NoMemory => Shown::NoMemory,
+        }
+    }
 }
 
 /// What a client is told.
@@ -24,7 +62,7 @@ pub enum WireReply {
     /// The tenant is opened.
     Opened,
     /// The reply to a command.
-    Told(Reply),
+    Told(Shown),
     /// All up to this number is kept.
     Settled(u64),
     /// Why not.
@@ -53,6 +91,7 @@ impl Model for RefusalNumber {
     ghost Value = { ℕ };
 
     ghost use Rattle.mt_wire.specs.Replies.{IsRefusalNumber};
+    ghost use Rattle.mt_wire.specs.Asked.{shown_as, shows_stamps};
 
     ghost view = { λ n. n.number };
 

@@ -1,18 +1,19 @@
 //! Replies as bytes.
 
-ghost use Rattle.std.specs.Prelude.{◌≡◌, ◌++◌, length, take, IfOk, OnOk, OnErr};
+ghost use Rattle.std.specs.Prelude.{◌≡◌, ◌++◌, length, map, take, IfOk, OnOk, OnErr};
+ghost use Rattle.mt_rows.specs.Stamps.{unstamped};
 ghost use Rattle.mt_fields.specs.Reading.{Gives, each_at};
 ghost use Rattle.mt_wire.specs.{Replies.reply_spelling, Fronts.IsReplyFront};
-ghost use Rattle.mt_wire.specs.ReplyReading.{pair_at, pairs_at, found_at, scanned_at, settled_at, reply_kind_at, reply_in};
+ghost use Rattle.mt_wire.specs.ReplyReading.{pair_at, pairs_at, found_at, scanned_at, settled_at, reply_kind_at, reply_in, found_stamped_at, stale_at};
 
 use crate::fault::DecodeFault;
 use crate::frame::{Announced, LENGTH_BYTES, read_length};
-use crate::message::{RefusalNumber, ReplyFront, WireReply};
+use crate::message::{RefusalNumber, ReplyFront, Shown, WireReply};
 use crate::writing::write_reply;
 use bytes::BytesMut;
 use mt_fields::{string_of, u8_at, u64_at};
 use mt_row_fields::row_of;
-use mt_rows::{Key, PairList, Reply, Row};
+use mt_rows::{Key, PairList, ShownPairs, StampedRow};
 use mt_streams::flush;
 use std::alloc::{AllocError, Global};
 use std::io;
@@ -65,17 +66,21 @@ pub fn decode_reply(alloc: Global, bytes: &[u8]) -> Result<ReplyFront, AllocErro
 }
 
 #[tactic(auto, unfolding(crate::specs::ReplyReading::pair_at))]
-fn pair_of(alloc: Global, bytes: &[u8]) -> Result<((Key, Row), &[u8]), DecodeFault>
-    ensures { Gives (λ x. (x.0, x.1.now)) result (pair_at bytes.now) }
+fn pair_of(alloc: Global, bytes: &[u8]) -> Result<((Key, StampedRow), &[u8]), DecodeFault>
+    ensures { Gives (λ x. (unstamped x.0, x.1.now)) result (pair_at bytes.now) }
 {
     let (key, rest) = string_of(alloc, bytes)?;
     let key = Key::new(key);
     let (row, rest) = row_of(alloc, rest)?;
-    Ok(((key, row), rest))
+    Ok(((key, StampedRow { stamp: 0, row }), rest))
 }
 
-fn list_of(alloc: Global, count: u8, bytes: &[u8]) -> Result<(Vec<(Key, Row)>, &[u8]), DecodeFault>
-    ensures { Gives (λ x. (x.0.items, x.1.now)) result (each_at pair_at count bytes.now) }
+fn list_of(
+    alloc: Global,
+    count: u8,
+    bytes: &[u8],
+) -> Result<(Vec<(Key, StampedRow)>, &[u8]), DecodeFault>
+    ensures { Gives (λ x. (map unstamped x.0.items, x.1.now)) result (each_at pair_at count bytes.now) }
 {
     let mut pairs = Vec::with_capacity(alloc, usize::from(count))?;
     let mut rest = bytes;
@@ -88,7 +93,7 @@ fn list_of(alloc: Global, count: u8, bytes: &[u8]) -> Result<(Vec<(Key, Row)>, &
 }
 
 #[tactic(auto, using(crate::proofs::Tests::pairs_tests), unfolding(crate::specs::ReplyReading::pairs_at))]
-fn pairs_of(alloc: Global, bytes: &[u8]) -> Result<(PairList, &[u8]), DecodeFault>
+fn pairs_of(alloc: Global, bytes: &[u8]) -> Result<(ShownPairs, &[u8]), DecodeFault>
     ensures { Gives (λ x. (x.0, x.1.now)) result (pairs_at bytes.now) }
 {
     let (count, rest) = u8_at(bytes)?;
@@ -96,7 +101,7 @@ fn pairs_of(alloc: Global, bytes: &[u8]) -> Result<(PairList, &[u8]), DecodeFaul
     if !PairList::fits(&pairs) {
         return Err(DecodeFault::Bad);
     }
-    Ok((PairList::new(pairs), rest))
+    Ok((ShownPairs::of(PairList::new(pairs)), rest))
 }
 
 #[tactic(auto, unfolding(crate::specs::ReplyReading::found_at))]
@@ -104,7 +109,27 @@ fn found_of(alloc: Global, bytes: &[u8]) -> Result<(WireReply, &[u8]), DecodeFau
     ensures { Gives (λ x. (x.0, x.1.now)) result (found_at bytes.now) }
 {
     let (row, rest) = row_of(alloc, bytes)?;
-    Ok((WireReply::Told(Reply::Found(row)), rest))
+    Ok((WireReply::Told(Shown::Found(row)), rest))
+}
+
+#[tactic(auto, unfolding(crate::specs::ReplyReading::found_stamped_at))]
+fn found_stamped_of(alloc: Global, bytes: &[u8]) -> Result<(WireReply, &[u8]), DecodeFault>
+    ensures { Gives (λ x. (x.0, x.1.now)) result (found_stamped_at bytes.now) }
+{
+    let (stamp, rest) = u64_at(bytes)?;
+    let (row, rest) = row_of(alloc, rest)?;
+    Ok((
+        WireReply::Told(Shown::FoundStamped(StampedRow { stamp, row })),
+        rest,
+    ))
+}
+
+#[tactic(auto, unfolding(crate::specs::ReplyReading::stale_at))]
+fn stale_of(bytes: &[u8]) -> Result<(WireReply, &[u8]), DecodeFault>
+    ensures { Gives (λ x. (x.0, x.1.now)) result (stale_at bytes.now) }
+{
+    let (stamp, rest) = u64_at(bytes)?;
+    Ok((WireReply::Told(Shown::Stale(stamp)), rest))
 }
 
 #[tactic(auto, unfolding(crate::specs::ReplyReading::scanned_at))]
@@ -112,7 +137,7 @@ fn scanned_of(alloc: Global, bytes: &[u8]) -> Result<(WireReply, &[u8]), DecodeF
     ensures { Gives (λ x. (x.0, x.1.now)) result (scanned_at bytes.now) }
 {
     let (pairs, rest) = pairs_of(alloc, bytes)?;
-    Ok((WireReply::Told(Reply::Pairs(pairs)), rest))
+    Ok((WireReply::Told(Shown::Pairs(pairs)), rest))
 }
 
 #[tactic(auto, unfolding(crate::specs::ReplyReading::settled_at))]
@@ -129,16 +154,18 @@ fn kind_of(alloc: Global, kind: u8, rest: &[u8]) -> Result<(WireReply, &[u8]), D
 {
     match kind {
         0 => Ok((WireReply::Opened, rest)),
-        1 => Ok((WireReply::Told(Reply::Absent), rest)),
+        1 => Ok((WireReply::Told(Shown::Absent), rest)),
         2 => found_of(alloc, rest),
-        3 => Ok((WireReply::Told(Reply::New), rest)),
-        4 => Ok((WireReply::Told(Reply::Replaced), rest)),
-        5 => Ok((WireReply::Told(Reply::Removed), rest)),
+        3 => Ok((WireReply::Told(Shown::New), rest)),
+        4 => Ok((WireReply::Told(Shown::Replaced), rest)),
+        5 => Ok((WireReply::Told(Shown::Removed), rest)),
         6 => scanned_of(alloc, rest),
         7 => settled_of(rest),
-        8 => Ok((WireReply::Told(Reply::Full), rest)),
-        9 => Ok((WireReply::Told(Reply::NoMemory), rest)),
-        10..=128 => Err(DecodeFault::Bad),
+        8 => Ok((WireReply::Told(Shown::Full), rest)),
+        9 => Ok((WireReply::Told(Shown::NoMemory), rest)),
+        10 => found_stamped_of(alloc, rest),
+        11 => stale_of(rest),
+        12..=128 => Err(DecodeFault::Bad),
         129..=255 => Ok((WireReply::Refused(RefusalNumber::new(kind - 128)), rest)),
     }
 }

@@ -1,15 +1,18 @@
 //! Requests as bytes.
 
-ghost use Rattle.std.specs.{Prelude.{◌≡◌, ◌↔◌, ◌≤◌, ◌<◌, ◌*◌, ◌^◌, ◌++◌, length, take, IsTrue, IfOk, IsOk, OnOk, OnErr}, List.All};
-ghost use Rattle.mt_fields.specs.Reading.{Gives, each_at};
+ghost use Rattle.std.specs.{Prelude.{◌≡◌, ◌↔◌, ◌≤◌, ◌<◌, ◌*◌, ◌^◌, ◌++◌, length, take, IsTrue, IfOk, IsOk, OnOk, OnErr, ◌∷◌}, List.All};
+ghost use Rattle.mt_fields.specs.{Reading.{Gives, each_at}, Fields.string};
 ghost use Rattle.mt_wire.specs.Requests.{asked_columns, named_column, named_columns, command_body, request_body, spelling, CommandFits, RequestFits, IsSpellable};
-ghost use Rattle.mt_wire.specs.RequestReading.{start_at, asked_at, named_column_at, named_columns_at, open_at, get_at, put_at, remove_at, scan_at, kind_at, request_in};
+ghost use Rattle.mt_wire.specs.RequestReading.{start_at, asked_at, named_column_at, named_columns_at, open_at, get_at, put_at, remove_at, scan_at, kind_at, request_in, get_stamped_at, put_if_at};
 ghost use Rattle.mt_wire.specs.Fronts.{IsFront};
+ghost use Rattle.mt_rows.specs.declared.command.Command.{Command};
 
 use crate::fault::{DecodeFault, EncodeFault};
 use crate::frame::{Announced, LENGTH_BYTES, put_length, read_length};
 use crate::message::{Front, Request};
-use mt_fields::{put_string, put_u32, slice_of, string_of, text_of, u8_at, u32_at};
+use mt_fields::{
+    put_string, put_u32, put_u64, slice_of, string_of, text_of, u8_at, u32_at, u64_at,
+};
 use mt_rows::{Column, ColumnIndexes, Command, Key, NamedColumns};
 use std::alloc::{AllocError, Global};
 
@@ -151,6 +154,27 @@ fn put_of(alloc: Global, bytes: &[u8]) -> Result<(Request, &[u8]), DecodeFault>
     Ok((Request::Call(Command::Put { key, change }), rest))
 }
 
+#[tactic(auto, unfolding(crate::specs::RequestReading::put_if_at))]
+fn put_if_of(alloc: Global, bytes: &[u8]) -> Result<(Request, &[u8]), DecodeFault>
+    ensures { Gives (λ x. (x.0, x.1.now)) result (put_if_at bytes.now) }
+{
+    let (key, rest) = string_of(alloc, bytes)?;
+    let key = Key::new(key);
+    let (stamp, rest) = u64_at(rest)?;
+    let (change, rest) = named_columns_of(alloc, rest)?;
+    Ok((Request::Call(Command::PutIf { key, stamp, change }), rest))
+}
+
+#[tactic(auto, unfolding(crate::specs::RequestReading::get_stamped_at))]
+fn get_stamped_of(alloc: Global, bytes: &[u8]) -> Result<(Request, &[u8]), DecodeFault>
+    ensures { Gives (λ x. (x.0, x.1.now)) result (get_stamped_at bytes.now) }
+{
+    let (key, rest) = string_of(alloc, bytes)?;
+    let key = Key::new(key);
+    let (columns, rest) = asked_of(alloc, rest)?;
+    Ok((Request::GetStamped { key, columns }, rest))
+}
+
 #[tactic(auto, unfolding(crate::specs::RequestReading::remove_at))]
 fn remove_of(alloc: Global, bytes: &[u8]) -> Result<(Request, &[u8]), DecodeFault>
     ensures { Gives (λ x. (x.0, x.1.now)) result (remove_at bytes.now) }
@@ -189,6 +213,8 @@ fn kind_of(alloc: Global, kind: u8, rest: &[u8]) -> Result<(Request, &[u8]), Dec
         4 => remove_of(alloc, rest),
         5 => scan_of(alloc, rest),
         6 => Ok((Request::Settle, rest)),
+        7 => get_stamped_of(alloc, rest),
+        8 => put_if_of(alloc, rest),
         _ => Err(DecodeFault::Bad),
     }
 }
@@ -215,10 +241,15 @@ fn fields_fit(request: &Request) -> bool
             let _tenant = *tenant;
             true
         }
-        Request::Call(Command::Get { key, columns }) => {
+        Request::Call(Command::Get { key, columns }) | Request::GetStamped { key, columns } => {
             string_fits(key.as_bytes()) && columns.as_slice().len() < 256
         }
         Request::Call(Command::Put { key, change }) => {
+            string_fits(key.as_bytes()) && columns_fit(change.as_slice())
+        }
+        Request::Call(Command::PutIf { key, stamp, change }) => {
+            // Read, so that the proof knows its range.
+            let _stamp = *stamp;
             string_fits(key.as_bytes()) && columns_fit(change.as_slice())
         }
         Request::Call(Command::Remove { key }) => string_fits(key.as_bytes()),
@@ -251,11 +282,14 @@ fn body_len(request: &Request) -> usize
 {
     match request {
         Request::Open(_) => 5,
-        Request::Call(Command::Get { key, columns }) => {
+        Request::Call(Command::Get { key, columns }) | Request::GetStamped { key, columns } => {
             4 + key.as_bytes().len() + columns.as_slice().len()
         }
         Request::Call(Command::Put { key, change }) => {
             3 + key.as_bytes().len() + named_len(change.as_slice())
+        }
+        Request::Call(Command::PutIf { key, change, .. }) => {
+            11 + key.as_bytes().len() + named_len(change.as_slice())
         }
         Request::Call(Command::Remove { key }) => 3 + key.as_bytes().len(),
         Request::Call(Command::Scan { from, columns, .. }) => {
@@ -292,6 +326,7 @@ fn put_request(out: &mut Vec<u8>, request: &Request) -> Result<(), AllocError>
             put_u32(out, *tenant)
         }
         Request::Call(command) => put_command(out, command),
+        Request::GetStamped { key, columns } => put_get(out, 7, key, columns),
         Request::Settle => {
             out.push(6)?;
             Ok(())
@@ -306,16 +341,13 @@ fn put_command(out: &mut Vec<u8>, command: &Command) -> Result<(), AllocError>
     ensures front { take (length out.old.items) out.new.items ≡ out.old.items }
 {
     match command {
-        Command::Get { key, columns } => {
-            out.push(2)?;
-            put_string(out, key.as_bytes())?;
-            put_indexes(out, columns.as_slice())
-        }
+        Command::Get { key, columns } => put_get(out, 2, key, columns),
         Command::Put { key, change } => {
             out.push(3)?;
             put_string(out, key.as_bytes())?;
             put_named_columns(out, change.as_slice())
         }
+        Command::PutIf { key, stamp, change } => put_put_if(out, key, *stamp, change),
         Command::Remove { key } => {
             out.push(4)?;
             put_string(out, key.as_bytes())
@@ -332,6 +364,40 @@ fn put_command(out: &mut Vec<u8>, command: &Command) -> Result<(), AllocError>
             put_indexes(out, columns.as_slice())
         }
     }
+}
+
+// The body of a get's frame, by its first byte.
+fn put_get(
+    out: &mut Vec<u8>,
+    kind: u8,
+    key: &Key,
+    columns: &ColumnIndexes,
+) -> Result<(), AllocError>
+    requires key { length key.now < 2 ^ 16 }
+    requires columns { length columns.now < 2 ^ 8 }
+    ensures ok { OnOk result (out.new.items ≡ out.old.items ++ (kind ∷ (string key.now ++ asked_columns columns.now))) }
+    ensures front { take (length out.old.items) out.new.items ≡ out.old.items }
+{
+    out.push(kind)?;
+    put_string(out, key.as_bytes())?;
+    put_indexes(out, columns.as_slice())
+}
+
+// The body of a put's frame that asks for a stamp.
+fn put_put_if(
+    out: &mut Vec<u8>,
+    key: &Key,
+    stamp: u64,
+    change: &NamedColumns,
+) -> Result<(), AllocError>
+    requires { CommandFits (Command.PutIf key.now stamp change.now) }
+    ensures ok { OnOk result (out.new.items ≡ out.old.items ++ command_body (Command.PutIf key.now stamp change.now)) }
+    ensures front { take (length out.old.items) out.new.items ≡ out.old.items }
+{
+    out.push(8)?;
+    put_string(out, key.as_bytes())?;
+    put_u64(out, stamp)?;
+    put_named_columns(out, change.as_slice())
 }
 
 // The indexes of columns that are asked for.

@@ -8,12 +8,12 @@ ghost use Rattle.mt_rows.specs.{Rows.IsRow, Limits.ArePairs};
 ghost use Rattle.mt_fields.specs.Fields.{string};
 ghost use Rattle.mt_row_fields.specs.Format.{row_bytes};
 ghost use Rattle.mt_streams.specs.Buffering.{Puts};
-ghost use Rattle.mt_wire.specs.Replies.{shown_pair, reply_spelling};
+ghost use Rattle.mt_wire.specs.Replies.{shown_pair, shown_stamped, reply_spelling};
 
-use crate::message::WireReply;
+use crate::message::{Shown, WireReply};
 use bytes::BytesMut;
 use mt_row_fields::row_len;
-use mt_rows::{Column, Key, Reply, Row};
+use mt_rows::{Column, Key, Row, StampedRow};
 use mt_streams::{Sink, write_buffered};
 use std::io;
 
@@ -28,23 +28,25 @@ pub fn write_reply<W: Sink>(
     match reply {
         WireReply::Opened => write_code(0, buffer, writer),
         WireReply::Told(reply) => write_told(reply, buffer, writer),
-        WireReply::Settled(number) => write_settled(*number, buffer, writer),
+        WireReply::Settled(number) => write_number(7, *number, buffer, writer),
         WireReply::Refused(number) => write_code(128 + number.get(), buffer, writer),
     }
 }
 
-fn write_told<W: Sink>(reply: &Reply, buffer: &mut BytesMut, writer: &mut W) -> io::Result<()>
+fn write_told<W: Sink>(reply: &Shown, buffer: &mut BytesMut, writer: &mut W) -> io::Result<()>
     ensures { Puts (W.contents writer.old) (W.contents writer.new) (W.failures writer.old) (W.failures writer.new) buffer.old.items buffer.new.items (reply_spelling (WireReply.Told reply.now)) result }
 {
     match reply {
-        Reply::Absent => write_code(1, buffer, writer),
-        Reply::Found(row) => write_found(row, buffer, writer),
-        Reply::New => write_code(3, buffer, writer),
-        Reply::Replaced => write_code(4, buffer, writer),
-        Reply::Removed => write_code(5, buffer, writer),
-        Reply::Pairs(pairs) => write_pairs(pairs.as_slice(), buffer, writer),
-        Reply::Full => write_code(8, buffer, writer),
-        Reply::NoMemory => write_code(9, buffer, writer),
+        Shown::Absent => write_code(1, buffer, writer),
+        Shown::Found(row) => write_found(row, buffer, writer),
+        Shown::FoundStamped(row) => write_found_stamped(row, buffer, writer),
+        Shown::New => write_code(3, buffer, writer),
+        Shown::Replaced => write_code(4, buffer, writer),
+        Shown::Removed => write_code(5, buffer, writer),
+        Shown::Pairs(pairs) => write_pairs(pairs.as_slice(), buffer, writer),
+        Shown::Full => write_code(8, buffer, writer),
+        Shown::NoMemory => write_code(9, buffer, writer),
+        Shown::Stale(stamp) => write_number(11, *stamp, buffer, writer),
     }
 }
 
@@ -55,12 +57,30 @@ fn write_code<W: Sink>(code: u8, buffer: &mut BytesMut, writer: &mut W) -> io::R
     write_buffered(buffer, writer, &[0, 0, 0, 1, code])
 }
 
-// The frame of a number.
-fn write_settled<W: Sink>(number: u64, buffer: &mut BytesMut, writer: &mut W) -> io::Result<()>
-    ensures { Puts (W.contents writer.old) (W.contents writer.new) (W.failures writer.old) (W.failures writer.new) buffer.old.items buffer.new.items (0 ∷ 0 ∷ 0 ∷ 9 ∷ 7 ∷ to_be_bytes w64 number) result }
+// The frame of a number, by its first byte.
+fn write_number<W: Sink>(
+    kind: u8,
+    number: u64,
+    buffer: &mut BytesMut,
+    writer: &mut W,
+) -> io::Result<()>
+    ensures { Puts (W.contents writer.old) (W.contents writer.new) (W.failures writer.old) (W.failures writer.new) buffer.old.items buffer.new.items (0 ∷ 0 ∷ 0 ∷ 9 ∷ kind ∷ to_be_bytes w64 number) result }
 {
-    write_buffered(buffer, writer, &[0, 0, 0, 9, 7])?;
+    write_buffered(buffer, writer, &[0, 0, 0, 9, kind])?;
     write_buffered(buffer, writer, &number.to_be_bytes())
+}
+
+// The frame of a row found, with its stamp.
+fn write_found_stamped<W: Sink>(
+    found: &StampedRow,
+    buffer: &mut BytesMut,
+    writer: &mut W,
+) -> io::Result<()>
+    ensures { Puts (W.contents writer.old) (W.contents writer.new) (W.failures writer.old) (W.failures writer.new) buffer.old.items buffer.new.items (reply_spelling (WireReply.Told (Shown.FoundStamped found.now))) result }
+{
+    write_length(9 + row_len(&found.row), 10, buffer, writer)?;
+    write_buffered(buffer, writer, &found.stamp.to_be_bytes())?;
+    write_columns(found.row.columns(), buffer, writer)
 }
 
 // The frame of a row found.
@@ -73,30 +93,30 @@ fn write_found<W: Sink>(found: &Row, buffer: &mut BytesMut, writer: &mut W) -> i
 
 // The frame of a scan's pairs.
 fn write_pairs<W: Sink>(
-    pairs: &[(Key, Row)],
+    pairs: &[(Key, StampedRow)],
     buffer: &mut BytesMut,
     writer: &mut W,
 ) -> io::Result<()>
     requires { ArePairs pairs.now }
-    ensures { Puts (W.contents writer.old) (W.contents writer.new) (W.failures writer.old) (W.failures writer.new) buffer.old.items buffer.new.items (to_be_bytes w32 (length (6 ∷ length pairs.now ∷ flat_map shown_pair pairs.now)) ++ 6 ∷ length pairs.now ∷ flat_map shown_pair pairs.now) result }
+    ensures { Puts (W.contents writer.old) (W.contents writer.new) (W.failures writer.old) (W.failures writer.new) buffer.old.items buffer.new.items (to_be_bytes w32 (length (6 ∷ length pairs.now ∷ flat_map shown_stamped pairs.now)) ++ 6 ∷ length pairs.now ∷ flat_map shown_stamped pairs.now) result }
 {
     write_length(2 + pairs_len(pairs), 6, buffer, writer)?;
     write_buffered(buffer, writer, &[pairs.len() as u8])?;
     for pair in pairs {
-        write_pair(&pair.0, &pair.1, buffer, writer)?;
+        write_pair(&pair.0, &pair.1.row, buffer, writer)?;
     }
     Ok(())
 }
 
 // How many bytes a scan's pairs are spelled with.
-fn pairs_len(pairs: &[(Key, Row)]) -> usize
+fn pairs_len(pairs: &[(Key, StampedRow)]) -> usize
     requires { ArePairs pairs.now }
-    ensures exact { result ≡ length (flat_map shown_pair pairs.now) }
+    ensures exact { result ≡ length (flat_map shown_stamped pairs.now) }
     ensures few { result ≤ 64 * 16670 }
 {
     let mut len = 0;
     for pair in pairs {
-        len += 2 + pair.0.as_bytes().len() + row_len(&pair.1);
+        len += 2 + pair.0.as_bytes().len() + row_len(&pair.1.row);
     }
     len
 }
