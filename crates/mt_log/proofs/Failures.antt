@@ -20,7 +20,7 @@ end_with c b =
 
 module _ {D : Type 0} (is_honest : D → Bool) (state : D → DiskState) (failures : D → ℕ) where
   -- an append failed on a log at rest
-  pub failed_log : (old : LogFile D) (log : FailedLog D) (c : Contents) (b : LogBatch) → IsTrue (is_honest old.disk) → IsLogBatch b → IsLogOf state c old
+  pub failed_log : (old : LogFile D) (log : FailedLog D) (c : Contents) (b : LogBatch) → IsTrue (is_honest old.disk) → IsLogBatch c.version b → IsLogOf state c old
       → FailedAt is_honest state failures old b log → IsFailedLogOf state c b (state old.disk) log
   failed_log old log c b honest batch has f =
       let end = has.rest.end in

@@ -25,17 +25,17 @@ end_more mark [] b = refl
 end_more mark (x ∷ bs) b = end_more (to_of x) bs b
 
 -- batches in the format, and one more
-pub each_more : (bs : List LogBatch) (b : LogBatch) → AllByRecursion IsLogBatch bs → IsLogBatch b → AllByRecursion IsLogBatch (bs ++ b ∷ [])
-each_more [] b each is = (is, tt)
-each_more (x ∷ bs) b each is = (each.0, each_more bs b each.1 is)
+pub each_more : (version : ℕ) (bs : List LogBatch) (b : LogBatch) → AllByRecursion (IsLogBatch version) bs → IsLogBatch version b → AllByRecursion (IsLogBatch version) (bs ++ b ∷ [])
+each_more version [] b each is = (is, tt)
+each_more version (x ∷ bs) b each is = (each.0, each_more version bs b each.1 is)
 
-each_front : (bs : List LogBatch) (b : LogBatch) → AllByRecursion IsLogBatch (bs ++ b ∷ []) → AllByRecursion IsLogBatch bs
-each_front [] b each = tt
-each_front (x ∷ bs) b each = (each.0, each_front bs b each.1)
+each_front : (version : ℕ) (bs : List LogBatch) (b : LogBatch) → AllByRecursion (IsLogBatch version) (bs ++ b ∷ []) → AllByRecursion (IsLogBatch version) bs
+each_front version [] b each = tt
+each_front version (x ∷ bs) b each = (each.0, each_front version bs b each.1)
 
 -- a batch that an append takes is in the format, and rises
-pub in_format : (b : Batch) → IsBatch b → IsLogBatch (Records b)
-in_format b is =
+pub in_format : (b : Batch) → IsBatch b → (version : ℕ) → IsLogBatch version (Records b)
+in_format b is version =
     let order = is.order in
     let last = is.last in
     record { first = omega arith; last = is.last; each = is.records.each; few = is.few; short = is.short }
@@ -43,77 +43,78 @@ in_format b is =
 pub batch_in_order : (b : Batch) → IsBatch b → Rises (Records b)
 batch_in_order b is = (is.order, record { rising = is.records.limits.stamps; within = is.records.within })
 
-pub in_steps : (from to kept : ℕ) → from ≤ to → to ≤ 2 ^ 59 → kept ≤ to → IsLogBatch (Resume from to kept)
-in_steps from to kept order last small = record { first = omega arith; last = last; past = omega arith }
+pub in_steps : (from to kept : ℕ) → from ≤ to → to ≤ 2 ^ 59 → kept ≤ to → (version : ℕ) → IsLogBatch version (Resume from to kept)
+in_steps from to kept order last small version = record { first = omega arith; last = last; past = omega arith }
 
-each_last : (bs : List LogBatch) (b : LogBatch) → AllByRecursion IsLogBatch (bs ++ b ∷ []) → IsLogBatch b
-each_last [] b each = each.0
-each_last (x ∷ bs) b each = each_last bs b each.1
+each_last : (version : ℕ) (bs : List LogBatch) (b : LogBatch) → AllByRecursion (IsLogBatch version) (bs ++ b ∷ []) → IsLogBatch version b
+each_last version [] b each = each.0
+each_last version (x ∷ bs) b each = each_last version bs b each.1
 
 pub contents_front : (c : Contents) (b : LogBatch) → IsContents (with_batch b c) → IsContents c
-contents_front c b is = record { worker = is.worker; logs = is.logs; batches = each_front c.batches b is.batches }
+contents_front c b is = record { version = is.version; worker = is.worker; logs = is.logs; batches = each_front c.version c.batches b is.batches }
 
-pub added_in_format : (c : Contents) (b : LogBatch) → IsContents (with_batch b c) → IsLogBatch b
-added_in_format c b is = each_last c.batches b is.batches
+pub added_in_format : (c : Contents) (b : LogBatch) → IsContents (with_batch b c) → IsLogBatch c.version b
+added_in_format c b is = each_last c.version c.batches b is.batches
 
-pub contents_more : (c : Contents) (b : LogBatch) → IsContents c → IsLogBatch b → IsContents (with_batch b c)
-contents_more c b is batch = record { worker = is.worker; logs = is.logs; batches = each_more c.batches b is.batches batch }
+pub contents_more : (c : Contents) (b : LogBatch) → IsContents c → IsLogBatch c.version b → IsContents (with_batch b c)
+contents_more c b is batch = record { version = is.version; worker = is.worker; logs = is.logs; batches = each_more c.version c.batches b is.batches batch }
 
 -- a log with one batch more, as bytes
 pub more_bytes : (c : Contents) (b : LogBatch) → log_bytes (with_batch b c) ≡ log_bytes c ++ batch_bytes b
-more_bytes c b = sym (flat_map_more batch_bytes (header c.worker c.logs) c.batches b)
+more_bytes c b = sym (flat_map_more batch_bytes (header c.version c.worker c.logs) c.batches b)
 
 -- ---- one front
 
-one_batch : (b c : LogBatch) (x y : Bytes) → IsLogBatch b → IsLogBatch c → told_body (body b) ++ x ≡ told_body (body c) ++ y → (b ≡ c) × (x ≡ y)
-one_batch b c x y is_b is_c e =
-    let same = same_Some (b, x) (c, y) (sym (batch_again b x is_b) ∙ ap batch_at e ∙ batch_again c y is_c) in
+one_batch : (version : ℕ) (b c : LogBatch) (x y : Bytes) → IsLogBatch version b → IsLogBatch version c → told_body (body b) ++ x ≡ told_body (body c) ++ y → (b ≡ c) × (x ≡ y)
+one_batch version b c x y is_b is_c e =
+    let same = same_Some (b, x) (c, y) (sym (batch_again version b x is_b) ∙ ap (batch_at version) e ∙ batch_again version c y is_c) in
     (ap (λ (p : LogBatch × Bytes). p.0) same, ap (λ (p : LogBatch × Bytes). p.1) same)
 
 abbrev first : Bytes → ℕ
 first bytes = get_or bytes 0 0
 
 -- batches before a gate that isn't open are these alone
-once : (bs cs : List LogBatch) (g k : ℕ) (t u : Bytes) → AllByRecursion IsLogBatch bs → AllByRecursion IsLogBatch cs → g ≢ 1 → k ≢ 1
+once : (version : ℕ) (bs cs : List LogBatch) (g k : ℕ) (t u : Bytes) → AllByRecursion (IsLogBatch version) bs → AllByRecursion (IsLogBatch version) cs → g ≢ 1 → k ≢ 1
     → flat_map batch_bytes bs ++ (g ∷ t) ≡ flat_map batch_bytes cs ++ (k ∷ u) → (bs ≡ cs) × (g ≡ k)
-once [] [] g k t u join_b join_c shut_g shut_k same = (refl, ap first same)
-once [] (c ∷ cs) g k t u join_b join_c shut_g shut_k same = absurd (shut_g (ap first same))
-once (b ∷ bs) [] g k t u join_b join_c shut_g shut_k same = absurd (shut_k (sym (ap first same)))
-once (b ∷ bs) (c ∷ cs) g k t u join_b join_c shut_g shut_k same =
+once version [] [] g k t u join_b join_c shut_g shut_k same = (refl, ap first same)
+once version [] (c ∷ cs) g k t u join_b join_c shut_g shut_k same = absurd (shut_g (ap first same))
+once version (b ∷ bs) [] g k t u join_b join_c shut_g shut_k same = absurd (shut_k (sym (ap first same)))
+once version (b ∷ bs) (c ∷ cs) g k t u join_b join_c shut_g shut_k same =
     let behind = ap (λ (l : Bytes). drop 1 l) same in
-    let parts = one_batch b c (flat_map batch_bytes bs ++ (g ∷ t)) (flat_map batch_bytes cs ++ (k ∷ u)) join_b.0 join_c.0
+    let parts = one_batch version b c (flat_map batch_bytes bs ++ (g ∷ t)) (flat_map batch_bytes cs ++ (k ∷ u)) join_b.0 join_c.0
     (sym (append_assoc (told_body (body b)) (flat_map batch_bytes bs) (g ∷ t)) ∙ behind ∙ append_assoc (told_body (body c)) (flat_map batch_bytes cs) (k ∷ u)) in
-    let rest = once bs cs g k t u join_b.1 join_c.1 shut_g shut_k parts.1 in
+    let rest = once version bs cs g k t u join_b.1 join_c.1 shut_g shut_k parts.1 in
     ((λ i. parts.0 i ∷ rest.0 i), rest.1)
 
 -- and no gate is bad behind them
-clash : (bs cs : List LogBatch) (g : ℕ) (t rest : Bytes) → AllByRecursion IsLogBatch bs → AllByRecursion IsLogBatch cs → g ≢ 1 → IsBadGate rest
+clash : (version : ℕ) (bs cs : List LogBatch) (g : ℕ) (t rest : Bytes) → AllByRecursion (IsLogBatch version) bs → AllByRecursion (IsLogBatch version) cs → g ≢ 1 → IsBadGate version rest
     → flat_map batch_bytes bs ++ (g ∷ t) ≡ flat_map batch_bytes cs ++ rest → ⊥
-clash [] [] g t rest join_b join_c shut (inl none) same = omega (arith, ap length same, ap length none)
-clash [] [] g t rest join_b join_c shut (inr bad) same = shut (ap first (same ∙ bad.1))
-clash [] (c ∷ cs) g t rest join_b join_c shut bad same = shut (ap first same)
-clash (b ∷ bs) [] g t rest join_b join_c shut (inl none) same = omega (arith, ap length same, ap length none)
-clash (b ∷ bs) [] g t rest join_b join_c shut (inr bad) same =
+clash version [] [] g t rest join_b join_c shut (inl none) same = omega (arith, ap length same, ap length none)
+clash version [] [] g t rest join_b join_c shut (inr bad) same = shut (ap first (same ∙ bad.1))
+clash version [] (c ∷ cs) g t rest join_b join_c shut bad same = shut (ap first same)
+clash version (b ∷ bs) [] g t rest join_b join_c shut (inl none) same = omega (arith, ap length same, ap length none)
+clash version (b ∷ bs) [] g t rest join_b join_c shut (inr bad) same =
     let behind : (told_body (body b) ++ flat_map batch_bytes bs) ++ (g ∷ t) ≡ bad.0 = ap (λ (l : Bytes). drop 1 l) (same ∙ bad.1) in
     bad.2 b (flat_map batch_bytes bs ++ (g ∷ t)) join_b.0 (sym behind ∙ append_assoc (told_body (body b)) (flat_map batch_bytes bs) (g ∷ t))
-clash (b ∷ bs) (c ∷ cs) g t rest join_b join_c shut bad same =
+clash version (b ∷ bs) (c ∷ cs) g t rest join_b join_c shut bad same =
     let behind = ap (λ (l : Bytes). drop 1 l) same in
-    let parts = one_batch b c (flat_map batch_bytes bs ++ (g ∷ t)) (flat_map batch_bytes cs ++ rest) join_b.0 join_c.0
+    let parts = one_batch version b c (flat_map batch_bytes bs ++ (g ∷ t)) (flat_map batch_bytes cs ++ rest) join_b.0 join_c.0
     (sym (append_assoc (told_body (body b)) (flat_map batch_bytes bs) (g ∷ t)) ∙ behind ∙ append_assoc (told_body (body c)) (flat_map batch_bytes cs) rest) in
-    clash bs cs g t rest join_b.1 join_c.1 shut bad parts.1
+    clash version bs cs g t rest join_b.1 join_c.1 shut bad parts.1
 
-same_header : (v w m n : ℕ) (x y : Bytes) → header v m ++ x ≡ header w n ++ y → (v ≡ w) × (m ≡ n) × (x ≡ y)
-same_header v w m n x y e = (ap (λ (l : Bytes). get_or l 6 0) e, ap (λ (l : Bytes). get_or l 7 0) e, ap (λ (l : Bytes). drop 8 l) e)
+same_header : (f g v w m n : ℕ) (x y : Bytes) → header f v m ++ x ≡ header g w n ++ y → (f ≡ g) × (v ≡ w) × (m ≡ n) × (x ≡ y)
+same_header f g v w m n x y e = (ap (λ (l : Bytes). get_or l 5 0) e, ap (λ (l : Bytes). get_or l 6 0) e, ap (λ (l : Bytes). get_or l 7 0) e, ap (λ (l : Bytes). drop 8 l) e)
 
-same_contents : (c d : Contents) → c.worker ≡ d.worker → c.logs ≡ d.logs → c.batches ≡ d.batches → c ≡ d
-same_contents c d p q r i = record { worker = p i; logs = q i; batches = r i }
+same_contents : (c d : Contents) → c.version ≡ d.version → c.worker ≡ d.worker → c.logs ≡ d.logs → c.batches ≡ d.batches → c ≡ d
+same_contents c d o p q r i = record { version = o i; worker = p i; logs = q i; batches = r i }
 
 one_whole : (c d : Contents) (g k : ℕ) (t u : Bytes) → IsContents c → IsContents d → g ≢ 1 → k ≢ 1 → log_bytes c ++ (g ∷ t) ≡ log_bytes d ++ (k ∷ u)
     → (c ≡ d) × (g ≡ k)
 one_whole c d g k t u is_c is_d shut_g shut_k e =
-    let heads = same_header c.worker d.worker c.logs d.logs (flat_map batch_bytes c.batches ++ (g ∷ t)) (flat_map batch_bytes d.batches ++ (k ∷ u)) e in
-    let tails = once c.batches d.batches g k t u is_c.batches is_d.batches shut_g shut_k heads.2 in
-    (same_contents c d heads.0 heads.1 tails.0, tails.1)
+    let heads = same_header c.version d.version c.worker d.worker c.logs d.logs (flat_map batch_bytes c.batches ++ (g ∷ t)) (flat_map batch_bytes d.batches ++ (k ∷ u)) e in
+    let also : AllByRecursion (IsLogBatch c.version) d.batches = subst (λ v. AllByRecursion (IsLogBatch v) d.batches) (sym heads.0) is_d.batches in
+    let tails = once c.version c.batches d.batches g k t u is_c.batches also shut_g shut_k heads.3 in
+    (same_contents c d heads.0 heads.1 heads.2 tails.0, tails.1)
 
 -- an image has one front
 pub one_front : (c d : Contents) (image : Bytes) → HasFront c image → HasFront d image → c ≡ d
@@ -123,17 +124,18 @@ one_front c d image one other =
 -- and an image that has one is a log
 pub front_not_bad : (c : Contents) (image : Bytes) (number offset : ℕ) → HasFront c image → IsBadLog image number offset → ⊥
 front_not_bad c image number offset front (inl (inl none, at)) =
-    none.0 c.worker c.logs (flat_map batch_bytes c.batches ++ (front.gate ∷ front.behind)) front.whole
+    none.0 c.version c.worker c.logs (flat_map batch_bytes c.batches ++ (front.gate ∷ front.behind)) front.contents.version front.whole
 front_not_bad c image number offset front (inl (inr strange, at)) =
-    let heads = same_header c.worker number c.logs strange.logs (flat_map batch_bytes c.batches ++ (front.gate ∷ front.behind)) strange.more (sym front.whole ∙ strange.whole) in
+    let heads = same_header c.version strange.version c.worker number c.logs strange.logs (flat_map batch_bytes c.batches ++ (front.gate ∷ front.behind)) strange.more (sym front.whole ∙ strange.whole) in
     let below = front.contents.worker in
     let most = front.contents.logs in
-    strange.wrong (omega (arith, heads.0, heads.1, below)) (omega (arith, heads.1, most))
+    strange.wrong (omega (arith, heads.1, heads.2, below)) (omega (arith, heads.2, most))
 front_not_bad c image number offset front (inr bad) =
     let d = bad.0 in
     let after = bad.1 in
-    let heads = same_header c.worker d.worker c.logs d.logs (flat_map batch_bytes c.batches ++ (front.gate ∷ front.behind)) (flat_map batch_bytes d.batches ++ after.rest) (sym front.whole ∙ after.whole) in
-    clash c.batches d.batches front.gate front.behind after.rest front.contents.batches after.contents.batches front.is_shut after.bad heads.2
+    let heads = same_header c.version d.version c.worker d.worker c.logs d.logs (flat_map batch_bytes c.batches ++ (front.gate ∷ front.behind)) (flat_map batch_bytes d.batches ++ after.rest) (sym front.whole ∙ after.whole) in
+    clash c.version c.batches d.batches front.gate front.behind after.rest front.contents.batches
+    (subst (λ v. AllByRecursion (IsLogBatch v) d.batches) (sym heads.0) after.contents.batches) front.is_shut (subst (λ v. IsBadGate v after.rest) (sym heads.0) after.bad) heads.3
 
 -- ---- what may be left
 

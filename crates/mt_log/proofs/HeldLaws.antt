@@ -1,13 +1,14 @@
 -- What is held of records: those that no range makes void, part by part and batch by batch; and held records that are spelled again.
 use Rattle.std.proofs.Common.{◌≡◌, ℕ, zero, suc, ◌+◌, ◌<◌, ◌≤◌, Bool, true, false, cond, not, ◌||◌, List, [], ◌∷◌, ◌++◌, length, drop, get_or, refl, sym, ◌∙◌, ap, arith, Some}
-use Rattle.std.proofs.{lemmas.List.{append-nil, flat_map_more}, lemmas.List.Folds.list_any-append, lemmas.List.Elements.{All-filter, All-weaker, All-head, All-tail, All-from_recursion, recursion_from_All, filter-append, filter_map-append}}
+use Rattle.std.proofs.{lemmas.List.{append-nil, flat_map_more}, lemmas.List.Folds.list_any-append}
+use Rattle.std.proofs.lemmas.List.Elements.{All-filter, All-weaker, All-head, All-tail, All-from_recursion, recursion_from_All, filter-append, filter_map-append}
 use Rattle.std.specs.List.{All, filter_map, flat_map}
 use Rattle.mt_rows.specs.{Rows.Bytes, declared.record.Record.Record, declared.record.Batch.Batch}
 use Rattle.mt_batches.specs.Batches.{IsRecord}
 use Rattle.mt_fields.{specs.Reading.each_at, proofs.FieldLaws.{IsBytes, each_takes, each_again}}
-use Rattle.mt_log.specs.{declared.batch.LogBatch.LogBatch, declared.batch.LogBatch.TheVariants.{Records, Resume}}
-use Rattle.mt_log.specs.{Format.record_bytes, Reading.{record_at, records_read, records_from}, Voids.{Numbers, voids_in, is_void, records_in, held_of, joined}, Holding.AreHeld}
-use Rattle.mt_log.proofs.BatchLaws.{record_takes, record_again}
+use Rattle.mt_log.specs.{declared.batch.LogBatch.LogBatch, declared.batch.LogBatch.TheVariants.{Records, Resume, OldRecords}, Format.record_bytes}
+use Rattle.mt_log.specs.{Reading.{record_at, records_read, records_from}, Voids.{Numbers, voids_in, is_void, records_in, held_of, joined}, Holding.AreHeld}
+use Rattle.mt_log.proofs.BatchLaws.{record_takes, record_again, FitsRecord}
 
 -- ---- ranges
 
@@ -65,20 +66,30 @@ next_gone vs rs i r lt is void =
 
 -- ---- batches
 
--- a batch of records stands behind those so far
-pub held_records : (bs : List LogBatch) (b : Batch) (vs : List Numbers) (old new : List (List Record)) → AreHeld bs vs old
-    → joined new ≡ joined old ++ held_of vs b.records → AreHeld (bs ++ Records b ∷ []) vs new
-held_records bs b vs old new is e =
-    let same : filter_map voids_in (bs ++ Records b ∷ []) ≡ filter_map voids_in bs = filter_map-append voids_in bs (Records b ∷ []) ∙ append-nil _ in
+-- a batch that makes nothing void stands after those so far
+held_added : (bs : List LogBatch) (b : LogBatch) (vs : List Numbers) (old new : List (List Record)) → filter_map voids_in (b ∷ []) ≡ [] → AreHeld bs vs old
+    → joined new ≡ joined old ++ held_of vs (records_in b) → AreHeld (bs ++ b ∷ []) vs new
+held_added bs b vs old new none is e =
+    let same : filter_map voids_in (bs ++ b ∷ []) ≡ filter_map voids_in bs = filter_map-append voids_in bs (b ∷ []) ∙ ap (λ (ws : List Numbers). filter_map voids_in bs ++ ws) none ∙ append-nil _ in
     let ranges = is.ranges ∙ sym same in
     record {
       ranges = ranges;
       records =
-          e ∙ ap (λ (rs : List Record). rs ++ held_of vs b.records) (is.records ∙ ap (λ (ws : List Numbers). held_of ws (flat_map records_in bs)) (sym is.ranges))
-          ∙ sym (held-append vs (flat_map records_in bs) b.records)
-          ∙ ap (held_of vs) (flat_map_more records_in [] bs (Records b))
-          ∙ ap (λ (ws : List Numbers). held_of ws (flat_map records_in (bs ++ Records b ∷ []))) ranges;
+          e ∙ ap (λ (rs : List Record). rs ++ held_of vs (records_in b)) (is.records ∙ ap (λ (ws : List Numbers). held_of ws (flat_map records_in bs)) (sym is.ranges))
+          ∙ sym (held-append vs (flat_map records_in bs) (records_in b))
+          ∙ ap (held_of vs) (flat_map_more records_in [] bs b)
+          ∙ ap (λ (ws : List Numbers). held_of ws (flat_map records_in (bs ++ b ∷ []))) ranges;
     }
+
+-- a batch of records does
+pub held_records : (bs : List LogBatch) (b : Batch) (vs : List Numbers) (old new : List (List Record)) → AreHeld bs vs old
+    → joined new ≡ joined old ++ held_of vs b.records → AreHeld (bs ++ Records b ∷ []) vs new
+held_records bs b vs old new is e = held_added bs (Records b) vs old new refl is e
+
+-- a batch of old records does
+pub held_old : (bs : List LogBatch) (b : Batch) (vs : List Numbers) (old new : List (List Record)) → AreHeld bs vs old
+    → joined new ≡ joined old ++ held_of vs b.records → AreHeld (bs ++ OldRecords b ∷ []) vs new
+held_old bs b vs old new is e = held_added bs (OldRecords b) vs old new refl is e
 
 -- a resume batch does
 pub held_resume : (bs : List LogBatch) (from to kept : ℕ) (vs : List Numbers) (old new : List (List Record)) → AreHeld bs vs old
@@ -102,7 +113,7 @@ held_resume bs from to kept vs old new is e =
 spelled_again : (rs : List Record) → All IsRecord rs → records_from (length rs) (flat_map record_bytes rs) ≡ rs
 spelled_again rs each =
     ap (λ (t : Bytes). records_from (length rs) t) (sym (append-nil (flat_map record_bytes rs)))
-    ∙ ap records_read (each_again record_at record_bytes IsRecord record_again rs [] (recursion_from_All IsRecord rs each))
+    ∙ ap records_read (each_again (record_at false) record_bytes (FitsRecord false) (record_again false) rs [] (recursion_from_All (FitsRecord false) rs (All-weaker IsRecord (FitsRecord false) (λ r h. (h, tt)) rs each)))
 
 -- those that are held of records, once they were counted and spelled
 pub held_again : (vs : List Numbers) (rs records : List Record) (count : ℕ) (bytes : Bytes) → records ≡ rs → All IsRecord records
@@ -111,5 +122,6 @@ held_again vs rs records count bytes same each few spelled =
     (λ i. records_from (few i) (spelled i)) ∙ spelled_again (held_of vs records) (All-filter _ IsRecord records each) ∙ ap (held_of vs) same
 
 -- what is read of bytes has the limits of records
-pub listed_fit : (n : ℕ) (bytes : Bytes) (x : List Record × Bytes) → IsBytes bytes → each_at record_at n bytes ≡ Some x → All IsRecord x.0
-listed_fit n bytes x fits e = All-from_recursion IsRecord x.0 (each_takes record_at record_bytes IsRecord record_takes n bytes x fits e).2
+pub listed_fit : (n : ℕ) (bytes : Bytes) (x : List Record × Bytes) → IsBytes bytes → each_at (record_at false) n bytes ≡ Some x → All IsRecord x.0
+listed_fit n bytes x fits e =
+    All-weaker (FitsRecord false) IsRecord (λ r h. h.0) x.0 (All-from_recursion (FitsRecord false) x.0 (each_takes (record_at false) record_bytes (FitsRecord false) (record_takes false) n bytes x fits e).2)

@@ -9,7 +9,7 @@ use Rattle.mt_batches.specs.Batches.{IsRecord}
 use Rattle.mt_fields.proofs.FieldLaws.{IsBytes, IsBytes-rest, IsBytes-take, wide32, number_again}
 use Rattle.mt_log.specs.{declared.batch.LogBatch.LogBatch, declared.batch.LogBatch.TheVariants.Records, declared.fault.ReadFault.ReadFault}
 use Rattle.mt_log.specs.{declared.reader.Head.Head, declared.reader.Start.Start, declared.windows.Stop.Stop, declared.windows.Found.Found}
-use Rattle.mt_log.specs.Format.{header, record_bytes, body, told_body, batch_bytes}
+use Rattle.mt_log.specs.Format.{header, record_bytes, body, told_body, batch_bytes, IsVersion}
 use Rattle.mt_log.specs.Contents.{Contents, IsContents, IsBatch, IsLogBatch, to_of, log_bytes, with_batch, contents_of}
 use Rattle.mt_log.specs.Fronts.{HasNoBatch, IsBadGate, IsBadLog, IsShut, IsTorn, IsBeforeOrAfter, IsLeft, IsOldOrNew, IsFound, IsAtRest}
 use Rattle.mt_log.specs.Reading.{batch_in, batch_at, are_steps, rise_within}
@@ -35,12 +35,12 @@ spelled_more f (y ∷ ys) (suc i) x lt is =
     let one : suc i + 1 ≡ suc (i + 1) = omega arith in
     ap (λ (n : ℕ). flat_map f (take n (y ∷ ys))) one ∙ ap (λ (l : Bytes). f y ++ l) (spelled_more f ys i x (omega arith) is) ∙ sym (append_assoc (f y) (flat_map f (take i ys)) (f x))
 
-regroup : (o a b d t : Bytes) → ((((o ++ 0 ∷ []) ++ a) ++ b) ++ d) ++ t ≡ o ++ (0 ∷ (a ++ (b ++ (d ++ t))))
+regroup : (o a b d t : Bytes) → ((((o ++ 2 ∷ []) ++ a) ++ b) ++ d) ++ t ≡ o ++ (2 ∷ (a ++ (b ++ (d ++ t))))
 regroup o a b d t = simp append_assoc
 
 -- a body that was written part by part
-pub parts_joined : (o p q r s new a b d t : Bytes) → p ≡ o ++ 0 ∷ [] → q ≡ p ++ a → r ≡ q ++ b → s ≡ r ++ d → new ≡ s ++ t
-    → new ≡ o ++ (0 ∷ (a ++ (b ++ (d ++ t))))
+pub parts_joined : (o p q r s new a b d t : Bytes) → p ≡ o ++ 2 ∷ [] → q ≡ p ++ a → r ≡ q ++ b → s ≡ r ++ d → new ≡ s ++ t
+    → new ≡ o ++ (2 ∷ (a ++ (b ++ (d ++ t))))
 parts_joined o p q r s new a b d t e f g h i =
     i ∙ ap (λ (l : Bytes). l ++ t) (h ∙ ap (λ (l : Bytes). l ++ d) (g ∙ ap (λ (l : Bytes). l ++ b) (f ∙ ap (λ (l : Bytes). l ++ a) e))) ∙ regroup o a b d t
 
@@ -110,24 +110,24 @@ open_gate_is (gate ∷ rest) behind size fits some parts long is_open is =
     record { fits = text.0; behind = drop 4 behind; whole = ap (λ (n : ℕ). n ∷ rest) is_open ∙ ap (λ (l : Bytes). 1 ∷ l) (sym whole ∙ text.1) }
 
 -- where no batch was read, none stands
-no_batch : (behind : Bytes) → batch_at behind ≡ None → HasNoBatch behind
-no_batch behind none =
-    λ b more is e. (let made : LogBatch × Bytes = (b, more) in let both : Some made ≡ None = sym (batch_again b more is) ∙ ap batch_at (sym e) ∙ none in absurd cc)
+no_batch : (version : ℕ) (behind : Bytes) → batch_at version behind ≡ None → HasNoBatch version behind
+no_batch version behind none =
+    λ b more is e. (let made : LogBatch × Bytes = (b, more) in let both : Some made ≡ None = sym (batch_again version b more is) ∙ ap (batch_at version) (sym e) ∙ none in absurd cc)
 
 -- no gate, or no whole length behind an open one
-pub no_head_bad : (bytes : Bytes) → IsNoHead bytes → IsBadGate bytes
-no_head_bad bytes is =
+pub no_head_bad : (version : ℕ) (bytes : Bytes) → IsNoHead bytes → IsBadGate version bytes
+no_head_bad version bytes is =
     let short = is.short in
     ⊎_elim (λ none. inl none) (λ gate. inr (gate.0, gate.1, λ b more fits e. absurd (omega (arith, short, ap length gate.1, ap length e)))) is.gate
 
 -- a length past the end
-pub past_end_bad : (bytes : Bytes) (size : ℕ) → IsOpenGate bytes size → length bytes < 5 + size → IsBadGate bytes
+pub past_end_bad : (version : ℕ) (bytes : Bytes) (size : ℕ) → IsOpenGate bytes size → length bytes < 5 + size → IsBadGate version bytes
 unfolding batch_at
-past_end_bad bytes size is short =
+past_end_bad version bytes size is short =
     let behind = is.behind in
     let long : nat_lt (length behind) size ≡ true = below (length behind) size (omega (arith, short, ap length is.whole)) in
-    let none : batch_at (to_be_bytes w32 size ++ behind) ≡ None = rw (number_again w32 (2 ^ 32) wide32 size behind is.fits, long) refl in
-    inr (to_be_bytes w32 size ++ behind, is.whole, no_batch (to_be_bytes w32 size ++ behind) none)
+    let none : batch_at version (to_be_bytes w32 size ++ behind) ≡ None = rw (number_again w32 (2 ^ 32) wide32 size behind is.fits, long) refl in
+    inr (to_be_bytes w32 size ++ behind, is.whole, no_batch version (to_be_bytes w32 size ++ behind) none)
 
 -- the front of a window
 front_of_window : (size more : ℕ) (rest : Bytes) → size ≤ length rest → take size (take (size + more) rest) ≡ take size rest
@@ -135,22 +135,22 @@ front_of_window size more rest fits =
     sym (take-append-le size (take (size + more) rest) (drop (size + more) rest) (omega (arith, length-take (size + more) rest))) ∙ ap (take size) (take-append-drop (size + more) rest)
 
 -- a body in which no batch was read
-pub no_body_bad : (bytes : Bytes) (size : ℕ) → IsOpenGate bytes size → 5 + size ≤ length bytes → batch_in (take size (take (size + 5) (drop 5 bytes))) ≡ None
-    → IsBadGate bytes
+pub no_body_bad : (version : ℕ) (bytes : Bytes) (size : ℕ) → IsOpenGate bytes size → 5 + size ≤ length bytes → batch_in version (take size (take (size + 5) (drop 5 bytes))) ≡ None
+    → IsBadGate version bytes
 unfolding batch_at
-no_body_bad bytes size is fits nothing =
+no_body_bad version bytes size is fits nothing =
     let behind = is.behind in
     let rest : drop 5 bytes ≡ behind = ap (drop 5) is.whole in
     let long : size ≤ length behind = omega (arith, fits, ap length is.whole) in
-    let here : batch_in (take size behind) ≡ None = ap batch_in (sym (front_of_window size 5 behind long) ∙ ap (λ (l : Bytes). take size (take (size + 5) l)) (sym rest)) ∙ nothing in
+    let here : batch_in version (take size behind) ≡ None = ap (batch_in version) (sym (front_of_window size 5 behind long) ∙ ap (λ (l : Bytes). take size (take (size + 5) l)) (sym rest)) ∙ nothing in
     let few : nat_lt (length behind) size ≡ false = le-ltb (length behind) size long in
-    let none : batch_at (to_be_bytes w32 size ++ behind) ≡ None = rw (number_again w32 (2 ^ 32) wide32 size behind is.fits, few, here) refl in
-    inr (to_be_bytes w32 size ++ behind, is.whole, no_batch (to_be_bytes w32 size ++ behind) none)
+    let none : batch_at version (to_be_bytes w32 size ++ behind) ≡ None = rw (number_again w32 (2 ^ 32) wide32 size behind is.fits, few, here) refl in
+    inr (to_be_bytes w32 size ++ behind, is.whole, no_batch version (to_be_bytes w32 size ++ behind) none)
 
 -- and one in which a batch was read
-pub body_is_batch : (bytes : Bytes) (size : ℕ) (b : LogBatch) (next : Head) → IsOpenGate bytes size → 5 + size ≤ length bytes
-    → IsBody size (take (size + 5) (drop 5 bytes)) b next → IsOpenBatch bytes b (5 + size) next
-body_is_batch bytes size b next is fits read =
+pub body_is_batch : (version : ℕ) (bytes : Bytes) (size : ℕ) (b : LogBatch) (next : Head) → IsOpenGate bytes size → 5 + size ≤ length bytes
+    → IsBody version size (take (size + 5) (drop 5 bytes)) b next → IsOpenBatch bytes b (5 + size) next
+body_is_batch version bytes size b next is fits read =
     let behind = is.behind in
     let rest : drop 5 bytes ≡ behind = ap (drop 5) is.whole in
     let long : size ≤ length behind = omega (arith, fits, ap length is.whole) in
@@ -167,15 +167,15 @@ body_is_batch bytes size b next is fits read =
     }
 
 -- a batch that was read as a body
-pub body_read : (bytes text behind : Bytes) (size : ℕ) (b : LogBatch) (next : Head) → IsBytes bytes → size < 2 ^ 32 → size ≤ length bytes
-    → text ≡ take size bytes → behind ≡ drop size bytes → batch_in text ≡ Some b → IsHead behind next → IsBody size bytes b next
-body_read bytes text behind size b next fits few long front back read head =
-    let t = body_takes text b (subst IsBytes (sym front) (IsBytes-take size bytes fits)) read in
+pub body_read : (version : ℕ) (bytes text behind : Bytes) (size : ℕ) (b : LogBatch) (next : Head) → IsBytes bytes → size < 2 ^ 32 → size ≤ length bytes
+    → text ≡ take size bytes → behind ≡ drop size bytes → batch_in version text ≡ Some b → IsHead behind next → IsBody version size bytes b next
+body_read version bytes text behind size b next fits few long front back read head =
+    let t = body_takes version text b (subst IsBytes (sym front) (IsBytes-take size bytes fits)) read in
     let len : length (body b) ≡ size = ap length (sym t.0 ∙ front) ∙ length-take-le size bytes long in
     record { batch = t.1 (omega (arith, len, few)); whole = sym front ∙ t.0; next = subst (λ (l : Bytes). IsHead l next) back head }
 
 -- what was read behind a gate and its length
-module _ (image w : Bytes) (place size : ℕ) (is : IsOpenGate (drop place image) size) (long : place + (5 + size) ≤ length image)
+module _ (version : ℕ) (image w : Bytes) (place size : ℕ) (is : IsOpenGate (drop place image) size) (long : place + (5 + size) ≤ length image)
     (read : w ≡ take (size + 5) (drop (place + 5) image)) where
   within : 5 + size ≤ length (drop place image)
   within = omega (arith, long, length-drop place image)
@@ -183,11 +183,11 @@ module _ (image w : Bytes) (place size : ℕ) (is : IsOpenGate (drop place image
   window : w ≡ take (size + 5) (drop 5 (drop place image))
   window = read ∙ ap (take (size + 5)) (sym (drop-drop 5 place image))
 
-  pub none_in_window : batch_in (take size w) ≡ None → IsBadGate (drop place image)
-  none_in_window none = no_body_bad (drop place image) size is within (subst (λ (l : Bytes). batch_in (take size l) ≡ None) window none)
+  pub none_in_window : batch_in version (take size w) ≡ None → IsBadGate version (drop place image)
+  none_in_window none = no_body_bad version (drop place image) size is within (subst (λ (l : Bytes). batch_in version (take size l) ≡ None) window none)
 
-  pub batch_in_window : (b : LogBatch) (next : Head) → IsBody size w b next → IsOpenBatch (drop place image) b (5 + size) next
-  batch_in_window b next has = body_is_batch (drop place image) size b next is within (subst (λ (l : Bytes). IsBody size l b next) window has)
+  pub batch_in_window : (b : LogBatch) (next : Head) → IsBody version size w b next → IsOpenBatch (drop place image) b (5 + size) next
+  batch_in_window b next has = body_is_batch version (drop place image) size b next is within (subst (λ (l : Bytes). IsBody version size l b next) window has)
 
 -- one batch more
 pub stand_more : (place : ℕ) (image : Bytes) (bs : List LogBatch) (b : LogBatch) (len : ℕ) (next : Head) → StandBefore place image bs
@@ -207,30 +207,30 @@ stand_more place image bs b len next stand is =
     }
 
 -- and in the format
-pub batches_more : (mark : ℕ) (bs : List LogBatch) (b : LogBatch) → AreBatches mark bs → IsLogBatch b → AreBatches (to_of b) (bs ++ b ∷ [])
-batches_more mark bs b are is = record { each = each_more bs b are.each is; last = sym (end_more 0 bs b) }
+pub batches_more : (version mark : ℕ) (bs : List LogBatch) (b : LogBatch) → AreBatches version mark bs → IsLogBatch version b → AreBatches version (to_of b) (bs ++ b ∷ [])
+batches_more version mark bs b are is = record { each = each_more version bs b are.each is; last = sym (end_more 0 bs b) }
 
 -- ---- fronts
 
 -- a log's bytes that begin so
-abbrev whole_log : ℕ → ℕ → List LogBatch → Contents
-whole_log worker logs bs = record { worker = worker; logs = logs; batches = bs }
+abbrev whole_log : ℕ → ℕ → ℕ → List LogBatch → Contents
+whole_log version worker logs bs = record { version = version; worker = worker; logs = logs; batches = bs }
 
-whole_image : (image : Bytes) (worker logs place : ℕ) (bs : List LogBatch) → image ≡ header worker logs ++ drop 8 image → StandBefore place image bs
-    → image ≡ log_bytes (whole_log worker logs bs) ++ drop place image
-whole_image image worker logs place bs head stand = head ∙ ap (λ (l : Bytes). header worker logs ++ l) stand.parts
+whole_image : (image : Bytes) (version worker logs place : ℕ) (bs : List LogBatch) → image ≡ header version worker logs ++ drop 8 image → StandBefore place image bs
+    → image ≡ log_bytes (whole_log version worker logs bs) ++ drop place image
+whole_image image version worker logs place bs head stand = head ∙ ap (λ (l : Bytes). header version worker logs ++ l) stand.parts
 
 -- the batches of a log stop at what isn't in the format
-pub stopped_bad : (image : Bytes) (worker logs place mark : ℕ) (bs : List LogBatch) → worker < logs → logs ≤ 64 → AreBatches mark bs
-    → image ≡ header worker logs ++ drop 8 image → StandBefore place image bs → IsBadGate (drop place image) → IsBadLog image worker place
-stopped_bad image worker logs place mark bs under most are head stand bad =
+pub stopped_bad : (image : Bytes) (version worker logs place mark : ℕ) (bs : List LogBatch) → IsVersion version → worker < logs → logs ≤ 64 → AreBatches version mark bs
+    → image ≡ header version worker logs ++ drop 8 image → StandBefore place image bs → IsBadGate version (drop place image) → IsBadLog image worker place
+stopped_bad image version worker logs place mark bs known under most are head stand bad =
     let at = stand.len in
     inr (
-      whole_log worker logs bs,
+      whole_log version worker logs bs,
       record {
-        contents = record { worker = under; logs = most; batches = are.each };
+        contents = record { version = known; worker = under; logs = most; batches = are.each };
         rest = drop place image;
-        whole = whole_image image worker logs place bs head stand;
+        whole = whole_image image version worker logs place bs head stand;
         bad = bad;
       },
       refl,
@@ -242,13 +242,15 @@ stopped_bad image worker logs place mark bs under most are head stand bad =
 -- what the first bytes of an image begin with, it does
 pub start_longer : (image : Bytes) (start : Start) → IsStart (take 13 image) start → IsStart image start
 start_longer image start is =
+    let v = start.version in
     let w = start.worker in
     let n = start.logs in
-    let whole : image ≡ header w n ++ (drop 8 (take 13 image) ++ drop 13 image) = sym (take-append-drop 13 image) ∙ ap (λ (l : Bytes). l ++ drop 13 image) is.header in
+    let whole : image ≡ header v w n ++ (drop 8 (take 13 image) ++ drop 13 image) = sym (take-append-drop 13 image) ∙ ap (λ (l : Bytes). l ++ drop 13 image) is.header in
     record {
+      version = is.version;
       worker = is.worker;
       logs = is.logs;
-      header = whole ∙ ap (λ (l : Bytes). header w n ++ l) (sym (ap (drop 8) whole));
+      header = whole ∙ ap (λ (l : Bytes). header v w n ++ l) (sym (ap (drop 8) whole));
       head = head_longer (drop 8 image) start.head (subst (λ (l : Bytes). IsHead l start.head) (drop-take 8 5 image) is.head);
     }
 
@@ -257,8 +259,8 @@ pub bad_start_longer : (image : Bytes) (number offset : ℕ) → IsBadStart (tak
 bad_start_longer image number offset bad =
     inl (
       ⊎_elim
-          (λ none. inl ((λ worker logs more e. none.0 worker logs (take 5 more) (ap (take 13) e)), none.1))
-          (λ strange. inr (record { logs = strange.logs; more = strange.more ++ drop 13 image; whole = sym (take-append-drop 13 image) ∙ ap (λ (l : Bytes). l ++ drop 13 image) strange.whole; wrong = strange.wrong }))
+          (λ none. inl ((λ version worker logs more known e. none.0 version worker logs (take 5 more) known (ap (take 13) e)), none.1))
+          (λ strange. inr (record { version = strange.version; known = strange.known; logs = strange.logs; more = strange.more ++ drop 13 image; whole = sym (take-append-drop 13 image) ∙ ap (λ (l : Bytes). l ++ drop 13 image) strange.whole; wrong = strange.wrong }))
           bad.0,
       bad.1,
     )
@@ -286,25 +288,25 @@ module _ {D : Type 0} (is_honest : D → Bool) (state : D → DiskState) (old : 
         subst P image (told (subst IsTrue (sym kept) honest) (has ∙ ap length (sym image)))
 
     -- the batches behind a beginning, and where they stop
-    module _ (start : Start) (bs : List LogBatch) (stop : Stop) (begins : IsStartOf is_honest state old len start) (stops : IsStopOf is_honest state new len start.head bs stop) where
-      stopped : IsTrue (is_honest old) → len ≡ length (state old).image → IsStop (state old).image bs stop
+    module _ (start : Start) (bs : List LogBatch) (stop : Stop) (begins : IsStartOf is_honest state old len start) (stops : IsStopOf is_honest state new start.version len start.head bs stop) where
+      stopped : IsTrue (is_honest old) → len ≡ length (state old).image → IsStop start.version (state old).image bs stop
       stopped honest has =
-          of_same (λ (image : Bytes). IsHead (drop 8 image) start.head → IsStop image bs stop) stops.told honest has (begins.told honest has).head
+          of_same (λ (image : Bytes). IsHead (drop 8 image) start.head → IsStop start.version image bs stop) stops.told honest has (begins.told honest has).head
 
       module _ (r : Result Found ReadFault)
-          (told : (image : Bytes) → IsHeader image start → IsStop image bs stop → MatchResult r (IsRead image) (IsBadRead image)) where
+          (told : (image : Bytes) → IsHeader image start → IsStop start.version image bs stop → MatchResult r (IsRead image) (IsBadRead image)) where
         of_image : IsTrue (is_honest old) → len ≡ length (state old).image → MatchResult r (IsRead (state old).image) (IsBadRead (state old).image)
         of_image honest has = told (state old).image (begins.told honest has).header (stopped honest has)
 
       pub front_found : (r : Result Found ReadFault)
-          → ((image : Bytes) → IsHeader image start → IsStop image bs stop → MatchResult r (IsRead image) (IsBadRead image)) → IfOk r (IsFoundAt stop.place)
+          → ((image : Bytes) → IsHeader image start → IsStop start.version image bs stop → MatchResult r (IsRead image) (IsBadRead image)) → IfOk r (IsFoundAt stop.place)
           → IfOk r (IsFrontOf is_honest state old len)
       front_found (Ok found) told ok =
           record { contents = ok.contents; mark = ok.mark; within = subst (λ n. n ≤ len) (sym ok.end) stops.within; told = λ h e. of_image (Ok found) told h e }
       front_found (Err e) told ok = tt
 
       pub fault_found : (r : Result Found ReadFault)
-          → ((image : Bytes) → IsHeader image start → IsStop image bs stop → MatchResult r (IsRead image) (IsBadRead image))
+          → ((image : Bytes) → IsHeader image start → IsStop start.version image bs stop → MatchResult r (IsRead image) (IsBadRead image))
           → IfErr r (IsFaultOf is_honest state old len)
       fault_found (Ok found) told = tt
       fault_found (Err reads.Device) told = tt

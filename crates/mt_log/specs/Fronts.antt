@@ -2,7 +2,7 @@
 use Rattle.std.specs.Prelude.{◌≡◌, ◌≢◌, ◌⊎◌, ℕ, ◌<◌, ◌≤◌, Bool, true, false, [], ◌∷◌, ◌++◌, length}
 use Rattle.mt_rows.specs.Rows.{Bytes}
 use Rattle.mt_disk.specs.Disk.{DiskState, IsDurable, LeavesOnly}
-use Rattle.mt_log.specs.{declared.batch.LogBatch.LogBatch, Format.{header, body, told_body, open_batch}}
+use Rattle.mt_log.specs.{declared.batch.LogBatch.LogBatch, Format.{header, body, told_body, open_batch, IsVersion}}
 use Rattle.mt_log.specs.Contents.{Contents, IsContents, IsLogBatch, log_bytes, with_batch}
 
 -- The front of an image: its batches with an open gate, up to the first gate that isn't 01. Whatever
@@ -14,31 +14,33 @@ pub record HasFront (c : Contents) (image : Bytes) : Type 0 where
   pub is_shut : gate ≢ 1
   pub whole : image ≡ log_bytes c ++ (gate ∷ behind)
 
--- no header stands at the front, whatever worker and number of logs it might name
+-- no header stands at the front, whatever format, worker and number of logs it might name
 abbrev pub HasNoHeader : Bytes → Type 0
-HasNoHeader image = (worker logs : ℕ) (more : Bytes) → image ≡ header worker logs ++ more → ⊥
+HasNoHeader image = (version worker logs : ℕ) (more : Bytes) → IsVersion version → image ≡ header version worker logs ++ more → ⊥
 
 -- a header stands there that names this worker, but as one of no 1 to 64 logs
 pub record IsOfNoLogs (image : Bytes) (worker : ℕ) : Type 0 where
+  pub version : ℕ
   pub logs : ℕ
   pub more : Bytes
-  pub whole : image ≡ header worker logs ++ more
+  pub known : IsVersion version
+  pub whole : image ≡ header version worker logs ++ more
   pub wrong : worker < logs → logs ≤ 64 → ⊥
 
--- no batch in the format stands here, whole behind its length
-abbrev pub HasNoBatch : Bytes → Type 0
-HasNoBatch bytes = (b : LogBatch) (more : Bytes) → IsLogBatch b → bytes ≡ told_body (body b) ++ more → ⊥
+-- no batch in the format of this number stands here, whole behind its length
+abbrev pub HasNoBatch : ℕ → Bytes → Type 0
+HasNoBatch version bytes = (b : LogBatch) (more : Bytes) → IsLogBatch version b → bytes ≡ told_body (body b) ++ more → ⊥
 
 -- no gate stands here, or an open one before no batch
-abbrev pub IsBadGate : Bytes → Type 0
-IsBadGate bytes = (bytes ≡ []) ⊎ ((behind : Bytes) × (bytes ≡ 1 ∷ behind) × HasNoBatch behind)
+abbrev pub IsBadGate : ℕ → Bytes → Type 0
+IsBadGate version bytes = (bytes ≡ []) ⊎ ((behind : Bytes) × (bytes ≡ 1 ∷ behind) × HasNoBatch version behind)
 
 -- behind these batches the image isn't in the format
 pub record IsBadAfter (c : Contents) (image : Bytes) : Type 0 where
   pub contents : IsContents c
   pub rest : Bytes
   pub whole : image ≡ log_bytes c ++ rest
-  pub bad : IsBadGate rest
+  pub bad : IsBadGate c.version rest
 
 -- An image that is no log: at 0 it has no header, and the number is 0; or one of no 1 to 64 logs; or at
 -- the gate behind a worker's last good batch it isn't in the format. Then the number is the header's worker.

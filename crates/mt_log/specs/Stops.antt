@@ -4,9 +4,9 @@ use Rattle.std.specs.{Int.{w32, to_be_bytes}, List.{flat_map, AllByRecursion}, d
 use Rattle.mt_rows.specs.Rows.{Bytes}
 use Rattle.mt_disk.specs.Disk.{DiskState, GoesUp}
 use Rattle.mt_log.specs.{declared.batch.LogBatch.LogBatch, declared.fault.ReadFault.ReadFault, declared.reader.Head.Head, declared.reader.Start.Start}
-use Rattle.mt_log.specs.{declared.windows.AtGate.AtGate, declared.windows.Stop.Stop, declared.windows.Found.Found, Format.{header, body, batch_bytes}}
-use Rattle.mt_log.specs.{Contents.{IsLogBatch, end_of, IsContents, mark_of, log_bytes, contents_of}, Fronts.{HasNoHeader, IsOfNoLogs, IsBadGate, IsBadLog}}
-use Rattle.mt_log.specs.Reading.{batch_in}
+use Rattle.mt_log.specs.{declared.windows.AtGate.AtGate, declared.windows.Stop.Stop, declared.windows.Found.Found}
+use Rattle.mt_log.specs.{Format.{header, body, batch_bytes, IsVersion}, Contents.{IsLogBatch, end_of, IsContents, mark_of, log_bytes, contents_of}}
+use Rattle.mt_log.specs.{Fronts.{HasNoHeader, IsOfNoLogs, IsBadGate, IsBadLog}, Reading.batch_in}
 use Rattle.mt_log.specs.declared.fault.ReadFault.TheVariants as faults
 use Rattle.mt_log.specs.declared.reader.Head.TheVariants as heads
 use Rattle.mt_log.specs.declared.windows.AtGate.TheVariants as gates
@@ -38,10 +38,11 @@ IsHead bytes heads.Bad = IsNoHead bytes
 
 -- the header that these bytes begin with
 abbrev pub IsHeader : Bytes → Start → Type 0
-IsHeader bytes start = bytes ≡ header start.worker start.logs ++ drop 8 bytes
+IsHeader bytes start = bytes ≡ header start.version start.worker start.logs ++ drop 8 bytes
 
 -- what a log's bytes begin with
 pub record IsStart (bytes : Bytes) (start : Start) : Type 0 where
+  pub version : IsVersion start.version
   pub worker : start.worker < start.logs
   pub logs : start.logs ≤ 64
   pub header : IsHeader bytes start
@@ -54,15 +55,15 @@ IsBadStart bytes faults.Memory = ⊥
 IsBadStart bytes (faults.Bad number offset) = ((HasNoHeader bytes × (number ≡ 0)) ⊎ IsOfNoLogs bytes number) × (offset ≡ 0)
 
 -- the first bytes, so many, are the body of a batch, and behind them is a gate
-pub record IsBody (size : ℕ) (bytes : Bytes) (b : LogBatch) (head : Head) : Type 0 where
-  pub batch : IsLogBatch b
+pub record IsBody (version size : ℕ) (bytes : Bytes) (b : LogBatch) (head : Head) : Type 0 where
+  pub batch : IsLogBatch version b
   pub whole : take size bytes ≡ body b
   pub next : IsHead (drop size bytes) head
 
 -- what is read behind an open gate and a length
-abbrev pub IsBehind : ℕ → Bytes → Option (LogBatch × Head) → Type 0
-IsBehind size bytes (Some x) = IsBody size bytes x.0 x.1
-IsBehind size bytes None = batch_in (take size bytes) ≡ None
+abbrev pub IsBehind : ℕ → ℕ → Bytes → Option (LogBatch × Head) → Type 0
+IsBehind version size bytes (Some x) = IsBody version size bytes x.0 x.1
+IsBehind version size bytes None = batch_in version (take size bytes) ≡ None
 
 -- an open gate and a batch, of so many bytes, and what stands at the gate behind them
 pub record IsOpenBatch (bytes : Bytes) (b : LogBatch) (len : ℕ) (head : Head) : Type 0 where
@@ -71,31 +72,31 @@ pub record IsOpenBatch (bytes : Bytes) (b : LogBatch) (len : ℕ) (head : Head) 
   pub next : IsHead (drop len bytes) head
 
 -- what stands at a gate
-abbrev pub IsAtGate : Bytes → AtGate → Type 0
-IsAtGate bytes (gates.Shut gate) = IsShutGate bytes gate
-IsAtGate bytes (gates.Open b len next) = IsOpenBatch bytes b len next
-IsAtGate bytes gates.Bad = IsBadGate bytes
+abbrev pub IsAtGate : ℕ → Bytes → AtGate → Type 0
+IsAtGate version bytes (gates.Shut gate) = IsShutGate bytes gate
+IsAtGate version bytes (gates.Open b len next) = IsOpenBatch bytes b len next
+IsAtGate version bytes gates.Bad = IsBadGate version bytes
 
 -- a batch in the format, of so many bytes, which there are
-pub record FitsBatch (left : ℕ) (b : LogBatch) (len : ℕ) : Type 0 where
-  pub batch : IsLogBatch b
+pub record FitsBatch (version left : ℕ) (b : LogBatch) (len : ℕ) : Type 0 where
+  pub batch : IsLogBatch version b
   pub within : len ≤ left
   pub some : 0 < len
 
 -- what was read at a gate of any disk, where the file has so many bytes left
-abbrev pub FitsGate : ℕ → AtGate → Type 0
-FitsGate left (gates.Shut gate) = Unit {0}
-FitsGate left (gates.Open b len next) = FitsBatch left b len
-FitsGate left gates.Bad = Unit {0}
+abbrev pub FitsGate : ℕ → ℕ → AtGate → Type 0
+FitsGate version left (gates.Shut gate) = Unit {0}
+FitsGate version left (gates.Open b len next) = FitsBatch version left b len
+FitsGate version left gates.Bad = Unit {0}
 
 -- at which gate batches stop, or that they stop at what isn't in the format
-abbrev pub StopsAt : Bytes → Option ℕ → Type 0
-StopsAt bytes None = IsBadGate bytes
-StopsAt bytes (Some gate) = IsShutGate bytes gate
+abbrev pub StopsAt : ℕ → Bytes → Option ℕ → Type 0
+StopsAt version bytes None = IsBadGate version bytes
+StopsAt version bytes (Some gate) = IsShutGate bytes gate
 
 -- batches in the format, the last of which ends at the mark
-pub record AreBatches (mark : ℕ) (batches : List LogBatch) : Type 0 where
-  pub each : AllByRecursion IsLogBatch batches
+pub record AreBatches (version mark : ℕ) (batches : List LogBatch) : Type 0 where
+  pub each : AllByRecursion (IsLogBatch version) batches
   pub last : mark ≡ end_of 0 batches
 
 -- these batches stand before a place, behind the header
@@ -104,9 +105,9 @@ pub record StandBefore (place : ℕ) (image : Bytes) (batches : List LogBatch) :
   pub len : place ≡ 8 + length (flat_map batch_bytes batches)
 
 -- the batches of an image, and where they stop
-pub record IsStop (image : Bytes) (batches : List LogBatch) (stop : Stop) : Type 0 where
+pub record IsStop (version : ℕ) (image : Bytes) (batches : List LogBatch) (stop : Stop) : Type 0 where
   pub stand : StandBefore stop.place image batches
-  pub stops : StopsAt (drop stop.place image) stop.gate
+  pub stops : StopsAt version (drop stop.place image) stop.gate
 
 -- a front in the format, that ends at a place
 pub record IsFoundAt (place : ℕ) (found : Found) : Type 0 where
@@ -155,16 +156,17 @@ pub record IsWindow {D : Type 0} (is_honest : D → Bool) (state : D → DiskSta
 
 -- what a log begins with
 pub record IsStartOf {D : Type 0} (is_honest : D → Bool) (state : D → DiskState) (disk : D) (len : ℕ) (start : Start) : Type 0 where
+  pub version : IsVersion start.version
   pub worker : start.worker < start.logs
   pub logs : start.logs ≤ 64
   pub whole : 8 ≤ len
   pub told : OfImage is_honest state disk len (λ image. IsStart image start)
 
 -- the batches behind a first gate, and where they stop
-pub record IsStopOf {D : Type 0} (is_honest : D → Bool) (state : D → DiskState) (disk : D) (len : ℕ) (first : Head) (bs : List LogBatch) (stop : Stop) : Type 0 where
-  pub batches : AreBatches stop.mark bs
+pub record IsStopOf {D : Type 0} (is_honest : D → Bool) (state : D → DiskState) (disk : D) (version len : ℕ) (first : Head) (bs : List LogBatch) (stop : Stop) : Type 0 where
+  pub batches : AreBatches version stop.mark bs
   pub within : stop.place ≤ len
-  pub told : OfImage is_honest state disk len (λ image. IsHead (drop 8 image) first → IsStop image bs stop)
+  pub told : OfImage is_honest state disk len (λ image. IsHead (drop 8 image) first → IsStop version image bs stop)
 
 -- the front of a file
 pub record IsFrontOf {D : Type 0} (is_honest : D → Bool) (state : D → DiskState) (disk : D) (len : ℕ) (found : Found) : Type 0 where

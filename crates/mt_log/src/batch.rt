@@ -29,7 +29,7 @@ pub struct LoggedBatch {
 
 impl Model for LoggedBatch {
     ghost use Rattle.std.specs.Prelude.{◌≡◌, map};
-    ghost use Rattle.mt_rows.specs.declared.record.{Batch.Batch, Record.Record};
+    ghost use Rattle.mt_rows.specs.{declared.record.Batch.Batch, declared.record.Record.Record};
 
     ghost Value = { Batch };
 
@@ -90,6 +90,8 @@ impl fmt::Debug for LoggedBatch {
 pub enum LogBatch {
     /// A worker's placed changes.
     Records(LoggedBatch),
+    /// The same, as format 1 has them: no record tells of changed columns. It is read, and not written.
+    OldRecords(LoggedBatch),
     /// After a recovery: records of any log with a stamp over `kept` and at most `to` are void.
     Resume { from: u64, to: u64, kept: u64 },
 }
@@ -102,7 +104,7 @@ impl LogBatch {
         ensures { result ≡ from_of self.now }
     {
         match self {
-            LogBatch::Records(batch) => batch.from(),
+            LogBatch::Records(batch) | LogBatch::OldRecords(batch) => batch.from(),
             LogBatch::Resume { from, .. } => *from,
         }
     }
@@ -112,16 +114,17 @@ impl LogBatch {
         ensures { result ≡ to_of self.now }
     {
         match self {
-            LogBatch::Records(batch) => batch.to(),
+            LogBatch::Records(batch) | LogBatch::OldRecords(batch) => batch.to(),
             LogBatch::Resume { to, .. } => *to,
         }
     }
 }
 
-/// What was read of a log: that it is the one of this worker, of so many logs, and its batches. Of their records it
-/// holds those that none of its own resume batches makes void.
+/// What was read of a log: the number of its format, its worker, of how many logs it is, and its batches. Of their
+/// records it holds those that none of its own resume batches makes void.
 #[derive(Debug, Drop)]
 pub struct Front {
+    pub version: u8,
     pub worker: u8,
     pub logs: u8,
     pub batches: Vec<LogBatch>,
@@ -132,17 +135,20 @@ pub struct Front {
 impl Front {
     // What was read of a log, with what is held of its records.
     pub(crate) fn new(
+        version: u8,
         worker: u8,
         logs: u8,
         batches: Vec<LogBatch>,
         held: Vec<SpelledRecords>,
     ) -> Front
         requires { joined held.items ≡ held_in batches.items }
+        ensures version { result.version ≡ version }
         ensures worker { result.worker ≡ worker }
         ensures logs { result.logs ≡ logs }
         ensures batches { result.batches.items ≡ batches.items }
     {
         Front {
+            version,
             worker,
             logs,
             batches,

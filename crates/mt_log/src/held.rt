@@ -3,7 +3,7 @@
 
 ghost use Rattle.std.specs.Prelude.{◌≡◌, ◌++◌, ◌∷◌, [], List, map, IfOk, OnOk};
 ghost use Rattle.mt_rows.specs.declared.record.Record.{Record as AnyRecord};
-ghost use Rattle.mt_log.specs.{declared.batch.LogBatch.LogBatch, Contents.to_of, Voids.{records_in, held_of, joined}, Holding.AreHeld};
+ghost use Rattle.mt_log.specs.{declared.batch.LogBatch.LogBatch, Contents.to_of, Voids.{records_in, held_of, joined}, Holding.AreHeld, Reading.read_as};
 
 use crate::batch::{Front, LogBatch, LoggedBatch};
 use crate::records::SpelledRecords;
@@ -30,20 +30,24 @@ impl Model for ReadBatch {
 }
 
 impl ReadBatch {
-    /// A batch of these records, which have these stamps.
+    /// A batch of these records, which have these stamps: an old one, or not.
     pub(crate) fn of_records(
+        old: bool,
         from: u64,
         to: u64,
         stamps: Vec<u64>,
         records: SpelledRecords,
     ) -> ReadBatch
         requires { stamps.items ≡ map (λ (r : AnyRecord). r.stamp) records }
-        ensures { result ≡ LogBatch.Records (record { from = from; to = to; records = records }) }
+        ensures { result ≡ read_as old (record { from = from; to = to; records = records }) }
     {
-        ReadBatch {
-            batch: LogBatch::Records(LoggedBatch::new(from, to, stamps, &records)),
-            records,
-        }
+        let batch = LoggedBatch::new(from, to, stamps, &records);
+        let batch = if old {
+            LogBatch::OldRecords(batch)
+        } else {
+            LogBatch::Records(batch)
+        };
+        ReadBatch { batch, records }
     }
 
     /// A resume batch.
@@ -125,7 +129,8 @@ impl ReadBatches {
     }
 
     /// The front of a log that has these batches.
-    pub(crate) fn into_front(self, worker: u8, logs: u8) -> Front
+    pub(crate) fn into_front(self, version: u8, worker: u8, logs: u8) -> Front
+        ensures version { result.version ≡ version }
         ensures worker { result.worker ≡ worker }
         ensures logs { result.logs ≡ logs }
         ensures batches { result.batches.items ≡ self }
@@ -135,7 +140,7 @@ impl ReadBatches {
             voids: _,
             held,
         } = self;
-        Front::new(worker, logs, batches, held)
+        Front::new(version, worker, logs, batches, held)
     }
 }
 
@@ -153,6 +158,7 @@ fn hold(
 {
     match batch {
         LogBatch::Records(_) => hold_records(alloc, held, voids, records),
+        LogBatch::OldRecords(_) => hold_records(alloc, held, voids, records),
         LogBatch::Resume { to, kept, .. } => {
             let_go(alloc, held, &[(*kept, *to)])?;
             voids.push((*kept, *to))?;

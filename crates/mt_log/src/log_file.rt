@@ -1,6 +1,6 @@
 //! A log on its disk: made, opened and appended to.
 
-ghost use Rattle.std.specs.Prelude.{◌≡◌, ◌<◌, ◌≤◌, ◌^◌, ◌++◌, ◌∷◌, [], length, IsTrue, IfOk, IfErr, OnOk, OnErr};
+ghost use Rattle.std.specs.Prelude.{◌≡◌, ◌<◌, ◌≤◌, ◌^◌, ◌++◌, ◌∷◌, [], length, IsTrue, IfOk, IfErr, OnOk, OnErr, ℕ};
 ghost use Rattle.mt_disk.specs.Disk.{CountsFailure, GoesUp, synced};
 ghost use Rattle.mt_log.specs.{declared.batch.LogBatch.LogBatch, Format.{body, told_body}};
 ghost use Rattle.mt_log.specs.{Contents.{IsBatch, IsLogBatch, Rises, from_of, to_of, log_bytes, no_batches}, Fronts.IsAtRest};
@@ -168,7 +168,7 @@ impl<D: Disk> LogFile<D> {
     // Adds a batch that goes up to `to`, spelled behind its length and before the next closed gate.
     fn add_block(&mut self, block: &[u8], to: u64) -> Result<(), DeviceFailed>
         requires { self.old.end < 2 ^ 60 }
-        ensures ok { (b : LogBatch) → block.now ≡ told_body (body b) ++ 0 ∷ [] → IsLogBatch b → Rises b → from_of b ≡ self.old.mark → to_of b ≡ to
+        ensures ok { (b : LogBatch) → block.now ≡ told_body (body b) ++ 0 ∷ [] → ((version : ℕ) → IsLogBatch version b) → Rises b → from_of b ≡ self.old.mark → to_of b ≡ to
             → OnOk result (Appended D.is_honest D.state D.failures self.old b self.new) }
         ensures err { (b : LogBatch) → block.now ≡ told_body (body b) ++ 0 ∷ [] → Rises b → from_of b ≡ self.old.mark
             → OnErr result (FailedIn D.is_honest D.state D.failures self.old b self.new.disk) }
@@ -187,7 +187,7 @@ fn write_new<D: Disk>(disk: &mut D, worker: u8, logs: u8) -> Result<(), DeviceFa
     ensures count { CountsFailure result (D.failures disk.old) (D.failures disk.new) }
 {
     disk.cut(0)?;
-    disk.write_at(0, &[b'M', b'T', b'L', b'O', b'G', 1, worker, logs, 0])?;
+    disk.write_at(0, &[b'M', b'T', b'L', b'O', b'G', 2, worker, logs, 0])?;
     disk.sync()
 }
 

@@ -2,8 +2,7 @@
 
 ghost use Rattle.std.specs.Prelude.{◌≡◌, ◌<◌, ◌≤◌, ◌^◌, [], ◌∷◌, ◌++◌, length, drop, IfSome, IfNone, IfOk, IfErr};
 ghost use Rattle.mt_fields.specs.Reading.{Gives};
-ghost use Rattle.mt_log.specs.{Format.header, Fronts.HasNoHeader};
-ghost use Rattle.mt_log.specs.Reading.{records_at, resume_at, batch_kind_at, batch_in};
+ghost use Rattle.mt_log.specs.{Format.{header, IsVersion}, Fronts.HasNoHeader, Reading.{records_at, resume_at, batch_kind_at, batch_in}};
 ghost use Rattle.mt_log.specs.Stops.{IsHead, IsStart, IsBadStart, IsBehind};
 
 use crate::fault::{DecodeFault, ReadFault};
@@ -31,19 +30,26 @@ pub enum Head {
     Bad,
 }
 
-/// What a log begins with: whose it is, of how many, and what stands at its first gate.
+/// What a log begins with: the number of its format, whose it is, of how many, and what stands at its
+/// first gate.
 #[derive(Clone, Copy)]
 pub struct Start {
+    pub version: u8,
     pub worker: u8,
     pub logs: u8,
     pub head: Head,
 }
 
-/// The header of one of so many logs, in format 1.
-pub fn header(worker: u8, logs: u8) -> [u8; 8]
-    ensures { result ≡ header worker logs }
+// The number of the format with old records, and of the one that is written.
+const OLD_FORMAT: u8 = 1;
+
+const FORMAT: u8 = 2;
+
+/// The header of one of so many logs, in the format of this number.
+pub fn header(version: u8, worker: u8, logs: u8) -> [u8; 8]
+    ensures { result ≡ header version worker logs }
 {
-    [b'M', b'T', b'L', b'O', b'G', 1, worker, logs]
+    [b'M', b'T', b'L', b'O', b'G', version, worker, logs]
 }
 
 /// What a log begins with, by its first bytes.
@@ -51,7 +57,7 @@ pub fn start_of(bytes: &[u8]) -> Result<Start, ReadFault>
     ensures ok { IfOk result (IsStart bytes.now) }
     ensures err { IfErr result (IsBadStart bytes.now) }
 {
-    let Some((worker, logs)) = header_of(bytes) else {
+    let Some((version, worker, logs)) = header_of(bytes) else {
         return Err(ReadFault::Bad {
             number: 0,
             offset: 0,
@@ -65,21 +71,30 @@ pub fn start_of(bytes: &[u8]) -> Result<Start, ReadFault>
     }
     let (_, behind) = bytes.split_at(HEADER_BYTES);
     let head = head_of(behind);
-    Ok(Start { worker, logs, head })
+    Ok(Start {
+        version,
+        worker,
+        logs,
+        head,
+    })
 }
 
-// The worker and the number of logs that a header names.
-fn header_of(bytes: &[u8]) -> Option<(u8, u8)>
-    ensures some { IfSome result (λ h. bytes.now ≡ header h.0 h.1 ++ drop 8 bytes.now) }
+// The format, the worker and the number of logs that a header names.
+fn header_of(bytes: &[u8]) -> Option<(u8, u8, u8)>
+    ensures some { IfSome result (λ h. bytes.now ≡ header h.0 h.1 h.2 ++ drop 8 bytes.now) }
+    ensures version { IfSome result (λ h. IsVersion h.0) }
     ensures none { IfNone result (HasNoHeader bytes.now) }
 {
     if bytes.len() < HEADER_BYTES {
         return None;
     }
     let (front, _) = bytes.split_at(HEADER_BYTES);
-    let (worker, logs) = (front[6], front[7]);
-    if front == header(worker, logs).as_slice() {
-        Some((worker, logs))
+    let (version, worker, logs) = (front[5], front[6], front[7]);
+    if version < OLD_FORMAT || version > FORMAT {
+        return None;
+    }
+    if front == header(version, worker, logs).as_slice() {
+        Some((version, worker, logs))
     } else {
         None
     }
@@ -101,19 +116,20 @@ fn head_of(bytes: &[u8]) -> Head
     }
 }
 
-/// The batch whose body the first so many bytes are, and what stands at the gate behind it. None where they
-/// are no batch's body.
+/// The batch whose body the first so many bytes are, and what stands at the gate behind it. None if they
+/// are no batch's body in the format of this number.
 pub fn batch_of(
     alloc: Global,
+    version: u8,
     size: usize,
     bytes: &[u8],
 ) -> Result<Option<(ReadBatch, Head)>, AllocError>
     requires few { size < 2 ^ 32 }
     requires within { size ≤ length bytes.now }
-    ensures { IfOk result (IsBehind size bytes.now) }
+    ensures { IfOk result (IsBehind version size bytes.now) }
 {
     let (body, behind) = bytes.split_at(size);
-    match body_of(alloc, body) {
+    match body_of(alloc, version, body) {
         Ok(batch) => Ok(Some((batch, head_of(behind)))),
         Err(DecodeFault::Bad) => Ok(None),
         Err(DecodeFault::Memory) => Err(AllocError),
@@ -122,11 +138,11 @@ pub fn batch_of(
 
 // A batch that takes all of the bytes.
 #[tactic(auto, unfolding(crate::specs::Reading::batch_in))]
-fn body_of(alloc: Global, bytes: &[u8]) -> Result<ReadBatch, DecodeFault>
-    ensures { Gives (λ b. b) result (batch_in bytes.now) }
+fn body_of(alloc: Global, version: u8, bytes: &[u8]) -> Result<ReadBatch, DecodeFault>
+    ensures { Gives (λ b. b) result (batch_in version bytes.now) }
 {
     let (kind, rest) = u8_at(bytes)?;
-    let (batch, rest) = kind_of(alloc, kind, rest)?;
+    let (batch, rest) = kind_of(alloc, version, kind, rest)?;
     if !rest.is_empty() {
         return Err(DecodeFault::Bad);
     }
@@ -134,12 +150,18 @@ fn body_of(alloc: Global, bytes: &[u8]) -> Result<ReadBatch, DecodeFault>
 }
 
 #[tactic(auto, unfolding(crate::specs::Reading::batch_kind_at))]
-fn kind_of(alloc: Global, kind: u8, rest: &[u8]) -> Result<(ReadBatch, &[u8]), DecodeFault>
-    ensures { Gives (λ x. (x.0, x.1.now)) result (batch_kind_at kind rest.now) }
+fn kind_of(
+    alloc: Global,
+    version: u8,
+    kind: u8,
+    rest: &[u8],
+) -> Result<(ReadBatch, &[u8]), DecodeFault>
+    ensures { Gives (λ x. (x.0, x.1.now)) result (batch_kind_at version kind rest.now) }
 {
     match kind {
-        0 => records_of(alloc, rest),
+        0 if version == OLD_FORMAT => records_of(alloc, true, rest),
         1 => resume_of(alloc, rest),
+        2 => records_of(alloc, false, rest),
         _ => Err(DecodeFault::Bad),
     }
 }
@@ -158,17 +180,18 @@ fn resume_of(alloc: Global, bytes: &[u8]) -> Result<(ReadBatch, &[u8]), DecodeFa
     Ok((ReadBatch::resume(alloc, from, to, kept), rest))
 }
 
-// A batch of records, behind its first byte.
+// A batch of records, after its first byte: an old one, or not.
 #[tactic(auto, unfolding(crate::specs::Reading::records_at))]
-fn records_of(alloc: Global, bytes: &[u8]) -> Result<(ReadBatch, &[u8]), DecodeFault>
-    ensures { Gives (λ x. (x.0, x.1.now)) result (records_at bytes.now) }
+fn records_of(alloc: Global, old: bool, bytes: &[u8]) -> Result<(ReadBatch, &[u8]), DecodeFault>
+    ensures { Gives (λ x. (x.0, x.1.now)) result (records_at old bytes.now) }
 {
     let (from, rest) = u64_at(bytes)?;
     let (to, rest) = u64_at(rest)?;
     let (count, rest) = u32_at(rest)?;
-    let (stamps, records, rest) = spelled_of(alloc, count as usize, rest)?;
+    let (stamps, records, rest) = spelled_of(alloc, old, count as usize, rest)?;
     if !is_step(to) {
         return Err(DecodeFault::Bad);
     }
-    Ok((ReadBatch::of_records(from, to, stamps, records), rest))
+    let batch = ReadBatch::of_records(old, from, to, stamps, records);
+    Ok((batch, rest))
 }

@@ -3,19 +3,18 @@
 //!
 //! No list is made by a number that was read: it grows with the records that stand there.
 
-ghost use Rattle.std.specs.{Prelude.{◌≡◌, ◌≤◌, ◌++◌, [], ℕ, map, length, IfOk, OnOk}, List.{All, flat_map}};
+ghost use Rattle.std.specs.{Prelude.{◌≡◌, ◌≤◌, ◌++◌, [], ℕ, map, length, IfOk, OnOk, false}, List.{All, flat_map}};
 ghost use Rattle.mt_rows.specs.declared.record.Record.{Record as AnyRecord};
 ghost use Rattle.mt_batches.specs.Batches.{IsRecord};
 ghost use Rattle.mt_fields.specs.Reading.{Gives, each_at};
-ghost use Rattle.mt_log.specs.{Format.record_bytes, Voids.held_of};
-ghost use Rattle.mt_log.specs.Reading.{written_at, change_kind_at, change_at, record_at, stamp_at};
+ghost use Rattle.mt_log.specs.{Format.record_bytes, Voids.held_of, Reading.{record_at, stamp_at, changed_at, whole_at, write_at, write_kind_at}};
 
 use crate::fault::DecodeFault;
 use crate::voids::{is_in_void, meets};
 use crate::writer::put_record;
 use mt_fields::{u8_at, u32_at, u64_at};
-use mt_row_fields::{key_of, row_of};
-use mt_rows::{Record, Row};
+use mt_row_fields::{change_of, key_of, row_of};
+use mt_rows::{Record, Write};
 use std::alloc::{AllocError, Global};
 use std::marker::Model;
 
@@ -115,16 +114,17 @@ fn put_held(
     Ok(count)
 }
 
-/// So many records: their stamps, they themselves, and the bytes behind them.
+/// So many records, old ones or not: their stamps, they themselves, and the bytes after them.
 pub(crate) fn spelled_of(
     alloc: Global,
+    old: bool,
     count: usize,
     bytes: &[u8],
 ) -> Result<(Vec<u64>, SpelledRecords, &[u8]), DecodeFault>
-    ensures read { Gives (λ x. (x.1, x.2.now)) result (each_at record_at count bytes.now) }
+    ensures read { Gives (λ x. (x.1, x.2.now)) result (each_at (record_at old) count bytes.now) }
     ensures stamps { IfOk result (λ x. x.0.items ≡ map (λ (r : AnyRecord). r.stamp) x.1) }
 {
-    let (stamps, rest) = stamps_of(alloc, count, bytes)?;
+    let (stamps, rest) = stamps_of(alloc, old, count, bytes)?;
     let (least, greatest) = bounds_of(&stamps);
     let bytes = Vec::from_slice(alloc, bytes)?;
     Ok((
@@ -153,13 +153,18 @@ fn bounds_of(stamps: &[u64]) -> (u64, u64)
 }
 
 // The stamps of so many records, each of which is read and dropped.
-fn stamps_of(alloc: Global, count: usize, bytes: &[u8]) -> Result<(Vec<u64>, &[u8]), DecodeFault>
-    ensures { Gives (λ x. (x.0.items, x.1.now)) result (each_at stamp_at count bytes.now) }
+fn stamps_of(
+    alloc: Global,
+    old: bool,
+    count: usize,
+    bytes: &[u8],
+) -> Result<(Vec<u64>, &[u8]), DecodeFault>
+    ensures { Gives (λ x. (x.0.items, x.1.now)) result (each_at (stamp_at old) count bytes.now) }
 {
     let mut stamps = Vec::new(alloc);
     let mut rest = bytes;
     for _ in 0..count {
-        let (stamp, after) = stamp_of(alloc, rest)?;
+        let (stamp, after) = stamp_of(alloc, old, rest)?;
         stamps.push(stamp)?;
         rest = after;
     }
@@ -168,10 +173,10 @@ fn stamps_of(alloc: Global, count: usize, bytes: &[u8]) -> Result<(Vec<u64>, &[u
 
 // The stamp of a record.
 #[tactic(auto, unfolding(crate::specs::Reading::stamp_at))]
-fn stamp_of(alloc: Global, bytes: &[u8]) -> Result<(u64, &[u8]), DecodeFault>
-    ensures { Gives (λ x. (x.0, x.1.now)) result (stamp_at bytes.now) }
+fn stamp_of(alloc: Global, old: bool, bytes: &[u8]) -> Result<(u64, &[u8]), DecodeFault>
+    ensures { Gives (λ x. (x.0, x.1.now)) result (stamp_at old bytes.now) }
 {
-    let (record, rest) = record_of(alloc, bytes)?;
+    let (record, rest) = record_of(alloc, old, bytes)?;
     Ok((record.stamp, rest))
 }
 
@@ -181,63 +186,77 @@ fn record_list_of(
     count: usize,
     bytes: &[u8],
 ) -> Result<(Vec<Record>, &[u8]), DecodeFault>
-    ensures read { Gives (λ x. (x.0.items, x.1.now)) result (each_at record_at count bytes.now) }
+    ensures read { Gives (λ x. (x.0.items, x.1.now)) result (each_at (record_at false) count bytes.now) }
     ensures each { IfOk result (λ x. All IsRecord x.0.items) }
 {
     let mut records = Vec::new(alloc);
     let mut rest = bytes;
     for _ in 0..count {
-        let (record, after) = record_of(alloc, rest)?;
+        let (record, after) = record_of(alloc, false, rest)?;
         records.push(record)?;
         rest = after;
     }
     Ok((records, rest))
 }
 
-// A record.
+// A record. An old one tells of no changed columns.
 #[tactic(auto, unfolding(crate::specs::Reading::record_at))]
-fn record_of(alloc: Global, bytes: &[u8]) -> Result<(Record, &[u8]), DecodeFault>
-    ensures { Gives (λ x. (x.0, x.1.now)) result (record_at bytes.now) }
+fn record_of(alloc: Global, old: bool, bytes: &[u8]) -> Result<(Record, &[u8]), DecodeFault>
+    ensures { Gives (λ x. (x.0, x.1.now)) result (record_at old bytes.now) }
 {
     let (stamp, rest) = u64_at(bytes)?;
     let (tenant, rest) = u32_at(rest)?;
     let (key, rest) = key_of(alloc, rest)?;
-    let (row, rest) = change_of(alloc, rest)?;
+    let (write, rest) = write_of(alloc, old, rest)?;
     Ok((
         Record {
             stamp,
             tenant,
             key,
-            row,
+            write,
         },
         rest,
     ))
 }
 
 // What became of a key.
-#[tactic(auto, unfolding(crate::specs::Reading::change_at))]
-fn change_of(alloc: Global, bytes: &[u8]) -> Result<(Option<Row>, &[u8]), DecodeFault>
-    ensures { Gives (λ x. (x.0, x.1.now)) result (change_at bytes.now) }
+#[tactic(auto, unfolding(crate::specs::Reading::write_at))]
+fn write_of(alloc: Global, old: bool, bytes: &[u8]) -> Result<(Write, &[u8]), DecodeFault>
+    ensures { Gives (λ x. (x.0, x.1.now)) result (write_at old bytes.now) }
 {
     let (kind, rest) = u8_at(bytes)?;
-    change_kind_of(alloc, kind, rest)
+    write_kind_of(alloc, old, kind, rest)
 }
 
-#[tactic(auto, unfolding(crate::specs::Reading::change_kind_at))]
-fn change_kind_of(alloc: Global, kind: u8, rest: &[u8]) -> Result<(Option<Row>, &[u8]), DecodeFault>
-    ensures { Gives (λ x. (x.0, x.1.now)) result (change_kind_at kind rest.now) }
+#[tactic(auto, unfolding(crate::specs::Reading::write_kind_at))]
+fn write_kind_of(
+    alloc: Global,
+    old: bool,
+    kind: u8,
+    rest: &[u8],
+) -> Result<(Write, &[u8]), DecodeFault>
+    ensures { Gives (λ x. (x.0, x.1.now)) result (write_kind_at old kind rest.now) }
 {
     match kind {
-        0 => Ok((None, rest)),
-        1 => written_of(alloc, rest),
+        0 => Ok((Write::Removed, rest)),
+        1 => whole_of(alloc, rest),
+        2 if !old => changed_of(alloc, rest),
         _ => Err(DecodeFault::Bad),
     }
 }
 
-#[tactic(auto, unfolding(crate::specs::Reading::written_at))]
-fn written_of(alloc: Global, bytes: &[u8]) -> Result<(Option<Row>, &[u8]), DecodeFault>
-    ensures { Gives (λ x. (x.0, x.1.now)) result (written_at bytes.now) }
+#[tactic(auto, unfolding(crate::specs::Reading::whole_at))]
+fn whole_of(alloc: Global, bytes: &[u8]) -> Result<(Write, &[u8]), DecodeFault>
+    ensures { Gives (λ x. (x.0, x.1.now)) result (whole_at bytes.now) }
 {
     let (row, rest) = row_of(alloc, bytes)?;
-    Ok((Some(row), rest))
+    Ok((Write::Whole(row), rest))
+}
+
+#[tactic(auto, unfolding(crate::specs::Reading::changed_at))]
+fn changed_of(alloc: Global, bytes: &[u8]) -> Result<(Write, &[u8]), DecodeFault>
+    ensures { Gives (λ x. (x.0, x.1.now)) result (changed_at bytes.now) }
+{
+    let (change, rest) = change_of(alloc, bytes)?;
+    Ok((Write::Changed(change), rest))
 }

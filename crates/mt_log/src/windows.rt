@@ -7,6 +7,7 @@ ghost use Rattle.std.specs.Prelude.{◌≡◌, ◌<◌, ◌≤◌, ◌+◌, ◌-
 ghost use Rattle.mt_rows.specs.Rows.{Bytes};
 ghost use Rattle.mt_log.specs.declared.fault.ReadFault.TheVariants.{Bad};
 ghost use Rattle.mt_log.specs.Stops.{CountsReads, IsWindow, OfImage, IsHead, IsOpenGate, IsAtGate, FitsGate, AreBatches, IsHeader, IsStop, IsFoundAt, IsRead, IsBadRead, IsNotBad, IsStartOf, IsStopOf, IsFrontOf, IsFaultOf};
+ghost use Rattle.mt_log.specs.Format.{IsVersion};
 
 use crate::batch::Front;
 use crate::fault::ReadFault;
@@ -61,23 +62,29 @@ pub(crate) fn read_front<D: Disk>(
 {
     let start = read_start(alloc, disk, len)?;
     let mut batches = ReadBatches::new(alloc);
-    let stop = read_batches(alloc, disk, len, start.head, &mut batches)?;
+    let stop = read_batches(alloc, disk, start.version, len, start.head, &mut batches)?;
     found_of(start, batches, &stop)
 }
 
 // The front that begins so, and whose batches stop there.
 fn found_of(start: Start, batches: ReadBatches, stop: &Stop) -> Result<Found, ReadFault>
+    requires version { IsVersion start.version }
     requires worker { start.worker < start.logs }
     requires logs { start.logs ≤ 64 }
-    requires batches { AreBatches stop.now.mark batches }
+    requires batches { AreBatches start.version stop.now.mark batches }
     ensures ok { IfOk result (IsFoundAt stop.now.place) }
     ensures err { IfErr result (λ e. e ≡ Bad start.worker stop.now.place) }
-    ensures told { (image : Bytes) → IsHeader image start → IsStop image batches stop.now → MatchResult result (IsRead image) (IsBadRead image) }
+    ensures told { (image : Bytes) → IsHeader image start → IsStop start.version image batches stop.now → MatchResult result (IsRead image) (IsBadRead image) }
 {
-    let Start { worker, logs, .. } = start;
+    let Start {
+        version,
+        worker,
+        logs,
+        ..
+    } = start;
     match stop.gate {
         Some(gate) => Ok(Found {
-            front: batches.into_front(worker, logs),
+            front: batches.into_front(version, worker, logs),
             end: stop.place,
             gate,
             mark: stop.mark,
@@ -105,6 +112,7 @@ fn read_start<D: Disk>(alloc: Global, disk: &mut D, len: usize) -> Result<Start,
 fn read_batches<D: Disk>(
     alloc: Global,
     disk: &mut D,
+    version: u8,
     len: usize,
     first: Head,
     batches: &mut ReadBatches,
@@ -112,7 +120,7 @@ fn read_batches<D: Disk>(
     requires none { batches.old ≡ [] }
     requires header { 8 ≤ len }
     requires short { len < 2 ^ 63 }
-    ensures ok { IfOk result (IsStopOf D.is_honest D.state disk.old len first batches.new) }
+    ensures ok { IfOk result (IsStopOf D.is_honest D.state disk.old version len first batches.new) }
     ensures err { IfErr result IsNotBad }
     ensures same { IsTrue (D.is_honest disk.old) → D.state disk.new ≡ D.state disk.old }
     ensures honest { D.is_honest disk.new ≡ D.is_honest disk.old }
@@ -122,7 +130,7 @@ fn read_batches<D: Disk>(
     let mut mark = 0;
     let mut head = first;
     loop {
-        match at_gate(alloc, disk, len, place, head)? {
+        match at_gate(alloc, disk, version, len, place, head)? {
             AtGate::Shut(gate) => {
                 return Ok(Stop {
                     place,
@@ -151,14 +159,15 @@ fn read_batches<D: Disk>(
 fn at_gate<D: Disk>(
     alloc: Global,
     disk: &mut D,
+    version: u8,
     len: usize,
     place: usize,
     head: Head,
 ) -> Result<AtGate, ReadFault>
     requires within { place ≤ len }
     requires short { len < 2 ^ 63 }
-    ensures fits { IfOk result (FitsGate (len - place)) }
-    ensures told { IfOk result (λ at. OfImage D.is_honest D.state disk.old len (λ image. IsHead (drop place image) head → IsAtGate (drop place image) at)) }
+    ensures fits { IfOk result (FitsGate version (len - place)) }
+    ensures told { IfOk result (λ at. OfImage D.is_honest D.state disk.old len (λ image. IsHead (drop place image) head → IsAtGate version (drop place image) at)) }
     ensures err { IfErr result IsNotBad }
     ensures same { IsTrue (D.is_honest disk.old) → D.state disk.new ≡ D.state disk.old }
     ensures honest { D.is_honest disk.new ≡ D.is_honest disk.old }
@@ -172,13 +181,14 @@ fn at_gate<D: Disk>(
     if len - place < HEAD_BYTES + size {
         return Ok(AtGate::Bad);
     }
-    read_batch(alloc, disk, len, place, size)
+    read_batch(alloc, disk, version, len, place, size)
 }
 
 // What stands at an open gate before a body of so many bytes, which the file has.
 fn read_batch<D: Disk>(
     alloc: Global,
     disk: &mut D,
+    version: u8,
     len: usize,
     place: usize,
     size: usize,
@@ -186,15 +196,15 @@ fn read_batch<D: Disk>(
     requires few { size < 2 ^ 32 }
     requires within { place + (5 + size) ≤ len }
     requires short { len < 2 ^ 63 }
-    ensures fits { IfOk result (FitsGate (len - place)) }
-    ensures told { IfOk result (λ at. OfImage D.is_honest D.state disk.old len (λ image. IsOpenGate (drop place image) size → IsAtGate (drop place image) at)) }
+    ensures fits { IfOk result (FitsGate version (len - place)) }
+    ensures told { IfOk result (λ at. OfImage D.is_honest D.state disk.old len (λ image. IsOpenGate (drop place image) size → IsAtGate version (drop place image) at)) }
     ensures err { IfErr result IsNotBad }
     ensures same { IsTrue (D.is_honest disk.old) → D.state disk.new ≡ D.state disk.old }
     ensures honest { D.is_honest disk.new ≡ D.is_honest disk.old }
     ensures count { CountsReads result (D.failures disk.old) (D.failures disk.new) }
 {
     let bytes = read_window(alloc, disk, len, place + HEAD_BYTES, size + HEAD_BYTES)?;
-    match batch_of(alloc, size, &bytes)? {
+    match batch_of(alloc, version, size, &bytes)? {
         Some((batch, next)) => Ok(AtGate::Open(batch, HEAD_BYTES + size, next)),
         None => Ok(AtGate::Bad),
     }

@@ -2,12 +2,12 @@
 
 ghost use Rattle.std.specs.{Prelude.{◌≡◌, ◌≤◌, ◌<◌, ◌*◌, ◌^◌, ◌++◌, ◌∷◌, [], length, IfOk, OnOk}, List.{flat_map, All}};
 ghost use Rattle.mt_rows.specs.{Commands.IsKey, Limits.AreRecords};
-ghost use Rattle.mt_batches.specs.Batches.{IsRowOrNone, IsRecord};
-ghost use Rattle.mt_log.specs.{declared.batch.LogBatch.LogBatch, Format.{change_bytes, record_bytes, body, told_body}, Contents.IsBatch};
+ghost use Rattle.mt_batches.specs.Batches.{IsRecord, IsWrite};
+ghost use Rattle.mt_log.specs.{declared.batch.LogBatch.LogBatch, Format.{record_bytes, body, told_body, write_bytes}, Contents.IsBatch};
 
 use mt_fields::{put_u32, put_u64};
-use mt_row_fields::{put_key, put_row, row_len};
-use mt_rows::{Batch, Record, Row};
+use mt_row_fields::{change_len, put_change, put_key, put_row, row_len};
+use mt_rows::{Batch, Record, Write};
 use std::alloc::{AllocError, Global};
 
 /// A body has fewer bytes, and a batch fewer records.
@@ -17,14 +17,15 @@ pub(crate) const BODY_LIMIT: usize = 1 << 32;
 pub(crate) const RECORDS_HEAD: usize = 21;
 
 // How many bytes are told of what became of a key.
-fn change_len(row: &Option<Row>) -> usize
-    ensures exact { result ≡ length (change_bytes row.now) }
-    ensures few { result ≤ 16418 }
-    ensures limits { IsRowOrNone row.now }
+fn write_len(write: &Write) -> usize
+    ensures exact { result ≡ length (write_bytes write.now) }
+    ensures few { result ≤ 16434 }
+    ensures limits { IsWrite write.now }
 {
-    match row {
-        None => 1,
-        Some(row) => 1 + row_len(row),
+    match write {
+        Write::Removed => 1,
+        Write::Whole(row) => 1 + row_len(row),
+        Write::Changed(change) => 1 + change_len(change),
     }
 }
 
@@ -32,11 +33,11 @@ fn change_len(row: &Option<Row>) -> usize
 fn record_len(change: &Record) -> usize
     requires { IsKey change.now.key }
     ensures exact { result ≡ length (record_bytes change.now) }
-    ensures few { result ≤ 16683 }
+    ensures few { result ≤ 16699 }
     ensures limits { IsRecord change.now }
 {
     let (_stamp, _tenant) = (change.stamp, change.tenant);
-    14 + change.key.as_bytes().len() + change_len(&change.row)
+    14 + change.key.as_bytes().len() + write_len(&change.write)
 }
 
 // How many bytes records are spelled with.
@@ -55,17 +56,21 @@ pub(crate) fn records_len(records: &[Record]) -> usize
 }
 
 // What became of a key.
-fn put_change(out: &mut Vec<u8>, row: &Option<Row>) -> Result<(), AllocError>
-    ensures { OnOk result (out.new.items ≡ out.old.items ++ change_bytes row.now) }
+fn put_write(out: &mut Vec<u8>, write: &Write) -> Result<(), AllocError>
+    ensures { OnOk result (out.new.items ≡ out.old.items ++ write_bytes write.now) }
 {
-    match row {
-        None => {
+    match write {
+        Write::Removed => {
             out.push(0)?;
             Ok(())
         }
-        Some(row) => {
+        Write::Whole(row) => {
             out.push(1)?;
             put_row(out, row)
+        }
+        Write::Changed(change) => {
+            out.push(2)?;
+            put_change(out, change)
         }
     }
 }
@@ -78,7 +83,7 @@ pub(crate) fn put_record(out: &mut Vec<u8>, change: &Record) -> Result<(), Alloc
     put_u64(out, change.stamp)?;
     put_u32(out, change.tenant)?;
     put_key(out, &change.key)?;
-    put_change(out, &change.row)
+    put_write(out, &change.write)
 }
 
 // Records, one after the other.
@@ -98,7 +103,7 @@ fn put_body(out: &mut Vec<u8>, batch: &Batch) -> Result<(), AllocError>
     ensures { OnOk result (out.new.items ≡ out.old.items ++ body (LogBatch.Records batch.now)) }
 {
     let records = batch.records.as_slice();
-    out.push(0)?;
+    out.push(2)?;
     put_u64(out, batch.from)?;
     put_u64(out, batch.to)?;
     put_u32(out, records.len() as u32)?;

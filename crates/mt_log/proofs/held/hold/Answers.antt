@@ -2,7 +2,9 @@
 use Rattle.std.proofs.{Common.{rules, ◌≡◌, ◌++◌, ◌∷◌, [], ℕ, List, length, take, drop, sym, ap, subst, ◌∙◌}, Math.Seq.take-append_seam}
 use Rattle.mt_rows.specs.declared.record.Record.{Record}
 use Rattle.mt_disk.proofs.CrashLaws.{at_ok}
-use Rattle.mt_log.{specs.{declared.batch.LogBatch.LogBatch, declared.batch.LogBatch.TheVariants.Resume, Voids.{Numbers, records_in, held_of, joined}, Holding.AreHeld}, proofs.HeldLaws.{held_records, held_resume}}
+use Rattle.mt_log.specs.{declared.batch.LogBatch.LogBatch, declared.batch.LogBatch.TheVariants.Resume, Voids.{Numbers, records_in, held_of, joined}}
+use Rattle.mt_log.specs.Holding.{AreHeld}
+use Rattle.mt_log.proofs.HeldLaws.{held_records, held_resume, held_old}
 use Rattle.mt_log.proofs.held.hold.Goals as goal
 
 pub returns-in-Records : goal.returns-in-Records
@@ -16,6 +18,18 @@ returns-in-Records c =
     (e ∙ ap (λ (vs : List Numbers). joined old ++ held_of vs c.args.records) c.deref.ensures.value
     ∙ ap (λ (rs : List Record). joined old ++ held_of voids rs) (c.requires ∙ ap records_in c.in-Records.is))))
     c.hold_records.ensures
+
+pub returns-in-OldRecords : goal.returns-in-OldRecords
+returns-in-OldRecords c =
+    let old = c.args.held.now.items in
+    let new = c.hold_records-in-OldRecords.new.held.items in
+    let voids = c.args.voids.now.items in
+    at_ok c.hold_records-in-OldRecords.result
+    (λ e bs is. subst (λ (b : LogBatch). AreHeld (bs ++ b ∷ []) voids new) (sym c.in-OldRecords.is)
+    (held_old bs c.in-OldRecords.field-0 voids old new is
+    (e ∙ ap (λ (vs : List Numbers). joined old ++ held_of vs c.args.records) c.deref-in-OldRecords.ensures.value
+    ∙ ap (λ (rs : List Record). joined old ++ held_of voids rs) (c.requires ∙ ap records_in c.in-OldRecords.is))))
+    c.hold_records-in-OldRecords.ensures
 
 pub returns-in_ok-push-in-Resume : goal.returns-in_ok-push-in-Resume
 returns-in_ok-push-in-Resume c = λ bs is.

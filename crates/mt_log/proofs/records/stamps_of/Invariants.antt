@@ -5,4 +5,4 @@ use Rattle.mt_log.specs.Reading.{stamp_at}
 use Rattle.mt_log.proofs.records.stamps_of.Given as goal
 
 abbrev pub invariant-loop : goal.invariant-loop
-invariant-loop l = with_front l.stamps.items (each_at stamp_at (l.count - l.counter) l.rest) ≡ each_at stamp_at l.count l.bytes
+invariant-loop l = with_front l.stamps.items (each_at (stamp_at l.old) (l.count - l.counter) l.rest) ≡ each_at (stamp_at l.old) l.count l.bytes

@@ -8,13 +8,13 @@ returns-in-Some-clause-told g c = λ honest len is.
     let image = (g.D.Disk.state c.args.disk.now).image in
     let bytes = c.deref.result.now in
     let fits = c.requires.within in
-    let has = subst (λ (x : Option (LogBatch × Head)). IsBehind c.args.size bytes x) c.in-Some.is c.in_ok-batch.ensures in
-    batch_in_window image bytes c.args.place c.args.size is (omega (arith, fits, len)) (c.deref.ensures.value ∙ c.in_ok-bytes.ensures.ok.told honest len) c.in-Some.batch c.in-Some.next has
+    let has = subst (λ (x : Option (LogBatch × Head)). IsBehind c.args.version c.args.size bytes x) c.in-Some.is c.in_ok-batch.ensures in
+    batch_in_window c.args.version image bytes c.args.place c.args.size is (omega (arith, fits, len)) (c.deref.ensures.value ∙ c.in_ok-bytes.ensures.ok.told honest len) c.in-Some.batch c.in-Some.next has
 
 pub returns-clause-told : goal.returns-clause-told
 returns-clause-told g c = λ honest len is.
     let image = (g.D.Disk.state c.args.disk.now).image in
     let bytes = c.deref.result.now in
     let fits = c.requires.within in
-    let has = subst (λ (x : Option (LogBatch × Head)). IsBehind c.args.size bytes x) c.in-None.is c.in_ok-batch.ensures in
-    none_in_window image bytes c.args.place c.args.size is (omega (arith, fits, len)) (c.deref.ensures.value ∙ c.in_ok-bytes.ensures.ok.told honest len) has
+    let has = subst (λ (x : Option (LogBatch × Head)). IsBehind c.args.version c.args.size bytes x) c.in-None.is c.in_ok-batch.ensures in
+    none_in_window c.args.version image bytes c.args.place c.args.size is (omega (arith, fits, len)) (c.deref.ensures.value ∙ c.in_ok-bytes.ensures.ok.told honest len) has

@@ -5,7 +5,7 @@ use Rattle.mt_log.proofs.windows.read_batches.Given as goal
 
 abbrev pub invariant-loop-gate : goal.invariant-loop-gate
 invariant-loop-gate g l = record {
-  batches : AreBatches l.mark l.batches;
+  batches : AreBatches l.version l.mark l.batches;
   within : l.place ≤ l.len;
   told :
       OfImage g.D.Disk.is_honest g.D.Disk.state l.fn.disk l.len (λ image. IsHead (drop 8 image) l.fn.first → StandBefore l.place image l.batches × IsHead (drop l.place image) l.head);

@@ -9,6 +9,7 @@ returns-clause-ok g c =
     let size = c.in_ok-bytes.ensures.ok.size in
     IfOk-weaker c.start_of.result (IsStart w) (IsStartOf g.D.Disk.is_honest g.D.Disk.state c.args.disk.now c.args.len)
     (λ start is. record {
+      version = is.version;
       worker = is.worker;
       logs = is.logs;
       whole = omega (arith, size, ap length c.deref.ensures.value, ap length is.header);

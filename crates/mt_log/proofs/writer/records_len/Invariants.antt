@@ -8,6 +8,6 @@ use Rattle.mt_log.proofs.writer.records_len.Given as goal
 abbrev pub invariant-loop-record : goal.invariant-loop-record
 invariant-loop-record l = record {
   exact : l.len ≡ length (flat_map record_bytes (take l.record-index l.records));
-  few : l.len ≤ 16683 * l.record-index;
+  few : l.len ≤ 16699 * l.record-index;
   each : (k : ℕ) (d : Record) → k < l.record-index → IsRecord (get_or l.records k d);
 }

@@ -23,7 +23,7 @@ returns-clause-ok g c = λ b is batch rises turn to.
       rises = rises;
       mark = sym to;
       has = λ honest d log. record {
-        contents = contents_more d b log.contents batch;
+        contents = contents_more d b log.contents (batch d.version);
         rest =
             subst (λ l. IsAtRest l (c.args.self.now.end + length c.args.block.now) (g.D.Disk.state c.add.new.disk)) (sym (more_bytes d b)) (c.in_ok-add.ensures.added honest (log_bytes d) (body b) is log.rest);
         mark = sym to ∙ sym (end_more 0 d.batches b);
