@@ -6,7 +6,7 @@ use Rattle.std.specs.{Prelude.nat_eq, Option.option_eq, List.slice_get}
 use Rattle.mt_rows.specs.Rows.{Bytes}
 use Rattle.mt_disk.specs.Disk.{Range, Moment, MayLeave, DiskState, is_dirty, dirtied, overwritten, Dirties, Attempts, LeavesOnlyAt, LeavesOnly, IsDurable, synced, found_with}
 use Rattle.mt_disk.proofs.CrashLaws.{started, reads_durable, after_write, after_sync, joined, widened}
-use Rattle.mt_checkpoint.specs.Checkpoints.{Walk, IsWalk, walk_bytes, HasWalk, HasNone, Has, In, IsClosed, IsGated, IsOneOf, IsShut, IsBehindGate, IsClosedAtRest, IsStaged}
+use Rattle.mt_checkpoint.specs.Checkpoints.{Walk, IsWalk, IsSpelledIn, walk_bytes, HasWalk, HasNone, Has, In, IsClosed, IsGated, IsOneOf, IsShut, IsBehindGate, IsClosedAtRest, IsStaged}
 use Rattle.mt_checkpoint.specs.Slots.{IsSyncedOrSame, ClosesGate, HasDurably, SettlesOnSlot}
 use Rattle.mt_checkpoint.proofs.Walks.{one_walk}
 
@@ -135,20 +135,32 @@ module _ (text : Bytes) (s : DiskState) (b : IsBehindGate text s) where
 
 -- ---- the gate itself
 
+-- every walk is spelled in format 2
+spelled_new : (w : Walk) → IsSpelledIn 2 w
+spelled_new w = record { known = (omega arith, omega arith); stamps = λ old. absurd (omega (arith, old)) }
+
+-- a gate before a whole checkpoint, where the slot may also have none
+wider_gate : (may : List (Option Walk)) (image : Bytes) → IsGated may image → IsOneOf (None ∷ may) image
+wider_gate may image g =
+    inr (record { walk = g.walk; among = inr g.among; is = g.is; version = g.version; spelled = g.spelled; gate = g.gate; behind = g.behind; whole = g.whole; open_or = inr (inl refl) })
+
 -- whatever a write of the first byte leaves before a whole checkpoint
-gate_write : (w : Walk) (is : IsWalk w) (may : List (Option Walk)) (gate : ℕ) (behind : Bytes) (s : DiskState) → IsDurable s → s.image ≡ gate ∷ (walk_bytes w ++ behind)
+gate_write : (w : Walk) (is : IsWalk w) (version : ℕ) (spelled : IsSpelledIn version w) (may : List (Option Walk)) (gate : ℕ) (behind : Bytes) (s : DiskState) → IsDurable s
+    → s.image ≡ gate ∷ (walk_bytes version w ++ behind)
     → In (Some w) may → In None may → LeavesOnlyAt (IsOneOf may) (dirtied (0, 1) s.now)
-gate_write w is may gate behind s durable whole among none image left =
+gate_write w is version spelled may gate behind s durable whole among none image left =
     let here : MayLeave (dirtied (0, 1) (record { durable = s.image; dirty = [] })) image = subst (λ m. MayLeave (dirtied (0, 1) m) image) durable left in
-    let text = walk_bytes w ++ behind in
+    let text = walk_bytes version w ++ behind in
     let found = but_first gate text image (omega arith) (λ i lt. here.keeps (suc i) (omega (arith, lt, ap length whole)) (elsewhere i) ∙ ap (λ (l : Bytes). slice_get l (suc i)) whole) in
     inr (record {
       walk = w;
       among = among;
       is = is;
+      version = version;
+      spelled = spelled;
       gate = found.0;
       behind = behind ++ found.1;
-      whole = found.2 ∙ ap (λ (l : Bytes). found.0 ∷ l) (append_assoc (walk_bytes w) behind found.1);
+      whole = found.2 ∙ ap (λ (l : Bytes). found.0 ∷ l) (append_assoc (walk_bytes version w) behind found.1);
       open_or = inr none;
     })
 
@@ -164,34 +176,34 @@ gate_closed (Err e) s mid new is done = tt
 -- closing the gate before a whole checkpoint
 module _ (may : List (Option Walk)) (s : DiskState) (durable : IsDurable s) (gated : IsGated may s.image) where
   wide_gated : IsOneOf (None ∷ may) s.image
-  wide_gated = inr (record { walk = gated.walk; among = inr gated.among; is = gated.is; gate = gated.gate; behind = gated.behind; whole = gated.whole; open_or = inr (inl refl) })
+  wide_gated = wider_gate may s.image gated
 
   close_at : LeavesOnlyAt (IsOneOf (None ∷ may)) (dirtied (0, 1) s.now)
-  close_at = gate_write gated.walk gated.is (None ∷ may) gated.gate gated.behind s durable gated.whole (inr gated.among) (inl refl)
+  close_at = gate_write gated.walk gated.is gated.version gated.spelled (None ∷ may) gated.gate gated.behind s durable gated.whole (inr gated.among) (inl refl)
 
   pub close_written : {T E : Type 0} (result : Result T E) (new : DiskState) → Attempts (0, 1) result s new → LeavesOnly (IsOneOf (None ∷ may)) s new
   close_written result new tried = after_write (IsOneOf (None ∷ may)) (0, 1) result s s new (started (IsOneOf (None ∷ may)) s durable wide_gated) close_at tried
 
 -- opening it
-module _ (w : Walk) (is : IsWalk w) (s : DiskState) (staged : IsStaged (walk_bytes w) s) where
+module _ (w : Walk) (is : IsWalk w) (s : DiskState) (staged : IsStaged (walk_bytes 2 w) s) where
   abbrev pub both : List (Option Walk)
   both = None ∷ Some w ∷ []
 
-  whole_staged : s.image ≡ 0 ∷ (walk_bytes w ++ [])
-  whole_staged = staged.image ∙ ap (λ (l : Bytes). 0 ∷ l) (sym (append-nil (walk_bytes w)))
+  whole_staged : s.image ≡ 0 ∷ (walk_bytes 2 w ++ [])
+  whole_staged = staged.image ∙ ap (λ (l : Bytes). 0 ∷ l) (sym (append-nil (walk_bytes 2 w)))
 
   pub open_started : LeavesOnly (IsOneOf both) s s
-  open_started = started (IsOneOf both) s staged.durable (inl (inl refl, closed_of (walk_bytes w) s.image staged.image))
+  open_started = started (IsOneOf both) s staged.durable (inl (inl refl, closed_of (walk_bytes 2 w) s.image staged.image))
 
   pub open_written : {T E : Type 0} (result : Result T E) (new : DiskState) → Attempts (0, 1) result s new → LeavesOnly (IsOneOf both) s new
   open_written result new tried =
-      after_write (IsOneOf both) (0, 1) result s s new open_started (gate_write w is both 0 [] s staged.durable whole_staged (inr (inl refl)) (inl refl)) tried
+      after_write (IsOneOf both) (0, 1) result s s new open_started (gate_write w is 2 (spelled_new w) both 0 [] s staged.durable whole_staged (inr (inl refl)) (inl refl)) tried
 
   pub gate_opened : {T E : Type 0} (result : Result T E) (mid new : DiskState) → mid.image ≡ overwritten 0 (1 ∷ []) s.image → OnOk result (new ≡ synced mid)
       → OnOk result (HasDurably w new)
   gate_opened (Ok x) mid new image done =
       subst (HasDurably w) (sym done) (record {
-        has = record { is = is; behind = []; whole = image ∙ gate_text 1 s ∙ ap (λ (l : Bytes). 1 ∷ drop 1 l) whole_staged };
+        has = record { is = is; version = 2; spelled = spelled_new w; behind = []; whole = image ∙ gate_text 1 s ∙ ap (λ (l : Bytes). 1 ∷ drop 1 l) whole_staged };
         durable = refl;
       })
   gate_opened (Err e) mid new image done = tt
@@ -200,14 +212,19 @@ module _ (w : Walk) (is : IsWalk w) (s : DiskState) (staged : IsStaged (walk_byt
 
 pub wider : (may : List (Option Walk)) (image : Bytes) → IsOneOf may image → IsOneOf (None ∷ may) image
 wider may image (inl closed) = inl (inl refl, closed.1)
-wider may image (inr g) =
-    inr (record { walk = g.walk; among = inr g.among; is = g.is; gate = g.gate; behind = g.behind; whole = g.whole; open_or = inr (inl refl) })
+wider may image (inr g) = wider_gate may image g
 
 pub closed_has_none : (image : Bytes) (w : Walk) → IsClosed image → HasWalk w image → ⊥
 closed_has_none image w closed has = omega (arith, ap {B = ℕ} first (sym closed.whole ∙ has.whole))
 
 gated_has : (may : List (Option Walk)) (image : Bytes) (g : IsGated may image) → g.gate ≡ 1 → HasWalk g.walk image
-gated_has may image g opened = record { is = g.is; behind = g.behind; whole = g.whole ∙ ap (λ (n : ℕ). n ∷ (walk_bytes g.walk ++ g.behind)) opened }
+gated_has may image g opened = record {
+  is = g.is;
+  version = g.version;
+  spelled = g.spelled;
+  behind = g.behind;
+  whole = g.whole ∙ ap (λ (n : ℕ). n ∷ (walk_bytes g.version g.walk ++ g.behind)) opened;
+}
 
 shut_has_none : (image : Bytes) (gate : ℕ) (text : Bytes) → image ≡ gate ∷ text → gate ≢ 1 → HasNone image
 shut_has_none image gate text is shut w has = shut (ap {B = ℕ} first (sym is ∙ has.whole))
@@ -217,7 +234,7 @@ one_of_these may image (inl closed) = (None, closed.0, λ w has. closed_has_none
 one_of_these may image (inr g) =
     elim (cases_eq g.gate 1) [
       | inl opened ↦ (Some g.walk, g.among, gated_has may image g opened)
-      | inr shut ↦ (None, ⊎_elim (λ e. absurd (shut e)) (λ at. at) g.open_or, shut_has_none image g.gate (walk_bytes g.walk ++ g.behind) g.whole shut)
+      | inr shut ↦ (None, ⊎_elim (λ e. absurd (shut e)) (λ at. at) g.open_or, shut_has_none image g.gate (walk_bytes g.version g.walk ++ g.behind) g.whole shut)
     ]
 
 -- a slot that is found again
@@ -228,7 +245,8 @@ pub made_slot : (s : DiskState) → IsClosedAtRest s → LeavesOnly (IsOneOf (No
 made_slot s rest = started (IsOneOf (None ∷ [])) s rest.durable (inl (inl refl, rest.closed))
 
 pub only_walk : (w : Walk) (image : Bytes) → HasWalk w image → IsOneOf (Some w ∷ []) image
-only_walk w image has = inr (record { walk = w; among = inl refl; is = has.is; gate = 1; behind = has.behind; whole = has.whole; open_or = inl refl })
+only_walk w image has =
+    inr (record { walk = w; among = inl refl; is = has.is; version = has.version; spelled = has.spelled; gate = 1; behind = has.behind; whole = has.whole; open_or = inl refl })
 
 pub ended_slot : (w : Walk) (s : DiskState) → HasDurably w s → LeavesOnly (IsOneOf (Some w ∷ [])) s s
 ended_slot w s h = started (IsOneOf (Some w ∷ [])) s h.durable (only_walk w s.image h.has)
@@ -278,7 +296,7 @@ closed_rest old mid done e = record {
 -- a gate that is neither open nor closed stands before a checkpoint only where there may be none
 narrower : (may : List (Option Walk)) (image : Bytes) → In None may → IsOneOf (None ∷ may) image → IsOneOf may image
 narrower may image none (inl closed) = inl (none, closed.1)
-narrower may image none (inr g) = inr (record { walk = g.walk; among = ⊎_elim (λ e. absurd (none-some g.walk (sym e))) (λ at. at) g.among; is = g.is; gate = g.gate; behind = g.behind; whole = g.whole; open_or = inr none })
+narrower may image none (inr g) = inr (record { walk = g.walk; among = ⊎_elim (λ e. absurd (none-some g.walk (sym e))) (λ at. at) g.among; is = g.is; version = g.version; spelled = g.spelled; gate = g.gate; behind = g.behind; whole = g.whole; open_or = inr none })
 
 gate_is : (may : List (Option Walk)) (image : Bytes) (gate : ℕ) (g : IsGated may image) → slice_get image 0 ≡ Some gate → g.gate ≡ gate
 gate_is may image gate g e = same_Some g.gate gate (sym (ap (λ (l : Bytes). slice_get l 0) g.whole) ∙ e)

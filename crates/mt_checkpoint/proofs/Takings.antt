@@ -5,52 +5,53 @@ use Rattle.std.specs.List.{flat_map, AllByRecursion}
 use Rattle.mt_rows.specs.{Rows.Bytes, declared.record.TenantPair.TenantPair}
 use Rattle.mt_disk.specs.Disk.{DiskState}
 use Rattle.mt_fields.proofs.FieldLaws.{IsBytes}
-use Rattle.mt_checkpoint.specs.{declared.reader.Item.Item, declared.reader.Item.TheVariants.{Pair, Last}, declared.reader.Stop.Stop}
-use Rattle.mt_checkpoint.specs.{Format.{head_bytes, entry_bytes, last_bytes}, Checkpoints.IsPair}
-use Rattle.mt_checkpoint.specs.Reading.{item_bytes, item_at, HasNoHead, HasNoItem, HasTaken, StopsAt, AreTaken, Takes, IsHeadIn, IsEndIn, OfImage}
+use Rattle.mt_checkpoint.specs.{declared.reader.Head.Head, declared.reader.Item.Item, declared.reader.Item.TheVariants.{Pair, Last}, declared.reader.Stop.Stop}
+use Rattle.mt_checkpoint.specs.Format.{head_bytes, entry_bytes, last_bytes}
+use Rattle.mt_checkpoint.specs.Reading.{IsEntry, item_bytes, item_at, IsHead, HasNoHead, HasNoItem, HasTaken, StopsAt, AreTaken, Takes, IsHeadIn, IsEndIn, OfImage}
 use Rattle.mt_checkpoint.proofs.ItemLaws.{item_takes, item_again, item_few}
 use Rattle.mt_checkpoint.specs.declared.reader.Stop.TheVariants as stops
 
 -- ---- items
 
-each_more : (ps : List TenantPair) (p : TenantPair) → AllByRecursion IsPair ps → IsPair p → AllByRecursion IsPair (ps ++ p ∷ [])
-each_more [] p each is = (is, tt)
-each_more (q ∷ ps) p each is = (each.0, each_more ps p each.1 is)
+each_more : (head : Head) (ps : List TenantPair) (p : TenantPair) → AllByRecursion (IsEntry head) ps → IsEntry head p → AllByRecursion (IsEntry head) (ps ++ p ∷ [])
+each_more head [] p each is = (is, tt)
+each_more head (q ∷ ps) p each is = (each.0, each_more head ps p each.1 is)
 
-each_joined : (ps qs : List TenantPair) → AllByRecursion IsPair ps → AllByRecursion IsPair qs → AllByRecursion IsPair (ps ++ qs)
-each_joined [] qs each more = more
-each_joined (p ∷ ps) qs each more = (each.0, each_joined ps qs each.1 more)
+each_joined : (head : Head) (ps qs : List TenantPair) → AllByRecursion (IsEntry head) ps → AllByRecursion (IsEntry head) qs → AllByRecursion (IsEntry head) (ps ++ qs)
+each_joined head [] qs each more = more
+each_joined head (p ∷ ps) qs each more = (each.0, each_joined head ps qs each.1 more)
 
-item_some : (x : Item) → 0 < length (item_bytes x)
-item_some (Pair p) = omega arith
-item_some (Last n) = omega arith
+item_some : (head : Head) (x : Item) → 0 < length (item_bytes head x)
+item_some head (Pair p) = omega arith
+item_some head (Last n) = omega arith
 
 -- an item that was read is not empty
-pub shorter : (rest : Bytes) (x : Item) (after : Bytes) → IsBytes rest → item_at rest ≡ Some (x, after) → length after < length rest
-shorter rest x after fits read =
-    let t = item_takes rest (x, after) fits read in
-    omega (arith, item_some x, ap length t.0.parts, length-append (item_bytes x) after)
+pub shorter : (head : Head) (rest : Bytes) (x : Item) (after : Bytes) → head.first < 2 ^ 64 → IsBytes rest → item_at head rest ≡ Some (x, after) → length after < length rest
+shorter head rest x after small fits read =
+    let t = item_takes head rest (x, after) small fits read in
+    omega (arith, item_some head x, ap length t.0.parts, length-append (item_bytes head x) after)
 
-pub after_fits : (rest : Bytes) (x : Item) (after : Bytes) → IsBytes rest → item_at rest ≡ Some (x, after) → IsBytes after
-after_fits rest x after fits read = (item_takes rest (x, after) fits read).0.rest_fits
+pub after_fits : (head : Head) (rest : Bytes) (x : Item) (after : Bytes) → head.first < 2 ^ 64 → IsBytes rest → item_at head rest ≡ Some (x, after) → IsBytes after
+after_fits head rest x after small fits read = (item_takes head rest (x, after) small fits read).0.rest_fits
 
-module _ (window : Bytes) (old now : List TenantPair) (rest : Bytes) (fits : IsBytes rest) (has : HasTaken window old now rest) where
+module _ (head : Head) (small : head.first < 2 ^ 64) (window : Bytes) (old now : List TenantPair) (rest : Bytes) (fits : IsBytes rest) (has : HasTaken head window old now rest) where
   -- one pair more
-  pub taken_more : (p : TenantPair) (after : Bytes) (next : List TenantPair) → item_at rest ≡ Some (Pair p, after) → next ≡ now ++ p ∷ [] → HasTaken window old next after
+  pub taken_more : (p : TenantPair) (after : Bytes) (next : List TenantPair) → item_at head rest ≡ Some (Pair p, after) → next ≡ now ++ p ∷ [] → HasTaken head window old next after
   taken_more p after next read pushed =
-      let t = item_takes rest (Pair p, after) fits read in
+      let t = item_takes head rest (Pair p, after) small fits read in
       record {
         pairs = has.pairs ++ p ∷ [];
         more = pushed ∙ ap (λ (l : List TenantPair). l ++ p ∷ []) has.more ∙ append_assoc old has.pairs (p ∷ []);
-        each = each_more has.pairs p has.each t.1;
+        each = each_more head has.pairs p has.each t.1;
         parts =
-            has.parts ∙ ap (λ (l : Bytes). flat_map entry_bytes has.pairs ++ l) t.0.parts ∙ sym (append_assoc (flat_map entry_bytes has.pairs) (entry_bytes p) after)
-            ∙ ap (λ (l : Bytes). l ++ after) (flat_map_more entry_bytes [] has.pairs p);
+            has.parts ∙ ap (λ (l : Bytes). flat_map (entry_bytes head.version) has.pairs ++ l) t.0.parts
+            ∙ sym (append_assoc (flat_map (entry_bytes head.version) has.pairs) (entry_bytes head.version p) after)
+            ∙ ap (λ (l : Bytes). l ++ after) (flat_map_more (entry_bytes head.version) [] has.pairs p);
       }
 
   module _ (used : ℕ) (is : used ≡ length window - length rest) where
     abbrev front : Bytes
-    front = flat_map entry_bytes has.pairs
+    front = flat_map (entry_bytes head.version) has.pairs
 
     used_is : used ≡ length front
     used_is = omega (arith, is, ap length has.parts, length-append front rest)
@@ -66,7 +67,7 @@ module _ (window : Bytes) (old now : List TenantPair) (rest : Bytes) (fits : IsB
     parts : (behind : Bytes) → window ++ behind ≡ front ++ drop used (window ++ behind)
     parts behind = ap (λ (l : Bytes). l ++ behind) has.parts ∙ append_assoc front rest behind ∙ ap (λ (l : Bytes). front ++ l) (sym (left behind))
 
-    pub stops_more : (whole : Bool) → (whole ≡ true → ⊥) → length rest < 16675 → Takes window whole old now used stops.More
+    pub stops_more : (whole : Bool) → (whole ≡ true → ⊥) → length rest < 16683 → Takes head window whole old now used stops.More
     stops_more whole not_whole few = record {
       pairs = has.pairs;
       more = has.more;
@@ -76,9 +77,9 @@ module _ (window : Bytes) (old now : List TenantPair) (rest : Bytes) (fits : IsB
       told = λ behind at. record { parts = parts behind; stops = tt };
     }
 
-    pub stops_last : (whole : Bool) (n : ℕ) (after : Bytes) → item_at rest ≡ Some (Last n, after) → Takes window whole old now used (stops.Last n)
+    pub stops_last : (whole : Bool) (n : ℕ) (after : Bytes) → item_at head rest ≡ Some (Last n, after) → Takes head window whole old now used (stops.Last n)
     stops_last whole n after read =
-        let t = item_takes rest (Last n, after) fits read in
+        let t = item_takes head rest (Last n, after) small fits read in
         record {
           pairs = has.pairs;
           more = has.more;
@@ -92,22 +93,22 @@ module _ (window : Bytes) (old now : List TenantPair) (rest : Bytes) (fits : IsB
         }
 
     -- what is read as no item is none, whatever follows it
-    no_item : (behind : Bytes) → item_at rest ≡ None → ((behind ≡ []) ⊎ (16675 ≤ length rest)) → HasNoItem (rest ++ behind)
+    no_item : (behind : Bytes) → item_at head rest ≡ None → ((behind ≡ []) ⊎ (16683 ≤ length rest)) → HasNoItem head (rest ++ behind)
     no_item behind none (inl nothing) x more is_x e =
-        let here : rest ≡ item_bytes x ++ more = sym (append-nil rest) ∙ ap (λ (l : Bytes). rest ++ l) (sym nothing) ∙ e in
+        let here : rest ≡ item_bytes head x ++ more = sym (append-nil rest) ∙ ap (λ (l : Bytes). rest ++ l) (sym nothing) ∙ e in
         let made : Item × Bytes = (x, more) in
-        let read : Some made ≡ None = sym (item_again x more is_x) ∙ ap item_at (sym here) ∙ none in
+        let read : Some made ≡ None = sym (item_again head x more is_x) ∙ ap (item_at head) (sym here) ∙ none in
         absurd cc
     no_item behind none (inr long) x more is_x e =
-        let few = item_few x is_x in
-        let size = length (item_bytes x) in
-        let front_x : take size rest ≡ item_bytes x = sym (take-append-le size rest behind (omega (arith, few, long))) ∙ ap (λ (l : Bytes). take size l) e ∙ take_at (item_bytes x) more size refl in
-        let here : rest ≡ item_bytes x ++ drop size rest = sym (take-append-drop size rest) ∙ ap (λ (l : Bytes). l ++ drop size rest) front_x in
+        let few = item_few head x is_x in
+        let size = length (item_bytes head x) in
+        let front_x : take size rest ≡ item_bytes head x = sym (take-append-le size rest behind (omega (arith, few, long))) ∙ ap (λ (l : Bytes). take size l) e ∙ take_at (item_bytes head x) more size refl in
+        let here : rest ≡ item_bytes head x ++ drop size rest = sym (take-append-drop size rest) ∙ ap (λ (l : Bytes). l ++ drop size rest) front_x in
         let made : Item × Bytes = (x, drop size rest) in
-        let read : Some made ≡ None = sym (item_again x (drop size rest) is_x) ∙ ap item_at (sym here) ∙ none in
+        let read : Some made ≡ None = sym (item_again head x (drop size rest) is_x) ∙ ap (item_at head) (sym here) ∙ none in
         absurd cc
 
-    pub stops_bad : (whole : Bool) → item_at rest ≡ None → ((whole ≡ true) ⊎ (16675 ≤ length rest)) → Takes window whole old now used stops.Bad
+    pub stops_bad : (whole : Bool) → item_at head rest ≡ None → ((whole ≡ true) ⊎ (16683 ≤ length rest)) → Takes head window whole old now used stops.Bad
     stops_bad whole none far = record {
       pairs = has.pairs;
       more = has.more;
@@ -116,40 +117,41 @@ module _ (window : Bytes) (old now : List TenantPair) (rest : Bytes) (fits : IsB
       some = λ e. absurd cc;
       told = λ behind at. record {
         parts = parts behind;
-        stops = subst HasNoItem (sym (left behind)) (no_item behind none (at_end whole behind at far));
+        stops = subst (HasNoItem head) (sym (left behind)) (no_item behind none (at_end whole behind at far));
       };
     }
       where
-        at_end : (whole : Bool) (behind : Bytes) → (whole ≡ true → behind ≡ []) → ((whole ≡ true) ⊎ (16675 ≤ length rest)) → (behind ≡ []) ⊎ (16675 ≤ length rest)
+        at_end : (whole : Bool) (behind : Bytes) → (whole ≡ true → behind ≡ []) → ((whole ≡ true) ⊎ (16683 ≤ length rest)) → (behind ≡ []) ⊎ (16683 ≤ length rest)
         at_end whole behind at (inl e) = inl (at e)
         at_end whole behind at (inr long) = inr long
 
 -- ---- heads
 
 -- what a window of a head tells of the file
-pub head_window : (image w : Bytes) (x : Option ℕ) → w ≡ take 14 (drop 1 image) → IfSome x (λ first. (first < 2 ^ 64) × (w ≡ head_bytes first ++ drop 14 w)) → IfNone x (HasNoHead w)
-    → IsHeadIn image x
-head_window image w None is some none = λ first more small e. none first [] small (is ∙ ap (λ (l : Bytes). take 14 l) e)
-head_window image w (Some first) is some none =
+pub head_window : (image w : Bytes) (x : Option Head) → w ≡ take 14 (drop 1 image)
+    → IfSome x (λ h. IsHead h × (w ≡ head_bytes h.version h.first ++ drop 14 w)) → IfNone x (HasNoHead w) → IsHeadIn image x
+head_window image w None is some none = λ head more fits e. none head [] fits (is ∙ ap (λ (l : Bytes). take 14 l) e)
+head_window image w (Some head) is some none =
     let text = drop 1 image in
     let behind : drop 14 w ≡ [] = drop_all 14 w (omega (arith, ap length is, length-take 14 text)) in
-    let front : take 14 text ≡ head_bytes first = sym is ∙ some.1 ∙ ap (λ (l : Bytes). head_bytes first ++ l) behind in
-    (some.0, sym (take-append-drop 14 text) ∙ ap (λ (l : Bytes). l ++ drop 14 text) front ∙ ap (λ (l : Bytes). head_bytes first ++ l) (drop-drop 14 1 image))
+    let head_text = head_bytes head.version head.first in
+    let front : take 14 text ≡ head_text = sym is ∙ some.1 ∙ ap (λ (l : Bytes). head_text ++ l) behind in
+    (some.0, sym (take-append-drop 14 text) ∙ ap (λ (l : Bytes). l ++ drop 14 text) front ∙ ap (λ (l : Bytes). head_text ++ l) (drop-drop 14 1 image))
 
 -- ---- windows of entries
 
 -- entries so far, and where the next ones stand
-pub record StandBefore (place : ℕ) (image : Bytes) (pairs : List TenantPair) : Type 0 where
-  pub parts : drop 15 image ≡ flat_map entry_bytes pairs ++ drop place image
+pub record StandBefore (head : Head) (place : ℕ) (image : Bytes) (pairs : List TenantPair) : Type 0 where
+  pub parts : drop 15 image ≡ flat_map (entry_bytes head.version) pairs ++ drop place image
 
-flat_joined : (ps qs : List TenantPair) (rest : Bytes) → flat_map entry_bytes ps ++ (flat_map entry_bytes qs ++ rest) ≡ flat_map entry_bytes (ps ++ qs) ++ rest
-flat_joined [] qs rest = refl
-flat_joined (p ∷ ps) qs rest =
-    append_assoc (entry_bytes p) (flat_map entry_bytes ps) (flat_map entry_bytes qs ++ rest) ∙ ap (λ (l : Bytes). entry_bytes p ++ l) (flat_joined ps qs rest)
-    ∙ sym (append_assoc (entry_bytes p) (flat_map entry_bytes (ps ++ qs)) rest)
+flat_joined : (entry : TenantPair → Bytes) (ps qs : List TenantPair) (rest : Bytes) → flat_map entry ps ++ (flat_map entry qs ++ rest) ≡ flat_map entry (ps ++ qs) ++ rest
+flat_joined entry [] qs rest = refl
+flat_joined entry (p ∷ ps) qs rest =
+    append_assoc (entry p) (flat_map entry ps) (flat_map entry qs ++ rest) ∙ ap (λ (l : Bytes). entry p ++ l) (flat_joined entry ps qs rest)
+    ∙ sym (append_assoc (entry p) (flat_map entry (ps ++ qs)) rest)
 
-module _ (image : Bytes) (place count : ℕ) (window : Bytes) (old : List TenantPair) (window_is : window ≡ take count (drop place image)) (stand : StandBefore place image old)
-    (whole : Bool) (ends : whole ≡ true → length window ≡ length (drop place image)) (new : List TenantPair) (used : ℕ) (stop : Stop) (taken : Takes window whole old new used stop) where
+module _ (head : Head) (image : Bytes) (place count : ℕ) (window : Bytes) (old : List TenantPair) (window_is : window ≡ take count (drop place image)) (stand : StandBefore head place image old)
+    (whole : Bool) (ends : whole ≡ true → length window ≡ length (drop place image)) (new : List TenantPair) (used : ℕ) (stop : Stop) (taken : Takes head window whole old new used stop) where
   abbrev behind : Bytes
   behind = drop count (drop place image)
 
@@ -166,33 +168,34 @@ module _ (image : Bytes) (place count : ℕ) (window : Bytes) (old : List Tenant
       none [] zero = refl
       none (b ∷ bytes) zero = absurd (omega (arith, zero))
 
-  at : AreTaken (window ++ behind) taken.pairs used stop
+  at : AreTaken head (window ++ behind) taken.pairs used stop
   at = taken.told behind nothing
 
   rest_is : drop used (window ++ behind) ≡ drop (place + used) image
   rest_is = ap (λ (l : Bytes). drop used l) (sym text_is) ∙ drop-drop used place image
 
-  pub stands_on : StandBefore (place + used) image new
+  pub stands_on : StandBefore head (place + used) image new
   stands_on = record {
     parts =
-        stand.parts ∙ ap (λ (l : Bytes). flat_map entry_bytes old ++ l) (text_is ∙ at.parts ∙ ap (λ (l : Bytes). flat_map entry_bytes taken.pairs ++ l) rest_is)
-        ∙ flat_joined old taken.pairs (drop (place + used) image) ∙ ap (λ (ps : List TenantPair). flat_map entry_bytes ps ++ drop (place + used) image) (sym taken.more);
+        stand.parts ∙ ap (λ (l : Bytes). flat_map (entry_bytes head.version) old ++ l) (text_is ∙ at.parts ∙ ap (λ (l : Bytes). flat_map (entry_bytes head.version) taken.pairs ++ l) rest_is)
+        ∙ flat_joined (entry_bytes head.version) old taken.pairs (drop (place + used) image)
+        ∙ ap (λ (ps : List TenantPair). flat_map (entry_bytes head.version) ps ++ drop (place + used) image) (sym taken.more);
   }
 
-  pub ends_last : (n : ℕ) → stop ≡ stops.Last n → IsEndIn image new (Some n)
+  pub ends_last : (n : ℕ) → stop ≡ stops.Last n → IsEndIn head image new (Some n)
   ends_last n e =
-      let s = subst (StopsAt (drop used (window ++ behind))) e at.stops in
-      (s.0, (s.1.0, stands_on.parts ∙ ap (λ (l : Bytes). flat_map entry_bytes new ++ l) (sym rest_is ∙ s.1.1)))
+      let s = subst (StopsAt head (drop used (window ++ behind))) e at.stops in
+      (s.0, (s.1.0, stands_on.parts ∙ ap (λ (l : Bytes). flat_map (entry_bytes head.version) new ++ l) (sym rest_is ∙ s.1.1)))
 
-  pub ends_bad : stop ≡ stops.Bad → IsEndIn image new None
+  pub ends_bad : stop ≡ stops.Bad → IsEndIn head image new None
   ends_bad e =
-      let s = subst (StopsAt (drop used (window ++ behind))) e at.stops in
-      (drop (place + used) image, stands_on.parts, subst HasNoItem rest_is s)
+      let s = subst (StopsAt head (drop used (window ++ behind))) e at.stops in
+      (drop (place + used) image, stands_on.parts, subst (HasNoItem head) rest_is s)
 
 -- and of any disk
-pub each_taken : (window : Bytes) (whole : Bool) (old new : List TenantPair) (used : ℕ) (stop : Stop) → Takes window whole old new used stop → AllByRecursion IsPair old → AllByRecursion IsPair new
-each_taken window whole old new used stop taken each =
-    subst (AllByRecursion IsPair) (sym taken.more) (each_joined old taken.pairs each taken.each)
+pub each_taken : (head : Head) (window : Bytes) (whole : Bool) (old new : List TenantPair) (used : ℕ) (stop : Stop) → Takes head window whole old new used stop → AllByRecursion (IsEntry head) old → AllByRecursion (IsEntry head) new
+each_taken head window whole old new used stop taken each =
+    subst (AllByRecursion (IsEntry head)) (sym taken.more) (each_joined head old taken.pairs each taken.each)
 
 -- the image of a disk that was only read
 pub of_same : {D : Type 0} (is_honest : D → Bool) (state : D → DiskState) (old : D) (len : ℕ) (new : D) → (IsTrue (is_honest old) → state new ≡ state old) → is_honest new ≡ is_honest old

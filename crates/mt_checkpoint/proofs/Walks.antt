@@ -2,16 +2,33 @@
 use Rattle.std.proofs.Common.{◌≡◌, ℕ, ◌^◌, ◌<◌, ◌≤◌, List, [], ◌∷◌, ◌++◌, drop, get_or, Some, None, refl, sym, ap, subst, ◌∙◌, append_assoc, arith}
 use Rattle.std.proofs.lemmas.Option.{same_Some}
 use Rattle.std.specs.{Int.{w64, to_be_bytes}, List.{flat_map, AllByRecursion}}
-use Rattle.mt_rows.specs.{Rows.Bytes, declared.record.TenantPair.TenantPair}
+use Rattle.mt_rows.specs.{Rows.Bytes, declared.record.TenantPair.TenantPair, TenantPairs.AreStampedUpto}
 use Rattle.mt_fields.{proofs.FieldLaws.{wide64, number_again}, specs.Reading.number_at}
-use Rattle.mt_checkpoint.specs.{declared.reader.Item.Item, declared.reader.Item.TheVariants.{Pair, Last}, Format.{head_bytes, entry_bytes, last_bytes}}
-use Rattle.mt_checkpoint.specs.{Checkpoints.{IsPair, Walk, Rise, IsWalk, HasWalk, HasNone}, Reading.{item_bytes, IsItem, item_at, HasNoItem, IsHeadIn, IsEndIn}}
+use Rattle.mt_checkpoint.specs.{declared.reader.Head.Head, declared.reader.Item.Item, declared.reader.Item.TheVariants.{Pair, Last}}
+use Rattle.mt_checkpoint.specs.{Format.{head_bytes, entry_bytes, last_bytes}, Checkpoints.{IsPair, Walk, Rise, IsWalk, HasWalk, HasNone}}
+use Rattle.mt_checkpoint.specs.Reading.{IsEntry, item_bytes, IsItem, item_at, IsHead, HasNoItem, IsHeadIn, IsEndIn}
 use Rattle.mt_checkpoint.proofs.ItemLaws.{item_again}
 
+-- ---- entries
+
+-- pairs whose stamps are the head's in format 1, as entries after it
+pub entries_of : (head : Head) (ps : List TenantPair) → AllByRecursion IsPair ps → (head.version ≡ 1 → AllByRecursion (λ p. p.row.stamp ≡ head.first) ps)
+    → AllByRecursion (IsEntry head) ps
+entries_of head [] each stamps = tt
+entries_of head (p ∷ ps) each stamps = (record { pair = each.0; stamp = λ one. (stamps one).0 }, entries_of head ps each.1 (λ one. (stamps one).1))
+
+pub pairs_of : (head : Head) (ps : List TenantPair) → AllByRecursion (IsEntry head) ps → AllByRecursion IsPair ps
+pairs_of head [] each = tt
+pairs_of head (p ∷ ps) each = (each.0.pair, pairs_of head ps each.1)
+
+pub stamps_of : (head : Head) (ps : List TenantPair) → AllByRecursion (IsEntry head) ps → head.version ≡ 1 → AllByRecursion (λ p. p.row.stamp ≡ head.first) ps
+stamps_of head [] each one = tt
+stamps_of head (p ∷ ps) each one = (each.0.stamp one, stamps_of head ps each.1 one)
+
 -- an item that is spelled at the front of the same bytes as another is that one
-pub one_item : (x y : Item) (a b : Bytes) → IsItem x → IsItem y → item_bytes x ++ a ≡ item_bytes y ++ b → (x ≡ y) × (a ≡ b)
-one_item x y a b is_x is_y e =
-    let both = same_Some (x, a) (y, b) (sym (item_again x a is_x) ∙ ap item_at e ∙ item_again y b is_y) in
+pub one_item : (head : Head) (x y : Item) (a b : Bytes) → IsItem head x → IsItem head y → item_bytes head x ++ a ≡ item_bytes head y ++ b → (x ≡ y) × (a ≡ b)
+one_item head x y a b is_x is_y e =
+    let both = same_Some (x, a) (y, b) (sym (item_again head x a is_x) ∙ ap (item_at head) e ∙ item_again head y b is_y) in
     (ap (λ (p : Item × Bytes). p.0) both, ap (λ (p : Item × Bytes). p.1) both)
 
 abbrev pair_of : TenantPair → Item → TenantPair
@@ -22,39 +39,52 @@ abbrev number_of : Item → ℕ
 number_of (Pair p) = 0
 number_of (Last n) = n
 
-regroup : (p : TenantPair) (ps : List TenantPair) (rest : Bytes) → flat_map entry_bytes (p ∷ ps) ++ rest ≡ item_bytes (Pair p) ++ (flat_map entry_bytes ps ++ rest)
-regroup p ps rest = append_assoc (entry_bytes p) (flat_map entry_bytes ps) rest
+module _ (head : Head) where
+  abbrev text_of : List TenantPair → Bytes
+  text_of ps = flat_map (entry_bytes head.version) ps
 
--- entries before a last entry are these alone
-pub once : (ps qs : List TenantPair) (m n : ℕ) (a b : Bytes) → AllByRecursion IsPair ps → AllByRecursion IsPair qs → m < 2 ^ 64 → n < 2 ^ 64
-    → flat_map entry_bytes ps ++ (last_bytes m ++ a) ≡ flat_map entry_bytes qs ++ (last_bytes n ++ b) → (ps ≡ qs) × (m ≡ n)
-once [] [] m n a b each_p each_q small_m small_n e = (refl, ap number_of (one_item (Last m) (Last n) a b small_m small_n e).0)
-once [] (q ∷ qs) m n a b each_p each_q small_m small_n e = absurd (omega (arith, ap {B = ℕ} (λ (l : Bytes). get_or l 0 0) e))
-once (p ∷ ps) [] m n a b each_p each_q small_m small_n e = absurd (omega (arith, ap {B = ℕ} (λ (l : Bytes). get_or l 0 0) e))
-once (p ∷ ps) (q ∷ qs) m n a b each_p each_q small_m small_n e =
-    let parts = one_item (Pair p) (Pair q) (flat_map entry_bytes ps ++ (last_bytes m ++ a)) (flat_map entry_bytes qs ++ (last_bytes n ++ b)) each_p.0 each_q.0
-    (sym (regroup p ps (last_bytes m ++ a)) ∙ e ∙ regroup q qs (last_bytes n ++ b)) in
-    let same : p ≡ q = ap (pair_of p) parts.0 in
-    let rest = once ps qs m n a b each_p.1 each_q.1 small_m small_n parts.1 in
-    ((λ i. same i ∷ rest.0 i), rest.1)
+  regroup : (p : TenantPair) (ps : List TenantPair) (rest : Bytes) → text_of (p ∷ ps) ++ rest ≡ item_bytes head (Pair p) ++ (text_of ps ++ rest)
+  regroup p ps rest = append_assoc (entry_bytes head.version p) (text_of ps) rest
 
--- and none stand there where neither an entry nor a last one comes after some
-pub clash : (ps qs : List TenantPair) (n : ℕ) (rest b : Bytes) → AllByRecursion IsPair ps → AllByRecursion IsPair qs → n < 2 ^ 64 → HasNoItem rest
-    → flat_map entry_bytes ps ++ rest ≡ flat_map entry_bytes qs ++ (last_bytes n ++ b) → ⊥
-clash [] [] n rest b each_p each_q small bad e = bad (Last n) b small e
-clash [] (q ∷ qs) n rest b each_p each_q small bad e = bad (Pair q) (flat_map entry_bytes qs ++ (last_bytes n ++ b)) each_q.0 (e ∙ regroup q qs (last_bytes n ++ b))
-clash (p ∷ ps) [] n rest b each_p each_q small bad e = omega (arith, ap {B = ℕ} (λ (l : Bytes). get_or l 0 0) e)
-clash (p ∷ ps) (q ∷ qs) n rest b each_p each_q small bad e =
-    let parts = one_item (Pair p) (Pair q) (flat_map entry_bytes ps ++ rest) (flat_map entry_bytes qs ++ (last_bytes n ++ b)) each_p.0 each_q.0
-    (sym (regroup p ps rest) ∙ e ∙ regroup q qs (last_bytes n ++ b)) in
-    clash ps qs n rest b each_p.1 each_q.1 small bad parts.1
+  -- entries before a last entry are these alone
+  pub once : (ps qs : List TenantPair) (m n : ℕ) (a b : Bytes) → AllByRecursion (IsEntry head) ps → AllByRecursion (IsEntry head) qs → m < 2 ^ 64 → n < 2 ^ 64
+      → text_of ps ++ (last_bytes m ++ a) ≡ text_of qs ++ (last_bytes n ++ b) → (ps ≡ qs) × (m ≡ n)
+  once [] [] m n a b each_p each_q small_m small_n e = (refl, ap number_of (one_item head (Last m) (Last n) a b small_m small_n e).0)
+  once [] (q ∷ qs) m n a b each_p each_q small_m small_n e = absurd (omega (arith, ap {B = ℕ} (λ (l : Bytes). get_or l 0 0) e))
+  once (p ∷ ps) [] m n a b each_p each_q small_m small_n e = absurd (omega (arith, ap {B = ℕ} (λ (l : Bytes). get_or l 0 0) e))
+  once (p ∷ ps) (q ∷ qs) m n a b each_p each_q small_m small_n e =
+      let parts = one_item head (Pair p) (Pair q) (text_of ps ++ (last_bytes m ++ a)) (text_of qs ++ (last_bytes n ++ b)) each_p.0 each_q.0
+      (sym (regroup p ps (last_bytes m ++ a)) ∙ e ∙ regroup q qs (last_bytes n ++ b)) in
+      let same : p ≡ q = ap (pair_of p) parts.0 in
+      let rest = once ps qs m n a b each_p.1 each_q.1 small_m small_n parts.1 in
+      ((λ i. same i ∷ rest.0 i), rest.1)
 
--- heads
-pub one_head : (m n : ℕ) (a b : Bytes) → m < 2 ^ 64 → n < 2 ^ 64 → head_bytes m ++ a ≡ head_bytes n ++ b → (m ≡ n) × (a ≡ b)
-one_head m n a b small_m small_n e =
-    let behind : to_be_bytes w64 m ++ a ≡ to_be_bytes w64 n ++ b = ap (λ (l : Bytes). drop 6 l) e in
-    let both = same_Some (m, a) (n, b) (sym (number_again w64 (2 ^ 64) wide64 m a small_m) ∙ ap (number_at w64) behind ∙ number_again w64 (2 ^ 64) wide64 n b small_n) in
-    (ap (λ (p : ℕ × Bytes). p.0) both, ap (λ (p : ℕ × Bytes). p.1) both)
+  -- and none stand there where neither an entry nor a last one comes after some
+  pub clash : (ps qs : List TenantPair) (n : ℕ) (rest b : Bytes) → AllByRecursion (IsEntry head) ps → AllByRecursion (IsEntry head) qs → n < 2 ^ 64 → HasNoItem head rest
+      → text_of ps ++ rest ≡ text_of qs ++ (last_bytes n ++ b) → ⊥
+  clash [] [] n rest b each_p each_q small bad e = bad (Last n) b small e
+  clash [] (q ∷ qs) n rest b each_p each_q small bad e = bad (Pair q) (text_of qs ++ (last_bytes n ++ b)) each_q.0 (e ∙ regroup q qs (last_bytes n ++ b))
+  clash (p ∷ ps) [] n rest b each_p each_q small bad e = omega (arith, ap {B = ℕ} (λ (l : Bytes). get_or l 0 0) e)
+  clash (p ∷ ps) (q ∷ qs) n rest b each_p each_q small bad e =
+      let parts = one_item head (Pair p) (Pair q) (text_of ps ++ rest) (text_of qs ++ (last_bytes n ++ b)) each_p.0 each_q.0
+      (sym (regroup p ps rest) ∙ e ∙ regroup q qs (last_bytes n ++ b)) in
+      clash ps qs n rest b each_p.1 each_q.1 small bad parts.1
+
+-- ---- heads
+
+abbrev head_text : Head → Bytes
+head_text head = head_bytes head.version head.first
+
+-- heads: the format's number comes first
+pub one_head : (g h : Head) (a b : Bytes) → g.first < 2 ^ 64 → h.first < 2 ^ 64 → head_text g ++ a ≡ head_text h ++ b → (g ≡ h) × (a ≡ b)
+one_head g h a b small_g small_h e =
+    let version : g.version ≡ h.version = ap (λ (l : Bytes). get_or l 5 0) e in
+    let behind : to_be_bytes w64 g.first ++ a ≡ to_be_bytes w64 h.first ++ b = ap (λ (l : Bytes). drop 6 l) e in
+    let both = same_Some (g.first, a) (h.first, b) (sym (number_again w64 (2 ^ 64) wide64 g.first a small_g) ∙ ap (number_at w64) behind ∙ number_again w64 (2 ^ 64) wide64 h.first b small_h) in
+    let first : g.first ≡ h.first = ap (λ (p : ℕ × Bytes). p.0) both in
+    ((λ i. record { version = version i; first = first i }), ap (λ (p : ℕ × Bytes). p.1) both)
+
+-- ---- walks
 
 small_ends : (w : Walk) → IsWalk w → (w.first < 2 ^ 64) × (w.last < 2 ^ 64)
 small_ends w is =
@@ -62,63 +92,100 @@ small_ends w is =
     let end = is.end in
     (omega arith, omega arith)
 
-whole_of : (w : Walk) (image : Bytes) → (has : HasWalk w image) → drop 1 image ≡ head_bytes w.first ++ (flat_map entry_bytes w.pairs ++ (last_bytes w.last ++ has.behind))
+-- the head of a checkpoint, and its entries
+abbrev head_in : (w : Walk) (image : Bytes) → HasWalk w image → Head
+head_in w image has = record { version = has.version; first = w.first }
+
+head_fits : (w : Walk) (image : Bytes) (has : HasWalk w image) → IsHead (head_in w image has)
+head_fits w image has = record { known = has.spelled.known; first = (small_ends w has.is).0 }
+
+entries_in : (w : Walk) (image : Bytes) (has : HasWalk w image) → AllByRecursion (IsEntry (head_in w image has)) w.pairs
+entries_in w image has = entries_of (head_in w image has) w.pairs has.is.each has.spelled.stamps
+
+-- entries after a head, a last entry, and what follows that
+abbrev tail_of : Head → List TenantPair → ℕ → Bytes → Bytes
+tail_of head ps last behind = flat_map (entry_bytes head.version) ps ++ (last_bytes last ++ behind)
+
+whole_of : (w : Walk) (image : Bytes) → (has : HasWalk w image) → drop 1 image ≡ head_text (head_in w image has) ++ tail_of (head_in w image has) w.pairs w.last has.behind
 whole_of w image has =
-    ap (λ (l : Bytes). drop 1 l) has.whole ∙ append_assoc (head_bytes w.first) (flat_map entry_bytes w.pairs ++ last_bytes w.last) has.behind
-    ∙ ap (λ (l : Bytes). head_bytes w.first ++ l) (append_assoc (flat_map entry_bytes w.pairs) (last_bytes w.last) has.behind)
+    let head = head_text (head_in w image has) in
+    let entries = flat_map (entry_bytes has.version) w.pairs in
+    ap (λ (l : Bytes). drop 1 l) has.whole ∙ append_assoc head (entries ++ last_bytes w.last) has.behind
+    ∙ ap (λ (l : Bytes). head ++ l) (append_assoc entries (last_bytes w.last) has.behind)
 
 same_walk : (v w : Walk) → v.first ≡ w.first → v.last ≡ w.last → v.pairs ≡ w.pairs → v ≡ w
 same_walk v w p q r i = record { first = p i; last = q i; pairs = r i }
 
+-- a checkpoint whose head is this one has its entries after it
+module _ (image : Bytes) (head : Head) (small : head.first < 2 ^ 64) (text : Bytes) (is : drop 1 image ≡ head_text head ++ text) (w : Walk) (has : HasWalk w image) where
+  heads : (head_in w image has ≡ head) × (tail_of (head_in w image has) w.pairs w.last has.behind ≡ text)
+  heads = one_head (head_in w image has) head _ _ (small_ends w has.is).0 small (sym (whole_of w image has) ∙ is)
+
+  pub first_is : w.first ≡ head.first
+  first_is = ap (λ (h : Head). h.first) heads.0
+
+  pub after_head : text ≡ tail_of head w.pairs w.last has.behind
+  after_head = sym heads.1 ∙ ap (λ (h : Head). tail_of h w.pairs w.last has.behind) heads.0
+
+  pub entries_after : AllByRecursion (IsEntry head) w.pairs
+  entries_after = subst (λ (h : Head). AllByRecursion (IsEntry h) w.pairs) heads.0 (entries_in w image has)
+
 -- a file has one checkpoint
 pub one_walk : (v w : Walk) (image : Bytes) → HasWalk v image → HasWalk w image → v ≡ w
 one_walk v w image one other =
-    let small_v = small_ends v one.is in
-    let small_w = small_ends w other.is in
-    let heads = one_head v.first w.first _ _ small_v.0 small_w.0 (sym (whole_of v image one) ∙ whole_of w image other) in
-    let tails = once v.pairs w.pairs v.last w.last one.behind other.behind one.is.each other.is.each small_v.1 small_w.1 heads.1 in
-    same_walk v w heads.0 tails.1 tails.0
+    let head = head_in v image one in
+    let small = (small_ends v one.is).0 in
+    let text = tail_of head v.pairs v.last one.behind in
+    let whole = whole_of v image one in
+    let tails = once head v.pairs w.pairs v.last w.last one.behind other.behind (entries_in v image one) (entries_after image head small text whole w other)
+    (small_ends v one.is).1 (small_ends w other.is).1 (after_head image head small text whole w other) in
+    same_walk v w (sym (first_is image head small text whole w other)) tails.1 tails.0
 
 -- ---- what was read
 
 module _ (image : Bytes) where
   -- no head: no checkpoint
   pub no_head : IsHeadIn image None → HasNone image
-  no_head none w has = none w.first _ (small_ends w has.is).0 (whole_of w image has)
+  no_head none w has = none (head_in w image has) _ (head_fits w image has) (whole_of w image has)
 
-  module _ (first : ℕ) (head : IsHeadIn image (Some first)) (pairs : List TenantPair) (each : AllByRecursion IsPair pairs) where
-    behind_head : (w : Walk) (has : HasWalk w image) → (first ≡ w.first) × (drop 15 image ≡ flat_map entry_bytes w.pairs ++ (last_bytes w.last ++ has.behind))
-    behind_head w has = one_head first w.first _ _ head.0 (small_ends w has.is).0 (sym head.1 ∙ whole_of w image has)
+  module _ (head : Head) (at : IsHeadIn image (Some head)) (pairs : List TenantPair) (each : AllByRecursion (IsEntry head) pairs) where
+    abbrev rest : Bytes
+    rest = drop 15 image
 
     -- entries without an end
-    pub no_end : IsEndIn image pairs None → HasNone image
-    no_end stop w has = clash pairs w.pairs w.last stop.0 has.behind each has.is.each (small_ends w has.is).1 stop.2 (sym stop.1 ∙ (behind_head w has).1)
+    pub no_end : IsEndIn head image pairs None → HasNone image
+    no_end stop w has =
+        clash head pairs w.pairs w.last stop.0 has.behind each (entries_after image head at.0.first rest at.1 w has) (small_ends w has.is).1 stop.2
+        (sym stop.1 ∙ after_head image head at.0.first rest at.1 w has)
 
-    module _ (last : ℕ) (end : IsEndIn image pairs (Some last)) where
+    module _ (last : ℕ) (end : IsEndIn head image pairs (Some last)) where
       abbrev pub read : Walk
-      read = record { first = first; last = last; pairs = pairs }
+      read = record { first = head.first; last = last; pairs = pairs }
 
       -- another walk than the one that was read
       pub only_this : (w : Walk) → HasWalk w image → read ≡ w
       only_this w has =
-          let at = behind_head w has in
-          let rest = once pairs w.pairs last w.last end.1.0 has.behind each has.is.each end.0 (small_ends w has.is).1 (sym end.1.1 ∙ at.1) in
-          same_walk read w at.0 rest.1 rest.0
+          let tails = once head pairs w.pairs last w.last end.1.0 has.behind each (entries_after image head at.0.first rest at.1 w has) end.0 (small_ends w has.is).1
+          (sym end.1.1 ∙ after_head image head at.0.first rest at.1 w has) in
+          same_walk read w (sym (first_is image head at.0.first rest at.1 w has)) tails.1 tails.0
 
       -- the one that was read
       pub this : (behind : Bytes) → image ≡ 1 ∷ behind → IsWalk read → HasWalk read image
       this behind opened is =
           let text : behind ≡ drop 1 image = sym (ap (λ (l : Bytes). drop 1 l) opened) in
+          let entries = flat_map (entry_bytes head.version) pairs in
           record {
             is = is;
+            version = head.version;
+            spelled = record { known = at.0.known; stamps = stamps_of head pairs each };
             behind = end.1.0;
             whole =
-                opened ∙ ap (λ (l : Bytes). 1 ∷ l) (text ∙ head.1 ∙ ap (λ (l : Bytes). head_bytes first ++ l) (end.1.1 ∙ sym (append_assoc (flat_map entry_bytes pairs) (last_bytes last) end.1.0))
-                ∙ sym (append_assoc (head_bytes first) (flat_map entry_bytes pairs ++ last_bytes last) end.1.0));
+                opened ∙ ap (λ (l : Bytes). 1 ∷ l) (text ∙ at.1 ∙ ap (λ (l : Bytes). head_text head ++ l) (end.1.1 ∙ sym (append_assoc entries (last_bytes last) end.1.0))
+                ∙ sym (append_assoc (head_text head) (entries ++ last_bytes last) end.1.0));
           }
 
-      -- or none, where its steps or its pairs don't rise
-      pub not_this : ((first ≤ last) × (last ≤ 2 ^ 59) × Rise pairs → ⊥) → HasNone image
+      -- or none, if its steps or its pairs don't rise, or a stamp is over its last step
+      pub not_this : ((head.first ≤ last) × (last ≤ 2 ^ 59) × Rise pairs × AreStampedUpto last pairs → ⊥) → HasNone image
       not_this wrong w has =
           let is : IsWalk read = subst IsWalk (sym (only_this w has)) has.is in
-          wrong (is.order, is.end, is.rising)
+          wrong (is.order, is.end, is.rising, is.stamps)

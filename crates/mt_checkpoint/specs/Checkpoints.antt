@@ -1,15 +1,16 @@
 -- What a checkpoint says, what counts of a slot's file, and what may be left of one.
 use Rattle.std.specs.{Prelude.{◌≡◌, ◌⊎◌, ℕ, ◌+◌, ◌^◌, ◌<◌, ◌≤◌, false, List, [], ◌∷◌, ◌++◌, Option, Some, None}, declared.cmp.Ordering.TheVariants.Less}
 use Rattle.std.specs.List.{flat_map, slice_get, AllByRecursion}
-use Rattle.mt_rows.specs.{Rows.{Bytes, IsRow}, Commands.IsKey, Tenants.owned_cmp, TenantPairs.owner_of, declared.record.TenantPair.TenantPair}
+use Rattle.mt_rows.specs.{Rows.{Bytes, IsRow}, Commands.IsKey, Tenants.owned_cmp, TenantPairs.{owner_of, AreStampedUpto}, declared.record.TenantPair.TenantPair}
 use Rattle.mt_disk.specs.Disk.{Moment, MayLeave, DiskState, is_dirty, IsDurable}
-use Rattle.mt_checkpoint.specs.{declared.checkpoint.Checkpoint.Checkpoint, Format.{head_bytes, entry_bytes, last_bytes}}
+use Rattle.mt_checkpoint.specs.{declared.checkpoint.Checkpoint.Checkpoint, Format.{IsVersion, head_bytes, entry_bytes, last_bytes}}
 
 -- a pair whose fields have their limits
 pub record IsPair (p : TenantPair) : Type 0 where
   pub tenant : p.tenant < 2 ^ 32
   pub key : IsKey p.key
-  pub row : IsRow p.row
+  pub stamp : p.row.stamp < 2 ^ 64
+  pub row : IsRow p.row.row
 
 -- one pair is of an earlier tenant than another, or of an earlier key of the same tenant
 abbrev pub IsBefore : TenantPair → TenantPair → Type 0
@@ -31,20 +32,28 @@ pub record IsWalk (w : Walk) : Type 0 where
   pub end : w.last ≤ 2 ^ 59
   pub each : AllByRecursion IsPair w.pairs
   pub rising : Rise w.pairs
+  pub stamps : AreStampedUpto w.last w.pairs
 
 -- what a checkpoint says
 abbrev pub walk_of : Checkpoint → Walk
 walk_of c = record { first = c.first; last = c.last; pairs = c.pairs.items }
 
--- its bytes after the gate
-abbrev pub walk_bytes : Walk → Bytes
-walk_bytes w = head_bytes w.first ++ (flat_map entry_bytes w.pairs ++ last_bytes w.last)
+-- A format in which a walk can be spelled. Format 1 tells no stamps: there each row has the number of steps before the walk.
+pub record IsSpelledIn (version : ℕ) (w : Walk) : Type 0 where
+  pub known : IsVersion version
+  pub stamps : version ≡ 1 → AllByRecursion (λ p. p.row.stamp ≡ w.first) w.pairs
 
--- A file is a whole checkpoint: its gate is open, and one follows it. Bytes after that aren't read.
+-- its bytes after the gate, in a format
+abbrev pub walk_bytes : ℕ → Walk → Bytes
+walk_bytes version w = head_bytes version w.first ++ (flat_map (entry_bytes version) w.pairs ++ last_bytes w.last)
+
+-- A file is a whole checkpoint: its gate is open, and one follows it, in either format. Bytes after that aren't read.
 pub record HasWalk (w : Walk) (image : Bytes) : Type 0 where
   pub is : IsWalk w
+  pub version : ℕ
+  pub spelled : IsSpelledIn version w
   pub behind : Bytes
-  pub whole : image ≡ 1 ∷ (walk_bytes w ++ behind)
+  pub whole : image ≡ 1 ∷ (walk_bytes version w ++ behind)
 
 -- and anything else is none
 abbrev pub HasNone : Bytes → Type 0
@@ -70,9 +79,11 @@ pub record IsGated (may : List (Option Walk)) (image : Bytes) : Type 0 where
   pub walk : Walk
   pub among : In (Some walk) may
   pub is : IsWalk walk
+  pub version : ℕ
+  pub spelled : IsSpelledIn version walk
   pub gate : ℕ
   pub behind : Bytes
-  pub whole : image ≡ gate ∷ (walk_bytes walk ++ behind)
+  pub whole : image ≡ gate ∷ (walk_bytes version walk ++ behind)
   pub open_or : (gate ≡ 1) ⊎ In None may
 
 -- What may be left of a slot that may have one of these. That a whole checkpoint follows a gate that is torn is a part of it: reading closes such a

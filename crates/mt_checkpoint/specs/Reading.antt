@@ -5,30 +5,40 @@ use Rattle.mt_rows.specs.{Rows.{Bytes, Columns}, declared.record.TenantPair.Tena
 use Rattle.mt_disk.specs.Disk.{DiskState}
 use Rattle.mt_fields.specs.Reading.{◌>>=◌, byte_at, number_at}
 use Rattle.mt_row_fields.specs.Reading.{row_at, key_at}
-use Rattle.mt_checkpoint.specs.{declared.checkpoint.Checkpoint.Checkpoint, declared.reader.Item.Item, declared.reader.Item.TheVariants.{Pair, Last}}
-use Rattle.mt_checkpoint.specs.{declared.reader.Stop.Stop, Format.{head_bytes, entry_bytes, last_bytes}}
+use Rattle.mt_checkpoint.specs.{declared.checkpoint.Checkpoint.Checkpoint, declared.reader.Head.Head, declared.reader.Item.Item, declared.reader.Item.TheVariants.{Pair, Last}}
+use Rattle.mt_checkpoint.specs.{declared.reader.Stop.Stop, Format.{IsVersion, head_bytes, entry_bytes, last_bytes}}
 use Rattle.mt_checkpoint.specs.Checkpoints.{IsPair, IsWalk, walk_of, HasWalk, HasNone}
 use Rattle.mt_checkpoint.specs.declared.reader.Stop.TheVariants as stops
 
--- an item's bytes, and its limits
-abbrev pub item_bytes : Item → Bytes
-item_bytes (Pair p) = entry_bytes p
-item_bytes (Last n) = last_bytes n
+-- a pair that an entry after this head tells: in format 1 its stamp is the number of steps before the walk
+pub record IsEntry (head : Head) (p : TenantPair) : Type 0 where
+  pub pair : IsPair p
+  pub stamp : head.version ≡ 1 → p.row.stamp ≡ head.first
 
-abbrev pub IsItem : Item → Type 0
-IsItem (Pair p) = IsPair p
-IsItem (Last n) = n < 2 ^ 64
+-- an item's bytes after a head, and its limits
+abbrev pub item_bytes : Head → Item → Bytes
+item_bytes head (Pair p) = entry_bytes head.version p
+item_bytes head (Last n) = last_bytes n
+
+abbrev pub IsItem : Head → Item → Type 0
+IsItem head (Pair p) = IsEntry head p
+IsItem head (Last n) = n < 2 ^ 64
 
 -- a pair of these fields
-abbrev pub pair_from : ℕ → Bytes → Columns → TenantPair
-pair_from tenant key row = record { tenant = tenant; key = key; row = row }
+abbrev pub pair_from : ℕ → Bytes → ℕ → Columns → TenantPair
+pair_from tenant key stamp row = record { tenant = tenant; key = key; row = record { stamp = stamp; row = row } }
 
-unfoldable pub pair_at : Bytes → Option (Item × Bytes)
-pair_at bytes = do
+-- a row's stamp, by the head in format 1
+unfoldable pub stamp_at : Head → Bytes → Option (ℕ × Bytes)
+stamp_at head bytes = if head.version == 1 then Some (head.first, bytes) else number_at w64 bytes
+
+unfoldable pub pair_at : Head → Bytes → Option (Item × Bytes)
+pair_at head bytes = do
   tenant ← number_at w32 bytes
   key ← key_at tenant.1
-  row ← row_at key.1
-  Some (Pair (pair_from tenant.0 key.0 row.0), row.1)
+  stamp ← stamp_at head key.1
+  row ← row_at stamp.1
+  Some (Pair (pair_from tenant.0 key.0 stamp.0 row.0), row.1)
 
 unfoldable pub last_at : Bytes → Option (Item × Bytes)
 last_at bytes = do
@@ -36,50 +46,55 @@ last_at bytes = do
   Some (Last last.0, last.1)
 
 -- an item, by its first byte
-unfoldable pub item_kind_at : ℕ → Bytes → Option (Item × Bytes)
-item_kind_at kind rest =
-    if kind == 1 then pair_at rest else
+unfoldable pub item_kind_at : Head → ℕ → Bytes → Option (Item × Bytes)
+item_kind_at head kind rest =
+    if kind == 1 then pair_at head rest else
     if kind == 2 then last_at rest else None
 
-unfoldable pub item_at : Bytes → Option (Item × Bytes)
-item_at bytes = do
+unfoldable pub item_at : Head → Bytes → Option (Item × Bytes)
+item_at head bytes = do
   kind ← byte_at bytes
-  item_kind_at kind.0 kind.1
+  item_kind_at head kind.0 kind.1
+
+-- a head in either format
+pub record IsHead (head : Head) : Type 0 where
+  pub known : IsVersion head.version
+  pub first : head.first < 2 ^ 64
 
 -- no head stands at the front
 abbrev pub HasNoHead : Bytes → Type 0
-HasNoHead bytes = (first : ℕ) (more : Bytes) → first < 2 ^ 64 → bytes ≡ head_bytes first ++ more → ⊥
+HasNoHead bytes = (head : Head) (more : Bytes) → IsHead head → bytes ≡ head_bytes head.version head.first ++ more → ⊥
 
--- no item does
-abbrev pub HasNoItem : Bytes → Type 0
-HasNoItem bytes = (x : Item) (more : Bytes) → IsItem x → bytes ≡ item_bytes x ++ more → ⊥
+-- no item does, as one after this head
+abbrev pub HasNoItem : Head → Bytes → Type 0
+HasNoItem head bytes = (x : Item) (more : Bytes) → IsItem head x → bytes ≡ item_bytes head x ++ more → ⊥
 
 -- what follows the entries of some bytes; more of them may stand there
-abbrev pub StopsAt : Bytes → Stop → Type 0
-StopsAt rest stops.More = Unit {0}
-StopsAt rest (stops.Last last) = (last < 2 ^ 64) × ((more : Bytes) × (rest ≡ last_bytes last ++ more))
-StopsAt rest stops.Bad = HasNoItem rest
+abbrev pub StopsAt : Head → Bytes → Stop → Type 0
+StopsAt head rest stops.More = Unit {0}
+StopsAt head rest (stops.Last last) = (last < 2 ^ 64) × ((more : Bytes) × (rest ≡ last_bytes last ++ more))
+StopsAt head rest stops.Bad = HasNoItem head rest
 
 -- pairs were taken from a window, after those that were there, and this is left of it
-pub record HasTaken (window : Bytes) (old new : List TenantPair) (rest : Bytes) : Type 0 where
+pub record HasTaken (head : Head) (window : Bytes) (old new : List TenantPair) (rest : Bytes) : Type 0 where
   pub pairs : List TenantPair
   pub more : new ≡ old ++ pairs
-  pub each : AllByRecursion IsPair pairs
-  pub parts : window ≡ flat_map entry_bytes pairs ++ rest
+  pub each : AllByRecursion (IsEntry head) pairs
+  pub parts : window ≡ flat_map (entry_bytes head.version) pairs ++ rest
 
 -- entries of so many bytes at the front of some, and what follows them
-pub record AreTaken (text : Bytes) (pairs : List TenantPair) (used : ℕ) (stop : Stop) : Type 0 where
-  pub parts : text ≡ flat_map entry_bytes pairs ++ drop used text
-  pub stops : StopsAt (drop used text) stop
+pub record AreTaken (head : Head) (text : Bytes) (pairs : List TenantPair) (used : ℕ) (stop : Stop) : Type 0 where
+  pub parts : text ≡ flat_map (entry_bytes head.version) pairs ++ drop used text
+  pub stops : StopsAt head (drop used text) stop
 
 -- what a window gives: pairs after those that were there
-pub record Takes (window : Bytes) (whole : Bool) (old new : List TenantPair) (used : ℕ) (stop : Stop) : Type 0 where
+pub record Takes (head : Head) (window : Bytes) (whole : Bool) (old new : List TenantPair) (used : ℕ) (stop : Stop) : Type 0 where
   pub pairs : List TenantPair
   pub more : new ≡ old ++ pairs
-  pub each : AllByRecursion IsPair pairs
+  pub each : AllByRecursion (IsEntry head) pairs
   pub within : used ≤ length window
-  pub some : stop ≡ stops.More → (whole ≡ true → ⊥) × (length window < used + 16675)
-  pub told : (behind : Bytes) → (whole ≡ true → behind ≡ []) → AreTaken (window ++ behind) pairs used stop
+  pub some : stop ≡ stops.More → (whole ≡ true → ⊥) × (length window < used + 16683)
+  pub told : (behind : Bytes) → (whole ≡ true → behind ≡ []) → AreTaken head (window ++ behind) pairs used stop
 
 -- over an honest disk with a file of this length: its image has P
 abbrev pub OfImage : {D : Type 0} → (D → Bool) → (D → DiskState) → D → ℕ → (Bytes → Type 0) → Type 0
@@ -91,14 +106,14 @@ pub record IsWindow {D : Type 0} (is_honest : D → Bool) (state : D → DiskSta
   pub told : OfImage is_honest state disk len (λ image. bytes.items ≡ take count (drop place image))
 
 -- the head of a file, after its gate
-abbrev pub IsHeadIn : Bytes → Option ℕ → Type 0
+abbrev pub IsHeadIn : Bytes → Option Head → Type 0
 IsHeadIn image None = HasNoHead (drop 1 image)
-IsHeadIn image (Some first) = (first < 2 ^ 64) × (drop 1 image ≡ head_bytes first ++ drop 15 image)
+IsHeadIn image (Some head) = IsHead head × (drop 1 image ≡ head_bytes head.version head.first ++ drop 15 image)
 
--- all entries after the head, and the last entry; or no such
-abbrev pub IsEndIn : Bytes → List TenantPair → Option ℕ → Type 0
-IsEndIn image pairs None = (rest : Bytes) × (drop 15 image ≡ flat_map entry_bytes pairs ++ rest) × HasNoItem rest
-IsEndIn image pairs (Some last) = (last < 2 ^ 64) × ((more : Bytes) × (drop 15 image ≡ flat_map entry_bytes pairs ++ (last_bytes last ++ more)))
+-- all entries after this head, and the last entry; or no such
+abbrev pub IsEndIn : Head → Bytes → List TenantPair → Option ℕ → Type 0
+IsEndIn head image pairs None = (rest : Bytes) × (drop 15 image ≡ flat_map (entry_bytes head.version) pairs ++ rest) × HasNoItem head rest
+IsEndIn head image pairs (Some last) = (last < 2 ^ 64) × ((more : Bytes) × (drop 15 image ≡ flat_map (entry_bytes head.version) pairs ++ (last_bytes last ++ more)))
 
 -- what was read after an open gate: a checkpoint in the format, which over an honest disk is the file's; or there is none
 abbrev pub IsReadOpen : {D : Type 0} → (D → Bool) → (D → DiskState) → D → ℕ → Option Checkpoint → Type 0

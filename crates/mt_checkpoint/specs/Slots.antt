@@ -5,7 +5,7 @@ use Rattle.mt_rows.specs.declared.record.TenantPair.{TenantPair}
 use Rattle.mt_disk.specs.Disk.{DiskState, LeavesOnly, IsDurable, GoesUp, synced}
 use Rattle.mt_checkpoint.specs.{declared.checkpoint.Checkpoint.Checkpoint, declared.slot.Writer.Writer, declared.fault.WriteFault.WriteFault}
 use Rattle.mt_checkpoint.specs.{declared.fault.ReadFault.ReadFault, Format.{head_bytes, entry_bytes}}
-use Rattle.mt_checkpoint.specs.Checkpoints.{Walk, IsWalk, walk_of, HasWalk, Has, In, IsClosed, IsOneOf, IsBehindGate}
+use Rattle.mt_checkpoint.specs.Checkpoints.{Walk, IsWalk, walk_of, walk_bytes, HasWalk, Has, In, IsClosed, IsOneOf, IsBehindGate}
 use Rattle.mt_checkpoint.specs.declared.fault.WriteFault.TheVariants as writes
 use Rattle.mt_checkpoint.specs.declared.fault.ReadFault.TheVariants as reads
 
@@ -41,9 +41,9 @@ pub record SettlesOnSlot (x : Option Walk) (may : List (Option Walk)) (first new
 -- ---- the calls
 
 module _ {D : Type 0} (is_honest : D → Bool) (state : D → DiskState) (failures : D → ℕ) where
-  -- a writer has these pairs so far
+  -- a writer has these pairs so far, in format 2
   pub record IsWriting (pairs : List TenantPair) (w : Writer D) : Type 0 where
-    pub text : IsBehindGate (head_bytes w.first ++ flat_map entry_bytes pairs) (state w.disk)
+    pub text : IsBehindGate (head_bytes 2 w.first ++ flat_map (entry_bytes 2) pairs) (state w.disk)
     pub end : w.end ≡ length (state w.disk).image
 
   -- over an honest disk: at each moment a crash leaves what it might before, or none
@@ -94,10 +94,11 @@ module _ {D : Type 0} (is_honest : D → Bool) (state : D → DiskState) (failur
   FailsToAdd old (writes.Device new) = LeavesClosed old new × GoesUp (failures old.disk) (failures new) × (is_honest new ≡ is_honest old.disk)
   FailsToAdd old (writes.Memory new) = new ≡ old.disk
 
-  -- it was ended
+  -- it was ended: the file is an open gate and the walk in format 2, and nothing else
   pub record Ended (old : Writer D) (last : ℕ) (new : D) : Type 0 where
     pub has : IsTrue (is_honest old.disk) → (pairs : List TenantPair) → IsWriting pairs old → IsWalk (walk_with old last pairs)
         → HasDurably (walk_with old last pairs) (state new)
+    pub image : IsTrue (is_honest old.disk) → (pairs : List TenantPair) → IsWriting pairs old → (state new).image ≡ 1 ∷ walk_bytes 2 (walk_with old last pairs)
     pub leaves : LeavesNoneOrThis old last new
     pub count : failures new ≡ failures old.disk
     pub honest : is_honest new ≡ is_honest old.disk

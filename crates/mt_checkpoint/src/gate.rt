@@ -8,7 +8,7 @@ ghost use Rattle.mt_checkpoint.specs.Format.{head_bytes, last_bytes};
 ghost use Rattle.mt_checkpoint.specs.Checkpoints.{Walk, IsWalk, walk_bytes, IsClosed, IsGated, IsOneOf, IsBehindGate, IsClosedAtRest, IsStaged};
 ghost use Rattle.mt_checkpoint.specs.Slots.{IsGateOf, IsSyncedOrSame, ClosesGate, HasDurably};
 
-use crate::writer::{head, last_entry};
+use crate::writer::{FORMAT, head, last_entry};
 use mt_disk::{DeviceFailed, Disk};
 
 /// The gate of a checkpoint that counts.
@@ -47,17 +47,17 @@ pub(crate) fn close_gate<D: Disk>(disk: &mut D) -> Result<(), DeviceFailed>
     disk.sync()
 }
 
-/// Cuts after the closed gate, and writes a head there. Nothing of it is synced.
+/// Cuts after the closed gate, and writes a head of format 2 there. Nothing of it is synced.
 pub(crate) fn write_head<D: Disk>(disk: &mut D, first: u64) -> Result<(), DeviceFailed>
     ensures behind { IsTrue (D.is_honest disk.old) → IsClosedAtRest (D.state disk.old)
-        → OnOk result (IsBehindGate (head_bytes first) (D.state disk.new)) }
+        → OnOk result (IsBehindGate (head_bytes 2 first) (D.state disk.new)) }
     ensures leaves { IsTrue (D.is_honest disk.old) → IsClosedAtRest (D.state disk.old)
         → LeavesOnly IsClosed (D.state disk.old) (D.state disk.new) }
     ensures honest { D.is_honest disk.new ≡ D.is_honest disk.old }
     ensures count { CountsFailure result (D.failures disk.old) (D.failures disk.new) }
 {
     disk.cut(1)?;
-    disk.write_at(1, &head(first))
+    disk.write_at(1, &head(FORMAT, first))
 }
 
 /// Writes more after what follows the closed gate. Nothing of it is synced.
@@ -89,11 +89,13 @@ pub(crate) fn stage<D: Disk>(disk: &mut D, end: usize, last: u64) -> Result<(), 
     disk.sync()
 }
 
-/// Opens the gate, after which a whole checkpoint is durable.
+/// Opens the gate. If a whole checkpoint follows it, that one is durable.
 pub(crate) fn open_gate<D: Disk>(disk: &mut D) -> Result<(), DeviceFailed>
-    ensures opened { IsTrue (D.is_honest disk.old) → (w : Walk) → IsWalk w → IsStaged (walk_bytes w) (D.state disk.old)
+    ensures opened { IsTrue (D.is_honest disk.old) → (w : Walk) → IsWalk w → IsStaged (walk_bytes 2 w) (D.state disk.old)
         → OnOk result (HasDurably w (D.state disk.new)) }
-    ensures leaves { IsTrue (D.is_honest disk.old) → (w : Walk) → IsWalk w → IsStaged (walk_bytes w) (D.state disk.old)
+    ensures image { IsTrue (D.is_honest disk.old) → (text : Bytes) → IsStaged text (D.state disk.old)
+        → OnOk result ((D.state disk.new).image ≡ 1 ∷ text) }
+    ensures leaves { IsTrue (D.is_honest disk.old) → (w : Walk) → IsWalk w → IsStaged (walk_bytes 2 w) (D.state disk.old)
         → LeavesOnly (IsOneOf (None ∷ Some w ∷ [])) (D.state disk.old) (D.state disk.new) }
     ensures honest { D.is_honest disk.new ≡ D.is_honest disk.old }
     ensures count { CountsFailure result (D.failures disk.old) (D.failures disk.new) }

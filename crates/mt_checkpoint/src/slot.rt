@@ -115,7 +115,7 @@ fn shut<D: Disk>(disk: &mut D) -> Result<(), DeviceFailed>
 
 // Begins a checkpoint on its disk.
 fn begin_on<D: Disk>(disk: &mut D, first: u64) -> Result<(), DeviceFailed>
-    ensures behind { IsTrue (D.is_honest disk.old) → OnOk result (IsBehindGate (head_bytes first) (D.state disk.new)) }
+    ensures behind { IsTrue (D.is_honest disk.old) → OnOk result (IsBehindGate (head_bytes 2 first) (D.state disk.new)) }
     ensures leaves { LeavesOrNone D.is_honest D.state D.failures disk.old disk.new }
     ensures honest { D.is_honest disk.new ≡ D.is_honest disk.old }
     ensures count { CountsFailure result (D.failures disk.old) (D.failures disk.new) }
@@ -127,9 +127,11 @@ fn begin_on<D: Disk>(disk: &mut D, first: u64) -> Result<(), DeviceFailed>
 // Ends a checkpoint whose file ends at `end`.
 fn end_on<D: Disk>(disk: &mut D, end: usize, last: u64) -> Result<(), DeviceFailed>
     ensures whole { IsTrue (D.is_honest disk.old) → (text : Bytes) (w : Walk) → IsBehindGate text (D.state disk.old)
-        → end ≡ length (D.state disk.old).image → IsWalk w → text ++ last_bytes last ≡ walk_bytes w → OnOk result (HasDurably w (D.state disk.new)) }
+        → end ≡ length (D.state disk.old).image → IsWalk w → text ++ last_bytes last ≡ walk_bytes 2 w → OnOk result (HasDurably w (D.state disk.new)) }
+    ensures image { IsTrue (D.is_honest disk.old) → (text : Bytes) → IsBehindGate text (D.state disk.old)
+        → end ≡ length (D.state disk.old).image → OnOk result ((D.state disk.new).image ≡ 1 ∷ (text ++ last_bytes last)) }
     ensures leaves { IsTrue (D.is_honest disk.old) → (text : Bytes) (w : Walk) → IsBehindGate text (D.state disk.old)
-        → end ≡ length (D.state disk.old).image → IsWalk w → text ++ last_bytes last ≡ walk_bytes w
+        → end ≡ length (D.state disk.old).image → IsWalk w → text ++ last_bytes last ≡ walk_bytes 2 w
         → LeavesOnly (IsOneOf (None ∷ Some w ∷ [])) (D.state disk.old) (D.state disk.new) }
     ensures honest { D.is_honest disk.new ≡ D.is_honest disk.old }
     ensures count { CountsFailure result (D.failures disk.old) (D.failures disk.new) }

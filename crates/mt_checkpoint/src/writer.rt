@@ -4,7 +4,7 @@ ghost use Rattle.std.specs.{Prelude.{◌≡◌, ◌++◌, IfOk, OnOk}, List.{fla
 ghost use Rattle.mt_rows.specs.Commands.{IsKey};
 ghost use Rattle.mt_checkpoint.specs.Format.{head_bytes, entry_bytes, last_bytes};
 
-use mt_fields::put_u32;
+use mt_fields::{put_u32, put_u64};
 use mt_row_fields::{put_key, put_row};
 use mt_rows::TenantPair;
 use std::alloc::{AllocError, Global};
@@ -18,14 +18,20 @@ pub(crate) const HEAD_BYTES: usize = 14;
 /// Where the entries begin.
 pub(crate) const ENTRIES_AT: usize = 15;
 
-/// The head of a checkpoint, in format 1.
-pub(crate) fn head(first: u64) -> [u8; 14]
-    ensures { result ≡ head_bytes first }
+/// The format in which no entry tells a stamp.
+pub(crate) const OLD_FORMAT: u8 = 1;
+
+/// The format that is written.
+pub(crate) const FORMAT: u8 = 2;
+
+/// The head of a checkpoint, in the format of this number.
+pub(crate) fn head(version: u8, first: u64) -> [u8; 14]
+    ensures { result ≡ head_bytes version first }
 {
     let number = first.to_be_bytes();
     [
-        b'M', b'T', b'C', b'K', b'P', 1, number[0], number[1], number[2], number[3], number[4],
-        number[5], number[6], number[7],
+        b'M', b'T', b'C', b'K', b'P', version, number[0], number[1], number[2], number[3],
+        number[4], number[5], number[6], number[7],
     ]
 }
 
@@ -39,21 +45,22 @@ pub(crate) fn last_entry(last: u64) -> [u8; 9]
     ]
 }
 
-// An entry.
+// An entry, in format 2.
 fn put_entry(out: &mut Vec<u8>, pair: &TenantPair) -> Result<(), AllocError>
     requires { IsKey pair.now.key }
-    ensures { OnOk result (out.new.items ≡ out.old.items ++ entry_bytes pair.now) }
+    ensures { OnOk result (out.new.items ≡ out.old.items ++ entry_bytes 2 pair.now) }
 {
     out.push(1)?;
     put_u32(out, pair.tenant)?;
     put_key(out, &pair.key)?;
-    put_row(out, &pair.row)
+    put_u64(out, pair.row.stamp)?;
+    put_row(out, &pair.row.row)
 }
 
-/// Entries, one after the other.
+/// Entries, one after the other, in format 2.
 pub(crate) fn entries(alloc: Global, pairs: &[TenantPair]) -> Result<Vec<u8>, AllocError>
     requires { All (λ p. IsKey p.key) pairs.now }
-    ensures { IfOk result (λ block. block.items ≡ flat_map entry_bytes pairs.now) }
+    ensures { IfOk result (λ block. block.items ≡ flat_map (entry_bytes 2) pairs.now) }
 {
     let mut block = Vec::new(alloc);
     for pair in pairs {

@@ -13,7 +13,7 @@ returns-in-Last-clause-ok g c honest has =
     let window : w ≡ take 262144 (drop l.place image) = c.deref.ensures.value ∙ told honest has in
     let whole = eqb c.len.result (c.args.len - l.place) in
     let ends : whole ≡ true → length w ≡ length (drop l.place image) = λ e. omega (arith, eqb-true c.len.result (c.args.len - l.place) e, c.len.ensures, c.deref.ensures.len, has, length-drop l.place image) in
-    ends_last image l.place 262144 w l.pairs.items window (l.invariant.told honest has) whole ends c.take_items.new.pairs.items c.in_ok-used.used c.in_ok-used.stop c.in_ok-used.ensures c.in-Last.last c.in-Last.is
+    ends_last c.args.head image l.place 262144 w l.pairs.items window (l.invariant.told honest has) whole ends c.take_items.new.pairs.items c.in_ok-used.used c.in_ok-used.stop c.in_ok-used.ensures c.in-Last.last c.in-Last.is
 
 pub returns-in-Bad-clause-ok : goal.returns-in-Bad-clause-ok
 returns-in-Bad-clause-ok g c honest has =
@@ -24,7 +24,7 @@ returns-in-Bad-clause-ok g c honest has =
     let window : w ≡ take 262144 (drop l.place image) = c.deref.ensures.value ∙ told honest has in
     let whole = eqb c.len.result (c.args.len - l.place) in
     let ends : whole ≡ true → length w ≡ length (drop l.place image) = λ e. omega (arith, eqb-true c.len.result (c.args.len - l.place) e, c.len.ensures, c.deref.ensures.len, has, length-drop l.place image) in
-    ends_bad image l.place 262144 w l.pairs.items window (l.invariant.told honest has) whole ends c.take_items.new.pairs.items c.in_ok-used.used c.in_ok-used.stop c.in_ok-used.ensures c.in-Bad.is
+    ends_bad c.args.head image l.place 262144 w l.pairs.items window (l.invariant.told honest has) whole ends c.take_items.new.pairs.items c.in_ok-used.used c.in_ok-used.stop c.in_ok-used.ensures c.in-Bad.is
 
 pub loop-window-preserved : goal.loop-window-preserved
 loop-window-preserved g c =
@@ -34,7 +34,7 @@ loop-window-preserved g c =
     let within = c.in_ok-used.ensures.within in
     let whole_window = eqb c.len.result (c.args.len - c.loop-window.place) in
     record {
-      each = each_taken c.deref.result.now whole_window c.loop-window.pairs.items c.take_items.new.pairs.items c.in_ok-used.used c.in_ok-used.stop c.in_ok-used.ensures before.each;
+      each = each_taken c.args.head c.deref.result.now whole_window c.loop-window.pairs.items c.take_items.new.pairs.items c.in_ok-used.used c.in_ok-used.stop c.in_ok-used.ensures before.each;
       within = omega (arith, here, size, within, ap length c.deref.ensures.value);
       told = λ honest has. (
           let l = c.loop-window in
@@ -44,7 +44,7 @@ loop-window-preserved g c =
           let window : w ≡ take 262144 (drop l.place image) = c.deref.ensures.value ∙ told honest has in
           let whole = eqb c.len.result (c.args.len - l.place) in
           let ends : whole ≡ true → length w ≡ length (drop l.place image) = λ e. omega (arith, eqb-true c.len.result (c.args.len - l.place) e, c.len.ensures, c.deref.ensures.len, has, length-drop l.place image) in
-          stands_on image l.place 262144 w l.pairs.items window (l.invariant.told honest has) whole ends c.take_items.new.pairs.items c.in_ok-used.used c.in_ok-used.stop c.in_ok-used.ensures
+          stands_on c.args.head image l.place 262144 w l.pairs.items window (l.invariant.told honest has) whole ends c.take_items.new.pairs.items c.in_ok-used.used c.in_ok-used.stop c.in_ok-used.ensures
           );
       same = λ honest. c.in_ok-window.ensures.same (subst IsTrue (sym before.honest) honest) ∙ before.same honest;
       honest = c.in_ok-window.ensures.honest ∙ before.honest;
