@@ -43,7 +43,7 @@ appended old new h is = record {
 
     after : IsFrontOf old h.worker (with_batch (Records h.batch) h.had)
     after = record {
-      contents = contents_more h.had (Records h.batch) was.contents (in_format h.batch h.fits);
+      contents = contents_more h.had (Records h.batch) was.contents (in_format h.batch h.fits h.had.version);
       joins = join_more 0 h.had.batches (Records h.batch) was.joins h.turn (batch_in_order h.batch h.fits);
       owner = was.owner;
       has = has;
@@ -148,7 +148,7 @@ resumed old new h is = record {
     after : IsFrontOf old h.worker (with_batch (Resume (mark_of h.had) old.reached h.kept) h.had)
     after = record {
       contents = contents_more h.had (Resume (mark_of h.had) old.reached h.kept) was.contents
-          (in_steps (mark_of h.had) old.reached h.kept h.rises.0 h.fits h.rises.1);
+          (in_steps (mark_of h.had) old.reached h.kept h.rises.0 h.fits h.rises.1 h.had.version);
       joins = join_more 0 h.had.batches (Resume (mark_of h.had) old.reached h.kept) was.joins refl h.rises;
       owner = was.owner;
       has = λ r at upto live. more_left r (Resume (mark_of h.had) old.reached h.kept) h.had (was.has r at (within r upto live) live);

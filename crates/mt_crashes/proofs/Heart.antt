@@ -4,7 +4,7 @@ use Rattle.std.proofs.{lemmas.Bool.{ltb-false, and_parts, and_from, not-true, no
 use Rattle.std.specs.{Prelude.slice_get, List.AllZip}
 use Rattle.mt_rows.specs.{declared.record.Record.Record, Tenants.{Contents as Pairs}, TenantPairs.{HasTenants, KeepsQuotas}}
 use Rattle.mt_log.specs.Contents.{Contents, IsContents, JoinsAndRises}
-use Rattle.mt_crashes.specs.Fronts.{cutoff_of, is_void, all_voids, records_of, all_records, is_replayed, In, Rise, IsReplay, after_changes, HoldResume}
+use Rattle.mt_crashes.specs.Fronts.{cutoff_of, is_void, all_voids, records_of, all_records, is_replayed, In, Rise, IsReplay, HoldResume, after_replay}
 use Rattle.mt_crashes.specs.{Histories.{Placed, upto, changes_of, pairs_upto}, Recoveries.{IsUsed, IsBaseOf, IsRecovered, AreSet, StandsTwice, NoneOlder}}
 use Rattle.mt_crashes.specs.{Bases.{over, CheckpointView, Slots, IsBase}, Walks.AreWalked}
 use Rattle.mt_crashes.specs.Stores.{Store, SlotNow, MayLeaveFront, MayLeaveFronts, MayLeaveSlots, new_store, Leads, ReachesAt, AllReach}
@@ -116,16 +116,16 @@ history_rises s is = subst (RisePlaced 0) (sym is.left) (rise_filter (λ (p : Pl
 -- over any base that ends by the cutoff
 over_any : (from to : ℕ) (s : Store) (fronts : List Contents) (base : Pairs) (rs : List Record) → IsStore s → MayLeaveFronts s.logs fronts
     → from ≤ to → to ≤ cutoff_of fronts → IsBase from to s.history base → IsReplay from fronts rs
-    → after_changes base rs ≡ pairs_upto (cutoff_of fronts) s.history
+    → after_replay base rs ≡ pairs_upto (cutoff_of fronts) s.history
 over_any from to s fronts base rs is left le within base_is replay =
-    ap (after_changes base) (replay_is from s fronts rs is left replay)
+    ap (after_replay base) (replay_is from s fronts rs is left replay)
     ∙ over_base from to (cutoff_of fronts) s.history base (history_rises s is) le within base_is
 
 -- over the base that is used
 over_used : (s : Store) (fronts : List Contents) (read : Slots) (used : Option ℕ) (from : ℕ) (base : Pairs) (rs : List Record) → IsStore s
     → MayLeaveFronts s.logs fronts → MayLeaveSlots s.slots read
     → IsUsed fronts read used → IsBaseOf read used from base → IsReplay from fronts rs
-    → after_changes base rs ≡ pairs_upto (cutoff_of fronts) s.history
+    → after_replay base rs ≡ pairs_upto (cutoff_of fronts) s.history
 over_used s fronts read None from base rs is left left_slots used base_is replay =
     over_any from from s fronts base rs is left (omega arith) (omega (arith, base_is.0))
     (subst (λ (n : ℕ). IsBase n n s.history base) (sym base_is.0)

@@ -3,7 +3,7 @@ use Rattle.std.proofs.Common.{◌≡◌, ◌⊎◌, inl, inr, ⊎_elim, ℕ, zer
 use Rattle.std.proofs.{lemmas.List.Elements.recursion_from_All, lemmas.Option.same_Some}
 use Rattle.std.specs.{Prelude.{slice_get, slice_set}, List.{filter, flat_map, AllZip}}
 use Rattle.mt_rows.specs.declared.record.Record.{Record}
-use Rattle.mt_log.specs.{declared.batch.LogBatch.LogBatch, declared.batch.LogBatch.TheVariants.{Records, Resume}}
+use Rattle.mt_log.specs.{declared.batch.LogBatch.LogBatch, declared.batch.LogBatch.TheVariants.{Records, Resume, OldRecords}}
 use Rattle.mt_log.specs.Contents.{Contents, Rises, Join, end_of, from_of, to_of, mark_of, with_batch, no_batches}
 use Rattle.mt_crashes.specs.{Fronts.{records_in, In, Rise, HoldResume}, Histories.{Placed, changes_of}}
 use Rattle.mt_crashes.specs.{Stores.{LogNow, at_rest, MayLeaveFront, new_logs, Reaches}, Invariants.{RisePlaced, Holds}}
@@ -137,11 +137,13 @@ end_from mark (b ∷ bs) h = omega (arith, h.0, order b h.1, end_from (to_of b) 
   where
     order : (b : LogBatch) → Rises b → from_of b ≤ to_of b
     order (Records b) is = is.0
+    order (OldRecords b) is = is.0
     order (Resume from to kept) is = is.0
 
 pub resume_upto_mark : (n mark : ℕ) (bs : List LogBatch) → Join mark bs → HoldResume n bs → n ≤ end_of mark bs
 resume_upto_mark n mark [] h at = absurd at
 resume_upto_mark n mark (Records b ∷ bs) h (inl none) = absurd none
+resume_upto_mark n mark (OldRecords b ∷ bs) h (inl none) = absurd none
 resume_upto_mark n mark (Resume from to kept ∷ bs) h (inl e) = omega (arith, e, end_from to bs h.2)
 resume_upto_mark n mark (b ∷ bs) h (inr at) = resume_upto_mark n (to_of b) bs h.2 at
 
@@ -153,6 +155,7 @@ stamp_upto_mark mark (b ∷ bs) r h at =
   where
     in_batch : (b : LogBatch) → Rises b → In r (records_in b) → r.stamp ≤ to_of b
     in_batch (Records b) is l = (all_at (λ x. (b.from < x.stamp) × (x.stamp ≤ b.to)) r b.records (recursion_from_All _ b.records is.1.within) l).1
+    in_batch (OldRecords b) is l = (all_at (λ x. (b.from < x.stamp) × (x.stamp ≤ b.to)) r b.records (recursion_from_All _ b.records is.1.within) l).1
     in_batch (Resume from to kept) is l = absurd l
 
 -- ---- what may be left of a log

@@ -2,7 +2,7 @@
 use Rattle.std.proofs.Common.{◌≡◌, ℕ, ◌<◌, ◌≤◌, Bool, true, not, cond, List, [], ◌∷◌, ◌++◌, map, length, refl, sym, ◌∙◌, ap, subst, arith, Some}
 use Rattle.std.proofs.{lemmas.Bool.lt-ltb, lemmas.List.append-nil, lemmas.List.Elements.{All-weaker, filter-append}}
 use Rattle.std.specs.{Prelude.{nat_lt, IsSome}, List.{Contains, filter}}
-use Rattle.mt_rows.specs.{Rows.{Bytes, Columns, shown}, Maps.Map, Tenants.tenant_map}
+use Rattle.mt_rows.specs.{Rows.Bytes, Maps.Map, Tenants.tenant_map, Stamps.{Stamped, as_shown}}
 use Rattle.mt_runs.specs.Scans.{IsLawful}
 use Rattle.mt_crashes.specs.{Histories.{Placed, upto, changes_of, map_upto}, Fronts.after_changes, Walks.{Page, IsFromTo, Walks, WalksUpto}}
 use Rattle.std.specs.FinMap as pairs
@@ -15,8 +15,8 @@ lawful_wider maps others B W from after count ps within same is = record {
   rises = is.rises;
   walked = is.walked;
   real = All-weaker
-      (λ (p : Bytes × Columns). (m : ℕ) × B m × ((row : Columns) × (pairs.get (maps m) p.0 ≡ Some row) × (p.1 ≡ shown [] row)))
-      (λ (p : Bytes × Columns). (m : ℕ) × W m × ((row : Columns) × (pairs.get (others m) p.0 ≡ Some row) × (p.1 ≡ shown [] row)))
+      (λ (p : Bytes × Stamped). (m : ℕ) × B m × ((row : Stamped) × (pairs.get (maps m) p.0 ≡ Some row) × (p.1 ≡ as_shown [] row)))
+      (λ (p : Bytes × Stamped). (m : ℕ) × W m × ((row : Stamped) × (pairs.get (others m) p.0 ≡ Some row) × (p.1 ≡ as_shown [] row)))
       (λ p h. (h.0, within h.0 h.1, (h.2.0, ap (λ (x : Map). pairs.get x p.0) (sym (same h.0 h.1)) ∙ h.2.1, h.2.2))) ps is.real;
   whole = λ key walked reached stays. is.whole key walked reached (λ m b. subst (λ (x : Map). IsSome (pairs.get x key)) (sym (same m b)) (stays m (within m b)));
 }

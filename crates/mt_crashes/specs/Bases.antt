@@ -1,21 +1,17 @@
 -- The pairs from which a recovery replays: what a checkpoint that was written while the store ran has to be for that.
-use Rattle.std.specs.{Prelude.{◌≡◌, ◌≢◌, ◌⊎◌, ℕ, ◌<◌, ◌≤◌, true, nat_lt, List, Option}, List.filter}
+use Rattle.std.specs.{Prelude.{◌≡◌, ◌⊎◌, ℕ, ◌≤◌, true, nat_lt, List, Option}, List.filter}
 use Rattle.mt_rows.specs.{Rows.Bytes, Tenants.{Contents as Pairs}}
-use Rattle.mt_crashes.specs.{Fronts.{Numbers, In, is_void, key_of}, Histories.{Placed, pairs_upto}}
+use Rattle.mt_crashes.specs.{Fronts.{Numbers, is_void}, Histories.{Placed, pairs_upto}}
 use Rattle.std.specs.FinMap as pairs
 
 -- the changes with a number over n
 abbrev pub over : ℕ → List Placed → List Placed
 over n history = filter (λ p. nat_lt n p.change.stamp) history
 
--- no change over one number and up to another is of this tenant's key
-abbrev pub Stays : ℕ × Bytes → ℕ → ℕ → List Placed → Type 0
-Stays key from to history = (p : Placed) → In p history → from < p.change.stamp → p.change.stamp ≤ to → key_of p.change ≢ key
-
--- Pairs that were walked between two numbers: each key that stayed throughout, present or absent, is there as it was. Of the others nothing is
--- asked: each has a change after the first number, whose record holds the full row.
+-- Pairs that were walked between two numbers: each key is there, or isn't, as at some number between these, with the stamp that it had there. So a
+-- replay tells by the stamp which of the key's changes its row has, and a key that stayed throughout is there as it was.
 abbrev pub IsBase : ℕ → ℕ → List Placed → Pairs → Type 0
-IsBase from to history base = (key : ℕ × Bytes) → Stays key from to history → pairs.get base key ≡ pairs.get (pairs_upto from history) key
+IsBase from to history base = (key : ℕ × Bytes) → (m : ℕ) × (from ≤ m) × (m ≤ to) × (pairs.get base key ≡ pairs.get (pairs_upto m history) key)
 
 -- a checkpoint: walked from one number to another, with these pairs
 pub record CheckpointView : Type 0 where

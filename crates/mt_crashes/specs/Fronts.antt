@@ -1,10 +1,12 @@
 -- What the fronts of all logs tell together: where they end, which numbers are void, and what is replayed.
-use Rattle.std.specs.Prelude.{◌≡◌, ◌⊎◌, ℕ, ◌<◌, ◌≤◌, min, max, Bool, not, ◌&&◌, nat_lt, List, [], ◌∷◌, map}
+use Rattle.std.specs.Prelude.{◌≡◌, ◌⊎◌, ℕ, ◌<◌, ◌≤◌, min, max, Bool, not, ◌&&◌, nat_lt, List, [], ◌∷◌, map, Option, Some, None, if◌then◌else◌}
 use Rattle.std.specs.{List.{filter, filter_map, flat_map}, List.Sorted.IsPermutation}
-use Rattle.mt_rows.specs.{Rows.Bytes, Tenants.{Contents as Pairs}, declared.record.Record.Record}
-use Rattle.mt_log.specs.{declared.batch.LogBatch.LogBatch, declared.batch.LogBatch.TheVariants.{Records, Resume}, Contents.{Contents, mark_of}}
+use Rattle.mt_rows.specs.{Rows.Bytes, Tenants.{Contents as Pairs}, declared.record.Record.Record, Stamps.{Stamped, stamp_in, written}}
+use Rattle.mt_rows.specs.{declared.record.Write.TheVariants.{Changed, Removed, Whole}, declared.record.Write.Write}
+use Rattle.mt_log.specs.{declared.batch.LogBatch.LogBatch, declared.batch.LogBatch.TheVariants.{Records, Resume, OldRecords}, Contents.{Contents, mark_of}}
 use Rattle.mt_tape.specs.Histories.{with_row}
 pub use Rattle.mt_log.specs.Voids.{Numbers, voids_in, is_void, records_in}
+use Rattle.std.specs.FinMap as pairs
 
 -- the least of some numbers, 0 of none
 abbrev pub least : List ℕ → ℕ
@@ -62,18 +64,39 @@ pub record IsReplay (base : ℕ) (fronts : List Contents) (rs : List Record) : T
 abbrev pub key_of : Record → ℕ × Bytes
 key_of r = (r.tenant, r.key)
 
--- the pairs after a change: its key has the row that the record tells, or none
+-- what a change makes of what stands at its key; changed columns make nothing of nothing
+abbrev pub made : ℕ → Write → Option Stamped → Option Stamped
+made stamp Removed old = None
+made stamp (Whole row) old = Some (record { stamp = stamp; row = row })
+made stamp (Changed change) None = None
+made stamp (Changed change) (Some row) = Some (written stamp change (Some row))
+
+-- and what a recovery makes of that: a change is passed over if what stands there has its stamp or a later one
+abbrev pub replayed : ℕ → Write → Option Stamped → Option Stamped
+replayed stamp write old = if nat_lt (stamp_in old) stamp then made stamp write old else old
+
+-- the pairs after a change
 abbrev pub with_change : Pairs → Record → Pairs
-with_change m r = with_row m (key_of r) r.row
+with_change m r = with_row m (key_of r) (made r.stamp r.write (pairs.get m (key_of r)))
+
+-- and after one that is replayed
+abbrev pub with_replayed : Pairs → Record → Pairs
+with_replayed m r = with_row m (key_of r) (replayed r.stamp r.write (pairs.get m (key_of r)))
 
 -- the pairs after changes, one after the other
 abbrev pub after_changes : Pairs → List Record → Pairs
 after_changes m [] = m
 after_changes m (r ∷ rs) = after_changes (with_change m r) rs
 
+-- and after a replay
+abbrev pub after_replay : Pairs → List Record → Pairs
+after_replay m [] = m
+after_replay m (r ∷ rs) = after_replay (with_replayed m r) rs
+
 -- a resume batch up to a number
 abbrev pub IsResumeTo : ℕ → LogBatch → Type 0
 IsResumeTo n (Records b) = ⊥
+IsResumeTo n (OldRecords b) = ⊥
 IsResumeTo n (Resume from to kept) = to ≡ n
 
 -- a resume batch up to a number stands among batches
@@ -85,6 +108,7 @@ HoldResume n (b ∷ bs) = IsResumeTo n b ⊎ HoldResume n bs
 abbrev pub HoldRecords : List LogBatch → Type 0
 HoldRecords [] = ⊥
 HoldRecords (Records b ∷ bs) = Unit {0}
+HoldRecords (OldRecords b ∷ bs) = Unit {0}
 HoldRecords (Resume from to kept ∷ bs) = HoldRecords bs
 
 -- a batch of records comes after a resume batch up to a number, at once or later

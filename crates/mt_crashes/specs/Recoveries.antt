@@ -3,7 +3,7 @@ use Rattle.std.specs.Prelude.{◌≡◌, ◌≢◌, ◌⊎◌, ℕ, ◌<◌, ◌
 use Rattle.mt_rows.specs.{Tenants.{Contents as Pairs}, declared.record.Record.Record}
 use Rattle.mt_log.specs.Contents.{Contents}
 use Rattle.mt_crashes.specs.Bases.{CheckpointView, Slots}
-use Rattle.mt_crashes.specs.Fronts.{In, greatest, cutoff_of, last_end, is_void, all_voids, records_of, IsReplay, after_changes, HoldResume, IsLastServed}
+use Rattle.mt_crashes.specs.Fronts.{In, greatest, cutoff_of, last_end, is_void, all_voids, records_of, IsReplay, HoldResume, IsLastServed, after_replay}
 use Rattle.std.specs.FinMap as pairs
 
 -- it ended by the cutoff, and in no void range
@@ -45,7 +45,7 @@ pub record IsRecovered (fronts : List Contents) (slots : Slots) (cutoff resume :
   pub base_is : IsBaseOf slots used from base
   pub replayed : List Record
   pub replay : IsReplay from fronts replayed
-  pub pairs_are : pairs ≡ after_changes base replayed
+  pub pairs_are : pairs ≡ after_replay base replayed
 
 -- the logs are the set that their headers name
 pub record AreSet (fronts : List Contents) : Type 0 where

@@ -1,13 +1,13 @@
 -- How scans that ran beside changes make a base: the pages of a tenant, from its first key on.
 use Rattle.std.specs.{Prelude.{◌≡◌, ℕ, ◌<◌, ◌≤◌, Bool, true, false, List, [], ◌∷◌, map, length}, List.{Contains, flat_map}}
-use Rattle.mt_rows.specs.{Rows.{Bytes, Columns}, Maps.Map, Tenants.{Contents as Pairs, tenant_map}}
+use Rattle.mt_rows.specs.{Rows.Bytes, Maps.Map, Tenants.{Contents as Pairs, tenant_map}, Stamps.Stamped}
 use Rattle.mt_runs.specs.Scans.{IsLawful}
 use Rattle.mt_crashes.specs.Histories.{Placed, map_upto}
 use Rattle.std.specs.FinMap as pairs
 
 -- what one scan showed
 abbrev pub Page : Type 0
-Page = List (Bytes × Columns)
+Page = List (Bytes × Stamped)
 
 -- from one step to another
 abbrev pub IsFromTo : ℕ → ℕ → ℕ → Type 0

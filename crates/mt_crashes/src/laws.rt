@@ -4,14 +4,14 @@ ghost use Rattle.std.specs.Prelude.{◌≡◌, ◌≢◌, ◌⊎◌, ◌<◌, �
 ghost use Rattle.std.specs.{List.Contains, Option.option_map};
 ghost use Rattle.std.specs.FinMap as pairs;
 ghost use Rattle.mt_rows.specs.{Tenants.{Contents as Pairs}, Rows.Bytes, Maps.Map, declared.record.Record.Record};
-ghost use Rattle.mt_rows.specs.TenantPairs.{HasTenants, KeepsQuotas, pairs_of};
+ghost use Rattle.mt_rows.specs.{TenantPairs.{HasTenants, KeepsQuotas, pairs_of}, Stamps.Stamped};
 ghost use Rattle.mt_disk.specs.Disk.{DiskState, MayLeave, LeavesOnly, found_with};
 ghost use Rattle.mt_log.specs.{declared.batch.LogBatch.LogBatch, Contents.{Contents, IsContents, JoinsAndRises, mark_of, log_bytes, with_batch}};
 ghost use Rattle.mt_log.specs.Fronts.{HasFront, IsLeft, IsAtRest};
-ghost use Rattle.mt_crashes.specs.{Fronts.{In, cutoff_of, is_void, all_voids, all_records, key_of, after_changes}, Histories.{Placed, pairs_upto, map_upto}};
-ghost use Rattle.mt_crashes.specs.{Bases.{CheckpointView, Slots, IsBase}, Walks.{AreWalked, IsFromTo, Page, Walks, WalksUpto}};
-ghost use Rattle.mt_crashes.specs.{SlotDisks.{view_of_walk, slot_now, with_slot}, Recoveries.{MayUse, HasSlot, IsRecovered, AreSet, StandsTwice, NoneOlder}};
-ghost use Rattle.mt_crashes.specs.Examples.{change, fronts_of_two};
+ghost use Rattle.mt_crashes.specs.Fronts.{In, cutoff_of, is_void, all_voids, all_records, key_of, after_replay, made};
+ghost use Rattle.mt_crashes.specs.{Histories.{Placed, pairs_upto, map_upto}, Bases.{CheckpointView, Slots, IsBase}};
+ghost use Rattle.mt_crashes.specs.{Walks.{AreWalked, IsFromTo, Page, Walks, WalksUpto}, SlotDisks.{view_of_walk, slot_now, with_slot}};
+ghost use Rattle.mt_crashes.specs.{Recoveries.{MayUse, HasSlot, IsRecovered, AreSet, StandsTwice, NoneOlder}, Examples.{change, fronts_of_two}};
 ghost use Rattle.mt_crashes.specs.Stores.{Store, new_store, Happens, Leads, MayLeaveFronts, MayLeaveSlots, ReachesAt, AllReach};
 ghost use Rattle.mt_checkpoint.specs.Checkpoints.{Walk, Has, IsOneOf, In as InSlot};
 ghost use Rattle.mt_runs.specs.Scans.{IsLawful};
@@ -123,13 +123,15 @@ pub fn a_store_serves_again()
 /// A recovery of two logs, the second of which ends first: the records at 1 and 3 count, the one at 2 is void,
 /// and the one at 4 is over the cutoff.
 pub fn a_recovery_takes_what_counts()
-    ensures { IsRecovered fronts_of_two (None ∷ None ∷ []) 3 4 None (after_changes pairs.empty (change 1 ∷ change 3 ∷ [])) }
+    ensures { IsRecovered fronts_of_two (None ∷ None ∷ []) 3 4 None (after_replay pairs.empty (change 1 ∷ change 3 ∷ [])) }
 {}
 
 /// What no recovery answers: a cutoff that some log doesn't reach, or one that all logs pass; to go on from before
 /// the end of a log, or of a checkpoint; a checkpoint that is void, or that ended after the cutoff, or none where one
 /// may be used. And over no checkpoint: a pair of a key whose records are all void or over the cutoff; anything but
-/// what a key's last record tells that is neither, such as the one at the cutoff.
+/// what a key's last record makes that is neither, such as the one at the cutoff. And over a checkpoint: anything but
+/// its row of a key, if no record of that key that counts has a stamp over the row's. So a replay is refused that
+/// passes over new rows and removals by their stamps, but not over changed columns.
 pub fn wrong_recoveries_are_refused()
     ensures cutoff_past_a_log { (k cutoff resume : ℕ) (fronts : List Contents) (f : Contents) (read : Slots) (used : Option ℕ) (found : Pairs) →
         slice_get fronts k ≡ Some f → mark_of f < cutoff → ¬ IsRecovered fronts read cutoff resume used found }
@@ -153,8 +155,13 @@ pub fn wrong_recoveries_are_refused()
         In r (all_records fronts) → 0 < r.stamp → r.stamp ≤ cutoff → is_void (all_voids fronts) r.stamp ≡ false →
         ((q : Record) → In q (all_records fronts) → key_of q ≡ key_of r → r.stamp < q.stamp →
         (is_void (all_voids fronts) q.stamp ≡ true) ⊎ (cutoff < q.stamp)) →
-        pairs.get found (key_of r) ≢ r.row → ¬ IsRecovered fronts read cutoff resume None found }
+        ((old : Option Stamped) → pairs.get found (key_of r) ≢ made r.stamp r.write old) → ¬ IsRecovered fronts read cutoff resume None found }
+    ensures with_a_change_that_its_base_has { (k cutoff resume : ℕ) (key : ℕ × Bytes) (row : Stamped) (fronts : List Contents) (c : CheckpointView)
+        (read : Slots) (found : Pairs) →
+        HasSlot read k c → pairs.get c.pairs key ≡ Some row →
+        ((r : Record) → In r (all_records fronts) → key_of r ≡ key → r.stamp ≤ cutoff → is_void (all_voids fronts) r.stamp ≡ false → r.stamp ≤ row.stamp) →
+        pairs.get found key ≢ Some row → ¬ IsRecovered fronts read cutoff resume (Some k) found }
     ensures without_the_record_at_the_cutoff { (r : Record) (resume : ℕ) (fronts : List Contents) (read : Slots) (found : Pairs) →
         In r (all_records fronts) → 0 < r.stamp → is_void (all_voids fronts) r.stamp ≡ false →
-        pairs.get found (key_of r) ≢ r.row → ¬ IsRecovered fronts read r.stamp resume None found }
+        ((old : Option Stamped) → pairs.get found (key_of r) ≢ made r.stamp r.write old) → ¬ IsRecovered fronts read r.stamp resume None found }
 {}

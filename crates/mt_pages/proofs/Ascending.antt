@@ -3,7 +3,7 @@ use Rattle.std.proofs.Common.{◌≡◌, inl, inr, ℕ, zero, suc, ◌+◌, ◌<
 use Rattle.std.proofs.lemmas.{Bool.true≢false, Bool.Decides.nat_tests, Cmp.nat_list_cmp_total, Option.same_Some}
 use Rattle.std.specs.{List.{slice_get, AllByRecursion}, List.Sorted.IsStrictlySortedBy, declared.cmp.Ordering.Ordering, declared.cmp.Ordering.TheVariants.{Less, Equal, Greater}}
 use Rattle.std.specs.{Ordering.{nat_cmp, is_lt, is_le, ordering_then}, Cmp.Lexicographic.slice_cmp}
-use Rattle.mt_rows.specs.{Rows.{Bytes, Columns}, Maps.is_walked, declared.record.TenantPair.TenantPair}
+use Rattle.mt_rows.specs.{Rows.Bytes, Stamps.Stamped, Maps.is_walked, declared.record.TenantPair.TenantPair}
 use Rattle.mt_crashes.proofs.Members.{no_some}
 use Rattle.mt_checkpoint.specs.Checkpoints.{IsBefore, Rise}
 use Rattle.mt_pages.specs.{Scans.pair_of, Walked.{Rise as RiseTenants, IsPassed, Ascend}}
@@ -89,11 +89,11 @@ le_less a b d le lt = by (slice_cmp nat_cmp a b) refl le
     by Greater is e = absurd (true≢false (sym e))
 
 -- a tenant's earlier key
-pub before_key : (t : ℕ) (p q : Bytes × Columns) → slice_cmp nat_cmp p.0 q.0 ≡ Less → IsBefore (pair_of t p) (pair_of t q)
+pub before_key : (t : ℕ) (p q : Bytes × Stamped) → slice_cmp nat_cmp p.0 q.0 ≡ Less → IsBefore (pair_of t p) (pair_of t q)
 before_key t p q lt = ap (λ o. ordering_then o (slice_cmp nat_cmp p.0 q.0)) (nat_same t) ∙ lt
 
 -- what a walk has passed is before each key that it walks
-pub passed_before : (t : ℕ) (from : Bytes) (after : Bool) (p : TenantPair) (q : Bytes × Columns) → IsPassed (Some t) from after p → is_walked from after q.0 ≡ true
+pub passed_before : (t : ℕ) (from : Bytes) (after : Bool) (p : TenantPair) (q : Bytes × Stamped) → IsPassed (Some t) from after p → is_walked from after q.0 ≡ true
     → IsBefore p (pair_of t q)
 passed_before t from after p q (inl lt) walked = ap (λ o. ordering_then o (slice_cmp nat_cmp p.key q.0)) (nat_less p.tenant t lt)
 passed_before t from after p q (inr (same, behind, le)) walked =
@@ -103,18 +103,18 @@ passed_before t from after p q (inr (same, behind, le)) walked =
 -- ---- a page
 
 -- its pairs ascend
-pub ascend_page : (t : ℕ) (page : List (Bytes × Columns)) → IsStrictlySortedBy (slice_cmp nat_cmp) (map (λ p. p.0) page) → Ascend (map (pair_of t) page)
+pub ascend_page : (t : ℕ) (page : List (Bytes × Stamped)) → IsStrictlySortedBy (slice_cmp nat_cmp) (map (λ p. p.0) page) → Ascend (map (pair_of t) page)
 unfolding IsStrictlySortedBy
 ascend_page t [] s = tt
 ascend_page t (p ∷ page) s = (all_map (IsBefore (pair_of t p)) (pair_of t) page (heads page s.0), ascend_page t page s.1)
   where
-    heads : (qs : List (Bytes × Columns)) → AllByRecursion (λ y. slice_cmp nat_cmp p.0 y ≡ Less) (map (λ q. q.0) qs)
+    heads : (qs : List (Bytes × Stamped)) → AllByRecursion (λ y. slice_cmp nat_cmp p.0 y ≡ Less) (map (λ q. q.0) qs)
         → AllByRecursion (λ q. IsBefore (pair_of t p) (pair_of t q)) qs
     heads [] a = tt
     heads (q ∷ qs) a = (before_key t p q a.0, heads qs a.1)
 
 -- what was passed is before all of them
-pub passed_all : (t : ℕ) (from : Bytes) (after : Bool) (ps : List TenantPair) (page : List (Bytes × Columns)) → AllByRecursion (IsPassed (Some t) from after) ps
+pub passed_all : (t : ℕ) (from : Bytes) (after : Bool) (ps : List TenantPair) (page : List (Bytes × Stamped)) → AllByRecursion (IsPassed (Some t) from after) ps
     → AllByRecursion (λ q. is_walked from after q.0 ≡ true) page → AllByRecursion (λ p. AllByRecursion (IsBefore p) (map (pair_of t) page)) ps
 passed_all t from after ps page passed walked =
     all_weaker (IsPassed (Some t) from after) (λ p. AllByRecursion (IsBefore p) (map (pair_of t) page))
@@ -123,12 +123,12 @@ passed_all t from after ps page passed walked =
     ps passed
 
 -- each key of a page is at most the one at its end
-pub upto_last : (page : List (Bytes × Columns)) (k : ℕ) (last : Bytes × Columns) → IsStrictlySortedBy (slice_cmp nat_cmp) (map (λ p. p.0) page) → slice_get page k ≡ Some last
+pub upto_last : (page : List (Bytes × Stamped)) (k : ℕ) (last : Bytes × Stamped) → IsStrictlySortedBy (slice_cmp nat_cmp) (map (λ p. p.0) page) → slice_get page k ≡ Some last
     → length page ≤ suc k → AllByRecursion (λ q. is_le (slice_cmp nat_cmp q.0 last.0) ≡ true) page
 unfolding IsStrictlySortedBy
 upto_last [] k last s at len = tt
 upto_last (q ∷ []) zero last s at len =
-    (subst (λ (x : Bytes × Columns). is_le (slice_cmp nat_cmp x.0 last.0) ≡ true) (sym (same_Some q last at)) (itself last.0), tt)
+    (subst (λ (x : Bytes × Stamped). is_le (slice_cmp nat_cmp x.0 last.0) ≡ true) (sym (same_Some q last at)) (itself last.0), tt)
   where
     itself : (a : Bytes) → is_le (slice_cmp nat_cmp a a) ≡ true
     itself a = by (slice_cmp nat_cmp a a) (nat_list_cmp_total.antisymm a a)
@@ -142,20 +142,20 @@ upto_last (q ∷ []) (suc k) last s at len = absurd (no_some last at)
 upto_last (q ∷ r ∷ page) (suc k) last s at len =
     (less_le (slice_cmp nat_cmp q.0 last.0) (under (r ∷ page) k s.0 at), upto_last (r ∷ page) k last s.1 at (omega (arith, len)))
   where
-    under : (qs : List (Bytes × Columns)) (j : ℕ) → AllByRecursion (λ y. slice_cmp nat_cmp q.0 y ≡ Less) (map (λ p. p.0) qs) → slice_get qs j ≡ Some last
+    under : (qs : List (Bytes × Stamped)) (j : ℕ) → AllByRecursion (λ y. slice_cmp nat_cmp q.0 y ≡ Less) (map (λ p. p.0) qs) → slice_get qs j ≡ Some last
         → slice_cmp nat_cmp q.0 last.0 ≡ Less
     under [] j a at = absurd (no_some last at)
-    under (x ∷ qs) zero a at = subst (λ (y : Bytes × Columns). slice_cmp nat_cmp q.0 y.0 ≡ Less) (same_Some x last at) a.0
+    under (x ∷ qs) zero a at = subst (λ (y : Bytes × Stamped). slice_cmp nat_cmp q.0 y.0 ≡ Less) (same_Some x last at) a.0
     under (x ∷ qs) (suc j) a at = under qs j a.1 at
 
 -- ---- where a walk goes on
 
 -- behind the last key of a page: its own pairs, and what was passed
-pub passed_page : (t : ℕ) (last : Bytes) (page : List (Bytes × Columns)) → AllByRecursion (λ q. is_le (slice_cmp nat_cmp q.0 last) ≡ true) page
+pub passed_page : (t : ℕ) (last : Bytes) (page : List (Bytes × Stamped)) → AllByRecursion (λ q. is_le (slice_cmp nat_cmp q.0 last) ≡ true) page
     → AllByRecursion (IsPassed (Some t) last true) (map (pair_of t) page)
 passed_page t last page upto =
     all_map (IsPassed (Some t) last true) (pair_of t) page
-    (all_weaker (λ (q : Bytes × Columns). is_le (slice_cmp nat_cmp q.0 last) ≡ true) (λ q. IsPassed (Some t) last true (pair_of t q)) (λ q le. inr (refl, refl, le)) page upto)
+    (all_weaker (λ (q : Bytes × Stamped). is_le (slice_cmp nat_cmp q.0 last) ≡ true) (λ q. IsPassed (Some t) last true (pair_of t q)) (λ q le. inr (refl, refl, le)) page upto)
 
 pub passed_on : (t : ℕ) (from last : Bytes) (after : Bool) (ps : List TenantPair) → is_walked from after last ≡ true → AllByRecursion (IsPassed (Some t) from after) ps
     → AllByRecursion (IsPassed (Some t) last true) ps
@@ -182,7 +182,7 @@ passed_tenant t from after (Some u) ps later = all_weaker (IsPassed (Some t) fro
     on p (inr (same, behind, le)) = let next = later u refl in inl (omega (arith, same, next))
 
 -- a page of a tenant is of that tenant
-pub passed_own : (t : ℕ) (from : Bytes) (page : List (Bytes × Columns)) (next : Option ℕ) → ((u : ℕ) → next ≡ Some u → t < u)
+pub passed_own : (t : ℕ) (from : Bytes) (page : List (Bytes × Stamped)) (next : Option ℕ) → ((u : ℕ) → next ≡ Some u → t < u)
     → AllByRecursion (IsPassed next [] false) (map (pair_of t) page)
 passed_own t from [] next later = tt
 passed_own t from (q ∷ page) next later = (own next later, passed_own t from page next later)

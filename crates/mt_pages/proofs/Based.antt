@@ -1,23 +1,23 @@
 -- What a walk has found once it has ended: a walk that a checkpoint may say, and a base of the history.
 use Rattle.std.proofs.Common.{◌≡◌, ◌≢◌, ◌⊎◌, inl, inr, ℕ, zero, suc, ◌≤◌, ◌^◌, Bool, true, false, cond, List, [], ◌∷◌, ◌++◌, map, take, Option, Some, None, IsSome, refl, sym, ap, subst, ◌∙◌, arith}
 use Rattle.std.proofs.lemmas.{Bool.{true≢false, cases_eq}, Bool.Decides.nat_tests, List.{append-nil, map-append}, List.Elements.All-nil, Option.same_Some}
-use Rattle.std.specs.{List.{slice_get}, List.Sorted.IsStrictlySortedBy, declared.cmp.Ordering.TheVariants.Equal}
+use Rattle.std.specs.{List.slice_get, List.Sorted.IsStrictlySortedBy, declared.cmp.Ordering.TheVariants.Equal}
 use Rattle.std.specs.{Ordering.{nat_cmp, is_eq, eq_by_cmp, ordering_then}, Cmp.Lexicographic.slice_cmp, FinMap.{get, find, from_entries, get-from_entries}}
-use Rattle.mt_rows.specs.{Rows.{Bytes, Columns, shown}, Maps.Map, Tenants.{owned_cmp, tenant_map}, TenantPairs.{entry_of, pairs_of}, declared.record.TenantPair.TenantPair}
+use Rattle.mt_rows.specs.{Rows.Bytes, Stamps.{Stamped, as_shown}, Tenants.{owned_cmp, tenant_map}, TenantPairs.{entry_of, pairs_of}, declared.record.TenantPair.TenantPair}
 use Rattle.mt_rows.proofs.{CommandLaws.{keys_total, same_rows}, ContentLaws.{owned_total, other_owner, get-tenant_map}}
 use Rattle.mt_runs.specs.Scans.{IsLawful}
 use Rattle.mt_checkpoint.specs.Checkpoints.{IsWalk}
 use Rattle.mt_crashes.specs.{Histories.Placed, Walks.{Page, IsFromTo, Walks, joined, AreWalked}}
 use Rattle.mt_crashes.proofs.Members.{no_some}
-use Rattle.mt_pages.specs.{Scans.pair_of, Walked.{Rise, maps_of, paged, AreWhole, AreBegun, HasFound, OthersAreEmpty}}
-use Rattle.mt_pages.proofs.Ascending.{rises, tail, above}
+use Rattle.mt_pages.specs.{Scans.pair_of, Walked.{Rise, maps_of, paged, AreWhole, AreBegun, HasFound, HasStampUpto, OthersAreEmpty}}
+use Rattle.mt_pages.proofs.Ascending.{rises, tail, above, all_here}
 
 -- ---- pairs in a list
 
 abbrev Entry : Type 0
-Entry = (ℕ × Bytes) × Columns
+Entry = (ℕ × Bytes) × Stamped
 
-abbrev here : ℕ → Bytes → List Entry → Option Columns
+abbrev here : ℕ → Bytes → List Entry → Option Stamped
 here t key es = find owned_cmp (t, key) es
 
 skipped : (t : ℕ) (key : Bytes) (xs ys : List Entry) → here t key xs ≡ None → here t key (xs ++ ys) ≡ here t key ys
@@ -36,13 +36,13 @@ stopped t key (x ∷ xs) ys none = ap (cond (eq_by_cmp owned_cmp (t, key) x.0) (
 nat_same : (n : ℕ) → nat_cmp n n ≡ Equal
 nat_same n = grind (arith, nat_tests)
 
-own_found : (t : ℕ) (key : Bytes) (page : List (Bytes × Columns)) → here t key (map entry_of (map (pair_of t) page)) ≡ find (slice_cmp nat_cmp) key page
+own_found : (t : ℕ) (key : Bytes) (page : List (Bytes × Stamped)) → here t key (map entry_of (map (pair_of t) page)) ≡ find (slice_cmp nat_cmp) key page
 own_found t key [] = refl
 own_found t key (p ∷ page) =
     ap (cond (eq_by_cmp owned_cmp (t, key) (t, p.0)) (Some p.1)) (own_found t key page)
     ∙ ap (λ o. cond (is_eq (ordering_then o (slice_cmp nat_cmp key p.0))) (Some p.1) (find (slice_cmp nat_cmp) key page)) (nat_same t)
 
-other_found : (t u : ℕ) (key : Bytes) (page : List (Bytes × Columns)) → t ≢ u → here t key (map entry_of (map (pair_of u) page)) ≡ None
+other_found : (t u : ℕ) (key : Bytes) (page : List (Bytes × Stamped)) → t ≢ u → here t key (map entry_of (map (pair_of u) page)) ≡ None
 other_found t u key [] other = refl
 other_found t u key (p ∷ page) other =
     ap (λ b. cond b (Some p.1) (here t key (map entry_of (map (pair_of u) page)))) (other_owner (t, key) (u, p.0) (λ e. other (ap (λ (q : ℕ × Bytes). q.0) e)))
@@ -106,10 +106,10 @@ module _ (history : List Placed) (first now t : ℕ) where
   nothing_lawful made empty = record {
     few = omega arith;
     rises = tt;
-    walked = All-nil (λ (p : Bytes × Columns). Rattle.mt_rows.specs.Maps.is_walked [] false p.0 ≡ true);
-    real = All-nil (λ (p : Bytes × Columns). (m : ℕ) × IsFromTo first now m × ((row : Columns) × (get (maps_of history t m) p.0 ≡ Some row) × (p.1 ≡ shown [] row)));
+    walked = All-nil (λ (p : Bytes × Stamped). Rattle.mt_rows.specs.Maps.is_walked [] false p.0 ≡ true);
+    real = All-nil (λ (p : Bytes × Stamped). (m : ℕ) × IsFromTo first now m × ((row : Stamped) × (get (maps_of history t m) p.0 ≡ Some row) × (p.1 ≡ as_shown [] row)));
     whole = λ key walked reached stays.
-        absurd (true≢false (sym (subst (λ (x : Option Columns). IsSome x) (empty key) (stays first (omega arith, made)))));
+        absurd (true≢false (sym (subst (λ (x : Option Stamped). IsSome x) (empty key) (stays first (omega arith, made)))));
   }
 
   walked : (tenants : List ℕ) (pairs : List TenantPair) → first ≤ now → OthersAreEmpty history tenants → IsWalked tenants pairs
@@ -144,7 +144,13 @@ past_all (t ∷ tenants) (suc place) none = ap (λ ts. t ∷ ts) (past_all tenan
 module _ (history : List Placed) (first now : ℕ) (tenants : List ℕ) (place : ℕ) (from : Bytes) (after : Bool) (pairs : List TenantPair)
     (found : HasFound history first now tenants place from after pairs) where
   pub walk_is : now ≤ 2 ^ 59 → IsWalk (record { first = first; last = now; pairs = pairs })
-  walk_is most = record { order = found.made; end = most; each = found.each; rising = rises pairs found.ascend }
+  walk_is most = record {
+    order = found.made;
+    end = most;
+    each = found.each;
+    rising = rises pairs found.ascend;
+    stamps = λ i p at. all_here (HasStampUpto now) pairs i p at found.stamps;
+  }
 
   whole : slice_get tenants place ≡ None → AreWhole history first now tenants pairs
   whole none =

@@ -1,15 +1,16 @@
 -- How a walk goes on: it begins, takes a page more, and stays over later changes.
 use Rattle.std.proofs.Common.{◌≡◌, ℕ, zero, suc, ◌+◌, ◌<◌, ◌≤◌, Bool, true, false, List, [], ◌∷◌, ◌++◌, map, length, take, Option, Some, None, refl, sym, ap, subst, ◌∙◌, arith}
 use Rattle.std.proofs.lemmas.{List.{append_assoc, append-nil, map-append}, List.Elements.recursion_from_All, Option.same_Some}
-use Rattle.std.specs.{List.{slice_get, AllByRecursion, Contains}, Ordering.nat_cmp}
-use Rattle.mt_rows.specs.{Rows.{Bytes, Columns}, Maps.is_walked, declared.record.TenantPair.TenantPair}
+use Rattle.std.specs.List.{slice_get, AllByRecursion, Contains}
+use Rattle.std.specs.FinMap.{get, empty, get-empty}
+use Rattle.mt_rows.{specs.{Rows.Bytes, Stamps.{Stamped, stamp_in, as_shown}, Maps.is_walked, Tenants.owned_cmp, declared.record.TenantPair.TenantPair}, proofs.ContentLaws.get-tenant_map}
 use Rattle.mt_runs.specs.Scans.{IsLawful}
 use Rattle.mt_checkpoint.specs.Checkpoints.{IsPair}
-use Rattle.mt_crashes.specs.{Histories.Placed, Walks.{Page, IsFromTo, Walks, joined}}
-use Rattle.mt_crashes.proofs.{Members.no_some, Walking.{walks_more, walks_end, walks_wider, walked_wider}}
+use Rattle.mt_crashes.specs.{Histories.{Placed, upto, changes_of, pairs_upto}, Walks.{Page, IsFromTo, Walks, joined}}
+use Rattle.mt_crashes.proofs.{Members.no_some, Bases.{stamps_upto, each_upto}, Walking.{walks_more, walks_end, walks_wider, walked_wider}}
 use Rattle.mt_pages.specs.{declared.walk.PageWalk.PageWalk, Scans.pair_of, Pages.{GoesOn, TakesPageOf}}
-use Rattle.mt_pages.specs.Walked.{Rise, maps_of, paged, AreWhole, AreBegun, IsPassed, Ascend, HasFound, Finds, KeepsMaps}
-use Rattle.mt_pages.proofs.Ascending.{all_append, all_here, next_above, ascend_append, ascend_page, passed_all, upto_last, passed_page, passed_on, passed_tenant, passed_own}
+use Rattle.mt_pages.specs.Walked.{Rise, maps_of, paged, AreWhole, AreBegun, IsPassed, Ascend, HasStampUpto, HasFound, Finds, KeepsMaps}
+use Rattle.mt_pages.proofs.Ascending.{all_append, all_weaker, all_here, next_above, ascend_append, ascend_page, passed_all, upto_last, passed_page, passed_on, passed_tenant, passed_own}
 
 -- ---- lists
 
@@ -23,9 +24,9 @@ short [] k none = omega arith
 short (x ∷ xs) zero none = absurd (no_some x (sym none))
 short (x ∷ xs) (suc k) none = let rest = short xs k none in omega (arith, rest)
 
-key_there : (page : Page) (k : ℕ) (last : Bytes × Columns) → slice_get page k ≡ Some last → Contains (map (λ p. p.0) page) last.0
+key_there : (page : Page) (k : ℕ) (last : Bytes × Stamped) → slice_get page k ≡ Some last → Contains (map (λ p. p.0) page) last.0
 key_there [] k last at = absurd (no_some last at)
-key_there (p ∷ page) zero last at = (0, omega arith, ap (λ (x : Bytes × Columns). x.0) (same_Some p last at))
+key_there (p ∷ page) zero last at = (0, omega arith, ap (λ (x : Bytes × Stamped). x.0) (same_Some p last at))
 key_there (p ∷ page) (suc k) last at = let rest = key_there page k last at in (suc rest.0, omega (arith, rest.1), rest.2)
 
 joined_more : (pages : List Page) (page : Page) → joined (pages ++ page ∷ []) ≡ joined pages ++ page
@@ -51,6 +52,7 @@ begins history first tenants rise = record {
   before = none tenants;
   here = begun_none history first first (slice_get tenants 0);
   each = tt;
+  stamps = tt;
   ascend = tt;
   passed = tt;
 }
@@ -66,6 +68,20 @@ begins_at history first walk rise place from after =
     (subst (λ n. HasFound history first first walk.tenants.items n [] false []) (sym place) (begins history first walk.tenants.items rise)))
 
 -- ---- a page more
+
+-- what a scan shows stood at one of its steps
+abbrev IsReal : List Placed → ℕ → ℕ → ℕ → Bytes × Stamped → Type 0
+IsReal history first now t p = (m : ℕ) × IsFromTo first now m × ((row : Stamped) × (get (maps_of history t m) p.0 ≡ Some row) × (p.1 ≡ as_shown [] row))
+
+-- so it has the stamp of a change up to there
+page_upto : (history : List Placed) (first now t : ℕ) (page : Page) → AllByRecursion (IsReal history first now t) page → AllByRecursion (HasStampUpto now) (map (pair_of t) page)
+page_upto history first now t [] real = tt
+page_upto history first now t (p ∷ page) real =
+    let m = real.0.0 in
+    let row = real.0.2.0 in
+    let there : get (pairs_upto m history) (t, p.0) ≡ Some row = sym (get-tenant_map t (pairs_upto m history) p.0) ∙ real.0.2.1 in
+    let most = stamps_upto m (changes_of (upto m history)) empty (t, p.0) (omega (arith, ap stamp_in (get-empty owned_cmp (t, p.0)))) (each_upto m history) in
+    (omega (arith, real.0.1.1, most, ap stamp_in there, ap (λ (s : Stamped). s.stamp) real.0.2.2), page_upto history first now t page real.1)
 
 -- a tenant more, whole
 whole_more : (history : List Placed) (first now : ℕ) (tenants : List ℕ) (t : ℕ) (pages : List Page) (pairs : List TenantPair) → AreWhole history first now tenants pairs
@@ -92,8 +108,11 @@ module _ (history : List Placed) (first now : ℕ) (tenants : List ℕ) (place :
   passed_here : AllByRecursion (IsPassed (Some t) from after) pairs
   passed_here = subst (λ o. AllByRecursion (IsPassed o from after) pairs) there found.passed
 
-  walked : AllByRecursion (λ (q : Bytes × Columns). is_walked from after q.0 ≡ true) page
-  walked = recursion_from_All (λ (q : Bytes × Columns). is_walked from after q.0 ≡ true) page lawful.walked
+  walked : AllByRecursion (λ (q : Bytes × Stamped). is_walked from after q.0 ≡ true) page
+  walked = recursion_from_All (λ (q : Bytes × Stamped). is_walked from after q.0 ≡ true) page lawful.walked
+
+  stamped : AllByRecursion (HasStampUpto now) (pairs ++ taken)
+  stamped = all_append (HasStampUpto now) pairs taken found.stamps (page_upto history first now t page (recursion_from_All (IsReal history first now t) page lawful.real))
 
   each : AllByRecursion IsPair (pairs ++ taken)
   each = all_append IsPair pairs taken found.each limits
@@ -108,11 +127,11 @@ module _ (history : List Placed) (first now : ℕ) (tenants : List ℕ) (place :
   begun_is o = ap (λ ps. ps ++ taken) o.2 ∙ sym (paged_more t o.0 page)
 
   -- a full one: the walk goes on behind its last key
-  full : (last : Bytes × Columns) → slice_get page 63 ≡ Some last → HasFound history first now tenants place last.0 true (pairs ++ taken)
+  full : (last : Bytes × Stamped) → slice_get page 63 ≡ Some last → HasFound history first now tenants place last.0 true (pairs ++ taken)
   full last at =
       let few = lawful.few in
       let upto = upto_last page 63 last lawful.rises at (omega (arith, few)) in
-      let behind = all_here (λ (q : Bytes × Columns). is_walked from after q.0 ≡ true) page 63 last at walked in
+      let behind = all_here (λ (q : Bytes × Stamped). is_walked from after q.0 ≡ true) page 63 last at walked in
       record {
         rise = found.rise;
         made = found.made;
@@ -126,6 +145,7 @@ module _ (history : List Placed) (first now : ℕ) (tenants : List ℕ) (place :
           begun_is own,
         );
         each = each;
+        stamps = stamped;
         ascend = ascend;
         passed = subst (λ o. AllByRecursion (IsPassed o last.0 true) (pairs ++ taken)) (sym there)
             (all_append (IsPassed (Some t) last.0 true) pairs taken (passed_on t from last.0 after pairs behind passed_here) (passed_page t last.0 page upto));
@@ -153,6 +173,7 @@ module _ (history : List Placed) (first now : ℕ) (tenants : List ℕ) (place :
             (whole_more history first now (take place tenants) t (own.0 ++ page ∷ []) found.whole found.before ends));
         here = begun_none history first now next;
         each = each;
+        stamps = stamped;
         ascend = ascend;
         passed = all_append (IsPassed next [] false) pairs taken (passed_tenant t from after next pairs later passed_here) (passed_own t from page next later);
       }
@@ -169,7 +190,7 @@ takes history first now old new pairs more t page found there lawful limits is =
     same : old.tenants.items ≡ new.tenants.items
     same = ap (λ (v : Rattle.std.specs.Prelude.Vec ℕ Rattle.std.specs.declared.alloc.Global.Global). v.items) (sym is.same)
 
-    by : (o : Option (Bytes × Columns)) → slice_get page 63 ≡ o → GoesOn o old new → Finds history first now new (pairs ++ more)
+    by : (o : Option (Bytes × Stamped)) → slice_get page 63 ≡ o → GoesOn o old new → Finds history first now new (pairs ++ more)
     by (Some last) at goes =
         subst (λ ps. HasFound history first now new.tenants.items new.place new.from new.after (pairs ++ ps)) (sym is.pairs_are)
         (subst (λ b. HasFound history first now new.tenants.items new.place new.from b (pairs ++ map (pair_of t) page)) (sym goes.2)
@@ -214,6 +235,7 @@ module _ (old new : List Placed) (first now later : ℕ) (le : now ≤ later) (k
     before = whole_stays (take place tenants) found.whole found.before;
     here = begun_stays (slice_get tenants place) from after found.begun found.here;
     each = found.each;
+    stamps = all_weaker (HasStampUpto now) (HasStampUpto later) (λ p upto. omega (arith, upto, le)) pairs found.stamps;
     ascend = found.ascend;
     passed = found.passed;
   }

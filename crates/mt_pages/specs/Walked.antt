@@ -42,6 +42,10 @@ abbrev pub Ascend : List TenantPair → Type 0
 Ascend [] = Unit {0}
 Ascend (p ∷ ps) = AllByRecursion (IsBefore p) ps × Ascend ps
 
+-- a pair has a stamp up to a step
+abbrev pub HasStampUpto : ℕ → TenantPair → Type 0
+HasStampUpto now p = p.row.stamp ≤ now
+
 -- A walk over these tenants that began after one step has found these pairs up to another. It stands at the tenant of this place, at or after this key. The
 -- pairs are those of whole tenants, and then those of that tenant so far.
 pub record HasFound (history : List Placed) (first now : ℕ) (tenants : List ℕ) (place : ℕ) (from : Bytes) (after : Bool) (pairs : List TenantPair) : Type 0 where
@@ -53,6 +57,7 @@ pub record HasFound (history : List Placed) (first now : ℕ) (tenants : List �
   pub before : AreWhole history first now (take place tenants) whole
   pub here : AreBegun history first now (slice_get tenants place) from after begun
   pub each : AllByRecursion IsPair pairs
+  pub stamps : AllByRecursion (HasStampUpto now) pairs
   pub ascend : Ascend pairs
   pub passed : AllByRecursion (IsPassed (slice_get tenants place) from after) pairs
 

@@ -6,7 +6,7 @@ ghost use Rattle.mt_checkpoint.specs.Checkpoints.{IsPair};
 ghost use Rattle.mt_pages.specs.Scans.{next_scan, pair_of};
 
 use mt_rows::command::SCAN_PAIRS;
-use mt_rows::{ColumnIndexes, Command, Key, PairList, Row, TenantPair};
+use mt_rows::{ColumnIndexes, Command, Key, PairList, StampedRow, TenantPair};
 use std::alloc::{AllocError, Global};
 
 /// A walk over the pairs of tenants, in the order in which they are given. It stands at a tenant, and at a key of it or
@@ -89,7 +89,7 @@ impl PageWalk {
 fn with_tenant(
     alloc: Global,
     tenant: u32,
-    pairs: &[(Key, Row)],
+    pairs: &[(Key, StampedRow)],
 ) -> Result<Vec<TenantPair>, AllocError>
     requires { All (λ p. IsKey p.0) pairs.now }
     ensures pairs { IfOk result (λ taken. taken.items ≡ map (pair_of tenant) pairs.now) }
@@ -99,7 +99,9 @@ fn with_tenant(
     for (key, row) in pairs {
         let mut copy = Key::new(Vec::new(alloc));
         copy.copy_from(key)?;
-        let _columns = row.columns();
+        // Read, so that the proof knows their ranges.
+        let _columns = row.row.columns();
+        let _stamp = row.stamp;
         taken.push(TenantPair {
             tenant,
             key: copy,

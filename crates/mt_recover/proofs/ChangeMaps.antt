@@ -1,172 +1,108 @@
 -- What the code's map of changes is after one record more.
-use Rattle.std.proofs.Common.{◌≡◌, ℕ, ◌<◌, ◌≤◌, Bool, true, false, cond, nat_lt, List, [], ◌∷◌, ◌++◌, refl, sym, ◌∙◌, ap, subst, arith, Option, Some, None, IsPermutation}
-use Rattle.std.proofs.{lemmas.Bool.{ltb-true, ltb-false, lt-ltb, true≢false}, lemmas.Option.same_Some}
-use Rattle.std.proofs.lemmas.List.Sorted.{IsPermutation-refl, IsPermutation-trans, IsPermutation-cons, IsPermutation-middle, IsPermutation-to_front}
-use Rattle.std.specs.{Option.{option_map, unwrap_or}, Map.lookup, Ordering.eq_by_cmp, BTreeMap.{is_at, get}, Cmp.eq_by_cmp_equiv}
-use Rattle.mt_rows.{specs.{Rows.{Bytes, Columns}, Tenants.{owned_cmp, Contents as Pairs}, declared.record.Record.Record}, proofs.ContentLaws.{owned_total, tied_owner}}
-use Rattle.mt_tape.{specs.Histories.with_row, proofs.RowLaws.get-with_row}
-use Rattle.mt_crashes.{specs.Fronts.{key_of, after_changes}, proofs.Members.no_some}
-use Rattle.mt_recover.specs.{declared.changes.Change.Change, Falls.first_of, Orders.DontFall}
-use Rattle.mt_recover.specs.Changes.{Changes, AreLast, is_later, change_in, last_change, AreLatest}
-use Rattle.std.specs.FinMap as pairs
+use Rattle.std.proofs.Common.{◌≡◌, ◌⊎◌, inl, inr, ⊎_elim, ℕ, ◌<◌, ◌≤◌, Bool, true, false, cond, List, [], ◌∷◌, ◌++◌, map, refl, sym, ◌∙◌, ap, subst, arith, Option, Some, None, IsPermutation}
+use Rattle.std.proofs.{lemmas.Bool.cases_lt, lemmas.List.{append-nil, append_assoc, map-append}, lemmas.List.Elements.filter-append}
+use Rattle.std.proofs.lemmas.List.Sorted.{IsPermutation-refl, IsPermutation-trans, IsPermutation-cons, IsPermutation-to_front, IsPermutation-append_left}
+use Rattle.std.specs.{Option.unwrap_or, List.filter, Map.lookup, Ordering.eq_by_cmp, BTreeMap.{is_at, get}, Cmp.eq_by_cmp_equiv}
+use Rattle.mt_rows.{specs.{Rows.Bytes, Tenants.owned_cmp, declared.record.Record.Record}, proofs.ContentLaws.{owned_total, tied_owner}}
+use Rattle.mt_crashes.{specs.Fronts.{In, key_of}, proofs.Members.{in_left, in_either}}
+use Rattle.mt_recover.specs.declared.changes.Change.{Change}
+use Rattle.mt_recover.specs.Changes.{Changes, waiting_at, begins, AreBelow, BeginsOver, Adds, change_in, changes_at, AreLetGo, AreWaiting}
 
-abbrev stamp : Record → ℕ
-stamp r = r.stamp
+-- ---- one change more
 
-abbrev row_in : Change → Option Columns
-row_in c = c.row
-
--- ---- one record more in the order of stamps, behind those of its own stamp
-
-abbrev put : Record → List Record → List Record
-put r [] = r ∷ []
-put r (x ∷ xs) = cond (nat_lt r.stamp x.stamp) (r ∷ x ∷ xs) (x ∷ put r xs)
-
-put_moved : (r : Record) (xs : List Record) → IsPermutation (r ∷ xs) (put r xs)
-put_moved r [] = IsPermutation-refl (r ∷ [])
-put_moved r (x ∷ xs) = by (nat_lt r.stamp x.stamp) (put_moved r xs)
+-- one is let go among others that were
+pub passed : (c : Change) (gone waiting : List Change) → BeginsOver c.stamp waiting → AreLetGo gone waiting → AreLetGo (c ∷ gone) waiting
+passed c gone waiting one (inl none) =
+    inr (one.0, one.1, one.2, λ d at. ⊎_elim (λ e. omega (arith, one.3, ap (λ (x : Change). x.stamp) e)) (λ there. absurd (subst (In d) none there)) at)
+passed c gone waiting one (inr b) = by (cases_lt b.0.stamp one.0.stamp)
   where
-    by : (b : Bool) → IsPermutation (r ∷ xs) (put r xs) → IsPermutation (r ∷ x ∷ xs) (cond b (r ∷ x ∷ xs) (x ∷ put r xs))
-    by true rest = IsPermutation-refl (r ∷ x ∷ xs)
-    by false rest = IsPermutation-trans _ _ _ (IsPermutation-middle (r ∷ []) x xs) (IsPermutation-cons x (r ∷ xs) (put r xs) rest)
+    by : (b.0.stamp < one.0.stamp) ⊎ (one.0.stamp ≤ b.0.stamp) → AreLetGo (c ∷ gone) waiting
+    by (inl less) = inr (one.0, one.1, one.2, λ d at. ⊎_elim (λ e. omega (arith, one.3, ap (λ (x : Change). x.stamp) e)) (λ there. omega (arith, less, b.3 d there)) at)
+    by (inr le) = inr (b.0, b.1, b.2, λ d at. ⊎_elim (λ e. omega (arith, le, one.3, ap (λ (x : Change). x.stamp) e)) (λ there. b.3 d there) at)
 
-put_order : (r : Record) (last : ℕ) (xs : List Record) → last ≤ r.stamp → DontFall stamp last xs → DontFall stamp last (put r xs)
-put_order r last [] le h = (le, tt)
-put_order r last (x ∷ xs) le h = by (nat_lt r.stamp x.stamp) refl (λ upto. put_order r x.stamp xs upto h.1)
+-- all are let go below one
+begun : (c : Change) (gone waiting : List Change) → begins c.write ≡ true → AreBelow c.stamp waiting → AreLetGo gone waiting → AreLetGo (gone ++ waiting) (c ∷ [])
+begun c gone waiting is below let_go = inr (c, inl refl, is, λ d at. ⊎_elim (λ there. by let_go d there) (λ there. below d there) (in_either d gone waiting at))
   where
-    by : (b : Bool) → nat_lt r.stamp x.stamp ≡ b → (x.stamp ≤ r.stamp → DontFall stamp x.stamp (put r xs)) → DontFall stamp last (cond b (r ∷ x ∷ xs) (x ∷ put r xs))
-    by true less rest = (le, (omega (arith, ltb-true r.stamp x.stamp less), h.1))
-    by false isnt rest = (h.0, rest (ltb-false r.stamp x.stamp isnt))
+    by : AreLetGo gone waiting → (d : Change) → In d gone → d.stamp < c.stamp
+    by (inl none) d there = absurd (subst (In d) none there)
+    by (inr b) d there = omega (arith, below b.0 b.1, b.3 d there)
 
--- ---- the change that stands last then
+stands : (c : Change) (gone waiting : List Change) → AreLetGo gone waiting → AreLetGo gone (waiting ++ c ∷ [])
+stands c gone waiting (inl none) = inl none
+stands c gone waiting (inr b) = inr (b.0, in_left b.0 waiting (c ∷ []) b.1, b.2, b.3)
 
--- an owner's change, of one record
-abbrev one : ℕ × Bytes → Record → Option Change
-one q r = cond (eq_by_cmp owned_cmp q (key_of r)) (Some (change_in r)) None
+-- what was told, and one change more
+abbrev Wait : List Change → List Change → Type 0
+Wait told waiting = (gone : List Change) × IsPermutation told (gone ++ waiting) × AreLetGo gone waiting
 
--- of records whose stamps don't fall
-from_on : (q : ℕ × Bytes) (last : ℕ) (xs : List Record) (c : Change) → DontFall stamp last xs → last_change q xs ≡ Some c → last ≤ c.stamp
-from_on q last [] c h at = absurd (no_some c at)
-from_on q last (x ∷ xs) c h at = by (last_change q xs) refl at (λ d is. from_on q x.stamp xs d h.1 is)
+one_more : (told old new : List Change) (c : Change) → Adds old c new → Wait told old → Wait (told ++ c ∷ []) new
+one_more told old new c adds was = by adds
   where
-    alone : (b : Bool) → cond b (Some (change_in x)) None ≡ Some c → last ≤ c.stamp
-    alone true e = omega (arith, h.0, ap (λ (d : Change). d.stamp) (same_Some (change_in x) c e))
-    alone false e = absurd (no_some c e)
+    more : IsPermutation (told ++ c ∷ []) ((was.0 ++ old) ++ c ∷ [])
+    more = IsPermutation-append_left (c ∷ []) told (was.0 ++ old) was.1
 
-    by : (o : Option Change) → last_change q xs ≡ o → first_of o (one q x) ≡ Some c → ((d : Change) → last_change q xs ≡ Some d → x.stamp ≤ d.stamp) → last ≤ c.stamp
-    by (Some d) is e rest = omega (arith, h.0, rest d is, ap (λ (d : Change). d.stamp) (same_Some d c e))
-    by None is e rest = alone (eq_by_cmp owned_cmp q (key_of x)) e
-
-first_none : (o : Option Change) → first_of o None ≡ o
-first_none None = refl
-first_none (Some c) = refl
-
--- that of another owner stays
-put_other : (q : ℕ × Bytes) (r : Record) (xs : List Record) → eq_by_cmp owned_cmp q (key_of r) ≡ false → last_change q (put r xs) ≡ last_change q xs
-put_other q r [] other = ap (λ (b : Bool). cond b (Some (change_in r)) None) other
-put_other q r (x ∷ xs) other = by (nat_lt r.stamp x.stamp) (put_other q r xs other)
-  where
-    by : (b : Bool) → last_change q (put r xs) ≡ last_change q xs → last_change q (cond b (r ∷ x ∷ xs) (x ∷ put r xs)) ≡ last_change q (x ∷ xs)
-    by true rest = ap (λ (b : Bool). first_of (last_change q (x ∷ xs)) (cond b (Some (change_in r)) None)) other ∙ first_none (last_change q (x ∷ xs))
-    by false rest = ap (λ (o : Option Change). first_of o (one q x)) rest
-
--- the record's, unless the owner has a change with a greater stamp
-abbrev newer : Record → Option Change → Change
-newer r None = change_in r
-newer r (Some c) = cond (nat_lt r.stamp c.stamp) c (change_in r)
-
-put_own : (q : ℕ × Bytes) (r : Record) (last : ℕ) (xs : List Record) → eq_by_cmp owned_cmp q (key_of r) ≡ true → DontFall stamp last xs
-    → last_change q (put r xs) ≡ Some (newer r (last_change q xs))
-put_own q r last [] own h = ap (λ (b : Bool). cond b (Some (change_in r)) None) own
-put_own q r last (x ∷ xs) own h = by (nat_lt r.stamp x.stamp) refl (put_own q r x.stamp xs own h.1)
-  where
-    kept : r.stamp < x.stamp → (o : Option Change) → last_change q (x ∷ xs) ≡ o → first_of o (Some (change_in r)) ≡ Some (newer r o)
-    kept less None is = refl
-    kept less (Some c) is =
-        let over : x.stamp ≤ c.stamp = from_on q x.stamp (x ∷ xs) c (omega arith, h.1) is in
-        ap (λ (b : Bool). Some (cond b c (change_in r))) (sym (lt-ltb r.stamp c.stamp (omega (arith, less, over))))
-
-    behind : nat_lt r.stamp x.stamp ≡ false → (o : Option Change) (b : Bool) → newer r o ≡ newer r (first_of o (cond b (Some (change_in x)) None))
-    behind isnt (Some c) b = refl
-    behind isnt None true = ap (λ (b : Bool). cond b (change_in x) (change_in r)) (sym isnt)
-    behind isnt None false = refl
-
-    by : (b : Bool) → nat_lt r.stamp x.stamp ≡ b → last_change q (put r xs) ≡ Some (newer r (last_change q xs)) → last_change q (cond b (r ∷ x ∷ xs) (x ∷ put r xs)) ≡ Some (newer r (last_change q (x ∷ xs)))
-    by true less rest =
-        ap (λ (b : Bool). first_of (last_change q (x ∷ xs)) (cond b (Some (change_in r)) None)) own
-        ∙ kept (ltb-true r.stamp x.stamp less) (last_change q (x ∷ xs)) refl
-    by false isnt rest =
-        ap (λ (o : Option Change). first_of o (one q x)) rest
-        ∙ ap (λ (c : Change). Some c) (behind isnt (last_change q xs) (eq_by_cmp owned_cmp q (key_of x)))
+    by : Adds old c new → Wait (told ++ c ∷ []) new
+    by (inl last) = subst (Wait (told ++ c ∷ [])) (sym last) (
+      was.0,
+      subst (IsPermutation (told ++ c ∷ [])) (append_assoc was.0 old (c ∷ [])) more,
+      stands c was.0 old was.2,
+    )
+    by (inr (inl let_go)) = subst (Wait (told ++ c ∷ [])) (sym let_go.0) (
+      c ∷ was.0,
+      IsPermutation-trans _ _ _ (IsPermutation-to_front told c) (IsPermutation-cons c told (was.0 ++ old) was.1),
+      passed c was.0 old let_go.1 was.2,
+    )
+    by (inr (inr anew)) = subst (Wait (told ++ c ∷ [])) (sym anew.0) (was.0 ++ old, more, begun c was.0 old anew.1 anew.2 was.2)
 
 -- ---- the map
 
 -- no changes are those of no records
-pub none_latest : (changes : Changes) → changes.entries ≡ [] → AreLatest [] changes
-none_latest changes none = record {
-  sorted = [];
-  moved = IsPermutation-refl [];
-  order = tt;
-  last = λ q. ap (λ (es : List ((ℕ × Bytes) × Change)). lookup (is_at (owned_cmp q)) es) none;
-}
-
-module _ (r : Record) (rs : List Record) where
-  -- one record more, whose change is the one that the map then has
-  more : (old new : Changes) (was : AreLatest rs old) → ((q : ℕ × Bytes) → get owned_cmp new q ≡ last_change q (put r was.sorted)) → AreLatest (rs ++ r ∷ []) new
-  more old new was last = record {
-    sorted = put r was.sorted;
-    moved = IsPermutation-trans _ _ _ (IsPermutation-to_front rs r)
-        (IsPermutation-trans _ _ _ (IsPermutation-cons r rs was.sorted was.moved) (put_moved r was.sorted));
-    order = put_order r 0 was.sorted (omega arith) was.order;
-    last = last;
-  }
-
-  stays : (o : Option Change) → is_later r.stamp o ≡ true → o ≡ Some (newer r o)
-  stays None h = absurd (true≢false (sym h))
-  stays (Some c) h = ap (λ (b : Bool). Some (cond b c (change_in r))) (sym h)
-
-  goes : (o : Option Change) → is_later r.stamp o ≡ false → Some (change_in r) ≡ Some (newer r o)
-  goes None h = refl
-  goes (Some c) h = ap (λ (b : Bool). Some (cond b c (change_in r))) (sym h)
-
-  -- the owner has a change with a greater stamp
-  pub one_kept : (old : Changes) → is_later r.stamp (get owned_cmp old (key_of r)) ≡ true → AreLatest rs old → AreLatest (rs ++ r ∷ []) old
-  one_kept old later was = more old old was (λ q. by q (eq_by_cmp owned_cmp q (key_of r)) refl)
-    where
-      by : (q : ℕ × Bytes) (b : Bool) → eq_by_cmp owned_cmp q (key_of r) ≡ b → get owned_cmp old q ≡ last_change q (put r was.sorted)
-      by q true own =
-          stays (get owned_cmp old q) (subst (λ (o : ℕ × Bytes). is_later r.stamp (get owned_cmp old o) ≡ true) (sym (tied_owner q (key_of r) own)) later)
-          ∙ ap (λ (o : Option Change). Some (newer r o)) (was.last q) ∙ sym (put_own q r 0 was.sorted own was.order)
-      by q false other = was.last q ∙ sym (put_other q r was.sorted other)
-
-  -- it has none, and the record's is put in its place
-  pub one_put : (old new : Changes) → is_later r.stamp (get owned_cmp old (key_of r)) ≡ false
-      → ((q : ℕ × Bytes) → get owned_cmp new q ≡ cond (is_at (owned_cmp (key_of r)) q) (Some (change_in r)) (get owned_cmp old q)) → AreLatest rs old → AreLatest (rs ++ r ∷ []) new
-  one_put old new latest updates was = more old new was (λ q. updates q
-      ∙ ap (λ (b : Bool). cond b (Some (change_in r)) (get owned_cmp old q)) (sym ((eq_by_cmp_equiv owned_total).symm q (key_of r)))
-      ∙ by q (eq_by_cmp owned_cmp q (key_of r)) refl)
-    where
-      by : (q : ℕ × Bytes) (b : Bool) → eq_by_cmp owned_cmp q (key_of r) ≡ b → cond b (Some (change_in r)) (get owned_cmp old q) ≡ last_change q (put r was.sorted)
-      by q true own =
-          goes (get owned_cmp old q) (subst (λ (o : ℕ × Bytes). is_later r.stamp (get owned_cmp old o) ≡ false) (sym (tied_owner q (key_of r) own)) latest)
-          ∙ ap (λ (o : Option Change). Some (newer r o)) (was.last q) ∙ sym (put_own q r 0 was.sorted own was.order)
-      by q false other = was.last q ∙ sym (put_other q r was.sorted other)
-
--- ---- the pairs
-
-after_at : (m : Pairs) (rs : List Record) (q : ℕ × Bytes) → pairs.get (after_changes m rs) q ≡ unwrap_or (option_map row_in (last_change q rs)) (pairs.get m q)
-after_at m [] q = refl
-after_at m (r ∷ rs) q =
-    after_at (with_row m (key_of r) r.row) rs q ∙ ap (unwrap_or (option_map row_in (last_change q rs))) (get-with_row m (key_of r) r.row q)
-    ∙ turn (last_change q rs) (eq_by_cmp owned_cmp q (key_of r))
+pub none_waiting : (changes : Changes) → changes.entries ≡ [] → AreWaiting [] changes
+none_waiting changes none = record { at = at }
   where
-    turn : (o : Option Change) (b : Bool) → unwrap_or (option_map row_in o) (cond b r.row (pairs.get m q))
-        ≡ unwrap_or (option_map row_in (first_of o (cond b (Some (change_in r)) None))) (pairs.get m q)
-    turn (Some c) b = refl
-    turn None true = refl
-    turn None false = refl
+    at : (q : ℕ × Bytes) → Wait [] (waiting_at changes q)
+    at q =
+        let nothing : waiting_at changes q ≡ [] = ap (λ (es : List ((ℕ × Bytes) × List Change)). unwrap_or (lookup (is_at (owned_cmp q)) es) []) none in
+        subst (Wait []) (sym nothing) ([], IsPermutation-refl [], inl refl)
 
--- they are the last ones in the order of the stamps
-pub latest_last : (rs : List Record) (changes : Changes) (is : AreLatest rs changes) → AreLast is.sorted changes
-latest_last rs changes is m q =
-    after_at m is.sorted q ∙ ap (λ (o : Option Change). unwrap_or (option_map row_in o) (pairs.get m q)) (sym (is.last q))
+put_at : (w : List Change) (old mid new : Option (List Change)) (b : Bool) → new ≡ cond b (Some w) mid → mid ≡ cond b None old → unwrap_or new [] ≡ cond b w (unwrap_or old [])
+put_at w old mid new true put out = ap (λ (o : Option (List Change)). unwrap_or o []) put
+put_at w old mid new false put out = ap (λ (o : Option (List Change)). unwrap_or o []) (put ∙ out)
+
+-- one record more, of an owner whose changes were taken out, and are put in again with one more
+one_waits_at : (r : Record) (rs : List Record) (old mid new : Changes) (was w : List Change) → was ≡ waiting_at old (key_of r)
+    → ((q : ℕ × Bytes) → get owned_cmp mid q ≡ cond (is_at (owned_cmp (key_of r)) q) None (get owned_cmp old q))
+    → ((q : ℕ × Bytes) → get owned_cmp new q ≡ cond (is_at (owned_cmp (key_of r)) q) (Some w) (get owned_cmp mid q))
+    → Adds was (change_in r) w → AreWaiting rs old → (q : ℕ × Bytes) → Wait (changes_at q (rs ++ r ∷ [])) (waiting_at new q)
+one_waits_at r rs old mid new was w taken out put adds waits q = by (eq_by_cmp owned_cmp q (key_of r)) refl
+  where
+    test : Record → Bool
+    test x = eq_by_cmp owned_cmp q (key_of x)
+
+    symm : eq_by_cmp owned_cmp q (key_of r) ≡ eq_by_cmp owned_cmp (key_of r) q
+    symm = (eq_by_cmp_equiv owned_total).symm q (key_of r)
+
+    here : waiting_at new q ≡ cond (eq_by_cmp owned_cmp q (key_of r)) w (waiting_at old q)
+    here = put_at w (get owned_cmp old q) (get owned_cmp mid q) (get owned_cmp new q) (is_at (owned_cmp (key_of r)) q) (put q) (out q)
+        ∙ ap (λ (t : Bool). cond t w (waiting_at old q)) (sym symm)
+
+    told : changes_at q (rs ++ r ∷ []) ≡ changes_at q rs ++ map change_in (cond (eq_by_cmp owned_cmp q (key_of r)) (r ∷ []) [])
+    told = ap (map change_in) (filter-append test rs (r ∷ [])) ∙ map-append change_in (filter test rs) (cond (eq_by_cmp owned_cmp q (key_of r)) (r ∷ []) [])
+
+    by : (b : Bool) → eq_by_cmp owned_cmp q (key_of r) ≡ b → Wait (changes_at q (rs ++ r ∷ [])) (waiting_at new q)
+    by true own =
+        let at : was ≡ waiting_at old q = taken ∙ ap (waiting_at old) (sym (tied_owner q (key_of r) own)) in
+        subst (λ (l : List Change). Wait l (waiting_at new q)) (sym (told ∙ ap (λ (t : Bool). changes_at q rs ++ map change_in (cond t (r ∷ []) [])) own))
+        (subst (Wait (changes_at q rs ++ change_in r ∷ [])) (sym (here ∙ ap (λ (t : Bool). cond t w (waiting_at old q)) own))
+        (one_more (changes_at q rs) (waiting_at old q) w (change_in r) (subst (λ (l : List Change). Adds l (change_in r) w) at adds) (waits.at q)))
+    by false other =
+        subst (λ (l : List Change). Wait l (waiting_at new q))
+        (sym (told ∙ ap (λ (t : Bool). changes_at q rs ++ map change_in (cond t (r ∷ []) [])) other ∙ append-nil (changes_at q rs)))
+        (subst (Wait (changes_at q rs)) (sym (here ∙ ap (λ (t : Bool). cond t w (waiting_at old q)) other)) (waits.at q))
+
+pub one_waits : (r : Record) (rs : List Record) (old mid new : Changes) (was w : List Change) → was ≡ waiting_at old (key_of r)
+    → ((q : ℕ × Bytes) → get owned_cmp mid q ≡ cond (is_at (owned_cmp (key_of r)) q) None (get owned_cmp old q))
+    → ((q : ℕ × Bytes) → get owned_cmp new q ≡ cond (is_at (owned_cmp (key_of r)) q) (Some w) (get owned_cmp mid q))
+    → Adds was (change_in r) w → AreWaiting rs old → AreWaiting (rs ++ r ∷ []) new
+one_waits r rs old mid new was w taken out put adds waits = record { at = one_waits_at r rs old mid new was w taken out put adds waits }

@@ -4,7 +4,7 @@ use Rattle.std.proofs.lemmas.Bool.{and_parts, and_from, eqb-true, eq-eqb, ltb-tr
 use Rattle.std.proofs.lemmas.List.Elements.{All-nil, All-cons, All-head, All-tail, All-weaker}
 use Rattle.std.specs.{List.All, List.Sorted.IsStrictlyIncreasing}
 use Rattle.mt_rows.specs.declared.record.Record.{Record}
-use Rattle.mt_log.specs.{declared.batch.LogBatch.LogBatch, declared.batch.LogBatch.TheVariants.{Records, Resume}}
+use Rattle.mt_log.specs.{declared.batch.LogBatch.LogBatch, declared.batch.LogBatch.TheVariants.{Records, OldRecords, Resume}}
 use Rattle.mt_log.specs.Contents.{Contents, Rises, Join, JoinsAndRises, from_of, to_of}
 use Rattle.mt_log.proofs.Tests.{stamps, Within, suc_more, rising_more, first_within}
 use Rattle.mt_recover.{specs.Falls.{first_of, fall_in, goes_on, stamp_fall, fall_behind, fall_of}, proofs.FallLemmas.{none_first, tested}}
@@ -37,12 +37,19 @@ risen_batch : (b : LogBatch) → goes_on b ≡ true → stamp_fall b ≡ None �
 risen_batch (Records b) on none =
     let order = in_order b.from b.to b.records none in
     (ltb-false b.to b.from (not-true _ on), record { rising = order.0; within = order.1 })
+risen_batch (OldRecords b) on none =
+    let order = in_order b.from b.to b.records none in
+    (ltb-false b.to b.from (not-true _ on), record { rising = order.0; within = order.1 })
 risen_batch (Resume from to kept) on none =
     let tests = and_parts _ _ on in
     (ltb-false to from (not-true _ tests.0), ltb-false to kept (not-true _ tests.1))
 
 forward : (b : LogBatch) → Rises b → (goes_on b ≡ true) × (stamp_fall b ≡ None)
 forward (Records b) is = (
+  not_from_false _ (le-ltb b.to b.from is.0),
+  no_fall b.from b.to b.records (first_within b.from b.to b.records is.1.within) is.1.rising (All-weaker (Within b.from b.to) (λ (r : Record). r.stamp ≤ b.to) (λ r h. h.1) b.records is.1.within),
+)
+forward (OldRecords b) is = (
   not_from_false _ (le-ltb b.to b.from is.0),
   no_fall b.from b.to b.records (first_within b.from b.to b.records is.1.within) is.1.rising (All-weaker (Within b.from b.to) (λ (r : Record). r.stamp ≤ b.to) (λ r h. h.1) b.records is.1.within),
 )

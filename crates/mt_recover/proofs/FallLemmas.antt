@@ -3,7 +3,7 @@ use Rattle.std.proofs.Common.{◌≡◌, inl, inr, ◌∙◌, ap, ℕ, ◌≤◌
 use Rattle.std.proofs.lemmas.Bool.{and_parts, eqb-true, ltb-true, ltb-false, not-true}
 use Rattle.std.specs.List.{flat_map}
 use Rattle.mt_rows.specs.declared.record.Record.{Record}
-use Rattle.mt_log.specs.{declared.batch.LogBatch.LogBatch, declared.batch.LogBatch.TheVariants.{Records, Resume}, Contents.Contents}
+use Rattle.mt_log.specs.{declared.batch.LogBatch.LogBatch, declared.batch.LogBatch.TheVariants.{Records, OldRecords, Resume}, Contents.Contents}
 use Rattle.mt_crashes.{specs.Fronts.{In, Rise, records_in, records_of}, proofs.Members.no_some}
 use Rattle.mt_recover.specs.Falls.{first_of, fall_in, fall_behind, fall_of, with_worker, first_fall}
 
@@ -33,6 +33,12 @@ rise_on last to (r ∷ rs) qs le h over =
 risen : (mark : ℕ) (bs : List LogBatch) → fall_behind mark bs ≡ None → Rise mark (flat_map records_in bs)
 risen mark [] h = tt
 risen mark (Records b ∷ bs) h =
+    let both = none_first _ _ h in
+    let is = tested _ _ _ both.0 in
+    let tests = and_parts _ _ is.0 in
+    rise_lower mark b.from _ (omega (arith, eqb-true b.from mark tests.0))
+    (rise_on b.from b.to b.records (flat_map records_in bs) (omega (arith, ltb-false b.to b.from (not-true _ tests.1))) is.1 (risen b.to bs both.1))
+risen mark (OldRecords b ∷ bs) h =
     let both = none_first _ _ h in
     let is = tested _ _ _ both.0 in
     let tests = and_parts _ _ is.0 in

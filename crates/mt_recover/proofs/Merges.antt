@@ -1,33 +1,30 @@
 -- One merge of ascending pairs and changes: what stands at each owner, and the order. For `merged`.
-use Rattle.std.proofs.Common.{◌≡◌, ℕ, Bool, true, false, cond, List, [], ◌∷◌, ◌++◌, map, Option, Some, None, refl, sym, ◌∙◌, ap, subst}
-use Rattle.std.proofs.{lemmas.Bool.{true≢false}, lemmas.List.append_assoc}
-use Rattle.std.specs.{List.AllByRecursion, List.Sorted.IsStrictlySortedBy, Option.{option_map, unwrap_or}, Map.{lookup, keys_of}, BTreeMap.is_at}
+use Rattle.std.proofs.Common.{◌≡◌, ℕ, Bool, true, false, cond, List, [], ◌∷◌, ◌++◌, map, Option, Some, None, MatchOption, refl, sym, ◌∙◌, ap, subst}
+use Rattle.std.proofs.{lemmas.Bool.{true≢false}, lemmas.List.append_assoc, lemmas.List.Sorted.IsPermutation-refl}
+use Rattle.std.specs.{List.AllByRecursion, List.Sorted.IsStrictlySortedBy, Option.{option_map, unwrap_or}, Cmp.eq_by_cmp_equiv, Map.{lookup, keys_of}, BTreeMap.is_at}
 use Rattle.std.specs.{declared.cmp.Ordering.Ordering, declared.cmp.Ordering.TheVariants.{Less, Equal, Greater}}
 use Rattle.std.specs.{Ordering.{is_lt, is_eq, eq_by_cmp, ordering_reverse}, FinMap.{get, find, get-from_entries}}
-use Rattle.mt_rows.specs.{Rows.{Bytes, Columns}, Tenants.owned_cmp, declared.record.TenantPair.TenantPair, TenantPairs.{owner_of, entry_of, pairs_of}}
+use Rattle.mt_rows.specs.{Rows.Bytes, Stamps.Stamped, Tenants.owned_cmp, declared.record.TenantPair.TenantPair, TenantPairs.{owner_of, entry_of, pairs_of}}
 use Rattle.mt_rows.proofs.ContentLaws.{owned_total, owned_exact, same_contents, same_owner, tied_owner}
 use Rattle.mt_tape.{specs.Histories.with_row, proofs.RowLaws.get-with_row}
-use Rattle.mt_recover.specs.{Pairs.{Ascend, AreBefore, first_order, without_first}, declared.changes.Change.Change}
+use Rattle.mt_recover.specs.{Pairs.{Ascend, AreBefore, first_order, without_first, first_row, pair_for}, Changes.Makes, declared.changes.Change.Change}
 
 abbrev Owner : Type 0
 Owner = ℕ × Bytes
 
 abbrev Entry : Type 0
-Entry = Owner × Change
+Entry = Owner × List Change
 
-abbrev row_in : Change → Option Columns
-row_in c = c.row
-
-abbrev row_of : List TenantPair → Owner → Option Columns
+abbrev row_of : List TenantPair → Owner → Option Stamped
 row_of ps q = find owned_cmp q (map entry_of ps)
 
-abbrev change_of : List Entry → Owner → Option (Option Columns)
-change_of es q = option_map row_in (lookup (is_at (owned_cmp q)) es)
+abbrev waits : List Entry → Owner → Option (List Change)
+waits es q = lookup (is_at (owned_cmp q)) es
 
--- the pair that a row makes of an owner
-abbrev pub pair_for : ℕ × Bytes → Option Columns → List TenantPair
-pair_for owner None = []
-pair_for owner (Some row) = record { tenant = owner.0; key = owner.1; row = row } ∷ []
+-- what an owner's changes make, if it has some
+abbrev MakesAt : Option (List Change) → Option Stamped → Option Stamped → Type 0
+MakesAt None old new = new ≡ old
+MakesAt (Some waiting) old new = Makes waiting old new
 
 -- what is behind an owner is behind an earlier one
 pub all_later : (a b : Owner) (os : List Owner) → owned_cmp a b ≡ Less → AllByRecursion (λ o. owned_cmp b o ≡ Less) os → AllByRecursion (λ o. owned_cmp a o ≡ Less) os
@@ -71,13 +68,34 @@ row_without owner q (p ∷ ps) other = by (eq_by_cmp owned_cmp (owner_of p) owne
     by true tied = sym (ap (λ b. cond b (Some p.row) (row_of ps q)) (ap (eq_by_cmp owned_cmp q) (tied_owner (owner_of p) owner tied) ∙ other))
     by false apart = refl
 
+-- ---- what stood at the owner
+
+first_row_is : (owner : Owner) (ps : List TenantPair) → Ascend ps → is_lt (first_order owner ps) ≡ false → row_of ps owner ≡ first_row owner ps
+first_row_is owner [] h first = refl
+first_row_is owner (p ∷ ps) h first = by (eq_by_cmp owned_cmp (owner_of p) owner) refl (behind owner (p ∷ ps) h first)
+  where
+    by : (b : Bool) → eq_by_cmp owned_cmp (owner_of p) owner ≡ b → AllByRecursion (λ o. owned_cmp owner o ≡ Less) (map owner_of (cond b ps (p ∷ ps)))
+        → row_of (p ∷ ps) owner ≡ cond b (Some p.row) None
+    by true tied all = ap (λ b. cond b (Some p.row) (row_of ps owner)) (ap (eq_by_cmp owned_cmp owner) (tied_owner (owner_of p) owner tied) ∙ same_owner owner)
+    by false apart all = none_at owner (p ∷ ps) all
+
+past : (owner : Owner) (listed ps : List TenantPair) → AreBefore owner listed → row_of (listed ++ ps) owner ≡ row_of ps owner
+past owner [] ps h = refl
+past owner (p ∷ listed) ps h =
+    ap (λ b. cond b (Some p.row) (row_of (listed ++ ps) owner)) ((eq_by_cmp_equiv owned_total).symm owner (owner_of p) ∙ ap is_eq h.0) ∙ past owner listed ps h.1
+
+rest_of : (listed ps : List TenantPair) → Ascend (listed ++ ps) → Ascend ps
+unfolding IsStrictlySortedBy
+rest_of [] ps h = h
+rest_of (p ∷ listed) ps h = rest_of listed ps h.1
+
 -- ---- a change of an owner behind all listed pairs
 
-module _ (owner : Owner) (row : Option Columns) (ps : List TenantPair) (first : is_lt (first_order owner ps) ≡ false) where
-  first_row : (q : Owner) → Ascend ps → row_of (pair_for owner row ++ without_first owner ps) q ≡ cond (eq_by_cmp owned_cmp q owner) row (row_of ps q)
-  first_row q h = by row (eq_by_cmp owned_cmp q owner) refl
+module _ (owner : Owner) (row : Option Stamped) (ps : List TenantPair) (first : is_lt (first_order owner ps) ≡ false) where
+  row_first : (q : Owner) → Ascend ps → row_of (pair_for owner row ++ without_first owner ps) q ≡ cond (eq_by_cmp owned_cmp q owner) row (row_of ps q)
+  row_first q h = by row (eq_by_cmp owned_cmp q owner) refl
     where
-      by : (r : Option Columns) (b : Bool) → eq_by_cmp owned_cmp q owner ≡ b → row_of (pair_for owner r ++ without_first owner ps) q ≡ cond b r (row_of ps q)
+      by : (r : Option Stamped) (b : Bool) → eq_by_cmp owned_cmp q owner ≡ b → row_of (pair_for owner r ++ without_first owner ps) q ≡ cond b r (row_of ps q)
       by None true tied = ap (row_of (without_first owner ps)) (tied_owner q owner tied) ∙ none_at owner (without_first owner ps) (behind owner ps h first)
       by None false apart = row_without owner q ps apart
       by (Some r) true tied = ap (λ b. cond b (Some r) (row_of (without_first owner ps) q)) tied
@@ -86,7 +104,7 @@ module _ (owner : Owner) (row : Option Columns) (ps : List TenantPair) (first : 
   rows : (listed : List TenantPair) (q : Owner) → Ascend (listed ++ ps) → AreBefore owner listed
       → row_of (listed ++ (pair_for owner row ++ without_first owner ps)) q ≡ cond (eq_by_cmp owned_cmp q owner) row (row_of (listed ++ ps) q)
   unfolding IsStrictlySortedBy
-  rows [] q h before = first_row q h
+  rows [] q h before = row_first q h
   rows (p ∷ listed) q h before =
       ap (cond (eq_by_cmp owned_cmp q (owner_of p)) (Some p.row)) (rows listed q h.1 before.1) ∙ turn (eq_by_cmp owned_cmp q (owner_of p)) (eq_by_cmp owned_cmp q owner) refl refl
     where
@@ -110,7 +128,7 @@ module _ (owner : Owner) (row : Option Columns) (ps : List TenantPair) (first : 
           one true = h.1
           one false = h
 
-      by : (r : Option Columns) → AllByRecursion P (map owner_of (without_first owner ps)) → AllByRecursion P (map owner_of (pair_for owner r ++ without_first owner ps))
+      by : (r : Option Stamped) → AllByRecursion P (map owner_of (without_first owner ps)) → AllByRecursion P (map owner_of (pair_for owner r ++ without_first owner ps))
       by None all = all
       by (Some r) all = (at, all)
 
@@ -123,7 +141,7 @@ module _ (owner : Owner) (row : Option Columns) (ps : List TenantPair) (first : 
   unfolding IsStrictlySortedBy
   first_ascends h = by row
     where
-      by : (r : Option Columns) → Ascend (pair_for owner r ++ without_first owner ps)
+      by : (r : Option Stamped) → Ascend (pair_for owner r ++ without_first owner ps)
       by None = rest_ascends owner ps h
       by (Some r) = (behind owner ps h first, rest_ascends owner ps h)
 
@@ -146,20 +164,20 @@ module _ (owner : Owner) (row : Option Columns) (ps : List TenantPair) (first : 
   order_kept listed h before = subst Ascend (sym (append_assoc listed (pair_for owner row) (without_first owner ps))) (ascends listed h before)
 
 -- what is listed then is before each later owner
-pub before_next : (owner : ℕ × Bytes) (row : Option Columns) (listed : List TenantPair) → AreBefore owner listed → (next : ℕ × Bytes) → owned_cmp owner next ≡ Less
+pub before_next : (owner : ℕ × Bytes) (row : Option Stamped) (listed : List TenantPair) → AreBefore owner listed → (next : ℕ × Bytes) → owned_cmp owner next ≡ Less
     → AreBefore next (listed ++ pair_for owner row)
 before_next owner None [] before next less = tt
 before_next owner (Some row) [] before next less = (less, tt)
 before_next owner row (p ∷ listed) before next less = (owned_total.trans (owner_of p) owner next before.0 less, before_next owner row listed before.1 next less)
 
--- what a change makes of pairs, of which those that are listed are before each later owner
-pub record IsMade (owner : ℕ × Bytes) (row : Option Columns) (was listed left : List TenantPair) : Type 0 where
+-- what an owner's row makes of pairs, of which those that are listed are before each later owner
+pub record IsMade (owner : ℕ × Bytes) (row : Option Stamped) (was listed left : List TenantPair) : Type 0 where
   pub pairs : pairs_of (listed ++ left) ≡ with_row (pairs_of was) owner row
   pub order : Ascend (listed ++ left)
   pub before : (next : ℕ × Bytes) → owned_cmp owner next ≡ Less → AreBefore next listed
 
 -- the pairs before the owner are listed, the owner's is left out, and the row's pair is listed
-pub is_made : (owner : ℕ × Bytes) (row : Option Columns) (first second listed left more rest : List TenantPair) → listed ++ left ≡ first ++ second → Ascend (first ++ second)
+pub is_made : (owner : ℕ × Bytes) (row : Option Stamped) (first second listed left more rest : List TenantPair) → listed ++ left ≡ first ++ second → Ascend (first ++ second)
     → AreBefore owner listed → is_lt (first_order owner left) ≡ false → rest ≡ without_first owner left → more ≡ listed ++ pair_for owner row
     → IsMade owner row (first ++ second) more rest
 is_made owner row first second listed left more rest same order before all rest_is more_is =
@@ -172,11 +190,29 @@ is_made owner row first second listed left more rest same order before all rest_
       before = before_next owner row listed before;
     })))
 
+-- the next pair was taken if it is the owner's
+pub taken_first : (owner : ℕ × Bytes) (old new : List TenantPair) (o : Option TenantPair)
+    → MatchOption o ((new ≡ old) × (is_eq (first_order owner old) ≡ false)) (λ p. (old ≡ p ∷ new) × (is_eq (owned_cmp (owner_of p) owner) ≡ true))
+    → (option_map (λ (p : TenantPair). p.row) o ≡ first_row owner old) × (new ≡ without_first owner old)
+taken_first owner [] new None h = (refl, h.0)
+taken_first owner (p ∷ ps) new None h = (sym (ap (λ (b : Bool). cond b (Some p.row) None) h.1), h.0 ∙ sym (ap (λ (b : Bool). cond b ps (p ∷ ps)) h.1))
+taken_first owner old new (Some p) h = (
+  sym (ap (first_row owner) h.0 ∙ ap (λ (b : Bool). cond b (Some p.row) None) h.1),
+  sym (ap (without_first owner) h.0 ∙ ap (λ (b : Bool). cond b new (p ∷ new)) h.1),
+)
+
+-- what stood at the owner is the first row that was left
+pub stood_first : (owner : ℕ × Bytes) (first second listed left : List TenantPair) → listed ++ left ≡ first ++ second → Ascend (first ++ second) → AreBefore owner listed
+    → is_lt (first_order owner left) ≡ false → get (pairs_of (first ++ second)) owner ≡ first_row owner left
+stood_first owner first second listed left same order before all =
+    ap (λ (ps : List TenantPair). get (pairs_of ps) owner) (sym same) ∙ get-from_entries owned_total (map entry_of (listed ++ left)) owner
+    ∙ past owner listed left before ∙ first_row_is owner left (rest_of listed left (subst Ascend (sym same) order)) all
+
 -- ---- all changes, one after the other
 
--- the changes so far are made, and each that is left is behind what is listed
-pub record IsMerged (base : List TenantPair) (all : List ((ℕ × Bytes) × Change)) (listed left : List TenantPair) (rest : List ((ℕ × Bytes) × Change)) : Type 0 where
-  pub after : (q : ℕ × Bytes) → unwrap_or (change_of rest q) (get (pairs_of (listed ++ left)) q) ≡ unwrap_or (change_of all q) (get (pairs_of base) q)
+-- the changes so far are made, and each that is left is of an owner after what is listed
+pub record IsMerged (base : List TenantPair) (all : List ((ℕ × Bytes) × List Change)) (listed left : List TenantPair) (rest : List ((ℕ × Bytes) × List Change)) : Type 0 where
+  pub after : (q : ℕ × Bytes) (row : Option Stamped) → MakesAt (waits rest q) (get (pairs_of (listed ++ left)) q) row → MakesAt (waits all q) (get (pairs_of base) q) row
   pub order : Ascend (listed ++ left)
   pub rising : IsStrictlySortedBy owned_cmp (keys_of rest)
   pub before : AllByRecursion (λ (e : Entry). AreBefore e.0 listed) rest
@@ -190,28 +226,29 @@ pub none_made : (base : List TenantPair) (all rest : List Entry) (listed : List 
 none_made base all rest listed none is order rising =
     subst (λ (ps : List TenantPair). IsMerged base all ps base rest) (sym none)
     (record {
-      after = λ q. ap (λ (es : List Entry). unwrap_or (change_of es q) (get (pairs_of base) q)) is;
+      after = λ q row h. subst (λ (es : List Entry). MakesAt (waits es q) (get (pairs_of base) q) row) is h;
       order = order;
       rising = subst (λ (es : List Entry). IsStrictlySortedBy owned_cmp (keys_of es)) (sym is) rising;
       before = nothing_before rest;
     })
 
-no_change : (owner : Owner) (es : List Entry) → AllByRecursion (λ o. owned_cmp owner o ≡ Less) (keys_of es) → change_of es owner ≡ None
+no_change : (owner : Owner) (es : List Entry) → AllByRecursion (λ o. owned_cmp owner o ≡ Less) (keys_of es) → waits es owner ≡ None
 no_change owner [] h = refl
-no_change owner (e ∷ es) h = ap (λ b. option_map row_in (cond b (Some e.1) (lookup (is_at (owned_cmp owner)) es))) (ap is_eq h.0) ∙ no_change owner es h.1
+no_change owner (e ∷ es) h = ap (λ b. cond b (Some e.1) (lookup (is_at (owned_cmp owner)) es)) (ap is_eq h.0) ∙ no_change owner es h.1
 
 before_all : (owner : Owner) (listed : List TenantPair) (es : List Entry) → AllByRecursion (λ o. owned_cmp owner o ≡ Less) (keys_of es)
     → ((next : Owner) → owned_cmp owner next ≡ Less → AreBefore next listed) → AllByRecursion (λ (e : Entry). AreBefore e.0 listed) es
 before_all owner listed [] h before = tt
 before_all owner listed (e ∷ es) h before = (before e.0 h.0, before_all owner listed es h.1 before)
 
-pub one_made : (base : List TenantPair) (all was rest : List Entry) (e : Entry) (listed left more remain : List TenantPair) → was ≡ e ∷ rest → IsMerged base all listed left was
-    → pairs_of (more ++ remain) ≡ with_row (pairs_of (listed ++ left)) e.0 e.1.row → Ascend (more ++ remain) → ((next : ℕ × Bytes) → owned_cmp e.0 next ≡ Less → AreBefore next more)
-    → IsMerged base all more remain rest
+pub one_made : (base : List TenantPair) (all was rest : List Entry) (e : Entry) (row : Option Stamped) (listed left more remain : List TenantPair) → was ≡ e ∷ rest
+    → IsMerged base all listed left was → Makes e.1 (get (pairs_of (listed ++ left)) e.0) row → pairs_of (more ++ remain) ≡ with_row (pairs_of (listed ++ left)) e.0 row
+    → Ascend (more ++ remain) → ((next : ℕ × Bytes) → owned_cmp e.0 next ≡ Less → AreBefore next more) → IsMerged base all more remain rest
 unfolding IsStrictlySortedBy
-one_made base all was rest e listed left more remain is so_far pairs order before = record {
-  after = λ q. ap (λ m. unwrap_or (change_of rest q) (get m q)) pairs ∙ ap (unwrap_or (change_of rest q)) (get-with_row (pairs_of (listed ++ left)) e.0 e.1.row q)
-      ∙ by q (eq_by_cmp owned_cmp q e.0) refl ∙ ap (λ (es : List Entry). unwrap_or (change_of es q) (get (pairs_of (listed ++ left)) q)) (sym is) ∙ so_far.after q;
+one_made base all was rest e row listed left more remain is so_far makes pairs order before = record {
+  after = λ q now h. so_far.after q now (subst (λ (es : List Entry). MakesAt (waits es q) (get (pairs_of (listed ++ left)) q) now) (sym is)
+      (by q (eq_by_cmp owned_cmp q e.0) refl now
+      (subst (λ (o : Option Stamped). MakesAt (waits rest q) o now) (ap (λ m. get m q) pairs ∙ get-with_row (pairs_of (listed ++ left)) e.0 row q) h)));
   order = order;
   rising = rising.1;
   before = before_all e.0 more rest rising.0 before;
@@ -220,10 +257,13 @@ one_made base all was rest e listed left more remain is so_far pairs order befor
     rising : IsStrictlySortedBy owned_cmp (keys_of (e ∷ rest))
     rising = subst (λ (es : List Entry). IsStrictlySortedBy owned_cmp (keys_of es)) is so_far.rising
 
-    by : (q : Owner) (b : Bool) → eq_by_cmp owned_cmp q e.0 ≡ b
-        → unwrap_or (change_of rest q) (cond b e.1.row (get (pairs_of (listed ++ left)) q)) ≡ unwrap_or (option_map row_in (cond b (Some e.1) (lookup (is_at (owned_cmp q)) rest))) (get (pairs_of (listed ++ left)) q)
-    by q true tied = ap (λ o. unwrap_or o e.1.row) (ap (change_of rest) (tied_owner q e.0 tied) ∙ no_change e.0 rest rising.0)
-    by q false apart = refl
+    by : (q : Owner) (b : Bool) → eq_by_cmp owned_cmp q e.0 ≡ b → (now : Option Stamped) → MakesAt (waits rest q) (cond b row (get (pairs_of (listed ++ left)) q)) now
+        → MakesAt (cond b (Some e.1) (waits rest q)) (get (pairs_of (listed ++ left)) q) now
+    by q true tied now h =
+        let same : now ≡ row = subst (λ (o : Option (List Change)). MakesAt o row now) (ap (waits rest) (tied_owner q e.0 tied) ∙ no_change e.0 rest rising.0) h in
+        subst (λ (o : Owner). Makes e.1 (get (pairs_of (listed ++ left)) o) now) (sym (tied_owner q e.0 tied))
+        (subst (Makes e.1 (get (pairs_of (listed ++ left)) e.0)) (sym same) makes)
+    by q false apart now h = h
 
 -- what is listed is before the next change
 pub before_first : (base : List TenantPair) (all was rest : List Entry) (e : Entry) (listed left : List TenantPair) → was ≡ e ∷ rest → IsMerged base all listed left was
@@ -232,5 +272,10 @@ before_first base all was rest e listed left is so_far = (subst (AllByRecursion 
 
 -- all changes are made
 pub all_made : (base : List TenantPair) (all rest : List Entry) (listed left : List TenantPair) → rest ≡ [] → IsMerged base all listed left rest
-    → (q : ℕ × Bytes) → get (pairs_of (listed ++ left)) q ≡ unwrap_or (change_of all q) (get (pairs_of base) q)
-all_made base all rest listed left none so_far q = ap (λ (es : List Entry). unwrap_or (change_of es q) (get (pairs_of (listed ++ left)) q)) (sym none) ∙ so_far.after q
+    → (q : ℕ × Bytes) → Makes (unwrap_or (waits all q) []) (get (pairs_of base) q) (get (pairs_of (listed ++ left)) q)
+all_made base all rest listed left none so_far q =
+    by (waits all q) (so_far.after q (get (pairs_of (listed ++ left)) q) (subst (λ (es : List Entry). MakesAt (waits es q) (get (pairs_of (listed ++ left)) q) (get (pairs_of (listed ++ left)) q)) (sym none) refl))
+  where
+    by : (o : Option (List Change)) → MakesAt o (get (pairs_of base) q) (get (pairs_of (listed ++ left)) q) → Makes (unwrap_or o []) (get (pairs_of base) q) (get (pairs_of (listed ++ left)) q)
+    by None same = ([], IsPermutation-refl [], tt, same)
+    by (Some waiting) h = h

@@ -1,7 +1,7 @@
 -- The last number from which a store has served, and the least worker whose log has no resume batch up to it: for `first_older`.
 use Rattle.std.proofs.Common.{◌≡◌, ◌⊎◌, inl, inr, ⊎_elim, ℕ, ◌<◌, ◌≤◌, min, max, Bool, true, false, cond, ltb, List, [], ◌∷◌, map, refl, sym, ◌∙◌, ap, subst, arith, Option, Some, None}
 use Rattle.std.proofs.{lemmas.Bool.{ltb-true, ltb-false, eqb-true, eq-eqb, or_left, or_right, or_cases, true≢false}, lemmas.Option.same_Some}
-use Rattle.mt_log.specs.{declared.batch.LogBatch.LogBatch, declared.batch.LogBatch.TheVariants.{Records, Resume}, Contents.{Contents, JoinsAndRises, mark_of}}
+use Rattle.mt_log.specs.{declared.batch.LogBatch.LogBatch, declared.batch.LogBatch.TheVariants.{Records, OldRecords, Resume}, Contents.{Contents, JoinsAndRises, mark_of}}
 use Rattle.mt_crashes.specs.{Fronts.{In, HoldResume, HoldRecords, RecordsFollow, ServedFrom, AnyServed, IsLastServed}, Recoveries.NoneOlder}
 use Rattle.mt_crashes.proofs.{Members.{in_map, map_in, no_some}, FrontLaws.{below_greatest, greatest_in}, Invariant.resume_upto_mark}
 use Rattle.mt_recover.specs.Older.{IsFirstOlder, served_in, last_served, holds_resume, lower, least_without}
@@ -11,12 +11,15 @@ use Rattle.mt_recover.specs.Older.{IsFirstOlder, served_in, last_served, holds_r
 records_follow : (resumed : ℕ) (bs : List LogBatch) → HoldRecords bs → resumed ≤ served_in resumed bs
 records_follow resumed [] h = absurd h
 records_follow resumed (Records b ∷ bs) h = omega arith
+records_follow resumed (OldRecords b ∷ bs) h = omega arith
 records_follow resumed (Resume from to kept ∷ bs) h = omega (arith, records_follow (max resumed to) bs h)
 
 served_upto : (n resumed : ℕ) (bs : List LogBatch) → RecordsFollow n bs → n ≤ served_in resumed bs
 served_upto n resumed [] h = absurd h
 served_upto n resumed (Records b ∷ bs) (inl two) = absurd two.0
 served_upto n resumed (Records b ∷ bs) (inr h) = omega (arith, served_upto n resumed bs h)
+served_upto n resumed (OldRecords b ∷ bs) (inl two) = absurd two.0
+served_upto n resumed (OldRecords b ∷ bs) (inr h) = omega (arith, served_upto n resumed bs h)
 served_upto n resumed (Resume from to kept ∷ bs) (inl two) = omega (arith, two.0, records_follow (max resumed to) bs two.1)
 served_upto n resumed (Resume from to kept ∷ bs) (inr h) = served_upto n (max resumed to) bs h
 
@@ -27,6 +30,14 @@ served_is resumed (Records b ∷ bs) = by (ltb resumed (served_in resumed bs)) r
   where
     by : (t : Bool) → ltb resumed (served_in resumed bs) ≡ t → (served_in resumed bs ≡ 0) ⊎ (((served_in resumed bs ≡ resumed) × HoldRecords bs) ⊎ RecordsFollow (served_in resumed bs) bs)
         → (max resumed (served_in resumed bs) ≡ 0) ⊎ (((max resumed (served_in resumed bs) ≡ resumed) × Unit {0}) ⊎ RecordsFollow (max resumed (served_in resumed bs)) (Records b ∷ bs))
+    by false is rest = inr (inl (omega (arith, ltb-false resumed (served_in resumed bs) is), tt))
+    by true is (inl zero_is) = absurd (omega (arith, ltb-true resumed (served_in resumed bs) is, zero_is))
+    by true is (inr (inl same)) = absurd (omega (arith, ltb-true resumed (served_in resumed bs) is, same.0))
+    by true is (inr (inr h)) = inr (inr (inr (subst (λ (n : ℕ). RecordsFollow n bs) (omega (arith, ltb-true resumed (served_in resumed bs) is)) h)))
+served_is resumed (OldRecords b ∷ bs) = by (ltb resumed (served_in resumed bs)) refl (served_is resumed bs)
+  where
+    by : (t : Bool) → ltb resumed (served_in resumed bs) ≡ t → (served_in resumed bs ≡ 0) ⊎ (((served_in resumed bs ≡ resumed) × HoldRecords bs) ⊎ RecordsFollow (served_in resumed bs) bs)
+        → (max resumed (served_in resumed bs) ≡ 0) ⊎ (((max resumed (served_in resumed bs) ≡ resumed) × Unit {0}) ⊎ RecordsFollow (max resumed (served_in resumed bs)) (OldRecords b ∷ bs))
     by false is rest = inr (inl (omega (arith, ltb-false resumed (served_in resumed bs) is), tt))
     by true is (inl zero_is) = absurd (omega (arith, ltb-true resumed (served_in resumed bs) is, zero_is))
     by true is (inr (inl same)) = absurd (omega (arith, ltb-true resumed (served_in resumed bs) is, same.0))
@@ -78,12 +89,15 @@ last_is_it fronts n over last =
 told_held : (n : ℕ) (bs : List LogBatch) → holds_resume n bs ≡ true → HoldResume n bs
 told_held n [] e = absurd (true≢false (sym e))
 told_held n (Records b ∷ bs) e = inr (told_held n bs e)
+told_held n (OldRecords b ∷ bs) e = inr (told_held n bs e)
 told_held n (Resume from to kept ∷ bs) e = ⊎_elim (λ l. inl (eqb-true to n l)) (λ r. inr (told_held n bs r)) (or_cases _ _ e)
 
 held_told : (n : ℕ) (bs : List LogBatch) → HoldResume n bs → holds_resume n bs ≡ true
 held_told n [] h = absurd h
 held_told n (Records b ∷ bs) (inl none) = absurd none
 held_told n (Records b ∷ bs) (inr h) = held_told n bs h
+held_told n (OldRecords b ∷ bs) (inl none) = absurd none
+held_told n (OldRecords b ∷ bs) (inr h) = held_told n bs h
 held_told n (Resume from to kept ∷ bs) (inl e) = or_left _ _ (eq-eqb to n e)
 held_told n (Resume from to kept ∷ bs) (inr h) = or_right _ _ (held_told n bs h)
 

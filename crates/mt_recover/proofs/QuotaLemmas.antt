@@ -7,7 +7,7 @@ use Rattle.std.specs.{declared.cmp.Ordering.TheVariants.{Less, Equal, Greater}, 
 use Rattle.std.specs.Cmp.Lexicographic.{slice_cmp}
 use Rattle.std.specs.FinMap.{get, entries, from_entries, from_sorted, find, is_sorted, len, same_map, get-from_entries, get-from_sorted, entries-from_sorted, len-entries, IsAntisymmetric}
 use Rattle.std.specs.FinMap.Entries.{below_all}
-use Rattle.mt_rows.specs.{Rows.{Bytes, Columns}, Tenants.{owned_cmp, tenant_map}, declared.record.TenantPair.TenantPair}
+use Rattle.mt_rows.specs.{Rows.Bytes, Stamps.Stamped, Tenants.{owned_cmp, tenant_map}, declared.record.TenantPair.TenantPair}
 use Rattle.mt_rows.specs.TenantPairs.{HasTenants, KeepsQuotas, owner_of, entry_of, pairs_of}
 use Rattle.mt_rows.proofs.{CommandLaws.{keys_total, keys_exact}, ContentLaws.{owned_total, owned_exact, same_owner, tied_owner}}
 use Rattle.mt_crashes.proofs.Members.{no_some}
@@ -17,7 +17,7 @@ abbrev Owner : Type 0
 Owner = ℕ × Bytes
 
 abbrev Entry : Type 0
-Entry = Owner × Columns
+Entry = Owner × Stamped
 
 -- ---- tenants
 
@@ -112,7 +112,7 @@ entries-pairs_of ps h = entries-from_entries owned_total owned_exact (map entry_
 -- ---- a tenant's map has as many pairs as the list has of the tenant
 
 -- a tenant's entries, without its number
-abbrev own : ℕ → List Entry → List (Bytes × Columns)
+abbrev own : ℕ → List Entry → List (Bytes × Stamped)
 own t es = map (λ e. (e.0.1, e.1)) (filter (λ e. eqb e.0.0 t) es)
 
 same_tenant : (t : ℕ) → nat_cmp t t ≡ Equal
@@ -155,7 +155,7 @@ own_length t [] = refl
 own_length t (p ∷ ps) = by (eqb p.tenant t) (own_length t ps)
   where
     by : (b : Bool) → length (own t (map entry_of ps)) ≡ count_of t ps
-        → length {A = Bytes × Columns} (map (λ (e : Entry). (e.0.1, e.1)) (cond b (entry_of p ∷ filter (λ e. eqb e.0.0 t) (map entry_of ps)) (filter (λ e. eqb e.0.0 t) (map entry_of ps)))) ≡ cond b 1 0 + count_of t ps
+        → length {A = Bytes × Stamped} (map (λ (e : Entry). (e.0.1, e.1)) (cond b (entry_of p ∷ filter (λ e. eqb e.0.0 t) (map entry_of ps)) (filter (λ e. eqb e.0.0 t) (map entry_of ps)))) ≡ cond b 1 0 + count_of t ps
     by true rest = omega (arith, rest)
     by false rest = omega (arith, rest)
 

@@ -1,44 +1,63 @@
--- The changes of a replay, as a map of the code: of each owner the last one alone.
-use Rattle.std.specs.{Prelude.{◌≡◌, ℕ, nat_lt, Bool, false, List, [], ◌∷◌, Option, Some, None, if◌then◌else◌}, Option.{option_map, unwrap_or}, BTreeMap.{BTreeMap, get}}
-use Rattle.std.specs.{List.Sorted.IsPermutation, Ordering.eq_by_cmp}
-use Rattle.mt_rows.specs.{Rows.{Bytes, Columns}, Tenants.{Contents as Pairs, owned_cmp}, declared.record.Record.Record}
-use Rattle.mt_crashes.specs.Fronts.{key_of, after_changes}
-use Rattle.mt_recover.specs.{declared.changes.Change.Change, Falls.first_of, Orders.DontFall}
+-- The changes of a replay, as a map of the code: of each owner those that count so far.
+use Rattle.std.specs.{Prelude.{◌≡◌, ◌⊎◌, ℕ, ◌<◌, Bool, true, false, List, [], ◌∷◌, ◌++◌, map, Option}, Option.unwrap_or, BTreeMap.{BTreeMap, get}}
+use Rattle.std.specs.{List.filter, List.Sorted.IsPermutation, Ordering.eq_by_cmp}
+use Rattle.mt_rows.specs.{Rows.Bytes, Tenants.{Contents as Pairs, owned_cmp}, Stamps.Stamped, declared.record.Record.Record}
+use Rattle.mt_rows.specs.{declared.record.Write.Write, declared.record.Write.TheVariants.{Removed, Whole, Changed}}
+use Rattle.mt_crashes.specs.Fronts.{In, key_of, replayed}
+use Rattle.mt_recover.specs.{declared.changes.Change.Change, Orders.DontFall}
 use Rattle.std.specs.FinMap as pairs
 
--- by owner its last change, whose row is none where that removed the pair
+-- by owner its changes, in the order in which they came
 abbrev pub Changes : Type 0
-Changes = BTreeMap (ℕ × Bytes) Change
+Changes = BTreeMap (ℕ × Bytes) (List Change)
 
--- the row that an owner's change gives it, if it has a change
-abbrev pub row_at : Changes → ℕ × Bytes → Option (Option Columns)
-row_at changes owner = option_map (λ (c : Change). c.row) (get owned_cmp changes owner)
+-- the changes of an owner
+abbrev pub waiting_at : Changes → ℕ × Bytes → List Change
+waiting_at changes owner = unwrap_or (get owned_cmp changes owner) []
 
--- pairs after changes: an owner that has a change has its row, or no pair, and any other has what it had
-abbrev pub AreAfter : Changes → Pairs → Pairs → Type 0
-AreAfter changes old new = (owner : ℕ × Bytes) → pairs.get new owner ≡ unwrap_or (row_at changes owner) (pairs.get old owner)
+-- what changes make of what stands at a key, one after the other
+abbrev pub replays : List Change → Option Stamped → Option Stamped
+replays [] old = old
+replays (c ∷ cs) old = replays cs (replayed c.stamp c.write old)
 
--- the last changes of records, whatever pairs these change one after the other
-abbrev pub AreLast : List Record → Changes → Type 0
-AreLast rs changes = (old : Pairs) → AreAfter changes old (after_changes old rs)
+-- what they make in the order of their stamps
+abbrev pub Makes : List Change → Option Stamped → Option Stamped → Type 0
+Makes waiting old new = (cs : List Change) × IsPermutation waiting cs × DontFall (λ (c : Change). c.stamp) 0 cs × (new ≡ replays cs old)
 
--- whether an owner's change has a greater stamp
-abbrev pub is_later : ℕ → Option Change → Bool
-is_later stamp None = false
-is_later stamp (Some c) = nat_lt stamp c.stamp
+-- pairs after changes: at each owner stands what its changes make of what stood there
+pub record AreAfter (changes : Changes) (old new : Pairs) : Type 0 where
+  pub at : (owner : ℕ × Bytes) → Makes (waiting_at changes owner) (pairs.get old owner) (pairs.get new owner)
+
+-- whether a change begins anew, whatever stood there: a removal, or a whole row
+abbrev pub begins : Write → Bool
+begins Removed = true
+begins (Whole row) = true
+begins (Changed change) = false
+
+-- all stamps are below one
+abbrev pub AreBelow : ℕ → List Change → Type 0
+AreBelow stamp cs = (c : Change) → In c cs → c.stamp < stamp
+
+-- one of them begins anew, over a stamp
+abbrev pub BeginsOver : ℕ → List Change → Type 0
+BeginsOver stamp cs = (b : Change) × In b cs × (begins b.write ≡ true) × (stamp < b.stamp)
+
+-- One change more. It stands last; or it is let go, for one over it begins anew; or it begins anew itself, and all others are let go, which are below it.
+abbrev pub Adds : List Change → Change → List Change → Type 0
+Adds old c new = (new ≡ old ++ c ∷ []) ⊎ ((new ≡ old) × BeginsOver c.stamp old) ⊎ ((new ≡ c ∷ []) × (begins c.write ≡ true) × AreBelow c.stamp old)
 
 -- the change that a record tells
 abbrev pub change_in : Record → Change
-change_in r = record { stamp = r.stamp; row = r.row }
+change_in r = record { stamp = r.stamp; write = r.write }
 
--- the change of an owner that stands last among records
-abbrev pub last_change : ℕ × Bytes → List Record → Option Change
-last_change owner [] = None
-last_change owner (r ∷ rs) = first_of (last_change owner rs) (if eq_by_cmp owned_cmp owner (key_of r) then Some (change_in r) else None)
+-- what records tell of an owner
+abbrev pub changes_at : ℕ × Bytes → List Record → List Change
+changes_at owner rs = map change_in (filter (λ r. eq_by_cmp owned_cmp owner (key_of r)) rs)
 
--- of records in any order the changes that stand last once they are sorted by their stamps
-pub record AreLatest (rs : List Record) (changes : Changes) : Type 0 where
-  pub sorted : List Record
-  pub moved : IsPermutation rs sorted
-  pub order : DontFall (λ (r : Record). r.stamp) 0 sorted
-  pub last : (owner : ℕ × Bytes) → get owned_cmp changes owner ≡ last_change owner sorted
+-- changes that were let go: none, or all below one that waits and begins anew
+abbrev pub AreLetGo : List Change → List Change → Type 0
+AreLetGo gone waiting = (gone ≡ []) ⊎ ((b : Change) × In b waiting × (begins b.write ≡ true) × AreBelow b.stamp gone)
+
+-- the changes of records, but for those that were let go
+pub record AreWaiting (rs : List Record) (changes : Changes) : Type 0 where
+  pub at : (owner : ℕ × Bytes) → (gone : List Change) × IsPermutation (changes_at owner rs) (gone ++ waiting_at changes owner) × AreLetGo gone (waiting_at changes owner)

@@ -1,6 +1,6 @@
 -- What a recovery finds wrong in a single log: its first number that falls.
 use Rattle.std.specs.Prelude.{ℕ, ◌==◌, Bool, not, ◌&&◌, nat_lt, List, [], ◌∷◌, map, Option, Some, None, if◌then◌else◌}
-use Rattle.mt_log.specs.{declared.batch.LogBatch.LogBatch, declared.batch.LogBatch.TheVariants.{Records, Resume}, Contents.{Contents, from_of, to_of}}
+use Rattle.mt_log.specs.{declared.batch.LogBatch.LogBatch, declared.batch.LogBatch.TheVariants.{Records, OldRecords, Resume}, Contents.{Contents, from_of, to_of}}
 
 -- the first of two, if it is there, else the second
 abbrev pub first_of : {X : Type 0} → Option X → Option X → Option X
@@ -15,11 +15,13 @@ fall_in last to (stamp ∷ stamps) = if nat_lt last stamp && not (nat_lt to stam
 -- whether a batch doesn't go back, and keeps no more than it ends at
 abbrev pub goes_on : LogBatch → Bool
 goes_on (Records b) = not (nat_lt b.to b.from)
+goes_on (OldRecords b) = not (nat_lt b.to b.from)
 goes_on (Resume from to kept) = not (nat_lt to from) && not (nat_lt to kept)
 
 -- the first stamp of a batch that falls
 abbrev pub stamp_fall : LogBatch → Option ℕ
 stamp_fall (Records b) = fall_in b.from b.to (map (λ r. r.stamp) b.records)
+stamp_fall (OldRecords b) = fall_in b.from b.to (map (λ r. r.stamp) b.records)
 stamp_fall (Resume from to kept) = None
 
 -- What is wrong in a batch behind a mark: where it begins, if that isn't the mark or it doesn't go on; else its first stamp that falls.

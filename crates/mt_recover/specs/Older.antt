@@ -1,6 +1,6 @@
 -- Logs that are older than the others: which one is told, and with which number.
 use Rattle.std.specs.{Prelude.{◌≡◌, ℕ, ◌<◌, ◌≤◌, ◌==◌, min, max, Bool, false, List, [], ◌∷◌, map, Option, Some, None, if◌then◌else◌}, List.list_any}
-use Rattle.mt_log.specs.{declared.batch.LogBatch.LogBatch, declared.batch.LogBatch.TheVariants.{Records, Resume}, Contents.Contents}
+use Rattle.mt_log.specs.{declared.batch.LogBatch.LogBatch, declared.batch.LogBatch.TheVariants.{Records, OldRecords, Resume}, Contents.Contents}
 use Rattle.mt_crashes.specs.Fronts.{In, greatest, HoldResume, IsLastServed}
 
 -- the last number from which the store has served, as any log tells, and the least worker whose log has no resume batch up to it
@@ -17,6 +17,7 @@ pub record IsFirstOlder (fronts : List Contents) (worker stamp : ℕ) : Type 0 w
 abbrev pub served_in : ℕ → List LogBatch → ℕ
 served_in resumed [] = 0
 served_in resumed (Records b ∷ bs) = max resumed (served_in resumed bs)
+served_in resumed (OldRecords b ∷ bs) = max resumed (served_in resumed bs)
 served_in resumed (Resume from to kept ∷ bs) = served_in (max resumed to) bs
 
 -- the last number from which the store has served, 0 of none
@@ -26,6 +27,7 @@ last_served fronts = greatest (map (λ f. served_in 0 f.batches) fronts)
 -- whether a resume batch up to a number stands among batches
 abbrev pub is_resume_to : ℕ → LogBatch → Bool
 is_resume_to n (Records b) = false
+is_resume_to n (OldRecords b) = false
 is_resume_to n (Resume from to kept) = to == n
 
 abbrev pub holds_resume : ℕ → List LogBatch → Bool

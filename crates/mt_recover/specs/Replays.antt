@@ -1,8 +1,8 @@
 -- The steps to what is replayed: one walk over the ranges of void numbers for numbers that rise.
-use Rattle.std.specs.{Prelude.{◌≡◌, ℕ, ◌≤◌, Bool, not, ◌&&◌, ◌||◌, nat_lt, List, drop}, List.{filter, flat_map}, List.Sorted.IsPermutation}
+use Rattle.std.specs.{Prelude.{◌≡◌, ℕ, ◌≤◌, Bool, not, ◌&&◌, ◌||◌, nat_lt, List, drop}, List.{filter, flat_map}}
 use Rattle.mt_rows.specs.declared.record.Record.{Record}
 use Rattle.mt_log.specs.{Contents.Contents, Voids.held_in}
-use Rattle.mt_recover.specs.{Orders.DontFall, Changes.{Changes, AreLast}, declared.voids.{Walk.Walk, Search.Search}}
+use Rattle.mt_recover.specs.{Changes.{Changes, AreWaiting}, declared.voids.{Walk.Walk, Search.Search}}
 use Rattle.mt_crashes.specs.Fronts.{Numbers, is_void, is_replayed, all_records}
 
 -- Whether a number is void, as a walk knows it: the ranges behind it count as if they held all numbers up to where they reach, and those that are left are
@@ -26,7 +26,6 @@ counts voids base cutoff stamp = nat_lt base stamp && not (nat_lt cutoff stamp) 
 abbrev pub all_held : List Contents → List Record
 all_held fronts = flat_map (λ (f : Contents). held_in f.batches) fronts
 
--- these are the last changes of the records over a base, at most a cutoff and not void, the least stamp first
+-- these are the changes of the records over a base, at most a cutoff and not void
 abbrev pub HaveReplayed : List Numbers → ℕ → ℕ → List Contents → Changes → Type 0
-HaveReplayed voids base cutoff fronts changes =
-    (rs : List Record) × IsPermutation (filter (is_replayed voids base cutoff) (all_records fronts)) rs × DontFall (λ (r : Record). r.stamp) 0 rs × AreLast rs changes
+HaveReplayed voids base cutoff fronts changes = AreWaiting (filter (is_replayed voids base cutoff) (all_records fronts)) changes

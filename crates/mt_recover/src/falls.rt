@@ -41,7 +41,9 @@ fn batch_fall(mark: u64, batch: &LogBatch) -> Option<u64>
         return Some(batch.from());
     }
     match batch {
-        LogBatch::Records(batch) => fall_in(batch.from(), batch.to(), batch.stamps()),
+        LogBatch::Records(batch) | LogBatch::OldRecords(batch) => {
+            fall_in(batch.from(), batch.to(), batch.stamps())
+        }
         LogBatch::Resume { .. } => None,
     }
 }
@@ -51,7 +53,7 @@ fn goes_on(batch: &LogBatch) -> bool
     ensures { result ≡ goes_on batch.now }
 {
     match batch {
-        LogBatch::Records(batch) => batch.from() <= batch.to(),
+        LogBatch::Records(batch) | LogBatch::OldRecords(batch) => batch.from() <= batch.to(),
         LogBatch::Resume { from, to, kept } => from <= to && kept <= to,
     }
 }

@@ -1,17 +1,18 @@
 //! One merge of pairs that ascend and of changes.
 
-ghost use Rattle.std.specs.{Prelude.{◌≡◌, ◌++◌, ◌∷◌, true, false, ℕ, IfOk, OnOk, MatchOption}, declared.cmp.Ordering.TheVariants.Less, Ordering.is_lt};
-ghost use Rattle.mt_rows.specs.{Rows.Bytes, Tenants.owned_cmp, TenantPairs.{owner_of, pairs_of}};
+ghost use Rattle.std.specs.{Prelude.{◌≡◌, ◌++◌, ◌∷◌, true, false, ℕ, Option, IfOk, OnOk, MatchOption}, declared.cmp.Ordering.TheVariants.Less, Ordering.{is_lt, is_eq}, Option.option_map};
+ghost use Rattle.mt_rows.specs.{Rows.Bytes, Stamps.Stamped, Tenants.owned_cmp, TenantPairs.{owner_of, pairs_of}, declared.record.TenantPair.{TenantPair as AnyPair}};
 ghost use Rattle.mt_tape.specs.Histories.{with_row};
-ghost use Rattle.mt_recover.specs.{Pairs.{Ascend, AreBefore, first_order, without_first}, Changes.AreAfter};
+ghost use Rattle.std.specs.FinMap as fin;
+ghost use Rattle.mt_recover.specs.{Pairs.{Ascend, AreBefore, first_order, pair_for}, Changes.{AreAfter, Makes}};
 
-use crate::changes::Changes;
-use mt_rows::{Key, Row, TenantPair};
+use crate::changes::{Changes, Waiting};
+use mt_rows::{Key, StampedRow, TenantPair};
 use std::alloc::{AllocError, Global};
 use std::cmp::Ordering;
 use std::collections::VecDeque;
 
-/// Pairs after changes, by tenant and key. Each pair is moved, or dropped for the change of its key.
+/// Pairs after changes, by tenant and key. Each pair is moved, or changed by the changes of its key.
 pub(crate) fn merged(
     alloc: Global,
     pairs: Vec<TenantPair>,
@@ -37,33 +38,49 @@ fn with_changes(
     ensures ascend { IfOk result (λ listed. Ascend (listed.items ++ left.new.items)) }
 {
     let mut listed = Vec::new(alloc);
-    for (owner, change) in changes {
-        make(&mut listed, left, owner, change.row)?;
+    for (owner, waiting) in changes {
+        make(alloc, &mut listed, left, owner, waiting)?;
     }
     Ok(listed)
 }
 
-// Makes a change of an owner that comes after all listed pairs. It lists the pairs before the owner, and the
+// Makes the changes of an owner that comes after all listed pairs. It lists the pairs before the owner, and the
 // owner's pair.
 fn make(
+    alloc: Global,
     listed: &mut Vec<TenantPair>,
     left: &mut VecDeque<TenantPair>,
     owner: (u32, Key),
-    row: Option<Row>,
+    waiting: Waiting,
 ) -> Result<(), AllocError>
     requires ascend { Ascend (listed.old.items ++ left.old.items) }
     requires before { AreBefore owner listed.old.items }
-    ensures pairs { OnOk result (pairs_of (listed.new.items ++ left.new.items) ≡ with_row (pairs_of (listed.old.items ++ left.old.items)) owner row) }
+    ensures pairs { OnOk result ((row : Option Stamped) × Makes waiting (fin.get (pairs_of (listed.old.items ++ left.old.items)) owner) row × (pairs_of (listed.new.items ++ left.new.items) ≡ with_row (pairs_of (listed.old.items ++ left.old.items)) owner row)) }
     ensures ascend { OnOk result (Ascend (listed.new.items ++ left.new.items)) }
     ensures before { OnOk result ((next : ℕ × Bytes) → owned_cmp owner next ≡ Less → AreBefore next listed.new.items) }
 {
     list_before(listed, left, &owner)?;
-    drop_first(left, &owner);
-    if let Some(row) = row {
-        let (tenant, key) = owner;
-        listed.push(TenantPair { tenant, key, row })?;
+    let first = take_first(left, &owner);
+    let row = waiting.applied(alloc, row_of(first))?;
+    list_row(listed, owner, row)
+}
+
+// Lists the pair of an owner, if it has a row.
+fn list_row(
+    listed: &mut Vec<TenantPair>,
+    owner: (u32, Key),
+    row: Option<StampedRow>,
+) -> Result<(), AllocError>
+    ensures { OnOk result (listed.new.items ≡ listed.old.items ++ pair_for owner row) }
+{
+    match row {
+        Some(row) => {
+            let (tenant, key) = owner;
+            listed.push(TenantPair { tenant, key, row })?;
+            Ok(())
+        }
+        None => Ok(()),
     }
-    Ok(())
 }
 
 // Lists the pairs before an owner.
@@ -94,16 +111,28 @@ fn next_before(left: &mut VecDeque<TenantPair>, owner: &(u32, Key)) -> Option<Te
     }
 }
 
-// Drops the next pair, if it is the owner's.
-fn drop_first(left: &mut VecDeque<TenantPair>, owner: &(u32, Key))
-    ensures { left.new.items ≡ without_first owner.now left.old.items }
+// Takes the next pair, if it is the owner's.
+fn take_first(left: &mut VecDeque<TenantPair>, owner: &(u32, Key)) -> Option<TenantPair>
+    ensures { MatchOption result ((left.new.items ≡ left.old.items) × (is_eq (first_order owner.now left.old.items) ≡ false)) (λ p. (left.old.items ≡ p ∷ left.new.items) × (is_eq (owned_cmp (owner_of p) owner.now) ≡ true)) }
 {
     if first_order(left, owner).is_eq() {
-        left.pop_front();
+        left.pop_front()
+    } else {
+        None
     }
 }
 
-// How the next pair's owner stands to another one. If none is left, it stands behind.
+// The row of a pair, if there is one.
+fn row_of(pair: Option<TenantPair>) -> Option<StampedRow>
+    ensures { result ≡ option_map (λ (p : AnyPair). p.row) pair }
+{
+    match pair {
+        Some(pair) => Some(pair.row),
+        None => None,
+    }
+}
+
+// How the next pair's owner stands to another one. If none is left, it stands after it.
 fn first_order(left: &VecDeque<TenantPair>, owner: &(u32, Key)) -> Ordering
     ensures { result ≡ first_order owner.now left.now.items }
 {

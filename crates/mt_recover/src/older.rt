@@ -41,7 +41,7 @@ fn served_in(front: &Front) -> u64
     let mut served = 0;
     for batch in &front.batches {
         match batch {
-            LogBatch::Records(_) => served = resumed,
+            LogBatch::Records(_) | LogBatch::OldRecords(_) => served = resumed,
             LogBatch::Resume { to, .. } => resumed = resumed.max(*to),
         }
     }

@@ -4,7 +4,7 @@ ghost use Rattle.std.specs.{Prelude.{◌≡◌, ◌++◌, [], ◌∷◌, List, m
 ghost use Rattle.mt_log.specs.{Contents.contents_of, Voids.held_in};
 ghost use Rattle.mt_crashes.specs.Fronts.{Numbers, all_voids, is_replayed};
 ghost use Rattle.mt_rows.specs.declared.record.Record.{Record as AnyRecord};
-ghost use Rattle.mt_recover.specs.{Orders.DontFall, Changes.AreLatest, Replays.{all_held, counts, Knows, HaveReplayed}};
+ghost use Rattle.mt_recover.specs.{Orders.DontFall, Changes.AreWaiting, Replays.{all_held, counts, Knows, HaveReplayed}};
 
 use crate::changes::{Changes, add};
 use crate::voids::{Search, by_first, is_found_void, new_search};
@@ -13,8 +13,8 @@ use mt_rows::Record;
 use std::alloc::{AllocError, Global};
 use std::collections::BTreeMap;
 
-/// The last changes of the records of all logs with a stamp over `base`, at most `cutoff`, and not void. They count
-/// by their stamps, in whatever order they come.
+/// The changes of the records of all logs with a stamp over `base`, at most `cutoff`, and not void. They count by
+/// their stamps, in whatever order they come.
 ///
 /// One batch at a time is read into records, and its bytes are let go. So no more is held of the records than the
 /// changes that count so far. A front has let go of what its own resume batches make void, which is none of these.
@@ -29,11 +29,11 @@ pub(crate) fn replay(
     ensures { IfOk result (HaveReplayed voids.items base cutoff (map contents_of fronts.items)) }
 {
     let voids = by_first(voids);
-    latest(alloc, fronts, &voids, base, cutoff)
+    waiting(alloc, fronts, &voids, base, cutoff)
 }
 
 // The same of what the fronts hold, by ranges in the order of their first numbers.
-fn latest(
+fn waiting(
     alloc: Global,
     fronts: Vec<Front>,
     voids: &[(u64, u64)],
@@ -41,7 +41,7 @@ fn latest(
     cutoff: u64,
 ) -> Result<Changes, AllocError>
     requires { DontFall (λ (v : Numbers). v.0) 0 voids.now }
-    ensures { IfOk result (AreLatest (filter (is_replayed voids.now base cutoff) (all_held (map contents_of fronts.items)))) }
+    ensures { IfOk result (AreWaiting (filter (is_replayed voids.now base cutoff) (all_held (map contents_of fronts.items)))) }
 {
     let mut changes = BTreeMap::new(alloc);
     for front in fronts {
@@ -60,17 +60,18 @@ fn add_front(
     cutoff: u64,
 ) -> Result<(), AllocError>
     requires { DontFall (λ (v : Numbers). v.0) 0 voids.now }
-    ensures { OnOk result ((rs : List AnyRecord) → AreLatest rs changes.old → AreLatest (rs ++ filter (is_replayed voids.now base cutoff) (held_in front.batches.items)) changes.new) }
+    ensures { OnOk result ((rs : List AnyRecord) → AreWaiting rs changes.old → AreWaiting (rs ++ filter (is_replayed voids.now base cutoff) (held_in front.batches.items)) changes.new) }
 {
     for part in front.into_held() {
         let records = part.list(alloc)?;
-        add_records(changes, records, voids, base, cutoff)?;
+        add_records(alloc, changes, records, voids, base, cutoff)?;
     }
     Ok(())
 }
 
 // Adds what is replayed of records. One search of the ranges serves those that rise.
 fn add_records(
+    alloc: Global,
     changes: &mut Changes,
     records: Vec<Record>,
     voids: &[(u64, u64)],
@@ -78,17 +79,18 @@ fn add_records(
     cutoff: u64,
 ) -> Result<(), AllocError>
     requires { DontFall (λ (v : Numbers). v.0) 0 voids.now }
-    ensures { OnOk result ((rs : List AnyRecord) → AreLatest rs changes.old → AreLatest (rs ++ filter (is_replayed voids.now base cutoff) records.items) changes.new) }
+    ensures { OnOk result ((rs : List AnyRecord) → AreWaiting rs changes.old → AreWaiting (rs ++ filter (is_replayed voids.now base cutoff) records.items) changes.new) }
 {
     let mut search = new_search();
     for record in records {
-        add_record(changes, record, voids, &mut search, base, cutoff)?;
+        add_record(alloc, changes, record, voids, &mut search, base, cutoff)?;
     }
     Ok(())
 }
 
 // Adds the change of a record, if it is replayed.
 fn add_record(
+    alloc: Global,
     changes: &mut Changes,
     change: Record,
     voids: &[(u64, u64)],
@@ -98,13 +100,13 @@ fn add_record(
 ) -> Result<(), AllocError>
     requires order { DontFall (λ (v : Numbers). v.0) 0 voids.now }
     requires knows { Knows voids.now search.old }
-    ensures added { OnOk result ((rs : List AnyRecord) → AreLatest rs changes.old → AreLatest (rs ++ (if is_replayed voids.now base cutoff change then change ∷ [] else [])) changes.new) }
+    ensures added { OnOk result ((rs : List AnyRecord) → AreWaiting rs changes.old → AreWaiting (rs ++ (if is_replayed voids.now base cutoff change then change ∷ [] else [])) changes.new) }
     ensures knows { OnOk result (Knows voids.now search.new) }
 {
     if !counts(change.stamp, voids, search, base, cutoff) {
         return Ok(());
     }
-    add(changes, change)
+    add(alloc, changes, change)
 }
 
 // Whether a record of this stamp is replayed.

@@ -50,6 +50,7 @@ fn take_batch(out: &mut Vec<(u64, u8)>, batch: &LogBatch, worker: u8) -> Result<
 {
     match batch {
         LogBatch::Records(batch) => take_stamps(out, batch.stamps(), worker),
+        LogBatch::OldRecords(batch) => take_stamps(out, batch.stamps(), worker),
         LogBatch::Resume { .. } => Ok(()),
     }
 }

@@ -1,7 +1,7 @@
 -- Recoveries with wrong numbers, a wrong checkpoint or wrong pairs are none.
 use Rattle.std.proofs.{Common.{inr, Some, sym, ◌∙◌, arith}, lemmas.Bool.{true≢false}}
 use Rattle.mt_crashes.proofs.{Members.{in_place, place_in}, FrontLaws.{from_cutoff, ends_cutoff}, Recovery.{upto_resume, walked_upto}}
-use Rattle.mt_crashes.proofs.Refusals.{not_counted, last_left_out, used_here}
+use Rattle.mt_crashes.proofs.Refusals.{not_counted, last_left_out, used_here, base_stays}
 use Rattle.mt_crashes.proofs.laws.wrong_recoveries_are_refused.Goals as goal
 
 pub returns-clause-cutoff_past_a_log : goal.returns-clause-cutoff_past_a_log
@@ -38,6 +38,9 @@ returns-clause-with_what_does_not_count c = not_counted
 
 pub returns-clause-without_the_last_record : goal.returns-clause-without_the_last_record
 returns-clause-without_the_last_record c = last_left_out
+
+pub returns-clause-with_a_change_that_its_base_has : goal.returns-clause-with_a_change_that_its_base_has
+returns-clause-with_a_change_that_its_base_has c = base_stays
 
 pub returns-clause-without_the_record_at_the_cutoff : goal.returns-clause-without_the_record_at_the_cutoff
 returns-clause-without_the_record_at_the_cutoff c = λ r resume fronts read found at some live other is.

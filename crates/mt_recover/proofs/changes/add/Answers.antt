@@ -1,10 +1,8 @@
--- The owner's change stays, or the record's comes in its place.
-use Rattle.std.proofs.Common.{sym, ◌∙◌}
-use Rattle.mt_recover.proofs.ChangeMaps.{one_kept, one_put}
+-- The owner's changes are taken out, and are put in again with one more.
+use Rattle.mt_recover.proofs.ChangeMaps.{one_waits}
 use Rattle.mt_recover.proofs.changes.add.Goals as goal
 
-pub returns-then-has_later : goal.returns-then-has_later
-returns-then-has_later c rs was = one_kept c.args.change rs c.args.changes.now (sym c.has_later.ensures ∙ c.if-has_later.true) was
-
 pub returns : goal.returns
-returns c rs was = one_put c.args.change rs c.args.changes.now c.insert.new.self (sym c.has_later.ensures ∙ c.if-has_later.false) c.in_ok-insert.ensures.updates.0 was
+returns c rs was =
+    one_waits c.args.change rs c.args.changes.now c.taken-waiting.new.changes c.insert.new.self c.taken-waiting.result c.in_ok-waiting.waiting c.taken-waiting.ensures.are c.taken-waiting.ensures.others c.in_ok-insert.ensures.updates.0
+    c.in_ok-waiting.ensures was

@@ -1,41 +1,37 @@
--- A change that makes a pair, and one that makes none.
-use Rattle.std.proofs.{Common.{◌++◌, sym, ◌∙◌, ap, Option}, lemmas.List.append-nil}
-use Rattle.mt_rows.specs.Rows.{Columns}
-use Rattle.mt_recover.proofs.Merges.{pair_for, is_made}
+-- The pairs before the owner are listed, its row is changed, and its pair is listed.
+use Rattle.std.proofs.{Common.{sym, ◌∙◌, subst, Option}, lemmas.Result.on_ok_weaker}
+use Rattle.mt_rows.specs.Stamps.{Stamped}
+use Rattle.mt_recover.{specs.Changes.Makes, proofs.Merges.{is_made, stood_first, taken_first}}
 use Rattle.mt_recover.proofs.merging.make.Goals as goal
 
-pub returns-in_ok-push-clause-pairs : goal.returns-in_ok-push-clause-pairs
-returns-in_ok-push-clause-pairs c =
-    (is_made c.args.owner c.args.row c.args.listed.now.items c.args.left.now.items c.list_before.new.listed.items c.list_before.new.left.items _ _ c.in_ok-list_before.ensures.same c.requires.ascend
-    c.in_ok-list_before.ensures.before c.in_ok-list_before.ensures.all c.drop_first.ensures
-    (c.in_ok-push.ensures.items ∙ ap (λ (r : Option Columns). c.list_before.new.listed.items ++ pair_for c.args.owner r) (sym c.in-Some.is))).pairs
+pub returns-clause-pairs : goal.returns-clause-pairs
+returns-clause-pairs c =
+    let listed = c.list_before.new.listed.items in
+    let left = c.list_before.new.left.items in
+    let before = c.in_ok-list_before.ensures in
+    let row = c.in_ok-row.row in
+    let first = taken_first c.args.owner left c.take_first-first.new.left.items c.take_first-first.result c.take_first-first.ensures in
+    let old = c.row_of.ensures ∙ first.0 ∙ sym (stood_first c.args.owner c.args.listed.now.items c.args.left.now.items listed left before.same c.requires.ascend before.before before.all) in
+    on_ok_weaker c.list_row.result
+    (λ more. (
+      row,
+      subst (λ (o : Option Stamped). Makes c.args.waiting o row) old c.in_ok-row.ensures,
+      (is_made c.args.owner row c.args.listed.now.items c.args.left.now.items listed left _ _ before.same c.requires.ascend before.before before.all first.1 more).pairs,
+    ))
+    c.list_row.ensures
 
-pub returns-in_ok-push-clause-ascend : goal.returns-in_ok-push-clause-ascend
-returns-in_ok-push-clause-ascend c =
-    (is_made c.args.owner c.args.row c.args.listed.now.items c.args.left.now.items c.list_before.new.listed.items c.list_before.new.left.items _ _ c.in_ok-list_before.ensures.same c.requires.ascend
-    c.in_ok-list_before.ensures.before c.in_ok-list_before.ensures.all c.drop_first.ensures
-    (c.in_ok-push.ensures.items ∙ ap (λ (r : Option Columns). c.list_before.new.listed.items ++ pair_for c.args.owner r) (sym c.in-Some.is))).order
+pub returns-clause-ascend : goal.returns-clause-ascend
+returns-clause-ascend c =
+    let before = c.in_ok-list_before.ensures in
+    on_ok_weaker c.list_row.result
+    (λ more.
+    (is_made c.args.owner c.in_ok-row.row c.args.listed.now.items c.args.left.now.items c.list_before.new.listed.items c.list_before.new.left.items _ _ before.same c.requires.ascend before.before before.all (taken_first c.args.owner c.list_before.new.left.items c.take_first-first.new.left.items c.take_first-first.result c.take_first-first.ensures).1 more).order)
+    c.list_row.ensures
 
-pub returns-in_ok-push-clause-before : goal.returns-in_ok-push-clause-before
-returns-in_ok-push-clause-before c =
-    (is_made c.args.owner c.args.row c.args.listed.now.items c.args.left.now.items c.list_before.new.listed.items c.list_before.new.left.items _ _ c.in_ok-list_before.ensures.same c.requires.ascend
-    c.in_ok-list_before.ensures.before c.in_ok-list_before.ensures.all c.drop_first.ensures
-    (c.in_ok-push.ensures.items ∙ ap (λ (r : Option Columns). c.list_before.new.listed.items ++ pair_for c.args.owner r) (sym c.in-Some.is))).before
-
-pub returns-in_default-clause-pairs : goal.returns-in_default-clause-pairs
-returns-in_default-clause-pairs c =
-    (is_made c.args.owner c.args.row c.args.listed.now.items c.args.left.now.items c.list_before.new.listed.items c.list_before.new.left.items _ _ c.in_ok-list_before.ensures.same c.requires.ascend
-    c.in_ok-list_before.ensures.before c.in_ok-list_before.ensures.all c.drop_first.ensures
-    (sym (append-nil c.list_before.new.listed.items) ∙ ap (λ (r : Option Columns). c.list_before.new.listed.items ++ pair_for c.args.owner r) (sym c.in_default.is))).pairs
-
-pub returns-in_default-clause-ascend : goal.returns-in_default-clause-ascend
-returns-in_default-clause-ascend c =
-    (is_made c.args.owner c.args.row c.args.listed.now.items c.args.left.now.items c.list_before.new.listed.items c.list_before.new.left.items _ _ c.in_ok-list_before.ensures.same c.requires.ascend
-    c.in_ok-list_before.ensures.before c.in_ok-list_before.ensures.all c.drop_first.ensures
-    (sym (append-nil c.list_before.new.listed.items) ∙ ap (λ (r : Option Columns). c.list_before.new.listed.items ++ pair_for c.args.owner r) (sym c.in_default.is))).order
-
-pub returns-in_default-clause-before : goal.returns-in_default-clause-before
-returns-in_default-clause-before c =
-    (is_made c.args.owner c.args.row c.args.listed.now.items c.args.left.now.items c.list_before.new.listed.items c.list_before.new.left.items _ _ c.in_ok-list_before.ensures.same c.requires.ascend
-    c.in_ok-list_before.ensures.before c.in_ok-list_before.ensures.all c.drop_first.ensures
-    (sym (append-nil c.list_before.new.listed.items) ∙ ap (λ (r : Option Columns). c.list_before.new.listed.items ++ pair_for c.args.owner r) (sym c.in_default.is))).before
+pub returns-clause-before : goal.returns-clause-before
+returns-clause-before c =
+    let before = c.in_ok-list_before.ensures in
+    on_ok_weaker c.list_row.result
+    (λ more.
+    (is_made c.args.owner c.in_ok-row.row c.args.listed.now.items c.args.left.now.items c.list_before.new.listed.items c.list_before.new.left.items _ _ before.same c.requires.ascend before.before before.all (taken_first c.args.owner c.list_before.new.left.items c.take_first-first.new.left.items c.take_first-first.result c.take_first-first.ensures).1 more).before)
+    c.list_row.ensures

@@ -13,3 +13,11 @@ returns-in-Records c =
     (ap (λ (ns : List ℕ). map {B = Stamp} (λ (n : ℕ). (n, c.args.worker)) ns) c.stamps.ensures ∙ stamped c.args.worker c.in-Records.batch.records
     ∙ ap (λ (b : LogBatch). map {B = Stamp} (λ (r : Record). (r.stamp, c.args.worker)) (records_in b)) (sym c.in-Records.is)))
     c.take_stamps.ensures
+
+pub returns-in-OldRecords : goal.returns-in-OldRecords
+returns-in-OldRecords c =
+    on_ok_weaker c.take_stamps-in-OldRecords.result
+    (λ same. same ∙ ap (λ (l : List Stamp). c.args.out.now.items ++ l)
+    (ap (λ (ns : List ℕ). map {B = Stamp} (λ (n : ℕ). (n, c.args.worker)) ns) c.stamps-in-OldRecords.ensures ∙ stamped c.args.worker c.in-OldRecords.batch.records
+    ∙ ap (λ (b : LogBatch). map {B = Stamp} (λ (r : Record). (r.stamp, c.args.worker)) (records_in b)) (sym c.in-OldRecords.is)))
+    c.take_stamps-in-OldRecords.ensures
