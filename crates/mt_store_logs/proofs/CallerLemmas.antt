@@ -51,7 +51,7 @@ pick c front (inr e) (inr f) =
     absurd (omega (arith, zero, one))
 
 -- a front that is the old one or one with a batch, whichever batch, is the old one
-reads_rest : (c front : Contents) → ((b : LogBatch) → IsLogBatch b → IsOldOrNew c b front) → front ≡ c
+reads_rest : (c front : Contents) → ((b : LogBatch) → IsLogBatch c.version b → IsOldOrNew c b front) → front ≡ c
 reads_rest c front all =
     pick c front
     (all (Resume 0 0 0) (record { first = omega arith; last = omega arith; past = omega arith }))
@@ -83,7 +83,7 @@ module _ {D : Type 0} (is_honest : D → Bool) (state : D → DiskState) where
       let l = shows.1 in
       (shows.0, record { first = l.first; leaves = leaves honest had b l.first (contents_more had b is shows.0) l.leaves })
 
-  not_bad_either : (had : Contents) (b : LogBatch) (disk : D) (number offset : ℕ) → IsContents had → IsLogBatch b → LeavesEither state had b disk
+  not_bad_either : (had : Contents) (b : LogBatch) (disk : D) (number offset : ℕ) → IsContents had → IsLogBatch had.version b → LeavesEither state had b disk
       → IsBadLog (state disk).image number offset → ⊥
   not_bad_either had b disk number offset is batch l bad =
       let image = (state disk).image in
@@ -95,7 +95,7 @@ module _ {D : Type 0} (is_honest : D → Bool) (state : D → DiskState) where
   not_bad : (had : Contents) (doubt : Option LogBatch) (disk : D) (number offset : ℕ) → IsContents had → ShowsClosed state had doubt disk
       → IsBadLog (state disk).image number offset → ⊥
   not_bad had None disk number offset is shows bad =
-      let batch : IsLogBatch (Resume 0 0 0) = record { first = omega arith; last = omega arith; past = omega arith } in
+      let batch : IsLogBatch had.version (Resume 0 0 0) = record { first = omega arith; last = omega arith; past = omega arith } in
       not_bad_either had (Resume 0 0 0) disk number offset is batch (shows (Resume 0 0 0) batch) bad
   not_bad had (Some b) disk number offset is shows bad = not_bad_either had b disk number offset is shows.0 shows.1 bad
 
@@ -242,7 +242,7 @@ module _ {D : Type 0} (is_honest : D → Bool) (state : D → DiskState) where
         → FailedIn is_honest state failures old (resume_of_mark c kept to) disk → IsLeftBy c kept to (Closed disk)
     fails_open c kept to old disk honest has last f = (
       subst IsTrue (sym f.honest) honest,
-      inr (f.rises, (has.contents, (in_steps (mark_of c) to kept f.rises.0 last f.rises.1, record { first = state old.disk; leaves = f.leaves honest c has }))),
+      inr (f.rises, (has.contents, (in_steps (mark_of c) to kept f.rises.0 last f.rises.1 c.version, record { first = state old.disk; leaves = f.leaves honest c has }))),
     )
 
     same_left : (c : Contents) (kept to : ℕ) (old new : LogSlot D) → IsHonest is_honest old → Shows state (at_rest c) old → new ≡ old → IsLeftBy c kept to new
@@ -364,7 +364,7 @@ module _ {D : Type 0} (is_honest : D → Bool) (state : D → DiskState) where
         → HasFailed is_honest state failures b old new → IsHonest is_honest new × Shows state (begun now b) new × MayBegin now b
     failed_at now b (Open old) (Failed new) honest shows turn f = (
       subst IsTrue (sym f.2.fails.honest) honest,
-      record { batch = Records b; in_doubt = refl; first = state old.disk; failed = failed_log is_honest state failures old new now.had (Records b) honest (in_format b f.1) shows.1 f.2 },
+      record { batch = Records b; in_doubt = refl; first = state old.disk; failed = failed_log is_honest state failures old new now.had (Records b) honest (in_format b f.1 now.had.version) shows.1 f.2 },
       record { rests = shows.0; fits = f.1; turn = turn },
     )
     failed_at now b (Open old) (Closed disk) honest shows turn f = absurd f
@@ -640,7 +640,7 @@ module _ {D : Type 0} (is_honest : D → Bool) (state : D → DiskState) where
 
 -- ---- a crash
 
-crashed_either : (had : Contents) (b : LogBatch) (image : Bytes) (old disk : MemDisk) → IsContents had → IsLogBatch b → LeavesEither mem_state had b old
+crashed_either : (had : Contents) (b : LogBatch) (image : Bytes) (old disk : MemDisk) → IsContents had → IsLogBatch had.version b → LeavesEither mem_state had b old
     → IsFoundWith image old disk → LeavesEither mem_state had b disk
 crashed_either had b image old disk is batch l found = record {
   first = found_with image;

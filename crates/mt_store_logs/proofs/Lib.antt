@@ -5,3 +5,4 @@ pub mod ForResumes
 pub mod Reopening
 pub mod DrainLaws
 pub mod Limits
+pub mod OldBases

@@ -1,10 +1,10 @@
--- What is recovered of logs that were opened and of slots that were read keeps the limits of keys and rows, and no key stands twice.
+-- What is recovered of logs that were opened and of slots that were read keeps the limits of keys, rows and stamps, and no key stands twice.
 use Rattle.std.{proofs.Common.{ℕ, ◌≤◌, ◌^◌, Bool, List, map}, specs.List.All}
-use Rattle.mt_rows.specs.{Accounts.Accounts, TenantPairs.IsTenantPair}
+use Rattle.mt_rows.specs.{Accounts.Accounts, TenantPairs.{IsTenantPair, AreStampedUpto}}
 use Rattle.mt_disk.specs.Disk.{DiskState}
 use Rattle.mt_slots.specs.{declared.store_slots.StoreSlots.StoreSlots, Places.in_order}
 use Rattle.mt_log.specs.Contents.{contents_of}
-use Rattle.mt_recover.{specs.declared.recovering.Recovered.Recovered, proofs.Limits.{pairs_within, resume_within}}
+use Rattle.mt_recover.{specs.declared.recovering.Recovered.Recovered, proofs.Limits.{pairs_within, resume_within, stamps_within}}
 use Rattle.mt_store_logs.{specs.{declared.store_log.StoreLog.StoreLog, Recovers.ServesAgain}, proofs.ForResumes.{in_format, both_in_format}}
 
 -- ---- what a recovery of logs gives may be put into a state
@@ -23,3 +23,8 @@ module _ {D : Type 0} (is_honest : D → Bool) (state : D → DiskState) (failur
       resume_within (map contents_of again.fronts) (in_order again.found) r.cutoff r.resume r.used r.pairs.items
       (both_in_format is_honest state failures slots again.rested again.found again.reads)
       (in_format is_honest state failures old again.mid again.fronts again.opens) again.recovers.recovered
+
+  pub stamps_of : AreStampedUpto r.resume r.pairs.items
+  stamps_of =
+      stamps_within (map contents_of again.fronts) (in_order again.found) r.cutoff r.resume r.used r.pairs.items
+      (both_in_format is_honest state failures slots again.rested again.found again.reads) again.recovers.recovered again.recovers.ascend

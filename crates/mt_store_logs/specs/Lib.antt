@@ -4,5 +4,6 @@ pub mod Waits
 pub mod Flushes
 pub mod LogTurns
 pub mod Recovers
+pub mod OldBases
 pub mod Crashes
 pub mod Shows

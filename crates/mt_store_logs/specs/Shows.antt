@@ -17,8 +17,8 @@ pub record LeavesEither {D : Type 0} (state : D → DiskState) (had : Contents) 
 
 -- what a closed log's disk shows: the batch in doubt is there or not; where none is, that is so of every batch
 abbrev pub ShowsClosed : {D : Type 0} → (D → DiskState) → Contents → Option LogBatch → D → Type 0
-ShowsClosed state had None disk = (b : LogBatch) → IsLogBatch b → LeavesEither state had b disk
-ShowsClosed state had (Some b) disk = IsLogBatch b × LeavesEither state had b disk
+ShowsClosed state had None disk = (b : LogBatch) → IsLogBatch had.version b → LeavesEither state had b disk
+ShowsClosed state had (Some b) disk = IsLogBatch had.version b × LeavesEither state had b disk
 
 -- what a log shows on which an append failed: the batch is in doubt, and it knows where it ends with that or without
 pub record ShowsFailed {D : Type 0} (state : D → DiskState) (now : LogNow) (log : FailedLog D) : Type 0 where

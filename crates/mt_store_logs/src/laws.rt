@@ -1,18 +1,21 @@
 //! What a crash may leave of a store's logs, whatever was called on them: laws, each the contract of a function
 //! that does nothing. Their premise is a disk that keeps the rules.
 
-ghost use Rattle.std.specs.Prelude.{◌≡◌, ◌≢◌, ◌⊎◌, ◌≤◌, ◌^◌, ℕ, None, Some};
+ghost use Rattle.std.specs.{Prelude.{◌≡◌, ◌≢◌, ◌⊎◌, ◌≤◌, ◌^◌, ℕ, max, List, None, Some}, Option.option_map};
+ghost use Rattle.std.specs.FinMap as pairs;
 ghost use Rattle.mt_rows.specs.{Rows.Bytes, declared.record.Batch.Batch, declared.refusal.Refusal.Refusal};
+ghost use Rattle.mt_rows.specs.{Stamps.restamped_row, Tenants.{Contents as Pairs}};
 ghost use Rattle.mt_rows.specs.declared.refusal.Refusal.TheVariants as refusals;
 ghost use Rattle.mt_batches.specs.Batches.{IsInOrder};
 ghost use Rattle.mt_disk.specs.{declared.mem.MemDisk.MemDisk, Mem.mem_state};
 ghost use Rattle.mt_log.specs.{declared.batch.Front.Front, declared.batch.LogBatch.TheVariants.Resume};
 ghost use Rattle.mt_log.specs.Contents.{Contents, Rises, mark_of, no_batches, with_batch, contents_of};
-ghost use Rattle.mt_crashes.specs.Stores.{LogNow, at_rest, MayLeaveFront};
+ghost use Rattle.mt_crashes.specs.{Stores.{LogNow, at_rest, MayLeaveFront}, Bases.{CheckpointView, Slots}, Histories.{Placed, pairs_upto}};
+ghost use Rattle.mt_crashes.specs.{Invariants.RisePlaced, Recoveries.{HasSlot, IsRecovered}};
 ghost use Rattle.mt_recover.specs.{declared.resuming.LogSlot.LogSlot, Resumes.{HasResumed, FailsToResume}};
 ghost use Rattle.mt_store_logs.specs.{declared.store_log.StoreLog.StoreLog, Places.{disk_in, Opens, FailsToOpen, Makes}};
 ghost use Rattle.mt_store_logs.specs.{Waits.{AppendsKept, FailsToAppend, with_kept, Reopens, FailsToReopen}, Crashes.IsCrashedOn};
-ghost use Rattle.mt_store_logs.specs.Shows.{Shows, IsHonest, Stands, drained_upto, IsIn, IsInDoubt, ComesToRest};
+ghost use Rattle.mt_store_logs.specs.{Shows.{Shows, IsHonest, Stands, drained_upto, IsIn, IsInDoubt, ComesToRest}, OldBases.{IsOldBase, AreOldUpto, TellHistory}};
 
 use mt_disk::Disk;
 
@@ -82,4 +85,15 @@ pub fn a_resume_batch_comes_to_rest<D: Disk>()
 /// A crash changes nothing of what a crash may leave.
 pub fn a_crash_leaves_what_it_might()
     ensures { (now : LogNow) (image : Bytes) (old new : LogSlot MemDisk) → Shows mem_state now old → IsCrashedOn image (disk_in old) new → Shows mem_state now new }
+{}
+
+/// A checkpoint of format 1 tells no stamps: each of its rows is read with the number of steps before the walk. A
+/// recovery that uses it gives each row as it was at the cutoff. The row's stamp is its own, or that number if its own is
+/// lower. This asks that up to the end of the walk no change was told of changed columns, as no log of format 1 tells of
+/// these. After it both formats may follow.
+pub fn an_old_checkpoint_gives_each_row()
+    ensures { (k cutoff resume : ℕ) (fronts : List Contents) (read : Slots) (found : Pairs) (c : CheckpointView) (history : List Placed) (key : ℕ × Bytes) →
+        RisePlaced 0 history → HasSlot read k c → IsOldBase c.from c.to history c.pairs → AreOldUpto c.to history → TellHistory c.from fronts history →
+        IsRecovered fronts read cutoff resume (Some k) found →
+        pairs.get found key ≡ option_map (restamped_row (max c.from)) (pairs.get (pairs_upto cutoff history) key) }
 {}
