@@ -2,7 +2,7 @@
 use Rattle.std.proofs.Common.{◌≡◌, ◌≢◌, ℕ, ◌+◌, ◌<◌, ◌≤◌, true, [], length, inl, inr, Option, Some, None, refl, sym, ap, subst, ◌∙◌, arith}
 use Rattle.mt_version.specs.Parts.{Parts}
 use Rattle.mt_interior.specs.Fences.{end_of}
-use Rattle.mt_rows.specs.Rows.{Bytes, Columns}
+use Rattle.mt_rows.specs.{Rows.Bytes, Stamps.Stamped}
 use Rattle.mt_border.specs.{Contents.IsOfTree, Held.Held, Slots.{held_in, is_dropped}}
 use Rattle.mt_arena.specs.{declared.tree.Tree.Tree, NodeFacts.IsUnstable, NodeView.{NodeView, place_at}, Forests.tree_at, Layers.slot_at, Arena.ArenaView, Accesses.at}
 use Rattle.mt_operation.specs.declared.phase.Phase.{Phase}
@@ -95,12 +95,12 @@ module _ (old new : ArenaView) (count : length new.nodes ≡ length old.nodes) (
             ];
       }
 
-  taken_given : (past : Past) (key : Bytes) (row : Option Columns) (w : Walk) (taken : Taken) → at new w.place.node ≡ at old w.place.node
+  taken_given : (past : Past) (key : Bytes) (row : Option Stamped) (w : Walk) (taken : Taken) → at new w.place.node ≡ at old w.place.node
       → ((u : ℕ) → StandsHere old w → taken ≡ Link u → tree_at new.trees u ≡ tree_at old.trees u) → TakenHolds old past key row w taken
       → TakenHolds new past key row w taken
   taken_given past key row w Missing same trees h = subst (λ (n : NodeView). RangeStands n w.place.seen → Had past w.first w.right_at key None) (sym same) h
   taken_given past key row w Row same trees h =
-      subst (λ (n : NodeView). Stands n w.place.seen → (columns : Columns) × (row ≡ Some columns) × Had past w.first w.right_at key row) (sym same) h
+      subst (λ (n : NodeView). Stands n w.place.seen → (had : Stamped) × (row ≡ Some had) × Had past w.first w.right_at key row) (sym same) h
   taken_given past key row w (Link u) same trees h = λ stands_now.
       let stands = subst (λ (n : NodeView). Stands n w.place.seen) same stands_now in
       through_given u (w.layer + 1) key (trees u stands refl) (h stands)
@@ -118,7 +118,7 @@ module _ (old new : ArenaView) (count : length new.nodes ≡ length old.nodes) (
   }
 
 -- by the phase
-pub kept_given : (old new : ArenaView) (past : Past) (key : Bytes) (row : Option Columns) (w : Walk) (phase : Phase) → IsGivenElsewhere old new phase w
+pub kept_given : (old new : ArenaView) (past : Past) (key : Bytes) (row : Option Stamped) (w : Walk) (phase : Phase) → IsGivenElsewhere old new phase w
     → KeptAt phase old past key row w → KeptAt phase new past key row w
 kept_given old new past key row w Enter g h = through_given old new g.gives.count g.gives.tree_count w.place.tree w.layer key (g.trees w.place.tree refl) h
 kept_given old new past key row w Pick g h = pick_given old new g.gives.count g.gives.tree_count key w (g.nodes w.place.node refl) (g.trees w.place.tree refl) h

@@ -3,7 +3,7 @@ use Rattle.std.proofs.Common.{◌≡◌, ℕ, suc, ◌+◌, ◌-◌, ◌<◌, �
 use Rattle.std.proofs.{lemmas.Bool.cases_lt, lemmas.List.{get_or_append_left, get_or-append_right, get_or_past}}
 use Rattle.std.specs.Prelude.{◌==◌, ◌&&◌, not}
 use Rattle.mt_version.specs.Parts.{Parts}
-use Rattle.mt_rows.specs.Rows.{Bytes, Columns}
+use Rattle.mt_rows.specs.{Rows.Bytes, Stamps.Stamped}
 use Rattle.mt_arena.specs.{declared.retired.Retired.Retired, declared.tree.Standing.TheVariants.Live, NodeView.{NodeView, no_node, place_at}}
 use Rattle.mt_arena.specs.{Forests.{tree_at, no_tree}, Idle.{RetiredPlaces, AreRetired, is_idle_border, is_idle_interior, is_idle_tree, has_ended}}
 use Rattle.mt_arena.specs.{Arena.{ArenaView, IsArena}, Accesses.{at, with_node}, Edits.locked, Guarantee.{NodesGuarantee, LoseHeld}}
@@ -204,7 +204,7 @@ module _ (op birth : ℕ) (old new : ArenaView) (e : NodesGuarantee op old.nodes
           )
         ]
 
-  trees_stay : (p : Phase) (past : Past) (key : Bytes) (row : Option Columns) (w : Walk) → KeptAt p old past key row w
+  trees_stay : (p : Phase) (past : Past) (key : Bytes) (row : Option Stamped) (w : Walk) → KeptAt p old past key row w
       → ((t : ℕ) → RemembersTree p old w t → IsTreeOutFrom (birth + 1) old.retired t) → (t : ℕ) → RemembersTree p new w t → IsTreeOutFrom (birth + 1) new.retired t
   trees_stay Load past key row w h kept t r = elim r [
     | inl own ↦ tree_stays_out birth old.retired new.retired t lists (kept t (inl own))
@@ -224,7 +224,7 @@ module _ (op birth : ℕ) (old new : ArenaView) (e : NodesGuarantee op old.nodes
   trees_stay _ past key row w h kept t r = tree_stays_out birth old.retired new.retired t lists (kept t r)
 
   -- so a step of any operation keeps back what the walk remembers
-  pub kept_by_step : (past : Past) (key : Bytes) (row : Option Columns) (w : Walk) → IsKept old past key row w → RemembersKept birth old w → RemembersKept birth new w
+  pub kept_by_step : (past : Past) (key : Bytes) (row : Option Stamped) (w : Walk) → IsKept old past key row w → RemembersKept birth old w → RemembersKept birth new w
   kept_by_step past key row w kept h = record {
     nodes = λ k r. node_stays_out birth old.retired new.retired k lists (h.nodes k r);
     trees = trees_stay w.phase past key row w kept h.trees;
@@ -258,7 +258,7 @@ pub spared : (birth : ℕ) (old new : ArenaView) (w : Walk) → GivesOutBefore b
 spared birth old new w g h = record { gives = g.gives; nodes = λ k r. g.nodes k (h.nodes k r); trees = λ t r. g.trees t (h.trees t r) }
 
 -- so all stays through the giving out and then any step
-pub kept_through : (op birth : ℕ) (old mid new : ArenaView) (before after : Past) (key : Bytes) (row : Option Columns) (w : Walk) → GivesOutBefore birth old mid
+pub kept_through : (op birth : ℕ) (old mid new : ArenaView) (before after : Past) (key : Bytes) (row : Option Stamped) (w : Walk) → GivesOutBefore birth old mid
     → RetiresAfter birth old.retired mid.retired → NodesGuarantee op mid.nodes new.nodes mid.trees new.trees → KeepsRows mid new after
     → AreRetired new.nodes new.trees new.retired → RetiresAfter birth mid.retired new.retired → ExtendsPast w.first before after → IsKept old before key row w
     → RemembersKept birth old w → IsKept new after key row w × RemembersKept birth new w

@@ -3,7 +3,7 @@ use Rattle.std.proofs.Common.{◌≡◌, ◌≢◌, ℕ, ◌+◌, ◌<◌, inl, 
 use Rattle.std.specs.Prelude.{if◌then◌else◌, nat_le}
 use Rattle.mt_version.specs.{Parts.Parts}
 use Rattle.mt_interior.specs.Places.{place_of}
-use Rattle.mt_rows.specs.Rows.{Bytes, Columns}
+use Rattle.mt_rows.specs.{Rows.Bytes, Stamps.Stamped}
 use Rattle.mt_border.specs.{declared.entry.Find.Find, declared.entry.FoundKind.TheVariants.{ThisKey, OtherLong, Link as ToTree}, Slots.held_in}
 use Rattle.mt_arena.specs.{declared.tree.Standing.Standing, declared.tree.Standing.TheVariants.{Made, Live, Dead}, NodeView.{NodeView, place_at}}
 use Rattle.mt_arena.specs.{Forests.tree_at, Arena.{ArenaView, IsArena}, Accesses.at}
@@ -208,13 +208,13 @@ module _ (v : ArenaView) (w : Walk) (past : Past) (key : Bytes) (phase : w.phase
     | inr d ↦ inr (d.free, is)
   ]
 
-  taken_tree : (taken : Taken) (right t : ℕ) (row : Option Columns) → TakesOut n w row taken right → IsShownAt n w.slot → StandsHere v w → taken ≡ takens.Link t → LeadsIn n w.slot t
+  taken_tree : (taken : Taken) (right t : ℕ) (row : Option Stamped) → TakesOut n w row taken right → IsShownAt n w.slot → StandsHere v w → taken ≡ takens.Link t → LeadsIn n w.slot t
   taken_tree takens.Missing right t row takes shown stands is = absurd takes
   taken_tree takens.Row right t row takes shown stands is = absurd (cc)
   taken_tree (takens.Link u) right t row takes shown stands is = leads_there t shown (takes.0 ∙ ap (λ (x : Taken). helds.Link (link_of x)) is) stands
   taken_tree takens.Nothing right t row takes shown stands is = absurd (cc)
 
-  pub learns_load : (after : Walk) (row : Option Columns) → Loads n w after row → Learns v w after
+  pub learns_load : (after : Walk) (row : Option Stamped) → Loads n w after row → Learns v w after
   learns_load after row l = subst (λ (x : Walk). Learns v w x) (sym l.is) (record {
     nodes = λ k r. inr (inl (subst (λ p. RemembersNode p w k) (sym phase) r));
     trees = λ t r. elim r [

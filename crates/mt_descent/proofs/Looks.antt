@@ -3,10 +3,10 @@ use Rattle.std.proofs.{Common.{◌≡◌, ◌≢◌, ℕ, ◌+◌, ◌≤◌, ma
 use Rattle.std.proofs.Math.Nat.{le-max_left, le-max_right, max-le}
 use Rattle.std.specs.{Prelude.IsSomeAnd, FinMap.get}
 use Rattle.mt_slices.specs.Slices.{slice_of, mark_of, suffix_of}
-use Rattle.mt_rows.specs.Rows.{Bytes, Columns}
+use Rattle.mt_rows.specs.{Rows.Bytes, Stamps.Stamped}
 use Rattle.mt_border.specs.{declared.entry.Entry.Entry, Held.{Pair, Held}, declared.entry.FoundKind.FoundKind}
 use Rattle.mt_border.specs.{declared.entry.FoundKind.TheVariants.{ThisKey, OtherLong, Link as ToTree}, declared.entry.Find.Find}
-use Rattle.mt_border.specs.{Node.{Node as BorderNode, IsFound, Finds}, Entry.{IsKind, IsLink, pair_of}, Entries.IsMissing, Contents.owned}
+use Rattle.mt_border.specs.{Node.{Node as BorderNode, IsFound, Finds}, Entry.{IsKind, IsLink, pair_of}, Entries.IsMissing, Contents.{owned, row_of}}
 use Rattle.mt_border.specs.Slots.{held_in}
 use Rattle.mt_arena.specs.{NodeFacts.IsUnstable, NodeView.{NodeView, place_at, border_view}, Forests.tree_at, Layers.slot_at, Arena.{ArenaView, IsArena, content_of}, Accesses.at}
 use Rattle.mt_arena.specs.{Stands.StandsAt, Ways.{BelongsIn, StandsFor}}
@@ -57,7 +57,7 @@ module _ (v : ArenaView) (key : Bytes) (w : Walk) (arena : IsArena v.nodes v.tre
     mark_is = f.mark_is;
   }
 
-  had_now : (past : Past) (step : ℕ) (row : Option Columns) → IsNow past step v → w.first ≤ step → get (content_of v) (owned key) ≡ row
+  had_now : (past : Past) (step : ℕ) (row : Option Stamped) → IsNow past step v → w.first ≤ step → get (content_of v) (owned key) ≡ row
       → Had past w.first step key row
   had_now past step row now since is = record { since = since; made = now.made; had = ap (λ m. get m (owned key)) now.contents ∙ is }
 
@@ -109,7 +109,7 @@ module _ (v : ArenaView) (key : Bytes) (w : Walk) (arena : IsArena v.nodes v.tre
 
   -- a row that has stood since its stamp was there at the first step, or at the one that placed it
   had_since : (past : Past) (pair : Pair) → AreStamped past v → w.first ≤ past.steps → (slot_at m (place_at m slot)).held ≡ helds.Stable pair
-      → Had past w.first (max w.first pair.stamp) key (Some pair.row)
+      → Had past w.first (max w.first pair.stamp) key (Some (row_of pair))
   had_since past pair stamped since is =
       let stood = stamped key w.layer w.place.node (place_at m slot) pair (stands_for pair is) in
       record {
@@ -134,7 +134,7 @@ module _ (v : ArenaView) (key : Bytes) (w : Walk) (arena : IsArena v.nodes v.tre
   }
 
   -- a walk that has searched, by what was found
-  pub kept_searched : (past : Past) (row : Option Columns) (step : ℕ) (f : Find) → AreStamped past v → IsNow past step v → w.first ≤ step → FindsIn (at v w.place.node) key w.layer f
+  pub kept_searched : (past : Past) (row : Option Stamped) (step : ℕ) (f : Find) → AreStamped past v → IsNow past step v → w.first ≤ step → FindsIn (at v w.place.node) key w.layer f
       → IsKept v past key row (after_search f w step)
   kept_searched past row step finds.Missing stamped now since missing = record {
     at_border = record { through = h.through; covers = h.covers; border = h.border };
@@ -181,11 +181,11 @@ module _ (v : ArenaView) (past : Past) (key : Bytes) (w : Walk) (h : IsAtLoad v 
   at_border = record { through = h.at_border.through; covers = h.at_border.covers; border = h.at_border.border }
 
   -- a walk that has loaded, by what was taken
-  pub kept_loaded : (row : Option Columns) (right : ℕ) (taken : Taken) → TakesOut (at v w.place.node) w row taken right → IsKept v past key row (after_load w taken right)
+  pub kept_loaded : (row : Option Stamped) (right : ℕ) (taken : Taken) → TakesOut (at v w.place.node) w row taken right → IsKept v past key row (after_load w taken right)
   kept_loaded row right takens.Missing t = absurd t
   kept_loaded row right takens.Row t = record {
     at_border = record { through = at_border.through; covers = at_border.covers; border = at_border.border };
-    taken = λ stands. (t.0.row, t.2, rw (t.2, t.3) (loaded (helds.Stable t.0) t.1 (λ unstable. unstable) stands));
+    taken = λ stands. (row_of t.0, t.2, rw (t.2, t.3) (loaded (helds.Stable t.0) t.1 (λ unstable. unstable) stands));
   }
   kept_loaded row right (takens.Link u) t = record {
     at_border = record { through = at_border.through; covers = at_border.covers; border = at_border.border };
@@ -200,5 +200,5 @@ module _ (v : ArenaView) (past : Past) (key : Bytes) (w : Walk) (h : IsAtLoad v 
   }
 
 -- the same, from what the load tells
-pub kept_loads : (v : ArenaView) (key : Bytes) (w after : Walk) (past : Past) (row : Option Columns) → IsAtLoad v past key w → Loads (at v w.place.node) w after row → IsKept v past key row after
+pub kept_loads : (v : ArenaView) (key : Bytes) (w after : Walk) (past : Past) (row : Option Stamped) → IsAtLoad v past key w → Loads (at v w.place.node) w after row → IsKept v past key row after
 kept_loads v key w after past row h l = subst (λ (x : Walk). IsKept v past key row x) (sym l.is) (kept_loaded v past key w h l.shown row after.right_at after.taken l.takes)

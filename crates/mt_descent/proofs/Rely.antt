@@ -3,8 +3,8 @@ use Rattle.std.{proofs.Common.{◌≡◌, ◌≢◌, ℕ, ◌+◌, ◌<◌, ◌�
 use Rattle.mt_version.specs.{Parts.Parts, Changes.{IsStable, range_age}}
 use Rattle.mt_interior.specs.Fences.{end_of}
 use Rattle.mt_slices.specs.Slices.{suffix_of}
-use Rattle.mt_rows.specs.Rows.{Bytes, Columns}
-use Rattle.mt_border.specs.{Contents.{IsOfTree, owned}, declared.entry.Entry.Entry, declared.entry.FoundKind.FoundKind, Entry.{IsKind, IsLink, CanHold, pair_of}, Entries.IsBorder}
+use Rattle.mt_rows.specs.{Rows.Bytes, Stamps.Stamped}
+use Rattle.mt_border.specs.{Contents.{IsOfTree, owned, row_of}, declared.entry.Entry.Entry, declared.entry.FoundKind.FoundKind, Entry.{IsKind, IsLink, CanHold, pair_of}, Entries.IsBorder}
 use Rattle.mt_border.{specs.{declared.entry.FoundKind.TheVariants.{ThisKey, OtherLong, Link as ToTree}, Held.Held, Slots.held_in, Keeps.{GoesOn, KeepsEntry}}, proofs.Edits.any_entry}
 use Rattle.mt_arena.specs.{declared.tree.Tree.Tree, declared.tree.Standing.Standing, declared.tree.Standing.TheVariants.{Made, Live, Dead}, NodeView.{NodeView, place_at}}
 use Rattle.mt_arena.specs.{Forests.tree_at, Layers.slot_at, Arena.ArenaView, Accesses.at, Guarantee.{NodesGuarantee, Changes, TreeChanges, HasSameKeys}}
@@ -192,11 +192,11 @@ module _ (op : ℕ) (old new : ArenaView) (e : NodesGuarantee op old.nodes new.n
     border = (e.nodes w.place.node h.covers.remembered.there).level ∙ h.border;
   }
 
-  had_stays : (before after : Past) (first step : ℕ) (key : Bytes) (row : Option Columns) → ExtendsPast first before after
+  had_stays : (before after : Past) (first step : ℕ) (key : Bytes) (row : Option Stamped) → ExtendsPast first before after
       → Had before first step key row → Had after first step key row
   had_stays before after first step key row g h = record { since = h.since; made = omega (arith, h.made, g.steps); had = ap (λ m. get m (owned key)) (g.same step h.since h.made) ∙ h.had }
 
-  taken_stays : (before after : Past) (key : Bytes) (row : Option Columns) (w : Walk) (taken : Taken) → ExtendsPast w.first before after
+  taken_stays : (before after : Past) (key : Bytes) (row : Option Stamped) (w : Walk) (taken : Taken) → ExtendsPast w.first before after
       → w.place.node < length old.nodes → WasSeen (at old w.place.node) w.place.seen → TakenHolds old before key row w taken
       → TakenHolds new after key row w taken
   taken_stays before after key row w Missing g within was h =
@@ -227,7 +227,7 @@ module _ (op : ℕ) (old new : ArenaView) (e : NodesGuarantee op old.nodes new.n
   -- what is of the key stays so
   of_key_stays : (before after : Past) (key : Bytes) (first layer : ℕ) (held : Held) → ExtendsPast first before after → IsOfKey old before key first layer held
       → IsOfKey new after key first layer held
-  of_key_stays before after key first layer (helds.Stable pair) g h = had_stays before after first (max first pair.stamp) key (Some pair.row) g h
+  of_key_stays before after key first layer (helds.Stable pair) g h = had_stays before after first (max first pair.stamp) key (Some (row_of pair)) g h
   of_key_stays before after key first layer (helds.Unstable pair tree) g h = h
   of_key_stays before after key first layer (helds.Link u) g h = through_stays u (layer + 1) key h
 
@@ -271,7 +271,7 @@ module _ (op : ℕ) (old new : ArenaView) (e : NodesGuarantee op old.nodes new.n
             ];
       }
 
-  answered_stays : (before after : Past) (key : Bytes) (row : Option Columns) (w : Walk) (taken : Taken) → ExtendsPast w.first before after
+  answered_stays : (before after : Past) (key : Bytes) (row : Option Stamped) (w : Walk) (taken : Taken) → ExtendsPast w.first before after
       → TakenWasRight before key row w taken → TakenWasRight after key row w taken
   answered_stays before after key row w Missing g h = had_stays before after w.first w.right_at key None g h
   answered_stays before after key row w Row g h = (h.0, h.1, had_stays before after w.first w.right_at key row g h.2)
@@ -279,7 +279,7 @@ module _ (op : ℕ) (old new : ArenaView) (e : NodesGuarantee op old.nodes new.n
   answered_stays before after key row w Nothing g h = absurd h
 
   -- the rely: what a walk keeps at its phase
-  pub kept_stays : (before after : Past) (key : Bytes) (row : Option Columns) (w : Walk) (phase : Phase) → ExtendsPast w.first before after
+  pub kept_stays : (before after : Past) (key : Bytes) (row : Option Stamped) (w : Walk) (phase : Phase) → ExtendsPast w.first before after
       → (phase ≡ Load → KeepsRows old new after) → KeptAt phase old before key row w → KeptAt phase new after key row w
   kept_stays before after key row w Enter g rows h = through_stays w.place.tree w.layer key h
   kept_stays before after key row w Pick g rows h = pick_stays key w h

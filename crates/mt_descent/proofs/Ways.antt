@@ -6,7 +6,7 @@ use Rattle.mt_version.specs.{Parts.Parts, Changes.{IsStable, SameButLock}}
 use Rattle.mt_interior.specs.{Node.InteriorNode, Places.place_of, Fences.{end_of, IsWithinBounds}}
 use Rattle.mt_interior.proofs.{PlaceLemmas.{place_of-parts, between-place}, CallerLemmas.place_of-le-length}
 use Rattle.mt_slices.{proofs.{Bytes.{AreBytes, bytes-drop}, Numbers.{slice_at-number, number_lt}}, specs.Slices.{slice_at, slice_of, rest_of}}
-use Rattle.mt_rows.specs.Rows.{Bytes, Columns}
+use Rattle.mt_rows.specs.{Rows.Bytes, Stamps.Stamped}
 use Rattle.mt_arena.specs.{declared.tree.Standing.Standing, declared.tree.Standing.TheVariants.{Made, Live, Dead}, NodeView.NodeView}
 use Rattle.mt_arena.specs.{Nodes.{IsNode, IsChild, bounds}, Forests.tree_at, Arena.{ArenaView, IsArena}, Accesses.at}
 use Rattle.mt_operation.specs.{declared.walk.Aim.Aim, declared.walk.Walk.Walk, declared.phase.Phase.TheVariants.Forward}
@@ -44,7 +44,7 @@ live_tree v t layer k key arena through within is live = by (tree_at v.trees t).
     by Dead e = absurd ((arena.forest.homes k t within through.there).standing is live e)
 
 -- a walk at a node of either kind
-arrived_by : (v : ArenaView) (past : Past) (key : Bytes) (row : Option Columns) (w : Walk) (border : Bool) (aim : Aim)
+arrived_by : (v : ArenaView) (past : Past) (key : Bytes) (row : Option Stamped) (w : Walk) (border : Bool) (aim : Aim)
     → (border ≡ true → IsAtBorder v key w) → (border ≡ false → IsAtPick v key w) → KeptAt (arrival_at border aim) v past key row w
 arrived_by v past key row w true aims.Read f g = f refl
 arrived_by v past key row w true aims.Write f g = f refl
@@ -52,7 +52,7 @@ arrived_by v past key row w true aims.Scan f g = f refl
 arrived_by v past key row w false aim f g = g refl
 
 -- a walk that comes to a node which covers the slice keeps what its next phase asks, by the node's kind
-pub arrived : (v : ArenaView) (past : Past) (key : Bytes) (row : Option Columns) (w : Walk) (k : ℕ) (seen : Parts) → IsArena v.nodes v.trees
+pub arrived : (v : ArenaView) (past : Past) (key : Bytes) (row : Option Stamped) (w : Walk) (k : ℕ) (seen : Parts) → IsArena v.nodes v.trees
     → GoesThrough v w.place.tree w.layer key → Covers v w.place.tree k seen (slice_in key w) → IsKept v past key row (walk_onto w k seen)
 arrived v past key row w k seen arena through covers =
     let node = arena.nodes.each k covers.remembered.there in
@@ -86,7 +86,7 @@ covers_root v t layer key arena through undead stable =
     }
 
 -- a walk that comes to the root of a tree
-pub kept_entered : (v : ArenaView) (past : Past) (key : Bytes) (row : Option Columns) (w : Walk) → IsArena v.nodes v.trees
+pub kept_entered : (v : ArenaView) (past : Past) (key : Bytes) (row : Option Stamped) (w : Walk) → IsArena v.nodes v.trees
     → GoesThrough v w.place.tree w.layer key → (tree_at v.trees w.place.tree).standing ≢ Dead
     → IsStable (at v (tree_at v.trees w.place.tree).root).version
     → IsKept v past key row (walk_onto w (tree_at v.trees w.place.tree).root (at v (tree_at v.trees w.place.tree).root).version)
@@ -154,7 +154,7 @@ covers_child v key w arena h stands =
     was_live false b stays live = refl
 
 -- a walk that goes on at the child
-pub kept_verified : (v : ArenaView) (past : Past) (key : Bytes) (row : Option Columns) (w : Walk) → IsArena v.nodes v.trees → IsAtVerify v key w
+pub kept_verified : (v : ArenaView) (past : Past) (key : Bytes) (row : Option Stamped) (w : Walk) → IsArena v.nodes v.trees → IsAtVerify v key w
     → SameButLock (at v w.place.node).version w.place.seen → IsKept v past key row (walk_onto w w.child w.child_seen)
 kept_verified v past key row w arena h same =
     arrived v past key row w w.child w.child_seen arena h.above.through
@@ -208,26 +208,26 @@ covers_here v key w h before = record {
     by None e stands = omega (arith, slice_of_lt key w.layer h.through.of_tree.stored.are_bytes, h.next.last e stands)
     by (Some j) e stands = omega (arith, before j e, h.next.meets j e stands)
 
-arrives : (v : ArenaView) (past : Past) (key : Bytes) (row : Option Columns) (w : Walk) (aim : Aim) → IsAtBorder v key w
+arrives : (v : ArenaView) (past : Past) (key : Bytes) (row : Option Stamped) (w : Walk) (aim : Aim) → IsAtBorder v key w
     → KeptAt (arrival aim) v past key row w
 arrives v past key row w aims.Read h = h
 arrives v past key row w aims.Write h = h
 arrives v past key row w aims.Scan h = h
 
 -- a walk that stays at its border node, since the slice lies before the next one
-pub kept_here : (v : ArenaView) (past : Past) (key : Bytes) (row : Option Columns) (w : Walk) → IsAtForward v key w
+pub kept_here : (v : ArenaView) (past : Past) (key : Bytes) (row : Option Stamped) (w : Walk) → IsAtForward v key w
     → ((j : ℕ) → w.next ≡ Some j → slice_in key w < (at v j).low) → IsKept v past key row (walk_here w)
 kept_here v past key row w h before =
     let b = covers_here v key w h before in
     arrives v past key row (walk_here w) w.aim record { through = b.through; covers = b.covers; border = b.border }
 
 -- or since there is no next one
-pub kept_last : (v : ArenaView) (past : Past) (key : Bytes) (row : Option Columns) (w : Walk) → IsAtForward v key w → w.next ≡ None
+pub kept_last : (v : ArenaView) (past : Past) (key : Bytes) (row : Option Stamped) (w : Walk) → IsAtForward v key w → w.next ≡ None
     → IsKept v past key row (walk_here w)
 kept_last v past key row w h none = kept_here v past key row w h (λ j is. absurd (let both = sym none ∙ is in cc))
 
 -- a walk that has read the next node, which is unmarked: anew, there, or here
-pub kept_forwarded : (v : ArenaView) (past : Past) (key : Bytes) (row : Option Columns) (w : Walk) (j : ℕ) → IsArena v.nodes v.trees
+pub kept_forwarded : (v : ArenaView) (past : Past) (key : Bytes) (row : Option Stamped) (w : Walk) (j : ℕ) → IsArena v.nodes v.trees
     → IsAtForward v key w → w.next ≡ Some j → IsStable (at v j).version → IsKept v past key row (after_forward w (slice_in key w) j (at v j))
 kept_forwarded v past key row w j arena h is stable = by (at v j).version.deleted refl
   where
@@ -243,7 +243,7 @@ kept_forwarded v past key row w j arena h is stable = by (at v j).version.delete
     by false e = to (nat_le (at v j).low (slice_in key w)) refl e
 
 -- a walk whose border node has changed, and is unmarked: anew, or to the next one
-pub kept_moved_on : (v : ArenaView) (past : Past) (key : Bytes) (row : Option Columns) (w : Walk) → IsArena v.nodes v.trees → IsAtBorder v key w
+pub kept_moved_on : (v : ArenaView) (past : Past) (key : Bytes) (row : Option Stamped) (w : Walk) → IsArena v.nodes v.trees → IsAtBorder v key w
     → IsStable (at v w.place.node).version → IsKept v past key row (after_change w (at v w.place.node).version (at v w.place.node).next)
 kept_moved_on v past key row w arena h stable = by (at v w.place.node).version.deleted refl
   where

@@ -3,9 +3,9 @@
 use Rattle.std.specs.{Prelude.{◌≡◌, ◌≢◌, ◌⊎◌, ◌<◌, ◌≤◌, ◌*◌, ◌+◌, ℕ, max, true, length, Option, Some, None}, FinMap.get}
 use Rattle.mt_version.specs.Changes.{IsStable}
 use Rattle.mt_slices.specs.Slices.{slice_of, mark_of, suffix_of}
-use Rattle.mt_rows.specs.Rows.{Bytes, Columns}
+use Rattle.mt_rows.specs.{Rows.Bytes, Stamps.Stamped}
 use Rattle.mt_border.specs.{Held.Held, Slots.{held_in, is_dropped}}
-use Rattle.mt_border.specs.{declared.entry.FoundKind.FoundKind, declared.entry.FoundKind.TheVariants.OtherLong, Entry.IsKind, Contents.{IsOfTree, owned}}
+use Rattle.mt_border.specs.{declared.entry.FoundKind.FoundKind, declared.entry.FoundKind.TheVariants.OtherLong, Entry.IsKind, Contents.{IsOfTree, owned, row_of}}
 use Rattle.mt_arena.specs.{declared.tree.Standing.TheVariants.Made, NodeFacts.IsUnstable, NodeView.{NodeView, place_at}, Forests.tree_at, Layers.slot_at, Arena.ArenaView}
 use Rattle.mt_arena.specs.Accesses.{at, IsHeld}
 use Rattle.mt_operation.specs.declared.phase.Phase.{Phase}
@@ -75,7 +75,7 @@ pub record HasSlot (n : NodeView) (slot : ℕ) (key : Bytes) (layer : ℕ) : Typ
   pub leads : kind ≢ OtherLong
 
 -- the contents after the step of this number, which is the operation's first one or a later one, had this for the key
-pub record Had (past : Past) (first step : ℕ) (key : Bytes) (row : Option Columns) : Type 0 where
+pub record Had (past : Past) (first step : ℕ) (key : Bytes) (row : Option Stamped) : Type 0 where
   pub since : first ≤ step
   pub made : step ≤ past.steps
   pub had : get (past.contents step) (owned key) ≡ row
@@ -83,7 +83,7 @@ pub record Had (past : Past) (first step : ℕ) (key : Bytes) (row : Option Colu
 -- What is held is of the key, by the first step and the layer of its walk: a row that was the key's at the first step or the later one that placed it, or
 -- a link to a tree through which the key goes.
 abbrev pub IsOfKey : ArenaView → Past → Bytes → ℕ → ℕ → Held → Type 0
-IsOfKey v past key first layer (helds.Stable pair) = Had past first (max first pair.stamp) key (Some pair.row)
+IsOfKey v past key first layer (helds.Stable pair) = Had past first (max first pair.stamp) key (Some (row_of pair))
 IsOfKey v past key first layer (helds.Unstable pair tree) = ⊥
 IsOfKey v past key first layer (helds.Link u) = GoesThrough v u (layer + 1) key
 
@@ -106,14 +106,14 @@ pub record IsAtLoad (v : ArenaView) (past : Past) (key : Bytes) (w : Walk) : Typ
   pub found : Stands (at v w.place.node) w.place.seen → StillHas v past key w ⊎ WasDropped v past key w
 
 -- what was taken is right: that the key is missing as long as the range stands, a row or a link as long as the version does
-abbrev pub TakenHolds : ArenaView → Past → Bytes → Option Columns → Walk → Taken → Type 0
+abbrev pub TakenHolds : ArenaView → Past → Bytes → Option Stamped → Walk → Taken → Type 0
 TakenHolds v past key row w Missing = RangeStands (at v w.place.node) w.place.seen → Had past w.first w.right_at key None
-TakenHolds v past key row w Row = Stands (at v w.place.node) w.place.seen → (columns : Columns) × (row ≡ Some columns) × Had past w.first w.right_at key row
+TakenHolds v past key row w Row = Stands (at v w.place.node) w.place.seen → (had : Stamped) × (row ≡ Some had) × Had past w.first w.right_at key row
 TakenHolds v past key row w (Link u) = Stands (at v w.place.node) w.place.seen → GoesThrough v u (w.layer + 1) key
 TakenHolds v past key row w Nothing = Stands (at v w.place.node) w.place.seen → ⊥
 
 -- at Confirm
-pub record IsAtConfirm (v : ArenaView) (past : Past) (key : Bytes) (row : Option Columns) (w : Walk) : Type 0 where
+pub record IsAtConfirm (v : ArenaView) (past : Past) (key : Bytes) (row : Option Stamped) (w : Walk) : Type 0 where
   pub at_border : IsAtBorder v key w
   pub taken : TakenHolds v past key row w w.taken
 
@@ -125,9 +125,9 @@ pub record IsAtForward (v : ArenaView) (key : Bytes) (w : Walk) : Type 0 where
   pub next : HasNext v w.place.tree w.place.node w.place.seen w.next
 
 -- at Done: what was taken was right after the step that it names: a row, or that there is none
-abbrev pub TakenWasRight : Past → Bytes → Option Columns → Walk → Taken → Type 0
+abbrev pub TakenWasRight : Past → Bytes → Option Stamped → Walk → Taken → Type 0
 TakenWasRight past key row w Missing = Had past w.first w.right_at key None
-TakenWasRight past key row w Row = (columns : Columns) × (row ≡ Some columns) × Had past w.first w.right_at key row
+TakenWasRight past key row w Row = (had : Stamped) × (row ≡ Some had) × Had past w.first w.right_at key row
 TakenWasRight past key row w (Link u) = ⊥
 TakenWasRight past key row w Nothing = ⊥
 
@@ -140,7 +140,7 @@ pub record IsAtJudge (v : ArenaView) (op : ℕ) (key : Bytes) (w : Walk) : Type 
 
 -- What is kept at a phase of an operation that holds nothing. What is kept at the others stands elsewhere, since it names the operation: at Judge
 -- it is `IsAtJudge`; and so does what a scan keeps of what it has read.
-abbrev pub KeptAt : Phase → ArenaView → Past → Bytes → Option Columns → Walk → Type 0
+abbrev pub KeptAt : Phase → ArenaView → Past → Bytes → Option Stamped → Walk → Type 0
 KeptAt Enter v past key row w = IsAtEnter v key w
 KeptAt Pick v past key row w = IsAtPick v key w
 KeptAt Child v past key row w = IsAtChild v key w
@@ -156,5 +156,5 @@ KeptAt Done v past key row w = TakenWasRight past key row w w.taken
 KeptAt _ v past key row w = Unit {0}
 
 -- what is kept of a walk by its next phase
-abbrev pub IsKept : ArenaView → Past → Bytes → Option Columns → Walk → Type 0
+abbrev pub IsKept : ArenaView → Past → Bytes → Option Stamped → Walk → Type 0
 IsKept v past key row w = KeptAt w.phase v past key row w

@@ -2,8 +2,8 @@
 use Rattle.std.specs.Prelude.{◌≡◌, ◌+◌, ◌<◌, ℕ, max, Bool, length, if◌then◌else◌, nat_le, Option, Some, None}
 use Rattle.mt_version.specs.{Parts.Parts, Changes.{IsMarked, IsStable, SameButLock}}
 use Rattle.mt_slices.specs.Slices.{slice_of, mark_of}
-use Rattle.mt_rows.specs.Rows.{Bytes, Columns}
-use Rattle.mt_border.specs.{Held.Pair, Slots.held_in, declared.entry.Find.Find, declared.entry.FoundKind.TheVariants.OtherLong, Entries.IsMissing}
+use Rattle.mt_rows.specs.{Rows.Bytes, Stamps.Stamped}
+use Rattle.mt_border.specs.{Held.Pair, Contents.row_of, Slots.held_in, declared.entry.Find.Find, declared.entry.FoundKind.TheVariants.OtherLong, Entries.IsMissing}
 use Rattle.mt_arena.specs.{declared.tree.Standing.Standing, declared.tree.Standing.TheVariants.Dead, NodeView.{NodeView, place_at}, NodeFacts.IsUnstable}
 use Rattle.mt_arena.specs.{Layers.slot_at, Edits.locked, Arena.{ArenaView, content_of, Guarantee}, Accesses.{at, with_node}, Settled.IsSettled}
 use Rattle.mt_operation.specs.{declared.walk.Aim.Aim, declared.phase.Phase.Phase}
@@ -99,9 +99,9 @@ after_search (finds.Slot slot _) w step = record w { slot = slot; right_at = ste
 
 -- What a load takes out of the walk's slot, live or not, the row that it answers, and the step after which that is right: a row at the first step or
 -- the later one that placed it; the tree of a link, or nothing of a slot that is free and unstable, at the step of the search.
-abbrev pub TakesOut : NodeView → Walk → Option Columns → Taken → ℕ → Type 0
+abbrev pub TakesOut : NodeView → Walk → Option Stamped → Taken → ℕ → Type 0
 TakesOut n w row Missing at = ⊥
-TakesOut n w row Row at = (pair : Pair) × (held_in n.cells.helds w.slot ≡ helds.Stable pair) × (row ≡ Some pair.row) × (at ≡ max w.first pair.stamp)
+TakesOut n w row Row at = (pair : Pair) × (held_in n.cells.helds w.slot ≡ helds.Stable pair) × (row ≡ Some (row_of pair)) × (at ≡ max w.first pair.stamp)
 TakesOut n w row (Link u) at = (held_in n.cells.helds w.slot ≡ helds.Link u) × (row ≡ None) × (at ≡ w.right_at)
 TakesOut n w row Nothing at = ¬ (place_at n w.slot < length n.slots) × IsUnstable (held_in n.cells.helds w.slot) × (row ≡ None) × (at ≡ w.right_at)
 
@@ -114,7 +114,7 @@ abbrev pub after_load : Walk → Taken → ℕ → Walk
 after_load w taken at = record w { taken = taken; right_at = at; phase = Confirm }
 
 -- a load of the walk's slot, and the row that it answers
-pub record Loads (n : NodeView) (before after : Walk) (row : Option Columns) : Type 0 where
+pub record Loads (n : NodeView) (before after : Walk) (row : Option Stamped) : Type 0 where
   pub takes : TakesOut n before row after.taken after.right_at
   pub shown : IsShownAt n before.slot
   pub is : after ≡ after_load before after.taken after.right_at
@@ -158,6 +158,6 @@ pub record IsLock (op : ℕ) (key : Bytes) (old new : ArenaView) (before after :
   pub free : (at old before.place.node).holder ≡ None
   pub locks : Locks op old new before after
   pub keeps : KeepsPairs op old new before after
-  pub kept : (past : Past) (row : Option Columns) → IsKept new past key row after
+  pub kept : (past : Past) (row : Option Stamped) → IsKept new past key row after
   pub judged : after.phase ≡ Judge → IsAtJudge new op key after
   pub settled : after.phase ≡ Judge → IsSettled new.nodes before.place.node (at new before.place.node)

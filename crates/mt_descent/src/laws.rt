@@ -3,7 +3,7 @@
 ghost use Rattle.std.specs.Prelude.{ℕ, ◌≡◌, ◌≢◌, ◌<◌, ◌+◌, ◌++◌, List, ◌∷◌, Option, Some, length};
 ghost use Rattle.mt_version.specs.Parts.{Parts};
 ghost use Rattle.mt_slices.specs.Keys.{IsStoredKey};
-ghost use Rattle.mt_rows.specs.Rows.{Bytes, Columns};
+ghost use Rattle.mt_rows.specs.{Rows.Bytes, Stamps.Stamped};
 ghost use Rattle.mt_border.specs.declared.entry.Find.{Find};
 ghost use Rattle.mt_arena.specs.{Arena.{ArenaView, IsArena}, Ways.BelongsIn, Accesses.{at, IsOpen}, Guarantee.{NodesGuarantee, LoseHeld}};
 ghost use Rattle.mt_arena.specs.{declared.retired.Retired.Retired, declared.tree.Standing.TheVariants.Live, Forests.tree_at, Idle.AreRetired, Given.{step_of_idle, IsNodeOutFrom, IsTreeOutFrom, IsNamedLate}};
@@ -17,7 +17,7 @@ ghost use Rattle.mt_descent.specs.{Remembered.{RemembersNode, IsGivenElsewhere, 
 
 /// A stored key may be looked for from the top tree on.
 pub fn walks_begin()
-    ensures { (v : ArenaView) (past : Past) (key : Bytes) (row : Option Columns) (aim : Aim) (first : ℕ) → IsArena v.nodes v.trees → IsStoredKey key →
+    ensures { (v : ArenaView) (past : Past) (key : Bytes) (row : Option Stamped) (aim : Aim) (first : ℕ) → IsArena v.nodes v.trees → IsStoredKey key →
         IsKept v past key row (walk_from_top aim first) }
 {}
 
@@ -25,7 +25,7 @@ pub fn walks_begin()
 /// operation: what counts is what the step leaves to others, and that the past stands from the
 /// operation's first step on. A row that it may load later has stood since its stamp.
 pub fn kept_stays()
-    ensures { (op : ℕ) (old new : ArenaView) (before after : Past) (key : Bytes) (row : Option Columns) (w : Walk) →
+    ensures { (op : ℕ) (old new : ArenaView) (before after : Past) (key : Bytes) (row : Option Stamped) (w : Walk) →
         NodesGuarantee op old.nodes new.nodes old.trees new.trees → KeepsRows old new after → ExtendsPast w.first before after →
         IsKept old before key row w → IsKept new after key row w }
 {}
@@ -56,9 +56,9 @@ pub fn holders()
 /// Whatever an operation that holds nothing keeps at its phase, it keeps if places are given out that it
 /// does not remember, and through the step of any operation after that.
 pub fn kept_stays_where_others_are_given_out()
-    ensures given { (old mid : ArenaView) (past : Past) (key : Bytes) (row : Option Columns) (w : Walk) →
+    ensures given { (old mid : ArenaView) (past : Past) (key : Bytes) (row : Option Stamped) (w : Walk) →
         IsGivenElsewhere old mid w.phase w → IsKept old past key row w → IsKept mid past key row w }
-    ensures step { (op : ℕ) (old mid new : ArenaView) (before after : Past) (key : Bytes) (row : Option Columns) (w : Walk) →
+    ensures step { (op : ℕ) (old mid new : ArenaView) (before after : Past) (key : Bytes) (row : Option Stamped) (w : Walk) →
         IsGivenElsewhere old mid w.phase w → NodesGuarantee op mid.nodes new.nodes mid.trees new.trees → KeepsRows mid new after →
         ExtendsPast w.first before after → IsKept old before key row w → IsKept new after key row w }
 {}
@@ -73,7 +73,7 @@ pub fn a_look_learns_what_is_named()
     ensures verify { (v : ArenaView) (before after : Walk) → before.phase ≡ Verify → Verifies (at v before.place.node) before after → Learns v before after }
     ensures search { (v : ArenaView) (w : Walk) (key : Bytes) (found : Find) (step : ℕ) → w.phase ≡ Search → IsArena v.nodes v.trees → IsAtBorder v key w →
         FindsIn (at v w.place.node) key w.layer found → Learns v w (after_search found w step) }
-    ensures load { (v : ArenaView) (past : Past) (key : Bytes) (row : Option Columns) (before after : Walk) → before.phase ≡ Load → IsAtLoad v past key before →
+    ensures load { (v : ArenaView) (past : Past) (key : Bytes) (row : Option Stamped) (before after : Walk) → before.phase ≡ Load → IsAtLoad v past key before →
         Loads (at v before.place.node) before after row → Learns v before after }
     ensures confirm { (v : ArenaView) (key : Bytes) (before after : Walk) → before.phase ≡ Confirm → IsAtBorder v key before →
         Confirms (at v before.place.node) before after → Learns v before after }
@@ -100,7 +100,7 @@ pub fn remembered_places_are_kept_back()
     ensures lock { (birth op : ℕ) (old new : ArenaView) (before after : Walk) → IsArena old.nodes old.trees → AreRetired old.nodes old.trees old.retired →
         IsNamedLate old.nodes old.trees old.retired → before.phase ≡ Lock → Locks op old new before after →
         RemembersKept birth old before → RemembersKept birth new after }
-    ensures step { (op birth : ℕ) (old new : ArenaView) (past : Past) (key : Bytes) (row : Option Columns) (w : Walk) →
+    ensures step { (op birth : ℕ) (old new : ArenaView) (past : Past) (key : Bytes) (row : Option Stamped) (w : Walk) →
         NodesGuarantee op old.nodes new.nodes old.trees new.trees → LoseHeld old.nodes new.nodes → IsArena new.nodes new.trees →
         AreRetired new.nodes new.trees new.retired → RetiresAfter birth old.retired new.retired → IsKept old past key row w →
         RemembersKept birth old w → RemembersKept birth new w }
@@ -114,7 +114,7 @@ pub fn remembered_places_are_kept_back()
 pub fn no_remembered_place_is_given_out()
     ensures elsewhere { (birth : ℕ) (old mid : ArenaView) (w : Walk) → GivesOutBefore birth old mid → RemembersKept birth old w →
         IsGivenElsewhere old mid w.phase w }
-    ensures through { (op birth : ℕ) (old mid new : ArenaView) (before after : Past) (key : Bytes) (row : Option Columns) (w : Walk) →
+    ensures through { (op birth : ℕ) (old mid new : ArenaView) (before after : Past) (key : Bytes) (row : Option Stamped) (w : Walk) →
         GivesOutBefore birth old mid → RetiresAfter birth old.retired mid.retired → NodesGuarantee op mid.nodes new.nodes mid.trees new.trees →
         KeepsRows mid new after → AreRetired new.nodes new.trees new.retired → RetiresAfter birth mid.retired new.retired →
         ExtendsPast w.first before after → IsKept old before key row w → RemembersKept birth old w →

@@ -4,7 +4,7 @@ use Rattle.std.specs.{List.All, FinMap.get}
 use Rattle.mt_slices.specs.Slices.{slice_of, mark_of, suffix_of}
 use Rattle.mt_rows.specs.Rows.{Bytes}
 use Rattle.mt_border.specs.{Slots.Slotted, declared.entry.Entry.Entry, Held.Pair, Held.{Stable, Link}}
-use Rattle.mt_border.specs.{declared.entry.FoundKind.TheVariants.{ThisKey, Link as ToTree}, Entry.pair_of, Entries.IsMissing, Contents.owned}
+use Rattle.mt_border.specs.{declared.entry.FoundKind.TheVariants.{ThisKey, Link as ToTree}, Entry.pair_of, Entries.IsMissing, Contents.{owned, row_of}}
 use Rattle.mt_border.proofs.ContentsKeys.{by_equation}
 use Rattle.mt_arena.specs.{NodeView.{NodeView, place_at}, NodeFacts.IsUnstable, Forests.{tree_at, layer_of}, Layers.slot_at, Ways.{BelongsIn, StandsFor, GoesOn}}
 use Rattle.mt_arena.specs.{Edits.with_slots, Arena.{ArenaView, IsArena, content_of}, Accesses.{at, tree_of, IsOpen, with_node, MayChange}}
@@ -51,9 +51,9 @@ module _ {marked : Bool} (v : ArenaView) (op : ℕ) (key : Bytes) (w : Walk) (ar
         pair_is = ap pair_of is;
       }
 
-  -- the contents have its row
+  -- the contents have its row with its stamp
   pub row_here : (slot : ℕ) (pair : Pair) → IsInSlot n slot key w.layer ThisKey → (slot_at n (place_at n slot)).held ≡ Stable pair
-      → get (content_of v) (owned key) ≡ Some pair.row
+      → get (content_of v) (owned key) ≡ Some (row_of pair)
   row_here slot pair f is = found v.nodes v.trees arena (begun v.nodes v.trees arena.forest) key w.layer w.place.node (place_at n slot) pair (stands_here slot pair f is)
 
   -- and none, where the node misses the key

@@ -2,8 +2,8 @@
 use Rattle.std.proofs.Common.{◌≡◌, ◌≢◌, ℕ, ◌+◌, ◌<◌, ◌++◌, length, true, false, Some, None, refl, sym, ap, subst, ◌∙◌, inl, inr, arith}
 use Rattle.std.specs.List.{remove}
 use Rattle.mt_slices.specs.{Slices.piece_bytes, declared.mark.Mark.TheVariants.Long}
-use Rattle.mt_rows.specs.Rows.{Bytes, Columns}
-use Rattle.mt_border.specs.{Held.Held, Held.{Pair, Stable, Unstable}, Contents.{HasKey, IsOfTree}}
+use Rattle.mt_rows.specs.{Rows.Bytes, Stamps.Stamped}
+use Rattle.mt_border.specs.{Held.Held, Held.{Pair, Stable, Unstable}, Contents.{HasKey, IsOfTree, row_of}}
 use Rattle.mt_arena.specs.{declared.tree.Tree.Tree, declared.tree.Standing.TheVariants.{Made, Live, Dead}, NodeView.{NodeView, place_at}, Forests.{IsRoot, tree_at, layer_of}}
 use Rattle.mt_arena.specs.{Settled.IsSettled, Layers.{LeadsTo, slot_at}, Ways.IsMadeFor, Layering.{IsHeldSlot, IsLayerFor, IsLayerOf, IsSettledBut}}
 use Rattle.mt_arena.specs.{Arena.{ArenaView, Guarantee, IsArena}, Accesses.{at, tree_of}, Given.{GivesOut, GivesOutBeside}}
@@ -34,7 +34,7 @@ made_same o old new g t made = tree_same old new g t (made_there old.trees t o m
 
 module _ (o : ℕ) (old new : ArenaView) (g : GivesOutBeside o old new) (none : GivesNoneInto o old new) where
   -- the tree that the operation makes
-  module _ (t : ℕ) (key : Bytes) (row : Columns) (layer : IsLayerFor old t o key row) where
+  module _ (t : ℕ) (key : Bytes) (row : Stamped) (layer : IsLayerFor old t o key row) where
     abbrev r : ℕ
     r = (tree_at old.trees t).root
 
@@ -86,7 +86,7 @@ module _ (o : ℕ) (old new : ArenaView) (g : GivesOutBeside o old new) (none : 
       }
 
   -- and both
-  pub layer_of_given : (node i t : ℕ) (what : Held) (key : Bytes) (row : Columns) → IsLayerOf old node i t o what key row → IsLayerOf new node i t o what key row
+  pub layer_of_given : (node i t : ℕ) (what : Held) (key : Bytes) (row : Stamped) → IsLayerOf old node i t o what key row → IsLayerOf new node i t o what key row
   layer_of_given node i t what key row h =
       let held = h.slot.held in
       let same = sym (held_same old new g.gives node o held) in
@@ -116,16 +116,16 @@ module _ (o : ℕ) (old new : ArenaView) (g : GivesOutBeside o old new) (none : 
       let held = m.layer.slot.held in
       let same = held_same old new g.gives k o held in
       let place : walk_place old w ≡ walk_place new w = ap (λ (n : NodeView). place_at n w.slot) (sym same) in
-      let made = still t m.other pair.row m.layer.layer in
+      let made = still t m.other (row_of pair) m.layer.layer in
       record {
         taken = m.taken;
         other = m.other;
-        layer = subst (λ j. IsLayerOf new k j t o what m.other pair.row) place (layer_of_given k i t what m.other pair.row m.layer);
+        layer = subst (λ j. IsLayerOf new k j t o what m.other (row_of pair)) place (layer_of_given k i t what m.other (row_of pair) m.layer);
         settled = subst (IsSettledBut new.nodes k) place
             (subst (λ (n : NodeView). IsSettled new.nodes k (record n { slots = remove n.slots i })) (sym same)
             (settled_given old new g.gives k (record (at old k) { slots = remove (at old k).slots i }) m.settled));
         goes_on = below_given t w.layer key made m.goes_on;
-        first = ap (λ (u : Tree). (at new u.root).slots) made ∙ ap (λ (n : NodeView). n.slots) (root_same t m.other pair.row m.layer.layer) ∙ m.first;
+        first = ap (λ (u : Tree). (at new u.root).slots) made ∙ ap (λ (n : NodeView). n.slots) (root_same t m.other (row_of pair) m.layer.layer) ∙ m.first;
       }
 
   -- at Unlock: the link leads to a live tree

@@ -3,7 +3,7 @@ use Rattle.std.proofs.{Common.{◌≡◌, ◌≢◌, ℕ, ◌+◌, ◌<◌, leng
 use Rattle.std.proofs.lemmas.List.{length-set, get_or-set_same, get_or-set_other}
 use Rattle.mt_rows.specs.Rows.{Bytes}
 use Rattle.mt_border.specs.{Held.Pair, Held.Held, Held.{Stable, Unstable, Link}, Entry.pair_of}
-use Rattle.mt_border.specs.{Contents.IsOfTree, declared.entry.Entry.Entry}
+use Rattle.mt_border.specs.{Contents.{IsOfTree, row_of}, declared.entry.Entry.Entry}
 use Rattle.mt_border.proofs.Edits.{any_entry, replaced_at as set_at}
 use Rattle.mt_arena.specs.{declared.tree.Tree.Tree, declared.tree.Standing.TheVariants.{Made, Live}, NodeView.{NodeView, place_at}, Forests.{tree_at, no_tree}}
 use Rattle.mt_arena.specs.{Arena.{ArenaView, IsArena}, Accesses.at, Layering.{IsLayerOf, IsSettledBut, with_held, with_slot, with_link}, Layers.slot_at}
@@ -38,7 +38,7 @@ otherwise v op key w t what held pair phase arena goes_on m =
     record {
       taken = m.taken;
       other = m.other;
-      layer = subst (λ i. IsLayerOf new w.place.node i t op held m.other pair.row) (sym same) (whole_rewritten v w.place.node (walk_place v w) t op what held m.other pair.row arena m.layer goes_on);
+      layer = subst (λ i. IsLayerOf new w.place.node i t op held m.other (row_of pair)) (sym same) (whole_rewritten v w.place.node (walk_place v w) t op what held m.other (row_of pair) arena m.layer goes_on);
       settled = subst (IsSettledBut new.nodes w.place.node) (sym same) (settled_but_held v w.place.node (walk_place v w) held arena.nodes slot.held.there slot.in_range m.settled);
       goes_on = record { there = m.goes_on.there; of_tree = m.goes_on.of_tree; begun = m.goes_on.begun };
       first =

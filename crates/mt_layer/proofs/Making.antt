@@ -3,7 +3,7 @@ use Rattle.std.proofs.Common.{◌≡◌, ℕ, ◌+◌, ◌*◌, ◌<◌, length,
 use Rattle.std.proofs.lemmas.Bool.{cases_eq}
 use Rattle.mt_slices.{specs.{Slices.rest_of, declared.mark.Mark.TheVariants.Long}, proofs.Order.rest-more}
 use Rattle.mt_rows.specs.Rows.{Bytes}
-use Rattle.mt_border.specs.{declared.entry.Entry.Entry, Held.Pair, Held.Stable, Entry.pair_of, Contents.HasKey}
+use Rattle.mt_border.specs.{declared.entry.Entry.Entry, Held.Pair, Held.Stable, Entry.pair_of, Contents.{HasKey, row_of}}
 use Rattle.mt_border.specs.Node.{Node as BorderNode, entry_at}
 use Rattle.mt_border.proofs.Edits.{any_entry}
 use Rattle.mt_arena.specs.{declared.tree.Tree.Tree, NodeView.{NodeView, place_at, border_view}, Forests.layer_of, Layers.slot_at, Ways.BelongsIn, Arena.{ArenaView, IsArena}}
@@ -117,7 +117,7 @@ module _ (v : ArenaView) (op : ℕ) (key : Bytes) (w : Walk) (arena : IsArena v.
       makes = record {
         taken = refl;
         other = other.0;
-        layer = subst (λ i. IsLayerOf new k i t op (Stable h.pair) other.0 h.pair.row) (sym same_place)
+        layer = subst (λ i. IsLayerOf new k i t op (Stable h.pair) other.0 (row_of h.pair)) (sym same_place)
             (whole_begun v k (walk_place v w) op least (Stable h.pair) other.0 e (record h.pair { suffix = drop 8 h.pair.suffix }) arena listed forgotten held_slot other.1 has refl);
         settled = subst (IsSettledBut new.nodes k) (sym same_place)
             (settled_but_made v prefix e least op k (walk_place v w) arena.nodes listed forgotten within in_node.border.live (settled_but v.nodes k (walk_place v w) h.holds.settled));

@@ -3,7 +3,7 @@ use Rattle.std.proofs.Common.{◌≡◌, ◌≢◌, ℕ, ◌+◌, ◌<◌, List,
 use Rattle.mt_slices.specs.Slices.{slice_of, mark_of, suffix_of}
 use Rattle.mt_rows.specs.Rows.{Bytes}
 use Rattle.mt_border.specs.{declared.entry.Entry.Entry, Held.Pair, Held.Held, Held.{Stable, Unstable}}
-use Rattle.mt_border.specs.{declared.entry.FoundKind.TheVariants.OtherLong, Entry.IsKind, Contents.IsOfTree}
+use Rattle.mt_border.specs.{declared.entry.FoundKind.TheVariants.OtherLong, Entry.IsKind, Contents.{IsOfTree, row_of}}
 use Rattle.mt_arena.specs.{declared.tree.Tree.Tree, declared.tree.Standing.Standing, declared.tree.Standing.TheVariants.{Made, Live, Dead}, Forests.tree_at}
 use Rattle.mt_order.specs.Places.{Places, place_of_slot}
 use Rattle.mt_border.specs.Slots.{Slotted}
@@ -61,13 +61,13 @@ module _ (op o : ℕ) (old new : ArenaView) (g : Guarantee op old new) (other : 
       record {
         taken = m.taken;
         other = m.other;
-        layer = subst (λ i. IsLayerOf new w.place.node i t o what m.other pair.row) (sym same)
-            (whole_stays op o old new g other w.place.node (walk_place old w) t what m.other pair.row (alive w.place.node slot.held slot.live) m.layer);
+        layer = subst (λ i. IsLayerOf new w.place.node i t o what m.other (row_of pair)) (sym same)
+            (whole_stays op o old new g other w.place.node (walk_place old w) t what m.other (row_of pair) (alive w.place.node slot.held slot.live) m.layer);
         settled = subst (IsSettledBut new.nodes w.place.node) (sym same)
             (settled_but_stays op o old.nodes new.nodes old.trees new.trees w.place.node (walk_place old w) g.nodes g.points other slot.held.there slot.held.holder m.settled);
         goes_on = below t w.layer key m.goes_on;
         first =
-            ap (λ (x : Tree). (at new x.root).slots) (tree_same op o old new g other t m.other pair.row m.layer.layer) ∙ ap (λ (x : NodeView). x.slots) (root_same op o old new g other t m.other pair.row m.layer.layer) ∙ m.first;
+            ap (λ (x : Tree). (at new x.root).slots) (tree_same op o old new g other t m.other (row_of pair) m.layer.layer) ∙ ap (λ (x : NodeView). x.slots) (root_same op o old new g other t m.other (row_of pair) m.layer.layer) ∙ m.first;
       }
 
   -- at MakeLayer

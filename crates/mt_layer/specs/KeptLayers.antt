@@ -1,7 +1,7 @@
 -- What is kept of an operation that makes a layer, by its next phase. Each fact speaks of the node and the slot that it holds, and of its tree.
 use Rattle.std.specs.Prelude.{◌≡◌, ◌≢◌, ℕ, ◌+◌, ◌*◌, ◌<◌, false, [], ◌∷◌, length, Some, None}
 use Rattle.mt_rows.specs.Rows.{Bytes}
-use Rattle.mt_border.specs.{Held.Pair, Held.Held, Held.{Stable, Unstable}, Contents.IsOfTree}
+use Rattle.mt_border.specs.{Held.Pair, Held.Held, Held.{Stable, Unstable}, Contents.{IsOfTree, row_of}}
 use Rattle.mt_arena.specs.{Forests.tree_at, Layers.slot_at, Layering.{IsLayerOf, IsSettledBut}, Arena.ArenaView, Accesses.at, Given.IsGiven}
 use Rattle.mt_arena.specs.declared.tree.Standing.TheVariants.{Made}
 use Rattle.mt_operation.specs.{declared.phase.Phase.Phase, declared.walk.Taken.TheVariants.Link, declared.walk.Walk.Walk}
@@ -23,7 +23,7 @@ pub record GoesBelow (v : ArenaView) (t layer : ℕ) (key : Bytes) : Type 0 wher
 pub record MakesLayer (v : ArenaView) (op : ℕ) (key : Bytes) (w : Walk) (t : ℕ) (what : Held) (pair : Pair) : Type 0 where
   pub taken : w.taken ≡ Link t
   pub other : Bytes
-  pub layer : IsLayerOf v w.place.node (walk_place v w) t op what other pair.row
+  pub layer : IsLayerOf v w.place.node (walk_place v w) t op what other (row_of pair)
   pub settled : IsSettledBut v.nodes w.place.node (walk_place v w)
   pub goes_on : GoesBelow v t w.layer key
   pub first : (at v (tree_at v.trees t).root).slots ≡ entry_below pair ∷ []

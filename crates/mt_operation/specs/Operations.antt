@@ -1,6 +1,6 @@
 -- An operation between its steps: what is shown of it, and what each change makes of it.
 use Rattle.std.specs.Prelude.{◌≡◌, ℕ, List, [], Bool, false, not, ◌==◌, if◌then◌else◌, Option, Some, None}
-use Rattle.mt_rows.specs.{declared.command.Command.Command, Rows.{Bytes, Columns}}
+use Rattle.mt_rows.specs.{declared.command.Command.Command, Rows.Bytes, Stamps.Stamped}
 use Rattle.mt_operation.specs.{declared.phase.Phase.Phase, declared.walk.Walk.Walk, declared.task.Task.Task, declared.outcome.Outcome.Outcome}
 use Rattle.mt_operation.specs.{declared.prepared.Prepared.Prepared, declared.splits.Halves.Halves, declared.splits.Splits.Splits}
 use Rattle.mt_operation.specs.{declared.removal.Removal.Removal, declared.scan.Scan.Scan, declared.scan.Stop.Stop, declared.operation.Operation.Operation}
@@ -26,8 +26,8 @@ no_splits = record { halves = []; above = None; moved = 0 }
 pub record ScanView : Type 0 where
   pub fence : Bytes
   pub after : Bool
-  pub collected : List (Bytes × Columns)
-  pub seen : List (Bytes × Columns)
+  pub collected : List (Bytes × Stamped)
+  pub seen : List (Bytes × Stamped)
   pub stop : Stop
 
 abbrev pub scan_of : Task → Scan → ScanView

@@ -1,8 +1,8 @@
 -- The command of a task, and what hangs on a command alone.
 use Rattle.std.specs.Prelude.{Bool, false}
-use Rattle.mt_rows.specs.{declared.command.Command.Command, declared.command.Command.TheVariants.{Get, Put, Remove, Scan}}
+use Rattle.mt_rows.specs.{declared.command.Command.Command, declared.command.Command.TheVariants.{Get, Put, PutIf, Remove, Scan}}
 use Rattle.mt_operation.specs.declared.task.Request.{Request}
-use Rattle.mt_operation.specs.{declared.task.Request.TheVariants.{Get as GetOf, Put as PutOf, Remove as RemoveOf, Scan as ScanOf}, declared.task.Task.Task}
+use Rattle.mt_operation.specs.{declared.task.Request.TheVariants.{Get as GetOf, Put as PutOf, PutIf as PutIfOf, Remove as RemoveOf, Scan as ScanOf}, declared.task.Task.Task}
 use Rattle.mt_operation.specs.declared.walk.Aim.{Aim}
 use Rattle.mt_operation.specs.declared.walk.Aim.TheVariants as aims
 
@@ -10,6 +10,7 @@ use Rattle.mt_operation.specs.declared.walk.Aim.TheVariants as aims
 abbrev pub command_of : Request → Command
 command_of (GetOf key columns) = Get key columns
 command_of (PutOf key change) = Put key change
+command_of (PutIfOf key stamp change) = PutIf key stamp change
 command_of (RemoveOf key) = Remove key
 command_of (ScanOf from after count columns) = Scan from after count columns
 
@@ -21,6 +22,7 @@ ask task = command_of task.request
 abbrev pub aim_of : Command → Aim
 aim_of (Get key columns) = aims.Read
 aim_of (Put key change) = aims.Write
+aim_of (PutIf key stamp change) = aims.Write
 aim_of (Remove key) = aims.Write
 aim_of (Scan from after count columns) = aims.Scan
 

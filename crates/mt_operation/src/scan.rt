@@ -6,7 +6,7 @@
 ghost use Rattle.std.specs.Prelude.{◌≡◌, []};
 
 use crate::seen::Seen;
-use mt_rows::{Key, Row};
+use mt_rows::{Key, StampedRow};
 use std::alloc::Global;
 
 /// How the stretch of keys ends that a scan has read of a border node.
@@ -28,7 +28,7 @@ pub enum Stop {
 #[derive(Drop)]
 pub struct Scan {
     pub after: bool,
-    pub collected: Vec<(Key, Row)>,
+    pub collected: Vec<(Key, StampedRow)>,
     pub seen: Seen,
     pub stop: Stop,
 }

@@ -5,16 +5,16 @@
 
 ghost use Rattle.std.specs.Prelude.{◌≡◌, ◌<◌, ◌++◌, ◌∷◌, [], length, slice_get, Some, OnOk, OnErr};
 
-use mt_rows::Row;
+use mt_rows::StampedRow;
 use std::alloc::{AllocError, Global};
 use std::marker::Model;
 
-/// One of them: where its key stands among the bytes, and its row.
+/// One of them: where its key stands among the bytes, and its row with its stamp.
 #[derive(Drop)]
 pub struct SeenPair {
     pub key_start: usize,
     pub key_length: usize,
-    pub row: Row,
+    pub row: StampedRow,
 }
 
 /// Pairs in the order in which they were seen.
@@ -26,9 +26,10 @@ pub struct Seen {
 
 impl Model for Seen {
     ghost use Rattle.std.specs.Prelude.{List, ℕ};
+    ghost use Rattle.mt_rows.specs.Stamps.{Stamped};
     ghost use Rattle.mt_operation.specs.Scans.{pairs_in, HasKeys};
 
-    ghost Value = { List (List ℕ × List (List ℕ)) };
+    ghost Value = { List (List ℕ × Stamped) };
 
     ghost view = { λ s. pairs_in s.bytes.items s.pairs.items };
 
@@ -54,7 +55,7 @@ impl Seen {
     }
 
     /// One of them: its key and its row.
-    pub fn pair(&self, place: usize) -> (&[u8], &Row)
+    pub fn pair(&self, place: usize) -> (&[u8], &StampedRow)
         requires { place < length self.now }
         ensures { slice_get self.now place ≡ Some (result.0.now, result.1.now) }
     {
@@ -78,7 +79,7 @@ impl Seen {
         front: &[u8],
         middle: &[u8],
         back: &[u8],
-        row: Row,
+        row: StampedRow,
     ) -> Result<(), AllocError>
         ensures one_more { OnOk result (self.new ≡ self.old ++ (front.now ++ middle.now ++ back.now, row) ∷ []) }
         ensures unchanged_on_err { OnErr result (self.new ≡ self.old) }

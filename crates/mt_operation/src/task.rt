@@ -23,6 +23,12 @@ pub enum Request {
         key: Key,
         change: Change,
     },
+    /// The same, if the key's row has this stamp, or if the stamp is 0 and the key has none.
+    PutIf {
+        key: Key,
+        stamp: u64,
+        change: Change,
+    },
     /// Takes the key's row away.
     Remove {
         key: Key,
@@ -55,7 +61,7 @@ impl Request {
     {
         match self {
             Request::Get { .. } => Aim::Read,
-            Request::Put { .. } | Request::Remove { .. } => Aim::Write,
+            Request::Put { .. } | Request::PutIf { .. } | Request::Remove { .. } => Aim::Write,
             Request::Scan { .. } => Aim::Scan,
         }
     }
@@ -66,7 +72,10 @@ impl Request {
     {
         match self {
             Request::Scan { after, .. } => *after,
-            Request::Get { .. } | Request::Put { .. } | Request::Remove { .. } => false,
+            Request::Get { .. }
+            | Request::Put { .. }
+            | Request::PutIf { .. }
+            | Request::Remove { .. } => false,
         }
     }
 
@@ -75,7 +84,10 @@ impl Request {
         ensures { result.now ≡ key_of (command_of self.now) }
     {
         match self {
-            Request::Get { key, .. } | Request::Put { key, .. } | Request::Remove { key } => key,
+            Request::Get { key, .. }
+            | Request::Put { key, .. }
+            | Request::PutIf { key, .. }
+            | Request::Remove { key } => key,
             Request::Scan { from, .. } => from,
         }
     }
@@ -88,6 +100,11 @@ impl Request {
             Request::Get { key, columns } => Command::Get { key, columns },
             Request::Put { key, change } => Command::Put {
                 key,
+                change: change.into_list(),
+            },
+            Request::PutIf { key, stamp, change } => Command::PutIf {
+                key,
+                stamp,
                 change: change.into_list(),
             },
             Request::Remove { key } => Command::Remove { key },

@@ -6,7 +6,7 @@ use Rattle.std.specs.{declared.cmp.Ordering.Ordering, declared.cmp.Ordering.TheV
 use Rattle.mt_version.specs.Changes.{IsStable, SameButLock}
 use Rattle.mt_slices.specs.{declared.mark.Mark.Mark, declared.mark.Mark.TheVariants.{Short, Long}, Keys.IsStoredKey, Marks.{IsMark, mark_rank}}
 use Rattle.mt_slices.specs.{Slices.{slice_of, mark_of, suffix_of}, Fences.{significant, trimmed, least_more, least_from, least_through}}
-use Rattle.mt_rows.specs.Rows.{Bytes, Columns}
+use Rattle.mt_rows.specs.{Rows.Bytes, Stamps.Stamped}
 use Rattle.mt_border.{specs.Contents.IsOfTree, proofs.ContentsKeys.is_mark_of}
 use Rattle.mt_arena.{specs.{NodeView.NodeView, Arena.{ArenaView, IsArena}, Accesses.at}, proofs.{Elsewhere.layer_is, Down.{long_below, next_prefix}}}
 use Rattle.mt_operation.specs.{declared.phase.Phase.TheVariants.{Hop, Done, Forward}, declared.walk.Walk.Walk, declared.scan.Scan.Scan, declared.scan.Stop.Stop}
@@ -171,7 +171,7 @@ module _ (v : ArenaView) (key : Bytes) (w : Walk) (stop : Stop) (arena : IsArena
       }
 
   -- what is kept at the next phase
-  pub kept_behind : (past : Past) (row : Option Columns) (s is : ScanView) (x : Walk) → s.fence ≡ key → Stands n w.place.seen → GoesBehind prefix stop s is w x
+  pub kept_behind : (past : Past) (row : Option Stamped) (s is : ScanView) (x : Walk) → s.fence ≡ key → Stands n w.place.seen → GoesBehind prefix stop s is w x
       → IsStoredBehind prefix stop is
       → x.phase ≢ Done → KeptScan x.phase v past is.fence row x stop
   kept_behind past row s is x fence stood goes stored going = by stop h.end goes stored
@@ -198,7 +198,7 @@ module _ (v : ArenaView) (key : Bytes) (w : Walk) (stop : Stop) (arena : IsArena
       by stops.Tenant k g st = absurd (over g.1)
 
   -- and where the node has changed
-  pub kept_moved : (past : Past) (row : Option Columns) → IsKept v past key row (after_change w n.version n.next) → (end : Stop)
+  pub kept_moved : (past : Past) (row : Option Stamped) → IsKept v past key row (after_change w n.version n.next) → (end : Stop)
       → KeptScan (after_change w n.version n.next).phase v past key row (after_change w n.version n.next) end
   kept_moved past row kept end = by n.version.deleted kept
     where
@@ -211,7 +211,7 @@ module _ (v : ArenaView) (key : Bytes) (w : Walk) (stop : Stop) (arena : IsArena
 -- a walk that has kept what it has seen
 module _ (prefix : Bytes) (task : Task) (count : ℕ) (columns : List ℕ) (old new : Scan) (full : Bool) (h : Collects count columns old new full) (w : Walk) where
   sizes : length (collects count columns (scan_of task old)) ≡ length new.collected.items
-  sizes = ap (λ (xs : List (Bytes × Columns)). length xs) (sym h.collected)
+  sizes = ap (λ (xs : List (Bytes × Stamped)). length xs) (sym h.collected)
 
   pub keeps_all : full ≡ true → Keeps prefix count columns w (walk_to Done w) (scan_of task old) (scan_of task new)
   keeps_all is =
@@ -265,7 +265,7 @@ module _ (v : ArenaView) (w : Walk) (arena : IsArena v.nodes v.trees) (was is : 
   same_end whole count columns x stops.Tenant e g = ap (λ (s : ScanView). s.stop) g.0
 
   pub kept_kept : (own : Bytes) → own ≡ prefix_in v w → (count : ℕ) (columns : List ℕ) (x : Walk) → Keeps own count columns w x was is
-      → (past : Past) (row : Option Columns)
+      → (past : Past) (row : Option Stamped)
       → x.phase ≢ Done → KeptScan x.phase v past is.fence row x is.stop
   kept_kept own own_is count columns x k past row going = elim (cases_eq (length (collects count columns was)) count) [
     | inl full ↦ absurd (going (ap (λ (y : Walk). y.phase) (k.full full).1))

@@ -2,7 +2,7 @@
 use Rattle.std.proofs.{Common.{◌≡◌, ℕ, ◌+◌, List, [], ◌∷◌, ◌++◌, length, take, get_or, Some, refl, sym, ap, ◌∙◌, add-one}, Math.Seq.take-suc}
 use Rattle.std.proofs.{lemmas.List.{get_or_default, map-append, append_assoc}, lemmas.Option.{slice_get_within, slice_get_read, same_Some}}
 use Rattle.std.specs.Prelude.{slice_get}
-use Rattle.mt_rows.specs.Rows.{Bytes, Columns, shown}
+use Rattle.mt_rows.specs.{Rows.Bytes, Stamps.{Stamped, as_shown}}
 use Rattle.mt_walks.specs.Walked.{shown_all}
 
 -- one more of a list is its next element
@@ -13,9 +13,9 @@ take_more xs i x is =
     let same : get_or xs i x ≡ x = same_Some (get_or xs i x) x (sym read ∙ is) in
     ap (λ n. take n xs) (add-one i) ∙ take-suc xs i x below ∙ ap (λ y. take i xs ++ y ∷ []) same
 
-pub collects_more : (columns : List ℕ) (seen first now next : List (Bytes × Columns)) (i : ℕ) (key : Bytes) (row : Columns) → slice_get seen i ≡ Some (key, row)
-    → now ≡ first ++ shown_all columns (take i seen) → next ≡ now ++ (key, shown columns row) ∷ [] → next ≡ first ++ shown_all columns (take (i + 1) seen)
+pub collects_more : (columns : List ℕ) (seen first now next : List (Bytes × Stamped)) (i : ℕ) (key : Bytes) (row : Stamped) → slice_get seen i ≡ Some (key, row)
+    → now ≡ first ++ shown_all columns (take i seen) → next ≡ now ++ (key, as_shown columns row) ∷ [] → next ≡ first ++ shown_all columns (take (i + 1) seen)
 collects_more columns seen first now next i key row is now_is next_is =
-    next_is ∙ ap (λ xs. xs ++ (key, shown columns row) ∷ []) now_is ∙ append_assoc first (shown_all columns (take i seen)) ((key, shown columns row) ∷ [])
-    ∙ ap (λ xs. first ++ xs) (sym (map-append (λ (p : Bytes × Columns). (p.0, shown columns p.1)) (take i seen) ((key, row) ∷ []))
+    next_is ∙ ap (λ xs. xs ++ (key, as_shown columns row) ∷ []) now_is ∙ append_assoc first (shown_all columns (take i seen)) ((key, as_shown columns row) ∷ [])
+    ∙ ap (λ xs. first ++ xs) (sym (map-append (λ (p : Bytes × Stamped). (p.0, as_shown columns p.1)) (take i seen) ((key, row) ∷ []))
     ∙ ap (shown_all columns) (sym (take_more seen i (key, row) is)))

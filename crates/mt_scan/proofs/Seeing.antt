@@ -4,8 +4,8 @@ use Rattle.std.proofs.{lemmas.Bool.{eq-eqb, ne_eqb}, lemmas.List.{take-append-le
 use Rattle.std.proofs.{lemmas.List.Elements.{All-tail, filter_map-append}, Math.Seq.take-length}
 use Rattle.std.specs.{Prelude.{if◌then◌else◌}, Int.{w32, w64, to_be_bytes, from_be_bytes}, List.All}
 use Rattle.mt_slices.specs.Keys.{tenant_of, user_key_of}
-use Rattle.mt_rows.specs.Rows.{Bytes, Columns}
-use Rattle.mt_border.specs.{Held.Pair, declared.entry.Entry.Entry, Entry.pair_of, Contents.key_at}
+use Rattle.mt_rows.specs.{Rows.Bytes, Stamps.Stamped}
+use Rattle.mt_border.specs.{Held.Pair, declared.entry.Entry.Entry, Entry.pair_of, Contents.{key_at, row_of}}
 use Rattle.mt_readings.specs.{Reading.{read_on, read, stop_on, stop}, Tenancies.{own_pair, own_pairs}}
 use Rattle.mt_scan.specs.Looks.{NamesTenant}
 
@@ -20,14 +20,14 @@ unfolding tenant_of
 tenant_first a b long = ap (from_be_bytes w32) (take-append-le 4 a b long)
 
 -- a pair of the tenant's, and one of another
-mine : (t : ℕ) (prefix key : Bytes) (row : Columns) → tenant_of key ≡ t → own_pair t prefix key row ≡ Some (user_key_of key, row)
+mine : (t : ℕ) (prefix key : Bytes) (row : Stamped) → tenant_of key ≡ t → own_pair t prefix key row ≡ Some (user_key_of key, row)
 mine t prefix key row is = ap (λ b. if b then Some (user_key_of key, row) else None) (eq-eqb (tenant_of key) t is)
 
-other : (t : ℕ) (prefix key : Bytes) (row : Columns) → tenant_of key ≢ t → own_pair t prefix key row ≡ None
+other : (t : ℕ) (prefix key : Bytes) (row : Stamped) → tenant_of key ≢ t → own_pair t prefix key row ≡ None
 other t prefix key row not = ap (λ b. if b then Some (user_key_of key, row) else None) (ne_eqb (tenant_of key) t not)
 
 -- of a tree below the top
-pub own_below : (t : ℕ) (prefix piece suffix : Bytes) (row : Columns) → 4 ≤ length prefix → tenant_of prefix ≡ t
+pub own_below : (t : ℕ) (prefix piece suffix : Bytes) (row : Stamped) → 4 ≤ length prefix → tenant_of prefix ≡ t
     → own_pair t prefix (prefix ++ piece ++ suffix) row ≡ Some (drop 4 prefix ++ piece ++ suffix, row)
 own_below t prefix piece suffix row long is =
     let whole : (prefix ++ piece) ++ suffix ≡ prefix ++ (piece ++ suffix) = append_assoc prefix piece suffix in
@@ -42,13 +42,13 @@ piece_tenant s n piece fits is long =
     ap tenant_of is ∙ sym (tenant_first (take n bytes) (drop n bytes) long_too) ∙ ap tenant_of (take-append-drop n bytes) ∙ slice_tenant s fits
 
 -- of the top tree
-pub own_top : (t s n : ℕ) (piece suffix : Bytes) (row : Columns) → s < 2 ^ 64 → piece ≡ take n (to_be_bytes w64 s) → 4 ≤ length piece → s / 4294967296 ≡ t
+pub own_top : (t s n : ℕ) (piece suffix : Bytes) (row : Stamped) → s < 2 ^ 64 → piece ≡ take n (to_be_bytes w64 s) → 4 ≤ length piece → s / 4294967296 ≡ t
     → own_pair t [] (piece ++ suffix) row ≡ Some (drop 4 piece ++ suffix, row)
 own_top t s n piece suffix row fits is long tenant =
     mine t [] (piece ++ suffix) row (tenant_first piece suffix long ∙ piece_tenant s n piece fits is long ∙ tenant)
     ∙ ap (λ k. Some (k, row)) (drop-append-le 4 piece suffix long)
 
-pub other_top : (t s n : ℕ) (piece suffix : Bytes) (row : Columns) → s < 2 ^ 64 → piece ≡ take n (to_be_bytes w64 s) → 4 ≤ length piece
+pub other_top : (t s n : ℕ) (piece suffix : Bytes) (row : Stamped) → s < 2 ^ 64 → piece ≡ take n (to_be_bytes w64 s) → 4 ≤ length piece
     → s / 4294967296 ≢ t
     → own_pair t [] (piece ++ suffix) row ≡ None
 other_top t s n piece suffix row fits is long tenant =
@@ -73,18 +73,18 @@ pub notes : (t : ℕ) (prefix : Bytes) (behind : Entry → Bool) (e : Entry) (es
 notes t prefix behind e es pair is pair_is = (
   ap (λ b. own_pairs t prefix (if b then read behind es else read_on e (pair_of e.held) (read behind es))) is
       ∙ ap (λ p. own_pairs t prefix (read_on e p (read behind es))) pair_is
-      ∙ filter_map-append (λ (x : Entry × Pair). own_pair t prefix (key_at prefix x.0 x.1) x.1.row) ((e, pair) ∷ []) (read behind es),
+      ∙ filter_map-append (λ (x : Entry × Pair). own_pair t prefix (key_at prefix x.0 x.1) (row_of x.1)) ((e, pair) ∷ []) (read behind es),
   ap (λ b. if b then stop behind es else stop_on e (pair_of e.held) (stop behind es)) is ∙ ap (λ p. stop_on e p (stop behind es)) pair_is,
 )
 
 -- the loop: what was noted, with what is noted of the entries that are left, is all; and the link is that of all
-pub record Told (t : ℕ) (prefix : Bytes) (behind : Entry → Bool) (first : List (Bytes × Columns)) (all : List Entry) (noted : List (Bytes × Columns))
+pub record Told (t : ℕ) (prefix : Bytes) (behind : Entry → Bool) (first : List (Bytes × Stamped)) (all : List Entry) (noted : List (Bytes × Stamped))
     (left : List Entry) : Type 0 where
   pub names : All (NamesTenant prefix) left
   pub seen : noted ++ own_pairs t prefix (read behind left) ≡ first ++ own_pairs t prefix (read behind all)
   pub stop_is : stop behind left ≡ stop behind all
 
-module _ (t : ℕ) (prefix : Bytes) (behind : Entry → Bool) (first : List (Bytes × Columns)) (all : List Entry) (noted : List (Bytes × Columns))
+module _ (t : ℕ) (prefix : Bytes) (behind : Entry → Bool) (first : List (Bytes × Stamped)) (all : List Entry) (noted : List (Bytes × Stamped))
     (left es : List Entry) (e : Entry)
     (told : Told t prefix behind first all noted left) (is : left ≡ e ∷ es) where
   rest_names : All (NamesTenant prefix) es
@@ -99,7 +99,7 @@ module _ (t : ℕ) (prefix : Bytes) (behind : Entry → Bool) (first : List (Byt
         stop_is = sym p.1 ∙ ap (stop behind) (sym is) ∙ told.stop_is;
       }
 
-  pub told_noted : (pair : Pair) (more : List (Bytes × Columns)) → behind e ≡ false → pair_of e.held ≡ Some pair
+  pub told_noted : (pair : Pair) (more : List (Bytes × Stamped)) → behind e ≡ false → pair_of e.held ≡ Some pair
       → more ≡ noted ++ own_pairs t prefix ((e, pair) ∷ []) → Told t prefix behind first all more es
   told_noted pair more behind_is pair_is more_is =
       let p = notes t prefix behind e es pair behind_is pair_is in

@@ -7,7 +7,7 @@ use Rattle.std.specs.declared.cmp.Ordering.{Ordering}
 use Rattle.mt_slices.specs.{declared.mark.Mark.Mark, declared.mark.Mark.TheVariants.{Short, Long}, Keys.tenant_of, Marks.{IsMark, mark_rank}}
 use Rattle.mt_slices.specs.{Slices.{rest_of, slice_at, slice_of, mark_at, mark_of, suffix_of, piece_bytes}, Fences.least_from}
 use Rattle.mt_slices.proofs.{Bytes.{AreBytes, bytes-drop}, Numbers.{number_lt, slice_at-number}}
-use Rattle.mt_rows.specs.Rows.{Bytes, Columns}
+use Rattle.mt_rows.specs.{Rows.Bytes, Stamps.Stamped}
 use Rattle.mt_border.specs.{Held.Pair, declared.entry.Entry.Entry, Held.Held, Entry.pair_of}
 use Rattle.mt_border.proofs.{Edits.any_entry, ContentsKeys.is_mark_of}
 use Rattle.mt_arena.specs.{NodeFacts.IsUnstable, NodeView.NodeView, Layers.{slot_at, LeadsTo}, Nodes.{IsNode, HasRange}, Forests.{HaveKeys, tree_at, layer_of}}
@@ -234,12 +234,12 @@ module _ (v : ArenaView) (s : ScanView) (w : Walk) (arena : IsArena v.nodes v.tr
       stops_at link end (subst (λ (l : Option Entry). TellsLink l link) (λ i. stop (same i) (sym slots i)) tells)
       (subst (λ (o : Option ℕ). EndsAt (tenant_of s.fence) w.layer link o end) high_is (subst (λ u. EndsAt u w.layer link high end) tenant e))
 
-  pub all_seen : (es : List Entry) (b : Entry → Bool) (t : ℕ) (p : Bytes) (was seen : List (Bytes × Columns)) → n.slots ≡ es → b ≡ behind
+  pub all_seen : (es : List Entry) (b : Entry → Bool) (t : ℕ) (p : Bytes) (was seen : List (Bytes × Stamped)) → n.slots ≡ es → b ≡ behind
       → t ≡ tenant_of s.fence
       → p ≡ prefix → was ≡ []
       → seen ≡ was ++ own_pairs t p (read b es) → seen ≡ own_pairs (tenant_of s.fence) prefix (read behind n.slots)
   all_seen es b t p was seen slots same tenant prefix_is none is =
-      is ∙ ap (λ (xs : List (Bytes × Columns)). xs ++ own_pairs t p (read b es)) none ∙ (λ i. own_pairs (tenant i) (prefix_is i) (read (same i) (sym slots i)))
+      is ∙ ap (λ (xs : List (Bytes × Stamped)). xs ++ own_pairs t p (read b es)) none ∙ (λ i. own_pairs (tenant i) (prefix_is i) (read (same i) (sym slots i)))
 
   -- a link's slot stands for a key that goes on behind its slice
   module _ (slice tree : ℕ) (at_link : StopsAtLink n s w.layer slice tree) where

@@ -3,7 +3,7 @@ use Rattle.std.specs.Prelude.{◌≡◌, ◌≢◌, ℕ, ◌-◌, ◌<◌, ◌�
 use Rattle.std.specs.{Ordering.{nat_cmp, is_lt}, Cmp.Lexicographic.slice_cmp}
 use Rattle.mt_version.specs.Changes.{IsStable, SameButLock}
 use Rattle.mt_slices.specs.Fences.{least_from, least_through, IsBehindAll}
-use Rattle.mt_rows.specs.{declared.command.Command.TheVariants.Scan, Rows.{Bytes, Columns, AreIndexes}}
+use Rattle.mt_rows.specs.{declared.command.Command.TheVariants.Scan, Rows.{Bytes, AreIndexes}, Stamps.Stamped}
 use Rattle.mt_arena.specs.NodeView.{NodeView}
 use Rattle.mt_operation.specs.{declared.phase.Phase.Phase, declared.phase.Phase.TheVariants.{Hop, Done}, declared.walk.Walk.Walk, declared.scan.Stop.Stop}
 use Rattle.mt_operation.specs.{declared.task.Task.Task, Operations.ScanView, Tasks.ask}
@@ -18,7 +18,7 @@ pub record Asks (task : Task) (count : ℕ) (columns : List ℕ) : Type 0 where
   pub is : ask task ≡ Scan from after count columns
 
 -- some scan, which has not so many yet
-pub record MayCheck (task : Task) (collected : List (Bytes × Columns)) : Type 0 where
+pub record MayCheck (task : Task) (collected : List (Bytes × Stamped)) : Type 0 where
   pub count : ℕ
   pub columns : List ℕ
   pub asks : Asks task count columns
@@ -26,7 +26,7 @@ pub record MayCheck (task : Task) (collected : List (Bytes × Columns)) : Type 0
   pub few : length collected < count
 
 -- the pairs that a scan has once it has kept those that it has seen, up to so many in all
-abbrev pub collects : ℕ → List ℕ → ScanView → List (Bytes × Columns)
+abbrev pub collects : ℕ → List ℕ → ScanView → List (Bytes × Stamped)
 collects count columns s = s.collected ++ shown_all columns (take (count - length s.collected) s.seen)
 
 -- a scan that has seen nothing; and one that has kept what it has seen

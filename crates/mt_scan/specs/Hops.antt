@@ -2,7 +2,7 @@
 use Rattle.std.specs.{Prelude.{◌≡◌, ◌≢◌, ◌+◌, ◌^◌, ◌<◌, ◌≤◌, ◌++◌, ℕ, length, if◌then◌else◌, Option, Some, None}, Int.{w64, to_be_bytes}}
 use Rattle.mt_version.specs.Changes.{IsStable}
 use Rattle.mt_slices.specs.{Keys.IsStoredKey, Slices.slice_of, Fences.least_from}
-use Rattle.mt_rows.specs.Rows.{Bytes, Columns}
+use Rattle.mt_rows.specs.{Rows.Bytes, Stamps.Stamped}
 use Rattle.mt_arena.specs.{declared.tree.Standing.TheVariants.Made, NodeView.NodeView, Forests.tree_at, Arena.ArenaView, Accesses.at}
 use Rattle.mt_operation.specs.{declared.phase.Phase.Phase, declared.phase.Phase.TheVariants.{Check, Hop}, declared.walk.Walk.Walk, declared.scan.Stop.Stop}
 use Rattle.mt_descent.specs.{Seen.Stands, Pasts.Past, KeptWalks.{GoesThrough, IsAtBorder, KeptAt}, WalkMoves.{AnswersAgain, walk_into, walk_onto}}
@@ -62,7 +62,7 @@ KeptHop v key w (stops.Next slice) = (x : ℕ) × (w.next ≡ Some x) × IsAtHop
 KeptHop v key w _ = IsStoredKey key
 
 -- what is kept of a scan's walk by its next phase
-abbrev pub KeptScan : Phase → ArenaView → Past → Bytes → Option Columns → Walk → Stop → Type 0
+abbrev pub KeptScan : Phase → ArenaView → Past → Bytes → Option Stamped → Walk → Stop → Type 0
 KeptScan Check v past key row w stop = IsAtCheck v key w stop
 KeptScan Hop v past key row w stop = KeptHop v key w stop
 KeptScan phase v past key row w stop = KeptAt phase v past key row w

@@ -1,12 +1,12 @@
 //! What a scan keeps of the pairs that it has seen.
 
 ghost use Rattle.std.specs.Prelude.{◌≡◌, ◌≤◌, ◌++◌, ◌∷◌, ℕ, List, [], length, take, OnOk, IfOk};
-ghost use Rattle.mt_rows.specs.Rows.{shown, AreIndexes};
+ghost use Rattle.mt_rows.specs.{Rows.AreIndexes, Stamps.as_shown};
 ghost use Rattle.mt_walks.specs.Walked.{shown_all};
 ghost use Rattle.mt_scan.specs.{Checks.{Asks, MayCheck}, Goings.Collects};
 
 use mt_operation::{Request, Scan, Seen, Task};
-use mt_rows::{ColumnIndexes, Key, Row};
+use mt_rows::{ColumnIndexes, Key, StampedRow};
 use std::alloc::{AllocError, Global};
 
 /// Keeps the pairs that were seen, up to as many in all as the task asks for, and forgets them as seen;
@@ -28,7 +28,7 @@ pub(crate) fn collect(alloc: Global, task: &Task, scan: &mut Scan) -> Result<boo
 // So many of the pairs that were seen, as they are shown.
 fn push_seen(
     alloc: Global,
-    collected: &mut Vec<(Key, Row)>,
+    collected: &mut Vec<(Key, StampedRow)>,
     seen: &Seen,
     more: usize,
     columns: &ColumnIndexes,
@@ -47,13 +47,13 @@ fn push_seen(
 // One pair, as it is shown.
 fn push_shown(
     alloc: Global,
-    collected: &mut Vec<(Key, Row)>,
+    collected: &mut Vec<(Key, StampedRow)>,
     key: &[u8],
-    row: &Row,
+    row: &StampedRow,
     columns: &ColumnIndexes,
 ) -> Result<(), AllocError>
     requires { AreIndexes columns.now }
-    ensures { OnOk result (collected.new.items ≡ collected.old.items ++ (key.now, shown columns.now row.now) ∷ []) }
+    ensures { OnOk result (collected.new.items ≡ collected.old.items ++ (key.now, as_shown columns.now row.now) ∷ []) }
 {
     let mut bytes = Vec::with_capacity(alloc, key.len())?;
     bytes.extend_from_slice(key)?;

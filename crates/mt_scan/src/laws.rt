@@ -3,7 +3,7 @@
 ghost use Rattle.std.specs.{Prelude.{◌≡◌, ◌≢◌, ◌<◌, ℕ, true, false, [], length, Some, None}, List.Contains};
 ghost use Rattle.mt_version.specs.{Parts.Parts, Changes.IsStable};
 ghost use Rattle.mt_slices.specs.{Keys.tenant_of, Slices.slice_of};
-ghost use Rattle.mt_rows.specs.Rows.{Bytes, Columns};
+ghost use Rattle.mt_rows.specs.{Rows.Bytes, Stamps.Stamped};
 ghost use Rattle.mt_arena.specs.{Arena.{ArenaView, IsArena}, Accesses.at, Guarantee.NodesGuarantee, NodeFacts.IsUnstable};
 ghost use Rattle.mt_border.specs.{declared.entry.Entry.Entry, Held.Pair};
 ghost use Rattle.mt_operation.specs.declared.scan.Stop.{Stop};
@@ -73,10 +73,10 @@ pub fn a_scan_learns_what_is_named()
 /// none reads over an unstable slot; none ends with the tenant before the tenant's first link, and none
 /// with a node behind which another tenant's keys begin.
 pub fn wrong_snaps_are_refused()
-    ensures drops_a_pair { (v : ArenaView) (before after : Walk) (was is : ScanView) (pair : Bytes × Columns) →
+    ensures drops_a_pair { (v : ArenaView) (before after : Walk) (was is : ScanView) (pair : Bytes × Stamped) →
         Contains (own_pairs (tenant_of was.fence) (prefix_in v before) (read_in (at v before.place.node) was before.layer)) pair →
         ¬ Contains is.seen pair → ¬ IsSnap v before after was is }
-    ensures adds_a_pair { (v : ArenaView) (before after : Walk) (was is : ScanView) (pair : Bytes × Columns) →
+    ensures adds_a_pair { (v : ArenaView) (before after : Walk) (was is : ScanView) (pair : Bytes × Stamped) →
         ¬ Contains (own_pairs (tenant_of was.fence) (prefix_in v before) (read_in (at v before.place.node) was before.layer)) pair →
         Contains is.seen pair → ¬ IsSnap v before after was is }
     ensures reads_over_an_unstable_slot { (v : ArenaView) (before after : Walk) (was is : ScanView) (x : Entry × Pair) →

@@ -2,13 +2,14 @@
 
 ghost use Rattle.std.specs.{Prelude.{◌≡◌, ◌≤◌, ◌/◌, ◌++◌, ◌∷◌, ℕ, [], take, IsTrue, ◌↔◌, Some, OnOk, IfOk, IfErr}, Int.{w64, to_be_bytes}, List.All};
 ghost use Rattle.mt_slices.specs.{Marks.IsMark, Slices.piece_bytes};
-ghost use Rattle.mt_border.specs.{Held.Link, HeldParts.pair_in_parts, Entry.pair_of, Node.entries_of, Rows.entry_seen};
+ghost use Rattle.mt_border.specs.{Held.Link, HeldParts.pair_in_parts, Contents.row_of, Entry.pair_of, Node.entries_of, Rows.entry_seen};
 ghost use Rattle.mt_readings.specs.{Reading.{read, stop}, Tenancies.own_pairs};
 ghost use Rattle.mt_scan.specs.{Snaps.IsOver, Looks.{behind_at, has_unstable, TellsLink, NamesTenant, IsOfTenant, EndsAt}};
 
 use crate::fence::Fence;
 use mt_border::{Border, EntryRef, Held, HeldRef, PairParts};
 use mt_operation::{Seen, Stop};
+use mt_rows::StampedRow;
 use mt_slices::Mark;
 use std::alloc::AllocError;
 
@@ -83,14 +84,23 @@ fn see_pair(
     let own = entry.slice.to_be_bytes();
     let piece = &own[..bytes_of(entry.mark)];
     if !prefix.is_empty() {
-        let row = pair.row.share()?;
+        let row = stamped_row(pair)?;
         seen.push(&prefix[4..], piece, pair.suffix.as_bytes(), row)
     } else if is_own(tenant, entry.slice) {
-        let row = pair.row.share()?;
+        let row = stamped_row(pair)?;
         seen.push(&[], &piece[4..], pair.suffix.as_bytes(), row)
     } else {
         Ok(())
     }
+}
+
+// A share of a pair's row, with its stamp.
+fn stamped_row(pair: &PairParts) -> Result<StampedRow, AllocError>
+    ensures { IfOk result (λ row. row ≡ row_of (pair_in_parts pair.now)) }
+{
+    let row = pair.row.share()?;
+    let stamp = pair.stamp;
+    Ok(StampedRow { stamp, row })
 }
 
 // Whether a slice of the top layer is that of the tenant's keys.

@@ -1,7 +1,7 @@
 -- How a scan begins, and that what it has done stays.
 use Rattle.std.{proofs.{Common.{◌≡◌, ℕ, ◌<◌, ◌≤◌, ◌^◌, Bool, List, sym, ap, subst, ◌∙◌, arith}, lemmas.List.Elements.All-nil}, specs.Prelude.not}
 use Rattle.mt_slices.specs.Keys.{IsStoredKey, stored_key, tenant_of}
-use Rattle.mt_rows.specs.{declared.command.Command.TheVariants.Scan, Commands.IsKey, Rows.{Bytes, Columns}, Maps.Map, Tenants.tenant_map}
+use Rattle.mt_rows.specs.{declared.command.Command.TheVariants.Scan, Commands.IsKey, Rows.Bytes, Stamps.Stamped, Maps.Map, Tenants.tenant_map}
 use Rattle.mt_operation.specs.Operations.{ScanView, no_scan}
 use Rattle.mt_descent.specs.Pasts.{Past, ExtendsPast}
 use Rattle.mt_walks.{specs.Walked.IsWithin, proofs.Walks.{begins, stays}}
@@ -16,7 +16,7 @@ scan_begins past first t from after count columns fits stored some = record {
       (passed_by (no_scan (stored_key t from) (Scan from after count columns))) (λ key is_done. walked_is t from after key fits ∙ ap not is_done);
   behind = λ key not_done. walked_is t from after key fits ∙ ap not not_done;
   few = omega (arith, some);
-  short = All-nil (λ (p : Bytes × Columns). IsKey p.0);
+  short = All-nil (λ (p : Bytes × Stamped). IsKey p.0);
 }
 
 module _ (before now : Past) (first : ℕ) (more : ExtendsPast first before now) where

@@ -5,7 +5,7 @@ use Rattle.std.proofs.lemmas.List.Elements.{All-append, All-map, All-take}
 use Rattle.std.specs.{Prelude.{if◌then◌else◌}, List.{All, Contains}, Ordering.{nat_cmp, is_le, is_lt}, Cmp.Lexicographic.slice_cmp}
 use Rattle.mt_version.specs.Changes.{SameButLock}
 use Rattle.mt_slices.{specs.{Keys.{IsStoredKey, tenant_of}, Fences.{least_from, least_through, IsBehindAll}}, proofs.Behind.is_behind}
-use Rattle.mt_rows.specs.{Commands.IsKey, Rows.{Bytes, Columns, shown}, Maps.Map}
+use Rattle.mt_rows.specs.{Commands.IsKey, Rows.Bytes, Stamps.{Stamped, as_shown}, Maps.Map}
 use Rattle.mt_runs.specs.Scans.{Shown, IsLawful}
 use Rattle.mt_arena.specs.NodeView.{NodeView}
 use Rattle.mt_operation.specs.{declared.phase.Phase.TheVariants.{Hop, Done}, declared.walk.Walk.Walk, declared.scan.Stop.Stop, Operations.ScanView}
@@ -78,9 +78,9 @@ module _ (past : Past) (first : ℕ) (from : Bytes) (after : Bool) (count : ℕ)
   keys_short : All (λ p. IsKey p.0) (collects count columns s)
   keys_short =
       let taken = take (count - length s.collected) s.seen in
-      All-append (λ (p : Bytes × Columns). IsKey p.0) s.collected (shown_all columns taken) h.short
-      (All-map (λ (p : Bytes × Columns). IsKey p.0) (λ (p : Bytes × Columns). (p.0, shown columns p.1)) taken
-      (All-take (λ (p : Bytes × Columns). IsKey p.0) (count - length s.collected) s.seen g.short))
+      All-append (λ (p : Bytes × Stamped). IsKey p.0) s.collected (shown_all columns taken) h.short
+      (All-map (λ (p : Bytes × Stamped). IsKey p.0) (λ (p : Bytes × Stamped). (p.0, as_shown columns p.1)) taken
+      (All-take (λ (p : Bytes × Stamped). IsKey p.0) (count - length s.collected) s.seen g.short))
 
   -- which it keeps whole where it has not as many pairs as it was asked for
   module _ (short : length (collects count columns s) ≢ count) where
@@ -89,12 +89,12 @@ module _ (past : Past) (first : ℕ) (from : Bytes) (after : Bool) (count : ℕ)
       | inl less ↦
           let all : take (count - length s.collected) s.seen ≡ s.seen = take_all (count - length s.collected) s.seen (omega (arith, less)) in
           let size = length-append s.collected (shown_all columns s.seen) in
-          let same = length-map {B = Bytes × Columns} s.seen (λ (p : Bytes × Columns). (p.0, shown columns p.1)) in
+          let same = length-map {B = Bytes × Stamped} s.seen (λ (p : Bytes × Stamped). (p.0, as_shown columns p.1)) in
           (ap (λ ps. s.collected ++ shown_all columns ps) all, omega (arith, less, size, same))
       | inr enough ↦
           let taken = take (count - length s.collected) s.seen in
           let size = length-append s.collected (shown_all columns taken) in
-          let same = length-map {B = Bytes × Columns} taken (λ (p : Bytes × Columns). (p.0, shown columns p.1)) in
+          let same = length-map {B = Bytes × Stamped} taken (λ (p : Bytes × Stamped). (p.0, as_shown columns p.1)) in
           let long = length-take-le (count - length s.collected) s.seen enough in
           let few = h.few in
           absurd (short (omega (arith, size, same, long, few)))

@@ -6,7 +6,7 @@ use Rattle.std.specs.{declared.cmp.Ordering.Ordering, Ordering.{nat_cmp, is_lt, 
 use Rattle.mt_slices.specs.{Keys.{IsStoredKey, stored_key, tenant_of, user_key_of}, Marks.mark_rank, Slices.{slice_of, mark_of, suffix_of, rest_of}}
 use Rattle.mt_slices.specs.{declared.mark.Mark.TheVariants.{Long, Short}, Fences.{least_from, least_through, IsBehindAll}}
 use Rattle.mt_slices.proofs.{Bytes.AreBytes, Numbers.{number_lt, tenant_of-number}, Order.cmp_below, Rejoin.mark_short, Trimming.bytes_take}
-use Rattle.mt_rows.{specs.{Commands.IsKey, Rows.{Bytes, Columns}, Tenants.{Contents, tenant_map}}, proofs.ContentLaws.get-tenant_map}
+use Rattle.mt_rows.{specs.{Commands.IsKey, Rows.Bytes, Stamps.Stamped, Tenants.{Contents, tenant_map}}, proofs.ContentLaws.get-tenant_map}
 use Rattle.mt_stretches.proofs.Checking.{some_behind}
 use Rattle.mt_stretches.proofs.Leasts.{from_bytes, from_begins, from_slice, from_long, at_slice, through_long, through_bytes, through_begins, through_slice, at_link}
 use Rattle.mt_stretches.specs.Scanned.{IsSeenIn, IsSeenUpTo, IsSeenTo, HasSeen}
@@ -256,7 +256,7 @@ module _ (v : ArenaView) (w : Walk) (s : ScanView) (arena : IsArena v.nodes v.tr
   reals stops.Tenant to = to.real
 
   -- so its key is a user's
-  key_short : (p : Bytes × Columns) → get (tenant_map t c) p.0 ≡ Some p.1 → IsKey p.0
+  key_short : (p : Bytes × Stamped) → get (tenant_map t c) p.0 ≡ Some p.1 → IsKey p.0
   key_short p there =
       let of = stored_keys v.nodes v.trees arena (t, p.0) p.1 (sym (get-tenant_map t c p.0) ∙ there) in
       let same : user_key_of of.0 ≡ p.0 = ap (λ (q : ℕ × Bytes). q.1) of.2 in

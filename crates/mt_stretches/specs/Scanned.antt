@@ -1,7 +1,7 @@
 -- What a scan has done so far, by the maps that its tenant had since its first step.
 use Rattle.std.specs.{Prelude.{◌≡◌, ◌<◌, ◌≤◌, ℕ, Bool, true, false, List, length, Some}, Ordering.{nat_cmp, is_lt}, Cmp.Lexicographic.slice_cmp, List.All}
 use Rattle.mt_slices.specs.{Keys.{IsStoredKey, tenant_of}, Fences.{least_from, least_through, IsBehindAll}}
-use Rattle.mt_rows.specs.{Commands.IsKey, Rows.{Bytes, Columns}, Maps.{Map, is_walked}, Tenants.tenant_map}
+use Rattle.mt_rows.specs.{Commands.IsKey, Rows.Bytes, Stamps.Stamped, Maps.{Map, is_walked}, Tenants.tenant_map}
 use Rattle.mt_operation.specs.{declared.scan.Stop.Stop, Operations.ScanView}
 use Rattle.mt_descent.specs.Pasts.{Past}
 use Rattle.mt_walks.specs.Walked.{IsWithin, HasWalked, IsStretch}
@@ -19,7 +19,7 @@ abbrev pub passed_by : ScanView → Bytes → Bool
 passed_by s key = passed_at (tenant_of s.fence) s.fence s.after key
 
 -- after each step since a first one a tenant's key had some row
-abbrev pub Stayed : Past → ℕ → ℕ → Bytes → (ℕ → Columns) → Type 0
+abbrev pub Stayed : Past → ℕ → ℕ → Bytes → (ℕ → Stamped) → Type 0
 Stayed past first t key row = (m : ℕ) → IsWithin first past.steps m → pairs.get (maps_of past t m) key ≡ Some (row m)
 
 -- A scan that was asked so has walked its tenant's keys up to its fence, and has collected fewer pairs than it was asked for, all of users' keys.

@@ -2,7 +2,7 @@
 
 ghost use Rattle.std.specs.{Prelude.{◌≡◌, ◌<◌, ◌≤◌, ℕ, ◌^◌, Bool, true, false, List, length}, List.{All, Contains}};
 ghost use Rattle.mt_slices.specs.{Keys.{IsStoredKey, stored_key, tenant_of}, Fences.least_from};
-ghost use Rattle.mt_rows.specs.{declared.command.Command.TheVariants.Scan, Commands.IsKey, Rows.{Bytes, Columns}, Maps.is_walked};
+ghost use Rattle.mt_rows.specs.{declared.command.Command.TheVariants.Scan, Commands.IsKey, Rows.Bytes, Stamps.Stamped, Maps.is_walked};
 ghost use Rattle.mt_runs.specs.Scans.{IsLawful};
 ghost use Rattle.mt_version.specs.Changes.{SameButLock};
 ghost use Rattle.mt_arena.specs.{NodeView.NodeView, Arena.{ArenaView, IsArena}, Accesses.at};
@@ -53,14 +53,14 @@ pub fn a_check_goes_on()
 /// and hasn't collected it; and one with as many pairs as it was asked for. Nor has one seen all that hasn't seen such a key,
 /// up to the next node or to the end of the tenant's keys.
 pub fn wrong_scans_are_no_walk()
-    ensures left_behind { (past : Past) (first : ℕ) (from : Bytes) (after : Bool) (count : ℕ) (columns : List ℕ) (s : ScanView) (key : Bytes) (row : ℕ → Columns) →
+    ensures left_behind { (past : Past) (first : ℕ) (from : Bytes) (after : Bool) (count : ℕ) (columns : List ℕ) (s : ScanView) (key : Bytes) (row : ℕ → Stamped) →
         is_walked from after key ≡ true → passed_by s key ≡ true → Stayed past first (tenant_of s.fence) key row → ¬ Contains (keys_of s.collected) key →
         ¬ HasScanned past first from after count columns s }
     ensures full { (past : Past) (first : ℕ) (from : Bytes) (after : Bool) (count : ℕ) (columns : List ℕ) (s : ScanView) → count ≤ length s.collected →
         ¬ HasScanned past first from after count columns s }
-    ensures unseen_before_the_next { (past : Past) (first : ℕ) (prefix : Bytes) (s : ScanView) (slice : ℕ) (key : Bytes) (row : ℕ → Columns) → s.stop ≡ Stop.Next slice →
+    ensures unseen_before_the_next { (past : Past) (first : ℕ) (prefix : Bytes) (s : ScanView) (slice : ℕ) (key : Bytes) (row : ℕ → Stamped) → s.stop ≡ Stop.Next slice →
         passed_by s key ≡ false → passed_at (tenant_of s.fence) (least_from prefix slice) false key ≡ true → Stayed past first (tenant_of s.fence) key row →
         ¬ Contains (keys_of s.seen) key → ¬ HasSeen past first prefix s }
-    ensures unseen_to_the_end { (past : Past) (first : ℕ) (prefix : Bytes) (s : ScanView) (key : Bytes) (row : ℕ → Columns) → s.stop ≡ Stop.Tenant →
+    ensures unseen_to_the_end { (past : Past) (first : ℕ) (prefix : Bytes) (s : ScanView) (key : Bytes) (row : ℕ → Stamped) → s.stop ≡ Stop.Tenant →
         passed_by s key ≡ false → Stayed past first (tenant_of s.fence) key row → ¬ Contains (keys_of s.seen) key → ¬ HasSeen past first prefix s }
 {}

@@ -1,7 +1,7 @@
 //! Confirm: compares the border node's version.
 
 ghost use Rattle.std.specs.Prelude.{◌≡◌, ◌<◌, Option, IfNone};
-ghost use Rattle.mt_rows.specs.Rows.{Columns};
+ghost use Rattle.mt_rows.specs.Stamps.{Stamped};
 ghost use Rattle.mt_arena.specs.Accesses.{at};
 ghost use Rattle.mt_descent.specs.{Pasts.Past, KeptWalks.{IsKept, IsAtBorder, IsAtConfirm}, WalkMoves.{AnswersAgain, Continues, after_confirm, Confirms}};
 
@@ -17,7 +17,7 @@ pub fn confirm(arena: &Arena, key: &StoredKey, walk: &mut Walk) -> Option<usize>
     ensures again { AnswersAgain (at arena.now walk.old.place.node) walk.old walk.new result }
     ensures is { IfNone result (Confirms (at arena.now walk.old.place.node) walk.old walk.new) }
     ensures same { Continues walk.old walk.new }
-    ensures kept { (past : Past) (row : Option Columns) → IsAtConfirm arena.now past key.now row walk.old →
+    ensures kept { (past : Past) (row : Option Stamped) → IsAtConfirm arena.now past key.now row walk.old →
         IfNone result (IsKept arena.now past key.now row walk.new) }
 {
     arena.facts();

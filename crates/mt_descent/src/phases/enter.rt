@@ -1,7 +1,7 @@
 //! Enter: reads the tree's record and its root's version.
 
 ghost use Rattle.std.specs.Prelude.{◌≡◌, Option, IfNone};
-ghost use Rattle.mt_rows.specs.Rows.{Columns};
+ghost use Rattle.mt_rows.specs.Stamps.{Stamped};
 ghost use Rattle.mt_arena.specs.{Forests.tree_at, Accesses.at};
 ghost use Rattle.mt_descent.specs.{Pasts.Past, KeptWalks.{IsKept, IsAtEnter}, WalkMoves.{AnswersAgain, Continues, after_enter}};
 
@@ -17,7 +17,7 @@ pub fn enter(arena: &Arena, key: &StoredKey, walk: &mut Walk) -> Option<usize>
     ensures is { let tree = tree_at arena.now.trees walk.old.place.tree in
         IfNone result (walk.new ≡ after_enter tree.standing walk.old tree.root (at arena.now tree.root).version) }
     ensures same { Continues walk.old walk.new }
-    ensures kept { (past : Past) (row : Option Columns) → IfNone result (IsKept arena.now past key.now row walk.new) }
+    ensures kept { (past : Past) (row : Option Stamped) → IfNone result (IsKept arena.now past key.now row walk.new) }
 {
     arena.facts();
     let tree = arena.tree(walk.place.tree);

@@ -1,7 +1,7 @@
 //! Forward: reads the next border node.
 
 ghost use Rattle.std.specs.{Prelude.{◌≡◌, ℕ, Option, Some, None, IfNone, IsNone}, Option.ForSome};
-ghost use Rattle.mt_rows.specs.Rows.{Columns};
+ghost use Rattle.mt_rows.specs.Stamps.{Stamped};
 ghost use Rattle.mt_arena.specs.Accesses.{at};
 ghost use Rattle.mt_descent.specs.{Pasts.Past, KeptWalks.{slice_in, IsKept, IsAtForward}, WalkMoves.{AnswersAgain, Continues, walk_here, after_forward}};
 
@@ -19,7 +19,7 @@ pub fn forward(arena: &Arena, key: &StoredKey, walk: &mut Walk) -> Option<usize>
     ensures is { (j : ℕ) → walk.old.next ≡ Some j →
         IfNone result (walk.new ≡ after_forward walk.old (slice_in key.now walk.old) j (at arena.now j)) }
     ensures same { Continues walk.old walk.new }
-    ensures kept { (past : Past) (row : Option Columns) → IfNone result (IsKept arena.now past key.now row walk.new) }
+    ensures kept { (past : Past) (row : Option Stamped) → IfNone result (IsKept arena.now past key.now row walk.new) }
 {
     arena.facts();
     let Some(next) = walk.next else {

@@ -2,7 +2,7 @@
 
 ghost use Rattle.std.specs.Prelude.{◌≡◌, ◌≤◌, Option};
 ghost use Rattle.mt_border.specs.declared.entry.Find.{Find as AnyFind};
-ghost use Rattle.mt_rows.specs.Rows.{Columns};
+ghost use Rattle.mt_rows.specs.Stamps.{Stamped};
 ghost use Rattle.mt_arena.specs.Accesses.{at};
 ghost use Rattle.mt_descent.specs.{Pasts.{Past, IsNow, AreStamped}, KeptWalks.{IsKept, IsAtBorder}, WalkMoves.{Continues, after_search, FindsIn}};
 
@@ -17,7 +17,7 @@ pub fn search(arena: &Arena, key: &StoredKey, walk: &mut Walk, step: u64)
     requires kept { IsAtBorder arena.now key.now walk.old }
     ensures is { (found : AnyFind) × FindsIn (at arena.now walk.old.place.node) key.now walk.old.layer found × (walk.new ≡ after_search found walk.old step) }
     ensures same { Continues walk.old walk.new }
-    ensures kept { (past : Past) (row : Option Columns) → AreStamped past arena.now → IsNow past step arena.now → walk.old.first ≤ step → IsKept arena.now past key.now row walk.new }
+    ensures kept { (past : Past) (row : Option Stamped) → AreStamped past arena.now → IsNow past step arena.now → walk.old.first ≤ step → IsKept arena.now past key.now row walk.new }
 {
     arena.facts();
     suffix_fits_mark();

@@ -2,7 +2,7 @@
 
 ghost use Rattle.std.specs.Prelude.{◌≡◌, ◌≢◌, ℕ, List, Option, Some, None, IfOk, OnOk, OnErr};
 ghost use Rattle.mt_slices.specs.Keys.{IsStoredKey};
-ghost use Rattle.mt_rows.specs.Rows.{Columns};
+ghost use Rattle.mt_rows.specs.Stamps.{Stamped};
 ghost use Rattle.mt_arena.specs.Accesses.{at};
 ghost use Rattle.mt_operation.specs.{declared.phase.Phase.TheVariants.Done, Operations.scan_of};
 ghost use Rattle.mt_descent.specs.{Pasts.Past, WalkMoves.Continues};
@@ -35,7 +35,7 @@ pub fn check(
         (scan_of task.old scan.old) (scan_of task.new scan.new)) }
     ensures blocked { IfOk result (λ held. (holder : ℕ) → held ≡ Some holder → (scan.new ≡ scan.old) × (task.new ≡ task.old)) }
     ensures task { task.new ≡ record task.old { key = task.new.key } }
-    ensures kept { IfOk result (λ held. held ≡ None → walk.new.phase ≢ Done → (past : Past) (row : Option Columns) →
+    ensures kept { IfOk result (λ held. held ≡ None → walk.new.phase ≢ Done → (past : Past) (row : Option Stamped) →
         KeptScan walk.new.phase arena.now past task.new.key row walk.new scan.new.stop) }
     ensures same { Continues walk.old walk.new }
     ensures stands_on_err { OnErr result (walk.new ≡ walk.old) }

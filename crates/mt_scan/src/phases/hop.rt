@@ -1,7 +1,7 @@
 //! Hop: goes on behind the stretch of keys that was kept.
 
 ghost use Rattle.std.specs.Prelude.{◌≡◌, Option, IfNone};
-ghost use Rattle.mt_rows.specs.Rows.{Columns};
+ghost use Rattle.mt_rows.specs.Stamps.{Stamped};
 ghost use Rattle.mt_descent.specs.{Pasts.Past, KeptWalks.IsKept, WalkMoves.Continues};
 ghost use Rattle.mt_scan.specs.Hops.{KeptHop, after_next, HopsTo, AnswersHop};
 
@@ -18,7 +18,7 @@ pub fn hop(arena: &Arena, key: &StoredKey, walk: &mut Walk, stop: Stop) -> Optio
     ensures again { AnswersHop arena.now stop walk.old walk.new result }
     ensures is { IfNone result (HopsTo arena.now stop walk.old walk.new) }
     ensures same { Continues walk.old walk.new }
-    ensures kept { (past : Past) (row : Option Columns) → IfNone result (IsKept arena.now past key.now row walk.new) }
+    ensures kept { (past : Past) (row : Option Stamped) → IfNone result (IsKept arena.now past key.now row walk.new) }
 {
     arena.facts();
     match stop {

@@ -1,15 +1,15 @@
 use Rattle.std.{proofs.Common.{List, sym, subst}, specs.List.Contains}
-use Rattle.mt_rows.specs.Rows.{Bytes, Columns}
+use Rattle.mt_rows.specs.{Rows.Bytes, Stamps.Stamped}
 use Rattle.mt_arena.specs.Accesses.{at}
 use Rattle.mt_scan.specs.Snaps.{StopsAt}
 use Rattle.mt_scan.proofs.laws.wrong_snaps_are_refused.Goals as goal
 
 pub returns-clause-drops_a_pair : goal.returns-clause-drops_a_pair
 returns-clause-drops_a_pair c =
-    λ v before after was is pair among missing snap. missing (subst (λ (xs : List (Bytes × Columns)). Contains xs pair) (sym snap.seen) among)
+    λ v before after was is pair among missing snap. missing (subst (λ (xs : List (Bytes × Stamped)). Contains xs pair) (sym snap.seen) among)
 
 pub returns-clause-adds_a_pair : goal.returns-clause-adds_a_pair
-returns-clause-adds_a_pair c = λ v before after was is pair missing among snap. missing (subst (λ (xs : List (Bytes × Columns)). Contains xs pair) snap.seen among)
+returns-clause-adds_a_pair c = λ v before after was is pair missing among snap. missing (subst (λ (xs : List (Bytes × Stamped)). Contains xs pair) snap.seen among)
 
 pub returns-clause-reads_over_an_unstable_slot : goal.returns-clause-reads_over_an_unstable_slot
 returns-clause-reads_over_an_unstable_slot c = λ v before after was is x among unstable snap. snap.settled x among unstable
