@@ -68,5 +68,5 @@ module _ (v : ArenaView) (op : ℕ) (task : Task) (prepared : Prepared) (w : Wal
     room = subst (λ (m : NodeView). length m.slots < 15) (sym node_is) h.room;
     filled = ap (λ (m : NodeView). held_in m.cells.helds (next_free m.cells)) node_is ∙ there ∙ pair_is;
     marked = subst (λ (m : NodeView). is_dropped m.cells (next_free m.cells) ≡ true → m.version.inserting ≡ true) (sym node_is) (λ dropped. ap (λ b. b || n.version.inserting) dropped);
-    left = record { row = row_left; write = h.ready.write };
+    left = record { met = h.ready.met; row = row_left; write = h.ready.write };
   }

@@ -3,7 +3,7 @@ use Rattle.std.specs.Prelude.{◌≡◌, ℕ, ◌<◌, true, length, Some, None}
 use Rattle.mt_slices.specs.Slices.{slice_of, mark_of, suffix_of}
 use Rattle.mt_rows.specs.Rows.{Bytes}
 use Rattle.mt_border.specs.{Held.Pair, Held.Stable, declared.entry.FoundKind.TheVariants.{ThisKey, OtherLong}}
-use Rattle.mt_border.specs.{Entries.IsMissing, Slots.{held_in, next_free, is_dropped}}
+use Rattle.mt_border.specs.{Contents.row_of, Entries.IsMissing, Slots.{held_in, next_free, is_dropped}}
 use Rattle.mt_arena.specs.{NodeView.place_at, Layers.slot_at, Arena.ArenaView, Accesses.at}
 use Rattle.mt_operation.specs.{declared.phase.Phase.Phase, declared.phase.Phase.TheVariants.{Store, Fill, SplitStart}, declared.walk.Walk.Walk}
 use Rattle.mt_operation.specs.{declared.task.Task.Task, declared.prepared.Prepared.Prepared}
@@ -17,7 +17,7 @@ pub record IsAtStore (v : ArenaView) (op : ℕ) (task : Task) (prepared : Prepar
   pub in_slot : IsInSlot (at v w.place.node) w.slot task.key w.layer ThisKey
   pub pair : Pair
   pub stable : (slot_at (at v w.place.node) (place_at (at v w.place.node) w.slot)).held ≡ Stable pair
-  pub ready : IsReady task (Some pair.row) prepared
+  pub ready : IsReady task (Some (row_of pair)) prepared
 
 -- at Fill: the node misses the key and has room for it, and what was made ready is the put over no row
 pub record IsAtFill (v : ArenaView) (op : ℕ) (task : Task) (prepared : Prepared) (w : Walk) : Type 0 where

@@ -4,14 +4,15 @@ use Rattle.mt_rows.specs.{Accounts.{Accounts, HasRoom, OthersStay, account_of, o
 use Rattle.mt_border.specs.{Contents.owned, Entry.order_of, Entries.{place_in, with_entry}}
 use Rattle.mt_tape.specs.Tapes.{Kept}
 use Rattle.mt_arena.specs.{Arena.{ArenaView, Guarantee, content_of}, Accesses.{at, with_node}, Edits.{with_slots, cells_with}}
-use Rattle.mt_operation.specs.{declared.task.Task.Task, declared.walk.Walk.Walk}
+use Rattle.mt_operation.specs.{declared.task.Task.Task, declared.walk.Walk.Walk, Tasks.ask}
 use Rattle.mt_descent.specs.WalkMoves.{Continues}
 use Rattle.mt_held.specs.{Holds.IsAtUnlock, Taping.released, Moves.walk_placed}
-use Rattle.mt_insert.specs.Placing.{Places, entry_of}
+use Rattle.mt_insert.specs.{Placing.{Places, entry_of}, Puts.MeetsStamp}
 
--- the pair is live, placed by the step of this number, and counted; its write is on the tape
+-- The pair is live, placed by the step of this number, and counted; its write is on the tape. The put may be placed where no row stands.
 pub record IsPublish (op step : ℕ) (task : Task) (row : Columns) (old new : ArenaView) (tape taped : Kept) (accounts counted : Accounts) (before after : Walk) : Type 0 where
   pub missing : get (content_of old) (owned task.key) ≡ None
+  pub met : MeetsStamp (ask task) 0
   pub room : HasRoom (account_of accounts task.tenant)
   pub more : account_of counted task.tenant ≡ option_map one_more (account_of accounts task.tenant)
   pub others : OthersStay accounts counted task.tenant
@@ -23,9 +24,10 @@ pub record IsPublish (op step : ℕ) (task : Task) (row : Columns) (old new : Ar
   pub guarantee : Guarantee op old new
   pub kept : IsAtUnlock new op after
 
--- the quota has no room: nothing changes but that the room on the tape is given back
+-- The put may be placed where no row stands, but the quota has no room. Nothing changes but that the room on the tape is given back.
 pub record IsPublishFull (op : ℕ) (task : Task) (old new : ArenaView) (tape taped : Kept) (accounts counted : Accounts) (before after : Walk) : Type 0 where
   pub missing : get (content_of old) (owned task.key) ≡ None
+  pub met : MeetsStamp (ask task) 0
   pub full : ¬ HasRoom (account_of accounts task.tenant)
   pub stays : new ≡ old
   pub uncounted : counted ≡ accounts

@@ -5,9 +5,9 @@ use Rattle.mt_border.specs.{Contents.owned, Entries.with_entry}
 use Rattle.mt_tape.specs.Tapes.{Kept}
 use Rattle.mt_arena.specs.{Several.AreHalved, Arena.{ArenaView, Guarantee, content_of}, Accesses.at}
 use Rattle.mt_operation.specs.{declared.phase.Phase.TheVariants.{LockParent, SplitPrev}, declared.phase.Phase.Phase, declared.splits.Splits.Splits}
-use Rattle.mt_operation.specs.{declared.task.Task.Task, declared.walk.Walk.Walk}
+use Rattle.mt_operation.specs.{declared.task.Task.Task, declared.walk.Walk.Walk, Tasks.ask}
 use Rattle.mt_descent.specs.WalkMoves.{Continues}
-use Rattle.mt_insert.specs.{KeptSplits.{HoldsSplits, KeptSplit, last_of}, Placing.{Places, entry_of}}
+use Rattle.mt_insert.specs.{KeptSplits.{HoldsSplits, KeptSplit, last_of}, Placing.{Places, entry_of}, Puts.MeetsStamp}
 use Rattle.mt_held.specs.{Taping.released, Moves.walk_at}
 
 -- a node behind the halves still names the left one; where there is none, the parent comes next
@@ -15,9 +15,10 @@ abbrev pub after_parting : Option ℕ → Phase
 after_parting None = LockParent
 after_parting (Some behind) = SplitPrev
 
--- the keys were parted: what is kept of the halves, which the operation holds alone
+-- the keys were parted by a put that may be placed where no row stands: what is kept of the halves, which the operation holds alone
 pub record PartsKeys (op : ℕ) (task : Task) (old new : ArenaView) (before after : Walk) (s : Splits) : Type 0 where
   pub missing : get (content_of old) (owned task.key) ≡ None
+  pub met : MeetsStamp (ask task) 0
   pub nodes_alone : new ≡ record old { nodes = new.nodes }
   pub walk : after ≡ walk_at (after_parting (at old before.place.node).next) before
   pub same : Continues before after

@@ -1,15 +1,16 @@
 //! What is kept of a put that holds its border node stays under the steps of all others, and what it
-//! places is its command's change. Contracts alone: no code runs.
+//! places is its command's change. One that meets another stamp changes nothing. Contracts alone: no code
+//! runs.
 
 ghost use Rattle.std.specs.{Prelude.{◌≡◌, ◌≢◌, ◌<◌, ◌≤◌, ℕ, List, Some, None}, FinMap.{get, len}};
-ghost use Rattle.mt_rows.specs.{declared.reply.Reply.TheVariants.{New, Replaced, Full}, Rows.{Bytes, Columns}, Maps.{reply_of, map_after}};
+ghost use Rattle.mt_rows.specs.{declared.reply.Reply.TheVariants.{New, Replaced, Full, Stale}, Rows.Bytes, Stamps.{Stamped, stamp_in}, Maps.{reply_of, map_after}};
 ghost use Rattle.mt_rows.specs.Tenants.{Contents, tenant_map};
-ghost use Rattle.mt_border.specs.Contents.{owned};
+ghost use Rattle.mt_border.specs.Contents.{owned, row_of};
 ghost use Rattle.mt_tape.specs.{declared.entry.Entry.Entry, Tapes.last_step_over, Histories.{IsNextWrite, with_write}};
 ghost use Rattle.mt_arena.specs.{Arena.{ArenaView, IsArena, content_of, Guarantee}, Given.{GivesOut, GivesOutBeside}};
 ghost use Rattle.mt_operation.specs.{declared.phase.Phase.Phase, declared.walk.Walk.Walk, declared.task.Task.Task, declared.prepared.Prepared.Prepared};
 ghost use Rattle.mt_operation.specs.{declared.splits.Splits.Splits, Tasks.ask};
-ghost use Rattle.mt_insert.specs.{Puts.{IsPut, write_of}, KeptPuts.{IsAtStore, IsAtFill, IsAtPublish, KeptReady, IsAtSplitStart, IsAtMakeLayer}};
+ghost use Rattle.mt_insert.specs.{Puts.{IsPut, MeetsStamp, write_of}, KeptPuts.{IsAtStore, IsAtFill, IsAtPublish, KeptReady, IsAtSplitStart, IsAtMakeLayer}};
 ghost use Rattle.mt_insert.specs.KeptSplits.{HoldsSplits, IsAtSplitMove, KeptSplit};
 
 /// What a put keeps at Store, each step of another operation leaves.
@@ -40,7 +41,7 @@ pub fn ready_stays()
 /// and none at Fill and at Publish: the row before of the write that it made ready.
 pub fn the_row_before_stands()
     ensures store { (v : ArenaView) (op : ℕ) (task : Task) (prepared : Prepared) (w : Walk) → IsArena v.nodes v.trees → (kept : IsAtStore v op task prepared w) →
-        get (content_of v) (owned task.key) ≡ Some kept.pair.row }
+        get (content_of v) (owned task.key) ≡ Some (row_of kept.pair) }
     ensures fill { (v : ArenaView) (op : ℕ) (task : Task) (prepared : Prepared) (w : Walk) → IsArena v.nodes v.trees → IsAtFill v op task prepared w →
         get (content_of v) (owned task.key) ≡ None }
     ensures publish { (v : ArenaView) (op : ℕ) (task : Task) (prepared : Prepared) (w : Walk) → IsArena v.nodes v.trees → IsAtPublish v op task prepared w →
@@ -55,21 +56,32 @@ pub fn a_placed_write_is_next()
         IsNextWrite floor entries contents (write_of task contents step) }
 {}
 
-/// The write that a put places is its command's change, and the reply is the command's, by its tenant's
-/// map: `Replaced` over a row; `New` where the key is missing and the tenant has fewer pairs than its
-/// quota, else `Full`, which changes nothing. It leaves every other tenant's map equal.
+/// The write that a put places is its command's change, with the number of its step, and the reply is the
+/// command's, by its tenant's map: `Replaced` over a row; `New` where the key is missing and the tenant has
+/// fewer pairs than its quota, else `Full`, which changes nothing. If the put asks for a stamp, that one
+/// stands at its key. It leaves every other tenant's map equal.
 pub fn a_placed_put_is_its_command()
-    ensures replaced { (quota step : ℕ) (contents : Contents) (task : Task) (row : Columns) → IsPut task → get contents (owned task.key) ≡ Some row →
+    ensures replaced { (quota step : ℕ) (contents : Contents) (task : Task) (row : Stamped) → IsPut task → get contents (owned task.key) ≡ Some row → MeetsStamp (ask task) row.stamp →
         (reply_of quota (ask task) (tenant_map task.tenant contents) ≡ Replaced)
-        × (map_after quota (ask task) (tenant_map task.tenant contents) ≡ tenant_map task.tenant (with_write contents (write_of task contents step))) }
-    ensures new { (quota step : ℕ) (contents : Contents) (task : Task) → IsPut task → get contents (owned task.key) ≡ None → len (tenant_map task.tenant contents) < quota →
+        × (map_after quota step (ask task) (tenant_map task.tenant contents) ≡ tenant_map task.tenant (with_write contents (write_of task contents step))) }
+    ensures new { (quota step : ℕ) (contents : Contents) (task : Task) → IsPut task → get contents (owned task.key) ≡ None → MeetsStamp (ask task) 0 →
+        len (tenant_map task.tenant contents) < quota →
         (reply_of quota (ask task) (tenant_map task.tenant contents) ≡ New)
-        × (map_after quota (ask task) (tenant_map task.tenant contents) ≡ tenant_map task.tenant (with_write contents (write_of task contents step))) }
-    ensures full { (quota : ℕ) (contents : Contents) (task : Task) → IsPut task → get contents (owned task.key) ≡ None → quota ≤ len (tenant_map task.tenant contents) →
+        × (map_after quota step (ask task) (tenant_map task.tenant contents) ≡ tenant_map task.tenant (with_write contents (write_of task contents step))) }
+    ensures full { (quota step : ℕ) (contents : Contents) (task : Task) → IsPut task → get contents (owned task.key) ≡ None → MeetsStamp (ask task) 0 →
+        quota ≤ len (tenant_map task.tenant contents) →
         (reply_of quota (ask task) (tenant_map task.tenant contents) ≡ Full)
-        × (map_after quota (ask task) (tenant_map task.tenant contents) ≡ tenant_map task.tenant contents) }
+        × (map_after quota step (ask task) (tenant_map task.tenant contents) ≡ tenant_map task.tenant contents) }
     ensures others { (step : ℕ) (contents : Contents) (task : Task) (t : ℕ) → IsPut task → t ≢ task.tenant →
         tenant_map t (with_write contents (write_of task contents step)) ≡ tenant_map t contents }
+{}
+
+/// A put that asks for another stamp than the one that stands at its key is told the latter. It leaves its
+/// tenant's map, whether or not the quota has room. If no row stands, the stamp is 0.
+pub fn a_stale_put_changes_nothing()
+    ensures { (quota step : ℕ) (contents : Contents) (task : Task) (stamp : ℕ) → IsPut task → stamp_in (get contents (owned task.key)) ≡ stamp → ¬ MeetsStamp (ask task) stamp →
+        (reply_of quota (ask task) (tenant_map task.tenant contents) ≡ Stale stamp)
+        × (map_after quota step (ask task) (tenant_map task.tenant contents) ≡ tenant_map task.tenant contents) }
 {}
 
 /// What a put keeps at SplitStart, each step of another operation leaves.

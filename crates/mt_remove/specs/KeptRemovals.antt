@@ -1,7 +1,7 @@
 -- What is kept of a removal, by its next phase. Each fact speaks of nodes that the operation holds.
 use Rattle.std.specs.Prelude.{◌≡◌, ◌≢◌, ℕ, ◌<◌, ◌⊎◌, true, false, [], ◌∷◌, length, Option, Some, None}
 use Rattle.mt_rows.specs.Rows.{Bytes}
-use Rattle.mt_border.specs.{Held.Pair, Held.{Stable, Link}, declared.entry.FoundKind.TheVariants.ThisKey}
+use Rattle.mt_border.specs.{Held.Pair, Held.{Stable, Link}, Contents.row_of, declared.entry.FoundKind.TheVariants.ThisKey}
 use Rattle.mt_arena.specs.{NodeView.NodeView, Nodes.HasChild, Layers.slot_at, Lags.IsFollowedBy, Arena.ArenaView, Accesses.{at, IsHeld, IsOpen}}
 use Rattle.mt_arena.specs.Removals.{AreBeside}
 use Rattle.mt_operation.specs.declared.phase.Phase.{Phase}
@@ -24,7 +24,7 @@ pub record IsAtDropKey (v : ArenaView) (op : ℕ) (task : Task) (prepared : Prep
   pub in_slot : IsInSlot (at v w.place.node) w.slot task.key w.layer ThisKey
   pub pair : Pair
   pub stable : (slot_at (at v w.place.node) (walk_place v w)).held ≡ Stable pair
-  pub ready : IsReady task pair.row prepared
+  pub ready : IsReady task (row_of pair) prepared
 
 -- a node of the walk's tree that the operation may give back, and one of another tree: the root of the layer below
 pub record IsOurs (v : ArenaView) (op : ℕ) (w : Walk) (level k : ℕ) : Type 0 where

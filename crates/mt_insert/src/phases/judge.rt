@@ -1,17 +1,21 @@
-//! Judge: looks for the key in the border node that the operation holds, and makes all growths of the
-//! step that places its change.
+//! Judge: looks for the key in the border node that the operation holds, judges the stamp that stands
+//! there, and makes all growths of the step that places its change.
 
-ghost use Rattle.std.specs.Prelude.{◌≡◌, ◌<◌, ◌==◌, if◌then◌else◌, length};
-ghost use Rattle.mt_border.specs.Node.{entries_of};
+ghost use Rattle.std.specs.{Prelude.{◌≡◌, ◌<◌, ◌==◌, if◌then◌else◌, length, true, false}, Option.option_map};
+ghost use Rattle.mt_rows.specs.Stamps.{stamp_in};
+ghost use Rattle.mt_border.specs.{Contents.row_of, Entry.pair_of, Node.{IsLive, entries_of, entry_at}};
 ghost use Rattle.mt_arena.specs.Accesses.{at};
-ghost use Rattle.mt_insert.specs.{Puts.IsPut, Judge.{StandsIn, TellsJudged, after_judge}};
+ghost use Rattle.mt_operation.specs.Tasks.{ask, command_of};
+ghost use Rattle.mt_descent.specs.KeptWalks.{IsAtBorder};
+ghost use Rattle.mt_insert.specs.{Puts.{IsPut, MeetsStamp}, Judge.{StandsIn, TellsJudged, after_judge, standing_in}};
 ghost use Rattle.mt_held.specs.Holds.{HoldsBorder};
 
 use crate::prepare::prepare;
 use mt_arena::Arena;
 use mt_border::{Border, Find, FoundKind, Held};
 use mt_held::{find_here, go_below, tree_at, unlock};
-use mt_operation::{Phase, Prepared, Task, Walk};
+use mt_operation::{Phase, Prepared, Request, Task, Walk};
+use mt_slices::StoredKey;
 use mt_tape::Tape;
 use std::alloc::Global;
 
@@ -23,14 +27,18 @@ pub enum Judged {
     /// It goes on in the tree of the next layer, and the lock was given back; or that tree is to be
     /// made.
     GoesOn,
+    /// Another stamp stands at the key than the one that the put asks for: this one, 0 for no row. The
+    /// lock was given back, and the walk is done.
+    Stale(u64),
     /// There is no memory; the lock was given back, and the walk is done.
     NoMemory,
 }
 
 /// Looks for the key in the border node that the operation holds. Where the node has it or misses it,
-/// all growths are made of the step that will place the row: `store`, `publish` behind `fill`, or
-/// `split_move` behind `split_start` where the node is full. A link leads into its tree; where another long key stands in
-/// the key's place, a layer is to be made for both.
+/// the stamp that stands there is judged first. A put that asks for another one gives its lock back. For
+/// all others all growths are made of the step that will place the row. That is `store`, `publish` behind
+/// `fill`, or `split_move` behind `split_start` where the node is full. A link leads into its tree; where another
+/// long key stands in the key's place, a layer is to be made for both.
 pub fn judge(
     alloc: Global,
     arena: &mut Arena,
@@ -45,9 +53,9 @@ pub fn judge(
 {
     arena.facts();
     match find_here(arena, &task.key, walk) {
-        Find::Missing => make_ready(alloc, arena, tape, task, walk, None, operation),
+        Find::Missing => judge_stamp(alloc, arena, tape, task, walk, None, operation),
         Find::Slot(slot, FoundKind::ThisKey) => {
-            make_ready(alloc, arena, tape, task, walk, Some(slot), operation)
+            judge_stamp(alloc, arena, tape, task, walk, Some(slot), operation)
         }
         Find::Slot(slot, FoundKind::OtherLong) => {
             walk.slot = slot;
@@ -59,6 +67,65 @@ pub fn judge(
             go_below(arena, walk, tree, operation);
             Judged::GoesOn
         }
+    }
+}
+
+// Judges the stamp that stands at the key, by the slot that has it, and then makes all ready.
+fn judge_stamp(
+    alloc: Global,
+    arena: &mut Arena,
+    tape: &mut Tape,
+    task: &Task,
+    walk: &mut Walk,
+    slot: Option<usize>,
+    operation: usize,
+) -> Judged
+    requires put { IsPut task.now }
+    requires kept { HoldsBorder arena.old operation task.now.key walk.old }
+    requires slot { StandsIn (at arena.old walk.old.place.node) task.now.key walk.old.layer slot }
+    ensures { TellsJudged operation task.now arena.old arena.new tape.old tape.new walk.old walk.new result }
+{
+    arena.facts();
+    let stamp = standing_stamp(arena, &task.key, walk, slot);
+    if !meets_stamp(&task.request, stamp) {
+        unlock(arena, walk, operation);
+        return Judged::Stale(stamp);
+    }
+    make_ready(alloc, arena, tape, task, walk, slot, operation)
+}
+
+// The stamp that stands at the key, by the slot that has it: 0 where it is missing.
+fn standing_stamp(arena: &Arena, key: &StoredKey, walk: &Walk, slot: Option<usize>) -> u64
+    requires kept { IsAtBorder arena.now key.now walk.now }
+    requires slot { StandsIn (at arena.now walk.now.place.node) key.now walk.now.layer slot }
+    ensures { result ≡ stamp_in (standing_in (at arena.now walk.now.place.node) slot) }
+{
+    match slot {
+        Some(slot) => stamp_at(arena.border(walk.place.node), slot),
+        None => 0,
+    }
+}
+
+// The stamp of a slot's pair.
+fn stamp_at(border: &Border, slot: usize) -> u64
+    requires { IsLive border.now slot }
+    ensures { result ≡ stamp_in (option_map row_of (pair_of (entry_at border.now slot).held)) }
+{
+    match border.load(slot).and_then(Held::pair) {
+        Some(pair) => pair.stamp,
+        None => 0,
+    }
+}
+
+// Whether a put may be placed where this stamp stands.
+fn meets_stamp(request: &Request, standing: u64) -> bool
+    ensures yes { result ≡ true → MeetsStamp (command_of request.now) standing }
+    ensures no { result ≡ false → ¬ MeetsStamp (command_of request.now) standing }
+{
+    match request {
+        Request::PutIf { stamp, .. } => standing == *stamp,
+        Request::Get { .. } | Request::Put { .. } | Request::Remove { .. } | Request::Scan { .. } =>
+            true,
     }
 }
 
@@ -75,6 +142,7 @@ fn make_ready(
     requires put { IsPut task.now }
     requires kept { HoldsBorder arena.old operation task.now.key walk.old }
     requires slot { StandsIn (at arena.old walk.old.place.node) task.now.key walk.old.layer slot }
+    requires met { MeetsStamp (ask task.now) (stamp_in (standing_in (at arena.old walk.old.place.node) slot)) }
     ensures { TellsJudged operation task.now arena.old arena.new tape.old tape.new walk.old walk.new result }
 {
     arena.facts();

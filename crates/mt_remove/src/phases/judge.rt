@@ -2,7 +2,7 @@
 //! step that takes it out.
 
 ghost use Rattle.std.specs.Prelude.{◌≡◌, Some, IfOk, OnOk, OnErr};
-ghost use Rattle.mt_border.specs.{Held.{Pair as AnyPair}, Entry.pair_of, Node.{IsLive, entry_at}, declared.entry.FoundKind.TheVariants.ThisKey};
+ghost use Rattle.mt_border.specs.{Contents.row_of, Held.{Pair as AnyPair}, Entry.pair_of, Node.{IsLive, entry_at}, declared.entry.FoundKind.TheVariants.ThisKey};
 ghost use Rattle.mt_arena.specs.{NodeView.place_at, Accesses.at, Layers.slot_at};
 ghost use Rattle.mt_descent.specs.KeptWalks.{IsAtBorder, IsInSlot};
 ghost use Rattle.mt_held.specs.{Holds.HoldsBorder, Taping.reserving};
@@ -12,7 +12,7 @@ use mt_arena::Arena;
 use mt_border::{Border, Find, FoundKind, Held};
 use mt_held::{find_here, go_below, tree_at, unlock};
 use mt_operation::{Phase, Prepared, Task, Walk};
-use mt_rows::Row;
+use mt_rows::StampedRow;
 use mt_tape::{Entry, Tape};
 use std::alloc::AllocError;
 
@@ -126,18 +126,22 @@ fn prepared(border: &Border, task: &Task, slot: usize) -> Result<Prepared, Alloc
         key: task.spare.copied(task.request.key())?,
         before: Some(row_at(border, slot)?),
         after: None,
+        change: None,
     };
     Ok(Prepared::of_write(write))
 }
 
-// The row of a slot that has a pair, shared.
-fn row_at(border: &Border, slot: usize) -> Result<Row, AllocError>
+// The row of a slot that has a pair, with its stamp, shared.
+fn row_at(border: &Border, slot: usize) -> Result<StampedRow, AllocError>
     requires live { IsLive border.now slot }
     requires pair { (pair : AnyPair) × (pair_of (entry_at border.now slot).held ≡ Some pair) }
-    ensures { IfOk result (λ row. (pair : AnyPair) → pair_of (entry_at border.now slot).held ≡ Some pair → row ≡ pair.row) }
+    ensures { IfOk result (λ row. (pair : AnyPair) → pair_of (entry_at border.now slot).held ≡ Some pair → row ≡ row_of pair) }
 {
     match border.load(slot).and_then(Held::pair) {
-        Some(pair) => pair.row.share(),
+        Some(pair) => Ok(StampedRow {
+            stamp: pair.stamp,
+            row: pair.row.share()?,
+        }),
         None => unreachable!(),
     }
 }

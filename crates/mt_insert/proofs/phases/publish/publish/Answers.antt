@@ -7,6 +7,7 @@ pub returns-then-not-count_new : goal.returns-then-not-count_new
 returns-then-not-count_new c = record {
   missing = let kept = c.requires.kept in
       none_here c.args.arena.now c.args.operation c.args.task.now.key c.args.walk.now c.facts.ensures.arena kept.holds kept.missing;
+  met = c.requires.kept.left.met;
   full = search rules;
   stays = refl;
   uncounted = search rules;
@@ -21,6 +22,7 @@ pub returns : goal.returns
 returns c = record {
   missing = let kept = c.requires.kept in
       none_here c.args.arena.now c.args.operation c.args.task.now.key c.args.walk.now c.facts.ensures.arena kept.holds kept.missing;
+  met = c.requires.kept.left.met;
   room = search rules;
   more = search rules;
   others = search rules;

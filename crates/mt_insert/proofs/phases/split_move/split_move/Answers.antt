@@ -13,6 +13,7 @@ returns-then-is_new c =
     rw c.if-is_new.true (record {
       parts = record {
         missing = none_here v c.args.operation c.args.task.now c.args.prepared w s c.facts.ensures.arena c.requires.kept;
+        met = c.requires.kept.ready.met;
         nodes_alone = search rules;
         walk = search rules;
         same = search rules;
@@ -37,6 +38,7 @@ returns-else-is_new c =
     rw c.if-is_new.false (record {
       parts = record {
         missing = none_here v c.args.operation c.args.task.now c.args.prepared w s c.facts.ensures.arena c.requires.kept;
+        met = c.requires.kept.ready.met;
         nodes_alone = search rules;
         walk = search rules;
         same = search rules;

@@ -1,7 +1,7 @@
 -- That the holder may take its key's pair out, what that is for contents and tape, and what is kept then.
 use Rattle.std.proofs.Common.{rules, ℕ, sym, ap, subst, ◌∙◌}
 use Rattle.mt_rows.specs.Rows.{Bytes}
-use Rattle.mt_border.specs.{declared.entry.Entry.Entry, Entries.without}
+use Rattle.mt_border.specs.{Contents.row_of, declared.entry.Entry.Entry, Entries.without}
 use Rattle.mt_tape.specs.declared.entry.Entry.{Entry as Write}
 use Rattle.mt_arena.specs.{Edits.{with_slots, cells_without}, Arena.{ArenaView, content_of}, Accesses.{at, with_node}}
 use Rattle.mt_operation.specs.{declared.removal.Removal.Removal, declared.walk.Walk.Walk}
@@ -40,7 +40,7 @@ returns c =
     } in
     record {
       is = is;
-      row = kept.pair.row;
+      row = row_of kept.pair;
       places = record {
         was_there = row_here v o key w arena kept.holds w.slot kept.pair kept.in_slot kept.stable;
         contents = c.let_go.ensures.contents key kept.pair (may_store v o key w arena kept.holds w.slot kept.pair kept.in_slot kept.stable)
