@@ -1,5 +1,5 @@
 -- Tenants stay apart, by their stored keys and in each step: for `tenants_stay_apart`.
-use Rattle.std.{proofs.{Common.{◌≡◌, ◌≢◌, ℕ, ◌<◌, inl, inr, Bool, cond, Some, sym, ap, ◌∙◌}, lemmas.Bool.ne_eqb, lemmas.Option.same_Some}, specs.Prelude.{◌^◌}}
+use Rattle.std.{proofs.{Common.{◌≡◌, ◌≢◌, ℕ, ◌+◌, ◌<◌, inl, inr, Bool, cond, Some, sym, ap, ◌∙◌}, lemmas.Bool.ne_eqb, lemmas.Option.same_Some}, specs.Prelude.{◌^◌}}
 use Rattle.mt_slices.{specs.Keys.{stored_key, tenant_of}, proofs.Tenants.tenant_of-stored_key}
 use Rattle.mt_rows.specs.{Rows.Bytes, Maps.map_after, Tenants.tenant_map}
 use Rattle.mt_operation.specs.Operations.{OperationView}
@@ -17,6 +17,6 @@ maps_apart old new o t done op s there apart =
     elim s.effect [
       | inl quiet ↦ ap (tenant_map t) quiet.contents
       | inr placing ↦
-          placing.makes t ∙ ap (λ b. cond b (map_after (quota_of old t) s.before.command (tenant_map t (contents_of old))) (tenant_map t (contents_of old)))
+          placing.makes t ∙ ap (λ b. cond b (map_after (quota_of old t) (old.steps + 1) s.before.command (tenant_map t (contents_of old))) (tenant_map t (contents_of old)))
           (ne_eqb t s.before.tenant (λ is. apart (is ∙ ap (λ (p : OperationView). p.tenant) same)))
     ]

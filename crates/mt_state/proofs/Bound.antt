@@ -1,6 +1,6 @@
 -- What an operation is bound for stays under its own steps: for the steps of one that holds nothing, or is to judge.
 use Rattle.std.proofs.Common.{◌≢◌, ◌≡◌, ℕ, ◌+◌, ◌<◌, true, false, List, length, Option, Some, None, refl, sym, ap, subst, ◌∙◌, arith}
-use Rattle.mt_rows.specs.{declared.command.Command.Command, declared.command.Command.TheVariants.{Get, Put, Remove, Scan}, Rows.Bytes, Maps.is_get}
+use Rattle.mt_rows.specs.{declared.command.Command.Command, declared.command.Command.TheVariants.{Get, Put, PutIf, Remove, Scan}, Rows.Bytes, Maps.is_get}
 use Rattle.mt_border.specs.Contents.{IsOfTree}
 use Rattle.mt_arena.specs.{declared.tree.Tree.Tree, Forests.tree_at, Arena.ArenaView}
 use Rattle.mt_descent.specs.KeptWalks.{GoesThrough}
@@ -17,18 +17,21 @@ use Rattle.mt_operation.specs.declared.walk.Aim.TheVariants as aims
 pub get_no_remove : (command : Command) → is_get command ≡ true → is_remove command ≡ false
 get_no_remove (Get key columns) e = refl
 get_no_remove (Put key change) e = absurd (cc)
+get_no_remove (PutIf key stamp change) e = absurd (cc)
 get_no_remove (Remove key) e = absurd (cc)
 get_no_remove (Scan from after count columns) e = absurd (cc)
 
 pub remove_writes : (command : Command) → is_remove command ≡ true → aim_of command ≡ aims.Write
 remove_writes (Get key columns) e = absurd (cc)
 remove_writes (Put key change) e = absurd (cc)
+remove_writes (PutIf key stamp change) e = absurd (cc)
 remove_writes (Remove key) e = refl
 remove_writes (Scan from after count columns) e = absurd (cc)
 
 pub put_no_remove : (command : Command) → is_put command ≡ true → is_remove command ≡ false
 put_no_remove (Get key columns) e = absurd (cc)
 put_no_remove (Put key change) e = refl
+put_no_remove (PutIf key stamp change) e = refl
 put_no_remove (Remove key) e = absurd (cc)
 put_no_remove (Scan from after count columns) e = absurd (cc)
 

@@ -1,9 +1,9 @@
 -- A get that compares the version with the one that it remembered: it is done with what it took, or goes on its way.
 use Rattle.std.proofs.Common.{◌≡◌, ◌≢◌, ℕ, ◌+◌, ◌<◌, ◌≤◌, ◌⊎◌, inl, inr, true, false, Option, Some, None, refl, sym, ap, subst, ◌∙◌, arith}
 use Rattle.std.specs.{Prelude.{◌^◌}, FinMap.get}
-use Rattle.mt_rows.specs.{declared.reply.Reply.Reply, declared.reply.Reply.TheVariants.{Absent, Found}, Rows.{Bytes, Columns, shown as columns_shown}}
+use Rattle.mt_rows.specs.{declared.reply.Reply.Reply, declared.reply.Reply.TheVariants.{Absent, Found}, Rows.Bytes, Stamps.{Stamped, as_shown}}
 use Rattle.mt_rows.specs.{Commands.key_of, Maps.{is_get, is_change, reply_of}, declared.command.Command.Command}
-use Rattle.mt_rows.specs.declared.command.Command.TheVariants.{Get, Put, Remove, Scan}
+use Rattle.mt_rows.specs.declared.command.Command.TheVariants.{Get, Put, PutIf, Remove, Scan}
 use Rattle.mt_rows.proofs.ContentLaws.{get-tenant_map}
 use Rattle.mt_border.specs.Contents.{owned}
 use Rattle.mt_tape.specs.Histories.{contents_at}
@@ -26,12 +26,12 @@ use Rattle.mt_walks.specs.Walked.{IsWithin}
 use Rattle.mt_operation.specs.declared.walk.Aim.TheVariants as aims
 
 -- what is kept of a walk on its way does not speak of a row
-row_aside : (p : Phase) → IsOnWay p → (v : ArenaView) (past : Past) (key : Bytes) (row : Option Columns) (w : Walk) → KeptAt p v past key row w
+row_aside : (p : Phase) → IsOnWay p → (v : ArenaView) (past : Past) (key : Bytes) (row : Option Stamped) (w : Walk) → KeptAt p v past key row w
     → KeptAt p v past key None w
 row_aside p on v past key row w = by_way (λ q. KeptAt q v past key row w → KeptAt q v past key None w) (by_descent _ (λ k. k) (λ k. k) (λ k. k) (λ k. k) (λ k. k)) (λ k. k) (λ k. k) (λ k. k) p on
 
 -- nor of the past
-past_aside : (p : Phase) → IsOnWay p → (v : ArenaView) (past other : Past) (key : Bytes) (row : Option Columns) (w : Walk) → KeptAt p v past key row w
+past_aside : (p : Phase) → IsOnWay p → (v : ArenaView) (past other : Past) (key : Bytes) (row : Option Stamped) (w : Walk) → KeptAt p v past key row w
     → KeptAt p v other key row w
 past_aside p on v past other key row w = by_way (λ q. KeptAt q v past key row w → KeptAt q v other key row w) (by_descent _ (λ k. k) (λ k. k) (λ k. k) (λ k. k) (λ k. k)) (λ k. k) (λ k. k) (λ k. k) p on
 
@@ -39,6 +39,7 @@ past_aside p on v past other key row w = by_way (λ q. KeptAt q v past key row w
 pub get_of : (command : Command) (aim : Aim) → aim ≡ aim_of command → aim ≡ aims.Read → is_get command ≡ true
 get_of (Get key columns) aim e f = refl
 get_of (Put key change) aim e f = absurd (let no = sym e ∙ f in cc)
+get_of (PutIf key stamp change) aim e f = absurd (let no = sym e ∙ f in cc)
 get_of (Remove key) aim e f = absurd (let no = sym e ∙ f in cc)
 get_of (Scan from after count columns) aim e f = absurd (let no = sym e ∙ f in cc)
 
@@ -76,7 +77,7 @@ module _ (c : Core) (now : StateView) (o : ℕ) (is : shown c ≡ now) (h : Stat
   no_change Nothing t = ap told_change t
 
   module _ (w : Walk) (same : Continues op.walk w) (confirms : Confirms (at c.arena op.walk.place.node) op.walk w)
-      (kept : (past : Past) (row : Option Columns) → WalksConfirm c.arena past op.task.key row op.walk → IsKept c.arena past op.task.key row w) where
+      (kept : (past : Past) (row : Option Stamped) → WalksConfirm c.arena past op.task.key row op.walk → IsKept c.arena past op.task.key row w) where
     -- what is kept of the walk now
     kept_now : IsKept c.arena (past_of c) op.task.key confirming.row w
     kept_now =
@@ -108,7 +109,7 @@ module _ (c : Core) (now : StateView) (o : ℕ) (is : shown c ≡ now) (h : Stat
     ]
 
     -- the get's command on the map at a number, by what its key had then
-    map_has : (m : ℕ) (row : Option Columns) → get (contents_at c.tape.entries (content_of c.arena) m) (owned op.task.key) ≡ row
+    map_has : (m : ℕ) (row : Option Stamped) → get (contents_at c.tape.entries (content_of c.arena) m) (owned op.task.key) ≡ row
         → get (map_of (shown c) op.task.tenant m) (key_of (ask op.task)) ≡ row
     map_has m row e =
         get-tenant_map op.task.tenant (contents_at c.tape.entries (content_of c.arena) m) (key_of (ask op.task)) ∙ ap (get (contents_at c.tape.entries (content_of c.arena) m)) (sym (always.owner (get_no_scan (ask op.task) gets))) ∙ e
@@ -160,7 +161,7 @@ module _ (c : Core) (now : StateView) (o : ℕ) (is : shown c ≡ now) (h : Stat
             → TellsTaken op confirming.row taken → HasAnswer the_new the_after
         by Missing had told = answered Absent op.walk.right_at had.since had.made told refl
             (get_absent (quota_of (shown c) op.task.tenant) (ask op.task) (map_of (shown c) op.task.tenant op.walk.right_at) gets (map_has op.walk.right_at None had.had))
-        by Row had told = answered (Found (columns_shown told.1 told.0)) op.walk.right_at had.2.since had.2.made told.4 refl
+        by Row had told = answered (Found (as_shown told.1 told.0)) op.walk.right_at had.2.since had.2.made told.4 refl
             (get_found (quota_of (shown c) op.task.tenant) (ask op.task) (map_of (shown c) op.task.tenant op.walk.right_at) told.1 told.0 told.3 (map_has op.walk.right_at (Some told.0) (had.2.had ∙ told.2)))
         by (Link u) had told = absurd had
         by Nothing had told = absurd had

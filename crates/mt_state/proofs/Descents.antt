@@ -1,7 +1,7 @@
 -- Where an operation goes that looks for the node of its key: for `descend`, and for the steps of gets.
 use Rattle.std.{proofs.Common.{◌≡◌, ℕ, inl, inr, Bool, true, false, cond, Option, refl, sym, subst}, specs.Prelude.nat_le}
 use Rattle.mt_version.specs.Parts.{Parts}
-use Rattle.mt_rows.specs.Rows.{Bytes, Columns}
+use Rattle.mt_rows.specs.{Rows.Bytes, Stamps.Stamped}
 use Rattle.mt_arena.specs.{declared.tree.Standing.Standing, declared.tree.Standing.TheVariants.{Made, Live, Dead}, NodeView.NodeView, Arena.ArenaView}
 use Rattle.mt_operation.specs.{declared.walk.Aim.Aim, declared.phase.Phase.Phase}
 use Rattle.mt_operation.specs.{declared.phase.Phase.TheVariants.{Enter, Pick, Verify, Search, Forward, Lock, Snap}, declared.walk.Walk.Walk}
@@ -82,7 +82,7 @@ by_way P descent search lock snap Snap on = snap
 by_way P descent search lock snap p on = descent p on
 
 -- what is kept of a walk on its way does not speak of its first step
-pub first_aside : (p : Phase) → IsOnWay p → (v : ArenaView) (past : Past) (key : Bytes) (row : Option Columns) (w : Walk) (n : ℕ)
+pub first_aside : (p : Phase) → IsOnWay p → (v : ArenaView) (past : Past) (key : Bytes) (row : Option Stamped) (w : Walk) (n : ℕ)
     → KeptAt p v past key row w → KeptAt p v past key row (record w { first = n })
 first_aside p on v past key row w n =
     by_way (λ q. KeptAt q v past key row w → KeptAt q v past key row (record w { first = n })) (by_descent _

@@ -1,6 +1,6 @@
 -- What is kept of an operation stays where places are given out that it does not remember: then the rely goes on as for any other step.
 use Rattle.std.proofs.Common.{◌≡◌, ℕ, arith, inl, List, [], ◌∷◌, Option, None, Some, refl, sym, ap, subst, ◌∙◌, Bool, true, false}
-use Rattle.mt_rows.specs.{Rows.Columns, Tenants.{Contents, tenant_map}}
+use Rattle.mt_rows.specs.{Stamps.Stamped, Tenants.{Contents, tenant_map}}
 use Rattle.mt_tape.specs.Histories.{contents_at}
 use Rattle.mt_arena.specs.{declared.tree.Tree.Tree, NodeView.NodeView, Arena.{ArenaView, IsArena}, Accesses.at, Forests.tree_at}
 use Rattle.mt_operation.specs.{declared.outcome.Outcome.Outcome, declared.operation.Operation.Operation, declared.phase.Phase.Phase}
@@ -54,7 +54,7 @@ module _ (c : Core) (mid : ArenaView) (q : ℕ) (op : Operation) (arena : IsAren
   }
 
   -- an operation that holds nothing
-  walk_given : SparesOneWalk c.arena mid op → (row : Option Columns) → IsKept c.arena (past_of c) op.task.key row op.walk → IsKept mid (past_of new) op.task.key row op.walk
+  walk_given : SparesOneWalk c.arena mid op → (row : Option Stamped) → IsKept c.arena (past_of c) op.task.key row op.walk → IsKept mid (past_of new) op.task.key row op.walk
   walk_given away row h = subst (λ (past : Past). IsKept mid past op.task.key row op.walk) (sym past_same)
       (walks.kept_given c.arena mid (past_of c) op.task.key row op.walk op.walk.phase away h)
 
@@ -212,6 +212,7 @@ module _ (c : Core) (mid : ArenaView) (q : ℕ) (op : Operation) (arena : IsAren
     tenant = h.tenant;
     key_is = h.key_is;
     makes = h.makes;
+    keeps = h.keeps;
     was = h.was;
   }
 

@@ -4,7 +4,7 @@ use Rattle.mt_rows.specs.{declared.reply.Reply.Reply, Maps.is_change}
 use Rattle.mt_operation.specs.declared.phase.Phase.{Phase}
 use Rattle.mt_operation.specs.declared.phase.Phase.TheVariants.{Enter, Search, Load, Confirm, Forward, Judge, Store, Publish, SplitStart, SplitMove, SplitPrev, LockParent, MakeLayer, DropKey, LockPrev, Unlock, Snap, Check, Hop, Done}
 use Rattle.mt_operation.specs.{declared.outcome.Outcome.Outcome, Operations.OperationView, Phases.{MayFollow, is_unplaced}}
-use Rattle.mt_state.specs.{Views.StateView, Steps.told_change, Notes.{Says, Notes, Keeps, EndsJudging, EndsScan}}
+use Rattle.mt_state.specs.{Views.StateView, Steps.told_change, Notes.{Says, Notes, Keeps, EndsJudging, EndsScan, stamp_there}}
 use Rattle.mt_rows.specs.declared.reply.Reply.TheVariants as replies
 
 -- the change of which an outcome tells, by its number
@@ -65,7 +65,8 @@ judged_same : (old : StateView) (op : OperationView) (had told : Option Outcome)
 judged_same old op (Some had) told m n e = n
 judged_same old op None told m n (inr e) = absurd (cc)
 judged_same old op None told m (inl stopped) (inl e) = absurd (untold told replies.NoMemory _ m stopped refl e)
-judged_same old op None told m (inr absent) (inl e) = absurd (untold told replies.Absent _ m absent.1 refl e)
+judged_same old op None told m (inr (inl absent)) (inl e) = absurd (untold told replies.Absent _ m absent.1 refl e)
+judged_same old op None told m (inr (inr stale)) (inl e) = absurd (untold told (replies.Stale (stamp_there old op)) _ m stale.says refl e)
 
 -- a scan tells of no change
 scan_untold : (old : StateView) (told : Option Outcome) (m : ℕ) → EndsScan old told → told_change told ≡ Some m → ⊥

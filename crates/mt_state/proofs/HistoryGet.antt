@@ -2,7 +2,7 @@
 use Rattle.std.proofs.Common.{◌≡◌, ◌≢◌, ℕ, zero, suc, ◌+◌, ◌<◌, slice_index, inl, inr, ◌⊎◌, Bool, true, false, cond, eqb, [], ◌∷◌, Option, Some, None, is_some, refl, sym, ap, ◌∙◌, arith}
 use Rattle.std.proofs.{lemmas.Bool.ne_eqb, lemmas.Option.same_Some}
 use Rattle.mt_rows.specs.{declared.tenants.Account.Account, declared.reply.Reply.TheVariants.{Absent, Found, NoMemory}, Accounts.{Accounts, account_of}}
-use Rattle.mt_rows.specs.{Maps.{reply_of, is_get}, Tenants.tenant_map, declared.reply.Reply.Reply, Rows.Columns}
+use Rattle.mt_rows.specs.{Maps.{reply_of, is_get}, Tenants.tenant_map, declared.reply.Reply.Reply, Stamps.Stamped}
 use Rattle.mt_runs.specs.{Runs.{Asked, story_of, first_of}, WrongRuns.{key_k, get_k}}
 use Rattle.mt_slices.specs.Keys.{stored_key}
 use Rattle.mt_border.proofs.ContentsKeys.{in_top_tree}
@@ -183,7 +183,7 @@ only_gets reply q w e = by (eqb 1 q) e
     by false h = absurd (cc)
 
 -- no row is right
-pub row_refused : (logs : ℕ) (accounts : Accounts) (row : Columns) (names : Names) (v : StateView)
+pub row_refused : (logs : ℕ) (accounts : Accounts) (row : Stamped) (names : Names) (v : StateView)
     → BringsTo no_names (new_state logs accounts) (one_get (Found row)) names v → ⊥
 row_refused logs accounts row names v leads =
     never (nothing_found logs accounts (one_get (Found row)) names v leads (only_gets (Found row)) 1 (record { command = get_k; reply = Found row; first = 1; at = 2; last = 3 }) (3, refl))

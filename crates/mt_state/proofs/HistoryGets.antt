@@ -3,14 +3,14 @@ use Rattle.std.proofs.Common.{◌≡◌, ℕ, zero, suc, ◌<◌, ◌≤◌, ◌
 use Rattle.std.proofs.lemmas.Bool.{both_ways}
 use Rattle.std.specs.{FinMap.{empty, get-empty}, Ordering.nat_cmp, Cmp.Lexicographic.slice_cmp}
 use Rattle.mt_rows.specs.{declared.command.Command.Command, declared.command.Command.TheVariants.Get, declared.reply.Reply.Reply}
-use Rattle.mt_rows.specs.{declared.reply.Reply.TheVariants.{Absent, NoMemory}, Rows.Columns}
+use Rattle.mt_rows.specs.{declared.reply.Reply.TheVariants.{Absent, NoMemory}, Stamps.Stamped}
 use Rattle.mt_rows.specs.Maps.{Map, reply_of, told_of_row, is_change, is_get, is_scan, is_no_memory}
 use Rattle.mt_runs.specs.{declared.event.Answer.Answer, Runs.{Run, Asked, story_of, last_step, Finished}, Placings.{Quotas, no_pairs, is_placed}}
 use Rattle.mt_runs.specs.Right.{Right, IsAnswered}
 use Rattle.mt_runs.proofs.Steps.{owner_in}
 use Rattle.mt_state.proofs.Lawful.{get_no_scan}
 
-looks_only : (columns : List ℕ) (row : Option Columns) → is_change (told_of_row columns row) ≡ false
+looks_only : (columns : List ℕ) (row : Option Stamped) → is_change (told_of_row columns row) ≡ false
 looks_only columns None = refl
 looks_only columns (Some row) = refl
 

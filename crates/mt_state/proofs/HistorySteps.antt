@@ -130,8 +130,9 @@ module _ (quotas : Quotas) (first : Maps) (story : Story) (old new : StateView) 
           ∙ ap is_change (sym p.told) ∙ p.changes;
       makes = λ t.
           ap (map_of new t) next ∙ map-placing old new s.before s.after s.number made t p ∙ p.makes t
-          ∙ ap (λ q. maps_after_one q (Some what) (λ u. tenant_map u (contents_of old)) t) same_quotas
-          ∙ ap (λ w. maps_after_one quotas (Some what) w t) (sym last_maps);
+          ∙ ap (λ number. maps_after_one (quota_of old) number (Some what) (λ u. tenant_map u (contents_of old)) t) (sym next)
+          ∙ ap (λ q. maps_after_one q (suc (last_step story)) (Some what) (λ u. tenant_map u (contents_of old)) t) same_quotas
+          ∙ ap (λ w. maps_after_one quotas (suc (last_step story)) (Some what) w t) (sym last_maps);
       told = λ a fin. elim (finished_cases story o answer o a fin) [
         | inl before ↦ absurd (k.unfinished a before)
         | inr (is, now) ↦ absurd (placing_goes_on a now p)

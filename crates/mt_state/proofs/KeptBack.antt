@@ -1,6 +1,6 @@
 -- What an operation remembers stays kept back: through the steps of others and through its own: for all phases.
 use Rattle.std.proofs.Common.{◌≡◌, ◌≢◌, ℕ, ◌+◌, ◌<◌, ◌⊎◌, inl, inr, false, length, Option, Some, None, refl, sym, ap, subst, ◌∙◌, arith}
-use Rattle.mt_rows.specs.Rows.{Columns}
+use Rattle.mt_rows.specs.Stamps.{Stamped}
 use Rattle.mt_arena.specs.{declared.tree.Standing.Standing, declared.tree.Standing.TheVariants.{Made, Live, Dead}, Forests.{tree_at, no_tree}, Layers.slot_at}
 use Rattle.mt_arena.specs.{NodeView.NodeView, Idle.{AreRetired, is_idle_tree, has_ended}, Arena.{ArenaView, Guarantee}, Accesses.at, Given.IsTreeOutFrom}
 use Rattle.mt_border.specs.Held.{Link as LinkTo}
@@ -51,7 +51,7 @@ module _ (old new : Core) (o q : ℕ) (facts : ArenaFacts new.arena) (g : StateG
   lists : RetiresAfter op.birth start.arena.retired new.arena.retired
   lists = g.arena.retires op.birth kept.always.born
 
-  walk_on : (row : Option Columns) → IsKept start.arena (past_of start) op.task.key row op.walk → RemembersKept op.birth start.arena op.walk
+  walk_on : (row : Option Stamped) → IsKept start.arena (past_of start) op.task.key row op.walk → RemembersKept op.birth start.arena op.walk
       → RemembersKept op.birth new.arena op.walk
   walk_on row k h = kept_by_step o op.birth start.arena new.arena g.arena.step.nodes g.arena.step.lost facts.arena facts.retired lists (past_of start) op.task.key row op.walk k h
 

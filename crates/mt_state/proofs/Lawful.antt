@@ -1,6 +1,6 @@
 -- Which commands are no scans, and that a scan stays lawful: for all phases.
 use Rattle.std.proofs.Common.{◌≡◌, ◌≢◌, ℕ, true, false, refl, sym, ◌∙◌}
-use Rattle.mt_rows.specs.{declared.command.Command.Command, declared.command.Command.TheVariants.{Get, Put, Remove, Scan}, declared.reply.Reply.Reply}
+use Rattle.mt_rows.specs.{declared.command.Command.Command, declared.command.Command.TheVariants.{Get, Put, PutIf, Remove, Scan}, declared.reply.Reply.Reply}
 use Rattle.mt_rows.specs.{Maps.{Map, reply_of, is_change, is_get, is_scan}, Commands.key_of}
 use Rattle.mt_runs.specs.Scans.{IsLawfulScan}
 use Rattle.mt_operation.specs.{declared.walk.Aim.Aim, declared.operation.Operation.Operation, Tasks.{ask, aim_of}}
@@ -15,6 +15,7 @@ use Rattle.mt_operation.specs.declared.walk.Aim.TheVariants as aims
 pub aim_no_scan : (command : Command) → aim_of command ≢ aims.Scan → is_scan command ≡ false
 aim_no_scan (Get key columns) other = refl
 aim_no_scan (Put key change) other = refl
+aim_no_scan (PutIf key stamp change) other = refl
 aim_no_scan (Remove key) other = refl
 aim_no_scan (Scan from after count columns) other = absurd (other refl)
 
@@ -22,6 +23,7 @@ aim_no_scan (Scan from after count columns) other = absurd (other refl)
 pub scan_no_remove : (command : Command) → is_scan command ≡ true → is_remove command ≡ false
 scan_no_remove (Get key columns) e = refl
 scan_no_remove (Put key change) e = refl
+scan_no_remove (PutIf key stamp change) e = refl
 scan_no_remove (Remove key) e = absurd (cc)
 scan_no_remove (Scan from after count columns) e = refl
 
@@ -32,6 +34,7 @@ get_no_scan _ e = absurd (cc)
 
 pub put_no_scan : (command : Command) → is_put command ≡ true → is_scan command ≡ false
 put_no_scan (Put key change) e = refl
+put_no_scan (PutIf key stamp change) e = refl
 put_no_scan _ e = absurd (cc)
 
 pub remove_no_scan : (command : Command) → is_remove command ≡ true → is_scan command ≡ false
@@ -43,6 +46,7 @@ pub change_no_scan : (quota : ℕ) (command : Command) (m : Map) → is_change (
 unfolding reply_of
 change_no_scan quota (Get key columns) m e = refl
 change_no_scan quota (Put key change) m e = refl
+change_no_scan quota (PutIf key stamp change) m e = refl
 change_no_scan quota (Remove key) m e = refl
 change_no_scan quota (Scan from after count columns) m e = absurd (cc)
 
@@ -86,5 +90,6 @@ lawful_more maps Between Within more _ _ h = h
 pub aim_scan : (command : Command) → aim_of command ≡ aims.Scan → is_scan command ≡ true
 aim_scan (Get key columns) e = absurd (cc)
 aim_scan (Put key change) e = absurd (cc)
+aim_scan (PutIf key stamp change) e = absurd (cc)
 aim_scan (Remove key) e = absurd (cc)
 aim_scan (Scan from after count columns) e = refl

@@ -417,6 +417,7 @@ module _ (c : Core) (o : ℕ) (h : StateInvariant c) (few : c.steps < 2 ^ 59) (o
             tenant = once.tenant;
             key_is = once.key_is;
             makes = once.makes;
+            keeps = once.keeps;
             was = once.was;
           };
         }

@@ -9,6 +9,7 @@ pub mod Growing
 pub mod Giving
 pub mod Writing
 pub mod Stamps
+pub mod RowStamps
 pub mod Moving
 pub mod Telling
 pub mod Quiet
@@ -46,6 +47,7 @@ pub mod SplitSteps
 pub mod Locking
 pub mod FillSteps
 pub mod LayerSteps
+pub mod Staling
 pub mod Putting
 pub mod Parting
 pub mod Needs

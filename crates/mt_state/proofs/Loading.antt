@@ -3,11 +3,11 @@ use Rattle.std.proofs.Common.{◌≡◌, ◌≢◌, ℕ, ◌+◌, ◌<◌, ◌�
 use Rattle.std.proofs.{lemmas.Bool.cases_eq, lemmas.Option.same_Some, lemmas.List.Elements.All-contains}
 use Rattle.std.specs.{Prelude.{◌^◌, IsSomeAnd}, List.Contains, FinMap.get}
 use Rattle.mt_slices.specs.{Keys.stored_key, Slices.suffix_of}
-use Rattle.mt_rows.specs.{declared.reply.Reply.TheVariants.{Found, NoMemory}, Rows.{Bytes, Columns, shown as columns_shown}, Commands.key_of, Maps.is_get}
+use Rattle.mt_rows.specs.{declared.reply.Reply.TheVariants.{Found, NoMemory}, Rows.Bytes, Stamps.{Stamped, as_shown}, Commands.key_of, Maps.is_get}
 use Rattle.mt_rows.proofs.ContentLaws.{get-tenant_map}
 use Rattle.mt_border.specs.{Held.Pair, Held.Held, declared.entry.FoundKind.FoundKind}
 use Rattle.mt_border.specs.{declared.entry.FoundKind.TheVariants.{ThisKey, OtherLong, Link as ToTree}, Entry.{IsKind, pair_of}}
-use Rattle.mt_border.specs.Contents.{owned, IsOfTree, HasKey}
+use Rattle.mt_border.specs.Contents.{owned, IsOfTree, HasKey, row_of}
 use Rattle.mt_border.proofs.{Edits.any_entry, ContentsKeys.owned_at}
 use Rattle.mt_tape.{specs.{declared.entry.Entry.{Entry as Write}, Histories.{contents_at, written_key}}, proofs.TapeLaws.get-contents_at}
 use Rattle.mt_arena.specs.{Forests.{tree_at, layer_of}, Layers.slot_at, NodeView.NodeView, declared.tree.Standing.Standing}
@@ -23,7 +23,7 @@ use Rattle.mt_state.specs.{Ways.ShowsTaken, KeptOperations.{IsOpenOperation, Tel
 use Rattle.mt_state.specs.{Invariant.{IsStampOf, StateInvariant}, KeptBack.IsBackAt}
 use Rattle.mt_state.proofs.{Replies.get_asks, LiveTrees.slot_key, Telling.Gives, Moved.{went, first_begun, first_upto}}
 use Rattle.mt_border.specs.Slots.{held_in}
-use Rattle.mt_state.proofs.{Stamps.{stamp_of, row_of, row_written}, Still.{IsFree, IsUnready, still, still_gives}, Reading.{key_of_owner, walk_same}, Confirming.get_of, Bound.get_untold}
+use Rattle.mt_state.proofs.{Stamps.{stamp_of, row_stands, row_written}, Still.{IsFree, IsUnready, still, still_gives}, Reading.{key_of_owner, walk_same}, Confirming.get_of, Bound.get_untold}
 use Rattle.mt_state.proofs.Lawful.{get_no_scan, stopped_free}
 use Rattle.mt_state.proofs.KeptBack.{look_back}
 use Rattle.mt_descent.proofs.Learning.{learns_load}
@@ -91,7 +91,7 @@ module _ (c : Core) (now : StateView) (o : ℕ) (is : shown c ≡ now) (h : Stat
       (subst (λ (p : Phase). IsKeptAt p new o after) (sym done) own)
       (λ facts. subst (λ (p : Phase). IsBackAt p c.arena after) (sym done) tt) true (sym (ap is_done done))
 
-  module _ (w : Walk) (row : Option Columns) (told : Option Outcome) (loads : Loads (at c.arena op.walk.place.node) op.walk w row) (shows : ShowsTaken op row w told) (same : Continues op.walk w)
+  module _ (w : Walk) (row : Option Stamped) (told : Option Outcome) (loads : Loads (at c.arena op.walk.place.node) op.walk w row) (shows : ShowsTaken op row w told) (same : Continues op.walk w)
       (kept : (past : Past) → WalksLoad c.arena past op.task.key op.walk → IsKept c.arena past op.task.key row w) where
     abbrev pub node : NodeView
     node = at c.arena op.walk.place.node
@@ -144,23 +144,23 @@ module _ (c : Core) (now : StateView) (o : ℕ) (is : shown c ≡ now) (h : Stat
         }
 
     -- what is noted of a row
-    shows_row : (pair : Pair) → held_in node.cells.helds op.walk.slot ≡ helds.Stable pair → row ≡ Some pair.row → w.right_at ≡ max op.walk.first pair.stamp
+    shows_row : (pair : Pair) → held_in node.cells.helds op.walk.slot ≡ helds.Stable pair → row ≡ Some (row_of pair) → w.right_at ≡ max op.walk.first pair.stamp
         → ShowsRow (shown c) (view_of op) told
     shows_row pair is_held is_row is_right =
         let asked = get_asks (ask op.task) gets in
         record {
           columns = asked.0;
           asked = asked.1;
-          row = pair.row;
+          row = row_of pair;
           number = w.right_at;
-          says = shows.some pair.row asked.0 is_row asked.1;
+          says = shows.some (row_of pair) asked.0 is_row asked.1;
           from = (pair, is_held, refl, is_right);
           since = omega (arith, is_right);
           live = λ in_range.
               let held : pair_of (slot_at node place).held ≡ Some pair = ap pair_of (sym (loads.shown in_range) ∙ is_held) in
               let s = stands pair in_range held in
               let stamp = stamp_of c h.stamps arena s.0 s.1 op.walk.place.node place pair s.2 in
-              let now_row = row_of c h.stamps arena s.0 s.1 op.walk.place.node place pair s.2 in
+              let now_row = row_stands c h.stamps arena s.0 s.1 op.walk.place.node place pair s.2 in
               record {
                 key = owned s.0;
                 there = now_row;
@@ -179,7 +179,7 @@ module _ (c : Core) (now : StateView) (o : ℕ) (is : shown c ≡ now) (h : Stat
           dropped = λ gone still. elim (walks_load.found still) [
             | inl l ↦ absurd (gone l.has.in_slot.in_range)
             | inr d ↦
-                let had : Had (past_of c) op.walk.first (max op.walk.first pair.stamp) op.task.key (Some pair.row) = subst (IsOfKey c.arena (past_of c) op.task.key op.walk.first op.walk.layer) is_held d.held in
+                let had : Had (past_of c) op.walk.first (max op.walk.first pair.stamp) op.task.key (Some (row_of pair)) = subst (IsOfKey c.arena (past_of c) op.task.key op.walk.first op.walk.layer) is_held d.held in
                 (omega (arith, had.made, is_right), get-tenant_map op.task.tenant (contents_at c.tape.entries (content_of c.arena) w.right_at) (key_of (ask op.task)) ∙ rw (is_right, ← owned_is) had.had)
           ];
         }
@@ -222,18 +222,18 @@ module _ (c : Core) (now : StateView) (o : ℕ) (is : shown c ≡ now) (h : Stat
     tells takens.Missing after task outcome walk t = absurd t
     tells takens.Row after task outcome walk t =
         let asked = get_asks (ask op.task) gets in (
-          t.0.row,
+          row_of t.0,
           asked.0,
           t.2,
           subst (λ (x : Task). columns_asked (ask x) ≡ Some asked.0) (sym task) asked.1,
-          outcome ∙ subst (λ (x : Walk). Says told (Found (columns_shown asked.0 t.0.row)) x.right_at) (sym walk) (shows.some t.0.row asked.0 t.2 asked.1),
+          outcome ∙ subst (λ (x : Walk). Says told (Found (as_shown asked.0 (row_of t.0))) x.right_at) (sym walk) (shows.some (row_of t.0) asked.0 t.2 asked.1),
         )
     tells (takens.Link tree) after task outcome walk t = outcome ∙ shows.none t.1
     tells takens.Nothing after task outcome walk t = outcome ∙ shows.none t.2
 
     no_change : (taken : Taken) → TakesOut node op.walk row taken w.right_at → told_change told ≡ None
     no_change takens.Missing t = absurd t
-    no_change takens.Row t = let asked = get_asks (ask op.task) gets in ap told_change (shows.some t.0.row asked.0 t.2 asked.1)
+    no_change takens.Row t = let asked = get_asks (ask op.task) gets in ap told_change (shows.some (row_of t.0) asked.0 t.2 asked.1)
     no_change (takens.Link tree) t = ap told_change (shows.none t.1)
     no_change takens.Nothing t = ap told_change (shows.none t.2)
 

@@ -406,7 +406,7 @@ module _ (c : Core) (now : StateView) (o : ℕ) (is : shown c ≡ now) (h : Stat
         let full = no_room_left op.task.tenant (account_of c.accounts op.task.tenant) refl t.full in
         let none : get (tenant_map op.task.tenant (content_of c.arena)) (key_of (ask op.task)) ≡ None =
         get-tenant_map op.task.tenant (content_of c.arena) (key_of (ask op.task)) ∙ ap (get (content_of c.arena)) (sym put.owner) ∙ t.missing in
-        let is_full = put_full (quota_of (shown c) op.task.tenant) op.task.request (tenant_map op.task.tenant (content_of c.arena)) put.put_is none full in
+        let is_full = put_full (quota_of (shown c) op.task.tenant) op.task.request (tenant_map op.task.tenant (content_of c.arena)) put.put_is t.met none full in
         let own : IsUnlocking new o after = record {
           unlocks =
               subst (λ (halves : List Halves). MayUnlock halves c.arena o after) (sym unsplit.halves)

@@ -4,9 +4,10 @@ use Rattle.std.proofs.Common.{◌≡◌, ◌≢◌, ℕ, ◌+◌, ◌<◌, Bool,
 use Rattle.std.proofs.{lemmas.Option.{same_Some, none-some}, lemmas.Bool.cases_eq}
 use Rattle.std.specs.{FinMap.{get, len, empty_of_len, get-empty}, Cmp.Lexicographic.slice_cmp}
 use Rattle.mt_version.specs.Changes.{CanUnlock}
-use Rattle.mt_rows.specs.{Maps.Map, Rows.{Bytes, Columns}, declared.command.Command.TheVariants.Remove, declared.tenants.Account.Account, Commands.key_of}
+use Rattle.mt_rows.specs.{Maps.Map, Rows.Bytes, Stamps.Stamped, declared.command.Command.TheVariants.Remove, declared.tenants.Account.Account, Commands.key_of}
 use Rattle.mt_rows.specs.{Accounts.{account_of, HasPairs}, Tenants.tenant_map}
 use Rattle.mt_rows.proofs.ContentLaws.{get-tenant_map}
+use Rattle.mt_border.specs.Contents.{row_of}
 use Rattle.mt_tape.specs.Tapes.{last_write}
 use Rattle.mt_arena.specs.{Accesses.{at, tree_of}, Arena.{IsArena, content_of}, Forests.layer_of}
 use Rattle.mt_operation.specs.{declared.phase.Phase.Phase, declared.phase.Phase.TheVariants.{Lock, Judge, Store, Fill, Publish, Unlock, Done, DropKey}}
@@ -14,7 +15,7 @@ use Rattle.mt_operation.specs.{declared.outcome.Outcome.Outcome, declared.prepar
 use Rattle.mt_operation.specs.{declared.operation.Operation.Operation, Tasks.{ask, command_of}, Operations.{view_of, splits_of, scan_of}}
 use Rattle.mt_operation.specs.{Phases.{is_done, IsLayerPhase, is_prepared, IsLayerKind, Kind, row, IsRemovalPhase}, Tables.{op_at as operation_at}}
 use Rattle.mt_operation.specs.declared.task.Request.{Request}
-use Rattle.mt_operation.specs.declared.task.Request.TheVariants.{Get as GetOf, Put as PutOf, Remove as RemoveOf, Scan as ScanOf}
+use Rattle.mt_operation.specs.declared.task.Request.TheVariants.{Get as GetOf, Put as PutOf, PutIf as PutIfOf, Remove as RemoveOf, Scan as ScanOf}
 use Rattle.mt_operation.specs.declared.removal.Removal.{Removal}
 use Rattle.mt_descent.specs.KeptWalks.{IsAtBorder, KeptAt, HoldsNothing, walk_place}
 use Rattle.mt_insert.specs.{Puts.{IsPut, is_put}, KeptPuts.{IsAtStore, IsAtFill, IsAtPublish}}
@@ -23,7 +24,7 @@ use Rattle.mt_layer.specs.KeptLayers.{IsAtLeave, KeptLayer}
 use Rattle.mt_state.specs.{Views.{Core, shown, past_of}, Promises.{IsInTheWay, IsHeldByOther, HasStep}}
 use Rattle.mt_state.specs.KeptOperations.{IsOpenOperation, IsOnItsWay, IsJudging, IsStoring, IsFilling, IsPublishing, MayUnlock, IsUnlocking, IsLayering, IsLeaving, IsReturning, IsKeptAt, IsKeptFor, IsWritingAt, MayUnlockUnsplit, IsDropping}
 use Rattle.mt_state.specs.Invariant.{HoldsAt, StateInvariant}
-use Rattle.mt_state.proofs.{Shown.shown_there, Locking.{may_unlock, room_for}, Stamps.row_of, RemovalSteps.{unlinking_of, removal_holds}}
+use Rattle.mt_state.proofs.{Shown.shown_there, Locking.{may_unlock, room_for}, Stamps.row_stands, RemovalSteps.{unlinking_of, removal_holds}}
 use Rattle.mt_state.proofs.{RemovalLooks.going_back, Lawful.{put_no_scan, remove_no_scan}}
 use Rattle.mt_remove.specs.Writes.{is_remove, IsRemoval}
 use Rattle.mt_remove.specs.KeptRemovals.{IsAtDropKey, IsUnburdened, KeptRemoval, HoldsRemoval, IsAtUnlockRemoval, IsCleaning, IsAmong as IsOfRemoval}
@@ -73,9 +74,10 @@ request_removes (RemoveOf key) removes = refl
 request_removes (GetOf key columns) removes = absurd (cc)
 request_removes (ScanOf from after count columns) removes = absurd (cc)
 request_removes (PutOf key change) removes = absurd (cc)
+request_removes (PutIfOf key stamp change) removes = absurd (cc)
 
 -- a map with a key has some
-len_some : (m : Map) (key : Bytes) (row : Columns) → get m key ≡ Some row → 0 < len m
+len_some : (m : Map) (key : Bytes) (row : Stamped) → get m key ≡ Some row → 0 < len m
 len_some m key row is = elim (cases_eq (len m) 0) [
   | inl none ↦ absurd (none-some row (sym (ap (λ (x : Map). get x key) (empty_of_len m none) ∙ get-empty (slice_cmp nat_cmp) key) ∙ is))
   | inr some ↦ omega (arith, some)
@@ -212,15 +214,15 @@ module _ (c : Core) (o : ℕ) (h : StateInvariant c) (op : Operation) (there : o
       k : IsDropping c o op
       k = dropping at_drop
 
-      row : get (tenant_map op.task.tenant (content_of c.arena)) (key_of (ask op.task)) ≡ Some k.drops.pair.row
+      row : get (tenant_map op.task.tenant (content_of c.arena)) (key_of (ask op.task)) ≡ Some (row_of k.drops.pair)
       row =
           let may = may_store c.arena o op.task.key op.walk arena k.drops.holds op.walk.slot k.drops.pair k.drops.in_slot k.drops.stable in
           get-tenant_map op.task.tenant (content_of c.arena) (key_of (ask op.task)) ∙ ap (get (content_of c.arena)) (sym (always.owner (remove_no_scan (ask op.task) k.removes)))
-          ∙ row_of c h.stamps arena op.task.key (layer_of (tree_of c.arena op.walk.place.node).prefix) op.walk.place.node (walk_place c.arena op.walk) k.drops.pair may.stands
+          ∙ row_stands c h.stamps arena op.task.key (layer_of (tree_of c.arena op.walk.place.node).prefix) op.walk.place.node (walk_place c.arena op.walk) k.drops.pair may.stands
 
       by : (account : Option Account) → account_of c.accounts op.task.tenant ≡ account → IsSome account → HasPairs account
       by None is some = absurd (cc)
-      by (Some account) is some = let counted = h.counts op.task.tenant account is in let more = len_some (tenant_map op.task.tenant (content_of c.arena)) (key_of (ask op.task)) k.drops.pair.row row in omega (arith, counted.0, more)
+      by (Some account) is some = let counted = h.counts op.task.tenant account is in let more = len_some (tenant_map op.task.tenant (content_of c.arena)) (key_of (ask op.task)) (row_of k.drops.pair) row in omega (arith, counted.0, more)
 
   -- what is kept of one that takes a node or a layer out, and that it holds these nodes alone
   pub removal_kept_at : (p : Phase) → op.walk.phase ≡ p → IsRemovalPhase p → KeptRemoval p c.arena o op.task.key op.walk op.removal

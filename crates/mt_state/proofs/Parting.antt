@@ -3,7 +3,7 @@ use Rattle.std.proofs.Common.{◌≡◌, ◌≢◌, ℕ, ◌+◌, ◌-◌, ◌<�
 use Rattle.std.proofs.{lemmas.Bool.{cases_eq, both_ways}, lemmas.Option.same_Some, lemmas.List.length-set}
 use Rattle.std.specs.{Prelude.{◌^◌}, FinMap.{get, len, insert}}
 use Rattle.mt_slices.specs.Slices.{suffix_of}
-use Rattle.mt_rows.specs.{declared.reply.Reply.TheVariants.{New, Full}, Rows.{Bytes, Columns}, Commands.key_of, Maps.reply_of}
+use Rattle.mt_rows.specs.{declared.reply.Reply.TheVariants.{New, Full}, Rows.{Bytes, Columns}, Stamps.Stamped, Commands.key_of, Maps.reply_of}
 use Rattle.mt_rows.specs.{Accounts.{Accounts, account_of, HasRoom}, Tenants.{Contents, tenant_map}}
 use Rattle.mt_rows.proofs.ContentLaws.{get-tenant_map}
 use Rattle.mt_border.specs.{declared.entry.Entry.Entry, Entries.with_entry, Contents.{owned, AreKeys, IsStamped, AllStamped}}
@@ -16,7 +16,7 @@ use Rattle.mt_operation.specs.{declared.phase.Phase.Phase, declared.phase.Phase.
 use Rattle.mt_operation.specs.{declared.outcome.Outcome.Outcome, declared.operation.Operation.Operation, Tasks.ask, Operations.view_of}
 use Rattle.mt_operation.specs.{Phases.{is_done, MayFollow, IsOfKind}, Tables.{op_at as operation_at}}
 use Rattle.mt_remove.specs.Writes.{is_remove}
-use Rattle.mt_insert.specs.{Puts.{IsPut, row_over}, Placing.entry_of, KeptSplits.{last_of, HoldsSplits}}
+use Rattle.mt_insert.specs.{Puts.IsPut, Placing.entry_of, KeptSplits.{last_of, HoldsSplits}}
 use Rattle.mt_insert.specs.SplitMove.{after_parting, PartsKeys, IsSplitMove, IsSplitMoveFull}
 use Rattle.mt_insert.proofs.PartingKeys.{may_place}
 use Rattle.mt_held.specs.Taping.{pushed, released}
@@ -26,7 +26,7 @@ use Rattle.mt_state.specs.{Invariant.{IsStampOf, IsCountedUpTo, StateInvariant, 
 use Rattle.mt_state.proofs.{Replies.{put_full, put_new}, Growing.{makes_same, retires_same, changes_on}, Telling.{Gives, gives, logs_later, map_now}}
 use Rattle.mt_state.proofs.{Moved.{went_with, first_begun, first_upto, open_moved_with, has_moved}, Still.{floor_made, unready_none}}
 use Rattle.mt_state.proofs.{OneNode.{same_counts, quiet_grows, holds_here}, Locking.{ready_one, room_for, no_room_left}}
-use Rattle.mt_state.proofs.Placing.{Counts, next_write, placed, PlacesPair, untouched_beside, untouched_now, placed_move, placed_right, is_placing, placed_once}
+use Rattle.mt_state.proofs.Placing.{Counts, next_write, put_over, placed, PlacesPair, untouched_beside, untouched_now, placed_move, placed_right, is_placing, placed_once}
 use Rattle.mt_state.proofs.{Putting.{stamped_apart, room_left, beside_missing, counted_new}, Bound.put_no_remove}
 use Rattle.mt_state.proofs.SplitSteps.{HasHalves, halves_back, halves_kind, halves_open, halves_unready, halves_split, halves_held, halves_kept}
 use Rattle.mt_state.proofs.Lawful.{scan_free, put_no_scan}
@@ -236,7 +236,7 @@ module _ (c : Core) (o : ℕ) (h : StateInvariant c) (few : c.steps < 2 ^ 59) (o
 
     answer_full : HasAnswer new_full after_full
     answer_full =
-        let is_full = put_full (quota_of (shown c) op.task.tenant) op.task.request (tenant_map op.task.tenant (content_of c.arena)) put.put_is (missing_there put)
+        let is_full = put_full (quota_of (shown c) op.task.tenant) op.task.request (tenant_map op.task.tenant (content_of c.arena)) put.put_is p.met (missing_there put)
         (no_room_left c (shown c) o refl h few op at_op op.task.tenant (account_of c.accounts op.task.tenant) refl full) in
         let map_is : map_of (shown new_full) op.task.tenant (c.steps + 1) ≡ tenant_map op.task.tenant (content_of c.arena) =
         ap (λ (every : Contents). tenant_map op.task.tenant (contents_at c.tape.entries every (c.steps + 1))) without ∙ map_now c h.tape op.task.tenant (c.steps + 1) (omega arith) in
@@ -315,7 +315,7 @@ module _ (c : Core) (o : ℕ) (h : StateInvariant c) (few : c.steps < 2 ^ 59) (o
   -- with the new pair
   module _ (put : IsPut op.task) (arena_is : IsArena c.arena.nodes c.arena.trees) (accounts : Accounts) (row : Columns)
       (with : all ≡ with_entry x.slots (entry_of op.task.key op.walk.layer row (c.steps + 1)))
-      (contents : content_of arena ≡ insert (content_of c.arena) (op.task.tenant, key_of (ask op.task)) (row_over op.task (get (content_of c.arena) (owned op.task.key))))
+      (contents : content_of arena ≡ insert (content_of c.arena) (op.task.tenant, key_of (ask op.task)) (put_over c op (get (content_of c.arena) (owned op.task.key))))
       (has_room : HasRoom (account_of c.accounts op.task.tenant)) (counted : Counts c accounts (content_of arena)) where
     abbrev told_new : Option Outcome
     told_new = Some (record { reply = New; at = c.steps + 1 })
@@ -367,8 +367,8 @@ module _ (c : Core) (o : ℕ) (h : StateInvariant c) (few : c.steps < 2 ^ 59) (o
     parted_new =
         let less : len (tenant_map op.task.tenant (content_of c.arena)) < quota_of (shown c) op.task.tenant =
         room_left (account_of c.accounts op.task.tenant) (len (tenant_map op.task.tenant (content_of c.arena))) has_room (λ a e. (h.counts op.task.tenant a e).0) in
-        let replies = put_new (quota_of (shown c) op.task.tenant) op.task.request (tenant_map op.task.tenant (content_of c.arena)) put.put_is (missing_there put) less in
-        let makes = replies.1 ∙ ap (λ (b : Option Columns). insert (tenant_map op.task.tenant (content_of c.arena)) (key_of (ask op.task)) (row_over op.task b)) (sym p.missing) in
+        let replies = put_new (quota_of (shown c) op.task.tenant) (c.steps + 1) op.task.request (tenant_map op.task.tenant (content_of c.arena)) put.put_is p.met (missing_there put) less in
+        let makes = replies.1 ∙ ap (λ (b : Option Stamped). insert (tenant_map op.task.tenant (content_of c.arena)) (key_of (ask op.task)) (put_over c op b)) (sym p.missing) in
         let answer : HasAnswer new_core after_new = record {
           outcome = record { reply = New; at = c.steps + 1 };
           told = refl;
@@ -422,4 +422,4 @@ module _ (c : Core) (o : ℕ) (h : StateInvariant c) (few : c.steps < 2 ^ 59) (o
   part_done arena tape accounts w row arena_is t =
       subst (λ (tape : Kept). Gives (shown c) (splitting c arena tape accounts o op w (Some (record { reply = New; at = c.steps + 1 })) None op.splits) o false) (sym t.places.tape)
       (parted_new c o h few op at_op at_move arena w t.parts (with_entry (at c.arena op.walk.place.node).slots (entry_of op.task.key op.walk.layer row (c.steps + 1))) t.is put arena_is accounts row refl t.places.contents t.room
-      (counted_new c (shown c) o refl h few op at_op put accounts (content_of arena) (row_over op.task (get (content_of c.arena) (owned op.task.key))) t.places.contents t.parts.missing t.room t.more t.others))
+      (counted_new c (shown c) o refl h few op at_op put accounts (content_of arena) (put_over c op (get (content_of c.arena) (owned op.task.key))) t.places.contents t.parts.missing t.room t.more t.others))

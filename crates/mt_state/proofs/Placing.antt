@@ -1,25 +1,25 @@
 -- A step that places a change: what it leaves to others, and that the invariant stays: for Store, Publish, SplitMove and DropKey.
-use Rattle.std.proofs.Common.{◌≡◌, ◌≢◌, ℕ, ◌+◌, ◌-◌, ◌<◌, ◌≤◌, Bool, true, false, cond, eqb, [], ◌∷◌, ◌++◌, length, set, Some, IsSome, refl, sym, ap, subst, ◌∙◌, arith, inl}
+use Rattle.std.proofs.Common.{◌≡◌, ◌≢◌, ℕ, ◌+◌, ◌-◌, ◌<◌, ◌≤◌, Bool, true, false, cond, eqb, [], ◌∷◌, ◌++◌, length, set, Option, Some, IsSome, refl, sym, ap, subst, ◌∙◌, arith, inl}
 use Rattle.std.proofs.{lemmas.Bool.{both_ways, eq-eqb, eqb-true}, lemmas.List.length-drop, lemmas.List.Elements.{All-push, Contains-push, Contains-append_left}}
 use Rattle.std.specs.FinMap.{get, len, insert}
-use Rattle.mt_rows.specs.{declared.reply.Reply.Reply, declared.tenants.Account.Account, Rows.{Bytes, Columns}, Commands.{key_of, IsKey}}
+use Rattle.mt_rows.specs.{declared.reply.Reply.Reply, declared.tenants.Account.Account, Rows.Bytes, Stamps.{Stamped, written}, Commands.{key_of, IsKey}}
 use Rattle.mt_rows.specs.{Maps.{reply_of, map_after, is_change, is_scan}, Accounts.{Accounts, account_of}, Tenants.{Contents, tenant_map}}
 use Rattle.mt_border.specs.Contents.{owned}
 use Rattle.mt_tape.specs.declared.entry.Entry.{Entry as Write}
-use Rattle.mt_tape.specs.Histories.{IsNextWrite, with_write, written_key, contents_at, IsLegalTape, with_row, is_changed}
+use Rattle.mt_tape.specs.Histories.{IsNextWrite, with_write, written_key, contents_at, IsLegalTape, with_row, is_changed, after_of}
 use Rattle.mt_tape.proofs.EntryLaws.{rises-push, last_step_over-push, is_changed-push, is_changed-push_other}
 use Rattle.mt_tape.proofs.TapeLaws.{contents_at-push, legal-push, untouched-push, untouched-past_last, get-with_row_same, tenant_map-with_row, tenant_map-with_row_other}
 use Rattle.mt_arena.specs.{Arena.{ArenaView, content_of, Guarantee}, Accesses.at}
 use Rattle.mt_operation.specs.{declared.task.Task.Task, declared.operation.Operation.Operation, Tasks.ask, Operations.view_of, Phases.is_done}
 use Rattle.mt_operation.specs.Tables.{op_at as operation_at}
-use Rattle.mt_insert.specs.Puts.{IsPut, row_over, write_of}
+use Rattle.mt_insert.specs.Puts.{IsPut, change_of, write_of}
 use Rattle.mt_held.specs.Taping.{pushed}
 use Rattle.mt_state.specs.{Views.{Core, shown, map_of, quota_of, granted_in, KeepsPast}, Notes.key_asked, Promises.{IsPlacing, IsAnswer}, Given.ChangesArena}
 use Rattle.mt_state.specs.KeptOperations.{IsKeptOf, IsPlacedOnce}
 use Rattle.mt_state.specs.Invariant.{IsStampOf, IsTape, AreStamps, IsCountedUpTo, HoldsAt, DeletedAreEmpty, StateInvariant, StateGuarantee, one_if_prepared}
-use Rattle.mt_state.specs.{Moves.IsMove, Written.row_left, KeptBack.{Retires, TakesLive}}
+use Rattle.mt_state.specs.{Moves.IsMove, Written.{row_left, change_kept}, KeptBack.{Retires, TakesLive}}
 use Rattle.mt_state.proofs.{KeptBack.{BringsBack, own_back}}
-use Rattle.mt_state.proofs.{Lawful.{scan_free, change_no_scan}, Telling.{logs_later, map_now}, Granted.quota_same, Writing.row_left_put, Bound.put_no_remove}
+use Rattle.mt_state.proofs.{Lawful.{scan_free, change_no_scan}, Telling.{logs_later, map_now}, Granted.quota_same, Writing.{row_left_put, change_kept_put}, Bound.put_no_remove}
 use Rattle.mt_walks.specs.Walked.{IsWithin}
 use Rattle.mt_remove.specs.Writes.{is_remove}
 
@@ -37,7 +37,8 @@ pub record IsWriteOf (c : Core) (op : Operation) (write : Write) : Type 0 where
   pub key : write.key ≡ key_of (ask op.task)
   pub owner : owned op.task.key ≡ (op.task.tenant, key_of (ask op.task))
   pub before : write.before ≡ get (content_of c.arena) (owned op.task.key)
-  pub leaves : write.after ≡ row_left (ask op.task) write.before
+  pub leaves : after_of write ≡ row_left write.step (ask op.task) write.before
+  pub keeps : write.change ≡ change_kept (ask op.task) write.before
   pub was : is_remove (ask op.task) ≡ true → IsSome write.before
 
 -- what the step leaves
@@ -174,12 +175,12 @@ module _ (c : Core) (o : ℕ) (before after : Operation) (arena : ArenaView) (ac
   map_before =
       ap (map_of (shown new) before.task.tenant) (omega arith) ∙ wrote_grows.maps before.task.tenant c.steps (omega arith) ∙ map_now c h.tape before.task.tenant c.steps (omega arith)
 
-  contents_are : content_of arena ≡ with_row (content_of c.arena) (before.task.tenant, key_of (ask before.task)) wrote.after
-  contents_are = p.contents ∙ ap (λ q. with_row (content_of c.arena) q wrote.after) (key_is c before h wrote is ∙ is.owner)
+  contents_are : content_of arena ≡ with_row (content_of c.arena) (before.task.tenant, key_of (ask before.task)) (after_of wrote)
+  contents_are = p.contents ∙ ap (λ q. with_row (content_of c.arena) q (after_of wrote)) (key_is c before h wrote is ∙ is.owner)
 
   module _ (reply : Reply) (changes : is_change reply ≡ true)
       (told : reply ≡ reply_of (quota_of (shown c) before.task.tenant) (ask before.task) (tenant_map before.task.tenant (content_of c.arena)))
-      (makes : map_after (quota_of (shown c) before.task.tenant) (ask before.task) (tenant_map before.task.tenant (content_of c.arena)) ≡ with_row (tenant_map before.task.tenant (content_of c.arena)) (key_of (ask before.task)) wrote.after) where
+      (makes : map_after (quota_of (shown c) before.task.tenant) (c.steps + 1) (ask before.task) (tenant_map before.task.tenant (content_of c.arena)) ≡ with_row (tenant_map before.task.tenant (content_of c.arena)) (key_of (ask before.task)) (after_of wrote)) where
     -- the reply is right at the step
     pub wrote_right : 0 < after.walk.first → after.walk.first ≤ c.steps + 1 → after.last ≡ c.steps + 1 → after.task ≡ before.task
         → IsAnswer (shown new) (view_of after) (record { reply = reply; at = c.steps + 1 })
@@ -203,17 +204,17 @@ module _ (c : Core) (o : ℕ) (before after : Operation) (arena : ArenaView) (ac
     }
 
     made : (t : ℕ) (b : Bool) → eqb t before.task.tenant ≡ b → tenant_map t (content_of arena)
-        ≡ cond (eqb t before.task.tenant) (map_after (quota_of (shown c) t) (ask before.task) (tenant_map t (content_of c.arena))) (tenant_map t (content_of c.arena))
+        ≡ cond (eqb t before.task.tenant) (map_after (quota_of (shown c) t) (c.steps + 1) (ask before.task) (tenant_map t (content_of c.arena))) (tenant_map t (content_of c.arena))
     made t true e =
         let own : t ≡ before.task.tenant = eqb-true t before.task.tenant e in
         ap (tenant_map t) contents_are
-        ∙ subst (λ u. tenant_map u (with_row (content_of c.arena) (before.task.tenant, key_of (ask before.task)) wrote.after) ≡ map_after (quota_of (shown c) u) (ask before.task) (tenant_map u (content_of c.arena))) (sym own)
-        (tenant_map-with_row before.task.tenant (content_of c.arena) (key_of (ask before.task)) wrote.after ∙ sym makes)
-        ∙ sym (ap (λ b. cond b (map_after (quota_of (shown c) t) (ask before.task) (tenant_map t (content_of c.arena))) (tenant_map t (content_of c.arena))) e)
+        ∙ subst (λ u. tenant_map u (with_row (content_of c.arena) (before.task.tenant, key_of (ask before.task)) (after_of wrote)) ≡ map_after (quota_of (shown c) u) (c.steps + 1) (ask before.task) (tenant_map u (content_of c.arena))) (sym own)
+        (tenant_map-with_row before.task.tenant (content_of c.arena) (key_of (ask before.task)) (after_of wrote) ∙ sym makes)
+        ∙ sym (ap (λ b. cond b (map_after (quota_of (shown c) t) (c.steps + 1) (ask before.task) (tenant_map t (content_of c.arena))) (tenant_map t (content_of c.arena))) e)
     made t false e =
         ap (tenant_map t) contents_are
-        ∙ tenant_map-with_row_other t before.task.tenant (content_of c.arena) (key_of (ask before.task)) wrote.after (λ own. both_ways _ e (eq-eqb t before.task.tenant (sym own)))
-        ∙ sym (ap (λ b. cond b (map_after (quota_of (shown c) t) (ask before.task) (tenant_map t (content_of c.arena))) (tenant_map t (content_of c.arena))) e)
+        ∙ tenant_map-with_row_other t before.task.tenant (content_of c.arena) (key_of (ask before.task)) (after_of wrote) (λ own. both_ways _ e (eq-eqb t before.task.tenant (sym own)))
+        ∙ sym (ap (λ b. cond b (map_after (quota_of (shown c) t) (c.steps + 1) (ask before.task) (tenant_map t (content_of c.arena))) (tenant_map t (content_of c.arena))) e)
 
     -- and the step is a placing one
     pub is_writing : after.outcome ≡ Some (record { reply = reply; at = c.steps + 1 }) → IsPlacing (shown c) (shown new) (view_of before) (view_of after)
@@ -224,8 +225,9 @@ module _ (c : Core) (o : ℕ) (before after : Operation) (arena : ArenaView) (ac
       outcome = outcome;
       makes = λ t. made t (eqb t before.task.tenant) refl;
       writes = ap (λ (all : Contents). get all (key_asked (view_of before))) contents_are
-          ∙ get-with_row_same (content_of c.arena) (before.task.tenant, key_of (ask before.task)) wrote.after
-          ∙ is.leaves ∙ ap (row_left (ask before.task)) (is.before ∙ ap (get (content_of c.arena)) is.owner);
+          ∙ get-with_row_same (content_of c.arena) (before.task.tenant, key_of (ask before.task)) (after_of wrote)
+          ∙ is.leaves ∙ ap (λ number. row_left number (ask before.task) wrote.before) is.step
+          ∙ ap (row_left (c.steps + 1) (ask before.task)) (is.before ∙ ap (get (content_of c.arena)) is.owner);
       entry = wrote;
       pushes = refl;
       step = is.step;
@@ -243,9 +245,14 @@ module _ (c : Core) (o : ℕ) (before after : Operation) (arena : ArenaView) (ac
     worker = is.worker ∙ ap (λ (t : Task). t.worker) (sym task);
     tenant = is.tenant ∙ ap (λ (t : Task). t.tenant) (sym task);
     key_is = is.key ∙ ap (λ (t : Task). key_of (ask t)) (sym task);
-    makes = subst (λ (t : Task). wrote.after ≡ row_left (ask t) wrote.before) (sym task) is.leaves;
+    makes = subst (λ (t : Task). after_of wrote ≡ row_left wrote.step (ask t) wrote.before) (sym task) is.leaves;
+    keeps = subst (λ (t : Task). wrote.change ≡ change_kept (ask t) wrote.before) (sym task) is.keeps;
     was = λ removes. is.was (ap (λ (t : Task). is_remove (ask t)) (sym task) ∙ removes);
   }
+
+-- what a put leaves by the next step over this row, or over none
+abbrev pub put_over : Core → Operation → Option Stamped → Stamped
+put_over c op before = written (c.steps + 1) (change_of (ask op.task)) before
 
 -- what a put writes that places its change in the next step
 abbrev pub next_write : Core → Operation → Write
@@ -259,7 +266,8 @@ put_writes c op put = record {
   key = refl;
   owner = put.owner;
   before = refl;
-  leaves = sym (row_left_put op.task.request put.put_is (get (content_of c.arena) (owned op.task.key)));
+  leaves = sym (row_left_put (c.steps + 1) op.task.request put.put_is (get (content_of c.arena) (owned op.task.key)));
+  keeps = change_kept_put op.task.request put.put_is (get (content_of c.arena) (owned op.task.key));
   was = λ removes. absurd (both_ways _ (put_no_remove (ask op.task) put.put_is) removes);
 }
 
@@ -285,12 +293,12 @@ module _ (c : Core) (o : ℕ) (before after : Operation) (arena : ArenaView) (ac
   pub placed_move : IsPlacer c (placed c arena accounts o before after) o before after → IsMove c (placed c arena accounts o before after) o before after
   placed_move = wrote_move c o before after arena accounts h write (put_writes c before put) p
 
-  abbrev pub row : Columns
-  row = row_over before.task (get (content_of c.arena) (owned before.task.key))
+  abbrev pub row : Stamped
+  row = put_over c before (get (content_of c.arena) (owned before.task.key))
 
   module _ (reply : Reply) (changes : is_change reply ≡ true)
       (told : reply ≡ reply_of (quota_of (shown c) before.task.tenant) (ask before.task) (tenant_map before.task.tenant (content_of c.arena)))
-      (makes : map_after (quota_of (shown c) before.task.tenant) (ask before.task) (tenant_map before.task.tenant (content_of c.arena)) ≡ insert (tenant_map before.task.tenant (content_of c.arena)) (key_of (ask before.task)) row) where
+      (makes : map_after (quota_of (shown c) before.task.tenant) (c.steps + 1) (ask before.task) (tenant_map before.task.tenant (content_of c.arena)) ≡ insert (tenant_map before.task.tenant (content_of c.arena)) (key_of (ask before.task)) row) where
     pub placed_right : 0 < after.walk.first → after.walk.first ≤ c.steps + 1 → after.last ≡ c.steps + 1 → after.task ≡ before.task
         → IsAnswer (shown (placed c arena accounts o before after)) (view_of after) (record { reply = reply; at = c.steps + 1 })
     placed_right = wrote_right c o before after arena accounts h write (put_writes c before put) p reply changes told makes

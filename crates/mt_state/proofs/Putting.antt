@@ -3,12 +3,12 @@ use Rattle.std.proofs.Common.{◌≡◌, ◌≢◌, ℕ, ◌+◌, ◌<◌, inl, 
 use Rattle.std.proofs.{lemmas.Bool.{cases_eq, both_ways}, lemmas.Option.{none-some, same_Some}, lemmas.List.{length-set, Elements.All-from_get_or}}
 use Rattle.std.specs.{Prelude.{◌^◌}, Option.option_map, List.All, FinMap.{get, len, insert}}
 use Rattle.mt_slices.specs.Slices.{suffix_of}
-use Rattle.mt_rows.specs.{declared.reply.Reply.Reply, declared.reply.Reply.TheVariants.{New, Replaced}, declared.tenants.Account.Account, Rows.{Bytes, Columns}}
+use Rattle.mt_rows.specs.{declared.reply.Reply.Reply, declared.reply.Reply.TheVariants.{New, Replaced}, declared.tenants.Account.Account, Rows.{Bytes, Columns}, Stamps.Stamped}
 use Rattle.mt_rows.specs.{Commands.key_of, Maps.{is_change, reply_of, map_after}, Accounts.{Accounts, account_of, HasRoom, one_more, OthersStay}}
 use Rattle.mt_rows.specs.Tenants.{Contents, tenant_map}
 use Rattle.mt_rows.proofs.ContentLaws.{get-tenant_map}
 use Rattle.mt_border.specs.{Held.Pair, declared.entry.Entry.Entry, Held.Stable, Entry.{pair_of, order_of}}
-use Rattle.mt_border.specs.{Entries.{IsBorder, replaced, with_entry, place_in}, Contents.{owned, AreKeys, AllStamped}}
+use Rattle.mt_border.specs.{Entries.{IsBorder, replaced, with_entry, place_in}, Contents.{owned, AreKeys, AllStamped, row_of}}
 use Rattle.mt_border.specs.Slots.{Slotted}
 use Rattle.mt_border.proofs.{Edits.{any_entry, replaced_at as set_at}, ContentsKeys.{IsApart, owned_at}, ContentsMaps.{len_new, len_there, len_other}}
 use Rattle.mt_border.proofs.ContentsStamps.{stamped_store, stamped_publish}
@@ -20,15 +20,15 @@ use Rattle.mt_operation.specs.{declared.phase.Phase.Phase, declared.phase.Phase.
 use Rattle.mt_operation.specs.{declared.splits.Halves.Halves, declared.operation.Operation.Operation, Tasks.ask, Operations.view_of}
 use Rattle.mt_operation.specs.{Phases.{is_done, MayFollow, IsOfKind, has_splits, is_prepared}, Tables.{op_at as operation_at}}
 use Rattle.mt_descent.specs.{KeptWalks.walk_place, WalkMoves.Continues}
-use Rattle.mt_insert.{specs.{Puts.{IsPut, row_over}, Placing.entry_of, Store.IsStore, Publish.IsPublish}, proofs.Places.may_publish}
+use Rattle.mt_insert.{specs.{Puts.IsPut, Placing.entry_of, Store.IsStore, Publish.IsPublish}, proofs.Places.may_publish}
 use Rattle.mt_held.{specs.{Holds.{HoldsBy, IsAtUnlock}, Moves.walk_placed, Taping.pushed}, proofs.Places.may_store}
 use Rattle.mt_state.specs.{Views.{StateView, Core, shown, quota_of, quota_in, granted_in}, Notes.Notes}
 use Rattle.mt_state.specs.KeptOperations.{IsOpenOperation, IsStoring, IsPublishing, MayUnlock, IsUnlocking, IsKeptAt, IsPlacedOnce, IsKeptOf, MayUnlockUnsplit}
 use Rattle.mt_state.specs.{Invariant.{IsStampOf, HoldsLast, HoldsAt, StateInvariant}, KeptBack.IsBackAt}
 use Rattle.mt_state.proofs.{Replies.{put_there, put_new}, Telling.{Gives, gives}}
-use Rattle.mt_state.proofs.Placing.{Counts, next_write, placed, PlacesPair, untouched_beside, untouched_now, placed_move, placed_right, is_placing, placed_once}
+use Rattle.mt_state.proofs.Placing.{Counts, next_write, put_over, placed, PlacesPair, untouched_beside, untouched_now, placed_move, placed_right, is_placing, placed_once}
 use Rattle.mt_state.proofs.{Moved.{went, first_begun, first_upto, open_moved, has_moved}, Still.{floor_made, unready_none}, Reading.{key_of_owner, walk_same}}
-use Rattle.mt_state.proofs.Stamps.{row_of}
+use Rattle.mt_state.proofs.Stamps.{row_stands}
 use Rattle.mt_state.proofs.OneNode.{stepped, counted_live, replaced_at, replaced_holds, replaced_versions, replaced_touches, few_steps, holds_here, replaced_deleted, replaced_takes}
 use Rattle.mt_state.proofs.{Locking.{ready_one, room_for}, Growing.{makes_set, retires_same, changes_on}, LiveTrees.slot_lives, Bound.put_no_remove}
 use Rattle.mt_arena.proofs.Homes as homes
@@ -102,15 +102,15 @@ module _ (c : Core) (now : StateView) (o : ℕ) (is : shown c ≡ now) (h : Stat
     pub beside_missing : get (content_of c.arena) key ≡ None → (l : ℕ) → l < length c.arena.nodes → counts c.arena.trees (at c.arena l) ≡ true
         → All (IsApart (tree_of c.arena l).prefix key) (at c.arena l).slots
     beside_missing missing l inside counted =
-        apart_in l inside counted (λ q layer i other also same. none-some other.row (sym missing ∙ ap (get (content_of c.arena)) (sym same) ∙ row_of c h.stamps arena_is q layer l i other also))
+        apart_in l inside counted (λ q layer i other also same. none-some (row_of other) (sym missing ∙ ap (get (content_of c.arena)) (sym same) ∙ row_stands c h.stamps arena_is q layer l i other also))
 
   -- how many pairs each tenant has once the put's row is inserted at its key
-  more_at : (all : Contents) (row : Columns) → all ≡ insert (content_of c.arena) (op.task.tenant, key_of (ask op.task)) row → (t : ℕ)
+  more_at : (all : Contents) (row : Stamped) → all ≡ insert (content_of c.arena) (op.task.tenant, key_of (ask op.task)) row → (t : ℕ)
       → len (tenant_map t all) ≡ len (tenant_map t (insert (content_of c.arena) (op.task.tenant, key_of (ask op.task)) row))
   more_at all row e t = ap (λ x. len (tenant_map t x)) e
 
   -- the counts after a put over a row
-  pub counted_there : (all : Contents) (row before : Columns) → all ≡ insert (content_of c.arena) (op.task.tenant, key_of (ask op.task)) row
+  pub counted_there : (all : Contents) (row before : Stamped) → all ≡ insert (content_of c.arena) (op.task.tenant, key_of (ask op.task)) row
       → get (content_of c.arena) key ≡ Some before → Counts c c.accounts all
   counted_there all row before e was_there = record {
     quotas = λ t. refl;
@@ -128,7 +128,7 @@ module _ (c : Core) (now : StateView) (o : ℕ) (is : shown c ≡ now) (h : Stat
   }
 
   -- and after a put of a new key
-  pub counted_new : (accounts : Accounts) (all : Contents) (row : Columns)
+  pub counted_new : (accounts : Accounts) (all : Contents) (row : Stamped)
       → all ≡ insert (content_of c.arena) (op.task.tenant, key_of (ask op.task)) row → get (content_of c.arena) key ≡ None
       → HasRoom (account_of c.accounts op.task.tenant)
       → account_of accounts op.task.tenant ≡ option_map one_more (account_of c.accounts op.task.tenant)
@@ -172,8 +172,8 @@ module _ (c : Core) (now : StateView) (o : ℕ) (is : shown c ≡ now) (h : Stat
     abbrev the_new : Core
     the_new = placed c the_arena accounts o op the_after
 
-    abbrev the_row : Columns
-    the_row = row_over op.task (get (content_of c.arena) key)
+    abbrev the_row : Stamped
+    the_row = put_over c op (get (content_of c.arena) key)
 
     module _ (within : k < length c.arena.nodes) (lives : n.version.deleted ≡ false) (beside : (l : ℕ) → l < length c.arena.nodes → l ≢ k → counts c.arena.trees (at c.arena l) ≡ true → All (IsApart (tree_of c.arena l).prefix key) (at c.arena l).slots) (guarantee : Guarantee o c.arena the_arena)
         (contents : content_of the_arena ≡ insert (content_of c.arena) (op.task.tenant, key_of (ask op.task)) the_row) (counted : Counts c accounts (content_of the_arena))
@@ -204,7 +204,7 @@ module _ (c : Core) (now : StateView) (o : ℕ) (is : shown c ≡ now) (h : Stat
       -- a step that places the put's row
       placed_gives : (changes : is_change reply ≡ true)
           → (told : reply ≡ reply_of (quota_of (shown c) op.task.tenant) (ask op.task) (tenant_map op.task.tenant (content_of c.arena)))
-          → (makes : map_after (quota_of (shown c) op.task.tenant) (ask op.task) (tenant_map op.task.tenant (content_of c.arena)) ≡ insert (tenant_map op.task.tenant (content_of c.arena)) (key_of (ask op.task)) the_row)
+          → (makes : map_after (quota_of (shown c) op.task.tenant) (c.steps + 1) (ask op.task) (tenant_map op.task.tenant (content_of c.arena)) ≡ insert (tenant_map op.task.tenant (content_of c.arena)) (key_of (ask op.task)) the_row)
           → (p : Phase) → op.walk.phase ≡ p → is_prepared p ≡ true → is_done p ≡ false → has_splits p ≡ false
           → ((j : ℕ) → HoldsAt p op j → j ≡ k) → p ≢ Enter → MayFollow p Unlock → op.walk.aim ≡ aims.Write
           → Notes (shown c) (view_of op) p Unlock (Some (record { reply = reply; at = c.steps + 1 }))
@@ -293,6 +293,7 @@ module _ (c : Core) (now : StateView) (o : ℕ) (is : shown c ≡ now) (h : Stat
         → Gives now (stepped c arena tape c.accounts o (went op (c.steps + 1) w (Some (record { reply = Replaced; at = c.steps + 1 })) None)) o false
     store_done arena tape w row before arena_is t =
         let s = storing.stores in
+        let had : Stamped = record { stamp = t.stamp; row = before } in
         let j = s.holds.judged in
         let place = walk_place c.arena op.walk in
         let slots = replaced n.slots (with_row (slot_at n place) s.pair row (c.steps + 1)) in
@@ -300,11 +301,11 @@ module _ (c : Core) (now : StateView) (o : ℕ) (is : shown c ≡ now) (h : Stat
         let cells = cells_holding n.cells place (Stable (record s.pair { row = row; stamp = c.steps + 1 })) in
         let takes : arena ≡ with_node c.arena k (with_slots n slots cells) = t.is s.pair s.stable in
         let may = may_store c.arena o op.task.key op.walk arena_is s.holds op.walk.slot s.pair s.in_slot s.stable in
-        let contents = subst (λ (v : ArenaView). content_of v ≡ insert (content_of c.arena) (op.task.tenant, key_of (ask op.task)) (row_over op.task (get (content_of c.arena) key))) takes t.places.contents in
-        let row_there : get (tenant_map op.task.tenant (content_of c.arena)) (key_of (ask op.task)) ≡ Some before =
+        let contents = subst (λ (v : ArenaView). content_of v ≡ insert (content_of c.arena) (op.task.tenant, key_of (ask op.task)) (put_over c op (get (content_of c.arena) key))) takes t.places.contents in
+        let row_there : get (tenant_map op.task.tenant (content_of c.arena)) (key_of (ask op.task)) ≡ Some had =
         get-tenant_map op.task.tenant (content_of c.arena) (key_of (ask op.task)) ∙ ap (get (content_of c.arena)) (sym put.owner) ∙ t.was_there in
-        let replies = put_there (quota_of (shown c) op.task.tenant) op.task.request (tenant_map op.task.tenant (content_of c.arena)) before put.put_is row_there in
-        let makes = replies.1 ∙ ap (λ (b : Option Columns). insert (tenant_map op.task.tenant (content_of c.arena)) (key_of (ask op.task)) (row_over op.task b)) (sym t.was_there) in
+        let replies = put_there (quota_of (shown c) op.task.tenant) (c.steps + 1) op.task.request (tenant_map op.task.tenant (content_of c.arena)) had put.put_is t.met row_there in
+        let makes = replies.1 ∙ ap (λ (b : Option Stamped). insert (tenant_map op.task.tenant (content_of c.arena)) (key_of (ask op.task)) (put_over c op b)) (sym t.was_there) in
         let stamps : AllStamped (IsStampOf c.steps c.tape) (tree_of c.arena k).prefix n.slots → AllStamped (IsStampOf (c.steps + 1) (pushed c.tape (next_write c op))) (tree_of c.arena k).prefix slots =
         λ was. subst (AllStamped (IsStampOf (c.steps + 1) (pushed c.tape (next_write c op))) (tree_of c.arena k).prefix) (sym (row_set n place s.pair row (c.steps + 1) (border_here arena_is s.holds) s.in_slot.in_range))
         (stamped_store (IsStampOf c.steps c.tape) (IsStampOf (c.steps + 1) (pushed c.tape (next_write c op))) n.slots place s.pair row (c.steps + 1) (border_here arena_is s.holds) s.in_slot.in_range (ap pair_of s.stable)
@@ -313,7 +314,7 @@ module _ (c : Core) (now : StateView) (o : ℕ) (is : shown c ≡ now) (h : Stat
         subst (λ (v : ArenaView). Gives now (stepped c v tape c.accounts o after) o false) (sym takes)
         (subst (λ (t : Kept). Gives now (stepped c (with_node c.arena k (with_slots n slots cells)) t c.accounts o after) o false) (sym t.places.tape)
         (placed_gives slots cells c.accounts w Replaced j.held.there j.stands.live (beside_stored arena_is place s.pair may.stands) (subst (Guarantee o c.arena) takes t.guarantee) contents
-        (counted_there (content_of (with_node c.arena k (with_slots n slots cells))) (row_over op.task (get (content_of c.arena) key)) before contents t.was_there) stamps
+        (counted_there (content_of (with_node c.arena k (with_slots n slots cells))) (put_over c op (get (content_of c.arena) key)) had contents t.was_there) stamps
         refl replies.0 makes Store at_store refl refl refl (λ i one. one) (λ e. cc) tt stores_on refl t.walk t.same j.held.holder (subst (λ (v : ArenaView). IsAtUnlock v o w) takes t.kept)))
 
   module _ (at_publish : op.walk.phase ≡ Publish) where
@@ -335,18 +336,18 @@ module _ (c : Core) (now : StateView) (o : ℕ) (is : shown c ≡ now) (h : Stat
         let cells = cells_with n.cells (place_in n.slots (order_of added)) added in
         let after = went op (c.steps + 1) w (Some (record { reply = New; at = c.steps + 1 })) None in
         let may = may_publish c.arena o op.task.key op.walk arena_is s.holds row (c.steps + 1) s.missing s.room in
-        let contents = subst (λ (v : ArenaView). content_of v ≡ insert (content_of c.arena) (op.task.tenant, key_of (ask op.task)) (row_over op.task (get (content_of c.arena) key))) t.is t.places.contents in
+        let contents = subst (λ (v : ArenaView). content_of v ≡ insert (content_of c.arena) (op.task.tenant, key_of (ask op.task)) (put_over c op (get (content_of c.arena) key))) t.is t.places.contents in
         let none_there : get (tenant_map op.task.tenant (content_of c.arena)) (key_of (ask op.task)) ≡ None =
         get-tenant_map op.task.tenant (content_of c.arena) (key_of (ask op.task)) ∙ ap (get (content_of c.arena)) (sym put.owner) ∙ t.missing in
         let less : len (tenant_map op.task.tenant (content_of c.arena)) < quota_of (shown c) op.task.tenant =
         room_left (account_of c.accounts op.task.tenant) (len (tenant_map op.task.tenant (content_of c.arena))) t.room (λ a e. (h.counts op.task.tenant a e).0) in
-        let replies = put_new (quota_of (shown c) op.task.tenant) op.task.request (tenant_map op.task.tenant (content_of c.arena)) put.put_is none_there less in
-        let makes = replies.1 ∙ ap (λ (b : Option Columns). insert (tenant_map op.task.tenant (content_of c.arena)) (key_of (ask op.task)) (row_over op.task b)) (sym t.missing) in
+        let replies = put_new (quota_of (shown c) op.task.tenant) (c.steps + 1) op.task.request (tenant_map op.task.tenant (content_of c.arena)) put.put_is t.met none_there less in
+        let makes = replies.1 ∙ ap (λ (b : Option Stamped). insert (tenant_map op.task.tenant (content_of c.arena)) (key_of (ask op.task)) (put_over c op b)) (sym t.missing) in
         let stamps = stamped_publish (IsStampOf c.steps c.tape) (IsStampOf (c.steps + 1) (pushed c.tape (next_write c op)))
         (tree_of c.arena k).prefix (layer_of (tree_of c.arena k).prefix) n.slots added op.task.key (record { suffix = suffix_of op.task.key op.walk.layer; row = row; stamp = c.steps + 1 })
         (keys_here arena_is s.holds) may.has s.missing refl (untouched_beside c op h put) (untouched_now c op h put) in
         subst (λ (v : ArenaView). Gives now (stepped c v tape accounts o after) o false) (sym t.is)
         (subst (λ (t : Kept). Gives now (stepped c (with_node c.arena k (with_slots n slots cells)) t accounts o after) o false) (sym t.places.tape)
         (placed_gives slots cells accounts w New j.held.there j.stands.live (λ l inside differ counted. beside_missing arena_is t.missing l inside counted) (subst (Guarantee o c.arena) t.is t.guarantee) contents
-        (counted_new accounts (content_of (with_node c.arena k (with_slots n slots cells))) (row_over op.task (get (content_of c.arena) key)) contents t.missing t.room t.more t.others) stamps
+        (counted_new accounts (content_of (with_node c.arena k (with_slots n slots cells))) (put_over c op (get (content_of c.arena) key)) contents t.missing t.room t.more t.others) stamps
         refl replies.0 makes Publish at_publish refl refl refl (λ i one. one) (λ e. cc) tt publishes_on (inl refl) t.walk t.same j.held.holder (subst (λ (v : ArenaView). IsAtUnlock v o w) t.is t.kept)))

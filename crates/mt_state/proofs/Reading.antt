@@ -1,7 +1,7 @@
 -- The steps of an operation that holds nothing: for `State::descend`, `search`, `load` and `confirm`.
 use Rattle.std.{proofs.Common.{◌≡◌, ◌≢◌, ℕ, ◌+◌, ◌<◌, ◌≤◌, false, List, length, set, Option, Some, None, refl, sym, ap, subst, ◌∙◌, arith}, specs.Prelude.{◌^◌}}
 use Rattle.mt_slices.{specs.{Keys.{IsStoredKey, stored_key}, Slices.{slice_of, mark_of, suffix_of}, declared.mark.Mark.Mark}, proofs.Tenants.stored_key-again}
-use Rattle.mt_rows.specs.{declared.reply.Reply.TheVariants.Absent, Rows.{Bytes, Columns}, Commands.key_of}
+use Rattle.mt_rows.specs.{declared.reply.Reply.TheVariants.Absent, Rows.Bytes, Stamps.Stamped, Commands.key_of}
 use Rattle.mt_border.specs.{declared.entry.FoundKind.FoundKind, declared.entry.FoundKind.TheVariants.{ThisKey, OtherLong, Link as ToTree}}
 use Rattle.mt_border.specs.{declared.entry.Find.Find, Entry.IsKind, Held.Held, Entries.IsMissing, Contents.owned}
 use Rattle.mt_border.proofs.Edits.{any_entry}
@@ -167,7 +167,7 @@ module _ (c : Core) (now : StateView) (o : ℕ) (is : shown c ≡ now) (h : Stat
       (owner_of c op k aims.Read (subst (λ (p : Phase). IsOfKind p op.walk.aim) at_search k.kind) (λ e. absurd (cc)))
 
   module _ (w : Walk) (found : Find) (has_found : FindsIn (at c.arena op.walk.place.node) op.task.key op.walk.layer found) (is_after : w ≡ after_search found op.walk (c.steps + 1))
-      (kept : (past : Past) (row : Option Columns) → AreStamped past c.arena → IsNow past (c.steps + 1) c.arena → op.walk.first ≤ c.steps + 1 → IsKept c.arena past op.task.key row w) where
+      (kept : (past : Past) (row : Option Stamped) → AreStamped past c.arena → IsNow past (c.steps + 1) c.arena → op.walk.first ≤ c.steps + 1 → IsKept c.arena past op.task.key row w) where
     first_upto_now : op.walk.first ≤ c.steps + 1
     first_upto_now = let k = (h.ops o op there).always in omega (arith, k.order, k.made)
 

@@ -1,7 +1,7 @@
 -- Rely and guarantee: what is kept of an operation stays under each step of another one, by what that step leaves to others alone.
 use Rattle.std.proofs.Common.{◌≡◌, ◌≢◌, ℕ, ◌-◌, ◌<◌, ◌≤◌, inl, inr, List, [], ◌∷◌, length, Option, None, Some, sym, ap, subst, ◌∙◌, arith, Bool, true, false}
 use Rattle.std.proofs.lemmas.Bool.{cases_lt}
-use Rattle.mt_rows.specs.{declared.command.Command.Command, declared.reply.Reply.Reply, Rows.{Bytes, Columns}, Maps.reply_of}
+use Rattle.mt_rows.specs.{declared.command.Command.Command, declared.reply.Reply.Reply, Rows.Bytes, Stamps.Stamped, Maps.reply_of}
 use Rattle.mt_rows.specs.Tenants.{Contents, tenant_map}
 use Rattle.mt_tape.specs.Histories.{contents_at}
 use Rattle.mt_runs.proofs.Lawful.{lawful_by}
@@ -88,7 +88,7 @@ module _ (old new : Core) (o q : ℕ) (arena : IsArena new.arena.nodes new.arena
     same = λ n from upto. g.past.same n (omega arith) upto ∙ ap (λ (all : Contents). contents_at old.tape.entries all n) (sym g.arena.gives.contents);
   }
 
-  walk_stays : (row : Option Columns) → IsKept start.arena (past_of start) op.task.key row op.walk → IsKept new.arena (past_of new) op.task.key row op.walk
+  walk_stays : (row : Option Stamped) → IsKept start.arena (past_of start) op.task.key row op.walk → IsKept new.arena (past_of new) op.task.key row op.walk
   walk_stays row h = descent.kept_stays o start.arena new.arena g.arena.step.nodes (past_of start) (past_of new) op.task.key row op.walk op.walk.phase past_stays
       (λ loads. record { sound = arena; stamped = stamped; lost = g.arena.step.lost }) h
 
@@ -273,6 +273,7 @@ module _ (old new : Core) (o q : ℕ) (arena : IsArena new.arena.nodes new.arena
     tenant = h.tenant;
     key_is = h.key_is;
     makes = h.makes;
+    keeps = h.keeps;
     was = h.was;
   }
 

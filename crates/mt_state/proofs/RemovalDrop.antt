@@ -2,10 +2,10 @@
 use Rattle.std.proofs.Common.{◌≡◌, ◌≢◌, ℕ, ◌+◌, ◌-◌, ◌<◌, inl, inr, true, false, cond, length, Option, Some, None, is_some, refl, sym, ap, subst, ◌∙◌, arith}
 use Rattle.std.proofs.{lemmas.Bool.{cases_eq, both_ways}, lemmas.Option.{same_Some, none-some}, lemmas.List.Elements.All-from_get_or}
 use Rattle.std.specs.{Prelude.{◌^◌}, List.All, Option.option_map, FinMap.{get, len, remove, len-remove}}
-use Rattle.mt_rows.specs.{declared.reply.Reply.TheVariants.Removed, declared.tenants.Account.Account, Rows.{Bytes, Columns}, Commands.key_of}
+use Rattle.mt_rows.specs.{declared.reply.Reply.TheVariants.Removed, declared.tenants.Account.Account, Rows.Bytes, Stamps.Stamped, Commands.key_of}
 use Rattle.mt_rows.specs.{Maps.{Map, reply_of, map_after, is_scan}, Accounts.{Accounts, account_of, one_less}, Tenants.{Contents, tenant_map}}
 use Rattle.mt_rows.proofs.{ContentLaws.get-tenant_map, CommandLaws.keys_total}
-use Rattle.mt_border.specs.{Entries.{without, place_in}, Entry.order_of, Contents.{owned, AllStamped, IsStamped}}
+use Rattle.mt_border.specs.{Entries.{without, place_in}, Entry.order_of, Contents.{owned, AllStamped, IsStamped, row_of}}
 use Rattle.mt_border.proofs.{Edits.any_entry, ContentsKeys.{owned_at, IsApart}}
 use Rattle.mt_tape.specs.{declared.entry.Entry.{Entry as Write}, Tapes.Kept, Histories.with_row}
 use Rattle.mt_tape.proofs.TapeLaws.{get-with_row_same, tenant_map-with_row, tenant_map-with_row_other}
@@ -23,7 +23,7 @@ use Rattle.mt_state.specs.{Views.{Core, shown, granted_in, quota_of}, Notes.Note
 use Rattle.mt_state.specs.KeptOperations.{IsOpenOperation, IsDropping, IsKeptOf, IsKeptAt, HasAnswer, IsPlacedOnce}
 use Rattle.mt_state.specs.{Invariant.{IsStampOf, AreStamps, StateInvariant, DeletedAreEmpty}, Writes.removing}
 use Rattle.mt_state.proofs.{Telling.{Gives, gives}, Moved.{went_on, first_begun, first_upto, open_moved_on, has_moved_on}, Still.{floor_made, unready_none}}
-use Rattle.mt_state.proofs.{Reading.walk_same, OneNode.{counted_live, holds_here}, Locking.{ready_one, room_for}, Replies.remove_there, Writing.row_left_remove}
+use Rattle.mt_state.proofs.{Reading.walk_same, OneNode.{counted_live, holds_here}, Locking.{ready_one, room_for}, Replies.remove_there, Writing.{row_left_remove, change_kept_remove}}
 use Rattle.mt_state.proofs.{LiveTrees.slot_lives, Placing.{Counts, IsWriteOf, placed_by, Places, beside_write, wrote_move, wrote_right, is_writing, wrote_once}}
 use Rattle.mt_state.proofs.{Putting.stamped_apart, Growing.{retires_same, changes_on}, RemovalNodes.{LeavesNodes, one_leaves, slots_removed, stood, versions, removal_touches, removal_takes}}
 use Rattle.mt_state.proofs.RemovalSteps.{HasRemoval, has_removal, removal_back, removal_kept, removal_held, removal_kind, removal_open, removal_unready}
@@ -44,8 +44,8 @@ one_more_of None a e = absurd (cc)
 one_more_of (Some b) a e = (b, refl, same_Some _ _ e)
 
 -- a map without a key that was there
-len_without : (m : Map) (key : Bytes) (row : Columns) → get m key ≡ Some row → len (remove m key) ≡ len m - 1
-len_without m key row is = len-remove keys_total m key ∙ ap (λ (o : Option Columns). cond (is_some o) (len m - 1) (len m)) is
+len_without : (m : Map) (key : Bytes) (row : Stamped) → get m key ≡ Some row → len (remove m key) ≡ len m - 1
+len_without m key row is = len-remove keys_total m key ∙ ap (λ (o : Option Stamped). cond (is_some o) (len m - 1) (len m)) is
 
 module _ (c : Core) (o : ℕ) (h : StateInvariant c) (few : c.steps < 2 ^ 59) (op : Operation) (there : operation_at c.table o ≡ Some op) (at_drop : op.walk.phase ≡ DropKey) (is_arena : IsArena c.arena.nodes c.arena.trees)
     (arena : ArenaView) (arena_is : IsArena arena.nodes arena.trees) (tape : Kept) (accounts : Accounts) (w : Walk) (r : Removal) (t : IsDropKey o (c.steps + 1) op.task c.arena arena c.tape tape c.accounts accounts op.walk w op.removal r) where
@@ -97,7 +97,8 @@ module _ (c : Core) (o : ℕ) (h : StateInvariant c) (few : c.steps < 2 ^ 59) (o
     key = refl;
     owner = always.owner plain;
     before = sym t.places.was_there;
-    leaves = sym (row_left_remove op.task.request dropping.removes (Some t.row));
+    leaves = sym (row_left_remove (c.steps + 1) op.task.request dropping.removes (Some t.row));
+    keeps = sym (change_kept_remove op.task.request dropping.removes (Some t.row));
     was = λ removes. refl;
   }
 
@@ -112,7 +113,7 @@ module _ (c : Core) (o : ℕ) (h : StateInvariant c) (few : c.steps < 2 ^ 59) (o
       let stands : StandsFor arena.nodes arena.trees own.0 (layer_of (tree_of arena j).prefix) j i pair =
       record { there = inside; live = live; tree_live = counted_live arena.trees (at arena j) counted; in_range = in_range; has = own.1; pair_is = held } in
       let row = found arena.nodes arena.trees arena_is (homes.begun arena.nodes arena.trees arena_is.forest) own.0 (layer_of (tree_of arena j).prefix) j i pair stands in
-      none-some pair.row (sym gone ∙ ap (get (content_of arena)) (sym (sym (owned_at (tree_of arena j).prefix (layer_of (tree_of arena j).prefix) (slot_at (at arena j) i) own.0 pair own.1 held) ∙ same)) ∙ row))
+      none-some (row_of pair) (sym gone ∙ ap (get (content_of arena)) (sym (sym (owned_at (tree_of arena j).prefix (layer_of (tree_of arena j).prefix) (slot_at (at arena j) i) own.0 pair own.1 held) ∙ same)) ∙ row))
 
   abbrev told : Option Outcome
   told = Some (record { reply = Removed; at = c.steps + 1 })
@@ -184,8 +185,8 @@ module _ (c : Core) (o : ℕ) (h : StateInvariant c) (few : c.steps < 2 ^ 59) (o
   }
 
   replies : (Removed ≡ reply_of (quota_of (shown c) op.task.tenant) (ask op.task) (tenant_map op.task.tenant (content_of c.arena)))
-      × (map_after (quota_of (shown c) op.task.tenant) (ask op.task) (tenant_map op.task.tenant (content_of c.arena)) ≡ remove (tenant_map op.task.tenant (content_of c.arena)) (key_of (ask op.task)))
-  replies = remove_there (quota_of (shown c) op.task.tenant) op.task.request (tenant_map op.task.tenant (content_of c.arena)) t.row dropping.removes row_there
+      × (map_after (quota_of (shown c) op.task.tenant) (c.steps + 1) (ask op.task) (tenant_map op.task.tenant (content_of c.arena)) ≡ remove (tenant_map op.task.tenant (content_of c.arena)) (key_of (ask op.task)))
+  replies = remove_there (quota_of (shown c) op.task.tenant) (c.steps + 1) op.task.request (tenant_map op.task.tenant (content_of c.arena)) t.row dropping.removes row_there
 
   begun : 0 < op.walk.first
   begun = always.begun (λ enters. absurd (let no : DropKey ≡ Enter = sym at_drop ∙ enters in cc))

@@ -126,7 +126,7 @@ module _ (c : Core) (o : ℕ) (h : StateInvariant c) (few : c.steps < 2 ^ 59) (o
         } in
         back_gives c o h few op there arena w told u.is u.keeps judging.judges.judged.held (holds_here c (shown c) o refl h few op there Judge at_judge)
         Judge Done at_judge (ap (λ (x : Walk). x.phase) u.walk) refl tt tt tt u.keeps.same.aim tt (sym (ap told_change untold))
-        (subst (λ had. EndsJudging had (shown c) (view_of op) told) (sym untold) (inr (removes, refl)))
+        (subst (λ had. EndsJudging had (shown c) (view_of op) told) (sym untold) (inr (inl (removes, refl))))
         own (λ facts. tt) (unsplit_at Judge at_judge refl)
 
     -- one on its way back that finds no link

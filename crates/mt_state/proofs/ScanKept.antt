@@ -1,7 +1,7 @@
 -- What a scan has done, and that it stays so: for Rely and Moving.
 use Rattle.std.{proofs.Common.{◌≡◌, ℕ, ◌<◌, subst, sym, ap, arith}, specs.Prelude.{◌^◌}}
 use Rattle.mt_slices.{specs.Keys.{IsStoredKey, stored_key, tenant_of}, proofs.Numbers.{number, number_lt, tenant_of-number}}
-use Rattle.mt_rows.specs.{declared.command.Command.Command, declared.command.Command.TheVariants.{Get, Put, Remove, Scan}, Rows.Bytes}
+use Rattle.mt_rows.specs.{declared.command.Command.Command, declared.command.Command.TheVariants.{Get, Put, PutIf, Remove, Scan}, Rows.Bytes}
 use Rattle.mt_rows.specs.Commands.{key_of, HasCount}
 use Rattle.mt_operation.specs.{declared.operation.Operation.Operation, Operations.{ScanView, scan_of, no_scan}, Tasks.ask}
 use Rattle.mt_descent.specs.Pasts.{Past, ExtendsPast}
@@ -14,6 +14,7 @@ pub scanned_for_stays : (before now : Past) (first : ℕ) → ExtendsPast first 
 scanned_for_stays before now first more (Scan from after count columns) s h = scanned_stays before now first more from after count columns s h
 scanned_for_stays before now first more (Get key columns) s h = tt
 scanned_for_stays before now first more (Put key change) s h = tt
+scanned_for_stays before now first more (PutIf key stamp change) s h = tt
 scanned_for_stays before now first more (Remove key) s h = tt
 
 -- before its first step it has scanned nothing, whatever that step's number will be
@@ -22,6 +23,7 @@ pub scanned_for_begins : (past : Past) (first tenant : ℕ) (command : Command) 
 scanned_for_begins past first tenant (Scan from after count columns) fits stored counts = scan_begins past first tenant from after count columns fits stored counts.0
 scanned_for_begins past first tenant (Get key columns) fits stored counts = tt
 scanned_for_begins past first tenant (Put key change) fits stored counts = tt
+scanned_for_begins past first tenant (PutIf key stamp change) fits stored counts = tt
 scanned_for_begins past first tenant (Remove key) fits stored counts = tt
 
 -- a tenant has a number of four bytes

@@ -2,7 +2,7 @@
 use Rattle.std.proofs.Common.{◌≡◌, ◌<◌, ℕ, Bool, true, false, ◌&&◌, T, List, [], ◌∷◌, map, Some, None, refl, sym, ap, subst, ◌∙◌, cond}
 use Rattle.std.specs.{List.AllByRecursion, List.Sorted.IsStrictlySortedBy, Ordering.{nat_cmp, is_lt}, declared.cmp.Ordering.TheVariants.Less}
 use Rattle.std.specs.{declared.cmp.Ordering.Ordering, Cmp.Lexicographic.slice_cmp, FinMap.Entries.{below_all, is_sorted}}
-use Rattle.mt_rows.specs.{declared.command.Command.Command, declared.command.Command.TheVariants.{Get, Put, Remove, Scan}, Rows.{Bytes, Columns}}
+use Rattle.mt_rows.specs.{declared.command.Command.Command, declared.command.Command.TheVariants.{Get, Put, PutIf, Remove, Scan}, Rows.Bytes, Stamps.Stamped}
 use Rattle.mt_rows.specs.{Commands.{HasColumns, key_of}, Maps.is_scan}
 use Rattle.mt_operation.specs.{declared.phase.Phase.Phase, declared.phase.Phase.TheVariants.{Enter, Snap, Check, Hop}, declared.operation.Operation.Operation}
 use Rattle.mt_operation.specs.{Tasks.ask, Operations.{ScanView, scan_of, view_of}, Phases.{is_done, IsOfKind, Kind}, Tables.{op_at as operation_at}}
@@ -46,6 +46,7 @@ module _ (c : Core) (o : ℕ) (h : StateInvariant c) (op : Operation) (there : o
           record { count = count; columns = columns; asks = record { from = from; after = after; is = is }; indexes = indexes; few = has.few }
       by (Get key columns) is scans indexes has = absurd (cc)
       by (Put key change) is scans indexes has = absurd (cc)
+      by (PutIf key stamp change) is scans indexes has = absurd (cc)
       by (Remove key) is scans indexes has = absurd (cc)
 
 -- both of two tests hold
@@ -54,14 +55,14 @@ both true b p q = q
 both false b p q = p
 
 -- a key below others stands below their pairs
-below : (key : Bytes) (ps : List (Bytes × Columns)) → AllByRecursion (λ (y : Bytes). slice_cmp nat_cmp key y ≡ Less) (map (λ (p : Bytes × Columns). p.0) ps)
+below : (key : Bytes) (ps : List (Bytes × Stamped)) → AllByRecursion (λ (y : Bytes). slice_cmp nat_cmp key y ≡ Less) (map (λ (p : Bytes × Stamped). p.0) ps)
     → T (below_all (slice_cmp nat_cmp) key ps)
 below key [] h = tt
 below key (p ∷ ps) h =
     both (is_lt (slice_cmp nat_cmp key p.0)) (below_all (slice_cmp nat_cmp) key ps) (subst (λ (o : Ordering). T (is_lt o)) (sym h.0) tt) (below key ps h.1)
 
 -- pairs whose keys rise strictly are sorted by them
-pub sorted_pairs : (ps : List (Bytes × Columns)) → IsStrictlySortedBy (slice_cmp nat_cmp) (map (λ (p : Bytes × Columns). p.0) ps)
+pub sorted_pairs : (ps : List (Bytes × Stamped)) → IsStrictlySortedBy (slice_cmp nat_cmp) (map (λ (p : Bytes × Stamped). p.0) ps)
     → T (is_sorted (slice_cmp nat_cmp) ps)
 unfolding IsStrictlySortedBy
 sorted_pairs [] h = tt

@@ -3,7 +3,7 @@ use Rattle.std.proofs.Common.{◌≡◌, ℕ, ◌+◌, ◌<◌, inl, inr, Bool, 
 use Rattle.std.proofs.lemmas.Bool.{both_ways}
 use Rattle.std.specs.Prelude.{◌^◌}
 use Rattle.mt_slices.specs.Keys.{IsStoredKey, tenant_of}
-use Rattle.mt_rows.specs.{declared.command.Command.Command, declared.command.Command.TheVariants.{Get, Put, Remove, Scan}, Rows.{Bytes, Columns}, Maps.is_scan}
+use Rattle.mt_rows.specs.{declared.command.Command.Command, declared.command.Command.TheVariants.{Get, Put, PutIf, Remove, Scan}, Rows.Bytes, Stamps.Stamped, Maps.is_scan}
 use Rattle.mt_operation.specs.{declared.walk.Walk.Walk, declared.scan.Scan.{Scan as Memory}, declared.scan.Stop.Stop, declared.outcome.Outcome.Outcome}
 use Rattle.mt_operation.specs.{declared.operation.Operation.Operation, Tasks.ask, Operations.{ScanView, view_of, scan_of, moved}}
 use Rattle.mt_operation.specs.{Phases.{is_done, MayFollow, IsOfKind}, Tables.{op_at as operation_at}}
@@ -21,11 +21,12 @@ abbrev pub went_scan : Operation → ℕ → Bytes → Walk → Memory → Optio
 went_scan op step key w scan told = record (moved op step w) { task = record op.task { key = key }; scan = scan; outcome = told }
 
 -- what it has seen is none of what it has scanned
-pub seen_aside : (command : Command) (past : Past) (first : ℕ) (s : ScanView) (seen : List (Bytes × Columns)) (stop : Stop)
+pub seen_aside : (command : Command) (past : Past) (first : ℕ) (s : ScanView) (seen : List (Bytes × Stamped)) (stop : Stop)
     → HasScannedFor command past first s → HasScannedFor command past first (record s { seen = seen; stop = stop })
 seen_aside (Scan from after count columns) past first s seen stop h = record { stored = h.stored; walked = h.walked; behind = h.behind; few = h.few; short = h.short }
 seen_aside (Get key columns) past first s seen stop h = tt
 seen_aside (Put key change) past first s seen stop h = tt
+seen_aside (PutIf key stamp change) past first s seen stop h = tt
 seen_aside (Remove key) past first s seen stop h = tt
 
 module _ (c : Core) (o : ℕ) (h : StateInvariant c) (few : c.steps < 2 ^ 59) (op : Operation) (there : operation_at c.table o ≡ Some op)

@@ -142,6 +142,7 @@ module _ (c : Core) (now : StateView) (o : ℕ) (is : shown c ≡ now) (h : Stat
           tenant = once.tenant;
           key_is = once.key_is;
           makes = once.makes;
+          keeps = once.keeps;
           was = once.was;
         };
       } in

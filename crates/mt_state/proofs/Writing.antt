@@ -1,17 +1,17 @@
 -- A step keeps that all maps since the floor keep their quotas, and that each entry's row is made by a change: for all phases.
 use Rattle.std.proofs.Common.{◌≡◌, ℕ, ◌+◌, ◌≤◌, inl, inr, true, [], ◌∷◌, ◌++◌, Option, Some, None, refl, sym, ap, subst, ◌∙◌, arith, IsSome}
 use Rattle.std.proofs.{lemmas.Bool.cases_lt, lemmas.Option.same_Some, lemmas.List.Elements.{All-push, All-contains, Contains-push_cases}}
-use Rattle.std.specs.{Prelude.{if◌then◌else◌}, List.{All, Contains}, FinMap.len}
-use Rattle.mt_rows.specs.{declared.tenants.Account.Account, Rows.{columns_of, Columns}, Changes.changed, Commands.{HasColumns, HasShortColumns}, Maps.is_change}
+use Rattle.std.specs.{Prelude.{if◌then◌else◌}, Option.option_map, List.{All, Contains}, FinMap.len}
+use Rattle.mt_rows.specs.{declared.tenants.Account.Account, Stamps.{Stamped, written}, Changes.{Named, NamesColumns, AreShort}, Commands.{HasColumns, HasShortColumns}, Maps.is_change}
 use Rattle.mt_rows.specs.{Accounts.account_of, Tenants.tenant_map}
-use Rattle.mt_tape.{specs.{declared.entry.Entry.{Entry as TapeEntry}, Tapes.last_step_over}, proofs.{EntryLaws.all_upto_last, TapeLaws.map_at-now}}
+use Rattle.mt_tape.{specs.{declared.entry.Entry.{Entry as TapeEntry}, Tapes.last_step_over, Histories.after_of}, proofs.{EntryLaws.all_upto_last, TapeLaws.map_at-now}}
 use Rattle.mt_arena.specs.Arena.{content_of}
 use Rattle.mt_operation.specs.declared.task.Request.{Request}
-use Rattle.mt_operation.specs.{declared.task.Request.TheVariants.{Get as GetOf, Put as PutOf, Remove as RemoveOf, Scan as ScanOf}, declared.task.Task.Task}
+use Rattle.mt_operation.specs.{declared.task.Request.TheVariants.{Get as GetOf, Put as PutOf, PutIf as PutIfOf, Remove as RemoveOf, Scan as ScanOf}, declared.task.Task.Task}
 use Rattle.mt_operation.specs.{declared.operation.Operation.Operation, Tasks.{command_of, ask, aim_of}, Operations.view_of}
 use Rattle.mt_insert.specs.Puts.{change_of, is_put}
 use Rattle.mt_state.specs.{Views.{Core, shown, granted_in, quota_of}, Steps.{told_change, change_in}, Promises.IsPlacing, KeptOperations.IsPlacedOnce}
-use Rattle.mt_state.specs.{Written.{KeepsQuotas, IsMadeByChange, row_left}, Invariant.StateInvariant, Moves.{IsMove, IsTold}}
+use Rattle.mt_state.specs.{Written.{KeepsQuotas, IsMadeByPut, IsMadeByChange, row_left, change_kept}, Invariant.StateInvariant, Moves.{IsMove, IsTold}}
 use Rattle.mt_state.proofs.Replies.{change_writes}
 use Rattle.mt_remove.specs.Writes.{is_remove}
 use Rattle.mt_operation.specs.declared.walk.Aim.TheVariants as aims
@@ -22,27 +22,61 @@ account_was now None a same is = absurd (let no = sym same ∙ ap granted_in is 
 account_was now (Some b) a same is = (b, refl, same_Some b.quota a.quota (sym same ∙ ap granted_in is))
 
 -- the row that a put leaves
-pub row_left_put : (r : Request) → is_put (command_of r) ≡ true → (before : Option Columns)
-    → row_left (command_of r) before ≡ Some (changed (change_of (command_of r)) (columns_of before))
-row_left_put (PutOf key change) put before = refl
-row_left_put (GetOf key columns) put before = absurd (cc)
-row_left_put (ScanOf from after count columns) put before = absurd (cc)
-row_left_put (RemoveOf key) put before = absurd (cc)
+pub row_left_put : (number : ℕ) (r : Request) → is_put (command_of r) ≡ true → (before : Option Stamped)
+    → row_left number (command_of r) before ≡ Some (written number (change_of (command_of r)) before)
+row_left_put number (PutOf key change) put before = refl
+row_left_put number (PutIfOf key stamp change) put before = refl
+row_left_put number (GetOf key columns) put before = absurd (cc)
+row_left_put number (ScanOf from after count columns) put before = absurd (cc)
+row_left_put number (RemoveOf key) put before = absurd (cc)
 
 -- a removal leaves none
-pub row_left_remove : (r : Request) → is_remove (command_of r) ≡ true → (before : Option Columns) → row_left (command_of r) before ≡ None
-row_left_remove (RemoveOf key) removes before = refl
-row_left_remove (GetOf key columns) removes before = absurd (cc)
-row_left_remove (ScanOf from after count columns) removes before = absurd (cc)
-row_left_remove (PutOf key change) removes before = absurd (cc)
+pub row_left_remove : (number : ℕ) (r : Request) → is_remove (command_of r) ≡ true → (before : Option Stamped) → row_left number (command_of r) before ≡ None
+row_left_remove number (RemoveOf key) removes before = refl
+row_left_remove number (GetOf key columns) removes before = absurd (cc)
+row_left_remove number (ScanOf from after count columns) removes before = absurd (cc)
+row_left_remove number (PutOf key change) removes before = absurd (cc)
+row_left_remove number (PutIfOf key stamp change) removes before = absurd (cc)
+
+-- the change that a put's entry keeps
+pub change_kept_put : (r : Request) → is_put (command_of r) ≡ true → (before : Option Stamped)
+    → option_map (λ (was : Stamped). change_of (command_of r)) before ≡ change_kept (command_of r) before
+change_kept_put (PutOf key change) put before = refl
+change_kept_put (PutIfOf key stamp change) put before = refl
+change_kept_put (GetOf key columns) put before = absurd (cc)
+change_kept_put (ScanOf from after count columns) put before = absurd (cc)
+change_kept_put (RemoveOf key) put before = absurd (cc)
+
+-- a removal's keeps none
+pub change_kept_remove : (r : Request) → is_remove (command_of r) ≡ true → (before : Option Stamped) → change_kept (command_of r) before ≡ None
+change_kept_remove (RemoveOf key) removes before = refl
+change_kept_remove (GetOf key columns) removes before = absurd (cc)
+change_kept_remove (ScanOf from after count columns) removes before = absurd (cc)
+change_kept_remove (PutOf key change) removes before = absurd (cc)
+change_kept_remove (PutIfOf key stamp change) removes before = absurd (cc)
+
+-- what a put writes is made by its change, which is the one that its entry keeps
+kept_is : (change : Named) (before : Option Stamped) (c : Named) → option_map (λ (was : Stamped). change) before ≡ Some c → c ≡ change
+kept_is change None c e = absurd (cc)
+kept_is change (Some was) c e = sym (same_Some change c e)
+
+put_by : (change : Named) → NamesColumns change → AreShort change → (e : TapeEntry) → after_of e ≡ Some (written e.step change e.before)
+    → e.change ≡ option_map (λ (was : Stamped). change) e.before → IsMadeByPut e
+put_by change names short e makes keeps = record {
+  change = change;
+  within = record { names = names; short = short };
+  makes = makes;
+  kept = λ c is. kept_is change e.before c (sym keeps ∙ is);
+}
 
 -- what a put or a removal writes is made by it
 made_by : (r : Request) → aim_of (command_of r) ≡ aims.Write → HasColumns (command_of r) → HasShortColumns (command_of r) → (e : TapeEntry)
-    → e.after ≡ row_left (command_of r) e.before → (is_remove (command_of r) ≡ true → IsSome e.before) → IsMadeByChange e
-made_by (PutOf key change) writes names short e makes was = inl (record { change = change; within = record { names = names; short = short }; makes = makes })
-made_by (RemoveOf key) writes names short e makes was = inr (record { was = was refl; gone = makes })
-made_by (GetOf key columns) writes names short e makes was = absurd (cc)
-made_by (ScanOf from after count columns) writes names short e makes was = absurd (cc)
+    → after_of e ≡ row_left e.step (command_of r) e.before → e.change ≡ change_kept (command_of r) e.before → (is_remove (command_of r) ≡ true → IsSome e.before) → IsMadeByChange e
+made_by (PutOf key change) writes names short e makes keeps was = inl (put_by change names short e makes keeps)
+made_by (PutIfOf key stamp change) writes names short e makes keeps was = inl (put_by change names short e makes keeps)
+made_by (RemoveOf key) writes names short e makes keeps was = inr (record { was = was refl; gone = makes })
+made_by (GetOf key columns) writes names short e makes keeps was = absurd (cc)
+made_by (ScanOf from after count columns) writes names short e makes keeps was = absurd (cc)
 
 module _ (old new : Core) (o : ℕ) (before after : Operation) (h : StateInvariant old) (m : IsMove old new o before after) where
   -- each map since the floor keeps its quota: the older ones stay, and the new one is counted
@@ -86,7 +120,7 @@ module _ (old new : Core) (o : ℕ) (before after : Operation) (h : StateInvaria
 
     entry_made : IsMadeByChange p.entry
     entry_made = subst IsMadeByChange (sym entry_is)
-        (made_by after.task.request writes_after m.kept.always.columns m.kept.always.short once.entry once.makes once.was)
+        (made_by after.task.request writes_after m.kept.always.columns m.kept.always.short once.entry once.makes once.keeps once.was)
 
   -- every entry is made by a change
   pub written_stays : IsTold old new o before after → All IsMadeByChange new.tape.entries

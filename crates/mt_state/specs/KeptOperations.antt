@@ -1,10 +1,10 @@
 -- What a state keeps of each operation, by its phase.
 use Rattle.std.specs.{Prelude.{◌≡◌, ◌≢◌, ℕ, ◌≤◌, ◌<◌, Bool, true, false, List, [], ◌∷◌, Option, Some, None, IsSome}, List.Contains}
 use Rattle.mt_slices.specs.Keys.{IsStoredKey, stored_key, tenant_of}
-use Rattle.mt_rows.specs.{declared.command.Command.Command, declared.command.Command.TheVariants.Scan, Rows.{Columns, shown as columns_shown}}
+use Rattle.mt_rows.specs.{declared.command.Command.Command, declared.command.Command.TheVariants.Scan, Stamps.{Stamped, as_shown}}
 use Rattle.mt_rows.specs.{Commands.{key_of, HasColumns, HasShortColumns, HasCount}, Accounts.account_of, Maps.is_scan}
 use Rattle.mt_border.specs.Contents.{owned}
-use Rattle.mt_tape.specs.declared.entry.Entry.{Entry as TapeEntry}
+use Rattle.mt_tape.specs.{declared.entry.Entry.{Entry as TapeEntry}, Histories.after_of}
 use Rattle.mt_arena.specs.{Arena.ArenaView, Accesses.at}
 use Rattle.mt_operation.specs.{declared.phase.Phase.Phase, declared.phase.Phase.TheVariants.{Enter, Load, Confirm, Store, Fill, Unlock, Check, Hop}}
 use Rattle.mt_operation.specs.{declared.walk.Taken.Taken, declared.walk.Taken.TheVariants.{Missing, Row, Link, Nothing}, declared.outcome.Outcome.Outcome}
@@ -17,7 +17,7 @@ use Rattle.mt_stretches.specs.Scanned.{HasScanned, HasSeen}
 use Rattle.mt_held.specs.Holds.{HoldsBorder, IsAtUnlock}
 use Rattle.mt_layer.specs.KeptLayers.{KeptLayer}
 use Rattle.mt_remove.specs.{Writes.is_remove, KeptRemovals.{IsAtDropKey, IsAtUnlockRemoval, KeptRemoval, IsCleaning}}
-use Rattle.mt_state.specs.{Written.row_left, Views.{Core, shown, past_of}, Notes.{Says, columns_asked}, Steps.change_in, Promises.IsAnswer}
+use Rattle.mt_state.specs.{Written.{row_left, change_kept}, Views.{Core, shown, past_of}, Notes.{Says, columns_asked}, Steps.change_in, Promises.IsAnswer}
 use Rattle.mt_rows.specs.declared.reply.Reply.TheVariants as replies
 use Rattle.mt_operation.specs.Phases as kinds
 
@@ -43,10 +43,10 @@ pub record IsOpenOperation (c : Core) (op : Operation) : Type 0 where
   pub light : is_remove (ask op.task) ≡ false → op.removal ≡ no_removal
 
 -- the outcome of a get, by what it took: that the key is missing, or the columns that it asks of the row
-abbrev pub TellsTaken : Operation → Option Columns → Taken → Type 0
+abbrev pub TellsTaken : Operation → Option Stamped → Taken → Type 0
 TellsTaken op row Missing = Says op.outcome replies.Absent op.walk.right_at
 TellsTaken op row Row =
-    (columns : Columns) × (asked : List ℕ) × (row ≡ Some columns) × (columns_asked (ask op.task) ≡ Some asked) × Says op.outcome (replies.Found (columns_shown asked columns)) op.walk.right_at
+    (had : Stamped) × (asked : List ℕ) × (row ≡ Some had) × (columns_asked (ask op.task) ≡ Some asked) × Says op.outcome (replies.Found (as_shown asked had)) op.walk.right_at
 TellsTaken op row (Link tree) = op.outcome ≡ None
 TellsTaken op row Nothing = op.outcome ≡ None
 
@@ -81,7 +81,7 @@ pub record IsAtLoad (c : Core) (op : Operation) : Type 0 where
 
 -- a get that goes to confirm what it took
 pub record IsAtConfirm (c : Core) (op : Operation) : Type 0 where
-  pub row : Option Columns
+  pub row : Option Stamped
   pub kept : IsKept c.arena (past_of c) op.task.key row op.walk
   pub tells : TellsTaken op row op.walk.taken
   pub unprepared : op.prepared ≡ None
@@ -234,8 +234,8 @@ IsKeptFor kinds.Ends p c o op = HasAnswer c op
 abbrev pub IsKeptAt : Phase → Core → ℕ → Operation → Type 0
 IsKeptAt p c o op = IsKeptFor (row p).kind p c o op
 
--- a change that an operation has made has its entry in the tape, of its step, worker, tenant and key, with the row that the command leaves over the one
--- before, which was there where it removes
+-- A change that an operation has made has its entry in the tape, of its step, worker, tenant and key. The row after it is the one that the command leaves over
+-- the one before, which was there where it removes. Over a row that was there a put's entry keeps the change.
 pub record IsPlacedOnce (c : Core) (op : Operation) (step : ℕ) : Type 0 where
   pub entry : TapeEntry
   pub there : Contains c.tape.entries entry
@@ -243,7 +243,8 @@ pub record IsPlacedOnce (c : Core) (op : Operation) (step : ℕ) : Type 0 where
   pub worker : entry.worker ≡ op.task.worker
   pub tenant : entry.tenant ≡ op.task.tenant
   pub key_is : entry.key ≡ key_of (ask op.task)
-  pub makes : entry.after ≡ row_left (ask op.task) entry.before
+  pub makes : after_of entry ≡ row_left entry.step (ask op.task) entry.before
+  pub keeps : entry.change ≡ change_kept (ask op.task) entry.before
   pub was : is_remove (ask op.task) ≡ true → IsSome entry.before
 
 -- what a scan has done so far, by its command: it has walked its tenant's keys up to its fence, from its first step on

@@ -1,11 +1,11 @@
 -- The outcome of an operation: who sets it, and what it tells of the state that it was set in.
 use Rattle.std.specs.{Prelude.{◌≡◌, ◌≢◌, ℕ, ◌+◌, ◌<◌, ◌≤◌, ◌⊎◌, List, Option, Some, None, length, Bool, true, false}, List.Contains}
-use Rattle.mt_rows.specs.{declared.command.Command.Command, declared.command.Command.TheVariants.Get, declared.reply.Reply.Reply, Rows.{Bytes, Columns, shown}}
-use Rattle.mt_rows.specs.Commands.{key_of}
+use Rattle.mt_rows.specs.{declared.command.Command.Command, declared.command.Command.TheVariants.Get, declared.reply.Reply.Reply}
+use Rattle.mt_rows.specs.{Commands.key_of, Rows.Bytes, Stamps.{Stamped, as_shown, stamp_in}}
 use Rattle.mt_runs.specs.Scans.{Shown as ShownPairs}
 use Rattle.mt_slices.specs.{Keys.stored_key, Slices.slice_of}
 use Rattle.mt_border.specs.declared.entry.FoundKind.TheVariants.{Link}
-use Rattle.mt_tape.specs.{declared.entry.Entry.{Entry as TapeEntry}, Histories.written_key}
+use Rattle.mt_tape.specs.{declared.entry.Entry.{Entry as TapeEntry}, Histories.{written_key, after_of}}
 use Rattle.mt_arena.specs.Accesses.{at}
 use Rattle.mt_descent.specs.{Seen.Stands, KeptWalks.{GoesThrough, IsInSlot, HasSlot, walk_place}, WalkMoves.TakesOut}
 use Rattle.mt_operation.specs.declared.phase.Phase.{Phase}
@@ -13,6 +13,7 @@ use Rattle.mt_operation.specs.declared.phase.Phase.TheVariants.{Enter, Search, L
 use Rattle.mt_operation.specs.{declared.walk.Taken.TheVariants.Row, declared.walk.Walk.Walk, declared.outcome.Outcome.Outcome, Operations.OperationView}
 use Rattle.mt_operation.specs.Phases.{is_unplaced}
 use Rattle.mt_state.specs.Views.{StateView, contents_of, map_of}
+use Rattle.mt_insert.specs.Puts.{MeetsStamp}
 use Rattle.mt_remove.specs.Writes.{is_remove}
 use Rattle.std.specs.FinMap as pairs
 use Rattle.mt_rows.specs.declared.reply.Reply.TheVariants as replies
@@ -51,17 +52,17 @@ pub record NotesAbsent (old : StateView) (op : OperationView) (told : Option Out
 
 -- A pair had this row at this step, and after each step from this number on, which is the get's first step, or a later one by which the row was written, as the
 -- tape tells. The pair is that of the get's own key wherever nobody made a step since its search.
-pub record StoodSince (old : StateView) (op : OperationView) (row : Columns) (number : ℕ) : Type 0 where
+pub record StoodSince (old : StateView) (op : OperationView) (row : Stamped) (number : ℕ) : Type 0 where
   pub key : ℕ × Bytes
   pub there : pairs.get (contents_of old) key ≡ Some row
   pub made : number ≤ old.steps
   pub stood : (m : ℕ) → number ≤ m → pairs.get (map_of old key.0 m) key.1 ≡ Some row
   pub wrote : op.first < number
-      → (entry : TapeEntry) × Contains old.tape.entries entry × (entry.step ≡ number) × (written_key entry ≡ key) × (entry.after ≡ Some row)
+      → (entry : TapeEntry) × Contains old.tape.entries entry × (entry.step ≡ number) × (written_key entry ≡ key) × (after_of entry ≡ Some row)
   pub own : op.last ≡ old.steps → key ≡ key_asked op
 
 -- the get's own key had this row after the step of this number
-abbrev pub HadOwn : StateView → OperationView → Columns → ℕ → Type 0
+abbrev pub HadOwn : StateView → OperationView → Stamped → ℕ → Type 0
 HadOwn old op row number = (number ≤ old.steps) × (pairs.get (map_of old op.tenant number) (key_of op.command) ≡ Some row)
 
 -- What a load shows is what the get asks of the row in its slot. Where the slot is live, its pair had that row since the reply's number. Where it was dropped, it
@@ -69,9 +70,9 @@ HadOwn old op row number = (number ≤ old.steps) × (pairs.get (map_of old op.t
 pub record ShowsRow (old : StateView) (op : OperationView) (told : Option Outcome) : Type 0 where
   pub columns : List ℕ
   pub asked : columns_asked op.command ≡ Some columns
-  pub row : Columns
+  pub row : Stamped
   pub number : ℕ
-  pub says : Says told (replies.Found (shown columns row)) number
+  pub says : Says told (replies.Found (as_shown columns row)) number
   pub from : TakesOut (at old.arena op.walk.place.node) op.walk (Some row) Row number
   pub since : op.first ≤ number
   pub live : walk_place old.arena op.walk < length (at old.arena op.walk.place.node).slots → StoodSince old op row number
@@ -88,10 +89,23 @@ abbrev pub IsStopped : StateView → Option Outcome → Type 0
 IsStopped old told = Says told replies.NoMemory (old.steps + 1)
 
 -- or the key that it removes was missing at this step
-abbrev pub IsEndedUntold : StateView → OperationView → Option Outcome → Type 0
-IsEndedUntold old op told = IsStopped old told ⊎ (is_remove op.command ≡ true) × Says told replies.Absent (old.steps + 1)
+abbrev pub MissesKey : StateView → OperationView → Option Outcome → Type 0
+MissesKey old op told = (is_remove op.command ≡ true) × Says told replies.Absent (old.steps + 1)
 
--- an operation that ends as it judges was stopped or has missed its key, where it had no outcome; on its way back it has the one that it had
+-- the stamp of what stands at an operation's key, 0 if nothing stands
+abbrev pub stamp_there : StateView → OperationView → ℕ
+stamp_there v op = stamp_in (pairs.get (contents_of v) (key_asked op))
+
+-- or the key that it puts had another stamp at this step than the one that it asks for
+pub record TellsStale (old : StateView) (op : OperationView) (told : Option Outcome) : Type 0 where
+  pub stale : ¬ MeetsStamp op.command (stamp_there old op)
+  pub says : Says told (replies.Stale (stamp_there old op)) (old.steps + 1)
+
+-- one of these
+abbrev pub IsEndedUntold : StateView → OperationView → Option Outcome → Type 0
+IsEndedUntold old op told = IsStopped old told ⊎ MissesKey old op told ⊎ TellsStale old op told
+
+-- An operation that ends as it judges was stopped, has missed its key or found another stamp, where it had no outcome. On its way back it has the one that it had.
 abbrev pub EndsJudging : Option Outcome → StateView → OperationView → Option Outcome → Type 0
 EndsJudging None old op told = IsEndedUntold old op told
 EndsJudging (Some had) old op told = told ≡ op.outcome

@@ -3,9 +3,9 @@
 use Rattle.std.specs.Prelude.{◌≡◌, ℕ, ◌+◌, ◌⊎◌, false, if◌then◌else◌, length, Option, Some, None, ◌≢◌, List, [], ◌∷◌}
 use Rattle.mt_version.specs.Changes.{IsStable}
 use Rattle.mt_slices.specs.Keys.{stored_key}
-use Rattle.mt_rows.specs.{declared.command.Command.Command, declared.command.Command.TheVariants.Scan, Rows.{Bytes, Columns}, Maps.is_scan, Commands.key_of}
-use Rattle.mt_border.specs.declared.entry.Find.{Find}
-use Rattle.mt_arena.specs.{declared.tree.Standing.TheVariants.{Made, Dead}, NodeView.{NodeView, place_at}, Forests.tree_at, Layers.slot_at, Arena.ArenaView, Accesses.at}
+use Rattle.mt_rows.specs.{declared.command.Command.Command, declared.command.Command.TheVariants.Scan, Rows.Bytes, Stamps.{Stamped, stamp_in}, Maps.is_scan, Commands.key_of}
+use Rattle.mt_border.specs.{declared.entry.Find.Find, Contents.owned}
+use Rattle.mt_arena.specs.{declared.tree.Standing.TheVariants.{Made, Dead}, NodeView.{NodeView, place_at}, Forests.tree_at, Layers.slot_at, Arena.{ArenaView, content_of}, Accesses.at}
 use Rattle.mt_operation.specs.declared.phase.Phase.{Phase}
 use Rattle.mt_operation.specs.declared.phase.Phase.TheVariants.{Enter, Pick, Child, Verify, Search, Load, Confirm, Forward, Lock, Judge, Store, Fill, Publish, SplitStart, SplitMove, SplitPrev, LockParent, InsertChild, InteriorSplit, Reparent, RootGrow, MakeLayer, MarkUnstable, Link, MarkLayer, DropKey, LockPrev, LockAbove, Unlink, FixNext, Collapse, CleanLayer, Unlock, Snap, Check, Hop}
 use Rattle.mt_operation.specs.{declared.walk.Walk.Walk, declared.outcome.Outcome.Outcome, Operations.{OperationView, SplitsView, ScanView}}
@@ -14,11 +14,12 @@ use Rattle.mt_descent.specs.{Seen.child_for, KeptWalks.{IsInSlot, slice_in}}
 use Rattle.mt_descent.specs.WalkMoves.{Verifies, FindsIn, Loads, Confirms, Locks, walk_into, walk_here, after_enter, after_pick, after_child, after_search, after_forward}
 use Rattle.mt_scan.specs.{Snaps.{prefix_in, AreSettled, IsSnap}, Checks.{IsUnchanged, IsCheck}, Hops.HopsTo}
 use Rattle.mt_held.specs.Moves.{walk_placed, walk_done, walk_at}
-use Rattle.mt_insert.specs.{Judge.{StandsIn, after_judge}, KeptSplits.last_half, SplitEdits.{for_parent, after_reparent}, SplitMove.after_parting}
+use Rattle.mt_insert.specs.{Puts.MeetsStamp, Judge.{StandsIn, after_judge}, KeptSplits.last_half, SplitEdits.{for_parent, after_reparent}, SplitMove.after_parting}
 use Rattle.mt_layer.specs.NewLayers.{walk_linked}
 use Rattle.mt_state.specs.{declared.moves.Move.Move, declared.moves.Move.TheVariants.{Moved, Done as DoneMove}, Views.{StateView, op_at}}
 use Rattle.mt_remove.specs.{RemovalEdits.{IsToUnlink, for_rest, after_unlink}, Unlinks.IsChildBefore, Judge.IsAbsent, CleanLayer.{LeadsTo as LeadsKey}}
 use Rattle.mt_remove.specs.{Unlock.EmptiesLayer, Ways.IsJustBelow}
+use Rattle.std.specs.FinMap as pairs
 use Rattle.mt_border.specs.Held as helds
 use Rattle.mt_border.specs.declared.entry.FoundKind.TheVariants as kinds
 use Rattle.mt_operation.specs.declared.walk.Taken.TheVariants as takens
@@ -38,7 +39,7 @@ GoesForward (Some j) v key w x = IsStable (at v j).version × (x ≡ after_forwa
 
 -- from Load: what the slot holds was taken, and is to be confirmed; or a row was there, and no memory to show it
 pub record GoesFromLoad (n : NodeView) (w x : Walk) : Type 0 where
-  pub row : Option Columns
+  pub row : Option Stamped
   pub taken : Walk
   pub loads : Loads n w taken row
   pub goes : (x ≡ taken) ⊎ ((row ≢ None) × (x ≡ walk_done taken))
@@ -109,10 +110,19 @@ pub record JudgesShort (n : NodeView) (key : Bytes) (w x : Walk) : Type 0 where
   pub stands : StandsIn n key w.layer slot
   pub goes : x ≡ walk_done w
 
--- by whether it goes to its key, where it may also miss that, or be stopped; or goes back
-abbrev pub JudgesBy : Option Outcome → NodeView → Bytes → Walk → Walk → Type 0
-JudgesBy None n key w x = JudgesKey n key w x ⊎ JudgesOther n key w x ⊎ JudgesLink n key w x ⊎ JudgesRemoval n key w x ⊎ JudgesAbsent n key w x ⊎ JudgesShort n key w x
-JudgesBy (Some told) n key w x = JudgesLink n key w x ⊎ JudgesNone n key w x
+-- a put that asks for another stamp than this one, which stands at its key, 0 if nothing stands: it is done
+pub record JudgesStale (command : Command) (standing : ℕ) (n : NodeView) (key : Bytes) (w x : Walk) : Type 0 where
+  pub slot : Option ℕ
+  pub stands : StandsIn n key w.layer slot
+  pub stale : ¬ MeetsStamp command standing
+  pub goes : x ≡ walk_done w
+
+-- by whether it goes to its key, where it may also miss that, find another stamp, or be stopped; or goes back
+abbrev pub JudgesBy : Option Outcome → Command → ℕ → NodeView → Bytes → Walk → Walk → Type 0
+JudgesBy None command standing n key w x =
+    JudgesKey n key w x ⊎ JudgesOther n key w x ⊎ JudgesLink n key w x ⊎ JudgesRemoval n key w x ⊎ JudgesAbsent n key w x ⊎ JudgesShort n key w x
+    ⊎ JudgesStale command standing n key w x
+JudgesBy (Some told) command standing n key w x = JudgesLink n key w x ⊎ JudgesNone n key w x
 
 -- behind a slot that was taken out: the border node is taken out too, where it is empty and no first child; else all is given back
 pub record LeavesSlot (v : ArenaView) (w x : Walk) : Type 0 where
@@ -195,7 +205,7 @@ LeadsTo Load old new o step key told s r g w x = GoesFromLoad (at old w.place.no
 LeadsTo Confirm old new o step key told s r g w x = IsStable (at old w.place.node).version × Confirms (at old w.place.node) w x
 LeadsTo Forward old new o step key told s r g w x = GoesForward w.next old key w x
 LeadsTo Lock old new o step key told s r g w x = ((at old w.place.node).holder ≡ None) × LocksBy told o old new r w x
-LeadsTo Judge old new o step key told s r g w x = JudgesBy told (at old w.place.node) key w x
+LeadsTo Judge old new o step key told s r g w x = JudgesBy told g.command (stamp_in (pairs.get (content_of old) (owned key))) (at old w.place.node) key w x
 LeadsTo Store old new o step key told s r g w x = x ≡ walk_placed w
 LeadsTo Fill old new o step key told s r g w x = x ≡ walk_at Publish w
 LeadsTo Publish old new o step key told s r g w x = x ≡ walk_placed w

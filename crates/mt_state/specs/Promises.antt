@@ -31,8 +31,8 @@ pub record IsPlacing (old new : StateView) (before after : OperationView) : Type
   pub changes : is_change reply ≡ true
   pub outcome : after.outcome ≡ Some (record { reply = reply; at = old.steps + 1 })
   pub makes : (t : ℕ)
-      → tenant_map t (contents_of new) ≡ maps_after_one (quota_of old) (Some (record { tenant = before.tenant; command = before.command })) (λ u. tenant_map u (contents_of old)) t
-  pub writes : pairs.get (contents_of new) (key_asked before) ≡ row_left before.command (pairs.get (contents_of old) (key_asked before))
+      → tenant_map t (contents_of new) ≡ maps_after_one (quota_of old) (old.steps + 1) (Some (record { tenant = before.tenant; command = before.command })) (λ u. tenant_map u (contents_of old)) t
+  pub writes : pairs.get (contents_of new) (key_asked before) ≡ row_left (old.steps + 1) before.command (pairs.get (contents_of old) (key_asked before))
   pub entry : TapeEntry
   pub pushes : new.tape.entries ≡ old.tape.entries ++ entry ∷ []
   pub step : entry.step ≡ old.steps + 1

@@ -1,6 +1,6 @@
 -- The way of an operation to its node: the phases in which it looks for it, and where they lead.
 use Rattle.std.specs.Prelude.{◌≡◌, ℕ, ◌+◌, List, Option, Some, None, slice_set}
-use Rattle.mt_rows.specs.{declared.reply.Reply.TheVariants.Found, Rows.{Columns, shown}}
+use Rattle.mt_rows.specs.{declared.reply.Reply.TheVariants.Found, Stamps.{Stamped, as_shown}}
 use Rattle.mt_operation.specs.{declared.phase.Phase.Phase, declared.phase.Phase.TheVariants.{Search, Lock, Snap}, declared.walk.Walk.Walk}
 use Rattle.mt_operation.specs.{Phases.{MayFollow, IsOfKind, IsDescent}, declared.outcome.Outcome.Outcome, declared.operation.Operation.Operation, Tasks.ask}
 use Rattle.mt_operation.specs.Operations.{moved}
@@ -26,7 +26,7 @@ abbrev pub walked : Core → ℕ → Operation → Walk → Option Outcome → C
 walked c o op w told = record c { steps = c.steps + 1; table = slice_set c.table o (Some (record (moved op (c.steps + 1) w) { outcome = told })) }
 
 -- the outcome of a get that took this row, or none
-pub record ShowsTaken (op : Operation) (row : Option Columns) (after : Walk) (told : Option Outcome) : Type 0 where
+pub record ShowsTaken (op : Operation) (row : Option Stamped) (after : Walk) (told : Option Outcome) : Type 0 where
   pub none : row ≡ None → told ≡ None
-  pub some : (columns : Columns) (asked : List ℕ) → row ≡ Some columns → columns_asked (ask op.task) ≡ Some asked
-      → Says told (Found (shown asked columns)) after.right_at
+  pub some : (had : Stamped) (asked : List ℕ) → row ≡ Some had → columns_asked (ask op.task) ≡ Some asked
+      → Says told (Found (as_shown asked had)) after.right_at

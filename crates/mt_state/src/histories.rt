@@ -3,7 +3,7 @@
 
 ghost use Rattle.std.specs.Prelude.{◌≡◌, ◌⊎◌, ℕ, true, Some};
 ghost use Rattle.mt_rows.specs.{declared.tenants.Account.Account, Accounts.{Accounts, account_of}, Maps.is_get};
-ghost use Rattle.mt_rows.specs.{declared.reply.Reply.TheVariants.{Absent, Found, NoMemory}, Rows.Columns};
+ghost use Rattle.mt_rows.specs.{declared.reply.Reply.TheVariants.{Absent, Found, NoMemory}, Stamps.Stamped};
 ghost use Rattle.mt_runs.specs.{declared.event.Answer.Answer, Runs.{Run, Asked, Finished, story_of}, Placings.{no_pairs, HasOneOrder}};
 ghost use Rattle.mt_state.specs.{Views.{StateView, quota_in}, Begins.new_state, Histories.{Names, no_names, BringsTo}, OneGet.one_get};
 
@@ -25,5 +25,5 @@ pub fn gets_of_a_new_state_find_nothing()
 /// A get of a new state may be told that its key is missing, and is told of no row.
 pub fn a_get_of_a_new_state_is_told_of_no_row()
     ensures told { (logs : ℕ) (accounts : Accounts) (a : Account) → account_of accounts 7 ≡ Some a → (names : Names) × (v : StateView) × BringsTo no_names (new_state logs accounts) (one_get Absent) names v }
-    ensures no_row { (logs : ℕ) (accounts : Accounts) (row : Columns) (names : Names) (v : StateView) → ¬ BringsTo no_names (new_state logs accounts) (one_get (Found row)) names v }
+    ensures no_row { (logs : ℕ) (accounts : Accounts) (row : Stamped) (names : Names) (v : StateView) → ¬ BringsTo no_names (new_state logs accounts) (one_get (Found row)) names v }
 {}

@@ -10,11 +10,12 @@ ghost use Rattle.mt_operation.specs.{Operations.{OperationView, SplitsView, Scan
 ghost use Rattle.mt_operation.specs.Tables.{op_at as operation_at};
 ghost use Rattle.mt_state.specs.{Views.{StateView, Core, shown, KeepsPast}, Steps.LeavesOut};
 ghost use Rattle.mt_state.specs.{Promises.{IsAnswer, IsInTheWay, needed_node, locks_next, Touches, IsStep}, KeptOperations.{IsKeptOf, IsScanKept}};
-ghost use Rattle.mt_state.specs.{Invariant.{AreStamps, StateInvariant, StateGuarantee}, Moves.{IsMove, IsTold}, Ways.{Descends, walked, ShowsTaken}};
+ghost use Rattle.mt_state.specs.{Invariant.{IsStampOf, AreStamps, StateInvariant, StateGuarantee}, Moves.{IsMove, IsTold}, Ways.{Descends, walked, ShowsTaken}};
 ghost use Rattle.mt_state.specs.{Calls.{IsLawful, Searches, Takes, Compares}, Given.{with_given, SparesOperation}, KeptBack.{ArenaFacts, IsKeptBack}};
 ghost use Rattle.mt_descent.specs.{Pasts.Past, KeptWalks.IsKept, WalkMoves.Continues, Remembered.Learns, KeptBack.GivesOutBefore};
 ghost use Rattle.mt_layer.specs.KeptLayers.{GivesNoneInto};
-ghost use Rattle.mt_rows.specs.{Rows.Columns, declared.reply.Reply.TheVariants.{Absent, NoMemory}};
+ghost use Rattle.std.specs.FinMap as pairs;
+ghost use Rattle.mt_rows.specs.{Rows.Bytes, Stamps.Stamped, declared.reply.Reply.TheVariants.{Absent, NoMemory}};
 ghost use Rattle.mt_border.specs.declared.entry.Find.{Find};
 
 /// All that is kept of an operation, at whatever phase it is, each step of another one keeps, and what a
@@ -48,6 +49,12 @@ pub fn nothing_remembered_is_given_out()
 /// The contents stand where places are given out.
 pub fn contents_stand_where_places_are_given_out()
     ensures { (old mid : ArenaView) → IsArena old.nodes old.trees → GivesOut old mid → content_of mid ≡ content_of old }
+{}
+
+/// Each row that the contents have was written by the step of its stamp. That step was made, none after it
+/// wrote the key, and the tape has its write where it goes back so far.
+pub fn a_row_has_its_steps_stamp()
+    ensures { (c : Core) (q : ℕ × Bytes) (row : Stamped) → AreStamps c → pairs.get (content_of c.arena) q ≡ Some row → IsStampOf c.steps c.tape q row.stamp }
 {}
 
 /// A step that brings of its own operation what it has to keeps the invariant over all operations,
@@ -91,7 +98,7 @@ pub fn a_look_is_a_step()
     ensures finds { (c : Core) (o : ℕ) (op : Operation) (w : Walk) (found : Find) → StateInvariant c → IsArena c.arena.nodes c.arena.trees → c.steps < 2 ^ 59 →
         operation_at c.table o ≡ Some op → op.walk.phase ≡ Search → Searches c op w found → w.phase ≡ Load →
         IsLawful c (walked c o op w op.outcome) o false }
-    ensures takes { (c : Core) (o : ℕ) (op : Operation) (w : Walk) (row : Option Columns) (told : Option Outcome) → StateInvariant c → IsArena c.arena.nodes c.arena.trees → c.steps < 2 ^ 59 →
+    ensures takes { (c : Core) (o : ℕ) (op : Operation) (w : Walk) (row : Option Stamped) (told : Option Outcome) → StateInvariant c → IsArena c.arena.nodes c.arena.trees → c.steps < 2 ^ 59 →
         operation_at c.table o ≡ Some op → op.walk.phase ≡ Load → Takes c op w row → ShowsTaken op row w told →
         IsLawful c (walked c o op w told) o false }
     ensures stops { (c : Core) (o : ℕ) (op : Operation) (w : Walk) → StateInvariant c → IsArena c.arena.nodes c.arena.trees → c.steps < 2 ^ 59 →

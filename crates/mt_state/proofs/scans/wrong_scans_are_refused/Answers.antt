@@ -1,6 +1,6 @@
 use Rattle.std.proofs.{Common.{◌≡◌, ◌≢◌, ℕ, ◌<◌, Bool, true, List, [], length, get_or, refl, sym, ap, subst, ◌∙◌, arith}, lemmas.List.{length-map, get_or-map}}
 use Rattle.mt_rows.specs.{declared.command.Command.Command, declared.command.Command.TheVariants.Scan, declared.reply.Reply.Reply}
-use Rattle.mt_rows.specs.{declared.reply.Reply.TheVariants.{Pairs, NoMemory}, Rows.{Bytes, Columns}, Maps.{Map, is_scan}}
+use Rattle.mt_rows.specs.{declared.reply.Reply.TheVariants.{Pairs, NoMemory}, Rows.Bytes, Stamps.Stamped, Maps.{Map, is_scan}}
 use Rattle.mt_runs.specs.Scans.{Shown, IsLawful, IsLawfulScan}
 use Rattle.mt_walks.specs.Walked.{IsWithin}
 use Rattle.mt_operation.specs.{declared.outcome.Outcome.Outcome, Operations.OperationView}
@@ -34,8 +34,8 @@ returns-clause-leaves_out c = λ v op told from after count columns ps key asks 
 
 pub returns-clause-makes_up : goal.returns-clause-makes_up
 returns-clause-makes_up c = λ v op told from after count columns ps key asks shows has absent h.
-    let first : Bytes × Columns = (key, []) in
-    let within : has.0 < length ps = let count = length-map ps (λ (p : Bytes × Columns). p.0) in let in_range = has.1 in omega (arith, count, in_range) in
+    let first : Bytes × Stamped = (key, record { stamp = 0; row = [] }) in
+    let within : has.0 < length ps = let count = length-map ps (λ (p : Bytes × Stamped). p.0) in let in_range = has.1 in omega (arith, count, in_range) in
     let real = (lawful_pairs v op told from after count columns ps asks shows h).real has.0 first within in
-    let same : (get_or ps has.0 first).0 ≡ key = sym (get_or-map (λ (p : Bytes × Columns). p.0) ps has.0 first key within) ∙ has.2 in
+    let same : (get_or ps has.0 first).0 ≡ key = sym (get_or-map (λ (p : Bytes × Stamped). p.0) ps has.0 first key within) ∙ has.2 in
     let both = sym (absent real.0 real.1) ∙ ap (pairs.get (map_of v op.tenant real.0)) (sym same) ∙ real.2.1 in cc

@@ -1,5 +1,5 @@
 use Rattle.std.proofs.Common.{refl}
-use Rattle.mt_state.{specs.Views.shown, proofs.{Locking.{lock_done, unlock_done, judge_ready, judge_refused, publish_full}, FillSteps.fill_done, Putting.{store_done, publish_done}}}
+use Rattle.mt_state.{specs.Views.shown, proofs.{Locking.{lock_done, unlock_done, judge_ready, judge_refused, publish_full}, FillSteps.fill_done, Putting.{store_done, publish_done}, Staling.judge_stale}}
 use Rattle.mt_state.proofs.writes.a_write_is_a_step.Goals as goal
 
 pub returns-clause-locks : goal.returns-clause-locks
@@ -13,6 +13,10 @@ returns-clause-readies c =
 pub returns-clause-stops : goal.returns-clause-stops
 returns-clause-stops c =
     λ core o op arena w h few there at_judge untold t. let g = judge_refused core (shown core) o refl h few op there at_judge untold arena core.tape w refl t in record { invariant = g.0; step = g.1 }
+
+pub returns-clause-finds_stale : goal.returns-clause-finds_stale
+returns-clause-finds_stale c =
+    λ core o op arena w stamp h few there at_judge untold put t. let g = judge_stale core o h few op there at_judge put arena w stamp t untold in record { invariant = g.0; step = g.1 }
 
 pub returns-clause-stores : goal.returns-clause-stores
 returns-clause-stores c =
