@@ -26,25 +26,25 @@ module _ (v old : StateView) (a op : OperationView) (same : IsSameAsked op a) (q
       ∙ ap (λ (r : Command). reply_of (quota_of v op.tenant) r (tenant_map op.tenant x)) same.command
       ∙ ap (λ q. reply_of q op.command (tenant_map op.tenant x)) (quotas op.tenant)
 
-  same_maps : (t : ℕ) → maps_after_one (quota_of v) (Some (record { tenant = a.tenant; command = a.command })) (λ u. tenant_map u x) t
-      ≡ maps_after_one (quota_of old) (Some (record { tenant = op.tenant; command = op.command })) (λ u. tenant_map u x) t
-  same_maps t =
-      ap (λ u. cond (eqb t u) (map_after (quota_of v t) a.command (tenant_map t x)) (tenant_map t x)) same.tenant
-      ∙ ap (λ (r : Command). cond (eqb t op.tenant) (map_after (quota_of v t) r (tenant_map t x)) (tenant_map t x)) same.command
-      ∙ ap (λ q. cond (eqb t op.tenant) (map_after q op.command (tenant_map t x)) (tenant_map t x)) (quotas t)
+  same_maps : (m t : ℕ) → maps_after_one (quota_of v) m (Some (record { tenant = a.tenant; command = a.command })) (λ u. tenant_map u x) t
+      ≡ maps_after_one (quota_of old) m (Some (record { tenant = op.tenant; command = op.command })) (λ u. tenant_map u x) t
+  same_maps m t =
+      ap (λ u. cond (eqb t u) (map_after (quota_of v t) m a.command (tenant_map t x)) (tenant_map t x)) same.tenant
+      ∙ ap (λ (r : Command). cond (eqb t op.tenant) (map_after (quota_of v t) m r (tenant_map t x)) (tenant_map t x)) same.command
+      ∙ ap (λ q. cond (eqb t op.tenant) (map_after q m op.command (tenant_map t x)) (tenant_map t x)) (quotas t)
 
--- a command whose reply tells of no change makes the maps that were there
-maps_stay : (old : StateView) (op : OperationView) → is_change (reply_of (quota_of old op.tenant) op.command (tenant_map op.tenant (contents_of old))) ≡ false
+-- a command whose reply tells of no change makes the maps that were there, whatever its number
+maps_stay : (old : StateView) (op : OperationView) (m : ℕ) → is_change (reply_of (quota_of old op.tenant) op.command (tenant_map op.tenant (contents_of old))) ≡ false
     → (t : ℕ)
-    → tenant_map t (contents_of old) ≡ maps_after_one (quota_of old) (Some (record { tenant = op.tenant; command = op.command })) (λ u. tenant_map u (contents_of old)) t
-maps_stay old op look t = by (eqb t op.tenant) refl
+    → tenant_map t (contents_of old) ≡ maps_after_one (quota_of old) m (Some (record { tenant = op.tenant; command = op.command })) (λ u. tenant_map u (contents_of old)) t
+maps_stay old op m look t = by (eqb t op.tenant) refl
   where
     by : (b : Bool) → eqb t op.tenant ≡ b
-        → tenant_map t (contents_of old) ≡ cond b (map_after (quota_of old t) op.command (tenant_map t (contents_of old))) (tenant_map t (contents_of old))
+        → tenant_map t (contents_of old) ≡ cond b (map_after (quota_of old t) m op.command (tenant_map t (contents_of old))) (tenant_map t (contents_of old))
     by false e = refl
     by true e =
-        subst (λ u. tenant_map u (contents_of old) ≡ map_after (quota_of old u) op.command (tenant_map u (contents_of old))) (sym (eqb-true t op.tenant e))
-        (sym (same_map_after (quota_of old op.tenant) op.command (tenant_map op.tenant (contents_of old)) look))
+        subst (λ u. tenant_map u (contents_of old) ≡ map_after (quota_of old u) m op.command (tenant_map u (contents_of old))) (sym (eqb-true t op.tenant e))
+        (sym (same_map_after (quota_of old op.tenant) m op.command (tenant_map op.tenant (contents_of old)) look))
 
 -- the operation has changed nothing so far, nor has any other
 pub record HasLeft (old v : StateView) (after : OperationView) : Type 0 where
@@ -59,7 +59,7 @@ pub record HasPlaced (old v : StateView) (op after : OperationView) : Type 0 whe
   pub placed : is_unplaced after.phase ≡ false
   pub outcome : after.outcome ≡ Some (record { reply = reply; at = number })
   pub made : number ≤ v.steps
-  pub run : IsRun old v op reply
+  pub run : IsRun old v op number reply
 
 -- the run so far: all steps were the operation's own
 pub record IsRunning (old v : StateView) (o : ℕ) (op : OperationView) (made : ℕ) : Type 0 where
@@ -162,15 +162,17 @@ module _ (old v w : StateView) (o : ℕ) (op : OperationView) (made : ℕ) (done
   change_after : HasLeft old v s.before → IsQuiet v w s.before s.after → change_in s.after ≡ None
   change_after u q = q.change ∙ u.change
 
-  -- a step that places the operation's change makes it of the maps of before
-  placed_run : HasLeft old v s.before → (p : IsPlacing v w s.before s.after) → IsRun old w op p.reply
+  -- a step that places the operation's change makes it of the maps of before, with its own number
+  placed_run : HasLeft old v s.before → (p : IsPlacing v w s.before s.after) → IsRun old w op (v.steps + 1) p.reply
   placed_run u p = record {
+    since = omega (arith, r.number);
+    upto = omega (arith, s.number);
     told =
         p.told ∙ ap (λ x. reply_of (quota_of v s.before.tenant) s.before.command (tenant_map s.before.tenant x)) u.contents ∙ same_reply v old s.before op asked (quota_stays old v r.grows) (contents_of old);
     makes = λ t.
         p.makes t
-        ∙ ap (λ x. maps_after_one (quota_of v) (Some (record { tenant = s.before.tenant; command = s.before.command })) (λ u. tenant_map u x) t) u.contents
-        ∙ same_maps v old s.before op asked (quota_stays old v r.grows) (contents_of old) t;
+        ∙ ap (λ x. maps_after_one (quota_of v) (v.steps + 1) (Some (record { tenant = s.before.tenant; command = s.before.command })) (λ u. tenant_map u x) t) u.contents
+        ∙ same_maps v old s.before op asked (quota_stays old v r.grows) (contents_of old) (v.steps + 1) t;
   }
 
   -- and nothing is placed behind it
@@ -198,7 +200,7 @@ module _ (old v w : StateView) (o : ℕ) (op : OperationView) (made : ℕ) (done
       placed = stood.0;
       outcome = stood.1 ∙ p.outcome;
       made = omega (arith, p.made, s.number);
-      run = record { told = p.run.told; makes = λ t. ap (tenant_map t) quiet_behind ∙ p.run.makes t };
+      run = record { since = p.run.since; upto = omega (arith, p.run.upto, s.number); told = p.run.told; makes = λ t. ap (tenant_map t) quiet_behind ∙ p.run.makes t };
     }
 
   -- the run goes on with a step
@@ -241,14 +243,16 @@ module _ (old v : StateView) (o : ℕ) (op : OperationView) (made : ℕ) (r : Is
   ]
 
   -- an operation that changed nothing was told what the maps say
-  looked : HasLeft old v r.after → r.after.last ≤ v.steps → is_no_memory told.reply ≡ false → IsRun old v op told.reply
+  looked : HasLeft old v r.after → r.after.last ≤ v.steps → is_no_memory told.reply ≡ false → IsRun old v op told.at told.reply
   looked u upto real =
       let look : is_change told.reply ≡ false = no_told (is_change told.reply) told.at (sym (ap told_change has) ∙ u.change) in
       let is : told.reply ≡ reply_of (quota_of old op.tenant) op.command (tenant_map op.tenant (contents_of old)) =
       by u upto real look (is_scan r.after.command) refl ∙ same_reply v old r.after op r.asked (quota_stays old v r.grows) (contents_of old) in
       record {
+        since = omega (arith, answer.since, first_begun);
+        upto = omega (arith, answer.upto, upto);
         told = is;
-        makes = λ t. ap (tenant_map t) u.contents ∙ maps_stay old op (ap is_change (sym is) ∙ look) t;
+        makes = λ t. ap (tenant_map t) u.contents ∙ maps_stay old op told.at (ap is_change (sym is) ∙ look) t;
       }
     where
       -- a scan shows what its map has, which stayed the same
@@ -262,15 +266,15 @@ module _ (old v : StateView) (o : ℕ) (op : OperationView) (made : ℕ) (r : Is
           r.after.command told.reply scans real answer.lawful
 
   -- with the reply of its command, or for want of memory with nothing changed
-  pub run_outcome : r.after.last ≤ v.steps → ((told.reply ≡ NoMemory) × (contents_of v ≡ contents_of old)) ⊎ IsRun old v op told.reply
+  pub run_outcome : r.after.last ≤ v.steps → ((told.reply ≡ NoMemory) × (contents_of v ≡ contents_of old)) ⊎ IsRun old v op told.at told.reply
   run_outcome upto = elim r.so_far [
     | inl u ↦ by u (is_no_memory told.reply) refl
     | inr p ↦
         let said : told ≡ record { reply = p.reply; at = p.number } = same_Some told (record { reply = p.reply; at = p.number }) (sym has ∙ p.outcome) in
-        inr (record { told = ap (λ (x : Outcome). x.reply) said ∙ p.run.told; makes = p.run.makes })
+        inr (subst (λ (x : Outcome). IsRun old v op x.at x.reply) (sym said) p.run)
   ]
     where
       by : HasLeft old v r.after → (b : Bool) → is_no_memory told.reply ≡ b
-          → ((told.reply ≡ NoMemory) × (contents_of v ≡ contents_of old)) ⊎ IsRun old v op told.reply
+          → ((told.reply ≡ NoMemory) × (contents_of v ≡ contents_of old)) ⊎ IsRun old v op told.at told.reply
       by u true e = inl (memory_is told.reply e, u.contents)
       by u false e = inr (looked u upto e)

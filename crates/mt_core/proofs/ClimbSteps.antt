@@ -152,6 +152,7 @@ module _ (c : Core) (o : ℕ) (op : Operation) (h : StateInvariant c) (there : o
             tenant = once.tenant;
             key_is = once.key_is;
             makes = once.makes;
+            keeps = once.keeps;
             was = once.was;
           };
         }

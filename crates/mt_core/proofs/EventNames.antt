@@ -26,7 +26,8 @@ named_none names o e = by (get nat_cmp names o) e
     by None e = refl
     by (Some t) e = absurd (cc)
 
-other_key : (o q : ℕ) → q ≢ o → is_eq (nat_cmp o q) ≡ false
+-- another key is not the one that is asked for
+pub other_key : (o q : ℕ) → q ≢ o → is_eq (nat_cmp o q) ≡ false
 other_key o q ne = by (nat_cmp o q) refl
   where
     by : (w : Ordering) → nat_cmp o q ≡ w → is_eq w ≡ false

@@ -2,13 +2,15 @@
 use Rattle.std.proofs.Common.{◌≡◌, ◌≢◌, ℕ, zero, suc, ◌+◌, ◌-◌, ◌<◌, ◌≤◌, inl, inr, Bool, true, false, cond, List, [], ◌∷◌, ◌++◌, map, length, take, Option, Some, None, refl, sym, ap, subst, ◌∙◌, arith}
 use Rattle.std.proofs.{lemmas.Bool.cases_eq, lemmas.List.{map-append, take_all, take_more}}
 use Rattle.std.proofs.lemmas.Option.{same_Some, none-some, slice_get_within, get_or_from_slice_get}
-use Rattle.std.specs.{Prelude.{slice_get, is_some}, List.All, Ordering.eq_by_cmp, FinMap.{find, get-from_entries, from_entries_push, len-insert}}
-use Rattle.mt_rows.specs.{declared.record.TenantPair.TenantPair, Rows.Bytes, Tenants.{owned_cmp, Contents, tenant_map}}
+use Rattle.std.specs.{Prelude.{slice_get, is_some}, List.All, Option.{option_map, unwrap_or}, Ordering.{nat_cmp, eq_by_cmp}, BTreeMap.{BTreeMap, Updates}}
+use Rattle.std.specs.FinMap.{find, get-empty, get-insert, get-from_entries, from_entries_push, len-insert}
+use Rattle.mt_rows.specs.{declared.record.TenantPair.TenantPair, Rows.Bytes, Stamps.{Stamped, restamped_row}, Tenants.{owned_cmp, Contents, tenant_map}}
 use Rattle.mt_rows.specs.TenantPairs.{owner_of, entry_of, pairs_of, IsTenantPair, AreDistinct, HasTenants, KeepsQuotas}
 use Rattle.mt_rows.proofs.CommandLaws.{keys_total}
 use Rattle.mt_rows.proofs.ContentLaws.{owned_total, owned_exact, same_owner, other_owner, get-tenant_map, tenant_map-insert, tenant_map-insert_other}
+use Rattle.mt_border.specs.Restamps.{new_stamp}
 use Rattle.mt_state.specs.Views.{StateView, contents_of, granted}
-use Rattle.mt_core.specs.Restores.{IsIdle, MayPut, HasPut, with_pair}
+use Rattle.mt_core.{specs.Restores.{IsIdle, MayPut, HasOneMore, HasPut, row_put, with_pair}, proofs.{EventNames.other_key, OtherStamps.len-restamped}}
 use Rattle.std.specs.FinMap as pairs
 
 -- a key of no pair has no entry, and each pair's key has one
@@ -57,6 +59,24 @@ count_grows c p t missing = elim (cases_eq p.tenant t) [
   | inr other ↦ let same = ap pairs.len (tenant_map-insert_other t p.tenant c p.key p.row other) in omega (arith, same)
 ]
 
+-- what a list of stamps gives a row
+abbrev row_with : Stamped → ℕ → Stamped
+row_with r stamp = record { stamp = stamp; row = r.row }
+
+-- with one entry more it gives every earlier stamp what it gave
+still_given : (stamps more : BTreeMap ℕ ℕ) (number stamp s : ℕ) → Updates nat_cmp stamps more number (Some stamp) → s < number → new_stamp more s ≡ new_stamp stamps s
+still_given stamps more number stamp s u less = ap (λ w. unwrap_or w s) (u.2 s (other_key number s (λ is. omega (arith, less, is))))
+
+still_row : (stamps more : BTreeMap ℕ ℕ) (number stamp : ℕ) (x : Option Stamped) → Updates nat_cmp stamps more number (Some stamp) → ((r : Stamped) → x ≡ Some r → r.stamp < number)
+    → option_map (restamped_row (new_stamp stamps)) x ≡ option_map (restamped_row (new_stamp more)) x
+still_row stamps more number stamp None u below = refl
+still_row stamps more number stamp (Some r) u below = ap (λ s. Some (row_with r s)) (sym (still_given stamps more number stamp r.stamp u (below r refl)))
+
+-- where no row stands with another stamp, none stands
+none_before : (f : ℕ → ℕ) (x : Option Stamped) → option_map (restamped_row f) x ≡ None → x ≡ None
+none_before f None e = refl
+none_before f (Some r) e = absurd (none-some (restamped_row f r) (sym e))
+
 module _ (ps : List TenantPair) (distinct : AreDistinct ps) where
   -- the key of a pair is missing in those before it
   missing_entry : (i : ℕ) (p : TenantPair) → slice_get ps i ≡ Some p → find owned_cmp (owner_of p) (map entry_of (take i ps)) ≡ None
@@ -97,7 +117,7 @@ module _ (ps : List TenantPair) (distinct : AreDistinct ps) where
       omega (arith, more, here, rest)
 
   -- a state with the front of the pairs may be given the next one
-  module _ (start now : StateView) (i : ℕ) (p : TenantPair) (at : slice_get ps i ≡ Some p) (has : HasPut start now (pairs_of (take i ps))) where
+  module _ (start now : StateView) (stamps : BTreeMap ℕ ℕ) (i : ℕ) (p : TenantPair) (at : slice_get ps i ≡ Some p) (has : HasPut start now stamps (pairs_of (take i ps))) where
     pub may_put : All IsTenantPair ps → HasTenants (granted start) (pairs_of ps) → KeepsQuotas (granted start) (pairs_of ps) → MayPut now p
     may_put limits tenants quotas = by (granted start p.tenant) refl
       where
@@ -108,33 +128,65 @@ module _ (ps : List TenantPair) (distinct : AreDistinct ps) where
         by None e = absurd (there e)
         by (Some most) e = record {
           limits = subst IsTenantPair (get_or_from_slice_get ps i p p at) (limits i p (slice_get_within ps i p at));
-          missing = ap (λ c. pairs.get c (owner_of p)) has.contents ∙ missing_so_far i p at;
+          missing = none_before (new_stamp stamps) (pairs.get (contents_of now) (owner_of p)) (sym (has.contents (owner_of p)) ∙ missing_so_far i p at);
           most = most;
           there = has.granted_so p.tenant ∙ e;
           room =
-              let same = ap (λ c. pairs.len (tenant_map p.tenant c)) has.contents in
+              let same = len-restamped (new_stamp stamps) (contents_of now) (pairs_of (take i ps)) has.contents p.tenant in
               let fewer = room_so_far i p at in
               let few = quotas p.tenant most e in
               omega (arith, same, fewer, few);
         }
 
-    -- with it it has one more
-    pub has_more : (next : StateView) → HasPut now next (with_pair p (contents_of now)) → HasPut start next (pairs_of (take (i + 1) ps))
-    has_more next put = record {
-      idle = put.idle;
-      logs = put.logs ∙ has.logs;
-      granted_so = λ t. put.granted_so t ∙ has.granted_so t;
-      contents = put.contents ∙ ap (with_pair p) has.contents ∙ sym (one_pair_more i p at);
-    }
+    -- with it it has one more, and the list has its stamp
+    module _ (next : StateView) (number : ℕ) (more : BTreeMap ℕ ℕ) (put : HasOneMore now next p number) (listed : Updates nat_cmp stamps more number (Some p.row.stamp)) where
+      -- what stands at each key then
+      there_now : (q : ℕ × Bytes) → pairs.get (contents_of next) q ≡ cond (eq_by_cmp owned_cmp q (owner_of p)) (Some (row_put p number)) (pairs.get (contents_of now) q)
+      there_now q = ap (λ c. pairs.get c q) put.contents ∙ get-insert owned_total (contents_of now) (owner_of p) (row_put p number) q
+
+      more_upto : (q : ℕ × Bytes) (r : Stamped) → pairs.get (contents_of next) q ≡ Some r → r.stamp ≤ next.steps
+      more_upto q r is = by (eq_by_cmp owned_cmp q (owner_of p)) (sym (there_now q) ∙ is)
+        where
+          by : (b : Bool) → cond b (Some (row_put p number)) (pairs.get (contents_of now) q) ≡ Some r → r.stamp ≤ next.steps
+          by true e = let same = ap (λ (x : Stamped). x.stamp) (same_Some (row_put p number) r e) in omega (arith, same, put.upto)
+          by false e = let before = has.upto q r e in omega (arith, before, put.since, put.upto)
+
+      more_contents : (q : ℕ × Bytes) → pairs.get (pairs_of (take (i + 1) ps)) q ≡ option_map (restamped_row (new_stamp more)) (pairs.get (contents_of next) q)
+      more_contents q =
+          ap (λ c. pairs.get c q) (one_pair_more i p at)
+          ∙ get-insert owned_total (pairs_of (take i ps)) (owner_of p) p.row q
+          ∙ by (eq_by_cmp owned_cmp q (owner_of p))
+          ∙ ap (option_map (restamped_row (new_stamp more))) (sym (there_now q))
+        where
+          by : (b : Bool) → cond b (Some p.row) (pairs.get (pairs_of (take i ps)) q)
+              ≡ option_map (restamped_row (new_stamp more)) (cond b (Some (row_put p number)) (pairs.get (contents_of now) q))
+          by true = ap (λ s. Some (row_with p.row s)) (sym (ap (λ w. unwrap_or w number) listed.1))
+          by false =
+              has.contents q
+              ∙ still_row stamps more number p.row.stamp (pairs.get (contents_of now) q) listed (λ r is. let before = has.upto q r is in omega (arith, before, put.since))
+
+      pub has_more : HasPut start next more (pairs_of (take (i + 1) ps))
+      has_more = record {
+        idle = put.idle;
+        logs = put.logs ∙ has.logs;
+        granted_so = λ t. put.granted_so t ∙ has.granted_so t;
+        contents = more_contents;
+        upto = more_upto;
+      }
 
 -- at first there is none, and at the end there are all
-pub none_put : (v : StateView) → IsIdle v → contents_of v ≡ pairs.empty → HasPut v v (pairs_of [])
-none_put v idle fresh = record {
+pub none_put : (v : StateView) (stamps : BTreeMap ℕ ℕ) → IsIdle v → contents_of v ≡ pairs.empty → HasPut v v stamps (pairs_of [])
+none_put v stamps idle fresh = record {
   idle = idle;
   logs = refl;
   granted_so = λ t. refl;
-  contents = fresh;
+  contents = λ q. get-empty owned_cmp q ∙ sym (ap (option_map (restamped_row (new_stamp stamps))) (none q));
+  upto = λ q r is. absurd (none-some r (sym (none q) ∙ is));
 }
+  where
+    none : (q : ℕ × Bytes) → pairs.get (contents_of v) q ≡ None
+    none q = ap (λ c. pairs.get c q) fresh ∙ get-empty owned_cmp q
 
-pub all_put : (ps : List TenantPair) (start now : StateView) (i : ℕ) → length ps ≤ i → HasPut start now (pairs_of (take i ps)) → HasPut start now (pairs_of ps)
-all_put ps start now i end has = subst (λ qs. HasPut start now (pairs_of qs)) (take_all i ps end) has
+pub all_put : (ps : List TenantPair) (start now : StateView) (stamps : BTreeMap ℕ ℕ) (i : ℕ) → length ps ≤ i → HasPut start now stamps (pairs_of (take i ps))
+    → HasPut start now stamps (pairs_of ps)
+all_put ps start now stamps i end has = subst (λ qs. HasPut start now stamps (pairs_of qs)) (take_all i ps end) has

@@ -40,6 +40,7 @@ pub mod ClimbSteps
 pub mod PhaseTests
 pub mod ScanBodies
 pub mod ScanSteps
+pub mod OtherStamps
 pub mod Renumbering
 pub mod Restoring
 pub mod Filling

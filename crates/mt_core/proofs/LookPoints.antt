@@ -5,7 +5,7 @@ use Rattle.std.specs.Prelude.{nat_le, min}
 use Rattle.mt_version.specs.{Parts.Parts, Changes.SameButLock}
 use Rattle.mt_interior.{specs.Places.place_of, proofs.CallerLemmas.place_of-le-length}
 use Rattle.mt_slices.specs.Keys.{IsStoredKey}
-use Rattle.mt_rows.specs.Rows.{Bytes, Columns}
+use Rattle.mt_rows.specs.{Rows.Bytes, Stamps.Stamped}
 use Rattle.mt_border.specs.{declared.entry.Find.Find, declared.entry.FoundKind.TheVariants.{ThisKey, OtherLong, Link as ToTree}}
 use Rattle.mt_arena.specs.NodeView.{place_at}
 use Rattle.mt_arena.specs.{declared.tree.Standing.Standing, declared.tree.Standing.TheVariants.{Made, Live, Dead}, Nodes.IsChild, Forests.tree_at}
@@ -246,7 +246,7 @@ search_nears v key w after f step looks found is height made s point = subst (λ
     by (finds.Slot slot ToTree) has = record { below = λ other. below; few = load slot has.in_range }
 
 -- so does a load that took something
-pub load_nears : (v : ArenaView) (key : Bytes) (w after : Walk) (row : Option Columns) → IsArena v.nodes v.trees → IsAtBorder v key w → w.phase ≡ Load
+pub load_nears : (v : ArenaView) (key : Bytes) (w after : Walk) (row : Option Stamped) → IsArena v.nodes v.trees → IsAtBorder v key w → w.phase ≡ Load
     → Loads (at v w.place.node) w after row
     → (height made : ℕ) (s : Splits) → IsAtPoint height made v w s → IsAtPoint height (made + 1) v after s
 load_nears v key w after row arena border loads t height made s point =
@@ -289,7 +289,7 @@ pub shallow_below : (layer : ℕ) (key : Bytes) → IsStoredKey key → 8 * (lay
 shallow_below layer key stored begun = omega (arith, stored.within, begun)
 
 -- a get that goes on from a node that is as it was goes into the tree of a link; from another it goes to the next node, or begins anew
-pub confirm_nears : (v : ArenaView) (past : Past) (key : Bytes) (row : Option Columns) (w after : Walk) → IsStoredKey key → w.phase ≡ Confirm
+pub confirm_nears : (v : ArenaView) (past : Past) (key : Bytes) (row : Option Stamped) (w after : Walk) → IsStoredKey key → w.phase ≡ Confirm
     → IsAtConfirm v past key row w
     → Confirms (at v w.place.node) w after → after.phase ≢ Done → (height made : ℕ) (s : Splits) → IsAtPoint height made v w s
     → IsAtPoint height (made + 1) v after s

@@ -2,7 +2,7 @@
 use Rattle.std.proofs.Common.{◌≡◌, ◌<◌, ℕ, true, List, length, Option, Some, None, IsNone, IfNone, IfSome, inl, refl, sym, ap, subst, ◌∙◌}
 use Rattle.std.proofs.lemmas.Option.{same_Some}
 use Rattle.std.specs.Option.{option_map}
-use Rattle.mt_rows.specs.{declared.reply.Reply.Reply, declared.reply.Reply.TheVariants.Found, Rows.{Bytes, Columns, shown}, Maps.is_get}
+use Rattle.mt_rows.specs.{declared.reply.Reply.Reply, declared.reply.Reply.TheVariants.Found, Rows.Bytes, Stamps.{Stamped, as_shown}, Maps.is_get}
 use Rattle.mt_arena.specs.{NodeView.NodeView, Forests.tree_at, Arena.{ArenaView, IsArena}, Accesses.at}
 use Rattle.mt_operation.specs.{declared.phase.Phase.Phase, declared.phase.Phase.TheVariants.{Enter, Pick, Child, Verify, Forward}, declared.walk.Walk.Walk}
 use Rattle.mt_operation.specs.{declared.outcome.Outcome.Outcome, declared.operation.Operation.Operation, Tasks.ask}
@@ -152,23 +152,23 @@ abbrev placed_at : ℕ → Reply → Outcome
 placed_at m reply = record { reply = reply; at = m }
 
 -- the row that a get took is shown as it asks
-shows_taken : {R : Type 0} (f : R → Columns) (taken : Option R) (reply : Option Reply) (op : Operation) (after : Walk) → is_get (ask op.task) ≡ true
-    → ((asked : List ℕ) → columns_asked (ask op.task) ≡ Some asked → reply ≡ option_map (λ r. Found (shown asked (f r))) taken)
+shows_taken : {R : Type 0} (f : R → Stamped) (taken : Option R) (reply : Option Reply) (op : Operation) (after : Walk) → is_get (ask op.task) ≡ true
+    → ((asked : List ℕ) → columns_asked (ask op.task) ≡ Some asked → reply ≡ option_map (λ r. Found (as_shown asked (f r))) taken)
     → ShowsTaken op (option_map f taken) after (option_map (placed_at after.right_at) reply)
 shows_taken f None reply op after gets is = record {
   none = λ e. let asked = get_asks (ask op.task) gets in ap (option_map (placed_at after.right_at)) (is asked.0 asked.1);
-  some = λ columns asked e _. absurd (cc);
+  some = λ had asked e _. absurd (cc);
 }
 shows_taken f (Some r) reply op after gets is = record {
   none = λ e. absurd (cc);
   some =
-      λ columns asked e by. ap (option_map (placed_at after.right_at)) (is asked by) ∙ ap (λ (x : Columns). Some (placed_at after.right_at (Found (shown asked x)))) (same_Some (f r) columns e);
+      λ had asked e by. ap (option_map (placed_at after.right_at)) (is asked by) ∙ ap (λ (x : Stamped). Some (placed_at after.right_at (Found (as_shown asked x)))) (same_Some (f r) had e);
 }
 
 -- what a load tells that had memory for the row that it shows
-pub tells_shown : {R : Type 0} (f : R → Columns) (taken : Option R) (reply : Option Reply) (v : ArenaView) (op : Operation) (step : ℕ) (after : Walk) (told : Option Outcome)
+pub tells_shown : {R : Type 0} (f : R → Stamped) (taken : Option R) (reply : Option Reply) (v : ArenaView) (op : Operation) (step : ℕ) (after : Walk) (told : Option Outcome)
     → is_get (ask op.task) ≡ true → Loads (at v op.walk.place.node) op.walk after (option_map f taken)
-    → ((asked : List ℕ) → columns_asked (ask op.task) ≡ Some asked → reply ≡ option_map (λ r. Found (shown asked (f r))) taken)
+    → ((asked : List ℕ) → columns_asked (ask op.task) ≡ Some asked → reply ≡ option_map (λ r. Found (as_shown asked (f r))) taken)
     → told ≡ option_map (placed_at after.right_at) reply
     → TellsLoaded v step op (led_to op after told)
 tells_shown f taken reply v op step after told gets loads is says = record {

@@ -2,7 +2,7 @@
 use Rattle.std.proofs.Common.{Bool, None, Option, Some, [], ap, arith, cond, eqb, false, inl, inr, length, refl, set, subst, sym, true, ℕ, ◌+◌, ◌<◌, ◌∙◌, ◌≡◌, ◌≢◌}
 use Rattle.std.proofs.lemmas.Bool.{both_ways}
 use Rattle.std.specs.Prelude.{List, ◌*◌, ◌^◌, ◌≤◌, ◌⊎◌}
-use Rattle.mt_rows.specs.{declared.reply.Reply.Reply, declared.reply.Reply.TheVariants.{Full, New, NoMemory, Replaced}, Rows.{Bytes, Columns}}
+use Rattle.mt_rows.specs.{declared.reply.Reply.Reply, declared.command.Command.Command, declared.reply.Reply.TheVariants.{Full, New, NoMemory, Replaced, Stale}, Rows.{Bytes, Columns}}
 use Rattle.mt_rows.specs.{Accounts.Accounts, Maps.is_scan}
 use Rattle.mt_border.specs.declared.entry.FoundKind.TheVariants.{OtherLong}
 use Rattle.mt_slices.specs.Keys.{IsStoredKey}
@@ -14,17 +14,17 @@ use Rattle.mt_operation.specs.{declared.walk.Walk.Walk, declared.splits.Halves.H
 use Rattle.mt_operation.specs.{declared.prepared.Prepared.Prepared, declared.operation.Operation.Operation}
 use Rattle.mt_operation.specs.{Operations.{made_ready, moved, noted, splits_of, with_nothing_ready}, Phases.{IsOfKind, has_splits}}
 use Rattle.mt_operation.specs.{Tables.{Table, op_at as operation_at}, declared.task.Request.Request}
-use Rattle.mt_operation.specs.declared.task.Request.TheVariants.{Get as GetOf, Put as PutOf, Remove as RemoveOf, Scan as ScanOf}
+use Rattle.mt_operation.specs.declared.task.Request.TheVariants.{Get as GetOf, Put as PutOf, PutIf as PutIfOf, Remove as RemoveOf, Scan as ScanOf}
 use Rattle.mt_operation.specs.Tasks.{ask, command_of, aim_of}
 use Rattle.mt_descent.specs.{Seen.IsOutdated, KeptWalks.IsInSlot, WalkMoves.{IsLock, Locks, walk_anew, walk_into}}
-use Rattle.mt_insert.specs.{Puts.is_put, Judge.{IsMadeReady, MeetsOther, StandsIn, after_judge}, Fill.IsFill, Publish.{IsPublish, IsPublishFull}, Store.IsStore}
+use Rattle.mt_insert.specs.{Puts.{is_put, IsPut, MeetsStamp}, Judge.{FindsStale, IsMadeReady, MeetsOther, StandsIn, after_judge}, Fill.IsFill, Publish.{IsPublish, IsPublishFull}, Store.IsStore}
 use Rattle.mt_remove.specs.Writes.{is_remove}
 use Rattle.mt_version.specs.Parts.{Parts}
 use Rattle.mt_held.specs.{Moves.{walk_at, walk_placed}, Unlock.{MeetsLink, IsUnlock}}
 use Rattle.mt_state.specs.{declared.moves.Move.TheVariants.{Moved, Done as DoneMove}, Views.{Core, shown}, Phases.{JudgesBy, JudgesLink, Leads, LocksBy}}
 use Rattle.mt_state.specs.Invariant.{StateInvariant}
 use Rattle.mt_descent.proofs.Decides.{outdated_or_not}
-use Rattle.mt_state.proofs.{Telling.Gives, OneNode.replaced_all}
+use Rattle.mt_state.proofs.{Telling.Gives, OneNode.replaced_all, Staling.judge_stale}
 use Rattle.mt_state.proofs.{FillSteps.fill_done, Locking.{judge_ready, judge_refused, lock_done, publish_full, unlock_done}, LayerSteps.{below_done, meet_done}}
 use Rattle.mt_state.proofs.{Putting.{publish_done, store_done}, Needs.{fill_kept, judge_kept, lock_kept, publish_kept, put_at, store_kept}, Bound.put_no_remove}
 use Rattle.mt_core.specs.Budgets.{AreBelow, IsLiveTree, SeesNow, above, astray, before_unlock, behind}
@@ -147,19 +147,21 @@ place_brings v arena w x s p at_p goes none other stays least height n point =
     (subst (λ (halves : List Halves). n + 1 ≤ above height x + before_unlock halves height) (sym none) made))
 
 -- where an operation goes that follows a link, whether it was told something or not
-judges_link : (told : Option Outcome) → {n : NodeView} → {key : Bytes} → {w x : Walk} → JudgesLink n key w x → JudgesBy told n key w x
-judges_link None goes = inr (inr (inl goes))
-judges_link (Some told) goes = inl goes
+judges_link : (told : Option Outcome) → (command : Command) → (standing : ℕ) → {n : NodeView} → {key : Bytes} → {w x : Walk} → JudgesLink n key w x → JudgesBy told command standing n key w x
+judges_link None command standing goes = inr (inr (inl goes))
+judges_link (Some told) command standing goes = inl goes
 
 -- and one that was told nothing
-pub judges_none : {told : Option Outcome} → told ≡ None → {n : NodeView} → {key : Bytes} → {w x : Walk} → JudgesBy None n key w x → JudgesBy told n key w x
-judges_none {told} untold {n} {key} {w} {x} goes = subst (λ (t : Option Outcome). JudgesBy t n key w x) (sym untold) goes
+pub judges_none : {told : Option Outcome} → told ≡ None → {command : Command} → {standing : ℕ} → {n : NodeView} → {key : Bytes} → {w x : Walk} → JudgesBy None command standing n key w x
+    → JudgesBy told command standing n key w x
+judges_none {told} untold {command} {standing} {n} {key} {w} {x} goes = subst (λ (t : Option Outcome). JudgesBy t command standing n key w x) (sym untold) goes
 
 -- an operation that judges, and removes nothing, puts
 put_of : (r : Request) → is_remove (command_of r) ≡ false → aim_of (command_of r) ≡ aims.Write → is_put (command_of r) ≡ true
 put_of (GetOf key columns) stays writes = absurd (cc)
 put_of (ScanOf from after count columns) stays writes = absurd (cc)
 put_of (PutOf key change) stays writes = refl
+put_of (PutIfOf key stamp change) stays writes = refl
 put_of (RemoveOf key) stays writes = absurd (cc)
 
 pub judged_put : (c : Core) (o : ℕ) → StateInvariant c → (x : Operation) → operation_at c.table o ≡ Some x → x.walk.phase ≡ Judge → is_remove (ask x.task) ≡ false
@@ -277,7 +279,7 @@ module _ (c now : Core) (o : ℕ) (is : c ≡ now) (h : StateInvariant c) (few :
       (tree_layer c.arena is_arena x.task.key x.walk through judged.held.there judged.at_border.covers.remembered.tree_is judged.stands.live)
       (shallow_below x.walk.layer x.task.key stored (subst (λ (y : Walk). 8 * y.layer < length x.task.key) t.goes.walk t.kept.begun)) live.live height n r)))
       (write_no_scan c o h x there Judge at_judge (λ aim kind. kind)))
-      (leads_over c o h x there Judge at_judge now is arena tape c.accounts table after over w (judges_link x.outcome (record { slot = t.slot; stands = t.in_slot; tree = t.tree; leads = t.leads; goes = t.goes.walk })) refl refl)
+      (leads_over c o h x there Judge at_judge now is arena tape c.accounts table after over w (judges_link x.outcome _ _ (record { slot = t.slot; stands = t.in_slot; tree = t.tree; leads = t.leads; goes = t.goes.walk })) refl refl)
 
   -- either of them: it goes on
   pub on_made : x.walk.phase ≡ Judge → IsArena c.arena.nodes c.arena.trees → x.outcome ≡ None → is_remove (ask x.task) ≡ false
@@ -297,7 +299,27 @@ module _ (c now : Core) (o : ℕ) (is : c ≡ now) (h : StateInvariant c) (few :
       (subst (λ (all : Table). Gives (shown now) (made c arena tape c.accounts all) o true) (sym over.is)
       (judge_refused c (shown now) o (ap shown is) h few x there at_judge untold arena tape w keeps t))
       (leads_over c o h x there Judge at_judge now is arena tape c.accounts table _ over w
-      (judges_none untold (inr (inr (inr (inr (inr (record { slot = slot; stands = stands; goes = t.walk }))))))) refl refl)
+      (judges_none untold (inr (inr (inr (inr (inr (inl (record { slot = slot; stands = stands; goes = t.walk })))))))) refl refl)
+
+  -- another stamp than the one that it asks for
+  pub stale_made : x.walk.phase ≡ Judge → x.outcome ≡ None → IsPut x.task → (stamp : ℕ) → (arena : ArenaView) (tape : Kept) (w : Walk) (table : Table) → tape ≡ c.tape
+      → FindsStale o x.task stamp c.arena arena x.walk w
+      → IsOver c.table table o (noted (moved x (c.steps + 1) w) (Some (record { reply = Stale stamp; at = c.steps + 1 })))
+      → IsSound c.arena (made c arena tape c.accounts table) × StepsOn now (made c arena tape c.accounts table) o DoneMove
+  stale_made at_judge untold put stamp arena tape w table keeps t over =
+      let after = noted (moved x (c.steps + 1) w) (Some (record { reply = Stale stamp; at = c.steps + 1 })) in
+      ends_it (made c arena tape c.accounts table)
+      (subst (λ (all : Table). Gives (shown now) (made c arena tape c.accounts all) o true) (sym over.is)
+      (subst (λ (v : Core). Gives (shown v) (made c arena tape c.accounts (set c.table o (Some after))) o true) is
+      (subst (λ (k : Kept). Gives (shown c) (made c arena k c.accounts (set c.table o (Some after))) o true) (sym keeps)
+      (judge_stale c o h few_inside x there at_judge put arena w stamp t untold))))
+      (leads_over c o h x there Judge at_judge now is arena tape c.accounts table _ over w
+      (judges_none untold (inr (inr (inr (inr (inr (inr (record {
+        slot = t.slot;
+        stands = t.stands;
+        stale = subst (λ (s : ℕ). ¬ MeetsStamp (ask x.task) s) (sym t.standing) t.stale;
+        goes = t.unlocks.walk;
+      })))))))) refl refl)
 
   -- a put that has placed its change, or found its quota full, comes to give its lock back
   module _ (p : Phase) (at_p : x.walk.phase ≡ p) where

@@ -3,7 +3,7 @@ use Rattle.mt_operation.specs.declared.walk.Aim.TheVariants as aims
 use Rattle.std.proofs.Common.{◌≡◌, ◌≢◌, ℕ, ◌+◌, ◌<◌, ◌≤◌, ◌⊎◌, inl, inr, true, false, not, set, Option, Some, None, refl, sym, ap, subst, ◌∙◌, arith}
 use Rattle.std.proofs.lemmas.Bool.{both_ways}
 use Rattle.std.specs.Prelude.{◌^◌}
-use Rattle.mt_rows.specs.{declared.reply.Reply.TheVariants.{Absent, NoMemory}, Rows.Columns, Commands.HasColumns, Maps.{is_get, is_scan}}
+use Rattle.mt_rows.specs.{declared.reply.Reply.TheVariants.{Absent, NoMemory}, Stamps.Stamped, Commands.HasColumns, Maps.{is_get, is_scan}}
 use Rattle.mt_border.specs.{declared.entry.Find.Find, declared.entry.FoundKind.TheVariants.{ThisKey, OtherLong, Link as ToTree}}
 use Rattle.mt_version.specs.Changes.{IsStable}
 use Rattle.mt_arena.specs.{Arena.IsArena, Accesses.at}
@@ -165,7 +165,7 @@ module _ (c now : Core) (o : ℕ) (is : c ≡ now) (h : StateInvariant c) (room 
   asked_columns = (h.ops o op there).always.columns
 
   -- and of one that is to confirm what it took
-  confirming : op.walk.phase ≡ Confirm → (row : Option Columns) × WalksConfirm c.arena (past_of c) op.task.key row op.walk
+  confirming : op.walk.phase ≡ Confirm → (row : Option Stamped) × WalksConfirm c.arena (past_of c) op.task.key row op.walk
   confirming at_confirm =
       let k : IsAtConfirm c op = subst (λ (p : Phase). IsKeptAt p c o op) at_confirm (h.ops o op there).kept in
       (k.row, subst (λ (p : Phase). KeptAt p c.arena (past_of c) op.task.key k.row op.walk) at_confirm k.kept)
@@ -176,7 +176,7 @@ module _ (c now : Core) (o : ℕ) (is : c ≡ now) (h : StateInvariant c) (room 
   -- a search that found nothing
   pub search_gives_missing : IsArena c.arena.nodes c.arena.trees → (at_search : op.walk.phase ≡ Search) → (w : Walk)
       → (found : (f : Find) × FindsIn (at c.arena op.walk.place.node) op.task.key op.walk.layer f × (w ≡ after_search f op.walk (c.steps + 1)))
-      → ((past : Past) (row : Option Columns) → AreStamped past c.arena → IsNow past (c.steps + 1) c.arena → op.walk.first ≤ c.steps + 1 → IsKept c.arena past op.task.key row w)
+      → ((past : Past) (row : Option Stamped) → AreStamped past c.arena → IsNow past (c.steps + 1) c.arena → op.walk.first ≤ c.steps + 1 → IsKept c.arena past op.task.key row w)
       → w.phase ≡ Confirm
       → (told : Outcome) → told ≡ record { reply = Absent; at = c.steps + 1 } → (table : Table) → table ≡ led w (Some told) → StepGives table Moved
   search_gives_missing arena at_search w found kept confirms told says table e =
@@ -190,7 +190,7 @@ module _ (c now : Core) (o : ℕ) (is : c ≡ now) (h : StateInvariant c) (room 
   -- a search that found a slot
   pub search_gives_found : IsArena c.arena.nodes c.arena.trees → (at_search : op.walk.phase ≡ Search) → (w : Walk)
       → (found : (f : Find) × FindsIn (at c.arena op.walk.place.node) op.task.key op.walk.layer f × (w ≡ after_search f op.walk (c.steps + 1)))
-      → ((past : Past) (row : Option Columns) → AreStamped past c.arena → IsNow past (c.steps + 1) c.arena → op.walk.first ≤ c.steps + 1 → IsKept c.arena past op.task.key row w)
+      → ((past : Past) (row : Option Stamped) → AreStamped past c.arena → IsNow past (c.steps + 1) c.arena → op.walk.first ≤ c.steps + 1 → IsKept c.arena past op.task.key row w)
       → w.phase ≢ Confirm
       → (table : Table) → table ≡ set c.table o (Some (moved op (c.steps + 1) w)) → StepGives table Moved
   search_gives_found arena at_search w found kept other =
@@ -209,7 +209,7 @@ module _ (c now : Core) (o : ℕ) (is : c ≡ now) (h : StateInvariant c) (room 
   -- a get that has confirmed what it took
   pub confirm_gives_done : (at_confirm : op.walk.phase ≡ Confirm) → IsStable (at c.arena op.walk.place.node).version → (w : Walk)
       → Continues op.walk w → Confirms (at c.arena op.walk.place.node) op.walk w
-      → ((past : Past) (row : Option Columns) → WalksConfirm c.arena past op.task.key row op.walk → IsKept c.arena past op.task.key row w) → w.phase ≡ Done
+      → ((past : Past) (row : Option Stamped) → WalksConfirm c.arena past op.task.key row op.walk → IsKept c.arena past op.task.key row w) → w.phase ≡ Done
       → (table : Table) → table ≡ set c.table o (Some (moved op (c.steps + 1) w)) → StepGives table DoneMove
   confirm_gives_done at_confirm stable w same confirms kept done =
       done_gives w op.outcome (confirm_done c (shown now) o (ap shown is) h room op there at_confirm w same confirms kept done) (goes_at Confirm at_confirm w (stable, confirms))
@@ -217,7 +217,7 @@ module _ (c now : Core) (o : ℕ) (is : c ≡ now) (h : StateInvariant c) (room 
   -- or goes on its way
   pub confirm_gives_back : (at_confirm : op.walk.phase ≡ Confirm) → IsStable (at c.arena op.walk.place.node).version → (w : Walk)
       → Continues op.walk w → Confirms (at c.arena op.walk.place.node) op.walk w
-      → ((past : Past) (row : Option Columns) → WalksConfirm c.arena past op.task.key row op.walk → IsKept c.arena past op.task.key row w) → w.phase ≢ Done
+      → ((past : Past) (row : Option Stamped) → WalksConfirm c.arena past op.task.key row op.walk → IsKept c.arena past op.task.key row w) → w.phase ≢ Done
       → (table : Table) → table ≡ led w None → StepGives table Moved
   confirm_gives_back at_confirm stable w same confirms kept other =
       moved_gives w None (confirm_back c (shown now) o (ap shown is) h room op there at_confirm w same confirms kept other)

@@ -11,7 +11,7 @@ use Rattle.mt_state.specs.{declared.moves.Move.Move, declared.moves.Move.TheVari
 use Rattle.mt_state.specs.{Promises.{IsInTheWay, IsStep}, Phases.{GoesFromUnlock, JudgesBy, Leads, LocksBy, ReturnsBy}, KeptOperations.{IsKeptAt, IsOnItsWay}}
 use Rattle.mt_state.specs.Invariant.{StateInvariant}
 use Rattle.mt_version.specs.Changes.{CanUnlock}
-use Rattle.mt_rows.specs.{declared.reply.Reply.TheVariants.{Absent, Removed}, Accounts.Accounts}
+use Rattle.mt_rows.specs.{declared.command.Command.Command, declared.reply.Reply.TheVariants.{Absent, Removed}, Accounts.Accounts}
 use Rattle.mt_tape.specs.Tapes.{Kept}
 use Rattle.mt_arena.specs.{NodeView.{NodeView, node_at}, Arena.{ArenaView, Guarantee, IsArena, live_count}, Forests.tree_at, Accesses.at}
 use Rattle.mt_arena.proofs.Elsewhere.{layer_is}
@@ -150,11 +150,11 @@ module _ (c now : Core) (o : ℕ) (is : c ≡ now) (h : StateInvariant c) (few :
         subst (λ (a : Move). IsSound c.arena (made c arena c.tape c.accounts table) × StepsOn now (made c arena c.tape c.accounts table) o a)
         (sym (says ∙ ap (λ (y : Walk). ending y.phase) t.unlocks.walk)) (ends_it (made c arena c.tape c.accounts table)
         (subst (λ (all : Table). Gives (shown c) (made c arena c.tape c.accounts all) o true) (sym over.is) (back_ended c o h few_here x there at_judge told arena w t))
-        (leads_over c o h x there Judge at_judge now is arena c.tape c.accounts table _ over w (judged_none x.outcome told) refl refl))
+        (leads_over c o h x there Judge at_judge now is arena c.tape c.accounts table _ over w (judged_none x.outcome _ _ told) refl refl))
       where
-        judged_none : (had : Option Outcome) → had ≢ None → JudgesBy had (at c.arena x.walk.place.node) x.task.key x.walk w
-        judged_none None some = absurd (some refl)
-        judged_none (Some had) some = inr (record { none = t.none; goes = t.unlocks.walk })
+        judged_none : (had : Option Outcome) (command : Command) (standing : ℕ) → had ≢ None → JudgesBy had command standing (at c.arena x.walk.place.node) x.task.key x.walk w
+        judged_none None command standing some = absurd (some refl)
+        judged_none (Some had) command standing some = inr (record { none = t.none; goes = t.unlocks.walk })
 
   -- Lock on the way back
   module _ (at_lock : x.walk.phase ≡ Lock) (told : x.outcome ≢ None) where

@@ -1,24 +1,25 @@
 -- What a put leaves that runs alone in a state without other operations, and what counting anew leaves then: for `restored`.
-use Rattle.std.proofs.Common.{◌≡◌, ◌≢◌, ℕ, zero, suc, ◌+◌, ◌*◌, ◌^◌, ◌<◌, ◌≤◌, ◌⊎◌, inl, inr, Bool, true, false, cond, eqb, List, [], ◌∷◌, length, Option, Some, None, Result, Ok, Err, sym, refl, ap, subst, ◌∙◌, arith}
+use Rattle.std.proofs.Common.{◌≡◌, ◌≢◌, ℕ, zero, suc, ◌+◌, ◌*◌, ◌^◌, ◌<◌, ◌≤◌, ◌⊎◌, inl, inr, Bool, true, false, cond, eqb, List, [], ◌∷◌, map, length, Option, Some, None, sym, refl, ap, subst, ◌∙◌, arith}
 use Rattle.std.proofs.{lemmas.Bool.{cases_eq, eqb-true, eqb-false}, lemmas.List.{get_or-set_other, length-replicate}, lemmas.Option.{same_Some, none-some}}
-use Rattle.std.specs.{Prelude.{if◌then◌else◌, OnOk, replicate, slice_set}, Option.option_map}
+use Rattle.std.specs.{Prelude.{replicate, slice_set}, Option.option_map, Ordering.eq_by_cmp, BTreeMap.BTreeMap}
 use Rattle.mt_rows.specs.{declared.command.Command.TheVariants.Put, declared.record.TenantPair.TenantPair, declared.reply.Reply.Reply}
 use Rattle.mt_rows.specs.{declared.reply.Reply.TheVariants.{New, NoMemory}, declared.tenants.Account.Account, Accounts.{Accounts, account_of}}
-use Rattle.mt_rows.specs.{Changes.{Named, changed, indexed}, Maps.{Map, reply_of, map_after, map_after_put, told_of_put}, Tenants.{Contents, tenant_map}}
-use Rattle.mt_rows.specs.TenantPairs.{owner_of, pairs_of}
-use Rattle.mt_rows.proofs.{Indexed.changed_indexed, ContentLaws.{same_contents, get-tenant_map, tenant_map-insert, tenant_map-insert_other}}
-use Rattle.mt_border.{specs.Contents.AllStamped, proofs.Restamping.all-restamped}
+use Rattle.mt_rows.specs.{Changes.{Named, indexed}, Maps.{Map, reply_of, map_after, map_after_put, told_of_put}, Rows.{Bytes, Columns}, Stamps.{Stamped, restamped_row, written}}
+use Rattle.mt_rows.specs.{Tenants.{owned_cmp, Contents, tenant_map}, TenantPairs.{owner_of, entry_of, pairs_of, AreStampedUpto}}
+use Rattle.mt_rows.proofs.{Indexed.changed_indexed, ContentLaws.{owned_total, same_contents, get-tenant_map, tenant_map-insert, tenant_map-insert_other}}
+use Rattle.mt_border.{specs.{Contents.AllStamped, Restamps.new_stamp}, proofs.Restamping.all-restamped}
 use Rattle.mt_runs.specs.declared.event.Answer.{Answer}
-use Rattle.mt_arena.specs.{NodeView.NodeView, Accesses.at, Arena.live_count, Forests.tree_at, Renumbers.all_renumbered}
-use Rattle.mt_arena.proofs.Renumbering.{at-renumbered, content-renumbered}
+use Rattle.mt_arena.specs.{NodeView.NodeView, Accesses.at, Arena.{IsArena, live_count}, Contents.counts, Forests.tree_at, Renumbers.AreRestamped}
+use Rattle.mt_arena.proofs.Renumbering.{at-renumbered, size-renumbered, content-renumbered}
 use Rattle.mt_operation.specs.{declared.operation.Operation.Operation, declared.outcome.Outcome.Outcome, declared.phase.Phase.Phase}
 use Rattle.mt_operation.specs.{Operations.{OperationView, view_of}, Tables.{Table, op_at as operation_at}}
 use Rattle.mt_state.specs.{declared.moves.Move.Move, declared.moves.Move.TheVariants.{NoMemory as NoMemoryMove, Done as DoneMove}}
 use Rattle.mt_state.specs.Views.{Core, StateView, Shown, shown, contents_of, op_at, granted, granted_in, quota_in as quota_of_account, quota_of}
 use Rattle.mt_state.specs.{Promises.IsStep, Begins.{Begins, Takes, begun, new_state}, Invariant.{StateInvariant, HoldsAt}}
 use Rattle.mt_state.proofs.Shown.{shown_table, shown_at, shown_there}
-use Rattle.mt_core.specs.{Alone.{IsChain, Runs, IsAlone, EndsAlone, EndsAt, IsRun}, Renumbers.core_renumbered}
-use Rattle.mt_core.specs.Restores.{IsIdle, MayPut, HasPut, put_of, with_pair, counting, IsUncounted, IsRestored}
+use Rattle.mt_core.specs.{Alone.{IsChain, Runs, IsAlone, EndsAlone, EndsAt, IsRun}, Renumbers.{AreGivenUpto, core_renumbered}}
+use Rattle.mt_core.specs.Restores.{IsIdle, MayPut, HasOneMore, HasPut, put_of, row_put, with_put, counting, IsUncounted, IsStampIn, IsRestored}
+use Rattle.mt_core.proofs.OtherStamps.{len-restamped, stamped_slots}
 use Rattle.std.specs.FinMap as pairs
 
 -- no operation is shown where none is inside
@@ -29,47 +30,21 @@ none_inside (Some op) e = absurd (none-some (view_of op) (sym e))
 pub idle_inside : (table : Table) → ((o : ℕ) → op_at (shown_table table) o ≡ None) → (o : ℕ) → operation_at table o ≡ None
 idle_inside table idle o = none_inside (operation_at table o) (sym (shown_at table o) ∙ idle o)
 
--- ---- the numbers
+-- ---- the stamps
 
--- a state whose counting began anew at 0 has the same contents, and numbers for a put where nodes are few
-live-renumbered : (s : ℕ) (nodes : List NodeView) → live_count (all_renumbered s nodes) ≡ live_count nodes
-live-renumbered s [] = refl
-live-renumbered s (n ∷ nodes) = ap (λ c. (if n.version.deleted then 0 else 1) + c) (live-renumbered s nodes)
+-- no pair of a list has a stamp over a number over which none is
+pair_upto : (n : ℕ) (ps : List TenantPair) (q : ℕ × Bytes) (row : Stamped) → AreStampedUpto n ps → pairs.find owned_cmp q (map entry_of ps) ≡ Some row → row.stamp ≤ n
+pair_upto n [] q row upto is = absurd (none-some row is)
+pair_upto n (p ∷ ps) q row upto is = by (eq_by_cmp owned_cmp q (owner_of p)) (λ more. pair_upto n ps q row (λ i x at. upto (suc i) x at) more) is
+  where
+    by : (b : Bool) → (pairs.find owned_cmp q (map entry_of ps) ≡ Some row → row.stamp ≤ n) → cond b (Some p.row) (pairs.find owned_cmp q (map entry_of ps)) ≡ Some row → row.stamp ≤ n
+    by true rest is = omega (arith, upto 0 p refl, ap (λ (s : Stamped). s.stamp) (same_Some p.row row is))
+    by false rest is = rest is
 
-pub anew_has : (s : ℕ) (c d : Core) → IsIdle (shown c) → d ≡ core_renumbered s c → HasPut (shown c) (shown d) (contents_of (shown c))
-anew_has s c d idle is = subst (λ e. HasPut (shown c) (shown e) (contents_of (shown c))) (sym is) (record {
-  idle = λ o. refl;
-  logs = length-replicate (length c.logs) s;
-  granted_so = λ t. refl;
-  contents = content-renumbered s c.arena.trees c.arena.nodes;
-})
-
-pub anew_numbers : (c d : Core) (n : ℕ) → live_count c.arena.nodes ≤ n → n < 2 ^ 50 → d ≡ core_renumbered 0 c → d.steps + 256 * (live_count d.arena.nodes + 64) ≤ 2 ^ 59
-anew_numbers c d n few less is = subst (λ (e : Core). e.steps + 256 * (live_count e.arena.nodes + 64) ≤ 2 ^ 59) (sym is)
-    (let live = live-renumbered 0 c.arena.nodes in omega (arith, few, less, live))
-
--- a pair may be put after that which might be before, and what was put then was put
-pub may_still : (v w : StateView) (p : TenantPair) → HasPut v w (contents_of v) → MayPut v p → MayPut w p
-may_still v w p has may = record {
-  limits = may.limits;
-  missing = ap (λ c. pairs.get c (owner_of p)) has.contents ∙ may.missing;
-  most = may.most;
-  there = has.granted_so p.tenant ∙ may.there;
-  room = let same = ap (λ c. pairs.len (tenant_map p.tenant c)) has.contents in let room = may.room in omega (arith, same, room);
-}
-
-pub put_after : (v w x : StateView) (p : TenantPair) → HasPut v w (contents_of v) → HasPut w x (with_pair p (contents_of w)) → HasPut v x (with_pair p (contents_of v))
-put_after v w x p has put = record {
-  idle = put.idle;
-  logs = put.logs ∙ has.logs;
-  granted_so = λ t. put.granted_so t ∙ has.granted_so t;
-  contents = put.contents ∙ ap (with_pair p) has.contents;
-}
-
--- what follows holds where a call went well
-pub on_ok : {T E : Type 0} (P Q : Type 0) (r : Result T E) → (P → Q) → OnOk r P → OnOk r Q
-on_ok P Q (Ok x) so holds = so holds
-on_ok P Q (Err e) so holds = tt
+-- so contents that are a list's pairs once they have other stamps have none of those over it
+pub given_upto : (steps : ℕ) (f : ℕ → ℕ) (contents : Contents) (ps : List TenantPair) → AreStampedUpto steps ps → AreRestamped f contents (pairs_of ps) → AreGivenUpto steps f contents
+given_upto steps f contents ps upto are q r there =
+    pair_upto steps ps q (restamped_row f r) upto (sym (pairs.get-from_entries owned_total (map entry_of ps) q) ∙ are q ∙ ap (option_map (restamped_row f)) there)
 
 -- ---- the run
 
@@ -106,15 +81,20 @@ along_runs : (old new : StateView) (o : ℕ) → Runs old new o DoneMove → Alo
 along_runs old new o r = along_more old r.mid new o (along_chain r.made old r.mid o r.chain) (along_step r.mid new o true r.tells)
 
 -- a put of a missing key with room in its quota makes its pair, and is told so
-after_put : (quota : ℕ) (key : _) (change : Named) (m : Map) → pairs.get m key ≡ None → pairs.len m < quota → map_after quota (Put key change) m ≡ pairs.insert m key (changed change [])
+after_put : (quota number : ℕ) (key : _) (change : Named) (m : Map) → pairs.get m key ≡ None → pairs.len m < quota
+    → map_after quota number (Put key change) m ≡ pairs.insert m key (written number change None)
 unfolding map_after
-after_put quota key change m missing room =
-    let some : map_after_put quota key change m None ≡ pairs.insert m key (changed change []) = grind (arith, room) in
-    ap (map_after_put quota key change m) missing ∙ some
+after_put quota number key change m missing room =
+    let some : map_after_put quota number key change m None ≡ pairs.insert m key (written number change None) = grind (arith, room) in
+    ap (map_after_put quota number key change m) missing ∙ some
 
 told_put : (quota : ℕ) (key : _) (change : Named) (m : Map) → pairs.get m key ≡ None → pairs.len m < quota → reply_of quota (Put key change) m ≡ New
 unfolding reply_of
 told_put quota key change m missing room = ap (told_of_put quota (pairs.len m)) missing ∙ grind (arith, room)
+
+-- a row with this stamp and these columns
+abbrev row_with : ℕ → Columns → Stamped
+row_with stamp row = record { stamp = stamp; row = row }
 
 -- contents in which each tenant has the same map are one
 by_tenants : (a b : Contents) → ((t : ℕ) → tenant_map t a ≡ tenant_map t b) → a ≡ b
@@ -173,34 +153,42 @@ module _ (v0 : StateView) (p : TenantPair) (idle : IsIdle v0) (may : MayPut v0 p
 
   -- once it has run to its end, and was told something else than that there was no memory
   module _ (v2 v3 : StateView) (answer : Answer) (runs : Runs v1 v2 o DoneMove) (ends : EndsAlone v1 v2 o (begun 0 p.tenant (put_of p) v0.steps) DoneMove) (takes : Takes v2 v3 o answer) where
-    told : answer.reply ≡ ends.told.reply
-    told =
+    said : ends.told ≡ record { reply = answer.reply; at = answer.at }
+    said =
         let same : takes.op ≡ ends.after = same_Some _ _ (sym takes.there ∙ ends.there) in
-        ap (λ (t : Outcome). t.reply) (same_Some _ _ (sym takes.told.told ∙ ap (λ (op : OperationView). op.outcome) same ∙ ends.has))
+        same_Some ends.told (record { reply = answer.reply; at = answer.at }) (sym ends.has ∙ sym (ap (λ (op : OperationView). op.outcome) same) ∙ takes.told.told)
+
+    told : answer.reply ≡ ends.told.reply
+    told = sym (ap (λ (t : Outcome). t.reply) said)
+
+    -- by the number of its answer
+    number : answer.at ≡ ends.told.at
+    number = sym (ap (λ (t : Outcome). t.at) said)
 
     -- it was told that its pair is new
     pub told_new : (answer.reply ≡ NoMemory) ⊎ (answer.reply ≡ New)
     told_new = elim ends.outcome [
       | inl none ↦ inl (told ∙ none.0)
-      | inr run ↦ inr (told ∙ run.told ∙ told_put (quota_of v1 p.tenant) p.key (indexed 0 p.row) (tenant_map p.tenant (contents_of v1)) missing_now room_now)
+      | inr run ↦ inr (told ∙ run.told ∙ told_put (quota_of v1 p.tenant) p.key (indexed 0 p.row.row) (tenant_map p.tenant (contents_of v1)) missing_now room_now)
     ]
 
     -- the maps have the pair then
-    made : IsRun v1 v2 (begun 0 p.tenant (put_of p) v0.steps) ends.told.reply → (t : ℕ) → tenant_map t (contents_of v2) ≡ tenant_map t (with_pair p (contents_of v0))
+    made : IsRun v1 v2 (begun 0 p.tenant (put_of p) v0.steps) ends.told.at ends.told.reply → (t : ℕ) → tenant_map t (contents_of v2) ≡ tenant_map t (with_put p answer.at (contents_of v0))
     made run t = run.makes t ∙ here (eqb t p.tenant) refl
       where
         here : (b : Bool) → eqb t p.tenant ≡ b
-            → cond b (map_after (quota_of v1 t) (put_of p) (tenant_map t (contents_of v1))) (tenant_map t (contents_of v1)) ≡ tenant_map t (with_pair p (contents_of v0))
-        here true e = subst (λ u. map_after (quota_of v1 u) (put_of p) (tenant_map u (contents_of v1)) ≡ tenant_map u (with_pair p (contents_of v0))) (sym (eqb-true t p.tenant e))
-            (after_put (quota_of v1 p.tenant) p.key (indexed 0 p.row) (tenant_map p.tenant (contents_of v1)) missing_now room_now
-            ∙ ap (pairs.insert (tenant_map p.tenant (contents_of v1)) p.key) (changed_indexed p.row may.limits.1)
-            ∙ ap (λ m. pairs.insert m p.key p.row) (maps_begun p.tenant)
-            ∙ sym (tenant_map-insert p.tenant (contents_of v0) p.key p.row))
-        here false e = maps_begun t ∙ sym (tenant_map-insert_other t p.tenant (contents_of v0) p.key p.row (λ is. eqb-false t p.tenant e (sym is)))
+            → cond b (map_after (quota_of v1 t) ends.told.at (put_of p) (tenant_map t (contents_of v1))) (tenant_map t (contents_of v1)) ≡ tenant_map t (with_put p answer.at (contents_of v0))
+        here true e = subst (λ u. map_after (quota_of v1 u) ends.told.at (put_of p) (tenant_map u (contents_of v1)) ≡ tenant_map u (with_put p answer.at (contents_of v0))) (sym (eqb-true t p.tenant e))
+            (after_put (quota_of v1 p.tenant) ends.told.at p.key (indexed 0 p.row.row) (tenant_map p.tenant (contents_of v1)) missing_now room_now
+            ∙ ap (λ row. pairs.insert (tenant_map p.tenant (contents_of v1)) p.key (row_with ends.told.at row)) (changed_indexed p.row.row may.limits.1)
+            ∙ ap (λ n. pairs.insert (tenant_map p.tenant (contents_of v1)) p.key (row_put p n)) (sym number)
+            ∙ ap (λ m. pairs.insert m p.key (row_put p answer.at)) (maps_begun p.tenant)
+            ∙ sym (tenant_map-insert p.tenant (contents_of v0) p.key (row_put p answer.at)))
+        here false e = maps_begun t ∙ sym (tenant_map-insert_other t p.tenant (contents_of v0) p.key (row_put p answer.at) (λ is. eqb-false t p.tenant e (sym is)))
 
-    -- all is as it was but for the pair
-    pub has_put : answer.reply ≡ New → HasPut v0 v3 (with_pair p (contents_of v0))
-    has_put new = elim ends.outcome [
+    -- all is as it was but for the pair, which has the answer's number
+    pub has_one_more : answer.reply ≡ New → HasOneMore v0 v3 p answer.at
+    has_one_more new = elim ends.outcome [
       | inl none ↦ absurd (other (sym new ∙ told ∙ none.0))
       | inr run ↦
           let along = along_runs v1 v2 o runs in
@@ -208,7 +196,9 @@ module _ (v0 : StateView) (p : TenantPair) (idle : IsIdle v0) (may : MayPut v0 p
             idle = gone;
             logs = ap (λ (v : StateView). length v.logs) takes.gone ∙ ap length along.logs ∙ ap (λ (v : StateView). length v.logs) begins.stands;
             granted_so = λ t. ap (λ (v : StateView). granted v t) takes.gone ∙ along.granted_so t ∙ ap (λ (v : StateView). granted v t) begins.stands;
-            contents = ap contents_of takes.gone ∙ by_tenants (contents_of v2) (with_pair p (contents_of v0)) (made run);
+            contents = ap contents_of takes.gone ∙ by_tenants (contents_of v2) (with_put p answer.at (contents_of v0)) (made run);
+            since = let before = ap (λ (v : StateView). v.steps) begins.stands in omega (arith, before, number, run.since);
+            upto = let ended = ap (λ (v : StateView). v.steps) takes.gone in omega (arith, ended, number, run.upto);
           }
     ]
       where
@@ -236,23 +226,33 @@ counts_so n None (Some b) same count = absurd (none-some b.quota same)
 counts_so n (Some a) None same count = absurd (none-some a.quota (sym same))
 
 -- a new state that was put the pairs is restored once it counts anew
-pub is_restored : (steps logs : ℕ) (accounts : Accounts) (ps : List TenantPair) (start : StateView) (inside c d : Core) → start ≡ new_state logs accounts → HasPut start (shown c) (pairs_of ps)
-    → inside ≡ c → StateInvariant inside → d ≡ core_renumbered steps c → IsRestored steps logs accounts ps (shown d)
-is_restored steps logs accounts ps start inside c d new put same sound is =
-    subst (λ e. IsRestored steps logs accounts ps (shown e)) (sym is) (record {
-      steps_are = refl;
-      answers_are = refl;
-      logs_are = ap (λ n. replicate n steps) (put.logs ∙ ap (λ (v : StateView). length v.logs) new ∙ length-replicate logs 0);
-      tape_is = refl;
-      table_is = refl;
-      contents_are = content-renumbered steps c.arena.trees c.arena.nodes ∙ put.contents;
-      accounts_are = λ t. counts_so (pairs.len (tenant_map t (pairs_of ps))) (account_of c.accounts t) (account_of accounts t) (put.granted_so t ∙ ap (λ (v : StateView). granted v t) new)
-          (λ a there. ((kept same sound).counts t a there).0 ∙ ap (λ x. pairs.len (tenant_map t x)) put.contents);
-      stamps = λ k within counted.
-          subst (λ (n : NodeView). AllStamped (λ q s. s ≡ steps) (tree_at c.arena.trees n.tree).prefix n.slots) (sym (at-renumbered steps c.arena.nodes k))
-          (all-restamped (λ q s. s ≡ steps) steps (tree_at c.arena.trees (at c.arena k).tree).prefix (at c.arena k).slots (λ q. refl));
-      versions = λ k within. subst IsUncounted (sym (at-renumbered steps c.arena.nodes k)) (record { inserts = refl; splits = refl });
-    })
-  where
-    kept : inside ≡ c → StateInvariant inside → StateInvariant c
-    kept e h = subst (λ (x : Core). StateInvariant x) e h
+module _ (steps logs : ℕ) (accounts : Accounts) (ps : List TenantPair) (stamps : BTreeMap ℕ ℕ) (start : StateView) (c : Core) (new : start ≡ new_state logs accounts)
+    (put : HasPut start (shown c) stamps (pairs_of ps)) (sound : StateInvariant c) (arena : IsArena c.arena.nodes c.arena.trees) where
+  abbrev f : ℕ → ℕ
+  f = new_stamp stamps
+
+  -- each slot that counts has the stamp of its pair in the list
+  stamped : (k : ℕ) → k < length c.arena.nodes → counts c.arena.trees (at c.arena k) ≡ true
+      → AllStamped (λ q s. IsStampIn (pairs_of ps) q (f s)) (tree_at c.arena.trees (at c.arena k).tree).prefix (at c.arena k).slots
+  stamped k within counted = stamped_slots c.arena arena k within counted (λ q s. IsStampIn (pairs_of ps) q (f s))
+      (λ q r there. ap (option_map (λ (x : Stamped). x.stamp)) (put.contents q ∙ ap (option_map (restamped_row f)) there))
+
+  restored : IsRestored steps logs accounts ps (shown (core_renumbered steps f c))
+  restored = record {
+    steps_are = refl;
+    answers_are = refl;
+    logs_are = ap (λ n. replicate n steps) (put.logs ∙ ap (λ (v : StateView). length v.logs) new ∙ length-replicate logs 0);
+    tape_is = refl;
+    table_is = refl;
+    contents_are = same_contents (contents_of (shown (core_renumbered steps f c))) (pairs_of ps) (λ q. content-renumbered f c.arena.trees c.arena.nodes q ∙ sym (put.contents q));
+    accounts_are = λ t. counts_so (pairs.len (tenant_map t (pairs_of ps))) (account_of c.accounts t) (account_of accounts t) (put.granted_so t ∙ ap (λ (v : StateView). granted v t) new)
+        (λ a there. (sound.counts t a there).0 ∙ sym (len-restamped f (contents_of (shown c)) (pairs_of ps) put.contents t));
+    stamps = λ k within counted.
+        subst (λ (n : NodeView). AllStamped (IsStampIn (pairs_of ps)) (tree_at c.arena.trees n.tree).prefix n.slots) (sym (at-renumbered f c.arena.nodes k))
+        (all-restamped (λ q s. IsStampIn (pairs_of ps) q (f s)) (IsStampIn (pairs_of ps)) f (tree_at c.arena.trees (at c.arena k).tree).prefix (at c.arena k).slots (λ q s has. has)
+        (stamped k (omega (arith, within, size-renumbered f c.arena.nodes)) (sym (ap (counts c.arena.trees) (at-renumbered f c.arena.nodes k)) ∙ counted)));
+    versions = λ k within. subst IsUncounted (sym (at-renumbered f c.arena.nodes k)) (record { inserts = refl; splits = refl });
+  }
+
+  pub is_restored : (d : Core) → d ≡ core_renumbered steps f c → IsRestored steps logs accounts ps (shown d)
+  is_restored d is = subst (λ e. IsRestored steps logs accounts ps (shown e)) (sym is) restored

@@ -2,7 +2,7 @@
 use Rattle.std.proofs.Common.{◌≡◌, ◌≢◌, ℕ, ◌+◌, ◌-◌, ◌<◌, ◌≤◌, Bool, true, false, List, Option, None, Some, sym, refl, ap, ◌∙◌, arith}
 use Rattle.std.proofs.lemmas.Option.{same_Some, none-some}
 use Rattle.std.specs.{Prelude.{if◌then◌else◌}, List.Contains}
-use Rattle.mt_rows.specs.{declared.command.Command.Command, declared.reply.Reply.Reply, Rows.{Bytes, Columns}, Maps.{reply_of, is_change}, Tenants.tenant_map}
+use Rattle.mt_rows.specs.{declared.command.Command.Command, declared.reply.Reply.Reply, Rows.Bytes, Stamps.Stamped, Maps.{reply_of, is_change}, Tenants.tenant_map}
 use Rattle.mt_tape.specs.{declared.entry.Entry.{Entry as TapeEntry}, Tapes.Kept, Histories.{contents_at, is_changed}}
 use Rattle.mt_arena.specs.Arena.{ArenaView, content_of}
 use Rattle.mt_operation.specs.{declared.outcome.Outcome.Outcome, declared.operation.Operation.Operation, declared.phase.Phase.Phase}
@@ -33,7 +33,7 @@ pub record TellsOf (c : Core) (tape : Kept) (op : Operation) : Type 0 where
   pub writes : 0 < op.walk.first → (e : TapeEntry) → op.walk.first ≤ e.step → Contains c.tape.entries e → Contains tape.entries e
 
 -- a walk that has begun goes on by a past that tells the same from its first step on
-kept_past : (v : ArenaView) (old new : Past) (key : Bytes) (row : Option Columns) (w : Walk) (p : Phase) → (p ≢ Enter → ExtendsPast w.first old new)
+kept_past : (v : ArenaView) (old new : Past) (key : Bytes) (row : Option Stamped) (w : Walk) (p : Phase) → (p ≢ Enter → ExtendsPast w.first old new)
     → KeptAt p v old key row w → KeptAt p v new key row w
 kept_past v old new key row w Confirm past h = descent.kept_stays 0 v v (nothing_changes 0 v).nodes old new key row w Confirm (past (λ e. cc)) (λ e. absurd (cc)) h
 kept_past v old new key row w Done past h = descent.kept_stays 0 v v (nothing_changes 0 v).nodes old new key row w Done (past (λ e. cc)) (λ e. absurd (cc)) h
@@ -55,7 +55,7 @@ module _ (c : Core) (o : ℕ) (op : Operation) where
       at_of true e = same_Some told.at m e
       at_of false e = absurd (none-some m e)
 
-  taken_none : (row : Option Columns) (taken : Taken) → TellsTaken op row taken → (m : ℕ) → change_in (view_of op) ≡ Some m → ⊥
+  taken_none : (row : Option Stamped) (taken : Taken) → TellsTaken op row taken → (m : ℕ) → change_in (view_of op) ≡ Some m → ⊥
   taken_none row Missing h m is = looked _ refl h m is
   taken_none row Row h m is = looked _ refl h.4 m is
   taken_none row (Link u) h m is = no_change h m is
@@ -118,7 +118,7 @@ module _ (c : Core) (answers : ℕ) (logs : List ℕ) (tape : Kept) (table : Tab
   past_stays : 0 < op.walk.first → ExtendsPast op.walk.first (past_of c) (past_of new)
   past_stays begun = record { steps = omega arith; same = λ n from upto. t.contents begun n (omega (arith, from)) }
 
-  walk_stays : (row : Option Columns) → IsKept c.arena (past_of c) op.task.key row op.walk → IsKept new.arena (past_of new) op.task.key row op.walk
+  walk_stays : (row : Option Stamped) → IsKept c.arena (past_of c) op.task.key row op.walk → IsKept new.arena (past_of new) op.task.key row op.walk
   walk_stays row h = kept_past c.arena (past_of c) (past_of new) op.task.key row op.walk op.walk.phase (λ other. past_stays (k.begun other)) h
 
   same_map : 0 < op.walk.first → (u m : ℕ) → op.walk.first ≤ m + 1 → map_of (shown new) u m ≡ map_of (shown c) u m
@@ -250,6 +250,7 @@ module _ (c : Core) (answers : ℕ) (logs : List ℕ) (tape : Kept) (table : Tab
           tenant = once.tenant;
           key_is = once.key_is;
           makes = once.makes;
+          keeps = once.keeps;
           was = once.was;
         };
   }

@@ -21,6 +21,7 @@ module _ (c : Core) (h : StateInvariant c) where
       tenant = once.tenant;
       key_is = once.key_is;
       makes = once.makes;
+      keeps = once.keeps;
       was = once.was;
     };
   }

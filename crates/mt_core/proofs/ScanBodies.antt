@@ -1,6 +1,6 @@
 -- What the bodies of a scan's steps make of its operation: for `snap_node` and `check_node`.
 use Rattle.std.proofs.Common.{◌≡◌, ◌≢◌, ℕ, List, Option, Some, None, inl, refl, sym, ap, subst, ◌∙◌}
-use Rattle.mt_rows.specs.{declared.reply.Reply.TheVariants.{NoMemory, Pairs}, Limits.ArePairs, Rows.Columns}
+use Rattle.mt_rows.specs.{declared.reply.Reply.TheVariants.{NoMemory, Pairs}, Limits.ArePairs, Stamps.Stamped}
 use Rattle.mt_arena.specs.{Arena.ArenaView, Accesses.at}
 use Rattle.mt_operation.specs.{declared.phase.Phase.Phase, declared.phase.Phase.TheVariants.Done, declared.walk.Walk.Walk, declared.task.Task.Task}
 use Rattle.mt_operation.specs.{declared.scan.Scan.Scan, declared.operation.Operation.Operation, Operations.{splits_of, scan_of}}
@@ -68,7 +68,7 @@ module _ (v : ArenaView) (op : Operation) where
   pub compared : (step : ℕ) (task : Task) (w : Walk) (scan : Scan) (after : Operation) (r : Option ℕ) → r ≡ None
       → ((count : ℕ) (columns : List ℕ) → Asks op.task count columns → ChecksSo task w scan count columns r)
       → IsStillScan op.task task → Continues op.walk w
-      → (r ≡ None → w.phase ≢ Done → (past : Past) (row : Option Columns) → KeptScan w.phase v past task.key row w scan.stop)
+      → (r ≡ None → w.phase ≢ Done → (past : Past) (row : Option Stamped) → KeptScan w.phase v past task.key row w scan.stop)
       → (w.phase ≡ Done → after ≡ record (went op task w scan) { outcome = Some (record { reply = Pairs scan.collected.items; at = step }); scan = after.scan })
       → (w.phase ≢ Done → after ≡ went op task w scan) → after.walk ≡ w → TellsCompared v step op after
   compared step task w scan after r is checks still same kept ends goes walk = inl (record {

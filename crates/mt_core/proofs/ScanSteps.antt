@@ -1,7 +1,7 @@
 -- What the steps of a scan ask of the invariant, and what they tell: for `Inner::look`.
 use Rattle.std.{proofs.Common.{◌≡◌, ◌≢◌, ℕ, ◌+◌, ◌<◌, inl, inr, Bool, true, false, set, Option, Some, None, refl, sym, ap, subst, ◌∙◌}, specs.Prelude.{◌^◌}}
 use Rattle.mt_slices.specs.Keys.{IsStoredKey, tenant_of}
-use Rattle.mt_rows.specs.{declared.reply.Reply.TheVariants.{NoMemory, Pairs}, Maps.{is_scan, Map}, Rows.{Bytes, Columns}}
+use Rattle.mt_rows.specs.{declared.reply.Reply.TheVariants.{NoMemory, Pairs}, Maps.{is_scan, Map}, Rows.Bytes, Stamps.Stamped}
 use Rattle.mt_arena.specs.{Arena.{ArenaView, IsArena}, Accesses.at}
 use Rattle.mt_operation.specs.{declared.phase.Phase.Phase, declared.phase.Phase.TheVariants.{Snap, Check, Hop, Done}, declared.walk.Walk.Walk}
 use Rattle.mt_operation.specs.{declared.task.Task.Task, declared.scan.Scan.Scan, declared.scan.Stop.Stop, declared.outcome.Outcome.Outcome}
@@ -24,7 +24,7 @@ use Rattle.mt_stretches.specs.Scanned.{IsSeenTo, maps_of}
 use Rattle.mt_operation.specs.declared.walk.Aim.TheVariants as aims
 
 -- on its way a scan keeps what any walk does
-on_way_kept : (p : Phase) → IsOnWay p → (v : ArenaView) (past : Past) (key : Bytes) (row : Option Columns) (w : Walk) (stop : Stop) → KeptScan p v past key row w stop
+on_way_kept : (p : Phase) → IsOnWay p → (v : ArenaView) (past : Past) (key : Bytes) (row : Option Stamped) (w : Walk) (stop : Stop) → KeptScan p v past key row w stop
     → KeptAt p v past key row w
 on_way_kept Check on v past key row w stop h = absurd on
 on_way_kept Hop on v past key row w stop h = absurd on

@@ -2,7 +2,7 @@
 use Rattle.std.proofs.{Common.{◌≡◌, ℕ, zero, suc, ◌<◌, ◌≤◌, List, [], replicate, sym, refl, ap, subst, ◌∙◌, arith}, lemmas.List.length-replicate}
 use Rattle.std.proofs.lemmas.List.Elements.{All-replicate}
 use Rattle.std.specs.{FinMap.{len, len-empty}, Ordering.nat_cmp, Cmp.Lexicographic.slice_cmp}
-use Rattle.mt_rows.specs.{Rows.Columns, Accounts.Accounts, Tenants.tenant_map}
+use Rattle.mt_rows.specs.{Stamps.Stamped, Accounts.Accounts, Tenants.tenant_map}
 use Rattle.mt_tape.specs.Tapes.{Kept}
 use Rattle.mt_arena.{specs.{Arena.{ArenaView, content_of}, Accesses.new_arena}, proofs.Out.upto_none}
 use Rattle.mt_operation.specs.Tables.{Table}
@@ -19,7 +19,7 @@ start logs accounts = record { steps = 0; answers = 0; logs = replicate logs 0; 
 
 -- no tenant has a pair in a new arena
 no_len : (t : ℕ) → len (tenant_map t (content_of new_arena)) ≡ 0
-no_len t = ap (λ x. len (tenant_map t x)) content-new ∙ ap len (tenant_map-empty t) ∙ len-empty (slice_cmp nat_cmp) Columns
+no_len t = ap (λ x. len (tenant_map t x)) content-new ∙ ap len (tenant_map-empty t) ∙ len-empty (slice_cmp nat_cmp) Stamped
 
 never : {P : Type 0} (k : ℕ) → k < 0 → P
 never k lt = absurd (omega (arith, lt))

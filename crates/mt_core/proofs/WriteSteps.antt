@@ -15,7 +15,8 @@ use Rattle.mt_state.{specs.KeptBack.ArenaFacts, proofs.Giving.{are_forgotten, ma
 use Rattle.mt_rows.specs.{Rows.Bytes, Accounts.Accounts}
 use Rattle.mt_table.specs.{declared.steps.Made.Made, declared.steps.Made.TheVariants.{Step, Blocked, NoMemory, Nothing}}
 use Rattle.mt_layer.specs.Builds.{IsLayerFrom}
-use Rattle.mt_remove.specs.Ways.{Follows}
+use Rattle.mt_insert.specs.Puts.{IsPut}
+use Rattle.mt_remove.specs.{Ways.Follows, Writes.is_remove}
 use Rattle.mt_state.specs.{declared.moves.Move.Move, declared.moves.Move.TheVariants.{Moved, Again, NoSuch, NoMemory as NoMemoryMove, Done as DoneMove}}
 use Rattle.mt_state.specs.{Views.{Core, Shown, shown, op_at}, Promises.{Tells, IsStep, HasStep, IsInTheWay}, Invariant.StateInvariant}
 use Rattle.mt_state.proofs.{Shown.shown_there, Lawful.put_no_scan}
@@ -24,7 +25,7 @@ use Rattle.mt_state.proofs.{ClimbingNodes.climb_makes, RemovalBy.removes_by}
 use Rattle.mt_core.specs.{Nexts.{IsNext, ending}, Points.StepsOn}
 use Rattle.mt_core.specs.Writes.{Parts, parts, Telling, Writes, WritesAt, MayWrite, MayGive, MayJudge, MayPlace, MayClimb, MayBuild, MayTake, MayUnlock, TellsLocked, TellsJudged, TellsStored, TellsFilled, TellsPublished, TellsBegun, TellsParted, TellsClimbed, TellsBuilt, TellsDropped, TellsTaken, TellsUnlocked}
 use Rattle.mt_core.proofs.Following.{IsSound, IsOver, made, holder_open, in_the_way}
-use Rattle.mt_core.proofs.PutSteps.{judged_put, lock_made, unlock_made, ready_made, on_made, link_made, refused_made, store_made, fill_made, publish_made, full_made}
+use Rattle.mt_core.proofs.PutSteps.{judged_put, lock_made, unlock_made, ready_made, on_made, link_made, refused_made, stale_made, store_made, fill_made, publish_made, full_made}
 use Rattle.mt_core.proofs.LayerSteps.{build_made, stop_made, leave_made}
 use Rattle.mt_core.proofs.SplitSteps.{start_asks, start_none, start_made, start_stopped, move_ready, move_kept, parts_with, parts_without, all_unlock, all_room, returns_made}
 use Rattle.mt_core.proofs.ClimbSteps.{climb_kept, climb_holds, climb_made, climb_refused}
@@ -120,13 +121,19 @@ module _ (c now : Core) (o : ℕ) (is : c ≡ now) (h : StateInvariant c) (few :
       answers_on to after table counts (rest_gives to table Moved t.on.rest
       (back_made c now o is h few op there e t.told arena to.arena after.walk table t.locks (over_by table after _ counts t.on.others))) answer ends
 
+  -- who judges and removes nothing puts
+  puts_there : op.walk.phase ≡ Judge → is_remove (ask op.task) ≡ false → IsPut op.task
+  puts_there e stays = let put = judged_put c o h op there e stays in record { put_is = put; owner = (h.ops o op there).always.owner (put_no_scan (ask op.task) put) }
+
   judge_comes : IsArena c.arena.nodes c.arena.trees → op.walk.phase ≡ Judge → Comes (TellsJudged o (c.steps + 1))
   judge_comes arena e to after (inl t) table counts answer ends = elim t.comes [
     | inl ready ↦ answers_on to after table counts (tape_gives to table Moved ready.accounts
         (ready_made c now o is h few op there e t.untold (judged_put c o h op there e t.stays) to.arena to.tape after.walk ready.prepared table ready.ready (over_by table after _ counts ready.others))) answer ends
     | inr (inl goes) ↦ answers_on to after table counts (rest_gives to table Moved goes.1.rest
         (on_made c now o is h few op there e arena t.untold t.stays to.arena c.tape after.walk table refl goes.0 (over_by table after _ counts goes.1.others))) answer ends
-    | inr (inr short) ↦ answers_end to after table counts (rest_gives to table DoneMove short.1.rest
+    | inr (inr (inl stale)) ↦ answers_end to after table counts (rest_gives to table DoneMove stale.2.rest
+        (stale_made c now o is h few op there e t.untold (puts_there e t.stays) stale.0 to.arena c.tape after.walk table refl stale.1 (over_by table after _ counts stale.2.others))) answer ends
+    | inr (inr (inr short)) ↦ answers_end to after table counts (rest_gives to table DoneMove short.1.rest
         (refused_made c now o is h few op there e t.untold to.arena c.tape after.walk table refl short.0.unlocks short.0.slot short.0.stands (over_by table after _ counts short.1.others))) answer ends
   ]
   judge_comes arena e to after (inr (inl t)) table counts answer ends = elim t.comes [
@@ -250,7 +257,7 @@ module _ (c now : Core) (o : ℕ) (is : c ≡ now) (h : StateInvariant c) (few :
   may_judge : op.walk.phase ≡ Judge → MayJudge o c.arena op
   may_judge e = record {
     kept = judge_kept c o h op there e;
-    puts = λ stays untold. let put = judged_put c o h op there e stays in record { put_is = put; owner = (h.ops o op there).always.owner (put_no_scan (ask op.task) put) };
+    puts = λ stays untold. puts_there e stays;
     removes = removal_of c o h op there;
   }
 
@@ -343,7 +350,8 @@ module _ (c now : Core) (o : ℕ) (is : c ≡ now) (h : StateInvariant c) (few :
       | inl meets ↦ meets.keeps.same.first
       | inr link ↦ link.goes.keeps.same.first
     ]
-    | inr (inr short) ↦ short.0.unlocks.keeps.same.first
+    | inr (inr (inl stale)) ↦ stale.1.unlocks.keeps.same.first
+    | inr (inr (inr short)) ↦ short.0.unlocks.keeps.same.first
   ]
   judge_first to after (inr (inl t)) = elim t.comes [
     | inl ready ↦ ready.ready.keeps.same.first
@@ -425,7 +433,8 @@ module _ (c now : Core) (o : ℕ) (is : c ≡ now) (h : StateInvariant c) (few :
   judge_birth to after (inl t) = elim t.comes [
     | inl ready ↦ ap birth_in ready.others
     | inr (inl goes) ↦ ap birth_in goes.1.others
-    | inr (inr short) ↦ ap birth_in short.1.others
+    | inr (inr (inl stale)) ↦ ap birth_in stale.2.others
+    | inr (inr (inr short)) ↦ ap birth_in short.1.others
   ]
   judge_birth to after (inr (inl t)) = elim t.comes [
     | inl ready ↦ ap birth_in ready.others

@@ -46,11 +46,14 @@ pub record IsUndisturbed (v : StateView) (o : ℕ) (op : OperationView) : Type 0
   pub free : (k q : ℕ) → k < length v.arena.nodes → (at v.arena k).holder ≡ Some q → q ≡ o
   pub numbers : v.steps + most_steps v op.command ≤ 2 ^ 59
 
--- the reply is that of the operation's command on its tenant's map, and the maps are those that the command leaves
-pub record IsRun (old new : StateView) (op : OperationView) (reply : Reply) : Type 0 where
+-- The reply is that of the operation's command on its tenant's map. The maps are those that the command leaves with this number, which is that of a step of
+-- the run.
+pub record IsRun (old new : StateView) (op : OperationView) (number : ℕ) (reply : Reply) : Type 0 where
+  pub since : old.steps < number
+  pub upto : number ≤ new.steps
   pub told : reply ≡ reply_of (quota_of old op.tenant) op.command (tenant_map op.tenant (contents_of old))
   pub makes : (t : ℕ)
-      → tenant_map t (contents_of new) ≡ maps_after_one (quota_of old) (Some (record { tenant = op.tenant; command = op.command })) (λ u. tenant_map u (contents_of old)) t
+      → tenant_map t (contents_of new) ≡ maps_after_one (quota_of old) number (Some (record { tenant = op.tenant; command = op.command })) (λ u. tenant_map u (contents_of old)) t
 
 -- it is done, or it has placed its change and there is no memory for a node
 abbrev pub EndsAt : Move → Phase → Type 0
@@ -67,7 +70,7 @@ pub record EndsAlone (old new : StateView) (o : ℕ) (op : OperationView) (answe
   pub ends : EndsAt answer after.phase
   pub told : Outcome
   pub has : after.outcome ≡ Some told
-  pub outcome : ((told.reply ≡ NoMemory) × (contents_of new ≡ contents_of old)) ⊎ IsRun old new op told.reply
+  pub outcome : ((told.reply ≡ NoMemory) × (contents_of new ≡ contents_of old)) ⊎ IsRun old new op told.at told.reply
 
 -- how the run ends of an operation that nobody disturbs from now on: it is done, or there is no memory for a node that its split needs, after so few steps
 pub record EndsSoon (old new : StateView) (o : ℕ) (op : OperationView) (answer : Move) : Type 0 where

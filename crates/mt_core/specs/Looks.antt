@@ -1,6 +1,6 @@
 -- What the steps make of an operation that holds nothing: a step down, a get's search, load and confirmation, and the steps of a scan.
 use Rattle.std.specs.Prelude.{◌≡◌, ◌≢◌, ℕ, ◌+◌, ◌≤◌, ◌⊎◌, true, List, Option, Some, None}
-use Rattle.mt_rows.specs.{Rows.Columns, Commands.HasColumns, Maps.is_get, Limits.ArePairs, declared.reply.Reply.TheVariants.{Absent, NoMemory, Pairs}}
+use Rattle.mt_rows.specs.{Stamps.Stamped, Commands.HasColumns, Maps.is_get, Limits.ArePairs, declared.reply.Reply.TheVariants.{Absent, NoMemory, Pairs}}
 use Rattle.mt_border.specs.declared.entry.Find.{Find}
 use Rattle.mt_version.specs.Changes.{IsStable}
 use Rattle.mt_arena.specs.{Arena.ArenaView, Accesses.at}
@@ -60,13 +60,13 @@ pub record TellsDescended (v : ArenaView) (op after : Operation) : Type 0 where
 pub record TellsSearched (v : ArenaView) (step : ℕ) (op after : Operation) : Type 0 where
   pub found : (f : Find) × FindsIn (at v op.walk.place.node) op.task.key op.walk.layer f × (after.walk ≡ after_search f op.walk step)
   pub same : Continues op.walk after.walk
-  pub kept : (past : Past) (row : Option Columns) → AreStamped past v → IsNow past step v → op.walk.first ≤ step → IsKept v past op.task.key row after.walk
+  pub kept : (past : Past) (row : Option Stamped) → AreStamped past v → IsNow past step v → op.walk.first ≤ step → IsKept v past op.task.key row after.walk
   pub missing : after.walk.phase ≡ Confirm → after ≡ led_to op after.walk (Some (record { reply = Absent; at = step }))
   pub there : after.walk.phase ≢ Confirm → after ≡ led_to op after.walk op.outcome
 
 -- a load by the step of this number: what it took is shown, and is to be confirmed; or a row was there, and no memory to show it
 pub record TellsLoaded (v : ArenaView) (step : ℕ) (op after : Operation) : Type 0 where
-  pub row : Option Columns
+  pub row : Option Stamped
   pub walk : Walk
   pub loads : Loads (at v op.walk.place.node) op.walk walk row
   pub others : after ≡ led_to op after.walk after.outcome
@@ -77,7 +77,7 @@ pub record TellsConfirmed (v : ArenaView) (op after : Operation) : Type 0 where
   pub stable : IsStable (at v op.walk.place.node).version
   pub confirms : Confirms (at v op.walk.place.node) op.walk after.walk
   pub same : Continues op.walk after.walk
-  pub kept : (past : Past) (row : Option Columns) → IsAtConfirm v past op.task.key row op.walk → IsKept v past op.task.key row after.walk
+  pub kept : (past : Past) (row : Option Stamped) → IsAtConfirm v past op.task.key row op.walk → IsKept v past op.task.key row after.walk
   pub done : after.walk.phase ≡ Done → after ≡ led_to op after.walk op.outcome
   pub goes_on : after.walk.phase ≢ Done → after ≡ led_to op after.walk None
 
@@ -121,7 +121,7 @@ pub record Compares (v : ArenaView) (step : ℕ) (op after : Operation) : Type 0
       → IsCheck (at v op.walk.place.node) (prefix_in v op.walk) count columns op.walk after.walk (scan_of op.task op.scan) (scan_of task scan)
   pub still : IsStillScan op.task task
   pub same : Continues op.walk after.walk
-  pub kept : after.walk.phase ≢ Done → (past : Past) (row : Option Columns) → KeptScan after.walk.phase v past task.key row after.walk scan.stop
+  pub kept : after.walk.phase ≢ Done → (past : Past) (row : Option Stamped) → KeptScan after.walk.phase v past task.key row after.walk scan.stop
   pub goes_on : after.walk.phase ≢ Done → after ≡ record op { walk = after.walk; task = task; scan = scan }
   pub ends : after.walk.phase ≡ Done
       → after ≡ record op { walk = after.walk; task = task; outcome = Some (record { reply = Pairs scan.collected.items; at = step }); scan = after.scan }

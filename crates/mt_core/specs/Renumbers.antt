@@ -1,17 +1,23 @@
 -- A state whose counting begins anew.
-use Rattle.std.specs.Prelude.{ℕ, [], length, replicate}
+use Rattle.std.specs.Prelude.{◌≡◌, ℕ, ◌≤◌, [], length, replicate, Some}
+use Rattle.mt_rows.specs.{Rows.Bytes, Stamps.Stamped, Tenants.Contents}
 use Rattle.mt_arena.specs.Renumbers.{arena_renumbered}
 use Rattle.mt_state.specs.Views.{Core}
+use Rattle.std.specs.FinMap as pairs
+
+-- no pair gets a stamp over a number from this function
+abbrev pub AreGivenUpto : ℕ → (ℕ → ℕ) → Contents → Type 0
+AreGivenUpto number f contents = (q : ℕ × Bytes) (r : Stamped) → pairs.get contents q ≡ Some r → f r.stamp ≤ number
 
 -- so many steps were made, no answer was taken and no operation is open; the tape and the logs begin there, no node's version counts a change, and
--- all pairs were placed by the last of these steps
-abbrev pub core_renumbered : ℕ → Core → Core
-core_renumbered steps c = record {
+-- each pair has the stamp that a function gives for its own
+abbrev pub core_renumbered : ℕ → (ℕ → ℕ) → Core → Core
+core_renumbered steps f c = record {
   steps = steps;
   answers = 0;
   logs = replicate (length c.logs) steps;
   accounts = c.accounts;
-  arena = arena_renumbered steps c.arena;
+  arena = arena_renumbered steps f c.arena;
   tape = record { entries = []; floor = steps; reserved = 0 };
   table = [];
 }

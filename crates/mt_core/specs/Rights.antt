@@ -1,13 +1,13 @@
 -- What holds of every state, by what it shows.
 use Rattle.std.specs.{Prelude.{◌≡◌, ℕ, ◌+◌, ◌<◌, ◌≤◌, true, Some, IsSome, length}, List.{All, Contains}, FinMap.len}
 use Rattle.mt_rows.specs.{declared.tenants.Account.Account, Accounts.account_of, Commands.{key_of, IsKey}, Tenants.tenant_map}
-use Rattle.mt_tape.specs.{declared.entry.Entry.{Entry as TapeEntry}, Tapes.{RisesOver, last_write}, Histories.IsLegalTape}
+use Rattle.mt_tape.specs.{declared.entry.Entry.{Entry as TapeEntry}, Tapes.{RisesOver, last_write}, Histories.{IsLegalTape, after_of}}
 use Rattle.mt_remove.specs.Writes.{is_remove}
 use Rattle.mt_border.specs.Contents.{AllStamped}
 use Rattle.mt_arena.specs.{Contents.counts, Accesses.{at, tree_of}}
 use Rattle.mt_operation.specs.{declared.outcome.Outcome.Outcome, Operations.OperationView, Phases.is_done}
 use Rattle.mt_state.specs.{Views.{StateView, contents_of, op_at}, Steps.change_in, Promises.{IsAnswer, HasStep}, Invariant.{AreLogs, IsStampOf, made_count}}
-use Rattle.mt_state.specs.Written.{KeepsQuotas, IsWritten, row_left}
+use Rattle.mt_state.specs.Written.{KeepsQuotas, IsWritten, row_left, change_kept}
 
 -- the steps of the tape rise over its floor and were made, each entry tells what its step did to a user's key, and it goes back as far as the logs need it
 pub record IsRightTape (v : StateView) : Type 0 where
@@ -17,8 +17,8 @@ pub record IsRightTape (v : StateView) : Type 0 where
   pub keys : All (λ e. IsKey e.key) v.tape.entries
   pub logs : AreLogs v.logs v.tape.floor v.steps
 
--- a change that an operation has placed has an entry of its step, worker, tenant and key, with the row that its command leaves over the one before, which was there where it
--- removes
+-- A change that an operation has placed has an entry of its step, worker, tenant and key. The row after it is the one that the command leaves over the one before,
+-- which was there where it removes. Over a row that was there a put's entry keeps the change.
 pub record HasEntry (v : StateView) (op : OperationView) (step : ℕ) : Type 0 where
   pub entry : TapeEntry
   pub there : Contains v.tape.entries entry
@@ -26,7 +26,8 @@ pub record HasEntry (v : StateView) (op : OperationView) (step : ℕ) : Type 0 w
   pub worker : entry.worker ≡ op.worker
   pub tenant : entry.tenant ≡ op.tenant
   pub key_is : entry.key ≡ key_of op.command
-  pub makes : entry.after ≡ row_left op.command entry.before
+  pub makes : after_of entry ≡ row_left entry.step op.command entry.before
+  pub keeps : entry.change ≡ change_kept op.command entry.before
   pub was : is_remove op.command ≡ true → IsSome entry.before
 
 -- what holds of an operation: the tape goes back before its first step, its reply is right once it is finished, and its change has its entry

@@ -1,7 +1,7 @@
 -- What the steps that lock, write or give back make of an operation in its place, and of what they write to beside it.
 use Rattle.std.specs.Prelude.{◌≡◌, ◌≢◌, ℕ, ◌<◌, ◌⊎◌, true, false, [], Option, Some, None}
 use Rattle.mt_rows.specs.{Rows.Columns, Accounts.{Accounts, HasPairs, account_of}, declared.reply.Reply.Reply}
-use Rattle.mt_rows.specs.declared.reply.Reply.TheVariants.{Absent, Full, New, NoMemory as NoMemoryReply, Removed, Replaced}
+use Rattle.mt_rows.specs.declared.reply.Reply.TheVariants.{Absent, Full, New, NoMemory as NoMemoryReply, Removed, Replaced, Stale}
 use Rattle.mt_version.specs.Changes.{CanUnlock}
 use Rattle.mt_tape.specs.Tapes.{Kept, last_write}
 use Rattle.mt_arena.specs.{Arena.ArenaView, Given.{AreOutUpTo, AreForgotten, MayRenew}, Accesses.at}
@@ -12,7 +12,7 @@ use Rattle.mt_operation.specs.{Operations.{IsUnsplit, splits_of, scan_of, with_s
 use Rattle.mt_table.specs.{declared.steps.Made.Made, declared.steps.Made.TheVariants.{Step, Blocked, NoMemory, Nothing}}
 use Rattle.mt_descent.specs.{KeptWalks.{IsAtBorder, HoldsNothing}, WalkMoves.IsLock}
 use Rattle.mt_insert.specs.{Puts.IsPut, KeptPuts.{IsAtStore, IsAtFill, IsAtPublish, IsAtSplitStart}}
-use Rattle.mt_insert.specs.{KeptSplits.{HoldsSplits, IsAmong, IsAtSplitMove, IsAtUnlockAll, KeptSplit}, Judge.{IsMadeReady, IsShort, MeetsOther}, Store.IsStore}
+use Rattle.mt_insert.specs.{KeptSplits.{HoldsSplits, IsAmong, IsAtSplitMove, IsAtUnlockAll, KeptSplit}, Judge.{FindsStale, IsMadeReady, IsShort, MeetsOther}, Store.IsStore}
 use Rattle.mt_insert.specs.{Fill.IsFill, Publish.{IsPublish, IsPublishFull}, SplitStart.{IsSplitStart, IsSplitStopped}, SplitMove.{IsSplitMove, IsSplitMoveFull}}
 use Rattle.mt_insert.specs.{Climbs.{AreSame, IsClimbFrom}, Unlock.IsUnlockAll}
 use Rattle.mt_held.specs.{Holds.{HoldsBorder, IsAtUnlock}, Unlock.{MeetsLink, IsUnlock}}
@@ -99,13 +99,14 @@ pub record MakesReady (IsReady : Prepared → Type 0) (from to : Parts) (op afte
   pub accounts : to.accounts ≡ from.accounts
   pub others : after ≡ record op { walk = after.walk; prepared = Some prepared }
 
--- a put: all is ready; or another long key, or a link, stands in the place of its key; or there is no memory
+-- A put: all is ready; or another long key, or a link, stands in the place of its key. Or another stamp stands there than it asks for, or there is no memory.
 pub record JudgesPut (o step : ℕ) (from to : Parts) (op after : Operation) : Type 0 where
   pub untold : op.outcome ≡ None
   pub stays : is_remove (ask op.task) ≡ false
   pub comes : MakesReady (IsMadeReady o op.task from.arena to.arena from.tape to.tape op.walk after.walk) from to op after
       ⊎ ((MeetsOther o op.task.key from.arena to.arena op.walk after.walk ⊎ MeetsLink o op.task.key from.arena to.arena op.walk after.walk) × WalksOn op.outcome from to op after)
-      ⊎ (IsShort o op.task.key from.arena to.arena op.walk after.walk × WalksOn (reply_at step NoMemoryReply) from to op after)
+      ⊎ ((stamp : ℕ) × FindsStale o op.task stamp from.arena to.arena op.walk after.walk × WalksOn (reply_at step (Stale stamp)) from to op after)
+      ⊎ (IsShort o op.task from.arena to.arena op.walk after.walk × WalksOn (reply_at step NoMemoryReply) from to op after)
 
 -- a removal: all is ready; or a link stands there; or the key is missing; or there is no memory
 pub record JudgesRemoval (o step : ℕ) (from to : Parts) (op after : Operation) : Type 0 where

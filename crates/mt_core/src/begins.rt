@@ -30,6 +30,10 @@ fn request_of(alloc: Global, command: Command) -> Result<Request, Refusal>
             let change = Change::new(change)?.with_row(alloc)?;
             Ok(Request::Put { key, change })
         }
+        Command::PutIf { key, stamp, change } => {
+            let change = Change::new(change)?.with_row(alloc)?;
+            Ok(Request::PutIf { key, stamp, change })
+        }
         Command::Remove { key } => Ok(Request::Remove { key }),
         Command::Scan {
             from,
@@ -170,7 +174,7 @@ fn names_first_alone(change: &Change) -> bool {
 // Makes room for what an operation writes on the tape, if it is one that changes something.
 fn make_room(alloc: Global, spare: &mut Spare, request: &Request) -> Result<(), AllocError> {
     match request {
-        Request::Put { key, change } => {
+        Request::Put { key, change } | Request::PutIf { key, change, .. } => {
             spare.leave_bytes(alloc)?;
             spare.make_key_room(alloc, key.as_bytes().len())?;
             if names_first_alone(change) {

@@ -9,14 +9,15 @@ ghost use Rattle.std.specs.Prelude.{ℕ, ◌≡◌, ◌≢◌, ◌+◌, ◌<◌,
 ghost use Rattle.std.specs.Option.{option_map};
 ghost use Rattle.mt_rows.specs.Accounts.{account_of};
 ghost use Rattle.mt_batches.specs.Batches.{IsBounded, BringsOn};
-ghost use Rattle.mt_arena.specs.Arena.{IsArena};
+ghost use Rattle.mt_border.specs.Restamps.{new_stamp};
+ghost use Rattle.mt_arena.specs.Arena.{IsArena, content_of};
 ghost use Rattle.mt_state.specs.{Views.shown, Invariant.StateInvariant, Begins.{new_state, HaveNoPairs}};
 ghost use Rattle.mt_operation.specs.{Phases.IsNoLook, declared.operation.Operation.{Operation as AnyOperation}, Operations.{OperationView, view_of, born}};
 ghost use Rattle.mt_operation.specs.Tables.{op_at as operation_at};
 ghost use Rattle.mt_core.specs.{Looks.{LooksAt, MayLook}, Writes.{parts, WritesAt, MayWrite}, Tickets.{TellsTake, TellsCancel}};
 ghost use Rattle.mt_core.specs.{Places.{HasPlaces, TakesPlace, AddsPlaces}, Admitted.{MayAdmit, TellsAdmitted, RefusesOpening, IsAccepted, IsRefusedFor}};
 ghost use Rattle.mt_core.specs.{Rights.IsRightState, Shows.{phase_at, phase_in, noted_at}, Alone.{Runs, IsAlone, EndsAlone, IsUndisturbed, EndsSoon}};
-ghost use Rattle.mt_core.specs.{Points.StepsOn, Drains.Drains, Renumbers.core_renumbered, Tidies.{Tidies, TidiesInto, DisplacesRestOf, HandsOutRest}};
+ghost use Rattle.mt_core.specs.{Points.StepsOn, Drains.Drains, Renumbers.{core_renumbered, AreGivenUpto}, Tidies.{Tidies, TidiesInto, DisplacesRestOf, HandsOutRest}};
 ghost use Rattle.mt_core.specs.Nexts.{IsNext, ending};
 
 use crate::answers::Ticket;
@@ -35,6 +36,7 @@ use mt_table::{Operations, Stepped};
 use mt_tape::Tape;
 use std::alloc::{AllocError, Global};
 use std::boxed::Box;
+use std::collections::BTreeMap;
 use std::marker::Model;
 
 /// Steps are numbered up to this.
@@ -202,14 +204,16 @@ impl Inner {
     }
 
     /// Begins the counting anew at a number of steps, where no operation is open: nobody remembers a
-    /// node's version, a step or an answer.
-    pub(crate) fn renumber(&mut self, steps: u64)
+    /// node's version, a step or an answer. Each pair gets the stamp that the list has for its own, which
+    /// is at most that number, and keeps one that the list lacks.
+    pub(crate) fn renumber(&mut self, steps: u64, stamps: &BTreeMap<u64, u64>)
         requires idle { (o : ℕ) → operation_at self.old.table o ≡ None }
         requires few { steps ≤ 2 ^ 59 }
-        ensures { self.new ≡ core_renumbered steps self.old }
+        requires stamps { AreGivenUpto steps (new_stamp stamps.now) (content_of self.old.arena) }
+        ensures { self.new ≡ core_renumbered steps (new_stamp stamps.now) self.old }
     {
         self.arena.facts();
-        self.arena.renumber(steps);
+        self.arena.renumber(steps, stamps);
         self.tape = Tape::new(self.alloc, steps);
         self.operations = Operations::new(self.alloc);
         give_all(&mut self.logs, steps);

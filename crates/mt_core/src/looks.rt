@@ -2,7 +2,8 @@
 //! collects.
 
 ghost use Rattle.std.specs.{Prelude.{◌≡◌, ◌≢◌, ◌+◌, ℕ, List, Option, Some, None, IfOk, OnErr, IfSome, IfNone}, Option.option_map};
-ghost use Rattle.mt_rows.specs.{Rows.{shown as columns_shown}, Commands.HasColumns, Limits.ArePairs};
+ghost use Rattle.mt_rows.specs.{Stamps.as_shown, Commands.HasColumns, Limits.ArePairs};
+ghost use Rattle.mt_border.specs.{HeldParts.pair_in_parts, Contents.row_of};
 ghost use Rattle.mt_held.specs.Moves.{walk_done};
 ghost use Rattle.mt_arena.specs.Accesses.{at};
 ghost use Rattle.mt_operation.specs.{Tasks.{ask, command_of}, Phases.IsDescent, declared.removal.Removal.{Removal as AnyRemoval}};
@@ -13,9 +14,10 @@ ghost use Rattle.mt_core.specs.Looks.{Looks, LooksAt, MayLook, MayDescend, MaySe
 ghost use Rattle.mt_core.specs.Budgets.{Budget, IsBudget, WalksBy};
 
 use mt_arena::Arena;
+use mt_border::PairParts;
 use mt_descent::{child, confirm, enter, forward, load, pick, search, verify};
 use mt_operation::{Operation, Outcome, Phase, Request, Walk};
-use mt_rows::{PairList, Reply, Row};
+use mt_rows::{PairList, Reply, StampedRow};
 use mt_scan::{check, hop, snap};
 use mt_slices::StoredKey;
 use mt_table::Made;
@@ -113,11 +115,11 @@ fn load_row(alloc: Global, arena: &Arena, operation: &mut Operation, step: u64) 
     requires { MayLoad arena.now operation.old }
     ensures { Looks arena.now (TellsLoaded arena.now step) operation.old result operation.new }
 {
-    let row = match load(arena, &operation.task.key, &mut operation.walk) {
-        Ok(row) => row,
+    let pair = match load(arena, &operation.task.key, &mut operation.walk) {
+        Ok(pair) => pair,
         Err(holder) => return Made::Blocked(holder),
     };
-    match shown(alloc, row, &operation.task.request) {
+    match shown(alloc, pair, &operation.task.request) {
         Ok(reply) => operation.outcome = told(reply, operation.walk.right_at),
         Err(_) => {
             operation.walk.phase = Phase::Done;
@@ -228,17 +230,24 @@ fn stop(operation: &mut Operation, step: u64)
     operation.outcome = Some(no_memory(step));
 }
 
-// What a get answers that took this row, if it took one. An error comes only of a row.
-fn shown(alloc: Global, row: Option<&Row>, request: &Request) -> Result<Option<Reply>, AllocError>
+// What a get answers that took this pair, if it took one: the row as it asks for it, with its stamp. An
+// error comes only of a row.
+fn shown(
+    alloc: Global,
+    pair: Option<&PairParts>,
+    request: &Request,
+) -> Result<Option<Reply>, AllocError>
     requires columns { HasColumns (command_of request.now) }
     ensures reply { IfOk result (λ reply. (asked : List ℕ) → columns_asked (command_of request.now) ≡ Some asked →
-        reply ≡ option_map (λ r. Reply.Found (columns_shown asked r.now)) row.entry) }
-    ensures row_on_err { OnErr result (row.entry ≢ None) }
+        reply ≡ option_map (λ p. Reply.Found (as_shown asked (row_of (pair_in_parts p.now)))) pair.entry) }
+    ensures row_on_err { OnErr result (pair.entry ≢ None) }
 {
-    match (row, request) {
-        (Some(row), Request::Get { columns, .. }) => Ok(Some(Reply::Found(row.shown(
-            alloc, columns,
-        )?))),
+    match (pair, request) {
+        (Some(pair), Request::Get { columns, .. }) => {
+            let row = pair.row.shown(alloc, columns)?;
+            let stamp = pair.stamp;
+            Ok(Some(Reply::Found(StampedRow { stamp, row })))
+        }
         _ => Ok(None),
     }
 }

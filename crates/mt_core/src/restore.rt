@@ -1,16 +1,17 @@
 //! A state that begins with pairs, as a recovery leaves them.
 //!
-//! The pairs are put one after the other, each by an operation that runs alone, and numbered by its own
-//! steps; then all counting begins anew at the number that was asked for. Where these steps come near
-//! the last number, it begins anew at 0 in between. Errors: `AllocError`; nothing else is refused.
+//! The pairs are put one after the other, each by an operation that runs alone, and stamped with the number
+//! of its step. A list has for each such number the stamp that the pair came with. Then all counting begins
+//! anew at the number that was asked for, and each pair gets its stamp back. If these steps come near the
+//! last number, there is no memory for so many pairs. Errors: `AllocError`; nothing else is refused.
 
 ghost use Rattle.std.specs.{Prelude.{◌≡◌, ◌≢◌, ◌+◌, ◌*◌, ◌<◌, ◌≤◌, ◌^◌, ℕ, None, Some, IfOk, OnOk}, List.All};
 ghost use Rattle.std.specs.FinMap as fin;
-ghost use Rattle.mt_rows.specs.{Accounts.account_of, TenantPairs.{pairs_of, quota_in, IsTenantPair, AreDistinct, HasTenants, KeepsQuotas}};
+ghost use Rattle.mt_rows.specs.{Accounts.account_of, TenantPairs.{pairs_of, quota_in, IsTenantPair, AreDistinct, AreStampedUpto, HasTenants, KeepsQuotas}};
 ghost use Rattle.mt_rows.specs.declared.record.TenantPair.{TenantPair as AnyPair};
 ghost use Rattle.mt_arena.specs.Arena.{live_count};
 ghost use Rattle.mt_state.specs.{Views.{StateView, shown, contents_of, granted}, Begins.{HaveNoPairs, Begins}};
-ghost use Rattle.mt_core.specs.Restores.{put_of, with_pair, IsIdle, MayPut, HasPut, IsRestored};
+ghost use Rattle.mt_core.specs.Restores.{put_of, IsIdle, MayPut, HasOneMore, HasPut, IsRestored};
 
 use crate::answers::Ticket;
 use crate::begins::prepare_in;
@@ -21,8 +22,9 @@ use mt_rows::{Command, NamedColumns, Refusal, Reply, TenantPair, Tenants};
 use mt_state::Move;
 use std::alloc::{AllocError, Global};
 use std::boxed::Box;
+use std::collections::BTreeMap;
 
-/// What is inside a state that has made so many steps, and has these pairs.
+/// What is inside a state that has made so many steps, and has these pairs with their stamps.
 pub(crate) fn restored(
     alloc: Global,
     steps: u64,
@@ -35,53 +37,66 @@ pub(crate) fn restored(
     requires empty { HaveNoPairs tenants }
     requires limits { All IsTenantPair pairs.now }
     requires distinct { AreDistinct pairs.now }
+    requires stamps { AreStampedUpto steps pairs.now }
     requires tenants { HasTenants (quota_in tenants) (pairs_of pairs.now) }
     requires quotas { KeepsQuotas (quota_in tenants) (pairs_of pairs.now) }
     ensures { IfOk result (λ inner. IsRestored steps logs tenants pairs.now (shown inner)) }
 {
     let mut inner = Inner::new(alloc, logs, tenants)?;
-    put_all(&mut inner, pairs)?;
-    inner.renumber(steps);
+    let stamps = put_all(&mut inner, pairs)?;
+    inner.kept();
+    inner.renumber(steps, &stamps);
     Ok(inner)
 }
 
-// Puts the pairs one after the other, where there are none.
-fn put_all(inner: &mut Inner, pairs: &[TenantPair]) -> Result<(), AllocError>
+// A put that is over: the step that placed its pair, and the memory of its operation.
+#[derive(Drop)]
+struct Over {
+    number: u64,
+    rest: Option<Box<Operation>>,
+}
+
+// Puts the pairs one after the other, where there are none. Each is stamped with the step that put it: the list
+// that comes back has the stamp that it should have.
+fn put_all(inner: &mut Inner, pairs: &[TenantPair]) -> Result<BTreeMap<u64, u64>, AllocError>
     requires idle { IsIdle (shown inner.old) }
     requires fresh { contents_of (shown inner.old) ≡ fin.empty }
     requires limits { All IsTenantPair pairs.now }
     requires distinct { AreDistinct pairs.now }
     requires tenants { HasTenants (granted (shown inner.old)) (pairs_of pairs.now) }
     requires quotas { KeepsQuotas (granted (shown inner.old)) (pairs_of pairs.now) }
-    ensures { OnOk result (HasPut (shown inner.old) (shown inner.new) (pairs_of pairs.now)) }
+    ensures { IfOk result (λ stamps. HasPut (shown inner.old) (shown inner.new) stamps (pairs_of pairs.now)) }
 {
-    let mut over = None;
+    let mut stamps = BTreeMap::new(inner.alloc);
+    let mut rest = None;
     for pair in pairs {
-        over = put_alone(inner, over, pair)?;
+        let over = put_alone(inner, rest, pair)?;
+        stamps.insert(over.number, pair.row.stamp)?;
+        rest = over.rest;
     }
-    Ok(())
+    Ok(stamps)
 }
 
 // Puts a pair of a missing key, where no operation is open, in the memory of the put before it, and hands
 // that on.
 fn put_alone(
     inner: &mut Inner,
-    over: Option<Box<Operation>>,
+    rest: Option<Box<Operation>>,
     pair: &TenantPair,
-) -> Result<Option<Box<Operation>>, AllocError>
+) -> Result<Over, AllocError>
     requires idle { IsIdle (shown inner.old) }
     requires pair { MayPut (shown inner.old) pair.now }
-    ensures { OnOk result (HasPut (shown inner.old) (shown inner.new) (with_pair pair.now (contents_of (shown inner.old)))) }
+    ensures { IfOk result (λ over. HasOneMore (shown inner.old) (shown inner.new) pair.now over.number) }
 {
-    make_numbers(inner)?;
-    let ticket = begin(inner, over, pair)?;
+    check_numbers(inner)?;
+    let ticket = begin(inner, rest, pair)?;
     run(inner, ticket)
 }
 
 // Begins the put of a pair whose tenant is there.
 fn begin(
     inner: &mut Inner,
-    over: Option<Box<Operation>>,
+    rest: Option<Box<Operation>>,
     pair: &TenantPair,
 ) -> Result<Ticket, AllocError>
     requires limits { IsTenantPair pair.now }
@@ -89,10 +104,10 @@ fn begin(
     requires numbers { inner.old.steps < 2 ^ 59 }
     ensures { IfOk result (λ ticket. Begins (shown inner.old) (shown inner.new) ticket.id 0 pair.now.tenant (put_of pair.now)) }
 {
-    let change = NamedColumns::of_row(inner.alloc, &pair.row)?;
+    let change = NamedColumns::of_row(inner.alloc, &pair.row.row)?;
     let key = pair.key.clone()?;
     let command = Command::Put { key, change };
-    let opening = prepare_in(inner.alloc, over, 0, pair.tenant, command);
+    let opening = prepare_in(inner.alloc, rest, 0, pair.tenant, command);
     match inner.admit(opening) {
         Ok(ticket) => Ok(ticket),
         Err(Refusal::Memory) => Err(AllocError),
@@ -101,11 +116,11 @@ fn begin(
 }
 
 // Runs the put of a pair of a missing key to its end, and hands out what is left of it.
-fn run(inner: &mut Inner, ticket: Ticket) -> Result<Option<Box<Operation>>, AllocError>
+fn run(inner: &mut Inner, ticket: Ticket) -> Result<Over, AllocError>
     requires begun { (v : StateView) × (p : AnyPair) × IsIdle v × MayPut v p × Begins v (shown inner.old) ticket.id 0 p.tenant (put_of p) }
     requires numbers { inner.old.steps + 256 * (live_count inner.old.arena.nodes + 64) ≤ 2 ^ 59 }
     ensures { (v : StateView) (p : AnyPair) → IsIdle v → MayPut v p → Begins v (shown inner.old) ticket.id 0 p.tenant (put_of p) →
-        OnOk result (HasPut v (shown inner.new) (with_pair p (contents_of v))) }
+        IfOk result (λ over. HasOneMore v (shown inner.new) p over.number) }
 {
     inner.kept();
     match inner.run_alone(ticket.id) {
@@ -116,7 +131,10 @@ fn run(inner: &mut Inner, ticket: Ticket) -> Result<Option<Box<Operation>>, Allo
     let mut displaced = Displaced::new(inner.alloc);
     match inner.take(ticket, &mut displaced) {
         Ok(answer) => match answer.reply {
-            Reply::New => Ok(displaced.rest),
+            Reply::New => Ok(Over {
+                number: answer.at,
+                rest: displaced.rest,
+            }),
             Reply::NoMemory => Err(AllocError),
             _ => unreachable!(),
         },
@@ -124,19 +142,17 @@ fn run(inner: &mut Inner, ticket: Ticket) -> Result<Option<Box<Operation>>, Allo
     }
 }
 
-// Begins the counting anew where the numbers that are left may not do for a put; where they never do,
-// there is no memory for so many nodes.
-fn make_numbers(inner: &mut Inner) -> Result<(), AllocError>
-    requires { IsIdle (shown inner.old) }
-    ensures put { HasPut (shown inner.old) (shown inner.new) (contents_of (shown inner.old)) }
-    ensures numbers { OnOk result (inner.new.steps + 256 * (live_count inner.new.arena.nodes + 64) ≤ 2 ^ 59) }
+// Whether the numbers that are left do for a put. An error comes where they may not: there is no memory for
+// so many pairs.
+fn check_numbers(inner: &Inner) -> Result<(), AllocError>
+    ensures { OnOk result (inner.now.steps + 256 * (live_count inner.now.arena.nodes + 64) ≤ 2 ^ 59) }
 {
     let nodes = inner.arena.node_count();
     if nodes >= 1 << 50 {
         return Err(AllocError);
     }
     if inner.steps > MAX_STEPS - 256 * (nodes as u64 + 64) {
-        inner.renumber(0);
+        return Err(AllocError);
     }
     Ok(())
 }

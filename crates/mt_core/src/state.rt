@@ -5,7 +5,7 @@
 
 ghost use Rattle.std.specs.{Prelude.{◌^◌, ◌≡◌, ◌≢◌, ◌<◌, ◌≤◌, ◌↔◌, ℕ, IfOk, OnOk, OnErr, IsTrue, IsSome, length, Some}, Option.option_map, List.All};
 ghost use Rattle.mt_batches.specs.Batches.{IsBounded, BringsOn};
-ghost use Rattle.mt_rows.specs.{Accounts.account_of, Tenants.tenant_map, TenantPairs.{pairs_of, quota_in, IsTenantPair, AreDistinct, HasTenants, KeepsQuotas}};
+ghost use Rattle.mt_rows.specs.{Accounts.account_of, Tenants.tenant_map, TenantPairs.{pairs_of, quota_in, IsTenantPair, AreDistinct, AreStampedUpto, HasTenants, KeepsQuotas}};
 ghost use Rattle.mt_state.specs.{Views.{op_at, contents_of}, Promises.Tells, Phases.LeadsOn, Begins.{new_state, HaveNoPairs, IsWorker}};
 ghost use Rattle.mt_core.specs.{Tickets.{TellsBegin, TellsTake, TellsCancel, TellsRefusal}, Places.{HasPlaces, TakesPlace, AddsPlaces}};
 ghost use Rattle.mt_core.specs.{Admitted.{MayAdmit, TellsAdmitted, RefusesOpening}, Rights.IsRightState, Shapes.IsShape, Shows.{phase_at, noted_at}};
@@ -54,8 +54,8 @@ impl State {
     }
 
     /// A store as a recovery leaves it: a state that has made so many steps and has these pairs, each
-    /// placed by the last of these steps, and no others. Counting goes on from there, and so do the logs
-    /// of so many workers. An error comes where memory is refused.
+    /// with its stamp, and no others. No stamp is over the number of steps. Counting goes on from there,
+    /// and so do the logs of so many workers. An error comes where memory is refused.
     pub fn restore(
         alloc: Global,
         steps: u64,
@@ -68,6 +68,7 @@ impl State {
         requires empty { HaveNoPairs tenants }
         requires limits { All IsTenantPair pairs.now }
         requires distinct { AreDistinct pairs.now }
+        requires stamps { AreStampedUpto steps pairs.now }
         requires tenants { HasTenants (quota_in tenants) (pairs_of pairs.now) }
         requires quotas { KeepsQuotas (quota_in tenants) (pairs_of pairs.now) }
         ensures { IfOk result (λ s. IsRestored steps logs tenants pairs.now s) }

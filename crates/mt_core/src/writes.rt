@@ -109,7 +109,8 @@ fn judge_node(
     }
 }
 
-// Looks for the key under the lock, and makes all growths of the placing step.
+// Looks for the key under the lock, and makes all growths of the placing step. Where another stamp stands
+// than the put asks for, that one is told.
 fn judge_put(
     alloc: Global,
     arena: &mut Arena,
@@ -129,6 +130,10 @@ fn judge_put(
             Made::Step
         }
         Judged::GoesOn => Made::Step,
+        Judged::Stale(stamp) => {
+            operation.outcome = Some(placed(Reply::Stale(stamp), step));
+            Made::Step
+        }
         Judged::NoMemory => {
             operation.outcome = Some(no_memory(step));
             Made::Step
@@ -353,7 +358,8 @@ fn removes(task: &Task) -> bool
 {
     match task.request {
         Request::Remove { .. } => true,
-        Request::Get { .. } | Request::Put { .. } | Request::Scan { .. } => false,
+        Request::Get { .. } | Request::Put { .. } | Request::PutIf { .. } | Request::Scan { .. } =>
+            false,
     }
 }
 

@@ -1,7 +1,7 @@
--- Pairs that ascend are of distinct owners.
-use Rattle.std.proofs.{Common.{◌≡◌, ℕ, zero, suc, List, [], ◌∷◌, map, Some, refl, sym, ap, ◌∙◌}, lemmas.Option.{same_Some, none-some}}
+-- Pairs that ascend are of distinct owners; and stamps up to a number are up to a greater one.
+use Rattle.std.proofs.{Common.{◌≡◌, ◌≤◌, ℕ, zero, suc, List, [], ◌∷◌, map, Some, refl, sym, ap, ◌∙◌, arith}, lemmas.Option.{same_Some, none-some}}
 use Rattle.std.specs.{Prelude.slice_get, declared.cmp.Ordering.TheVariants.Less, Ordering.is_eq, List.AllByRecursion, List.Sorted.IsStrictlySortedBy}
-use Rattle.mt_rows.specs.{declared.record.TenantPair.TenantPair, Rows.Bytes, Tenants.owned_cmp, TenantPairs.{owner_of, AreDistinct}}
+use Rattle.mt_rows.specs.{declared.record.TenantPair.TenantPair, Rows.Bytes, Tenants.owned_cmp, TenantPairs.{owner_of, AreDistinct, AreStampedUpto}}
 use Rattle.mt_rows.proofs.ContentLaws.{same_owner}
 use Rattle.mt_recover.specs.Pairs.{Ascend}
 
@@ -19,3 +19,6 @@ distinct (x ∷ ps) h zero zero p q at_p at_q same = refl
 distinct (x ∷ ps) h zero (suc j) p q at_p at_q same = absurd (below (owner_of x) ps h.0 j q at_q (ap owner_of (same_Some x p at_p) ∙ same))
 distinct (x ∷ ps) h (suc i) zero p q at_p at_q same = absurd (below (owner_of x) ps h.0 i p at_p (ap owner_of (same_Some x q at_q) ∙ sym same))
 distinct (x ∷ ps) h (suc i) (suc j) p q at_p at_q same = ap suc (distinct ps h.1 i j p q at_p at_q same)
+
+pub upto_more : (m n : ℕ) (ps : List TenantPair) → AreStampedUpto m ps → m ≤ n → AreStampedUpto n ps
+upto_more m n ps upto le i p at = omega (arith, upto i p at, le)

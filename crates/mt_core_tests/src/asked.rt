@@ -19,12 +19,30 @@ pub(crate) fn one_tenant(alloc: Global, quota: u32) -> Tenants
 
 /// A put of column 0.
 pub(crate) fn put(rt: &impl Abort, alloc: Global, key: &str, value: &str) -> Command {
+    let change = change_of(rt, alloc, value);
+    let key = key_of(rt, alloc, key);
+    Command::Put { key, change }
+}
+
+/// The same of a key that has this stamp, or of a missing key and stamp 0.
+pub(crate) fn put_if(
+    rt: &impl Abort,
+    alloc: Global,
+    key: &str,
+    stamp: u64,
+    value: &str,
+) -> Command {
+    let key = key_of(rt, alloc, key);
+    let change = change_of(rt, alloc, value);
+    Command::PutIf { key, stamp, change }
+}
+
+// Column 0 with this value.
+fn change_of(rt: &impl Abort, alloc: Global, value: &str) -> NamedColumns {
     let column = Column::from_slice(alloc, value.as_bytes()).expect(rt, "memory");
     let mut columns = Vec::new(alloc);
     assert!(rt; columns.push((0, column)).is_ok());
-    let change = NamedColumns::new(columns);
-    let key = key_of(rt, alloc, key);
-    Command::Put { key, change }
+    NamedColumns::new(columns)
 }
 
 /// A get of these columns, of all where none is named.

@@ -2,7 +2,8 @@
 
 use mt_core::State;
 use mt_rows::{
-    Batch, Change, Column, ColumnIndexes, Command, Key, NamedColumns, Reply, Row, TenantPair, merge,
+    Batch, Change, Column, ColumnIndexes, Command, Key, NamedColumns, Reply, Row, StampedRow,
+    TenantPair, Write, merge,
 };
 use mt_state::Move;
 use std::alloc::Global;
@@ -54,7 +55,7 @@ fn row_of(rt: &impl Abort, alloc: Global, n: u64) -> Row {
     merge(alloc, None, &change).expect(rt, "memory")
 }
 
-/// The pairs of these numbers, behind others.
+/// The pairs of these numbers, behind others. The log that puts them gives them their stamps.
 pub(crate) fn push_pairs(
     rt: &impl Abort,
     alloc: Global,
@@ -66,20 +67,26 @@ pub(crate) fn push_pairs(
         let pair = TenantPair {
             tenant: tenant_of(n),
             key: key_of(rt, alloc, n),
-            row: row_of(rt, alloc, n),
+            row: StampedRow {
+                stamp: 0,
+                row: row_of(rt, alloc, n),
+            },
         };
         assert!(rt; pairs.push(pair).is_ok());
     }
 }
 
-/// The pairs that a log was given, behind others.
+/// The new pairs that a log was given, behind others.
 pub(crate) fn push_given(rt: &impl Abort, pairs: &mut Vec<TenantPair>, batch: &Batch) {
     for record in batch.records.as_slice() {
-        if let Some(row) = &record.row {
+        if let Write::Whole(row) = &record.write {
             let pair = TenantPair {
                 tenant: record.tenant,
                 key: record.key.clone().expect(rt, "memory"),
-                row: row.share().expect(rt, "memory"),
+                row: StampedRow {
+                    stamp: record.stamp,
+                    row: row.share().expect(rt, "memory"),
+                },
             };
             assert!(rt; pairs.push(pair).is_ok());
         }
@@ -99,6 +106,15 @@ pub(crate) fn get(rt: &impl Abort, alloc: Global, n: u64) -> Command {
 fn put(rt: &impl Abort, alloc: Global, n: u64) -> Command {
     Command::Put {
         key: key_of(rt, alloc, n),
+        change: columns_of(rt, alloc, n),
+    }
+}
+
+// A put of a pair that asks for a stamp.
+fn put_if(rt: &impl Abort, alloc: Global, n: u64, stamp: u64) -> Command {
+    Command::PutIf {
+        key: key_of(rt, alloc, n),
+        stamp,
         change: columns_of(rt, alloc, n),
     }
 }
@@ -127,9 +143,36 @@ pub(crate) fn expect_pairs(rt: &impl Abort, alloc: Global, state: &mut State, fr
 fn is_row_of(rt: &impl Abort, alloc: Global, reply: &Reply, n: u64) -> bool {
     let wanted = row_of(rt, alloc, n);
     match reply {
-        Reply::Found(row) => row.columns() == wanted.columns(),
+        Reply::Found(found) => found.row.columns() == wanted.columns(),
         _ => false,
     }
+}
+
+/// Each of the first pairs has the stamp that is one more than its number.
+pub(crate) fn expect_stamps(rt: &impl Abort, alloc: Global, state: &mut State, to: u64) {
+    for n in 0..to {
+        assert!(rt; stamp_of(rt, alloc, state, n) == n + 1, "pair {n}");
+    }
+}
+
+/// The stamp of a pair, 0 where its key is missing.
+pub(crate) fn stamp_of(rt: &impl Abort, alloc: Global, state: &mut State, n: u64) -> u64 {
+    match asked(rt, state, tenant_of(n), get(rt, alloc, n)).0 {
+        Reply::Found(found) => found.stamp,
+        _ => 0,
+    }
+}
+
+/// What the put of a pair is told that asks for a stamp.
+pub(crate) fn put_pair_if(
+    rt: &impl Abort,
+    alloc: Global,
+    state: &mut State,
+    n: u64,
+    stamp: u64,
+) -> Reply {
+    let command = put_if(rt, alloc, n, stamp);
+    asked(rt, state, tenant_of(n), command).0
 }
 
 /// What the put of a pair is told.

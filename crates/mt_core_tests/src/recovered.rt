@@ -1,7 +1,7 @@
 //! States that are restored from what a recovery gives.
 
 ghost use Rattle.std.specs.{Prelude.{◌^◌, ◌≤◌, IsTrue}, List.All};
-ghost use Rattle.mt_rows.specs.TenantPairs.{pairs_of, quota_in, IsTenantPair, AreDistinct, HasTenants, KeepsQuotas};
+ghost use Rattle.mt_rows.specs.TenantPairs.{pairs_of, quota_in, IsTenantPair, AreDistinct, AreStampedUpto, HasTenants, KeepsQuotas};
 ghost use Rattle.mt_log.specs.Contents.{IsBatch};
 ghost use Rattle.mt_state.specs.Begins.{HaveNoPairs};
 
@@ -10,7 +10,7 @@ use mt_disk::MemDisk;
 use mt_log::{Front, LogFile, fits};
 use mt_recover::recover;
 use mt_rows::key::USER_KEY_BYTES;
-use mt_rows::{Batch, Record, Records, TenantPair, Tenants};
+use mt_rows::{Batch, Record, Records, TenantPair, Tenants, Write};
 use std::alloc::Global;
 use std::process::Abort;
 
@@ -25,7 +25,7 @@ fn three_tenants(alloc: Global) -> Tenants
     tenants
 }
 
-/// A state with these pairs, as a recovery from a log gives them.
+/// A state with these pairs, as a recovery from a log gives them: each stamped by its step in the log.
 pub(crate) fn restored(
     rt: &impl Abort,
     alloc: Global,
@@ -37,26 +37,29 @@ pub(crate) fn restored(
     requires logs { logs ≤ 64 }
 {
     let tenants = three_tenants(alloc);
-    let pairs = recovered(rt, alloc, &tenants, pairs);
+    let pairs = recovered(rt, alloc, &tenants, steps, pairs);
     State::restore(alloc, steps, logs, tenants, &pairs).expect(rt, "memory")
 }
 
-// What a recovery makes of a log that puts these pairs.
-#[tactic(auto, using(crate::proofs::Ascending::distinct))]
+// What a recovery makes of a log that puts these pairs, in no more steps than these.
+#[tactic(auto, using(crate::proofs::Ascending::distinct, crate::proofs::Ascending::upto_more))]
 fn recovered(
     rt: &impl Abort,
     alloc: Global,
     tenants: &Tenants,
+    steps: u64,
     pairs: Vec<TenantPair>,
 ) -> Vec<TenantPair>
     ensures limits { All IsTenantPair result.items }
     ensures distinct { AreDistinct result.items }
+    ensures stamps { AreStampedUpto steps result.items }
     ensures tenants { HasTenants (quota_in tenants.now) (pairs_of result.items) }
     ensures quotas { KeepsQuotas (quota_in tenants.now) (pairs_of result.items) }
 {
     let fronts = one_front(rt, alloc, pairs);
     let recovered = recover(alloc, fronts, [None, None], tenants).expect(rt, "within quotas");
     assert!(rt; are_within(&recovered.pairs));
+    assert!(rt; recovered.resume <= steps);
     recovered.pairs
 }
 
@@ -96,7 +99,7 @@ fn put_after(rt: &impl Abort, alloc: Global, from: u64, pair: TenantPair) -> Bat
         stamp: from + 1,
         tenant: pair.tenant,
         key: pair.key,
-        row: Some(pair.row),
+        write: Write::Whole(pair.row.row),
     };
     assert!(rt; records.push(record).is_ok());
     let records = Records::new(records);
@@ -126,6 +129,6 @@ fn is_within(pair: &TenantPair) -> bool
     ensures { IsTrue result → IsTenantPair pair.now }
 {
     // For the proof: a row is within its limits.
-    let _columns = pair.row.columns();
+    let _columns = pair.row.row.columns();
     pair.key.as_bytes().len() <= USER_KEY_BYTES
 }

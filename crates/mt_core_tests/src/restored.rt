@@ -1,7 +1,10 @@
 //! What is restored is there, and a state goes on from it.
 
 use crate::asked::drained;
-use crate::pairs::{expect_pairs, get, push_given, push_pairs, put_pair, tenant_of};
+use crate::pairs::{
+    expect_pairs, expect_stamps, get, push_given, push_pairs, put_pair, put_pair_if, stamp_of,
+    tenant_of,
+};
 use crate::recovered::restored;
 use mt_core::State;
 use mt_rows::{Refusal, Reply};
@@ -15,11 +18,14 @@ const PAIRS: u64 = 300;
 // How many more are put.
 const MORE: u64 = 60;
 
-// A state with the first pairs that has made five steps, and keeps two logs.
+// How many steps were made.
+const STEPS: u64 = 500;
+
+// A state with the first pairs that has made so many steps, and keeps two logs.
 fn first_pairs(rt: &impl Abort, alloc: Global) -> State {
     let mut pairs = Vec::new(alloc);
     push_pairs(rt, alloc, &mut pairs, 0, PAIRS);
-    restored(rt, alloc, 5, 2, pairs)
+    restored(rt, alloc, STEPS, 2, pairs)
 }
 
 // Puts more pairs: tenant 7 has its quota, tenant 8 all but one, and tenant 9 room.
@@ -41,12 +47,33 @@ fn restores_all_pairs(host: HostRuntime) {
     let alloc = host.alloc();
     let rt = &host;
     let mut state = first_pairs(rt, alloc);
-    assert_eq!(rt; (state.steps(), state.logs(), state.answers()), (5, 2, 0));
+    assert_eq!(rt;
+        (state.steps(), state.logs(), state.answers()),
+        (STEPS, 2, 0)
+    );
     let lines = state.shape(alloc).expect(rt, "memory");
     assert!(rt; lines.len() > 40);
     let batch = drained(rt, &mut state, 1);
-    assert!(rt; batch.from == 5 && batch.to == 5 && batch.records.as_slice().is_empty());
+    assert!(rt; batch.from == STEPS && batch.to == STEPS && batch.records.as_slice().is_empty());
     expect_pairs(rt, alloc, &mut state, 0, PAIRS);
+    expect_stamps(rt, alloc, &mut state, PAIRS);
+}
+
+#[test]
+fn a_put_meets_a_stamp_that_was_restored(host: HostRuntime) {
+    let alloc = host.alloc();
+    let rt = &host;
+    let mut state = first_pairs(rt, alloc);
+    assert!(rt; matches!(put_pair_if(rt, alloc, &mut state, 7, 7), Reply::Stale(8)));
+    assert!(rt; matches!(put_pair_if(rt, alloc, &mut state, 7, 8), Reply::Replaced));
+    let stamp = stamp_of(rt, alloc, &mut state, 7);
+    assert!(rt; stamp > STEPS);
+    let told = match put_pair_if(rt, alloc, &mut state, 7, 8) {
+        Reply::Stale(told) => told,
+        _ => 0,
+    };
+    assert_eq!(rt; told, stamp);
+    assert!(rt; matches!(put_pair_if(rt, alloc, &mut state, PAIRS + 2, 0), Reply::New));
 }
 
 #[test]
@@ -58,7 +85,7 @@ fn goes_on_from_what_was_restored(host: HostRuntime) {
     expect_pairs(rt, alloc, &mut state, 0, PAIRS);
     let batch = drained(rt, &mut state, 0);
     assert!(rt;
-        batch.from == 5 && batch.to == state.steps() && batch.records.as_slice().len() == 21
+        batch.from == STEPS && batch.to == state.steps() && batch.records.as_slice().len() == 21
     );
 }
 

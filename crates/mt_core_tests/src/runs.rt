@@ -3,7 +3,7 @@
 ghost use Rattle.std.specs.List.{All};
 ghost use Rattle.mt_state.specs.Histories.{IsServed};
 
-use crate::asked::{get, one_tenant, put, remove};
+use crate::asked::{get, one_tenant, put, put_if, remove};
 use mt_core::run_events;
 use mt_rows::Reply;
 use mt_runs::{Event, Told};
@@ -11,7 +11,8 @@ use std::alloc::Global;
 use std::process::Abort;
 
 // An operation's name, what happens to it, and what it is told: a get of a key, a put of a key, `=` and
-// a value, a remove of a key and `-`, or a step where nothing stands.
+// a value, a remove of a key and `-`, or a step where nothing stands. A put may ask for a stamp: `?` and 0 or 5
+// stand behind its key.
 type Row = (u64, &'static str, &'static str);
 
 // A get finds no pair, and before it compares the version a put makes the pair. It stands before the put. A second
@@ -143,6 +144,43 @@ const A_SLOT_IS_TAKEN: [Row; 29] = [
     (3, "", "absent"),
 ];
 
+// A put that asks for a missing key is told the stamp of the row that stands there. One that asks for that stamp writes
+// over the row, and then the stamp is stale. A missing key has stamp 0, and a put that asks for it makes the pair.
+const A_STAMP_IS_ASKED_FOR: [Row; 32] = [
+    (1, "k=v", "begun"),
+    (1, "", "moved"),
+    (1, "", "moved"),
+    (1, "", "moved"),
+    (1, "", "moved"),
+    (1, "", "moved"),
+    (1, "", "new"),
+    (2, "k?0=w", "begun"),
+    (2, "", "moved"),
+    (2, "", "moved"),
+    (2, "", "stale 5"),
+    (3, "k?5=w", "begun"),
+    (3, "", "moved"),
+    (3, "", "moved"),
+    (3, "", "moved"),
+    (3, "", "moved"),
+    (3, "", "replaced"),
+    (4, "k?5=x", "begun"),
+    (4, "", "moved"),
+    (4, "", "moved"),
+    (4, "", "stale 13"),
+    (5, "l?5=w", "begun"),
+    (5, "", "moved"),
+    (5, "", "moved"),
+    (5, "", "stale 0"),
+    (6, "l?0=w", "begun"),
+    (6, "", "moved"),
+    (6, "", "moved"),
+    (6, "", "moved"),
+    (6, "", "moved"),
+    (6, "", "moved"),
+    (6, "", "new"),
+];
+
 // The events of a run, by the only worker, for tenant 7.
 fn events_of(rt: &impl Abort, alloc: Global, rows: &[Row]) -> Vec<Event>
     ensures { All (IsServed 0) result.items }
@@ -163,7 +201,10 @@ fn event_of(rt: &impl Abort, alloc: Global, row: &Row) -> Event
         return Event::Step { op };
     }
     let command = match (row.1.split_once('='), row.1.split_once('-')) {
-        (Some((key, value)), _) => put(rt, alloc, key, value),
+        (Some((key, value)), _) => match key.split_once('?') {
+            Some((key, stamp)) => put_if(rt, alloc, key, stamp_of(stamp), value),
+            None => put(rt, alloc, key, value),
+        },
         (None, Some((key, _))) => remove(rt, alloc, key),
         (None, None) => get(rt, alloc, row.1, &[]),
     };
@@ -173,6 +214,11 @@ fn event_of(rt: &impl Abort, alloc: Global, row: &Row) -> Event
         tenant: 7,
         command,
     }
+}
+
+// The stamp that a row names.
+fn stamp_of(text: &str) -> u64 {
+    if text == "5" { 5 } else { 0 }
 }
 
 // Lets the events of the rows happen to a new store, and compares what each is told.
@@ -198,6 +244,9 @@ fn text_of(told: &Told) -> &'static str {
             Reply::Replaced => "replaced",
             Reply::Removed => "removed",
             Reply::Full => "full",
+            Reply::Stale(0) => "stale 0",
+            Reply::Stale(5) => "stale 5",
+            Reply::Stale(13) => "stale 13",
             _ => "another reply",
         },
         _ => "another",
@@ -211,4 +260,5 @@ fn each_event_is_told_what_its_row_says(rt: HostRuntime) {
     expect_run(&rt, alloc, &IN_ANY_ORDER);
     expect_run(&rt, alloc, &A_REMOVE_IS_MET);
     expect_run(&rt, alloc, &A_SLOT_IS_TAKEN);
+    expect_run(&rt, alloc, &A_STAMP_IS_ASKED_FOR);
 }

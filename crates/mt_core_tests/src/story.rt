@@ -3,7 +3,7 @@
 use crate::asked::{drained, get, one_tenant, put};
 use mt_core::{State, Ticket, prepare};
 use mt_operation::Phase;
-use mt_rows::{Command, Refusal};
+use mt_rows::{Command, Refusal, Write};
 use mt_runs::Answer;
 use mt_state::Move;
 use std::alloc::Global;
@@ -93,22 +93,33 @@ fn put_by(rt: &impl Abort, alloc: Global, state: &mut State, worker: u8, key: &s
     assert!(rt; state.take(ticket).is_ok());
 }
 
-// The batch that a worker's log is given: the step over which it goes, and its stamps and keys.
+// The batch that a worker's log is given: the step over which it goes, its stamps and keys, and whether each
+// tells of a row that was there.
 fn expect_batch(
     rt: &impl Abort,
     state: &mut State,
     worker: u8,
     from: u64,
-    records: &[(u64, &str)],
+    records: &[(u64, &str, bool)],
 ) {
     let to = state.steps();
     let batch = drained(rt, state, worker);
     assert_eq!(rt; (batch.from, batch.to), (from, to));
     let told = batch.records.as_slice();
     assert_eq!(rt; told.len(), records.len());
-    for (record, (stamp, key)) in told.iter().zip(records) {
+    for (record, (stamp, key, was_there)) in told.iter().zip(records) {
         assert_eq!(rt; (record.stamp, record.tenant), (*stamp, 7));
-        assert!(rt; record.key.as_bytes() == key.as_bytes() && record.row.is_some());
+        assert!(rt; record.key.as_bytes() == key.as_bytes());
+        assert!(rt; is_of_put(&record.write, *was_there));
+    }
+}
+
+// Whether a write is a put's: of changed columns where a row was there, else of the whole row.
+fn is_of_put(write: &Write, was_there: bool) -> bool {
+    match write {
+        Write::Whole(_) => !was_there,
+        Write::Changed(_) => was_there,
+        Write::Removed => false,
     }
 }
 
@@ -119,11 +130,11 @@ fn each_log_is_given_its_own_workers_changes_once(rt: HostRuntime) {
     for (worker, key) in [(0, "a"), (1, "b"), (0, "c")] {
         put_by(&rt, alloc, &mut state, worker, key);
     }
-    expect_batch(&rt, &mut state, 0, 0, &[(5, "a"), (17, "c")]);
+    expect_batch(&rt, &mut state, 0, 0, &[(5, "a", false), (17, "c", false)]);
     state.tidy();
     put_by(&rt, alloc, &mut state, 0, "b");
-    expect_batch(&rt, &mut state, 1, 0, &[(11, "b")]);
-    expect_batch(&rt, &mut state, 0, 18, &[(22, "b")]);
+    expect_batch(&rt, &mut state, 1, 0, &[(11, "b", false)]);
+    expect_batch(&rt, &mut state, 0, 18, &[(22, "b", true)]);
     expect_batch(&rt, &mut state, 0, 23, &[]);
 }
 

@@ -6,4 +6,4 @@ use Rattle.mt_core.specs.Restores.{HasPut}
 use Rattle.mt_core.proofs.restore.put_all.Given as goal
 
 abbrev pub invariant-loop-pair : goal.invariant-loop-pair
-invariant-loop-pair l = HasPut (shown l.initial.inner) (shown l.inner) (pairs_of (take l.pair-index l.pairs))
+invariant-loop-pair l = HasPut (shown l.initial.inner) (shown l.inner) l.stamps (pairs_of (take l.pair-index l.pairs))

@@ -2,7 +2,7 @@
 use Rattle.std.proofs.Common.{refl, ap, inl, inr}
 use Rattle.mt_operation.specs.Phases.{is_done}
 use Rattle.mt_state.specs.{Views.shown, Begins.begun, declared.moves.Move.TheVariants.{Done as DoneMove}}
-use Rattle.mt_core.{specs.{Alone.EndsAlone, Restores.put_of}, proofs.Restoring.{is_alone, ends_so, told_new, has_put}}
+use Rattle.mt_core.{specs.{Alone.EndsAlone, Restores.put_of}, proofs.Restoring.{is_alone, ends_so, told_new, has_one_more}}
 use Rattle.mt_core.proofs.restore.run.Goals as goal
 
 pub unreachable-requires : goal.unreachable-requires
@@ -13,7 +13,7 @@ unreachable-requires c =
 
 pub returns-in-New : goal.returns-in-New
 returns-in-New c = λ v p idle may begins.
-    has_put v p idle may (shown c.args.inner.now) c.args.ticket.id begins (shown c.run_alone.new.self) (shown c.take.new.self) c.in-Ok.answer c.in-Done.ensures.runs
+    has_one_more v p idle may (shown c.args.inner.now) c.args.ticket.id begins (shown c.run_alone.new.self) (shown c.take.new.self) c.in-Ok.answer c.in-Done.ensures.runs
     (c.in-Done.ensures.alone (begun 0 p.tenant (put_of p) v.steps) (is_alone v p idle may (shown c.args.inner.now) c.args.ticket.id begins c.args.inner.now refl c.kept.ensures.invariant c.requires.numbers))
     c.in-Ok.ensures.told c.in-New.is
 

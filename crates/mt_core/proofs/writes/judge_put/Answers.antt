@@ -25,15 +25,29 @@ returns-in-GoesOn c = λ accounts. inl (record {
   comes = inr (inl (c.in-GoesOn.ensures.1, record { others = refl; rest = ap (λ (t : Kept). parts c.judge.new.arena t accounts) c.in-GoesOn.ensures.0 }));
 })
 
+pub returns-in-Stale : goal.returns-in-Stale
+returns-in-Stale c = λ accounts. inl (record {
+  untold = c.requires.untold;
+  stays = c.requires.stays;
+  comes = inr (inr (inl (
+    c.in-Stale.stamp,
+    c.in-Stale.ensures.1,
+    record {
+      others = ap (λ (told : Outcome). led_to c.args.operation.now c.judge.new.walk (Some told)) c.placed.ensures;
+      rest = ap (λ (t : Kept). parts c.judge.new.arena t accounts) c.in-Stale.ensures.0;
+    },
+  )));
+})
+
 pub returns-in-NoMemory : goal.returns-in-NoMemory
 returns-in-NoMemory c = λ accounts. inl (record {
   untold = c.requires.untold;
   stays = c.requires.stays;
-  comes = inr (inr (
+  comes = inr (inr (inr (
     c.in-NoMemory.ensures.1,
     record {
       others = ap (λ (told : Outcome). led_to c.args.operation.now c.judge.new.walk (Some told)) c.no_memory.ensures;
       rest = ap (λ (t : Kept). parts c.judge.new.arena t accounts) c.in-NoMemory.ensures.0;
     },
-  ));
+  )));
 })
