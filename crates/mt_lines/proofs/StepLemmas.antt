@@ -3,7 +3,7 @@ use Rattle.std.{proofs.Common.{◌≡◌, ◌≢◌, ℕ, true, Option, Some, No
 use Rattle.mt_state.specs.{declared.moves.Move.Move, declared.moves.Move.TheVariants.{Moved, Again, NoMemory, Done, Spent, NoSuch}, Views.{StateView, op_at}}
 use Rattle.mt_state.specs.{Promises.{IsStep, Tells}, Begins.IsEnded}
 use Rattle.mt_operation.specs.declared.phase.Phase.{Phase}
-use Rattle.mt_lines.specs.{declared.response.Response.Response, Names.{Tickets, operation_of, FreesName}}
+use Rattle.mt_lines.specs.{declared.response.Response.Response, Names.{Tickets, shows_of, operation_of, FreesName}}
 use Rattle.mt_lines.specs.Stores.{StoreView, TellsMove, TellsStep, EndsWalk, SaysEnd, IsWalk, TellsWalk, SaysMove, CanSay, TellsNamed}
 use Rattle.mt_lines.proofs.NamedLemmas.{written_is}
 use Rattle.mt_lines.specs.declared.response.Response.TheVariants as responses
@@ -40,7 +40,7 @@ tells_step old mid new name o (Again holder) response same t s =
 tells_step old mid new name o NoMemory response same t s = rw (s.0, s.1) (t, same)
 tells_step old mid new name o Done response same t s =
     let (answer, said, g) = s in
-    rw said (record { made = mid.state; taken = g.taken; last = t; takes = g.takes; tidies = g.tidies }, subst (λ (n : Tickets). FreesName n new.named name) same g.frees)
+    rw said (record { made = mid.state; taken = g.taken; last = t; takes = g.takes; tidies = g.tidies }, subst (λ (n : Tickets). FreesName n new.named name) same g.frees, ap (λ (n : Tickets). shows_of n name) same)
 tells_step old mid new name o Spent response same t s = rw (s.0, s.1) (t, same)
 tells_step old mid new name o NoSuch response same t s = rw (s.0, s.1) (t, same)
 

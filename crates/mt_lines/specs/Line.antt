@@ -1,16 +1,19 @@
 -- The lines of the language: which line, if any, some bytes are.
 use Rattle.std.specs.Prelude.{ℕ, Bool, true, false, if◌then◌else◌, List, [], ◌∷◌, codes, Option, Some, None}
-use Rattle.mt_rows.specs.{declared.command.Command.Command, declared.command.Command.TheVariants.{Get, Put, Remove, Scan}}
+use Rattle.mt_rows.specs.{declared.command.Command.Command, declared.command.Command.TheVariants.{Get, Put, PutIf, Remove, Scan}}
 use Rattle.mt_operation.specs.{declared.phase.Phase.Phase, Phases.{name_of, steps}}
 use Rattle.mt_lines.specs.{declared.line.Line.Line, declared.line.Line.TheVariants.{Tenant, Begin, Step, Until, Run, Shape}}
 use Rattle.mt_lines.specs.Words.{◌>>=◌, words_of, next, no_more, each, number_up_to, name_word, is_text, key_word, column_word}
 
--- a number of 32 bits, and a column's index
+-- a number of 32 bits, a column's index, and a stamp
 abbrev pub number_word : List ℕ → Option ℕ
 number_word word = number_up_to 4294967295 word
 
 abbrev pub index_word : List ℕ → Option ℕ
 index_word word = number_up_to 255 word
+
+abbrev pub stamp_word : List ℕ → Option ℕ
+stamp_word word = number_up_to 18446744073709551615 word
 
 -- the first of some phases whose name this is
 abbrev pub phase_in : List Phase → List ℕ → Option Phase
@@ -31,7 +34,7 @@ tenant_line words = do
   quota ← number_word second.0
   Some (Tenant tenant quota)
 
--- get K [index ..], behind its first word
+-- get K [index ..] and gets K [index ..], behind their first word
 unfoldable pub get_words : List (List ℕ) → Option Command
 get_words words = do
   first ← next words
@@ -47,6 +50,17 @@ put_words words = do
   key ← key_word first.0
   columns ← each column_word first.1
   Some (Put key columns)
+
+-- putif K S index=value .., behind its first word: at least one column
+unfoldable pub put_if_words : List (List ℕ) → Option Command
+put_if_words words = do
+  first ← next words
+  second ← next first.1
+  third ← next second.1
+  key ← key_word first.0
+  stamp ← stamp_word second.0
+  columns ← each column_word second.1
+  Some (PutIf key stamp columns)
 
 -- remove K, behind its first word
 unfoldable pub remove_words : List (List ℕ) → Option Command
@@ -77,7 +91,9 @@ scan_words words = do
 abbrev pub command_by : List ℕ → List (List ℕ) → Option Command
 command_by verb words =
     if is_text verb (codes "get") then get_words words
+    else if is_text verb (codes "gets") then get_words words
     else if is_text verb (codes "put") then put_words words
+    else if is_text verb (codes "putif") then put_if_words words
     else if is_text verb (codes "remove") then remove_words words
     else if is_text verb (codes "scan") then scan_words words
     else None
@@ -88,6 +104,11 @@ command_words words = do
   first ← next words
   command_by first.0 first.1
 
+-- whether a command's answer shows the stamp of a row: that of gets does
+abbrev pub shows_stamps : List (List ℕ) → Bool
+shows_stamps [] = false
+shows_stamps (verb ∷ words) = is_text verb (codes "gets")
+
 -- begin N T, and a command
 unfoldable pub begin_line : List (List ℕ) → Option Line
 begin_line words = do
@@ -96,7 +117,7 @@ begin_line words = do
   name ← name_word first.0
   tenant ← number_word second.0
   command ← command_words second.1
-  Some (Begin name tenant command)
+  Some (Begin name tenant command (shows_stamps second.1))
 
 -- step N, run N: a name alone
 unfoldable pub name_alone : List (List ℕ) → Option ℕ

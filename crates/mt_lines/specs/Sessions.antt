@@ -1,5 +1,5 @@
 -- What a session does for a line, and what it says of it.
-use Rattle.std.specs.Prelude.{◌≡◌, ◌≢◌, ℕ, [], Option, Some, None, Ok, Err}
+use Rattle.std.specs.Prelude.{◌≡◌, ◌≢◌, ℕ, Bool, [], Option, Some, None, Ok, Err}
 use Rattle.mt_rows.specs.{declared.command.Command.Command, declared.refusal.Refusal.Refusal, declared.refusal.Refusal.TheVariants.{TenantThere, Quota, Memory}}
 use Rattle.mt_rows.specs.Accounts.{Accounts, account_of, OthersStay, IsQuota}
 use Rattle.mt_core.specs.{declared.answers.Ticket.Ticket, Tickets.{TellsBegin, TellsRefusal}, Shapes.IsShape}
@@ -47,19 +47,19 @@ abbrev pub store_at_begin : StoreView → Option Accounts → StoreView
 store_at_begin store (Some tenants) = new_store tenants
 store_at_begin store None = store
 
--- what is said of a begin that may stand: what the store tells of it, and with which refusal; its name is in use from then on
-abbrev pub TellsBegun : StoreView → StoreView → ℕ → ℕ → Command → Response → Type 0
-TellsBegun old new name tenant command (Begun other) =
-    (other ≡ name) × ((ticket : Ticket) × TellsBegin old.state new.state 0 tenant command (Ok ticket) × TellsRefusal old.state tenant command (Ok ticket) × TakesName old.named new.named name ticket.id)
-TellsBegun old new name tenant command (Refused refusal) =
+-- what is said of a begin that may stand: what the store tells of it, and with which refusal; its name is in use from then on, and shows stamps as was asked
+abbrev pub TellsBegun : StoreView → StoreView → ℕ → ℕ → Command → Bool → Response → Type 0
+TellsBegun old new name tenant command stamps (Begun other) =
+    (other ≡ name) × ((ticket : Ticket) × TellsBegin old.state new.state 0 tenant command (Ok ticket) × TellsRefusal old.state tenant command (Ok ticket) × TakesName old.named new.named name ticket.id stamps)
+TellsBegun old new name tenant command stamps (Refused refusal) =
     TellsBegin old.state new.state 0 tenant command (Err refusal) × TellsRefusal old.state tenant command (Err refusal) × (new.named ≡ old.named)
-TellsBegun old new name tenant command _ = ⊥
+TellsBegun old new name tenant command stamps _ = ⊥
 
 -- what is said of a begin: one by a name in use is a bad line, and nothing changes; after any other no tenants are gathered
-abbrev pub TellsBeginLine : SessionView → SessionView → ℕ → ℕ → Command → Response → Type 0
-TellsBeginLine old new name tenant command BadLine = (new ≡ old) × ¬ IsFree old.store name
-TellsBeginLine old new name tenant command response =
-    IsFree old.store name × (new.gathered ≡ None) × TellsBegun (store_at_begin old.store old.gathered) new.store name tenant command response
+abbrev pub TellsBeginLine : SessionView → SessionView → ℕ → ℕ → Command → Bool → Response → Type 0
+TellsBeginLine old new name tenant command stamps BadLine = (new ≡ old) × ¬ IsFree old.store name
+TellsBeginLine old new name tenant command stamps response =
+    IsFree old.store name × (new.gathered ≡ None) × TellsBegun (store_at_begin old.store old.gathered) new.store name tenant command stamps response
 
 -- what is said of the trees
 abbrev pub TellsShape : SessionView → Response → Type 0
@@ -73,7 +73,7 @@ TellsOf name old new response told = (new.gathered ≡ old.gathered) × TellsNam
 -- what a session does for a line, and what it says of it
 abbrev pub TellsLine : SessionView → SessionView → Line → Response → Type 0
 TellsLine old new (lines.Tenant tenant quota) response = TellsTenant old new tenant quota response
-TellsLine old new (lines.Begin name tenant command) response = TellsBeginLine old new name tenant command response
+TellsLine old new (lines.Begin name tenant command stamps) response = TellsBeginLine old new name tenant command stamps response
 TellsLine old new (lines.Step name) response = TellsOf name old new response (λ o. TellsStep old.store new.store name o response)
 TellsLine old new (lines.Until name phase) response = TellsOf name old new response (λ o. TellsWalk (Some phase) old.store new.store name o response)
 TellsLine old new (lines.Run name) response = TellsOf name old new response (λ o. TellsWalk None old.store new.store name o response)

@@ -6,7 +6,7 @@ use Rattle.mt_state.specs.{declared.moves.Move.Move, Views.{StateView, Shown, op
 use Rattle.mt_operation.specs.declared.phase.Phase.{Phase}
 use Rattle.mt_core.specs.{Shows.phase_at, Tidies.Tidies}
 use Rattle.mt_lines.specs.{declared.response.Response.Response, declared.response.Response.TheVariants.{At, Moved, Again, NoMemory, Spent, NoSuch, Done}}
-use Rattle.mt_lines.specs.Names.{Tickets, operation_of, FreesName}
+use Rattle.mt_lines.specs.Names.{Tickets, shows_of, operation_of, FreesName}
 use Rattle.mt_state.specs.declared.moves.Move.TheVariants as moves
 
 -- a store, and the names of its operations
@@ -47,7 +47,8 @@ abbrev pub TellsMove : StateView → StateView → ℕ → Move → Type 0
 TellsMove old new o moves.Spent = (new ≡ old) × (2 ^ 59 ≤ old.steps)
 TellsMove old new o move = Tells old new o move
 
--- what is said of a step of the operation of a name: what it tells; `again` says the holder's own name; `done` frees the name
+-- What is said of a step of the operation of a name is what it tells. `again` says the holder's own name. `done` frees the name; its answer shows the stamp of a
+-- row, or doesn't, as was asked with the name.
 abbrev pub TellsStep : StoreView → StoreView → ℕ → ℕ → Response → Type 0
 TellsStep old new name o Moved = TellsMove old.state new.state o moves.Moved × (new.named ≡ old.named)
 TellsStep old new name o (Again other) =
@@ -55,7 +56,7 @@ TellsStep old new name o (Again other) =
 TellsStep old new name o NoMemory = TellsMove old.state new.state o moves.NoMemory × (new.named ≡ old.named)
 TellsStep old new name o Spent = TellsMove old.state new.state o moves.Spent × (new.named ≡ old.named)
 TellsStep old new name o NoSuch = TellsMove old.state new.state o moves.NoSuch × (new.named ≡ old.named)
-TellsStep old new name o (Done answer) = Ends old.state new.state o answer × FreesName old.named new.named name
+TellsStep old new name o (Done answer stamps) = Ends old.state new.state o answer × FreesName old.named new.named name × (stamps ≡ shows_of old.named name)
 TellsStep old new name o _ = ⊥
 
 -- an operation whose next phase is this stands where it is to stop, if it is to stop anywhere
@@ -120,6 +121,6 @@ abbrev pub SaysMove : StoreView → StoreView → ℕ → ℕ → Move → Respo
 SaysMove old new name o moves.Moved response = (response ≡ Moved) × (new ≡ old)
 SaysMove old new name o (moves.Again holder) response = (other : ℕ) × (response ≡ Again other) × (operation_of old.named other ≡ Some holder) × (new ≡ old)
 SaysMove old new name o moves.NoMemory response = (response ≡ NoMemory) × (new ≡ old)
-SaysMove old new name o moves.Done response = (answer : Answer) × (response ≡ Done answer) × GivesUp old new name o answer
+SaysMove old new name o moves.Done response = (answer : Answer) × (response ≡ Done answer (shows_of old.named name)) × GivesUp old new name o answer
 SaysMove old new name o moves.Spent response = (response ≡ Spent) × (new ≡ old)
 SaysMove old new name o moves.NoSuch response = (response ≡ NoSuch) × (new ≡ old)

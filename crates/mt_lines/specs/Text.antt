@@ -1,8 +1,8 @@
 -- How answers are written.
-use Rattle.std.specs.{Prelude.{◌≡◌, ℕ, ◌+◌, nat_lt, if◌then◌else◌, List, [], ◌∷◌, ◌++◌, length, codes, decimal, slice_get}, Option.unwrap_or}
+use Rattle.std.specs.{Prelude.{◌≡◌, ℕ, ◌+◌, nat_lt, Bool, true, false, if◌then◌else◌, List, [], ◌∷◌, ◌++◌, length, codes, decimal, slice_get}, Option.unwrap_or}
 use Rattle.hex.specs.Hex.{encode_lower}
-use Rattle.mt_rows.specs.{declared.command.Command.Command, declared.command.Command.TheVariants.{Get, Put, Remove, Scan}, declared.reply.Reply.Reply}
-use Rattle.mt_rows.specs.{declared.reply.Reply.TheVariants.{Absent, Found, New, Replaced, Full, Removed, Pairs, NoMemory as NoMemoryReply}, Refusals.number_of}
+use Rattle.mt_rows.specs.{declared.command.Command.Command, declared.command.Command.TheVariants.{Get, Put, PutIf, Remove, Scan}, declared.reply.Reply.Reply}
+use Rattle.mt_rows.specs.{declared.reply.Reply.TheVariants.{Absent, Found, New, Replaced, Full, Removed, Stale, Pairs, NoMemory as NoMemoryReply}, Refusals.number_of, Stamps.Stamped}
 use Rattle.mt_runs.specs.declared.event.Answer.{Answer}
 use Rattle.mt_core.specs.{declared.shape.ShapeLine.ShapeLine, Shapes.line_text}
 use Rattle.mt_lines.specs.declared.response.Response.{Response}
@@ -13,6 +13,7 @@ use Rattle.mt_operation.specs.Phases as phases
 abbrev pub columns_asked : Command → List ℕ
 columns_asked (Get key columns) = columns
 columns_asked (Put key change) = []
+columns_asked (PutIf key stamp change) = []
 columns_asked (Remove key) = []
 columns_asked (Scan from after count columns) = columns
 
@@ -38,29 +39,35 @@ abbrev pub key_text : List ℕ → List ℕ
 key_text [] = codes "-"
 key_text (byte ∷ bytes) = encode_lower (byte ∷ bytes)
 
--- pairs, each behind a space
-abbrev pub each_pair_text : List ℕ → List (List ℕ × List (List ℕ)) → List ℕ
+-- pairs, each behind a space, without their rows' stamps
+abbrev pub each_pair_text : List ℕ → List (List ℕ × Stamped) → List ℕ
 each_pair_text asked [] = []
-each_pair_text asked (pair ∷ pairs) = codes " " ++ key_text pair.0 ++ codes ":" ++ row_text asked 0 pair.1 ++ each_pair_text asked pairs
+each_pair_text asked (pair ∷ pairs) = codes " " ++ key_text pair.0 ++ codes ":" ++ row_text asked 0 pair.1.row ++ each_pair_text asked pairs
 
 -- the number of pairs, and the pairs
-abbrev pub pairs_text : List ℕ → List (List ℕ × List (List ℕ)) → List ℕ
+abbrev pub pairs_text : List ℕ → List (List ℕ × Stamped) → List ℕ
 pairs_text asked pairs = codes "pairs " ++ decimal (length pairs) ++ each_pair_text asked pairs
 
--- a reply, where these columns were asked for
-abbrev pub reply_text : List ℕ → Reply → List ℕ
-reply_text asked Absent = codes "absent"
-reply_text asked (Found row) = codes "found " ++ row_text asked 0 row
-reply_text asked New = codes "new"
-reply_text asked Replaced = codes "replaced"
-reply_text asked Full = codes "full"
-reply_text asked Removed = codes "removed"
-reply_text asked (Pairs list) = pairs_text asked list
-reply_text asked NoMemoryReply = codes "memory"
+-- what stands before a row that was found: its stamp too, or not
+abbrev pub found_text : Bool → ℕ → List ℕ
+found_text true stamp = codes "found@" ++ decimal stamp ++ codes " "
+found_text false stamp = codes "found "
+
+-- a reply, where these columns were asked for, with the stamp of a row that was found or without
+abbrev pub reply_text : Bool → List ℕ → Reply → List ℕ
+reply_text stamps asked Absent = codes "absent"
+reply_text stamps asked (Found found) = found_text stamps found.stamp ++ row_text asked 0 found.row
+reply_text stamps asked New = codes "new"
+reply_text stamps asked Replaced = codes "replaced"
+reply_text stamps asked Full = codes "full"
+reply_text stamps asked Removed = codes "removed"
+reply_text stamps asked (Stale stamp) = codes "stale " ++ decimal stamp
+reply_text stamps asked (Pairs list) = pairs_text asked list
+reply_text stamps asked NoMemoryReply = codes "memory"
 
 -- the line of an operation that is done
-abbrev pub answer_text : Answer → List ℕ
-answer_text answer = codes "done " ++ reply_text (columns_asked answer.command) answer.reply ++ codes "\n"
+abbrev pub answer_text : Bool → Answer → List ℕ
+answer_text stamps answer = codes "done " ++ reply_text stamps (columns_asked answer.command) answer.reply ++ codes "\n"
 
 -- the tree, line by line
 abbrev pub tree_text : List ShapeLine → List ℕ
@@ -78,7 +85,7 @@ IsText (Again name) text = text ≡ codes "again " ++ decimal name ++ codes "\n"
 IsText NoMemory text = text ≡ codes "memory\n"
 IsText Spent text = text ≡ codes "spent\n"
 IsText NoSuch text = text ≡ codes "none\n"
-IsText (Done answer) text = text ≡ answer_text answer
+IsText (Done answer stamps) text = text ≡ answer_text stamps answer
 IsText (Shape lines) text = text ≡ tree_text lines.items
 IsText BadLine text = text ≡ codes "bad line\n"
 

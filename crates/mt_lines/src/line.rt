@@ -4,7 +4,7 @@
 
 ghost use Rattle.std.specs.Prelude.{◌≡◌, IfOk, codes};
 ghost use Rattle.mt_lines.specs.Words.{Means, words_of, each, column_word};
-ghost use Rattle.mt_lines.specs.Line.{index_word, phase_word, phase_in, tenant_line, get_words, put_words, remove_words, after_words, scan_words, command_words, begin_line, name_alone, step_line, run_line, until_line, shape_line, line_of_words, line_of};
+ghost use Rattle.mt_lines.specs.Line.{index_word, phase_word, phase_in, tenant_line, get_words, put_words, put_if_words, remove_words, after_words, scan_words, command_words, shows_stamps, begin_line, name_alone, step_line, run_line, until_line, shape_line, line_of_words, line_of};
 
 use crate::fault::LineFault;
 use crate::words;
@@ -20,11 +20,13 @@ pub enum Line {
         tenant: u32,
         quota: u32,
     },
-    /// Begins an operation of this name.
+    /// Begins an operation of this name. Its answer shows the stamp of a row that was found, or
+    /// doesn't.
     Begin {
         name: u32,
         tenant: u32,
         command: Command,
+        stamps: bool,
     },
     /// One step of the operation.
     Step {
@@ -97,11 +99,23 @@ fn begin(alloc: Global, rest: &[u8]) -> Result<Line, LineFault>
     let name = words::name(first)?;
     let tenant = words::number(second, u32::MAX)?;
     let command = command(alloc, rest)?;
+    let stamps = shows_stamps(rest);
     Ok(Line::Begin {
         name,
         tenant,
         command,
+        stamps,
     })
+}
+
+// Whether a command's answer shows the stamp of a row: that of `gets` does.
+fn shows_stamps(rest: &[u8]) -> bool
+    ensures { result ≡ shows_stamps (words_of rest.now) }
+{
+    match words::next_word(rest) {
+        Ok((verb, _)) => words::is_text(verb, "gets"),
+        Err(_) => false,
+    }
 }
 
 #[tactic(auto, unfolding(crate::specs::Line::command_words))]
@@ -111,8 +125,12 @@ fn command(alloc: Global, rest: &[u8]) -> Result<Command, LineFault>
     let (verb, rest) = words::next_word(rest)?;
     if words::is_text(verb, "get") {
         get(alloc, rest)
+    } else if words::is_text(verb, "gets") {
+        get(alloc, rest)
     } else if words::is_text(verb, "put") {
         put(alloc, rest)
+    } else if words::is_text(verb, "putif") {
+        put_if(alloc, rest)
     } else if words::is_text(verb, "remove") {
         remove(alloc, rest)
     } else if words::is_text(verb, "scan") {
@@ -141,6 +159,19 @@ fn put(alloc: Global, rest: &[u8]) -> Result<Command, LineFault>
     let key = words::key(alloc, first)?;
     let change = NamedColumns::new(columns(alloc, rest)?);
     Ok(Command::Put { key, change })
+}
+
+#[tactic(auto, unfolding(crate::specs::Line::put_if_words))]
+fn put_if(alloc: Global, rest: &[u8]) -> Result<Command, LineFault>
+    ensures { Means (λ command. command) result (put_if_words (words_of rest.now)) }
+{
+    let (first, rest) = words::next_word(rest)?;
+    let (second, behind) = words::next_word(rest)?;
+    words::next_word(behind)?;
+    let key = words::key(alloc, first)?;
+    let stamp = words::long_number(second, u64::MAX)?;
+    let change = NamedColumns::new(columns(alloc, behind)?);
+    Ok(Command::PutIf { key, stamp, change })
 }
 
 #[tactic(auto, unfolding(crate::specs::Line::remove_words))]

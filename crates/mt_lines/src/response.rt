@@ -1,11 +1,11 @@
 //! What a line is answered, and how it is written.
 
 ghost use Rattle.std.specs.Prelude.{◌≡◌, ◌++◌, OnOk, IfOk, string_bytes};
-ghost use Rattle.mt_lines.specs.Text.{columns_asked, index_at, cell_text, row_text, key_text, pairs_text, reply_text, answer_text, tree_text, IsText, Adds};
+ghost use Rattle.mt_lines.specs.Text.{columns_asked, index_at, cell_text, row_text, key_text, pairs_text, found_text, reply_text, answer_text, tree_text, IsText, Adds};
 
 use mt_core::ShapeLine;
 use mt_operation::Phase;
-use mt_rows::{Column, Command, Key, PairList, Refusal, Reply, Row};
+use mt_rows::{Column, Command, Key, PairList, Refusal, Reply, StampedRow};
 use mt_runs::Answer;
 use std::alloc::{AllocError, Global};
 
@@ -30,8 +30,8 @@ pub enum Response {
     Spent,
     /// No operation of this name is open.
     NoSuch,
-    /// The operation is done.
-    Done(Answer),
+    /// The operation is done. Its answer shows the stamp of a row that was found, or doesn't.
+    Done(Answer, bool),
     /// The tree.
     Shape(Vec<ShapeLine>),
     /// The line is none of the language's, or may not stand here.
@@ -65,7 +65,7 @@ pub fn push_response(
         Response::NoMemory => text.push_str("memory\n"),
         Response::Spent => text.push_str("spent\n"),
         Response::NoSuch => text.push_str("none\n"),
-        Response::Done(answer) => push_answer(alloc, text, answer),
+        Response::Done(answer, stamps) => push_answer(alloc, text, answer, *stamps),
         Response::Shape(lines) => push_tree(text, lines),
         Response::BadLine => text.push_str("bad line\n"),
     }
@@ -81,12 +81,23 @@ fn push_tree(text: &mut String, lines: &[ShapeLine]) -> Result<(), AllocError>
     Ok(())
 }
 
-// `done` and the reply.
-fn push_answer(alloc: Global, text: &mut String, answer: &Answer) -> Result<(), AllocError>
-    ensures { OnOk result (string_bytes text.new ≡ string_bytes text.old ++ answer_text answer.now) }
+// `done` and the reply, with the stamp of a row that was found or without.
+fn push_answer(
+    alloc: Global,
+    text: &mut String,
+    answer: &Answer,
+    stamps: bool,
+) -> Result<(), AllocError>
+    ensures { OnOk result (string_bytes text.new ≡ string_bytes text.old ++ answer_text stamps answer.now) }
 {
     text.push_str("done ")?;
-    push_reply(alloc, text, columns_asked(&answer.command), &answer.reply)?;
+    push_reply(
+        alloc,
+        text,
+        stamps,
+        columns_asked(&answer.command),
+        &answer.reply,
+    )?;
     text.push_str("\n")
 }
 
@@ -96,31 +107,44 @@ fn columns_asked(command: &Command) -> &[u8]
 {
     match command {
         Command::Get { columns, .. } | Command::Scan { columns, .. } => columns.as_slice(),
-        Command::Put { .. } | Command::Remove { .. } => &[],
+        Command::Put { .. } | Command::PutIf { .. } | Command::Remove { .. } => &[],
     }
 }
 
-// A reply, where these columns were asked for.
+// A reply, where these columns were asked for, with the stamp of a row that was found or without.
 fn push_reply(
     alloc: Global,
     text: &mut String,
+    stamps: bool,
     asked: &[u8],
     reply: &Reply,
 ) -> Result<(), AllocError>
-    ensures { OnOk result (string_bytes text.new ≡ string_bytes text.old ++ reply_text asked.now reply.now) }
+    ensures { OnOk result (string_bytes text.new ≡ string_bytes text.old ++ reply_text stamps asked.now reply.now) }
 {
     match reply {
         Reply::Absent => text.push_str("absent"),
-        Reply::Found(row) => {
-            text.push_str("found ")?;
-            push_row(alloc, text, asked, row.columns())
+        Reply::Found(found) => {
+            push_found(text, stamps, found.stamp)?;
+            push_row(alloc, text, asked, found.row.columns())
         }
         Reply::New => text.push_str("new"),
         Reply::Replaced => text.push_str("replaced"),
         Reply::Full => text.push_str("full"),
         Reply::Removed => text.push_str("removed"),
+        Reply::Stale(stamp) => write!(text, "stale {stamp}"),
         Reply::Pairs(list) => push_pairs(alloc, text, asked, list.as_slice()),
         Reply::NoMemory => text.push_str("memory"),
+    }
+}
+
+// What stands before a row that was found: its stamp too, or not.
+fn push_found(text: &mut String, stamps: bool, stamp: u64) -> Result<(), AllocError>
+    ensures { OnOk result (string_bytes text.new ≡ string_bytes text.old ++ found_text stamps stamp) }
+{
+    if stamps {
+        write!(text, "found@{stamp} ")
+    } else {
+        text.push_str("found ")
     }
 }
 
@@ -129,7 +153,7 @@ fn push_pairs(
     alloc: Global,
     text: &mut String,
     asked: &[u8],
-    pairs: &[(Key, Row)],
+    pairs: &[(Key, StampedRow)],
 ) -> Result<(), AllocError>
     ensures { OnOk result (string_bytes text.new ≡ string_bytes text.old ++ pairs_text asked.now pairs.now) }
 {
@@ -139,7 +163,7 @@ fn push_pairs(
         text.push_str(" ")?;
         push_key(alloc, text, pair.0.as_bytes())?;
         text.push_str(":")?;
-        push_row(alloc, text, asked, pair.1.columns())?;
+        push_row(alloc, text, asked, pair.1.row.columns())?;
     }
     Ok(())
 }

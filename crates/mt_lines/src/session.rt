@@ -51,7 +51,8 @@ impl Session {
                 name,
                 tenant,
                 command,
-            } => self.begin(alloc, name, tenant, command),
+                stamps,
+            } => self.begin(alloc, name, tenant, command, stamps),
             Line::Step { name } => Ok(self.store.step(name)),
             Line::Until { name, phase } => Ok(self.store.until(name, phase)),
             Line::Run { name } => Ok(self.store.run(name)),
@@ -79,14 +80,15 @@ impl Session {
         name: u32,
         tenant: u32,
         command: Command,
+        stamps: bool,
     ) -> Result<Response, AllocError>
-        ensures { IfOk result (TellsBeginLine self.old self.new name tenant command) }
+        ensures { IfOk result (TellsBeginLine self.old self.new name tenant command stamps) }
     {
         if !self.store.is_free(name) {
             return Ok(Response::BadLine);
         }
         self.make_store(alloc)?;
-        self.store.begin(name, tenant, command)
+        self.store.begin(name, tenant, command, stamps)
     }
 
     // Makes the store of the tenants that are gathered; from then on none are.

@@ -57,7 +57,8 @@ impl NamedStore {
         self.names.ticket(name).is_none()
     }
 
-    /// Begins an operation by a free name, for worker 0.
+    /// Begins an operation by a free name, for worker 0. Its answer shows the stamp of a row that was
+    /// found, or doesn't.
     ///
     /// Where a growth is refused behind the store's own begin, the operation is cancelled: an error
     /// leaves the names as they were, and the same operations open.
@@ -66,14 +67,15 @@ impl NamedStore {
         name: u32,
         tenant: u32,
         command: Command,
+        stamps: bool,
     ) -> Result<Response, AllocError>
         requires { IsFree self.old name }
-        ensures told { IfOk result (TellsBegun self.old self.new name tenant command) }
+        ensures told { IfOk result (TellsBegun self.old self.new name tenant command stamps) }
         ensures cancelled { OnErr result (IsAsBefore self.old self.new) }
     {
         match self.state.begin(0, tenant, command) {
             Ok(ticket) => {
-                if let Err(ticket) = self.names.insert(name, ticket) {
+                if let Err(ticket) = self.names.insert(name, ticket, stamps) {
                     cancel(&mut self.state, ticket);
                     return Err(AllocError);
                 }
@@ -147,7 +149,10 @@ fn respond(state: &mut State, names: &mut Names, name: u32, answer: Move) -> Res
         Move::Moved => Response::Moved,
         Move::Again { holder } => Response::Again(holder_name(names, holder)),
         Move::NoMemory => Response::NoMemory,
-        Move::Done => Response::Done(give_up(state, names, name)),
+        Move::Done => {
+            let stamps = names.shows_stamps(name);
+            Response::Done(give_up(state, names, name), stamps)
+        }
         Move::Spent => Response::Spent,
         Move::NoSuch => Response::NoSuch,
     }

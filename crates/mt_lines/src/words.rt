@@ -76,8 +76,17 @@ pub fn is_text(word: &[u8], text: &str) -> bool
 }
 
 /// A decimal number of at most `most`.
-#[tactic(auto, using(crate::proofs::WordLemmas::digits_grow), unfolding(crate::specs::Words::number_up_to))]
 pub fn number(word: &[u8], most: u32) -> Result<u32, LineFault>
+    ensures number { Means (λ n. n) result (number_up_to most word.now) }
+    ensures most { IfOk result (λ n. n ≤ most) }
+{
+    let number = long_number(word, u64::from(most))?;
+    Ok(number as u32)
+}
+
+/// The same, of a number that may have 64 bits.
+#[tactic(auto, using(crate::proofs::WordLemmas::digits_grow), unfolding(crate::specs::Words::number_up_to))]
+pub fn long_number(word: &[u8], most: u64) -> Result<u64, LineFault>
     ensures number { Means (λ n. n) result (number_up_to most word.now) }
     ensures most { IfOk result (λ n. n ≤ most) }
 {
@@ -89,11 +98,11 @@ pub fn number(word: &[u8], most: u32) -> Result<u32, LineFault>
         if !byte.is_ascii_digit() {
             return Err(LineFault::BadLine);
         }
-        let longer = u64::from(value) * 10 + u64::from(*byte - b'0');
-        if longer > u64::from(most) {
+        let longer = u128::from(value) * 10 + u128::from(*byte - b'0');
+        if longer > u128::from(most) {
             return Err(LineFault::BadLine);
         }
-        value = longer as u32;
+        value = longer as u64;
     }
     Ok(value)
 }

@@ -19,7 +19,7 @@ fn expect_bytes(rt: &impl Abort, what: &str, is_whole: bool, written: &[u8], wan
 }
 
 // A script, and its answers.
-const SINGLE_LINES: [(&str, &str); 53] = [
+const SINGLE_LINES: [(&str, &str); 61] = [
     ("", ""),
     ("\n\r\n# a comment\n", ""),
     (" ", "bad line\n"),
@@ -87,7 +87,7 @@ const SINGLE_LINES: [(&str, &str); 53] = [
         "ok\nbegun 1\ndone new\nbegun 1\ndone found 0=abcd\n",
     ),
     (
-        "tenant 7 5\nbegin 1 7 remove\nbegin 1 7 remove 61 62\nbegin 1 7 scans - 1\nbegin 1 7 gets 61\n",
+        "tenant 7 5\nbegin 1 7 remove\nbegin 1 7 remove 61 62\nbegin 1 7 scans - 1\nbegin 1 7 puts 61 0=\n",
         "ok\nbad line\nbad line\nbad line\nbad line\n",
     ),
     (
@@ -117,6 +117,38 @@ const SINGLE_LINES: [(&str, &str); 53] = [
     (
         "tenant 7 5\nbegin 1 9 put 61 0=\nbegin 1 7 put 61 0=\nrun 1\n",
         "ok\nrefused E4\nbegun 1\ndone new\n",
+    ),
+    (
+        "tenant 7 5\nbegin 1 7 gets\nbegin 1 7 gets 61 256\nbegin 1 7 gets 61 16\nbegin 1 7 gets 61 0\nrun 1\n",
+        "ok\nbad line\nbad line\nrefused E5\nbegun 1\ndone absent\n",
+    ),
+    (
+        "tenant 7 5\nbegin 1 7 put 6b 0=76 2=78\nrun 1\nbegin 1 7 gets 6b\nrun 1\nbegin 1 7 gets 6B 2\nrun 1\nbegin 1 7 get 6b 2\nrun 1\n",
+        "ok\nbegun 1\ndone new\nbegun 1\ndone found@5 0=76,1=,2=78\nbegun 1\ndone found@5 2=78\nbegun 1\ndone found 2=78\n",
+    ),
+    (
+        "tenant 7 5\nbegin 1 7 put 6b 0=76\nrun 1\nbegin 1 7 gets 6b\nbegin 2 7 get 6b\nrun 1\nrun 2\nbegin 1 7 get 6b\nrun 1\n",
+        "ok\nbegun 1\ndone new\nbegun 1\nbegun 2\ndone found@5 0=76\ndone found 0=76\nbegun 1\ndone found 0=76\n",
+    ),
+    (
+        "tenant 7 5\nbegin 1 7 put 6b 0=76\nrun 1\nbegin 1 7 gets 6b\nrun 1\nbegin 1 7 putif 6b 5 0=77\nrun 1\nbegin 1 7 putif 6b 5 0=78\nrun 1\n",
+        "ok\nbegun 1\ndone new\nbegun 1\ndone found@5 0=76\nbegun 1\ndone replaced\nbegun 1\ndone stale 14\n",
+    ),
+    (
+        "tenant 7 1\nbegin 1 7 putif 6c 0 0=76\nrun 1\nbegin 1 7 putif 6d 3 0=76\nrun 1\nbegin 1 7 putif 6d 00 0=76\nrun 1\n",
+        "ok\nbegun 1\ndone new\nbegun 1\ndone stale 0\nbegun 1\ndone full\n",
+    ),
+    (
+        "tenant 7 5\nbegin 1 7 putif 6b 18446744073709551615 0=\nrun 1\nbegin 1 7 putif 6b 0018446744073709551615 0=\nrun 1\nbegin 1 7 putif 6b 18446744073709551616 0=\n",
+        "ok\nbegun 1\ndone stale 0\nbegun 1\ndone stale 0\nbad line\n",
+    ),
+    (
+        "tenant 7 5\nbegin 1 7 putif\nbegin 1 7 putif 6b\nbegin 1 7 putif 6b 5\nbegin 1 7 putif 6b 0=76\nbegin 1 7 putif 6b +5 0=76\nbegin 1 7 putif 6b -1 0=76\nbegin 1 7 putif 6b 5 76\n",
+        "ok\nbad line\nbad line\nbad line\nbad line\nbad line\nbad line\nbad line\n",
+    ),
+    (
+        "tenant 7 5\nbegin 1 7 putif 6b 0 16=\nbegin 1 7 putif 6b 0 1= 0=\nbegin 1 8 putif 6b 0 0=\n",
+        "ok\nrefused E5\nrefused E5\nrefused E4\n",
     ),
     ("\u{0}\n\u{ff}\n", "bad line\nbad line\n"),
     ("step 1 # no comment\nrun 1", "bad line\nnone\n"),

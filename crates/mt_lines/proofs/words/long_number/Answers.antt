@@ -1,6 +1,6 @@
 use Rattle.std.proofs.Common.{◌≡◌, ◌∷◌, drop, ◌+◌, ◌∙◌, ap, arith, add-one, drop-cons, get_or}
 use Rattle.mt_lines.{specs.Words.digits_behind, proofs.WordLemmas.too_great}
-use Rattle.mt_lines.proofs.words.number.Goals as goal
+use Rattle.mt_lines.proofs.words.long_number.Goals as goal
 
 pub returns-then-longer-from-clause-number : goal.returns-then-longer-from-clause-number
 returns-then-longer-from-clause-number c =

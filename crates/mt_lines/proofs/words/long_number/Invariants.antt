@@ -1,6 +1,6 @@
 use Rattle.std.{proofs.Common.{◌≡◌, ◌≤◌, drop}, specs.Str.all_ascii_digits}
 use Rattle.mt_lines.specs.Words.{digits_behind}
-use Rattle.mt_lines.proofs.words.number.Given as goal
+use Rattle.mt_lines.proofs.words.long_number.Given as goal
 
 -- the digits so far write the value
 abbrev pub invariant-loop-byte : goal.invariant-loop-byte
