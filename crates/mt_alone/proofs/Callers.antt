@@ -14,7 +14,7 @@ use Rattle.mt_state.specs.Refused.{IsFault, IsAdmissible, IsRefusal}
 use Rattle.mt_state.proofs.HistoryStart.{content-new, tenant_map-empty}
 use Rattle.mt_core.specs.{declared.answers.Ticket.Ticket, Alone.{IsAlone, IsRun, most_among, most_steps}, ScanPoints.{one_if_standing, live_trees}}
 use Rattle.mt_core.specs.Rights.{IsRightState}
-use Rattle.mt_alone.specs.{declared.runs.Unfinished.Unfinished, TenantMaps.{TenantMaps, tenant_maps, fresh_maps, with_map, after_command, MapsAnswer}}
+use Rattle.mt_alone.specs.{declared.runs.Unfinished.Unfinished, TenantMaps.{TenantMaps, tenant_maps, fresh_maps, with_map, after_command, Applies, GivesNumbers, MapsAnswer}}
 use Rattle.mt_alone.specs.Runs.{Keeps, IsIdle, IsOnly, IsSettled, TellsRun, Finishes}
 use Rattle.mt_alone.specs.Callers.{maps_in, AreOpen, HasNumbersFor, HasNumbers, LeavesStuck, ClearsTo, Clears, Answers}
 use Rattle.mt_alone.proofs.RunLemmas.{keeps_same, keeps_on}
@@ -34,10 +34,12 @@ has_quota v tenant some = known (account_of v.accounts tenant) some
     known (Some a) e = (a.quota, refl, refl)
 
 -- the maps are those that they were where the contents are
-same_maps : (old new : StateView) (opened : Option ℕ) → Keeps old new → contents_of new ≡ contents_of old → maps_in new opened ≡ maps_in old opened
-same_maps old new opened k same =
-    ap (λ (q : ℕ → Option ℕ). tenant_maps q (λ t. tenant_map t (contents_of new)) opened) (fun_ext k.tenants)
-    ∙ ap (λ (x : Contents). tenant_maps (granted old) (λ t. tenant_map t x) opened) same
+same_maps : (old new : StateView) (opened : Option ℕ) → Keeps old new → contents_of new ≡ contents_of old → GivesNumbers (maps_in old opened) (maps_in new opened)
+same_maps old new opened k same = (
+  k.steps,
+  ap (λ (q : ℕ → Option ℕ). tenant_maps q (λ t. tenant_map t (contents_of new)) opened new.steps) (fun_ext k.tenants)
+      ∙ ap (λ (x : Contents). tenant_maps (granted old) (λ t. tenant_map t x) opened new.steps) same,
+)
 
 -- a whole run is a step at least
 one_more : (scans : Bool) (nodes trees : ℕ) → 1 ≤ most_among scans nodes trees
@@ -64,7 +66,7 @@ answers_refused v tenant command refusal there alone is = record {
   keeps = keeps_same v;
   alone = alone;
   leaves = λ left. refl;
-  by_maps = λ numbers. let q = has_quota v tenant there in (q.0, q.1, (refused_for v tenant command refusal numbers there is, refl));
+  by_maps = λ numbers. let q = has_quota v tenant there in (q.0, q.1, (refused_for v tenant command refusal numbers there is, (omega arith, refl)));
 }
 
 live_le : (nodes : List NodeView) → live_count nodes ≤ length nodes
@@ -154,22 +156,26 @@ module _ (old mid : StateView) (o tenant : ℕ) (command : Command) (right : IsR
     was = maps_in old (Some tenant)
 
     -- the map after the command
-    map_now : (reply : Reply) → IsRun (record old { table = mid.table }) new op reply → (t : ℕ) → tenant_map t (contents_of new) ≡ with_map tenant (map_after quota command (was.maps tenant)) was.maps t
-    map_now reply run t = run.makes t ∙ by (eqb t tenant) refl
+    map_now : (number : ℕ) (reply : Reply) → IsRun (record old { table = mid.table }) new op number reply → (t : ℕ) → tenant_map t (contents_of new) ≡ with_map tenant (map_after quota number command (was.maps tenant)) was.maps t
+    map_now number reply run t = run.makes t ∙ by (eqb t tenant) refl
       where
-        by : (b : Bool) → eqb t tenant ≡ b → cond b (map_after (quota_of old t) command (was.maps t)) (was.maps t) ≡ cond b (map_after quota command (was.maps tenant)) (was.maps t)
+        by : (b : Bool) → eqb t tenant ≡ b → cond b (map_after (quota_of old t) number command (was.maps t)) (was.maps t) ≡ cond b (map_after quota number command (was.maps tenant)) (was.maps t)
         by false e = refl
         by true e =
-            ap (λ u. map_after (quota_of old u) command (was.maps u)) (eqb-true t tenant e)
-            ∙ ap (λ q. map_after q command (was.maps tenant)) quota_is
+            ap (λ u. map_after (quota_of old u) number command (was.maps u)) (eqb-true t tenant e)
+            ∙ ap (λ q. map_after q number command (was.maps tenant)) quota_is
 
-    maps_now : (reply : Reply) → IsRun (record old { table = mid.table }) new op reply → maps_in new (Some tenant) ≡ after_command tenant quota command was
-    maps_now reply run =
-        ap (λ (q : ℕ → Option ℕ). tenant_maps q (λ t. tenant_map t (contents_of new)) (Some tenant)) (fun_ext keeps.tenants)
-        ∙ ap (λ (m : Maps). tenant_maps (granted old) m (Some tenant)) (fun_ext (map_now reply run))
+    maps_now : (number : ℕ) (reply : Reply) → IsRun (record old { table = mid.table }) new op number reply → Applies tenant quota command was (maps_in new (Some tenant))
+    maps_now number reply run = (
+      number,
+      run.since,
+      run.upto,
+      ap (λ (q : ℕ → Option ℕ). tenant_maps q (λ t. tenant_map t (contents_of new)) (Some tenant) new.steps) (fun_ext keeps.tenants)
+          ∙ ap (λ (m : Maps). tenant_maps (granted old) m (Some tenant) new.steps) (fun_ext (map_now number reply run)),
+    )
 
-    reply_now : (reply : Reply) → IsRun (record old { table = mid.table }) new op reply → reply ≡ reply_of quota command (was.maps tenant)
-    reply_now reply run = run.told ∙ ap (λ q. reply_of q command (was.maps tenant)) quota_is
+    reply_now : (number : ℕ) (reply : Reply) → IsRun (record old { table = mid.table }) new op number reply → reply ≡ reply_of quota command (was.maps tenant)
+    reply_now number reply run = run.told ∙ ap (λ q. reply_of q command (was.maps tenant)) quota_is
 
     granted_is : was.quotas tenant ≡ Some quota
     granted_is = (has_quota old tenant there).1
@@ -187,7 +193,7 @@ module _ (old mid : StateView) (o tenant : ℕ) (command : Command) (right : IsR
         may.taken,
         elim (told new (Ok reply) f numbers) [
           | inl none ↦ inr (none.0, same_maps old new (Some tenant) (keeps new (Ok reply) f) none.1)
-          | inr run ↦ inl (reply_now new (Ok reply) f reply run, maps_now new (Ok reply) f reply run)
+          | inr run ↦ inl (reply_now new (Ok reply) f run.0 reply run.1, maps_now new (Ok reply) f run.0 reply run.1)
         ],
       ),
     );
@@ -204,7 +210,7 @@ module _ (old mid : StateView) (o tenant : ℕ) (command : Command) (right : IsR
       granted_is new (Err (unfinished.Stuck ticket)) f,
       elim (told new (Err (unfinished.Stuck ticket)) f numbers) [
         | inl none ↦ inr (same_maps old new (Some tenant) (keeps new (Err (unfinished.Stuck ticket)) f) none)
-        | inr run ↦ inl (maps_now new (Err (unfinished.Stuck ticket)) f run.0 run.1)
+        | inr run ↦ inl (maps_now new (Err (unfinished.Stuck ticket)) f run.1 run.0 run.2)
       ],
     );
   }
@@ -228,6 +234,46 @@ answers_held old new stuck tenant command fault c is_there = record {
     held quota (Refused refusal) spent numbers = absurd (no_numbers new (is_scan command) numbers spent)
     held quota Stuck e numbers = inr (same_maps old new (Some tenant) c.keeps c.stands)
 
+-- numbers that were given and nothing else, before a command: it is answered by the maps as they were before that
+numbers_on : (was now new : TenantMaps) → GivesNumbers was now → GivesNumbers now new → GivesNumbers was new
+numbers_on was now new g h = (omega (arith, g.0, h.0), h.1 ∙ ap (λ (x : TenantMaps). record x { last = new.last }) g.1)
+
+applies_on : (was now new : TenantMaps) (tenant quota : ℕ) (command : Command) → GivesNumbers was now → Applies tenant quota command now new → Applies tenant quota command was new
+applies_on was now new tenant quota command g a =
+    (a.0, omega (arith, g.0, a.1), a.2, a.3 ∙ ap (λ (x : TenantMaps). after_command tenant quota a.0 new.last command x) g.1)
+
+answer_on : (was now new : TenantMaps) (tenant quota : ℕ) (command : Command) (result : Result Reply CallerFault) → GivesNumbers was now → MapsAnswer tenant quota now command result new
+    → MapsAnswer tenant quota was command result new
+answer_on was now new tenant quota command (Ok reply) g a = (
+  a.0,
+  elim a.1 [
+    | inl h ↦ inl (h.0 ∙ ap (λ (x : TenantMaps). reply_of quota command (x.maps tenant)) g.1, applies_on was now new tenant quota command g h.1)
+    | inr h ↦ inr (h.0, numbers_on was now new g h.1)
+  ],
+)
+answer_on was now new tenant quota command (Err (Refused refusal)) g a = (a.0, numbers_on was now new g a.1)
+answer_on was now new tenant quota command (Err Stuck) g a = elim a [
+  | inl h ↦ inl (applies_on was now new tenant quota command g h)
+  | inr h ↦ inr (numbers_on was now new g h)
+]
+
+-- a command behind one that is done with
+pub answers_behind : (old mid new : StateView) (kept stuck : Option Ticket) (tenant : ℕ) (command : Command) (result : Result Reply CallerFault) (done : Unit {0}) → Clears old mid kept (Ok done)
+    → Answers mid new tenant command result stuck → Answers old new tenant command result stuck
+answers_behind old mid new kept stuck tenant command result done c a =
+    let same : GivesNumbers (maps_in old (Some tenant)) (maps_in mid (Some tenant)) = same_maps old mid (Some tenant) c.keeps c.stands in
+    record {
+      keeps = keeps_on old mid new c.keeps a.keeps;
+      alone = a.alone;
+      leaves = a.leaves;
+      by_maps = λ numbers.
+          let m = a.by_maps numbers in (
+            m.0,
+            sym (ap (λ (x : TenantMaps). x.quotas tenant) same.1) ∙ m.1,
+            answer_on (maps_in old (Some tenant)) (maps_in mid (Some tenant)) (maps_in new (Some tenant)) tenant m.0 command result same m.2,
+          );
+    }
+
 -- numbers were left before where they are now
 pub numbers_back : (old new : StateView) (scans : Bool) → Keeps old new → HasNumbersFor new scans → HasNumbersFor old scans
 numbers_back old new scans k numbers =
@@ -240,4 +286,4 @@ numbers_each v false numbers = let all = mul-add (256 * (length v.arena.nodes + 
 
 -- all maps are empty in a new state
 pub maps_new : (accounts : Accounts) → maps_in (new_state 0 accounts) None ≡ fresh_maps (λ t. granted_in (account_of accounts t))
-maps_new accounts = ap (λ (m : Maps). tenant_maps (λ t. granted_in (account_of accounts t)) m None) (fun_ext (λ t. ap (tenant_map t) content-new ∙ tenant_map-empty t))
+maps_new accounts = ap (λ (m : Maps). tenant_maps (λ t. granted_in (account_of accounts t)) m None 0) (fun_ext (λ t. ap (tenant_map t) content-new ∙ tenant_map-empty t))

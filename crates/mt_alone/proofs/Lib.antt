@@ -1,3 +1,4 @@
 pub mod RunLemmas
+pub mod Rows
 pub mod Callers
 pub mod Texts

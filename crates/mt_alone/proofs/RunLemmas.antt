@@ -132,7 +132,15 @@ module _ (old done taken new : StateView) (o : ℕ) (answer : Answer) (only : Is
       let reply : e.told.reply ≡ answer.reply = ap (λ (x : Outcome). x.reply) told in
       elim e.outcome [
         | inl none ↦ inl (sym reply ∙ none.0, contents_stand ∙ none.1)
-        | inr run ↦ inr (record { told = sym reply ∙ run.told; makes = λ n. ap (tenant_map n) contents_stand ∙ run.makes n })
+        | inr run ↦ inr (
+          e.told.at,
+          record {
+            since = run.since;
+            upto = omega (arith, run.upto, taken_keeps.steps);
+            told = sym reply ∙ run.told;
+            makes = λ n. ap (tenant_map n) contents_stand ∙ run.makes n;
+          },
+        )
       ]
 
   pub finishes_done : ((op : OperationView) → IsAlone old o op → EndsAlone old done o op DoneMove) → Finishes old new o (Ok answer.reply)
@@ -187,7 +195,7 @@ finishes_stuck old new ticket only r alone right =
       ends = (refl, only_on old new o only c, settled, p);
       alone = λ op h. elim ((alone op h).outcome) [
         | inl none ↦ inl none.1
-        | inr run ↦ inr ((alone op h).told.reply, run)
+        | inr run ↦ inr ((alone op h).told.reply, (alone op h).told.at, run)
       ];
       stands = λ h. (c.settled h).1;
       settled = λ h. settled;

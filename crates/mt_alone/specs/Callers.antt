@@ -15,9 +15,9 @@ pub record AloneView : Type 0 where
 abbrev pub alone_view : StateView → Option ℕ → Option Ticket → AloneView
 alone_view state opened stuck = record { state = state; opened = opened; stuck = stuck }
 
--- the maps of a state's tenants
+-- the maps of a state's tenants; the numbers that were given are those of its steps
 abbrev pub maps_in : StateView → Option ℕ → TenantMaps
-maps_in v opened = tenant_maps (granted v) (λ t. tenant_map t (contents_of v)) opened
+maps_in v opened = tenant_maps (granted v) (λ t. tenant_map t (contents_of v)) opened v.steps
 
 abbrev pub maps_of : AloneView → TenantMaps
 maps_of a = maps_in a.state a.opened

@@ -39,12 +39,12 @@ EndsRun new o (Ok reply) = IsIdle new
 EndsRun new o (Err (Spent ticket)) = (ticket.id ≡ o) × IsOnly new o × (new.steps ≡ 2 ^ 59)
 EndsRun new o (Err (Stuck ticket)) = (ticket.id ≡ o) × IsOnly new o × IsSettled new o × IsPlacedToGrow new o
 
--- What a run tells of an operation that is alone from its first step on: its reply and its change, or that no memory was there and nothing changed; one
--- that is stuck has made its change, or none.
+-- What a run tells of an operation that is alone from its first step on: its reply and its change, by the number of one of its steps, or that no memory was
+-- there and nothing changed; one that is stuck has made its change, or none.
 abbrev pub TellsRun : StateView → StateView → OperationView → Result Reply Unfinished → Type 0
-TellsRun old new op (Ok reply) = ((reply ≡ NoMemory) × (contents_of new ≡ contents_of old)) ⊎ IsRun old new op reply
+TellsRun old new op (Ok reply) = ((reply ≡ NoMemory) × (contents_of new ≡ contents_of old)) ⊎ ((number : ℕ) × IsRun old new op number reply)
 TellsRun old new op (Err (Spent ticket)) = ⊥
-TellsRun old new op (Err (Stuck ticket)) = (contents_of new ≡ contents_of old) ⊎ ((reply : Reply) × IsRun old new op reply)
+TellsRun old new op (Err (Stuck ticket)) = (contents_of new ≡ contents_of old) ⊎ ((reply : Reply) × (number : ℕ) × IsRun old new op number reply)
 
 -- an operation that was settled is so after a run that didn't finish it
 abbrev pub StaysSettled : StateView → ℕ → Result Reply Unfinished → Type 0

@@ -1,46 +1,57 @@
 -- What a caller answers that keeps a sorted map for each tenant.
-use Rattle.std.specs.Prelude.{◌≡◌, ◌≢◌, ℕ, ◌==◌, ◌⊎◌, if◌then◌else◌, Option, Some, None, Result, Ok, Err}
-use Rattle.mt_rows.specs.{declared.command.Command.Command, declared.reply.Reply.Reply, declared.reply.Reply.TheVariants.NoMemory}
+use Rattle.std.specs.Prelude.{◌≡◌, ◌≢◌, ℕ, ◌<◌, ◌≤◌, ◌==◌, ◌⊎◌, if◌then◌else◌, Option, Some, None, Result, Ok, Err}
+use Rattle.mt_rows.specs.{declared.command.Command.Command, declared.command.Command.TheVariants.PutIf, declared.reply.Reply.Reply, declared.reply.Reply.TheVariants.NoMemory}
 use Rattle.mt_rows.specs.{declared.refusal.Refusal.Refusal, declared.refusal.Refusal.TheVariants.{Memory, NoTenant, NotOpen, NoStore}, Commands.IsTaken}
-use Rattle.mt_rows.specs.Maps.{Map, reply_of, map_after}
+use Rattle.mt_rows.specs.{Maps.{Map, reply_of, map_after}, Rows.{Bytes, Columns}, Stamps.Stamped}
 use Rattle.mt_runs.specs.Placings.{Maps, no_pairs}
-use Rattle.mt_wire.specs.{declared.message.WireReply.WireReply, declared.message.WireReply.TheVariants.Told}
+use Rattle.mt_wire.specs.{declared.message.Request.Request, declared.message.Request.TheVariants.{Call, GetStamped}, declared.message.WireReply.WireReply, declared.message.WireReply.TheVariants.Told}
 use Rattle.mt_session.specs.{declared.caller.CallerFault.CallerFault, declared.caller.CallerFault.TheVariants.{Refused, Stuck}}
 use Rattle.mt_session.specs.{Exchanges.{Exchange, Opens, Calls, Settles}, Sessions.refused}
 use Rattle.mt_state.specs.Refused.{IsFault}
+use Rattle.mt_wire.specs.declared.message.Shown.TheVariants as shown
+use Rattle.std.specs.FinMap as pairs
 
--- each tenant's quota, where there is such a tenant; each tenant's map; and the tenant that is opened
+-- each tenant's quota, where there is such a tenant; each tenant's map; the tenant that is opened; and the last number that was given
 pub record TenantMaps : Type 0 where
   pub quotas : ℕ → Option ℕ
   pub maps : Maps
   pub opened : Option ℕ
+  pub last : ℕ
 
-abbrev pub tenant_maps : (ℕ → Option ℕ) → Maps → Option ℕ → TenantMaps
-tenant_maps quotas maps opened = record { quotas = quotas; maps = maps; opened = opened }
+abbrev pub tenant_maps : (ℕ → Option ℕ) → Maps → Option ℕ → ℕ → TenantMaps
+tenant_maps quotas maps opened last = record { quotas = quotas; maps = maps; opened = opened; last = last }
 
--- all maps are empty, and no tenant is opened
+-- all maps are empty, no tenant is opened, and no number was given
 abbrev pub fresh_maps : (ℕ → Option ℕ) → TenantMaps
-fresh_maps quotas = tenant_maps quotas no_pairs None
+fresh_maps quotas = tenant_maps quotas no_pairs None 0
 
 -- one tenant has another map, and every other one has its own
 abbrev pub with_map : ℕ → Map → Maps → Maps
 with_map tenant map maps = λ t. if t == tenant then map else maps t
 
--- a command of a tenant that may have so many pairs leaves its map as `map_after` says
-abbrev pub after_command : ℕ → ℕ → Command → TenantMaps → TenantMaps
-after_command tenant quota command old = record old { maps = with_map tenant (map_after quota command (old.maps tenant)) old.maps }
+-- the command of a number, of a tenant that may have so many pairs, leaves its map as `map_after` says; numbers up to the last were given
+abbrev pub after_command : ℕ → ℕ → ℕ → ℕ → Command → TenantMaps → TenantMaps
+after_command tenant quota number last command old = record old { maps = with_map tenant (map_after quota number command (old.maps tenant)) old.maps; last = last }
+
+-- a command took effect, by a number that had not been given before
+abbrev pub Applies : ℕ → ℕ → Command → TenantMaps → TenantMaps → Type 0
+Applies tenant quota command old new = (number : ℕ) × (old.last < number) × (number ≤ new.last) × (new ≡ after_command tenant quota number new.last command old)
+
+-- nothing changed, but that numbers may have been given
+abbrev pub GivesNumbers : TenantMaps → TenantMaps → Type 0
+GivesNumbers old new = (old.last ≤ new.last) × (new ≡ record old { last = new.last })
 
 -- A tenant that is there is opened; of another one NoTenant is told.
 abbrev pub MapsOpen : Option ℕ → TenantMaps → ℕ → Option Refusal → TenantMaps → Type 0
 MapsOpen (Some quota) old tenant refusal new = (refusal ≡ None) × (new ≡ record old { opened = Some tenant })
 MapsOpen None old tenant refusal new = (refusal ≡ Some (NoTenant tenant)) × (new ≡ old)
 
--- A command is answered by its tenant's map, which is then the one that it leaves; or it is answered NoMemory, or refused for its first fault or want of
--- memory, and nothing changes. One that is stuck has no answer: it has left that map, or nothing changed.
+-- A command is answered by its tenant's map, which is then the one that it leaves by a number over all before it. Or it is answered NoMemory, or refused for its
+-- first fault or want of memory, and no map changes. One that is stuck has no answer: it has left that map, or no map changed.
 abbrev pub MapsAnswer : ℕ → ℕ → TenantMaps → Command → Result Reply CallerFault → TenantMaps → Type 0
-MapsAnswer tenant quota old command (Ok reply) new = IsTaken command × (((reply ≡ reply_of quota command (old.maps tenant)) × (new ≡ after_command tenant quota command old)) ⊎ ((reply ≡ NoMemory) × (new ≡ old)))
-MapsAnswer tenant quota old command (Err (Refused refusal)) new = IsFault command refusal × (new ≡ old)
-MapsAnswer tenant quota old command (Err Stuck) new = (new ≡ after_command tenant quota command old) ⊎ (new ≡ old)
+MapsAnswer tenant quota old command (Ok reply) new = IsTaken command × (((reply ≡ reply_of quota command (old.maps tenant)) × Applies tenant quota command old new) ⊎ ((reply ≡ NoMemory) × GivesNumbers old new))
+MapsAnswer tenant quota old command (Err (Refused refusal)) new = IsFault command refusal × GivesNumbers old new
+MapsAnswer tenant quota old command (Err Stuck) new = Applies tenant quota command old new ⊎ GivesNumbers old new
 
 -- a command is one of the opened tenant; where none is opened, it is refused
 abbrev pub MapsCall : Option ℕ → TenantMaps → Command → Result Reply CallerFault → TenantMaps → Type 0
@@ -55,4 +66,29 @@ MapsExchange old (Settles answer) new = (answer ≡ Err NoStore) × (new ≡ old
 
 -- a reply that tells of no want of memory
 abbrev pub IsAmple : WireReply → Type 0
-IsAmple reply = (reply ≢ Told NoMemory) × (reply ≢ refused Memory)
+IsAmple reply = (reply ≢ Told shown.NoMemory) × (reply ≢ refused Memory)
+
+-- a command that asks for no stamp, and a request that neither asks for one nor for one to be shown
+abbrev pub IsWithoutStamp : Command → Type 0
+IsWithoutStamp (PutIf key stamp change) = ⊥
+IsWithoutStamp _ = Unit {0}
+
+abbrev pub AsksNoStamp : Request → Type 0
+AsksNoStamp (Call command) = IsWithoutStamp command
+AsksNoStamp (GetStamped key columns) = ⊥
+AsksNoStamp _ = Unit {0}
+
+-- the row that stands at a key, without its stamp
+abbrev pub row_in : Option Stamped → Option Columns
+row_in None = None
+row_in (Some r) = Some r.row
+
+-- two maps with the same rows, whatever their stamps
+abbrev pub HaveSameRows : Map → Map → Type 0
+HaveSameRows m n = (key : Bytes) → row_in (pairs.get m key) ≡ row_in (pairs.get n key)
+
+-- the same tenants, and the same rows in each one's map; stamps and numbers may be others
+pub record AreSameButStamps (d c : TenantMaps) : Type 0 where
+  pub quotas : c.quotas ≡ d.quotas
+  pub opened : c.opened ≡ d.opened
+  pub rows : (t : ℕ) → HaveSameRows (d.maps t) (c.maps t)
