@@ -2,7 +2,7 @@
 use Rattle.std.proofs.{Common.{◌≡◌, ℕ, ◌+◌, ◌<◌, ◌≤◌, List, length, Some, None, refl, sym, ap, subst, ◌∙◌, arith}, lemmas.List.Elements.All-nil}
 use Rattle.std.proofs.lemmas.Option.{same_Some}
 use Rattle.std.specs.{Prelude.slice_get, FinMap.{empty, len, get-empty, len-empty}, Ordering.nat_cmp, Cmp.Lexicographic.slice_cmp}
-use Rattle.mt_rows.specs.{Accounts.Accounts, Rows.Columns, Tenants.owned_cmp, TenantPairs.{quota_in, HasTenants, KeepsQuotas}}
+use Rattle.mt_rows.specs.{Accounts.Accounts, Stamps.Stamped, Tenants.owned_cmp, TenantPairs.{quota_in, HasTenants, KeepsQuotas}}
 use Rattle.mt_disk.specs.{declared.mem.MemDisk.MemDisk, Mem.mem_state}
 use Rattle.mt_log.specs.Contents.{mark_of, no_batches}
 use Rattle.mt_state.{specs.{Views.StateView, Begins.new_state}, proofs.HistoryStart.{content-new, tenant_map-empty}}
@@ -32,7 +32,7 @@ has_none : (accounts : Accounts) → HasTenants (quota_in accounts) empty
 has_none accounts key there = absurd (there (get-empty owned_cmp key))
 
 keeps_none : (accounts : Accounts) → KeepsQuotas (quota_in accounts) empty
-keeps_none accounts t most is = let none = ap len (tenant_map-empty t) ∙ len-empty (slice_cmp nat_cmp) Columns in omega (arith, none)
+keeps_none accounts t most is = let none = ap len (tenant_map-empty t) ∙ len-empty (slice_cmp nat_cmp) Stamped in omega (arith, none)
 
 rest_new : (count : ℕ) → RestAt 0 (new_store count).logs
 rest_new count = record {

@@ -2,7 +2,7 @@
 use Rattle.std.proofs.Common.{◌≡◌, ℕ, suc, ◌≤◌, ◌^◌, Bool, true, false, cond, eqb, List, [], ◌∷◌, ◌++◌, map, length, Option, Some, None, Result, refl, sym, ap, subst, ◌∙◌, arith, inl, inr}
 use Rattle.std.proofs.lemmas.{Bool.eqb-true, Bool.Decides.nat_tests, List.append-nil}
 use Rattle.std.specs.{Prelude.{slice_get, slice_set}, Option.option_map, Ordering.{nat_cmp, is_eq}, FinMap.get}
-use Rattle.mt_rows.specs.{Rows.{Columns}, Accounts.{Accounts, account_of, numbers_of}, TenantPairs.{quota_in, pairs_of}, declared.record.TenantPair.TenantPair, declared.record.Batch.Batch}
+use Rattle.mt_rows.specs.{Stamps.Stamped, Accounts.{Accounts, account_of, numbers_of}, TenantPairs.{quota_in, pairs_of}, declared.record.TenantPair.TenantPair, declared.record.Batch.Batch}
 use Rattle.mt_rows.proofs.ContentLaws.{get-tenant_map}
 use Rattle.mt_disk.specs.{declared.mem.MemDisk.MemDisk}
 use Rattle.mt_checkpoint.specs.Checkpoints.{Walk, IsWalk}
@@ -153,7 +153,7 @@ others_empty accounts s tenants keeps all t none m key = by (get (pairs_upto m s
     no_quota = ap (option_map (λ (a : Rattle.mt_rows.specs.declared.tenants.Account.Account). a.quota))
         (no_account accounts t (λ k here. none k (ap (λ ts. slice_get ts k) all ∙ here)))
 
-    by : (row : Option Columns) → get (pairs_upto m s.history) (t, key) ≡ row → get (map_upto m s.history t) key ≡ None
+    by : (row : Option Stamped) → get (pairs_upto m s.history) (t, key) ≡ row → get (map_upto m s.history t) key ≡ None
     by None is = get-tenant_map t (pairs_upto m s.history) key ∙ is
     by (Some row) is = absurd ((keeps m).0 (t, key) (λ e. no_some row (sym e ∙ is)) no_quota)
 

@@ -152,6 +152,13 @@ module _ (accounts : Accounts) (slots : StoreSlots MemDisk) (standing : Standing
             let same = is.cutoff_is in
             omega (arith, kept_so, same)
 
+        pub over_cutoff : r.cutoff ≤ r.resume
+        over_cutoff =
+            let upto = cutoff_upto_last found in
+            let least = is.cutoff_is in
+            let last = is.resume_is in
+            omega (arith, upto, least, last)
+
         pub left_of : AreLeftOf (quotas_of accounts) past.life (min past.kept r.cutoff) (pairs_of r.pairs.items)
         left_of = found_left accounts standing.settled past (length old) rested found read left_rested opened.rest refl r.cutoff r.resume r.used (pairs_of r.pairs.items) is
 
@@ -273,11 +280,12 @@ module _ (accounts : Accounts) (slots : StoreSlots MemDisk) (standing : Standing
 
   pub recovered_up : (r : Found) (new : List (StoreLog MemDisk)) (now : StoreSlots MemDisk) → ServesAgain keeps_rules mem_state failures_of accounts r old slots new now
       → (v : StateView) → IsRestored r.resume (length new) accounts r.pairs.items v → IsRightState v → (serving : Serving) → serving.state ≡ v → IsFresh serving
-      → (next : Standing) × (standing.settled ≤ r.cutoff) × AreLeftOf (quotas_of accounts) (past_of standing.now).life (min (past_of standing.now).kept r.cutoff) (pairs_of r.pairs.items)
+      → (next : Standing) × (standing.settled ≤ r.cutoff) × (r.cutoff ≤ r.resume) × AreLeftOf (quotas_of accounts) (past_of standing.now).life (min (past_of standing.now).kept r.cutoff) (pairs_of r.pairs.items)
       × (next ≡ crashed_to (Ok (life_from (pairs_of r.pairs.items) r.resume)) standing) × Holds accounts (Rest now) next new (Some serving)
   recovered_up r new now a v restored right serving state fresh = (
     crashed_to (Ok (life_from (pairs_of r.pairs.items) r.resume)) standing,
     settled_upto a.mid a.fronts a.opens a.rested a.found a.reads r a.recovers.recovered,
+    over_cutoff a.mid a.fronts a.opens a.rested a.found a.reads r a.recovers.recovered,
     left_of a.mid a.fronts a.opens a.rested a.found a.reads r a.recovers.recovered,
     refl,
     subst (λ (ss : StoreSlots MemDisk). Holds accounts (Rest ss) (crashed_to (Ok (life_from (pairs_of r.pairs.items) r.resume)) standing) new (Some serving)) (sym a.keeps)
@@ -296,7 +304,7 @@ module _ (accounts : Accounts) (slots between now : StoreSlots MemDisk) (old mid
       → CrashesTo accounts (Rest slots) (Rest now) (Recovered r) old was new (Some serving)
   crashes_recovered r serving again begins = λ named standing h.
       let up = recovered_up accounts between standing mid (left_by standing h) r new now again serving.state begins.state begins.right serving refl begins.fresh in
-      (up.0, (up.1, up.2, up.3), up.4)
+      (up.0, (up.1, up.2, up.3, up.4), up.5)
 
   -- or not
   pub crashes_refused : (e : Refusal) → AreNotRecovered accounts between now e mid new → CrashesTo accounts (Rest slots) (Rest now) (Refused e) old was new None

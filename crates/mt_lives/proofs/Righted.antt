@@ -47,6 +47,7 @@ module _ (v : StateView) (worker to : ℕ) (h : IsRightState v) (there : worker 
       tenant = e.tenant;
       key_is = e.key_is;
       makes = e.makes;
+      keeps = e.keeps;
       was = e.was;
     };
   }

@@ -1,11 +1,11 @@
 -- What follows for a store that serves a life: its pairs after each step, and what a crash then ends.
-use Rattle.std.{proofs.{Common.{◌≡◌, ℕ, ◌≤◌, min, Ok, sym, ap, subst, ◌∙◌, arith, ⊎_elim}, lemmas.Bool.cases_lt}, specs.FinMap.get}
+use Rattle.std.{proofs.{Common.{◌≡◌, ℕ, ◌≤◌, get_or, min, Ok, sym, ap, subst, ◌∙◌, arith, ⊎_elim}, lemmas.{Bool.cases_lt, List.Elements.All-contains_itself}}, specs.FinMap.get}
 use Rattle.mt_rows.{specs.{Accounts.Accounts, Tenants.{Contents, tenant_map}}, proofs.ContentLaws.{same_contents, get-tenant_map}}
 use Rattle.mt_tape.{specs.{Tapes.RisesOver, Histories.contents_at}, proofs.TapeLaws.contents_at-now}
 use Rattle.mt_runs.proofs.Order.{order_with_maps}
 use Rattle.mt_state.specs.{Views.{StateView, contents_of, map_of, changed_at}, Histories.Names}
 use Rattle.mt_crashes.specs.{Histories.pairs_upto, Stores.Store}
-use Rattle.mt_lives.{specs.{Lives.{Life, firsts, story_in, steps_in, past_of}, Holds.{quotas_of, Serves, IsDown}}, proofs.Tapes.tape_pairs}
+use Rattle.mt_lives.{specs.{Lives.{Life, firsts, story_in, steps_in, past_of}, Holds.{quotas_of, Serves, IsDown}, Earlier.AreTold}, proofs.{Forward.told_by, Tapes.tape_pairs}}
 
 -- pairs of which each tenant has the same are the same
 pub same_maps : (a b : Contents) → ((t : ℕ) → tenant_map t a ≡ tenant_map t b) → a ≡ b
@@ -14,6 +14,12 @@ same_maps a b same = same_contents a b (λ q. sym (get-tenant_map q.0 a q.1) ∙
 module _ (accounts : Accounts) (life : Life) (s : Store) (v : StateView) (names : Names) (h : Serves accounts life s v names) where
   rises : RisesOver life.base v.tape.entries
   rises = subst (λ n. RisesOver n v.tape.entries) h.floor h.right.tape.rises
+
+  -- a change made each write of the tape, so a log may tell the change
+  told : AreTold v.tape.entries
+  told = λ k d lt.
+      let e = get_or v.tape.entries k d in
+      told_by e (h.right.written e (All-contains_itself v.tape.entries k d lt)).made
 
   pub last : steps_in life ≡ v.steps
   last = h.history.count
@@ -26,7 +32,7 @@ module _ (accounts : Accounts) (life : Life) (s : Store) (v : StateView) (names 
   pub pairs_at : (cutoff : ℕ) → life.base ≤ cutoff → pairs_upto cutoff s.history ≡ contents_at v.tape.entries (contents_of v) cutoff
   pairs_at cutoff le =
       ap (pairs_upto cutoff) h.holds
-      ∙ tape_pairs life.base cutoff h.before v.tape.entries (contents_of v) life.first h.ended h.first begun_with rises h.right.tape.legal le
+      ∙ tape_pairs life.base cutoff h.before v.tape.entries (contents_of v) life.first h.ended h.first begun_with rises h.right.tape.legal told le
 
   -- from its last step on they are the pairs of now
   pub now_at : (cutoff : ℕ) → v.steps ≤ cutoff → contents_at v.tape.entries (contents_of v) cutoff ≡ contents_of v

@@ -78,7 +78,7 @@ never_falls quotas old new (SettleNext id) (Refused e) noted = let same = ap (λ
 never_falls quotas old new (Core e) NoSuch noted = let same = ap (λ (s : Standing). s.settled) noted.1 in omega (arith, same)
 never_falls quotas old new (SettleBegin id) NoSuch noted = let same = ap (λ (s : Standing). s.settled) noted.1 in omega (arith, same)
 never_falls quotas old new (SettleNext id) NoSuch noted = let same = ap (λ (s : Standing). s.settled) noted.1 in omega (arith, same)
-never_falls quotas old new (Crash images) (Recovered r) noted = let same = ap (λ (s : Standing). s.settled) noted.2 in omega (arith, same)
+never_falls quotas old new (Crash images) (Recovered r) noted = let same = ap (λ (s : Standing). s.settled) noted.3 in omega (arith, same)
 never_falls quotas old new (Crash images) (Refused e) noted = let same = ap (λ (s : Standing). s.settled) noted.1.2 in omega (arith, same)
 never_falls quotas old new (Flush worker) NoSuch noted = let same = ap (λ (s : Standing). s.settled) noted in omega (arith, same)
 never_falls quotas old new (Reopen worker) NoSuch noted = let same = ap (λ (s : Standing). s.settled) noted in omega (arith, same)
@@ -94,10 +94,13 @@ never_falls quotas old new CheckStep (Refused e) noted = let same = ap (λ (s : 
 never_falls quotas old new CheckStep NoSuch noted = let same = ap (λ (s : Standing). s.settled) noted.1 in omega (arith, same)
 never_falls quotas old new event note noted = absurd noted
 
--- so each later cutoff is at least that
+-- so each later cutoff is at least that, and numbers go on from there
 kept_on : (quotas : Quotas) (n : ℕ) (notes : Notes) (old new : Standing) (images : Vec (Vec ℕ Global) Global) (r : AnyRecovered) → n ≤ old.settled
-    → NotesLead quotas old (notes ++ (Crash images, Recovered r) ∷ []) new → n ≤ r.cutoff
-kept_on quotas n [] old new images r le (mid, noted, rest) = let kept = noted.0 in omega (arith, le, kept)
+    → NotesLead quotas old (notes ++ (Crash images, Recovered r) ∷ []) new → (n ≤ r.cutoff) × (n ≤ r.resume)
+kept_on quotas n [] old new images r le (mid, noted, rest) =
+    let kept = noted.0 in
+    let over = noted.1 in
+    (omega (arith, le, kept), omega (arith, le, kept, over))
 kept_on quotas n (x ∷ notes) old new images r le (mid, noted, rest) =
     let on = never_falls quotas old mid x.0 x.1 noted in
     kept_on quotas n notes mid new images r (omega (arith, le, on)) rest
@@ -114,8 +117,8 @@ module _ (accounts : Accounts) (slots : LiveSlots) (standing : Standing) (id ste
   within_steps life is =
       at_most (quotas_of accounts) id n w.turns w.lead.0 w.next life (ap (λ (s : Standing). s.now) w.lead.1.4 ∙ is) w.lead.2
 
-  -- and at most every later cutoff
+  -- and at most every later cutoff, from which numbers go on
   pub kept_later : (notes : Notes) (images : Vec (Vec ℕ Global) Global) (r : AnyRecovered) (end : Standing)
-      → NotesLead (quotas_of accounts) w.next (notes ++ (Crash images, Recovered r) ∷ []) end → n ≤ r.cutoff
+      → NotesLead (quotas_of accounts) w.next (notes ++ (Crash images, Recovered r) ∷ []) end → (n ≤ r.cutoff) × (n ≤ r.resume)
   kept_later notes images r end lead =
       kept_on (quotas_of accounts) n notes w.next end images r (is_settled (quotas_of accounts) id n w.turns w.lead.0 w.next w.lead.2) lead

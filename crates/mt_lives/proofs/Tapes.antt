@@ -6,7 +6,7 @@ use Rattle.mt_rows.specs.{Tenants.Contents, declared.record.Batch.Batch}
 use Rattle.mt_tape.specs.{declared.entry.Entry.Entry, Tapes.RisesOver, Histories.{contents_at, IsLegalTape}}
 use Rattle.mt_crashes.{specs.{Fronts.after_changes, Histories.{Placed, upto, changes_of, pairs_upto}, Stores.is_between}, proofs.Bases.after_append}
 use Rattle.mt_drains.specs.Drains.{record_of, records_between}
-use Rattle.mt_lives.{specs.{Holds.placed_of, Earlier.earlier_entries}, proofs.Forward.forward}
+use Rattle.mt_lives.{specs.{Holds.placed_of, Earlier.{earlier_entries, AreTold}}, proofs.Forward.forward}
 use Rattle.std.specs.FinMap as pairs
 
 -- ---- filters
@@ -56,13 +56,13 @@ changes_upto base cutoff before entries ended le =
 
 -- the pairs of the history up to a step of the tape's are those that the tape tells
 pub tape_pairs : (base cutoff : ℕ) (before : List Placed) (entries : List Entry) (now first : Contents) → All (λ p. p.change.stamp ≤ base) before
-    → after_changes pairs.empty (changes_of before) ≡ first → contents_at entries now base ≡ first → RisesOver base entries → IsLegalTape entries now → base ≤ cutoff
+    → after_changes pairs.empty (changes_of before) ≡ first → contents_at entries now base ≡ first → RisesOver base entries → IsLegalTape entries now → AreTold entries → base ≤ cutoff
     → pairs_upto cutoff (before ++ map placed_of entries) ≡ contents_at entries now cutoff
-tape_pairs base cutoff before entries now first ended left start rises legal le =
+tape_pairs base cutoff before entries now first ended left start rises legal told le =
     ap (after_changes pairs.empty) (changes_upto base cutoff before entries ended le)
     ∙ after_append pairs.empty (changes_of before) (map record_of (earlier_entries cutoff entries))
     ∙ ap (λ (c : Contents). after_changes c (map record_of (earlier_entries cutoff entries))) (left ∙ sym start)
-    ∙ sym (forward base cutoff entries now rises legal le)
+    ∙ sym (forward base cutoff entries now rises legal told le)
 
 -- ---- batches
 

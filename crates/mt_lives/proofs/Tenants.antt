@@ -1,9 +1,9 @@
 -- A change is of a tenant that has a quota, so every pair is.
-use Rattle.std.proofs.Common.{◌≡◌, ◌≢◌, ℕ, ◌≤◌, false, cond, Option, Some, None, refl, sym, ap, subst, ◌∙◌, arith, inl, inr}
+use Rattle.std.proofs.Common.{◌≡◌, ◌≢◌, ℕ, ◌+◌, ◌≤◌, Bool, true, false, cond, Option, Some, None, refl, sym, ap, subst, ◌∙◌, arith, inl, inr}
 use Rattle.std.proofs.{lemmas.Bool.{cases_eq, le-ltb, ne_eqb, both_ways}, lemmas.Option.same_Some}
-use Rattle.std.specs.FinMap.{get, len}
-use Rattle.mt_rows.specs.{Rows.{Bytes, Columns}, declared.command.Command.Command, declared.command.Command.TheVariants.{Get, Put, Remove, Scan}}
-use Rattle.mt_rows.specs.{declared.reply.Reply.TheVariants.{New, Full}, declared.tenants.Account.Account}
+use Rattle.std.specs.{Prelude.◌==◌, FinMap.{get, len}}
+use Rattle.mt_rows.specs.{Rows.Bytes, Stamps.{Stamped, stamp_in}, declared.command.Command.Command, declared.command.Command.TheVariants.{Get, Put, PutIf, Remove, Scan}}
+use Rattle.mt_rows.specs.{declared.reply.Reply.TheVariants.{New, Full, Stale}, declared.tenants.Account.Account}
 use Rattle.mt_rows.specs.{Maps.{Map, reply_of, is_change, told_of_row, told_of_put, told_of_remove, map_after}, Accounts.{Accounts, account_of}}
 use Rattle.mt_rows.specs.{Tenants.tenant_map, TenantPairs.{quota_in, HasTenants, KeepsQuotas}}
 use Rattle.mt_rows.proofs.ContentLaws.{get-tenant_map}
@@ -13,17 +13,26 @@ use Rattle.mt_core.specs.Rights.{IsRightState}
 use Rattle.mt_state.specs.Views as views
 
 -- what is told of a row is no change
-looks_only : (columns : _) (row : Option Columns) → is_change (told_of_row columns row) ≡ false
+looks_only : (columns : _) (row : Option Stamped) → is_change (told_of_row columns row) ≡ false
 looks_only columns None = refl
 looks_only columns (Some row) = refl
 
--- with no pairs and no quota no command makes a change
+-- with no pairs and no quota no put makes a change
+none_put : (key : Bytes) (m : Map) → ((k : Bytes) → get m k ≡ None) → is_change (told_of_put 0 (len m) (get m key)) ≡ false
+none_put key m none =
+    ap (λ row. is_change (told_of_put 0 (len m) row)) (none key)
+    ∙ ap (λ b. is_change (cond b New Full)) (le-ltb (len m) 0 (omega arith))
+
+-- and no command does
 none_made : (command : Command) (m : Map) → ((k : Bytes) → get m k ≡ None) → is_change (reply_of 0 command m) ≡ false
 unfolding reply_of
 none_made (Get key columns) m none = looks_only columns (get m key)
-none_made (Put key change) m none =
-    ap (λ row. is_change (told_of_put 0 (len m) row)) (none key)
-    ∙ ap (λ b. is_change (cond b New Full)) (le-ltb (len m) 0 (omega arith))
+none_made (Put key change) m none = none_put key m none
+none_made (PutIf key stamp change) m none = if_met (stamp_in (get m key) == stamp)
+  where
+    if_met : (b : Bool) → is_change (cond b (told_of_put 0 (len m) (get m key)) (Stale (stamp_in (get m key)))) ≡ false
+    if_met true = none_put key m none
+    if_met false = refl
 none_made (Remove key) m none = ap (λ row. is_change (told_of_remove row)) (none key)
 none_made (Scan from after count columns) m none = refl
 
@@ -36,7 +45,7 @@ no_quota v t e = by (account_of v.accounts t) e
     by (Some a) e = absurd (cc)
 
 -- what is not there, unless something is so
-not_there : (row : Option Columns) (P : Type 0) → (row ≢ None → P) → ¬ P → row ≡ None
+not_there : (row : Option Stamped) (P : Type 0) → (row ≢ None → P) → ¬ P → row ≡ None
 not_there None P so none = refl
 not_there (Some r) P so none = absurd (none (so (λ e. absurd (cc))))
 
@@ -57,7 +66,7 @@ module _ (accounts : Accounts) (old new : StateView) (before after : OperationVi
   other_map : (t : ℕ) → t ≢ before.tenant → tenant_map t (contents_of new) ≡ tenant_map t (contents_of old)
   other_map t other =
       p.makes t
-      ∙ ap (λ b. cond b (map_after (quota_of old t) before.command (tenant_map t (contents_of old))) (tenant_map t (contents_of old))) (ne_eqb t before.tenant other)
+      ∙ ap (λ b. cond b (map_after (quota_of old t) (old.steps + 1) before.command (tenant_map t (contents_of old))) (tenant_map t (contents_of old))) (ne_eqb t before.tenant other)
 
   pub has_tenants : HasTenants (quota_in accounts) (contents_of new)
   has_tenants key there = elim (cases_eq key.0 before.tenant) [

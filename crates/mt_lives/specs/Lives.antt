@@ -123,7 +123,7 @@ IsOfScan life (Step op) = (a : Asked) × ((story_in life).asked op ≡ Some a) �
 --
 -- An operation's event gives its life one event more, which one order explains. A flush tells the last step that was made, or it gave 4,096 changes, and
 -- tells the step of the last one. A Settle answers at least the step after which it began. A crash that is recovered begins the next life, with the pairs of the last one after its changes up to the cutoff, as far as
--- they were kept; the cutoff is at least each number that was settled. A crash, a flush, a reopening and a Settle are refused for memory or the device alone.
+-- they were kept; the cutoff is at least each number that was settled, and the next life's numbers are all over the cutoff. A crash, a flush, a reopening and a Settle are refused for memory or the device alone.
 -- A checkpoint begins after the last step that was made, and ends after the last one that was made then; each event of its walk's scans gives the life one
 -- event more, as an operation's does. A checkpoint that is refused, or whose scan doesn't go on, is given up; so is one at a crash, also if the disks may not
 -- leave what the crash tells.
@@ -160,7 +160,7 @@ IsNoted quotas old (Core e) NoSuch new = (¬ IsServing old) × (new ≡ old)
 IsNoted quotas old (SettleBegin id) NoSuch new = ((¬ IsServing old) ⊎ (old.begun id ≢ None)) × (new ≡ old)
 IsNoted quotas old (SettleNext id) NoSuch new = ((¬ IsServing old) ⊎ (old.begun id ≡ None)) × (new ≡ old)
 IsNoted quotas old (Crash images) (Recovered r) new =
-    (old.settled ≤ r.cutoff) × AreLeftOf quotas (past_of old.now).life (min (past_of old.now).kept r.cutoff) (pairs_of r.pairs.items)
+    (old.settled ≤ r.cutoff) × (r.cutoff ≤ r.resume) × AreLeftOf quotas (past_of old.now).life (min (past_of old.now).kept r.cutoff) (pairs_of r.pairs.items)
     × (new ≡ crashed_to (Ok (life_from (pairs_of r.pairs.items) r.resume)) old)
 IsNoted quotas old (Crash images) (Refused e) new =
     IsMemoryOrDevice e × ((past : Past) × MayKeep old.settled (past_of old.now) past × (new ≡ crashed_to (Err past) old))

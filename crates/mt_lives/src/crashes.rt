@@ -1,7 +1,7 @@
 //! Crashes of a store, and its recoveries.
 
 ghost use Rattle.std.specs.{Prelude.{◌≡◌, ◌≢◌, ◌≤◌, ◌+◌, ◌^◌, true, false, length, IfSome, IfNone, IfOk, IfErr, OnOk}, List.All};
-ghost use Rattle.mt_rows.specs.TenantPairs.{pairs_of, quota_in, IsTenantPair, AreDistinct, HasTenants, KeepsQuotas};
+ghost use Rattle.mt_rows.specs.TenantPairs.{pairs_of, quota_in, IsTenantPair, AreDistinct, AreStampedUpto, HasTenants, KeepsQuotas};
 ghost use Rattle.mt_state.specs.Begins.{HaveNoPairs};
 ghost use Rattle.mt_core.specs.{Restores.IsRestored, Rights.IsRightState};
 ghost use Rattle.mt_store_logs.specs.Places.{workers_of};
@@ -146,6 +146,7 @@ fn restored(
     requires empty { HaveNoPairs tenants.now }
     requires steps { recovered.now.resume ≤ 2 ^ 59 }
     requires limits { All IsTenantPair recovered.now.pairs.items }
+    requires stamps { AreStampedUpto recovered.now.resume recovered.now.pairs.items }
     requires distinct { AreDistinct recovered.now.pairs.items }
     requires tenants { HasTenants (quota_in tenants.now) (pairs_of recovered.now.pairs.items) }
     requires quotas { KeepsQuotas (quota_in tenants.now) (pairs_of recovered.now.pairs.items) }

@@ -18,7 +18,7 @@ ghost use Rattle.mt_drains.specs.Drains.{record_of};
 ghost use Rattle.mt_crashes.specs.Fronts.{after_changes};
 ghost use Rattle.mt_runs.specs.{declared.event.Event.{Event as AnyEvent}, Placings.Quotas};
 ghost use Rattle.mt_lives.specs.declared.events.StoreEvent.TheVariants.{Core, SettleBegin, SettleNext, CheckBegin, CheckStep, Crash};
-ghost use Rattle.mt_lives.specs.{declared.events.StoreNote.TheVariants.{Settled, CheckBegun, CheckEnded, Recovered, Refused, NoSuch}, Earlier.earlier_entries};
+ghost use Rattle.mt_lives.specs.{declared.events.StoreNote.TheVariants.{Settled, CheckBegun, CheckEnded, Recovered, Refused, NoSuch}, Earlier.{earlier_entries, AreTold}};
 ghost use Rattle.mt_lives.specs.{declared.serving.Serving.{Serving as AnyServing}, Holds.{quotas_of, Holds}, Returns.IsFresh, Forced.AllCrash, Steps.GoesOn};
 ghost use Rattle.mt_lives.specs.Lives.{Life, Standing, new_standing, steps_in, IsNoted, Notes, NotesLead};
 ghost use Rattle.mt_lives.specs.Owned.{with_state, AreTurnNotes, IsTurn, IsWholeSettle};
@@ -28,20 +28,24 @@ use mt_settle::Logs;
 use mt_stored::Store;
 
 /// A tape goes forward: the pairs after a step are those at its floor, with the writes of the tape up to that step made
-/// over them, the oldest first, as a recovery makes them.
+/// over them, the oldest first, as a recovery makes them. This asks that what a log tells of each write makes the row
+/// after it of the row before it.
 #[tactic(auto, using(crate::proofs::Forward::forward))]
 pub fn a_tape_goes_forward()
-    ensures { (floor m : ℕ) (entries : List AnyEntry) (now : Contents) → RisesOver floor entries → IsLegalTape entries now → floor ≤ m →
+    ensures { (floor m : ℕ) (entries : List AnyEntry) (now : Contents) → RisesOver floor entries → IsLegalTape entries now → AreTold entries → floor ≤ m →
         contents_at entries now m ≡ after_changes (contents_at entries now floor) (map record_of (earlier_entries m entries)) }
 {}
 
-/// What is never noted: a recovery with a cutoff before a number that was settled; a Settle that answers less than
+/// What is never noted: a recovery with a cutoff before a number that was settled, or one after which such a number is
+/// given again; a Settle that answers less than
 /// the step after which it began, or more than the last step; a crash whose files are told to be bad, to fall, or to
 /// be over a quota; of a store that serves, NoSuch of an operation, or of a Settle that begins by a free name; and a
 /// checkpoint that begins or ends at another number than that of the last step, or begins while one is written.
 pub fn wrong_notes_are_refused()
     ensures settled_number_lost { (quotas : Quotas) (old new : Standing) (images : Vec (Vec ℕ Global) Global) (r : AnyRecovered) →
         r.cutoff < old.settled → ¬ IsNoted quotas old (Crash images) (Recovered r) new }
+    ensures settled_number_given_again { (quotas : Quotas) (old new : Standing) (images : Vec (Vec ℕ Global) Global) (r : AnyRecovered) →
+        r.resume < old.settled → ¬ IsNoted quotas old (Crash images) (Recovered r) new }
     ensures settle_before_it_began { (quotas : Quotas) (old new : Standing) (id begun number : ℕ) →
         old.begun id ≡ Some begun → number < begun → ¬ IsNoted quotas old (SettleNext id) (Settled number) new }
     ensures settle_past_the_last_step { (quotas : Quotas) (old new : Standing) (life : Life) (id number : ℕ) →
@@ -102,11 +106,12 @@ pub fn a_settle_of_an_owned_store_is_a_settle()
         → IsWholeSettle accounts slots standing id old.source.state.steps (vec_len old.logs) told new.logs.items (with_state new.source.state serving) }
 {}
 
-/// The number of such a Settle is at most every later cutoff, whatever happens before that crash.
+/// The number of such a Settle is at most every later cutoff, whatever happens before that crash. And it is at most the
+/// number after which the next life counts on. So no number up to it is ever given again.
 pub fn a_number_that_an_owned_store_settled_is_kept()
     ensures { (accounts : Accounts) (slots : AnyLiveSlots) (standing last : Standing) (serving : AnyServing) (id steps count number : ℕ) (logs : List (AnyLog AnyDisk))
         (notes : Notes) (images : Vec (Vec ℕ Global) Global) (r : AnyRecovered) (settle : IsWholeSettle accounts slots standing id steps count (Ok number) logs serving) →
-        NotesLead (quotas_of accounts) settle.next (notes ++ (Crash images, Recovered r) ∷ []) last → number ≤ r.cutoff }
+        NotesLead (quotas_of accounts) settle.next (notes ++ (Crash images, Recovered r) ∷ []) last → (number ≤ r.cutoff) × (number ≤ r.resume) }
 {}
 
 /// What no turn and no Settle of such a store is told as: notes of another log's turn; a Settle with a number over the

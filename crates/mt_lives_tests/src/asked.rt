@@ -15,7 +15,9 @@ use std::process::Abort;
 pub(crate) enum Row {
     /// A put of a worker's, with all its steps.
     Put(u64, u8, &'static str, &'static str),
-    /// One that makes some steps and stays open.
+    /// One on condition of a stamp, with all its steps.
+    PutIf(u64, u8, &'static str, u64, &'static str),
+    /// A put that makes some steps and stays open.
     Open(u64, u8, &'static str, &'static str, u64),
     /// Its other steps.
     End(u64),
@@ -50,12 +52,22 @@ pub(crate) fn one_tenant(alloc: Global) -> Tenants
 }
 
 fn put(rt: &impl Abort, alloc: Global, key: &str, value: &str) -> Command {
+    let change = change_of(rt, alloc, value);
+    let key = key_of(rt, alloc, key);
+    Command::Put { key, change }
+}
+
+fn put_if(rt: &impl Abort, alloc: Global, key: &str, stamp: u64, value: &str) -> Command {
+    let change = change_of(rt, alloc, value);
+    let key = key_of(rt, alloc, key);
+    Command::PutIf { key, stamp, change }
+}
+
+fn change_of(rt: &impl Abort, alloc: Global, value: &str) -> NamedColumns {
     let column = Column::from_slice(alloc, value.as_bytes()).expect(rt, "memory");
     let mut columns = Vec::new(alloc);
     assert!(rt; columns.push((0, column)).is_ok());
-    let change = NamedColumns::new(columns);
-    let key = key_of(rt, alloc, key);
-    Command::Put { key, change }
+    NamedColumns::new(columns)
 }
 
 fn get(rt: &impl Abort, alloc: Global, key: &str) -> Command {
@@ -94,6 +106,14 @@ pub(crate) fn events_of(
     match row {
         Row::Put(op, worker, key, value) => {
             push(rt, events, begin(op, worker, put(rt, alloc, key, value)));
+            step(rt, events, op, ENOUGH);
+        }
+        Row::PutIf(op, worker, key, stamp, value) => {
+            push(
+                rt,
+                events,
+                begin(op, worker, put_if(rt, alloc, key, stamp, value)),
+            );
             step(rt, events, op, ENOUGH);
         }
         Row::Open(op, worker, key, value, steps) => {

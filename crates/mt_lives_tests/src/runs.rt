@@ -31,7 +31,7 @@ pub(crate) const AMPLE: Fate = Fate {
 };
 
 /// What became of a row: what was noted of the last of its events that tells more than that none is open, and
-/// the number that it tells, the operation's reply, or why it was refused.
+/// the number that it tells, the operation's reply, or why it was refused. Of a stale put the number is the stamp there.
 pub(crate) type Noted = (&'static str, u64);
 
 /// What became of each row; none where the logs are not made.
@@ -190,6 +190,7 @@ fn told_of(told: &Told) -> Noted {
             Reply::Absent => ("absent", answer.last),
             Reply::New => ("new", answer.last),
             Reply::Replaced => ("replaced", answer.last),
+            Reply::Stale(stamp) => ("stale", *stamp),
             Reply::Pairs(page) => ("pairs", page.as_slice().len() as u64),
             _ => ("another", answer.last),
         },

@@ -94,3 +94,61 @@ fn each_event_is_noted_as_its_row_says(rt: HostRuntime) -> Result<(), Fail> {
     holds_row_by_row(&rt, rt.alloc(), &STORY);
     Ok(())
 }
+
+// A stamp that no row has.
+const NO_STAMP: u64 = u64::MAX;
+
+// Puts on condition, with two crashes between. The first of each key tells the stamp that its row has.
+fn on_condition(stamp: u64) -> [Row; 17] {
+    [
+        Row::Put(1, 0, "a", "1"),
+        Row::PutIf(2, 1, "a", NO_STAMP, "2"),
+        Row::Settle,
+        Row::Next,
+        Row::Next,
+        Row::Crash,
+        Row::PutIf(1, 0, "a", NO_STAMP, "2"),
+        Row::PutIf(2, 0, "a", stamp, "2"),
+        Row::PutIf(3, 1, "a", stamp, "3"),
+        Row::PutIf(4, 0, "b", 0, "1"),
+        Row::PutIf(5, 1, "b", 0, "2"),
+        Row::Settle,
+        Row::Next,
+        Row::Next,
+        Row::Crash,
+        Row::PutIf(1, 1, "a", NO_STAMP, "4"),
+        Row::PutIf(2, 1, "b", NO_STAMP, "4"),
+    ]
+}
+
+// The stamp that made a put stale.
+fn stale_at(rt: &impl Abort, noted: &[Noted], place: usize) -> u64 {
+    match noted.get(place) {
+        Some(("stale", stamp)) => *stamp,
+        told => panic!(rt; "{place}: {told:?}"),
+    }
+}
+
+// A put on condition of the first row's stamp, read before a crash, is made after it, once; and a key is made once. The
+// rows then keep their stamps over another crash.
+fn expect_stamps_kept(rt: &impl Abort, alloc: Global) {
+    let noted = run(rt, alloc, AMPLE, &on_condition(NO_STAMP)).expect(rt, "logs");
+    let stamp = stale_at(rt, &noted, 1);
+    assert_eq!(rt; stale_at(rt, &noted, 6), stamp);
+    let noted = run(rt, alloc, AMPLE, &on_condition(stamp)).expect(rt, "logs");
+    assert!(rt; noted.get(7).is_some_and(|told| told.0 == "replaced"));
+    assert!(rt; noted.get(9).is_some_and(|told| told.0 == "new"));
+    let (first, second) = (stale_at(rt, &noted, 8), stale_at(rt, &noted, 10));
+    assert!(rt;
+        stamp < first && first < second,
+        "{stamp}, {first}, {second}"
+    );
+    assert_eq!(rt; stale_at(rt, &noted, 15), first);
+    assert_eq!(rt; stale_at(rt, &noted, 16), second);
+}
+
+#[test]
+fn stamps_outlive_crashes(rt: HostRuntime) -> Result<(), Fail> {
+    expect_stamps_kept(&rt, rt.alloc());
+    Ok(())
+}

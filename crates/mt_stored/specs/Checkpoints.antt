@@ -1,7 +1,7 @@
 -- How a checkpoint is written over a desk that is in use, and how it is given up.
 use Rattle.std.specs.Prelude.{◌≡◌, ◌⊎◌, ℕ, ◌+◌, max, Bool, false, List, [], ◌++◌, Option, Some, None, Result, Ok, Err, Vec, slice_get}
 use Rattle.std.specs.Global.{Global}
-use Rattle.mt_rows.specs.{Rows.{Bytes, Columns}, declared.record.TenantPair.TenantPair, declared.command.Command.Command, declared.reply.Reply.TheVariants.Pairs}
+use Rattle.mt_rows.specs.{Rows.Bytes, Stamps.Stamped, declared.record.TenantPair.TenantPair, declared.command.Command.Command, declared.reply.Reply.TheVariants.Pairs}
 use Rattle.mt_rows.specs.{declared.refusal.Refusal.Refusal, declared.refusal.Refusal.TheVariants.{Memory, Device, Spent}}
 use Rattle.mt_disk.specs.Disk.{DiskState}
 use Rattle.mt_runs.specs.declared.event.Answer.{Answer}
@@ -61,7 +61,7 @@ module _ {S : Type 0} (does : S → Period → S → Type 0) (worker : ℕ) wher
   -- it showed a page, whose pairs the walk took
   pub record Shows (old : Scanner S) (walk : PageWalk) (pairs : List TenantPair) (new : Scanner S) (on : PageWalk) : Type 0 where
     pub answer : Answer
-    pub page : List (Bytes × Columns)
+    pub page : List (Bytes × Stamped)
     pub scans : Scans old walk (Ok answer) new
     pub shown : answer.reply ≡ Pairs page
     pub takes : TakesAt (slice_get walk.tenants.items walk.place) page walk on pairs

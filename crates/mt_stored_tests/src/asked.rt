@@ -3,7 +3,7 @@
 use crate::pairs::{Pair, is_pair, pair_of, pairs_of};
 use crate::sessions::put_of;
 use mt_core::State;
-use mt_rows::{ColumnIndexes, Command, Key, Reply, Row};
+use mt_rows::{ColumnIndexes, Command, Key, Reply, StampedRow};
 use mt_state::Move;
 use std::alloc::{AllocError, Global};
 use std::process::Abort;
@@ -31,8 +31,8 @@ fn scan_of(alloc: Global, last: Option<&Pair>) -> Result<Command, AllocError> {
     })
 }
 
-// What a command of a worker is answered.
-fn asked(rt: &impl Abort, state: &mut State, worker: u8, command: Command) -> Reply {
+/// What a command of a worker is answered.
+pub(crate) fn asked(rt: &impl Abort, state: &mut State, worker: u8, command: Command) -> Reply {
     assert!(rt; worker < state.logs());
     let ticket = state
         .begin(worker, 7, command)
@@ -61,9 +61,9 @@ pub(crate) fn put_all(rt: &impl Abort, alloc: Global, state: &mut State, from: u
 }
 
 // Whether these are exactly the pairs that are wanted.
-fn are_pairs(pairs: &[(Key, Row)], wanted: &[Pair]) -> bool {
+fn are_pairs(pairs: &[(Key, StampedRow)], wanted: &[Pair]) -> bool {
     for (pair, wanted) in pairs.iter().zip(wanted) {
-        if !is_pair(&pair.0, &pair.1, wanted) {
+        if !is_pair(&pair.0, &pair.1.row, wanted) {
             return false;
         }
     }

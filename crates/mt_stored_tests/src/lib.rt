@@ -1,5 +1,6 @@
 //! Tests of a running server's logs, each behind a lock of its own: several workers, of whom each has a log. Of the
-//! checkpoints that they write. And of a store of 100,000 pairs, with two workers and their logs.
+//! checkpoints that they write. And of a store of 100,000 pairs, with two workers and their logs; and of one whose files are
+//! of format 1.
 //!
 //! The workers' sessions are played without sockets: by one thread in the order of a table, or by a thread each.
 #![tactic(auto)]
@@ -16,6 +17,8 @@ mod disks;
 mod images;
 #[cfg(test)]
 mod many;
+#[cfg(test)]
+mod old_formats;
 #[cfg(test)]
 mod pairs;
 #[cfg(test)]

@@ -2,7 +2,7 @@
 use Rattle.std.proofs.Common.{refl, sym, inl, inr}
 use Rattle.mt_disk.specs.Mem.{mem_state}
 use Rattle.mt_recover.proofs.Limits.{distinct}
-use Rattle.mt_store_logs.proofs.Limits.{limits_of, resumes_within}
+use Rattle.mt_store_logs.proofs.Limits.{limits_of, resumes_within, stamps_of}
 use Rattle.mt_lives.proofs.Flushing.{keeps_rules, failures_of}
 use Rattle.mt_lives.proofs.crashes.come_back.Goals as goal
 
@@ -14,6 +14,9 @@ restored-requires-clause-steps c = resumes_within keeps_rules mem_state failures
 
 pub restored-requires-clause-limits : goal.restored-requires-clause-limits
 restored-requires-clause-limits c = limits_of keeps_rules mem_state failures_of c.args.tenants.now c.in-Ok.recovered c.args.logs.now c.args.slots.now c.recover_store.new.logs c.recover_store.new.slots c.in-Ok.ensures.ok
+
+pub restored-requires-clause-stamps : goal.restored-requires-clause-stamps
+restored-requires-clause-stamps c = stamps_of keeps_rules mem_state failures_of c.args.tenants.now c.in-Ok.recovered c.args.logs.now c.args.slots.now c.recover_store.new.logs c.recover_store.new.slots c.in-Ok.ensures.ok
 
 pub restored-requires-clause-distinct : goal.restored-requires-clause-distinct
 restored-requires-clause-distinct c = distinct c.in-Ok.recovered.pairs.items c.in-Ok.ensures.ok.recovers.ascend

@@ -5,6 +5,12 @@ use Rattle.mt_lives.proofs.laws.wrong_notes_are_refused.Goals as goal
 pub returns-clause-settled_number_lost : goal.returns-clause-settled_number_lost
 returns-clause-settled_number_lost c quotas old new images r lt noted = let kept = noted.0 in omega (arith, kept, lt)
 
+pub returns-clause-settled_number_given_again : goal.returns-clause-settled_number_given_again
+returns-clause-settled_number_given_again c quotas old new images r lt noted =
+    let kept = noted.0 in
+    let over = noted.1 in
+    omega (arith, kept, over, lt)
+
 pub returns-clause-settle_before_it_began : goal.returns-clause-settle_before_it_began
 returns-clause-settle_before_it_began c quotas old new id begun number is lt noted =
     let same : begun ≡ noted.1 = same_Some begun noted.1 (sym is ∙ noted.3) in

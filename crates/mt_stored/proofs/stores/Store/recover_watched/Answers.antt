@@ -1,7 +1,7 @@
 use Rattle.std.{proofs.{Common.{◌≡◌, ◌∙◌, length, refl, sym, ap, subst, arith, inr}, lemmas.Result.err_from_is_err_and}, specs.List.All}
 use Rattle.mt_store_logs.specs.{Places.{AreInOrder, closed_on}, Recovers.{ServesAgain, IsNotRecovered}}
-use Rattle.mt_store_logs.proofs.{Closed.{length-closed, closed_in_order, same_order}, Limits.{limits_of, resumes_within}}
-use Rattle.mt_rows.specs.TenantPairs.{AreDistinct, IsTenantPair}
+use Rattle.mt_store_logs.proofs.{Closed.{length-closed, closed_in_order, same_order}, Limits.{limits_of, resumes_within, stamps_of}}
+use Rattle.mt_rows.specs.TenantPairs.{AreDistinct, AreStampedUpto, IsTenantPair}
 use Rattle.mt_core.specs.Restores.{IsRestored}
 use Rattle.mt_recover.proofs.Limits.{distinct}
 use Rattle.mt_stored.proofs.Slices.{whole}
@@ -15,6 +15,11 @@ pub restore-requires-clause-limits : goal.restore-requires-clause-limits
 restore-requires-clause-limits g c =
     subst (All IsTenantPair) (sym c.deref.ensures.value)
     (limits_of g.D.Disk.is_honest g.D.Disk.state g.D.Disk.failures c.args.tenants c.in_ok-recovered.recovered c.deref_mut.result.now c.args.slots c.recover_store.new.logs c.recover_store.new.slots c.in_ok-recovered.ensures.ok)
+
+pub restore-requires-clause-stamps : goal.restore-requires-clause-stamps
+restore-requires-clause-stamps g c =
+    subst (AreStampedUpto c.in_ok-recovered.recovered.resume) (sym c.deref.ensures.value)
+    (stamps_of g.D.Disk.is_honest g.D.Disk.state g.D.Disk.failures c.args.tenants c.in_ok-recovered.recovered c.deref_mut.result.now c.args.slots c.recover_store.new.logs c.recover_store.new.slots c.in_ok-recovered.ensures.ok)
 
 pub restore-requires-clause-distinct : goal.restore-requires-clause-distinct
 restore-requires-clause-distinct g c =
