@@ -8,9 +8,9 @@ use std::alloc::{AllocError, Global};
 use std::test::Fail;
 
 // The second checkpoint, whole.
-const SECOND: [u8; 36] = [
-    1, 0x4d, 0x54, 0x43, 0x4b, 0x50, 1, 0, 0, 0, 0, 0, 0, 0, 12, 1, 0, 0, 0, 7, 0, 1, 0x6b, 1, 0,
-    1, 0x76, 2, 0, 0, 0, 0, 0, 0, 0, 15,
+const SECOND: [u8; 44] = [
+    1, 0x4d, 0x54, 0x43, 0x4b, 0x50, 2, 0, 0, 0, 0, 0, 0, 0, 12, 1, 0, 0, 0, 7, 0, 1, 0x6b, 0, 0,
+    0, 0, 0, 0, 0, 5, 1, 0, 1, 0x76, 2, 0, 0, 0, 0, 0, 0, 0, 15,
 ];
 
 // A slot in which the first was written, and then the second; whether each went well.
@@ -43,7 +43,7 @@ fn torn_left(alloc: Global, disk: &MemDisk, second: bool) -> Result<u64, AllocEr
         let (_, text) = whole.split_at(1);
         let (half, _) = text.split_at(20);
         for byte in [0, 1, 7] {
-            for behind in [b"".as_slice(), half, text, b"MTCKP\x01 and more"] {
+            for behind in [b"".as_slice(), half, text, b"MTCKP\x02 and more"] {
                 let mut image = Vec::new(alloc);
                 image.push(byte)?;
                 image.extend_from_slice(behind)?;

@@ -2,7 +2,9 @@
 
 use mt_pages::PageWalk;
 use mt_rows::key::USER_KEY_BYTES;
-use mt_rows::{Column, Command, Key, PairList, PlainMap, Reply, Row, TenantPair, Tenants};
+use mt_rows::{
+    Column, Command, Key, PairList, PlainMap, Reply, Row, StampedRow, TenantPair, Tenants,
+};
 use std::alloc::{AllocError, Global};
 use std::test::Fail;
 
@@ -16,7 +18,8 @@ fn map_of(alloc: Global, count: u16) -> Result<PlainMap, AllocError> {
         if !Row::fits(&columns) || key.as_bytes().len() > USER_KEY_BYTES {
             return Err(AllocError);
         }
-        map.insert(key, Row::new(alloc, columns)?)?;
+        let row = Row::new(alloc, columns)?;
+        map.insert(key, StampedRow { stamp: 1, row })?;
     }
     Ok(map)
 }
@@ -30,7 +33,7 @@ fn page_of(
 ) -> Result<PairList, AllocError> {
     for (owner, map) in maps.iter_mut() {
         if *owner == tenant && scan.check().is_ok() {
-            return match map.apply(alloc, 1, scan)? {
+            return match map.apply(alloc, 1, 2, scan)? {
                 Reply::Pairs(page) => Ok(page),
                 _ => Err(AllocError),
             };

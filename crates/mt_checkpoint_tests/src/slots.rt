@@ -6,11 +6,17 @@ ghost use Rattle.mt_rows.specs.Commands.{IsKey};
 use mt_checkpoint::{Checkpoint, ReadFault, WriteFault, Writer, create_slot, read_valid};
 use mt_disk::{Disk, MemDisk};
 use mt_rows::key::USER_KEY_BYTES;
-use mt_rows::{Column, Key, Row, TenantPair};
+use mt_rows::{Column, Key, Row, StampedRow, TenantPair};
 use std::alloc::{AllocError, Global};
 
-/// A whole checkpoint: from step 6 up to step 9, with tenant 7's key 6b, column 76, alone.
-pub const VECTOR: [u8; 36] = [
+/// A whole checkpoint: from step 6 up to step 9, with tenant 7's key 6b, column 76, stamp 5, alone.
+pub const VECTOR: [u8; 44] = [
+    1, 0x4d, 0x54, 0x43, 0x4b, 0x50, 2, 0, 0, 0, 0, 0, 0, 0, 6, 1, 0, 0, 0, 7, 0, 1, 0x6b, 0, 0, 0,
+    0, 0, 0, 0, 5, 1, 0, 1, 0x76, 2, 0, 0, 0, 0, 0, 0, 0, 9,
+];
+
+/// The same in format 1, which tells no stamp.
+pub const OLD_VECTOR: [u8; 36] = [
     1, 0x4d, 0x54, 0x43, 0x4b, 0x50, 1, 0, 0, 0, 0, 0, 0, 0, 6, 1, 0, 0, 0, 7, 0, 1, 0x6b, 1, 0, 1,
     0x76, 2, 0, 0, 0, 0, 0, 0, 0, 9,
 ];
@@ -43,14 +49,29 @@ pub fn read_as(alloc: Global, image: &[u8]) -> Result<Told, AllocError> {
     Ok(told_of(&read_valid(alloc, &mut disk)))
 }
 
-// A pair of this tenant, with a key of one byte and a column of so many.
+/// The stamp of the only pair of a file's checkpoint. None if it has no checkpoint of one pair.
+pub fn stamp_in(alloc: Global, image: &[u8]) -> Result<Option<u64>, AllocError> {
+    let mut disk = MemDisk::with_image(alloc, image.to_vec(alloc)?, Vec::new(alloc), None)?;
+    let Ok(Some(checkpoint)) = read_valid(alloc, &mut disk) else {
+        return Ok(None);
+    };
+    match checkpoint.pairs.as_slice() {
+        [pair] => Ok(Some(pair.row.stamp)),
+        _ => Ok(None),
+    }
+}
+
+// A pair of this tenant, with a key of one byte, a column of so many, and stamp 5.
 fn pair(alloc: Global, tenant: u32, key: u8, size: usize) -> Result<TenantPair, AllocError> {
     let mut columns = Vec::new(alloc);
     columns.push(Column::new(alloc, Vec::from_elem(alloc, 0x76, size)?)?)?;
     if !Row::fits(&columns) {
         return Err(AllocError);
     }
-    let row = Row::new(alloc, columns)?;
+    let row = StampedRow {
+        stamp: 5,
+        row: Row::new(alloc, columns)?,
+    };
     let mut bytes = Vec::new(alloc);
     bytes.push(key)?;
     let key = Key::new(bytes);

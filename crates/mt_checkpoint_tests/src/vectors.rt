@@ -1,6 +1,6 @@
 //! The bytes of docs/FORMATS.md, written and read, each of their beginnings, and each byte changed.
 
-use crate::slots::{Told, VECTOR, read_as, slot_with, written};
+use crate::slots::{OLD_VECTOR, Told, VECTOR, read_as, slot_with, stamp_in, written};
 use mt_checkpoint::checkpoint::MAX_STEP;
 use std::alloc::{AllocError, Global};
 use std::test::Fail;
@@ -47,7 +47,7 @@ fn a_walk_out_of_order_is_none(rt: HostRuntime) -> Result<(), Fail> {
 #[test]
 fn each_beginning_is_none(rt: HostRuntime) -> Result<(), Fail> {
     let alloc = rt.alloc();
-    for len in 0..36 {
+    for len in 0..VECTOR.len() {
         let (front, _) = VECTOR.split_at(len);
         assert!(rt;
             read_as(alloc, front)? == Told::None,
@@ -60,9 +60,27 @@ fn each_beginning_is_none(rt: HostRuntime) -> Result<(), Fail> {
     Ok(())
 }
 
-// What the bytes are read as with one of them changed.
-fn changed(alloc: Global, place: usize, by: u8) -> Result<Told, AllocError> {
-    let mut image = VECTOR;
+// In format 1 no entry tells a stamp: each row has the number of steps before the walk.
+#[test]
+fn a_checkpoint_of_format_1_is_read(rt: HostRuntime) -> Result<(), Fail> {
+    let alloc = rt.alloc();
+    for (image, stamp) in [(VECTOR.as_slice(), 5), (OLD_VECTOR.as_slice(), 6)] {
+        assert!(rt; read_as(alloc, image)? == Told::Walk(6, 9, 1));
+        assert!(rt; stamp_in(alloc, image)? == Some(stamp));
+    }
+    for len in 0..OLD_VECTOR.len() {
+        let (front, _) = OLD_VECTOR.split_at(len);
+        assert!(rt;
+            read_as(alloc, front)? == Told::None,
+            "the first {len} bytes"
+        );
+    }
+    Ok(())
+}
+
+// What bytes are read as with one of them changed.
+fn changed(alloc: Global, whole: &[u8], place: usize, by: u8) -> Result<Told, AllocError> {
+    let mut image = whole.to_vec(alloc)?;
     if let Some(at) = image.get_mut(place) {
         *at ^= by;
     }
@@ -78,15 +96,16 @@ fn last_step(byte: usize, by: u8) -> u64 {
     u64::from_be_bytes(bytes)
 }
 
-// What they are to be read as. Another first or last step, tenant, key or column is another checkpoint. So is one that
-// ends before its pair: the next eight bytes are its last step then. All else is none.
+// What they are to be read as. Another first or last step, tenant, key, stamp or column is another checkpoint. So is one
+// that ends before its pair: the next eight bytes are its last step then. All else is none.
 fn want(place: usize, by: u8) -> Told {
     match place {
         14 if 6 ^ by <= 9 => Told::Walk(u64::from(6 ^ by), 9, 1),
-        15 if 1 ^ by == 2 => Told::Walk(6, 0x7_0001_6b01, 0),
-        16..=19 | 22 | 26 => Told::Walk(6, 9, 1),
-        28..=35 => {
-            let last = last_step(place - 28, by);
+        15 if 1 ^ by == 2 => Told::Walk(6, 0x7_0001_6b00, 0),
+        30 if 5 ^ by <= 9 => Told::Walk(6, 9, 1),
+        16..=19 | 22 | 34 => Told::Walk(6, 9, 1),
+        36..=43 => {
+            let last = last_step(place - 36, by);
             if (6..=MAX_STEP).contains(&last) {
                 Told::Walk(6, last, 1)
             } else {
@@ -100,9 +119,9 @@ fn want(place: usize, by: u8) -> Told {
 #[test]
 fn each_changed_byte_is_told_for_what_it_is(rt: HostRuntime) -> Result<(), Fail> {
     let alloc = rt.alloc();
-    for place in 0..36 {
+    for place in 0..VECTOR.len() {
         for by in 1..=255 {
-            let told = changed(alloc, place, by)?;
+            let told = changed(alloc, &VECTOR, place, by)?;
             assert!(rt;
                 told == want(place, by),
                 "byte {place} changed by {by}: {told:?}"

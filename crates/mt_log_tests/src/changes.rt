@@ -4,15 +4,20 @@ ghost use Rattle.std.specs.{Prelude.{◌≡◌, ◌≤◌, ◌^◌}, List.All};
 ghost use Rattle.mt_rows.specs.Commands.{IsKey};
 ghost use Rattle.mt_tape.specs.Tapes.{last_write};
 
-use crate::slots::{Rows, key_of, row_of};
+use crate::slots::{Rows, change_of, key_of, row_of};
 use mt_drains::{DrainedBatch, batch_after};
-use mt_rows::Row;
+use mt_rows::{Change, Row, StampedRow};
 use mt_store_logs::Source;
 use mt_tape::{Entry, Tape};
 use std::alloc::{AllocError, Global};
 
 // No store makes more steps.
 const MAX_STEPS: u64 = 1 << 59;
+
+// What stands at a key: the step that placed it, and the byte of its row, 0 where there is none.
+type Standing = (u64, u8);
+
+const NOTHING: Standing = (0, 0);
 
 /// Changes of tenant 7, how many steps were made, and up to which one each of three workers was drained.
 #[derive(Drop)]
@@ -21,6 +26,7 @@ pub struct History {
     steps: u64,
     tape: Tape,
     drained: [u64; 3],
+    standing: [Standing; 8],
     ghost keys: { All (λ e. IsKey e.key) tape.entries },
     ghost made: { last_write tape ≤ steps },
     ghost few: { steps ≤ 2 ^ 59 },
@@ -35,6 +41,7 @@ impl History {
             steps,
             tape: Tape::new(alloc, steps),
             drained: [steps; 3],
+            standing: [NOTHING; 8],
         }
     }
 
@@ -43,23 +50,34 @@ impl History {
         self.steps
     }
 
-    /// A step that places a change: the key's row is the step, none where that is 0.
-    pub fn place(&mut self, worker: u8, key: u8) -> Result<(), AllocError> {
+    /// A step that places a change of the key with this byte: its row is the step, none where that is 0. Over a row that
+    /// was placed here before, it is a put of its column.
+    pub fn place(&mut self, worker: u8, place: u8) -> Result<(), AllocError> {
         if self.steps >= MAX_STEPS {
             return Err(AllocError);
         }
         let step = self.steps + 1;
-        let key = key_of(self.alloc, key)?;
-        let after = row_unless_0(self.alloc, (step % 7) as u8)?;
+        let byte = (step % 7) as u8;
+        let was = self
+            .standing
+            .get(usize::from(place))
+            .copied()
+            .unwrap_or(NOTHING);
+        let key = key_of(self.alloc, place)?;
+        let before = stamped_unless_0(self.alloc, was)?;
+        let after = row_unless_0(self.alloc, byte)?;
+        let change = change_unless_0(self.alloc, was.1.min(byte), byte)?;
         self.tape.reserve()?;
         self.steps = step;
+        self.standing = with_standing(self.standing, place, (step, byte));
         self.tape.push(Entry {
             step,
             worker,
             tenant: 7,
             key,
-            before: None,
+            before,
             after,
+            change,
         });
         Ok(())
     }
@@ -97,6 +115,32 @@ impl Source for History {
         }
         Ok(drained)
     }
+}
+
+// With another thing that stands at a key.
+fn with_standing(standing: [Standing; 8], place: u8, now: Standing) -> [Standing; 8] {
+    let mut standing = standing;
+    if let Some(at) = standing.get_mut(usize::from(place)) {
+        *at = now;
+    }
+    standing
+}
+
+// What stands at a key, none where its byte is 0.
+fn stamped_unless_0(alloc: Global, standing: Standing) -> Result<Option<StampedRow>, AllocError> {
+    let (stamp, byte) = standing;
+    match row_unless_0(alloc, byte)? {
+        Some(row) => Ok(Some(StampedRow { stamp, row })),
+        None => Ok(None),
+    }
+}
+
+// A put of a column of this byte, none where the lesser of the rows before and after is 0.
+fn change_unless_0(alloc: Global, least: u8, byte: u8) -> Result<Option<Change>, AllocError> {
+    if least == 0 {
+        return Ok(None);
+    }
+    Ok(Some(change_of(alloc, byte)?))
 }
 
 // A row, none where its byte is 0.

@@ -131,6 +131,7 @@ fn put(stamp: u64, worker: u8) -> Change {
         worker,
         key: worker,
         row: Some(1),
+        over: false,
     }
 }
 

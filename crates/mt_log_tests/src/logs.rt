@@ -3,14 +3,14 @@
 ghost use Rattle.std.specs.Prelude.{IfOk};
 ghost use Rattle.mt_log.specs.Contents.{IsBatch};
 
-use crate::slots::{key_of, row_of};
+use crate::slots::{change_of, key_of, row_of};
 use mt_disk::{Disk, MemDisk};
 use mt_log::{AppendFault, LogBatch, LogFile, LoggedBatch, OpenFault, fits};
-use mt_rows::{Batch, Record, Records};
+use mt_rows::{Batch, Record, Records, Write};
 use std::alloc::{AllocError, Global};
 
 /// The header of log 0 of 1, and its closed gate.
-pub const EMPTY: [u8; 9] = [0x4d, 0x54, 0x4c, 0x4f, 0x47, 1, 0, 1, 0];
+pub const EMPTY: [u8; 9] = [0x4d, 0x54, 0x4c, 0x4f, 0x47, 2, 0, 1, 0];
 
 /// What came of a call.
 #[derive(Clone, Copy, Debug, PartialEq, Eq)]
@@ -31,14 +31,35 @@ pub enum Told {
 pub fn put_batch(alloc: Global, from: u64, to: u64, stamp: u64) -> Result<Batch, AllocError>
     ensures { IfOk result IsBatch }
 {
-    let row = Some(row_of(alloc, b'v')?);
+    let row = row_of(alloc, b'v')?;
+    batch_with(alloc, from, to, stamp, Write::Whole(row))
+}
+
+// The same, of a put of column 77 over a row that is there.
+fn change_batch(alloc: Global, from: u64, to: u64, stamp: u64) -> Result<Batch, AllocError>
+    ensures { IfOk result IsBatch }
+{
+    let change = change_of(alloc, b'w')?;
+    batch_with(alloc, from, to, stamp, Write::Changed(change))
+}
+
+// A batch of one record of tenant 7, key 6b.
+fn batch_with(
+    alloc: Global,
+    from: u64,
+    to: u64,
+    stamp: u64,
+    write: Write,
+) -> Result<Batch, AllocError>
+    ensures { IfOk result IsBatch }
+{
     let key = key_of(alloc, b'k')?;
     let mut records = Vec::new(alloc);
     records.push(Record {
         stamp,
         tenant: 7,
         key,
-        row,
+        write,
     })?;
     let records = Records::new(records);
     let batch = Batch { from, to, records };
@@ -58,6 +79,20 @@ pub fn append<D: Disk>(
     stamp: u64,
 ) -> Result<LogFile<D>, (D, Told)> {
     match put_batch(alloc, from, to, stamp) {
+        Ok(batch) => append_batch(alloc, log, batch),
+        Err(_) => Err((log.into_disk(), Told::Memory)),
+    }
+}
+
+/// Appends such a batch behind what a log has, of a put of column 77 over the row that is there, or gives the log's disk
+/// back.
+pub fn append_change<D: Disk>(
+    alloc: Global,
+    log: LogFile<D>,
+    to: u64,
+    stamp: u64,
+) -> Result<LogFile<D>, (D, Told)> {
+    match change_batch(alloc, log.mark(), to, stamp) {
         Ok(batch) => append_batch(alloc, log, batch),
         Err(_) => Err((log.into_disk(), Told::Memory)),
     }
@@ -150,7 +185,7 @@ fn joined(mark: u64, batches: &[LogBatch]) -> Told {
     let mut step = 0;
     for batch in batches {
         let in_order = match batch {
-            LogBatch::Records(batch) => rises(batch),
+            LogBatch::Records(batch) | LogBatch::OldRecords(batch) => rises(batch),
             LogBatch::Resume { from, to, kept } => from <= to && kept <= to,
         };
         if batch.from() != step || !in_order {

@@ -3,8 +3,8 @@
 
 use crate::chance::Chance;
 use crate::slots::{
-    Change, Log, Rows, Walk, append, disk_of, mark_of, new_log, open, recover_over, resume_all,
-    rows_of, unless_device,
+    Change, Log, Rows, Stamps, Walk, append, disk_of, mark_of, new_log, open, recover_over,
+    resume_all, standing_of, unless_device,
 };
 use mt_disk::MemDisk;
 use mt_recover::{LogSlot, Recovered};
@@ -26,7 +26,7 @@ pub struct Counts {
     pub checkpoints: u64,
     /// Recoveries behind which some number had settled since the one before.
     pub settled: u64,
-    /// Recoveries that gave other pairs than the history, or a cutoff before a settled number.
+    /// Recoveries that gave other pairs than the history, or other stamps, or a cutoff before a settled number.
     pub differences: u64,
 }
 
@@ -121,11 +121,13 @@ impl Store {
         } else {
             Some((stamp % 255) as u8 + 1)
         };
+        let (rows, _) = standing_at(&self.history, stamp);
         self.history.push(Change {
             stamp,
             worker,
             key,
             row,
+            over: rows.get(usize::from(key)).is_some_and(|row| *row != 0),
         })?;
         Ok(())
     }
@@ -159,15 +161,22 @@ impl Store {
         Ok(())
     }
 
-    // Writes a checkpoint over one of two. Each key stands in it as it was at some step of the walk.
+    // Writes a checkpoint over one of two. Each key stands in it as it was at some step of the walk, with its stamp.
     fn walk(&mut self) -> Result<(), Refusal> {
         let (first, last) = (self.chance.between(self.begun, self.steps), self.steps);
-        let mut rows = [0; 8];
+        let (mut rows, mut stamps) = ([0; 8], [0; 8]);
         for key in 0..8 {
-            rows[key] = rows_at(&self.history, self.chance.between(first, last))[key];
+            let standing = standing_at(&self.history, self.chance.between(first, last));
+            rows[key] = standing.0[key];
+            stamps[key] = standing.1[key];
         }
         let slot = self.chance.up_to(1) as usize;
-        self.walks[slot] = Some(Walk { first, last, rows });
+        self.walks[slot] = Some(Walk {
+            first,
+            last,
+            rows,
+            stamps,
+        });
         Ok(())
     }
 
@@ -210,8 +219,8 @@ impl Store {
     // Compares what was recovered with the history, and goes on from there.
     fn compare(&mut self, recovered: &Recovered, counts: &mut Counts) {
         let settled = least_of(&self.marks);
-        let rows = rows_at(&self.history, recovered.cutoff);
-        if recovered.cutoff < settled || rows_of(&recovered.pairs) != Some(rows) {
+        let standing = standing_at(&self.history, recovered.cutoff);
+        if recovered.cutoff < settled || standing_of(&recovered.pairs) != Some(standing) {
             count(&mut counts.differences);
         }
         if settled > self.begun {
@@ -259,18 +268,24 @@ fn least_of(marks: &[u64]) -> u64 {
     least
 }
 
-// The rows after the changes up to a step.
-fn rows_at(history: &[Change], step: u64) -> Rows {
-    let mut rows = [0; 8];
+// The rows after the changes up to a step, and the stamp of each.
+fn standing_at(history: &[Change], step: u64) -> (Rows, Stamps) {
+    let (mut rows, mut stamps) = ([0; 8], [0; 8]);
     for change in history {
         if change.stamp > step {
             break;
         }
-        if let Some(row) = rows.get_mut(usize::from(change.key)) {
+        let place = usize::from(change.key);
+        if let (Some(row), Some(stamp)) = (rows.get_mut(place), stamps.get_mut(place)) {
             *row = change.row.unwrap_or(0);
+            *stamp = if change.row.is_some() {
+                change.stamp
+            } else {
+                0
+            };
         }
     }
-    rows
+    (rows, stamps)
 }
 
 // What a crash leaves of a disk, torn where it may be.

@@ -62,6 +62,7 @@ fn put(worker: u8, stamp: u64) -> Change {
         worker,
         key: (stamp % 8) as u8,
         row: Some(1),
+        over: false,
     }
 }
 

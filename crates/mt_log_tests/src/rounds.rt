@@ -27,6 +27,9 @@ const PLACED: [(u64, u8, u8, Option<u8>); 9] = [
     (39, 0, 4, Some(39)),
 ];
 
+// The stamp of the put over a row that was there, of which its log tells the column alone.
+const OVER: u64 = 12;
+
 // Where the log of each worker ends. Behind it stands a batch up to 45 whose gate is none.
 const ENDS: [u64; 3] = [40, 25, 31];
 
@@ -80,6 +83,7 @@ fn history(alloc: Global) -> Result<Vec<Change>, AllocError> {
             worker,
             key,
             row,
+            over: stamp == OVER,
         })?;
     }
     Ok(history)
@@ -110,14 +114,21 @@ fn three_logs(alloc: Global) -> Result<Vec<Log>, Refusal> {
     Ok(logs)
 }
 
-// The checkpoint of a slot. Its pairs are those of keys 0 and 1 at step 10, and one of key 7 that no log has.
+// The checkpoint of a slot. Its pairs are those of keys 0 and 1 at step 10, with their stamps, and one of key 7 that no log
+// has.
 fn walk_in(slot: u8, steps: Steps) -> Option<Walk> {
     if steps == NONE {
         return None;
     }
     let (first, last) = steps;
     let rows = [3, 4, 0, 0, 0, 0, 0, slot.saturating_add(1)];
-    Some(Walk { first, last, rows })
+    let stamps = [3, 4, 0, 0, 0, 0, 0, 1];
+    Some(Walk {
+        first,
+        last,
+        rows,
+        stamps,
+    })
 }
 
 // The rows over the checkpoint of a slot, or over nothing.

@@ -11,7 +11,10 @@ use mt_log::batch::MAX_STEP;
 use mt_log::{AppendFault, Front, LogFile, OpenFault, fits};
 use mt_recover::{LogSlot, Recovered, recover, resume};
 use mt_rows::key::USER_KEY_BYTES;
-use mt_rows::{Batch, Column, Key, Record, Records, Refusal, Row, TenantPair, Tenants};
+use mt_rows::{
+    Batch, Change as ColumnChange, Column, Key, NamedColumns, Record, Records, Refusal, Row,
+    StampedRow, TenantPair, Tenants, Write,
+};
 use std::alloc::{AllocError, Global};
 use std::mem;
 
@@ -21,6 +24,9 @@ pub type Log = LogSlot<MemDisk>;
 /// The rows of the keys 0 to 7, 0 where there is none. A key is a byte, and so is a row.
 pub type Rows = [u8; 8];
 
+/// The stamps of these rows, 0 where there is none.
+pub type Stamps = [u64; 8];
+
 /// A change of tenant 7 that a worker placed: the row of a key after it, none where it was removed.
 #[derive(Clone, Copy)]
 pub struct Change {
@@ -28,6 +34,8 @@ pub struct Change {
     pub worker: u8,
     pub key: u8,
     pub row: Option<u8>,
+    /// Whether a row was there, so that a log tells the column that was put, and not the whole row.
+    pub over: bool,
 }
 
 /// What a checkpoint has.
@@ -36,6 +44,7 @@ pub struct Walk {
     pub first: u64,
     pub last: u64,
     pub rows: Rows,
+    pub stamps: Stamps,
 }
 
 /// A row of one column of one byte.
@@ -46,6 +55,16 @@ pub fn row_of(alloc: Global, byte: u8) -> Result<Row, AllocError> {
         Row::new(alloc, columns)
     } else {
         Err(AllocError)
+    }
+}
+
+/// A put of this column alone, of one byte.
+pub fn change_of(alloc: Global, byte: u8) -> Result<ColumnChange, AllocError> {
+    let mut columns = Vec::new(alloc);
+    columns.push((0, Column::from_slice(alloc, &[byte])?))?;
+    match ColumnChange::new(NamedColumns::new(columns)) {
+        Ok(change) => Ok(change),
+        Err(_) => Err(AllocError),
     }
 }
 
@@ -61,21 +80,30 @@ fn record_of(alloc: Global, change: Change) -> Result<Record, AllocError>
     ensures key { IfOk result (λ r. IsKey r.key) }
 {
     let key = key_of(alloc, change.key)?;
-    let row = match change.row {
-        Some(byte) => Some(row_of(alloc, byte)?),
-        None => None,
-    };
+    let write = write_of(alloc, change)?;
     Ok(Record {
         stamp: change.stamp,
         tenant: 7,
         key,
-        row,
+        write,
     })
 }
 
-fn pair_of(alloc: Global, key: u8, row: u8) -> Result<TenantPair, AllocError> {
+// What a log tells of a change.
+fn write_of(alloc: Global, change: Change) -> Result<Write, AllocError> {
+    match change.row {
+        Some(byte) if change.over => Ok(Write::Changed(change_of(alloc, byte)?)),
+        Some(byte) => Ok(Write::Whole(row_of(alloc, byte)?)),
+        None => Ok(Write::Removed),
+    }
+}
+
+fn pair_of(alloc: Global, key: u8, row: u8, stamp: u64) -> Result<TenantPair, AllocError> {
     let key = key_of(alloc, key)?;
-    let row = row_of(alloc, row)?;
+    let row = StampedRow {
+        stamp,
+        row: row_of(alloc, row)?,
+    };
     Ok(TenantPair {
         tenant: 7,
         key,
@@ -211,12 +239,12 @@ pub fn open_all(alloc: Global, logs: &mut [Log]) -> Result<Vec<Front>, Refusal> 
 }
 
 // Pairs of the keys that have a row.
-fn pairs_in(alloc: Global, rows: Rows) -> Result<Vec<TenantPair>, AllocError> {
+fn pairs_in(alloc: Global, rows: Rows, stamps: Stamps) -> Result<Vec<TenantPair>, AllocError> {
     let mut pairs = Vec::new(alloc);
     for key in 0..8 {
-        let row = rows[usize::from(key)];
-        if row != 0 {
-            pairs.push(pair_of(alloc, key, row)?)?;
+        let place = usize::from(key);
+        if rows[place] != 0 {
+            pairs.push(pair_of(alloc, key, rows[place], stamps[place])?)?;
         }
     }
     Ok(pairs)
@@ -233,7 +261,7 @@ fn keys_fit(pairs: &[TenantPair]) -> bool
 
 // A slot in which a walk was written.
 fn written(alloc: Global, walk: Walk) -> Result<MemDisk, Refusal> {
-    let pairs = pairs_in(alloc, walk.rows)?;
+    let pairs = pairs_in(alloc, walk.rows, walk.stamps)?;
     if !keys_fit(&pairs) {
         return Err(Refusal::NoStore);
     }
@@ -308,18 +336,27 @@ pub fn resume_all(alloc: Global, logs: &mut [Log], recovered: &Recovered) -> Res
 
 /// The rows that pairs have, if they are pairs of such keys and rows.
 pub fn rows_of(pairs: &[TenantPair]) -> Option<Rows> {
-    let mut rows = [0; 8];
+    let (rows, _) = standing_of(pairs)?;
+    Some(rows)
+}
+
+/// The same, and the stamp of each row.
+pub fn standing_of(pairs: &[TenantPair]) -> Option<(Rows, Stamps)> {
+    let (mut rows, mut stamps) = ([0; 8], [0; 8]);
     for pair in pairs {
-        let ([key], [column]) = (pair.key.as_bytes(), pair.row.columns()) else {
+        let ([key], [column]) = (pair.key.as_bytes(), pair.row.row.columns()) else {
             return None;
         };
-        let row = rows.get_mut(usize::from(*key))?;
+        let place = usize::from(*key);
+        let row = rows.get_mut(place)?;
         if pair.tenant != 7 || *row != 0 {
             return None;
         }
         *row = *column.as_bytes().first()?;
+        let stamp = stamps.get_mut(place)?;
+        *stamp = pair.row.stamp;
     }
-    Some(rows)
+    Some((rows, stamps))
 }
 
 /// What a call gave, none where a disk failed.

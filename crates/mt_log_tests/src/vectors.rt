@@ -1,26 +1,36 @@
 //! A log of two batches, byte by byte, and what comes of each call that makes it.
 
-use crate::logs::{EMPTY, Told, append, append_none, disk_with, not_opened, opened, opened_on};
+use crate::logs::{
+    EMPTY, Told, append, append_change, append_none, disk_with, not_opened, opened, opened_on,
+};
 use mt_disk::MemDisk;
 use mt_log::{Front, LogBatch, LogFile, ResumeFault};
+use mt_rows::Write;
 use std::alloc::{AllocError, Global};
 use std::test::Fail;
 
 // Log 0 of 1: a batch from 0 to 6, with a put of tenant 7, key 6b, column 76, at step 5; and a resume
 // batch up to 9, of which 4 are kept.
 const VECTOR: [u8; 85] = [
-    0x4d, 0x54, 0x4c, 0x4f, 0x47, 1, 0, 1, 1, 0, 0, 0, 0x29, 0, 0, 0, 0, 0, 0, 0, 0, 0, 0, 0, 0, 0,
+    0x4d, 0x54, 0x4c, 0x4f, 0x47, 2, 0, 1, 1, 0, 0, 0, 0x29, 2, 0, 0, 0, 0, 0, 0, 0, 0, 0, 0, 0, 0,
     0, 0, 0, 6, 0, 0, 0, 1, 0, 0, 0, 0, 0, 0, 0, 5, 0, 0, 0, 7, 0, 1, 0x6b, 1, 1, 0, 1, 0x76, 1, 0,
     0, 0, 0x19, 1, 0, 0, 0, 0, 0, 0, 0, 6, 0, 0, 0, 0, 0, 0, 0, 9, 0, 0, 0, 0, 0, 0, 0, 4, 0,
 ];
 
-// What is read of it. Its record is void, so that its stamp alone is held.
+// The length and the body of a batch behind the vector's first one: from 6 to 15, with a put of column 0 = 77 over the row
+// there, at step 14.
+const CHANGED: [u8; 46] = [
+    0, 0, 0, 0x2a, 2, 0, 0, 0, 0, 0, 0, 0, 6, 0, 0, 0, 0, 0, 0, 0, 15, 0, 0, 0, 1, 0, 0, 0, 0, 0,
+    0, 0, 14, 0, 0, 0, 7, 0, 1, 0x6b, 2, 1, 0, 0, 1, 0x77,
+];
+
+// What is read of the vector. Its record is void, so that its stamp alone is held.
 const FRONT: &str =
-    "Front { worker: 0, logs: 1, batches: [Records(LoggedBatch { from: 0, to: 6, stamps: [5] }), Resume { from: 6, to: 9, kept: 4 }], held: [SpelledRecords { count: 0, least: 5, greatest: 5, bytes: [] }] }";
+    "Front { version: 2, worker: 0, logs: 1, batches: [Records(LoggedBatch { from: 0, to: 6, stamps: [5] }), Resume { from: 6, to: 9, kept: 4 }], held: [SpelledRecords { count: 0, least: 5, greatest: 5, bytes: [] }] }";
 
 // The record of its first batch.
 const RECORDS: &str =
-    "[Record { stamp: 5, tenant: 7, key: Key { bytes: [107] }, row: Some(Row { columns: [Column { bytes: [118] }] }) }]";
+    "[Record { stamp: 5, tenant: 7, key: Key { bytes: [107] }, write: Whole(Row { columns: [Column { bytes: [118] }] }) }]";
 
 // The front of a disk, as text.
 fn front_of(alloc: Global, disk: MemDisk) -> Result<String, AllocError> {
@@ -51,8 +61,11 @@ fn records_of(alloc: Global, disk: MemDisk) -> Result<String, AllocError> {
 fn stamps_of(alloc: Global, front: &Front) -> Result<Vec<u64>, AllocError> {
     let mut stamps = Vec::new(alloc);
     for batch in &front.batches {
-        if let LogBatch::Records(batch) = batch {
-            stamps.extend_from_slice(batch.stamps())?;
+        match batch {
+            LogBatch::Records(batch) | LogBatch::OldRecords(batch) => {
+                stamps.extend_from_slice(batch.stamps())?;
+            }
+            LogBatch::Resume { .. } => {}
         }
     }
     Ok(stamps)
@@ -132,6 +145,122 @@ fn the_vector_is_written_and_read(rt: HostRuntime) -> Result<(), Fail> {
     );
     let (_disk, told) = made(alloc, MemDisk::new(alloc, Vec::new(alloc), None), 2);
     assert!(rt; told == Told::Turn(2, 0));
+    Ok(())
+}
+
+// The first batch of the vector, and this byte in the place of the next gate.
+fn one_batch(alloc: Global, vector: [u8; 85], gate: u8) -> Result<Vec<u8>, AllocError> {
+    let (front, _) = vector.split_at(54);
+    let mut image = front.to_vec(alloc)?;
+    image.push(gate)?;
+    Ok(image)
+}
+
+// The same, and the batch that changes a column behind it.
+fn two_batches(alloc: Global, vector: [u8; 85]) -> Result<Vec<u8>, AllocError> {
+    let mut image = one_batch(alloc, vector, 1)?;
+    image.extend_from_slice(&CHANGED)?;
+    image.push(0)?;
+    Ok(image)
+}
+
+// Appends a put over the row at step 14 to the log of a disk, up to 15, and opens it again.
+fn changed(alloc: Global, disk: MemDisk) -> (MemDisk, Told) {
+    match LogFile::open(alloc, disk) {
+        Ok((log, _front)) => match append_change(alloc, log, 15, 14) {
+            Ok(log) => opened_on(alloc, log.into_disk()),
+            Err(back) => back,
+        },
+        Err(fault) => not_opened(fault),
+    }
+}
+
+// Whether what was written is a put of column 0 alone, of 77.
+fn is_change(write: &Write) -> bool {
+    match write {
+        Write::Changed(change) => match change.columns() {
+            [named] => named.0 == 0 && named.1.as_bytes() == b"w".as_slice(),
+            _ => false,
+        },
+        Write::Removed | Write::Whole(_) => false,
+    }
+}
+
+// Whether the last record that the front of a disk holds is that.
+fn ends_with_change(alloc: Global, disk: MemDisk) -> Result<bool, AllocError> {
+    match LogFile::open(alloc, disk) {
+        Ok((_log, front)) => {
+            let records = front.records(alloc)?;
+            Ok(
+                records
+                    .last()
+                    .is_some_and(|record| is_change(&record.write)),
+            )
+        }
+        Err(_) => Ok(false),
+    }
+}
+
+// Whether the log of the vector's first batch goes on with that change, after which it has these bytes and is read so.
+fn goes_on(alloc: Global, vector: [u8; 85]) -> Result<bool, AllocError> {
+    let disk = disk_with(alloc, &one_batch(alloc, vector, 0)?, 0, 99)?;
+    let (disk, told) = changed(alloc, disk);
+    let is_written = disk.image() == two_batches(alloc, vector)?.as_slice();
+    Ok(told == Told::Front(15, 2) && is_written && ends_with_change(alloc, disk)?)
+}
+
+// The vector as a file of version 1 has it.
+fn old_vector() -> [u8; 85] {
+    let mut image = VECTOR;
+    image[5] = 1;
+    image[13] = 0;
+    image
+}
+
+#[test]
+fn changed_columns_are_written_and_read(rt: HostRuntime) -> Result<(), Fail> {
+    assert!(rt; goes_on(rt.alloc(), VECTOR)?);
+    Ok(())
+}
+
+// A file of version 1 has the same records. It goes on: its header and its old batch stay as they are, and the next
+// batch is spelled as in a file of version 2.
+#[test]
+fn a_log_of_format_1_is_read_and_goes_on(rt: HostRuntime) -> Result<(), Fail> {
+    let alloc = rt.alloc();
+    let old = old_vector();
+    assert!(rt; opened(alloc, &old)? == Told::Front(9, 2));
+    let front = one_batch(alloc, old, 0)?;
+    assert!(rt; has_stamps(alloc, disk_with(alloc, &front, 0, 99)?, &[5], &[5])?);
+    assert_eq!(rt;
+        records_of(alloc, disk_with(alloc, &front, 0, 99)?)?.as_str(),
+        RECORDS
+    );
+    assert!(rt; goes_on(alloc, old)?);
+    Ok(())
+}
+
+// An old batch is none in a file of version 2, and no other version is known. An old record tells of no changed columns.
+#[test]
+fn formats_are_told_apart(rt: HostRuntime) -> Result<(), Fail> {
+    let alloc = rt.alloc();
+    for (version, want) in [
+        (0, Told::Bad(0, 0)),
+        (1, Told::Front(9, 2)),
+        (2, Told::Bad(0, 8)),
+        (3, Told::Bad(0, 0)),
+    ] {
+        let mut image = old_vector();
+        image[5] = version;
+        assert!(rt; opened(alloc, &image)? == want, "version {version}");
+    }
+    for (kind, want) in [(2, Told::Front(15, 2)), (0, Told::Bad(0, 54))] {
+        let mut image = two_batches(alloc, old_vector())?;
+        if let Some(place) = image.get_mut(59) {
+            *place = kind;
+        }
+        assert!(rt; opened(alloc, &image)? == want, "kind {kind}");
+    }
     Ok(())
 }
 
@@ -243,7 +372,8 @@ fn changed_end(place: usize, byte: u8) -> u64 {
 // What is to be told with this byte in a place where another one stood.
 fn want(place: usize, byte: u8) -> Told {
     match place {
-        // The worker, and the number of logs; a header's other bytes are always the same.
+        // The version, the worker, and the number of logs; a header's other bytes are always the same.
+        5 if byte == 1 => Told::Front(9, 2),
         6 => Told::Bad(byte, 0),
         7 if (1..=64).contains(&byte) => Told::Front(9, 2),
         0..=7 => Told::Bad(0, 0),

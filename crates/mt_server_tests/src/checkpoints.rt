@@ -63,13 +63,14 @@ fn checkpoint_in<R: Files<File = File> + Alloc>(
     Ok(read_valid(alloc, &mut disk).unwrap_or(None))
 }
 
-// Whether this is tenant 7's `k` with `v`, and no other pair.
+// Whether this is tenant 7's `k` with `v`, put by step 5, and no other pair.
 fn is_one_pair(pairs: &[TenantPair]) -> bool {
     match pairs {
         [pair] => {
             pair.tenant == 7
                 && pair.key.as_bytes() == b"k".as_slice()
-                && pair.row.columns().len() == 1
+                && pair.row.stamp == 5
+                && pair.row.row.columns().len() == 1
         }
         _ => false,
     }
@@ -100,8 +101,8 @@ fn each_settled_answer_writes_a_checkpoint(rt: HostRuntime) {
     assert_eq!(rt; first, 6);
     assert!(rt; first < last);
     let last_bytes = last.to_be_bytes();
-    let head = b"\x01MTCKP\x01\x00\x00\x00\x00\x00\x00\x00\x06";
-    let entry = b"\x01\x00\x00\x00\x07\x00\x01k\x01\x00\x01v";
+    let head = b"\x01MTCKP\x02\x00\x00\x00\x00\x00\x00\x00\x06";
+    let entry = b"\x01\x00\x00\x00\x07\x00\x01k\x00\x00\x00\x00\x00\x00\x00\x05\x01\x00\x01v";
     expect_file(&rt, CHECK_0, &[head, entry, b"\x02", &last_bytes]);
     expect_file(&rt, CHECK_1, &[b"\x00"]);
     fs::write(&rt, LOG_0, NO_CHANGE).expect(&rt, "a file");

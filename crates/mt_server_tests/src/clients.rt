@@ -21,6 +21,21 @@ pub(crate) const ABSENT: &[u8] = b"\x00\x00\x00\x01\x01";
 
 pub(crate) const FOUND: &[u8] = b"\x00\x00\x00\x05\x02\x01\x00\x01v";
 
+/// Column 1 of `k` is put, where `v` stands.
+pub(crate) const PUT_OTHER: &[u8] = b"\x00\x00\x00\x09\x03\x00\x01k\x01\x01\x00\x01w";
+
+pub(crate) const REPLACED: &[u8] = b"\x00\x00\x00\x01\x04";
+
+/// Both columns stand there.
+pub(crate) const FOUND_BOTH: &[u8] = b"\x00\x00\x00\x08\x02\x02\x00\x01v\x00\x01w";
+
+/// `v` is put under `k` if the row there has the stamp 5.
+pub(crate) const PUT_AT_5: &[u8] =
+    b"\x00\x00\x00\x11\x08\x00\x01k\x00\x00\x00\x00\x00\x00\x00\x05\x01\x00\x00\x01v";
+
+/// It has the stamp 10.
+pub(crate) const STALE_10: &[u8] = b"\x00\x00\x00\x09\x0b\x00\x00\x00\x00\x00\x00\x00\x0a";
+
 /// `k` is removed.
 pub(crate) const REMOVE: &[u8] = b"\x00\x00\x00\x04\x04\x00\x01k";
 

@@ -121,13 +121,15 @@ fn stores_are_opened_and_refused(rt: HostRuntime) -> Result<(), Fail> {
 type Edits = &'static [(usize, u8)];
 
 // What is changed of the only log, which is cut to a length; and from which byte on it is told to be no log.
-const BAD: [(Edits, usize, usize); 8] = [
+const BAD: [(Edits, usize, usize); 9] = [
     (&[], 5, 0),
     (&[], 8, 8),
     (&[], 30, 8),
     (&[], 54, 54),
-    // Another format; a worker that is none of so many; no logs, and more than there may be.
-    (&[(5, 2)], 55, 0),
+    // Another format, and a batch as the format before this one has it; a worker that is none of so many; no logs, and
+    // more than there may be.
+    (&[(5, 3)], 55, 0),
+    (&[(13, 0)], 55, 8),
     (&[(6, 1)], 55, 0),
     (&[(7, 0)], 55, 0),
     (&[(7, 65)], 55, 0),

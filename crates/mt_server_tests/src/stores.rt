@@ -4,8 +4,8 @@ ghost use Rattle.std.specs.Prelude.{◌≡◌, ◌<◌, ◌≤◌, vec_len};
 ghost use Rattle.mt_state.specs.Begins.{HaveNoPairs};
 
 use crate::clients::{
-    DEVICE, FOUND, GET, NEW, OPEN, OPENED, PUT, SETTLE, SETTLED_6, SETTLED_LAST, SPENT, are_told,
-    connect, is_settled,
+    DEVICE, FOUND, FOUND_BOTH, GET, NEW, OPEN, OPENED, PUT, PUT_AT_5, PUT_OTHER, REPLACED, SETTLE,
+    SETTLED_6, SETTLED_LAST, SPENT, STALE_10, are_told, connect, is_settled,
 };
 use crate::words::options_of;
 use log::Log;
@@ -90,6 +90,10 @@ fn image_of(rt: &impl Abort, alloc: Global, store: Store<MemDisk>) -> Vec<u8> {
 
 // Log 0 of 1: one batch from 0 to 6, with the put of tenant 7, key `k`, column `v`, by step 5.
 pub(crate) const LOG: &[u8] =
+    b"MTLOG\x02\x00\x01\x01\x00\x00\x00\x29\x02\x00\x00\x00\x00\x00\x00\x00\x00\x00\x00\x00\x00\x00\x00\x00\x06\x00\x00\x00\x01\x00\x00\x00\x00\x00\x00\x00\x05\x00\x00\x00\x07\x00\x01k\x01\x01\x00\x01v\x00";
+
+// The same in the format that was before it.
+const OLD_LOG: &[u8] =
     b"MTLOG\x01\x00\x01\x01\x00\x00\x00\x29\x00\x00\x00\x00\x00\x00\x00\x00\x00\x00\x00\x00\x00\x00\x00\x00\x06\x00\x00\x00\x01\x00\x00\x00\x00\x00\x00\x00\x05\x00\x00\x00\x07\x00\x01k\x01\x01\x00\x01v\x00";
 
 // The batch with which a recovery ends: from 6 to 6, all up to 6 kept. It opens the gate that was closed.
@@ -116,6 +120,12 @@ pub(crate) enum Scene {
     Reads,
     /// It reads that and settles.
     ReadsAndSettles,
+    /// It puts another column of that and settles.
+    PutsAnother,
+    /// It reads both columns.
+    ReadsBoth,
+    /// It puts on condition of the stamp of what was put before, twice.
+    MeetsStamp,
     /// It reads and puts, while one number is left or none, and settles.
     FindsAllSpent,
 }
@@ -138,6 +148,14 @@ fn play(scene: Scene, client: TcpStream) -> io::Result<bool> {
         Scene::ReadsAndSettles => {
             Ok(are_told(&client, &[(OPEN, OPENED), (GET, FOUND)])? && is_settled(&client)?)
         }
+        Scene::PutsAnother => {
+            Ok(are_told(&client, &[(OPEN, OPENED), (PUT_OTHER, REPLACED)])? && is_settled(&client)?)
+        }
+        Scene::ReadsBoth => are_told(&client, &[(OPEN, OPENED), (GET, FOUND_BOTH)]),
+        Scene::MeetsStamp => are_told(
+            &client,
+            &[(OPEN, OPENED), (PUT_AT_5, REPLACED), (PUT_AT_5, STALE_10)],
+        ),
         Scene::FindsAllSpent => are_told(
             &client,
             &[
@@ -257,5 +275,35 @@ fn what_was_put_is_there_again_and_numbers_stay_given(rt: HostRuntime) {
             assert!(rt; grown.starts_with(batches) && grown.len() > image.len());
             image = grown;
         }
+    }
+}
+
+// A server starts from a log of the old format, and puts another column into the row there. The next server finds both
+// columns in the same log.
+#[test]
+fn a_log_of_the_old_format_is_carried_on(rt: HostRuntime) {
+    let alloc = rt.alloc();
+    let mut image = OLD_LOG.to_vec(alloc).expect(&rt, "memory");
+    for scene in [Scene::PutsAnother, Scene::ReadsBoth] {
+        let store = recovered(&rt, alloc, &image);
+        let options = options_of(&rt, alloc, ONE_SESSION);
+        let blank = Blank::new(65_536);
+        let left = serve_scene::<Brand, _, _>(&rt, alloc, blank, store, options, scene);
+        image = image_of(&rt, alloc, left);
+        assert!(rt; image.starts_with(&OLD_LOG[..54]));
+    }
+}
+
+// A row has its stamp again after a start, so a client of before the start meets it, once.
+#[test]
+fn a_stamp_is_met_after_a_start(rt: HostRuntime) {
+    let alloc = rt.alloc();
+    for log in [LOG, OLD_LOG] {
+        let store = recovered(&rt, alloc, log);
+        let options = options_of(&rt, alloc, ONE_SESSION);
+        let blank = Blank::new(65_536);
+        let scene = Scene::MeetsStamp;
+        let left = serve_scene::<Brand, _, _>(&rt, alloc, blank, store, options, scene);
+        drop(left);
     }
 }

@@ -60,7 +60,7 @@ fn expect_frame(rt: &impl Abort, alloc: Global, asks: bool, hex: &str, text: &st
 }
 
 // The last three are past their limits and yet in the grammar: no columns, an index of 16, no pairs.
-const REQUESTS: [&str; 11] = [
+const REQUESTS: [&str; 14] = [
     "00000005 01 00000007 = Whole(Open(7), 9)",
     "00000005 02 0001 61 00 = Whole(Call(Get { key: Key { bytes: [97] }, columns: ColumnIndexes { indexes: [] } }), 9)",
     "00000007 02 0001 6b 02 00 03 = Whole(Call(Get { key: Key { bytes: [107] }, columns: ColumnIndexes { indexes: [0, 3] } }), 11)",
@@ -69,12 +69,15 @@ const REQUESTS: [&str; 11] = [
     "00000006 05 00 0000 02 00 = Whole(Call(Scan { from: Key { bytes: [] }, after: false, count: 2, columns: ColumnIndexes { indexes: [] } }), 10)",
     "00000008 05 01 0001 6b 40 01 0f = Whole(Call(Scan { from: Key { bytes: [107] }, after: true, count: 64, columns: ColumnIndexes { indexes: [15] } }), 12)",
     "00000001 06 = Whole(Settle, 5)",
+    "00000005 07 0001 6b 00 = Whole(GetStamped { key: Key { bytes: [107] }, columns: ColumnIndexes { indexes: [] } }, 9)",
+    "00000011 08 0001 6b 0000000000000005 01 00 0001 77 = Whole(Call(PutIf { key: Key { bytes: [107] }, stamp: 5, change: NamedColumns { columns: [(0, Column { bytes: [119] })] } }), 21)",
+    "0000000d 08 0001 6b ffffffffffffffff 00 = Whole(Call(PutIf { key: Key { bytes: [107] }, stamp: 18446744073709551615, change: NamedColumns { columns: [] } }), 17)",
     "00000005 03 0001 61 00 = Whole(Call(Put { key: Key { bytes: [97] }, change: NamedColumns { columns: [] } }), 9)",
     "00000006 02 0001 61 01 10 = Whole(Call(Get { key: Key { bytes: [97] }, columns: ColumnIndexes { indexes: [16] } }), 10)",
     "00000006 05 00 0000 00 00 = Whole(Call(Scan { from: Key { bytes: [] }, after: false, count: 0, columns: ColumnIndexes { indexes: [] } }), 10)",
 ];
 
-const REPLIES: [&str; 15] = [
+const REPLIES: [&str; 18] = [
     "00000001 00 = Whole(Opened, 5)",
     "00000001 01 = Whole(Told(Absent), 5)",
     "00000005 02 01 0001 76 = Whole(Told(Found(Row { columns: [Column { bytes: [118] }] })), 9)",
@@ -82,11 +85,14 @@ const REPLIES: [&str; 15] = [
     "00000001 03 = Whole(Told(New), 5)",
     "00000001 04 = Whole(Told(Replaced), 5)",
     "00000001 05 = Whole(Told(Removed), 5)",
-    "00000002 06 00 = Whole(Told(Pairs(PairList { pairs: [] })), 6)",
-    "00000009 06 01 0001 6b 01 0001 76 = Whole(Told(Pairs(PairList { pairs: [(Key { bytes: [107] }, Row { columns: [Column { bytes: [118] }] })] })), 13)",
+    "00000002 06 00 = Whole(Told(Pairs(ShownPairs { pairs: PairList { pairs: [] } })), 6)",
+    "00000009 06 01 0001 6b 01 0001 76 = Whole(Told(Pairs(ShownPairs { pairs: PairList { pairs: [(Key { bytes: [107] }, StampedRow { stamp: 0, row: Row { columns: [Column { bytes: [118] }] } })] } })), 13)",
     "00000009 07 0000000000000100 = Whole(Settled(256), 13)",
     "00000001 08 = Whole(Told(Full), 5)",
     "00000001 09 = Whole(Told(NoMemory), 5)",
+    "0000000d 0a 0000000000000005 01 0001 76 = Whole(Told(FoundStamped(StampedRow { stamp: 5, row: Row { columns: [Column { bytes: [118] }] } })), 17)",
+    "00000009 0b 0000000000000009 = Whole(Told(Stale(9)), 13)",
+    "00000009 0b ffffffffffffffff = Whole(Told(Stale(18446744073709551615)), 13)",
     "00000001 81 = Whole(Refused(RefusalNumber { number: 1 }), 5)",
     "00000001 94 = Whole(Refused(RefusalNumber { number: 20 }), 5)",
     "00000001 ff = Whole(Refused(RefusalNumber { number: 127 }), 5)",
@@ -95,10 +101,12 @@ const REPLIES: [&str; 15] = [
 // A bad length is refused at once, and a bad body when it is whole.
 const BAD_REQUESTS: &str = "00000000,00008001,ffffffff,00000001 00,00000001 0f,\
     00000006 02 0001 61 00 00,00000006 05 02 0000 02 00,00000004 02 0001 61,00000004 04 0002 61,00000004 01 000007,\
-    00000008 03 0001 6b 02 00 0000,00000002 06 00";
+    00000008 03 0001 6b 02 00 0000,00000002 06 00,00000004 07 0001 6b,0000000c 08 0001 6b 0000000000000005,\
+    00000009 08 0001 6b 01 00 0001 77";
 
-const BAD_REPLIES: &str = "00000000,00104783,ffffffff,00000001 0a,00000001 80,\
+const BAD_REPLIES: &str = "00000000,00104783,ffffffff,00000001 0c,00000001 80,\
     00000002 00 00,00000002 02 00,00000004 02 01 0001,0000000a 07 0000000000000100 00,\
+    00000001 0a,00000009 0a 0000000000000005,0000000a 0a 0000000000000005 00,00000001 0b,0000000a 0b 0000000000000005 00,\
     0000000e 06 02 0001 6b 01 0000 0001 6b 01 0000,0000000e 06 02 0001 6b 01 0000 0001 6a 01 0000";
 
 #[test]
@@ -145,6 +153,8 @@ fn a_message_is_read_up_to_its_limits(rt: HostRuntime) {
         (true, "04 7ffe", "6b", 32_766, false),
         (false, "02 10", "0000", 16, true),
         (false, "02 11", "0000", 17, false),
+        (false, "0a 0000000000000005 10", "0000", 16, true),
+        (false, "0a 0000000000000005 11", "0000", 17, false),
         (false, "02 01 0400", "00", 1_024, true),
         (false, "02 01 0401", "00", 1_025, false),
         (false, "06 40", "0001 ee 01 0000", 64, true),

@@ -4,7 +4,7 @@ use crate::hexadecimal::bytes_of;
 use std::alloc::Global;
 
 /// Sessions over new tenants 7 and 8, of which the first may have a hundred pairs and the second one.
-pub const ROWS: [&str; 23] = [
+pub const ROWS: [&str; 26] = [
     // nothing
     "> > closed",
     // Open 7 and a get of `a`, whole and cut
@@ -58,7 +58,34 @@ pub const ROWS: [&str; 23] = [
     00000006 05 00 0000 02 00 00000007 05 01 0001 6a 02 00 00000006 05 00 0000 01 00 \
     > 00000001 00 00000001 03 00000001 03 00000010 06 02 0001 6a 01 0001 75 0001 6b 01 0001 76 \
     00000009 06 01 0001 6b 01 0001 76 00000009 06 01 0001 6a 01 0001 75 > closed",
+    // puts on condition that their key is missing, and of a stamp where none stands; a get that shows no stamp
+    "00000005 01 00000007 00000011 08 0001 6b 0000000000000000 01 00 0001 76 00000011 08 0001 6c 0000000000000003 01 00 0001 76 \
+    00000005 07 0001 6c 00 00000005 02 0001 6b 00 \
+    > 00000001 00 00000001 03 00000009 0b 0000000000000000 00000001 01 00000005 02 01 0001 76 > closed",
+    // tenant 8 may have one pair: only who asks for no row is told so
+    "00000005 01 00000008 00000011 08 0001 6b 0000000000000000 01 00 0001 76 00000011 08 0001 6c 0000000000000005 01 00 0001 76 \
+    00000011 08 0001 6c 0000000000000000 01 00 0001 76 > 00000001 00 00000001 03 00000009 0b 0000000000000000 00000001 08 > closed",
+    // both before Open; a put on condition without columns, and a get of a column past the last
+    "00000005 07 0001 6b 00 00000011 08 0001 6b 0000000000000000 01 00 0001 76 00000005 01 00000007 \
+    0000000d 08 0001 6b 0000000000000000 00 00000006 07 0001 6b 01 10 > 00000001 91 00000001 91 00000001 00 00000001 85 00000001 85 > closed",
 ];
+
+/// A session of tenant 7 that asks for stamps. A put of `k`, a get with its stamp, a put on condition of it, and the
+/// same again. Then a remove, the same again, and a get with its stamp. Over plain maps, whose commands have the numbers from 1 on.
+pub const COMMAND_STAMPS: &str =
+    "00000005 01 00000007 00000009 03 0001 6b 01 00 0001 76 00000005 07 0001 6b 00 \
+    00000011 08 0001 6b 0000000000000001 01 00 0001 77 00000011 08 0001 6b 0000000000000001 01 00 0001 77 \
+    00000004 04 0001 6b 00000011 08 0001 6b 0000000000000001 01 00 0001 77 00000005 07 0001 6b 00 \
+    > 00000001 00 00000001 03 0000000d 0a 0000000000000001 01 0001 76 00000001 04 00000009 0b 0000000000000003 \
+    00000001 05 00000009 0b 0000000000000000 00000001 01 > closed";
+
+/// The same over a state, whose steps have these numbers.
+pub const STEP_STAMPS: &str =
+    "00000005 01 00000007 00000009 03 0001 6b 01 00 0001 76 00000005 07 0001 6b 00 \
+    00000011 08 0001 6b 0000000000000005 01 00 0001 77 00000011 08 0001 6b 0000000000000005 01 00 0001 77 \
+    00000004 04 0001 6b 00000011 08 0001 6b 0000000000000005 01 00 0001 77 00000005 07 0001 6b 00 \
+    > 00000001 00 00000001 03 0000000d 0a 0000000000000005 01 0001 76 00000001 04 00000009 0b 000000000000000e \
+    00000001 05 00000009 0b 0000000000000000 00000001 01 > closed";
 
 /// Sessions over such tenants without pairs, after so many steps: the step after which numbers are left for a put and
 /// a get alone; the one before the last; and the last. Each begun command takes what numbers are left, and then none begins.

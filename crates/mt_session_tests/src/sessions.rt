@@ -8,7 +8,7 @@ use crate::books::{Booked, Restored};
 use crate::framing::framed;
 use crate::hexadecimal::{bytes_of, many};
 use crate::pieces::{ALL, streams};
-use crate::rows::{LAST_ROWS, ROWS};
+use crate::rows::{COMMAND_STAMPS, LAST_ROWS, ROWS, STEP_STAMPS};
 use crate::ways::{TestServer, Way, name_of, session, wrong_row};
 use log::Log;
 use mt_alone::{Alone, serve_alone, serve_tenants};
@@ -106,6 +106,20 @@ fn no_command_ends_once_all_numbers_are_given(rt: HostRuntime) {
                 None
             );
         }
+    }
+}
+
+// A row's stamp is the number of a command, or of a step.
+#[test]
+fn a_stamp_is_shown_where_it_is_asked_for_and_met_once(rt: HostRuntime) {
+    let alloc = rt.alloc();
+    for way in [Way::InPieces, Way::WithFaults] {
+        assert_eq!(&rt; wrong_row(&Plain, alloc, &[COMMAND_STAMPS], way), None);
+        assert_eq!(&rt; wrong_row(&Stated, alloc, &[STEP_STAMPS], way), None);
+        assert_eq!(&rt;
+            wrong_row(&Booked { rt: &rt, steps: 0 }, alloc, &[STEP_STAMPS], way),
+            None
+        );
     }
 }
 

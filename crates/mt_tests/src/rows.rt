@@ -1,9 +1,9 @@
 //! Rows, commands and tenants.
 
-use self::Asked::{Get, Put, Remove, Scan};
+use self::Asked::{Get, Put, PutIf, Remove, Scan};
 use mt_rows::{
     Change, Column, ColumnIndexes, Command, Key, NamedColumns, PlainMap, Refusal, Reply, Row,
-    RowRoom, Tenants, merge, merge_in,
+    RowRoom, StampedRow, Tenants, merge, merge_in,
 };
 use std::alloc::{AllocError, Global};
 use std::fmt::Write;
@@ -28,6 +28,7 @@ pub fn key_of(rt: &impl Abort, alloc: Global, bytes: &[u8]) -> Key {
 enum Asked {
     Get(&'static [u8]),
     Put(&'static [(u8, &'static [u8])]),
+    PutIf(u64, &'static [(u8, &'static [u8])]),
     Remove,
     Scan(bool, u8),
 }
@@ -56,6 +57,11 @@ fn command_of(alloc: Global, from: Key, asked: Asked) -> Result<Command, AllocEr
             key: from,
             change: named(alloc, list)?,
         },
+        PutIf(stamp, list) => Command::PutIf {
+            key: from,
+            stamp,
+            change: named(alloc, list)?,
+        },
         Remove => Command::Remove { key: from },
         Scan(after, count) => Command::Scan {
             from,
@@ -66,14 +72,17 @@ fn command_of(alloc: Global, from: Key, asked: Asked) -> Result<Command, AllocEr
     })
 }
 
-// A reply in short: the length of a key, and of a row its columns, each behind a bar.
+// A reply in short: the length of a key, and of a row its stamp and its columns, each behind a bar.
 fn push_reply(text: &mut String, reply: &Reply) -> Result<(), AllocError> {
     match reply {
-        Reply::Found(row) => push_row(text, row),
+        Reply::Found(found) => {
+            write!(text, "{}", found.stamp)?;
+            push_row(text, &found.row)
+        }
         Reply::Pairs(pairs) => {
             for (key, row) in pairs.as_slice() {
-                write!(text, "{}", key.as_bytes().len())?;
-                push_row(text, row)?;
+                write!(text, "{}@{}", key.as_bytes().len(), row.stamp)?;
+                push_row(text, &row.row)?;
             }
             Ok(())
         }
@@ -91,9 +100,15 @@ fn push_row(text: &mut String, row: &Row) -> Result<(), AllocError> {
     Ok(())
 }
 
-fn run(map: &mut PlainMap, alloc: Global, quota: u32, command: Command) -> Result<Reply, Refusal> {
+fn run(
+    map: &mut PlainMap,
+    alloc: Global,
+    quota: u32,
+    number: u64,
+    command: Command,
+) -> Result<Reply, Refusal> {
     command.check()?;
-    Ok(map.apply(alloc, quota, command)?)
+    Ok(map.apply(alloc, quota, number, command)?)
 }
 
 // A copy of the command, which is the same, as is the one that is kept in the memory of others.
@@ -115,32 +130,47 @@ fn is_told(rt: &impl Abort, alloc: Global, answer: &Result<Reply, Refusal>, want
     assert!(rt; written.is_ok() && told.as_str() == wanted, "{wanted}");
 }
 
-// A copy of the command tells this reply or refusal.
-fn tells(rt: &impl Abort, alloc: Global, map: &mut PlainMap, kept: &mut Command, case: Case) {
+// A copy of the command of this number tells this reply or refusal.
+fn tells(
+    rt: &impl Abort,
+    alloc: Global,
+    map: &mut PlainMap,
+    kept: &mut Command,
+    number: u64,
+    case: Case,
+) {
     let (quota, key, asked, wanted) = case;
     let command = command_of(alloc, key_of(rt, alloc, key), asked).expect(rt, "memory");
-    let answer = run(map, alloc, quota, copy_of(rt, kept, &command));
+    let answer = run(map, alloc, quota, number, copy_of(rt, kept, &command));
     is_told(rt, alloc, &answer, wanted);
 }
 
 const LONG: &[u8] = &[b'v'; 1_025];
 
-// Gaps in a row are empty, and what a put doesn't name is kept; a full tenant replaces and adds nothing.
-const CASES: [Case; 16] = [
+// Gaps in a row are empty, and what a put doesn't name is kept; a full tenant replaces and adds nothing. A row is
+// stamped with the number of the case that wrote it, counted from 1 on; a put that asks for another stamp changes
+// nothing, whether or not there is room.
+const CASES: [Case; 22] = [
     (1, b"k", Put(&[(2, b"v")]), "New"),
     (1, b"k", Put(&[(0, b"a")]), "Replaced"),
-    (1, b"k", Get(&[]), "|a||v"),
-    (1, b"k", Get(&[0, 2, 5]), "|a|v|"),
+    (1, b"k", Get(&[]), "2|a||v"),
+    (1, b"k", Get(&[0, 2, 5]), "2|a|v|"),
     (1, b"q", Put(&[(0, b"v")]), "Full"),
+    (1, b"k", PutIf(1, &[(1, b"b")]), "Stale(2)"),
+    (1, b"k", PutIf(2, &[(1, b"b")]), "Replaced"),
+    (1, b"k", Get(&[]), "7|a|b|v"),
+    (1, b"q", PutIf(0, &[(0, b"v")]), "Full"),
+    (1, b"q", PutIf(7, &[(0, b"v")]), "Stale(0)"),
     (1, b"k", Remove, "Removed"),
     (1, b"", Put(&[(0, b"v")]), "New"),
-    (3, b"q", Put(&[(0, b"v")]), "New"),
+    (3, b"q", PutIf(0, &[(0, b"v")]), "New"),
     (3, b"a", Put(&[(0, b"w")]), "New"),
-    (3, b"a", Scan(false, 2), "1|w1|v"),
-    (3, b"a", Scan(true, 5), "1|v"),
+    (3, b"a", Scan(false, 2), "1@14|w1@13|v"),
+    (3, b"a", Scan(true, 5), "1@13|v"),
     (3, &[b'k'; 252], Put(&[(16, LONG)]), "E1"),
     (3, b"k", Put(&[(1, b"v"), (1, b"w")]), "E5"),
     (3, b"k", Put(&[(0, LONG)]), "E6"),
+    (3, b"k", PutIf(5, &[(0, LONG)]), "E6"),
     (3, b"k", Get(&[3, 2]), "E5"),
     (3, b"k", Scan(false, 65), "E8"),
 ];
@@ -151,8 +181,10 @@ fn commands_are_answered_or_refused(rt: HostRuntime) {
     let mut kept = Command::Remove {
         key: key_of(&rt, rt.alloc(), b""),
     };
+    let mut number = 1u64;
     for case in CASES {
-        tells(&rt, rt.alloc(), &mut map, &mut kept, case);
+        tells(&rt, rt.alloc(), &mut map, &mut kept, number, case);
+        number = number.wrapping_add(1);
     }
     assert!(rt; map.len() == 3 && Refusal::NoStore.number() == 20);
 }
@@ -207,7 +239,11 @@ fn a_change_merges_and_a_row_is_shared(rt: HostRuntime) {
     let (row, change) = (row_of(&rt, rt.alloc(), b"w"), change_of(&rt, rt.alloc()));
     let merged = merge(rt.alloc(), Some(&row), &change).expect(&rt, "memory");
     is_merged(&rt, &merged, &row, &change);
-    tells_changes(&rt, &Reply::Found(row.share().expect(&rt, "memory")));
+    let found = StampedRow {
+        stamp: 1,
+        row: row.share().expect(&rt, "memory"),
+    };
+    tells_changes(&rt, &Reply::Found(found));
     assert!(rt; change.into_list().as_slice().len() == 1);
 }
 

@@ -18,6 +18,7 @@ fn put(rt: &impl Abort, alloc: Global, step: u64, worker: u8) -> Entry
         key: key_of(rt, alloc, b"k"),
         before: None,
         after: Some(row_of(rt, alloc, b"v")),
+        change: None,
     }
 }
 
