@@ -4,6 +4,8 @@
         connection.open(7)
         connection.put(b"greeting", {0: b"hello"})
         connection.get(b"greeting")                  # [b"hello"]
+        stamp, row = connection.get_stamped(b"greeting")
+        connection.put_if(b"greeting", stamp, {0: b"hi"})
 
 The first part spells requests and reads replies, as pure functions over bytes. The second part is the
 connection. docs/CLIENTS.md says what the bytes mean.
@@ -95,6 +97,17 @@ class Full(RebjautsError):
 
     def __init__(self) -> None:
         super().__init__("full: remove keys, or start the server with a larger quota for this tenant")
+
+
+class Stale(RebjautsError):
+    """The key's row hasn't got the stamp that was asked for: nothing changed.
+
+    `stamp` is the stamp that it has; 0 if the key isn't there.
+    """
+
+    def __init__(self, stamp: int) -> None:
+        super().__init__(f"stale: the row's stamp is {stamp}; get the row again, and decide by what it is now")
+        self.stamp = stamp
 
 
 class NoMemory(RebjautsError):
@@ -243,10 +256,27 @@ class Get:
 
 
 @dataclass(frozen=True)
+class GetStamped:
+    """A get that shows the row's stamp too: the number of the change that last wrote the row."""
+
+    key: bytes
+    columns: Sequence[int] = ()
+
+
+@dataclass(frozen=True)
 class Put:
     """The columns are pairs of index and bytes, and are spelled in this order."""
 
     key: bytes
+    columns: Sequence[tuple[int, bytes]]
+
+
+@dataclass(frozen=True)
+class PutIf:
+    """A put if the key's row has this stamp; with 0, if the key isn't there."""
+
+    key: bytes
+    stamp: int
     columns: Sequence[tuple[int, bytes]]
 
 
@@ -270,7 +300,7 @@ class Settle:
     pass
 
 
-Request = Open | Get | Put | Remove | Scan | Settle
+Request = Open | Get | GetStamped | Put | PutIf | Remove | Scan | Settle
 
 
 class Told(enum.Enum):
@@ -291,6 +321,17 @@ class Found:
 
 
 @dataclass(frozen=True)
+class FoundStamped:
+    stamp: int
+    columns: list[bytes]
+
+
+@dataclass(frozen=True)
+class StaleReply:
+    stamp: int
+
+
+@dataclass(frozen=True)
 class Pairs:
     pairs: list[tuple[bytes, list[bytes]]]
 
@@ -305,7 +346,7 @@ class RefusedReply:
     number: int
 
 
-Reply = Told | Found | Pairs | Settled | RefusedReply
+Reply = Told | Found | FoundStamped | StaleReply | Pairs | Settled | RefusedReply
 
 
 class Written(enum.Enum):
@@ -343,19 +384,27 @@ def _asked(columns: Sequence[int]) -> bytes:
     return _number(len(columns), 1, "the number of columns") + indexes
 
 
+def _named(columns: Sequence[tuple[int, bytes]]) -> bytes:
+    """Columns with their indexes."""
+    named = b"".join(
+        _number(index, 1, "the column's index") + _string(value, "a column")
+        for index, value in columns
+    )
+    return _number(len(columns), 1, "the number of columns") + named
+
+
 def _body(request: Request) -> bytes:
     match request:
         case Open(tenant):
             return b"\x01" + _number(tenant, 4, "the tenant")
         case Get(key, columns):
             return b"\x02" + _string(key, "the key") + _asked(columns)
+        case GetStamped(key, columns):
+            return b"\x07" + _string(key, "the key") + _asked(columns)
         case Put(key, columns):
-            named = b"".join(
-                _number(index, 1, "the column's index") + _string(value, "a column")
-                for index, value in columns
-            )
-            count = _number(len(columns), 1, "the number of columns")
-            return b"\x03" + _string(key, "the key") + count + named
+            return b"\x03" + _string(key, "the key") + _named(columns)
+        case PutIf(key, stamp, columns):
+            return b"\x08" + _string(key, "the key") + _number(stamp, 8, "the stamp") + _named(columns)
         case Remove(key):
             return b"\x04" + _string(key, "the key")
         case Scan(start, count, after, columns):
@@ -432,6 +481,10 @@ def _reply_of(body: bytes) -> Reply:
         reply = Pairs(fields.pairs())
     elif kind == 0x07:
         reply = Settled(fields.number(8))
+    elif kind == 0x0A:
+        reply = FoundStamped(fields.number(8), fields.row())
+    elif kind == 0x0B:
+        reply = StaleReply(fields.number(8))
     elif kind > 0x80:
         reply = RefusedReply(kind - 0x80)
     else:
@@ -467,25 +520,32 @@ def _out_of_place(request: Request, reply: Reply) -> NoReturn:
 
 
 def result_of(request: Request, reply: Reply):
-    """What the reply gives who asked: a value, or one of `Refused`, `Full`, `NoMemory` is raised.
+    """What the reply gives who asked: a value, or one of `Refused`, `Full`, `Stale`, `NoMemory` is raised.
 
-    None for an Open, a row or None for a Get, `Written` for a Put, whether the key was there for a
-    Remove, a list of pairs for a Scan, a number for a Settle.
+    None for an Open, a row or None for a Get. A stamp and a row for a GetStamped, 0 and None if the key
+    isn't there. `Written` for a Put or a PutIf, whether the key was there for a Remove, a list of pairs for a
+    Scan, a number for a Settle.
     """
     match request, reply:
         case _, RefusedReply(number):
             raise refusal_of(number)
-        case Put(), Told.FULL:
+        case (Put() | PutIf()), Told.FULL:
             raise Full()
-        case (Get() | Put() | Remove() | Scan()), Told.NO_MEMORY:
+        case PutIf(), StaleReply(stamp):
+            raise Stale(stamp)
+        case (Get() | GetStamped() | Put() | PutIf() | Remove() | Scan()), Told.NO_MEMORY:
             raise NoMemory()
         case (Open(), Told.OK) | (Get(), Told.ABSENT):
             return None
         case Get(), Found(columns):
             return columns
-        case Put(), Told.NEW:
+        case GetStamped(), Told.ABSENT:
+            return 0, None
+        case GetStamped(), FoundStamped(stamp, columns):
+            return stamp, columns
+        case (Put() | PutIf()), Told.NEW:
             return Written.NEW
-        case Put(), Told.REPLACED:
+        case (Put() | PutIf()), Told.REPLACED:
             return Written.REPLACED
         case Remove(), Told.REMOVED:
             return True
@@ -500,9 +560,18 @@ def result_of(request: Request, reply: Reply):
 
 def put_request(key: bytes, columns: Mapping[int, bytes]) -> Put:
     """A put of these columns, in the order of their indexes."""
+    return Put(key, _in_order(columns))
+
+
+def put_if_request(key: bytes, stamp: int, columns: Mapping[int, bytes]) -> PutIf:
+    """The same, if the key's row has this stamp."""
+    return PutIf(key, stamp, _in_order(columns))
+
+
+def _in_order(columns: Mapping[int, bytes]) -> list[tuple[int, bytes]]:
     if not isinstance(columns, Mapping):
         raise WrongType(f"the columns are {type(columns).__name__}, and have to be a mapping, as {{0: b'v'}}")
-    return Put(key, sorted(columns.items()))
+    return sorted(columns.items())
 
 
 # ---- The connection ------------------------------------------------------------------------------
@@ -575,9 +644,22 @@ class Connection:
         """The key's row, or its named columns in their order; None where the key isn't there."""
         return self._ask(Get(key, columns))
 
+    def get_stamped(
+        self, key: bytes, columns: Sequence[int] = ()
+    ) -> tuple[int, list[bytes] | None]:
+        """The row's stamp, and the row as `get` shows it; 0 and None if the key isn't there."""
+        return self._ask(GetStamped(key, columns))
+
     def put(self, key: bytes, columns: Mapping[int, bytes]) -> Written:
         """Sets these columns of the key in one change, and leaves its others as they are."""
         return self._ask(put_request(key, columns))
+
+    def put_if(self, key: bytes, stamp: int, columns: Mapping[int, bytes]) -> Written:
+        """The same if the row has this stamp, or if the key isn't there and the stamp is 0; else `Stale`.
+
+        A call without a reply may have taken effect. Then the row has another stamp: get it again.
+        """
+        return self._ask(put_if_request(key, stamp, columns))
 
     def remove(self, key: bytes) -> bool:
         """Takes the key away; whether it was there."""
@@ -739,8 +821,14 @@ class Pipeline:
     def get(self, key: bytes, columns: Sequence[int] = ()) -> None:
         self.add(Get(key, columns))
 
+    def get_stamped(self, key: bytes, columns: Sequence[int] = ()) -> None:
+        self.add(GetStamped(key, columns))
+
     def put(self, key: bytes, columns: Mapping[int, bytes]) -> None:
         self.add(put_request(key, columns))
+
+    def put_if(self, key: bytes, stamp: int, columns: Mapping[int, bytes]) -> None:
+        self.add(put_if_request(key, stamp, columns))
 
     def remove(self, key: bytes) -> None:
         self.add(Remove(key))
@@ -763,7 +851,7 @@ class Pipeline:
         for request, reply in zip(self._requests, replies):
             try:
                 self.results.append(self._connection._judge(request, reply))
-            except (Refused, Full, NoMemory) as refused:
+            except (Refused, Full, Stale, NoMemory) as refused:
                 self.results.append(refused)
 
 

@@ -5,12 +5,14 @@ from __future__ import annotations
 import re
 from dataclasses import dataclass, field
 
+from model import Stamps
+
 LINE_BYTES = 65_536
 PHASES = set(
     b"enter pick child verify forward search load confirm lock judge store publish splitstart splitmove splitprev lockparent "
     b"insertchild interiorsplit reparent rootgrow makelayer markunstable link marklayer dropkey lockprev lockabove unlink fixnext "
     b"collapse cleanlayer unlock snap check hop fill".split())
-REPLY = rb"absent|new|replaced|removed|full|memory|found( |$).*|pairs [0-9]+( .*)?"
+REPLY = rb"absent|new|replaced|removed|full|memory|stale [0-9]+|found(@[0-9]+)? .*|pairs [0-9]+( .*)?"
 STEPPED = re.compile(rb"moved|again [1-9][0-9]*|memory|spent|none|done (" + REPLY + rb")")
 AT = re.compile(rb"at [a-z]+")
 TOP_TREE = b"tree - layer 0"  # the first line of each shape, and of no other tree
@@ -48,6 +50,7 @@ class Begun:
     key: bytes
     asked: list[int]
     named: list[tuple[int, bytes]]
+    stamp: int = 0
     count: int = 0
     after: bool = False
     causes: set[int] = field(default_factory=set)
@@ -58,9 +61,11 @@ def begun_of(words: list[bytes]) -> Begun:
     tenant, kind, key = number(words[0], 0, 0xFFFF_FFFF), words[1], key_of(words[2])
     rest = words[3:]
     begun = Begun(tenant, kind, key, [], [])
-    if kind == b"get":
+    if kind == b"putif":
+        begun.stamp, rest = number(b"".join(rest[:1]), 0, (1 << 64) - 1), rest[1:]
+    if kind in (b"get", b"gets"):
         begun.asked = [number(word, 0, 255) for word in rest]
-    elif kind == b"put":
+    elif kind in (b"put", b"putif"):
         if not rest:
             raise Bad
         for word in rest:
@@ -100,6 +105,8 @@ class Script:
         self.open: dict[int, Begun] = {}
         self.has_begun = False
         self.rows: dict[tuple[int, bytes], dict[int, bytes]] | None = {}
+        self.writes: dict[tuple[int, bytes], int] = {}
+        self.stamps = Stamps()
 
     def is_silent(self, line: bytes) -> bool:
         return line == b"" or line.startswith(b"#")
@@ -176,29 +183,55 @@ class Script:
         self._want(answer != b"none" and STEPPED.fullmatch(answer) is not None, b"what a step is answered")
         if answer.startswith(b"done "):
             begun = self.open.pop(name)
+            if answer.startswith(b"done found"):
+                self._want(answer.startswith(b"done found@") == (begun.kind == b"gets"), b"a stamp after gets alone")
+            if answer.startswith(b"done stale"):
+                self._want(begun.kind == b"putif", b"no stale but after putif")
             if self.rows is not None:
-                due = self._reply(begun)
+                due = self._reply(begun, answer)
                 self._want(answer == b"done " + due, b"done " + due)
 
-    def _reply(self, begun: Begun) -> bytes:
+    def _reply(self, begun: Begun, answer: bytes) -> bytes:
+        """The reply that is due. A stamp that isn't known is learned from the answer."""
         assert self.rows is not None
         owner = (begun.tenant, begun.key)
         row = self.rows.get(owner)
         match begun.kind:
             case b"get":
                 return b"absent" if row is None else b"found " + shown(row, begun.asked)
+            case b"gets":
+                return b"absent" if row is None else b"found@%d " % self._stamp(owner, answer, None) + shown(row, begun.asked)
             case b"remove":
                 return b"absent" if self.rows.pop(owner, None) is None else b"removed"
-            case b"put":
+            case b"put" | b"putif":
+                if begun.kind == b"putif":
+                    standing = 0 if row is None else self._stamp(owner, answer, begun.stamp)
+                    if standing != begun.stamp:
+                        return b"stale %d" % standing
                 count = sum(tenant == begun.tenant for tenant, _ in self.rows)
                 if row is None and count == self.quotas[begun.tenant]:
                     return b"full"
                 self.rows[owner] = (row or {}) | dict(begun.named)
+                self.writes[owner] = self.stamps.new_write()
                 return b"new" if row is None else b"replaced"
         keys = sorted(key for tenant, key in self.rows if tenant == begun.tenant and (
             key > begun.key or key == begun.key and not begun.after))[:begun.count]
         return b" ".join([b"pairs %d" % len(keys)] + [
             (key.hex().encode() or b"-") + b":" + shown(self.rows[(begun.tenant, key)], []) for key in keys])
+
+
+    def _stamp(self, owner: tuple[int, bytes], answer: bytes, asked: int | None) -> int:
+        """The stamp of a row, as it is known or as the answer tells it; if it can't be that, the least that it may be."""
+        write = self.writes[owner]
+        known = self.stamps.stamp(write)
+        if known is not None:
+            return known
+        told = re.match(rb"done (?:found@|stale )([0-9]+)", answer)
+        stamp = int(told[1]) if told else asked
+        if stamp is not None and (told is None or stamp != asked) and self.stamps.may_be(write, stamp):
+            self.stamps.learn(write, stamp)
+            return stamp
+        return self.stamps.least(write) + (self.stamps.least(write) == asked)
 
 
 def lines_of(script: bytes) -> list[bytes]:

@@ -11,6 +11,8 @@ COLUMNS = 16
 COLUMN_BYTES = 1_024
 
 Row = list[bytes]
+Named = dict[int, bytes]  # columns by their indexes
+Owner = tuple[int, bytes]
 
 
 class NotInFormat(Exception):
@@ -55,13 +57,23 @@ class Fields:
             raise NotInFormat
         return [self.text(COLUMN_BYTES) for _ in range(count)]
 
+    def named(self) -> Named:
+        count = self.number(1)
+        named = [(self.number(1), self.text(COLUMN_BYTES)) for _ in range(count)]
+        indexes = [index for index, _ in named]
+        if not indexes or indexes[-1] >= COLUMNS or any(a >= b for a, b in zip(indexes, indexes[1:])):
+            raise NotInFormat
+        return dict(named)
+
 
 @dataclass
 class Batch:
+    """A batch of records, each with its stamp, its owner, and the row, the changed columns or none."""
+
     begin: int
     end: int
     kept: int | None
-    records: list[tuple[int, tuple[int, bytes], Row | None]] = field(default_factory=list)
+    records: list[tuple[int, Owner, Row | Named | None]] = field(default_factory=list)
 
 
 @dataclass
@@ -75,20 +87,20 @@ class Log:
         return self.batches[-1].end if self.batches else 0
 
 
-def batch_of(body: bytes) -> Batch:
+def batch_of(version: int, body: bytes) -> Batch:
     fields = Fields(body)
     kind, begin, end = fields.number(1), fields.number(8), fields.number(8)
     if end > LAST_STEP:
         raise NotInFormat
     if kind == 1:
         batch = Batch(begin, end, fields.number(8))
-    elif kind == 0:
+    elif kind == 2 or kind == 0 and version == 1:
         batch = Batch(begin, end, None)
         for _ in range(fields.number(4)):
-            stamp, key, is_written = fields.number(8), fields.key(), fields.number(1)
-            if is_written > 1:
+            stamp, key, write = fields.number(8), fields.key(), fields.number(1)
+            if write > (2 if kind == 2 else 1):
                 raise NotInFormat
-            batch.records.append((stamp, key, fields.row() if is_written else None))
+            batch.records.append((stamp, key, (lambda: None, fields.row, fields.named)[write]()))
     else:
         raise NotInFormat
     if fields.rest:
@@ -98,7 +110,7 @@ def batch_of(body: bytes) -> Batch:
 
 def log_of(image: bytes) -> Log:
     """The front of a log's file."""
-    if len(image) < 8 or image[:6] != b"MTLOG\x01" or not image[6] < image[7] <= MOST_LOGS:
+    if len(image) < 8 or image[:5] != b"MTLOG" or image[5] not in (1, 2) or not image[6] < image[7] <= MOST_LOGS:
         raise StoreRefused(12, 0)
     log, at = Log(image[6], image[7]), 8
     while True:
@@ -111,7 +123,7 @@ def log_of(image: bytes) -> Log:
         if len(image) < at + 5 or len(body) < length:
             raise StoreRefused(12, at)
         try:
-            log.batches.append(batch_of(body))
+            log.batches.append(batch_of(image[5], body))
         except NotInFormat:
             raise StoreRefused(12, at) from None
         at += 5 + length
@@ -119,27 +131,32 @@ def log_of(image: bytes) -> Log:
 
 @dataclass
 class Checkpoint:
+    """Its pairs have their stamps; in format 1 that is where it began."""
+
     first: int
     last: int
-    pairs: dict[tuple[int, bytes], Row]
+    pairs: dict[Owner, tuple[int, Row]]
 
 
 def checkpoint_of(image: bytes) -> Checkpoint | None:
     """The checkpoint of a slot's file, or none."""
-    if image[:7] != b"\x01MTCKP\x01":
+    if image[:6] != b"\x01MTCKP" or image[6:7] not in (b"\x01", b"\x02"):
         return None
     fields, pairs = Fields(image[7:]), {}
     try:
         first = fields.number(8)
         while (kind := fields.number(1)) == 1:
-            key, row = fields.key(), fields.row()
+            key = fields.key()
+            stamp = fields.number(8) if image[6] == 2 else first
+            row = fields.row()
             if pairs and key <= next(reversed(pairs)):
                 return None
-            pairs[key] = row
+            pairs[key] = stamp, row
         last = fields.number(8)
     except NotInFormat:
         return None
-    return Checkpoint(first, last, pairs) if kind == 2 and first <= last <= LAST_STEP else None
+    stamps = (stamp for stamp, _ in pairs.values())
+    return Checkpoint(first, last, pairs) if kind == 2 and first <= last <= LAST_STEP and max(stamps, default=0) <= last else None
 
 
 def check_one(log: Log) -> None:
@@ -178,8 +195,14 @@ def resumed(logs: list[bytes], slots: list[bytes]) -> int:
     return max([log_of(image).mark for image in logs] + lasts)
 
 
-def recovered(logs: list[bytes], slots: list[bytes], quotas: dict[int, int]) -> dict[tuple[int, bytes], Row]:
-    """The pairs of a store of these files, in the order of tenants and keys."""
+def changed_row(row: Row, named: Named) -> Row:
+    """A row with the named columns replaced, and gaps empty."""
+    length = max(len(row), max(named) + 1)
+    return [named.get(index, row[index] if index < len(row) else b"") for index in range(length)]
+
+
+def recovered(logs: list[bytes], slots: list[bytes], quotas: dict[int, int]) -> dict[Owner, tuple[int, Row]]:
+    """The pairs of a store of these files with their stamps, in the order of tenants and keys."""
     fronts = [log_of(image) for image in logs]
     check_all(fronts)
     cutoff = min(log.mark for log in fronts)
@@ -188,17 +211,23 @@ def recovered(logs: list[bytes], slots: list[bytes], quotas: dict[int, int]) -> 
     def is_void(number: int) -> bool:
         return any(kept < number <= end for kept, end in voids)
 
-    base, pairs = 0, {}
+    base = 0
+    pairs: dict[Owner, tuple[int, Row]] = {}
     usable = [found for image in slots if (found := checkpoint_of(image)) and found.last <= cutoff and not is_void(found.last)]
     if usable:
         used = max(usable, key=lambda one: one.last)
         base, pairs = used.first, dict(used.pairs)
     records = [record for log in fronts for batch in log.batches for record in batch.records]
-    for stamp, key, row in sorted(records, key=lambda record: record[0]):
-        if base < stamp <= cutoff and not is_void(stamp):
+    for stamp, key, write in sorted(records, key=lambda record: record[0]):
+        standing, row = pairs.get(key, (0, None))
+        if not base < stamp <= cutoff or is_void(stamp) or stamp <= standing:
+            continue
+        if write is None:
             pairs.pop(key, None)
-            if row is not None:
-                pairs[key] = row
+        elif isinstance(write, list):
+            pairs[key] = stamp, write
+        elif row is not None:
+            pairs[key] = stamp, changed_row(row, write)
     owned: dict[int, int] = {}
     for tenant, _ in pairs:
         owned[tenant] = owned.get(tenant, 0) + 1

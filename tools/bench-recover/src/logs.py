@@ -13,12 +13,12 @@ names = [random.randbytes(16) for _ in range(keys)]
 ends = [0] * logs
 files = [open(folder / f"wal-{log:02}", "wb") for log in range(logs)]
 for log, file in enumerate(files):
-    file.write(b"MTLOG\x01" + bytes([log, logs]))
+    file.write(b"MTLOG\x02" + bytes([log, logs]))
 waiting = [[] for _ in range(logs)]
 
 
 def flush(log, to):
-    body = b"\x00" + struct.pack(">QQI", ends[log], to, len(waiting[log])) + b"".join(waiting[log])
+    body = b"\x02" + struct.pack(">QQI", ends[log], to, len(waiting[log])) + b"".join(waiting[log])
     files[log].write(b"\x01" + struct.pack(">I", len(body)) + body)
     ends[log], waiting[log] = to, []
 
