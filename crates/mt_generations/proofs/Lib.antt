@@ -1,0 +1,11 @@
+pub mod Parts
+pub mod Whole
+pub mod Settled
+pub mod Deciding
+pub mod Choices
+pub mod Ends
+pub mod Left
+pub mod Moments
+pub mod Sets
+pub mod Example
+pub mod Refusals

@@ -1,0 +1,4 @@
+pub mod Chains
+pub mod Standings
+pub mod Turns
+pub mod Examples
