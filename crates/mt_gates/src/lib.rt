@@ -1,0 +1,11 @@
+//! Files behind a gate: one that counts whole or not at all, and one that is given up.
+//!
+//! `specs/Gates.antt` says what counts of such a file, and what each call leaves.
+#![tactic(auto)]
+
+mod gate;
+mod gated;
+pub mod laws;
+
+pub use gate::{OPEN, SHUT, close_gate, open_gate, stage, synced_gate, write_head, write_more};
+pub use gated::{begin_file, give_up};

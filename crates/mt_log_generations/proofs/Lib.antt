@@ -1,0 +1,3 @@
+pub mod HeaderLaws
+pub mod Openings
+pub mod HeaderReads

@@ -1,0 +1,183 @@
+//! A numbered file: made spare, begun with the log of generation 1, given up, and begun with that of generation 3.
+
+use mt_disk::{DeviceFailed, MemDisk};
+use mt_log_generations::{HeaderFault, begin_generation, create_spare, give_up, read_header};
+use std::alloc::{AllocError, Global};
+use std::test::Fail;
+
+// Worker 0 of 1, generation 1, from step 6 on; and generation 3, from step 20 on.
+const FIRST: [u8; 26] = [
+    1, 0x4d, 0x54, 0x4c, 0x4f, 0x47, 3, 0, 1, 0, 0, 0, 0, 0, 0, 0, 1, 0, 0, 0, 0, 0, 0, 0, 6, 0,
+];
+
+const SECOND: [u8; 26] = [
+    1, 0x4d, 0x54, 0x4c, 0x4f, 0x47, 3, 0, 1, 0, 0, 0, 0, 0, 0, 0, 3, 0, 0, 0, 0, 0, 0, 0, 20, 0,
+];
+
+// What a file is read as: the generation and the start of its log, or that it has none.
+#[derive(Clone, Copy, Debug, PartialEq, Eq)]
+enum Told {
+    Log(u64, u64),
+    NoLog,
+    Bad(u8),
+    Device,
+}
+
+fn told_of(disk: &mut MemDisk) -> Told {
+    match read_header(disk) {
+        Ok(Some(header)) => Told::Log(header.generation, header.start),
+        Ok(None) => Told::NoLog,
+        Err(HeaderFault::Bad(worker)) => Told::Bad(worker),
+        Err(HeaderFault::Device) => Told::Device,
+    }
+}
+
+fn read_as(alloc: Global, image: &[u8]) -> Result<Told, AllocError> {
+    let mut disk = MemDisk::with_image(alloc, image.to_vec(alloc)?, Vec::new(alloc), None)?;
+    Ok(told_of(&mut disk))
+}
+
+// A spare file takes three calls of the disk, each beginning eight, and giving up seven.
+fn two_generations(disk: &mut MemDisk) -> Result<(), DeviceFailed> {
+    create_spare(disk)?;
+    begin_generation(disk, 0, 1, 1, 6)?;
+    give_up(disk)?;
+    begin_generation(disk, 0, 1, 3, 20)
+}
+
+// What failed at a call, once more; and what the file then has.
+fn once_more(disk: &mut MemDisk, call: u64) -> (bool, &'static [u8]) {
+    match call {
+        0..=3 => (create_spare(disk).is_ok(), &[0]),
+        4..=11 => (begin_generation(disk, 0, 1, 1, 6).is_ok(), &FIRST),
+        12..=18 => (give_up(disk).is_ok(), &[0]),
+        _ => (begin_generation(disk, 0, 1, 3, 20).is_ok(), &SECOND),
+    }
+}
+
+#[test]
+fn a_log_without_batches_has_its_bytes(rt: HostRuntime) -> Result<(), Fail> {
+    let alloc = rt.alloc();
+    let mut disk = MemDisk::new(alloc, Vec::new(alloc), None);
+    for (call, told) in [
+        (3, Told::NoLog),
+        (11, Told::Log(1, 6)),
+        (18, Told::NoLog),
+        (26, Told::Log(3, 20)),
+    ] {
+        let (went_well, image) = once_more(&mut disk, call);
+        assert!(rt; went_well && disk.image() == image, "up to call {call}");
+        assert!(rt; told_of(&mut disk) == told, "up to call {call}");
+    }
+    Ok(())
+}
+
+// Whether a file that was stopped at a call may be read so.
+fn may_be(told: Told, stop: u64) -> bool {
+    match told {
+        Told::NoLog => stop <= 26,
+        Told::Log(1, 6) => stop <= 18,
+        Told::Log(3, 20) => stop > 18,
+        _ => false,
+    }
+}
+
+// How many images with this gate or another one a disk may leave; 0 if one is read as what it can't have.
+fn left(alloc: Global, disk: &MemDisk, stop: u64) -> Result<u64, AllocError> {
+    let mut left: u64 = 0;
+    for whole in [FIRST, SECOND] {
+        let (_, text) = whole.split_at(1);
+        let (half, _) = text.split_at(12);
+        for byte in [0, 1, 7] {
+            for behind in [b"".as_slice(), half, text] {
+                let mut image = Vec::new(alloc);
+                image.push(byte)?;
+                image.extend_from_slice(behind)?;
+                if disk.may_leave(&image) {
+                    if !may_be(read_as(alloc, &image)?, stop) {
+                        return Ok(0);
+                    }
+                    left = left.saturating_add(1);
+                }
+            }
+        }
+    }
+    Ok(left)
+}
+
+#[test]
+fn a_crash_at_any_call_leaves_a_whole_log_or_none(rt: HostRuntime) -> Result<(), Fail> {
+    let alloc = rt.alloc();
+    for stop in 4..28 {
+        let mut disk = MemDisk::new(alloc, Vec::new(alloc), Some(stop));
+        let ended = two_generations(&mut disk);
+        assert!(rt; ended.is_ok() == (stop == 27), "stopped at {stop}");
+        assert!(rt; left(alloc, &disk, stop)? > 0, "stopped at {stop}");
+    }
+    Ok(())
+}
+
+#[test]
+fn a_call_that_failed_is_made_once_more(rt: HostRuntime) -> Result<(), Fail> {
+    let alloc = rt.alloc();
+    for call in 1..27 {
+        let mut disk = MemDisk::new(alloc, [call].to_vec(alloc)?, None);
+        assert!(rt; two_generations(&mut disk).is_err(), "{call} failing");
+        let (went_well, image) = once_more(&mut disk, call);
+        assert!(rt; went_well && disk.image() == image, "{call} failing");
+        assert!(rt; disk.may_leave(image), "{call} failing");
+    }
+    Ok(())
+}
+
+// Eight bytes as a number, with one of them changed.
+fn changed(number: u64, place: usize, byte: u8) -> u64 {
+    let mut bytes = number.to_be_bytes();
+    if let Some(at) = bytes.get_mut(place) {
+        *at = byte;
+    }
+    u64::from_be_bytes(bytes)
+}
+
+// What is to be told with this byte in a place of the first log where another one stood.
+fn want(place: usize, byte: u8) -> Told {
+    let (generation, start) = match place {
+        9..=16 => (changed(1, place - 9, byte), 6),
+        17..=24 => (1, changed(6, place - 17, byte)),
+        _ => (1, 6),
+    };
+    match place {
+        // A gate that isn't open, also one that was torn.
+        0 => Told::NoLog,
+        1..=6 => Told::Bad(0),
+        7 => Told::Bad(byte),
+        8 if !(1..=64).contains(&byte) => Told::Bad(0),
+        _ if generation == 0 || generation > 1 << 59 || start > 1 << 59 => Told::Bad(0),
+        _ => Told::Log(generation, start),
+    }
+}
+
+#[test]
+fn each_beginning_and_changed_byte_is_told_for_what_it_is(rt: HostRuntime) -> Result<(), Fail> {
+    let alloc = rt.alloc();
+    for len in 0..26 {
+        let (beginning, _) = FIRST.split_at(len);
+        let want = match len {
+            0 => Told::NoLog,
+            1..=24 => Told::Bad(0),
+            _ => Told::Log(1, 6),
+        };
+        assert!(rt; read_as(alloc, beginning)? == want, "the first {len} bytes");
+    }
+    for place in 0..26 {
+        for byte in 0..=255 {
+            let mut image = FIRST;
+            if image[place] != byte {
+                image[place] = byte;
+                let told = read_as(alloc, &image)?;
+                assert!(rt; told == want(place, byte), "{byte} at {place}: {told:?}");
+            }
+        }
+    }
+    Ok(())
+}
