@@ -1,8 +1,8 @@
 -- What a crash leaves of a file behind a gate in each step of the calls on it.
-use Rattle.std.proofs.Common.{◌≡◌, ◌≢◌, ◌⊎◌, inl, inr, ℕ, suc, ◌+◌, ◌<◌, ◌≤◌, true, false, List, [], ◌∷◌, ◌++◌, length, take, drop, get_or, Option, Some, None, Result, Ok, Err, OnOk, refl, sym, ◌∙◌, ap, subst, arith, append_assoc, length-append}
+use Rattle.std.proofs.Common.{◌≡◌, ◌≢◌, ◌⊎◌, inl, inr, ℕ, suc, ◌<◌, ◌≤◌, true, false, List, [], ◌∷◌, ◌++◌, length, take, drop, get_or, Option, Some, None, Result, Ok, Err, OnOk, refl, sym, ◌∙◌, ap, subst, arith, append_assoc, length-append}
 use Rattle.std.specs.{Prelude.nat_eq, Option.option_eq, List.slice_get}
 use Rattle.std.proofs.lemmas.Option.{same_Some, none-some}
-use Rattle.std.proofs.lemmas.List.{take_all, drop_all, append-nil}
+use Rattle.std.proofs.lemmas.List.{append-nil}
 use Rattle.std.proofs.lemmas.List.Folds.{list_any-append}
 use Rattle.std.proofs.lemmas.Bool.{cases_eq, eqb-true, true≢false}
 use Rattle.std.proofs.lemmas.Bool.Decides.{nat_tests}
@@ -95,32 +95,12 @@ module _ (text : List ℕ) (s : DiskState) (b : IsBehindGate text s) where
   write_leaves range result new le tried =
       after_write IsClosed range result s s new (behind_gate text s b) (shut_closed (dirtied range s.now) (shut_more range s.now b.shut le)) tried
 
-  place_behind : (end : ℕ) → end ≡ length s.image → 1 ≤ end
-  place_behind end is = omega (arith, is, ap length b.image)
-
-  pub more_leaves : {T E : Type 0} (end to : ℕ) (result : Result T E) (new : DiskState) → end ≡ length s.image → Attempts (end, to) result s new → LeavesOnly IsClosed s new
-  more_leaves end to result new is tried = write_leaves (end, to) result new (place_behind end is) tried
-
   pub behind_again : (range : Range) (new : DiskState) (more : List ℕ) → 1 ≤ range.0 → Dirties range s new → new.image ≡ 0 ∷ more → IsBehindGate more new
   behind_again range new more le done is = record {
     image = is;
     shut = subst IsShut (sym done.now) (shut_more range s.now b.shut le);
     reads = done.reads b.reads;
   }
-
-  -- what the write makes of the text
-  more_text : (end : ℕ) (block : List ℕ) → end ≡ length s.image → overwritten end block s.image ≡ 0 ∷ (text ++ block)
-  more_text end block is =
-      ap (λ (l : List ℕ). l ++ block ++ drop (end + length block) s.image) (take_all end s.image (omega (arith, is)) ∙ b.image)
-      ∙ ap (λ (l : List ℕ). (0 ∷ text) ++ block ++ l) (drop_all (end + length block) s.image (omega (arith, is)))
-      ∙ append-nil ((0 ∷ text) ++ block)
-
-  pub more_written : {T E : Type 0} (end : ℕ) (block : List ℕ) (result : Result T E) (new : DiskState) → end ≡ length s.image
-      → Attempts (end, end + length block) result s new → (end ≤ length s.image → OnOk result (new.image ≡ overwritten end block s.image))
-      → OnOk result (IsBehindGate (text ++ block) new)
-  more_written end block (Ok x) new is tried image =
-      behind_again (end, end + length block) new (text ++ block) (place_behind end is) tried (image (omega (arith, is)) ∙ more_text end block is)
-  more_written end block (Err e) new is tried image = tt
 
   -- a cut after the gate
   pub cut_text : {T E : Type 0} (result : Result T E) (to : ℕ) (new : DiskState) → Attempts (1, to) result s new → (1 ≤ length s.image → OnOk result (new.image ≡ take 1 s.image))

@@ -1,6 +1,6 @@
 //! The gate of a file, its first byte: how what follows it comes to count whole or not at all.
 
-ghost use Rattle.std.specs.Prelude.{◌≡◌, ◌<◌, ◌++◌, ℕ, List, length, IsTrue, Option, Some, None, OnOk, OnErr, IfOk};
+ghost use Rattle.std.specs.Prelude.{◌≡◌, ◌<◌, ℕ, List, length, IsTrue, Option, Some, None, OnOk, OnErr, IfOk};
 ghost use Rattle.mt_disk.specs.Disk.{CountsFailure, IsDurable, LeavesOnly};
 ghost use Rattle.mt_gates.specs.Gates.{IsClosed, IsGated, IsLeftOf, IsBehindGate, IsClosedAtRest, IsStaged, HasDurably, IsGateOf, IsSyncedOrSame, ClosesGate};
 
@@ -53,18 +53,6 @@ pub fn write_head<D: Disk>(disk: &mut D, head: &[u8]) -> Result<(), DeviceFailed
 {
     disk.cut(1)?;
     disk.write_at(1, head)
-}
-
-/// Writes more after what follows the closed gate. Nothing of it is synced.
-pub fn write_more<D: Disk>(disk: &mut D, end: usize, block: &[u8]) -> Result<(), DeviceFailed>
-    ensures behind { IsTrue (D.is_honest disk.old) → (text : List ℕ) → IsBehindGate text (D.state disk.old)
-        → end ≡ length (D.state disk.old).image → OnOk result (IsBehindGate (text ++ block.now) (D.state disk.new)) }
-    ensures leaves { IsTrue (D.is_honest disk.old) → (text : List ℕ) → IsBehindGate text (D.state disk.old)
-        → end ≡ length (D.state disk.old).image → LeavesOnly IsClosed (D.state disk.old) (D.state disk.new) }
-    ensures honest { D.is_honest disk.new ≡ D.is_honest disk.old }
-    ensures count { CountsFailure result (D.failures disk.old) (D.failures disk.new) }
-{
-    disk.write_at(end, block)
 }
 
 /// Makes what follows the closed gate durable.

@@ -7,5 +7,5 @@ mod gate;
 mod gated;
 pub mod laws;
 
-pub use gate::{OPEN, SHUT, close_gate, open_gate, stage, synced_gate, write_head, write_more};
+pub use gate::{OPEN, SHUT, close_gate, open_gate, stage, synced_gate, write_head};
 pub use gated::{begin_file, give_up};
