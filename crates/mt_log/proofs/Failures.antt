@@ -16,7 +16,7 @@ end_with : (c : Contents) (b : LogBatch) → ◌≡◌ {A = ℕ × ℕ} (length 
 end_with c b =
     pair (length (log_bytes c) + length (batch_bytes b)) (to_of b) (length (log_bytes (with_batch b c))) (mark_of (with_batch b c))
     (sym (length-append (log_bytes c) (batch_bytes b)) ∙ ap length (sym (more_bytes c b)))
-    (sym (end_more 0 c.batches b))
+    (sym (end_more c.start c.batches b))
 
 module _ {D : Type 0} (is_honest : D → Bool) (state : D → DiskState) (failures : D → ℕ) where
   -- an append failed on a log at rest

@@ -1,13 +1,14 @@
 -- An image has one front, or is no log; and what an append or an opening may leave has the old front or the new one.
-use Rattle.std.proofs.Common.{◌≡◌, ◌≢◌, ◌⊎◌, ◌≤◌, ◌^◌, inl, inr, ⊎_elim, ℕ, List, [], ◌∷◌, ◌++◌, length, drop, get_or, refl, sym, ◌∙◌, ap, subst, arith, append_assoc}
+use Rattle.std.proofs.Common.{◌≡◌, ◌≢◌, ◌⊎◌, ◌<◌, ◌≤◌, ◌^◌, inl, inr, ⊎_elim, ℕ, zero, suc, List, [], ◌∷◌, ◌++◌, length, drop, get_or, refl, sym, ◌∙◌, ap, subst, arith, append_assoc}
 use Rattle.std.proofs.{lemmas.List.flat_map_more, lemmas.Option.same_Some}
 use Rattle.std.specs.List.{flat_map, AllByRecursion}
 use Rattle.mt_rows.specs.{Rows.Bytes, declared.record.Batch.Batch}
 use Rattle.mt_disk.{specs.Disk.{DiskState, LeavesOnly, synced}, proofs.CrashLaws.{after_sync, joined, widened}}
 use Rattle.mt_log.specs.{declared.batch.LogBatch.LogBatch, declared.batch.LogBatch.TheVariants.{Records, Resume}}
-use Rattle.mt_log.specs.Format.{header, body, told_body, open_batch, batch_bytes}
-use Rattle.mt_log.specs.Contents.{Contents, IsContents, IsBatch, IsLogBatch, JoinsAndRises, Rises, from_of, to_of, Join, end_of, log_bytes, with_batch}
-use Rattle.mt_log.specs.{Fronts.{HasFront, IsBadGate, IsBadLog, IsShut, IsTorn, IsBeforeOrAfter, IsLeft, IsOldOrNew, IsFound}, Reading.batch_at}
+use Rattle.mt_log.specs.Format.{beginning, body, told_body, open_batch, batch_bytes}
+use Rattle.mt_log_generations.{specs.{declared.header.Header.Header, Headers.{header_with, header_bytes, IsHeader, FitsEightBytes}}, proofs.HeaderLaws.one_header}
+use Rattle.mt_log.specs.Contents.{Contents, AreNumbers, IsContents, IsBatch, IsLogBatch, JoinsAndRises, Rises, from_of, to_of, Join, end_of, log_bytes, with_batch}
+use Rattle.mt_log.specs.{Fronts.{HasFront, IsBadBeginning, IsBadGate, IsBadLog, IsShut, IsTorn, IsBeforeOrAfter, IsLeft, IsOldOrNew, IsFound}, Reading.batch_at}
 use Rattle.mt_log.proofs.BatchLaws.{batch_again}
 
 -- ---- batches that join
@@ -51,17 +52,17 @@ each_last version [] b each = each.0
 each_last version (x ∷ bs) b each = each_last version bs b each.1
 
 pub contents_front : (c : Contents) (b : LogBatch) → IsContents (with_batch b c) → IsContents c
-contents_front c b is = record { version = is.version; worker = is.worker; logs = is.logs; batches = each_front c.version c.batches b is.batches }
+contents_front c b is = record { numbers = is.numbers; worker = is.worker; logs = is.logs; batches = each_front c.version c.batches b is.batches }
 
 pub added_in_format : (c : Contents) (b : LogBatch) → IsContents (with_batch b c) → IsLogBatch c.version b
 added_in_format c b is = each_last c.version c.batches b is.batches
 
 pub contents_more : (c : Contents) (b : LogBatch) → IsContents c → IsLogBatch c.version b → IsContents (with_batch b c)
-contents_more c b is batch = record { version = is.version; worker = is.worker; logs = is.logs; batches = each_more c.version c.batches b is.batches batch }
+contents_more c b is batch = record { numbers = is.numbers; worker = is.worker; logs = is.logs; batches = each_more c.version c.batches b is.batches batch }
 
 -- a log with one batch more, as bytes
 pub more_bytes : (c : Contents) (b : LogBatch) → log_bytes (with_batch b c) ≡ log_bytes c ++ batch_bytes b
-more_bytes c b = sym (flat_map_more batch_bytes (header c.version c.worker c.logs) c.batches b)
+more_bytes c b = sym (flat_map_more batch_bytes (beginning c.version c.worker c.logs c.generation c.start) c.batches b)
 
 -- ---- one front
 
@@ -102,19 +103,88 @@ clash version (b ∷ bs) (c ∷ cs) g t rest join_b join_c shut bad same =
     (sym (append_assoc (told_body (body b)) (flat_map batch_bytes bs) (g ∷ t)) ∙ behind ∙ append_assoc (told_body (body c)) (flat_map batch_bytes cs) rest) in
     clash version bs cs g t rest join_b.1 join_c.1 shut bad parts.1
 
-same_header : (f g v w m n : ℕ) (x y : Bytes) → header f v m ++ x ≡ header g w n ++ y → (f ≡ g) × (v ≡ w) × (m ≡ n) × (x ≡ y)
-same_header f g v w m n x y e = (ap (λ (l : Bytes). get_or l 5 0) e, ap (λ (l : Bytes). get_or l 6 0) e, ap (λ (l : Bytes). get_or l 7 0) e, ap (λ (l : Bytes). drop 8 l) e)
+-- ---- beginnings
 
-same_contents : (c d : Contents) → c.version ≡ d.version → c.worker ≡ d.worker → c.logs ≡ d.logs → c.batches ≡ d.batches → c ≡ d
-same_contents c d o p q r i = record { version = o i; worker = p i; logs = q i; batches = r i }
+-- what stands before the first gate of the log of a generation
+pub numbered_bytes : (w n i s : ℕ) → 1 ≤ i → beginning 3 w n i s ≡ 1 ∷ header_bytes (header_with w n i s)
+numbered_bytes w n zero s some = absurd (omega arith)
+numbered_bytes w n (suc i) s some = refl
 
-one_whole : (c d : Contents) (g k : ℕ) (t u : Bytes) → IsContents c → IsContents d → g ≢ 1 → k ≢ 1 → log_bytes c ++ (g ∷ t) ≡ log_bytes d ++ (k ∷ u)
+numbers_fit : (i s : ℕ) → 1 ≤ i → i ≤ 2 ^ 59 → s ≤ 2 ^ 59 → AreNumbers 3 i s
+numbers_fit zero s some most start = absurd (omega arith)
+numbers_fit (suc i) s some most start = (refl, most, start)
+
+pub numbered_limits : (h : Header) → IsHeader h → AreNumbers 3 h.generation h.start
+numbered_limits h is = numbers_fit h.generation h.start is.numbered is.generation is.start
+
+-- where the first gate stands
+pub begin_short : (v w n i s : ℕ) → length (beginning v w n i s) ≤ 25
+begin_short v w n zero s = omega arith
+begin_short v w n (suc i) s = omega arith
+
+fits_eight : (w n i s : ℕ) → i ≤ 2 ^ 59 → s ≤ 2 ^ 59 → FitsEightBytes (header_with w n i s)
+fits_eight w n i s most start = record { generation = omega arith; start = omega arith }
+
+-- what was read of two beginnings that are the same
+abbrev AreSame : ℕ → ℕ → ℕ → ℕ → ℕ → ℕ → ℕ → ℕ → ℕ → ℕ → Bytes → Bytes → Type 0
+AreSame f v m i s g w n j t x y = (f ≡ g) × (v ≡ w) × (m ≡ n) × (i ≡ j) × (s ≡ t) × (x ≡ y)
+
+same_beginning : (f v m i s g w n j t : ℕ) (x y : Bytes) → AreNumbers f i s → AreNumbers g j t → beginning f v m i s ++ x ≡ beginning g w n j t ++ y
+    → AreSame f v m i s g w n j t x y
+same_beginning f v m zero s g w n zero t x y is_f is_g e =
+    (ap (λ (l : Bytes). get_or l 5 0) e, ap (λ (l : Bytes). get_or l 6 0) e, ap (λ (l : Bytes). get_or l 7 0) e, refl, is_f.1 ∙ sym is_g.1, ap (λ (l : Bytes). drop 8 l) e)
+same_beginning f v m zero s g w n (suc j) t x y is_f is_g e = absurd (omega (arith, ap first e))
+same_beginning f v m (suc i) s g w n zero t x y is_f is_g e = absurd (omega (arith, ap first e))
+same_beginning f v m (suc i) s g w n (suc j) t x y is_f is_g e =
+    let h = header_with v m (suc i) s in
+    let k = header_with w n (suc j) t in
+    let same : h ≡ k = one_header h k x y (fits_eight v m (suc i) s is_f.1 is_f.2) (fits_eight w n (suc j) t is_g.1 is_g.2) (ap (λ (l : Bytes). drop 1 l) e) in (
+      is_f.0 ∙ sym is_g.0,
+      ap (λ (a : Header). a.worker) same,
+      ap (λ (a : Header). a.logs) same,
+      ap (λ (a : Header). a.generation) same,
+      ap (λ (a : Header). a.start) same,
+      ap (λ (l : Bytes). drop 25 l) e,
+    )
+
+-- a log's beginning is no bad one
+begins : (v w n i s number : ℕ) (x image : Bytes) → AreNumbers v i s → w < n → n ≤ 64 → image ≡ beginning v w n i s ++ x → IsBadBeginning image number → ⊥
+begins v w n zero s number x image is under most whole (inl none) = none.0.0 v w n x is.0 whole
+begins v w n (suc i) s number x image is under most whole (inl none) =
+    none.0.1 (header_with w n (suc i) s) x (fits_eight w n (suc i) s is.1 is.2) whole
+begins v w n zero s number x image is under most whole (inr (inl strange)) =
+    let e = sym whole ∙ strange.whole in
+    let named : w ≡ number = ap (λ (l : Bytes). get_or l 6 0) e in
+    let of : n ≡ strange.logs = ap (λ (l : Bytes). get_or l 7 0) e in
+    strange.wrong (omega (arith, named, of, under)) (omega (arith, of, most))
+begins v w n (suc i) s number x image is under most whole (inr (inl strange)) = absurd (omega (arith, ap first (sym whole ∙ strange.whole)))
+begins v w n zero s number x image is under most whole (inr (inr past)) = absurd (omega (arith, ap first (sym whole ∙ past.whole)))
+begins v w n (suc i) s number x image is under most whole (inr (inr past)) =
+    let h = header_with w n (suc i) s in
+    let same = one_header h past.header x past.more (fits_eight w n (suc i) s is.1 is.2) past.fits (ap (λ (l : Bytes). drop 1 l) (sym whole ∙ past.whole)) in
+    past.wrong (subst IsHeader same (record { worker = under; logs = most; numbered = omega arith; generation = is.1; start = is.2 }))
+
+-- ---- one front
+
+-- the beginnings of two logs whose bytes are the same
+same_logs : (c d : Contents) (x y : Bytes) → IsContents c → IsContents d → log_bytes c ++ x ≡ log_bytes d ++ y
+    → AreSame c.version c.worker c.logs c.generation c.start d.version d.worker d.logs d.generation d.start (flat_map batch_bytes c.batches ++ x) (flat_map batch_bytes d.batches ++ y)
+same_logs c d x y is_c is_d e =
+    let b = beginning c.version c.worker c.logs c.generation c.start in
+    let k = beginning d.version d.worker d.logs d.generation d.start in
+    same_beginning c.version c.worker c.logs c.generation c.start d.version d.worker d.logs d.generation d.start (flat_map batch_bytes c.batches ++ x) (flat_map batch_bytes d.batches ++ y) is_c.numbers is_d.numbers
+    (sym (append_assoc b (flat_map batch_bytes c.batches) x) ∙ e ∙ append_assoc k (flat_map batch_bytes d.batches) y)
+
+same_contents : (c d : Contents) → c.version ≡ d.version → c.worker ≡ d.worker → c.logs ≡ d.logs → c.generation ≡ d.generation → c.start ≡ d.start → c.batches ≡ d.batches → c ≡ d
+same_contents c d o p q r s t i = record { version = o i; worker = p i; logs = q i; generation = r i; start = s i; batches = t i }
+
+pub one_whole : (c d : Contents) (g k : ℕ) (t u : Bytes) → IsContents c → IsContents d → g ≢ 1 → k ≢ 1 → log_bytes c ++ (g ∷ t) ≡ log_bytes d ++ (k ∷ u)
     → (c ≡ d) × (g ≡ k)
 one_whole c d g k t u is_c is_d shut_g shut_k e =
-    let heads = same_header c.version d.version c.worker d.worker c.logs d.logs (flat_map batch_bytes c.batches ++ (g ∷ t)) (flat_map batch_bytes d.batches ++ (k ∷ u)) e in
+    let heads = same_logs c d (g ∷ t) (k ∷ u) is_c is_d e in
     let also : AllByRecursion (IsLogBatch c.version) d.batches = subst (λ v. AllByRecursion (IsLogBatch v) d.batches) (sym heads.0) is_d.batches in
-    let tails = once c.version c.batches d.batches g k t u is_c.batches also shut_g shut_k heads.3 in
-    (same_contents c d heads.0 heads.1 heads.2 tails.0, tails.1)
+    let tails = once c.version c.batches d.batches g k t u is_c.batches also shut_g shut_k heads.5 in
+    (same_contents c d heads.0 heads.1 heads.2 heads.3 heads.4 tails.0, tails.1)
 
 -- an image has one front
 pub one_front : (c d : Contents) (image : Bytes) → HasFront c image → HasFront d image → c ≡ d
@@ -123,19 +193,16 @@ one_front c d image one other =
 
 -- and an image that has one is a log
 pub front_not_bad : (c : Contents) (image : Bytes) (number offset : ℕ) → HasFront c image → IsBadLog image number offset → ⊥
-front_not_bad c image number offset front (inl (inl none, at)) =
-    none.0 c.version c.worker c.logs (flat_map batch_bytes c.batches ++ (front.gate ∷ front.behind)) front.contents.version front.whole
-front_not_bad c image number offset front (inl (inr strange, at)) =
-    let heads = same_header c.version strange.version c.worker number c.logs strange.logs (flat_map batch_bytes c.batches ++ (front.gate ∷ front.behind)) strange.more (sym front.whole ∙ strange.whole) in
-    let below = front.contents.worker in
-    let most = front.contents.logs in
-    strange.wrong (omega (arith, heads.1, heads.2, below)) (omega (arith, heads.2, most))
+front_not_bad c image number offset front (inl bad) =
+    let is = front.contents in
+    let whole = front.whole ∙ append_assoc (beginning c.version c.worker c.logs c.generation c.start) (flat_map batch_bytes c.batches) (front.gate ∷ front.behind) in
+    begins c.version c.worker c.logs c.generation c.start number (flat_map batch_bytes c.batches ++ (front.gate ∷ front.behind)) image is.numbers is.worker is.logs whole bad.0
 front_not_bad c image number offset front (inr bad) =
     let d = bad.0 in
     let after = bad.1 in
-    let heads = same_header c.version d.version c.worker d.worker c.logs d.logs (flat_map batch_bytes c.batches ++ (front.gate ∷ front.behind)) (flat_map batch_bytes d.batches ++ after.rest) (sym front.whole ∙ after.whole) in
+    let heads = same_logs c d (front.gate ∷ front.behind) after.rest front.contents after.contents (sym front.whole ∙ after.whole) in
     clash c.version c.batches d.batches front.gate front.behind after.rest front.contents.batches
-    (subst (λ v. AllByRecursion (IsLogBatch v) d.batches) (sym heads.0) after.contents.batches) front.is_shut (subst (λ v. IsBadGate v after.rest) (sym heads.0) after.bad) heads.3
+    (subst (λ v. AllByRecursion (IsLogBatch v) d.batches) (sym heads.0) after.contents.batches) front.is_shut (subst (λ v. IsBadGate v after.rest) (sym heads.0) after.bad) heads.5
 
 -- ---- what may be left
 
@@ -156,7 +223,7 @@ pub left_joins : (c front : Contents) (b : LogBatch) (image : Bytes) → IsConte
     → HasFront front image → JoinsAndRises front
 left_joins c front b image is joins left has =
     ⊎_elim
-    (λ old. subst JoinsAndRises (one_front c front image old has) (join_front 0 c.batches b joins))
+    (λ old. subst JoinsAndRises (one_front c front image old has) (join_front c.start c.batches b joins))
     (λ new. subst JoinsAndRises (one_front (with_batch b c) front image new has) joins)
     (left_front c b image is left)
 

@@ -1,6 +1,6 @@
 -- What is read of a log from gate to gate, and what an opening made of it.
 use Rattle.std.proofs.Common.{◌≡◌, ⊎_elim, inl, inr, ℕ, zero, suc, ◌+◌, ◌-◌, ◌<◌, ◌≤◌, Bool, true, false, IsTrue, ◌↔◌, ◌^◌, Some, None, List, [], ◌∷◌, ◌++◌, length, take, drop, get_or, refl, sym, ◌∙◌, ap, subst, arith, append_assoc, length-append, Result, Ok, Err, OnErr, IfOk, IfErr, MatchResult}
-use Rattle.std.proofs.lemmas.Bool.{ltb-true, le-ltb}
+use Rattle.std.proofs.{lemmas.Bool.{ltb-true, le-ltb}, Math.Seq.drop-append_seam}
 use Rattle.std.proofs.lemmas.List.{take-append-drop, take-append-le, take_all, drop-take, length-take, length-take-le, drop-drop, length-drop, flat_map_more, append-nil}
 use Rattle.std.specs.{List.{flat_map, All}, Prelude.nat_lt, Int.{w32, to_be_bytes, from_be_bytes}}
 use Rattle.mt_rows.specs.{Rows.Bytes, declared.record.Batch.Batch}
@@ -9,14 +9,19 @@ use Rattle.mt_batches.specs.Batches.{IsRecord}
 use Rattle.mt_fields.proofs.FieldLaws.{IsBytes, IsBytes-rest, IsBytes-take, wide32, number_again}
 use Rattle.mt_log.specs.{declared.batch.LogBatch.LogBatch, declared.batch.LogBatch.TheVariants.Records, declared.fault.ReadFault.ReadFault}
 use Rattle.mt_log.specs.{declared.reader.Head.Head, declared.reader.Start.Start, declared.windows.Stop.Stop, declared.windows.Found.Found}
-use Rattle.mt_log.specs.Format.{header, record_bytes, body, told_body, batch_bytes, IsVersion}
+use Rattle.mt_log.specs.Format.{record_bytes, body, told_body, batch_bytes}
 use Rattle.mt_log.specs.Contents.{Contents, IsContents, IsBatch, IsLogBatch, to_of, log_bytes, with_batch, contents_of}
-use Rattle.mt_log.specs.Fronts.{HasNoBatch, IsBadGate, IsBadLog, IsShut, IsTorn, IsBeforeOrAfter, IsLeft, IsOldOrNew, IsFound, IsAtRest}
+use Rattle.mt_log.specs.Fronts.{HasNoBatch, HasNoPlainHeader, IsBadGate, IsBadLog, IsShut, IsTorn, IsBeforeOrAfter, IsLeft, IsOldOrNew, IsFound, IsAtRest}
 use Rattle.mt_log.specs.Reading.{batch_in, batch_at, are_steps, rise_within}
-use Rattle.mt_log.specs.Stops.{IsOpenGate, IsNoHead, IsHead, IsHeader, IsStart, IsBadStart, IsBody, IsOpenBatch, AreBatches, StandBefore, IsStop, IsFoundAt, IsRead, IsBadRead, CountsFault, CountsReads, OfImage, IsStartOf, IsStopOf, IsFrontOf, IsFaultOf}
+use Rattle.mt_log.specs.Stops.{IsShutGate, IsOpenGate, IsNoHead, IsHead, begin_bytes, BeginsSo, IsWithinLimits, IsStart, IsBadPlain, IsBadNumbered, IsBadStart, IsBody, IsOpenBatch, AreBatches, StandBefore, IsStop, IsFoundAt, IsRead, IsBadRead, CountsFault, CountsReads, OfImage, IsStartOf, IsStopOf, IsFrontOf, IsFaultOf}
 use Rattle.mt_log.specs.Logs.{IsSyncedOf, FailsToSync, Opened, GivesDiskBack, fault_with}
+use Rattle.mt_disk.proofs.CrashLaws.{after_sync}
+use Rattle.mt_gates.{specs.Gates.IsLeftOf, proofs.Crash.tried_sync}
+use Rattle.mt_log.specs.Numbered.{StillLeavesText, text_of}
+use Rattle.mt_log.proofs.NumberedLaws.{opening_text}
 use Rattle.mt_log.proofs.{Tests.{steps_from_test, records_from_test, test_of_batch}, BatchLaws.{body_takes, batch_again}}
-use Rattle.mt_log.proofs.FrontLaws.{each_more, end_more, opening, only_synced}
+use Rattle.mt_log_generations.specs.{Headers.{header_bytes}}
+use Rattle.mt_log.proofs.FrontLaws.{begin_short, each_more, end_more, opening, only_synced}
 use Rattle.mt_row_fields.proofs.Tests.{below}
 use Rattle.mt_log.specs.declared.fault.ReadFault.TheVariants as reads
 use Rattle.mt_log.specs.declared.reader.Head.TheVariants as heads
@@ -75,16 +80,16 @@ batch_rises b is = test_of_batch b.from b.to b.records is.records.limits is.reco
 
 -- ---- gates
 
--- what stands at the front of the first five bytes stands at the front of them all
-pub head_longer : (bytes : Bytes) (head : Head) → IsHead (take 5 bytes) head → IsHead bytes head
-head_longer bytes (heads.Shut gate) is =
-    record { is_shut = is.is_shut; behind = is.behind ++ drop 5 bytes; whole = sym (take-append-drop 5 bytes) ∙ ap (λ (l : Bytes). l ++ drop 5 bytes) is.whole }
-head_longer bytes (heads.Open size) is =
-    record { fits = is.fits; behind = is.behind ++ drop 5 bytes; whole = sym (take-append-drop 5 bytes) ∙ ap (λ (l : Bytes). l ++ drop 5 bytes) is.whole }
-head_longer bytes heads.Bad is =
+-- what stands at the front of the first five bytes or more stands at the front of them all
+pub head_longer : (n : ℕ) (bytes : Bytes) (head : Head) → 5 ≤ n → IsHead (take n bytes) head → IsHead bytes head
+head_longer n bytes (heads.Shut gate) some is =
+    record { is_shut = is.is_shut; behind = is.behind ++ drop n bytes; whole = sym (take-append-drop n bytes) ∙ ap (λ (l : Bytes). l ++ drop n bytes) is.whole }
+head_longer n bytes (heads.Open size) some is =
+    record { fits = is.fits; behind = is.behind ++ drop n bytes; whole = sym (take-append-drop n bytes) ∙ ap (λ (l : Bytes). l ++ drop n bytes) is.whole }
+head_longer n bytes heads.Bad some is =
     let short = is.short in
-    let few : length bytes ≤ 5 = omega (arith, length-take 5 bytes) in
-    subst IsNoHead (take_all 5 bytes few) is
+    let few : length bytes ≤ n = omega (arith, length-take n bytes) in
+    subst IsNoHead (take_all n bytes few) is
 
 -- a length of four bytes
 four_bytes : (bytes : Bytes) (size : ℕ) → IsBytes bytes → 4 ≤ length bytes
@@ -163,7 +168,7 @@ body_is_batch version bytes size b next is fits read =
           is.whole ∙ ap (λ (l : Bytes). 1 ∷ (to_be_bytes w32 size ++ l)) parts ∙ ap (λ (n : ℕ). 1 ∷ (to_be_bytes w32 n ++ (body b ++ drop (5 + size) bytes))) len;
       within = fits;
       next =
-          head_longer (drop (5 + size) bytes) next (subst (λ (l : Bytes). IsHead l next) (drop-take size 5 (drop 5 bytes) ∙ ap (take 5) (drop-drop size 5 bytes)) read.next);
+          head_longer 5 (drop (5 + size) bytes) next (omega arith) (subst (λ (l : Bytes). IsHead l next) (drop-take size 5 (drop 5 bytes) ∙ ap (take 5) (drop-drop size 5 bytes)) read.next);
     }
 
 -- a batch that was read as a body
@@ -190,9 +195,9 @@ module _ (version : ℕ) (image w : Bytes) (place size : ℕ) (is : IsOpenGate (
   batch_in_window b next has = body_is_batch version (drop place image) size b next is within (subst (λ (l : Bytes). IsBody version size l b next) window has)
 
 -- one batch more
-pub stand_more : (place : ℕ) (image : Bytes) (bs : List LogBatch) (b : LogBatch) (len : ℕ) (next : Head) → StandBefore place image bs
-    → IsOpenBatch (drop place image) b len next → StandBefore (place + len) image (bs ++ b ∷ [])
-stand_more place image bs b len next stand is =
+pub stand_more : (from place : ℕ) (image : Bytes) (bs : List LogBatch) (b : LogBatch) (len : ℕ) (next : Head) → StandBefore from place image bs
+    → IsOpenBatch (drop place image) b len next → StandBefore from (place + len) image (bs ++ b ∷ [])
+stand_more from place image bs b len next stand is =
     let front = flat_map batch_bytes bs in
     let fits = is.within in
     let at = stand.len in
@@ -207,73 +212,130 @@ stand_more place image bs b len next stand is =
     }
 
 -- and in the format
-pub batches_more : (version mark : ℕ) (bs : List LogBatch) (b : LogBatch) → AreBatches version mark bs → IsLogBatch version b → AreBatches version (to_of b) (bs ++ b ∷ [])
-batches_more version mark bs b are is = record { each = each_more version bs b are.each is; last = sym (end_more 0 bs b) }
+pub batches_more : (version start mark : ℕ) (bs : List LogBatch) (b : LogBatch) → AreBatches version start mark bs → IsLogBatch version b → AreBatches version start (to_of b) (bs ++ b ∷ [])
+batches_more version start mark bs b are is = record { each = each_more version bs b are.each is; last = sym (end_more start bs b) }
 
 -- ---- fronts
 
--- a log's bytes that begin so
-abbrev whole_log : ℕ → ℕ → ℕ → List LogBatch → Contents
-whole_log version worker logs bs = record { version = version; worker = worker; logs = logs; batches = bs }
+-- a log that begins so, with these batches
+abbrev whole_log : Start → List LogBatch → Contents
+whole_log s bs =
+    record { version = s.version; worker = s.worker; logs = s.logs; generation = s.generation; start = s.start; batches = bs }
 
-whole_image : (image : Bytes) (version worker logs place : ℕ) (bs : List LogBatch) → image ≡ header version worker logs ++ drop 8 image → StandBefore place image bs
-    → image ≡ log_bytes (whole_log version worker logs bs) ++ drop place image
-whole_image image version worker logs place bs head stand = head ∙ ap (λ (l : Bytes). header version worker logs ++ l) stand.parts
+whole_image : (image : Bytes) (s : Start) (place : ℕ) (bs : List LogBatch) → BeginsSo image s → StandBefore s.place place image bs
+    → image ≡ log_bytes (whole_log s bs) ++ drop place image
+whole_image image s place bs head stand =
+    head ∙ ap (λ (l : Bytes). begin_bytes s ++ l) stand.parts ∙ sym (append_assoc (begin_bytes s) (flat_map batch_bytes bs) (drop place image))
+
+whole_len : (image : Bytes) (s : Start) (place : ℕ) (bs : List LogBatch) → IsWithinLimits s → StandBefore s.place place image bs → place ≡ length (log_bytes (whole_log s bs))
+whole_len image s place bs is stand =
+    let at = stand.len in
+    let front = is.place in
+    omega (arith, at, front, length-append (begin_bytes s) (flat_map batch_bytes bs))
 
 -- the batches of a log stop at what isn't in the format
-pub stopped_bad : (image : Bytes) (version worker logs place mark : ℕ) (bs : List LogBatch) → IsVersion version → worker < logs → logs ≤ 64 → AreBatches version mark bs
-    → image ≡ header version worker logs ++ drop 8 image → StandBefore place image bs → IsBadGate version (drop place image) → IsBadLog image worker place
-stopped_bad image version worker logs place mark bs known under most are head stand bad =
-    let at = stand.len in
+pub stopped_bad : (image : Bytes) (s : Start) (place mark : ℕ) (bs : List LogBatch) → IsWithinLimits s → AreBatches s.version s.start mark bs
+    → BeginsSo image s → StandBefore s.place place image bs → IsBadGate s.version (drop place image) → IsBadLog image s.worker place
+stopped_bad image s place mark bs is are head stand bad =
     inr (
-      whole_log version worker logs bs,
+      whole_log s bs,
       record {
-        contents = record { version = known; worker = under; logs = most; batches = are.each };
+        contents = record { numbers = is.numbers; worker = is.worker; logs = is.logs; batches = are.each };
         rest = drop place image;
-        whole = whole_image image version worker logs place bs head stand;
+        whole = whole_image image s place bs head stand;
         bad = bad;
       },
       refl,
-      omega arith,
+      whole_len image s place bs is stand,
     )
+
+-- and at a gate that isn't open
+pub stopped_shut : (image : Bytes) (s : Start) (place gate : ℕ) (bs : List LogBatch) → IsWithinLimits s → BeginsSo image s → StandBefore s.place place image bs
+    → (shut : IsShutGate (drop place image) gate) → (image ≡ log_bytes (whole_log s bs) ++ (gate ∷ shut.behind)) × (place ≡ length (log_bytes (whole_log s bs)))
+stopped_shut image s place gate bs is head stand shut =
+    (whole_image image s place bs head stand ∙ ap (λ (l : Bytes). log_bytes (whole_log s bs) ++ l) shut.whole, whole_len image s place bs is stand)
 
 -- ---- beginnings
 
 -- what the first bytes of an image begin with, it does
-pub start_longer : (image : Bytes) (start : Start) → IsStart (take 13 image) start → IsStart image start
-start_longer image start is =
-    let v = start.version in
-    let w = start.worker in
-    let n = start.logs in
-    let whole : image ≡ header v w n ++ (drop 8 (take 13 image) ++ drop 13 image) = sym (take-append-drop 13 image) ∙ ap (λ (l : Bytes). l ++ drop 13 image) is.header in
+pub start_longer : (image : Bytes) (s : Start) → IsStart (take 30 image) s → IsStart image s
+start_longer image s is =
+    let p = s.place in
+    let short : p ≤ 25 = omega (arith, is.limits.place, begin_short s.version s.worker s.logs s.generation s.start) in
+    let whole : image ≡ begin_bytes s ++ (drop p (take 30 image) ++ drop 30 image) = sym (take-append-drop 30 image) ∙ ap (λ (l : Bytes). l ++ drop 30 image) is.header ∙ append_assoc (begin_bytes s) (drop p (take 30 image)) (drop 30 image) in
+    let rest : drop p image ≡ drop p (take 30 image) ++ drop 30 image =
+    ap (drop p) whole ∙ ap (λ n. drop n (begin_bytes s ++ (drop p (take 30 image) ++ drop 30 image))) is.limits.place ∙ drop-append_seam (begin_bytes s) (drop p (take 30 image) ++ drop 30 image) in
+    let sum : 30 ≡ p + (30 - p) = omega (arith, short) in
+    let cut : drop p (take 30 image) ≡ take (30 - p) (drop p image) = ap (λ n. drop p (take n image)) sum ∙ drop-take p (30 - p) image in
     record {
-      version = is.version;
-      worker = is.worker;
-      logs = is.logs;
-      header = whole ∙ ap (λ (l : Bytes). header v w n ++ l) (sym (ap (drop 8) whole));
-      head = head_longer (drop 8 image) start.head (subst (λ (l : Bytes). IsHead l start.head) (drop-take 8 5 image) is.head);
+      limits = is.limits;
+      header = whole ∙ ap (λ (l : Bytes). begin_bytes s ++ l) (sym rest);
+      head = head_longer (30 - p) (drop p image) s.head (omega (arith, short)) (subst (λ (l : Bytes). IsHead l s.head) cut is.head);
     }
 
 -- and where these are no log's beginning, it isn't one
-pub bad_start_longer : (image : Bytes) (number offset : ℕ) → IsBadStart (take 13 image) (reads.Bad number offset) → IsBadLog image number offset
+pub bad_start_longer : (image : Bytes) (number offset : ℕ) → IsBadStart (take 30 image) (reads.Bad number offset) → IsBadLog image number offset
 bad_start_longer image number offset bad =
     inl (
-      ⊎_elim
-          (λ none. inl ((λ version worker logs more known e. none.0 version worker logs (take 5 more) known (ap (take 13) e)), none.1))
-          (λ strange. inr (record { version = strange.version; known = strange.known; logs = strange.logs; more = strange.more ++ drop 13 image; whole = sym (take-append-drop 13 image) ∙ ap (λ (l : Bytes). l ++ drop 13 image) strange.whole; wrong = strange.wrong }))
-          bad.0,
+      elim bad.0 [
+        | inl none ↦ inl (
+          (
+            λ version worker logs more known e. none.0.0 version worker logs (take 22 more) known (ap (take 30) e),
+            λ h more fits e. none.0.1 h (take 5 more) fits (ap (take 30) e),
+          ),
+          none.1,
+        )
+        | inr past ↦ elim past [
+          | inl strange ↦ inr (inl (record { version = strange.version; known = strange.known; logs = strange.logs; more = strange.more ++ drop 30 image; whole = sym (take-append-drop 30 image) ∙ ap (λ (l : Bytes). l ++ drop 30 image) strange.whole; wrong = strange.wrong }))
+          | inr far ↦ inr (inr (record {
+            header = far.header;
+            more = far.more ++ drop 30 image;
+            fits = far.fits;
+            whole = sym (take-append-drop 30 image) ∙ ap (λ (l : Bytes). l ++ drop 30 image) far.whole ∙ ap (λ (l : Bytes). 1 ∷ l) (append_assoc (header_bytes far.header) far.more (drop 30 image));
+            wrong = far.wrong;
+            named = far.named;
+          }))
+        ]
+      ],
       bad.1,
     )
+
+-- bytes that begin with an open gate have no header of format 1 or 2
+pub no_plain : (rest : Bytes) → HasNoPlainHeader (1 ∷ rest)
+no_plain rest version worker logs more known e = omega (arith, ap (λ (l : Bytes). get_or l 0 0) e)
+
+pub bad_numbered : (bytes rest : Bytes) (e : ReadFault) → bytes ≡ 1 ∷ rest → IsBadNumbered bytes e → IsBadStart bytes e
+bad_numbered bytes rest reads.Device is bad = bad
+bad_numbered bytes rest reads.Memory is bad = bad
+bad_numbered bytes rest (reads.Bad number offset) is bad = (
+  elim bad.0 [
+    | inl none ↦ inl ((subst HasNoPlainHeader (sym is) (no_plain rest), none.0), none.1)
+    | inr far ↦ inr (inr far)
+  ],
+  bad.1,
+)
+
+-- and those that begin with none, no header of format 3
+pub bad_plain : (bytes : Bytes) (e : ReadFault) → ((rest : Bytes) → bytes ≡ 1 ∷ rest → ⊥) → IsBadPlain bytes e → IsBadStart bytes e
+bad_plain bytes reads.Device other bad = bad
+bad_plain bytes reads.Memory other bad = bad
+bad_plain bytes (reads.Bad number offset) other bad = (
+  elim bad.0 [
+    | inl none ↦ inl ((none.0, λ h more fits e. other (header_bytes h ++ more) e), none.1)
+    | inr strange ↦ inr (inl strange)
+  ],
+  bad.1,
+)
 
 -- ---- disks
 
 module _ {D : Type 0} (is_honest : D → Bool) (state : D → DiskState) (old : D) (len : ℕ) where
   -- what was read of a beginning
-  pub start_of_image : (w : Bytes) (start : Start) → OfImage is_honest state old len (λ image. w ≡ take 13 image) → IsStart w start
+  pub start_of_image : (w : Bytes) (start : Start) → OfImage is_honest state old len (λ image. w ≡ take 30 image) → IsStart w start
       → OfImage is_honest state old len (λ image. IsStart image start)
   start_of_image w start told is honest has = start_longer (state old).image start (subst (λ (l : Bytes). IsStart l start) (told honest has) is)
 
-  pub fault_of_start : (w : Bytes) (e : ReadFault) → OfImage is_honest state old len (λ image. w ≡ take 13 image) → IsBadStart w e
+  pub fault_of_start : (w : Bytes) (e : ReadFault) → OfImage is_honest state old len (λ image. w ≡ take 30 image) → IsBadStart w e
       → IsFaultOf is_honest state old len e
   fault_of_start w reads.Device told bad = tt
   fault_of_start w reads.Memory told bad = tt
@@ -288,25 +350,25 @@ module _ {D : Type 0} (is_honest : D → Bool) (state : D → DiskState) (old : 
         subst P image (told (subst IsTrue (sym kept) honest) (has ∙ ap length (sym image)))
 
     -- the batches behind a beginning, and where they stop
-    module _ (start : Start) (bs : List LogBatch) (stop : Stop) (begins : IsStartOf is_honest state old len start) (stops : IsStopOf is_honest state new start.version len start.head bs stop) where
-      stopped : IsTrue (is_honest old) → len ≡ length (state old).image → IsStop start.version (state old).image bs stop
+    module _ (start : Start) (bs : List LogBatch) (stop : Stop) (begins : IsStartOf is_honest state old len start) (stops : IsStopOf is_honest state new len start bs stop) where
+      stopped : IsTrue (is_honest old) → len ≡ length (state old).image → IsStop start.version start.place (state old).image bs stop
       stopped honest has =
-          of_same (λ (image : Bytes). IsHead (drop 8 image) start.head → IsStop start.version image bs stop) stops.told honest has (begins.told honest has).head
+          of_same (λ (image : Bytes). IsHead (drop start.place image) start.head → IsStop start.version start.place image bs stop) stops.told honest has (begins.told honest has).head
 
       module _ (r : Result Found ReadFault)
-          (told : (image : Bytes) → IsHeader image start → IsStop start.version image bs stop → MatchResult r (IsRead image) (IsBadRead image)) where
+          (told : (image : Bytes) → BeginsSo image start → IsStop start.version start.place image bs stop → MatchResult r (IsRead image) (IsBadRead image)) where
         of_image : IsTrue (is_honest old) → len ≡ length (state old).image → MatchResult r (IsRead (state old).image) (IsBadRead (state old).image)
         of_image honest has = told (state old).image (begins.told honest has).header (stopped honest has)
 
       pub front_found : (r : Result Found ReadFault)
-          → ((image : Bytes) → IsHeader image start → IsStop start.version image bs stop → MatchResult r (IsRead image) (IsBadRead image)) → IfOk r (IsFoundAt stop.place)
+          → ((image : Bytes) → BeginsSo image start → IsStop start.version start.place image bs stop → MatchResult r (IsRead image) (IsBadRead image)) → IfOk r (IsFoundAt stop.place)
           → IfOk r (IsFrontOf is_honest state old len)
       front_found (Ok found) told ok =
           record { contents = ok.contents; mark = ok.mark; within = subst (λ n. n ≤ len) (sym ok.end) stops.within; told = λ h e. of_image (Ok found) told h e }
       front_found (Err e) told ok = tt
 
       pub fault_found : (r : Result Found ReadFault)
-          → ((image : Bytes) → IsHeader image start → IsStop start.version image bs stop → MatchResult r (IsRead image) (IsBadRead image))
+          → ((image : Bytes) → BeginsSo image start → IsStop start.version start.place image bs stop → MatchResult r (IsRead image) (IsBadRead image))
           → IfErr r (IsFaultOf is_honest state old len)
       fault_found (Ok found) told = tt
       fault_found (Err reads.Device) told = tt
@@ -326,6 +388,9 @@ module _ {D : Type 0} (is_honest : D → Bool) (state : D → DiskState) (failur
   not_synced new reads.Device f = (λ honest c b first is before. only_synced c b first (state old) (state new) before (f.moves honest), f.count, f.honest)
   not_synced new reads.Memory f = (λ honest c b first is before. only_synced c b first (state old) (state new) before (f.moves honest), f.count, f.honest)
   not_synced new (reads.Bad number offset) f = absurd f.count
+
+  pub not_synced_text : (new : D) (e : ReadFault) → FailsToSync is_honest state failures old new e → StillLeavesText is_honest state failures old new
+  not_synced_text new e f h c first is before = tried_sync (text_of c) first (state old) (state new) before (f.moves h)
 
   -- it was synced, and then read
   module _ (synced_at mid : D) (len : ℕ) (s : IsSyncedOf is_honest state failures old synced_at len)
@@ -350,6 +415,10 @@ module _ {D : Type 0} (is_honest : D → Bool) (state : D → DiskState) (failur
     not_log reads.Memory bad count = (λ honest c b first is before. only_synced c b first (state old) (state mid) before (inr (done honest)), count ∙ s.count, kept ∙ s.honest)
     not_log (reads.Bad number offset) bad count =
         record { bad = of_synced (λ (l : Bytes). IsBadLog l number offset) bad; moves = done; count = count ∙ s.count; honest = kept ∙ s.honest }
+
+    -- what was only synced leaves what it may have been, of a log that is begun or given up
+    pub synced_text : StillLeavesText is_honest state failures old mid
+    synced_text h c first is before = after_sync (IsLeftOf (text_of c)) first (state old) (state mid) before (done h)
 
     module _ (found : Found) (i : IsFrontOf is_honest state synced_at len found) where
       is_read : IsTrue (is_honest old) → IsRead (state old).image found
@@ -400,3 +469,11 @@ module _ {D : Type 0} (is_honest : D → Bool) (state : D → DiskState) (failur
           count = count ∙ read ∙ s.count;
           honest = honest ∙ kept ∙ s.honest;
         }
+
+        -- what it leaves of a log that is begun or given up
+        pub right_text : StillLeavesText is_honest state failures old new
+        right_text h c first is before =
+            let f = contents_of found.front in
+            let here = subst IsTrue (sym kept) (still h) in
+            let at = found_at h in
+            opening_text c f found.gate found.end first (state old) (state mid) (state new) is i.contents (is_read h).is_shut at before (done h) (shut here (log_bytes f) at)

@@ -1,10 +1,10 @@
 -- What a log says: whose it is, and its batches; and what the batches of its own appends are.
-use Rattle.std.specs.{Prelude.{◌≡◌, ℕ, ◌<◌, ◌≤◌, ◌^◌, List, [], ◌∷◌, ◌++◌, map, length}, List.{flat_map, All, AllByRecursion}, List.Sorted.IsStrictlyIncreasing}
+use Rattle.std.specs.{Prelude.{◌≡◌, ℕ, zero, suc, ◌<◌, ◌≤◌, ◌^◌, List, [], ◌∷◌, ◌++◌, map, length}, List.{flat_map, All, AllByRecursion}, List.Sorted.IsStrictlyIncreasing}
 use Rattle.mt_rows.specs.{Rows.Bytes, declared.record.Record.Record, declared.record.Batch.Batch, declared.record.Write.TheVariants.{Changed, Removed, Whole}}
 use Rattle.mt_rows.specs.declared.record.Write.{Write}
 use Rattle.mt_batches.specs.Batches.{IsRecord, AreLogged}
 use Rattle.mt_log.specs.{declared.batch.LogBatch.LogBatch, declared.batch.LogBatch.TheVariants.{Records, Resume, OldRecords}, declared.batch.Front.Front}
-use Rattle.mt_log.specs.Format.{header, body, batch_bytes, IsVersion}
+use Rattle.mt_log.specs.Format.{beginning, body, batch_bytes, IsVersion}
 
 -- a batch of records in the format: it ends at a step, and its numbers, its records and its length fit
 pub record IsRecordBatch (b : Batch) : Type 0 where
@@ -44,7 +44,7 @@ pub record IsResume (from to kept : ℕ) : Type 0 where
   pub last : to ≤ 2 ^ 59
   pub past : kept < 2 ^ 64
 
--- a batch in the format of this number, whatever its steps and its stamps say: in format 2 there are no old records
+-- a batch in the format of this number, whatever its steps and its stamps say: only in format 1 there are old records
 abbrev pub IsLogBatch : ℕ → LogBatch → Type 0
 IsLogBatch version (Records b) = IsRecordBatch b
 IsLogBatch version (OldRecords b) = (version ≡ 1) × IsOldBatch b
@@ -83,40 +83,48 @@ abbrev pub end_of : ℕ → List LogBatch → ℕ
 end_of mark [] = mark
 end_of mark (b ∷ bs) = end_of (to_of b) bs
 
--- the number of its format, whose log it is, of how many, and its batches
+-- The number of its format, whose log it is, of how many, its generation, the step after which it begins, and its
+-- batches. A log of format 1 or 2 has generation 0 and start 0.
 pub record Contents : Type 0 where
   pub version : ℕ
   pub worker : ℕ
   pub logs : ℕ
+  pub generation : ℕ
+  pub start : ℕ
   pub batches : List LogBatch
+
+-- a format, a generation and a start that go together: none of the latter in formats 1 and 2, both in format 3
+abbrev pub AreNumbers : ℕ → ℕ → ℕ → Type 0
+AreNumbers version zero start = IsVersion version × (start ≡ 0)
+AreNumbers version (suc before) start = (version ≡ 3) × (suc before ≤ 2 ^ 59) × (start ≤ 2 ^ 59)
 
 -- one of 1 to 64 logs, whose batches are in the format
 pub record IsContents (c : Contents) : Type 0 where
-  pub version : IsVersion c.version
+  pub numbers : AreNumbers c.version c.generation c.start
   pub worker : c.worker < c.logs
   pub logs : c.logs ≤ 64
   pub batches : AllByRecursion (IsLogBatch c.version) c.batches
 
--- a log whose batches rise, and join from step 0 on
+-- a log whose batches rise, and join from its start on
 abbrev pub JoinsAndRises : Contents → Type 0
-JoinsAndRises c = Join 0 c.batches
+JoinsAndRises c = Join c.start c.batches
 
--- its mark: the step at which its last batch ends, or 0
+-- its mark: the step at which its last batch ends, or its start
 abbrev pub mark_of : Contents → ℕ
-mark_of c = end_of 0 c.batches
+mark_of c = end_of c.start c.batches
 
 -- a log up to its end gate
 abbrev pub log_bytes : Contents → Bytes
-log_bytes c = header c.version c.worker c.logs ++ flat_map batch_bytes c.batches
+log_bytes c = beginning c.version c.worker c.logs c.generation c.start ++ flat_map batch_bytes c.batches
 
 -- a log without batches, in format 2
 abbrev pub no_batches : ℕ → ℕ → Contents
-no_batches worker logs = record { version = 2; worker = worker; logs = logs; batches = [] }
+no_batches worker logs = record { version = 2; worker = worker; logs = logs; generation = 0; start = 0; batches = [] }
 
 -- with one batch more
 abbrev pub with_batch : LogBatch → Contents → Contents
-with_batch b c = record { version = c.version; worker = c.worker; logs = c.logs; batches = c.batches ++ b ∷ [] }
+with_batch b c = record { version = c.version; worker = c.worker; logs = c.logs; generation = c.generation; start = c.start; batches = c.batches ++ b ∷ [] }
 
 -- what was read of a log
 abbrev pub contents_of : Front → Contents
-contents_of front = record { version = front.version; worker = front.worker; logs = front.logs; batches = front.batches.items }
+contents_of front = record { version = front.version; worker = front.worker; logs = front.logs; generation = front.generation; start = front.start; batches = front.batches.items }

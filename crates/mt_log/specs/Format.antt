@@ -1,18 +1,25 @@
--- Formats 1 and 2 of a log: how a header, a record and a batch are spelled. All numbers have their highest byte first.
-use Rattle.std.specs.{Prelude.{ℕ, [], ◌∷◌, ◌++◌, length, ◌≤◌}, Int.{to_be_bytes, w32, w64}, List.flat_map}
+-- Formats 1 to 3 of a log: how a beginning, a record and a batch are spelled. All numbers have their highest byte first.
+use Rattle.std.specs.{Prelude.{ℕ, zero, suc, [], ◌∷◌, ◌++◌, length, ◌≤◌}, Int.{to_be_bytes, w32, w64}, List.flat_map}
 use Rattle.mt_rows.specs.{Rows.Bytes, declared.record.Record.Record, declared.record.Batch.Batch, declared.record.Write.TheVariants.{Changed, Removed, Whole}}
 use Rattle.mt_rows.specs.declared.record.Write.{Write}
 use Rattle.mt_fields.specs.Fields.{string}
 use Rattle.mt_row_fields.specs.Format.{row_bytes, change_bytes}
+use Rattle.mt_log_generations.specs.Headers.{header_with, header_bytes}
 use Rattle.mt_log.specs.{declared.batch.LogBatch.LogBatch, declared.batch.LogBatch.TheVariants.{Records, Resume, OldRecords}}
 
--- the number of a format
+-- the number of a format without generations
 abbrev pub IsVersion : ℕ → Type 0
 IsVersion version = (1 ≤ version) × (version ≤ 2)
 
 -- MTLOG, the format's number, the worker, the number of logs
 abbrev pub header : ℕ → ℕ → ℕ → Bytes
 header version worker logs = 77 ∷ 84 ∷ 76 ∷ 79 ∷ 71 ∷ version ∷ worker ∷ logs ∷ []
+
+-- What stands before the first batch gate. A log of no generation has a header of format 1 or 2. That of a generation
+-- has the open outer gate, and then a header of format 3, which names the generation and the start.
+abbrev pub beginning : ℕ → ℕ → ℕ → ℕ → ℕ → Bytes
+beginning version worker logs zero start = header version worker logs
+beginning version worker logs (suc before) start = 1 ∷ header_bytes (header_with worker logs (suc before) start)
 
 -- what became of a key: 00 if it was removed, 01 and its row, or 02 and the columns that were changed
 abbrev pub write_bytes : Write → Bytes

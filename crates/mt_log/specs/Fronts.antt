@@ -4,6 +4,8 @@ use Rattle.mt_rows.specs.Rows.{Bytes}
 use Rattle.mt_disk.specs.Disk.{DiskState, IsDurable, LeavesOnly}
 use Rattle.mt_log.specs.{declared.batch.LogBatch.LogBatch, Format.{header, body, told_body, open_batch, IsVersion}}
 use Rattle.mt_log.specs.Contents.{Contents, IsContents, IsLogBatch, log_bytes, with_batch}
+use Rattle.mt_log_generations.specs.Headers.{IsPastLimits}
+use Rattle.mt_log_generations.specs.Headers.{HasNoHeader as HasNoNumberedHeader}
 
 -- The front of an image: its batches with an open gate, up to the first gate that isn't 01. Whatever
 -- stands behind that gate counts for nothing.
@@ -14,11 +16,15 @@ pub record HasFront (c : Contents) (image : Bytes) : Type 0 where
   pub is_shut : gate ≢ 1
   pub whole : image ≡ log_bytes c ++ (gate ∷ behind)
 
--- no header stands at the front, whatever format, worker and number of logs it might name
-abbrev pub HasNoHeader : Bytes → Type 0
-HasNoHeader image = (version worker logs : ℕ) (more : Bytes) → IsVersion version → image ≡ header version worker logs ++ more → ⊥
+-- no header of format 1 or 2 stands at the front, whatever worker and number of logs it might name
+abbrev pub HasNoPlainHeader : Bytes → Type 0
+HasNoPlainHeader image = (version worker logs : ℕ) (more : Bytes) → IsVersion version → image ≡ header version worker logs ++ more → ⊥
 
--- a header stands there that names this worker, but as one of no 1 to 64 logs
+-- no header of any format stands there, also none after an open outer gate
+abbrev pub HasNoHeader : Bytes → Type 0
+HasNoHeader image = HasNoPlainHeader image × HasNoNumberedHeader image
+
+-- a header of format 1 or 2 stands there that names this worker, but as one of no 1 to 64 logs
 pub record IsOfNoLogs (image : Bytes) (worker : ℕ) : Type 0 where
   pub version : ℕ
   pub logs : ℕ
@@ -42,11 +48,15 @@ pub record IsBadAfter (c : Contents) (image : Bytes) : Type 0 where
   pub whole : image ≡ log_bytes c ++ rest
   pub bad : IsBadGate c.version rest
 
--- An image that is no log: at 0 it has no header, and the number is 0; or one of no 1 to 64 logs; or at
--- the gate behind a worker's last good batch it isn't in the format. Then the number is the header's worker.
+-- no log begins so: there is no header, and the number is 0; or one past its limits, and the number is its worker
+abbrev pub IsBadBeginning : Bytes → ℕ → Type 0
+IsBadBeginning image number = (HasNoHeader image × (number ≡ 0)) ⊎ IsOfNoLogs image number ⊎ IsPastLimits image number
+
+-- An image that is no log: at 0 it has no header, or a bad one; or at the gate behind a worker's last good batch it
+-- isn't in the format. Then the number is the header's worker.
 abbrev pub IsBadLog : Bytes → ℕ → ℕ → Type 0
 IsBadLog image number offset =
-    ((HasNoHeader image × (number ≡ 0)) ⊎ IsOfNoLogs image number) × (offset ≡ 0) ⊎ ((c : Contents) × IsBadAfter c image × (number ≡ c.worker) × (offset ≡ length (log_bytes c)))
+    IsBadBeginning image number × (offset ≡ 0) ⊎ ((c : Contents) × IsBadAfter c image × (number ≡ c.worker) × (offset ≡ length (log_bytes c)))
 
 -- these bytes, and then a closed gate
 pub record IsShut (front image : Bytes) : Type 0 where

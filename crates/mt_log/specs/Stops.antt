@@ -5,8 +5,10 @@ use Rattle.mt_rows.specs.Rows.{Bytes}
 use Rattle.mt_disk.specs.Disk.{DiskState, GoesUp}
 use Rattle.mt_log.specs.{declared.batch.LogBatch.LogBatch, declared.fault.ReadFault.ReadFault, declared.reader.Head.Head, declared.reader.Start.Start}
 use Rattle.mt_log.specs.{declared.windows.AtGate.AtGate, declared.windows.Stop.Stop, declared.windows.Found.Found}
-use Rattle.mt_log.specs.{Format.{header, body, batch_bytes, IsVersion}, Contents.{IsLogBatch, end_of, IsContents, mark_of, log_bytes, contents_of}}
-use Rattle.mt_log.specs.{Fronts.{HasNoHeader, IsOfNoLogs, IsBadGate, IsBadLog}, Reading.batch_in}
+use Rattle.mt_log.specs.{Format.{beginning, body, batch_bytes}, Contents.{AreNumbers, IsLogBatch, end_of, IsContents, mark_of, log_bytes, contents_of}}
+use Rattle.mt_log.specs.{Fronts.{HasNoPlainHeader, IsOfNoLogs, IsBadGate, IsBadBeginning, IsBadLog}, Reading.batch_in}
+use Rattle.mt_log_generations.specs.{Headers.{IsPastLimits}}
+use Rattle.mt_log_generations.specs.Headers.{HasNoHeader as HasNoNumberedHeader}
 use Rattle.mt_log.specs.declared.fault.ReadFault.TheVariants as faults
 use Rattle.mt_log.specs.declared.reader.Head.TheVariants as heads
 use Rattle.mt_log.specs.declared.windows.AtGate.TheVariants as gates
@@ -36,23 +38,44 @@ IsHead bytes (heads.Shut gate) = IsShutGate bytes gate
 IsHead bytes (heads.Open size) = IsOpenGate bytes size
 IsHead bytes heads.Bad = IsNoHead bytes
 
--- the header that these bytes begin with
-abbrev pub IsHeader : Bytes → Start → Type 0
-IsHeader bytes start = bytes ≡ header start.version start.worker start.logs ++ drop 8 bytes
+-- the bytes before the first batch gate
+abbrev pub begin_bytes : Start → Bytes
+begin_bytes s = beginning s.version s.worker s.logs s.generation s.start
+
+-- these bytes begin so
+abbrev pub BeginsSo : Bytes → Start → Type 0
+BeginsSo bytes s = bytes ≡ begin_bytes s ++ drop s.place bytes
+
+-- the limits of a beginning, and where its first batch gate is
+pub record IsWithinLimits (s : Start) : Type 0 where
+  pub numbers : AreNumbers s.version s.generation s.start
+  pub worker : s.worker < s.logs
+  pub logs : s.logs ≤ 64
+  pub place : s.place ≡ length (begin_bytes s)
 
 -- what a log's bytes begin with
-pub record IsStart (bytes : Bytes) (start : Start) : Type 0 where
-  pub version : IsVersion start.version
-  pub worker : start.worker < start.logs
-  pub logs : start.logs ≤ 64
-  pub header : IsHeader bytes start
-  pub head : IsHead (drop 8 bytes) start.head
+pub record IsStart (bytes : Bytes) (s : Start) : Type 0 where
+  pub limits : IsWithinLimits s
+  pub header : BeginsSo bytes s
+  pub head : IsHead (drop s.place bytes) s.head
+
+-- why bytes that begin with no open gate are no log's beginning
+abbrev pub IsBadPlain : Bytes → ReadFault → Type 0
+IsBadPlain bytes faults.Device = ⊥
+IsBadPlain bytes faults.Memory = ⊥
+IsBadPlain bytes (faults.Bad number offset) = ((HasNoPlainHeader bytes × (number ≡ 0)) ⊎ IsOfNoLogs bytes number) × (offset ≡ 0)
+
+-- and those that begin with one
+abbrev pub IsBadNumbered : Bytes → ReadFault → Type 0
+IsBadNumbered bytes faults.Device = ⊥
+IsBadNumbered bytes faults.Memory = ⊥
+IsBadNumbered bytes (faults.Bad number offset) = ((HasNoNumberedHeader bytes × (number ≡ 0)) ⊎ IsPastLimits bytes number) × (offset ≡ 0)
 
 -- why bytes are no log's beginning
 abbrev pub IsBadStart : Bytes → ReadFault → Type 0
 IsBadStart bytes faults.Device = ⊥
 IsBadStart bytes faults.Memory = ⊥
-IsBadStart bytes (faults.Bad number offset) = ((HasNoHeader bytes × (number ≡ 0)) ⊎ IsOfNoLogs bytes number) × (offset ≡ 0)
+IsBadStart bytes (faults.Bad number offset) = IsBadBeginning bytes number × (offset ≡ 0)
 
 -- the first bytes, so many, are the body of a batch, and behind them is a gate
 pub record IsBody (version size : ℕ) (bytes : Bytes) (b : LogBatch) (head : Head) : Type 0 where
@@ -94,19 +117,19 @@ abbrev pub StopsAt : ℕ → Bytes → Option ℕ → Type 0
 StopsAt version bytes None = IsBadGate version bytes
 StopsAt version bytes (Some gate) = IsShutGate bytes gate
 
--- batches in the format, the last of which ends at the mark
-pub record AreBatches (version mark : ℕ) (batches : List LogBatch) : Type 0 where
+-- batches in the format, from a start on, the last of which ends at the mark
+pub record AreBatches (version start mark : ℕ) (batches : List LogBatch) : Type 0 where
   pub each : AllByRecursion (IsLogBatch version) batches
-  pub last : mark ≡ end_of 0 batches
+  pub last : mark ≡ end_of start batches
 
--- these batches stand before a place, behind the header
-pub record StandBefore (place : ℕ) (image : Bytes) (batches : List LogBatch) : Type 0 where
-  pub parts : drop 8 image ≡ flat_map batch_bytes batches ++ drop place image
-  pub len : place ≡ 8 + length (flat_map batch_bytes batches)
+-- these batches stand from the first gate on, before a place
+pub record StandBefore (first place : ℕ) (image : Bytes) (batches : List LogBatch) : Type 0 where
+  pub parts : drop first image ≡ flat_map batch_bytes batches ++ drop place image
+  pub len : place ≡ first + length (flat_map batch_bytes batches)
 
--- the batches of an image, and where they stop
-pub record IsStop (version : ℕ) (image : Bytes) (batches : List LogBatch) (stop : Stop) : Type 0 where
-  pub stand : StandBefore stop.place image batches
+-- the batches of an image from the first gate on, and where they stop
+pub record IsStop (version first : ℕ) (image : Bytes) (batches : List LogBatch) (stop : Stop) : Type 0 where
+  pub stand : StandBefore first stop.place image batches
   pub stops : StopsAt version (drop stop.place image) stop.gate
 
 -- a front in the format, that ends at a place
@@ -156,17 +179,15 @@ pub record IsWindow {D : Type 0} (is_honest : D → Bool) (state : D → DiskSta
 
 -- what a log begins with
 pub record IsStartOf {D : Type 0} (is_honest : D → Bool) (state : D → DiskState) (disk : D) (len : ℕ) (start : Start) : Type 0 where
-  pub version : IsVersion start.version
-  pub worker : start.worker < start.logs
-  pub logs : start.logs ≤ 64
-  pub whole : 8 ≤ len
+  pub limits : IsWithinLimits start
+  pub whole : start.place ≤ len
   pub told : OfImage is_honest state disk len (λ image. IsStart image start)
 
 -- the batches behind a first gate, and where they stop
-pub record IsStopOf {D : Type 0} (is_honest : D → Bool) (state : D → DiskState) (disk : D) (version len : ℕ) (first : Head) (bs : List LogBatch) (stop : Stop) : Type 0 where
-  pub batches : AreBatches version stop.mark bs
+pub record IsStopOf {D : Type 0} (is_honest : D → Bool) (state : D → DiskState) (disk : D) (len : ℕ) (start : Start) (bs : List LogBatch) (stop : Stop) : Type 0 where
+  pub batches : AreBatches start.version start.start stop.mark bs
   pub within : stop.place ≤ len
-  pub told : OfImage is_honest state disk len (λ image. IsHead (drop 8 image) first → IsStop version image bs stop)
+  pub told : OfImage is_honest state disk len (λ image. IsHead (drop start.place image) start.head → IsStop start.version start.place image bs stop)
 
 -- the front of a file
 pub record IsFrontOf {D : Type 0} (is_honest : D → Bool) (state : D → DiskState) (disk : D) (len : ℕ) (found : Found) : Type 0 where

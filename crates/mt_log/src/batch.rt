@@ -120,13 +120,16 @@ impl LogBatch {
     }
 }
 
-/// What was read of a log: the number of its format, its worker, of how many logs it is, and its batches. Of their
-/// records it holds those that none of its own resume batches makes void.
+/// What was read of a log: the number of its format, its worker, of how many logs it is, its generation, the step after
+/// which it begins, and its batches. Generation and start are 0 for formats 1 and 2. Of the records it holds those that
+/// none of its own resume batches makes void.
 #[derive(Debug, Drop)]
 pub struct Front {
     pub version: u8,
     pub worker: u8,
     pub logs: u8,
+    pub generation: u64,
+    pub start: u64,
     pub batches: Vec<LogBatch>,
     held: Vec<SpelledRecords>,
     ghost holds: { joined held.items ≡ held_in batches.items },
@@ -138,6 +141,8 @@ impl Front {
         version: u8,
         worker: u8,
         logs: u8,
+        generation: u64,
+        start: u64,
         batches: Vec<LogBatch>,
         held: Vec<SpelledRecords>,
     ) -> Front
@@ -145,12 +150,16 @@ impl Front {
         ensures version { result.version ≡ version }
         ensures worker { result.worker ≡ worker }
         ensures logs { result.logs ≡ logs }
+        ensures generation { result.generation ≡ generation }
+        ensures start { result.start ≡ start }
         ensures batches { result.batches.items ≡ batches.items }
     {
         Front {
             version,
             worker,
             logs,
+            generation,
+            start,
             batches,
             held,
         }

@@ -6,6 +6,7 @@ ghost use Rattle.mt_rows.specs.declared.record.Record.{Record as AnyRecord};
 ghost use Rattle.mt_log.specs.{declared.batch.LogBatch.LogBatch, Contents.to_of, Voids.{records_in, held_of, joined}, Holding.AreHeld, Reading.read_as};
 
 use crate::batch::{Front, LogBatch, LoggedBatch};
+use crate::reader::Start;
 use crate::records::SpelledRecords;
 use std::alloc::{AllocError, Global};
 use std::marker::Model;
@@ -128,11 +129,13 @@ impl ReadBatches {
         })
     }
 
-    /// The front of a log that has these batches.
-    pub(crate) fn into_front(self, version: u8, worker: u8, logs: u8) -> Front
-        ensures version { result.version ≡ version }
-        ensures worker { result.worker ≡ worker }
-        ensures logs { result.logs ≡ logs }
+    /// The front of a log that begins so, and has these batches.
+    pub(crate) fn into_front(self, start: Start) -> Front
+        ensures version { result.version ≡ start.version }
+        ensures worker { result.worker ≡ start.worker }
+        ensures logs { result.logs ≡ start.logs }
+        ensures generation { result.generation ≡ start.generation }
+        ensures start { result.start ≡ start.start }
         ensures batches { result.batches.items ≡ self }
     {
         let ReadBatches {
@@ -140,7 +143,15 @@ impl ReadBatches {
             voids: _,
             held,
         } = self;
-        Front::new(version, worker, logs, batches, held)
+        let Start {
+            version,
+            worker,
+            logs,
+            generation,
+            start,
+            ..
+        } = start;
+        Front::new(version, worker, logs, generation, start, batches, held)
     }
 }
 

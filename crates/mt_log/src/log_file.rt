@@ -1,9 +1,10 @@
 //! A log on its disk: made, opened and appended to.
 
-ghost use Rattle.std.specs.Prelude.{◌≡◌, ◌<◌, ◌≤◌, ◌^◌, ◌++◌, ◌∷◌, [], length, IsTrue, IfOk, IfErr, OnOk, OnErr, ℕ};
+ghost use Rattle.std.specs.Prelude.{◌≡◌, ◌<◌, ◌≤◌, ◌^◌, ◌++◌, ◌∷◌, [], length, IsTrue, IfOk, IfErr, OnOk, OnErr, MatchResult, ℕ};
 ghost use Rattle.mt_disk.specs.Disk.{CountsFailure, GoesUp, synced};
 ghost use Rattle.mt_log.specs.{declared.batch.LogBatch.LogBatch, Format.{body, told_body}};
 ghost use Rattle.mt_log.specs.{Contents.{IsBatch, IsLogBatch, Rises, from_of, to_of, log_bytes, no_batches}, Fronts.IsAtRest};
+ghost use Rattle.mt_log.specs.Numbered.{StillLeavesText, disk_in};
 ghost use Rattle.mt_log.specs.Logs.{Created, Appended, FailedIn, GivesBack, GivesLogBack, Opened, GivesDiskBack, IsSyncedOf, FailsToSync, fault_with};
 
 use crate::batch::{Front, MAX_STEP};
@@ -57,6 +58,7 @@ impl<D: Disk> LogFile<D> {
     pub fn open(alloc: Global, mut disk: D) -> Result<(LogFile<D>, Front), OpenFault<D>>
         ensures ok { IfOk result (λ r. Opened D.is_honest D.state D.failures disk r.0 r.1) }
         ensures err { IfErr result (GivesDiskBack D.is_honest D.state D.failures disk) }
+        ensures text { MatchResult result (λ r. StillLeavesText D.is_honest D.state D.failures disk r.0.disk) (λ e. StillLeavesText D.is_honest D.state D.failures disk (disk_in e)) }
     {
         match open_file(alloc, &mut disk) {
             Ok(
@@ -209,6 +211,7 @@ fn synced_len<D: Disk>(disk: &mut D) -> Result<usize, ReadFault>
 fn open_file<D: Disk>(alloc: Global, disk: &mut D) -> Result<Found, ReadFault>
     ensures ok { IfOk result (λ found. Opened D.is_honest D.state D.failures disk.old (record { disk = disk.new; end = found.end; mark = found.mark }) found.front) }
     ensures err { IfErr result (λ e. GivesDiskBack D.is_honest D.state D.failures disk.old (fault_with disk.new e)) }
+    ensures text { StillLeavesText D.is_honest D.state D.failures disk.old disk.new }
 {
     let len = synced_len(disk)?;
     let found = read_front(alloc, disk, len)?;

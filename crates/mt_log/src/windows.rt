@@ -6,13 +6,12 @@
 ghost use Rattle.std.specs.Prelude.{◌≡◌, ◌<◌, ◌≤◌, ◌+◌, ◌-◌, ◌^◌, [], drop, IsTrue, IfOk, IfErr, MatchResult};
 ghost use Rattle.mt_rows.specs.Rows.{Bytes};
 ghost use Rattle.mt_log.specs.declared.fault.ReadFault.TheVariants.{Bad};
-ghost use Rattle.mt_log.specs.Stops.{CountsReads, IsWindow, OfImage, IsHead, IsOpenGate, IsAtGate, FitsGate, AreBatches, IsHeader, IsStop, IsFoundAt, IsRead, IsBadRead, IsNotBad, IsStartOf, IsStopOf, IsFrontOf, IsFaultOf};
-ghost use Rattle.mt_log.specs.Format.{IsVersion};
+ghost use Rattle.mt_log.specs.Stops.{CountsReads, IsWindow, OfImage, IsHead, IsOpenGate, IsAtGate, FitsGate, AreBatches, BeginsSo, IsWithinLimits, IsStop, IsFoundAt, IsRead, IsBadRead, IsNotBad, IsStartOf, IsStopOf, IsFrontOf, IsFaultOf};
 
 use crate::batch::Front;
 use crate::fault::ReadFault;
 use crate::held::{ReadBatch, ReadBatches};
-use crate::reader::{HEADER_BYTES, Head, Start, batch_of, start_of};
+use crate::reader::{Head, NUMBERED_BYTES, Start, batch_of, start_of};
 use mt_disk::Disk;
 use std::alloc::Global;
 
@@ -62,35 +61,27 @@ pub(crate) fn read_front<D: Disk>(
 {
     let start = read_start(alloc, disk, len)?;
     let mut batches = ReadBatches::new(alloc);
-    let stop = read_batches(alloc, disk, start.version, len, start.head, &mut batches)?;
+    let stop = read_batches(alloc, disk, len, start, &mut batches)?;
     found_of(start, batches, &stop)
 }
 
 // The front that begins so, and whose batches stop there.
 fn found_of(start: Start, batches: ReadBatches, stop: &Stop) -> Result<Found, ReadFault>
-    requires version { IsVersion start.version }
-    requires worker { start.worker < start.logs }
-    requires logs { start.logs ≤ 64 }
-    requires batches { AreBatches start.version stop.now.mark batches }
+    requires limits { IsWithinLimits start }
+    requires batches { AreBatches start.version start.start stop.now.mark batches }
     ensures ok { IfOk result (IsFoundAt stop.now.place) }
     ensures err { IfErr result (λ e. e ≡ Bad start.worker stop.now.place) }
-    ensures told { (image : Bytes) → IsHeader image start → IsStop start.version image batches stop.now → MatchResult result (IsRead image) (IsBadRead image) }
+    ensures told { (image : Bytes) → BeginsSo image start → IsStop start.version start.place image batches stop.now → MatchResult result (IsRead image) (IsBadRead image) }
 {
-    let Start {
-        version,
-        worker,
-        logs,
-        ..
-    } = start;
     match stop.gate {
         Some(gate) => Ok(Found {
-            front: batches.into_front(version, worker, logs),
+            front: batches.into_front(start),
             end: stop.place,
             gate,
             mark: stop.mark,
         }),
         None => Err(ReadFault::Bad {
-            number: worker,
+            number: start.worker,
             offset: stop.place as u64,
         }),
     }
@@ -104,7 +95,7 @@ fn read_start<D: Disk>(alloc: Global, disk: &mut D, len: usize) -> Result<Start,
     ensures honest { D.is_honest disk.new ≡ D.is_honest disk.old }
     ensures count { CountsReads result (D.failures disk.old) (D.failures disk.new) }
 {
-    let bytes = read_window(alloc, disk, len, 0, HEADER_BYTES + HEAD_BYTES)?;
+    let bytes = read_window(alloc, disk, len, 0, NUMBERED_BYTES + HEAD_BYTES)?;
     start_of(&bytes)
 }
 
@@ -112,25 +103,24 @@ fn read_start<D: Disk>(alloc: Global, disk: &mut D, len: usize) -> Result<Start,
 fn read_batches<D: Disk>(
     alloc: Global,
     disk: &mut D,
-    version: u8,
     len: usize,
-    first: Head,
+    start: Start,
     batches: &mut ReadBatches,
 ) -> Result<Stop, ReadFault>
     requires none { batches.old ≡ [] }
-    requires header { 8 ≤ len }
+    requires header { start.place ≤ len }
     requires short { len < 2 ^ 63 }
-    ensures ok { IfOk result (IsStopOf D.is_honest D.state disk.old version len first batches.new) }
+    ensures ok { IfOk result (IsStopOf D.is_honest D.state disk.old len start batches.new) }
     ensures err { IfErr result IsNotBad }
     ensures same { IsTrue (D.is_honest disk.old) → D.state disk.new ≡ D.state disk.old }
     ensures honest { D.is_honest disk.new ≡ D.is_honest disk.old }
     ensures count { CountsReads result (D.failures disk.old) (D.failures disk.new) }
 {
-    let mut place = HEADER_BYTES;
-    let mut mark = 0;
-    let mut head = first;
+    let mut place = start.place;
+    let mut mark = start.start;
+    let mut head = start.head;
     loop {
-        match at_gate(alloc, disk, version, len, place, head)? {
+        match at_gate(alloc, disk, start.version, len, place, head)? {
             AtGate::Shut(gate) => {
                 return Ok(Stop {
                     place,

@@ -10,20 +10,20 @@ loop-gate-preserved g c =
     let place = c.loop-gate.place in
     let bs = c.loop-gate.batches in
     let b = c.in-Open.batch in
-    let fits = subst (FitsGate c.args.version (c.args.len - place)) c.in-Open.is c.in_ok-gate.ensures.fits in
+    let fits = subst (FitsGate c.args.start.version (c.args.len - place)) c.in-Open.is c.in_ok-gate.ensures.fits in
     let more : c.add.new.self ≡ bs ++ b ∷ [] = c.in_ok-add-in-Open.ensures in
     let here = before.within in
     let left = fits.within in
     record {
-      batches = rw (c.to-mark.ensures, more) (batches_more c.args.version c.loop-gate.mark bs b before.batches fits.batch);
+      batches = rw (c.to-mark.ensures, more) (batches_more c.args.start.version c.args.start.start c.loop-gate.mark bs b before.batches fits.batch);
       within = omega (arith, here, left);
       told =
           λ honest has first. (
           let image = (g.D.Disk.state c.args.disk.now).image in
           let stand = before.told honest has first in
-          let told = of_same g.D.Disk.is_honest g.D.Disk.state c.args.disk.now c.args.len c.loop-gate.disk before.same before.honest (λ (l : Bytes). IsHead (drop place l) c.loop-gate.head → IsAtGate c.args.version (drop place l) c.in_ok-gate.field-0) c.in_ok-gate.ensures.told in
-          let at = subst (IsAtGate c.args.version (drop place image)) c.in-Open.is (told honest has stand.1) in
-          (subst (StandBefore (place + c.in-Open.size) image) (sym more) (stand_more place image bs b c.in-Open.size c.in-Open.next stand.0 at), subst (λ (l : Bytes). IsHead l c.in-Open.next) (drop-drop c.in-Open.size place image) at.next)
+          let told = of_same g.D.Disk.is_honest g.D.Disk.state c.args.disk.now c.args.len c.loop-gate.disk before.same before.honest (λ (l : Bytes). IsHead (drop place l) c.loop-gate.head → IsAtGate c.args.start.version (drop place l) c.in_ok-gate.field-0) c.in_ok-gate.ensures.told in
+          let at = subst (IsAtGate c.args.start.version (drop place image)) c.in-Open.is (told honest has stand.1) in
+          (subst (StandBefore c.args.start.place (place + c.in-Open.size) image) (sym more) (stand_more c.args.start.place place image bs b c.in-Open.size c.in-Open.next stand.0 at), subst (λ (l : Bytes). IsHead l c.in-Open.next) (drop-drop c.in-Open.size place image) at.next)
           );
       same = λ honest. c.in_ok-gate.ensures.same (subst IsTrue (sym before.honest) honest) ∙ before.same honest;
       honest = c.in_ok-gate.ensures.honest ∙ before.honest;

@@ -1,6 +1,6 @@
 -- What the first bytes of a file begin with, the file does.
-use Rattle.std.proofs.{Common.{◌∙◌, length, ap, arith}, lemmas.Result.{IfOk-weaker, IfErr-weaker}}
-use Rattle.mt_log.{specs.Stops.{IsStart, IsBadStart, IsStartOf, IsFaultOf}, proofs.ReadLaws.{start_of_image, fault_of_start}}
+use Rattle.std.proofs.{Common.{◌∙◌, length, drop, ap, arith, length-append}, lemmas.Result.{IfOk-weaker, IfErr-weaker}}
+use Rattle.mt_log.{specs.Stops.{begin_bytes, IsStart, IsBadStart, IsStartOf, IsFaultOf}, proofs.ReadLaws.{start_of_image, fault_of_start}}
 use Rattle.mt_log.proofs.windows.read_start.Goals as goal
 
 pub returns-clause-ok : goal.returns-clause-ok
@@ -9,10 +9,8 @@ returns-clause-ok g c =
     let size = c.in_ok-bytes.ensures.ok.size in
     IfOk-weaker c.start_of.result (IsStart w) (IsStartOf g.D.Disk.is_honest g.D.Disk.state c.args.disk.now c.args.len)
     (λ start is. record {
-      version = is.version;
-      worker = is.worker;
-      logs = is.logs;
-      whole = omega (arith, size, ap length c.deref.ensures.value, ap length is.header);
+      limits = is.limits;
+      whole = omega (arith, size, ap length c.deref.ensures.value, ap length is.header, is.limits.place, length-append (begin_bytes start) (drop start.place w));
       told =
           start_of_image g.D.Disk.is_honest g.D.Disk.state c.args.disk.now c.args.len w start (λ honest has. c.deref.ensures.value ∙ c.in_ok-bytes.ensures.ok.told honest has) is;
     })

@@ -26,7 +26,7 @@ returns-clause-ok g c = λ b is batch rises turn to.
         contents = contents_more d b log.contents (batch d.version);
         rest =
             subst (λ l. IsAtRest l (c.args.self.now.end + length c.args.block.now) (g.D.Disk.state c.add.new.disk)) (sym (more_bytes d b)) (c.in_ok-add.ensures.added honest (log_bytes d) (body b) is log.rest);
-        mark = sym to ∙ sym (end_more 0 d.batches b);
+        mark = sym to ∙ sym (end_more d.start d.batches b);
       };
       leaves = λ honest d log. c.add.ensures.leaves honest (log_bytes d) (body b) is log.rest;
       count = c.in_ok-add.ensures.count;

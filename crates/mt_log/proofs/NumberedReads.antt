@@ -1,0 +1,73 @@
+-- What was made of a numbered file: settled, read, and its end set right.
+use Rattle.std.proofs.Common.{◌≡◌, ◌≢◌, inr, ℕ, ◌<◌, ◌^◌, Bool, IsTrue, ◌∷◌, Option, Some, None, sym, ◌∙◌, subst}
+use Rattle.std.{proofs.lemmas.Option.same_Some, specs.List.slice_get}
+use Rattle.mt_disk.specs.Disk.{DiskState, GoesUp}
+use Rattle.mt_gates.{specs.Gates.{IsGateOf, IsSyncedOrSame}, proofs.Crash.tried_sync}
+use Rattle.mt_log_generations.specs.Calls.{ReadHeader, StillLeaves}
+use Rattle.mt_log.specs.{declared.fault.ReadFault.ReadFault, declared.windows.Found.Found}
+use Rattle.mt_log.specs.{Contents.contents_of, Logs.{Opened, GivesDiskBack, fault_with}}
+use Rattle.mt_log.specs.Numbered.{HasNoLog, IsSyncedOrNone, FailsToSettle, FindsNumbered, GivesNumberedBack, StillLeavesText, text_of}
+use Rattle.mt_log.proofs.{FrontLaws.only_synced, NumberedLaws.{is_numbered, left_opens, text_some}}
+use Rattle.mt_log.specs.declared.fault.ReadFault.TheVariants as reads
+
+module _ {D : Type 0} (is_honest : D → Bool) (state : D → DiskState) (failures : D → ℕ) (old : D) where
+  -- a file without a log
+  pub no_log : (new : D) → ReadHeader is_honest state failures old new None → HasNoLog is_honest state failures old new
+  no_log new r = record { none = r.tells; durable = λ h. (r.settled h).0; closed = λ h. (r.settled h).1; count = r.count; honest = r.honest }
+
+  -- what settling it leaves of a log that is begun or given up, by what a reading of its header leaves
+  pub settled_text : (new : D) → StillLeaves is_honest state failures old new → StillLeavesText is_honest state failures old new
+  settled_text new still h c first is before = still h (text_of c) first (text_some c) before
+
+  -- and one that was only synced
+  pub gate_text : (mid : D) (len : ℕ) (gate : Option ℕ) → IsGateOf is_honest state old mid (len, gate) → StillLeavesText is_honest state failures old mid
+  gate_text mid len gate at h c first is before = tried_sync (text_of c) first (state old) (state mid) before (inr (at.moves h))
+
+  -- its sync failed
+  pub sync_failed : (new : D) → (IsTrue (is_honest old) → IsSyncedOrSame (state old) (state new)) → GoesUp (failures old) (failures new) → is_honest new ≡ is_honest old
+      → FailsToSettle is_honest state failures old new reads.Device
+  sync_failed new moves up honest = record { moves = λ h opened. moves h; count = up; honest = honest }
+
+  module _ (mid : D) (len : ℕ) (gate : Option ℕ) (at : IsGateOf is_honest state old mid (len, gate)) (kept : is_honest mid ≡ is_honest old) (same : failures mid ≡ failures old) where
+    -- closing its torn gate failed
+    pub torn_fails : (g : ℕ) → gate ≡ Some g → g ≢ 1 → (new : D) → GoesUp (failures mid) (failures new) → is_honest new ≡ is_honest mid
+        → FailsToSettle is_honest state failures old new reads.Device
+    torn_fails g e other new up honest = record {
+      moves = λ h opened. absurd (other (same_Some g 1 (sym e ∙ at.gate h ∙ opened)));
+      count = subst (λ n. GoesUp n (failures new)) same up;
+      honest = honest ∙ kept;
+    }
+
+    -- it is too long
+    pub too_long : FailsToSettle is_honest state failures old mid reads.Memory
+    too_long = record { moves = λ h opened. inr (at.moves h); count = same; honest = kept }
+
+    -- its gate is open
+    pub opened_gate : gate ≡ Some 1 → len < 2 ^ 63 → IsSyncedOrNone is_honest state failures old mid (Some len)
+    opened_gate e few = (record { moves = at.moves; told = at.len; few = few; count = same; honest = kept }, λ h. sym (at.gate h) ∙ e)
+
+  -- it was not settled
+  pub not_settled : (new : D) (e : ReadFault) → FailsToSettle is_honest state failures old new e → GivesNumberedBack is_honest state failures old (fault_with new e)
+  not_settled new reads.Device f = (
+    λ h c b first some is before. only_synced c b first (state old) (state new) before (f.moves h (left_opens c b (state old).image some (before.now (state old).image before.reads))),
+    f.count,
+    f.honest,
+  )
+  not_settled new reads.Memory f = (
+    λ h c b first some is before. only_synced c b first (state old) (state new) before (f.moves h (left_opens c b (state old).image some (before.now (state old).image before.reads))),
+    f.count,
+    f.honest,
+  )
+  not_settled new (reads.Bad number offset) f = absurd f.count
+
+  -- and it was not read, or its end not set right
+  pub not_opened : (new : D) (e : ReadFault) → GivesDiskBack is_honest state failures old (fault_with new e) → GivesNumberedBack is_honest state failures old (fault_with new e)
+  not_opened new reads.Device f = (λ h c b first some is before. f.0 h c b first is before, f.1, f.2)
+  not_opened new reads.Memory f = (λ h c b first some is before. f.0 h c b first is before, f.1, f.2)
+  not_opened new (reads.Bad number offset) f = f
+
+  -- it was opened
+  pub numbered_opened : (new : D) (found : Found) → (IsTrue (is_honest old) → slice_get (state old).image 0 ≡ Some 1)
+      → Opened is_honest state failures old (record { disk = new; end = found.end; mark = found.mark }) found.front → FindsNumbered is_honest state failures old new (Some found)
+  numbered_opened new found opened is =
+      (is, λ h. (let front = is.read h in is_numbered (contents_of found.front) (front.gate ∷ front.behind) (state old).image front.whole (opened h)))
