@@ -1,12 +1,12 @@
 -- What was made of a numbered file: settled, read, and its end set right.
-use Rattle.std.proofs.Common.{◌≡◌, ◌≢◌, inr, ℕ, ◌<◌, ◌^◌, Bool, IsTrue, ◌∷◌, Option, Some, None, sym, ◌∙◌, subst}
-use Rattle.std.{proofs.lemmas.Option.same_Some, specs.List.slice_get}
+use Rattle.std.proofs.Common.{◌≡◌, inr, ℕ, Bool, IsTrue, ◌∷◌, Option, Some, None}
+use Rattle.std.{specs.List.slice_get}
 use Rattle.mt_disk.specs.Disk.{DiskState, GoesUp}
 use Rattle.mt_gates.{specs.Gates.{IsGateOf, IsSyncedOrSame}, proofs.Crash.tried_sync}
 use Rattle.mt_log_generations.specs.Calls.{ReadHeader, StillLeaves}
 use Rattle.mt_log.specs.{declared.fault.ReadFault.ReadFault, declared.windows.Found.Found}
 use Rattle.mt_log.specs.{Contents.contents_of, Logs.{Opened, GivesDiskBack, fault_with}}
-use Rattle.mt_log.specs.Numbered.{HasNoLog, IsSyncedOrNone, FailsToSettle, FindsNumbered, GivesNumberedBack, StillLeavesText, text_of}
+use Rattle.mt_log.specs.{Numbered.{HasNoLog, GivesNumberedBack, StillLeavesText, text_of}, Settling.{FailsToSettle, FindsNumbered}}
 use Rattle.mt_log.proofs.{FrontLaws.only_synced, NumberedLaws.{is_numbered, left_opens, text_some}}
 use Rattle.mt_log.specs.declared.fault.ReadFault.TheVariants as reads
 
@@ -27,24 +27,6 @@ module _ {D : Type 0} (is_honest : D → Bool) (state : D → DiskState) (failur
   pub sync_failed : (new : D) → (IsTrue (is_honest old) → IsSyncedOrSame (state old) (state new)) → GoesUp (failures old) (failures new) → is_honest new ≡ is_honest old
       → FailsToSettle is_honest state failures old new reads.Device
   sync_failed new moves up honest = record { moves = λ h opened. moves h; count = up; honest = honest }
-
-  module _ (mid : D) (len : ℕ) (gate : Option ℕ) (at : IsGateOf is_honest state old mid (len, gate)) (kept : is_honest mid ≡ is_honest old) (same : failures mid ≡ failures old) where
-    -- closing its torn gate failed
-    pub torn_fails : (g : ℕ) → gate ≡ Some g → g ≢ 1 → (new : D) → GoesUp (failures mid) (failures new) → is_honest new ≡ is_honest mid
-        → FailsToSettle is_honest state failures old new reads.Device
-    torn_fails g e other new up honest = record {
-      moves = λ h opened. absurd (other (same_Some g 1 (sym e ∙ at.gate h ∙ opened)));
-      count = subst (λ n. GoesUp n (failures new)) same up;
-      honest = honest ∙ kept;
-    }
-
-    -- it is too long
-    pub too_long : FailsToSettle is_honest state failures old mid reads.Memory
-    too_long = record { moves = λ h opened. inr (at.moves h); count = same; honest = kept }
-
-    -- its gate is open
-    pub opened_gate : gate ≡ Some 1 → len < 2 ^ 63 → IsSyncedOrNone is_honest state failures old mid (Some len)
-    opened_gate e few = (record { moves = at.moves; told = at.len; few = few; count = same; honest = kept }, λ h. sym (at.gate h) ∙ e)
 
   -- it was not settled
   pub not_settled : (new : D) (e : ReadFault) → FailsToSettle is_honest state failures old new e → GivesNumberedBack is_honest state failures old (fault_with new e)

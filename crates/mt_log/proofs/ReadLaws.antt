@@ -11,9 +11,9 @@ use Rattle.mt_log.specs.{declared.batch.LogBatch.LogBatch, declared.batch.LogBat
 use Rattle.mt_log.specs.{declared.reader.Head.Head, declared.reader.Start.Start, declared.windows.Stop.Stop, declared.windows.Found.Found}
 use Rattle.mt_log.specs.Format.{record_bytes, body, told_body, batch_bytes}
 use Rattle.mt_log.specs.Contents.{Contents, IsContents, IsBatch, IsLogBatch, to_of, log_bytes, with_batch, contents_of}
-use Rattle.mt_log.specs.Fronts.{HasNoBatch, HasNoPlainHeader, IsBadGate, IsBadLog, IsShut, IsTorn, IsBeforeOrAfter, IsLeft, IsOldOrNew, IsFound, IsAtRest}
+use Rattle.mt_log.specs.Fronts.{HasNoBatch, IsBadGate, IsBadLog, IsShut, IsTorn, IsBeforeOrAfter, IsLeft, IsOldOrNew, IsFound, IsAtRest}
 use Rattle.mt_log.specs.Reading.{batch_in, batch_at, are_steps, rise_within}
-use Rattle.mt_log.specs.Stops.{IsShutGate, IsOpenGate, IsNoHead, IsHead, begin_bytes, BeginsSo, IsWithinLimits, IsStart, IsBadPlain, IsBadNumbered, IsBadStart, IsBody, IsOpenBatch, AreBatches, StandBefore, IsStop, IsFoundAt, IsRead, IsBadRead, CountsFault, CountsReads, OfImage, IsStartOf, IsStopOf, IsFrontOf, IsFaultOf}
+use Rattle.mt_log.specs.Stops.{IsOpenGate, IsNoHead, IsHead, begin_bytes, BeginsSo, IsWithinLimits, IsStart, IsBadStart, IsBody, IsOpenBatch, AreBatches, StandBefore, IsStop, IsFoundAt, IsRead, IsBadRead, CountsFault, CountsReads, OfImage, IsStartOf, IsStopOf, IsFrontOf, IsFaultOf}
 use Rattle.mt_log.specs.Logs.{IsSyncedOf, FailsToSync, Opened, GivesDiskBack, fault_with}
 use Rattle.mt_disk.proofs.CrashLaws.{after_sync}
 use Rattle.mt_gates.{specs.Gates.IsLeftOf, proofs.Crash.tried_sync}
@@ -249,12 +249,6 @@ stopped_bad image s place mark bs is are head stand bad =
       whole_len image s place bs is stand,
     )
 
--- and at a gate that isn't open
-pub stopped_shut : (image : Bytes) (s : Start) (place gate : ℕ) (bs : List LogBatch) → IsWithinLimits s → BeginsSo image s → StandBefore s.place place image bs
-    → (shut : IsShutGate (drop place image) gate) → (image ≡ log_bytes (whole_log s bs) ++ (gate ∷ shut.behind)) × (place ≡ length (log_bytes (whole_log s bs)))
-stopped_shut image s place gate bs is head stand shut =
-    (whole_image image s place bs head stand ∙ ap (λ (l : Bytes). log_bytes (whole_log s bs) ++ l) shut.whole, whole_len image s place bs is stand)
-
 -- ---- beginnings
 
 -- what the first bytes of an image begin with, it does
@@ -299,33 +293,6 @@ bad_start_longer image number offset bad =
       ],
       bad.1,
     )
-
--- bytes that begin with an open gate have no header of format 1 or 2
-pub no_plain : (rest : Bytes) → HasNoPlainHeader (1 ∷ rest)
-no_plain rest version worker logs more known e = omega (arith, ap (λ (l : Bytes). get_or l 0 0) e)
-
-pub bad_numbered : (bytes rest : Bytes) (e : ReadFault) → bytes ≡ 1 ∷ rest → IsBadNumbered bytes e → IsBadStart bytes e
-bad_numbered bytes rest reads.Device is bad = bad
-bad_numbered bytes rest reads.Memory is bad = bad
-bad_numbered bytes rest (reads.Bad number offset) is bad = (
-  elim bad.0 [
-    | inl none ↦ inl ((subst HasNoPlainHeader (sym is) (no_plain rest), none.0), none.1)
-    | inr far ↦ inr (inr far)
-  ],
-  bad.1,
-)
-
--- and those that begin with none, no header of format 3
-pub bad_plain : (bytes : Bytes) (e : ReadFault) → ((rest : Bytes) → bytes ≡ 1 ∷ rest → ⊥) → IsBadPlain bytes e → IsBadStart bytes e
-bad_plain bytes reads.Device other bad = bad
-bad_plain bytes reads.Memory other bad = bad
-bad_plain bytes (reads.Bad number offset) other bad = (
-  elim bad.0 [
-    | inl none ↦ inl ((none.0, λ h more fits e. other (header_bytes h ++ more) e), none.1)
-    | inr strange ↦ inr (inl strange)
-  ],
-  bad.1,
-)
 
 -- ---- disks
 

@@ -1,12 +1,11 @@
 -- The calls on the log of a generation: begun, opened from its numbered file, and given up.
-use Rattle.std.specs.Prelude.{◌≡◌, ◌⊎◌, ℕ, ◌<◌, ◌≤◌, Bool, IsTrue, List, [], ◌∷◌, ◌++◌, length, drop, Option, Some, None}
-use Rattle.std.specs.List.{slice_get}
+use Rattle.std.specs.Prelude.{◌≡◌, ◌⊎◌, ℕ, ◌<◌, ◌≤◌, Bool, IsTrue, List, [], ◌∷◌, ◌++◌, length, drop}
 use Rattle.mt_rows.specs.Rows.{Bytes}
 use Rattle.mt_disk.specs.Disk.{DiskState, LeavesOnly, IsDurable, GoesUp}
 use Rattle.mt_gates.specs.Gates.{IsClosed, IsLeftOf, IsLeftOfEither, IsGivenUp}
 use Rattle.mt_log_generations.specs.{declared.header.Header.Header, Headers.{begun_text, IsNoLog}}
-use Rattle.mt_log.specs.{declared.batch.LogBatch.LogBatch, declared.log_file.LogFile.LogFile, declared.numbered_file.Numbered.Numbered, declared.fault.OpenFault.OpenFault, declared.fault.ReadFault.ReadFault, declared.windows.Found.Found}
-use Rattle.mt_log.specs.{Contents.{Contents, IsContents, log_bytes, with_batch}, Fronts.IsLeft, Logs.{IsLogOf, Opened, IsRefused, IsSyncedOf, IsSyncedOrSame, CountsSync}}
+use Rattle.mt_log.specs.{declared.batch.LogBatch.LogBatch, declared.log_file.LogFile.LogFile, declared.numbered_file.Numbered.Numbered, declared.fault.OpenFault.OpenFault}
+use Rattle.mt_log.specs.{Contents.{Contents, IsContents, log_bytes, with_batch}, Fronts.IsLeft, Logs.{IsLogOf, Opened, IsRefused}}
 use Rattle.mt_log.specs.declared.numbered_file.Numbered.TheVariants.{Log, NoLog}
 use Rattle.mt_log.specs.declared.fault.OpenFault.TheVariants as opens
 
@@ -98,22 +97,3 @@ module _ {D : Type 0} (is_honest : D → Bool) (state : D → DiskState) (failur
   GivesNumberedBack old (opens.Device disk) = StillLeavesNumbered old disk × GoesUp (failures old) (failures disk) × (is_honest disk ≡ is_honest old)
   GivesNumberedBack old (opens.Memory disk) = StillLeavesNumbered old disk × (failures disk ≡ failures old) × (is_honest disk ≡ is_honest old)
   GivesNumberedBack old (opens.BadLog disk number offset) = IsRefused is_honest state failures old disk number offset
-
-  -- ---- steps of an opening
-
-  -- a numbered file was synced, and has this length; or it has no log
-  abbrev pub IsSyncedOrNone : D → D → Option ℕ → Type 0
-  IsSyncedOrNone old new (Some len) = IsSyncedOf is_honest state failures old new len × (IsTrue (is_honest old) → slice_get (state old).image 0 ≡ Some 1)
-  IsSyncedOrNone old new None = HasNoLog old new
-
-  -- its sync failed, or that of its torn gate; or it is too long
-  pub record FailsToSettle (old new : D) (e : ReadFault) : Type 0 where
-    pub moves : IsTrue (is_honest old) → slice_get (state old).image 0 ≡ Some 1 → IsSyncedOrSame (state old) (state new)
-    pub count : CountsSync e (failures old) (failures new)
-    pub honest : is_honest new ≡ is_honest old
-
-  -- what was found, on this disk
-  abbrev pub FindsNumbered : D → D → Option Found → Type 0
-  FindsNumbered old disk (Some found) =
-      Opened is_honest state failures old (record { disk = disk; end = found.end; mark = found.mark }) found.front × (IsTrue (is_honest old) → 1 ≤ found.front.generation)
-  FindsNumbered old disk None = HasNoLog old disk

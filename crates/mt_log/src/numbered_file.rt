@@ -2,7 +2,7 @@
 
 ghost use Rattle.std.specs.Prelude.{◌≡◌, ◌<◌, ◌≤◌, ◌^◌, IsTrue, IfOk, IfErr, MatchResult};
 ghost use Rattle.mt_log_generations.specs.Headers.{header_with, IsHeader};
-ghost use Rattle.mt_log.specs.{Logs.fault_with, Numbered.{Begun, FailsToBegin, GivenUp, FailsToGiveUp, OpensNumbered, GivesNumberedBack, FindsNumbered, IsSyncedOrNone, FailsToSettle, StillLeavesText, disk_in, disk_of}};
+ghost use Rattle.mt_log.specs.{Logs.fault_with, Numbered.{Begun, FailsToBegin, GivenUp, FailsToGiveUp, OpensNumbered, GivesNumberedBack, StillLeavesText, disk_in, disk_of}, Settling.{FindsNumbered, IsSyncedOrNone, FailsToSettle}};
 
 use crate::batch::Front;
 use crate::fault::{OpenFault, ReadFault};

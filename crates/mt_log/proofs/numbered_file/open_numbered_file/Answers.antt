@@ -1,6 +1,6 @@
 -- What was read of the settled file, and what was made of its end, is what an opening says.
 use Rattle.std.proofs.{Common.{subst}, lemmas.Result.err_from_is_err_and}
-use Rattle.mt_log.specs.Numbered.{IsSyncedOrNone}
+use Rattle.mt_log.specs.Settling.{IsSyncedOrNone}
 use Rattle.mt_log.proofs.{ReadLaws.{not_log, failed_right, opened_right, synced_text, right_text}, NumberedReads.{not_settled, not_opened, numbered_opened}}
 use Rattle.mt_log.specs.declared.fault.ReadFault.TheVariants as reads
 use Rattle.mt_log.proofs.numbered_file.open_numbered_file.Goals as goal
