@@ -44,8 +44,9 @@ appended old new h is = record {
     after : IsFrontOf old h.worker (with_batch (Records h.batch) h.had)
     after = record {
       contents = contents_more h.had (Records h.batch) was.contents (in_format h.batch h.fits h.had.version);
-      joins = join_more 0 h.had.batches (Records h.batch) was.joins h.turn (batch_in_order h.batch h.fits);
+      joins = join_more h.had.start h.had.batches (Records h.batch) was.joins h.turn (batch_in_order h.batch h.fits);
       owner = was.owner;
+      whole = was.whole;
       has = has;
       only = λ r at. ⊎_elim (λ l. was.only r l) (λ m. only r m) (in_more r (Records h.batch) h.had at);
       voids = λ n void. ⊎_elim (λ l. was.voids n l) (λ m. absurd (true≢false (sym m))) (void_either n (Records h.batch) h.had void);
@@ -149,8 +150,9 @@ resumed old new h is = record {
     after = record {
       contents = contents_more h.had (Resume (mark_of h.had) old.reached h.kept) was.contents
           (in_steps (mark_of h.had) old.reached h.kept h.rises.0 h.fits h.rises.1 h.had.version);
-      joins = join_more 0 h.had.batches (Resume (mark_of h.had) old.reached h.kept) was.joins refl h.rises;
+      joins = join_more h.had.start h.had.batches (Resume (mark_of h.had) old.reached h.kept) was.joins refl h.rises;
       owner = was.owner;
+      whole = was.whole;
       has = λ r at upto live. more_left r (Resume (mark_of h.had) old.reached h.kept) h.had (was.has r at (within r upto live) live);
       only = λ r at. ⊎_elim (λ l. was.only r l) (λ m. absurd m) (in_more r (Resume (mark_of h.had) old.reached h.kept) h.had at);
       voids = λ n void. ⊎_elim (λ l. was.voids n l) (λ m. told n (void_cases h.kept old.reached n [] m))

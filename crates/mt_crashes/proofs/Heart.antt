@@ -225,6 +225,12 @@ pub owned : (count n k : ℕ) (s : Store) (fronts : List Contents) (f : Contents
 owned count n k s fronts f some few h left there =
     let is = front_of s fronts k f (leads n (new_store count) s (new_is count some few) h) left there in (is.contents, is.owner.0)
 
+-- and it begins at step 0
+pub begins_at_0 : (count n k : ℕ) (s : Store) (fronts : List Contents) (f : Contents) → 0 < count → count ≤ 64 → Leads n (new_store count) s
+    → MayLeaveFronts s.logs fronts
+    → slice_get fronts k ≡ Some f → (f.generation ≡ 0) × (f.start ≡ 0)
+begins_at_0 count n k s fronts f some few h left there = (front_of s fronts k f (leads n (new_store count) s (new_is count some few) h) left there).whole
+
 pub all_join : (count n k : ℕ) (s : Store) (fronts : List Contents) (f : Contents) → 0 < count → count ≤ 64 → Leads n (new_store count) s
     → MayLeaveFronts s.logs fronts
     → slice_get fronts k ≡ Some f → JoinsAndRises f

@@ -37,9 +37,10 @@ new_is count some few = record {
   beyond = omega arith;
   logs = λ worker log there left may.
       subst (λ (f : Contents). IsFrontOf (new_store count) worker f) (sym (new_front count worker log some few there left may)) (record {
-        contents = record { version = (omega arith, omega arith); worker = (new_at count 0 count worker log there).1; logs = few; batches = tt };
+        contents = record { numbers = ((omega arith, omega arith), refl); worker = (new_at count 0 count worker log there).1; logs = few; batches = tt };
         joins = tt;
         owner = (refl, sym (new_long count 0 count));
+        whole = (refl, refl);
         has = λ r at upto live. absurd at;
         only = λ r at. absurd at;
         voids = λ n h. absurd (true≢false (sym h));

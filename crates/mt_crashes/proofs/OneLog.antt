@@ -24,6 +24,7 @@ longer s worker w now left f =
       contents = f.contents;
       joins = f.joins;
       owner = (f.owner.0, f.owner.1 ∙ sym (length-set s.logs worker now));
+      whole = f.whole;
       has = f.has;
       only = f.only;
       voids = f.voids;

@@ -152,12 +152,13 @@ recovers old new is h = subst IsStore (sym h.stands) (record {
           contents = was.contents;
           joins = was.joins;
           owner = was.owner;
+          whole = was.whole;
           has = λ r at upto live. was.has r
               (in_filter (λ (q : Placed). not (ltb (resume_of h.fronts h.read) q.change.stamp)) (by_worker worker r) old.placed at).0 upto
               (live_before (cutoff_of h.fronts) (resume_of h.fronts h.read) r.stamp old.voids live);
           only =
               λ r at. filter_in (λ (q : Placed). not (ltb (resume_of h.fronts h.read) q.change.stamp)) (by_worker worker r) old.placed (was.only r at)
-              (not_from_false _ (le-ltb (resume_of h.fronts h.read) r.stamp (omega (arith, within, stamp_upto_mark 0 f.batches r was.joins at))));
+              (not_from_false _ (le-ltb (resume_of h.fronts h.read) r.stamp (omega (arith, within, stamp_upto_mark f.start f.batches r was.joins at))));
           voids = λ n void. void_later (cutoff_of h.fronts, resume_of h.fronts h.read) n old.voids (was.voids n void);
           made = within;
           resumed = λ n at. omega (arith, was.resumed n at, goes_on);
@@ -235,7 +236,7 @@ serves old new is h = subst IsStore (sym h.stands) (record {
   gone = is.gone;
   beyond = is.beyond;
   logs = λ worker log there left may. let f = is.logs worker log there left may in
-      record { contents = f.contents; joins = f.joins; owner = f.owner; has = f.has; only = f.only; voids = f.voids; made = f.made; resumed = f.resumed };
+      record { contents = f.contents; joins = f.joins; owner = f.owner; whole = f.whole; has = f.has; only = f.only; voids = f.voids; made = f.made; resumed = f.resumed };
   guards = is.guards;
   some = is.some;
   top = inl first;
@@ -256,7 +257,7 @@ serves old new is h = subst IsStore (sym h.stands) (record {
 
     all : (worker : ℕ) (log : LogNow) → HasLog old worker log → Reaches old.reached log
     all worker log there left may =
-        resume_upto_mark old.reached 0 left.batches (is.logs worker log there left may).joins (all_held worker log there left may)
+        resume_upto_mark old.reached left.start left.batches (is.logs worker log there left may).joins (all_held worker log there left may)
 
     first : HasTopLog (record old { serving = true })
     first = let l = within_place old.logs 0 is.some in (0, l.0, l.1, all 0 l.0 l.1)

@@ -14,7 +14,7 @@ writes_slot old new is h = subst IsStore (sym h.stands) (record {
   gone = is.gone;
   beyond = is.beyond;
   logs = λ worker log there left may. let f = is.logs worker log there left may in
-      record { contents = f.contents; joins = f.joins; owner = f.owner; has = f.has; only = f.only; voids = f.voids; made = f.made; resumed = f.resumed };
+      record { contents = f.contents; joins = f.joins; owner = f.owner; whole = f.whole; has = f.has; only = f.only; voids = f.voids; made = f.made; resumed = f.resumed };
   guards = is.guards;
   some = is.some;
   top = ⊎_elim (λ g. inl g) (λ g. top_slot g) is.top;

@@ -19,7 +19,7 @@ steps_on old new is h = subst IsStore (sym h.stands) (record {
   gone = is.gone;
   beyond = omega (arith, is.beyond);
   logs = λ worker log there left may. let f = is.logs worker log there left may in
-      record { contents = f.contents; joins = f.joins; owner = f.owner; has = f.has; only = f.only; voids = f.voids; made = omega (arith, f.made); resumed = f.resumed };
+      record { contents = f.contents; joins = f.joins; owner = f.owner; whole = f.whole; has = f.has; only = f.only; voids = f.voids; made = omega (arith, f.made); resumed = f.resumed };
   guards = is.guards;
   some = is.some;
   top = is.top;
@@ -52,6 +52,7 @@ places old new is h = subst IsStore (sym h.stands) (record {
     contents = f.contents;
     joins = f.joins;
     owner = f.owner;
+    whole = f.whole;
     has = λ r at upto not_void. ⊎_elim (λ l. f.has r l upto not_void)
         (λ m. absurd (omega (arith, f.made, upto, h.number, ap (λ (x : Placed). x.change.stamp) (only_one (by_worker worker r) m))))
         (in_either (by_worker worker r) old.placed (h.p ∷ []) at);

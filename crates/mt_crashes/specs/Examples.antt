@@ -14,5 +14,5 @@ batch from n = record { from = from; to = n; records = change n ∷ [] }
 -- The second log ended at 1 when the store was recovered, and the first at 2. The store went on from 2, and placed a change of each log's worker.
 abbrev pub fronts_of_two : List Contents
 fronts_of_two =
-    record { version = 2; worker = 0; logs = 2; batches = Records (batch 0 2) ∷ Resume 2 2 1 ∷ Records (batch 2 4) ∷ [] }
-    ∷ record { version = 2; worker = 1; logs = 2; batches = Records (batch 0 1) ∷ Resume 1 2 1 ∷ Records (batch 2 3) ∷ [] } ∷ []
+    record { version = 2; worker = 0; logs = 2; generation = 0; start = 0; batches = Records (batch 0 2) ∷ Resume 2 2 1 ∷ Records (batch 2 4) ∷ [] }
+    ∷ record { version = 2; worker = 1; logs = 2; generation = 0; start = 0; batches = Records (batch 0 1) ∷ Resume 1 2 1 ∷ Records (batch 2 3) ∷ [] } ∷ []

@@ -33,8 +33,8 @@ pub fn a_settled_number_is_kept()
         0 < count → count ≤ 64 → Leads n (new_store count) s → AllReach k s → MayLeaveFronts s.logs fronts → k ≤ cutoff_of fronts }
 {}
 
-/// Whatever a crash leaves: the logs are a set, each of them its worker's, in the format, with batches that
-/// join and rise; no stamp stands in two of them; and none is older than what the others tell. So a recovery
+/// Whatever a crash leaves: the logs are a set, each of them its worker's, in the format, from step 0 on, with
+/// batches that join and rise; no stamp stands in two of them; and none is older than what the others tell. So a recovery
 /// refuses none of them for any of these.
 pub fn a_crash_leaves_a_set()
     ensures set { (count n : ℕ) (s : Store) (fronts : List Contents) →
@@ -42,6 +42,9 @@ pub fn a_crash_leaves_a_set()
     ensures own { (count n k : ℕ) (s : Store) (fronts : List Contents) (f : Contents) →
         0 < count → count ≤ 64 → Leads n (new_store count) s → MayLeaveFronts s.logs fronts →
         slice_get fronts k ≡ Some f → IsContents f × (f.worker ≡ k) }
+    ensures whole { (count n k : ℕ) (s : Store) (fronts : List Contents) (f : Contents) →
+        0 < count → count ≤ 64 → Leads n (new_store count) s → MayLeaveFronts s.logs fronts →
+        slice_get fronts k ≡ Some f → (f.generation ≡ 0) × (f.start ≡ 0) }
     ensures joins { (count n k : ℕ) (s : Store) (fronts : List Contents) (f : Contents) →
         0 < count → count ≤ 64 → Leads n (new_store count) s → MayLeaveFronts s.logs fronts →
         slice_get fronts k ≡ Some f → JoinsAndRises f }
