@@ -3,7 +3,7 @@ use Rattle.std.proofs.Common.{◌≡◌, ◌⊎◌, inl, inr, ⊎_elim, ℕ, zer
 use Rattle.std.proofs.lemmas.{Bool.{true≢false, cases_lt}, Option.same_Some}
 use Rattle.mt_crashes.specs.{Fronts.{In, cutoff_of, is_void, all_voids}, Bases.{CheckpointView, Slots}, Recoveries.{HasSlot}}
 use Rattle.mt_crashes.proofs.{Members.{no_some}}
-use Rattle.mt_generations.specs.Chains.{Chain, as_logs, Covers, MayUseOver, HasUse}
+use Rattle.mt_generations.specs.Chains.{Chain, Covers, MayUseOver, HasUse}
 use Rattle.mt_generations.specs.Standings.{Standing, joined, AreFrom, AllHave, CanBegin}
 
 -- ---- whether a base may be used over chains
@@ -36,12 +36,12 @@ may_or_not : (chains : List Chain) (c : CheckpointView) → MayUseOver chains c 
 may_or_not chains c = ⊎_elim
     (λ covers. ⊎_elim
     (λ late. inr (λ m. omega (arith, late, m.may.whole)))
-    (λ whole. by covers whole (is_void (all_voids (as_logs chains)) c.to) refl)
-    (cases_lt (cutoff_of (as_logs chains)) c.to))
+    (λ whole. by covers whole (is_void (all_voids chains) c.to) refl)
+    (cases_lt (cutoff_of chains) c.to))
     (λ lacks. inr (λ m. lacks m.covers))
     (each_or_not (λ (d : Chain). Covers d.start c) (λ d. covers_or_not d.start c) chains)
   where
-    by : ((d : Chain) → In d chains → Covers d.start c) → c.to ≤ cutoff_of (as_logs chains) → (v : Bool) → is_void (all_voids (as_logs chains)) c.to ≡ v
+    by : ((d : Chain) → In d chains → Covers d.start c) → c.to ≤ cutoff_of chains → (v : Bool) → is_void (all_voids chains) c.to ≡ v
         → MayUseOver chains c ⊎ (¬ MayUseOver chains c)
     by covers whole false live = inl (record { covers = covers; may = record { whole = whole; live = live } })
     by covers whole true void = inr (λ m. true≢false (sym void ∙ m.may.live))
@@ -82,7 +82,7 @@ first_there (Some a) y c e = (a, refl)
 chain_there : (x y : Option Chain) (a : Chain) → x ≡ Some a → (c : Chain) × (joined x y ≡ Some c)
 chain_there None y a e = absurd (no_some a e)
 chain_there (Some a) None b e = (a, refl)
-chain_there (Some a) (Some next) b e = (record { start = a.start; log = record a.log { batches = a.log.batches ++ next.log.batches } }, refl)
+chain_there (Some a) (Some next) b e = (record a { batches = a.batches ++ next.batches }, refl)
 
 pub have_all : (g : ℕ) (files : List Standing) (chains : List Chain) → AreFrom g files chains → AllHave g files
 have_all g [] chains are f at = absurd at

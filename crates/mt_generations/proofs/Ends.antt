@@ -2,9 +2,9 @@
 use Rattle.std.proofs.Common.{◌≡◌, inl, inr, ⊎_elim, ℕ, ◌+◌, List, [], ◌∷◌, ◌++◌, refl, sym, ◌∙◌, ap, subst, arith, append_assoc, Option, Some, None}
 use Rattle.std.proofs.lemmas.{List.append-nil, Option.same_Some}
 use Rattle.std.specs.{List.AllZip}
-use Rattle.mt_log.specs.{declared.batch.LogBatch.LogBatch, Contents.{Contents, JoinsAndRises, Join, to_of, end_of}}
+use Rattle.mt_log.specs.{declared.batch.LogBatch.LogBatch, Contents.{Contents, JoinsAndRises, Join, to_of, end_of, mark_of}}
 use Rattle.mt_crashes.proofs.{Members.{no_some}}
-use Rattle.mt_generations.specs.Chains.{Chain, as_log, chain_end, EndsLog, BeginBy}
+use Rattle.mt_generations.specs.Chains.{Chain, EndsLog, BeginBy}
 use Rattle.mt_generations.specs.Standings.{Standing, joined, chain_from, AreFrom, StandsFor, StartFalls}
 use Rattle.mt_generations.specs.Turns.{AllBegunBy}
 use Rattle.mt_generations.proofs.Parts.{end_joined}
@@ -26,7 +26,7 @@ module _ (g : ℕ) (log : Contents) (f : Standing) (stands : StandsFor g log f) 
   part_first a c (Some b) has has_next e =
       let p = stands.has_first a has in
       let q = stands.has_next b has_next in
-      subst (EndsLog log) (same_Some (record { start = a.start; log = record a.log { batches = a.log.batches ++ b.log.batches } }) c e) (record {
+      subst (EndsLog log) (same_Some (record a { batches = a.batches ++ b.batches }) c e) (record {
         given = stands.given;
         parts = stands.parts ∙ (λ i. stands.given ++ (sym p.batches_are i ++ sym q.batches_are i));
         start = p.start;
@@ -68,16 +68,16 @@ module _ (g : ℕ) (log : Contents) (f : Standing) (stands : StandsFor g log f) 
       let same : h ≡ g = ⊎_elim (λ (e : h ≡ g). e) (λ e. ⊎_elim (λ (d : h + 1 ≡ g). omega (arith, e, d)) (λ d. omega (arith, d)) two) one in
       let p = stands.has_first t.first (ap f (sym same) ∙ t.has_first) in
       let q = stands.has_next t.next (ap (λ (n : ℕ). f (n + 1)) (sym same) ∙ t.has_next) in
-      t.apart (q.start ∙ end_joined 0 stands.given stands.first ∙ (λ i. end_of (sym p.start i) (sym p.batches_are i)))
+      t.apart (q.start ∙ end_joined log.start stands.given stands.first ∙ (λ i. end_of (sym p.start i) (sym p.batches_are i)))
 
 -- if it does, and each of both logs joins, so does the chain
-pub joined_joins : (a b c : Chain) → JoinsAndRises (as_log a) → JoinsAndRises (as_log b) → b.start ≡ chain_end a → joined (Some a) (Some b) ≡ Some c
-    → JoinsAndRises (as_log c)
+pub joined_joins : (a b c : Chain) → JoinsAndRises a → JoinsAndRises b → b.start ≡ mark_of a → joined (Some a) (Some b) ≡ Some c
+    → JoinsAndRises c
 joined_joins a b c join_a join_b meets e =
-    subst (λ (x : Chain). JoinsAndRises (as_log x)) (same_Some (record { start = a.start; log = record a.log { batches = a.log.batches ++ b.log.batches } }) c e)
-    (join_a.0, join_a.1, both a.start a.log.batches join_a.2 (subst (λ (n : ℕ). Join n b.log.batches) meets join_b.2))
+    subst JoinsAndRises (same_Some (record a { batches = a.batches ++ b.batches }) c e)
+    (both a.start a.batches join_a (subst (λ (n : ℕ). Join n b.batches) meets join_b))
   where
-    both : (mark : ℕ) (bs : List LogBatch) → Join mark bs → Join (end_of mark bs) b.log.batches → Join mark (bs ++ b.log.batches)
+    both : (mark : ℕ) (bs : List LogBatch) → Join mark bs → Join (end_of mark bs) b.batches → Join mark (bs ++ b.batches)
     both mark [] j k = k
     both mark (x ∷ bs) j k = (j.0, j.1, both (to_of x) bs j.2 k)
 
@@ -95,7 +95,7 @@ pub chain_start : (x y : Option Chain) (a c : Chain) → x ≡ Some a → joined
 chain_start None y a c has e = absurd (no_some a has)
 chain_start (Some b) None a c has e = ap (λ (d : Chain). d.start) (sym (same_Some b c e) ∙ same_Some b a has)
 chain_start (Some b) (Some next) a c has e =
-    sym (ap (λ (d : Chain). d.start) (same_Some (record { start = b.start; log = record b.log { batches = b.log.batches ++ next.log.batches } }) c e))
+    sym (ap (λ (d : Chain). d.start) (same_Some (record b { batches = b.batches ++ next.batches }) c e))
     ∙ ap (λ (d : Chain). d.start) (same_Some b a has)
 
 pub begun_chains : (g starts : ℕ) (files : List Standing) (chains : List Chain) → AllBegunBy g starts files → AreFrom g files chains → BeginBy starts chains

@@ -6,7 +6,7 @@ use Rattle.mt_rows.specs.Tenants.{Contents as Pairs}
 use Rattle.mt_log.specs.declared.batch.LogBatch.{LogBatch}
 use Rattle.mt_crashes.specs.{Fronts.{In, cutoff_of, after_replay}, Bases.{CheckpointView, Slots}, Recoveries.HasSlot}
 use Rattle.mt_crashes.proofs.Members.{no_some}
-use Rattle.mt_generations.specs.Chains.{Chain, as_logs, BeginBy, Covers, MayUseOver, HasUse, IsRecoveredOver}
+use Rattle.mt_generations.specs.Chains.{Chain, BeginBy, Covers, MayUseOver, HasUse, IsRecoveredOver}
 use Rattle.mt_generations.specs.Standings.{Standing, AllHave, IsLast, CanBegin, IsChosen, HaveNoChoice}
 use Rattle.mt_generations.specs.Examples.{put, put_batch, idle_batch, chain_with, two_logs, one_checkpoint}
 use Rattle.mt_generations.proofs.{Deciding.{same_from, have_all}, Choices.none_begins}
@@ -40,7 +40,7 @@ begin_at_0 c (inl e) = omega (arith, ap (λ (x : Chain). x.start) e)
 begin_at_0 c (inr none) = absurd none
 
 -- the checkpoint ended after the cutoff
-too_late : (pairs : Pairs) (chains : List Chain) → cutoff_of (as_logs chains) ≡ 6 → (k : ℕ) (c : CheckpointView) → HasSlot (one_checkpoint pairs) k c
+too_late : (pairs : Pairs) (chains : List Chain) → cutoff_of chains ≡ 6 → (k : ℕ) (c : CheckpointView) → HasSlot (one_checkpoint pairs) k c
     → MayUseOver chains c → ⊥
 too_late pairs chains cutoff k c there may = omega (arith, cutoff, may.may.whole, ap (λ (x : CheckpointView). x.to) (only_one pairs k c there).1)
 

@@ -5,7 +5,7 @@ use Rattle.std.specs.List.{AllZip}
 use Rattle.mt_log.specs.{declared.batch.LogBatch.LogBatch, Contents.{Contents, with_batch}}
 use Rattle.mt_crashes.specs.{Stores.Store}
 use Rattle.mt_crashes.proofs.Members.{no_some}
-use Rattle.mt_generations.specs.Chains.{Chain, whole}
+use Rattle.mt_generations.specs.Chains.{Chain, BeginBy}
 use Rattle.mt_generations.specs.Standings.{Standing, IsPart, StandsFor}
 use Rattle.mt_generations.specs.Turns.{with_log, without, only_first, longer, AllBegunBy, StandsWhole, KeepsLog}
 
@@ -46,10 +46,10 @@ first_stands log = record {
   first = log.batches;
   next = [];
   parts = sym (append-nil log.batches);
-  has_first = λ c e. subst (IsPart log [] log.batches) (same_Some (whole log) c e) (record { start = refl; batches_are = refl; owner = (refl, refl) });
+  has_first = λ c e. subst (IsPart log [] log.batches) (same_Some log c e) (record { start = refl; batches_are = refl; owner = (refl, refl) });
   has_next = λ c e. absurd (no_some c e);
   not_begun = λ e. refl;
-  no_other = λ h c e. ⊎_elim (λ same. inl same) (λ gone. absurd (no_some c gone)) (was_there 0 h (whole log) c (λ n. None) e);
+  no_other = λ h c e. ⊎_elim (λ same. inl same) (λ gone. absurd (no_some c gone)) (was_there 0 h log c (λ n. None) e);
 }
 
 module _ (g : ℕ) (log : Contents) (f : Standing) (stands : StandsFor g log f) where
@@ -173,10 +173,10 @@ whole_without g s files w = kept_whole (g + 1) s files (map (without g) files) (
     each (f ∷ fs) = (keeps_without (g + 1) g f (λ (same : g + 1 ≡ g). omega (arith, same)), each fs)
 
 -- and the first logs of a store do
-pub first_whole : (s : Store) (fronts : List Contents) → StandsWhole 0 s (map only_first fronts)
-first_whole s fronts = (0, begun fronts, inl refl)
+pub first_whole : (s : Store) (fronts : List Contents) → BeginBy 0 fronts → StandsWhole 0 s (map only_first fronts)
+first_whole s fronts begin = (0, begun fronts begin, inl refl)
   where
-    begun : (fs : List Contents) → AllBegunBy 0 0 (map only_first fs)
-    begun [] f at = absurd at
-    begun (x ∷ fs) f (inl e) = (whole x, ap (λ (y : Standing). y 0) e, omega arith)
-    begun (x ∷ fs) f (inr at) = begun fs f at
+    begun : (fs : List Contents) → BeginBy 0 fs → AllBegunBy 0 0 (map only_first fs)
+    begun [] begin f at = absurd at
+    begun (x ∷ fs) begin f (inl e) = (x, ap (λ (y : Standing). y 0) e, begin x (inl refl))
+    begun (x ∷ fs) begin f (inr at) = begun fs (λ c there. begin c (inr there)) f at

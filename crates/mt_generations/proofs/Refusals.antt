@@ -6,9 +6,9 @@ use Rattle.mt_rows.specs.{Rows.Bytes, Tenants.{Contents as Pairs}, declared.reco
 use Rattle.mt_log.specs.Contents.{mark_of}
 use Rattle.mt_crashes.specs.Fronts.{In, Rise, cutoff_of, is_void, all_voids, all_records, is_replayed, key_of, after_replay, made, with_replayed}
 use Rattle.mt_crashes.specs.{Bases.{CheckpointView, Slots}, Recoveries.{HasSlot, IsRecovered, resume_of}}
-use Rattle.mt_crashes.proofs.{Members.{no_some, map_in, in_filter, filter_in, in_permuted, permuted_in}, FrontLaws.ends_cutoff, Invariant.{rise_in, zip_left}}
+use Rattle.mt_crashes.proofs.{Members.{no_some, in_filter, filter_in, in_permuted, permuted_in}, FrontLaws.ends_cutoff, Invariant.{rise_in, zip_left}}
 use Rattle.mt_crashes.proofs.Bases.{one_or_not, replayed_at, replayed_beside, replayed_upto, made_over, passed_over, untouched_replay}
-use Rattle.mt_generations.specs.Chains.{Chain, as_log, as_logs, chain_end, IsRecoveredOver, MayUseOver}
+use Rattle.mt_generations.specs.Chains.{Chain, IsRecoveredOver, MayUseOver}
 use Rattle.mt_generations.specs.Standings.{Standing, joined, AreFrom, IsLast, CanBegin, IsChosen}
 
 -- ---- choices
@@ -31,21 +31,17 @@ chosen_here files slots g h chains last can chosen = ⊎_elim
 
 -- each chain has the batches of both of its logs
 pub chosen_batches : (files : List Standing) (g k : ℕ) (chains : List Chain) (f : Standing) (a b c : Chain) → AreFrom g files chains → slice_get files k ≡ Some f
-    → f g ≡ Some a → f (g + 1) ≡ Some b → slice_get chains k ≡ Some c → c.log.batches ≡ a.log.batches ++ b.log.batches
+    → f g ≡ Some a → f (g + 1) ≡ Some b → slice_get chains k ≡ Some c → c.batches ≡ a.batches ++ b.batches
 chosen_batches files g k chains f a b c are at_f has_a has_b at_c =
     let d = zip_left (λ (x : Standing) (y : Chain). joined (x g) (x (g + 1)) ≡ Some y) files chains k f are at_f in
-    ap (λ (x : Chain). x.log.batches) (same_Some c d.0 (sym at_c ∙ d.1)
-    ∙ same_Some d.0 (record { start = a.start; log = record a.log { batches = a.log.batches ++ b.log.batches } }) (sym d.2 ∙ (λ i. joined (has_a i) (has_b i))))
+    ap (λ (x : Chain). x.batches) (same_Some c d.0 (sym at_c ∙ d.1)
+    ∙ same_Some d.0 (record a { batches = a.batches ++ b.batches }) (sym d.2 ∙ (λ i. joined (has_a i) (has_b i))))
 
 -- ---- recoveries
 
 -- some chain ends at the cutoff
-pub some_end : (chains : List Chain) → 0 < length chains → (d : Chain) × In d chains × (chain_end d ≡ cutoff_of (as_logs chains))
-some_end [] some = absurd (omega (arith, some))
-some_end (d ∷ chains) some =
-    let f = ends_cutoff (as_logs (d ∷ chains)) (omega arith) in
-    let c = map_in as_log f.0 (d ∷ chains) f.1 in
-    (c.0, c.1, sym (ap mark_of c.2) ∙ f.2)
+pub some_end : (chains : List Chain) → 0 < length chains → (d : Chain) × In d chains × (mark_of d ≡ cutoff_of chains)
+some_end chains some = ends_cutoff chains some
 
 -- the checkpoint that is used may be
 pub used_over : (k cutoff resume : ℕ) (chains : List Chain) (c : CheckpointView) (read : Slots) (found : Pairs) → HasSlot read k c
@@ -61,7 +57,7 @@ used_latest j k cutoff resume chains c d read found there other may is =
 
 -- over nothing it is a recovery of the logs that the chains count as, if there were no checkpoints
 pub over_nothing : (chains : List Chain) (read : Slots) (cutoff resume : ℕ) (found : Pairs) → IsRecoveredOver chains read cutoff resume None found
-    → IsRecovered (as_logs chains) [] cutoff (resume_of (as_logs chains) []) None found
+    → IsRecovered chains [] cutoff (resume_of chains []) None found
 over_nothing chains read cutoff resume found is = record {
   cutoff_is = is.cutoff_is;
   resume_is = refl;
@@ -83,7 +79,7 @@ module _ (k cutoff resume : ℕ) (chains : List Chain) (c : CheckpointView) (rea
       let same : b.0 ≡ c = same_Some b.0 c (same_Some (Some b.0) (Some c) (sym b.1 ∙ there)) in
       (b.2 ∙ ap (λ (x : CheckpointView). x.from) same, b.3 ∙ ap (λ (x : CheckpointView). x.pairs) same)
 
-  pub over_this : IsRecovered (as_logs chains) (Some c ∷ []) cutoff (resume_of (as_logs chains) (Some c ∷ [])) (Some 0) found
+  pub over_this : IsRecovered chains (Some c ∷ []) cutoff (resume_of chains (Some c ∷ [])) (Some 0) found
   over_this = record {
     cutoff_is = is.cutoff_is;
     resume_is = refl;
@@ -101,53 +97,53 @@ module _ (k cutoff resume : ℕ) (chains : List Chain) (c : CheckpointView) (rea
       only (suc j) d other = absurd (no_some (Some d) other)
 
   -- a record that is replayed counts
-  counts : (r : Record) → In r is.replayed → In r (all_records (as_logs chains)) × (c.from < r.stamp) × (r.stamp ≤ cutoff) × (is_void (all_voids (as_logs chains)) r.stamp ≡ false)
+  counts : (r : Record) → In r is.replayed → In r (all_records chains) × (c.from < r.stamp) × (r.stamp ≤ cutoff) × (is_void (all_voids chains) r.stamp ≡ false)
   counts r at =
-      let counted = in_filter (is_replayed (all_voids (as_logs chains)) is.from (cutoff_of (as_logs chains))) r (all_records (as_logs chains)) (permuted_in _ is.replayed r is.replay.same at) in
+      let counted = in_filter (is_replayed (all_voids chains) is.from (cutoff_of chains)) r (all_records chains) (permuted_in _ is.replayed r is.replay.same at) in
       let tests = and_parts _ _ counted.1 in
       parts r counted.0 (and_parts _ _ tests.0).0 (not-true _ (and_parts _ _ tests.0).1) (not-true _ tests.1)
     where
-      parts : (r : Record) → In r (all_records (as_logs chains)) → ltb is.from r.stamp ≡ true → ltb (cutoff_of (as_logs chains)) r.stamp ≡ false
-          → is_void (all_voids (as_logs chains)) r.stamp ≡ false
-          → In r (all_records (as_logs chains)) × (c.from < r.stamp) × (r.stamp ≤ cutoff) × (is_void (all_voids (as_logs chains)) r.stamp ≡ false)
+      parts : (r : Record) → In r (all_records chains) → ltb is.from r.stamp ≡ true → ltb (cutoff_of chains) r.stamp ≡ false
+          → is_void (all_voids chains) r.stamp ≡ false
+          → In r (all_records chains) × (c.from < r.stamp) × (r.stamp ≤ cutoff) × (is_void (all_voids chains) r.stamp ≡ false)
       parts r at over upto live = (
         at,
         omega (arith, ltb-true is.from r.stamp over, base_same.0),
-        omega (arith, ltb-false (cutoff_of (as_logs chains)) r.stamp upto, is.cutoff_is),
+        omega (arith, ltb-false (cutoff_of chains) r.stamp upto, is.cutoff_is),
         live,
       )
 
   -- a key of which no record counts is as in the checkpoint
-  pub as_walked : (key : ℕ × Bytes) → ((r : Record) → In r (all_records (as_logs chains)) → key_of r ≡ key
-      → (r.stamp ≤ c.from) ⊎ (is_void (all_voids (as_logs chains)) r.stamp ≡ true) ⊎ (cutoff < r.stamp)) → get found key ≡ get c.pairs key
+  pub as_walked : (key : ℕ × Bytes) → ((r : Record) → In r (all_records chains) → key_of r ≡ key
+      → (r.stamp ≤ c.from) ⊎ (is_void (all_voids chains) r.stamp ≡ true) ⊎ (cutoff < r.stamp)) → get found key ≡ get c.pairs key
   as_walked key none =
       ap (λ (m : Pairs). get m key) is.pairs_are
       ∙ untouched_replay is.replayed is.base key (λ r at own. (let h = counts r at in no_count r.stamp h.1 h.2 h.3 (none r h.0 own)))
       ∙ ap (λ (m : Pairs). get m key) base_same.1
     where
-      no_count : (n : ℕ) → c.from < n → n ≤ cutoff → is_void (all_voids (as_logs chains)) n ≡ false
-          → (n ≤ c.from) ⊎ (is_void (all_voids (as_logs chains)) n ≡ true) ⊎ (cutoff < n) → ⊥
+      no_count : (n : ℕ) → c.from < n → n ≤ cutoff → is_void (all_voids chains) n ≡ false
+          → (n ≤ c.from) ⊎ (is_void (all_voids chains) n ≡ true) ⊎ (cutoff < n) → ⊥
       no_count n over upto live (inl early) = omega (arith, over, early)
       no_count n over upto live (inr (inl void)) = true≢false (sym void ∙ live)
       no_count n over upto live (inr (inr late)) = omega (arith, upto, late)
 
   -- what a record makes stands that counts and is the last one of its key
-  pub last_made : (r : Record) → In r (all_records (as_logs chains)) → c.from < r.stamp → r.stamp ≤ cutoff → is_void (all_voids (as_logs chains)) r.stamp ≡ false
+  pub last_made : (r : Record) → In r (all_records chains) → c.from < r.stamp → r.stamp ≤ cutoff → is_void (all_voids chains) r.stamp ≡ false
       → stamp_in (get c.pairs (key_of r)) < r.stamp
-      → ((q : Record) → In q (all_records (as_logs chains)) → key_of q ≡ key_of r → r.stamp < q.stamp → (is_void (all_voids (as_logs chains)) q.stamp ≡ true) ⊎ (cutoff < q.stamp))
+      → ((q : Record) → In q (all_records chains) → key_of q ≡ key_of r → r.stamp < q.stamp → (is_void (all_voids chains) q.stamp ≡ true) ⊎ (cutoff < q.stamp))
       → (old : Option Stamped) × (get found (key_of r) ≡ made r.stamp r.write old)
   last_made r at over upto live low last =
-      let replayed : is_replayed (all_voids (as_logs chains)) is.from (cutoff_of (as_logs chains)) r ≡ true =
+      let replayed : is_replayed (all_voids chains) is.from (cutoff_of chains) r ≡ true =
       and_from _ _ (and_from _ _ (lt-ltb is.from r.stamp (omega (arith, over, base_same.0)))
-      (not_from_false _ (le-ltb (cutoff_of (as_logs chains)) r.stamp (omega (arith, upto, is.cutoff_is))))) (not_from_false _ live) in
-      let here = in_permuted _ is.replayed r is.replay.same (filter_in (is_replayed (all_voids (as_logs chains)) is.from (cutoff_of (as_logs chains))) r (all_records (as_logs chains)) at replayed) in
+      (not_from_false _ (le-ltb (cutoff_of chains) r.stamp (omega (arith, upto, is.cutoff_is))))) (not_from_false _ live) in
+      let here = in_permuted _ is.replayed r is.replay.same (filter_in (is_replayed (all_voids chains) is.from (cutoff_of chains)) r (all_records chains) at replayed) in
       let lower : stamp_in (get is.base (key_of r)) < r.stamp = omega (arith, low, ap (λ (m : Pairs). stamp_in (get m (key_of r))) base_same.1) in
       let stands = made_last is.from is.replayed is.base is.replay.rises lower here
       (λ q there own later. (let h = counts q there in none q h.2 h.3 (last q h.0 own later))) in
       (stands.0, ap (λ (m : Pairs). get m (key_of r)) is.pairs_are ∙ stands.1)
     where
-      none : (q : Record) → q.stamp ≤ cutoff → is_void (all_voids (as_logs chains)) q.stamp ≡ false
-          → (is_void (all_voids (as_logs chains)) q.stamp ≡ true) ⊎ (cutoff < q.stamp) → ⊥
+      none : (q : Record) → q.stamp ≤ cutoff → is_void (all_voids chains) q.stamp ≡ false
+          → (is_void (all_voids chains) q.stamp ≡ true) ⊎ (cutoff < q.stamp) → ⊥
       none q upto_q live_q (inl void) = true≢false (sym void ∙ live_q)
       none q upto_q live_q (inr late) = omega (arith, upto_q, late)
 

@@ -5,19 +5,19 @@ use Rattle.std.proofs.lemmas.Grind.{flat_map-append}
 use Rattle.mt_rows.specs.declared.record.Record.{Record}
 use Rattle.mt_log.specs.{declared.batch.LogBatch.LogBatch, declared.batch.LogBatch.TheVariants.{Records, Resume, OldRecords}}
 use Rattle.mt_log.specs.Contents.{Contents, JoinsAndRises, Join, end_of}
-use Rattle.mt_crashes.specs.Fronts.{In, records_in, records_of, HoldResume, RecordsFollow, ServedFrom, AnyServed}
+use Rattle.mt_crashes.specs.Fronts.{In, records_in, records_of, HoldResume, RecordsFollow, AnyServed}
 use Rattle.mt_crashes.specs.{Recoveries.{AreSet, StandsTwice}, Stores.{Store, MayLeaveFront, MayLeaveFronts}, Invariants.IsStore}
-use Rattle.mt_crashes.proofs.{Members.{in_right, map_in, in_place, place_in}, Invariant.{zip_right, map_place, place_map, resume_upto_mark}}
-use Rattle.mt_generations.specs.Chains.{Chain, as_log, as_logs, EndsLog, NoneOlderOver}
+use Rattle.mt_crashes.proofs.{Members.{in_right, in_place, place_in}, Invariant.{zip_right, resume_upto_mark}}
+use Rattle.mt_generations.specs.Chains.{Chain, EndsLog, NoneOlderOver}
 use Rattle.mt_generations.proofs.{Parts.{join_left, join_right, chain_joins}, Whole.{front_of, all_join}}
 
 -- ---- one chain
 
 -- what it records, the whole log does
-record_up : (log : Contents) (c : Chain) → EndsLog log c → (r : Record) → In r (records_of (as_log c)) → In r (records_of log)
+record_up : (log : Contents) (c : Chain) → EndsLog log c → (r : Record) → In r (records_of c) → In r (records_of log)
 record_up log c e r at =
-    subst (In r) (sym (ap (λ (bs : List LogBatch). flat_map records_in bs) e.parts ∙ flat_map-append records_in e.given c.log.batches))
-    (in_right r (flat_map records_in e.given) (records_of (as_log c)) at)
+    subst (In r) (sym (ap (λ (bs : List LogBatch). flat_map records_in bs) e.parts ∙ flat_map-append records_in e.given c.batches))
+    (in_right r (flat_map records_in e.given) (records_of c) at)
 
 -- a resume batch in one of two parts
 hold_either : (n : ℕ) (bs cs : List LogBatch) → HoldResume n (bs ++ cs) → HoldResume n bs ⊎ HoldResume n cs
@@ -50,13 +50,9 @@ resume_over n mark (Records b ∷ bs) j (inr h) = omega (arith, j.0, j.1.0, resu
 resume_over n mark (OldRecords b ∷ bs) j (inr h) = omega (arith, j.0, j.1.0, resume_over n b.to bs j.2 h)
 resume_over n mark (Resume from to kept ∷ bs) j (inr h) = omega (arith, j.0, j.1.0, resume_over n to bs j.2 h)
 
-own_follow : (n : ℕ) (c : Chain) → ServedFrom n (as_log c) → RecordsFollow n c.log.batches
-own_follow n c (inl two) = absurd two.0
-own_follow n c (inr h) = h
-
 -- ---- all chains
 
-same_long : (fronts : List Contents) (chains : List Chain) → AllZip EndsLog fronts chains → length (as_logs chains) ≡ length fronts
+same_long : (fronts : List Contents) (chains : List Chain) → AllZip EndsLog fronts chains → length chains ≡ length fronts
 same_long [] [] all = refl
 same_long [] (c ∷ chains) all = absurd all
 same_long (f ∷ fronts) [] all = absurd all
@@ -64,69 +60,64 @@ same_long (f ∷ fronts) (c ∷ chains) all = omega (arith, same_long fronts cha
 
 module _ (fronts : List Contents) (chains : List Chain) (ends : AllZip EndsLog fronts chains) where
   -- the log of a chain
-  log_at : (k : ℕ) (x : Contents) → slice_get (as_logs chains) k ≡ Some x → (f : Contents) × (slice_get fronts k ≡ Some f) × ((c : Chain) × (x ≡ as_log c) × EndsLog f c)
-  log_at k x there =
-      let c = map_place as_log chains k x there in
-      let f = zip_right EndsLog fronts chains k c.0 ends c.1 in
-      (f.0, f.1, (c.0, c.2, f.2))
+  log_at : (k : ℕ) (c : Chain) → slice_get chains k ≡ Some c → (f : Contents) × (slice_get fronts k ≡ Some f) × EndsLog f c
+  log_at k c there = zip_right EndsLog fronts chains k c ends there
 
-  pub chains_set : AreSet fronts → AreSet (as_logs chains)
+  pub chains_set : AreSet fronts → AreSet chains
   chains_set set = record {
     some = omega (arith, set.some, same_long fronts chains ends);
     count = λ k x there. let f = log_at k x there in
-        ap (λ (y : Contents). y.logs) f.2.1 ∙ f.2.2.owner.1 ∙ set.count k f.0 f.1 ∙ sym (same_long fronts chains ends);
+        f.2.owner.1 ∙ set.count k f.0 f.1 ∙ sym (same_long fronts chains ends);
     apart = λ i j x y at_x at_y same. let f = log_at i x at_x in let g = log_at j y at_y in
-        set.apart i j f.0 g.0 f.1 g.1
-        (sym (ap (λ (z : Contents). z.worker) f.2.1 ∙ f.2.2.owner.0) ∙ same ∙ ap (λ (z : Contents). z.worker) g.2.1 ∙ g.2.2.owner.0);
+        set.apart i j f.0 g.0 f.1 g.1 (sym f.2.owner.0 ∙ same ∙ g.2.owner.0);
   }
 
-  pub chains_apart : (stamp i j : ℕ) → StandsTwice (as_logs chains) stamp i j → StandsTwice fronts stamp i j
+  pub chains_apart : (stamp i j : ℕ) → StandsTwice chains stamp i j → StandsTwice fronts stamp i j
   chains_apart stamp i j t = record { other = t.other; one = up i t.one.0 t.one.1 t.one.2 t.one.3 t.one.4; two = up j t.two.0 t.two.1 t.two.2 t.two.3 t.two.4 }
     where
-      up : (k : ℕ) (x : Contents) (r : Record) → slice_get (as_logs chains) k ≡ Some x → In r (records_of x) → r.stamp ≡ stamp
+      up : (k : ℕ) (x : Contents) (r : Record) → slice_get chains k ≡ Some x → In r (records_of x) → r.stamp ≡ stamp
           → (f : Contents) × (q : Record) × (slice_get fronts k ≡ Some f) × In q (records_of f) × (q.stamp ≡ stamp)
       up k x r there at is =
           let f = log_at k x there in
-          (f.0, r, f.1, record_up f.0 f.2.0 f.2.2 r (subst (λ (y : Contents). In r (records_of y)) f.2.1 at), is)
+          (f.0, r, f.1, record_up f.0 x f.2 r at, is)
 
-  pub chains_join : (s : Store) → IsStore s → MayLeaveFronts s.logs fronts → (k : ℕ) (c : Chain) → slice_get chains k ≡ Some c → JoinsAndRises (as_log c)
+  pub chains_join : (s : Store) → IsStore s → MayLeaveFronts s.logs fronts → (k : ℕ) (c : Chain) → slice_get chains k ≡ Some c → JoinsAndRises c
   chains_join s is left k c there =
       let f = zip_right EndsLog fronts chains k c ends there in chain_joins f.0 c f.2 (all_join s fronts is left f.0 (place_in f.0 k fronts f.1))
 
-  pub chains_own : (s : Store) → IsStore s → MayLeaveFronts s.logs fronts → (k : ℕ) (c : Chain) → slice_get chains k ≡ Some c → c.log.worker ≡ k
+  pub chains_own : (s : Store) → IsStore s → MayLeaveFronts s.logs fronts → (k : ℕ) (c : Chain) → slice_get chains k ≡ Some c → c.worker ≡ k
   chains_own s is left k c there =
       let f = zip_right EndsLog fronts chains k c ends there in f.2.owner.0 ∙ (front_of s fronts k f.0 is left f.1).owner.0
 
   module _ (s : Store) (is : IsStore s) (left : MayLeaveFronts s.logs fronts) (n : ℕ) (over : 0 < n) where
     -- the last number that a chain tells is the last that its whole log tells
-    all_level : (c : Chain) → In c chains → RecordsFollow n c.log.batches → ((m : ℕ) → AnyServed (as_logs chains) m → m ≤ n)
+    all_level : (c : Chain) → In c chains → RecordsFollow n c.batches → ((m : ℕ) → AnyServed chains m → m ≤ n)
         → (g : Contents) (j : ℕ) → slice_get fronts j ≡ Some g → HoldResume n g.batches
     all_level c in_c follow last g j at_g =
         let i = in_place c chains in_c in
         let f = zip_right EndsLog fronts chains i.0 c ends i.1 in
         let one = zip_right MayLeaveFront s.logs fronts i.0 f.0 left f.1 in
         let other = zip_right MayLeaveFront s.logs fronts j g left at_g in
-        let served = subst (RecordsFollow n) (sym f.2.parts) (follow_right n f.2.given c.log.batches follow) in
+        let served = subst (RecordsFollow n) (sym f.2.parts) (follow_right n f.2.given c.batches follow) in
         let level = is.level i.0 one.0 one.1 f.0 one.2 n over served in
-        let joins = subst (Join 0) f.2.parts (front_of s fronts i.0 f.0 is left f.1).joins in
+        let joins = subst (Join f.0.start) f.2.parts (front_of s fronts i.0 f.0 is left f.1).joins in
         let upto : level.0 ≤ n = ⊎_elim
         (λ before. omega (
           arith,
-          resume_upto_mark level.0 0 f.2.given (join_left 0 f.2.given c.log.batches joins) before,
-          resume_over n (end_of 0 f.2.given) c.log.batches (join_right 0 f.2.given c.log.batches joins) (follow_hold n c.log.batches follow),
+          resume_upto_mark level.0 f.0.start f.2.given (join_left f.0.start f.2.given c.batches joins) before,
+          resume_over n (end_of f.0.start f.2.given) c.batches (join_right f.0.start f.2.given c.batches joins) (follow_hold n c.batches follow),
         ))
-        (λ after. last level.0 (as_log c, place_in (as_log c) i.0 (as_logs chains) (place_map as_log chains i.0 c i.1), inr after))
-        (follow_either level.0 f.2.given c.log.batches (subst (RecordsFollow level.0) f.2.parts level.2)) in
+        (λ after. last level.0 (c, in_c, after))
+        (follow_either level.0 f.2.given c.batches (subst (RecordsFollow level.0) f.2.parts level.2)) in
         subst (λ (m : ℕ). HoldResume m g.batches) (omega (arith, upto, level.1)) (level.3 j other.0 other.1 g other.2)
 
   pub none_older_over : (s : Store) → IsStore s → MayLeaveFronts s.logs fronts → NoneOlderOver chains
   none_older_over s is left n d over last in_d =
-      let c = map_in as_log last.0.0 chains last.0.1 in
       let j = in_place d chains in_d in
       let g = zip_right EndsLog fronts chains j.0 d ends j.1 in
-      let hold = all_level s is left n over c.0 c.1 (own_follow n c.0 (subst (ServedFrom n) c.2 last.0.2)) last.1 g.0 j.0 g.1 in
-      let joins = subst (Join 0) g.2.parts (front_of s fronts j.0 g.0 is left g.1).joins in
+      let hold = all_level s is left n over last.0.0 last.0.1 last.0.2 last.1 g.0 j.0 g.1 in
+      let joins = subst (Join g.0.start) g.2.parts (front_of s fronts j.0 g.0 is left g.1).joins in
       ⊎_elim
-      (λ before. inr (omega (arith, g.2.start, resume_upto_mark n 0 g.2.given (join_left 0 g.2.given d.log.batches joins) before)))
+      (λ before. inr (omega (arith, g.2.start, resume_upto_mark n g.0.start g.2.given (join_left g.0.start g.2.given d.batches joins) before)))
       (λ after. inl after)
-      (hold_either n g.2.given d.log.batches (subst (HoldResume n) g.2.parts hold))
+      (hold_either n g.2.given d.batches (subst (HoldResume n) g.2.parts hold))

@@ -1,16 +1,16 @@
 -- A recovery from what is left of the logs of a store gives what one from the whole logs would.
-use Rattle.std.proofs.Common.{◌≡◌, ◌⊎◌, inl, inr, ⊎_elim, ℕ, ◌<◌, ◌≤◌, max, Bool, true, false, not, ◌&&◌, ltb, List, [], ◌∷◌, ◌++◌, map, refl, sym, ◌∙◌, ap, subst, arith, Option, Some, None, IsPermutation}
+use Rattle.std.proofs.Common.{◌≡◌, ◌⊎◌, inl, inr, ⊎_elim, ℕ, ◌<◌, ◌≤◌, max, Bool, true, false, not, ◌&&◌, ltb, List, refl, sym, ◌∙◌, ap, subst, arith, Option, Some, None, IsPermutation}
 use Rattle.std.proofs.lemmas.{Bool.{le-ltb, cases_lt, true≢false}, Option.{same_Some, slice_get_within}}
 use Rattle.std.specs.{Prelude.slice_get, List.{AllZip, filter}}
 use Rattle.mt_rows.specs.{Tenants.{Contents as Pairs}, declared.record.Record.Record}
-use Rattle.mt_log.specs.Contents.{Contents, mark_of}
-use Rattle.mt_crashes.specs.Fronts.{Numbers, In, least, greatest, cutoff_of, last_end, is_void, voids_of, all_voids, records_of, all_records, is_replayed, IsReplay, after_replay}
+use Rattle.mt_log.specs.Contents.{Contents}
+use Rattle.mt_crashes.specs.Fronts.{In, least, greatest, cutoff_of, last_end, is_void, all_voids, all_records, is_replayed, IsReplay, after_replay}
 use Rattle.mt_crashes.specs.{Histories.{Placed, pairs_upto}, Bases.{CheckpointView, Slots, IsBase}, Recoveries.{MayUse, IsUsed, IsBaseOf, checkpoint_ends, resume_of, IsRecovered}}
 use Rattle.mt_crashes.specs.{Stores.{Store, SlotNow, MayLeaveFront, MayLeaveFronts, MayLeaveSlots, AllReach}, Invariants.{RisePlaced, IsFrontOf, IsStore}}
-use Rattle.mt_crashes.proofs.{Bases.{over_base, empty_base}, Heart.replay_is, Members.{map_in, in_place, place_in, filter_same}}
+use Rattle.mt_crashes.proofs.{Bases.{over_base, empty_base}, Heart.replay_is, Members.{in_place, place_in, filter_same}}
 use Rattle.mt_crashes.proofs.FrontLaws.{from_cutoff, all_void, void_of_some, ends_cutoff}
 use Rattle.mt_crashes.proofs.Invariant.{zip_left, zip_right, within_place, rise_filter}
-use Rattle.mt_generations.specs.Chains.{Chain, as_logs, whole, EndsLog, BeginBy, Covers, MayUseOver, IsUsedOver, IsRecoveredOver}
+use Rattle.mt_generations.specs.Chains.{Chain, EndsLog, BeginBy, Covers, MayUseOver, IsUsedOver, IsRecoveredOver}
 use Rattle.mt_generations.proofs.Parts.{IsAfter, AllJoin, same_ends, same_void, same_filter}
 
 -- ---- what a crash leaves of the whole logs of a store
@@ -67,15 +67,15 @@ history_rises s is = subst (RisePlaced 0) (sym is.left) (rise_filter (λ (p : Pl
 -- ---- and what is left of that
 
 module _ (s : Store) (fronts : List Contents) (chains : List Chain) (is : IsStore s) (left : MayLeaveFronts s.logs fronts) (ends : AllZip EndsLog fronts chains) where
-  pub cutoff_same : cutoff_of (as_logs chains) ≡ cutoff_of fronts
+  pub cutoff_same : cutoff_of chains ≡ cutoff_of fronts
   cutoff_same = ap least (same_ends fronts chains ends)
 
-  pub last_same : last_end (as_logs chains) ≡ last_end fronts
+  pub last_same : last_end chains ≡ last_end fronts
   last_same = ap greatest (same_ends fronts chains ends)
 
   -- where a checkpoint ended that covers what was given up, a number is void by the chains just if it is by the logs
   pub void_same : (c : CheckpointView) → ((d : Chain) → In d chains → Covers d.start c)
-      → is_void (all_voids (as_logs chains)) c.to ≡ is_void (all_voids fronts) c.to
+      → is_void (all_voids chains) c.to ≡ is_void (all_voids fronts) c.to
   void_same c covers = same_void fronts chains c.to ends (all_join s fronts is left) (λ d at. after d (covers d at).0 (covers d at).1)
     where
       after : (d : Chain) → d.start ≤ c.from → (d.start ≡ 0) ⊎ (c.from < c.to) → IsAfter d.start c.to
@@ -83,32 +83,32 @@ module _ (s : Store) (fronts : List Contents) (chains : List Chain) (is : IsStor
       after d le (inr lt) = inr (omega (arith, le, lt))
 
   -- What is replayed over a number by which all chains begin is what is replayed of the whole logs.
-  pub replay_same : (base : ℕ) (rs : List Record) → BeginBy base chains → IsReplay base (as_logs chains) rs → IsReplay base fronts rs
+  pub replay_same : (base : ℕ) (rs : List Record) → BeginBy base chains → IsReplay base chains rs → IsReplay base fronts rs
   replay_same base rs begin replay = record { same = subst (λ (l : List Record). IsPermutation l rs) counted replay.same; rises = replay.rises }
     where
       test : Record → Bool
       test r = is_replayed (all_voids fronts) base (cutoff_of fronts) r
 
-      same_test : (r : Record) → is_replayed (all_voids (as_logs chains)) base (cutoff_of (as_logs chains)) r ≡ is_replayed (all_voids fronts) base (cutoff_of fronts) r
-      same_test r = ap (λ (n : ℕ). is_replayed (all_voids (as_logs chains)) base n r) cutoff_same ∙ ⊎_elim
+      same_test : (r : Record) → is_replayed (all_voids chains) base (cutoff_of chains) r ≡ is_replayed (all_voids fronts) base (cutoff_of fronts) r
+      same_test r = ap (λ (n : ℕ). is_replayed (all_voids chains) base n r) cutoff_same ∙ ⊎_elim
           (λ over. ap (λ (b : Bool). ltb base r.stamp && not (ltb (cutoff_of fronts) r.stamp) && not b)
           (same_void fronts chains r.stamp ends (all_join s fronts is left) (λ c at. inr (omega (arith, begin c at, over)))))
-          (λ under. low (all_voids (as_logs chains)) under ∙ sym (low (all_voids fronts) under))
+          (λ under. low (all_voids chains) under ∙ sym (low (all_voids fronts) under))
           (cases_lt base r.stamp)
         where
           low : (voids : List (ℕ × ℕ)) → r.stamp ≤ base → is_replayed voids base (cutoff_of fronts) r ≡ false
           low voids under = ap (λ (b : Bool). b && not (ltb (cutoff_of fronts) r.stamp) && not (is_void voids r.stamp)) (le-ltb base r.stamp under)
 
-      counted : filter (is_replayed (all_voids (as_logs chains)) base (cutoff_of (as_logs chains))) (all_records (as_logs chains))
+      counted : filter (is_replayed (all_voids chains) base (cutoff_of chains)) (all_records chains)
           ≡ filter (is_replayed (all_voids fronts) base (cutoff_of fronts)) (all_records fronts)
       counted =
-          filter_same _ _ (all_records (as_logs chains)) (λ r at. same_test r)
+          filter_same _ _ (all_records chains) (λ r at. same_test r)
           ∙ same_filter fronts chains (is_replayed (all_voids fronts) base (cutoff_of fronts)) ends (all_join s fronts is left)
           (λ c at r under. ap (λ (b : Bool). b && not (ltb (cutoff_of fronts) r.stamp) && not (is_void (all_voids fronts) r.stamp))
           (le-ltb base r.stamp (omega (arith, begin c at, under))))
 
   over_any : (from to : ℕ) (base : Pairs) (rs : List Record) → BeginBy from chains → from ≤ to → to ≤ cutoff_of fronts → IsBase from to s.history base
-      → IsReplay from (as_logs chains) rs → after_replay base rs ≡ pairs_upto (cutoff_of fronts) s.history
+      → IsReplay from chains rs → after_replay base rs ≡ pairs_upto (cutoff_of fronts) s.history
   over_any from to base rs begin le within is_base replay =
       ap (after_replay base) (replay_is from s fronts rs is left (replay_same from rs begin replay))
       ∙ over_base from to (cutoff_of fronts) s.history base (history_rises s is) le within is_base
@@ -118,7 +118,7 @@ module _ (s : Store) (fronts : List Contents) (chains : List Chain) (is : IsStor
   use_live c may = left_live s fronts c.to is left (omega (arith, may.may.whole, cutoff_same)) (sym (void_same c may.covers) ∙ may.may.live)
 
   over_used : (read : Slots) (used : Option ℕ) (from : ℕ) (base : Pairs) (rs : List Record) → MayLeaveSlots s.slots read → IsUsedOver chains read used
-      → IsBaseOf read used from base → IsReplay from (as_logs chains) rs → after_replay base rs ≡ pairs_upto (cutoff_of fronts) s.history
+      → IsBaseOf read used from base → IsReplay from chains rs → after_replay base rs ≡ pairs_upto (cutoff_of fronts) s.history
   over_used read None from base rs left_slots used base_is replay =
       over_any from from base rs (λ c at. omega (arith, used.0 c at)) (omega arith) (omega (arith, base_is.0))
       (subst (λ (n : ℕ). IsBase n n s.history base) (sym base_is.0)
@@ -147,84 +147,44 @@ module _ (s : Store) (fronts : List Contents) (chains : List Chain) (is : IsStor
 
 -- ---- if nothing was given up
 
-module _ (fronts : List Contents) where
-  whole_marks : (fs : List Contents) → map mark_of (as_logs (map whole fs)) ≡ map mark_of fs
-  whole_marks [] = refl
-  whole_marks (f ∷ fs) = let rest = whole_marks fs in λ i. mark_of f ∷ rest i
-
-  whole_voids : (fs : List Contents) → all_voids (as_logs (map whole fs)) ≡ all_voids fs
-  whole_voids [] = refl
-  whole_voids (f ∷ fs) = ap (λ (vs : List Numbers). voids_of f ++ vs) (whole_voids fs)
-
-  whole_records : (fs : List Contents) → all_records (as_logs (map whole fs)) ≡ all_records fs
-  whole_records [] = refl
-  whole_records (f ∷ fs) = ap (λ (rs : List Record). records_of f ++ rs) (whole_records fs)
-
-  from_zero : (c : Chain) → In c (map whole fronts) → c.start ≡ 0
-  from_zero c at = ap (λ (x : Chain). x.start) (map_in whole c fronts at).2
-
-  whole_cutoff : cutoff_of (as_logs (map whole fronts)) ≡ cutoff_of fronts
-  whole_cutoff = ap least (whole_marks fronts)
-
-  may_over : (c : CheckpointView) → MayUse fronts c → MayUseOver (map whole fronts) c
+module _ (fronts : List Contents) (begin : BeginBy 0 fronts) where
+  may_over : (c : CheckpointView) → MayUse fronts c → MayUseOver fronts c
   may_over c may = record {
-    covers = λ d at. (omega (arith, from_zero d at), inl (from_zero d at));
-    may = record {
-      whole = omega (arith, may.whole, whole_cutoff);
-      live = ap (λ (vs : List Numbers). is_void vs c.to) (whole_voids fronts) ∙ may.live;
-    };
+    covers = λ d at. (let first = begin d at in (omega (arith, first), inl (omega (arith, first))));
+    may = may;
   }
 
-  may_back : (c : CheckpointView) → MayUseOver (map whole fronts) c → MayUse fronts c
-  may_back c may = record {
-    whole = omega (arith, may.may.whole, whole_cutoff);
-    live = sym (ap (λ (vs : List Numbers). is_void vs c.to) (whole_voids fronts)) ∙ may.may.live;
-  }
+  used_over_whole : (slots : Slots) (used : Option ℕ) → IsUsed fronts slots used → IsUsedOver fronts slots used
+  used_over_whole slots None is = (begin, λ k c there may. is k c there may.may)
+  used_over_whole slots (Some k) is = (is.0, is.1, may_over is.0 is.2, λ j d there may. is.3 j d there may.may)
 
-  used_over_whole : (slots : Slots) (used : Option ℕ) → IsUsed fronts slots used → IsUsedOver (map whole fronts) slots used
-  used_over_whole slots None is = ((λ c at. omega (arith, from_zero c at)), λ k c there may. is k c there (may_back c may))
-  used_over_whole slots (Some k) is = (is.0, is.1, may_over is.0 is.2, λ j d there may. is.3 j d there (may_back d may))
-
-  used_whole : (slots : Slots) (used : Option ℕ) → IsUsedOver (map whole fronts) slots used → IsUsed fronts slots used
+  used_whole : (slots : Slots) (used : Option ℕ) → IsUsedOver fronts slots used → IsUsed fronts slots used
   used_whole slots None is = λ k c there may. is.1 k c there (may_over c may)
-  used_whole slots (Some k) is = (is.0, is.1, may_back is.0 is.2, λ j d there may. is.3 j d there (may_over d may))
-
-  replay_is_whole : (base : ℕ) → filter (is_replayed (all_voids (as_logs (map whole fronts))) base (cutoff_of (as_logs (map whole fronts)))) (all_records (as_logs (map whole fronts)))
-      ≡ filter (is_replayed (all_voids fronts) base (cutoff_of fronts)) (all_records fronts)
-  replay_is_whole base = λ i. filter (is_replayed (whole_voids fronts i) base (whole_cutoff i)) (whole_records fronts i)
-
-  resume_whole : (slots : Slots) → resume_of (as_logs (map whole fronts)) slots ≡ resume_of fronts slots
-  resume_whole slots = ap (λ (n : ℕ). max n (greatest (checkpoint_ends slots))) (ap greatest (whole_marks fronts))
+  used_whole slots (Some k) is = (is.0, is.1, is.2.may, λ j d there may. is.3 j d there (may_over d may))
 
   module _ (slots : Slots) (cutoff resume : ℕ) (used : Option ℕ) (found : Pairs) where
-    pub over_whole : IsRecovered fronts slots cutoff resume used found → IsRecoveredOver (map whole fronts) slots cutoff resume used found
+    pub over_whole : IsRecovered fronts slots cutoff resume used found → IsRecoveredOver fronts slots cutoff resume used found
     over_whole is = record {
-      cutoff_is = is.cutoff_is ∙ sym whole_cutoff;
-      resume_is = is.resume_is ∙ sym (resume_whole slots);
+      cutoff_is = is.cutoff_is;
+      resume_is = is.resume_is;
       used_is = used_over_whole slots used is.used_is;
       from = is.from;
       base = is.base;
       base_is = is.base_is;
       replayed = is.replayed;
-      replay = record {
-        same = subst (λ (l : List Record). IsPermutation l is.replayed) (sym (replay_is_whole is.from)) is.replay.same;
-        rises = is.replay.rises;
-      };
+      replay = is.replay;
       pairs_are = is.pairs_are;
     }
 
-    pub whole_over : IsRecoveredOver (map whole fronts) slots cutoff resume used found → IsRecovered fronts slots cutoff resume used found
+    pub whole_over : IsRecoveredOver fronts slots cutoff resume used found → IsRecovered fronts slots cutoff resume used found
     whole_over is = record {
-      cutoff_is = is.cutoff_is ∙ whole_cutoff;
-      resume_is = is.resume_is ∙ resume_whole slots;
+      cutoff_is = is.cutoff_is;
+      resume_is = is.resume_is;
       used_is = used_whole slots used is.used_is;
       from = is.from;
       base = is.base;
       base_is = is.base_is;
       replayed = is.replayed;
-      replay = record {
-        same = subst (λ (l : List Record). IsPermutation l is.replayed) (replay_is_whole is.from) is.replay.same;
-        rises = is.replay.rises;
-      };
+      replay = is.replay;
       pairs_are = is.pairs_are;
     }

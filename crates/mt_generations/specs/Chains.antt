@@ -1,36 +1,20 @@
 -- What is left of the logs of a store if the older part of each was given up, and what is recovered from that.
-use Rattle.std.specs.Prelude.{◌≡◌, ◌⊎◌, ℕ, ◌<◌, ◌≤◌, List, [], ◌∷◌, ◌++◌, map, Option, Some, None}
+use Rattle.std.specs.Prelude.{◌≡◌, ◌⊎◌, ℕ, ◌<◌, ◌≤◌, List, ◌++◌, Option, Some, None}
 use Rattle.mt_rows.specs.{Tenants.{Contents as Pairs}, declared.record.Record.Record}
-use Rattle.mt_log.specs.{declared.batch.LogBatch.LogBatch, declared.batch.LogBatch.TheVariants.Records, Contents.{Contents, end_of}}
+use Rattle.mt_log.specs.{declared.batch.LogBatch.LogBatch, Contents.{Contents, end_of}}
 use Rattle.mt_crashes.specs.Fronts.{In, cutoff_of, IsReplay, HoldResume, IsLastServed, after_replay}
 use Rattle.mt_crashes.specs.{Bases.{CheckpointView, Slots}, Recoveries.{MayUse, HasSlot, IsBaseOf, resume_of}}
 
--- A chain: a worker's log from one generation on, and the step over which that begins.
-pub record Chain : Type 0 where
-  pub start : ℕ
-  pub log : Contents
-
--- It counts as a whole log, which goes up to the start by one batch without records. So it ends where its last batch does, or else at its start.
-abbrev pub as_log : Chain → Contents
-as_log c = record c.log { batches = Records (record { from = 0; to = c.start; records = [] }) ∷ c.log.batches }
-
-abbrev pub as_logs : List Chain → List Contents
-as_logs chains = map as_log chains
-
--- the chain of a log of which nothing was given up
-abbrev pub whole : Contents → Chain
-whole log = record { start = 0; log = log }
-
--- where a chain ends
-abbrev pub chain_end : Chain → ℕ
-chain_end c = end_of c.start c.log.batches
+-- A chain: a worker's log from one generation on. It ends where its last batch does, or else at its start.
+abbrev pub Chain : Type 0
+Chain = Contents
 
 -- A chain is the end of a worker's whole log. It begins after the batches that were given up, at the step where these end.
 pub record EndsLog (log : Contents) (c : Chain) : Type 0 where
   pub given : List LogBatch
-  pub parts : log.batches ≡ given ++ c.log.batches
-  pub start : c.start ≡ end_of 0 given
-  pub owner : (c.log.worker ≡ log.worker) × (c.log.logs ≡ log.logs)
+  pub parts : log.batches ≡ given ++ c.batches
+  pub start : c.start ≡ end_of log.start given
+  pub owner : (c.worker ≡ log.worker) × (c.logs ≡ log.logs)
 
 -- all chains begin by a step
 abbrev pub BeginBy : ℕ → List Chain → Type 0
@@ -44,7 +28,7 @@ Covers start c = (start ≤ c.from) × ((start ≡ 0) ⊎ (c.from < c.to))
 -- A checkpoint that may be used over chains: it covers what was given up of each; it ended by the cutoff, and in no void range.
 pub record MayUseOver (chains : List Chain) (c : CheckpointView) : Type 0 where
   pub covers : (d : Chain) → In d chains → Covers d.start c
-  pub may : MayUse (as_logs chains) c
+  pub may : MayUse chains c
 
 -- Which one is used: of those that may be, the one that was walked last, the first of these. There is none only if all chains begin at 0, since nothing at
 -- all is a base of what comes after 0.
@@ -59,17 +43,17 @@ HasUse chains slots = BeginBy 0 chains ⊎ ((k : ℕ) × (c : CheckpointView) ×
 
 -- a recovery from chains
 pub record IsRecoveredOver (chains : List Chain) (slots : Slots) (cutoff resume : ℕ) (used : Option ℕ) (pairs : Pairs) : Type 0 where
-  pub cutoff_is : cutoff ≡ cutoff_of (as_logs chains)
-  pub resume_is : resume ≡ resume_of (as_logs chains) slots
+  pub cutoff_is : cutoff ≡ cutoff_of chains
+  pub resume_is : resume ≡ resume_of chains slots
   pub used_is : IsUsedOver chains slots used
   pub from : ℕ
   pub base : Pairs
   pub base_is : IsBaseOf slots used from base
   pub replayed : List Record
-  pub replay : IsReplay from (as_logs chains) replayed
+  pub replay : IsReplay from chains replayed
   pub pairs_are : pairs ≡ after_replay base replayed
 
 -- No chain is older than the others. Take the last number from which any of them tells that the store has served. Each has a resume batch up to there, or
 -- begins there or later: then that batch was given up.
 abbrev pub NoneOlderOver : List Chain → Type 0
-NoneOlderOver chains = (n : ℕ) (d : Chain) → 0 < n → IsLastServed (as_logs chains) n → In d chains → HoldResume n d.log.batches ⊎ (n ≤ d.start)
+NoneOlderOver chains = (n : ℕ) (d : Chain) → 0 < n → IsLastServed chains n → In d chains → HoldResume n d.batches ⊎ (n ≤ d.start)

@@ -1,8 +1,8 @@
 -- Which logs of a store's workers stand, by their generations, and from which of them on the store is recovered.
 use Rattle.std.specs.{Prelude.{◌≡◌, ◌≢◌, ◌⊎◌, ℕ, ◌+◌, ◌≤◌, List, [], ◌++◌, Option, Some, None}, List.AllZip}
-use Rattle.mt_log.specs.{declared.batch.LogBatch.LogBatch, Contents.{Contents, end_of}}
+use Rattle.mt_log.specs.{declared.batch.LogBatch.LogBatch, Contents.{Contents, end_of, mark_of}}
 use Rattle.mt_crashes.specs.{Fronts.In, Bases.Slots}
-use Rattle.mt_generations.specs.Chains.{Chain, chain_end, HasUse}
+use Rattle.mt_generations.specs.Chains.{Chain, HasUse}
 
 -- a worker's logs that stand, by their generations, each as a chain of its own
 abbrev pub Standing : Type 0
@@ -12,7 +12,7 @@ Standing = ℕ → Option Chain
 abbrev pub joined : Option Chain → Option Chain → Option Chain
 joined None next = None
 joined (Some first) None = Some first
-joined (Some first) (Some next) = Some (record { start = first.start; log = record first.log { batches = first.log.batches ++ next.log.batches } })
+joined (Some first) (Some next) = Some (record first { batches = first.batches ++ next.batches })
 
 -- a worker's chain from a generation on: its log of that, with that of the next one
 abbrev pub chain_from : ℕ → Standing → Option Chain
@@ -49,7 +49,7 @@ pub record StartFalls (g : ℕ) (f : Standing) (start : ℕ) : Type 0 where
   pub next : Chain
   pub has_first : f g ≡ Some first
   pub has_next : f (g + 1) ≡ Some next
-  pub apart : next.start ≢ chain_end first
+  pub apart : next.start ≢ mark_of first
   pub is : start ≡ next.start
 
 -- others have the same logs from a generation on
@@ -60,9 +60,9 @@ AgreeFrom g files others = AllZip (λ f o. (h : ℕ) → g ≤ h → o h ≡ f h
 
 -- a log of one generation: it has these batches of the whole log, after those
 pub record IsPart (log : Contents) (before batches : List LogBatch) (c : Chain) : Type 0 where
-  pub start : c.start ≡ end_of 0 before
-  pub batches_are : c.log.batches ≡ batches
-  pub owner : (c.log.worker ≡ log.worker) × (c.log.logs ≡ log.logs)
+  pub start : c.start ≡ end_of log.start before
+  pub batches_are : c.batches ≡ batches
+  pub owner : (c.worker ≡ log.worker) × (c.logs ≡ log.logs)
 
 -- What may stand of a worker's whole log during a turn from a generation to the next. Some batches were given up for good. Those after them are of the log
 -- of this generation, and the last ones of the next log, once it was begun. Either log may be missing, and no other stands.

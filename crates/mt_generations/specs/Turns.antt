@@ -2,7 +2,7 @@
 use Rattle.std.specs.Prelude.{◌≡◌, ◌⊎◌, ℕ, ◌≤◌, ◌==◌, false, List, Some, None, if◌then◌else◌, slice_get}
 use Rattle.mt_log.specs.{declared.batch.LogBatch.LogBatch, Contents.{Contents, with_batch}}
 use Rattle.mt_crashes.specs.{Fronts.{In, is_void}, Bases.CheckpointView, Stores.{Store, WritesSlot, only_this, AllReach}}
-use Rattle.mt_generations.specs.{Chains.{Chain, whole, Covers}, Standings.Standing}
+use Rattle.mt_generations.specs.{Chains.{Chain, Covers}, Standings.Standing}
 
 -- a worker's logs with this one of a generation
 abbrev pub with_log : ℕ → Chain → Standing → Standing
@@ -14,11 +14,11 @@ without g f = λ h. if h == g then None else f h
 
 -- a worker's first log, of generation 0
 abbrev pub only_first : Contents → Standing
-only_first log = with_log 0 (whole log) (λ h. None)
+only_first log = with_log 0 log (λ h. None)
 
 -- a log with one batch more
 abbrev pub longer : LogBatch → Chain → Chain
-longer b c = record { start = c.start; log = with_batch b c.log }
+longer b c = with_batch b c
 
 -- A settled base for what was given up to a step: a checkpoint that covers that, stands in its slot whatever crashes, and is not void. Every log goes by
 -- its end, whatever a crash leaves of it.

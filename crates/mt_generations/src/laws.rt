@@ -3,11 +3,11 @@
 ghost use Rattle.std.specs.{Prelude.{◌≡◌, ◌≢◌, ◌⊎◌, ◌+◌, ◌<◌, ◌≤◌, ℕ, true, false, List, [], ◌∷◌, ◌++◌, map, length, Option, Some, None, slice_get}, List.AllZip};
 ghost use Rattle.std.specs.FinMap as pairs;
 ghost use Rattle.mt_rows.specs.{Rows.Bytes, Tenants.{Contents as Pairs}, declared.record.Record.Record, Stamps.{Stamped, stamp_in}};
-ghost use Rattle.mt_log.specs.{declared.batch.LogBatch.LogBatch, Contents.{Contents, JoinsAndRises, with_batch}};
+ghost use Rattle.mt_log.specs.{declared.batch.LogBatch.LogBatch, Contents.{Contents, JoinsAndRises, mark_of, with_batch}};
 ghost use Rattle.mt_crashes.specs.Fronts.{In, cutoff_of, is_void, all_voids, all_records, key_of, after_replay, made};
 ghost use Rattle.mt_crashes.specs.{Histories.pairs_upto, Bases.{CheckpointView, Slots}, Recoveries.{HasSlot, IsRecovered, AreSet, StandsTwice, resume_of}};
 ghost use Rattle.mt_crashes.specs.Stores.{Store, new_store, Happens, Leads, MayLeaveFronts, MayLeaveSlots, AllReach, only_this, at_rest};
-ghost use Rattle.mt_generations.specs.Chains.{Chain, as_log, as_logs, whole, chain_end, EndsLog, Covers, MayUseOver, IsUsedOver, IsRecoveredOver, NoneOlderOver};
+ghost use Rattle.mt_generations.specs.Chains.{Chain, EndsLog, BeginBy, Covers, MayUseOver, IsUsedOver, IsRecoveredOver, NoneOlderOver};
 ghost use Rattle.mt_generations.specs.Standings.{Standing, joined, AreFrom, AllHave, IsLast, CanBegin, IsChosen, HaveNoChoice, StartFalls, AgreeFrom, IsPart, StandsFor};
 ghost use Rattle.mt_generations.specs.Turns.{with_log, without, only_first, longer, IsSettledIn, Writes, StandsWhole, KeepsLog};
 ghost use Rattle.mt_generations.specs.Examples.{put, put_batch, idle_batch, chain_with, two_logs, one_checkpoint};
@@ -22,28 +22,28 @@ pub fn what_is_left_of_the_chains_is_enough()
         (found ≡ pairs_upto cutoff s.history) × (cutoff ≡ cutoff_of fronts) × (resume ≡ resume_of fronts read) }
 {}
 
-/// Of logs of which nothing was given up a recovery returns just what `IsRecovered` says.
+/// Of logs of which nothing was given up, that begin at step 0, a recovery returns just what `IsRecovered` says.
 pub fn whole_logs_are_recovered_as_ever()
     ensures over { (fronts : List Contents) (read : Slots) (cutoff resume : ℕ) (used : Option ℕ) (found : Pairs) →
-        IsRecovered fronts read cutoff resume used found → IsRecoveredOver (map whole fronts) read cutoff resume used found }
+        BeginBy 0 fronts → IsRecovered fronts read cutoff resume used found → IsRecoveredOver fronts read cutoff resume used found }
     ensures back { (fronts : List Contents) (read : Slots) (cutoff resume : ℕ) (used : Option ℕ) (found : Pairs) →
-        IsRecoveredOver (map whole fronts) read cutoff resume used found → IsRecovered fronts read cutoff resume used found }
+        BeginBy 0 fronts → IsRecoveredOver fronts read cutoff resume used found → IsRecovered fronts read cutoff resume used found }
 {}
 
 /// What is left of the logs is a set, each chain its worker's, with batches that join and rise from its start on. No stamp
 /// stands in two chains, and none is older than what the others tell. So a recovery refuses none of them for any of these.
 pub fn what_is_left_of_the_chains_is_a_set()
     ensures set { (count n : ℕ) (s : Store) (fronts : List Contents) (chains : List Chain) →
-        0 < count → count ≤ 64 → Leads n (new_store count) s → MayLeaveFronts s.logs fronts → AllZip EndsLog fronts chains → AreSet (as_logs chains) }
+        0 < count → count ≤ 64 → Leads n (new_store count) s → MayLeaveFronts s.logs fronts → AllZip EndsLog fronts chains → AreSet chains }
     ensures own { (count n k : ℕ) (s : Store) (fronts : List Contents) (chains : List Chain) (c : Chain) →
         0 < count → count ≤ 64 → Leads n (new_store count) s → MayLeaveFronts s.logs fronts → AllZip EndsLog fronts chains →
-        slice_get chains k ≡ Some c → c.log.worker ≡ k }
+        slice_get chains k ≡ Some c → c.worker ≡ k }
     ensures joins { (count n k : ℕ) (s : Store) (fronts : List Contents) (chains : List Chain) (c : Chain) →
         0 < count → count ≤ 64 → Leads n (new_store count) s → MayLeaveFronts s.logs fronts → AllZip EndsLog fronts chains →
-        slice_get chains k ≡ Some c → JoinsAndRises (as_log c) }
+        slice_get chains k ≡ Some c → JoinsAndRises c }
     ensures apart { (count n stamp i j : ℕ) (s : Store) (fronts : List Contents) (chains : List Chain) →
         0 < count → count ≤ 64 → Leads n (new_store count) s → MayLeaveFronts s.logs fronts → AllZip EndsLog fronts chains →
-        ¬ StandsTwice (as_logs chains) stamp i j }
+        ¬ StandsTwice chains stamp i j }
     ensures none_older { (count n : ℕ) (s : Store) (fronts : List Contents) (chains : List Chain) →
         0 < count → count ≤ 64 → Leads n (new_store count) s → MayLeaveFronts s.logs fronts → AllZip EndsLog fronts chains → NoneOlderOver chains }
 {}
@@ -85,7 +85,7 @@ pub fn something_is_left_to_recover_from()
 pub fn a_next_log_begins_where_one_ends()
     ensures own { (g h start : ℕ) (log : Contents) (f : Standing) → StandsFor g log f → ¬ StartFalls h f start }
     ensures joins { (a b c : Chain) →
-        JoinsAndRises (as_log a) → JoinsAndRises (as_log b) → b.start ≡ chain_end a → joined (Some a) (Some b) ≡ Some c → JoinsAndRises (as_log c) }
+        JoinsAndRises a → JoinsAndRises b → b.start ≡ mark_of a → joined (Some a) (Some b) ≡ Some c → JoinsAndRises c }
 {}
 
 /// There is one choice at most, of one generation and its chains. There is none just if neither the last generation can be
@@ -106,7 +106,8 @@ pub fn there_is_one_choice_at_most()
 /// A batch more, in the last log. The older log given up, or being given up; and then the next generation is the first one.
 /// Whatever keeps the logs of a generation keeps it whole.
 pub fn each_moment_of_a_turn()
-    ensures first { (s : Store) (fronts : List Contents) (log : Contents) → StandsFor 0 log (only_first log) × StandsWhole 0 s (map only_first fronts) }
+    ensures first { (s : Store) (fronts : List Contents) (log : Contents) →
+        BeginBy 0 fronts → StandsFor 0 log (only_first log) × StandsWhole 0 s (map only_first fronts) }
     ensures begun { (g : ℕ) (log : Contents) (f : Standing) (c : Chain) →
         StandsFor g log f → f (g + 1) ≡ None → IsPart log log.batches [] c → StandsFor g log (with_log (g + 1) c f) }
     ensures longer_next { (g : ℕ) (log : Contents) (f : Standing) (b : LogBatch) (c : Chain) →
@@ -157,7 +158,7 @@ pub fn wrong_choices_are_refused()
         In f files → f g ≡ None → ¬ IsChosen files slots g chains }
     ensures without_the_next_log { (g k : ℕ) (files : List Standing) (slots : Slots) (chains : List Chain) (f : Standing) (a b c : Chain) →
         slice_get files k ≡ Some f → f g ≡ Some a → f (g + 1) ≡ Some b → slice_get chains k ≡ Some c →
-        c.log.batches ≢ a.log.batches ++ b.log.batches → ¬ IsChosen files slots g chains }
+        c.batches ≢ a.batches ++ b.batches → ¬ IsChosen files slots g chains }
 {}
 
 /// What no recovery from chains returns. A cutoff that some chain doesn't reach, or one that all pass; to go on from before
@@ -168,11 +169,11 @@ pub fn wrong_choices_are_refused()
 /// over the row's stamp; or not what a key's last record makes, if it counts and is over the row's stamp.
 pub fn wrong_recoveries_from_chains_are_refused()
     ensures cutoff_past_a_chain { (cutoff resume : ℕ) (chains : List Chain) (d : Chain) (read : Slots) (used : Option ℕ) (found : Pairs) →
-        In d chains → chain_end d < cutoff → ¬ IsRecoveredOver chains read cutoff resume used found }
+        In d chains → mark_of d < cutoff → ¬ IsRecoveredOver chains read cutoff resume used found }
     ensures cutoff_before_all_chains { (cutoff resume : ℕ) (chains : List Chain) (read : Slots) (used : Option ℕ) (found : Pairs) →
-        0 < length chains → ((d : Chain) → In d chains → cutoff < chain_end d) → ¬ IsRecoveredOver chains read cutoff resume used found }
+        0 < length chains → ((d : Chain) → In d chains → cutoff < mark_of d) → ¬ IsRecoveredOver chains read cutoff resume used found }
     ensures resume_before_a_chain { (cutoff resume : ℕ) (chains : List Chain) (d : Chain) (read : Slots) (used : Option ℕ) (found : Pairs) →
-        In d chains → resume < chain_end d → ¬ IsRecoveredOver chains read cutoff resume used found }
+        In d chains → resume < mark_of d → ¬ IsRecoveredOver chains read cutoff resume used found }
     ensures resume_before_a_checkpoint { (k cutoff resume : ℕ) (chains : List Chain) (c : CheckpointView) (read : Slots) (used : Option ℕ) (found : Pairs) →
         HasSlot read k c → resume < c.to → ¬ IsRecoveredOver chains read cutoff resume used found }
     ensures over_an_early_checkpoint { (k cutoff resume : ℕ) (chains : List Chain) (d : Chain) (c : CheckpointView) (read : Slots) (found : Pairs) →
@@ -180,7 +181,7 @@ pub fn wrong_recoveries_from_chains_are_refused()
     ensures over_equal_numbers { (k cutoff resume : ℕ) (chains : List Chain) (d : Chain) (c : CheckpointView) (read : Slots) (found : Pairs) →
         HasSlot read k c → In d chains → 0 < d.start → c.from ≡ c.to → ¬ IsRecoveredOver chains read cutoff resume (Some k) found }
     ensures over_a_void_checkpoint { (k cutoff resume : ℕ) (chains : List Chain) (c : CheckpointView) (read : Slots) (found : Pairs) →
-        HasSlot read k c → is_void (all_voids (as_logs chains)) c.to ≡ true → ¬ IsRecoveredOver chains read cutoff resume (Some k) found }
+        HasSlot read k c → is_void (all_voids chains) c.to ≡ true → ¬ IsRecoveredOver chains read cutoff resume (Some k) found }
     ensures over_a_late_checkpoint { (k cutoff resume : ℕ) (chains : List Chain) (c : CheckpointView) (read : Slots) (found : Pairs) →
         HasSlot read k c → cutoff < c.to → ¬ IsRecoveredOver chains read cutoff resume (Some k) found }
     ensures over_an_older_checkpoint { (j k cutoff resume : ℕ) (chains : List Chain) (c d : CheckpointView) (read : Slots) (found : Pairs) →
@@ -190,29 +191,29 @@ pub fn wrong_recoveries_from_chains_are_refused()
     ensures over_nothing { (cutoff resume : ℕ) (chains : List Chain) (d : Chain) (read : Slots) (found : Pairs) →
         In d chains → 0 < d.start → ¬ IsRecoveredOver chains read cutoff resume None found }
     ensures with_what_does_not_count { (key : ℕ × Bytes) (cutoff resume : ℕ) (chains : List Chain) (read : Slots) (found : Pairs) →
-        ((r : Record) → In r (all_records (as_logs chains)) → key_of r ≡ key → (is_void (all_voids (as_logs chains)) r.stamp ≡ true) ⊎ (cutoff < r.stamp)) →
+        ((r : Record) → In r (all_records chains) → key_of r ≡ key → (is_void (all_voids chains) r.stamp ≡ true) ⊎ (cutoff < r.stamp)) →
         pairs.get found key ≢ None → ¬ IsRecoveredOver chains read cutoff resume None found }
     ensures without_the_last_record { (r : Record) (cutoff resume : ℕ) (chains : List Chain) (read : Slots) (found : Pairs) →
-        In r (all_records (as_logs chains)) → 0 < r.stamp → r.stamp ≤ cutoff → is_void (all_voids (as_logs chains)) r.stamp ≡ false →
-        ((q : Record) → In q (all_records (as_logs chains)) → key_of q ≡ key_of r → r.stamp < q.stamp →
-        (is_void (all_voids (as_logs chains)) q.stamp ≡ true) ⊎ (cutoff < q.stamp)) →
+        In r (all_records chains) → 0 < r.stamp → r.stamp ≤ cutoff → is_void (all_voids chains) r.stamp ≡ false →
+        ((q : Record) → In q (all_records chains) → key_of q ≡ key_of r → r.stamp < q.stamp →
+        (is_void (all_voids chains) q.stamp ≡ true) ⊎ (cutoff < q.stamp)) →
         ((old : Option Stamped) → pairs.get found (key_of r) ≢ made r.stamp r.write old) → ¬ IsRecoveredOver chains read cutoff resume None found }
     ensures beside_its_base { (k cutoff resume : ℕ) (key : ℕ × Bytes) (chains : List Chain) (c : CheckpointView) (read : Slots) (found : Pairs) →
         HasSlot read k c →
-        ((r : Record) → In r (all_records (as_logs chains)) → key_of r ≡ key →
-        (r.stamp ≤ c.from) ⊎ (is_void (all_voids (as_logs chains)) r.stamp ≡ true) ⊎ (cutoff < r.stamp)) →
+        ((r : Record) → In r (all_records chains) → key_of r ≡ key →
+        (r.stamp ≤ c.from) ⊎ (is_void (all_voids chains) r.stamp ≡ true) ⊎ (cutoff < r.stamp)) →
         pairs.get found key ≢ pairs.get c.pairs key → ¬ IsRecoveredOver chains read cutoff resume (Some k) found }
     ensures with_a_change_that_its_base_has { (k cutoff resume : ℕ) (key : ℕ × Bytes) (row : Stamped) (chains : List Chain) (c : CheckpointView)
         (read : Slots) (found : Pairs) →
         HasSlot read k c → pairs.get c.pairs key ≡ Some row →
-        ((r : Record) → In r (all_records (as_logs chains)) → key_of r ≡ key → r.stamp ≤ cutoff → is_void (all_voids (as_logs chains)) r.stamp ≡ false →
+        ((r : Record) → In r (all_records chains) → key_of r ≡ key → r.stamp ≤ cutoff → is_void (all_voids chains) r.stamp ≡ false →
         r.stamp ≤ row.stamp) →
         pairs.get found key ≢ Some row → ¬ IsRecoveredOver chains read cutoff resume (Some k) found }
     ensures without_the_last_record_over_its_base { (r : Record) (k cutoff resume : ℕ) (chains : List Chain) (c : CheckpointView) (read : Slots)
         (found : Pairs) →
-        HasSlot read k c → In r (all_records (as_logs chains)) → c.from < r.stamp → r.stamp ≤ cutoff → is_void (all_voids (as_logs chains)) r.stamp ≡ false →
+        HasSlot read k c → In r (all_records chains) → c.from < r.stamp → r.stamp ≤ cutoff → is_void (all_voids chains) r.stamp ≡ false →
         stamp_in (pairs.get c.pairs (key_of r)) < r.stamp →
-        ((q : Record) → In q (all_records (as_logs chains)) → key_of q ≡ key_of r → r.stamp < q.stamp →
-        (is_void (all_voids (as_logs chains)) q.stamp ≡ true) ⊎ (cutoff < q.stamp)) →
+        ((q : Record) → In q (all_records chains) → key_of q ≡ key_of r → r.stamp < q.stamp →
+        (is_void (all_voids chains) q.stamp ≡ true) ⊎ (cutoff < q.stamp)) →
         ((old : Option Stamped) → pairs.get found (key_of r) ≢ made r.stamp r.write old) → ¬ IsRecoveredOver chains read cutoff resume (Some k) found }
 {}

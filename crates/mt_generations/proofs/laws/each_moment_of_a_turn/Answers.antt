@@ -3,7 +3,7 @@ use Rattle.mt_generations.proofs.Moments.{first_stands, first_whole, without_sam
 use Rattle.mt_generations.proofs.laws.each_moment_of_a_turn.Goals as goal
 
 pub returns-clause-first : goal.returns-clause-first
-returns-clause-first c s fronts log = (first_stands log, first_whole s fronts)
+returns-clause-first c s fronts log begin = (first_stands log, first_whole s fronts begin)
 
 pub returns-clause-begun : goal.returns-clause-begun
 returns-clause-begun c g log f next stands none begun = begun_stands g log f stands next none begun

@@ -2,15 +2,14 @@
 use Rattle.std.proofs.Common.{⊎_elim, [], ◌∷◌, Some, refl, sym, ◌∙◌, arith}
 use Rattle.std.proofs.lemmas.Bool.{true≢false}
 use Rattle.mt_crashes.specs.Recoveries.{resume_of}
-use Rattle.mt_crashes.proofs.{Members.{in_map, place_in}, FrontLaws.from_cutoff, Recovery.{upto_resume, walked_upto}}
+use Rattle.mt_crashes.proofs.{Members.{place_in}, FrontLaws.from_cutoff, Recovery.{upto_resume, walked_upto}}
 use Rattle.mt_crashes.proofs.Refusals.{not_counted, last_left_out, base_stays}
-use Rattle.mt_generations.specs.Chains.{as_log, as_logs}
 use Rattle.mt_generations.proofs.Refusals.{used_over, used_latest, over_nothing, over_this, as_walked, last_made, some_end}
 use Rattle.mt_generations.proofs.laws.wrong_recoveries_from_chains_are_refused.Goals as goal
 
 pub returns-clause-cutoff_past_a_chain : goal.returns-clause-cutoff_past_a_chain
 returns-clause-cutoff_past_a_chain c cutoff resume chains d read used found at past is =
-    omega (arith, past, is.cutoff_is, from_cutoff (as_log d) (as_logs chains) (in_map as_log d chains at))
+    omega (arith, past, is.cutoff_is, from_cutoff d chains at)
 
 pub returns-clause-cutoff_before_all_chains : goal.returns-clause-cutoff_before_all_chains
 returns-clause-cutoff_before_all_chains c cutoff resume chains read used found some before is =
@@ -18,11 +17,11 @@ returns-clause-cutoff_before_all_chains c cutoff resume chains read used found s
 
 pub returns-clause-resume_before_a_chain : goal.returns-clause-resume_before_a_chain
 returns-clause-resume_before_a_chain c cutoff resume chains d read used found at before is =
-    omega (arith, before, is.resume_is, upto_resume (as_log d) (as_logs chains) read (in_map as_log d chains at))
+    omega (arith, before, is.resume_is, upto_resume d chains read at)
 
 pub returns-clause-resume_before_a_checkpoint : goal.returns-clause-resume_before_a_checkpoint
 returns-clause-resume_before_a_checkpoint c k cutoff resume chains x read used found there before is =
-    omega (arith, before, is.resume_is, walked_upto x (as_logs chains) read (place_in (Some x) k read there))
+    omega (arith, before, is.resume_is, walked_upto x chains read (place_in (Some x) k read there))
 
 pub returns-clause-over_an_early_checkpoint : goal.returns-clause-over_an_early_checkpoint
 returns-clause-over_an_early_checkpoint c k cutoff resume chains d x read found there at early is =
@@ -52,11 +51,11 @@ returns-clause-over_nothing c cutoff resume chains d read found at over is = ome
 
 pub returns-clause-with_what_does_not_count : goal.returns-clause-with_what_does_not_count
 returns-clause-with_what_does_not_count c key cutoff resume chains read found none other is =
-    not_counted key cutoff (resume_of (as_logs chains) []) (as_logs chains) [] found none other (over_nothing chains read cutoff resume found is)
+    not_counted key cutoff (resume_of chains []) chains [] found none other (over_nothing chains read cutoff resume found is)
 
 pub returns-clause-without_the_last_record : goal.returns-clause-without_the_last_record
 returns-clause-without_the_last_record c r cutoff resume chains read found at some upto live last other is =
-    last_left_out r cutoff (resume_of (as_logs chains) []) (as_logs chains) [] found at some upto live last other (over_nothing chains read cutoff resume found is)
+    last_left_out r cutoff (resume_of chains []) chains [] found at some upto live last other (over_nothing chains read cutoff resume found is)
 
 pub returns-clause-beside_its_base : goal.returns-clause-beside_its_base
 returns-clause-beside_its_base c k cutoff resume key chains x read found there none other is =
@@ -64,7 +63,7 @@ returns-clause-beside_its_base c k cutoff resume key chains x read found there n
 
 pub returns-clause-with_a_change_that_its_base_has : goal.returns-clause-with_a_change_that_its_base_has
 returns-clause-with_a_change_that_its_base_has c k cutoff resume key row chains x read found there has upto other is =
-    base_stays 0 cutoff (resume_of (as_logs chains) (Some x ∷ [])) key row (as_logs chains) x (Some x ∷ []) found refl has upto other
+    base_stays 0 cutoff (resume_of chains (Some x ∷ [])) key row chains x (Some x ∷ []) found refl has upto other
     (over_this k cutoff resume chains x read found there is)
 
 pub returns-clause-without_the_last_record_over_its_base : goal.returns-clause-without_the_last_record_over_its_base
