@@ -71,7 +71,7 @@ none_behind mark (b ∷ bs) h =
     ∙ none_behind (to_of b) bs h.2
 
 pub joins_and_rises : (c : Contents) → fall_of c ≡ None → JoinsAndRises c
-joins_and_rises c h = joins_behind 0 c.batches h
+joins_and_rises c h = joins_behind c.start c.batches h
 
 pub none_falls : (c : Contents) → JoinsAndRises c → fall_of c ≡ None
-none_falls c h = none_behind 0 c.batches h
+none_falls c h = none_behind c.start c.batches h

@@ -61,4 +61,4 @@ front_falls_not (c ∷ cs) f h (inl e) = ap fall_of e ∙ with_none c.worker _ (
 front_falls_not (c ∷ cs) f h (inr at) = front_falls_not cs f (none_first _ _ h).1 at
 
 pub front_rises : (fronts : List Contents) (f : Contents) → first_fall fronts ≡ None → In f fronts → Rise 0 (records_of f)
-front_rises fronts f h at = risen 0 f.batches (front_falls_not fronts f h at)
+front_rises fronts f h at = rise_lower 0 f.start _ (omega arith) (risen f.start f.batches (front_falls_not fronts f h at))

@@ -1,5 +1,5 @@
 -- What is recovered of logs and checkpoints in the format keeps the limits of keys, rows and steps: for `recover`.
-use Rattle.std.proofs.Common.{◌≡◌, ◌⊎◌, ℕ, zero, suc, ◌≤◌, ◌^◌, Bool, true, false, cond, List, [], ◌∷◌, map, get_or, Option, Some, None, refl, sym, ap, subst, ◌∙◌, arith, inl, inr, ⊎_elim}
+use Rattle.std.proofs.Common.{◌≡◌, ℕ, zero, suc, ◌≤◌, ◌^◌, Bool, true, false, cond, List, [], ◌∷◌, map, get_or, Option, Some, None, refl, sym, ap, subst, ◌∙◌, arith, inl, inr, ⊎_elim}
 use Rattle.std.proofs.{lemmas.Bool.{and_parts, ltb-false, not-true, cases_lt}, lemmas.List.Elements.recursion_from_All, lemmas.Option.{same_Some, none-some, slice_get-get_or}}
 use Rattle.std.specs.{Prelude.slice_get, Option.option_map, List.{All, AllByRecursion}, List.Sorted.IsStrictlySortedBy}
 use Rattle.std.specs.{FinMap.{get, find, get-empty, get-from_entries}, Ordering.{eq_by_cmp, is_eq}, declared.cmp.Ordering.TheVariants.Less}
@@ -11,7 +11,7 @@ use Rattle.mt_rows.proofs.ContentLaws.{owned_total, same_owner, other_owner, tie
 use Rattle.mt_batches.specs.Batches.{IsWrite, IsRecord}
 use Rattle.mt_checkpoint.specs.{declared.checkpoint.Checkpoint.Checkpoint, Checkpoints.{IsPair, IsWalk, walk_of}}
 use Rattle.mt_log.specs.{declared.batch.LogBatch.LogBatch, declared.batch.LogBatch.TheVariants.{Records, OldRecords, Resume}}
-use Rattle.mt_log.specs.Contents.{Contents, IsLogBatch, to_of, end_of, mark_of}
+use Rattle.mt_log.specs.Contents.{Contents, AreNumbers, IsLogBatch, to_of, end_of, mark_of}
 use Rattle.mt_crashes.specs.Bases.{CheckpointView, Slots}
 use Rattle.mt_crashes.specs.Fronts.{In, greatest, last_end, all_voids, cutoff_of, is_replayed, records_in, records_of, all_records, key_of, made, with_replayed, after_replay}
 use Rattle.mt_crashes.specs.Recoveries.{HasSlot, IsBaseOf, checkpoint_ends, resume_of, IsRecovered}
@@ -125,11 +125,15 @@ end_within : (version mark : ℕ) (bs : List LogBatch) → mark ≤ 2 ^ 59 → A
 end_within version mark [] within each = within
 end_within version mark (b ∷ bs) within each = end_within version (to_of b) bs (to_within version b each.0) each.1
 
+start_within : (version generation start : ℕ) → AreNumbers version generation start → start ≤ 2 ^ 59
+start_within version zero start is = omega (arith, is.1)
+start_within version (suc before) start is = is.2
+
 pub last_within : (fronts : List Contents) → AreContents fronts → last_end fronts ≤ 2 ^ 59
 last_within fronts all =
     greatest_below (2 ^ 59) (map mark_of fronts) (λ k at.
     let from = map_in mark_of k fronts at in
-    let within = end_within from.0.version 0 from.0.batches (omega arith) (all from.0 from.1).batches in
+    let within = end_within from.0.version from.0.start from.0.batches (start_within from.0.version from.0.generation from.0.start (all from.0 from.1).numbers) (all from.0 from.1).batches in
     let same = from.2 in
     omega (arith, within, same))
 

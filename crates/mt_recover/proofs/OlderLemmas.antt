@@ -223,4 +223,4 @@ reaches_served n fronts f g none in_f served in_g joins = by (ltb 0 (last_served
     by false is = omega (arith, upto, ltb-false 0 (last_served fronts) is)
     by true is =
         let over = ltb-true 0 (last_served fronts) is in
-        omega (arith, upto, resume_upto_mark (last_served fronts) 0 g.batches joins (none (last_served fronts) g over (is_last fronts over) in_g))
+        omega (arith, upto, resume_upto_mark (last_served fronts) g.start g.batches joins (none (last_served fronts) g over (is_last fronts over) in_g))

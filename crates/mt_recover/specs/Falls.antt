@@ -33,9 +33,9 @@ abbrev pub fall_behind : ℕ → List LogBatch → Option ℕ
 fall_behind mark [] = None
 fall_behind mark (b ∷ bs) = first_of (batch_fall mark b) (fall_behind (to_of b) bs)
 
--- and in a log
+-- and in a log, from its start on
 abbrev pub fall_of : Contents → Option ℕ
-fall_of c = fall_behind 0 c.batches
+fall_of c = fall_behind c.start c.batches
 
 -- a number of a worker's log
 abbrev pub Fall : Type 0

@@ -23,7 +23,7 @@ pub(crate) fn first_fall(fronts: &[Front]) -> Option<(u8, u64)>
 fn fall_of(front: &Front) -> Option<u64>
     ensures { result ≡ fall_of (contents_of front.now) }
 {
-    let mut mark = 0;
+    let mut mark = front.start;
     for batch in &front.batches {
         if let Some(number) = batch_fall(mark, batch) {
             return Some(number);
