@@ -43,10 +43,10 @@ module _ {D : Type 0} (is_honest : D → Bool) (state : D → DiskState) (failur
   not_settled new (reads.Bad number offset) f = absurd f.count
 
   -- and it was not read, or its end not set right
-  pub not_opened : (new : D) (e : ReadFault) → GivesDiskBack is_honest state failures old (fault_with new e) → GivesNumberedBack is_honest state failures old (fault_with new e)
-  not_opened new reads.Device f = (λ h c b first some is before. f.0 h c b first is before, f.1, f.2)
-  not_opened new reads.Memory f = (λ h c b first some is before. f.0 h c b first is before, f.1, f.2)
-  not_opened new (reads.Bad number offset) f = f
+  pub not_opened : (new : D) (e : ReadFault) → (IsTrue (is_honest old) → slice_get (state old).image 0 ≡ Some 1) → GivesDiskBack is_honest state failures old (fault_with new e) → GivesNumberedBack is_honest state failures old (fault_with new e)
+  not_opened new reads.Device opened f = (λ h c b first some is before. f.0 h c b first is before, f.1, f.2)
+  not_opened new reads.Memory opened f = (λ h c b first some is before. f.0 h c b first is before, f.1, f.2)
+  not_opened new (reads.Bad number offset) opened f = (f, opened)
 
   -- it was opened
   pub numbered_opened : (new : D) (found : Found) → (IsTrue (is_honest old) → slice_get (state old).image 0 ≡ Some 1)

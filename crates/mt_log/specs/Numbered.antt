@@ -1,5 +1,5 @@
 -- The calls on the log of a generation: begun, opened from its numbered file, and given up.
-use Rattle.std.specs.Prelude.{◌≡◌, ◌⊎◌, ℕ, ◌<◌, ◌≤◌, Bool, IsTrue, List, [], ◌∷◌, ◌++◌, length, drop}
+use Rattle.std.specs.Prelude.{◌≡◌, ◌⊎◌, ℕ, ◌<◌, ◌≤◌, Bool, IsTrue, List, [], ◌∷◌, ◌++◌, length, drop, Some, slice_get}
 use Rattle.mt_rows.specs.Rows.{Bytes}
 use Rattle.mt_disk.specs.Disk.{DiskState, LeavesOnly, IsDurable, GoesUp}
 use Rattle.mt_gates.specs.Gates.{IsClosed, IsLeftOf, IsLeftOfEither, IsGivenUp}
@@ -92,8 +92,9 @@ module _ {D : Type 0} (is_honest : D → Bool) (state : D → DiskState) (failur
       IsTrue (is_honest old) → (c : Contents) (b : LogBatch) (first : DiskState) → 1 ≤ c.generation → IsContents (with_batch b c)
       → LeavesOnly (IsLeft c b) first (state old) → LeavesOnly (IsLeft c b) first (state disk)
 
-  -- what a refused opening of a numbered file gives back
+  -- what a refused opening of a numbered file gives back; a bad log has an open outer gate
   abbrev pub GivesNumberedBack : D → OpenFault D → Type 0
   GivesNumberedBack old (opens.Device disk) = StillLeavesNumbered old disk × GoesUp (failures old) (failures disk) × (is_honest disk ≡ is_honest old)
   GivesNumberedBack old (opens.Memory disk) = StillLeavesNumbered old disk × (failures disk ≡ failures old) × (is_honest disk ≡ is_honest old)
-  GivesNumberedBack old (opens.BadLog disk number offset) = IsRefused is_honest state failures old disk number offset
+  GivesNumberedBack old (opens.BadLog disk number offset) =
+      IsRefused is_honest state failures old disk number offset × (IsTrue (is_honest old) → slice_get (state old).image 0 ≡ Some 1)

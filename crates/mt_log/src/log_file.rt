@@ -23,10 +23,10 @@ use std::alloc::{AllocError, Global};
 const MAX_END: usize = 1 << 60;
 
 // A file of so many bytes is not read.
-const LENGTH_LIMIT: usize = 1 << 63;
+pub(crate) const LENGTH_LIMIT: usize = 1 << 63;
 
 /// A log whose end gate stands closed at `end`, with nothing behind it; its last batch goes up to step
-/// `mark`.
+/// `mark`, or it begins there.
 #[derive(Drop)]
 pub struct LogFile<D: Disk> {
     disk: D,
@@ -53,7 +53,8 @@ impl<D: Disk> LogFile<D> {
         }
     }
 
-    /// Opens a log, and gives its front, whether its batches rise and join or not. Its end is set right: a gate that was torn is closed, and
+    /// Opens a log of any format, and gives its front, whether its batches rise and join or not. It is the log of a
+    /// generation if its first byte is an open outer gate. Its end is set right: a gate that was torn is closed, and
     /// what stands behind it is cut off.
     pub fn open(alloc: Global, mut disk: D) -> Result<(LogFile<D>, Front), OpenFault<D>>
         ensures ok { IfOk result (λ r. Opened D.is_honest D.state D.failures disk r.0 r.1) }
@@ -86,7 +87,7 @@ impl<D: Disk> LogFile<D> {
         LogFile { disk, end, mark }
     }
 
-    /// The step at which its last batch ends, 0 where it has none.
+    /// The step at which its last batch ends, its start if it has none. That is 0 but for the log of a generation.
     pub fn mark(&self) -> u64
         ensures { result ≡ self.now.mark }
     {

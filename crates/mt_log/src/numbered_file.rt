@@ -7,7 +7,7 @@ ghost use Rattle.mt_log.specs.{Logs.fault_with, Numbered.{Begun, FailsToBegin, G
 use crate::batch::Front;
 use crate::fault::{OpenFault, ReadFault};
 use crate::log_end::set_right;
-use crate::log_file::LogFile;
+use crate::log_file::{LENGTH_LIMIT, LogFile};
 use crate::reader::NUMBERED_BYTES;
 use crate::windows::{Found, read_front};
 use mt_disk::{DeviceFailed, Disk};
@@ -84,9 +84,6 @@ impl<D: Disk> LogFile<D> {
         }
     }
 }
-
-// A file of so many bytes is not read.
-const LENGTH_LIMIT: usize = 1 << 63;
 
 // Syncs a numbered file, and tells its length if its outer gate is open. A torn gate is closed.
 fn settled_len<D: Disk>(disk: &mut D) -> Result<Option<usize>, ReadFault>

@@ -15,14 +15,14 @@ returns-in_err-found-clause-err g c =
     let p = err_from_is_err_and c.from_residual-in_err-found.result c.from_residual-in_err-found.ensures.1 in
     let e = c.in_err-found.field-0.0 in
     let at = subst (IsSyncedOrNone g.D.Disk.is_honest g.D.Disk.state g.D.Disk.failures c.args.disk.now c.settled_len.new.disk) c.in-Some.is c.in_ok-len.ensures.ok in
-    rw (p.1, p.2) (not_opened g.D.Disk.is_honest g.D.Disk.state g.D.Disk.failures c.args.disk.now c.read_front.new.disk e (not_log g.D.Disk.is_honest g.D.Disk.state g.D.Disk.failures c.args.disk.now c.settled_len.new.disk c.read_front.new.disk c.in-Some.len at.0 c.read_front.ensures.same c.read_front.ensures.honest e c.in_err-found.ensures.err c.in_err-found.ensures.count))
+    rw (p.1, p.2) (not_opened g.D.Disk.is_honest g.D.Disk.state g.D.Disk.failures c.args.disk.now c.read_front.new.disk e at.1 (not_log g.D.Disk.is_honest g.D.Disk.state g.D.Disk.failures c.args.disk.now c.settled_len.new.disk c.read_front.new.disk c.in-Some.len at.0 c.read_front.ensures.same c.read_front.ensures.honest e c.in_err-found.ensures.err c.in_err-found.ensures.count))
 
 pub returns-in_err-set_right-clause-err : goal.returns-in_err-set_right-clause-err
 returns-in_err-set_right-clause-err g c =
     let p = err_from_is_err_and c.from_residual-in_err-set_right.result c.from_residual-in_err-set_right.ensures.1 in
     let found = c.in_ok-found.found in
     let at = subst (IsSyncedOrNone g.D.Disk.is_honest g.D.Disk.state g.D.Disk.failures c.args.disk.now c.settled_len.new.disk) c.in-Some.is c.in_ok-len.ensures.ok in
-    rw (p.1, p.2) (not_opened g.D.Disk.is_honest g.D.Disk.state g.D.Disk.failures c.args.disk.now c.set_right.new.disk reads.Device (failed_right g.D.Disk.is_honest g.D.Disk.state g.D.Disk.failures c.args.disk.now c.settled_len.new.disk c.read_front.new.disk c.in-Some.len at.0 c.read_front.ensures.same c.read_front.ensures.honest found c.in_ok-found.ensures.ok c.set_right.new.disk c.set_right.ensures.shut c.set_right.ensures.torn c.in_ok-found.ensures.count c.in_err-set_right.ensures.count c.set_right.ensures.honest))
+    rw (p.1, p.2) (not_opened g.D.Disk.is_honest g.D.Disk.state g.D.Disk.failures c.args.disk.now c.set_right.new.disk reads.Device at.1 (failed_right g.D.Disk.is_honest g.D.Disk.state g.D.Disk.failures c.args.disk.now c.settled_len.new.disk c.read_front.new.disk c.in-Some.len at.0 c.read_front.ensures.same c.read_front.ensures.honest found c.in_ok-found.ensures.ok c.set_right.new.disk c.set_right.ensures.shut c.set_right.ensures.torn c.in_ok-found.ensures.count c.in_err-set_right.ensures.count c.set_right.ensures.honest))
 
 pub returns-clause-ok : goal.returns-clause-ok
 returns-clause-ok g c =
