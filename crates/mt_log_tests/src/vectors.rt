@@ -26,7 +26,7 @@ const CHANGED: [u8; 46] = [
 
 // What is read of the vector. Its record is void, so that its stamp alone is held.
 const FRONT: &str =
-    "Front { version: 2, worker: 0, logs: 1, batches: [Records(LoggedBatch { from: 0, to: 6, stamps: [5] }), Resume { from: 6, to: 9, kept: 4 }], held: [SpelledRecords { count: 0, least: 5, greatest: 5, bytes: [] }] }";
+    "Front { version: 2, worker: 0, logs: 1, generation: 0, start: 0, batches: [Records(LoggedBatch { from: 0, to: 6, stamps: [5] }), Resume { from: 6, to: 9, kept: 4 }], held: [SpelledRecords { count: 0, least: 5, greatest: 5, bytes: [] }] }";
 
 // The record of its first batch.
 const RECORDS: &str =
