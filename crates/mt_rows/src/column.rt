@@ -5,7 +5,7 @@
 //!
 //! Units: bytes.
 
-ghost use Rattle.std.specs.{Prelude.{◌≡◌, IfOk, IfSome, nat_eq}, Cmp.partial_equiv_from_equiv};
+ghost use Rattle.std.specs.{Prelude.{◌≡◌, ◌<◌, length, IfOk, IfSome, IfNone, nat_eq}, Cmp.partial_equiv_from_equiv};
 ghost use Rattle.std.specs.Cmp.Lexicographic.{pointwise, nat_list_eq_equiv};
 ghost use Rattle.mt_rows.specs.HeldBytes.{held_bytes};
 
@@ -100,7 +100,8 @@ impl Column {
 
 // These bytes in place, if they are few enough.
 fn short_bytes(bytes: &[u8]) -> Option<ColumnBytes>
-    ensures { IfSome result (λ short. held_bytes short ≡ bytes.now) }
+    ensures held { IfSome result (λ short. held_bytes short ≡ bytes.now) }
+    ensures none { IfNone result (SHORT_BYTES < length bytes.now) }
 {
     let mut short = ArrayVec::new();
     match short.try_extend_from_slice(bytes) {
