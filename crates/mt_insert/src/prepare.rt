@@ -13,11 +13,9 @@ ghost use Rattle.mt_insert.specs.{Puts.{change_of, is_put, IsReady, MeetsStamp},
 ghost use Rattle.mt_held.specs.Taping.{reserving};
 
 use mt_arena::Arena;
-use mt_border::laws::suffix_fits_mark;
-use mt_border::{Border, Find, Held, Suffix};
+use mt_border::{Border, Held, Suffix};
 use mt_operation::{Prepared, Request, Task, Walk};
 use mt_rows::{Change, Row, RowRoom, StampedRow, merge_in};
-use mt_slices::StoredKey;
 use mt_tape::{Entry, Tape};
 use std::alloc::{AllocError, Global};
 

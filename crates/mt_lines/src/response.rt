@@ -5,7 +5,7 @@ ghost use Rattle.mt_lines.specs.Text.{columns_asked, index_at, cell_text, row_te
 
 use mt_core::ShapeLine;
 use mt_operation::Phase;
-use mt_rows::{Column, Command, Key, PairList, Refusal, Reply, StampedRow};
+use mt_rows::{Column, Command, Key, Refusal, Reply, StampedRow};
 use mt_runs::Answer;
 use std::alloc::{AllocError, Global};
 

@@ -7,17 +7,17 @@ ghost use Rattle.mt_log.specs.{Contents.{IsBatch, IsLogBatch, Rises, from_of, to
 ghost use Rattle.mt_log.specs.Numbered.{StillLeavesText, disk_in};
 ghost use Rattle.mt_log.specs.Logs.{Created, Appended, FailedIn, GivesBack, GivesLogBack, Opened, GivesDiskBack, IsSyncedOf, FailsToSync, fault_with};
 
-use crate::batch::{Front, MAX_STEP};
+use crate::batch::Front;
 use crate::failed_log::{End, FailedLog};
 use crate::fault::{AppendFault, OpenFault, ReadFault, ResumeFault};
 use crate::gate::add;
 use crate::log_end::set_right;
-use crate::reader::{HEADER_BYTES, header};
+use crate::reader::HEADER_BYTES;
 use crate::windows::{Found, read_front};
 use crate::writer::{batch_block, resume_block};
 use mt_disk::{DeviceFailed, Disk};
 use mt_rows::Batch;
-use std::alloc::{AllocError, Global};
+use std::alloc::Global;
 
 // The longest file that is appended to.
 const MAX_END: usize = 1 << 60;

@@ -9,7 +9,6 @@ use mt_recover::Recovered;
 use mt_rows::Refusal;
 use std::alloc::Global;
 use std::slice;
-use std::test::Fail;
 
 // A batch that is appended to a log.
 #[derive(Clone, Copy, Debug)]

@@ -9,7 +9,6 @@ use mt_recover::Recovered;
 use mt_rows::Refusal;
 use std::alloc::Global;
 use std::slice;
-use std::test::Fail;
 
 // Where the last byte of a number stands. The log of worker 0 has a batch from 0 to 6 with puts at 1 and 4; a
 // resume batch from 6 to 8 that keeps 5; and a batch from 8 to 9 without records. That of worker 1 has puts at

@@ -3,9 +3,9 @@
 ghost use Rattle.std.specs.Prelude.{◌≡◌, length};
 
 use log::{Log, warn};
-use mt_disk::{Disk, FileDisk};
+use mt_disk::FileDisk;
 use mt_store_logs::Watch;
-use std::time::{Clock, Duration, Instant};
+use std::time::{Clock, Instant};
 
 /// A recovery that takes longer than so many seconds is told of.
 const LONG_SECONDS: u64 = 2;

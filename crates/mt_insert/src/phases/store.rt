@@ -5,7 +5,6 @@ ghost use Rattle.mt_tape.specs.Tapes.{last_write};
 ghost use Rattle.mt_insert.specs.{Puts.IsPut, KeptPuts.IsAtStore, Store.IsStore};
 
 use mt_arena::Arena;
-use mt_border::{Entry, Held};
 use mt_held::push_write;
 use mt_operation::{Phase, Prepared, Task, Walk};
 use mt_rows::Row;

@@ -8,7 +8,7 @@ ghost use Rattle.mt_layer.specs.{KeptLayers.IsAtLeave, Builds.IsLeave};
 use crate::phases::link::tree_of;
 use mt_arena::Arena;
 use mt_held::go_below;
-use mt_operation::{Taken, Walk};
+use mt_operation::Walk;
 
 /// Gives the lock of the border node back, and goes on in the tree of the next layer.
 pub fn leave(arena: &mut Arena, walk: &mut Walk, operation: usize)

@@ -5,7 +5,7 @@ ghost use Rattle.mt_layer.specs.{KeptLayers.IsAtMarkLayer, Builds.IsMarkLayer};
 
 use crate::phases::link::tree_of;
 use mt_arena::Arena;
-use mt_operation::{Phase, Taken, Walk};
+use mt_operation::{Phase, Walk};
 
 /// Makes the slot a link to the tree, which is live from now on.
 pub fn mark_layer(arena: &mut Arena, walk: &mut Walk, operation: usize)
