@@ -1,5 +1,5 @@
 -- What the code's map of changes is after one record more.
-use Rattle.std.proofs.Common.{◌≡◌, ◌⊎◌, inl, inr, ⊎_elim, ℕ, ◌<◌, ◌≤◌, Bool, true, false, cond, List, [], ◌∷◌, ◌++◌, map, refl, sym, ◌∙◌, ap, subst, arith, Option, Some, None, IsPermutation}
+use Rattle.std.proofs.Common.{◌≡◌, ◌⊎◌, inl, inr, ⊎_elim, ℕ, ◌<◌, ◌≤◌, Bool, true, false, cond, List, [], ◌∷◌, ◌++◌, map, refl, sym, ◌∙◌, ap, subst, arith, Option, Some, IsPermutation}
 use Rattle.std.proofs.{lemmas.Bool.cases_lt, lemmas.List.{append-nil, append_assoc, map-append}, lemmas.List.Elements.filter-append}
 use Rattle.std.proofs.lemmas.List.Sorted.{IsPermutation-refl, IsPermutation-trans, IsPermutation-cons, IsPermutation-to_front, IsPermutation-append_left}
 use Rattle.std.specs.{Option.unwrap_or, List.filter, Map.lookup, Ordering.eq_by_cmp, BTreeMap.{is_at, get}, Cmp.eq_by_cmp_equiv}
@@ -66,16 +66,15 @@ none_waiting changes none = record { at = at }
         let nothing : waiting_at changes q ≡ [] = ap (λ (es : List ((ℕ × Bytes) × List Change)). unwrap_or (lookup (is_at (owned_cmp q)) es) []) none in
         subst (Wait []) (sym nothing) ([], IsPermutation-refl [], inl refl)
 
-put_at : (w : List Change) (old mid new : Option (List Change)) (b : Bool) → new ≡ cond b (Some w) mid → mid ≡ cond b None old → unwrap_or new [] ≡ cond b w (unwrap_or old [])
-put_at w old mid new true put out = ap (λ (o : Option (List Change)). unwrap_or o []) put
-put_at w old mid new false put out = ap (λ (o : Option (List Change)). unwrap_or o []) (put ∙ out)
+put_at : (w : List Change) (old new : Option (List Change)) (b : Bool) → new ≡ cond b (Some w) old → unwrap_or new [] ≡ cond b w (unwrap_or old [])
+put_at w old new true put = ap (λ (o : Option (List Change)). unwrap_or o []) put
+put_at w old new false put = ap (λ (o : Option (List Change)). unwrap_or o []) put
 
--- one record more, of an owner whose changes were taken out, and are put in again with one more
-one_waits_at : (r : Record) (rs : List Record) (old mid new : Changes) (was w : List Change) → was ≡ waiting_at old (key_of r)
-    → ((q : ℕ × Bytes) → get owned_cmp mid q ≡ cond (is_at (owned_cmp (key_of r)) q) None (get owned_cmp old q))
-    → ((q : ℕ × Bytes) → get owned_cmp new q ≡ cond (is_at (owned_cmp (key_of r)) q) (Some w) (get owned_cmp mid q))
+-- one record more, of an owner whose changes stand in the map with one more
+one_waits_at : (r : Record) (rs : List Record) (old new : Changes) (was w : List Change) → was ≡ waiting_at old (key_of r)
+    → ((q : ℕ × Bytes) → get owned_cmp new q ≡ cond (is_at (owned_cmp (key_of r)) q) (Some w) (get owned_cmp old q))
     → Adds was (change_in r) w → AreWaiting rs old → (q : ℕ × Bytes) → Wait (changes_at q (rs ++ r ∷ [])) (waiting_at new q)
-one_waits_at r rs old mid new was w taken out put adds waits q = by (eq_by_cmp owned_cmp q (key_of r)) refl
+one_waits_at r rs old new was w taken put adds waits q = by (eq_by_cmp owned_cmp q (key_of r)) refl
   where
     test : Record → Bool
     test x = eq_by_cmp owned_cmp q (key_of x)
@@ -84,7 +83,7 @@ one_waits_at r rs old mid new was w taken out put adds waits q = by (eq_by_cmp o
     symm = (eq_by_cmp_equiv owned_total).symm q (key_of r)
 
     here : waiting_at new q ≡ cond (eq_by_cmp owned_cmp q (key_of r)) w (waiting_at old q)
-    here = put_at w (get owned_cmp old q) (get owned_cmp mid q) (get owned_cmp new q) (is_at (owned_cmp (key_of r)) q) (put q) (out q)
+    here = put_at w (get owned_cmp old q) (get owned_cmp new q) (is_at (owned_cmp (key_of r)) q) (put q)
         ∙ ap (λ (t : Bool). cond t w (waiting_at old q)) (sym symm)
 
     told : changes_at q (rs ++ r ∷ []) ≡ changes_at q rs ++ map change_in (cond (eq_by_cmp owned_cmp q (key_of r)) (r ∷ []) [])
@@ -101,8 +100,7 @@ one_waits_at r rs old mid new was w taken out put adds waits q = by (eq_by_cmp o
         (sym (told ∙ ap (λ (t : Bool). changes_at q rs ++ map change_in (cond t (r ∷ []) [])) other ∙ append-nil (changes_at q rs)))
         (subst (Wait (changes_at q rs)) (sym (here ∙ ap (λ (t : Bool). cond t w (waiting_at old q)) other)) (waits.at q))
 
-pub one_waits : (r : Record) (rs : List Record) (old mid new : Changes) (was w : List Change) → was ≡ waiting_at old (key_of r)
-    → ((q : ℕ × Bytes) → get owned_cmp mid q ≡ cond (is_at (owned_cmp (key_of r)) q) None (get owned_cmp old q))
-    → ((q : ℕ × Bytes) → get owned_cmp new q ≡ cond (is_at (owned_cmp (key_of r)) q) (Some w) (get owned_cmp mid q))
+pub one_waits : (r : Record) (rs : List Record) (old new : Changes) (was w : List Change) → was ≡ waiting_at old (key_of r)
+    → ((q : ℕ × Bytes) → get owned_cmp new q ≡ cond (is_at (owned_cmp (key_of r)) q) (Some w) (get owned_cmp old q))
     → Adds was (change_in r) w → AreWaiting rs old → AreWaiting (rs ++ r ∷ []) new
-one_waits r rs old mid new was w taken out put adds waits = record { at = one_waits_at r rs old mid new was w taken out put adds waits }
+one_waits r rs old new was w taken put adds waits = record { at = one_waits_at r rs old new was w taken put adds waits }

@@ -1,6 +1,6 @@
 -- What is replayed of what the logs hold is what is replayed of all of their records.
-use Rattle.std.proofs.Common.{◌≡◌, ℕ, Bool, true, false, not, ◌&&◌, ◌||◌, List, [], ◌∷◌, ◌++◌, refl, sym, ◌∙◌, ap, subst}
-use Rattle.std.{proofs.{lemmas.List.Elements.filter-append, lemmas.List.Folds.list_any-append}, specs.{Prelude.nat_lt, List.{filter, flat_map}}}
+use Rattle.std.proofs.Common.{◌≡◌, ℕ, Bool, true, false, not, ◌&&◌, ◌||◌, List, [], ◌∷◌, ◌++◌, refl, sym, ◌∙◌, ap}
+use Rattle.std.{proofs.{lemmas.List.Elements.filter-append, lemmas.List.Folds.list_any-append}, specs.{Prelude.nat_lt, List.{filter}}}
 use Rattle.mt_rows.specs.declared.record.Record.{Record}
 use Rattle.mt_log.specs.{Contents.Contents, Voids.{held_of, held_in}}
 use Rattle.mt_crashes.{specs.Fronts.{Numbers, is_void, voids_of, all_voids, records_of, all_records, is_replayed}, proofs.Members.{filter_filter, filter_same}}

@@ -1,8 +1,8 @@
 -- A walk over ranges of void numbers, a search by such walks, and what is replayed of logs, one after the other.
-use Rattle.std.proofs.Common.{◌≡◌, ℕ, zero, suc, ◌<◌, ◌≤◌, Bool, true, false, not, ◌&&◌, ◌||◌, cond, nat_lt, leb, List, [], ◌∷◌, ◌++◌, length, get_or, drop, map, refl, sym, ◌∙◌, ap, arith, IsPermutation}
+use Rattle.std.proofs.Common.{◌≡◌, ℕ, zero, suc, ◌<◌, ◌≤◌, Bool, true, false, not, ◌&&◌, ◌||◌, nat_lt, leb, List, [], ◌∷◌, ◌++◌, length, get_or, drop, map, refl, sym, ◌∙◌, ap, arith, IsPermutation}
 use Rattle.std.proofs.{lemmas.Bool.le-ltb, lemmas.Bool.Decides.nat_tests, lemmas.List.Elements.filter-append, lemmas.List.Sorted.list_any-IsPermutation}
 use Rattle.std.proofs.lemmas.List.{append_assoc, flat_map_more, map-append}
-use Rattle.std.specs.List.{filter, flat_map}
+use Rattle.std.specs.List.{filter}
 use Rattle.mt_rows.specs.declared.record.Record.{Record}
 use Rattle.mt_log.specs.{declared.batch.Front.Front, Contents.{Contents, contents_of}, Voids.{held_in, joined}}
 use Rattle.mt_crashes.{specs.Fronts.{Numbers, is_void, is_replayed}, proofs.Members.filter_same}

@@ -13,6 +13,7 @@ use mt_rows::{Change as Columns, Key, Record, StampedRow, Write, merge};
 use std::alloc::{AllocError, Global};
 use std::collections::BTreeMap;
 use std::marker::Model;
+use std::mem;
 
 /// What a record tells of its key, and its stamp.
 #[derive(Drop)]
@@ -175,21 +176,15 @@ pub(crate) fn add(alloc: Global, changes: &mut Changes, change: Record) -> Resul
         write,
     } = change;
     let owner = (tenant, key);
-    let waiting = taken(alloc, changes, &owner);
-    let waiting = waiting.added(Change { stamp, write })?;
+    let change = Change { stamp, write };
+    if let Some(waiting) = changes.get_mut(&owner) {
+        let before = mem::replace(waiting, Waiting::none(alloc));
+        *waiting = before.added(change)?;
+        return Ok(());
+    }
+    let waiting = Waiting::none(alloc).added(change)?;
     changes.insert(owner, waiting)?;
     Ok(())
-}
-
-// The changes of an owner are taken out.
-fn taken(alloc: Global, changes: &mut Changes, owner: &(u32, Key)) -> Waiting
-    ensures are { result ≡ waiting_at changes.old owner.now }
-    ensures others { (q : ℕ × Bytes) → get owned_cmp changes.new q ≡ (if is_at (owned_cmp owner.now) q then None else get owned_cmp changes.old q) }
-{
-    match changes.remove(owner) {
-        Some(waiting) => waiting,
-        None => Waiting::none(alloc),
-    }
 }
 
 // The least stamp first.
