@@ -7,7 +7,7 @@ use Rattle.mt_log.specs.Contents.{Contents, IsContents, JoinsAndRises}
 use Rattle.mt_crashes.specs.Fronts.{cutoff_of, is_void, all_voids, records_of, all_records, is_replayed, In, Rise, IsReplay, HoldResume, after_replay}
 use Rattle.mt_crashes.specs.{Histories.{Placed, upto, changes_of, pairs_upto}, Recoveries.{IsUsed, IsBaseOf, IsRecovered, AreSet, StandsTwice, NoneOlder}}
 use Rattle.mt_crashes.specs.{Bases.{over, CheckpointView, Slots, IsBase}, Walks.AreWalked}
-use Rattle.mt_crashes.specs.Stores.{Store, SlotNow, MayLeaveFront, MayLeaveFronts, MayLeaveSlots, new_store, Leads, ReachesAt, AllReach}
+use Rattle.mt_crashes.specs.Stores.{Store, LogNow, SlotNow, MayLeaveFront, MayLeaveFronts, MayLeaveSlots, new_store, Leads, ReachesAt, AllReach}
 use Rattle.mt_crashes.specs.Invariants.{by_worker, RisePlaced, IsFrontOf, IsStore}
 use Rattle.mt_crashes.proofs.{Bases.{over_base, empty_base}, Walks.walked_base}
 use Rattle.mt_crashes.proofs.Members.{in_filter, filter_in, in_map, map_in, in_flat_map, flat_map_in, in_place, place_in, permuted_in, in_permuted}
@@ -230,6 +230,11 @@ pub begins_at_0 : (count n k : ℕ) (s : Store) (fronts : List Contents) (f : Co
     → MayLeaveFronts s.logs fronts
     → slice_get fronts k ≡ Some f → (f.generation ≡ 0) × (f.start ≡ 0)
 begins_at_0 count n k s fronts f some few h left there = (front_of s fronts k f (leads n (new_store count) s (new_is count some few) h) left there).whole
+
+-- so does a log as it stands
+pub log_begins_at_0 : (count n k : ℕ) (s : Store) (now : LogNow) → 0 < count → count ≤ 64 → Leads n (new_store count) s → slice_get s.logs k ≡ Some now
+    → (now.had.generation ≡ 0) × (now.had.start ≡ 0)
+log_begins_at_0 count n k s now some few h there = ((leads n (new_store count) s (new_is count some few) h).logs k now there now.had (inl refl)).whole
 
 pub all_join : (count n k : ℕ) (s : Store) (fronts : List Contents) (f : Contents) → 0 < count → count ≤ 64 → Leads n (new_store count) s
     → MayLeaveFronts s.logs fronts

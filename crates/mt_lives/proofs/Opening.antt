@@ -132,7 +132,11 @@ module _ (s : Store) (old new : List (StoreLog MemDisk)) (count : length s.logs 
   abbrev IsAny : ℕ → Contents → Type 0
   IsAny k front = Unit {0}
 
-  module _ (e : Refusal) (place : ℕ)
+  -- each log of the store is the whole one
+  abbrev pub AreWhole : Type 0
+  AreWhole = (k : ℕ) (now : LogNow) → slice_get s.logs k ≡ Some now → now.had.generation ≡ 0
+
+  module _ (whole : AreWhole) (e : Refusal) (place : ℕ)
       (stops : StopsAt (λ k was is. (front : Front) × OpensLog keeps_rules mem_state failures_of was is front) (FailsToOpenLog keeps_rules mem_state failures_of e) place old new) where
     place_within : place < length s.logs
     place_within = subst (λ n. place < n) (sym count) (within old place stops.was stops.was_there)
@@ -151,7 +155,7 @@ module _ (s : Store) (old new : List (StoreLog MemDisk)) (count : length s.logs 
     failed : IsHonest keeps_rules stops.is.slot × Shows mem_state here.0 stops.is.slot × ((number offset : ℕ) → e ≢ refusals.BadLog number offset)
     failed =
         let shows = each place here.0 stops.was here.1 stops.was_there in
-        fails_to_open keeps_rules mem_state failures_of here.0 e stops.was.slot stops.is.slot (honest here.0 stops.was.slot shows) shows stops.fails.0
+        fails_to_open keeps_rules mem_state failures_of here.0 e stops.was.slot stops.is.slot (whole place here.0 here.1) (honest here.0 stops.was.slot shows) shows stops.fails.0
 
     cause : IsMemoryOrDevice e
     cause = of_opening here.0 e stops.was.slot stops.is.slot (each place here.0 stops.was here.1 stops.was_there) stops.fails.0 failed.2
@@ -179,12 +183,12 @@ module _ (s : Store) (old new : List (StoreLog MemDisk)) (count : length s.logs 
         let w = walk s (Rests new IsAny) (goes IsAny) place s.logs (omega (arith, place_within)) may_before in
         record { logs = w.0; leads = w.1.leads; len_so = w.1.len; shows = shows_by w.0 w.1; cause = cause }
 
-  pub in_part : (at : Option ℕ) (e : Refusal) → StopsOpeningAt keeps_rules mem_state failures_of at e old new → OpenedInPart e
-  in_part None e stops = record {
+  pub in_part : AreWhole → (at : Option ℕ) (e : Refusal) → StopsOpeningAt keeps_rules mem_state failures_of at e old new → OpenedInPart e
+  in_part whole None e stops = record {
     logs = s.logs;
     leads = stays_here s s refl;
     len_so = refl;
     shows = λ k now log there at. each k now log there (ap (λ ls. slice_get ls k) (sym stops.1) ∙ at);
     cause = inl stops.0;
   }
-  in_part (Some place) e stops = opened_before e place stops
+  in_part whole (Some place) e stops = opened_before whole e place stops

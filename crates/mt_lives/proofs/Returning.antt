@@ -7,8 +7,8 @@ use Rattle.mt_disk.specs.{declared.mem.MemDisk.MemDisk, Mem.mem_state}
 use Rattle.mt_log.specs.{declared.batch.Front.Front, Contents.{Contents, contents_of}}
 use Rattle.mt_core.specs.{Restores.IsRestored, Rights.IsRightState}
 use Rattle.mt_state.specs.Views.{StateView}
-use Rattle.mt_crashes.specs.{Fronts.cutoff_of, Histories.{Placed, pairs_upto}, Bases.Slots, Recoveries.{resume_of, IsRecovered}, Stores.{Store, only_this}}
-use Rattle.mt_crashes.proofs.{FrontLaws.cutoff_upto_last, Invariant.within_place}
+use Rattle.mt_crashes.specs.{Fronts.cutoff_of, Histories.{Placed, pairs_upto}, Bases.Slots, Recoveries.{resume_of, IsRecovered}, Stores.{Store, LogNow, only_this}}
+use Rattle.mt_crashes.proofs.{FrontLaws.cutoff_upto_last, Heart.log_begins_at_0, Invariant.within_place}
 use Rattle.mt_recover.{specs.{Refusals.IsRefusal, declared.recovering.Recovered.{Recovered as Found}}, proofs.Limits.resume_within}
 use Rattle.mt_checkpoint.specs.declared.checkpoint.Checkpoint.{Checkpoint}
 use Rattle.mt_slots.specs.{declared.store_slots.StoreSlots.StoreSlots, declared.fault.SlotFault.SlotFault, Places.{Both, in_order, with_newest, refusal_for}}
@@ -66,10 +66,13 @@ module _ (accounts : Accounts) (slots : StoreSlots MemDisk) (standing : Standing
 
   -- ---- a log was not opened
 
+  whole : (k : ℕ) (now : LogNow) → slice_get s.logs k ≡ Some now → now.had.generation ≡ 0
+  whole k now there = (log_begins_at_0 (length old) from.left.come.0 k s now from.left.some from.left.few from.left.come.1 there).0
+
   pub not_opened : (e : LogRefusal) (new : List (StoreLog MemDisk)) → StopsOpening keeps_rules mem_state failures_of e old new → IsMemoryOrDevice e.refusal × Refuses new slots
   not_opened e new stops =
       let len = opening_len e.log e.refusal old new stops in
-      let o = in_part s old new from.left.len len from.shows e.log e.refusal stops in
+      let o = in_part s old new from.left.len len from.shows whole e.log e.refusal stops in
       let t = with_logs o.logs s in (
         o.cause,
         record {

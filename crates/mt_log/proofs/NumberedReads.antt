@@ -8,6 +8,7 @@ use Rattle.mt_log.specs.{declared.fault.ReadFault.ReadFault, declared.windows.Fo
 use Rattle.mt_log.specs.{Contents.contents_of, Logs.{Opened, GivesDiskBack, fault_with}}
 use Rattle.mt_log.specs.{Numbered.{HasNoLog, GivesNumberedBack, StillLeavesText, text_of}, Settling.{FailsToSettle, FindsNumbered}}
 use Rattle.mt_log.proofs.{FrontLaws.only_synced, NumberedLaws.{is_numbered, left_opens, text_some}}
+use Rattle.mt_log.specs.declared.reader.FileKind.TheVariants as kinds
 use Rattle.mt_log.specs.declared.fault.ReadFault.TheVariants as reads
 
 module _ {D : Type 0} (is_honest : D → Bool) (state : D → DiskState) (failures : D → ℕ) (old : D) where
@@ -43,13 +44,7 @@ module _ {D : Type 0} (is_honest : D → Bool) (state : D → DiskState) (failur
   not_settled new (reads.Bad number offset) f = absurd f.count
 
   -- and it was not read, or its end not set right
-  pub not_opened : (new : D) (e : ReadFault) → (IsTrue (is_honest old) → slice_get (state old).image 0 ≡ Some 1) → GivesDiskBack is_honest state failures old (fault_with new e) → GivesNumberedBack is_honest state failures old (fault_with new e)
+  pub not_opened : (new : D) (e : ReadFault) → (IsTrue (is_honest old) → slice_get (state old).image 0 ≡ Some 1) → GivesDiskBack kinds.Numbered is_honest state failures old (fault_with new e) → GivesNumberedBack is_honest state failures old (fault_with new e)
   not_opened new reads.Device opened f = (λ h c b first some is before. f.0 h c b first is before, f.1, f.2)
   not_opened new reads.Memory opened f = (λ h c b first some is before. f.0 h c b first is before, f.1, f.2)
   not_opened new (reads.Bad number offset) opened f = (f, opened)
-
-  -- it was opened
-  pub numbered_opened : (new : D) (found : Found) → (IsTrue (is_honest old) → slice_get (state old).image 0 ≡ Some 1)
-      → Opened is_honest state failures old (record { disk = new; end = found.end; mark = found.mark }) found.front → FindsNumbered is_honest state failures old new (Some found)
-  numbered_opened new found opened is =
-      (is, λ h. (let front = is.read h in is_numbered (contents_of found.front) (front.gate ∷ front.behind) (state old).image front.whole (opened h)))

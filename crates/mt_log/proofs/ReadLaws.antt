@@ -8,10 +8,10 @@ use Rattle.mt_disk.specs.Disk.{DiskState, IsDurable, LeavesOnly, GoesUp, synced}
 use Rattle.mt_batches.specs.Batches.{IsRecord}
 use Rattle.mt_fields.proofs.FieldLaws.{IsBytes, IsBytes-rest, IsBytes-take, wide32, number_again}
 use Rattle.mt_log.specs.{declared.batch.LogBatch.LogBatch, declared.batch.LogBatch.TheVariants.Records, declared.fault.ReadFault.ReadFault}
-use Rattle.mt_log.specs.{declared.reader.Head.Head, declared.reader.Start.Start, declared.windows.Stop.Stop, declared.windows.Found.Found}
+use Rattle.mt_log.specs.{declared.reader.FileKind.FileKind, declared.reader.Head.Head, declared.reader.Start.Start, declared.windows.Stop.Stop, declared.windows.Found.Found}
 use Rattle.mt_log.specs.Format.{record_bytes, body, told_body, batch_bytes}
 use Rattle.mt_log.specs.Contents.{Contents, IsContents, IsBatch, IsLogBatch, to_of, log_bytes, with_batch, contents_of}
-use Rattle.mt_log.specs.Fronts.{HasNoBatch, IsBadGate, IsBadLog, IsShut, IsTorn, IsBeforeOrAfter, IsLeft, IsOldOrNew, IsFound, IsAtRest}
+use Rattle.mt_log.specs.Fronts.{HasNoBatch, IsBadGate, IsOfKind, IsBadLog, IsShut, IsTorn, IsBeforeOrAfter, IsLeft, IsOldOrNew, IsFound, IsAtRest}
 use Rattle.mt_log.specs.Reading.{batch_in, batch_at, are_steps, rise_within}
 use Rattle.mt_log.specs.Stops.{IsOpenGate, IsNoHead, IsHead, begin_bytes, BeginsSo, IsWithinLimits, IsStart, IsBadStart, IsBody, IsOpenBatch, AreBatches, StandBefore, IsStop, IsFoundAt, IsRead, IsBadRead, CountsFault, CountsReads, OfImage, IsStartOf, IsStopOf, IsFrontOf, IsFaultOf}
 use Rattle.mt_log.specs.Logs.{IsSyncedOf, FailsToSync, Opened, GivesDiskBack, fault_with}
@@ -25,6 +25,7 @@ use Rattle.mt_log.proofs.FrontLaws.{begin_short, each_more, end_more, opening, o
 use Rattle.mt_row_fields.proofs.Tests.{below}
 use Rattle.mt_log.specs.declared.fault.ReadFault.TheVariants as reads
 use Rattle.mt_log.specs.declared.reader.Head.TheVariants as heads
+use Rattle.mt_log.specs.declared.reader.FileKind.TheVariants as kinds
 
 -- what holds at an error, whatever the result
 pub on_err : {T E : Type 0} (result : Result T E) {P : Type 0} → P → OnErr result P
@@ -234,11 +235,12 @@ whole_len image s place bs is stand =
     omega (arith, at, front, length-append (begin_bytes s) (flat_map batch_bytes bs))
 
 -- the batches of a log stop at what isn't in the format
-pub stopped_bad : (image : Bytes) (s : Start) (place mark : ℕ) (bs : List LogBatch) → IsWithinLimits s → AreBatches s.version s.start mark bs
-    → BeginsSo image s → StandBefore s.place place image bs → IsBadGate s.version (drop place image) → IsBadLog image s.worker place
-stopped_bad image s place mark bs is are head stand bad =
+pub stopped_bad : (kind : FileKind) (image : Bytes) (s : Start) (place mark : ℕ) (bs : List LogBatch) → IsOfKind kind s.generation → IsWithinLimits s → AreBatches s.version s.start mark bs
+    → BeginsSo image s → StandBefore s.place place image bs → IsBadGate s.version (drop place image) → IsBadLog kind image s.worker place
+stopped_bad kind image s place mark bs of is are head stand bad =
     inr (
       whole_log s bs,
+      of,
       record {
         contents = record { numbers = is.numbers; worker = is.worker; logs = is.logs; batches = are.each };
         rest = drop place image;
@@ -252,8 +254,8 @@ stopped_bad image s place mark bs is are head stand bad =
 -- ---- beginnings
 
 -- what the first bytes of an image begin with, it does
-pub start_longer : (image : Bytes) (s : Start) → IsStart (take 30 image) s → IsStart image s
-start_longer image s is =
+pub start_longer : (kind : FileKind) (image : Bytes) (s : Start) → IsStart kind (take 30 image) s → IsStart kind image s
+start_longer kind image s is =
     let p = s.place in
     let short : p ≤ 25 = omega (arith, is.limits.place, begin_short s.version s.worker s.logs s.generation s.start) in
     let whole : image ≡ begin_bytes s ++ (drop p (take 30 image) ++ drop 30 image) = sym (take-append-drop 30 image) ∙ ap (λ (l : Bytes). l ++ drop 30 image) is.header ∙ append_assoc (begin_bytes s) (drop p (take 30 image)) (drop 30 image) in
@@ -262,52 +264,46 @@ start_longer image s is =
     let sum : 30 ≡ p + (30 - p) = omega (arith, short) in
     let cut : drop p (take 30 image) ≡ take (30 - p) (drop p image) = ap (λ n. drop p (take n image)) sum ∙ drop-take p (30 - p) image in
     record {
+      of_kind = is.of_kind;
       limits = is.limits;
       header = whole ∙ ap (λ (l : Bytes). begin_bytes s ++ l) (sym rest);
       head = head_longer (30 - p) (drop p image) s.head (omega (arith, short)) (subst (λ (l : Bytes). IsHead l s.head) cut is.head);
     }
 
 -- and where these are no log's beginning, it isn't one
-pub bad_start_longer : (image : Bytes) (number offset : ℕ) → IsBadStart (take 30 image) (reads.Bad number offset) → IsBadLog image number offset
-bad_start_longer image number offset bad =
+pub bad_start_longer : (kind : FileKind) (image : Bytes) (number offset : ℕ) → IsBadStart kind (take 30 image) (reads.Bad number offset) → IsBadLog kind image number offset
+bad_start_longer kinds.Plain image number offset (inl none, at) =
+    inl (inl (λ version worker logs more known e. none.0 version worker logs (take 22 more) known (ap (take 30) e), none.1), at)
+bad_start_longer kinds.Plain image number offset (inr strange, at) =
+    inl (inr (record { version = strange.version; known = strange.known; logs = strange.logs; more = strange.more ++ drop 30 image; whole = sym (take-append-drop 30 image) ∙ ap (λ (l : Bytes). l ++ drop 30 image) strange.whole; wrong = strange.wrong }), at)
+bad_start_longer kinds.Numbered image number offset (inl none, at) = inl (inl (λ h more fits e. none.0 h (take 5 more) fits (ap (take 30) e), none.1), at)
+bad_start_longer kinds.Numbered image number offset (inr far, at) =
     inl (
-      elim bad.0 [
-        | inl none ↦ inl (
-          (
-            λ version worker logs more known e. none.0.0 version worker logs (take 22 more) known (ap (take 30) e),
-            λ h more fits e. none.0.1 h (take 5 more) fits (ap (take 30) e),
-          ),
-          none.1,
-        )
-        | inr past ↦ elim past [
-          | inl strange ↦ inr (inl (record { version = strange.version; known = strange.known; logs = strange.logs; more = strange.more ++ drop 30 image; whole = sym (take-append-drop 30 image) ∙ ap (λ (l : Bytes). l ++ drop 30 image) strange.whole; wrong = strange.wrong }))
-          | inr far ↦ inr (inr (record {
-            header = far.header;
-            more = far.more ++ drop 30 image;
-            fits = far.fits;
-            whole = sym (take-append-drop 30 image) ∙ ap (λ (l : Bytes). l ++ drop 30 image) far.whole ∙ ap (λ (l : Bytes). 1 ∷ l) (append_assoc (header_bytes far.header) far.more (drop 30 image));
-            wrong = far.wrong;
-            named = far.named;
-          }))
-        ]
-      ],
-      bad.1,
+      inr (record {
+        header = far.header;
+        more = far.more ++ drop 30 image;
+        fits = far.fits;
+        whole = sym (take-append-drop 30 image) ∙ ap (λ (l : Bytes). l ++ drop 30 image) far.whole ∙ ap (λ (l : Bytes). 1 ∷ l) (append_assoc (header_bytes far.header) far.more (drop 30 image));
+        wrong = far.wrong;
+        named = far.named;
+      }),
+      at,
     )
 
 -- ---- disks
 
 module _ {D : Type 0} (is_honest : D → Bool) (state : D → DiskState) (old : D) (len : ℕ) where
   -- what was read of a beginning
-  pub start_of_image : (w : Bytes) (start : Start) → OfImage is_honest state old len (λ image. w ≡ take 30 image) → IsStart w start
-      → OfImage is_honest state old len (λ image. IsStart image start)
-  start_of_image w start told is honest has = start_longer (state old).image start (subst (λ (l : Bytes). IsStart l start) (told honest has) is)
+  pub start_of_image : (kind : FileKind) (w : Bytes) (start : Start) → OfImage is_honest state old len (λ image. w ≡ take 30 image) → IsStart kind w start
+      → OfImage is_honest state old len (λ image. IsStart kind image start)
+  start_of_image kind w start told is honest has = start_longer kind (state old).image start (subst (λ (l : Bytes). IsStart kind l start) (told honest has) is)
 
-  pub fault_of_start : (w : Bytes) (e : ReadFault) → OfImage is_honest state old len (λ image. w ≡ take 30 image) → IsBadStart w e
-      → IsFaultOf is_honest state old len e
-  fault_of_start w reads.Device told bad = tt
-  fault_of_start w reads.Memory told bad = tt
-  fault_of_start w (reads.Bad number offset) told bad =
-      λ honest has. bad_start_longer (state old).image number offset (subst (λ (l : Bytes). IsBadStart l (reads.Bad number offset)) (told honest has) bad)
+  pub fault_of_start : (kind : FileKind) (w : Bytes) (e : ReadFault) → OfImage is_honest state old len (λ image. w ≡ take 30 image) → IsBadStart kind w e
+      → IsFaultOf kind is_honest state old len e
+  fault_of_start kind w reads.Device told bad = tt
+  fault_of_start kind w reads.Memory told bad = tt
+  fault_of_start kind w (reads.Bad number offset) told bad =
+      λ honest has. bad_start_longer kind (state old).image number offset (subst (λ (l : Bytes). IsBadStart kind l (reads.Bad number offset)) (told honest has) bad)
 
   module _ (new : D) (same : IsTrue (is_honest old) → state new ≡ state old) (kept : is_honest new ≡ is_honest old) where
     -- the image of a disk that was only read
@@ -317,26 +313,28 @@ module _ {D : Type 0} (is_honest : D → Bool) (state : D → DiskState) (old : 
         subst P image (told (subst IsTrue (sym kept) honest) (has ∙ ap length (sym image)))
 
     -- the batches behind a beginning, and where they stop
-    module _ (start : Start) (bs : List LogBatch) (stop : Stop) (begins : IsStartOf is_honest state old len start) (stops : IsStopOf is_honest state new len start bs stop) where
+    module _ (kind : FileKind) (start : Start) (bs : List LogBatch) (stop : Stop) (begins : IsStartOf kind is_honest state old len start) (stops : IsStopOf is_honest state new len start bs stop) where
       stopped : IsTrue (is_honest old) → len ≡ length (state old).image → IsStop start.version start.place (state old).image bs stop
       stopped honest has =
           of_same (λ (image : Bytes). IsHead (drop start.place image) start.head → IsStop start.version start.place image bs stop) stops.told honest has (begins.told honest has).head
 
       module _ (r : Result Found ReadFault)
-          (told : (image : Bytes) → BeginsSo image start → IsStop start.version start.place image bs stop → MatchResult r (IsRead image) (IsBadRead image)) where
-        of_image : IsTrue (is_honest old) → len ≡ length (state old).image → MatchResult r (IsRead (state old).image) (IsBadRead (state old).image)
-        of_image honest has = told (state old).image (begins.told honest has).header (stopped honest has)
+          (told : (k : FileKind) (image : Bytes) → IsOfKind k start.generation → BeginsSo image start → IsStop start.version start.place image bs stop
+          → MatchResult r (IsRead image) (IsBadRead k image)) where
+        of_image : IsTrue (is_honest old) → len ≡ length (state old).image → MatchResult r (IsRead (state old).image) (IsBadRead kind (state old).image)
+        of_image honest has = told kind (state old).image begins.of_kind (begins.told honest has).header (stopped honest has)
 
-      pub front_found : (r : Result Found ReadFault)
-          → ((image : Bytes) → BeginsSo image start → IsStop start.version start.place image bs stop → MatchResult r (IsRead image) (IsBadRead image)) → IfOk r (IsFoundAt stop.place)
-          → IfOk r (IsFrontOf is_honest state old len)
-      front_found (Ok found) told ok =
-          record { contents = ok.contents; mark = ok.mark; within = subst (λ n. n ≤ len) (sym ok.end) stops.within; told = λ h e. of_image (Ok found) told h e }
-      front_found (Err e) told ok = tt
+      abbrev Told : Result Found ReadFault → Type 0
+      Told r = (k : FileKind) (image : Bytes) → IsOfKind k start.generation → BeginsSo image start → IsStop start.version start.place image bs stop
+          → MatchResult r (IsRead image) (IsBadRead k image)
 
-      pub fault_found : (r : Result Found ReadFault)
-          → ((image : Bytes) → BeginsSo image start → IsStop start.version start.place image bs stop → MatchResult r (IsRead image) (IsBadRead image))
-          → IfErr r (IsFaultOf is_honest state old len)
+      pub front_found : (r : Result Found ReadFault) → Told r → IfOk r (λ found. found.front.generation ≡ start.generation) → IfOk r (IsFoundAt stop.place)
+          → IfOk r (IsFrontOf kind is_honest state old len)
+      front_found (Ok found) told of ok =
+          record { contents = ok.contents; of_kind = subst (IsOfKind kind) (sym of) begins.of_kind; mark = ok.mark; within = subst (λ n. n ≤ len) (sym ok.end) stops.within; told = λ h e. of_image (Ok found) told h e }
+      front_found (Err e) told of ok = tt
+
+      pub fault_found : (r : Result Found ReadFault) → Told r → IfErr r (IsFaultOf kind is_honest state old len)
       fault_found (Ok found) told = tt
       fault_found (Err reads.Device) told = tt
       fault_found (Err reads.Memory) told = tt
@@ -349,15 +347,12 @@ no_failure (Err e) worker place old new err same = subst (λ (x : ReadFault). Co
 
 -- ---- openings
 
-module _ {D : Type 0} (is_honest : D → Bool) (state : D → DiskState) (failures : D → ℕ) (old : D) where
+module _ {D : Type 0} (kind : FileKind) (is_honest : D → Bool) (state : D → DiskState) (failures : D → ℕ) (old : D) where
   -- a disk that was not read
-  pub not_synced : (new : D) (e : ReadFault) → FailsToSync is_honest state failures old new e → GivesDiskBack is_honest state failures old (fault_with new e)
+  pub not_synced : (new : D) (e : ReadFault) → FailsToSync is_honest state failures old new e → GivesDiskBack kind is_honest state failures old (fault_with new e)
   not_synced new reads.Device f = (λ honest c b first is before. only_synced c b first (state old) (state new) before (f.moves honest), f.count, f.honest)
   not_synced new reads.Memory f = (λ honest c b first is before. only_synced c b first (state old) (state new) before (f.moves honest), f.count, f.honest)
   not_synced new (reads.Bad number offset) f = absurd f.count
-
-  pub not_synced_text : (new : D) (e : ReadFault) → FailsToSync is_honest state failures old new e → StillLeavesText is_honest state failures old new
-  not_synced_text new e f h c first is before = tried_sync (text_of c) first (state old) (state new) before (f.moves h)
 
   -- it was synced, and then read
   module _ (synced_at mid : D) (len : ℕ) (s : IsSyncedOf is_honest state failures old synced_at len)
@@ -375,19 +370,19 @@ module _ {D : Type 0} (is_honest : D → Bool) (state : D → DiskState) (failur
     of_synced P told h = subst P (image_is h) (told (still h) (s.told h ∙ ap length (sym (image_is h))))
 
     -- it failed, there was no memory, or the image is no log
-    pub not_log : (e : ReadFault) → IsFaultOf is_honest state synced_at len e → CountsFault e (failures synced_at) (failures mid)
-        → GivesDiskBack is_honest state failures old (fault_with mid e)
+    pub not_log : (e : ReadFault) → IsFaultOf kind is_honest state synced_at len e → CountsFault e (failures synced_at) (failures mid)
+        → GivesDiskBack kind is_honest state failures old (fault_with mid e)
     not_log reads.Device bad up =
         (λ honest c b first is before. only_synced c b first (state old) (state mid) before (inr (done honest)), subst (λ n. GoesUp n (failures mid)) s.count up, kept ∙ s.honest)
     not_log reads.Memory bad count = (λ honest c b first is before. only_synced c b first (state old) (state mid) before (inr (done honest)), count ∙ s.count, kept ∙ s.honest)
     not_log (reads.Bad number offset) bad count =
-        record { bad = of_synced (λ (l : Bytes). IsBadLog l number offset) bad; moves = done; count = count ∙ s.count; honest = kept ∙ s.honest }
+        record { bad = of_synced (λ (l : Bytes). IsBadLog kind l number offset) bad; moves = done; count = count ∙ s.count; honest = kept ∙ s.honest }
 
     -- what was only synced leaves what it may have been, of a log that is begun or given up
     pub synced_text : StillLeavesText is_honest state failures old mid
     synced_text h c first is before = after_sync (IsLeftOf (text_of c)) first (state old) (state mid) before (done h)
 
-    module _ (found : Found) (i : IsFrontOf is_honest state synced_at len found) where
+    module _ (found : Found) (i : IsFrontOf kind is_honest state synced_at len found) where
       is_read : IsTrue (is_honest old) → IsRead (state old).image found
       is_read h = of_synced (λ (l : Bytes). IsRead l found) i.told h
 
@@ -417,16 +412,17 @@ module _ {D : Type 0} (is_honest : D → Bool) (state : D → DiskState) (failur
 
         -- its end was set right, but for a failure
         pub failed_right : failures mid ≡ failures synced_at → GoesUp (failures mid) (failures new) → is_honest new ≡ is_honest mid
-            → GivesDiskBack is_honest state failures old (fault_with new reads.Device)
+            → GivesDiskBack kind is_honest state failures old (fault_with new reads.Device)
         failed_right count up honest =
             (λ h c b first is before. (leaves h c b first is before).0, subst (λ n. GoesUp n (failures new)) (count ∙ s.count) up, honest ∙ kept ∙ s.honest)
 
         -- its end was set right
         pub opened_right : (IsTrue (is_honest mid) → (front : Bytes) → IsFound front found.gate found.end (state mid) → IsAtRest front found.end (state new))
             → failures mid ≡ failures synced_at → failures new ≡ failures mid → is_honest new ≡ is_honest mid
-            → Opened is_honest state failures old (record { disk = new; end = found.end; mark = found.mark }) found.front
+            → Opened kind is_honest state failures old (record { disk = new; end = found.end; mark = found.mark }) found.front
         opened_right rest read count honest = record {
           contents = i.contents;
+          of_kind = i.of_kind;
           mark = i.mark;
           read = λ h. (let r = is_read h in record { contents = i.contents; gate = found.gate; behind = r.behind; is_shut = r.is_shut; whole = r.whole });
           has =

@@ -2,12 +2,13 @@
 use Rattle.std.specs.Prelude.{◌≡◌, ◌≢◌, ◌⊎◌, ℕ, ◌^◌, ◌<◌, ◌≤◌, [], ◌∷◌, ◌++◌, length, drop}
 use Rattle.std.specs.{Int.{w32, to_be_bytes}}
 use Rattle.mt_rows.specs.Rows.{Bytes}
-use Rattle.mt_log_generations.specs.{Headers.{IsPastLimits}}
-use Rattle.mt_log_generations.specs.Headers.{HasNoHeader as HasNoNumberedHeader}
-use Rattle.mt_log.specs.{declared.fault.ReadFault.ReadFault, declared.reader.Head.Head, declared.reader.Start.Start}
-use Rattle.mt_log.specs.{Format.beginning, Contents.AreNumbers, Fronts.{HasNoPlainHeader, IsOfNoLogs, IsBadBeginning}}
+use Rattle.mt_log.specs.{declared.fault.ReadFault.ReadFault, declared.reader.Head.Head, declared.reader.Start.Start, declared.reader.FileKind.FileKind}
+use Rattle.mt_log.specs.{Format.beginning, Contents.AreNumbers, Fronts.{IsOfKind, IsBadBeginning}}
 use Rattle.mt_log.specs.declared.fault.ReadFault.TheVariants as faults
 use Rattle.mt_log.specs.declared.reader.Head.TheVariants as heads
+use Rattle.mt_log.specs.declared.reader.FileKind.TheVariants.{Numbered}
+use Rattle.mt_log_generations.specs.declared.fault.HeaderFault.{HeaderFault}
+use Rattle.mt_log_generations.specs.declared.fault.HeaderFault.TheVariants as headers
 
 -- a gate that isn't open
 pub record IsShutGate (bytes : Bytes) (gate : ℕ) : Type 0 where
@@ -47,26 +48,25 @@ pub record IsWithinLimits (s : Start) : Type 0 where
   pub logs : s.logs ≤ 64
   pub place : s.place ≡ length (begin_bytes s)
 
--- what a log's bytes begin with
-pub record IsStart (bytes : Bytes) (s : Start) : Type 0 where
+-- what a log's bytes begin with, in a file of this kind
+pub record IsStart (kind : FileKind) (bytes : Bytes) (s : Start) : Type 0 where
+  pub of_kind : IsOfKind kind s.generation
   pub limits : IsWithinLimits s
   pub header : BeginsSo bytes s
   pub head : IsHead (drop s.place bytes) s.head
 
--- why bytes that begin with no open gate are no log's beginning
-abbrev pub IsBadPlain : Bytes → ReadFault → Type 0
-IsBadPlain bytes faults.Device = ⊥
-IsBadPlain bytes faults.Memory = ⊥
-IsBadPlain bytes (faults.Bad number offset) = ((HasNoPlainHeader bytes × (number ≡ 0)) ⊎ IsOfNoLogs bytes number) × (offset ≡ 0)
+-- why no header of format 3 was read after an open outer gate
+abbrev pub IsBadHeader : Bytes → HeaderFault → Type 0
+IsBadHeader bytes headers.Device = ⊥
+IsBadHeader bytes (headers.Bad number) = IsBadBeginning Numbered bytes number
 
--- and those that begin with one
-abbrev pub IsBadNumbered : Bytes → ReadFault → Type 0
-IsBadNumbered bytes faults.Device = ⊥
-IsBadNumbered bytes faults.Memory = ⊥
-IsBadNumbered bytes (faults.Bad number offset) = ((HasNoNumberedHeader bytes × (number ≡ 0)) ⊎ IsPastLimits bytes number) × (offset ≡ 0)
+-- the fault of a header as that of a file: it stands at its front
+abbrev pub fault_of : HeaderFault → ReadFault
+fault_of headers.Device = faults.Device
+fault_of (headers.Bad number) = faults.Bad number 0
 
 -- why bytes are no log's beginning
-abbrev pub IsBadStart : Bytes → ReadFault → Type 0
-IsBadStart bytes faults.Device = ⊥
-IsBadStart bytes faults.Memory = ⊥
-IsBadStart bytes (faults.Bad number offset) = IsBadBeginning bytes number × (offset ≡ 0)
+abbrev pub IsBadStart : FileKind → Bytes → ReadFault → Type 0
+IsBadStart kind bytes faults.Device = ⊥
+IsBadStart kind bytes faults.Memory = ⊥
+IsBadStart kind bytes (faults.Bad number offset) = IsBadBeginning kind bytes number × (offset ≡ 0)

@@ -2,10 +2,9 @@
 use Rattle.std.specs.Prelude.{◌≡◌, ◌≢◌, ◌⊎◌, ℕ, ◌<◌, ◌≤◌, Bool, true, false, [], ◌∷◌, ◌++◌, length}
 use Rattle.mt_rows.specs.Rows.{Bytes}
 use Rattle.mt_disk.specs.Disk.{DiskState, IsDurable, LeavesOnly}
-use Rattle.mt_log.specs.{declared.batch.LogBatch.LogBatch, Format.{header, body, told_body, open_batch, IsVersion}}
+use Rattle.mt_log.specs.{declared.batch.LogBatch.LogBatch, declared.reader.FileKind.FileKind, declared.reader.FileKind.TheVariants.{Plain, Numbered}, Format.{header, body, told_body, open_batch, IsVersion}}
 use Rattle.mt_log.specs.Contents.{Contents, IsContents, IsLogBatch, log_bytes, with_batch}
-use Rattle.mt_log_generations.specs.Headers.{IsPastLimits}
-use Rattle.mt_log_generations.specs.Headers.{HasNoHeader as HasNoNumberedHeader}
+use Rattle.mt_log_generations.specs.Headers.{HasNoHeader as HasNoNumberedHeader, IsPastLimits}
 
 -- The front of an image: its batches with an open gate, up to the first gate that isn't 01. Whatever
 -- stands behind that gate counts for nothing.
@@ -19,10 +18,6 @@ pub record HasFront (c : Contents) (image : Bytes) : Type 0 where
 -- no header of format 1 or 2 stands at the front, whatever worker and number of logs it might name
 abbrev pub HasNoPlainHeader : Bytes → Type 0
 HasNoPlainHeader image = (version worker logs : ℕ) (more : Bytes) → IsVersion version → image ≡ header version worker logs ++ more → ⊥
-
--- no header of any format stands there, also none after an open outer gate
-abbrev pub HasNoHeader : Bytes → Type 0
-HasNoHeader image = HasNoPlainHeader image × HasNoNumberedHeader image
 
 -- a header of format 1 or 2 stands there that names this worker, but as one of no 1 to 64 logs
 pub record IsOfNoLogs (image : Bytes) (worker : ℕ) : Type 0 where
@@ -48,15 +43,22 @@ pub record IsBadAfter (c : Contents) (image : Bytes) : Type 0 where
   pub whole : image ≡ log_bytes c ++ rest
   pub bad : IsBadGate c.version rest
 
--- no log begins so: there is no header, and the number is 0; or one past its limits, and the number is its worker
-abbrev pub IsBadBeginning : Bytes → ℕ → Type 0
-IsBadBeginning image number = (HasNoHeader image × (number ≡ 0)) ⊎ IsOfNoLogs image number ⊎ IsPastLimits image number
+-- the log of a plain file is of no generation, that of a numbered file of one from 1 on
+abbrev pub IsOfKind : FileKind → ℕ → Type 0
+IsOfKind Plain generation = generation ≡ 0
+IsOfKind Numbered generation = 1 ≤ generation
 
--- An image that is no log: at 0 it has no header, or a bad one; or at the gate behind a worker's last good batch it
--- isn't in the format. Then the number is the header's worker.
-abbrev pub IsBadLog : Bytes → ℕ → ℕ → Type 0
-IsBadLog image number offset =
-    IsBadBeginning image number × (offset ≡ 0) ⊎ ((c : Contents) × IsBadAfter c image × (number ≡ c.worker) × (offset ≡ length (log_bytes c)))
+-- No log begins so in a file of this kind: it has no such header, and the number is 0; or one past its limits, and the
+-- number is its worker. A plain file has none of format 3, a numbered file no other.
+abbrev pub IsBadBeginning : FileKind → Bytes → ℕ → Type 0
+IsBadBeginning Plain image number = (HasNoPlainHeader image × (number ≡ 0)) ⊎ IsOfNoLogs image number
+IsBadBeginning Numbered image number = (HasNoNumberedHeader image × (number ≡ 0)) ⊎ IsPastLimits image number
+
+-- An image that is no log in a file of this kind: at 0 it has no header, or a bad one; or at the gate after a worker's
+-- last good batch it isn't in the format. Then the number is the header's worker.
+abbrev pub IsBadLog : FileKind → Bytes → ℕ → ℕ → Type 0
+IsBadLog kind image number offset = IsBadBeginning kind image number × (offset ≡ 0)
+    ⊎ ((c : Contents) × IsOfKind kind c.generation × IsBadAfter c image × (number ≡ c.worker) × (offset ≡ length (log_bytes c)))
 
 -- these bytes, and then a closed gate
 pub record IsShut (front image : Bytes) : Type 0 where

@@ -7,6 +7,7 @@ use Rattle.mt_log_generations.specs.{declared.header.Header.Header, Headers.{beg
 use Rattle.mt_log.specs.{declared.batch.LogBatch.LogBatch, declared.log_file.LogFile.LogFile, declared.numbered_file.Numbered.Numbered, declared.fault.OpenFault.OpenFault}
 use Rattle.mt_log.specs.{Contents.{Contents, IsContents, log_bytes, with_batch}, Fronts.IsLeft, Logs.{IsLogOf, Opened, IsRefused}}
 use Rattle.mt_log.specs.declared.numbered_file.Numbered.TheVariants.{Log, NoLog}
+use Rattle.mt_log.specs.declared.reader.FileKind.TheVariants as kinds
 use Rattle.mt_log.specs.declared.fault.OpenFault.TheVariants as opens
 
 -- a log that was begun with this header: it has no batches
@@ -82,7 +83,7 @@ module _ {D : Type 0} (is_honest : D → Bool) (state : D → DiskState) (failur
 
   -- what an opening finds in a numbered file
   abbrev pub OpensNumbered : D → Numbered D → Type 0
-  OpensNumbered old (Log log front) = Opened is_honest state failures old log front × (IsTrue (is_honest old) → 1 ≤ front.generation)
+  OpensNumbered old (Log log front) = Opened kinds.Numbered is_honest state failures old log front
   OpensNumbered old (NoLog disk) = HasNoLog old disk
 
   -- Over an honest disk: whatever may be left of the log of a generation to which a batch was being appended, an opening
@@ -97,4 +98,4 @@ module _ {D : Type 0} (is_honest : D → Bool) (state : D → DiskState) (failur
   GivesNumberedBack old (opens.Device disk) = StillLeavesNumbered old disk × GoesUp (failures old) (failures disk) × (is_honest disk ≡ is_honest old)
   GivesNumberedBack old (opens.Memory disk) = StillLeavesNumbered old disk × (failures disk ≡ failures old) × (is_honest disk ≡ is_honest old)
   GivesNumberedBack old (opens.BadLog disk number offset) =
-      IsRefused is_honest state failures old disk number offset × (IsTrue (is_honest old) → slice_get (state old).image 0 ≡ Some 1)
+      IsRefused kinds.Numbered is_honest state failures old disk number offset × (IsTrue (is_honest old) → slice_get (state old).image 0 ≡ Some 1)

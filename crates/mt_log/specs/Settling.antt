@@ -2,6 +2,7 @@
 use Rattle.std.specs.{Prelude.{◌≡◌, ℕ, ◌≤◌, Bool, IsTrue, Option, Some, None}, List.slice_get}
 use Rattle.mt_disk.specs.Disk.{DiskState}
 use Rattle.mt_log.specs.{declared.fault.ReadFault.ReadFault, declared.windows.Found.Found}
+use Rattle.mt_log.specs.declared.reader.FileKind.TheVariants as kinds
 use Rattle.mt_log.specs.{Logs.{Opened, IsSyncedOf, IsSyncedOrSame, CountsSync}, Numbered.HasNoLog}
 
 module _ {D : Type 0} (is_honest : D → Bool) (state : D → DiskState) (failures : D → ℕ) where
@@ -19,5 +20,5 @@ module _ {D : Type 0} (is_honest : D → Bool) (state : D → DiskState) (failur
   -- what was found, on this disk
   abbrev pub FindsNumbered : D → D → Option Found → Type 0
   FindsNumbered old disk (Some found) =
-      Opened is_honest state failures old (record { disk = disk; end = found.end; mark = found.mark }) found.front × (IsTrue (is_honest old) → 1 ≤ found.front.generation)
+      Opened kinds.Numbered is_honest state failures old (record { disk = disk; end = found.end; mark = found.mark }) found.front
   FindsNumbered old disk None = HasNoLog is_honest state failures old disk

@@ -3,11 +3,11 @@ use Rattle.std.specs.Prelude.{◌≡◌, ◌≢◌, ℕ, ◌+◌, ◌-◌, ◌<�
 use Rattle.std.specs.{List.{flat_map, AllByRecursion}, declared.alloc.Global.Global}
 use Rattle.mt_rows.specs.Rows.{Bytes}
 use Rattle.mt_disk.specs.Disk.{DiskState, GoesUp}
-use Rattle.mt_log.specs.{declared.batch.LogBatch.LogBatch, declared.fault.ReadFault.ReadFault, declared.reader.Head.Head, declared.reader.Start.Start}
+use Rattle.mt_log.specs.{declared.batch.LogBatch.LogBatch, declared.fault.ReadFault.ReadFault, declared.reader.Head.Head, declared.reader.Start.Start, declared.reader.FileKind.FileKind}
 use Rattle.mt_log.specs.{declared.windows.AtGate.AtGate, declared.windows.Stop.Stop, declared.windows.Found.Found}
 use Rattle.mt_log.specs.{Format.{body, batch_bytes}, Contents.{IsLogBatch, end_of, IsContents, mark_of, log_bytes, contents_of}}
-use Rattle.mt_log.specs.{Fronts.{IsBadGate, IsBadLog}, Reading.batch_in}
-pub use Rattle.mt_log.specs.Beginnings.{IsShutGate, IsOpenGate, IsNoHead, IsHead, begin_bytes, BeginsSo, IsWithinLimits, IsStart, IsBadPlain, IsBadNumbered, IsBadStart}
+use Rattle.mt_log.specs.{Fronts.{IsOfKind, IsBadGate, IsBadLog}, Reading.batch_in}
+pub use Rattle.mt_log.specs.Beginnings.{IsShutGate, IsOpenGate, IsNoHead, IsHead, begin_bytes, BeginsSo, IsWithinLimits, IsStart, IsBadHeader, fault_of, IsBadStart}
 use Rattle.mt_log.specs.declared.fault.ReadFault.TheVariants as faults
 use Rattle.mt_log.specs.declared.windows.AtGate.TheVariants as gates
 
@@ -81,11 +81,11 @@ pub record IsRead (image : Bytes) (found : Found) : Type 0 where
   pub whole : image ≡ log_bytes (contents_of found.front) ++ (found.gate ∷ behind)
   pub end : found.end ≡ length (log_bytes (contents_of found.front))
 
--- why an image was not read
-abbrev pub IsBadRead : Bytes → ReadFault → Type 0
-IsBadRead image faults.Device = ⊥
-IsBadRead image faults.Memory = ⊥
-IsBadRead image (faults.Bad number offset) = IsBadLog image number offset
+-- why an image was not read, in a file of this kind
+abbrev pub IsBadRead : FileKind → Bytes → ReadFault → Type 0
+IsBadRead kind image faults.Device = ⊥
+IsBadRead kind image faults.Memory = ⊥
+IsBadRead kind image (faults.Bad number offset) = IsBadLog kind image number offset
 
 -- ---- disks
 
@@ -114,10 +114,11 @@ pub record IsWindow {D : Type 0} (is_honest : D → Bool) (state : D → DiskSta
   pub told : OfImage is_honest state disk len (λ image. bytes.items ≡ take count (drop place image))
 
 -- what a log begins with
-pub record IsStartOf {D : Type 0} (is_honest : D → Bool) (state : D → DiskState) (disk : D) (len : ℕ) (start : Start) : Type 0 where
+pub record IsStartOf {D : Type 0} (kind : FileKind) (is_honest : D → Bool) (state : D → DiskState) (disk : D) (len : ℕ) (start : Start) : Type 0 where
   pub limits : IsWithinLimits start
+  pub of_kind : IsOfKind kind start.generation
   pub whole : start.place ≤ len
-  pub told : OfImage is_honest state disk len (λ image. IsStart image start)
+  pub told : OfImage is_honest state disk len (λ image. IsStart kind image start)
 
 -- the batches behind a first gate, and where they stop
 pub record IsStopOf {D : Type 0} (is_honest : D → Bool) (state : D → DiskState) (disk : D) (len : ℕ) (start : Start) (bs : List LogBatch) (stop : Stop) : Type 0 where
@@ -125,15 +126,16 @@ pub record IsStopOf {D : Type 0} (is_honest : D → Bool) (state : D → DiskSta
   pub within : stop.place ≤ len
   pub told : OfImage is_honest state disk len (λ image. IsHead (drop start.place image) start.head → IsStop start.version start.place image bs stop)
 
--- the front of a file
-pub record IsFrontOf {D : Type 0} (is_honest : D → Bool) (state : D → DiskState) (disk : D) (len : ℕ) (found : Found) : Type 0 where
+-- the front of a file of this kind
+pub record IsFrontOf {D : Type 0} (kind : FileKind) (is_honest : D → Bool) (state : D → DiskState) (disk : D) (len : ℕ) (found : Found) : Type 0 where
   pub contents : IsContents (contents_of found.front)
+  pub of_kind : IsOfKind kind found.front.generation
   pub mark : found.mark ≡ mark_of (contents_of found.front)
   pub within : found.end ≤ len
   pub told : OfImage is_honest state disk len (λ image. IsRead image found)
 
 -- why a file has none
-abbrev pub IsFaultOf : {D : Type 0} → (D → Bool) → (D → DiskState) → D → ℕ → ReadFault → Type 0
-IsFaultOf is_honest state disk len faults.Device = Unit {0}
-IsFaultOf is_honest state disk len faults.Memory = Unit {0}
-IsFaultOf is_honest state disk len (faults.Bad number offset) = OfImage is_honest state disk len (λ image. IsBadLog image number offset)
+abbrev pub IsFaultOf : {D : Type 0} → FileKind → (D → Bool) → (D → DiskState) → D → ℕ → ReadFault → Type 0
+IsFaultOf kind is_honest state disk len faults.Device = Unit {0}
+IsFaultOf kind is_honest state disk len faults.Memory = Unit {0}
+IsFaultOf kind is_honest state disk len (faults.Bad number offset) = OfImage is_honest state disk len (λ image. IsBadLog kind image number offset)

@@ -1,10 +1,9 @@
 //! A log on its disk: made, opened and appended to.
 
-ghost use Rattle.std.specs.Prelude.{◌≡◌, ◌<◌, ◌≤◌, ◌^◌, ◌++◌, ◌∷◌, [], length, IsTrue, IfOk, IfErr, OnOk, OnErr, MatchResult, ℕ};
+ghost use Rattle.std.specs.Prelude.{◌≡◌, ◌<◌, ◌≤◌, ◌^◌, ◌++◌, ◌∷◌, [], length, IsTrue, IfOk, IfErr, OnOk, OnErr, ℕ};
 ghost use Rattle.mt_disk.specs.Disk.{CountsFailure, GoesUp, synced};
-ghost use Rattle.mt_log.specs.{declared.batch.LogBatch.LogBatch, Format.{body, told_body}};
+ghost use Rattle.mt_log.specs.{declared.batch.LogBatch.LogBatch, declared.reader.FileKind.FileKind, Format.{body, told_body}};
 ghost use Rattle.mt_log.specs.{Contents.{IsBatch, IsLogBatch, Rises, from_of, to_of, log_bytes, no_batches}, Fronts.IsAtRest};
-ghost use Rattle.mt_log.specs.Numbered.{StillLeavesText, disk_in};
 ghost use Rattle.mt_log.specs.Logs.{Created, Appended, FailedIn, GivesBack, GivesLogBack, Opened, GivesDiskBack, IsSyncedOf, FailsToSync, fault_with};
 
 use crate::batch::Front;
@@ -12,7 +11,7 @@ use crate::failed_log::{End, FailedLog};
 use crate::fault::{AppendFault, OpenFault, ReadFault, ResumeFault};
 use crate::gate::add;
 use crate::log_end::set_right;
-use crate::reader::HEADER_BYTES;
+use crate::reader::{FileKind, HEADER_BYTES};
 use crate::windows::{Found, read_front};
 use crate::writer::{batch_block, resume_block};
 use mt_disk::{DeviceFailed, Disk};
@@ -53,13 +52,12 @@ impl<D: Disk> LogFile<D> {
         }
     }
 
-    /// Opens a log of any format, and gives its front, whether its batches rise and join or not. It is the log of a
-    /// generation if its first byte is an open outer gate. Its end is set right: a gate that was torn is closed, and
-    /// what stands behind it is cut off.
+    /// Opens a log of format 1 or 2, and gives its front, whether its batches rise and join or not. Its end is set right: a
+    /// gate that was torn is closed, and what stands behind it is cut off. The log of a generation, in its place, is
+    /// refused at 0.
     pub fn open(alloc: Global, mut disk: D) -> Result<(LogFile<D>, Front), OpenFault<D>>
-        ensures ok { IfOk result (λ r. Opened D.is_honest D.state D.failures disk r.0 r.1) }
-        ensures err { IfErr result (GivesDiskBack D.is_honest D.state D.failures disk) }
-        ensures text { MatchResult result (λ r. StillLeavesText D.is_honest D.state D.failures disk r.0.disk) (λ e. StillLeavesText D.is_honest D.state D.failures disk (disk_in e)) }
+        ensures ok { IfOk result (λ r. Opened FileKind.Plain D.is_honest D.state D.failures disk r.0 r.1) }
+        ensures err { IfErr result (GivesDiskBack FileKind.Plain D.is_honest D.state D.failures disk) }
     {
         match open_file(alloc, &mut disk) {
             Ok(
@@ -210,12 +208,11 @@ fn synced_len<D: Disk>(disk: &mut D) -> Result<usize, ReadFault>
 
 // Opens a log on its disk.
 fn open_file<D: Disk>(alloc: Global, disk: &mut D) -> Result<Found, ReadFault>
-    ensures ok { IfOk result (λ found. Opened D.is_honest D.state D.failures disk.old (record { disk = disk.new; end = found.end; mark = found.mark }) found.front) }
-    ensures err { IfErr result (λ e. GivesDiskBack D.is_honest D.state D.failures disk.old (fault_with disk.new e)) }
-    ensures text { StillLeavesText D.is_honest D.state D.failures disk.old disk.new }
+    ensures ok { IfOk result (λ found. Opened FileKind.Plain D.is_honest D.state D.failures disk.old (record { disk = disk.new; end = found.end; mark = found.mark }) found.front) }
+    ensures err { IfErr result (λ e. GivesDiskBack FileKind.Plain D.is_honest D.state D.failures disk.old (fault_with disk.new e)) }
 {
     let len = synced_len(disk)?;
-    let found = read_front(alloc, disk, len)?;
+    let found = read_front(alloc, disk, FileKind::Plain, len)?;
     set_right(disk, found.end, found.gate)?;
     Ok(found)
 }

@@ -8,7 +8,7 @@ use crate::batch::Front;
 use crate::fault::{OpenFault, ReadFault};
 use crate::log_end::set_right;
 use crate::log_file::{LENGTH_LIMIT, LogFile};
-use crate::reader::NUMBERED_BYTES;
+use crate::reader::{FileKind, NUMBERED_BYTES};
 use crate::windows::{Found, read_front};
 use mt_disk::{DeviceFailed, Disk};
 use mt_gates::{OPEN, SHUT, close_gate, synced_gate};
@@ -117,7 +117,7 @@ fn open_numbered_file<D: Disk>(alloc: Global, disk: &mut D) -> Result<Option<Fou
     let Some(len) = settled_len(disk)? else {
         return Ok(None);
     };
-    let found = read_front(alloc, disk, len)?;
+    let found = read_front(alloc, disk, FileKind::Numbered, len)?;
     set_right(disk, found.end, found.gate)?;
     Ok(Some(found))
 }

@@ -2,10 +2,10 @@
 
 ghost use Rattle.std.specs.Prelude.{◌≡◌, ◌<◌, ◌≤◌, ◌^◌, [], ◌∷◌, ◌++◌, ◌↔◌, IsTrue, length, drop, IfSome, IfNone, IfOk, IfErr};
 ghost use Rattle.mt_fields.specs.Reading.{Gives};
-ghost use Rattle.mt_log_generations.specs.declared.header.Header.{Header};
-ghost use Rattle.mt_log_generations.specs.Headers.{header_bytes, HasNoHeader as HasNoNumberedHeader, IsHeader, FitsEightBytes};
+ghost use Rattle.mt_log_generations.specs.Headers.{header_bytes, IsHeader};
 ghost use Rattle.mt_log.specs.{Format.{header, IsVersion}, Fronts.HasNoPlainHeader, Reading.{records_at, resume_at, batch_kind_at, batch_in}};
-ghost use Rattle.mt_log.specs.Stops.{IsHead, IsStart, IsBadStart, IsBadPlain, IsBadNumbered, IsBehind};
+ghost use Rattle.mt_log.specs.declared.reader.FileKind.{FileKind};
+ghost use Rattle.mt_log.specs.Stops.{IsHead, IsStart, IsBadHeader, IsBadStart, IsBehind};
 
 use crate::fault::{DecodeFault, ReadFault};
 use crate::gate::OPEN;
@@ -13,7 +13,7 @@ use crate::held::ReadBatch;
 use crate::order::is_step;
 use crate::records::spelled_of;
 use mt_fields::{u8_at, u32_at, u64_at};
-use mt_log_generations::Header;
+use mt_log_generations::{Header, HeaderFault, header_of};
 use std::alloc::{AllocError, Global};
 
 /// The bytes of a header of format 1 or 2.
@@ -22,11 +22,17 @@ pub const HEADER_BYTES: usize = 8;
 /// The bytes of the outer gate and of a header of format 3.
 pub const NUMBERED_BYTES: usize = 25;
 
-// The greatest step, and the greatest generation.
-const MAX_STEP: u64 = 1 << 59;
-
 // The greatest number of logs.
 const MAX_LOGS: u8 = 64;
+
+/// Of which kind a file is.
+#[derive(Clone, Copy)]
+pub enum FileKind {
+    /// `wal-WW`: its log is of format 1 or 2, and of no generation.
+    Plain,
+    /// `wal-WW-0` or `wal-WW-1`: its log is of format 3, after an outer gate.
+    Numbered,
+}
 
 /// What stands at a gate, by its first bytes alone.
 #[derive(Clone, Copy)]
@@ -66,23 +72,23 @@ pub fn header(version: u8, worker: u8, logs: u8) -> [u8; 8]
     [b'M', b'T', b'L', b'O', b'G', version, worker, logs]
 }
 
-/// What a log begins with, by its first bytes: an open outer gate stands before a header of format 3.
-pub fn start_of(bytes: &[u8]) -> Result<Start, ReadFault>
-    ensures ok { IfOk result (IsStart bytes.now) }
-    ensures err { IfErr result (IsBadStart bytes.now) }
+/// What a log begins with in a file of this kind, by its first bytes.
+pub fn start_of(kind: FileKind, bytes: &[u8]) -> Result<Start, ReadFault>
+    ensures ok { IfOk result (IsStart kind bytes.now) }
+    ensures err { IfErr result (IsBadStart kind bytes.now) }
 {
-    match bytes {
-        [OPEN, ..] => numbered_start_of(bytes),
-        _ => plain_start_of(bytes),
+    match kind {
+        FileKind::Plain => plain_start_of(bytes),
+        FileKind::Numbered => numbered_start_of(bytes),
     }
 }
 
 // What a log of format 1 or 2 begins with.
 fn plain_start_of(bytes: &[u8]) -> Result<Start, ReadFault>
-    ensures ok { IfOk result (IsStart bytes.now) }
-    ensures err { IfErr result (IsBadPlain bytes.now) }
+    ensures ok { IfOk result (IsStart FileKind.Plain bytes.now) }
+    ensures err { IfErr result (IsBadStart FileKind.Plain bytes.now) }
 {
-    let Some((version, worker, logs)) = header_of(bytes) else {
+    let Some((version, worker, logs)) = plain_header_of(bytes) else {
         return Err(ReadFault::Bad {
             number: 0,
             offset: 0,
@@ -109,21 +115,10 @@ fn plain_start_of(bytes: &[u8]) -> Result<Start, ReadFault>
 
 // What the log of a generation begins with.
 fn numbered_start_of(bytes: &[u8]) -> Result<Start, ReadFault>
-    ensures ok { IfOk result (IsStart bytes.now) }
-    ensures err { IfErr result (IsBadNumbered bytes.now) }
+    ensures ok { IfOk result (IsStart FileKind.Numbered bytes.now) }
+    ensures err { IfErr result (IsBadStart FileKind.Numbered bytes.now) }
 {
-    let Some(header) = numbered_header_of(bytes) else {
-        return Err(ReadFault::Bad {
-            number: 0,
-            offset: 0,
-        });
-    };
-    if !is_header(header) {
-        return Err(ReadFault::Bad {
-            number: header.worker,
-            offset: 0,
-        });
-    }
+    let header = numbered_header_of(bytes)?;
     let (_, behind) = bytes.split_at(NUMBERED_BYTES);
     let head = head_of(behind);
     Ok(Start {
@@ -137,92 +132,23 @@ fn numbered_start_of(bytes: &[u8]) -> Result<Start, ReadFault>
     })
 }
 
-// Whether each number of a header has its limits.
-fn is_header(header: Header) -> bool
-    ensures { IsTrue result ↔ IsHeader header }
-{
-    header.worker < header.logs
-        && header.logs <= MAX_LOGS
-        && header.generation >= 1
-        && header.generation <= MAX_STEP
-        && header.start <= MAX_STEP
-}
-
 // The header of format 3 that an open outer gate stands before.
-fn numbered_header_of(bytes: &[u8]) -> Option<Header>
-    ensures some { IfSome result (λ h. bytes.now ≡ 1 ∷ (header_bytes h ++ drop 25 bytes.now)) }
-    ensures fits { IfSome result FitsEightBytes }
-    ensures none { IfNone result (HasNoNumberedHeader bytes.now) }
+fn numbered_header_of(bytes: &[u8]) -> Result<Header, HeaderFault>
+    ensures header { IfOk result IsHeader }
+    ensures whole { IfOk result (λ h. bytes.now ≡ 1 ∷ (header_bytes h ++ drop 25 bytes.now)) }
+    ensures err { IfErr result (IsBadHeader bytes.now) }
 {
-    if bytes.len() < NUMBERED_BYTES {
-        return None;
+    let [OPEN, behind @ ..] = bytes else {
+        return Err(HeaderFault::Bad(0));
+    };
+    match behind.split_first_chunk() {
+        Some((header, _)) => header_of(header),
+        None => Err(HeaderFault::Bad(0)),
     }
-    let (front, _) = bytes.split_at(NUMBERED_BYTES);
-    let header = numbers_of(front);
-    if front == numbered_header(header).as_slice() {
-        Some(header)
-    } else {
-        None
-    }
-}
-
-// The numbers at their places: those of the header of format 3 that these bytes are, if they are one.
-fn numbers_of(bytes: &[u8]) -> Header
-    requires { length bytes.now ≡ 25 }
-    ensures is { (h : Header) → FitsEightBytes h → bytes.now ≡ 1 ∷ header_bytes h → result ≡ h }
-    ensures fits { FitsEightBytes result }
-{
-    let generation = u64::from_be_bytes([
-        bytes[9], bytes[10], bytes[11], bytes[12], bytes[13], bytes[14], bytes[15], bytes[16],
-    ]);
-    let start = u64::from_be_bytes([
-        bytes[17], bytes[18], bytes[19], bytes[20], bytes[21], bytes[22], bytes[23], bytes[24],
-    ]);
-    Header {
-        worker: bytes[7],
-        logs: bytes[8],
-        generation,
-        start,
-    }
-}
-
-// The open outer gate, and this header.
-fn numbered_header(header: Header) -> [u8; 25]
-    ensures { result ≡ 1 ∷ header_bytes header }
-{
-    let generation = header.generation.to_be_bytes();
-    let start = header.start.to_be_bytes();
-    [
-        OPEN,
-        b'M',
-        b'T',
-        b'L',
-        b'O',
-        b'G',
-        NUMBERED_FORMAT,
-        header.worker,
-        header.logs,
-        generation[0],
-        generation[1],
-        generation[2],
-        generation[3],
-        generation[4],
-        generation[5],
-        generation[6],
-        generation[7],
-        start[0],
-        start[1],
-        start[2],
-        start[3],
-        start[4],
-        start[5],
-        start[6],
-        start[7],
-    ]
 }
 
 // The format, the worker and the number of logs that a header names.
-fn header_of(bytes: &[u8]) -> Option<(u8, u8, u8)>
+fn plain_header_of(bytes: &[u8]) -> Option<(u8, u8, u8)>
     ensures some { IfSome result (λ h. bytes.now ≡ header h.0 h.1 h.2 ++ drop 8 bytes.now) }
     ensures version { IfSome result (λ h. IsVersion h.0) }
     ensures none { IfNone result (HasNoPlainHeader bytes.now) }

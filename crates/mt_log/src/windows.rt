@@ -5,13 +5,13 @@
 
 ghost use Rattle.std.specs.Prelude.{◌≡◌, ◌<◌, ◌≤◌, ◌+◌, ◌-◌, ◌^◌, [], drop, IsTrue, IfOk, IfErr, MatchResult};
 ghost use Rattle.mt_rows.specs.Rows.{Bytes};
-ghost use Rattle.mt_log.specs.declared.fault.ReadFault.TheVariants.{Bad};
+ghost use Rattle.mt_log.specs.{declared.fault.ReadFault.TheVariants.{Bad}, declared.reader.FileKind.FileKind, Fronts.IsOfKind};
 ghost use Rattle.mt_log.specs.Stops.{CountsReads, IsWindow, OfImage, IsHead, IsOpenGate, IsAtGate, FitsGate, AreBatches, BeginsSo, IsWithinLimits, IsStop, IsFoundAt, IsRead, IsBadRead, IsNotBad, IsStartOf, IsStopOf, IsFrontOf, IsFaultOf};
 
 use crate::batch::Front;
 use crate::fault::ReadFault;
 use crate::held::{ReadBatch, ReadBatches};
-use crate::reader::{Head, NUMBERED_BYTES, Start, batch_of, start_of};
+use crate::reader::{FileKind, Head, NUMBERED_BYTES, Start, batch_of, start_of};
 use mt_disk::Disk;
 use std::alloc::Global;
 
@@ -46,20 +46,21 @@ pub struct Stop {
     pub mark: u64,
 }
 
-/// The front of a log, from a file of this length.
+/// The front of a log, from a file of this kind and this length.
 pub(crate) fn read_front<D: Disk>(
     alloc: Global,
     disk: &mut D,
+    kind: FileKind,
     len: usize,
 ) -> Result<Found, ReadFault>
     requires { len < 2 ^ 63 }
-    ensures ok { IfOk result (IsFrontOf D.is_honest D.state disk.old len) }
-    ensures err { IfErr result (IsFaultOf D.is_honest D.state disk.old len) }
+    ensures ok { IfOk result (IsFrontOf kind D.is_honest D.state disk.old len) }
+    ensures err { IfErr result (IsFaultOf kind D.is_honest D.state disk.old len) }
     ensures same { IsTrue (D.is_honest disk.old) → D.state disk.new ≡ D.state disk.old }
     ensures honest { D.is_honest disk.new ≡ D.is_honest disk.old }
     ensures count { CountsReads result (D.failures disk.old) (D.failures disk.new) }
 {
-    let start = read_start(alloc, disk, len)?;
+    let start = read_start(alloc, disk, kind, len)?;
     let mut batches = ReadBatches::new(alloc);
     let stop = read_batches(alloc, disk, len, start, &mut batches)?;
     found_of(start, batches, &stop)
@@ -70,8 +71,10 @@ fn found_of(start: Start, batches: ReadBatches, stop: &Stop) -> Result<Found, Re
     requires limits { IsWithinLimits start }
     requires batches { AreBatches start.version start.start stop.now.mark batches }
     ensures ok { IfOk result (IsFoundAt stop.now.place) }
+    ensures of { IfOk result (λ found. found.front.generation ≡ start.generation) }
     ensures err { IfErr result (λ e. e ≡ Bad start.worker stop.now.place) }
-    ensures told { (image : Bytes) → BeginsSo image start → IsStop start.version start.place image batches stop.now → MatchResult result (IsRead image) (IsBadRead image) }
+    ensures told { (kind : FileKind) (image : Bytes) → IsOfKind kind start.generation → BeginsSo image start → IsStop start.version start.place image batches stop.now
+        → MatchResult result (IsRead image) (IsBadRead kind image) }
 {
     match stop.gate {
         Some(gate) => Ok(Found {
@@ -87,16 +90,21 @@ fn found_of(start: Start, batches: ReadBatches, stop: &Stop) -> Result<Found, Re
     }
 }
 
-// What a log begins with, from a file of this length.
-fn read_start<D: Disk>(alloc: Global, disk: &mut D, len: usize) -> Result<Start, ReadFault>
-    ensures ok { IfOk result (IsStartOf D.is_honest D.state disk.old len) }
-    ensures err { IfErr result (IsFaultOf D.is_honest D.state disk.old len) }
+// What a log begins with, from a file of this kind and this length.
+fn read_start<D: Disk>(
+    alloc: Global,
+    disk: &mut D,
+    kind: FileKind,
+    len: usize,
+) -> Result<Start, ReadFault>
+    ensures ok { IfOk result (IsStartOf kind D.is_honest D.state disk.old len) }
+    ensures err { IfErr result (IsFaultOf kind D.is_honest D.state disk.old len) }
     ensures same { IsTrue (D.is_honest disk.old) → D.state disk.new ≡ D.state disk.old }
     ensures honest { D.is_honest disk.new ≡ D.is_honest disk.old }
     ensures count { CountsReads result (D.failures disk.old) (D.failures disk.new) }
 {
     let bytes = read_window(alloc, disk, len, 0, NUMBERED_BYTES + HEAD_BYTES)?;
-    start_of(&bytes)
+    start_of(kind, &bytes)
 }
 
 // Batches one behind the other, up to the first gate that isn't open; this stands at the first one.

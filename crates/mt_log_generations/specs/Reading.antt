@@ -1,4 +1,4 @@
--- What is read after an open gate: for private functions, cited by no public contract.
+-- What the bytes after an open gate are, and what is read of them.
 use Rattle.std.specs.Prelude.{◌≡◌, ◌⊎◌, ℕ, Bool, IsTrue, List, ◌∷◌, length, Option, Some, None, Result, MatchResult}
 use Rattle.mt_disk.specs.Disk.{DiskState, GoesUp}
 use Rattle.mt_log_generations.specs.{declared.header.Header.Header, declared.fault.HeaderFault.HeaderFault, Headers.{header_bytes, IsHeader, FitsEightBytes, IsLog, IsBad}}

@@ -94,8 +94,8 @@ fn numbers_of(bytes: &[u8; 24]) -> Header
     }
 }
 
-/// The header that these bytes are.
-pub(crate) fn header_of(bytes: &[u8; 24]) -> Result<Header, HeaderFault>
+/// The header that these bytes are. A number past its limits is refused with the worker, all else with 0.
+pub fn header_of(bytes: &[u8; 24]) -> Result<Header, HeaderFault>
     ensures ok { IfOk result (IsHeaderIn bytes.now) }
     ensures err { IfErr result (AreBad bytes.now) }
 {

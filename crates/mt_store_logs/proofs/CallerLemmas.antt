@@ -7,7 +7,7 @@ use Rattle.mt_disk.specs.{declared.mem.MemDisk.MemDisk, Disk.{DiskState, Moment,
 use Rattle.mt_log.specs.{declared.batch.Front.Front, declared.batch.LogBatch.LogBatch, declared.batch.LogBatch.TheVariants.{Records, Resume}}
 use Rattle.mt_log.specs.declared.log_file.LogFile.{LogFile}
 use Rattle.mt_log.specs.Contents.{Contents, IsContents, IsLogBatch, Rises, to_of, mark_of, log_bytes, with_batch, no_batches, contents_of}
-use Rattle.mt_log.specs.{Fronts.{IsBadLog, IsLeft, IsAtRest, IsOldOrNew}, declared.failed_log.FailedLog.FailedLog}
+use Rattle.mt_log.specs.{Fronts.{IsBadLog, IsLeft, IsAtRest, IsOldOrNew}, declared.failed_log.FailedLog.FailedLog, declared.reader.FileKind.TheVariants.Plain}
 use Rattle.mt_log.specs.{Logs.{IsLogOf, Appended, FailedIn, Opened, StillLeaves, ReadsOldOrNew}, Failures.Reopened}
 use Rattle.mt_log.proofs.{FrontLaws.{front_not_bad, left_front, in_format, in_steps, contents_front, contents_more, added_in_format}, Failures.failed_log}
 use Rattle.mt_crashes.{specs.Stores.{LogNow, at_rest, MayLeaveFront}, proofs.{Members.no_some, FrontLaws.mark_more, Disks.doubt_left}}
@@ -83,21 +83,21 @@ module _ {D : Type 0} (is_honest : D → Bool) (state : D → DiskState) where
       let l = shows.1 in
       (shows.0, record { first = l.first; leaves = leaves honest had b l.first (contents_more had b is shows.0) l.leaves })
 
-  not_bad_either : (had : Contents) (b : LogBatch) (disk : D) (number offset : ℕ) → IsContents had → IsLogBatch had.version b → LeavesEither state had b disk
-      → IsBadLog (state disk).image number offset → ⊥
-  not_bad_either had b disk number offset is batch l bad =
+  not_bad_either : (had : Contents) (b : LogBatch) (disk : D) (number offset : ℕ) → had.generation ≡ 0 → IsContents had → IsLogBatch had.version b → LeavesEither state had b disk
+      → IsBadLog Plain (state disk).image number offset → ⊥
+  not_bad_either had b disk number offset of is batch l bad =
       let image = (state disk).image in
       ⊎_elim
-      (λ front. front_not_bad had image number offset front bad)
-      (λ front. front_not_bad (with_batch b had) image number offset front bad)
+      (λ front. front_not_bad Plain had image number offset of front bad)
+      (λ front. front_not_bad Plain (with_batch b had) image number offset of front bad)
       (left_front had b image (contents_more had b is batch) (l.leaves.now image l.leaves.reads))
 
-  not_bad : (had : Contents) (doubt : Option LogBatch) (disk : D) (number offset : ℕ) → IsContents had → ShowsClosed state had doubt disk
-      → IsBadLog (state disk).image number offset → ⊥
-  not_bad had None disk number offset is shows bad =
+  not_bad : (had : Contents) (doubt : Option LogBatch) (disk : D) (number offset : ℕ) → had.generation ≡ 0 → IsContents had → ShowsClosed state had doubt disk
+      → IsBadLog Plain (state disk).image number offset → ⊥
+  not_bad had None disk number offset of is shows bad =
       let batch : IsLogBatch had.version (Resume 0 0 0) = record { first = omega arith; last = omega arith; past = omega arith } in
-      not_bad_either had (Resume 0 0 0) disk number offset is batch (shows (Resume 0 0 0) batch) bad
-  not_bad had (Some b) disk number offset is shows bad = not_bad_either had b disk number offset is shows.0 shows.1 bad
+      not_bad_either had (Resume 0 0 0) disk number offset of is batch (shows (Resume 0 0 0) batch) bad
+  not_bad had (Some b) disk number offset of is shows bad = not_bad_either had b disk number offset of is shows.0 shows.1 bad
 
   -- the disk of an open log, as if it were closed
   open_shows : (now : LogNow) (log : LogFile D) → Shows state now (Open log) → IsContents now.had × ShowsClosed state now.had now.doubt log.disk
@@ -123,7 +123,7 @@ module _ {D : Type 0} (is_honest : D → Bool) (state : D → DiskState) where
     IsOpened now new front = MayLeaveFront now (contents_of front) × IsHonest is_honest new × Shows state (at_rest (contents_of front)) new
 
     opened_on : (now : LogNow) (disk : D) (log : LogFile D) (front : Front) → IsTrue (is_honest disk)
-        → IsContents now.had × ShowsClosed state now.had now.doubt disk → Opened is_honest state failures disk log front → IsOpened now (Open log) front
+        → IsContents now.had × ShowsClosed state now.had now.doubt disk → Opened Plain is_honest state failures disk log front → IsOpened now (Open log) front
     opened_on now disk log front honest shows opened =
         (reads now.had now.doubt disk (contents_of front) honest shows.0 shows.1 opened.reads, subst IsTrue (sym opened.honest) honest, (refl, opened.has honest))
 
@@ -146,44 +146,44 @@ module _ {D : Type 0} (is_honest : D → Bool) (state : D → DiskState) where
     abbrev IsNotOpened : LogNow → Refusal → LogSlot D → Type 0
     IsNotOpened now e new = IsHonest is_honest new × Shows state now new × ((number offset : ℕ) → e ≢ refusals.BadLog number offset)
 
-    not_bad_log : (now : LogNow) (e : Refusal) (old disk : D) → IsTrue (is_honest old) → IsContents now.had × ShowsClosed state now.had now.doubt old
+    not_bad_log : (now : LogNow) (e : Refusal) (old disk : D) → now.had.generation ≡ 0 → IsTrue (is_honest old) → IsContents now.had × ShowsClosed state now.had now.doubt old
         → FailsOn is_honest state failures e old disk → (number offset : ℕ) → e ≢ refusals.BadLog number offset
-    not_bad_log now e old disk honest shows fails number offset same =
-        not_bad now.had now.doubt old number offset shows.0 shows.1 ((subst (λ x. FailsOn is_honest state failures x old disk) same fails).bad honest)
+    not_bad_log now e old disk of honest shows fails number offset same =
+        not_bad now.had now.doubt old number offset of shows.0 shows.1 ((subst (λ x. FailsOn is_honest state failures x old disk) same fails).bad honest)
 
-    not_on : (now : LogNow) (e : Refusal) (old disk : D) → IsTrue (is_honest old) → IsContents now.had × ShowsClosed state now.had now.doubt old
+    not_on : (now : LogNow) (e : Refusal) (old disk : D) → now.had.generation ≡ 0 → IsTrue (is_honest old) → IsContents now.had × ShowsClosed state now.had now.doubt old
         → FailsOn is_honest state failures e old disk → IsTrue (is_honest disk) × (IsContents now.had × ShowsClosed state now.had now.doubt disk)
-    not_on now refusals.Device old disk honest shows fails =
+    not_on now refusals.Device old disk of honest shows fails =
         (subst IsTrue (sym fails.2) honest, (shows.0, still now.had now.doubt old disk honest shows.0 shows.1 fails.0))
-    not_on now refusals.Memory old disk honest shows fails =
+    not_on now refusals.Memory old disk of honest shows fails =
         (subst IsTrue (sym fails.2) honest, (shows.0, still now.had now.doubt old disk honest shows.0 shows.1 fails.0))
-    not_on now (refusals.BadLog n o) old disk honest shows fails = absurd (not_bad now.had now.doubt old n o shows.0 shows.1 (fails.bad honest))
-    not_on now refusals.KeyLong old disk honest shows fails = absurd fails
-    not_on now refusals.TenantThere old disk honest shows fails = absurd fails
-    not_on now (refusals.NoTenant t) old disk honest shows fails = absurd fails
-    not_on now refusals.Column old disk honest shows fails = absurd fails
-    not_on now refusals.ColumnLong old disk honest shows fails = absurd fails
-    not_on now refusals.Quota old disk honest shows fails = absurd fails
-    not_on now refusals.ScanCount old disk honest shows fails = absurd fails
-    not_on now refusals.Spent old disk honest shows fails = absurd fails
-    not_on now (refusals.WrongTurn m) old disk honest shows fails = absurd fails
-    not_on now (refusals.StampsFall n x) old disk honest shows fails = absurd fails
-    not_on now (refusals.OverQuota t) old disk honest shows fails = absurd fails
-    not_on now refusals.LogCount old disk honest shows fails = absurd fails
-    not_on now refusals.BadFrame old disk honest shows fails = absurd fails
-    not_on now refusals.NotOpen old disk honest shows fails = absurd fails
-    not_on now refusals.OpenTwice old disk honest shows fails = absurd fails
-    not_on now refusals.NoRoom old disk honest shows fails = absurd fails
-    not_on now refusals.NoStore old disk honest shows fails = absurd fails
+    not_on now (refusals.BadLog n o) old disk of honest shows fails = absurd (not_bad now.had now.doubt old n o of shows.0 shows.1 (fails.bad honest))
+    not_on now refusals.KeyLong old disk of honest shows fails = absurd fails
+    not_on now refusals.TenantThere old disk of honest shows fails = absurd fails
+    not_on now (refusals.NoTenant t) old disk of honest shows fails = absurd fails
+    not_on now refusals.Column old disk of honest shows fails = absurd fails
+    not_on now refusals.ColumnLong old disk of honest shows fails = absurd fails
+    not_on now refusals.Quota old disk of honest shows fails = absurd fails
+    not_on now refusals.ScanCount old disk of honest shows fails = absurd fails
+    not_on now refusals.Spent old disk of honest shows fails = absurd fails
+    not_on now (refusals.WrongTurn m) old disk of honest shows fails = absurd fails
+    not_on now (refusals.StampsFall n x) old disk of honest shows fails = absurd fails
+    not_on now (refusals.OverQuota t) old disk of honest shows fails = absurd fails
+    not_on now refusals.LogCount old disk of honest shows fails = absurd fails
+    not_on now refusals.BadFrame old disk of honest shows fails = absurd fails
+    not_on now refusals.NotOpen old disk of honest shows fails = absurd fails
+    not_on now refusals.OpenTwice old disk of honest shows fails = absurd fails
+    not_on now refusals.NoRoom old disk of honest shows fails = absurd fails
+    not_on now refusals.NoStore old disk of honest shows fails = absurd fails
 
-    not_opened_on : (now : LogNow) (e : Refusal) (old : D) (new : LogSlot D) → IsTrue (is_honest old)
+    not_opened_on : (now : LogNow) (e : Refusal) (old : D) (new : LogSlot D) → now.had.generation ≡ 0 → IsTrue (is_honest old)
         → IsContents now.had × ShowsClosed state now.had now.doubt old → FailsToOpen is_honest state failures e (Some old) new → IsNotOpened now e new
-    not_opened_on now e old (Closed disk) honest shows fails =
-        let on = not_on now e old disk honest shows fails in
-        (on.0, on.1, not_bad_log now e old disk honest shows fails)
-    not_opened_on now e old (Open log) honest shows fails = absurd fails
-    not_opened_on now e old (Failed log) honest shows fails = absurd fails
-    not_opened_on now e old Away honest shows fails = absurd fails
+    not_opened_on now e old (Closed disk) of honest shows fails =
+        let on = not_on now e old disk of honest shows fails in
+        (on.0, on.1, not_bad_log now e old disk of honest shows fails)
+    not_opened_on now e old (Open log) of honest shows fails = absurd fails
+    not_opened_on now e old (Failed log) of honest shows fails = absurd fails
+    not_opened_on now e old Away of honest shows fails = absurd fails
 
     no_turn : (mark : ℕ) (old : D) (new : LogSlot D) → FailsToOpen is_honest state failures (refusals.WrongTurn mark) (Some old) new → ⊥
     no_turn mark old (Closed disk) f = f
@@ -191,12 +191,12 @@ module _ {D : Type 0} (is_honest : D → Bool) (state : D → DiskState) where
     no_turn mark old (Failed log) f = f
     no_turn mark old Away f = f
 
-    pub fails_to_open : (now : LogNow) (e : Refusal) (old new : LogSlot D) → IsHonest is_honest old → Shows state now old
+    pub fails_to_open : (now : LogNow) (e : Refusal) (old new : LogSlot D) → now.had.generation ≡ 0 → IsHonest is_honest old → Shows state now old
         → FailsToOpen is_honest state failures e (disk_in old) new → IsNotOpened now e new
-    fails_to_open now e (Open old) new honest shows fails = not_opened_on now e old.disk new honest (open_shows now old shows) fails
-    fails_to_open now e (Failed old) new honest shows fails = not_opened_on now e old.disk new honest (failed_shows now old shows) fails
-    fails_to_open now e (Closed old) new honest shows fails = not_opened_on now e old new honest shows fails
-    fails_to_open now e Away new honest shows fails = absurd honest
+    fails_to_open now e (Open old) new of honest shows fails = not_opened_on now e old.disk new of honest (open_shows now old shows) fails
+    fails_to_open now e (Failed old) new of honest shows fails = not_opened_on now e old.disk new of honest (failed_shows now old shows) fails
+    fails_to_open now e (Closed old) new of honest shows fails = not_opened_on now e old new of honest shows fails
+    fails_to_open now e Away new of honest shows fails = absurd honest
 
     -- ---- a log that was made
 

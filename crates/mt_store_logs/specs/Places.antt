@@ -2,7 +2,7 @@
 use Rattle.std.specs.Prelude.{◌≡◌, ℕ, ◌+◌, Bool, List, [], ◌∷◌, length, map, Option, Some, None, slice_get}
 use Rattle.mt_rows.specs.{declared.record.Batch.Batch, declared.refusal.Refusal.Refusal}
 use Rattle.mt_disk.specs.Disk.{DiskState, GoesUp}
-use Rattle.mt_log.specs.{declared.batch.Front.Front, Logs.{Created, Opened, GivesDiskBack}}
+use Rattle.mt_log.specs.{declared.batch.Front.Front, declared.reader.FileKind.TheVariants.Plain, Logs.{Created, Opened, GivesDiskBack}}
 use Rattle.mt_recover.specs.{declared.resuming.LogSlot.LogSlot, declared.resuming.LogSlot.TheVariants.{Open, Failed, Closed, Away}}
 use Rattle.mt_store_logs.specs.{declared.fault.LogRefusal.LogRefusal, declared.store_log.StoreLog.StoreLog, Lists.{Each, StopsAt}}
 use Rattle.mt_rows.specs.declared.refusal.Refusal.TheVariants as refusals
@@ -45,14 +45,14 @@ closed_on disks = closed_from 0 disks
 module _ {D : Type 0} (is_honest : D → Bool) (state : D → DiskState) (failures : D → ℕ) where
   -- a disk was opened, and gave this front
   abbrev pub Opens : Option D → LogSlot D → Front → Type 0
-  Opens (Some disk) (Open log) front = Opened is_honest state failures disk log front
+  Opens (Some disk) (Open log) front = Opened Plain is_honest state failures disk log front
   Opens disk slot front = ⊥
 
   -- why it was not
   abbrev pub FailsOn : Refusal → D → D → Type 0
-  FailsOn refusals.Device old disk = GivesDiskBack is_honest state failures old (opens.Device disk)
-  FailsOn refusals.Memory old disk = GivesDiskBack is_honest state failures old (opens.Memory disk)
-  FailsOn (refusals.BadLog number offset) old disk = GivesDiskBack is_honest state failures old (opens.BadLog disk number offset)
+  FailsOn refusals.Device old disk = GivesDiskBack Plain is_honest state failures old (opens.Device disk)
+  FailsOn refusals.Memory old disk = GivesDiskBack Plain is_honest state failures old (opens.Memory disk)
+  FailsOn (refusals.BadLog number offset) old disk = GivesDiskBack Plain is_honest state failures old (opens.BadLog disk number offset)
   FailsOn e old disk = ⊥
 
   -- it was not: it is closed, or there is none

@@ -3,7 +3,7 @@ use Rattle.std.specs.Prelude.{◌≡◌, ◌≢◌, ◌⊎◌, ℕ, Bool, Option
 use Rattle.mt_rows.specs.{declared.record.Batch.Batch, declared.refusal.Refusal.Refusal}
 use Rattle.mt_disk.specs.Disk.{DiskState}
 use Rattle.mt_log.specs.{declared.batch.Front.Front, declared.batch.LogBatch.TheVariants.Records, declared.log_file.LogFile.LogFile, Contents.IsBatch}
-use Rattle.mt_log.specs.{declared.failed_log.FailedLog.FailedLog, Logs.{Appended, FailedAt, Opened}, Failures.{Reopened, StaysFailed}}
+use Rattle.mt_log.specs.{declared.failed_log.FailedLog.FailedLog, declared.reader.FileKind.TheVariants.Plain, Logs.{Appended, FailedAt, Opened}, Failures.{Reopened, StaysFailed}}
 use Rattle.mt_recover.specs.{declared.resuming.LogSlot.LogSlot, declared.resuming.LogSlot.TheVariants.{Open, Failed, Closed}}
 use Rattle.mt_store_logs.specs.{declared.store_log.StoreLog.StoreLog, Places.{log_with, mark_in, FailsToOpen}}
 use Rattle.mt_rows.specs.declared.refusal.Refusal.TheVariants as refusals
@@ -100,7 +100,7 @@ module _ {D : Type 0} (is_honest : D → Bool) (state : D → DiskState) (failur
 
   -- a closed log's front was read, whatever it is
   abbrev pub IsRead : D → LogFile D → Type 0
-  IsRead disk log = (front : Front) × Opened is_honest state failures disk log front
+  IsRead disk log = (front : Front) × Opened Plain is_honest state failures disk log front
 
   -- a log on which an append failed is opened again by its ends, a closed one by its front
   abbrev pub ReopensAt : LogSlot D → StoreLog D → StoreLog D → Type 0

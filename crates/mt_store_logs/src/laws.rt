@@ -66,7 +66,7 @@ pub fn an_opening_comes_to_rest<D: Disk>()
     ensures opened { (now : LogNow) (old new : LogSlot D) (front : Front) → IsHonest D.is_honest old → Shows D.state now old
         → Opens D.is_honest D.state D.failures (disk_in old) new front
         → MayLeaveFront now (contents_of front) × IsHonest D.is_honest new × Shows D.state (at_rest (contents_of front)) new }
-    ensures failed { (now : LogNow) (e : Refusal) (old new : LogSlot D) → IsHonest D.is_honest old → Shows D.state now old
+    ensures failed { (now : LogNow) (e : Refusal) (old new : LogSlot D) → now.had.generation ≡ 0 → IsHonest D.is_honest old → Shows D.state now old
         → FailsToOpen D.is_honest D.state D.failures e (disk_in old) new
         → IsHonest D.is_honest new × Shows D.state now new × ((number offset : ℕ) → e ≢ refusals.BadLog number offset) }
 {}
