@@ -7,7 +7,7 @@ use Rattle.mt_disk.specs.{declared.mem.MemDisk.MemDisk, Mem.mem_state}
 use Rattle.mt_log.specs.Contents.{mark_of}
 use Rattle.mt_state.specs.{Views.StateView, Histories.Names}
 use Rattle.mt_core.specs.Tickets.{named}
-use Rattle.mt_crashes.{specs.Stores.{Store, LogNow, Reaches, ReachesAt}, proofs.Members.no_some}
+use Rattle.mt_crashes.{specs.Stores.{Store, LogNow, Reaches, ReachesAt}, proofs.{Heart.log_begins_at_0, Members.no_some}}
 use Rattle.mt_recover.specs.{declared.resuming.LogSlot.LogSlot, declared.resuming.LogSlot.TheVariants.{Open, Failed, Closed, Away}}
 use Rattle.mt_store_logs.specs.{declared.store_log.StoreLog.StoreLog, Places.FailsToOpen}
 use Rattle.mt_store_logs.specs.{Waits.{AppendsKept, FailsToAppend, ReopensAt, Reopens, FailsToReopenAt, FailsToReopen}, Flushes.{DrainsIn, KeepsDrained}}
@@ -87,6 +87,10 @@ module _ (accounts : Accounts) (slots : LiveSlots) (standing : Standing) (logs :
   there : slice_get h.s.logs worker ≡ Some now
   unfolding now
   there = (found accounts slots standing logs serving h worker log new here).1
+
+  -- it is the whole log
+  whole : now.had.generation ≡ 0
+  whole = (log_begins_at_0 (length logs) h.come.0 worker h.s now h.some h.few h.come.1 there).0
 
   log_at : IsLogAt h.s v.logs worker now log
   unfolding v now
@@ -186,7 +190,7 @@ module _ (accounts : Accounts) (slots : LiveSlots) (standing : Standing) (logs :
   pub reopen_fails : (e : Refusal) → FailsToReopen keeps_rules mem_state failures_of e log new → Again serving (λ s. Unit {0}) × IsMemoryOrDevice e
   unfolding v
   reopen_fails e f =
-      let o = fails_to_reopen keeps_rules mem_state failures_of now e log new log_at.stands f in
+      let o = fails_to_reopen keeps_rules mem_state failures_of now e log new whole log_at.stands f in
       let mid : LogNow = o.0 in
       let next : LogNow = o.1 in
       let first : GoesTo worker mid h.s = ⊎_elim

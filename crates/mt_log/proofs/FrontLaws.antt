@@ -6,9 +6,9 @@ use Rattle.mt_rows.specs.{Rows.Bytes, declared.record.Batch.Batch}
 use Rattle.mt_disk.{specs.Disk.{DiskState, LeavesOnly, synced}, proofs.CrashLaws.{after_sync, joined, widened}}
 use Rattle.mt_log.specs.{declared.batch.LogBatch.LogBatch, declared.batch.LogBatch.TheVariants.{Records, Resume}}
 use Rattle.mt_log.specs.Format.{beginning, body, told_body, open_batch, batch_bytes}
-use Rattle.mt_log_generations.{specs.{declared.header.Header.Header, Headers.{header_with, header_bytes, IsHeader, FitsEightBytes}}, proofs.HeaderLaws.one_header}
+use Rattle.mt_log_generations.{specs.{declared.header.Header.Header, declared.header.Parity.Parity, Headers.{parity_of, header_with, header_bytes, IsHeader, FitsEightBytes}}, proofs.HeaderLaws.one_header}
 use Rattle.mt_log.specs.Contents.{Contents, AreNumbers, IsContents, IsBatch, IsLogBatch, JoinsAndRises, Rises, from_of, to_of, Join, end_of, log_bytes, with_batch}
-use Rattle.mt_log.specs.{declared.reader.FileKind.FileKind, Fronts.{HasFront, HasNoPlainHeader, IsOfKind, IsBadBeginning, IsBadGate, IsBadLog, IsShut, IsTorn, IsBeforeOrAfter, IsLeft, IsOldOrNew, IsFound}, Reading.batch_at}
+use Rattle.mt_log.specs.{declared.reader.FileKind.FileKind, Fronts.{HasFront, HasNoPlainHeader, IsOfKind, IsOfNoGeneration, IsBadBeginning, IsBadGate, IsBadLog, IsShut, IsTorn, IsBeforeOrAfter, IsLeft, IsOldOrNew, IsFound}, Reading.batch_at}
 use Rattle.mt_log.specs.declared.reader.FileKind.TheVariants as kinds
 use Rattle.mt_log.proofs.BatchLaws.{batch_again}
 
@@ -158,118 +158,32 @@ begins kinds.Plain v w n zero s number x image is under most of whole (inr stran
     let count : n ≡ strange.logs = ap (λ (l : Bytes). get_or l 7 0) e in
     strange.wrong (omega (arith, named, count, under)) (omega (arith, count, most))
 begins kinds.Plain v w n (suc i) s number x image is under most of whole bad = omega (arith, of)
-begins kinds.Numbered v w n zero s number x image is under most of whole bad = omega (arith, of)
-begins kinds.Numbered v w n (suc i) s number x image is under most of whole (inl none) =
+begins (kinds.Numbered parity) v w n zero s number x image is under most of whole bad = omega (arith, of.0)
+begins (kinds.Numbered parity) v w n (suc i) s number x image is under most of whole (inl none) =
     none.0 (header_with w n (suc i) s) x (fits_eight w n (suc i) s is.1 is.2) whole
-begins kinds.Numbered v w n (suc i) s number x image is under most of whole (inr past) =
+begins (kinds.Numbered parity) v w n (suc i) s number x image is under most of whole (inr past) =
     let h = header_with w n (suc i) s in
     let same = one_header h past.header x past.more (fits_eight w n (suc i) s is.1 is.2) past.fits (ap (λ (l : Bytes). drop 1 l) (sym whole ∙ past.whole)) in
     past.wrong (subst IsHeader same (record { worker = under; logs = most; numbered = omega arith; generation = is.1; start = is.2 }))
+    (subst (λ (k : Header). parity_of k.generation ≡ parity) same of.1)
 
 -- the log of a generation begins as no plain one
 no_plain : (v w n i s : ℕ) (x image : Bytes) → 1 ≤ i → image ≡ beginning v w n i s ++ x → HasNoPlainHeader image
 no_plain v w n zero s x image some whole version worker logs more known e = omega (arith, some)
 no_plain v w n (suc i) s x image some whole version worker logs more known e = omega (arith, ap first (sym whole ∙ e))
 
--- ---- one front
-
-one_batch : (version : ℕ) (b c : LogBatch) (x y : Bytes) → IsLogBatch version b → IsLogBatch version c → told_body (body b) ++ x ≡ told_body (body c) ++ y → (b ≡ c) × (x ≡ y)
-one_batch version b c x y is_b is_c e =
-    let same = same_Some (b, x) (c, y) (sym (batch_again version b x is_b) ∙ ap (batch_at version) e ∙ batch_again version c y is_c) in
-    (ap (λ (p : LogBatch × Bytes). p.0) same, ap (λ (p : LogBatch × Bytes). p.1) same)
-
-abbrev first : Bytes → ℕ
-first bytes = get_or bytes 0 0
-
--- batches before a gate that isn't open are these alone
-once : (version : ℕ) (bs cs : List LogBatch) (g k : ℕ) (t u : Bytes) → AllByRecursion (IsLogBatch version) bs → AllByRecursion (IsLogBatch version) cs → g ≢ 1 → k ≢ 1
-    → flat_map batch_bytes bs ++ (g ∷ t) ≡ flat_map batch_bytes cs ++ (k ∷ u) → (bs ≡ cs) × (g ≡ k)
-once version [] [] g k t u join_b join_c shut_g shut_k same = (refl, ap first same)
-once version [] (c ∷ cs) g k t u join_b join_c shut_g shut_k same = absurd (shut_g (ap first same))
-once version (b ∷ bs) [] g k t u join_b join_c shut_g shut_k same = absurd (shut_k (sym (ap first same)))
-once version (b ∷ bs) (c ∷ cs) g k t u join_b join_c shut_g shut_k same =
-    let behind = ap (λ (l : Bytes). drop 1 l) same in
-    let parts = one_batch version b c (flat_map batch_bytes bs ++ (g ∷ t)) (flat_map batch_bytes cs ++ (k ∷ u)) join_b.0 join_c.0
-    (sym (append_assoc (told_body (body b)) (flat_map batch_bytes bs) (g ∷ t)) ∙ behind ∙ append_assoc (told_body (body c)) (flat_map batch_bytes cs) (k ∷ u)) in
-    let rest = once version bs cs g k t u join_b.1 join_c.1 shut_g shut_k parts.1 in
-    ((λ i. parts.0 i ∷ rest.0 i), rest.1)
-
--- and no gate is bad behind them
-clash : (version : ℕ) (bs cs : List LogBatch) (g : ℕ) (t rest : Bytes) → AllByRecursion (IsLogBatch version) bs → AllByRecursion (IsLogBatch version) cs → g ≢ 1 → IsBadGate version rest
-    → flat_map batch_bytes bs ++ (g ∷ t) ≡ flat_map batch_bytes cs ++ rest → ⊥
-clash version [] [] g t rest join_b join_c shut (inl none) same = omega (arith, ap length same, ap length none)
-clash version [] [] g t rest join_b join_c shut (inr bad) same = shut (ap first (same ∙ bad.1))
-clash version [] (c ∷ cs) g t rest join_b join_c shut bad same = shut (ap first same)
-clash version (b ∷ bs) [] g t rest join_b join_c shut (inl none) same = omega (arith, ap length same, ap length none)
-clash version (b ∷ bs) [] g t rest join_b join_c shut (inr bad) same =
-    let behind : (told_body (body b) ++ flat_map batch_bytes bs) ++ (g ∷ t) ≡ bad.0 = ap (λ (l : Bytes). drop 1 l) (same ∙ bad.1) in
-    bad.2 b (flat_map batch_bytes bs ++ (g ∷ t)) join_b.0 (sym behind ∙ append_assoc (told_body (body b)) (flat_map batch_bytes bs) (g ∷ t))
-clash version (b ∷ bs) (c ∷ cs) g t rest join_b join_c shut bad same =
-    let behind = ap (λ (l : Bytes). drop 1 l) same in
-    let parts = one_batch version b c (flat_map batch_bytes bs ++ (g ∷ t)) (flat_map batch_bytes cs ++ rest) join_b.0 join_c.0
-    (sym (append_assoc (told_body (body b)) (flat_map batch_bytes bs) (g ∷ t)) ∙ behind ∙ append_assoc (told_body (body c)) (flat_map batch_bytes cs) rest) in
-    clash version bs cs g t rest join_b.1 join_c.1 shut bad parts.1
-
--- ---- beginnings
-
--- what stands before the first gate of the log of a generation
-pub numbered_bytes : (w n i s : ℕ) → 1 ≤ i → beginning 3 w n i s ≡ 1 ∷ header_bytes (header_with w n i s)
-numbered_bytes w n zero s some = absurd (omega arith)
-numbered_bytes w n (suc i) s some = refl
-
-numbers_fit : (i s : ℕ) → 1 ≤ i → i ≤ 2 ^ 59 → s ≤ 2 ^ 59 → AreNumbers 3 i s
-numbers_fit zero s some most start = absurd (omega arith)
-numbers_fit (suc i) s some most start = (refl, most, start)
-
-pub numbered_limits : (h : Header) → IsHeader h → AreNumbers 3 h.generation h.start
-numbered_limits h is = numbers_fit h.generation h.start is.numbered is.generation is.start
-
--- where the first gate stands
-pub begin_short : (v w n i s : ℕ) → length (beginning v w n i s) ≤ 25
-begin_short v w n zero s = omega arith
-begin_short v w n (suc i) s = omega arith
-
-fits_eight : (w n i s : ℕ) → i ≤ 2 ^ 59 → s ≤ 2 ^ 59 → FitsEightBytes (header_with w n i s)
-fits_eight w n i s most start = record { generation = omega arith; start = omega arith }
-
--- what was read of two beginnings that are the same
-abbrev AreSame : ℕ → ℕ → ℕ → ℕ → ℕ → ℕ → ℕ → ℕ → ℕ → ℕ → Bytes → Bytes → Type 0
-AreSame f v m i s g w n j t x y = (f ≡ g) × (v ≡ w) × (m ≡ n) × (i ≡ j) × (s ≡ t) × (x ≡ y)
-
-same_beginning : (f v m i s g w n j t : ℕ) (x y : Bytes) → AreNumbers f i s → AreNumbers g j t → beginning f v m i s ++ x ≡ beginning g w n j t ++ y
-    → AreSame f v m i s g w n j t x y
-same_beginning f v m zero s g w n zero t x y is_f is_g e =
-    (ap (λ (l : Bytes). get_or l 5 0) e, ap (λ (l : Bytes). get_or l 6 0) e, ap (λ (l : Bytes). get_or l 7 0) e, refl, is_f.1 ∙ sym is_g.1, ap (λ (l : Bytes). drop 8 l) e)
-same_beginning f v m zero s g w n (suc j) t x y is_f is_g e = absurd (omega (arith, ap first e))
-same_beginning f v m (suc i) s g w n zero t x y is_f is_g e = absurd (omega (arith, ap first e))
-same_beginning f v m (suc i) s g w n (suc j) t x y is_f is_g e =
-    let h = header_with v m (suc i) s in
-    let k = header_with w n (suc j) t in
-    let same : h ≡ k = one_header h k x y (fits_eight v m (suc i) s is_f.1 is_f.2) (fits_eight w n (suc j) t is_g.1 is_g.2) (ap (λ (l : Bytes). drop 1 l) e) in (
-      is_f.0 ∙ sym is_g.0,
-      ap (λ (a : Header). a.worker) same,
-      ap (λ (a : Header). a.logs) same,
-      ap (λ (a : Header). a.generation) same,
-      ap (λ (a : Header). a.start) same,
-      ap (λ (l : Bytes). drop 25 l) e,
-    )
-
--- a log's beginning is no bad one
-begins : (v w n i s number : ℕ) (x image : Bytes) → AreNumbers v i s → w < n → n ≤ 64 → image ≡ beginning v w n i s ++ x → IsBadBeginning image number → ⊥
-begins v w n zero s number x image is under most whole (inl none) = none.0.0 v w n x is.0 whole
-begins v w n (suc i) s number x image is under most whole (inl none) =
-    none.0.1 (header_with w n (suc i) s) x (fits_eight w n (suc i) s is.1 is.2) whole
-begins v w n zero s number x image is under most whole (inr (inl strange)) =
-    let e = sym whole ∙ strange.whole in
-    let named : w ≡ number = ap (λ (l : Bytes). get_or l 6 0) e in
-    let of : n ≡ strange.logs = ap (λ (l : Bytes). get_or l 7 0) e in
-    strange.wrong (omega (arith, named, of, under)) (omega (arith, of, most))
-begins v w n (suc i) s number x image is under most whole (inr (inl strange)) = absurd (omega (arith, ap first (sym whole ∙ strange.whole)))
-begins v w n zero s number x image is under most whole (inr (inr past)) = absurd (omega (arith, ap first (sym whole ∙ past.whole)))
-begins v w n (suc i) s number x image is under most whole (inr (inr past)) =
-    let h = header_with w n (suc i) s in
-    let same = one_header h past.header x past.more (fits_eight w n (suc i) s is.1 is.2) past.fits (ap (λ (l : Bytes). drop 1 l) (sym whole ∙ past.whole)) in
-    past.wrong (subst IsHeader same (record { worker = under; logs = most; numbered = omega arith; generation = is.1; start = is.2 }))
+-- and in the file of the other parity as a misplaced one
+misplaced : (parity : Parity) (v w n i s : ℕ) (x image : Bytes) → AreNumbers v i s → 1 ≤ i → parity_of i ≢ parity → image ≡ beginning v w n i s ++ x
+    → IsOfNoGeneration parity image w
+misplaced parity v w n zero s x image is some other whole = absurd (omega (arith, some))
+misplaced parity v w n (suc i) s x image is some other whole = record {
+  header = header_with w n (suc i) s;
+  more = x;
+  fits = fits_eight w n (suc i) s is.1 is.2;
+  whole = whole;
+  wrong = λ within same. other same;
+  named = refl;
+}
 
 -- ---- one front
 
@@ -316,6 +230,13 @@ pub numbered_is_bad : (c : Contents) (image : Bytes) → 1 ≤ c.generation → 
 numbered_is_bad c image some front =
     let whole = front.whole ∙ append_assoc (beginning c.version c.worker c.logs c.generation c.start) (flat_map batch_bytes c.batches) (front.gate ∷ front.behind) in
     inl (inl (no_plain c.version c.worker c.logs c.generation c.start (flat_map batch_bytes c.batches ++ (front.gate ∷ front.behind)) image some whole, refl), refl)
+
+-- nor in the numbered file of the other parity
+pub misplaced_is_bad : (parity : Parity) (c : Contents) (image : Bytes) → 1 ≤ c.generation → parity_of c.generation ≢ parity → HasFront c image
+    → IsBadLog (kinds.Numbered parity) image c.worker 0
+misplaced_is_bad parity c image some other front =
+    let whole = front.whole ∙ append_assoc (beginning c.version c.worker c.logs c.generation c.start) (flat_map batch_bytes c.batches) (front.gate ∷ front.behind) in
+    inl (inr (misplaced parity c.version c.worker c.logs c.generation c.start (flat_map batch_bytes c.batches ++ (front.gate ∷ front.behind)) image front.contents.numbers some other whole), refl)
 
 -- ---- what may be left
 

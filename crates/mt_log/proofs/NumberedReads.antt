@@ -3,7 +3,7 @@ use Rattle.std.proofs.Common.{◌≡◌, inr, ℕ, Bool, IsTrue, ◌∷◌, Opti
 use Rattle.std.{specs.List.slice_get}
 use Rattle.mt_disk.specs.Disk.{DiskState, GoesUp}
 use Rattle.mt_gates.{specs.Gates.{IsGateOf, IsSyncedOrSame}, proofs.Crash.tried_sync}
-use Rattle.mt_log_generations.specs.Calls.{ReadHeader, StillLeaves}
+use Rattle.mt_log_generations.specs.{declared.header.Parity.Parity, Calls.{ReadHeader, StillLeaves}}
 use Rattle.mt_log.specs.{declared.fault.ReadFault.ReadFault, declared.windows.Found.Found}
 use Rattle.mt_log.specs.{Contents.contents_of, Logs.{Opened, GivesDiskBack, fault_with}}
 use Rattle.mt_log.specs.{Numbered.{HasNoLog, GivesNumberedBack, StillLeavesText, text_of}, Settling.{FailsToSettle, FindsNumbered}}
@@ -30,21 +30,21 @@ module _ {D : Type 0} (is_honest : D → Bool) (state : D → DiskState) (failur
   sync_failed new moves up honest = record { moves = λ h opened. moves h; count = up; honest = honest }
 
   -- it was not settled
-  pub not_settled : (new : D) (e : ReadFault) → FailsToSettle is_honest state failures old new e → GivesNumberedBack is_honest state failures old (fault_with new e)
-  not_settled new reads.Device f = (
+  pub not_settled : (parity : Parity) (new : D) (e : ReadFault) → FailsToSettle is_honest state failures old new e → GivesNumberedBack parity is_honest state failures old (fault_with new e)
+  not_settled parity new reads.Device f = (
     λ h c b first some is before. only_synced c b first (state old) (state new) before (f.moves h (left_opens c b (state old).image some (before.now (state old).image before.reads))),
     f.count,
     f.honest,
   )
-  not_settled new reads.Memory f = (
+  not_settled parity new reads.Memory f = (
     λ h c b first some is before. only_synced c b first (state old) (state new) before (f.moves h (left_opens c b (state old).image some (before.now (state old).image before.reads))),
     f.count,
     f.honest,
   )
-  not_settled new (reads.Bad number offset) f = absurd f.count
+  not_settled parity new (reads.Bad number offset) f = absurd f.count
 
   -- and it was not read, or its end not set right
-  pub not_opened : (new : D) (e : ReadFault) → (IsTrue (is_honest old) → slice_get (state old).image 0 ≡ Some 1) → GivesDiskBack kinds.Numbered is_honest state failures old (fault_with new e) → GivesNumberedBack is_honest state failures old (fault_with new e)
-  not_opened new reads.Device opened f = (λ h c b first some is before. f.0 h c b first is before, f.1, f.2)
-  not_opened new reads.Memory opened f = (λ h c b first some is before. f.0 h c b first is before, f.1, f.2)
-  not_opened new (reads.Bad number offset) opened f = (f, opened)
+  pub not_opened : (parity : Parity) (new : D) (e : ReadFault) → (IsTrue (is_honest old) → slice_get (state old).image 0 ≡ Some 1) → GivesDiskBack (kinds.Numbered parity) is_honest state failures old (fault_with new e) → GivesNumberedBack parity is_honest state failures old (fault_with new e)
+  not_opened parity new reads.Device opened f = (λ h c b first some is before. f.0 h c b first is before, f.1, f.2)
+  not_opened parity new reads.Memory opened f = (λ h c b first some is before. f.0 h c b first is before, f.1, f.2)
+  not_opened parity new (reads.Bad number offset) opened f = (f, opened)

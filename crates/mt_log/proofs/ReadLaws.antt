@@ -276,8 +276,8 @@ bad_start_longer kinds.Plain image number offset (inl none, at) =
     inl (inl (λ version worker logs more known e. none.0 version worker logs (take 22 more) known (ap (take 30) e), none.1), at)
 bad_start_longer kinds.Plain image number offset (inr strange, at) =
     inl (inr (record { version = strange.version; known = strange.known; logs = strange.logs; more = strange.more ++ drop 30 image; whole = sym (take-append-drop 30 image) ∙ ap (λ (l : Bytes). l ++ drop 30 image) strange.whole; wrong = strange.wrong }), at)
-bad_start_longer kinds.Numbered image number offset (inl none, at) = inl (inl (λ h more fits e. none.0 h (take 5 more) fits (ap (take 30) e), none.1), at)
-bad_start_longer kinds.Numbered image number offset (inr far, at) =
+bad_start_longer (kinds.Numbered parity) image number offset (inl none, at) = inl (inl (λ h more fits e. none.0 h (take 5 more) fits (ap (take 30) e), none.1), at)
+bad_start_longer (kinds.Numbered parity) image number offset (inr far, at) =
     inl (
       inr (record {
         header = far.header;

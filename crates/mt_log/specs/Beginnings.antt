@@ -7,7 +7,7 @@ use Rattle.mt_log.specs.{Format.beginning, Contents.AreNumbers, Fronts.{IsOfKind
 use Rattle.mt_log.specs.declared.fault.ReadFault.TheVariants as faults
 use Rattle.mt_log.specs.declared.reader.Head.TheVariants as heads
 use Rattle.mt_log.specs.declared.reader.FileKind.TheVariants.{Numbered}
-use Rattle.mt_log_generations.specs.declared.fault.HeaderFault.{HeaderFault}
+use Rattle.mt_log_generations.specs.{declared.fault.HeaderFault.HeaderFault, declared.header.Parity.Parity, Headers.{HasNoHeader, IsPastLimits}}
 use Rattle.mt_log_generations.specs.declared.fault.HeaderFault.TheVariants as headers
 
 -- a gate that isn't open
@@ -55,10 +55,15 @@ pub record IsStart (kind : FileKind) (bytes : Bytes) (s : Start) : Type 0 where
   pub header : BeginsSo bytes s
   pub head : IsHead (drop s.place bytes) s.head
 
--- why no header of format 3 was read after an open outer gate
-abbrev pub IsBadHeader : Bytes → HeaderFault → Type 0
-IsBadHeader bytes headers.Device = ⊥
-IsBadHeader bytes (headers.Bad number) = IsBadBeginning Numbered bytes number
+-- why no header of format 3 was read after an open outer gate: there is none, or one past its limits
+abbrev pub IsNoHeader : Bytes → HeaderFault → Type 0
+IsNoHeader bytes headers.Device = ⊥
+IsNoHeader bytes (headers.Bad number) = (HasNoHeader bytes × (number ≡ 0)) ⊎ IsPastLimits bytes number
+
+-- or it belongs into the other file
+abbrev pub IsBadHeader : Parity → Bytes → HeaderFault → Type 0
+IsBadHeader parity bytes headers.Device = ⊥
+IsBadHeader parity bytes (headers.Bad number) = IsBadBeginning (Numbered parity) bytes number
 
 -- the fault of a header as that of a file: it stands at its front
 abbrev pub fault_of : HeaderFault → ReadFault

@@ -4,7 +4,8 @@ use Rattle.mt_rows.specs.Rows.{Bytes}
 use Rattle.mt_disk.specs.Disk.{DiskState, IsDurable, LeavesOnly}
 use Rattle.mt_log.specs.{declared.batch.LogBatch.LogBatch, declared.reader.FileKind.FileKind, declared.reader.FileKind.TheVariants.{Plain, Numbered}, Format.{header, body, told_body, open_batch, IsVersion}}
 use Rattle.mt_log.specs.Contents.{Contents, IsContents, IsLogBatch, log_bytes, with_batch}
-use Rattle.mt_log_generations.specs.Headers.{HasNoHeader as HasNoNumberedHeader, IsPastLimits}
+use Rattle.mt_log_generations.specs.{declared.header.Header.Header, declared.header.Parity.Parity}
+use Rattle.mt_log_generations.specs.Headers.{header_bytes, parity_of, IsHeader, FitsEightBytes, HasNoHeader as HasNoNumberedHeader}
 
 -- The front of an image: its batches with an open gate, up to the first gate that isn't 01. Whatever
 -- stands behind that gate counts for nothing.
@@ -43,16 +44,26 @@ pub record IsBadAfter (c : Contents) (image : Bytes) : Type 0 where
   pub whole : image ≡ log_bytes c ++ rest
   pub bad : IsBadGate c.version rest
 
--- the log of a plain file is of no generation, that of a numbered file of one from 1 on
+-- the log of a plain file is of no generation, that of a numbered file of one from 1 on that has its parity
 abbrev pub IsOfKind : FileKind → ℕ → Type 0
 IsOfKind Plain generation = generation ≡ 0
-IsOfKind Numbered generation = 1 ≤ generation
+IsOfKind (Numbered parity) generation = (1 ≤ generation) × (parity_of generation ≡ parity)
 
--- No log begins so in a file of this kind: it has no such header, and the number is 0; or one past its limits, and the
--- number is its worker. A plain file has none of format 3, a numbered file no other.
+-- a header of format 3 stands there that names this worker, but some number of it is past its limits, or it belongs into
+-- the other file
+pub record IsOfNoGeneration (parity : Parity) (image : Bytes) (worker : ℕ) : Type 0 where
+  pub header : Header
+  pub more : Bytes
+  pub fits : FitsEightBytes header
+  pub whole : image ≡ 1 ∷ (header_bytes header ++ more)
+  pub wrong : IsHeader header → parity_of header.generation ≡ parity → ⊥
+  pub named : worker ≡ header.worker
+
+-- No log begins so in a file of this kind: it has no such header, and the number is 0; or a wrong one, and the number is
+-- its worker. A plain file has no header of format 3, a numbered file no other.
 abbrev pub IsBadBeginning : FileKind → Bytes → ℕ → Type 0
 IsBadBeginning Plain image number = (HasNoPlainHeader image × (number ≡ 0)) ⊎ IsOfNoLogs image number
-IsBadBeginning Numbered image number = (HasNoNumberedHeader image × (number ≡ 0)) ⊎ IsPastLimits image number
+IsBadBeginning (Numbered parity) image number = (HasNoNumberedHeader image × (number ≡ 0)) ⊎ IsOfNoGeneration parity image number
 
 -- An image that is no log in a file of this kind: at 0 it has no header, or a bad one; or at the gate after a worker's
 -- last good batch it isn't in the format. Then the number is the header's worker.

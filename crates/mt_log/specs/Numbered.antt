@@ -3,7 +3,7 @@ use Rattle.std.specs.Prelude.{◌≡◌, ◌⊎◌, ℕ, ◌<◌, ◌≤◌, Boo
 use Rattle.mt_rows.specs.Rows.{Bytes}
 use Rattle.mt_disk.specs.Disk.{DiskState, LeavesOnly, IsDurable, GoesUp}
 use Rattle.mt_gates.specs.Gates.{IsClosed, IsLeftOf, IsLeftOfEither, IsGivenUp}
-use Rattle.mt_log_generations.specs.{declared.header.Header.Header, Headers.{begun_text, IsNoLog}}
+use Rattle.mt_log_generations.specs.{declared.header.Header.Header, declared.header.Parity.Parity, Headers.{begun_text, IsNoLog}}
 use Rattle.mt_log.specs.{declared.batch.LogBatch.LogBatch, declared.log_file.LogFile.LogFile, declared.numbered_file.Numbered.Numbered, declared.fault.OpenFault.OpenFault}
 use Rattle.mt_log.specs.{Contents.{Contents, IsContents, log_bytes, with_batch}, Fronts.IsLeft, Logs.{IsLogOf, Opened, IsRefused}}
 use Rattle.mt_log.specs.declared.numbered_file.Numbered.TheVariants.{Log, NoLog}
@@ -81,11 +81,6 @@ module _ {D : Type 0} (is_honest : D → Bool) (state : D → DiskState) (failur
     pub count : failures disk ≡ failures old
     pub honest : is_honest disk ≡ is_honest old
 
-  -- what an opening finds in a numbered file
-  abbrev pub OpensNumbered : D → Numbered D → Type 0
-  OpensNumbered old (Log log front) = Opened kinds.Numbered is_honest state failures old log front
-  OpensNumbered old (NoLog disk) = HasNoLog old disk
-
   -- Over an honest disk: whatever may be left of the log of a generation to which a batch was being appended, an opening
   -- leaves that at each of its moments.
   abbrev pub StillLeavesNumbered : D → D → Type 0
@@ -93,9 +88,15 @@ module _ {D : Type 0} (is_honest : D → Bool) (state : D → DiskState) (failur
       IsTrue (is_honest old) → (c : Contents) (b : LogBatch) (first : DiskState) → 1 ≤ c.generation → IsContents (with_batch b c)
       → LeavesOnly (IsLeft c b) first (state old) → LeavesOnly (IsLeft c b) first (state disk)
 
+module _ {D : Type 0} (parity : Parity) (is_honest : D → Bool) (state : D → DiskState) (failures : D → ℕ) where
+  -- what an opening finds in a numbered file
+  abbrev pub OpensNumbered : D → Numbered D → Type 0
+  OpensNumbered old (Log log front) = Opened (kinds.Numbered parity) is_honest state failures old log front
+  OpensNumbered old (NoLog disk) = HasNoLog is_honest state failures old disk
+
   -- what a refused opening of a numbered file gives back; a bad log has an open outer gate
   abbrev pub GivesNumberedBack : D → OpenFault D → Type 0
-  GivesNumberedBack old (opens.Device disk) = StillLeavesNumbered old disk × GoesUp (failures old) (failures disk) × (is_honest disk ≡ is_honest old)
-  GivesNumberedBack old (opens.Memory disk) = StillLeavesNumbered old disk × (failures disk ≡ failures old) × (is_honest disk ≡ is_honest old)
+  GivesNumberedBack old (opens.Device disk) = StillLeavesNumbered is_honest state failures old disk × GoesUp (failures old) (failures disk) × (is_honest disk ≡ is_honest old)
+  GivesNumberedBack old (opens.Memory disk) = StillLeavesNumbered is_honest state failures old disk × (failures disk ≡ failures old) × (is_honest disk ≡ is_honest old)
   GivesNumberedBack old (opens.BadLog disk number offset) =
-      IsRefused kinds.Numbered is_honest state failures old disk number offset × (IsTrue (is_honest old) → slice_get (state old).image 0 ≡ Some 1)
+      IsRefused (kinds.Numbered parity) is_honest state failures old disk number offset × (IsTrue (is_honest old) → slice_get (state old).image 0 ≡ Some 1)

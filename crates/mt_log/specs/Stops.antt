@@ -7,7 +7,7 @@ use Rattle.mt_log.specs.{declared.batch.LogBatch.LogBatch, declared.fault.ReadFa
 use Rattle.mt_log.specs.{declared.windows.AtGate.AtGate, declared.windows.Stop.Stop, declared.windows.Found.Found}
 use Rattle.mt_log.specs.{Format.{body, batch_bytes}, Contents.{IsLogBatch, end_of, IsContents, mark_of, log_bytes, contents_of}}
 use Rattle.mt_log.specs.{Fronts.{IsOfKind, IsBadGate, IsBadLog}, Reading.batch_in}
-pub use Rattle.mt_log.specs.Beginnings.{IsShutGate, IsOpenGate, IsNoHead, IsHead, begin_bytes, BeginsSo, IsWithinLimits, IsStart, IsBadHeader, fault_of, IsBadStart}
+pub use Rattle.mt_log.specs.Beginnings.{IsShutGate, IsOpenGate, IsNoHead, IsHead, begin_bytes, BeginsSo, IsWithinLimits, IsStart, IsNoHeader, IsBadHeader, fault_of, IsBadStart}
 use Rattle.mt_log.specs.declared.fault.ReadFault.TheVariants as faults
 use Rattle.mt_log.specs.declared.windows.AtGate.TheVariants as gates
 

@@ -12,7 +12,7 @@ use crate::reader::{FileKind, NUMBERED_BYTES};
 use crate::windows::{Found, read_front};
 use mt_disk::{DeviceFailed, Disk};
 use mt_gates::{OPEN, SHUT, close_gate, synced_gate};
-use mt_log_generations::begin_generation;
+use mt_log_generations::{Parity, begin_generation};
 use std::alloc::Global;
 
 /// What a numbered file has.
@@ -25,13 +25,18 @@ pub enum Numbered<D: Disk> {
 }
 
 impl<D: Disk> LogFile<D> {
-    /// Opens a numbered file. It has a log if its outer gate is open. A gate that a crash left torn is closed.
-    pub fn open_numbered(alloc: Global, mut disk: D) -> Result<Numbered<D>, OpenFault<D>>
-        ensures ok { IfOk result (OpensNumbered D.is_honest D.state D.failures disk) }
-        ensures err { IfErr result (GivesNumberedBack D.is_honest D.state D.failures disk) }
+    /// Opens the numbered file of this parity. It has a log if its outer gate is open. A gate that a crash left torn is
+    /// closed.
+    pub fn open_numbered(
+        alloc: Global,
+        mut disk: D,
+        parity: Parity,
+    ) -> Result<Numbered<D>, OpenFault<D>>
+        ensures ok { IfOk result (OpensNumbered parity D.is_honest D.state D.failures disk) }
+        ensures err { IfErr result (GivesNumberedBack parity D.is_honest D.state D.failures disk) }
         ensures text { MatchResult result (λ r. StillLeavesText D.is_honest D.state D.failures disk (disk_of r)) (λ e. StillLeavesText D.is_honest D.state D.failures disk (disk_in e)) }
     {
-        match open_numbered_file(alloc, &mut disk) {
+        match open_numbered_file(alloc, &mut disk, parity) {
             Ok(
                 Some(
                     Found {
@@ -109,15 +114,19 @@ fn settled_len<D: Disk>(disk: &mut D) -> Result<Option<usize>, ReadFault>
 }
 
 // Opens a numbered file on its disk.
-fn open_numbered_file<D: Disk>(alloc: Global, disk: &mut D) -> Result<Option<Found>, ReadFault>
-    ensures ok { IfOk result (FindsNumbered D.is_honest D.state D.failures disk.old disk.new) }
-    ensures err { IfErr result (λ e. GivesNumberedBack D.is_honest D.state D.failures disk.old (fault_with disk.new e)) }
+fn open_numbered_file<D: Disk>(
+    alloc: Global,
+    disk: &mut D,
+    parity: Parity,
+) -> Result<Option<Found>, ReadFault>
+    ensures ok { IfOk result (FindsNumbered parity D.is_honest D.state D.failures disk.old disk.new) }
+    ensures err { IfErr result (λ e. GivesNumberedBack parity D.is_honest D.state D.failures disk.old (fault_with disk.new e)) }
     ensures text { StillLeavesText D.is_honest D.state D.failures disk.old disk.new }
 {
     let Some(len) = settled_len(disk)? else {
         return Ok(None);
     };
-    let found = read_front(alloc, disk, FileKind::Numbered, len)?;
+    let found = read_front(alloc, disk, FileKind::Numbered(parity), len)?;
     set_right(disk, found.end, found.gate)?;
     Ok(Some(found))
 }

@@ -2,10 +2,10 @@
 
 ghost use Rattle.std.specs.Prelude.{◌≡◌, ◌<◌, ◌≤◌, ◌^◌, [], ◌∷◌, ◌++◌, ◌↔◌, IsTrue, length, drop, IfSome, IfNone, IfOk, IfErr};
 ghost use Rattle.mt_fields.specs.Reading.{Gives};
-ghost use Rattle.mt_log_generations.specs.Headers.{header_bytes, IsHeader};
+ghost use Rattle.mt_log_generations.specs.Headers.{header_bytes, parity_of, IsHeader};
 ghost use Rattle.mt_log.specs.{Format.{header, IsVersion}, Fronts.HasNoPlainHeader, Reading.{records_at, resume_at, batch_kind_at, batch_in}};
 ghost use Rattle.mt_log.specs.declared.reader.FileKind.{FileKind};
-ghost use Rattle.mt_log.specs.Stops.{IsHead, IsStart, IsBadHeader, IsBadStart, IsBehind};
+ghost use Rattle.mt_log.specs.Stops.{IsHead, IsStart, IsNoHeader, IsBadHeader, IsBadStart, IsBehind};
 
 use crate::fault::{DecodeFault, ReadFault};
 use crate::gate::OPEN;
@@ -13,7 +13,7 @@ use crate::held::ReadBatch;
 use crate::order::is_step;
 use crate::records::spelled_of;
 use mt_fields::{u8_at, u32_at, u64_at};
-use mt_log_generations::{Header, HeaderFault, header_of};
+use mt_log_generations::{Header, HeaderFault, Parity, header_of};
 use std::alloc::{AllocError, Global};
 
 /// The bytes of a header of format 1 or 2.
@@ -31,7 +31,7 @@ pub enum FileKind {
     /// `wal-WW`: its log is of format 1 or 2, and of no generation.
     Plain,
     /// `wal-WW-0` or `wal-WW-1`: its log is of format 3, after an outer gate.
-    Numbered,
+    Numbered(Parity),
 }
 
 /// What stands at a gate, by its first bytes alone.
@@ -79,7 +79,7 @@ pub fn start_of(kind: FileKind, bytes: &[u8]) -> Result<Start, ReadFault>
 {
     match kind {
         FileKind::Plain => plain_start_of(bytes),
-        FileKind::Numbered => numbered_start_of(bytes),
+        FileKind::Numbered(parity) => numbered_start_of(parity, bytes),
     }
 }
 
@@ -113,12 +113,12 @@ fn plain_start_of(bytes: &[u8]) -> Result<Start, ReadFault>
     })
 }
 
-// What the log of a generation begins with.
-fn numbered_start_of(bytes: &[u8]) -> Result<Start, ReadFault>
-    ensures ok { IfOk result (IsStart FileKind.Numbered bytes.now) }
-    ensures err { IfErr result (IsBadStart FileKind.Numbered bytes.now) }
+// What the log of a generation begins with, in the file of this parity.
+fn numbered_start_of(parity: Parity, bytes: &[u8]) -> Result<Start, ReadFault>
+    ensures ok { IfOk result (IsStart (FileKind.Numbered parity) bytes.now) }
+    ensures err { IfErr result (IsBadStart (FileKind.Numbered parity) bytes.now) }
 {
-    let header = numbered_header_of(bytes)?;
+    let header = numbered_header_of(parity, bytes)?;
     let (_, behind) = bytes.split_at(NUMBERED_BYTES);
     let head = head_of(behind);
     Ok(Start {
@@ -132,15 +132,32 @@ fn numbered_start_of(bytes: &[u8]) -> Result<Start, ReadFault>
     })
 }
 
+// The header of format 3 that an open outer gate stands before, of a generation of this parity.
+fn numbered_header_of(parity: Parity, bytes: &[u8]) -> Result<Header, HeaderFault>
+    ensures header { IfOk result IsHeader }
+    ensures place { IfOk result (λ h. parity_of h.generation ≡ parity) }
+    ensures whole { IfOk result (λ h. bytes.now ≡ 1 ∷ (header_bytes h ++ drop 25 bytes.now)) }
+    ensures err { IfErr result (IsBadHeader parity bytes.now) }
+{
+    let header = header_after_gate(bytes)?;
+    if Parity::of(header.generation) != parity {
+        return Err(HeaderFault::Bad(header.worker));
+    }
+    Ok(header)
+}
+
 // The header of format 3 that an open outer gate stands before.
-fn numbered_header_of(bytes: &[u8]) -> Result<Header, HeaderFault>
+fn header_after_gate(bytes: &[u8]) -> Result<Header, HeaderFault>
     ensures header { IfOk result IsHeader }
     ensures whole { IfOk result (λ h. bytes.now ≡ 1 ∷ (header_bytes h ++ drop 25 bytes.now)) }
-    ensures err { IfErr result (IsBadHeader bytes.now) }
+    ensures err { IfErr result (IsNoHeader bytes.now) }
 {
-    let [OPEN, behind @ ..] = bytes else {
+    let [gate, behind @ ..] = bytes else {
         return Err(HeaderFault::Bad(0));
     };
+    if *gate != OPEN {
+        return Err(HeaderFault::Bad(0));
+    }
     match behind.split_first_chunk() {
         Some((header, _)) => header_of(header),
         None => Err(HeaderFault::Bad(0)),

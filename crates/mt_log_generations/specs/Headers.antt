@@ -1,10 +1,14 @@
 -- Format 3 of a log: a numbered file's header, and what such a file is. All numbers have their highest byte first.
-use Rattle.std.specs.{Prelude.{◌≡◌, ◌≢◌, ◌⊎◌, ℕ, ◌<◌, ◌≤◌, ◌^◌, List, [], ◌∷◌, ◌++◌, Option, Some, None}, Int.{to_be_bytes, w64}, List.slice_get}
-use Rattle.mt_log_generations.specs.declared.header.Header.{Header}
+use Rattle.std.specs.{Prelude.{◌≡◌, ◌≢◌, ◌⊎◌, ℕ, ◌<◌, ◌≤◌, ◌^◌, ◌%◌, ◌==◌, if◌then◌else◌, List, [], ◌∷◌, ◌++◌, Option, Some, None}, Int.{to_be_bytes, w64}, List.slice_get}
+use Rattle.mt_log_generations.specs.declared.header.{Header.Header, Parity.Parity, Parity.TheVariants.{Even, Odd}}
 
 -- a header with these numbers
 abbrev pub header_with : ℕ → ℕ → ℕ → ℕ → Header
 header_with worker logs generation start = record { worker = worker; logs = logs; generation = generation; start = start }
+
+-- which of a worker's two files has the log of a generation
+abbrev pub parity_of : ℕ → Parity
+parity_of generation = if generation % 2 == 0 then Even else Odd
 
 -- what follows the outer gate: MTLOG, the format's number, the worker, the number of logs, the generation and the start
 abbrev pub header_bytes : Header → List ℕ

@@ -1,7 +1,7 @@
 //! A header of format 3 as its bytes, and back.
 
 ghost use Rattle.std.specs.Prelude.{◌≡◌, ◌↔◌, IsTrue, IfOk, IfErr};
-ghost use Rattle.mt_log_generations.specs.{declared.header.Header.Header, Headers.{header_bytes, begun_text, IsHeader, FitsEightBytes}, Reading.{IsHeaderIn, AreBad}};
+ghost use Rattle.mt_log_generations.specs.{declared.header.Header.Header, Headers.{header_bytes, begun_text, parity_of, IsHeader, FitsEightBytes}, Reading.{IsHeaderIn, AreBad}};
 
 use crate::fault::HeaderFault;
 
@@ -62,6 +62,28 @@ pub(crate) fn begun(header: Header) -> [u8; 25]
         start[7],
         0,
     ]
+}
+
+/// Which of a worker's two numbered files: generation g has its log in the one that has g's parity.
+#[derive(Clone, Copy, Debug, PartialEq, Eq)]
+pub enum Parity {
+    /// `wal-WW-0`.
+    Even,
+    /// `wal-WW-1`.
+    Odd,
+}
+
+impl Parity {
+    /// That of a generation.
+    pub fn of(generation: u64) -> Parity
+        ensures { result ≡ parity_of generation }
+    {
+        if generation % 2 == 0 {
+            Parity::Even
+        } else {
+            Parity::Odd
+        }
+    }
 }
 
 // Whether each number has its limits.

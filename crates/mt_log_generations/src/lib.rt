@@ -10,6 +10,6 @@ pub mod laws;
 mod log_generation;
 
 pub use fault::HeaderFault;
-pub use header::{Header, header_of};
+pub use header::{Header, Parity, header_of};
 pub use header_file::read_header;
 pub use log_generation::{begin_generation, create_spare, give_up};

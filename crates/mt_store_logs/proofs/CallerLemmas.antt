@@ -554,11 +554,11 @@ module _ {D : Type 0} (is_honest : D → Bool) (state : D → DiskState) where
         (λ mark. absurd (has_it_fails e w log b new (shows.1.mark ∙ mark) f))
         (waits_on now mid b shows.0 left waits)
 
-    stays_closed : (now : LogNow) (e : Refusal) (disk : D) (kept : Option Batch) (new : StoreLog D) → IsTrue (is_honest disk)
+    stays_closed : (now : LogNow) (e : Refusal) (disk : D) (kept : Option Batch) (new : StoreLog D) → now.had.generation ≡ 0 → IsTrue (is_honest disk)
         → IsContents now.had × ShowsClosed state now.had now.doubt disk → WaitsIn now kept
         → StaysClosed is_honest state failures e disk kept new → IsNotReopened now kept e new
-    stays_closed now e disk kept new honest shows waits s =
-        let n = not_opened_on now e disk new.slot honest shows s.fails in (
+    stays_closed now e disk kept new of honest shows waits s =
+        let n = not_opened_on now e disk new.slot of honest shows s.fails in (
           now,
           now,
           inl refl,
@@ -608,26 +608,26 @@ module _ {D : Type 0} (is_honest : D → Bool) (state : D → DiskState) where
         let k = fails_in mid e old new stands f in
         (mid, k.0, inr (record { rests = rests; left = left }), k.1, k.2, k.3, never_bad e old new f, never_out_of_turn mid e old new stands f)
 
-    not_reopened_at : (now : LogNow) (e : Refusal) (w : ℕ) (slot : LogSlot D) (kept : Option Batch) (new : StoreLog D) → IsHonest is_honest slot → Shows state now slot
+    not_reopened_at : (now : LogNow) (e : Refusal) (w : ℕ) (slot : LogSlot D) (kept : Option Batch) (new : StoreLog D) → now.had.generation ≡ 0 → IsHonest is_honest slot → Shows state now slot
         → WaitsIn now kept → FailsToReopenAt is_honest state failures e slot (log_with w slot kept) new → IsNotReopened now kept e new
-    not_reopened_at now e w (Open log) kept new honest shows waits f =
+    not_reopened_at now e w (Open log) kept new of honest shows waits f =
         let stands : Stands is_honest state now (opened_with w log kept) = record { honest = honest; shows = shows; waits = waits } in
         let k = fails_in now e (opened_with w log kept) new stands f in
         (now, k.0, inl refl, k.1, k.2, k.3, never_bad e (opened_with w log kept) new f, never_out_of_turn now e (opened_with w log kept) new stands f)
-    not_reopened_at now e w (Closed disk) kept new honest shows waits (inl s) = stays_closed now e disk kept new honest shows waits s
-    not_reopened_at now e w (Closed disk) kept new honest shows waits (inr o) =
+    not_reopened_at now e w (Closed disk) kept new of honest shows waits (inl s) = stays_closed now e disk kept new of honest shows waits s
+    not_reopened_at now e w (Closed disk) kept new of honest shows waits (inr o) =
         let front = o.opened.0 in
         let opened = opened_on now disk o.log front honest shows o.opened.1 in
         keeps_opened now (at_rest (contents_of front)) e w o.log kept new opened.1 opened.2 opened.0 refl waits o.fails
-    not_reopened_at now e w (Failed old) kept new honest shows waits (inl s) = stays_shut now e old kept new honest shows waits s
-    not_reopened_at now e w (Failed old) kept new honest shows waits (inr o) =
+    not_reopened_at now e w (Failed old) kept new of honest shows waits (inl s) = stays_shut now e old kept new honest shows waits s
+    not_reopened_at now e w (Failed old) kept new of honest shows waits (inr o) =
         let opened = reopened_on now old o.log honest shows o.opened in
         keeps_opened now (at_rest opened.0) e w o.log kept new opened.2 opened.3 opened.1 refl waits o.fails
-    not_reopened_at now e w Away kept new honest shows waits f = absurd honest
+    not_reopened_at now e w Away kept new of honest shows waits f = absurd honest
 
-    pub fails_to_reopen : (now : LogNow) (e : Refusal) (old new : StoreLog D) → Stands is_honest state now old
+    pub fails_to_reopen : (now : LogNow) (e : Refusal) (old new : StoreLog D) → now.had.generation ≡ 0 → Stands is_honest state now old
         → FailsToReopen is_honest state failures e old new → IsNotReopened now old.kept e new
-    fails_to_reopen now e old new stands f = not_reopened_at now e old.worker old.slot old.kept new stands.honest stands.shows stands.waits f
+    fails_to_reopen now e old new of stands f = not_reopened_at now e old.worker old.slot old.kept new of stands.honest stands.shows stands.waits f
 
   -- ---- a drained batch
 

@@ -49,7 +49,7 @@ pub fn a_reopened_log_has_its_batch<D: Disk>()
 /// One that is not, or whose batch is not appended, is as before, or has come to rest first. Its file is in the
 /// format, and its batch not out of turn.
 pub fn a_log_that_is_not_reopened_waits<D: Disk>()
-    ensures { (now : LogNow) (e : Refusal) (old new : StoreLog D) → Stands D.is_honest D.state now old → FailsToReopen D.is_honest D.state D.failures e old new
+    ensures { (now : LogNow) (e : Refusal) (old new : StoreLog D) → now.had.generation ≡ 0 → Stands D.is_honest D.state now old → FailsToReopen D.is_honest D.state D.failures e old new
         → (mid next : LogNow) × (mid ≡ now ⊎ ComesToRest now mid) × Stands D.is_honest D.state next new × IsInDoubt old.kept mid next × (new.kept ≡ old.kept)
         × ((number offset : ℕ) → e ≢ refusals.BadLog number offset) × ((mark : ℕ) → e ≢ refusals.WrongTurn mark) }
 {}
