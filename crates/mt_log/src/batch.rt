@@ -6,6 +6,7 @@ ghost use Rattle.std.specs.Prelude.{◌≡◌, ◌++◌, map, IfOk, OnOk};
 ghost use Rattle.mt_rows.specs.declared.record.Record.{Record as AnyRecord};
 ghost use Rattle.mt_log.specs.Voids.{held_in, joined};
 
+use crate::joining::join_held;
 use crate::records::SpelledRecords;
 use mt_rows::Record;
 use std::alloc::{AllocError, Global};
@@ -179,6 +180,34 @@ impl Front {
         ensures { joined result.items ≡ held_in self.batches.items }
     {
         self.held
+    }
+}
+
+impl Front {
+    ghost use Rattle.mt_log.specs.Contents.{contents_of};
+
+    /// This log with that of the next generation after it: its own beginning, and the batches of both. Whether the next
+    /// one begins where this one ends is not asked.
+    pub fn join(self, alloc: Global, next: Front) -> Result<Front, AllocError>
+        ensures { IfOk result (λ whole. contents_of whole ≡ record (contents_of self) { batches = self.batches.items ++ next.batches.items }) }
+    {
+        let Front {
+            version,
+            worker,
+            logs,
+            generation,
+            start,
+            mut batches,
+            mut held,
+        } = self;
+        let Front {
+            batches: mut next_batches,
+            held: mut next_held,
+            ..
+        } = next;
+        join_held(alloc, &mut held, &batches, &mut next_held, &next_batches)?;
+        batches.append(&mut next_batches)?;
+        Ok(Front::new(version, worker, logs, generation, start, batches, held))
     }
 }
 

@@ -193,8 +193,8 @@ fn hold_records(
     Ok(())
 }
 
-// Lets go of what is held that lies in these ranges.
-fn let_go(
+/// Lets go of what is held that lies in these ranges.
+pub(crate) fn let_go(
     alloc: Global,
     held: &mut [SpelledRecords],
     voids: &[(u64, u64)],
