@@ -1,5 +1,5 @@
 -- What a crash leaves of all logs of a store holds its history up to the cutoff, and nothing else that counts.
-use Rattle.std.proofs.Common.{◌≡◌, ⊎_elim, ℕ, ◌<◌, ◌≤◌, Bool, true, false, not, ltb, List, [], ◌∷◌, length, refl, sym, ◌∙◌, ap, subst, arith, Option, Some, None}
+use Rattle.std.proofs.Common.{◌≡◌, ⊎_elim, inl, ℕ, ◌<◌, ◌≤◌, Bool, true, false, not, ltb, List, [], ◌∷◌, length, refl, sym, ◌∙◌, ap, subst, arith, Option, Some, None}
 use Rattle.std.proofs.{lemmas.Bool.{ltb-false, and_parts, and_from, not-true, not_from_false, true≢false}, lemmas.Option.{same_Some, slice_get_within}}
 use Rattle.std.specs.{Prelude.slice_get, List.AllZip}
 use Rattle.mt_rows.specs.{declared.record.Record.Record, Tenants.{Contents as Pairs}, TenantPairs.{HasTenants, KeepsQuotas}}
