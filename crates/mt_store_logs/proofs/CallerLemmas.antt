@@ -1,15 +1,15 @@
 -- What each contract leaves of a log that stands in a running store, over a disk that keeps the rules.
-use Rattle.std.proofs.Common.{◌≡◌, ◌≢◌, ◌⊎◌, ◌≤◌, ◌^◌, ⊎_elim, inl, inr, ℕ, [], Bool, IsTrue, Option, Some, None, true, refl, sym, ◌∙◌, ap, subst, arith}
-use Rattle.std.proofs.{lemmas.List.append-nil, lemmas.Option.same_Some}
+use Rattle.std.proofs.Common.{◌≡◌, ◌≢◌, ◌⊎◌, ◌≤◌, ◌^◌, ⊎_elim, inl, inr, ℕ, Bool, IsTrue, Option, Some, None, true, refl, sym, ◌∙◌, ap, subst}
+use Rattle.std.proofs.lemmas.Option.{same_Some}
 use Rattle.mt_rows.specs.{Rows.Bytes, declared.record.Batch.Batch, declared.refusal.Refusal.Refusal}
 use Rattle.mt_batches.specs.Batches.{IsInOrder}
-use Rattle.mt_disk.specs.{declared.mem.MemDisk.MemDisk, Disk.{DiskState, Moment, MayLeave, LeavesOnly, found_with, moments}, Mem.mem_state}
+use Rattle.mt_disk.specs.{declared.mem.MemDisk.MemDisk, Disk.{DiskState, LeavesOnly, found_with}, Mem.mem_state}
 use Rattle.mt_log.specs.{declared.batch.Front.Front, declared.batch.LogBatch.LogBatch, declared.batch.LogBatch.TheVariants.{Records, Resume}}
 use Rattle.mt_log.specs.declared.log_file.LogFile.{LogFile}
-use Rattle.mt_log.specs.Contents.{Contents, IsContents, IsLogBatch, Rises, to_of, mark_of, log_bytes, with_batch, no_batches, contents_of}
-use Rattle.mt_log.specs.{Fronts.{IsBadLog, IsLeft, IsAtRest, IsOldOrNew}, declared.failed_log.FailedLog.FailedLog, declared.reader.FileKind.TheVariants.Plain}
-use Rattle.mt_log.specs.{Logs.{IsLogOf, Appended, FailedIn, Opened, StillLeaves, ReadsOldOrNew}, Failures.Reopened}
-use Rattle.mt_log.proofs.{FrontLaws.{front_not_bad, left_front, in_format, in_steps, contents_front, contents_more, added_in_format}, Failures.failed_log}
+use Rattle.mt_log.specs.Contents.{Contents, IsContents, IsLogBatch, Rises, to_of, mark_of, with_batch, no_batches, contents_of}
+use Rattle.mt_log.specs.{Fronts.IsLeft, declared.failed_log.FailedLog.FailedLog, declared.reader.FileKind.TheVariants.Plain}
+use Rattle.mt_log.specs.{Logs.{IsLogOf, Appended, FailedIn, Opened}, Failures.Reopened}
+use Rattle.mt_log.proofs.{FrontLaws.{in_format, in_steps, contents_more}, Failures.failed_log}
 use Rattle.mt_crashes.{specs.Stores.{LogNow, at_rest, MayLeaveFront}, proofs.{Members.no_some, FrontLaws.mark_more, Disks.doubt_left}}
 use Rattle.mt_recover.specs.{declared.resuming.LogSlot.LogSlot, declared.resuming.LogSlot.TheVariants.{Open, Failed, Closed, Away}}
 use Rattle.mt_recover.specs.Resumes.{HasResumed, FailsToResume, HasFailed as ResumeFailed}
@@ -17,45 +17,11 @@ use Rattle.mt_store_logs.specs.{declared.store_log.StoreLog.StoreLog, Places.{lo
 use Rattle.mt_store_logs.specs.Waits.{HasAppended, HasFailed, TakesIn, AppendsKept, ClosesWith, Stays, FailsToAppend, with_kept, opened_with, ReopensAt, StaysClosed, FailsAgain, StaysShut, FailsToReopenAt, Reopens, FailsToReopen}
 use Rattle.mt_store_logs.specs.Crashes.{IsCrashedOn, IsCrashedTo}
 use Rattle.mt_store_logs.specs.Shows.{LeavesEither, ShowsClosed, ShowsFailed, Shows, IsHonest, Waits, WaitsIn, Stands, drained_upto, MayBegin, begun, appended, IsIn, IsInDoubt, ComesToRest}
+use Rattle.mt_log_files.proofs.ShowLaws.{reads, still, not_bad, open_shows, failed_shows}
 use Rattle.mt_slots.specs.Crashes.{IsFoundWith}
 use Rattle.mt_rows.specs.declared.refusal.Refusal.TheVariants as refusals
 
--- ---- a disk as it is
-
--- a disk at rest leaves its log, and so, for every batch, the log with it or without
-at_rest_leaves : (c : Contents) (b : LogBatch) (place : ℕ) (s : DiskState) → IsAtRest (log_bytes c) place s → LeavesOnly (IsLeft c b) s s
-at_rest_leaves c b place s rest =
-    let left : (image : Bytes) → MayLeave s.now image → IsLeft c b image = λ image may.
-    inl (record {
-      gate = 0;
-      behind = [];
-      is_shut = λ e. omega (arith, e);
-      whole = may.untouched (ap (λ (m : Moment). m.dirty) rest.durable) ∙ ap (λ (m : Moment). m.durable) rest.durable ∙ rest.image;
-      torn = λ open_gate. absurd (open_gate refl);
-    }) in
-    record {
-      so_far = record { since = []; goes_on = sym (append-nil (moments s)); each = λ k d within. absurd (omega (arith, within)) };
-      now = left;
-      reads = subst (λ (m : Moment). MayLeave m s.image) (sym rest.durable) (record { untouched = λ none. refl; keeps = λ place within clean. refl });
-    }
-
--- ---- which front an opening reads
-
--- what a batch ends with tells it from another
-pick : (c front : Contents) → IsOldOrNew c (Resume 0 0 0) front → IsOldOrNew c (Resume 0 1 0) front → front ≡ c
-pick c front (inl e) other = e
-pick c front (inr e) (inl f) = f
-pick c front (inr e) (inr f) =
-    let zero = ap mark_of e ∙ mark_more (Resume 0 0 0) c in
-    let one = ap mark_of f ∙ mark_more (Resume 0 1 0) c in
-    absurd (omega (arith, zero, one))
-
--- a front that is the old one or one with a batch, whichever batch, is the old one
-reads_rest : (c front : Contents) → ((b : LogBatch) → IsLogBatch c.version b → IsOldOrNew c b front) → front ≡ c
-reads_rest c front all =
-    pick c front
-    (all (Resume 0 0 0) (record { first = omega arith; last = omega arith; past = omega arith }))
-    (all (Resume 0 1 0) (record { first = omega arith; last = omega arith; past = omega arith }))
+-- ---- what waits
 
 in_doubt_none : (kept : Option Batch) (now : LogNow) → IsInDoubt kept now now
 in_doubt_none None now = refl
@@ -67,55 +33,6 @@ doubted now b x waits some =
     ⊎_elim (λ none. absurd (no_some x (sym none ∙ some))) (λ own. same_Some x (Records b) (sym some ∙ own)) waits.only
 
 module _ {D : Type 0} (is_honest : D → Bool) (state : D → DiskState) where
-  reads : (had : Contents) (doubt : Option LogBatch) (disk : D) (front : Contents) → IsTrue (is_honest disk) → IsContents had
-      → ShowsClosed state had doubt disk → ReadsOldOrNew is_honest state disk front → MayLeaveFront (record { had = had; doubt = doubt }) front
-  reads had None disk front honest is shows told =
-      inl (reads_rest had front (λ b batch. let l = shows b batch in told honest had b l.first (contents_more had b is batch) l.leaves))
-  reads had (Some b) disk front honest is shows told =
-      ⊎_elim inl (λ e. inr (b, refl, e)) (told honest had b shows.1.first (contents_more had b is shows.0) shows.1.leaves)
-
-  still : (had : Contents) (doubt : Option LogBatch) (old disk : D) → IsTrue (is_honest old) → IsContents had → ShowsClosed state had doubt old
-      → StillLeaves is_honest state old disk → ShowsClosed state had doubt disk
-  still had None old disk honest is shows leaves = λ b batch.
-      let l = shows b batch in
-      record { first = l.first; leaves = leaves honest had b l.first (contents_more had b is batch) l.leaves }
-  still had (Some b) old disk honest is shows leaves =
-      let l = shows.1 in
-      (shows.0, record { first = l.first; leaves = leaves honest had b l.first (contents_more had b is shows.0) l.leaves })
-
-  not_bad_either : (had : Contents) (b : LogBatch) (disk : D) (number offset : ℕ) → had.generation ≡ 0 → IsContents had → IsLogBatch had.version b → LeavesEither state had b disk
-      → IsBadLog Plain (state disk).image number offset → ⊥
-  not_bad_either had b disk number offset of is batch l bad =
-      let image = (state disk).image in
-      ⊎_elim
-      (λ front. front_not_bad Plain had image number offset of front bad)
-      (λ front. front_not_bad Plain (with_batch b had) image number offset of front bad)
-      (left_front had b image (contents_more had b is batch) (l.leaves.now image l.leaves.reads))
-
-  not_bad : (had : Contents) (doubt : Option LogBatch) (disk : D) (number offset : ℕ) → had.generation ≡ 0 → IsContents had → ShowsClosed state had doubt disk
-      → IsBadLog Plain (state disk).image number offset → ⊥
-  not_bad had None disk number offset of is shows bad =
-      let batch : IsLogBatch had.version (Resume 0 0 0) = record { first = omega arith; last = omega arith; past = omega arith } in
-      not_bad_either had (Resume 0 0 0) disk number offset of is batch (shows (Resume 0 0 0) batch) bad
-  not_bad had (Some b) disk number offset of is shows bad = not_bad_either had b disk number offset of is shows.0 shows.1 bad
-
-  -- the disk of an open log, as if it were closed
-  open_shows : (now : LogNow) (log : LogFile D) → Shows state now (Open log) → IsContents now.had × ShowsClosed state now.had now.doubt log.disk
-  open_shows now log shows = (
-    shows.1.contents,
-    subst (λ d. ShowsClosed state now.had d log.disk) (sym shows.0)
-        (λ b batch. record { first = state log.disk; leaves = at_rest_leaves now.had b log.end (state log.disk) shows.1.rest }),
-  )
-
-  -- the disk of a log on which an append failed, as if it were closed
-  failed_shows : (now : LogNow) (log : FailedLog D) → ShowsFailed state now log → IsContents now.had × ShowsClosed state now.had now.doubt log.disk
-  failed_shows now log shows =
-      let f = shows.failed in (
-        contents_front now.had shows.batch f.contents,
-        subst (λ d. ShowsClosed state now.had d log.disk) (sym shows.in_doubt)
-            (added_in_format now.had shows.batch f.contents, record { first = shows.first; leaves = f.leaves }),
-      )
-
   -- ---- openings
 
   module _ (failures : D → ℕ) where
@@ -125,12 +42,12 @@ module _ {D : Type 0} (is_honest : D → Bool) (state : D → DiskState) where
     opened_on : (now : LogNow) (disk : D) (log : LogFile D) (front : Front) → IsTrue (is_honest disk)
         → IsContents now.had × ShowsClosed state now.had now.doubt disk → Opened Plain is_honest state failures disk log front → IsOpened now (Open log) front
     opened_on now disk log front honest shows opened =
-        (reads now.had now.doubt disk (contents_of front) honest shows.0 shows.1 opened.reads, subst IsTrue (sym opened.honest) honest, (refl, opened.has honest))
+        (reads is_honest state now.had now.doubt disk (contents_of front) honest shows.0 shows.1 opened.reads, subst IsTrue (sym opened.honest) honest, (refl, opened.has honest))
 
     pub opens : (now : LogNow) (old new : LogSlot D) (front : Front) → IsHonest is_honest old → Shows state now old
         → Opens is_honest state failures (disk_in old) new front → IsOpened now new front
-    opens now (Open old) (Open log) front honest shows opened = opened_on now old.disk log front honest (open_shows now old shows) opened
-    opens now (Failed old) (Open log) front honest shows opened = opened_on now old.disk log front honest (failed_shows now old shows) opened
+    opens now (Open old) (Open log) front honest shows opened = opened_on now old.disk log front honest (open_shows is_honest state now old shows) opened
+    opens now (Failed old) (Open log) front honest shows opened = opened_on now old.disk log front honest (failed_shows is_honest state now old shows) opened
     opens now (Closed disk) (Open log) front honest shows opened = opened_on now disk log front honest shows opened
     opens now (Open old) (Failed new) front honest shows opened = absurd opened
     opens now (Failed old) (Failed new) front honest shows opened = absurd opened
@@ -149,15 +66,15 @@ module _ {D : Type 0} (is_honest : D → Bool) (state : D → DiskState) where
     not_bad_log : (now : LogNow) (e : Refusal) (old disk : D) → now.had.generation ≡ 0 → IsTrue (is_honest old) → IsContents now.had × ShowsClosed state now.had now.doubt old
         → FailsOn is_honest state failures e old disk → (number offset : ℕ) → e ≢ refusals.BadLog number offset
     not_bad_log now e old disk of honest shows fails number offset same =
-        not_bad now.had now.doubt old number offset of shows.0 shows.1 ((subst (λ x. FailsOn is_honest state failures x old disk) same fails).bad honest)
+        not_bad is_honest state Plain now.had now.doubt old number offset of shows.0 shows.1 ((subst (λ x. FailsOn is_honest state failures x old disk) same fails).bad honest)
 
     not_on : (now : LogNow) (e : Refusal) (old disk : D) → now.had.generation ≡ 0 → IsTrue (is_honest old) → IsContents now.had × ShowsClosed state now.had now.doubt old
         → FailsOn is_honest state failures e old disk → IsTrue (is_honest disk) × (IsContents now.had × ShowsClosed state now.had now.doubt disk)
     not_on now refusals.Device old disk of honest shows fails =
-        (subst IsTrue (sym fails.2) honest, (shows.0, still now.had now.doubt old disk honest shows.0 shows.1 fails.0))
+        (subst IsTrue (sym fails.2) honest, (shows.0, still is_honest state now.had now.doubt old disk honest shows.0 shows.1 fails.0))
     not_on now refusals.Memory old disk of honest shows fails =
-        (subst IsTrue (sym fails.2) honest, (shows.0, still now.had now.doubt old disk honest shows.0 shows.1 fails.0))
-    not_on now (refusals.BadLog n o) old disk of honest shows fails = absurd (not_bad now.had now.doubt old n o of shows.0 shows.1 (fails.bad honest))
+        (subst IsTrue (sym fails.2) honest, (shows.0, still is_honest state now.had now.doubt old disk honest shows.0 shows.1 fails.0))
+    not_on now (refusals.BadLog n o) old disk of honest shows fails = absurd (not_bad is_honest state Plain now.had now.doubt old n o of shows.0 shows.1 (fails.bad honest))
     not_on now refusals.KeyLong old disk of honest shows fails = absurd fails
     not_on now refusals.TenantThere old disk of honest shows fails = absurd fails
     not_on now (refusals.NoTenant t) old disk of honest shows fails = absurd fails
@@ -193,8 +110,8 @@ module _ {D : Type 0} (is_honest : D → Bool) (state : D → DiskState) where
 
     pub fails_to_open : (now : LogNow) (e : Refusal) (old new : LogSlot D) → now.had.generation ≡ 0 → IsHonest is_honest old → Shows state now old
         → FailsToOpen is_honest state failures e (disk_in old) new → IsNotOpened now e new
-    fails_to_open now e (Open old) new of honest shows fails = not_opened_on now e old.disk new of honest (open_shows now old shows) fails
-    fails_to_open now e (Failed old) new of honest shows fails = not_opened_on now e old.disk new of honest (failed_shows now old shows) fails
+    fails_to_open now e (Open old) new of honest shows fails = not_opened_on now e old.disk new of honest (open_shows is_honest state now old shows) fails
+    fails_to_open now e (Failed old) new of honest shows fails = not_opened_on now e old.disk new of honest (failed_shows is_honest state now old shows) fails
     fails_to_open now e (Closed old) new of honest shows fails = not_opened_on now e old new of honest shows fails
     fails_to_open now e Away new of honest shows fails = absurd honest
 

@@ -2,11 +2,11 @@
 use Rattle.std.specs.Prelude.{◌≡◌, ℕ, ◌+◌, Bool, List, [], ◌∷◌, length, map, Option, Some, None, slice_get}
 use Rattle.mt_rows.specs.{declared.record.Batch.Batch, declared.refusal.Refusal.Refusal}
 use Rattle.mt_disk.specs.Disk.{DiskState, GoesUp}
-use Rattle.mt_log.specs.{declared.batch.Front.Front, declared.reader.FileKind.TheVariants.Plain, Logs.{Created, Opened, GivesDiskBack}}
+use Rattle.mt_log.specs.{declared.batch.Front.Front, Logs.Created}
+pub use Rattle.mt_log_files.specs.Slots.{disk_in, Opens, FailsOn, FailsToOpen}
 use Rattle.mt_recover.specs.{declared.resuming.LogSlot.LogSlot, declared.resuming.LogSlot.TheVariants.{Open, Failed, Closed, Away}}
 use Rattle.mt_store_logs.specs.{declared.fault.LogRefusal.LogRefusal, declared.store_log.StoreLog.StoreLog, Lists.{Each, StopsAt}}
 use Rattle.mt_rows.specs.declared.refusal.Refusal.TheVariants as refusals
-use Rattle.mt_log.specs.declared.fault.OpenFault.TheVariants as opens
 
 -- a worker's log, and the batch that waits for it, if one does
 abbrev pub log_with : {D : Type 0} → ℕ → LogSlot D → Option Batch → StoreLog D
@@ -18,13 +18,6 @@ mark_in (Open log) = Some log.mark
 mark_in (Failed log) = None
 mark_in (Closed disk) = None
 mark_in Away = None
-
--- the disk of a log
-abbrev pub disk_in : {D : Type 0} → LogSlot D → Option D
-disk_in (Open log) = Some log.disk
-disk_in (Failed log) = Some log.disk
-disk_in (Closed disk) = Some disk
-disk_in Away = None
 
 -- whose logs these are
 abbrev pub workers_of : {D : Type 0} → List (StoreLog D) → List ℕ
@@ -43,31 +36,13 @@ abbrev pub closed_on : {D : Type 0} → List D → List (StoreLog D)
 closed_on disks = closed_from 0 disks
 
 module _ {D : Type 0} (is_honest : D → Bool) (state : D → DiskState) (failures : D → ℕ) where
-  -- a disk was opened, and gave this front
-  abbrev pub Opens : Option D → LogSlot D → Front → Type 0
-  Opens (Some disk) (Open log) front = Opened Plain is_honest state failures disk log front
-  Opens disk slot front = ⊥
-
-  -- why it was not
-  abbrev pub FailsOn : Refusal → D → D → Type 0
-  FailsOn refusals.Device old disk = GivesDiskBack Plain is_honest state failures old (opens.Device disk)
-  FailsOn refusals.Memory old disk = GivesDiskBack Plain is_honest state failures old (opens.Memory disk)
-  FailsOn (refusals.BadLog number offset) old disk = GivesDiskBack Plain is_honest state failures old (opens.BadLog disk number offset)
-  FailsOn e old disk = ⊥
-
-  -- it was not: it is closed, or there is none
-  abbrev pub FailsToOpen : Refusal → Option D → LogSlot D → Type 0
-  FailsToOpen e (Some old) (Closed disk) = FailsOn e old disk
-  FailsToOpen e None Away = e ≡ refusals.Device
-  FailsToOpen e disk slot = ⊥
-
   -- a log was opened, and no batch waits for it
   abbrev pub OpensLog : StoreLog D → StoreLog D → Front → Type 0
-  OpensLog old new front = Opens (disk_in old.slot) new.slot front × (new.kept ≡ None)
+  OpensLog old new front = Opens is_honest state failures (disk_in old.slot) new.slot front × (new.kept ≡ None)
 
   -- it was not
   abbrev pub FailsToOpenLog : Refusal → StoreLog D → StoreLog D → Type 0
-  FailsToOpenLog e old new = FailsToOpen e (disk_in old.slot) new.slot × (new.kept ≡ None)
+  FailsToOpenLog e old new = FailsToOpen is_honest state failures e (disk_in old.slot) new.slot × (new.kept ≡ None)
 
   -- the log at a place was opened, and gave the front there
   abbrev pub OpensAs : List Front → ℕ → StoreLog D → StoreLog D → Type 0

@@ -4,8 +4,9 @@ ghost use Rattle.std.specs.Prelude.{◌≡◌, ◌↔◌, true, false, IsTrue, I
 ghost use Rattle.mt_disk.specs.{Disk.MayLeave, Mem.mem_state};
 ghost use Rattle.mt_store_logs.specs.{Places.workers_of, Crashes.{MayLeaveLog, MayLeaveLogs, IsCrashed, IsCrashedTo, AreCrashed, HasItsDisk, AreLeftOrCrashed}};
 
-use crate::store_log::{StoreLog, take_disk};
+use crate::store_log::StoreLog;
 use mt_disk::MemDisk;
+use mt_log_files::take_disk;
 use mt_recover::LogSlot;
 use std::alloc::{AllocError, Global};
 

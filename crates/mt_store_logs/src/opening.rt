@@ -5,10 +5,11 @@ ghost use Rattle.mt_recover.specs.declared.resuming.LogSlot.TheVariants.{Away};
 ghost use Rattle.mt_store_logs.specs.Places.{workers_of, closed_on, OpensLog, FailsToOpenLog, OpensAll, StopsOpening, Makes, FailsToMake, MakesLog, FailsToMakeLog, MakesAll, StopsMaking};
 
 use crate::fault::LogRefusal;
-use crate::store_log::{StoreLog, open_slot, take_disk};
+use crate::store_log::StoreLog;
 use crate::watching::{NoWatch, Watch};
 use mt_disk::{DeviceFailed, Disk};
 use mt_log::{Front, LogFile};
+use mt_log_files::{open_slot, take_disk};
 use mt_recover::LogSlot;
 use mt_rows::Refusal;
 use std::alloc::{AllocError, Global};

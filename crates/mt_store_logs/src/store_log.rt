@@ -4,13 +4,14 @@ ghost use Rattle.std.specs.Prelude.{◌≡◌, ◌↔◌, ◌≢◌, None, Some,
 ghost use Rattle.mt_batches.specs.Batches.{IsBounded};
 ghost use Rattle.mt_log.specs.Contents.{IsBatch};
 ghost use Rattle.mt_recover.specs.{declared.resuming.LogSlot.LogSlot, declared.resuming.LogSlot.TheVariants.{Open, Failed, Closed}};
-ghost use Rattle.mt_store_logs.specs.Places.{log_with, mark_in, disk_in, Opens, FailsToOpen};
+ghost use Rattle.mt_store_logs.specs.Places.{log_with, mark_in};
 ghost use Rattle.mt_store_logs.specs.Waits.{AppendsKept, FailsToAppend, AppendsNew, FailsToAppendNew, opened_with, Reopens, FailsToReopen};
 
 use mt_disk::Disk;
 use mt_drains::DrainedBatch;
 use mt_log::laws::a_bounded_batch_is_taken;
-use mt_log::{AppendFault, FailedLog, Front, LogFile, OpenFault};
+use mt_log::{AppendFault, FailedLog, LogFile};
+use mt_log_files::open_disk;
 use mt_recover::LogSlot;
 use mt_rows::{Batch, Refusal};
 use std::alloc::Global;
@@ -298,67 +299,5 @@ fn kept_by<D: Disk + Drop>(
             kept: Some(WaitingBatch::new(batch)),
         },
         told: Err(fault),
-    }
-}
-
-// The disk of a log, which is away then.
-pub(crate) fn take_disk<D: Disk + Drop>(slot: &mut LogSlot<D>) -> Option<D>
-    ensures disk { result ≡ disk_in slot.old }
-    ensures away { slot.new ≡ LogSlot.Away }
-{
-    match mem::replace(slot, LogSlot::Away) {
-        LogSlot::Open(log) => Some(log.into_disk()),
-        LogSlot::Failed(log) => Some(log.into_disk()),
-        LogSlot::Closed(disk) => Some(disk),
-        LogSlot::Away => None,
-    }
-}
-
-// Opens a log's disk, whatever the log was, and gives its front.
-pub(crate) fn open_slot<D: Disk + Drop>(
-    alloc: Global,
-    slot: &mut LogSlot<D>,
-) -> Result<Front, Refusal>
-    ensures ok { IfOk result (λ front. Opens D.is_honest D.state D.failures (disk_in slot.old) slot.new front) }
-    ensures err { IfErr result (λ e. FailsToOpen D.is_honest D.state D.failures e (disk_in slot.old) slot.new) }
-{
-    match take_disk(slot) {
-        Some(disk) => open_disk(alloc, disk, slot),
-        None => Err(Refusal::Device),
-    }
-}
-
-// Opens a disk into an empty place.
-fn open_disk<D: Disk + Drop>(
-    alloc: Global,
-    disk: D,
-    slot: &mut LogSlot<D>,
-) -> Result<Front, Refusal>
-    ensures ok { IfOk result (λ front. Opens D.is_honest D.state D.failures (Some disk) slot.new front) }
-    ensures err { IfErr result (λ e. FailsToOpen D.is_honest D.state D.failures e (Some disk) slot.new) }
-{
-    match LogFile::open(alloc, disk) {
-        Ok((log, front)) => {
-            *slot = LogSlot::Open(log);
-            Ok(front)
-        }
-        Err(OpenFault::Device(disk)) => {
-            *slot = LogSlot::Closed(disk);
-            Err(Refusal::Device)
-        }
-        Err(OpenFault::Memory(disk)) => {
-            *slot = LogSlot::Closed(disk);
-            Err(Refusal::Memory)
-        }
-        Err(
-            OpenFault::BadLog {
-                disk,
-                number,
-                offset,
-            },
-        ) => {
-            *slot = LogSlot::Closed(disk);
-            Err(Refusal::BadLog { number, offset })
-        }
     }
 }

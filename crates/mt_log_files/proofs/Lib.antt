@@ -1,0 +1,4 @@
+pub mod Refused
+pub mod ShowLaws
+pub mod FileLaws
+pub mod WorkerLaws

@@ -1,0 +1,4 @@
+pub mod Slots
+pub mod Shows
+pub mod Files
+pub mod Workers

@@ -1,0 +1,112 @@
+//! The place of a numbered file: its log opened, begun and given up.
+
+ghost use Rattle.std.specs.Prelude.{◌≡◌, Some, IfOk, IfErr, OnOk, OnErr};
+ghost use Rattle.mt_log_generations.specs.Headers.{header_with, IsHeader};
+ghost use Rattle.mt_log_files.specs.Slots.{disk_in, OpensNumbered, FailsToOpenNumbered, Begins, NotBegun, GivesUp, NotGivenUp};
+
+use crate::plain::{parts_of, take_disk};
+use mt_disk::{DeviceFailed, Disk};
+use mt_log::{Front, LogFile, Numbered};
+use mt_log_generations::{Header, Parity};
+use mt_recover::LogSlot;
+use mt_rows::Refusal;
+use std::alloc::Global;
+
+/// Opens the numbered file of this parity, whatever its place was. If it has a log, its front is given; else the place is
+/// closed, as it is at an error.
+pub fn open_numbered<D: Disk + Drop>(
+    alloc: Global,
+    slot: &mut LogSlot<D>,
+    parity: Parity,
+) -> Result<Option<Front>, Refusal>
+    ensures ok { IfOk result (OpensNumbered D.is_honest D.state D.failures parity (disk_in slot.old) slot.new) }
+    ensures err { IfErr result (λ e. FailsToOpenNumbered D.is_honest D.state D.failures parity e (disk_in slot.old) slot.new) }
+{
+    match take_disk(slot) {
+        Some(disk) => open_numbered_disk(alloc, disk, slot, parity),
+        None => Err(Refusal::Device),
+    }
+}
+
+// Opens a disk into an empty place.
+fn open_numbered_disk<D: Disk + Drop>(
+    alloc: Global,
+    disk: D,
+    slot: &mut LogSlot<D>,
+    parity: Parity,
+) -> Result<Option<Front>, Refusal>
+    ensures ok { IfOk result (OpensNumbered D.is_honest D.state D.failures parity (Some disk) slot.new) }
+    ensures err { IfErr result (λ e. FailsToOpenNumbered D.is_honest D.state D.failures parity e (Some disk) slot.new) }
+{
+    match LogFile::open_numbered(alloc, disk, parity) {
+        Ok(Numbered::Log(log, front)) => {
+            *slot = LogSlot::Open(log);
+            Ok(Some(front))
+        }
+        Ok(Numbered::NoLog(disk)) => {
+            *slot = LogSlot::Closed(disk);
+            Ok(None)
+        }
+        Err(fault) => {
+            let (disk, refusal) = parts_of(fault);
+            *slot = LogSlot::Closed(disk);
+            Err(refusal)
+        }
+    }
+}
+
+/// Begins the log of a generation in a spare file. An error is of the disk: the place is closed, and the log may be there or
+/// not.
+pub fn begin<D: Disk + Drop>(slot: &mut LogSlot<D>, header: Header) -> Result<(), DeviceFailed>
+    requires { IsHeader header }
+    ensures ok { OnOk result (Begins D.is_honest D.state D.failures header (disk_in slot.old) slot.new) }
+    ensures err { OnErr result (NotBegun D.is_honest D.state D.failures header (disk_in slot.old) slot.new) }
+{
+    match take_disk(slot) {
+        Some(disk) => begin_on(disk, slot, header),
+        None => Err(DeviceFailed),
+    }
+}
+
+// Begins it on a disk, into an empty place.
+fn begin_on<D: Disk + Drop>(
+    disk: D,
+    slot: &mut LogSlot<D>,
+    header: Header,
+) -> Result<(), DeviceFailed>
+    requires { IsHeader header }
+    ensures ok { OnOk result (Begins D.is_honest D.state D.failures header (Some disk) slot.new) }
+    ensures err { OnErr result (NotBegun D.is_honest D.state D.failures header (Some disk) slot.new) }
+{
+    match LogFile::begin(
+        disk,
+        header.worker,
+        header.logs,
+        header.generation,
+        header.start,
+    ) {
+        Ok(log) => {
+            *slot = LogSlot::Open(log);
+            Ok(())
+        }
+        Err((failed, disk)) => {
+            *slot = LogSlot::Closed(disk);
+            Err(failed)
+        }
+    }
+}
+
+/// Gives a file up, whatever it has: it is spare then. An error is of the disk: a log may be there or not.
+pub fn give_up<D: Disk + Drop>(slot: &mut LogSlot<D>) -> Result<(), DeviceFailed>
+    ensures ok { OnOk result (GivesUp D.is_honest D.state D.failures (disk_in slot.old) slot.new) }
+    ensures err { OnErr result (NotGivenUp D.is_honest D.state D.failures (disk_in slot.old) slot.new) }
+{
+    match take_disk(slot) {
+        Some(mut disk) => {
+            let given_up = mt_log_generations::give_up(&mut disk);
+            *slot = LogSlot::Closed(disk);
+            given_up
+        }
+        None => Err(DeviceFailed),
+    }
+}
