@@ -2,7 +2,7 @@
 //! then leave, opened again; each call failing once, and the appends going on.
 
 use crate::logs::{EMPTY, Told, disk_with, go_on, opened, opened_on};
-use mt_disk::MemDisk;
+use mt_disk::{Disk, MemDisk};
 use std::alloc::{AllocError, Global};
 use std::test::Fail;
 

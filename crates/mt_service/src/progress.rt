@@ -3,7 +3,7 @@
 ghost use Rattle.std.specs.Prelude.{◌≡◌, length};
 
 use log::{Log, warn};
-use mt_disk::FileDisk;
+use mt_disk::{Disk, FileDisk};
 use mt_store_logs::Watch;
 use std::time::{Clock, Instant};
 

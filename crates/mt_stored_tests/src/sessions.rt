@@ -6,6 +6,7 @@ use log::Log;
 use mt_book::BookLock;
 use mt_rows::{Column, ColumnIndexes, Command, Key, NamedColumns, Refusal, Reply};
 use mt_service::DeskCaller;
+use mt_session::Caller;
 use mt_stored::SharedLogs;
 use std::alloc::{AllocError, Global};
 use std::sync::Wait;

@@ -1,0 +1,180 @@
+//! The log of generation 1 in its numbered file: begun, appended to, opened again, joined and given up. What is no log there,
+//! or in a plain file.
+
+ghost use Rattle.std.specs.Prelude.{◌≡◌};
+
+use crate::logs::{EMPTY, Told, append, disk_with, not_opened, opened};
+use mt_disk::MemDisk;
+use mt_log::{Front, LogFile};
+use mt_log_files::{begin, give_up, open_numbered, open_slot, take_disk};
+use mt_log_generations::{Header, Parity};
+use mt_recover::{LogSlot, cutoff};
+use mt_rows::Refusal;
+use std::alloc::{AllocError, Global};
+use std::test::Fail;
+
+// Worker 1 of 2, generation 1, from step 6 on, without batches.
+const BEGUN: [u8; 26] = [
+    1, 0x4d, 0x54, 0x4c, 0x4f, 0x47, 3, 1, 2, 0, 0, 0, 0, 0, 0, 0, 1, 0, 0, 0, 0, 0, 0, 0, 6, 0,
+];
+
+const HEADER: Header = Header {
+    worker: 1,
+    logs: 2,
+    generation: 1,
+    start: 6,
+};
+
+// What an opening tells: the generation, the start and the number of batches of its log, or that it has none.
+#[derive(Clone, Copy, Debug, PartialEq, Eq)]
+enum Found {
+    Log(u64, u64, usize),
+    NoLog,
+    Bad(u8, u64),
+    Failed,
+}
+
+// The place of a file with these bytes, one call of whose disk fails.
+fn place_with(alloc: Global, image: &[u8], fail: u64) -> Result<LogSlot<MemDisk>, AllocError> {
+    Ok(LogSlot::Closed(disk_with(alloc, image, fail, 99)?))
+}
+
+fn found_of(told: Result<Option<Front>, Refusal>) -> Found {
+    match told {
+        Ok(Some(front)) => Found::Log(front.generation, front.start, front.batches.len()),
+        Ok(None) => Found::NoLog,
+        Err(Refusal::BadLog { number, offset }) => Found::Bad(number, offset),
+        Err(_) => Found::Failed,
+    }
+}
+
+// What a place's file has.
+fn image_of(alloc: Global, slot: &mut LogSlot<MemDisk>) -> Result<Vec<u8>, AllocError> {
+    match take_disk(slot) {
+        Some(disk) => {
+            let image = disk.image().to_vec(alloc)?;
+            *slot = LogSlot::Closed(disk);
+            Ok(image)
+        }
+        None => Ok(Vec::new(alloc)),
+    }
+}
+
+// Appends a batch from the log's mark up to a step, if the place is open.
+fn append_to(alloc: Global, slot: &mut LogSlot<MemDisk>, to: u64) -> Result<(), Told> {
+    match std::mem::replace(slot, LogSlot::Away) {
+        LogSlot::Open(log) => {
+            let from = log.mark();
+            match append(alloc, log, from, to, to) {
+                Ok(log) => {
+                    *slot = LogSlot::Open(log);
+                    Ok(())
+                }
+                Err((disk, told)) => {
+                    *slot = LogSlot::Closed(disk);
+                    Err(told)
+                }
+            }
+        }
+        other => {
+            *slot = other;
+            Err(Told::Device)
+        }
+    }
+}
+
+#[test]
+fn a_generation_is_begun_appended_to_joined_and_given_up(rt: HostRuntime) -> Result<(), Fail> {
+    let alloc = rt.alloc();
+    let mut first = place_with(alloc, &EMPTY, 0)?;
+    let plain = open_slot(alloc, &mut first).is_ok();
+    assert!(rt; plain && append_to(alloc, &mut first, 6).is_ok());
+    let mut next = place_with(alloc, &[0], 0)?;
+    assert!(rt; found_of(open_numbered(alloc, &mut next, Parity::Odd)) == Found::NoLog);
+    assert!(rt; begin(&mut next, HEADER).is_ok());
+    assert!(rt; image_of(alloc, &mut next)?.as_slice() == BEGUN.as_slice());
+    assert!(rt; found_of(open_numbered(alloc, &mut next, Parity::Odd)) == Found::Log(1, 6, 0));
+    assert!(rt; append_to(alloc, &mut next, 9).is_ok());
+    let older = open_slot(alloc, &mut first).expect(&rt, "the older log opens");
+    let newer = open_numbered(alloc, &mut next, Parity::Odd).expect(&rt, "the next log opens");
+    let newer = newer.expect(&rt, "the next log is there");
+    assert!(rt; newer.generation == 1 && newer.start == 6 && newer.batches.len() == 1);
+    let chain = older.join(alloc, newer)?;
+    assert!(rt; chain.generation == 0 && chain.start == 0 && chain.batches.len() == 2);
+    assert!(rt; chain.records(alloc)?.len() == 2);
+    assert!(rt; cutoff(&[chain]) == 9);
+    assert!(rt; give_up(&mut next).is_ok());
+    assert!(rt; image_of(alloc, &mut next)?.as_slice() == [0].as_slice());
+    assert!(rt; found_of(open_numbered(alloc, &mut next, Parity::Odd)) == Found::NoLog);
+    Ok(())
+}
+
+// A beginning makes eight calls of the disk, and then a giving up seven. One that failed is made once more, after an opening.
+#[test]
+fn a_call_that_failed_is_made_again(rt: HostRuntime) -> Result<(), Fail> {
+    let alloc = rt.alloc();
+    for fail in 1..9 {
+        let mut slot = place_with(alloc, &[0], fail)?;
+        assert!(rt; begin(&mut slot, HEADER).is_err(), "{fail} failing");
+        if found_of(open_numbered(alloc, &mut slot, Parity::Odd)) == Found::NoLog {
+            assert!(rt; begin(&mut slot, HEADER).is_ok(), "{fail} failing");
+        }
+        assert!(rt;
+            image_of(alloc, &mut slot)?.as_slice() == BEGUN.as_slice(),
+            "{fail} failing"
+        );
+    }
+    for fail in 1..8 {
+        let mut slot = place_with(alloc, &BEGUN, fail)?;
+        assert!(rt; give_up(&mut slot).is_err(), "{fail} failing");
+        assert!(rt; give_up(&mut slot).is_ok(), "{fail} failing");
+        assert!(rt;
+            image_of(alloc, &mut slot)?.as_slice() == [0].as_slice(),
+            "{fail} failing"
+        );
+    }
+    Ok(())
+}
+
+#[test]
+fn a_file_is_told_for_what_it_is(rt: HostRuntime) -> Result<(), Fail> {
+    let alloc = rt.alloc();
+    let mut nought = BEGUN;
+    nought[16] = 0;
+    let mut no_worker = BEGUN;
+    no_worker[7] = 2;
+    for (image, parity, want) in [
+        (b"".as_slice(), Parity::Odd, Found::NoLog),
+        (b"\x00".as_slice(), Parity::Odd, Found::NoLog),
+        // A gate that a crash left torn, as the first byte of a plain file is one here.
+        (EMPTY.as_slice(), Parity::Odd, Found::NoLog),
+        (b"\x01".as_slice(), Parity::Odd, Found::Bad(0, 0)),
+        (BEGUN.as_slice(), Parity::Odd, Found::Log(1, 6, 0)),
+        (BEGUN.as_slice(), Parity::Even, Found::Bad(1, 0)),
+        (nought.as_slice(), Parity::Even, Found::Bad(1, 0)),
+        (no_worker.as_slice(), Parity::Odd, Found::Bad(2, 0)),
+    ] {
+        let mut slot = place_with(alloc, image, 0)?;
+        let found = found_of(open_numbered(alloc, &mut slot, parity));
+        assert!(rt; found == want, "{image:?}: {found:?}");
+    }
+    assert!(rt; opened(alloc, &BEGUN)? == Told::Bad(0, 0));
+    Ok(())
+}
+
+// The file's own calls, without a place.
+#[test]
+fn a_log_is_given_back_by_its_own_calls(rt: HostRuntime) -> Result<(), Fail> {
+    let alloc = rt.alloc();
+    let disk = disk_with(alloc, &[0], 0, 99)?;
+    let log = LogFile::begin(disk, 1, 2, 1, 6)
+        .ok()
+        .expect(&rt, "a sound disk takes a log");
+    assert!(rt; log.mark() == 6 && log.disk().image() == BEGUN.as_slice());
+    let disk = log.give_up().ok().expect(&rt, "a sound disk gives it up");
+    assert!(rt; disk.image() == [0].as_slice());
+    let fault = LogFile::open(alloc, disk_with(alloc, &BEGUN, 0, 99)?).err();
+    let (disk, told) = not_opened(fault.expect(&rt, "no plain file"));
+    assert!(rt; told == Told::Bad(0, 0) && disk.image() == BEGUN.as_slice());
+    Ok(())
+}
