@@ -3,15 +3,14 @@ use Rattle.std.proofs.Common.{◌≡◌, ℕ, suc, ◌+◌, Bool, true, false, c
 use Rattle.std.specs.{Prelude.slice_get, List.AllByRecursion, List.Sorted.IsStrictlySortedBy, declared.cmp.Ordering.TheVariants.Less}
 use Rattle.mt_rows.specs.{Tenants.owned_cmp, declared.record.TenantPair.TenantPair, TenantPairs.owner_of}
 use Rattle.mt_checkpoint.specs.{declared.checkpoint.Checkpoint.Checkpoint, Checkpoints.Rise}
-use Rattle.mt_crashes.specs.Fronts.{Numbers}
+use Rattle.mt_log.specs.Contents.{Contents}
 use Rattle.mt_recover.{specs.{declared.checkpoint.Chosen.Chosen, Bases.{may_use, usable, latest}, Limits.IsReadSlot, Pairs.Ascend}, proofs.Merges.all_later}
 
 -- a checkpoint that is used is one that was read
-usable_is_read : (voids : List Numbers) (cutoff : ℕ) (o : Option Checkpoint) → IsReadSlot o → IsReadSlot (usable voids cutoff o)
-usable_is_read voids cutoff None is = tt
-usable_is_read voids cutoff (Some c) is = by (may_use voids cutoff c)
+usable_is_read : (fronts : List Contents) (start cutoff : ℕ) (o : Option Checkpoint) → IsReadSlot o → IsReadSlot (usable fronts start cutoff o)
+usable_is_read fronts start cutoff o is = by (may_use fronts start cutoff o)
   where
-    by : (b : Bool) → IsReadSlot (cond b (Some c) None)
+    by : (b : Bool) → IsReadSlot (cond b o None)
     by true = is
     by false = tt
 
@@ -25,10 +24,11 @@ either_is_read (Some c) (Some d) is_a is_b = by (nat_lt c.last d.last)
     by true = is_b
     by false = is_a
 
-pub latest_is_read : (voids : List Numbers) (cutoff : ℕ) (first second : Option Checkpoint) → IsReadSlot first → IsReadSlot second
-    → IsReadSlot (latest (usable voids cutoff first) (usable voids cutoff second)).checkpoint
-latest_is_read voids cutoff first second is_first is_second =
-    either_is_read (usable voids cutoff first) (usable voids cutoff second) (usable_is_read voids cutoff first is_first) (usable_is_read voids cutoff second is_second)
+pub latest_is_read : (fronts : List Contents) (start cutoff : ℕ) (first second : Option Checkpoint) → IsReadSlot first → IsReadSlot second
+    → IsReadSlot (latest (usable fronts start cutoff first) (usable fronts start cutoff second)).checkpoint
+latest_is_read fronts start cutoff first second is_first is_second =
+    either_is_read (usable fronts start cutoff first) (usable fronts start cutoff second) (usable_is_read fronts start cutoff first is_first)
+    (usable_is_read fronts start cutoff second is_second)
 
 -- pairs of which each is before the next ascend
 rise_behind : (p : TenantPair) (ps : List TenantPair) → Rise (p ∷ ps) → Rise ps

@@ -14,7 +14,8 @@ use Rattle.mt_log.specs.{declared.batch.LogBatch.LogBatch, declared.batch.LogBat
 use Rattle.mt_log.specs.Contents.{Contents, AreNumbers, IsLogBatch, to_of, end_of, mark_of}
 use Rattle.mt_crashes.specs.Bases.{CheckpointView, Slots}
 use Rattle.mt_crashes.specs.Fronts.{In, greatest, last_end, all_voids, cutoff_of, is_replayed, records_in, records_of, all_records, key_of, made, with_replayed, after_replay}
-use Rattle.mt_crashes.specs.Recoveries.{HasSlot, IsBaseOf, checkpoint_ends, resume_of, IsRecovered}
+use Rattle.mt_crashes.specs.Recoveries.{HasSlot, IsBaseOf, checkpoint_ends, resume_of}
+use Rattle.mt_generations.specs.Chains.{IsRecoveredOver}
 use Rattle.mt_crashes.proofs.{Members.{in_filter, in_flat_map, map_in, all_at, permuted_in, no_some, place_in}, FrontLaws.{greatest_below, from_cutoff}, Recovery.{upto_resume, walked_upto}}
 use Rattle.mt_crashes.proofs.Bases.{one_or_not, made_over, passed_over, made_upto, replayed_at, replayed_beside}
 use Rattle.mt_recover.specs.{Pairs.{Ascend, view_of}, Limits.{IsReadSlot, AreContents}}
@@ -208,7 +209,7 @@ base_upto fronts slots (Some k) from base h is q = by (get base q) refl
 
 module _ (fronts : List Contents) (checkpoints : List (Option Checkpoint)) (cutoff resume : ℕ) (used : Option ℕ) (ps : List TenantPair)
     (each : AllByRecursion IsReadSlot checkpoints) (all : AreContents fronts)
-    (is : IsRecovered fronts (map (option_map view_of) checkpoints) cutoff resume used (pairs_of ps)) where
+    (is : IsRecoveredOver fronts (map (option_map view_of) checkpoints) cutoff resume used (pairs_of ps)) where
   abbrev slots : Slots
   slots = map (option_map view_of) checkpoints
 
@@ -234,7 +235,7 @@ module _ (fronts : List Contents) (checkpoints : List (Option Checkpoint)) (cuto
       omega (arith, logs, walks, told)
 
 module _ (fronts : List Contents) (checkpoints : List (Option Checkpoint)) (cutoff resume : ℕ) (used : Option ℕ) (ps : List TenantPair)
-    (each : AllByRecursion IsReadSlot checkpoints) (is : IsRecovered fronts (map (option_map view_of) checkpoints) cutoff resume used (pairs_of ps)) where
+    (each : AllByRecursion IsReadSlot checkpoints) (is : IsRecoveredOver fronts (map (option_map view_of) checkpoints) cutoff resume used (pairs_of ps)) where
   record_upto : (r : Record) → In r is.replayed → r.stamp ≤ resume
   record_upto r there =
       let kept = in_filter (is_replayed (all_voids fronts) is.from (cutoff_of fronts)) r (all_records fronts) (permuted_in _ is.replayed r is.replay.same there) in

@@ -1,15 +1,17 @@
 -- Logs of which one is older are refused for that alone: for the laws.
-use Rattle.std.proofs.Common.{◌≡◌, inl, inr, ℕ, ◌<◌, List, refl, sym, ◌∙◌, subst, arith, Option, None}
+use Rattle.std.proofs.Common.{◌≡◌, inl, inr, ⊎_elim, ℕ, ◌<◌, List, refl, sym, ◌∙◌, subst, arith, Option, None}
 use Rattle.mt_rows.specs.declared.refusal.Refusal.{Refusal}
 use Rattle.mt_log.specs.Contents.{Contents, mark_of}
-use Rattle.mt_crashes.{specs.{Fronts.{In, HoldResume, ServedFrom, IsLastServed}, Bases.Slots, Recoveries.{AreSet, NoneOlder}}, proofs.Members.no_some}
-use Rattle.mt_recover.specs.{Examples.{fronts_with_copy, fronts_with_new, fronts_with_ended, fronts_resumed_twice}, Falls.first_fall, Older.IsFirstOlder}
+use Rattle.mt_crashes.{specs.{Fronts.{In, ServedFrom, IsLastServed}, Bases.Slots, Recoveries.AreSet}, proofs.Members.no_some}
+use Rattle.mt_generations.specs.Chains.{NoneOlderOver}
+use Rattle.mt_recover.specs.{Examples.{fronts_with_copy, fronts_with_new, fronts_with_ended, fronts_with_next, fronts_resumed_twice}, Falls.first_fall}
+use Rattle.mt_recover.specs.Older.{Lacks, IsFirstOlder}
 use Rattle.mt_recover.specs.Refusals.{AreSound, Falls, IsRefusal}
-use Rattle.mt_recover.proofs.{OlderLemmas.{none_over, one_is_older, not_both, reaches_served}, FallLaws.joins_and_rises, FallLemmas.front_falls_not}
+use Rattle.mt_recover.proofs.{OlderLemmas.{has_not, none_is_older, one_is_older, not_both, reaches_served}, FallLaws.joins_and_rises, FallLemmas.front_falls_not}
 use Rattle.mt_rows.specs.declared.refusal.Refusal.TheVariants as refusals
 
-pub not_sound : (n : ℕ) (fronts : List Contents) (g : Contents) → 0 < n → IsLastServed fronts n → In g fronts → ¬ HoldResume n g.batches → ¬ AreSound fronts
-not_sound n fronts g over last in_g lacks sound = lacks (sound.level n g over last in_g)
+pub not_sound : (n : ℕ) (fronts : List Contents) (g : Contents) → 0 < n → IsLastServed fronts n → In g fronts → Lacks n g → ¬ AreSound fronts
+not_sound n fronts g over last in_g lacks sound = has_not n g (sound.level n g over last in_g) lacks
 
 pub not_sound_before : (n : ℕ) (fronts : List Contents) (f g : Contents) → In f fronts → ServedFrom n f → In g fronts → mark_of g < n → ¬ AreSound fronts
 not_sound_before n fronts f g in_f served in_g ends sound =
@@ -25,8 +27,8 @@ one_worker : (fronts : List Contents) (worker other stamp later : ℕ) → IsFir
 one_worker fronts worker other stamp later a b = (
   omega (
     arith,
-    a.least b.log b.given (subst (λ (n : ℕ). ¬ HoldResume n b.log.batches) (sym same) b.lacks),
-    b.least a.log a.given (subst (λ (n : ℕ). ¬ HoldResume n a.log.batches) same a.lacks),
+    a.least b.log b.given (subst (λ (n : ℕ). Lacks n b.log) (sym same) b.lacks),
+    b.least a.log a.given (subst (λ (n : ℕ). Lacks n a.log) same a.lacks),
     a.owner,
     b.owner,
   ),
@@ -38,7 +40,7 @@ one_worker fronts worker other stamp later a b = (
 
 module _ (worker stamp : ℕ) (fronts : List Contents) (set : AreSet fronts) (rise : first_fall fronts ≡ None) (older : IsFirstOlder fronts worker stamp) (read : Slots)
     (quota : ℕ → Option ℕ) where
-  not_level : NoneOlder fronts → ⊥
+  not_level : NoneOlderOver fronts → ⊥
   not_level none = not_both fronts worker stamp none older
 
   pub refused_for_it : (e : Refusal) → IsRefusal fronts read quota e → e ≡ refusals.StampsFall worker stamp
@@ -49,7 +51,7 @@ module _ (worker stamp : ℕ) (fronts : List Contents) (set : AreSet fronts) (ri
       by (inr (inl one)) = let same = one_worker fronts w worker s stamp one.1 older in λ i. refusals.StampsFall (same.0 i) (same.1 i)
       by (inr (inr two)) = absurd (not_level two.1)
   refused_for_it refusals.Memory is = absurd (not_level is.2)
-  refused_for_it refusals.LogCount is = absurd (is set)
+  refused_for_it refusals.LogCount is = absurd (⊎_elim (λ none. none set) (λ none. not_level none.0.level) is)
   refused_for_it (refusals.NoTenant t) is = absurd (not_level is.0.level)
   refused_for_it (refusals.OverQuota t) is = absurd (not_level is.0.level)
   refused_for_it refusals.KeyLong is = absurd is
@@ -71,13 +73,16 @@ module _ (worker stamp : ℕ) (fronts : List Contents) (set : AreSet fronts) (ri
 -- ---- examples
 
 pub copy_is_older : IsFirstOlder fronts_with_copy 1 2
-copy_is_older = one_is_older fronts_with_copy 1 (omega arith) refl
+copy_is_older = one_is_older fronts_with_copy 1 refl
 
 pub new_is_older : IsFirstOlder fronts_with_new 1 2
-new_is_older = one_is_older fronts_with_new 1 (omega arith) refl
+new_is_older = one_is_older fronts_with_new 1 refl
 
 pub ended_is_older : IsFirstOlder fronts_with_ended 1 4
-ended_is_older = one_is_older fronts_with_ended 1 (omega arith) refl
+ended_is_older = one_is_older fronts_with_ended 1 refl
 
-pub resumed_twice_are_level : NoneOlder fronts_resumed_twice
-resumed_twice_are_level = none_over fronts_resumed_twice refl
+pub resumed_twice_are_level : NoneOlderOver fronts_resumed_twice
+resumed_twice_are_level = none_is_older fronts_resumed_twice refl
+
+pub next_is_level : NoneOlderOver fronts_with_next
+next_is_level = none_is_older fronts_with_next refl

@@ -1,10 +1,11 @@
--- The last number from which a store has served, and the least worker whose log has no resume batch up to it: for `first_older`.
-use Rattle.std.proofs.Common.{◌≡◌, ◌⊎◌, inl, inr, ⊎_elim, ℕ, ◌<◌, ◌≤◌, min, max, Bool, true, false, cond, ltb, List, [], ◌∷◌, map, refl, sym, ◌∙◌, ap, subst, arith, Option, Some, None}
-use Rattle.std.proofs.{lemmas.Bool.{ltb-true, ltb-false, eqb-true, eq-eqb, or_left, or_right, or_cases, true≢false}, lemmas.Option.same_Some}
+-- The last number from which a store has served, and the least worker whose log lacks the resume batch up to it: for `first_older`.
+use Rattle.std.proofs.Common.{◌≡◌, ◌⊎◌, inl, inr, ⊎_elim, ℕ, ◌<◌, ◌≤◌, min, max, Bool, true, false, cond, not, ◌&&◌, ltb, List, [], ◌∷◌, map, refl, sym, ◌∙◌, ap, subst, arith, Option, Some, None}
+use Rattle.std.proofs.{lemmas.Bool.{ltb-true, ltb-false, eqb-true, eq-eqb, and_parts, not-true, or_left, or_right, or_cases, true≢false}, lemmas.Option.same_Some}
 use Rattle.mt_log.specs.{declared.batch.LogBatch.LogBatch, declared.batch.LogBatch.TheVariants.{Records, OldRecords, Resume}, Contents.{Contents, JoinsAndRises, mark_of}}
 use Rattle.mt_crashes.specs.{Fronts.{In, HoldResume, HoldRecords, RecordsFollow, ServedFrom, AnyServed, IsLastServed}, Recoveries.NoneOlder}
 use Rattle.mt_crashes.proofs.{Members.{in_map, map_in, no_some}, FrontLaws.{below_greatest, greatest_in}, Invariant.resume_upto_mark}
-use Rattle.mt_recover.specs.Older.{IsFirstOlder, served_in, last_served, holds_resume, lower, least_without}
+use Rattle.mt_generations.{specs.Chains.{BeginBy, NoneOlderOver}, proofs.Parts.end_from}
+use Rattle.mt_recover.specs.Older.{Lacks, IsFirstOlder, served_in, last_served, holds_resume, lacks_resume, lower, least_without}
 
 -- ---- the last number
 
@@ -104,45 +105,63 @@ held_told n (Resume from to kept ∷ bs) (inr h) = or_right _ _ (held_told n bs 
 held_not : (n : ℕ) (bs : List LogBatch) → holds_resume n bs ≡ false → ¬ HoldResume n bs
 held_not n bs e h = true≢false (sym (held_told n bs h) ∙ e)
 
+-- a log lacks it just if the test tells so
+told_lacks : (n : ℕ) (c : Contents) → lacks_resume n c ≡ true → Lacks n c
+told_lacks n c e =
+    let parts = and_parts _ _ e in
+    (ltb-true c.start n parts.0, held_not n c.batches (not-true _ parts.1))
+
+told_has : (n : ℕ) (c : Contents) → lacks_resume n c ≡ false → HoldResume n c.batches ⊎ (n ≤ c.start)
+told_has n c e = by (ltb c.start n) (holds_resume n c.batches) refl refl e
+  where
+    by : (t h : Bool) → ltb c.start n ≡ t → holds_resume n c.batches ≡ h → t && not h ≡ false → HoldResume n c.batches ⊎ (n ≤ c.start)
+    by false h is holds e = inr (ltb-false c.start n is)
+    by true true is holds e = inl (told_held n c.batches holds)
+    by true false is holds e = absurd (true≢false e)
+
+pub has_not : (n : ℕ) (c : Contents) → HoldResume n c.batches ⊎ (n ≤ c.start) → ¬ Lacks n c
+has_not n c (inl held) lacks = lacks.1 held
+has_not n c (inr later) lacks = omega (arith, later, lacks.0)
+
 -- ---- the least worker
 
--- nothing was found before, and each log has a resume batch up to the number
+-- nothing was found before, and no log lacks the resume batch up to the number
 none_without : (number : ℕ) (found : Option ℕ) (fronts : List Contents) → least_without number found fronts ≡ None
-    → (found ≡ None) × ((f : Contents) → In f fronts → HoldResume number f.batches)
+    → (found ≡ None) × ((f : Contents) → In f fronts → HoldResume number f.batches ⊎ (number ≤ f.start))
 none_without number found [] h = (h, λ f at. absurd at)
 none_without number found (c ∷ cs) h =
-    by (holds_resume number c.batches) refl (none_without number (cond (holds_resume number c.batches) found (lower found c.worker)) cs h)
+    by (lacks_resume number c) refl (none_without number (cond (lacks_resume number c) (lower found c.worker) found) cs h)
   where
     some_lower : (o : Option ℕ) (worker : ℕ) → lower o worker ≡ None → ⊥
     some_lower None worker e = no_some worker (sym e)
     some_lower (Some other) worker e = no_some (min other worker) (sym e)
 
-    by : (t : Bool) → holds_resume number c.batches ≡ t
-        → (cond t found (lower found c.worker) ≡ None) × ((f : Contents) → In f cs → HoldResume number f.batches)
-        → (found ≡ None) × ((f : Contents) → In f (c ∷ cs) → HoldResume number f.batches)
-    by false is rest = absurd (some_lower found c.worker rest.0)
-    by true is rest = (
+    by : (t : Bool) → lacks_resume number c ≡ t
+        → (cond t (lower found c.worker) found ≡ None) × ((f : Contents) → In f cs → HoldResume number f.batches ⊎ (number ≤ f.start))
+        → (found ≡ None) × ((f : Contents) → In f (c ∷ cs) → HoldResume number f.batches ⊎ (number ≤ f.start))
+    by true is rest = absurd (some_lower found c.worker rest.0)
+    by false is rest = (
       rest.0,
       λ f at. ⊎_elim
-          (λ e. subst (λ (x : Contents). HoldResume number x.batches) (sym e) (told_held number c.batches is))
+          (λ e. subst (λ (x : Contents). HoldResume number x.batches ⊎ (number ≤ x.start)) (sym e) (told_has number c is))
           (λ more. rest.1 f more)
           at,
     )
 
--- a worker that is found was so before, or its log has no resume batch up to the number
+-- a worker that is found was so before, or its log lacks the resume batch up to the number
 abbrev Found : ℕ → Option ℕ → List Contents → ℕ → Type 0
-Found number found fronts worker = (found ≡ Some worker) ⊎ ((f : Contents) × In f fronts × (f.worker ≡ worker) × ¬ HoldResume number f.batches)
+Found number found fronts worker = (found ≡ Some worker) ⊎ ((f : Contents) × In f fronts × (f.worker ≡ worker) × Lacks number f)
 
 -- and it is the least
 abbrev IsLeast : ℕ → Option ℕ → List Contents → ℕ → Type 0
 IsLeast number found fronts worker =
-    ((other : ℕ) → found ≡ Some other → worker ≤ other) × ((f : Contents) → In f fronts → ¬ HoldResume number f.batches → worker ≤ f.worker)
+    ((other : ℕ) → found ≡ Some other → worker ≤ other) × ((f : Contents) → In f fronts → Lacks number f → worker ≤ f.worker)
 
 one_without : (number : ℕ) (found : Option ℕ) (fronts : List Contents) (worker : ℕ) → least_without number found fronts ≡ Some worker
     → Found number found fronts worker × IsLeast number found fronts worker
 one_without number found [] worker h = (inl h, (λ other e. omega (arith, same_Some worker other (sym h ∙ e)), λ f at. absurd at))
 one_without number found (c ∷ cs) worker h =
-    by (holds_resume number c.batches) refl (one_without number (cond (holds_resume number c.batches) found (lower found c.worker)) cs worker h)
+    by (lacks_resume number c) refl (one_without number (cond (lacks_resume number c) (lower found c.worker) found) cs worker h)
   where
     lowered : (o : Option ℕ) → lower o c.worker ≡ Some worker → (o ≡ Some worker) ⊎ (c.worker ≡ worker)
     lowered None e = inr (same_Some c.worker worker e)
@@ -156,23 +175,23 @@ one_without number found (c ∷ cs) worker h =
     below None h = (λ other e. absurd (no_some other e), h c.worker refl)
     below (Some x) h = (λ other e. omega (arith, h (min x c.worker) refl, same_Some x other e), omega (arith, h (min x c.worker) refl))
 
-    by : (t : Bool) → holds_resume number c.batches ≡ t
-        → Found number (cond t found (lower found c.worker)) cs worker × IsLeast number (cond t found (lower found c.worker)) cs worker
+    by : (t : Bool) → lacks_resume number c ≡ t
+        → Found number (cond t (lower found c.worker) found) cs worker × IsLeast number (cond t (lower found c.worker) found) cs worker
         → Found number found (c ∷ cs) worker × IsLeast number found (c ∷ cs) worker
-    by false is rest =
+    by true is rest =
         let under = below found rest.1.0 in (
           ⊎_elim
-              (λ e. ⊎_elim (λ l. inl l) (λ r. inr (c, inl refl, r, held_not number c.batches is)) (lowered found e))
+              (λ e. ⊎_elim (λ l. inl l) (λ r. inr (c, inl refl, r, told_lacks number c is)) (lowered found e))
               (λ at. inr (at.0, inr at.1, at.2, at.3))
               rest.0,
           (under.0, λ f at lacks. ⊎_elim (λ e. omega (arith, under.1, ap (λ (x : Contents). x.worker) e)) (λ more. rest.1.1 f more lacks) at),
         )
-    by true is rest = (
+    by false is rest = (
       ⊎_elim (λ e. inl e) (λ at. inr (at.0, inr at.1, at.2, at.3)) rest.0,
       (
         rest.1.0,
         λ f at lacks. ⊎_elim
-            (λ e. absurd (lacks (subst (λ (x : Contents). HoldResume number x.batches) (sym e) (told_held number c.batches is))))
+            (λ e. absurd (has_not number c (told_has number c is) (subst (Lacks number) e lacks)))
             (λ more. rest.1.1 f more lacks)
             at,
       ),
@@ -180,39 +199,38 @@ one_without number found (c ∷ cs) worker h =
 
 -- ---- both
 
-pub none_over : (fronts : List Contents) → last_served fronts ≡ 0 → NoneOlder fronts
-none_over fronts h n g over last in_g = absurd (omega (arith, h, over, last_is_it fronts n over last))
-
-pub none_is_older : (fronts : List Contents) → least_without (last_served fronts) None fronts ≡ None → NoneOlder fronts
+pub none_is_older : (fronts : List Contents) → least_without (last_served fronts) None fronts ≡ None → NoneOlderOver fronts
 none_is_older fronts h n g over last in_g =
-    subst (λ (k : ℕ). HoldResume k g.batches) (last_is_it fronts n over last) ((none_without (last_served fronts) None fronts h).1 g in_g)
+    subst (λ (k : ℕ). HoldResume k g.batches ⊎ (k ≤ g.start)) (last_is_it fronts n over last) ((none_without (last_served fronts) None fronts h).1 g in_g)
 
-pub one_is_older : (fronts : List Contents) (worker : ℕ) → 0 < last_served fronts → least_without (last_served fronts) None fronts ≡ Some worker
+pub one_is_older : (fronts : List Contents) (worker : ℕ) → least_without (last_served fronts) None fronts ≡ Some worker
     → IsFirstOlder fronts worker (last_served fronts)
-one_is_older fronts worker over h =
+one_is_older fronts worker h =
     let two = one_without (last_served fronts) None fronts worker h in
     by two.0 two.1
   where
     by : Found (last_served fronts) None fronts worker → IsLeast (last_served fronts) None fronts worker → IsFirstOlder fronts worker (last_served fronts)
     by (inl none) least = absurd (no_some worker none)
-    by (inr at) least = record {
-      some = over;
-      served = is_last fronts over;
-      log = at.0;
-      given = at.1;
-      owner = at.2;
-      lacks = at.3;
-      least = λ other in_other lacks. least.1 other in_other lacks;
-    }
+    by (inr at) least =
+        let over : 0 < last_served fronts = omega (arith, at.3.0) in
+        record {
+          some = over;
+          served = is_last fronts over;
+          log = at.0;
+          given = at.1;
+          owner = at.2;
+          lacks = at.3;
+          least = λ other in_other lacks. least.1 other in_other lacks;
+        }
 
 -- ---- laws
 
--- a log without such a batch, and none without it, are never both there
-pub not_both : (fronts : List Contents) (worker stamp : ℕ) → NoneOlder fronts → IsFirstOlder fronts worker stamp → ⊥
-not_both fronts worker stamp none one = one.lacks (none stamp one.log one.some one.served one.given)
+-- a log that lacks such a batch, and none that does, are never both there
+pub not_both : (fronts : List Contents) (worker stamp : ℕ) → NoneOlderOver fronts → IsFirstOlder fronts worker stamp → ⊥
+not_both fronts worker stamp none one = has_not stamp one.log (none stamp one.log one.some one.served one.given) one.lacks
 
--- where none is older, and each joins, each goes up to every number from which any tells that the store has served
-pub reaches_served : (n : ℕ) (fronts : List Contents) (f g : Contents) → NoneOlder fronts → In f fronts → ServedFrom n f → In g fronts → JoinsAndRises g
+-- if none is older, and each joins, each goes up to every number from which any tells that the store has served
+pub reaches_served : (n : ℕ) (fronts : List Contents) (f g : Contents) → NoneOlderOver fronts → In f fronts → ServedFrom n f → In g fronts → JoinsAndRises g
     → n ≤ mark_of g
 reaches_served n fronts f g none in_f served in_g joins = by (ltb 0 (last_served fronts)) refl
   where
@@ -223,4 +241,14 @@ reaches_served n fronts f g none in_f served in_g joins = by (ltb 0 (last_served
     by false is = omega (arith, upto, ltb-false 0 (last_served fronts) is)
     by true is =
         let over = ltb-true 0 (last_served fronts) is in
-        omega (arith, upto, resume_upto_mark (last_served fronts) g.start g.batches joins (none (last_served fronts) g over (is_last fronts over) in_g))
+        ⊎_elim
+        (λ held. omega (arith, upto, resume_upto_mark (last_served fronts) g.start g.batches joins held))
+        (λ later. omega (arith, upto, later, end_from g.start g.batches joins))
+        (none (last_served fronts) g over (is_last fronts over) in_g)
+
+-- of logs that begin at step 0 this says what it says of whole ones
+pub level_whole : (fronts : List Contents) → BeginBy 0 fronts → NoneOlderOver fronts → NoneOlder fronts
+level_whole fronts begin none n g over last in_g = ⊎_elim (λ held. held) (λ later. absurd (omega (arith, over, later, begin g in_g))) (none n g over last in_g)
+
+pub whole_level : (fronts : List Contents) → NoneOlder fronts → NoneOlderOver fronts
+whole_level fronts none n g over last in_g = inl (none n g over last in_g)

@@ -24,6 +24,11 @@ fronts_with_ended =
     record { version = 2; worker = 0; logs = 2; generation = 0; start = 0; batches = Records (batch 0 4) ∷ Resume 4 4 4 ∷ Records (batch 4 5) ∷ [] }
     ∷ record { version = 2; worker = 1; logs = 2; generation = 0; start = 0; batches = Records (record { from = 0; to = 4; records = change 3 ∷ [] }) ∷ [] } ∷ []
 
+-- The second was begun at 2, where it ended after the recovery: its resume batch was given up, with what came before.
+abbrev pub fronts_with_next : List Contents
+fronts_with_next = record { version = 2; worker = 0; logs = 2; generation = 0; start = 0; batches = Records (batch 0 2) ∷ Resume 2 2 1 ∷ Records (batch 2 4) ∷ [] }
+    ∷ record { version = 3; worker = 1; logs = 2; generation = 1; start = 2; batches = [] } ∷ []
+
 -- Two recoveries crashed, of which the second goes on from 3, as a checkpoint told. The second log has a resume batch of the first of them alone.
 abbrev pub fronts_resumed_twice : List Contents
 fronts_resumed_twice =

@@ -2,20 +2,17 @@
 
 ghost use Rattle.std.specs.Prelude.{◌≡◌, ◌≤◌, map, Option, None, MatchOption};
 ghost use Rattle.mt_log.specs.Contents.{contents_of};
-ghost use Rattle.mt_crashes.specs.Recoveries.{NoneOlder};
-ghost use Rattle.mt_recover.specs.Older.{IsFirstOlder, served_in, last_served, holds_resume, lower, least_without};
+ghost use Rattle.mt_generations.specs.Chains.{NoneOlderOver};
+ghost use Rattle.mt_recover.specs.Older.{IsFirstOlder, served_in, last_served, holds_resume, lacks_resume, lower, least_without};
 
 use mt_log::{Front, LogBatch};
 
 /// The last number from which the store has served, as any of the logs tells, and the least worker whose
-/// log has no resume batch up to there; none where each log has one, or where that number is 0.
+/// log lacks the resume batch up to there. None if no log lacks it, as none does if that number is 0.
 pub(crate) fn first_older(fronts: &[Front]) -> Option<(u8, u64)>
-    ensures { MatchOption result (NoneOlder (map contents_of fronts.now)) (λ f. IsFirstOlder (map contents_of fronts.now) f.0 f.1) }
+    ensures { MatchOption result (NoneOlderOver (map contents_of fronts.now)) (λ f. IsFirstOlder (map contents_of fronts.now) f.0 f.1) }
 {
     let served = last_served(fronts);
-    if served == 0 {
-        return None;
-    }
     match least_without(fronts, served) {
         Some(worker) => Some((worker, served)),
         None => None,
@@ -48,17 +45,25 @@ fn served_in(front: &Front) -> u64
     served
 }
 
-// The least worker whose log has no resume batch up to a number.
+// The least worker whose log lacks the resume batch up to a number.
 fn least_without(fronts: &[Front], number: u64) -> Option<u8>
     ensures { result ≡ least_without number None (map contents_of fronts.now) }
 {
     let mut least = None;
     for front in fronts {
-        if !holds_resume(front, number) {
+        if lacks_resume(front, number) {
             least = lower(least, front.worker);
         }
     }
     least
+}
+
+// Whether a log lacks the resume batch up to a number. One that begins there or later doesn't: it may have
+// been given up.
+fn lacks_resume(front: &Front, number: u64) -> bool
+    ensures { result ≡ lacks_resume number (contents_of front.now) }
+{
+    front.start < number && !holds_resume(front, number)
 }
 
 // Whether a log has a resume batch up to a number.
