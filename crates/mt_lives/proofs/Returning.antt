@@ -17,7 +17,8 @@ use Rattle.mt_store_logs.specs.{declared.fault.LogRefusal.LogRefusal, declared.f
 use Rattle.mt_store_logs.specs.{declared.fault.StoreRefusal.TheVariants.{Logs as OfLogs, Slot as OfSlot}, declared.store_log.StoreLog.StoreLog}
 use Rattle.mt_store_logs.specs.Places.{closed_on, OpensAll, StopsOpening, StopsOpeningAt}
 use Rattle.mt_store_logs.specs.Recovers.{slots_of, used_slot, refusal_in, ResumesAll, StopsResumingAt, ServesAgain, IsNotRecovered}
-use Rattle.mt_store_logs.proofs.{ForResumes.{in_format, both_in_format, resumes_last}, Closed.length-closed}
+use Rattle.mt_generations.proofs.Whole.{over_whole}
+use Rattle.mt_store_logs.proofs.{ForResumes.{in_format, begin_whole, both_in_format, resumes_last}, Closed.length-closed}
 use Rattle.mt_stored.specs.Stores.{IsRecoveredStore}
 use Rattle.mt_lives.specs.{declared.events.StoreEvent.StoreEvent, declared.events.StoreEvent.TheVariants.Crash, declared.events.StoreNote.StoreNote}
 use Rattle.mt_lives.specs.{declared.events.StoreNote.TheVariants.{Recovered, Refused, NoSuch}, declared.serving.Serving.Serving}
@@ -142,7 +143,8 @@ module _ (accounts : Accounts) (slots : StoreSlots MemDisk) (standing : Standing
       module _ (r : Found) (is : IsRecovered found read r.cutoff r.resume r.used (pairs_of r.pairs.items)) where
         fits : resume_of found read ≤ 2 ^ 59
         fits =
-            let within = resume_within found (in_order both) r.cutoff r.resume r.used r.pairs.items (both_in_format keeps_rules mem_state failures_of slots read_slots both reads) (in_format keeps_rules mem_state failures_of old mid fronts opens) is in
+            let over = over_whole found (begin_whole keeps_rules mem_state failures_of old mid fronts opens) read r.cutoff r.resume r.used (pairs_of r.pairs.items) is in
+            let within = resume_within found (in_order both) r.cutoff r.resume r.used r.pairs.items (both_in_format keeps_rules mem_state failures_of slots read_slots both reads) (in_format keeps_rules mem_state failures_of old mid fronts opens) over in
             let same = is.resume_is in
             omega (arith, within, same)
 

@@ -4,9 +4,10 @@ use Rattle.std.specs.{Prelude.{slice_get, slice_index_or}, List.AllByRecursion}
 use Rattle.mt_checkpoint.specs.{declared.checkpoint.Checkpoint.Checkpoint, Slots.IsWalkOrNone}
 use Rattle.mt_slots.specs.{declared.slot.Slot.TheVariants.{First, Second}, declared.store_slots.StoreSlots.StoreSlots, Places.{Both, in_order}, Calls.ReadsBoth}
 use Rattle.mt_disk.specs.Disk.{DiskState}
-use Rattle.mt_log.specs.{declared.batch.Front.Front, Contents.{Contents, IsContents, mark_of, contents_of}}
+use Rattle.mt_log.specs.{declared.batch.Front.Front, Contents.{Contents, AreNumbers, IsContents, mark_of, contents_of}}
 use Rattle.mt_rows.specs.Tenants.{Contents as Pairs}
 use Rattle.mt_crashes.specs.{Fronts.{In, last_end}, Bases.Slots, Recoveries.IsRecovered}
+use Rattle.mt_generations.specs.Chains.{BeginBy}
 use Rattle.mt_crashes.proofs.{Members.{in_map, map_in, in_place, place_in}, FrontLaws.{upto_last, cutoff_upto_last}, Invariant.{within_place, one_there}}
 use Rattle.mt_recover.specs.{declared.resuming.LogSlot.LogSlot, declared.resuming.LogSlot.TheVariants.{Open, Failed, Closed, Away}, Resumes.IsOpenUpto}
 use Rattle.mt_recover.specs.Limits.{IsReadSlot}
@@ -20,6 +21,19 @@ module _ {D : Type 0} (is_honest : D → Bool) (state : D → DiskState) (failur
   is_contents (Some disk) (Closed other) front opened = absurd opened
   is_contents (Some disk) Away front opened = absurd opened
   is_contents None slot front opened = absurd opened
+
+  -- a plain file's log begins at step 0
+  whole_start : (version generation start : ℕ) → generation ≡ 0 → AreNumbers version generation start → start ≡ 0
+  whole_start version zero start whole numbers = numbers.1
+  whole_start version (suc before) start whole numbers = absurd (omega (arith, whole))
+
+  begins : (disk : Option D) (slot : LogSlot D) (front : Front) → Opens is_honest state failures disk slot front → front.start ≤ 0
+  begins (Some disk) (Open log) front opened =
+      let start = whole_start front.version front.generation front.start opened.of_kind opened.contents.numbers in omega (arith, start)
+  begins (Some disk) (Failed other) front opened = absurd opened
+  begins (Some disk) (Closed other) front opened = absurd opened
+  begins (Some disk) Away front opened = absurd opened
+  begins None slot front opened = absurd opened
 
   open_upto : (to : ℕ) (disk : Option D) (slot : LogSlot D) (front : Front) → Opens is_honest state failures disk slot front
       → mark_of (contents_of front) ≤ to → IsOpenUpto to slot
@@ -39,9 +53,11 @@ module _ {D : Type 0} (is_honest : D → Bool) (state : D → DiskState) (failur
       let was = within_place old k within in
       (was.0, opens.each.each k was.0 is within was.1 at)
 
-  pub in_format : (old mid : List (StoreLog D)) (fronts : List Front) → OpensAll is_honest state failures old mid fronts → (c : Contents)
-      → In c (map contents_of fronts) → IsContents c
-  in_format old mid fronts opens c at =
+  -- what is so of the front of each log that was opened
+  each_front : (P : Contents → Type 0) (old mid : List (StoreLog D)) (fronts : List Front) → OpensAll is_honest state failures old mid fronts
+      → ((disk : Option D) (slot : LogSlot D) (front : Front) → Opens is_honest state failures disk slot front → P (contents_of front))
+      → (c : Contents) → In c (map contents_of fronts) → P c
+  each_front P old mid fronts opens so c at =
       let from = map_in contents_of c fronts at in
       let place = in_place from.0 fronts from.1 in
       let below = get_within fronts place.0 from.0 place.1 in
@@ -50,7 +66,14 @@ module _ {D : Type 0} (is_honest : D → Bool) (state : D → DiskState) (failur
       let is = within_place mid place.0 (omega (arith, below, count, len)) in
       let opened = there old mid fronts opens place.0 is.0 is.1 in
       let same = one_there fronts place.0 opened.1.0 from.0 opened.1.1 place.1 in
-      subst IsContents (ap contents_of same ∙ sym from.2) (is_contents (disk_in opened.0.slot) is.0.slot opened.1.0 opened.1.2.0)
+      subst P (ap contents_of same ∙ sym from.2) (so (disk_in opened.0.slot) is.0.slot opened.1.0 opened.1.2.0)
+
+  pub begin_whole : (old mid : List (StoreLog D)) (fronts : List Front) → OpensAll is_honest state failures old mid fronts → BeginBy 0 (map contents_of fronts)
+  begin_whole old mid fronts opens c at = each_front (λ d. d.start ≤ 0) old mid fronts opens begins c at
+
+  pub in_format : (old mid : List (StoreLog D)) (fronts : List Front) → OpensAll is_honest state failures old mid fronts → (c : Contents)
+      → In c (map contents_of fronts) → IsContents c
+  in_format old mid fronts opens c at = each_front IsContents old mid fronts opens is_contents c at
 
   pub last_within : (old mid : List (StoreLog D)) (fronts : List Front) → OpensAll is_honest state failures old mid fronts
       → last_end (map contents_of fronts) ≤ 2 ^ 59

@@ -16,15 +16,15 @@ module _ {D : Type 0} (is_honest : D → Bool) (state : D → DiskState) (failur
   limits_of =
       pairs_within (map contents_of again.fronts) (in_order again.found) r.cutoff r.resume r.used r.pairs.items
       (both_in_format is_honest state failures slots again.rested again.found again.reads)
-      (in_format is_honest state failures old again.mid again.fronts again.opens) again.recovers.recovered again.recovers.ascend
+      (in_format is_honest state failures old again.mid again.fronts again.opens) again.recovers.over again.recovers.ascend
 
   pub resumes_within : r.resume ≤ 2 ^ 59
   resumes_within =
       resume_within (map contents_of again.fronts) (in_order again.found) r.cutoff r.resume r.used r.pairs.items
       (both_in_format is_honest state failures slots again.rested again.found again.reads)
-      (in_format is_honest state failures old again.mid again.fronts again.opens) again.recovers.recovered
+      (in_format is_honest state failures old again.mid again.fronts again.opens) again.recovers.over
 
   pub stamps_of : AreStampedUpto r.resume r.pairs.items
   stamps_of =
       stamps_within (map contents_of again.fronts) (in_order again.found) r.cutoff r.resume r.used r.pairs.items
-      (both_in_format is_honest state failures slots again.rested again.found again.reads) again.recovers.recovered again.recovers.ascend
+      (both_in_format is_honest state failures slots again.rested again.found again.reads) again.recovers.over again.recovers.ascend

@@ -4,6 +4,7 @@ use Rattle.mt_rows.specs.{Accounts.Accounts, declared.refusal.Refusal.Refusal, T
 use Rattle.mt_disk.specs.Disk.{DiskState}
 use Rattle.mt_log.specs.{declared.batch.Front.Front, Contents.contents_of}
 use Rattle.mt_crashes.specs.{Bases.Slots, Recoveries.IsRecovered}
+use Rattle.mt_generations.specs.Chains.{IsRecoveredOver}
 use Rattle.mt_checkpoint.specs.declared.checkpoint.Checkpoint.{Checkpoint}
 use Rattle.mt_recover.specs.{declared.recovering.Recovered.Recovered, Pairs.{view_of, Ascend}, Refusals.IsRefusal}
 use Rattle.mt_recover.specs.Resumes.{IsOpenUpto, HasResumed, FailsToResume}
@@ -32,8 +33,10 @@ refusal_in (OfSlot fault) = refusal_for fault.cause
 abbrev pub AreOpenUpto : {D : Type 0} → ℕ → List (StoreLog D) → Type 0
 AreOpenUpto to logs = All (λ log. IsOpenUpto to log.slot) logs
 
--- what is recovered of fronts and of what was read of the slots, with the quotas of these tenants
+-- What is recovered of fronts and of what was read of the slots, with the quotas of these tenants: it is so by the words for logs that may begin anywhere,
+-- and by those for whole logs.
 pub record IsRecoveredOf (accounts : Accounts) (read : Slots) (fronts : List Front) (r : Recovered) : Type 0 where
+  pub over : IsRecoveredOver (map contents_of fronts) read r.cutoff r.resume r.used (pairs_of r.pairs.items)
   pub recovered : IsRecovered (map contents_of fronts) read r.cutoff r.resume r.used (pairs_of r.pairs.items)
   pub ascend : Ascend r.pairs.items
   pub tenants : HasTenants (quota_in accounts) (pairs_of r.pairs.items)

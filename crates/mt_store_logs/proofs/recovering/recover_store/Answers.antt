@@ -1,7 +1,7 @@
 -- The logs that were opened end by the last step of them all.
 use Rattle.std.{proofs.{Common.{inr, inl, map, ap, subst, sym, refl, ◌∙◌}, lemmas.Result.err_from_is_err_and}, specs.List.AllByRecursion}
 use Rattle.mt_slots.specs.Places.{with_newest}
-use Rattle.mt_store_logs.{specs.Recovers.{slots_of, IsRecoveredOf}, proofs.ForResumes.{in_format, are_open_upto, resumes_last, cutoff_within, both_in_format}}
+use Rattle.mt_store_logs.{specs.Recovers.{slots_of, IsRecoveredOf}, proofs.ForResumes.{in_format, begin_whole, are_open_upto, resumes_last, cutoff_within, both_in_format}}
 use Rattle.mt_log.specs.Contents.{contents_of}
 use Rattle.mt_rows.specs.TenantPairs.{pairs_of, quota_in}
 use Rattle.mt_recover.specs.{Limits.IsReadSlot, Refusals.IsRefusal}
@@ -16,13 +16,13 @@ pub resume_logs-requires-clause-open : goal.resume_logs-requires-clause-open
 resume_logs-requires-clause-open g c =
     let r = c.in-Ok.recovered in
     let fronts = c.in_ok-fronts.fronts.items in
-    let last = resumes_last (map contents_of fronts) (slots_of c.in_ok-read.read) r.cutoff r.resume r.used (pairs_of r.pairs.items) c.in-Ok.ensures.recovered in
+    let last = resumes_last (map contents_of fronts) (slots_of c.in_ok-read.read) r.cutoff r.resume r.used (pairs_of r.pairs.items) (c.in-Ok.ensures.whole (begin_whole g.D.Disk.is_honest g.D.Disk.state g.D.Disk.failures c.args.logs.now c.open_watched.new.logs c.in_ok-fronts.fronts.items c.in_ok-fronts.ensures.ok)) in
     are_open_upto g.D.Disk.is_honest g.D.Disk.state g.D.Disk.failures c.args.logs.now c.open_watched.new.logs fronts r.resume c.in_ok-fronts.ensures.ok last
 
 pub resume_logs-requires-clause-kept : goal.resume_logs-requires-clause-kept
 resume_logs-requires-clause-kept g c =
     let r = c.in-Ok.recovered in
-    cutoff_within (map contents_of c.in_ok-fronts.fronts.items) (slots_of c.in_ok-read.read) r.cutoff r.resume r.used (pairs_of r.pairs.items) c.in-Ok.ensures.recovered
+    cutoff_within (map contents_of c.in_ok-fronts.fronts.items) (slots_of c.in_ok-read.read) r.cutoff r.resume r.used (pairs_of r.pairs.items) (c.in-Ok.ensures.whole (begin_whole g.D.Disk.is_honest g.D.Disk.state g.D.Disk.failures c.args.logs.now c.open_watched.new.logs c.in_ok-fronts.fronts.items c.in_ok-fronts.ensures.ok))
 
 pub resume_logs-requires-clause-last : goal.resume_logs-requires-clause-last
 resume_logs-requires-clause-last g c =
@@ -54,7 +54,7 @@ returns-in_err-resume_logs-clause-err g c =
       reads = told.2;
       r = c.in-Ok.recovered;
       recovers = subst (λ read. IsRecoveredOf c.args.tenants.now (slots_of read) c.in_ok-fronts.fronts.items c.in-Ok.recovered) told.1
-          (record { recovered = c.in-Ok.ensures.recovered; ascend = c.in-Ok.ensures.ascend; tenants = c.in-Ok.ensures.quotas.0; quotas = c.in-Ok.ensures.quotas.1 });
+          (record { over = c.in-Ok.ensures.recovered; recovered = (c.in-Ok.ensures.whole (begin_whole g.D.Disk.is_honest g.D.Disk.state g.D.Disk.failures c.args.logs.now c.open_watched.new.logs c.in_ok-fronts.fronts.items c.in_ok-fronts.ensures.ok)); ascend = c.in-Ok.ensures.ascend; tenants = c.in-Ok.ensures.quotas.0; quotas = c.in-Ok.ensures.quotas.1 });
       stops = c.in_err-resume_logs.ensures.err;
     })))
 
@@ -69,7 +69,7 @@ returns-clause-ok g c =
       found = told.0;
       reads = told.2;
       recovers = subst (λ read. IsRecoveredOf c.args.tenants.now (slots_of read) c.in_ok-fronts.fronts.items c.in-Ok.recovered) told.1
-          (record { recovered = c.in-Ok.ensures.recovered; ascend = c.in-Ok.ensures.ascend; tenants = c.in-Ok.ensures.quotas.0; quotas = c.in-Ok.ensures.quotas.1 });
+          (record { over = c.in-Ok.ensures.recovered; recovered = (c.in-Ok.ensures.whole (begin_whole g.D.Disk.is_honest g.D.Disk.state g.D.Disk.failures c.args.logs.now c.open_watched.new.logs c.in_ok-fronts.fronts.items c.in_ok-fronts.ensures.ok)); ascend = c.in-Ok.ensures.ascend; tenants = c.in-Ok.ensures.quotas.0; quotas = c.in-Ok.ensures.quotas.1 });
       resumes = c.in_ok-resume_logs.ensures.ok;
       keeps = c.keep.ensures ∙ ap (λ used. with_newest used c.read.new.self) c.used_slot.ensures;
     }
