@@ -1,5 +1,5 @@
 -- What becomes of the place of a log's file: opened, begun, given up.
-use Rattle.std.specs.Prelude.{◌≡◌, ◌⊎◌, ℕ, ◌<◌, Bool, IsTrue, List, length, Option, Some, None}
+use Rattle.std.specs.Prelude.{◌≡◌, ◌⊎◌, ℕ, ◌<◌, ◌%◌, ◌==◌, if◌then◌else◌, Bool, IsTrue, List, length, Option, Some, None}
 use Rattle.mt_rows.specs.declared.refusal.Refusal.{Refusal}
 use Rattle.mt_disk.specs.Disk.{DiskState, LeavesOnly, GoesUp}
 use Rattle.mt_gates.specs.Gates.{IsLeftOf, IsGivenUp}
@@ -8,6 +8,7 @@ use Rattle.mt_log.specs.{declared.batch.Front.Front, declared.fault.OpenFault.Op
 use Rattle.mt_log.specs.{Logs.{Opened, GivesDiskBack}, Numbered.{Begun, FailsToBegin, HasNoLog, GivesNumberedBack, StillLeavesText}}
 use Rattle.mt_recover.specs.{declared.resuming.LogSlot.LogSlot, declared.resuming.LogSlot.TheVariants.{Open, Failed, Closed, Away}}
 use Rattle.mt_log.specs.declared.reader.FileKind.TheVariants as kinds
+use Rattle.mt_log_files.specs.declared.worker.WorkerFiles.{WorkerFiles}
 use Rattle.mt_rows.specs.declared.refusal.Refusal.TheVariants as refusals
 use Rattle.mt_log.specs.declared.fault.OpenFault.TheVariants as opens
 
@@ -17,6 +18,19 @@ disk_in (Open log) = Some log.disk
 disk_in (Failed log) = Some log.disk
 disk_in (Closed disk) = Some disk
 disk_in Away = None
+
+-- the files on these disks
+abbrev pub closed_files : {D : Type 0} → D → D → D → WorkerFiles D
+closed_files plain even odd = record { plain = Closed plain; even = Closed even; odd = Closed odd }
+
+-- the place of the file that has a generation's log
+abbrev pub file_of : {D : Type 0} → ℕ → WorkerFiles D → LogSlot D
+file_of generation files = if generation == 0 then files.plain else if generation % 2 == 0 then files.even else files.odd
+
+-- the files with another place for it
+abbrev pub with_file : {D : Type 0} → ℕ → LogSlot D → WorkerFiles D → WorkerFiles D
+with_file generation slot files =
+    if generation == 0 then record files { plain = slot } else if generation % 2 == 0 then record files { even = slot } else record files { odd = slot }
 
 -- why a disk was not opened, as a refusal
 abbrev pub refusal_of : {D : Type 0} → OpenFault D → Refusal

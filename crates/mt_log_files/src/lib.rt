@@ -7,6 +7,8 @@
 pub mod laws;
 mod numbered;
 mod plain;
+mod worker;
 
 pub use numbered::{begin, give_up, open_numbered};
 pub use plain::{open_disk, open_slot, take_disk};
+pub use worker::WorkerFiles;
