@@ -1,0 +1,5 @@
+pub mod JoinLaws
+pub mod BaseLaws
+pub mod LastLaws
+pub mod ApartLaws
+pub mod ChoiceLaws
