@@ -1,11 +1,11 @@
 -- The first start that falls, by the test of each worker's logs.
-use Rattle.std.proofs.Common.{◌≡◌, ◌⊎◌, inl, inr, ⊎_elim, ℕ, zero, suc, ◌+◌, ◌<◌, Bool, true, false, ◌==◌, List, [], ◌∷◌, refl, sym, ◌∙◌, ap, subst, arith, Option, Some, None}
-use Rattle.std.proofs.lemmas.{Bool.{eqb-true, eqb-false, ne_eqb, cond-true, cond-false}, Option.same_Some}
+use Rattle.std.proofs.Common.{◌≡◌, ⊎_elim, ℕ, zero, suc, ◌+◌, ◌<◌, Bool, true, false, ◌==◌, List, [], ◌∷◌, refl, sym, ◌∙◌, ap, subst, arith, Option, Some, None}
+use Rattle.std.proofs.lemmas.{Bool.{eqb-false, ne_eqb, cond-true, cond-false}, Option.same_Some}
 use Rattle.std.specs.{Option.MatchOption, Prelude.slice_get}
 use Rattle.mt_log.specs.Contents.{mark_of}
 use Rattle.mt_crashes.{specs.Fronts.In, proofs.Members.no_some}
 use Rattle.mt_generations.specs.{Chains.Chain, Standings.{Standing, StartFalls}}
-use Rattle.mt_chains.specs.{Standing.IsFirstApart, Testing.{apart_start, or_later, first_apart}}
+use Rattle.mt_chains.specs.{Files.IsFirstApart, Testing.{apart_start, or_later, first_apart}}
 
 -- ---- one worker
 

@@ -1,8 +1,8 @@
 -- By the tests of each worker's logs it is told whether a recovery can begin at a generation.
-use Rattle.std.proofs.Common.{◌≡◌, ◌⊎◌, inl, inr, ⊎_elim, ℕ, zero, suc, ◌+◌, ◌<◌, ◌≤◌, Bool, true, false, not, ◌||◌, List, [], ◌∷◌, ◌++◌, length, refl, sym, ◌∙◌, ap, subst, arith, Option, Some, None}
+use Rattle.std.proofs.Common.{◌≡◌, ◌⊎◌, inl, inr, ⊎_elim, ℕ, zero, suc, ◌+◌, ◌<◌, ◌≤◌, Bool, true, false, ◌||◌, List, [], ◌∷◌, ◌++◌, length, refl, sym, ◌∙◌, ap, subst, arith, Option, Some, None}
 use Rattle.std.proofs.lemmas.Bool.{true≢false, false≢true, not-true, not_from_false, ltb-true, ltb-false, lt-ltb, le-ltb, eqb-true, eq-eqb, and_parts, and_from, or_cases, or_left, or_right, false_from_ne_true}
 use Rattle.std.proofs.lemmas.Option.{same_Some}
-use Rattle.std.specs.{List.list_all, Prelude.slice_get}
+use Rattle.std.specs.{List.list_all}
 use Rattle.mt_log.specs.Contents.{mark_of}
 use Rattle.mt_crashes.specs.{Fronts.{In, is_void, voids_of}, Bases.{CheckpointView, Slots}, Recoveries.HasSlot}
 use Rattle.mt_crashes.proofs.{Members.no_some, FrontLaws.{from_cutoff, ends_cutoff, all_void, void_of_some}}

@@ -1,13 +1,13 @@
 -- Two tests make a choice, and plain files may stay unread.
-use Rattle.std.proofs.Common.{◌≡◌, ◌⊎◌, inl, inr, ⊎_elim, ℕ, zero, suc, ◌+◌, ◌<◌, ◌≤◌, Bool, true, false, ◌==◌, List, [], ◌∷◌, length, map, refl, sym, ◌∙◌, ap, subst, arith, Option, Some, None}
-use Rattle.std.proofs.lemmas.Bool.{ne_eqb, eq-eqb, cond-true, cond-false}
+use Rattle.std.proofs.Common.{◌≡◌, ◌⊎◌, inl, inr, ⊎_elim, ℕ, zero, suc, ◌+◌, ◌<◌, false, ◌==◌, List, [], ◌∷◌, map, refl, sym, ◌∙◌, ap, subst, arith, None}
+use Rattle.std.proofs.lemmas.Bool.{ne_eqb, cond-false}
 use Rattle.std.specs.{List.AllZip, Option.option_map}
 use Rattle.mt_log.specs.Contents.{contents_of}
-use Rattle.mt_crashes.{specs.{Fronts.In, Bases.Slots}, proofs.Members.no_some}
+use Rattle.mt_crashes.{specs.{Bases.Slots}, proofs.Members.no_some}
 use Rattle.mt_generations.specs.Chains.{Chain, HasUse}
 use Rattle.mt_generations.specs.Standings.{Standing, AreFrom, AllHave, IsLast, CanBegin, IsChosen, HaveNoChoice, AgreeFrom}
-use Rattle.mt_generations.proofs.{Deciding.{have_all, same_from}, Choices.{none_begins, begins_none, older_unread}}
-use Rattle.mt_chains.specs.{declared.worker_logs.WorkerLogs.WorkerLogs, Standing.{standing_of, numbered_log, SameNumbered}}
+use Rattle.mt_generations.proofs.{Deciding.{have_all, same_from}, Choices.{none_begins, older_unread}}
+use Rattle.mt_chains.specs.{declared.worker_logs.WorkerLogs.WorkerLogs, Files.{standing_of, numbered_log, SameNumbered}}
 
 -- no base may be used over the chains from a generation on, so a recovery can't begin there
 pub no_beginning : (g : ℕ) (files : List Standing) (slots : Slots) (chains : List Chain) → AreFrom g files chains → ¬ HasUse chains slots → ¬ CanBegin g files slots

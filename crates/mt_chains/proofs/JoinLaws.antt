@@ -1,11 +1,11 @@
 -- Where batches end, and the chains of one worker more.
-use Rattle.std.proofs.Common.{◌≡◌, ◌⊎◌, inl, inr, ℕ, suc, ◌+◌, ◌-◌, List, [], ◌∷◌, ◌++◌, ◌||◌, length, map, refl, sym, ◌∙◌, ap, subst, arith, Option, Some, None}
+use Rattle.std.proofs.Common.{◌≡◌, inl, ℕ, suc, ◌+◌, ◌-◌, List, [], ◌∷◌, ◌++◌, ◌||◌, length, map, refl, sym, ◌∙◌, ap, subst, arith, Option, Some, None}
 use Rattle.std.proofs.lemmas.{List.{append-nil, map-append, Elements.filter_map-append, Folds.list_any-append}, Option.same_Some}
 use Rattle.std.specs.{List.{AllZip, filter_map}, Prelude.slice_get}
 use Rattle.mt_log.specs.{declared.batch.{LogBatch.LogBatch, Front.Front}, Contents.{contents_of, to_of, end_of}, Voids.{Numbers, voids_in, is_void}}
-use Rattle.mt_crashes.{specs.Fronts.In, proofs.Members.{no_some, in_left, in_right}}
+use Rattle.mt_crashes.{proofs.Members.{no_some, in_left, in_right}}
 use Rattle.mt_generations.specs.{Chains.Chain, Standings.{Standing, joined, chain_from, AreFrom, AllHave}}
-use Rattle.mt_chains.specs.{declared.worker_logs.WorkerLogs.WorkerLogs, Standing.standing_of, Testing.batches_in}
+use Rattle.mt_chains.specs.{declared.worker_logs.WorkerLogs.WorkerLogs, Files.standing_of, Testing.batches_in}
 
 -- batches end where the last one does
 pub end_last : (mark : ℕ) (bs : List LogBatch) (b : LogBatch) → slice_get bs (length bs - 1) ≡ Some b → end_of mark bs ≡ to_of b

@@ -1,11 +1,11 @@
 -- The last generation of which each worker has a log is one of those that the first worker's files have.
-use Rattle.std.proofs.Common.{◌≡◌, ◌⊎◌, inl, inr, ⊎_elim, ℕ, ◌+◌, ◌<◌, ◌≤◌, Bool, true, false, cond, ◌&&◌, ◌==◌, List, [], ◌∷◌, length, get_or, map, refl, sym, ◌∙◌, ap, subst, arith, Option, Some, None}
+use Rattle.std.proofs.Common.{◌≡◌, ◌⊎◌, inl, inr, ⊎_elim, ℕ, ◌<◌, ◌≤◌, Bool, true, false, cond, ◌&&◌, ◌==◌, List, [], ◌∷◌, length, get_or, map, refl, sym, ◌∙◌, ap, subst, arith, Option, Some, None}
 use Rattle.std.proofs.lemmas.Bool.{true≢false, false≢true, ltb-true, ltb-false, eqb-true, ne_eqb, and_parts, and_from, cases_eq, cond-false}
-use Rattle.std.specs.{List.list_all, Option.{option_map, MatchOption}}
+use Rattle.std.specs.{Option.{option_map, MatchOption}}
 use Rattle.mt_log.specs.{declared.batch.Front.Front, Contents.contents_of}
 use Rattle.mt_crashes.{specs.Fronts.In, proofs.Members.no_some}
 use Rattle.mt_generations.specs.{Chains.Chain, Standings.{Standing, AllHave, IsLast}}
-use Rattle.mt_chains.specs.{declared.worker_logs.WorkerLogs.WorkerLogs, Standing.{standing_of, numbered_log}}
+use Rattle.mt_chains.specs.{declared.worker_logs.WorkerLogs.WorkerLogs, Files.{standing_of, numbered_log}}
 use Rattle.mt_chains.specs.Testing.{is_there, all_have, is_over, later, later_among}
 
 -- ---- whether each worker has a log of a generation

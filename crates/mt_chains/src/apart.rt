@@ -3,7 +3,7 @@
 ghost use Rattle.std.specs.Prelude.{◌≡◌, ◌+◌, ◌≤◌, ℕ, map, length, MatchOption};
 ghost use Rattle.mt_crashes.specs.Fronts.{In};
 ghost use Rattle.mt_generations.specs.Standings.{Standing, StartFalls};
-ghost use Rattle.mt_chains.specs.{Standing.{standing_of, IsFirstApart}, Testing.{apart_start, first_apart}};
+ghost use Rattle.mt_chains.specs.{Files.{standing_of, IsFirstApart}, Testing.{apart_start, first_apart}};
 
 use crate::ends::end_after;
 use crate::worker_logs::WorkerLogs;

@@ -4,7 +4,7 @@ ghost use Rattle.std.specs.{Prelude.{◌≡◌, ◌++◌, ◌↔◌, IsTrue, not
 ghost use Rattle.mt_log.specs.{Contents.{contents_of, end_of}, Voids.{voids_in, is_void}};
 ghost use Rattle.mt_generations.specs.Standings.{CanBegin, chain_from};
 ghost use Rattle.mt_recover.specs.Pairs.{view_of};
-ghost use Rattle.mt_chains.specs.{Standing.standing_of, Testing.{is_first, covers, serves, all_first, serves_all, slot_serves, any_serves}};
+ghost use Rattle.mt_chains.specs.{Files.standing_of, Testing.{is_first, covers, serves, all_first, serves_all, slot_serves, any_serves}};
 
 use crate::ends::end_after;
 use crate::worker_logs::WorkerLogs;
@@ -31,6 +31,7 @@ fn all_first(generation: u64, logs: &[WorkerLogs]) -> bool
     true
 }
 
+// Whether a worker's log of a generation begins at step 0.
 fn is_first(generation: u64, worker: &WorkerLogs) -> bool
     ensures { result ≡ is_first (standing_of worker.now generation) }
 {
@@ -52,6 +53,7 @@ fn any_serves(generation: u64, logs: &[WorkerLogs], checkpoints: &[Option<Checkp
     false
 }
 
+// Whether the checkpoint of a slot may.
 fn slot_serves(generation: u64, logs: &[WorkerLogs], slot: &Option<Checkpoint>) -> bool
     ensures { result ≡ slot_serves generation (map standing_of logs.now) (option_map view_of slot.now) }
 {
@@ -73,6 +75,7 @@ fn serves_all(generation: u64, logs: &[WorkerLogs], first: u64, last: u64) -> bo
     true
 }
 
+// The same of one worker's chain.
 fn serves(generation: u64, worker: &WorkerLogs, first: u64, last: u64) -> bool
     ensures { result ≡ serves first last (chain_from generation (standing_of worker.now)) }
 {

@@ -3,7 +3,7 @@
 ghost use Rattle.std.specs.{Prelude.{◌≡◌, ◌<◌, List, map, length, IfSome, IfNone}, Option.option_map};
 ghost use Rattle.mt_generations.specs.{Chains.Chain, Standings.{AllHave, AreFrom, IsChosen, HaveNoChoice}};
 ghost use Rattle.mt_recover.specs.Pairs.{view_of};
-ghost use Rattle.mt_chains.specs.Standing.{standing_of};
+ghost use Rattle.mt_chains.specs.Files.{standing_of};
 
 use crate::bases::can_begin;
 use crate::last::last_generation;

@@ -1,9 +1,9 @@
 //! Each worker's chain from a generation on, made of its logs.
 
-ghost use Rattle.std.specs.{Prelude.{◌≡◌, ◌+◌, ◌++◌, ◌∷◌, [], Some, map, IfOk, OnOk}, Option.option_map};
+ghost use Rattle.std.specs.{Prelude.{◌≡◌, ◌++◌, ◌∷◌, [], Some, map, IfOk, OnOk}, Option.option_map};
 ghost use Rattle.mt_log.specs.Contents.{contents_of};
 ghost use Rattle.mt_generations.specs.{Chains.Chain, Standings.{AllHave, AreFrom, chain_from, joined}};
-ghost use Rattle.mt_chains.specs.Standing.{standing_of};
+ghost use Rattle.mt_chains.specs.Files.{standing_of};
 
 use crate::worker_logs::WorkerLogs;
 use mt_log::Front;

@@ -2,7 +2,7 @@
 
 ghost use Rattle.std.specs.Prelude.{◌≡◌, ◌<◌, ℕ, map, length, MatchOption};
 ghost use Rattle.mt_generations.specs.Standings.{AllHave, IsLast};
-ghost use Rattle.mt_chains.specs.{Standing.standing_of, Testing.{all_have, is_over, later, later_among}};
+ghost use Rattle.mt_chains.specs.{Files.standing_of, Testing.{all_have, is_over, later, later_among}};
 
 use crate::worker_logs::WorkerLogs;
 use mt_log::Front;

@@ -4,7 +4,7 @@ ghost use Rattle.std.specs.{Prelude.{◌≡◌, ◌+◌, ◌<◌, ℕ, List, ◌
 ghost use Rattle.mt_crashes.specs.Bases.{Slots};
 ghost use Rattle.mt_generations.specs.Chains.{Chain, HasUse};
 ghost use Rattle.mt_generations.specs.Standings.{Standing, AreFrom, IsLast, IsChosen, HaveNoChoice};
-ghost use Rattle.mt_chains.specs.{declared.worker_logs.WorkerLogs.WorkerLogs, Standing.{standing_of, SameNumbered}};
+ghost use Rattle.mt_chains.specs.{declared.worker_logs.WorkerLogs.WorkerLogs, Files.{standing_of, SameNumbered}};
 
 /// The last generation of which each worker has a log is chosen if some base may be used over the chains from there on.
 /// Else the one before it is, if some base may be used over the chains from that one. Else there is no choice. From a

@@ -2,7 +2,7 @@
 
 ghost use Rattle.std.specs.{Prelude.{◌≡◌, ◌≢◌, ◌+◌, ◌∷◌, [], ℕ, ◌↔◌, IsTrue}, Option.option_map};
 ghost use Rattle.mt_log.specs.Contents.{contents_of};
-ghost use Rattle.mt_chains.specs.{Standing.{standing_of, numbered_log}, Testing.{batches_in, is_there}};
+ghost use Rattle.mt_chains.specs.{Files.{standing_of, numbered_log}, Testing.{batches_in, is_there}};
 
 use mt_log::{Front, LogBatch};
 

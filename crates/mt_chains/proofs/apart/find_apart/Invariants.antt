@@ -1,6 +1,6 @@
 -- The first one of all workers is that of those that are left.
 use Rattle.std.proofs.Common.{◌≡◌, map, drop}
-use Rattle.mt_chains.specs.{Standing.standing_of, Testing.first_apart}
+use Rattle.mt_chains.specs.{Files.standing_of, Testing.first_apart}
 use Rattle.mt_chains.proofs.apart.find_apart.Given as goal
 
 abbrev pub invariant-loop-place : goal.invariant-loop-place

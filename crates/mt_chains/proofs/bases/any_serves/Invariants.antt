@@ -1,7 +1,7 @@
 -- The test of all slots is that of those that are left.
 use Rattle.std.{proofs.Common.{◌≡◌, map, drop}, specs.Option.option_map}
 use Rattle.mt_recover.specs.Pairs.{view_of}
-use Rattle.mt_chains.specs.{Standing.standing_of, Testing.any_serves}
+use Rattle.mt_chains.specs.{Files.standing_of, Testing.any_serves}
 use Rattle.mt_chains.proofs.bases.any_serves.Given as goal
 
 abbrev pub invariant-loop-slot : goal.invariant-loop-slot

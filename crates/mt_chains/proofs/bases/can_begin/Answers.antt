@@ -1,8 +1,8 @@
 -- By the tests of all workers' logs.
-use Rattle.std.proofs.{Common.{rules, ◌⊎◌, ⊎_elim, sym, ◌∙◌, map}, lemmas.Bool.{or_left, or_right, or_cases, true≢false}}
+use Rattle.std.proofs.{Common.{rules, ⊎_elim, sym, ◌∙◌, map}, lemmas.Bool.{or_left, or_right, or_cases, true≢false}}
 use Rattle.std.specs.Option.{option_map}
 use Rattle.mt_recover.specs.Pairs.{view_of}
-use Rattle.mt_chains.{specs.Standing.standing_of, proofs.BaseLaws.{can_tells, can_passes}}
+use Rattle.mt_chains.{specs.Files.standing_of, proofs.BaseLaws.{can_tells, can_passes}}
 use Rattle.mt_chains.proofs.bases.can_begin.Goals as goal
 
 pub returns-then-all_first : goal.returns-then-all_first

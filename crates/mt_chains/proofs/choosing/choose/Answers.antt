@@ -3,7 +3,7 @@ use Rattle.std.proofs.{Common.{◌≡◌, ◌+◌, ◌-◌, sym, ◌∙◌, map,
 use Rattle.std.specs.Option.{option_map}
 use Rattle.mt_recover.specs.Pairs.{view_of}
 use Rattle.mt_generations.proofs.Deciding.{have_all}
-use Rattle.mt_chains.{specs.Standing.standing_of, proofs.ChoiceLaws.{last_chosen, earlier_chosen}}
+use Rattle.mt_chains.{specs.Files.standing_of, proofs.ChoiceLaws.{last_chosen, earlier_chosen}}
 use Rattle.mt_chains.proofs.choosing.choose.Goals as goal
 
 pub returns-then-can_begin-clause-chosen : goal.returns-then-can_begin-clause-chosen

@@ -2,7 +2,7 @@
 use Rattle.std.proofs.Common.{map}
 use Rattle.mt_log.specs.Contents.{contents_of}
 use Rattle.mt_generations.specs.Standings.{AllHave, AreFrom}
-use Rattle.mt_chains.specs.Standing.{standing_of}
+use Rattle.mt_chains.specs.Files.{standing_of}
 use Rattle.mt_chains.proofs.joining.chains_from.Given as goal
 
 abbrev pub invariant-loop-worker : goal.invariant-loop-worker

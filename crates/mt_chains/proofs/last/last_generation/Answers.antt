@@ -1,6 +1,6 @@
 -- The first worker's files have it.
 use Rattle.std.proofs.Common.{◌∙◌, sym, map}
-use Rattle.mt_chains.{specs.{Standing.standing_of, Testing.later_among}, proofs.LastLaws.{first_in, last_of_first}}
+use Rattle.mt_chains.{specs.{Files.standing_of, Testing.later_among}, proofs.LastLaws.{first_in, last_of_first}}
 use Rattle.mt_chains.proofs.last.last_generation.Goals as goal
 
 pub returns : goal.returns

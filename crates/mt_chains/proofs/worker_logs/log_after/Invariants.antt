@@ -1,6 +1,6 @@
 -- The first such log of all files is that of those that are left.
 use Rattle.std.proofs.Common.{◌≡◌, ◌+◌, drop}
-use Rattle.mt_chains.specs.Standing.{numbered_log}
+use Rattle.mt_chains.specs.Files.{numbered_log}
 use Rattle.mt_chains.proofs.worker_logs.log_after.Given as goal
 
 abbrev pub invariant-loop-file : goal.invariant-loop-file
