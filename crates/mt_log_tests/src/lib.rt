@@ -1,7 +1,7 @@
 //! Tests of the logs, from a disk up to a running store: `mt_disk`, `mt_log`, `mt_recover` and `mt_store_logs`.
 //!
 //! Of one log: which calls fail, what a crash may leave, bytes worked out by hand, and real files. Of the log of a
-//! generation: its numbered file, from spare to spare. Of the logs of a
+//! generation: its numbered file, from spare to spare, and a store that is recovered from it (`chains`). Of the logs of a
 //! store that are recovered (`slots`): logs worked out by hand, each refusal, logs that are older than the others,
 //! and random stores that crash anywhere. Of the logs of a running store (`stores`): a worker's changes on their way
 //! into its log, each call of a disk failing, alone and with a later one, crashes, and which log is told if some are
@@ -11,6 +11,8 @@
 //! begun twice.
 #![tactic(auto)]
 
+#[cfg(test)]
+mod chains;
 #[cfg(test)]
 mod chance;
 #[cfg(test)]

@@ -281,8 +281,8 @@ fn written(alloc: Global, walk: Walk) -> Result<MemDisk, Refusal> {
     }
 }
 
-// A walk as its slot is read, if there is one.
-fn checkpoint_of(alloc: Global, walk: Option<Walk>) -> Result<Option<Checkpoint>, Refusal>
+/// A walk as its slot is read, if there is one.
+pub fn checkpoint_of(alloc: Global, walk: Option<Walk>) -> Result<Option<Checkpoint>, Refusal>
     ensures { IfOk result IsReadSlot }
 {
     let Some(walk) = walk else {
