@@ -1,0 +1,4 @@
+pub mod Files
+pub mod Logs
+pub mod Turns
+pub mod Shows
