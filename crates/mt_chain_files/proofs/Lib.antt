@@ -1,0 +1,7 @@
+pub mod Loops
+pub mod Agreeing
+pub mod Reading
+pub mod Faults
+pub mod Narrowing
+pub mod OwnFiles
+pub mod TurnLaws

@@ -1,0 +1,5 @@
+pub mod Lists
+pub mod Numbered
+pub mod Plain
+pub mod Chosen
+pub mod Turns

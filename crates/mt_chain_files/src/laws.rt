@@ -1,0 +1,41 @@
+//! Laws of the log files of a store, each the contract of a function that does nothing.
+
+ghost use Rattle.std.specs.{Prelude.{◌≡◌, ◌⊎◌, ◌+◌, ◌<◌, ◌≤◌, ℕ, List, map, Option}, List.AllZip};
+ghost use Rattle.mt_rows.specs.{Tenants.{Contents as Pairs}};
+ghost use Rattle.mt_rows.specs.declared.refusal.Refusal.TheVariants as refusals;
+ghost use Rattle.mt_log.specs.Contents.{contents_of};
+ghost use Rattle.mt_crashes.specs.{Histories.pairs_upto, Bases.Slots, Stores.{Store, LogNow, new_store, Leads, MayLeaveSlots}};
+ghost use Rattle.mt_generations.specs.Chains.{IsRecoveredOver};
+ghost use Rattle.mt_log_files.specs.{declared.worker.WorkerFiles.WorkerFiles, Files.{Spare, Has}};
+ghost use Rattle.mt_chain_files.specs.{declared.fault.FilesFault.FilesFault, declared.opening.Chains.Chains};
+ghost use Rattle.mt_chain_files.specs.{Chosen.{OpensChains, StopsChains}, Turns.{FilesNow, now_of, AreOfTurn, StaysWhole, ShowFiles, ComeToRest, StayTheirs}};
+
+use mt_disk::Disk;
+
+/// A store's own log files, over disks that keep the rules, at any moment of a turn. If they are opened, the chains are the
+/// ends of whole logs that a crash might have left, so a recovery from them gives what the history says. If not, the
+/// device failed, or there was no memory, and the call may be made again. One generation has to stand whole, whatever a
+/// crash leaves.
+pub fn files_of_a_store_are_never_refused<D: Disk>()
+    ensures opened { (g count n h : ℕ) (s : Store) (files : List FilesNow) (slots : Slots) (old new : List (WorkerFiles D)) (chains : Chains) →
+        0 < count → count ≤ 64 → Leads n (new_store count) s → AllZip (AreOfTurn g) s.logs files → MayLeaveSlots s.slots slots → StaysWhole g h s files →
+        AllZip (ShowFiles D.is_honest D.state) files old → OpensChains D.is_honest D.state D.failures slots old new chains →
+        ComeToRest D.is_honest D.state g s.logs new (map contents_of chains.fronts.items) }
+    ensures recovered { (g count n h : ℕ) (s : Store) (files : List FilesNow) (slots : Slots) (old new : List (WorkerFiles D)) (chains : Chains)
+        (cutoff resume : ℕ) (used : Option ℕ) (found : Pairs) →
+        0 < count → count ≤ 64 → Leads n (new_store count) s → AllZip (AreOfTurn g) s.logs files → MayLeaveSlots s.slots slots → StaysWhole g h s files →
+        AllZip (ShowFiles D.is_honest D.state) files old → OpensChains D.is_honest D.state D.failures slots old new chains →
+        IsRecoveredOver (map contents_of chains.fronts.items) slots cutoff resume used found → found ≡ pairs_upto cutoff s.history }
+    ensures failed { (g count n h : ℕ) (s : Store) (files : List FilesNow) (slots : Slots) (old new : List (WorkerFiles D)) (e : FilesFault) →
+        0 < count → count ≤ 64 → Leads n (new_store count) s → AllZip (AreOfTurn g) s.logs files → MayLeaveSlots s.slots slots → StaysWhole g h s files →
+        AllZip (ShowFiles D.is_honest D.state) files old → StopsChains D.is_honest D.state D.failures slots e old new →
+        ((e.refusal ≡ refusals.Memory) ⊎ (e.refusal ≡ refusals.Device)) × StayTheirs D.is_honest D.state g h s new }
+{}
+
+/// The files of a store whose first logs stand in plain files are of its first turn. Once the older log of a worker is
+/// given up and the next one is there, its files are of the turn after that.
+pub fn one_turn_follows_another()
+    ensures first { (now : LogNow) → now.had.generation ≡ 0 → AreOfTurn 0 now (record { plain = Has now; even = Spare; odd = Spare }) }
+    ensures next { (g : ℕ) (now next : LogNow) (files : FilesNow) → AreOfTurn g now files → now_of g files ≡ Spare → now_of (g + 1) files ≡ Has next →
+        AreOfTurn (g + 1) now files }
+{}

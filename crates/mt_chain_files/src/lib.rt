@@ -1,0 +1,16 @@
+//! The log files of all workers of a store, opened, and the chains with which a recovery begins.
+//!
+//! `specs/Numbered.antt` and `specs/Plain.antt` say what becomes of the files. `specs/Chosen.antt` says which chains there
+//! are then, and why an opening stops. `laws` say that a store's own files are never refused.
+#![tactic(auto)]
+
+mod fault;
+pub mod laws;
+mod numbered;
+mod opening;
+mod plain;
+
+pub use fault::FilesFault;
+pub use numbered::open_numbered_files;
+pub use opening::{Chains, open_chains};
+pub use plain::open_plain_files;
