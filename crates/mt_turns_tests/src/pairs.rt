@@ -25,14 +25,20 @@ fn row_of(alloc: Global) -> Result<Row, AllocError> {
     }
 }
 
+fn last_byte(stamp: u64) -> u8 {
+    (stamp % 256) as u8
+}
+
 // The key of a put: its stamp.
 fn key_of(alloc: Global, stamp: u64) -> Result<Key, AllocError>
     ensures { IfOk result IsKey }
 {
-    Ok(Key::new([stamp as u8].to_vec(alloc)?))
+    Ok(Key::new([last_byte(stamp)].to_vec(alloc)?))
 }
 
-fn record_of(alloc: Global, stamp: u64) -> Result<Record, AllocError> {
+fn record_of(alloc: Global, stamp: u64) -> Result<Record, AllocError>
+    ensures { IfOk result (λ r. IsKey r.key) }
+{
     let key = key_of(alloc, stamp)?;
     let write = Write::Whole(row_of(alloc)?);
     Ok(Record {
@@ -43,17 +49,30 @@ fn record_of(alloc: Global, stamp: u64) -> Result<Record, AllocError> {
     })
 }
 
-/// The puts over step `from` and up to step `to`.
+// The put over step `from` and up to step `to`, if there is one.
+fn put_between(from: u64, to: u64) -> Option<u64> {
+    for stamp in PUTS {
+        if from < stamp && stamp <= to {
+            return Some(stamp);
+        }
+    }
+    None
+}
+
+// The records of this put, or none.
+fn records_of(alloc: Global, put: Option<u64>) -> Result<Records, AllocError> {
+    let mut records = Vec::new(alloc);
+    if let Some(stamp) = put {
+        records.push(record_of(alloc, stamp)?)?;
+    }
+    Ok(Records::new(records))
+}
+
+/// The put over step `from` and up to step `to`, if there is one, as a batch.
 pub fn batch_of(alloc: Global, from: u64, to: u64) -> Result<Batch, Refusal>
     ensures { IfOk result IsBatch }
 {
-    let mut records = Vec::new(alloc);
-    for stamp in PUTS {
-        if from < stamp && stamp <= to {
-            records.push(record_of(alloc, stamp)?)?;
-        }
-    }
-    let records = Records::new(records);
+    let records = records_of(alloc, put_between(from, to))?;
     let batch = Batch { from, to, records };
     if fits(&batch) {
         Ok(batch)
@@ -123,11 +142,14 @@ pub fn checkpoint_of(alloc: Global, walk: Option<(u64, u64)>) -> Result<Option<C
     }
 }
 
+// Whether a pair is a put up to a step.
+fn is_put(pair: &TenantPair, last: u64) -> bool {
+    let stamp = pair.row.stamp;
+    pair.tenant == 7 && stamp <= last && pair.key.as_bytes() == [last_byte(stamp)].as_slice()
+}
+
 /// Whether these are exactly the puts up to a step.
 pub fn are_upto(pairs: &[TenantPair], last: u64) -> bool {
     let upto = PUTS.iter().filter(|stamp| **stamp <= last).count();
-    pairs.len() == upto
-        && pairs.iter().all(|pair| pair.tenant == 7
-            && pair.row.stamp <= last
-            && pair.key.as_bytes() == [pair.row.stamp as u8].as_slice())
+    pairs.len() == upto && pairs.iter().all(|pair| is_put(pair, last))
 }
