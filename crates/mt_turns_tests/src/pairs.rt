@@ -1,4 +1,4 @@
-//! A store of one tenant and two puts: its batches, its checkpoints, and which puts are recovered.
+//! A store of two workers, one tenant and two puts: its batches, its checkpoints, and which puts are recovered.
 
 ghost use Rattle.std.specs.{Prelude.{◌↔◌, IfOk, IsTrue}, List.All};
 ghost use Rattle.mt_rows.specs.Commands.{IsKey};
@@ -12,7 +12,7 @@ use mt_rows::key::USER_KEY_BYTES;
 use mt_rows::{Batch, Column, Key, Record, Records, Refusal, Row, StampedRow, TenantPair, Write};
 use std::alloc::{AllocError, Global};
 
-/// The stamps of the two puts, each of a key of its own.
+/// The stamps of the puts, each of a key and a worker of its own.
 pub const PUTS: [u64; 2] = [5, 12];
 
 fn row_of(alloc: Global) -> Result<Row, AllocError> {
@@ -49,14 +49,14 @@ fn record_of(alloc: Global, stamp: u64) -> Result<Record, AllocError>
     })
 }
 
-// The put over step `from` and up to step `to`, if there is one.
-fn put_between(from: u64, to: u64) -> Option<u64> {
-    for stamp in PUTS {
-        if from < stamp && stamp <= to {
-            return Some(stamp);
-        }
+// A worker's put over step `from` and up to step `to`, if there is one.
+fn put_between(worker: usize, from: u64, to: u64) -> Option<u64> {
+    let stamp = *PUTS.get(worker)?;
+    if from < stamp && stamp <= to {
+        Some(stamp)
+    } else {
+        None
     }
-    None
 }
 
 // The records of this put, or none.
@@ -68,11 +68,11 @@ fn records_of(alloc: Global, put: Option<u64>) -> Result<Records, AllocError> {
     Ok(Records::new(records))
 }
 
-/// The put over step `from` and up to step `to`, if there is one, as a batch.
-pub fn batch_of(alloc: Global, from: u64, to: u64) -> Result<Batch, Refusal>
+/// A worker's put over step `from` and up to step `to`, if there is one, as a batch.
+pub fn batch_of(alloc: Global, worker: usize, from: u64, to: u64) -> Result<Batch, Refusal>
     ensures { IfOk result IsBatch }
 {
-    let records = records_of(alloc, put_between(from, to))?;
+    let records = records_of(alloc, put_between(worker, from, to))?;
     let batch = Batch { from, to, records };
     if fits(&batch) {
         Ok(batch)
