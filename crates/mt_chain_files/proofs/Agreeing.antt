@@ -11,7 +11,7 @@ use Rattle.mt_chains.specs.{declared.worker_logs.WorkerLogs.WorkerLogs, Files.{s
 use Rattle.mt_disk.specs.Disk.{DiskState}
 use Rattle.mt_log_files.specs.declared.worker.WorkerFiles.{WorkerFiles}
 use Rattle.mt_chain_files.specs.{declared.fault.FilesFault.FilesFault, declared.opening.Chains.Chains, Numbered.{numbered_logs, OpensNumberedFiles}}
-use Rattle.mt_chain_files.specs.Chosen.{NeedPlain, BeginAt, FallAt, RefuseToBegin, MayStand, ReadsPlain, NotChosen, OpensChains, StopsChains}
+use Rattle.mt_chain_files.specs.Chosen.{begun_in, NeedPlain, BeginAt, FallAt, RefuseToBegin, MayStand, ReadsPlain, NotChosen, OpensChains, StopsChains}
 use Rattle.mt_chain_files.proofs.Loops.{get_within, at_place}
 use Rattle.mt_rows.specs.declared.refusal.Refusal.TheVariants as refusals
 
@@ -217,8 +217,9 @@ module _ {D : Type 0} (is_honest : D → Bool) (state : D → DiskState) (failur
   }))
 
   pub opens_chosen : (chains : Chains) → ReadsPlain is_honest state failures slots between new first logs → BeginAt (map standing_of logs) slots chains.generation
-      → AreFrom chains.generation (map standing_of logs) (map contents_of chains.fronts.items) → OpensChains is_honest state failures slots old new chains
-  opens_chosen chains plain begin are =
+      → AreFrom chains.generation (map standing_of logs) (map contents_of chains.fronts.items)
+      → chains.begun.items ≡ begun_in chains.generation logs → OpensChains is_honest state failures slots old new chains
+  opens_chosen chains plain begin are begun =
       let files = map standing_of logs in
       record {
         reads = record { between = between; first = first; numbered = numbered; logs = logs; plain = plain };
@@ -228,6 +229,7 @@ module _ {D : Type 0} (is_honest : D → Bool) (state : D → DiskState) (failur
             let have = have_all chains.generation files (map contents_of chains.fronts.items) are in
             over_zero chains.generation (map standing_of first) some_first none (subst (λ (l : List WorkerLogs). AllHave chains.generation (map standing_of l)) same have)
             );
+        begun = begun;
         chosen = λ standings all. record {
           chosen = chosen_agree slots chains.generation files standings all begin.chosen (map contents_of chains.fronts.items) (from_agree chains.generation files standings (map contents_of chains.fronts.items) all are);
           meets = meets_agree slots chains.generation files standings all begin.meets;

@@ -1,11 +1,11 @@
 -- With which chains a recovery begins, by what was read of the log files, and why with none.
-use Rattle.std.specs.{Prelude.{◌≡◌, ◌⊎◌, ℕ, ◌<◌, Bool, List, map, Some, None}, List.AllZip}
+use Rattle.std.specs.{Prelude.{◌≡◌, ◌⊎◌, ℕ, ◌+◌, ◌<◌, Bool, List, map, Some, None}, List.AllZip}
 use Rattle.mt_disk.specs.Disk.{DiskState}
 use Rattle.mt_log.specs.Contents.{contents_of}
 use Rattle.mt_crashes.specs.{Fronts.In, Bases.Slots}
 use Rattle.mt_generations.specs.Chains.{Chain}
 use Rattle.mt_generations.specs.Standings.{Standing, AllHave, AreFrom, AgreeFrom, IsLast, CanBegin, IsChosen, HaveNoChoice, StartFalls}
-use Rattle.mt_chains.specs.{declared.worker_logs.WorkerLogs.WorkerLogs, Files.{standing_of, SameNumbered, IsFirstApart}}
+use Rattle.mt_chains.specs.{declared.worker_logs.WorkerLogs.WorkerLogs, Files.{standing_of, SameNumbered, IsFirstApart}, Testing.is_there}
 use Rattle.mt_log_files.specs.declared.worker.WorkerFiles.{WorkerFiles}
 use Rattle.mt_chain_files.specs.{declared.fault.FilesFault.FilesFault, declared.opening.Chains.Chains}
 use Rattle.mt_chain_files.specs.{Numbered.{OpensNumberedFiles, StopsNumberedFiles}, Plain.{OpensPlainFiles, StopsPlainFiles}}
@@ -41,6 +41,10 @@ pub record AreChosen (standings : List Standing) (slots : Slots) (chains : Chain
   pub meets : (f : Standing) (start : ℕ) → In f standings → ¬ StartFalls chains.generation f start
 
 -- ---- by the files
+
+-- which workers have a log of the generation after one
+abbrev pub begun_in : ℕ → List WorkerLogs → List Bool
+begun_in g logs = map (λ worker. is_there (standing_of worker (g + 1))) logs
 
 -- What may stand, by what was read of the numbered files first, and then of all: just that, if the plain files are needed. Else these may have anything.
 abbrev pub MayStand : Slots → List WorkerLogs → List WorkerLogs → List Standing → Type 0
@@ -79,6 +83,7 @@ module _ {D : Type 0} (is_honest : D → Bool) (state : D → DiskState) (failur
   pub record OpensChains (old new : List (WorkerFiles D)) (chains : Chains) : Type 0 where
     pub reads : ReadsFiles old new
     pub numbered : ¬ NeedPlain (map standing_of reads.first) slots → 0 < chains.generation
+    pub begun : chains.begun.items ≡ begun_in chains.generation reads.logs
     pub chosen : (standings : List Standing) → AgreeFrom chains.generation (map standing_of reads.logs) standings → AreChosen standings slots chains
 
   -- a plain file was not opened, after all numbered ones were

@@ -4,6 +4,7 @@
 //! are then, and why an opening stops. `laws` say that a store's own files are never refused.
 #![tactic(auto)]
 
+mod begun;
 mod fault;
 pub mod laws;
 mod numbered;

@@ -1,11 +1,13 @@
 //! The chains with which a recovery of a store begins.
 
 ghost use Rattle.std.specs.{Prelude.{◌≡◌, ◌<◌, ◌≤◌, ◌↔◌, ℕ, IsTrue, map, length, IfOk, IfErr, OnOk}, Option.option_map};
-ghost use Rattle.mt_generations.specs.Standings.{AllHave};
+ghost use Rattle.mt_generations.specs.Standings.{AllHave, AreFrom};
+ghost use Rattle.mt_log.specs.Contents.{contents_of};
 ghost use Rattle.mt_recover.specs.Pairs.{view_of};
 ghost use Rattle.mt_chains.specs.Files.{standing_of};
-ghost use Rattle.mt_chain_files.specs.Chosen.{NeedPlain, BeginAt, RefuseToBegin, ReadsPlain, StopsPlain, Chooses, NotChosen, OpensChains, StopsChains};
+ghost use Rattle.mt_chain_files.specs.Chosen.{begun_in, NeedPlain, BeginAt, RefuseToBegin, ReadsPlain, StopsPlain, Chooses, NotChosen, OpensChains, StopsChains};
 
+use crate::begun::begun_after;
 use crate::fault::FilesFault;
 use crate::numbered::open_numbered_files;
 use crate::plain::open_plain_files;
@@ -15,14 +17,15 @@ use mt_disk::Disk;
 use mt_log::Front;
 use mt_log_files::WorkerFiles;
 use mt_rows::Refusal;
-use std::alloc::Global;
+use std::alloc::{AllocError, Global};
 
 /// The chains with which a recovery begins, one for each worker, in their order, and the generation from which on they
-/// are.
+/// are. `begun` tells of each worker whether it has a log of the next generation too. That log is its last one then.
 #[derive(Debug, Drop)]
 pub struct Chains {
     pub generation: u64,
     pub fronts: Vec<Front>,
+    pub begun: Vec<bool>,
 }
 
 /// Opens the log files of all workers, and gives the chains with which a recovery begins. It knows the checkpoints of the
@@ -48,10 +51,26 @@ pub fn open_chains<D: Disk + Drop>(
 {
     let mut logs = open_numbered_files(alloc, files)?;
     let generation = choose_from(alloc, files, &mut logs, checkpoints)?;
-    match chains_from(alloc, generation, logs) {
-        Ok(fronts) => Ok(Chains { generation, fronts }),
+    match chains_of(alloc, generation, logs) {
+        Ok(chains) => Ok(chains),
         Err(_) => Err(FilesFault::of_all(Refusal::Memory)),
     }
+}
+
+// The chains from a generation on, of which each worker has a log.
+fn chains_of(alloc: Global, generation: u64, logs: Vec<WorkerLogs>) -> Result<Chains, AllocError>
+    requires { AllHave generation (map standing_of logs.items) }
+    ensures generation { IfOk result (λ chains. chains.generation ≡ generation) }
+    ensures are { IfOk result (λ chains. AreFrom chains.generation (map standing_of logs.items) (map contents_of chains.fronts.items)) }
+    ensures begun { IfOk result (λ chains. chains.begun.items ≡ begun_in chains.generation logs.items) }
+{
+    let begun = begun_after(alloc, generation, &logs)?;
+    let fronts = chains_from(alloc, generation, logs)?;
+    Ok(Chains {
+        generation,
+        fronts,
+        begun,
+    })
 }
 
 // Opens the plain files if they are needed. Tells from which generation on the chains are.
