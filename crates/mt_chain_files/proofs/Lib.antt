@@ -1,6 +1,7 @@
 pub mod Loops
 pub mod Agreeing
 pub mod Reading
+pub mod Lasts
 pub mod Faults
 pub mod Narrowing
 pub mod OwnFiles

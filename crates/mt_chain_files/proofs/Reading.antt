@@ -132,7 +132,7 @@ pub record Tells (f e : Standing) : Type 0 where
   pub later : (h : ℕ) → 0 < h → e h ≡ f h
   pub first : (e 0 ≡ None) ⊎ (e 0 ≡ f 0)
 
-read_later : (one : WorkerLogs) (even odd : Option Front) (h : ℕ) → 0 < h → one.numbered ≡ even ∷ odd ∷ [] → read_of one h ≡ numbered_log h (even ∷ odd ∷ [])
+pub read_later : (one : WorkerLogs) (even odd : Option Front) (h : ℕ) → 0 < h → one.numbered ≡ even ∷ odd ∷ [] → read_of one h ≡ numbered_log h (even ∷ odd ∷ [])
 read_later one even odd h over is =
     cond-false (h == 0) (option_map contents_of one.plain) (numbered_log h one.numbered) (ne_eqb h 0 (λ e. omega (arith, e, over))) ∙ ap (numbered_log h) is
 

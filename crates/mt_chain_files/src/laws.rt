@@ -1,6 +1,6 @@
 //! Laws of the log files of a store, each the contract of a function that does nothing.
 
-ghost use Rattle.std.specs.{Prelude.{◌≡◌, ◌⊎◌, ◌+◌, ◌<◌, ◌≤◌, ℕ, List, map, Option}, List.AllZip};
+ghost use Rattle.std.specs.{Prelude.{◌≡◌, ◌⊎◌, ◌+◌, ◌<◌, ◌≤◌, ℕ, List, length, map, Option}, List.AllZip};
 ghost use Rattle.mt_rows.specs.{Tenants.{Contents as Pairs}};
 ghost use Rattle.mt_rows.specs.declared.refusal.Refusal.TheVariants as refusals;
 ghost use Rattle.mt_log.specs.Contents.{contents_of};
@@ -8,9 +8,17 @@ ghost use Rattle.mt_crashes.specs.{Histories.pairs_upto, Bases.Slots, Stores.{St
 ghost use Rattle.mt_generations.specs.Chains.{IsRecoveredOver};
 ghost use Rattle.mt_log_files.specs.{declared.worker.WorkerFiles.WorkerFiles, Files.{Spare, Has}};
 ghost use Rattle.mt_chain_files.specs.{declared.fault.FilesFault.FilesFault, declared.opening.Chains.Chains};
-ghost use Rattle.mt_chain_files.specs.{Chosen.{OpensChains, StopsChains}, Turns.{FilesNow, now_of, AreOfTurn, StaysWhole, ShowFiles, ComeToRest, StayTheirs}};
+ghost use Rattle.mt_chain_files.specs.{Chosen.{OpensChains, StopsChains}, Lasts.AreOpenAtTheirEnds, Turns.{FilesNow, now_of, AreOfTurn, StaysWhole, ShowFiles, ComeToRest, StayTheirs}};
 
 use mt_disk::Disk;
+
+/// The last log of each worker is open after all files were, over any disk. It is the one of the next generation, if the
+/// worker is told to have begun that, and else the one of the generation of the chains. It ends where the worker's chain
+/// does. There are as many places as before, and a chain for each worker.
+pub fn each_last_log_is_open_at_its_end<D: Disk>()
+    ensures { (slots : Slots) (old new : List (WorkerFiles D)) (chains : Chains) → OpensChains D.is_honest D.state D.failures slots old new chains →
+        AreOpenAtTheirEnds chains new × (length new ≡ length old) × (length chains.fronts.items ≡ length old) × (length chains.begun.items ≡ length old) }
+{}
 
 /// A store's own log files, over disks that keep the rules, at any moment of a turn. If they are opened, the chains are the
 /// ends of whole logs that a crash might have left, so a recovery from them gives what the history says. If not, the

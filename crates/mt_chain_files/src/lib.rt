@@ -10,8 +10,10 @@ pub mod laws;
 mod numbered;
 mod opening;
 mod plain;
+mod watching;
 
 pub use fault::FilesFault;
 pub use numbered::open_numbered_files;
 pub use opening::{Chains, open_chains};
 pub use plain::open_plain_files;
+pub use watching::{NoWatch, Watch};

@@ -11,6 +11,7 @@ use crate::begun::begun_after;
 use crate::fault::FilesFault;
 use crate::numbered::open_numbered_files;
 use crate::plain::open_plain_files;
+use crate::watching::Watch;
 use mt_chains::{WorkerLogs, can_begin, chains_from, choose, first_apart, last_generation};
 use mt_checkpoint::Checkpoint;
 use mt_disk::Disk;
@@ -30,7 +31,7 @@ pub struct Chains {
 
 /// Opens the log files of all workers, and gives the chains with which a recovery begins. It knows the checkpoints of the
 /// two slots. The numbered files are opened first. Plain files are opened only if a recovery may have to begin at
-/// generation 0.
+/// generation 0. `watch` is told how far that is.
 ///
 /// An error tells the worker with the file that was not opened, and why. Else it is one of these:
 ///
@@ -39,18 +40,19 @@ pub struct Chains {
 /// - `StampsFall` of a worker: its next log begins elsewhere than where the one before it ends.
 ///
 /// No disk is lost, so it can be called again.
-pub fn open_chains<D: Disk + Drop>(
+pub fn open_chains<D: Disk + Drop, W: Watch>(
     alloc: Global,
     files: &mut [WorkerFiles<D>],
     checkpoints: &[Option<Checkpoint>; 2],
+    watch: &mut W,
 ) -> Result<Chains, FilesFault>
     requires some { 0 < length files.old }
     requires few { length files.old ≤ 64 }
     ensures ok { IfOk result (λ chains. OpensChains D.is_honest D.state D.failures (map (option_map view_of) checkpoints.now) files.old files.new chains) }
     ensures err { IfErr result (λ e. StopsChains D.is_honest D.state D.failures (map (option_map view_of) checkpoints.now) e files.old files.new) }
 {
-    let mut logs = open_numbered_files(alloc, files)?;
-    let generation = choose_from(alloc, files, &mut logs, checkpoints)?;
+    let mut logs = open_numbered_files(alloc, files, watch)?;
+    let generation = choose_from(alloc, files, &mut logs, checkpoints, watch)?;
     match chains_of(alloc, generation, logs) {
         Ok(chains) => Ok(chains),
         Err(_) => Err(FilesFault::of_all(Refusal::Memory)),
@@ -74,11 +76,12 @@ fn chains_of(alloc: Global, generation: u64, logs: Vec<WorkerLogs>) -> Result<Ch
 }
 
 // Opens the plain files if they are needed. Tells from which generation on the chains are.
-fn choose_from<D: Disk + Drop>(
+fn choose_from<D: Disk + Drop, W: Watch>(
     alloc: Global,
     files: &mut [WorkerFiles<D>],
     logs: &mut [WorkerLogs],
     checkpoints: &[Option<Checkpoint>],
+    watch: &mut W,
 ) -> Result<u64, FilesFault>
     requires some { 0 < length logs.old }
     requires few { length logs.old ≤ 64 }
@@ -88,16 +91,17 @@ fn choose_from<D: Disk + Drop>(
     ensures ok { IfOk result (λ g. Chooses D.is_honest D.state D.failures (map (option_map view_of) checkpoints.now) g files.old files.new logs.old logs.new) }
     ensures err { IfErr result (λ e. NotChosen D.is_honest D.state D.failures (map (option_map view_of) checkpoints.now) e files.old files.new logs.old logs.new) }
 {
-    read_plain(alloc, files, logs, checkpoints)?;
+    read_plain(alloc, files, logs, checkpoints, watch)?;
     choose_of(logs, checkpoints)
 }
 
 // Opens the plain files if they are needed.
-fn read_plain<D: Disk + Drop>(
+fn read_plain<D: Disk + Drop, W: Watch>(
     alloc: Global,
     files: &mut [WorkerFiles<D>],
     logs: &mut [WorkerLogs],
     checkpoints: &[Option<Checkpoint>],
+    watch: &mut W,
 ) -> Result<(), FilesFault>
     requires some { 0 < length logs.old }
     requires count { length logs.old ≡ length files.old }
@@ -106,7 +110,7 @@ fn read_plain<D: Disk + Drop>(
     ensures err { IfErr result (λ e. StopsPlain D.is_honest D.state D.failures (map (option_map view_of) checkpoints.now) e files.old files.new logs.old) }
 {
     if need_plain(logs, checkpoints) {
-        open_plain_files(alloc, files, logs)
+        open_plain_files(alloc, files, logs, watch)
     } else {
         Ok(())
     }

@@ -5,20 +5,23 @@ ghost use Rattle.mt_chains.specs.Files.{SameNumbered};
 ghost use Rattle.mt_chain_files.specs.Plain.{OpensPlainAs, FailsToOpenPlain, OpensPlainFiles, StopsPlainFiles};
 
 use crate::fault::FilesFault;
+use crate::watching::Watch;
 use mt_chains::WorkerLogs;
 use mt_disk::Disk;
 use mt_log_files::{WorkerFiles, open_slot};
 use mt_rows::Refusal;
 use std::alloc::Global;
 
-/// Opens the plain file of each worker, in their order, and adds its front to what was read of the worker's files.
+/// Opens the plain file of each worker, in their order, and adds its front to what was read of the worker's files. `watch`
+/// is told of each worker whose file is open.
 ///
 /// An error tells the worker with the file that was not opened, and why. The files of those before it are opened, and
 /// those of those after it are as they were. No disk is lost.
-pub fn open_plain_files<D: Disk + Drop>(
+pub fn open_plain_files<D: Disk + Drop, W: Watch>(
     alloc: Global,
     files: &mut [WorkerFiles<D>],
     logs: &mut [WorkerLogs],
+    watch: &mut W,
 ) -> Result<(), FilesFault>
     requires { length logs.old ≡ length files.old }
     ensures numbered { AllZip SameNumbered logs.old logs.new }
@@ -29,6 +32,7 @@ pub fn open_plain_files<D: Disk + Drop>(
         if let Err(refusal) = open_plain(alloc, &mut files[place], &mut logs[place]) {
             return Err(FilesFault::at(place, refusal));
         }
+        watch.opened_plain(place + 1, files.len());
     }
     Ok(())
 }

@@ -4,7 +4,7 @@
 ghost use Rattle.std.specs.Prelude.{◌<◌};
 
 use crate::pairs::{are_upto, batch_of, checkpoint_of};
-use mt_chain_files::open_chains;
+use mt_chain_files::{NoWatch, Watch, open_chains};
 use mt_disk::MemDisk;
 use mt_log::{AppendFault, LogFile};
 use mt_log_files::{WorkerFiles, take_disk};
@@ -169,7 +169,7 @@ fn recovered_of(
     tenants.add(7, 8)?;
     let checkpoint = checkpoint_of(alloc, walk)?;
     let checkpoints = [checkpoint, None];
-    let chains = match open_chains(alloc, files, &checkpoints) {
+    let chains = match open_chains(alloc, files, &checkpoints, &mut NoWatch) {
         Ok(chains) => chains,
         Err(fault) => return Err(fault.refusal),
     };
@@ -369,5 +369,75 @@ fn a_crash_at_any_call_of_two_turns_loses_nothing(rt: HostRuntime) -> Result<(),
             );
         }
     }
+    Ok(())
+}
+
+// Of how many of two workers it was told that their files are open, in their order.
+#[derive(Drop)]
+struct Heard {
+    numbered: usize,
+    plain: usize,
+}
+
+impl Watch for Heard {
+    fn opened_numbered(&mut self, workers: usize, of: usize) {
+        if of == 2 && workers == self.numbered.saturating_add(1) {
+            self.numbered = workers;
+        }
+    }
+
+    fn opened_plain(&mut self, workers: usize, of: usize) {
+        if of == 2 && self.numbered == 2 && workers == self.plain.saturating_add(1) {
+            self.plain = workers;
+        }
+    }
+}
+
+// What is told of files that are opened over this checkpoint.
+fn heard_of(
+    alloc: Global,
+    files: &mut [Files; 2],
+    walk: Option<(u64, u64)>,
+) -> Result<Heard, Refusal> {
+    let checkpoints = [checkpoint_of(alloc, walk)?, None];
+    let mut heard = Heard {
+        numbered: 0,
+        plain: 0,
+    };
+    let _chains = open_chains(alloc, files, &checkpoints, &mut heard);
+    Ok(heard)
+}
+
+// What is told of a new store's files, one of which makes no call.
+fn heard_of_new(alloc: Global, stop: Stop) -> Result<Heard, Refusal> {
+    let mut files = [new_files(alloc, 0, stop)?, new_files(alloc, 1, stop)?];
+    heard_of(alloc, &mut files, None)
+}
+
+#[test]
+fn each_worker_whose_files_are_open_is_told(rt: HostRuntime) -> Result<(), Fail> {
+    let alloc = rt.alloc();
+    for (worker, disk, numbered, plain) in [
+        (2, 0, 2, 2),
+        (1, 2, 1, 0),
+        (0, 1, 0, 0),
+        (1, 0, 2, 1),
+    ] {
+        let stop = Stop {
+            worker,
+            disk,
+            call: 1,
+        };
+        let heard = heard_of_new(alloc, stop).expect(&rt, "there is memory");
+        assert!(rt; heard.numbered == numbered && heard.plain == plain);
+    }
+    let never = Stop {
+        worker: 2,
+        disk: 0,
+        call: 0,
+    };
+    let (mut files, known, _) = story(alloc, never)?;
+    let heard = heard_of(alloc, &mut files, known.walk).expect(&rt, "a checkpoint is made");
+    assert!(rt; heard.numbered == 2 && heard.plain == 0);
     Ok(())
 }
