@@ -4,5 +4,6 @@ pub mod Reading
 pub mod Lasts
 pub mod Faults
 pub mod Narrowing
+pub mod Resting
 pub mod OwnFiles
 pub mod TurnLaws

@@ -7,12 +7,12 @@ use Rattle.mt_disk.specs.Disk.{DiskState}
 use Rattle.mt_log_generations.specs.declared.header.{Parity.Parity, Parity.TheVariants.{Even, Odd}}
 use Rattle.mt_log.specs.{declared.batch.Front.Front, Contents.{Contents, contents_of}}
 use Rattle.mt_crashes.specs.{Fronts.In, Bases.Slots, Stores.{Store, LogNow, at_rest, MayLeaveFronts, MayLeaveSlots}, Invariants.IsStore}
-use Rattle.mt_crashes.proofs.{Members.{no_some, place_in}, Invariant.{zip_left, zip_right, within_place, map_place}}
+use Rattle.mt_crashes.proofs.{Members.{no_some, place_in}, Invariant.{zip_left, zip_right, within_place, map_place, place_map}}
 use Rattle.mt_generations.specs.Chains.{Chain}
-use Rattle.mt_generations.specs.{Standings.{Standing, AllHave, IsLast, CanBegin, IsChosen, HaveNoChoice, StandsFor}, Turns.{StandsWhole, KeepsLog}}
-use Rattle.mt_generations.proofs.{Deciding.{have_all, have_or_not, can_or_not}, Moments.kept_whole, Left.is_chosen, Ends.{chosen_ends, never_falls}}
+use Rattle.mt_generations.specs.{Standings.{Standing, chain_from, AreFrom, AllHave, IsLast, CanBegin, IsChosen, HaveNoChoice, StandsFor}, Turns.{StandsWhole, KeepsLog}}
+use Rattle.mt_generations.proofs.{Deciding.{first_there, have_all, have_or_not, can_or_not}, Moments.kept_whole, Left.is_chosen, Ends.{chosen_ends, never_falls}}
 use Rattle.mt_recover.specs.{declared.resuming.LogSlot.LogSlot}
-use Rattle.mt_chains.specs.{declared.worker_logs.WorkerLogs.WorkerLogs, Files.{standing_of as read_of, SameNumbered}}
+use Rattle.mt_chains.specs.{declared.worker_logs.WorkerLogs.WorkerLogs, Files.{standing_of as read_of, SameNumbered}, Testing.is_there}
 use Rattle.mt_log_files.specs.declared.worker.WorkerFiles.{WorkerFiles}
 use Rattle.mt_log_files.specs.Slots.{disk_in, Opens, FailsToOpen}
 use Rattle.mt_log_files.specs.{Shows.{IsHonest}, Files.{FileNow, Spare, Has, MayHave, MayLeaveFile, found_as, ShowsFile}}
@@ -21,13 +21,14 @@ use Rattle.mt_log_files.proofs.{WorkerLaws.all_stand}
 use Rattle.mt_log_files.proofs.FileLaws as numbered_files
 use Rattle.mt_chain_files.specs.{declared.fault.FilesFault.FilesFault, declared.opening.Chains.Chains}
 use Rattle.mt_chain_files.specs.{Numbered.{OpensWorker, FailsToOpenWorker, OpensNumberedFiles, StopsNumberedFiles}, Plain.{OpensPlainAs, OpensPlainFiles, StopsPlainFiles}}
-use Rattle.mt_chain_files.specs.Chosen.{NeedPlain, FallAt, RefuseToBegin, ReadsPlain, OpensChains, StopsChains}
-use Rattle.mt_chain_files.specs.Turns.{FilesNow, now_of, pair_of, IsOfGeneration, AreOfTurn, StaysWhole, ShowsPlain, ShowFiles, ComeToRest, StayTheirs}
+use Rattle.mt_chain_files.specs.{Chosen.{NeedPlain, FallAt, RefuseToBegin, ReadsPlain, OpensChains, StopsChains}, Lasts.last_generation_of}
+use Rattle.mt_chain_files.specs.Turns.{FilesNow, now_of, pair_of, IsOfGeneration, AreOfTurn, StaysWhole, HasLast, IsLastOfTurn, StaySpare, ShowsPlain, ShowFiles, ComeToRest, StayTheirs}
 use Rattle.mt_chain_files.proofs.Loops.{get_within, zip_of, zip_count, before_or_after}
 use Rattle.mt_chain_files.proofs.Agreeing.{agree_self, NoneFirst, over_zero, none_first}
 use Rattle.mt_chain_files.proofs.Faults.{IsOutside, plain_found, plain_failed, numbered_failed}
 use Rattle.mt_chain_files.proofs.Narrowing.{ShowsNarrower, stay_theirs}
 use Rattle.mt_chain_files.proofs.Reading.{first_in, second_in, after_of, after_turn, least, least_left, found_first, found_none, ReadOf, Tells, found_of, stands_less}
+use Rattle.mt_chain_files.proofs.Resting.{last_of_turn, stay_spare}
 use Rattle.mt_rows.specs.declared.refusal.Refusal.TheVariants as refusals
 
 -- ---- all workers
@@ -70,6 +71,47 @@ module _ (g : ℕ) where
   all_rest [] (c ∷ fronts) (f ∷ files) (w ∷ read) turn all stand = absurd turn
   all_rest (now ∷ logs) (c ∷ fronts) (f ∷ files) (w ∷ read) turn all stand =
       (after_turn g f w c (found_of f w g now turn.0 all.0) stand.0, all_rest logs fronts files read turn.1 all.1 stand.1)
+
+  -- those that were spare are
+  all_spare : (files : List FilesNow) (read : List WorkerLogs) → AllZip (ReadOf g) files read → AllZip StaySpare files (map after_of read)
+  all_spare [] [] all = tt
+  all_spare [] (w ∷ read) all = absurd all
+  all_spare (f ∷ files) [] all = absurd all
+  all_spare (f ∷ files) (w ∷ read) all = (stay_spare g f w all.0, all_spare files read all.1)
+
+  -- ---- the worker at a place
+
+  module _ (logs : List LogNow) (fronts : List Contents) (files : List FilesNow) (read : List WorkerLogs) (turn : AllZip (AreOfTurn g) logs files)
+      (all : AllZip (ReadOf g) files read) (stand : AllZip (StandsFor g) fronts (map read_of read)) (h : ℕ) (chains : List Chain) (are : AreFrom h (map read_of read) chains) where
+    -- its last log is in its file
+    last_at : (k : ℕ) (whole : Contents) (one : WorkerLogs) → slice_get fronts k ≡ Some whole → slice_get read k ≡ Some one
+        → HasLast (last_generation_of h (Some (is_there (read_of one (h + 1))))) whole (after_of one)
+        × IsLastOfTurn g (last_generation_of h (Some (is_there (read_of one (h + 1))))) (after_of one)
+    last_at k whole one there then =
+        let place = place_map read_of read k one then in
+        let f = zip_right (ReadOf g) files read k one all then in
+        let now = zip_right (AreOfTurn g) logs files k f.0 turn f.1 in
+        let found = found_of f.0 one g now.0 now.2 f.2 in
+        let log = zip_right (StandsFor g) fronts (map read_of read) k (read_of one) stand place in
+        let stands : StandsFor g whole (read_of one) = subst (λ (c : Contents). StandsFor g c (read_of one)) (same_Some log.0 whole (sym log.1 ∙ there)) log.2 in
+        let chain = zip_left (λ (s : Standing) (c : Chain). chain_from h s ≡ Some c) (map read_of read) chains k (read_of one) are place in
+        last_of_turn g f.0 one whole found stands h chain.0 chain.2
+
+    -- and each whole log has one there
+    whole_at : (k : ℕ) (one : WorkerLogs) → slice_get read k ≡ Some one → (whole : Contents) × (slice_get fronts k ≡ Some whole)
+    whole_at k one then =
+        let log = zip_right (StandsFor g) fronts (map read_of read) k (read_of one) stand (place_map read_of read k one then) in (log.0, log.1)
+
+    -- the chains begin in the turn
+    first_of_turn : 0 < length files → (h ≡ g) ⊎ (h ≡ g + 1)
+    first_of_turn some =
+        let f = within_place files 0 some in
+        let one = zip_left (ReadOf g) files read 0 f.0 all f.1 in
+        let place = place_map read_of read 0 one.0 one.1 in
+        let log = zip_right (StandsFor g) fronts (map read_of read) 0 (read_of one.0) stand place in
+        let chain = zip_left (λ (s : Standing) (c : Chain). chain_from h s ≡ Some c) (map read_of read) chains 0 (read_of one.0) are place in
+        let a = first_there (read_of one.0 h) (read_of one.0 (h + 1)) chain.0 chain.2 in
+        log.2.no_other h a.0 a.1
 
 -- what tells of a generation, keeps its log
 keep_later : (h : ℕ) (fs es : List Standing) → 0 < h → AllZip Tells fs es → AllZip (KeepsLog h) fs es
@@ -591,19 +633,38 @@ module _ {D : Type 0} (is_honest : D → Bool) (state : D → DiskState) (failur
     -- ---- what comes of an opening
 
     pub opened : (new : List (WorkerFiles D)) (chains : Chains) → OpensChains is_honest state failures slots old new chains
-        → ComeToRest is_honest state g s.logs new (map contents_of chains.fronts.items)
+        → ComeToRest is_honest state g files s.logs new chains
     opened new chains o =
         let r = o.reads in
         let all = all_places r.between r.first r.numbered new r.logs r.plain in
         let stand = own r.logs all.0 in
         let chosen = (o.chosen (map read_of r.logs) (agree_self chains.generation (map read_of r.logs))).chosen in
+        let h = chains.generation in
+        let ends = map contents_of chains.fronts.items in
+        let told : (k : ℕ) (one : WorkerLogs) → slice_get r.logs k ≡ Some one → slice_get chains.begun.items k ≡ Some (is_there (read_of one (h + 1))) =
+        λ k one there. ap (λ (l : List Bool). slice_get l k) o.begun ∙ place_map (λ (worker : WorkerLogs). is_there (read_of worker (h + 1))) r.logs k one there in
         record {
           fronts = stand.0;
           left = stand.1;
-          ends = chosen_ends g chains.generation stand.0 (map read_of r.logs) (map contents_of chains.fronts.items) stand.2 chosen.0;
+          ends = chosen_ends g h stand.0 (map read_of r.logs) ends stand.2 chosen.0;
           files = map after_of r.logs;
           turn = all_rest g s.logs stand.0 files r.logs turn all.0 stand.2;
           shows = all.1;
+          spare = all_spare g files r.logs all.0;
+          firsts = first_of_turn g s.logs stand.0 files r.logs turn all.0 stand.2 h ends chosen.0 some_files;
+          lasts = λ k whole file there then. (
+              let one = map_place after_of r.logs k file then in
+              subst (λ (f : FilesNow). HasLast (last_generation_of h (slice_get chains.begun.items k)) whole f) (sym one.2)
+              (subst (λ (b : Option Bool). HasLast (last_generation_of h b) whole (after_of one.0)) (sym (told k one.0 one.1))
+              (last_at g s.logs stand.0 files r.logs turn all.0 stand.2 h ends chosen.0 k whole one.0 there one.1).0)
+              );
+          next = λ k file then. (
+              let one = map_place after_of r.logs k file then in
+              let whole = whole_at g s.logs stand.0 files r.logs turn all.0 stand.2 h ends chosen.0 k one.0 one.1 in
+              subst (λ (f : FilesNow). IsLastOfTurn g (last_generation_of h (slice_get chains.begun.items k)) f) (sym one.2)
+              (subst (λ (b : Option Bool). IsLastOfTurn g (last_generation_of h b) (after_of one.0)) (sym (told k one.0 one.1))
+              (last_at g s.logs stand.0 files r.logs turn all.0 stand.2 h ends chosen.0 k whole.0 one.0 whole.1 one.1).1)
+              );
         }
 
     stay : (new : List (WorkerFiles D)) → AllZip (ShowsNarrower is_honest state) files new → StayTheirs is_honest state g h s new
