@@ -22,8 +22,8 @@ pub fn each_last_log_is_open_at_its_end<D: Disk>()
 
 /// A store's own log files, over disks that keep the rules, at any moment of a turn. If they are opened, the chains are the
 /// ends of whole logs that a crash might have left, so a recovery from them gives what the history says. The chains tell
-/// which file has each worker's last log. If the files are not opened, the device failed, or there was no memory, and the call
-/// may be made again. One generation has to stand whole, whatever a crash leaves.
+/// which file has each worker's last log. If the files are not opened, the device failed, or there was no memory, and the
+/// call may be made again. One generation has to stand whole, whatever a crash leaves.
 pub fn files_of_a_store_are_never_refused<D: Disk>()
     ensures opened { (g count n h : ℕ) (s : Store) (files : List FilesNow) (slots : Slots) (old new : List (WorkerFiles D)) (chains : Chains) →
         0 < count → count ≤ 64 → Leads n (new_store count) s → AllZip (AreOfTurn g) s.logs files → MayLeaveSlots s.slots slots → StaysWhole g h s files →
