@@ -5,5 +5,6 @@ pub mod Lasts
 pub mod Faults
 pub mod Narrowing
 pub mod Resting
+pub mod Starts
 pub mod OwnFiles
 pub mod TurnLaws

@@ -19,7 +19,7 @@ pub record Narrows (old new : FilesNow) : Type 0 where
   pub even : NarrowsFile old.even new.even
   pub odd : NarrowsFile old.odd new.odd
 
-narrow_left : (old new : FileNow) (a : Option Contents) → NarrowsFile old new → MayLeaveFile new a → MayLeaveFile old a
+pub narrow_left : (old new : FileNow) (a : Option Contents) → NarrowsFile old new → MayLeaveFile new a → MayLeaveFile old a
 narrow_left old new a (inl same) left = subst (λ (f : FileNow). MayLeaveFile f a) same left
 narrow_left old new a (inr (x, found, is)) left =
     subst (MayLeaveFile old) (sym (as_found x a (subst (λ (f : FileNow). MayLeaveFile f a) is left))) found
@@ -42,7 +42,7 @@ narrow_either : (b : Bool) (p q r s : FileNow) → NarrowsFile p q → NarrowsFi
 narrow_either true p q r s one other = one
 narrow_either false p q r s one other = other
 
-narrow_now : (g : ℕ) (old new : FilesNow) → Narrows old new → NarrowsFile (now_of g old) (now_of g new)
+pub narrow_now : (g : ℕ) (old new : FilesNow) → Narrows old new → NarrowsFile (now_of g old) (now_of g new)
 narrow_now g old new n =
     narrow_either (g == 0) old.plain new.plain (cond (g % 2 == 0) old.even old.odd) (cond (g % 2 == 0) new.even new.odd) n.plain
     (narrow_either (g % 2 == 0) old.even new.even old.odd new.odd n.even n.odd)
@@ -74,11 +74,12 @@ module _ {D : Type 0} (is_honest : D → Bool) (state : D → DiskState) where
     new : List FilesNow
     turn : AllZip (AreOfTurn g) logs new
     shows : AllZip (ShowFiles is_honest state) new places
+    narrows : AllZip Narrows old new
     left : (found : List Found) → MayLeaveFiles (map (pair_of g) new) found → MayLeaveFiles (map (pair_of g) old) found
 
   all_narrower : (g : ℕ) (logs : List LogNow) (old : List FilesNow) (places : List (WorkerFiles D)) → AllZip (AreOfTurn g) logs old → AllZip ShowsNarrower old places
       → AllNarrower g logs old places
-  all_narrower g [] [] [] turn shows = record { new = []; turn = tt; shows = tt; left = λ found left. left }
+  all_narrower g [] [] [] turn shows = record { new = []; turn = tt; shows = tt; narrows = tt; left = λ found left. left }
   all_narrower g [] [] (p ∷ places) turn shows = absurd shows
   all_narrower g [] (f ∷ old) places turn shows = absurd turn
   all_narrower g (now ∷ logs) [] places turn shows = absurd turn
@@ -90,6 +91,7 @@ module _ {D : Type 0} (is_honest : D → Bool) (state : D → DiskState) where
         new = one.new ∷ rest.new;
         turn = (narrow_turn g now f one.new turn.0 one.narrows, rest.turn);
         shows = (one.shows, rest.shows);
+        narrows = (one.narrows, rest.narrows);
         left = less one.new one.narrows rest.new rest.left;
       }
     where
@@ -109,3 +111,8 @@ module _ {D : Type 0} (is_honest : D → Bool) (state : D → DiskState) where
   stay_theirs g h s old places turn whole shows =
       let all = all_narrower g s.logs old places turn shows in
       record { files = all.new; turn = all.turn; whole = λ found left. whole found (all.left found left); shows = all.shows }
+
+  pub stays_narrow : (g h : ℕ) (s : Store) (old : List FilesNow) (places : List (WorkerFiles D)) (turn : AllZip (AreOfTurn g) s.logs old) (whole : StaysWhole g h s old)
+      (shows : AllZip ShowsNarrower old places) → AllZip Narrows old (stay_theirs g h s old places turn whole shows).files
+  unfolding stay_theirs
+  stays_narrow g h s old places turn whole shows = (all_narrower g s.logs old places turn shows).narrows

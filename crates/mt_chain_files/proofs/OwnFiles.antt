@@ -7,7 +7,7 @@ use Rattle.mt_disk.specs.Disk.{DiskState}
 use Rattle.mt_log_generations.specs.declared.header.{Parity.Parity, Parity.TheVariants.{Even, Odd}}
 use Rattle.mt_log.specs.{declared.batch.Front.Front, Contents.{Contents, contents_of}}
 use Rattle.mt_crashes.specs.{Fronts.In, Bases.Slots, Stores.{Store, LogNow, at_rest, MayLeaveFronts, MayLeaveSlots}, Invariants.IsStore}
-use Rattle.mt_crashes.proofs.{Members.{no_some, place_in}, Invariant.{zip_left, zip_right, within_place, map_place, place_map}}
+use Rattle.mt_crashes.proofs.{Members.{no_some, place_in, map_in}, Invariant.{zip_left, zip_right, within_place, map_place, place_map}}
 use Rattle.mt_generations.specs.Chains.{Chain}
 use Rattle.mt_generations.specs.{Standings.{Standing, chain_from, AreFrom, AllHave, IsLast, CanBegin, IsChosen, HaveNoChoice, StandsFor}, Turns.{StandsWhole, KeepsLog}}
 use Rattle.mt_generations.proofs.{Deciding.{first_there, have_all, have_or_not, can_or_not}, Moments.kept_whole, Left.is_chosen, Ends.{chosen_ends, never_falls}}
@@ -21,12 +21,13 @@ use Rattle.mt_log_files.proofs.{WorkerLaws.all_stand}
 use Rattle.mt_log_files.proofs.FileLaws as numbered_files
 use Rattle.mt_chain_files.specs.{declared.fault.FilesFault.FilesFault, declared.opening.Chains.Chains}
 use Rattle.mt_chain_files.specs.{Numbered.{OpensWorker, FailsToOpenWorker, OpensNumberedFiles, StopsNumberedFiles}, Plain.{OpensPlainAs, OpensPlainFiles, StopsPlainFiles}}
-use Rattle.mt_chain_files.specs.{Chosen.{NeedPlain, FallAt, RefuseToBegin, ReadsPlain, OpensChains, StopsChains}, Lasts.last_generation_of}
+use Rattle.mt_chain_files.specs.{Chosen.{NeedPlain, FallAt, RefuseToBegin, ReadsPlain, ReadsFiles, OpensChains, StopsChains}, Lasts.last_generation_of}
 use Rattle.mt_chain_files.specs.Turns.{FilesNow, now_of, pair_of, IsOfGeneration, AreOfTurn, StaysWhole, HasLast, IsLastOfTurn, StaySpare, ShowsPlain, ShowFiles, ComeToRest, StayTheirs}
 use Rattle.mt_chain_files.proofs.Loops.{get_within, zip_of, zip_count, before_or_after}
 use Rattle.mt_chain_files.proofs.Agreeing.{agree_self, NoneFirst, over_zero, none_first}
 use Rattle.mt_chain_files.proofs.Faults.{IsOutside, plain_found, plain_failed, numbered_failed}
-use Rattle.mt_chain_files.proofs.Narrowing.{ShowsNarrower, stay_theirs}
+use Rattle.mt_chain_files.proofs.Narrowing.{ShowsNarrower, stay_theirs, stays_narrow}
+use Rattle.mt_chain_files.proofs.Starts.{LeavesNoMore, HasFirstOrNext, leave_no_more, all_narrow_leave, after_rests}
 use Rattle.mt_chain_files.proofs.Reading.{first_in, second_in, after_of, after_turn, least, least_left, found_first, found_none, ReadOf, Tells, found_of, stands_less}
 use Rattle.mt_chain_files.proofs.Resting.{last_of_turn, stay_spare}
 use Rattle.mt_rows.specs.declared.refusal.Refusal.TheVariants as refusals
@@ -683,3 +684,53 @@ module _ {D : Type 0} (is_honest : D → Bool) (state : D → DiskState) (failur
               refuses.why,
           stay new (all_places r.between r.first r.numbered new r.logs r.plain).2,
         )
+
+    -- ---- what may be left of the files then
+
+    -- the plain files were read, or each worker has the next log
+    next_have : (between : List (WorkerFiles D)) (first : List WorkerLogs) → OpensNumberedFiles is_honest state failures old between first → g ≡ 0
+        → ¬ NeedPlain (map read_of first) slots → AllHave 1 (map read_of first)
+    next_have between first numbered none_before unread = ⊎_elim
+        (λ have. have)
+        (λ none. absurd (unread (inl (λ n have. (
+        let some = over_zero n (map read_of first) (some_read between first numbered) (no_first between first numbered) have in
+        let stand = own first (read_first between first numbered) in
+        let f = within_place (map read_of first) 0 (some_read between first numbered) in
+        let log = zip_right (StandsFor g) stand.0 (map read_of first) 0 f.0 stand.2 f.1 in
+        let c = have f.0 (place_in f.0 0 (map read_of first) f.1) in
+        let one : n ≡ 1 = ⊎_elim (λ (e : n ≡ g). absurd (omega (arith, e, none_before, some))) (λ (e : n ≡ g + 1). omega (arith, e, none_before)) (log.2.no_other n c.0 c.1) in
+        none (subst (λ (m : ℕ). AllHave m (map read_of first)) one have)
+        )))))
+        (have_or_not 1 (map read_of first))
+
+    read_or_next : (new : List (WorkerFiles D)) (r : ReadsFiles is_honest state failures slots old new) → g ≡ 0
+        → ReadsPlain is_honest state failures slots r.between new r.first r.logs → AllHave 0 (map read_of r.logs) ⊎ AllHave 1 (map read_of r.logs)
+    read_or_next new r none_before (inl read) = inl (read_needed r.between r.first r.numbered new r.logs read.0 read.1 read.2).1
+    read_or_next new r none_before (inr unread) = inr (subst (λ (l : List WorkerLogs). AllHave 1 (map read_of l)) (sym unread.2) (next_have r.between r.first r.numbered none_before unread.0))
+
+    first_or_next : (new : List (WorkerFiles D)) (chains : Chains) (o : OpensChains is_honest state failures slots old new chains) → HasFirstOrNext g o.reads.logs
+    first_or_next new chains o none_before = read_or_next new o.reads none_before o.reads.plain
+
+    pub opened_leave : (new : List (WorkerFiles D)) (chains : Chains) (o : OpensChains is_honest state failures slots old new chains)
+        → AllZip (LeavesNoMore g) files (opened new chains o).files
+    unfolding opened
+    opened_leave new chains o =
+        let r = o.reads in
+        leave_no_more g s.logs files r.logs turn (all_places r.between r.first r.numbered new r.logs r.plain).0 (first_or_next new chains o)
+
+    pub opened_rest : (new : List (WorkerFiles D)) (chains : Chains) (o : OpensChains is_honest state failures slots old new chains) (m : ℕ) (f : FilesNow) (now : LogNow)
+        → In f (opened new chains o).files → now_of m f ≡ Has now → now.doubt ≡ None
+    unfolding opened
+    opened_rest new chains o m f now at has =
+        let w = map_in after_of f o.reads.logs at in
+        after_rests m w.0 now (sym (ap (now_of m) w.2) ∙ has)
+
+    pub failed_leave : (new : List (WorkerFiles D)) (e : FilesFault) (stops : StopsChains is_honest state failures slots e old new)
+        → AllZip (LeavesNoMore g) files (failed new e stops).1.files
+    unfolding failed stay
+    failed_leave new e (inl stops) = all_narrow_leave g files _ (stays_narrow is_honest state g h s files new turn whole (stops_numbered files e.log e.refusal old new shows stops).1)
+    failed_leave new e (inr (inl stops)) = all_narrow_leave g files _
+        (stays_narrow is_honest state g h s files new turn whole (stops_plain stops.between stops.first stops.numbered e.log e.refusal new stops.plain.0 stops.plain.1).1)
+    failed_leave new e (inr (inr refuses)) =
+        let r = refuses.reads in
+        all_narrow_leave g files _ (stays_narrow is_honest state g h s files new turn whole (all_places r.between r.first r.numbered new r.logs r.plain).2)

@@ -145,6 +145,7 @@ pub record FoundOf (g : ℕ) (files : FilesNow) (one : WorkerLogs) : Type 0 wher
   pub tells : Tells (standing_of g x y) (read_of one)
   -- and what is left of them now
   pub kept : Option Contents
+  pub kept_so : MayLeaveFile (now_of g files) kept ⊎ ((g ≡ 0) × (kept ≡ None))
   pub all : (h : ℕ) → standing_of g kept y h ≡ read_of one h
   pub at_first : now_of g (after_of one) ≡ found_as kept
   pub at_next : now_of (g + 1) (after_of one) ≡ found_as y
@@ -204,6 +205,7 @@ module _ (files : FilesNow) (one : WorkerLogs) where
         left_y = r.left_odd;
         tells = record { later = later (least files.plain); first = inl (ap (option_map contents_of) none) };
         kept = option_map contents_of one.plain;
+        kept_so = inr (refl, ap (option_map contents_of) none);
         all = every;
         at_first = refl;
         at_next = ap (λ (logs : List (Option Front)). found_as (option_map contents_of (second_in logs))) r.numbered;
@@ -222,6 +224,7 @@ module _ (files : FilesNow) (one : WorkerLogs) where
           first = inr (sym (found_first 0 (option_map contents_of one.plain) (option_map contents_of r.odd)));
         };
         kept = option_map contents_of one.plain;
+        kept_so = inl read.1;
         all = every;
         at_first = refl;
         at_next = ap (λ (logs : List (Option Front)). found_as (option_map contents_of (second_in logs))) r.numbered;
@@ -284,6 +287,7 @@ module _ (files : FilesNow) (one : WorkerLogs) where
               first = inl no_plain;
             };
             kept = x;
+            kept_so = inl (subst (λ (f : FileNow). MayLeaveFile f x) (sym first) r.left_even);
             all = every x y later;
             at_first = is_even (after_of one) g over rest ∙ after_even;
             at_next = is_odd (after_of one) (g + 1) (omega arith) (λ h. omega (arith, rest, h)) ∙ after_odd;
@@ -317,6 +321,7 @@ module _ (files : FilesNow) (one : WorkerLogs) where
               first = inl no_plain;
             };
             kept = x;
+            kept_so = inl (subst (λ (f : FileNow). MayLeaveFile f x) (sym first) r.left_odd);
             all = every x y later;
             at_first = is_odd (after_of one) g over rest ∙ after_odd;
             at_next = is_even (after_of one) (g + 1) (omega arith) (omega (arith, rest)) ∙ after_even;

@@ -8,8 +8,13 @@ use Rattle.mt_crashes.{specs.Stores.{LogNow, at_rest}, proofs.Members.no_some}
 use Rattle.mt_generations.{specs.{Chains.{Chain}, Standings.{joined, chain_from, StandsFor}}, proofs.Ends.part_ends}
 use Rattle.mt_chains.specs.{declared.worker_logs.WorkerLogs.WorkerLogs, Files.{standing_of as read_of}, Testing.is_there}
 use Rattle.mt_log_files.specs.{declared.worker.WorkerFiles.WorkerFiles, Slots.file_of, Shows.{Shows, IsHonest}, Files.{FileNow, Spare, Has, MayLeaveFile, found_as, ShowsFile}}
-use Rattle.mt_chain_files.specs.{Lasts.last_generation_of, Turns.{FilesNow, now_of, IsOfGeneration, HasLast, IsLastOfTurn, StaySpare, ShowsPlain, ShowFiles}}
+use Rattle.mt_chain_files.specs.{Lasts.last_generation_of, Turns.{FilesNow, now_of, IsOfGeneration, HasLast, Rests, IsLastOfTurn, StaySpare, ShowsPlain, ShowFiles}}
 use Rattle.mt_chain_files.proofs.Reading.{first_in, second_in, after_of, found_first, found_next, ReadOf, FoundOf}
+
+-- a file that was found rests
+found_rests : (found : Option Contents) → Rests (found_as found)
+found_rests None = tt
+found_rests (Some c) = refl
 
 module _ (g : ℕ) (files : FilesNow) (one : WorkerLogs) (whole : Contents) (found : FoundOf g files one) (stand : StandsFor g whole (read_of one)) where
   -- a log rests in the file of its generation
@@ -36,6 +41,9 @@ module _ (g : ℕ) (files : FilesNow) (one : WorkerLogs) (whole : Contents) (fou
   next_spare : read_of one (g + 1) ≡ None → now_of (g + 1) (after_of one) ≡ Spare
   next_spare none = found.at_next ∙ ap found_as (sym (found_next g found.kept found.y) ∙ found.all (g + 1) ∙ none)
 
+  older_rests : Rests (now_of g (after_of one))
+  older_rests = subst Rests (sym found.at_first) (found_rests found.kept)
+
   -- the last log of a chain ends the whole log
   last_has : (h : ℕ) (c : Contents) → read_of one h ≡ Some c → read_of one (h + 1) ≡ None → HasLast h whole (after_of one)
   last_has h c there none =
@@ -58,7 +66,7 @@ module _ (g : ℕ) (files : FilesNow) (one : WorkerLogs) (whole : Contents) (fou
         last_has h a first next,
         ⊎_elim
             (λ (same : h ≡ g). inl (same, next_spare (ap (λ (n : ℕ). read_of one (n + 1)) (sym same) ∙ next)))
-            (λ (same : h ≡ g + 1). inr same)
+            (λ (same : h ≡ g + 1). inr (same, older_rests))
             (stand.no_other h a first),
       )
       by (Some a) first (Some b) next e =
@@ -68,7 +76,7 @@ module _ (g : ℕ) (files : FilesNow) (one : WorkerLogs) (whole : Contents) (fou
           (λ (e : h ≡ g + 1). absurd (⊎_elim (λ (d : h + 1 ≡ g). omega (arith, e, d)) (λ (d : h + 1 ≡ g + 1). omega (arith, e, d)) (stand.no_other (h + 1) b next)))
           (stand.no_other h a first) in (
             last_has (h + 1) b next (none_after (h + 1 + 1) (ap (λ (n : ℕ). n + 1 + 1) same) (read_of one (h + 1 + 1)) refl),
-            inr (ap (λ (n : ℕ). n + 1) same),
+            inr (ap (λ (n : ℕ). n + 1) same, older_rests),
           )
 
 -- a file that was spare is spare

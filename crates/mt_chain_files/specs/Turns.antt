@@ -1,5 +1,5 @@
 -- What a store's own log files may be when they are opened.
-use Rattle.std.specs.{Prelude.{◌≡◌, ◌⊎◌, ℕ, ◌+◌, ◌%◌, ◌==◌, if◌then◌else◌, Bool, List, map, Some, slice_get}, List.AllZip}
+use Rattle.std.specs.{Prelude.{◌≡◌, ◌⊎◌, ℕ, ◌+◌, ◌%◌, ◌==◌, if◌then◌else◌, Bool, List, map, Some, None, slice_get}, List.AllZip}
 use Rattle.mt_disk.specs.Disk.{DiskState}
 use Rattle.mt_log_generations.specs.declared.header.Parity.TheVariants.{Even, Odd}
 use Rattle.mt_log.specs.Contents.{Contents, contents_of}
@@ -49,9 +49,16 @@ pub record HasLast (g : ℕ) (whole : Contents) (files : FilesNow) : Type 0 wher
   pub of : last.generation ≡ g
   pub ends : EndsLog whole last
 
--- In a turn from a generation to the next, a worker's last log is of either. If it is of the first of both, the file for the next one is spare.
+-- no batch of a file's log is in doubt
+abbrev pub Rests : FileNow → Type 0
+Rests Spare = Unit {0}
+Rests (Has now) = now.doubt ≡ None
+Rests (MayHave c) = Unit {0}
+
+-- In a turn from a generation to the next, a worker's last log is of either. If it is of the first of both, the file for the next one is spare. Else the
+-- older log rests.
 abbrev pub IsLastOfTurn : ℕ → ℕ → FilesNow → Type 0
-IsLastOfTurn g last files = ((last ≡ g) × (now_of (g + 1) files ≡ Spare)) ⊎ (last ≡ g + 1)
+IsLastOfTurn g last files = ((last ≡ g) × (now_of (g + 1) files ≡ Spare)) ⊎ ((last ≡ g + 1) × Rests (now_of g files))
 
 -- those of a worker's files that were spare are spare
 pub record StaySpare (old new : FilesNow) : Type 0 where
