@@ -1,19 +1,20 @@
 -- A new store: its logs were made, and nothing has happened.
-use Rattle.std.proofs.{Common.{◌≡◌, ℕ, ◌+◌, ◌<◌, ◌≤◌, List, length, Some, None, refl, sym, ap, subst, ◌∙◌, arith}, lemmas.List.Elements.All-nil}
-use Rattle.std.proofs.lemmas.Option.{same_Some}
+use Rattle.std.proofs.{Common.{◌≡◌, ℕ, ◌+◌, ◌<◌, ◌≤◌, inl, inr, List, length, Some, refl, sym, ap, subst, ◌∙◌, arith}, lemmas.List.Elements.All-nil}
 use Rattle.std.specs.{Prelude.slice_get, FinMap.{empty, len, get-empty, len-empty}, Ordering.nat_cmp, Cmp.Lexicographic.slice_cmp}
 use Rattle.mt_rows.specs.{Accounts.Accounts, Stamps.Stamped, Tenants.owned_cmp, TenantPairs.{quota_in, HasTenants, KeepsQuotas}}
 use Rattle.mt_disk.specs.{declared.mem.MemDisk.MemDisk, Mem.mem_state}
-use Rattle.mt_log.specs.Contents.{mark_of, no_batches}
+use Rattle.mt_log.specs.Contents.{Contents, mark_of, no_batches}
 use Rattle.mt_state.{specs.{Views.StateView, Begins.new_state}, proofs.HistoryStart.{content-new, tenant_map-empty}}
 use Rattle.mt_core.specs.Rights.{IsRightState}
-use Rattle.mt_crashes.{specs.{Histories.Placed, Stores.{LogNow, at_rest, new_store}}, proofs.Invariant.{within_place, new_at, new_long}}
+use Rattle.mt_crashes.{specs.{Histories.Placed, Stores.{LogNow, at_rest, MayLeaveFront, new_store}}, proofs.{Members.no_some, Invariant.{within_place, new_at, new_long}}}
+use Rattle.mt_recover.specs.{declared.resuming.LogSlot.LogSlot, declared.resuming.LogSlot.TheVariants.{Open, Failed, Closed, Away}}
+use Rattle.mt_log_files.specs.{declared.worker.WorkerFiles.WorkerFiles, Shows.IsHonest, Files.{Spare, Has}}
+use Rattle.mt_chain_files.{specs.Turns.FilesNow, proofs.Reading.found_first}
 use Rattle.mt_slots.{specs.{declared.store_slots.StoreSlots.StoreSlots, Calls.MakesBoth, Keeps.no_checkpoints}, proofs.Keeping.{made as slots_are_made}}
-use Rattle.mt_store_logs.specs.{declared.store_log.StoreLog.StoreLog, Places.{closed_on, MakesAll}, Shows.{Shows, IsHonest}}
-use Rattle.mt_store_logs.proofs.{Closed.{closed_at, length-closed}, CallerLemmas.makes}
-use Rattle.mt_stored.specs.Stores.{IsNewStore}
-use Rattle.mt_lives.specs.{declared.live_slots.LiveSlots.TheVariants.Rest, declared.serving.Serving.Serving, Lives.new_standing, Holds.Holds, Returns.IsFresh}
-use Rattle.mt_lives.proofs.{Flushing.{keeps_rules, failures_of, within}, Leaving.AllShow, Living.{RestAt, reach_all, BeginsWith, begins_serving}}
+use Rattle.mt_store_logs.specs.{declared.store_log.StoreLog.StoreLog, Places.disk_in, Opens.{AreClosedOn, Makes, MakesSpare, MakesAll}, Ends.StandsInTurn}
+use Rattle.mt_store_logs.proofs.FirstAndCrashed.{made_in_turn}
+use Rattle.mt_lives.specs.{declared.live_slots.LiveSlots.TheVariants.Rest, declared.serving.Serving.Serving, Lives.new_standing, Holds.{BeginsAt0, Holds}, Returns.IsFresh}
+use Rattle.mt_lives.proofs.{Flushing.{keeps_rules, failures_of, within}, Opening.{IsLogOpen, AllOpen}, Living.{RestAt, reach_all, BeginsWith, begins_serving}}
 
 begins_new : (logs : ℕ) (accounts : Accounts) → BeginsWith accounts empty 0 logs (new_state logs accounts)
 begins_new logs accounts = record {
@@ -40,35 +41,70 @@ rest_new count = record {
   marks = λ k now there. let at = new_at count 0 count k now there in ap (λ (l : LogNow). mark_of l.had) at.0;
 }
 
-module _ (accounts : Accounts) (old new : List (StoreLog MemDisk)) (some : 0 < length old) (few : length old ≤ 64) (disks : List MemDisk) (closed : old ≡ closed_on disks)
-    (made : MakesAll keeps_rules mem_state failures_of old new) where
+-- the disk of a file that was made is there, and keeps the rules
+made_plain : (worker count : ℕ) (old new : LogSlot MemDisk) → Makes keeps_rules mem_state failures_of worker count (disk_in old) new → IsHonest keeps_rules old
+made_plain worker count (Open log) new made = refl
+made_plain worker count (Failed log) new made = refl
+made_plain worker count (Closed disk) new made = refl
+made_plain worker count Away new made = absurd made
+
+made_spare : (old new : LogSlot MemDisk) → MakesSpare keeps_rules mem_state failures_of (disk_in old) new → IsHonest keeps_rules old
+made_spare (Open log) new made = refl
+made_spare (Failed log) new made = refl
+made_spare (Closed disk) new made = refl
+made_spare Away new made = absurd made
+
+-- the files of a worker's first log, which begins at step 0
+abbrev pub first_files : ℕ → ℕ → FilesNow
+first_files worker count = record { plain = Has (at_rest (no_batches worker count)); even = Spare; odd = Spare }
+
+begins_first : (worker count : ℕ) → BeginsAt0 0 0 (first_files worker count)
+begins_first worker count x y (front, left, is) none = (front, found_first 0 x y ∙ is, start left, λ first. none)
+  where
+    start : MayLeaveFront (at_rest (no_batches worker count)) front → front.start ≡ 0
+    start (inl same) = ap (λ (c : Contents). c.start) same
+    start (inr more) = absurd (no_some more.0 more.1)
+
+module _ (accounts : Accounts) (files : List (WorkerFiles MemDisk)) (old new : List (StoreLog MemDisk)) (some : 0 < length files) (few : length files ≤ 64)
+    (closed : AreClosedOn (length files) files old) (made : MakesAll keeps_rules mem_state failures_of old new) where
+  len_new : length new ≡ length files
+  len_new = made.len ∙ closed.count
+
   count_new : length (new_store (length new)).logs ≡ length new
   count_new = new_long (length new) 0 (length new)
 
-  shows_new : AllShow (new_store (length new)) new
-  shows_new = λ worker now log there at.
+  -- a log was made of one on the files of its worker
+  log_new : (worker : ℕ) (log : StoreLog MemDisk) → slice_get new worker ≡ Some log → IsLogOpen 0 0 (at_rest (no_batches worker (length new))) log
+  log_new worker log at =
       let below : worker < length old = subst (λ n. worker < n) made.len (within new worker log at) in
       let was = within_place old worker below in
-      let c = closed_at 0 disks worker was.0 (ap (λ ls. slice_get ls worker) (sym closed) ∙ was.1) in
-      let m = makes keeps_rules mem_state failures_of worker (length old) was.0.slot log.slot (subst (λ (l : StoreLog MemDisk). IsHonest keeps_rules l.slot) (sym c.1) refl)
-      (made.each worker was.0 log below was.1 at).0 in
+      let one = within_place files worker (subst (λ n. worker < n) closed.count below) in
+      let c = closed.each worker one.0 was.0 one.1 was.1 in
+      let m = made.each worker was.0 log below was.1 at in
+      let honest : IsHonest keeps_rules was.0.log.files.plain × IsHonest keeps_rules was.0.log.files.even × IsHonest keeps_rules was.0.log.files.odd = (
+        made_plain worker (length old) was.0.log.files.plain log.log.files.plain m.does.plain,
+        made_spare was.0.log.files.even log.log.files.even m.does.even,
+        made_spare was.0.log.files.odd log.log.files.odd m.does.odd,
+      ) in
+      let stands : StandsInTurn keeps_rules mem_state 0 (at_rest (no_batches worker (length old))) (first_files worker (length old)) log =
+      made_in_turn keeps_rules mem_state failures_of worker (length old) was.0 log honest c.log.worker (c.log.logs ∙ sym closed.count) m.sure m in
+      subst (λ n. IsLogOpen 0 0 (at_rest (no_batches worker n)) log) (sym made.len)
+      (record { files = first_files worker (length old); stands = stands; begins = begins_first worker (length old); none = m.none })
+
+  all_new : AllOpen 0 0 (new_store (length new)) new
+  all_new = λ worker now log there at.
       let is = new_at (length new) 0 (length new) worker now there in
       let place : worker ≡ 0 + worker = omega arith in
-      subst (λ (n : LogNow). Shows mem_state n log.slot)
-      (ap (λ n. at_rest (no_batches worker n)) (sym made.len) ∙ ap (λ k. at_rest (no_batches k (length new))) place ∙ sym is.0) m.1
-
-  none_waits : (k : ℕ) (log : StoreLog MemDisk) → slice_get new k ≡ Some log → log.kept ≡ None
-  none_waits k log at =
-      let below : k < length old = subst (λ n. k < n) made.len (within new k log at) in
-      let was = within_place old k below in
-      (made.each k was.0 log below was.1 at).1
+      subst (λ (n : LogNow). IsLogOpen 0 0 n log) (ap (λ k. at_rest (no_batches k (length new))) place ∙ sym is.0) (log_new worker log at)
 
   pub holds_new : (v : StateView) → v ≡ new_state (length new) accounts → IsRightState v → (serving : Serving) → serving.state ≡ v → IsFresh serving
       → (bare slots : StoreSlots MemDisk) → MakesBoth keeps_rules mem_state failures_of bare slots → Holds accounts (Rest slots) new_standing new (Some serving)
   holds_new v is right serving state fresh bare slots slots_made = record {
     s = new_store (length new);
-    some = subst (λ n. 0 < n) (sym made.len) some;
-    few = subst (λ n. n ≤ 64) (sym made.len) few;
+    from = 0;
+    whole = 0;
+    some = subst (λ n. 0 < n) (sym len_new) some;
+    few = subst (λ n. n ≤ 64) (sym len_new) few;
     come = (0, refl);
     count = count_new;
     stand = (refl, record { mays = no_checkpoints; shown = refl; keeps = slots_are_made keeps_rules mem_state failures_of bare slots (λ slot. refl) slots_made });
@@ -77,15 +113,5 @@ module _ (accounts : Accounts) (old new : List (StoreLog MemDisk)) (some : 0 < l
     now =
         begins_serving accounts empty 0 (length new) v (subst (BeginsWith accounts empty 0 (length new)) (sym is) (begins_new (length new) accounts)) right
         (new_store (length new)) refl refl count_new
-        (rest_new (length new)) (All-nil (λ (p : Placed). p.change.stamp ≤ 0)) refl serving state fresh new shows_new none_waits;
+        (rest_new (length new)) (All-nil (λ (p : Placed). p.change.stamp ≤ 0)) refl serving state fresh 0 0 new all_new;
   }
-
--- a store that is owned alone and was just made
-pub owned_new : (accounts : Accounts) (bare slots : StoreSlots MemDisk) (disks : List MemDisk) (v : StateView) (logs : List (StoreLog MemDisk)) (serving : Serving)
-    → 0 < length disks → length disks ≤ 64 → IsNewStore keeps_rules mem_state failures_of disks bare accounts v logs (Some slots) → IsRightState v → serving.state ≡ v
-    → IsFresh serving → Holds accounts (Rest slots) new_standing logs (Some serving)
-owned_new accounts bare slots disks v logs serving some few new right state fresh =
-    let count : length (closed_on disks) ≡ length disks = length-closed 0 disks in
-    let is : v ≡ new_state (length logs) accounts = new.state_is ∙ ap (λ n. new_state n accounts) (sym count ∙ sym new.logs_are.len) in
-    holds_new accounts (closed_on disks) logs (subst (λ n. 0 < n) (sym count) some) (subst (λ n. n ≤ 64) (sym count) few) disks refl new.logs_are v is right serving state fresh bare slots
-    (subst (MakesBoth keeps_rules mem_state failures_of bare) (sym (same_Some slots new.made new.slots_are)) new.slots_made)

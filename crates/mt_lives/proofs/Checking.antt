@@ -31,7 +31,7 @@ module _ (accounts : Accounts) (slots : LiveSlots) (standing : Standing) (logs :
       let count = length logs in
       let life = life_served accounts slots standing logs serving h in
       let was = held accounts slots standing logs serving h in
-      let holds_now : HoldsServing accounts standing.begun life t logs serving = record {
+      let holds_now : HoldsServing h.from h.whole accounts standing.begun life t logs serving = record {
         serves = record {
           serving = was.serves.serving;
           steps = was.serves.steps;
@@ -50,11 +50,13 @@ module _ (accounts : Accounts) (slots : LiveSlots) (standing : Standing) (logs :
         by_id = was.by_id;
         each = λ worker now log is_now is_log.
             let a = was.each worker now log is_now is_log in
-            record { stands = a.stands; given_so = a.given_so; kept = kept_on worker log.kept a.kept };
+            record { files = a.files; stands = a.stands; begins = a.begins; given_so = a.given_so; kept = kept_on worker log.kept a.kept };
         settles = settles_on count s t h.some h.few h.come leads (omega arith) refl standing.begun serving.settles was.settles;
       } in
       record {
         s = t;
+        from = h.from;
+        whole = h.whole;
         some = h.some;
         few = h.few;
         come = comes_on count s t h.come leads;
@@ -62,7 +64,7 @@ module _ (accounts : Accounts) (slots : LiveSlots) (standing : Standing) (logs :
         stand = stand;
         settled = all_on count standing.settled s t h.some h.few h.come leads h.settled;
         keeps = h.keeps;
-        now = subst (λ (n : Result Life Past). HoldsNow accounts standing.begun n t logs (Some serving)) (sym (lives_so accounts slots standing logs serving h)) holds_now;
+        now = subst (λ (n : Result Life Past). HoldsNow h.from h.whole accounts standing.begun n t logs (Some serving)) (sym (lives_so accounts slots standing logs serving h)) holds_now;
       }
     where
       kept_on : (worker : ℕ) (kept : Option Batch) → HoldsKept h.s worker kept → HoldsKept (with_slots shown h.s) worker kept
@@ -74,6 +76,8 @@ module _ (accounts : Accounts) (slots : LiveSlots) (standing : Standing) (logs :
       → Holds accounts now (checking check standing) logs (Some serving)
   holds_same check now stand = record {
     s = h.s;
+    from = h.from;
+    whole = h.whole;
     some = h.some;
     few = h.few;
     come = h.come;

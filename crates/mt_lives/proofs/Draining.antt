@@ -7,28 +7,27 @@ use Rattle.mt_lives.specs.declared.live_slots.LiveSlots.{LiveSlots}
 use Rattle.mt_state.specs.Views.{StateView}
 use Rattle.mt_core.specs.Tickets.{named}
 use Rattle.mt_crashes.specs.Stores.{ReachesAt}
-use Rattle.mt_store_logs.specs.{declared.store_log.StoreLog.StoreLog, Waits.{AppendsKept, Reopens}}
-use Rattle.mt_store_logs.specs.Flushes.{DrainsIn, DrainsShort, HasDrained, FailsToDrain, FailsInDrains, Flushes, FailsToFlush}
-use Rattle.mt_store_logs.specs.LogTurns.{BringsUp, FailsToBringUp}
+use Rattle.mt_store_logs.specs.{declared.store_log.StoreLog.StoreLog, Places.OnLast, Waits.AppendsKept, Turns.ReopensLog}
 use Rattle.mt_lives.specs.{declared.serving.Serving.Serving, Serving.DrainsServing, Lives.{Life, Standing, IsMemoryOrDevice, steps_in}, Holds.Holds}
 use Rattle.mt_lives.proofs.{Comes.{set_there, set_twice}, Served.last, Flushing.{keeps_rules, failures_of}, Noting.{life_served, lives_so, held}}
+use Rattle.mt_lives.proofs.LogDrains.{DrainsLog, DrainsLogShort, HasDrainedLog, FailsToDrainLog, FailsInLogDrains, Drains, FailsToDrainUpto, TurnsLog, FailsToTurn}
 use Rattle.mt_lives.proofs.Noted.{none_waits, kept_again, waits_again, drained_again, keeps_again, reopen_noted, reopen_fails}
 
 -- drains leave the Settles
-short_settles : (worker n upto : ℕ) (old new : StoreLog MemDisk) (was is : Serving) → DrainsShort keeps_rules mem_state failures_of DrainsServing worker n upto old new was is
+short_settles : (worker n upto : ℕ) (old new : StoreLog MemDisk) (was is : Serving) → DrainsLogShort keeps_rules mem_state failures_of DrainsServing worker n upto old new was is
     → is.settles ≡ was.settles
 short_settles worker zero upto old new was is s = ap (λ (x : Serving). x.settles) s.1
 short_settles worker (suc n) upto old new was is (mark, mid, between, rest, d, less) = d.given.settles ∙ short_settles worker n upto old mid was between rest
 
 -- and so does a flush
-pub flush_settles : (worker upto mark : ℕ) (old new : StoreLog MemDisk) (was is : Serving) → Flushes keeps_rules mem_state failures_of DrainsServing worker upto mark old new was is
+pub flush_settles : (worker upto mark : ℕ) (old new : StoreLog MemDisk) (was is : Serving) → Drains keeps_rules mem_state failures_of DrainsServing worker upto mark old new was is
     → is.settles ≡ was.settles
 flush_settles worker upto mark old new was is f =
-    let h = f.drains.0 in
+    let h = f.drains in
     h.last.given.settles ∙ short_settles worker h.times upto f.first h.mid was h.between h.short
 
 -- and a turn
-pub turn_settles : (worker upto mark : ℕ) (old new : StoreLog MemDisk) (was is : Serving) → BringsUp keeps_rules mem_state failures_of DrainsServing worker upto mark old new was is
+pub turn_settles : (worker upto mark : ℕ) (old new : StoreLog MemDisk) (was is : Serving) → TurnsLog keeps_rules mem_state failures_of DrainsServing worker upto mark old new was is
     → is.settles ≡ was.settles
 turn_settles worker upto mark old new was is b = flush_settles worker upto mark b.mid new was is b.flushes
 
@@ -48,18 +47,18 @@ module _ (accounts : Accounts) (slots : LiveSlots) (standing : Standing) (worker
 
     -- one drain more
     more : (upto mark : ℕ) (log new : StoreLog MemDisk) (now next : Serving) → Rests logs was log now
-        → DrainsIn keeps_rules mem_state failures_of DrainsServing worker upto mark log new now next → Rests logs was new next
+        → DrainsLog keeps_rules mem_state failures_of DrainsServing worker upto mark log new now next → Rests logs was new next
     more upto mark log new now next r d =
         let a = drained_again accounts slots standing (slice_set logs worker log) now r.holds worker log new (here log) next upto mark r.none d in
         record {
           holds = twice log new next a.0.again;
-          none = d.appended.appends.none;
+          none = d.appended.does.appends.none;
           settles = d.given.settles ∙ r.settles;
           steps = ap (λ (v : StateView). v.steps) d.given.state.stands ∙ r.steps;
         }
 
     short_rests : (n upto : ℕ) (log new : StoreLog MemDisk) (now next : Serving) → Rests logs was log now
-        → DrainsShort keeps_rules mem_state failures_of DrainsServing worker n upto log new now next → Rests logs was new next
+        → DrainsLogShort keeps_rules mem_state failures_of DrainsServing worker n upto log new now next → Rests logs was new next
     short_rests zero upto log new now next r s =
         subst (λ (l : StoreLog MemDisk). Rests logs was l next) (sym s.0) (subst (λ (x : Serving). Rests logs was log x) (sym s.1) r)
     short_rests (suc n) upto log new now next r (mark, mid, between, rest, d, less) =
@@ -81,7 +80,7 @@ module _ (accounts : Accounts) (slots : LiveSlots) (standing : Standing) (worker
       pub memory : IsMemoryOrDevice e
 
     drains_rest : (upto mark : ℕ) (log new : StoreLog MemDisk) (now next : Serving) → Rests logs was log now
-        → HasDrained keeps_rules mem_state failures_of DrainsServing worker upto mark log new now next → upto ≤ mark → Flushed upto mark new next
+        → HasDrainedLog keeps_rules mem_state failures_of DrainsServing worker upto mark log new now next → upto ≤ mark → Flushed upto mark new next
     drains_rest upto mark log new now next r h reaches =
         let before = short_rests h.times upto log h.mid now h.between r h.short in
         let d = h.last in
@@ -105,13 +104,13 @@ module _ (accounts : Accounts) (slots : LiveSlots) (standing : Standing) (worker
             subst (λ ls. (k : Holds accounts slots standing ls (Some serving)) × ReachesAt n k.s worker) same (h, reach)
 
     drains_stop : (upto : ℕ) (e : Refusal) (log new : StoreLog MemDisk) (now next : Serving) → Rests logs was log now
-        → FailsInDrains keeps_rules mem_state failures_of DrainsServing worker upto e log new now next → Refuses e new next
+        → FailsInLogDrains keeps_rules mem_state failures_of DrainsServing worker upto e log new now next → Refuses e new next
     drains_stop upto e log new now next r f = by f.fails
       where
         before : Rests logs was f.mid f.between
         before = short_rests f.times upto log f.mid now f.between r f.short
 
-        by : FailsToDrain keeps_rules mem_state failures_of DrainsServing worker e f.mid new f.between next → Refuses e new next
+        by : FailsToDrainLog keeps_rules mem_state failures_of DrainsServing worker e f.mid new f.between next → Refuses e new next
         by (inl none) = record {
           holds =
               subst (λ (l : StoreLog MemDisk). Holds accounts slots standing (slice_set logs worker l) (Some next)) (sym none.same_log)
@@ -133,17 +132,17 @@ module _ (accounts : Accounts) (slots : LiveSlots) (standing : Standing) (logs :
   pub there : (new : StoreLog MemDisk) → slice_get (slice_set logs worker new) worker ≡ Some new
   there new = set_there logs worker log new here
 
-  first_rests : (first : StoreLog MemDisk) → AppendsKept keeps_rules mem_state failures_of log first → Rests accounts slots standing worker logs serving first serving
+  first_rests : (first : StoreLog MemDisk) → OnLast (AppendsKept keeps_rules mem_state failures_of) log first → Rests accounts slots standing worker logs serving first serving
   first_rests first a =
       let r = kept_again accounts slots standing logs serving h worker log first here a in
-      record { holds = r.again; none = a.none; settles = refl; steps = refl }
+      record { holds = r.again; none = a.does.none; settles = refl; steps = refl }
 
-  pub flush_noted : (upto mark : ℕ) (new : StoreLog MemDisk) (now : Serving) → Flushes keeps_rules mem_state failures_of DrainsServing worker upto mark log new serving now
+  pub flush_noted : (upto mark : ℕ) (new : StoreLog MemDisk) (now : Serving) → Drains keeps_rules mem_state failures_of DrainsServing worker upto mark log new serving now
       → Flushed accounts slots standing worker logs serving there upto mark new now
   flush_noted upto mark new now f =
-      drains_rest accounts slots standing worker logs serving there upto mark f.first new serving now (first_rests f.first f.kept) f.drains.0 f.drains.1
+      drains_rest accounts slots standing worker logs serving there upto mark f.first new serving now (first_rests f.first f.kept) f.drains f.reaches
 
-  pub flush_fails : (upto : ℕ) (e : Refusal) (new : StoreLog MemDisk) (now : Serving) → FailsToFlush keeps_rules mem_state failures_of DrainsServing worker upto e log new serving now
+  pub flush_fails : (upto : ℕ) (e : Refusal) (new : StoreLog MemDisk) (now : Serving) → FailsToDrainUpto keeps_rules mem_state failures_of DrainsServing worker upto e log new serving now
       → Refuses accounts slots standing worker logs serving there e new now
   flush_fails upto e new now (inl f) =
       let r = waits_again accounts slots standing logs serving h worker log new here e f.fails in
@@ -157,27 +156,27 @@ module _ (accounts : Accounts) (slots : LiveSlots) (standing : Standing) (logs :
   -- ---- a turn
 
   -- the log is open
-  reopen_rests : (mid : StoreLog MemDisk) → Reopens keeps_rules mem_state failures_of log mid → Rests accounts slots standing worker logs serving mid serving
+  reopen_rests : (mid : StoreLog MemDisk) → ReopensLog keeps_rules mem_state failures_of log mid → Rests accounts slots standing worker logs serving mid serving
   reopen_rests mid r =
       let a = reopen_noted accounts slots standing logs serving h worker log mid here r in
-      record { holds = a.again; none = none_waits log.slot log mid r; settles = refl; steps = refl }
+      record { holds = a.again; none = none_waits log mid r; settles = refl; steps = refl }
 
   -- and then it is flushed
-  then_first : (mid first : StoreLog MemDisk) → Rests accounts slots standing worker logs serving mid serving → AppendsKept keeps_rules mem_state failures_of mid first
+  then_first : (mid first : StoreLog MemDisk) → Rests accounts slots standing worker logs serving mid serving → OnLast (AppendsKept keeps_rules mem_state failures_of) mid first
       → Rests accounts slots standing worker logs serving first serving
   then_first mid first r a =
       let k = kept_again accounts slots standing (slice_set logs worker mid) serving r.holds worker mid first (there mid) a in
-      record { holds = twice accounts slots standing worker logs serving there mid first serving k.again; none = a.none; settles = refl; steps = refl }
+      record { holds = twice accounts slots standing worker logs serving there mid first serving k.again; none = a.does.none; settles = refl; steps = refl }
 
-  pub turn_noted : (upto mark : ℕ) (new : StoreLog MemDisk) (now : Serving) → BringsUp keeps_rules mem_state failures_of DrainsServing worker upto mark log new serving now
+  pub turn_noted : (upto mark : ℕ) (new : StoreLog MemDisk) (now : Serving) → TurnsLog keeps_rules mem_state failures_of DrainsServing worker upto mark log new serving now
       → Flushed accounts slots standing worker logs serving there upto mark new now
   turn_noted upto mark new now b =
       let f = b.flushes in
       drains_rest accounts slots standing worker logs serving there upto mark f.first new serving now (then_first b.mid f.first (reopen_rests b.mid b.opens) f.kept)
-      f.drains.0 f.drains.1
+      f.drains f.reaches
 
   pub turn_fails : (upto : ℕ) (e : Refusal) (new : StoreLog MemDisk) (now : Serving)
-      → FailsToBringUp keeps_rules mem_state failures_of DrainsServing worker upto e log new serving now → Refuses accounts slots standing worker logs serving there e new now
+      → FailsToTurn keeps_rules mem_state failures_of DrainsServing worker upto e log new serving now → Refuses accounts slots standing worker logs serving there e new now
   turn_fails upto e new now (inl f) =
       let r = reopen_fails accounts slots standing logs serving h worker log new here e f.fails in
       record {
@@ -190,7 +189,7 @@ module _ (accounts : Accounts) (slots : LiveSlots) (standing : Standing) (logs :
       open_now : Rests accounts slots standing worker logs serving f.mid serving
       open_now = reopen_rests f.mid f.opens
 
-      by : FailsToFlush keeps_rules mem_state failures_of DrainsServing worker upto e f.mid new serving now → Refuses accounts slots standing worker logs serving there e new now
+      by : FailsToDrainUpto keeps_rules mem_state failures_of DrainsServing worker upto e f.mid new serving now → Refuses accounts slots standing worker logs serving there e new now
       by (inl w) =
           let r = waits_again accounts slots standing (slice_set logs worker f.mid) serving open_now.holds worker f.mid new (there f.mid) e w.fails in
           record {

@@ -1,5 +1,5 @@
 -- What a flush makes of a store that serves a life.
-use Rattle.std.proofs.Common.{◌≡◌, ◌≢◌, ◌⊎◌, ℕ, zero, suc, ◌+◌, ◌<◌, ◌≤◌, Bool, true, List, [], ◌∷◌, length, Option, Some, None, refl, sym, ap, subst, ◌∙◌, arith, inl, inr, ⊎_elim}
+use Rattle.std.proofs.Common.{◌≡◌, ◌≢◌, ◌⊎◌, ℕ, zero, suc, ◌+◌, ◌<◌, ◌≤◌, List, [], ◌∷◌, length, Option, Some, None, refl, sym, ap, subst, ◌∙◌, arith, inl, inr, ⊎_elim}
 use Rattle.std.proofs.lemmas.Option.{same_Some}
 use Rattle.std.specs.{Prelude.{slice_get, slice_index_or}, List.filter}
 use Rattle.mt_rows.specs.{Accounts.Accounts, declared.record.Batch.Batch, declared.refusal.Refusal.Refusal}
@@ -10,21 +10,14 @@ use Rattle.mt_state.specs.{Views.StateView, Histories.Names}
 use Rattle.mt_core.specs.Drains.{Drains}
 use Rattle.mt_drains.specs.Drains.{records_between}
 use Rattle.mt_crashes.{specs.{Histories.changes_of, Stores.{Store, LogNow, Reaches, is_between}}, proofs.Members.no_some}
-use Rattle.mt_recover.specs.{declared.resuming.LogSlot.LogSlot, declared.resuming.LogSlot.TheVariants.{Open, Failed, Closed, Away}}
-use Rattle.mt_store_logs.specs.{declared.store_log.StoreLog.StoreLog, Places.mark_in}
+use Rattle.mt_store_logs.specs.{declared.last_log.LastLog.LastLog, declared.store_log.StoreLog.StoreLog, Places.{last_log_of, slot_of, mark_in, OnLast}}
 use Rattle.mt_store_logs.specs.Waits.{AppendsKept, FailsToAppend, AppendsNew, FailsToAppendNew, with_kept}
-use Rattle.mt_store_logs.specs.Shows.{Shows, Stands, WaitsIn, drained_upto, IsInDoubt}
-use Rattle.mt_store_logs.proofs.CallerLemmas.{appends, fails_to_append, drained}
+use Rattle.mt_store_logs.specs.{Shows.{WaitsIn, drained_upto, IsInDoubt}, Ends.keeping}
 use Rattle.mt_lives.specs.{Lives.{Life, IsMemoryOrDevice}, Holds.{HoldsChanges, HoldsKept, IsLogAt, Serves}}
 use Rattle.mt_lives.proofs.{Comes.{set_there, with_log, GoesTo, is_in, is_in_doubt}, Tapes.drained_changes}
+pub use Rattle.mt_lives.proofs.TurnLogs.{keeps_rules, failures_of}
+use Rattle.mt_lives.proofs.TurnLogs.{IsAt, waiting, open_mark, appended_in, not_appended_in, drained_in}
 use Rattle.mt_rows.specs.declared.refusal.Refusal.TheVariants as refusals
-
--- disks in memory keep the rules
-abbrev pub keeps_rules : MemDisk → Bool
-keeps_rules d = true
-
-abbrev pub failures_of : MemDisk → ℕ
-failures_of d = d.failures
 
 -- a log that rests reaches its mark
 pub rests_at_mark : (now : LogNow) (n : ℕ) → now.doubt ≡ None → mark_of now.had ≡ n → Reaches n now
@@ -32,13 +25,6 @@ rests_at_mark now n none mark = λ front left. ⊎_elim
     (λ same. omega (arith, ap mark_of same, mark))
     (λ more. absurd (no_some more.0 (sym none ∙ more.1)))
     left
-
--- the mark of an open log
-pub open_mark : (now : LogNow) (slot : LogSlot MemDisk) (mark : ℕ) → Shows mem_state now slot → mark_in slot ≡ Some mark → mark ≡ mark_of now.had
-open_mark now (Open log) mark shows is = sym (same_Some log.mark mark is) ∙ shows.1.mark
-open_mark now (Failed log) mark shows is = absurd (no_some mark is)
-open_mark now (Closed disk) mark shows is = absurd (no_some mark is)
-open_mark now Away mark shows is = absurd shows
 
 -- what a drain gave holds the worker's changes
 module _ (accounts : Accounts) (life : Life) (s : Store) (v new : StateView) (names : Names) (h : Serves accounts life s v names) (worker : ℕ) (batch : Batch)
@@ -70,7 +56,7 @@ within (y ∷ xs) (suc k) x e = omega (arith, within xs k x e)
 -- ---- refusals
 
 -- a refusal of a log is of memory or of the device
-pub of_log : (e : Refusal) (old new : StoreLog MemDisk) → FailsToAppend keeps_rules mem_state failures_of e old new → ((mark : ℕ) → e ≢ refusals.WrongTurn mark) → IsMemoryOrDevice e
+pub of_log : (e : Refusal) (old new : LastLog MemDisk) → FailsToAppend keeps_rules mem_state failures_of e old new → ((mark : ℕ) → e ≢ refusals.WrongTurn mark) → IsMemoryOrDevice e
 of_log refusals.Device old new f turn = inr refl
 of_log refusals.Memory old new f turn = inl refl
 of_log (refusals.WrongTurn mark) old new f turn = absurd (turn mark refl)
@@ -84,41 +70,43 @@ doubt_drained None now_kept now next same is = ap (drained_upto next) is ∙ ap 
 doubt_drained (Some b) now_kept now next doubt is = ap (drained_upto next) is
 
 -- a worker's log has come to stand so, and its state gave it so much
-pub record Moves (s : Store) (given : List ℕ) (worker : ℕ) (new : StoreLog MemDisk) : Type 0 where
+pub record Moves (from whole : ℕ) (s : Store) (given : List ℕ) (worker : ℕ) (new : StoreLog MemDisk) : Type 0 where
   pub next : LogNow
   pub goes : GoesTo worker next s
-  pub at : IsLogAt (with_log worker next s) given worker next new
+  pub at : IsLogAt from whole (with_log worker next s) given worker next new
 
-module _ (accounts : Accounts) (life : Life) (s : Store) (v : StateView) (names : Names) (h : Serves accounts life s v names) (worker : ℕ) (now : LogNow) (log : StoreLog MemDisk)
-    (there : slice_get s.logs worker ≡ Some now) (at : IsLogAt s v.logs worker now log) where
-  -- the batch that waited is in the log
-  record Kept (mid : StoreLog MemDisk) : Type 0 where
-    next : LogNow
-    goes : GoesTo worker next s
-    stands : Stands keeps_rules mem_state next mid
-    upto : drained_upto next mid.kept ≡ drained_upto now log.kept
-    none : mid.kept ≡ None
+-- it stands in its turn
+pub stands_at : (from whole : ℕ) (s : Store) (given : List ℕ) (worker : ℕ) (now : LogNow) (log : StoreLog MemDisk) → IsLogAt from whole s given worker now log → IsAt from whole now log
+stands_at from whole s given worker now log at = record { files = at.files; stands = at.stands; begins = at.begins }
 
-  kept_in : (mid : StoreLog MemDisk) → AppendsKept keeps_rules mem_state failures_of log mid → Kept mid
-  kept_in mid a =
-      let r = appends keeps_rules mem_state failures_of now log mid at.stands a in
-      record { next = r.0; goes = is_in worker s now r.0 log.kept h.serving there at.kept r.2; stands = r.1; upto = r.3; none = a.none }
+pub as_log_at : (from whole : ℕ) (s : Store) (given : List ℕ) (worker : ℕ) (now : LogNow) (log : StoreLog MemDisk) → IsAt from whole now log
+    → slice_get given worker ≡ Some (drained_upto now log.kept) → HoldsKept s worker log.kept → IsLogAt from whole s given worker now log
+as_log_at from whole s given worker now log at given_so kept = record { files = at.files; stands = at.stands; begins = at.begins; given_so = given_so; kept = kept }
+
+-- a batch that is new to a log waits for it first
+waits_first : (batch : Batch) (log last : StoreLog MemDisk) → OnLast (AppendsNew keeps_rules mem_state failures_of batch) log last
+    → OnLast (AppendsKept keeps_rules mem_state failures_of) (keeping batch log) last
+waits_first batch log last a = record { does = a.does.appends; rest = a.rest; doubts = a.doubts }
+
+module _ (from whole : ℕ) (accounts : Accounts) (life : Life) (s : Store) (v : StateView) (names : Names) (h : Serves accounts life s v names) (worker : ℕ) (now : LogNow) (log : StoreLog MemDisk)
+    (there : slice_get s.logs worker ≡ Some now) (at : IsLogAt from whole s v.logs worker now log) where
+  stands : IsAt from whole now log
+  stands = stands_at from whole s v.logs worker now log at
 
   -- the log was given what the state says
   given_so : (n : ℕ) → drained_upto now log.kept ≡ n → slice_get v.logs worker ≡ Some n
   given_so n e = at.given_so ∙ ap Some e
 
-  pub kept_moves : (mid : StoreLog MemDisk) → AppendsKept keeps_rules mem_state failures_of log mid → Moves s v.logs worker mid
+  -- the batch that waited is in the log
+  pub kept_moves : (mid : StoreLog MemDisk) → OnLast (AppendsKept keeps_rules mem_state failures_of) log mid → Moves from whole s v.logs worker mid
   kept_moves mid a =
-      let k = kept_in mid a in
+      let r = appended_in from whole now log mid stands a in
       record {
-        next = k.next;
-        goes = k.goes;
-        at = record {
-          stands = k.stands;
-          given_so = given_so (drained_upto k.next mid.kept) (sym k.upto);
-          kept = subst (HoldsKept (with_log worker k.next s) worker) (sym k.none) tt;
-        };
+        next = r.0;
+        goes = is_in worker s now r.0 log.kept h.serving there at.kept r.2;
+        at = as_log_at from whole (with_log worker r.0 s) v.logs worker r.0 mid r.1
+            (given_so (drained_upto r.0 mid.kept) (sym r.3))
+            (subst (HoldsKept (with_log worker r.0 s) worker) (sym a.does.none) tt);
       }
 
   holds_same : (next : LogNow) (kept : Option Batch) → HoldsKept s worker kept → HoldsKept (with_log worker next s) worker kept
@@ -126,19 +114,18 @@ module _ (accounts : Accounts) (life : Life) (s : Store) (v : StateView) (names 
   holds_same next (Some b) h = record { made = h.made; records = h.records }
 
   -- it still waits
-  pub waits_moves : (e : Refusal) (new : StoreLog MemDisk) → FailsToAppend keeps_rules mem_state failures_of e log new → Moves s v.logs worker new × IsMemoryOrDevice e
+  pub waits_moves : (e : Refusal) (new : StoreLog MemDisk) → OnLast (FailsToAppend keeps_rules mem_state failures_of e) log new
+      → Moves from whole s v.logs worker new × IsMemoryOrDevice e
   waits_moves e new f =
-      let r = fails_to_append keeps_rules mem_state failures_of now e log new at.stands f in (
+      let r = not_appended_in from whole now log new stands e f in (
         record {
           next = r.0;
           goes = is_in_doubt worker s now r.0 log.kept h.serving there at.kept r.2;
-          at = record {
-            stands = r.1;
-            given_so = given_so (drained_upto r.0 new.kept) (sym (doubt_drained log.kept new.kept now r.0 r.2 r.3));
-            kept = holds_same r.0 new.kept (subst (HoldsKept s worker) (sym r.3) at.kept);
-          };
+          at = as_log_at from whole (with_log worker r.0 s) v.logs worker r.0 new r.1
+              (given_so (drained_upto r.0 new.kept) (sym (doubt_drained log.kept new.kept now r.0 r.2 r.3)))
+              (holds_same r.0 new.kept (subst (HoldsKept s worker) (sym r.3) at.kept));
         },
-        of_log e log new f r.4,
+        of_log e (last_log_of log) (last_log_of new) f.does r.4,
       )
 
   -- the worker was drained, while no batch waited
@@ -166,49 +153,52 @@ module _ (accounts : Accounts) (life : Life) (s : Store) (v : StateView) (names 
         ap (λ (w : StateView). slice_get w.logs worker) d.stands
         ∙ set_there v.logs worker (drained_upto now log.kept) batch.to at.given_so
 
-    stands_drained : Stands keeps_rules mem_state now (with_kept batch log)
-    stands_drained = drained keeps_rules mem_state now log batch at.stands none bounded.in_order from_so
+    stands_drained : IsAt from whole now (keeping batch log)
+    stands_drained = drained_in from whole now log batch stands none bounded.in_order from_so
 
     holds_here : HoldsChanges s worker batch
     holds_here = holds_drained accounts life s v new names h worker batch d from_base
 
     -- its batch is in the log, which goes up to its end
-    pub flushed : (last : StoreLog MemDisk) → AppendsNew keeps_rules mem_state failures_of batch log last → (m : Moves s new.logs worker last) × Reaches batch.to m.next
+    pub flushed : (last : StoreLog MemDisk) → OnLast (AppendsNew keeps_rules mem_state failures_of batch) log last
+        → (m : Moves from whole s new.logs worker last) × Reaches batch.to m.next
     flushed last a =
-        let b = a.appends in
-        let r = appends keeps_rules mem_state failures_of now (with_kept batch log) last stands_drained b in
-        let at_end : mark_of r.0.had ≡ batch.to = ap (drained_upto r.0) (sym b.none) ∙ r.3 in
-        let rests_so : r.0.doubt ≡ None = subst (WaitsIn r.0) b.none r.1.waits in (
+        let b = waits_first batch log last a in
+        let r = appended_in from whole now (keeping batch log) last stands_drained b in
+        let at_end : mark_of r.0.had ≡ batch.to = ap (drained_upto r.0) (sym b.does.none) ∙ r.3 in
+        let rests_so : r.0.doubt ≡ None = subst (WaitsIn r.0) b.does.none (waiting from whole r.0 last r.1) in (
           record {
             next = r.0;
             goes = is_in worker s now r.0 (Some batch) h.serving there holds_here r.2;
-            at = record {
-              stands = r.1;
-              given_so = now_given ∙ ap Some (sym r.3);
-              kept = subst (HoldsKept (with_log worker r.0 s) worker) (sym b.none) tt;
-            };
+            at = as_log_at from whole (with_log worker r.0 s) new.logs worker r.0 last r.1 (now_given ∙ ap Some (sym r.3))
+                (subst (HoldsKept (with_log worker r.0 s) worker) (sym b.does.none) tt);
           },
           rests_at_mark r.0 batch.to rests_so at_end,
         )
 
     -- it is never out of turn
-    never_elsewhere : (mark : ℕ) → mark_in log.slot ≡ Some mark → batch.from ≢ mark → ⊥
-    never_elsewhere mark is elsewhere = elsewhere (from_so ∙ ap (drained_upto now) none ∙ sym (open_mark now log.slot mark at.stands.shows is))
+    never_elsewhere : (mark : ℕ) → mark_in (slot_of log) ≡ Some mark → batch.from ≢ mark → ⊥
+    never_elsewhere mark is elsewhere = elsewhere (from_so ∙ ap (drained_upto now) none ∙ sym (open_mark from whole now log mark stands is).1)
 
-    -- its batch waits
-    pub keeps_moves : (last : StoreLog MemDisk) (e : Refusal) → FailsToAppendNew keeps_rules mem_state failures_of e batch log last
-        → Moves s new.logs worker last × IsMemoryOrDevice e
-    keeps_moves last e (inr out) = absurd (never_elsewhere out.mark out.open_up_to out.elsewhere)
-    keeps_moves last e (inl f) =
-        let r = fails_to_append keeps_rules mem_state failures_of now e (with_kept batch log) last stands_drained f in (
+    still_waits : (e : Refusal) (last : StoreLog MemDisk) → OnLast (FailsToAppend keeps_rules mem_state failures_of e) (keeping batch log) last
+        → Moves from whole s new.logs worker last × IsMemoryOrDevice e
+    still_waits e last f =
+        let r = not_appended_in from whole now (keeping batch log) last stands_drained e f in (
           record {
             next = r.0;
             goes = is_in_doubt worker s now r.0 (Some batch) h.serving there holds_here r.2;
-            at = record {
-              stands = r.1;
-              given_so = now_given ∙ ap Some (sym (doubt_drained (Some batch) last.kept now r.0 r.2 r.3));
-              kept = subst (HoldsKept (with_log worker r.0 s) worker) (sym r.3) (holds r.0);
-            };
+            at = as_log_at from whole (with_log worker r.0 s) new.logs worker r.0 last r.1
+                (now_given ∙ ap Some (sym (doubt_drained (Some batch) last.kept now r.0 r.2 r.3)))
+                (subst (HoldsKept (with_log worker r.0 s) worker) (sym r.3) (holds r.0));
           },
-          of_log e (with_kept batch log) last f r.4,
+          of_log e (with_kept batch (last_log_of log)) (last_log_of last) f.does r.4,
         )
+
+    -- its batch waits
+    pub keeps_moves : (last : StoreLog MemDisk) (e : Refusal) → OnLast (FailsToAppendNew keeps_rules mem_state failures_of e batch) log last
+        → Moves from whole s new.logs worker last × IsMemoryOrDevice e
+    keeps_moves last e f = by f.does
+      where
+        by : FailsToAppendNew keeps_rules mem_state failures_of e batch (last_log_of log) (last_log_of last) → Moves from whole s new.logs worker last × IsMemoryOrDevice e
+        by (inl fails) = still_waits e last (record { does = fails; rest = f.rest; doubts = f.doubts })
+        by (inr out) = absurd (never_elsewhere out.mark out.open_up_to out.elsewhere)

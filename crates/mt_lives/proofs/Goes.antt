@@ -5,13 +5,13 @@ use Rattle.mt_rows.specs.{Accounts.Accounts, declared.refusal.Refusal.Refusal}
 use Rattle.mt_disk.specs.{declared.mem.MemDisk.MemDisk, Mem.mem_state}
 use Rattle.mt_lives.specs.declared.live_slots.LiveSlots.{LiveSlots}
 use Rattle.mt_crashes.specs.Stores.{ReachesAt}
-use Rattle.mt_store_logs.specs.{declared.store_log.StoreLog.StoreLog, Waits.{Reopens, FailsToReopen}, Flushes.{Flushes, FailsToFlush}}
-use Rattle.mt_store_logs.specs.LogTurns.{BringsUp, FailsToBringUp}
+use Rattle.mt_store_logs.specs.{declared.store_log.StoreLog.StoreLog, Turns.{ReopensLog, FailsToReopenLog}}
 use Rattle.mt_lives.specs.{declared.events.StoreEvent.StoreEvent, declared.events.StoreEvent.TheVariants.{Flush, Reopen, SettleNext}}
 use Rattle.mt_lives.specs.{declared.events.StoreNote.StoreNote, declared.events.StoreNote.TheVariants.{Flushed, Reopened, Turned, Settled, Refused}}
 use Rattle.mt_lives.specs.{declared.serving.Serving.Serving, declared.serving.Settle.Settle, Serving.DrainsServing}
 use Rattle.mt_lives.specs.{Lives.{Life, Past, Standing, IsServing, IsNoted, settling, steps_in}, Holds.{quotas_of, Holds}, Steps.Turns}
 use Rattle.mt_lives.proofs.{Flushing.{keeps_rules, failures_of}, Noting.{life_served, lives_so}, Noted.{reopen_noted, reopen_fails}}
+use Rattle.mt_lives.proofs.LogDrains.{Drains, FailsToDrainUpto, TurnsLog, FailsToTurn}
 use Rattle.mt_lives.proofs.Draining as drains
 use Rattle.mt_lives.proofs.Settling as settling_of
 
@@ -34,16 +34,16 @@ module _ (accounts : Accounts) (slots : LiveSlots) (standing : Standing) (logs :
   Goes event note now_logs now = (next : Standing) × IsNoted (quotas_of accounts) standing event note next × Holds accounts slots next now_logs (Some now)
 
   module _ (worker : ℕ) (log new : StoreLog MemDisk) (here : slice_get logs worker ≡ Some log) where
-    pub reopen_goes : Reopens keeps_rules mem_state failures_of log new → Goes (Reopen worker) Reopened (slice_set logs worker new) serving
+    pub reopen_goes : ReopensLog keeps_rules mem_state failures_of log new → Goes (Reopen worker) Reopened (slice_set logs worker new) serving
     reopen_goes r = (standing, (serves, refl), (reopen_noted accounts slots standing logs serving h worker log new here r).again)
 
-    pub reopen_stops : (e : Refusal) → FailsToReopen keeps_rules mem_state failures_of e log new → Goes (Reopen worker) (Refused e) (slice_set logs worker new) serving
+    pub reopen_stops : (e : Refusal) → FailsToReopenLog keeps_rules mem_state failures_of e log new → Goes (Reopen worker) (Refused e) (slice_set logs worker new) serving
     reopen_stops e f =
         let r = reopen_fails accounts slots standing logs serving h worker log new here e f in
         (standing, (serves, r.1, refl), r.0.again)
 
     module _ (now : Serving) where
-      pub flush_goes : (mark : ℕ) → Flushes keeps_rules mem_state failures_of DrainsServing worker 0 mark log new serving now
+      pub flush_goes : (mark : ℕ) → Drains keeps_rules mem_state failures_of DrainsServing worker 0 mark log new serving now
           → Goes (Flush worker) (Flushed mark) (slice_set logs worker new) now
       flush_goes mark f =
           let r = drains.flush_noted accounts slots standing logs serving h worker log here 0 mark new now f in
@@ -57,7 +57,7 @@ module _ (accounts : Accounts) (slots : LiveSlots) (standing : Standing) (logs :
           let made = r.made in
           (standing, (life, lives_so accounts slots standing logs serving h, omega (arith, made, steps), given, refl), r.holds)
 
-      pub flush_stops : (e : Refusal) → FailsToFlush keeps_rules mem_state failures_of DrainsServing worker 0 e log new serving now
+      pub flush_stops : (e : Refusal) → FailsToDrainUpto keeps_rules mem_state failures_of DrainsServing worker 0 e log new serving now
           → Goes (Flush worker) (Refused e) (slice_set logs worker new) now
       flush_stops e f =
           let r = drains.flush_fails accounts slots standing logs serving h worker log here 0 e new now f in
@@ -69,7 +69,7 @@ module _ (accounts : Accounts) (slots : LiveSlots) (standing : Standing) (logs :
         now_there : now.settles ≡ serving.settles → get nat_cmp now.settles id ≡ Some settle
         now_there same = ap (λ m. get nat_cmp m id) same ∙ there
 
-        pub settle_goes : (mark : ℕ) → BringsUp keeps_rules mem_state failures_of DrainsServing worker serving.state.steps mark log new serving now
+        pub settle_goes : (mark : ℕ) → TurnsLog keeps_rules mem_state failures_of DrainsServing worker serving.state.steps mark log new serving now
             → (note : StoreNote) → Turns (length (slice_set logs worker new)) id settle mark now.settles end.settles note → Goes (SettleNext id) note (slice_set logs worker new) end
         settle_goes mark f note t = by note t
           where
@@ -97,7 +97,7 @@ module _ (accounts : Accounts) (slots : LiveSlots) (standing : Standing) (logs :
                 (settling_of.settles accounts slots standing (slice_set logs worker new) now r.holds end state roster id settle open_so mark reach at_last t.0 t.2)
             by note t = absurd t
 
-        pub settle_stops : (e : Refusal) → FailsToBringUp keeps_rules mem_state failures_of DrainsServing worker serving.state.steps e log new serving now
+        pub settle_stops : (e : Refusal) → FailsToTurn keeps_rules mem_state failures_of DrainsServing worker serving.state.steps e log new serving now
             → Updates nat_cmp now.settles end.settles id None → Goes (SettleNext id) (Refused e) (slice_set logs worker new) end
         settle_stops e f u =
             let r = drains.turn_fails accounts slots standing logs serving h worker log here serving.state.steps e new now f in

@@ -1,16 +1,16 @@
 -- An event that leaves the slots alone, of a store that serves or does not.
-use Rattle.std.proofs.Common.{◌≡◌, ℕ, List, length, Option, Some, None, Result, Ok, Err, inl, refl, sym, ap, subst, ◌∙◌}
-use Rattle.std.specs.{Prelude.{IfOk, OnOk, Vec}, declared.alloc.Global.Global}
+use Rattle.std.proofs.Common.{◌≡◌, List, length, Option, Some, None, Result, Ok, Err, inl, refl, sym, ap, subst, ◌∙◌}
+use Rattle.std.specs.Prelude.{IfOk, OnOk}
 use Rattle.mt_rows.specs.Accounts.{Accounts}
 use Rattle.mt_disk.specs.declared.mem.MemDisk.{MemDisk}
 use Rattle.mt_lives.specs.declared.live_slots.LiveSlots.{LiveSlots}
 use Rattle.mt_runs.specs.Placings.{Quotas}
 use Rattle.mt_store_logs.specs.{declared.store_log.StoreLog.StoreLog, Places.workers_of}
-use Rattle.mt_lives.specs.{declared.events.StoreEvent.StoreEvent, declared.events.StoreEvent.TheVariants.{Core, Flush, Reopen, SettleBegin, SettleNext, CheckBegin, CheckStep, Crash}}
+use Rattle.mt_lives.specs.{declared.events.CrashImages.CrashImages, declared.events.StoreEvent.StoreEvent, declared.events.StoreEvent.TheVariants.{Core, Flush, Reopen, SettleBegin, SettleNext, CheckBegin, CheckStep, Crash}}
 use Rattle.mt_lives.specs.{declared.events.StoreNote.StoreNote, declared.events.StoreNote.TheVariants.NoSuch, declared.serving.Serving.Serving}
 use Rattle.mt_lives.specs.{Lives.{Life, Past, Standing, IsServing, IsNoted}, Holds.{HoldsNow, Holds}, Steps.{LeavesSlots, GoesOn}, Forced.{IsCheckForced, IsForcedAll}}
 
-pub leaves_slots : (event : StoreEvent) → (event ≡ CheckBegin → ⊥) → (event ≡ CheckStep → ⊥) → ((images : Vec (Vec ℕ Global) Global) → event ≡ Crash images → ⊥) → LeavesSlots event
+pub leaves_slots : (event : StoreEvent) → (event ≡ CheckBegin → ⊥) → (event ≡ CheckStep → ⊥) → ((images : CrashImages) → event ≡ Crash images → ⊥) → LeavesSlots event
 leaves_slots CheckBegin begins steps crashes = absurd (begins refl)
 leaves_slots CheckStep begins steps crashes = absurd (steps refl)
 leaves_slots (Crash images) begins steps crashes = absurd (crashes images refl)
@@ -27,7 +27,7 @@ nothing_noted quotas standing event leaves not = absurd leaves
 
 -- a store that has nothing while it serves serves no life
 pub serves_none : (accounts : Accounts) (slots : LiveSlots) (standing : Standing) (logs : List (StoreLog MemDisk)) → Holds accounts slots standing logs None → ¬ IsServing standing
-serves_none accounts slots standing logs h serves = subst (λ (n : Result Life Past). HoldsNow accounts standing.begun n h.s logs None) serves.1 h.now
+serves_none accounts slots standing logs h serves = subst (λ (n : Result Life Past). HoldsNow h.from h.whole accounts standing.begun n h.s logs None) serves.1 h.now
 
 -- the logs that a call went over are those of the store
 module _ {E : Type 0} (first old new last : List (StoreLog MemDisk)) (result : Result StoreNote E) (same_old : first ≡ old) (same_new : new ≡ last) where

@@ -7,6 +7,9 @@ pub mod Growing
 pub mod Tenants
 pub mod Cores
 pub mod Logged
+pub mod Begun
+pub mod LogDrains
+pub mod TurnLogs
 pub mod Flushing
 pub mod Noting
 pub mod Walking
@@ -28,11 +31,11 @@ pub mod Happening
 pub mod Forcing
 pub mod Righted
 pub mod Owning
+pub mod OwnedStores
 pub mod TurnNotes
 pub mod SettleNotes
 pub mod Settlings
 pub mod SlotReading
-pub mod Parting
 pub mod Stories
 pub mod Checking
 pub mod CheckNotes

@@ -15,10 +15,10 @@ use Rattle.mt_state.proofs.HistoryStart.{history_start}
 use Rattle.mt_core.{specs.{Restores.{counting, IsRestored}, Rights.IsRightState, Tickets.named}, proofs.EventRuns.{leads_first, by_id_first}}
 use Rattle.mt_crashes.specs.{Fronts.{after_changes, HoldResume}, Histories.{Placed, upto, changes_of}, Stores.{Store, LogNow, at_rest, AllReach}}
 use Rattle.mt_crashes.proofs.{Invariant.{map_place, left_at_rest}, Members.no_some}
-use Rattle.mt_store_logs.specs.{declared.store_log.StoreLog.StoreLog, Shows.{WaitsIn, drained_upto}}
+use Rattle.mt_store_logs.specs.{declared.store_log.StoreLog.StoreLog, Shows.drained_upto}
 use Rattle.mt_lives.specs.{declared.serving.Serving.Serving, declared.serving.Settle.Settle, Lives.{Life, life_from, firsts, story_in}}
 use Rattle.mt_lives.specs.{Holds.{quotas_of, LeadsTo, placed_of, HoldsKept, IsLogAt, EachLog, IsSettleIn, HoldsServing}, Returns.IsFresh}
-use Rattle.mt_lives.proofs.{Comes.{stays_here, one_more}, Flushing.within, Walking.resting_logs, Leaving.AllShow, Opening.honest}
+use Rattle.mt_lives.proofs.{Comes.{stays_here, one_more}, Flushing.within, Walking.resting_logs, Opening.AllOpen}
 use mathlib.Core.Path.{fun_ext}
 use Rattle.mt_state.specs.Views as views
 use Rattle.mt_crashes.specs.Stores as stores
@@ -142,28 +142,27 @@ module _ (accounts : Accounts) (first : Pairs) (steps logs : ℕ) (v : StateView
       reach = reach_all s steps rest;
     }
 
-    module _ (now_serving : Serving) (state : now_serving.state ≡ v) (fresh : IsFresh now_serving) (new : List (StoreLog MemDisk)) (each : AllShow s new)
-        (none_kept : (k : ℕ) (log : StoreLog MemDisk) → slice_get new k ≡ Some log → log.kept ≡ None) where
-      each_log : EachLog (IsLogAt s v.logs) s new
+    module _ (now_serving : Serving) (state : now_serving.state ≡ v) (fresh : IsFresh now_serving) (g h : ℕ) (new : List (StoreLog MemDisk)) (each : AllOpen g h s new) where
+      each_log : EachLog (IsLogAt g h s v.logs) s new
       each_log = λ worker now log there at.
-          let shows = each worker now log there at in
-          let none = none_kept worker log at in
-          let rests : now.doubt ≡ None = ap (λ (l : LogNow). l.doubt) (rest.rest worker now there) in
+          let o = each worker now log there at in
           record {
-            stands = record { honest = honest now log.slot shows; shows = shows; waits = subst (WaitsIn now) (sym none) rests };
+            files = o.files;
+            stands = o.stands;
+            begins = o.begins;
             given_so =
                 ap (λ ls. slice_get ls worker) is.logs_are
                 ∙ replicate_there logs worker steps (subst (λ n. worker < n) count (within s.logs worker now there))
-                ∙ ap Some (sym (ap (drained_upto now) none ∙ rest.marks worker now there));
-            kept = subst (HoldsKept s worker) (sym none) tt;
+                ∙ ap Some (sym (ap (drained_upto now) o.none ∙ rest.marks worker now there));
+            kept = subst (HoldsKept s worker) (sym o.none) tt;
           }
 
-      pub begins_serving : HoldsServing accounts (λ id. None) life s new now_serving
+      pub begins_serving : HoldsServing g h accounts (λ id. None) life s new now_serving
       begins_serving = record {
         serves =
             subst (λ (w : StateView). holds.Serves accounts life s w (named now_serving.roster.tickets)) (sym state)
             (serves_life (named now_serving.roster.tickets) (leads_first v now_serving.roster.tickets fresh.tickets).0);
         by_id = by_id_first now_serving.roster.names now_serving.roster.tickets fresh.tickets;
-        each = subst (λ (w : StateView). EachLog (IsLogAt s w.logs) s new) (sym state) each_log;
+        each = subst (λ (w : StateView). EachLog (IsLogAt g h s w.logs) s new) (sym state) each_log;
         settles = λ id. subst (IsSettleIn s None) (sym (no_settle now_serving.settles id fresh.settles)) tt;
       }

@@ -102,23 +102,23 @@ module _ (accounts : Accounts) (life : Life) (s : Store) (v : StateView) (names 
       }
 
 -- each log but one stands as it did
-pub each_logged : (s : Store) (logs : List (StoreLog MemDisk)) (given now_given : List ℕ) (worker : ℕ) (was next : LogNow) (old new : StoreLog MemDisk)
-    → slice_get s.logs worker ≡ Some was → slice_get logs worker ≡ Some old → IsLogAt (with_log worker next s) now_given worker next new
+pub each_logged : (from whole : ℕ) (s : Store) (logs : List (StoreLog MemDisk)) (given now_given : List ℕ) (worker : ℕ) (was next : LogNow) (old new : StoreLog MemDisk)
+    → slice_get s.logs worker ≡ Some was → slice_get logs worker ≡ Some old → IsLogAt from whole (with_log worker next s) now_given worker next new
     → ((k : ℕ) → k ≢ worker → slice_get now_given k ≡ slice_get given k)
-    → EachLog (IsLogAt s given) s logs → EachLog (IsLogAt (with_log worker next s) now_given) (with_log worker next s) (slice_set logs worker new)
-each_logged s logs given now_given worker was next old new there here at others all k now log is_now is_log = by (cases_eq k worker)
+    → EachLog (IsLogAt from whole s given) s logs → EachLog (IsLogAt from whole (with_log worker next s) now_given) (with_log worker next s) (slice_set logs worker new)
+each_logged from whole s logs given now_given worker was next old new there here at others all k now log is_now is_log = by (cases_eq k worker)
   where
     kept : (kept : Option Batch) → HoldsKept s k kept → HoldsKept (with_log worker next s) k kept
     kept None h = h
     kept (Some b) h = record { made = h.made; records = h.records }
 
-    by : (k ≡ worker) ⊎ (k ≢ worker) → IsLogAt (with_log worker next s) now_given k now log
+    by : (k ≡ worker) ⊎ (k ≢ worker) → IsLogAt from whole (with_log worker next s) now_given k now log
     by (inl same) =
         let n : next ≡ now = same_Some next now (sym (set_there s.logs worker was next there) ∙ subst (λ j. slice_get (slice_set s.logs worker next) j ≡ Some now) same is_now) in
         let l : new ≡ log = same_Some new log (sym (set_there logs worker old new here) ∙ subst (λ j. slice_get (slice_set logs worker new) j ≡ Some log) same is_log) in
-        subst (λ (x : StoreLog MemDisk). IsLogAt (with_log worker next s) now_given k now x) l
-        (subst (λ (x : LogNow). IsLogAt (with_log worker next s) now_given k x new) n
-        (subst (λ j. IsLogAt (with_log worker next s) now_given j next new) (sym same) at))
+        subst (λ (x : StoreLog MemDisk). IsLogAt from whole (with_log worker next s) now_given k now x) l
+        (subst (λ (x : LogNow). IsLogAt from whole (with_log worker next s) now_given k x new) n
+        (subst (λ j. IsLogAt from whole (with_log worker next s) now_given j next new) (sym same) at))
     by (inr other) =
         let a = all k now log (sym (set_other s.logs worker k next other) ∙ is_now) (sym (set_other logs worker k new other) ∙ is_log) in
-        record { stands = a.stands; given_so = others k other ∙ a.given_so; kept = kept log.kept a.kept }
+        record { files = a.files; stands = a.stands; begins = a.begins; given_so = others k other ∙ a.given_so; kept = kept log.kept a.kept }

@@ -1,5 +1,5 @@
 -- What an append, a drain and a reopening make of all that holds of a store.
-use Rattle.std.proofs.Common.{◌≡◌, ◌≢◌, ◌⊎◌, ℕ, ◌+◌, ◌≤◌, List, length, Option, Some, None, refl, sym, ap, subst, ◌∙◌, inl, inr, ⊎_elim, arith}
+use Rattle.std.proofs.Common.{◌≡◌, ◌≢◌, ◌⊎◌, ℕ, ◌+◌, ◌≤◌, List, Option, Some, None, refl, sym, ap, subst, ◌∙◌, inl, inr, ⊎_elim, arith}
 use Rattle.std.proofs.lemmas.Option.{same_Some}
 use Rattle.std.specs.Prelude.{slice_get, slice_set}
 use Rattle.mt_rows.specs.{Accounts.Accounts, declared.record.Batch.Batch, declared.refusal.Refusal.Refusal}
@@ -7,49 +7,29 @@ use Rattle.mt_disk.specs.{declared.mem.MemDisk.MemDisk, Mem.mem_state}
 use Rattle.mt_log.specs.Contents.{mark_of}
 use Rattle.mt_state.specs.{Views.StateView, Histories.Names}
 use Rattle.mt_core.specs.Tickets.{named}
-use Rattle.mt_crashes.{specs.Stores.{Store, LogNow, Reaches, ReachesAt}, proofs.{Heart.log_begins_at_0, Members.no_some}}
+use Rattle.mt_crashes.{specs.Stores.{Store, LogNow, Reaches, ReachesAt}, proofs.Members.no_some}
 use Rattle.mt_recover.specs.{declared.resuming.LogSlot.LogSlot, declared.resuming.LogSlot.TheVariants.{Open, Failed, Closed, Away}}
-use Rattle.mt_store_logs.specs.{declared.store_log.StoreLog.StoreLog, Places.FailsToOpen}
-use Rattle.mt_store_logs.specs.{Waits.{AppendsKept, FailsToAppend, ReopensAt, Reopens, FailsToReopenAt, FailsToReopen}, Flushes.{DrainsIn, KeepsDrained}}
-use Rattle.mt_store_logs.specs.Shows.{WaitsIn, drained_upto, ComesToRest}
-use Rattle.mt_store_logs.proofs.CallerLemmas.{reopens, fails_to_reopen}
+use Rattle.mt_store_logs.specs.{declared.last_log.LastLog.LastLog, declared.store_log.StoreLog.StoreLog, Places.{last_log_of, slot_of, OnLast}}
+use Rattle.mt_store_logs.specs.Waits.{AppendsKept, FailsToAppend, ReopensAt}
+use Rattle.mt_store_logs.specs.{Turns.{ReopensLog, FailsToReopenLog}, Shows.{WaitsIn, drained_upto, ComesToRest}}
 use Rattle.mt_lives.specs.{declared.serving.Serving.Serving, Serving.DrainsServing, Lives.{Life, Standing, IsMemoryOrDevice}}
 use Rattle.mt_lives.specs.Holds.{IsLogAt, HoldsKept, Serves, Holds}
 use Rattle.mt_lives.proofs.{Comes.{with_log, set_there, GoesTo, and_then, rests, is_in, is_in_doubt}, Logged.{set_other, serves_drained}}
-use Rattle.mt_lives.proofs.Flushing.{keeps_rules, failures_of, of_log, doubt_drained, Moves, kept_moves, waits_moves, full_or_all, flushed, keeps_moves}
+use Rattle.mt_lives.proofs.{LogDrains.{DrainsLog, KeepsDrainedLog}, TurnLogs.{IsAt, waiting, reopened_in, not_reopened_in}}
+use Rattle.mt_lives.proofs.Flushing.{keeps_rules, failures_of, doubt_drained, Moves, stands_at, as_log_at, kept_moves, waits_moves, full_or_all, flushed, keeps_moves}
 use Rattle.mt_lives.proofs.Noting.{life_served, held, HoldsAgain, found, at, moved}
 use Rattle.mt_lives.specs.declared.live_slots.LiveSlots.{LiveSlots}
-use Rattle.mt_rows.specs.declared.refusal.Refusal.TheVariants as refusals
-
--- ---- refusals of a reopening
-
-of_open : (r : Refusal) (disk : MemDisk) (slot : LogSlot MemDisk) → FailsToOpen keeps_rules mem_state failures_of r (Some disk) slot
-    → ((number offset : ℕ) → r ≢ refusals.BadLog number offset) → IsMemoryOrDevice r
-of_open refusals.Device disk slot f not_bad = inr refl
-of_open refusals.Memory disk slot f not_bad = inl refl
-of_open (refusals.BadLog number offset) disk slot f not_bad = absurd (not_bad number offset refl)
-of_open r disk (Closed new) f not_bad = absurd f
-of_open r disk (Open new) f not_bad = absurd f
-of_open r disk (Failed new) f not_bad = absurd f
-of_open r disk Away f not_bad = absurd f
-
-of_reopening : (e : Refusal) (slot : LogSlot MemDisk) (old new : StoreLog MemDisk) → FailsToReopenAt keeps_rules mem_state failures_of e slot old new
-    → ((number offset : ℕ) → e ≢ refusals.BadLog number offset) → ((mark : ℕ) → e ≢ refusals.WrongTurn mark) → IsMemoryOrDevice e
-of_reopening e (Closed disk) old new (inl s) not_bad turn =
-    of_open e disk new.slot s.fails not_bad
-of_reopening e (Closed disk) old new (inr o) not_bad turn = of_log e _ new o.fails turn
-of_reopening e (Failed log) old new (inl s) not_bad turn = inr s.told
-of_reopening e (Failed log) old new (inr o) not_bad turn = of_log e _ new o.fails turn
-of_reopening e (Open log) old new f not_bad turn = of_log e old new f turn
-of_reopening e Away old new f not_bad turn = of_log e old new f turn
 
 -- ---- the batch that waits
 
-pub none_waits : (slot : LogSlot MemDisk) (old new : StoreLog MemDisk) → ReopensAt keeps_rules mem_state failures_of slot old new → new.kept ≡ None
-none_waits (Failed log) old new r = r.appends.none
-none_waits (Closed disk) old new r = r.appends.none
-none_waits (Open log) old new r = r.none
-none_waits Away old new r = r.none
+none_left : (slot : LogSlot MemDisk) (old new : LastLog MemDisk) → ReopensAt keeps_rules mem_state failures_of slot old new → new.kept ≡ None
+none_left (Failed log) old new r = r.appends.none
+none_left (Closed disk) old new r = r.appends.none
+none_left (Open log) old new r = r.none
+none_left Away old new r = r.none
+
+pub none_waits : (old new : StoreLog MemDisk) → ReopensLog keeps_rules mem_state failures_of old new → new.kept ≡ None
+none_waits old new r = none_left (slot_of r.mid) (last_log_of r.mid) (last_log_of new) r.reopens.does
 
 kept_on : (s : Store) (worker : ℕ) (next : LogNow) (kept : Option Batch) → HoldsKept s worker kept → HoldsKept (with_log worker next s) worker kept
 kept_on s worker next None h = h
@@ -88,11 +68,7 @@ module _ (accounts : Accounts) (slots : LiveSlots) (standing : Standing) (logs :
   unfolding now
   there = (found accounts slots standing logs serving h worker log new here).1
 
-  -- it is the whole log
-  whole : now.had.generation ≡ 0
-  whole = (log_begins_at_0 (length logs) h.come.0 worker h.s now h.some h.few h.come.1 there).0
-
-  log_at : IsLogAt h.s v.logs worker now log
+  log_at : IsLogAt h.from h.whole h.s v.logs worker now log
   unfolding v now
   log_at = at accounts slots standing logs serving h worker log new here
 
@@ -104,7 +80,7 @@ module _ (accounts : Accounts) (slots : LiveSlots) (standing : Standing) (logs :
   AnyStore s = Unit {0}
 
   -- its state was not drained
-  undrained : (now_serving : Serving) → now_serving ≡ serving → Moves h.s v.logs worker new → Again now_serving AnyStore
+  undrained : (now_serving : Serving) → now_serving ≡ serving → Moves h.from h.whole h.s v.logs worker new → Again now_serving AnyStore
   unfolding life v names
   undrained now_serving same m =
       let a = moved accounts slots standing logs serving h worker log new here serving m serves refl refl (λ k other. refl) in
@@ -121,30 +97,30 @@ module _ (accounts : Accounts) (slots : LiveSlots) (standing : Standing) (logs :
         subst (λ r. Serves accounts life h.s now_serving.state (named r.tickets)) (sym given.roster)
         (serves_drained accounts life h.s v names serves now_serving.state worker batch given.state given.right)
 
-    drained_on : (m : Moves h.s now_serving.state.logs worker new) → Again now_serving (λ s. slice_get s.logs worker ≡ Some m.next)
+    drained_on : (m : Moves h.from h.whole h.s now_serving.state.logs worker new) → Again now_serving (λ s. slice_get s.logs worker ≡ Some m.next)
     unfolding life v
     drained_on m = moved accounts slots standing logs serving h worker log new here now_serving m now_serves given.roster given.settles others
 
   -- ---- appends and drains
 
   -- the batch that waited is in the log
-  pub kept_again : AppendsKept keeps_rules mem_state failures_of log new → Again serving AnyStore
+  pub kept_again : OnLast (AppendsKept keeps_rules mem_state failures_of) log new → Again serving AnyStore
   unfolding life v names
-  kept_again a = undrained serving refl (kept_moves accounts life h.s v names serves worker now log there log_at new a)
+  kept_again a = undrained serving refl (kept_moves h.from h.whole accounts life h.s v names serves worker now log there log_at new a)
 
   -- it still waits
-  pub waits_again : (e : Refusal) → FailsToAppend keeps_rules mem_state failures_of e log new → Again serving AnyStore × IsMemoryOrDevice e
+  pub waits_again : (e : Refusal) → OnLast (FailsToAppend keeps_rules mem_state failures_of e) log new → Again serving AnyStore × IsMemoryOrDevice e
   unfolding life v names
-  waits_again e f = let r = waits_moves accounts life h.s v names serves worker now log there log_at e new f in (undrained serving refl r.0, r.1)
+  waits_again e f = let r = waits_moves h.from h.whole accounts life h.s v names serves worker now log there log_at e new f in (undrained serving refl r.0, r.1)
 
   -- the worker was drained once, and its batch is in the log
-  pub drained_again : (now_serving : Serving) (upto mark : ℕ) → log.kept ≡ None → DrainsIn keeps_rules mem_state failures_of DrainsServing worker upto mark log new serving now_serving
+  pub drained_again : (now_serving : Serving) (upto mark : ℕ) → log.kept ≡ None → DrainsLog keeps_rules mem_state failures_of DrainsServing worker upto mark log new serving now_serving
       → Again now_serving (λ s. ReachesAt mark s worker) × (mark ≤ serving.state.steps)
       × ((mark ≡ serving.state.steps) ⊎ ((life_served accounts slots standing logs serving h).base + 4096 ≤ mark))
   unfolding life v names
   drained_again now_serving upto mark none d =
-      let r = flushed accounts life h.s v names serves worker now log there log_at none now_serving.state d.batch d.given.state d.bounded new d.appended in
-      let all = full_or_all accounts life h.s v names serves worker now log there log_at none now_serving.state d.batch d.given.state d.bounded in
+      let r = flushed h.from h.whole accounts life h.s v names serves worker now log there log_at none now_serving.state d.batch d.given.state d.bounded new d.appended in
+      let all = full_or_all h.from h.whole accounts life h.s v names serves worker now log there log_at none now_serving.state d.batch d.given.state d.bounded in
       let a = drained_on now_serving d.batch d.given r.0 in (
         record {
           again = a.again;
@@ -155,23 +131,24 @@ module _ (accounts : Accounts) (slots : LiveSlots) (standing : Standing) (logs :
       )
 
   -- its batch waits
-  pub keeps_again : (now_serving : Serving) (e : Refusal) → log.kept ≡ None → KeepsDrained keeps_rules mem_state failures_of DrainsServing worker e log new serving now_serving
+  pub keeps_again : (now_serving : Serving) (e : Refusal) → log.kept ≡ None → KeepsDrainedLog keeps_rules mem_state failures_of DrainsServing worker e log new serving now_serving
       → Again now_serving AnyStore × IsMemoryOrDevice e
   unfolding life v names
   keeps_again now_serving e none k =
-      let r = keeps_moves accounts life h.s v names serves worker now log there log_at none now_serving.state k.batch k.given.state k.bounded new e k.fails in
+      let r = keeps_moves h.from h.whole accounts life h.s v names serves worker now log there log_at none now_serving.state k.batch k.given.state k.bounded new e k.fails in
       let a = drained_on now_serving k.batch k.given r.0 in
       (record { again = a.again; so = tt }, r.1)
 
   -- ---- reopenings
 
-  at_waits : WaitsIn now log.kept
-  at_waits = log_at.stands.waits
+  stands : IsAt h.from h.whole now log
+  unfolding v
+  stands = stands_at h.from h.whole h.s v.logs worker now log log_at
 
-  pub reopen_noted : Reopens keeps_rules mem_state failures_of log new → Again serving (λ s. Unit {0})
+  pub reopen_noted : ReopensLog keeps_rules mem_state failures_of log new → Again serving (λ s. Unit {0})
   unfolding v
   reopen_noted r =
-      let o = reopens keeps_rules mem_state failures_of now log new log_at.stands r in
+      let o = reopened_in h.from h.whole now log new stands r in
       let mid : LogNow = o.0 in
       let next : LogNow = o.1 in
       let goes : GoesTo worker next h.s =
@@ -180,17 +157,14 @@ module _ (accounts : Accounts) (slots : LiveSlots) (standing : Standing) (logs :
       undrained serving refl (record {
         next = next;
         goes = goes;
-        at = record {
-          stands = o.3;
-          given_so = log_at.given_so ∙ ap Some (sym o.5);
-          kept = subst (HoldsKept (with_log worker next h.s) worker) (sym (none_waits log.slot log new r)) tt;
-        };
+        at = as_log_at h.from h.whole (with_log worker next h.s) v.logs worker next new o.3 (log_at.given_so ∙ ap Some (sym o.5))
+            (subst (HoldsKept (with_log worker next h.s) worker) (sym (none_waits log new r)) tt);
       })
 
-  pub reopen_fails : (e : Refusal) → FailsToReopen keeps_rules mem_state failures_of e log new → Again serving (λ s. Unit {0}) × IsMemoryOrDevice e
+  pub reopen_fails : (e : Refusal) → FailsToReopenLog keeps_rules mem_state failures_of e log new → Again serving (λ s. Unit {0}) × IsMemoryOrDevice e
   unfolding v
   reopen_fails e f =
-      let o = fails_to_reopen keeps_rules mem_state failures_of now e log new whole log_at.stands f in
+      let o = not_reopened_in h.from h.whole now log new stands e f in
       let mid : LogNow = o.0 in
       let next : LogNow = o.1 in
       let first : GoesTo worker mid h.s = ⊎_elim
@@ -200,15 +174,12 @@ module _ (accounts : Accounts) (slots : LiveSlots) (standing : Standing) (logs :
       let goes : GoesTo worker next h.s =
       and_then worker h.s now mid next there first
       (is_in_doubt worker (with_log worker mid h.s) mid next log.kept serves.serving (set_there h.s.logs worker now mid there) (kept_on h.s worker mid log.kept log_at.kept) o.4) in
-      let upto : drained_upto next new.kept ≡ drained_upto now log.kept = doubt_drained log.kept new.kept mid next o.4 o.5 ∙ rest_drained now mid log.kept at_waits o.2 in (
+      let upto : drained_upto next new.kept ≡ drained_upto now log.kept = doubt_drained log.kept new.kept mid next o.4 o.5 ∙ rest_drained now mid log.kept (waiting h.from h.whole now log stands) o.2 in (
         undrained serving refl (record {
           next = next;
           goes = goes;
-          at = record {
-            stands = o.3;
-            given_so = log_at.given_so ∙ ap Some (sym upto);
-            kept = subst (HoldsKept (with_log worker next h.s) worker) (sym o.5) (kept_on h.s worker next log.kept log_at.kept);
-          };
+          at = as_log_at h.from h.whole (with_log worker next h.s) v.logs worker next new o.3 (log_at.given_so ∙ ap Some (sym upto))
+              (subst (HoldsKept (with_log worker next h.s) worker) (sym o.5) (kept_on h.s worker next log.kept log_at.kept));
         }),
-        of_reopening e log.slot log new f o.6 o.7,
+        o.6,
       )

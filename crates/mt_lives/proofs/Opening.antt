@@ -1,194 +1,223 @@
--- The logs of a store that serves no life are opened: each comes to rest, or stays as it was where it is not opened.
-use Rattle.std.proofs.Common.{◌≡◌, ◌≢◌, ℕ, ◌<◌, List, map, length, Option, Some, None, refl, sym, ap, subst, ◌∙◌, arith, inl, inr, ⊎_elim}
-use Rattle.std.proofs.{lemmas.Bool.cases_lt, lemmas.Option.same_Some}
-use Rattle.std.specs.Prelude.{slice_get, slice_set}
-use Rattle.mt_rows.specs.declared.refusal.Refusal.{Refusal}
+-- The files of all logs of a store that serves no life are opened: the logs come to rest, or stay as they were.
+use Rattle.std.proofs.Common.{◌≡◌, ◌⊎◌, ℕ, suc, ◌+◌, ◌<◌, ◌≤◌, List, [], ◌∷◌, map, length, Some, None, refl, sym, ap, subst, ◌∙◌, arith, inl, inr, ⊎_elim}
+use Rattle.std.proofs.lemmas.Option.{same_Some}
+use Rattle.std.specs.{Prelude.slice_get, List.AllZip}
 use Rattle.mt_disk.specs.{declared.mem.MemDisk.MemDisk, Mem.mem_state}
-use Rattle.mt_log.specs.{declared.batch.Front.Front, Contents.{Contents, contents_of}}
-use Rattle.mt_crashes.{specs.Stores.{Store, LogNow, at_rest, MayLeaveFront}, proofs.Invariant.{within_place, map_place}}
-use Rattle.mt_recover.specs.{declared.resuming.LogSlot.LogSlot, declared.resuming.LogSlot.TheVariants.{Open, Failed, Closed, Away}}
-use Rattle.mt_store_logs.specs.{declared.store_log.StoreLog.StoreLog, Lists.StopsAt}
-use Rattle.mt_store_logs.specs.{Places.{disk_in, FailsToOpen, OpensLog, FailsToOpenLog, OpensAll, StopsOpeningAt}, Shows.{Shows, IsHonest}}
-use Rattle.mt_store_logs.proofs.CallerLemmas.{opens, fails_to_open}
-use Rattle.mt_lives.specs.{Lives.IsMemoryOrDevice, Holds.LeadsTo}
-use Rattle.mt_lives.proofs.{Comes.{stays_here, to_rest}, Flushing.{keeps_rules, failures_of, within}, Walking.{same_list, map_length, with_logs, Walked, walk}}
-use Rattle.mt_lives.proofs.Leaving.{ShowsIn, AllShow}
-use Rattle.mt_rows.specs.declared.refusal.Refusal.TheVariants as refusals
+use Rattle.mt_log.specs.Contents.{Contents, contents_of}
+use Rattle.mt_crashes.specs.{Fronts.In, Bases.Slots, Stores.{Store, LogNow, new_store, at_rest, MayLeaveFront, MayLeaveFronts, MayLeaveSlots}, Invariants.IsStore}
+use Rattle.mt_crashes.proofs.{Members.place_in, Invariant.{within_place, map_place, zip_left, zip_right}, NewStore.new_is, Kept.leads}
+use Rattle.mt_generations.specs.Chains.{EndsLog, HasUse}
+use Rattle.mt_chains.specs.Files.{standing_of as read_of}
+use Rattle.mt_log_files.specs.{declared.worker.WorkerFiles.WorkerFiles, Files.{Spare, Has}}
+use Rattle.mt_chain_files.specs.{declared.opening.Chains.Chains, Lasts.last_generation_of}
+use Rattle.mt_chain_files.specs.Turns.{FilesNow, now_of, AreOfTurn, StaysWhole, ShowFiles, HasLast, IsLastOfTurn, ComeToRest, StayTheirs, Rests as FileRests}
+use Rattle.mt_chain_files.proofs.{Agreeing.agree_self, Starts.LeavesNoMore, OwnFiles.{opened, failed, opened_leave, failed_leave}}
+use Rattle.mt_store_logs.specs.{declared.fault.LogRefusal.LogRefusal, declared.store_log.StoreLog.StoreLog, Ends.StandsInTurn}
+use Rattle.mt_store_logs.proofs.FirstAndCrashed.{opened_in_turn}
+use Rattle.mt_store_logs.specs.Taking.{files_of, fault_of, HasItsFiles, OpensLogs, StopsFiles, StopsOpening}
+use Rattle.mt_lives.specs.{Lives.IsMemoryOrDevice, Holds.{HasCome, LeadsTo, BeginsAt0, EachLog, IsLogDown}}
+use Rattle.mt_lives.proofs.{Begun.{stay_whole, begins_opened}, Flushing.{keeps_rules, failures_of, within}, Walking.{with_logs, all_rest, rested_count}, Leaving.AllDown}
 
--- a disk in memory keeps the rules, where there is one
-pub honest : (now : LogNow) (slot : LogSlot MemDisk) → Shows mem_state now slot → IsHonest keeps_rules slot
-honest now (Open log) shows = refl
-honest now (Failed log) shows = refl
-honest now (Closed disk) shows = refl
-honest now Away shows = absurd shows
+-- ---- the files of all logs, in one list
 
--- why a log of the store is not opened
-of_opening_on : (e : Refusal) (old : MemDisk) (new : LogSlot MemDisk) → FailsToOpen keeps_rules mem_state failures_of e (Some old) new
-    → ((number offset : ℕ) → e ≢ refusals.BadLog number offset) → IsMemoryOrDevice e
-of_opening_on refusals.Device old new f own = inr refl
-of_opening_on refusals.Memory old new f own = inl refl
-of_opening_on (refusals.BadLog number offset) old new f own = absurd (own number offset refl)
-of_opening_on e old (Open log) f own = absurd f
-of_opening_on e old (Failed log) f own = absurd f
-of_opening_on e old (Closed disk) f own = absurd f
-of_opening_on e old Away f own = absurd f
+pub record Collected (g h : ℕ) (lows : List LogNow) (logs : List (StoreLog MemDisk)) : Type 0 where
+  pub files : List FilesNow
+  pub turn : AllZip (AreOfTurn g) lows files
+  pub shows : AllZip (ShowFiles keeps_rules mem_state) files (map files_of logs)
+  pub begins : (f : FilesNow) → In f files → BeginsAt0 g h f
 
-of_opening : (now : LogNow) (e : Refusal) (old new : LogSlot MemDisk) → Shows mem_state now old → FailsToOpen keeps_rules mem_state failures_of e (disk_in old) new
-    → ((number offset : ℕ) → e ≢ refusals.BadLog number offset) → IsMemoryOrDevice e
-of_opening now e (Open log) new shows f own = of_opening_on e log.disk new f own
-of_opening now e (Failed log) new shows f own = of_opening_on e log.disk new f own
-of_opening now e (Closed disk) new shows f own = of_opening_on e disk new f own
-of_opening now e Away new shows f own = absurd shows
-
--- a log at a place comes to rest, and shows so
-record Rests (new : List (StoreLog MemDisk)) (P : ℕ → Contents → Type 0) (k : ℕ) (was next : LogNow) : Type 0 where
-  front : Contents
-  left : MayLeaveFront was front
-  is : next ≡ at_rest front
-  shows : (log : StoreLog MemDisk) → slice_get new k ≡ Some log → ShowsIn k next log
-  so : P k front
-
-module _ (s : Store) (old new : List (StoreLog MemDisk)) (count : length s.logs ≡ length old) (len : length new ≡ length old) (each : AllShow s old) where
-  goes : (P : ℕ → Contents → Type 0) (ls : List LogNow) (k : ℕ) (was next : LogNow) → slice_get ls k ≡ Some was → Rests new P k was next
-      → LeadsTo (with_logs ls s) (with_logs (slice_set ls k next) s)
-  goes P ls k was next there r =
-      subst (λ (n : LogNow). LeadsTo (with_logs ls s) (with_logs (slice_set ls k n) s)) (sym r.is) (to_rest k (with_logs ls s) was r.front there r.left)
-
-  -- one that was opened
-  opened : (P : ℕ → Contents → Type 0) (k : ℕ) (now : LogNow) (was is : StoreLog MemDisk) (front : Front) → slice_get s.logs k ≡ Some now → slice_get old k ≡ Some was
-      → slice_get new k ≡ Some is → OpensLog keeps_rules mem_state failures_of was is front → P k (contents_of front) → (next : LogNow) × Rests new P k now next
-  opened P k now was is front there was_there is_there o so =
-      let shows = each k now was there was_there in
-      let r = opens keeps_rules mem_state failures_of now was.slot is.slot front (honest now was.slot shows) shows o.0 in (
-        at_rest (contents_of front),
-        record {
-          front = contents_of front;
-          left = r.0;
-          is = refl;
-          shows = λ log at. subst (λ (l : StoreLog MemDisk). ShowsIn k (at_rest (contents_of front)) l) (same_Some is log (sym is_there ∙ at)) r.2;
-          so = so;
-        },
-      )
-
-  -- ---- all of them
-
-  module _ (fronts : List Front) (all : OpensAll keeps_rules mem_state failures_of old new fronts) where
-    abbrev IsOf : ℕ → Contents → Type 0
-    IsOf k front = (f : Front) × (slice_get fronts k ≡ Some f) × (front ≡ contents_of f)
-
-    may : (k : ℕ) (now : LogNow) → k < length s.logs → slice_get s.logs k ≡ Some now → (next : LogNow) × Rests new IsOf k now next
-    may k now lt there =
-        let below : k < length old = subst (λ n. k < n) count lt in
-        let was = within_place old k below in
-        let is = within_place new k (subst (λ n. k < n) (sym len) below) in
-        let o = all.each.each k was.0 is.0 below was.1 is.1 in
-        opened IsOf k now was.0 is.0 o.0 there was.1 is.1 o.2 (o.0, o.1, refl)
-
-    -- all logs rest with what was read of them
-    pub record Opened : Type 0 where
-      pub logs : List LogNow
-      pub leads : LeadsTo s (with_logs logs s)
-      pub len_so : length logs ≡ length s.logs
-      pub rest : logs ≡ map at_rest (map contents_of fronts)
-      pub shows : AllShow (with_logs logs s) new
-
-    opened_by : (logs : List LogNow) → Walked s (Rests new IsOf) (goes IsOf) (length s.logs) s.logs logs → Opened
-    opened_by logs w = record {
-      logs = logs;
-      leads = w.leads;
-      len_so = w.len;
-      rest = same_list logs (map at_rest (map contents_of fronts))
-          (w.len ∙ count ∙ sym all.count ∙ sym (map_length contents_of fronts) ∙ sym (map_length at_rest (map contents_of fronts)))
-          (λ k x y at_x at_y.
-          let below : k < length s.logs = subst (λ n. k < n) w.len (within logs k x at_x) in
-          let was = within_place s.logs k below in
-          let e = w.each k was.0 below was.1 in
-          let c = map_place at_rest (map contents_of fronts) k y at_y in
-          let f = map_place contents_of fronts k c.0 c.1 in
-          let same : e.2.so.0 ≡ f.0 = same_Some e.2.so.0 f.0 (sym e.2.so.1 ∙ f.1) in
-          same_Some x e.0 (sym at_x ∙ e.1) ∙ e.2.is ∙ ap at_rest (e.2.so.2 ∙ ap contents_of same ∙ sym f.2) ∙ sym c.2);
-      shows = λ k now log there at.
-          let below : k < length s.logs = subst (λ n. k < n) w.len (within logs k now there) in
-          let was = within_place s.logs k below in
-          let e = w.each k was.0 below was.1 in
-          subst (λ (n : LogNow). ShowsIn k n log) (same_Some e.0 now (sym e.1 ∙ there)) (e.2.shows log at);
+pub collect : (g h : ℕ) (lows : List LogNow) (logs : List (StoreLog MemDisk)) → length lows ≡ length logs
+    → ((k : ℕ) (now : LogNow) (log : StoreLog MemDisk) → slice_get lows k ≡ Some now → slice_get logs k ≡ Some log → IsLogDown g h now log) → Collected g h lows logs
+collect g h [] [] len each = record { files = []; turn = tt; shows = tt; begins = λ f at. absurd at }
+collect g h [] (log ∷ logs) len each = absurd (omega (arith, len))
+collect g h (now ∷ lows) [] len each = absurd (omega (arith, len))
+collect g h (now ∷ lows) (log ∷ logs) len each =
+    let one = each 0 now log refl refl in
+    let rest = collect g h lows logs (omega (arith, len)) (λ k x y at_x at_y. each (suc k) x y at_x at_y) in
+    record {
+      files = one.files ∷ rest.files;
+      turn = (one.turn, rest.turn);
+      shows = (one.shows, rest.shows);
+      begins = λ f at. ⊎_elim (λ same. subst (BeginsAt0 g h) (sym same) one.begins) (λ there. rest.begins f there) at;
     }
 
-    pub all_opened : Opened
-    all_opened =
-        let w = walk s (Rests new IsOf) (goes IsOf) (length s.logs) s.logs (omega arith) may in
-        opened_by w.0 w.1
+-- a front is of the same worker as the log of which it is left
+same_owner : (now : LogNow) (front : Contents) → MayLeaveFront now front → (front.worker ≡ now.had.worker) × (front.logs ≡ now.had.logs)
+same_owner now front (inl same) = (ap (λ (c : Contents). c.worker) same, ap (λ (c : Contents). c.logs) same)
+same_owner now front (inr more) = (ap (λ (c : Contents). c.worker) more.2, ap (λ (c : Contents). c.logs) more.2)
 
-  -- ---- some of them
+-- A log that was opened, and rests.
+pub record IsLogOpen (g h : ℕ) (now : LogNow) (log : StoreLog MemDisk) : Type 0 where
+  pub files : FilesNow
+  pub stands : StandsInTurn keeps_rules mem_state g now files log
+  pub begins : BeginsAt0 g h files
+  pub none : log.kept ≡ None
 
-  -- some logs rest, and the others are as they were
-  pub record OpenedInPart (e : Refusal) : Type 0 where
-    pub logs : List LogNow
-    pub leads : LeadsTo s (with_logs logs s)
-    pub len_so : length logs ≡ length s.logs
-    pub shows : AllShow (with_logs logs s) new
-    pub cause : IsMemoryOrDevice e
+abbrev pub AllOpen : ℕ → ℕ → Store → List (StoreLog MemDisk) → Type 0
+AllOpen g h s logs = EachLog (λ worker now log. IsLogOpen g h now log) s logs
 
-  abbrev IsAny : ℕ → Contents → Type 0
-  IsAny k front = Unit {0}
+pub open_down : (g h : ℕ) (now : LogNow) (log : StoreLog MemDisk) → IsLogOpen g h now log → IsLogDown g h now log
+open_down g h now log is = record { files = is.files; turn = is.stands.turn; shows = is.stands.shows; begins = is.begins; owner = is.stands.owner }
 
-  -- each log of the store is the whole one
-  abbrev pub AreWhole : Type 0
-  AreWhole = (k : ℕ) (now : LogNow) → slice_get s.logs k ≡ Some now → now.had.generation ≡ 0
+pub all_open_down : (g h : ℕ) (s : Store) (logs : List (StoreLog MemDisk)) → AllOpen g h s logs → AllDown g h s logs
+all_open_down g h s logs all worker now log there at = open_down g h now log (all worker now log there at)
 
-  module _ (whole : AreWhole) (e : Refusal) (place : ℕ)
-      (stops : StopsAt (λ k was is. (front : Front) × OpensLog keeps_rules mem_state failures_of was is front) (FailsToOpenLog keeps_rules mem_state failures_of e) place old new) where
-    place_within : place < length s.logs
-    place_within = subst (λ n. place < n) (sym count) (within old place stops.was stops.was_there)
+module _ (s : Store) (count : ℕ) (some : 0 < count) (few : count ≤ 64) (come : HasCome count s) (g h : ℕ) (old : List (StoreLog MemDisk)) (len : length s.logs ≡ length old)
+    (each : AllDown g h s old) (read : Slots) (left_slots : MayLeaveSlots s.slots read) where
+  all : Collected g h s.logs old
+  all = collect g h s.logs old len each
 
-    may_before : (k : ℕ) (now : LogNow) → k < place → slice_get s.logs k ≡ Some now → (next : LogNow) × Rests new IsAny k now next
-    may_before k now lt there =
-        let below : k < length old = subst (λ n. k < n) count (omega (arith, lt, place_within)) in
-        let was = within_place old k below in
-        let is = within_place new k (subst (λ n. k < n) (sym len) below) in
-        let o = stops.before k was.0 is.0 lt was.1 is.1 in
-        opened IsAny k now was.0 is.0 o.0 there was.1 is.1 o.1 tt
+  is : IsStore s
+  is = leads come.0 (new_store count) s (new_is count some few) come.1
 
-    here : (now : LogNow) × (slice_get s.logs place ≡ Some now)
-    here = within_place s.logs place place_within
+  whole : StaysWhole g h s all.files
+  whole = stay_whole g h s all.files all.begins
 
-    failed : IsHonest keeps_rules stops.is.slot × Shows mem_state here.0 stops.is.slot × ((number offset : ℕ) → e ≢ refusals.BadLog number offset)
-    failed =
-        let shows = each place here.0 stops.was here.1 stops.was_there in
-        fails_to_open keeps_rules mem_state failures_of here.0 e stops.was.slot stops.is.slot (whole place here.0 here.1) (honest here.0 stops.was.slot shows) shows stops.fails.0
+  -- the log at a place, and its files
+  record WasAt (k : ℕ) (log : StoreLog MemDisk) (at : slice_get old k ≡ Some log) : Type 0 where
+    now : LogNow
+    there : slice_get s.logs k ≡ Some now
+    down : IsLogDown g h now log
 
-    cause : IsMemoryOrDevice e
-    cause = of_opening here.0 e stops.was.slot stops.is.slot (each place here.0 stops.was here.1 stops.was_there) stops.fails.0 failed.2
+  was_at : (k : ℕ) (log : StoreLog MemDisk) (at : slice_get old k ≡ Some log) → WasAt k log at
+  was_at k log at =
+      let now = within_place s.logs k (subst (λ n. k < n) (sym len) (within old k log at)) in
+      record { now = now.0; there = now.1; down = each k now.0 log now.1 at }
 
-    shows_by : (logs : List LogNow) → Walked s (Rests new IsAny) (goes IsAny) place s.logs logs → (k : ℕ) (now : LogNow) (log : StoreLog MemDisk) → slice_get logs k ≡ Some now
-        → slice_get new k ≡ Some log → ShowsIn k now log
-    shows_by logs w k now log there at = ⊎_elim
-        (λ before.
-        let was = within_place s.logs k (omega (arith, before, place_within)) in
-        let x = w.each k was.0 before was.1 in
-        subst (λ (n : LogNow). ShowsIn k n log) (same_Some x.0 now (sym x.1 ∙ there)) (x.2.shows log at))
-        (λ from. ⊎_elim
-        (λ behind.
-        each k now log (sym (w.behind k from) ∙ there) (sym (stops.behind k behind) ∙ at))
-        (λ upto.
-        let same : k ≡ place = omega (arith, from, upto) in
-        let now_is : here.0 ≡ now = same_Some here.0 now (sym here.1 ∙ sym (w.behind place (omega arith)) ∙ subst (λ j. slice_get logs j ≡ Some now) same there) in
-        let log_is : stops.is ≡ log = same_Some stops.is log (sym stops.is_there ∙ subst (λ j. slice_get new j ≡ Some log) same at) in
-        subst (λ (n : LogNow). ShowsIn k n log) now_is (subst (λ (l : StoreLog MemDisk). ShowsIn k here.0 l) log_is failed.1))
-        (cases_lt place k))
-        (cases_lt k place)
+  -- what began at step 0 does so once the files were opened
+  begins_at : (files : List FilesNow) → AllZip (LeavesNoMore g) all.files files → (k : ℕ) (f : FilesNow) → slice_get files k ≡ Some f → BeginsAt0 g h f
+  begins_at files leave k f there =
+      let was = zip_right (LeavesNoMore g) all.files files k f leave there in
+      begins_opened g h was.0 f was.2 (all.begins was.0 (place_in was.0 k all.files was.1))
 
-    pub opened_before : OpenedInPart e
-    opened_before =
-        let w = walk s (Rests new IsAny) (goes IsAny) place s.logs (omega (arith, place_within)) may_before in
-        record { logs = w.0; leads = w.1.leads; len_so = w.1.len; shows = shows_by w.0 w.1; cause = cause }
+  -- ---- all were opened
 
-  pub in_part : AreWhole → (at : Option ℕ) (e : Refusal) → StopsOpeningAt keeps_rules mem_state failures_of at e old new → OpenedInPart e
-  in_part whole None e stops = record {
-    logs = s.logs;
-    leads = stays_here s s refl;
-    len_so = refl;
-    shows = λ k now log there at. each k now log there (ap (λ ls. slice_get ls k) (sym stops.1) ∙ at);
-    cause = inl stops.0;
+  module _ (mid : List (StoreLog MemDisk)) (chains : Chains) (o : OpensLogs keeps_rules mem_state failures_of read old mid chains) where
+    rests : ComeToRest keeps_rules mem_state g all.files s.logs o.files chains
+    rests = opened keeps_rules mem_state failures_of s is g h all.files read left_slots all.turn whole (map files_of old) all.shows o.files chains o.opens
+
+    pub fronts : List Contents
+    fronts = rests.fronts
+
+    pub fronts_left : MayLeaveFronts s.logs fronts
+    unfolding fronts
+    fronts_left = rests.left
+
+    pub chains_end : AllZip EndsLog fronts (map contents_of chains.fronts.items)
+    unfolding fronts
+    chains_end = rests.ends
+
+    pub chains_use : HasUse (map contents_of chains.fronts.items) read
+    chains_use = (o.opens.chosen (map read_of o.opens.reads.logs) (agree_self chains.generation (map read_of o.opens.reads.logs))).chosen.1
+
+    pub rested_leads : LeadsTo s (with_logs (map at_rest fronts) s)
+    rested_leads = all_rest s fronts fronts_left
+
+    pub rested_len : length (map at_rest fronts) ≡ length s.logs
+    rested_len = rested_count s fronts fronts_left
+
+    -- the log at a place, and all that is told of it
+    module _ (k : ℕ) (now : LogNow) (log : StoreLog MemDisk) (there : slice_get (map at_rest fronts) k ≡ Some now) (at : slice_get mid k ≡ Some log) where
+      front : (c : Contents) × (slice_get fronts k ≡ Some c) × (now ≡ at_rest c)
+      front = map_place at_rest fronts k now there
+
+      was : (w : StoreLog MemDisk) × (slice_get old k ≡ Some w)
+      was = within_place old k (subst (λ n. k < n) o.back.len (within mid k log at))
+
+      back : HasItsFiles chains.generation chains.begun.items o.files k was.0 log
+      back = o.back.each k was.0 log (within old k was.0 was.1) was.1 at
+
+      abbrev last_generation : ℕ
+      last_generation = last_generation_of chains.generation (slice_get chains.begun.items k)
+
+      file : (f : FilesNow) × (slice_get rests.files k ≡ Some f) × AreOfTurn g now f
+      unfolding fronts
+      file = zip_left (AreOfTurn g) (map at_rest fronts) rests.files k now rests.turn there
+
+      places : (p : WorkerFiles MemDisk) × (slice_get o.files k ≡ Some p) × ShowFiles keeps_rules mem_state file.0 p
+      places = zip_left (ShowFiles keeps_rules mem_state) rests.files o.files k file.0 rests.shows file.1
+
+      files_are : log.log.files ≡ places.0
+      files_are = back.stands.files ∙ same_Some back.one places.0 (sym back.there ∙ places.1)
+
+      shows : ShowFiles keeps_rules mem_state file.0 log.log.files
+      shows = subst (ShowFiles keeps_rules mem_state file.0) (sym files_are) places.2
+
+      last : HasLast last_generation front.0 file.0
+      unfolding fronts
+      last = rests.lasts k front.0 file.0 front.1 file.1
+
+      next : IsLastOfTurn g last_generation file.0
+      next = rests.next k file.0 file.1
+
+      has : now_of log.log.generation file.0 ≡ Has (at_rest last.last)
+      has = subst (λ n. now_of n file.0 ≡ Has (at_rest last.last)) (sym back.stands.generation) last.has
+
+      -- it is that of the turn's first generation, or the next one
+      opened_in : ((log.log.generation ≡ g) × (now_of (g + 1) file.0 ≡ Spare)) ⊎ ((log.log.generation ≡ g + 1) × FileRests (now_of g file.0))
+      opened_in = ⊎_elim (λ first. inl (back.stands.generation ∙ first.0, first.1)) (λ later. inr (back.stands.generation ∙ later.0, later.1)) next
+
+      owner : (log.log.owner.worker ≡ front.0.worker) × (log.log.owner.logs ≡ front.0.logs)
+      owner =
+          let w = was_at k was.0 was.1 in
+          let left = zip_right MayLeaveFront s.logs fronts k front.0 fronts_left front.1 in
+          let same : left.0 ≡ w.now = same_Some left.0 w.now (sym left.1 ∙ w.there) in
+          let own = same_owner w.now front.0 (subst (λ (n : LogNow). MayLeaveFront n front.0) same left.2) in
+          (back.stands.worker ∙ w.down.owner.0 ∙ sym own.0, back.stands.logs ∙ w.down.owner.1 ∙ sym own.1)
+
+      log_open : IsLogOpen g h now log
+      unfolding rests
+      log_open = record {
+        files = file.0;
+        stands = subst (λ (n : LogNow). StandsInTurn keeps_rules mem_state g n file.0 log) (sym front.2)
+            (opened_in_turn keeps_rules mem_state failures_of g front.0 last.last file.0 log (subst (λ (n : LogNow). AreOfTurn g n file.0) front.2 file.2) shows has (last.of ∙ sym back.stands.generation)
+            last.ends opened_in back.rest.sure back.rest.none owner);
+        begins = begins_at rests.files
+            (opened_leave keeps_rules mem_state failures_of s is g h all.files read left_slots all.turn whole (map files_of old) all.shows o.files chains o.opens) k file.0 file.1;
+        none = back.rest.none;
+      }
+
+    pub all_open : AllOpen g h (with_logs (map at_rest fronts) s) mid
+    all_open k now log there at = log_open k now log there at
+
+  -- ---- they were not
+
+  -- the same logs, and why
+  pub record NotOpened (e : LogRefusal) (new : List (StoreLog MemDisk)) : Type 0 where
+    pub cause : IsMemoryOrDevice e.refusal
+    pub len_so : length new ≡ length old
+    pub each_so : AllDown g h s new
+
+  module _ (e : LogRefusal) (new : List (StoreLog MemDisk)) (stops : StopsFiles keeps_rules mem_state failures_of read e old new) where
+    stay : IsMemoryOrDevice e.refusal × StayTheirs keeps_rules mem_state g h s stops.files
+    stay = failed keeps_rules mem_state failures_of s is g h all.files read left_slots all.turn whole (map files_of old) all.shows stops.files (fault_of e) stops.stops
+
+    stays_at : (k : ℕ) (now : LogNow) (log : StoreLog MemDisk) → slice_get s.logs k ≡ Some now → slice_get new k ≡ Some log → IsLogDown g h now log
+    unfolding stay
+    stays_at k now log there at =
+        let was = within_place old k (subst (λ n. k < n) stops.back.len (within new k log at)) in
+        let back = stops.back.each k was.0 log (within old k was.0 was.1) was.1 at in
+        let theirs = stay.1 in
+        let file = zip_left (AreOfTurn g) s.logs theirs.files k now theirs.turn there in
+        let places = zip_left (ShowFiles keeps_rules mem_state) theirs.files stops.files k file.0 theirs.shows file.1 in
+        let files_are : log.log.files ≡ places.0 = back.stands.files ∙ same_Some back.one places.0 (sym back.there ∙ places.1) in
+        let down = each k now was.0 there was.1 in
+        record {
+          files = file.0;
+          turn = file.2;
+          shows = subst (ShowFiles keeps_rules mem_state file.0) (sym files_are) places.2;
+          begins = begins_at theirs.files
+              (failed_leave keeps_rules mem_state failures_of s is g h all.files read left_slots all.turn whole (map files_of old) all.shows stops.files (fault_of e) stops.stops) k file.0 file.1;
+          owner = (back.stands.worker ∙ down.owner.0, back.stands.logs ∙ down.owner.1);
+        }
+
+    files_stopped : NotOpened e new
+    files_stopped = record { cause = stay.0; len_so = stops.back.len; each_so = stays_at }
+
+  pub not_opened : (e : LogRefusal) (new : List (StoreLog MemDisk)) → StopsOpening keeps_rules mem_state failures_of read e old new → NotOpened e new
+  not_opened e new (inl memory) = record {
+    cause = inl (ap (λ (x : LogRefusal). x.refusal) memory.0);
+    len_so = ap length memory.1;
+    each_so = subst (AllDown g h s) (sym memory.1) each;
   }
-  in_part whole (Some place) e stops = opened_before whole e place stops
+  not_opened e new (inr stops) = files_stopped e new stops

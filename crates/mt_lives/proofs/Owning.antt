@@ -8,12 +8,12 @@ use Rattle.mt_lives.specs.declared.live_slots.LiveSlots.{LiveSlots}
 use Rattle.mt_batches.specs.Batches.{IsBounded}
 use Rattle.mt_state.specs.Views.{StateView}
 use Rattle.mt_core.specs.Rights.{IsRightState}
-use Rattle.mt_store_logs.specs.{declared.store_log.StoreLog.StoreLog, Flushes.{DrainsIn, FailsToDrain, DrainsShort, Flushes, FailsToFlush}}
-use Rattle.mt_store_logs.specs.LogTurns.{BringsUp, FailsToBringUp}
+use Rattle.mt_store_logs.specs.{declared.store_log.StoreLog.StoreLog, Places.worker_of, LogTurns.{BringsUp, FailsToBringUp}}
 use Rattle.mt_settle.specs.Turns.{Turn, BroughtUp, Chain}
 use Rattle.mt_stored.specs.{declared.source.OwnState.OwnState, Stores.{gives_own, DoesStore}}
 use Rattle.mt_lives.specs.{declared.serving.Serving.Serving, Serving.DrainsServing, Lives.{Standing, IsMemoryOrDevice}, Holds.Holds, Owned.with_state}
 use Rattle.mt_lives.proofs.{Righted.right_drained, Flushing.{keeps_rules, failures_of, within}, Noting.held}
+use Rattle.mt_lives.proofs.LogDrains.{DrainsLog, FailsToDrainLog, DrainsLogShort, Drains, FailsToDrainUpto, TurnsLog, FailsToTurn, log_turns, log_not_turned}
 use Rattle.mt_lives.proofs.Draining as drains
 
 -- a state is right, has so many logs, and has made so many steps
@@ -41,15 +41,15 @@ module _ (serving : Serving) (count steps worker : ℕ) (there : worker < count)
       )
 
   pub drains_in : (upto mark : ℕ) (log new : StoreLog MemDisk) (was is : OwnState) → IsReady count steps was
-      → DrainsIn keeps_rules mem_state failures_of gives_own worker upto mark log new was is
-      → DrainsIn keeps_rules mem_state failures_of DrainsServing worker upto mark log new (by_state was) (by_state is) × IsReady count steps is
+      → DrainsLog keeps_rules mem_state failures_of gives_own worker upto mark log new was is
+      → DrainsLog keeps_rules mem_state failures_of DrainsServing worker upto mark log new (by_state was) (by_state is) × IsReady count steps is
   drains_in upto mark log new was is r d =
       let g = drained was is d.batch r d.bounded d.given in
       (record { batch = d.batch; given = g.0; bounded = d.bounded; brings = d.brings; appended = d.appended; told = d.told }, g.1)
 
   drains_short : (n upto : ℕ) (log new : StoreLog MemDisk) (was is : OwnState) → IsReady count steps was
-      → DrainsShort keeps_rules mem_state failures_of gives_own worker n upto log new was is
-      → DrainsShort keeps_rules mem_state failures_of DrainsServing worker n upto log new (by_state was) (by_state is) × IsReady count steps is
+      → DrainsLogShort keeps_rules mem_state failures_of gives_own worker n upto log new was is
+      → DrainsLogShort keeps_rules mem_state failures_of DrainsServing worker n upto log new (by_state was) (by_state is) × IsReady count steps is
   drains_short zero upto log new was is r s = ((s.0, ap by_state s.1), subst (IsReady count steps) (sym s.1) r)
   drains_short (suc n) upto log new was is r (mark, mid, between, rest, d, less) =
       let a = drains_short n upto log mid was between r rest in
@@ -57,8 +57,8 @@ module _ (serving : Serving) (count steps worker : ℕ) (there : worker < count)
       ((mark, mid, by_state between, a.0, b.0, less), b.1)
 
   fails_to_drain : (e : Refusal) (log new : StoreLog MemDisk) (was is : OwnState) → IsReady count steps was
-      → FailsToDrain keeps_rules mem_state failures_of gives_own worker e log new was is
-      → FailsToDrain keeps_rules mem_state failures_of DrainsServing worker e log new (by_state was) (by_state is) × IsReady count steps is
+      → FailsToDrainLog keeps_rules mem_state failures_of gives_own worker e log new was is
+      → FailsToDrainLog keeps_rules mem_state failures_of DrainsServing worker e log new (by_state was) (by_state is) × IsReady count steps is
   fails_to_drain e log new was is r (inl none) =
       (inl (record { same_log = none.same_log; same = ap by_state none.same; told = none.told }), subst (IsReady count steps) (sym none.same) r)
   fails_to_drain e log new was is r (inr keeps) =
@@ -66,23 +66,24 @@ module _ (serving : Serving) (count steps worker : ℕ) (there : worker < count)
       (inr (record { batch = keeps.batch; given = g.0; bounded = keeps.bounded; fails = keeps.fails }), g.1)
 
   flushes : (upto mark : ℕ) (log new : StoreLog MemDisk) (was is : OwnState) → IsReady count steps was
-      → Flushes keeps_rules mem_state failures_of gives_own worker upto mark log new was is
-      → Flushes keeps_rules mem_state failures_of DrainsServing worker upto mark log new (by_state was) (by_state is) × IsReady count steps is
+      → Drains keeps_rules mem_state failures_of gives_own worker upto mark log new was is
+      → Drains keeps_rules mem_state failures_of DrainsServing worker upto mark log new (by_state was) (by_state is) × IsReady count steps is
   flushes upto mark log new was is r f =
-      let h = f.drains.0 in
+      let h = f.drains in
       let a = drains_short h.times upto f.first h.mid was h.between r h.short in
       let b = drains_in upto mark h.mid new h.between is a.1 h.last in (
         record {
           first = f.first;
           kept = f.kept;
-          drains = (record { times = h.times; mid = h.mid; between = by_state h.between; short = a.0; last = b.0 }, f.drains.1);
+          drains = record { times = h.times; mid = h.mid; between = by_state h.between; short = a.0; last = b.0 };
+          reaches = f.reaches;
         },
         b.1,
       )
 
   fails_to_flush : (upto : ℕ) (e : Refusal) (log new : StoreLog MemDisk) (was is : OwnState) → IsReady count steps was
-      → FailsToFlush keeps_rules mem_state failures_of gives_own worker upto e log new was is
-      → FailsToFlush keeps_rules mem_state failures_of DrainsServing worker upto e log new (by_state was) (by_state is) × IsReady count steps is
+      → FailsToDrainUpto keeps_rules mem_state failures_of gives_own worker upto e log new was is
+      → FailsToDrainUpto keeps_rules mem_state failures_of DrainsServing worker upto e log new (by_state was) (by_state is) × IsReady count steps is
   fails_to_flush upto e log new was is r (inl w) = (inl (record { fails = w.fails; same = ap by_state w.same }), subst (IsReady count steps) (sym w.same) r)
   fails_to_flush upto e log new was is r (inr s) =
       let f = s.fails in
@@ -96,20 +97,28 @@ module _ (serving : Serving) (count steps worker : ℕ) (there : worker < count)
         b.1,
       )
 
-  pub brings_up : (upto mark : ℕ) (log new : StoreLog MemDisk) (was is : OwnState) → IsReady count steps was
-      → BringsUp keeps_rules mem_state failures_of gives_own worker upto mark log new was is
-      → BringsUp keeps_rules mem_state failures_of DrainsServing worker upto mark log new (by_state was) (by_state is) × IsReady count steps is
-  brings_up upto mark log new was is r b =
-      let f = flushes upto mark b.mid new was is r b.flushes in
-      (record { mid = b.mid; opens = b.opens; flushes = f.0 }, f.1)
+  pub turns_up : (upto mark : ℕ) (log new : StoreLog MemDisk) (was is : OwnState) → worker_of log ≡ worker → IsReady count steps was
+      → BringsUp keeps_rules mem_state failures_of gives_own upto mark log new was is
+      → TurnsLog keeps_rules mem_state failures_of DrainsServing worker upto mark log new (by_state was) (by_state is) × IsReady count steps is
+  turns_up upto mark log new was is whose r b =
+      let t = log_turns keeps_rules mem_state failures_of gives_own worker upto mark log new was is whose b in
+      let f = flushes upto mark t.mid new was is r t.flushes in
+      (record { mid = t.mid; opens = t.opens; flushes = f.0 }, f.1)
 
-  pub fails_to_bring_up : (upto : ℕ) (e : Refusal) (log new : StoreLog MemDisk) (was is : OwnState) → IsReady count steps was
-      → FailsToBringUp keeps_rules mem_state failures_of gives_own worker upto e log new was is
-      → FailsToBringUp keeps_rules mem_state failures_of DrainsServing worker upto e log new (by_state was) (by_state is) × IsReady count steps is
-  fails_to_bring_up upto e log new was is r (inl shut) = (inl (record { fails = shut.fails; same = ap by_state shut.same }), subst (IsReady count steps) (sym shut.same) r)
-  fails_to_bring_up upto e log new was is r (inr not) =
+  -- the same, told of the words for a log
+  turn_fails : (upto : ℕ) (e : Refusal) (log new : StoreLog MemDisk) (was is : OwnState) → IsReady count steps was
+      → FailsToTurn keeps_rules mem_state failures_of gives_own worker upto e log new was is
+      → FailsToTurn keeps_rules mem_state failures_of DrainsServing worker upto e log new (by_state was) (by_state is) × IsReady count steps is
+  turn_fails upto e log new was is r (inl shut) = (inl (record { fails = shut.fails; same = ap by_state shut.same }), subst (IsReady count steps) (sym shut.same) r)
+  turn_fails upto e log new was is r (inr not) =
       let f = fails_to_flush upto e not.mid new was is r not.fails in
       (inr (record { mid = not.mid; opens = not.opens; fails = f.0 }), f.1)
+
+  pub fails_to_turn : (upto : ℕ) (e : Refusal) (log new : StoreLog MemDisk) (was is : OwnState) → worker_of log ≡ worker → IsReady count steps was
+      → FailsToBringUp keeps_rules mem_state failures_of gives_own upto e log new was is
+      → FailsToTurn keeps_rules mem_state failures_of DrainsServing worker upto e log new (by_state was) (by_state is) × IsReady count steps is
+  fails_to_turn upto e log new was is whose r f =
+      turn_fails upto e log new was is r (log_not_turned keeps_rules mem_state failures_of gives_own worker upto e log new was is whose f)
 
 -- ---- the store
 
@@ -131,7 +140,7 @@ module _ (accounts : Accounts) (slots : LiveSlots) (standing : Standing) (servin
   pub turn_keeps : (worker : ℕ) (told : Result ℕ Refusal) (was : OwnState) (old : List (StoreLog MemDisk)) (is : OwnState) (new : List (StoreLog MemDisk))
       → Keeps was old → DoesInMemory (BroughtUp worker told) was old is new → Keeps is new × IfErr told IsMemoryOrDevice
   turn_keeps worker (Ok mark) was old is new k d =
-      let b = brings_up serving count steps worker (subst (λ n. worker < n) k.len (within old worker d.before d.there)) was.state.steps mark d.before d.after was is k.ready d.turns in
+      let b = turns_up serving count steps worker (subst (λ n. worker < n) k.len (within old worker d.before d.there)) was.state.steps mark d.before d.after was is d.whose k.ready d.turns in
       let f = drains.turn_noted accounts slots standing old (with_state was.state serving) k.holds worker d.before d.there was.state.steps mark d.after (with_state is.state serving) b.0 in (
         record {
           holds = subst (λ ls. Holds accounts slots standing ls (Some (with_state is.state serving))) (sym d.stands) f.holds;
@@ -141,7 +150,7 @@ module _ (accounts : Accounts) (slots : LiveSlots) (standing : Standing) (servin
         tt,
       )
   turn_keeps worker (Err e) was old is new k d =
-      let b = fails_to_bring_up serving count steps worker (subst (λ n. worker < n) k.len (within old worker d.before d.there)) was.state.steps e d.before d.after was is k.ready d.turns in
+      let b = fails_to_turn serving count steps worker (subst (λ n. worker < n) k.len (within old worker d.before d.there)) was.state.steps e d.before d.after was is d.whose k.ready d.turns in
       let f = drains.turn_fails accounts slots standing old (with_state was.state serving) k.holds worker d.before d.there was.state.steps e d.after (with_state is.state serving) b.0 in (
         record {
           holds = subst (λ ls. Holds accounts slots standing ls (Some (with_state is.state serving))) (sym d.stands) f.holds;

@@ -1,14 +1,15 @@
 -- A store whose logs rest is recovered: up to the cutoff it is as it was, and nothing else is left of the life that ended.
 use Rattle.std.proofs.Common.{◌≡◌, ℕ, ◌≤◌, min, false, not, ◌&&◌, List, [], ◌∷◌, map, Option, refl, sym, ap, subst, ◌∙◌, arith, inl, inr, ⊎_elim}
 use Rattle.std.proofs.lemmas.Bool.{cases_lt, lt-ltb, le-ltb}
-use Rattle.std.specs.{Prelude.nat_lt, FinMap.empty}
+use Rattle.std.specs.{Prelude.nat_lt, List.AllZip, FinMap.empty}
 use Rattle.mt_rows.specs.{Accounts.Accounts, Tenants.{Contents as Pairs}, TenantPairs.{quota_in, HasTenants, KeepsQuotas}, declared.refusal.Refusal.Refusal}
 use Rattle.mt_log.specs.Contents.{Contents}
 use Rattle.mt_crashes.specs.{Fronts.{cutoff_of, after_changes}, Histories.{Placed, upto, changes_of, pairs_upto, after_recovery}}
-use Rattle.mt_crashes.specs.{Recoveries.{resume_of, IsRecovered}, Stores.{Store, at_rest, only_this, MayLeaveFronts, MayLeaveSlots, Recovers, AllReach}}
+use Rattle.mt_crashes.specs.{Recoveries.resume_of, Stores.{Store, new_store, at_rest, only_this, MayLeaveFronts, MayLeaveSlots, Recovers, AllReach}, Invariants.IsStore}
 use Rattle.mt_crashes.specs.Bases.{Slots}
-use Rattle.mt_crashes.proofs.{Members.{filter_filter, filter_same}, Heart.{recovered, settled}}
-use Rattle.mt_recover.{specs.Refusals.IsRefusal, proofs.OwnFiles.for_memory}
+use Rattle.mt_crashes.proofs.{Members.{filter_filter, filter_same}, Heart.settled, NewStore.new_is, Kept.leads}
+use Rattle.mt_generations.{specs.Chains.{Chain, EndsLog, HasUse, IsRecoveredOver}, proofs.Whole.recovered_over}
+use Rattle.mt_recover.{specs.Refusals.IsRefusal, proofs.OwnFiles.memory_over}
 use Rattle.mt_lives.specs.{Lives.{Past, AreLeftOf, KeepsUpto}, Holds.{quotas_of, LeadsTo}}
 use Rattle.mt_lives.proofs.{Comes.{stays_here, one_more, comes_on}, Logged.all_on, Walking.rest_leaves, Leaving.IsLeft}
 use Rattle.mt_rows.specs.declared.refusal.Refusal.TheVariants as refusals
@@ -54,12 +55,15 @@ abbrev pub kept_upto : ℕ → Past → Past
 kept_upto cutoff past = record { life = past.life; kept = min past.kept cutoff }
 
 -- a slot that surely has something may be left with that
-sure_leaves : (read : Slots) → MayLeaveSlots (map only_this read) read
+pub sure_leaves : (read : Slots) → MayLeaveSlots (map only_this read) read
 sure_leaves [] = tt
 sure_leaves (x ∷ read) = (inl refl, sure_leaves read)
 
-module _ (accounts : Accounts) (settled_by : ℕ) (past : Past) (count : ℕ) (s : Store) (fronts : List Contents) (read : Slots) (l : IsLeft accounts settled_by past count s)
-    (rest : s.logs ≡ map at_rest fronts) (rest_slots : s.slots ≡ map only_this read) where
+module _ (accounts : Accounts) (settled_by : ℕ) (past : Past) (count : ℕ) (s : Store) (fronts : List Contents) (chains : List Chain) (read : Slots) (l : IsLeft accounts settled_by past count s)
+    (rest : s.logs ≡ map at_rest fronts) (rest_slots : s.slots ≡ map only_this read) (ends : AllZip EndsLog fronts chains) where
+  is : IsStore s
+  is = leads l.come.0 (new_store count) s (new_is count l.some l.few) l.come.1
+
   left_fronts : MayLeaveFronts s.logs fronts
   left_fronts = subst (λ ls. MayLeaveFronts ls fronts) (sym rest) (rest_leaves fronts)
 
@@ -77,13 +81,13 @@ module _ (accounts : Accounts) (settled_by : ℕ) (past : Past) (count : ℕ) (s
   base_kept = reached past.life.base l.down.reach
 
   -- why it may be refused
-  pub refused : (e : Refusal) → IsRefusal fronts read (quota_in accounts) e → e ≡ refusals.Memory
-  refused e is = for_memory count l.come.0 s fronts l.some l.few l.come.1 left_fronts (quota_in accounts) read e left_slots l.keeps is
+  pub refused : HasUse chains read → (e : Refusal) → IsRefusal chains read (quota_in accounts) e → e ≡ refusals.Memory
+  refused has e why = memory_over count l.come.0 s fronts chains l.some l.few l.come.1 left_fronts ends (quota_in accounts) read left_slots has l.keeps e why
 
-  -- what is found
-  pub found_so : (cutoff resume : ℕ) (used : Option ℕ) (found : Pairs) → IsRecovered fronts read cutoff resume used found
-      → found ≡ pairs_upto cutoff s.history
-  found_so cutoff resume used found r = recovered count l.come.0 s fronts read cutoff resume used found l.some l.few l.come.1 left_fronts left_slots r
+  -- what is found, and by which numbers: those of the whole logs
+  pub found_so : (cutoff resume : ℕ) (used : Option ℕ) (found : Pairs) → IsRecoveredOver chains read cutoff resume used found
+      → (found ≡ pairs_upto cutoff s.history) × (cutoff ≡ cutoff_of fronts) × (resume ≡ resume_of fronts read)
+  found_so cutoff resume used found r = recovered_over s fronts chains is left_fronts ends read cutoff resume used found left_slots r
 
   pub recovers_to : LeadsTo s (recovered_from fronts read s)
   recovers_to =
@@ -116,9 +120,10 @@ module _ (accounts : Accounts) (settled_by : ℕ) (past : Past) (count : ℕ) (s
   keeps_upto = record { cutoff = cutoff_of fronts; settled_so = settled_kept; same = refl; kept = refl }
 
   -- and what is found are its pairs
-  pub found_left : (cutoff resume : ℕ) (used : Option ℕ) (found : Pairs) → IsRecovered fronts read cutoff resume used found
+  pub found_left : (cutoff resume : ℕ) (used : Option ℕ) (found : Pairs) → IsRecoveredOver chains read cutoff resume used found
       → AreLeftOf (quotas_of accounts) past.life (min past.kept cutoff) found
   found_left cutoff resume used found r =
-      let same = r.cutoff_is in
-      subst (AreLeftOf (quotas_of accounts) past.life (min past.kept cutoff)) (sym (found_so cutoff resume used found r))
+      let so = found_so cutoff resume used found r in
+      let same = so.1 in
+      subst (AreLeftOf (quotas_of accounts) past.life (min past.kept cutoff)) (sym so.0)
       (l.down.left cutoff (omega (arith, same, base_kept)))

@@ -1,44 +1,39 @@
 -- What a recovery makes of a store that a crash left, in each of its outcomes.
-use Rattle.std.proofs.Common.{◌≡◌, ◌≢◌, ℕ, ◌<◌, ◌≤◌, ◌^◌, min, Result, List, map, length, Option, Some, None, Ok, Err, refl, sym, ap, subst, ◌∙◌, arith, inl, inr, ⊎_elim}
-use Rattle.std.proofs.{lemmas.List.Elements.All-weaker, lemmas.Option.same_Some}
-use Rattle.std.specs.{Prelude.{slice_get, Vec, IfOk}, declared.alloc.Global.Global, List.All}
+use Rattle.std.proofs.Common.{◌≡◌, ◌≢◌, ◌⊎◌, ℕ, ◌<◌, ◌≤◌, ◌^◌, min, Result, List, map, length, Option, Some, None, Ok, Err, refl, sym, ap, subst, ◌∙◌, arith, inl, inr, ⊎_elim}
+use Rattle.std.proofs.{lemmas.List.Elements.All-weaker}
+use Rattle.std.specs.{Prelude.IfOk, List.{All, AllZip}}
 use Rattle.mt_rows.specs.{Accounts.Accounts, TenantPairs.{pairs_of, quota_in}, declared.refusal.Refusal.Refusal}
 use Rattle.mt_disk.specs.{declared.mem.MemDisk.MemDisk, Mem.mem_state}
-use Rattle.mt_log.specs.{declared.batch.Front.Front, Contents.{Contents, contents_of}}
+use Rattle.mt_log.specs.Contents.{Contents, contents_of}
+use Rattle.mt_chain_files.specs.declared.opening.Chains.{Chains}
 use Rattle.mt_core.specs.{Restores.IsRestored, Rights.IsRightState}
 use Rattle.mt_state.specs.Views.{StateView}
-use Rattle.mt_crashes.specs.{Fronts.cutoff_of, Histories.{Placed, pairs_upto}, Bases.Slots, Recoveries.{resume_of, IsRecovered}, Stores.{Store, LogNow, only_this}}
-use Rattle.mt_crashes.proofs.{FrontLaws.cutoff_upto_last, Heart.log_begins_at_0, Invariant.within_place}
+use Rattle.mt_crashes.specs.{Fronts.cutoff_of, Histories.{Placed, pairs_upto}, Bases.Slots, Recoveries.resume_of, Stores.{Store, at_rest as log_at_rest, only_this, MayLeaveSlots}}
+use Rattle.mt_generations.specs.Chains.{Chain, EndsLog, HasUse, IsRecoveredOver}
 use Rattle.mt_recover.{specs.{Refusals.IsRefusal, declared.recovering.Recovered.{Recovered as Found}}, proofs.Limits.resume_within}
 use Rattle.mt_checkpoint.specs.declared.checkpoint.Checkpoint.{Checkpoint}
 use Rattle.mt_slots.specs.{declared.store_slots.StoreSlots.StoreSlots, declared.fault.SlotFault.SlotFault, Places.{Both, in_order, with_newest, refusal_for}}
 use Rattle.mt_slots.specs.Calls.{ReadsBoth, StopsReading}
 use Rattle.mt_store_logs.specs.{declared.fault.LogRefusal.LogRefusal, declared.fault.StoreRefusal.StoreRefusal}
 use Rattle.mt_store_logs.specs.{declared.fault.StoreRefusal.TheVariants.{Logs as OfLogs, Slot as OfSlot}, declared.store_log.StoreLog.StoreLog}
-use Rattle.mt_store_logs.specs.Places.{closed_on, OpensAll, StopsOpening, StopsOpeningAt}
-use Rattle.mt_store_logs.specs.Recovers.{slots_of, used_slot, refusal_in, ResumesAll, StopsResumingAt, ServesAgain, IsNotRecovered}
-use Rattle.mt_generations.proofs.Whole.{over_whole}
-use Rattle.mt_store_logs.proofs.{ForResumes.{in_format, begin_whole, both_in_format, resumes_last}, Closed.length-closed}
-use Rattle.mt_stored.specs.Stores.{IsRecoveredStore}
-use Rattle.mt_lives.specs.{declared.events.StoreEvent.StoreEvent, declared.events.StoreEvent.TheVariants.Crash, declared.events.StoreNote.StoreNote}
+use Rattle.mt_store_logs.specs.Taking.{files_of, OpensLogs, StopsOpening}
+use Rattle.mt_store_logs.specs.Recovers.{slots_of, used_slot, refusal_in, ResumesAll, StopsResumingAt, ServesAgain, IsRefusedOf, ResumesInPart, StopsAfterSlots, IsNotRecovered}
+use Rattle.mt_store_logs.proofs.{ChainFormat.chains_in_format, ForResumes.{both_in_format, cutoff_within}}
+use Rattle.mt_lives.specs.{declared.events.CrashImages.CrashImages, declared.events.StoreEvent.StoreEvent, declared.events.StoreEvent.TheVariants.Crash, declared.events.StoreNote.StoreNote}
 use Rattle.mt_lives.specs.{declared.events.StoreNote.TheVariants.{Recovered, Refused, NoSuch}, declared.serving.Serving.Serving}
 use Rattle.mt_lives.specs.Lives.{Life, Past, Standing, past_of, life_from, MayKeep, AreLeftOf, IsMemoryOrDevice, checking, crashed_to, IsNoted}
 use Rattle.mt_lives.specs.{declared.live_slots.LiveSlots.LiveSlots, declared.live_slots.LiveSlots.TheVariants.{Rest, Writes, Away}, declared.live_slots.Check.Check}
-use Rattle.mt_lives.specs.{Checks.{at_rest, SlotsStand}, Holds.{quotas_of, HasCome, HoldsServing, Holds}, Forced.{AllCrash, IsCrashForced}}
+use Rattle.mt_lives.specs.{Checks.{at_rest, SlotsStand}, Holds.{quotas_of, HasCome, LeadsTo, HoldsServing, Holds}, Forced.{AllCrash, IsCrashForced}}
 use Rattle.mt_lives.specs.{Returns.{IsFresh, Begins, AreRecovered, AreNotRecovered}, Steps.{GoesOn, CrashesTo}}
-use Rattle.mt_lives.proofs.{Comes.comes_on, Logged.all_on, Flushing.{keeps_rules, failures_of, within}, Walking.with_logs, Leaving.{AllShow, IsLeft, left_on}}
+use Rattle.mt_lives.proofs.{Comes.comes_on, Logged.all_on, Flushing.{keeps_rules, failures_of}, Walking.with_logs, Leaving.{AllDown, IsLeft, left_on}}
 use Rattle.mt_lives.proofs.SlotReading.{told_fault, stand_unread, with_slots, AreSure, stand_sure, slots_rest, stand_used}
-use Rattle.mt_lives.proofs.{Crashing.{holds_left, Leaves, leaves}, Opening.{all_opened, in_part}}
-use Rattle.mt_lives.proofs.Recovering.{recovered_from, kept_upto, refused, found_so, found_left, settled_kept, keeps_upto, left_recovered}
+use Rattle.mt_lives.proofs.{Crashing.{holds_left, Leaves, leaves}, Opening.{AllOpen, all_open_down}}
+use Rattle.mt_lives.proofs.Recovering.{sure_leaves, recovered_from, kept_upto, refused, found_so, found_left, settled_kept, keeps_upto, left_recovered}
 use Rattle.mt_lives.proofs.{Resuming.{all_resumed, resumed_in_part}, Living.{RestAt, served, serves_now, made_upto, begins_restored, begins_serving}}
 use Rattle.mt_lives.proofs.Opening as opening
 use Rattle.mt_lives.proofs.Resuming as resuming
 
 -- ---- lengths
-
-opening_len : (at : Option ℕ) (e : Refusal) (old new : List (StoreLog MemDisk)) → StopsOpeningAt keeps_rules mem_state failures_of at e old new → length new ≡ length old
-opening_len None e old new stops = ap length stops.1
-opening_len (Some place) e old new stops = stops.len
 
 resuming_len : (kept to : ℕ) (at : Option ℕ) (e : Refusal) (old new : List (StoreLog MemDisk)) → StopsResumingAt keeps_rules mem_state failures_of kept to at e old new → length new ≡ length old
 resuming_len kept to None e old new stops = absurd stops
@@ -47,6 +42,13 @@ resuming_len kept to (Some place) e old new stops = stops.len
 module _ (accounts : Accounts) (slots : StoreSlots MemDisk) (standing : Standing) (old : List (StoreLog MemDisk)) (from : Leaves accounts slots standing old) where
   abbrev s : Store
   s = from.s
+
+  -- the turn that the logs are in, and the generation that stands whole
+  abbrev g : ℕ
+  g = from.from
+
+  abbrev h : ℕ
+  h = from.whole
 
   abbrev past : Past
   past = past_of standing.now
@@ -61,145 +63,163 @@ module _ (accounts : Accounts) (slots : StoreSlots MemDisk) (standing : Standing
     pub holds : Holds accounts (Rest now) (crashed_to (Err past_now) standing) new None
 
   holds_so : (past_now : Past) (t : Store) (new : List (StoreLog MemDisk)) (now : StoreSlots MemDisk) → length new ≡ length old → IsLeftAs past_now t → SlotsStand t.slots now
-      → AllShow t new → Holds accounts (Rest now) (crashed_to (Err past_now) standing) new None
+      → AllDown g h t new → Holds accounts (Rest now) (crashed_to (Err past_now) standing) new None
   holds_so past_now t new now len l stand each =
-      holds_left accounts now standing past_now new t (subst (λ n. IsLeft accounts standing.settled past_now n t) (sym len) l) stand each
+      holds_left accounts now standing past_now g h new t (subst (λ n. IsLeft accounts standing.settled past_now n t) (sym len) l) stand each
 
-  -- ---- a log was not opened
+  -- ---- a slot was not read
 
-  whole : (k : ℕ) (now : LogNow) → slice_get s.logs k ≡ Some now → now.had.generation ≡ 0
-  whole k now there = (log_begins_at_0 (length old) from.left.come.0 k s now from.left.some from.left.few from.left.come.1 there).0
+  pub not_read : (fault : SlotFault) (now : StoreSlots MemDisk) → StopsReading keeps_rules mem_state failures_of fault slots now
+      → IsMemoryOrDevice (refusal_for fault.cause) × Refuses old now
+  not_read fault now stops = (
+    told_fault fault.cause,
+    record { past_now = past; kept = inl refl; holds = holds_so past s old now refl from.left (stand_unread s.slots slots now fault from.stand stops) from.each },
+  )
 
-  pub not_opened : (e : LogRefusal) (new : List (StoreLog MemDisk)) → StopsOpening keeps_rules mem_state failures_of e old new → IsMemoryOrDevice e.refusal × Refuses new slots
-  not_opened e new stops =
-      let len = opening_len e.log e.refusal old new stops in
-      let o = in_part s old new from.left.len len from.shows whole e.log e.refusal stops in
-      let t = with_logs o.logs s in (
-        o.cause,
-        record {
-          past_now = past;
-          kept = inl refl;
-          holds = holds_so past t new slots len (left_on accounts standing.settled past (length old) s t from.left o.leads o.len_so refl) from.stand o.shows;
-        },
-      )
+  -- ---- both slots were read
 
-  -- ---- all were
+  module _ (read_slots : StoreSlots MemDisk) (both : Both (Option Checkpoint)) (reads : ReadsBoth keeps_rules mem_state failures_of slots read_slots both) where
+    abbrev read : Slots
+    read = slots_of (in_order both)
 
-  module _ (mid : List (StoreLog MemDisk)) (fronts : List Front) (opens : OpensAll keeps_rules mem_state failures_of old mid fronts) where
-    abbrev found : List Contents
-    found = map contents_of fronts
+    sure : AreSure s read_slots both
+    sure = slots_rest s slots read_slots both from.stand reads
 
-    opened : opening.Opened s old mid from.left.len opens.each.len from.shows fronts opens
-    opened = all_opened s old mid from.left.len opens.each.len from.shows fronts opens
+    abbrev rested : Store
+    rested = with_slots (map only_this read) s
 
-    abbrev opened_store : Store
-    opened_store = with_logs opened.logs s
+    left_rested : IsLeftAs past rested
+    left_rested = left_on accounts standing.settled past (length old) s rested from.left sure.leads refl refl
 
-    left_opened : IsLeftAs past opened_store
-    left_opened = left_on accounts standing.settled past (length old) s opened_store from.left opened.leads opened.len_so refl
+    left_slots : MayLeaveSlots rested.slots read
+    left_slots = sure_leaves read
 
-    -- a slot was not read
-    pub not_read : (fault : SlotFault) (now : StoreSlots MemDisk) → StopsReading keeps_rules mem_state failures_of fault slots now
-        → IsMemoryOrDevice (refusal_for fault.cause) × Refuses mid now
-    not_read fault now stops = (
-      told_fault fault.cause,
-      record { past_now = past; kept = inl refl; holds = holds_so past opened_store mid now opens.each.len left_opened (stand_unread s.slots slots now fault from.stand stops) opened.shows },
-    )
+    stand_read : SlotsStand rested.slots read_slots
+    stand_read = stand_sure both read_slots sure.keeps
 
-    -- both slots were read
-    module _ (read_slots : StoreSlots MemDisk) (both : Both (Option Checkpoint)) (reads : ReadsBoth keeps_rules mem_state failures_of slots read_slots both) where
-      abbrev read : Slots
-      read = slots_of (in_order both)
+    -- a log was not opened
+    pub not_opened : (e : LogRefusal) (new : List (StoreLog MemDisk)) → StopsOpening keeps_rules mem_state failures_of read e old new
+        → IsMemoryOrDevice e.refusal × Refuses new read_slots
+    not_opened e new stops =
+        let l = left_rested in
+        let n = opening.not_opened rested (length old) l.some l.few l.come g h old l.len from.each read left_slots e new stops in (
+          n.cause,
+          record { past_now = past; kept = inl refl; holds = holds_so past rested new read_slots n.len_so l stand_read n.each_so },
+        )
 
-      sure : AreSure opened_store read_slots both
-      sure = slots_rest opened_store slots read_slots both from.stand reads
+    -- all were
+    module _ (mid : List (StoreLog MemDisk)) (chains : Chains) (opens : OpensLogs keeps_rules mem_state failures_of read old mid chains) where
+      abbrev found : List Chain
+      found = map contents_of chains.fronts.items
 
-      abbrev rested : Store
-      rested = with_slots (map only_this read) opened_store
+      fronts : List Contents
+      fronts = opening.fronts rested (length old) left_rested.some left_rested.few left_rested.come g h old left_rested.len from.each read left_slots mid chains opens
 
-      left_rested : IsLeftAs past rested
-      left_rested = left_on accounts standing.settled past (length old) opened_store rested left_opened sure.leads refl refl
+      ends : AllZip EndsLog fronts found
+      unfolding fronts
+      ends = opening.chains_end rested (length old) left_rested.some left_rested.few left_rested.come g h old left_rested.len from.each read left_slots mid chains opens
+
+      has_use : HasUse found read
+      has_use = opening.chains_use rested (length old) left_rested.some left_rested.few left_rested.come g h old left_rested.len from.each read left_slots mid chains opens
+
+      abbrev opened_store : Store
+      opened_store = with_logs (map log_at_rest fronts) rested
+
+      each_open : AllOpen g h opened_store mid
+      unfolding fronts
+      each_open = opening.all_open rested (length old) left_rested.some left_rested.few left_rested.come g h old left_rested.len from.each read left_slots mid chains opens
+
+      opened_leads : LeadsTo rested opened_store
+      unfolding fronts
+      opened_leads = opening.rested_leads rested (length old) left_rested.some left_rested.few left_rested.come g h old left_rested.len from.each read left_slots mid chains opens
+
+      opened_len : length opened_store.logs ≡ length rested.logs
+      unfolding fronts
+      opened_len = opening.rested_len rested (length old) left_rested.some left_rested.few left_rested.come g h old left_rested.len from.each read left_slots mid chains opens
+
+      left_opened : IsLeftAs past opened_store
+      left_opened = left_on accounts standing.settled past (length old) rested opened_store left_rested opened_leads opened_len refl
 
       -- they are refused
       pub refused_for : (e : Refusal) → IsRefusal found read (quota_in accounts) e → IsMemoryOrDevice e × Refuses mid read_slots
       refused_for e is = (
-        inl (refused accounts standing.settled past (length old) rested found read left_rested opened.rest refl e is),
-        record { past_now = past; kept = inl refl; holds = holds_so past rested mid read_slots opens.each.len left_rested (stand_sure both read_slots sure.keeps) opened.shows },
+        inl (refused accounts standing.settled past (length old) opened_store fronts found read left_opened refl refl ends has_use e is),
+        record { past_now = past; kept = inl refl; holds = holds_so past opened_store mid read_slots opens.back.len left_opened stand_read (all_open_down g h opened_store mid each_open) },
       )
 
       -- they are recovered
       abbrev recovered : Store
-      recovered = recovered_from found read rested
+      recovered = recovered_from fronts read opened_store
 
       abbrev past_kept : Past
-      past_kept = kept_upto (cutoff_of found) past
+      past_kept = kept_upto (cutoff_of fronts) past
 
       left_now : IsLeftAs past_kept recovered
-      left_now = left_recovered accounts standing.settled past (length old) rested found read left_rested opened.rest refl
+      left_now = left_recovered accounts standing.settled past (length old) opened_store fronts found read left_opened refl refl ends
 
       keeps : MayKeep standing.settled past past_kept
-      keeps = inr (keeps_upto accounts standing.settled past (length old) rested found read left_rested opened.rest refl)
+      keeps = inr (keeps_upto accounts standing.settled past (length old) opened_store fronts found read left_opened refl refl ends)
 
-      module _ (r : Found) (is : IsRecovered found read r.cutoff r.resume r.used (pairs_of r.pairs.items)) where
-        fits : resume_of found read ≤ 2 ^ 59
+      module _ (r : Found) (is : IsRecoveredOver found read r.cutoff r.resume r.used (pairs_of r.pairs.items)) where
+        -- by which numbers, and with which pairs
+        so : (pairs_of r.pairs.items ≡ pairs_upto r.cutoff s.history) × (r.cutoff ≡ cutoff_of fronts) × (r.resume ≡ resume_of fronts read)
+        so = found_so accounts standing.settled past (length old) opened_store fronts found read left_opened refl refl ends r.cutoff r.resume r.used (pairs_of r.pairs.items) is
+
+        fits : resume_of fronts read ≤ 2 ^ 59
         fits =
-            let over = over_whole found (begin_whole keeps_rules mem_state failures_of old mid fronts opens) read r.cutoff r.resume r.used (pairs_of r.pairs.items) is in
-            let within = resume_within found (in_order both) r.cutoff r.resume r.used r.pairs.items (both_in_format keeps_rules mem_state failures_of slots read_slots both reads) (in_format keeps_rules mem_state failures_of old mid fronts opens) over in
-            let same = is.resume_is in
+            let within = resume_within found (in_order both) r.cutoff r.resume r.used r.pairs.items (both_in_format keeps_rules mem_state failures_of slots read_slots both reads)
+            (chains_in_format keeps_rules mem_state failures_of read (map files_of old) opens.files chains opens.opens) is in
+            let same = so.2 in
             omega (arith, within, same)
 
         count_mid : length recovered.logs ≡ length mid
-        count_mid = opened.len_so ∙ from.left.len ∙ sym opens.each.len
+        count_mid = opened_len ∙ from.left.len ∙ sym opens.back.len
 
         pub settled_upto : standing.settled ≤ r.cutoff
         settled_upto =
-            let kept_so = settled_kept accounts standing.settled past (length old) rested found read left_rested opened.rest refl in
-            let same = is.cutoff_is in
+            let kept_so = settled_kept accounts standing.settled past (length old) opened_store fronts found read left_opened refl refl ends in
+            let same = so.1 in
             omega (arith, kept_so, same)
 
         pub over_cutoff : r.cutoff ≤ r.resume
-        over_cutoff =
-            let upto = cutoff_upto_last found in
-            let least = is.cutoff_is in
-            let last = is.resume_is in
-            omega (arith, upto, least, last)
+        over_cutoff = cutoff_within found read r.cutoff r.resume r.used (pairs_of r.pairs.items) is
 
         pub left_of : AreLeftOf (quotas_of accounts) past.life (min past.kept r.cutoff) (pairs_of r.pairs.items)
-        left_of = found_left accounts standing.settled past (length old) rested found read left_rested opened.rest refl r.cutoff r.resume r.used (pairs_of r.pairs.items) is
+        left_of = found_left accounts standing.settled past (length old) opened_store fronts found read left_opened refl refl ends r.cutoff r.resume r.used (pairs_of r.pairs.items) is
 
         -- a log has its resume batch not for certain
         pub not_resumed : (e : LogRefusal) (new : List (StoreLog MemDisk)) → StopsResumingAt keeps_rules mem_state failures_of r.cutoff r.resume e.log e.refusal mid new
             → IsMemoryOrDevice e.refusal × Refuses new read_slots
         not_resumed e new stops =
             let len = resuming_len r.cutoff r.resume e.log e.refusal mid new stops in
-            let to = subst (λ n. StopsResumingAt keeps_rules mem_state failures_of (cutoff_of found) n e.log e.refusal mid new) is.resume_is
-            (subst (λ n. StopsResumingAt keeps_rules mem_state failures_of n r.resume e.log e.refusal mid new) is.cutoff_is stops) in
-            let o = resumed_in_part recovered (cutoff_of found) rested.voids refl refl fits found opened.rest mid new count_mid len opened.shows e.log e.refusal to in
+            let to = subst (λ n. StopsResumingAt keeps_rules mem_state failures_of (cutoff_of fronts) n e.log e.refusal mid new) so.2
+            (subst (λ n. StopsResumingAt keeps_rules mem_state failures_of n r.resume e.log e.refusal mid new) so.1 stops) in
+            let o = resumed_in_part recovered (cutoff_of fronts) rested.voids refl refl fits fronts refl g h mid new count_mid len each_open e.log e.refusal to in
             let t = with_logs o.logs recovered in (
               o.cause,
               record {
                 past_now = past_kept;
                 kept = keeps;
-                holds = holds_so past_kept t new read_slots (len ∙ opens.each.len)
-                    (left_on accounts standing.settled past_kept (length old) recovered t left_now o.leads o.len_so refl) (stand_sure both read_slots sure.keeps) o.shows;
+                holds = holds_so past_kept t new read_slots (len ∙ opens.back.len)
+                    (left_on accounts standing.settled past_kept (length old) recovered t left_now o.leads o.len_so refl) stand_read o.downs;
               },
             )
 
         -- all have theirs
         module _ (new : List (StoreLog MemDisk)) (resumes : ResumesAll keeps_rules mem_state failures_of r.cutoff r.resume mid new) where
-          to_found : ResumesAll keeps_rules mem_state failures_of (cutoff_of found) (resume_of found read) mid new
+          to_found : ResumesAll keeps_rules mem_state failures_of (cutoff_of fronts) (resume_of fronts read) mid new
           to_found =
-              subst (λ n. ResumesAll keeps_rules mem_state failures_of (cutoff_of found) n mid new) is.resume_is
-              (subst (λ n. ResumesAll keeps_rules mem_state failures_of n r.resume mid new) is.cutoff_is resumes)
+              subst (λ n. ResumesAll keeps_rules mem_state failures_of (cutoff_of fronts) n mid new) so.2
+              (subst (λ n. ResumesAll keeps_rules mem_state failures_of n r.resume mid new) so.1 resumes)
 
-          resumed : resuming.ResumedAll recovered (cutoff_of found) rested.voids refl refl fits found opened.rest mid new count_mid resumes.len opened.shows
-          resumed = all_resumed recovered (cutoff_of found) rested.voids refl refl fits found opened.rest mid new count_mid resumes.len opened.shows to_found
+          resumed : resuming.ResumedAll recovered (cutoff_of fronts) rested.voids refl refl fits fronts refl g h mid new count_mid resumes.len each_open
+          resumed = all_resumed recovered (cutoff_of fronts) rested.voids refl refl fits fronts refl g h mid new count_mid resumes.len each_open to_found
 
-          abbrev last : Store
-          last = with_logs resumed.logs recovered
+          abbrev resumed_store : Store
+          resumed_store = with_logs resumed.logs recovered
 
-          left_last : IsLeftAs past_kept last
-          left_last = left_on accounts standing.settled past_kept (length old) recovered last left_now resumed.leads resumed.len_so refl
+          left_last : IsLeftAs past_kept resumed_store
+          left_last = left_on accounts standing.settled past_kept (length old) recovered resumed_store left_now resumed.leads resumed.len_so refl
 
           -- the slots, with the newest one
           abbrev kept_slots : StoreSlots MemDisk
@@ -210,7 +230,11 @@ module _ (accounts : Accounts) (slots : StoreSlots MemDisk) (standing : Standing
 
           -- but there is no state
           pub without_state : Refuses new kept_slots
-          without_state = record { past_now = past_kept; kept = keeps; holds = holds_so past_kept last new kept_slots (resumes.len ∙ opens.each.len) left_last stand_now resumed.shows }
+          without_state = record {
+            past_now = past_kept;
+            kept = keeps;
+            holds = holds_so past_kept resumed_store new kept_slots (resumes.len ∙ opens.back.len) left_last stand_now (all_open_down g h resumed_store new resumed.opens);
+          }
 
           -- the state serves
           module _ (v : StateView) (logs : ℕ) (restored : IsRestored r.resume logs accounts r.pairs.items v) (right : IsRightState v) (count : length new ≡ logs)
@@ -218,70 +242,68 @@ module _ (accounts : Accounts) (slots : StoreSlots MemDisk) (standing : Standing
             abbrev next : Life
             next = life_from (pairs_of r.pairs.items) r.resume
 
-            rest_at : RestAt (resume_of found read) resumed.logs
+            rest_at : RestAt (resume_of fronts read) resumed.logs
             rest_at = record { rest = resumed.rest_so; marks = resumed.marks }
 
-            cutoff_within : cutoff_of found ≤ r.resume
-            cutoff_within =
-                let resumes_at = resumes_last found read r.cutoff r.resume r.used (pairs_of r.pairs.items) is in
-                let least = cutoff_upto_last found in
-                omega (arith, resumes_at, least)
+            cutoff_upto : cutoff_of fronts ≤ r.resume
+            cutoff_upto =
+                let upto = over_cutoff in
+                let same = so.1 in
+                omega (arith, upto, same)
 
-            ended : All (λ p. p.change.stamp ≤ r.resume) last.history
-            ended = All-weaker (λ (p : Placed). p.change.stamp ≤ cutoff_of found) (λ p. p.change.stamp ≤ r.resume) (λ p le. omega (arith, le, cutoff_within)) last.history
-                (made_upto (cutoff_of found) s.history)
+            ended : All (λ p. p.change.stamp ≤ r.resume) resumed_store.history
+            ended = All-weaker (λ (p : Placed). p.change.stamp ≤ cutoff_of fronts) (λ p. p.change.stamp ≤ r.resume) (λ p le. omega (arith, le, cutoff_upto)) resumed_store.history
+                (made_upto (cutoff_of fronts) s.history)
 
-            found_now : pairs_of r.pairs.items ≡ pairs_upto (cutoff_of found) s.history
-            found_now =
-                found_so accounts standing.settled past (length old) rested found read left_rested opened.rest refl r.cutoff r.resume r.used (pairs_of r.pairs.items) is
-                ∙ ap (λ n. pairs_upto n s.history) is.cutoff_is
+            found_now : pairs_of r.pairs.items ≡ pairs_upto (cutoff_of fronts) s.history
+            found_now = so.0 ∙ ap (λ n. pairs_upto n s.history) so.1
 
-            none_kept : (k : ℕ) (log : StoreLog MemDisk) → slice_get new k ≡ Some log → log.kept ≡ None
-            none_kept k log at =
-                let below : k < length mid = subst (λ n. k < n) resumes.len (within new k log at) in
-                let here = within_place mid k below in
-                let first : k < length old = subst (λ n. k < n) opens.each.len below in
-                let was = within_place old k first in
-                (resumes.each k here.0 log below here.1 at).1 ∙ (opens.each.each k was.0 here.0 first was.1 here.1).2.1
-
-            count_logs : length last.logs ≡ logs
+            count_logs : length resumed_store.logs ≡ logs
             count_logs = resumed.len_so ∙ count_mid ∙ sym resumes.len ∙ count
 
-            serving_now : HoldsServing accounts (λ id. None) next (served last) new serving
+            serving_now : HoldsServing g h accounts (λ id. None) next (served resumed_store) new serving
             serving_now =
-                begins_serving accounts (pairs_of r.pairs.items) r.resume logs v (begins_restored accounts r.resume logs r.pairs.items v restored) right (served last) refl (sym is.resume_is) count_logs
-                (subst (λ n. RestAt n resumed.logs) (sym is.resume_is) rest_at) ended found_now serving state fresh new resumed.shows none_kept
+                begins_serving accounts (pairs_of r.pairs.items) r.resume logs v (begins_restored accounts r.resume logs r.pairs.items v restored) right (served resumed_store) refl (sym so.2) count_logs
+                (subst (λ n. RestAt n resumed.logs) (sym so.2) rest_at) ended found_now serving state fresh g h new resumed.opens
 
             -- the next life
             pub with_state : Holds accounts (Rest kept_slots) (crashed_to (Ok next) standing) new (Some serving)
             with_state =
-                let goes = serves_now last refl rest_at resumed.held in
-                let len : length new ≡ length old = resumes.len ∙ opens.each.len in
+                let goes = serves_now resumed_store refl rest_at resumed.held in
+                let len : length new ≡ length old = resumes.len ∙ opens.back.len in
                 record {
-                  s = served last;
+                  s = served resumed_store;
+                  from = g;
+                  whole = h;
                   some = subst (λ n. 0 < n) (sym len) left_last.some;
                   few = subst (λ n. n ≤ 64) (sym len) left_last.few;
-                  come = subst (λ n. HasCome n (served last)) (sym len) (comes_on (length old) last (served last) left_last.come goes);
+                  come = subst (λ n. HasCome n (served resumed_store)) (sym len) (comes_on (length old) resumed_store (served resumed_store) left_last.come goes);
                   count = left_last.len ∙ sym len;
                   stand = (refl, stand_now);
-                  settled = all_on (length old) standing.settled last (served last) left_last.some left_last.few left_last.come goes left_last.settled_so;
+                  settled = all_on (length old) standing.settled resumed_store (served resumed_store) left_last.some left_last.few left_last.come goes left_last.settled_so;
                   keeps = left_last.keeps;
                   now = serving_now;
                 }
 
   -- ---- each outcome
 
+  after_slots : (e : LogRefusal) (new : List (StoreLog MemDisk)) (now : StoreSlots MemDisk) (a : StopsAfterSlots keeps_rules mem_state failures_of accounts e old slots new now)
+      → StopsOpening keeps_rules mem_state failures_of (slots_of (in_order a.found)) e old new
+      ⊎ (IsRefusedOf keeps_rules mem_state failures_of accounts e (slots_of (in_order a.found)) old new ⊎ ResumesInPart keeps_rules mem_state failures_of accounts e (slots_of (in_order a.found)) old new)
+      → IsMemoryOrDevice e.refusal × Refuses new now
+  after_slots e new now a (inl stops) = not_opened now a.found a.reads e new stops
+  after_slots e new now a (inr (inl r)) = refused_for now a.found a.reads new r.chains r.opens e.refusal r.refused
+  after_slots e new now a (inr (inr p)) = not_resumed now a.found a.reads p.mid p.chains p.opens p.r p.recovers.over e new p.stops
+
   pub not_recovered : (e : StoreRefusal) (new : List (StoreLog MemDisk)) (now : StoreSlots MemDisk) → IsNotRecovered keeps_rules mem_state failures_of accounts e old slots new now
       → IsMemoryOrDevice (refusal_in e) × Refuses new now
-  not_recovered (OfLogs e) new now (inl stops) = let r = not_opened e new stops.0 in (r.0, subst (λ ss. Refuses new ss) (sym stops.1) r.1)
-  not_recovered (OfLogs e) new now (inr (inl r)) = refused_for new r.fronts r.opens now r.found r.reads e.refusal r.refused
-  not_recovered (OfLogs e) new now (inr (inr p)) = not_resumed p.mid p.fronts p.opens now p.found p.reads p.r p.recovers.recovered e new p.stops
-  not_recovered (OfSlot fault) new now r = not_read new r.fronts r.opens fault now r.stops
+  not_recovered (OfLogs e) new now a = after_slots e new now a a.why
+  not_recovered (OfSlot fault) new now r = let d = not_read fault now r.0 in (d.0, subst (λ ls. Refuses ls now) (sym r.1) d.1)
 
   pub recovered_down : (r : Found) (new : List (StoreLog MemDisk)) (now : StoreSlots MemDisk) → ServesAgain keeps_rules mem_state failures_of accounts r old slots new now
       → Refuses new now
   recovered_down r new now a =
-      subst (λ ss. Refuses new ss) (sym a.keeps) (without_state a.mid a.fronts a.opens a.rested a.found a.reads r a.recovers.recovered new a.resumes)
+      subst (λ ss. Refuses new ss) (sym a.keeps) (without_state a.rested a.found a.reads a.mid a.chains a.opens r a.recovers.over new a.resumes)
 
   pub recovered_up : (r : Found) (new : List (StoreLog MemDisk)) (now : StoreSlots MemDisk) → ServesAgain keeps_rules mem_state failures_of accounts r old slots new now
       → (v : StateView) → IsRestored r.resume (length new) accounts r.pairs.items v → IsRightState v → (serving : Serving) → serving.state ≡ v → IsFresh serving
@@ -289,20 +311,20 @@ module _ (accounts : Accounts) (slots : StoreSlots MemDisk) (standing : Standing
       × (next ≡ crashed_to (Ok (life_from (pairs_of r.pairs.items) r.resume)) standing) × Holds accounts (Rest now) next new (Some serving)
   recovered_up r new now a v restored right serving state fresh = (
     crashed_to (Ok (life_from (pairs_of r.pairs.items) r.resume)) standing,
-    settled_upto a.mid a.fronts a.opens a.rested a.found a.reads r a.recovers.recovered,
-    over_cutoff a.mid a.fronts a.opens a.rested a.found a.reads r a.recovers.recovered,
-    left_of a.mid a.fronts a.opens a.rested a.found a.reads r a.recovers.recovered,
+    settled_upto a.rested a.found a.reads a.mid a.chains a.opens r a.recovers.over,
+    over_cutoff a.rested a.found a.reads a.mid a.chains a.opens r a.recovers.over,
+    left_of a.rested a.found a.reads a.mid a.chains a.opens r a.recovers.over,
     refl,
     subst (λ (ss : StoreSlots MemDisk). Holds accounts (Rest ss) (crashed_to (Ok (life_from (pairs_of r.pairs.items) r.resume)) standing) new (Some serving)) (sym a.keeps)
-        (with_state a.mid a.fronts a.opens a.rested a.found a.reads r a.recovers.recovered new a.resumes v (length new) restored right refl serving state fresh),
+        (with_state a.rested a.found a.reads a.mid a.chains a.opens r a.recovers.over new a.resumes v (length new) restored right refl serving state fresh),
   )
 
 -- ---- what is noted of a crash
 
-module _ (accounts : Accounts) (slots between now : StoreSlots MemDisk) (old mid new : List (StoreLog MemDisk)) (was : Option Serving) (all : List (Vec ℕ Global))
-    (crash : AllCrash all old slots mid between) where
-  left_by : (standing : Standing) → Holds accounts (Rest slots) standing old was → Leaves accounts between standing mid
-  left_by standing h = leaves accounts slots between standing old mid was crash.of_logs crash.first crash.second h crash.logs_crash crash.slots_crash
+module _ (accounts : Accounts) (slots between now : StoreSlots MemDisk) (old mid new : List (StoreLog MemDisk)) (was : Option Serving) (images : CrashImages)
+    (crash : AllCrash images old slots mid between) where
+  pub left_by : (standing : Standing) → Holds accounts (Rest slots) standing old was → Leaves accounts between standing mid
+  left_by standing h = leaves accounts slots between standing old mid was images.logs.items images.first.items images.second.items h crash.logs_crash crash.slots_crash
 
   -- the store is recovered
   pub crashes_recovered : (r : Found) (serving : Serving) → AreRecovered accounts between now r mid new → Begins accounts r (length new) serving
@@ -353,6 +375,8 @@ pub gave_up : (accounts : Accounts) (slots : LiveSlots) (was : StoreSlots MemDis
     → at_rest slots ≡ Rest was → Holds accounts slots standing logs serving → Holds accounts (Rest was) (checking None standing) logs serving
 gave_up accounts slots was standing logs serving rests h = record {
   s = h.s;
+  from = h.from;
+  whole = h.whole;
   some = h.some;
   few = h.few;
   come = h.come;
@@ -370,7 +394,7 @@ gave_up accounts slots was standing logs serving rests h = record {
         subst (SlotsStand h.s.slots) (same_rest _ was e) (record { mays = stand.1.mays; shown = stand.1.shown_so; keeps = stand.1.keeps.slots })
     by Away e stand = absurd stand
 
-noted_at_rest : (accounts : Accounts) (standing after : Standing) (images : Vec (Vec ℕ Global) Global) (note : StoreNote)
+noted_at_rest : (accounts : Accounts) (standing after : Standing) (images : CrashImages) (note : StoreNote)
     → IsNoted (quotas_of accounts) (checking None standing) (Crash images) note after → IsNoted (quotas_of accounts) standing (Crash images) note after
 noted_at_rest accounts standing after images (Recovered r) n = n
 noted_at_rest accounts standing after images (Refused e) n = n
@@ -385,7 +409,7 @@ crashes_live accounts slots now was old new before after (Ok note) rests goes = 
     (r.0, noted_at_rest accounts standing r.0 images note r.1, r.2)
 crashes_live accounts slots now was old new before after (Err e) rests goes = tt
 
-pub crashed_at_rest : {E : Type 0} (accounts : Accounts) (images : List (Vec ℕ Global)) (slots : LiveSlots) (was is : StoreSlots MemDisk) (old new : List (StoreLog MemDisk)) (result : Result StoreNote E)
+pub crashed_at_rest : {E : Type 0} (accounts : Accounts) (images : CrashImages) (slots : LiveSlots) (was is : StoreSlots MemDisk) (old new : List (StoreLog MemDisk)) (result : Result StoreNote E)
     → at_rest slots ≡ Rest was → IfOk result (λ note. IsCrashForced accounts images note was is old new)
     → IfOk result (λ note. (first last : StoreSlots MemDisk) × (at_rest slots ≡ Rest first) × (Rest is ≡ Rest last) × IsCrashForced accounts images note first last old new)
 crashed_at_rest accounts images slots was is old new (Ok note) rests forced = (was, is, rests, refl, forced)
@@ -407,7 +431,7 @@ not_away accounts slots standing logs serving h e =
     subst (Rattle.mt_lives.specs.Checks.LiveSlotsStand accounts standing.check standing.now h.s.slots h.s.history h.s.steps) e h.stand
 
 -- an event that is a crash, whatever its call answers
-pub crashed_goes : {E : Type 0} (accounts : Accounts) (slots now_slots : LiveSlots) (images : Vec (Vec ℕ Global) Global) (event : StoreEvent)
+pub crashed_goes : {E : Type 0} (accounts : Accounts) (slots now_slots : LiveSlots) (images : CrashImages) (event : StoreEvent)
     (first old new last : List (StoreLog MemDisk)) (was serving : Option Serving)
     (result : Result StoreNote E) → event ≡ Crash images → first ≡ old → new ≡ last → IfOk result (λ note. CrashesTo accounts slots now_slots note first was new serving)
     → IfOk result (λ note. GoesOn accounts slots now_slots event note old was last serving)
@@ -416,19 +440,3 @@ crashed_goes accounts slots now_slots images event first old new last was servin
     (subst (λ logs. GoesOn accounts slots now_slots (Crash images) note logs was last serving) same_old
     (subst (λ logs. GoesOn accounts slots now_slots (Crash images) note first was logs serving) same_new (crashes images)))
 crashed_goes accounts slots now_slots images event first old new last was serving (Err e) is same_old same_new crashes = tt
-
--- a store that is owned alone and was recovered
-pub owned_recovered : (accounts : Accounts) (slots found now : StoreSlots MemDisk) (old new : List (StoreLog MemDisk)) (was : Option Serving) (disks : List MemDisk)
-    (images : Vec (Vec ℕ Global) Global) (serving : Serving) → AllCrash images.items old slots (closed_on disks) found
-    → IsRecoveredStore keeps_rules mem_state failures_of disks found accounts serving.state new (Some now) → IsRightState serving.state → IsFresh serving
-    → (r : Found) × GoesOn accounts (Rest slots) (Rest now) (Crash images) (Recovered r) old was new (Some serving)
-owned_recovered accounts slots found now old new was disks images serving crashed is right fresh =
-    let len : length new ≡ length disks = is.serves.resumes.len ∙ is.serves.opens.each.len ∙ length-closed 0 disks in
-    let begins : Begins accounts is.recovered (length new) serving = record {
-      state = subst (λ n. IsRestored is.recovered.resume n accounts is.recovered.pairs.items serving.state) (sym len) is.restored;
-      right = right;
-      fresh = fresh;
-    } in
-    let serves : AreRecovered accounts found now is.recovered (closed_on disks) new =
-    subst (λ kept. AreRecovered accounts found kept is.recovered (closed_on disks) new) (sym (same_Some now is.kept is.slots_are)) is.serves in
-    (is.recovered, crashes_recovered accounts slots found now old (closed_on disks) new was images.items crashed is.recovered serving serves begins images)

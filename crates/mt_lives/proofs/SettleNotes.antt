@@ -8,33 +8,27 @@ use Rattle.mt_lives.specs.declared.live_slots.LiveSlots.{LiveSlots}
 use Rattle.mt_runs.specs.Placings.{Quotas}
 use Rattle.mt_state.specs.Views.{StateView}
 use Rattle.mt_core.specs.Tickets.{named}
-use Rattle.mt_recover.specs.{declared.resuming.LogSlot.LogSlot, declared.resuming.LogSlot.TheVariants.{Open, Failed, Closed, Away}}
-use Rattle.mt_crashes.{specs.Stores.{LogNow, Reaches, AllReach}, proofs.{Invariant.within_place, Members.no_some}}
-use Rattle.mt_store_logs.specs.{declared.store_log.StoreLog.StoreLog, Places.mark_in, Shows.Shows}
+use Rattle.mt_crashes.{specs.Stores.AllReach, proofs.{Invariant.within_place, Members.no_some}}
+use Rattle.mt_store_logs.specs.declared.store_log.StoreLog.{StoreLog}
 use Rattle.mt_settle.specs.{Turns.BroughtUp, Settles.{turns_from, Settles}}
 use Rattle.mt_stored.{specs.{declared.source.OwnState.OwnState, Stores.IsSettled}, proofs.StoreTurns.settled}
 use Rattle.mt_lives.specs.{declared.events.StoreEvent.TheVariants.{SettleBegin, SettleNext}, declared.events.StoreNote.StoreNote}
 use Rattle.mt_lives.specs.{declared.events.StoreNote.TheVariants.{Begun, Turned, Settled, Refused}, declared.serving.Serving.Serving}
 use Rattle.mt_lives.specs.Lives.{Life, Standing, with_settle, settling, settled_by, steps_in, IsMemoryOrDevice, IsNoted, NotesLead}
 use Rattle.mt_lives.specs.{Holds.{quotas_of, IsSettleIn, AreSettles, Holds}, Owned.{with_state, IsWholeSettle}}
-use Rattle.mt_lives.proofs.{Served.last, Flushing.{keeps_rules, failures_of, within, rests_at_mark, open_mark}, Noting.{life_served, lives_so, held}}
+use Rattle.mt_lives.proofs.{Served.last, Flushing.{keeps_rules, failures_of, within, rests_at_mark, stands_at}, TurnLogs.open_mark, Noting.{life_served, lives_so, held}}
 use Rattle.mt_lives.proofs.{Settling.{reaches_both, resettled}, Owning.{Keeps, does, turn_keeps, turns_keep, last_turn, keeps_at_first}}
 
 -- ---- what open logs reach
-
-open_reaches : (now : LogNow) (slot : LogSlot MemDisk) (mark : ℕ) → Shows mem_state now slot → mark_in slot ≡ Some mark → Reaches mark now
-open_reaches now (Open log) mark shows is = rests_at_mark now mark shows.0 (sym (open_mark now (Open log) mark shows is))
-open_reaches now (Failed log) mark shows is = absurd (no_some mark is)
-open_reaches now (Closed disk) mark shows is = absurd (no_some mark is)
-open_reaches now Away mark shows is = absurd shows
 
 -- logs that go up to the last step reach it
 settled_reach : (accounts : Accounts) (slots : LiveSlots) (standing : Standing) (logs : List (StoreLog MemDisk)) (serving : Serving) (h : Holds accounts slots standing logs (Some serving))
     → IsSettled serving.state logs → AllReach serving.state.steps h.s
 settled_reach accounts slots standing logs serving h up worker now there =
     let log = within_place logs worker (subst (λ n. worker < n) h.count (within h.s.logs worker now there)) in
-    let at = (held accounts slots standing logs serving h).each worker now log.0 there log.1 in
-    open_reaches now log.0.slot serving.state.steps at.stands.shows (up worker log.0 log.1)
+    let at = stands_at h.from h.whole h.s serving.state.logs worker now log.0 ((held accounts slots standing logs serving h).each worker now log.0 there log.1) in
+    let o = open_mark h.from h.whole now log.0 serving.state.steps at (up worker log.0 log.1) in
+    rests_at_mark now serving.state.steps o.0 (sym o.1)
 
 -- ---- the notes
 

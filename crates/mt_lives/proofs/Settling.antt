@@ -85,7 +85,7 @@ module _ (accounts : Accounts) (slots : LiveSlots) (standing : Standing) (logs :
   life : Life
   life = life_served accounts slots standing logs serving h
 
-  was : HoldsServing accounts standing.begun life h.s logs serving
+  was : HoldsServing h.from h.whole accounts standing.begun life h.s logs serving
   unfolding life
   was = held accounts slots standing logs serving h
 
@@ -101,6 +101,8 @@ module _ (accounts : Accounts) (slots : LiveSlots) (standing : Standing) (logs :
       → Holds accounts slots (record { begun = begun; settled = number; check = standing.check; now = standing.now }) logs (Some now)
   resettled begun number reach settles = record {
     s = h.s;
+    from = h.from;
+    whole = h.whole;
     some = h.some;
     few = h.few;
     come = h.come;
@@ -109,13 +111,13 @@ module _ (accounts : Accounts) (slots : LiveSlots) (standing : Standing) (logs :
     settled = reach;
     keeps = h.keeps;
     now =
-        subst (λ (n : Rattle.std.proofs.Common.Result Life Past). HoldsNow accounts begun n h.s logs (Some now)) (sym lives)
+        subst (λ (n : Rattle.std.proofs.Common.Result Life Past). HoldsNow h.from h.whole accounts begun n h.s logs (Some now)) (sym lives)
         (record {
           serves =
               subst (λ r. Serves accounts life h.s now.state (named r.tickets)) (sym roster)
               (subst (λ v. Serves accounts life h.s v (named serving.roster.tickets)) (sym state) was.serves);
           by_id = subst (λ r. AreById r.names (named r.tickets)) (sym roster) was.by_id;
-          each = subst (λ v. Rattle.mt_lives.specs.Holds.EachLog (Rattle.mt_lives.specs.Holds.IsLogAt h.s v.logs) h.s logs) (sym state) was.each;
+          each = subst (λ v. Rattle.mt_lives.specs.Holds.EachLog (Rattle.mt_lives.specs.Holds.IsLogAt h.from h.whole h.s v.logs) h.s logs) (sym state) was.each;
           settles = settles;
         });
   }

@@ -1,14 +1,13 @@
 -- What the notes of a whole Settle say of its number.
 use Rattle.std.proofs.Common.{◌≡◌, ℕ, zero, suc, ◌≤◌, List, [], ◌∷◌, ◌++◌, replicate, Option, Some, None, Result, Ok, refl, sym, ap, ◌∙◌, inl, inr, ⊎_elim, arith}
 use Rattle.std.proofs.lemmas.Option.{same_Some}
-use Rattle.std.specs.{Prelude.Vec, declared.alloc.Global.Global}
 use Rattle.mt_rows.specs.{Accounts.Accounts, declared.refusal.Refusal.Refusal}
 use Rattle.mt_disk.specs.declared.mem.MemDisk.{MemDisk}
 use Rattle.mt_lives.specs.declared.live_slots.LiveSlots.{LiveSlots}
 use Rattle.mt_runs.specs.Placings.{Quotas}
 use Rattle.mt_recover.specs.declared.recovering.Recovered.{Recovered as AnyRecovered}
 use Rattle.mt_store_logs.specs.declared.store_log.StoreLog.{StoreLog}
-use Rattle.mt_lives.specs.{declared.events.StoreEvent.StoreEvent, declared.events.StoreEvent.TheVariants.{Core, Flush, Reopen, SettleBegin, SettleNext, CheckBegin, CheckStep, Crash}}
+use Rattle.mt_lives.specs.{declared.events.CrashImages.CrashImages, declared.events.StoreEvent.StoreEvent, declared.events.StoreEvent.TheVariants.{Core, Flush, Reopen, SettleBegin, SettleNext, CheckBegin, CheckStep, Crash}}
 use Rattle.mt_lives.specs.declared.events.StoreNote.{StoreNote}
 use Rattle.mt_lives.specs.declared.events.StoreNote.TheVariants.{Told, Flushed, Reopened, Begun, Turned, Settled, CheckBegun, CheckTold, CheckAdded, CheckEnded, Recovered, Refused, NoSuch}
 use Rattle.mt_lives.specs.{declared.serving.Serving.Serving, Lives.{Life, Past, Standing, steps_in, IsNoted, Notes, NotesLead}, Holds.quotas_of}
@@ -95,7 +94,7 @@ never_falls quotas old new CheckStep NoSuch noted = let same = ap (λ (s : Stand
 never_falls quotas old new event note noted = absurd noted
 
 -- so each later cutoff is at least that, and numbers go on from there
-kept_on : (quotas : Quotas) (n : ℕ) (notes : Notes) (old new : Standing) (images : Vec (Vec ℕ Global) Global) (r : AnyRecovered) → n ≤ old.settled
+kept_on : (quotas : Quotas) (n : ℕ) (notes : Notes) (old new : Standing) (images : CrashImages) (r : AnyRecovered) → n ≤ old.settled
     → NotesLead quotas old (notes ++ (Crash images, Recovered r) ∷ []) new → (n ≤ r.cutoff) × (n ≤ r.resume)
 kept_on quotas n [] old new images r le (mid, noted, rest) =
     let kept = noted.0 in
@@ -118,7 +117,7 @@ module _ (accounts : Accounts) (slots : LiveSlots) (standing : Standing) (id ste
       at_most (quotas_of accounts) id n w.turns w.lead.0 w.next life (ap (λ (s : Standing). s.now) w.lead.1.4 ∙ is) w.lead.2
 
   -- and at most every later cutoff, from which numbers go on
-  pub kept_later : (notes : Notes) (images : Vec (Vec ℕ Global) Global) (r : AnyRecovered) (end : Standing)
+  pub kept_later : (notes : Notes) (images : CrashImages) (r : AnyRecovered) (end : Standing)
       → NotesLead (quotas_of accounts) w.next (notes ++ (Crash images, Recovered r) ∷ []) end → (n ≤ r.cutoff) × (n ≤ r.resume)
   kept_later notes images r end lead =
       kept_on (quotas_of accounts) n notes w.next end images r (is_settled (quotas_of accounts) id n w.turns w.lead.0 w.next w.lead.2) lead

@@ -7,8 +7,8 @@ use Rattle.mt_slots.specs.{declared.slot.Slot.Slot, declared.slot.Slot.TheVarian
 use Rattle.mt_slots.specs.{declared.fault.SlotFault.SlotFault, declared.fault.FaultCause.FaultCause, declared.fault.FaultCause.TheVariants.{Device, Memory}}
 use Rattle.mt_slots.specs.{Places.{Both, in_order, with_newest, refusal_for}, Calls.{ReadsBoth, StopsReading}, Keeps.{only_these, HasOneWalk, KeepsSlots}}
 use Rattle.mt_slots.proofs.Settling.{both_read, among_these, not_read, kept_newest}
-use Rattle.mt_log.specs.Contents.{Contents}
-use Rattle.mt_crashes.specs.{Bases.{CheckpointView}, Recoveries.IsUsed, SlotDisks.{view_of_walk, slot_now, with_slot}}
+use Rattle.mt_crashes.specs.{Bases.{CheckpointView}, SlotDisks.{view_of_walk, slot_now, with_slot}}
+use Rattle.mt_generations.specs.Chains.{Chain, IsUsedOver}
 use Rattle.mt_crashes.specs.Stores.{Store, SlotNow, only_this}
 use Rattle.mt_crashes.proofs.{Members.no_some, SlotDisks.rests}
 use Rattle.mt_recover.specs.Pairs.{view_of}
@@ -87,20 +87,20 @@ mapped : (x : Option Checkpoint) (v : CheckpointView) → option_map view_of x �
 mapped None v is = absurd (no_some v is)
 mapped (Some c) v is = (c, refl)
 
-used_has : (fronts : List Contents) (both : Both (Option Checkpoint)) (used : Option ℕ) (slot : Slot) → IsUsed fronts (slots_of (in_order both)) used → used_slot used ≡ Some slot
+used_has : (chains : List Chain) (both : Both (Option Checkpoint)) (used : Option ℕ) (slot : Slot) → IsUsedOver chains (slots_of (in_order both)) used → used_slot used ≡ Some slot
     → HasOneWalk (only_these both) slot
-used_has fronts both None slot is same = absurd (no_some slot same)
-used_has fronts both (Some zero) slot is same =
+used_has chains both None slot is same = absurd (no_some slot same)
+used_has chains both (Some zero) slot is same =
     let c = mapped both.first is.0 (same_Some _ _ is.1) in
     subst (HasOneWalk (only_these both)) (same_Some First slot same) (walk_of c.0, ap (λ x. option_map walk_of x ∷ []) c.1)
-used_has fronts both (Some (suc zero)) slot is same =
+used_has chains both (Some (suc zero)) slot is same =
     let c = mapped both.second is.0 (same_Some _ _ is.1) in
     subst (HasOneWalk (only_these both)) (same_Some Second slot same) (walk_of c.0, ap (λ x. option_map walk_of x ∷ []) c.1)
-used_has fronts both (Some (suc (suc n))) slot is same = absurd (no_some slot same)
+used_has chains both (Some (suc (suc n))) slot is same = absurd (no_some slot same)
 
 -- it is the newest one from now on
-pub stand_used : (fronts : List Contents) (both : Both (Option Checkpoint)) (used : Option ℕ) (slots : StoreSlots MemDisk) → IsUsed fronts (slots_of (in_order both)) used
+pub stand_used : (chains : List Chain) (both : Both (Option Checkpoint)) (used : Option ℕ) (slots : StoreSlots MemDisk) → IsUsedOver chains (slots_of (in_order both)) used
     → KeepsSlots keeps_rules mem_state failures_of (only_these both) slots → SlotsStand (map only_this (slots_of (in_order both))) (with_newest (used_slot used) slots)
-stand_used fronts both used slots is keeps =
+stand_used chains both used slots is keeps =
     stand_sure both (with_newest (used_slot used) slots)
-    (kept_newest keeps_rules mem_state failures_of (only_these both) (used_slot used) slots keeps (λ slot same. used_has fronts both used slot is same))
+    (kept_newest keeps_rules mem_state failures_of (only_these both) (used_slot used) slots keeps (λ slot same. used_has chains both used slot is same))

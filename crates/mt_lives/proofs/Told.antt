@@ -19,11 +19,17 @@ kept_grown : (s t : Store) (worker : ℕ) (kept : Option Batch) → Grows s t �
 kept_grown s t worker None grows h = h
 kept_grown s t worker (Some b) grows h = grows.holds worker b h
 
-each_grown : (s t : Store) (given now_given : List ℕ) (logs : List (StoreLog MemDisk)) → Grows s t → now_given ≡ given → EachLog (IsLogAt s given) s logs
-    → EachLog (IsLogAt t now_given) t logs
-each_grown s t given now_given logs grows same all worker now log is_now is_log =
+each_grown : (from whole : ℕ) (s t : Store) (given now_given : List ℕ) (logs : List (StoreLog MemDisk)) → Grows s t → now_given ≡ given → EachLog (IsLogAt from whole s given) s logs
+    → EachLog (IsLogAt from whole t now_given) t logs
+each_grown from whole s t given now_given logs grows same all worker now log is_now is_log =
     let a = all worker now log (ap (λ ls. slice_get ls worker) (sym grows.logs) ∙ is_now) is_log in
-    record { stands = a.stands; given_so = ap (λ g. slice_get g worker) same ∙ a.given_so; kept = kept_grown s t worker log.kept grows a.kept }
+    record {
+      files = a.files;
+      stands = a.stands;
+      begins = a.begins;
+      given_so = ap (λ g. slice_get g worker) same ∙ a.given_so;
+      kept = kept_grown s t worker log.kept grows a.kept;
+    }
 
 -- A life that has gone on by an event of an operation: with whatever slots stand by the store then, all of it holds again.
 module _ (accounts : Accounts) (slots : LiveSlots) (standing : Standing) (logs : List (StoreLog MemDisk)) (serving : Serving) (h : Holds accounts slots standing logs (Some serving)) where
@@ -59,6 +65,8 @@ module _ (accounts : Accounts) (slots : LiveSlots) (standing : Standing) (logs :
         order = one_order (quotas_of accounts) (firsts life) (story_in (with_event life e answer)) (map_of now.state) (changed_at now.state) serves.history.right;
         holds = λ now_slots check stand. record {
           s = t;
+          from = h.from;
+          whole = h.whole;
           some = h.some;
           few = h.few;
           come = comes_on count s t h.come grows.leads;
@@ -69,7 +77,7 @@ module _ (accounts : Accounts) (slots : LiveSlots) (standing : Standing) (logs :
           now = record {
             serves = serves;
             by_id = tells.by_id;
-            each = each_grown s t serving.state.logs now.state.logs logs grows g.4 was.each;
+            each = each_grown h.from h.whole s t serving.state.logs now.state.logs logs grows g.4 was.each;
             settles =
                 subst (λ m. Rattle.mt_lives.specs.Holds.AreSettles t standing.begun m) (sym tells.settles)
                 (settles_on count s t h.some h.few h.come grows.leads grows.steps length_so standing.begun serving.settles was.settles);

@@ -3,8 +3,9 @@ use Rattle.std.proofs.Common.{◌≡◌, ℕ, zero, suc, ◌<◌, ◌≤◌, Lis
 use Rattle.std.proofs.{lemmas.Bool.cases_lt, lemmas.Option.same_Some}
 use Rattle.std.specs.Prelude.{slice_get, slice_set}
 use Rattle.mt_log.specs.Contents.{Contents}
-use Rattle.mt_crashes.{specs.Stores.{Store, LogNow, at_rest, MayLeaveFronts}, proofs.Invariant.within_place}
-use Rattle.mt_lives.{specs.Holds.LeadsTo, proofs.{Comes.{set_there, stays_here, then_to}, Logged.{set_other, set_length}}}
+use Rattle.mt_crashes.{specs.Stores.{Store, LogNow, at_rest, MayLeaveFront, MayLeaveFronts}, proofs.Invariant.{within_place, map_place, zip_left}}
+use Rattle.mt_chain_files.proofs.Loops.{get_within, zip_count}
+use Rattle.mt_lives.{specs.Holds.LeadsTo, proofs.{Comes.{set_there, stays_here, then_to, to_rest}, Logged.{set_other, set_length}}}
 
 -- ---- lists
 
@@ -83,3 +84,43 @@ module _ (s : Store) (R : ℕ → LogNow → LogNow → Type 0)
       let at = within_place old n (omega (arith, within)) in
       let next = may n at.0 (omega arith) at.1 in
       (slice_set before.0 n next.0, walked_more n old before.0 at.0 next.0 at.1 next.1 before.1)
+
+-- ---- all of them come to rest
+
+module _ (s : Store) (fronts : List Contents) (left : MayLeaveFronts s.logs fronts) where
+  -- a log rests with the front at its place
+  record RestsWith (k : ℕ) (was next : LogNow) : Type 0 where
+    front : Contents
+    there : slice_get fronts k ≡ Some front
+    may : MayLeaveFront was front
+    is : next ≡ at_rest front
+
+  goes : (ls : List LogNow) (k : ℕ) (was next : LogNow) → slice_get ls k ≡ Some was → RestsWith k was next → LeadsTo (with_logs ls s) (with_logs (slice_set ls k next) s)
+  goes ls k was next there r =
+      subst (λ (n : LogNow). LeadsTo (with_logs ls s) (with_logs (slice_set ls k n) s)) (sym r.is) (to_rest k (with_logs ls s) was r.front there r.may)
+
+  may_rest : (k : ℕ) (was : LogNow) → k < length s.logs → slice_get s.logs k ≡ Some was → (next : LogNow) × RestsWith k was next
+  may_rest k was lt there =
+      let f = zip_left MayLeaveFront s.logs fronts k was left there in
+      (at_rest f.0, record { front = f.0; there = f.1; may = f.2; is = refl })
+
+  count : length fronts ≡ length s.logs
+  count = zip_count MayLeaveFront s.logs fronts left
+
+  rested : (logs : List LogNow) → Walked s RestsWith goes (length s.logs) s.logs logs → logs ≡ map at_rest fronts
+  rested logs w = same_list logs (map at_rest fronts)
+      (w.len ∙ sym count ∙ sym (map_length at_rest fronts))
+      (λ k x y at_x at_y.
+      let below : k < length s.logs = subst (λ n. k < n) w.len (get_within logs k x at_x) in
+      let was = within_place s.logs k below in
+      let e = w.each k was.0 below was.1 in
+      let c = map_place at_rest fronts k y at_y in
+      same_Some x e.0 (sym at_x ∙ e.1) ∙ e.2.is ∙ ap at_rest (same_Some e.2.front c.0 (sym e.2.there ∙ c.1)) ∙ sym c.2)
+
+  pub all_rest : LeadsTo s (with_logs (map at_rest fronts) s)
+  all_rest =
+      let w = walk s RestsWith goes (length s.logs) s.logs (omega arith) may_rest in
+      subst (λ ls. LeadsTo s (with_logs ls s)) (rested w.0 w.1) w.1.leads
+
+  pub rested_count : length (map at_rest fronts) ≡ length s.logs
+  rested_count = map_length at_rest fronts ∙ count

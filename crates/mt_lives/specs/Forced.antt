@@ -1,10 +1,12 @@
 -- What an event makes of the logs of a store, by what is noted of it: why nothing happened, what a crash left, whose disk failed.
-use Rattle.std.specs.{Prelude.{◌≡◌, ◌⊎◌, ℕ, ◌≤◌, true, List, [], ◌∷◌, ◌++◌, length, Option, Some, None, Vec, slice_get}, declared.alloc.Global.Global}
-use Rattle.mt_rows.specs.{Accounts.Accounts, Rows.Bytes, declared.refusal.Refusal.TheVariants.Device}
+use Rattle.std.specs.{Prelude.{◌≡◌, ◌⊎◌, ℕ, ◌≤◌, true, List, [], ◌∷◌, length, Option, Some, None, slice_get}}
+use Rattle.mt_rows.specs.{Accounts.Accounts, declared.refusal.Refusal.TheVariants.Device}
 use Rattle.mt_disk.specs.{declared.mem.MemDisk.MemDisk, Disk.GoesUp, Mem.mem_state}
 use Rattle.mt_slots.specs.{declared.slot.Slot.Slot, declared.store_slots.StoreSlots.StoreSlots, Places.disk_of, Calls.MakesBoth, Crashes.MayLeaveBoth}
-use Rattle.mt_store_logs.specs.{declared.store_log.StoreLog.StoreLog, Places.{mark_in, disk_in, MakesAll, closed_on}, Crashes.{MayLeaveLogs, AreCrashed}}
-use Rattle.mt_lives.specs.{declared.events.StoreEvent.StoreEvent, declared.events.StoreEvent.TheVariants.{Core, Flush, Reopen, SettleBegin, SettleNext, CheckBegin, CheckStep, Crash}}
+use Rattle.mt_recover.specs.declared.resuming.LogSlot.{LogSlot}
+use Rattle.mt_log_files.specs.declared.worker.WorkerFiles.{WorkerFiles}
+use Rattle.mt_store_logs.specs.{declared.store_log.StoreLog.StoreLog, Places.{mark_in, disk_in, slot_of}, Opens.{AreClosedOn, MakesAll}, Crashes.{MayLeaveLogs, AreCrashed}}
+use Rattle.mt_lives.specs.{declared.events.CrashImages.CrashImages, declared.events.StoreEvent.StoreEvent, declared.events.StoreEvent.TheVariants.{Core, Flush, Reopen, SettleBegin, SettleNext, CheckBegin, CheckStep, Crash}}
 use Rattle.mt_lives.specs.{declared.events.StoreNote.StoreNote, declared.events.StoreNote.TheVariants.{Recovered, Refused, NoSuch}}
 use Rattle.mt_lives.specs.{declared.live_slots.LiveSlots.LiveSlots, declared.live_slots.LiveSlots.TheVariants.Rest, Checks.at_rest}
 use Rattle.mt_lives.specs.{declared.running.Store.Store, declared.serving.Serving.Serving, Returns.{AreRecovered, AreNotRecovered}, Lives.Notes}
@@ -24,7 +26,7 @@ SlotFails old new = (was is : Slots) × (at_rest old ≡ Rest was) × (at_rest n
 
 -- a log is not open
 abbrev pub IsNotOpen : StoreLog MemDisk → Type 0
-IsNotOpen log = mark_in log.slot ≡ None
+IsNotOpen log = mark_in (slot_of log) ≡ None
 
 -- there is a log at a place, and P is so of it
 abbrev pub LogAt : ℕ → Logs → (StoreLog MemDisk → Type 0) → Type 0
@@ -35,42 +37,34 @@ abbrev pub failures_in : Option MemDisk → ℕ
 failures_in None = 0
 failures_in (Some disk) = disk.failures
 
--- a log's disk failed
+-- a file's disk failed
+abbrev pub FileFails : LogSlot MemDisk → LogSlot MemDisk → Type 0
+FileFails old new = GoesUp (failures_in (disk_in old)) (failures_in (disk_in new))
+
+-- that of one of a worker's files did
+abbrev pub AFileFails : WorkerFiles MemDisk → WorkerFiles MemDisk → Type 0
+AFileFails old new = FileFails old.plain new.plain ⊎ (FileFails old.even new.even ⊎ FileFails old.odd new.odd)
+
+-- a log's disk failed: that of one of its files
 abbrev pub DiskFails : StoreLog MemDisk → StoreLog MemDisk → Type 0
-DiskFails old new = GoesUp (failures_in (disk_in old.slot)) (failures_in (disk_in new.slot))
+DiskFails old new = AFileFails old.log.files new.log.files
 
 -- that of the log at a place did
 abbrev pub FailsAt : ℕ → Logs → Logs → Type 0
 FailsAt place old new = (was is : StoreLog MemDisk) × (slice_get old place ≡ Some was) × (slice_get new place ≡ Some is) × DiskFails was is
 
--- images of all disks: those of the logs, and then the two of the slots
-pub record ArePartedInto (images logs : List (Vec ℕ Global)) (first second : Bytes) : Type 0 where
-  pub one : Vec ℕ Global
-  pub two : Vec ℕ Global
-  pub parted : images ≡ logs ++ one ∷ two ∷ []
-  pub first_so : one.items ≡ first
-  pub second_so : two.items ≡ second
-
--- a crash now may leave them
-pub record MayLeaveAll (images : List (Vec ℕ Global)) (logs : Logs) (slots : Slots) : Type 0 where
-  pub of_logs : List (Vec ℕ Global)
-  pub first : Bytes
-  pub second : Bytes
-  pub parted : ArePartedInto images of_logs first second
-  pub logs_may : MayLeaveLogs of_logs logs
-  pub slots_may : MayLeaveBoth first second slots
+-- a crash now may leave these images of all disks
+pub record MayLeaveAll (images : CrashImages) (logs : Logs) (slots : Slots) : Type 0 where
+  pub logs_may : MayLeaveLogs images.logs.items logs
+  pub slots_may : MayLeaveBoth images.first.items images.second.items slots
 
 -- it left them
-pub record AllCrash (images : List (Vec ℕ Global)) (logs : Logs) (slots : Slots) (now_logs : Logs) (now_slots : Slots) : Type 0 where
-  pub of_logs : List (Vec ℕ Global)
-  pub first : Bytes
-  pub second : Bytes
-  pub parted : ArePartedInto images of_logs first second
-  pub logs_crash : AreCrashed of_logs logs now_logs
-  pub slots_crash : slots_of.AreCrashed first second slots now_slots
+pub record AllCrash (images : CrashImages) (logs : Logs) (slots : Slots) (now_logs : Logs) (now_slots : Slots) : Type 0 where
+  pub logs_crash : AreCrashed images.logs.items logs now_logs
+  pub slots_crash : slots_of.AreCrashed images.first.items images.second.items slots now_slots
 
 -- a crash: all disks crashed to these images, unless they may not leave them, and the store was then recovered, or not
-abbrev pub IsCrashForced : Accounts → List (Vec ℕ Global) → StoreNote → Slots → Slots → Logs → Logs → Type 0
+abbrev pub IsCrashForced : Accounts → CrashImages → StoreNote → Slots → Slots → Logs → Logs → Type 0
 IsCrashForced accounts images (Recovered r) slots now old new = (mid : Logs) × (between : Slots) × AllCrash images old slots mid between × AreRecovered accounts between now r mid new
 IsCrashForced accounts images (Refused e) slots now old new = (mid : Logs) × (between : Slots) × AllCrash images old slots mid between × AreNotRecovered accounts between now e mid new
 IsCrashForced accounts images NoSuch slots now old new = (new ≡ old) × (now ≡ slots) × (¬ MayLeaveAll images old slots)
@@ -94,7 +88,7 @@ IsForced accounts (Crash images) note old serving new = ⊥
 IsForced accounts event note old serving new = Unit {0}
 
 -- a crash of slots as they run: a checkpoint that is being written is given up
-abbrev pub CrashesFrom : Accounts → List (Vec ℕ Global) → LiveSlots → LiveSlots → StoreNote → Logs → Logs → Type 0
+abbrev pub CrashesFrom : Accounts → CrashImages → LiveSlots → LiveSlots → StoreNote → Logs → Logs → Type 0
 CrashesFrom accounts images slots now note old new =
     (was is : Slots) × (at_rest slots ≡ Rest was) × (now ≡ Rest is) × IsCrashForced accounts images note was is old new
 
@@ -106,7 +100,7 @@ IsCheckForced note old new = Unit {0}
 
 -- Any event: those of a checkpoint leave the logs alone, and all but these and a crash leave the slots alone.
 abbrev pub IsForcedAll : Accounts → LiveSlots → LiveSlots → StoreEvent → StoreNote → Logs → Option Serving → Logs → Type 0
-IsForcedAll accounts slots now (Crash images) note old serving new = CrashesFrom accounts images.items slots now note old new
+IsForcedAll accounts slots now (Crash images) note old serving new = CrashesFrom accounts images slots now note old new
 IsForcedAll accounts slots now CheckBegin note old serving new = (new ≡ old) × IsCheckForced note slots now
 IsForcedAll accounts slots now CheckStep note old serving new = (new ≡ old) × IsCheckForced note slots now
 IsForcedAll accounts slots now event note old serving new = IsForced accounts event note old serving new × (now ≡ slots)
@@ -117,10 +111,12 @@ AreForced accounts slots now [] old was new is = (new ≡ old) × (is ≡ was) �
 AreForced accounts slots now (x ∷ notes) old was new is =
     (mid : Logs) × (between : Option Serving) × (rest : LiveSlots) × IsForcedAll accounts slots rest x.0 x.1 old was mid × AreForced accounts rest now notes mid between new is
 
--- they led from new logs and slots on these disks to where a store stands
-pub record AreForcedOn (accounts : Accounts) (notes : Notes) (disks : List MemDisk) (slots : Slots) (store : Store) : Type 0 where
+-- they led from new logs and slots on these files to where a store stands
+pub record AreForcedOn (accounts : Accounts) (notes : Notes) (files : List (WorkerFiles MemDisk)) (slots : Slots) (store : Store) : Type 0 where
+  pub closed : Logs
+  pub closed_so : AreClosedOn (length files) files closed
   pub first : Logs
-  pub made : MakesAll (λ (d : MemDisk). true) mem_state (λ d. d.failures) (closed_on disks) first
+  pub made : MakesAll (λ (d : MemDisk). true) mem_state (λ d. d.failures) closed first
   pub serving : Serving
   pub first_slots : Slots
   pub made_slots : MakesBoth (λ (d : MemDisk). true) mem_state (λ d. d.failures) slots first_slots

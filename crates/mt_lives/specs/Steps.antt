@@ -1,12 +1,11 @@
 -- What an event makes of a store as it runs.
-use Rattle.std.specs.{Prelude.{◌≡◌, ◌≢◌, ℕ, ◌+◌, min, List, Option, Some, None, Vec}, Ordering.nat_cmp, BTreeMap.{BTreeMap, Updates}}
-use Rattle.std.specs.declared.alloc.Global.{Global}
+use Rattle.std.specs.{Prelude.{◌≡◌, ◌≢◌, ℕ, ◌+◌, min, List, Option, Some, None}, Ordering.nat_cmp, BTreeMap.{BTreeMap, Updates}}
 use Rattle.mt_rows.specs.Accounts.{Accounts}
 use Rattle.mt_disk.specs.declared.mem.MemDisk.{MemDisk}
 use Rattle.mt_state.specs.Histories.{IsServed}
 use Rattle.mt_lives.specs.declared.live_slots.LiveSlots.{LiveSlots}
 use Rattle.mt_store_logs.specs.declared.store_log.StoreLog.{StoreLog}
-use Rattle.mt_lives.specs.{declared.events.StoreEvent.StoreEvent, declared.events.StoreEvent.TheVariants.{Core, CheckBegin, CheckStep, Crash}, declared.events.StoreNote.StoreNote}
+use Rattle.mt_lives.specs.{declared.events.CrashImages.CrashImages, declared.events.StoreEvent.StoreEvent, declared.events.StoreEvent.TheVariants.{Core, CheckBegin, CheckStep, Crash}, declared.events.StoreNote.StoreNote}
 use Rattle.mt_lives.specs.{declared.serving.Serving.Serving, declared.serving.Settle.Settle, Lives.{Standing, IsNoted, Notes, NotesLead}}
 use Rattle.mt_lives.specs.Holds.{quotas_of, Holds}
 use Rattle.mt_lives.specs.declared.events.StoreNote.TheVariants as notes
@@ -49,7 +48,7 @@ GoesOn accounts slots now_slots event note logs serving now_logs now_serving = (
 
 -- the same of a crash, to whatever images
 abbrev pub CrashesTo : Accounts → LiveSlots → LiveSlots → StoreNote → List (StoreLog MemDisk) → Option Serving → List (StoreLog MemDisk) → Option Serving → Type 0
-CrashesTo accounts slots now_slots note logs serving now_logs now_serving = (images : Vec (Vec ℕ Global) Global) → GoesOn accounts slots now_slots (Crash images) note logs serving now_logs now_serving
+CrashesTo accounts slots now_slots note logs serving now_logs now_serving = (images : CrashImages) → GoesOn accounts slots now_slots (Crash images) note logs serving now_logs now_serving
 
 -- the same of many events
 abbrev pub NotesGoOn : Accounts → LiveSlots → LiveSlots → Notes → List (StoreLog MemDisk) → Option Serving → List (StoreLog MemDisk) → Option Serving → Type 0

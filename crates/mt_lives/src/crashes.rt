@@ -1,15 +1,15 @@
 //! Crashes of a store, and its recoveries.
 
-ghost use Rattle.std.specs.{Prelude.{◌≡◌, ◌≢◌, ◌≤◌, ◌+◌, ◌^◌, true, false, length, IfSome, IfNone, IfOk, IfErr, OnOk}, List.All};
+ghost use Rattle.std.specs.{Prelude.{◌≡◌, ◌≢◌, ◌≤◌, ◌^◌, true, false, length, IfOk, IfErr, OnOk}, List.All};
 ghost use Rattle.mt_rows.specs.TenantPairs.{pairs_of, quota_in, IsTenantPair, AreDistinct, AreStampedUpto, HasTenants, KeepsQuotas};
 ghost use Rattle.mt_state.specs.Begins.{HaveNoPairs};
 ghost use Rattle.mt_core.specs.{Restores.IsRestored, Rights.IsRightState};
 ghost use Rattle.mt_store_logs.specs.Places.{workers_of};
 ghost use Rattle.mt_lives.specs.{Returns.{Begins, AreRecovered, AreNotRecovered}, Steps.CrashesTo};
 ghost use Rattle.mt_lives.specs.declared.live_slots.LiveSlots.TheVariants.{Rest, Away};
-ghost use Rattle.mt_lives.specs.Forced.{ArePartedInto, MayLeaveAll, AllCrash, IsCrashForced, CrashesFrom};
+ghost use Rattle.mt_lives.specs.Forced.{MayLeaveAll, AllCrash, IsCrashForced, CrashesFrom};
 
-use crate::events::StoreNote;
+use crate::events::{CrashImages, StoreNote};
 use crate::live_slots::LiveSlots;
 use crate::serving::Serving;
 use mt_core::State;
@@ -20,16 +20,15 @@ use mt_slots::StoreSlots;
 use mt_store_logs::{NoWatch, StoreLog, crash_logs, recover_store};
 use std::alloc::{AllocError, Global};
 
-/// Gives up a checkpoint that is being written. Crashes all disks, each to its image, those of the slots after those
-/// of the logs, and recovers the store. `NoSuch` if the disks may not leave these images: then nothing else has
-/// changed. After an error some disks have crashed.
+/// Gives up a checkpoint that is being written. Crashes all disks, each to its image, and recovers the store. `NoSuch` if
+/// the disks may not leave these images: then nothing else has changed. After an error some disks have crashed.
 pub(crate) fn crash(
     alloc: Global,
     tenants: &Tenants,
     logs: &mut [StoreLog<MemDisk>],
     slots: &mut LiveSlots,
     serving: &mut Option<Serving>,
-    images: &[Vec<u8>],
+    images: &CrashImages,
 ) -> Result<StoreNote, AllocError>
     requires few { length logs.old ≤ 64 }
     requires empty { HaveNoPairs tenants.now }
@@ -53,7 +52,7 @@ fn crash_at_rest(
     logs: &mut [StoreLog<MemDisk>],
     slots: &mut StoreSlots<MemDisk>,
     serving: &mut Option<Serving>,
-    images: &[Vec<u8>],
+    images: &CrashImages,
 ) -> Result<StoreNote, AllocError>
     requires few { length logs.old ≤ 64 }
     requires empty { HaveNoPairs tenants.now }
@@ -80,35 +79,20 @@ fn crash_all(
     alloc: Global,
     logs: &mut [StoreLog<MemDisk>],
     slots: &mut StoreSlots<MemDisk>,
-    images: &[Vec<u8>],
+    images: &CrashImages,
 ) -> Result<bool, AllocError>
     ensures workers { workers_of logs.new ≡ workers_of logs.old }
     ensures crashed { IfOk result (λ crashed. crashed ≡ true → AllCrash images.now logs.old slots.old logs.new slots.new) }
     ensures unchanged { IfOk result (λ crashed. crashed ≡ false → (logs.new ≡ logs.old) × (slots.new ≡ slots.old) × (¬ MayLeaveAll images.now logs.old slots.old)) }
 {
-    let Some((of_logs, first, second)) = parted(images, logs.len()) else {
-        return Ok(false);
-    };
-    if !slots.may_leave(first, second) {
+    if !slots.may_leave(&images.first, &images.second) {
         return Ok(false);
     }
-    if !crash_logs(alloc, logs, of_logs)? {
+    if !crash_logs(alloc, logs, &images.logs)? {
         return Ok(false);
     }
-    slots.crash(alloc, first, second)?;
+    slots.crash(alloc, &images.first, &images.second)?;
     Ok(true)
-}
-
-// The images of so many logs, and the two of the slots, if they are that many.
-fn parted(images: &[Vec<u8>], logs: usize) -> Option<(&[Vec<u8>], &[u8], &[u8])>
-    ensures some { IfSome result (λ parts. (length parts.0.now ≡ logs) × ArePartedInto images.now parts.0.now parts.1.now parts.2.now) }
-    ensures none { IfNone result (length images.now ≢ logs + 2) }
-{
-    if images.len() < 2 || images.len() - 2 != logs {
-        return None;
-    }
-    let (of_logs, of_slots) = images.split_at(logs);
-    Some((of_logs, &of_slots[0], &of_slots[1]))
 }
 
 // Recovers a store from its logs and slots, with what it has when it serves again.

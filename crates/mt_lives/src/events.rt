@@ -3,6 +3,7 @@
 use mt_recover::Recovered;
 use mt_rows::Refusal;
 use mt_runs::{Event, Told};
+use mt_store_logs::FileImages;
 
 /// What happens next. Workers and disks are told by their number, from 0 on, Settles by a number of the
 /// caller's choice.
@@ -22,9 +23,16 @@ pub enum StoreEvent {
     CheckBegin,
     /// It goes on: a scan of its walk begins or makes a step, what a scan showed is added, or it ends.
     CheckStep,
-    /// A checkpoint that is being written is given up. All disks crash at this moment, each to its image, those of the slots after those of the logs, and the
-    /// store is recovered.
-    Crash { images: Vec<Vec<u8>> },
+    /// A checkpoint that is being written is given up. All disks crash at this moment, each to its image, and the store is recovered.
+    Crash(CrashImages),
+}
+
+/// What a crash leaves of all files: of each log, and of the two slots.
+#[derive(Debug, Drop)]
+pub struct CrashImages {
+    pub logs: Vec<FileImages>,
+    pub first: Vec<u8>,
+    pub second: Vec<u8>,
 }
 
 /// What is noted of an event.

@@ -1,14 +1,14 @@
 //! How a tape goes forward, what no notes are, and what happens to a store that is owned alone, as events. These are
 //! laws, each the contract of a function that does nothing.
 
-ghost use Rattle.std.specs.Prelude.{◌≡◌, ◌≢◌, ◌<◌, ◌≤◌, ◌++◌, ◌∷◌, [], ℕ, map, length, vec_len, List, Option, Some, None, Result, Ok, Vec, slice_get};
-ghost use Rattle.std.specs.declared.alloc.Global.{Global};
+ghost use Rattle.std.specs.Prelude.{◌≡◌, ◌≢◌, ◌<◌, ◌≤◌, ◌++◌, ◌∷◌, [], ℕ, map, length, vec_len, List, Option, Some, None, Result, Ok, slice_get};
 ghost use Rattle.mt_rows.specs.{declared.refusal.Refusal.{Refusal as AnyRefusal}, declared.refusal.Refusal.TheVariants.{BadLog, StampsFall, OverQuota}};
 ghost use Rattle.mt_rows.specs.{Tenants.Contents, Accounts.Accounts};
 ghost use Rattle.mt_disk.specs.declared.mem.MemDisk.{MemDisk as AnyDisk};
 ghost use Rattle.mt_slots.specs.declared.store_slots.StoreSlots.{StoreSlots as AnySlots};
 ghost use Rattle.mt_lives.specs.{declared.live_slots.LiveSlots.{LiveSlots as AnyLiveSlots}, declared.live_slots.LiveSlots.TheVariants.Rest};
-ghost use Rattle.mt_store_logs.specs.{declared.store_log.StoreLog.{StoreLog as AnyLog}, Places.{mark_in, closed_on}};
+ghost use Rattle.mt_log_files.specs.declared.worker.WorkerFiles.{WorkerFiles};
+ghost use Rattle.mt_store_logs.specs.{declared.store_log.StoreLog.{StoreLog as AnyLog}, Places.{mark_in, slot_of}, Taking.files_of};
 ghost use Rattle.mt_settle.specs.{Turns.BroughtUp, Settles.Settles};
 ghost use Rattle.mt_core.specs.Rights.{IsRightState};
 ghost use Rattle.mt_stored.specs.{declared.stores.Store.{Store as AnyStore}, Stores.{IsNewStore, IsRecoveredStore}};
@@ -17,6 +17,7 @@ ghost use Rattle.mt_tape.specs.{declared.entry.Entry.{Entry as AnyEntry}, Tapes.
 ghost use Rattle.mt_drains.specs.Drains.{record_of};
 ghost use Rattle.mt_crashes.specs.Fronts.{after_changes};
 ghost use Rattle.mt_runs.specs.{declared.event.Event.{Event as AnyEvent}, Placings.Quotas};
+ghost use Rattle.mt_lives.specs.declared.events.CrashImages.{CrashImages};
 ghost use Rattle.mt_lives.specs.declared.events.StoreEvent.TheVariants.{Core, SettleBegin, SettleNext, CheckBegin, CheckStep, Crash};
 ghost use Rattle.mt_lives.specs.{declared.events.StoreNote.TheVariants.{Settled, CheckBegun, CheckEnded, Recovered, Refused, NoSuch}, Earlier.{earlier_entries, AreTold}};
 ghost use Rattle.mt_lives.specs.{declared.serving.Serving.{Serving as AnyServing}, Holds.{quotas_of, Holds}, Returns.IsFresh, Forced.AllCrash, Steps.GoesOn};
@@ -42,19 +43,19 @@ pub fn a_tape_goes_forward()
 /// be over a quota; of a store that serves, NoSuch of an operation, or of a Settle that begins by a free name; and a
 /// checkpoint that begins or ends at another number than that of the last step, or begins while one is written.
 pub fn wrong_notes_are_refused()
-    ensures settled_number_lost { (quotas : Quotas) (old new : Standing) (images : Vec (Vec ℕ Global) Global) (r : AnyRecovered) →
+    ensures settled_number_lost { (quotas : Quotas) (old new : Standing) (images : CrashImages) (r : AnyRecovered) →
         r.cutoff < old.settled → ¬ IsNoted quotas old (Crash images) (Recovered r) new }
-    ensures settled_number_given_again { (quotas : Quotas) (old new : Standing) (images : Vec (Vec ℕ Global) Global) (r : AnyRecovered) →
+    ensures settled_number_given_again { (quotas : Quotas) (old new : Standing) (images : CrashImages) (r : AnyRecovered) →
         r.resume < old.settled → ¬ IsNoted quotas old (Crash images) (Recovered r) new }
     ensures settle_before_it_began { (quotas : Quotas) (old new : Standing) (id begun number : ℕ) →
         old.begun id ≡ Some begun → number < begun → ¬ IsNoted quotas old (SettleNext id) (Settled number) new }
     ensures settle_past_the_last_step { (quotas : Quotas) (old new : Standing) (life : Life) (id number : ℕ) →
         old.now ≡ Ok life → steps_in life < number → ¬ IsNoted quotas old (SettleNext id) (Settled number) new }
-    ensures own_files_are_bad { (quotas : Quotas) (old new : Standing) (images : Vec (Vec ℕ Global) Global) (log offset : ℕ) →
+    ensures own_files_are_bad { (quotas : Quotas) (old new : Standing) (images : CrashImages) (log offset : ℕ) →
         ¬ IsNoted quotas old (Crash images) (Refused (BadLog log offset)) new }
-    ensures own_stamps_fall { (quotas : Quotas) (old new : Standing) (images : Vec (Vec ℕ Global) Global) (log stamp : ℕ) →
+    ensures own_stamps_fall { (quotas : Quotas) (old new : Standing) (images : CrashImages) (log stamp : ℕ) →
         ¬ IsNoted quotas old (Crash images) (Refused (StampsFall log stamp)) new }
-    ensures own_pairs_are_too_many { (quotas : Quotas) (old new : Standing) (images : Vec (Vec ℕ Global) Global) (tenant : ℕ) →
+    ensures own_pairs_are_too_many { (quotas : Quotas) (old new : Standing) (images : CrashImages) (tenant : ℕ) →
         ¬ IsNoted quotas old (Crash images) (Refused (OverQuota tenant)) new }
     ensures operation_of_no_life { (quotas : Quotas) (old new : Standing) (life : Life) (e : AnyEvent) →
         old.now ≡ Ok life → ¬ IsNoted quotas old (Core e) NoSuch new }
@@ -71,17 +72,17 @@ pub fn wrong_notes_are_refused()
 /// The server's store that is owned alone and was just made stands as a new one. Its state is right, and nothing has a
 /// name yet: no event, and no Settle.
 pub fn an_owned_store_begins_as_a_new_one()
-    ensures { (accounts : Accounts) (serving : AnyServing) (disks : List AnyDisk) (bare slots : AnySlots AnyDisk) (logs : List (AnyLog AnyDisk)) → 0 < length disks → length disks ≤ 64
-        → IsNewStore ⟦<MemDisk as Disk>⟧.is_honest ⟦<MemDisk as Disk>⟧.state ⟦<MemDisk as Disk>⟧.failures disks bare accounts serving.state logs (Some slots)
+    ensures { (accounts : Accounts) (serving : AnyServing) (files : List (WorkerFiles AnyDisk)) (bare slots : AnySlots AnyDisk) (logs : List (AnyLog AnyDisk)) → 0 < length files → length files ≤ 64
+        → IsNewStore ⟦<MemDisk as Disk>⟧.is_honest ⟦<MemDisk as Disk>⟧.state ⟦<MemDisk as Disk>⟧.failures files bare accounts serving.state logs (Some slots)
         → IsRightState serving.state → IsFresh serving → Holds accounts (Rest slots) new_standing logs (Some serving) }
 {}
 
-/// A store whose disks crashed, each to its image, and that was recovered from them stands as after that crash, noted
-/// Recovered. Its state is right, and nothing has a name.
+/// A store whose disks crashed, each to its image, and that was recovered from what they left of its files stands as
+/// after that crash, noted Recovered. Its state is right, and nothing has a name.
 pub fn an_owned_store_is_recovered_as_after_a_crash()
-    ensures { (accounts : Accounts) (slots found now : AnySlots AnyDisk) (was : Option AnyServing) (serving : AnyServing) (old new : List (AnyLog AnyDisk)) (disks : List AnyDisk)
-        (images : Vec (Vec ℕ Global) Global) → AllCrash images.items old slots (closed_on disks) found
-        → IsRecoveredStore ⟦<MemDisk as Disk>⟧.is_honest ⟦<MemDisk as Disk>⟧.state ⟦<MemDisk as Disk>⟧.failures disks found accounts serving.state new (Some now)
+    ensures { (accounts : Accounts) (slots found now : AnySlots AnyDisk) (was : Option AnyServing) (serving : AnyServing) (old left new : List (AnyLog AnyDisk))
+        (images : CrashImages) → AllCrash images old slots left found
+        → IsRecoveredStore ⟦<MemDisk as Disk>⟧.is_honest ⟦<MemDisk as Disk>⟧.state ⟦<MemDisk as Disk>⟧.failures (map files_of left) found accounts serving.state new (Some now)
         → IsRightState serving.state → IsFresh serving → (r : AnyRecovered) × GoesOn accounts (Rest slots) (Rest now) (Crash images) (Recovered r) old was new (Some serving) }
 {}
 
@@ -92,7 +93,7 @@ pub fn a_turn_of_an_owned_store_is_a_list_of_events()
         (old new : AnyStore AnyDisk ⟦<MemDisk as Disk>⟧) →
         Holds accounts slots standing old.logs.items (Some serving) → old.source.state ≡ serving.state → slice_get old.logs.items worker ≡ Some log
         → ⟦<Store<MemDisk> as Logs>⟧.does old (BroughtUp worker told) new
-        → IsTurn accounts slots standing worker (mark_in log.slot) told new.logs.items (with_state new.source.state serving) }
+        → IsTurn accounts slots standing worker (mark_in (slot_of log)) told new.logs.items (with_state new.source.state serving) }
 {}
 
 /// A Settle of that store is a Settle of the events, by any name that no open one has. It begins, each log has its
@@ -110,7 +111,7 @@ pub fn a_settle_of_an_owned_store_is_a_settle()
 /// number after which the next life counts on. So no number up to it is ever given again.
 pub fn a_number_that_an_owned_store_settled_is_kept()
     ensures { (accounts : Accounts) (slots : AnyLiveSlots) (standing last : Standing) (serving : AnyServing) (id steps count number : ℕ) (logs : List (AnyLog AnyDisk))
-        (notes : Notes) (images : Vec (Vec ℕ Global) Global) (r : AnyRecovered) (settle : IsWholeSettle accounts slots standing id steps count (Ok number) logs serving) →
+        (notes : Notes) (images : CrashImages) (r : AnyRecovered) (settle : IsWholeSettle accounts slots standing id steps count (Ok number) logs serving) →
         NotesLead (quotas_of accounts) settle.next (notes ++ (Crash images, Recovered r) ∷ []) last → (number ≤ r.cutoff) × (number ≤ r.resume) }
 {}
 

@@ -18,6 +18,6 @@ pub mod running;
 mod serving;
 mod settles;
 
-pub use events::{StoreEvent, StoreNote};
+pub use events::{CrashImages, StoreEvent, StoreNote};
 pub use live_slots::{Check, CheckStage, LiveSlots};
 pub use running::{NoteList, Store, run_store_events};

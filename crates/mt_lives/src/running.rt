@@ -19,6 +19,7 @@ use crate::operations::core;
 use crate::serving::Serving;
 use crate::settles::{begin_settle, flush_at, go_on, reopen_at};
 use mt_disk::MemDisk;
+use mt_log_files::WorkerFiles;
 use mt_rows::{Refusal, Tenants};
 use mt_slots::StoreSlots;
 use mt_store_logs::StoreLog;
@@ -57,27 +58,27 @@ impl NoteList {
     }
 }
 
-/// Makes the logs of a new store, one on each of these disks, and then its slots, lets events happen to it, and
+/// Makes the logs of a new store, one on the files of each worker, and then its slots, lets events happen to it, and
 /// gives it back with what is noted of each.
 ///
 /// Errors: `Device` if a log or a slot is not made; `Memory` if the run's own lists are refused memory.
 pub fn run_store_events(
     alloc: Global,
     tenants: &Tenants,
-    disks: Vec<MemDisk>,
+    files: Vec<WorkerFiles<MemDisk>>,
     slots: StoreSlots<MemDisk>,
     events: &[StoreEvent],
 ) -> Result<(Store, NoteList), Refusal>
-    requires some { 0 < length disks.items }
-    requires few { length disks.items ≤ 64 }
+    requires some { 0 < length files.items }
+    requires few { length files.items ≤ 64 }
     requires empty { HaveNoPairs tenants.now }
-    requires workers { All (IsServedBy (length disks.items)) events.now }
+    requires workers { All (IsServedBy (length files.items)) events.now }
     ensures lives { IfOk result (λ r. HasLives (quotas_of tenants.now) (zip events.now r.1)) }
     ensures count { IfOk result (λ r. length r.1 ≡ length events.now) }
-    ensures forced { IfOk result (λ r. AreForcedOn tenants.now (zip events.now r.1) disks.items slots r.0) }
+    ensures forced { IfOk result (λ r. AreForcedOn tenants.now (zip events.now r.1) files.items slots r.0) }
     ensures err { IfErr result IsMemoryOrDevice }
 {
-    let mut store = created(alloc, tenants, disks, slots)?;
+    let mut store = created(alloc, tenants, files, slots)?;
     let notes = note_all(alloc, tenants, &mut store, events)?;
     Ok((store, NoteList { notes }))
 }
@@ -122,7 +123,7 @@ fn happen(
     ensures forced { IfOk result (λ note. IsForcedAll tenants.now store.old.slots store.new.slots event.now note store.old.logs.items store.old.serving store.new.logs.items) }
 {
     match event {
-        StoreEvent::Crash { images } => crash(
+        StoreEvent::Crash(images) => crash(
             alloc,
             tenants,
             &mut store.logs,
@@ -161,8 +162,6 @@ fn serve(
         StoreEvent::Reopen { worker } => Ok(reopen_at(alloc, logs, *worker)),
         StoreEvent::SettleBegin { id } => begin_settle(serving, *id),
         StoreEvent::SettleNext { id } => Ok(go_on(alloc, logs, serving, *id)),
-        StoreEvent::CheckBegin | StoreEvent::CheckStep | StoreEvent::Crash { .. } => {
-            unreachable!()
-        }
+        StoreEvent::CheckBegin | StoreEvent::CheckStep | StoreEvent::Crash(_) => { unreachable!() }
     }
 }

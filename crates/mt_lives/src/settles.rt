@@ -4,8 +4,8 @@ ghost use Rattle.std.specs.{Prelude.{◌≡◌, ◌<◌, ◌≤◌, true, List, 
 ghost use Rattle.mt_rows.specs.Accounts.{Accounts};
 ghost use Rattle.mt_disk.specs.{declared.mem.MemDisk.{MemDisk as AnyDisk}, Mem.mem_state};
 ghost use Rattle.mt_lives.specs.declared.live_slots.LiveSlots.{LiveSlots as AnySlots};
-ghost use Rattle.mt_store_logs.specs.{declared.store_log.StoreLog.{StoreLog as AnyLog}, Places.{workers_of, AreInOrder}, Flushes.{Flushes, FailsToFlush}};
-ghost use Rattle.mt_store_logs.specs.LogTurns.{BringsUp, FailsToBringUp};
+ghost use Rattle.mt_store_logs.specs.{declared.store_log.StoreLog.{StoreLog as AnyLog}, Places.{worker_of, workers_of, AreInOrder}};
+ghost use Rattle.mt_store_logs.specs.{Turns.{FlushesLog, FailsToFlushLog}, LogTurns.{BringsUp, FailsToBringUp}};
 ghost use Rattle.mt_lives.specs.declared.events.StoreEvent.TheVariants.{Flush, Reopen, SettleBegin, SettleNext};
 ghost use Rattle.mt_lives.specs.{declared.serving.Serving.{Serving as AnyServing}, Serving.DrainsServing, Steps.{Turns, IsHeld, GoesOn}, Forced.IsForced};
 
@@ -40,7 +40,7 @@ pub(crate) fn flush_at(
     }
 }
 
-/// Opens a worker's log again, where there is one and it is closed.
+/// Opens a worker's log again, if there is one and it is not open. If its next log may be there, that is looked for first.
 pub(crate) fn reopen_at(alloc: Global, logs: &mut [StoreLog<MemDisk>], worker: u8) -> StoreNote
     requires { (serving : AnyServing) × IsHeld logs.old (Some serving) }
     ensures count { length logs.new ≡ length logs.old }
@@ -116,12 +116,12 @@ fn flush_log(
     worker: u8,
     upto: u64,
 ) -> Result<u64, Refusal>
-    requires whose { log.old.worker ≡ worker }
+    requires whose { worker_of log.old ≡ worker }
     requires served { worker < length serving.old.state.logs }
     requires made { upto ≤ serving.old.state.steps }
-    ensures ok { IfOk result (λ mark. Flushes (λ (d : AnyDisk). true) mem_state (λ d. d.failures) DrainsServing worker upto mark log.old log.new serving.old serving.new) }
-    ensures worker { log.new.worker ≡ log.old.worker }
-    ensures err { IfErr result (λ e. FailsToFlush (λ (d : AnyDisk). true) mem_state (λ d. d.failures) DrainsServing worker upto e log.old log.new serving.old serving.new) }
+    ensures ok { IfOk result (λ mark. FlushesLog (λ (d : AnyDisk). true) mem_state (λ d. d.failures) DrainsServing upto mark log.old log.new serving.old serving.new) }
+    ensures worker { worker_of log.new ≡ worker_of log.old }
+    ensures err { IfErr result (λ e. FailsToFlushLog (λ (d : AnyDisk). true) mem_state (λ d. d.failures) DrainsServing upto e log.old log.new serving.old serving.new) }
 {
     match flush(alloc, log, serving, upto) {
         Ok(flushed) => Ok(flushed.mark()),
@@ -137,12 +137,12 @@ fn bring_up_log(
     worker: u8,
     upto: u64,
 ) -> Result<u64, Refusal>
-    requires whose { log.old.worker ≡ worker }
+    requires whose { worker_of log.old ≡ worker }
     requires served { worker < length serving.old.state.logs }
     requires made { upto ≤ serving.old.state.steps }
-    ensures ok { IfOk result (λ mark. BringsUp (λ (d : AnyDisk). true) mem_state (λ d. d.failures) DrainsServing worker upto mark log.old log.new serving.old serving.new) }
-    ensures worker { log.new.worker ≡ log.old.worker }
-    ensures err { IfErr result (λ e. FailsToBringUp (λ (d : AnyDisk). true) mem_state (λ d. d.failures) DrainsServing worker upto e log.old log.new serving.old serving.new) }
+    ensures ok { IfOk result (λ mark. BringsUp (λ (d : AnyDisk). true) mem_state (λ d. d.failures) DrainsServing upto mark log.old log.new serving.old serving.new) }
+    ensures worker { worker_of log.new ≡ worker_of log.old }
+    ensures err { IfErr result (λ e. FailsToBringUp (λ (d : AnyDisk). true) mem_state (λ d. d.failures) DrainsServing upto e log.old log.new serving.old serving.new) }
 {
     match bring_up(alloc, log, serving, upto) {
         Ok(flushed) => Ok(flushed.mark()),

@@ -4,9 +4,10 @@ ghost use Rattle.std.specs.{Prelude.{◌≡◌}, List.All};
 ghost use Rattle.mt_state.specs.Begins.{HaveNoPairs};
 ghost use Rattle.mt_lives.specs.Steps.{IsServedBy};
 
-use mt_lives::StoreEvent;
+use mt_lives::{CrashImages, StoreEvent};
 use mt_rows::{Column, ColumnIndexes, Command, Key, NamedColumns, Tenants};
 use mt_runs::Event;
+use mt_store_logs::FileImages;
 use std::alloc::Global;
 use std::process::Abort;
 
@@ -92,12 +93,12 @@ fn begin(op: u64, worker: u8, command: Command) -> StoreEvent
     })
 }
 
-/// The events of a row, and the one that tells most of them last; a crash leaves these images.
+/// The events of a row, and the one that tells most of them last. A crash leaves these images.
 pub(crate) fn events_of(
     rt: &impl Abort,
     alloc: Global,
     row: Row,
-    images: &[Vec<u8>],
+    images: Option<&CrashImages>,
     events: &mut Vec<StoreEvent>,
 )
     requires { All (IsServedBy 2) events.old.items }
@@ -162,13 +163,30 @@ fn walk(rt: &impl Abort, events: &mut Vec<StoreEvent>, steps: u64)
     }
 }
 
-fn crash(rt: &impl Abort, alloc: Global, images: &[Vec<u8>]) -> StoreEvent
+fn crash(rt: &impl Abort, alloc: Global, images: Option<&CrashImages>) -> StoreEvent
     ensures { IsServedBy 2 result }
 {
-    let mut copies = Vec::new(alloc);
-    for image in images {
-        let copy = image.to_vec(alloc).expect(rt, "memory");
-        assert!(rt; copies.push(copy).is_ok());
+    let images = images.expect(rt, "what the crash leaves");
+    let mut logs = Vec::new(alloc);
+    for log in &images.logs {
+        assert!(rt; logs.push(files_copied(rt, alloc, log)).is_ok());
     }
-    StoreEvent::Crash { images: copies }
+    StoreEvent::Crash(CrashImages {
+        logs,
+        first: copied(rt, alloc, &images.first),
+        second: copied(rt, alloc, &images.second),
+    })
+}
+
+fn files_copied(rt: &impl Abort, alloc: Global, images: &FileImages) -> FileImages {
+    FileImages {
+        plain: copied(rt, alloc, &images.plain),
+        even: copied(rt, alloc, &images.even),
+        odd: copied(rt, alloc, &images.odd),
+    }
+}
+
+/// A copy of an image.
+pub(crate) fn copied(rt: &impl Abort, alloc: Global, image: &[u8]) -> Vec<u8> {
+    image.to_vec(alloc).expect(rt, "memory")
 }

@@ -2,7 +2,7 @@
 
 use crate::asked::Row;
 use crate::failures::settled_before;
-use crate::runs::{Fate, run};
+use crate::runs::{DiskOf, Fate, run};
 use std::alloc::Global;
 use std::process::Abort;
 use std::test::Fail;
@@ -47,7 +47,7 @@ const CHECKS: [Row; 32] = [
 // and the store then serves on: the last Settle and the last checkpoint end, and the last get finds its pair.
 fn comes_back(rt: &impl Abort, alloc: Global, fate: Fate) -> bool {
     let Some(noted) = run(rt, alloc, fate, &CHECKS) else {
-        // The first three calls make a log, and the first two a slot.
+        // The first three calls make a log's file, and the first two a slot.
         return fate.stop <= 3;
     };
     let mut stopped = 0;
@@ -67,7 +67,16 @@ fn comes_back(rt: &impl Abort, alloc: Global, fate: Fate) -> bool {
 #[test]
 fn a_store_with_checkpoints_stopped_at_any_call_comes_back(rt: HostRuntime) -> Result<(), Fail> {
     let alloc = rt.alloc();
-    for (disk, calls) in [(0, 44), (1, 44), (2, 40), (3, 40)] {
+    for (disk, calls) in [
+        (DiskOf::Plain(0), 44),
+        (DiskOf::Even(0), 16),
+        (DiskOf::Odd(0), 16),
+        (DiskOf::Plain(1), 44),
+        (DiskOf::Even(1), 16),
+        (DiskOf::Odd(1), 16),
+        (DiskOf::Slot(0), 40),
+        (DiskOf::Slot(1), 40),
+    ] {
         for stop in 1..calls {
             let fate = Fate {
                 disk,
@@ -128,7 +137,7 @@ fn begins_anew(rt: &impl Abort, alloc: Global, fate: Fate) -> bool {
 #[test]
 fn a_checkpoint_begins_anew_after_a_call_that_failed(rt: HostRuntime) -> Result<(), Fail> {
     let alloc = rt.alloc();
-    for disk in [2, 3] {
+    for disk in [DiskOf::Slot(0), DiskOf::Slot(1)] {
         for first in 1..40 {
             let fate = Fate {
                 disk,

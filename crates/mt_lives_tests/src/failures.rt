@@ -2,7 +2,7 @@
 //! a growth refused.
 
 use crate::asked::Row;
-use crate::runs::{AMPLE, Fate, Noted, run};
+use crate::runs::{AMPLE, DiskOf, Fate, Noted, run};
 use std::alloc::Global;
 use std::process::Abort;
 use std::test::Fail;
@@ -59,9 +59,8 @@ const FLUSHES: [Row; 17] = [
     Row::Get(5, "a"),
 ];
 
-// Two flushes of a log, each with the log opened again behind it, and a Settle.
-fn again(log: usize) -> [Row; 10] {
-    let worker = if log == 1 { 1 } else { 0 };
+// Two flushes of a worker's log, each with the log opened again behind it, and a Settle.
+fn again(worker: u8) -> [Row; 10] {
     [
         Row::Put(1, worker, "a", "1"),
         Row::Flush(worker),
@@ -76,9 +75,8 @@ fn again(log: usize) -> [Row; 10] {
     ]
 }
 
-// A flush of a log, and a Settle, with no event that opens the log again.
-fn unopened(log: usize) -> [Row; 6] {
-    let worker = if log == 1 { 1 } else { 0 };
+// A flush of a worker's log, and a Settle, with no event that opens the log again.
+fn unopened(worker: u8) -> [Row; 6] {
     [
         Row::Put(1, worker, "a", "1"),
         Row::Flush(worker),
@@ -104,7 +102,7 @@ pub(crate) fn settled_before(noted: &[Noted], place: usize) -> u64 {
 // and the store then serves on: the last Settle ends with a number, and the last get finds its pair.
 fn comes_back(rt: &impl Abort, alloc: Global, fate: Fate) -> bool {
     let Some(noted) = run(rt, alloc, fate, &CRASHES) else {
-        // The first three calls make the log.
+        // The first three calls make the file.
         return fate.stop <= 3;
     };
     let mut stopped = 0;
@@ -120,11 +118,20 @@ fn comes_back(rt: &impl Abort, alloc: Global, fate: Fate) -> bool {
     stopped == 20 || (ends && found)
 }
 
-// A log's disk makes some fifty calls up to the last recovery here, and a slot's some ten.
+// A plain disk makes some fifty calls up to the last recovery here, and a numbered one or a slot's some ten.
 #[test]
 fn a_store_stopped_at_any_call_comes_back(rt: HostRuntime) -> Result<(), Fail> {
     let alloc = rt.alloc();
-    for (disk, calls) in [(0, 54), (1, 54), (2, 16), (3, 16)] {
+    for (disk, calls) in [
+        (DiskOf::Plain(0), 54),
+        (DiskOf::Even(0), 16),
+        (DiskOf::Odd(0), 16),
+        (DiskOf::Plain(1), 54),
+        (DiskOf::Even(1), 16),
+        (DiskOf::Odd(1), 16),
+        (DiskOf::Slot(0), 16),
+        (DiskOf::Slot(1), 16),
+    ] {
         for stop in 1..calls {
             let fate = Fate {
                 disk,
@@ -149,11 +156,19 @@ fn settles(rt: &impl Abort, alloc: Global, fate: Fate) -> bool {
         .is_some_and(|told| told.0 == "settled" && Some(told.1) == last)
 }
 
+// A numbered disk makes no call but those that make its file.
 #[test]
 fn a_settle_ends_behind_a_call_that_failed(rt: HostRuntime) -> Result<(), Fail> {
     let alloc = rt.alloc();
-    for disk in [0, 1] {
-        for first in 1..40 {
+    for (disk, calls) in [
+        (DiskOf::Plain(0), 40),
+        (DiskOf::Even(0), 5),
+        (DiskOf::Odd(0), 5),
+        (DiskOf::Plain(1), 40),
+        (DiskOf::Even(1), 5),
+        (DiskOf::Odd(1), 5),
+    ] {
+        for first in 1..calls {
             let fate = Fate {
                 disk,
                 first,
@@ -171,8 +186,8 @@ fn fails_at(noted: &[Noted], place: usize) -> bool {
 }
 
 // Whether a Settle ends with the number of the last step, behind two calls that failed.
-fn settles_again(rt: &impl Abort, alloc: Global, fate: Fate) -> bool {
-    let rows = again(fate.disk);
+fn settles_again(rt: &impl Abort, alloc: Global, worker: u8, fate: Fate) -> bool {
+    let rows = again(worker);
     let Some(noted) = run(rt, alloc, fate, &rows) else {
         return false;
     };
@@ -188,18 +203,18 @@ fn settles_again(rt: &impl Abort, alloc: Global, fate: Fate) -> bool {
 #[test]
 fn a_settle_ends_behind_two_calls_that_failed(rt: HostRuntime) -> Result<(), Fail> {
     let alloc = rt.alloc();
-    for disk in [0, 1] {
+    for worker in [0, 1] {
         for first in 4..8 {
             // After the last of them the batch counts, and isn't appended again.
             let last = if first == 7 { 15 } else { first + 12 };
             for second in first + 1..last + 1 {
                 let fate = Fate {
-                    disk,
+                    disk: DiskOf::Plain(worker),
                     first,
                     second,
                     stop: 0,
                 };
-                assert!(rt; settles_again(&rt, alloc, fate), "{fate:?}");
+                assert!(rt; settles_again(&rt, alloc, worker, fate), "{fate:?}");
             }
         }
     }
@@ -207,8 +222,8 @@ fn a_settle_ends_behind_two_calls_that_failed(rt: HostRuntime) -> Result<(), Fai
 }
 
 // Whether a flush fails, and a Settle then opens the log again, and ends with the number of the last step.
-fn settle_opens(rt: &impl Abort, alloc: Global, fate: Fate) -> bool {
-    let rows = unopened(fate.disk);
+fn settle_opens(rt: &impl Abort, alloc: Global, worker: u8, fate: Fate) -> bool {
+    let rows = unopened(worker);
     let Some(noted) = run(rt, alloc, fate, &rows) else {
         return false;
     };
@@ -223,15 +238,15 @@ fn settle_opens(rt: &impl Abort, alloc: Global, fate: Fate) -> bool {
 #[test]
 fn a_settle_opens_a_log_again(rt: HostRuntime) -> Result<(), Fail> {
     let alloc = rt.alloc();
-    for disk in [0, 1] {
+    for worker in [0, 1] {
         for first in 4..8 {
             let fate = Fate {
-                disk,
+                disk: DiskOf::Plain(worker),
                 first,
                 second: 0,
                 stop: 0,
             };
-            assert!(rt; settle_opens(&rt, alloc, fate), "{fate:?}");
+            assert!(rt; settle_opens(&rt, alloc, worker, fate), "{fate:?}");
         }
     }
     Ok(())

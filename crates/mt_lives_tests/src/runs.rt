@@ -1,22 +1,33 @@
-//! Stories run on a new store of two logs, on disks in memory.
+//! Stories run on a new store of two logs, on disks in memory: three of each log, and two of the slots.
 
 ghost use Rattle.std.specs.{Prelude.{◌≡◌, length, Some}, List.All};
 ghost use Rattle.mt_lives.specs.Steps.{IsServedBy};
 
-use crate::asked::{Row, events_of, one_tenant};
+use crate::asked::{Row, copied, events_of, one_tenant};
 use mt_disk::MemDisk;
-use mt_lives::{LiveSlots, Store, StoreEvent, StoreNote, run_store_events};
+use mt_lives::{CrashImages, LiveSlots, Store, StoreEvent, StoreNote, run_store_events};
+use mt_log_files::WorkerFiles;
 use mt_recover::LogSlot;
 use mt_rows::{Refusal, Reply};
 use mt_runs::Told;
 use mt_slots::StoreSlots;
+use mt_store_logs::FileImages;
 use std::alloc::Global;
 use std::process::Abort;
+
+/// A disk: of a worker's plain file, of its even one or its odd one, or of a slot.
+#[derive(Clone, Copy, Debug, PartialEq, Eq)]
+pub(crate) enum DiskOf {
+    Plain(u8),
+    Even(u8),
+    Odd(u8),
+    Slot(u8),
+}
 
 /// Which two calls of which disk fail, and which one its disk stops at, 0 where none does.
 #[derive(Clone, Copy, Debug)]
 pub(crate) struct Fate {
-    pub disk: usize,
+    pub disk: DiskOf,
     pub first: u64,
     pub second: u64,
     pub stop: u64,
@@ -24,7 +35,7 @@ pub(crate) struct Fate {
 
 /// Nothing fails.
 pub(crate) const AMPLE: Fate = Fate {
-    disk: 9,
+    disk: DiskOf::Plain(0),
     first: 0,
     second: 0,
     stop: 0,
@@ -55,12 +66,15 @@ fn run_with(
     alloc: Global,
     fate: Fate,
     rows: &[Row],
-    images: &[Vec<Vec<u8>>],
+    images: &[CrashImages],
 ) -> Option<(Store, Vec<Noted>)> {
     let (events, ends) = events_with_ends(rt, alloc, rows, images);
-    let logs = disks(rt, alloc, fate);
-    let slots = StoreSlots::found(disk(rt, alloc, fate, 2), disk(rt, alloc, fate, 3));
-    match run_store_events(alloc, &one_tenant(alloc), logs, slots, &events) {
+    let files = all_files(rt, alloc, fate);
+    let slots = StoreSlots::found(
+        disk(rt, alloc, fate, DiskOf::Slot(0)),
+        disk(rt, alloc, fate, DiskOf::Slot(1)),
+    );
+    match run_store_events(alloc, &one_tenant(alloc), files, slots, &events) {
         Ok((store, notes)) => Some((store, noted_of_rows(rt, alloc, &ends, notes.as_slice()))),
         Err(Refusal::Device) => None,
         Err(_) => panic!(rt; "memory"),
@@ -72,7 +86,7 @@ fn events_with_ends(
     rt: &impl Abort,
     alloc: Global,
     rows: &[Row],
-    images: &[Vec<Vec<u8>>],
+    images: &[CrashImages],
 ) -> (Vec<StoreEvent>, Vec<usize>)
     ensures { All (IsServedBy 2) result.0.items }
 {
@@ -81,8 +95,8 @@ fn events_with_ends(
     let mut images = images.iter();
     for row in rows {
         let left = match row {
-            Row::Crash => images.next().map_or(&[][..], |left| left.as_slice()),
-            _ => &[],
+            Row::Crash => images.next(),
+            _ => None,
         };
         events_of(rt, alloc, *row, left, &mut events);
         assert!(rt; ends.push(events.len()).is_ok());
@@ -106,17 +120,25 @@ fn noted_of_rows(
     noted
 }
 
-// Two disks.
-fn disks(rt: &impl Abort, alloc: Global, fate: Fate) -> Vec<MemDisk>
+// The files of two workers.
+fn all_files(rt: &impl Abort, alloc: Global, fate: Fate) -> Vec<WorkerFiles<MemDisk>>
     ensures { length result.items ≡ 2 }
 {
-    let mut disks = Vec::new(alloc);
-    assert!(rt; disks.push(disk(rt, alloc, fate, 0)).is_ok());
-    assert!(rt; disks.push(disk(rt, alloc, fate, 1)).is_ok());
-    disks
+    let mut files = Vec::new(alloc);
+    assert!(rt; files.push(files_of(rt, alloc, fate, 0)).is_ok());
+    assert!(rt; files.push(files_of(rt, alloc, fate, 1)).is_ok());
+    files
 }
 
-fn disk(rt: &impl Abort, alloc: Global, fate: Fate, place: usize) -> MemDisk {
+fn files_of(rt: &impl Abort, alloc: Global, fate: Fate, worker: u8) -> WorkerFiles<MemDisk> {
+    WorkerFiles::closed(
+        disk(rt, alloc, fate, DiskOf::Plain(worker)),
+        disk(rt, alloc, fate, DiskOf::Even(worker)),
+        disk(rt, alloc, fate, DiskOf::Odd(worker)),
+    )
+}
+
+fn disk(rt: &impl Abort, alloc: Global, fate: Fate, place: DiskOf) -> MemDisk {
     if place == fate.disk {
         let fails = [fate.first, fate.second].to_vec(alloc).expect(rt, "memory");
         MemDisk::new(alloc, fails, Some(fate.stop).filter(|call| *call > 0))
@@ -125,18 +147,13 @@ fn disk(rt: &impl Abort, alloc: Global, fate: Fate, place: usize) -> MemDisk {
     }
 }
 
-// What a read of each disk gives: of the logs, and then of the slots.
-fn images_of(rt: &impl Abort, alloc: Global, store: Store) -> Vec<Vec<u8>> {
+// What a read of each disk gives.
+fn images_of(rt: &impl Abort, alloc: Global, store: Store) -> CrashImages {
     let Store { logs, slots, .. } = store;
-    let mut images = Vec::new(alloc);
+    let mut left = Vec::new(alloc);
     for log in &logs {
-        let image = match log.slot() {
-            LogSlot::Open(open) => open.disk().image().to_vec(alloc),
-            LogSlot::Failed(log) => log.disk().image().to_vec(alloc),
-            LogSlot::Closed(disk) => disk.image().to_vec(alloc),
-            LogSlot::Away => panic!(rt; "a disk is away"),
-        };
-        assert!(rt; images.push(image.expect(rt, "memory")).is_ok());
+        let images = images_in(rt, alloc, log.log().files());
+        assert!(rt; left.push(images).is_ok());
     }
     let slots = match slots {
         LiveSlots::Rest(slots) => slots,
@@ -144,11 +161,28 @@ fn images_of(rt: &impl Abort, alloc: Global, store: Store) -> Vec<Vec<u8>> {
         LiveSlots::Away => panic!(rt; "the slots are away"),
     };
     let (first, second) = slots.into_disks();
-    for disk in [first, second] {
-        let image = disk.image().to_vec(alloc).expect(rt, "memory");
-        assert!(rt; images.push(image).is_ok());
+    CrashImages {
+        logs: left,
+        first: copied(rt, alloc, first.image()),
+        second: copied(rt, alloc, second.image()),
     }
-    images
+}
+
+fn images_in(rt: &impl Abort, alloc: Global, files: &WorkerFiles<MemDisk>) -> FileImages {
+    FileImages {
+        plain: image_of(rt, alloc, &files.plain),
+        even: image_of(rt, alloc, &files.even),
+        odd: image_of(rt, alloc, &files.odd),
+    }
+}
+
+fn image_of(rt: &impl Abort, alloc: Global, file: &LogSlot<MemDisk>) -> Vec<u8> {
+    match file {
+        LogSlot::Open(open) => copied(rt, alloc, open.disk().image()),
+        LogSlot::Failed(log) => copied(rt, alloc, log.disk().image()),
+        LogSlot::Closed(disk) => copied(rt, alloc, disk.image()),
+        LogSlot::Away => panic!(rt; "a disk is away"),
+    }
 }
 
 fn last_of(notes: &[StoreNote]) -> Noted {

@@ -65,21 +65,30 @@ fn keeps_all(store: &mut Store, with_crash: bool) -> Result<bool, Refusal> {
     Ok(cutoff == 9 && rows.is_some_and(|rows| rows[7] == 2))
 }
 
-// A new store of two disks does, whichever of them fails at these calls. A disk makes some sixty calls here. The first
-// three make its log.
+// A new store of two workers does, whichever of their disks fails at these calls. The first three make its file. Here a
+// plain disk makes some sixty calls, and a numbered one some fifteen.
 fn expect_all_kept(rt: &impl Abort, alloc: Global, first: u64, second: u64) {
-    for disk in [0, 1] {
-        let failures = Failures {
-            disk,
-            first,
-            second,
-        };
-        for with_crash in [false, true] {
-            let mut store = Store::new(alloc, 2, failures).expect(rt, "a store");
-            let told = keeps_all(&mut store, with_crash);
-            assert!(rt; told == Ok(true), "{failures:?}, {with_crash}");
+    let disks = if first < 20 { 3 } else { 1 };
+    for worker in 0..2 {
+        for disk in 0..disks {
+            let failures = Failures {
+                worker,
+                disk,
+                first,
+                second,
+                stop: 0,
+            };
+            expect_kept(rt, alloc, failures, false);
+            expect_kept(rt, alloc, failures, true);
         }
     }
+}
+
+// It does, if these calls fail.
+fn expect_kept(rt: &impl Abort, alloc: Global, failures: Failures, with_crash: bool) {
+    let mut store = Store::new(alloc, 2, failures).expect(rt, "a store");
+    let told = keeps_all(&mut store, with_crash);
+    assert!(rt; told == Ok(true), "{failures:?}, {with_crash}");
 }
 
 #[test]

@@ -5,7 +5,8 @@
 //! store that are recovered (`slots`): logs worked out by hand, each refusal, logs that are older than the others,
 //! and random stores that crash anywhere. Of the logs of a running store (`stores`): a worker's changes on their way
 //! into its log, each call of a disk failing, alone and with a later one, crashes, and which log is told if some are
-//! not opened.
+//! not opened. And of a store in a turn: the next log that may be there or not, a recovery in the midst of the turn, and
+//! two turns stopped at each call (`turns`).
 //!
 //! They stand in a crate of their own, since a crate with tests is proved twice. They are one, since each crate is
 //! begun twice.
@@ -49,5 +50,7 @@ mod rounds;
 mod slots;
 #[cfg(test)]
 mod stores;
+#[cfg(test)]
+mod turns;
 #[cfg(test)]
 mod vectors;

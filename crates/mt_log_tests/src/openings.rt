@@ -1,108 +1,122 @@
 //! Which log is told where some are not made or opened; and crashes.
 
-use crate::slots;
-use crate::stores::{Failures, Store, bare_slots, closed_logs, create, images_of, mark_of};
-use mt_disk::MemDisk;
-use mt_rows::{Refusal, Tenants};
-use mt_store_logs::{
-    LogRefusal, StoreLog, StoreRefusal, Watch, crash_logs, open_logs, recover_store,
+use crate::stores::{
+    Failures, NONE, Store, bare_slots, create, images_of, logs_on, mark_of, new_logs,
 };
-use std::alloc::Global;
+use mt_disk::MemDisk;
+use mt_log_files::WorkerFiles;
+use mt_rows::{Refusal, Tenants};
+use mt_slots::{FaultCause, Slot, SlotFault, StoreSlots};
+use mt_store_logs::{
+    FileImages, LogRefusal, NoWatch, StoreLog, StoreRefusal, Watch, crash_logs, open_logs,
+    recover_store,
+};
+use std::alloc::{AllocError, Global};
 use std::test::Fail;
 
 fn told(log: Option<usize>, refusal: Refusal) -> LogRefusal {
     LogRefusal { log, refusal }
 }
 
-// Whether a disk whose second call fails is told as the one whose log isn't made; and then all logs are made.
-fn is_made_later(logs: &mut [StoreLog<MemDisk>], disk: usize) -> bool {
-    let is_told = create(logs) == Err(told(Some(disk), Refusal::Device))
-        && logs
-            .iter()
-            .enumerate()
-            .all(|(place, log)| log.mark().is_some() == (place < disk));
+// Whether a file whose second call fails is told as one of the log that isn't made; and then all logs are made.
+fn is_made_later(logs: &mut [StoreLog<MemDisk>], worker: usize, disk: usize) -> bool {
+    let is_told = create(logs) == Err(told(Some(worker), Refusal::Device))
+        && logs.iter().enumerate().all(|(place, log)| log.mark().is_some()
+            == (place < worker || (place == worker && disk > 0)));
     is_told && create(logs).is_ok() && mark_of(logs, 2) == Some(0)
 }
 
 #[test]
 fn the_log_that_is_not_made_is_told(rt: HostRuntime) -> Result<(), Fail> {
-    for disk in 0..3 {
-        let failures = Failures {
-            disk,
-            first: 2,
-            second: 0,
-        };
-        let mut logs = closed_logs(rt.alloc(), 3, failures)?;
-        assert!(rt; is_made_later(&mut logs, disk), "{disk}");
+    for worker in 0..3 {
+        for disk in 0..3 {
+            let failures = Failures {
+                worker,
+                disk,
+                first: 2,
+                second: 0,
+                stop: 0,
+            };
+            let mut logs = new_logs(rt.alloc(), 3, failures)?;
+            assert!(rt; is_made_later(&mut logs, worker, disk), "{failures:?}");
+        }
     }
     Ok(())
 }
 
-// A worker's closed log with these bytes.
-fn log_with(alloc: Global, worker: u8, image: Vec<u8>) -> Result<StoreLog<MemDisk>, Refusal> {
-    Ok(StoreLog::new(worker, slots::log_with(alloc, image)?))
+// A worker's closed files with these bytes.
+fn files_with(alloc: Global, images: FileImages) -> Result<WorkerFiles<MemDisk>, AllocError> {
+    let FileImages { plain, even, odd } = images;
+    Ok(WorkerFiles::closed(
+        MemDisk::with_image(alloc, plain, Vec::new(alloc), None)?,
+        MemDisk::with_image(alloc, even, Vec::new(alloc), None)?,
+        MemDisk::with_image(alloc, odd, Vec::new(alloc), None)?,
+    ))
 }
 
-// So many bytes of an image.
-fn cut(alloc: Global, image: &[u8], len: usize) -> Result<Vec<u8>, Refusal> {
-    let mut image = image.to_vec(alloc)?;
-    image.truncate(len);
-    Ok(image)
+fn copied(alloc: Global, images: &FileImages) -> Result<FileImages, AllocError> {
+    Ok(FileImages {
+        plain: images.plain.to_vec(alloc)?,
+        even: images.even.to_vec(alloc)?,
+        odd: images.odd.to_vec(alloc)?,
+    })
 }
 
 // The first images of some, and the last ones of others.
 fn mixed(
     alloc: Global,
-    some: &[Vec<u8>],
+    some: &[FileImages],
     count: usize,
-    others: &[Vec<u8>],
-) -> Result<Vec<Vec<u8>>, Refusal> {
+    others: &[FileImages],
+) -> Result<Vec<FileImages>, AllocError> {
     let mut images = Vec::new(alloc);
     for image in some.iter().take(count) {
-        images.push(image.to_vec(alloc)?)?;
+        images.push(copied(alloc, image)?)?;
     }
     for image in others.iter().skip(count) {
-        images.push(image.to_vec(alloc)?)?;
+        images.push(copied(alloc, image)?)?;
     }
     Ok(images)
 }
 
-// The logs of three workers, one of which is cut to so many bytes, or is that of another.
+// The logs of three workers, the plain file of one of which is cut to so many bytes, or is that of another.
 fn logs_with(
     alloc: Global,
     log: usize,
     len: usize,
     other: usize,
 ) -> Result<Vec<StoreLog<MemDisk>>, Refusal> {
-    let none = Failures {
-        disk: 9,
-        first: 0,
-        second: 0,
-    };
-    let store = Store::new(alloc, 3, none)?;
+    let store = Store::new(alloc, 3, NONE)?;
     let images = images_of(alloc, &store.logs)?;
-    let mut logs = Vec::new(alloc);
+    let mut files = Vec::new(alloc);
     for (place, own) in images.iter().enumerate() {
-        let image = if place == log {
-            cut(alloc, images.get(other).unwrap_or(own), len)?
-        } else {
-            own.to_vec(alloc)?
-        };
-        logs.push(log_with(alloc, place.min(63) as u8, image)?)?;
+        let mut image = copied(alloc, own)?;
+        if place == log {
+            image.plain = images.get(other).unwrap_or(own).plain.to_vec(alloc)?;
+            image.plain.truncate(len);
+        }
+        files.push(files_with(alloc, image)?)?;
     }
-    Ok(logs)
+    logs_on(alloc, files)
 }
 
-// How many of three logs it was told of, in their order.
-#[derive(Drop)]
+// Of how many of three logs it was told that their files are open, in their order: the numbered ones and the plain one.
+#[derive(Clone, Copy, Debug, PartialEq, Eq)]
 struct Heard {
-    logs: usize,
+    numbered: usize,
+    plain: usize,
 }
 
 impl Watch for Heard {
-    fn opened(&mut self, logs: usize, of: usize) {
-        if of == 3 && logs == self.logs.saturating_add(1) {
-            self.logs = logs;
+    fn opened_numbered(&mut self, logs: usize, of: usize) {
+        if of == 3 && self.plain == 0 && logs == self.numbered.saturating_add(1) {
+            self.numbered = logs;
+        }
+    }
+
+    fn opened_plain(&mut self, logs: usize, of: usize) {
+        if of == 3 && self.numbered == 3 && logs == self.plain.saturating_add(1) {
+            self.plain = logs;
         }
     }
 }
@@ -111,28 +125,50 @@ impl Watch for Heard {
 fn is_refused(
     alloc: Global,
     logs: &mut [StoreLog<MemDisk>],
-    refusal: LogRefusal,
-    opened: usize,
+    slots: &mut StoreSlots<MemDisk>,
+    refusal: StoreRefusal,
+    want: Heard,
 ) -> bool {
+    if logs.len() > 64 {
+        return false;
+    }
     let tenants = Tenants::new(alloc);
-    let mut heard = Heard { logs: 0 };
+    let mut heard = Heard {
+        numbered: 0,
+        plain: 0,
+    };
+    let recovered = recover_store(alloc, logs, slots, &tenants, &mut heard);
+    recovered.is_err_and(|e| e == refusal) && heard == want
+}
+
+// The same over empty slots, if all numbered files are opened, and so many plain ones.
+fn is_refused_after(
+    alloc: Global,
+    logs: &mut [StoreLog<MemDisk>],
+    refusal: LogRefusal,
+    plain: usize,
+) -> bool {
+    let want = Heard { numbered: 3, plain };
     let mut slots = bare_slots(alloc);
-    let recovered = recover_store(alloc, logs, &mut slots, &tenants, &mut heard);
-    recovered.is_err_and(|e| e == StoreRefusal::Logs(refusal)) && heard.logs == opened
+    is_refused(alloc, logs, &mut slots, StoreRefusal::Logs(refusal), want)
 }
 
 // Whether of three logs this one is told, which ends at its first batch: each time they are opened, and by a recovery.
 fn is_told_bad(alloc: Global, logs: &mut [StoreLog<MemDisk>], number: u8) -> bool {
+    if logs.len() > 64 {
+        return false;
+    }
     let bad = Refusal::BadLog { number, offset: 8 };
     let log = usize::from(number);
     for _ in 0..2 {
-        let is_told = open_logs(alloc, logs).is_err_and(|e| e == told(Some(log), bad));
+        let opened = open_logs(alloc, logs, &[None, None], &mut NoWatch);
+        let is_told = opened.is_err_and(|e| e == told(Some(log), bad));
         let is_left = mark_of(logs, log).is_none() && (log == 0 || mark_of(logs, 0) == Some(0));
         if !is_told || !is_left {
             return false;
         }
     }
-    is_refused(alloc, logs, told(Some(log), bad), log)
+    is_refused_after(alloc, logs, told(Some(log), bad), log)
 }
 
 #[test]
@@ -144,10 +180,41 @@ fn the_log_that_is_not_opened_is_told(rt: HostRuntime) -> Result<(), Fail> {
         assert!(rt; is_told_bad(alloc, &mut logs, number), "{log}");
         // A log twice: no single one is the cause.
         let mut logs = logs_with(alloc, log, 9, (log + 1) % 3)?;
-        let is_told = is_refused(alloc, &mut logs, told(None, Refusal::LogCount), 3);
+        let is_told = is_refused_after(alloc, &mut logs, told(None, Refusal::LogCount), 3);
         assert!(rt;
             is_told && logs.iter().all(|log| log.mark() == Some(0)),
             "{log}"
+        );
+    }
+    Ok(())
+}
+
+// Slots of which this one's disk makes no call.
+fn slots_without(alloc: Global, slot: Slot) -> StoreSlots<MemDisk> {
+    let without = MemDisk::new(alloc, Vec::new(alloc), Some(1));
+    let other = MemDisk::new(alloc, Vec::new(alloc), None);
+    match slot {
+        Slot::First => StoreSlots::found(without, other),
+        Slot::Second => StoreSlots::found(other, without),
+    }
+}
+
+#[test]
+fn no_log_is_opened_before_both_slots_are_read(rt: HostRuntime) -> Result<(), Fail> {
+    let alloc = rt.alloc();
+    for slot in [Slot::First, Slot::Second] {
+        let mut logs = logs_with(alloc, 0, 9, 0)?;
+        let mut slots = slots_without(alloc, slot);
+        let cause = FaultCause::Device;
+        let refusal = StoreRefusal::Slot(SlotFault { slot, cause });
+        let none = Heard {
+            numbered: 0,
+            plain: 0,
+        };
+        let is_told = is_refused(alloc, &mut logs, &mut slots, refusal, none);
+        assert!(rt;
+            is_told && logs.iter().all(|log| log.mark().is_none()),
+            "{slot:?}"
         );
     }
     Ok(())
@@ -161,19 +228,27 @@ fn drain_both(store: &mut Store) -> bool {
 }
 
 // Whether a crash can't leave these images, after which the logs are as they were.
-fn stays(alloc: Global, store: &mut Store, images: &[Vec<u8>]) -> bool {
+fn stays(alloc: Global, store: &mut Store, images: &[FileImages]) -> bool {
     let is_left = crash_logs(alloc, &mut store.logs, images);
     is_left.is_ok_and(|is_left| !is_left) && store.mark(0) == Some(2) && store.keeps(1)
 }
 
+// Whether these are the same.
+fn are_same(some: &FileImages, others: &FileImages) -> bool {
+    some.plain == others.plain && some.even == others.even && some.odd == others.odd
+}
+
 // Whether a crash leaves these images, in closed logs that keep no batch.
-fn crashes(alloc: Global, store: &mut Store, images: &[Vec<u8>]) -> Result<bool, Refusal> {
+fn crashes(alloc: Global, store: &mut Store, images: &[FileImages]) -> Result<bool, Refusal> {
     let is_left = crash_logs(alloc, &mut store.logs, images)?;
     let left = images_of(alloc, &store.logs)?;
-    let are_same = left.iter().zip(images).all(|(left, image)| left == image);
+    let are_left = left
+        .iter()
+        .zip(images)
+        .all(|(left, image)| are_same(left, image));
     Ok(
         is_left
-            && are_same
+            && are_left
             && store
                 .logs
                 .iter()
@@ -181,21 +256,31 @@ fn crashes(alloc: Global, store: &mut Store, images: &[Vec<u8>]) -> Result<bool,
     )
 }
 
+// The same images, but that of the odd file of log 1 has no bytes.
+fn without_odd(alloc: Global, images: &[FileImages]) -> Result<Vec<FileImages>, AllocError> {
+    let mut images = mixed(alloc, images, images.len(), &[])?;
+    if let Some(last) = images.get_mut(1) {
+        last.odd.clear();
+    }
+    Ok(images)
+}
+
 #[test]
 fn a_crash_takes_every_disk_or_none(rt: HostRuntime) -> Result<(), Fail> {
     let alloc = rt.alloc();
     let failures = Failures {
-        disk: 1,
+        worker: 1,
         first: 5,
-        second: 0,
+        ..NONE
     };
     let mut store = Store::new(alloc, 2, failures)?;
     let empty = images_of(alloc, &store.logs)?;
     assert!(rt; drain_both(&mut store));
     let images = images_of(alloc, &store.logs)?;
     let one = mixed(alloc, &images, 1, &[])?;
-    // The first log has its batch for certain, so the empty one isn't left.
-    for images in [empty.as_slice(), &one, &[]] {
+    let other = without_odd(alloc, &images)?;
+    // The first log has its batch for certain, and a spare file its byte.
+    for images in [empty.as_slice(), &one, &other, &[]] {
         assert!(rt; stays(alloc, &mut store, images));
     }
     let images = mixed(alloc, &images, 1, &empty)?;

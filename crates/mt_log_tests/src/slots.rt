@@ -259,8 +259,8 @@ fn keys_fit(pairs: &[TenantPair]) -> bool
         .all(|pair| pair.key.as_bytes().len() <= USER_KEY_BYTES)
 }
 
-// A slot in which a walk was written.
-fn written(alloc: Global, walk: Walk) -> Result<MemDisk, Refusal> {
+/// A slot in which a walk was written.
+pub fn written(alloc: Global, walk: Walk) -> Result<MemDisk, Refusal> {
     let pairs = pairs_in(alloc, walk.rows, walk.stamps)?;
     if !keys_fit(&pairs) {
         return Err(Refusal::NoStore);

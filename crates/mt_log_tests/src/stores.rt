@@ -1,21 +1,25 @@
-//! Stores of up to three workers over disks in memory.
+//! Stores of up to three workers over disks in memory, three for each worker.
 
 use crate::changes::History;
+use crate::slots::{Walk, written};
 use mt_disk::MemDisk;
 use mt_log::Front;
+use mt_log_files::WorkerFiles;
 use mt_recover::{LogSlot, Recovered};
 use mt_rows::{Refusal, Tenants};
 use mt_slots::StoreSlots;
 use mt_store_logs::{
-    LogRefusal, NoWatch, StoreLog, crash_logs, create_logs, flush, open_logs, recover_store,
+    FileImages, LogRefusal, NoWatch, StoreLog, closed_logs, crash_logs, create_logs, flush,
+    flush_and_begin, open_logs, recover_store,
 };
-use std::alloc::Global;
+use std::alloc::{AllocError, Global};
 
-/// The logs of a store, and what its workers placed.
+/// The logs of a store, its slots, and what its workers placed.
 #[derive(Drop)]
 pub struct Store {
     pub alloc: Global,
     pub logs: Vec<StoreLog<MemDisk>>,
+    pub slots: StoreSlots<MemDisk>,
     pub history: History,
 }
 
@@ -25,30 +29,76 @@ pub fn bare_slots(alloc: Global) -> StoreSlots<MemDisk> {
     StoreSlots::found(disk(), disk())
 }
 
-/// Which two calls of which disk fail, 0 where none does.
+/// Which two calls of a worker's disk fail, and from which one on it makes none till a crash, 0 where none does. The disk is
+/// that of the plain file, of the even one or of the odd one, from 0 on.
 #[derive(Clone, Copy, Debug)]
 pub struct Failures {
+    pub worker: usize,
     pub disk: usize,
     pub first: u64,
     pub second: u64,
+    pub stop: u64,
+}
+
+/// None does.
+pub const NONE: Failures = Failures {
+    worker: 0,
+    disk: 0,
+    first: 0,
+    second: 0,
+    stop: 0,
+};
+
+// An empty disk of a worker, some calls of which may fail.
+fn disk_of(
+    alloc: Global,
+    worker: usize,
+    disk: usize,
+    failures: Failures,
+) -> Result<MemDisk, AllocError> {
+    if worker != failures.worker || disk != failures.disk {
+        return Ok(MemDisk::new(alloc, Vec::new(alloc), None));
+    }
+    let fails = [failures.first, failures.second].to_vec(alloc)?;
+    let stop = Some(failures.stop).filter(|call| *call > 0);
+    Ok(MemDisk::new(alloc, fails, stop))
+}
+
+// A worker's files on empty disks.
+fn new_files(
+    alloc: Global,
+    worker: usize,
+    failures: Failures,
+) -> Result<WorkerFiles<MemDisk>, AllocError> {
+    Ok(WorkerFiles::closed(
+        disk_of(alloc, worker, 0, failures)?,
+        disk_of(alloc, worker, 1, failures)?,
+        disk_of(alloc, worker, 2, failures)?,
+    ))
 }
 
 /// Closed logs on empty disks, some calls of one of which fail.
-pub fn closed_logs(
+pub fn new_logs(
     alloc: Global,
     workers: usize,
     failures: Failures,
 ) -> Result<Vec<StoreLog<MemDisk>>, Refusal> {
-    let mut logs = Vec::new(alloc);
-    for disk in 0..workers {
-        let fails = if disk == failures.disk {
-            [failures.first, failures.second].to_vec(alloc)?
-        } else {
-            Vec::new(alloc)
-        };
-        logs.push(StoreLog::closed(disk.min(63) as u8, MemDisk::new(alloc, fails, None)))?;
+    let mut files = Vec::new(alloc);
+    for worker in 0..workers {
+        files.push(new_files(alloc, worker, failures)?)?;
     }
-    Ok(logs)
+    logs_on(alloc, files)
+}
+
+/// Closed logs on these files, where there are up to 64 of them.
+pub fn logs_on(
+    alloc: Global,
+    files: Vec<WorkerFiles<MemDisk>>,
+) -> Result<Vec<StoreLog<MemDisk>>, Refusal> {
+    if files.len() > 64 {
+        return Err(Refusal::NoStore);
+    }
+    Ok(closed_logs(alloc, files)?)
 }
 
 /// Makes logs, where there are 1 to 64 of them.
@@ -62,17 +112,30 @@ pub fn create(logs: &mut [StoreLog<MemDisk>]) -> Result<(), LogRefusal> {
     create_logs(logs)
 }
 
-/// What a read of each log's disk gives.
-pub fn images_of(alloc: Global, logs: &[StoreLog<MemDisk>]) -> Result<Vec<Vec<u8>>, Refusal> {
+// What a read of a file's disk gives.
+fn image_of(alloc: Global, file: &LogSlot<MemDisk>) -> Result<Vec<u8>, Refusal> {
+    match file {
+        LogSlot::Open(open) => Ok(open.disk().image().to_vec(alloc)?),
+        LogSlot::Failed(log) => Ok(log.disk().image().to_vec(alloc)?),
+        LogSlot::Closed(disk) => Ok(disk.image().to_vec(alloc)?),
+        LogSlot::Away => Err(Refusal::NoStore),
+    }
+}
+
+// What a read of a worker's disks gives.
+fn images_in(alloc: Global, files: &WorkerFiles<MemDisk>) -> Result<FileImages, Refusal> {
+    Ok(FileImages {
+        plain: image_of(alloc, &files.plain)?,
+        even: image_of(alloc, &files.even)?,
+        odd: image_of(alloc, &files.odd)?,
+    })
+}
+
+/// What a read of each log's disks gives.
+pub fn images_of(alloc: Global, logs: &[StoreLog<MemDisk>]) -> Result<Vec<FileImages>, Refusal> {
     let mut images = Vec::new(alloc);
     for log in logs {
-        let image = match log.slot() {
-            LogSlot::Open(open) => open.disk().image().to_vec(alloc)?,
-            LogSlot::Failed(log) => log.disk().image().to_vec(alloc)?,
-            LogSlot::Closed(disk) => disk.image().to_vec(alloc)?,
-            LogSlot::Away => return Err(Refusal::NoStore),
-        };
-        images.push(image)?;
+        images.push(images_in(alloc, log.log().files())?)?;
     }
     Ok(images)
 }
@@ -80,11 +143,12 @@ pub fn images_of(alloc: Global, logs: &[StoreLog<MemDisk>]) -> Result<Vec<Vec<u8
 impl Store {
     /// A store without changes.
     pub fn new(alloc: Global, workers: usize, failures: Failures) -> Result<Store, Refusal> {
-        let mut logs = closed_logs(alloc, workers, failures)?;
+        let mut logs = new_logs(alloc, workers, failures)?;
         match create(&mut logs) {
             Ok(()) => Ok(Store {
                 alloc,
                 logs,
+                slots: bare_slots(alloc),
                 history: History::new(alloc, 0),
             }),
             Err(e) => Err(e.refusal),
@@ -96,6 +160,31 @@ impl Store {
         let steps = self.history.steps();
         match self.logs.get_mut(usize::from(worker)) {
             Some(log) => Ok(flush(self.alloc, log, &mut self.history, steps)?.mark()),
+            None => Err(Refusal::NoStore),
+        }
+    }
+
+    /// The same, and begins the worker's next log.
+    pub fn flush_and_begin(&mut self, worker: u8) -> Result<u64, Refusal> {
+        let steps = self.history.steps();
+        match self.logs.get_mut(usize::from(worker)) {
+            Some(log) => Ok(flush_and_begin(self.alloc, log, &mut self.history, steps)?.mark()),
+            None => Err(Refusal::NoStore),
+        }
+    }
+
+    /// Begins a worker's next log.
+    pub fn begin_next(&mut self, worker: u8) -> Result<(), Refusal> {
+        match self.logs.get_mut(usize::from(worker)) {
+            Some(log) => log.begin_next(),
+            None => Err(Refusal::NoStore),
+        }
+    }
+
+    /// Gives a worker's log before the last one up.
+    pub fn give_up_older(&mut self, worker: u8) -> Result<(), Refusal> {
+        match self.logs.get_mut(usize::from(worker)) {
+            Some(log) => log.give_up_older(),
             None => Err(Refusal::NoStore),
         }
     }
@@ -118,9 +207,22 @@ impl Store {
         Ok(least)
     }
 
+    /// Its slots have this checkpoint alone.
+    pub fn check(&mut self, walk: Walk) -> Result<(), Refusal> {
+        let disk = written(self.alloc, walk)?;
+        let empty = MemDisk::new(self.alloc, Vec::new(self.alloc), None);
+        self.slots = StoreSlots::found(disk, empty);
+        Ok(())
+    }
+
     /// The step up to which a worker's log goes, if there is one and it is open.
     pub fn mark(&self, worker: usize) -> Option<u64> {
         mark_of(&self.logs, worker)
+    }
+
+    /// The generation of a worker's last log, if there is one.
+    pub fn generation(&self, worker: usize) -> Option<u64> {
+        Some(self.logs.get(worker)?.generation())
     }
 
     /// Whether a worker's log keeps a batch.
@@ -136,28 +238,32 @@ impl Store {
 
     /// Recovers, and goes on from there.
     pub fn recover(&mut self) -> Result<Recovered, Refusal> {
+        let recovered = self.recover_logs()?;
+        self.history = History::new(self.alloc, recovered.resume);
+        Ok(recovered)
+    }
+
+    /// Recovers, and keeps what its workers placed before.
+    pub fn recover_logs(&mut self) -> Result<Recovered, Refusal> {
         let mut tenants = Tenants::new(self.alloc);
         tenants.add(7, 8)?;
-        let mut slots = bare_slots(self.alloc);
-        match recover_store(
-            self.alloc,
-            &mut self.logs,
-            &mut slots,
-            &tenants,
-            &mut NoWatch,
-        ) {
-            Ok(recovered) => {
-                self.history = History::new(self.alloc, recovered.resume);
-                Ok(recovered)
-            }
+        if self.logs.len() > 64 {
+            return Err(Refusal::NoStore);
+        }
+        let slots = &mut self.slots;
+        match recover_store(self.alloc, &mut self.logs, slots, &tenants, &mut NoWatch) {
+            Ok(recovered) => Ok(recovered),
             Err(e) => Err(e.refusal()),
         }
     }
 
     /// How many batches a worker's log has, once all were opened.
     pub fn batches(&mut self, worker: usize) -> Result<usize, Refusal> {
-        match open_logs(self.alloc, &mut self.logs) {
-            Ok(fronts) => Ok(batches_in(&fronts, worker)),
+        if self.logs.len() > 64 {
+            return Err(Refusal::NoStore);
+        }
+        match open_logs(self.alloc, &mut self.logs, &[None, None], &mut NoWatch) {
+            Ok(chains) => Ok(batches_in(&chains.fronts, worker)),
             Err(e) => Err(e.refusal),
         }
     }

@@ -32,8 +32,8 @@ const CHECK_1: &str = "mt_server_tests_checks/check-1";
 const NO_CHANGE: &[u8] =
     b"MTLOG\x01\x00\x01\x01\x00\x00\x00\x15\x00\x00\x00\x00\x00\x00\x00\x00\x00\x00\x00\x00\x00\x00\x00\x00\x64\x00\x00\x00\x00\x00";
 
-// A server of the store that a line names, which ends; its client is told what it should be.
-fn serve<R>(rt: &R, alloc: Global, line: &str, scene: Scene)
+/// A server of the store that a line names, which ends; its client is told what it should be.
+pub(crate) fn serve<R>(rt: &R, alloc: Global, line: &str, scene: Scene)
 where
     R: Net<Listener = TcpListener, Stream = TcpStream>
         + Files<File = File>

@@ -1,5 +1,6 @@
 //! What is said of a start that fails, where it takes more than a folder to bring that about.
 
+use mt_log_generations::Parity;
 use mt_rows::Refusal;
 use mt_service::ServerFault;
 use mt_slots::Slot;
@@ -14,6 +15,18 @@ fn faults_name_the_folder(rt: HostRuntime) -> Result<(), Fail> {
         (
             StoreFault::Refused(Some(StoreFile::Log(63)), Refusal::Device),
             "E10: 'a/b/wal-63': the device failed: see what the system says of it, and start again",
+        ),
+        (
+            StoreFault::Refused(Some(StoreFile::Numbered(0, Parity::Even)), Refusal::Device),
+            "E10: 'a/b/wal-00-0': the device failed: see what the system says of it, and start again",
+        ),
+        (
+            StoreFault::Refused(Some(StoreFile::Numbered(63, Parity::Odd)), Refusal::Device),
+            "E10: 'a/b/wal-63-1': the device failed: see what the system says of it, and start again",
+        ),
+        (
+            StoreFault::RefusedLog(63, Refusal::Device),
+            "E10: the log of worker 63 in 'a/b': the device failed: see what the system says of it, and start again",
         ),
         (
             StoreFault::Refused(Some(StoreFile::Slot(Slot::Second)), Refusal::Device),

@@ -2,12 +2,13 @@
 
 ghost use Rattle.std.specs.Prelude.{◌≡◌};
 
-use crate::stores::{LOG, ONE_SESSION, RESUME, Scene, serve_scene};
+use crate::stores::{LOG, NEXT_LOG, ONE_SESSION, RESUME, Scene, serve_scene};
 use crate::words::options_of;
 use log::Log;
 use mt_service::{OpenStore, open_store};
 use std::alloc::{AllocError, Global};
 use std::fs::{self, File};
+use std::io;
 use std::marker::Brand;
 use std::process::Abort;
 use std::rt::Files;
@@ -105,15 +106,75 @@ fn stores_are_opened_and_refused(rt: HostRuntime) -> Result<(), Fail> {
         }
         Err(_) => panic!(rt; "not opened"),
     }
-    // No log, and in its place a folder.
-    fs::remove_file(&rt, "mt_server_tests_store/wal-00")?;
+    expect_no_log(&rt, alloc, line)?;
+    fs::remove_dir_all(&rt, "mt_server_tests_store")?;
+    Ok(())
+}
+
+// The plain file of the only worker is missing, beside numbered ones that are spare, or empty, or missing too. Then it is a
+// folder.
+fn expect_no_log<R: Files<File = File> + Clock + Log + Abort>(
+    rt: &R,
+    alloc: Global,
+    line: &str,
+) -> io::Result<()> {
+    let numbered = [
+        "mt_server_tests_store/wal-00-0",
+        "mt_server_tests_store/wal-00-1",
+    ];
     let told =
         "E15: 'mt_server_tests_store/wal-00' is missing; the folder has 0 logs for 1 worker: name the store's folder";
-    expect_told(&rt, alloc, line, 3, told);
-    fs::create_dir(&rt, "mt_server_tests_store/wal-00")?;
+    fs::remove_file(rt, "mt_server_tests_store/wal-00")?;
+    expect_told(rt, alloc, line, 3, told);
+    for path in numbered {
+        fs::write(rt, path, "")?;
+    }
+    expect_told(rt, alloc, line, 3, told);
+    for path in numbered {
+        fs::remove_file(rt, path)?;
+    }
+    expect_told(rt, alloc, line, 3, told);
+    for path in numbered {
+        assert!(rt; !fs::exists(rt, path)?);
+    }
+    fs::create_dir(rt, "mt_server_tests_store/wal-00")?;
     let told = "E10: 'mt_server_tests_store/wal-00': ";
-    expect_told(&rt, alloc, line, 1, told);
-    fs::remove_dir_all(&rt, "mt_server_tests_store")?;
+    expect_told(rt, alloc, line, 1, told);
+    Ok(())
+}
+
+// The files of a new store of two workers, and what each has.
+const MADE: [(&str, &[u8]); 8] = [
+    ("mt_server_tests_new/wal-00", b"MTLOG\x02\x00\x02\x00"),
+    ("mt_server_tests_new/wal-00-0", SPARE),
+    ("mt_server_tests_new/wal-00-1", SPARE),
+    ("mt_server_tests_new/wal-01", b"MTLOG\x02\x01\x02\x00"),
+    ("mt_server_tests_new/wal-01-0", SPARE),
+    ("mt_server_tests_new/wal-01-1", SPARE),
+    ("mt_server_tests_new/check-0", SPARE),
+    ("mt_server_tests_new/check-1", SPARE),
+];
+
+/// A numbered file that has no log, or a slot that has no checkpoint.
+pub(crate) const SPARE: &[u8] = b"\x00";
+
+// A store that is made has these files and no other, also if the folder had logs of more workers.
+#[test]
+fn a_new_store_has_its_files_and_no_other(rt: HostRuntime) -> Result<(), Fail> {
+    let alloc = rt.alloc();
+    let _ = fs::remove_dir_all(&rt, "mt_server_tests_new");
+    for workers in ["3", "2"] {
+        let line = format!(in alloc;
+            "mt_server --workers {workers} --store mt_server_tests_new --create 7:1"
+        )?;
+        expect_told(&rt, alloc, line.as_str(), 0, "");
+    }
+    for (path, bytes) in MADE {
+        expect_file(&rt, path, &[bytes]);
+        fs::remove_file(&rt, path)?;
+    }
+    // Only an empty folder can be removed so.
+    fs::remove_dir(&rt, "mt_server_tests_new")?;
     Ok(())
 }
 
@@ -156,9 +217,52 @@ const REFUSED: [(&[Edits], &str); 4] = [
     ),
 ];
 
-// The bytes of `LOG` with these changed, cut to a length.
-fn image_with(alloc: Global, edits: Edits, len: usize) -> Result<Vec<u8>, AllocError> {
-    let mut image = LOG.to_vec(alloc)?;
+// What is changed of `NEXT_LOG`, which is cut to a length and stands in a numbered file beside the log `LOG`; and what is said
+// of the folder `mt_server_tests_bad`.
+const BAD_NUMBERED: [(&str, Edits, usize, &str); 6] = [
+    // The other file; an open gate without a header; no logs.
+    (
+        "mt_server_tests_bad/wal-00-0",
+        &[],
+        26,
+        "E12: the log of worker 0 in 'mt_server_tests_bad' is no log from byte 0 on: put all files back from one backup",
+    ),
+    (
+        "mt_server_tests_bad/wal-00-0",
+        &[],
+        1,
+        "E12: the log of worker 0 in 'mt_server_tests_bad' is no log from byte 0 on: put all files back from one backup",
+    ),
+    (
+        "mt_server_tests_bad/wal-00-1",
+        &[(8, 0)],
+        26,
+        "E12: the log of worker 0 in 'mt_server_tests_bad' is no log from byte 0 on: put all files back from one backup",
+    ),
+    // An open gate without a batch; a start that isn't where the plain log ends; a generation without the one before it.
+    (
+        "mt_server_tests_bad/wal-00-1",
+        &[(25, 1)],
+        26,
+        "E12: the log of worker 0 in 'mt_server_tests_bad' is no log from byte 25 on: put all files back from one backup",
+    ),
+    (
+        "mt_server_tests_bad/wal-00-1",
+        &[(24, 5)],
+        26,
+        "E13: the log of worker 0 in 'mt_server_tests_bad' doesn't go with the other logs at step 5: put all files back from one backup",
+    ),
+    (
+        "mt_server_tests_bad/wal-00-1",
+        &[(16, 3)],
+        26,
+        "E15: the logs of 'mt_server_tests_bad' aren't all of one store; the folder has 1 log for 1 worker: put all files back from one backup",
+    ),
+];
+
+// A log with these bytes changed, cut to a length.
+fn image_with(alloc: Global, log: &[u8], edits: Edits, len: usize) -> Result<Vec<u8>, AllocError> {
+    let mut image = log.to_vec(alloc)?;
     for (place, byte) in edits {
         if let Some(old) = image.get_mut(*place) {
             *old = *byte;
@@ -168,8 +272,9 @@ fn image_with(alloc: Global, edits: Edits, len: usize) -> Result<Vec<u8>, AllocE
     Ok(image)
 }
 
-// A store in the folder `mt_server_tests_bad` whose logs are replaced by such ones is refused so.
-fn expect_refused<R: Files<File = File> + Clock + Log + Abort>(
+// A store in the folder `mt_server_tests_bad` whose plain files are replaced by such ones is refused so. It has no numbered
+// ones, as a store of an older server, and gets them before that.
+fn expect_refused<R: Files<File = File> + Alloc + Clock + Log + Abort>(
     rt: &R,
     alloc: Global,
     logs: &[Edits],
@@ -184,10 +289,55 @@ fn expect_refused<R: Files<File = File> + Clock + Log + Abort>(
     expect_told(rt, alloc, new.as_str(), 0, "");
     for (place, edits) in logs.iter().enumerate() {
         let path = format!(in alloc; "mt_server_tests_bad/wal-0{place}").expect(rt, "memory");
-        let image = image_with(alloc, edits, len).expect(rt, "memory");
+        let image = image_with(alloc, LOG, edits, len).expect(rt, "memory");
         fs::write(rt, path.as_str(), image.as_slice()).expect(rt, "a file");
     }
+    for worker in 0..workers {
+        remove_numbered(rt, alloc, worker);
+    }
     let line = new.strip_suffix(" --create").unwrap_or("");
+    expect_told(rt, alloc, line, 3, told);
+    for worker in 0..workers {
+        expect_spare(rt, alloc, worker);
+    }
+}
+
+// The paths of the numbered files of one of the first ten workers in that folder.
+fn numbered_of(alloc: Global, worker: usize) -> Result<[String; 2], AllocError> {
+    let even = format!(in alloc; "mt_server_tests_bad/wal-0{worker}-0")?;
+    let odd = format!(in alloc; "mt_server_tests_bad/wal-0{worker}-1")?;
+    Ok([even, odd])
+}
+
+// Removes the numbered files of a worker.
+fn remove_numbered<R: Files<File = File> + Abort>(rt: &R, alloc: Global, worker: usize) {
+    let [even, odd] = numbered_of(alloc, worker).expect(rt, "memory");
+    fs::remove_file(rt, even.as_str()).expect(rt, "a file");
+    fs::remove_file(rt, odd.as_str()).expect(rt, "a file");
+}
+
+// The numbered files of a worker are spare.
+fn expect_spare<R: Files<File = File> + Alloc + Abort>(rt: &R, alloc: Global, worker: usize) {
+    let [even, odd] = numbered_of(alloc, worker).expect(rt, "memory");
+    expect_file(rt, even.as_str(), &[SPARE]);
+    expect_file(rt, odd.as_str(), &[SPARE]);
+}
+
+// A store in that folder with the log `LOG` and such a numbered file is refused so.
+fn expect_numbered_refused<R: Files<File = File> + Clock + Log + Abort>(
+    rt: &R,
+    alloc: Global,
+    numbered: &str,
+    edits: Edits,
+    len: usize,
+    told: &str,
+) {
+    let new = "mt_server --workers 1 --store mt_server_tests_bad 7:1 --create";
+    expect_told(rt, alloc, new, 0, "");
+    let image = image_with(alloc, NEXT_LOG, edits, len).expect(rt, "memory");
+    fs::write(rt, numbered, image.as_slice()).expect(rt, "a file");
+    fs::write(rt, "mt_server_tests_bad/wal-00", LOG).expect(rt, "a file");
+    let line = "mt_server --workers 1 --store mt_server_tests_bad 7:1";
     expect_told(rt, alloc, line, 3, told);
 }
 
@@ -203,6 +353,9 @@ fn hostile_logs_are_refused(rt: HostRuntime) -> Result<(), Fail> {
     }
     for (logs, told) in REFUSED {
         expect_refused(&rt, alloc, logs, 55, told);
+    }
+    for (numbered, edits, len, told) in BAD_NUMBERED {
+        expect_numbered_refused(&rt, alloc, numbered, edits, len, told);
     }
     fs::remove_dir_all(&rt, "mt_server_tests_bad")?;
     Ok(())
@@ -222,9 +375,17 @@ pub(crate) fn opened<R: Files<File = File> + Clock + Log + Abort>(
     }
 }
 
+// The numbered files of the only worker, and the slots.
+const BESIDE_THE_LOG: [&str; 4] = [
+    "mt_server_tests_files/wal-00-0",
+    "mt_server_tests_files/wal-00-1",
+    "mt_server_tests_files/check-0",
+    "mt_server_tests_files/check-1",
+];
+
 // A settled put is in the file, in the bytes of the format. At the next start its log has grown by the batch
-// with which a recovery ends before anybody is served, and then the put is found. No checkpoint is written unasked; a
-// slot whose file is missing is made at the start.
+// with which a recovery ends before anybody is served, and then the put is found. No checkpoint is written unasked. A slot or
+// a numbered file that is missing is made at the start.
 #[test]
 fn a_store_comes_back_from_its_files(rt: HostRuntime) {
     let alloc = rt.alloc();
@@ -237,21 +398,15 @@ fn a_store_comes_back_from_its_files(rt: HostRuntime) {
     drop(left);
     drop(folder);
     expect_log(&rt, &[LOG]);
-    for slot in [
-        "mt_server_tests_files/check-0",
-        "mt_server_tests_files/check-1",
-    ] {
-        expect_file(&rt, slot, &[b"\x00"]);
-        assert!(rt; fs::remove_file(&rt, slot).is_ok());
+    for path in BESIDE_THE_LOG {
+        expect_file(&rt, path, &[SPARE]);
+        assert!(rt; fs::remove_file(&rt, path).is_ok());
     }
     let again = "mt_server --workers 1 --store mt_server_tests_files 7:100";
     let OpenStore { store, folder } = opened(&rt, alloc, again);
     expect_log(&rt, &[&LOG[..54], RESUME]);
-    for slot in [
-        "mt_server_tests_files/check-0",
-        "mt_server_tests_files/check-1",
-    ] {
-        expect_file(&rt, slot, &[b"\x00"]);
+    for path in BESIDE_THE_LOG {
+        expect_file(&rt, path, &[SPARE]);
     }
     let options = options_of(&rt, alloc, ONE_SESSION);
     let blank = Blank::new(65_536);

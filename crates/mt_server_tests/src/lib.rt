@@ -17,6 +17,8 @@ mod servers;
 #[cfg(test)]
 mod stores;
 #[cfg(test)]
+mod upgrades;
+#[cfg(test)]
 mod words;
 #[cfg(test)]
 mod workers;

@@ -10,13 +10,14 @@ use crate::clients::{
 use crate::words::options_of;
 use log::Log;
 use mt_disk::{Disk, MemDisk};
+use mt_log_files::WorkerFiles;
 use mt_options::Options;
 use mt_recover::LogSlot;
 use mt_rows::Tenants;
 use mt_service::run_server;
 use mt_slots::StoreSlots;
 use mt_stored::Store;
-use std::alloc::Global;
+use std::alloc::{AllocError, Global};
 use std::marker::{Brand, Send, Sync};
 use std::net::{Net, TcpListener, TcpStream};
 use std::process::Abort;
@@ -33,52 +34,83 @@ pub(crate) fn no_tenants(alloc: Global) -> Tenants
     Tenants::new(alloc)
 }
 
+// Tenant 7, which may have 100 pairs, and has none.
+fn tenant_7(rt: &impl Abort, alloc: Global) -> Tenants
+    ensures { HaveNoPairs result }
+{
+    let mut tenants = no_tenants(alloc);
+    assert!(rt; tenants.add(7, 100).is_ok());
+    tenants
+}
+
 /// A store of tenant 7, which may have 100 pairs, that keeps nothing.
 pub(crate) fn store_without_logs(rt: &impl Abort, alloc: Global) -> Store<MemDisk>
     ensures { result.source.state.answers ≡ 0 }
 {
-    let mut tenants = no_tenants(alloc);
-    assert!(rt; tenants.add(7, 100).is_ok());
+    let tenants = tenant_7(rt, alloc);
     Store::without_logs(alloc, tenants).expect(rt, "memory")
+}
+
+// A disk without a byte.
+fn bare_disk(alloc: Global) -> MemDisk {
+    MemDisk::new(alloc, Vec::new(alloc), None)
 }
 
 /// Slots on disks without a byte.
 pub(crate) fn bare_slots(alloc: Global) -> StoreSlots<MemDisk> {
-    let disk = || MemDisk::new(alloc, Vec::new(alloc), None);
-    StoreSlots::found(disk(), disk())
+    StoreSlots::found(bare_disk(alloc), bare_disk(alloc))
 }
 
-// A new store on this disk.
-fn new_store(rt: &impl Abort, alloc: Global, disk: MemDisk) -> Store<MemDisk>
+/// The files of a worker's log: a plain one on this disk, and two without a byte.
+pub(crate) fn files_on(alloc: Global, plain: MemDisk) -> WorkerFiles<MemDisk> {
+    WorkerFiles::closed(plain, bare_disk(alloc), bare_disk(alloc))
+}
+
+/// A new store of tenant 7, which may have 100 pairs, over the files of so many workers. Some calls of each plain file fail.
+pub(crate) fn new_store(
+    rt: &impl Abort,
+    alloc: Global,
+    workers: u8,
+    fails: &[u64],
+) -> Store<MemDisk>
     ensures { result.source.state.answers ≡ 0 }
 {
-    let mut tenants = no_tenants(alloc);
-    assert!(rt; tenants.add(7, 100).is_ok());
-    let mut disks = Vec::new(alloc);
-    assert!(rt; disks.push(disk).is_ok());
-    match Store::create(alloc, disks, bare_slots(alloc), tenants) {
+    let tenants = tenant_7(rt, alloc);
+    let mut files = Vec::new(alloc);
+    for _ in 0..workers {
+        let fails = fails.to_vec(alloc).expect(rt, "memory");
+        let plain = MemDisk::new(alloc, fails, None);
+        assert!(rt; files.push(files_on(alloc, plain)).is_ok());
+    }
+    assert!(rt; !files.is_empty() && files.len() <= 64);
+    match Store::create(alloc, files, bare_slots(alloc), tenants) {
         Ok(store) => store,
         Err(_) => panic!(rt; "no store is made"),
     }
 }
 
-// The store that a disk holds.
-fn recovered(rt: &impl Abort, alloc: Global, image: &[u8]) -> Store<MemDisk>
+// The store that a worker's files hold: its plain file and the odd one have these images, and the even one is empty.
+fn recovered(rt: &impl Abort, alloc: Global, plain: &[u8], odd: &[u8]) -> Store<MemDisk>
     ensures { result.source.state.answers ≡ 0 }
 {
-    let mut tenants = no_tenants(alloc);
-    assert!(rt; tenants.add(7, 100).is_ok());
-    let image = image.to_vec(alloc).expect(rt, "memory");
-    let disk = MemDisk::with_image(alloc, image, Vec::new(alloc), None).expect(rt, "memory");
-    let mut disks = Vec::new(alloc);
-    assert!(rt; disks.push(disk).is_ok());
-    match Store::recover(alloc, disks, bare_slots(alloc), tenants) {
+    let tenants = tenant_7(rt, alloc);
+    let plain = disk_with(alloc, plain).expect(rt, "memory");
+    let odd = disk_with(alloc, odd).expect(rt, "memory");
+    let mut files = Vec::new(alloc);
+    let own = WorkerFiles::closed(plain, bare_disk(alloc), odd);
+    assert!(rt; files.push(own).is_ok());
+    match Store::recover(alloc, files, bare_slots(alloc), tenants) {
         Ok(store) => store,
         Err(_) => panic!(rt; "no store is recovered"),
     }
 }
 
-// What the only log of a store has on its disk.
+/// A disk with this image.
+pub(crate) fn disk_with(alloc: Global, image: &[u8]) -> Result<MemDisk, AllocError> {
+    MemDisk::with_image(alloc, image.to_vec(alloc)?, Vec::new(alloc), None)
+}
+
+// What the last log of a store's only worker has in its file.
 fn image_of(rt: &impl Abort, alloc: Global, store: Store<MemDisk>) -> Vec<u8> {
     let (_, logs, _) = store.into_parts();
     assert_eq!(rt; logs.len(), 1);
@@ -103,6 +135,10 @@ pub(crate) const RESUME: &[u8] =
 // A log of 1 without a change, which goes up to the step before the last that there is.
 const LAST_LOG: &[u8] =
     b"MTLOG\x01\x00\x01\x01\x00\x00\x00\x19\x01\x00\x00\x00\x00\x00\x00\x00\x00\x07\xff\xff\xff\xff\xff\xff\xff\x07\xff\xff\xff\xff\xff\xff\xff\x00";
+
+// The log of generation 1 of the only worker, without batches, which begins after step 6.
+pub(crate) const NEXT_LOG: &[u8] =
+    b"\x01MTLOG\x03\x00\x01\x00\x00\x00\x00\x00\x00\x00\x01\x00\x00\x00\x00\x00\x00\x00\x06\x00";
 
 /// One session of one worker.
 pub(crate) const ONE_SESSION: &str = "mt_server --port 0 --workers 1 --sessions 1 7:100";
@@ -250,8 +286,7 @@ fn what_was_put_is_in_the_log(rt: HostRuntime) {
         (Scene::SettlesTwice, 7),
     ];
     for (scene, fail) in scenes {
-        let fails = [fail].to_vec(alloc).expect(&rt, "memory");
-        let store = new_store(&rt, alloc, MemDisk::new(alloc, fails, None));
+        let store = new_store(&rt, alloc, 1, &[fail]);
         let options = options_of(&rt, alloc, ONE_SESSION);
         let blank = Blank::new(65_536);
         let left = serve_scene::<Brand, _, _>(&rt, alloc, blank, store, options, scene);
@@ -266,7 +301,7 @@ fn what_was_put_is_there_again_and_numbers_stay_given(rt: HostRuntime) {
     for (log, scene) in [(LOG, Scene::Reads), (LAST_LOG, Scene::FindsAllSpent)] {
         let mut image = log.to_vec(alloc).expect(&rt, "memory");
         for _ in 0..2u32 {
-            let store = recovered(&rt, alloc, &image);
+            let store = recovered(&rt, alloc, &image, &[]);
             let options = options_of(&rt, alloc, ONE_SESSION);
             let blank = Blank::new(65_536);
             let left = serve_scene::<Brand, _, _>(&rt, alloc, blank, store, options, scene);
@@ -278,6 +313,23 @@ fn what_was_put_is_there_again_and_numbers_stay_given(rt: HostRuntime) {
     }
 }
 
+// A server starts twice from a log that goes on in a numbered file. What is in the plain one is found, and the numbered
+// one grows behind its header.
+#[test]
+fn a_log_that_goes_on_in_a_numbered_file_is_served(rt: HostRuntime) {
+    let alloc = rt.alloc();
+    let mut image = NEXT_LOG.to_vec(alloc).expect(&rt, "memory");
+    for scene in [Scene::PutsAnother, Scene::ReadsBoth] {
+        let store = recovered(&rt, alloc, LOG, &image);
+        let options = options_of(&rt, alloc, ONE_SESSION);
+        let blank = Blank::new(65_536);
+        let left = serve_scene::<Brand, _, _>(&rt, alloc, blank, store, options, scene);
+        image = image_of(&rt, alloc, left);
+        assert!(rt; image.starts_with(&NEXT_LOG[..25]));
+        assert!(rt; image.len() > NEXT_LOG.len());
+    }
+}
+
 // A server starts from a log of the old format, and puts another column into the row there. The next server finds both
 // columns in the same log.
 #[test]
@@ -285,7 +337,7 @@ fn a_log_of_the_old_format_is_carried_on(rt: HostRuntime) {
     let alloc = rt.alloc();
     let mut image = OLD_LOG.to_vec(alloc).expect(&rt, "memory");
     for scene in [Scene::PutsAnother, Scene::ReadsBoth] {
-        let store = recovered(&rt, alloc, &image);
+        let store = recovered(&rt, alloc, &image, &[]);
         let options = options_of(&rt, alloc, ONE_SESSION);
         let blank = Blank::new(65_536);
         let left = serve_scene::<Brand, _, _>(&rt, alloc, blank, store, options, scene);
@@ -299,7 +351,7 @@ fn a_log_of_the_old_format_is_carried_on(rt: HostRuntime) {
 fn a_stamp_is_met_after_a_start(rt: HostRuntime) {
     let alloc = rt.alloc();
     for log in [LOG, OLD_LOG] {
-        let store = recovered(&rt, alloc, log);
+        let store = recovered(&rt, alloc, log, &[]);
         let options = options_of(&rt, alloc, ONE_SESSION);
         let blank = Blank::new(65_536);
         let scene = Scene::MeetsStamp;

@@ -1,17 +1,16 @@
 //! A server of two workers, with a log and a client each.
 
-ghost use Rattle.std.specs.Prelude.{◌≡◌};
-ghost use Rattle.mt_state.specs.Begins.{HaveNoPairs};
+ghost use Rattle.std.specs.Prelude.{◌≡◌, ◌≤◌, vec_len, IfOk};
 
 use crate::clients::{FOUND, GET, NEW, OPEN, OPENED, PUT, connected, is_settled, is_told};
 use crate::servers::TWO_WORKERS;
-use crate::stores::{bare_slots, no_tenants, serve_all};
+use crate::stores::{disk_with, files_on, new_store, serve_all};
 use crate::words::options_of;
 use log::Log;
 use mt_disk::MemDisk;
 use mt_log::Front;
 use mt_recover::LogSlot;
-use mt_store_logs::{StoreLog, open_logs};
+use mt_store_logs::{NoWatch, StoreLog, closed_logs, open_logs};
 use mt_stored::Store;
 use std::alloc::{AllocError, Global};
 use std::io;
@@ -28,24 +27,6 @@ const PUT_L: &[u8] = b"\x00\x00\x00\x09\x03\x00\x01l\x01\x00\x00\x01v";
 
 /// `l` is asked for.
 const GET_L: &[u8] = b"\x00\x00\x00\x05\x02\x00\x01l\x00";
-
-// A new store of two logs.
-fn new_store(rt: &impl Abort, alloc: Global) -> Store<MemDisk>
-    ensures { result.source.state.answers ≡ 0 }
-{
-    let mut tenants = no_tenants(alloc);
-    assert!(rt; tenants.add(7, 100).is_ok());
-    let mut disks = Vec::new(alloc);
-    for _ in 0..2u32 {
-        let disk = MemDisk::new(alloc, Vec::new(alloc), None);
-        assert!(rt; disks.push(disk).is_ok());
-    }
-    assert!(rt; !disks.is_empty() && disks.len() <= 64);
-    match Store::create(alloc, disks, bare_slots(alloc), tenants) {
-        Ok(store) => store,
-        Err(_) => panic!(rt; "no store is made"),
-    }
-}
 
 // A client puts a key, gets it past the 1,024th answer, and settles; whether it is told what it should be.
 fn goes_on(client: &TcpStream, put: &[u8], get: &[u8]) -> io::Result<bool> {
@@ -69,25 +50,30 @@ fn play<R: Threads>(rt: &R, first: TcpStream, second: TcpStream) -> io::Result<b
     Ok(one? && other?)
 }
 
-// The logs of a store that has ended, closed, on what their disks hold.
+// What the plain file of a log holds, which is its last one, and open.
+fn copy_of(rt: &impl Abort, alloc: Global, log: &StoreLog<MemDisk>) -> Result<MemDisk, AllocError> {
+    assert_eq!(rt; log.generation(), 0);
+    match log.slot() {
+        LogSlot::Open(file) => disk_with(alloc, file.disk().image()),
+        LogSlot::Failed(_) | LogSlot::Closed(_) | LogSlot::Away => panic!(rt; "a log is closed"),
+    }
+}
+
+// The logs of a store that has ended, closed, on what their plain files hold.
 fn closed_again(
     rt: &impl Abort,
     alloc: Global,
     store: Store<MemDisk>,
-) -> Result<Vec<StoreLog<MemDisk>>, AllocError> {
+) -> Result<Vec<StoreLog<MemDisk>>, AllocError>
+    ensures few { IfOk result (λ logs. vec_len logs ≤ 64) }
+{
     let (_, logs, _) = store.into_parts();
-    let mut closed = Vec::new(alloc);
+    let mut files = Vec::new(alloc);
     for log in &logs {
-        let image = match log.slot() {
-            LogSlot::Open(log) => log.disk().image().to_vec(alloc)?,
-            LogSlot::Failed(_) | LogSlot::Closed(_) | LogSlot::Away => panic!(rt;
-                "a log is closed"
-            ),
-        };
-        let disk = MemDisk::with_image(alloc, image, Vec::new(alloc), None)?;
-        closed.push(StoreLog::closed(log.worker(), disk))?;
+        files.push(files_on(alloc, copy_of(rt, alloc, log)?))?;
     }
-    Ok(closed)
+    assert!(rt; files.len() <= 64);
+    closed_logs(alloc, files)
 }
 
 // Whether one change is in a log, and is of this key.
@@ -129,7 +115,7 @@ where
 {
     let (listener, _, first, second) = connected(rt).expect(rt, "a socket");
     let options = options_of(rt, alloc, TWO_WORKERS);
-    let store = new_store(rt, alloc);
+    let store = new_store(rt, alloc, 2, &[]);
     let (served, played) = thread::join(
         rt,
         move ||
@@ -148,9 +134,9 @@ fn each_worker_has_a_log_of_its_own(rt: HostRuntime) {
     let alloc = rt.alloc();
     let store = serve_two::<Brand, _>(&rt, alloc, Blank::new(65_536));
     let mut logs = closed_again(&rt, alloc, store).expect(&rt, "memory");
-    match open_logs(alloc, &mut logs) {
-        Ok(fronts) => {
-            let one_each = have_one_each(alloc, &fronts).expect(&rt, "memory");
+    match open_logs(alloc, &mut logs, &[None, None], &mut NoWatch) {
+        Ok(chains) => {
+            let one_each = have_one_each(alloc, &chains.fronts).expect(&rt, "memory");
             assert!(&rt; one_each);
         }
         Err(_) => panic!(&rt; "a log is not opened"),

@@ -1,12 +1,14 @@
 -- What is opened for a server, and why nothing is.
 use Rattle.std.specs.{Prelude.{◌≡◌, ◌⊎◌, ℕ, Bool, true, false, List, [], Option, Some, None, length}, Option.option_map}
-use Rattle.mt_rows.specs.Accounts.{Accounts}
+use Rattle.mt_rows.specs.{Accounts.Accounts, declared.refusal.Refusal.Refusal}
 use Rattle.mt_disk.specs.{Disk.{DiskState, found_with}, declared.cached.CachedDisk.CachedDisk, declared.file.OsFile.OsFile}
 use Rattle.mt_state.specs.{Views.StateView, Begins.new_state}
 use Rattle.mt_options.specs.{declared.options.Options.Options, declared.options.StorePlace.StorePlace, declared.tenants.TenantQuota.TenantQuota}
-use Rattle.mt_store_files.specs.{declared.fault.StoreFault.StoreFault, declared.fault.StoreFault.TheVariants.{Refused as RefusedStore, LogCount}}
+use Rattle.mt_store_files.specs.{declared.fault.StoreFault.StoreFault, declared.fault.StoreFault.TheVariants.{Refused as RefusedStore, RefusedLog, LogCount}}
 use Rattle.mt_store_files.specs.{declared.fault.FolderFault.FolderFault, Faults.{IsOfFolder, IsOfFiles, IsOfSlots}}
+use Rattle.mt_store_files.specs.declared.names.StoreFile.{StoreFile}
 use Rattle.mt_store_files.specs.declared.names.StoreFile.TheVariants.{Log, Slot}
+use Rattle.mt_log_files.specs.declared.worker.WorkerFiles.{WorkerFiles}
 use Rattle.mt_slots.specs.{declared.store_slots.StoreSlots.StoreSlots, Places.refusal_for}
 use Rattle.mt_store_logs.specs.{declared.fault.StoreRefusal.StoreRefusal, declared.fault.StoreRefusal.TheVariants.{Logs as OfLogs, Slot as OfSlot}}
 use Rattle.mt_store_logs.specs.{declared.store_log.StoreLog.StoreLog, Recovers.refusal_in}
@@ -33,14 +35,14 @@ failures file = file.1
 abbrev pub FileSlots : Type 0
 FileSlots = Option (StoreSlots FileDisk)
 
--- a store that was made anew on so many files and two slots, or recovered from them: its state, its logs and its slots
+-- a store that was made anew on the files of so many workers and two slots, or recovered from them: its state, its logs and its slots
 abbrev pub IsMadeOn : ℕ → Accounts → StateView → List (StoreLog FileDisk) → FileSlots → Type 0
 IsMadeOn workers accounts v logs slots =
-    (files : List FileDisk) × (bare : StoreSlots FileDisk) × (length files ≡ workers) × IsNewStore is_honest holds failures files bare accounts v logs slots
+    (files : List (WorkerFiles FileDisk)) × (bare : StoreSlots FileDisk) × (length files ≡ workers) × IsNewStore is_honest holds failures files bare accounts v logs slots
 
 abbrev pub IsRecoveredFrom : ℕ → Accounts → StateView → List (StoreLog FileDisk) → FileSlots → Type 0
 IsRecoveredFrom workers accounts v logs slots =
-    (files : List FileDisk) × (found : StoreSlots FileDisk) × (length files ≡ workers) × IsRecoveredStore is_honest holds failures files found accounts v logs slots
+    (files : List (WorkerFiles FileDisk)) × (found : StoreSlots FileDisk) × (length files ≡ workers) × IsRecoveredStore is_honest holds failures files found accounts v logs slots
 
 abbrev pub IsAtPlace : Bool → ℕ → Accounts → StateView → List (StoreLog FileDisk) → FileSlots → Type 0
 IsAtPlace true workers accounts v logs slots = IsMadeOn workers accounts v logs slots
@@ -58,9 +60,19 @@ pub record IsOpened (options : Options) (open_store : OpenStore) : Type 0 where
   pub named : IsNamed options.store options.workers accounts open_store.store.source.state open_store.store.logs.items open_store.store.slots
   pub untaken : open_store.store.source.state.answers ≡ 0
 
--- the refusal of a store as it is told: with the file that is the cause, if one is
+-- The plain file of the log that is the cause, if one is. Stamps that fall tell the worker whose log it is.
+abbrev pub plain_file : Option ℕ → Refusal → Option StoreFile
+plain_file log (refusals.StampsFall number stamp) = Some (Log number)
+plain_file log refusal = option_map Log log
+
+-- the refusal of logs as it is told: of a plain file; or of the log, if the disk of any of its files may have failed
+abbrev pub fault_at : Option ℕ → Refusal → StoreFault
+fault_at (Some worker) refusals.Device = RefusedLog worker refusals.Device
+fault_at log refusal = RefusedStore (plain_file log refusal) refusal
+
+-- that of a store: with the log or the slot that is the cause, if one is
 abbrev pub fault_of : StoreRefusal → StoreFault
-fault_of (OfLogs e) = RefusedStore (option_map Log e.log) e.refusal
+fault_of (OfLogs e) = fault_at e.log e.refusal
 fault_of (OfSlot e) = RefusedStore (Some (Slot e.slot)) (refusal_for e.cause)
 
 -- why a store is not made on its files, or not recovered from them
@@ -69,12 +81,17 @@ IsOfMaking workers fault = (why : StoreRefusal) × IsNotMade workers why × (fau
 
 abbrev pub IsNotRecoveredFrom : ℕ → Accounts → StoreRefusal → Type 0
 IsNotRecoveredFrom workers accounts why =
-    (files : List FileDisk) × (found : StoreSlots FileDisk) × (length files ≡ workers) × IsNotRecoveredStore is_honest holds failures files found accounts why
+    (files : List (WorkerFiles FileDisk)) × (found : StoreSlots FileDisk) × (length files ≡ workers) × IsNotRecoveredStore is_honest holds failures files found accounts why
 
--- A refusal of a store is told as it is; or, if its logs are no set, with how many workers asked for them.
+-- a fault is told as it is; or, of a plain file, as that of its log, which may have a numbered file too
+abbrev pub IsToldAs : StoreFault → StoreFault → Type 0
+IsToldAs (RefusedStore (Some (Log worker)) refusal) told = (told ≡ RefusedStore (Some (Log worker)) refusal) ⊎ (told ≡ RefusedLog worker refusal)
+IsToldAs fault told = told ≡ fault
+
+-- A refusal of a store is told so; or, if its logs are no set, with how many workers asked for them.
 abbrev pub Tells : ℕ → StoreRefusal → StoreFault → Type 0
 Tells workers why (LogCount counts) = (refusal_in why ≡ refusals.LogCount) × (counts.workers ≡ workers)
-Tells workers why fault = fault ≡ fault_of why
+Tells workers why told = IsToldAs (fault_of why) told
 
 abbrev pub IsOfRecovery : ℕ → Accounts → StoreFault → Type 0
 IsOfRecovery workers accounts fault = (why : StoreRefusal) × IsNotRecoveredFrom workers accounts why × Tells workers why fault

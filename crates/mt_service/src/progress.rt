@@ -4,6 +4,8 @@ ghost use Rattle.std.specs.Prelude.{◌≡◌, length};
 
 use log::{Log, warn};
 use mt_disk::{Disk, FileDisk};
+use mt_log_files::WorkerFiles;
+use mt_recover::LogSlot;
 use mt_store_logs::Watch;
 use std::time::{Clock, Instant};
 
@@ -13,8 +15,8 @@ const LONG_SECONDS: u64 = 2;
 /// A recovery of so many bytes is told of before it begins: it may last longer than that.
 const MANY_BYTES: u64 = 1 << 25;
 
-/// Warns how far a recovery is that lasts: before it begins if its logs are long, of each log that is read, and when
-/// it is over.
+/// Warns how far a recovery is that lasts: before it begins if its logs are long, of each log whose files are read,
+/// and when it is over.
 #[derive(Drop)]
 pub(crate) struct Progress<'a, R: Clock + Log> {
     rt: &'a R,
@@ -31,7 +33,7 @@ impl<'a, R: Clock + Log> Progress<'a, R> {
     }
 
     /// These logs are read next.
-    pub(crate) fn begin(&self, files: &mut [FileDisk])
+    pub(crate) fn begin(&self, files: &mut [WorkerFiles<FileDisk>])
         ensures { length files.new ≡ length files.old }
     {
         let logs = files.len();
@@ -59,22 +61,39 @@ impl<'a, R: Clock + Log> Progress<'a, R> {
 }
 
 impl<R: Clock + Log> Watch for Progress<'_, R> {
-    fn opened(&mut self, logs: usize, of: usize) {
+    fn opened_numbered(&mut self, workers: usize, of: usize) {
         if self.long().is_some() {
-            let log = logs.saturating_sub(1);
-            warn!(self.rt; "recovering: log {log} is read, {logs} of {of}");
+            let log = workers.saturating_sub(1);
+            warn!(self.rt; "recovering: the numbered files of log {log} are read, {workers} of {of}");
+        }
+    }
+
+    fn opened_plain(&mut self, workers: usize, of: usize) {
+        if self.long().is_some() {
+            let log = workers.saturating_sub(1);
+            warn!(self.rt; "recovering: log {log} is read, {workers} of {of}");
         }
     }
 }
 
-// How many bytes files have; one that doesn't tell has none.
-fn bytes_in(files: &mut [FileDisk]) -> u64
+// How many bytes the files of logs have.
+fn bytes_in(files: &mut [WorkerFiles<FileDisk>]) -> u64
     ensures { length files.new ≡ length files.old }
 {
     let mut bytes: u64 = 0;
     for place in 0..files.len() {
-        let len = files[place].len().unwrap_or(0);
-        bytes = bytes.saturating_add(len as u64);
+        bytes = bytes
+            .saturating_add(bytes_of(&mut files[place].plain))
+            .saturating_add(bytes_of(&mut files[place].even))
+            .saturating_add(bytes_of(&mut files[place].odd));
     }
     bytes
+}
+
+// How many bytes a file has. One that doesn't tell, or is open already, counts for none.
+fn bytes_of(slot: &mut LogSlot<FileDisk>) -> u64 {
+    match slot {
+        LogSlot::Closed(disk) => disk.len().unwrap_or(0) as u64,
+        _ => 0,
+    }
 }

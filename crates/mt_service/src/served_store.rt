@@ -2,7 +2,7 @@
 
 ghost use Rattle.std.specs.Prelude.{◌≡◌, ◌≤◌, true, false, IfOk, IfErr};
 ghost use Rattle.mt_state.specs.Begins.{HaveNoPairs};
-ghost use Rattle.mt_service.specs.ServedStore.{IsOpened, IsOfOpening, IsMadeOn, IsRecoveredFrom, IsOfPlace, IsAtPlace, fault_of, Tells};
+ghost use Rattle.mt_service.specs.ServedStore.{IsOpened, IsOfOpening, IsMadeOn, IsRecoveredFrom, IsOfPlace, IsAtPlace, fault_of, plain_file, IsToldAs, Tells};
 
 use crate::accounts::accounts_of;
 use crate::faults::ServerFault;
@@ -146,14 +146,27 @@ fn refused(why: StoreRefusal) -> StoreFault
         StoreRefusal::Logs(
             LogRefusal {
                 log: Some(worker),
-                refusal,
+                refusal: Refusal::Device,
             },
-        ) => StoreFault::Refused(Some(StoreFile::Log(worker)), refusal),
-        StoreRefusal::Logs(LogRefusal { log: None, refusal }) => StoreFault::Refused(None, refusal),
+        ) => StoreFault::RefusedLog(worker, Refusal::Device),
+        StoreRefusal::Logs(LogRefusal { log, refusal }) => {
+            StoreFault::Refused(plain_file(log, refusal), refusal)
+        }
         StoreRefusal::Slot(SlotFault { slot, cause }) => StoreFault::Refused(
             Some(StoreFile::Slot(slot)),
             cause.refusal(),
         ),
+    }
+}
+
+// The plain file of the log that is the cause, if one is.
+fn plain_file(log: Option<usize>, refusal: Refusal) -> Option<StoreFile>
+    ensures { result ≡ plain_file log refusal }
+{
+    match (log, refusal) {
+        (_, Refusal::StampsFall { number, .. }) => Some(StoreFile::Log(usize::from(number))),
+        (Some(worker), _) => Some(StoreFile::Log(worker)),
+        (None, _) => None,
     }
 }
 
@@ -172,6 +185,27 @@ fn not_recovered<R: Files<File = File>>(
             Ok(counts) => StoreFault::LogCount(counts),
             Err(_) => refused(why),
         },
-        _ => refused(why),
+        _ => told_as(rt, alloc, folder, refused(why)),
+    }
+}
+
+// A fault of a plain file, told of the log and no file if a numbered file of its worker may have a log too.
+fn told_as<R: Files<File = File>>(
+    rt: &R,
+    alloc: Global,
+    folder: &StoreFolder,
+    fault: StoreFault,
+) -> StoreFault
+    ensures { IsToldAs fault result }
+{
+    match fault {
+        StoreFault::Refused(Some(StoreFile::Log(worker)), refusal) => {
+            if folder.may_have_numbered(rt, alloc, worker) {
+                StoreFault::RefusedLog(worker, refusal)
+            } else {
+                StoreFault::Refused(Some(StoreFile::Log(worker)), refusal)
+            }
+        }
+        fault => fault,
     }
 }

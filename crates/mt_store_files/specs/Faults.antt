@@ -1,8 +1,8 @@
 -- Why a store isn't served: the refusal, the exit status, and which calls may tell what.
 use Rattle.std.specs.Prelude.{◌≡◌, ℕ, ◌<◌, Some, None}
 use Rattle.mt_rows.specs.declared.refusal.Refusal.{Refusal}
-use Rattle.mt_store_files.specs.{declared.names.StoreFile.StoreFile, declared.names.StoreFile.TheVariants.{Log, Slot}, declared.fault.StoreFault.StoreFault}
-use Rattle.mt_store_files.specs.declared.fault.StoreFault.TheVariants.{InUse, NoFolder, NoLog, System, Memory, LogCount, Refused}
+use Rattle.mt_store_files.specs.{declared.names.StoreFile.StoreFile, declared.names.StoreFile.TheVariants.{Log, Numbered, Slot}, declared.fault.StoreFault.StoreFault}
+use Rattle.mt_store_files.specs.declared.fault.StoreFault.TheVariants.{InUse, NoFolder, NoLog, System, Memory, LogCount, Refused, RefusedLog}
 use Rattle.mt_rows.specs.declared.refusal.Refusal.TheVariants as refusals
 
 -- the refusal by whose number a fault is told
@@ -10,17 +10,20 @@ abbrev pub refusal_of : StoreFault → Refusal
 refusal_of InUse = refusals.Device
 refusal_of NoFolder = refusals.LogCount
 refusal_of (NoLog worker counts) = refusals.LogCount
-refusal_of (System worker error) = refusals.Device
+refusal_of (System file error) = refusals.Device
 refusal_of Memory = refusals.Memory
 refusal_of (LogCount counts) = refusals.LogCount
-refusal_of (Refused worker refusal) = refusal
+refusal_of (Refused file refusal) = refusal
+refusal_of (RefusedLog worker refusal) = refusal
 
 -- 1 where the device or memory failed, 3 where the store is refused
 abbrev pub status_of : StoreFault → ℕ
-status_of (System worker error) = 1
+status_of (System file error) = 1
 status_of Memory = 1
-status_of (Refused worker refusals.Device) = 1
-status_of (Refused worker refusals.Memory) = 1
+status_of (Refused file refusals.Device) = 1
+status_of (Refused file refusals.Memory) = 1
+status_of (RefusedLog worker refusals.Device) = 1
+status_of (RefusedLog worker refusals.Memory) = 1
 status_of fault = 3
 
 -- why a folder isn't opened
@@ -31,14 +34,33 @@ IsOfFolder (System None error) = Unit {0}
 IsOfFolder Memory = Unit {0}
 IsOfFolder fault = ⊥
 
+-- a file of the log of one of so many workers
+abbrev pub IsOfWorkers : ℕ → StoreFile → Type 0
+IsOfWorkers workers (Log worker) = worker < workers
+IsOfWorkers workers (Numbered worker parity) = worker < workers
+IsOfWorkers workers file = ⊥
+
 -- why the files of so many logs aren't opened or made; of one that is missing it is told how many were asked for
 abbrev pub IsOfFiles : ℕ → StoreFault → Type 0
 IsOfFiles logs (NoLog worker counts) = (worker < logs) × (counts.workers ≡ logs)
-IsOfFiles logs (System (Some (Log worker)) error) = worker < logs
+IsOfFiles logs (System (Some file) error) = IsOfWorkers logs file
 IsOfFiles logs (System None error) = Unit {0}
-IsOfFiles logs (Refused (Some (Log worker)) refusals.Device) = worker < logs
+IsOfFiles logs (Refused (Some file) refusals.Device) = IsOfWorkers logs file
 IsOfFiles logs Memory = Unit {0}
 IsOfFiles logs fault = ⊥
+
+-- a file of this worker's log
+abbrev pub IsFileOf : ℕ → StoreFile → Type 0
+IsFileOf worker (Log other) = other ≡ worker
+IsFileOf worker (Numbered other parity) = other ≡ worker
+IsFileOf worker file = ⊥
+
+-- why the files of one worker's log aren't opened, made or removed
+abbrev pub IsOfLog : ℕ → StoreFault → Type 0
+IsOfLog worker (System (Some file) error) = IsFileOf worker file
+IsOfLog worker (Refused (Some file) refusals.Device) = IsFileOf worker file
+IsOfLog worker Memory = Unit {0}
+IsOfLog worker fault = ⊥
 
 -- why the files of both slots aren't opened or made
 abbrev pub IsOfSlots : StoreFault → Type 0

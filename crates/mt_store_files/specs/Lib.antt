@@ -1,3 +1,3 @@
 pub mod Faults
 pub mod Names
-pub mod Slots
+pub mod Made

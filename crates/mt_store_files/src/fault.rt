@@ -33,6 +33,8 @@ pub enum StoreFault {
     LogCount(LogCounts),
     /// What stands in this file was refused, or that of all logs together.
     Refused(Option<StoreFile>, Refusal),
+    /// The log of this worker was refused. Which of its files is the cause isn't known.
+    RefusedLog(usize, Refusal),
 }
 
 impl StoreFault {
@@ -45,7 +47,7 @@ impl StoreFault {
             StoreFault::NoFolder | StoreFault::NoLog(_, _) | StoreFault::LogCount(_) =>
                 Refusal::LogCount,
             StoreFault::Memory => Refusal::Memory,
-            StoreFault::Refused(_, refusal) => *refusal,
+            StoreFault::Refused(_, refusal) | StoreFault::RefusedLog(_, refusal) => *refusal,
         }
     }
 
@@ -56,12 +58,14 @@ impl StoreFault {
         match self {
             StoreFault::System(_, _)
             | StoreFault::Memory
-            | StoreFault::Refused(_, Refusal::Device | Refusal::Memory) => 1,
+            | StoreFault::Refused(_, Refusal::Device | Refusal::Memory)
+            | StoreFault::RefusedLog(_, Refusal::Device | Refusal::Memory) => 1,
             StoreFault::InUse
             | StoreFault::NoFolder
             | StoreFault::NoLog(_, _)
             | StoreFault::LogCount(_)
-            | StoreFault::Refused(_, _) => 3,
+            | StoreFault::Refused(_, _)
+            | StoreFault::RefusedLog(_, _) => 3,
         }
     }
 }
@@ -96,17 +100,29 @@ impl fmt::Display for LogCounts {
     }
 }
 
-// A file, or the folder.
+// A file, the log of a worker, or the folder.
 #[derive(Clone, Copy)]
-struct Place<'a>(&'a str, Option<StoreFile>);
+enum Place<'a> {
+    File(&'a str, StoreFile),
+    Log(&'a str, usize),
+    Folder(&'a str),
+}
 
 impl fmt::Display for Place<'_> {
     fn fmt<W: fmt::Write>(&self, f: &mut fmt::Formatter<W>) -> fmt::Result {
-        let Place(folder, file) = *self;
-        match file {
-            Some(file) => write!(f, "'{folder}/{file}'"),
-            None => write!(f, "the folder '{folder}'"),
+        match *self {
+            Place::File(folder, file) => write!(f, "'{folder}/{file}'"),
+            Place::Log(folder, worker) => write!(f, "the log of worker {worker} in '{folder}'"),
+            Place::Folder(folder) => write!(f, "the folder '{folder}'"),
         }
+    }
+}
+
+// A file, or else the folder.
+fn place_of(folder: &str, file: Option<StoreFile>) -> Place<'_> {
+    match file {
+        Some(file) => Place::File(folder, file),
+        None => Place::Folder(folder),
     }
 }
 
@@ -124,7 +140,7 @@ impl fmt::Display for FolderFault {
                 "{number}: there is no folder '{folder}': name the store's, or make a new store by --create"
             ),
             StoreFault::NoLog(worker, counts) => {
-                let place = Place(folder, Some(StoreFile::Log(usize::from(*worker))));
+                let place = Place::File(folder, StoreFile::Log(usize::from(*worker)));
                 write!(
                     f,
                     "{number}: {place} is missing; {counts}: {}",
@@ -132,7 +148,7 @@ impl fmt::Display for FolderFault {
                 )
             }
             StoreFault::System(file, error) => {
-                let place = Place(folder, *file);
+                let place = place_of(folder, *file);
                 write!(f, "{number}: {place}: {error}")
             }
             StoreFault::Memory => write!(f, "{number}: out of memory"),
@@ -141,7 +157,12 @@ impl fmt::Display for FolderFault {
                 "{number}: the logs of '{folder}' aren't all of one store; {counts}: {}",
                 remedy(*counts)
             ),
-            StoreFault::Refused(file, refusal) => told(f, folder, *file, *refusal),
+            StoreFault::Refused(file, refusal) => {
+                told(f, folder, place_of(folder, *file), *refusal)
+            }
+            StoreFault::RefusedLog(worker, refusal) => {
+                told(f, folder, Place::Log(folder, *worker), *refusal)
+            }
         }
     }
 }
@@ -157,14 +178,13 @@ fn remedy(counts: LogCounts) -> &'static str {
     }
 }
 
-// Which file or folder it is, and what to do.
+// Which file, log or folder it is, and what to do.
 fn told<W: fmt::Write>(
     f: &mut fmt::Formatter<W>,
     folder: &str,
-    file: Option<StoreFile>,
+    place: Place<'_>,
     refusal: Refusal,
 ) -> fmt::Result {
-    let place = Place(folder, file);
     match refusal {
         Refusal::Memory => write!(f, "{refusal}: out of memory"),
         Refusal::NoTenant(tenant) => write!(
@@ -179,13 +199,10 @@ fn told<W: fmt::Write>(
             f,
             "{refusal}: {place} is no log from byte {offset} on: put all files back from one backup"
         ),
-        Refusal::StampsFall { number, stamp } => {
-            let place = Place(folder, Some(StoreFile::Log(usize::from(number))));
-            write!(
-                f,
-                "{refusal}: {place} doesn't go with the other logs at step {stamp}: put all files back from one backup"
-            )
-        }
+        Refusal::StampsFall { stamp, .. } => write!(
+            f,
+            "{refusal}: {place} doesn't go with the other logs at step {stamp}: put all files back from one backup"
+        ),
         Refusal::OverQuota(tenant) => write!(
             f,
             "{refusal}: tenant {tenant} has more pairs in '{folder}' than its quota: give it a greater one"

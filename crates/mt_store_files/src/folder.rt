@@ -1,12 +1,16 @@
 //! A store's folder, and its files as disks.
 
 ghost use Rattle.std.specs.Prelude.{◌≡◌, ◌<◌, ◌≤◌, IsTrue, IfOk, IfErr, OnOk, vec_len};
-ghost use Rattle.mt_store_files.specs.{declared.names.StoreFile.TheVariants.{Slot as SlotFile}, Faults.{IsOfFolder, IsOfFiles, IsOfSlots, IsOfFile}, Slots.IsMadeIfEmpty};
+ghost use Rattle.mt_checkpoint.specs.Checkpoints.{IsClosedAtRest};
+ghost use Rattle.mt_gates.specs.Gates.{IsGivenUp};
+ghost use Rattle.mt_store_files.specs.{declared.names.StoreFile.TheVariants.{Numbered as NumberedFile, Slot as SlotFile}, Faults.{IsOfFolder, IsOfFiles, IsOfLog, IsOfSlots, IsOfFile}, Made.IsMadeIfEmpty};
 
 use crate::fault::{LogCounts, StoreFault};
 use crate::names::{StoreFile, file_path, parent_path};
 use mt_checkpoint::create_slot;
 use mt_disk::{DeviceFailed, Disk, FileDisk, OsFile};
+use mt_log_files::WorkerFiles;
+use mt_log_generations::{HeaderFault, Parity, create_spare, read_header};
 use mt_rows::Refusal;
 use mt_slots::{Slot, StoreSlots};
 use std::alloc::{AllocError, Global};
@@ -14,7 +18,7 @@ use std::fs::{self, File, OpenOptions, TryLockError};
 use std::io::{self, ErrorKind};
 use std::rt::Files;
 
-/// So many workers a store may have, and so many files.
+/// So many workers a store may have, each with a log.
 const MAX_LOGS: u8 = 64;
 
 /// A store's folder. No other server has it open while this lives.
@@ -67,36 +71,63 @@ impl StoreFolder {
         }
     }
 
-    /// The files of so many logs, in the order of their workers. Each has to be there.
+    /// The files of so many logs, in the order of their workers. Each worker's plain file has to be there, unless a numbered
+    /// one of its files has a log: then it is made without a byte. A numbered file that isn't there, or has no byte, is made a
+    /// spare one. A crash in that may leave anything of it.
     pub fn open_logs<R: Files<File = File>>(
         &self,
         rt: &R,
         alloc: Global,
         logs: u8,
-    ) -> Result<Vec<FileDisk>, StoreFault>
-        ensures all { IfOk result (λ disks. vec_len disks ≡ logs) }
+    ) -> Result<Vec<WorkerFiles<FileDisk>>, StoreFault>
+        ensures all { IfOk result (λ files. vec_len files ≡ logs) }
         ensures fault { IfErr result (IsOfFiles logs) }
     {
-        let mut disks = Vec::new(alloc);
+        self.find_logs(rt, alloc, logs)?;
+        let mut files = Vec::new(alloc);
         for worker in 0..logs {
-            match open_file(
-                rt,
-                alloc,
-                self.path.as_str(),
-                StoreFile::Log(usize::from(worker)),
-            )? {
-                Some(disk) => disks.push(disk)?,
-                None => {
-                    let counts = self.count_logs(rt, alloc, logs)?;
-                    return Err(StoreFault::NoLog(worker, counts));
-                }
-            }
+            files.push(open_log(rt, alloc, self.path.as_str(), usize::from(worker))?)?;
         }
-        Ok(disks)
+        match self.lock.sync_all() {
+            Ok(()) => Ok(files),
+            Err(error) => Err(StoreFault::System(None, error)),
+        }
     }
 
-    /// How many logs the folder has for so many workers, of the 64 that it may have. A file that can't be
-    /// looked at isn't counted.
+    // Whether each of so many workers has a log. The fault is of the first one that has none.
+    fn find_logs<R: Files<File = File>>(
+        &self,
+        rt: &R,
+        alloc: Global,
+        logs: u8,
+    ) -> Result<(), StoreFault>
+        ensures fault { IfErr result (IsOfFiles logs) }
+    {
+        for worker in 0..logs {
+            if !has_log(rt, alloc, self.path.as_str(), usize::from(worker))? {
+                let counts = self.count_logs(rt, alloc, logs)?;
+                return Err(StoreFault::NoLog(worker, counts));
+            }
+        }
+        Ok(())
+    }
+
+    /// Whether a numbered file of a worker has a log, or may have one: it can't be looked at, or its gate is open before no
+    /// header.
+    pub fn may_have_numbered<R: Files<File = File>>(
+        &self,
+        rt: &R,
+        alloc: Global,
+        worker: usize,
+    ) -> bool {
+        match has_numbered(rt, alloc, self.path.as_str(), worker) {
+            Ok(has) => has,
+            Err(_) => true,
+        }
+    }
+
+    /// How many logs the folder has for so many workers, of the 64 that it may have, by their plain files. One that
+    /// can't be looked at isn't counted.
     pub fn count_logs<R: Files<File = File>>(
         &self,
         rt: &R,
@@ -121,41 +152,31 @@ impl StoreFolder {
     }
 
     /// The files of so many logs made anew, without a byte, in the order of their workers. All logs that
-    /// stood in the folder are lost. Behind an error the folder may have any of the files.
+    /// stood in the folder are lost. After an error the folder may have any of the files.
     pub fn create_logs<R: Files<File = File>>(
         &self,
         rt: &R,
         alloc: Global,
         logs: u8,
-    ) -> Result<Vec<FileDisk>, StoreFault>
+    ) -> Result<Vec<WorkerFiles<FileDisk>>, StoreFault>
         requires { logs ≤ 64 }
-        ensures all { IfOk result (λ disks. vec_len disks ≡ logs) }
+        ensures all { IfOk result (λ files. vec_len files ≡ logs) }
         ensures fault { IfErr result (IsOfFiles 64) }
     {
         for worker in 0..MAX_LOGS {
-            remove_file(
-                rt,
-                alloc,
-                self.path.as_str(),
-                StoreFile::Log(usize::from(worker)),
-            )?;
+            remove_log(rt, alloc, self.path.as_str(), usize::from(worker))?;
         }
-        let mut disks = Vec::new(alloc);
+        let mut files = Vec::new(alloc);
         for worker in 0..logs {
-            disks.push(create_file(
-                rt,
-                alloc,
-                self.path.as_str(),
-                StoreFile::Log(usize::from(worker)),
-            )?)?;
+            files.push(create_log(rt, alloc, self.path.as_str(), usize::from(worker))?)?;
         }
         match self.lock.sync_all() {
-            Ok(()) => Ok(disks),
+            Ok(()) => Ok(files),
             Err(error) => Err(StoreFault::System(None, error)),
         }
     }
 
-    /// The files of both slots made anew, without a byte. What stood in them is lost. Behind an error the folder
+    /// The files of both slots made anew, without a byte. What stood in them is lost. After an error the folder
     /// may have any of the files.
     pub fn create_slots<R: Files<File = File>>(
         &self,
@@ -247,6 +268,132 @@ fn open_or_make<R: Files<File = File>>(
     }
 }
 
+// Whether a worker has a log: its plain file is there, or a numbered one has a log.
+fn has_log<R: Files<File = File>>(
+    rt: &R,
+    alloc: Global,
+    folder: &str,
+    worker: usize,
+) -> Result<bool, StoreFault>
+    ensures fault { IfErr result (IsOfLog worker) }
+{
+    let path = file_path(alloc, folder, StoreFile::Log(worker))?;
+    match fs::exists(rt, path.as_str()) {
+        Ok(false) => has_numbered(rt, alloc, folder, worker),
+        Ok(true) | Err(_) => Ok(true),
+    }
+}
+
+// Whether a numbered file of a worker has a log, or an open gate before no header.
+fn has_numbered<R: Files<File = File>>(
+    rt: &R,
+    alloc: Global,
+    folder: &str,
+    worker: usize,
+) -> Result<bool, StoreFault>
+    ensures fault { IfErr result (IsOfLog worker) }
+{
+    if is_log(rt, alloc, folder, worker, Parity::Even)? {
+        return Ok(true);
+    }
+    is_log(rt, alloc, folder, worker, Parity::Odd)
+}
+
+// Whether this numbered file of a worker has a log, or an open gate before no header.
+fn is_log<R: Files<File = File>>(
+    rt: &R,
+    alloc: Global,
+    folder: &str,
+    worker: usize,
+    parity: Parity,
+) -> Result<bool, StoreFault>
+    ensures fault { IfErr result (IsOfLog worker) }
+{
+    let name = StoreFile::Numbered(worker, parity);
+    let Some(mut disk) = open_file(rt, alloc, folder, name)? else {
+        return Ok(false);
+    };
+    match read_header(&mut disk) {
+        Ok(None) => Ok(false),
+        Ok(Some(_)) | Err(HeaderFault::Bad(_)) => Ok(true),
+        Err(HeaderFault::Device) => Err(StoreFault::Refused(Some(name), Refusal::Device)),
+    }
+}
+
+// The files of a worker's log. A plain one that isn't there is made without a byte; a numbered one that isn't there, or
+// has no byte, is made a spare one.
+fn open_log<R: Files<File = File>>(
+    rt: &R,
+    alloc: Global,
+    folder: &str,
+    worker: usize,
+) -> Result<WorkerFiles<FileDisk>, StoreFault>
+    ensures fault { IfErr result (IsOfLog worker) }
+{
+    let plain = open_or_make(rt, alloc, folder, StoreFile::Log(worker))?;
+    let even = open_numbered(rt, alloc, folder, worker, Parity::Even)?;
+    let odd = open_numbered(rt, alloc, folder, worker, Parity::Odd)?;
+    Ok(WorkerFiles::closed(plain, even, odd))
+}
+
+// A numbered file, which is made a spare one if it isn't there, or has no byte.
+fn open_numbered<R: Files<File = File>>(
+    rt: &R,
+    alloc: Global,
+    folder: &str,
+    worker: usize,
+    parity: Parity,
+) -> Result<FileDisk, StoreFault>
+    ensures fault { IfErr result (IsOfFile (NumberedFile worker parity)) }
+{
+    let name = StoreFile::Numbered(worker, parity);
+    let mut disk = open_or_make(rt, alloc, folder, name)?;
+    match spare_if_empty(&mut disk) {
+        Ok(()) => Ok(disk),
+        Err(_) => Err(StoreFault::Refused(Some(name), Refusal::Device)),
+    }
+}
+
+// Makes a spare file of a disk that has no byte.
+fn spare_if_empty<D: Disk>(disk: &mut D) -> Result<(), DeviceFailed>
+    ensures made { IsTrue (D.is_honest disk.old) → OnOk result (IsMadeIfEmpty IsGivenUp (D.state disk.old) (D.state disk.new)) }
+    ensures honest { D.is_honest disk.new ≡ D.is_honest disk.old }
+{
+    match disk.len()? {
+        0 => create_spare(disk),
+        _ => Ok(()),
+    }
+}
+
+// The files of a worker's log, made anew without a byte.
+fn create_log<R: Files<File = File>>(
+    rt: &R,
+    alloc: Global,
+    folder: &str,
+    worker: usize,
+) -> Result<WorkerFiles<FileDisk>, StoreFault>
+    ensures fault { IfErr result (IsOfLog worker) }
+{
+    let plain = create_file(rt, alloc, folder, StoreFile::Log(worker))?;
+    let even = create_file(rt, alloc, folder, StoreFile::Numbered(worker, Parity::Even))?;
+    let odd = create_file(rt, alloc, folder, StoreFile::Numbered(worker, Parity::Odd))?;
+    Ok(WorkerFiles::closed(plain, even, odd))
+}
+
+// Removes the files of a worker's log, if there are any.
+fn remove_log<R: Files<File = File>>(
+    rt: &R,
+    alloc: Global,
+    folder: &str,
+    worker: usize,
+) -> Result<(), StoreFault>
+    ensures fault { IfErr result (IsOfLog worker) }
+{
+    remove_file(rt, alloc, folder, StoreFile::Log(worker))?;
+    remove_file(rt, alloc, folder, StoreFile::Numbered(worker, Parity::Even))?;
+    remove_file(rt, alloc, folder, StoreFile::Numbered(worker, Parity::Odd))
+}
+
 // The file of a slot, which is made a slot if it isn't there, or has no byte.
 fn open_slot<R: Files<File = File>>(
     rt: &R,
@@ -266,7 +413,7 @@ fn open_slot<R: Files<File = File>>(
 
 // Makes a slot, without a checkpoint, of a disk that has no byte.
 fn make_if_empty<D: Disk>(disk: &mut D) -> Result<(), DeviceFailed>
-    ensures made { IsTrue (D.is_honest disk.old) → OnOk result (IsMadeIfEmpty (D.state disk.old) (D.state disk.new)) }
+    ensures made { IsTrue (D.is_honest disk.old) → OnOk result (IsMadeIfEmpty IsClosedAtRest (D.state disk.old) (D.state disk.new)) }
     ensures honest { D.is_honest disk.new ≡ D.is_honest disk.old }
 {
     if disk.len()? == 0 {

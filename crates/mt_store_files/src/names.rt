@@ -3,6 +3,7 @@
 ghost use Rattle.std.specs.Prelude.{◌≡◌, ◌++◌, codes, IfOk};
 ghost use Rattle.mt_store_files.specs.Names.{file_name};
 
+use mt_log_generations::Parity;
 use mt_slots::Slot;
 use std::alloc::{AllocError, Global};
 use std::fmt;
@@ -10,8 +11,11 @@ use std::fmt;
 /// A file of a store. It is printed as its name.
 #[derive(Clone, Copy, Debug, PartialEq, Eq)]
 pub enum StoreFile {
-    /// The log of a worker: `wal-` and the worker in two digits.
+    /// The plain file of a worker's log, which has generation 0: `wal-` and the worker in two digits.
     Log(usize),
+    /// A numbered file of a worker's log, which has even or odd generations after that: the plain file's name, and `-0`
+    /// or `-1`.
+    Numbered(usize, Parity),
     /// A slot of the store's checkpoints: `check-0` or `check-1`.
     Slot(Slot),
 }
@@ -26,6 +30,14 @@ impl fmt::Display for StoreFile {
             StoreFile::Log(worker) => {
                 let (tens, ones) = (worker / 10, worker % 10);
                 write!(f, "wal-{tens}{ones}")
+            }
+            StoreFile::Numbered(worker, Parity::Even) => {
+                let (tens, ones) = (worker / 10, worker % 10);
+                write!(f, "wal-{tens}{ones}-0")
+            }
+            StoreFile::Numbered(worker, Parity::Odd) => {
+                let (tens, ones) = (worker / 10, worker % 10);
+                write!(f, "wal-{tens}{ones}-1")
             }
             StoreFile::Slot(Slot::First) => f.write_str("check-0"),
             StoreFile::Slot(Slot::Second) => f.write_str("check-1"),

@@ -1,9 +1,9 @@
 -- One more in a walk over a list whose elements are written one by one, and its end.
-use Rattle.std.proofs.Common.{◌≡◌, ◌≢◌, ◌⊎◌, inl, inr, ⊎_elim, ℕ, zero, suc, ◌+◌, ◌<◌, ◌≤◌, List, [], ◌∷◌, length, refl, sym, ◌∙◌, ap, subst, arith, Some}
+use Rattle.std.proofs.Common.{◌≡◌, ◌≢◌, ◌⊎◌, inl, inr, ⊎_elim, ℕ, zero, suc, ◌+◌, ◌<◌, ◌≤◌, List, [], ◌∷◌, length, map, refl, sym, ◌∙◌, ap, subst, arith, Some}
 use Rattle.std.proofs.{lemmas.List.length-set, lemmas.Option.same_Some}
 use Rattle.std.specs.Prelude.{◌++◌, slice_get, slice_set, slice_index_or, Result, Ok, Err, OnErr}
 use Rattle.mt_crashes.proofs.{Members.no_some, Invariant.within_place}
-use Rattle.mt_store_logs.specs.{declared.store_log.StoreLog.StoreLog, Places.workers_of, Lists.{EachBefore, Each, StopsAt}}
+use Rattle.mt_store_logs.specs.{declared.store_log.StoreLog.StoreLog, Places.{worker_of, workers_of}, Lists.{EachBefore, Each, StopsAt}}
 
 -- what stands in a list in which one element was written
 set_cases : {X : Type 0} (xs : List X) (i k : ℕ) (y z : X) → slice_get (slice_set xs i y) k ≡ Some z
@@ -44,11 +44,11 @@ pub same_len : {X : Type 0} (place : ℕ) (old now : List X) (new : X) → lengt
 same_len place old now new len = length-set now place new ∙ len
 
 -- a log that is written again is of the same worker
-pub same_workers : {D : Type 0} (place : ℕ) (logs : List (StoreLog D)) (new d : StoreLog D) → new.worker ≡ (slice_index_or logs place d).worker
+pub same_workers : {D : Type 0} (place : ℕ) (logs : List (StoreLog D)) (new d : StoreLog D) → worker_of new ≡ worker_of (slice_index_or logs place d)
     → workers_of (slice_set logs place new) ≡ workers_of logs
 same_workers place [] new d same = refl
 same_workers zero (log ∷ logs) new d same = ap (λ w. w ∷ workers_of logs) same
-same_workers (suc place) (log ∷ logs) new d same = ap (λ ws. log.worker ∷ ws) (same_workers place logs new d same)
+same_workers (suc place) (log ∷ logs) new d same = ap (λ ws. worker_of log ∷ ws) (same_workers place logs new d same)
 
 -- all of them are
 pub walked : {X : Type 0} (R : ℕ → X → X → Type 0) (place : ℕ) (old now : List X) → length now ≡ length old → EachBefore R place old now
@@ -109,18 +109,18 @@ below_or_not (suc m) zero = inr (omega arith)
 below_or_not (suc m) (suc n) = ⊎_elim (λ l. inl (omega (arith, l))) (λ r. inr (omega (arith, r))) (below_or_not m n)
 
 -- those before a place are in the relation, and all others in another one that each thing has to itself
-pub so_far : {X : Type 0} (R : ℕ → X → X → Type 0) (S : X → X → Type 0) (place : ℕ) (old now : List X) (new : X) → ((x : X) → S x x)
+pub so_far : {X : Type 0} (R S : ℕ → X → X → Type 0) (place : ℕ) (old now : List X) (new : X) → ((k : ℕ) (x : X) → S k x x)
     → length now ≡ length old → EachBefore R place old now → ((k : ℕ) → place ≤ k → slice_get now k ≡ slice_get old k)
-    → ((was : X) → slice_get old place ≡ Some was → S was new) → Each (λ k was is. S was is ⊎ R k was is) old (slice_set now place new)
+    → ((was : X) → slice_get old place ≡ Some was → S place was new) → Each (λ k was is. S k was is ⊎ R k was is) old (slice_set now place new)
 so_far R S place old now new same len before left at = record {
   len = same_len place old now new len;
   each = λ k was is below there then.
       ⊎_elim
-      (λ l. inl (subst (S was) (sym l.1) (at was (subst (λ (n : ℕ). slice_get old n ≡ Some was) l.0 there))))
+      (λ l. inl (subst (λ (n : ℕ). S n was is) (sym l.0) (subst (S place was) (sym l.1) (at was (subst (λ (n : ℕ). slice_get old n ≡ Some was) l.0 there)))))
       (λ r.
       ⊎_elim
       (λ earlier. inr (before k was is earlier there r.1))
-      (λ later. inl (subst (S was) (same_Some was is (sym there ∙ sym (left k later) ∙ r.1)) (same was)))
+      (λ later. inl (subst (S k was) (same_Some was is (sym there ∙ sym (left k later) ∙ r.1)) (same k was)))
       (below_or_not k place))
       (set_cases now place k new is then);
 }
@@ -128,3 +128,43 @@ so_far R S place old now new same len before left at = record {
 pub on_err : {A E P : Type 0} (r : Result A E) → P → OnErr r P
 on_err (Ok x) p = tt
 on_err (Err e) p = p
+
+-- what each of them is in turn
+pub each_of : {X : Type 0} (R S : ℕ → X → X → Type 0) (old new : List X) → ((k : ℕ) (was is : X) → R k was is → S k was is) → Each R old new → Each S old new
+each_of R S old new so all = record { len = all.len; each = λ k was is below there then. so k was is (all.each k was is below there then) }
+
+-- what is so of all pairs before a place and of the pair there, is so of all before the next place
+pub pairs_more : {X Y : Type 0} (P : X → Y → Type 0) (place : ℕ) (xs : List X) (ys : List Y) (x : X) (y : Y) → slice_get xs place ≡ Some x → slice_get ys place ≡ Some y
+    → ((k : ℕ) (a : X) (b : Y) → k < place → slice_get xs k ≡ Some a → slice_get ys k ≡ Some b → P a b) → P x y
+    → (k : ℕ) (a : X) (b : Y) → k < place + 1 → slice_get xs k ≡ Some a → slice_get ys k ≡ Some b → P a b
+pairs_more P place xs ys x y at_x at_y before here k a b below at_a at_b =
+    ⊎_elim
+    (λ earlier. before k a b earlier at_a at_b)
+    (λ later.
+    let same : k ≡ place = omega (arith, below, later) in
+    subst (λ (z : _). P z b) (same_Some x a (sym at_x ∙ subst (λ (n : ℕ). slice_get xs n ≡ Some a) same at_a))
+    (subst (P x) (same_Some y b (sym at_y ∙ subst (λ (n : ℕ). slice_get ys n ≡ Some b) same at_b)) here))
+    (below_or_not k place)
+
+-- a list that has at each place what is made of the element there
+pub made_of : {X Y : Type 0} (f : X → Y) (xs : List X) (ys : List Y) → length ys ≡ length xs → ((k : ℕ) (x : X) → slice_get xs k ≡ Some x → slice_get ys k ≡ Some (f x))
+    → ys ≡ map f xs
+made_of f [] [] len at = refl
+made_of f [] (y ∷ ys) len at = absurd (omega (arith, len))
+made_of f (x ∷ xs) [] len at = absurd (omega (arith, len))
+made_of f (x ∷ xs) (y ∷ ys) len at =
+    let rest = made_of f xs ys (omega (arith, len)) (λ k z there. at (suc k) z there) in
+    ap (λ h. h ∷ ys) (same_Some y (f x) (at zero x refl)) ∙ ap (λ t. f x ∷ t) rest
+
+-- one more of them
+pub made_more : {X Y : Type 0} (f : X → Y) (place : ℕ) (xs : List X) (ys : List Y) (x : X) → length ys ≡ place → slice_get xs place ≡ Some x
+    → ((k : ℕ) (z : X) → k < place → slice_get xs k ≡ Some z → slice_get ys k ≡ Some (f z))
+    → (k : ℕ) (z : X) → k < place + 1 → slice_get xs k ≡ Some z → slice_get (ys ++ f x ∷ []) k ≡ Some (f z)
+made_more f place xs ys x len here before k z below there =
+    ⊎_elim
+    (λ earlier. get_more ys (f x ∷ []) k (f z) (before k z earlier there))
+    (λ later.
+    let same : k ≡ place = omega (arith, below, later) in
+    let is = same_Some x z (sym here ∙ subst (λ (n : ℕ). slice_get xs n ≡ Some z) same there) in
+    subst (λ (n : ℕ). slice_get (ys ++ f x ∷ []) n ≡ Some (f z)) (sym same) (get_last ys place (f x) len ∙ ap (λ (w : _). Some (f w)) is))
+    (below_or_not k place)

@@ -1,4 +1,6 @@
 pub mod Lists
+pub mod Kinds
+pub mod Opens
 pub mod Places
 pub mod Waits
 pub mod Flushes
@@ -7,3 +9,6 @@ pub mod Recovers
 pub mod OldBases
 pub mod Crashes
 pub mod Shows
+pub mod Ends
+pub mod Turns
+pub mod Taking

@@ -1,5 +1,5 @@
 -- What a crash may leave of a running store's log, and how the batch that waits for it goes on from there.
-use Rattle.std.specs.Prelude.{◌≡◌, ◌⊎◌, ℕ, Bool, IsTrue, Option, Some, None}
+use Rattle.std.specs.Prelude.{◌≡◌, ◌≢◌, ◌⊎◌, ℕ, Bool, Option, Some, None}
 use Rattle.mt_rows.specs.declared.record.Batch.{Batch}
 use Rattle.mt_batches.specs.Batches.{IsInOrder}
 use Rattle.mt_disk.specs.Disk.{DiskState}
@@ -7,7 +7,7 @@ use Rattle.mt_log.specs.{declared.batch.LogBatch.TheVariants.Records}
 use Rattle.mt_log.specs.Contents.{IsBatch, mark_of, with_batch}
 use Rattle.mt_crashes.specs.Stores.{LogNow, at_rest, MayLeaveFront}
 pub use Rattle.mt_log_files.specs.Shows.{LeavesEither, ShowsClosed, ShowsFailed, Shows, IsHonest}
-use Rattle.mt_store_logs.specs.declared.store_log.StoreLog.{StoreLog}
+use Rattle.mt_store_logs.specs.declared.last_log.LastLog.{LastLog}
 
 -- a batch waits that goes on where a log ends, and no other batch is in doubt
 pub record Waits (now : LogNow) (b : Batch) : Type 0 where
@@ -20,8 +20,8 @@ abbrev pub WaitsIn : LogNow → Option Batch → Type 0
 WaitsIn now None = now.doubt ≡ None
 WaitsIn now (Some b) = Waits now b
 
--- a log of a running store, on a disk that keeps the rules
-pub record Stands {D : Type 0} (is_honest : D → Bool) (state : D → DiskState) (now : LogNow) (log : StoreLog D) : Type 0 where
+-- the last log of a worker in a running store, on a disk that keeps the rules
+pub record LastStands {D : Type 0} (is_honest : D → Bool) (state : D → DiskState) (now : LogNow) (log : LastLog D) : Type 0 where
   pub honest : IsHonest is_honest log.slot
   pub shows : Shows state now log.slot
   pub waits : WaitsIn now log.kept
@@ -31,11 +31,12 @@ abbrev pub drained_upto : LogNow → Option Batch → ℕ
 drained_upto now None = mark_of now.had
 drained_upto now (Some b) = b.to
 
--- an append of a batch may begin
+-- an append of a batch may begin: the log does not end where the batch does
 pub record MayBegin (now : LogNow) (b : Batch) : Type 0 where
   pub rests : now.doubt ≡ None
   pub fits : IsBatch b
   pub turn : b.from ≡ mark_of now.had
+  pub past : b.to ≢ mark_of now.had
 
 -- it has begun, and has succeeded
 abbrev pub begun : LogNow → Batch → LogNow

@@ -3,6 +3,7 @@
 ghost use Rattle.std.specs.Prelude.{◌≡◌, None, Some};
 ghost use Rattle.mt_store_logs.specs.Recovers.{refusal_in};
 
+use mt_chain_files::FilesFault;
 use mt_rows::Refusal;
 use mt_slots::SlotFault;
 
@@ -30,6 +31,19 @@ impl LogRefusal {
         ensures { result ≡ record { log = None; refusal = refusal } }
     {
         LogRefusal { log: None, refusal }
+    }
+}
+
+impl From<FilesFault> for LogRefusal {
+    ghost use Rattle.mt_store_logs.specs.Taking.{fault_of};
+
+    ghost from_gives = { λ fault e. fault_of e ≡ fault };
+
+    fn from(fault: FilesFault) -> LogRefusal {
+        LogRefusal {
+            log: fault.log,
+            refusal: fault.refusal,
+        }
     }
 }
 

@@ -9,21 +9,27 @@
 //! Units: steps, as records are stamped with them.
 #![tactic(auto)]
 
+mod by_kind;
 mod crashing;
 mod fault;
 mod flushing;
+mod last_log;
 pub mod laws;
+mod next_log;
 mod opening;
 mod recovering;
 mod source;
 mod store_log;
-mod watching;
+mod taking;
+mod turning;
 
-pub use crashing::crash_logs;
+pub use crashing::{FileImages, crash_logs};
 pub use fault::{LogRefusal, StoreRefusal};
 pub use flushing::{Flushed, bring_up, flush};
+pub use last_log::{LastLog, WaitingBatch};
+pub use mt_chain_files::{Chains, NoWatch, Watch};
 pub use opening::{closed_logs, create_logs, open_logs};
 pub use recovering::recover_store;
 pub use source::Source;
-pub use store_log::{StoreLog, WaitingBatch};
-pub use watching::{NoWatch, Watch};
+pub use store_log::StoreLog;
+pub use turning::flush_and_begin;

@@ -1,26 +1,27 @@
-//! A store brought up again: its logs opened, its slots read, and each log with the batch with which a recovery ends.
+//! A store brought up again: its slots read, its logs opened, and each with the batch with which a recovery ends.
 
-ghost use Rattle.std.specs.Prelude.{◌≡◌, ◌≤◌, ◌^◌, IfOk, IfErr, OnOk};
-ghost use Rattle.mt_store_logs.specs.{Places.workers_of, Recovers.{used_slot, AreOpenUpto, ResumesAll, StopsResuming, ServesAgain, IsNotRecovered}};
+ghost use Rattle.std.specs.Prelude.{◌≡◌, ◌≤◌, ◌^◌, length, IfOk, IfErr, OnOk};
+ghost use Rattle.mt_recover.specs.Resumes.{IsOpenUpto};
+ghost use Rattle.mt_store_logs.specs.{Places.{slot_of, worker_of, workers_of}, Recovers.{used_slot, AreOpenUpto, ResumesLog, FailsToResumeLog, ResumesAll, StopsResuming, ServesAgain, IsNotRecovered}};
 
 use crate::fault::{LogRefusal, StoreRefusal};
-use crate::opening::open_watched;
+use crate::opening::open_logs;
 use crate::store_log::StoreLog;
-use crate::watching::Watch;
+use mt_chain_files::{Chains, Watch};
 use mt_disk::Disk;
 use mt_recover::{Recovered, recover, resume_at};
-use mt_rows::Tenants;
+use mt_rows::{Refusal, Tenants};
 use mt_slots::{Slot, StoreSlots};
 use std::alloc::Global;
 
-/// Opens the logs of a store, reads its slots, recovers it from what both tell, and appends to each log the batch
-/// with which a recovery ends. Then all logs are open, go up to the step from which the store goes on, and keep no
-/// batch. The checkpoint that was used is the newest one. Somebody is told how far the logs are.
+/// Reads the slots of a store, opens the files of its logs, recovers it from what both tell, and appends to the last log of
+/// each worker the batch with which a recovery ends. Then the last logs are open, go up to the step from which the store
+/// goes on, and keep no batch. The checkpoint that was used is the newest one. `watch` is told how far the opening is.
 ///
-/// An error tells the log that was not opened or got no such batch, the slot that was not read, or, of all logs,
-/// why there is no recovery. No slot is read before all logs are open, and nothing is appended before both slots
-/// were read. No disk is lost, and what a crash may leave of each is what it might before, or that with the batch:
-/// the store can be recovered again, with or without a crash.
+/// An error tells the slot that was not read, the log that was not opened or got no such batch, or, of all logs, why there
+/// is no recovery. No file of a log is opened before both slots were read, and nothing is appended before all files are
+/// open. No disk is lost, and what a crash may leave of each is what it might before, or that with the batch. So the store
+/// can be recovered again, with or without a crash.
 pub fn recover_store<D: Disk + Drop, W: Watch>(
     alloc: Global,
     logs: &mut [StoreLog<D>],
@@ -28,12 +29,17 @@ pub fn recover_store<D: Disk + Drop, W: Watch>(
     tenants: &Tenants,
     watch: &mut W,
 ) -> Result<Recovered, StoreRefusal>
+    requires few { length logs.old ≤ 64 }
     ensures workers { workers_of logs.new ≡ workers_of logs.old }
     ensures ok { IfOk result (λ recovered. ServesAgain D.is_honest D.state D.failures tenants.now recovered logs.old slots.old logs.new slots.new) }
     ensures err { IfErr result (λ e. IsNotRecovered D.is_honest D.state D.failures tenants.now e logs.old slots.old logs.new slots.new) }
 {
-    let fronts = open_watched(alloc, logs, watch)?;
     let read = slots.read(alloc)?;
+    let Chains {
+        generation: _,
+        fronts,
+        begun: _,
+    } = open_logs(alloc, logs, &read, watch)?;
     let recovered = match recover(alloc, fronts, read, tenants) {
         Ok(recovered) => recovered,
         Err(refusal) => return Err(StoreRefusal::Logs(LogRefusal::of_all(refusal))),
@@ -67,9 +73,9 @@ fn resume_logs<D: Disk + Drop>(
     ensures err { IfErr result (λ e. StopsResuming D.is_honest D.state D.failures recovered.now.cutoff recovered.now.resume e logs.old logs.new) }
 {
     for place in 0..logs.len() {
-        if let Err(refusal) = resume_at(
+        if let Err(refusal) = resume_log(
             alloc,
-            &mut logs[place].slot,
+            &mut logs[place],
             recovered.cutoff,
             recovered.resume,
         ) {
@@ -77,4 +83,24 @@ fn resume_logs<D: Disk + Drop>(
         }
     }
     Ok(())
+}
+
+// Appends it to the last log of one worker.
+fn resume_log<D: Disk + Drop>(
+    alloc: Global,
+    log: &mut StoreLog<D>,
+    kept: u64,
+    to: u64,
+) -> Result<(), Refusal>
+    requires open { IsOpenUpto to (slot_of log.old) }
+    requires kept { kept ≤ to }
+    requires last { to ≤ 2 ^ 59 }
+    ensures worker { worker_of log.new ≡ worker_of log.old }
+    ensures ok { OnOk result (ResumesLog D.is_honest D.state D.failures kept to log.old log.new) }
+    ensures err { IfErr result (λ e. FailsToResumeLog D.is_honest D.state D.failures kept to e log.old log.new) }
+{
+    let mut last = log.take_last();
+    let resumed = resume_at(alloc, &mut last.slot, kept, to);
+    log.put_last(last);
+    resumed
 }

@@ -1,124 +1,80 @@
-//! A log's place in a running store, and the batch that waits for it.
+//! The log of a worker in a running store, and the batch that waits for it.
 
-ghost use Rattle.std.specs.Prelude.{◌≡◌, ◌↔◌, ◌≢◌, None, Some, IsTrue, IfOk, IfErr, OnOk};
+ghost use Rattle.std.specs.Prelude.{◌≡◌, ◌↔◌, ◌≢◌, false, None, IsTrue, IfErr, OnOk};
 ghost use Rattle.mt_batches.specs.Batches.{IsBounded};
-ghost use Rattle.mt_log.specs.Contents.{IsBatch};
-ghost use Rattle.mt_recover.specs.{declared.resuming.LogSlot.LogSlot, declared.resuming.LogSlot.TheVariants.{Open, Failed, Closed}};
-ghost use Rattle.mt_store_logs.specs.Places.{log_with, mark_in};
-ghost use Rattle.mt_store_logs.specs.Waits.{AppendsKept, FailsToAppend, AppendsNew, FailsToAppendNew, opened_with, Reopens, FailsToReopen};
+ghost use Rattle.mt_turns.specs.{Logs.IsWith, Turns.{GivesUpOlder, FailsToGiveUpOlder}};
+ghost use Rattle.mt_store_logs.specs.Places.{last_log_of, mark_in, slot_of, worker_of, with_last, without_last, no_files, OnLast};
+ghost use Rattle.mt_store_logs.specs.Turns.{OnLog, BeginsNextLog, FailsToBeginNextLog, LooksForNext, FailsToLook, ReopensLog, FailsToReopenLog};
+ghost use Rattle.mt_store_logs.specs.Waits.{AppendsKept, FailsToAppend, AppendsNew, FailsToAppendNew, Reopens, FailsToReopen};
 
+use crate::last_log::{LastLog, WaitingBatch};
+use crate::next_log::{find_next, put_files, take_files};
 use mt_disk::Disk;
 use mt_drains::DrainedBatch;
-use mt_log::laws::a_bounded_batch_is_taken;
-use mt_log::{AppendFault, FailedLog, LogFile};
-use mt_log_files::open_disk;
+use mt_log_files::WorkerFiles;
 use mt_recover::LogSlot;
-use mt_rows::{Batch, Refusal};
+use mt_rows::Refusal;
+use mt_turns::WorkerLog;
 use std::alloc::Global;
-use std::marker::Model;
-use std::mem;
 
-/// A batch that waits for its log, which takes it: it has 4,096 records at most. Seen as a `Batch`.
-#[derive(Debug, Drop)]
-pub struct WaitingBatch {
-    batch: Batch,
-}
-
-impl Model for WaitingBatch {
-    ghost use Rattle.mt_batches.specs.Batches.{IsBounded};
-    ghost use Rattle.mt_rows.specs.declared.record.Batch.{Batch};
-
-    ghost Value = { Batch };
-
-    ghost view = { λ w. w.batch };
-
-    ghost invariant = { λ w. IsBounded w.batch };
-}
-
-impl WaitingBatch {
-    fn new(batch: Batch) -> Self
-        requires { IsBounded batch }
-        ensures { result ≡ batch }
-    {
-        WaitingBatch { batch }
-    }
-
-    /// The step up to which it goes.
-    pub fn to(&self) -> u64
-        ensures { result ≡ self.now.to }
-    {
-        self.batch.to
-    }
-
-    // The batch, which an append takes.
-    fn into_batch(self) -> Batch
-        ensures is { result ≡ self }
-        ensures bounded { IsBounded result }
-        ensures taken { IsBatch result }
-    {
-        a_bounded_batch_is_taken();
-        let WaitingBatch { batch } = self;
-        batch
-    }
-}
-
-/// The log of a worker: its place, and the batch that it keeps. That one was drained, and the log is not known
-/// to have it. It goes into the log before any other, and the next one drained begins where it ends.
+/// The log of a worker over its three files, and the batch that it keeps. That one was drained, and the log is not known
+/// to have it. It goes into the log before any other, and the next one drained begins where it ends. Batches go to the last
+/// log of the worker. If a disk failed as the next log was begun, that one may be there or not, and it is looked for before
+/// the last one is opened again.
 #[derive(Drop)]
 pub struct StoreLog<D: Disk> {
-    worker: u8,
-    pub(crate) slot: LogSlot<D>,
-    pub(crate) kept: Option<WaitingBatch>,
-}
-
-// What an append made of a log and of the batch.
-#[derive(Drop)]
-struct Appending<D: Disk> {
-    log: StoreLog<D>,
-    told: Result<(), Refusal>,
+    log: WorkerLog<D>,
+    kept: Option<WaitingBatch>,
+    next_in_doubt: bool,
 }
 
 impl<D: Disk + Drop> StoreLog<D> {
-    /// A worker's log that keeps no batch.
-    pub fn new(worker: u8, slot: LogSlot<D>) -> Self
-        ensures { result ≡ log_with worker slot None }
+    /// A worker's log that keeps no batch. Its last log is the one that is told.
+    pub fn new(log: WorkerLog<D>) -> Self
+        ensures log { result.log ≡ log }
+        ensures none { result.kept ≡ None }
+        ensures sure { result.next_in_doubt ≡ false }
     {
         StoreLog {
-            worker,
-            slot,
+            log,
             kept: None,
+            next_in_doubt: false,
         }
-    }
-
-    /// A worker's log on this disk, which has to be opened or made.
-    pub fn closed(worker: u8, disk: D) -> Self
-        ensures { result ≡ log_with worker (Closed disk) None }
-    {
-        StoreLog::new(worker, LogSlot::Closed(disk))
     }
 
     /// Whose log it is.
     pub fn worker(&self) -> u8
-        ensures { result ≡ self.now.worker }
+        ensures { result ≡ worker_of self.now }
     {
-        self.worker
+        self.log.worker()
     }
 
-    /// The log's place.
+    /// The last generation of which it has a log.
+    pub fn generation(&self) -> u64
+        ensures { result ≡ self.now.log.generation }
+    {
+        self.log.generation()
+    }
+
+    /// Its files, and which of them has the last log.
+    pub fn log(&self) -> &WorkerLog<D>
+        ensures { result.now ≡ self.now.log }
+    {
+        &self.log
+    }
+
+    /// The place of its last log.
     pub fn slot(&self) -> &LogSlot<D>
-        ensures { result.now ≡ self.now.slot }
+        ensures { result.now ≡ slot_of self.now }
     {
-        &self.slot
+        self.log.last()
     }
 
-    /// The step up to which an open log goes; none of a closed one.
+    /// The step up to which its last log goes, if that is open.
     pub fn mark(&self) -> Option<u64>
-        ensures { result ≡ mark_in self.now.slot }
+        ensures { result ≡ mark_in (slot_of self.now) }
     {
-        match &self.slot {
-            LogSlot::Open(log) => Some(log.mark()),
-            LogSlot::Failed(_) | LogSlot::Closed(_) | LogSlot::Away => None,
-        }
+        self.log.mark()
     }
 
     /// Whether a batch is kept.
@@ -128,176 +84,165 @@ impl<D: Disk + Drop> StoreLog<D> {
         self.kept.is_some()
     }
 
+    // Takes its last log out. Its place is empty then.
+    pub(crate) fn take_last(&mut self) -> LastLog<D>
+        ensures last { result ≡ last_log_of self.old }
+        ensures rest { self.new ≡ without_last self.old }
+    {
+        let slot = self.log.replace_last(LogSlot::Away);
+        LastLog {
+            worker: self.log.worker(),
+            generation: self.log.generation(),
+            slot,
+            kept: self.kept.take(),
+        }
+    }
+
+    // Puts a last log in its place.
+    pub(crate) fn put_last(&mut self, last: LastLog<D>)
+        ensures { self.new ≡ with_last last self.old }
+    {
+        let LastLog {
+            worker: _,
+            generation: _,
+            slot,
+            kept,
+        } = last;
+        let _was = self.log.replace_last(slot);
+        self.kept = kept;
+    }
+
     /// Appends the batch that is kept, if there is one, unless the log goes up to its end already. An error
     /// keeps it; the log is as it was, unless its disk failed. Then it has the batch whole or not at all, and
     /// has to be opened again.
     pub fn append_kept(&mut self, alloc: Global) -> Result<(), Refusal>
-        ensures worker { self.new.worker ≡ self.old.worker }
-        ensures ok { OnOk result (AppendsKept D.is_honest D.state D.failures self.old self.new) }
-        ensures err { IfErr result (λ e. FailsToAppend D.is_honest D.state D.failures e self.old self.new) }
+        ensures worker { worker_of self.new ≡ worker_of self.old }
+        ensures ok { OnOk result (OnLast (AppendsKept D.is_honest D.state D.failures) self.old self.new) }
+        ensures err { IfErr result (λ e. OnLast (FailsToAppend D.is_honest D.state D.failures e) self.old self.new) }
     {
-        match mem::replace(&mut self.slot, LogSlot::Away) {
-            LogSlot::Open(file) => {
-                let Appending { log, told } = append_kept_to(
-                    alloc,
-                    self.worker,
-                    file,
-                    self.kept.take(),
-                );
-                *self = log;
-                told
-            }
-            other => {
-                self.slot = other;
-                Err(Refusal::Device)
-            }
-        }
+        let mut last = self.take_last();
+        let told = last.append_kept(alloc);
+        self.put_last(last);
+        told
     }
 
     /// Appends a batch of the log's worker. An error keeps it, as `append_kept` does; it is `WrongTurn` if the
     /// batch begins elsewhere than the log ends.
     pub fn append(&mut self, alloc: Global, drained: DrainedBatch) -> Result<(), Refusal>
-        requires whose { drained.worker ≡ self.old.worker }
+        requires whose { drained.worker ≡ worker_of self.old }
         requires none { self.old.kept ≡ None }
         requires bounded { IsBounded drained.batch }
-        ensures worker { self.new.worker ≡ self.old.worker }
-        ensures ok { OnOk result (AppendsNew D.is_honest D.state D.failures drained.batch self.old self.new) }
-        ensures err { IfErr result (λ e. FailsToAppendNew D.is_honest D.state D.failures e drained.batch self.old self.new) }
+        ensures worker { worker_of self.new ≡ worker_of self.old }
+        ensures ok { OnOk result (OnLast (AppendsNew D.is_honest D.state D.failures drained.batch) self.old self.new) }
+        ensures err { IfErr result (λ e. OnLast (FailsToAppendNew D.is_honest D.state D.failures e drained.batch) self.old self.new) }
     {
-        let from = drained.batch().from;
-        self.kept = Some(WaitingBatch::new(drained.into_batch()));
-        match self.mark() {
-            Some(mark) if mark != from => Err(Refusal::WrongTurn(mark)),
-            _ => self.append_kept(alloc),
-        }
+        let mut last = self.take_last();
+        let told = last.append(alloc, drained);
+        self.put_last(last);
+        told
     }
 
-    /// Opens a log again that isn't open, and appends the batch that is kept unless the log has it. An error
-    /// keeps the batch. Only a `Closed` log is read.
+    /// Opens the log again if it isn't open, and appends the batch that is kept unless the log has it. If the next log may be
+    /// there or not, it is looked for first, and it is the last one if it is there.
+    ///
+    /// An error keeps the batch. Only a `Closed` log is read: a plain file in generation 0, else a numbered one. If that has
+    /// no log, the error is `LogCount`. As long as the next log may be there or not, the last one is not opened.
     pub fn reopen(&mut self, alloc: Global) -> Result<(), Refusal>
-        ensures worker { self.new.worker ≡ self.old.worker }
-        ensures ok { OnOk result (Reopens D.is_honest D.state D.failures self.old self.new) }
-        ensures err { IfErr result (λ e. FailsToReopen D.is_honest D.state D.failures e self.old self.new) }
+        ensures worker { worker_of self.new ≡ worker_of self.old }
+        ensures ok { OnOk result (ReopensLog D.is_honest D.state D.failures self.old self.new) }
+        ensures err { IfErr result (λ e. FailsToReopenLog D.is_honest D.state D.failures e self.old self.new) }
     {
-        match mem::replace(&mut self.slot, LogSlot::Away) {
-            LogSlot::Open(file) => {
-                self.slot = LogSlot::Open(file);
-                self.append_kept(alloc)
-            }
-            LogSlot::Failed(log) => self.reopen_failed(alloc, log),
-            LogSlot::Closed(disk) => self.reopen_closed(alloc, disk),
-            LogSlot::Away => self.append_kept(alloc),
-        }
+        self.look_for_next(alloc)?;
+        self.reopen_last(alloc)
     }
 
-    // Opens a log again on which an append failed, into an empty place.
-    fn reopen_failed(&mut self, alloc: Global, log: FailedLog<D>) -> Result<(), Refusal>
-        ensures worker { self.new.worker ≡ self.old.worker }
-        ensures ok { OnOk result (Reopens D.is_honest D.state D.failures (log_with self.old.worker (Failed log) self.old.kept) self.new) }
-        ensures err { IfErr result (λ e. FailsToReopen D.is_honest D.state D.failures e (log_with self.old.worker (Failed log) self.old.kept) self.new) }
+    // Opens the last log again.
+    fn reopen_last(&mut self, alloc: Global) -> Result<(), Refusal>
+        ensures worker { worker_of self.new ≡ worker_of self.old }
+        ensures ok { OnOk result (OnLast (Reopens D.is_honest D.state D.failures) self.old self.new) }
+        ensures err { IfErr result (λ e. OnLast (FailsToReopen D.is_honest D.state D.failures e) self.old self.new) }
     {
-        match log.reopen() {
-            Ok(file) => {
-                self.slot = LogSlot::Open(file);
-                self.append_kept(alloc)
+        let mut last = self.take_last();
+        let told = last.reopen(alloc);
+        self.put_last(last);
+        told
+    }
+
+    // Opens the file for the next log again, if that log may be there or not. An error leaves it so.
+    fn look_for_next(&mut self, alloc: Global) -> Result<(), Refusal>
+        ensures worker { worker_of self.new ≡ worker_of self.old }
+        ensures ok { OnOk result (LooksForNext D.is_honest D.state D.failures self.old self.new) }
+        ensures err { IfErr result (λ e. FailsToLook D.is_honest D.state D.failures e self.old self.new) }
+    {
+        if self.next_in_doubt {
+            find_next(alloc, &mut self.log)?;
+            self.next_in_doubt = false;
+        }
+        Ok(())
+    }
+
+    /// Begins the log of the next generation where the last one ends, in its file, which has to be spare. That log is the last
+    /// one then. The error is as `WorkerLog::begin_next` says. If the disk failed in that, the last log is closed, and the next
+    /// one may be there or not.
+    pub fn begin_next(&mut self) -> Result<(), Refusal>
+        ensures worker { worker_of self.new ≡ worker_of self.old }
+        ensures ok { OnOk result (BeginsNextLog D.is_honest D.state D.failures self.old self.new) }
+        ensures err { IfErr result (λ e. FailsToBeginNextLog D.is_honest D.state D.failures e self.old self.new) }
+    {
+        let was_open = self.mark().is_some();
+        match self.log.begin_next() {
+            Ok(()) => {
+                self.next_in_doubt = false;
+                Ok(())
             }
-            Err(log) => {
-                self.slot = LogSlot::Failed(log);
+            Err(Refusal::Device) if was_open => {
+                self.next_in_doubt = true;
                 Err(Refusal::Device)
             }
+            Err(refusal) => Err(refusal),
         }
     }
 
-    // Opens the disk of a closed log, into an empty place.
-    fn reopen_closed(&mut self, alloc: Global, disk: D) -> Result<(), Refusal>
-        ensures worker { self.new.worker ≡ self.old.worker }
-        ensures ok { OnOk result (Reopens D.is_honest D.state D.failures (log_with self.old.worker (Closed disk) self.old.kept) self.new) }
-        ensures err { IfErr result (λ e. FailsToReopen D.is_honest D.state D.failures e (log_with self.old.worker (Closed disk) self.old.kept) self.new) }
+    /// Gives up the file of the generation before the last one, whatever its place is. It is spare then. There is none before
+    /// generation 0. An error is `Device`: that log may be there or not, and the call may be made again.
+    pub fn give_up_older(&mut self) -> Result<(), Refusal>
+        ensures worker { worker_of self.new ≡ worker_of self.old }
+        ensures ok { OnOk result (OnLog self.old.next_in_doubt (GivesUpOlder D.is_honest D.state D.failures) self.old self.new) }
+        ensures err { IfErr result (λ e. OnLog self.old.next_in_doubt (FailsToGiveUpOlder D.is_honest D.state D.failures e) self.old self.new) }
     {
-        let _front = open_disk(alloc, disk, &mut self.slot)?;
-        self.append_kept(alloc)
+        self.log.give_up_older()
+    }
+
+    // Takes its files out. It has none then, and keeps no batch.
+    pub(crate) fn take_files(&mut self) -> WorkerFiles<D>
+        ensures files { result ≡ self.old.log.files }
+        ensures log { IsWith (worker_of self.old) self.old.log.owner.logs 0 no_files self.new.log }
+        ensures none { self.new.kept ≡ None }
+        ensures sure { self.new.next_in_doubt ≡ false }
+    {
+        self.kept = None;
+        self.next_in_doubt = false;
+        take_files(&mut self.log)
+    }
+
+    // Puts other files in their place, of which the last log is of a generation.
+    pub(crate) fn put_files(&mut self, generation: u64, files: WorkerFiles<D>)
+        ensures log { IsWith (worker_of self.old) self.old.log.owner.logs generation files self.new.log }
+        ensures kept { self.new.kept ≡ self.old.kept }
+        ensures sure { self.new.next_in_doubt ≡ false }
+    {
+        self.next_in_doubt = false;
+        put_files(&mut self.log, generation, files);
     }
 }
 
-// Appends a batch to an open log, if there is one.
-fn append_kept_to<D: Disk + Drop>(
-    alloc: Global,
-    worker: u8,
-    file: LogFile<D>,
-    kept: Option<WaitingBatch>,
-) -> Appending<D>
-    ensures worker { result.log.worker ≡ worker }
-    ensures ok { OnOk result.told (AppendsKept D.is_honest D.state D.failures (opened_with worker file kept) result.log) }
-    ensures err { IfErr result.told (λ e. FailsToAppend D.is_honest D.state D.failures e (opened_with worker file kept) result.log) }
+/// No files.
+pub(crate) fn no_files<D: Disk + Drop>() -> WorkerFiles<D>
+    ensures { result ≡ no_files }
 {
-    match kept {
-        Some(waiting) => append_to(alloc, worker, file, waiting),
-        None => Appending {
-            log: StoreLog::new(worker, LogSlot::Open(file)),
-            told: Ok(()),
-        },
-    }
-}
-
-// Appends a batch to an open log.
-fn append_to<D: Disk + Drop>(
-    alloc: Global,
-    worker: u8,
-    file: LogFile<D>,
-    waiting: WaitingBatch,
-) -> Appending<D>
-    ensures worker { result.log.worker ≡ worker }
-    ensures ok { OnOk result.told (AppendsKept D.is_honest D.state D.failures (opened_with worker file (Some waiting)) result.log) }
-    ensures err { IfErr result.told (λ e. FailsToAppend D.is_honest D.state D.failures e (opened_with worker file (Some waiting)) result.log) }
-{
-    if waiting.to() == file.mark() {
-        return Appending {
-            log: StoreLog::new(worker, LogSlot::Open(file)),
-            told: Ok(()),
-        };
-    }
-    match file.append(alloc, waiting.into_batch()) {
-        Ok(file) => Appending {
-            log: StoreLog::new(worker, LogSlot::Open(file)),
-            told: Ok(()),
-        },
-        Err(AppendFault::Device(log, batch)) => kept_by(
-            worker,
-            LogSlot::Failed(log),
-            batch,
-            Refusal::Device,
-        ),
-        Err(AppendFault::Memory(file, batch)) => kept_by(
-            worker,
-            LogSlot::Open(file),
-            batch,
-            Refusal::Memory,
-        ),
-        Err(AppendFault::WrongTurn(file, batch, mark)) => kept_by(
-            worker,
-            LogSlot::Open(file),
-            batch,
-            Refusal::WrongTurn(mark),
-        ),
-    }
-}
-
-// A batch that is kept.
-fn kept_by<D: Disk + Drop>(
-    worker: u8,
-    slot: LogSlot<D>,
-    batch: Batch,
-    fault: Refusal,
-) -> Appending<D>
-    requires { IsBounded batch }
-    ensures { result ≡ record { log = log_with worker slot (Some batch); told = Err fault } }
-{
-    Appending {
-        log: StoreLog {
-            worker,
-            slot,
-            kept: Some(WaitingBatch::new(batch)),
-        },
-        told: Err(fault),
+    WorkerFiles {
+        plain: LogSlot::Away,
+        even: LogSlot::Away,
+        odd: LogSlot::Away,
     }
 }

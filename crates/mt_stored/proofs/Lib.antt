@@ -1,3 +1,4 @@
+pub mod Making
 pub mod PageKeys
 pub mod Rounds
 pub mod Slices

@@ -1,11 +1,12 @@
 -- What turns make of a store that is owned alone: no step is made, and a log that was brought up goes up to all that were; for the store's calls and the law of its Settle.
-use Rattle.std.proofs.Common.{◌≡◌, ◌≢◌, ⊎_elim, ℕ, zero, suc, ◌+◌, ◌<◌, ◌≤◌, Bool, List, [], ◌∷◌, ◌++◌, length, Some, Result, Ok, Err, refl, sym, ap, subst, ◌∙◌, arith}
+use Rattle.std.proofs.Common.{◌≡◌, ◌≢◌, ⊎_elim, ℕ, zero, suc, ◌+◌, ◌<◌, ◌≤◌, Bool, List, [], ◌∷◌, ◌++◌, length, Some, Result, Ok, Err, refl, sym, ap, ◌∙◌, arith}
 use Rattle.std.proofs.{lemmas.List.length-set, lemmas.Option.{same_Some, slice_get_within}, Math.Nat.eq-or-lt_of_le}
 use Rattle.std.specs.Prelude.{slice_get, slice_set, slice_index_or, IfOk, IfErr}
 use Rattle.mt_rows.specs.{declared.record.Batch.Batch, declared.refusal.Refusal.Refusal}
 use Rattle.mt_disk.specs.Disk.{DiskState}
 use Rattle.mt_state.specs.Views.{StateView}
-use Rattle.mt_store_logs.specs.{declared.store_log.StoreLog.StoreLog, Places.mark_in, Flushes.{DrainsShort, HasDrained, Flushes, FailsToFlush}}
+use Rattle.mt_store_logs.specs.{declared.last_log.LastLog.LastLog, declared.store_log.StoreLog.StoreLog, Places.{mark_in, slot_of, worker_of, last_log_of}}
+use Rattle.mt_store_logs.specs.Flushes.{DrainsShort, HasDrained, Flushes, FailsToFlush}
 use Rattle.mt_store_logs.specs.{declared.flushing.Flushed.Flushed, LogTurns.{BringsUp, FailsToBringUp}}
 use Rattle.mt_settle.specs.{Turns.{Turn, BroughtUp, mark_told, Chain}, Settles.{turns_from, Settles}}
 use Rattle.mt_stored.specs.{declared.source.OwnState.OwnState, Stores.{gives_own, DoesStore, IsSettled}}
@@ -43,16 +44,16 @@ told_more m steps ms is all zero d less = is
 told_more m steps ms is all (suc k) d less = all k d (omega (arith, less))
 
 module _ {D : Type 0} (is_honest : D → Bool) (state : D → DiskState) (failures : D → ℕ) where
-  in_short : (worker upto n : ℕ) (old new : StoreLog D) (was is : OwnState) → DrainsShort is_honest state failures gives_own worker n upto old new was is → Stays was is
+  in_short : (worker upto n : ℕ) (old new : LastLog D) (was is : OwnState) → DrainsShort is_honest state failures gives_own worker n upto old new was is → Stays was is
   in_short worker upto zero old new was is s = same was is s.1
   in_short worker upto (suc n) old new was is (mark, mid, between, rest, d, less) =
       then was between is (in_short worker upto n old mid was between rest) (drained between is worker d.batch d.given)
 
-  in_drains : (worker upto mark : ℕ) (old new : StoreLog D) (was is : OwnState) → HasDrained is_honest state failures gives_own worker upto mark old new was is → Stays was is
+  in_drains : (worker upto mark : ℕ) (old new : LastLog D) (was is : OwnState) → HasDrained is_honest state failures gives_own worker upto mark old new was is → Stays was is
   in_drains worker upto mark old new was is h =
       then was h.between is (in_short worker upto h.times old h.mid was h.between h.short) (drained h.between is worker h.last.batch h.last.given)
 
-  in_flush : (worker upto : ℕ) (refusal : Refusal) (old new : StoreLog D) (was is : OwnState)
+  in_flush : (worker upto : ℕ) (refusal : Refusal) (old new : LastLog D) (was is : OwnState)
       → FailsToFlush is_honest state failures gives_own worker upto refusal old new was is → Stays was is
   in_flush worker upto refusal old new was is f =
       ⊎_elim
@@ -63,46 +64,40 @@ module _ {D : Type 0} (is_honest : D → Bool) (state : D → DiskState) (failur
       (⊎_elim (λ none. same d.between is none.same) (λ keeps. drained d.between is worker keeps.batch keeps.given) d.fails))
       f
 
-  in_bring_up : (worker upto : ℕ) (refusal : Refusal) (old new : StoreLog D) (was is : OwnState)
-      → FailsToBringUp is_honest state failures gives_own worker upto refusal old new was is → Stays was is
-  in_bring_up worker upto refusal old new was is f =
-      ⊎_elim (λ closed. same was is closed.same) (λ not. in_flush worker upto refusal not.mid new was is not.fails) f
+  in_bring_up : (upto : ℕ) (refusal : Refusal) (old new : StoreLog D) (was is : OwnState)
+      → FailsToBringUp is_honest state failures gives_own upto refusal old new was is → Stays was is
+  in_bring_up upto refusal old new was is f =
+      ⊎_elim (λ closed. same was is closed.same)
+      (λ not. in_flush (worker_of not.mid) upto refusal (last_log_of not.mid) (last_log_of new) was is not.fails.does) f
+
+  brought_up : (upto mark : ℕ) (old new : StoreLog D) (was is : OwnState) → BringsUp is_honest state failures gives_own upto mark old new was is → Stays was is
+  brought_up upto mark old new was is b =
+      let f = b.flushes.does in
+      in_drains (worker_of b.mid) upto mark f.first (last_log_of new) was is f.drains.0
 
   turn_stays : (turn : Turn) (was : OwnState) (old : List (StoreLog D)) (is : OwnState) (new : List (StoreLog D)) → DoesStore is_honest state failures turn was old is new → Stays was is
-  turn_stays (BroughtUp log (Ok mark)) was old is new t = in_drains log was.state.steps mark t.turns.flushes.first t.after was is t.turns.flushes.drains.0
-  turn_stays (BroughtUp log (Err e)) was old is new t = in_bring_up log was.state.steps e t.before t.after was is t.turns
+  turn_stays (BroughtUp log (Ok mark)) was old is new t = brought_up was.state.steps mark t.before t.after was is t.turns
+  turn_stays (BroughtUp log (Err e)) was old is new t = in_bring_up was.state.steps e t.before t.after was is t.turns
 
   -- a log that was brought up, or was not, had a turn of the store
-  pub turned : (log worker : ℕ) (r : Result Flushed Refusal) (was is : OwnState) (old : List (StoreLog D)) (before after : StoreLog D) → slice_get old log ≡ Some before
-      → worker ≡ log
-      → IfOk r (λ f. BringsUp is_honest state failures gives_own worker was.state.steps f.mark before after was is)
-      → IfErr r (λ e. FailsToBringUp is_honest state failures gives_own worker was.state.steps e before after was is)
+  pub turned : (log : ℕ) (r : Result Flushed Refusal) (was is : OwnState) (old : List (StoreLog D)) (before after : StoreLog D) → slice_get old log ≡ Some before
+      → worker_of before ≡ log
+      → IfOk r (λ f. BringsUp is_honest state failures gives_own was.state.steps f.mark before after was is)
+      → IfErr r (λ e. FailsToBringUp is_honest state failures gives_own was.state.steps e before after was is)
       → DoesStore is_honest state failures (BroughtUp log (mark_told r)) was old is (slice_set old log after)
-  turned log worker (Ok f) was is old before after there same ok err = record {
-    before = before;
-    there = there;
-    after = after;
-    stands = refl;
-    turns = subst (λ w. BringsUp is_honest state failures gives_own w was.state.steps f.mark before after was is) same ok;
-  }
-  turned log worker (Err e) was is old before after there same ok err = record {
-    before = before;
-    there = there;
-    after = after;
-    stands = refl;
-    turns = subst (λ w. FailsToBringUp is_honest state failures gives_own w was.state.steps e before after was is) same err;
-  }
+  turned log (Ok f) was is old before after there whose ok err = record { before = before; there = there; whose = whose; after = after; stands = refl; turns = ok }
+  turned log (Err e) was is old before after there whose ok err = record { before = before; there = there; whose = whose; after = after; stands = refl; turns = err }
 
   -- and the store has as many logs
-  pub as_many : (log upto : ℕ) (r : Result Flushed Refusal) (was is : OwnState) (before after : StoreLog D)
-      → IfOk r (λ f. BringsUp is_honest state failures gives_own log upto f.mark before after was is)
-      → IfErr r (λ e. FailsToBringUp is_honest state failures gives_own log upto e before after was is)
+  pub as_many : (upto : ℕ) (r : Result Flushed Refusal) (was is : OwnState) (before after : StoreLog D)
+      → IfOk r (λ f. BringsUp is_honest state failures gives_own upto f.mark before after was is)
+      → IfErr r (λ e. FailsToBringUp is_honest state failures gives_own upto e before after was is)
       → length is.state.logs ≡ length was.state.logs
-  as_many log upto (Ok f) was is before after ok err = (in_drains log upto f.mark ok.flushes.first after was is ok.flushes.drains.0).1
-  as_many log upto (Err e) was is before after ok err = (in_bring_up log upto e before after was is err).1
+  as_many upto (Ok f) was is before after ok err = (brought_up upto f.mark before after was is ok).1
+  as_many upto (Err e) was is before after ok err = (in_bring_up upto e before after was is err).1
 
   -- what a flush up to the last step tells is that step, and the log goes up to there
-  told_is : (worker mark : ℕ) (old new : StoreLog D) (was is : OwnState) → Flushes is_honest state failures gives_own worker was.state.steps mark old new was is
+  told_is : (worker mark : ℕ) (old new : LastLog D) (was is : OwnState) → Flushes is_honest state failures gives_own worker was.state.steps mark old new was is
       → (mark ≡ was.state.steps) × (mark_in new.slot ≡ Some mark)
   told_is worker mark old new was is f =
       let h = f.drains.0 in
@@ -133,7 +128,7 @@ module _ {D : Type 0} (is_honest : D → Bool) (state : D → DiskState) (failur
       steps : (source new).state.steps ≡ (source old).state.steps
       count : length (logs new) ≡ length (logs old)
       before : (k : ℕ) → k < log → slice_get (logs new) k ≡ slice_get (logs old) k
-      up : (k : ℕ) (l : StoreLog D) → log ≤ k → k < log + length marks → slice_get (logs new) k ≡ Some l → mark_in l.slot ≡ Some (source old).state.steps
+      up : (k : ℕ) (l : StoreLog D) → log ≤ k → k < log + length marks → slice_get (logs new) k ≡ Some l → mark_in (slot_of l) ≡ Some (source old).state.steps
       told : (k d : ℕ) → k < length marks → slice_index_or marks k d ≡ (source old).state.steps
 
     all_up : (log : ℕ) (marks : List ℕ) (old new : S) → Chain does old (turns_from log marks) new → AreUp log marks old new
@@ -147,7 +142,7 @@ module _ {D : Type 0} (is_honest : D → Bool) (state : D → DiskState) (failur
     all_up log (m ∷ ms) old new (mid, d, rest) =
         let h = all_up (log + 1) ms mid new rest in
         let first : Stays (source old) (source mid) = turn_stays (BroughtUp log (Ok m)) (source old) (logs old) (source mid) (logs mid) d in
-        let told = told_is log m d.turns.mid d.after (source old) (source mid) d.turns.flushes in
+        let told = told_is (worker_of d.turns.mid) m (last_log_of d.turns.mid) (last_log_of d.after) (source old) (source mid) d.turns.flushes.does in
         let mark : m ≡ (source old).state.steps = told.0 in
         let there : slice_get (logs new) log ≡ Some d.after =
         h.before log (omega arith) ∙ ap (λ (ls : List (StoreLog D)). slice_get ls log) d.stands
@@ -161,7 +156,7 @@ module _ {D : Type 0} (is_honest : D → Bool) (state : D → DiskState) (failur
           up = λ k l from to is. ⊎_elim
               (λ (e : log ≡ k).
               let own : d.after ≡ l = same_Some d.after l (sym there ∙ ap (slice_get (logs new)) e ∙ is) in
-              ap (λ (x : StoreLog D). mark_in x.slot) (sym own) ∙ told.1 ∙ ap Some mark)
+              ap (λ (x : StoreLog D). mark_in (slot_of x)) (sym own) ∙ told.1 ∙ ap Some mark)
               (λ (less : log < k). h.up k l (omega (arith, less)) (omega (arith, to)) is ∙ ap Some first.0)
               (eq-or-lt_of_le from);
           told = told_more m (source old).state.steps ms mark (λ k d less. h.told k d less ∙ first.0);

@@ -50,7 +50,10 @@ impl<L: Ledger, D: Disk + Drop> Logs for SharedLogs<'_, L, D> {
         alloc: Global,
         log: u8,
     ) -> Result<Flushed, Refusal> {
-        let mut guard = self.logs[usize::from(log)].lock(rt);
+        let Some(place) = self.logs.get(usize::from(log)) else {
+            return Err(Refusal::LogCount);
+        };
+        let mut guard = place.lock(rt);
         if guard.worker() != log {
             return Err(Refusal::LogCount);
         }

@@ -2,13 +2,14 @@
 
 ghost use Rattle.std.specs.Prelude.{◌≡◌, ◌<◌, ◌≤◌, ◌↔◌, length, vec_len, IfOk, IfErr, IfSome, IsTrue, OnOk, IsSome};
 ghost use Rattle.mt_state.specs.Begins.{HaveNoPairs, new_state};
-ghost use Rattle.mt_store_logs.specs.Places.{closed_on, AreInOrder};
+ghost use Rattle.mt_store_logs.specs.{Opens.AreClosedOn, Places.AreInOrder};
 ghost use Rattle.mt_stored.specs.Stores.{no_memory};
 
 use crate::source::OwnState;
 use log::Log;
 use mt_core::State;
 use mt_disk::Disk;
+use mt_log_files::WorkerFiles;
 use mt_rows::{Refusal, Tenants};
 use mt_settle::{Logs, settle};
 use mt_slots::StoreSlots;
@@ -54,24 +55,24 @@ impl<D: Disk + Drop> Store<D> {
         })
     }
 
-    /// A new store over 1 to 64 disks, whatever they held, with the log of a worker on each, in their order, and
-    /// over two slots. The logs are made before the slots.
+    /// A new store over the files of 1 to 64 workers, whatever they held, with the log of a worker on each, in their
+    /// order, and over two slots. The logs are made before the slots.
     ///
     /// An error tells the log or the slot whose disk failed, or that memory was refused. The disks are gone then,
     /// and may hold anything.
     pub fn create(
         alloc: Global,
-        disks: Vec<D>,
+        files: Vec<WorkerFiles<D>>,
         mut slots: StoreSlots<D>,
         tenants: Tenants,
     ) -> Result<Store<D>, StoreRefusal>
-        requires some { 0 < vec_len disks }
-        requires few { vec_len disks ≤ 64 }
+        requires some { 0 < vec_len files }
+        requires few { vec_len files ≤ 64 }
         requires empty { HaveNoPairs tenants }
-        ensures ok { IfOk result (λ store. IsNewStore D.is_honest D.state D.failures disks.items slots tenants store.source.state store.logs.items store.slots) }
-        ensures err { IfErr result (IsNotMade (vec_len disks)) }
+        ensures ok { IfOk result (λ store. IsNewStore D.is_honest D.state D.failures files.items slots tenants store.source.state store.logs.items store.slots) }
+        ensures err { IfErr result (IsNotMade (vec_len files)) }
     {
-        let mut logs = closed(alloc, disks)?;
+        let mut logs = closed(alloc, files)?;
         create_logs(&mut logs)?;
         slots.create()?;
         match State::new(alloc, logs.len() as u8, tenants) {
@@ -84,39 +85,39 @@ impl<D: Disk + Drop> Store<D> {
         }
     }
 
-    /// The store that 1 to 64 disks and two slots hold, recovered, and each of its logs with the batch with which
-    /// a recovery ends.
+    /// The store that the files of 1 to 64 workers and two slots hold, recovered, and each of its logs with the batch
+    /// with which a recovery ends.
     ///
-    /// An error tells the log that was not opened or got no such batch, the slot that was not read, or why there
+    /// An error tells the slot that was not read, the log that was not opened or got no such batch, or why there
     /// is no recovery. The disks are gone then, and can be recovered again.
     pub fn recover(
         alloc: Global,
-        disks: Vec<D>,
+        files: Vec<WorkerFiles<D>>,
         slots: StoreSlots<D>,
         tenants: Tenants,
     ) -> Result<Store<D>, StoreRefusal>
-        requires few { vec_len disks ≤ 64 }
+        requires few { vec_len files ≤ 64 }
         requires empty { HaveNoPairs tenants }
-        ensures ok { IfOk result (λ store. IsRecoveredStore D.is_honest D.state D.failures disks.items slots tenants store.source.state store.logs.items store.slots) }
-        ensures err { IfErr result (IsNotRecoveredStore D.is_honest D.state D.failures disks.items slots tenants) }
+        ensures ok { IfOk result (λ store. IsRecoveredStore D.is_honest D.state D.failures files.items slots tenants store.source.state store.logs.items store.slots) }
+        ensures err { IfErr result (IsNotRecoveredStore D.is_honest D.state D.failures files.items slots tenants) }
     {
-        Store::recover_watched(alloc, disks, slots, tenants, &mut NoWatch)
+        Store::recover_watched(alloc, files, slots, tenants, &mut NoWatch)
     }
 
     /// The same, with somebody who is told how far it is.
     pub fn recover_watched<W: Watch>(
         alloc: Global,
-        disks: Vec<D>,
+        files: Vec<WorkerFiles<D>>,
         mut slots: StoreSlots<D>,
         tenants: Tenants,
         watch: &mut W,
     ) -> Result<Store<D>, StoreRefusal>
-        requires few { vec_len disks ≤ 64 }
+        requires few { vec_len files ≤ 64 }
         requires empty { HaveNoPairs tenants }
-        ensures ok { IfOk result (λ store. IsRecoveredStore D.is_honest D.state D.failures disks.items slots tenants store.source.state store.logs.items store.slots) }
-        ensures err { IfErr result (IsNotRecoveredStore D.is_honest D.state D.failures disks.items slots tenants) }
+        ensures ok { IfOk result (λ store. IsRecoveredStore D.is_honest D.state D.failures files.items slots tenants store.source.state store.logs.items store.slots) }
+        ensures err { IfErr result (IsNotRecoveredStore D.is_honest D.state D.failures files.items slots tenants) }
     {
-        let mut logs = closed(alloc, disks)?;
+        let mut logs = closed(alloc, files)?;
         let recovered = recover_store(alloc, &mut logs, &mut slots, &tenants, watch)?;
         let count = logs.len() as u8;
         match State::restore(alloc, recovered.resume, count, tenants, &recovered.pairs) {
@@ -212,14 +213,17 @@ impl<D: Disk + Drop> Logs for Store<D> {
     }
 }
 
-// Closed logs on these disks, in their order.
-fn closed<D: Disk + Drop>(alloc: Global, disks: Vec<D>) -> Result<Vec<StoreLog<D>>, StoreRefusal>
-    requires { vec_len disks ≤ 64 }
-    ensures ok { IfOk result (λ logs. logs.items ≡ closed_on disks.items) }
-    ensures count { IfOk result (λ logs. vec_len logs ≡ vec_len disks) }
+// Closed logs on these files, in their order.
+fn closed<D: Disk + Drop>(
+    alloc: Global,
+    files: Vec<WorkerFiles<D>>,
+) -> Result<Vec<StoreLog<D>>, StoreRefusal>
+    requires { vec_len files ≤ 64 }
+    ensures ok { IfOk result (λ logs. AreClosedOn (vec_len files) files.items logs.items) }
+    ensures count { IfOk result (λ logs. vec_len logs ≡ vec_len files) }
     ensures err { IfErr result (λ e. e ≡ no_memory) }
 {
-    match closed_logs(alloc, disks) {
+    match closed_logs(alloc, files) {
         Ok(logs) => Ok(logs),
         Err(_) => Err(NO_MEMORY),
     }

@@ -1,15 +1,16 @@
 //! What the files of a store's logs hold.
 
-ghost use Rattle.std.specs.Prelude.{◌≡◌};
+ghost use Rattle.std.specs.Prelude.{◌≡◌, ◌≤◌, length, vec_len, IfOk};
 ghost use Rattle.mt_state.specs.Begins.{HaveNoPairs};
 
-use crate::disks::FlakyDisk;
+use crate::disks::{Fails, FlakyDisk};
 use mt_disk::MemDisk;
 use mt_log::Front;
+use mt_log_files::WorkerFiles;
 use mt_recover::LogSlot;
 use mt_rows::{Refusal, TenantPair, Tenants};
 use mt_slots::StoreSlots;
-use mt_store_logs::{NoWatch, StoreLog, open_logs, recover_store};
+use mt_store_logs::{FileImages, NoWatch, StoreLog, closed_logs, open_logs, recover_store};
 use std::alloc::{AllocError, Global};
 use std::process::Abort;
 
@@ -34,22 +35,50 @@ pub(crate) fn tenant_7(rt: &impl Abort, alloc: Global) -> Tenants
     tenants
 }
 
-/// What a read of a log's disk gives.
-pub(crate) fn image_of(alloc: Global, log: &StoreLog<FlakyDisk>) -> Result<Vec<u8>, Refusal> {
-    match log.slot() {
-        LogSlot::Open(file) => Ok(file.disk().image().to_vec(alloc)?),
+/// The files of a worker's log with these images: the plain one, the even and the odd one. Some calls of each fail.
+pub(crate) fn files_with(images: FileImages, fails: [Fails; 3]) -> WorkerFiles<FlakyDisk> {
+    let FileImages { plain, even, odd } = images;
+    let [of_plain, of_even, of_odd] = fails;
+    let plain = FlakyDisk::new(plain, of_plain);
+    let even = FlakyDisk::new(even, of_even);
+    let odd = FlakyDisk::new(odd, of_odd);
+    WorkerFiles::closed(plain, even, odd)
+}
+
+/// A plain file with this image, and two files without a byte.
+pub(crate) fn plain_image(alloc: Global, plain: Vec<u8>) -> FileImages {
+    FileImages {
+        plain,
+        even: Vec::new(alloc),
+        odd: Vec::new(alloc),
+    }
+}
+
+// What a read of a file gives.
+fn image_in(alloc: Global, file: &LogSlot<FlakyDisk>) -> Result<Vec<u8>, Refusal> {
+    match file {
+        LogSlot::Open(log) => Ok(log.disk().image().to_vec(alloc)?),
         LogSlot::Failed(log) => Ok(log.disk().image().to_vec(alloc)?),
         LogSlot::Closed(disk) => Ok(disk.image().to_vec(alloc)?),
         LogSlot::Away => Err(Refusal::NoStore),
     }
 }
 
-/// What reads of these logs' disks give.
+/// What reads of a log's files give.
+pub(crate) fn image_of(alloc: Global, log: &StoreLog<FlakyDisk>) -> Result<FileImages, Refusal> {
+    let files = log.log().files();
+    let plain = image_in(alloc, &files.plain)?;
+    let even = image_in(alloc, &files.even)?;
+    let odd = image_in(alloc, &files.odd)?;
+    Ok(FileImages { plain, even, odd })
+}
+
+/// What reads of these logs' files give.
 pub(crate) fn images_of(
     rt: &impl Abort,
     alloc: Global,
     logs: &[StoreLog<FlakyDisk>],
-) -> Vec<Vec<u8>> {
+) -> Vec<FileImages> {
     let mut images = Vec::new(alloc);
     for log in logs {
         let image = image_of(alloc, log).expect(rt, "an image");
@@ -58,15 +87,32 @@ pub(crate) fn images_of(
     images
 }
 
+// A disk in memory with this image.
+fn disk_with(alloc: Global, image: Vec<u8>) -> Result<MemDisk, AllocError> {
+    MemDisk::with_image(alloc, image, Vec::new(alloc), None)
+}
+
+// The files of a worker's log with these images, in memory.
+fn copies_with(alloc: Global, images: FileImages) -> Result<WorkerFiles<MemDisk>, AllocError> {
+    let FileImages { plain, even, odd } = images;
+    let plain = disk_with(alloc, plain)?;
+    let even = disk_with(alloc, even)?;
+    let odd = disk_with(alloc, odd)?;
+    Ok(WorkerFiles::closed(plain, even, odd))
+}
+
 // Closed logs over these images.
-fn logs_of(alloc: Global, images: Vec<Vec<u8>>) -> Result<Vec<StoreLog<MemDisk>>, Refusal> {
-    let mut logs = Vec::new(alloc);
+fn logs_of(alloc: Global, images: Vec<FileImages>) -> Result<Vec<StoreLog<MemDisk>>, Refusal>
+    ensures few { IfOk result (λ logs. vec_len logs ≤ 64) }
+{
+    let mut files = Vec::new(alloc);
     for image in images {
-        let worker = logs.len().min(63) as u8;
-        let disk = MemDisk::with_image(alloc, image, Vec::new(alloc), None)?;
-        logs.push(StoreLog::closed(worker, disk))?;
+        files.push(copies_with(alloc, image)?)?;
     }
-    Ok(logs)
+    if files.len() > 64 {
+        return Err(Refusal::LogCount);
+    }
+    Ok(closed_logs(alloc, files)?)
 }
 
 // Whether a log has exactly so many first keys of a client, each once and in order.
@@ -113,7 +159,7 @@ fn are_pairs(pairs: &[TenantPair], counts: &[u16]) -> bool {
 /// pairs of all of them.
 pub(crate) fn hold_all(
     alloc: Global,
-    images: Vec<Vec<u8>>,
+    images: Vec<FileImages>,
     tenants: &Tenants,
     counts: &[u16],
 ) -> Result<bool, Refusal> {
@@ -125,18 +171,30 @@ pub(crate) fn hold_all(
 /// The same, if the recovery has these slots.
 pub(crate) fn hold_all_with(
     alloc: Global,
-    images: Vec<Vec<u8>>,
+    images: Vec<FileImages>,
     slots: &mut StoreSlots<MemDisk>,
     tenants: &Tenants,
     counts: &[u16],
 ) -> Result<bool, Refusal> {
     let mut logs = logs_of(alloc, images)?;
-    let has_own = match open_logs(alloc, &mut logs) {
-        Ok(fronts) => have_own(alloc, &fronts, counts)?,
-        Err(e) => return Err(e.refusal),
-    };
+    let has_own = have_own_in(alloc, &mut logs, counts)?;
     match recover_store(alloc, &mut logs, slots, tenants, &mut NoWatch) {
         Ok(recovered) => Ok(has_own && are_pairs(&recovered.pairs, counts)),
         Err(e) => Err(e.refusal()),
+    }
+}
+
+// Whether each of these logs, opened without a checkpoint, has its own keys.
+fn have_own_in(
+    alloc: Global,
+    logs: &mut [StoreLog<MemDisk>],
+    counts: &[u16],
+) -> Result<bool, Refusal>
+    requires few { length logs.old ≤ 64 }
+    ensures count { length logs.new ≡ length logs.old }
+{
+    match open_logs(alloc, logs, &[None, None], &mut NoWatch) {
+        Ok(chains) => Ok(have_own(alloc, &chains.fronts, counts)?),
+        Err(e) => Err(e.refusal),
     }
 }

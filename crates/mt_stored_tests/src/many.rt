@@ -2,11 +2,11 @@
 
 use crate::asked::{expect_all, put_all};
 use crate::disks::{FlakyDisk, NEVER};
-use crate::images::{images_of, tenant_7};
+use crate::images::{files_with, images_of, tenant_7};
 use crate::stories::{bare_slots, new_store};
 use log::Log;
 use mt_core::State;
-use mt_store_logs::StoreLog;
+use mt_store_logs::{FileImages, StoreLog};
 use mt_stored::Store;
 use std::alloc::Global;
 use std::process::Abort;
@@ -19,13 +19,13 @@ const PUTS: u16 = 50_050;
 // So many times it has put once the recovered store went on.
 const GOES_ON: u16 = 50_300;
 
-// Settles once; what the logs' files hold then.
-fn settled<R: Wait + Clock + Log + Abort>(
+/// Settles once; what the logs' files hold then.
+pub(crate) fn settled<R: Wait + Clock + Log + Abort>(
     rt: &R,
     alloc: Global,
     state: State,
     logs: Vec<StoreLog<FlakyDisk>>,
-) -> Vec<Vec<u8>> {
+) -> Vec<FileImages> {
     let mut store = Store::joined(state, logs, None).expect(rt, "a store");
     assert!(rt; store.settle_last(rt, alloc).is_ok());
     let (_, logs, _) = store.into_parts();
@@ -34,23 +34,23 @@ fn settled<R: Wait + Clock + Log + Abort>(
 }
 
 // Two workers put all pairs, scans show them, and a Settle keeps them.
-fn served<R: Wait + Clock + Log + Abort>(rt: &R, alloc: Global) -> Vec<Vec<u8>> {
+fn served<R: Wait + Clock + Log + Abort>(rt: &R, alloc: Global) -> Vec<FileImages> {
     let (mut state, logs, _) = new_store(rt, alloc, &[NEVER; 2]).into_parts();
     put_all(rt, alloc, &mut state, 0, PUTS);
     expect_all(rt, alloc, &mut state, PUTS);
     settled(rt, alloc, state, logs)
 }
 
-// The store that files hold, of more than 1 MiB each.
-fn recovered(rt: &impl Abort, alloc: Global, images: Vec<Vec<u8>>) -> Store<FlakyDisk> {
-    let mut disks = Vec::new(alloc);
+// The store that files hold. Each plain one has more than 1 MiB.
+fn recovered(rt: &impl Abort, alloc: Global, images: Vec<FileImages>) -> Store<FlakyDisk> {
+    let mut files = Vec::new(alloc);
     for image in images {
-        assert!(rt; image.len() > 1_048_576);
-        assert!(rt; disks.push(FlakyDisk::new(image, NEVER)).is_ok());
+        assert!(rt; image.plain.len() > 1_048_576);
+        assert!(rt; files.push(files_with(image, [NEVER; 3])).is_ok());
     }
     let tenants = tenant_7(rt, alloc);
-    assert!(rt; disks.len() <= 64);
-    match Store::recover(alloc, disks, bare_slots(alloc), tenants) {
+    assert!(rt; files.len() <= 64);
+    match Store::recover(alloc, files, bare_slots(alloc), tenants) {
         Ok(store) => store,
         Err(_) => panic!(rt; "no store is recovered"),
     }

@@ -2,11 +2,12 @@
 
 use crate::asked::asked;
 use crate::disks::{FlakyDisk, NEVER};
-use crate::images::{images_of, tenant_7};
+use crate::images::{files_with, images_of, plain_image, tenant_7};
 use log::Log;
 use mt_core::State;
 use mt_rows::{Column, ColumnIndexes, Command, Key, NamedColumns, Reply, StampedRow};
 use mt_slots::StoreSlots;
+use mt_store_logs::FileImages;
 use mt_stored::Store;
 use std::alloc::{AllocError, Global};
 use std::process::Abort;
@@ -39,11 +40,12 @@ fn slots_with(alloc: Global, first: &[u8]) -> Result<StoreSlots<FlakyDisk>, Allo
 fn recovered(rt: &impl Abort, alloc: Global, log: &[u8], checkpoint: &[u8]) -> Store<FlakyDisk> {
     let image = log.to_vec(alloc).expect(rt, "memory");
     let slots = slots_with(alloc, checkpoint).expect(rt, "memory");
-    let mut disks = Vec::new(alloc);
-    assert!(rt; disks.push(FlakyDisk::new(image, NEVER)).is_ok());
+    let mut files = Vec::new(alloc);
+    let own = files_with(plain_image(alloc, image), [NEVER; 3]);
+    assert!(rt; files.push(own).is_ok());
     let tenants = tenant_7(rt, alloc);
-    assert!(rt; disks.len() <= 64);
-    match Store::recover(alloc, disks, slots, tenants) {
+    assert!(rt; files.len() <= 64);
+    match Store::recover(alloc, files, slots, tenants) {
         Ok(store) => store,
         Err(_) => panic!(rt; "no store is recovered"),
     }
@@ -89,8 +91,8 @@ fn has_columns(row: &StampedRow, values: &[u8]) -> bool {
     columns.len() == values.len()
 }
 
-// The store goes on: key 6b, whose row has this stamp, gets a second column, and all is settled. What the log's file holds
-// then.
+// The store goes on: key 6b, whose row has this stamp, gets a second column, and all is settled. What the log's plain
+// file holds then.
 fn gone_on<R: Wait + Clock + Log + Abort>(
     rt: &R,
     alloc: Global,
@@ -107,7 +109,12 @@ fn gone_on<R: Wait + Clock + Log + Abort>(
     assert!(rt; store.settle_last(rt, alloc).is_ok());
     let (_, logs, _) = store.into_parts();
     let mut images = images_of(rt, alloc, &logs);
-    images.pop().expect(rt, "an image")
+    let FileImages {
+        plain,
+        even: _,
+        odd: _,
+    } = images.pop().expect(rt, "an image");
+    plain
 }
 
 // Both columns of key 6b are there, and the row of key 6c.

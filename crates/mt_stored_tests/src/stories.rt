@@ -3,7 +3,7 @@
 ghost use Rattle.std.specs.Prelude.{◌≡◌, ◌<◌, ◌≤◌, length};
 
 use crate::disks::{Fails, FlakyDisk, NEVER};
-use crate::images::{hold_all, image_of, images_of, tenant_7};
+use crate::images::{files_with, hold_all, image_of, images_of, plain_image, tenant_7};
 use crate::sessions::Session;
 use log::sink::Locked;
 use log::{Level, Log, Logged};
@@ -13,7 +13,7 @@ use mt_recover::LogSlot;
 use mt_rows::Refusal;
 use mt_service::DeskCaller;
 use mt_slots::StoreSlots;
-use mt_store_logs::StoreLog;
+use mt_store_logs::{FileImages, StoreLog};
 use mt_stored::{Checks, Keeper, SharedLogs, Store, locked_logs, unlocked_logs};
 use std::alloc::Global;
 use std::marker::Brand;
@@ -28,19 +28,20 @@ pub(crate) const TENANTS: [TenantQuota; 1] = [TenantQuota {
     quota: 200_000,
 }];
 
-/// A new store over disks, of which some calls fail.
+/// A new store, some calls of whose plain files fail.
 pub(crate) fn new_store(rt: &impl Abort, alloc: Global, fails: &[Fails]) -> Store<FlakyDisk>
     requires some { 0 < length fails.now }
     requires few { length fails.now ≤ 64 }
     ensures { result.source.state.answers ≡ 0 }
 {
-    let mut disks = Vec::new(alloc);
+    let mut files = Vec::new(alloc);
     for fails in fails {
-        assert!(rt; disks.push(FlakyDisk::new(Vec::new(alloc), *fails)).is_ok());
+        let bare = plain_image(alloc, Vec::new(alloc));
+        assert!(rt; files.push(files_with(bare, [*fails, NEVER, NEVER])).is_ok());
     }
     let tenants = tenant_7(rt, alloc);
-    assert!(rt; !disks.is_empty() && disks.len() <= 64);
-    match Store::create(alloc, disks, bare_slots(alloc), tenants) {
+    assert!(rt; !files.is_empty() && files.len() <= 64);
+    match Store::create(alloc, files, bare_slots(alloc), tenants) {
         Ok(store) => store,
         Err(_) => panic!(rt; "no store is made"),
     }
@@ -108,7 +109,7 @@ pub(crate) fn images_now<R: Wait + Clock>(
     rt: &R,
     alloc: Global,
     logs: &[Mutex<StoreLog<FlakyDisk>>],
-) -> Result<Vec<Vec<u8>>, Refusal> {
+) -> Result<Vec<FileImages>, Refusal> {
     let mut images = Vec::new(alloc);
     for log in logs {
         let image = image_of(alloc, &*log.lock(rt))?;

@@ -2,7 +2,6 @@
 use Rattle.std.proofs.Common.{◌∙◌, true≢false, refl, sym, subst}
 use Rattle.mt_slots.specs.Crashes.{MayLeaveBoth}
 use Rattle.mt_store_logs.specs.Crashes.{MayLeaveLogs}
-use Rattle.mt_lives.proofs.Parting.{same_logs, same_first, same_second}
 use Rattle.mt_lives.proofs.crashes.crash_all.Goals as goal
 
 pub returns-then-not-may_leave-clause-unchanged : goal.returns-then-not-may_leave-clause-unchanged
@@ -10,11 +9,8 @@ returns-then-not-may_leave-clause-unchanged c = λ no. (
   refl,
   refl,
   λ m.
-      let parts = c.in-Some.ensures.some in
-      let len = m.logs_may.count ∙ sym parts.0 in
-      let first = same_first c.args.images.now m.of_logs c.in-Some.of_logs.now m.first m.second c.in-Some.first.now c.in-Some.second.now m.parted parts.1 len in
-      let second = same_second c.args.images.now m.of_logs c.in-Some.of_logs.now m.first m.second c.in-Some.first.now c.in-Some.second.now m.parted parts.1 len in
-      let may = subst (λ f. MayLeaveBoth f c.in-Some.second.now c.args.slots.now) first (subst (λ x. MayLeaveBoth m.first x c.args.slots.now) second m.slots_may) in
+      let may = subst (λ f. MayLeaveBoth f c.deref-2.result.now c.args.slots.now) (sym c.deref.ensures.value)
+      (subst (λ x. MayLeaveBoth c.args.images.now.first.items x c.args.slots.now) (sym c.deref-2.ensures.value) m.slots_may) in
       absurd (true≢false (sym (c.may_leave.ensures.1 may) ∙ c.if-not-may_leave.true)),
 )
 
@@ -23,9 +19,5 @@ returns-then-not-branch-clause-unchanged c = λ no.
     let same = c.in_ok-crash_logs.ensures.unchanged c.if-not-branch.true in (
       same.0,
       refl,
-      λ m.
-          let parts = c.in-Some.ensures.some in
-          let len = m.logs_may.count ∙ sym parts.0 in
-          let logs = same_logs c.args.images.now m.of_logs c.in-Some.of_logs.now m.first m.second c.in-Some.first.now c.in-Some.second.now m.parted parts.1 len in
-          same.1 (subst (λ images. MayLeaveLogs images c.args.logs.now) logs m.logs_may),
+      λ m. same.1 (subst (λ images. MayLeaveLogs images c.args.logs.now) (sym c.deref-3.ensures.value) m.logs_may),
     )

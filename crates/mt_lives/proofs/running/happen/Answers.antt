@@ -1,8 +1,8 @@
 -- An event that is a crash, and any other, of a store that serves or does not.
-use Rattle.std.{proofs.{Common.{rules, ◌≡◌, ◌++◌, List, length, take, drop, Some, refl, sym, ap, subst, ◌∙◌}, Math.Seq.take-append_seam}, specs.Prelude.IfOk}
+use Rattle.std.{proofs.{Common.{rules, ◌≡◌, ◌++◌, List, length, take, drop, Some, refl, sym, ap, subst, ◌∙◌}, Math.Seq.take-append_seam}}
 use Rattle.mt_disk.specs.declared.mem.MemDisk.{MemDisk}
 use Rattle.mt_store_logs.specs.{declared.store_log.StoreLog.StoreLog, Places.AreInOrder}
-use Rattle.mt_lives.specs.{Holds.{quotas_of, Holds}, Steps.{IsServedBy, GoesOn}, declared.events.StoreNote.TheVariants.NoSuch, Forced.{CrashesFrom, IsForced}}
+use Rattle.mt_lives.specs.{Holds.{quotas_of, Holds}, Steps.{IsServedBy, GoesOn}, declared.events.StoreNote.TheVariants.NoSuch, Forced.{IsForced}}
 use Rattle.mt_lives.proofs.{Forcing.{none_forced, crash_forced, served_forced, slots_alone}, Returning.{not_away, crashed_goes}}
 use Rattle.mt_lives.proofs.Happening.{leaves_slots, nothing_noted, serves_none, served_count, served_workers, served_goes, begun_forced, stepped_goes, stepped_forced}
 use Rattle.mt_lives.proofs.running.happen.Goals as goal
@@ -25,8 +25,7 @@ returns-in-Crash-clause-forced c =
     let len : c.args.store.now.logs.len ≡ length new = search rules in
     let whole : take c.args.store.now.logs.len (new ++ behind) ≡ new = ap (λ n. take n (new ++ behind)) len ∙ take-append_seam new behind in
     crash_forced c.deref_mut.result.now items new (take c.args.store.now.logs.len (new ++ behind)) c.crash.result c.deref_mut.ensures.value (sym whole) c.args.tenants.now c.args.event.now
-    c.args.store.now.slots c.crash.new.slots c.in-Crash.images c.args.store.now.serving c.in-Crash.is
-    (subst (λ images. IfOk c.crash.result (λ note. CrashesFrom c.args.tenants.now images c.args.store.now.slots c.crash.new.slots note c.deref_mut.result.now new)) c.deref.ensures.value c.crash.ensures.forced)
+    c.args.store.now.slots c.crash.new.slots c.in-Crash.images c.args.store.now.serving c.in-Crash.is c.crash.ensures.forced
 
 pub crash-requires-clause-there : goal.crash-requires-clause-there
 crash-requires-clause-there c = not_away c.args.tenants.now c.args.store.now.slots c.requires.held.0 c.args.store.now.logs.items c.args.store.now.serving c.requires.held.1

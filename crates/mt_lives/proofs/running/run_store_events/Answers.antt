@@ -10,10 +10,13 @@ pub returns-clause-forced : goal.returns-clause-forced
 returns-clause-forced c =
     let serves = c.in_ok-store.ensures.serves in
     let slots = c.in_ok-store.ensures.slots in
+    let made = c.in_ok-store.ensures.made in
     let new = c.note_all.new.store in
     record {
+      closed = made.0;
+      closed_so = made.1;
       first = c.in_ok-store.store.logs.items;
-      made = c.in_ok-store.ensures.made;
+      made = made.2;
       serving = serves.0;
       first_slots = slots.0;
       made_slots = slots.2;

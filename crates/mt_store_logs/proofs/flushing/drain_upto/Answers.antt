@@ -1,4 +1,5 @@
 -- One drain more, towards the step that was asked for.
+use Rattle.std.proofs.Common.{◌∙◌}
 use Rattle.mt_store_logs.proofs.DrainLaws.{smaller, more, stops}
 use Rattle.mt_store_logs.proofs.flushing.drain_upto.Goals as goal
 
@@ -12,6 +13,7 @@ pub loop-mark-preserved : goal.loop-mark-preserved
 loop-mark-preserved g c = record {
   serves = c.in-Ok.ensures.serves;
   whose = c.drain_once-in-loop-mark.ensures.worker;
+  generation = c.drain_once-in-loop-mark.ensures.generation ∙ c.loop-mark.invariant.generation;
   none = c.in-Ok.ensures.ok.appended.appends.none;
   drains =
       more g.D.Disk.is_honest g.D.Disk.state g.D.Disk.failures g.S.Source.gives c.args.worker c.args.upto c.loop-mark.mark c.in-Ok.next

@@ -7,6 +7,7 @@ abbrev pub invariant-loop-mark : goal.invariant-loop-mark
 invariant-loop-mark g l = record {
   serves : g.S.Source.serves l.source l.worker l.upto;
   whose : l.log.worker ≡ l.worker;
+  generation : l.log.generation ≡ l.fn.log.generation;
   none : l.log.kept ≡ None;
   drains : HasDrained g.D.Disk.is_honest g.D.Disk.state g.D.Disk.failures g.S.Source.gives l.worker l.upto l.mark l.fn.log l.log l.fn.source l.source;
 }

@@ -1,6 +1,6 @@
--- By the lemmas for callers.
-use Rattle.mt_store_logs.proofs.CallerLemmas.{drained}
+-- By the law for the end of a whole log.
+use Rattle.mt_store_logs.proofs.EndLaws.{drained_waits}
 use Rattle.mt_store_logs.proofs.laws.a_drained_batch_waits.Goals as goal
 
 pub returns : goal.returns
-returns g c = drained g.D.Disk.is_honest g.D.Disk.state
+returns g c = drained_waits g.D.Disk.is_honest g.D.Disk.state

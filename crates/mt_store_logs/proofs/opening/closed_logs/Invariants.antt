@@ -1,10 +1,10 @@
--- The logs so far, and those on the disks that are left.
-use Rattle.std.proofs.Common.{◌≡◌, ◌+◌, ◌++◌, length}
-use Rattle.mt_store_logs.specs.Places.{closed_from, closed_on}
+-- The logs so far, and those on the files that are left.
+use Rattle.std.proofs.Common.{◌≡◌, ◌+◌, length}
+use Rattle.mt_store_logs.proofs.Closed.{SoFar}
 use Rattle.mt_store_logs.proofs.opening.closed_logs.Given as goal
 
-abbrev pub invariant-loop-disk : goal.invariant-loop-disk
-invariant-loop-disk g l = record {
-  all : l.logs.items ++ closed_from (length l.logs.items) l.disk-iterator.rest.items ≡ closed_on l.fn.disks.items;
-  count : length l.logs.items + length l.disk-iterator.rest.items ≡ length l.fn.disks.items;
+abbrev pub invariant-loop-one : goal.invariant-loop-one
+invariant-loop-one g l = record {
+  so_far : SoFar (length l.fn.files.items) l.fn.files.items l.logs.items l.one-iterator.rest.items;
+  count : length l.logs.items + length l.one-iterator.rest.items ≡ length l.fn.files.items;
 }

@@ -1,6 +1,6 @@
 -- One log more is made, or was not.
 use Rattle.std.{proofs.Common.{◌∙◌, length, sym, subst}, specs.Prelude.slice_set}
-use Rattle.mt_store_logs.specs.Places.{MakesLog, FailsToMakeLog, StopsMaking}
+use Rattle.mt_store_logs.specs.Opens.{MakesLog, FailsToMakeLog, StopsMaking}
 use Rattle.mt_store_logs.proofs.Loops.{same_workers, one_more, still_left, same_len, walked, stopped, next_was}
 use Rattle.mt_store_logs.proofs.opening.create_logs.Goals as goal
 
@@ -15,8 +15,8 @@ returns-in-Err-clause-err g c =
     let new = c.create_log.new.log in
     let i = c.loop-place.invariant in
     subst (λ e. StopsMaking is_honest state failures e old (slice_set now place new)) (sym c.at.ensures)
-    (stopped (λ k was is. MakesLog is_honest state failures k (length old) was is) (FailsToMakeLog is_honest state failures) place old now new c.loop-place-test.true i.len i.before i.left
-    (λ was there. subst (λ x. FailsToMakeLog is_honest state failures x new) (next_was place old now c.index-logs-place.result was i.left there) c.in-Err.ensures.err))
+    (stopped (λ k was is. MakesLog is_honest state failures k (length old) was is) (FailsToMakeLog is_honest state failures place (length old)) place old now new c.loop-place-test.true i.len i.before i.left
+    (λ was there. subst (λ x. FailsToMakeLog is_honest state failures place (length old) x new) (next_was place old now c.index-logs-place.result was i.left there) c.in-Err.ensures.err))
 
 pub loop-place-preserved : goal.loop-place-preserved
 loop-place-preserved g c =

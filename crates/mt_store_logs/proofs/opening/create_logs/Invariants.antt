@@ -1,6 +1,6 @@
 -- The logs so far are made, and those that are left are as they were.
 use Rattle.std.{proofs.Common.{◌≡◌, ℕ, ◌≤◌, length}, specs.Prelude.slice_get}
-use Rattle.mt_store_logs.specs.{Lists.EachBefore, Places.{workers_of, MakesLog}}
+use Rattle.mt_store_logs.specs.{Lists.EachBefore, Places.workers_of, Opens.MakesLog}
 use Rattle.mt_store_logs.proofs.opening.create_logs.Given as goal
 
 abbrev pub invariant-loop-place : goal.invariant-loop-place

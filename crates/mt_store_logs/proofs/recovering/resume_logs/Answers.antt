@@ -1,6 +1,6 @@
 -- One log more has its resume batch, or has it not for certain.
-use Rattle.std.{proofs.Common.{◌∙◌, refl, sym, subst}, specs.Prelude.{slice_index_or, slice_set}}
-use Rattle.mt_store_logs.specs.{declared.store_log.StoreLog.StoreLog, Recovers.{ResumesLog, FailsToResumeLog, StopsResuming}}
+use Rattle.std.{proofs.Common.{◌∙◌, sym, subst}, specs.Prelude.{slice_set}}
+use Rattle.mt_store_logs.specs.{Recovers.{ResumesLog, FailsToResumeLog, StopsResuming}}
 use Rattle.mt_store_logs.proofs.Loops.{same_workers, one_more, still_left, same_len, walked, stopped, next_was}
 use Rattle.mt_store_logs.proofs.recovering.resume_logs.Goals as goal
 
@@ -14,11 +14,11 @@ returns-in-Err-clause-err g c =
     let old = c.args.logs.now in
     let now = c.loop-place.logs in
     let place = c.loop-place.place in
-    let new : StoreLog g.row.D.Denot = record { worker = (slice_index_or now place c.index-logs-place.result).worker; slot = c.resume_at.new.log; kept = (slice_index_or now place c.index-logs-place.result).kept } in
+    let new = c.resume_log.new.log in
     let i = c.loop-place.invariant in
     subst (λ e. StopsResuming is_honest state failures kept to e old (slice_set now place new)) (sym c.at.ensures)
     (stopped (λ k was is. ResumesLog is_honest state failures kept to was is) (FailsToResumeLog is_honest state failures kept to c.in-Err.refusal) place old now new c.loop-place-test.true i.len i.before i.left
-    (λ was there. subst (λ x. FailsToResumeLog is_honest state failures kept to c.in-Err.refusal x new) (next_was place old now c.index-logs-place.result was i.left there) (c.in-Err.ensures.err, refl)))
+    (λ was there. subst (λ x. FailsToResumeLog is_honest state failures kept to c.in-Err.refusal x new) (next_was place old now c.index-logs-place.result was i.left there) c.in-Err.ensures.err))
 
 pub loop-place-preserved : goal.loop-place-preserved
 loop-place-preserved g c =
@@ -30,14 +30,14 @@ loop-place-preserved g c =
     let old = c.args.logs.now in
     let now = c.loop-place.logs in
     let place = c.loop-place.place in
-    let new : StoreLog g.row.D.Denot = record { worker = (slice_index_or now place c.index-logs-place.result).worker; slot = c.resume_at.new.log; kept = (slice_index_or now place c.index-logs-place.result).kept } in
+    let new = c.resume_log.new.log in
     let i = c.loop-place.invariant in
     record {
-      workers = same_workers place now new c.index-logs-place.result (refl) ∙ i.workers;
+      workers = same_workers place now new c.index-logs-place.result c.resume_log.ensures.worker ∙ i.workers;
       len = same_len place old now new i.len;
       before =
           one_more (λ k was is. ResumesLog is_honest state failures kept to was is) place old now new i.before (λ was there.
-          subst (λ x. ResumesLog is_honest state failures kept to x new) (next_was place old now c.index-logs-place.result was i.left there) (c.in_default.ensures.ok, refl));
+          subst (λ x. ResumesLog is_honest state failures kept to x new) (next_was place old now c.index-logs-place.result was i.left there) c.in_default.ensures.ok);
       left = still_left place old now new i.left;
     }
 
@@ -50,5 +50,5 @@ pub returns-in-Err-clause-workers : goal.returns-in-Err-clause-workers
 returns-in-Err-clause-workers g c =
     let now = c.loop-place.logs in
     let place = c.loop-place.place in
-    let new : StoreLog g.row.D.Denot = record { worker = (slice_index_or now place c.index-logs-place.result).worker; slot = c.resume_at.new.log; kept = (slice_index_or now place c.index-logs-place.result).kept } in
-    same_workers place now new c.index-logs-place.result refl ∙ c.loop-place.invariant.workers
+    let new = c.resume_log.new.log in
+    same_workers place now new c.index-logs-place.result c.resume_log.ensures.worker ∙ c.loop-place.invariant.workers

@@ -1,7 +1,7 @@
 -- One log more is in order, or is not.
 use Rattle.std.proofs.{Common.{◌≡◌, ◌∙◌, ◌<◌, ◌≤◌, ⊎_elim, true≢false, Some, refl, sym, ap, arith}, lemmas.Option.same_Some, Math.Nat.eq-or-lt_of_le}
 use Rattle.std.specs.Prelude.{slice_get}
-use Rattle.mt_store_logs.{specs.declared.store_log.StoreLog.StoreLog, proofs.Loops.{read_or, get_within}}
+use Rattle.mt_store_logs.{specs.{declared.store_log.StoreLog.StoreLog, Places.worker_of}, proofs.Loops.{read_or, get_within}}
 use Rattle.mt_stored.proofs.stores.are_in_order.Goals as goal
 
 pub returns-then-from-place : goal.returns-then-from-place
@@ -22,7 +22,7 @@ loop-place-preserved g c = λ k log below there.
     ⊎_elim
     (λ (e : k ≡ place).
     let own : here ≡ log = same_Some here log (sym is ∙ sym (ap (slice_get logs) e) ∙ there) in
-    let whose = ap (λ (l : StoreLog g.row.D.Denot). l.worker) own in
+    let whose = ap (λ (l : StoreLog g.row.D.Denot). worker_of l) own in
     omega (arith, e, whose, c.worker.ensures, c.from.ensures, c.if-from-place.false))
     (λ (less : k < place). c.loop-place.invariant k log less there)
     (eq-or-lt_of_le upto)

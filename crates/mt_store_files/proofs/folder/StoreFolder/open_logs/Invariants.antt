@@ -1,6 +1,6 @@
 use Rattle.std.proofs.Common.{◌≡◌, vec_len}
 use Rattle.mt_store_files.proofs.folder.StoreFolder.open_logs.Given as goal
 
--- one disk for each worker so far
+-- the files of each worker so far
 abbrev pub invariant-loop-worker : goal.invariant-loop-worker
-invariant-loop-worker g l = vec_len l.disks ≡ l.worker
+invariant-loop-worker g l = vec_len l.files ≡ l.worker

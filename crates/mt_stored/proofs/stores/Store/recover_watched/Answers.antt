@@ -1,7 +1,7 @@
-use Rattle.std.{proofs.{Common.{◌≡◌, ◌∙◌, length, refl, sym, ap, subst, arith, inr}, lemmas.Result.err_from_is_err_and}, specs.List.All}
-use Rattle.mt_store_logs.specs.{Places.{AreInOrder, closed_on}, Recovers.{ServesAgain, IsNotRecovered}}
-use Rattle.mt_store_logs.proofs.{Closed.{length-closed, closed_in_order, same_order}, Limits.{limits_of, resumes_within, stamps_of}}
-use Rattle.mt_rows.specs.TenantPairs.{AreDistinct, AreStampedUpto, IsTenantPair}
+use Rattle.std.{proofs.{Common.{◌≡◌, ◌∙◌, ℕ, length, refl, sym, subst, arith, inr}, lemmas.Result.err_from_is_err_and}, specs.List.All}
+use Rattle.mt_store_logs.specs.{Places.AreInOrder, Opens.AreClosedOn, Recovers.{ServesAgain, IsNotRecovered}}
+use Rattle.mt_store_logs.proofs.{Closed.{closed_in_order, same_order}, Limits.{limits_of, resumes_within, stamps_of}}
+use Rattle.mt_rows.specs.TenantPairs.{AreDistinct, AreStampedUpto, HasTenants, IsTenantPair, KeepsQuotas, pairs_of, quota_in}
 use Rattle.mt_core.specs.Restores.{IsRestored}
 use Rattle.mt_recover.proofs.Limits.{distinct}
 use Rattle.mt_stored.proofs.Slices.{whole}
@@ -25,48 +25,63 @@ pub restore-requires-clause-distinct : goal.restore-requires-clause-distinct
 restore-requires-clause-distinct g c =
     subst AreDistinct (sym c.deref.ensures.value) (distinct c.in_ok-recovered.recovered.pairs.items c.in_ok-recovered.ensures.ok.recovers.ascend)
 
+pub restore-requires-clause-tenants : goal.restore-requires-clause-tenants
+restore-requires-clause-tenants g c =
+    subst (λ ps. HasTenants (quota_in c.args.tenants) (pairs_of ps)) (sym c.deref.ensures.value) c.in_ok-recovered.ensures.ok.recovers.tenants
+
+pub restore-requires-clause-quotas : goal.restore-requires-clause-quotas
+restore-requires-clause-quotas g c =
+    subst (λ ps. KeepsQuotas (quota_in c.args.tenants) (pairs_of ps)) (sym c.deref.ensures.value) c.in_ok-recovered.ensures.ok.recovers.quotas
+
 pub returns-in-Ok-clause-ok : goal.returns-in-Ok-clause-ok
 returns-in-Ok-clause-ok g c =
-    let disks = c.args.disks.items in
+    let files = c.args.files in
     let logs = c.in_ok-logs.logs in
     let r = c.in_ok-recovered.recovered in
     let new = c.recover_store.new.logs in
     let kept = c.recover_store.new.slots in
-    let old = c.deref_mut.ensures.value ∙ c.in_ok-logs.ensures.ok in
-    let serves = subst (λ was. ServesAgain g.D.Disk.is_honest g.D.Disk.state g.D.Disk.failures c.args.tenants r was c.args.slots new kept) old c.in_ok-recovered.ensures.ok in
-    let count : logs.len ≡ length disks = omega (arith, logs.ok.0, ap length c.in_ok-logs.ensures.ok, length-closed 0 disks) in
-    let same : logs.len ≡ length new = omega (arith, count, serves.opens.each.len, serves.resumes.len, length-closed 0 disks) in
-    let counted : c.len-count.result ≡ length disks = omega (arith, c.len-count.ensures, count, same) in
+    let serves = subst (λ was. ServesAgain g.D.Disk.is_honest g.D.Disk.state g.D.Disk.failures c.args.tenants r was c.args.slots new kept) c.deref_mut.ensures.value c.in_ok-recovered.ensures.ok in
+    let len = c.in_ok-logs.ensures.ok.count in
+    let count : logs.len ≡ length files.items = omega (arith, logs.ok.0, len) in
+    let same : logs.len ≡ length new = omega (arith, logs.ok.0, serves.opens.back.len, serves.resumes.len) in
+    let counted : c.len-count.result ≡ length files.items = omega (arith, c.len-count.ensures, count, same) in
     record {
       recovered = r;
       kept = kept;
       slots_are = refl;
+      closed = logs.items;
+      closed_so = subst (λ (n : ℕ). AreClosedOn n files.items logs.items) (omega (arith, files.ok.0)) c.in_ok-logs.ensures.ok;
       serves =
-          subst (λ logs_now. ServesAgain g.D.Disk.is_honest g.D.Disk.state g.D.Disk.failures c.args.tenants r (closed_on disks) c.args.slots logs_now kept) (sym (whole logs.len new _ same)) serves;
+          subst (λ logs_now. ServesAgain g.D.Disk.is_honest g.D.Disk.state g.D.Disk.failures c.args.tenants r logs.items c.args.slots logs_now kept) (sym (whole logs.len new _ same)) serves;
       restored =
-          subst (λ ps. IsRestored r.resume (length disks) c.args.tenants ps c.in-Ok.state) c.deref.ensures.value
+          subst (λ ps. IsRestored r.resume (length files.items) c.args.tenants ps c.in-Ok.state) c.deref.ensures.value
           (subst (λ n. IsRestored r.resume n c.args.tenants c.deref.result.now c.in-Ok.state) counted c.in-Ok.ensures);
     }
 
 pub invariant_of-result-clause-order : goal.invariant_of-result-clause-order
 invariant_of-result-clause-order g c =
-    let disks = c.args.disks.items in
+    let files = c.args.files in
     let logs = c.in_ok-logs.logs in
     let new = c.recover_store.new.logs in
     let kept = c.recover_store.new.slots in
-    let old = c.deref_mut.ensures.value ∙ c.in_ok-logs.ensures.ok in
-    let serves = subst (λ was. ServesAgain g.D.Disk.is_honest g.D.Disk.state g.D.Disk.failures c.args.tenants c.in_ok-recovered.recovered was c.args.slots new kept) old c.in_ok-recovered.ensures.ok in
-    let count : logs.len ≡ length disks = omega (arith, logs.ok.0, ap length c.in_ok-logs.ensures.ok, length-closed 0 disks) in
-    let same : logs.len ≡ length new = omega (arith, count, serves.opens.each.len, serves.resumes.len, length-closed 0 disks) in
+    let serves = subst (λ was. ServesAgain g.D.Disk.is_honest g.D.Disk.state g.D.Disk.failures c.args.tenants c.in_ok-recovered.recovered was c.args.slots new kept) c.deref_mut.ensures.value c.in_ok-recovered.ensures.ok in
+    let same : logs.len ≡ length new = omega (arith, logs.ok.0, serves.opens.back.len, serves.resumes.len) in
     subst AreInOrder (sym (whole logs.len new _ same))
-    (same_order c.deref_mut.result.now new c.recover_store.ensures.workers (subst AreInOrder (sym old) (closed_in_order disks)))
+    (same_order c.deref_mut.result.now new c.recover_store.ensures.workers
+    (subst AreInOrder (sym c.deref_mut.ensures.value) (closed_in_order files.len files.items logs.items c.in_ok-logs.ensures.ok)))
 
 pub returns-in_err-recovered-clause-err : goal.returns-in_err-recovered-clause-err
 returns-in_err-recovered-clause-err g c =
-    let disks = c.args.disks.items in
+    let files = c.args.files in
+    let logs = c.in_ok-logs.logs in
     let new = c.recover_store.new.logs in
     let kept = c.recover_store.new.slots in
-    let old = c.deref_mut.ensures.value ∙ c.in_ok-logs.ensures.ok in
     let e = c.in_err-recovered.field-0.0 in
     let p = err_from_is_err_and c.from_residual-in_err-recovered.result c.from_residual-in_err-recovered.ensures.1 in
-    rw (p.1, p.2) (inr (new, kept, subst (λ was. IsNotRecovered g.D.Disk.is_honest g.D.Disk.state g.D.Disk.failures c.args.tenants e was c.args.slots new kept) old c.in_err-recovered.ensures.err))
+    rw (p.1, p.2) (inr (record {
+      closed = logs.items;
+      closed_so = subst (λ (n : ℕ). AreClosedOn n files.items logs.items) (omega (arith, files.ok.0)) c.in_ok-logs.ensures.ok;
+      left = new;
+      slots = kept;
+      stops = subst (λ was. IsNotRecovered g.D.Disk.is_honest g.D.Disk.state g.D.Disk.failures c.args.tenants e was c.args.slots new kept) c.deref_mut.ensures.value c.in_err-recovered.ensures.err;
+    }))

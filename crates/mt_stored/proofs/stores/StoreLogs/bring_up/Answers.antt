@@ -2,7 +2,7 @@
 use Rattle.std.proofs.{Common.{rules, ◌≡◌, ◌<◌, length, Some, sym, subst, ap, ◌∙◌, arith}, lemmas.Option.slice_get-get_or, lemmas.Result.IfOk-weaker}
 use Rattle.std.specs.Prelude.{slice_get, slice_set, IfOk, IfErr}
 use Rattle.mt_settle.specs.Turns.{BroughtUp, mark_told}
-use Rattle.mt_store_logs.{proofs.{Closed.same_order, Loops.same_workers}, specs.LogTurns.{BringsUp, FailsToBringUp}}
+use Rattle.mt_store_logs.{proofs.{Closed.same_order, Loops.same_workers}, specs.{Places.worker_of, LogTurns.{BringsUp, FailsToBringUp}}}
 use Rattle.mt_stored.{specs.Stores.{gives_own, DoesStore}, proofs.StoreTurns.{turned, as_many}}
 use Rattle.mt_stored.proofs.stores.StoreLogs.bring_up.Goals as goal
 
@@ -13,7 +13,7 @@ bring_up-requires g c =
     let before = c.index_mut.result.now in
     let within : place < length logs = search rules in
     let there : slice_get logs place ≡ Some before = slice_get-get_or logs place before within ∙ ap Some (sym c.index_mut.ensures.value) in
-    let whose : before.worker ≡ place = c.args.self.now.order place before there in
+    let whose : worker_of before ≡ place = c.args.self.now.order place before there in
     let all = c.args.self.now.all in
     let len = c.args.self.now.logs.ok.0 in
     (omega (arith, whose, within, all, len), omega (arith, c.steps-steps.ensures.value))
@@ -38,12 +38,12 @@ returns-clause-does g c =
     let r = c.bring_up.result in
     let within : place < length logs = search rules in
     let there : slice_get logs place ≡ Some before = slice_get-get_or logs place before within ∙ ap Some (sym c.index_mut.ensures.value) in
-    let whose : before.worker ≡ c.args.log = c.args.self.now.order place before there ∙ c.from.ensures in
+    let whose : worker_of before ≡ c.args.log = c.args.self.now.order place before there ∙ c.from.ensures in
     subst (λ k. DoesStore g.D.Disk.is_honest g.D.Disk.state g.D.Disk.failures (BroughtUp c.args.log (mark_told r)) was logs is (slice_set logs k after)) (sym c.from.ensures)
-    (turned g.D.Disk.is_honest g.D.Disk.state g.D.Disk.failures c.args.log before.worker r was is logs before after
+    (turned g.D.Disk.is_honest g.D.Disk.state g.D.Disk.failures c.args.log r was is logs before after
     (subst (λ k. slice_get logs k ≡ Some before) c.from.ensures there) whose
-    (subst (λ n. IfOk r (λ f. BringsUp g.D.Disk.is_honest g.D.Disk.state g.D.Disk.failures gives_own before.worker n f.mark before after was is)) c.steps-steps.ensures.value c.bring_up.ensures.ok)
-    (subst (λ n. IfErr r (λ e. FailsToBringUp g.D.Disk.is_honest g.D.Disk.state g.D.Disk.failures gives_own before.worker n e before after was is)) c.steps-steps.ensures.value c.bring_up.ensures.err))
+    (subst (λ n. IfOk r (λ f. BringsUp g.D.Disk.is_honest g.D.Disk.state g.D.Disk.failures gives_own n f.mark before after was is)) c.steps-steps.ensures.value c.bring_up.ensures.ok)
+    (subst (λ n. IfErr r (λ e. FailsToBringUp g.D.Disk.is_honest g.D.Disk.state g.D.Disk.failures gives_own n e before after was is)) c.steps-steps.ensures.value c.bring_up.ensures.err))
 
 pub invariant_of-self : goal.invariant_of-self
 invariant_of-self g c =
@@ -53,10 +53,10 @@ invariant_of-self g c =
     let after = c.bring_up.new.log in
     record {
       all =
-          as_many g.D.Disk.is_honest g.D.Disk.state g.D.Disk.failures before.worker c.steps-steps.result c.bring_up.result c.args.self.now.source c.bring_up.new.source
+          as_many g.D.Disk.is_honest g.D.Disk.state g.D.Disk.failures c.steps-steps.result c.bring_up.result c.args.self.now.source c.bring_up.new.source
           before after c.bring_up.ensures.ok c.bring_up.ensures.err
           ∙ c.args.self.now.all;
       order =
-          same_order logs (slice_set logs place after) (same_workers place logs after before (c.bring_up.ensures.worker ∙ ap (λ l. l.worker) c.index_mut.ensures.value))
+          same_order logs (slice_set logs place after) (same_workers place logs after before (c.bring_up.ensures.worker ∙ ap (λ l. worker_of l) c.index_mut.ensures.value))
           c.args.self.now.order;
     }
