@@ -17,8 +17,8 @@ import sys
 from pathlib import Path
 
 TOOLS = ("losetup", "mkfs.ext4", "e2fsck", "mount", "sync", "umount", "unshare")
-SIZE = 2 << 30  # of the file, which has holes
-FORM = ("-b", "4096", "-O", "^has_journal,bigalloc", "-C", "16M", "-N", "64", "-E", "lazy_itable_init=0")
+SIZE = 4 << 30  # of the file, which has holes: each of the 194 files of a store of 64 workers takes a cluster
+FORM = ("-b", "4096", "-O", "^has_journal,bigalloc", "-C", "16M", "-N", "256", "-E", "lazy_itable_init=0")
 OPTIONS = "dioread_lock"  # no extents that are taken first and marked as written later
 MOST_EXTENTS = 2  # four are in the file's entry of the table, and more may come while the device fails
 

@@ -229,9 +229,12 @@ def make_store(program: str, order: Order, folder: Path) -> list[bytes]:
     return keys
 
 
-def started(program: str, order: Order, growth: int, made: Path, keys: list[bytes], folder: Path) -> str | None:
-    """What came of a start over a store: its recovery and the state that is restored."""
+def started(program: str, order: Order, growth: int, made: Path, keys: list[bytes], folder: Path, is_older: bool) -> str | None:
+    """What came of a start over a store, or over one without numbered files: its recovery and the state that is restored."""
     shutil.copytree(made, folder)
+    if is_older:
+        for path in folder.glob("wal-??-?"):
+            path.unlink()
     order.refuse(growth)
     with Server(program, order, "--workers", "2", "--store", str(folder)) as server:
         was_refused = order.release()
@@ -252,8 +255,8 @@ Trial = Callable[[Order, int, Path], "str | None"]
 CALLED, HELD = "{}, called over a book", "{}, all growths refused from one on"
 SPLITS = ("a put that splits", "a put that splits an upper node")
 SETTLES = {"a Settle": ([], 0), "a flush at the 1,024th answer": ([], 1_020), "a Settle and a checkpoint": (["--checkpoint", "1"], 0)}
-STARTS = "a recovery and a restore"
-NAMES = [*map(CALLED.format, CALLS), *map(HELD.format, SPLITS), *SETTLES, STARTS]
+STARTS = {"a recovery and a restore": False, "a start that makes numbered files": True}
+NAMES = [*map(CALLED.format, CALLS), *map(HELD.format, SPLITS), *SETTLES, *STARTS]
 
 
 def rows(program: str, order: Order, room: Path) -> dict[str, Trial]:
@@ -267,5 +270,6 @@ def rows(program: str, order: Order, room: Path) -> dict[str, Trial]:
         found[HELD.format(name)] = lambda order, growth, _, call=CALLS[name]: called(program, order, growth, call, True)
     for name, (words, answers) in SETTLES.items():
         found[name] = lambda order, growth, folder, words=words, answers=answers: settled(program, order, growth, folder, words, answers)
-    found[STARTS] = lambda order, growth, folder: started(program, order, growth, made, keys, folder)
+    for name, is_older in STARTS.items():
+        found[name] = lambda order, growth, folder, is_older=is_older: started(program, order, growth, made, keys, folder, is_older)
     return found
