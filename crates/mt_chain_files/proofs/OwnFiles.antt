@@ -26,8 +26,8 @@ use Rattle.mt_chain_files.specs.Turns.{FilesNow, now_of, pair_of, IsOfGeneration
 use Rattle.mt_chain_files.proofs.Loops.{get_within, zip_of, zip_count, before_or_after}
 use Rattle.mt_chain_files.proofs.Agreeing.{agree_self, NoneFirst, over_zero, none_first}
 use Rattle.mt_chain_files.proofs.Faults.{IsOutside, plain_found, plain_failed, numbered_failed}
-use Rattle.mt_chain_files.proofs.Narrowing.{ShowsNarrower, stay_theirs, stays_narrow}
-use Rattle.mt_chain_files.proofs.Starts.{LeavesNoMore, HasFirstOrNext, leave_no_more, all_narrow_leave, after_rests}
+use Rattle.mt_chain_files.proofs.Narrowing.{Narrows, ShowsNarrower, stay_theirs, stays_narrow}
+use Rattle.mt_chain_files.proofs.Starts.{LeavesNoMore, HasFirstOrNext, HasFrom, leave_no_more, all_narrow_leave, all_have_chains}
 use Rattle.mt_chain_files.proofs.Reading.{first_in, second_in, after_of, after_turn, least, least_left, found_first, found_none, ReadOf, Tells, found_of, stands_less}
 use Rattle.mt_chain_files.proofs.Resting.{last_of_turn, stay_spare}
 use Rattle.mt_rows.specs.declared.refusal.Refusal.TheVariants as refusals
@@ -718,13 +718,6 @@ module _ {D : Type 0} (is_honest : D → Bool) (state : D → DiskState) (failur
         let r = o.reads in
         leave_no_more g s.logs files r.logs turn (all_places r.between r.first r.numbered new r.logs r.plain).0 (first_or_next new chains o)
 
-    pub opened_rest : (new : List (WorkerFiles D)) (chains : Chains) (o : OpensChains is_honest state failures slots old new chains) (m : ℕ) (f : FilesNow) (now : LogNow)
-        → In f (opened new chains o).files → now_of m f ≡ Has now → now.doubt ≡ None
-    unfolding opened
-    opened_rest new chains o m f now at has =
-        let w = map_in after_of f o.reads.logs at in
-        after_rests m w.0 now (sym (ap (now_of m) w.2) ∙ has)
-
     pub failed_leave : (new : List (WorkerFiles D)) (e : FilesFault) (stops : StopsChains is_honest state failures slots e old new)
         → AllZip (LeavesNoMore g) files (failed new e stops).1.files
     unfolding failed stay
@@ -734,3 +727,22 @@ module _ {D : Type 0} (is_honest : D → Bool) (state : D → DiskState) (failur
     failed_leave new e (inr (inr refuses)) =
         let r = refuses.reads in
         all_narrow_leave g files _ (stays_narrow is_honest state g h s files new turn whole (all_places r.between r.first r.numbered new r.logs r.plain).2)
+
+    -- the files that were opened have the logs from which the chains are
+    pub opened_have : (new : List (WorkerFiles D)) (chains : Chains) (o : OpensChains is_honest state failures slots old new chains)
+        → AllZip (λ (f : FilesNow) (c : Chain). HasFrom g chains.generation c.start f) (opened new chains o).files (map contents_of chains.fronts.items)
+    unfolding opened
+    opened_have new chains o =
+        let r = o.reads in
+        all_have_chains g chains.generation s.logs files r.logs (map contents_of chains.fronts.items) turn (all_places r.between r.first r.numbered new r.logs r.plain).0
+        (o.chosen (map read_of r.logs) (agree_self chains.generation (map read_of r.logs))).chosen.0
+
+    -- files that were not all opened narrow
+    pub failed_narrow : (new : List (WorkerFiles D)) (e : FilesFault) (stops : StopsChains is_honest state failures slots e old new)
+        → AllZip Narrows files (failed new e stops).1.files
+    unfolding failed stay
+    failed_narrow new e (inl stops) = stays_narrow is_honest state g h s files new turn whole (stops_numbered files e.log e.refusal old new shows stops).1
+    failed_narrow new e (inr (inl stops)) = stays_narrow is_honest state g h s files new turn whole (stops_plain stops.between stops.first stops.numbered e.log e.refusal new stops.plain.0 stops.plain.1).1
+    failed_narrow new e (inr (inr refuses)) =
+        let r = refuses.reads in
+        stays_narrow is_honest state g h s files new turn whole (all_places r.between r.first r.numbered new r.logs r.plain).2

@@ -1,11 +1,12 @@
 -- What may be left of a worker's files after they were opened: no more than before.
-use Rattle.std.proofs.Common.{◌≡◌, ◌⊎◌, inl, inr, ⊎_elim, ℕ, ◌+◌, ◌==◌, ◌%◌, Bool, true, false, cond, List, [], ◌∷◌, map, refl, sym, ◌∙◌, ap, subst, Option, Some, None}
+use Rattle.std.proofs.Common.{◌≡◌, ◌⊎◌, inl, inr, ⊎_elim, ℕ, ◌+◌, ◌==◌, ◌%◌, Bool, true, false, cond, List, [], ◌∷◌, ◌++◌, map, refl, sym, ◌∙◌, ap, subst, Option, Some, None}
+use Rattle.std.proofs.lemmas.Option.{same_Some}
 use Rattle.std.specs.{List.AllZip, Option.option_map}
 use Rattle.mt_log.specs.Contents.{Contents, contents_of}
 use Rattle.mt_crashes.{specs.Stores.{LogNow, at_rest}, proofs.Members.no_some}
-use Rattle.mt_generations.specs.Standings.{AllHave}
+use Rattle.mt_generations.specs.{Chains.Chain, Standings.{AllHave, AreFrom, chain_from, joined}}
 use Rattle.mt_chains.specs.{declared.worker_logs.WorkerLogs.WorkerLogs, Files.{standing_of as read_of}}
-use Rattle.mt_log_files.specs.{Files.{FileNow, Spare, Has, MayHave, MayLeaveFile, found_as}}
+use Rattle.mt_log_files.specs.{Workers.standing_of, Files.{FileNow, Spare, Has, MayHave, MayLeaveFile, found_as}}
 use Rattle.mt_chain_files.specs.Turns.{FilesNow, now_of, AreOfTurn}
 use Rattle.mt_chain_files.proofs.Narrowing.{Narrows, narrow_left, narrow_now}
 use Rattle.mt_chain_files.proofs.Reading.{first_in, second_in, after_of, as_found, found_first, found_next, ReadOf, FoundOf, found_of}
@@ -90,23 +91,34 @@ all_narrow_leave g [] (f ∷ is) n = absurd n
 all_narrow_leave g (w ∷ was) [] n = absurd n
 all_narrow_leave g (w ∷ was) (f ∷ is) n = (narrow_leaves g w f n.0, all_narrow_leave g was is n.1)
 
--- ---- files that rest
+-- ---- the log from which a chain is
 
-log_in : LogNow → FileNow → LogNow
-log_in other Spare = other
-log_in other (Has now) = now
-log_in other (MayHave c) = other
+-- what is left of a worker's files has a log of that generation, which began there
+abbrev pub HasFrom : ℕ → ℕ → ℕ → FilesNow → Type 0
+HasFrom g h start files = (x y : Option Contents) → MayLeaveFile (now_of g files) x → MayLeaveFile (now_of (g + 1) files) y
+    → (d : Chain) × (standing_of g x y h ≡ Some d) × (d.start ≡ start)
 
-found_rests : (z : Option Contents) (now : LogNow) → found_as z ≡ Has now → now.doubt ≡ None
-unfolding log_in
-found_rests None now is = absurd cc
-found_rests (Some c) now is = ap (λ (f : FileNow). (log_in now f).doubt) (sym is)
+starts_there : (x y : Option Chain) (c : Chain) → joined x y ≡ Some c → (a : Chain) × (x ≡ Some a) × (a.start ≡ c.start)
+starts_there None y c e = absurd (no_some c e)
+starts_there (Some a) None c e = (a, refl, ap (λ (d : Chain). d.start) (same_Some a c e))
+starts_there (Some a) (Some next) c e = (a, refl, ap (λ (d : Chain). d.start) (same_Some (record a { batches = a.batches ++ next.batches }) c e))
 
--- a log in a file that was opened rests
-pub after_rests : (h : ℕ) (one : WorkerLogs) (now : LogNow) → now_of h (after_of one) ≡ Has now → now.doubt ≡ None
-after_rests h one now = by (h == 0) (h % 2 == 0)
-  where
-    by : (first even : Bool) → cond first (after_of one).plain (cond even (after_of one).even (after_of one).odd) ≡ Has now → now.doubt ≡ None
-    by true even is = found_rests (option_map contents_of one.plain) now is
-    by false true is = found_rests (option_map contents_of (first_in one.numbered)) now is
-    by false false is = found_rests (option_map contents_of (second_in one.numbered)) now is
+-- a worker's files that were opened have the log from which its chain is
+has_chain : (g h : ℕ) (files : FilesNow) (one : WorkerLogs) (now : LogNow) (c : Chain) → AreOfTurn g now files → ReadOf g files one → chain_from h (read_of one) ≡ Some c
+    → HasFrom g h c.start (after_of one)
+has_chain g h files one now c turn read is x y left_x left_y =
+    let found = found_of files one g now turn read in
+    let same_x = as_found found.kept x (subst (λ (f : FileNow). MayLeaveFile f x) found.at_first left_x) in
+    let same_y = as_found found.y y (subst (λ (f : FileNow). MayLeaveFile f y) found.at_next left_y) in
+    let a = starts_there (read_of one h) (read_of one (h + 1)) c is in
+    (a.0, ap (λ z. standing_of g z y h) same_x ∙ ap (λ z. standing_of g found.kept z h) same_y ∙ found.all h ∙ a.1, a.2)
+
+pub all_have_chains : (g h : ℕ) (logs : List LogNow) (files : List FilesNow) (read : List WorkerLogs) (chains : List Chain) → AllZip (AreOfTurn g) logs files → AllZip (ReadOf g) files read
+    → AreFrom h (map read_of read) chains → AllZip (λ (f : FilesNow) (c : Chain). HasFrom g h c.start f) (map after_of read) chains
+all_have_chains g h logs files [] [] turn all are = tt
+all_have_chains g h logs files [] (c ∷ chains) turn all are = absurd are
+all_have_chains g h logs files (w ∷ read) [] turn all are = absurd are
+all_have_chains g h logs [] (w ∷ read) (c ∷ chains) turn all are = absurd all
+all_have_chains g h [] (f ∷ files) (w ∷ read) (c ∷ chains) turn all are = absurd turn
+all_have_chains g h (now ∷ logs) (f ∷ files) (w ∷ read) (c ∷ chains) turn all are =
+    (has_chain g h f w now c turn.0 all.0 are.0, all_have_chains g h logs files read chains turn.1 all.1 are.1)
