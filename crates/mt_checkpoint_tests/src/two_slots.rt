@@ -1,4 +1,5 @@
-//! The two slots of a store: which one a checkpoint is written in, and what both are read as after a failure.
+//! The two slots of a store: which one a checkpoint is written in, what it owes, and what both are read as after a
+//! failure.
 
 use crate::slots::{Told, keys_fit, pairs_of, told_of};
 use mt_disk::MemDisk;
@@ -64,7 +65,7 @@ fn both_written(alloc: Global) -> Result<StoreSlots<MemDisk>, AllocError> {
 fn each_checkpoint_goes_to_the_other_slot(rt: HostRuntime) -> Result<(), Fail> {
     let alloc = rt.alloc();
     let (mut slots, fault) = slots_with(alloc, &[], &[])?;
-    assert!(rt; fault.is_none() && slots.newest().is_none());
+    assert!(rt; fault.is_none() && slots.newest().is_none() && slots.owed() == 0);
     assert!(rt; told_both(alloc, &mut slots) == Ok([Told::None, Told::None]));
     for (steps, slot, told) in [
         ((6, 9), Slot::First, [Told::Walk(6, 9, 1), Told::None]),
@@ -82,6 +83,7 @@ fn each_checkpoint_goes_to_the_other_slot(rt: HostRuntime) -> Result<(), Fail> {
         let (now, whole) = write_in(alloc, slots, steps, slot)?;
         slots = now;
         assert!(rt; whole && slots.newest() == Some(slot));
+        assert!(rt; slots.owed() == steps.1);
         assert!(rt; told_both(alloc, &mut slots) == Ok(told), "{slot:?}");
     }
     Ok(())
@@ -96,7 +98,10 @@ fn a_failing_call_leaves_the_newest(rt: HostRuntime) -> Result<(), Fail> {
         let (slots, first) = write_in(alloc, slots, (6, 9), Slot::First)?;
         let (mut slots, second) = write_in(alloc, slots, (12, 15), Slot::Second)?;
         assert!(rt; fault.is_none() && first && !second, "{call} failing");
-        assert!(rt; slots.newest() == Some(Slot::First), "{call} failing");
+        assert!(rt;
+            slots.newest() == Some(Slot::First) && slots.owed() == 9,
+            "{call} failing"
+        );
         let told = told_both(alloc, &mut slots);
         let either = [Told::None, Told::Walk(12, 15, 1)];
         assert!(rt;
@@ -107,7 +112,7 @@ fn a_failing_call_leaves_the_newest(rt: HostRuntime) -> Result<(), Fail> {
         );
         let (slots, again) = write_in(alloc, slots, (16, 19), Slot::Second)?;
         assert!(rt;
-            again && slots.newest() == Some(Slot::Second),
+            again && slots.newest() == Some(Slot::Second) && slots.owed() == 19,
             "{call} failing"
         );
     }
@@ -125,7 +130,7 @@ fn begin_in_vain(slots: StoreSlots<MemDisk>) -> (StoreSlots<MemDisk>, Option<Slo
     }
 }
 
-// The checkpoint that a store was recovered from is not written over. One that is given up is lost.
+// The checkpoint that a store was recovered from is not written over, and owes nothing. One that is given up is lost.
 #[test]
 fn what_is_kept_is_not_written_over(rt: HostRuntime) -> Result<(), Fail> {
     let alloc = rt.alloc();
@@ -141,7 +146,7 @@ fn what_is_kept_is_not_written_over(rt: HostRuntime) -> Result<(), Fail> {
         let (mut slots, begun) = begin_in_vain(slots);
         assert!(rt; begun == Some(slot), "{used:?}");
         assert!(rt;
-            slots.newest() == used && slots.next_slot() == slot,
+            slots.newest() == used && slots.next_slot() == slot && slots.owed() == 0,
             "{used:?}"
         );
         assert!(rt; told_both(alloc, &mut slots) == Ok(told), "{used:?}");

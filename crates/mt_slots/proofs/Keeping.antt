@@ -47,17 +47,21 @@ pub now_newest : (slot : Slot) (w : Walk) (mays : Mays) (k : Slot) → Some slot
 now_newest slot w mays k e = subst (λ k. HasOneWalk (with slot (Some w ∷ []) mays) k) (same_Some slot k e) (w, at-with slot (Some w ∷ []) mays)
 
 module _ {D : Type 0} where
-  pub with-this : (slot : Slot) (disk other : D) (newest : Option Slot) → disk_of slot (slots_with slot disk other newest) ≡ disk
-  with-this First disk other newest = refl
-  with-this Second disk other newest = refl
+  pub with-this : (slot : Slot) (disk other : D) (newest : Option Slot) (owed : ℕ) → disk_of slot (slots_with slot disk other newest owed) ≡ disk
+  with-this First disk other newest owed = refl
+  with-this Second disk other newest owed = refl
 
-  pub with-other : (slot : Slot) (disk other : D) (newest : Option Slot) → disk_of (other_of slot) (slots_with slot disk other newest) ≡ other
-  with-other First disk other newest = refl
-  with-other Second disk other newest = refl
+  pub with-other : (slot : Slot) (disk other : D) (newest : Option Slot) (owed : ℕ) → disk_of (other_of slot) (slots_with slot disk other newest owed) ≡ other
+  with-other First disk other newest owed = refl
+  with-other Second disk other newest owed = refl
 
-  pub with-newest : (slot : Slot) (disk other : D) (newest : Option Slot) → (slots_with slot disk other newest).newest ≡ newest
-  with-newest First disk other newest = refl
-  with-newest Second disk other newest = refl
+  pub with-newest : (slot : Slot) (disk other : D) (newest : Option Slot) (owed : ℕ) → (slots_with slot disk other newest owed).newest ≡ newest
+  with-newest First disk other newest owed = refl
+  with-newest Second disk other newest owed = refl
+
+  pub with-owed : (slot : Slot) (disk other : D) (newest : Option Slot) (owed : ℕ) → (slots_with slot disk other newest owed).owed ≡ owed
+  with-owed First disk other newest owed = refl
+  with-owed Second disk other newest owed = refl
 
 -- ---- calls
 
@@ -103,7 +107,7 @@ module _ {D : Type 0} (is_honest : D → Bool) (state : D → DiskState) (failur
   -- ---- a checkpoint is begun
 
   begun_at : (mays : Mays) (first : ℕ) (old : StoreSlots D) (new : Checkpointing D) → Keeps mays old → Begins is_honest state failures old first new
-      → KeepsWriting is_honest state failures (or_none (next_slot old.newest) mays) first [] (checkpointing_with new.writer new.other old.newest)
+      → KeepsWriting is_honest state failures (or_none (next_slot old.newest) mays) first [] (checkpointing_with new.writer new.other old.newest new.owed)
   begun_at mays first old new kept b =
       let slot = next_slot old.newest in
       let honest = kept.honest slot in
@@ -111,11 +115,11 @@ module _ {D : Type 0} (is_honest : D → Bool) (state : D → DiskState) (failur
       let s = state new.writer.disk in
       let leaves = from_now (IsOneOf (None ∷ at slot mays)) _ s (b.begun.leaves honest (at slot mays) _ (kept.leaves slot)) in
       record {
-        slots = written slot (None ∷ at slot mays) mays old (slots_with slot new.writer.disk new.other old.newest) (free old.newest) kept
-            (subst (λ d. IsTrue (is_honest d)) (sym (with-this slot new.writer.disk new.other old.newest)) still)
-            (subst (λ d. LeavesOneOf (None ∷ at slot mays) (state d)) (sym (with-this slot new.writer.disk new.other old.newest)) leaves)
-            (with-other slot new.writer.disk new.other old.newest ∙ b.other)
-            (with-newest slot new.writer.disk new.other old.newest);
+        slots = written slot (None ∷ at slot mays) mays old (slots_with slot new.writer.disk new.other old.newest new.owed) (free old.newest) kept
+            (subst (λ d. IsTrue (is_honest d)) (sym (with-this slot new.writer.disk new.other old.newest new.owed)) still)
+            (subst (λ d. LeavesOneOf (None ∷ at slot mays) (state d)) (sym (with-this slot new.writer.disk new.other old.newest new.owed)) leaves)
+            (with-other slot new.writer.disk new.other old.newest new.owed ∙ b.other)
+            (with-newest slot new.writer.disk new.other old.newest new.owed);
         first_is = b.begun.first_is;
         writing = b.begun.writing honest;
         none = subst (λ may. In None may) (sym (at-with slot (None ∷ at slot mays) mays)) (inl refl);
@@ -124,7 +128,7 @@ module _ {D : Type 0} (is_honest : D → Bool) (state : D → DiskState) (failur
   pub begun : (mays : Mays) (first : ℕ) (old : StoreSlots D) (new : Checkpointing D) → Keeps mays old → Begins is_honest state failures old first new
       → KeepsWriting is_honest state failures (or_none (next_slot old.newest) mays) first [] new
   begun mays first old new kept b =
-      subst (λ newest. KeepsWriting is_honest state failures (or_none (next_slot old.newest) mays) first [] (checkpointing_with new.writer new.other newest)) (sym b.newest)
+      subst (λ newest. KeepsWriting is_honest state failures (or_none (next_slot old.newest) mays) first [] (checkpointing_with new.writer new.other newest new.owed)) (sym b.newest)
       (begun_at mays first old new kept b)
 
   pub not_begun : (mays : Mays) (old new : StoreSlots D) → Keeps mays old → FailsToBeginIn is_honest state failures old new → Keeps (or_none (next_slot old.newest) mays) new
@@ -142,13 +146,13 @@ module _ {D : Type 0} (is_honest : D → Bool) (state : D → DiskState) (failur
 
     -- the slots as they would be given up
     pub this_is : disk_of slot (given_up old) ≡ old.writer.disk
-    this_is = with-this slot old.writer.disk old.other old.newest
+    this_is = with-this slot old.writer.disk old.other old.newest old.owed
 
     pub other_is : disk_of (other_of slot) (given_up old) ≡ old.other
-    other_is = with-other slot old.writer.disk old.other old.newest
+    other_is = with-other slot old.writer.disk old.other old.newest old.owed
 
     newest_is : (given_up old).newest ≡ old.newest
-    newest_is = with-newest slot old.writer.disk old.other old.newest
+    newest_is = with-newest slot old.writer.disk old.other old.newest old.owed
 
     pub honest_writer : IsTrue (is_honest old.writer.disk)
     honest_writer = subst (λ d. IsTrue (is_honest d)) this_is (kept.slots.honest slot)
@@ -170,17 +174,17 @@ module _ {D : Type 0} (is_honest : D → Bool) (state : D → DiskState) (failur
         placed_same slot mays new (after (at slot mays) new honest (from_now (IsOneOf (at slot mays)) _ _ leaves) other newest)
 
   added_at : (mays : Mays) (first : ℕ) (before pairs : List TenantPair) (old new : Checkpointing D) → KeepsWriting is_honest state failures mays first before old
-      → Adds is_honest state failures old pairs new → KeepsWriting is_honest state failures mays first (before ++ pairs) (checkpointing_with new.writer new.other old.newest)
+      → Adds is_honest state failures old pairs new → KeepsWriting is_honest state failures mays first (before ++ pairs) (checkpointing_with new.writer new.other old.newest new.owed)
   added_at mays first before pairs old new kept a =
       let honest = honest_writer mays first before old kept in
       let slot = slot_of old in
-      let this = with-this slot new.writer.disk new.other old.newest in
+      let this = with-this slot new.writer.disk new.other old.newest new.owed in
       record {
-        slots = after_closed mays first before old kept (slots_with slot new.writer.disk new.other old.newest)
+        slots = after_closed mays first before old kept (slots_with slot new.writer.disk new.other old.newest new.owed)
             (ap is_honest this ∙ a.added.honest)
             (subst (λ d. LeavesOnly IsClosed (state old.writer.disk) (state d)) (sym this) (a.added.leaves honest before kept.writing))
-            (with-other slot new.writer.disk new.other old.newest ∙ a.other)
-            (with-newest slot new.writer.disk new.other old.newest);
+            (with-other slot new.writer.disk new.other old.newest new.owed ∙ a.other)
+            (with-newest slot new.writer.disk new.other old.newest new.owed);
         first_is = a.added.first_is ∙ kept.first_is;
         writing = a.added.writing honest before kept.writing;
         none = kept.none;
@@ -189,5 +193,5 @@ module _ {D : Type 0} (is_honest : D → Bool) (state : D → DiskState) (failur
   pub added : (mays : Mays) (first : ℕ) (before pairs : List TenantPair) (old new : Checkpointing D) → KeepsWriting is_honest state failures mays first before old
       → Adds is_honest state failures old pairs new → KeepsWriting is_honest state failures mays first (before ++ pairs) new
   added mays first before pairs old new kept a =
-      subst (λ newest. KeepsWriting is_honest state failures mays first (before ++ pairs) (checkpointing_with new.writer new.other newest)) (sym a.newest)
+      subst (λ newest. KeepsWriting is_honest state failures mays first (before ++ pairs) (checkpointing_with new.writer new.other newest new.owed)) (sym a.newest)
       (added_at mays first before pairs old new kept a)

@@ -1,2 +1,4 @@
 pub mod Keeping
 pub mod Settling
+pub mod Owing
+pub mod Placing

@@ -14,7 +14,7 @@ use Rattle.mt_slots.specs.Calls.{StopsIn, ReadsBoth, StopsReading, as_read_fault
 use Rattle.mt_slots.specs.Keeps.{Mays, only_these, HasOneWalk, LeavesOneOf, KeepsSlots, KeepsWriting, IsCrashedTo}
 use Rattle.mt_slots.proofs.Keeping.{from_now, now_newest, placed, placed_same, this_is, other_is, honest_writer, after, after_closed}
 
-only_one : (x y : Option Walk) → In x (y ∷ []) → x ≡ y
+pub only_one : (x y : Option Walk) → In x (y ∷ []) → x ≡ y
 only_one x y (inl e) = e
 only_one x y (inr none) = absurd none
 

@@ -36,6 +36,7 @@ module _ {D : Type 0} (is_honest : D → Bool) (state : D → DiskState) (failur
   pub record MakesBoth (old new : StoreSlots D) : Type 0 where
     pub each : (slot : Slot) → MakesSlot (disk_of slot old) (disk_of slot new)
     pub newest : new.newest ≡ None
+    pub owed : new.owed ≡ 0
 
   -- Each slot before one was done, that one has failed, and each after it is as it was.
   abbrev pub StopsIn : (D → D → Type 0) → (D → D → Type 0) → Slot → StoreSlots D → StoreSlots D → Type 0
@@ -47,11 +48,13 @@ module _ {D : Type 0} (is_honest : D → Bool) (state : D → DiskState) (failur
     pub cause : e.cause ≡ Device
     pub stops : StopsIn MakesSlot FailsToMakeSlot e.slot old new
     pub newest : new.newest ≡ None
+    pub owed : new.owed ≡ 0
 
   -- both were read
   pub record ReadsBoth (old new : StoreSlots D) (found : Both (Option Checkpoint)) : Type 0 where
     pub each : (slot : Slot) → ReadSlot is_honest state failures (disk_of slot old) (disk_of slot new) (at slot found)
     pub newest : new.newest ≡ old.newest
+    pub owed : new.owed ≡ old.owed
 
   -- and what they have is told, the first one's first
   abbrev pub TellsBoth : StoreSlots D → StoreSlots D → List (Option Checkpoint) → Type 0
@@ -62,24 +65,28 @@ module _ {D : Type 0} (is_honest : D → Bool) (state : D → DiskState) (failur
     pub stops : StopsIn (λ old new. (x : Option Checkpoint) × ReadSlot is_honest state failures old new x)
         (λ old new. FailsToRead is_honest state failures old new (as_read_fault e.cause)) e.slot old new
     pub newest : new.newest ≡ old.newest
+    pub owed : new.owed ≡ old.owed
 
   -- a checkpoint was begun in the next slot
   pub record Begins (old : StoreSlots D) (first : ℕ) (new : Checkpointing D) : Type 0 where
     pub begun : Begun is_honest state failures (disk_of (next_slot old.newest) old) first new.writer
     pub other : new.other ≡ disk_of (other_of (next_slot old.newest)) old
     pub newest : new.newest ≡ old.newest
+    pub owed : new.owed ≡ old.owed
 
   -- it was not
   pub record FailsToBeginIn (old new : StoreSlots D) : Type 0 where
     pub fails : FailsToBegin is_honest state failures (disk_of (next_slot old.newest) old) (disk_of (next_slot old.newest) new)
     pub other : disk_of (other_of (next_slot old.newest)) new ≡ disk_of (other_of (next_slot old.newest)) old
     pub newest : new.newest ≡ old.newest
+    pub owed : new.owed ≡ old.owed
 
   -- pairs were added
   pub record Adds (old : Checkpointing D) (pairs : List TenantPair) (new : Checkpointing D) : Type 0 where
     pub added : Added is_honest state failures old.writer pairs new.writer
     pub other : new.other ≡ old.other
     pub newest : new.newest ≡ old.newest
+    pub owed : new.owed ≡ old.owed
 
   -- they were not, and both slots are at rest
   pub record FailsToAddIn (e : SlotFault) (old : Checkpointing D) (new : StoreSlots D) : Type 0 where
@@ -87,15 +94,18 @@ module _ {D : Type 0} (is_honest : D → Bool) (state : D → DiskState) (failur
     pub fails : FailsToAdd is_honest state failures old.writer (as_write_fault e.cause (disk_of (slot_of old) new))
     pub other : disk_of (other_of (slot_of old)) new ≡ old.other
     pub newest : new.newest ≡ old.newest
+    pub owed : new.owed ≡ old.owed
 
-  -- it was ended, and is the newest one
+  -- it was ended, and is the newest one; it owes that each log goes up to its last step
   pub record Ends (old : Checkpointing D) (last : ℕ) (new : StoreSlots D) : Type 0 where
     pub ended : Ended is_honest state failures old.writer last (disk_of (slot_of old) new)
     pub other : disk_of (other_of (slot_of old)) new ≡ old.other
     pub newest : new.newest ≡ Some (slot_of old)
+    pub owed : new.owed ≡ last
 
-  -- it was not, and the newest one is as before
+  -- it was not, and the newest one is as before, and what it owes
   pub record FailsToEndIn (old : Checkpointing D) (last : ℕ) (new : StoreSlots D) : Type 0 where
     pub fails : FailsToEnd is_honest state failures old.writer last (disk_of (slot_of old) new)
     pub other : disk_of (other_of (slot_of old)) new ≡ old.other
     pub newest : new.newest ≡ old.newest
+    pub owed : new.owed ≡ old.owed

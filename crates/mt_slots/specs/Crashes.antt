@@ -20,6 +20,7 @@ pub record AreCrashed (first second : Bytes) (old new : StoreSlots MemDisk) : Ty
   pub first_so : IsFoundWith first old.first new.first
   pub second_so : IsFoundWith second old.second new.second
   pub newest : new.newest ≡ None
+  pub owed : new.owed ≡ 0
 
 -- each is as it was, or crashed
 pub record AreLeftOrCrashed (first second : Bytes) (old new : StoreSlots MemDisk) : Type 0 where

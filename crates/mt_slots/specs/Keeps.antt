@@ -1,5 +1,5 @@
 -- What a crash may leave of both slots, on disks that keep the rules.
-use Rattle.std.specs.{Prelude.{◌≡◌, ℕ, Bool, IsTrue, List, [], ◌∷◌, Option, Some, None}, Option.option_map}
+use Rattle.std.specs.{Prelude.{◌≡◌, ◌⊎◌, ℕ, ◌≤◌, Bool, IsTrue, List, [], ◌∷◌, Option, Some, None}, Option.option_map}
 use Rattle.mt_rows.specs.{Rows.Bytes, declared.record.TenantPair.TenantPair}
 use Rattle.mt_disk.specs.Disk.{DiskState, MayLeave, LeavesOnly, found_with}
 use Rattle.mt_checkpoint.specs.{declared.checkpoint.Checkpoint.Checkpoint, Checkpoints.{Walk, walk_of, In, IsOneOf}, Slots.IsWriting}
@@ -26,6 +26,10 @@ or_none slot mays = with slot (None ∷ at slot mays) mays
 abbrev pub HasOneWalk : Mays → Slot → Type 0
 HasOneWalk mays slot = (w : Walk) × (at slot mays ≡ Some w ∷ [])
 
+-- The newest checkpoint ends by this step, or by the one that is owed. So it is settled once each log goes up to both.
+abbrev pub NewestEndsBy : {D : Type 0} → Mays → ℕ → StoreSlots D → Type 0
+NewestEndsBy mays kept slots = (slot : Slot) (w : Walk) → slots.newest ≡ Some slot → at slot mays ≡ Some w ∷ [] → (w.last ≤ kept) ⊎ (w.last ≤ slots.owed)
+
 -- now a crash leaves one of these
 abbrev pub LeavesOneOf : List (Option Walk) → DiskState → Type 0
 LeavesOneOf may s = LeavesOnly (IsOneOf may) s s
@@ -50,3 +54,4 @@ module _ {D : Type 0} (is_honest : D → Bool) (state : D → DiskState) (failur
     pub found : (slot : Slot) → state (disk_of slot new) ≡ found_with (at slot images)
     pub honest : (slot : Slot) → IsTrue (is_honest (disk_of slot new))
     pub newest : new.newest ≡ None
+    pub owed : new.owed ≡ 0

@@ -52,16 +52,16 @@ disk_of First slots = slots.first
 disk_of Second slots = slots.second
 
 -- slots of which this one has this disk
-abbrev pub slots_with : {D : Type 0} → Slot → D → D → Option Slot → StoreSlots D
-slots_with First disk other newest = record { first = disk; second = other; newest = newest }
-slots_with Second disk other newest = record { first = other; second = disk; newest = newest }
+abbrev pub slots_with : {D : Type 0} → Slot → D → D → Option Slot → ℕ → StoreSlots D
+slots_with First disk other newest owed = record { first = disk; second = other; newest = newest; owed = owed }
+slots_with Second disk other newest owed = record { first = other; second = disk; newest = newest; owed = owed }
 
--- slots of which another one, or none, has the newest
+-- slots of which another one, or none, has the newest, which owes nothing
 abbrev pub with_newest : {D : Type 0} → Option Slot → StoreSlots D → StoreSlots D
-with_newest newest slots = record slots { newest = newest }
+with_newest newest slots = record slots { newest = newest; owed = 0 }
 
-abbrev pub checkpointing_with : {D : Type 0} → Writer D → D → Option Slot → Checkpointing D
-checkpointing_with writer other newest = record { writer = writer; other = other; newest = newest }
+abbrev pub checkpointing_with : {D : Type 0} → Writer D → D → Option Slot → ℕ → Checkpointing D
+checkpointing_with writer other newest owed = record { writer = writer; other = other; newest = newest; owed = owed }
 
 -- the slot that a checkpoint is written in
 abbrev pub slot_of : {D : Type 0} → Checkpointing D → Slot
@@ -69,4 +69,4 @@ slot_of c = next_slot c.newest
 
 -- the slots after a checkpoint was given up
 abbrev pub given_up : {D : Type 0} → Checkpointing D → StoreSlots D
-given_up c = slots_with (slot_of c) c.writer.disk c.other c.newest
+given_up c = slots_with (slot_of c) c.writer.disk c.other c.newest c.owed

@@ -18,16 +18,23 @@ pub struct Checkpointing<D: Disk> {
     writer: Writer<D>,
     other: D,
     newest: Option<Slot>,
+    owed: u64,
 }
 
 impl<D: Disk> Checkpointing<D> {
-    pub(crate) fn new(writer: Writer<D>, other: D, newest: Option<Slot>) -> Checkpointing<D>
-        ensures { result ≡ checkpointing_with writer other newest }
+    pub(crate) fn new(
+        writer: Writer<D>,
+        other: D,
+        newest: Option<Slot>,
+        owed: u64,
+    ) -> Checkpointing<D>
+        ensures { result ≡ checkpointing_with writer other newest owed }
     {
         Checkpointing {
             writer,
             other,
             newest,
+            owed,
         }
     }
 
@@ -52,21 +59,23 @@ impl<D: Disk> Checkpointing<D> {
             writer,
             other,
             newest,
+            owed,
         } = self;
         let slot = slot_after(newest);
         let (cause, disk) = match writer.add(alloc, pairs) {
-            Ok(writer) => return Ok(Checkpointing::new(writer, other, newest)),
+            Ok(writer) => return Ok(Checkpointing::new(writer, other, newest, owed)),
             Err(WriteFault::Device(disk)) => (FaultCause::Device, disk),
             Err(WriteFault::Memory(disk)) => (FaultCause::Memory, disk),
         };
         Err((
             SlotFault { slot, cause },
-            StoreSlots::with(slot, disk, other, newest),
+            StoreSlots::with(slot, disk, other, newest, owed),
         ))
     }
 
-    /// Ends the checkpoint of a walk that ended after step `last`. From then on it is the newest one. After an
-    /// error the newest is as before, and the next one is begun in the same slot.
+    /// Ends the checkpoint of a walk that ended after step `last`. From then on it is the newest one, and it owes
+    /// that each log goes up to `last`. After an error the newest and what it owes are as before, and the next one
+    /// is begun in the same slot.
     pub fn end(self, last: u64) -> Result<StoreSlots<D>, (DeviceFailed, StoreSlots<D>)>
         ensures ok { IfOk result (Ends D.is_honest D.state D.failures self last) }
         ensures err { IfErr result (λ e. FailsToEndIn D.is_honest D.state D.failures self last e.1) }
@@ -75,15 +84,16 @@ impl<D: Disk> Checkpointing<D> {
             writer,
             other,
             newest,
+            owed,
         } = self;
         let slot = slot_after(newest);
         match writer.end(last) {
-            Ok(disk) => Ok(StoreSlots::with(slot, disk, other, Some(slot))),
-            Err((failed, disk)) => Err((failed, StoreSlots::with(slot, disk, other, newest))),
+            Ok(disk) => Ok(StoreSlots::with(slot, disk, other, Some(slot), last)),
+            Err((failed, disk)) => Err((failed, StoreSlots::with(slot, disk, other, newest, owed))),
         }
     }
 
-    /// Gives the checkpoint up. Its slot stays without one, and the newest is as before.
+    /// Gives the checkpoint up. Its slot stays without one. The newest and what it owes are as before.
     pub fn give_up(self) -> StoreSlots<D>
         ensures { result ≡ given_up self }
     {
@@ -91,7 +101,8 @@ impl<D: Disk> Checkpointing<D> {
             writer,
             other,
             newest,
+            owed,
         } = self;
-        StoreSlots::with(slot_after(newest), writer.into_disk(), other, newest)
+        StoreSlots::with(slot_after(newest), writer.into_disk(), other, newest, owed)
     }
 }

@@ -1,12 +1,12 @@
 //! Laws of the two slots, each a contract without code. They are over disks that keep the rules.
 
-ghost use Rattle.std.specs.{Prelude.{◌≡◌, ℕ, IsTrue, List, [], ◌∷◌, ◌++◌, Option, Some, None, slice_get, slice_set}, Option.option_map};
+ghost use Rattle.std.specs.{Prelude.{◌≡◌, ℕ, ◌≤◌, IsTrue, List, [], ◌∷◌, ◌++◌, Option, Some, None, slice_get, slice_set}, Option.option_map};
 ghost use Rattle.mt_rows.specs.{Rows.Bytes, declared.record.TenantPair.TenantPair};
 ghost use Rattle.mt_checkpoint.specs.{declared.checkpoint.Checkpoint.Checkpoint, Checkpoints.{Walk, IsWalk, walk_of, In}};
 ghost use Rattle.mt_slots.specs.{declared.slot.Slot.Slot, declared.store_slots.StoreSlots.StoreSlots, declared.checkpointing.Checkpointing.Checkpointing};
-ghost use Rattle.mt_slots.specs.{declared.fault.SlotFault.SlotFault, Places.{Both, at, with, in_order, number_of, disk_of, next_slot, with_newest, slot_of}};
+ghost use Rattle.mt_slots.specs.{declared.fault.SlotFault.SlotFault, Places.{Both, at, with, in_order, number_of, disk_of, next_slot, with_newest, slot_of, given_up}};
 ghost use Rattle.mt_slots.specs.Calls.{MakesBoth, ReadsBoth, StopsReading, Begins, FailsToBeginIn, Adds, FailsToAddIn, Ends, FailsToEndIn};
-ghost use Rattle.mt_slots.specs.Keeps.{Mays, no_checkpoints, only_these, or_none, HasOneWalk, KeepsSlots, KeepsWriting, IsCrashedTo};
+ghost use Rattle.mt_slots.specs.Keeps.{Mays, no_checkpoints, only_these, or_none, HasOneWalk, NewestEndsBy, KeepsSlots, KeepsWriting, IsCrashedTo};
 
 use mt_disk::Disk;
 
@@ -64,6 +64,25 @@ pub fn an_end_leaves_its_walk<D: Disk>()
         → Ends D.is_honest D.state D.failures old w.last new → KeepsSlots D.is_honest D.state D.failures (with (slot_of old) (Some w ∷ []) mays) new }
     ensures err { (mays : Mays) (w : Walk) (old : Checkpointing D) (new : StoreSlots D) → KeepsWriting D.is_honest D.state D.failures mays w.first w.pairs old → IsWalk w
         → FailsToEndIn D.is_honest D.state D.failures old w.last new → KeepsSlots D.is_honest D.state D.failures (with (slot_of old) (None ∷ Some w ∷ []) mays) new }
+{}
+
+/// The newest checkpoint ends by what is owed, or by the step up to which each log went when it was kept. This stays so
+/// whatever is called, also if it fails.
+pub fn the_newest_ends_by_what_is_owed<D: Disk>()
+    ensures kept { (mays : Mays) (kept : ℕ) (used : Option Slot) (old : StoreSlots D)
+        → ((slot : Slot) (w : Walk) → used ≡ Some slot → at slot mays ≡ Some w ∷ [] → w.last ≤ kept) → NewestEndsBy mays kept (with_newest used old) }
+    ensures begun { (mays : Mays) (kept first : ℕ) (old : StoreSlots D) (new : Checkpointing D) → NewestEndsBy mays kept old
+        → Begins D.is_honest D.state D.failures old first new → NewestEndsBy (or_none (next_slot old.newest) mays) kept (given_up new) }
+    ensures not_begun { (mays : Mays) (kept : ℕ) (old new : StoreSlots D) → NewestEndsBy mays kept old
+        → FailsToBeginIn D.is_honest D.state D.failures old new → NewestEndsBy (or_none (next_slot old.newest) mays) kept new }
+    ensures added { (mays : Mays) (kept : ℕ) (pairs : List TenantPair) (old new : Checkpointing D) → NewestEndsBy mays kept (given_up old)
+        → Adds D.is_honest D.state D.failures old pairs new → NewestEndsBy mays kept (given_up new) }
+    ensures not_added { (mays : Mays) (kept : ℕ) (e : SlotFault) (old : Checkpointing D) (new : StoreSlots D) → NewestEndsBy mays kept (given_up old)
+        → FailsToAddIn D.is_honest D.state D.failures e old new → NewestEndsBy mays kept new }
+    ensures ended { (mays : Mays) (kept : ℕ) (w : Walk) (old : Checkpointing D) (new : StoreSlots D)
+        → Ends D.is_honest D.state D.failures old w.last new → NewestEndsBy (with (slot_of old) (Some w ∷ []) mays) kept new }
+    ensures not_ended { (mays : Mays) (kept last : ℕ) (may : List (Option Walk)) (old : Checkpointing D) (new : StoreSlots D) → NewestEndsBy mays kept (given_up old)
+        → FailsToEndIn D.is_honest D.state D.failures old last new → NewestEndsBy (with (slot_of old) may mays) kept new }
 {}
 
 /// What a crash leaves of slots, found again, may have what they might before.

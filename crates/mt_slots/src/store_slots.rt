@@ -13,23 +13,26 @@ use mt_checkpoint::{Checkpoint, ReadFault, Writer, create_slot, read_valid};
 use mt_disk::{DeviceFailed, Disk, MemDisk};
 use std::alloc::{AllocError, Global};
 
-/// Two slots, each at rest, and which of them has the newest checkpoint. That one is never written over.
+/// Two slots, each at rest, and which of them has the newest checkpoint. That one is never written over. It tells too
+/// how far each log has to go before that checkpoint is settled.
 #[derive(Drop)]
 pub struct StoreSlots<D: Disk> {
     first: D,
     second: D,
     newest: Option<Slot>,
+    owed: u64,
 }
 
 impl<D: Disk> StoreSlots<D> {
-    /// Slots on these disks, as these are found. No checkpoint of them counts as the newest one.
+    /// Slots on these disks, as these are found. No checkpoint of them counts as the newest one, and nothing is owed.
     pub fn found(first: D, second: D) -> StoreSlots<D>
-        ensures { result ≡ slots_with First first second None }
+        ensures { result ≡ slots_with First first second None 0 }
     {
         StoreSlots {
             first,
             second,
             newest: None,
+            owed: 0,
         }
     }
 
@@ -40,12 +43,13 @@ impl<D: Disk> StoreSlots<D> {
         ensures err { IfErr result (λ e. StopsMaking D.is_honest D.state D.failures e self.old self.new) }
     {
         self.newest = None;
+        self.owed = 0;
         make_slot(&mut self.first, Slot::First)?;
         make_slot(&mut self.second, Slot::Second)
     }
 
     /// What both slots have, the first one's first. An error tells the slot that was not read. Which one is the
-    /// newest stays as it was.
+    /// newest, and what it owes, stay as they were.
     pub fn read(&mut self, alloc: Global) -> Result<[Option<Checkpoint>; 2], SlotFault>
         ensures ok { IfOk result (TellsBoth D.is_honest D.state D.failures self.old self.new) }
         ensures err { IfErr result (λ e. StopsReading D.is_honest D.state D.failures e self.old self.new) }
@@ -56,11 +60,13 @@ impl<D: Disk> StoreSlots<D> {
     }
 
     /// From now on this slot has the newest checkpoint: the store was recovered from it. None counts if it was
-    /// recovered without one.
+    /// recovered without one. It owes nothing: the recovery left each log going up to the step that it resumes
+    /// after, and the checkpoint ends at most there.
     pub fn keep(&mut self, used: Option<Slot>)
         ensures { self.new ≡ with_newest used self.old }
     {
         self.newest = used;
+        self.owed = 0;
     }
 
     /// The slot of the newest checkpoint.
@@ -68,6 +74,14 @@ impl<D: Disk> StoreSlots<D> {
         ensures { result ≡ self.now.newest }
     {
         self.newest
+    }
+
+    /// The step up to which each log has to go before another checkpoint is begun: where the newest one ends, if
+    /// it was ended here. It is 0 if nothing is owed. The newest is settled once each log goes that far.
+    pub fn owed(&self) -> u64
+        ensures { result ≡ self.now.owed }
+    {
+        self.owed
     }
 
     /// The slot that the next checkpoint is written in.
@@ -84,11 +98,11 @@ impl<D: Disk> StoreSlots<D> {
         ensures err { IfErr result (λ e. FailsToBeginIn D.is_honest D.state D.failures self e.1) }
     {
         let slot = self.next_slot();
-        let newest = self.newest;
+        let (newest, owed) = (self.newest, self.owed);
         let (disk, other) = self.parted(slot);
         match Writer::begin(disk, first) {
-            Ok(writer) => Ok(Checkpointing::new(writer, other, newest)),
-            Err((failed, disk)) => Err((failed, StoreSlots::with(slot, disk, other, newest))),
+            Ok(writer) => Ok(Checkpointing::new(writer, other, newest, owed)),
+            Err((failed, disk)) => Err((failed, StoreSlots::with(slot, disk, other, newest, owed))),
         }
     }
 
@@ -101,24 +115,33 @@ impl<D: Disk> StoreSlots<D> {
             first,
             second,
             newest: _,
+            owed: _,
         } = self;
         (first, second)
     }
 
     /// The slots of which this one has this disk.
-    pub(crate) fn with(slot: Slot, disk: D, other: D, newest: Option<Slot>) -> StoreSlots<D>
-        ensures { result ≡ slots_with slot disk other newest }
+    pub(crate) fn with(
+        slot: Slot,
+        disk: D,
+        other: D,
+        newest: Option<Slot>,
+        owed: u64,
+    ) -> StoreSlots<D>
+        ensures { result ≡ slots_with slot disk other newest owed }
     {
         match slot {
             Slot::First => StoreSlots {
                 first: disk,
                 second: other,
                 newest,
+                owed,
             },
             Slot::Second => StoreSlots {
                 first: other,
                 second: disk,
                 newest,
+                owed,
             },
         }
     }
@@ -144,8 +167,8 @@ impl StoreSlots<MemDisk> {
         self.first.may_leave(first) && self.second.may_leave(second)
     }
 
-    /// Crashes: each is found again with its file, and no checkpoint of them counts as the newest one. After an
-    /// error some have crashed.
+    /// Crashes: each is found again with its file. No checkpoint of them counts as the newest one, and nothing is
+    /// owed. After an error some have crashed.
     pub fn crash(&mut self, alloc: Global, first: &[u8], second: &[u8]) -> Result<(), AllocError>
         requires { MayLeaveBoth first.now second.now self.old }
         ensures ok { OnOk result (AreCrashed first.now second.now self.old self.new) }
@@ -154,6 +177,7 @@ impl StoreSlots<MemDisk> {
         let first = first.to_vec(alloc)?;
         let second = second.to_vec(alloc)?;
         self.newest = None;
+        self.owed = 0;
         self.first.crash(first)?;
         self.second.crash(second)
     }

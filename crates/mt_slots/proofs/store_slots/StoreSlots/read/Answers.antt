@@ -7,5 +7,5 @@ pub returns-clause-ok : goal.returns-clause-ok
 returns-clause-ok g c = (
   record { first = c.in_ok-first.first; second = c.in_ok-second.second },
   refl,
-  record { each = elim [ First ↦ c.in_ok-first.ensures.ok | Second ↦ c.in_ok-second.ensures.ok ]; newest = refl },
+  record { each = elim [ First ↦ c.in_ok-first.ensures.ok | Second ↦ c.in_ok-second.ensures.ok ]; newest = refl; owed = refl },
 )

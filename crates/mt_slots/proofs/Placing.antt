@@ -1,0 +1,34 @@
+-- What a call made of one slot's disk, put back beside the other one.
+use Rattle.std.proofs.Common.{◌≡◌, ℕ, Bool, Option, Some, sym, ◌∙◌, ap, subst}
+use Rattle.mt_disk.specs.Disk.{DiskState}
+use Rattle.mt_checkpoint.specs.Slots.{FailsToBegin, Ended}
+use Rattle.mt_slots.specs.{declared.slot.Slot.Slot, declared.store_slots.StoreSlots.StoreSlots, declared.checkpointing.Checkpointing.Checkpointing}
+use Rattle.mt_slots.specs.{Places.{other_of, next_slot, disk_of, slots_with, slot_of}, Calls.{FailsToBeginIn, Ends}}
+use Rattle.mt_slots.proofs.Keeping.{with-this, with-other, with-newest, with-owed}
+
+module _ {D : Type 0} (is_honest : D → Bool) (state : D → DiskState) (failures : D → ℕ) where
+  pub not_begun_in : (old new : StoreSlots D) (slot : Slot) (was disk other : D) → slot ≡ next_slot old.newest → was ≡ disk_of slot old → other ≡ disk_of (other_of slot) old
+      → new ≡ slots_with slot disk other old.newest old.owed → FailsToBegin is_honest state failures was disk → FailsToBeginIn is_honest state failures old new
+  not_begun_in old new slot was disk other here is beside made fails =
+      let this = ap (disk_of slot) made ∙ with-this slot disk other old.newest old.owed in
+      let rest = ap (disk_of (other_of slot)) made ∙ with-other slot disk other old.newest old.owed in
+      record {
+        fails = subst (λ k. FailsToBegin is_honest state failures (disk_of k old) (disk_of k new)) here
+            (subst (λ d. FailsToBegin is_honest state failures (disk_of slot old) d) (sym this)
+            (subst (λ d. FailsToBegin is_honest state failures d disk) is fails));
+        other = subst (λ k. disk_of (other_of k) new ≡ disk_of (other_of k) old) here (rest ∙ beside);
+        newest = ap (λ (s : StoreSlots D). s.newest) made ∙ with-newest slot disk other old.newest old.owed;
+        owed = ap (λ (s : StoreSlots D). s.owed) made ∙ with-owed slot disk other old.newest old.owed;
+      }
+
+  pub ended_in : (old : Checkpointing D) (last : ℕ) (new : StoreSlots D) (slot : Slot) (disk : D) → slot ≡ slot_of old
+      → new ≡ slots_with slot disk old.other (Some slot) last → Ended is_honest state failures old.writer last disk → Ends is_honest state failures old last new
+  ended_in old last new slot disk here made ended =
+      let this = ap (disk_of slot) made ∙ with-this slot disk old.other (Some slot) last in
+      record {
+        ended = subst (λ k. Ended is_honest state failures old.writer last (disk_of k new)) here
+            (subst (λ d. Ended is_honest state failures old.writer last d) (sym this) ended);
+        other = subst (λ k. disk_of (other_of k) new ≡ old.other) here (ap (disk_of (other_of slot)) made ∙ with-other slot disk old.other (Some slot) last);
+        newest = ap (λ (s : StoreSlots D). s.newest) made ∙ with-newest slot disk old.other (Some slot) last ∙ ap Some here;
+        owed = ap (λ (s : StoreSlots D). s.owed) made ∙ with-owed slot disk old.other (Some slot) last;
+      }
