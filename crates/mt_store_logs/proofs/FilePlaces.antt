@@ -1,15 +1,14 @@
 -- What a worker's files may be, and what their places show, after another was put for one of them.
-use Rattle.std.proofs.Common.{◌≡◌, ⊎_elim, ℕ, ◌+◌, ◌≤◌, ◌%◌, ◌==◌, Bool, true, false, not, cond, Some, refl, sym, ◌∙◌, ap, subst, arith}
+use Rattle.std.proofs.Common.{◌≡◌, ⊎_elim, ℕ, ◌+◌, ◌≤◌, ◌%◌, ◌==◌, Bool, true, false, not, cond, refl, sym, ◌∙◌, ap, subst, arith}
 use Rattle.std.proofs.lemmas.Bool.{eq-eqb, ne_eqb, cases_eq}
-use Rattle.std.specs.Option.{option_map}
 use Rattle.mt_disk.specs.Disk.{DiskState}
 use Rattle.mt_log_generations.specs.declared.header.Parity.TheVariants.{Even, Odd}
-use Rattle.mt_log.specs.{Contents.Contents, Fronts.IsOfKind}
+use Rattle.mt_log.specs.{Fronts.IsOfKind}
 use Rattle.mt_log.specs.declared.reader.FileKind.TheVariants as kinds
 use Rattle.mt_crashes.specs.Stores.{LogNow}
 use Rattle.mt_recover.specs.declared.resuming.LogSlot.{LogSlot}
 use Rattle.mt_log_files.specs.{declared.worker.WorkerFiles.WorkerFiles, Slots.{file_of, with_file}}
-use Rattle.mt_log_files.specs.{Shows.{Shows, IsHonest}, Files.{FileNow, Spare, Has, MayHave, MayLeaveFile, ShowsFile}, Workers.AreFilesOf}
+use Rattle.mt_log_files.specs.{Shows.{Shows, IsHonest}, Files.{FileNow, Has, ShowsFile}, Workers.AreFilesOf}
 use Rattle.mt_chain_files.specs.Turns.{FilesNow, now_of, IsOfGeneration, AreOfTurn, ShowsPlain, ShowFiles}
 use Rattle.mt_store_logs.specs.Ends.{KeepsStart, KeepStarts}
 
@@ -86,7 +85,7 @@ pub two_on : (g : ℕ) (files : FilesNow) → (g ≡ 0 → ⊥) → now_of (g + 
 two_on g files some =
     (λ i. now_at (no_zero (g + 1) i) (same_parity g i) files) ∙ sym (ap (λ (b : Bool). now_at b (g % 2 == 0) files) (ne_eqb g 0 some))
 
-even_first : (g : ℕ) (file : FileNow) (files : FilesNow) → g ≡ 0 → (with_now g file files).even ≡ files.even
+pub even_first : (g : ℕ) (file : FileNow) (files : FilesNow) → g ≡ 0 → (with_now g file files).even ≡ files.even
 even_first g file files none = ap (λ (n : ℕ). (with_now n file files).even) none
 
 even_next : (g : ℕ) (file : FileNow) (files : FilesNow) → g ≡ 0 → (with_now (g + 1) file files).even ≡ files.even

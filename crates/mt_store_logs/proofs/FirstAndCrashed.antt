@@ -1,12 +1,12 @@
 -- What all files of a worker's log show after they were made or opened, and after they have crashed.
-use Rattle.std.proofs.Common.{◌≡◌, ◌⊎◌, ⊎_elim, inl, inr, ℕ, ◌+◌, ◌<◌, [], Bool, IsTrue, true, false, Option, Some, None, refl, sym, ◌∙◌, ap, subst, arith}
+use Rattle.std.proofs.Common.{◌≡◌, ◌⊎◌, ⊎_elim, inl, inr, ℕ, ◌+◌, [], Bool, IsTrue, true, false, Option, Some, None, refl, sym, ◌∙◌, ap, subst, arith}
 use Rattle.std.proofs.lemmas.List.{append-nil}
 use Rattle.mt_rows.specs.Rows.{Bytes}
-use Rattle.mt_disk.specs.{declared.mem.MemDisk.MemDisk, Disk.{DiskState, MayLeave, LeavesOnly, found_with, moments}, Mem.mem_state}
+use Rattle.mt_disk.specs.{declared.mem.MemDisk.MemDisk, Disk.{DiskState, LeavesOnly, found_with, moments}, Mem.mem_state}
 use Rattle.mt_disk.proofs.CrashLaws.{started}
 use Rattle.mt_gates.specs.Gates.{IsLeftOf}
 use Rattle.mt_log_generations.specs.declared.header.{Parity.Parity, Parity.TheVariants.{Even, Odd}}
-use Rattle.mt_log.specs.{Contents.{Contents, IsContents, no_batches}, Numbered.text_of}
+use Rattle.mt_log.specs.{Contents.{Contents, no_batches}, Numbered.text_of}
 use Rattle.mt_crashes.{specs.Stores.{LogNow, at_rest}, proofs.Members.no_some}
 use Rattle.mt_generations.specs.Chains.{EndsLog}
 use Rattle.mt_recover.specs.{declared.resuming.LogSlot.LogSlot, declared.resuming.LogSlot.TheVariants.{Open, Failed, Closed, Away}}
@@ -14,7 +14,7 @@ use Rattle.mt_slots.specs.Crashes.{IsFoundWith}
 use Rattle.mt_log_files.specs.{declared.worker.WorkerFiles.WorkerFiles, Slots.file_of, Shows.{Shows, IsHonest}, Files.{FileNow, Spare, Has, MayHave, LeavesText, ShowsFile}}
 use Rattle.mt_chain_files.{specs.Turns.{FilesNow, now_of, AreOfTurn, ShowsPlain, ShowFiles}, proofs.TurnLaws.first_turn}
 use Rattle.mt_store_logs.specs.{declared.crashing.FileImages.FileImages, declared.store_log.StoreLog.StoreLog, Places.{disk_in, worker_of, slot_of}}
-use Rattle.mt_store_logs.specs.{Crashes.{IsCrashedOn, IsCrashed}, Opens.{MakesSpare, MakesFiles, MakesLog}, Ends.{Rests, IsNextFile, StandsInTurn}, Shows.WaitsIn}
+use Rattle.mt_store_logs.specs.{Crashes.{IsCrashedOn, IsCrashed}, Opens.{MakesSpare, MakesLog}, Ends.{Rests, IsNextFile, StandsInTurn}, Shows.WaitsIn}
 use Rattle.mt_store_logs.proofs.{CallerLemmas.{makes, crashed}, EndLaws.itself, FilePlaces.has_shown}
 
 -- ---- a crash

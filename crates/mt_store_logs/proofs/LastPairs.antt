@@ -1,11 +1,11 @@
 -- What becomes of a whole log and of the last log, which is its end, if batches go to that and it comes to rest.
-use Rattle.std.proofs.Common.{◌≡◌, ◌≢◌, ◌⊎◌, inl, inr, ℕ, Bool, Option, Some, None, refl, sym, ◌∙◌, ap, subst}
+use Rattle.std.proofs.Common.{◌≡◌, inl, inr, ℕ, Bool, Option, Some, None, refl, sym, ◌∙◌, ap, subst}
 use Rattle.std.proofs.lemmas.Option.{same_Some}
 use Rattle.mt_rows.specs.declared.record.Batch.{Batch}
 use Rattle.mt_log.specs.{declared.batch.LogBatch.LogBatch, declared.batch.LogBatch.TheVariants.Records, Contents.{Contents, to_of, with_batch}}
 use Rattle.mt_crashes.{specs.Stores.{LogNow, at_rest, MayLeaveFront}, proofs.Members.no_some}
 use Rattle.mt_log_files.specs.Files.{FileNow, Has}
-use Rattle.mt_store_logs.specs.{Ends.{IsEndOf, IsPast}, Shows.{MayBegin, begun, appended, IsIn, IsInDoubt, ComesToRest}}
+use Rattle.mt_store_logs.specs.{Ends.{IsEndOf, IsPast}, Shows.{begun, appended, IsIn, IsInDoubt, ComesToRest}}
 use Rattle.mt_store_logs.proofs.{EndLaws.{mark, longer, front, begins}, TurnFiles.{AreWith, at_rest_is, doubted, added, rested}}
 
 -- where a log begins, and its numbers, whatever its batches are

@@ -19,4 +19,7 @@ pub mod Refusals
 pub mod NextLaws
 pub mod RestingDisks
 pub mod OlderLaws
+pub mod NextTurn
+pub mod LastStarts
 pub mod NextLogs
+pub mod UsedSlots

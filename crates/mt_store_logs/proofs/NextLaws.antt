@@ -1,28 +1,28 @@
 -- A worker's log in a turn as its next log is begun or looked for, and as it is opened again.
-use Rattle.std.proofs.Common.{◌≡◌, ◌≢◌, ◌⊎◌, ⊎_elim, inl, inr, ℕ, zero, suc, ◌+◌, Bool, true, false, Option, Some, None, refl, sym, ◌∙◌, ap, subst, arith}
+use Rattle.std.proofs.Common.{◌≡◌, ◌⊎◌, ⊎_elim, inl, inr, ℕ, ◌+◌, Bool, true, false, Option, Some, None, refl, sym, ◌∙◌, ap, subst, arith}
 use Rattle.std.proofs.lemmas.Option.{same_Some}
 use Rattle.std.specs.Option.{option_map}
 use Rattle.mt_rows.specs.{declared.record.Batch.Batch, declared.refusal.Refusal.Refusal}
 use Rattle.mt_disk.specs.Disk.{DiskState}
-use Rattle.mt_log_generations.specs.{declared.header.{Header.Header, Parity.Parity}, Headers.parity_of}
+use Rattle.mt_log_generations.specs.{declared.header.{Header.Header}, Headers.parity_of}
 use Rattle.mt_log.specs.{declared.batch.Front.Front, declared.log_file.LogFile.LogFile, Contents.{Contents, mark_of, contents_of}, Numbered.begun_log}
 use Rattle.mt_crashes.{specs.Stores.{LogNow, at_rest}, proofs.Members.no_some}
-use Rattle.mt_recover.specs.{declared.resuming.LogSlot.LogSlot, declared.resuming.LogSlot.TheVariants.{Open, Failed, Closed, Away}}
-use Rattle.mt_log_files.specs.{declared.worker.WorkerFiles.WorkerFiles, Slots.{disk_in, file_of, with_file, OpensNumbered}}
+use Rattle.mt_recover.specs.{declared.resuming.LogSlot.LogSlot, declared.resuming.LogSlot.TheVariants.{Open, Closed}}
+use Rattle.mt_log_files.specs.{declared.worker.WorkerFiles.WorkerFiles, Slots.{disk_in, file_of, with_file}}
 use Rattle.mt_log_files.specs.{Shows.{Shows, IsHonest}, Files.{FileNow, Spare, Has, MayHave, MayLeaveFile, found_as, ShowsFile}, Workers.AreFilesOf}
 use Rattle.mt_log_files.proofs.FileLaws as calls
 use Rattle.mt_log_files.proofs.{WorkerLaws.{begun_files, settled_files}, ShowLaws.open_shows}
 use Rattle.mt_chain_files.specs.Turns.{FilesNow, now_of, IsOfGeneration, ShowFiles}
-use Rattle.mt_turns.specs.{declared.worker_log.WorkerLog.WorkerLog, Logs.{mark_in, next_of, TurnsTo}, Turns.{IsNextHeader, BeginsNext, NextNotBegun}}
+use Rattle.mt_turns.specs.{declared.worker_log.WorkerLog.WorkerLog, Logs.{mark_in, next_of, TurnsTo}, Turns.{IsNextHeader, NextNotBegun}}
 use Rattle.mt_turns.proofs.Places as places
-use Rattle.mt_store_logs.specs.{declared.last_log.LastLog.LastLog, declared.store_log.StoreLog.StoreLog, Places.{last_log_of, slot_of, OnLast}}
-use Rattle.mt_store_logs.specs.Turns.{OnLog, FindsNext, FindsNoNext, FailsToFind, BeginsNextLog, FailsToBeginNextLog, LooksForNext, FailsToLook, ReopensLog, FailsToReopenLog}
-use Rattle.mt_store_logs.specs.Shows.{WaitsIn, LastStands, drained_upto, IsIn, IsInDoubt, ComesToRest}
-use Rattle.mt_store_logs.specs.Ends.{IsEndOf, Rests, MayHaveNext, IsNextFile, StandsInTurn, KeepsStart, KeepStarts}
+use Rattle.mt_store_logs.specs.{declared.store_log.StoreLog.StoreLog, Places.{last_log_of, slot_of}}
+use Rattle.mt_store_logs.specs.Turns.{OnLog, FindsNext, FindsNoNext, BeginsNextLog, FailsToBeginNextLog, LooksForNext, FailsToLook, ReopensLog, FailsToReopenLog}
+use Rattle.mt_store_logs.specs.Shows.{WaitsIn, drained_upto, IsIn, IsInDoubt, ComesToRest}
+use Rattle.mt_store_logs.specs.Ends.{Rests, MayHaveNext, IsNextFile, StandsInTurn, KeepsStart, KeepStarts}
 use Rattle.mt_store_logs.proofs.{EndLaws.mark, Refusals.{reopen_refusal, look_refusal}}
 use Rattle.mt_store_logs.proofs.FilePlaces.{with_now, now_is, next_stays, before_stays, no_zero, first_of_turn, next_of_turn, keeps_same, keep_same, keep_both, keep_with, shows_in, shows_with, has_in, numbered_in, in_numbered}
-use Rattle.mt_store_logs.proofs.TurnFiles.{at_rest_is, next_is_end, no_next_files, keeps_found, keeps_none}
-use Rattle.mt_store_logs.proofs.TurnLaws.{IsAt, IsUnsure, where_is, is_sure, sure_at, reopened_last, not_reopened_last}
+use Rattle.mt_store_logs.proofs.TurnFiles.{next_is_end, no_next_files, keeps_found, keeps_none}
+use Rattle.mt_store_logs.proofs.TurnLaws.{IsAt, IsUnsure, where_is, is_sure, reopened_last, not_reopened_last}
 use Rattle.mt_rows.specs.declared.refusal.Refusal.TheVariants as refusals
 
 clash : true ≡ false → ⊥

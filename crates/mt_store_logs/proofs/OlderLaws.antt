@@ -1,22 +1,21 @@
 -- A worker's log in a turn as its older log is given up.
-use Rattle.std.proofs.Common.{◌≡◌, ◌≢◌, ◌⊎◌, ⊎_elim, inl, inr, ℕ, ◌+◌, ◌==◌, ◌%◌, Bool, true, false, IsTrue, cond, Option, Some, None, refl, sym, ◌∙◌, ap, subst, arith}
-use Rattle.std.proofs.lemmas.Bool.{cases_eq}
+use Rattle.std.proofs.Common.{◌≡◌, ⊎_elim, inr, ℕ, ◌+◌, ◌==◌, ◌%◌, Bool, true, false, IsTrue, cond, Option, None, refl, sym, ◌∙◌, ap, subst, arith}
 use Rattle.mt_rows.specs.declared.refusal.Refusal.{Refusal}
 use Rattle.mt_disk.specs.Disk.{DiskState}
 use Rattle.mt_log_generations.specs.declared.header.{Parity.Parity, Parity.TheVariants.{Even, Odd}}
-use Rattle.mt_log.specs.{Contents.{Contents, IsContents}, Numbered.text_of}
+use Rattle.mt_log.specs.{Contents.{Contents}, Numbered.text_of}
 use Rattle.mt_log.proofs.NumberedLaws.{text_some}
-use Rattle.mt_crashes.{specs.Stores.{LogNow, at_rest}, proofs.Members.no_some}
+use Rattle.mt_crashes.{specs.Stores.{LogNow}, proofs.Members.no_some}
 use Rattle.mt_recover.specs.{declared.resuming.LogSlot.LogSlot, declared.resuming.LogSlot.TheVariants.{Open, Failed, Closed, Away}}
 use Rattle.mt_log_files.specs.{declared.worker.WorkerFiles.WorkerFiles, Slots.{disk_in, file_of, with_file, GivesUp, NotGivenUp}}
-use Rattle.mt_log_files.specs.{Shows.{Shows, IsHonest}, Files.{FileNow, Spare, Has, MayHave, LeavesText, ShowsFile}, Workers.AreFilesOf}
+use Rattle.mt_log_files.specs.{Shows.{Shows, IsHonest}, Files.{FileNow, Spare, Has, MayHave, ShowsFile}, Workers.AreFilesOf}
 use Rattle.mt_log_files.proofs.FileLaws as calls
-use Rattle.mt_chain_files.{specs.Turns.{FilesNow, now_of, IsOfGeneration, AreOfTurn, ShowsPlain, ShowFiles}, proofs.TurnLaws.next_turn}
+use Rattle.mt_chain_files.specs.Turns.{FilesNow, now_of, IsOfGeneration, ShowsPlain, ShowFiles}
 use Rattle.mt_turns.specs.{declared.worker_log.WorkerLog.WorkerLog, Files.OnFile, Logs.TurnsTo, Turns.{OnOlder, GivesUpOlder, FailsToGiveUpOlder}}
 use Rattle.mt_turns.proofs.Places as places
 use Rattle.mt_store_logs.specs.{declared.store_log.StoreLog.StoreLog, Places.slot_of, Turns.OnLog, Shows.WaitsIn}
-use Rattle.mt_store_logs.specs.Ends.{Rests, IsNextFile, StandsInTurn}
-use Rattle.mt_store_logs.proofs.FilePlaces.{with_now, now_is, next_stays, two_on, first_of_turn, ShowsIn, shows_in, shows_with, numbered_in, in_numbered, plain_shows}
+use Rattle.mt_store_logs.specs.Ends.{Rests, StandsInTurn}
+use Rattle.mt_store_logs.proofs.FilePlaces.{with_now, now_is, next_stays, first_of_turn, ShowsIn, shows_in, shows_with, numbered_in, in_numbered, plain_shows}
 use Rattle.mt_store_logs.proofs.{TurnFiles.{no_older, may_have_older}, TurnLaws.{IsAt, where_is}, RestingDisks.rest_text}
 
 -- a file of which the log may be given up or not
@@ -45,7 +44,7 @@ module _ {D : Type 0} (is_honest : D → Bool) (state : D → DiskState) where
   In g now files log = StandsInTurn is_honest state g now files log
 
   -- the last log is the next one, and the older one rests
-  is_next : (g : ℕ) (now : LogNow) (files : FilesNow) (log : StoreLog D) → In g now files log → log.log.generation ≡ g + 1 → IsAt is_honest state true g files log
+  pub is_next : (g : ℕ) (now : LogNow) (files : FilesNow) (log : StoreLog D) → In g now files log → log.log.generation ≡ g + 1 → IsAt is_honest state true g files log
   is_next g now files log s of = ⊎_elim (λ at. known at.0 at.1) (λ sure. let first = sure.0 in absurd (omega (arith, of, first))) (where_is is_honest state g now files log s)
     where
       known : (at : Bool) → IsAt is_honest state at g files log → IsAt is_honest state true g files log
@@ -89,28 +88,6 @@ module _ {D : Type 0} (is_honest : D → Bool) (state : D → DiskState) where
   unsure_plain (Has n) slot = tt
   unsure_plain (MayHave c) slot = tt
 
-  -- ---- the turn after it
-
-  -- the file after the next one is spare then
-  spare_after : (g : ℕ) (now : LogNow) (files : FilesNow) → AreOfTurn g now files → now_of g files ≡ Spare → now_of (g + 1 + 1) files ≡ Spare
-  spare_after g now files turn spare = ⊎_elim
-      (λ none. ap (λ (n : ℕ). now_of (n + 1 + 1) files) none ∙ turn.no_other none)
-      (λ some. two_on g files some ∙ spare)
-      (cases_eq g 0)
-
-  turned : (g : ℕ) (now : LogNow) (files : FilesNow) (log : StoreLog D) → In g now files log → log.log.generation ≡ g + 1 → now_of g files ≡ Spare → In (g + 1) now files log
-  turned g now files log s of spare =
-      let is = is_next g now files log s of in
-      record {
-        stands = s.stands;
-        turn = next_turn files g now s.stands.last s.turn spare (ap (λ (n : ℕ). now_of n files) (sym of) ∙ s.has);
-        shows = s.shows;
-        has = s.has;
-        in_turn = inl (of, subst (λ (flag : Bool). IsNextFile flag now (now_of (g + 1 + 1) files) log) (sym is.1) (spare_after g now files s.turn spare));
-        past = s.past;
-        owner = s.owner;
-      }
-
   module _ (failures : D → ℕ) where
     -- a call on the older log is one on the file of the turn's first generation
     on_older : {Does : Option D → LogSlot D → Type 0} (g : ℕ) (old new : WorkerLog D) → old.generation ≡ g + 1 → (b : OnOlder Does old new) → OnFile g Does old.files b.files
@@ -131,15 +108,14 @@ module _ {D : Type 0} (is_honest : D → Bool) (state : D → DiskState) where
 
     pub given_up_in_turn : (g : ℕ) (now : LogNow) (files : FilesNow) (old new : StoreLog D) → In g now files old → old.log.generation ≡ g + 1
         → OnLog old.next_in_doubt (GivesUpOlder is_honest state failures) old new
-        → (then : FilesNow) × In (g + 1) now then new × (now_of (g + 1) then ≡ now_of (g + 1) files)
+        → (then : FilesNow) × In g now then new × (now_of g then ≡ Spare) × (now_of (g + 1) then ≡ now_of (g + 1) files)
     given_up_in_turn g now files old new s of b = ⊎_elim
         (λ older. (
         let on = on_older g old.log new.log of older in
         let shows = given_up_by (g == 0) g (now_of g files) (file_of g old.log.files) on.slot refl (shows_in is_honest state g files old.log.files s.shows) on.does in
         let are = no_older g now (now_of g files) (now_of (g + 1) files) s.turn.are in
         let r = older_replaced g now files Spare on.slot old new s of (turns_so g old.log new.log older on) b.kept b.doubts shows are tt tt in
-        let of_new : new.log.generation ≡ g + 1 = ap (λ (l : WorkerLog D). l.generation) (turns_so g old.log new.log older on) ∙ of in
-        (with_now g Spare files, turned g now (with_now g Spare files) new r of_new (now_is g Spare files), next_stays g Spare files)
+        (with_now g Spare files, r, now_is g Spare files, next_stays g Spare files)
         ))
         (λ none. let first = none.0 in absurd (omega (arith, of, first)))
         b.does

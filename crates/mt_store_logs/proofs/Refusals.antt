@@ -1,5 +1,5 @@
 -- Why a store's own log is not opened again: there is no memory, or the device failed.
-use Rattle.std.proofs.Common.{◌≡◌, ◌≢◌, ◌⊎◌, inl, inr, ℕ, zero, suc, ◌+◌, Bool, IsTrue, Option, Some, None, refl, sym, ◌∙◌, ap, subst, arith}
+use Rattle.std.proofs.Common.{◌≡◌, ◌≢◌, ◌⊎◌, inl, inr, ℕ, zero, suc, Bool, IsTrue, Option, Some, None, refl, ap, subst, arith}
 use Rattle.mt_rows.specs.declared.refusal.Refusal.{Refusal}
 use Rattle.mt_disk.specs.Disk.{DiskState}
 use Rattle.mt_log_generations.specs.{declared.header.Parity.Parity, Headers.parity_of}

@@ -1,9 +1,9 @@
 -- What a closed disk leaves of a log at rest, of which no append was begun: that log, as the text of its file.
-use Rattle.std.proofs.Common.{◌≡◌, ◌≢◌, ⊎_elim, inl, inr, ℕ, ◌≤◌, List, [], ◌∷◌, ◌++◌, length, drop, Bool, Option, Some, None, refl, sym, ◌∙◌, ap, subst, arith, append_assoc, length-append}
+use Rattle.std.proofs.Common.{◌≡◌, ⊎_elim, inl, inr, ℕ, ◌≤◌, [], ◌∷◌, ◌++◌, length, drop, Bool, Option, None, refl, sym, ◌∙◌, ap, subst, arith, append_assoc, length-append}
 use Rattle.std.proofs.lemmas.{Bool.cases_eq, Option.same_Some, List.{append-nil, append_cancel_left}}
 use Rattle.std.specs.List.{slice_get}
 use Rattle.mt_rows.specs.Rows.{Bytes}
-use Rattle.mt_disk.specs.Disk.{DiskState, LeavesOnly, MayLeave, moments}
+use Rattle.mt_disk.specs.Disk.{DiskState, MayLeave, moments}
 use Rattle.mt_gates.specs.Gates.{IsLeftOf}
 use Rattle.mt_log.specs.{declared.batch.LogBatch.LogBatch, declared.batch.LogBatch.TheVariants.Resume, Format.{body, told_body, batch_bytes}}
 use Rattle.mt_log.specs.{Contents.{Contents, IsContents, IsLogBatch, mark_of, log_bytes, with_batch}, Fronts.{HasFront, IsLeft, IsTorn, IsShut}, Numbered.text_of}

@@ -1,11 +1,11 @@
 -- The files of a worker's log in a turn, as it is appended to and comes to rest, whatever the older file shows.
-use Rattle.std.proofs.Common.{◌≡◌, ◌≢◌, ⊎_elim, inl, inr, ℕ, ◌+◌, ◌==◌, Bool, true, false, cond, List, [], ◌++◌, Option, Some, None, refl, sym, ◌∙◌, ap, subst, arith, append_assoc}
+use Rattle.std.proofs.Common.{◌≡◌, ⊎_elim, inl, inr, ℕ, ◌+◌, Bool, true, false, cond, List, ◌++◌, Option, Some, None, refl, sym, ◌∙◌, ap, subst, arith, append_assoc}
 use Rattle.std.proofs.lemmas.{Bool.{eq-eqb, ne_eqb, cases_eq}, Option.same_Some, List.append-nil}
-use Rattle.mt_log.specs.{declared.batch.LogBatch.LogBatch, Contents.{Contents, mark_of, to_of, with_batch}}
+use Rattle.mt_log.specs.{declared.batch.LogBatch.LogBatch, Contents.{Contents, mark_of, with_batch}}
 use Rattle.mt_crashes.{specs.Stores.{LogNow, at_rest, MayLeaveFront}, proofs.{Members.no_some, FrontLaws.mark_more}}
 use Rattle.mt_generations.specs.{Chains.{Chain, EndsLog}, Standings.{Standing, StandsFor}, Turns.with_log}
 use Rattle.mt_generations.proofs.{Moments.{longer_next, longer_first}, Parts.same_end}
-use Rattle.mt_log_files.specs.{Files.{FileNow, Spare, Has, MayHave, MayLeaveFile}, Workers.{nothing_stands, with_found, standing_of, AreFilesOf}}
+use Rattle.mt_log_files.specs.{Files.{FileNow, Spare, Has, MayHave}, Workers.{nothing_stands, with_found, standing_of, AreFilesOf}}
 use Rattle.mt_log_files.proofs.WorkerLaws.{doubted_next, doubted_first, giving_up_files, given_up_files}
 use Rattle.mt_store_logs.specs.Ends.{IsEndOf, IsPast, start_in, KeepsStart}
 
@@ -24,10 +24,10 @@ same_stands g log f e same s = record {
   no_other = λ h c at. s.no_other h c (sym (same h) ∙ at);
 }
 
-at_log : (g : ℕ) (c : Chain) (f : Standing) → with_log g c f g ≡ Some c
+pub at_log : (g : ℕ) (c : Chain) (f : Standing) → with_log g c f g ≡ Some c
 at_log g c f = ap (λ (b : Bool). cond b (Some c) (f g)) (eq-eqb g g refl)
 
-past_log : (g h : ℕ) (c : Chain) (f : Standing) → (h ≡ g → ⊥) → with_log g c f h ≡ f h
+pub past_log : (g h : ℕ) (c : Chain) (f : Standing) → (h ≡ g → ⊥) → with_log g c f h ≡ f h
 past_log g h c f other = ap (λ (b : Bool). cond b (Some c) (f h)) (ne_eqb h g other)
 
 -- what was found of a generation is not there of the next one
@@ -176,7 +176,7 @@ no_older g now (MayHave c) next are = given_up_files g now c next are
 
 -- ---- where logs begin
 
-left_start : (now : LogNow) (front : Contents) → MayLeaveFront now front → front.start ≡ now.had.start
+pub left_start : (now : LogNow) (front : Contents) → MayLeaveFront now front → front.start ≡ now.had.start
 left_start now front (inl same) = ap (λ (c : Contents). c.start) same
 left_start now front (inr (b, told, more)) = ap (λ (c : Contents). c.start) more
 

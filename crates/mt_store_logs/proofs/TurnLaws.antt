@@ -1,5 +1,5 @@
 -- A worker's log in a turn as its last log is called: all three files stay those of the whole log.
-use Rattle.std.proofs.Common.{◌≡◌, ◌≢◌, ◌⊎◌, ⊎_elim, inl, inr, ℕ, ◌+◌, ◌≤◌, ◌^◌, Bool, true, false, Option, Some, None, refl, sym, ◌∙◌, ap, subst, arith}
+use Rattle.std.proofs.Common.{◌≡◌, ◌≢◌, ◌⊎◌, ⊎_elim, inl, inr, ℕ, ◌+◌, ◌≤◌, ◌^◌, Bool, true, false, Option, Some, None, refl, sym, ◌∙◌, ap, subst}
 use Rattle.mt_rows.specs.{declared.record.Batch.Batch, declared.refusal.Refusal.Refusal}
 use Rattle.mt_batches.specs.Batches.{IsInOrder}
 use Rattle.mt_disk.specs.Disk.{DiskState}
@@ -11,15 +11,15 @@ use Rattle.mt_log_files.specs.{declared.worker.WorkerFiles.WorkerFiles, Slots.wi
 use Rattle.mt_log_files.specs.{Shows.{Shows, IsHonest}, Files.{FileNow, Spare, Has}, Workers.AreFilesOf}
 use Rattle.mt_chain_files.specs.Turns.{FilesNow, now_of, AreOfTurn, ShowFiles}
 use Rattle.mt_turns.specs.{declared.worker_log.WorkerLog.WorkerLog, Logs.{mark_in, last_of}}
-use Rattle.mt_store_logs.specs.{declared.last_log.LastLog.LastLog, declared.store_log.StoreLog.StoreLog, Places.{last_log_of, slot_of, worker_of, OnLast}}
-use Rattle.mt_store_logs.specs.Waits.{HasAppended, HasFailed, TakesIn, AppendsKept, FailsToAppend, Reopens, FailsToReopen}
+use Rattle.mt_store_logs.specs.{declared.last_log.LastLog.LastLog, declared.store_log.StoreLog.StoreLog, Places.{last_log_of, slot_of, OnLast}}
+use Rattle.mt_store_logs.specs.Waits.{HasFailed, TakesIn, AppendsKept, FailsToAppend, Reopens, FailsToReopen}
 use Rattle.mt_store_logs.specs.Shows.{WaitsIn, LastStands, drained_upto, IsIn, IsInDoubt, ComesToRest}
-use Rattle.mt_store_logs.specs.Ends.{IsEndOf, Stands, keeping, IsPast, Rests, MayHaveNext, IsNextFile, IsInTurn, StandsInTurn, KeepsStart, KeepStarts}
+use Rattle.mt_store_logs.specs.Ends.{keeping, Rests, MayHaveNext, IsNextFile, IsInTurn, StandsInTurn, KeepsStart, KeepStarts}
 use Rattle.mt_store_logs.specs.Recovers.{ResumesLog, FailsToResumeLog}
 use Rattle.mt_store_logs.proofs.CallerLemmas as logs
-use Rattle.mt_store_logs.proofs.{EndLaws.{mark, drained, in_of, doubt_of, front_of}}
+use Rattle.mt_store_logs.proofs.{EndLaws.{mark, drained}}
 use Rattle.mt_store_logs.proofs.FilePlaces.{with_now, now_is, next_stays, before_stays, first_of_turn, next_of_turn, keep_same, keep_with, shows_with, has_in, put_back}
-use Rattle.mt_store_logs.proofs.{TurnFiles.{AreWith, at_rest_is, keeps_start}, LastPairs.{IsNamed, ArePair, rests_past, more_pair, doubt_files, in_pair, doubt_pair, rest_pair}}
+use Rattle.mt_store_logs.proofs.{TurnFiles.{AreWith, at_rest_is, keeps_start}, LastPairs.{ArePair, more_pair, doubt_files, in_pair, doubt_pair, rest_pair}}
 use Rattle.mt_rows.specs.declared.refusal.Refusal.TheVariants as refusals
 
 in_doubt_none : (kept : Option Batch) (now : LogNow) → IsInDoubt kept now now

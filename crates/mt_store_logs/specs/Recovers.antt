@@ -63,7 +63,7 @@ module _ {D : Type 0} (is_honest : D → Bool) (state : D → DiskState) (failur
   StopsResuming kept to e old new = StopsResumingAt kept to e.log e.refusal old new
 
   -- Both slots were read, then the files of all logs were opened, the store was recovered from what both tell, and each log has its resume batch. The newest
-  -- checkpoint is the one that was used.
+  -- checkpoint is the one that was used, and it owes nothing.
   pub record ServesAgain (accounts : Accounts) (r : Recovered) (old : List (StoreLog D)) (slots : StoreSlots D) (new : List (StoreLog D)) (now : StoreSlots D) : Type 0 where
     pub rested : StoreSlots D
     pub found : Both (Option Checkpoint)

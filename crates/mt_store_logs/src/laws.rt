@@ -9,16 +9,19 @@ ghost use Rattle.mt_rows.specs.declared.refusal.Refusal.TheVariants as refusals;
 ghost use Rattle.mt_batches.specs.Batches.{IsInOrder};
 ghost use Rattle.mt_disk.specs.{declared.mem.MemDisk.MemDisk, Mem.mem_state};
 ghost use Rattle.mt_log.specs.{declared.batch.Front.Front, declared.batch.LogBatch.{LogBatch, TheVariants.Resume}};
-ghost use Rattle.mt_log.specs.Contents.{Contents, Rises, mark_of, no_batches, with_batch, contents_of};
+ghost use Rattle.mt_log.specs.Contents.{Contents, Rises, JoinsAndRises, mark_of, no_batches, with_batch, contents_of};
 ghost use Rattle.mt_crashes.specs.{Fronts.In, Stores.{LogNow, at_rest, MayLeaveFront}, Bases.{CheckpointView, Slots}, Histories.{Placed, pairs_upto}};
 ghost use Rattle.mt_crashes.specs.{Invariants.RisePlaced, Recoveries.{HasSlot, IsRecovered}};
 ghost use Rattle.mt_recover.specs.{declared.resuming.LogSlot.LogSlot, Resumes.{HasResumed, FailsToResume}};
 ghost use Rattle.mt_generations.specs.Chains.{EndsLog};
-ghost use Rattle.mt_log_files.specs.Files.{Spare, Has};
+ghost use Rattle.mt_log_files.specs.Files.{Spare, Has, MayLeaveFile};
 ghost use Rattle.mt_turns.specs.Turns.{GivesUpOlder, FailsToGiveUpOlder};
 ghost use Rattle.mt_chain_files.specs.Turns.{FilesNow, now_of, AreOfTurn, ShowFiles};
 ghost use Rattle.mt_store_logs.specs.{declared.store_log.StoreLog.StoreLog, Places.{disk_in, worker_of, OnLast}, Opens.{Opens, FailsToOpen, Makes, MakesLog}};
-ghost use Rattle.mt_store_logs.specs.{Ends.{IsEndOf, Stands, keeping, Rests, StandsInTurn, KeepStarts}, Recovers.{ResumesLog, FailsToResumeLog}};
+ghost use Rattle.mt_store_logs.specs.{Ends.{IsEndOf, Stands, keeping, Rests, StandsInTurn, KeepStarts}, Recovers.{ResumesLog, FailsToResumeLog, ServesAgain}};
+ghost use Rattle.mt_rows.specs.Accounts.{Accounts};
+ghost use Rattle.mt_recover.specs.declared.recovering.Recovered.{Recovered};
+ghost use Rattle.mt_slots.specs.{declared.store_slots.StoreSlots.StoreSlots, Keeps.{NewestEndsBy, only_these}};
 ghost use Rattle.mt_store_logs.specs.Turns.{OnLog, ReopensLog, FailsToReopenLog, BeginsNextLog, FailsToBeginNextLog};
 ghost use Rattle.mt_store_logs.specs.{Waits.{AppendsKept, FailsToAppend, Reopens, FailsToReopen}, Crashes.{IsCrashedOn, IsCrashed}, declared.crashing.FileImages.FileImages};
 ghost use Rattle.mt_store_logs.specs.{Shows.{Shows, IsHonest, WaitsIn, drained_upto, IsIn, IsInDoubt, ComesToRest}, OldBases.{IsOldBase, AreOldUpto, TellHistory}};
@@ -139,15 +142,33 @@ pub fn the_next_log_of_a_turn_is_begun<D: Disk>()
         → (then : FilesNow) × StandsInTurn D.is_honest D.state g now then new × (now_of g then ≡ now_of g files) }
 {}
 
-/// Once the older log is given up, the next generation is the turn's first one. The file of the last log stays. If it fails,
-/// the older log may be there or not, and it may be given up again.
+/// Once the older log is given up, its file is spare, and the files are still of the turn. The file of the last log stays. If
+/// it fails, the older log may be there or not, and it may be given up again.
 pub fn the_older_log_of_a_turn_is_given_up<D: Disk>()
     ensures given_up { (g : ℕ) (now : LogNow) (files : FilesNow) (old new : StoreLog D) → StandsInTurn D.is_honest D.state g now files old
         → old.log.generation ≡ g + 1 → OnLog old.next_in_doubt (GivesUpOlder D.is_honest D.state D.failures) old new
-        → (then : FilesNow) × StandsInTurn D.is_honest D.state (g + 1) now then new × (now_of (g + 1) then ≡ now_of (g + 1) files) }
+        → (then : FilesNow) × StandsInTurn D.is_honest D.state g now then new × (now_of g then ≡ Spare) × (now_of (g + 1) then ≡ now_of (g + 1) files) }
     ensures failed { (g : ℕ) (now : LogNow) (files : FilesNow) (e : Refusal) (old new : StoreLog D) → StandsInTurn D.is_honest D.state g now files old
         → old.log.generation ≡ g + 1 → OnLog old.next_in_doubt (FailsToGiveUpOlder D.is_honest D.state D.failures e) old new
         → (then : FilesNow) × StandsInTurn D.is_honest D.state g now then new × (now_of (g + 1) then ≡ now_of (g + 1) files) }
+{}
+
+/// If the older file is spare, the next generation is the turn's first one, and the file for the one after it is spare. It
+/// may also go back: as long as that file is spare for certain, the turn before is one of the worker's files too. So one
+/// generation tells the turn of all workers while their older logs are given up one by one.
+pub fn a_turn_goes_on_to_the_next_generation<D: Disk>()
+    ensures on { (g : ℕ) (now : LogNow) (files : FilesNow) (log : StoreLog D) → StandsInTurn D.is_honest D.state g now files log → now_of g files ≡ Spare
+        → StandsInTurn D.is_honest D.state (g + 1) now files log × (now_of (g + 1 + 1) files ≡ Spare) }
+    ensures back { (g : ℕ) (now : LogNow) (files : FilesNow) (log : StoreLog D) → StandsInTurn D.is_honest D.state (g + 1) now files log
+        → now_of (g + 1 + 1) files ≡ Spare → log.next_in_doubt ≡ false
+        → (then : FilesNow) × StandsInTurn D.is_honest D.state g now then log × (now_of g then ≡ Spare) × (now_of (g + 1) then ≡ now_of (g + 1) files) }
+{}
+
+/// Whatever a crash leaves of the file of the last log, a log is there. It begins by the step at which the whole log ends, if
+/// the batches of that join and rise.
+pub fn a_last_log_began_by_where_it_ends<D: Disk>()
+    ensures { (g : ℕ) (now : LogNow) (files : FilesNow) (log : StoreLog D) → StandsInTurn D.is_honest D.state g now files log → JoinsAndRises now.had
+        → (x : Option Contents) → MayLeaveFile (now_of log.log.generation files) x → (c : Contents) × (x ≡ Some c) × (c.start ≤ mark_of now.had) }
 {}
 
 /// The three files of a log that was made are those of a log without batches: the plain one has it, and the numbered ones are
@@ -202,6 +223,15 @@ pub fn a_resume_batch_comes_to_rest<D: Disk>()
         → to ≤ 2 ^ 59 → FailsToResume D.is_honest D.state D.failures kept to e old new
         → IsHonest D.is_honest new × (Shows D.state (at_rest c) new
         ⊎ (Rises (Resume (mark_of c) to kept) × Shows D.state (record { had = c; doubt = Some (Resume (mark_of c) to kept) }) new)) }
+{}
+
+/// Once a store serves again, its newest checkpoint ends by the step from which the store goes on. Each log goes up to that
+/// step. So the newest is settled, and nothing is owed.
+pub fn the_checkpoint_that_was_used_is_settled<D: Disk>()
+    ensures ends { (accounts : Accounts) (r : Recovered) (old new : List (StoreLog D)) (slots now : StoreSlots D)
+        → (is : ServesAgain D.is_honest D.state D.failures accounts r old slots new now) → NewestEndsBy (only_these is.found) r.resume now }
+    ensures owed { (accounts : Accounts) (r : Recovered) (old new : List (StoreLog D)) (slots now : StoreSlots D)
+        → ServesAgain D.is_honest D.state D.failures accounts r old slots new now → now.owed ≡ 0 }
 {}
 
 /// A crash changes nothing of what a crash may leave.

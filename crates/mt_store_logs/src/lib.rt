@@ -1,10 +1,12 @@
 //! What a running store does with the logs of its workers.
 //!
-//! A `StoreLog` is a log's place: open or closed, and the batch that waits for it. `flush` drains a worker
-//! into its log; `reopen` opens a log again whose disk failed; `bring_up` is a log's turn, which does both;
-//! `recover_store` brings a store up again from its logs and its slots, and `crash_logs` lets logs in memory crash.
-//! `specs/Waits.antt` says what each does to the batch that waits, and `specs/Shows.antt` what a crash may leave of
-//! a log.
+//! A `StoreLog` is the log of a worker over its three files, with the batch that waits for its last log. `flush` drains a
+//! worker into its last log. `StoreLog::reopen` opens that again if its disk failed, and `bring_up` does both. `flush_and_begin`
+//! begins the next log too, and `StoreLog::give_up_older` gives the older one up. `open_logs` opens all files, and
+//! `recover_store` brings a store up again from its logs and its slots. `crash_logs` lets logs in memory crash.
+//!
+//! `specs/Waits.antt` says what each does to the batch that waits, and `specs/Turns.antt` what becomes of the three files.
+//! `specs/Shows.antt` says what a crash may leave of a last log, and `specs/Ends.antt` of all three files.
 //!
 //! Units: steps, as records are stamped with them.
 #![tactic(auto)]

@@ -16,7 +16,8 @@ use std::alloc::Global;
 
 /// Reads the slots of a store, opens the files of its logs, recovers it from what both tell, and appends to the last log of
 /// each worker the batch with which a recovery ends. Then the last logs are open, go up to the step from which the store
-/// goes on, and keep no batch. The checkpoint that was used is the newest one. `watch` is told how far the opening is.
+/// goes on, and keep no batch. The checkpoint that was used is the newest one, and owes nothing. `watch` is told how far the
+/// opening is.
 ///
 /// An error tells the slot that was not read, the log that was not opened or got no such batch, or, of all logs, why there
 /// is no recovery. No file of a log is opened before both slots were read, and nothing is appended before all files are
