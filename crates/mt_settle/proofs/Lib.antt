@@ -1,1 +1,2 @@
+pub mod EachMore
 pub mod SettleTurns

@@ -1,7 +1,7 @@
 //! Logs of a store, of which one is brought up to date in a turn.
 
 ghost use Rattle.std.specs.Prelude.{◌≡◌, ◌<◌, ℕ, IfOk};
-ghost use Rattle.mt_settle.specs.Turns.{Turn, BroughtUp, mark_told};
+ghost use Rattle.mt_settle.specs.Turns.{Turn, BroughtUp, BegunNext, GivenUp, mark_told};
 
 use log::Log;
 use mt_rows::Refusal;
@@ -34,5 +34,27 @@ pub trait Logs {
         requires { log < logs self.old }
         ensures whose { IfOk result (λ flushed. flushed.worker ≡ log) }
         ensures does { does self.old (BroughtUp log (mark_told result)) self.new }
+        ensures same { logs self.new ≡ logs self.old };
+
+    /// Brings a log up to date. If its last log is of an earlier generation than this one, the next one is begun where
+    /// it ends, with nothing between the two. Returns that this log was flushed, and up to which step. Errors are those
+    /// of `bring_up`, or the next log was not begun.
+    fn begin_next<R: Wait + Clock + Log>(
+        &mut self,
+        rt: &R,
+        alloc: Global,
+        log: u8,
+        generation: u64,
+    ) -> Result<Flushed, Refusal>
+        requires { log < logs self.old }
+        ensures whose { IfOk result (λ flushed. flushed.worker ≡ log) }
+        ensures does { does self.old (BegunNext log generation (mark_told result)) self.new }
+        ensures same { logs self.new ≡ logs self.old };
+
+    /// Gives up the log of the generation before a log's last one, if there is one. It may be there or not after an
+    /// error, and the call may be made again.
+    fn give_up_older<R: Wait + Clock + Log>(&mut self, rt: &R, log: u8) -> Result<(), Refusal>
+        requires { log < logs self.old }
+        ensures does { does self.old (GivenUp log result) self.new }
         ensures same { logs self.new ≡ logs self.old };
 }
