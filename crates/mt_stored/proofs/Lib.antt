@@ -1,4 +1,5 @@
 pub mod Making
+pub mod NextTurn
 pub mod PageKeys
 pub mod Rounds
 pub mod Slices

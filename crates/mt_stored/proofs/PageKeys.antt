@@ -1,5 +1,5 @@
 -- The pairs that a walk takes of a page have the page's keys.
-use Rattle.std.proofs.Common.{◌≡◌, ℕ, List, [], Option, Some, None, map, sym, subst}
+use Rattle.std.proofs.Common.{ℕ, List, Option, Some, None, sym, subst}
 use Rattle.std.specs.List.{All}
 use Rattle.std.proofs.lemmas.List.Elements.{All-map, All-nil}
 use Rattle.mt_rows.specs.{Rows.Bytes, Stamps.Stamped, Commands.IsKey, Limits.ArePairs, declared.record.TenantPair.TenantPair}

@@ -1,15 +1,18 @@
 -- What turns make of a store that is owned alone: no step is made, and a log that was brought up goes up to all that were; for the store's calls and the law of its Settle.
 use Rattle.std.proofs.Common.{◌≡◌, ◌≢◌, ⊎_elim, ℕ, zero, suc, ◌+◌, ◌<◌, ◌≤◌, Bool, List, [], ◌∷◌, ◌++◌, length, Some, Result, Ok, Err, refl, sym, ap, ◌∙◌, arith}
 use Rattle.std.proofs.{lemmas.List.length-set, lemmas.Option.{same_Some, slice_get_within}, Math.Nat.eq-or-lt_of_le}
-use Rattle.std.specs.Prelude.{slice_get, slice_set, slice_index_or, IfOk, IfErr}
+use Rattle.std.specs.Prelude.{slice_get, slice_set, slice_index_or, IfOk, IfErr, OnOk}
 use Rattle.mt_rows.specs.{declared.record.Batch.Batch, declared.refusal.Refusal.Refusal}
 use Rattle.mt_disk.specs.Disk.{DiskState}
 use Rattle.mt_state.specs.Views.{StateView}
 use Rattle.mt_store_logs.specs.{declared.last_log.LastLog.LastLog, declared.store_log.StoreLog.StoreLog, Places.{mark_in, slot_of, worker_of, last_log_of}}
 use Rattle.mt_store_logs.specs.Flushes.{DrainsShort, HasDrained, Flushes, FailsToFlush}
 use Rattle.mt_store_logs.specs.{declared.flushing.Flushed.Flushed, LogTurns.{BringsUp, FailsToBringUp}}
-use Rattle.mt_settle.specs.{Turns.{Turn, BroughtUp, mark_told, Chain}, Settles.{turns_from, Settles}}
+use Rattle.mt_store_logs.specs.Turns.{OnLog, FlushesLog, FailsToFlushLog}
+use Rattle.mt_turns.specs.Turns.{GivesUpOlder, FailsToGiveUpOlder}
+use Rattle.mt_settle.specs.{Turns.{Turn, BroughtUp, BegunNext, GivenUp, mark_told, Chain}, Settles.{turns_from, Settles}}
 use Rattle.mt_stored.specs.{declared.source.OwnState.OwnState, Stores.{gives_own, DoesStore, IsSettled}}
+use Rattle.mt_stored.specs.Begins.{BringsUpAndBegins, FailsToBringUpAndBegin}
 
 -- no step was made, and there are as many logs
 abbrev pub Stays : OwnState → OwnState → Type 0
@@ -75,9 +78,37 @@ module _ {D : Type 0} (is_honest : D → Bool) (state : D → DiskState) (failur
       let f = b.flushes.does in
       in_drains (worker_of b.mid) upto mark f.first (last_log_of new) was is f.drains.0
 
+  flushed : (upto mark : ℕ) (old new : StoreLog D) (was is : OwnState) → FlushesLog is_honest state failures gives_own upto mark old new was is → Stays was is
+  flushed upto mark old new was is f =
+      in_drains (worker_of old) upto mark f.does.first (last_log_of new) was is f.does.drains.0
+
+  not_flushed : (upto : ℕ) (refusal : Refusal) (old new : StoreLog D) (was is : OwnState) → FailsToFlushLog is_honest state failures gives_own upto refusal old new was is → Stays was is
+  not_flushed upto refusal old new was is f = in_flush (worker_of old) upto refusal (last_log_of old) (last_log_of new) was is f.does
+
+  begun_next : (upto generation mark : ℕ) (old new : StoreLog D) (was is : OwnState)
+      → BringsUpAndBegins is_honest state failures gives_own upto generation mark old new was is → Stays was is
+  begun_next upto generation mark old new was is b =
+      ⊎_elim (λ next. flushed upto mark b.mid next.1.mid was is next.1.flushes) (λ there. flushed upto mark b.mid new was is there.1) b.begins
+
+  not_begun : (upto generation : ℕ) (refusal : Refusal) (old new : StoreLog D) (was is : OwnState)
+      → FailsToBringUpAndBegin is_honest state failures gives_own upto generation refusal old new was is → Stays was is
+  not_begun upto generation refusal old new was is f =
+      ⊎_elim (λ closed. same was is closed.same)
+      (λ opens.
+      ⊎_elim
+      (λ next.
+      ⊎_elim (λ not. not_flushed upto refusal opens.mid new was is not) (λ only. flushed upto only.mark opens.mid only.mid was is only.flushes) next.1)
+      (λ there. not_flushed upto refusal opens.mid new was is there.1)
+      opens.fails)
+      f
+
   turn_stays : (turn : Turn) (was : OwnState) (old : List (StoreLog D)) (is : OwnState) (new : List (StoreLog D)) → DoesStore is_honest state failures turn was old is new → Stays was is
   turn_stays (BroughtUp log (Ok mark)) was old is new t = brought_up was.state.steps mark t.before t.after was is t.turns
   turn_stays (BroughtUp log (Err e)) was old is new t = in_bring_up was.state.steps e t.before t.after was is t.turns
+  turn_stays (BegunNext log generation (Ok mark)) was old is new t = begun_next was.state.steps generation mark t.before t.after was is t.turns
+  turn_stays (BegunNext log generation (Err e)) was old is new t = not_begun was.state.steps generation e t.before t.after was is t.turns
+  turn_stays (GivenUp log (Ok x)) was old is new t = same was is t.turns.1
+  turn_stays (GivenUp log (Err e)) was old is new t = same was is t.turns.1
 
   -- a log that was brought up, or was not, had a turn of the store
   pub turned : (log : ℕ) (r : Result Flushed Refusal) (was is : OwnState) (old : List (StoreLog D)) (before after : StoreLog D) → slice_get old log ≡ Some before
@@ -87,6 +118,34 @@ module _ {D : Type 0} (is_honest : D → Bool) (state : D → DiskState) (failur
       → DoesStore is_honest state failures (BroughtUp log (mark_told r)) was old is (slice_set old log after)
   turned log (Ok f) was is old before after there whose ok err = record { before = before; there = there; whose = whose; after = after; stands = refl; turns = ok }
   turned log (Err e) was is old before after there whose ok err = record { before = before; there = there; whose = whose; after = after; stands = refl; turns = err }
+
+  -- one that was to go to a generation had one too
+  pub turned_next : (log generation : ℕ) (r : Result Flushed Refusal) (was is : OwnState) (old : List (StoreLog D)) (before after : StoreLog D) → slice_get old log ≡ Some before
+      → worker_of before ≡ log
+      → IfOk r (λ f. BringsUpAndBegins is_honest state failures gives_own was.state.steps generation f.mark before after was is)
+      → IfErr r (λ e. FailsToBringUpAndBegin is_honest state failures gives_own was.state.steps generation e before after was is)
+      → DoesStore is_honest state failures (BegunNext log generation (mark_told r)) was old is (slice_set old log after)
+  turned_next log generation (Ok f) was is old before after there whose ok err =
+      record { before = before; there = there; whose = whose; after = after; stands = refl; turns = ok }
+  turned_next log generation (Err e) was is old before after there whose ok err =
+      record { before = before; there = there; whose = whose; after = after; stands = refl; turns = err }
+
+  -- and one whose older log was to be given up
+  pub given_up : (log : ℕ) (r : Result (Unit {0}) Refusal) (was : OwnState) (old : List (StoreLog D)) (before after : StoreLog D) → slice_get old log ≡ Some before
+      → worker_of before ≡ log
+      → OnOk r (OnLog before.next_in_doubt (GivesUpOlder is_honest state failures) before after)
+      → IfErr r (λ e. OnLog before.next_in_doubt (FailsToGiveUpOlder is_honest state failures e) before after)
+      → DoesStore is_honest state failures (GivenUp log r) was old was (slice_set old log after)
+  given_up log (Ok x) was old before after there whose ok err = record { before = before; there = there; whose = whose; after = after; stands = refl; turns = (ok, refl) }
+  given_up log (Err e) was old before after there whose ok err = record { before = before; there = there; whose = whose; after = after; stands = refl; turns = (err, refl) }
+
+  -- with a next log the store has as many logs
+  pub as_many_next : (upto generation : ℕ) (r : Result Flushed Refusal) (was is : OwnState) (before after : StoreLog D)
+      → IfOk r (λ f. BringsUpAndBegins is_honest state failures gives_own upto generation f.mark before after was is)
+      → IfErr r (λ e. FailsToBringUpAndBegin is_honest state failures gives_own upto generation e before after was is)
+      → length is.state.logs ≡ length was.state.logs
+  as_many_next upto generation (Ok f) was is before after ok err = (begun_next upto generation f.mark before after was is ok).1
+  as_many_next upto generation (Err e) was is before after ok err = (not_begun upto generation e before after was is err).1
 
   -- and the store has as many logs
   pub as_many : (upto : ℕ) (r : Result Flushed Refusal) (was is : OwnState) (before after : StoreLog D)

@@ -1,11 +1,11 @@
 -- What a crash may leave of both slots while a checkpoint is written over a desk, and after that.
-use Rattle.std.proofs.Common.{◌≡◌, ◌⊎◌, ◌∙◌, ℕ, Bool, List, [], ◌∷◌, Option, Some, inl, inr, refl, sym, ap, subst}
+use Rattle.std.proofs.Common.{◌≡◌, ◌⊎◌, ◌∙◌, ℕ, Bool, List, [], ◌∷◌, Some, inl, inr, refl, sym, subst}
 use Rattle.mt_rows.specs.{declared.record.TenantPair.TenantPair, declared.refusal.Refusal.Refusal}
 use Rattle.mt_disk.specs.Disk.{DiskState}
 use Rattle.mt_checkpoint.specs.Checkpoints.{Walk, IsWalk}
 use Rattle.mt_pages.specs.declared.walk.PageWalk.{PageWalk}
-use Rattle.mt_slots.specs.{declared.slot.Slot.Slot, declared.store_slots.StoreSlots.StoreSlots, declared.checkpointing.Checkpointing.Checkpointing}
-use Rattle.mt_slots.specs.{Places.{next_slot, with, given_up}, Keeps.{Mays, KeepsSlots, KeepsWriting, or_none}, Calls.Ends}
+use Rattle.mt_slots.specs.{declared.store_slots.StoreSlots.StoreSlots, declared.checkpointing.Checkpointing.Checkpointing}
+use Rattle.mt_slots.specs.{Places.{next_slot, with}, Keeps.{Mays, KeepsSlots, KeepsWriting, or_none}, Calls.Ends}
 use Rattle.mt_slots.proofs.{Keeping.{begun as keeps_begun, not_begun, added}, Settling.{ended, not_added}}
 use Rattle.mt_book.specs.Periods.{Period}
 use Rattle.mt_stored.specs.Checkpoints.{Scanner, BeginsWalk, AddsPages, NoPage, OnePage, StopsAtBegin, StopsInWalk, StopsAdding}

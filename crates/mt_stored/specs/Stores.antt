@@ -9,8 +9,10 @@ use Rattle.mt_slots.specs.{declared.store_slots.StoreSlots.StoreSlots, Calls.Mak
 use Rattle.mt_store_logs.specs.{declared.fault.StoreRefusal.StoreRefusal, declared.fault.StoreRefusal.TheVariants.{Logs as OfLogs, Slot as OfSlot}}
 use Rattle.mt_log_files.specs.declared.worker.WorkerFiles.{WorkerFiles}
 use Rattle.mt_store_logs.specs.{declared.store_log.StoreLog.StoreLog, Places.{mark_in, slot_of, worker_of}, Opens.{AreClosedOn, MakesAll}, Recovers.{ServesAgain, IsNotRecovered}}
-use Rattle.mt_store_logs.specs.LogTurns.{BringsUp, FailsToBringUp}
-use Rattle.mt_settle.specs.Turns.{Turn, BroughtUp}
+use Rattle.mt_store_logs.specs.{LogTurns.{BringsUp, FailsToBringUp}, Turns.OnLog}
+use Rattle.mt_turns.specs.Turns.{GivesUpOlder, FailsToGiveUpOlder}
+use Rattle.mt_settle.specs.Turns.{Turn, BroughtUp, BegunNext, GivenUp}
+use Rattle.mt_stored.specs.Begins.{BringsUpAndBegins, FailsToBringUpAndBegin}
 use Rattle.mt_stored.specs.declared.source.OwnState.{OwnState}
 use Rattle.mt_slots.specs.declared.fault.FaultCause.TheVariants as causes
 
@@ -74,7 +76,20 @@ module _ {D : Type 0} (is_honest : D → Bool) (state : D → DiskState) (failur
     pub stands : new ≡ slice_set old log after
     pub turns : Turns before after was is
 
-  -- a turn of a store that is owned alone: its log is brought up to the last step that was made
+  -- something became of the log, and the state is as it was
+  abbrev pub LogAlone : (StoreLog D → StoreLog D → Type 0) → StoreLog D → StoreLog D → OwnState → OwnState → Type 0
+  LogAlone Does old new was is = Does old new × (is ≡ was)
+
+  -- A turn of a store that is owned alone. Its log is brought up to the last step that was made; or it is brought up, and goes to a generation; or its older log
+  -- is given up.
   abbrev pub DoesStore : Turn → OwnState → List (StoreLog D) → OwnState → List (StoreLog D) → Type 0
   DoesStore (BroughtUp log (Ok mark)) was old is new = TurnsLog (BringsUp is_honest state failures gives_own was.state.steps mark) log was old is new
   DoesStore (BroughtUp log (Err refusal)) was old is new = TurnsLog (FailsToBringUp is_honest state failures gives_own was.state.steps refusal) log was old is new
+  DoesStore (BegunNext log generation (Ok mark)) was old is new =
+      TurnsLog (BringsUpAndBegins is_honest state failures gives_own was.state.steps generation mark) log was old is new
+  DoesStore (BegunNext log generation (Err refusal)) was old is new =
+      TurnsLog (FailsToBringUpAndBegin is_honest state failures gives_own was.state.steps generation refusal) log was old is new
+  DoesStore (GivenUp log (Ok _)) was old is new =
+      TurnsLog (LogAlone (λ a b. OnLog a.next_in_doubt (GivesUpOlder is_honest state failures) a b)) log was old is new
+  DoesStore (GivenUp log (Err refusal)) was old is new =
+      TurnsLog (LogAlone (λ a b. OnLog a.next_in_doubt (FailsToGiveUpOlder is_honest state failures refusal) a b)) log was old is new

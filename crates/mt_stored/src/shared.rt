@@ -2,6 +2,7 @@
 
 ghost use Rattle.std.specs.Prelude.{◌≡◌, vec_len, IfOk};
 
+use crate::beginning::bring_up_and_begin;
 use crate::changes::change_of;
 use crate::source::SharedBook;
 use log::{Log, warn};
@@ -62,6 +63,46 @@ impl<L: Ledger, D: Disk + Drop> Logs for SharedLogs<'_, L, D> {
         let source = &mut SharedBook::new(rt, self.book);
         let told = bring_up(alloc, &mut *guard, source, steps);
         // Under the log's lock, so that its warnings come in the order of its changes.
+        if let Some(change) = change_of(log, before, guard.mark()) {
+            warn!(rt; "{change}");
+        }
+        told
+    }
+
+    fn begin_next<R: Wait + Clock + Log>(
+        &mut self,
+        rt: &R,
+        alloc: Global,
+        log: u8,
+        generation: u64,
+    ) -> Result<Flushed, Refusal> {
+        let Some(place) = self.logs.get(usize::from(log)) else {
+            return Err(Refusal::LogCount);
+        };
+        let mut guard = place.lock(rt);
+        if guard.worker() != log {
+            return Err(Refusal::LogCount);
+        }
+        let before = guard.mark();
+        let steps = locked(rt, self.book).steps();
+        let source = &mut SharedBook::new(rt, self.book);
+        let told = bring_up_and_begin(alloc, &mut *guard, source, steps, generation);
+        if let Some(change) = change_of(log, before, guard.mark()) {
+            warn!(rt; "{change}");
+        }
+        told
+    }
+
+    fn give_up_older<R: Wait + Clock + Log>(&mut self, rt: &R, log: u8) -> Result<(), Refusal> {
+        let Some(place) = self.logs.get(usize::from(log)) else {
+            return Err(Refusal::LogCount);
+        };
+        let mut guard = place.lock(rt);
+        if guard.worker() != log {
+            return Err(Refusal::LogCount);
+        }
+        let before = guard.mark();
+        let told = guard.give_up_older();
         if let Some(change) = change_of(log, before, guard.mark()) {
             warn!(rt; "{change}");
         }

@@ -5,6 +5,7 @@ ghost use Rattle.mt_state.specs.Begins.{HaveNoPairs, new_state};
 ghost use Rattle.mt_store_logs.specs.{Opens.AreClosedOn, Places.AreInOrder};
 ghost use Rattle.mt_stored.specs.Stores.{no_memory};
 
+use crate::beginning::bring_up_and_begin;
 use crate::source::OwnState;
 use log::Log;
 use mt_core::State;
@@ -210,6 +211,27 @@ impl<D: Disk + Drop> Logs for Store<D> {
             &mut self.source,
             steps,
         )
+    }
+
+    fn begin_next<R: Wait + Clock + Log>(
+        &mut self,
+        _rt: &R,
+        alloc: Global,
+        log: u8,
+        generation: u64,
+    ) -> Result<Flushed, Refusal> {
+        let steps = self.source.state.steps();
+        bring_up_and_begin(
+            alloc,
+            &mut self.logs[usize::from(log)],
+            &mut self.source,
+            steps,
+            generation,
+        )
+    }
+
+    fn give_up_older<R: Wait + Clock + Log>(&mut self, _rt: &R, log: u8) -> Result<(), Refusal> {
+        self.logs[usize::from(log)].give_up_older()
     }
 }
 

@@ -1,9 +1,10 @@
-//! Sessions in threads, which put and settle at once, and write a checkpoint after each settled answer.
+//! Sessions in threads, which put and settle at once. After each settled answer one of them makes a turn of all logs.
 
 ghost use Rattle.std.specs.Prelude.{◌≡◌};
 
 use crate::checks::expect_recovered;
-use crate::disks::{FlakyDisk, NEVER};
+use crate::disks::{FlakyDisk, SOUND};
+use crate::images::images_of;
 use crate::stories::{TENANTS, bare_slots, joined, least_mark, new_store, session_of};
 use log::Log;
 use mt_book::{Book, BookLock};
@@ -73,14 +74,14 @@ fn run<L: Ledger + Send + Sync, R: Threads + Wait + Clock + Log + Abort + Sync>(
     requires name { blank.name ≡ L.name }
     requires parts { (blank.parts ≡ L.parts) × (L.parts ≡ 65536) }
 {
-    let (state, logs, _) = new_store(rt, alloc, &[NEVER; 4]).into_parts();
+    let (state, logs, slots) = new_store(rt, alloc, &[SOUND; 4], bare_slots(alloc)).into_parts();
     let logs = locked_logs(alloc, logs).expect(rt, "memory");
     let book = BookLock::new(Book::<L>::new(blank, state));
-    let checks = Mutex::new(Checks::new(1, Some(bare_slots(alloc))));
+    let checks = Mutex::new(Checks::new(1, slots, 1));
     let counts = four_at_once(rt, alloc, &book, &logs, &checks);
     let slots = checks.into_inner().into_slots().expect(rt, "the slots");
-    let store = joined(rt, alloc, book, logs);
-    expect_recovered(rt, alloc, store, slots, &counts);
+    let (_, logs, _) = joined(rt, alloc, book, logs).into_parts();
+    expect_recovered(rt, alloc, images_of(rt, alloc, &logs), slots, &counts);
 }
 
 #[test]

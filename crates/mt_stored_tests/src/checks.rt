@@ -1,11 +1,12 @@
-//! Checkpoints that a session writes: when, into which slot, and what comes of one that can't go on.
+//! Checkpoints that a session writes: when, and into which slot.
 
 ghost use Rattle.std.specs.Prelude.{◌≡◌};
 
+use self::Act::{Puts, Settles, SettlesWithout};
 use crate::disks::{Fails, FlakyDisk, NEVER};
-use crate::images::{hold_all_with, images_of, tenant_7};
+use crate::images::{hold_all_with, tenant_7};
 use crate::sessions::Session;
-use crate::stories::{TENANTS, joined, new_store, session_of};
+use crate::stories::{TENANTS, bare_slots, joined, new_store, session_of};
 use log::sink::Locked;
 use log::{Level, Log, Logged};
 use mt_book::{Book, BookLock};
@@ -13,7 +14,8 @@ use mt_checkpoint::Checkpoint;
 use mt_disk::MemDisk;
 use mt_rows::Refusal;
 use mt_slots::{Slot, StoreSlots};
-use mt_stored::{Checks, Store, locked_logs};
+use mt_store_logs::FileImages;
+use mt_stored::{Checks, locked_logs};
 use std::alloc::{AllocError, Global};
 use std::marker::Brand;
 use std::process::Abort;
@@ -38,14 +40,6 @@ enum Act {
     SettlesWithout(u8),
 }
 
-// Two slots on disks of which some calls fail, without a checkpoint.
-fn slots_with(alloc: Global, fails: [Fails; 2]) -> Result<StoreSlots<FlakyDisk>, AllocError> {
-    let [first, second] = fails;
-    let first = FlakyDisk::new(Vec::from_slice(alloc, &[0])?, first);
-    let second = FlakyDisk::new(Vec::from_slice(alloc, &[0])?, second);
-    Ok(StoreSlots::found(first, second))
-}
-
 // What a disk has, in memory.
 fn copy_of(alloc: Global, disk: &FlakyDisk) -> Result<MemDisk, AllocError> {
     let image = disk.image().to_vec(alloc)?;
@@ -61,16 +55,14 @@ fn copies_of(
     Ok(StoreSlots::found(copy_of(alloc, &first)?, copy_of(alloc, &second)?))
 }
 
-/// A recovery from a store's logs and these slots gives the pairs of all clients, and uses the newest checkpoint.
+/// A recovery from these files and slots gives the pairs of all clients, and uses the newest checkpoint.
 pub(crate) fn expect_recovered(
     rt: &impl Abort,
     alloc: Global,
-    store: Store<FlakyDisk>,
+    images: Vec<FileImages>,
     slots: StoreSlots<FlakyDisk>,
     counts: &[u16],
 ) {
-    let (_, logs, _) = store.into_parts();
-    let images = images_of(rt, alloc, &logs);
     let newest = slots.newest();
     let mut slots = copies_of(alloc, slots).expect(rt, "memory");
     let tenants = tenant_7(rt, alloc);
@@ -117,40 +109,39 @@ fn comes_out<L: Ledger, R: Wait + Clock + Log>(
     act: Act,
 ) -> bool {
     match act {
-        Act::Puts(count) => session.puts(alloc, count),
-        Act::Settles(count) => settles(session, count),
+        Puts(count) => session.puts(alloc, count),
+        Settles(count) => settles(session, count),
         Act::Fails => session.settle() == Err(Refusal::Device),
-        Act::SettlesWithout(count) => {
-            let taken = checks.lock(rt).count_settled();
-            let Some(slots) = taken else {
+        SettlesWithout(count) => {
+            let taken = checks.lock(rt).count_settled(u64::MAX);
+            let Some(due) = taken else {
                 return false;
             };
             let settled = settles(session, count);
-            checks.lock(rt).put_back(slots);
+            checks.lock(rt).put_back(due.slots);
             settled
         }
     }
 }
 
 // What the slots have after a story of one client, if a checkpoint is due after each so many settled answers. Some calls
-// of the log's disk and of the slots' fail.
+// of the log's plain file fail.
 fn played<L: Ledger, R: Wait + Clock + Log + Abort>(
     rt: &R,
     alloc: Global,
     blank: Blank,
     every: u32,
-    fails: [Fails; 3],
+    fails: Fails,
     acts: &[Act],
 ) -> Found
     requires name { blank.name ≡ L.name }
     requires parts { (blank.parts ≡ L.parts) × (L.parts ≡ 65536) }
 {
-    let [log, first, second] = fails;
-    let (state, logs, _) = new_store(rt, alloc, &[log]).into_parts();
+    let fails = [[fails, NEVER, NEVER]];
+    let (state, logs, slots) = new_store(rt, alloc, &fails, bare_slots(alloc)).into_parts();
     let logs = locked_logs(alloc, logs).expect(rt, "memory");
     let book = BookLock::new(Book::<L>::new(blank, state));
-    let slots = slots_with(alloc, [first, second]).expect(rt, "memory");
-    let checks = Mutex::new(Checks::new(every, Some(slots)));
+    let checks = Mutex::new(Checks::new(every, slots, 1));
     let mut session = session_of(rt, alloc, &book, &logs, &checks, &TENANTS, 0);
     for (place, act) in acts.iter().enumerate() {
         assert!(rt;
@@ -166,85 +157,49 @@ fn played<L: Ledger, R: Wait + Clock + Log + Abort>(
 
 const NONE: Found = (None, None, None);
 
+const FIRST: Option<Slot> = Some(Slot::First);
+
+const SECOND: Option<Slot> = Some(Slot::Second);
+
 // Stories, with the number of settled answers after which a checkpoint is due, and what the slots have then.
 const STORIES: [(u32, &[Act], Found); 16] = [
-    (0, &[Act::Puts(1), Act::Settles(5)], NONE),
-    (1, &[Act::Puts(1)], NONE),
-    (1, &[Act::Settles(1)], (Some(0), None, Some(Slot::First))),
+    (0, &[Puts(1), Settles(5)], NONE),
+    (1, &[Puts(1)], NONE),
+    (1, &[Settles(1)], (Some(0), None, FIRST)),
+    (1, &[Puts(1), Settles(1)], (Some(1), None, FIRST)),
     (
         1,
-        &[Act::Puts(1), Act::Settles(1)],
-        (Some(1), None, Some(Slot::First)),
+        &[Puts(1), Settles(1), Puts(1), Settles(1)],
+        (Some(1), Some(2), SECOND),
     ),
     (
         1,
-        &[Act::Puts(1), Act::Settles(1), Act::Puts(1), Act::Settles(1)],
-        (Some(1), Some(2), Some(Slot::Second)),
-    ),
-    (
-        1,
-        &[
-            Act::Puts(1),
-            Act::Settles(2),
-            Act::Puts(1),
-            Act::Settles(1),
-            Act::Puts(1),
-        ],
-        (Some(2), Some(1), Some(Slot::First)),
+        &[Puts(1), Settles(2), Puts(1), Settles(1), Puts(1)],
+        (Some(2), Some(1), FIRST),
     ),
     // Pages that are full, or nearly so.
-    (
-        1,
-        &[Act::Puts(63), Act::Settles(1)],
-        (Some(63), None, Some(Slot::First)),
-    ),
-    (
-        1,
-        &[Act::Puts(64), Act::Settles(1)],
-        (Some(64), None, Some(Slot::First)),
-    ),
-    (
-        1,
-        &[Act::Puts(129), Act::Settles(1)],
-        (Some(129), None, Some(Slot::First)),
-    ),
-    (3, &[Act::Puts(1), Act::Settles(2)], NONE),
-    (
-        3,
-        &[Act::Puts(1), Act::Settles(5)],
-        (Some(1), None, Some(Slot::First)),
-    ),
-    (
-        3,
-        &[Act::Puts(1), Act::Settles(6)],
-        (Some(1), Some(1), Some(Slot::Second)),
-    ),
+    (1, &[Puts(63), Settles(1)], (Some(63), None, FIRST)),
+    (1, &[Puts(64), Settles(1)], (Some(64), None, FIRST)),
+    (1, &[Puts(129), Settles(1)], (Some(129), None, FIRST)),
+    (3, &[Puts(1), Settles(2)], NONE),
+    (3, &[Puts(1), Settles(5)], (Some(1), None, FIRST)),
+    (3, &[Puts(1), Settles(6)], (Some(1), Some(1), SECOND)),
     // Somebody else writes.
-    (1, &[Act::Puts(1), Act::SettlesWithout(2)], NONE),
+    (1, &[Puts(1), SettlesWithout(2)], NONE),
     (
         1,
-        &[Act::Puts(1), Act::SettlesWithout(2), Act::Settles(1)],
-        (Some(1), None, Some(Slot::First)),
+        &[Puts(1), SettlesWithout(2), Settles(1)],
+        (Some(1), None, FIRST),
     ),
     (
         3,
-        &[
-            Act::Puts(1),
-            Act::Settles(2),
-            Act::SettlesWithout(1),
-            Act::Settles(1),
-        ],
+        &[Puts(1), Settles(2), SettlesWithout(1), Settles(1)],
         NONE,
     ),
     (
         3,
-        &[
-            Act::Puts(1),
-            Act::Settles(2),
-            Act::SettlesWithout(7),
-            Act::Settles(1),
-        ],
-        (Some(1), None, Some(Slot::First)),
+        &[Puts(1), Settles(2), SettlesWithout(7), Settles(1)],
+        (Some(1), None, FIRST),
     ),
 ];
 
@@ -253,7 +208,7 @@ fn a_checkpoint_is_written_when_it_is_due(rt: HostRuntime) {
     let alloc = rt.alloc();
     for (place, (every, acts, wanted)) in STORIES.iter().enumerate() {
         let blank = Blank::new(65_536);
-        let found = played::<Brand, _>(&rt, alloc, blank, *every, [NEVER; 3], acts);
+        let found = played::<Brand, _>(&rt, alloc, blank, *every, NEVER, acts);
         assert_eq!(rt; found, *wanted, "story {place}");
     }
 }
@@ -262,51 +217,37 @@ fn a_checkpoint_is_written_when_it_is_due(rt: HostRuntime) {
 #[test]
 fn a_refused_settle_writes_no_checkpoint(rt: HostRuntime) {
     let alloc = rt.alloc();
-    let acts = [Act::Puts(1), Act::Fails];
-    let fails = [(4, 5), NEVER, NEVER];
+    let acts = [Puts(1), Act::Fails];
     let logged = Logged::new(&rt, Level::Warn, Locked::new(&rt, Vec::new(alloc)));
-    let found = played::<Brand, _>(&logged, alloc, Blank::new(65_536), 1, fails, &acts);
+    let found = played::<Brand, _>(&logged, alloc, Blank::new(65_536), 1, (4, 5), &acts);
     assert_eq!(&rt; found, NONE);
 }
 
-// So many calls a checkpoint of one page makes.
-const CALLS: u64 = 10;
-
-const WARNING: &str = "[WARN  mt_service::callers] a checkpoint was given up: E10\n";
-
-// What is warned of, and what the slots have, if one call of the first slot's disk fails.
-fn with_failing<R: Wait + Clock + Abort>(
-    rt: &R,
-    alloc: Global,
-    call: u64,
-    acts: &[Act],
-) -> (bool, Found) {
-    let fails = [NEVER, (call, call.saturating_add(1)), NEVER];
-    let logged = Logged::new(rt, Level::Warn, Locked::new(rt, Vec::new(alloc)));
-    let found = played::<Brand, _>(&logged, alloc, Blank::new(65_536), 1, fails, acts);
-    let (_, sink) = logged.into_parts();
-    let lines = sink.into_inner();
-    let is_warned = lines.as_slice() == WARNING.as_bytes();
-    assert!(rt; is_warned || lines.is_empty(), "call {call}");
-    (is_warned, found)
+// A turn is due after each third Settle, and the newest checkpoint ends at 9. No turn begins before a Settle tells that much.
+// Meanwhile it stays due.
+#[test]
+fn no_turn_begins_before_the_newest_checkpoint_is_settled(rt: HostRuntime) {
+    let alloc = rt.alloc();
+    let mut checks = Checks::new(3, ended(bare_slots(alloc), 9), 4);
+    // What Settles tell, and to which generation the turn goes that is due then; 0: none is.
+    let told = [9, 9, 8, 8, 9, 9, 9, 9];
+    let due_then = [0, 0, 0, 0, 4, 0, 0, 5];
+    for (number, wanted) in told.iter().zip(&due_then) {
+        match checks.count_settled(*number) {
+            Some(due) => {
+                assert_eq!(rt; due.generation, *wanted);
+                checks.end_turn();
+                checks.put_back(due.slots);
+            }
+            None => assert_eq!(rt; *wanted, 0),
+        }
+    }
 }
 
-// A checkpoint that meets a failed call is given up, with a warning; the answer is settled all the same. The next one is
-// begun anew, in the same slot.
-#[test]
-fn a_checkpoint_whose_disk_fails_is_given_up(rt: HostRuntime) {
-    let alloc = rt.alloc();
-    let once = [Act::Puts(1), Act::Settles(1)];
-    let again = [Act::Puts(1), Act::Settles(2)];
-    for call in 1..=CALLS {
-        let (is_warned, (_, second, newest)) = with_failing(&rt, alloc, call, &once);
-        assert!(rt; is_warned, "call {call}");
-        assert_eq!(rt; (second, newest), (None, None), "call {call}");
-        let (is_warned, found) = with_failing(&rt, alloc, call, &again);
-        assert!(rt; is_warned, "call {call}");
-        assert_eq!(rt; found, (Some(1), None, Some(Slot::First)), "call {call}");
+// The slots with a checkpoint without pairs that ends at a step.
+fn ended(slots: StoreSlots<FlakyDisk>, last: u64) -> Option<StoreSlots<FlakyDisk>> {
+    match slots.begin(last) {
+        Ok(writing) => writing.end(last).ok(),
+        Err(_) => None,
     }
-    let (is_warned, found) = with_failing(&rt, alloc, CALLS + 1, &again);
-    assert!(rt; !is_warned);
-    assert_eq!(rt; found, (Some(1), Some(1), Some(Slot::Second)));
 }

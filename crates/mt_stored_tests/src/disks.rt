@@ -12,6 +12,9 @@ pub(crate) type Fails = (u64, u64);
 /// None of them.
 pub(crate) const NEVER: Fails = (0, 0);
 
+/// None of a worker's three files.
+pub(crate) const SOUND: [Fails; 3] = [NEVER; 3];
+
 /// A disk in memory, some of whose calls fail.
 #[derive(Drop)]
 pub(crate) struct FlakyDisk {

@@ -165,10 +165,12 @@ pub(crate) fn hold_all(
 ) -> Result<bool, Refusal> {
     let disk = || MemDisk::new(alloc, Vec::new(alloc), None);
     let mut slots = StoreSlots::found(disk(), disk());
-    hold_all_with(alloc, images, &mut slots, tenants, counts)
+    let mut logs = logs_of(alloc, images)?;
+    let have_own = have_own_in(alloc, &mut logs, counts)?;
+    Ok(are_recovered(alloc, &mut logs, &mut slots, tenants, counts)? && have_own)
 }
 
-/// The same, if the recovery has these slots.
+/// Whether a recovery with these slots gives the pairs of all clients, though older logs are given up.
 pub(crate) fn hold_all_with(
     alloc: Global,
     images: Vec<FileImages>,
@@ -177,9 +179,21 @@ pub(crate) fn hold_all_with(
     counts: &[u16],
 ) -> Result<bool, Refusal> {
     let mut logs = logs_of(alloc, images)?;
-    let has_own = have_own_in(alloc, &mut logs, counts)?;
-    match recover_store(alloc, &mut logs, slots, tenants, &mut NoWatch) {
-        Ok(recovered) => Ok(has_own && are_pairs(&recovered.pairs, counts)),
+    are_recovered(alloc, &mut logs, slots, tenants, counts)
+}
+
+// The same of closed or open logs.
+fn are_recovered(
+    alloc: Global,
+    logs: &mut [StoreLog<MemDisk>],
+    slots: &mut StoreSlots<MemDisk>,
+    tenants: &Tenants,
+    counts: &[u16],
+) -> Result<bool, Refusal>
+    requires few { length logs.old ≤ 64 }
+{
+    match recover_store(alloc, logs, slots, tenants, &mut NoWatch) {
+        Ok(recovered) => Ok(are_pairs(&recovered.pairs, counts)),
         Err(e) => Err(e.refusal()),
     }
 }

@@ -1,9 +1,9 @@
 //! A store of 100,100 pairs: they are put, shown, settled, recovered and shown again.
 
 use crate::asked::{expect_all, put_all};
-use crate::disks::{FlakyDisk, NEVER};
-use crate::images::{files_with, images_of, tenant_7};
-use crate::stories::{bare_slots, new_store};
+use crate::disks::{FlakyDisk, SOUND};
+use crate::images::images_of;
+use crate::stories::{bare_slots, new_store, recovered};
 use log::Log;
 use mt_core::State;
 use mt_store_logs::{FileImages, StoreLog};
@@ -35,33 +35,18 @@ pub(crate) fn settled<R: Wait + Clock + Log + Abort>(
 
 // Two workers put all pairs, scans show them, and a Settle keeps them.
 fn served<R: Wait + Clock + Log + Abort>(rt: &R, alloc: Global) -> Vec<FileImages> {
-    let (mut state, logs, _) = new_store(rt, alloc, &[NEVER; 2]).into_parts();
+    let (mut state, logs, _) = new_store(rt, alloc, &[SOUND; 2], bare_slots(alloc)).into_parts();
     put_all(rt, alloc, &mut state, 0, PUTS);
     expect_all(rt, alloc, &mut state, PUTS);
     settled(rt, alloc, state, logs)
-}
-
-// The store that files hold. Each plain one has more than 1 MiB.
-fn recovered(rt: &impl Abort, alloc: Global, images: Vec<FileImages>) -> Store<FlakyDisk> {
-    let mut files = Vec::new(alloc);
-    for image in images {
-        assert!(rt; image.plain.len() > 1_048_576);
-        assert!(rt; files.push(files_with(image, [NEVER; 3])).is_ok());
-    }
-    let tenants = tenant_7(rt, alloc);
-    assert!(rt; files.len() <= 64);
-    match Store::recover(alloc, files, bare_slots(alloc), tenants) {
-        Ok(store) => store,
-        Err(_) => panic!(rt; "no store is recovered"),
-    }
 }
 
 #[test]
 fn a_hundred_thousand_pairs_are_recovered_and_shown(rt: HostRuntime) {
     let alloc = rt.alloc();
     let images = served(&rt, alloc);
-    assert_eq!(rt; images.len(), 2);
-    let (mut state, logs, _) = recovered(&rt, alloc, images).into_parts();
+    assert!(rt; images.len() == 2 && images.iter().all(|image| image.plain.len() > 1_048_576));
+    let (mut state, logs, _) = recovered(&rt, alloc, images, bare_slots(alloc)).into_parts();
     expect_all(&rt, alloc, &mut state, PUTS);
     put_all(&rt, alloc, &mut state, PUTS, GOES_ON);
     let _ = settled(&rt, alloc, state, logs);

@@ -2,7 +2,8 @@
 
 use crate::asked::asked;
 use crate::disks::{FlakyDisk, NEVER};
-use crate::images::{files_with, images_of, plain_image, tenant_7};
+use crate::images::{images_of, plain_image};
+use crate::stories;
 use log::Log;
 use mt_core::State;
 use mt_rows::{Column, ColumnIndexes, Command, Key, NamedColumns, Reply, StampedRow};
@@ -40,15 +41,9 @@ fn slots_with(alloc: Global, first: &[u8]) -> Result<StoreSlots<FlakyDisk>, Allo
 fn recovered(rt: &impl Abort, alloc: Global, log: &[u8], checkpoint: &[u8]) -> Store<FlakyDisk> {
     let image = log.to_vec(alloc).expect(rt, "memory");
     let slots = slots_with(alloc, checkpoint).expect(rt, "memory");
-    let mut files = Vec::new(alloc);
-    let own = files_with(plain_image(alloc, image), [NEVER; 3]);
-    assert!(rt; files.push(own).is_ok());
-    let tenants = tenant_7(rt, alloc);
-    assert!(rt; files.len() <= 64);
-    match Store::recover(alloc, files, slots, tenants) {
-        Ok(store) => store,
-        Err(_) => panic!(rt; "no store is recovered"),
-    }
+    let mut images = Vec::new(alloc);
+    assert!(rt; images.push(plain_image(alloc, image)).is_ok());
+    stories::recovered(rt, alloc, images, slots)
 }
 
 // A key of one byte.

@@ -1,7 +1,7 @@
 //! Stores that are not made, or not recovered, since a call of one of their disks fails.
 
 use crate::asked::put_all;
-use crate::disks::{Fails, FlakyDisk, NEVER};
+use crate::disks::{Fails, FlakyDisk, NEVER, SOUND};
 use crate::images::{files_with, plain_image, tenant_7};
 use crate::many::settled;
 use crate::stories::{bare_slots, new_store};
@@ -134,7 +134,7 @@ fn expect_not_recovered(
 
 // The files of a store of two workers, each of whom has put three times.
 fn some_images<R: Wait + Clock + Log + Abort>(rt: &R, alloc: Global) -> Vec<FileImages> {
-    let (mut state, logs, _) = new_store(rt, alloc, &[NEVER; 2]).into_parts();
+    let (mut state, logs, _) = new_store(rt, alloc, &[SOUND; 2], bare_slots(alloc)).into_parts();
     put_all(rt, alloc, &mut state, 0, 3);
     settled(rt, alloc, state, logs)
 }

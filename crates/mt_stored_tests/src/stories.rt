@@ -2,7 +2,7 @@
 
 ghost use Rattle.std.specs.Prelude.{◌≡◌, ◌<◌, ◌≤◌, length};
 
-use crate::disks::{Fails, FlakyDisk, NEVER};
+use crate::disks::{Fails, FlakyDisk, NEVER, SOUND};
 use crate::images::{files_with, hold_all, image_of, images_of, plain_image, tenant_7};
 use crate::sessions::Session;
 use log::sink::Locked;
@@ -28,8 +28,13 @@ pub(crate) const TENANTS: [TenantQuota; 1] = [TenantQuota {
     quota: 200_000,
 }];
 
-/// A new store, some calls of whose plain files fail.
-pub(crate) fn new_store(rt: &impl Abort, alloc: Global, fails: &[Fails]) -> Store<FlakyDisk>
+/// A new store with these slots. Some calls of its files fail: of each worker's plain one, of the even and of the odd one.
+pub(crate) fn new_store(
+    rt: &impl Abort,
+    alloc: Global,
+    fails: &[[Fails; 3]],
+    slots: StoreSlots<FlakyDisk>,
+) -> Store<FlakyDisk>
     requires some { 0 < length fails.now }
     requires few { length fails.now ≤ 64 }
     ensures { result.source.state.answers ≡ 0 }
@@ -37,20 +42,47 @@ pub(crate) fn new_store(rt: &impl Abort, alloc: Global, fails: &[Fails]) -> Stor
     let mut files = Vec::new(alloc);
     for fails in fails {
         let bare = plain_image(alloc, Vec::new(alloc));
-        assert!(rt; files.push(files_with(bare, [*fails, NEVER, NEVER])).is_ok());
+        assert!(rt; files.push(files_with(bare, *fails)).is_ok());
     }
     let tenants = tenant_7(rt, alloc);
     assert!(rt; !files.is_empty() && files.len() <= 64);
-    match Store::create(alloc, files, bare_slots(alloc), tenants) {
+    match Store::create(alloc, files, slots, tenants) {
         Ok(store) => store,
         Err(_) => panic!(rt; "no store is made"),
     }
 }
 
+/// The store that files and slots hold.
+pub(crate) fn recovered(
+    rt: &impl Abort,
+    alloc: Global,
+    images: Vec<FileImages>,
+    slots: StoreSlots<FlakyDisk>,
+) -> Store<FlakyDisk>
+    ensures { result.source.state.answers ≡ 0 }
+{
+    let mut files = Vec::new(alloc);
+    for image in images {
+        assert!(rt; files.push(files_with(image, SOUND)).is_ok());
+    }
+    let tenants = tenant_7(rt, alloc);
+    assert!(rt; files.len() <= 64);
+    match Store::recover(alloc, files, slots, tenants) {
+        Ok(store) => store,
+        Err(_) => panic!(rt; "no store is recovered"),
+    }
+}
+
 /// Slots on disks without a byte.
 pub(crate) fn bare_slots(alloc: Global) -> StoreSlots<FlakyDisk> {
-    let disk = || FlakyDisk::new(Vec::new(alloc), NEVER);
-    StoreSlots::found(disk(), disk())
+    slots_with(alloc, [NEVER; 2])
+}
+
+/// The same, if some calls of the disks fail.
+pub(crate) fn slots_with(alloc: Global, fails: [Fails; 2]) -> StoreSlots<FlakyDisk> {
+    let [first, second] = fails;
+    let disk = |fails: Fails| FlakyDisk::new(Vec::new(alloc), fails);
+    StoreSlots::found(disk(first), disk(second))
 }
 
 /// A session of a worker.
@@ -264,7 +296,7 @@ fn play<L: Ledger, R: Wait + Clock + Log + Abort>(
     logs: &[Mutex<StoreLog<FlakyDisk>>],
     acts: &[Act],
 ) -> Vec<u16> {
-    let checks = Mutex::new(Checks::new(0, None));
+    let checks = Mutex::new(Checks::new(0, None, 1));
     let mut sessions = sessions_of(rt, alloc, book, logs, &checks, &TENANTS);
     let mut seen = 0;
     for (place, act) in acts.iter().enumerate() {
@@ -281,7 +313,7 @@ fn run<L: Ledger, R: Wait + Clock + Log + Abort>(
     rt: &R,
     alloc: Global,
     blank: Blank,
-    fails: &[Fails],
+    fails: &[[Fails; 3]],
     acts: &[Act],
 )
     requires name { blank.name ≡ L.name }
@@ -289,7 +321,7 @@ fn run<L: Ledger, R: Wait + Clock + Log + Abort>(
     requires some { 0 < length fails.now }
     requires few { length fails.now ≤ 64 }
 {
-    let (state, logs, _) = new_store(rt, alloc, fails).into_parts();
+    let (state, logs, _) = new_store(rt, alloc, fails, bare_slots(alloc)).into_parts();
     let logs = locked_logs(alloc, logs).expect(rt, "memory");
     let book = BookLock::new(Book::<L>::new(blank, state));
     let counts = play(rt, alloc, &book, &logs, acts);
@@ -338,9 +370,9 @@ const ONE_BUSY: [Act; 5] = [
 #[test]
 fn each_log_has_its_own_workers_changes_once(rt: HostRuntime) {
     let alloc = rt.alloc();
-    run::<Brand, _>(&rt, alloc, Blank::new(65_536), &[NEVER, NEVER], &TWO);
-    run::<Brand, _>(&rt, alloc, Blank::new(65_536), &[NEVER; 4], &FOUR);
-    run::<Brand, _>(&rt, alloc, Blank::new(65_536), &[NEVER; 4], &ONE_BUSY);
+    run::<Brand, _>(&rt, alloc, Blank::new(65_536), &[SOUND; 2], &TWO);
+    run::<Brand, _>(&rt, alloc, Blank::new(65_536), &[SOUND; 4], &FOUR);
+    run::<Brand, _>(&rt, alloc, Blank::new(65_536), &[SOUND; 4], &ONE_BUSY);
 }
 
 // The disk of log 1 fails four times in a row: at the append of the first Settle, and then at the first call of
@@ -395,10 +427,11 @@ const WARNINGS: &str =
 [WARN  mt_stored::shared] log 1: open again
 ";
 
-// A story over two logs, the second of whose disks fails; what is warned of.
+// A story over two logs, the second of whose plain files fails; what is warned of.
 fn run_failing<R: Wait + Clock + Abort>(rt: &R, alloc: Global, fails: Fails, acts: &[Act]) {
     let logged = Logged::new(rt, Level::Warn, Locked::new(rt, Vec::new(alloc)));
-    run::<Brand, _>(&logged, alloc, Blank::new(65_536), &[NEVER, fails], acts);
+    let fails = [SOUND, [fails, NEVER, NEVER]];
+    run::<Brand, _>(&logged, alloc, Blank::new(65_536), &fails, acts);
     let (_, sink) = logged.into_parts();
     let lines = sink.into_inner();
     assert_eq!(rt; lines.as_slice(), WARNINGS.as_bytes());

@@ -1,4 +1,4 @@
-use Rattle.std.{proofs.{Common.{◌≡◌, ◌∙◌, ℕ, length, refl, sym, subst, arith, inr}, lemmas.Result.err_from_is_err_and}, specs.List.All}
+use Rattle.std.{proofs.{Common.{◌≡◌, ℕ, length, refl, sym, subst, arith, inr}, lemmas.Result.err_from_is_err_and}, specs.List.All}
 use Rattle.mt_store_logs.specs.{Places.AreInOrder, Opens.AreClosedOn, Recovers.{ServesAgain, IsNotRecovered}}
 use Rattle.mt_store_logs.proofs.{Closed.{closed_in_order, same_order}, Limits.{limits_of, resumes_within, stamps_of}}
 use Rattle.mt_rows.specs.TenantPairs.{AreDistinct, AreStampedUpto, HasTenants, IsTenantPair, KeepsQuotas, pairs_of, quota_in}

@@ -1,4 +1,4 @@
-use Rattle.mt_stored_tests.proofs.checks.with_failing.Given as goal
+use Rattle.mt_stored_tests.proofs.turns.run.Given as goal
 
 -- the ledger is the one that the blank is made for
 abbrev pub ghosts-played : goal.ghosts-played

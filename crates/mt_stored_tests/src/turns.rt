@@ -1,0 +1,231 @@
+//! Turns of two workers' logs, with a checkpoint in each. A call of one of their disks fails.
+
+ghost use Rattle.std.specs.Prelude.{◌≡◌};
+
+use crate::checks::expect_recovered;
+use crate::disks::{FlakyDisk, NEVER};
+use crate::images::images_of;
+use crate::stories::{TENANTS, new_store, recovered, session_of, slots_with};
+use log::sink::Locked;
+use log::{Level, Log, Logged};
+use mt_book::{Book, BookLock};
+use mt_slots::Slot;
+use mt_store_logs::{FileImages, StoreLog};
+use mt_stored::{Checks, DueTurn, Store, locked_logs, next_turn, unlocked_logs};
+use std::alloc::Global;
+use std::marker::Brand;
+use std::process::Abort;
+use std::sync::ledger::{Blank, Ledger};
+use std::sync::{Mutex, Wait};
+use std::time::Clock;
+
+// Which call fails, counted from 1, and of which disk: of the plain, the even and the odd file of either worker, in this order,
+// or of one of both slots. And which rounds are played, from the first number on, up to the second and without it.
+#[derive(Clone, Copy, Debug)]
+struct Case {
+    disk: usize,
+    call: u64,
+    rounds: (u16, u16),
+}
+
+// What a file without a log begins with.
+const CLOSED: &[u8] = b"\x00";
+
+// What is left of a store: what its files hold, of which generation its logs are, and the turn that comes next.
+#[derive(Drop)]
+struct Left {
+    images: Vec<FileImages>,
+    generation: u64,
+    due: DueTurn<FlakyDisk>,
+}
+
+// A new store of two workers, of whose disks a call fails.
+fn store_with(rt: &impl Abort, alloc: Global, case: Case) -> Store<FlakyDisk>
+    ensures { result.source.state.answers ≡ 0 }
+{
+    let fails = |disk: usize| {
+        if disk == case.disk {
+            (case.call, case.call.saturating_add(1))
+        } else {
+            NEVER
+        }
+    };
+    let files = [
+        [fails(0), fails(1), fails(2)],
+        [fails(3), fails(4), fails(5)],
+    ];
+    let slots = slots_with(alloc, [fails(6), fails(7)]);
+    new_store(rt, alloc, &files, slots)
+}
+
+// Two clients put two keys each in each round. Then one of them settles, and makes a turn. If the Settle is refused, it settles
+// again.
+fn play<L: Ledger, R: Wait + Clock + Log + Abort>(
+    rt: &R,
+    alloc: Global,
+    book: &BookLock<L>,
+    logs: &[Mutex<StoreLog<FlakyDisk>>],
+    checks: &Mutex<Checks<FlakyDisk>>,
+    case: Case,
+) {
+    let mut first = session_of(rt, alloc, book, logs, checks, &TENANTS, 0);
+    let mut second = session_of(rt, alloc, book, logs, checks, &TENANTS, 1);
+    let (from, to) = case.rounds;
+    first.count = from.saturating_mul(2);
+    second.count = first.count;
+    for round in from..to {
+        assert!(rt;
+            first.puts(alloc, 2)
+                && second.puts(alloc, 2)
+                && (second.settle().is_ok() || second.settle().is_ok()),
+            "{case:?}, {round}"
+        );
+    }
+}
+
+// What is left of a store after these rounds.
+fn played<L: Ledger, R: Wait + Clock + Log + Abort>(
+    rt: &R,
+    alloc: Global,
+    blank: Blank,
+    store: Store<FlakyDisk>,
+    case: Case,
+) -> Left
+    requires name { blank.name ≡ L.name }
+    requires parts { (blank.parts ≡ L.parts) × (L.parts ≡ 65536) }
+    requires untaken { store.source.state.answers ≡ 0 }
+{
+    let (state, logs, slots) = store.into_parts();
+    let checks = Mutex::new(Checks::new(1, slots, next_turn(&logs)));
+    let logs = locked_logs(alloc, logs).expect(rt, "memory");
+    let book = BookLock::new(Book::<L>::new(blank, state));
+    play(rt, alloc, &book, &logs, &checks, case);
+    let logs = unlocked_logs(alloc, logs).expect(rt, "memory");
+    let mut checks = checks.into_inner();
+    Left {
+        images: images_of(rt, alloc, &logs),
+        generation: next_turn(&logs),
+        due: checks.count_settled(u64::MAX).expect(rt, "a turn"),
+    }
+}
+
+// The same, and what is warned of.
+fn run<R: Wait + Clock + Abort>(
+    rt: &R,
+    alloc: Global,
+    store: Store<FlakyDisk>,
+    case: Case,
+) -> (Left, Vec<u8>)
+    requires untaken { store.source.state.answers ≡ 0 }
+{
+    let logged = Logged::new(rt, Level::Warn, Locked::new(rt, Vec::new(alloc)));
+    let left = played::<Brand, _>(&logged, alloc, Blank::new(65_536), store, case);
+    let (_, sink) = logged.into_parts();
+    (left, sink.into_inner())
+}
+
+// Whether the log of this generation stands in a worker's files, and no other. If its beginning failed, a file may have more
+// than its closed gate.
+fn stands_alone(images: &FileImages, generation: u64) -> bool {
+    let low = generation.to_be_bytes()[7];
+    let (last, older) = if generation % 2 == 0 {
+        (images.even.as_slice(), images.odd.as_slice())
+    } else {
+        (images.odd.as_slice(), images.even.as_slice())
+    };
+    last.starts_with(b"\x01MTLOG\x03")
+        && last.get(16) == Some(&low)
+        && older.starts_with(CLOSED)
+        && images.plain.starts_with(CLOSED)
+}
+
+// Whether the last turn is whole: one generation stands, and the next turn goes to the one after it. A checkpoint that was
+// given up is begun anew in its slot.
+fn is_whole(left: &Left, case: Case) -> bool {
+    for images in &left.images {
+        if !stands_alone(images, left.generation) {
+            return false;
+        }
+    }
+    let newest = left.due.slots.newest();
+    left.due.generation == left.generation.saturating_add(1)
+        && (case.disk != 6 || newest == Some(Slot::First))
+        && (case.disk != 7 || newest == Some(Slot::Second))
+}
+
+// The last turn is whole, and all that was put is recovered.
+fn expect_whole(rt: &impl Abort, alloc: Global, left: Left, case: Case) {
+    assert!(rt; is_whole(&left, case), "{case:?}");
+    let (_, rounds) = case.rounds;
+    let counts = [rounds.saturating_mul(2); 2];
+    expect_recovered(rt, alloc, left.images, left.due.slots, &counts);
+}
+
+#[test]
+fn each_turn_leaves_one_generation(rt: HostRuntime) {
+    let alloc = rt.alloc();
+    for turns in 1..=3u16 {
+        let case = Case {
+            disk: 0,
+            call: 0,
+            rounds: (0, turns),
+        };
+        let (left, warnings) = run(&rt, alloc, store_with(&rt, alloc, case), case);
+        assert!(rt; warnings.is_empty() && left.generation == u64::from(turns));
+        expect_whole(&rt, alloc, left, case);
+    }
+}
+
+const GIVEN_UP: &str = "[WARN  mt_service::callers] a checkpoint was given up: E10\n";
+
+// Whether the call is made. Then the turn of one round more is whole, whether the store starts again before that or not.
+fn is_made<R: Wait + Clock + Abort>(rt: &R, alloc: Global, case: Case) -> bool {
+    let (left, warnings) = run(rt, alloc, store_with(rt, alloc, case), case);
+    if warnings.is_empty() {
+        return false;
+    }
+    let is_told = case.disk < 6 || warnings.as_slice() == GIVEN_UP.as_bytes();
+    assert!(rt; is_told, "{case:?}");
+    let (_, to) = case.rounds;
+    let more = to.saturating_add(1);
+    let store = recovered(rt, alloc, left.images, left.due.slots);
+    let rounds = (to, more);
+    expect_next(rt, alloc, store, Case { rounds, ..case });
+    let rounds = (0, more);
+    let next = Case { rounds, ..case };
+    expect_next(rt, alloc, store_with(rt, alloc, next), next);
+    true
+}
+
+fn expect_next<R: Wait + Clock + Abort>(rt: &R, alloc: Global, store: Store<FlakyDisk>, case: Case)
+    requires untaken { store.source.state.answers ≡ 0 }
+{
+    let (left, _) = run(rt, alloc, store, case);
+    expect_whole(rt, alloc, left, case);
+}
+
+// How many calls a disk makes in so many rounds, after those that make its file. Each of them fails in turn.
+fn calls_of<R: Wait + Clock + Abort>(rt: &R, alloc: Global, disk: usize, rounds: u16) -> u64 {
+    let first = if disk < 6 { 4u64 } else { 3 };
+    for calls in 0..60u64 {
+        let call = first.saturating_add(calls);
+        let rounds = (0, rounds);
+        let case = Case { disk, call, rounds };
+        if !is_made(rt, alloc, case) {
+            return calls;
+        }
+    }
+    0
+}
+
+// In how many rounds each disk is put to each of its uses.
+const ROUNDS: [u16; 8] = [1, 2, 2, 1, 2, 2, 1, 2];
+
+#[test]
+fn a_turn_that_a_failed_call_stops_is_finished_by_the_next(rt: HostRuntime) {
+    let alloc = rt.alloc();
+    for (disk, rounds) in ROUNDS.iter().enumerate() {
+        let calls = calls_of(&rt, alloc, disk, *rounds);
+        assert!(rt; calls >= 10, "disk {disk}: {calls} calls");
+    }
+}
