@@ -1,7 +1,7 @@
-//! Checkpoints that a server writes into its folder, and a start from them.
+//! Checkpoints that a server writes into its folder and the turns of its logs, and a start from them.
 
-use crate::folders::{expect_file, opened};
-use crate::stores::{Scene, serve_scene};
+use crate::folders::{SPARE, expect_file, opened};
+use crate::stores::{PUTS, Scene, serve_scene};
 use crate::words::options_of;
 use log::Log;
 use mt_checkpoint::{Checkpoint, read_valid};
@@ -22,15 +22,15 @@ use std::time::Clock;
 
 const FOLDER: &str = "mt_server_tests_checks";
 
-const LOG_0: &str = "mt_server_tests_checks/wal-00";
+const PLAIN: &str = "mt_server_tests_checks/wal-00";
+
+const EVEN: &str = "mt_server_tests_checks/wal-00-0";
+
+const ODD: &str = "mt_server_tests_checks/wal-00-1";
 
 const CHECK_0: &str = "mt_server_tests_checks/check-0";
 
 const CHECK_1: &str = "mt_server_tests_checks/check-1";
-
-// A log of 1 without a change, from 0 to 100.
-const NO_CHANGE: &[u8] =
-    b"MTLOG\x01\x00\x01\x01\x00\x00\x00\x15\x00\x00\x00\x00\x00\x00\x00\x00\x00\x00\x00\x00\x00\x00\x00\x00\x64\x00\x00\x00\x00\x00";
 
 /// A server of the store that a line names, which ends; its client is told what it should be.
 pub(crate) fn serve<R>(rt: &R, alloc: Global, line: &str, scene: Scene)
@@ -88,8 +88,8 @@ fn expect_checkpoint<R: Files<File = File> + Alloc + Abort>(
     (checkpoint.first, checkpoint.last)
 }
 
-// After each settled answer a checkpoint is written, into the slot that doesn't hold the newest one. A start uses it: the
-// pair is found though the log has no change any more.
+// After each settled answer a turn is made: a checkpoint is written, into the slot that doesn't hold the newest one, between
+// the beginning of the next log and the end of the older one. A start uses it: the pair is in no log any more.
 #[test]
 fn each_settled_answer_writes_a_checkpoint(rt: HostRuntime) {
     let alloc = rt.alloc();
@@ -104,18 +104,78 @@ fn each_settled_answer_writes_a_checkpoint(rt: HostRuntime) {
     let head = b"\x01MTCKP\x02\x00\x00\x00\x00\x00\x00\x00\x06";
     let entry = b"\x01\x00\x00\x00\x07\x00\x01k\x00\x00\x00\x00\x00\x00\x00\x05\x01\x00\x01v";
     expect_file(&rt, CHECK_0, &[head, entry, b"\x02", &last_bytes]);
-    expect_file(&rt, CHECK_1, &[b"\x00"]);
-    fs::write(&rt, LOG_0, NO_CHANGE).expect(&rt, "a file");
+    // The steps of the walk alone.
+    let mark = last.to_be_bytes();
+    let header =
+        b"\x01MTLOG\x03\x00\x01\x00\x00\x00\x00\x00\x00\x00\x01\x00\x00\x00\x00\x00\x00\x00\x06";
+    let batch = b"\x01\x00\x00\x00\x15\x02\x00\x00\x00\x00\x00\x00\x00\x06";
+    let end = b"\x00\x00\x00\x00\x00";
+    expect_file(&rt, ODD, &[header, batch, &mark, end]);
+    for path in [PLAIN, EVEN, CHECK_1] {
+        expect_file(&rt, path, &[SPARE]);
+    }
     let again =
         "mt_server --workers 1 --store mt_server_tests_checks --checkpoint 1 --sessions 1 7:100";
     serve(&rt, alloc, again, Scene::ReadsAndSettles);
     assert_eq!(rt; expect_checkpoint(&rt, alloc, CHECK_0), (first, last));
-    let (first, last) = expect_checkpoint(&rt, alloc, CHECK_1);
-    assert!(rt; 100 < first && first < last);
+    let (newer, newest) = expect_checkpoint(&rt, alloc, CHECK_1);
+    assert!(rt; last < newer && newer < newest);
     // One more, from which the slot of the older one is written over.
     serve(&rt, alloc, again, Scene::ReadsAndSettles);
-    assert_eq!(rt; expect_checkpoint(&rt, alloc, CHECK_1), (first, last));
+    assert_eq!(rt; expect_checkpoint(&rt, alloc, CHECK_1), (newer, newest));
     let (later, _) = expect_checkpoint(&rt, alloc, CHECK_0);
-    assert!(rt; last < later);
+    assert!(rt; newest < later);
     let _ = fs::remove_dir_all(&rt, FOLDER);
+}
+
+// Twice what is put between two turns, at 21 bytes each.
+const SHORT: usize = 4 * PUTS * 21;
+
+// A file has the log of this generation; how long it is.
+fn len_of_log<R: Files<File = File> + Alloc + Abort>(rt: &R, path: &str, generation: u64) -> usize {
+    let image = fs::read(rt, path).expect(rt, "a file");
+    let low = generation.to_be_bytes()[7];
+    let is_begun = image.starts_with(b"\x01MTLOG\x03") && image.get(16) == Some(&low);
+    assert!(rt; is_begun, "{path}, {generation}");
+    image.len()
+}
+
+// The logs of this generation stand in the files of both workers, and no others. They are short.
+fn expect_generation<R: Files<File = File> + Alloc + Abort>(
+    rt: &R,
+    alloc: Global,
+    generation: u64,
+) {
+    let (parity, other) = (generation % 2, 1 - generation % 2);
+    let mut len: usize = 0;
+    for plain in [
+        "mt_server_tests_turns/wal-00",
+        "mt_server_tests_turns/wal-01",
+    ] {
+        let last = format!(in alloc; "{plain}-{parity}").expect(rt, "memory");
+        let older = format!(in alloc; "{plain}-{other}").expect(rt, "memory");
+        expect_file(rt, plain, &[SPARE]);
+        expect_file(rt, older.as_str(), &[SPARE]);
+        len = len.saturating_add(len_of_log(rt, last.as_str(), generation));
+    }
+    assert!(rt; len < SHORT, "{generation}: {len} bytes");
+}
+
+// A turn is made after each second settled answer. The first one after a start goes to the generation that the logs are of, if
+// there is one, and each later one to the next. After each start all that was settled is found.
+#[test]
+fn turns_follow_each_other_and_keep_the_logs_short(rt: HostRuntime) {
+    let alloc = rt.alloc();
+    let _ = fs::remove_dir_all(&rt, "mt_server_tests_turns");
+    let new =
+        "mt_server --workers 2 --store mt_server_tests_turns --create --checkpoint 2 --sessions 1 7:100";
+    serve(&rt, alloc, new, Scene::Settles);
+    let again =
+        "mt_server --workers 2 --store mt_server_tests_turns --checkpoint 2 --sessions 1 7:100";
+    for (times, generation) in [(2, 1), (6, 3), (21, 12)] {
+        serve(&rt, alloc, again, Scene::Overwrites(times));
+        expect_generation(&rt, alloc, generation);
+        serve(&rt, alloc, again, Scene::ReadsBoth);
+    }
+    let _ = fs::remove_dir_all(&rt, "mt_server_tests_turns");
 }

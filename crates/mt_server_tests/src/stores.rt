@@ -5,7 +5,7 @@ ghost use Rattle.mt_state.specs.Begins.{HaveNoPairs};
 
 use crate::clients::{
     DEVICE, FOUND, FOUND_BOTH, GET, NEW, OPEN, OPENED, PUT, PUT_AT_5, PUT_OTHER, REPLACED, SETTLE,
-    SETTLED_6, SETTLED_LAST, SPENT, STALE_10, are_told, connect, is_settled,
+    SETTLED_6, SETTLED_LAST, SPENT, STALE_10, are_told, connect, is_settled, is_told,
 };
 use crate::words::options_of;
 use log::Log;
@@ -89,16 +89,14 @@ pub(crate) fn new_store(
     }
 }
 
-// The store that a worker's files hold: its plain file and the odd one have these images, and the even one is empty.
-fn recovered(rt: &impl Abort, alloc: Global, plain: &[u8], odd: &[u8]) -> Store<MemDisk>
+// The store that a worker's files hold: its plain file has this image, and the others are empty.
+fn recovered(rt: &impl Abort, alloc: Global, plain: &[u8]) -> Store<MemDisk>
     ensures { result.source.state.answers ≡ 0 }
 {
     let tenants = tenant_7(rt, alloc);
     let plain = disk_with(alloc, plain).expect(rt, "memory");
-    let odd = disk_with(alloc, odd).expect(rt, "memory");
     let mut files = Vec::new(alloc);
-    let own = WorkerFiles::closed(plain, bare_disk(alloc), odd);
-    assert!(rt; files.push(own).is_ok());
+    assert!(rt; files.push(files_on(alloc, plain)).is_ok());
     match Store::recover(alloc, files, bare_slots(alloc), tenants) {
         Ok(store) => store,
         Err(_) => panic!(rt; "no store is recovered"),
@@ -162,6 +160,8 @@ pub(crate) enum Scene {
     ReadsBoth,
     /// It puts on condition of the stamp of what was put before, twice.
     MeetsStamp,
+    /// It puts over what was put before, and settles, so many times.
+    Overwrites(u8),
     /// It reads and puts, while one number is left or none, and settles.
     FindsAllSpent,
 }
@@ -188,6 +188,9 @@ fn play(scene: Scene, client: TcpStream) -> io::Result<bool> {
             Ok(are_told(&client, &[(OPEN, OPENED), (PUT_OTHER, REPLACED)])? && is_settled(&client)?)
         }
         Scene::ReadsBoth => are_told(&client, &[(OPEN, OPENED), (GET, FOUND_BOTH)]),
+        Scene::Overwrites(times) => {
+            Ok(is_told(&client, OPEN, OPENED)? && overwrites(&client, times)?)
+        }
         Scene::MeetsStamp => are_told(
             &client,
             &[(OPEN, OPENED), (PUT_AT_5, REPLACED), (PUT_AT_5, STALE_10)],
@@ -202,6 +205,19 @@ fn play(scene: Scene, client: TcpStream) -> io::Result<bool> {
             ],
         ),
     }
+}
+
+/// So many times it puts each time.
+pub(crate) const PUTS: usize = 30;
+
+// Puts another column, which may stand there, and settles, so many times; whether the client was told that each time.
+fn overwrites(client: &TcpStream, times: u8) -> io::Result<bool> {
+    for _ in 0..times {
+        if !are_told(client, &[(PUT_OTHER, REPLACED); PUTS])? || !is_settled(client)? {
+            return Ok(false);
+        }
+    }
+    Ok(true)
 }
 
 // Serves to the end; the store that is left.
@@ -301,7 +317,7 @@ fn what_was_put_is_there_again_and_numbers_stay_given(rt: HostRuntime) {
     for (log, scene) in [(LOG, Scene::Reads), (LAST_LOG, Scene::FindsAllSpent)] {
         let mut image = log.to_vec(alloc).expect(&rt, "memory");
         for _ in 0..2u32 {
-            let store = recovered(&rt, alloc, &image, &[]);
+            let store = recovered(&rt, alloc, &image);
             let options = options_of(&rt, alloc, ONE_SESSION);
             let blank = Blank::new(65_536);
             let left = serve_scene::<Brand, _, _>(&rt, alloc, blank, store, options, scene);
@@ -313,23 +329,6 @@ fn what_was_put_is_there_again_and_numbers_stay_given(rt: HostRuntime) {
     }
 }
 
-// A server starts twice from a log that goes on in a numbered file. What is in the plain one is found, and the numbered
-// one grows behind its header.
-#[test]
-fn a_log_that_goes_on_in_a_numbered_file_is_served(rt: HostRuntime) {
-    let alloc = rt.alloc();
-    let mut image = NEXT_LOG.to_vec(alloc).expect(&rt, "memory");
-    for scene in [Scene::PutsAnother, Scene::ReadsBoth] {
-        let store = recovered(&rt, alloc, LOG, &image);
-        let options = options_of(&rt, alloc, ONE_SESSION);
-        let blank = Blank::new(65_536);
-        let left = serve_scene::<Brand, _, _>(&rt, alloc, blank, store, options, scene);
-        image = image_of(&rt, alloc, left);
-        assert!(rt; image.starts_with(&NEXT_LOG[..25]));
-        assert!(rt; image.len() > NEXT_LOG.len());
-    }
-}
-
 // A server starts from a log of the old format, and puts another column into the row there. The next server finds both
 // columns in the same log.
 #[test]
@@ -337,7 +336,7 @@ fn a_log_of_the_old_format_is_carried_on(rt: HostRuntime) {
     let alloc = rt.alloc();
     let mut image = OLD_LOG.to_vec(alloc).expect(&rt, "memory");
     for scene in [Scene::PutsAnother, Scene::ReadsBoth] {
-        let store = recovered(&rt, alloc, &image, &[]);
+        let store = recovered(&rt, alloc, &image);
         let options = options_of(&rt, alloc, ONE_SESSION);
         let blank = Blank::new(65_536);
         let left = serve_scene::<Brand, _, _>(&rt, alloc, blank, store, options, scene);
@@ -351,7 +350,7 @@ fn a_log_of_the_old_format_is_carried_on(rt: HostRuntime) {
 fn a_stamp_is_met_after_a_start(rt: HostRuntime) {
     let alloc = rt.alloc();
     for log in [LOG, OLD_LOG] {
-        let store = recovered(&rt, alloc, log, &[]);
+        let store = recovered(&rt, alloc, log);
         let options = options_of(&rt, alloc, ONE_SESSION);
         let blank = Blank::new(65_536);
         let scene = Scene::MeetsStamp;

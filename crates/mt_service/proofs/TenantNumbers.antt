@@ -2,6 +2,7 @@
 use Rattle.std.proofs.Common.{◌≡◌, ◌+◌, ◌<◌, ◌∙◌, ℕ, zero, suc, List, [], ◌∷◌, None, Option, Some, length, map, slice_get, ap, arith, subst, sym, refl}
 use Rattle.std.specs.List.{Contains, slice_index_or}
 use Rattle.std.proofs.lemmas.Option.{same_Some}
+use Rattle.mt_service.specs.Accounts.{AreRising}
 use Rattle.mt_options.specs.{declared.tenants.TenantQuota.TenantQuota, Tenants.IsListed}
 
 abbrev numbers : List TenantQuota → List ℕ
@@ -25,3 +26,10 @@ lists (x ∷ xs) t (zero, lt, at) = (0, x, refl, at)
 lists (x ∷ xs) t (suc k, lt, at) =
     let r = lists xs t (k, omega (arith, lt), at) in
     (suc r.0, r.1, r.2, r.3)
+
+-- if there is a tenant, there is a number
+pub some_number : (tenants : List TenantQuota) (rising : List ℕ) → AreRising tenants rising → 0 < length tenants → 0 < length rising
+some_number [] rising are some = absurd (omega (arith, some))
+some_number (x ∷ xs) rising are some =
+    let c = are.all x.tenant (0, x, refl, refl) in
+    omega (arith, c.1)

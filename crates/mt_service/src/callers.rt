@@ -1,7 +1,7 @@
-//! Who answers a session's commands: a pass of a book, over any desk, and over any logs. It writes the checkpoints that
-//! are due.
+//! Who answers a session's commands: a pass of a book, over any desk, and over any logs. It makes the turns of all logs
+//! that are due, with their checkpoints.
 
-ghost use Rattle.std.specs.Prelude.{◌≡◌, None};
+ghost use Rattle.std.specs.Prelude.{◌≡◌, ◌<◌, None, length};
 ghost use Rattle.mt_service.specs.Telling.{told_of};
 
 use crate::accounts::rising_tenants;
@@ -14,14 +14,15 @@ use mt_runs::Answer;
 use mt_session::{Caller, CallerFault};
 use mt_settle::Logs;
 use mt_slots::StoreSlots;
-use mt_stored::{Checks, Keeper, write_checkpoint};
+use mt_stored::{Checks, DueTurn, Keeper, TurnStop};
 use std::alloc::Global;
 use std::sync::ledger::Ledger;
 use std::sync::{Mutex, Wait};
 use std::time::Clock;
 
 /// A caller that asks a desk through a pass, for the tenant that its session opened, and keeps what it
-/// answers in logs, if there are some. After an answer is settled it writes a checkpoint if one is due.
+/// answers in logs, if there are some. After an answer is settled it makes a turn of all logs if one is due, with a
+/// checkpoint in it.
 #[derive(Drop)]
 pub struct DeskCaller<
     'a,
@@ -93,48 +94,65 @@ impl<
     S: Logs + Drop,
     K: Disk + Drop,
 > DeskCaller<'_, L, R, D, S, K> {
-    ghost use Rattle.mt_service.specs.Asking.{MayWrite, asker};
+    ghost use Rattle.mt_service.specs.Asking.{MayMakeTurn, asker};
     ghost use Rattle.mt_stored.specs.Keeping.{keeping};
 
-    // Writes a checkpoint if it is due after one settled answer more. Others settle meanwhile. It warns of a
-    // checkpoint that is given up.
-    fn checkpoint_if_due(&mut self)
-        ensures { MayWrite D.does K.is_honest K.state K.failures (asker self.old.desk self.old.pass.worker self.old.pass.seen self.old.pass.share.amount self.old.tenants.now self.old.opened (keeping self.old.keeper.logs self.old.keeper.worker self.old.keeper.since.answers self.old.keeper.next))
+    // Makes a turn of all logs if one is due after one settled answer more, which told a number. Others settle
+    // meanwhile. It warns of a turn that is stopped. Without tenants nothing is to be kept, and no turn is made.
+    fn make_turn_if_due(&mut self, number: u64)
+        ensures { MayMakeTurn D.does K.is_honest K.state K.failures S.does S.logs (asker self.old.desk self.old.pass.worker self.old.pass.seen self.old.pass.share.amount self.old.tenants.now self.old.opened (keeping self.old.keeper.logs self.old.keeper.worker self.old.keeper.since.answers self.old.keeper.next))
             (asker self.new.desk self.new.pass.worker self.new.pass.seen self.new.pass.share.amount self.new.tenants.now self.new.opened (keeping self.new.keeper.logs self.new.keeper.worker self.new.keeper.since.answers self.new.keeper.next)) }
     {
-        // The lock is free again when the walk begins.
-        let due = self.checks.lock(self.rt).count_settled();
-        let Some(slots) = due else {
+        if self.tenants.is_empty() {
+            return;
+        }
+        // The lock is free again when the turn begins.
+        let due = self.checks.lock(self.rt).count_settled(number);
+        let Some(due) = due else {
             return;
         };
-        let slots = match self.checkpoint(slots) {
-            Ok(slots) => slots,
-            Err((refusal, slots)) => {
-                warn!(self.rt; "a checkpoint was given up: {refusal}");
+        let slots = match self.make_turn(due) {
+            Ok(slots) => {
+                self.checks.lock(self.rt).end_turn();
+                slots
+            }
+            Err((stop, slots)) => {
+                self.warn_of(stop);
                 slots
             }
         };
         self.checks.lock(self.rt).put_back(slots);
     }
 
-    // Writes a checkpoint of all tenants. The slots come back in each case.
-    fn checkpoint(
-        &mut self,
-        slots: StoreSlots<K>,
-    ) -> Result<StoreSlots<K>, (Refusal, StoreSlots<K>)>
-        ensures { MayWrite D.does K.is_honest K.state K.failures (asker self.old.desk self.old.pass.worker self.old.pass.seen self.old.pass.share.amount self.old.tenants.now self.old.opened (keeping self.old.keeper.logs self.old.keeper.worker self.old.keeper.since.answers self.old.keeper.next))
+    // Makes a turn of all logs, with a checkpoint of all tenants. The slots come back in each case.
+    fn make_turn(&mut self, due: DueTurn<K>) -> Result<StoreSlots<K>, (TurnStop, StoreSlots<K>)>
+        requires some { 0 < length self.old.tenants.now }
+        ensures { MayMakeTurn D.does K.is_honest K.state K.failures S.does S.logs (asker self.old.desk self.old.pass.worker self.old.pass.seen self.old.pass.share.amount self.old.tenants.now self.old.opened (keeping self.old.keeper.logs self.old.keeper.worker self.old.keeper.since.answers self.old.keeper.next))
             (asker self.new.desk self.new.pass.worker self.new.pass.seen self.new.pass.share.amount self.new.tenants.now self.new.opened (keeping self.new.keeper.logs self.new.keeper.worker self.new.keeper.since.answers self.new.keeper.next)) }
     {
+        let DueTurn { generation, slots } = due;
         match rising_tenants(self.alloc, self.tenants) {
-            Ok(tenants) => write_checkpoint(
+            Ok(tenants) => self.keeper.write_turn(
                 self.rt,
-                self.alloc,
                 &mut self.desk,
                 &mut self.pass,
+                generation,
                 tenants,
                 slots,
             ),
-            Err(_) => Err((Refusal::Memory, slots)),
+            Err(_) => Err((TurnStop::Checkpoint(Refusal::Memory), slots)),
+        }
+    }
+
+    // Warns of a turn that was stopped.
+    fn warn_of(&self, stop: TurnStop) {
+        match stop {
+            TurnStop::Checkpoint(refusal) => {
+                warn!(self.rt; "a checkpoint was given up: {refusal}");
+            }
+            TurnStop::Logs(refusal) => {
+                warn!(self.rt; "a turn of the logs was not finished: {refusal}");
+            }
         }
     }
 }
@@ -176,7 +194,7 @@ impl<L: Ledger, R: Wait + Clock + Log, D: Desk<L> + Drop, S: Logs + Drop, K: Dis
 
     fn settle(&mut self) -> Result<u64, Refusal> {
         let settled = self.keeper.settle(self.rt)?;
-        self.checkpoint_if_due();
+        self.make_turn_if_due(settled);
         Ok(settled)
     }
 }

@@ -19,7 +19,7 @@ use mt_options::{Options, TenantQuota};
 use mt_session::SessionBuffers;
 use mt_slots::StoreSlots;
 use mt_store_logs::StoreLog;
-use mt_stored::{Checks, Keeper, SharedLogs, Store, locked_logs, unlocked_logs};
+use mt_stored::{Checks, Keeper, SharedLogs, Store, locked_logs, next_turn, unlocked_logs};
 use mt_streams::{Sink, write_whole};
 use std::alloc::{AllocError, Global};
 use std::marker::{Send, Sync};
@@ -103,8 +103,9 @@ fn serve_store<
     ensures fault { IfErr result IsOfServing }
 {
     let (state, logs, slots) = store.into_parts();
+    let generation = next_turn(logs.as_slice());
     let logs = locked_logs(alloc, logs)?;
-    let checks = Mutex::new(Checks::new(checkpoint_every(options), slots));
+    let checks = Mutex::new(Checks::new(checkpoint_every(options), slots, generation));
     let book = BookLock::new(Book::<L>::new(blank, state));
     let served = serve_all(rt, alloc, &book, &logs, &checks, listener, options);
     let slots = checks.into_inner().into_slots();

@@ -106,7 +106,7 @@ fn serve_booked<L: Ledger, T: Wait + Clock + Log, R: Source, W: Sink>(
     let Some(pass) = book.open_pass(0) else {
         return Err(ServeFault::Memory);
     };
-    let checks = Mutex::new(Checks::<MemDisk>::new(0, None));
+    let checks = Mutex::new(Checks::<MemDisk>::new(0, None, 1));
     let keeper = Keeper::new(alloc, logs, 0);
     let mut caller = DeskCaller::new(rt, alloc, book, pass, keeper, &checks, &TENANTS);
     let ended = serve(alloc, reader, writer, &mut caller);
