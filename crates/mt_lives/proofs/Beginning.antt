@@ -1,5 +1,5 @@
 -- A new store: its logs were made, and nothing has happened.
-use Rattle.std.proofs.{Common.{◌≡◌, ℕ, ◌+◌, ◌<◌, ◌≤◌, inl, inr, List, length, Some, refl, sym, ap, subst, ◌∙◌, arith}, lemmas.List.Elements.All-nil}
+use Rattle.std.proofs.{Common.{◌≡◌, ℕ, ◌+◌, ◌<◌, ◌≤◌, inl, inr, ⊎_elim, List, length, Some, refl, sym, ap, subst, ◌∙◌, arith}, lemmas.List.Elements.All-nil}
 use Rattle.std.specs.{Prelude.slice_get, FinMap.{empty, len, get-empty, len-empty}, Ordering.nat_cmp, Cmp.Lexicographic.slice_cmp}
 use Rattle.mt_rows.specs.{Accounts.Accounts, Stamps.Stamped, Tenants.owned_cmp, TenantPairs.{quota_in, HasTenants, KeepsQuotas}}
 use Rattle.mt_disk.specs.{declared.mem.MemDisk.MemDisk, Mem.mem_state}
@@ -13,8 +13,10 @@ use Rattle.mt_chain_files.{specs.Turns.FilesNow, proofs.Reading.found_first}
 use Rattle.mt_slots.{specs.{declared.store_slots.StoreSlots.StoreSlots, Calls.MakesBoth, Keeps.no_checkpoints}, proofs.Keeping.{made as slots_are_made}}
 use Rattle.mt_store_logs.specs.{declared.store_log.StoreLog.StoreLog, Places.disk_in, Opens.{AreClosedOn, Makes, MakesSpare, MakesAll}, Ends.StandsInTurn}
 use Rattle.mt_store_logs.proofs.FirstAndCrashed.{made_in_turn}
-use Rattle.mt_lives.specs.{declared.live_slots.LiveSlots.TheVariants.Rest, declared.serving.Serving.Serving, Lives.new_standing, Holds.{BeginsAt0, Holds}, Returns.IsFresh}
+use Rattle.mt_lives.specs.{declared.live_slots.LiveSlots.TheVariants.Rest, declared.serving.Serving.Serving, Lives.new_standing, Holds.{Holds}, Returns.IsFresh}
 use Rattle.mt_lives.proofs.{Flushing.{keeps_rules, failures_of, within}, Opening.{IsLogOpen, AllOpen}, Living.{RestAt, reach_all, BeginsWith, begins_serving}}
+use Rattle.mt_stored.specs.Begins.{IsNextTurn}
+use Rattle.mt_lives.specs.{Bases.{Whole, BeginsBy}, Turning.only_whole}
 
 begins_new : (logs : ℕ) (accounts : Accounts) → BeginsWith accounts empty 0 logs (new_state logs accounts)
 begins_new logs accounts = record {
@@ -58,9 +60,16 @@ made_spare Away new made = absurd made
 abbrev pub first_files : ℕ → ℕ → FilesNow
 first_files worker count = record { plain = Has (at_rest (no_batches worker count)); even = Spare; odd = Spare }
 
-begins_first : (worker count : ℕ) → BeginsAt0 0 0 (first_files worker count)
-begins_first worker count x y (front, left, is) none = (front, found_first 0 x y ∙ is, start left, λ first. none)
+-- nothing was given up of them
+abbrev pub at_start : Whole
+at_start = record { generation = 0; starts = 0 }
+
+begins_first : (worker count : ℕ) → BeginsBy 0 at_start (first_files worker count)
+begins_first worker count x y (front, left, is) none = (front, found_first 0 x y ∙ is, begins (start left))
   where
+    begins : front.start ≡ 0 → front.start ≤ 0
+    begins same = omega (arith, same)
+
     start : MayLeaveFront (at_rest (no_batches worker count)) front → front.start ≡ 0
     start (inl same) = ap (λ (c : Contents). c.start) same
     start (inr more) = absurd (no_some more.0 more.1)
@@ -74,7 +83,7 @@ module _ (accounts : Accounts) (files : List (WorkerFiles MemDisk)) (old new : L
   count_new = new_long (length new) 0 (length new)
 
   -- a log was made of one on the files of its worker
-  log_new : (worker : ℕ) (log : StoreLog MemDisk) → slice_get new worker ≡ Some log → IsLogOpen 0 0 (at_rest (no_batches worker (length new))) log
+  log_new : (worker : ℕ) (log : StoreLog MemDisk) → slice_get new worker ≡ Some log → IsLogOpen 0 at_start (at_rest (no_batches worker (length new))) log
   log_new worker log at =
       let below : worker < length old = subst (λ n. worker < n) made.len (within new worker log at) in
       let was = within_place old worker below in
@@ -88,30 +97,45 @@ module _ (accounts : Accounts) (files : List (WorkerFiles MemDisk)) (old new : L
       ) in
       let stands : StandsInTurn keeps_rules mem_state 0 (at_rest (no_batches worker (length old))) (first_files worker (length old)) log =
       made_in_turn keeps_rules mem_state failures_of worker (length old) was.0 log honest c.log.worker (c.log.logs ∙ sym closed.count) m.sure m in
-      subst (λ n. IsLogOpen 0 0 (at_rest (no_batches worker n)) log) (sym made.len)
-      (record { files = first_files worker (length old); stands = stands; begins = begins_first worker (length old); none = m.none })
+      subst (λ n. IsLogOpen 0 at_start (at_rest (no_batches worker n)) log) (sym made.len)
+      (record { files = first_files worker (length old); stands = stands; begins = begins_first worker (length old); none = m.none; sure = m.sure })
 
-  all_new : AllOpen 0 0 (new_store (length new)) new
+  all_new : AllOpen 0 at_start (new_store (length new)) new
   all_new = λ worker now log there at.
       let is = new_at (length new) 0 (length new) worker now there in
       let place : worker ≡ 0 + worker = omega arith in
-      subst (λ (n : LogNow). IsLogOpen 0 0 n log) (ap (λ k. at_rest (no_batches k (length new))) place ∙ sym is.0) (log_new worker log at)
+      subst (λ (n : LogNow). IsLogOpen 0 at_start n log) (ap (λ k. at_rest (no_batches k (length new))) place ∙ sym is.0) (log_new worker log at)
 
-  pub holds_new : (v : StateView) → v ≡ new_state (length new) accounts → IsRightState v → (serving : Serving) → serving.state ≡ v → IsFresh serving
+  -- each is of generation 0
+  plain_new : (worker : ℕ) (log : StoreLog MemDisk) → slice_get new worker ≡ Some log → log.log.generation ≡ 0
+  plain_new worker log at =
+      let below : worker < length old = subst (λ n. worker < n) made.len (within new worker log at) in
+      let was = within_place old worker below in
+      (made.each worker was.0 log below was.1 at).log.generation
+
+  -- so the first turn goes to generation 1
+  turns_to : (serving : Serving) → IsNextTurn new serving.generation → serving.generation ≡ 0 + 1
+  turns_to serving next = ⊎_elim
+      (λ one. omega (arith, one))
+      (λ among. let plain = plain_new among.0 among.1 among.2 in let same = among.3 in let some = next.some in absurd (omega (arith, plain, same, some)))
+      next.among
+
+  pub holds_new : (v : StateView) → v ≡ new_state (length new) accounts → IsRightState v → (serving : Serving) → serving.state ≡ v → IsFresh new serving
       → (bare slots : StoreSlots MemDisk) → MakesBoth keeps_rules mem_state failures_of bare slots → Holds accounts (Rest slots) new_standing new (Some serving)
   holds_new v is right serving state fresh bare slots slots_made = record {
     s = new_store (length new);
     from = 0;
-    whole = 0;
+    turning = only_whole at_start;
     some = subst (λ n. 0 < n) (sym len_new) some;
     few = subst (λ n. n ≤ 64) (sym len_new) few;
     come = (0, refl);
     count = count_new;
     stand = (refl, record { mays = no_checkpoints; shown = refl; keeps = slots_are_made keeps_rules mem_state failures_of bare slots (λ slot. refl) slots_made });
+    base = (omega arith, inl (inl refl));
     settled = reach_all (new_store (length new)) 0 (rest_new (length new));
     keeps = λ m. (has_none accounts, keeps_none accounts);
     now =
         begins_serving accounts empty 0 (length new) v (subst (BeginsWith accounts empty 0 (length new)) (sym is) (begins_new (length new) accounts)) right
         (new_store (length new)) refl refl count_new
-        (rest_new (length new)) (All-nil (λ (p : Placed). p.change.stamp ≤ 0)) refl serving state fresh 0 0 new all_new;
+        (rest_new (length new)) (All-nil (λ (p : Placed). p.change.stamp ≤ 0)) refl serving state 0 at_start new fresh (turns_to serving fresh.generation) all_new;
   }

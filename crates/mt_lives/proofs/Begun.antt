@@ -1,36 +1,32 @@
--- Files of which a log begins at step 0: nothing was given up, so they stand whole, and that stays so.
-use Rattle.std.proofs.Common.{◌≡◌, ◌≢◌, ◌⊎◌, inl, inr, ⊎_elim, ℕ, ◌+◌, ◌==◌, ◌%◌, Bool, true, false, cond, List, [], ◌∷◌, map, refl, sym, ◌∙◌, ap, subst, arith, Option, Some, None}
+-- Files of which a log began by a step: on a base that covers it they stand whole, and that stays so.
+use Rattle.std.proofs.Common.{◌≡◌, inl, inr, ⊎_elim, ℕ, ◌+◌, ◌≤◌, ◌==◌, ◌%◌, Bool, true, false, cond, List, [], ◌∷◌, map, refl, sym, ◌∙◌, ap, arith, Option, Some, None}
 use Rattle.std.proofs.lemmas.{Bool.cases_eq, Option.same_Some}
 use Rattle.mt_log.specs.Contents.{Contents}
-use Rattle.mt_crashes.{specs.{Fronts.In, Stores.{Store, at_rest}}, proofs.Members.no_some}
-use Rattle.mt_generations.specs.{Chains.Chain, Standings.Standing, Turns.AllBegunBy}
-use Rattle.mt_log_files.specs.{Files.{FileNow, Has, MayLeaveFile}, Workers.{standing_of, Found, MayLeaveFiles, standings_of}}
+use Rattle.mt_crashes.{specs.{Fronts.In, Stores.Store}, proofs.Members.no_some}
+use Rattle.mt_generations.specs.{Chains.Chain, Standings.Standing, Turns.{AllBegunBy, HasBase}}
+use Rattle.mt_log_files.specs.{Files.{FileNow, MayLeaveFile}, Workers.{standing_of, Found, MayLeaveFiles, standings_of}}
 use Rattle.mt_chain_files.specs.Turns.{FilesNow, now_of, pair_of, StaysWhole}
-use Rattle.mt_chain_files.proofs.{Reading.{least, least_left, found_first, found_next, found_none}, Starts.LeavesNoMore}
+use Rattle.mt_chain_files.proofs.{Reading.{found_first, found_next, found_none}, Narrowing.{Narrows, narrow_left, narrow_now}}
 use Rattle.mt_store_logs.specs.Ends.{start_in, KeepsStart, KeepStarts}
-use Rattle.mt_lives.specs.Holds.{BeginsAt0}
+use Rattle.mt_lives.specs.Bases.{Whole, BeginsBy}
 
 -- ---- they stand whole
 
-begun_all : (g h : ℕ) (files : List FilesNow) (found : List Found) → ((f : FilesNow) → In f files → BeginsAt0 g h f) → MayLeaveFiles (map (pair_of g) files) found
-    → AllBegunBy h 0 (standings_of g found)
+begun_all : (g : ℕ) (h : Whole) (files : List FilesNow) (found : List Found) → ((f : FilesNow) → In f files → BeginsBy g h f) → MayLeaveFiles (map (pair_of g) files) found
+    → AllBegunBy h.generation h.starts (standings_of g found)
 begun_all g h [] [] all left e at = absurd at
 begun_all g h [] (x ∷ found) all left e at = absurd left
 begun_all g h (f ∷ files) [] all left e at = absurd left
 begun_all g h (f ∷ files) (x ∷ found) all left e (inl same) =
     let b = all f (inl refl) x.0 x.1 left.0.0 left.0.1 in
-    let start = b.2 in
-    (b.0, ap (λ (s : Standing). s h) same ∙ b.1, omega (arith, start))
+    (b.0, ap (λ (s : Standing). s h.generation) same ∙ b.1, b.2)
 begun_all g h (f ∷ files) (x ∷ found) all left e (inr at) = begun_all g h files found (λ i there. all i (inr there)) left.1 e at
 
-pub stay_whole : (g h : ℕ) (s : Store) (files : List FilesNow) → ((f : FilesNow) → In f files → BeginsAt0 g h f) → StaysWhole g h s files
-stay_whole g h s files all found left = (0, begun_all g h files found all left, inl refl)
+pub stay_whole : (g : ℕ) (h : Whole) (s : Store) (files : List FilesNow) → HasBase s h.starts → ((f : FilesNow) → In f files → BeginsBy g h f)
+    → StaysWhole g h.generation s files
+stay_whole g h s files base all found left = (h.starts, begun_all g h files found all left, base)
 
 -- ---- logs that begin where others do
-
-none_too : (a b : Option Contents) → start_in a ≡ start_in b → a ≡ None → b ≡ None
-none_too a None same none = refl
-none_too a (Some d) same none = absurd (no_some d.start (sym (ap start_in none) ∙ same))
 
 some_too : (a b : Option Contents) (c : Contents) → start_in a ≡ start_in b → a ≡ Some c → (d : Contents) × (b ≡ Some d) × (d.start ≡ c.start)
 some_too a None c same some = absurd (no_some c.start (sym same ∙ ap start_in some))
@@ -51,23 +47,25 @@ same_standing g h a b x y c same_a same_b has = ⊎_elim
     (cases_eq h g)
 
 -- whatever is left of files, logs might have been left before that begin there too
-begins_from : (g h : ℕ) (was : FilesNow) (a b x y : Option Contents) → start_in a ≡ start_in x → start_in b ≡ start_in y → BeginsAt0 g h was → MayLeaveFile (now_of g was) a
-    → MayLeaveFile (now_of (g + 1) was) b → (c : Chain) × (standing_of g x y h ≡ Some c) × (c.start ≡ 0) × (h ≡ 0 → y ≡ None)
+begins_from : (g : ℕ) (h : Whole) (was : FilesNow) (a b x y : Option Contents) → start_in a ≡ start_in x → start_in b ≡ start_in y → BeginsBy g h was → MayLeaveFile (now_of g was) a
+    → MayLeaveFile (now_of (g + 1) was) b → (c : Chain) × (standing_of g x y h.generation ≡ Some c) × (c.start ≤ h.starts)
 begins_from g h was a b x y same_a same_b begins left_a left_b =
     let c = begins a b left_a left_b in
-    let d = same_standing g h a b x y c.0 same_a same_b c.1 in
-    (d.0, d.1, d.2 ∙ c.2, λ zero. none_too b y same_b (c.3 zero))
+    let d = same_standing g h.generation a b x y c.0 same_a same_b c.1 in
+    let same = d.2 in
+    let by = c.2 in
+    (d.0, d.1, omega (arith, same, by))
 
 keeps_either : (b : Bool) (p q r s : FileNow) → KeepsStart p q → KeepsStart r s → KeepsStart (cond b p r) (cond b q s)
 keeps_either true p q r s one other = one
 keeps_either false p q r s one other = other
 
-keeps_now : (g : ℕ) (was is : FilesNow) → KeepStarts was is → KeepsStart (now_of g was) (now_of g is)
+pub keeps_now : (g : ℕ) (was is : FilesNow) → KeepStarts was is → KeepsStart (now_of g was) (now_of g is)
 keeps_now g was is k =
     keeps_either (g == 0) was.plain is.plain (cond (g % 2 == 0) was.even was.odd) (cond (g % 2 == 0) is.even is.odd) k.plain
     (keeps_either (g % 2 == 0) was.even is.even was.odd is.odd k.even k.odd)
 
-pub begins_kept : (g h : ℕ) (was is : FilesNow) → KeepStarts was is → BeginsAt0 g h was → BeginsAt0 g h is
+pub begins_kept : (g : ℕ) (h : Whole) (was is : FilesNow) → KeepStarts was is → BeginsBy g h was → BeginsBy g h is
 begins_kept g h was is keeps begins x y left_x left_y =
     let a = keeps_now g was is keeps x left_x in
     let b = keeps_now (g + 1) was is keeps y left_y in
@@ -75,28 +73,20 @@ begins_kept g h was is keeps begins x y left_x left_y =
 
 -- ---- files that were opened
 
-pub begins_opened : (g h : ℕ) (was is : FilesNow) → LeavesNoMore g was is → BeginsAt0 g h was → BeginsAt0 g h is
-begins_opened g h was is less begins x y left_x left_y = by less.first
-  where
-    by : ((a : Option Contents) → MayLeaveFile (now_of g is) a → MayLeaveFile (now_of g was) a) ⊎ ((g ≡ 0) × ((c : Contents) × (now_of (g + 1) is ≡ Has (at_rest c))))
-        → (c : Chain) × (standing_of g x y h ≡ Some c) × (c.start ≡ 0) × (h ≡ 0 → y ≡ None)
-    by (inl first) = begins_from g h was x y x y refl refl begins (first x left_x) (less.next y left_y)
-    by (inr next) =
-        let a = least (now_of g was) in
-        let left_a = least_left (now_of g was) in
-        ⊎_elim
-        (λ (zero : h ≡ 0).
-        let there = less.next (Some next.1.0) (subst (λ (f : FileNow). MayLeaveFile f (Some next.1.0)) (sym next.1.1) (next.1.0, inl refl, refl)) in
-        absurd (no_some next.1.0 (sym ((begins a (Some next.1.0) left_a there).3 zero))))
-        (λ later.
-        let c = begins a y left_a (less.next y left_y) in
-        let not_g : h ≢ g = λ same. later (same ∙ next.0) in (
-          c.0,
-          ⊎_elim
-              (λ (same : h ≡ g + 1). ap (standing_of g x y) same ∙ found_next g x y ∙ sym (found_next g a y) ∙ ap (standing_of g a y) (sym same) ∙ c.1)
-              (λ not_next. absurd (no_some c.0 (sym (found_none g a y h not_g not_next) ∙ c.1)))
-              (cases_eq h (g + 1)),
-          c.2,
-          λ zero. absurd (later zero),
-        ))
-        (cases_eq h 0)
+-- no more is left of files that narrow
+pub begins_narrow : (g : ℕ) (h : Whole) (was is : FilesNow) → Narrows was is → BeginsBy g h was → BeginsBy g h is
+begins_narrow g h was is n begins x y left_x left_y = begins x y
+    (narrow_left (now_of g was) (now_of g is) x (narrow_now g was is n) left_x)
+    (narrow_left (now_of (g + 1) was) (now_of (g + 1) is) y (narrow_now (g + 1) was is n) left_y)
+
+-- what is left of a worker's files has a log of a generation, which began just there
+abbrev pub HasFrom : ℕ → ℕ → ℕ → FilesNow → Type 0
+HasFrom g generation start files = (x y : Option Contents) → MayLeaveFile (now_of g files) x → MayLeaveFile (now_of (g + 1) files) y
+    → (c : Chain) × (standing_of g x y generation ≡ Some c) × (c.start ≡ start)
+
+pub begins_from_chain : (g generation start starts : ℕ) (files : FilesNow) → HasFrom g generation start files → start ≤ starts
+    → BeginsBy g (record { generation = generation; starts = starts }) files
+begins_from_chain g generation start starts files has le x y left_x left_y =
+    let c = has x y left_x left_y in
+    let same = c.2 in
+    (c.0, c.1, omega (arith, same, le))

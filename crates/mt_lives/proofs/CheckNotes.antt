@@ -1,53 +1,68 @@
--- What may be noted of the events of a checkpoint, and how a store stands then.
-use Rattle.std.proofs.Common.{◌≡◌, ◌≢◌, ℕ, ◌≤◌, ◌^◌, Bool, false, List, [], ◌∷◌, ◌++◌, map, length, Option, Some, None, Result, Ok, Err, Vec, refl, sym, ap, subst, ◌∙◌, arith, inl, inr}
+-- What may be noted of the beginning of a turn and of its checkpoint's parts, and how a store stands then.
+use Rattle.std.proofs.Common.{◌≡◌, ◌≢◌, ◌⊎◌, ℕ, ◌<◌, ◌≤◌, ◌^◌, Bool, false, List, [], ◌∷◌, ◌++◌, map, length, Option, Some, None, Result, Ok, Err, Vec, refl, sym, ap, subst, ◌∙◌, arith, inl, inr}
 use Rattle.std.proofs.lemmas.{List.append-nil, Option.same_Some, List.Elements.{recursion_from_All, All-from_recursion}}
 use Rattle.std.specs.{Prelude.{slice_get, IfOk}, Option.option_map, List.{All, AllByRecursion}, declared.alloc.Global.Global}
 use Rattle.mt_rows.specs.{Rows.Bytes, Commands.IsKey, Accounts.{Accounts, numbers_of}, declared.command.Command.Command, declared.command.Command.TheVariants.Scan}
-use Rattle.mt_rows.specs.{declared.refusal.Refusal.Refusal, declared.reply.Reply.Reply, declared.reply.Reply.TheVariants.{Pairs}, declared.record.TenantPair.TenantPair}
-use Rattle.mt_disk.specs.{declared.mem.MemDisk.MemDisk, Mem.mem_state}
+use Rattle.mt_rows.specs.{declared.refusal.Refusal.Refusal, declared.refusal.Refusal.TheVariants.{Memory, Device}}
+use Rattle.mt_rows.specs.{declared.reply.Reply.Reply, declared.reply.Reply.TheVariants.{Pairs}, declared.record.TenantPair.TenantPair}
+use Rattle.mt_disk.specs.{declared.mem.MemDisk.MemDisk, Disk.GoesUp, Mem.mem_state}
 use Rattle.mt_runs.specs.{declared.event.Event.Event, declared.event.Event.TheVariants.{Begin, Step}, declared.event.Answer.Answer, declared.event.Told.Told}
 use Rattle.mt_runs.specs.declared.event.Told.TheVariants.{Begun, Refused as RefusedOne, NoSuch as NoSuchOne, Moved, Again, NoMemory as NoMemoryNow, Spent, Done}
-use Rattle.mt_runs.specs.{Runs.{IsBetween}, Scans.IsLawful}
+use Rattle.mt_runs.specs.{Runs.{Made, IsBetween, owner}, Scans.IsLawful}
 use Rattle.mt_runs.proofs.{Order.order_with_maps, Steps.owner_in}
 use Rattle.mt_state.specs.{Views.{map_of, changed_at}, Histories.{IsServed}}
 use Rattle.mt_core.specs.Tickets.{named}
-use Rattle.mt_checkpoint.specs.Checkpoints.{IsPair}
-use Rattle.mt_crashes.specs.{Histories.{Placed}, Walks.{Page, IsFromTo}, SlotDisks.slot_now, Stores.{SlotNow}}
-use Rattle.mt_crashes.proofs.{Members.no_some, Walking.lawful_wider}
-use Rattle.mt_slots.specs.{declared.store_slots.StoreSlots.StoreSlots, declared.checkpointing.Checkpointing.Checkpointing, declared.fault.SlotFault.SlotFault}
-use Rattle.mt_slots.specs.Places.{at, with, in_order, next_slot, slot_of, given_up, refusal_for}
-use Rattle.mt_slots.specs.{Keeps.{Mays, or_none, KeepsWriting}, Calls.{Begins, FailsToBeginIn, Adds as AddsTo, FailsToAddIn, Ends, FailsToEndIn}}
-use Rattle.mt_slots.proofs.{Keeping.{begun, not_begun, added}, Settling.{not_added, ended, not_ended}}
+use Rattle.mt_checkpoint.specs.{Checkpoints.{IsPair}, Slots.{FailsToAdd}}
+use Rattle.mt_crashes.specs.{Histories.{Placed}, Walks.{Page, IsFromTo}, SlotDisks.{view_of_walk, slot_now}, Stores.{Store, SlotNow, AllReach}, Invariants.IsStore}
+use Rattle.mt_crashes.proofs.{Members.no_some, Invariant.within_place, Walking.lawful_wider}
+use Rattle.mt_slots.specs.{declared.slot.Slot.Slot, declared.store_slots.StoreSlots.StoreSlots, declared.checkpointing.Checkpointing.Checkpointing}
+use Rattle.mt_slots.specs.{declared.fault.SlotFault.SlotFault, declared.fault.FaultCause.FaultCause}
+use Rattle.mt_slots.specs.Places.{at, with, in_order, number_of, disk_of, next_slot, slot_of, given_up, refusal_for}
+use Rattle.mt_slots.specs.{Keeps.{Mays, or_none, KeepsWriting}, Calls.{as_write_fault, Begins as BeginsIn, FailsToBeginIn, Adds as AddsTo, FailsToAddIn, Ends as EndsIn, FailsToEndIn}}
+use Rattle.mt_slots.proofs.{Keeping.{with-this, begun, not_begun, added}, Settling.{not_added, ended, not_ended}}
+use Rattle.mt_slots.specs.declared.fault.FaultCause.TheVariants as FaultCauses
 use Rattle.mt_store_logs.specs.declared.store_log.StoreLog.{StoreLog}
 use Rattle.mt_pages.specs.{declared.walk.PageWalk.PageWalk, Scans.next_scan, Pages.{TakesAt}, Walked.{Rise, maps_of, Finds}}
 use Rattle.mt_pages.proofs.Walked.{takes, begins_at}
-use Rattle.mt_lives.specs.{declared.live_slots.LiveSlots.LiveSlots, declared.live_slots.LiveSlots.TheVariants.{Rest, Writes, Away}, declared.live_slots.Check.Check}
-use Rattle.mt_disk.specs.Disk.{GoesUp}
-use Rattle.mt_checkpoint.specs.Slots.{FailsToAdd}
-use Rattle.mt_slots.specs.{declared.fault.FaultCause.FaultCause, Calls.as_write_fault, Places.disk_of}
-use Rattle.mt_slots.proofs.Keeping.{with-this}
-use Rattle.mt_slots.specs.declared.fault.FaultCause.TheVariants as FaultCauses
-use Rattle.mt_lives.specs.{Forced.{SlotFails, IsCheckForced}, Steps.GoesOn}
-use Rattle.mt_lives.proofs.Happening.{serves_none}
-use Rattle.mt_lives.specs.{declared.live_slots.CheckStage.CheckStage, declared.live_slots.CheckStage.TheVariants.{Begins as BeginsNext, Scans, Adds}}
+use Rattle.mt_lives.specs.{declared.live_slots.LiveSlots.LiveSlots, declared.live_slots.LiveSlots.TheVariants.{Rest, Turns, Writes, Away}}
+use Rattle.mt_lives.specs.{declared.live_slots.TurnStage.TurnStage, declared.live_slots.TurnStage.TheVariants.{Begins as BeginsAt, Settles}}
+use Rattle.mt_lives.specs.{declared.live_slots.Check.Check, declared.live_slots.CheckStage.CheckStage, declared.live_slots.CheckStage.TheVariants.{Begins as BeginsNext, Scans, Adds}}
 use Rattle.mt_lives.specs.{declared.events.StoreEvent.StoreEvent, declared.events.StoreEvent.TheVariants.{CheckBegin, CheckStep}, declared.events.StoreNote.StoreNote}
-use Rattle.mt_lives.specs.declared.events.StoreNote.TheVariants.{CheckBegun, CheckTold, CheckAdded, CheckEnded, Refused, NoSuch}
+use Rattle.mt_lives.specs.declared.events.StoreNote.TheVariants.{CheckBegun, CheckWrites, CheckTold, CheckAdded, CheckEnded, Refused, NoSuch}
 use Rattle.mt_lives.specs.{declared.serving.Serving.Serving, Serving.TellsServing}
 use Rattle.mt_lives.specs.Lives.{Life, Past, Standing, with_event, firsts, story_in, checking, living, IsMemoryOrDevice, IsOfScan, IsServing, IsNoted}
-use Rattle.mt_lives.specs.Checks.{first_of, pending, check_with, at_rest, AfterBegin, AfterReply, AfterStep, TakesPage, IsScanIn, HasScan, SlotsStand, CheckStands, LiveSlotsStand}
-use Rattle.mt_lives.specs.Holds.{quotas_of, Holds}
-use Rattle.mt_lives.proofs.{Flushing.{keeps_rules, failures_of}, Noting.{life_served, lives_so, held}, Served.{last, pairs_at}, Told.{LivesOn, lives_on, slots_on}}
-use Rattle.mt_lives.proofs.{Stories.{asked_now, owner_now, finished_now}, SlotReading.told_fault, Returning.gave_up}
-use Rattle.mt_lives.proofs.Checking.{holds_with, holds_same, begins_in, ends_in_doubt, ends_in, serves_so, is_walk, is_base}
+use Rattle.mt_lives.specs.Checks.{first_of, pending, check_with, AfterBegin, AfterReply, AfterStep, TakesPage, IsScanIn, HasScanNow, CheckStands, BeganBy, LiveSlotsStand}
+use Rattle.mt_lives.specs.{Bases.{IsWritten, NewestIsBase, EitherIsBase}, Turning.{Turning, part_of, IsSettling, IsAtLog, IsWriting, IsTurning}}
+use Rattle.mt_lives.specs.{Parts.{turn_at, in_turn, AreSettledBy, AreFree, MayBegin, settle_from}, Steps.GoesOn, Forced.{SlotFails, IsWriteForced, IsStepForced}}
+use Rattle.mt_lives.specs.Holds.{LeadsTo, quotas_of, Holds}
+use Rattle.mt_lives.proofs.{Flushing.{keeps_rules, failures_of, within, rests_at_mark, stands_at}, TurnLogs.open_mark, Noting.{life_served, lives_so, held}, Served.{last, pairs_at}}
+use Rattle.mt_lives.proofs.{Told.{LivesOn, lives_on, slots_on}, Happening.{serves_none}}
+use Rattle.mt_lives.proofs.{Stories.{asked_now, owner_now, finished_now}, SlotReading.{with_slots, told_fault}, Returning.gave_up}
+use Rattle.mt_lives.proofs.Bases.{is_come, turning_rests, settled_newest, base_made, written_elsewhere, newly_written, ended_either}
+use Rattle.mt_lives.proofs.Checking.{base_now, parts_stay, holds_with, holds_same, begins_in, ends_in_doubt, ends_in, serves_so, is_walk, is_base}
+
+-- when a turn began that is made
+pub began : (check : Option ℕ) (n : ℕ) → BeganBy check n → (begun : ℕ) × (check ≡ Some begun) × (begun ≤ n)
+began None n by = absurd by
+began (Some begun) n by = (begun, refl, by)
+
+-- it began no later than any later step
+began_by : (check : Option ℕ) (m n : ℕ) → m ≤ n → BeganBy check m → BeganBy check n
+began_by None m n le by = by
+began_by (Some begun) m n le by = omega (arith, le, by)
+
+-- so one is made
+pub is_made : (check : Option ℕ) (n : ℕ) → BeganBy check n → check ≢ None
+is_made check n by none = let b = began check n by in no_some b.0 (sym none ∙ b.1)
 
 -- a checkpoint that began after so many steps stands, if its slot was told that it did
 stands_from : (accounts : Accounts) (check : Option ℕ) (now : Result Life Past) (shown : List SlotNow) (history : List Placed) (steps first : ℕ) (c : Check) (mays : Mays) (pairs : List TenantPair)
-    → check ≡ Some first → shown ≡ map slot_now (in_order mays) → KeepsWriting keeps_rules mem_state failures_of mays first pairs c.writing
-    → Finds history first steps c.walk (pairs ++ pending c.stage) → c.walk.tenants.items ≡ numbers_of accounts
-    → Rattle.mt_lives.specs.Checks.HasScanNow now first c.walk c.stage → LiveSlotsStand accounts check now shown history steps (Writes c)
-stands_from accounts check now shown history steps first c mays pairs is shown_so keeps found all scan =
+    → BeganBy check first → shown ≡ map slot_now (in_order mays) → KeepsWriting keeps_rules mem_state failures_of mays first pairs c.writing
+    → Finds history first steps c.walk (pairs ++ pending c.stage) → c.walk.tenants.items ≡ numbers_of accounts → 0 < length (numbers_of accounts) → (c.walk.place ≡ 0) ⊎ (first < steps)
+    → HasScanNow now first c.walk c.stage → LiveSlotsStand accounts check now shown history steps (Writes c)
+stands_from accounts check now shown history steps first c mays pairs is shown_so keeps found all some moved scan =
     let same : first ≡ first_of c = sym keeps.first_is in (
-      is ∙ ap Some same,
+      subst (BeganBy check) same is,
       record {
         mays = mays;
         shown_so = shown_so;
@@ -55,9 +70,26 @@ stands_from accounts check now shown history steps first c mays pairs is shown_s
         keeps = subst (λ n. KeepsWriting keeps_rules mem_state failures_of mays n pairs c.writing) same keeps;
         found = subst (λ n. Finds history n steps c.walk (pairs ++ pending c.stage)) same found;
         all = all;
-        scan = subst (λ n. Rattle.mt_lives.specs.Checks.HasScanNow now n c.walk c.stage) same scan;
+        some = some;
+        moved = subst (λ n. (c.walk.place ≡ 0) ⊎ (n < steps)) same moved;
+        scan = subst (λ n. HasScanNow now n c.walk c.stage) same scan;
       },
     )
+
+-- a checkpoint is written as it was, whatever comes next in its walk
+still_writing : (turning : Turning) (s : Store) (was is : Check) → is.writing.writer.first ≡ was.writing.writer.first → is.writing.newest ≡ was.writing.newest → IsWriting turning s was
+    → IsWriting turning s is
+still_writing turning s was is first newest w = record {
+  begun = record { all = w.begun.all; starts = subst (λ n. turning.starts ≤ n) (sym first) w.begun.starts };
+  covers = subst (λ n. turning.whole.starts ≤ n) (sym first) w.covers;
+  reached = subst (λ n. s.reached ≤ n) (sym first) w.reached;
+  base = subst (λ (n : Option Slot). NewestIsBase n s turning.whole.starts) (sym newest) w.base;
+}
+
+-- a list that is not empty has a first one
+no_first : (xs : List ℕ) → 0 < length xs → slice_get xs 0 ≡ None → ⊥
+no_first [] some none = absurd (omega (arith, some))
+no_first (x ∷ xs) some none = no_some x (sym none)
 
 -- the scan of a tenant
 abbrev scan_of : Bytes → Bool → ℕ → ℕ × Command
@@ -79,45 +111,134 @@ module _ (accounts : Accounts) (standing : Standing) (logs : List (StoreLog MemD
   abbrev pub Goes : StoreEvent → StoreNote → LiveSlots → Serving → Type 0
   Goes event note now_slots now = (next : Standing) × IsNoted (quotas_of accounts) standing event note next × Holds accounts now_slots next logs (Some now)
 
-  -- ---- a checkpoint begins
+  -- ---- a turn begins
+
+  -- what every log goes by, each reaches
+  settled_by : (slots : LiveSlots) (h : Holds accounts slots standing logs (Some serving)) (owed : ℕ) → AreSettledBy owed logs → AllReach owed h.s
+  settled_by slots h owed (inl none) = λ worker now there front left. omega (arith, none)
+  settled_by slots h owed (inr all) = λ worker now there front left.
+      let log = within_place logs worker (subst (λ n. worker < n) h.count (within h.s.logs worker now there)) in
+      let part = part_of h.turning worker in
+      let at = stands_at h.from part h.s serving.state.logs worker now log.0 ((held accounts slots standing logs serving h).each worker now log.0 there log.1) in
+      let up = all worker log.0 log.1 in
+      let o = open_mark h.from part now log.0 up.0 at up.1 in
+      let reaches = rests_at_mark now up.0 o.0 (sym o.1) front left in
+      omega (arith, up.2, reaches)
 
   module _ (slots : StoreSlots MemDisk) (h : Holds accounts (Rest slots) standing logs (Some serving)) where
-    lives : IsServing standing
-    lives = (life_served accounts (Rest slots) standing logs serving h, lives_so accounts (Rest slots) standing logs serving h)
+    resting : IsServing standing
+    resting = (life_served accounts (Rest slots) standing logs serving h, lives_so accounts (Rest slots) standing logs serving h)
 
-    pub begins_refused : (e : Refusal) → IsMemoryOrDevice e → Goes CheckBegin (Refused e) (Rest slots) serving
-    begins_refused e memory = (standing, (lives, h.stand.0, memory, refl), h)
-
-    pub begin_fails : (new : StoreSlots MemDisk) → FailsToBeginIn keeps_rules mem_state failures_of slots new → Goes CheckBegin (Refused Rattle.mt_rows.specs.declared.refusal.Refusal.TheVariants.Device) (Rest new) serving
-    begin_fails new fails =
-        let stand = h.stand.1 in
-        let slot = next_slot slots.newest in (
-          standing,
-          (lives, h.stand.0, inr refl, refl),
-          holds_with accounts (Rest slots) standing logs serving h (map slot_now (in_order (or_none slot stand.mays))) standing.check (Rest new)
-              (begins_in h.s stand.mays slot stand.shown (serves_so accounts (Rest slots) standing logs serving h))
-              (h.stand.0, record { mays = or_none slot stand.mays; shown = refl; keeps = not_begun keeps_rules mem_state failures_of stand.mays slots new stand.keeps fails }),
-        )
-
-    pub begin_goes : (steps : ℕ) (writing : Checkpointing MemDisk) (walk : PageWalk) → serving.state.steps ≡ steps → Begins keeps_rules mem_state failures_of slots steps writing
-        → Rise walk.tenants.items → walk.place ≡ 0 → walk.from ≡ [] → walk.after ≡ false → walk.tenants.items ≡ numbers_of accounts
-        → Goes CheckBegin (CheckBegun steps) (Writes (check_with writing walk BeginsNext)) serving
-    begin_goes steps writing walk is b rise place from after all =
-        let stand = h.stand.1 in
-        let slot = next_slot slots.newest in
+    rest_begins : AreSettledBy slots.owed logs → 0 < length (numbers_of accounts) → (steps : ℕ) → serving.state.steps ≡ steps
+        → Goes CheckBegin (CheckBegun steps) (Turns (turn_at slots (BeginsAt 0))) serving
+    rest_begins settled some steps is =
         let life = life_served accounts (Rest slots) standing logs serving h in
         let was = held accounts (Rest slots) standing logs serving h in
         let count = last accounts life h.s serving.state (named serving.roster.tickets) was.serves in
-        let now_steps : h.s.steps ≡ steps = sym was.serves.steps ∙ is in
-        let found : Finds h.s.history steps h.s.steps walk [] =
-        subst (λ n. Finds h.s.history steps n walk []) (sym now_steps) (begins_at h.s.history steps walk rise place from after) in (
+        let made = was.serves.steps in
+        let base = base_now accounts (Rest slots) standing logs serving h in (
           checking (Some steps) standing,
           (life, lives_so accounts (Rest slots) standing logs serving h, sym (count ∙ is), h.stand.0, refl),
-          holds_with accounts (Rest slots) standing logs serving h (map slot_now (in_order (or_none slot stand.mays))) (Some steps) (Writes (check_with writing walk BeginsNext))
-              (begins_in h.s stand.mays slot stand.shown (serves_so accounts (Rest slots) standing logs serving h))
-              (stands_from accounts (Some steps) standing.now (map slot_now (in_order (or_none slot stand.mays))) h.s.history h.s.steps steps (check_with writing walk BeginsNext) (or_none slot stand.mays) []
-              refl refl (begun keeps_rules mem_state failures_of stand.mays steps slots writing stand.keeps b) found all
-              (subst (λ (n : Result Life Past). Rattle.mt_lives.specs.Checks.HasScanNow n steps walk BeginsNext) (sym (lives_so accounts (Rest slots) standing logs serving h)) tt)),
+          holds_same accounts (Rest slots) standing logs serving h h.turning (parts_stay accounts (Rest slots) standing logs serving h) (Some steps) (Turns (turn_at slots (BeginsAt 0))) base.0
+              (omega arith, omega arith, settled_newest slots.newest slots.owed h.s h.turning.whole.starts base.1 (settled_by (Rest slots) h slots.owed settled))
+              (omega (arith, is, made), some, h.stand.1),
+        )
+
+    rest_refused : Goes CheckBegin (Refused Memory) (Rest slots) serving
+    rest_refused = (standing, (resting, h.stand.0, refl, refl), h)
+
+  -- if one may
+  pub turn_begins : (slots : LiveSlots) → MayBegin accounts logs slots → (steps : ℕ) → serving.state.steps ≡ steps → Holds accounts slots standing logs (Some serving)
+      → Goes CheckBegin (CheckBegun steps) (in_turn slots) serving
+  turn_begins (Rest slots) may steps is h = rest_begins slots h may.0 may.1 steps is
+  turn_begins (Turns turn) may steps is h = absurd may.0
+  turn_begins (Writes check) may steps is h = absurd may.0
+  turn_begins Away may steps is h = absurd may.0
+
+  pub turn_refused : (slots : LiveSlots) → AreFree logs slots → Holds accounts slots standing logs (Some serving) → Goes CheckBegin (Refused Memory) slots serving
+  turn_refused (Rest slots) free h = rest_refused slots h
+  turn_refused (Turns turn) free h = absurd free
+  turn_refused (Writes check) free h = absurd free
+  turn_refused Away free h = absurd free
+
+  -- ---- its checkpoint begins
+
+  module _ (slots : StoreSlots MemDisk) (log : ℕ) (all_so : length logs ≡ log) (h : Holds accounts (Turns (turn_at slots (BeginsAt log))) standing logs (Some serving)) where
+    abbrev turning_slots : LiveSlots
+    turning_slots = Turns (turn_at slots (BeginsAt log))
+
+    lives : IsServing standing
+    lives = (life_served accounts turning_slots standing logs serving h, lives_so accounts turning_slots standing logs serving h)
+
+    is_come_so : IsStore h.s
+    is_come_so = is_come (length logs) h.s h.some h.few h.come
+
+    abbrev begun_mays : Mays
+    begun_mays = or_none (next_slot slots.newest) h.stand.2.mays
+
+    abbrev begun_shown : List SlotNow
+    begun_shown = map slot_now (in_order begun_mays)
+
+    begun_leads : LeadsTo h.s (with_slots begun_shown h.s)
+    begun_leads = begins_in h.s h.stand.2.mays (next_slot slots.newest) h.stand.2.shown (serves_so accounts turning_slots standing logs serving h)
+
+    -- no base is in the slot where it begins
+    begun_base : (newest : Option Slot) → newest ≡ slots.newest → NewestIsBase newest (with_slots begun_shown h.s) h.turning.whole.starts
+    begun_base newest same =
+        let mays = h.stand.2.mays in
+        subst (λ (n : Option Slot). NewestIsBase n (with_slots begun_shown h.s) h.turning.whole.starts) (sym same)
+        (written_elsewhere slots.newest h.turning.whole.starts h.s (with_slots begun_shown h.s) mays (None ∷ at (next_slot slots.newest) mays)
+        is_come_so begun_leads h.stand.2.shown refl
+        (base_now accounts turning_slots standing logs serving h).1.2)
+
+    pub begin_refused : Goes CheckStep (Refused Memory) (Rest slots) serving
+    begin_refused = (
+      checking None standing,
+      (lives, is_made standing.check h.s.steps h.stand.0, inl (inl refl), refl),
+      gave_up accounts turning_slots slots standing logs (Some serving) refl h,
+    )
+
+    pub begin_fails : (new : StoreSlots MemDisk) → FailsToBeginIn keeps_rules mem_state failures_of slots new → Goes CheckStep (Refused Device) (Rest new) serving
+    begin_fails new fails =
+        let stand = h.stand.2 in (
+          checking None standing,
+          (lives, is_made standing.check h.s.steps h.stand.0, inl (inr refl), refl),
+          holds_with accounts turning_slots standing logs serving h h.turning (parts_stay accounts turning_slots standing logs serving h) begun_shown None (Rest new) begun_leads
+              (base_now accounts turning_slots standing logs serving h).0
+              (inl (begun_base new.newest fails.newest))
+              (refl, record { mays = begun_mays; shown = refl; keeps = not_begun keeps_rules mem_state failures_of stand.mays slots new stand.keeps fails }),
+        )
+
+    pub begin_goes : (steps : ℕ) (writing : Checkpointing MemDisk) (walk : PageWalk) → serving.state.steps ≡ steps → BeginsIn keeps_rules mem_state failures_of slots steps writing
+        → Rise walk.tenants.items → walk.place ≡ 0 → walk.from ≡ [] → walk.after ≡ false → walk.tenants.items ≡ numbers_of accounts
+        → Goes CheckStep (CheckWrites steps) (Writes (check_with writing walk BeginsNext)) serving
+    begin_goes steps writing walk is b rise place from after all =
+        let stand = h.stand.2 in
+        let life = life_served accounts turning_slots standing logs serving h in
+        let was = held accounts turning_slots standing logs serving h in
+        let count = last accounts life h.s serving.state (named serving.roster.tickets) was.serves in
+        let base = base_now accounts turning_slots standing logs serving h in
+        let now_steps : h.s.steps ≡ steps = sym was.serves.steps ∙ is in
+        let made = began standing.check h.s.steps h.stand.0 in
+        let first_is : writing.writer.first ≡ steps = b.begun.first_is in
+        let over = base_made slots.newest h.s h.turning.whole.starts is_come_so base.1.2 in
+        let beyond = is_come_so.beyond in
+        let begun_so : IsWriting h.turning (with_slots begun_shown h.s) (check_with writing walk BeginsNext) = record {
+          begun = record { all = omega (arith, h.count, all_so, base.1.0); starts = omega (arith, base.0, now_steps, first_is) };
+          covers = omega (arith, over, now_steps, first_is);
+          reached = omega (arith, beyond, now_steps, first_is);
+          base = begun_base writing.newest b.newest;
+        } in
+        let found : Finds h.s.history steps h.s.steps walk [] =
+        subst (λ n. Finds h.s.history steps n walk []) (sym now_steps) (begins_at h.s.history steps walk rise place from after) in (
+          standing,
+          (life, made.0, lives_so accounts turning_slots standing logs serving h, made.1, omega (arith, made.2, now_steps), sym (count ∙ is), refl),
+          holds_with accounts turning_slots standing logs serving h h.turning (parts_stay accounts turning_slots standing logs serving h) begun_shown standing.check
+              (Writes (check_with writing walk BeginsNext)) begun_leads base.0 begun_so
+              (stands_from accounts standing.check standing.now begun_shown h.s.history h.s.steps steps (check_with writing walk BeginsNext) begun_mays []
+              (began_by standing.check h.s.steps steps (omega (arith, now_steps)) h.stand.0) refl
+              (begun keeps_rules mem_state failures_of stand.mays steps slots writing stand.keeps b) found all h.stand.1 (inl place)
+              (subst (λ (n : Result Life Past). HasScanNow n steps walk BeginsNext) (sym (lives_so accounts turning_slots standing logs serving h)) tt)),
         )
 
   -- ---- it goes on
@@ -136,13 +257,16 @@ module _ (accounts : Accounts) (standing : Standing) (logs : List (StoreLog MemD
     stand = h.stand.1
 
     open_so : standing.check ≢ None
-    open_so e = no_some (first_of c) (sym e ∙ h.stand.0)
+    open_so = is_made standing.check (first_of c) h.stand.0
+
+    writes_so : IsWriting h.turning h.s c
+    writes_so = (base_now accounts (Writes c) standing logs serving h).1
 
     -- it is given up
     pub given_so : (e : Refusal) → IsMemoryOrDevice e → Goes CheckStep (Refused e) (Rest (given_up writing)) serving
     given_so e memory = (
       checking None standing,
-      (lives_now, open_so, memory, refl),
+      (lives_now, open_so, inl memory, refl),
       gave_up accounts (Writes c) (given_up writing) standing logs (Some serving) refl h,
     )
 
@@ -156,22 +280,30 @@ module _ (accounts : Accounts) (standing : Standing) (logs : List (StoreLog MemD
       stands = slots_on accounts (Writes c) standing logs serving h now e told on
 
       -- after which it goes on
-      told_on : (next : LiveSlots) → LiveSlotsStand accounts standing.check (Ok (with_event life e told)) on.t.slots on.t.history on.t.steps next → Goes CheckStep (CheckTold told) next now
-      told_on next stand = (
+      told_on : (next : LiveSlots) → IsTurning h.from h.turning next on.t → LiveSlotsStand accounts standing.check (Ok (with_event life e told)) on.t.slots on.t.history on.t.steps next
+          → Goes CheckStep (CheckTold told) next now
+      told_on next base stand = (
         living (with_event life e told) standing,
         (life, e, lives_so accounts (Writes c) standing logs serving h, open_so, of_scan, on.order, inl refl),
-        on.holds next standing.check stand,
+        on.holds next standing.check base stand,
       )
 
+      -- with whatever the walk does next
+      told_writes : (next : PageWalk) (then : CheckStage)
+          → LiveSlotsStand accounts standing.check (Ok (with_event life e told)) on.t.slots on.t.history on.t.steps (Writes (check_with writing next then))
+          → Goes CheckStep (CheckTold told) (Writes (check_with writing next then)) now
+      told_writes next then stand = told_on (Writes (check_with writing next then)) (still_writing h.turning on.t c (check_with writing next then) refl refl on.turning) stand
+
       pub told_same : Goes CheckStep (CheckTold told) (Writes c) now
-      told_same = told_on (Writes c) stands
+      told_same = told_on (Writes c) on.turning stands
 
       -- or is given up
       pub told_given_up : Goes CheckStep (CheckTold told) (Rest (given_up writing)) now
       told_given_up = (
         living (with_event life e told) (checking None standing),
         (life, e, lives_so accounts (Writes c) standing logs serving h, open_so, of_scan, on.order, inr refl),
-        on.holds (Rest (given_up writing)) None (refl, record { mays = stands.1.mays; shown = stands.1.shown_so; keeps = stands.1.keeps.slots }),
+        on.holds (Rest (given_up writing)) None (turning_rests h.from h.turning (Writes c) (given_up writing) on.t refl on.turning)
+            (refl, record { mays = stands.1.mays; shown = stands.1.shown_so; keeps = stands.1.keeps.slots }),
       )
 
   -- ---- a scan begins
@@ -201,7 +333,7 @@ module _ (accounts : Accounts) (standing : Standing) (logs : List (StoreLog MemD
           since = λ m own.
               absurd (was.serves.history.owners m name (sym (owner_now life_now.base life_now.run name 0 tenant (Scan walk.from walk.after 64 []) m) ∙ own) free);
         } in
-        told_on writing walk BeginsNext h now begin told tells served refl (Writes (check_with writing walk (Scans name))) (
+        told_writes writing walk BeginsNext h now begin told tells served refl walk (Scans name) (
           stand.0,
           record {
             mays = stand.1.mays;
@@ -210,6 +342,8 @@ module _ (accounts : Accounts) (standing : Standing) (logs : List (StoreLog MemD
             keeps = stand.1.keeps;
             found = stand.1.found;
             all = stand.1.all;
+            some = stand.1.some;
+            moved = stand.1.moved;
             scan = subst (λ (t : Told). IsScanIn (with_event life_now begin t) (first_of (check_with writing walk BeginsNext)) walk name) (sym is) scan;
           },
         )
@@ -259,7 +393,7 @@ module _ (accounts : Accounts) (standing : Standing) (logs : List (StoreLog MemD
     life_then = life_served accounts (Writes scans) standing logs serving h
 
     scan_so : IsScanIn life_then (first_of scans) walk name
-    scan_so = subst (λ (n : Result Life Past). Rattle.mt_lives.specs.Checks.HasScanNow n (first_of scans) walk (Scans name)) (lives_so accounts (Writes scans) standing logs serving h) h.stand.1.scan
+    scan_so = subst (λ (n : Result Life Past). HasScanNow n (first_of scans) walk (Scans name)) (lives_so accounts (Writes scans) standing logs serving h) h.stand.1.scan
 
     of_scan : IsOfScan life_then (Step name)
     of_scan = (record { tenant = scan_so.tenant; command = Scan walk.from walk.after 64 [] }, scan_so.asked_so, refl)
@@ -310,6 +444,18 @@ module _ (accounts : Accounts) (standing : Standing) (logs : List (StoreLog MemD
           ∙ order.4 scan_done.tenant m from (omega (arith, upto.1, b.1.1))))
           by_order
 
+      -- its last step was made after the walk had begun
+      since_first : first_of scans < on_done.t.steps
+      since_first =
+          let story = story_in life_done in
+          let end = finished_now life_then.base life_then.run name answer in
+          let own : owner story end.0 ≡ Some name = ap (option_map (λ (x : Made). x.op)) end.1 in
+          let since = scan_done.since end.0 own in
+          let upto = (owner_in story end.0 name own).1 in
+          let count = last accounts life_done on_done.t now.state (named now.roster.tickets) on_done.serves in
+          let made = on_done.serves.steps in
+          omega (arith, since, upto, count, made)
+
       takes_page : (next : LiveSlots) → TakesPage writing walk page next → Goes CheckStep (CheckTold (Done answer)) next now
       unfolding on on_done
       takes_page next t =
@@ -319,7 +465,7 @@ module _ (accounts : Accounts) (standing : Standing) (logs : List (StoreLog MemD
           (subst (λ ps. Finds on_done.t.history (first_of scans) on_done.t.steps walk ps) nothing stands_done.1.found) scan_done.there lawful
           (recursion_from_All IsPair t.pairs.items t.limits) taken in
           subst (λ (x : LiveSlots). Goes CheckStep (CheckTold (Done answer)) x now) (sym t.stands)
-          (told_on writing walk (Scans name) h now (Step name) (Done answer) tells tt of_scan (Writes (check_with writing t.next (Adds t.pairs))) (
+          (told_writes writing walk (Scans name) h now (Step name) (Done answer) tells tt of_scan t.next (Adds t.pairs) (
             stands_done.0,
             record {
               mays = stands_done.1.mays;
@@ -328,6 +474,8 @@ module _ (accounts : Accounts) (standing : Standing) (logs : List (StoreLog MemD
               keeps = stands_done.1.keeps;
               found = found;
               all = ap (λ (v : Vec ℕ Global). v.items) taken.same ∙ stands_done.1.all;
+              some = stands_done.1.some;
+              moved = inr since_first;
               scan = tt;
             },
           ))
@@ -360,11 +508,13 @@ module _ (accounts : Accounts) (standing : Standing) (logs : List (StoreLog MemD
         let now_pairs = s.pairs ++ pairs.items in (
           standing,
           (lives_now writing walk (Adds pairs) h, open_so writing walk (Adds pairs) h, refl),
-          holds_same accounts (Writes adds) standing logs serving h standing.check (Writes (check_with new walk BeginsNext))
+          holds_same accounts (Writes adds) standing logs serving h h.turning (parts_stay accounts (Writes adds) standing logs serving h) standing.check (Writes (check_with new walk BeginsNext))
+              (base_now accounts (Writes adds) standing logs serving h).0
+              (still_writing h.turning h.s adds (check_with new walk BeginsNext) a.added.first_is a.newest (writes_so writing walk (Adds pairs) h))
               (stands_from accounts standing.check standing.now h.s.slots h.s.history h.s.steps (first_of adds) (check_with new walk BeginsNext) s.mays now_pairs h.stand.0 s.shown_so
               (added keeps_rules mem_state failures_of s.mays (first_of adds) s.pairs pairs.items writing new s.keeps a)
-              (subst (λ ps. Finds h.s.history (first_of adds) h.s.steps walk ps) (sym (append-nil now_pairs)) s.found) s.all
-              (subst (λ (n : Result Life Past). Rattle.mt_lives.specs.Checks.HasScanNow n (first_of adds) walk BeginsNext) (sym (lives_so accounts (Writes adds) standing logs serving h)) tt)),
+              (subst (λ ps. Finds h.s.history (first_of adds) h.s.steps walk ps) (sym (append-nil now_pairs)) s.found) s.all s.some s.moved
+              (subst (λ (n : Result Life Past). HasScanNow n (first_of adds) walk BeginsNext) (sym (lives_so accounts (Writes adds) standing logs serving h)) tt)),
         )
 
     pub add_fails : (fault : SlotFault) (new : StoreSlots MemDisk) → FailsToAddIn keeps_rules mem_state failures_of fault writing new
@@ -372,8 +522,10 @@ module _ (accounts : Accounts) (standing : Standing) (logs : List (StoreLog MemD
     add_fails fault new fails =
         let s = stand writing walk (Adds pairs) h in (
           checking None standing,
-          (lives_now writing walk (Adds pairs) h, open_so writing walk (Adds pairs) h, told_fault fault.cause, refl),
-          holds_same accounts (Writes adds) standing logs serving h None (Rest new)
+          (lives_now writing walk (Adds pairs) h, open_so writing walk (Adds pairs) h, inl (told_fault fault.cause), refl),
+          holds_same accounts (Writes adds) standing logs serving h h.turning (parts_stay accounts (Writes adds) standing logs serving h) None (Rest new)
+              (base_now accounts (Writes adds) standing logs serving h).0
+              (inl (subst (λ (n : Option Slot). NewestIsBase n h.s h.turning.whole.starts) (sym fails.newest) (writes_so writing walk (Adds pairs) h).base))
               (refl, record { mays = s.mays; shown = s.shown_so; keeps = not_added keeps_rules mem_state failures_of s.mays (first_of adds) s.pairs fault writing new s.keeps fails }),
         )
 
@@ -400,49 +552,96 @@ module _ (accounts : Accounts) (standing : Standing) (logs : List (StoreLog MemD
         let s = stand writing walk BeginsNext h in
         is_base accounts (Writes end_of) standing logs serving h (first_of end_of) walk s.pairs s.found none s.all
 
-    pub end_goes : (new : StoreSlots MemDisk) → Ends keeps_rules mem_state failures_of writing now new → Goes CheckStep (CheckEnded now) (Rest new) serving
+    -- it has a scan of some tenant, so a step was made since it began
+    moved_so : first_of end_of < h.s.steps
+    moved_so = by (stand writing walk BeginsNext h).moved
+      where
+        by : (walk.place ≡ 0) ⊎ (first_of end_of < h.s.steps) → first_of end_of < h.s.steps
+        by (inl at_first) =
+            let s = stand writing walk BeginsNext h in
+            absurd (no_first walk.tenants.items (subst (λ ts. 0 < length ts) (sym s.all) s.some) (subst (λ n. slice_get walk.tenants.items n ≡ None) at_first none))
+        by (inr moved) = moved
+
+    abbrev ended_mays : Mays
+    ended_mays = with (slot_of writing) (Some found_all ∷ []) (stand writing walk BeginsNext h).mays
+
+    abbrev ended_shown : List SlotNow
+    ended_shown = map slot_now (in_order ended_mays)
+
+    ended_leads : LeadsTo h.s (with_slots ended_shown h.s)
+    ended_leads =
+        let s = stand writing walk BeginsNext h in
+        ends_in h.s s.mays (slot_of writing) s.shown_so (serves_so accounts (Writes end_of) standing logs serving h) found_all s.found.made (omega arith) base_so
+
+    is_store : IsStore h.s
+    is_store = is_come (length logs) h.s h.some h.few h.come
+
+    -- it is a checkpoint of what was given up, if that began before it
+    ended_written : (starts : ℕ) → starts ≤ first_of end_of → IsWritten (with_slots ended_shown h.s) starts (number_of (slot_of writing)) (view_of_walk found_all)
+    ended_written starts le =
+        newly_written h.s (stand writing walk BeginsNext h).mays (slot_of writing) found_all starts is_store refl moved_so (writes_so writing walk BeginsNext h).reached le
+
+    ended_settling : (new : StoreSlots MemDisk) → EndsIn keeps_rules mem_state failures_of writing now new
+        → IsAtLog h.from h.turning new (with_slots ended_shown h.s) (Settles (settle_from now))
+    ended_settling new e =
+        let w = writes_so writing walk BeginsNext h in
+        let s = stand writing walk BeginsNext h in
+        let settling : IsSettling h.turning new.newest (with_slots ended_shown h.s) (settle_from now) = record {
+          slot = slot_of writing;
+          at = e.newest;
+          written = view_of_walk found_all;
+          begun = w.begun;
+          stands = ended_written h.turning.starts w.begun.starts;
+          least = omega (arith, made_so, most);
+          next = omega (arith, h.count, h.some);
+          before = λ worker lt. absurd (omega (arith, lt));
+        } in (
+          settling,
+          subst (λ (n : Option Slot). EitherIsBase n new.owed (with_slots ended_shown h.s) h.turning.whole.starts) (sym e.newest)
+              (ended_either writing new.owed h.s (with_slots ended_shown h.s) s.mays found_all h.turning.whole.starts is_store ended_leads s.shown_so refl w.base
+              (ended_written h.turning.whole.starts w.covers) (omega (arith, made_so, e.owed))),
+        )
+
+    -- all logs are settled next
+    pub end_goes : (new : StoreSlots MemDisk) → EndsIn keeps_rules mem_state failures_of writing now new → Goes CheckStep (CheckEnded now) (Turns (turn_at new (Settles (settle_from now)))) serving
     end_goes new e =
         let s = stand writing walk BeginsNext h in
-        let slot = slot_of writing in
         let life = life_served accounts (Writes end_of) standing logs serving h in
         let was = held accounts (Writes end_of) standing logs serving h in
         let count = last accounts life h.s serving.state (named serving.roster.tickets) was.serves in
-        let made = s.found.made in (
-          checking None standing,
-          (
-            life,
-            first_of end_of,
-            lives_so accounts (Writes end_of) standing logs serving h,
-            h.stand.0,
-            omega (arith, made, made_so),
-            sym (count ∙ is),
-            refl,
-          ),
-          holds_with accounts (Writes end_of) standing logs serving h (map slot_now (in_order (with slot (Some found_all ∷ []) s.mays))) None (Rest new)
-              (ends_in h.s s.mays slot s.shown_so (serves_so accounts (Writes end_of) standing logs serving h) found_all made (omega arith) base_so) (
-                refl,
+        let made = s.found.made in
+        let by = began standing.check (first_of end_of) h.stand.0 in (
+          standing,
+          (life, by.0, lives_so accounts (Writes end_of) standing logs serving h, by.1, omega (arith, by.2, made, made_so), sym (count ∙ is), refl),
+          holds_with accounts (Writes end_of) standing logs serving h h.turning (parts_stay accounts (Writes end_of) standing logs serving h) ended_shown standing.check
+              (Turns (turn_at new (Settles (settle_from now)))) ended_leads (base_now accounts (Writes end_of) standing logs serving h).0 (ended_settling new e) (
+                began_by standing.check (first_of end_of) h.s.steps made h.stand.0,
+                s.some,
                 record {
-                  mays = with slot (Some found_all ∷ []) s.mays;
+                  mays = ended_mays;
                   shown = refl;
                   keeps = ended keeps_rules mem_state failures_of s.mays found_all writing new s.keeps walk_so
-                      (subst (λ n. Ends keeps_rules mem_state failures_of writing n new) (sym made_so) e);
+                      (subst (λ n. EndsIn keeps_rules mem_state failures_of writing n new) (sym made_so) e);
                 },
               ),
         )
 
-    pub end_fails : (new : StoreSlots MemDisk) → FailsToEndIn keeps_rules mem_state failures_of writing now new
-        → Goes CheckStep (Refused Rattle.mt_rows.specs.declared.refusal.Refusal.TheVariants.Device) (Rest new) serving
+    pub end_fails : (new : StoreSlots MemDisk) → FailsToEndIn keeps_rules mem_state failures_of writing now new → Goes CheckStep (Refused Device) (Rest new) serving
     end_fails new fails =
         let s = stand writing walk BeginsNext h in
-        let slot = slot_of writing in
-        let made = s.found.made in (
+        let mays = with (slot_of writing) (None ∷ Some found_all ∷ []) s.mays in
+        let shown : List SlotNow = map slot_now (in_order mays) in
+        let leads = ends_in_doubt h.s s.mays (slot_of writing) s.shown_so (serves_so accounts (Writes end_of) standing logs serving h) found_all s.found.made (omega arith) base_so in (
           checking None standing,
-          (lives_now writing walk BeginsNext h, open_so writing walk BeginsNext h, inr refl, refl),
-          holds_with accounts (Writes end_of) standing logs serving h (map slot_now (in_order (with slot (None ∷ Some found_all ∷ []) s.mays))) None (Rest new)
-              (ends_in_doubt h.s s.mays slot s.shown_so (serves_so accounts (Writes end_of) standing logs serving h) found_all made (omega arith) base_so) (
+          (lives_now writing walk BeginsNext h, open_so writing walk BeginsNext h, inl (inr refl), refl),
+          holds_with accounts (Writes end_of) standing logs serving h h.turning (parts_stay accounts (Writes end_of) standing logs serving h) shown None (Rest new) leads
+              (base_now accounts (Writes end_of) standing logs serving h).0
+              (inl (subst (λ (n : Option Slot). NewestIsBase n (with_slots shown h.s) h.turning.whole.starts) (sym fails.newest)
+              (written_elsewhere writing.newest h.turning.whole.starts h.s (with_slots shown h.s) s.mays (None ∷ Some found_all ∷ []) is_store leads s.shown_so refl
+              (writes_so writing walk BeginsNext h).base))) (
                 refl,
                 record {
-                  mays = with slot (None ∷ Some found_all ∷ []) s.mays;
+                  mays = mays;
                   shown = refl;
                   keeps = not_ended keeps_rules mem_state failures_of s.mays found_all writing new s.keeps walk_so
                       (subst (λ n. FailsToEndIn keeps_rules mem_state failures_of writing n new) (sym made_so) fails);
@@ -459,8 +658,8 @@ module _ (accounts : Accounts) (slots now : LiveSlots) (same : slots ≡ now) (l
   stays_so : (standing : Standing) → Holds accounts slots standing logs serving → Holds accounts now standing logs serving
   stays_so standing h = subst (λ ss. Holds accounts ss standing logs serving) same h
 
-  pub unserved_begin : serving ≡ None → NoneGoes CheckBegin
-  unserved_begin none = λ standing h. (standing, (inl (serves_none accounts slots standing logs (subst (Holds accounts slots standing logs) none h)), refl), stays_so standing h)
+  pub none_begins : NoneGoes CheckBegin
+  none_begins = λ standing h. (standing, refl, stays_so standing h)
 
   pub unserved_step : serving ≡ None → NoneGoes CheckStep
   unserved_step none = λ standing h. (standing, (inl (serves_none accounts slots standing logs (subst (Holds accounts slots standing logs) none h)), refl), stays_so standing h)
@@ -469,29 +668,36 @@ module _ (accounts : Accounts) (slots now : LiveSlots) (same : slots ≡ now) (l
       → LiveSlotsStand accounts standing.check standing.now h.s.slots h.s.history h.s.steps ss
   stands_in ss is standing h = subst (LiveSlotsStand accounts standing.check standing.now h.s.slots h.s.history h.s.steps) is h.stand
 
-  pub open_begin : (check : Check) → slots ≡ Writes check → NoneGoes CheckBegin
-  open_begin check is = λ standing h.
-      let stand = stands_in (Writes check) is standing h in
-      (standing, (inr (λ e. no_some (first_of check) (sym e ∙ stand.0)), refl), stays_so standing h)
-
   pub rest_step : (rest : StoreSlots MemDisk) → slots ≡ Rest rest → NoneGoes CheckStep
   rest_step rest is = λ standing h. (standing, (inr (stands_in (Rest rest) is standing h).0, refl), stays_so standing h)
-
-  pub away_begin : slots ≡ Away → NoneGoes CheckBegin
-  away_begin is = λ standing h. absurd (stands_in Away is standing h)
 
   pub away_step : slots ≡ Away → NoneGoes CheckStep
   away_step is = λ standing h. absurd (stands_in Away is standing h)
 
+-- ---- a turn begins, if one may
+
+module _ (accounts : Accounts) (slots : LiveSlots) (logs : List (StoreLog MemDisk)) (was : Option Serving) (serving : Serving) (is : was ≡ Some serving) where
+  pub begins_on : (new : LiveSlots) (steps : ℕ) → new ≡ in_turn slots → steps ≡ serving.state.steps → AreFree logs slots → 0 < length (numbers_of accounts)
+      → GoesOn accounts slots new CheckBegin (CheckBegun steps) logs was logs was
+  begins_on new steps begun made free some =
+      subst (λ (s : Option Serving). GoesOn accounts slots new CheckBegin (CheckBegun steps) logs s logs s) (sym is)
+      (subst (λ (ss : LiveSlots). GoesOn accounts slots ss CheckBegin (CheckBegun steps) logs (Some serving) logs (Some serving)) (sym begun)
+      (λ standing h. turn_begins accounts standing logs serving slots (free, some) steps (sym made) h))
+
+  pub refuses_on : AreFree logs slots → GoesOn accounts slots slots CheckBegin (Refused Memory) logs was logs was
+  refuses_on free =
+      subst (λ (s : Option Serving). GoesOn accounts slots slots CheckBegin (Refused Memory) logs s logs s) (sym is)
+      (λ standing h. turn_refused accounts standing logs serving slots free h)
+
 -- ---- whose disk failed
 
 module _ (old new : StoreSlots MemDisk) where
-  pub begin_forced : FailsToBeginIn keeps_rules mem_state failures_of old new → SlotFails (Rest old) (Rest new)
-  begin_forced fails = (old, new, refl, refl, (next_slot old.newest, fails.fails.count))
+  pub begin_forced : (stage : TurnStage) → FailsToBeginIn keeps_rules mem_state failures_of old new → SlotFails (Turns (turn_at old stage)) (Rest new)
+  begin_forced stage fails = (old, new, refl, refl, (next_slot old.newest, fails.fails.count))
 
 module _ (writing : Checkpointing MemDisk) (walk : PageWalk) (stage : CheckStage) (new : StoreSlots MemDisk) where
   this_disk : disk_of (slot_of writing) (given_up writing) ≡ writing.writer.disk
-  this_disk = with-this (slot_of writing) writing.writer.disk writing.other writing.newest
+  this_disk = with-this (slot_of writing) writing.writer.disk writing.other writing.newest writing.owed
 
   fails_from : GoesUp writing.writer.disk.failures (disk_of (slot_of writing) new).failures → SlotFails (Writes (check_with writing walk stage)) (Rest new)
   fails_from up =
@@ -501,9 +707,14 @@ module _ (writing : Checkpointing MemDisk) (walk : PageWalk) (stage : CheckStage
   end_forced steps fails = fails_from fails.fails.count
 
   pub add_forced : (cause : FaultCause) → FailsToAdd keeps_rules mem_state failures_of writing.writer (as_write_fault cause (disk_of (slot_of writing) new))
-      → IsCheckForced (Refused (refusal_for cause)) (Writes (check_with writing walk stage)) (Rest new)
+      → IsWriteForced (Refused (refusal_for cause)) (Writes (check_with writing walk stage)) (Rest new)
   add_forced FaultCauses.Device fails = fails_from fails.1
   add_forced FaultCauses.Memory fails = tt
+
+-- a checkpoint begins after the last log's part
+pub writes_forced : (slots : StoreSlots MemDisk) (log : ℕ) (logs : List (StoreLog MemDisk)) (check : Check) (steps : ℕ) → length logs ≡ log → first_of check ≡ steps
+    → IsStepForced (CheckWrites steps) (Turns (turn_at slots (BeginsAt log))) (Writes check) logs logs
+writes_forced slots log logs check steps all first = (check, ap BeginsAt (sym all), refl, first, refl)
 
 -- ---- by the stage
 
@@ -520,12 +731,12 @@ next_goes writing walk stage at serving now (Ok r) is goes = λ accounts logs.
     subst (λ (s : CheckStage). GoesOn accounts (Writes (check_with writing walk s)) r.0 CheckStep r.1 logs (Some serving) logs (Some now)) (sym is) (goes accounts logs)
 next_goes writing walk stage at serving now (Err e) is goes = tt
 
-pub step_served : {E : Type 0} (slots now_slots : LiveSlots) (was : Option Serving) (serving now : Serving) (result : Result StoreNote E) → was ≡ Some serving
-    → IfOk result (λ note. (accounts : Accounts) (logs : List (StoreLog MemDisk)) → GoesOn accounts slots now_slots CheckStep note logs (Some serving) logs (Some now))
-    → IfOk result (λ note. (accounts : Accounts) (logs : List (StoreLog MemDisk)) → GoesOn accounts slots now_slots CheckStep note logs was logs (Some now))
-step_served slots now_slots was serving now (Ok note) is goes = λ accounts logs.
-    subst (λ (s : Option Serving). GoesOn accounts slots now_slots CheckStep note logs s logs (Some now)) (sym is) (goes accounts logs)
-step_served slots now_slots was serving now (Err e) is goes = tt
+pub step_served : {E : Type 0} (accounts : Accounts) (slots now_slots : LiveSlots) (old new : List (StoreLog MemDisk)) (was : Option Serving) (serving now : Serving) (result : Result StoreNote E)
+    → was ≡ Some serving → IfOk result (λ note. GoesOn accounts slots now_slots CheckStep note old (Some serving) new (Some now))
+    → IfOk result (λ note. GoesOn accounts slots now_slots CheckStep note old was new (Some now))
+step_served accounts slots now_slots old new was serving now (Ok note) is goes =
+    subst (λ (s : Option Serving). GoesOn accounts slots now_slots CheckStep note old s new (Some now)) (sym is) goes
+step_served accounts slots now_slots old new was serving now (Err e) is goes = tt
 
 -- the pairs that are pending have keys
 pub keys_pending : (accounts : Accounts) (standing : Standing) (logs : List (StoreLog MemDisk)) (serving : Serving) (writing : Checkpointing MemDisk) (walk : PageWalk) (pairs : Vec TenantPair Global)

@@ -1,5 +1,5 @@
 -- A checkpoint of a store that serves a life: how the slots change, and what is found at its end.
-use Rattle.std.proofs.Common.{◌≡◌, ℕ, suc, ◌≤◌, ◌^◌, Bool, true, false, cond, eqb, List, [], ◌∷◌, ◌++◌, map, length, Option, Some, None, Result, refl, sym, ap, subst, ◌∙◌, arith, inl, inr}
+use Rattle.std.proofs.Common.{◌≡◌, ℕ, suc, ◌<◌, ◌≤◌, ◌^◌, Bool, true, false, cond, eqb, List, [], ◌∷◌, ◌++◌, map, length, Option, Some, None, Result, refl, sym, ap, subst, ◌∙◌, arith, inl, inr}
 use Rattle.std.proofs.lemmas.{Bool.eqb-true, Bool.Decides.nat_tests, List.append-nil}
 use Rattle.std.specs.{Prelude.{slice_get, slice_set}, Option.option_map, Ordering.{nat_cmp, is_eq}, FinMap.get}
 use Rattle.mt_rows.specs.{Stamps.Stamped, Accounts.{Accounts, account_of, numbers_of}, TenantPairs.{quota_in, pairs_of}, declared.record.TenantPair.TenantPair, declared.record.Batch.Batch}
@@ -13,25 +13,55 @@ use Rattle.mt_slots.specs.{Places.{at, with, in_order, number_of}, Keeps.{Mays}}
 use Rattle.mt_store_logs.specs.declared.store_log.StoreLog.{StoreLog}
 use Rattle.mt_pages.specs.{declared.walk.PageWalk.PageWalk, Walked.{Finds, OthersAreEmpty}}
 use Rattle.mt_pages.proofs.Based.{walk_is, are_walked}
-use Rattle.mt_lives.specs.{declared.live_slots.LiveSlots.LiveSlots}
+use Rattle.mt_chain_files.specs.Turns.{FilesNow}
+use Rattle.mt_lives.specs.{declared.live_slots.LiveSlots.LiveSlots, Turning.{IsPart, Turning, part_of, IsTurning, StandsOnBase}}
 use Rattle.mt_lives.specs.{declared.serving.Serving.Serving, Lives.{Life, Past, Standing, checking}, Checks.{LiveSlotsStand}}
-use Rattle.mt_lives.specs.Holds.{LeadsTo, HoldsKept, HoldsServing, HoldsNow, KeepsAll, Holds}
-use Rattle.mt_lives.proofs.{Comes.{set_there, set_twice, stays_here, one_more, comes_on}, Logged.{all_on, settles_on}}
+use Rattle.mt_lives.specs.Holds.{LeadsTo, HoldsKept, IsLogAt, EachLog, HoldsServing, HoldsNow, KeepsAll, Holds}
+use Rattle.mt_lives.proofs.{Comes.{set_there, set_twice, stays_here, one_more, comes_on}, Flushing.within, Logged.{all_on, settles_on}}
 use Rattle.mt_lives.proofs.{Noting.{life_served, lives_so, held}, SlotReading.with_slots}
 
 -- ---- other slots of a store that serves
 
 module _ (accounts : Accounts) (slots : LiveSlots) (standing : Standing) (logs : List (StoreLog MemDisk)) (serving : Serving) (h : Holds accounts slots standing logs (Some serving)) where
-  -- all of it holds with other slots, to which things led
-  pub holds_with : (shown : List SlotNow) (check : Option ℕ) (now : LiveSlots) → LeadsTo h.s (with_slots shown h.s)
-      → LiveSlotsStand accounts check standing.now shown h.s.history h.s.steps now → Holds accounts now (checking check standing) logs (Some serving)
-  holds_with shown check now leads stand =
+  -- how far its turn is, and on what base
+  pub base_now : (h.turning.starts ≤ h.s.steps) × IsTurning h.from h.turning slots h.s
+  base_now = subst (λ (n : Result Life Past). StandsOnBase n h.from h.turning slots h.s) (lives_so accounts slots standing logs serving h) h.base
+
+  -- each worker's files have their part of this turn too
+  abbrev pub HaveParts : Turning → Type 0
+  HaveParts turning = (worker : ℕ) (files : FilesNow) → worker < length h.s.logs → IsPart h.from (part_of h.turning worker) files → IsPart h.from (part_of turning worker) files
+
+  pub parts_stay : HaveParts h.turning
+  parts_stay worker files among part = part
+
+  -- so the logs stand in it, with whatever slots
+  each_on : (turning : Turning) (shown : List SlotNow) → HaveParts turning
+      → EachLog (λ worker. IsLogAt h.from (part_of turning worker) (with_slots shown h.s) serving.state.logs worker) (with_slots shown h.s) logs
+  each_on turning shown parts worker now log is_now is_log =
+      let a = (held accounts slots standing logs serving h).each worker now log is_now is_log in
+      record {
+        files = a.files;
+        stands = a.stands;
+        begins = parts worker a.files (within h.s.logs worker now is_now) a.begins;
+        given_so = a.given_so;
+        kept = kept_on worker log.kept a.kept;
+      }
+    where
+      kept_on : (worker : ℕ) (kept : Option Batch) → HoldsKept h.s worker kept → HoldsKept (with_slots shown h.s) worker kept
+      kept_on worker None k = k
+      kept_on worker (Some b) k = record { made = k.made; records = k.records }
+
+  -- all of it holds with other slots, to which things led, and with another turn
+  pub holds_with : (turning : Turning) → HaveParts turning → (shown : List SlotNow) (check : Option ℕ) (now : LiveSlots) → LeadsTo h.s (with_slots shown h.s) → turning.starts ≤ h.s.steps
+      → IsTurning h.from turning now (with_slots shown h.s) → LiveSlotsStand accounts check standing.now shown h.s.history h.s.steps now
+      → Holds accounts now (checking check standing) logs (Some serving)
+  holds_with turning parts shown check now leads starts base stand =
       let s = h.s in
       let t = with_slots shown s in
       let count = length logs in
       let life = life_served accounts slots standing logs serving h in
       let was = held accounts slots standing logs serving h in
-      let holds_now : HoldsServing h.from h.whole accounts standing.begun life t logs serving = record {
+      let holds_now : HoldsServing h.from turning accounts standing.begun life t logs serving = record {
         serves = record {
           serving = was.serves.serving;
           steps = was.serves.steps;
@@ -48,45 +78,29 @@ module _ (accounts : Accounts) (slots : LiveSlots) (standing : Standing) (logs :
           reach = all_on count life.base s t h.some h.few h.come leads was.serves.reach;
         };
         by_id = was.by_id;
-        each = λ worker now log is_now is_log.
-            let a = was.each worker now log is_now is_log in
-            record { files = a.files; stands = a.stands; begins = a.begins; given_so = a.given_so; kept = kept_on worker log.kept a.kept };
+        each = each_on turning shown parts;
+        turns_to = was.turns_to;
         settles = settles_on count s t h.some h.few h.come leads (omega arith) refl standing.begun serving.settles was.settles;
       } in
       record {
         s = t;
         from = h.from;
-        whole = h.whole;
+        turning = turning;
         some = h.some;
         few = h.few;
         come = comes_on count s t h.come leads;
         count = h.count;
         stand = stand;
+        base = subst (λ (n : Result Life Past). StandsOnBase n h.from turning now t) (sym (lives_so accounts slots standing logs serving h)) (starts, base);
         settled = all_on count standing.settled s t h.some h.few h.come leads h.settled;
         keeps = h.keeps;
-        now = subst (λ (n : Result Life Past). HoldsNow h.from h.whole accounts standing.begun n t logs (Some serving)) (sym (lives_so accounts slots standing logs serving h)) holds_now;
+        now = subst (λ (n : Result Life Past). HoldsNow h.from turning accounts standing.begun n t logs (Some serving)) (sym (lives_so accounts slots standing logs serving h)) holds_now;
       }
-    where
-      kept_on : (worker : ℕ) (kept : Option Batch) → HoldsKept h.s worker kept → HoldsKept (with_slots shown h.s) worker kept
-      kept_on worker None k = k
-      kept_on worker (Some b) k = record { made = k.made; records = k.records }
 
-  -- or with the same ones
-  pub holds_same : (check : Option ℕ) (now : LiveSlots) → LiveSlotsStand accounts check standing.now h.s.slots h.s.history h.s.steps now
-      → Holds accounts now (checking check standing) logs (Some serving)
-  holds_same check now stand = record {
-    s = h.s;
-    from = h.from;
-    whole = h.whole;
-    some = h.some;
-    few = h.few;
-    come = h.come;
-    count = h.count;
-    stand = stand;
-    settled = h.settled;
-    keeps = h.keeps;
-    now = h.now;
-  }
+  -- or with what the same slots stand by
+  pub holds_same : (turning : Turning) → HaveParts turning → (check : Option ℕ) (now : LiveSlots) → turning.starts ≤ h.s.steps → IsTurning h.from turning now h.s
+      → LiveSlotsStand accounts check standing.now h.s.slots h.s.history h.s.steps now → Holds accounts now (checking check standing) logs (Some serving)
+  holds_same turning parts check now starts base stand = holds_with turning parts h.s.slots check now (stays_here h.s h.s refl) starts base stand
 
 -- ---- one slot
 

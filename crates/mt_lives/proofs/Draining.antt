@@ -37,6 +37,7 @@ module _ (accounts : Accounts) (slots : LiveSlots) (standing : Standing) (worker
     pub holds : Holds accounts slots standing (slice_set logs worker log) (Some now)
     pub none : log.kept ≡ None
     pub settles : now.settles ≡ was.settles
+    pub generation : now.generation ≡ was.generation
     pub steps : now.state.steps ≡ was.state.steps
 
   module _ (logs : List (StoreLog MemDisk)) (was : Serving) (here : (log : StoreLog MemDisk) → slice_get (slice_set logs worker log) worker ≡ Some log) where
@@ -54,6 +55,7 @@ module _ (accounts : Accounts) (slots : LiveSlots) (standing : Standing) (worker
           holds = twice log new next a.0.again;
           none = d.appended.does.appends.none;
           settles = d.given.settles ∙ r.settles;
+          generation = d.given.generation ∙ r.generation;
           steps = ap (λ (v : StateView). v.steps) d.given.state.stands ∙ r.steps;
         }
 
@@ -69,6 +71,7 @@ module _ (accounts : Accounts) (slots : LiveSlots) (standing : Standing) (worker
       pub holds : Holds accounts slots standing (slice_set logs worker new) (Some now)
       pub reach : ReachesAt mark holds.s worker
       pub settles : now.settles ≡ was.settles
+      pub generation : now.generation ≡ was.generation
       pub made : mark ≤ was.state.steps
       pub reaches : upto ≤ mark
       pub given : (mark ≡ was.state.steps) ⊎ ((life : Life) × (standing.now ≡ Ok life) × (life.base + 4096 ≤ mark))
@@ -77,6 +80,7 @@ module _ (accounts : Accounts) (slots : LiveSlots) (standing : Standing) (worker
     pub record Refuses (e : Refusal) (new : StoreLog MemDisk) (now : Serving) : Type 0 where
       pub holds : Holds accounts slots standing (slice_set logs worker new) (Some now)
       pub settles : now.settles ≡ was.settles
+      pub generation : now.generation ≡ was.generation
       pub memory : IsMemoryOrDevice e
 
     drains_rest : (upto mark : ℕ) (log new : StoreLog MemDisk) (now next : Serving) → Rests logs was log now
@@ -93,6 +97,7 @@ module _ (accounts : Accounts) (slots : LiveSlots) (standing : Standing) (worker
           holds = all.0;
           reach = all.1;
           settles = d.given.settles ∙ before.settles;
+          generation = d.given.generation ∙ before.generation;
           made = let le = a.1 in let steps = before.steps in omega (arith, le, steps);
           reaches = reaches;
           given = ⊎_elim (λ all. inl (all ∙ before.steps)) (λ full. inr (life, lives, full)) a.2;
@@ -116,6 +121,7 @@ module _ (accounts : Accounts) (slots : LiveSlots) (standing : Standing) (worker
               subst (λ (l : StoreLog MemDisk). Holds accounts slots standing (slice_set logs worker l) (Some next)) (sym none.same_log)
               (subst (λ (x : Serving). Holds accounts slots standing (slice_set logs worker f.mid) (Some x)) (sym none.same) before.holds);
           settles = ap (λ (x : Serving). x.settles) none.same ∙ before.settles;
+          generation = ap (λ (x : Serving). x.generation) none.same ∙ before.generation;
           memory = inl none.told;
         }
         by (inr keeps) =
@@ -123,6 +129,7 @@ module _ (accounts : Accounts) (slots : LiveSlots) (standing : Standing) (worker
             record {
               holds = twice f.mid new next a.0.again;
               settles = keeps.given.settles ∙ before.settles;
+              generation = keeps.given.generation ∙ before.generation;
               memory = a.1;
             }
 
@@ -135,7 +142,7 @@ module _ (accounts : Accounts) (slots : LiveSlots) (standing : Standing) (logs :
   first_rests : (first : StoreLog MemDisk) → OnLast (AppendsKept keeps_rules mem_state failures_of) log first → Rests accounts slots standing worker logs serving first serving
   first_rests first a =
       let r = kept_again accounts slots standing logs serving h worker log first here a in
-      record { holds = r.again; none = a.does.none; settles = refl; steps = refl }
+      record { holds = r.again; none = a.does.none; settles = refl; generation = refl; steps = refl }
 
   pub flush_noted : (upto mark : ℕ) (new : StoreLog MemDisk) (now : Serving) → Drains keeps_rules mem_state failures_of DrainsServing worker upto mark log new serving now
       → Flushed accounts slots standing worker logs serving there upto mark new now
@@ -149,6 +156,7 @@ module _ (accounts : Accounts) (slots : LiveSlots) (standing : Standing) (logs :
       record {
         holds = subst (λ (x : Serving). Holds accounts slots standing (slice_set logs worker new) (Some x)) (sym f.same) r.0.again;
         settles = ap (λ (x : Serving). x.settles) f.same;
+        generation = ap (λ (x : Serving). x.generation) f.same;
         memory = r.1;
       }
   flush_fails upto e new now (inr f) = drains_stop accounts slots standing worker logs serving there upto e f.first new serving now (first_rests f.first f.kept) f.fails
@@ -159,14 +167,14 @@ module _ (accounts : Accounts) (slots : LiveSlots) (standing : Standing) (logs :
   reopen_rests : (mid : StoreLog MemDisk) → ReopensLog keeps_rules mem_state failures_of log mid → Rests accounts slots standing worker logs serving mid serving
   reopen_rests mid r =
       let a = reopen_noted accounts slots standing logs serving h worker log mid here r in
-      record { holds = a.again; none = none_waits log mid r; settles = refl; steps = refl }
+      record { holds = a.again; none = none_waits log mid r; settles = refl; generation = refl; steps = refl }
 
   -- and then it is flushed
   then_first : (mid first : StoreLog MemDisk) → Rests accounts slots standing worker logs serving mid serving → OnLast (AppendsKept keeps_rules mem_state failures_of) mid first
       → Rests accounts slots standing worker logs serving first serving
   then_first mid first r a =
       let k = kept_again accounts slots standing (slice_set logs worker mid) serving r.holds worker mid first (there mid) a in
-      record { holds = twice accounts slots standing worker logs serving there mid first serving k.again; none = a.does.none; settles = refl; steps = refl }
+      record { holds = twice accounts slots standing worker logs serving there mid first serving k.again; none = a.does.none; settles = refl; generation = refl; steps = refl }
 
   pub turn_noted : (upto mark : ℕ) (new : StoreLog MemDisk) (now : Serving) → TurnsLog keeps_rules mem_state failures_of DrainsServing worker upto mark log new serving now
       → Flushed accounts slots standing worker logs serving there upto mark new now
@@ -182,6 +190,7 @@ module _ (accounts : Accounts) (slots : LiveSlots) (standing : Standing) (logs :
       record {
         holds = subst (λ (x : Serving). Holds accounts slots standing (slice_set logs worker new) (Some x)) (sym f.same) r.0.again;
         settles = ap (λ (x : Serving). x.settles) f.same;
+        generation = ap (λ (x : Serving). x.generation) f.same;
         memory = r.1;
       }
   turn_fails upto e new now (inr f) = by f.fails
@@ -197,6 +206,7 @@ module _ (accounts : Accounts) (slots : LiveSlots) (standing : Standing) (logs :
                 subst (λ (x : Serving). Holds accounts slots standing (slice_set logs worker new) (Some x)) (sym w.same)
                 (twice accounts slots standing worker logs serving there f.mid new serving r.0.again);
             settles = ap (λ (x : Serving). x.settles) w.same;
+            generation = ap (λ (x : Serving). x.generation) w.same;
             memory = r.1;
           }
       by (inr s) = drains_stop accounts slots standing worker logs serving there upto e s.first new serving now (then_first f.mid s.first open_now s.kept) s.fails

@@ -18,6 +18,7 @@ use Rattle.mt_lives.proofs.{Comes.{set_there, with_log, GoesTo, is_in, is_in_dou
 pub use Rattle.mt_lives.proofs.TurnLogs.{keeps_rules, failures_of}
 use Rattle.mt_lives.proofs.TurnLogs.{IsAt, waiting, open_mark, appended_in, not_appended_in, drained_in}
 use Rattle.mt_rows.specs.declared.refusal.Refusal.TheVariants as refusals
+use Rattle.mt_lives.specs.Turning.{Part}
 
 -- a log that rests reaches its mark
 pub rests_at_mark : (now : LogNow) (n : ℕ) → now.doubt ≡ None → mark_of now.had ≡ n → Reaches n now
@@ -70,41 +71,41 @@ doubt_drained None now_kept now next same is = ap (drained_upto next) is ∙ ap 
 doubt_drained (Some b) now_kept now next doubt is = ap (drained_upto next) is
 
 -- a worker's log has come to stand so, and its state gave it so much
-pub record Moves (from whole : ℕ) (s : Store) (given : List ℕ) (worker : ℕ) (new : StoreLog MemDisk) : Type 0 where
+pub record Moves (from : ℕ) (part : Part) (s : Store) (given : List ℕ) (worker : ℕ) (new : StoreLog MemDisk) : Type 0 where
   pub next : LogNow
   pub goes : GoesTo worker next s
-  pub at : IsLogAt from whole (with_log worker next s) given worker next new
+  pub at : IsLogAt from part (with_log worker next s) given worker next new
 
 -- it stands in its turn
-pub stands_at : (from whole : ℕ) (s : Store) (given : List ℕ) (worker : ℕ) (now : LogNow) (log : StoreLog MemDisk) → IsLogAt from whole s given worker now log → IsAt from whole now log
-stands_at from whole s given worker now log at = record { files = at.files; stands = at.stands; begins = at.begins }
+pub stands_at : (from : ℕ) (part : Part) (s : Store) (given : List ℕ) (worker : ℕ) (now : LogNow) (log : StoreLog MemDisk) → IsLogAt from part s given worker now log → IsAt from part now log
+stands_at from part s given worker now log at = record { files = at.files; stands = at.stands; begins = at.begins }
 
-pub as_log_at : (from whole : ℕ) (s : Store) (given : List ℕ) (worker : ℕ) (now : LogNow) (log : StoreLog MemDisk) → IsAt from whole now log
-    → slice_get given worker ≡ Some (drained_upto now log.kept) → HoldsKept s worker log.kept → IsLogAt from whole s given worker now log
-as_log_at from whole s given worker now log at given_so kept = record { files = at.files; stands = at.stands; begins = at.begins; given_so = given_so; kept = kept }
+pub as_log_at : (from : ℕ) (part : Part) (s : Store) (given : List ℕ) (worker : ℕ) (now : LogNow) (log : StoreLog MemDisk) → IsAt from part now log
+    → slice_get given worker ≡ Some (drained_upto now log.kept) → HoldsKept s worker log.kept → IsLogAt from part s given worker now log
+as_log_at from part s given worker now log at given_so kept = record { files = at.files; stands = at.stands; begins = at.begins; given_so = given_so; kept = kept }
 
 -- a batch that is new to a log waits for it first
 waits_first : (batch : Batch) (log last : StoreLog MemDisk) → OnLast (AppendsNew keeps_rules mem_state failures_of batch) log last
     → OnLast (AppendsKept keeps_rules mem_state failures_of) (keeping batch log) last
 waits_first batch log last a = record { does = a.does.appends; rest = a.rest; doubts = a.doubts }
 
-module _ (from whole : ℕ) (accounts : Accounts) (life : Life) (s : Store) (v : StateView) (names : Names) (h : Serves accounts life s v names) (worker : ℕ) (now : LogNow) (log : StoreLog MemDisk)
-    (there : slice_get s.logs worker ≡ Some now) (at : IsLogAt from whole s v.logs worker now log) where
-  stands : IsAt from whole now log
-  stands = stands_at from whole s v.logs worker now log at
+module _ (from : ℕ) (part : Part) (accounts : Accounts) (life : Life) (s : Store) (v : StateView) (names : Names) (h : Serves accounts life s v names) (worker : ℕ) (now : LogNow) (log : StoreLog MemDisk)
+    (there : slice_get s.logs worker ≡ Some now) (at : IsLogAt from part s v.logs worker now log) where
+  stands : IsAt from part now log
+  stands = stands_at from part s v.logs worker now log at
 
   -- the log was given what the state says
   given_so : (n : ℕ) → drained_upto now log.kept ≡ n → slice_get v.logs worker ≡ Some n
   given_so n e = at.given_so ∙ ap Some e
 
   -- the batch that waited is in the log
-  pub kept_moves : (mid : StoreLog MemDisk) → OnLast (AppendsKept keeps_rules mem_state failures_of) log mid → Moves from whole s v.logs worker mid
+  pub kept_moves : (mid : StoreLog MemDisk) → OnLast (AppendsKept keeps_rules mem_state failures_of) log mid → Moves from part s v.logs worker mid
   kept_moves mid a =
-      let r = appended_in from whole now log mid stands a in
+      let r = appended_in from part now log mid stands a in
       record {
         next = r.0;
         goes = is_in worker s now r.0 log.kept h.serving there at.kept r.2;
-        at = as_log_at from whole (with_log worker r.0 s) v.logs worker r.0 mid r.1
+        at = as_log_at from part (with_log worker r.0 s) v.logs worker r.0 mid r.1
             (given_so (drained_upto r.0 mid.kept) (sym r.3))
             (subst (HoldsKept (with_log worker r.0 s) worker) (sym a.does.none) tt);
       }
@@ -115,13 +116,13 @@ module _ (from whole : ℕ) (accounts : Accounts) (life : Life) (s : Store) (v :
 
   -- it still waits
   pub waits_moves : (e : Refusal) (new : StoreLog MemDisk) → OnLast (FailsToAppend keeps_rules mem_state failures_of e) log new
-      → Moves from whole s v.logs worker new × IsMemoryOrDevice e
+      → Moves from part s v.logs worker new × IsMemoryOrDevice e
   waits_moves e new f =
-      let r = not_appended_in from whole now log new stands e f in (
+      let r = not_appended_in from part now log new stands e f in (
         record {
           next = r.0;
           goes = is_in_doubt worker s now r.0 log.kept h.serving there at.kept r.2;
-          at = as_log_at from whole (with_log worker r.0 s) v.logs worker r.0 new r.1
+          at = as_log_at from part (with_log worker r.0 s) v.logs worker r.0 new r.1
               (given_so (drained_upto r.0 new.kept) (sym (doubt_drained log.kept new.kept now r.0 r.2 r.3)))
               (holds_same r.0 new.kept (subst (HoldsKept s worker) (sym r.3) at.kept));
         },
@@ -153,24 +154,24 @@ module _ (from whole : ℕ) (accounts : Accounts) (life : Life) (s : Store) (v :
         ap (λ (w : StateView). slice_get w.logs worker) d.stands
         ∙ set_there v.logs worker (drained_upto now log.kept) batch.to at.given_so
 
-    stands_drained : IsAt from whole now (keeping batch log)
-    stands_drained = drained_in from whole now log batch stands none bounded.in_order from_so
+    stands_drained : IsAt from part now (keeping batch log)
+    stands_drained = drained_in from part now log batch stands none bounded.in_order from_so
 
     holds_here : HoldsChanges s worker batch
     holds_here = holds_drained accounts life s v new names h worker batch d from_base
 
     -- its batch is in the log, which goes up to its end
     pub flushed : (last : StoreLog MemDisk) → OnLast (AppendsNew keeps_rules mem_state failures_of batch) log last
-        → (m : Moves from whole s new.logs worker last) × Reaches batch.to m.next
+        → (m : Moves from part s new.logs worker last) × Reaches batch.to m.next
     flushed last a =
         let b = waits_first batch log last a in
-        let r = appended_in from whole now (keeping batch log) last stands_drained b in
+        let r = appended_in from part now (keeping batch log) last stands_drained b in
         let at_end : mark_of r.0.had ≡ batch.to = ap (drained_upto r.0) (sym b.does.none) ∙ r.3 in
-        let rests_so : r.0.doubt ≡ None = subst (WaitsIn r.0) b.does.none (waiting from whole r.0 last r.1) in (
+        let rests_so : r.0.doubt ≡ None = subst (WaitsIn r.0) b.does.none (waiting from part r.0 last r.1) in (
           record {
             next = r.0;
             goes = is_in worker s now r.0 (Some batch) h.serving there holds_here r.2;
-            at = as_log_at from whole (with_log worker r.0 s) new.logs worker r.0 last r.1 (now_given ∙ ap Some (sym r.3))
+            at = as_log_at from part (with_log worker r.0 s) new.logs worker r.0 last r.1 (now_given ∙ ap Some (sym r.3))
                 (subst (HoldsKept (with_log worker r.0 s) worker) (sym b.does.none) tt);
           },
           rests_at_mark r.0 batch.to rests_so at_end,
@@ -178,16 +179,16 @@ module _ (from whole : ℕ) (accounts : Accounts) (life : Life) (s : Store) (v :
 
     -- it is never out of turn
     never_elsewhere : (mark : ℕ) → mark_in (slot_of log) ≡ Some mark → batch.from ≢ mark → ⊥
-    never_elsewhere mark is elsewhere = elsewhere (from_so ∙ ap (drained_upto now) none ∙ sym (open_mark from whole now log mark stands is).1)
+    never_elsewhere mark is elsewhere = elsewhere (from_so ∙ ap (drained_upto now) none ∙ sym (open_mark from part now log mark stands is).1)
 
     still_waits : (e : Refusal) (last : StoreLog MemDisk) → OnLast (FailsToAppend keeps_rules mem_state failures_of e) (keeping batch log) last
-        → Moves from whole s new.logs worker last × IsMemoryOrDevice e
+        → Moves from part s new.logs worker last × IsMemoryOrDevice e
     still_waits e last f =
-        let r = not_appended_in from whole now (keeping batch log) last stands_drained e f in (
+        let r = not_appended_in from part now (keeping batch log) last stands_drained e f in (
           record {
             next = r.0;
             goes = is_in_doubt worker s now r.0 (Some batch) h.serving there holds_here r.2;
-            at = as_log_at from whole (with_log worker r.0 s) new.logs worker r.0 last r.1
+            at = as_log_at from part (with_log worker r.0 s) new.logs worker r.0 last r.1
                 (now_given ∙ ap Some (sym (doubt_drained (Some batch) last.kept now r.0 r.2 r.3)))
                 (subst (HoldsKept (with_log worker r.0 s) worker) (sym r.3) (holds r.0));
           },
@@ -196,9 +197,9 @@ module _ (from whole : ℕ) (accounts : Accounts) (life : Life) (s : Store) (v :
 
     -- its batch waits
     pub keeps_moves : (last : StoreLog MemDisk) (e : Refusal) → OnLast (FailsToAppendNew keeps_rules mem_state failures_of e batch) log last
-        → Moves from whole s new.logs worker last × IsMemoryOrDevice e
+        → Moves from part s new.logs worker last × IsMemoryOrDevice e
     keeps_moves last e f = by f.does
       where
-        by : FailsToAppendNew keeps_rules mem_state failures_of e batch (last_log_of log) (last_log_of last) → Moves from whole s new.logs worker last × IsMemoryOrDevice e
+        by : FailsToAppendNew keeps_rules mem_state failures_of e batch (last_log_of log) (last_log_of last) → Moves from part s new.logs worker last × IsMemoryOrDevice e
         by (inl fails) = still_waits e last (record { does = fails; rest = f.rest; doubts = f.doubts })
         by (inr out) = absurd (never_elsewhere out.mark out.open_up_to out.elsewhere)

@@ -25,23 +25,23 @@ use Rattle.mt_lives.specs.Forced.{Logs, FailsAt, failures_in, AFileFails, DiskFa
 use Rattle.mt_lives.proofs.{Comes.set_there, Noting.{found, at}, Flushing.{keeps_rules, failures_of}}
 use Rattle.mt_rows.specs.declared.refusal.Refusal.TheVariants as refusals
 
-abbrev failures : LogSlot MemDisk → ℕ
+abbrev pub failures : LogSlot MemDisk → ℕ
 failures slot = failures_in (disk_in slot)
 
 -- ---- the files of a worker
 
 -- no file's disk has failed
-record SameFailures (old new : WorkerFiles MemDisk) : Type 0 where
-  plain : failures new.plain ≡ failures old.plain
-  even : failures new.even ≡ failures old.even
-  odd : failures new.odd ≡ failures old.odd
+pub record SameFailures (old new : WorkerFiles MemDisk) : Type 0 where
+  pub plain : failures new.plain ≡ failures old.plain
+  pub even : failures new.even ≡ failures old.even
+  pub odd : failures new.odd ≡ failures old.odd
 
-then_fails : (a b c : WorkerFiles MemDisk) → SameFailures a b → AFileFails b c → AFileFails a c
+pub then_fails : (a b c : WorkerFiles MemDisk) → SameFailures a b → AFileFails b c → AFileFails a c
 then_fails a b c same (inl f) = inl (subst (λ n. GoesUp n (failures c.plain)) same.plain f)
 then_fails a b c same (inr (inl f)) = inr (inl (subst (λ n. GoesUp n (failures c.even)) same.even f))
 then_fails a b c same (inr (inr f)) = inr (inr (subst (λ n. GoesUp n (failures c.odd)) same.odd f))
 
-abbrev place : Bool → Bool → WorkerFiles MemDisk → LogSlot MemDisk
+abbrev pub place : Bool → Bool → WorkerFiles MemDisk → LogSlot MemDisk
 place none even files = cond none files.plain (cond even files.even files.odd)
 
 abbrev put : Bool → Bool → LogSlot MemDisk → WorkerFiles MemDisk → WorkerFiles MemDisk
@@ -58,28 +58,28 @@ put_fails false true slot files f = inr (inl f)
 put_fails false false slot files f = inr (inr f)
 
 -- the file of a generation
-with_same : (g : ℕ) (slot : LogSlot MemDisk) (files : WorkerFiles MemDisk) → failures slot ≡ failures (file_of g files) → SameFailures files (with_file g slot files)
+pub with_same : (g : ℕ) (slot : LogSlot MemDisk) (files : WorkerFiles MemDisk) → failures slot ≡ failures (file_of g files) → SameFailures files (with_file g slot files)
 with_same g slot files same = put_same (g == 0) (g % 2 == 0) slot files same
 
-with_fails : (g : ℕ) (slot : LogSlot MemDisk) (files : WorkerFiles MemDisk) → GoesUp (failures (file_of g files)) (failures slot) → AFileFails files (with_file g slot files)
+pub with_fails : (g : ℕ) (slot : LogSlot MemDisk) (files : WorkerFiles MemDisk) → GoesUp (failures (file_of g files)) (failures slot) → AFileFails files (with_file g slot files)
 with_fails g slot files f = put_fails (g == 0) (g % 2 == 0) slot files f
 
 -- and that of the last log
-last_same : {Does : LastLog MemDisk → LastLog MemDisk → Type 0} (old new : StoreLog MemDisk) → OnLast Does old new → failures (slot_of new) ≡ failures (slot_of old)
+pub last_same : {Does : LastLog MemDisk → LastLog MemDisk → Type 0} (old new : StoreLog MemDisk) → OnLast Does old new → failures (slot_of new) ≡ failures (slot_of old)
     → SameFailures old.log.files new.log.files
 last_same old new on same =
     subst (SameFailures old.log.files) (sym (ap (λ (l : WorkerLog MemDisk). l.files) on.rest)) (with_same old.log.generation (slot_of new) old.log.files same)
 
-last_fails : {Does : LastLog MemDisk → LastLog MemDisk → Type 0} (old new : StoreLog MemDisk) → OnLast Does old new → GoesUp (failures (slot_of old)) (failures (slot_of new))
+pub last_fails : {Does : LastLog MemDisk → LastLog MemDisk → Type 0} (old new : StoreLog MemDisk) → OnLast Does old new → GoesUp (failures (slot_of old)) (failures (slot_of new))
     → DiskFails old new
 last_fails old new on f =
     subst (AFileFails old.log.files) (sym (ap (λ (l : WorkerLog MemDisk). l.files) on.rest)) (with_fails old.log.generation (slot_of new) old.log.files f)
 
 -- ---- what succeeds counts no failure, and leaves the log open
 
-record StaysOpen (old new : LogSlot MemDisk) : Type 0 where
-  open_still : mark_in new ≢ None
-  same : failures new ≡ failures old
+pub record StaysOpen (old new : LogSlot MemDisk) : Type 0 where
+  pub open_still : mark_in new ≢ None
+  pub same : failures new ≡ failures old
 
 has_appended : (b : Batch) (old new : LogSlot MemDisk) → HasAppended keeps_rules mem_state failures_of b old new → StaysOpen old new
 has_appended b (Open old) (Open new) a = record { open_still = λ e. no_some new.mark (sym e); same = a.2.count }
@@ -96,10 +96,10 @@ takes_in (Some b) old new (inl there) =
     record { open_still = λ e. no_some b.to (sym e ∙ ap mark_in there.1 ∙ there.0); same = ap failures there.1 }
 takes_in (Some b) old new (inr a) = has_appended b old new a
 
-appended : (old new : LastLog MemDisk) → AppendsKept keeps_rules mem_state failures_of old new → StaysOpen old.slot new.slot
+pub appended : (old new : LastLog MemDisk) → AppendsKept keeps_rules mem_state failures_of old new → StaysOpen old.slot new.slot
 appended old new a = takes_in old.kept old.slot new.slot a.takes
 
-drained : (worker n upto : ℕ) (old new : LastLog MemDisk) (was is : Serving) → mark_in old.slot ≢ None
+pub drained : (worker n upto : ℕ) (old new : LastLog MemDisk) (was is : Serving) → mark_in old.slot ≢ None
     → DrainsShort keeps_rules mem_state failures_of DrainsServing worker n upto old new was is → StaysOpen old.slot new.slot
 drained worker zero upto old new was is open_so d =
     record { open_still = λ e. open_so (ap (λ (l : LastLog MemDisk). mark_in l.slot) (sym d.0) ∙ e); same = ap (λ (l : LastLog MemDisk). failures l.slot) d.0 }
@@ -113,7 +113,7 @@ opened_same : (w g : ℕ) (log : LogFile MemDisk) (kept : Option Batch) (new : L
     → AppendsKept keeps_rules mem_state failures_of (opened_with w g log kept) new → (mark_in new.slot ≢ None) × (failures new.slot ≡ was)
 opened_same w g log kept new was same a = let s = appended (opened_with w g log kept) new a in (s.open_still, s.same ∙ same)
 
-reopened_same : (w g : ℕ) (slot : LogSlot MemDisk) (kept : Option Batch) (new : LastLog MemDisk) → ReopensAt keeps_rules mem_state failures_of slot (log_with w g slot kept) new
+pub reopened_same : (w g : ℕ) (slot : LogSlot MemDisk) (kept : Option Batch) (new : LastLog MemDisk) → ReopensAt keeps_rules mem_state failures_of slot (log_with w g slot kept) new
     → StaysOpen slot new.slot
 reopened_same w g (Open log) kept new r = appended (log_with w g (Open log) kept) new r
 reopened_same w g (Failed log) kept new r =
@@ -140,11 +140,11 @@ numbered_there parity disk (Closed new) front f e = absurd cc
 
 -- ---- a log whose disks are there
 
-record HasDisks (log : StoreLog MemDisk) : Type 0 where
-  last : slot_of log ≢ Away
-  next : disk_in (next_of log.log) ≢ None
+pub record HasDisks (log : StoreLog MemDisk) : Type 0 where
+  pub last : slot_of log ≢ Away
+  pub next : disk_in (next_of log.log) ≢ None
 
-looked_same : (old new : StoreLog MemDisk) → LooksForNext keeps_rules mem_state failures_of old new → SameFailures old.log.files new.log.files
+pub looked_same : (old new : StoreLog MemDisk) → LooksForNext keeps_rules mem_state failures_of old new → SameFailures old.log.files new.log.files
 looked_same old new (inl sure) = record {
   plain = ap (λ (l : StoreLog MemDisk). failures l.log.files.plain) sure.1;
   even = ap (λ (l : StoreLog MemDisk). failures l.log.files.even) sure.1;
@@ -163,7 +163,7 @@ looked_same old new (inr looked) = by looked.1.does
     by (inl found) = opened found.slot (Some found.front) new.log.files found.opens.opens (ap (λ (l : WorkerLog MemDisk). l.files) found.stands)
     by (inr none) = opened none.slot none.found new.log.files none.opens.opens (ap (λ (l : WorkerLog MemDisk). l.files) none.stands)
 
-looked_there : (old new : StoreLog MemDisk) → slot_of old ≢ Away → LooksForNext keeps_rules mem_state failures_of old new → slot_of new ≢ Away
+pub looked_there : (old new : StoreLog MemDisk) → slot_of old ≢ Away → LooksForNext keeps_rules mem_state failures_of old new → slot_of new ≢ Away
 looked_there old new there (inl sure) e = there (ap slot_of (sym sure.1) ∙ e)
 looked_there old new there (inr looked) e = by looked.1.does
   where
@@ -216,7 +216,7 @@ last_failed worker upto old new was is open_so (inr stops) =
     let mid = drained worker f.times upto stops.first f.mid was f.between first.open_still f.short in
     subst (λ n. GoesUp n (failures new.slot)) (mid.same ∙ first.same) (not_drained worker f.mid new f.between is mid.open_still f.fails)
 
-flush_failed : (upto : ℕ) (old new : StoreLog MemDisk) (was is : Serving) → mark_in (slot_of old) ≢ None
+pub flush_failed : (upto : ℕ) (old new : StoreLog MemDisk) (was is : Serving) → mark_in (slot_of old) ≢ None
     → FailsToFlushLog keeps_rules mem_state failures_of DrainsServing upto refusals.Device old new was is → DiskFails old new
 flush_failed upto old new was is open_so on =
     last_fails old new on (last_failed (worker_of old) upto (last_log_of old) (last_log_of new) was is open_so on.does)
@@ -264,7 +264,7 @@ last_shut w g (Closed disk) kept new there (inr o) = opened_failed disk.failures
 last_shut w g Away kept new there f = absurd (there refl)
 
 -- a reopening
-reopen_failed : (old new : StoreLog MemDisk) → HasDisks old → FailsToReopenLog keeps_rules mem_state failures_of refusals.Device old new → DiskFails old new
+pub reopen_failed : (old new : StoreLog MemDisk) → HasDisks old → FailsToReopenLog keeps_rules mem_state failures_of refusals.Device old new → DiskFails old new
 reopen_failed old new there (inl look) =
     let f = look.1.does in
     subst (AFileFails old.log.files) (sym (ap (λ (l : WorkerLog MemDisk). l.files) f.stands))
@@ -276,7 +276,7 @@ reopen_failed old new there (inr shut) =
     (last_shut (worker_of mid) mid.log.generation (slot_of mid) mid.kept (last_log_of new) (looked_there old mid there.last shut.looks) shut.fails.does))
 
 -- a turn
-turn_failed : (upto : ℕ) (old new : StoreLog MemDisk) (was is : Serving) → HasDisks old
+pub turn_failed : (upto : ℕ) (old new : StoreLog MemDisk) (was is : Serving) → HasDisks old
     → FailsToBringUp keeps_rules mem_state failures_of DrainsServing upto refusals.Device old new was is → DiskFails old new
 turn_failed upto old new was is there (inl shut) = reopen_failed old new there shut.fails
 turn_failed upto old new was is there (inr not) =
@@ -300,7 +300,7 @@ later_disk false true now files later shows = honest_disk files.even shows.even.
 later_disk false false now files later shows = honest_disk files.odd shows.odd.0
 
 -- the disks of a log in a store that serves are there
-has_disks : (accounts : Accounts) (slots : LiveSlots) (standing : Standing) (logs : Logs) (serving : Serving) → Holds accounts slots standing logs (Some serving) → (worker : ℕ) (log : StoreLog MemDisk)
+pub has_disks : (accounts : Accounts) (slots : LiveSlots) (standing : Standing) (logs : Logs) (serving : Serving) → Holds accounts slots standing logs (Some serving) → (worker : ℕ) (log : StoreLog MemDisk)
     → slice_get logs worker ≡ Some log → HasDisks log
 has_disks accounts slots standing logs serving h worker log here =
     let stands = (at accounts slots standing logs serving h worker log log here).stands in
@@ -324,7 +324,7 @@ module _ (accounts : Accounts) (logs : Logs) (serving : Option Serving) (worker 
   module _ (slots : LiveSlots) (held : Serving) (standing : Standing) (of : Accounts) (h : Holds of slots standing logs (Some held)) where
     pub settle_forced : (id upto : ℕ) (e : Refusal) (was is : Serving) → FailsToBringUp keeps_rules mem_state failures_of DrainsServing upto e log new was is
         → IsForced accounts (SettleNext id) (Refused e) logs serving (slice_set logs worker new)
-    settle_forced id upto refusals.Device was is f = (worker, inl (fails (turn_failed upto log new was is (has_disks of slots standing logs held h worker log here) f)))
+    settle_forced id upto refusals.Device was is f = (worker, fails (turn_failed upto log new was is (has_disks of slots standing logs held h worker log here) f))
     settle_forced id upto e was is f = tt
 
     pub reopen_forced : (e : Refusal) → FailsToReopenLog keeps_rules mem_state failures_of e log new

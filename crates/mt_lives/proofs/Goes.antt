@@ -25,7 +25,7 @@ module _ (accounts : Accounts) (slots : LiveSlots) (standing : Standing) (logs :
   serves : IsServing standing
   serves = (life_served accounts slots standing logs serving h, lives_so accounts slots standing logs serving h)
 
-  same_life : (now_logs : List (StoreLog MemDisk)) (now : Serving) (again : Holds accounts slots standing now_logs (Some now))
+  pub same_life : (now_logs : List (StoreLog MemDisk)) (now : Serving) (again : Holds accounts slots standing now_logs (Some now))
       → life_served accounts slots standing logs serving h ≡ life_served accounts slots standing now_logs now again
   same_life now_logs now again =
       ap (ok_life (life_served accounts slots standing logs serving h)) (sym (lives_so accounts slots standing logs serving h) ∙ lives_so accounts slots standing now_logs now again)
@@ -65,7 +65,7 @@ module _ (accounts : Accounts) (slots : LiveSlots) (standing : Standing) (logs :
 
       -- of a Settle
       module _ (id : ℕ) (settle : Settle) (there : get nat_cmp serving.settles id ≡ Some settle) (next : settle.next ≡ worker) (end : Serving) (state : end.state ≡ now.state)
-          (roster : end.roster ≡ now.roster) where
+          (roster : end.roster ≡ now.roster) (generation : end.generation ≡ now.generation) where
         now_there : now.settles ≡ serving.settles → get nat_cmp now.settles id ≡ Some settle
         now_there same = ap (λ m. get nat_cmp m id) same ∙ there
 
@@ -91,10 +91,10 @@ module _ (accounts : Accounts) (slots : LiveSlots) (standing : Standing) (logs :
             reach = subst (λ w. ReachesAt mark r.holds.s w) (sym next) r.reach
 
             by : (note : StoreNote) → Turns (length (slice_set logs worker new)) id settle mark now.settles end.settles note → Goes (SettleNext id) note (slice_set logs worker new) end
-            by Turned t = settling_of.turns accounts slots standing (slice_set logs worker new) now r.holds end state roster id settle open_so mark reach at_last t.0 t.1
+            by Turned t = settling_of.turns accounts slots standing (slice_set logs worker new) now r.holds end state roster generation id settle open_so mark reach at_last t.0 t.1
             by (Settled number) t =
                 subst (λ n. Goes (SettleNext id) (Settled n) (slice_set logs worker new) end) (sym t.1)
-                (settling_of.settles accounts slots standing (slice_set logs worker new) now r.holds end state roster id settle open_so mark reach at_last t.0 t.2)
+                (settling_of.settles accounts slots standing (slice_set logs worker new) now r.holds end state roster generation id settle open_so mark reach at_last t.0 t.2)
             by note t = absurd t
 
         pub settle_stops : (e : Refusal) → FailsToTurn keeps_rules mem_state failures_of DrainsServing worker serving.state.steps e log new serving now
@@ -103,6 +103,6 @@ module _ (accounts : Accounts) (slots : LiveSlots) (standing : Standing) (logs :
             let r = drains.turn_fails accounts slots standing logs serving h worker log here serving.state.steps e new now f in
             let open_so : get nat_cmp now.settles id ≡ Some settle = now_there r.settles in (
               settling id None standing,
-              (serves, settling_of.is_open accounts slots standing (slice_set logs worker new) now r.holds end state roster id settle open_so, r.memory, refl),
-              settling_of.ends accounts slots standing (slice_set logs worker new) now r.holds end state roster id settle open_so u,
+              (serves, settling_of.is_open accounts slots standing (slice_set logs worker new) now r.holds end state roster generation id settle open_so, r.memory, refl),
+              settling_of.ends accounts slots standing (slice_set logs worker new) now r.holds end state roster generation id settle open_so u,
             )

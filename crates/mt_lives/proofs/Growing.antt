@@ -14,13 +14,15 @@ pub record Grows (old new : Store) : Type 0 where
   pub leads : LeadsTo old new
   pub logs : new.logs ≡ old.logs
   pub slots : new.slots ≡ old.slots
+  pub voids : new.voids ≡ old.voids
+  pub reached : new.reached ≡ old.reached
   pub serving : new.serving ≡ old.serving
   pub steps : old.steps ≤ new.steps
   pub holds : (worker : ℕ) (b : Batch) → HoldsChanges old worker b → HoldsChanges new worker b
   pub maps : KeepsMaps old.steps old.history new.history
 
 pub grows_not : (s : Store) → Grows s s
-grows_not s = record { leads = stays_here s s refl; logs = refl; slots = refl; serving = refl; steps = omega arith; holds = λ worker b h. h; maps = λ t m le. refl }
+grows_not s = record { leads = stays_here s s refl; logs = refl; slots = refl; voids = refl; reached = refl; serving = refl; steps = omega arith; holds = λ worker b h. h; maps = λ t m le. refl }
 
 -- a step that placed nothing
 abbrev pub stepped : Store → Store
@@ -33,6 +35,8 @@ grows_step s serves = record {
       one_more s s (stepped s) (stays_here s s refl) (inl step);
   logs = refl;
   slots = refl;
+  voids = refl;
+  reached = refl;
   serving = refl;
   steps = omega arith;
   holds = λ worker b h. record { made = omega (arith, h.made); records = h.records };
@@ -50,6 +54,8 @@ grows_placing s p serves number worker = record {
       one_more s s (placing p s) (stays_here s s refl) (inr (inl place));
   logs = refl;
   slots = refl;
+  voids = refl;
+  reached = refl;
   serving = refl;
   steps = omega arith;
   holds = λ w b h. record { made = omega (arith, h.made); records = h.records ∙ sym (holds_more w b s.history p (omega (arith, h.made, number))) };

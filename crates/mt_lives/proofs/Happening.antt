@@ -8,7 +8,7 @@ use Rattle.mt_runs.specs.Placings.{Quotas}
 use Rattle.mt_store_logs.specs.{declared.store_log.StoreLog.StoreLog, Places.workers_of}
 use Rattle.mt_lives.specs.{declared.events.CrashImages.CrashImages, declared.events.StoreEvent.StoreEvent, declared.events.StoreEvent.TheVariants.{Core, Flush, Reopen, SettleBegin, SettleNext, CheckBegin, CheckStep, Crash}}
 use Rattle.mt_lives.specs.{declared.events.StoreNote.StoreNote, declared.events.StoreNote.TheVariants.NoSuch, declared.serving.Serving.Serving}
-use Rattle.mt_lives.specs.{Lives.{Life, Past, Standing, IsServing, IsNoted}, Holds.{HoldsNow, Holds}, Steps.{LeavesSlots, GoesOn}, Forced.{IsCheckForced, IsForcedAll}}
+use Rattle.mt_lives.specs.{Lives.{Life, Past, Standing, IsServing, IsNoted}, Holds.{HoldsNow, Holds}, Steps.{LeavesSlots, GoesOn}, Forced.{IsBeginForced, IsStepForced, IsForcedAll}}
 
 pub leaves_slots : (event : StoreEvent) → (event ≡ CheckBegin → ⊥) → (event ≡ CheckStep → ⊥) → ((images : CrashImages) → event ≡ Crash images → ⊥) → LeavesSlots event
 leaves_slots CheckBegin begins steps crashes = absurd (begins refl)
@@ -27,7 +27,7 @@ nothing_noted quotas standing event leaves not = absurd leaves
 
 -- a store that has nothing while it serves serves no life
 pub serves_none : (accounts : Accounts) (slots : LiveSlots) (standing : Standing) (logs : List (StoreLog MemDisk)) → Holds accounts slots standing logs None → ¬ IsServing standing
-serves_none accounts slots standing logs h serves = subst (λ (n : Result Life Past). HoldsNow h.from h.whole accounts standing.begun n h.s logs None) serves.1 h.now
+serves_none accounts slots standing logs h serves = subst (λ (n : Result Life Past). HoldsNow h.from h.turning accounts standing.begun n h.s logs None) serves.1 h.now
 
 -- the logs that a call went over are those of the store
 module _ {E : Type 0} (first old new last : List (StoreLog MemDisk)) (result : Result StoreNote E) (same_old : first ≡ old) (same_new : new ≡ last) where
@@ -58,20 +58,32 @@ module _ {E : Type 0} (first old new last : List (StoreLog MemDisk)) (result : R
           (subst (λ logs. GoesOn accounts slots slots event note first (Some was) logs (Some now)) same_new (goes accounts slots)))
       by (Err e) goes = tt
 
--- ---- events of a checkpoint
+-- ---- events of a turn
 
-pub begun_forced : (accounts : Accounts) (slots now : LiveSlots) (event : StoreEvent) (note : StoreNote) (logs : List (StoreLog MemDisk)) (serving : Option Serving) → event ≡ CheckBegin
-    → IsCheckForced note slots now → IsForcedAll accounts slots now event note logs serving logs
-begun_forced accounts slots now event note logs serving is forced = subst (λ e. IsForcedAll accounts slots now e note logs serving logs) (sym is) (refl, forced)
+-- a turn begins, or does not
+pub begun_goes : (accounts : Accounts) (slots now : LiveSlots) (event : StoreEvent) (note : StoreNote) (first logs : List (StoreLog MemDisk)) (serving : Option Serving) → event ≡ CheckBegin
+    → first ≡ logs → GoesOn accounts slots now CheckBegin note first serving first serving → GoesOn accounts slots now event note logs serving logs serving
+begun_goes accounts slots now event note first logs serving is same goes =
+    subst (λ e. GoesOn accounts slots now e note logs serving logs serving) (sym is) (subst (λ ls. GoesOn accounts slots now CheckBegin note ls serving ls serving) same goes)
 
-module _ {E : Type 0} (accounts : Accounts) (slots now : LiveSlots) (event : StoreEvent) (logs : List (StoreLog MemDisk)) where
-  pub stepped_goes : (was is : Option Serving) (result : Result StoreNote E) → event ≡ CheckStep
-      → IfOk result (λ note. (any : Accounts) (all : List (StoreLog MemDisk)) → GoesOn any slots now CheckStep note all was all is)
-      → IfOk result (λ note. GoesOn accounts slots now event note logs was logs is)
-  stepped_goes was is (Ok note) same goes = subst (λ e. GoesOn accounts slots now e note logs was logs is) (sym same) (goes accounts logs)
-  stepped_goes was is (Err e) same goes = tt
+pub begun_forced : (accounts : Accounts) (slots now : LiveSlots) (event : StoreEvent) (note : StoreNote) (first logs : List (StoreLog MemDisk)) (serving : Option Serving) → event ≡ CheckBegin
+    → first ≡ logs → IsBeginForced accounts first serving note slots now → IsForcedAll accounts slots now event note logs serving logs
+begun_forced accounts slots now event note first logs serving is same forced =
+    subst (λ e. IsForcedAll accounts slots now e note logs serving logs) (sym is) (refl, subst (λ ls. IsBeginForced accounts ls serving note slots now) same forced)
 
-  pub stepped_forced : (serving : Option Serving) (result : Result StoreNote E) → event ≡ CheckStep → IfOk result (λ note. IsCheckForced note slots now)
-      → IfOk result (λ note. IsForcedAll accounts slots now event note logs serving logs)
-  stepped_forced serving (Ok note) same forced = subst (λ e. IsForcedAll accounts slots now e note logs serving logs) (sym same) (refl, forced)
-  stepped_forced serving (Err e) same forced = tt
+-- it goes on, or does not
+module _ {E : Type 0} (accounts : Accounts) (slots now : LiveSlots) (event : StoreEvent) (first old new last : List (StoreLog MemDisk)) where
+  pub stepped_goes : (was is : Option Serving) (result : Result StoreNote E) → event ≡ CheckStep → first ≡ old → new ≡ last
+      → IfOk result (λ note. GoesOn accounts slots now CheckStep note first was new is) → IfOk result (λ note. GoesOn accounts slots now event note old was last is)
+  stepped_goes was is (Ok note) same same_old same_new goes =
+      subst (λ e. GoesOn accounts slots now e note old was last is) (sym same)
+      (subst (λ logs. GoesOn accounts slots now CheckStep note logs was last is) same_old
+      (subst (λ logs. GoesOn accounts slots now CheckStep note first was logs is) same_new goes))
+  stepped_goes was is (Err e) same same_old same_new goes = tt
+
+  pub stepped_forced : (serving : Option Serving) (result : Result StoreNote E) → event ≡ CheckStep → first ≡ old → new ≡ last → IfOk result (λ note. IsStepForced note slots now first new)
+      → IfOk result (λ note. IsForcedAll accounts slots now event note old serving last)
+  stepped_forced serving (Ok note) same same_old same_new forced =
+      subst (λ e. IsForcedAll accounts slots now e note old serving last) (sym same)
+      (subst (λ logs. IsStepForced note slots now logs last) same_old (subst (λ logs. IsStepForced note slots now first logs) same_new forced))
+  stepped_forced serving (Err e) same same_old same_new forced = tt

@@ -5,15 +5,16 @@ use Rattle.mt_disk.specs.declared.mem.MemDisk.{MemDisk}
 use Rattle.mt_crashes.specs.{Histories.{Placed, pairs_upto}, Stores.{Store, LogNow, AllReach}}
 use Rattle.mt_store_logs.specs.declared.store_log.StoreLog.{StoreLog}
 use Rattle.mt_lives.{specs.{Lives.{Past, AreLeftOf}, Holds.{quotas_of, HasCome, LeadsTo, EachLog, IsDown, KeepsAll, IsLogAt, IsLogDown}}, proofs.{Comes.comes_on, Logged.all_on}}
+use Rattle.mt_lives.specs.{Bases.Whole, Turning.Part}
 
 -- the files of each log are as the store tells
-abbrev pub AllDown : ℕ → ℕ → Store → List (StoreLog MemDisk) → Type 0
+abbrev pub AllDown : ℕ → Whole → Store → List (StoreLog MemDisk) → Type 0
 AllDown g h s logs = EachLog (λ worker now log. IsLogDown g h now log) s logs
 
 -- a log that stands is one of these
-pub log_at_down : (g h : ℕ) (s : Store) (given : List ℕ) (worker : ℕ) (now : LogNow) (log : StoreLog MemDisk) → IsLogAt g h s given worker now log → IsLogDown g h now log
-log_at_down g h s given worker now log at =
-    record { files = at.files; turn = at.stands.turn; shows = at.stands.shows; begins = at.begins; owner = at.stands.owner }
+pub log_at_down : (g : ℕ) (part : Part) (s : Store) (given : List ℕ) (worker : ℕ) (now : LogNow) (log : StoreLog MemDisk) → IsLogAt g part s given worker now log → IsLogDown g part.whole now log
+log_at_down g part s given worker now log at =
+    record { files = at.files; turn = at.stands.turn; shows = at.stands.shows; begins = at.begins.whole; owner = at.stands.owner }
 
 -- a store of so many logs that serves no life
 pub record IsLeft (accounts : Accounts) (settled : ℕ) (past : Past) (count : ℕ) (s : Store) : Type 0 where

@@ -8,6 +8,8 @@ pub mod Tenants
 pub mod Cores
 pub mod Logged
 pub mod Begun
+pub mod Turning
+pub mod Bases
 pub mod LogDrains
 pub mod TurnLogs
 pub mod Flushing
@@ -19,6 +21,7 @@ pub mod Opening
 pub mod Recovering
 pub mod Resuming
 pub mod Living
+pub mod GoingBack
 pub mod Returning
 pub mod Beginning
 pub mod Noted
@@ -39,3 +42,9 @@ pub mod SlotReading
 pub mod Stories
 pub mod Checking
 pub mod CheckNotes
+pub mod TurnParts
+pub mod TurnBegins
+pub mod TurnSettles
+pub mod TurnGivesUp
+pub mod TurnGoes
+pub mod TurnForcing

@@ -1,5 +1,5 @@
 -- A store that was recovered serves its next life, with a state that was restored from what was found.
-use Rattle.std.proofs.Common.{◌≡◌, ℕ, zero, suc, ◌<◌, ◌≤◌, true, false, not, List, [], ◌++◌, map, length, replicate, get_or, Option, Some, None, refl, sym, ap, subst, ◌∙◌, arith, inl, inr}
+use Rattle.std.proofs.Common.{◌≡◌, ℕ, zero, suc, ◌+◌, ◌<◌, ◌≤◌, true, false, not, List, [], ◌++◌, map, length, replicate, get_or, Option, Some, None, refl, sym, ap, subst, ◌∙◌, arith, inl, inr}
 use Rattle.std.proofs.{lemmas.Bool.{not-true, ltb-false}, lemmas.List.{append-nil, length-replicate}, lemmas.List.Elements.filter_passes}
 use Rattle.std.proofs.lemmas.Option.{slice_get-get_or}
 use Rattle.std.specs.{Prelude.{slice_get, nat_lt}, List.All, Option.option_map, Ordering.{nat_cmp, is_eq}, Map.lookup, BTreeMap.{BTreeMap, get}}
@@ -17,12 +17,13 @@ use Rattle.mt_crashes.specs.{Fronts.{after_changes, HoldResume}, Histories.{Plac
 use Rattle.mt_crashes.proofs.{Invariant.{map_place, left_at_rest}, Members.no_some}
 use Rattle.mt_store_logs.specs.{declared.store_log.StoreLog.StoreLog, Shows.drained_upto}
 use Rattle.mt_lives.specs.{declared.serving.Serving.Serving, declared.serving.Settle.Settle, Lives.{Life, life_from, firsts, story_in}}
-use Rattle.mt_lives.specs.{Holds.{quotas_of, LeadsTo, placed_of, HoldsKept, IsLogAt, EachLog, IsSettleIn, HoldsServing}, Returns.IsFresh}
-use Rattle.mt_lives.proofs.{Comes.{stays_here, one_more}, Flushing.within, Walking.resting_logs, Opening.AllOpen}
+use Rattle.mt_lives.specs.{Holds.{quotas_of, LeadsTo, placed_of, HoldsKept, IsSettleIn, HoldsServing}, Returns.IsFresh}
+use Rattle.mt_lives.proofs.{Comes.{stays_here, one_more}, Logged.EachAt, Flushing.within, Walking.resting_logs, Opening.AllOpen}
 use mathlib.Core.Path.{fun_ext}
 use Rattle.mt_state.specs.Views as views
 use Rattle.mt_crashes.specs.Stores as stores
 use Rattle.mt_lives.specs.Holds as holds
+use Rattle.mt_lives.{specs.{Bases.Whole, Turning.only_whole}, proofs.Turning.new_part}
 
 -- ---- the store serves
 
@@ -142,14 +143,15 @@ module _ (accounts : Accounts) (first : Pairs) (steps logs : ℕ) (v : StateView
       reach = reach_all s steps rest;
     }
 
-    module _ (now_serving : Serving) (state : now_serving.state ≡ v) (fresh : IsFresh now_serving) (g h : ℕ) (new : List (StoreLog MemDisk)) (each : AllOpen g h s new) where
-      each_log : EachLog (IsLogAt g h s v.logs) s new
+    module _ (now_serving : Serving) (state : now_serving.state ≡ v) (g : ℕ) (h : Whole) (new : List (StoreLog MemDisk)) (fresh : IsFresh new now_serving) (turns_to : now_serving.generation ≡ g + 1)
+        (each : AllOpen g h s new) where
+      each_log : EachAt g (only_whole h) s v.logs new
       each_log = λ worker now log there at.
           let o = each worker now log there at in
           record {
             files = o.files;
             stands = o.stands;
-            begins = o.begins;
+            begins = new_part g h worker o.files o.begins;
             given_so =
                 ap (λ ls. slice_get ls worker) is.logs_are
                 ∙ replicate_there logs worker steps (subst (λ n. worker < n) count (within s.logs worker now there))
@@ -157,12 +159,13 @@ module _ (accounts : Accounts) (first : Pairs) (steps logs : ℕ) (v : StateView
             kept = subst (HoldsKept s worker) (sym o.none) tt;
           }
 
-      pub begins_serving : HoldsServing g h accounts (λ id. None) life s new now_serving
+      pub begins_serving : HoldsServing g (only_whole h) accounts (λ id. None) life s new now_serving
       begins_serving = record {
         serves =
             subst (λ (w : StateView). holds.Serves accounts life s w (named now_serving.roster.tickets)) (sym state)
             (serves_life (named now_serving.roster.tickets) (leads_first v now_serving.roster.tickets fresh.tickets).0);
         by_id = by_id_first now_serving.roster.names now_serving.roster.tickets fresh.tickets;
-        each = subst (λ (w : StateView). EachLog (IsLogAt g h s w.logs) s new) (sym state) each_log;
+        each = subst (λ (w : StateView). EachAt g (only_whole h) s w.logs new) (sym state) each_log;
+        turns_to = turns_to;
         settles = λ id. subst (IsSettleIn s None) (sym (no_settle now_serving.settles id fresh.settles)) tt;
       }

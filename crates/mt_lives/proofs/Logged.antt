@@ -11,6 +11,7 @@ use Rattle.mt_store_logs.specs.declared.store_log.StoreLog.{StoreLog}
 use Rattle.mt_lives.specs.{declared.serving.Settle.Settle, Lives.{Life, firsts, story_in}}
 use Rattle.mt_lives.specs.Holds.{quotas_of, HasCome, LeadsTo, placed_of, HoldsKept, IsLogAt, EachLog, IsSettleIn, AreSettles, Serves}
 use Rattle.mt_lives.proofs.Comes.{set_there, with_log, reached_on}
+use Rattle.mt_lives.specs.Turning.{Turning, part_of}
 
 pub set_other : {X : Type 0} (xs : List X) (i k : ℕ) (y : X) → k ≢ i → slice_get (slice_set xs i y) k ≡ slice_get xs k
 set_other [] i k y other = refl
@@ -101,24 +102,28 @@ module _ (accounts : Accounts) (life : Life) (s : Store) (v : StateView) (names 
         reach = h.reach;
       }
 
+-- each log stands in its part of a turn, and was given this
+abbrev pub EachAt : ℕ → Turning → Store → List ℕ → List (StoreLog MemDisk) → Type 0
+EachAt from turning s given logs = EachLog (λ k. IsLogAt from (part_of turning k) s given k) s logs
+
 -- each log but one stands as it did
-pub each_logged : (from whole : ℕ) (s : Store) (logs : List (StoreLog MemDisk)) (given now_given : List ℕ) (worker : ℕ) (was next : LogNow) (old new : StoreLog MemDisk)
-    → slice_get s.logs worker ≡ Some was → slice_get logs worker ≡ Some old → IsLogAt from whole (with_log worker next s) now_given worker next new
+pub each_logged : (from : ℕ) (turning : Turning) (s : Store) (logs : List (StoreLog MemDisk)) (given now_given : List ℕ) (worker : ℕ) (was next : LogNow) (old new : StoreLog MemDisk)
+    → slice_get s.logs worker ≡ Some was → slice_get logs worker ≡ Some old → IsLogAt from (part_of turning worker) (with_log worker next s) now_given worker next new
     → ((k : ℕ) → k ≢ worker → slice_get now_given k ≡ slice_get given k)
-    → EachLog (IsLogAt from whole s given) s logs → EachLog (IsLogAt from whole (with_log worker next s) now_given) (with_log worker next s) (slice_set logs worker new)
-each_logged from whole s logs given now_given worker was next old new there here at others all k now log is_now is_log = by (cases_eq k worker)
+    → EachAt from turning s given logs → EachAt from turning (with_log worker next s) now_given (slice_set logs worker new)
+each_logged from turning s logs given now_given worker was next old new there here at others all k now log is_now is_log = by (cases_eq k worker)
   where
     kept : (kept : Option Batch) → HoldsKept s k kept → HoldsKept (with_log worker next s) k kept
     kept None h = h
     kept (Some b) h = record { made = h.made; records = h.records }
 
-    by : (k ≡ worker) ⊎ (k ≢ worker) → IsLogAt from whole (with_log worker next s) now_given k now log
+    by : (k ≡ worker) ⊎ (k ≢ worker) → IsLogAt from (part_of turning k) (with_log worker next s) now_given k now log
     by (inl same) =
         let n : next ≡ now = same_Some next now (sym (set_there s.logs worker was next there) ∙ subst (λ j. slice_get (slice_set s.logs worker next) j ≡ Some now) same is_now) in
         let l : new ≡ log = same_Some new log (sym (set_there logs worker old new here) ∙ subst (λ j. slice_get (slice_set logs worker new) j ≡ Some log) same is_log) in
-        subst (λ (x : StoreLog MemDisk). IsLogAt from whole (with_log worker next s) now_given k now x) l
-        (subst (λ (x : LogNow). IsLogAt from whole (with_log worker next s) now_given k x new) n
-        (subst (λ j. IsLogAt from whole (with_log worker next s) now_given j next new) (sym same) at))
+        subst (λ (x : StoreLog MemDisk). IsLogAt from (part_of turning k) (with_log worker next s) now_given k now x) l
+        (subst (λ (x : LogNow). IsLogAt from (part_of turning k) (with_log worker next s) now_given k x new) n
+        (subst (λ j. IsLogAt from (part_of turning j) (with_log worker next s) now_given j next new) (sym same) at))
     by (inr other) =
         let a = all k now log (sym (set_other s.logs worker k next other) ∙ is_now) (sym (set_other logs worker k new other) ∙ is_log) in
         record { files = a.files; stands = a.stands; begins = a.begins; given_so = others k other ∙ a.given_so; kept = kept log.kept a.kept }

@@ -19,6 +19,7 @@ use Rattle.mt_lives.proofs.{LogDrains.{DrainsLog, KeepsDrainedLog}, TurnLogs.{Is
 use Rattle.mt_lives.proofs.Flushing.{keeps_rules, failures_of, doubt_drained, Moves, stands_at, as_log_at, kept_moves, waits_moves, full_or_all, flushed, keeps_moves}
 use Rattle.mt_lives.proofs.Noting.{life_served, held, HoldsAgain, found, at, moved}
 use Rattle.mt_lives.specs.declared.live_slots.LiveSlots.{LiveSlots}
+use Rattle.mt_lives.specs.Turning.{part_of}
 
 -- ---- the batch that waits
 
@@ -68,7 +69,7 @@ module _ (accounts : Accounts) (slots : LiveSlots) (standing : Standing) (logs :
   unfolding now
   there = (found accounts slots standing logs serving h worker log new here).1
 
-  log_at : IsLogAt h.from h.whole h.s v.logs worker now log
+  log_at : IsLogAt h.from (part_of h.turning worker) h.s v.logs worker now log
   unfolding v now
   log_at = at accounts slots standing logs serving h worker log new here
 
@@ -80,10 +81,10 @@ module _ (accounts : Accounts) (slots : LiveSlots) (standing : Standing) (logs :
   AnyStore s = Unit {0}
 
   -- its state was not drained
-  undrained : (now_serving : Serving) → now_serving ≡ serving → Moves h.from h.whole h.s v.logs worker new → Again now_serving AnyStore
+  undrained : (now_serving : Serving) → now_serving ≡ serving → Moves h.from (part_of h.turning worker) h.s v.logs worker new → Again now_serving AnyStore
   unfolding life v names
   undrained now_serving same m =
-      let a = moved accounts slots standing logs serving h worker log new here serving m serves refl refl (λ k other. refl) in
+      let a = moved accounts slots standing logs serving h worker log new here serving m serves refl refl refl (λ k other. refl) in
       subst (λ (x : Serving). Again x AnyStore) (sym same) (record { again = a.again; so = tt })
 
   -- it was
@@ -97,21 +98,21 @@ module _ (accounts : Accounts) (slots : LiveSlots) (standing : Standing) (logs :
         subst (λ r. Serves accounts life h.s now_serving.state (named r.tickets)) (sym given.roster)
         (serves_drained accounts life h.s v names serves now_serving.state worker batch given.state given.right)
 
-    drained_on : (m : Moves h.from h.whole h.s now_serving.state.logs worker new) → Again now_serving (λ s. slice_get s.logs worker ≡ Some m.next)
+    drained_on : (m : Moves h.from (part_of h.turning worker) h.s now_serving.state.logs worker new) → Again now_serving (λ s. slice_get s.logs worker ≡ Some m.next)
     unfolding life v
-    drained_on m = moved accounts slots standing logs serving h worker log new here now_serving m now_serves given.roster given.settles others
+    drained_on m = moved accounts slots standing logs serving h worker log new here now_serving m now_serves given.roster given.settles given.generation others
 
   -- ---- appends and drains
 
   -- the batch that waited is in the log
   pub kept_again : OnLast (AppendsKept keeps_rules mem_state failures_of) log new → Again serving AnyStore
   unfolding life v names
-  kept_again a = undrained serving refl (kept_moves h.from h.whole accounts life h.s v names serves worker now log there log_at new a)
+  kept_again a = undrained serving refl (kept_moves h.from (part_of h.turning worker) accounts life h.s v names serves worker now log there log_at new a)
 
   -- it still waits
   pub waits_again : (e : Refusal) → OnLast (FailsToAppend keeps_rules mem_state failures_of e) log new → Again serving AnyStore × IsMemoryOrDevice e
   unfolding life v names
-  waits_again e f = let r = waits_moves h.from h.whole accounts life h.s v names serves worker now log there log_at e new f in (undrained serving refl r.0, r.1)
+  waits_again e f = let r = waits_moves h.from (part_of h.turning worker) accounts life h.s v names serves worker now log there log_at e new f in (undrained serving refl r.0, r.1)
 
   -- the worker was drained once, and its batch is in the log
   pub drained_again : (now_serving : Serving) (upto mark : ℕ) → log.kept ≡ None → DrainsLog keeps_rules mem_state failures_of DrainsServing worker upto mark log new serving now_serving
@@ -119,8 +120,8 @@ module _ (accounts : Accounts) (slots : LiveSlots) (standing : Standing) (logs :
       × ((mark ≡ serving.state.steps) ⊎ ((life_served accounts slots standing logs serving h).base + 4096 ≤ mark))
   unfolding life v names
   drained_again now_serving upto mark none d =
-      let r = flushed h.from h.whole accounts life h.s v names serves worker now log there log_at none now_serving.state d.batch d.given.state d.bounded new d.appended in
-      let all = full_or_all h.from h.whole accounts life h.s v names serves worker now log there log_at none now_serving.state d.batch d.given.state d.bounded in
+      let r = flushed h.from (part_of h.turning worker) accounts life h.s v names serves worker now log there log_at none now_serving.state d.batch d.given.state d.bounded new d.appended in
+      let all = full_or_all h.from (part_of h.turning worker) accounts life h.s v names serves worker now log there log_at none now_serving.state d.batch d.given.state d.bounded in
       let a = drained_on now_serving d.batch d.given r.0 in (
         record {
           again = a.again;
@@ -135,20 +136,20 @@ module _ (accounts : Accounts) (slots : LiveSlots) (standing : Standing) (logs :
       → Again now_serving AnyStore × IsMemoryOrDevice e
   unfolding life v names
   keeps_again now_serving e none k =
-      let r = keeps_moves h.from h.whole accounts life h.s v names serves worker now log there log_at none now_serving.state k.batch k.given.state k.bounded new e k.fails in
+      let r = keeps_moves h.from (part_of h.turning worker) accounts life h.s v names serves worker now log there log_at none now_serving.state k.batch k.given.state k.bounded new e k.fails in
       let a = drained_on now_serving k.batch k.given r.0 in
       (record { again = a.again; so = tt }, r.1)
 
   -- ---- reopenings
 
-  stands : IsAt h.from h.whole now log
+  stands : IsAt h.from (part_of h.turning worker) now log
   unfolding v
-  stands = stands_at h.from h.whole h.s v.logs worker now log log_at
+  stands = stands_at h.from (part_of h.turning worker) h.s v.logs worker now log log_at
 
   pub reopen_noted : ReopensLog keeps_rules mem_state failures_of log new → Again serving (λ s. Unit {0})
   unfolding v
   reopen_noted r =
-      let o = reopened_in h.from h.whole now log new stands r in
+      let o = reopened_in h.from (part_of h.turning worker) now log new stands r in
       let mid : LogNow = o.0 in
       let next : LogNow = o.1 in
       let goes : GoesTo worker next h.s =
@@ -157,14 +158,14 @@ module _ (accounts : Accounts) (slots : LiveSlots) (standing : Standing) (logs :
       undrained serving refl (record {
         next = next;
         goes = goes;
-        at = as_log_at h.from h.whole (with_log worker next h.s) v.logs worker next new o.3 (log_at.given_so ∙ ap Some (sym o.5))
+        at = as_log_at h.from (part_of h.turning worker) (with_log worker next h.s) v.logs worker next new o.3 (log_at.given_so ∙ ap Some (sym o.5))
             (subst (HoldsKept (with_log worker next h.s) worker) (sym (none_waits log new r)) tt);
       })
 
   pub reopen_fails : (e : Refusal) → FailsToReopenLog keeps_rules mem_state failures_of e log new → Again serving (λ s. Unit {0}) × IsMemoryOrDevice e
   unfolding v
   reopen_fails e f =
-      let o = not_reopened_in h.from h.whole now log new stands e f in
+      let o = not_reopened_in h.from (part_of h.turning worker) now log new stands e f in
       let mid : LogNow = o.0 in
       let next : LogNow = o.1 in
       let first : GoesTo worker mid h.s = ⊎_elim
@@ -174,11 +175,11 @@ module _ (accounts : Accounts) (slots : LiveSlots) (standing : Standing) (logs :
       let goes : GoesTo worker next h.s =
       and_then worker h.s now mid next there first
       (is_in_doubt worker (with_log worker mid h.s) mid next log.kept serves.serving (set_there h.s.logs worker now mid there) (kept_on h.s worker mid log.kept log_at.kept) o.4) in
-      let upto : drained_upto next new.kept ≡ drained_upto now log.kept = doubt_drained log.kept new.kept mid next o.4 o.5 ∙ rest_drained now mid log.kept (waiting h.from h.whole now log stands) o.2 in (
+      let upto : drained_upto next new.kept ≡ drained_upto now log.kept = doubt_drained log.kept new.kept mid next o.4 o.5 ∙ rest_drained now mid log.kept (waiting h.from (part_of h.turning worker) now log stands) o.2 in (
         undrained serving refl (record {
           next = next;
           goes = goes;
-          at = as_log_at h.from h.whole (with_log worker next h.s) v.logs worker next new o.3 (log_at.given_so ∙ ap Some (sym upto))
+          at = as_log_at h.from (part_of h.turning worker) (with_log worker next h.s) v.logs worker next new o.3 (log_at.given_so ∙ ap Some (sym upto))
               (subst (HoldsKept (with_log worker next h.s) worker) (sym o.5) (kept_on h.s worker next log.kept log_at.kept));
         }),
         o.6,

@@ -1,32 +1,33 @@
 -- The files of all logs of a store that serves no life are opened: the logs come to rest, or stay as they were.
-use Rattle.std.proofs.Common.{◌≡◌, ◌⊎◌, ℕ, suc, ◌+◌, ◌<◌, ◌≤◌, List, [], ◌∷◌, map, length, Some, None, refl, sym, ap, subst, ◌∙◌, arith, inl, inr, ⊎_elim}
+use Rattle.std.proofs.Common.{◌≡◌, ◌⊎◌, ℕ, suc, ◌+◌, ◌<◌, ◌≤◌, false, List, [], ◌∷◌, map, length, Some, None, refl, sym, ap, subst, ◌∙◌, arith, inl, inr, ⊎_elim}
 use Rattle.std.proofs.lemmas.Option.{same_Some}
 use Rattle.std.specs.{Prelude.slice_get, List.AllZip}
 use Rattle.mt_disk.specs.{declared.mem.MemDisk.MemDisk, Mem.mem_state}
 use Rattle.mt_log.specs.Contents.{Contents, contents_of}
 use Rattle.mt_crashes.specs.{Fronts.In, Bases.Slots, Stores.{Store, LogNow, new_store, at_rest, MayLeaveFront, MayLeaveFronts, MayLeaveSlots}, Invariants.IsStore}
 use Rattle.mt_crashes.proofs.{Members.place_in, Invariant.{within_place, map_place, zip_left, zip_right}, NewStore.new_is, Kept.leads}
-use Rattle.mt_generations.specs.Chains.{EndsLog, HasUse}
+use Rattle.mt_generations.specs.{Chains.{Chain, EndsLog, BeginBy, HasUse}, Turns.HasBase}
 use Rattle.mt_chains.specs.Files.{standing_of as read_of}
 use Rattle.mt_log_files.specs.{declared.worker.WorkerFiles.WorkerFiles, Files.{Spare, Has}}
 use Rattle.mt_chain_files.specs.{declared.opening.Chains.Chains, Lasts.last_generation_of}
 use Rattle.mt_chain_files.specs.Turns.{FilesNow, now_of, AreOfTurn, StaysWhole, ShowFiles, HasLast, IsLastOfTurn, ComeToRest, StayTheirs, Rests as FileRests}
-use Rattle.mt_chain_files.proofs.{Agreeing.agree_self, Starts.LeavesNoMore, OwnFiles.{opened, failed, opened_leave, failed_leave}}
+use Rattle.mt_chain_files.proofs.{Agreeing.agree_self, Narrowing.Narrows, Starts.HasFrom, OwnFiles.{opened, failed, opened_have, failed_narrow}}
 use Rattle.mt_store_logs.specs.{declared.fault.LogRefusal.LogRefusal, declared.store_log.StoreLog.StoreLog, Ends.StandsInTurn}
 use Rattle.mt_store_logs.proofs.FirstAndCrashed.{opened_in_turn}
 use Rattle.mt_store_logs.specs.Taking.{files_of, fault_of, HasItsFiles, OpensLogs, StopsFiles, StopsOpening}
-use Rattle.mt_lives.specs.{Lives.IsMemoryOrDevice, Holds.{HasCome, LeadsTo, BeginsAt0, EachLog, IsLogDown}}
-use Rattle.mt_lives.proofs.{Begun.{stay_whole, begins_opened}, Flushing.{keeps_rules, failures_of, within}, Walking.{with_logs, all_rest, rested_count}, Leaving.AllDown}
+use Rattle.mt_lives.specs.{Lives.IsMemoryOrDevice, Holds.{HasCome, LeadsTo, EachLog, IsLogDown}}
+use Rattle.mt_lives.proofs.{Begun.{stay_whole, begins_narrow, begins_from_chain}, Flushing.{keeps_rules, failures_of, within}, Walking.{with_logs, all_rest, rested_count}, Leaving.AllDown}
+use Rattle.mt_lives.specs.Bases.{Whole, BeginsBy}
 
 -- ---- the files of all logs, in one list
 
-pub record Collected (g h : ℕ) (lows : List LogNow) (logs : List (StoreLog MemDisk)) : Type 0 where
+pub record Collected (g : ℕ) (h : Whole) (lows : List LogNow) (logs : List (StoreLog MemDisk)) : Type 0 where
   pub files : List FilesNow
   pub turn : AllZip (AreOfTurn g) lows files
   pub shows : AllZip (ShowFiles keeps_rules mem_state) files (map files_of logs)
-  pub begins : (f : FilesNow) → In f files → BeginsAt0 g h f
+  pub begins : (f : FilesNow) → In f files → BeginsBy g h f
 
-pub collect : (g h : ℕ) (lows : List LogNow) (logs : List (StoreLog MemDisk)) → length lows ≡ length logs
+pub collect : (g : ℕ) (h : Whole) (lows : List LogNow) (logs : List (StoreLog MemDisk)) → length lows ≡ length logs
     → ((k : ℕ) (now : LogNow) (log : StoreLog MemDisk) → slice_get lows k ≡ Some now → slice_get logs k ≡ Some log → IsLogDown g h now log) → Collected g h lows logs
 collect g h [] [] len each = record { files = []; turn = tt; shows = tt; begins = λ f at. absurd at }
 collect g h [] (log ∷ logs) len each = absurd (omega (arith, len))
@@ -38,7 +39,7 @@ collect g h (now ∷ lows) (log ∷ logs) len each =
       files = one.files ∷ rest.files;
       turn = (one.turn, rest.turn);
       shows = (one.shows, rest.shows);
-      begins = λ f at. ⊎_elim (λ same. subst (BeginsAt0 g h) (sym same) one.begins) (λ there. rest.begins f there) at;
+      begins = λ f at. ⊎_elim (λ same. subst (BeginsBy g h) (sym same) one.begins) (λ there. rest.begins f there) at;
     }
 
 -- a front is of the same worker as the log of which it is left
@@ -46,23 +47,24 @@ same_owner : (now : LogNow) (front : Contents) → MayLeaveFront now front → (
 same_owner now front (inl same) = (ap (λ (c : Contents). c.worker) same, ap (λ (c : Contents). c.logs) same)
 same_owner now front (inr more) = (ap (λ (c : Contents). c.worker) more.2, ap (λ (c : Contents). c.logs) more.2)
 
--- A log that was opened, and rests.
-pub record IsLogOpen (g h : ℕ) (now : LogNow) (log : StoreLog MemDisk) : Type 0 where
+-- A log that was opened, and rests. It is known whether it has a next one.
+pub record IsLogOpen (g : ℕ) (h : Whole) (now : LogNow) (log : StoreLog MemDisk) : Type 0 where
   pub files : FilesNow
   pub stands : StandsInTurn keeps_rules mem_state g now files log
-  pub begins : BeginsAt0 g h files
+  pub begins : BeginsBy g h files
   pub none : log.kept ≡ None
+  pub sure : log.next_in_doubt ≡ false
 
-abbrev pub AllOpen : ℕ → ℕ → Store → List (StoreLog MemDisk) → Type 0
+abbrev pub AllOpen : ℕ → Whole → Store → List (StoreLog MemDisk) → Type 0
 AllOpen g h s logs = EachLog (λ worker now log. IsLogOpen g h now log) s logs
 
-pub open_down : (g h : ℕ) (now : LogNow) (log : StoreLog MemDisk) → IsLogOpen g h now log → IsLogDown g h now log
+pub open_down : (g : ℕ) (h : Whole) (now : LogNow) (log : StoreLog MemDisk) → IsLogOpen g h now log → IsLogDown g h now log
 open_down g h now log is = record { files = is.files; turn = is.stands.turn; shows = is.stands.shows; begins = is.begins; owner = is.stands.owner }
 
-pub all_open_down : (g h : ℕ) (s : Store) (logs : List (StoreLog MemDisk)) → AllOpen g h s logs → AllDown g h s logs
+pub all_open_down : (g : ℕ) (h : Whole) (s : Store) (logs : List (StoreLog MemDisk)) → AllOpen g h s logs → AllDown g h s logs
 all_open_down g h s logs all worker now log there at = open_down g h now log (all worker now log there at)
 
-module _ (s : Store) (count : ℕ) (some : 0 < count) (few : count ≤ 64) (come : HasCome count s) (g h : ℕ) (old : List (StoreLog MemDisk)) (len : length s.logs ≡ length old)
+module _ (s : Store) (count : ℕ) (some : 0 < count) (few : count ≤ 64) (come : HasCome count s) (g : ℕ) (h : Whole) (base : HasBase s h.starts) (old : List (StoreLog MemDisk)) (len : length s.logs ≡ length old)
     (each : AllDown g h s old) (read : Slots) (left_slots : MayLeaveSlots s.slots read) where
   all : Collected g h s.logs old
   all = collect g h s.logs old len each
@@ -70,8 +72,8 @@ module _ (s : Store) (count : ℕ) (some : 0 < count) (few : count ≤ 64) (come
   is : IsStore s
   is = leads come.0 (new_store count) s (new_is count some few) come.1
 
-  whole : StaysWhole g h s all.files
-  whole = stay_whole g h s all.files all.begins
+  whole : StaysWhole g h.generation s all.files
+  whole = stay_whole g h s all.files base all.begins
 
   -- the log at a place, and its files
   record WasAt (k : ℕ) (log : StoreLog MemDisk) (at : slice_get old k ≡ Some log) : Type 0 where
@@ -84,17 +86,27 @@ module _ (s : Store) (count : ℕ) (some : 0 < count) (few : count ≤ 64) (come
       let now = within_place s.logs k (subst (λ n. k < n) (sym len) (within old k log at)) in
       record { now = now.0; there = now.1; down = each k now.0 log now.1 at }
 
-  -- what began at step 0 does so once the files were opened
-  begins_at : (files : List FilesNow) → AllZip (LeavesNoMore g) all.files files → (k : ℕ) (f : FilesNow) → slice_get files k ≡ Some f → BeginsAt0 g h f
+  -- what began by a step does so once the files were opened
+  begins_at : (files : List FilesNow) → AllZip Narrows all.files files → (k : ℕ) (f : FilesNow) → slice_get files k ≡ Some f → BeginsBy g h f
   begins_at files leave k f there =
-      let was = zip_right (LeavesNoMore g) all.files files k f leave there in
-      begins_opened g h was.0 f was.2 (all.begins was.0 (place_in was.0 k all.files was.1))
+      let was = zip_right Narrows all.files files k f leave there in
+      begins_narrow g h was.0 f was.2 (all.begins was.0 (place_in was.0 k all.files was.1))
 
   -- ---- all were opened
 
   module _ (mid : List (StoreLog MemDisk)) (chains : Chains) (o : OpensLogs keeps_rules mem_state failures_of read old mid chains) where
     rests : ComeToRest keeps_rules mem_state g all.files s.logs o.files chains
-    rests = opened keeps_rules mem_state failures_of s is g h all.files read left_slots all.turn whole (map files_of old) all.shows o.files chains o.opens
+    rests = opened keeps_rules mem_state failures_of s is g h.generation all.files read left_slots all.turn whole (map files_of old) all.shows o.files chains o.opens
+
+    -- they have the logs from which the chains are
+    have_logs : AllZip (λ (f : FilesNow) (c : Chain). HasFrom g chains.generation c.start f) rests.files (map contents_of chains.fronts.items)
+    unfolding rests
+    have_logs =
+        opened_have keeps_rules mem_state failures_of s is g h.generation all.files read left_slots all.turn whole (map files_of old) all.shows o.files chains o.opens
+
+    -- the generation of the chains, all of which began by a step
+    abbrev pub opened_whole : ℕ → Whole
+    opened_whole starts = record { generation = chains.generation; starts = starts }
 
     pub fronts : List Contents
     fronts = rests.fronts
@@ -165,20 +177,21 @@ module _ (s : Store) (count : ℕ) (some : 0 < count) (few : count ≤ 64) (come
           let own = same_owner w.now front.0 (subst (λ (n : LogNow). MayLeaveFront n front.0) same left.2) in
           (back.stands.worker ∙ w.down.owner.0 ∙ sym own.0, back.stands.logs ∙ w.down.owner.1 ∙ sym own.1)
 
-      log_open : IsLogOpen g h now log
-      unfolding rests
-      log_open = record {
+      log_open : (starts : ℕ) → BeginBy starts (map contents_of chains.fronts.items) → IsLogOpen g (opened_whole starts) now log
+      log_open starts by = record {
         files = file.0;
         stands = subst (λ (n : LogNow). StandsInTurn keeps_rules mem_state g n file.0 log) (sym front.2)
             (opened_in_turn keeps_rules mem_state failures_of g front.0 last.last file.0 log (subst (λ (n : LogNow). AreOfTurn g n file.0) front.2 file.2) shows has (last.of ∙ sym back.stands.generation)
             last.ends opened_in back.rest.sure back.rest.none owner);
-        begins = begins_at rests.files
-            (opened_leave keeps_rules mem_state failures_of s is g h all.files read left_slots all.turn whole (map files_of old) all.shows o.files chains o.opens) k file.0 file.1;
+        begins =
+            let c = zip_left (λ (f : FilesNow) (c : Chain). HasFrom g chains.generation c.start f) rests.files (map contents_of chains.fronts.items) k file.0 have_logs file.1 in
+            begins_from_chain g chains.generation c.0.start starts file.0 c.2 (by c.0 (place_in c.0 k (map contents_of chains.fronts.items) c.1));
         none = back.rest.none;
+        sure = back.rest.sure;
       }
 
-    pub all_open : AllOpen g h (with_logs (map at_rest fronts) s) mid
-    all_open k now log there at = log_open k now log there at
+    pub all_open : (starts : ℕ) → BeginBy starts (map contents_of chains.fronts.items) → AllOpen g (opened_whole starts) (with_logs (map at_rest fronts) s) mid
+    all_open starts by k now log there at = log_open k now log there at starts by
 
   -- ---- they were not
 
@@ -189,8 +202,14 @@ module _ (s : Store) (count : ℕ) (some : 0 < count) (few : count ≤ 64) (come
     pub each_so : AllDown g h s new
 
   module _ (e : LogRefusal) (new : List (StoreLog MemDisk)) (stops : StopsFiles keeps_rules mem_state failures_of read e old new) where
-    stay : IsMemoryOrDevice e.refusal × StayTheirs keeps_rules mem_state g h s stops.files
-    stay = failed keeps_rules mem_state failures_of s is g h all.files read left_slots all.turn whole (map files_of old) all.shows stops.files (fault_of e) stops.stops
+    stay : IsMemoryOrDevice e.refusal × StayTheirs keeps_rules mem_state g h.generation s stops.files
+    stay = failed keeps_rules mem_state failures_of s is g h.generation all.files read left_slots all.turn whole (map files_of old) all.shows stops.files (fault_of e) stops.stops
+
+    -- no more may be left of them
+    narrowed : AllZip Narrows all.files stay.1.files
+    unfolding stay
+    narrowed =
+        failed_narrow keeps_rules mem_state failures_of s is g h.generation all.files read left_slots all.turn whole (map files_of old) all.shows stops.files (fault_of e) stops.stops
 
     stays_at : (k : ℕ) (now : LogNow) (log : StoreLog MemDisk) → slice_get s.logs k ≡ Some now → slice_get new k ≡ Some log → IsLogDown g h now log
     unfolding stay
@@ -206,8 +225,7 @@ module _ (s : Store) (count : ℕ) (some : 0 < count) (few : count ≤ 64) (come
           files = file.0;
           turn = file.2;
           shows = subst (ShowFiles keeps_rules mem_state file.0) (sym files_are) places.2;
-          begins = begins_at theirs.files
-              (failed_leave keeps_rules mem_state failures_of s is g h all.files read left_slots all.turn whole (map files_of old) all.shows stops.files (fault_of e) stops.stops) k file.0 file.1;
+          begins = begins_at theirs.files narrowed k file.0 file.1;
           owner = (back.stands.worker ∙ down.owner.0, back.stands.logs ∙ down.owner.1);
         }
 

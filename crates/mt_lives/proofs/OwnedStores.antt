@@ -1,5 +1,5 @@
 -- What holds of a store that is owned alone when it was just made, and after it was recovered.
-use Rattle.std.proofs.Common.{◌≡◌, ℕ, ◌<◌, ◌≤◌, List, map, length, Option, Some, refl, sym, ap, subst, ◌∙◌, inl}
+use Rattle.std.proofs.Common.{◌≡◌, ◌<◌, ◌≤◌, List, map, length, Option, Some, refl, sym, ap, subst, ◌∙◌, inl}
 use Rattle.std.proofs.lemmas.Option.{same_Some}
 use Rattle.mt_rows.specs.Accounts.{Accounts}
 use Rattle.mt_disk.specs.{declared.mem.MemDisk.MemDisk, Mem.mem_state}
@@ -21,7 +21,7 @@ use Rattle.mt_lives.proofs.{Flushing.{keeps_rules, failures_of, within}, Walking
 
 pub owned_new : (accounts : Accounts) (files : List (WorkerFiles MemDisk)) (bare slots : StoreSlots MemDisk) (v : StateView) (logs : List (StoreLog MemDisk)) (serving : Serving)
     → 0 < length files → length files ≤ 64 → IsNewStore keeps_rules mem_state failures_of files bare accounts v logs (Some slots) → IsRightState v → serving.state ≡ v
-    → IsFresh serving → Holds accounts (Rest slots) new_standing logs (Some serving)
+    → IsFresh logs serving → Holds accounts (Rest slots) new_standing logs (Some serving)
 owned_new accounts files bare slots v logs serving some few new right state fresh =
     let is : v ≡ new_state (length logs) accounts = new.state_is ∙ ap (λ n. new_state n accounts) (sym (new.logs_are.len ∙ new.closed_so.count)) in
     holds_new accounts files new.closed logs some few new.closed_so new.logs_are v is right serving state fresh bare slots
@@ -36,6 +36,7 @@ left_closed accounts slots standing left closed l are = record {
   s = l.s;
   from = l.from;
   whole = l.whole;
+  base = l.base;
   left = subst (λ n. IsLeft accounts standing.settled (past_of standing.now) n l.s) (sym len) l.left;
   each = λ k now other there at.
       let log = within_place left k (subst (λ n. k < n) len (within closed k other at)) in
@@ -60,7 +61,7 @@ left_closed accounts slots standing left closed l are = record {
 
 pub owned_recovered : (accounts : Accounts) (slots found now : StoreSlots MemDisk) (old left new : List (StoreLog MemDisk)) (was : Option Serving)
     (images : CrashImages) (serving : Serving) → AllCrash images old slots left found
-    → IsRecoveredStore keeps_rules mem_state failures_of (map files_of left) found accounts serving.state new (Some now) → IsRightState serving.state → IsFresh serving
+    → IsRecoveredStore keeps_rules mem_state failures_of (map files_of left) found accounts serving.state new (Some now) → IsRightState serving.state → IsFresh new serving
     → (r : Found) × GoesOn accounts (Rest slots) (Rest now) (Crash images) (Recovered r) old was new (Some serving)
 owned_recovered accounts slots found now old left new was images serving crashed is right fresh =
     let r = is.recovered in

@@ -1,5 +1,5 @@
 -- What turns of a store that is owned alone make of all that holds of a store.
-use Rattle.std.proofs.Common.{◌≡◌, ℕ, zero, suc, ◌<◌, List, [], ◌∷◌, ◌++◌, length, Some, Result, Ok, Err, refl, sym, ap, subst, ◌∙◌, inl, inr}
+use Rattle.std.proofs.Common.{◌≡◌, ℕ, zero, suc, ◌+◌, ◌<◌, List, [], ◌∷◌, ◌++◌, length, Some, Result, Ok, Err, refl, sym, ap, subst, ◌∙◌, inl, inr}
 use Rattle.std.proofs.lemmas.List.{length-set}
 use Rattle.std.specs.Prelude.{IfErr}
 use Rattle.mt_rows.specs.{Accounts.Accounts, declared.record.Batch.Batch, declared.refusal.Refusal.Refusal}
@@ -9,7 +9,7 @@ use Rattle.mt_batches.specs.Batches.{IsBounded}
 use Rattle.mt_state.specs.Views.{StateView}
 use Rattle.mt_core.specs.Rights.{IsRightState}
 use Rattle.mt_store_logs.specs.{declared.store_log.StoreLog.StoreLog, Places.worker_of, LogTurns.{BringsUp, FailsToBringUp}}
-use Rattle.mt_settle.specs.Turns.{Turn, BroughtUp, Chain}
+use Rattle.mt_settle.specs.{Turns.{Turn, BroughtUp, Chain}, Settles.turns_from}
 use Rattle.mt_stored.specs.{declared.source.OwnState.OwnState, Stores.{gives_own, DoesStore}}
 use Rattle.mt_lives.specs.{declared.serving.Serving.Serving, Serving.DrainsServing, Lives.{Standing, IsMemoryOrDevice}, Holds.Holds, Owned.with_state}
 use Rattle.mt_lives.proofs.{Righted.right_drained, Flushing.{keeps_rules, failures_of, within}, Noting.held}
@@ -32,7 +32,7 @@ module _ (serving : Serving) (count steps worker : ℕ) (there : worker < count)
       → DrainsServing (by_state was) (by_state is) worker batch × IsReady count steps is
   drained was is batch r b d =
       let right = right_drained was.state is.state worker batch r.right (subst (λ n. worker < n) (sym r.logs) there) b.in_order.order d in (
-        record { state = d; right = right; roster = refl; settles = refl },
+        record { state = d; right = right; roster = refl; settles = refl; generation = refl },
         record {
           right = right;
           logs = ap (λ (v : StateView). length v.logs) d.stands ∙ length-set was.state.logs worker batch.to ∙ r.logs;
@@ -161,10 +161,10 @@ module _ (accounts : Accounts) (slots : LiveSlots) (standing : Standing) (servin
       )
 
   module _ {S : Type 0} (source : S → OwnState) (logs : S → List (StoreLog MemDisk)) where
-    pub turns_keep : (turns : List Turn) (old new : S) → Keeps (source old) (logs old) → Chain (does source logs) old turns new → Keeps (source new) (logs new)
-    turns_keep [] old new k c = subst (λ (s : S). Keeps (source s) (logs s)) (sym c) k
-    turns_keep (BroughtUp worker told ∷ turns) old new k (mid, d, rest) =
-        turns_keep turns mid new (turn_keeps worker told (source old) (logs old) (source mid) (logs mid) k d).0 rest
+    pub turns_keep : (log : ℕ) (marks : List ℕ) (old new : S) → Keeps (source old) (logs old) → Chain (does source logs) old (turns_from log marks) new → Keeps (source new) (logs new)
+    turns_keep log [] old new k c = subst (λ (s : S). Keeps (source s) (logs s)) (sym c) k
+    turns_keep log (mark ∷ marks) old new k (mid, d, rest) =
+        turns_keep (log + 1) marks mid new (turn_keeps log (Ok mark) (source old) (logs old) (source mid) (logs mid) k d).0 rest
 
 -- the last of some turns
 pub last_turn : {S : Type 0} (does : S → Turn → S → Type 0) (turns : List Turn) (turn : Turn) (old new : S) → Chain does old (turns ++ turn ∷ []) new

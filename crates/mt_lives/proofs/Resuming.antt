@@ -15,6 +15,7 @@ use Rattle.mt_lives.specs.{Lives.IsMemoryOrDevice, Holds.{LeadsTo, IsLogDown}}
 use Rattle.mt_lives.proofs.{Comes.{set_there, set_same, stays_here, one_more, then_to, and_then, to_rest}, Logged.{set_other, set_length}}
 use Rattle.mt_lives.proofs.{Begun.begins_kept, Flushing.{keeps_rules, failures_of, within}, Walking.{with_logs, Walked, walk}, Leaving.AllDown, Opening.{IsLogOpen, AllOpen, open_down}}
 use Rattle.mt_rows.specs.declared.refusal.Refusal.TheVariants as refusals
+use Rattle.mt_lives.specs.Bases.{Whole}
 
 -- the batch with which a recovery ends at a log, and that log with it, for certain or not
 abbrev pub resume_batch : ℕ → ℕ → Contents → LogBatch
@@ -32,7 +33,7 @@ of_resume kept to refusals.Memory old new f = inl refl
 of_resume kept to e old new f = absurd f
 
 -- a log at a place has its resume batch, and rests with it
-record HasBatch (g h kept to : ℕ) (new : List (StoreLog MemDisk)) (k : ℕ) (was next : LogNow) : Type 0 where
+record HasBatch (g : ℕ) (h : Whole) (kept to : ℕ) (new : List (StoreLog MemDisk)) (k : ℕ) (was next : LogNow) : Type 0 where
   front : Contents
   rested : was ≡ at_rest front
   rises : Rises (resume_batch kept to front)
@@ -67,7 +68,7 @@ module _ (t : Store) (kept : ℕ) (before : List Numbers) (off : t.serving ≡ f
       (to_rest k (with_logs (slice_set ls k doubt) t) doubt (with_batch (resume_batch kept t.reached c) c) (set_there ls k (at_rest c) doubt there)
       (inr (resume_batch kept t.reached c, refl, refl)))
 
-  module _ (fronts : List Contents) (rest : t.logs ≡ map at_rest fronts) (g h : ℕ) (old new : List (StoreLog MemDisk)) (count : length t.logs ≡ length old) (len : length new ≡ length old)
+  module _ (fronts : List Contents) (rest : t.logs ≡ map at_rest fronts) (g : ℕ) (h : Whole) (old new : List (StoreLog MemDisk)) (count : length t.logs ≡ length old) (len : length new ≡ length old)
       (each : AllOpen g h t old) where
     abbrev Has : ℕ → LogNow → LogNow → Type 0
     Has = HasBatch g h kept t.reached new
@@ -98,7 +99,7 @@ module _ (t : Store) (kept : ℕ) (before : List Numbers) (off : t.serving ≡ f
       open_with r =
           let l = log_was in
           let a = resumed_in_turn keeps_rules mem_state failures_of g front kept t.reached l.files was is l.stands l.none fits r in
-          (a.1, record { files = a.0; stands = a.2; begins = begins_kept g h l.files a.0 a.3 l.begins; none = r.does.1 ∙ l.none })
+          (a.1, record { files = a.0; stands = a.2; begins = begins_kept g h l.files a.0 a.3 l.begins; none = r.does.1 ∙ l.none; sure = r.doubts ∙ l.sure })
 
       has : slice_get new k ≡ Some is → ResumesLog keeps_rules mem_state failures_of kept t.reached was is → (next : LogNow) × Has k now next
       has is_there r =

@@ -9,7 +9,7 @@ use Rattle.mt_chain_files.specs.declared.opening.Chains.{Chains}
 use Rattle.mt_core.specs.{Restores.IsRestored, Rights.IsRightState}
 use Rattle.mt_state.specs.Views.{StateView}
 use Rattle.mt_crashes.specs.{Fronts.cutoff_of, Histories.{Placed, pairs_upto}, Bases.Slots, Recoveries.resume_of, Stores.{Store, at_rest as log_at_rest, only_this, MayLeaveSlots}}
-use Rattle.mt_generations.specs.Chains.{Chain, EndsLog, HasUse, IsRecoveredOver}
+use Rattle.mt_generations.specs.Chains.{Chain, EndsLog, BeginBy, HasUse, IsRecoveredOver}
 use Rattle.mt_recover.{specs.{Refusals.IsRefusal, declared.recovering.Recovered.{Recovered as Found}}, proofs.Limits.resume_within}
 use Rattle.mt_checkpoint.specs.declared.checkpoint.Checkpoint.{Checkpoint}
 use Rattle.mt_slots.specs.{declared.store_slots.StoreSlots.StoreSlots, declared.fault.SlotFault.SlotFault, Places.{Both, in_order, with_newest, refusal_for}}
@@ -22,16 +22,20 @@ use Rattle.mt_store_logs.proofs.{ChainFormat.chains_in_format, ForResumes.{both_
 use Rattle.mt_lives.specs.{declared.events.CrashImages.CrashImages, declared.events.StoreEvent.StoreEvent, declared.events.StoreEvent.TheVariants.Crash, declared.events.StoreNote.StoreNote}
 use Rattle.mt_lives.specs.{declared.events.StoreNote.TheVariants.{Recovered, Refused, NoSuch}, declared.serving.Serving.Serving}
 use Rattle.mt_lives.specs.Lives.{Life, Past, Standing, past_of, life_from, MayKeep, AreLeftOf, IsMemoryOrDevice, checking, crashed_to, IsNoted}
-use Rattle.mt_lives.specs.{declared.live_slots.LiveSlots.LiveSlots, declared.live_slots.LiveSlots.TheVariants.{Rest, Writes, Away}, declared.live_slots.Check.Check}
+use Rattle.mt_lives.specs.{declared.live_slots.LiveSlots.LiveSlots, declared.live_slots.LiveSlots.TheVariants.{Rest, Turns, Writes, Away}}
 use Rattle.mt_lives.specs.{Checks.{at_rest, SlotsStand}, Holds.{quotas_of, HasCome, LeadsTo, HoldsServing, Holds}, Forced.{AllCrash, IsCrashForced}}
 use Rattle.mt_lives.specs.{Returns.{IsFresh, Begins, AreRecovered, AreNotRecovered}, Steps.{GoesOn, CrashesTo}}
 use Rattle.mt_lives.proofs.{Comes.comes_on, Logged.all_on, Flushing.{keeps_rules, failures_of}, Walking.with_logs, Leaving.{AllDown, IsLeft, left_on}}
 use Rattle.mt_lives.proofs.SlotReading.{told_fault, stand_unread, with_slots, AreSure, stand_sure, slots_rest, stand_used}
 use Rattle.mt_lives.proofs.{Crashing.{holds_left, Leaves, leaves}, Opening.{AllOpen, all_open_down}}
-use Rattle.mt_lives.proofs.Recovering.{sure_leaves, recovered_from, kept_upto, refused, found_so, found_left, settled_kept, keeps_upto, left_recovered}
+use Rattle.mt_lives.proofs.Recovering.{recovers_to, sure_leaves, recovered_from, kept_upto, refused, found_so, found_left, settled_kept, keeps_upto, left_recovered}
 use Rattle.mt_lives.proofs.{Resuming.{all_resumed, resumed_in_part}, Living.{RestAt, served, serves_now, made_upto, begins_restored, begins_serving}}
 use Rattle.mt_lives.proofs.Opening as opening
 use Rattle.mt_lives.proofs.Resuming as resuming
+use Rattle.mt_crashes.specs.Invariants.{IsStore}
+use Rattle.mt_generations.specs.Turns.{HasBase}
+use Rattle.mt_lives.{specs.{Bases.{Whole, NewestIsBase}, Turning.only_whole}, proofs.Bases.{is_come, base_stays, newest_stays, base_read, base_rests, some_base, use_covers, used_newest}}
+use Rattle.mt_lives.proofs.GoingBack.{TurnsTo, turns_to}
 
 -- ---- lengths
 
@@ -47,7 +51,7 @@ module _ (accounts : Accounts) (slots : StoreSlots MemDisk) (standing : Standing
   abbrev g : ℕ
   g = from.from
 
-  abbrev h : ℕ
+  abbrev h : Whole
   h = from.whole
 
   abbrev past : Past
@@ -56,16 +60,19 @@ module _ (accounts : Accounts) (slots : StoreSlots MemDisk) (standing : Standing
   abbrev IsLeftAs : Past → Store → Type 0
   IsLeftAs past_now t = IsLeft accounts standing.settled past_now (length old) t
 
+  is_left : (past_now : Past) (t : Store) → IsLeftAs past_now t → IsStore t
+  is_left past_now t l = is_come (length old) t l.some l.few l.come
+
   -- a recovery was refused: the store serves no life, and keeps so much of the last one
   pub record Refuses (new : List (StoreLog MemDisk)) (now : StoreSlots MemDisk) : Type 0 where
     pub past_now : Past
     pub kept : MayKeep standing.settled (past_of standing.now) past_now
     pub holds : Holds accounts (Rest now) (crashed_to (Err past_now) standing) new None
 
-  holds_so : (past_now : Past) (t : Store) (new : List (StoreLog MemDisk)) (now : StoreSlots MemDisk) → length new ≡ length old → IsLeftAs past_now t → SlotsStand t.slots now
-      → AllDown g h t new → Holds accounts (Rest now) (crashed_to (Err past_now) standing) new None
-  holds_so past_now t new now len l stand each =
-      holds_left accounts now standing past_now g h new t (subst (λ n. IsLeft accounts standing.settled past_now n t) (sym len) l) stand each
+  holds_so : (w : Whole) (past_now : Past) (t : Store) (new : List (StoreLog MemDisk)) (now : StoreSlots MemDisk) → HasBase t w.starts → length new ≡ length old → IsLeftAs past_now t → SlotsStand t.slots now
+      → AllDown g w t new → Holds accounts (Rest now) (crashed_to (Err past_now) standing) new None
+  holds_so w past_now t new now base len l stand each =
+      holds_left accounts now standing past_now g w new t base (subst (λ n. IsLeft accounts standing.settled past_now n t) (sym len) l) stand each
 
   -- ---- a slot was not read
 
@@ -73,7 +80,7 @@ module _ (accounts : Accounts) (slots : StoreSlots MemDisk) (standing : Standing
       → IsMemoryOrDevice (refusal_for fault.cause) × Refuses old now
   not_read fault now stops = (
     told_fault fault.cause,
-    record { past_now = past; kept = inl refl; holds = holds_so past s old now refl from.left (stand_unread s.slots slots now fault from.stand stops) from.each },
+    record { past_now = past; kept = inl refl; holds = holds_so h past s old now from.base refl from.left (stand_unread s.slots slots now fault from.stand stops) from.each },
   )
 
   -- ---- both slots were read
@@ -97,14 +104,17 @@ module _ (accounts : Accounts) (slots : StoreSlots MemDisk) (standing : Standing
     stand_read : SlotsStand rested.slots read_slots
     stand_read = stand_sure both read_slots sure.keeps
 
+    base_rested : HasBase rested h.starts
+    base_rested = base_read h.starts s rested read (is_left past s from.left) sure.leads sure.left refl from.base
+
     -- a log was not opened
     pub not_opened : (e : LogRefusal) (new : List (StoreLog MemDisk)) → StopsOpening keeps_rules mem_state failures_of read e old new
         → IsMemoryOrDevice e.refusal × Refuses new read_slots
     not_opened e new stops =
         let l = left_rested in
-        let n = opening.not_opened rested (length old) l.some l.few l.come g h old l.len from.each read left_slots e new stops in (
+        let n = opening.not_opened rested (length old) l.some l.few l.come g h base_rested old l.len from.each read left_slots e new stops in (
           n.cause,
-          record { past_now = past; kept = inl refl; holds = holds_so past rested new read_slots n.len_so l stand_read n.each_so },
+          record { past_now = past; kept = inl refl; holds = holds_so h past rested new read_slots base_rested n.len_so l stand_read n.each_so },
         )
 
     -- all were
@@ -113,38 +123,46 @@ module _ (accounts : Accounts) (slots : StoreSlots MemDisk) (standing : Standing
       found = map contents_of chains.fronts.items
 
       fronts : List Contents
-      fronts = opening.fronts rested (length old) left_rested.some left_rested.few left_rested.come g h old left_rested.len from.each read left_slots mid chains opens
+      fronts = opening.fronts rested (length old) left_rested.some left_rested.few left_rested.come g h base_rested old left_rested.len from.each read left_slots mid chains opens
 
       ends : AllZip EndsLog fronts found
       unfolding fronts
-      ends = opening.chains_end rested (length old) left_rested.some left_rested.few left_rested.come g h old left_rested.len from.each read left_slots mid chains opens
+      ends = opening.chains_end rested (length old) left_rested.some left_rested.few left_rested.come g h base_rested old left_rested.len from.each read left_slots mid chains opens
 
       has_use : HasUse found read
-      has_use = opening.chains_use rested (length old) left_rested.some left_rested.few left_rested.come g h old left_rested.len from.each read left_slots mid chains opens
+      has_use = opening.chains_use rested (length old) left_rested.some left_rested.few left_rested.come g h base_rested old left_rested.len from.each read left_slots mid chains opens
 
       abbrev opened_store : Store
       opened_store = with_logs (map log_at_rest fronts) rested
 
-      each_open : AllOpen g h opened_store mid
+      -- the generation of the chains stands whole from now on
+      abbrev opened_whole : ℕ → Whole
+      opened_whole starts = record { generation = chains.generation; starts = starts }
+
+      each_open : (starts : ℕ) → BeginBy starts found → AllOpen g (opened_whole starts) opened_store mid
       unfolding fronts
-      each_open = opening.all_open rested (length old) left_rested.some left_rested.few left_rested.come g h old left_rested.len from.each read left_slots mid chains opens
+      each_open = opening.all_open rested (length old) left_rested.some left_rested.few left_rested.come g h base_rested old left_rested.len from.each read left_slots mid chains opens
 
       opened_leads : LeadsTo rested opened_store
       unfolding fronts
-      opened_leads = opening.rested_leads rested (length old) left_rested.some left_rested.few left_rested.come g h old left_rested.len from.each read left_slots mid chains opens
+      opened_leads = opening.rested_leads rested (length old) left_rested.some left_rested.few left_rested.come g h base_rested old left_rested.len from.each read left_slots mid chains opens
 
       opened_len : length opened_store.logs ≡ length rested.logs
       unfolding fronts
-      opened_len = opening.rested_len rested (length old) left_rested.some left_rested.few left_rested.come g h old left_rested.len from.each read left_slots mid chains opens
+      opened_len = opening.rested_len rested (length old) left_rested.some left_rested.few left_rested.come g h base_rested old left_rested.len from.each read left_slots mid chains opens
 
       left_opened : IsLeftAs past opened_store
       left_opened = left_on accounts standing.settled past (length old) rested opened_store left_rested opened_leads opened_len refl
+
+      -- on a base that may be used
+      use_so : (starts : ℕ) × BeginBy starts found × HasBase opened_store starts
+      use_so = use_covers opened_store fronts found both (is_left past opened_store left_opened) refl refl ends has_use
 
       -- they are refused
       pub refused_for : (e : Refusal) → IsRefusal found read (quota_in accounts) e → IsMemoryOrDevice e × Refuses mid read_slots
       refused_for e is = (
         inl (refused accounts standing.settled past (length old) opened_store fronts found read left_opened refl refl ends has_use e is),
-        record { past_now = past; kept = inl refl; holds = holds_so past opened_store mid read_slots opens.back.len left_opened stand_read (all_open_down g h opened_store mid each_open) },
+        record { past_now = past; kept = inl refl; holds = holds_so (opened_whole use_so.0) past opened_store mid read_slots use_so.2 opens.back.len left_opened stand_read (all_open_down g (opened_whole use_so.0) opened_store mid (each_open use_so.0 use_so.1)) },
       )
 
       -- they are recovered
@@ -161,6 +179,17 @@ module _ (accounts : Accounts) (slots : StoreSlots MemDisk) (standing : Standing
       keeps = inr (keeps_upto accounts standing.settled past (length old) opened_store fronts found read left_opened refl refl ends)
 
       module _ (r : Found) (is : IsRecoveredOver found read r.cutoff r.resume r.used (pairs_of r.pairs.items)) where
+        -- the checkpoint that was used is the base from now on
+        used_so : (starts : ℕ) × BeginBy starts found × NewestIsBase (used_slot r.used) opened_store starts
+        used_so = used_newest opened_store fronts found both (is_left past opened_store left_opened) refl refl ends r.used is.used_is
+
+        abbrev w : Whole
+        w = opened_whole used_so.0
+
+        newest_recovered : NewestIsBase (used_slot r.used) recovered w.starts
+        newest_recovered = newest_stays (used_slot r.used) w.starts opened_store recovered (is_left past opened_store left_opened)
+            (recovers_to accounts standing.settled past (length old) opened_store fronts found read left_opened refl refl ends) (λ slot at. refl) used_so.2
+
         -- by which numbers, and with which pairs
         so : (pairs_of r.pairs.items ≡ pairs_upto r.cutoff s.history) × (r.cutoff ≡ cutoff_of fronts) × (r.resume ≡ resume_of fronts read)
         so = found_so accounts standing.settled past (length old) opened_store fronts found read left_opened refl refl ends r.cutoff r.resume r.used (pairs_of r.pairs.items) is
@@ -194,13 +223,14 @@ module _ (accounts : Accounts) (slots : StoreSlots MemDisk) (standing : Standing
             let len = resuming_len r.cutoff r.resume e.log e.refusal mid new stops in
             let to = subst (λ n. StopsResumingAt keeps_rules mem_state failures_of (cutoff_of fronts) n e.log e.refusal mid new) so.2
             (subst (λ n. StopsResumingAt keeps_rules mem_state failures_of n r.resume e.log e.refusal mid new) so.1 stops) in
-            let o = resumed_in_part recovered (cutoff_of fronts) rested.voids refl refl fits fronts refl g h mid new count_mid len each_open e.log e.refusal to in
+            let o = resumed_in_part recovered (cutoff_of fronts) rested.voids refl refl fits fronts refl g w mid new count_mid len (each_open w.starts used_so.1) e.log e.refusal to in
             let t = with_logs o.logs recovered in (
               o.cause,
               record {
                 past_now = past_kept;
                 kept = keeps;
-                holds = holds_so past_kept t new read_slots (len ∙ opens.back.len)
+                holds = holds_so w past_kept t new read_slots
+                    (base_stays w.starts recovered t (is_left past_kept recovered left_now) o.leads refl (some_base (used_slot r.used) recovered w.starts newest_recovered)) (len ∙ opens.back.len)
                     (left_on accounts standing.settled past_kept (length old) recovered t left_now o.leads o.len_so refl) stand_read o.downs;
               },
             )
@@ -212,14 +242,17 @@ module _ (accounts : Accounts) (slots : StoreSlots MemDisk) (standing : Standing
               subst (λ n. ResumesAll keeps_rules mem_state failures_of (cutoff_of fronts) n mid new) so.2
               (subst (λ n. ResumesAll keeps_rules mem_state failures_of n r.resume mid new) so.1 resumes)
 
-          resumed : resuming.ResumedAll recovered (cutoff_of fronts) rested.voids refl refl fits fronts refl g h mid new count_mid resumes.len each_open
-          resumed = all_resumed recovered (cutoff_of fronts) rested.voids refl refl fits fronts refl g h mid new count_mid resumes.len each_open to_found
+          resumed : resuming.ResumedAll recovered (cutoff_of fronts) rested.voids refl refl fits fronts refl g w mid new count_mid resumes.len (each_open w.starts used_so.1)
+          resumed = all_resumed recovered (cutoff_of fronts) rested.voids refl refl fits fronts refl g w mid new count_mid resumes.len (each_open w.starts used_so.1) to_found
 
           abbrev resumed_store : Store
           resumed_store = with_logs resumed.logs recovered
 
           left_last : IsLeftAs past_kept resumed_store
           left_last = left_on accounts standing.settled past_kept (length old) recovered resumed_store left_now resumed.leads resumed.len_so refl
+
+          newest_resumed : NewestIsBase (used_slot r.used) resumed_store w.starts
+          newest_resumed = newest_stays (used_slot r.used) w.starts recovered resumed_store (is_left past_kept recovered left_now) resumed.leads (λ slot at. refl) newest_recovered
 
           -- the slots, with the newest one
           abbrev kept_slots : StoreSlots MemDisk
@@ -233,12 +266,12 @@ module _ (accounts : Accounts) (slots : StoreSlots MemDisk) (standing : Standing
           without_state = record {
             past_now = past_kept;
             kept = keeps;
-            holds = holds_so past_kept resumed_store new kept_slots (resumes.len ∙ opens.back.len) left_last stand_now (all_open_down g h resumed_store new resumed.opens);
+            holds = holds_so w past_kept resumed_store new kept_slots (some_base (used_slot r.used) resumed_store w.starts newest_resumed) (resumes.len ∙ opens.back.len) left_last stand_now (all_open_down g w resumed_store new resumed.opens);
           }
 
           -- the state serves
           module _ (v : StateView) (logs : ℕ) (restored : IsRestored r.resume logs accounts r.pairs.items v) (right : IsRightState v) (count : length new ≡ logs)
-              (serving : Serving) (state : serving.state ≡ v) (fresh : IsFresh serving) where
+              (serving : Serving) (state : serving.state ≡ v) (fresh : IsFresh new serving) where
             abbrev next : Life
             next = life_from (pairs_of r.pairs.items) r.resume
 
@@ -261,25 +294,36 @@ module _ (accounts : Accounts) (slots : StoreSlots MemDisk) (standing : Standing
             count_logs : length resumed_store.logs ≡ logs
             count_logs = resumed.len_so ∙ count_mid ∙ sym resumes.len ∙ count
 
-            serving_now : HoldsServing g h accounts (λ id. None) next (served resumed_store) new serving
+            len_new : length new ≡ length old
+            len_new = resumes.len ∙ opens.back.len
+
+            -- the turn to which the next one goes
+            turn : TurnsTo w (served resumed_store) new serving.generation
+            turn = turns_to g w (served resumed_store) new serving.generation (left_last.len ∙ sym len_new) (subst (λ n. 0 < n) (sym len_new) left_last.some) resumed.opens fresh.generation
+
+            serving_now : HoldsServing turn.from (only_whole w) accounts (λ id. None) next (served resumed_store) new serving
             serving_now =
                 begins_serving accounts (pairs_of r.pairs.items) r.resume logs v (begins_restored accounts r.resume logs r.pairs.items v restored) right (served resumed_store) refl (sym so.2) count_logs
-                (subst (λ n. RestAt n resumed.logs) (sym so.2) rest_at) ended found_now serving state fresh g h new resumed.opens
+                (subst (λ n. RestAt n resumed.logs) (sym so.2) rest_at) ended found_now serving state turn.from w new fresh turn.to turn.opens
 
             -- the next life
             pub with_state : Holds accounts (Rest kept_slots) (crashed_to (Ok next) standing) new (Some serving)
             with_state =
                 let goes = serves_now resumed_store refl rest_at resumed.held in
-                let len : length new ≡ length old = resumes.len ∙ opens.back.len in
+                let len = len_new in
                 record {
                   s = served resumed_store;
-                  from = g;
-                  whole = h;
+                  from = turn.from;
+                  turning = only_whole w;
                   some = subst (λ n. 0 < n) (sym len) left_last.some;
                   few = subst (λ n. n ≤ 64) (sym len) left_last.few;
                   come = subst (λ n. HasCome n (served resumed_store)) (sym len) (comes_on (length old) resumed_store (served resumed_store) left_last.come goes);
                   count = left_last.len ∙ sym len;
                   stand = (refl, stand_now);
+                  base = (
+                    omega arith,
+                    inl (newest_stays (used_slot r.used) w.starts resumed_store (served resumed_store) (is_left past_kept resumed_store left_last) goes (λ slot at. refl) newest_resumed),
+                  );
                   settled = all_on (length old) standing.settled resumed_store (served resumed_store) left_last.some left_last.few left_last.come goes left_last.settled_so;
                   keeps = left_last.keeps;
                   now = serving_now;
@@ -306,7 +350,7 @@ module _ (accounts : Accounts) (slots : StoreSlots MemDisk) (standing : Standing
       subst (λ ss. Refuses new ss) (sym a.keeps) (without_state a.rested a.found a.reads a.mid a.chains a.opens r a.recovers.over new a.resumes)
 
   pub recovered_up : (r : Found) (new : List (StoreLog MemDisk)) (now : StoreSlots MemDisk) → ServesAgain keeps_rules mem_state failures_of accounts r old slots new now
-      → (v : StateView) → IsRestored r.resume (length new) accounts r.pairs.items v → IsRightState v → (serving : Serving) → serving.state ≡ v → IsFresh serving
+      → (v : StateView) → IsRestored r.resume (length new) accounts r.pairs.items v → IsRightState v → (serving : Serving) → serving.state ≡ v → IsFresh new serving
       → (next : Standing) × (standing.settled ≤ r.cutoff) × (r.cutoff ≤ r.resume) × AreLeftOf (quotas_of accounts) (past_of standing.now).life (min (past_of standing.now).kept r.cutoff) (pairs_of r.pairs.items)
       × (next ≡ crashed_to (Ok (life_from (pairs_of r.pairs.items) r.resume)) standing) × Holds accounts (Rest now) next new (Some serving)
   recovered_up r new now a v restored right serving state fresh = (
@@ -327,7 +371,7 @@ module _ (accounts : Accounts) (slots between now : StoreSlots MemDisk) (old mid
   left_by standing h = leaves accounts slots between standing old mid was images.logs.items images.first.items images.second.items h crash.logs_crash crash.slots_crash
 
   -- the store is recovered
-  pub crashes_recovered : (r : Found) (serving : Serving) → AreRecovered accounts between now r mid new → Begins accounts r (length new) serving
+  pub crashes_recovered : (r : Found) (serving : Serving) → AreRecovered accounts between now r mid new → Begins accounts r new serving
       → CrashesTo accounts (Rest slots) (Rest now) (Recovered r) old was new (Some serving)
   crashes_recovered r serving again begins = λ named standing h.
       let up = recovered_up accounts between standing mid (left_by standing h) r new now again serving.state begins.state begins.right serving refl begins.fresh in
@@ -361,7 +405,7 @@ crashes_not accounts slots now_slots old new was now same_slots same same_servin
       (subst (λ logs. Holds accounts (Rest slots) standing logs now) (sym same) (subst (Holds accounts (Rest slots) standing old) (sym same_serving) h)),
 )
 
--- ---- a checkpoint that is being written is given up
+-- ---- a turn that is made is given up
 
 resting_of : StoreSlots MemDisk → LiveSlots → StoreSlots MemDisk
 resting_of other (Rest slots) = slots
@@ -376,12 +420,13 @@ pub gave_up : (accounts : Accounts) (slots : LiveSlots) (was : StoreSlots MemDis
 gave_up accounts slots was standing logs serving rests h = record {
   s = h.s;
   from = h.from;
-  whole = h.whole;
+  turning = h.turning;
   some = h.some;
   few = h.few;
   come = h.come;
   count = h.count;
   stand = (refl, by slots rests h.stand);
+  base = base_rests standing.now h.from h.turning slots was h.s rests h.base;
   settled = h.settled;
   keeps = h.keeps;
   now = h.now;
@@ -390,6 +435,7 @@ gave_up accounts slots was standing logs serving rests h = record {
     by : (ss : LiveSlots) → at_rest ss ≡ Rest was → Rattle.mt_lives.specs.Checks.LiveSlotsStand accounts standing.check standing.now h.s.slots h.s.history h.s.steps ss
         → SlotsStand h.s.slots was
     by (Rest ss) e stand = subst (SlotsStand h.s.slots) (same_rest ss was e) stand.1
+    by (Turns turn) e stand = subst (SlotsStand h.s.slots) (same_rest turn.slots was e) stand.2
     by (Writes c) e stand =
         subst (SlotsStand h.s.slots) (same_rest _ was e) (record { mays = stand.1.mays; shown = stand.1.shown_so; keeps = stand.1.keeps.slots })
     by Away e stand = absurd stand
@@ -414,17 +460,6 @@ pub crashed_at_rest : {E : Type 0} (accounts : Accounts) (images : CrashImages) 
     → IfOk result (λ note. (first last : StoreSlots MemDisk) × (at_rest slots ≡ Rest first) × (Rest is ≡ Rest last) × IsCrashForced accounts images note first last old new)
 crashed_at_rest accounts images slots was is old new (Ok note) rests forced = (was, is, rests, refl, forced)
 crashed_at_rest accounts images slots was is old new (Err e) rests forced = tt
-
--- slots at rest are not written, and are away only if they were
-pub never_writes : {P : Type 0} (slots : LiveSlots) (c : Check) → at_rest slots ≡ Writes c → P
-never_writes (Rest slots) c e = absurd cc
-never_writes (Writes check) c e = absurd cc
-never_writes Away c e = absurd cc
-
-pub never_away : {P : Type 0} (slots : LiveSlots) → slots ≢ Away → at_rest slots ≡ Away → P
-never_away (Rest slots) there e = absurd cc
-never_away (Writes check) there e = absurd cc
-never_away Away there e = absurd (there refl)
 
 pub not_away : (accounts : Accounts) (slots : LiveSlots) (standing : Standing) (logs : List (StoreLog MemDisk)) (serving : Option Serving) → Holds accounts slots standing logs serving → slots ≢ Away
 not_away accounts slots standing logs serving h e =

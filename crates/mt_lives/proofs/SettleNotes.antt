@@ -15,7 +15,7 @@ use Rattle.mt_stored.{specs.{declared.source.OwnState.OwnState, Stores.IsSettled
 use Rattle.mt_lives.specs.{declared.events.StoreEvent.TheVariants.{SettleBegin, SettleNext}, declared.events.StoreNote.StoreNote}
 use Rattle.mt_lives.specs.{declared.events.StoreNote.TheVariants.{Begun, Turned, Settled, Refused}, declared.serving.Serving.Serving}
 use Rattle.mt_lives.specs.Lives.{Life, Standing, with_settle, settling, settled_by, steps_in, IsMemoryOrDevice, IsNoted, NotesLead}
-use Rattle.mt_lives.specs.{Holds.{quotas_of, IsSettleIn, AreSettles, Holds}, Owned.{with_state, IsWholeSettle}}
+use Rattle.mt_lives.specs.{Holds.{quotas_of, IsSettleIn, AreSettles, Holds}, Owned.{with_state, IsWholeSettle}, Turning.part_of}
 use Rattle.mt_lives.proofs.{Served.last, Flushing.{keeps_rules, failures_of, within, rests_at_mark, stands_at}, TurnLogs.open_mark, Noting.{life_served, lives_so, held}}
 use Rattle.mt_lives.proofs.{Settling.{reaches_both, resettled}, Owning.{Keeps, does, turn_keeps, turns_keep, last_turn, keeps_at_first}}
 
@@ -26,8 +26,8 @@ settled_reach : (accounts : Accounts) (slots : LiveSlots) (standing : Standing) 
     → IsSettled serving.state logs → AllReach serving.state.steps h.s
 settled_reach accounts slots standing logs serving h up worker now there =
     let log = within_place logs worker (subst (λ n. worker < n) h.count (within h.s.logs worker now there)) in
-    let at = stands_at h.from h.whole h.s serving.state.logs worker now log.0 ((held accounts slots standing logs serving h).each worker now log.0 there log.1) in
-    let o = open_mark h.from h.whole now log.0 serving.state.steps at (up worker log.0 log.1) in
+    let at = stands_at h.from (part_of h.turning worker) h.s serving.state.logs worker now log.0 ((held accounts slots standing logs serving h).each worker now log.0 there log.1) in
+    let o = open_mark h.from (part_of h.turning worker) now log.0 serving.state.steps at (up worker log.0 log.1) in
     rests_at_mark now serving.state.steps o.0 (sym o.1)
 
 -- ---- the notes
@@ -101,11 +101,11 @@ module _ (accounts : Accounts) (slots : LiveSlots) (standing : Standing) (logs :
 
     holds_ok : (n : ℕ) → AllReach n k.s → Holds accounts slots (settled_by id n mid) now_logs (Some now)
     holds_ok n all =
-        resettled accounts slots standing now_logs now k now refl refl id ended (max standing.settled n)
+        resettled accounts slots standing now_logs now k now refl refl refl id ended (max standing.settled n)
         (λ worker. reaches_both standing.settled n worker k.s (k.settled worker) (all worker)) as_before
 
     holds_err : Holds accounts slots (settling id None mid) now_logs (Some now)
-    holds_err = resettled accounts slots standing now_logs now k now refl refl id ended standing.settled k.settled as_before
+    holds_err = resettled accounts slots standing now_logs now k now refl refl refl id ended standing.settled k.settled as_before
 
 -- one less
 one_less : (n : ℕ) → 0 < n → (k : ℕ) × (k + 1 ≡ n)
@@ -137,7 +137,7 @@ module _ (accounts : Accounts) (slots : LiveSlots) (standing : Standing) (servin
 
   by_ok : (n : ℕ) → Settles (does source logs) count old new (Ok n) → Whole (Ok n)
   by_ok n s =
-      let k : Kept new = turns_keep accounts slots standing serving count steps_then source logs (turns_from 0 s.marks) old new first s.turns in
+      let k : Kept new = turns_keep accounts slots standing serving count steps_then source logs 0 s.marks old new first s.turns in
       let up = settled keeps_rules mem_state failures_of source logs n count old new (omega arith) s in
       let turns = one_less count h.some in
       let number : n ≡ serving.state.steps = up.0 ∙ steps_same in
@@ -161,7 +161,7 @@ module _ (accounts : Accounts) (slots : LiveSlots) (standing : Standing) (servin
   by_err e (inl no_logs) = absurd (let some = h.some in omega (arith, some, no_logs.0))
   by_err e (inr s) =
       let l = last_turn (does source logs) (turns_from 0 s.marks) (BroughtUp (length s.marks) (Err e)) old new s.turns in
-      let k : Kept l.0 = turns_keep accounts slots standing serving count steps_then source logs (turns_from 0 s.marks) old l.0 first l.1 in
+      let k : Kept l.0 = turns_keep accounts slots standing serving count steps_then source logs 0 s.marks old l.0 first l.1 in
       let t = turn_keeps accounts slots standing serving count steps_then (length s.marks) (Err e) (source l.0) (logs l.0) (source new) (logs new) k l.2 in
       let next = settling id None (mid accounts slots standing (logs old) serving h id none) in
       record {

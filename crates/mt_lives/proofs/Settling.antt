@@ -13,7 +13,7 @@ use Rattle.mt_lives.specs.{declared.events.StoreEvent.TheVariants.{SettleBegin, 
 use Rattle.mt_lives.specs.{declared.serving.Serving.Serving, declared.serving.Settle.Settle}
 use Rattle.mt_lives.specs.Lives.{Life, Past, Standing, with_settle, settling, settled_by, steps_in, IsNoted}
 use Rattle.mt_lives.specs.{Holds.{quotas_of, Serves, IsSettle, IsSettleIn, AreSettles, HoldsServing, HoldsNow, Holds}, Steps.one_turn_more}
-use Rattle.mt_lives.proofs.{Served.last, Flushing.within, Noting.{life_served, lives_so, held}}
+use Rattle.mt_lives.proofs.{Served.last, Flushing.within, Logged.EachAt, Noting.{life_served, lives_so, held}}
 
 -- ---- the map of the Settles
 
@@ -81,11 +81,11 @@ reaches_both m n worker s a b log there front left = let r = a log there front l
 -- ---- the store
 
 module _ (accounts : Accounts) (slots : LiveSlots) (standing : Standing) (logs : List (StoreLog MemDisk)) (serving : Serving) (h : Holds accounts slots standing logs (Some serving))
-    (now : Serving) (state : now.state ≡ serving.state) (roster : now.roster ≡ serving.roster) (id : ℕ) where
+    (now : Serving) (state : now.state ≡ serving.state) (roster : now.roster ≡ serving.roster) (generation : now.generation ≡ serving.generation) (id : ℕ) where
   life : Life
   life = life_served accounts slots standing logs serving h
 
-  was : HoldsServing h.from h.whole accounts standing.begun life h.s logs serving
+  was : HoldsServing h.from h.turning accounts standing.begun life h.s logs serving
   unfolding life
   was = held accounts slots standing logs serving h
 
@@ -102,22 +102,24 @@ module _ (accounts : Accounts) (slots : LiveSlots) (standing : Standing) (logs :
   resettled begun number reach settles = record {
     s = h.s;
     from = h.from;
-    whole = h.whole;
+    turning = h.turning;
     some = h.some;
     few = h.few;
     come = h.come;
     count = h.count;
     stand = h.stand;
+    base = h.base;
     settled = reach;
     keeps = h.keeps;
     now =
-        subst (λ (n : Rattle.std.proofs.Common.Result Life Past). HoldsNow h.from h.whole accounts begun n h.s logs (Some now)) (sym lives)
+        subst (λ (n : Rattle.std.proofs.Common.Result Life Past). HoldsNow h.from h.turning accounts begun n h.s logs (Some now)) (sym lives)
         (record {
           serves =
               subst (λ r. Serves accounts life h.s now.state (named r.tickets)) (sym roster)
               (subst (λ v. Serves accounts life h.s v (named serving.roster.tickets)) (sym state) was.serves);
           by_id = subst (λ r. AreById r.names (named r.tickets)) (sym roster) was.by_id;
-          each = subst (λ v. Rattle.mt_lives.specs.Holds.EachLog (Rattle.mt_lives.specs.Holds.IsLogAt h.from h.whole h.s v.logs) h.s logs) (sym state) was.each;
+          each = subst (λ v. EachAt h.from h.turning h.s v.logs logs) (sym state) was.each;
+          turns_to = generation ∙ was.turns_to;
           settles = settles;
         });
   }

@@ -9,7 +9,7 @@ use Rattle.mt_recover.specs.declared.recovering.Recovered.{Recovered as AnyRecov
 use Rattle.mt_store_logs.specs.declared.store_log.StoreLog.{StoreLog}
 use Rattle.mt_lives.specs.{declared.events.CrashImages.CrashImages, declared.events.StoreEvent.StoreEvent, declared.events.StoreEvent.TheVariants.{Core, Flush, Reopen, SettleBegin, SettleNext, CheckBegin, CheckStep, Crash}}
 use Rattle.mt_lives.specs.declared.events.StoreNote.{StoreNote}
-use Rattle.mt_lives.specs.declared.events.StoreNote.TheVariants.{Told, Flushed, Reopened, Begun, Turned, Settled, CheckBegun, CheckTold, CheckAdded, CheckEnded, Recovered, Refused, NoSuch}
+use Rattle.mt_lives.specs.declared.events.StoreNote.TheVariants.{Told, Flushed, Reopened, Begun, Turned, Settled, CheckBegun, CheckTurned, CheckWrites, CheckTold, CheckAdded, CheckEnded, TurnEnded, Recovered, Refused, NoSuch}
 use Rattle.mt_lives.specs.{declared.serving.Serving.Serving, Lives.{Life, Past, Standing, steps_in, IsNoted, Notes, NotesLead}, Holds.quotas_of}
 use Rattle.mt_lives.specs.Owned.{turn_notes, AreTurnNotes, IsWholeSettle}
 use Rattle.mt_lives.proofs.Goes.{ok_life}
@@ -84,7 +84,10 @@ never_falls quotas old new (Reopen worker) NoSuch noted = let same = ap (λ (s :
 never_falls quotas old new (Crash images) NoSuch noted = let same = ap (λ (s : Standing). s.settled) noted in omega (arith, same)
 never_falls quotas old new CheckBegin (CheckBegun number) noted = let same = ap (λ (s : Standing). s.settled) noted.4 in omega (arith, same)
 never_falls quotas old new CheckBegin (Refused e) noted = let same = ap (λ (s : Standing). s.settled) noted.3 in omega (arith, same)
-never_falls quotas old new CheckBegin NoSuch noted = let same = ap (λ (s : Standing). s.settled) noted.1 in omega (arith, same)
+never_falls quotas old new CheckBegin NoSuch noted = let same = ap (λ (s : Standing). s.settled) noted in omega (arith, same)
+never_falls quotas old new CheckStep CheckTurned noted = let same = ap (λ (s : Standing). s.settled) noted.2 in omega (arith, same)
+never_falls quotas old new CheckStep (CheckWrites number) noted = let same = ap (λ (s : Standing). s.settled) noted.6 in omega (arith, same)
+never_falls quotas old new CheckStep TurnEnded noted = let same = ap (λ (s : Standing). s.settled) noted.2 in omega (arith, same)
 never_falls quotas old new CheckStep (CheckTold t) noted =
     ⊎_elim (λ e. let same = ap (λ (s : Standing). s.settled) e in omega (arith, same)) (λ e. let same = ap (λ (s : Standing). s.settled) e in omega (arith, same)) noted.6
 never_falls quotas old new CheckStep CheckAdded noted = let same = ap (λ (s : Standing). s.settled) noted.2 in omega (arith, same)

@@ -2,18 +2,19 @@
 use Rattle.std.proofs.{Common.{◌≡◌, ℕ, zero, suc, List, [], ◌∷◌, map, Option, Some, None, refl, sym, ap, subst, ◌∙◌, inl, inr}, lemmas.Option.same_Some}
 use Rattle.std.specs.{Prelude.{slice_get, slice_set}, Option.option_map}
 use Rattle.mt_disk.specs.{declared.mem.MemDisk.MemDisk, Mem.mem_state}
-use Rattle.mt_checkpoint.specs.{declared.checkpoint.Checkpoint.Checkpoint, Checkpoints.walk_of}
+use Rattle.mt_checkpoint.specs.{declared.checkpoint.Checkpoint.Checkpoint, Checkpoints.{Walk, walk_of}}
 use Rattle.mt_slots.specs.{declared.slot.Slot.Slot, declared.slot.Slot.TheVariants.{First, Second}, declared.store_slots.StoreSlots.StoreSlots}
 use Rattle.mt_slots.specs.{declared.fault.SlotFault.SlotFault, declared.fault.FaultCause.FaultCause, declared.fault.FaultCause.TheVariants.{Device, Memory}}
 use Rattle.mt_slots.specs.{Places.{Both, in_order, with_newest, refusal_for}, Calls.{ReadsBoth, StopsReading}, Keeps.{only_these, HasOneWalk, KeepsSlots}}
 use Rattle.mt_slots.proofs.Settling.{both_read, among_these, not_read, kept_newest}
 use Rattle.mt_crashes.specs.{Bases.{CheckpointView}, SlotDisks.{view_of_walk, slot_now, with_slot}}
 use Rattle.mt_generations.specs.Chains.{Chain, IsUsedOver}
-use Rattle.mt_crashes.specs.Stores.{Store, SlotNow, only_this}
+use Rattle.mt_crashes.specs.{Fronts.In, Stores.{Store, SlotNow, only_this, MayLeaveSlots}}
 use Rattle.mt_crashes.proofs.{Members.no_some, SlotDisks.rests}
 use Rattle.mt_recover.specs.Pairs.{view_of}
 use Rattle.mt_store_logs.specs.Recovers.{slots_of, used_slot}
 use Rattle.mt_lives.{specs.{Lives.IsMemoryOrDevice, Checks.SlotsStand, Holds.LeadsTo}, proofs.{Comes.{stays_here, one_more}, Flushing.{keeps_rules, failures_of}}}
+use Rattle.mt_checkpoint.specs.Checkpoints as walks
 
 -- ---- a slot was not read
 
@@ -36,6 +37,12 @@ same_view : (x : Option Checkpoint) → option_map view_of_walk (option_map walk
 same_view None = refl
 same_view (Some c) = refl
 
+-- one of some walks is one of their views
+in_views : (x : Option Walk) (may : List (Option Walk)) → walks.In x may → In (option_map view_of_walk x) (slot_now may)
+in_views x [] at = absurd at
+in_views x (y ∷ may) (inl e) = inl (ap (option_map view_of_walk) e)
+in_views x (y ∷ may) (inr at) = inr (in_views x may at)
+
 sure_shown : (both : Both (Option Checkpoint)) → map only_this (slots_of (in_order both)) ≡ map slot_now (in_order (only_these both))
 sure_shown both =
     ap (λ x. (x ∷ []) ∷ (option_map view_of both.second ∷ []) ∷ []) (sym (same_view both.first))
@@ -43,6 +50,7 @@ sure_shown both =
 
 -- each slot surely has what was read of it
 pub record AreSure (s : Store) (slots : StoreSlots MemDisk) (both : Both (Option Checkpoint)) : Type 0 where
+  pub left : MayLeaveSlots s.slots (slots_of (in_order both))
   pub leads : LeadsTo s (with_slots (map only_this (slots_of (in_order both))) s)
   pub keeps : KeepsSlots keeps_rules mem_state failures_of (only_these both) slots
 
@@ -75,8 +83,19 @@ module _ (s : Store) (slots new : StoreSlots MemDisk) (both : Both (Option Check
   same_slots : slice_set (slice_set s.slots 0 one) 1 two ≡ map only_this (slots_of (in_order both))
   same_slots = ap (λ ss. slice_set (slice_set ss 0 one) 1 two) stand.shown ∙ sym (sure_shown both)
 
+  -- a crash might have left what was read
+  left_so : MayLeaveSlots s.slots (slots_of (in_order both))
+  left_so =
+      let was = stand.mays in
+      let among = among_these keeps_rules mem_state failures_of was slots new stand.keeps both reads in
+      subst (λ (ss : List SlotNow). MayLeaveSlots ss (slots_of (in_order both))) (sym stand.shown) (
+        subst (λ x. In x (slot_now was.first)) (same_view both.first) (in_views (option_map walk_of both.first) was.first (among First)),
+        (subst (λ x. In x (slot_now was.second)) (same_view both.second) (in_views (option_map walk_of both.second) was.second (among Second)), tt),
+      )
+
   pub slots_rest : AreSure s new both
   slots_rest = record {
+    left = left_so;
     leads = subst (λ ss. LeadsTo s (with_slots ss s)) same_slots both_rest;
     keeps = both_read keeps_rules mem_state failures_of stand.mays slots new stand.keeps both reads;
   }

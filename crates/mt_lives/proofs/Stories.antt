@@ -1,5 +1,5 @@
 -- What a story keeps by one event more: what an operation was begun with, and whose its steps are.
-use Rattle.std.proofs.Common.{◌≡◌, ◌≢◌, ℕ, ◌+◌, ◌<◌, ◌≤◌, true, cond, eqb, List, [], ◌∷◌, ◌++◌, length, Option, Some, None, refl, sym, ap, subst, ◌∙◌, arith, ⊎_elim}
+use Rattle.std.proofs.Common.{◌≡◌, ℕ, ◌+◌, ◌<◌, ◌≤◌, cond, eqb, List, [], ◌∷◌, ◌++◌, Option, Some, None, refl, sym, ap, subst, ◌∙◌, arith, ⊎_elim}
 use Rattle.std.proofs.lemmas.{Bool.{cases_lt, eq-eqb}, List.Elements.filter_map-append}
 use Rattle.std.specs.{List.filter_map, Option.option_map}
 use Rattle.mt_rows.specs.declared.command.Command.{Command}

@@ -1,8 +1,8 @@
 -- What an event of an operation makes of all that holds of a store, and what is noted of it.
-use Rattle.std.{proofs.Common.{◌≡◌, ℕ, ◌<◌, ◌≤◌, List, ◌++◌, length, Option, Some, None, Result, Ok, refl, sym, ap, subst, ◌∙◌, arith}, specs.Prelude.slice_get}
+use Rattle.std.{proofs.Common.{◌≡◌, ℕ, ◌<◌, ◌≤◌, List, ◌++◌, length, Option, Some, None, Result, Ok, refl, sym, ap, subst, ◌∙◌, inl, inr, ⊎_elim, arith}, specs.Prelude.slice_get}
 use Rattle.mt_rows.specs.{Accounts.Accounts, declared.record.Batch.Batch}
 use Rattle.mt_disk.specs.declared.mem.MemDisk.{MemDisk}
-use Rattle.mt_lives.specs.{declared.live_slots.LiveSlots.LiveSlots, declared.live_slots.LiveSlots.TheVariants.{Rest, Writes, Away}}
+use Rattle.mt_lives.specs.{declared.live_slots.LiveSlots.LiveSlots, declared.live_slots.LiveSlots.TheVariants.{Rest, Turns, Writes, Away}}
 use Rattle.mt_runs.{specs.{declared.event.Event.Event, declared.event.Told.{Told as Answered}}, proofs.Order.one_order}
 use Rattle.mt_state.specs.{Views.{map_of, changed_at}, Histories.IsServed}
 use Rattle.mt_core.specs.Tickets.{named}
@@ -11,17 +11,18 @@ use Rattle.mt_crashes.specs.Stores.{Store}
 use Rattle.mt_store_logs.specs.declared.store_log.StoreLog.{StoreLog}
 use Rattle.mt_lives.specs.{declared.events.StoreEvent.TheVariants.Core, declared.events.StoreNote.TheVariants.Told, declared.serving.Serving.Serving}
 use Rattle.mt_lives.specs.{Serving.TellsServing, Lives.{Life, Past, Standing, with_event, firsts, story_in, steps_in, HasOrder, checking, living, IsNoted}}
-use Rattle.mt_lives.specs.{Checks.{first_of, pending, SlotsStand, LiveSlotsStand}, Holds.{quotas_of, HoldsKept, IsLogAt, EachLog, Serves, Holds}}
-use Rattle.mt_lives.proofs.{Comes.comes_on, Growing.Grows, Cores.grown, Logged.{all_on, settles_on}, Noting.{life_served, lives_so, held}, Served.last, Stories.scan_on}
+use Rattle.mt_lives.specs.{Checks.{first_of, pending, BeganBy, SlotsStand, LiveSlotsStand}, Holds.{quotas_of, HoldsKept, Serves, Holds}}
+use Rattle.mt_lives.proofs.{Comes.comes_on, Growing.Grows, Cores.grown, Logged.{EachAt, all_on, settles_on}, Noting.{life_served, lives_so, held}, Served.last, Stories.scan_on}
+use Rattle.mt_lives.{specs.Turning.{Turning, IsTurning, StandsOnBase}, proofs.Bases.{is_come, turning_stays}}
 
 -- the logs stand as they did
 kept_grown : (s t : Store) (worker : ℕ) (kept : Option Batch) → Grows s t → HoldsKept s worker kept → HoldsKept t worker kept
 kept_grown s t worker None grows h = h
 kept_grown s t worker (Some b) grows h = grows.holds worker b h
 
-each_grown : (from whole : ℕ) (s t : Store) (given now_given : List ℕ) (logs : List (StoreLog MemDisk)) → Grows s t → now_given ≡ given → EachLog (IsLogAt from whole s given) s logs
-    → EachLog (IsLogAt from whole t now_given) t logs
-each_grown from whole s t given now_given logs grows same all worker now log is_now is_log =
+each_grown : (from : ℕ) (turning : Turning) (s t : Store) (given now_given : List ℕ) (logs : List (StoreLog MemDisk)) → Grows s t → now_given ≡ given → EachAt from turning s given logs
+    → EachAt from turning t now_given logs
+each_grown from turning s t given now_given logs grows same all worker now log is_now is_log =
     let a = all worker now log (ap (λ ls. slice_get ls worker) (sym grows.logs) ∙ is_now) is_log in
     record {
       files = a.files;
@@ -30,6 +31,11 @@ each_grown from whole s t given now_given logs grows same all worker now log is_
       given_so = ap (λ g. slice_get g worker) same ∙ a.given_so;
       kept = kept_grown s t worker log.kept grows a.kept;
     }
+
+-- a turn that began goes on while steps are made
+began_on : (check : Option ℕ) (m n : ℕ) → m ≤ n → BeganBy check m → BeganBy check n
+began_on None m n le none = absurd none
+began_on (Some begun) m n le upto = omega (arith, le, upto)
 
 -- A life that has gone on by an event of an operation: with whatever slots stand by the store then, all of it holds again.
 module _ (accounts : Accounts) (slots : LiveSlots) (standing : Standing) (logs : List (StoreLog MemDisk)) (serving : Serving) (h : Holds accounts slots standing logs (Some serving)) where
@@ -41,7 +47,8 @@ module _ (accounts : Accounts) (slots : LiveSlots) (standing : Standing) (logs :
     pub grows : Grows h.s t
     pub serves : Serves accounts (with_event life_at e answer) t now.state (named now.roster.tickets)
     pub order : HasOrder (quotas_of accounts) (with_event life_at e answer)
-    pub holds : (now_slots : LiveSlots) (check : Option ℕ) → LiveSlotsStand accounts check (Ok (with_event life_at e answer)) t.slots t.history t.steps now_slots
+    pub turning : IsTurning h.from h.turning slots t
+    pub holds : (now_slots : LiveSlots) (check : Option ℕ) → IsTurning h.from h.turning now_slots t → LiveSlotsStand accounts check (Ok (with_event life_at e answer)) t.slots t.history t.steps now_slots
         → Holds accounts now_slots (living (with_event life_at e answer) (checking check standing)) logs (Some now)
 
   pub lives_on : (now : Serving) (e : Event) (answer : Answered) → TellsServing serving now e answer → IsServed (length logs) e → LivesOn now e answer
@@ -58,26 +65,34 @@ module _ (accounts : Accounts) (slots : LiveSlots) (standing : Standing) (logs :
       let grows : Grows s t = g.1 in
       let serves : Serves accounts (with_event life e answer) t now.state now_names = g.2 in
       let length_so : length t.logs ≡ length s.logs = ap length grows.logs in
+      let base : (h.turning.starts ≤ s.steps) × IsTurning h.from h.turning slots s =
+      subst (λ (n : Result Life Past). StandsOnBase n h.from h.turning slots s) (lives_so accounts slots standing logs serving h) h.base in
+      let begun = base.0 in
+      let more = grows.steps in
       record {
         t = t;
         grows = grows;
         serves = serves;
         order = one_order (quotas_of accounts) (firsts life) (story_in (with_event life e answer)) (map_of now.state) (changed_at now.state) serves.history.right;
-        holds = λ now_slots check stand. record {
+        turning =
+            turning_stays h.from h.turning slots s t (is_come count s h.some h.few h.come) grows.leads grows.slots grows.voids grows.reached length_so base.1;
+        holds = λ now_slots check turns stand. record {
           s = t;
           from = h.from;
-          whole = h.whole;
+          turning = h.turning;
           some = h.some;
           few = h.few;
           come = comes_on count s t h.come grows.leads;
           count = length_so ∙ h.count;
           stand = stand;
+          base = (omega (arith, begun, more), turns);
           settled = all_on count standing.settled s t h.some h.few h.come grows.leads h.settled;
           keeps = g.3;
           now = record {
             serves = serves;
             by_id = tells.by_id;
-            each = each_grown h.from h.whole s t serving.state.logs now.state.logs logs grows g.4 was.each;
+            each = each_grown h.from h.turning s t serving.state.logs now.state.logs logs grows g.4 was.each;
+            turns_to = tells.generation ∙ was.turns_to;
             settles =
                 subst (λ m. Rattle.mt_lives.specs.Holds.AreSettles t standing.begun m) (sym tells.settles)
                 (settles_on count s t h.some h.few h.come grows.leads grows.steps length_so standing.begun serving.settles was.settles);
@@ -102,6 +117,11 @@ module _ (accounts : Accounts) (slots : LiveSlots) (standing : Standing) (logs :
       by : (ss : LiveSlots) → LiveSlotsStand accounts standing.check (Ok life_at) h.s.slots h.s.history h.s.steps ss
           → LiveSlotsStand accounts standing.check (Ok (with_event life_at e answer)) on.t.slots on.t.history on.t.steps ss
       by (Rest ss) stand = (stand.0, subst (λ now. SlotsStand now ss) (sym on.grows.slots) stand.1)
+      by (Turns turn) stand = (
+        began_on standing.check h.s.steps on.t.steps on.grows.steps stand.0,
+        stand.1,
+        subst (λ now. SlotsStand now turn.slots) (sym on.grows.slots) stand.2,
+      )
       by (Writes c) stand = (
         stand.0,
         record {
@@ -112,6 +132,8 @@ module _ (accounts : Accounts) (slots : LiveSlots) (standing : Standing) (logs :
           found = stays h.s.history on.t.history (first_of c) h.s.steps on.t.steps on.grows.steps on.grows.maps c.walk.tenants.items c.walk.place c.walk.from c.walk.after
               (stand.1.pairs ++ pending c.stage) stand.1.found;
           all = stand.1.all;
+          some = stand.1.some;
+          moved = ⊎_elim (λ none. inl none) (λ lt. let more = on.grows.steps in inr (omega (arith, lt, more))) stand.1.moved;
           scan = scan_on life_at e answer (first_of c) c.walk c.stage (within (first_of c) stand.1.found.made) stand.1.scan;
         },
       )
@@ -125,5 +147,5 @@ told accounts slots standing logs serving h now e answer tells served =
     let on = lives_on accounts slots standing logs serving h now e answer tells served in (
       living (with_event life e answer) standing,
       (life, lives_so accounts slots standing logs serving h, on.order, refl),
-      on.holds slots standing.check (slots_on accounts slots standing logs serving h now e answer on),
+      on.holds slots standing.check on.turning (slots_on accounts slots standing logs serving h now e answer on),
     )

@@ -1,4 +1,4 @@
--- What appends, drains and reopenings make of a worker's log in a turn, whose whole log begins at step 0.
+-- What appends, drains and reopenings make of a worker's log in its part of a turn.
 use Rattle.std.proofs.Common.{◌≡◌, ◌≢◌, ◌⊎◌, ⊎_elim, ℕ, Bool, true, false, Some, None, sym, ◌∙◌}
 use Rattle.std.proofs.lemmas.Option.{same_Some}
 use Rattle.mt_rows.specs.{declared.record.Batch.Batch, declared.refusal.Refusal.Refusal}
@@ -14,8 +14,9 @@ use Rattle.mt_store_logs.specs.{Turns.{ReopensLog, FailsToReopenLog}, Shows.{Wai
 use Rattle.mt_store_logs.specs.Ends.{StandsInTurn, KeepStarts, keeping}
 use Rattle.mt_store_logs.proofs.{EndLaws.{mark, waits}, TurnLaws.{where_is, is_sure, drained_in_turn, append_in_turn, append_failed_in_turn}}
 use Rattle.mt_store_logs.proofs.NextLaws.{reopened_in_turn, not_reopened_in_turn}
-use Rattle.mt_lives.{specs.{Lives.IsMemoryOrDevice, Holds.BeginsAt0}, proofs.Begun.begins_kept}
+use Rattle.mt_lives.{specs.{Lives.IsMemoryOrDevice}, proofs.Turning.part_kept}
 use Rattle.mt_rows.specs.declared.refusal.Refusal.TheVariants as refusals
+use Rattle.mt_lives.specs.Turning.{Part, IsPart}
 
 -- disks in memory keep the rules
 abbrev pub keeps_rules : MemDisk → Bool
@@ -30,13 +31,13 @@ no_both false a b = absurd cc
 
 -- ---- a worker's log in a turn
 
--- it stands so, and begins at step 0
-pub record IsAt (from whole : ℕ) (now : LogNow) (log : StoreLog MemDisk) : Type 0 where
+-- it stands so, and its files are in this part
+pub record IsAt (from : ℕ) (part : Part) (now : LogNow) (log : StoreLog MemDisk) : Type 0 where
   pub files : FilesNow
   pub stands : StandsInTurn keeps_rules mem_state from now files log
-  pub begins : BeginsAt0 from whole files
+  pub begins : IsPart from part files
 
-module _ (from whole : ℕ) (now : LogNow) (log : StoreLog MemDisk) (at : IsAt from whole now log) where
+module _ (from : ℕ) (part : Part) (now : LogNow) (log : StoreLog MemDisk) (at : IsAt from part now log) where
   -- what waits for it goes on where it ends
   pub waiting : WaitsIn now log.kept
   waiting = let s = at.stands.stands in waits now s.last log.kept s.is_end s.stands.waits
@@ -59,48 +60,48 @@ last_mark last (Closed disk) n shows is = absurd (no_some n is)
 last_mark last Away n shows is = absurd shows
 
 -- an open log is at rest, and goes up to its mark
-pub open_mark : (from whole : ℕ) (now : LogNow) (log : StoreLog MemDisk) (n : ℕ) → IsAt from whole now log → mark_in (slot_of log) ≡ Some n
+pub open_mark : (from : ℕ) (part : Part) (now : LogNow) (log : StoreLog MemDisk) (n : ℕ) → IsAt from part now log → mark_in (slot_of log) ≡ Some n
     → (now.doubt ≡ None) × (n ≡ mark_of now.had)
-open_mark from whole now log n at is =
+open_mark from part now log n at is =
     let s = at.stands.stands in
     let m = last_mark s.last (slot_of log) n s.stands.shows is in
     (sym s.is_end.doubt ∙ m.0, m.1 ∙ mark now s.last s.is_end)
 
 -- ---- what is done to it
 
-module _ (from whole : ℕ) (now : LogNow) (old new : StoreLog MemDisk) (at : IsAt from whole now old) where
-  -- with these files it begins where it did
-  then_at : (next : LogNow) (files : FilesNow) → StandsInTurn keeps_rules mem_state from next files new → KeepStarts at.files files → IsAt from whole next new
-  then_at next files stands keep = record { files = files; stands = stands; begins = begins_kept from whole at.files files keep at.begins }
+module _ (from : ℕ) (part : Part) (now : LogNow) (old new : StoreLog MemDisk) (at : IsAt from part now old) where
+  -- with these files it is in the same part
+  then_at : (next : LogNow) (files : FilesNow) → StandsInTurn keeps_rules mem_state from next files new → KeepStarts at.files files → IsAt from part next new
+  then_at next files stands keep = record { files = files; stands = stands; begins = part_kept from part at.files files keep at.begins }
 
   pub appended_in : OnLast (AppendsKept keeps_rules mem_state failures_of) old new
-      → (next : LogNow) × IsAt from whole next new × IsIn old.kept now next × (drained_upto next new.kept ≡ drained_upto now old.kept)
+      → (next : LogNow) × IsAt from part next new × IsIn old.kept now next × (drained_upto next new.kept ≡ drained_upto now old.kept)
   appended_in on =
       let r = append_in_turn keeps_rules mem_state failures_of from now at.files old new at.stands on in
       (r.0, then_at r.0 r.1 r.2 r.3, r.4, r.5)
 
   pub not_appended_in : (e : Refusal) → OnLast (FailsToAppend keeps_rules mem_state failures_of e) old new
-      → (next : LogNow) × IsAt from whole next new × IsInDoubt old.kept now next × (new.kept ≡ old.kept) × ((n : ℕ) → e ≢ refusals.WrongTurn n)
+      → (next : LogNow) × IsAt from part next new × IsInDoubt old.kept now next × (new.kept ≡ old.kept) × ((n : ℕ) → e ≢ refusals.WrongTurn n)
   not_appended_in e on =
       let r = append_failed_in_turn keeps_rules mem_state failures_of from now at.files e old new at.stands on in
       (r.0, then_at r.0 r.1 r.2 r.3, r.4, r.5, r.6)
 
   pub reopened_in : ReopensLog keeps_rules mem_state failures_of old new
-      → (mid next : LogNow) × ComesToRest now mid × IsAt from whole next new × IsIn old.kept mid next × (drained_upto next new.kept ≡ drained_upto now old.kept)
+      → (mid next : LogNow) × ComesToRest now mid × IsAt from part next new × IsIn old.kept mid next × (drained_upto next new.kept ≡ drained_upto now old.kept)
   reopened_in opens =
       let r = reopened_in_turn keeps_rules mem_state failures_of from now at.files old new at.stands opens in
       (r.0, r.1, r.3, then_at r.1 r.2 r.4 r.5, r.6, r.7)
 
   pub not_reopened_in : (e : Refusal) → FailsToReopenLog keeps_rules mem_state failures_of e old new
-      → (mid next : LogNow) × (mid ≡ now ⊎ ComesToRest now mid) × IsAt from whole next new × IsInDoubt old.kept mid next × (new.kept ≡ old.kept)
+      → (mid next : LogNow) × (mid ≡ now ⊎ ComesToRest now mid) × IsAt from part next new × IsInDoubt old.kept mid next × (new.kept ≡ old.kept)
       × IsMemoryOrDevice e
   not_reopened_in e f =
       let r = not_reopened_in_turn keeps_rules mem_state failures_of from now at.files e old new at.stands f in
       (r.0, r.1, r.3, then_at r.1 r.2 r.4 r.5, r.6, r.7, r.8)
 
-pub drained_in : (from whole : ℕ) (now : LogNow) (log : StoreLog MemDisk) (b : Batch) → IsAt from whole now log → log.kept ≡ None → IsInOrder b
-    → b.from ≡ drained_upto now log.kept → IsAt from whole now (keeping b log)
-drained_in from whole now log b at none order turn = record {
+pub drained_in : (from : ℕ) (part : Part) (now : LogNow) (log : StoreLog MemDisk) (b : Batch) → IsAt from part now log → log.kept ≡ None → IsInOrder b
+    → b.from ≡ drained_upto now log.kept → IsAt from part now (keeping b log)
+drained_in from part now log b at none order turn = record {
   files = at.files;
   stands = drained_in_turn keeps_rules mem_state from now at.files log b at.stands none order turn;
   begins = at.begins;

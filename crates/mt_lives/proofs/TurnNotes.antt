@@ -23,7 +23,7 @@ use Rattle.mt_lives.proofs.{Noting.{found, at}, Noted.none_waits, Flushing.stand
 use Rattle.mt_lives.proofs.LogDrains.{DrainsLog, DrainsLogShort, HasDrainedLog, FailsInLogDrains, Drains, FailsToDrainUpto, TurnsLog, FailsToTurn}
 use Rattle.mt_lives.proofs.Goes.{reopen_goes, reopen_stops, flush_goes, flush_stops}
 use Rattle.mt_lives.proofs.Owning.{DoesInMemory, Keeps, turns_up, fails_to_turn, keeps_at_first}
-use Rattle.mt_lives.specs.declared.live_slots.LiveSlots.{LiveSlots}
+use Rattle.mt_lives.specs.{declared.live_slots.LiveSlots.LiveSlots, Turning.part_of}
 use Rattle.mt_rows.specs.declared.refusal.Refusal.TheVariants as refusals
 
 -- ---- notes one after the other
@@ -220,7 +220,7 @@ module _ (accounts : Accounts) (slots : LiveSlots) (standing : Standing) (logs :
   shut log was s =
       let h = s.holds in
       let now = (found accounts slots standing s.now was h worker log log s.there).0 in
-      shut_in_doubt h.from h.whole now log (stands_at h.from h.whole h.s was.state.logs worker now log (at accounts slots standing s.now was h worker log log s.there))
+      shut_in_doubt h.from (part_of h.turning worker) now log (stands_at h.from (part_of h.turning worker) h.s was.state.logs worker now log (at accounts slots standing s.now was h worker log log s.there))
 
   enters : (log mid : StoreLog MemDisk) (was : Serving) → Stood log was → ReopensLog keeps_rules mem_state failures_of log mid → Entered (mark_in (slot_of log)) mid was
   enters log mid was s r = by r.looks

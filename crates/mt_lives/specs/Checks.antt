@@ -1,5 +1,5 @@
 -- The slots of a store as it runs, and the walk whose checkpoint is written in one of them.
-use Rattle.std.specs.{Prelude.{◌≡◌, ◌⊎◌, ℕ, ◌<◌, true, List, [], ◌++◌, map, Option, Some, None, Result, Ok, Err, Vec, slice_get}, List.All, declared.alloc.Global.Global}
+use Rattle.std.specs.{Prelude.{◌≡◌, ◌⊎◌, ℕ, ◌<◌, ◌≤◌, true, List, [], ◌++◌, map, length, Option, Some, None, Result, Ok, Err, Vec, slice_get}, List.All, declared.alloc.Global.Global}
 use Rattle.mt_rows.specs.{Accounts.{Accounts, numbers_of}, declared.command.Command.TheVariants.Scan, declared.record.TenantPair.TenantPair}
 use Rattle.mt_disk.specs.{declared.mem.MemDisk.MemDisk, Mem.mem_state}
 use Rattle.mt_rows.specs.{declared.reply.Reply.Reply, declared.reply.Reply.TheVariants.Pairs}
@@ -9,14 +9,15 @@ use Rattle.mt_crashes.specs.{Histories.Placed, Walks.Page, SlotDisks.slot_now, S
 use Rattle.mt_slots.specs.{Places.{in_order, given_up}, Keeps.{Mays, KeepsSlots, KeepsWriting}, declared.store_slots.StoreSlots.StoreSlots}
 use Rattle.mt_slots.specs.declared.checkpointing.Checkpointing.{Checkpointing}
 use Rattle.mt_pages.specs.{declared.walk.PageWalk.PageWalk, Pages.TakesAt, Walked.Finds}
-use Rattle.mt_lives.specs.{declared.live_slots.LiveSlots.LiveSlots, declared.live_slots.LiveSlots.TheVariants.{Rest, Writes, Away}}
+use Rattle.mt_lives.specs.{declared.live_slots.LiveSlots.LiveSlots, declared.live_slots.LiveSlots.TheVariants.{Rest, Turns, Writes, Away}}
 use Rattle.mt_lives.specs.{declared.live_slots.Check.Check, declared.live_slots.CheckStage.CheckStage}
 use Rattle.mt_lives.specs.declared.live_slots.CheckStage.TheVariants.{Scans, Adds}
 use Rattle.mt_lives.specs.Lives.{Life, Past, story_in}
 
--- the slots, after a checkpoint that was being written was given up
+-- the slots, after a turn that was made was given up, with the checkpoint that was being written
 abbrev pub at_rest : LiveSlots → LiveSlots
 at_rest (Rest slots) = Rest slots
+at_rest (Turns turn) = Rest turn.slots
 at_rest (Writes check) = Rest (given_up check.writing)
 at_rest Away = Away
 
@@ -83,7 +84,8 @@ pub record SlotsStand (now : List SlotNow) (slots : StoreSlots MemDisk) : Type 0
   pub shown : now ≡ map slot_now (in_order mays)
   pub keeps : KeepsSlots (λ (d : MemDisk). true) mem_state (λ d. d.failures) mays slots
 
--- And so do those of which one is written, by a walk over all tenants. The slot has the pairs that the walk has found, but for those that are pending.
+-- And so do those of which one is written, by a walk over all tenants. The slot has the pairs that the walk has found, but for those that are pending. There
+-- are tenants, and a scan of any made a step. So once the walk is through, the checkpoint's two numbers differ.
 pub record CheckStands (accounts : Accounts) (now : Result Life Past) (shown : List SlotNow) (history : List Placed) (steps : ℕ) (check : Check) : Type 0 where
   pub mays : Mays
   pub shown_so : shown ≡ map slot_now (in_order mays)
@@ -91,10 +93,18 @@ pub record CheckStands (accounts : Accounts) (now : Result Life Past) (shown : L
   pub keeps : KeepsWriting (λ (d : MemDisk). true) mem_state (λ d. d.failures) mays (first_of check) pairs check.writing
   pub found : Finds history (first_of check) steps check.walk (pairs ++ pending check.stage)
   pub all : check.walk.tenants.items ≡ numbers_of accounts
+  pub some : 0 < length (numbers_of accounts)
+  pub moved : (check.walk.place ≡ 0) ⊎ (first_of check < steps)
   pub scan : HasScanNow now (first_of check) check.walk check.stage
 
--- the slots stand, with a checkpoint that is being written or none
+-- a turn is made, which began by so many steps
+abbrev pub BeganBy : Option ℕ → ℕ → Type 0
+BeganBy None n = ⊥
+BeganBy (Some begun) n = begun ≤ n
+
+-- the slots stand, in a turn or in none
 abbrev pub LiveSlotsStand : Accounts → Option ℕ → Result Life Past → List SlotNow → List Placed → ℕ → LiveSlots → Type 0
 LiveSlotsStand accounts check now shown history steps (Rest slots) = (check ≡ None) × SlotsStand shown slots
-LiveSlotsStand accounts check now shown history steps (Writes c) = (check ≡ Some (first_of c)) × CheckStands accounts now shown history steps c
+LiveSlotsStand accounts check now shown history steps (Turns turn) = BeganBy check steps × (0 < length (numbers_of accounts)) × SlotsStand shown turn.slots
+LiveSlotsStand accounts check now shown history steps (Writes c) = BeganBy check (first_of c) × CheckStands accounts now shown history steps c
 LiveSlotsStand accounts check now shown history steps Away = ⊥

@@ -11,12 +11,9 @@ use Rattle.mt_drains.specs.Drains.{record_of}
 use Rattle.mt_core.specs.{Rights.IsRightState, Tickets.named}
 use Rattle.mt_crashes.specs.{Fronts.after_changes, Histories.{Placed, changes_of, pairs_upto}}
 use Rattle.mt_crashes.specs.Stores.{Store, LogNow, new_store, Leads, is_between, ReachesAt, AllReach}
-use Rattle.mt_log.specs.Contents.{Contents}
-use Rattle.mt_log_files.specs.{Files.MayLeaveFile, Workers.standing_of}
-use Rattle.mt_generations.specs.Chains.{Chain}
-use Rattle.mt_chain_files.specs.Turns.{FilesNow, now_of, AreOfTurn, ShowFiles}
+use Rattle.mt_chain_files.specs.Turns.{FilesNow, AreOfTurn, ShowFiles}
 use Rattle.mt_store_logs.specs.{declared.store_log.StoreLog.StoreLog, Shows.drained_upto, Ends.StandsInTurn}
-use Rattle.mt_lives.specs.{declared.live_slots.LiveSlots.LiveSlots, Checks.LiveSlotsStand}
+use Rattle.mt_lives.specs.{declared.live_slots.LiveSlots.LiveSlots, Bases.{Whole, BeginsBy}, Turning.{Part, IsPart, Turning, part_of, StandsOnBase}, Checks.LiveSlotsStand}
 use Rattle.mt_lives.specs.{declared.serving.Serving.Serving, declared.serving.Settle.Settle, Lives.{Life, Past, Standing, firsts, story_in, AreLeftOf}}
 use Rattle.std.specs.FinMap as pairs
 use Rattle.mt_state.specs.Views as views
@@ -46,17 +43,11 @@ abbrev pub HoldsKept : Store → ℕ → Option Batch → Type 0
 HoldsKept s worker None = Unit {0}
 HoldsKept s worker (Some b) = HoldsChanges s worker b
 
--- Whatever a crash leaves of a worker's files in a turn, it has a log of a generation that begins at step 0. So nothing of it was given up. If that is
--- generation 0, no log of a next one is left.
-abbrev pub BeginsAt0 : ℕ → ℕ → FilesNow → Type 0
-BeginsAt0 g h files = (x y : Option Contents) → MayLeaveFile (now_of g files) x → MayLeaveFile (now_of (g + 1) files) y
-    → (c : Chain) × (standing_of g x y h ≡ Some c) × (c.start ≡ 0) × (h ≡ 0 → y ≡ None)
-
--- A worker's log stands as the store tells, in a turn from a generation, and was given what the state drained.
-pub record IsLogAt (g h : ℕ) (s : Store) (given : List ℕ) (worker : ℕ) (now : LogNow) (log : StoreLog MemDisk) : Type 0 where
+-- A worker's log stands as the store tells, in its part of a turn from a generation, and was given what the state drained.
+pub record IsLogAt (g : ℕ) (part : Part) (s : Store) (given : List ℕ) (worker : ℕ) (now : LogNow) (log : StoreLog MemDisk) : Type 0 where
   pub files : FilesNow
   pub stands : StandsInTurn (λ (d : MemDisk). true) mem_state g now files log
-  pub begins : BeginsAt0 g h files
+  pub begins : IsPart g part files
   pub given_so : slice_get given worker ≡ Some (drained_upto now log.kept)
   pub kept : HoldsKept s worker log.kept
 
@@ -106,40 +97,42 @@ pub record IsDown (accounts : Accounts) (past : Past) (s : Store) : Type 0 where
 abbrev pub KeepsAll : Accounts → Store → Type 0
 KeepsAll accounts s = (m : ℕ) → HasTenants (quota_in accounts) (pairs_upto m s.history) × KeepsQuotas (quota_in accounts) (pairs_upto m s.history)
 
-pub record HoldsServing (g h : ℕ) (accounts : Accounts) (begun : ℕ → Option ℕ) (life : Life) (s : Store) (logs : List (StoreLog MemDisk)) (serving : Serving) : Type 0 where
+pub record HoldsServing (g : ℕ) (turning : Turning) (accounts : Accounts) (begun : ℕ → Option ℕ) (life : Life) (s : Store) (logs : List (StoreLog MemDisk)) (serving : Serving) : Type 0 where
   pub serves : Serves accounts life s serving.state (named serving.roster.tickets)
   pub by_id : AreById serving.roster.names (named serving.roster.tickets)
-  pub each : EachLog (IsLogAt g h s serving.state.logs) s logs
+  pub each : EachLog (λ worker. IsLogAt g (part_of turning worker) s serving.state.logs worker) s logs
+  pub turns_to : serving.generation ≡ g + 1
   pub settles : AreSettles s begun serving.settles
 
 -- The files of a worker's log show what they may be, wherever its last log is: it is not served.
-pub record IsLogDown (g h : ℕ) (now : LogNow) (log : StoreLog MemDisk) : Type 0 where
+pub record IsLogDown (g : ℕ) (h : Whole) (now : LogNow) (log : StoreLog MemDisk) : Type 0 where
   pub files : FilesNow
   pub turn : AreOfTurn g now files
   pub shows : ShowFiles (λ (d : MemDisk). true) mem_state files log.log.files
-  pub begins : BeginsAt0 g h files
+  pub begins : BeginsBy g h files
   pub owner : (log.log.owner.worker ≡ now.had.worker) × (log.log.owner.logs ≡ now.had.logs)
 
-pub record HoldsDown (g h : ℕ) (accounts : Accounts) (past : Past) (s : Store) (logs : List (StoreLog MemDisk)) : Type 0 where
+pub record HoldsDown (g : ℕ) (h : Whole) (accounts : Accounts) (past : Past) (s : Store) (logs : List (StoreLog MemDisk)) : Type 0 where
   pub down : IsDown accounts past s
   pub each : EachLog (λ worker now log. IsLogDown g h now log) s logs
 
-abbrev pub HoldsNow : ℕ → ℕ → Accounts → (ℕ → Option ℕ) → Result Life Past → Store → List (StoreLog MemDisk) → Option Serving → Type 0
-HoldsNow g h accounts begun (Ok life) s logs (Some serving) = HoldsServing g h accounts begun life s logs serving
-HoldsNow g h accounts begun (Err past) s logs None = HoldsDown g h accounts past s logs
-HoldsNow g h accounts begun now s logs serving = ⊥
+abbrev pub HoldsNow : ℕ → Turning → Accounts → (ℕ → Option ℕ) → Result Life Past → Store → List (StoreLog MemDisk) → Option Serving → Type 0
+HoldsNow g turning accounts begun (Ok life) s logs (Some serving) = HoldsServing g turning accounts begun life s logs serving
+HoldsNow g turning accounts begun (Err past) s logs None = HoldsDown g turning.whole accounts past s logs
+HoldsNow g turning accounts begun now s logs serving = ⊥
 
--- All of it: each number that was settled is in every log, whatever a crash leaves of it. The logs are in a turn from one generation on, and all of a
--- second one stand whole.
+-- All of it: each number that was settled is in every log, whatever a crash leaves of it. The logs are in a turn from one generation on. All logs of a
+-- generation stand whole, on a base of what was given up before.
 pub record Holds (accounts : Accounts) (slots : LiveSlots) (standing : Standing) (logs : List (StoreLog MemDisk)) (serving : Option Serving) : Type 0 where
   pub s : Store
   pub from : ℕ
-  pub whole : ℕ
+  pub turning : Turning
   pub some : 0 < length logs
   pub few : length logs ≤ 64
   pub come : HasCome (length logs) s
   pub count : length s.logs ≡ length logs
   pub stand : LiveSlotsStand accounts standing.check standing.now s.slots s.history s.steps slots
+  pub base : StandsOnBase standing.now from turning slots s
   pub settled : AllReach standing.settled s
   pub keeps : KeepsAll accounts s
-  pub now : HoldsNow from whole accounts standing.begun standing.now s logs serving
+  pub now : HoldsNow from turning accounts standing.begun standing.now s logs serving

@@ -1,8 +1,11 @@
 pub mod Serving
 pub mod Lives
 pub mod Checks
+pub mod Bases
+pub mod Turning
 pub mod Holds
 pub mod Steps
+pub mod Parts
 pub mod Returns
 pub mod Forced
 pub mod Earlier

@@ -1,13 +1,13 @@
 -- The lives of a store, and what a list of events with its notes may be.
 use Rattle.std.specs.Prelude.{◌≡◌, ◌≢◌, ◌⊎◌, ℕ, ◌+◌, ◌≤◌, ◌==◌, if◌then◌else◌, min, max, true, List, [], ◌∷◌, ◌++◌, Option, Some, None, Result, Ok, Err}
 use Rattle.mt_rows.specs.{Tenants.{Contents as Pairs, tenant_map}, TenantPairs.pairs_of, Maps.is_scan, declared.refusal.Refusal.Refusal}
-use Rattle.mt_rows.specs.declared.refusal.Refusal.TheVariants.{Memory, Device}
+use Rattle.mt_rows.specs.declared.refusal.Refusal.TheVariants.{Memory, Device, Spent}
 use Rattle.mt_runs.specs.{declared.event.Event.Event, declared.event.Event.TheVariants.{Begin, Step}, declared.event.Told.{Told as Answered}}
 use Rattle.mt_runs.specs.Runs.{Run, Story, Asked, story_of, last_step}
 use Rattle.mt_runs.specs.Placings.{Quotas, Maps, Placing, Fits, IsLegal, AreScansLawful, HasOneOrder, map_upto}
 use Rattle.mt_lives.specs.{declared.events.StoreEvent.StoreEvent, declared.events.StoreEvent.TheVariants.{Core, Flush, Reopen, SettleBegin, SettleNext, CheckBegin, CheckStep, Crash}}
 use Rattle.mt_lives.specs.declared.events.StoreNote.{StoreNote}
-use Rattle.mt_lives.specs.declared.events.StoreNote.TheVariants.{Told, Flushed, Reopened, Begun, Turned, Settled, CheckBegun, CheckTold, CheckAdded, CheckEnded, Recovered, Refused, NoSuch}
+use Rattle.mt_lives.specs.declared.events.StoreNote.TheVariants.{Told, Flushed, Reopened, Begun, Turned, Settled, CheckBegun, CheckTurned, CheckWrites, CheckTold, CheckAdded, CheckEnded, TurnEnded, Recovered, Refused, NoSuch}
 use Rattle.std.specs.FinMap as pairs
 
 -- A life of a store, from one recovery to the next: the pairs that it began with, how many steps were made before, and what happened to its operations.
@@ -64,7 +64,7 @@ abbrev pub MayKeep : ℕ → Past → Past → Type 0
 MayKeep settled old new = (new ≡ old) ⊎ KeepsUpto settled old new
 
 -- How a store stands after some events: after how many steps each open Settle began; the greatest number that a Settle has answered; after how many steps
--- the checkpoint that is being written began, if one is; and the life that it serves, or the one that has ended and was not recovered yet.
+-- the turn that is made began, if one is; and the life that it serves, or the one that has ended and was not recovered yet.
 pub record Standing : Type 0 where
   pub begun : ℕ → Option ℕ
   pub settled : ℕ
@@ -99,7 +99,7 @@ abbrev pub settled_by : ℕ → ℕ → Standing → Standing
 settled_by id number standing =
     record { begun = with_settle id None standing.begun; settled = max standing.settled number; check = standing.check; now = standing.now }
 
--- a checkpoint is being written that began after so many steps, or none is
+-- a turn is made that began after so many steps, or none is
 abbrev pub checking : Option ℕ → Standing → Standing
 checking check standing = record { begun = standing.begun; settled = standing.settled; check = check; now = standing.now }
 
@@ -107,12 +107,16 @@ checking check standing = record { begun = standing.begun; settled = standing.se
 abbrev pub living : Life → Standing → Standing
 living life standing = record { begun = standing.begun; settled = standing.settled; check = standing.check; now = Ok life }
 
--- a crash: no Settle is open, and no checkpoint is being written
+-- a crash: no Settle is open, and no turn is made
 abbrev pub crashed_to : Result Life Past → Standing → Standing
 crashed_to now standing = record { begun = λ id. None; settled = standing.settled; check = None; now = now }
 
 abbrev pub IsMemoryOrDevice : Refusal → Type 0
 IsMemoryOrDevice e = (e ≡ Memory) ⊎ (e ≡ Device)
+
+-- or the numbers of generations are spent
+abbrev pub StopsTurn : Refusal → Type 0
+StopsTurn e = IsMemoryOrDevice e ⊎ (e ≡ Spent)
 
 -- an event of a scan: it begins one, or an operation makes a step that was begun with one
 abbrev pub IsOfScan : Life → Event → Type 0
@@ -124,11 +128,11 @@ IsOfScan life (Step op) = (a : Asked) × ((story_in life).asked op ≡ Some a) �
 -- An operation's event gives its life one event more, which one order explains. A flush tells the last step that was made, or it gave 4,096 changes, and
 -- tells the step of the last one. A Settle answers at least the step after which it began. A crash that is recovered begins the next life, with the pairs of the last one after its changes up to the cutoff, as far as
 -- they were kept; the cutoff is at least each number that was settled, and the next life's numbers are all over the cutoff. A crash, a flush, a reopening and a Settle are refused for memory or the device alone.
--- A checkpoint begins after the last step that was made, and ends after the last one that was made then; each event of its walk's scans gives the life one
--- event more, as an operation's does. A checkpoint that is refused, or whose scan doesn't go on, is given up; so is one at a crash, also if the disks may not
--- leave what the crash tells.
--- NoSuch is noted of an operation's event where the store serves no life, of a Settle and a checkpoint where it is open already or is not; where the store
--- serves no life it is noted of all but a crash.
+-- A checkpoint's turn begins after the last step that was made. The checkpoint begins in it after the last one that was made then, and so it ends. Each event
+-- of its walk's scans gives the life one event more, as an operation's does. A turn that is refused, or whose scan doesn't go on, is given up. So is one at a
+-- crash, also if the disks may not leave what the crash tells.
+-- NoSuch is noted of an operation's event if the store serves no life, of a Settle if it is open already or is not, and of a part of a turn if none is made. It
+-- is noted of the beginning of a turn, if one may not begin. If the store serves no life it is noted of all but a crash.
 abbrev pub IsNoted : Quotas → Standing → StoreEvent → StoreNote → Standing → Type 0
 IsNoted quotas old (Core e) (Told t) new =
     (life : Life) × Lives old life × HasOrder quotas (with_event life e t) × (new ≡ living (with_event life e t) old)
@@ -145,15 +149,18 @@ IsNoted quotas old (SettleNext id) (Settled number) new =
 IsNoted quotas old (SettleNext id) (Refused e) new = IsServing old × (old.begun id ≢ None) × IsMemoryOrDevice e × (new ≡ settling id None old)
 IsNoted quotas old CheckBegin (CheckBegun number) new =
     (life : Life) × Lives old life × (number ≡ steps_in life) × (old.check ≡ None) × (new ≡ checking (Some number) old)
-IsNoted quotas old CheckBegin (Refused e) new = IsServing old × (old.check ≡ None) × IsMemoryOrDevice e × (new ≡ old)
+IsNoted quotas old CheckBegin (Refused e) new = IsServing old × (old.check ≡ None) × (e ≡ Memory) × (new ≡ old)
+IsNoted quotas old CheckStep CheckTurned new = IsServing old × (old.check ≢ None) × (new ≡ old)
+IsNoted quotas old CheckStep (CheckWrites number) new =
+    (life : Life) × (begun : ℕ) × Lives old life × (old.check ≡ Some begun) × (begun ≤ number) × (number ≡ steps_in life) × (new ≡ old)
 IsNoted quotas old CheckStep (CheckTold t) new =
     (life : Life) × (e : Event) × Lives old life × (old.check ≢ None) × IsOfScan life e × HasOrder quotas (with_event life e t)
     × ((new ≡ living (with_event life e t) old) ⊎ (new ≡ living (with_event life e t) (checking None old)))
 IsNoted quotas old CheckStep CheckAdded new = IsServing old × (old.check ≢ None) × (new ≡ old)
 IsNoted quotas old CheckStep (CheckEnded number) new =
-    (life : Life) × (begun : ℕ) × Lives old life × (old.check ≡ Some begun) × (begun ≤ number) × (number ≡ steps_in life) × (new ≡ checking None old)
-IsNoted quotas old CheckStep (Refused e) new = IsServing old × (old.check ≢ None) × IsMemoryOrDevice e × (new ≡ checking None old)
-IsNoted quotas old CheckBegin NoSuch new = ((¬ IsServing old) ⊎ (old.check ≢ None)) × (new ≡ old)
+    (life : Life) × (begun : ℕ) × Lives old life × (old.check ≡ Some begun) × (begun ≤ number) × (number ≡ steps_in life) × (new ≡ old)
+IsNoted quotas old CheckStep TurnEnded new = IsServing old × (old.check ≢ None) × (new ≡ checking None old)
+IsNoted quotas old CheckStep (Refused e) new = IsServing old × (old.check ≢ None) × StopsTurn e × (new ≡ checking None old)
 IsNoted quotas old CheckStep NoSuch new = ((¬ IsServing old) ⊎ (old.check ≡ None)) × (new ≡ old)
 IsNoted quotas old (Crash images) NoSuch new = new ≡ checking None old
 IsNoted quotas old (Core e) NoSuch new = (¬ IsServing old) × (new ≡ old)

@@ -12,6 +12,7 @@ pub record DrainsServing (old new : Serving) (worker : ℕ) (batch : Batch) : Ty
   pub right : IsRightState new.state
   pub roster : new.roster ≡ old.roster
   pub settles : new.settles ≡ old.settles
+  pub generation : new.generation ≡ old.generation
 
 -- an event of an operation was answered, and the names and the state are right
 pub record TellsServing (old new : Serving) (e : Event) (t : Answered) : Type 0 where
@@ -19,3 +20,4 @@ pub record TellsServing (old new : Serving) (e : Event) (t : Answered) : Type 0 
   pub by_id : AreById new.roster.names (named new.roster.tickets)
   pub right : IsRightState new.state
   pub settles : new.settles ≡ old.settles
+  pub generation : new.generation ≡ old.generation

@@ -17,6 +17,7 @@ use mt_log_files::WorkerFiles;
 use mt_rows::{Refusal, Tenants};
 use mt_slots::StoreSlots;
 use mt_store_logs::{closed_logs, create_logs};
+use mt_stored::next_turn;
 use std::alloc::Global;
 
 /// A new store on these files. The logs are made before the slots. Errors: `Device`, `Memory`.
@@ -46,7 +47,7 @@ pub(crate) fn created(
     }
     let state = State::new(alloc, logs.len() as u8, tenants.copied()?)?;
     state.facts();
-    let serving = Some(Serving::new(alloc, state));
+    let serving = Some(Serving::new(alloc, state, next_turn(&logs)));
     Ok(Store {
         logs,
         slots: LiveSlots::Rest(slots),

@@ -1,68 +1,108 @@
-//! Checkpoints of a store that serves: a walk over all its pairs, by scans beside other operations.
+//! Turns of a store that serves, and the checkpoint of each: a walk over all its pairs, by scans beside other operations.
 //!
 //! A scan of the walk is an operation of worker 0. Its name is as far below 2^64 as names were given before, so no two
-//! scans have one name. A checkpoint whose scan is not begun, or ends without pairs, is given up.
+//! scans have one name. A turn whose scan is not begun, or ends without pairs, is given up.
 
-ghost use Rattle.std.specs.{Prelude.{◌≡◌, ◌≤◌, ◌^◌, List, Some, IfOk, slice_get}, List.All};
-ghost use Rattle.mt_rows.specs.{Accounts.Accounts, Commands.IsKey};
+ghost use Rattle.std.specs.{Prelude.{◌≡◌, ◌<◌, ◌≤◌, ◌^◌, ◌↔◌, IsTrue, List, length, Some, IfOk, OnOk, slice_get}, List.All};
+ghost use Rattle.mt_rows.specs.{Accounts.{Accounts, numbers_of}, Commands.IsKey};
 ghost use Rattle.mt_disk.specs.declared.mem.MemDisk.{MemDisk as AnyDisk};
 ghost use Rattle.mt_slots.specs.Places.{given_up};
-ghost use Rattle.mt_store_logs.specs.declared.store_log.StoreLog.{StoreLog as AnyLog};
-ghost use Rattle.mt_lives.specs.declared.live_slots.LiveSlots.TheVariants.{Rest, Writes};
+ghost use Rattle.mt_store_logs.specs.{declared.store_log.StoreLog.{StoreLog as AnyLog}, Places.{workers_of, AreInOrder}};
+ghost use Rattle.mt_lives.specs.declared.live_slots.LiveSlots.TheVariants.{Rest, Turns as TurnsNow, Writes};
+ghost use Rattle.mt_lives.specs.declared.live_slots.TurnStage.TheVariants.{Begins as BeginsAt};
 ghost use Rattle.mt_lives.specs.declared.live_slots.CheckStage.TheVariants.{Begins as BeginsNext, Scans as ScansBy, Adds as AddsThese};
 ghost use Rattle.mt_lives.specs.declared.events.StoreEvent.TheVariants.{CheckBegin, CheckStep};
 ghost use Rattle.mt_lives.specs.{declared.serving.Serving.{Serving as AnyServing}, Checks.{check_with, AfterBegin, AfterStep, AfterReply}};
-ghost use Rattle.mt_lives.specs.{Steps.{IsHeldBy, GoesOn}, Forced.IsCheckForced};
+ghost use Rattle.mt_lives.specs.{Steps.{IsHeldBy, GoesOn}, Forced.{IsBeginForced, IsStepForced, IsWriteForced}};
+ghost use Rattle.mt_lives.specs.Parts.{turn_at, GoesBy, AreSettledBy, AreFree};
 
 use crate::events::StoreNote;
-use crate::live_slots::{Check, CheckStage, LiveSlots};
+use crate::live_slots::{Check, CheckStage, LiveSlots, Turn, TurnStage};
 use crate::operations::core;
-use crate::serving::Serving;
+use crate::serving::{Serving, Settle};
+use crate::turns::step_turn;
 use mt_disk::{DeviceFailed, MemDisk};
 use mt_pages::PageWalk;
 use mt_rows::{Refusal, Reply, TenantPair, Tenants};
 use mt_runs::{Event, Told};
 use mt_slots::{Checkpointing, StoreSlots};
+use mt_store_logs::StoreLog;
 use std::alloc::{AllocError, Global};
 use std::mem;
 
-/// Begins a checkpoint, unless the store doesn't serve or one is being written.
+/// Begins a turn, unless the store doesn't serve, one is made, there are no tenants, or the newest checkpoint is not settled.
 pub(crate) fn begin_check(
     alloc: Global,
     tenants: &Tenants,
+    logs: &[StoreLog<MemDisk>],
     slots: &mut LiveSlots,
     serving: &Option<Serving>,
 ) -> StoreNote
-    ensures goes { (logs : List (AnyLog AnyDisk)) → GoesOn tenants.now slots.old slots.new CheckBegin result logs serving.now logs serving.now }
-    ensures forced { IsCheckForced result slots.old slots.new }
+    ensures goes { GoesOn tenants.now slots.old slots.new CheckBegin result logs.now serving.now logs.now serving.now }
+    ensures forced { IsBeginForced tenants.now logs.now serving.now result slots.old slots.new }
 {
     let Some(serving) = serving else {
         return StoreNote::NoSuch;
     };
-    let steps = serving.state.steps();
-    match mem::replace(slots, LiveSlots::Away) {
-        LiveSlots::Rest(rest) => {
-            let (now, note) = begun(alloc, tenants, rest, steps);
-            *slots = now;
-            note
+    if !are_free(logs, slots) {
+        return StoreNote::NoSuch;
+    }
+    match has_tenants(alloc, tenants) {
+        Ok(true) => {
+            slots.begin_turn();
+            StoreNote::CheckBegun(serving.state.steps())
         }
-        LiveSlots::Writes(check) => {
-            *slots = LiveSlots::Writes(check);
-            StoreNote::NoSuch
-        }
-        LiveSlots::Away => StoreNote::NoSuch,
+        Ok(false) => StoreNote::NoSuch,
+        Err(AllocError) => StoreNote::Refused(Refusal::Memory),
     }
 }
 
-// Begins a checkpoint after so many steps.
-fn begun(
+// Whether there are any.
+fn has_tenants(alloc: Global, tenants: &Tenants) -> Result<bool, AllocError>
+    ensures { IfOk result (λ some. IsTrue some ↔ (0 < length (numbers_of tenants.now))) }
+{
+    let numbers = tenants.numbers(alloc)?;
+    Ok(!numbers.is_empty())
+}
+
+// Whether no turn is made, and the newest checkpoint is settled.
+fn are_free(logs: &[StoreLog<MemDisk>], slots: &LiveSlots) -> bool
+    ensures { IsTrue result ↔ AreFree logs.now slots.now }
+{
+    match slots {
+        LiveSlots::Rest(slots) => are_settled(logs, slots.owed()),
+        LiveSlots::Turns(_) | LiveSlots::Writes(_) | LiveSlots::Away => false,
+    }
+}
+
+// Whether every log goes by what is owed, if anything is.
+fn are_settled(logs: &[StoreLog<MemDisk>], owed: u64) -> bool
+    ensures { IsTrue result ↔ AreSettledBy owed logs.now }
+{
+    owed == 0 || logs.iter().all(|log| goes_by(log, owed))
+}
+
+// Whether a log is open and goes up to a step.
+fn goes_by(log: &StoreLog<MemDisk>, step: u64) -> bool
+    ensures { IsTrue result ↔ GoesBy step log.now }
+{
+    match log.mark() {
+        Some(mark) => step <= mark,
+        None => false,
+    }
+}
+
+/// Begins the checkpoint of a turn after so many steps: all logs have begun their next ones.
+pub(crate) fn begin_writing(
     alloc: Global,
     tenants: &Tenants,
     slots: StoreSlots<MemDisk>,
+    log: u8,
     steps: u64,
 ) -> (LiveSlots, StoreNote)
-    ensures goes { (logs : List (AnyLog AnyDisk)) (serving : AnyServing) → serving.state.steps ≡ steps → GoesOn tenants.now (Rest slots) result.0 CheckBegin result.1 logs (Some serving) logs (Some serving) }
-    ensures forced { IsCheckForced result.1 (Rest slots) result.0 }
+    ensures goes { (logs : List (AnyLog AnyDisk)) (serving : AnyServing) → length logs ≡ log → serving.state.steps ≡ steps
+        → GoesOn tenants.now (TurnsNow (turn_at slots (BeginsAt log))) result.0 CheckStep result.1 logs (Some serving) logs (Some serving) }
+    ensures forced { (logs : List (AnyLog AnyDisk)) → length logs ≡ log → IsStepForced result.1 (TurnsNow (turn_at slots (BeginsAt log))) result.0 logs logs }
 {
     let numbers = match tenants.numbers(alloc) {
         Ok(numbers) => numbers,
@@ -77,24 +117,29 @@ fn begun(
                 walk: PageWalk::new(alloc, numbers),
                 stage: CheckStage::Begins,
             };
-            (LiveSlots::Writes(check), StoreNote::CheckBegun(steps))
+            (LiveSlots::Writes(check), StoreNote::CheckWrites(steps))
         }
         Err((DeviceFailed, slots)) => (LiveSlots::Rest(slots), StoreNote::Refused(Refusal::Device)),
     }
 }
 
-/// Goes on with the checkpoint that is being written, if the store serves and one is.
+/// Makes the next part of a turn, if the store serves and one is made.
 pub(crate) fn step_check(
     alloc: Global,
+    tenants: &Tenants,
+    logs: &mut [StoreLog<MemDisk>],
     slots: &mut LiveSlots,
     serving: &mut Option<Serving>,
 ) -> Result<StoreNote, AllocError>
-    requires { (logs : List (AnyLog AnyDisk)) × IsHeldBy slots.old logs serving.old }
-    ensures goes { IfOk result (λ note. (accounts : Accounts) (logs : List (AnyLog AnyDisk)) → GoesOn accounts slots.old slots.new CheckStep note logs serving.old logs serving.new) }
-    ensures forced { IfOk result (λ note. IsCheckForced note slots.old slots.new) }
+    requires held { IsHeldBy slots.old logs.old serving.old }
+    requires order { AreInOrder logs.old }
+    ensures count { OnOk result (length logs.new ≡ length logs.old) }
+    ensures workers { OnOk result (workers_of logs.new ≡ workers_of logs.old) }
+    ensures goes { IfOk result (λ note. GoesOn tenants.now slots.old slots.new CheckStep note logs.old serving.old logs.new serving.new) }
+    ensures forced { IfOk result (λ note. IsStepForced note slots.old slots.new logs.old logs.new) }
 {
     match serving {
-        Some(serving) => step_serving(alloc, slots, serving),
+        Some(serving) => step_serving(alloc, tenants, logs, slots, serving),
         None => Ok(StoreNote::NoSuch),
     }
 }
@@ -102,17 +147,27 @@ pub(crate) fn step_check(
 // The same of a store that serves.
 fn step_serving(
     alloc: Global,
+    tenants: &Tenants,
+    logs: &mut [StoreLog<MemDisk>],
     slots: &mut LiveSlots,
     serving: &mut Serving,
 ) -> Result<StoreNote, AllocError>
-    requires { (logs : List (AnyLog AnyDisk)) × IsHeldBy slots.old logs (Some serving.old) }
-    ensures goes { IfOk result (λ note. (accounts : Accounts) (logs : List (AnyLog AnyDisk)) → GoesOn accounts slots.old slots.new CheckStep note logs (Some serving.old) logs (Some serving.new)) }
-    ensures forced { IfOk result (λ note. IsCheckForced note slots.old slots.new) }
+    requires held { IsHeldBy slots.old logs.old (Some serving.old) }
+    requires order { AreInOrder logs.old }
+    ensures count { OnOk result (length logs.new ≡ length logs.old) }
+    ensures workers { OnOk result (workers_of logs.new ≡ workers_of logs.old) }
+    ensures goes { IfOk result (λ note. GoesOn tenants.now slots.old slots.new CheckStep note logs.old (Some serving.old) logs.new (Some serving.new)) }
+    ensures forced { IfOk result (λ note. IsStepForced note slots.old slots.new logs.old logs.new) }
 {
     match mem::replace(slots, LiveSlots::Away) {
         LiveSlots::Rest(rest) => {
             *slots = LiveSlots::Rest(rest);
             Ok(StoreNote::NoSuch)
+        }
+        LiveSlots::Turns(turn) => {
+            let (now, note) = step_turn(alloc, tenants, logs, turn, serving);
+            *slots = now;
+            Ok(note)
         }
         LiveSlots::Writes(check) => {
             let (now, note) = next(alloc, check, serving)?;
@@ -131,7 +186,7 @@ fn next(
 ) -> Result<(LiveSlots, StoreNote), AllocError>
     requires { (logs : List (AnyLog AnyDisk)) × IsHeldBy (Writes check) logs (Some serving.old) }
     ensures goes { IfOk result (λ r. (accounts : Accounts) (logs : List (AnyLog AnyDisk)) → GoesOn accounts (Writes check) r.0 CheckStep r.1 logs (Some serving.old) logs (Some serving.new)) }
-    ensures forced { IfOk result (λ r. IsCheckForced r.1 (Writes check) r.0) }
+    ensures forced { IfOk result (λ r. IsWriteForced r.1 (Writes check) r.0) }
 {
     let Check {
         writing,
@@ -154,7 +209,7 @@ fn begin_scan(
 ) -> Result<(LiveSlots, StoreNote), AllocError>
     requires { (logs : List (AnyLog AnyDisk)) × IsHeldBy (Writes (check_with writing walk BeginsNext)) logs (Some serving.old) }
     ensures goes { IfOk result (λ r. (accounts : Accounts) (logs : List (AnyLog AnyDisk)) → GoesOn accounts (Writes (check_with writing walk BeginsNext)) r.0 CheckStep r.1 logs (Some serving.old) logs (Some serving.new)) }
-    ensures forced { IfOk result (λ r. IsCheckForced r.1 (Writes (check_with writing walk BeginsNext)) r.0) }
+    ensures forced { IfOk result (λ r. IsWriteForced r.1 (Writes (check_with writing walk BeginsNext)) r.0) }
 {
     let scan = match walk.next(alloc) {
         Ok(scan) => scan,
@@ -199,16 +254,26 @@ fn after_begin(writing: Checkpointing<MemDisk>, walk: PageWalk, name: u64, told:
     }
 }
 
-// Ends the checkpoint after so many steps.
+// Ends the checkpoint after so many steps. All logs are settled next.
 fn end(writing: Checkpointing<MemDisk>, walk: PageWalk, last: u64) -> (LiveSlots, StoreNote)
     requires few { last ≤ 2 ^ 59 }
     ensures goes { (accounts : Accounts) (logs : List (AnyLog AnyDisk)) (serving : AnyServing) → serving.state.steps ≡ last → slice_get walk.tenants.items walk.place ≡ None
         → GoesOn accounts (Writes (check_with writing walk BeginsNext)) result.0 CheckStep result.1 logs (Some serving) logs (Some serving) }
-    ensures forced { IsCheckForced result.1 (Writes (check_with writing walk BeginsNext)) result.0 }
+    ensures forced { IsWriteForced result.1 (Writes (check_with writing walk BeginsNext)) result.0 }
 {
     let _walk = walk;
     match writing.end(last) {
-        Ok(slots) => (LiveSlots::Rest(slots), StoreNote::CheckEnded(last)),
+        Ok(slots) => (
+            LiveSlots::Turns(Turn {
+                slots,
+                stage: TurnStage::Settles(Settle {
+                    begun: last,
+                    next: 0,
+                    least: u64::MAX,
+                }),
+            }),
+            StoreNote::CheckEnded(last),
+        ),
         Err((DeviceFailed, slots)) => (LiveSlots::Rest(slots), StoreNote::Refused(Refusal::Device)),
     }
 }
@@ -223,7 +288,7 @@ fn step_scan(
 ) -> Result<(LiveSlots, StoreNote), AllocError>
     requires { (logs : List (AnyLog AnyDisk)) × IsHeldBy (Writes (check_with writing walk (ScansBy name))) logs (Some serving.old) }
     ensures goes { IfOk result (λ r. (accounts : Accounts) (logs : List (AnyLog AnyDisk)) → GoesOn accounts (Writes (check_with writing walk (ScansBy name))) r.0 CheckStep r.1 logs (Some serving.old) logs (Some serving.new)) }
-    ensures forced { IfOk result (λ r. IsCheckForced r.1 (Writes (check_with writing walk (ScansBy name))) r.0) }
+    ensures forced { IfOk result (λ r. IsWriteForced r.1 (Writes (check_with writing walk (ScansBy name))) r.0) }
 {
     let told = core(serving, &Event::Step { op: name })?;
     let slots = after_step(alloc, writing, walk, name, &told);
@@ -283,7 +348,7 @@ fn add(
     requires { All (λ p. IsKey p.key) pairs.items }
     ensures goes { (accounts : Accounts) (logs : List (AnyLog AnyDisk)) (serving : AnyServing)
         → GoesOn accounts (Writes (check_with writing walk (AddsThese pairs))) result.0 CheckStep result.1 logs (Some serving) logs (Some serving) }
-    ensures forced { IsCheckForced result.1 (Writes (check_with writing walk (AddsThese pairs))) result.0 }
+    ensures forced { IsWriteForced result.1 (Writes (check_with writing walk (AddsThese pairs))) result.0 }
 {
     match writing.add(alloc, &pairs) {
         Ok(writing) => {

@@ -18,9 +18,10 @@ use mt_recover::Recovered;
 use mt_rows::{Refusal, Tenants};
 use mt_slots::StoreSlots;
 use mt_store_logs::{NoWatch, StoreLog, crash_logs, recover_store};
+use mt_stored::next_turn;
 use std::alloc::{AllocError, Global};
 
-/// Gives up a checkpoint that is being written. Crashes all disks, each to its image, and recovers the store. `NoSuch` if
+/// Gives up a turn that is made. Crashes all disks, each to its image, and recovers the store. `NoSuch` if
 /// the disks may not leave these images: then nothing else has changed. After an error some disks have crashed.
 pub(crate) fn crash(
     alloc: Global,
@@ -41,7 +42,7 @@ pub(crate) fn crash(
     slots.rest();
     match slots {
         LiveSlots::Rest(slots) => crash_at_rest(alloc, tenants, logs, slots, serving, images),
-        LiveSlots::Writes(_) | LiveSlots::Away => unreachable!(),
+        LiveSlots::Turns(_) | LiveSlots::Writes(_) | LiveSlots::Away => unreachable!(),
     }
 }
 
@@ -106,7 +107,7 @@ fn come_back(
     requires empty { HaveNoPairs tenants.now }
     ensures workers { workers_of logs.new ≡ workers_of logs.old }
     ensures recovered { IfOk result (λ r. AreRecovered tenants.now slots.old slots.new r.0 logs.old logs.new) }
-    ensures begins { IfOk result (λ r. Begins tenants.now r.0 (length logs.new) r.1) }
+    ensures begins { IfOk result (λ r. Begins tenants.now r.0 logs.new r.1) }
     ensures err { IfErr result (λ e. AreNotRecovered tenants.now slots.old slots.new e logs.old logs.new) }
 {
     let recovered = match recover_store(alloc, logs, slots, tenants, &mut NoWatch) {
@@ -114,7 +115,7 @@ fn come_back(
         Err(refused) => return Err(refused.refusal()),
     };
     match restored(alloc, tenants, logs.len() as u8, &recovered) {
-        Ok(state) => Ok((recovered, Serving::new(alloc, state))),
+        Ok(state) => Ok((recovered, Serving::new(alloc, state, next_turn(logs)))),
         Err(AllocError) => Err(Refusal::Memory),
     }
 }

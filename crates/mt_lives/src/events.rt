@@ -19,11 +19,13 @@ pub enum StoreEvent {
     SettleBegin { id: u64 },
     /// Its next log has a turn: the log is opened again if its disk failed, and flushed up to the last step.
     SettleNext { id: u64 },
-    /// A checkpoint begins in the slot that doesn't have the newest one.
+    /// A checkpoint's turn begins, if the newest checkpoint is settled and there are tenants.
     CheckBegin,
-    /// It goes on: a scan of its walk begins or makes a step, what a scan showed is added, or it ends.
+    /// It goes on by one part: a log is brought up to date and followed by its next one, the checkpoint begins in the slot
+    /// that doesn't have the newest one, a scan of its walk begins or makes a step, what a scan showed is added, the
+    /// checkpoint ends, a log is settled, or an older log is given up.
     CheckStep,
-    /// A checkpoint that is being written is given up. All disks crash at this moment, each to its image, and the store is recovered.
+    /// A turn that is made is given up. All disks crash at this moment, each to its image, and the store is recovered.
     Crash(CrashImages),
 }
 
@@ -50,20 +52,26 @@ pub enum StoreNote {
     Turned,
     /// So had the last one: all changes up to this step are in the logs.
     Settled(u64),
-    /// The checkpoint has begun, after so many steps.
+    /// The turn of a checkpoint has begun, after so many steps.
     CheckBegun(u64),
-    /// What the scan of its walk was answered. Unless that goes on or showed pairs, the checkpoint is given up.
+    /// One log's part of the turn was done; others are left.
+    CheckTurned,
+    /// The checkpoint itself has begun, after so many steps.
+    CheckWrites(u64),
+    /// What the scan of its walk was answered. Unless that goes on or showed pairs, the turn is given up.
     CheckTold(Told),
     /// It has the pairs of one scan more.
     CheckAdded,
-    /// It has ended, after so many steps, and is the newest one.
+    /// It has ended, after so many steps, and is the newest one. The turn goes on.
     CheckEnded(u64),
+    /// The turn has ended: one generation of logs stands.
+    TurnEnded,
     /// The store serves again, with these pairs.
     Recovered(Recovered),
-    /// `Device` or `Memory`: after a crash the store does not serve, a checkpoint is given up, and else the log may
-    /// have to be opened again.
+    /// `Device` or `Memory`: after a crash the store does not serve, a turn is given up, and else the log may have to be
+    /// opened again.
     Refused(Refusal),
     /// Nothing of that name is open, or is open already, or the disks may not leave what the crash tells. Nothing
-    /// has changed, but that a crash gives up a checkpoint.
+    /// has changed, but that a crash gives up a turn. So it is of a turn that may not begin.
     NoSuch,
 }

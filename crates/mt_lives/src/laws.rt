@@ -19,7 +19,7 @@ ghost use Rattle.mt_crashes.specs.Fronts.{after_changes};
 ghost use Rattle.mt_runs.specs.{declared.event.Event.{Event as AnyEvent}, Placings.Quotas};
 ghost use Rattle.mt_lives.specs.declared.events.CrashImages.{CrashImages};
 ghost use Rattle.mt_lives.specs.declared.events.StoreEvent.TheVariants.{Core, SettleBegin, SettleNext, CheckBegin, CheckStep, Crash};
-ghost use Rattle.mt_lives.specs.{declared.events.StoreNote.TheVariants.{Settled, CheckBegun, CheckEnded, Recovered, Refused, NoSuch}, Earlier.{earlier_entries, AreTold}};
+ghost use Rattle.mt_lives.specs.{declared.events.StoreNote.TheVariants.{Settled, CheckBegun, CheckWrites, CheckEnded, TurnEnded, Recovered, Refused, NoSuch}, Earlier.{earlier_entries, AreTold}};
 ghost use Rattle.mt_lives.specs.{declared.serving.Serving.{Serving as AnyServing}, Holds.{quotas_of, Holds}, Returns.IsFresh, Forced.AllCrash, Steps.GoesOn};
 ghost use Rattle.mt_lives.specs.Lives.{Life, Standing, new_standing, steps_in, IsNoted, Notes, NotesLead};
 ghost use Rattle.mt_lives.specs.Owned.{with_state, AreTurnNotes, IsTurn, IsWholeSettle};
@@ -37,11 +37,11 @@ pub fn a_tape_goes_forward()
         contents_at entries now m ≡ after_changes (contents_at entries now floor) (map record_of (earlier_entries m entries)) }
 {}
 
-/// What is never noted: a recovery with a cutoff before a number that was settled, or one after which such a number is
-/// given again; a Settle that answers less than
-/// the step after which it began, or more than the last step; a crash whose files are told to be bad, to fall, or to
-/// be over a quota; of a store that serves, NoSuch of an operation, or of a Settle that begins by a free name; and a
-/// checkpoint that begins or ends at another number than that of the last step, or begins while one is written.
+/// What is never noted. Of a recovery: a cutoff before a number that was settled, or that such a number is given again. Of
+/// a Settle: an answer of less than the step after which it began, or of more than the last step. Of a crash: that files
+/// are bad, fall, or are over a quota. Of a store that serves: NoSuch of an operation, or of a Settle that begins by a free
+/// name. Of a turn or its checkpoint: that it begins or ends at another number than that of the last step, that a turn
+/// begins while one is made, or that one ends while none is made.
 pub fn wrong_notes_are_refused()
     ensures settled_number_lost { (quotas : Quotas) (old new : Standing) (images : CrashImages) (r : AnyRecovered) →
         r.cutoff < old.settled → ¬ IsNoted quotas old (Crash images) (Recovered r) new }
@@ -61,12 +61,15 @@ pub fn wrong_notes_are_refused()
         old.now ≡ Ok life → ¬ IsNoted quotas old (Core e) NoSuch new }
     ensures open_settle_of_no_name { (quotas : Quotas) (old new : Standing) (life : Life) (id : ℕ) →
         old.now ≡ Ok life → old.begun id ≡ None → ¬ IsNoted quotas old (SettleBegin id) NoSuch new }
-    ensures checkpoint_begun_elsewhere { (quotas : Quotas) (old new : Standing) (life : Life) (number : ℕ) →
+    ensures turn_begun_elsewhere { (quotas : Quotas) (old new : Standing) (life : Life) (number : ℕ) →
         old.now ≡ Ok life → number ≢ steps_in life → ¬ IsNoted quotas old CheckBegin (CheckBegun number) new }
+    ensures checkpoint_begun_elsewhere { (quotas : Quotas) (old new : Standing) (life : Life) (number : ℕ) →
+        old.now ≡ Ok life → number ≢ steps_in life → ¬ IsNoted quotas old CheckStep (CheckWrites number) new }
     ensures checkpoint_ended_elsewhere { (quotas : Quotas) (old new : Standing) (life : Life) (number : ℕ) →
         old.now ≡ Ok life → number ≢ steps_in life → ¬ IsNoted quotas old CheckStep (CheckEnded number) new }
-    ensures second_checkpoint { (quotas : Quotas) (old new : Standing) (number : ℕ) →
+    ensures second_turn { (quotas : Quotas) (old new : Standing) (number : ℕ) →
         old.check ≢ None → ¬ IsNoted quotas old CheckBegin (CheckBegun number) new }
+    ensures no_turn_ended { (quotas : Quotas) (old new : Standing) → old.check ≡ None → ¬ IsNoted quotas old CheckStep TurnEnded new }
 {}
 
 /// The server's store that is owned alone and was just made stands as a new one. Its state is right, and nothing has a
@@ -74,7 +77,7 @@ pub fn wrong_notes_are_refused()
 pub fn an_owned_store_begins_as_a_new_one()
     ensures { (accounts : Accounts) (serving : AnyServing) (files : List (WorkerFiles AnyDisk)) (bare slots : AnySlots AnyDisk) (logs : List (AnyLog AnyDisk)) → 0 < length files → length files ≤ 64
         → IsNewStore ⟦<MemDisk as Disk>⟧.is_honest ⟦<MemDisk as Disk>⟧.state ⟦<MemDisk as Disk>⟧.failures files bare accounts serving.state logs (Some slots)
-        → IsRightState serving.state → IsFresh serving → Holds accounts (Rest slots) new_standing logs (Some serving) }
+        → IsRightState serving.state → IsFresh logs serving → Holds accounts (Rest slots) new_standing logs (Some serving) }
 {}
 
 /// A store whose disks crashed, each to its image, and that was recovered from what they left of its files stands as
@@ -83,7 +86,7 @@ pub fn an_owned_store_is_recovered_as_after_a_crash()
     ensures { (accounts : Accounts) (slots found now : AnySlots AnyDisk) (was : Option AnyServing) (serving : AnyServing) (old left new : List (AnyLog AnyDisk))
         (images : CrashImages) → AllCrash images old slots left found
         → IsRecoveredStore ⟦<MemDisk as Disk>⟧.is_honest ⟦<MemDisk as Disk>⟧.state ⟦<MemDisk as Disk>⟧.failures (map files_of left) found accounts serving.state new (Some now)
-        → IsRightState serving.state → IsFresh serving → (r : AnyRecovered) × GoesOn accounts (Rest slots) (Rest now) (Crash images) (Recovered r) old was new (Some serving) }
+        → IsRightState serving.state → IsFresh new serving → (r : AnyRecovered) × GoesOn accounts (Rest slots) (Rest now) (Crash images) (Recovered r) old was new (Some serving) }
 {}
 
 /// A turn of that store is a list of events of its log: a reopening if the log isn't open, and flushes. Their notes

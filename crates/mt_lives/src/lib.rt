@@ -17,7 +17,8 @@ mod operations;
 pub mod running;
 mod serving;
 mod settles;
+mod turns;
 
 pub use events::{CrashImages, StoreEvent, StoreNote};
-pub use live_slots::{Check, CheckStage, LiveSlots};
+pub use live_slots::{Check, CheckStage, LiveSlots, Turn, TurnStage};
 pub use running::{NoteList, Store, run_store_events};

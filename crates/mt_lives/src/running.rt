@@ -131,8 +131,20 @@ fn happen(
             &mut store.serving,
             images,
         ),
-        StoreEvent::CheckBegin => Ok(begin_check(alloc, tenants, &mut store.slots, &store.serving)),
-        StoreEvent::CheckStep => step_check(alloc, &mut store.slots, &mut store.serving),
+        StoreEvent::CheckBegin => Ok(begin_check(
+            alloc,
+            tenants,
+            &store.logs,
+            &mut store.slots,
+            &store.serving,
+        )),
+        StoreEvent::CheckStep => step_check(
+            alloc,
+            tenants,
+            &mut store.logs,
+            &mut store.slots,
+            &mut store.serving,
+        ),
         _ => match &mut store.serving {
             Some(serving) => serve(alloc, &mut store.logs, serving, event),
             None => Ok(StoreNote::NoSuch),

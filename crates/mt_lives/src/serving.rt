@@ -1,6 +1,7 @@
 //! What a store has while it serves.
 
 ghost use Rattle.std.specs.Prelude.{◌≡◌, []};
+ghost use Rattle.mt_lives.specs.Parts.{TurnsOn};
 
 use mt_core::{Roster, State};
 use mt_drains::DrainedBatch;
@@ -8,12 +9,14 @@ use mt_store_logs::Source;
 use std::alloc::{AllocError, Global};
 use std::collections::BTreeMap;
 
-/// The state of a life, the names of its events, and the Settles that have begun in it.
+/// The state of a life, the names of its events, the Settles that have begun in it, and the generation of logs to which
+/// the turn goes that is made, or the next one.
 #[derive(Drop)]
 pub struct Serving {
     pub state: State,
     pub roster: Roster,
     pub settles: BTreeMap<u64, Settle>,
+    pub generation: u64,
 }
 
 /// A Settle: after how many steps it began, the log that comes next, and the least step up to which those
@@ -26,18 +29,27 @@ pub struct Settle {
 }
 
 impl Serving {
-    /// A life begins.
-    pub(crate) fn new(alloc: Global, state: State) -> Self
+    /// A life begins. The next turn goes to this generation.
+    pub(crate) fn new(alloc: Global, state: State, generation: u64) -> Self
         ensures state { result.state ≡ state }
         ensures tickets { result.roster.tickets.entries ≡ [] }
         ensures names { result.roster.names.entries ≡ [] }
         ensures settles { result.settles.entries ≡ [] }
+        ensures generation { result.generation ≡ generation }
     {
         Serving {
             state,
             roster: Roster::new(alloc),
             settles: BTreeMap::new(alloc),
+            generation,
         }
+    }
+
+    /// A turn has ended. The next one goes to the generation after it.
+    pub(crate) fn turn_on(&mut self)
+        ensures { TurnsOn self.old self.new }
+    {
+        self.generation = self.generation.saturating_add(1);
     }
 }
 

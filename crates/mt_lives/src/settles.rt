@@ -129,8 +129,8 @@ fn flush_log(
     }
 }
 
-// Gives a worker's log its turn, up to a step at least, and tells the step up to which the log then goes.
-fn bring_up_log(
+/// Gives a worker's log its turn, up to a step at least, and tells the step up to which the log then goes.
+pub(crate) fn bring_up_log(
     alloc: Global,
     log: &mut StoreLog<MemDisk>,
     serving: &mut Serving,
@@ -158,6 +158,7 @@ fn turned(serving: &mut Serving, id: u64, settle: Settle, mark: u64, count: usiz
     ensures turns { Turns count id settle mark serving.old.settles serving.new.settles result }
     ensures state { serving.new.state ≡ serving.old.state }
     ensures roster { serving.new.roster ≡ serving.old.roster }
+    ensures generation { serving.new.generation ≡ serving.old.generation }
 {
     let least = settle.least.min(mark);
     if usize::from(settle.next) + 1 == count {

@@ -28,11 +28,11 @@ pub(crate) enum Row {
     Reopen(u8),
     Settle,
     Next,
-    /// A checkpoint begins.
+    /// The turn of a checkpoint begins.
     Check,
-    /// It makes so many steps.
+    /// It goes on by so many parts.
     Walk(u64),
-    /// It makes all its steps.
+    /// It goes on by all its parts.
     Ends,
     Crash,
 }
@@ -40,14 +40,21 @@ pub(crate) enum Row {
 /// As many steps as any operation here needs; a step behind the last one is none.
 const ENOUGH: u64 = 9;
 
-/// As many steps as any checkpoint here needs.
+/// As many parts as any turn here needs.
 const ENOUGH_FOR_CHECK: u64 = 40;
+
+/// No tenants.
+pub(crate) fn no_tenants(alloc: Global) -> Tenants
+    ensures { HaveNoPairs result }
+{
+    Tenants::new(alloc)
+}
 
 /// Tenant 7, which may have a hundred pairs.
 pub(crate) fn one_tenant(alloc: Global) -> Tenants
     ensures { HaveNoPairs result }
 {
-    let mut tenants = Tenants::new(alloc);
+    let mut tenants = no_tenants(alloc);
     let _ = tenants.add(7, 100);
     tenants
 }
@@ -131,7 +138,7 @@ pub(crate) fn events_of(
         Row::Settle => push(rt, events, StoreEvent::SettleBegin { id: 1 }),
         Row::Next => push(rt, events, StoreEvent::SettleNext { id: 1 }),
         Row::Check => push(rt, events, StoreEvent::CheckBegin),
-        Row::Walk(steps) => walk(rt, events, steps),
+        Row::Walk(parts) => walk(rt, events, parts),
         Row::Ends => walk(rt, events, ENOUGH_FOR_CHECK),
         Row::Crash => push(rt, events, crash(rt, alloc, images)),
     }
@@ -154,11 +161,11 @@ fn step(rt: &impl Abort, events: &mut Vec<StoreEvent>, op: u64, steps: u64)
     }
 }
 
-fn walk(rt: &impl Abort, events: &mut Vec<StoreEvent>, steps: u64)
+fn walk(rt: &impl Abort, events: &mut Vec<StoreEvent>, parts: u64)
     requires { All (IsServedBy 2) events.old.items }
     ensures { All (IsServedBy 2) events.new.items }
 {
-    for _ in 0..steps {
+    for _ in 0..parts {
         push(rt, events, StoreEvent::CheckStep);
     }
 }

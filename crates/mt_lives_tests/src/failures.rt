@@ -2,7 +2,8 @@
 //! a growth refused.
 
 use crate::asked::Row;
-use crate::runs::{AMPLE, DiskOf, Fate, Noted, run};
+use crate::notes::{recovers, settles_as, tells};
+use crate::runs::{AMPLE, DiskOf, Fate, fates_of, run};
 use std::alloc::Global;
 use std::process::Abort;
 use std::test::Fail;
@@ -87,102 +88,42 @@ fn unopened(worker: u8) -> [Row; 6] {
     ]
 }
 
-// The greatest number that was settled before a row.
-pub(crate) fn settled_before(noted: &[Noted], place: usize) -> u64 {
-    let mut greatest = 0;
-    for told in noted.iter().take(place) {
-        if told.0 == "settled" {
-            greatest = greatest.max(told.1);
-        }
-    }
-    greatest
-}
-
-// Whether each recovery keeps what was settled, but one that its disk stopped, which the next crash is recovered from;
-// and the store then serves on: the last Settle ends with a number, and the last get finds its pair.
+// Whether the store comes back with what was settled, and serves on: the last Settle ends with a number, and the last get
+// finds its pair.
 fn comes_back(rt: &impl Abort, alloc: Global, fate: Fate) -> bool {
     let Some(noted) = run(rt, alloc, fate, &CRASHES) else {
-        // The first three calls make the file.
-        return fate.stop <= 3;
+        return fate.makes_none();
     };
-    let mut stopped = 0;
-    for place in [11, 19, 20] {
-        match noted.get(place) {
-            Some(("recovered", cutoff)) if *cutoff >= settled_before(&noted, place) => (),
-            Some(("device", _)) if stopped == 0 => stopped = place,
-            _ => return false,
-        }
-    }
-    let ends = noted.get(25).is_some_and(|told| told.0 == "settled");
-    let found = noted.get(26).is_some_and(|told| told.0 == "found");
-    stopped == 20 || (ends && found)
+    recovers(&noted, &[11, 19, 20]) && tells(&noted, 25, "settled") && tells(&noted, 26, "found")
 }
 
-// A plain disk makes some fifty calls up to the last recovery here, and a numbered one or a slot's some ten.
 #[test]
 fn a_store_stopped_at_any_call_comes_back(rt: HostRuntime) -> Result<(), Fail> {
     let alloc = rt.alloc();
-    for (disk, calls) in [
-        (DiskOf::Plain(0), 54),
-        (DiskOf::Even(0), 16),
-        (DiskOf::Odd(0), 16),
-        (DiskOf::Plain(1), 54),
-        (DiskOf::Even(1), 16),
-        (DiskOf::Odd(1), 16),
-        (DiskOf::Slot(0), 16),
-        (DiskOf::Slot(1), 16),
-    ] {
-        for stop in 1..calls {
-            let fate = Fate {
-                disk,
-                first: 0,
-                second: 0,
-                stop,
-            };
-            assert!(rt; comes_back(&rt, alloc, fate), "{fate:?}");
-        }
+    let fates = fates_of(&rt, alloc, &CRASHES, 20);
+    for fate in &fates {
+        let fate = fate.stops();
+        assert!(rt; comes_back(&rt, alloc, fate), "{fate:?}");
     }
     Ok(())
 }
 
 // Whether a Settle ends with the number of the last step, behind flushes of which one may have failed.
 fn settles(rt: &impl Abort, alloc: Global, fate: Fate) -> bool {
-    let Some(noted) = run(rt, alloc, fate, &FLUSHES) else {
-        return fate.first <= 3;
-    };
-    let last = noted.get(6).map(|told| told.1);
-    noted
-        .get(15)
-        .is_some_and(|told| told.0 == "settled" && Some(told.1) == last)
+    match run(rt, alloc, fate, &FLUSHES) {
+        Some(noted) => settles_as(&noted, 15, 6),
+        None => fate.makes_none(),
+    }
 }
 
-// A numbered disk makes no call but those that make its file.
 #[test]
 fn a_settle_ends_behind_a_call_that_failed(rt: HostRuntime) -> Result<(), Fail> {
     let alloc = rt.alloc();
-    for (disk, calls) in [
-        (DiskOf::Plain(0), 40),
-        (DiskOf::Even(0), 5),
-        (DiskOf::Odd(0), 5),
-        (DiskOf::Plain(1), 40),
-        (DiskOf::Even(1), 5),
-        (DiskOf::Odd(1), 5),
-    ] {
-        for first in 1..calls {
-            let fate = Fate {
-                disk,
-                first,
-                second: 0,
-                stop: 0,
-            };
-            assert!(rt; settles(&rt, alloc, fate), "{fate:?}");
-        }
+    let fates = fates_of(&rt, alloc, &FLUSHES, 13);
+    for fate in &fates {
+        assert!(rt; settles(&rt, alloc, *fate), "{fate:?}");
     }
     Ok(())
-}
-
-fn fails_at(noted: &[Noted], place: usize) -> bool {
-    noted.get(place).is_some_and(|told| told.0 == "device")
 }
 
 // Whether a Settle ends with the number of the last step, behind two calls that failed.
@@ -191,12 +132,9 @@ fn settles_again(rt: &impl Abort, alloc: Global, worker: u8, fate: Fate) -> bool
     let Some(noted) = run(rt, alloc, fate, &rows) else {
         return false;
     };
-    let failed = fails_at(&noted, 1) && (fails_at(&noted, 2) || fails_at(&noted, 4));
-    let last = noted.get(3).map(|told| told.1);
-    let settles = noted
-        .get(8)
-        .is_some_and(|told| told.0 == "settled" && Some(told.1) == last);
-    failed && settles && noted.get(9).is_some_and(|told| told.0 == "found")
+    let failed = tells(&noted, 1, "device")
+        && (tells(&noted, 2, "device") || tells(&noted, 4, "device"));
+    failed && settles_as(&noted, 8, 3) && tells(&noted, 9, "found")
 }
 
 // The first flush makes the calls 4 to 7. A later one fails in the reopening behind it, or in the flush behind that.
@@ -227,11 +165,7 @@ fn settle_opens(rt: &impl Abort, alloc: Global, worker: u8, fate: Fate) -> bool 
     let Some(noted) = run(rt, alloc, fate, &rows) else {
         return false;
     };
-    let last = noted.get(2).map(|told| told.1);
-    let settles = noted
-        .get(5)
-        .is_some_and(|told| told.0 == "settled" && Some(told.1) == last);
-    fails_at(&noted, 1) && settles
+    tells(&noted, 1, "device") && settles_as(&noted, 5, 2)
 }
 
 // The flush makes the calls 4 to 7.
@@ -240,12 +174,7 @@ fn a_settle_opens_a_log_again(rt: HostRuntime) -> Result<(), Fail> {
     let alloc = rt.alloc();
     for worker in [0, 1] {
         for first in 4..8 {
-            let fate = Fate {
-                disk: DiskOf::Plain(worker),
-                first,
-                second: 0,
-                stop: 0,
-            };
+            let fate = Fate::fails_at(DiskOf::Plain(worker), first);
             assert!(rt; settle_opens(&rt, alloc, worker, fate), "{fate:?}");
         }
     }

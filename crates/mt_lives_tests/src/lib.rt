@@ -1,4 +1,4 @@
-//! Tests of `mt_lives`: runs with two workers and crashes, stopped at every call of a disk, with each call of a
+//! Tests of `mt_lives`: runs with two workers, turns and crashes, stopped at every call of a disk, with each call of a
 //! disk failing once, with two failing, and with a growth refused.
 //!
 //! They stand in a crate of their own, since a crate with tests is proved twice.
@@ -7,10 +7,12 @@
 #[cfg(test)]
 mod asked;
 #[cfg(test)]
-mod checks;
-#[cfg(test)]
 mod failures;
+#[cfg(test)]
+mod notes;
 #[cfg(test)]
 mod runs;
 #[cfg(test)]
 mod stories;
+#[cfg(test)]
+mod turns;

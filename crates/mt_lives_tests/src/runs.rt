@@ -1,17 +1,18 @@
 //! Stories run on a new store of two logs, on disks in memory: three of each log, and two of the slots.
 
 ghost use Rattle.std.specs.{Prelude.{◌≡◌, length, Some}, List.All};
+ghost use Rattle.mt_state.specs.Begins.{HaveNoPairs};
 ghost use Rattle.mt_lives.specs.Steps.{IsServedBy};
 
 use crate::asked::{Row, copied, events_of, one_tenant};
+use crate::notes::{Noted, last_of};
 use mt_disk::MemDisk;
 use mt_lives::{CrashImages, LiveSlots, Store, StoreEvent, StoreNote, run_store_events};
 use mt_log_files::WorkerFiles;
 use mt_recover::LogSlot;
-use mt_rows::{Refusal, Reply};
-use mt_runs::Told;
+use mt_rows::{Refusal, Tenants};
 use mt_slots::StoreSlots;
-use mt_store_logs::FileImages;
+use mt_store_logs::{FileImages, StoreLog};
 use std::alloc::Global;
 use std::process::Abort;
 
@@ -23,6 +24,18 @@ pub(crate) enum DiskOf {
     Odd(u8),
     Slot(u8),
 }
+
+// Each disk.
+const DISKS: [DiskOf; 8] = [
+    DiskOf::Plain(0),
+    DiskOf::Even(0),
+    DiskOf::Odd(0),
+    DiskOf::Plain(1),
+    DiskOf::Even(1),
+    DiskOf::Odd(1),
+    DiskOf::Slot(0),
+    DiskOf::Slot(1),
+];
 
 /// Which two calls of which disk fail, and which one its disk stops at, 0 where none does.
 #[derive(Clone, Copy, Debug)]
@@ -41,40 +54,96 @@ pub(crate) const AMPLE: Fate = Fate {
     stop: 0,
 };
 
-/// What became of a row: what was noted of the last of its events that tells more than that none is open, and
-/// the number that it tells, the operation's reply, or why it was refused. Of a stale put the number is the stamp there.
-pub(crate) type Noted = (&'static str, u64);
+impl Fate {
+    /// This call of a disk fails.
+    pub(crate) fn fails_at(disk: DiskOf, call: u64) -> Fate {
+        Fate {
+            disk,
+            first: call,
+            second: 0,
+            stop: 0,
+        }
+    }
+
+    /// The disk stops at the first call that failed.
+    pub(crate) fn stops(self) -> Fate {
+        Fate {
+            disk: self.disk,
+            first: 0,
+            second: 0,
+            stop: self.first,
+        }
+    }
+
+    /// Whether a file or a slot is not made: its first three calls make a file, and its first two a slot.
+    pub(crate) fn makes_none(self) -> bool {
+        let call = self.first.max(self.stop);
+        0 < call && call <= 3
+    }
+}
+
+/// What became of all rows.
+#[derive(Drop)]
+pub(crate) struct Ran {
+    pub noted: Vec<Noted>,
+    pub store: Store,
+    /// The last generation of any log before the last crash.
+    pub before: u64,
+}
 
 /// What became of each row; none where the logs are not made.
 pub(crate) fn run(rt: &impl Abort, alloc: Global, fate: Fate, rows: &[Row]) -> Option<Vec<Noted>> {
+    let Ran { noted, .. } = run_store(rt, alloc, &one_tenant(alloc), fate, rows)?;
+    Some(noted)
+}
+
+/// What became of all rows in a store with these tenants; none where the logs are not made.
+pub(crate) fn run_store(
+    rt: &impl Abort,
+    alloc: Global,
+    tenants: &Tenants,
+    fate: Fate,
+    rows: &[Row],
+) -> Option<Ran>
+    requires { HaveNoPairs tenants.now }
+{
     let mut images = Vec::new(alloc);
+    let mut before = 0;
     for (place, row) in rows.iter().enumerate() {
         if let Row::Crash = row {
-            let before = rows.get(..place).unwrap_or(&[]);
-            let (store, _) = run_with(rt, alloc, fate, before, &images)?;
+            let lived = rows.get(..place).unwrap_or(&[]);
+            let (store, _) = run_with(rt, alloc, tenants, fate, lived, &images)?;
+            before = last_generation(&store);
             let left = images_of(rt, alloc, store);
             assert!(rt; images.push(left).is_ok());
         }
     }
-    let (_, noted) = run_with(rt, alloc, fate, rows, &images)?;
-    Some(noted)
+    let (store, noted) = run_with(rt, alloc, tenants, fate, rows, &images)?;
+    Some(Ran {
+        noted,
+        store,
+        before,
+    })
 }
 
 // The same, with what each crash leaves of the disks.
 fn run_with(
     rt: &impl Abort,
     alloc: Global,
+    tenants: &Tenants,
     fate: Fate,
     rows: &[Row],
     images: &[CrashImages],
-) -> Option<(Store, Vec<Noted>)> {
+) -> Option<(Store, Vec<Noted>)>
+    requires { HaveNoPairs tenants.now }
+{
     let (events, ends) = events_with_ends(rt, alloc, rows, images);
     let files = all_files(rt, alloc, fate);
     let slots = StoreSlots::found(
         disk(rt, alloc, fate, DiskOf::Slot(0)),
         disk(rt, alloc, fate, DiskOf::Slot(1)),
     );
-    match run_store_events(alloc, &one_tenant(alloc), files, slots, &events) {
+    match run_store_events(alloc, tenants, files, slots, &events) {
         Ok((store, notes)) => Some((store, noted_of_rows(rt, alloc, &ends, notes.as_slice()))),
         Err(Refusal::Device) => None,
         Err(_) => panic!(rt; "memory"),
@@ -155,12 +224,7 @@ fn images_of(rt: &impl Abort, alloc: Global, store: Store) -> CrashImages {
         let images = images_in(rt, alloc, log.log().files());
         assert!(rt; left.push(images).is_ok());
     }
-    let slots = match slots {
-        LiveSlots::Rest(slots) => slots,
-        LiveSlots::Writes(check) => check.writing.give_up(),
-        LiveSlots::Away => panic!(rt; "the slots are away"),
-    };
-    let (first, second) = slots.into_disks();
+    let (first, second) = slot_disks(rt, slots);
     CrashImages {
         logs: left,
         first: copied(rt, alloc, first.image()),
@@ -170,67 +234,112 @@ fn images_of(rt: &impl Abort, alloc: Global, store: Store) -> CrashImages {
 
 fn images_in(rt: &impl Abort, alloc: Global, files: &WorkerFiles<MemDisk>) -> FileImages {
     FileImages {
-        plain: image_of(rt, alloc, &files.plain),
-        even: image_of(rt, alloc, &files.even),
-        odd: image_of(rt, alloc, &files.odd),
+        plain: copied(rt, alloc, disk_in(rt, &files.plain).image()),
+        even: copied(rt, alloc, disk_in(rt, &files.even).image()),
+        odd: copied(rt, alloc, disk_in(rt, &files.odd).image()),
     }
 }
 
-fn image_of(rt: &impl Abort, alloc: Global, file: &LogSlot<MemDisk>) -> Vec<u8> {
+fn slot_disks(rt: &impl Abort, slots: LiveSlots) -> (MemDisk, MemDisk) {
+    let slots = match slots {
+        LiveSlots::Rest(slots) => slots,
+        LiveSlots::Turns(turn) => turn.slots,
+        LiveSlots::Writes(check) => check.writing.give_up(),
+        LiveSlots::Away => panic!(rt; "the slots are away"),
+    };
+    slots.into_disks()
+}
+
+fn disk_in<'a>(rt: &impl Abort, file: &'a LogSlot<MemDisk>) -> &'a MemDisk {
     match file {
-        LogSlot::Open(open) => copied(rt, alloc, open.disk().image()),
-        LogSlot::Failed(log) => copied(rt, alloc, log.disk().image()),
-        LogSlot::Closed(disk) => copied(rt, alloc, disk.image()),
+        LogSlot::Open(open) => open.disk(),
+        LogSlot::Failed(log) => log.disk(),
+        LogSlot::Closed(disk) => disk,
         LogSlot::Away => panic!(rt; "a disk is away"),
     }
 }
 
-fn last_of(notes: &[StoreNote]) -> Noted {
-    let mut last = ("nothing", 0);
-    for note in notes {
-        match note {
-            StoreNote::Told(Told::NoSuch) => (),
-            StoreNote::NoSuch if last.0 != "nothing" => (),
-            note => last = noted(note),
+/// Each fate in which one call of one disk fails, of those that all disks make in the first rows.
+pub(crate) fn fates_of(rt: &impl Abort, alloc: Global, rows: &[Row], count: usize) -> Vec<Fate> {
+    let mut fates = Vec::new(alloc);
+    for disk in DISKS {
+        for call in 1..next_call(rt, alloc, rows, count, disk) {
+            assert!(rt; fates.push(Fate::fails_at(disk, call)).is_ok());
         }
+    }
+    fates
+}
+
+/// The number of a disk's first call after so many rows, if none fails.
+pub(crate) fn next_call(
+    rt: &impl Abort,
+    alloc: Global,
+    rows: &[Row],
+    count: usize,
+    disk: DiskOf,
+) -> u64 {
+    let rows = rows.get(..count).unwrap_or(&[]);
+    let ran = run_store(rt, alloc, &one_tenant(alloc), AMPLE, rows);
+    let Ran { store, .. } = ran.expect(rt, "logs");
+    calls_in(rt, store, disk).saturating_add(1)
+}
+
+fn calls_in(rt: &impl Abort, store: Store, disk: DiskOf) -> u64 {
+    let Store { logs, slots, .. } = store;
+    match disk {
+        DiskOf::Plain(worker) | DiskOf::Even(worker) | DiskOf::Odd(worker) => {
+            let log = logs.get(usize::from(worker)).expect(rt, "a log");
+            file_calls(rt, log.log().files(), disk)
+        }
+        DiskOf::Slot(number) => {
+            let (first, second) = slot_disks(rt, slots);
+            if number == 0 {
+                first.calls()
+            } else {
+                second.calls()
+            }
+        }
+    }
+}
+
+fn file_calls(rt: &impl Abort, files: &WorkerFiles<MemDisk>, disk: DiskOf) -> u64 {
+    match disk {
+        DiskOf::Plain(_) => disk_in(rt, &files.plain).calls(),
+        DiskOf::Even(_) => disk_in(rt, &files.even).calls(),
+        DiskOf::Odd(_) | DiskOf::Slot(_) => disk_in(rt, &files.odd).calls(),
+    }
+}
+
+fn last_generation(store: &Store) -> u64 {
+    let mut last = 0;
+    for log in &store.logs {
+        last = log.generation().max(last);
     }
     last
 }
 
-fn noted(note: &StoreNote) -> Noted {
-    match note {
-        StoreNote::Told(told) => told_of(told),
-        StoreNote::Flushed(mark) => ("flushed", *mark),
-        StoreNote::Reopened => ("reopened", 0),
-        StoreNote::Begun(steps) => ("begun", *steps),
-        StoreNote::Turned => ("turned", 0),
-        StoreNote::Settled(number) => ("settled", *number),
-        StoreNote::CheckBegun(steps) => ("check begun", *steps),
-        StoreNote::CheckTold(told) => told_of(told),
-        StoreNote::CheckAdded => ("check added", 0),
-        StoreNote::CheckEnded(steps) => ("check ended", *steps),
-        StoreNote::Recovered(recovered) => ("recovered", recovered.cutoff),
-        StoreNote::Refused(Refusal::Memory) => ("memory", 0),
-        StoreNote::Refused(Refusal::Device) => ("device", 0),
-        StoreNote::Refused(_) => ("refused", 0),
-        StoreNote::NoSuch => ("no such", 0),
+/// The last generation of all logs, if it is one, and no log of another generation stands.
+pub(crate) fn standing(rt: &impl Abort, store: &Store) -> Option<u64> {
+    let generation = last_generation(store);
+    for log in &store.logs {
+        if !stands_alone(rt, log, generation) {
+            return None;
+        }
     }
+    Some(generation)
 }
 
-fn told_of(told: &Told) -> Noted {
-    match told {
-        Told::Done(answer) => match &answer.reply {
-            Reply::Found(_) => ("found", answer.last),
-            Reply::Absent => ("absent", answer.last),
-            Reply::New => ("new", answer.last),
-            Reply::Replaced => ("replaced", answer.last),
-            Reply::Stale(stamp) => ("stale", *stamp),
-            Reply::Pairs(page) => ("pairs", page.as_slice().len() as u64),
-            _ => ("another", answer.last),
-        },
-        Told::Begun => ("begun", 0),
-        Told::Moved => ("moved", 0),
-        Told::Again(_) => ("again", 0),
-        _ => ("another", 0),
-    }
+// Whether the file of this generation has the last log, and none other has one.
+fn stands_alone(rt: &impl Abort, log: &StoreLog<MemDisk>, generation: u64) -> bool {
+    let files = log.log().files();
+    log.generation() == generation
+        && has_log(rt, &files.plain) == (generation == 0)
+        && has_log(rt, &files.even) == (generation > 0 && generation % 2 == 0)
+        && has_log(rt, &files.odd) == (generation % 2 == 1)
+}
+
+// A file that has none is empty, or its gate is shut: byte 00.
+fn has_log(rt: &impl Abort, file: &LogSlot<MemDisk>) -> bool {
+    let image = disk_in(rt, file).image();
+    image.first().is_some_and(|gate| *gate != 0)
 }

@@ -1,7 +1,11 @@
 //! Stories with what is noted of each row.
 
-use crate::asked::Row;
-use crate::runs::{AMPLE, Noted, run};
+ghost use Rattle.mt_state.specs.Begins.{HaveNoPairs};
+
+use crate::asked::{Row, no_tenants, one_tenant};
+use crate::notes::Noted;
+use crate::runs::{AMPLE, DiskOf, Fate, next_call, run, run_store};
+use mt_rows::Tenants;
 use std::alloc::Global;
 use std::process::Abort;
 use std::test::Fail;
@@ -42,14 +46,17 @@ const STORY: [(Row, Noted); 31] = [
     (Row::Next, ("settled", 58)),
 ];
 
-// Two workers; a checkpoint between whose steps a change falls, and one that a crash gives up; each recovery has all
-// that was settled.
-const CHECKED: [(Row, Noted); 24] = [
+// Two workers; a turn between whose parts a change falls, and one that a crash gives up; each recovery has all that was
+// settled.
+const CHECKED: [(Row, Noted); 32] = [
     (Row::Put(1, 0, "a", "1"), ("new", 6)),
     (Row::Put(2, 1, "b", "1"), ("new", 12)),
     (Row::Walk(1), ("no such", 0)),
     (Row::Check, ("check begun", 12)),
     (Row::Check, ("no such", 0)),
+    (Row::Walk(1), ("check turned", 0)),
+    (Row::Walk(1), ("check turned", 0)),
+    (Row::Walk(1), ("check writes", 12)),
     (Row::Walk(1), ("begun", 0)),
     (Row::Walk(1), ("moved", 0)),
     (Row::Put(3, 0, "c", "1"), ("new", 19)),
@@ -57,41 +64,92 @@ const CHECKED: [(Row, Noted); 24] = [
     (Row::Walk(1), ("pairs", 3)),
     (Row::Walk(1), ("check added", 0)),
     (Row::Walk(1), ("check ended", 21)),
+    (Row::Check, ("no such", 0)),
+    (Row::Walk(1), ("check turned", 0)),
+    (Row::Walk(1), ("check turned", 0)),
+    (Row::Walk(1), ("check turned", 0)),
+    (Row::Walk(1), ("turn ended", 0)),
     (Row::Walk(1), ("no such", 0)),
     (Row::Settle, ("begun", 21)),
     (Row::Next, ("turned", 0)),
     (Row::Next, ("settled", 21)),
     (Row::Check, ("check begun", 21)),
-    (Row::Walk(2), ("moved", 0)),
+    (Row::Walk(5), ("moved", 0)),
     (Row::Crash, ("recovered", 21)),
     (Row::Walk(1), ("no such", 0)),
     (Row::Get(1, "c"), ("found", 25)),
     (Row::Check, ("check begun", 25)),
-    (Row::Ends, ("check ended", 28)),
+    (Row::Ends, ("turn ended", 0)),
     (Row::Get(2, "a"), ("found", 32)),
 ];
 
-fn holds_row_by_row(rt: &impl Abort, alloc: Global, story: &[(Row, Noted)]) {
-    let mut rows = Vec::new(alloc);
-    for row in story {
-        assert!(rt; rows.push(row.0).is_ok());
-    }
-    let noted = run(rt, alloc, AMPLE, &rows).expect(rt, "logs");
+// A turn in whose Settle the first log's disk fails. None begins before the other log too has all up to the checkpoint's
+// end.
+const UNSETTLED: [(Row, Noted); 12] = [
+    (Row::Put(1, 0, "a", "1"), ("new", 6)),
+    (Row::Put(2, 1, "b", "1"), ("new", 12)),
+    (Row::Check, ("check begun", 12)),
+    (Row::Walk(9), ("check ended", 15)),
+    (Row::Walk(1), ("device", 0)),
+    (Row::Check, ("no such", 0)),
+    (Row::Settle, ("begun", 15)),
+    (Row::Next, ("turned", 0)),
+    (Row::Check, ("no such", 0)),
+    (Row::Next, ("settled", 15)),
+    (Row::Check, ("check begun", 15)),
+    (Row::Ends, ("turn ended", 0)),
+];
+
+// Without tenants there is nothing to walk over.
+const EMPTY: [(Row, Noted); 2] = [(Row::Check, ("no such", 0)), (Row::Ends, ("no such", 0))];
+
+fn holds_row_by_row(
+    rt: &impl Abort,
+    alloc: Global,
+    tenants: &Tenants,
+    fate: Fate,
+    story: &[(Row, Noted)],
+)
+    requires { HaveNoPairs tenants.now }
+{
+    let rows = rows_of(rt, alloc, story);
+    let ran = run_store(rt, alloc, tenants, fate, &rows).expect(rt, "logs");
     for (place, row) in story.iter().enumerate() {
-        let told = noted.get(place).copied();
+        let told = ran.noted.get(place).copied();
         assert!(rt; told == Some(row.1), "{place}: {:?}, {told:?}", row.0);
     }
 }
 
-#[test]
-fn each_event_of_a_checkpoint_is_noted_as_its_row_says(rt: HostRuntime) -> Result<(), Fail> {
-    holds_row_by_row(&rt, rt.alloc(), &CHECKED);
-    Ok(())
+fn rows_of(rt: &impl Abort, alloc: Global, story: &[(Row, Noted)]) -> Vec<Row> {
+    let mut rows = Vec::new(alloc);
+    for row in story {
+        assert!(rt; rows.push(row.0).is_ok());
+    }
+    rows
 }
 
 #[test]
 fn each_event_is_noted_as_its_row_says(rt: HostRuntime) -> Result<(), Fail> {
-    holds_row_by_row(&rt, rt.alloc(), &STORY);
+    let alloc = rt.alloc();
+    let tenants = one_tenant(alloc);
+    holds_row_by_row(&rt, alloc, &tenants, AMPLE, &STORY);
+    holds_row_by_row(&rt, alloc, &tenants, AMPLE, &CHECKED);
+    holds_row_by_row(&rt, alloc, &no_tenants(alloc), AMPLE, &EMPTY);
+    Ok(())
+}
+
+// The disk that has the log of generation 1. It fails at its first call after the checkpoint has ended.
+fn fails_to_settle(rt: &impl Abort, alloc: Global) -> Fate {
+    let disk = DiskOf::Odd(0);
+    let rows = rows_of(rt, alloc, &UNSETTLED);
+    Fate::fails_at(disk, next_call(rt, alloc, &rows, 4, disk))
+}
+
+#[test]
+fn no_turn_begins_before_the_last_checkpoint_is_settled(rt: HostRuntime) -> Result<(), Fail> {
+    let alloc = rt.alloc();
+    let fate = fails_to_settle(&rt, alloc);
+    holds_row_by_row(&rt, alloc, &one_tenant(alloc), fate, &UNSETTLED);
     Ok(())
 }
 

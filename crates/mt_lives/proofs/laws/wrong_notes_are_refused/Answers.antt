@@ -38,13 +38,20 @@ returns-clause-operation_of_no_life c quotas old new life e is noted = noted.0 (
 pub returns-clause-open_settle_of_no_name : goal.returns-clause-open_settle_of_no_name
 returns-clause-open_settle_of_no_name c quotas old new life id is none noted = ⊎_elim (λ not. not (life, is)) (λ begun. begun none) noted.0
 
+pub returns-clause-turn_begun_elsewhere : goal.returns-clause-turn_begun_elsewhere
+returns-clause-turn_begun_elsewhere c quotas old new life number is other noted =
+    other (noted.2 ∙ ap (λ (n : Result Life Past). steps_in (ok_life life n)) (sym noted.1 ∙ is))
+
 pub returns-clause-checkpoint_begun_elsewhere : goal.returns-clause-checkpoint_begun_elsewhere
 returns-clause-checkpoint_begun_elsewhere c quotas old new life number is other noted =
-    other (noted.2 ∙ ap (λ (n : Result Life Past). steps_in (ok_life life n)) (sym noted.1 ∙ is))
+    other (noted.5 ∙ ap (λ (n : Result Life Past). steps_in (ok_life life n)) (sym noted.2 ∙ is))
 
 pub returns-clause-checkpoint_ended_elsewhere : goal.returns-clause-checkpoint_ended_elsewhere
 returns-clause-checkpoint_ended_elsewhere c quotas old new life number is other noted =
     other (noted.5 ∙ ap (λ (n : Result Life Past). steps_in (ok_life life n)) (sym noted.2 ∙ is))
 
-pub returns-clause-second_checkpoint : goal.returns-clause-second_checkpoint
-returns-clause-second_checkpoint c quotas old new number open_one noted = open_one noted.3
+pub returns-clause-second_turn : goal.returns-clause-second_turn
+returns-clause-second_turn c quotas old new number open_one noted = open_one noted.3
+
+pub returns-clause-no_turn_ended : goal.returns-clause-no_turn_ended
+returns-clause-no_turn_ended c quotas old new none noted = noted.1 none

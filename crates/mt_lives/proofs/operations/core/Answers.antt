@@ -9,9 +9,9 @@ tell-requires-clause-held c = λ o n named.
 
 pub returns : goal.returns
 returns c =
-    let now : Serving = record { state = c.tell.new.state; roster = c.tell.new.roster; settles = c.args.serving.now.settles } in
+    let now : Serving = record { state = c.tell.new.state; roster = c.tell.new.roster; settles = c.args.serving.now.settles; generation = c.args.serving.now.generation } in
     let tells : TellsServing c.args.serving.now now c.args.event.now c.in_ok-told.told =
-    record { tells = c.in_ok-told.ensures.tells; by_id = c.in_ok-told.ensures.by_id; right = c.facts.ensures; settles = refl } in
+    record { tells = c.in_ok-told.ensures.tells; by_id = c.in_ok-told.ensures.by_id; right = c.facts.ensures; settles = refl; generation = refl } in
     record {
       tells = tells;
       goes = λ accounts slots logs served standing h. told accounts slots standing logs c.args.serving.now h now c.args.event.now c.in_ok-told.told tells served;

@@ -2,9 +2,9 @@
 use Rattle.std.{proofs.{Common.{rules, ◌≡◌, ◌++◌, List, length, take, drop, Some, refl, sym, ap, subst, ◌∙◌}, Math.Seq.take-append_seam}}
 use Rattle.mt_disk.specs.declared.mem.MemDisk.{MemDisk}
 use Rattle.mt_store_logs.specs.{declared.store_log.StoreLog.StoreLog, Places.AreInOrder}
-use Rattle.mt_lives.specs.{Holds.{quotas_of, Holds}, Steps.{IsServedBy, GoesOn}, declared.events.StoreNote.TheVariants.NoSuch, Forced.{IsForced}}
+use Rattle.mt_lives.specs.{Holds.{quotas_of, Holds}, Steps.IsServedBy, declared.events.StoreNote.TheVariants.NoSuch, Forced.{IsForced}}
 use Rattle.mt_lives.proofs.{Forcing.{none_forced, crash_forced, served_forced, slots_alone}, Returning.{not_away, crashed_goes}}
-use Rattle.mt_lives.proofs.Happening.{leaves_slots, nothing_noted, serves_none, served_count, served_workers, served_goes, begun_forced, stepped_goes, stepped_forced}
+use Rattle.mt_lives.proofs.Happening.{leaves_slots, nothing_noted, serves_none, served_count, served_workers, served_goes, begun_goes, begun_forced, stepped_goes, stepped_forced}
 use Rattle.mt_lives.proofs.running.happen.Goals as goal
 
 pub returns-in-Crash-clause-goes : goal.returns-in-Crash-clause-goes
@@ -32,27 +32,56 @@ crash-requires-clause-there c = not_away c.args.tenants.now c.args.store.now.slo
 
 pub returns-in-CheckBegin-clause-goes : goal.returns-in-CheckBegin-clause-goes
 returns-in-CheckBegin-clause-goes c =
-    let logs = c.args.store.now.logs.items in
-    subst (λ e. GoesOn c.args.tenants.now c.args.store.now.slots c.begin_check.new.slots e c.begin_check.result logs c.args.store.now.serving logs c.args.store.now.serving) (sym c.in-CheckBegin.is)
-    (c.begin_check.ensures.goes logs)
+    begun_goes c.args.tenants.now c.args.store.now.slots c.begin_check.new.slots c.args.event.now c.begin_check.result c.deref.result.now c.args.store.now.logs.items c.args.store.now.serving
+    c.in-CheckBegin.is c.deref.ensures.value c.begin_check.ensures.goes
 
 pub returns-in-CheckBegin-clause-forced : goal.returns-in-CheckBegin-clause-forced
 returns-in-CheckBegin-clause-forced c =
-    begun_forced c.args.tenants.now c.args.store.now.slots c.begin_check.new.slots c.args.event.now c.begin_check.result c.args.store.now.logs.items c.args.store.now.serving c.in-CheckBegin.is
-    c.begin_check.ensures.forced
+    begun_forced c.args.tenants.now c.args.store.now.slots c.begin_check.new.slots c.args.event.now c.begin_check.result c.deref.result.now c.args.store.now.logs.items c.args.store.now.serving
+    c.in-CheckBegin.is c.deref.ensures.value c.begin_check.ensures.forced
 
 pub step_check-requires : goal.step_check-requires
-step_check-requires c = (c.args.store.now.logs.items, (c.args.tenants.now, c.requires.held.0, c.requires.held.1))
+step_check-requires c =
+    let value = sym c.deref_mut-in-CheckStep.ensures.value in
+    let held = c.requires.held in
+    record {
+      held = (
+        c.args.tenants.now,
+        held.0,
+        subst (λ logs. Holds c.args.tenants.now c.args.store.now.slots held.0 logs c.args.store.now.serving) value held.1,
+      );
+      order = subst AreInOrder value c.requires.order;
+    }
 
 pub returns-in-CheckStep-clause-goes : goal.returns-in-CheckStep-clause-goes
 returns-in-CheckStep-clause-goes c =
-    stepped_goes c.args.tenants.now c.args.store.now.slots c.step_check.new.slots c.args.event.now c.args.store.now.logs.items c.args.store.now.serving c.step_check.new.serving c.step_check.result c.in-CheckStep.is
-    c.step_check.ensures.goes
+    let items = c.args.store.now.logs.items in
+    let new = c.step_check.new.logs in
+    let behind = drop (length new) items in
+    let len : c.args.store.now.logs.len ≡ length new = search rules in
+    let whole : take c.args.store.now.logs.len (new ++ behind) ≡ new = ap (λ n. take n (new ++ behind)) len ∙ take-append_seam new behind in
+    stepped_goes c.args.tenants.now c.args.store.now.slots c.step_check.new.slots c.args.event.now c.deref_mut-in-CheckStep.result.now items new (take c.args.store.now.logs.len (new ++ behind))
+    c.args.store.now.serving c.step_check.new.serving c.step_check.result c.in-CheckStep.is c.deref_mut-in-CheckStep.ensures.value (sym whole) c.step_check.ensures.goes
 
 pub returns-in-CheckStep-clause-forced : goal.returns-in-CheckStep-clause-forced
 returns-in-CheckStep-clause-forced c =
-    stepped_forced c.args.tenants.now c.args.store.now.slots c.step_check.new.slots c.args.event.now c.args.store.now.logs.items c.args.store.now.serving c.step_check.result c.in-CheckStep.is
-    c.step_check.ensures.forced
+    let items = c.args.store.now.logs.items in
+    let new = c.step_check.new.logs in
+    let behind = drop (length new) items in
+    let len : c.args.store.now.logs.len ≡ length new = search rules in
+    let whole : take c.args.store.now.logs.len (new ++ behind) ≡ new = ap (λ n. take n (new ++ behind)) len ∙ take-append_seam new behind in
+    stepped_forced c.args.tenants.now c.args.store.now.slots c.step_check.new.slots c.args.event.now c.deref_mut-in-CheckStep.result.now items new (take c.args.store.now.logs.len (new ++ behind))
+    c.args.store.now.serving c.step_check.result c.in-CheckStep.is c.deref_mut-in-CheckStep.ensures.value (sym whole) c.step_check.ensures.forced
+
+pub returns-in-CheckStep-clause-workers : goal.returns-in-CheckStep-clause-workers
+returns-in-CheckStep-clause-workers c =
+    let items = c.args.store.now.logs.items in
+    let new = c.step_check.new.logs in
+    let behind = drop (length new) items in
+    let len : c.args.store.now.logs.len ≡ length new = search rules in
+    let whole : take c.args.store.now.logs.len (new ++ behind) ≡ new = ap (λ n. take n (new ++ behind)) len ∙ take-append_seam new behind in
+    served_workers c.deref_mut-in-CheckStep.result.now items new (take c.args.store.now.logs.len (new ++ behind)) c.step_check.result c.deref_mut-in-CheckStep.ensures.value (sym whole)
+    c.step_check.ensures.workers
 
 pub returns-in-Crash-clause-workers : goal.returns-in-Crash-clause-workers
 returns-in-Crash-clause-workers c =

@@ -12,7 +12,7 @@ pub returns-in_default-clause-goes : goal.returns-in_default-clause-goes
 returns-in_default-clause-goes c = λ accounts slots standing h.
     let was = c.args.serving.now in
     let none : get nat_cmp was.settles c.args.id ≡ None = search rules in
-    (standing, (inr (not_open accounts slots standing c.args.logs.now was h was refl refl c.args.id none), refl), h)
+    (standing, (inr (not_open accounts slots standing c.args.logs.now was h was refl refl refl c.args.id none), refl), h)
 
 pub turned-requires-clause-open : goal.turned-requires-clause-open
 turned-requires-clause-open c =
@@ -25,7 +25,7 @@ turned-requires-clause-open c =
     let now = c.bring_up_log.new.serving in
     let held = c.requires.held in
     let there : get nat_cmp was.settles c.args.id ≡ Some settle = search rules in
-    let here = slice_get-get_or logs place c.index-logs-from.result (omega (arith, c.from.ensures, next_within held.0 held.1 held.2 logs was held.3 was refl refl c.args.id settle there)) in
+    let here = slice_get-get_or logs place c.index-logs-from.result (omega (arith, c.from.ensures, next_within held.0 held.1 held.2 logs was held.3 was refl refl refl c.args.id settle there)) in
     let whose = c.requires.order place log here ∙ c.from.ensures in
     ap (λ m. get nat_cmp m c.args.id)
     (turn_settles settle.next c.steps-steps.result c.in-Ok.mark log new was now
@@ -43,11 +43,11 @@ returns-in-Ok-clause-goes c = λ accounts slots standing h.
     let now = c.bring_up_log.new.serving in
     let there : get nat_cmp was.settles c.args.id ≡ Some settle = search rules in
     let within = slice_get-get_or logs place c.index-logs-from.result
-    (omega (arith, c.from.ensures, next_within accounts slots standing logs was h was refl refl c.args.id settle there)) in
+    (omega (arith, c.from.ensures, next_within accounts slots standing logs was h was refl refl refl c.args.id settle there)) in
     let here = subst (λ k. slice_get logs k ≡ Some log) c.from.ensures within in
     let whose = c.requires.order place log within ∙ c.from.ensures in
     subst (λ k. Goes accounts slots standing logs was h (SettleNext c.args.id) c.turned.result (slice_set logs k new) c.turned.new.serving) (sym c.from.ensures)
-    (settle_goes accounts slots standing logs was h settle.next log new here now c.args.id settle there refl c.turned.new.serving c.turned.ensures.state c.turned.ensures.roster c.in-Ok.mark
+    (settle_goes accounts slots standing logs was h settle.next log new here now c.args.id settle there refl c.turned.new.serving c.turned.ensures.state c.turned.ensures.roster c.turned.ensures.generation c.in-Ok.mark
     (log_turns keeps_rules mem_state failures_of DrainsServing settle.next was.state.steps c.in-Ok.mark log new was now whose
     (subst (λ n. BringsUp keeps_rules mem_state failures_of DrainsServing n c.in-Ok.mark log new was now) c.steps-steps.ensures.value c.in-Ok.ensures.ok)) c.turned.result
     (subst (λ k. Turns (length (slice_set logs k new)) c.args.id settle c.in-Ok.mark now.settles c.turned.new.serving.settles c.turned.result) c.from.ensures c.turned.ensures.turns))
@@ -64,11 +64,11 @@ returns-in-Err-clause-goes c = λ accounts slots standing h.
     let end = record now { settles = c.remove.new.self } in
     let there : get nat_cmp was.settles c.args.id ≡ Some settle = search rules in
     let within = slice_get-get_or logs place c.index-logs-from.result
-    (omega (arith, c.from.ensures, next_within accounts slots standing logs was h was refl refl c.args.id settle there)) in
+    (omega (arith, c.from.ensures, next_within accounts slots standing logs was h was refl refl refl c.args.id settle there)) in
     let here = subst (λ k. slice_get logs k ≡ Some log) c.from.ensures within in
     let whose = c.requires.order place log within ∙ c.from.ensures in
     subst (λ k. Goes accounts slots standing logs was h (SettleNext c.args.id) (Refused c.in-Err.refusal) (slice_set logs k new) end) (sym c.from.ensures)
-    (settle_stops accounts slots standing logs was h settle.next log new here now c.args.id settle there refl end refl refl c.in-Err.refusal
+    (settle_stops accounts slots standing logs was h settle.next log new here now c.args.id settle there refl end refl refl refl c.in-Err.refusal
     (log_not_turned keeps_rules mem_state failures_of DrainsServing settle.next was.state.steps c.in-Err.refusal log new was now whose
     (subst (λ n. FailsToBringUp keeps_rules mem_state failures_of DrainsServing n c.in-Err.refusal log new was now) c.steps-steps.ensures.value c.in-Err.ensures.err)) c.remove.ensures.updates)
 
@@ -89,7 +89,7 @@ returns-in-Err-clause-forced c = λ accounts.
     let held = c.requires.held in
     let there : get nat_cmp was.settles c.args.id ≡ Some settle = search rules in
     let here = subst (λ k. slice_get logs k ≡ Some log) c.from.ensures
-    (slice_get-get_or logs place c.index-logs-from.result (omega (arith, c.from.ensures, next_within held.0 held.1 held.2 logs was held.3 was refl refl c.args.id settle there))) in
+    (slice_get-get_or logs place c.index-logs-from.result (omega (arith, c.from.ensures, next_within held.0 held.1 held.2 logs was held.3 was refl refl refl c.args.id settle there))) in
     subst (λ k. IsForced accounts (SettleNext c.args.id) (Refused c.in-Err.refusal) logs (Some was) (slice_set logs k new)) (sym c.from.ensures)
     (settle_forced accounts logs (Some was) settle.next log new here held.1 was held.2 held.0 held.3 c.args.id c.steps-steps.result c.in-Err.refusal was c.bring_up_log.new.serving c.in-Err.ensures.err)
 
@@ -101,7 +101,7 @@ bring_up_log-requires-clause-whose c =
     let held = c.requires.held in
     let there : get nat_cmp was.settles c.args.id ≡ Some c.in-Some.settle = search rules in
     c.requires.order place (get_or logs place c.index-logs-from.result)
-    (slice_get-get_or logs place c.index-logs-from.result (omega (arith, c.from.ensures, next_within held.0 held.1 held.2 logs was held.3 was refl refl c.args.id c.in-Some.settle there)))
+    (slice_get-get_or logs place c.index-logs-from.result (omega (arith, c.from.ensures, next_within held.0 held.1 held.2 logs was held.3 was refl refl refl c.args.id c.in-Some.settle there)))
     ∙ c.from.ensures
 
 pub returns-in-Ok-clause-workers : goal.returns-in-Ok-clause-workers
