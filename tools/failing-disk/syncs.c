@@ -1,6 +1,6 @@
-// Holds or fails one sync of one log of the program that loads it by LD_PRELOAD.
+// Holds or fails one sync of some files of the program that loads it by LD_PRELOAD.
 //
-//   FAILING_LOG    the log's path
+//   FAILING_FILES  what the paths of these files begin with, as DIR/wal-00 for all three files of worker 0's log
 //   FAILING_ORDER  a file that begins with one `struct order`, which the test maps too
 //
 // All other calls pass as they are.
@@ -28,13 +28,13 @@ struct order {
 
 #define FILES 4096
 static struct order *order;
-static const char *log_path;
+static const char *begin_of_paths;
 static size_t last_write[FILES]; // the bytes of the last write to each descriptor
 
 __attribute__((constructor)) static void begin(void) {
     const char *path = getenv("FAILING_ORDER");
-    log_path = getenv("FAILING_LOG");
-    if (!path || !log_path) return;
+    begin_of_paths = getenv("FAILING_FILES");
+    if (!path || !begin_of_paths) return;
     int file = (int)syscall(SYS_openat, AT_FDCWD, path, O_RDWR | O_CLOEXEC, 0);
     if (file < 0) return;
     void *mapped = mmap(0, sizeof(struct order), PROT_READ | PROT_WRITE, MAP_SHARED, file, 0);
@@ -42,20 +42,20 @@ __attribute__((constructor)) static void begin(void) {
     syscall(SYS_close, file);
 }
 
-static int is_log(int file) {
+static int is_one_of_them(int file) {
     char link[64], path[4096];
     snprintf(link, sizeof link, "/proc/self/fd/%d", file);
     ssize_t length = readlink(link, path, sizeof path - 1);
     if (length < 0) return 0;
     path[length] = 0;
-    return !strcmp(path, log_path);
+    return !strncmp(path, begin_of_paths, strlen(begin_of_paths));
 }
 
 // Whether this sync is the one that the order means.
 static int is_meant(int file) {
     if (!order || file < 0 || file >= FILES) return 0;
     int32_t what = __atomic_load_n(&order->what, __ATOMIC_ACQUIRE);
-    if (!what || !is_log(file)) return 0;
+    if (!what || !is_one_of_them(file)) return 0;
     if (what == HOLD_GATE && last_write[file] != 1) return 0; // a gate is one byte
     return __atomic_fetch_add(&order->seen, 1, __ATOMIC_SEQ_CST) == order->skip;
 }

@@ -209,16 +209,17 @@ def settled(program: str, order: Order, growth: int, folder: Path, words: list[s
         _, said = server.end()
     expect_kept(program, order, folder, keys, "--workers", "1")
     if is_right:
-        return GIVEN_UP if "checkpoint was given up" in said else AS_EVER if was_refused else None
+        is_stopped = "checkpoint was given up" in said or "turn of the logs was not finished" in said
+        return GIVEN_UP if is_stopped else AS_EVER if was_refused else None
     return OF_A_SETTLE.get(reply, ENDED)
 
 
-def make_store(program: str, order: Order, folder: Path) -> list[bytes]:
-    """The keys of a store of two logs, a checkpoint and two lives, whose last server was killed."""
+def make_store(program: str, order: Order, folder: Path, is_older: bool) -> list[bytes]:
+    """The keys of a store of two logs and two lives, whose last server was killed. It made turns, or it is an older one, without checkpoints."""
     keys = [*letters("a", "z"), *(b"ABCDEFGH" + key for key in letters("a", "f"))]
     order.refuse(0)
     for life, own in enumerate((keys[:20], keys[20:])):
-        create = [] if life else ["--create", "--checkpoint", "1"]
+        create = [] if life else ["--create"] if is_older else ["--create", "--checkpoint", "1"]
         with Server(program, order, "--workers", "2", "--store", str(folder), *create) as server:
             first, second = Client(server), Client(server)
             first.expect(*((put(key), NEW) for key in own[::2]))
@@ -261,8 +262,8 @@ NAMES = [*map(CALLED.format, CALLS), *map(HELD.format, SPLITS), *SETTLES, *START
 
 def rows(program: str, order: Order, room: Path) -> dict[str, Trial]:
     """What is tried of each row: an order, the growth to be refused, and a folder that isn't there yet."""
-    made = room / "made"
-    keys = make_store(program, order, made)
+    stores = {is_older: room / ("older" if is_older else "made") for is_older in (False, True)}
+    keys = {is_older: make_store(program, order, store, is_older) for is_older, store in stores.items()}
     found: dict[str, Trial] = {}
     for name, call in CALLS.items():
         found[CALLED.format(name)] = lambda order, growth, _, call=call: called(program, order, growth, call, False)
@@ -271,5 +272,6 @@ def rows(program: str, order: Order, room: Path) -> dict[str, Trial]:
     for name, (words, answers) in SETTLES.items():
         found[name] = lambda order, growth, folder, words=words, answers=answers: settled(program, order, growth, folder, words, answers)
     for name, is_older in STARTS.items():
-        found[name] = lambda order, growth, folder, is_older=is_older: started(program, order, growth, made, keys, folder, is_older)
+        made, own = stores[is_older], keys[is_older]
+        found[name] = lambda order, growth, folder, made=made, own=own, is_older=is_older: started(program, order, growth, made, own, folder, is_older)
     return found
