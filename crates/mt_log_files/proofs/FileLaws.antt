@@ -1,5 +1,5 @@
 -- What each call makes of a numbered file: it leaves what a crash might leave before, or what it says.
-use Rattle.std.proofs.Common.{◌≡◌, ◌≢◌, ◌⊎◌, ⊎_elim, inl, inr, ℕ, ◌≤◌, [], ◌∷◌, length, Bool, IsTrue, Option, Some, None, refl, sym, ◌∙◌, ap, subst, arith, length-append}
+use Rattle.std.proofs.Common.{◌≡◌, ◌≢◌, ⊎_elim, inl, inr, ℕ, ◌≤◌, [], ◌∷◌, length, Bool, IsTrue, Option, Some, None, refl, sym, ◌∙◌, ap, subst, arith, length-append}
 use Rattle.std.specs.{List.slice_get, Option.option_map}
 use Rattle.mt_rows.specs.{Rows.Bytes, declared.refusal.Refusal.Refusal}
 use Rattle.mt_disk.{specs.Disk.{DiskState, IsDurable, LeavesOnly}, proofs.CrashLaws.started}

@@ -2,3 +2,4 @@ pub mod Refused
 pub mod ShowLaws
 pub mod FileLaws
 pub mod WorkerLaws
+pub mod PlainLaws

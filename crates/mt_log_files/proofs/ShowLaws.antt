@@ -1,16 +1,17 @@
 -- What an opening finds of a log that a crash may have left, by the place of its file.
-use Rattle.std.proofs.Common.{◌≡◌, ◌⊎◌, ⊎_elim, inl, inr, ℕ, [], Bool, IsTrue, Option, Some, None, refl, sym, ◌∙◌, ap, subst, arith}
+use Rattle.std.proofs.Common.{◌≡◌, ⊎_elim, inl, inr, ℕ, zero, suc, [], ◌∷◌, ◌++◌, length, get_or, Bool, IsTrue, Option, Some, None, refl, sym, ◌∙◌, ap, subst, arith}
 use Rattle.std.proofs.lemmas.List.{append-nil}
+use Rattle.std.specs.List.{flat_map}
 use Rattle.mt_rows.specs.Rows.{Bytes}
 use Rattle.mt_disk.specs.Disk.{DiskState, Moment, MayLeave, LeavesOnly, moments}
 use Rattle.mt_log.specs.{declared.batch.LogBatch.LogBatch, declared.batch.LogBatch.TheVariants.Resume, declared.reader.FileKind.FileKind}
 use Rattle.mt_log.specs.{declared.log_file.LogFile.LogFile, declared.failed_log.FailedLog.FailedLog}
-use Rattle.mt_log.specs.Contents.{Contents, IsContents, IsLogBatch, mark_of, log_bytes, with_batch}
-use Rattle.mt_log.specs.{Fronts.{IsOfKind, IsBadLog, IsLeft, IsAtRest, IsOldOrNew}, Logs.{StillLeaves, ReadsOldOrNew}}
+use Rattle.mt_log.specs.{Contents.{Contents, IsContents, IsLogBatch, mark_of, log_bytes, with_batch}, Format.{beginning, batch_bytes}}
+use Rattle.mt_log.specs.{Fronts.{HasFront, IsOfKind, IsBadLog, IsLeft, IsAtRest, IsOldOrNew}, Logs.{StillLeaves, ReadsOldOrNew}}
 use Rattle.mt_log.proofs.FrontLaws.{front_not_bad, left_front, contents_front, contents_more, added_in_format}
 use Rattle.mt_crashes.{specs.Stores.{LogNow, MayLeaveFront}, proofs.FrontLaws.mark_more}
 use Rattle.mt_recover.specs.declared.resuming.LogSlot.TheVariants.{Open}
-use Rattle.mt_log_files.specs.Shows.{LeavesEither, ShowsClosed, ShowsFailed, Shows}
+use Rattle.mt_log_files.specs.{Slots.IsNoPlainLog, Shows.{LeavesEither, ShowsClosed, ShowsFailed, Shows}}
 
 -- ---- a disk as it is
 
@@ -49,6 +50,18 @@ reads_rest c front all =
     (all (Resume 0 0 0) (record { first = omega arith; last = omega arith; past = omega arith }))
     (all (Resume 0 1 0) (record { first = omega arith; last = omega arith; past = omega arith }))
 
+-- ---- a plain file that has a log
+
+-- it begins with M
+begins : (c : Contents) (g : ℕ) (more image : Bytes) → g ≡ 0 → image ≡ (beginning c.version c.worker c.logs g c.start ++ flat_map batch_bytes c.batches) ++ more
+    → ¬ IsNoPlainLog image
+begins c zero more image first whole (inl none) = omega (arith, ap length (sym none ∙ whole))
+begins c zero more image first whole (inr closed) = omega (arith, ap (λ (bytes : Bytes). get_or bytes 0 0) (sym whole ∙ closed.whole))
+begins c (suc before) more image first whole none = omega (arith, first)
+
+pub has_log : (c : Contents) (image : Bytes) → c.generation ≡ 0 → HasFront c image → ¬ IsNoPlainLog image
+has_log c image first front = begins c c.generation (front.gate ∷ front.behind) image first front.whole
+
 module _ {D : Type 0} (is_honest : D → Bool) (state : D → DiskState) where
   pub reads : (had : Contents) (doubt : Option LogBatch) (disk : D) (front : Contents) → IsTrue (is_honest disk) → IsContents had
       → ShowsClosed state had doubt disk → ReadsOldOrNew is_honest state disk front → MayLeaveFront (record { had = had; doubt = doubt }) front
@@ -81,6 +94,22 @@ module _ {D : Type 0} (is_honest : D → Bool) (state : D → DiskState) where
       let batch : IsLogBatch had.version (Resume 0 0 0) = record { first = omega arith; last = omega arith; past = omega arith } in
       not_bad_either kind had (Resume 0 0 0) disk number offset of is batch (shows (Resume 0 0 0) batch) bad
   not_bad kind had (Some b) disk number offset of is shows bad = not_bad_either kind had b disk number offset of is shows.0 shows.1 bad
+
+  not_none_either : (had : Contents) (b : LogBatch) (disk : D) → had.generation ≡ 0 → IsContents had → IsLogBatch had.version b → LeavesEither state had b disk
+      → ¬ IsNoPlainLog (state disk).image
+  not_none_either had b disk first is batch l none =
+      let image = (state disk).image in
+      ⊎_elim
+      (λ front. has_log had image first front none)
+      (λ front. has_log (with_batch b had) image first front none)
+      (left_front had b image (contents_more had b is batch) (l.leaves.now image l.leaves.reads))
+
+  pub not_none : (had : Contents) (doubt : Option LogBatch) (disk : D) → had.generation ≡ 0 → IsContents had → ShowsClosed state had doubt disk
+      → ¬ IsNoPlainLog (state disk).image
+  not_none had None disk first is shows none =
+      let batch : IsLogBatch had.version (Resume 0 0 0) = record { first = omega arith; last = omega arith; past = omega arith } in
+      not_none_either had (Resume 0 0 0) disk first is batch (shows (Resume 0 0 0) batch) none
+  not_none had (Some b) disk first is shows none = not_none_either had b disk first is shows.0 shows.1 none
 
   -- the disk of an open log, as if it were closed
   pub open_shows : (now : LogNow) (log : LogFile D) → Shows state now (Open log) → IsContents now.had × ShowsClosed state now.had now.doubt log.disk

@@ -1,12 +1,12 @@
 -- The files of a worker at each moment of a turn are those of its log.
-use Rattle.std.proofs.Common.{◌≡◌, ◌≢◌, ◌⊎◌, ⊎_elim, inl, inr, ℕ, zero, ◌+◌, ◌<◌, ◌≤◌, ◌==◌, Bool, cond, [], ◌∷◌, List, map, Option, Some, None, refl, sym, ◌∙◌, ap, subst, arith}
+use Rattle.std.proofs.Common.{◌≡◌, ⊎_elim, inl, inr, ℕ, ◌+◌, ◌<◌, ◌≤◌, ◌==◌, Bool, cond, [], ◌∷◌, List, Option, Some, None, refl, sym, ◌∙◌, ap, subst, arith}
 use Rattle.std.proofs.lemmas.{Bool.{eq-eqb, ne_eqb, cases_eq}, Option.same_Some}
 use Rattle.std.specs.List.{AllZip}
 use Rattle.mt_log.specs.{declared.batch.LogBatch.LogBatch, Contents.{Contents, with_batch}}
 use Rattle.mt_crashes.specs.{Bases.Slots, Stores.{Store, LogNow, at_rest, MayLeaveFront, MayLeaveFronts, MayLeaveSlots, new_store, Leads}}
 use Rattle.mt_crashes.proofs.{Members.no_some, NewStore.new_is, Kept.leads}
 use Rattle.mt_generations.specs.{Chains.{Chain, EndsLog}, Standings.{Standing, IsChosen, IsPart, StandsFor}, Turns.{with_log, without, StandsWhole}}
-use Rattle.mt_generations.proofs.{Moments.{first_stands, begun_stands, longer_next, longer_first, without_stands, turned_stands}, Left.is_chosen, Ends.chosen_ends}
+use Rattle.mt_generations.proofs.{Moments.{first_stands, begun_stands, longer_next, longer_first, without_stands, turned_stands}, Left.is_chosen}
 use Rattle.mt_log_files.specs.{Files.{FileNow, Spare, Has, MayHave, MayLeaveFile, found_as}, Workers.{nothing_stands, with_found, standing_of, AreFilesOf, Files, Found, AllHaveFiles, MayLeaveFiles, standings_of}}
 
 -- ---- standings

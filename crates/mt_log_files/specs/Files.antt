@@ -1,12 +1,12 @@
 -- What a numbered file of a worker's log may be now, and what a crash may leave of it.
-use Rattle.std.specs.Prelude.{◌≡◌, ◌⊎◌, ℕ, Bool, IsTrue, Option, Some, None}
+use Rattle.std.specs.Prelude.{◌≡◌, ◌⊎◌, Option, Some, None}
 use Rattle.mt_disk.specs.Disk.{DiskState, LeavesOnly}
 use Rattle.mt_gates.specs.Gates.{IsLeftOf}
 use Rattle.mt_log_generations.specs.declared.header.Parity.{Parity}
 use Rattle.mt_log.specs.{Contents.{Contents, IsContents}, Fronts.IsOfKind, Numbered.text_of}
 use Rattle.mt_log.specs.declared.reader.FileKind.TheVariants as kinds
 use Rattle.mt_crashes.specs.Stores.{LogNow, at_rest, MayLeaveFront}
-use Rattle.mt_recover.specs.{declared.resuming.LogSlot.LogSlot, declared.resuming.LogSlot.TheVariants.{Open, Failed, Closed, Away}}
+use Rattle.mt_recover.specs.{declared.resuming.LogSlot.LogSlot, declared.resuming.LogSlot.TheVariants.{Closed}}
 use Rattle.mt_log_files.specs.Shows.{Shows}
 
 -- A file is spare, or it has a log. Or a log is being begun or given up in it, and may be there or not.

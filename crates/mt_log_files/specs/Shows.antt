@@ -1,5 +1,5 @@
 -- What a crash may leave of a log, by its place.
-use Rattle.std.specs.Prelude.{◌≡◌, ℕ, Bool, IsTrue, Option, Some, None}
+use Rattle.std.specs.Prelude.{◌≡◌, Bool, IsTrue, Option, Some, None}
 use Rattle.mt_disk.specs.Disk.{DiskState, LeavesOnly}
 use Rattle.mt_log.specs.{declared.batch.LogBatch.LogBatch, declared.failed_log.FailedLog.FailedLog}
 use Rattle.mt_log.specs.{Contents.{Contents, IsContents, IsLogBatch}, Fronts.IsLeft, Logs.IsLogOf, Failures.IsFailedLogOf}

@@ -1,8 +1,8 @@
 -- What becomes of the place of a log's file: opened, begun, given up.
-use Rattle.std.specs.Prelude.{◌≡◌, ◌⊎◌, ℕ, ◌<◌, ◌%◌, ◌==◌, if◌then◌else◌, Bool, IsTrue, List, length, Option, Some, None}
+use Rattle.std.specs.Prelude.{◌≡◌, ◌⊎◌, ℕ, ◌<◌, ◌%◌, ◌==◌, if◌then◌else◌, Bool, IsTrue, List, [], length, Option, Some, None}
 use Rattle.mt_rows.specs.declared.refusal.Refusal.{Refusal}
-use Rattle.mt_disk.specs.Disk.{DiskState, LeavesOnly, GoesUp}
-use Rattle.mt_gates.specs.Gates.{IsLeftOf, IsGivenUp}
+use Rattle.mt_disk.specs.Disk.{DiskState, LeavesOnly, GoesUp, synced}
+use Rattle.mt_gates.specs.Gates.{IsClosed, IsLeftOf, IsGivenUp}
 use Rattle.mt_log_generations.specs.declared.header.{Header.Header, Parity.Parity}
 use Rattle.mt_log.specs.{declared.batch.Front.Front, declared.fault.OpenFault.OpenFault}
 use Rattle.mt_log.specs.{Logs.{Opened, GivesDiskBack}, Numbered.{Begun, FailsToBegin, HasNoLog, GivesNumberedBack, StillLeavesText}}
@@ -32,6 +32,10 @@ abbrev pub with_file : {D : Type 0} → ℕ → LogSlot D → WorkerFiles D → 
 with_file generation slot files =
     if generation == 0 then record files { plain = slot } else if generation % 2 == 0 then record files { even = slot } else record files { odd = slot }
 
+-- a plain file is no log: it is empty, or its first byte is 00
+abbrev pub IsNoPlainLog : List ℕ → Type 0
+IsNoPlainLog image = (image ≡ []) ⊎ IsClosed image
+
 -- why a disk was not opened, as a refusal
 abbrev pub refusal_of : {D : Type 0} → OpenFault D → Refusal
 refusal_of (opens.Device disk) = refusals.Device
@@ -58,6 +62,27 @@ module _ {D : Type 0} (is_honest : D → Bool) (state : D → DiskState) (failur
   FailsToOpen e (Some old) (Closed disk) = FailsOn e old disk
   FailsToOpen e None Away = e ≡ refusals.Device
   FailsToOpen e disk slot = ⊥
+
+  -- its file is no log: it was synced and not written
+  pub record HasNoPlainLog (old disk : D) : Type 0 where
+    pub none : IsTrue (is_honest old) → IsNoPlainLog (state old).image
+    pub moves : IsTrue (is_honest old) → state disk ≡ synced (state old)
+    pub count : failures disk ≡ failures old
+    pub honest : is_honest disk ≡ is_honest old
+
+  -- a disk was opened, and has this log or none
+  abbrev pub OpensPlain : Option D → LogSlot D → Option Front → Type 0
+  OpensPlain disk slot (Some front) = Opens disk slot front
+  OpensPlain (Some old) (Closed disk) None = HasNoPlainLog old disk
+  OpensPlain disk slot None = ⊥
+
+  -- over an honest disk: a file that is no log is no bad log
+  abbrev pub IsNotGivenUp : Refusal → Option D → Type 0
+  IsNotGivenUp e disk = (number offset : ℕ) (old : D) → e ≡ refusals.BadLog number offset → disk ≡ Some old → IsTrue (is_honest old) → ¬ IsNoPlainLog (state old).image
+
+  -- it was not
+  abbrev pub FailsToOpenPlain : Refusal → Option D → LogSlot D → Type 0
+  FailsToOpenPlain e disk slot = FailsToOpen e disk slot × IsNotGivenUp e disk
 
   -- ---- a numbered file
 

@@ -1,5 +1,5 @@
 -- What a crash leaves of a worker's log in the files of two generations, and of all workers of a store.
-use Rattle.std.specs.{Prelude.{◌≡◌, ℕ, ◌+◌, List, map, Option, Some, None}, List.AllZip}
+use Rattle.std.specs.{Prelude.{ℕ, ◌+◌, List, map, Option, Some, None}, List.AllZip}
 use Rattle.mt_log.specs.Contents.{Contents}
 use Rattle.mt_crashes.specs.Stores.{LogNow, MayLeaveFront}
 use Rattle.mt_generations.specs.{Standings.{Standing, StandsFor}, Turns.with_log}

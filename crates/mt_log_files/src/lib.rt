@@ -10,5 +10,5 @@ mod plain;
 mod worker;
 
 pub use numbered::{begin, give_up, open_numbered};
-pub use plain::{open_disk, open_slot, take_disk};
+pub use plain::{open_disk, open_plain, open_slot, take_disk};
 pub use worker::WorkerFiles;
