@@ -41,7 +41,7 @@ from_agree g (f ∷ files) (o ∷ others) [] all are = absurd are
 from_agree g (f ∷ files) (o ∷ others) (c ∷ chains) all are =
     ((λ i. joined (all.0 g (omega arith) i) (all.0 (g + 1) (omega arith) i)) ∙ are.0, from_agree g files others chains all.1 are.1)
 
-have_agree : (g : ℕ) (files others : List Standing) → AgreeFrom g files others → AllHave g files → AllHave g others
+pub have_agree : (g : ℕ) (files others : List Standing) → AgreeFrom g files others → AllHave g files → AllHave g others
 have_agree g files others all have = let from = all_from g files have in have_all g others from.0 (from_agree g files others from.0 all from.1)
 
 in_agree : (g : ℕ) (files others : List Standing) (o : Standing) → AgreeFrom g files others → In o others → (f : Standing) × In f files × ((h : ℕ) → g ≤ h → o h ≡ f h)

@@ -6,9 +6,9 @@ use Rattle.mt_log_generations.specs.declared.header.{Parity.Parity}
 use Rattle.mt_log.specs.{declared.batch.Front.Front, Contents.{IsContents, contents_of}}
 use Rattle.mt_crashes.specs.{Stores.{LogNow, at_rest, MayLeaveFront}}
 use Rattle.mt_recover.specs.{declared.resuming.LogSlot.LogSlot, declared.resuming.LogSlot.TheVariants.{Open, Failed, Closed, Away}}
-use Rattle.mt_log_files.specs.Slots.{disk_in, Opens, FailsOn, FailsToOpen, FailsOnNumbered, FailsToOpenNumbered}
+use Rattle.mt_log_files.specs.Slots.{disk_in, OpensPlain, FailsOn, FailsToOpen, FailsToOpenPlain, FailsOnNumbered, FailsToOpenNumbered}
 use Rattle.mt_log_files.specs.{Shows.{ShowsClosed, Shows, IsHonest}, Files.{FileNow, ShowsFile}}
-use Rattle.mt_log_files.proofs.{ShowLaws.{reads, still, not_bad, open_shows, failed_shows}}
+use Rattle.mt_log_files.proofs.{ShowLaws.{reads, still, not_bad, not_none, open_shows, failed_shows}}
 use Rattle.mt_log_files.proofs.FileLaws as numbered_files
 use Rattle.mt_log.specs.declared.reader.FileKind.TheVariants as kinds
 use Rattle.mt_rows.specs.declared.refusal.Refusal.TheVariants as refusals
@@ -33,20 +33,27 @@ module _ {D : Type 0} (is_honest : D → Bool) (state : D → DiskState) (failur
   abbrev pub IsFoundIn : LogNow → Front → LogSlot D → Type 0
   IsFoundIn now front new = MayLeaveFront now (contents_of front) × IsHonest is_honest new × Shows state (at_rest (contents_of front)) new
 
-  plain_on : (now : LogNow) (disk : D) (new : LogSlot D) (front : Front) → ShowsDisk now disk → Opens is_honest state failures (Some disk) new front
-      → IsFoundIn now front new
-  plain_on now disk (Open log) front shows o =
-      (reads is_honest state now.had now.doubt disk (contents_of front) shows.0 shows.1 shows.2 o.reads, subst IsTrue (sym o.honest) shows.0, (refl, o.has shows.0))
-  plain_on now disk (Failed log) front shows o = absurd o
-  plain_on now disk (Closed new) front shows o = absurd o
-  plain_on now disk Away front shows o = absurd o
+  plain_on : (now : LogNow) (disk : D) (new : LogSlot D) (found : Option Front) → now.had.generation ≡ 0 → ShowsDisk now disk
+      → OpensPlain is_honest state failures (Some disk) new found → (front : Front) × (found ≡ Some front) × IsFoundIn now front new
+  plain_on now disk (Open log) (Some front) first shows o = (
+    front,
+    refl,
+    (reads is_honest state now.had now.doubt disk (contents_of front) shows.0 shows.1 shows.2 o.reads, subst IsTrue (sym o.honest) shows.0, (refl, o.has shows.0)),
+  )
+  plain_on now disk (Failed log) (Some front) first shows o = absurd o
+  plain_on now disk (Closed new) (Some front) first shows o = absurd o
+  plain_on now disk Away (Some front) first shows o = absurd o
+  plain_on now disk (Closed new) None first shows o = absurd (not_none is_honest state now.had now.doubt disk first shows.1 shows.2 (o.none shows.0))
+  plain_on now disk (Open log) None first shows o = absurd o
+  plain_on now disk (Failed log) None first shows o = absurd o
+  plain_on now disk Away None first shows o = absurd o
 
-  -- an opening of a plain file finds what a crash might have left
-  pub plain_found : (now : LogNow) (old new : LogSlot D) (front : Front) → IsHonest is_honest old → Shows state now old → Opens is_honest state failures (disk_in old) new front
-      → IsFoundIn now front new
-  plain_found now old new front honest shows =
-      on_disk (λ (d : Option D). Opens is_honest state failures d new front → IsFoundIn now front new) now old honest shows
-      (λ disk there o. plain_on now disk new front there o)
+  -- an opening of a plain file finds its log, as a crash might have left it
+  pub plain_found : (now : LogNow) (old new : LogSlot D) (found : Option Front) → now.had.generation ≡ 0 → IsHonest is_honest old → Shows state now old
+      → OpensPlain is_honest state failures (disk_in old) new found → (front : Front) × (found ≡ Some front) × IsFoundIn now front new
+  plain_found now old new found first honest shows =
+      on_disk (λ (d : Option D). OpensPlain is_honest state failures d new found → (front : Front) × (found ≡ Some front) × IsFoundIn now front new) now old honest shows
+      (λ disk there o. plain_on now disk new found first there o)
 
   -- the place shows what it showed
   abbrev pub IsStill : LogNow → Refusal → LogSlot D → Type 0
@@ -87,10 +94,10 @@ module _ {D : Type 0} (is_honest : D → Bool) (state : D → DiskState) (failur
 
   -- one that fails, fails for memory or by the device alone
   pub plain_failed : (now : LogNow) (e : Refusal) (old new : LogSlot D) → now.had.generation ≡ 0 → IsHonest is_honest old → Shows state now old
-      → FailsToOpen is_honest state failures e (disk_in old) new → IsStill now e new
+      → FailsToOpenPlain is_honest state failures e (disk_in old) new → IsStill now e new
   plain_failed now e old new first honest shows =
-      on_disk (λ (d : Option D). FailsToOpen is_honest state failures e d new → IsStill now e new) now old honest shows
-      (λ disk there f. plain_stops now e disk new first there f)
+      on_disk (λ (d : Option D). FailsToOpenPlain is_honest state failures e d new → IsStill now e new) now old honest shows
+      (λ disk there f. plain_stops now e disk new first there f.0)
 
   numbered_fault : (parity : Parity) (e : Refusal) (old disk : D) → ((number offset : ℕ) → e ≡ refusals.BadLog number offset → ⊥)
       → FailsOnNumbered is_honest state failures parity e old disk → IsOutside e

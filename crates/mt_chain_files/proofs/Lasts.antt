@@ -10,8 +10,8 @@ use Rattle.mt_generations.specs.{Chains.Chain, Standings.{Standing, joined, chai
 use Rattle.mt_generations.proofs.Parts.{end_joined}
 use Rattle.mt_recover.specs.{declared.resuming.LogSlot.LogSlot, declared.resuming.LogSlot.TheVariants.{Open, Failed, Closed, Away}}
 use Rattle.mt_chains.specs.{declared.worker_logs.WorkerLogs.WorkerLogs, Files.{standing_of, numbered_log, SameNumbered}, Testing.is_there}
-use Rattle.mt_log_files.specs.{declared.worker.WorkerFiles.WorkerFiles, Slots.{disk_in, file_of, Opens, OpensNumbered}}
-use Rattle.mt_chain_files.specs.{declared.opening.Chains.Chains, Numbered.{OpensWorker, OpensNumberedFiles}}
+use Rattle.mt_log_files.specs.{declared.worker.WorkerFiles.WorkerFiles, Slots.{disk_in, file_of, OpensPlain, OpensNumbered}}
+use Rattle.mt_chain_files.specs.{declared.opening.Chains.Chains, Numbered.{OpensWorker, OpensNumberedFiles}, Plain.OpensPlainAs}
 use Rattle.mt_chain_files.specs.{Chosen.{ReadsPlain, OpensChains}, Lasts.{last_generation_of, EndsAt, AreOpenAtTheirEnds}}
 use Rattle.mt_chain_files.proofs.{Loops.{get_within, zip_count}, Agreeing.agree_self, Reading.read_later}
 use Rattle.mt_log.specs.declared.reader.FileKind.TheVariants as kinds
@@ -124,15 +124,18 @@ module _ {D : Type 0} where
           (each (g + 1) b next)
 
 module _ {D : Type 0} (is_honest : D → Bool) (state : D → DiskState) (failures : D → ℕ) where
-  plain_open : (old : Option D) (new : LogSlot D) (front : Front) → Opens is_honest state failures old new front → EndsAt (contents_of front) new
-  plain_open (Some disk) (Open log) front o = o.mark
-  plain_open (Some disk) (Failed log) front o = absurd o
-  plain_open (Some disk) (Closed new) front o = absurd o
-  plain_open (Some disk) Away front o = absurd o
-  plain_open None (Open log) front o = absurd o
-  plain_open None (Failed log) front o = absurd o
-  plain_open None (Closed new) front o = absurd o
-  plain_open None Away front o = absurd o
+  -- a log that was read of a plain file is open there
+  plain_open : (old : Option D) (new : LogSlot D) (found : Option Front) → OpensPlain is_honest state failures old new found
+      → (front : Front) → found ≡ Some front → EndsAt (contents_of front) new
+  plain_open old new None o front there = absurd (no_some front there)
+  plain_open (Some disk) (Open log) (Some read) o front there = subst (λ (f : Front). EndsAt (contents_of f) (Open log)) (same_Some read front there) o.mark
+  plain_open (Some disk) (Failed log) (Some read) o front there = absurd o
+  plain_open (Some disk) (Closed new) (Some read) o front there = absurd o
+  plain_open (Some disk) Away (Some read) o front there = absurd o
+  plain_open None (Open log) (Some read) o front there = absurd o
+  plain_open None (Failed log) (Some read) o front there = absurd o
+  plain_open None (Closed new) (Some read) o front there = absurd o
+  plain_open None Away (Some read) o front there = absurd o
 
   numbered_open : (parity : Parity) (old : Option D) (new : LogSlot D) (found : Option Front) → OpensNumbered is_honest state failures parity old new found
       → IsOpenIn parity found new
@@ -183,15 +186,14 @@ module _ {D : Type 0} (is_honest : D → Bool) (state : D → DiskState) (failur
         let p = read.1.each k mid.0 places below mid.1 then in
         let was = zip_right SameNumbered first logs k one read.2 there in
         let a = open_first old between first numbered k was.0 mid.0 was.1 mid.1 in
-        let has : one.plain ≡ Some p.2.0 = ap (λ (w : WorkerLogs). w.plain) (same_Some one p.0 (sym there ∙ p.1)) ∙ p.2.1 in
+        let o = subst (λ (w : WorkerLogs). OpensPlainAs is_honest state failures w mid.0 places) (same_Some p.0 one (sym p.1 ∙ there)) p.2 in
         record {
           even = a.even;
           odd = a.odd;
           numbered = sym was.2 ∙ a.numbered;
-          open_even = λ front is. (let e = a.open_even front is in (subst (EndsAt (contents_of front)) (sym p.2.3.0) e.0, e.1));
-          open_odd = λ front is. (let e = a.open_odd front is in (subst (EndsAt (contents_of front)) (sym p.2.3.1) e.0, e.1));
-          open_plain = λ front is.
-              subst (λ (f : Front). EndsAt (contents_of f) places.plain) (same_Some p.2.0 front (sym has ∙ is)) (plain_open (disk_in mid.0.plain) places.plain p.2.0 p.2.2);
+          open_even = λ front is. (let e = a.open_even front is in (subst (EndsAt (contents_of front)) (sym o.1.0) e.0, e.1));
+          open_odd = λ front is. (let e = a.open_odd front is in (subst (EndsAt (contents_of front)) (sym o.1.1) e.0, e.1));
+          open_plain = plain_open (disk_in mid.0.plain) places.plain one.plain o.0;
         }
 
     module _ (old new : List (WorkerFiles D)) (chains : Chains) (opens : OpensChains is_honest state failures slots old new chains) where

@@ -8,3 +8,4 @@ pub mod Resting
 pub mod Starts
 pub mod OwnFiles
 pub mod TurnLaws
+pub mod GivenUp

@@ -7,14 +7,14 @@ use Rattle.mt_disk.specs.Disk.{DiskState}
 use Rattle.mt_log_generations.specs.declared.header.{Parity.Parity, Parity.TheVariants.{Even, Odd}}
 use Rattle.mt_log.specs.{declared.batch.Front.Front, Contents.{Contents, contents_of}}
 use Rattle.mt_crashes.specs.{Fronts.In, Bases.Slots, Stores.{Store, LogNow, at_rest, MayLeaveFronts, MayLeaveSlots}, Invariants.IsStore}
-use Rattle.mt_crashes.proofs.{Members.{no_some, place_in, map_in}, Invariant.{zip_left, zip_right, within_place, map_place, place_map}}
+use Rattle.mt_crashes.proofs.{Members.{no_some, place_in}, Invariant.{zip_left, zip_right, within_place, map_place, place_map}}
 use Rattle.mt_generations.specs.Chains.{Chain}
 use Rattle.mt_generations.specs.{Standings.{Standing, chain_from, AreFrom, AllHave, IsLast, CanBegin, IsChosen, HaveNoChoice, StandsFor}, Turns.{StandsWhole, KeepsLog}}
 use Rattle.mt_generations.proofs.{Deciding.{first_there, have_all, have_or_not, can_or_not}, Moments.kept_whole, Left.is_chosen, Ends.{chosen_ends, never_falls}}
 use Rattle.mt_recover.specs.{declared.resuming.LogSlot.LogSlot}
 use Rattle.mt_chains.specs.{declared.worker_logs.WorkerLogs.WorkerLogs, Files.{standing_of as read_of, SameNumbered}, Testing.is_there}
 use Rattle.mt_log_files.specs.declared.worker.WorkerFiles.{WorkerFiles}
-use Rattle.mt_log_files.specs.Slots.{disk_in, Opens, FailsToOpen}
+use Rattle.mt_log_files.specs.Slots.{disk_in, OpensPlain, FailsToOpenPlain}
 use Rattle.mt_log_files.specs.{Shows.{IsHonest}, Files.{FileNow, Spare, Has, MayHave, MayLeaveFile, found_as, ShowsFile}}
 use Rattle.mt_log_files.specs.Workers.{standing_of, Found, AllHaveFiles, MayLeaveFiles, standings_of}
 use Rattle.mt_log_files.proofs.{WorkerLaws.all_stand}
@@ -23,7 +23,7 @@ use Rattle.mt_chain_files.specs.{declared.fault.FilesFault.FilesFault, declared.
 use Rattle.mt_chain_files.specs.{Numbered.{OpensWorker, FailsToOpenWorker, OpensNumberedFiles, StopsNumberedFiles}, Plain.{OpensPlainAs, OpensPlainFiles, StopsPlainFiles}}
 use Rattle.mt_chain_files.specs.{Chosen.{NeedPlain, FallAt, RefuseToBegin, ReadsPlain, ReadsFiles, OpensChains, StopsChains}, Lasts.last_generation_of}
 use Rattle.mt_chain_files.specs.Turns.{FilesNow, now_of, pair_of, IsOfGeneration, AreOfTurn, StaysWhole, HasLast, IsLastOfTurn, StaySpare, ShowsPlain, ShowFiles, ComeToRest, StayTheirs}
-use Rattle.mt_chain_files.proofs.Loops.{get_within, zip_of, zip_count, before_or_after}
+use Rattle.mt_chain_files.proofs.Loops.{get_within, at_place, zip_of, zip_count, before_or_after}
 use Rattle.mt_chain_files.proofs.Agreeing.{agree_self, NoneFirst, over_zero, none_first}
 use Rattle.mt_chain_files.proofs.Faults.{IsOutside, plain_found, plain_failed, numbered_failed}
 use Rattle.mt_chain_files.proofs.Narrowing.{Narrows, ShowsNarrower, stay_theirs, stays_narrow}
@@ -171,6 +171,13 @@ module _ (s : Store) where
       let c = w.1 (standing_of (suc g) x y) (least_in (suc g) f (f ∷ files) (inl refl)) in
       absurd (no_some c.0 (sym (found_none (suc g) x y 0 (λ e. omega (arith, e)) (λ e. omega (arith, e))) ∙ c.1))
 
+-- a worker's first log is in its plain file
+abbrev HasFirst : FilesNow → Type 0
+HasFirst f = (now : LogNow) × (f.plain ≡ Has now) × (now.had.generation ≡ 0)
+
+abbrev HaveFirst : List FilesNow → Type 0
+HaveFirst files = (f : FilesNow) → In f files → HasFirst f
+
 -- ---- files that show what they are
 
 module _ {D : Type 0} (is_honest : D → Bool) (state : D → DiskState) (failures : D → ℕ) where
@@ -302,28 +309,39 @@ module _ {D : Type 0} (is_honest : D → Bool) (state : D → DiskState) (failur
 
   -- ---- all files were read
 
+  -- the log of a plain file was read of it
+  record HasPlain (f : FilesNow) (one : WorkerLogs) (is : WorkerFiles D) : Type 0 where
+    front : Front
+    has : one.plain ≡ Some front
+    left : MayLeaveFile f.plain (Some (contents_of front))
+    shows : ShowsPlain is_honest state (found_as (Some (contents_of front))) is.plain
+    narrower : ShowsNarrower is_honest state f is
+
   -- what a worker's places show after its plain file was opened too
-  narrower_plain : (f : FilesNow) (was mid is : WorkerFiles D) (first one : WorkerLogs) → (now : LogNow) × (f.plain ≡ Has now) → ShowFiles is_honest state f was
-      → OpensWorker is_honest state failures was mid first → (p : OpensPlainAs is_honest state failures one mid is)
-      → MayLeaveFile f.plain (Some (contents_of p.0)) × ShowsPlain is_honest state (found_as (Some (contents_of p.0))) is.plain × ShowsNarrower is_honest state f is
+  narrower_plain : (f : FilesNow) (was mid is : WorkerFiles D) (first one : WorkerLogs) → HasFirst f → ShowFiles is_honest state f was
+      → OpensWorker is_honest state failures was mid first → OpensPlainAs is_honest state failures one mid is → HasPlain f one is
   narrower_plain f was mid is first one now shows opens p =
       let shown : ShowsPlain is_honest state (Has now.0) was.plain = subst (λ (file : FileNow). ShowsPlain is_honest state file was.plain) now.1 shows.plain in
-      let found = plain_found is_honest state failures now.0 was.plain is.plain p.0 shown.0 shown.1
-      (subst (λ (slot : LogSlot D). Opens is_honest state failures (disk_in slot) is.plain p.0) opens.plain p.2) in
+      let found = plain_found is_honest state failures now.0 was.plain is.plain one.plain now.2 shown.0 shown.1
+      (subst (λ (slot : LogSlot D). OpensPlain is_honest state failures (disk_in slot) is.plain one.plain) opens.plain p.0) in
+      let c = contents_of found.0 in
       let n = narrower_both f was mid first shows opens in
-      let left : MayLeaveFile f.plain (Some (contents_of p.0)) = subst (λ (file : FileNow). MayLeaveFile file (Some (contents_of p.0))) (sym now.1) (contents_of p.0, found.0, refl) in (
-        left,
-        (found.1, found.2),
-        record {
-          new = record { plain = found_as (Some (contents_of p.0)); even = n.new.even; odd = n.new.odd };
-          narrows = record { plain = inr (Some (contents_of p.0), left, refl); even = n.narrows.even; odd = n.narrows.odd };
+      let left : MayLeaveFile f.plain (Some c) = subst (λ (file : FileNow). MayLeaveFile file (Some c)) (sym now.1) (c, found.2.0, refl) in
+      record {
+        front = found.0;
+        has = found.1;
+        left = left;
+        shows = (found.2.1, found.2.2);
+        narrower = record {
+          new = record { plain = found_as (Some c); even = n.new.even; odd = n.new.odd };
+          narrows = record { plain = inr (Some c, left, refl); even = n.narrows.even; odd = n.narrows.odd };
           shows = record {
-            plain = (found.1, found.2);
-            even = subst (ShowsNumbered Even n.new.even) (sym p.3.0) n.shows.even;
-            odd = subst (ShowsNumbered Odd n.new.odd) (sym p.3.1) n.shows.odd;
+            plain = (found.2.1, found.2.2);
+            even = subst (ShowsNumbered Even n.new.even) (sym p.1.0) n.shows.even;
+            odd = subst (ShowsNumbered Odd n.new.odd) (sym p.1.1) n.shows.odd;
           };
-        },
-      )
+        };
+      }
 
   -- the worker at a place, all of whose files were opened
   record PlainAt (f : FilesNow) (k : ℕ) (new : List (WorkerFiles D)) (logs : List WorkerLogs) : Type 0 where
@@ -337,10 +355,7 @@ module _ {D : Type 0} (is_honest : D → Bool) (state : D → DiskState) (failur
     shows : ShowFiles is_honest state (after_of one) is
     narrower : ShowsNarrower is_honest state f is
 
-  abbrev HavePlain : List FilesNow → Type 0
-  HavePlain files = (f : FilesNow) → In f files → (now : LogNow) × (f.plain ≡ Has now)
-
-  plain_at : (files : List FilesNow) (old between new : List (WorkerFiles D)) (first logs : List WorkerLogs) → HavePlain files → Show files old
+  plain_at : (files : List FilesNow) (old between new : List (WorkerFiles D)) (first logs : List WorkerLogs) → HaveFirst files → Show files old
       → OpensNumberedFiles is_honest state failures old between first → OpensPlainFiles is_honest state failures between new logs → AllZip SameNumbered first logs
       → (k : ℕ) (f : FilesNow) → slice_get files k ≡ Some f → PlainAt f k new logs
   plain_at files old between new first logs have shows opens plain same k f there =
@@ -357,26 +372,26 @@ module _ {D : Type 0} (is_honest : D → Bool) (state : D → DiskState) (failur
       record {
         is = is.0;
         one = p.0;
-        front = p.2.0;
+        front = n.front;
         is_there = is.1;
         one_there = p.1;
-        has = p.2.1;
+        has = n.has;
         read = record {
           even = r.even;
           odd = r.odd;
           numbered = sym numbered ∙ r.numbered;
           left_even = r.left_even;
           left_odd = r.left_odd;
-          left_plain = inr (refl, subst (λ (x : Option Front). MayLeaveFile f.plain (option_map contents_of x)) (sym p.2.1) n.0);
+          left_plain = inr (refl, subst (λ (x : Option Front). MayLeaveFile f.plain (option_map contents_of x)) (sym n.has) n.left);
         };
         shows = record {
-          plain = subst (λ (x : Option Front). ShowsPlain is_honest state (found_as (option_map contents_of x)) is.0.plain) (sym p.2.1) n.1;
+          plain = subst (λ (x : Option Front). ShowsPlain is_honest state (found_as (option_map contents_of x)) is.0.plain) (sym n.has) n.shows;
           even = subst (λ (logs : List (Option Front)). ShowsNumbered Even (found_as (option_map contents_of (first_in logs))) is.0.even) numbered
-              (subst (ShowsNumbered Even (after_of o.one).even) (sym p.2.3.0) b.even);
+              (subst (ShowsNumbered Even (after_of o.one).even) (sym p.2.1.0) b.even);
           odd = subst (λ (logs : List (Option Front)). ShowsNumbered Odd (found_as (option_map contents_of (second_in logs))) is.0.odd) numbered
-              (subst (ShowsNumbered Odd (after_of o.one).odd) (sym p.2.3.1) b.odd);
+              (subst (ShowsNumbered Odd (after_of o.one).odd) (sym p.2.1.1) b.odd);
         };
-        narrower = n.2;
+        narrower = n.narrower;
       }
 
   -- what was read at each place, and what is there now
@@ -401,7 +416,7 @@ module _ {D : Type 0} (is_honest : D → Bool) (state : D → DiskState) (failur
       ))
 
   -- the plain files too
-  read_plain : (files : List FilesNow) (old between new : List (WorkerFiles D)) (first logs : List WorkerLogs) → HavePlain files
+  read_plain : (files : List FilesNow) (old between new : List (WorkerFiles D)) (first logs : List WorkerLogs) → HaveFirst files
       → Show files old → OpensNumberedFiles is_honest state failures old between first → OpensPlainFiles is_honest state failures between new logs → AllZip SameNumbered first logs
       → AllZip (λ (f : FilesNow) (one : WorkerLogs). ReadOf 0 f one × ((front : Front) × (one.plain ≡ Some front))) files logs
   read_plain files old between new first logs have shows opens plain same =
@@ -491,8 +506,18 @@ module _ {D : Type 0} (is_honest : D → Bool) (state : D → DiskState) (failur
           by zero e = e
           by (suc n) e = absurd (unneeded (omega (arith, e)) need)
 
-      plain_there : NeedPlain (map read_of first) slots → (g ≡ 0) × ((f : FilesNow) → In f files → (now : LogNow) × (f.plain ≡ Has now))
-      plain_there need = have_plain s g files some_files (subst (λ (n : ℕ). StaysWhole g n s files) (needed need) whole)
+      plain_there : NeedPlain (map read_of first) slots → (g ≡ 0) × HaveFirst files
+      plain_there need =
+          let have = have_plain s g files some_files (subst (λ (n : ℕ). StaysWhole g n s files) (needed need) whole) in (
+            have.0,
+            λ f at. (
+                let now = have.1 f at in
+                let place = at_place f files at in
+                let mine = zip_right (AreOfTurn g) s.logs files place.0 f turn place.1 in
+                let turned : AreOfTurn 0 mine.0 f = subst (λ (n : ℕ). AreOfTurn n mine.0 f) have.0 mine.2 in
+                (now.0, now.1, subst (IsOfGeneration 0) now.1 turned.first)
+                ),
+          )
 
       -- what was read of all files that are needed
       module _ (new : List (WorkerFiles D)) (logs : List WorkerLogs) where
@@ -601,11 +626,8 @@ module _ {D : Type 0} (is_honest : D → Bool) (state : D → DiskState) (failur
           let mid : stops.was ≡ o.is = same_Some stops.was o.is (sym stops.was_there ∙ o.is_there) in
           let slot : stops.was.plain ≡ o.was.plain = ap (λ (w : WorkerFiles D). w.plain) mid ∙ o.opens.plain in
           let shown : ShowsPlain is_honest state (Has now.0) o.was.plain = subst (λ (file : FileNow). ShowsPlain is_honest state file o.was.plain) now.1 o.shows.plain in
-          let mine = zip_right (AreOfTurn g) s.logs files place f.0 turn f.1 in
-          let turned : AreOfTurn 0 mine.0 f.0 = subst (λ (n : ℕ). AreOfTurn n mine.0 f.0) have.0 mine.2 in
-          let kind : IsOfGeneration 0 (Has now.0) = subst (IsOfGeneration 0) now.1 turned.first in
-          let failed = plain_failed is_honest state failures now.0 e o.was.plain stops.is.plain kind shown.0 shown.1
-          (subst (λ (x : LogSlot D). FailsToOpen is_honest state failures e (disk_in x) stops.is.plain) slot stops.fails.0) in
+          let failed = plain_failed is_honest state failures now.0 e o.was.plain stops.is.plain now.2 shown.0 shown.1
+          (subst (λ (x : LogSlot D). FailsToOpenPlain is_honest state failures e (disk_in x) stops.is.plain) slot stops.fails.0) in
           let n = narrower_both f.0 o.was o.is o.one o.shows o.opens in
           let there : ShowsNarrower is_honest state f.0 stops.is = record {
             new = record { plain = f.0.plain; even = n.new.even; odd = n.new.odd };
@@ -622,7 +644,7 @@ module _ {D : Type 0} (is_honest : D → Bool) (state : D → DiskState) (failur
                 before_or_after k place
                 (λ below. (
                 let b = stops.before k a.is p below a.is_there then in
-                (narrower_plain x a.was a.is p a.one b.0 (have.1 x (place_in x k files at)) a.shows a.opens b.1).2
+                (narrower_plain x a.was a.is p a.one b.0 (have.1 x (place_in x k files at)) a.shows a.opens b.1).narrower
                 ))
                 (λ same. subst (λ (y : FilesNow). ShowsNarrower is_honest state y p) (same_Some f.0 x (sym f.1 ∙ ap (slice_get files) (sym same) ∙ at))
                 (subst (ShowsNarrower is_honest state f.0) (same_Some stops.is p (sym stops.is_there ∙ ap (slice_get new) (sym same) ∙ then)) there))

@@ -1,15 +1,15 @@
 -- What may be left of a worker's files after they were opened: no more than before.
-use Rattle.std.proofs.Common.{◌≡◌, ◌⊎◌, inl, inr, ⊎_elim, ℕ, ◌+◌, ◌==◌, ◌%◌, Bool, true, false, cond, List, [], ◌∷◌, ◌++◌, map, refl, sym, ◌∙◌, ap, subst, Option, Some, None}
+use Rattle.std.proofs.Common.{◌≡◌, ◌⊎◌, inl, inr, ⊎_elim, ℕ, ◌+◌, List, [], ◌∷◌, ◌++◌, map, refl, sym, ◌∙◌, ap, subst, Option, Some, None}
 use Rattle.std.proofs.lemmas.Option.{same_Some}
-use Rattle.std.specs.{List.AllZip, Option.option_map}
-use Rattle.mt_log.specs.Contents.{Contents, contents_of}
+use Rattle.std.specs.{List.AllZip}
+use Rattle.mt_log.specs.Contents.{Contents}
 use Rattle.mt_crashes.{specs.Stores.{LogNow, at_rest}, proofs.Members.no_some}
 use Rattle.mt_generations.specs.{Chains.Chain, Standings.{AllHave, AreFrom, chain_from, joined}}
 use Rattle.mt_chains.specs.{declared.worker_logs.WorkerLogs.WorkerLogs, Files.{standing_of as read_of}}
-use Rattle.mt_log_files.specs.{Workers.standing_of, Files.{FileNow, Spare, Has, MayHave, MayLeaveFile, found_as}}
+use Rattle.mt_log_files.specs.{Workers.standing_of, Files.{FileNow, Has, MayLeaveFile, found_as}}
 use Rattle.mt_chain_files.specs.Turns.{FilesNow, now_of, AreOfTurn}
 use Rattle.mt_chain_files.proofs.Narrowing.{Narrows, narrow_left, narrow_now}
-use Rattle.mt_chain_files.proofs.Reading.{first_in, second_in, after_of, as_found, found_first, found_next, ReadOf, FoundOf, found_of}
+use Rattle.mt_chain_files.proofs.Reading.{after_of, as_found, found_first, found_next, ReadOf, FoundOf, found_of}
 
 -- No more is left of a worker's files in a turn than before. Of the first one that isn't so if it is the plain file and was not opened: then there is the next log.
 pub record LeavesNoMore (g : ℕ) (was is : FilesNow) : Type 0 where

@@ -1,14 +1,15 @@
 //! Laws of the log files of a store, each the contract of a function that does nothing.
 
-ghost use Rattle.std.specs.{Prelude.{◌≡◌, ◌⊎◌, ◌+◌, ◌<◌, ◌≤◌, ℕ, List, length, map, Option}, List.AllZip};
+ghost use Rattle.std.specs.{Prelude.{◌≡◌, ◌≢◌, ◌⊎◌, ◌+◌, ◌<◌, ◌≤◌, ℕ, List, length, map, Option, Some, None}, List.AllZip};
 ghost use Rattle.mt_rows.specs.{Tenants.{Contents as Pairs}};
 ghost use Rattle.mt_rows.specs.declared.refusal.Refusal.TheVariants as refusals;
 ghost use Rattle.mt_log.specs.Contents.{contents_of};
 ghost use Rattle.mt_crashes.specs.{Histories.pairs_upto, Bases.Slots, Stores.{Store, LogNow, new_store, Leads, MayLeaveSlots}};
 ghost use Rattle.mt_generations.specs.Chains.{IsRecoveredOver};
+ghost use Rattle.mt_chains.specs.Files.{standing_of};
 ghost use Rattle.mt_log_files.specs.{declared.worker.WorkerFiles.WorkerFiles, Files.{Spare, Has}};
 ghost use Rattle.mt_chain_files.specs.{declared.fault.FilesFault.FilesFault, declared.opening.Chains.Chains};
-ghost use Rattle.mt_chain_files.specs.{Chosen.{OpensChains, StopsChains}, Lasts.AreOpenAtTheirEnds, Turns.{FilesNow, now_of, AreOfTurn, StaysWhole, ShowFiles, ComeToRest, StayTheirs}};
+ghost use Rattle.mt_chain_files.specs.{Plain.IsGivenUpAt, Chosen.{NeedPlain, StopsAtPlain, RefusesFiles, OpensChains, StopsChains}, Lasts.AreOpenAtTheirEnds, Turns.{FilesNow, now_of, AreOfTurn, StaysWhole, ShowFiles, ComeToRest, StayTheirs}};
 
 use mt_disk::Disk;
 
@@ -46,4 +47,17 @@ pub fn one_turn_follows_another()
     ensures first { (now : LogNow) → now.had.generation ≡ 0 → AreOfTurn 0 now (record { plain = Has now; even = Spare; odd = Spare }) }
     ensures next { (g : ℕ) (now next : LogNow) (files : FilesNow) → AreOfTurn g now files → now_of g files ≡ Spare → now_of (g + 1) files ≡ Has next →
         AreOfTurn (g + 1) now files }
+{}
+
+/// A plain file that was given up is no log, over a disk that keeps the rules. If plain files are needed, and one of them is
+/// such a file, there are no chains. Then all that is told is `LogCount`, or that there is no memory. The file is never told
+/// to be a bad log.
+pub fn a_plain_file_that_was_given_up_is_no_log<D: Disk>()
+    ensures opened { (place : ℕ) (slots : Slots) (old new : List (WorkerFiles D)) (chains : Chains) → IsGivenUpAt D.is_honest D.state D.failures place old →
+        (o : OpensChains D.is_honest D.state D.failures slots old new chains) → ¬ NeedPlain (map standing_of o.reads.first) slots }
+    ensures refused { (place : ℕ) (slots : Slots) (e : FilesFault) (old new : List (WorkerFiles D)) → IsGivenUpAt D.is_honest D.state D.failures place old →
+        (r : RefusesFiles D.is_honest D.state D.failures slots e old new) → NeedPlain (map standing_of r.reads.first) slots →
+        (e ≡ record { log = None; refusal = refusals.LogCount }) ⊎ (e ≡ record { log = None; refusal = refusals.Memory }) }
+    ensures never_bad { (place : ℕ) (slots : Slots) (e : FilesFault) (old new : List (WorkerFiles D)) (number offset : ℕ) → IsGivenUpAt D.is_honest D.state D.failures place old →
+        StopsAtPlain D.is_honest D.state D.failures slots e old new → e.log ≡ Some place → e.refusal ≢ refusals.BadLog number offset }
 {}

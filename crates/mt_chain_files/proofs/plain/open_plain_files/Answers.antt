@@ -1,7 +1,7 @@
 -- One plain file more is opened, and its front is in what was read of its worker; or it was not opened.
 use Rattle.std.{specs.Prelude.slice_set, proofs.Common.{◌∙◌, sym, subst, arith, refl}}
 use Rattle.mt_chains.specs.declared.worker_logs.WorkerLogs.{WorkerLogs}
-use Rattle.mt_chain_files.specs.{Plain.{OpensPlainAs, OpensPlainAt, FailsToOpenPlain, StopsPlainFiles}}
+use Rattle.mt_chain_files.specs.{Plain.{OpensPlainAs, OpensPlainAt, FailsAtPlain, StopsPlainFiles}}
 use Rattle.mt_chain_files.proofs.Loops.{one_more, still_left, same_len, walked, stopped, next_was, set_there, set_other, same_set, same_all}
 use Rattle.mt_chain_files.proofs.plain.open_plain_files.Goals as goal
 
@@ -13,17 +13,17 @@ returns-in-Err-clause-err g c =
     let old = c.args.files.now in
     let now = c.loop-place.files in
     let place = c.loop-place.place in
-    let new = c.open_plain.new.files in
+    let new = c.open_plain_file.new.files in
     let i = c.loop-place.invariant in
     let e = c.in-Err.refusal in
     subst (λ e. StopsPlainFiles is_honest state failures e old (slice_set now place new)) (sym c.at.ensures)
-    (stopped (λ k was is. (logs : WorkerLogs) × OpensPlainAs is_honest state failures logs was is) (FailsToOpenPlain is_honest state failures e) place old now new c.loop-place-test.true i.len
+    (stopped (λ k was is. (logs : WorkerLogs) × OpensPlainAs is_honest state failures logs was is) (FailsAtPlain is_honest state failures e) place old now new c.loop-place-test.true i.len
     (λ k was is below there then. let o = i.before k was is below there then in (o.0, o.2)) i.left
-    (λ was there. subst (λ x. FailsToOpenPlain is_honest state failures e x new) (next_was place old now c.index-files-place.result was i.left there) c.in-Err.ensures.err))
+    (λ was there. subst (λ x. FailsAtPlain is_honest state failures e x new) (next_was place old now c.index-files-place.result was i.left there) c.in-Err.ensures.err))
 
 pub returns-in-Err-clause-numbered : goal.returns-in-Err-clause-numbered
 returns-in-Err-clause-numbered g c =
-    same_set c.loop-place.place c.args.logs.now c.loop-place.logs c.open_plain.new.logs c.index-logs-place.result c.loop-place.invariant.numbered c.open_plain.ensures.numbered
+    same_set c.loop-place.place c.args.logs.now c.loop-place.logs c.open_plain_file.new.logs c.index-logs-place.result c.loop-place.invariant.numbered c.open_plain_file.ensures.numbered
 
 pub loop-place-preserved : goal.loop-place-preserved
 loop-place-preserved g c =
@@ -33,15 +33,15 @@ loop-place-preserved g c =
     let old = c.args.files.now in
     let now = c.loop-place.files in
     let place = c.loop-place.place in
-    let new = c.open_plain.new.files in
+    let new = c.open_plain_file.new.files in
     let logs = c.loop-place.logs in
-    let one = c.open_plain.new.logs in
+    let one = c.open_plain_file.new.logs in
     let i = c.loop-place.invariant in
     let count = i.count in
     record {
       len = same_len place old now new i.len;
       count = same_len place c.args.logs.now logs one i.count;
-      numbered = same_set place c.args.logs.now logs one c.index-logs-place.result i.numbered c.open_plain.ensures.numbered;
+      numbered = same_set place c.args.logs.now logs one c.index-logs-place.result i.numbered c.open_plain_file.ensures.numbered;
       before =
           one_more (OpensPlainAt is_honest state failures (slice_set logs place one)) place old now new
           (λ k was is below there then. let o = i.before k was is below there then in (o.0, set_other logs place k one (λ e. omega (arith, below, e)) ∙ o.1, o.2))
