@@ -6,7 +6,7 @@ use mt_chains::{WorkerLogs, chains_from, choose, first_apart};
 use mt_checkpoint::Checkpoint;
 use mt_disk::MemDisk;
 use mt_log::Front;
-use mt_log_files::{begin, open_numbered, open_slot};
+use mt_log_files::{begin, open_numbered, open_plain};
 use mt_log_generations::{Header, Parity};
 use mt_recover::{LogSlot, Recovered, has_base, recover};
 use mt_rows::{Refusal, Tenants};
@@ -104,9 +104,9 @@ fn recover_files(
     let found = match chains_of(alloc, logs_of(alloc, None, next)?, &checkpoints)? {
         Some(found) => Some(found),
         None => {
-            let first = open_slot(alloc, &mut plain)?;
+            let first = open_plain(alloc, &mut plain)?;
             let next = open_numbered(alloc, &mut odd, Parity::Odd)?;
-            chains_of(alloc, logs_of(alloc, Some(first), next)?, &checkpoints)?
+            chains_of(alloc, logs_of(alloc, first, next)?, &checkpoints)?
         }
     };
     let Some((generation, chains)) = found else {
@@ -166,24 +166,33 @@ fn a_store_is_recovered_from_the_files_that_count(rt: HostRuntime) -> Result<(),
     Ok(())
 }
 
-// Whatever stands in the plain file counts for nothing if the next log is enough, and is needed if it is not.
+const NO_LOG: Told = Err(Refusal::BadLog {
+    number: 0,
+    offset: 0,
+});
+
+const NONE_LEFT: Told = Err(Refusal::LogCount);
+
+// Whatever stands in the plain file counts for nothing if the next log is enough, and is needed if it is not. An empty file
+// and one that was given up are none.
 #[test]
 fn a_plain_file_counts_only_if_it_is_needed(rt: HostRuntime) -> Result<(), Fail> {
     let alloc = rt.alloc();
-    for (walk, want) in [
-        (Some(WALK), Ok((1, 9, Some(0), Some(WALK.rows)))),
-        (
-            None,
-            Err(Refusal::BadLog {
-                number: 0,
-                offset: 0,
-            }),
-        ),
+    for (image, want) in [
+        (b"any".as_slice(), NO_LOG),
+        (b"", NONE_LEFT),
+        (b"\x00", NONE_LEFT),
+        (b"\x00any", NONE_LEFT),
     ] {
-        let (_, odd) = files_with(alloc, Some(6), Some(9)).expect(&rt, "files in memory");
-        let lost = MemDisk::with_image(alloc, b"any".to_vec(alloc)?, Vec::new(alloc), None)?;
-        let told = told_of(recover_files(alloc, (LogSlot::Closed(lost), odd), walk));
-        assert!(rt; told == want, "{told:?}");
+        for (walk, want) in [
+            (Some(WALK), Ok((1, 9, Some(0), Some(WALK.rows)))),
+            (None, want),
+        ] {
+            let (_, odd) = files_with(alloc, Some(6), Some(9)).expect(&rt, "files in memory");
+            let lost = MemDisk::with_image(alloc, image.to_vec(alloc)?, Vec::new(alloc), None)?;
+            let told = told_of(recover_files(alloc, (LogSlot::Closed(lost), odd), walk));
+            assert!(rt; told == want, "{image:?}: {told:?}");
+        }
     }
     Ok(())
 }

@@ -129,9 +129,6 @@ fn is_refused(
     refusal: StoreRefusal,
     want: Heard,
 ) -> bool {
-    if logs.len() > 64 {
-        return false;
-    }
     let tenants = Tenants::new(alloc);
     let mut heard = Heard {
         numbered: 0,
@@ -155,9 +152,6 @@ fn is_refused_after(
 
 // Whether of three logs this one is told, which ends at its first batch: each time they are opened, and by a recovery.
 fn is_told_bad(alloc: Global, logs: &mut [StoreLog<MemDisk>], number: u8) -> bool {
-    if logs.len() > 64 {
-        return false;
-    }
     let bad = Refusal::BadLog { number, offset: 8 };
     let log = usize::from(number);
     for _ in 0..2 {

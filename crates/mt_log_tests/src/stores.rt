@@ -247,21 +247,15 @@ impl Store {
     pub fn recover_logs(&mut self) -> Result<Recovered, Refusal> {
         let mut tenants = Tenants::new(self.alloc);
         tenants.add(7, 8)?;
-        if self.logs.len() > 64 {
-            return Err(Refusal::NoStore);
-        }
         let slots = &mut self.slots;
         match recover_store(self.alloc, &mut self.logs, slots, &tenants, &mut NoWatch) {
-            Ok(recovered) => Ok(recovered),
+            Ok(store) => Ok(store.recovered),
             Err(e) => Err(e.refusal()),
         }
     }
 
     /// How many batches a worker's log has, once all were opened.
     pub fn batches(&mut self, worker: usize) -> Result<usize, Refusal> {
-        if self.logs.len() > 64 {
-            return Err(Refusal::NoStore);
-        }
         match open_logs(self.alloc, &mut self.logs, &[None, None], &mut NoWatch) {
             Ok(chains) => Ok(batches_in(&chains.fronts, worker)),
             Err(e) => Err(e.refusal),

@@ -10,7 +10,7 @@ use Rattle.mt_crashes.{specs.{Fronts.In, Bases.Slots}, proofs.{Members.{no_some,
 use Rattle.mt_generations.{specs.{Chains.Chain, Standings.{Standing, joined, chain_from, AreFrom}}, proofs.Deciding.have_all}
 use Rattle.mt_recover.specs.{declared.resuming.LogSlot.LogSlot, declared.resuming.LogSlot.TheVariants.{Open, Failed, Closed, Away}, Limits.AreContents}
 use Rattle.mt_chains.specs.{declared.worker_logs.WorkerLogs.WorkerLogs, Files.{standing_of, numbered_log, SameNumbered}}
-use Rattle.mt_log_files.specs.{declared.worker.WorkerFiles.WorkerFiles, Slots.{disk_in, Opens, OpensNumbered}}
+use Rattle.mt_log_files.specs.{declared.worker.WorkerFiles.WorkerFiles, Slots.{disk_in, OpensPlain, OpensNumbered}}
 use Rattle.mt_chain_files.specs.{declared.opening.Chains.Chains, Numbered.{OpensWorker, OpensNumberedFiles}, Chosen.{ReadsPlain, OpensChains}}
 use Rattle.mt_chain_files.proofs.{Loops.zip_count, Agreeing.agree_self, Lasts.as_many_chains}
 use Rattle.mt_store_logs.proofs.Loops.{get_within}
@@ -110,15 +110,17 @@ logs_are one read (suc n) c is =
     (sym (cond-false (suc n == 0) (option_map contents_of one.plain) (numbered_log (suc n) one.numbered) (ne_eqb (suc n) 0 (λ e. omega (arith, e)))) ∙ is)
 
 module _ {D : Type 0} (is_honest : D → Bool) (state : D → DiskState) (failures : D → ℕ) where
-  plain_read : (old : Option D) (new : LogSlot D) (front : Front) → Opens is_honest state failures old new front → IsLogOf 0 (contents_of front)
-  plain_read (Some disk) (Open log) front o = (o.contents, o.of_kind)
-  plain_read (Some disk) (Failed log) front o = absurd o
-  plain_read (Some disk) (Closed new) front o = absurd o
-  plain_read (Some disk) Away front o = absurd o
-  plain_read None (Open log) front o = absurd o
-  plain_read None (Failed log) front o = absurd o
-  plain_read None (Closed new) front o = absurd o
-  plain_read None Away front o = absurd o
+  plain_read : (old : Option D) (new : LogSlot D) (found : Option Front) → OpensPlain is_honest state failures old new found → IsPlainLog found
+  plain_read old new None o front there = absurd (no_some front there)
+  plain_read (Some disk) (Open log) (Some read) o front there =
+      subst (λ (f : Front). IsLogOf 0 (contents_of f)) (same_Some read front there) (o.contents, o.of_kind)
+  plain_read (Some disk) (Failed log) (Some read) o front there = absurd o
+  plain_read (Some disk) (Closed new) (Some read) o front there = absurd o
+  plain_read (Some disk) Away (Some read) o front there = absurd o
+  plain_read None (Open log) (Some read) o front there = absurd o
+  plain_read None (Failed log) (Some read) o front there = absurd o
+  plain_read None (Closed new) (Some read) o front there = absurd o
+  plain_read None Away (Some read) o front there = absurd o
 
   numbered_read : (parity : Parity) (old : Option D) (new : LogSlot D) (found : Option Front) → OpensNumbered is_honest state failures parity old new found
       → IsNumberedLog found
@@ -170,10 +172,9 @@ module _ {D : Type 0} (is_honest : D → Bool) (state : D → DiskState) (failur
         let mid = within_place between k below in
         let is = within_place new k (omega (arith, below, more)) in
         let p = read.1.each k mid.0 is.0 below mid.1 is.1 in
-        let has : one.plain ≡ Some p.2.0 = ap (λ (w : WorkerLogs). w.plain) (same_Some one p.0 (sym there ∙ p.1)) ∙ p.2.1 in
+        let same = same_Some p.0 one (sym p.1 ∙ there) in
         record {
-          plain = λ front at.
-              subst (λ (f : Front). IsLogOf 0 (contents_of f)) (same_Some p.2.0 front (sym has ∙ at)) (plain_read (disk_in mid.0.plain) is.0.plain p.2.0 p.2.2);
+          plain = subst (λ (w : WorkerLogs). IsPlainLog w.plain) same (plain_read (disk_in mid.0.plain) is.0.plain p.0.plain p.2.0);
           numbered = subst (AllByRecursion IsNumberedLog) was.2 (first_read old between first numbered k was.0 was.1).numbered;
         }
 

@@ -20,6 +20,7 @@ pub mod NextLaws
 pub mod RestingDisks
 pub mod OlderLaws
 pub mod NextTurn
+pub mod OneGeneration
 pub mod LastStarts
 pub mod NextLogs
 pub mod UsedSlots

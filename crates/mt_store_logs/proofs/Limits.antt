@@ -9,9 +9,9 @@ use Rattle.mt_store_logs.{specs.{declared.store_log.StoreLog.StoreLog, Taking.fi
 
 -- ---- what a recovery of chains gives may be put into a state
 
-module _ {D : Type 0} (is_honest : D → Bool) (state : D → DiskState) (failures : D → ℕ) (accounts : Accounts) (r : Recovered)
+module _ {D : Type 0} (is_honest : D → Bool) (state : D → DiskState) (failures : D → ℕ) (accounts : Accounts) (r : Recovered) (generation : ℕ)
     (old : List (StoreLog D)) (slots : StoreSlots D) (new : List (StoreLog D)) (now : StoreSlots D)
-    (again : ServesAgain is_honest state failures accounts r old slots new now) where
+    (again : ServesAgain is_honest state failures accounts r generation old slots new now) where
   in_format : AreContents (map contents_of again.chains.fronts.items)
   in_format =
       chains_in_format is_honest state failures (slots_of (in_order again.found)) (map files_of old) again.opens.files again.chains again.opens.opens

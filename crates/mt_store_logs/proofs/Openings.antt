@@ -111,3 +111,7 @@ module _ {D : Type 0} (is_honest : D → Bool) (state : D → DiskState) (failur
     }));
     back = record { len = refl; each = λ k was is below. absurd (omega (arith, below)) };
   })
+
+  -- nor are too many
+  pub many_stop : (logs : List (StoreLog D)) → 64 < length logs → StopsOpening is_honest state failures slots (record { log = None; refusal = refusals.LogCount }) logs logs
+  many_stop logs over = inl (inr (refl, over), refl)

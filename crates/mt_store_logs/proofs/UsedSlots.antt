@@ -29,11 +29,11 @@ both_end chains found First w is = read_ends chains (slots_of (in_order found)) 
 both_end chains found Second w is = read_ends chains (slots_of (in_order found)) found.second w (inr (inl refl)) (sure_walk found.second w is)
 
 module _ {D : Type 0} (is_honest : D → Bool) (state : D → DiskState) (failures : D → ℕ) where
-  pub used_ends : (accounts : Accounts) (r : Recovered) (old new : List (StoreLog D)) (slots now : StoreSlots D)
-      → (is : ServesAgain is_honest state failures accounts r old slots new now) → NewestEndsBy (only_these is.found) r.resume now
-  used_ends accounts r old new slots now is slot w newest has =
+  pub used_ends : (accounts : Accounts) (r : Recovered) (generation : ℕ) (old new : List (StoreLog D)) (slots now : StoreSlots D)
+      → (is : ServesAgain is_honest state failures accounts r generation old slots new now) → NewestEndsBy (only_these is.found) r.resume now
+  used_ends accounts r generation old new slots now is slot w newest has =
       inl (subst (λ n. w.last ≤ n) (sym is.recovers.over.resume_is) (both_end (map contents_of is.chains.fronts.items) is.found slot w has))
 
-  pub used_owes : (accounts : Accounts) (r : Recovered) (old new : List (StoreLog D)) (slots now : StoreSlots D)
-      → ServesAgain is_honest state failures accounts r old slots new now → now.owed ≡ 0
-  used_owes accounts r old new slots now is = ap (λ (s : StoreSlots D). s.owed) is.keeps
+  pub used_owes : (accounts : Accounts) (r : Recovered) (generation : ℕ) (old new : List (StoreLog D)) (slots now : StoreSlots D)
+      → ServesAgain is_honest state failures accounts r generation old slots new now → now.owed ≡ 0
+  used_owes accounts r generation old new slots now is = ap (λ (s : StoreSlots D). s.owed) is.keeps

@@ -5,6 +5,7 @@ pub mod Places
 pub mod Waits
 pub mod Flushes
 pub mod LogTurns
+pub mod Leaves
 pub mod Recovers
 pub mod OldBases
 pub mod Crashes

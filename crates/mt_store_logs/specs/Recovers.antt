@@ -14,6 +14,7 @@ use Rattle.mt_slots.specs.{Places.{Both, in_order, with_newest, refusal_for}, Ca
 use Rattle.mt_store_logs.specs.{declared.fault.StoreRefusal.StoreRefusal, declared.fault.StoreRefusal.TheVariants.{Logs as OfLogs, Slot as OfSlot}}
 use Rattle.mt_store_logs.specs.{declared.fault.LogRefusal.LogRefusal, declared.store_log.StoreLog.StoreLog, Lists.{Each, StopsAt}}
 use Rattle.mt_store_logs.specs.{Places.{slot_of, OnLast}, Taking.{OpensLogs, StopsOpening}}
+pub use Rattle.mt_store_logs.specs.Leaves.{NoneBegun, GivesUpAll, StopsGivingUpAt, StopsGivingUp, LeavesOne}
 
 -- what was read of the slots, by its pairs
 abbrev pub slots_of : List (Option Checkpoint) → Slots
@@ -62,17 +63,20 @@ module _ {D : Type 0} (is_honest : D → Bool) (state : D → DiskState) (failur
   abbrev pub StopsResuming : ℕ → ℕ → LogRefusal → List (StoreLog D) → List (StoreLog D) → Type 0
   StopsResuming kept to e old new = StopsResumingAt kept to e.log e.refusal old new
 
-  -- Both slots were read, then the files of all logs were opened, the store was recovered from what both tell, and each log has its resume batch. The newest
-  -- checkpoint is the one that was used, and it owes nothing.
-  pub record ServesAgain (accounts : Accounts) (r : Recovered) (old : List (StoreLog D)) (slots : StoreSlots D) (new : List (StoreLog D)) (now : StoreSlots D) : Type 0 where
+  -- Both slots were read, then the files of all logs were opened, the store was recovered from what both tell, and each log has its resume batch. What is older
+  -- than the generation of the chains was given up, unless a worker has begun the next one. The newest checkpoint is the one that was used, and it owes nothing.
+  pub record ServesAgain (accounts : Accounts) (r : Recovered) (generation : ℕ) (old : List (StoreLog D)) (slots : StoreSlots D) (new : List (StoreLog D)) (now : StoreSlots D) : Type 0 where
     pub rested : StoreSlots D
     pub found : Both (Option Checkpoint)
     pub reads : ReadsBoth is_honest state failures slots rested found
     pub mid : List (StoreLog D)
     pub chains : Chains
     pub opens : OpensLogs is_honest state failures (slots_of (in_order found)) old mid chains
+    pub from : generation ≡ chains.generation
     pub recovers : IsRecoveredOf accounts (slots_of (in_order found)) chains.fronts.items r
-    pub resumes : ResumesAll r.cutoff r.resume mid new
+    pub resumed : List (StoreLog D)
+    pub resumes : ResumesAll r.cutoff r.resume mid resumed
+    pub leaves : LeavesOne is_honest state failures chains.begun.items resumed new
     pub keeps : now ≡ with_newest (used_slot r.used) rested
 
   -- they were, and there is no recovery from what both tell
@@ -91,12 +95,25 @@ module _ {D : Type 0} (is_honest : D → Bool) (state : D → DiskState) (failur
     pub recovers : IsRecoveredOf accounts read chains.fronts.items r
     pub stops : StopsResuming r.cutoff r.resume e mid new
 
+  -- each has its resume batch, and one older log may be there or not
+  pub record GivesUpInPart (accounts : Accounts) (e : LogRefusal) (read : Slots) (old new : List (StoreLog D)) : Type 0 where
+    pub mid : List (StoreLog D)
+    pub chains : Chains
+    pub opens : OpensLogs is_honest state failures read old mid chains
+    pub r : Recovered
+    pub recovers : IsRecoveredOf accounts read chains.fronts.items r
+    pub resumed : List (StoreLog D)
+    pub resumes : ResumesAll r.cutoff r.resume mid resumed
+    pub none : NoneBegun chains.begun.items
+    pub stops : StopsGivingUp is_honest state failures e resumed new
+
   -- both slots were read, and then there was no recovery
   pub record StopsAfterSlots (accounts : Accounts) (e : LogRefusal) (old : List (StoreLog D)) (slots : StoreSlots D) (new : List (StoreLog D)) (now : StoreSlots D) : Type 0 where
     pub found : Both (Option Checkpoint)
     pub reads : ReadsBoth is_honest state failures slots now found
     pub why : StopsOpening is_honest state failures (slots_of (in_order found)) e old new
-        ⊎ (IsRefusedOf accounts e (slots_of (in_order found)) old new ⊎ ResumesInPart accounts e (slots_of (in_order found)) old new)
+        ⊎ (IsRefusedOf accounts e (slots_of (in_order found)) old new
+        ⊎ (ResumesInPart accounts e (slots_of (in_order found)) old new ⊎ GivesUpInPart accounts e (slots_of (in_order found)) old new))
 
   -- A slot was not read, and no log was touched. Or both were read, and a log was not opened, the store was refused, or a log stopped it.
   abbrev pub IsNotRecovered : Accounts → StoreRefusal → List (StoreLog D) → StoreSlots D → List (StoreLog D) → StoreSlots D → Type 0

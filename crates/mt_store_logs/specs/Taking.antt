@@ -1,5 +1,5 @@
 -- The files of all logs, taken out, opened, and put back.
-use Rattle.std.specs.Prelude.{◌≡◌, ◌⊎◌, ℕ, Bool, false, List, [], map, Some, None, slice_get}
+use Rattle.std.specs.Prelude.{◌≡◌, ◌⊎◌, ◌<◌, ℕ, Bool, false, List, [], map, length, Some, None, slice_get}
 use Rattle.mt_disk.specs.Disk.{DiskState}
 use Rattle.mt_crashes.specs.Bases.{Slots}
 use Rattle.mt_log_files.specs.declared.worker.WorkerFiles.{WorkerFiles}
@@ -42,6 +42,11 @@ HaveTheirFiles g begun files old new = Each (HasItsFiles g begun files) old new
 abbrev pub fault_of : LogRefusal → FilesFault
 fault_of e = record { log = e.log; refusal = e.refusal }
 
+-- There is no memory for a list of files, or there are more logs than a store has.
+abbrev pub IsRefusedAtOnce : {D : Type 0} → LogRefusal → List (StoreLog D) → Type 0
+IsRefusedAtOnce e logs =
+    (e ≡ record { log = None; refusal = refusals.Memory }) ⊎ ((e ≡ record { log = None; refusal = refusals.LogCount }) × (64 < length logs))
+
 module _ {D : Type 0} (is_honest : D → Bool) (state : D → DiskState) (failures : D → ℕ) (slots : Slots) where
   -- The files of all logs were opened, and gave these chains. The last log of each worker is the one that was read last.
   pub record OpensLogs (old new : List (StoreLog D)) (chains : Chains) : Type 0 where
@@ -55,6 +60,6 @@ module _ {D : Type 0} (is_honest : D → Bool) (state : D → DiskState) (failur
     pub stops : StopsChains is_honest state failures slots (fault_of e) (map files_of old) files
     pub back : HaveTheirFiles 0 [] files old new
 
-  -- or there was no memory for a list of files, and nothing was done
+  -- or nothing was done
   abbrev pub StopsOpening : LogRefusal → List (StoreLog D) → List (StoreLog D) → Type 0
-  StopsOpening e old new = ((e ≡ record { log = None; refusal = refusals.Memory }) × (new ≡ old)) ⊎ StopsFiles e old new
+  StopsOpening e old new = (IsRefusedAtOnce e old × (new ≡ old)) ⊎ StopsFiles e old new

@@ -164,6 +164,23 @@ pub fn a_turn_goes_on_to_the_next_generation<D: Disk>()
         → (then : FilesNow) × StandsInTurn D.is_honest D.state g now then log × (now_of g then ≡ Spare) × (now_of (g + 1) then ≡ now_of (g + 1) files) }
 {}
 
+/// Once a recovery has given up the older log, the generation of the last log alone is left: it is the turn's first one, and
+/// the file for the next one is spare. The file of the last log stays. So it is whether the older log counted before or not.
+/// If it fails, the log is in the turn from the generation before, and its older log may be there or not.
+pub fn a_recovery_leaves_one_generation<D: Disk>()
+    ensures first { (g : ℕ) (now : LogNow) (files : FilesNow) (old new : StoreLog D) → StandsInTurn D.is_honest D.state g now files old
+        → old.log.generation ≡ g → old.next_in_doubt ≡ false → OnLog old.next_in_doubt (GivesUpOlder D.is_honest D.state D.failures) old new
+        → (then : FilesNow) × StandsInTurn D.is_honest D.state g now then new × (now_of g then ≡ now_of g files) × (now_of (g + 1) then ≡ Spare) }
+    ensures next { (g : ℕ) (now : LogNow) (files : FilesNow) (old new : StoreLog D) → StandsInTurn D.is_honest D.state g now files old
+        → old.log.generation ≡ g + 1 → OnLog old.next_in_doubt (GivesUpOlder D.is_honest D.state D.failures) old new
+        → (then : FilesNow) × StandsInTurn D.is_honest D.state (g + 1) now then new × (now_of (g + 1) then ≡ now_of (g + 1) files)
+        × (now_of (g + 1 + 1) then ≡ Spare) }
+    ensures failed { (g : ℕ) (now : LogNow) (files : FilesNow) (e : Refusal) (old new : StoreLog D) → StandsInTurn D.is_honest D.state (g + 1) now files old
+        → old.log.generation ≡ g + 1 → old.next_in_doubt ≡ false
+        → OnLog old.next_in_doubt (FailsToGiveUpOlder D.is_honest D.state D.failures e) old new
+        → (then : FilesNow) × StandsInTurn D.is_honest D.state g now then new × (now_of (g + 1) then ≡ now_of (g + 1) files) }
+{}
+
 /// Whatever a crash leaves of the file of the last log, a log is there. It begins by the step at which the whole log ends, if
 /// the batches of that join and rise.
 pub fn a_last_log_began_by_where_it_ends<D: Disk>()
@@ -228,10 +245,10 @@ pub fn a_resume_batch_comes_to_rest<D: Disk>()
 /// Once a store serves again, its newest checkpoint ends by the step from which the store goes on. Each log goes up to that
 /// step. So the newest is settled, and nothing is owed.
 pub fn the_checkpoint_that_was_used_is_settled<D: Disk>()
-    ensures ends { (accounts : Accounts) (r : Recovered) (old new : List (StoreLog D)) (slots now : StoreSlots D)
-        → (is : ServesAgain D.is_honest D.state D.failures accounts r old slots new now) → NewestEndsBy (only_these is.found) r.resume now }
-    ensures owed { (accounts : Accounts) (r : Recovered) (old new : List (StoreLog D)) (slots now : StoreSlots D)
-        → ServesAgain D.is_honest D.state D.failures accounts r old slots new now → now.owed ≡ 0 }
+    ensures ends { (accounts : Accounts) (r : Recovered) (generation : ℕ) (old new : List (StoreLog D)) (slots now : StoreSlots D)
+        → (is : ServesAgain D.is_honest D.state D.failures accounts r generation old slots new now) → NewestEndsBy (only_these is.found) r.resume now }
+    ensures owed { (accounts : Accounts) (r : Recovered) (generation : ℕ) (old new : List (StoreLog D)) (slots now : StoreSlots D)
+        → ServesAgain D.is_honest D.state D.failures accounts r generation old slots new now → now.owed ≡ 0 }
 {}
 
 /// A crash changes nothing of what a crash may leave.

@@ -31,7 +31,7 @@ pub use flushing::{Flushed, bring_up, flush};
 pub use last_log::{LastLog, WaitingBatch};
 pub use mt_chain_files::{Chains, NoWatch, Watch};
 pub use opening::{closed_logs, create_logs, open_logs};
-pub use recovering::recover_store;
+pub use recovering::{RecoveredStore, recover_store};
 pub use source::Source;
 pub use store_log::StoreLog;
 pub use turning::flush_and_begin;

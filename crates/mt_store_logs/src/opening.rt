@@ -1,6 +1,6 @@
 //! The logs of a store made anew, or opened.
 
-ghost use Rattle.std.specs.Prelude.{◌≡◌, ◌<◌, ◌≤◌, length, vec_len, IfOk, IfErr, OnOk, OnErr};
+ghost use Rattle.std.specs.Prelude.{◌≡◌, ◌<◌, ◌≤◌, ◌^◌, length, vec_len, IfOk, IfErr, OnOk, OnErr};
 ghost use Rattle.mt_store_logs.specs.{Opens.AreClosedOn, Places.{disk_in, worker_of, workers_of}, Recovers.slots_of, Taking.{OpensLogs, StopsOpening}};
 ghost use Rattle.mt_store_logs.specs.Opens.{Makes, FailsToMake, MakesSpare, MakesFiles, FailsToMakeFiles, MakesLog, FailsToMakeLog, MakesAll, StopsMaking};
 
@@ -151,20 +151,21 @@ fn create_on<D: Disk + Drop>(
 /// open then. A batch that was kept is given up. `watch` is told how far that is.
 ///
 /// An error is `Memory` of no log if there is no room for a list of files: then nothing has changed. It is `LogCount` of no
-/// log if there are none. Else it is that of `open_chains`, and tells the log that is the cause, if it is one. Then it isn't
-/// known which log of each worker is the last one. No disk is lost, so it can be called again.
+/// log if there are none, or more than 64: then too nothing has changed. Else it is that of `open_chains`, and tells the log
+/// that is the cause, if it is one. Then it isn't known which log of each worker is the last one. No disk is lost, so it can
+/// be called again.
 pub fn open_logs<D: Disk + Drop, W: Watch>(
     alloc: Global,
     logs: &mut [StoreLog<D>],
     checkpoints: &[Option<Checkpoint>; 2],
     watch: &mut W,
 ) -> Result<Chains, LogRefusal>
-    requires few { length logs.old ≤ 64 }
     ensures workers { workers_of logs.new ≡ workers_of logs.old }
     ensures ok { IfOk result (λ chains. OpensLogs D.is_honest D.state D.failures (slots_of checkpoints.now) logs.old logs.new chains) }
+    ensures last { IfOk result (λ chains. chains.generation ≤ 2 ^ 59) }
     ensures err { IfErr result (λ e. StopsOpening D.is_honest D.state D.failures (slots_of checkpoints.now) e logs.old logs.new) }
 {
-    if logs.is_empty() {
+    if logs.is_empty() || logs.len() > 64 {
         return Err(LogRefusal::of_all(Refusal::LogCount));
     }
     let mut files = match Vec::with_capacity(alloc, logs.len()) {

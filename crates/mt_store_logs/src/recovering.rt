@@ -1,8 +1,9 @@
 //! A store brought up again: its slots read, its logs opened, and each with the batch with which a recovery ends.
 
-ghost use Rattle.std.specs.Prelude.{◌≡◌, ◌≤◌, ◌^◌, length, IfOk, IfErr, OnOk};
+ghost use Rattle.std.specs.Prelude.{◌≡◌, ◌≤◌, ◌^◌, IfOk, IfErr, OnOk, OnErr};
 ghost use Rattle.mt_recover.specs.Resumes.{IsOpenUpto};
-ghost use Rattle.mt_store_logs.specs.{Places.{slot_of, worker_of, workers_of}, Recovers.{used_slot, AreOpenUpto, ResumesLog, FailsToResumeLog, ResumesAll, StopsResuming, ServesAgain, IsNotRecovered}};
+ghost use Rattle.mt_store_logs.specs.{Places.{slot_of, worker_of, workers_of}, Recovers.{used_slot, AreOpenUpto, ResumesLog, FailsToResumeLog, ResumesAll, StopsResuming}};
+ghost use Rattle.mt_store_logs.specs.{Leaves.{NoneBegun, GivesUpAll, StopsGivingUp, LeavesOne}, Recovers.{ServesAgain, IsNotRecovered}};
 
 use crate::fault::{LogRefusal, StoreRefusal};
 use crate::opening::open_logs;
@@ -14,40 +15,54 @@ use mt_rows::{Refusal, Tenants};
 use mt_slots::{Slot, StoreSlots};
 use std::alloc::Global;
 
+/// A store that was recovered: what its files told, and the generation from which on its logs stand. Its next turn goes to
+/// the generation after that one.
+#[derive(Debug, Drop)]
+pub struct RecoveredStore {
+    pub recovered: Recovered,
+    pub generation: u64,
+}
+
 /// Reads the slots of a store, opens the files of its logs, recovers it from what both tell, and appends to the last log of
 /// each worker the batch with which a recovery ends. Then the last logs are open, go up to the step from which the store
-/// goes on, and keep no batch. The checkpoint that was used is the newest one, and owes nothing. `watch` is told how far the
+/// goes on, and keep no batch. If no worker has begun the next generation, the logs of the one before are given up: the
+/// recovery did without them. The checkpoint that was used is the newest one, and owes nothing. `watch` is told how far the
 /// opening is.
 ///
-/// An error tells the slot that was not read, the log that was not opened or got no such batch, or, of all logs, why there
-/// is no recovery. No file of a log is opened before both slots were read, and nothing is appended before all files are
-/// open. No disk is lost, and what a crash may leave of each is what it might before, or that with the batch. So the store
-/// can be recovered again, with or without a crash.
+/// An error tells the slot that was not read, the log that was not opened, got no such batch or was not given up, or, of
+/// all logs, why there is no recovery. No file of a log is opened before both slots were read, nothing is appended before
+/// all files are open, and nothing is given up before all logs have their batches. No disk is lost, and what a crash may
+/// leave of each is what it might before, or that with the batch. So the store can be recovered again, with or without a
+/// crash.
 pub fn recover_store<D: Disk + Drop, W: Watch>(
     alloc: Global,
     logs: &mut [StoreLog<D>],
     slots: &mut StoreSlots<D>,
     tenants: &Tenants,
     watch: &mut W,
-) -> Result<Recovered, StoreRefusal>
-    requires few { length logs.old ≤ 64 }
+) -> Result<RecoveredStore, StoreRefusal>
     ensures workers { workers_of logs.new ≡ workers_of logs.old }
-    ensures ok { IfOk result (λ recovered. ServesAgain D.is_honest D.state D.failures tenants.now recovered logs.old slots.old logs.new slots.new) }
+    ensures ok { IfOk result (λ r. ServesAgain D.is_honest D.state D.failures tenants.now r.recovered r.generation logs.old slots.old logs.new slots.new) }
+    ensures last { IfOk result (λ r. r.generation ≤ 2 ^ 59) }
     ensures err { IfErr result (λ e. IsNotRecovered D.is_honest D.state D.failures tenants.now e logs.old slots.old logs.new slots.new) }
 {
     let read = slots.read(alloc)?;
     let Chains {
-        generation: _,
+        generation,
         fronts,
-        begun: _,
+        begun,
     } = open_logs(alloc, logs, &read, watch)?;
     let recovered = match recover(alloc, fronts, read, tenants) {
         Ok(recovered) => recovered,
         Err(refusal) => return Err(StoreRefusal::Logs(LogRefusal::of_all(refusal))),
     };
     resume_logs(alloc, logs, &recovered)?;
+    leave_one(logs, &begun)?;
     slots.keep(used_slot(recovered.used));
-    Ok(recovered)
+    Ok(RecoveredStore {
+        recovered,
+        generation,
+    })
 }
 
 // The slot of this number.
@@ -104,4 +119,32 @@ fn resume_log<D: Disk + Drop>(
     let resumed = resume_at(alloc, &mut last.slot, kept, to);
     log.put_last(last);
     resumed
+}
+
+// Gives up the logs of the generation before the last ones, if no worker has begun the next one. So one generation is left.
+fn leave_one<D: Disk + Drop>(logs: &mut [StoreLog<D>], begun: &[bool]) -> Result<(), LogRefusal>
+    ensures workers { workers_of logs.new ≡ workers_of logs.old }
+    ensures ok { OnOk result (LeavesOne D.is_honest D.state D.failures begun.now logs.old logs.new) }
+    ensures none { OnErr result (NoneBegun begun.now) }
+    ensures err { IfErr result (λ e. StopsGivingUp D.is_honest D.state D.failures e logs.old logs.new) }
+{
+    if begun.contains(&true) {
+        Ok(())
+    } else {
+        give_up_all(logs)
+    }
+}
+
+// Gives up the older log of each worker.
+fn give_up_all<D: Disk + Drop>(logs: &mut [StoreLog<D>]) -> Result<(), LogRefusal>
+    ensures workers { workers_of logs.new ≡ workers_of logs.old }
+    ensures ok { OnOk result (GivesUpAll D.is_honest D.state D.failures logs.old logs.new) }
+    ensures err { IfErr result (λ e. StopsGivingUp D.is_honest D.state D.failures e logs.old logs.new) }
+{
+    for place in 0..logs.len() {
+        if let Err(refusal) = logs[place].give_up_older() {
+            return Err(LogRefusal::at(place, refusal));
+        }
+    }
+    Ok(())
 }
