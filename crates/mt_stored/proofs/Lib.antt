@@ -1,5 +1,4 @@
 pub mod Making
-pub mod NextTurn
 pub mod PageKeys
 pub mod Rounds
 pub mod Slices

@@ -5,13 +5,6 @@ use Rattle.mt_disk.specs.Disk.{DiskState}
 use Rattle.mt_store_logs.specs.{declared.store_log.StoreLog.StoreLog, LogTurns.IsNotReopened}
 use Rattle.mt_store_logs.specs.Turns.{ReopensLog, FlushesLog, FailsToFlushLog, FlushesAndBegins, FailsToFlushAndBegin}
 
--- The generation to which a store's first turn after a start goes: the greatest of 1 and the generations of its last logs. So a turn that is half done is
--- finished, and a store of plain logs begins generation 1.
-pub record IsNextTurn {D : Type 0} (logs : List (StoreLog D)) (generation : ℕ) : Type 0 where
-  pub some : 1 ≤ generation
-  pub all : (k : ℕ) (log : StoreLog D) → slice_get logs k ≡ Some log → log.log.generation ≤ generation
-  pub among : (generation ≡ 1) ⊎ ((k : ℕ) × (log : StoreLog D) × (slice_get logs k ≡ Some log) × (generation ≡ log.log.generation))
-
 module _ {D S : Type 0} (is_honest : D → Bool) (state : D → DiskState) (failures : D → ℕ) (gives : S → S → ℕ → Batch → Type 0) (upto : ℕ) (generation : ℕ) where
   -- the log was flushed; and if its last log is of an earlier generation, the next one was begun where it ends
   abbrev pub FlushesOrBegins : ℕ → StoreLog D → StoreLog D → S → S → Type 0

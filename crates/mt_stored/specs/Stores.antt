@@ -1,5 +1,5 @@
 -- A store that is owned alone: how it is made and recovered, what a turn of one of its logs makes of it, and when it is settled.
-use Rattle.std.specs.Prelude.{◌≡◌, ◌⊎◌, ℕ, ◌<◌, Bool, List, length, slice_get, slice_set, Option, Some, None, Ok, Err}
+use Rattle.std.specs.Prelude.{◌≡◌, ◌⊎◌, ℕ, ◌+◌, ◌<◌, Bool, List, length, slice_get, slice_set, Option, Some, None, Ok, Err}
 use Rattle.mt_rows.specs.{Accounts.Accounts, declared.record.Batch.Batch, declared.refusal.Refusal.TheVariants.{Memory, Device}}
 use Rattle.mt_disk.specs.Disk.{DiskState}
 use Rattle.mt_state.specs.{Views.StateView, Begins.new_state}
@@ -45,14 +45,16 @@ module _ {D : Type 0} (is_honest : D → Bool) (state : D → DiskState) (failur
     pub slots_made : MakesBoth is_honest state failures bare made
 
   -- A store that was recovered from these files and slots: its logs have what a recovery gives them, and its state has the pairs of the recovery, and goes on
-  -- from there.
-  pub record IsRecoveredStore (files : List (WorkerFiles D)) (found : StoreSlots D) (accounts : Accounts) (v : StateView) (logs : List (StoreLog D)) (slots : Option (StoreSlots D)) : Type 0 where
+  -- from there. Its next turn goes to the generation after that from which its logs stand.
+  pub record IsRecoveredStore (files : List (WorkerFiles D)) (found : StoreSlots D) (accounts : Accounts) (v : StateView) (logs : List (StoreLog D)) (slots : Option (StoreSlots D)) (next : ℕ) : Type 0 where
     pub recovered : Recovered
+    pub generation : ℕ
+    pub next_is : next ≡ generation + 1
     pub kept : StoreSlots D
     pub slots_are : slots ≡ Some kept
     pub closed : List (StoreLog D)
     pub closed_so : AreClosedOn (length files) files closed
-    pub serves : ServesAgain is_honest state failures accounts recovered closed found logs kept
+    pub serves : ServesAgain is_honest state failures accounts recovered generation closed found logs kept
     pub restored : IsRestored recovered.resume (length files) accounts recovered.pairs.items v
 
   -- none was, for the cause of a recovery

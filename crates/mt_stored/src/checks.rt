@@ -80,6 +80,13 @@ impl<D: Disk + Drop> Checks<D> {
         self.slots = Some(slots);
     }
 
+    /// The generation to which the next turn goes.
+    pub fn generation(&self) -> u64
+        ensures { result ≡ self.now.generation }
+    {
+        self.generation
+    }
+
     /// The slots, if they are here.
     pub fn into_slots(self) -> Option<StoreSlots<D>>
         ensures { result ≡ self.slots }

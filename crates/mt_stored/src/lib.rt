@@ -26,4 +26,4 @@ pub use keeping::{FLUSH_ANSWERS, Keeper};
 pub use shared::{SharedLogs, locked_logs, unlocked_logs};
 pub use source::SharedBook;
 pub use stores::Store;
-pub use turns::{TurnStop, next_turn, write_turn};
+pub use turns::{TurnStop, write_turn};

@@ -1,7 +1,7 @@
-//! A turn of all logs, with a checkpoint between its parts, and the generation to which the first one goes.
+//! A turn of all logs, with a checkpoint between its parts.
 
 ghost use Rattle.std.specs.Prelude.{◌≡◌, ◌<◌, IfOk, IfErr, vec_len};
-ghost use Rattle.mt_stored.specs.{Begins.IsNextTurn, Checkpoints.scanner, WholeTurns.{parts, TellsEnd, TellsOlder, WritesTurn, StopsTurn}};
+ghost use Rattle.mt_stored.specs.{Checkpoints.scanner, WholeTurns.{parts, TellsEnd, TellsOlder, WritesTurn, StopsTurn}};
 
 use crate::checkpoints::write_checkpoint;
 use log::Log;
@@ -10,7 +10,6 @@ use mt_disk::Disk;
 use mt_rows::Refusal;
 use mt_settle::{Logs, begin_all, give_up_all, settle};
 use mt_slots::StoreSlots;
-use mt_store_logs::StoreLog;
 use std::alloc::Global;
 use std::sync::Wait;
 use std::sync::ledger::Ledger;
@@ -23,18 +22,6 @@ pub enum TurnStop {
     Checkpoint(Refusal),
     /// A log did not go to the generation, or it was not settled, or its older one was not given up.
     Logs(Refusal),
-}
-
-/// The generation to which the first turn goes of a store that has just been recovered or made. If some logs have begun
-/// it and others have not, that turn finishes what was left half done.
-pub fn next_turn<D: Disk + Drop>(logs: &[StoreLog<D>]) -> u64
-    ensures { IsNextTurn logs.now result }
-{
-    let mut generation = 1;
-    for log in logs {
-        generation = log.generation().max(generation);
-    }
-    generation
 }
 
 /// Makes a turn of all logs, which goes to a generation. Each log that is of an earlier one is followed by its next log.

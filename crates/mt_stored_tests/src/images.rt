@@ -189,11 +189,9 @@ fn are_recovered(
     slots: &mut StoreSlots<MemDisk>,
     tenants: &Tenants,
     counts: &[u16],
-) -> Result<bool, Refusal>
-    requires few { length logs.old ≤ 64 }
-{
+) -> Result<bool, Refusal> {
     match recover_store(alloc, logs, slots, tenants, &mut NoWatch) {
-        Ok(recovered) => Ok(are_pairs(&recovered.pairs, counts)),
+        Ok(store) => Ok(are_pairs(&store.recovered.pairs, counts)),
         Err(e) => Err(e.refusal()),
     }
 }
@@ -204,7 +202,6 @@ fn have_own_in(
     logs: &mut [StoreLog<MemDisk>],
     counts: &[u16],
 ) -> Result<bool, Refusal>
-    requires few { length logs.old ≤ 64 }
     ensures count { length logs.new ≡ length logs.old }
 {
     match open_logs(alloc, logs, &[None, None], &mut NoWatch) {

@@ -169,7 +169,9 @@ pub(crate) fn joined<L: Ledger, R: Wait + Clock + Log + Abort>(
     logs: Vec<Mutex<StoreLog<FlakyDisk>>>,
 ) -> Store<FlakyDisk> {
     let logs = unlocked_logs(alloc, logs).expect(rt, "memory");
-    let mut store = Store::joined(book.into_inner().into_state(), logs, None).expect(rt, "a store");
+    let mut store = Store::joined(book.into_inner().into_state(), logs, None, 1).expect(
+        rt, "a store",
+    );
     assert!(rt; store.settle_last(rt, alloc).is_ok());
     store
 }

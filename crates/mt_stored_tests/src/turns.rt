@@ -11,7 +11,7 @@ use log::{Level, Log, Logged};
 use mt_book::{Book, BookLock};
 use mt_slots::Slot;
 use mt_store_logs::{FileImages, StoreLog};
-use mt_stored::{Checks, DueTurn, Store, locked_logs, next_turn, unlocked_logs};
+use mt_stored::{Checks, DueTurn, Store, locked_logs, unlocked_logs};
 use std::alloc::Global;
 use std::marker::Brand;
 use std::process::Abort;
@@ -83,6 +83,15 @@ fn play<L: Ledger, R: Wait + Clock + Log + Abort>(
     }
 }
 
+// The greatest generation of a last log.
+fn last_generation(logs: &[StoreLog<FlakyDisk>]) -> u64 {
+    let mut last = 0;
+    for log in logs {
+        last = log.generation().max(last);
+    }
+    last
+}
+
 // What is left of a store after these rounds.
 fn played<L: Ledger, R: Wait + Clock + Log + Abort>(
     rt: &R,
@@ -95,8 +104,9 @@ fn played<L: Ledger, R: Wait + Clock + Log + Abort>(
     requires parts { (blank.parts ≡ L.parts) × (L.parts ≡ 65536) }
     requires untaken { store.source.state.answers ≡ 0 }
 {
+    let next_turn = store.next_turn();
     let (state, logs, slots) = store.into_parts();
-    let checks = Mutex::new(Checks::new(1, slots, next_turn(&logs)));
+    let checks = Mutex::new(Checks::new(1, slots, next_turn));
     let logs = locked_logs(alloc, logs).expect(rt, "memory");
     let book = BookLock::new(Book::<L>::new(blank, state));
     play(rt, alloc, &book, &logs, &checks, case);
@@ -104,7 +114,7 @@ fn played<L: Ledger, R: Wait + Clock + Log + Abort>(
     let mut checks = checks.into_inner();
     Left {
         images: images_of(rt, alloc, &logs),
-        generation: next_turn(&logs),
+        generation: last_generation(&logs),
         due: checks.count_settled(u64::MAX).expect(rt, "a turn"),
     }
 }
