@@ -161,8 +161,8 @@ fn expect_generation<R: Files<File = File> + Alloc + Abort>(
     assert!(rt; len < SHORT, "{generation}: {len} bytes");
 }
 
-// A turn is made after each second settled answer. The first one after a start goes to the generation that the logs are of, if
-// there is one, and each later one to the next. After each start all that was settled is found.
+// A turn is made after each second settled answer, and goes to the next generation, also after a start. After each start all
+// that was settled is found.
 #[test]
 fn turns_follow_each_other_and_keep_the_logs_short(rt: HostRuntime) {
     let alloc = rt.alloc();
@@ -172,7 +172,7 @@ fn turns_follow_each_other_and_keep_the_logs_short(rt: HostRuntime) {
     serve(&rt, alloc, new, Scene::Settles);
     let again =
         "mt_server --workers 2 --store mt_server_tests_turns --checkpoint 2 --sessions 1 7:100";
-    for (times, generation) in [(2, 1), (6, 3), (21, 12)] {
+    for (times, generation) in [(2, 1), (6, 4), (21, 14)] {
         serve(&rt, alloc, again, Scene::Overwrites(times));
         expect_generation(&rt, alloc, generation);
         serve(&rt, alloc, again, Scene::ReadsBoth);

@@ -196,9 +196,13 @@ const BAD: [(Edits, usize, usize); 9] = [
     (&[(7, 65)], 55, 0),
 ];
 
-// What is changed of each log, and what is said of the folder `mt_server_tests_bad`: two logs of one worker, a stamp in both, two pairs if
-// one may be, a pair of another tenant.
-const REFUSED: [(&[Edits], &str); 4] = [
+// What is changed of each log, and what is said of the folder `mt_server_tests_bad`: a log that was given up, two logs of one worker, a
+// stamp in both, two pairs if one may be, a pair of another tenant.
+const REFUSED: [(&[Edits], &str); 5] = [
+    (
+        &[&[(0, 0)]],
+        "E15: the logs of 'mt_server_tests_bad' aren't all of one store; the folder has 1 log for 1 worker: put all files back from one backup",
+    ),
     (
         &[&[(7, 2)], &[(7, 2)]],
         "E15: the logs of 'mt_server_tests_bad' aren't all of one store; the folder has 2 logs for 2 workers: put all files back from one backup",

@@ -15,7 +15,7 @@ pub had_none : (r : Result (Unit {0}) Refusal) (o : Option Account) → is_ok r 
 had_none r None ok h = refl
 had_none r (Some account) ok h = absurd (let no : true ≡ false = sym ok ∙ ap is_ok (h (λ e. none-some account (sym e))) in cc)
 
--- the account of one of the tenants, where one more is added
+-- the account of one of the tenants, once one more is added
 each_more : (tenants : List TenantQuota) (n i : ℕ) (one other : TenantQuota) (old new : Accounts) → slice_get tenants n ≡ Some one → slice_get tenants i ≡ Some other → account_of old one.tenant ≡ None
     → account_of new one.tenant ≡ Some (opened one) → OthersStay old new one.tenant → AreAccountsOf n tenants old → (i ≡ n) ⊎ (i < n) → account_of new other.tenant ≡ Some (opened other)
 each_more tenants n i one other old new there here none added others before (inl e) =
@@ -30,7 +30,7 @@ each_more tenants n i one other old new there here none added others before (inr
 later : (n : ℕ) (tenants : List TenantQuota) (t : ℕ) → IsAmongFirst n tenants t → IsAmongFirst (n + 1) tenants t
 later n tenants t p = record { place = p.place; one = p.one; before = omega (arith, p.before); there = p.there; is = p.is }
 
--- who has an account, where one more is added
+-- who has an account, once one more is added
 only_more : (tenants : List TenantQuota) (n : ℕ) (one : TenantQuota) (old new : Accounts) (t : ℕ) (account : Account) → slice_get tenants n ≡ Some one
     → OthersStay old new one.tenant → AreAccountsOf n tenants old → account_of new t ≡ Some account → IsAmongFirst (n + 1) tenants t
 only_more tenants n one old new t account there others before has = elim (eqb_tells t one.tenant) [
@@ -64,12 +64,12 @@ has_none n tenants one old (Some account) e there servable before =
     let same : p.place ≡ n = servable.once p.place n p.one one p.there there p.is in
     absurd (omega (arith, same, p.before))
 
--- a refusal that is Memory where the tenants can be served
+-- a refusal that is Memory if the tenants can be served
 by_refusal : (tenants : List TenantQuota) (refusal : Refusal) → (AreServable tenants → refusal ≡ Memory) → IsOfTenants tenants (fault_of refusal)
 by_refusal tenants Memory h = tt
 by_refusal tenants refusal h = λ servable. absurd (omega (arith, ap number_of (h servable)))
 
--- why one of these tenants is refused: it can't be served behind the others
+-- why one of these tenants is refused: it can't be served after the others
 pub at_fault : (n : ℕ) (tenants : List TenantQuota) (one : TenantQuota) (old : Accounts) (refusal : Refusal) → slice_get tenants n ≡ Some one → AreAccountsOf n tenants old
     → (account_of old one.tenant ≡ None → IsQuota one.quota → refusal ≡ Memory) → IsOfTenants tenants (fault_of refusal)
 at_fault n tenants one old refusal there before no_other = by_refusal tenants refusal (λ servable. no_other (has_none n tenants one old _ refl there servable before) (servable.quotas n one there))

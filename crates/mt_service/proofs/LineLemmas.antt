@@ -5,7 +5,7 @@ use Rattle.mt_streams.{specs.Failures.{NoFewer, Failed}, proofs.{FailureLemmas.t
 use Rattle.mt_service.specs.{declared.faults.ServerFault.ServerFault, declared.faults.ServerFault.TheVariants.{Memory, Output}, Faults.{IsOfWriting, HasCause}}
 use Rattle.mt_service.specs.Lines.{first_line, last_line, Begins, SaysAll, SaysPart}
 
--- what holds in any case holds where there is an error
+-- what holds in any case holds if there is an error
 pub on_any : {T E P : Type 0} (r : Result T E) → P → OnErr r P
 on_any (Ok x) p = tt
 on_any (Err e) p = p
@@ -33,7 +33,7 @@ says_more held mid holds port sessions answers first (written, (lost, parts), ap
 pub says_all : (held mid holds : Option Bytes) (port sessions answers : ℕ) → Appends held mid (first_line port) → Appends mid holds (last_line sessions answers) → SaysAll held holds sessions
 says_all held mid holds port sessions answers first last = (port, answers, Appends-trans held mid holds (first_line port) (last_line sessions answers) first last)
 
--- why a line behind others isn't whole
+-- why a line after others isn't whole
 pub cause_of : (before mid after : Option ℕ) (e : ServerFault) → NoFewer before mid → IsOfWriting (Failed mid after) e → HasCause (Failed before after) e
 cause_of before mid after Memory none h = tt
 cause_of before mid after (Output error) none h = then-Failed before mid after none h

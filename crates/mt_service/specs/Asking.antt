@@ -29,7 +29,7 @@ abbrev pub asker : {S K : Type 0} → S → ℕ → ℕ → ℕ → List TenantQ
 asker desk worker seen counted tenants opened kept =
     record { desk = desk; worker = worker; seen = seen; counted = counted; tenants = tenants; opened = opened; kept = kept }
 
--- A tenant is opened exactly where it is served; of another one NoTenant is told, and nothing changes.
+-- A tenant is opened exactly if it is served; of another one NoTenant is told, and nothing changes.
 abbrev pub OpensTenant : {S K : Type 0} → Asker S K → ℕ → Option Refusal → Asker S K → Type 0
 OpensTenant old tenant None new = IsListed old.tenants tenant × (new ≡ record old { opened = Some tenant })
 OpensTenant old tenant (Some refusal) new = (refusal ≡ NoTenant tenant) × (¬ IsListed old.tenants tenant) × (new ≡ old)
@@ -40,7 +40,7 @@ KeepsAnswer keeps logs old (Ok answer) new = Counts keeps logs old new
 KeepsAnswer keeps logs old (Err fault) new = new ≡ old
 
 -- The command is asked of the desk by one call, of the pass's worker and for the opened tenant; the session is told what came of it. An answer is one
--- to this command, begun behind all steps that the pass knew of, and it is counted.
+-- to this command, begun after all steps that the pass knew of, and it is counted.
 pub record AsksCall {S K : Type 0} (does : S → Period → S → Type 0) (keeps : K → Turn → K → Type 0) (logs : K → ℕ) (old new : Asker S K) (tenant : ℕ) (command : Command) (told : Result Reply CallerFault) : Type 0 where
   pub result : Result Answer CallFault
   pub calls : Calls does old.desk new.desk old.seen (asked_by old.worker tenant command) result
@@ -54,7 +54,7 @@ pub record AsksCall {S K : Type 0} (does : S → Period → S → Type 0) (keeps
   pub opened : new.opened ≡ old.opened
   pub kept : KeepsAnswer keeps logs old.kept result new.kept
 
--- a command is one of the opened tenant; where none is opened, it is refused
+-- a command is one of the opened tenant; if none is opened, it is refused
 abbrev pub AsksOpened : {S K : Type 0} → (S → Period → S → Type 0) → (K → Turn → K → Type 0) → (K → ℕ) → Asker S K → Option ℕ → Command → Result Reply CallerFault → Asker S K → Type 0
 AsksOpened does keeps logs old (Some tenant) command told new = AsksCall does keeps logs old new tenant command told
 AsksOpened does keeps logs old None command told new = (told ≡ Err (Refused NotOpen)) × (new ≡ old)
@@ -85,7 +85,7 @@ module _ {S K D : Type 0} (does : S → Period → S → Type 0) (is_honest : D 
   Follows (Ok number) old new = MayMakeTurn old new
   Follows (Err refusal) old new = new ≡ old
 
-  -- A Settle is told what a Settle of all logs tells, and changes these alone; where there are no logs it is refused. A turn of all logs may follow it.
+  -- A Settle is told what a Settle of all logs tells, and changes these alone; if there are no logs it is refused. A turn of all logs may follow it.
   pub record AsksSettle (old : Asker S K) (told : Result ℕ Refusal) (new : Asker S K) : Type 0 where
     pub left : K
     pub settles : Settles keeps (logs old.kept.logs) old.kept.logs left told

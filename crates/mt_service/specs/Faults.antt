@@ -12,19 +12,19 @@ abbrev pub fault_of : Refusal → ServerFault
 fault_of refusals.Memory = Memory
 fault_of refusal = Refused refusal
 
--- 2 where a tenant is refused, that of the store where it is, else 1
+-- 2 if a tenant is refused, that of the store if that is, else 1
 abbrev pub status_of : ServerFault → ℕ
 status_of (Refused refusal) = 2
 status_of (Store told) = store_status told.fault
 status_of fault = 1
 
--- what may be at fault in making the accounts of these tenants: memory, or, where they can't be served, one of them
+-- what may be at fault in making the accounts of these tenants: memory, or, if they can't be served, one of them
 abbrev pub IsOfTenants : List TenantQuota → ServerFault → Type 0
 IsOfTenants tenants Memory = Unit {0}
 IsOfTenants tenants (Refused refusal) = ¬ AreServable tenants
 IsOfTenants tenants fault = ⊥
 
--- in writing a line: memory, or the output, where that failed
+-- in writing a line: memory, or the output, if that failed
 abbrev pub IsOfWriting : Type 0 → ServerFault → Type 0
 IsOfWriting failed Memory = Unit {0}
 IsOfWriting failed (Output error) = failed

@@ -2,7 +2,7 @@
 use Rattle.std.specs.{Prelude.{◌≡◌, ◌⊎◌, ℕ, Bool, true, false, List, [], Option, Some, None, length}, Option.option_map}
 use Rattle.mt_rows.specs.{Accounts.Accounts, declared.refusal.Refusal.Refusal}
 use Rattle.mt_disk.specs.{Disk.{DiskState, found_with}, declared.cached.CachedDisk.CachedDisk, declared.file.OsFile.OsFile}
-use Rattle.mt_state.specs.{Views.StateView, Begins.new_state}
+use Rattle.mt_state.specs.Begins.{new_state}
 use Rattle.mt_options.specs.{declared.options.Options.Options, declared.options.StorePlace.StorePlace, declared.tenants.TenantQuota.TenantQuota}
 use Rattle.mt_store_files.specs.{declared.fault.StoreFault.StoreFault, declared.fault.StoreFault.TheVariants.{Refused as RefusedStore, RefusedLog, LogCount}}
 use Rattle.mt_store_files.specs.{declared.fault.FolderFault.FolderFault, Faults.{IsOfFolder, IsOfFiles, IsOfSlots}}
@@ -11,7 +11,7 @@ use Rattle.mt_store_files.specs.declared.names.StoreFile.TheVariants.{Log, Slot}
 use Rattle.mt_log_files.specs.declared.worker.WorkerFiles.{WorkerFiles}
 use Rattle.mt_slots.specs.{declared.store_slots.StoreSlots.StoreSlots, Places.refusal_for}
 use Rattle.mt_store_logs.specs.{declared.fault.StoreRefusal.StoreRefusal, declared.fault.StoreRefusal.TheVariants.{Logs as OfLogs, Slot as OfSlot}}
-use Rattle.mt_store_logs.specs.{declared.store_log.StoreLog.StoreLog, Recovers.refusal_in}
+use Rattle.mt_store_logs.specs.Recovers.{refusal_in}
 use Rattle.mt_stored.specs.Stores.{IsNewStore, IsNotMade, IsRecoveredStore, IsNotRecoveredStore}
 use Rattle.mt_service.specs.{declared.served_store.OpenStore.OpenStore, declared.faults.ServerFault.ServerFault}
 use Rattle.mt_service.specs.{declared.faults.ServerFault.TheVariants.{Refused, Memory, Store as StoreFaulty}, Accounts.{AreServable, AreAccountsOf}}
@@ -31,33 +31,34 @@ holds file = found_with []
 abbrev pub failures : FileDisk → ℕ
 failures file = file.1
 
--- the slots of a store that has some
-abbrev pub FileSlots : Type 0
-FileSlots = Option (StoreSlots FileDisk)
+-- a store that was made anew on the files of so many workers and two slots, and whose first turn goes to generation 1
+abbrev pub IsMadeOn : ℕ → Accounts → OpenStore → Type 0
+IsMadeOn workers accounts opened =
+    (files : List (WorkerFiles FileDisk)) × (bare : StoreSlots FileDisk) × (length files ≡ workers)
+    × IsNewStore is_honest holds failures files bare accounts opened.store.source.state opened.store.logs.items opened.store.slots
+    × (opened.store.next_turn ≡ 1)
 
--- a store that was made anew on the files of so many workers and two slots, or recovered from them: its state, its logs and its slots
-abbrev pub IsMadeOn : ℕ → Accounts → StateView → List (StoreLog FileDisk) → FileSlots → Type 0
-IsMadeOn workers accounts v logs slots =
-    (files : List (WorkerFiles FileDisk)) × (bare : StoreSlots FileDisk) × (length files ≡ workers) × IsNewStore is_honest holds failures files bare accounts v logs slots
+-- a store that was recovered from such files and slots
+abbrev pub IsRecoveredFrom : ℕ → Accounts → OpenStore → Type 0
+IsRecoveredFrom workers accounts opened =
+    (files : List (WorkerFiles FileDisk)) × (found : StoreSlots FileDisk) × (length files ≡ workers)
+    × IsRecoveredStore is_honest holds failures files found accounts opened.store.source.state opened.store.logs.items opened.store.slots opened.store.next_turn
 
-abbrev pub IsRecoveredFrom : ℕ → Accounts → StateView → List (StoreLog FileDisk) → FileSlots → Type 0
-IsRecoveredFrom workers accounts v logs slots =
-    (files : List (WorkerFiles FileDisk)) × (found : StoreSlots FileDisk) × (length files ≡ workers) × IsRecoveredStore is_honest holds failures files found accounts v logs slots
-
-abbrev pub IsAtPlace : Bool → ℕ → Accounts → StateView → List (StoreLog FileDisk) → FileSlots → Type 0
-IsAtPlace true workers accounts v logs slots = IsMadeOn workers accounts v logs slots
-IsAtPlace false workers accounts v logs slots = IsRecoveredFrom workers accounts v logs slots
+-- the one if it was to be made, else the other
+abbrev pub IsAtPlace : Bool → ℕ → Accounts → OpenStore → Type 0
+IsAtPlace true workers accounts opened = IsMadeOn workers accounts opened
+IsAtPlace false workers accounts opened = IsRecoveredFrom workers accounts opened
 
 -- the store that the options name: none, so that the state is new and has no logs; one made anew; or one recovered
-abbrev pub IsNamed : Option StorePlace → ℕ → Accounts → StateView → List (StoreLog FileDisk) → FileSlots → Type 0
-IsNamed None workers accounts v logs slots = v ≡ new_state 0 accounts
-IsNamed (Some place) workers accounts v logs slots = IsAtPlace place.create workers accounts v logs slots
+abbrev pub IsNamed : Option StorePlace → ℕ → Accounts → OpenStore → Type 0
+IsNamed None workers accounts opened = opened.store.source.state ≡ new_state 0 accounts
+IsNamed (Some place) workers accounts opened = IsAtPlace place.create workers accounts opened
 
 -- It is that store, for the tenants that are named, and no answer was taken of it.
 pub record IsOpened (options : Options) (open_store : OpenStore) : Type 0 where
   pub accounts : Accounts
   pub tenants : AreAccountsOf (length options.tenants.items) options.tenants.items accounts
-  pub named : IsNamed options.store options.workers accounts open_store.store.source.state open_store.store.logs.items open_store.store.slots
+  pub named : IsNamed options.store options.workers accounts open_store
   pub untaken : open_store.store.source.state.answers ≡ 0
 
 -- The plain file of the log that is the cause, if one is. Stamps that fall tell the worker whose log it is.

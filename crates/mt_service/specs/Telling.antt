@@ -7,7 +7,7 @@ use Rattle.mt_session.specs.declared.caller.CallerFault.{CallerFault}
 use Rattle.mt_book.specs.declared.calls.CallFault.TheVariants as faults
 use Rattle.mt_session.specs.declared.caller.CallerFault.TheVariants as callers
 
--- the reply of its answer, or the refusal; Spent where all step numbers are given
+-- the reply of its answer, or the refusal; Spent if all step numbers are given
 abbrev pub told_of : Result Answer CallFault → Result Reply CallerFault
 told_of (Ok answer) = Ok answer.reply
 told_of (Err (faults.Refused refusal)) = Err (callers.Refused refusal)

@@ -2,7 +2,7 @@
 use Rattle.std.specs.Prelude.{◌≡◌, ℕ, zero, suc, List, Option, Some, None, slice_get}
 use Rattle.mt_options.specs.declared.options.StorePlace.{StorePlace}
 
--- the number of the worker at a place: the place, where so many logs are kept, else 0
+-- the number of the worker at a place: the place if so many logs are kept, else 0
 abbrev pub number_of : ℕ → ℕ → ℕ
 number_of zero place = 0
 number_of (suc logs) place = place

@@ -39,7 +39,7 @@ pub enum ServerFault {
 }
 
 impl ServerFault {
-    /// The exit status: 2 where a tenant is refused, 3 where the store is, else 1.
+    /// The exit status: 2 if a tenant is refused, 3 if the store is, else 1.
     pub fn status(&self) -> u8
         ensures { result ≡ status_of self.now }
     {
@@ -56,7 +56,7 @@ impl ServerFault {
     }
 }
 
-/// `Memory` where memory was refused, else `Refused`.
+/// `Memory` if memory was refused, else `Refused`.
 impl From<Refusal> for ServerFault {
     ghost use Rattle.mt_service.specs.Faults.{fault_of};
 

@@ -19,7 +19,7 @@ use mt_options::{Options, TenantQuota};
 use mt_session::SessionBuffers;
 use mt_slots::StoreSlots;
 use mt_store_logs::StoreLog;
-use mt_stored::{Checks, Keeper, SharedLogs, Store, locked_logs, next_turn, unlocked_logs};
+use mt_stored::{Checks, Keeper, SharedLogs, Store, locked_logs, unlocked_logs};
 use mt_streams::{Sink, write_whole};
 use std::alloc::{AllocError, Global};
 use std::marker::{Send, Sync};
@@ -45,8 +45,8 @@ pub struct Ending<D: Disk + Drop> {
 }
 
 /// Serves the connections of a listener from a store, as many as the options say, and writes where it
-/// listens and, at the end, how many sessions and answers there were. Behind the last session the store is
-/// settled once more, also where the listener failed.
+/// listens and, at the end, how many sessions and answers there were. After the last session the store is
+/// settled once more, also if the listener failed.
 ///
 /// After an error the output has a beginning of these two lines.
 pub fn run_server<L, R, W, D>(
@@ -102,14 +102,14 @@ fn serve_store<
     ensures settled { IfOk result (λ served. IsSettled served.1.source.state served.1.logs.items) }
     ensures fault { IfErr result IsOfServing }
 {
+    let generation = store.next_turn();
     let (state, logs, slots) = store.into_parts();
-    let generation = next_turn(logs.as_slice());
     let logs = locked_logs(alloc, logs)?;
     let checks = Mutex::new(Checks::new(checkpoint_every(options), slots, generation));
     let book = BookLock::new(Book::<L>::new(blank, state));
     let served = serve_all(rt, alloc, &book, &logs, &checks, listener, options);
-    let slots = checks.into_inner().into_slots();
-    let store = settled(rt, alloc, book, logs, slots)?;
+    let checks = checks.into_inner();
+    let store = settled(rt, alloc, book, logs, checks)?;
     Ok((served?, store))
 }
 
@@ -123,19 +123,22 @@ fn checkpoint_every(options: &Options) -> u32
     }
 }
 
-// The store, of which nobody holds a lock any more, settled for the last time.
+// The store, of which nobody holds a lock any more, settled for the last time. Its slots and its next turn are those of
+// the checks.
 fn settled<L: Ledger, R: Wait + Clock + Log, D: Disk + Drop>(
     rt: &R,
     alloc: Global,
     book: BookLock<L>,
     logs: Vec<Mutex<StoreLog<D>>>,
-    slots: Option<StoreSlots<D>>,
+    checks: Checks<D>,
 ) -> Result<Store<D>, ServerFault>
     ensures settled { IfOk result (λ store. IsSettled store.source.state store.logs.items) }
     ensures fault { IfErr result IsOfServing }
 {
     let logs = unlocked_logs(alloc, logs)?;
-    let Some(mut store) = Store::joined(book.into_inner().into_state(), logs, slots) else {
+    let state = book.into_inner().into_state();
+    let next_turn = checks.generation();
+    let Some(mut store) = Store::joined(state, logs, checks.into_slots(), next_turn) else {
         return Err(ServerFault::Passes);
     };
     match store.settle_last(rt, alloc) {
@@ -218,7 +221,7 @@ fn serve_all<
     }
 }
 
-// The number of the worker at a place, where so many logs are kept.
+// The number of the worker at a place, if so many logs are kept.
 fn number_at(logs: usize, place: u8) -> u8
     ensures { result ≡ number_of logs place }
 {
@@ -285,7 +288,7 @@ fn workers_of<'a, L: Ledger, R: Wait + Clock, D: Disk + Drop>(
 }
 
 /// What the workers come to, whose passes are given back to the book: the sum of the passes' shares, and
-/// that of the workers' counts. `Memory` and `Passes` (where these are not all passes that were opened)
+/// that of the workers' counts. `Memory` and `Passes` (if these are not all passes that were opened)
 /// are the only errors; after either the passes are lost.
 pub fn totals_of<L: Ledger, R: Wait + Clock + Log, D: Disk + Drop>(
     rt: &R,

@@ -69,7 +69,7 @@ fn open_place<R: Files<File = File> + Clock + Log>(
     requires some { 1 ≤ workers }
     requires few { workers ≤ 64 }
     requires empty { HaveNoPairs tenants }
-    ensures ok { IfOk result (λ opened. IsAtPlace place.now.create workers tenants opened.store.source.state opened.store.logs.items opened.store.slots) }
+    ensures ok { IfOk result (IsAtPlace place.now.create workers tenants) }
     ensures untaken { IfOk result (λ opened. opened.store.source.state.answers ≡ 0) }
     ensures err { IfErr result (IsOfPlace place.now.create workers tenants) }
 {
@@ -92,7 +92,7 @@ fn make<R: Files<File = File>>(
     requires some { 1 ≤ workers }
     requires few { workers ≤ 64 }
     requires empty { HaveNoPairs tenants }
-    ensures ok { IfOk result (λ opened. IsMadeOn workers tenants opened.store.source.state opened.store.logs.items opened.store.slots) }
+    ensures ok { IfOk result (IsMadeOn workers tenants) }
     ensures untaken { IfOk result (λ opened. opened.store.source.state.answers ≡ 0) }
     ensures err { IfErr result (IsOfPlace true workers tenants) }
 {
@@ -118,7 +118,7 @@ fn recover<R: Files<File = File> + Clock + Log>(
 ) -> Result<OpenStore, StoreFault>
     requires few { workers ≤ 64 }
     requires empty { HaveNoPairs tenants }
-    ensures ok { IfOk result (λ opened. IsRecoveredFrom workers tenants opened.store.source.state opened.store.logs.items opened.store.slots) }
+    ensures ok { IfOk result (IsRecoveredFrom workers tenants) }
     ensures untaken { IfOk result (λ opened. opened.store.source.state.answers ≡ 0) }
     ensures err { IfErr result (IsOfPlace false workers tenants) }
 {
