@@ -1,5 +1,5 @@
 -- A new store: its logs were made, and nothing has happened.
-use Rattle.std.proofs.{Common.{◌≡◌, ℕ, ◌+◌, ◌<◌, ◌≤◌, inl, inr, ⊎_elim, List, length, Some, refl, sym, ap, subst, ◌∙◌, arith}, lemmas.List.Elements.All-nil}
+use Rattle.std.proofs.{Common.{◌≡◌, ℕ, ◌+◌, ◌<◌, ◌≤◌, inl, inr, List, length, Some, refl, sym, ap, subst, ◌∙◌, arith}, lemmas.List.Elements.All-nil}
 use Rattle.std.specs.{Prelude.slice_get, FinMap.{empty, len, get-empty, len-empty}, Ordering.nat_cmp, Cmp.Lexicographic.slice_cmp}
 use Rattle.mt_rows.specs.{Accounts.Accounts, Stamps.Stamped, Tenants.owned_cmp, TenantPairs.{quota_in, HasTenants, KeepsQuotas}}
 use Rattle.mt_disk.specs.{declared.mem.MemDisk.MemDisk, Mem.mem_state}
@@ -15,7 +15,6 @@ use Rattle.mt_store_logs.specs.{declared.store_log.StoreLog.StoreLog, Places.dis
 use Rattle.mt_store_logs.proofs.FirstAndCrashed.{made_in_turn}
 use Rattle.mt_lives.specs.{declared.live_slots.LiveSlots.TheVariants.Rest, declared.serving.Serving.Serving, Lives.new_standing, Holds.{Holds}, Returns.IsFresh}
 use Rattle.mt_lives.proofs.{Flushing.{keeps_rules, failures_of, within}, Opening.{IsLogOpen, AllOpen}, Living.{RestAt, reach_all, BeginsWith, begins_serving}}
-use Rattle.mt_stored.specs.Begins.{IsNextTurn}
 use Rattle.mt_lives.specs.{Bases.{Whole, BeginsBy}, Turning.only_whole}
 
 begins_new : (logs : ℕ) (accounts : Accounts) → BeginsWith accounts empty 0 logs (new_state logs accounts)
@@ -106,23 +105,10 @@ module _ (accounts : Accounts) (files : List (WorkerFiles MemDisk)) (old new : L
       let place : worker ≡ 0 + worker = omega arith in
       subst (λ (n : LogNow). IsLogOpen 0 at_start n log) (ap (λ k. at_rest (no_batches k (length new))) place ∙ sym is.0) (log_new worker log at)
 
-  -- each is of generation 0
-  plain_new : (worker : ℕ) (log : StoreLog MemDisk) → slice_get new worker ≡ Some log → log.log.generation ≡ 0
-  plain_new worker log at =
-      let below : worker < length old = subst (λ n. worker < n) made.len (within new worker log at) in
-      let was = within_place old worker below in
-      (made.each worker was.0 log below was.1 at).log.generation
-
-  -- so the first turn goes to generation 1
-  turns_to : (serving : Serving) → IsNextTurn new serving.generation → serving.generation ≡ 0 + 1
-  turns_to serving next = ⊎_elim
-      (λ one. omega (arith, one))
-      (λ among. let plain = plain_new among.0 among.1 among.2 in let same = among.3 in let some = next.some in absurd (omega (arith, plain, same, some)))
-      next.among
-
-  pub holds_new : (v : StateView) → v ≡ new_state (length new) accounts → IsRightState v → (serving : Serving) → serving.state ≡ v → IsFresh new serving
+  -- the first turn goes to generation 1
+  pub holds_new : (v : StateView) → v ≡ new_state (length new) accounts → IsRightState v → (serving : Serving) → serving.state ≡ v → IsFresh serving → serving.generation ≡ 1
       → (bare slots : StoreSlots MemDisk) → MakesBoth keeps_rules mem_state failures_of bare slots → Holds accounts (Rest slots) new_standing new (Some serving)
-  holds_new v is right serving state fresh bare slots slots_made = record {
+  holds_new v is right serving state fresh turns_to bare slots slots_made = record {
     s = new_store (length new);
     from = 0;
     turning = only_whole at_start;
@@ -137,5 +123,5 @@ module _ (accounts : Accounts) (files : List (WorkerFiles MemDisk)) (old new : L
     now =
         begins_serving accounts empty 0 (length new) v (subst (BeginsWith accounts empty 0 (length new)) (sym is) (begins_new (length new) accounts)) right
         (new_store (length new)) refl refl count_new
-        (rest_new (length new)) (All-nil (λ (p : Placed). p.change.stamp ≤ 0)) refl serving state 0 at_start new fresh (turns_to serving fresh.generation) all_new;
+        (rest_new (length new)) (All-nil (λ (p : Placed). p.change.stamp ≤ 0)) refl serving state 0 at_start new fresh turns_to all_new;
   }

@@ -649,7 +649,7 @@ module _ (accounts : Accounts) (standing : Standing) (logs : List (StoreLog MemD
               ),
         )
 
--- ---- nothing is open, or is open already
+-- ---- no turn is made
 
 module _ (accounts : Accounts) (slots now : LiveSlots) (same : slots ≡ now) (logs : List (StoreLog MemDisk)) (serving : Option Serving) where
   abbrev NoneGoes : StoreEvent → Type 0
@@ -657,9 +657,6 @@ module _ (accounts : Accounts) (slots now : LiveSlots) (same : slots ≡ now) (l
 
   stays_so : (standing : Standing) → Holds accounts slots standing logs serving → Holds accounts now standing logs serving
   stays_so standing h = subst (λ ss. Holds accounts ss standing logs serving) same h
-
-  pub none_begins : NoneGoes CheckBegin
-  none_begins = λ standing h. (standing, refl, stays_so standing h)
 
   pub unserved_step : serving ≡ None → NoneGoes CheckStep
   unserved_step none = λ standing h. (standing, (inl (serves_none accounts slots standing logs (subst (Holds accounts slots standing logs) none h)), refl), stays_so standing h)
@@ -670,9 +667,6 @@ module _ (accounts : Accounts) (slots now : LiveSlots) (same : slots ≡ now) (l
 
   pub rest_step : (rest : StoreSlots MemDisk) → slots ≡ Rest rest → NoneGoes CheckStep
   rest_step rest is = λ standing h. (standing, (inr (stands_in (Rest rest) is standing h).0, refl), stays_so standing h)
-
-  pub away_step : slots ≡ Away → NoneGoes CheckStep
-  away_step is = λ standing h. absurd (stands_in Away is standing h)
 
 -- ---- a turn begins, if one may
 

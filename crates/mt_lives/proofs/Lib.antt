@@ -21,7 +21,7 @@ pub mod Opening
 pub mod Recovering
 pub mod Resuming
 pub mod Living
-pub mod GoingBack
+pub mod LeavingOne
 pub mod Returning
 pub mod Beginning
 pub mod Noted

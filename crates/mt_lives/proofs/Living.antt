@@ -143,7 +143,7 @@ module _ (accounts : Accounts) (first : Pairs) (steps logs : ℕ) (v : StateView
       reach = reach_all s steps rest;
     }
 
-    module _ (now_serving : Serving) (state : now_serving.state ≡ v) (g : ℕ) (h : Whole) (new : List (StoreLog MemDisk)) (fresh : IsFresh new now_serving) (turns_to : now_serving.generation ≡ g + 1)
+    module _ (now_serving : Serving) (state : now_serving.state ≡ v) (g : ℕ) (h : Whole) (new : List (StoreLog MemDisk)) (fresh : IsFresh now_serving) (turns_to : now_serving.generation ≡ g + 1)
         (each : AllOpen g h s new) where
       each_log : EachAt g (only_whole h) s v.logs new
       each_log = λ worker now log there at.

@@ -108,7 +108,7 @@ module _ {D S : Type 0} (is_honest : D → Bool) (state : D → DiskState) (fail
 -- ---- a worker's log by its parts
 
 -- one with the same parts is the same
-same_parts : {D : Type 0} (a b : StoreLog D) → a.log ≡ b.log → a.kept ≡ b.kept → a.next_in_doubt ≡ b.next_in_doubt → a ≡ b
+pub same_parts : {D : Type 0} (a b : StoreLog D) → a.log ≡ b.log → a.kept ≡ b.kept → a.next_in_doubt ≡ b.next_in_doubt → a ≡ b
 same_parts a b log kept doubt = λ i. record { log = log i; kept = kept i; next_in_doubt = doubt i }
 
 -- a log whose last one is put where it is, is the same

@@ -1,20 +1,20 @@
 -- The files of all logs of a store that serves no life are opened: the logs come to rest, or stay as they were.
-use Rattle.std.proofs.Common.{◌≡◌, ◌⊎◌, ℕ, suc, ◌+◌, ◌<◌, ◌≤◌, false, List, [], ◌∷◌, map, length, Some, None, refl, sym, ap, subst, ◌∙◌, arith, inl, inr, ⊎_elim}
-use Rattle.std.proofs.lemmas.Option.{same_Some}
+use Rattle.std.proofs.Common.{◌≡◌, ◌⊎◌, ℕ, suc, ◌+◌, ◌<◌, ◌≤◌, get_or, Bool, true, false, List, [], ◌∷◌, map, length, Option, Some, None, refl, sym, ap, subst, ◌∙◌, arith, inl, inr, ⊎_elim}
+use Rattle.std.proofs.lemmas.{Bool.true≢false, Option.{same_Some, slice_get-get_or}, List.Elements.{All-nil, All-cons}}
 use Rattle.std.specs.{Prelude.slice_get, List.AllZip}
 use Rattle.mt_disk.specs.{declared.mem.MemDisk.MemDisk, Mem.mem_state}
 use Rattle.mt_log.specs.Contents.{Contents, contents_of}
 use Rattle.mt_crashes.specs.{Fronts.In, Bases.Slots, Stores.{Store, LogNow, new_store, at_rest, MayLeaveFront, MayLeaveFronts, MayLeaveSlots}, Invariants.IsStore}
-use Rattle.mt_crashes.proofs.{Members.place_in, Invariant.{within_place, map_place, zip_left, zip_right}, NewStore.new_is, Kept.leads}
-use Rattle.mt_generations.specs.{Chains.{Chain, EndsLog, BeginBy, HasUse}, Turns.HasBase}
-use Rattle.mt_chains.specs.Files.{standing_of as read_of}
+use Rattle.mt_crashes.proofs.{Members.place_in, Invariant.{within_place, map_place, place_map, zip_left, zip_right}, NewStore.new_is, Kept.leads}
+use Rattle.mt_generations.specs.{Chains.{Chain, EndsLog, BeginBy, HasUse}, Standings.{Standing, chain_from}, Turns.HasBase}
+use Rattle.mt_chains.specs.{declared.worker_logs.WorkerLogs.WorkerLogs, Files.{standing_of as read_of}, Testing.is_there}
 use Rattle.mt_log_files.specs.{declared.worker.WorkerFiles.WorkerFiles, Files.{Spare, Has}}
 use Rattle.mt_chain_files.specs.{declared.opening.Chains.Chains, Lasts.last_generation_of}
 use Rattle.mt_chain_files.specs.Turns.{FilesNow, now_of, AreOfTurn, StaysWhole, ShowFiles, HasLast, IsLastOfTurn, ComeToRest, StayTheirs, Rests as FileRests}
 use Rattle.mt_chain_files.proofs.{Agreeing.agree_self, Narrowing.Narrows, Starts.HasFrom, OwnFiles.{opened, failed, opened_have, failed_narrow}}
 use Rattle.mt_store_logs.specs.{declared.fault.LogRefusal.LogRefusal, declared.store_log.StoreLog.StoreLog, Ends.StandsInTurn}
 use Rattle.mt_store_logs.proofs.FirstAndCrashed.{opened_in_turn}
-use Rattle.mt_store_logs.specs.Taking.{files_of, fault_of, HasItsFiles, OpensLogs, StopsFiles, StopsOpening}
+use Rattle.mt_store_logs.specs.{Taking.{files_of, fault_of, HasItsFiles, IsRefusedAtOnce, OpensLogs, StopsFiles, StopsOpening}, Leaves.NoneBegun}
 use Rattle.mt_lives.specs.{Lives.IsMemoryOrDevice, Holds.{HasCome, LeadsTo, EachLog, IsLogDown}}
 use Rattle.mt_lives.proofs.{Begun.{stay_whole, begins_narrow, begins_from_chain}, Flushing.{keeps_rules, failures_of, within}, Walking.{with_logs, all_rest, rested_count}, Leaving.AllDown}
 use Rattle.mt_lives.specs.Bases.{Whole, BeginsBy}
@@ -63,6 +63,26 @@ open_down g h now log is = record { files = is.files; turn = is.stands.turn; sho
 
 pub all_open_down : (g : ℕ) (h : Whole) (s : Store) (logs : List (StoreLog MemDisk)) → AllOpen g h s logs → AllDown g h s logs
 all_open_down g h s logs all worker now log there at = open_down g h now log (all worker now log there at)
+
+-- ---- which workers have begun a generation
+
+-- some worker has, if it is not so that none has
+one_begun : (begun : List Bool) → ¬ NoneBegun begun → (k : ℕ) × (slice_get begun k ≡ Some true)
+one_begun [] some = absurd (some (All-nil (λ (b : Bool). b ≡ false)))
+one_begun (true ∷ begun) some = (0, refl)
+one_begun (false ∷ begun) some =
+    let later = one_begun begun (λ none. some (All-cons (λ (b : Bool). b ≡ false) false begun refl none)) in
+    (suc later.0, later.1)
+
+none_at : (begun : List Bool) (k : ℕ) (b : Bool) → NoneBegun begun → slice_get begun k ≡ Some b → b ≡ false
+none_at begun k b none at =
+    let below = within begun k b at in
+    same_Some b (get_or begun k b) (sym at ∙ slice_get-get_or begun k b below) ∙ none k b below
+
+not_begun : (generation : ℕ) (told : Option Bool) → ((b : Bool) → told ≡ Some b → b ≡ false) → last_generation_of generation told ≡ generation
+not_begun generation None none = refl
+not_begun generation (Some true) none = absurd (true≢false (none true refl))
+not_begun generation (Some false) none = refl
 
 module _ (s : Store) (count : ℕ) (some : 0 < count) (few : count ≤ 64) (come : HasCome count s) (g : ℕ) (h : Whole) (base : HasBase s h.starts) (old : List (StoreLog MemDisk)) (len : length s.logs ≡ length old)
     (each : AllDown g h s old) (read : Slots) (left_slots : MayLeaveSlots s.slots read) where
@@ -121,6 +141,40 @@ module _ (s : Store) (count : ℕ) (some : 0 < count) (few : count ≤ 64) (come
 
     pub chains_use : HasUse (map contents_of chains.fronts.items) read
     chains_use = (o.opens.chosen (map read_of o.opens.reads.logs) (agree_self chains.generation (map read_of o.opens.reads.logs))).chosen.1
+
+    -- they begin in the turn
+    pub firsts : (chains.generation ≡ g) ⊎ (chains.generation ≡ g + 1)
+    firsts = rests.firsts
+
+    -- if no worker is told to have begun the generation after theirs, the last logs are all of theirs
+    pub of_theirs : NoneBegun chains.begun.items → (k : ℕ) (log : StoreLog MemDisk) → slice_get mid k ≡ Some log → log.log.generation ≡ chains.generation
+    of_theirs none k log at =
+        let was = within_place old k (subst (λ n. k < n) o.back.len (within mid k log at)) in
+        (o.back.each k was.0 log (within old k was.0 was.1) was.1 at).stands.generation
+        ∙ not_begun chains.generation (slice_get chains.begun.items k) (λ b told. none_at chains.begun.items k b none told)
+
+    -- what is told, is told of a worker that has its files
+    told_files : (k : ℕ) (b : Bool) → slice_get chains.begun.items k ≡ Some b → (f : FilesNow) × (slice_get rests.files k ≡ Some f)
+    told_files k b told =
+        let read = o.opens.reads.logs in
+        let here = map_place (λ (w : WorkerLogs). is_there (read_of w (chains.generation + 1))) read k b (ap (λ (bs : List Bool). slice_get bs k) (sym o.opens.begun) ∙ told) in
+        let from = (o.opens.chosen (map read_of read) (agree_self chains.generation (map read_of read))).chosen.0 in
+        let chain = zip_left (λ (f : Standing) (c : Chain). chain_from chains.generation f ≡ Some c) (map read_of read) (map contents_of chains.fronts.items) k (read_of here.0) from
+        (place_map read_of read k here.0 here.1) in
+        let file = zip_right (λ (f : FilesNow) (c : Chain). HasFrom g chains.generation c.start f) rests.files (map contents_of chains.fronts.items) k chain.0 have_logs chain.1 in
+        (file.0, file.1)
+
+    -- if some worker is, theirs is the first one of the turn
+    pub of_first : ¬ NoneBegun chains.begun.items → chains.generation ≡ g
+    of_first some_begun =
+        let one = one_begun chains.begun.items some_begun in
+        let file = told_files one.0 true one.1 in
+        let last : IsLastOfTurn g (chains.generation + 1) file.0 =
+        subst (λ (told : Option Bool). IsLastOfTurn g (last_generation_of chains.generation told) file.0) one.1 (rests.next one.0 file.0 file.1) in
+        ⊎_elim
+        (λ first. let is = first.0 in ⊎_elim (λ e. absurd (omega (arith, is, e))) (λ e. absurd (omega (arith, is, e))) firsts)
+        (λ later. let is = later.0 in omega (arith, is))
+        last
 
     pub rested_leads : LeadsTo s (with_logs (map at_rest fronts) s)
     rested_leads = all_rest s fronts fronts_left
@@ -232,10 +286,14 @@ module _ (s : Store) (count : ℕ) (some : 0 < count) (few : count ≤ 64) (come
     files_stopped : NotOpened e new
     files_stopped = record { cause = stay.0; len_so = stops.back.len; each_so = stays_at }
 
-  pub not_opened : (e : LogRefusal) (new : List (StoreLog MemDisk)) → StopsOpening keeps_rules mem_state failures_of read e old new → NotOpened e new
-  not_opened e new (inl memory) = record {
-    cause = inl (ap (λ (x : LogRefusal). x.refusal) memory.0);
-    len_so = ap length memory.1;
-    each_so = subst (AllDown g h s) (sym memory.1) each;
+  at_once : length old ≤ 64 → (e : LogRefusal) → IsRefusedAtOnce e old → IsMemoryOrDevice e.refusal
+  at_once upto e (inl memory) = inl (ap (λ (x : LogRefusal). x.refusal) memory)
+  at_once upto e (inr many) = let over = many.1 in absurd (omega (arith, upto, over))
+
+  pub not_opened : length old ≤ 64 → (e : LogRefusal) (new : List (StoreLog MemDisk)) → StopsOpening keeps_rules mem_state failures_of read e old new → NotOpened e new
+  not_opened upto e new (inl none) = record {
+    cause = at_once upto e none.0;
+    len_so = ap length none.1;
+    each_so = subst (AllDown g h s) (sym none.1) each;
   }
-  not_opened e new (inr stops) = files_stopped e new stops
+  not_opened upto e new (inr stops) = files_stopped e new stops

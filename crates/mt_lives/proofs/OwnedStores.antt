@@ -10,21 +10,21 @@ use Rattle.mt_recover.specs.declared.recovering.Recovered.{Recovered as Found}
 use Rattle.mt_slots.specs.{declared.store_slots.StoreSlots.StoreSlots, Calls.MakesBoth}
 use Rattle.mt_log_files.specs.declared.worker.WorkerFiles.{WorkerFiles}
 use Rattle.mt_chain_files.specs.Turns.{ShowFiles}
-use Rattle.mt_store_logs.specs.{declared.store_log.StoreLog.StoreLog, Opens.AreClosedOn, Taking.files_of}
+use Rattle.mt_store_logs.specs.{declared.store_log.StoreLog.StoreLog, Opens.AreClosedOn, Taking.files_of, Recovers.ServesAgain}
 use Rattle.mt_stored.specs.Stores.{IsNewStore, IsRecoveredStore}
 use Rattle.mt_lives.specs.{declared.events.CrashImages.CrashImages, declared.events.StoreEvent.TheVariants.Crash, declared.events.StoreNote.TheVariants.Recovered}
 use Rattle.mt_lives.specs.{declared.live_slots.LiveSlots.TheVariants.Rest, declared.serving.Serving.Serving, Lives.{Standing, past_of, new_standing}}
-use Rattle.mt_lives.specs.{Holds.Holds, Returns.{IsFresh, AreRecovered}, Forced.AllCrash, Steps.GoesOn}
-use Rattle.mt_lives.proofs.{Flushing.{keeps_rules, failures_of, within}, Walking.map_length, Leaving.IsLeft, Crashing.Leaves, Returning.{left_by, recovered_up}, Beginning.holds_new}
+use Rattle.mt_lives.specs.{Holds.Holds, Returns.IsFresh, Forced.AllCrash, Steps.GoesOn}
+use Rattle.mt_lives.proofs.{Flushing.{keeps_rules, failures_of, within}, Walking.map_length, Leaving.IsLeft, Crashing.Leaves, LeavingOne.left_len, Returning.{left_by, recovered_up}, Beginning.holds_new}
 
 -- ---- it was just made
 
 pub owned_new : (accounts : Accounts) (files : List (WorkerFiles MemDisk)) (bare slots : StoreSlots MemDisk) (v : StateView) (logs : List (StoreLog MemDisk)) (serving : Serving)
     → 0 < length files → length files ≤ 64 → IsNewStore keeps_rules mem_state failures_of files bare accounts v logs (Some slots) → IsRightState v → serving.state ≡ v
-    → IsFresh logs serving → Holds accounts (Rest slots) new_standing logs (Some serving)
-owned_new accounts files bare slots v logs serving some few new right state fresh =
+    → IsFresh serving → serving.generation ≡ 1 → Holds accounts (Rest slots) new_standing logs (Some serving)
+owned_new accounts files bare slots v logs serving some few new right state fresh turns_to =
     let is : v ≡ new_state (length logs) accounts = new.state_is ∙ ap (λ n. new_state n accounts) (sym (new.logs_are.len ∙ new.closed_so.count)) in
-    holds_new accounts files new.closed logs some few new.closed_so new.logs_are v is right serving state fresh bare slots
+    holds_new accounts files new.closed logs some few new.closed_so new.logs_are v is right serving state fresh turns_to bare slots
     (subst (MakesBoth keeps_rules mem_state failures_of bare) (sym (same_Some slots new.made new.slots_are)) new.slots_made)
 
 -- ---- it was recovered
@@ -61,17 +61,18 @@ left_closed accounts slots standing left closed l are = record {
 
 pub owned_recovered : (accounts : Accounts) (slots found now : StoreSlots MemDisk) (old left new : List (StoreLog MemDisk)) (was : Option Serving)
     (images : CrashImages) (serving : Serving) → AllCrash images old slots left found
-    → IsRecoveredStore keeps_rules mem_state failures_of (map files_of left) found accounts serving.state new (Some now) → IsRightState serving.state → IsFresh new serving
+    → IsRecoveredStore keeps_rules mem_state failures_of (map files_of left) found accounts serving.state new (Some now) serving.generation → IsRightState serving.state → IsFresh serving
     → (r : Found) × GoesOn accounts (Rest slots) (Rest now) (Crash images) (Recovered r) old was new (Some serving)
 owned_recovered accounts slots found now old left new was images serving crashed is right fresh =
     let r = is.recovered in
-    let len : length new ≡ length (map files_of left) = is.serves.resumes.len ∙ is.serves.opens.back.len ∙ is.closed_so.count in
-    let restored : IsRestored r.resume (length new) accounts r.pairs.items serving.state = subst (λ n. IsRestored r.resume n accounts r.pairs.items serving.state) (sym len) is.restored in
-    let serves : AreRecovered accounts found now r is.closed new =
-    subst (λ kept. AreRecovered accounts found kept r is.closed new) (sym (same_Some now is.kept is.slots_are)) is.serves in (
+    let serves : ServesAgain keeps_rules mem_state failures_of accounts r is.generation is.closed found new now =
+    subst (λ kept. ServesAgain keeps_rules mem_state failures_of accounts r is.generation is.closed found new kept) (sym (same_Some now is.kept is.slots_are)) is.serves in
+    let a = is.serves in
+    let len : length new ≡ length (map files_of left) = left_len a.chains.begun.items a.resumed new a.leaves ∙ a.resumes.len ∙ a.opens.back.len ∙ is.closed_so.count in
+    let restored : IsRestored r.resume (length new) accounts r.pairs.items serving.state = subst (λ n. IsRestored r.resume n accounts r.pairs.items serving.state) (sym len) is.restored in (
       r,
       λ standing h.
           let l = left_closed accounts found standing left is.closed (left_by accounts slots found now old left new was images crashed standing h) is.closed_so in
-          let up = recovered_up accounts found standing is.closed l r new now serves serving.state restored right serving refl fresh in
+          let up = recovered_up accounts found standing is.closed l r is.generation new now serves serving.state restored right serving refl fresh is.next_is in
           (up.0, (up.1, up.2, up.3, up.4), up.5),
     )

@@ -1,7 +1,7 @@
 -- What a recovery makes of a store that a crash left, in each of its outcomes.
-use Rattle.std.proofs.Common.{◌≡◌, ◌≢◌, ◌⊎◌, ℕ, ◌<◌, ◌≤◌, ◌^◌, min, Result, List, map, length, Option, Some, None, Ok, Err, refl, sym, ap, subst, ◌∙◌, arith, inl, inr, ⊎_elim}
+use Rattle.std.proofs.Common.{◌≡◌, ◌≢◌, ◌⊎◌, ℕ, ◌+◌, ◌<◌, ◌≤◌, ◌^◌, min, Result, List, map, length, Option, Some, None, Ok, Err, refl, sym, ap, subst, ◌∙◌, arith, inl, inr, ⊎_elim}
 use Rattle.std.proofs.{lemmas.List.Elements.All-weaker}
-use Rattle.std.specs.{Prelude.IfOk, List.{All, AllZip}}
+use Rattle.std.specs.{Prelude.{IfOk, slice_get}, List.{All, AllZip}}
 use Rattle.mt_rows.specs.{Accounts.Accounts, TenantPairs.{pairs_of, quota_in}, declared.refusal.Refusal.Refusal}
 use Rattle.mt_disk.specs.{declared.mem.MemDisk.MemDisk, Mem.mem_state}
 use Rattle.mt_log.specs.Contents.{Contents, contents_of}
@@ -10,6 +10,7 @@ use Rattle.mt_core.specs.{Restores.IsRestored, Rights.IsRightState}
 use Rattle.mt_state.specs.Views.{StateView}
 use Rattle.mt_crashes.specs.{Fronts.cutoff_of, Histories.{Placed, pairs_upto}, Bases.Slots, Recoveries.resume_of, Stores.{Store, at_rest as log_at_rest, only_this, MayLeaveSlots}}
 use Rattle.mt_generations.specs.Chains.{Chain, EndsLog, BeginBy, HasUse, IsRecoveredOver}
+use Rattle.mt_turns.specs.declared.worker_log.WorkerLog.{WorkerLog}
 use Rattle.mt_recover.{specs.{Refusals.IsRefusal, declared.recovering.Recovered.{Recovered as Found}}, proofs.Limits.resume_within}
 use Rattle.mt_checkpoint.specs.declared.checkpoint.Checkpoint.{Checkpoint}
 use Rattle.mt_slots.specs.{declared.store_slots.StoreSlots.StoreSlots, declared.fault.SlotFault.SlotFault, Places.{Both, in_order, with_newest, refusal_for}}
@@ -17,7 +18,8 @@ use Rattle.mt_slots.specs.Calls.{ReadsBoth, StopsReading}
 use Rattle.mt_store_logs.specs.{declared.fault.LogRefusal.LogRefusal, declared.fault.StoreRefusal.StoreRefusal}
 use Rattle.mt_store_logs.specs.{declared.fault.StoreRefusal.TheVariants.{Logs as OfLogs, Slot as OfSlot}, declared.store_log.StoreLog.StoreLog}
 use Rattle.mt_store_logs.specs.Taking.{files_of, OpensLogs, StopsOpening}
-use Rattle.mt_store_logs.specs.Recovers.{slots_of, used_slot, refusal_in, ResumesAll, StopsResumingAt, ServesAgain, IsRefusedOf, ResumesInPart, StopsAfterSlots, IsNotRecovered}
+use Rattle.mt_store_logs.specs.{Leaves.{NoneBegun, StopsGivingUpAt, LeavesOne}, Recovers.{slots_of, used_slot, refusal_in, ResumesAll, StopsResumingAt, ServesAgain}}
+use Rattle.mt_store_logs.specs.Recovers.{IsRefusedOf, ResumesInPart, GivesUpInPart, StopsAfterSlots, IsNotRecovered}
 use Rattle.mt_store_logs.proofs.{ChainFormat.chains_in_format, ForResumes.{both_in_format, cutoff_within}}
 use Rattle.mt_lives.specs.{declared.events.CrashImages.CrashImages, declared.events.StoreEvent.StoreEvent, declared.events.StoreEvent.TheVariants.Crash, declared.events.StoreNote.StoreNote}
 use Rattle.mt_lives.specs.{declared.events.StoreNote.TheVariants.{Recovered, Refused, NoSuch}, declared.serving.Serving.Serving}
@@ -25,17 +27,17 @@ use Rattle.mt_lives.specs.Lives.{Life, Past, Standing, past_of, life_from, MayKe
 use Rattle.mt_lives.specs.{declared.live_slots.LiveSlots.LiveSlots, declared.live_slots.LiveSlots.TheVariants.{Rest, Turns, Writes, Away}}
 use Rattle.mt_lives.specs.{Checks.{at_rest, SlotsStand}, Holds.{quotas_of, HasCome, LeadsTo, HoldsServing, Holds}, Forced.{AllCrash, IsCrashForced}}
 use Rattle.mt_lives.specs.{Returns.{IsFresh, Begins, AreRecovered, AreNotRecovered}, Steps.{GoesOn, CrashesTo}}
-use Rattle.mt_lives.proofs.{Comes.comes_on, Logged.all_on, Flushing.{keeps_rules, failures_of}, Walking.with_logs, Leaving.{AllDown, IsLeft, left_on}}
+use Rattle.mt_lives.proofs.{Comes.comes_on, Logged.all_on, Flushing.{keeps_rules, failures_of, within}, Walking.with_logs, Leaving.{AllDown, IsLeft, left_on}}
 use Rattle.mt_lives.proofs.SlotReading.{told_fault, stand_unread, with_slots, AreSure, stand_sure, slots_rest, stand_used}
 use Rattle.mt_lives.proofs.{Crashing.{holds_left, Leaves, leaves}, Opening.{AllOpen, all_open_down}}
 use Rattle.mt_lives.proofs.Recovering.{recovers_to, sure_leaves, recovered_from, kept_upto, refused, found_so, found_left, settled_kept, keeps_upto, left_recovered}
 use Rattle.mt_lives.proofs.{Resuming.{all_resumed, resumed_in_part}, Living.{RestAt, served, serves_now, made_upto, begins_restored, begins_serving}}
 use Rattle.mt_lives.proofs.Opening as opening
 use Rattle.mt_lives.proofs.Resuming as resuming
-use Rattle.mt_crashes.specs.Invariants.{IsStore}
+use Rattle.mt_crashes.{specs.Invariants.IsStore, proofs.Invariant.within_place}
 use Rattle.mt_generations.specs.Turns.{HasBase}
 use Rattle.mt_lives.{specs.{Bases.{Whole, NewestIsBase}, Turning.only_whole}, proofs.Bases.{is_come, base_stays, newest_stays, base_read, base_rests, some_base, use_covers, used_newest}}
-use Rattle.mt_lives.proofs.GoingBack.{TurnsTo, turns_to}
+use Rattle.mt_lives.proofs.LeavingOne.{left_len, left_open, left_in_part}
 
 -- ---- lengths
 
@@ -69,10 +71,10 @@ module _ (accounts : Accounts) (slots : StoreSlots MemDisk) (standing : Standing
     pub kept : MayKeep standing.settled (past_of standing.now) past_now
     pub holds : Holds accounts (Rest now) (crashed_to (Err past_now) standing) new None
 
-  holds_so : (w : Whole) (past_now : Past) (t : Store) (new : List (StoreLog MemDisk)) (now : StoreSlots MemDisk) → HasBase t w.starts → length new ≡ length old → IsLeftAs past_now t → SlotsStand t.slots now
-      → AllDown g w t new → Holds accounts (Rest now) (crashed_to (Err past_now) standing) new None
-  holds_so w past_now t new now base len l stand each =
-      holds_left accounts now standing past_now g w new t base (subst (λ n. IsLeft accounts standing.settled past_now n t) (sym len) l) stand each
+  holds_so : (turn : ℕ) (w : Whole) (past_now : Past) (t : Store) (new : List (StoreLog MemDisk)) (now : StoreSlots MemDisk) → HasBase t w.starts → length new ≡ length old → IsLeftAs past_now t
+      → SlotsStand t.slots now → AllDown turn w t new → Holds accounts (Rest now) (crashed_to (Err past_now) standing) new None
+  holds_so turn w past_now t new now base len l stand each =
+      holds_left accounts now standing past_now turn w new t base (subst (λ n. IsLeft accounts standing.settled past_now n t) (sym len) l) stand each
 
   -- ---- a slot was not read
 
@@ -80,7 +82,7 @@ module _ (accounts : Accounts) (slots : StoreSlots MemDisk) (standing : Standing
       → IsMemoryOrDevice (refusal_for fault.cause) × Refuses old now
   not_read fault now stops = (
     told_fault fault.cause,
-    record { past_now = past; kept = inl refl; holds = holds_so h past s old now from.base refl from.left (stand_unread s.slots slots now fault from.stand stops) from.each },
+    record { past_now = past; kept = inl refl; holds = holds_so g h past s old now from.base refl from.left (stand_unread s.slots slots now fault from.stand stops) from.each },
   )
 
   -- ---- both slots were read
@@ -112,9 +114,9 @@ module _ (accounts : Accounts) (slots : StoreSlots MemDisk) (standing : Standing
         → IsMemoryOrDevice e.refusal × Refuses new read_slots
     not_opened e new stops =
         let l = left_rested in
-        let n = opening.not_opened rested (length old) l.some l.few l.come g h base_rested old l.len from.each read left_slots e new stops in (
+        let n = opening.not_opened rested (length old) l.some l.few l.come g h base_rested old l.len from.each read left_slots l.few e new stops in (
           n.cause,
-          record { past_now = past; kept = inl refl; holds = holds_so h past rested new read_slots base_rested n.len_so l stand_read n.each_so },
+          record { past_now = past; kept = inl refl; holds = holds_so g h past rested new read_slots base_rested n.len_so l stand_read n.each_so },
         )
 
     -- all were
@@ -143,6 +145,16 @@ module _ (accounts : Accounts) (slots : StoreSlots MemDisk) (standing : Standing
       unfolding fronts
       each_open = opening.all_open rested (length old) left_rested.some left_rested.few left_rested.come g h base_rested old left_rested.len from.each read left_slots mid chains opens
 
+      -- they begin in the turn, and tell of which generation the last logs are
+      in_turn : (chains.generation ≡ g) ⊎ (chains.generation ≡ g + 1)
+      in_turn = opening.firsts rested (length old) left_rested.some left_rested.few left_rested.come g h base_rested old left_rested.len from.each read left_slots mid chains opens
+
+      mid_theirs : NoneBegun chains.begun.items → (k : ℕ) (log : StoreLog MemDisk) → slice_get mid k ≡ Some log → log.log.generation ≡ chains.generation
+      mid_theirs = opening.of_theirs rested (length old) left_rested.some left_rested.few left_rested.come g h base_rested old left_rested.len from.each read left_slots mid chains opens
+
+      first_theirs : ¬ NoneBegun chains.begun.items → chains.generation ≡ g
+      first_theirs = opening.of_first rested (length old) left_rested.some left_rested.few left_rested.come g h base_rested old left_rested.len from.each read left_slots mid chains opens
+
       opened_leads : LeadsTo rested opened_store
       unfolding fronts
       opened_leads = opening.rested_leads rested (length old) left_rested.some left_rested.few left_rested.come g h base_rested old left_rested.len from.each read left_slots mid chains opens
@@ -162,7 +174,7 @@ module _ (accounts : Accounts) (slots : StoreSlots MemDisk) (standing : Standing
       pub refused_for : (e : Refusal) → IsRefusal found read (quota_in accounts) e → IsMemoryOrDevice e × Refuses mid read_slots
       refused_for e is = (
         inl (refused accounts standing.settled past (length old) opened_store fronts found read left_opened refl refl ends has_use e is),
-        record { past_now = past; kept = inl refl; holds = holds_so (opened_whole use_so.0) past opened_store mid read_slots use_so.2 opens.back.len left_opened stand_read (all_open_down g (opened_whole use_so.0) opened_store mid (each_open use_so.0 use_so.1)) },
+        record { past_now = past; kept = inl refl; holds = holds_so g (opened_whole use_so.0) past opened_store mid read_slots use_so.2 opens.back.len left_opened stand_read (all_open_down g (opened_whole use_so.0) opened_store mid (each_open use_so.0 use_so.1)) },
       )
 
       -- they are recovered
@@ -229,21 +241,21 @@ module _ (accounts : Accounts) (slots : StoreSlots MemDisk) (standing : Standing
               record {
                 past_now = past_kept;
                 kept = keeps;
-                holds = holds_so w past_kept t new read_slots
+                holds = holds_so g w past_kept t new read_slots
                     (base_stays w.starts recovered t (is_left past_kept recovered left_now) o.leads refl (some_base (used_slot r.used) recovered w.starts newest_recovered)) (len ∙ opens.back.len)
                     (left_on accounts standing.settled past_kept (length old) recovered t left_now o.leads o.len_so refl) stand_read o.downs;
               },
             )
 
         -- all have theirs
-        module _ (new : List (StoreLog MemDisk)) (resumes : ResumesAll keeps_rules mem_state failures_of r.cutoff r.resume mid new) where
-          to_found : ResumesAll keeps_rules mem_state failures_of (cutoff_of fronts) (resume_of fronts read) mid new
+        module _ (last : List (StoreLog MemDisk)) (resumes : ResumesAll keeps_rules mem_state failures_of r.cutoff r.resume mid last) where
+          to_found : ResumesAll keeps_rules mem_state failures_of (cutoff_of fronts) (resume_of fronts read) mid last
           to_found =
-              subst (λ n. ResumesAll keeps_rules mem_state failures_of (cutoff_of fronts) n mid new) so.2
-              (subst (λ n. ResumesAll keeps_rules mem_state failures_of n r.resume mid new) so.1 resumes)
+              subst (λ n. ResumesAll keeps_rules mem_state failures_of (cutoff_of fronts) n mid last) so.2
+              (subst (λ n. ResumesAll keeps_rules mem_state failures_of n r.resume mid last) so.1 resumes)
 
-          resumed : resuming.ResumedAll recovered (cutoff_of fronts) rested.voids refl refl fits fronts refl g w mid new count_mid resumes.len (each_open w.starts used_so.1)
-          resumed = all_resumed recovered (cutoff_of fronts) rested.voids refl refl fits fronts refl g w mid new count_mid resumes.len (each_open w.starts used_so.1) to_found
+          resumed : resuming.ResumedAll recovered (cutoff_of fronts) rested.voids refl refl fits fronts refl g w mid last count_mid resumes.len (each_open w.starts used_so.1)
+          resumed = all_resumed recovered (cutoff_of fronts) rested.voids refl refl fits fronts refl g w mid last count_mid resumes.len (each_open w.starts used_so.1) to_found
 
           abbrev resumed_store : Store
           resumed_store = with_logs resumed.logs recovered
@@ -254,113 +266,146 @@ module _ (accounts : Accounts) (slots : StoreSlots MemDisk) (standing : Standing
           newest_resumed : NewestIsBase (used_slot r.used) resumed_store w.starts
           newest_resumed = newest_stays (used_slot r.used) w.starts recovered resumed_store (is_left past_kept recovered left_now) resumed.leads (λ slot at. refl) newest_recovered
 
-          -- the slots, with the newest one
-          abbrev kept_slots : StoreSlots MemDisk
-          kept_slots = with_newest (used_slot r.used) read_slots
+          base_resumed : HasBase resumed_store w.starts
+          base_resumed = some_base (used_slot r.used) resumed_store w.starts newest_resumed
 
-          stand_now : SlotsStand (map only_this read) kept_slots
-          stand_now = stand_used found both r.used read_slots is.used_is sure.keeps
+          len_last : length last ≡ length old
+          len_last = resumes.len ∙ opens.back.len
 
-          -- but there is no state
-          pub without_state : Refuses new kept_slots
-          without_state = record {
-            past_now = past_kept;
-            kept = keeps;
-            holds = holds_so w past_kept resumed_store new kept_slots (some_base (used_slot r.used) resumed_store w.starts newest_resumed) (resumes.len ∙ opens.back.len) left_last stand_now (all_open_down g w resumed_store new resumed.opens);
-          }
+          -- a resume batch leaves a log in its generation
+          last_theirs : NoneBegun chains.begun.items → (k : ℕ) (log : StoreLog MemDisk) → slice_get last k ≡ Some log → log.log.generation ≡ chains.generation
+          last_theirs none k log at =
+              let was = within_place mid k (subst (λ n. k < n) resumes.len (within last k log at)) in
+              ap (λ (l : WorkerLog MemDisk). l.generation) (resumes.each k was.0 log (within mid k was.0 was.1) was.1 at).rest ∙ mid_theirs none k was.0 was.1
 
-          -- the state serves
-          module _ (v : StateView) (logs : ℕ) (restored : IsRestored r.resume logs accounts r.pairs.items v) (right : IsRightState v) (count : length new ≡ logs)
-              (serving : Serving) (state : serving.state ≡ v) (fresh : IsFresh new serving) where
-            abbrev next : Life
-            next = life_from (pairs_of r.pairs.items) r.resume
+          -- an older log was given up not for certain
+          pub not_left : NoneBegun chains.begun.items → (e : LogRefusal) (new : List (StoreLog MemDisk)) → StopsGivingUpAt keeps_rules mem_state failures_of e.log e.refusal last new
+              → IsMemoryOrDevice e.refusal × Refuses new read_slots
+          not_left none e new stops =
+              let p = left_in_part g chains.generation w refl resumed_store last new in_turn resumed.opens (last_theirs none) e.log e.refusal stops in (
+                p.cause,
+                record {
+                  past_now = past_kept;
+                  kept = keeps;
+                  holds = holds_so p.turn w past_kept resumed_store new read_slots base_resumed (p.len ∙ len_last) left_last stand_read (all_open_down p.turn w resumed_store new p.opens);
+                },
+              )
 
-            rest_at : RestAt (resume_of fronts read) resumed.logs
-            rest_at = record { rest = resumed.rest_so; marks = resumed.marks }
-
-            cutoff_upto : cutoff_of fronts ≤ r.resume
-            cutoff_upto =
-                let upto = over_cutoff in
-                let same = so.1 in
-                omega (arith, upto, same)
-
-            ended : All (λ p. p.change.stamp ≤ r.resume) resumed_store.history
-            ended = All-weaker (λ (p : Placed). p.change.stamp ≤ cutoff_of fronts) (λ p. p.change.stamp ≤ r.resume) (λ p le. omega (arith, le, cutoff_upto)) resumed_store.history
-                (made_upto (cutoff_of fronts) s.history)
-
-            found_now : pairs_of r.pairs.items ≡ pairs_upto (cutoff_of fronts) s.history
-            found_now = so.0 ∙ ap (λ n. pairs_upto n s.history) so.1
-
-            count_logs : length resumed_store.logs ≡ logs
-            count_logs = resumed.len_so ∙ count_mid ∙ sym resumes.len ∙ count
+          -- one generation is left, or some log is of the next one
+          module _ (new : List (StoreLog MemDisk)) (leaves_one : LeavesOne keeps_rules mem_state failures_of chains.begun.items last new) where
+            all_left : AllOpen chains.generation w resumed_store new
+            all_left = left_open g chains.generation w refl resumed_store last new in_turn resumed.opens chains.begun.items last_theirs first_theirs leaves_one
 
             len_new : length new ≡ length old
-            len_new = resumes.len ∙ opens.back.len
+            len_new = left_len chains.begun.items last new leaves_one ∙ len_last
 
-            -- the turn to which the next one goes
-            turn : TurnsTo w (served resumed_store) new serving.generation
-            turn = turns_to g w (served resumed_store) new serving.generation (left_last.len ∙ sym len_new) (subst (λ n. 0 < n) (sym len_new) left_last.some) resumed.opens fresh.generation
+            -- the slots, with the newest one
+            abbrev kept_slots : StoreSlots MemDisk
+            kept_slots = with_newest (used_slot r.used) read_slots
 
-            serving_now : HoldsServing turn.from (only_whole w) accounts (λ id. None) next (served resumed_store) new serving
-            serving_now =
-                begins_serving accounts (pairs_of r.pairs.items) r.resume logs v (begins_restored accounts r.resume logs r.pairs.items v restored) right (served resumed_store) refl (sym so.2) count_logs
-                (subst (λ n. RestAt n resumed.logs) (sym so.2) rest_at) ended found_now serving state turn.from w new fresh turn.to turn.opens
+            stand_now : SlotsStand (map only_this read) kept_slots
+            stand_now = stand_used found both r.used read_slots is.used_is sure.keeps
 
-            -- the next life
-            pub with_state : Holds accounts (Rest kept_slots) (crashed_to (Ok next) standing) new (Some serving)
-            with_state =
-                let goes = serves_now resumed_store refl rest_at resumed.held in
-                let len = len_new in
-                record {
-                  s = served resumed_store;
-                  from = turn.from;
-                  turning = only_whole w;
-                  some = subst (λ n. 0 < n) (sym len) left_last.some;
-                  few = subst (λ n. n ≤ 64) (sym len) left_last.few;
-                  come = subst (λ n. HasCome n (served resumed_store)) (sym len) (comes_on (length old) resumed_store (served resumed_store) left_last.come goes);
-                  count = left_last.len ∙ sym len;
-                  stand = (refl, stand_now);
-                  base = (
-                    omega arith,
-                    inl (newest_stays (used_slot r.used) w.starts resumed_store (served resumed_store) (is_left past_kept resumed_store left_last) goes (λ slot at. refl) newest_resumed),
-                  );
-                  settled = all_on (length old) standing.settled resumed_store (served resumed_store) left_last.some left_last.few left_last.come goes left_last.settled_so;
-                  keeps = left_last.keeps;
-                  now = serving_now;
-                }
+            -- but there is no state
+            pub without_state : Refuses new kept_slots
+            without_state = record {
+              past_now = past_kept;
+              kept = keeps;
+              holds =
+                  holds_so chains.generation w past_kept resumed_store new kept_slots base_resumed len_new left_last stand_now
+                  (all_open_down chains.generation w resumed_store new all_left);
+            }
+
+            -- the state serves
+            module _ (v : StateView) (logs : ℕ) (restored : IsRestored r.resume logs accounts r.pairs.items v) (right : IsRightState v) (count : length new ≡ logs)
+                (serving : Serving) (state : serving.state ≡ v) (fresh : IsFresh serving) (turns_to : serving.generation ≡ chains.generation + 1) where
+              abbrev next : Life
+              next = life_from (pairs_of r.pairs.items) r.resume
+
+              rest_at : RestAt (resume_of fronts read) resumed.logs
+              rest_at = record { rest = resumed.rest_so; marks = resumed.marks }
+
+              cutoff_upto : cutoff_of fronts ≤ r.resume
+              cutoff_upto =
+                  let upto = over_cutoff in
+                  let same = so.1 in
+                  omega (arith, upto, same)
+
+              ended : All (λ p. p.change.stamp ≤ r.resume) resumed_store.history
+              ended = All-weaker (λ (p : Placed). p.change.stamp ≤ cutoff_of fronts) (λ p. p.change.stamp ≤ r.resume) (λ p le. omega (arith, le, cutoff_upto)) resumed_store.history
+                  (made_upto (cutoff_of fronts) s.history)
+
+              found_now : pairs_of r.pairs.items ≡ pairs_upto (cutoff_of fronts) s.history
+              found_now = so.0 ∙ ap (λ n. pairs_upto n s.history) so.1
+
+              count_logs : length resumed_store.logs ≡ logs
+              count_logs = left_last.len ∙ sym len_new ∙ count
+
+              serving_now : HoldsServing chains.generation (only_whole w) accounts (λ id. None) next (served resumed_store) new serving
+              serving_now =
+                  begins_serving accounts (pairs_of r.pairs.items) r.resume logs v (begins_restored accounts r.resume logs r.pairs.items v restored) right (served resumed_store) refl (sym so.2) count_logs
+                  (subst (λ n. RestAt n resumed.logs) (sym so.2) rest_at) ended found_now serving state chains.generation w new fresh turns_to all_left
+
+              -- the next life
+              pub with_state : Holds accounts (Rest kept_slots) (crashed_to (Ok next) standing) new (Some serving)
+              with_state =
+                  let goes = serves_now resumed_store refl rest_at resumed.held in
+                  let len = len_new in
+                  record {
+                    s = served resumed_store;
+                    from = chains.generation;
+                    turning = only_whole w;
+                    some = subst (λ n. 0 < n) (sym len) left_last.some;
+                    few = subst (λ n. n ≤ 64) (sym len) left_last.few;
+                    come = subst (λ n. HasCome n (served resumed_store)) (sym len) (comes_on (length old) resumed_store (served resumed_store) left_last.come goes);
+                    count = left_last.len ∙ sym len;
+                    stand = (refl, stand_now);
+                    base = (
+                      omega arith,
+                      inl (newest_stays (used_slot r.used) w.starts resumed_store (served resumed_store) (is_left past_kept resumed_store left_last) goes (λ slot at. refl) newest_resumed),
+                    );
+                    settled = all_on (length old) standing.settled resumed_store (served resumed_store) left_last.some left_last.few left_last.come goes left_last.settled_so;
+                    keeps = left_last.keeps;
+                    now = serving_now;
+                  }
 
   -- ---- each outcome
 
   after_slots : (e : LogRefusal) (new : List (StoreLog MemDisk)) (now : StoreSlots MemDisk) (a : StopsAfterSlots keeps_rules mem_state failures_of accounts e old slots new now)
       → StopsOpening keeps_rules mem_state failures_of (slots_of (in_order a.found)) e old new
-      ⊎ (IsRefusedOf keeps_rules mem_state failures_of accounts e (slots_of (in_order a.found)) old new ⊎ ResumesInPart keeps_rules mem_state failures_of accounts e (slots_of (in_order a.found)) old new)
+      ⊎ (IsRefusedOf keeps_rules mem_state failures_of accounts e (slots_of (in_order a.found)) old new
+      ⊎ (ResumesInPart keeps_rules mem_state failures_of accounts e (slots_of (in_order a.found)) old new
+      ⊎ GivesUpInPart keeps_rules mem_state failures_of accounts e (slots_of (in_order a.found)) old new))
       → IsMemoryOrDevice e.refusal × Refuses new now
   after_slots e new now a (inl stops) = not_opened now a.found a.reads e new stops
   after_slots e new now a (inr (inl r)) = refused_for now a.found a.reads new r.chains r.opens e.refusal r.refused
-  after_slots e new now a (inr (inr p)) = not_resumed now a.found a.reads p.mid p.chains p.opens p.r p.recovers.over e new p.stops
+  after_slots e new now a (inr (inr (inl p))) = not_resumed now a.found a.reads p.mid p.chains p.opens p.r p.recovers.over e new p.stops
+  after_slots e new now a (inr (inr (inr p))) = not_left now a.found a.reads p.mid p.chains p.opens p.r p.recovers.over p.resumed p.resumes p.none e new p.stops
 
   pub not_recovered : (e : StoreRefusal) (new : List (StoreLog MemDisk)) (now : StoreSlots MemDisk) → IsNotRecovered keeps_rules mem_state failures_of accounts e old slots new now
       → IsMemoryOrDevice (refusal_in e) × Refuses new now
   not_recovered (OfLogs e) new now a = after_slots e new now a a.why
   not_recovered (OfSlot fault) new now r = let d = not_read fault now r.0 in (d.0, subst (λ ls. Refuses ls now) (sym r.1) d.1)
 
-  pub recovered_down : (r : Found) (new : List (StoreLog MemDisk)) (now : StoreSlots MemDisk) → ServesAgain keeps_rules mem_state failures_of accounts r old slots new now
-      → Refuses new now
-  recovered_down r new now a =
-      subst (λ ss. Refuses new ss) (sym a.keeps) (without_state a.rested a.found a.reads a.mid a.chains a.opens r a.recovers.over new a.resumes)
+  pub recovered_down : (r : Found) (generation : ℕ) (new : List (StoreLog MemDisk)) (now : StoreSlots MemDisk)
+      → ServesAgain keeps_rules mem_state failures_of accounts r generation old slots new now → Refuses new now
+  recovered_down r generation new now a =
+      subst (λ ss. Refuses new ss) (sym a.keeps) (without_state a.rested a.found a.reads a.mid a.chains a.opens r a.recovers.over a.resumed a.resumes new a.leaves)
 
-  pub recovered_up : (r : Found) (new : List (StoreLog MemDisk)) (now : StoreSlots MemDisk) → ServesAgain keeps_rules mem_state failures_of accounts r old slots new now
-      → (v : StateView) → IsRestored r.resume (length new) accounts r.pairs.items v → IsRightState v → (serving : Serving) → serving.state ≡ v → IsFresh new serving
+  pub recovered_up : (r : Found) (generation : ℕ) (new : List (StoreLog MemDisk)) (now : StoreSlots MemDisk)
+      → ServesAgain keeps_rules mem_state failures_of accounts r generation old slots new now → (v : StateView) → IsRestored r.resume (length new) accounts r.pairs.items v → IsRightState v
+      → (serving : Serving) → serving.state ≡ v → IsFresh serving → serving.generation ≡ generation + 1
       → (next : Standing) × (standing.settled ≤ r.cutoff) × (r.cutoff ≤ r.resume) × AreLeftOf (quotas_of accounts) (past_of standing.now).life (min (past_of standing.now).kept r.cutoff) (pairs_of r.pairs.items)
       × (next ≡ crashed_to (Ok (life_from (pairs_of r.pairs.items) r.resume)) standing) × Holds accounts (Rest now) next new (Some serving)
-  recovered_up r new now a v restored right serving state fresh = (
+  recovered_up r generation new now a v restored right serving state fresh turns_to = (
     crashed_to (Ok (life_from (pairs_of r.pairs.items) r.resume)) standing,
     settled_upto a.rested a.found a.reads a.mid a.chains a.opens r a.recovers.over,
     over_cutoff a.rested a.found a.reads a.mid a.chains a.opens r a.recovers.over,
     left_of a.rested a.found a.reads a.mid a.chains a.opens r a.recovers.over,
     refl,
     subst (λ (ss : StoreSlots MemDisk). Holds accounts (Rest ss) (crashed_to (Ok (life_from (pairs_of r.pairs.items) r.resume)) standing) new (Some serving)) (sym a.keeps)
-        (with_state a.rested a.found a.reads a.mid a.chains a.opens r a.recovers.over new a.resumes v (length new) restored right refl serving state fresh),
+        (with_state a.rested a.found a.reads a.mid a.chains a.opens r a.recovers.over a.resumed a.resumes new a.leaves v (length new) restored right refl serving state fresh
+        (turns_to ∙ ap (λ n. n + 1) a.from)),
   )
 
 -- ---- what is noted of a crash
@@ -371,10 +416,10 @@ module _ (accounts : Accounts) (slots between now : StoreSlots MemDisk) (old mid
   left_by standing h = leaves accounts slots between standing old mid was images.logs.items images.first.items images.second.items h crash.logs_crash crash.slots_crash
 
   -- the store is recovered
-  pub crashes_recovered : (r : Found) (serving : Serving) → AreRecovered accounts between now r mid new → Begins accounts r new serving
+  pub crashes_recovered : (r : Found) (serving : Serving) → AreRecovered accounts between now r serving.generation mid new → Begins accounts r new serving
       → CrashesTo accounts (Rest slots) (Rest now) (Recovered r) old was new (Some serving)
   crashes_recovered r serving again begins = λ named standing h.
-      let up = recovered_up accounts between standing mid (left_by standing h) r new now again serving.state begins.state begins.right serving refl begins.fresh in
+      let up = recovered_up accounts between standing mid (left_by standing h) r again.0 new now again.2 serving.state begins.state begins.right serving refl begins.fresh again.1 in
       (up.0, (up.1, up.2, up.3, up.4), up.5)
 
   -- or not
@@ -388,7 +433,7 @@ module _ (accounts : Accounts) (slots between now : StoreSlots MemDisk) (old mid
         down.1.holds,
       ))
       (λ memory.
-      let down = recovered_down accounts between standing mid (left_by standing h) memory.1.0 new now memory.1.1 in (
+      let down = recovered_down accounts between standing mid (left_by standing h) memory.1.0 memory.1.2.0 new now memory.1.2.2 in (
         crashed_to (Err down.past_now) standing,
         (inl memory.0, (down.past_now, down.kept, refl)),
         down.holds,

@@ -1,5 +1,5 @@
 -- An older log is given up in a turn. After the last one the turn has ended.
-use Rattle.std.proofs.Common.{◌≡◌, ◌≢◌, ◌⊎◌, ℕ, ◌+◌, ◌<◌, true, List, length, Some, None, Ok, Err, refl, sym, ap, subst, ◌∙◌, arith, inl, inr}
+use Rattle.std.proofs.{Common.{◌≡◌, ◌≢◌, ◌⊎◌, ℕ, ◌+◌, ◌-◌, ◌^◌, ◌<◌, ◌≤◌, min, true, List, length, Some, None, Ok, Err, refl, sym, ap, subst, ◌∙◌, arith, inl, inr, ⊎_elim}, lemmas.Bool.cases_lt}
 use Rattle.std.specs.Prelude.{slice_get, slice_set}
 use Rattle.mt_rows.specs.{Accounts.Accounts, declared.refusal.Refusal.Refusal}
 use Rattle.mt_disk.specs.{declared.mem.MemDisk.MemDisk, Mem.mem_state}
@@ -8,7 +8,7 @@ use Rattle.mt_slots.specs.declared.store_slots.StoreSlots.{StoreSlots}
 use Rattle.mt_chain_files.specs.Turns.{FilesNow}
 use Rattle.mt_store_logs.specs.declared.store_log.StoreLog.{StoreLog}
 use Rattle.mt_store_logs.specs.Ends.{StandsInTurn}
-use Rattle.mt_store_logs.proofs.{OlderLaws.{given_up_in_turn, not_given_up_in_turn}, NextTurn.{turned as turned_on}}
+use Rattle.mt_store_logs.proofs.{OlderLaws.{given_up_in_turn, not_given_up_in_turn}, NextTurn.{turned as turned_next}}
 use Rattle.mt_lives.specs.{declared.live_slots.LiveSlots.LiveSlots, declared.live_slots.LiveSlots.TheVariants.{Rest, Turns}}
 use Rattle.mt_lives.specs.declared.live_slots.TurnStage.TheVariants.{GivesUp}
 use Rattle.mt_lives.specs.declared.events.StoreNote.TheVariants.{TurnEnded}
@@ -20,6 +20,16 @@ use Rattle.mt_lives.specs.Holds.{HoldsKept, IsLogAt, EachLog, HoldsServing, Hold
 use Rattle.mt_lives.proofs.Turning.{forget_part, new_part, given_part, not_given_part, on_begins, given_to, others_given, this_given, surely_given}
 use Rattle.mt_lives.proofs.{Logged.set_length, Flushing.{keeps_rules, failures_of}, Noting.{life_served, held, found}}
 use Rattle.mt_lives.proofs.TurnParts.{Goes, at_stage, each_so, holds_turned, is_next, is_turning, replaced, served, starts_so, with_part}
+
+-- the generation after one, or that one again if 64 bits tell no later one
+abbrev pub next_of : ℕ → ℕ
+next_of g = min (g + 1) (2 ^ 64 - 1)
+
+one_on : (g : ℕ) → g < 2 ^ 64 → (next_of g ≡ g + 1) ⊎ (next_of g ≡ g)
+one_on g fits = ⊎_elim
+    (λ (under : g + 1 < 2 ^ 64). inl (omega (arith, under)))
+    (λ (over : 2 ^ 64 ≤ g + 1). inr (omega (arith, over, fits)))
+    (cases_lt (g + 1) (2 ^ 64))
 
 module _ (accounts : Accounts) (standing : Standing) (slots : StoreSlots MemDisk) (k : ℕ) (logs : List (StoreLog MemDisk)) (serving : Serving)
     (h : Holds accounts (Turns (turn_at slots (GivesUp k))) standing logs (Some serving)) (old new : StoreLog MemDisk) (here : slice_get logs k ≡ Some old) where
@@ -80,7 +90,10 @@ module _ (accounts : Accounts) (standing : Standing) (slots : StoreSlots MemDisk
         (set_length logs k new) (starts_so accounts turn_now standing logs serving h) (in_stage.0, omega arith, omega (arith, lt, count, other), in_stage.3) h.stand each_given
 
     -- All older logs are given up: the turn has ended, and the next one goes from the next generation.
-    module _ (end : k + 1 ≡ length logs) (on : Serving) (turns_on : TurnsOn serving on) where
+    module _ (end : k + 1 ≡ length logs) (fits : serving.generation < 2 ^ 64) (on : Serving) (turns_on : TurnsOn serving on) where
+      abbrev turned_on : Serving
+      turned_on = record serving { generation = next_of serving.generation }
+
       lt_all : (j : ℕ) → j < length h.s.logs → j < given.given
       lt_all j lt = let count = h.count in omega (arith, lt, count, end)
 
@@ -91,7 +104,7 @@ module _ (accounts : Accounts) (standing : Standing) (slots : StoreSlots MemDisk
               → IsLogAt (h.from + 1) (part_of (only_whole h.turning.whole) j) h.s serving.state.logs j n log
           on_one j n log lt a =
               let spare = surely_given h.from given j a.files (lt_all j lt) a.begins in
-              let r = turned_on keeps_rules mem_state h.from n a.files log a.stands spare in
+              let r = turned_next keeps_rules mem_state h.from n a.files log a.stands spare in
               record {
                 files = a.files;
                 stands = r.0;
@@ -103,19 +116,20 @@ module _ (accounts : Accounts) (standing : Standing) (slots : StoreSlots MemDisk
       stand_rest : LiveSlotsStand accounts None standing.now h.s.slots h.s.history h.s.steps (Rest slots)
       stand_rest = (refl, h.stand.2)
 
-      ended_by : (turns_on.0 ≡ serving.generation + 1) ⊎ (turns_on.0 ≡ serving.generation) → Holds accounts (Rest slots) (checking None standing) (slice_set logs k new) (Some (record serving { generation = turns_on.0 }))
+      ended_by : (next_of serving.generation ≡ serving.generation + 1) ⊎ (next_of serving.generation ≡ serving.generation)
+          → Holds accounts (Rest slots) (checking None standing) (slice_set logs k new) (Some turned_on)
       ended_by (inl more) =
-          holds_turned accounts turn_now standing logs serving h (h.from + 1) (only_whole h.turning.whole) (Rest slots) None (slice_set logs k new) (record serving { generation = turns_on.0 }) refl refl refl
+          holds_turned accounts turn_now standing logs serving h (h.from + 1) (only_whole h.turning.whole) (Rest slots) None (slice_set logs k new) turned_on refl refl refl
           (more ∙ ap (λ n. n + 1) was.turns_to) (set_length logs k new) (omega arith) (inl in_stage.3) stand_rest each_on
       ended_by (inr same) =
-          holds_turned accounts turn_now standing logs serving h h.from given (Rest slots) None (slice_set logs k new) (record serving { generation = turns_on.0 }) refl refl refl
+          holds_turned accounts turn_now standing logs serving h h.from given (Rest slots) None (slice_set logs k new) turned_on refl refl refl
           (same ∙ was.turns_to) (set_length logs k new) (starts_so accounts turn_now standing logs serving h) (inl in_stage.3) stand_rest each_given
 
       pub ended_goes : Goes accounts standing TurnEnded (Rest slots) (slice_set logs k new) on
       ended_goes = (
         checking None standing,
         (served accounts turn_now standing logs serving h, is_turning accounts standing slots (GivesUp k) logs serving h, refl),
-        subst (λ (x : Serving). Holds accounts (Rest slots) (checking None standing) (slice_set logs k new) (Some x)) (sym turns_on.1) (ended_by turns_on.2),
+        subst (λ (x : Serving). Holds accounts (Rest slots) (checking None standing) (slice_set logs k new) (Some x)) (sym turns_on) (ended_by (one_on serving.generation fits)),
       )
 
   -- it is not, and may be there or not

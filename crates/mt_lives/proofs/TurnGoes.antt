@@ -1,5 +1,5 @@
 -- Where a part of a turn that is a log's goes, by what its calls tell.
-use Rattle.std.proofs.Common.{◌≡◌, ◌≢◌, ⊎_elim, ℕ, ◌+◌, ◌<◌, List, length, Some, Ok, Err, refl, ap, subst, arith, inl, inr}
+use Rattle.std.proofs.Common.{◌≡◌, ◌≢◌, ⊎_elim, ℕ, ◌+◌, ◌^◌, ◌<◌, List, length, Some, Ok, Err, refl, ap, subst, arith, inl, inr}
 use Rattle.std.specs.Prelude.{slice_get, slice_set}
 use Rattle.mt_rows.specs.{Accounts.Accounts, declared.refusal.Refusal.Refusal}
 use Rattle.mt_disk.specs.{declared.mem.MemDisk.MemDisk, Mem.mem_state}
@@ -139,8 +139,9 @@ module _ (accounts : Accounts) (standing : Standing) (slots : StoreSlots MemDisk
       turned accounts standing slots (GivesUp k) logs serving h (slice_set logs k new) serving (GivesUp (k + 1))
       (given_holds accounts standing slots k logs serving h log new here gives other)
 
-  pub give_up_ends : TellsGivenUp (Ok tt) log new → k + 1 ≡ length logs → (on : Serving) → TurnsOn serving on → Goes accounts standing TurnEnded (Rest slots) (slice_set logs k new) on
-  give_up_ends gives end on turns_on = ended_goes accounts standing slots k logs serving h log new here gives end on turns_on
+  pub give_up_ends : TellsGivenUp (Ok tt) log new → k + 1 ≡ length logs → serving.generation < 2 ^ 64 → (on : Serving) → TurnsOn serving on
+      → Goes accounts standing TurnEnded (Rest slots) (slice_set logs k new) on
+  give_up_ends gives end fits on turns_on = ended_goes accounts standing slots k logs serving h log new here gives end fits on turns_on
 
   pub give_up_stops : (e : Refusal) → TellsGivenUp (Err e) log new → Goes accounts standing (Refused e) (Rest slots) (slice_set logs k new) serving
   give_up_stops e fails =

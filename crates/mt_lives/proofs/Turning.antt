@@ -67,7 +67,7 @@ spare_left : (file : FileNow) → file ≡ Spare → MayLeaveFile file None
 spare_left file spare = subst (λ (f : FileNow). MayLeaveFile f None) (sym spare) refl
 
 -- files of which the next one stays
-next_stays : (g : ℕ) (whole : Whole) (files then : FilesNow) → whole.generation ≡ g + 1 → now_of (g + 1) then ≡ now_of (g + 1) files → BeginsBy g whole files
+pub next_stays : (g : ℕ) (whole : Whole) (files then : FilesNow) → whole.generation ≡ g + 1 → now_of (g + 1) then ≡ now_of (g + 1) files → BeginsBy g whole files
     → BeginsBy g whole then
 next_stays g whole files then is same begins =
     from_next g whole then is (subst (StartsBy whole.starts) (sym same) (at_next g whole files is begins))

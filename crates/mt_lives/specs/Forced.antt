@@ -66,7 +66,7 @@ pub record AllCrash (images : CrashImages) (logs : Logs) (slots : Slots) (now_lo
 
 -- a crash: all disks crashed to these images, unless they may not leave them, and the store was then recovered, or not
 abbrev pub IsCrashForced : Accounts → CrashImages → StoreNote → Slots → Slots → Logs → Logs → Type 0
-IsCrashForced accounts images (Recovered r) slots now old new = (mid : Logs) × (between : Slots) × AllCrash images old slots mid between × AreRecovered accounts between now r mid new
+IsCrashForced accounts images (Recovered r) slots now old new = (mid : Logs) × (between : Slots) × AllCrash images old slots mid between × ((next : ℕ) × AreRecovered accounts between now r next mid new)
 IsCrashForced accounts images (Refused e) slots now old new = (mid : Logs) × (between : Slots) × AllCrash images old slots mid between × AreNotRecovered accounts between now e mid new
 IsCrashForced accounts images NoSuch slots now old new = (new ≡ old) × (now ≡ slots) × (¬ MayLeaveAll images old slots)
 IsCrashForced accounts images note slots now old new = ⊥

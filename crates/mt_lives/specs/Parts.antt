@@ -1,5 +1,5 @@
 -- What a part of a turn makes of a log, and which part comes next.
-use Rattle.std.specs.Prelude.{◌≡◌, ◌≢◌, ◌⊎◌, ℕ, ◌+◌, ◌-◌, ◌^◌, ◌<◌, ◌≤◌, true, List, length, Some, Result, Ok, Err, slice_get}
+use Rattle.std.specs.Prelude.{◌≡◌, ◌≢◌, ◌⊎◌, ℕ, ◌+◌, ◌-◌, ◌^◌, ◌<◌, ◌≤◌, min, true, List, length, Some, Result, Ok, Err, slice_get}
 use Rattle.mt_rows.specs.{Accounts.{Accounts, numbers_of}, declared.refusal.Refusal.Refusal}
 use Rattle.mt_disk.specs.{declared.mem.MemDisk.MemDisk, Mem.mem_state}
 use Rattle.mt_slots.specs.declared.store_slots.StoreSlots.{StoreSlots}
@@ -49,6 +49,6 @@ abbrev pub ComesAfter : ℕ → Settle → ℕ → TurnStage → Type 0
 ComesAfter count settle mark next =
     ((settle.next + 1 ≡ count) × (next ≡ GivesUp 0)) ⊎ ((settle.next + 1 ≢ count) × (next ≡ Settles (one_turn_more settle mark)))
 
--- what serves goes on to the generation after the one to which the turn went, if there is one
+-- what serves goes on to the generation after the one to which the turn went, as far as 64 bits tell it
 abbrev pub TurnsOn : Serving → Serving → Type 0
-TurnsOn was is = (g : ℕ) × (is ≡ record was { generation = g }) × ((g ≡ was.generation + 1) ⊎ (g ≡ was.generation))
+TurnsOn was is = is ≡ record was { generation = min (was.generation + 1) (2 ^ 64 - 1) }

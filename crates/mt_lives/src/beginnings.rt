@@ -17,7 +17,6 @@ use mt_log_files::WorkerFiles;
 use mt_rows::{Refusal, Tenants};
 use mt_slots::StoreSlots;
 use mt_store_logs::{closed_logs, create_logs};
-use mt_stored::next_turn;
 use std::alloc::Global;
 
 /// A new store on these files. The logs are made before the slots. Errors: `Device`, `Memory`.
@@ -47,7 +46,7 @@ pub(crate) fn created(
     }
     let state = State::new(alloc, logs.len() as u8, tenants.copied()?)?;
     state.facts();
-    let serving = Some(Serving::new(alloc, state, next_turn(&logs)));
+    let serving = Some(Serving::new(alloc, state, 1));
     Ok(Store {
         logs,
         slots: LiveSlots::Rest(slots),

@@ -17,8 +17,7 @@ use mt_disk::MemDisk;
 use mt_recover::Recovered;
 use mt_rows::{Refusal, Tenants};
 use mt_slots::StoreSlots;
-use mt_store_logs::{NoWatch, StoreLog, crash_logs, recover_store};
-use mt_stored::next_turn;
+use mt_store_logs::{NoWatch, RecoveredStore, StoreLog, crash_logs, recover_store};
 use std::alloc::{AllocError, Global};
 
 /// Gives up a turn that is made. Crashes all disks, each to its image, and recovers the store. `NoSuch` if
@@ -106,16 +105,19 @@ fn come_back(
     requires few { length logs.old ≤ 64 }
     requires empty { HaveNoPairs tenants.now }
     ensures workers { workers_of logs.new ≡ workers_of logs.old }
-    ensures recovered { IfOk result (λ r. AreRecovered tenants.now slots.old slots.new r.0 logs.old logs.new) }
+    ensures recovered { IfOk result (λ r. AreRecovered tenants.now slots.old slots.new r.0 r.1.generation logs.old logs.new) }
     ensures begins { IfOk result (λ r. Begins tenants.now r.0 logs.new r.1) }
     ensures err { IfErr result (λ e. AreNotRecovered tenants.now slots.old slots.new e logs.old logs.new) }
 {
-    let recovered = match recover_store(alloc, logs, slots, tenants, &mut NoWatch) {
-        Ok(recovered) => recovered,
+    let RecoveredStore {
+        recovered,
+        generation,
+    } = match recover_store(alloc, logs, slots, tenants, &mut NoWatch) {
+        Ok(store) => store,
         Err(refused) => return Err(refused.refusal()),
     };
     match restored(alloc, tenants, logs.len() as u8, &recovered) {
-        Ok(state) => Ok((recovered, Serving::new(alloc, state, next_turn(logs)))),
+        Ok(state) => Ok((recovered, Serving::new(alloc, state, generation + 1))),
         Err(AllocError) => Err(Refusal::Memory),
     }
 }

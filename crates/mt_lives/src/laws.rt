@@ -73,20 +73,20 @@ pub fn wrong_notes_are_refused()
 {}
 
 /// The server's store that is owned alone and was just made stands as a new one. Its state is right, and nothing has a
-/// name yet: no event, and no Settle.
+/// name yet: no event, and no Settle. Its first turn goes to generation 1.
 pub fn an_owned_store_begins_as_a_new_one()
     ensures { (accounts : Accounts) (serving : AnyServing) (files : List (WorkerFiles AnyDisk)) (bare slots : AnySlots AnyDisk) (logs : List (AnyLog AnyDisk)) → 0 < length files → length files ≤ 64
         → IsNewStore ⟦<MemDisk as Disk>⟧.is_honest ⟦<MemDisk as Disk>⟧.state ⟦<MemDisk as Disk>⟧.failures files bare accounts serving.state logs (Some slots)
-        → IsRightState serving.state → IsFresh logs serving → Holds accounts (Rest slots) new_standing logs (Some serving) }
+        → IsRightState serving.state → IsFresh serving → serving.generation ≡ 1 → Holds accounts (Rest slots) new_standing logs (Some serving) }
 {}
 
 /// A store whose disks crashed, each to its image, and that was recovered from what they left of its files stands as
-/// after that crash, noted Recovered. Its state is right, and nothing has a name.
+/// after that crash, noted Recovered. Its state is right, and nothing has a name. Its next turn goes to the same generation.
 pub fn an_owned_store_is_recovered_as_after_a_crash()
     ensures { (accounts : Accounts) (slots found now : AnySlots AnyDisk) (was : Option AnyServing) (serving : AnyServing) (old left new : List (AnyLog AnyDisk))
         (images : CrashImages) → AllCrash images old slots left found
-        → IsRecoveredStore ⟦<MemDisk as Disk>⟧.is_honest ⟦<MemDisk as Disk>⟧.state ⟦<MemDisk as Disk>⟧.failures (map files_of left) found accounts serving.state new (Some now)
-        → IsRightState serving.state → IsFresh new serving → (r : AnyRecovered) × GoesOn accounts (Rest slots) (Rest now) (Crash images) (Recovered r) old was new (Some serving) }
+        → IsRecoveredStore ⟦<MemDisk as Disk>⟧.is_honest ⟦<MemDisk as Disk>⟧.state ⟦<MemDisk as Disk>⟧.failures (map files_of left) found accounts serving.state new (Some now) serving.generation
+        → IsRightState serving.state → IsFresh serving → (r : AnyRecovered) × GoesOn accounts (Rest slots) (Rest now) (Crash images) (Recovered r) old was new (Some serving) }
 {}
 
 /// A turn of that store is a list of events of its log: a reopening if the log isn't open, and flushes. Their notes

@@ -1,6 +1,6 @@
 //! What a store has while it serves.
 
-ghost use Rattle.std.specs.Prelude.{◌≡◌, []};
+ghost use Rattle.std.specs.Prelude.{◌≡◌, ◌<◌, ◌^◌, []};
 ghost use Rattle.mt_lives.specs.Parts.{TurnsOn};
 
 use mt_core::{Roster, State};
@@ -47,7 +47,8 @@ impl Serving {
 
     /// A turn has ended. The next one goes to the generation after it.
     pub(crate) fn turn_on(&mut self)
-        ensures { TurnsOn self.old self.new }
+        ensures on { TurnsOn self.old self.new }
+        ensures fits { self.old.generation < 2 ^ 64 }
     {
         self.generation = self.generation.saturating_add(1);
     }

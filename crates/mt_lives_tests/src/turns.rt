@@ -58,9 +58,9 @@ const FOUND: [(usize, usize); 5] = [(9, 24), (9, 25), (9, 26), (19, 27), (31, 32
 // The ends of the turns before the last crash.
 const EARLIER: [usize; 3] = [5, 11, 21];
 
-// So many rows end with a turn, which leaves this generation. The third turn is made in the second life. The next one
-// begins no logs, since it isn't known after a crash whether the older ones stand.
-const LEAVES: [(usize, u64); 5] = [(6, 1), (12, 2), (22, 3), (35, 3), (37, 4)];
+// So many rows end with a turn, which leaves this generation. The third turn is made in the second life. After the later
+// crashes one generation stands, so the next turn begins another.
+const LEAVES: [(usize, u64); 5] = [(6, 1), (12, 2), (22, 3), (35, 4), (37, 5)];
 
 // Whether the store comes back with what was settled, and serves on: a Settle and two turns end.
 fn comes_back(noted: &[Noted]) -> bool {

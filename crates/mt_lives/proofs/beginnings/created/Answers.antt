@@ -1,11 +1,10 @@
 -- The logs that were made, and a state in which nothing has happened, are those of a new store.
-use Rattle.std.proofs.{Common.{rules, ◌≡◌, ◌++◌, List, length, take, drop, refl, sym, ap, subst, ◌∙◌, Some}, Math.Seq.take-append_seam}
+use Rattle.std.proofs.{Common.{rules, ◌≡◌, ◌++◌, length, take, drop, refl, sym, ap, subst, ◌∙◌, Some}, Math.Seq.take-append_seam}
 use Rattle.std.specs.Prelude.{vec_len}
 use Rattle.mt_state.specs.Begins.{new_state}
 use Rattle.mt_lives.{specs.{declared.live_slots.LiveSlots.TheVariants.Rest, Lives.new_standing, Holds.Holds, Returns.IsFresh}, proofs.{Flushing.{keeps_rules, failures_of}, Beginning.holds_new}}
-use Rattle.mt_disk.specs.{declared.mem.MemDisk.MemDisk, Mem.mem_state}
-use Rattle.mt_stored.specs.Begins.{IsNextTurn}
-use Rattle.mt_store_logs.{specs.{declared.store_log.StoreLog.StoreLog, Places.AreInOrder, Opens.{AreClosedOn, MakesAll}}, proofs.Closed.{closed_in_order, same_order}}
+use Rattle.mt_disk.specs.Mem.{mem_state}
+use Rattle.mt_store_logs.{specs.{Places.AreInOrder, Opens.{AreClosedOn, MakesAll}}, proofs.Closed.{closed_in_order, same_order}}
 use Rattle.mt_lives.proofs.beginnings.created.Goals as goal
 
 pub returns-clause-ok : goal.returns-clause-ok
@@ -20,14 +19,13 @@ returns-clause-ok c =
     let len : c.in_ok-logs.logs.len ≡ length made = search rules in
     let whole : take c.in_ok-logs.logs.len (made ++ behind) ≡ made = ap (λ n. take n (made ++ behind)) len ∙ take-append_seam made behind in
     let is : c.in_ok-state.state ≡ new_state (length made) c.args.tenants.now = search rules in
-    let fresh : IsFresh made c.new-2.result = record {
+    let fresh : IsFresh c.new-2.result = record {
       tickets = c.new-2.ensures.tickets;
       names = c.new-2.ensures.names;
       settles = c.new-2.ensures.settles;
-      generation = subst (IsNextTurn made) (sym c.new-2.ensures.generation) (subst (λ (logs : List (StoreLog MemDisk)). IsNextTurn logs c.next_turn.result) (c.deref.ensures.value ∙ whole) c.next_turn.ensures);
     } in
     subst (λ logs. Holds c.args.tenants.now (Rest c.create.new.self) new_standing logs (Some c.new-2.result)) (sym whole)
-    (holds_new c.args.tenants.now files was made c.requires.some c.requires.few closed c.in_default.ensures.ok c.in_ok-state.state is c.facts.ensures c.new-2.result c.new-2.ensures.state fresh
+    (holds_new c.args.tenants.now files was made c.requires.some c.requires.few closed c.in_default.ensures.ok c.in_ok-state.state is c.facts.ensures c.new-2.result c.new-2.ensures.state fresh c.new-2.ensures.generation
     c.args.slots c.create.new.self c.in_default-create.ensures.ok)
 
 pub returns-clause-order : goal.returns-clause-order

@@ -22,7 +22,7 @@ pub returns-then-not-branch-clause-forced : goal.returns-then-not-branch-clause-
 returns-then-not-branch-clause-forced c = c.in_ok-crash_all.ensures.unchanged c.if-not-branch.true
 
 pub returns-in-Ok-clause-forced : goal.returns-in-Ok-clause-forced
-returns-in-Ok-clause-forced c = (c.crash_all.new.logs, c.crash_all.new.slots, c.in_ok-crash_all.ensures.crashed c.if-not-branch.false, c.in-Ok.ensures.recovered)
+returns-in-Ok-clause-forced c = (c.crash_all.new.logs, c.crash_all.new.slots, c.in_ok-crash_all.ensures.crashed c.if-not-branch.false, (c.in-Ok.begun.generation, c.in-Ok.ensures.recovered))
 
 pub returns-in-Err-clause-forced : goal.returns-in-Err-clause-forced
 returns-in-Err-clause-forced c = (c.crash_all.new.logs, c.crash_all.new.slots, c.in_ok-crash_all.ensures.crashed c.if-not-branch.false, c.in-Err.ensures.err)

@@ -49,8 +49,8 @@ returns-then-place-logs-clause-goes c = λ accounts standing h.
     let here = subst (λ k. slice_get logs k ≡ Some log) c.from-place.ensures (slice_get-get_or logs place c.index-logs-place.result (omega (arith, lt, c.from-place.ensures))) in
     let same = set_length logs place new in
     subst (λ k. Goes accounts standing TurnEnded (Rest c.args.slots) (slice_set logs k new) c.turn_on.new.self) (sym c.from-place.ensures)
-    (give_up_ends accounts standing c.args.slots c.args.log logs was h log new here c.in_default.ensures.ok (omega (arith, same, c.from-place.ensures, c.if-place-logs.true)) c.turn_on.new.self
-    c.turn_on.ensures)
+    (give_up_ends accounts standing c.args.slots c.args.log logs was h log new here c.in_default.ensures.ok (omega (arith, same, c.from-place.ensures, c.if-place-logs.true)) c.turn_on.ensures.fits c.turn_on.new.self
+    c.turn_on.ensures.on)
 
 pub returns-clause-goes : goal.returns-clause-goes
 returns-clause-goes c = λ accounts standing h.
