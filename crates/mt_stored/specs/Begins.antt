@@ -1,5 +1,5 @@
 -- A log is opened again and brought up to date, and goes to a generation: if it is of an earlier one, its next log is begun.
-use Rattle.std.specs.Prelude.{◌≡◌, ◌⊎◌, ℕ, ◌<◌, ◌≤◌, Bool, List, Some, slice_get}
+use Rattle.std.specs.Prelude.{◌⊎◌, ℕ, ◌<◌, ◌≤◌, Bool}
 use Rattle.mt_rows.specs.{declared.record.Batch.Batch, declared.refusal.Refusal.Refusal}
 use Rattle.mt_disk.specs.Disk.{DiskState}
 use Rattle.mt_store_logs.specs.{declared.store_log.StoreLog.StoreLog, LogTurns.IsNotReopened}
