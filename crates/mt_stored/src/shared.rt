@@ -101,12 +101,7 @@ impl<L: Ledger, D: Disk + Drop> Logs for SharedLogs<'_, L, D> {
         if guard.worker() != log {
             return Err(Refusal::LogCount);
         }
-        let before = guard.mark();
-        let told = guard.give_up_older();
-        if let Some(change) = change_of(log, before, guard.mark()) {
-            warn!(rt; "{change}");
-        }
-        told
+        guard.give_up_older()
     }
 }
 
