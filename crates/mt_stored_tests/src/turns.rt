@@ -186,6 +186,24 @@ fn each_turn_leaves_one_generation(rt: HostRuntime) {
     }
 }
 
+const NOT_BEGUN: &str =
+    "[WARN  mt_stored::shared] log 0: its disk failed; it is closed until a write succeeds
+[WARN  mt_service::callers] a turn of the logs was not finished: E10
+";
+
+// The first call after those that make the file for generation 1 fails.
+#[test]
+fn a_log_whose_next_one_is_not_begun_is_warned_of(rt: HostRuntime) {
+    let alloc = rt.alloc();
+    let case = Case {
+        disk: 2,
+        call: 4,
+        rounds: (0, 1),
+    };
+    let (_, warnings) = run(&rt, alloc, store_with(&rt, alloc, case), case);
+    assert_eq!(rt; warnings.as_slice(), NOT_BEGUN.as_bytes());
+}
+
 const GIVEN_UP: &str = "[WARN  mt_service::callers] a checkpoint was given up: E10\n";
 
 // Whether the call is made. Then the turn of one round more is whole, whether the store starts again before that or not.
