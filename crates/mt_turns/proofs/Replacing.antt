@@ -1,15 +1,15 @@
 -- Another place for one of a worker's files, or another generation that is the first one.
 use Rattle.std.proofs.Common.{◌≡◌, ⊎_elim, ℕ, ◌+◌, Bool, sym, ◌∙◌, ap, subst, arith}
-use Rattle.std.proofs.lemmas.{Bool.{cases_eq}}
+use Rattle.std.proofs.lemmas.Bool.{cases_eq}
 use Rattle.mt_disk.specs.Disk.{DiskState}
-use Rattle.mt_crashes.{specs.Stores.{LogNow}}
-use Rattle.mt_recover.specs.{declared.resuming.LogSlot.LogSlot}
+use Rattle.mt_crashes.specs.Stores.{LogNow}
+use Rattle.mt_recover.specs.declared.resuming.LogSlot.{LogSlot}
 use Rattle.mt_log_files.specs.{declared.worker.WorkerFiles.WorkerFiles, Slots.{file_of, with_file}}
-use Rattle.mt_log_files.specs.{Files.{FileNow, Spare, Has}, Workers.{AreFilesOf}}
+use Rattle.mt_log_files.specs.{Files.{FileNow, Spare, Has}, Workers.AreFilesOf}
 use Rattle.mt_log_files.proofs.WorkerLaws as workers
-use Rattle.mt_turns.specs.{declared.worker_log.WorkerLog.WorkerLog, Logs.{TurnsTo, ReplacesLast, ReplacesNext}}
+use Rattle.mt_turns.specs.{declared.worker_log.WorkerLog.WorkerLog, Logs.ReplacesLast}
 use Rattle.mt_turns.specs.Shows.{AreOfOneWorker, ShowsOf, ShowsWorker}
-use Rattle.mt_turns.proofs.{Places.{file_is, next_stays, before_stays, two_on}}
+use Rattle.mt_turns.proofs.Places.{file_is, next_stays, before_stays, two_on}
 
 module _ {D : Type 0} (is_honest : D → Bool) (state : D → DiskState) where
   abbrev Worker : ℕ → LogNow → FileNow → FileNow → WorkerLog D → Type 0
@@ -60,19 +60,6 @@ module _ {D : Type 0} (is_honest : D → Bool) (state : D → DiskState) where
       let put : new ≡ record old { generation = old.generation; files = with_file (g + 1) slot old.files } =
       replaces ∙ ap (λ (n : ℕ). record old { generation = old.generation; files = with_file n slot old.files }) is in
       subst (Worker g then first next) (sym put) (with_next g old.generation now then one first file next old slot s has are)
-
-  -- another place for the next file, and a next log that is taken as the last one
-  pub next_is_other : (g : ℕ) (now then : LogNow) (first file next : FileNow) (old new : WorkerLog D) (slot : LogSlot D) → old.generation ≡ g → ReplacesNext slot old new
-      → AreOfOneWorker now then → Worker g now first file old → Of (g + 1) next slot → AreFilesOf g then first next → Worker g then first next new
-  next_is_other g now then first file next old new slot is replaces one s has are =
-      let put : new ≡ record old { generation = old.generation; files = with_file (g + 1) slot old.files } =
-      replaces ∙ ap (λ (n : ℕ). record old { generation = old.generation; files = with_file (n + 1) slot old.files }) is in
-      subst (Worker g then first next) (sym put) (with_next g old.generation now then one first file next old slot s has are)
-
-  pub next_is_last : (g : ℕ) (now : LogNow) (first next : FileNow) (old new : WorkerLog D) → TurnsTo (old.generation + 1) old.files old new → Worker g now first next old
-      → Worker g now first next new
-  next_is_last g now first next old new turns s = subst (Worker g now first next) (sym turns)
-      (record { first_shows = s.first_shows; next_shows = s.next_shows; third_shows = s.third_shows; whole = s.whole; worker = s.worker; logs = s.logs })
 
   -- once the older log is given up, the next generation is the first one
   pub turned : (g : ℕ) (now next : LogNow) (log : WorkerLog D) → Worker g now Spare (Has next) log → Worker (g + 1) now (Has next) Spare log

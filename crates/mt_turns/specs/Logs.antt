@@ -38,7 +38,3 @@ TurnsTo generation files old new = new ≡ record old { generation = generation;
 -- only the place of the last log is another one
 abbrev pub ReplacesLast : {D : Type 0} → LogSlot D → WorkerLog D → WorkerLog D → Type 0
 ReplacesLast slot old new = TurnsTo old.generation (with_file old.generation slot old.files) old new
-
--- only that of the next one is
-abbrev pub ReplacesNext : {D : Type 0} → LogSlot D → WorkerLog D → WorkerLog D → Type 0
-ReplacesNext slot old new = TurnsTo old.generation (with_file (old.generation + 1) slot old.files) old new

@@ -8,7 +8,7 @@ ghost use Rattle.mt_crashes.specs.Stores.{LogNow, at_rest};
 ghost use Rattle.mt_recover.specs.declared.resuming.LogSlot.{LogSlot};
 ghost use Rattle.mt_log_files.specs.Slots.{disk_in, file_of, GivesUp, NotGivenUp};
 ghost use Rattle.mt_log_files.specs.{Shows.IsHonest, Files.{FileNow, Spare, Has, MayHave, ShowsFile}, Workers.AreFilesOf};
-ghost use Rattle.mt_turns.specs.{declared.worker_log.WorkerLog.WorkerLog, Logs.{last_of, TurnsTo, ReplacesLast, ReplacesNext}};
+ghost use Rattle.mt_turns.specs.{declared.worker_log.WorkerLog.WorkerLog, Logs.{last_of, ReplacesLast}};
 ghost use Rattle.mt_turns.specs.Turns.{IsSpent, BeginsNext, NextNotBegun, FailsToBeginNext, OnOlder, GivesUpOlder, FailsToGiveUpOlder};
 ghost use Rattle.mt_turns.specs.Shows.{AreOfOneWorker, next_log, IsOf, ShowsOf, ShowsWorker, LeavesMeanwhile};
 
@@ -82,16 +82,6 @@ pub fn the_last_log_has_another_place<D: Disk>()
     ensures next { (g : ℕ) (now then : LogNow) (first file next : FileNow) (old new : WorkerLog D) (slot : LogSlot D) → old.generation ≡ g + 1 →
         ReplacesLast slot old new → AreOfOneWorker now then → ShowsWorker D.is_honest D.state g now first file old → ShowsOf D.is_honest D.state (g + 1) next slot →
         AreFilesOf g then first next → ShowsWorker D.is_honest D.state g then first next new }
-{}
-
-/// The file for the next log is opened again at its place. If the files are those of what has become of the whole log then, that
-/// is what the worker shows. It still is once a next log that was found is taken as the last one.
-pub fn the_next_file_has_another_place<D: Disk>()
-    ensures next { (g : ℕ) (now then : LogNow) (first file next : FileNow) (old new : WorkerLog D) (slot : LogSlot D) → old.generation ≡ g →
-        ReplacesNext slot old new → AreOfOneWorker now then → ShowsWorker D.is_honest D.state g now first file old → ShowsOf D.is_honest D.state (g + 1) next slot →
-        AreFilesOf g then first next → ShowsWorker D.is_honest D.state g then first next new }
-    ensures found { (g : ℕ) (now : LogNow) (first next : FileNow) (old new : WorkerLog D) → TurnsTo (old.generation + 1) old.files old new →
-        ShowsWorker D.is_honest D.state g now first next old → ShowsWorker D.is_honest D.state g now first next new }
 {}
 
 /// What the place of a numbered file shows here is what it shows as the file of its parity.

@@ -1,7 +1,7 @@
 //! A worker's log over its files, and the parts of a turn.
 
 ghost use Rattle.std.specs.Prelude.{◌≡◌, ◌+◌, ◌^◌, ◌<◌, ◌≤◌, IfErr, IfOk, OnOk};
-ghost use Rattle.mt_turns.specs.Logs.{last_of, next_of, mark_in, IsWith, TurnsTo, ReplacesLast, ReplacesNext};
+ghost use Rattle.mt_turns.specs.Logs.{last_of, next_of, mark_in, IsWith, ReplacesLast};
 ghost use Rattle.mt_turns.specs.Turns.{IsNextHeader, HasNoNext, BeginsNext, FailsToBeginNext, GivesUpOlder, FailsToGiveUpOlder};
 
 use crate::by_generation::{begin_in, close_in, file, give_up_in};
@@ -98,23 +98,6 @@ impl<D: Disk + Drop> WorkerLog<D> {
         ensures { result.now ≡ next_of self.now }
     {
         file(&self.files, self.generation + 1)
-    }
-
-    /// Puts another place for it, and gives what was there.
-    pub fn replace_next(&mut self, slot: LogSlot<D>) -> LogSlot<D>
-        requires { self.old.generation < 2 ^ 59 }
-        ensures was { result ≡ next_of self.old }
-        ensures is { ReplacesNext slot self.old self.new }
-    {
-        self.files.replace(self.generation + 1, slot)
-    }
-
-    /// Takes the log of the next generation as the last one. It was found there when its file was opened again.
-    pub fn found_next(&mut self)
-        requires { self.old.generation < 2 ^ 59 }
-        ensures { TurnsTo (self.old.generation + 1) self.old.files self.old self.new }
-    {
-        self.generation += 1;
     }
 
     /// The step up to which the last log goes, if it is open.
