@@ -11,23 +11,23 @@ use Rattle.mt_crashes.proofs.{Members.{no_some, place_in}, Invariant.{zip_left, 
 use Rattle.mt_generations.specs.Chains.{Chain}
 use Rattle.mt_generations.specs.{Standings.{Standing, chain_from, AreFrom, AllHave, IsLast, CanBegin, IsChosen, HaveNoChoice, StandsFor}, Turns.{StandsWhole, KeepsLog}}
 use Rattle.mt_generations.proofs.{Deciding.{first_there, have_all, have_or_not, can_or_not}, Moments.kept_whole, Left.is_chosen, Ends.{chosen_ends, never_falls}}
-use Rattle.mt_recover.specs.{declared.resuming.LogSlot.LogSlot}
+use Rattle.mt_recover.specs.declared.resuming.LogSlot.{LogSlot}
 use Rattle.mt_chains.specs.{declared.worker_logs.WorkerLogs.WorkerLogs, Files.{standing_of as read_of, SameNumbered}, Testing.is_there}
 use Rattle.mt_log_files.specs.declared.worker.WorkerFiles.{WorkerFiles}
 use Rattle.mt_log_files.specs.Slots.{disk_in, OpensPlain, FailsToOpenPlain}
-use Rattle.mt_log_files.specs.{Shows.{IsHonest}, Files.{FileNow, Spare, Has, MayHave, MayLeaveFile, found_as, ShowsFile}}
+use Rattle.mt_log_files.specs.{Shows.IsHonest, Files.{FileNow, Spare, Has, MayHave, MayLeaveFile, found_as, ShowsFile}}
 use Rattle.mt_log_files.specs.Workers.{standing_of, Found, AllHaveFiles, MayLeaveFiles, standings_of}
-use Rattle.mt_log_files.proofs.{WorkerLaws.all_stand}
+use Rattle.mt_log_files.proofs.WorkerLaws.{all_stand}
 use Rattle.mt_log_files.proofs.FileLaws as numbered_files
 use Rattle.mt_chain_files.specs.{declared.fault.FilesFault.FilesFault, declared.opening.Chains.Chains}
 use Rattle.mt_chain_files.specs.{Numbered.{OpensWorker, FailsToOpenWorker, OpensNumberedFiles, StopsNumberedFiles}, Plain.{OpensPlainAs, OpensPlainFiles, StopsPlainFiles}}
-use Rattle.mt_chain_files.specs.{Chosen.{NeedPlain, FallAt, RefuseToBegin, ReadsPlain, ReadsFiles, OpensChains, StopsChains}, Lasts.last_generation_of}
+use Rattle.mt_chain_files.specs.{Chosen.{NeedPlain, FallAt, RefuseToBegin, ReadsPlain, OpensChains, StopsChains}, Lasts.last_generation_of}
 use Rattle.mt_chain_files.specs.Turns.{FilesNow, now_of, pair_of, IsOfGeneration, AreOfTurn, StaysWhole, HasLast, IsLastOfTurn, StaySpare, ShowsPlain, ShowFiles, ComeToRest, StayTheirs}
 use Rattle.mt_chain_files.proofs.Loops.{get_within, at_place, zip_of, zip_count, before_or_after}
 use Rattle.mt_chain_files.proofs.Agreeing.{agree_self, NoneFirst, over_zero, none_first}
 use Rattle.mt_chain_files.proofs.Faults.{IsOutside, plain_found, plain_failed, numbered_failed}
 use Rattle.mt_chain_files.proofs.Narrowing.{Narrows, ShowsNarrower, stay_theirs, stays_narrow}
-use Rattle.mt_chain_files.proofs.Starts.{LeavesNoMore, HasFirstOrNext, HasFrom, leave_no_more, all_narrow_leave, all_have_chains}
+use Rattle.mt_chain_files.proofs.Starts.{HasFrom, all_have_chains}
 use Rattle.mt_chain_files.proofs.Reading.{first_in, second_in, after_of, after_turn, least, least_left, found_first, found_none, ReadOf, Tells, found_of, stands_less}
 use Rattle.mt_chain_files.proofs.Resting.{last_of_turn, stay_spare}
 use Rattle.mt_rows.specs.declared.refusal.Refusal.TheVariants as refusals
@@ -708,47 +708,6 @@ module _ {D : Type 0} (is_honest : D → Bool) (state : D → DiskState) (failur
         )
 
     -- ---- what may be left of the files then
-
-    -- the plain files were read, or each worker has the next log
-    next_have : (between : List (WorkerFiles D)) (first : List WorkerLogs) → OpensNumberedFiles is_honest state failures old between first → g ≡ 0
-        → ¬ NeedPlain (map read_of first) slots → AllHave 1 (map read_of first)
-    next_have between first numbered none_before unread = ⊎_elim
-        (λ have. have)
-        (λ none. absurd (unread (inl (λ n have. (
-        let some = over_zero n (map read_of first) (some_read between first numbered) (no_first between first numbered) have in
-        let stand = own first (read_first between first numbered) in
-        let f = within_place (map read_of first) 0 (some_read between first numbered) in
-        let log = zip_right (StandsFor g) stand.0 (map read_of first) 0 f.0 stand.2 f.1 in
-        let c = have f.0 (place_in f.0 0 (map read_of first) f.1) in
-        let one : n ≡ 1 = ⊎_elim (λ (e : n ≡ g). absurd (omega (arith, e, none_before, some))) (λ (e : n ≡ g + 1). omega (arith, e, none_before)) (log.2.no_other n c.0 c.1) in
-        none (subst (λ (m : ℕ). AllHave m (map read_of first)) one have)
-        )))))
-        (have_or_not 1 (map read_of first))
-
-    read_or_next : (new : List (WorkerFiles D)) (r : ReadsFiles is_honest state failures slots old new) → g ≡ 0
-        → ReadsPlain is_honest state failures slots r.between new r.first r.logs → AllHave 0 (map read_of r.logs) ⊎ AllHave 1 (map read_of r.logs)
-    read_or_next new r none_before (inl read) = inl (read_needed r.between r.first r.numbered new r.logs read.0 read.1 read.2).1
-    read_or_next new r none_before (inr unread) = inr (subst (λ (l : List WorkerLogs). AllHave 1 (map read_of l)) (sym unread.2) (next_have r.between r.first r.numbered none_before unread.0))
-
-    first_or_next : (new : List (WorkerFiles D)) (chains : Chains) (o : OpensChains is_honest state failures slots old new chains) → HasFirstOrNext g o.reads.logs
-    first_or_next new chains o none_before = read_or_next new o.reads none_before o.reads.plain
-
-    pub opened_leave : (new : List (WorkerFiles D)) (chains : Chains) (o : OpensChains is_honest state failures slots old new chains)
-        → AllZip (LeavesNoMore g) files (opened new chains o).files
-    unfolding opened
-    opened_leave new chains o =
-        let r = o.reads in
-        leave_no_more g s.logs files r.logs turn (all_places r.between r.first r.numbered new r.logs r.plain).0 (first_or_next new chains o)
-
-    pub failed_leave : (new : List (WorkerFiles D)) (e : FilesFault) (stops : StopsChains is_honest state failures slots e old new)
-        → AllZip (LeavesNoMore g) files (failed new e stops).1.files
-    unfolding failed stay
-    failed_leave new e (inl stops) = all_narrow_leave g files _ (stays_narrow is_honest state g h s files new turn whole (stops_numbered files e.log e.refusal old new shows stops).1)
-    failed_leave new e (inr (inl stops)) = all_narrow_leave g files _
-        (stays_narrow is_honest state g h s files new turn whole (stops_plain stops.between stops.first stops.numbered e.log e.refusal new stops.plain.0 stops.plain.1).1)
-    failed_leave new e (inr (inr refuses)) =
-        let r = refuses.reads in
-        all_narrow_leave g files _ (stays_narrow is_honest state g h s files new turn whole (all_places r.between r.first r.numbered new r.logs r.plain).2)
 
     -- the files that were opened have the logs from which the chains are
     pub opened_have : (new : List (WorkerFiles D)) (chains : Chains) (o : OpensChains is_honest state failures slots old new chains)
