@@ -3,7 +3,7 @@ use Rattle.std.proofs.Common.{◌≡◌, ⊎_elim, ℕ, ◌+◌, ◌≤◌, ◌%
 use Rattle.std.proofs.lemmas.Bool.{eq-eqb, ne_eqb, cases_eq}
 use Rattle.mt_disk.specs.Disk.{DiskState}
 use Rattle.mt_log_generations.specs.declared.header.Parity.TheVariants.{Even, Odd}
-use Rattle.mt_log.specs.{Fronts.IsOfKind}
+use Rattle.mt_log.specs.Fronts.{IsOfKind}
 use Rattle.mt_log.specs.declared.reader.FileKind.TheVariants as kinds
 use Rattle.mt_crashes.specs.Stores.{LogNow}
 use Rattle.mt_recover.specs.declared.resuming.LogSlot.{LogSlot}
@@ -145,15 +145,6 @@ keeps_put false false file files keeps = record { plain = keeps_same files.plain
 
 pub keep_with : (g : ℕ) (file : FileNow) (files : FilesNow) → KeepsStart (now_of g files) file → KeepStarts files (with_now g file files)
 keep_with g file files keeps = keeps_put (g == 0) (g % 2 == 0) file files keeps
-
-keeps_at : (a b : Bool) (old new : FilesNow) → KeepStarts old new → KeepsStart (now_at a b old) (now_at a b new)
-keeps_at true b old new keeps = keeps.plain
-keeps_at false true old new keeps = keeps.even
-keeps_at false false old new keeps = keeps.odd
-
--- of the file of each generation
-pub keeps_of : (g : ℕ) (old new : FilesNow) → KeepStarts old new → KeepsStart (now_of g old) (now_of g new)
-keeps_of g old new keeps = keeps_at (g == 0) (g % 2 == 0) old new keeps
 
 -- ---- what their places show
 

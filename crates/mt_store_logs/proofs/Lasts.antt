@@ -1,8 +1,8 @@
 -- A worker's last log that was taken out and put back: its other files stay.
-use Rattle.std.proofs.Common.{◌≡◌, ◌+◌, refl, sym, ◌∙◌, ap, subst}
+use Rattle.std.proofs.Common.{◌≡◌, refl, sym, ◌∙◌, ap, subst}
 use Rattle.mt_recover.specs.{declared.resuming.LogSlot.LogSlot, declared.resuming.LogSlot.TheVariants.Away}
 use Rattle.mt_log_files.specs.{declared.worker.WorkerFiles.WorkerFiles, Slots.with_file}
-use Rattle.mt_turns.specs.{declared.worker_log.WorkerLog.WorkerLog, Logs.{TurnsTo, ReplacesNext}}
+use Rattle.mt_turns.specs.declared.worker_log.WorkerLog.{WorkerLog}
 use Rattle.mt_turns.proofs.Places.{file_is, file_again}
 use Rattle.mt_store_logs.specs.{declared.last_log.LastLog.LastLog, declared.store_log.StoreLog.StoreLog}
 use Rattle.mt_store_logs.specs.Places.{log_with, worker_of, slot_of, last_log_of, with_last, without_last, OnLast}
@@ -36,12 +36,3 @@ module _ {D : Type 0} where
   taken_and_put Does old mid new taken last is gone put whose of does =
       on_last Does old last new (put ∙ ap (with_last last) gone) (whose ∙ ap (λ (l : LastLog D). l.worker) is) (of ∙ ap (λ (l : LastLog D). l.generation) is)
       (subst (λ (l : LastLog D). Does l last) is does)
-
-  -- the file for the next log was taken out and put back, and the log there is the last one
-  pub found_there : (old a b new : WorkerLog D) (slot : LogSlot D) → ReplacesNext Away old a → ReplacesNext slot a b → TurnsTo (b.generation + 1) b.files b new
-      → TurnsTo (old.generation + 1) (with_file (old.generation + 1) slot old.files) old new
-  found_there old a b new slot taken put turned =
-      turned
-      ∙ ap (λ (l : WorkerLog D). record l { generation = l.generation + 1; files = l.files })
-      (put ∙ ap (λ (l : WorkerLog D). record l { generation = l.generation; files = with_file (l.generation + 1) slot l.files }) taken)
-      ∙ ap (λ (fs : WorkerFiles D). record old { generation = old.generation + 1; files = fs }) (file_again (old.generation + 1) slot Away old.files)

@@ -17,7 +17,7 @@ use Rattle.mt_store_logs.specs.Shows.{WaitsIn, LastStands, drained_upto, IsIn, I
 use Rattle.mt_store_logs.specs.Ends.{keeping, Rests, MayHaveNext, IsNextFile, IsInTurn, StandsInTurn, KeepsStart, KeepStarts}
 use Rattle.mt_store_logs.specs.Recovers.{ResumesLog, FailsToResumeLog}
 use Rattle.mt_store_logs.proofs.CallerLemmas as logs
-use Rattle.mt_store_logs.proofs.{EndLaws.{mark, drained}}
+use Rattle.mt_store_logs.proofs.EndLaws.{mark, drained}
 use Rattle.mt_store_logs.proofs.FilePlaces.{with_now, now_is, next_stays, before_stays, first_of_turn, next_of_turn, keep_same, keep_with, shows_with, has_in, put_back}
 use Rattle.mt_store_logs.proofs.{TurnFiles.{AreWith, at_rest_is, keeps_start}, LastPairs.{ArePair, more_pair, doubt_files, in_pair, doubt_pair, rest_pair}}
 use Rattle.mt_rows.specs.declared.refusal.Refusal.TheVariants as refusals
@@ -25,12 +25,6 @@ use Rattle.mt_rows.specs.declared.refusal.Refusal.TheVariants as refusals
 in_doubt_none : (kept : Option Batch) (now : LogNow) → IsInDoubt kept now now
 in_doubt_none None now = refl
 in_doubt_none (Some b) now = inl refl
-
--- what took in the batch that waited, rests
-in_rests : (kept : Option Batch) (now next : LogNow) → now.doubt ≡ None → IsIn kept now next → next.doubt ≡ None
-in_rests None now next rests same = ap (λ (n : LogNow). n.doubt) same ∙ rests
-in_rests (Some b) now next rests (inl there) = ap (λ (n : LogNow). n.doubt) there.0 ∙ rests
-in_rests (Some b) now next rests (inr more) = ap (λ (n : LogNow). n.doubt) more.1
 
 clash : true ≡ false → ⊥
 clash e = absurd cc
