@@ -78,13 +78,17 @@ class Batch:
 
 @dataclass
 class Log:
+    """A worker's log of one generation, or such a log joined with the next one."""
+
     worker: int
     count: int
+    generation: int = 0
+    start: int = 0
     batches: list[Batch] = field(default_factory=list)
 
     @property
     def mark(self) -> int:
-        return self.batches[-1].end if self.batches else 0
+        return self.batches[-1].end if self.batches else self.start
 
 
 def batch_of(version: int, body: bytes) -> Batch:
@@ -108,25 +112,48 @@ def batch_of(version: int, body: bytes) -> Batch:
     return batch
 
 
-def log_of(image: bytes) -> Log:
-    """The front of a log's file."""
-    if len(image) < 8 or image[:5] != b"MTLOG" or image[5] not in (1, 2) or not image[6] < image[7] <= MOST_LOGS:
-        raise StoreRefused(12, 0)
-    log, at = Log(image[6], image[7]), 8
+def batches_of(version: int, image: bytes, at: int) -> list[Batch]:
+    """The batches from this byte on, up to the first gate that isn't open."""
+    batches: list[Batch] = []
     while True:
         if at >= len(image):
             raise StoreRefused(12, at)
         if image[at] != 1:
-            return log
+            return batches
         length = int.from_bytes(image[at + 1:at + 5], "big")
         body = image[at + 5:at + 5 + length]
         if len(image) < at + 5 or len(body) < length:
             raise StoreRefused(12, at)
         try:
-            log.batches.append(batch_of(image[5], body))
+            batches.append(batch_of(version, body))
         except NotInFormat:
             raise StoreRefused(12, at) from None
         at += 5 + length
+
+
+def plain_log(image: bytes) -> Log | None:
+    """The log of generation 0, or none."""
+    if image[:1] in (b"", b"\x00"):
+        return None
+    if len(image) < 8 or image[:5] != b"MTLOG" or image[5] not in (1, 2) or not image[6] < image[7] <= MOST_LOGS:
+        raise StoreRefused(12, 0)
+    return Log(image[6], image[7], batches=batches_of(image[5], image, 8))
+
+
+def numbered_log(image: bytes, parity: int) -> Log | None:
+    """The log in a numbered file, which is of a generation of this parity, or none."""
+    if image[:1] != b"\x01":
+        return None
+    fields = Fields(image[1:])
+    try:
+        if fields.take(6) != b"MTLOG\x03":
+            raise NotInFormat
+        worker, count, generation, start = fields.number(1), fields.number(1), fields.number(8), fields.number(8)
+    except NotInFormat:
+        raise StoreRefused(12, 0) from None
+    if not (worker < count <= MOST_LOGS and 1 <= generation <= LAST_STEP and start <= LAST_STEP and generation % 2 == parity):
+        raise StoreRefused(12, 0)
+    return Log(worker, count, generation, start, batches_of(3, image, 25))
 
 
 @dataclass
@@ -161,7 +188,7 @@ def checkpoint_of(image: bytes) -> Checkpoint | None:
 
 def check_one(log: Log) -> None:
     """Batches join, and stamps rise within them."""
-    mark = 0
+    mark = log.start
     for batch in log.batches:
         if batch.begin != mark or batch.end < batch.begin or batch.kept is not None and batch.kept > batch.end:
             raise StoreRefused(13)
@@ -173,26 +200,93 @@ def check_one(log: Log) -> None:
         mark = batch.end
 
 
-def check_all(logs: list[Log]) -> None:
+def check_all(chains: list[Log]) -> None:
     """They are a set, each of them is in order, none is older than the others, and no stamp stands twice."""
-    if any(log.count != len(logs) for log in logs) or len({log.worker for log in logs}) < len(logs):
+    if any(log.count != len(chains) for log in chains) or len({log.worker for log in chains}) < len(chains):
         raise StoreRefused(15)
-    for log in logs:
+    for log in chains:
         check_one(log)
-    served = [batch.end for log in logs for at, batch in enumerate(log.batches)
+    served = [batch.end for log in chains for at, batch in enumerate(log.batches)
               if batch.kept is not None and any(later.kept is None for later in log.batches[at:])]
     last = max(served, default=0)
-    if last and any(all(batch.kept is None or batch.end != last for batch in log.batches) for log in logs):
+    if any(log.start < last and all(batch.kept is None or batch.end != last for batch in log.batches) for log in chains):
         raise StoreRefused(13)
-    stamps = [record[0] for log in logs for batch in log.batches for record in batch.records]
+    stamps = [record[0] for log in chains for batch in log.batches for record in batch.records]
     if len(set(stamps)) < len(stamps):
         raise StoreRefused(13)
 
 
-def resumed(logs: list[bytes], slots: list[bytes]) -> int:
+@dataclass
+class WorkerFiles:
+    """The files of one worker's log. A file that is missing is as one that is empty."""
+
+    plain: bytes
+    even: bytes = b""
+    odd: bytes = b""
+
+
+Generations = dict[int, Log]  # of one worker
+
+
+def chains_from(generation: int, workers: list[Generations]) -> list[Log] | None:
+    """Each worker's log of a generation, joined with the next one if it has that. None if a worker has no such log."""
+    chains = []
+    for logs in workers:
+        if not (first := logs.get(generation)):
+            return None
+        then = logs.get(generation + 1)
+        chains.append(Log(first.worker, first.count, generation, first.start, first.batches + (then.batches if then else [])))
+    return chains
+
+
+def is_void(number: int, chains: list[Log]) -> bool:
+    return any(batch.kept < number <= batch.end for log in chains for batch in log.batches if batch.kept is not None)
+
+
+def bases_over(chains: list[Log], slots: list[bytes]) -> list[Checkpoint]:
+    """The checkpoints that may be used over chains, and nothing at all if no chain begins after step 0."""
+    start, cutoff = max(log.start for log in chains), min(log.mark for log in chains)
+    found = [*filter(None, map(checkpoint_of, slots)), Checkpoint(0, 0, {})]
+    return [one for one in found
+            if start <= one.first and (start == 0 or one.first < one.last) and one.last <= cutoff and not is_void(one.last, chains)]
+
+
+def last_generation(workers: list[Generations]) -> int | None:
+    """The last generation of which each worker has a log."""
+    return max(set.intersection(*(set(logs) for logs in workers)), default=None)
+
+
+def can_begin(generation: int | None, workers: list[Generations], slots: list[bytes]) -> bool:
+    chains = None if generation is None else chains_from(generation, workers)
+    return bool(chains and bases_over(chains, slots))
+
+
+def chosen(files: list[WorkerFiles], slots: list[bytes]) -> list[Log]:
+    """The chains from which a store is recovered. The plain files are read only if they are needed."""
+    workers: list[Generations] = []
+    for each in files:
+        logs = filter(None, [numbered_log(each.even, 0), numbered_log(each.odd, 1)])
+        workers.append({log.generation: log for log in logs})
+    last = last_generation(workers)
+    if last is None or last == 1 and not can_begin(1, workers, slots):
+        for logs, each in zip(workers, files):
+            if log := plain_log(each.plain):
+                logs[0] = log
+        last = last_generation(workers)
+    if last is not None and not can_begin(last, workers, slots):
+        last -= 1
+    if not can_begin(last, workers, slots):
+        raise StoreRefused(15)
+    for logs in workers:
+        if last + 1 in logs and logs[last + 1].start != logs[last].mark:
+            raise StoreRefused(13)
+    return chains_from(last, workers)
+
+
+def resumed(files: list[WorkerFiles], slots: list[bytes]) -> int:
     """The number from which a store of these files goes on."""
     lasts = [found.last for image in slots if (found := checkpoint_of(image))]
-    return max([log_of(image).mark for image in logs] + lasts)
+    return max([log.mark for log in chosen(files, slots)] + lasts)
 
 
 def changed_row(row: Row, named: Named) -> Row:
@@ -201,26 +295,17 @@ def changed_row(row: Row, named: Named) -> Row:
     return [named.get(index, row[index] if index < len(row) else b"") for index in range(length)]
 
 
-def recovered(logs: list[bytes], slots: list[bytes], quotas: dict[int, int]) -> dict[Owner, tuple[int, Row]]:
+def recovered(files: list[WorkerFiles], slots: list[bytes], quotas: dict[int, int]) -> dict[Owner, tuple[int, Row]]:
     """The pairs of a store of these files with their stamps, in the order of tenants and keys."""
-    fronts = [log_of(image) for image in logs]
-    check_all(fronts)
-    cutoff = min(log.mark for log in fronts)
-    voids = [(batch.kept, batch.end) for log in fronts for batch in log.batches if batch.kept is not None]
-
-    def is_void(number: int) -> bool:
-        return any(kept < number <= end for kept, end in voids)
-
-    base = 0
-    pairs: dict[Owner, tuple[int, Row]] = {}
-    usable = [found for image in slots if (found := checkpoint_of(image)) and found.last <= cutoff and not is_void(found.last)]
-    if usable:
-        used = max(usable, key=lambda one: one.last)
-        base, pairs = used.first, dict(used.pairs)
-    records = [record for log in fronts for batch in log.batches for record in batch.records]
+    chains = chosen(files, slots)
+    check_all(chains)
+    cutoff = min(log.mark for log in chains)
+    used = max(bases_over(chains, slots), key=lambda one: one.last)
+    pairs = dict(used.pairs)
+    records = [record for log in chains for batch in log.batches for record in batch.records]
     for stamp, key, write in sorted(records, key=lambda record: record[0]):
         standing, row = pairs.get(key, (0, None))
-        if not base < stamp <= cutoff or is_void(stamp) or stamp <= standing:
+        if not used.first < stamp <= cutoff or is_void(stamp, chains) or stamp <= standing:
             continue
         if write is None:
             pairs.pop(key, None)
