@@ -218,11 +218,16 @@ def check_all(chains: list[Log]) -> None:
 
 @dataclass
 class WorkerFiles:
-    """The files of one worker's log. A file that is missing is as one that is empty."""
+    """The files of one worker's log. A numbered file that is missing is as one that is empty."""
 
-    plain: bytes
+    plain: bytes | None
     even: bytes = b""
     odd: bytes = b""
+
+    @property
+    def is_missing(self) -> bool:
+        """There is no plain file, and no numbered one whose gate is open."""
+        return self.plain is None and b"\x01" not in (self.even[:1], self.odd[:1])
 
 
 Generations = dict[int, Log]  # of one worker
@@ -262,7 +267,9 @@ def can_begin(generation: int | None, workers: list[Generations], slots: list[by
 
 
 def chosen(files: list[WorkerFiles], slots: list[bytes]) -> list[Log]:
-    """The chains from which a store is recovered. The plain files are read only if they are needed."""
+    """The chains from which a store is recovered. Files are read only if none is missing, and plain ones only if they are needed."""
+    if any(each.is_missing for each in files):
+        raise StoreRefused(15)
     workers: list[Generations] = []
     for each in files:
         logs = filter(None, [numbered_log(each.even, 0), numbered_log(each.odd, 1)])
@@ -270,7 +277,7 @@ def chosen(files: list[WorkerFiles], slots: list[bytes]) -> list[Log]:
     last = last_generation(workers)
     if last is None or last == 1 and not can_begin(1, workers, slots):
         for logs, each in zip(workers, files):
-            if log := plain_log(each.plain):
+            if log := plain_log(each.plain or b""):
                 logs[0] = log
         last = last_generation(workers)
     if last is not None and not can_begin(last, workers, slots):
