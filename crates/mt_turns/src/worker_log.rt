@@ -1,7 +1,7 @@
 //! A worker's log over its files, and the parts of a turn.
 
-ghost use Rattle.std.specs.Prelude.{◌≡◌, ◌+◌, ◌^◌, ◌<◌, ◌≤◌, IfErr, IfOk, OnOk};
-ghost use Rattle.mt_turns.specs.Logs.{last_of, next_of, mark_in, IsWith, ReplacesLast};
+ghost use Rattle.std.specs.Prelude.{◌≡◌, ◌<◌, ◌≤◌, IfErr, IfOk, OnOk};
+ghost use Rattle.mt_turns.specs.Logs.{last_of, mark_in, IsWith, ReplacesLast};
 ghost use Rattle.mt_turns.specs.Turns.{IsNextHeader, HasNoNext, BeginsNext, FailsToBeginNext, GivesUpOlder, FailsToGiveUpOlder};
 
 use crate::by_generation::{begin_in, close_in, file, give_up_in};
@@ -90,14 +90,6 @@ impl<D: Disk + Drop> WorkerLog<D> {
         ensures is { ReplacesLast slot self.old self.new }
     {
         self.files.replace(self.generation, slot)
-    }
-
-    /// The place of the file for the log of the next generation.
-    pub fn next(&self) -> &LogSlot<D>
-        requires { self.now.generation < 2 ^ 59 }
-        ensures { result.now ≡ next_of self.now }
-    {
-        file(&self.files, self.generation + 1)
     }
 
     /// The step up to which the last log goes, if it is open.
