@@ -1,16 +1,14 @@
 //! The log of a worker in a running store, and the batch that waits for it.
 
 ghost use Rattle.std.specs.Prelude.{◌≡◌, ◌↔◌, ◌≢◌, false, None, IsTrue, IfErr, OnOk};
-ghost use Rattle.mt_batches.specs.Batches.{IsBounded};
 ghost use Rattle.mt_turns.specs.{Logs.IsWith, Turns.{GivesUpOlder, FailsToGiveUpOlder}};
 ghost use Rattle.mt_store_logs.specs.Places.{last_log_of, mark_in, slot_of, worker_of, with_last, without_last, no_files, OnLast};
 ghost use Rattle.mt_store_logs.specs.Turns.{OnLog, BeginsNextLog, FailsToBeginNextLog, LooksForNext, FailsToLook, ReopensLog, FailsToReopenLog};
-ghost use Rattle.mt_store_logs.specs.Waits.{AppendsKept, FailsToAppend, AppendsNew, FailsToAppendNew, Reopens, FailsToReopen};
+ghost use Rattle.mt_store_logs.specs.Waits.{Reopens, FailsToReopen};
 
 use crate::last_log::{LastLog, WaitingBatch};
 use crate::next_log::{find_next, put_files, take_files};
 use mt_disk::Disk;
-use mt_drains::DrainedBatch;
 use mt_log_files::WorkerFiles;
 use mt_recover::LogSlot;
 use mt_rows::Refusal;
@@ -110,36 +108,6 @@ impl<D: Disk + Drop> StoreLog<D> {
         } = last;
         let _was = self.log.replace_last(slot);
         self.kept = kept;
-    }
-
-    /// Appends the batch that is kept, if there is one, unless the log goes up to its end already. An error
-    /// keeps it; the log is as it was, unless its disk failed. Then it has the batch whole or not at all, and
-    /// has to be opened again.
-    pub fn append_kept(&mut self, alloc: Global) -> Result<(), Refusal>
-        ensures worker { worker_of self.new ≡ worker_of self.old }
-        ensures ok { OnOk result (OnLast (AppendsKept D.is_honest D.state D.failures) self.old self.new) }
-        ensures err { IfErr result (λ e. OnLast (FailsToAppend D.is_honest D.state D.failures e) self.old self.new) }
-    {
-        let mut last = self.take_last();
-        let told = last.append_kept(alloc);
-        self.put_last(last);
-        told
-    }
-
-    /// Appends a batch of the log's worker. An error keeps it, as `append_kept` does; it is `WrongTurn` if the
-    /// batch begins elsewhere than the log ends.
-    pub fn append(&mut self, alloc: Global, drained: DrainedBatch) -> Result<(), Refusal>
-        requires whose { drained.worker ≡ worker_of self.old }
-        requires none { self.old.kept ≡ None }
-        requires bounded { IsBounded drained.batch }
-        ensures worker { worker_of self.new ≡ worker_of self.old }
-        ensures ok { OnOk result (OnLast (AppendsNew D.is_honest D.state D.failures drained.batch) self.old self.new) }
-        ensures err { IfErr result (λ e. OnLast (FailsToAppendNew D.is_honest D.state D.failures e drained.batch) self.old self.new) }
-    {
-        let mut last = self.take_last();
-        let told = last.append(alloc, drained);
-        self.put_last(last);
-        told
     }
 
     /// Opens the log again if it isn't open, and appends the batch that is kept unless the log has it. If the next log may be
