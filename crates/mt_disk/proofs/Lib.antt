@@ -1,3 +1,6 @@
 pub mod CrashLaws
 mod Images
 mod EditLaws
+mod CutLaws
+mod CutImages
+pub mod Debts

@@ -1,6 +1,6 @@
 -- What a disk holds, and what a crash may make of it.
-use Rattle.std.specs.Prelude.{◌≡◌, ◌⊎◌, ℕ, ◌+◌, ◌^◌, ◌<◌, ◌≤◌, Bool, false, nat_lt, not, ◌&&◌, List, [], ◌∷◌, ◌++◌, length, take, drop, Option, Some, None, Result, MatchResult, OnOk}
-use Rattle.std.specs.List.{slice_get, list_any, All, Contains}
+use Rattle.std.specs.Prelude.{◌≡◌, ◌⊎◌, ℕ, ◌+◌, ◌-◌, ◌^◌, ◌<◌, ◌≤◌, Bool, false, nat_lt, not, ◌&&◌, List, [], ◌∷◌, ◌++◌, length, take, drop, Option, Some, None, Result, MatchResult, OnOk}
+use Rattle.std.specs.List.{slice_get, list_any, sum_by, All, Contains}
 
 -- the bytes from one place up to another, that one not among them
 abbrev pub Range : Type 0
@@ -14,6 +14,10 @@ is_dirty ranges place = list_any (λ range. not (nat_lt place range.0) && nat_lt
 pub record Moment : Type 0 where
   pub durable : List ℕ
   pub dirty : List Range
+
+-- how many bytes are dirty at a moment, each as often as it was written
+abbrev pub debt : Moment → ℕ
+debt m = sum_by (λ range. range.1 - range.0) m.dirty
 
 -- What a crash may leave at a moment. Where nothing was written since the last sync: just what it made
 -- durable. Else: any image that keeps each durable byte outside the written ranges. So a written range
@@ -58,9 +62,13 @@ Attempts range result old new = MatchResult result (λ _. Dirties range old new)
 abbrev pub cut_range : ℕ → DiskState → Range
 cut_range len s = (len, length s.now.durable)
 
+-- a disk of which this image is durable, and what a read gives, with the moments that it had before
+abbrev pub found_again : List ℕ → DiskState → DiskState
+found_again image s = record { image = image; now = record { durable = image; dirty = [] }; past = moments s }
+
 -- after a sync: what a read gives is durable, and nothing is dirty
 abbrev pub synced : DiskState → DiskState
-synced s = record { image = s.image; now = record { durable = s.image; dirty = [] }; past = moments s }
+synced s = found_again s.image s
 
 -- a read: the range lies within the file, and `new` is what stands there
 pub record Reads (at : ℕ) (image old new : List ℕ) : Type 0 where

@@ -1,4 +1,5 @@
 pub mod Disk
 pub mod Mem
+pub mod FileEdits
 pub mod Files
 pub mod MemFiles

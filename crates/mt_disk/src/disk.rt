@@ -4,10 +4,12 @@
 //! these rules. Contracts see a disk as a `DiskState`; its list of moments is the clock.
 //! Units: bytes. Errors: `DeviceFailed`, after which all calls may still be made.
 
-ghost use Rattle.std.specs.Prelude.{◌≡◌, ◌+◌, ◌≤◌, ℕ, Bool, IsTrue, Option, length, take, IfOk, OnOk, OnErr};
+ghost use Rattle.std.specs.Prelude.{◌≡◌, ◌↔◌, ◌+◌, ◌≤◌, ℕ, Bool, IsTrue, Option, length, take, IfOk, OnOk, OnErr};
 ghost use Rattle.mt_disk.specs.Disk.{DiskState, Plan, FollowsPlan, Attempts, CountsFailure, GoesUp, Reads, synced, overwritten, cut_range};
 
-/// The disk failed during this call.
+use crate::system_error::SystemError;
+
+/// The disk failed during this call, or had no memory for it. `Disk::last_error` may tell which.
 #[derive(Clone, Copy, Debug, PartialEq, Eq)]
 pub struct DeviceFailed;
 
@@ -21,6 +23,9 @@ pub trait Disk {
 
     /// How many calls have failed.
     ghost failures: { Self → ℕ };
+
+    /// Whether its last call that failed did so because memory was refused.
+    ghost was_refused: { Self → Bool };
 
     /// The number of its last call and which calls it is told to fail; none where nobody tells it.
     ghost plan: { Self → Option Plan };
@@ -53,7 +58,9 @@ pub trait Disk {
             → Attempts (at, at + length bytes.now) result (state self.old) (state self.new) }
         ensures image { IsTrue (is_honest self.old)
             → at ≤ length (state self.old).image
-            → OnOk result ((state self.new).image ≡ overwritten at bytes.now (state self.old).image) };
+            → OnOk result ((state self.new).image ≡ overwritten at bytes.now (state self.old).image) }
+        ensures refused { IsTrue (is_honest self.old)
+            → OnErr result (IsTrue (was_refused self.new) → state self.new ≡ state self.old) };
 
     /// Cuts the file to a length. To a crash it is a write of all that is durable past the new end.
     fn cut(&mut self, len: usize) -> Result<(), DeviceFailed>
@@ -64,7 +71,9 @@ pub trait Disk {
             → Attempts (cut_range len (state self.old)) result (state self.old) (state self.new) }
         ensures image { IsTrue (is_honest self.old)
             → len ≤ length (state self.old).image
-            → OnOk result ((state self.new).image ≡ take len (state self.old).image) };
+            → OnOk result ((state self.new).image ≡ take len (state self.old).image) }
+        ensures refused { IsTrue (is_honest self.old)
+            → OnErr result (IsTrue (was_refused self.new) → state self.new ≡ state self.old) };
 
     /// After it a crash leaves what a read gives. One that fails changes nothing: what was not durable
     /// is as unsure as before, and can be synced again.
@@ -74,6 +83,20 @@ pub trait Disk {
         ensures plan { FollowsPlan result (plan self.old) (plan self.new) }
         ensures done { IsTrue (is_honest self.old) → OnOk result (state self.new ≡ synced (state self.old)) }
         ensures failed { IsTrue (is_honest self.old) → OnErr result (state self.new ≡ state self.old) };
+
+    /// Makes all durable, and drops the system's copy of the file: what is read next comes from the
+    /// device. To contracts it is a sync, also if it fails.
+    fn drop_cache(&mut self) -> Result<(), DeviceFailed>
+        ensures count { CountsFailure result (failures self.old) (failures self.new) }
+        ensures honest { is_honest self.new ≡ is_honest self.old }
+        ensures plan { FollowsPlan result (plan self.old) (plan self.new) }
+        ensures done { IsTrue (is_honest self.old) → OnOk result (state self.new ≡ synced (state self.old)) }
+        ensures failed { IsTrue (is_honest self.old) → OnErr result (state self.new ≡ state self.old) };
+
+    /// Why its last call that failed did so, if the system told it. It has no memory for a call only if
+    /// that changes nothing.
+    fn last_error(&self) -> Option<SystemError>
+        ensures { (result ≡ Some SystemError.OutOfMemory) ↔ IsTrue (was_refused self.now) };
 }
 
 /// Counts a failure.

@@ -17,6 +17,7 @@ use std::os::unix::fs::FileExt;
 pub struct OsFile {
     file: File,
     is_doubtful: bool,
+    last_error: Option<i32>,
 }
 
 /// A disk on a file of the system.
@@ -27,15 +28,19 @@ impl OsFile {
         OsFile {
             file,
             is_doubtful: false,
+            last_error: None,
         }
     }
-}
 
-// What the system answered.
-fn told<T>(answer: io::Result<T>) -> Result<T, FileFault> {
-    match answer {
-        Ok(value) => Ok(value),
-        Err(_) => Err(FileFault::Failed),
+    // What the system answered. The number of an error is kept.
+    fn told<T>(&mut self, answer: io::Result<T>) -> Result<T, FileFault> {
+        match answer {
+            Ok(value) => Ok(value),
+            Err(error) => {
+                self.last_error = error.raw_os_error();
+                Err(FileFault::Failed)
+            }
+        }
     }
 }
 
@@ -50,36 +55,50 @@ impl SystemFile for OsFile {
     ghost state = { λ _. at_rest (found_with []) };
 
     fn len(&mut self) -> Result<usize, FileFault> {
-        told(self.file.metadata().map(|metadata| metadata.len() as usize))
+        let metadata = self.file.metadata();
+        self.told(metadata.map(|metadata| metadata.len() as usize))
     }
 
     fn read_at(&mut self, at: usize, out: &mut [u8]) -> Result<(), FileFault> {
-        told(self.file.read_exact_at(out, at as u64))
+        let read = self.file.read_exact_at(out, at as u64);
+        self.told(read)
     }
 
     fn write_at(&mut self, at: usize, bytes: &[u8]) -> Result<(), FileFault> {
-        told(self.file.write_all_at(bytes, at as u64))
+        let written = self.file.write_all_at(bytes, at as u64);
+        self.told(written)
     }
 
-    fn set_len(&mut self, len: usize) -> Result<(), FileFault> {
-        told(self.file.set_len(len as u64))
+    fn cut(&mut self, len: usize) -> Result<(), FileFault> {
+        let cut = self.file.set_len(len as u64);
+        self.told(cut)
+    }
+
+    fn cut_again(&mut self, len: usize) -> Result<(), FileFault> {
+        self.cut(len)
     }
 
     fn sync(&mut self) -> Result<(), FileFault> {
         if self.is_doubtful {
-            told(touched(&self.file))?;
+            let touched = touched(&self.file);
+            self.told(touched)?;
         }
         let synced = self.file.sync_all();
         self.is_doubtful = synced.is_err();
-        told(synced)
+        self.told(synced)
     }
 
     fn drop_cache(&mut self) -> Result<(), FileFault> {
-        told(self.file.sync_all())?;
+        self.sync()?;
         let advised = libc::posix_fadvise(self.file.as_raw_fd(), 0, 0, libc::POSIX_FADV_DONTNEED);
         if advised != 0 {
+            self.last_error = Some(advised);
             return Err(FileFault::Failed);
         }
         Ok(())
+    }
+
+    fn last_error(&self) -> Option<i32> {
+        self.last_error
     }
 }

@@ -13,6 +13,7 @@ pub mod laws;
 pub mod mem;
 pub mod mem_file;
 pub mod system;
+pub mod system_error;
 
 pub use cached::CachedDisk;
 pub use disk::{DeviceFailed, Disk};
@@ -20,3 +21,4 @@ pub use file::{FileDisk, OsFile};
 pub use mem::MemDisk;
 pub use mem_file::MemFile;
 pub use system::{FileFault, SystemFile};
+pub use system_error::SystemError;

@@ -13,6 +13,7 @@ ghost use Rattle.mt_disk.specs.Disk.{MayLeave, Reads, IsToldToFail, found_with, 
 ghost use Rattle.mt_disk.specs.Mem.{moment_of, moments_and, still_to_come};
 
 use crate::disk::{DeviceFailed, Disk, count_failure};
+use crate::system_error::SystemError;
 use std::alloc::{AllocError, Global};
 
 /// A disk in memory, which keeps the rules of a disk.
@@ -262,6 +263,8 @@ impl Disk for MemDisk {
 
     ghost plan = { λ m. Some (plan_of m) };
 
+    ghost was_refused = { λ _. false };
+
     fn len(&mut self) -> Result<usize, DeviceFailed> {
         let allowed = next_call(&mut self.calls, &self.fails, self.stop);
         self.counted(allowed)?;
@@ -319,6 +322,14 @@ impl Disk for MemDisk {
             &mut self.past,
         );
         self.counted(synced)
+    }
+
+    fn drop_cache(&mut self) -> Result<(), DeviceFailed> {
+        self.sync()
+    }
+
+    fn last_error(&self) -> Option<SystemError> {
+        None
     }
 }
 

@@ -1,16 +1,17 @@
 //! A file in memory, of a system that behaves as Linux does, and whose calls fail if they are told to.
 //!
 //! Its calls are numbered from 1. After a call that was told to fail, every change since the last sync
-//! that succeeded is owed: a sync succeeds without it, and a read still shows it. A call for which there
-//! is no memory, and a write that begins past the end, is not made.
+//! that succeeded is owed: a sync succeeds without it, and a read still shows it. A cut lets go of what
+//! lies past the new end. A call for which there is no memory, and a write that begins past the end, is
+//! not made.
 //!
 //! It keeps each moment that it had, since the clock is real data: for tests, on small files.
 
-ghost use Rattle.std.specs.Prelude.{◌≡◌, ◌+◌, ◌≤◌, true, List, length, ◌∷◌, IfOk, Err};
-ghost use Rattle.mt_disk.specs.{declared.system.FileFault.TheVariants.{NotMade as NothingMade}, Disk.{found_with, overwritten}};
-ghost use Rattle.mt_disk.specs.Files.{FileEdit, IsAgain, at_rest, edit_of};
+ghost use Rattle.std.specs.Prelude.{◌≡◌, ◌+◌, ◌≤◌, true, List, length, ◌∷◌, IfOk, IsOk, OnOk, OnErr, Err};
+ghost use Rattle.mt_disk.specs.{declared.system.FileFault.TheVariants.{NotMade as NothingMade}, Disk.{found_with, found_again, overwritten}};
+ghost use Rattle.mt_disk.specs.{FileEdits.{FileEdit, edit_of}, Files.{LeavesOwed, all_owed, at_rest}};
 
-use crate::edit::Edit;
+use crate::edit::{Edit, make_room, remember};
 use crate::mem::{copy_out, make_durable, note, overwrite};
 use crate::system::{FileFault, SystemFile};
 use std::alloc::{AllocError, AllocFailed, Global};
@@ -95,13 +96,40 @@ impl MemFile {
     fn again(&mut self, is_next: bool, fails: bool) -> Result<(), FileFault>
         requires { self.old.made + 1 ≤ length self.old.unsynced.items }
         ensures { (e : FileEdit) (rest : List FileEdit) → (mem_file_state self.old).owed ≡ e ∷ rest
-            → IsAgain rest result (mem_file_state self.old) (mem_file_state self.new) }
+            → LeavesOwed rest result (mem_file_state self.old) (mem_file_state self.new) }
     {
         if fails || !is_next {
             self.made = 0;
             return Err(FileFault::Failed);
         }
         self.made += 1;
+        Ok(())
+    }
+
+    // Makes an image durable, which is what a read gives then.
+    fn rest(&mut self, image: Result<Vec<u8>, AllocError>, fails: bool) -> Result<(), FileFault>
+        ensures done { OnOk result (IfOk image (λ i. mem_file_state self.new ≡ at_rest (found_again i.items (mem_file_disk self.old)))) }
+        ensures was_there { OnOk result (IsOk image) }
+        ensures failed { OnErr result (mem_file_state self.new ≡ all_owed (mem_file_state self.old)) }
+    {
+        self.made = 0;
+        let Ok(image) = image else {
+            return Err(FileFault::Failed);
+        };
+        if fails
+            || make_durable(
+                self.alloc,
+                &image,
+                &mut self.durable,
+                &mut self.dirty,
+                &mut self.past,
+            )
+            .is_err()
+        {
+            return Err(FileFault::Failed);
+        }
+        self.image = image;
+        self.unsynced.clear();
         Ok(())
     }
 
@@ -115,7 +143,8 @@ impl MemFile {
     ) -> Result<(), FileFault>
         ensures { IsCommit image.items range (edit_of edit) result (mem_file_state self.old) (mem_file_state self.new) }
     {
-        self.unsynced.reserve(1)?;
+        let owes = self.made < self.unsynced.len();
+        make_room(&mut self.unsynced, &edit)?;
         note(
             self.alloc,
             &mut self.durable,
@@ -124,12 +153,12 @@ impl MemFile {
             range,
         )?;
         self.image = image;
-        self.unsynced.push_reserved(edit);
+        remember(&mut self.unsynced, edit);
+        self.made = if owes { 0 } else { self.unsynced.len() };
         if fails {
             self.made = 0;
             return Err(FileFault::Failed);
         }
-        self.made = self.unsynced.len();
         Ok(())
     }
 }
@@ -208,51 +237,43 @@ impl SystemFile for MemFile {
         self.commit(image, range, edit, fails)
     }
 
-    fn set_len(&mut self, len: usize) -> Result<(), FileFault> {
+    fn cut(&mut self, len: usize) -> Result<(), FileFault> {
         let fails = self.next_fails();
-        if self.made < self.unsynced.len() {
-            let is_next = is_cut(&self.unsynced[self.made], len);
-            return self.again(is_next, fails);
-        }
         let mut image = self.image.to_vec(self.alloc)?;
         image.truncate(len);
         let range = (len, self.durable.len());
         self.commit(image, range, Edit::Cut(len), fails)
     }
 
-    fn sync(&mut self) -> Result<(), FileFault> {
+    fn cut_again(&mut self, len: usize) -> Result<(), FileFault> {
         let fails = self.next_fails();
-        if fails {
-            self.made = 0;
-            return Err(FileFault::Failed);
-        }
-        if self.made < self.unsynced.len() {
+        if self.made >= self.unsynced.len() {
             return Ok(());
         }
-        let synced = make_durable(
-            self.alloc,
-            &self.image,
-            &mut self.durable,
-            &mut self.dirty,
-            &mut self.past,
-        );
-        self.made = 0;
-        if synced.is_err() {
-            return Err(FileFault::Failed);
+        let is_next = is_cut(&self.unsynced[self.made], len);
+        self.again(is_next, fails)
+    }
+
+    fn sync(&mut self) -> Result<(), FileFault> {
+        let fails = self.next_fails();
+        if self.made < self.unsynced.len() && !fails {
+            return Ok(());
         }
-        self.unsynced.clear();
-        Ok(())
+        let image = self.image.to_vec(self.alloc);
+        self.rest(image, fails)
     }
 
     fn drop_cache(&mut self) -> Result<(), FileFault> {
-        if self.next_fails() {
-            return Err(FileFault::Failed);
-        }
-        self.image = self.durable.to_vec(self.alloc)?;
-        self.dirty.clear();
-        self.past.clear();
-        self.unsynced.clear();
-        self.made = 0;
-        Ok(())
+        let fails = self.next_fails();
+        let image = if self.made < self.unsynced.len() {
+            self.durable.to_vec(self.alloc)
+        } else {
+            self.image.to_vec(self.alloc)
+        };
+        self.rest(image, fails)
+    }
+
+    fn last_error(&self) -> Option<i32> {
+        None
     }
 }

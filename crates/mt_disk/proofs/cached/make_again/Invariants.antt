@@ -1,6 +1,6 @@
 -- What is owed of a file while its changes are made again.
 use Rattle.std.proofs.Common.{◌≡◌, IsTrue, drop}
-use Rattle.mt_disk.{specs.Files.edits_of, proofs.EditLaws.owing}
+use Rattle.mt_disk.{specs.FileEdits.edits_of, proofs.EditLaws.owing}
 use Rattle.mt_disk.proofs.cached.make_again.Given as goal
 
 -- those from here on are owed

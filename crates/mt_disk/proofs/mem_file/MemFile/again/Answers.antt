@@ -1,6 +1,6 @@
 -- The next change is owed no more.
 use Rattle.std.proofs.Common.{List, ap, arith}
-use Rattle.mt_disk.{specs.{Files.{FileEdit, edits_of}, MemFiles.mem_file_disk}, proofs.EditLaws.tail_owed}
+use Rattle.mt_disk.{specs.{FileEdits.{FileEdit, edits_of}, MemFiles.mem_file_disk}, proofs.EditLaws.tail_owed}
 use Rattle.mt_disk.proofs.mem_file.MemFile.again.Goals as goal
 
 pub returns : goal.returns
