@@ -1,5 +1,5 @@
 -- What a crash leaves of a file behind a gate in each step of the calls on it.
-use Rattle.std.proofs.Common.{◌≡◌, ◌≢◌, ◌⊎◌, inl, inr, ℕ, suc, ◌<◌, ◌≤◌, true, false, List, [], ◌∷◌, ◌++◌, length, take, drop, get_or, Option, Some, None, Result, Ok, Err, OnOk, refl, sym, ◌∙◌, ap, subst, arith, append_assoc, length-append}
+use Rattle.std.proofs.Common.{◌≡◌, ◌≢◌, ◌⊎◌, inl, inr, ℕ, suc, ◌<◌, ◌≤◌, Bool, true, false, not, List, [], ◌∷◌, ◌++◌, length, take, drop, get_or, Option, Some, None, Result, Ok, Err, OnOk, refl, sym, ◌∙◌, ap, subst, arith, append_assoc, length-append}
 use Rattle.std.specs.{Prelude.nat_eq, Option.option_eq, List.slice_get}
 use Rattle.std.proofs.lemmas.Option.{same_Some, none-some}
 use Rattle.std.proofs.lemmas.List.{append-nil}
@@ -45,6 +45,13 @@ is_shut (Some n) e = ap (λ (k : ℕ). Some k) (eqb-true n 0 e)
 
 pub not_shut : (x : Option ℕ) → option_eq nat_eq x (Some 0) ≡ false → x ≢ Some 0
 not_shut x e same = true≢false (sym (ap (λ (y : Option ℕ). option_eq nat_eq y (Some 0)) same) ∙ e)
+
+pub was_shut : (x : Option ℕ) → not (option_eq nat_eq x (Some 0)) ≡ false → x ≡ Some 0
+was_shut x e = is_shut x (of_not (option_eq nat_eq x (Some 0)) e)
+  where
+    of_not : (b : Bool) → not b ≡ false → b ≡ true
+    of_not true e = refl
+    of_not false e = absurd (true≢false e)
 
 elsewhere : (i : ℕ) → is_dirty ((0, 1) ∷ []) (suc i) ≡ false
 elsewhere i = grind (arith, nat_tests)
@@ -192,22 +199,11 @@ emptied s mid new rest is done = subst IsGivenUp (sym done) (record {
 
 -- ---- a file that is begun
 
--- one that was shut and written stands among what may be left of either text
-module _ (old text : List ℕ) (first mid head : DiskState) (shut : LeavesOnly (IsLeftOf old) first mid) where
+-- one over which it is begun stands among what may be left of either text
+module _ (old text : List ℕ) (first mid : DiskState) (shut : LeavesOnly (IsLeftOf old) first mid) where
   pub either_shut : LeavesOnly (IsLeftOfEither old text) first mid
   either_shut = widened (IsLeftOf old) (IsLeftOfEither old text) first mid (λ image is. inl is) shut
 
-  pub either_written : LeavesOnly IsClosed mid head → LeavesOnly (IsLeftOfEither old text) first head
-  either_written closed = joined (IsLeftOfEither old text) first mid head either_shut (widened IsClosed (IsLeftOfEither old text) mid head (λ image is. inr (inl is)) closed)
-
-  pub either_opened : (new : DiskState) → LeavesOnly IsClosed mid head → LeavesOnly (IsLeftOf text) head new → LeavesOnly (IsLeftOfEither old text) first new
-  either_opened new closed opened =
-      joined (IsLeftOfEither old text) first head new (either_written closed) (widened (IsLeftOf text) (IsLeftOfEither old text) head new (λ image is. inr is) opened)
-
--- over the same text, either is that one
-pub both_same : (text : List ℕ) (old new : DiskState) → LeavesOnly (IsLeftOfEither text text) old new → LeavesOnly (IsLeftOf text) old new
-both_same text old new kept = widened (IsLeftOfEither text text) (IsLeftOf text) old new same kept
-  where
-    same : (image : List ℕ) → IsLeftOfEither text text image → IsLeftOf text image
-    same image (inl is) = is
-    same image (inr is) = is
+  pub either_begun : (new : DiskState) → LeavesOnly (IsLeftOf text) mid new → LeavesOnly (IsLeftOfEither old text) first new
+  either_begun new begun =
+      joined (IsLeftOfEither old text) first mid new either_shut (widened (IsLeftOf text) (IsLeftOfEither old text) mid new (λ image is. inr is) begun)

@@ -2,10 +2,19 @@
 
 ghost use Rattle.std.specs.Prelude.{◌≡◌, ◌<◌, ℕ, List, length, IsTrue, OnOk};
 ghost use Rattle.mt_disk.specs.Disk.{DiskState, CountsFailure, LeavesOnly};
-ghost use Rattle.mt_gates.specs.Gates.{IsClosed, IsLeftOf, IsLeftOfEither, IsClosedAtRest, IsGivenUp, IsStaged, HasDurably};
+ghost use Rattle.mt_gates.specs.{Gates.{IsClosed, IsLeftOf, IsLeftOfEither, IsClosedAtRest, IsGivenUp, IsStaged, HasDurably}, Beginnings.{BeginsOver, CountsBeginning}};
 
 use crate::gate::{SHUT, close_gate, open_gate, stage, synced_gate, write_head};
 use mt_disk::{DeviceFailed, Disk};
+
+/// Why a file was not begun.
+#[derive(Clone, Copy, Debug, PartialEq, Eq)]
+pub enum BeginFault {
+    /// The disk failed.
+    Device,
+    /// The file has no closed gate: its first byte isn't 00, or it is empty.
+    NotShut,
+}
 
 // Syncs a file, and closes its gate, if it isn't closed.
 fn shut<D: Disk>(disk: &mut D) -> Result<(), DeviceFailed>
@@ -33,22 +42,42 @@ fn write_text<D: Disk>(disk: &mut D, text: &[u8]) -> Result<(), DeviceFailed>
     stage(disk)
 }
 
-/// Begins a file with this text over one whose gate is closed. What it had is lost. At each moment a crash leaves the
-/// gate closed, or the text whole after any gate. If another text might be left before, a crash may also leave that one,
-/// whole after any gate.
-pub fn begin_file<D: Disk>(disk: &mut D, text: &[u8]) -> Result<(), DeviceFailed>
+// Writes this text after a closed gate, and opens that.
+fn begin_shut<D: Disk>(disk: &mut D, text: &[u8]) -> Result<(), DeviceFailed>
+    requires { 0 < length text.now }
+    ensures begun { IsTrue (D.is_honest disk.old) → IsClosedAtRest (D.state disk.old) → OnOk result (HasDurably text.now (D.state disk.new)) }
+    ensures leaves { IsTrue (D.is_honest disk.old) → IsClosedAtRest (D.state disk.old) → LeavesOnly (IsLeftOf text.now) (D.state disk.old) (D.state disk.new) }
+    ensures honest { D.is_honest disk.new ≡ D.is_honest disk.old }
+    ensures count { CountsFailure result (D.failures disk.old) (D.failures disk.new) }
+{
+    write_text(disk, text)?;
+    open_gate(disk)
+}
+
+/// Begins a file with this text over one whose gate is closed. What it had after the gate is lost. A file whose gate isn't
+/// closed is refused: it is synced and not written. At each moment a crash leaves the gate closed, or the text whole after
+/// any gate. If another text might be left before, a crash may also leave that one, whole after any gate.
+pub fn begin_file<D: Disk>(disk: &mut D, text: &[u8]) -> Result<(), BeginFault>
     requires { 0 < length text.now }
     ensures begun { IsTrue (D.is_honest disk.old) → OnOk result (HasDurably text.now (D.state disk.new)) }
     ensures leaves { IsTrue (D.is_honest disk.old) → (first : DiskState) → LeavesOnly (IsLeftOf text.now) first (D.state disk.old)
         → LeavesOnly (IsLeftOf text.now) first (D.state disk.new) }
     ensures over { IsTrue (D.is_honest disk.old) → (other : List ℕ) (first : DiskState) → 0 < length other → LeavesOnly (IsLeftOf other) first (D.state disk.old)
         → LeavesOnly (IsLeftOfEither other text.now) first (D.state disk.new) }
+    ensures gate { IsTrue (D.is_honest disk.old) → BeginsOver result (D.state disk.old) (D.state disk.new) }
     ensures honest { D.is_honest disk.new ≡ D.is_honest disk.old }
-    ensures count { CountsFailure result (D.failures disk.old) (D.failures disk.new) }
+    ensures count { CountsBeginning result (D.failures disk.old) (D.failures disk.new) }
 {
-    shut(disk)?;
-    write_text(disk, text)?;
-    open_gate(disk)
+    let Ok((_, gate)) = synced_gate(disk) else {
+        return Err(BeginFault::Device);
+    };
+    if gate != Some(SHUT) {
+        return Err(BeginFault::NotShut);
+    }
+    match begin_shut(disk, text) {
+        Ok(()) => Ok(()),
+        Err(DeviceFailed) => Err(BeginFault::Device),
+    }
 }
 
 /// Gives a file up that has this text. At each moment a crash leaves the text whole after any gate, or the gate closed.

@@ -1,15 +1,16 @@
 -- The log of a generation: its bytes when it is begun, and what is left of it when it is given up.
-use Rattle.std.proofs.Common.{◌≡◌, ◌≢◌, ◌⊎◌, ◌↔◌, inl, inr, ℕ, zero, suc, ◌<◌, ◌≤◌, [], ◌∷◌, ◌++◌, length, drop, Option, Some, refl, sym, ◌∙◌, ap, subst, arith, append_assoc, length-append}
+use Rattle.std.proofs.Common.{◌≡◌, ◌≢◌, ◌⊎◌, ◌↔◌, inl, inr, ℕ, zero, suc, ◌<◌, ◌≤◌, Bool, IsTrue, [], ◌∷◌, ◌++◌, length, drop, Option, Some, refl, sym, ◌∙◌, ap, subst, arith, append_assoc, length-append}
 use Rattle.std.proofs.{lemmas.Option.same_Some, lemmas.List.append-nil}
 use Rattle.std.specs.List.{slice_get}
 use Rattle.mt_rows.specs.Rows.{Bytes}
 use Rattle.mt_disk.{specs.Disk.{DiskState, LeavesOnly, synced}, proofs.CrashLaws.{started, after_sync, joined, widened}}
 use Rattle.mt_gates.{specs.Gates.{IsClosed, IsGated, IsLeftOf, HasDurably}, proofs.Crash.counts}
+use Rattle.mt_gates.specs.{Beginnings.{StopsOver, CountsFault}, declared.gated.BeginFault.{BeginFault, TheVariants.{Device, NotShut}}}
 use Rattle.mt_log_generations.specs.{declared.header.Header.Header, Headers.{header_bytes, begun_text, IsHeader, IsNoLog}}
 use Rattle.mt_log.specs.{declared.batch.LogBatch.LogBatch}
 use Rattle.mt_log.specs.Format.{beginning, body, open_batch, batch_bytes}
 use Rattle.mt_log.specs.Contents.{Contents, IsContents, log_bytes}
-use Rattle.mt_log.specs.{Fronts.{HasFront, IsAtRest, IsLeft, IsShut, IsFound}, Numbered.{begun_log, text_of}}
+use Rattle.mt_log.specs.{Fronts.{HasFront, IsAtRest, IsLeft, IsShut, IsFound}, Numbered.{begun_log, text_of, LeavesBegun, IsNotBegun}}
 use Rattle.mt_log.proofs.FrontLaws.{numbered_bytes, numbered_limits, one_whole}
 use Rattle.std.specs.List.{flat_map}
 
@@ -74,6 +75,14 @@ begun_rest h s is has = record {
   durable = has.durable;
   end = omega (arith, ap length (begun_bytes h is));
 }
+
+-- why a log was not begun
+pub not_begun : {D : Type 0} (is_honest : D → Bool) (state : D → DiskState) (failures : D → ℕ) (old new : D) (h : Header) (fault : BeginFault)
+    → (IsTrue (is_honest old) → StopsOver fault (state old) (state new)) → LeavesBegun is_honest state failures old new h → CountsFault fault (failures old) (failures new)
+    → is_honest new ≡ is_honest old → IsNotBegun is_honest state failures fault old h new
+not_begun is_honest state failures old new h Device gate leaves count honest = record { gate = gate; leaves = leaves; count = count; honest = honest }
+not_begun is_honest state failures old new h NotShut gate leaves count honest =
+    record { gate = λ is. (gate is).0; moves = λ is. (gate is).1; count = count; honest = honest }
 
 -- ---- a log that is given up
 

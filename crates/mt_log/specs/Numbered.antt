@@ -1,14 +1,15 @@
 -- The calls on the log of a generation: begun, opened from its numbered file, and given up.
 use Rattle.std.specs.Prelude.{◌≡◌, ◌⊎◌, ℕ, ◌<◌, ◌≤◌, Bool, IsTrue, List, [], ◌∷◌, ◌++◌, length, drop, Some, slice_get}
 use Rattle.mt_rows.specs.Rows.{Bytes}
-use Rattle.mt_disk.specs.Disk.{DiskState, LeavesOnly, IsDurable, GoesUp}
-use Rattle.mt_gates.specs.Gates.{IsClosed, IsLeftOf, IsLeftOfEither, IsGivenUp}
+use Rattle.mt_disk.specs.Disk.{DiskState, LeavesOnly, IsDurable, GoesUp, synced}
+use Rattle.mt_gates.specs.{Gates.{IsClosed, IsLeftOf, IsLeftOfEither, IsGivenUp, IsSyncedOrSame}, Beginnings.HasShutGate, declared.gated.BeginFault.BeginFault}
 use Rattle.mt_log_generations.specs.{declared.header.Header.Header, declared.header.Parity.Parity, Headers.{begun_text, IsNoLog}}
 use Rattle.mt_log.specs.{declared.batch.LogBatch.LogBatch, declared.log_file.LogFile.LogFile, declared.numbered_file.Numbered.Numbered, declared.fault.OpenFault.OpenFault}
 use Rattle.mt_log.specs.{Contents.{Contents, IsContents, log_bytes, with_batch}, Fronts.IsLeft, Logs.{IsLogOf, Opened, IsRefused}}
 use Rattle.mt_log.specs.declared.numbered_file.Numbered.TheVariants.{Log, NoLog}
 use Rattle.mt_log.specs.declared.reader.FileKind.TheVariants as kinds
 use Rattle.mt_log.specs.declared.fault.OpenFault.TheVariants as opens
+use Rattle.mt_gates.specs.declared.gated.BeginFault.TheVariants as begins
 
 -- a log that was begun with this header: it has no batches
 abbrev pub begun_log : Header → Contents
@@ -37,19 +38,33 @@ module _ {D : Type 0} (is_honest : D → Bool) (state : D → DiskState) (failur
     pub over : IsTrue (is_honest old) → (other : List ℕ) (first : DiskState) → 0 < length other → LeavesOnly (IsLeftOf other) first (state old)
         → LeavesOnly (IsLeftOfEither other (begun_text h)) first (state new)
 
-  -- a log was begun with this header
+  -- a log was begun with this header, over a closed outer gate
   pub record Begun (old : D) (h : Header) (log : LogFile D) : Type 0 where
+    pub gate : IsTrue (is_honest old) → HasShutGate (state old)
     pub mark : log.mark ≡ h.start
     pub has : IsTrue (is_honest old) → IsLogOf state (begun_log h) log
     pub leaves : LeavesBegun old log.disk h
     pub count : failures log.disk ≡ failures old
     pub honest : is_honest log.disk ≡ is_honest old
 
-  -- the disk failed in that
+  -- the disk failed in that, or before anything was written
   pub record FailsToBegin (old : D) (h : Header) (disk : D) : Type 0 where
+    pub gate : IsTrue (is_honest old) → HasShutGate (state old) ⊎ IsSyncedOrSame (state old) (state disk)
     pub leaves : LeavesBegun old disk h
     pub count : GoesUp (failures old) (failures disk)
     pub honest : is_honest disk ≡ is_honest old
+
+  -- the outer gate isn't closed: the file was synced and not written
+  pub record IsNotSpare (old disk : D) : Type 0 where
+    pub gate : IsTrue (is_honest old) → HasShutGate (state old) → ⊥
+    pub moves : IsTrue (is_honest old) → state disk ≡ synced (state old)
+    pub count : failures disk ≡ failures old
+    pub honest : is_honest disk ≡ is_honest old
+
+  -- why it was not begun
+  abbrev pub IsNotBegun : BeginFault → D → Header → D → Type 0
+  IsNotBegun begins.Device old h disk = FailsToBegin old h disk
+  IsNotBegun begins.NotShut old h disk = IsNotSpare old disk
 
   -- over an honest disk: giving a log up leaves its text whole after any first byte, or a closed gate
   abbrev pub LeavesGivenUp : LogFile D → D → Type 0

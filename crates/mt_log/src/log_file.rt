@@ -92,6 +92,13 @@ impl<D: Disk> LogFile<D> {
         self.mark
     }
 
+    /// Where it ends: how many bytes stand before its end gate.
+    pub fn end(&self) -> usize
+        ensures { result ≡ self.now.end }
+    {
+        self.end
+    }
+
     /// Its disk, to be looked at.
     pub fn disk(&self) -> &D
         ensures { result.now ≡ self.now.disk }

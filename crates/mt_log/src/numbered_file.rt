@@ -2,7 +2,7 @@
 
 ghost use Rattle.std.specs.Prelude.{◌≡◌, ◌<◌, ◌≤◌, ◌^◌, IsTrue, IfOk, IfErr, MatchResult};
 ghost use Rattle.mt_log_generations.specs.Headers.{header_with, IsHeader};
-ghost use Rattle.mt_log.specs.{Logs.fault_with, Numbered.{Begun, FailsToBegin, GivenUp, FailsToGiveUp, OpensNumbered, GivesNumberedBack, StillLeavesText, disk_in, disk_of}, Settling.{FindsNumbered, IsSyncedOrNone, FailsToSettle}};
+ghost use Rattle.mt_log.specs.{Logs.fault_with, Numbered.{Begun, IsNotBegun, GivenUp, FailsToGiveUp, OpensNumbered, GivesNumberedBack, StillLeavesText, disk_in, disk_of}, Settling.{FindsNumbered, IsSyncedOrNone, FailsToSettle}};
 
 use crate::batch::Front;
 use crate::fault::{OpenFault, ReadFault};
@@ -11,7 +11,7 @@ use crate::log_file::{LENGTH_LIMIT, LogFile};
 use crate::reader::{FileKind, NUMBERED_BYTES};
 use crate::windows::{Found, read_front};
 use mt_disk::{DeviceFailed, Disk};
-use mt_gates::{OPEN, SHUT, close_gate, synced_gate};
+use mt_gates::{BeginFault, OPEN, SHUT, close_gate, synced_gate};
 use mt_log_generations::{Parity, begin_generation};
 use std::alloc::Global;
 
@@ -58,22 +58,23 @@ impl<D: Disk> LogFile<D> {
         }
     }
 
-    /// Begins the log of a generation, without batches, over a file whose outer gate is closed. What the file had is lost.
-    /// At each moment a crash leaves the outer gate closed, or the whole log without batches after any outer gate.
+    /// Begins the log of a generation, without batches, over a file whose outer gate is closed. What the file had after it is
+    /// lost. A file whose outer gate isn't closed is refused: it is synced and not written. At each moment a crash leaves the
+    /// outer gate closed, or the whole log without batches after any outer gate.
     pub fn begin(
         mut disk: D,
         worker: u8,
         logs: u8,
         generation: u64,
         start: u64,
-    ) -> Result<LogFile<D>, (DeviceFailed, D)>
+    ) -> Result<LogFile<D>, (BeginFault, D)>
         requires { IsHeader (header_with worker logs generation start) }
         ensures ok { IfOk result (Begun D.is_honest D.state D.failures disk (header_with worker logs generation start)) }
-        ensures err { IfErr result (λ e. FailsToBegin D.is_honest D.state D.failures disk (header_with worker logs generation start) e.1) }
+        ensures err { IfErr result (λ e. IsNotBegun D.is_honest D.state D.failures e.0 disk (header_with worker logs generation start) e.1) }
     {
         match begin_generation(&mut disk, worker, logs, generation, start) {
             Ok(()) => Ok(LogFile::at(disk, NUMBERED_BYTES, start)),
-            Err(failed) => Err((failed, disk)),
+            Err(fault) => Err((fault, disk)),
         }
     }
 

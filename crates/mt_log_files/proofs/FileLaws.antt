@@ -1,10 +1,10 @@
 -- What each call makes of a numbered file: it leaves what a crash might leave before, or what it says.
-use Rattle.std.proofs.Common.{◌≡◌, ◌≢◌, ⊎_elim, inl, inr, ℕ, ◌≤◌, [], ◌∷◌, length, Bool, IsTrue, Option, Some, None, refl, sym, ◌∙◌, ap, subst, arith, length-append}
-use Rattle.std.specs.{List.slice_get, Option.option_map}
+use Rattle.std.proofs.Common.{◌≡◌, ◌≢◌, ⊎_elim, inl, inr, ℕ, ◌<◌, ◌≤◌, [], ◌∷◌, length, Bool, IsTrue, Option, Some, None, refl, sym, ◌∙◌, ap, subst, arith, length-append}
+use Rattle.std.specs.{Prelude.slice_index_or, List.slice_get, Option.option_map}
 use Rattle.mt_rows.specs.{Rows.Bytes, declared.refusal.Refusal.Refusal}
 use Rattle.mt_disk.{specs.Disk.{DiskState, IsDurable, LeavesOnly}, proofs.CrashLaws.started}
 use Rattle.mt_gates.specs.Gates.{IsClosed, IsLeftOf}
-use Rattle.mt_log_generations.specs.{declared.header.{Header.Header, Parity.Parity, Parity.TheVariants.{Even, Odd}}, Headers.{header_with, parity_of, IsHeader}}
+use Rattle.mt_log_generations.specs.{declared.header.{Header.Header, Parity.Parity, Parity.TheVariants.{Even, Odd}}, Headers.{header_with, begun_text, parity_of, IsHeader}}
 use Rattle.mt_log.specs.{declared.batch.Front.Front, declared.batch.LogBatch.LogBatch, declared.batch.LogBatch.TheVariants.Resume}
 use Rattle.mt_log.specs.declared.log_file.LogFile.{LogFile}
 use Rattle.mt_log.specs.Contents.{Contents, IsContents, IsLogBatch, with_batch, contents_of}
@@ -12,7 +12,7 @@ use Rattle.mt_log.specs.{Fronts.{HasFront, IsOfKind, IsBadLog}, Numbered.{begun_
 use Rattle.mt_log.proofs.{FrontLaws.{front_not_bad, one_front, contents_more}, NumberedLaws.{opens, left_opens, left_whole, begun_contents, begun_is_text, rest_left, text_some}}
 use Rattle.mt_crashes.specs.Stores.{at_rest}
 use Rattle.mt_recover.specs.{declared.resuming.LogSlot.LogSlot, declared.resuming.LogSlot.TheVariants.{Open, Failed, Closed, Away}}
-use Rattle.mt_log_files.specs.Slots.{disk_in, OpensNumbered, FailsOnNumbered, FailsToOpenNumbered, Begins, NotBegun, GivesUp, NotGivenUp}
+use Rattle.mt_log_files.specs.Slots.{disk_in, OpensNumbered, FailsOnNumbered, FailsToOpenNumbered, Begins, NotBegun, FindsNotSpare, GivesUp, NotGivenUp}
 use Rattle.mt_log_files.specs.{Shows.{ShowsClosed, IsHonest}, Files.{FileNow, Spare, Has, MayHave, MayLeaveFile, found_as, LeavesText, IsNumbered, ShowsFile}}
 use Rattle.mt_log_files.proofs.ShowLaws.{reads, not_bad, open_shows, failed_shows}
 use Rattle.mt_log.specs.declared.reader.FileKind.TheVariants as kinds
@@ -275,6 +275,31 @@ module _ {D : Type 0} (is_honest : D → Bool) (state : D → DiskState) (failur
   pub not_begun : (parity : Parity) (h : Header) (old new : LogSlot D) → IsHeader h → parity_of h.generation ≡ parity → IsHonest is_honest old
       → ShowsFile state parity Spare old → NotBegun is_honest state failures h (disk_in old) new → IsHonest is_honest new × ShowsFile state parity (MayHave (begun_log h)) new
   not_begun parity h old new is same honest shows b = not_begun_at parity h (disk_in old) new is same (on_disk parity Spare old honest shows) b
+
+  -- a spare file has a closed gate: no two logs stand after one gate
+  spare_shut : (disk : D) → ((c : Contents) → IsContents c → LeavesText state c disk) → IsClosed (state disk).image
+  spare_shut disk spare = one_of (left 1 (omega arith, omega arith)) (left 2 (omega arith, omega arith))
+    where
+      left : (logs : ℕ) → (0 < logs) × (logs ≤ 64) → IsLeftOf (begun_text (header_with 0 logs 1 0)) (state disk).image
+      left logs few =
+          let h = header_with 0 logs 1 0 in
+          let is : IsHeader h = record { worker = few.0; logs = few.1; numbered = omega arith; generation = omega arith; start = omega arith } in
+          subst (λ (t : Bytes). IsLeftOf t (state disk).image) (begun_is_text h is) (text_now (begun_log h) disk (spare (begun_log h) (begun_contents h is)))
+
+      one_of : IsLeftOf (begun_text (header_with 0 1 1 0)) (state disk).image → IsLeftOf (begun_text (header_with 0 2 1 0)) (state disk).image → IsClosed (state disk).image
+      one_of (inl closed) other = closed
+      one_of (inr gated) (inl closed) = closed
+      one_of (inr gated) (inr other) = absurd (omega (arith, ap (λ (l : Bytes). slice_index_or l 8 0) (sym gated.whole ∙ other.whole)))
+
+  never_refused_at : (parity : Parity) (old : Option D) (new : LogSlot D) → OnDisk (ShowsDisk parity Spare) old → FindsNotSpare is_honest state failures old new → ⊥
+  never_refused_at parity (Some old) (Closed new) on f = f.gate on.0 (ap (λ (l : Bytes). slice_get l 0) (spare_shut old on.1).whole)
+  never_refused_at parity (Some old) (Open log) on f = absurd f
+  never_refused_at parity (Some old) (Failed log) on f = absurd f
+  never_refused_at parity (Some old) Away on f = absurd f
+  never_refused_at parity None new on f = absurd on
+
+  pub never_refused : (parity : Parity) (old new : LogSlot D) → IsHonest is_honest old → ShowsFile state parity Spare old → FindsNotSpare is_honest state failures (disk_in old) new → ⊥
+  never_refused parity old new honest shows f = never_refused_at parity (disk_in old) new (on_disk parity Spare old honest shows) f
 
   -- ---- a file that is given up
 

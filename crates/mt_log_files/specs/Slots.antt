@@ -2,15 +2,16 @@
 use Rattle.std.specs.Prelude.{◌≡◌, ◌⊎◌, ℕ, ◌<◌, ◌%◌, ◌==◌, if◌then◌else◌, Bool, IsTrue, List, [], length, Option, Some, None}
 use Rattle.mt_rows.specs.declared.refusal.Refusal.{Refusal}
 use Rattle.mt_disk.specs.Disk.{DiskState, LeavesOnly, GoesUp, synced}
-use Rattle.mt_gates.specs.Gates.{IsClosed, IsLeftOf, IsGivenUp}
+use Rattle.mt_gates.specs.{Gates.{IsClosed, IsLeftOf, IsGivenUp}, declared.gated.BeginFault.BeginFault}
 use Rattle.mt_log_generations.specs.declared.header.{Header.Header, Parity.Parity}
 use Rattle.mt_log.specs.{declared.batch.Front.Front, declared.fault.OpenFault.OpenFault}
-use Rattle.mt_log.specs.{Logs.{Opened, GivesDiskBack}, Numbered.{Begun, FailsToBegin, HasNoLog, GivesNumberedBack, StillLeavesText}}
+use Rattle.mt_log.specs.{Logs.{Opened, GivesDiskBack}, Numbered.{Begun, FailsToBegin, IsNotSpare, HasNoLog, GivesNumberedBack, StillLeavesText}}
 use Rattle.mt_recover.specs.{declared.resuming.LogSlot.LogSlot, declared.resuming.LogSlot.TheVariants.{Open, Failed, Closed, Away}}
 use Rattle.mt_log.specs.declared.reader.FileKind.TheVariants as kinds
 use Rattle.mt_log_files.specs.declared.worker.WorkerFiles.{WorkerFiles}
 use Rattle.mt_rows.specs.declared.refusal.Refusal.TheVariants as refusals
 use Rattle.mt_log.specs.declared.fault.OpenFault.TheVariants as opens
+use Rattle.mt_gates.specs.declared.gated.BeginFault.TheVariants as begins
 
 -- the disk of a place
 abbrev pub disk_in : {D : Type 0} → LogSlot D → Option D
@@ -117,6 +118,16 @@ module _ {D : Type 0} (is_honest : D → Bool) (state : D → DiskState) (failur
   NotBegun h (Some old) (Closed disk) = FailsToBegin is_honest state failures old h disk
   NotBegun h None Away = Unit {0}
   NotBegun h disk slot = ⊥
+
+  -- its file isn't spare: it is closed, and as it was
+  abbrev pub FindsNotSpare : Option D → LogSlot D → Type 0
+  FindsNotSpare (Some old) (Closed disk) = IsNotSpare is_honest state failures old disk
+  FindsNotSpare disk slot = ⊥
+
+  -- why it was not begun
+  abbrev pub FailsToBeginAt : BeginFault → Header → Option D → LogSlot D → Type 0
+  FailsToBeginAt begins.Device h disk slot = NotBegun h disk slot
+  FailsToBeginAt begins.NotShut h disk slot = FindsNotSpare disk slot
 
   -- ---- a file that is given up
 

@@ -9,7 +9,7 @@ ghost use Rattle.mt_log.specs.declared.batch.LogBatch.{LogBatch};
 ghost use Rattle.mt_crashes.specs.{Bases.Slots, Stores.{Store, LogNow, new_store, Leads, at_rest, MayLeaveFront, MayLeaveFronts, MayLeaveSlots}};
 ghost use Rattle.mt_generations.specs.{Chains.EndsLog, Standings.{IsChosen, IsPart}, Turns.StandsWhole};
 ghost use Rattle.mt_recover.specs.declared.resuming.LogSlot.{LogSlot};
-ghost use Rattle.mt_log_files.specs.Slots.{disk_in, OpensNumbered, FailsToOpenNumbered, Begins, NotBegun, GivesUp, NotGivenUp};
+ghost use Rattle.mt_log_files.specs.Slots.{disk_in, OpensNumbered, FailsToOpenNumbered, Begins, NotBegun, FindsNotSpare, GivesUp, NotGivenUp};
 ghost use Rattle.mt_log_files.specs.{Shows.IsHonest, Files.{FileNow, Spare, Has, MayHave, MayLeaveFile, found_as, ShowsFile}};
 ghost use Rattle.mt_log_files.specs.Workers.{AreFilesOf, Files, Found, AllHaveFiles, MayLeaveFiles, standings_of};
 
@@ -26,7 +26,8 @@ pub fn an_opening_finds_what_might_be_left<D: Disk>()
         → IsHonest D.is_honest new × ShowsFile D.state parity file new × ((number offset : ℕ) → e ≢ refusals.BadLog number offset) }
 {}
 
-/// A log that was begun in a spare file is there, without batches. If its beginning failed, it may be there or not.
+/// A log that was begun in a spare file is there, without batches. If its beginning failed, it may be there or not. A spare
+/// file is never found not to be one.
 pub fn a_log_is_begun_in_a_spare_file<D: Disk>()
     ensures begun { (parity : Parity) (h : Header) (old new : LogSlot D) → IsHeader h → parity_of h.generation ≡ parity → IsHonest D.is_honest old
         → ShowsFile D.state parity Spare old → Begins D.is_honest D.state D.failures h (disk_in old) new
@@ -34,6 +35,8 @@ pub fn a_log_is_begun_in_a_spare_file<D: Disk>()
     ensures failed { (parity : Parity) (h : Header) (old new : LogSlot D) → IsHeader h → parity_of h.generation ≡ parity → IsHonest D.is_honest old
         → ShowsFile D.state parity Spare old → NotBegun D.is_honest D.state D.failures h (disk_in old) new
         → IsHonest D.is_honest new × ShowsFile D.state parity (MayHave (begun_log h)) new }
+    ensures never_refused { (parity : Parity) (old new : LogSlot D) → IsHonest D.is_honest old
+        → ShowsFile D.state parity Spare old → ¬ FindsNotSpare D.is_honest D.state D.failures (disk_in old) new }
 {}
 
 /// A file that was given up is spare, whatever it was. If that failed, a log that was open may be there or not.

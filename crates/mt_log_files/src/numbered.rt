@@ -2,10 +2,11 @@
 
 ghost use Rattle.std.specs.Prelude.{◌≡◌, Some, IfOk, IfErr, OnOk, OnErr};
 ghost use Rattle.mt_log_generations.specs.Headers.{header_with, IsHeader};
-ghost use Rattle.mt_log_files.specs.Slots.{disk_in, OpensNumbered, FailsToOpenNumbered, Begins, NotBegun, GivesUp, NotGivenUp};
+ghost use Rattle.mt_log_files.specs.Slots.{disk_in, OpensNumbered, FailsToOpenNumbered, Begins, FailsToBeginAt, GivesUp, NotGivenUp};
 
 use crate::plain::{parts_of, take_disk};
 use mt_disk::{DeviceFailed, Disk};
+use mt_gates::BeginFault;
 use mt_log::{Front, LogFile, Numbered};
 use mt_log_generations::{Header, Parity};
 use mt_recover::LogSlot;
@@ -55,16 +56,16 @@ fn open_numbered_disk<D: Disk + Drop>(
     }
 }
 
-/// Begins the log of a generation in a spare file. An error is of the disk: the place is closed, and the log may be there or
-/// not.
-pub fn begin<D: Disk + Drop>(slot: &mut LogSlot<D>, header: Header) -> Result<(), DeviceFailed>
+/// Begins the log of a generation in a spare file. An error closes the place. `Device`: the log may be there or not, or there
+/// is no disk. `NotShut`: the first byte of the file isn't 00, and the file is as it was.
+pub fn begin<D: Disk + Drop>(slot: &mut LogSlot<D>, header: Header) -> Result<(), BeginFault>
     requires { IsHeader header }
     ensures ok { OnOk result (Begins D.is_honest D.state D.failures header (disk_in slot.old) slot.new) }
-    ensures err { OnErr result (NotBegun D.is_honest D.state D.failures header (disk_in slot.old) slot.new) }
+    ensures err { IfErr result (λ e. FailsToBeginAt D.is_honest D.state D.failures e header (disk_in slot.old) slot.new) }
 {
     match take_disk(slot) {
         Some(disk) => begin_on(disk, slot, header),
-        None => Err(DeviceFailed),
+        None => Err(BeginFault::Device),
     }
 }
 
@@ -73,10 +74,10 @@ fn begin_on<D: Disk + Drop>(
     disk: D,
     slot: &mut LogSlot<D>,
     header: Header,
-) -> Result<(), DeviceFailed>
+) -> Result<(), BeginFault>
     requires { IsHeader header }
     ensures ok { OnOk result (Begins D.is_honest D.state D.failures header (Some disk) slot.new) }
-    ensures err { OnErr result (NotBegun D.is_honest D.state D.failures header (Some disk) slot.new) }
+    ensures err { IfErr result (λ e. FailsToBeginAt D.is_honest D.state D.failures e header (Some disk) slot.new) }
 {
     match LogFile::begin(
         disk,
@@ -89,9 +90,9 @@ fn begin_on<D: Disk + Drop>(
             *slot = LogSlot::Open(log);
             Ok(())
         }
-        Err((failed, disk)) => {
+        Err((fault, disk)) => {
             *slot = LogSlot::Closed(disk);
-            Err(failed)
+            Err(fault)
         }
     }
 }

@@ -1,6 +1,7 @@
 //! A numbered file: made spare, begun with the log of generation 1, given up, and begun with that of generation 3.
 
-use mt_disk::{DeviceFailed, MemDisk};
+use mt_disk::MemDisk;
+use mt_gates::BeginFault;
 use mt_log_generations::{HeaderFault, begin_generation, create_spare, give_up, read_header};
 use std::alloc::{AllocError, Global};
 use std::test::Fail;
@@ -38,20 +39,31 @@ fn read_as(alloc: Global, image: &[u8]) -> Result<Told, AllocError> {
 }
 
 // A spare file takes three calls of the disk, each beginning eight, and giving up seven.
-fn two_generations(disk: &mut MemDisk) -> Result<(), DeviceFailed> {
-    create_spare(disk)?;
-    begin_generation(disk, 0, 1, 1, 6)?;
-    give_up(disk)?;
-    begin_generation(disk, 0, 1, 3, 20)
+fn two_generations(disk: &mut MemDisk) -> bool {
+    create_spare(disk).is_ok()
+        && begin_generation(disk, 0, 1, 1, 6).is_ok()
+        && give_up(disk).is_ok()
+        && begin_generation(disk, 0, 1, 3, 20).is_ok()
 }
 
-// What failed at a call, once more; and what the file then has.
+// Whether a file has the log of this generation and start.
+fn has(disk: &mut MemDisk, generation: u64, start: u64) -> bool {
+    told_of(disk) == Told::Log(generation, start)
+}
+
+// What failed at a call, once more, unless it was done; and what the file then has.
 fn once_more(disk: &mut MemDisk, call: u64) -> (bool, &'static [u8]) {
     match call {
         0..=3 => (create_spare(disk).is_ok(), &[0]),
-        4..=11 => (begin_generation(disk, 0, 1, 1, 6).is_ok(), &FIRST),
+        4..=11 => (
+            has(disk, 1, 6) || begin_generation(disk, 0, 1, 1, 6).is_ok(),
+            &FIRST,
+        ),
         12..=18 => (give_up(disk).is_ok(), &[0]),
-        _ => (begin_generation(disk, 0, 1, 3, 20).is_ok(), &SECOND),
+        _ => (
+            has(disk, 3, 20) || begin_generation(disk, 0, 1, 3, 20).is_ok(),
+            &SECOND,
+        ),
     }
 }
 
@@ -111,7 +123,7 @@ fn a_crash_at_any_call_leaves_a_whole_log_or_none(rt: HostRuntime) -> Result<(),
     for stop in 4..28 {
         let mut disk = MemDisk::new(alloc, Vec::new(alloc), Some(stop));
         let ended = two_generations(&mut disk);
-        assert!(rt; ended.is_ok() == (stop == 27), "stopped at {stop}");
+        assert!(rt; ended == (stop == 27), "stopped at {stop}");
         assert!(rt; left(alloc, &disk, stop)? > 0, "stopped at {stop}");
     }
     Ok(())
@@ -122,10 +134,24 @@ fn a_call_that_failed_is_made_once_more(rt: HostRuntime) -> Result<(), Fail> {
     let alloc = rt.alloc();
     for call in 1..27 {
         let mut disk = MemDisk::new(alloc, [call].to_vec(alloc)?, None);
-        assert!(rt; two_generations(&mut disk).is_err(), "{call} failing");
+        assert!(rt; !two_generations(&mut disk), "{call} failing");
         let (went_well, image) = once_more(&mut disk, call);
         assert!(rt; went_well && disk.image() == image, "{call} failing");
         assert!(rt; disk.may_leave(image), "{call} failing");
+    }
+    Ok(())
+}
+
+#[test]
+fn a_log_is_begun_over_a_closed_gate_alone(rt: HostRuntime) -> Result<(), Fail> {
+    let alloc = rt.alloc();
+    for image in [b"".as_slice(), b"\x01", b"\x07", b"MTLOG", FIRST.as_slice()] {
+        let mut disk = MemDisk::with_image(alloc, image.to_vec(alloc)?, Vec::new(alloc), None)?;
+        let begun = begin_generation(&mut disk, 0, 1, 3, 20);
+        assert!(rt;
+            begun == Err(BeginFault::NotShut) && disk.image() == image,
+            "{image:?}"
+        );
     }
     Ok(())
 }

@@ -6,8 +6,8 @@ use Rattle.mt_log_generations.specs.declared.header.Header.{Header}
 use Rattle.mt_log.specs.declared.log_file.LogFile.{LogFile}
 use Rattle.mt_crashes.proofs.Members.{no_some}
 use Rattle.mt_recover.specs.{declared.resuming.LogSlot.LogSlot, declared.resuming.LogSlot.TheVariants.{Open, Failed, Closed, Away}}
-use Rattle.mt_log_files.specs.{declared.worker.WorkerFiles.WorkerFiles, Slots.{disk_in, file_of, with_file, NotBegun}}
-use Rattle.mt_turns.specs.{declared.worker_log.WorkerLog.WorkerLog, Files.{closed_on, OnFile}, Logs.mark_in, Turns.{IsNextHeader, NextNotBegun}}
+use Rattle.mt_log_files.specs.{declared.worker.WorkerFiles.WorkerFiles, Slots.{disk_in, file_of, with_file, NotBegun, FindsNotSpare}}
+use Rattle.mt_turns.specs.{declared.worker_log.WorkerLog.WorkerLog, Files.{closed_on, OnFile}, Logs.mark_in, Turns.{IsNextHeader, NextNotBegun, NextNotSpare}}
 use Rattle.mt_turns.proofs.Places.{before_stays}
 
 -- a place with a mark is open
@@ -39,3 +39,15 @@ not_begun is_honest state failures header old mid new next fails closed =
       stands = ap (λ (f : WorkerFiles _). record old { files = f })
           (closed ∙ ap (λ (s : LogSlot _). with_file old.generation (closed_on (disk_in s)) mid) last);
     }
+
+-- if its file isn't spare, only the place of that is another one
+pub not_spare : {D : Type 0} (is_honest : D → Bool) (state : D → DiskState) (failures : D → ℕ) (header : Header) (old : WorkerLog D) (mid : WorkerFiles D)
+    → IsNextHeader header old → OnFile header.generation (FindsNotSpare is_honest state failures) old.files mid
+    → NextNotSpare is_honest state failures old (record old { files = mid })
+not_spare is_honest state failures header old mid next finds = record {
+  header = header;
+  next = next;
+  files = mid;
+  finds = on_next header old (FindsNotSpare is_honest state failures) old.files mid next finds;
+  stands = refl;
+}

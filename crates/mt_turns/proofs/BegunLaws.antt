@@ -1,21 +1,23 @@
 -- What a worker's log shows after its next log was begun, or was not.
-use Rattle.std.proofs.Common.{◌≡◌, ◌⊎◌, inl, inr, ℕ, ◌+◌, Bool, refl, sym, ◌∙◌, ap, subst}
+use Rattle.std.proofs.Common.{◌≡◌, ◌≢◌, ◌⊎◌, inl, inr, ℕ, ◌+◌, Bool, refl, sym, ◌∙◌, ap, subst, arith}
 use Rattle.mt_rows.specs.declared.refusal.Refusal.{Refusal}
 use Rattle.mt_disk.specs.Disk.{DiskState}
-use Rattle.mt_log_generations.specs.{declared.header.Header.Header, Headers.{header_with}}
+use Rattle.mt_log_generations.specs.{declared.header.Header.Header, Headers.{header_with, parity_of}}
 use Rattle.mt_log.specs.{Contents.{Contents, mark_of}, Numbered.begun_log}
 use Rattle.mt_crashes.{specs.Stores.{LogNow, at_rest}}
 use Rattle.mt_recover.specs.{declared.resuming.LogSlot.LogSlot, declared.resuming.LogSlot.TheVariants.{Closed}}
 use Rattle.mt_log_files.specs.{declared.worker.WorkerFiles.WorkerFiles, Slots.{disk_in, file_of, with_file, Begins, NotBegun}}
 use Rattle.mt_log_files.specs.{Files.{FileNow, Spare, Has, MayHave}, Workers.{AreFilesOf}}
 use Rattle.mt_log_files.proofs.WorkerLaws as workers
+use Rattle.mt_log_files.proofs.FileLaws as calls
 use Rattle.mt_turns.specs.{declared.worker_log.WorkerLog.WorkerLog}
-use Rattle.mt_turns.specs.Turns.{IsNextHeader, BeginsNext, NextNotBegun, FailsToBeginNext}
+use Rattle.mt_turns.specs.Turns.{IsNextHeader, HasNoNext, BeginsNext, NextNotBegun, NextNotSpare, FailsToBeginNext}
 use Rattle.mt_turns.specs.Shows.{next_log, ShowsOf, ShowsWorker, LeavesMeanwhile}
 use Rattle.mt_turns.proofs.{Places.{file_is, next_stays, before_stays}}
 use Rattle.mt_turns.proofs.Ends.{last_mark}
 use Rattle.mt_turns.proofs.Replacing as replacing
 use Rattle.mt_turns.proofs.PlaceLaws as places
+use Rattle.mt_rows.specs.declared.refusal.Refusal.TheVariants as refusals
 
 module _ {D : Type 0} (is_honest : D → Bool) (state : D → DiskState) (failures : D → ℕ) where
   abbrev Worker : ℕ → LogNow → FileNow → FileNow → WorkerLog D → Type 0
@@ -71,10 +73,23 @@ module _ {D : Type 0} (is_honest : D → Bool) (state : D → DiskState) (failur
         subst (Worker old.generation (at_rest log) (Has (at_rest first)) (MayHave then))
         (sym (b.stands ∙ ap (λ (f : WorkerFiles D). record old { generation = old.generation; files = with_file old.generation (Closed b.next.last.disk) f }) b.fails.stands)) v
 
+    never_not_spare : (new : WorkerLog D) → NextNotSpare is_honest state failures old new → ⊥
+    never_not_spare new b =
+        let slot = file_of (old.generation + 1) old.files in
+        let spare = places.numbered_shows is_honest state (old.generation + 1) Spare slot (omega arith) tt s.next_shows.shows in
+        calls.never_refused is_honest state failures (parity_of (old.generation + 1)) slot b.finds.slot s.next_shows.honest spare b.finds.does
+
     pub fails_to_begin : (e : Refusal) (new : WorkerLog D) → FailsToBeginNext is_honest state failures e old new
         → (new ≡ old) ⊎ Worker old.generation (at_rest log) (Has (at_rest first)) (MayHave then) new
     fails_to_begin e new (inl none) = inl none.1
-    fails_to_begin e new (inr b) = inr (not_begun new b.1)
+    fails_to_begin e new (inr (inl b)) = inr (not_begun new b.1)
+    fails_to_begin e new (inr (inr b)) = absurd (never_not_spare new b.1)
+
+    -- its file is spare
+    pub never_log_count : (e : Refusal) (new : WorkerLog D) → FailsToBeginNext is_honest state failures e old new → e ≢ refusals.LogCount
+    never_log_count e new (inl none) is = subst (λ (r : Refusal). HasNoNext r old) is none.0
+    never_log_count e new (inr (inl b)) is = let clash : refusals.Device ≡ refusals.LogCount = sym b.0 ∙ is in absurd cc
+    never_log_count e new (inr (inr b)) is = never_not_spare new b.1
 
     -- at each moment of either
     abbrev AtEachMoment : WorkerLog D → Type 0

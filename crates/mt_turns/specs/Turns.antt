@@ -5,7 +5,7 @@ use Rattle.mt_disk.specs.Disk.{DiskState}
 use Rattle.mt_log_generations.specs.{declared.header.Header.Header, Headers.IsHeader}
 use Rattle.mt_log.specs.declared.log_file.LogFile.{LogFile}
 use Rattle.mt_recover.specs.{declared.resuming.LogSlot.LogSlot, declared.resuming.LogSlot.TheVariants.{Open, Closed}}
-use Rattle.mt_log_files.specs.{declared.worker.WorkerFiles.WorkerFiles, Slots.{with_file, Begins, NotBegun, GivesUp, NotGivenUp}}
+use Rattle.mt_log_files.specs.{declared.worker.WorkerFiles.WorkerFiles, Slots.{with_file, Begins, NotBegun, FindsNotSpare, GivesUp, NotGivenUp}}
 use Rattle.mt_turns.specs.{declared.worker_log.WorkerLog.WorkerLog, Files.OnFile, Logs.{mark_in, last_of, next_header, TurnsTo}}
 use Rattle.mt_rows.specs.declared.refusal.Refusal.TheVariants as refusals
 
@@ -47,9 +47,18 @@ module _ {D : Type 0} (is_honest : D → Bool) (state : D → DiskState) (failur
     pub fails : OnFile (old.generation + 1) (NotBegun is_honest state failures header) old.files files
     pub stands : TurnsTo old.generation (with_file old.generation (Closed next.last.disk) files) old new
 
-  -- nothing was done, or the disk failed
+  -- The file for the next log isn't spare. It is closed, and as it was. The last log is the same, and is as it was.
+  pub record NextNotSpare (old new : WorkerLog D) : Type 0 where
+    pub header : Header
+    pub next : IsNextHeader header old
+    pub files : WorkerFiles D
+    pub finds : OnFile (old.generation + 1) (FindsNotSpare is_honest state failures) old.files files
+    pub stands : TurnsTo old.generation files old new
+
+  -- nothing was done; or the disk failed; or the file isn't spare
   abbrev pub FailsToBeginNext : Refusal → WorkerLog D → WorkerLog D → Type 0
-  FailsToBeginNext e old new = (HasNoNext e old × (new ≡ old)) ⊎ ((e ≡ refusals.Device) × NextNotBegun old new)
+  FailsToBeginNext e old new =
+      (HasNoNext e old × (new ≡ old)) ⊎ (((e ≡ refusals.Device) × NextNotBegun old new) ⊎ ((e ≡ refusals.LogCount) × NextNotSpare old new))
 
 -- ---- the older log is given up
 

@@ -1,11 +1,12 @@
 //! A worker's files, by the generations of the logs that stand in them.
 
-ghost use Rattle.std.specs.Prelude.{◌≡◌, OnOk, OnErr};
+ghost use Rattle.std.specs.Prelude.{◌≡◌, OnOk, OnErr, IfErr};
 ghost use Rattle.mt_log_generations.specs.Headers.{IsHeader};
-ghost use Rattle.mt_log_files.specs.Slots.{disk_in, file_of, with_file, Begins, NotBegun, GivesUp, NotGivenUp};
+ghost use Rattle.mt_log_files.specs.Slots.{disk_in, file_of, with_file, Begins, FailsToBeginAt, GivesUp, NotGivenUp};
 ghost use Rattle.mt_turns.specs.Files.{closed_on, OnFile};
 
 use mt_disk::{DeviceFailed, Disk};
+use mt_gates::BeginFault;
 use mt_log_files::{WorkerFiles, begin, give_up, take_disk};
 use mt_log_generations::Header;
 use mt_recover::LogSlot;
@@ -28,10 +29,10 @@ pub(crate) fn file<D: Disk>(files: &WorkerFiles<D>, generation: u64) -> &LogSlot
 pub(crate) fn begin_in<D: Disk + Drop>(
     files: &mut WorkerFiles<D>,
     header: Header,
-) -> Result<(), DeviceFailed>
+) -> Result<(), BeginFault>
     requires { IsHeader header }
     ensures ok { OnOk result (OnFile header.generation (Begins D.is_honest D.state D.failures header) files.old files.new) }
-    ensures err { OnErr result (OnFile header.generation (NotBegun D.is_honest D.state D.failures header) files.old files.new) }
+    ensures err { IfErr result (λ e. OnFile header.generation (FailsToBeginAt D.is_honest D.state D.failures e header) files.old files.new) }
 {
     let mut slot = files.replace(header.generation, LogSlot::Away);
     let begun = begin(&mut slot, header);

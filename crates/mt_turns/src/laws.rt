@@ -1,7 +1,8 @@
 //! Laws of a worker's log in a turn, each the contract of a function that does nothing.
 
-ghost use Rattle.std.specs.Prelude.{◌≡◌, ◌⊎◌, ◌+◌, ◌^◌, ◌≤◌, ℕ};
+ghost use Rattle.std.specs.Prelude.{◌≡◌, ◌≢◌, ◌⊎◌, ◌+◌, ◌^◌, ◌≤◌, ℕ};
 ghost use Rattle.mt_rows.specs.declared.refusal.Refusal.{Refusal};
+ghost use Rattle.mt_rows.specs.declared.refusal.Refusal.TheVariants as refusals;
 ghost use Rattle.mt_log_generations.specs.Headers.{parity_of};
 ghost use Rattle.mt_log.specs.{declared.log_file.LogFile.LogFile, Contents.{Contents, mark_of}};
 ghost use Rattle.mt_crashes.specs.Stores.{LogNow, at_rest};
@@ -27,7 +28,8 @@ pub fn the_last_log_ends_where_the_whole_one_does<D: Disk>()
 {}
 
 /// The next log is begun where the whole log ends: both files are those of the whole log then. If that failed, the next log may
-/// be there or not, or nothing has changed. At each moment of the call a crash leaves the next log or none, and the last one.
+/// be there or not, or nothing has changed. Its file is never found not to be spare. At each moment of the call a crash leaves
+/// the next log or none, and the last one.
 pub fn the_next_log_is_begun<D: Disk>()
     ensures begun { (log first : Contents) (old new : WorkerLog D) →
         ShowsWorker D.is_honest D.state old.generation (at_rest log) (Has (at_rest first)) Spare old → BeginsNext D.is_honest D.state D.failures old new →
@@ -35,6 +37,9 @@ pub fn the_next_log_is_begun<D: Disk>()
     ensures failed { (log first : Contents) (e : Refusal) (old new : WorkerLog D) →
         ShowsWorker D.is_honest D.state old.generation (at_rest log) (Has (at_rest first)) Spare old → FailsToBeginNext D.is_honest D.state D.failures e old new →
         (new ≡ old) ⊎ ShowsWorker D.is_honest D.state old.generation (at_rest log) (Has (at_rest first)) (MayHave (next_log old.generation log)) new }
+    ensures refusal { (log first : Contents) (e : Refusal) (old new : WorkerLog D) →
+        ShowsWorker D.is_honest D.state old.generation (at_rest log) (Has (at_rest first)) Spare old → FailsToBeginNext D.is_honest D.state D.failures e old new →
+        e ≢ refusals.LogCount }
     ensures meanwhile { (log first : Contents) (old new : WorkerLog D) →
         ShowsWorker D.is_honest D.state old.generation (at_rest log) (Has (at_rest first)) Spare old →
         BeginsNext D.is_honest D.state D.failures old new ⊎ NextNotBegun D.is_honest D.state D.failures old new →

@@ -7,6 +7,7 @@ ghost use Rattle.mt_turns.specs.Turns.{IsNextHeader, HasNoNext, BeginsNext, Fail
 use crate::by_generation::{begin_in, close_in, file, give_up_in};
 use crate::log_owner::LogOwner;
 use mt_disk::Disk;
+use mt_gates::BeginFault;
 use mt_log_files::WorkerFiles;
 use mt_log_generations::Header;
 use mt_recover::LogSlot;
@@ -107,7 +108,8 @@ impl<D: Disk + Drop> WorkerLog<D> {
     ///
     /// The error is `Device` if the last log isn't open, and `Spent` after generation 2^59 or step 2^59. Then nothing has
     /// changed. It is `Device` too if the disk of the next log failed: that log may be there or not. So the last one is
-    /// closed, and nothing is appended to it before both files were opened again.
+    /// closed, and nothing is appended to it before both files were opened again. It is `LogCount` if the file isn't spare:
+    /// that file is closed then, and no file has changed.
     pub fn begin_next(&mut self) -> Result<(), Refusal>
         ensures ok { OnOk result (BeginsNext D.is_honest D.state D.failures self.old self.new) }
         ensures err { IfErr result (λ e. FailsToBeginNext D.is_honest D.state D.failures e self.old self.new) }
@@ -118,10 +120,11 @@ impl<D: Disk + Drop> WorkerLog<D> {
                 self.generation = header.generation;
                 Ok(())
             }
-            Err(_) => {
+            Err(BeginFault::Device) => {
                 close_in(&mut self.files, self.generation);
                 Err(Refusal::Device)
             }
+            Err(BeginFault::NotShut) => Err(Refusal::LogCount),
         }
     }
 

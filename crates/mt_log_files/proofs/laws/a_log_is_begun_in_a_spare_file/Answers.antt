@@ -7,3 +7,6 @@ returns-clause-begun g c = files.begun g.D.Disk.is_honest g.D.Disk.state g.D.Dis
 
 pub returns-clause-failed : goal.returns-clause-failed
 returns-clause-failed g c = files.not_begun g.D.Disk.is_honest g.D.Disk.state g.D.Disk.failures
+
+pub returns-clause-never_refused : goal.returns-clause-never_refused
+returns-clause-never_refused g c = files.never_refused g.D.Disk.is_honest g.D.Disk.state g.D.Disk.failures

@@ -10,3 +10,6 @@ returns-clause-failed g c = λ log first e old new s b. turns.fails_to_begin g.D
 
 pub returns-clause-meanwhile : goal.returns-clause-meanwhile
 returns-clause-meanwhile g c = λ log first old new s b. turns.meanwhile g.D.Disk.is_honest g.D.Disk.state g.D.Disk.failures log first old s new b
+
+pub returns-clause-refusal : goal.returns-clause-refusal
+returns-clause-refusal g c = λ log first e old new s b. turns.never_log_count g.D.Disk.is_honest g.D.Disk.state g.D.Disk.failures log first old s e new b
