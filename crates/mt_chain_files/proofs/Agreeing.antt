@@ -1,5 +1,5 @@
 -- What is chosen, or why nothing is, holds of all that stands if it agrees with what was read.
-use Rattle.std.proofs.Common.{◌≡◌, ◌↔◌, inl, inr, ⊎_elim, ℕ, Bool, IsTrue, not, zero, suc, ◌+◌, ◌<◌, ◌≤◌, List, [], ◌∷◌, length, map, refl, sym, ◌∙◌, ap, subst, arith, None}
+use Rattle.std.proofs.Common.{◌≡◌, ◌↔◌, ◌⊎◌, Some, inl, inr, ⊎_elim, ℕ, Bool, IsTrue, not, zero, suc, ◌+◌, ◌<◌, ◌≤◌, List, [], ◌∷◌, length, map, refl, sym, ◌∙◌, ap, subst, arith, None}
 use Rattle.std.proofs.lemmas.{Bool.{true≢false, not-true, not_from_false, false_from_ne_true}, List.length-map, Option.same_Some}
 use Rattle.std.specs.Option.{option_map}
 use Rattle.mt_log.specs.Contents.{contents_of}
@@ -7,12 +7,12 @@ use Rattle.mt_crashes.{specs.{Fronts.In, Bases.Slots}, proofs.{Members.{no_some}
 use Rattle.mt_generations.specs.Chains.{Chain}
 use Rattle.mt_generations.specs.Standings.{Standing, joined, AreFrom, AllHave, AgreeFrom, IsLast, CanBegin, IsChosen, HaveNoChoice, StartFalls}
 use Rattle.mt_generations.proofs.{Deciding.{have_all, all_from}, Choices.older_unread}
-use Rattle.mt_chains.specs.{declared.worker_logs.WorkerLogs.WorkerLogs, Files.{standing_of, IsFirstApart}}
+use Rattle.mt_chains.specs.{declared.worker_logs.WorkerLogs.WorkerLogs, Files.{standing_of, IsOwned, AreOwned, FallsFrom, IsFirstApart}}
 use Rattle.mt_disk.specs.Disk.{DiskState}
 use Rattle.mt_log_files.specs.declared.worker.WorkerFiles.{WorkerFiles}
 use Rattle.mt_chain_files.specs.{declared.fault.FilesFault.FilesFault, declared.opening.Chains.Chains, Numbered.{numbered_logs, OpensNumberedFiles}}
-use Rattle.mt_chain_files.specs.Chosen.{begun_in, NeedPlain, BeginAt, FallAt, RefuseToBegin, MayStand, ReadsPlain, NotChosen, OpensChains, StopsChains}
-use Rattle.mt_chain_files.proofs.Loops.{get_within, at_place}
+use Rattle.mt_chain_files.specs.Chosen.{begun_in, NeedPlain, BeginAt, StrangeAt, FallAt, RefuseToBegin, MayStand, ReadsPlain, NotChosen, OpensChains, StopsChains}
+use Rattle.mt_chain_files.proofs.Loops.{get_within, at_place, zip_count}
 use Rattle.mt_rows.specs.declared.refusal.Refusal.TheVariants as refusals
 
 -- ---- standings that agree
@@ -61,8 +61,27 @@ falls_agree g n f o same s = record {
   is = s.is;
 }
 
-falls_back : (g n : ℕ) (f o : Standing) → ((h : ℕ) → g ≤ h → o h ≡ f h) → StartFalls g f n → StartFalls g o n
-falls_back g n f o same s = falls_agree g n o f (λ h le. sym (same h le)) s
+from_agrees : (g n : ℕ) (f o : Standing) → ((h : ℕ) → g ≤ h → o h ≡ f h) → FallsFrom g o n → FallsFrom g f n
+from_agrees g n f o same (inl s) = inl (falls_agree g n f o same s)
+from_agrees g n f o same (inr later) = inr (
+  λ m s. later.0 m (falls_agree g m o f (λ h le. sym (same h le)) s),
+  (later.1.0, sym (same (g + 2) (omega arith)) ∙ later.1.1, later.1.2),
+)
+
+from_back : (g n : ℕ) (f o : Standing) → ((h : ℕ) → g ≤ h → o h ≡ f h) → FallsFrom g f n → FallsFrom g o n
+from_back g n f o same s = from_agrees g n o f (λ h le. sym (same h le)) s
+
+long_agree : (g : ℕ) (files others : List Standing) → AgreeFrom g files others → length files ≡ length others
+long_agree g files others all = sym (zip_count (λ (f o : Standing). (h : ℕ) → g ≤ h → o h ≡ f h) files others all)
+
+pub owned_agree : (g : ℕ) (files others : List Standing) → AgreeFrom g files others → AreOwned g files → AreOwned g others
+owned_agree g files others all owned k o c there is =
+    let f = zip_right (λ (f o : Standing). (h : ℕ) → g ≤ h → o h ≡ f h) files others k o all there in
+    subst (λ (n : ℕ). IsOwned k n c) (long_agree g files others all) (owned k f.0 c f.1 (by f.0 f.2 is))
+  where
+    by : (f : Standing) → ((h : ℕ) → g ≤ h → o h ≡ f h) → (o g ≡ Some c) ⊎ (o (g + 1) ≡ Some c) → (f g ≡ Some c) ⊎ (f (g + 1) ≡ Some c)
+    by f same (inl has) = inl (sym (same g (omega arith)) ∙ has)
+    by f same (inr has) = inr (sym (same (g + 1) (omega arith)) ∙ has)
 
 module _ (slots : Slots) where
   pub chosen_agree : (g : ℕ) (files others : List Standing) → AgreeFrom g files others → ((chains : List Chain) → AreFrom g files chains → IsChosen files slots g chains)
@@ -72,10 +91,10 @@ module _ (slots : Slots) where
 
   -- ---- chains that begin
 
-  pub meets_agree : (g : ℕ) (files others : List Standing) → AgreeFrom g files others → ((f : Standing) (start : ℕ) → In f files → ¬ StartFalls g f start)
-      → (o : Standing) (start : ℕ) → In o others → ¬ StartFalls g o start
+  pub meets_agree : (g : ℕ) (files others : List Standing) → AgreeFrom g files others → ((f : Standing) (start : ℕ) → In f files → ¬ FallsFrom g f start)
+      → (o : Standing) (start : ℕ) → In o others → ¬ FallsFrom g o start
   meets_agree g files others all meets o start at falls =
-      let f = in_agree g files others o all at in meets f.0 start f.1 (falls_agree g start f.0 o f.2 falls)
+      let f = in_agree g files others o all at in meets f.0 start f.1 (from_agrees g start f.0 o f.2 falls)
 
   apart_agree : (g : ℕ) (files others : List Standing) (place start : ℕ) → AgreeFrom g files others → IsFirstApart g files place start → IsFirstApart g others place start
   apart_agree g files others place start all a =
@@ -83,10 +102,10 @@ module _ (slots : Slots) where
       record {
         worker = o.0;
         there = o.1;
-        falls = falls_back g start a.worker o.0 o.2 a.falls;
+        falls = from_back g start a.worker o.0 o.2 a.falls;
         first = λ k other n lt there falls. (
             let f = zip_right (λ (f e : Standing). (h : ℕ) → g ≤ h → e h ≡ f h) files others k other all there in
-            a.first k f.0 n lt f.1 (falls_agree g n f.0 other f.2 falls)
+            a.first k f.0 n lt f.1 (from_agrees g n f.0 other f.2 falls)
             );
       }
 
@@ -95,7 +114,16 @@ module _ (slots : Slots) where
     generation = f.generation;
     has = have_agree f.generation files others all f.has;
     chosen = chosen_agree f.generation files others all f.chosen;
+    owned = owned_agree f.generation files others all f.owned;
     apart = apart_agree f.generation files others place start all f.apart;
+  }
+
+  pub strange_agree : (files others : List Standing) → (f : StrangeAt files slots) → AgreeFrom f.generation files others → StrangeAt others slots
+  strange_agree files others f all = record {
+    generation = f.generation;
+    has = have_agree f.generation files others all f.has;
+    chosen = chosen_agree f.generation files others all f.chosen;
+    strange = λ owned. f.strange (owned_agree f.generation others files (agree_back f.generation files others all) owned);
   }
 
 -- ---- plain files that were not read
@@ -200,8 +228,16 @@ module _ {D : Type 0} (is_honest : D → Bool) (state : D → DiskState) (failur
           let agree : AgreeFrom 1 (map standing_of first) standings = subst (λ (l : List WorkerLogs). AgreeFrom 1 (map standing_of l) standings) unread.2 may.1 in
           let here : RefuseToBegin (map standing_of first) slots e = subst (λ (l : List WorkerLogs). RefuseToBegin (map standing_of l) slots e) unread.2 why in
           ⊎_elim
-          (λ (lacks : HaveNoChoice (map standing_of first) slots × (e ≡ record { log = None; refusal = refusals.LogCount })).
-          inl (none_agree slots (map standing_of first) standings some_first none agree unread.0 lacks.0, lacks.1))
+          (λ (lacks : (HaveNoChoice (map standing_of first) slots ⊎ StrangeAt (map standing_of first) slots) × (e ≡ record { log = None; refusal = refusals.LogCount })). inl (
+            ⊎_elim
+                (λ nothing. inl (none_agree slots (map standing_of first) standings some_first none agree unread.0 nothing))
+                (λ at. (
+                let over = over_zero at.generation (map standing_of first) some_first none at.has in
+                inr (strange_agree slots (map standing_of first) standings at (agree_later 1 at.generation (map standing_of first) standings (omega (arith, over)) agree))
+                ))
+                lacks.0,
+            lacks.1,
+          ))
           (λ falls. (
           let at = falls.2 in
           let over = over_zero at.generation (map standing_of first) some_first none at.has in
@@ -232,6 +268,7 @@ module _ {D : Type 0} (is_honest : D → Bool) (state : D → DiskState) (failur
         begun = begun;
         chosen = λ standings all. record {
           chosen = chosen_agree slots chains.generation files standings all begin.chosen (map contents_of chains.fronts.items) (from_agree chains.generation files standings (map contents_of chains.fronts.items) all are);
+          owned = owned_agree chains.generation files standings all begin.owned;
           meets = meets_agree slots chains.generation files standings all begin.meets;
         };
       }

@@ -220,7 +220,7 @@ module _ {D : Type 0} (is_honest : D → Bool) (state : D → DiskState) (failur
             begun =
                 ap (λ (l : List Bool). slice_get l k) opens.begun
                 ∙ place_map (λ (worker : WorkerLogs). is_there (standing_of worker (g + 1))) logs k w.0 w.1;
-            meets = λ start. chosen.meets (standing_of w.0) start (place_in (standing_of w.0) k (map standing_of logs) (place_map standing_of logs k w.0 w.1));
+            meets = λ start falls. chosen.meets (standing_of w.0) start (place_in (standing_of w.0) k (map standing_of logs) (place_map standing_of logs k w.0 w.1)) (inl falls);
           }
 
       pub open_at_ends : AreOpenAtTheirEnds chains new

@@ -6,13 +6,13 @@ use Rattle.mt_rows.specs.declared.refusal.Refusal.{Refusal}
 use Rattle.mt_disk.specs.Disk.{DiskState}
 use Rattle.mt_log_generations.specs.declared.header.{Parity.Parity, Parity.TheVariants.{Even, Odd}}
 use Rattle.mt_log.specs.{declared.batch.Front.Front, Contents.{Contents, contents_of}}
-use Rattle.mt_crashes.specs.{Fronts.In, Bases.Slots, Stores.{Store, LogNow, at_rest, MayLeaveFronts, MayLeaveSlots}, Invariants.IsStore}
+use Rattle.mt_crashes.specs.{Fronts.In, Bases.Slots, Stores.{Store, LogNow, at_rest, MayLeaveFront, MayLeaveFronts, MayLeaveSlots}, Invariants.IsStore}
 use Rattle.mt_crashes.proofs.{Members.{no_some, place_in}, Invariant.{zip_left, zip_right, within_place, map_place, place_map}}
 use Rattle.mt_generations.specs.Chains.{Chain}
 use Rattle.mt_generations.specs.{Standings.{Standing, chain_from, AreFrom, AllHave, IsLast, CanBegin, IsChosen, HaveNoChoice, StandsFor}, Turns.{StandsWhole, KeepsLog}}
 use Rattle.mt_generations.proofs.{Deciding.{first_there, have_all, have_or_not, can_or_not}, Moments.kept_whole, Left.is_chosen, Ends.{chosen_ends, never_falls}}
 use Rattle.mt_recover.specs.declared.resuming.LogSlot.{LogSlot}
-use Rattle.mt_chains.specs.{declared.worker_logs.WorkerLogs.WorkerLogs, Files.{standing_of as read_of, SameNumbered}, Testing.is_there}
+use Rattle.mt_chains.specs.{declared.worker_logs.WorkerLogs.WorkerLogs, Files.{standing_of as read_of, SameNumbered, AreOwned}, Testing.is_there}
 use Rattle.mt_log_files.specs.declared.worker.WorkerFiles.{WorkerFiles}
 use Rattle.mt_log_files.specs.Slots.{disk_in, OpensPlain, FailsToOpenPlain}
 use Rattle.mt_log_files.specs.{Shows.IsHonest, Files.{FileNow, Spare, Has, MayHave, MayLeaveFile, found_as, ShowsFile}}
@@ -31,6 +31,29 @@ use Rattle.mt_chain_files.proofs.Starts.{HasFrom, all_have_chains}
 use Rattle.mt_chain_files.proofs.Reading.{first_in, second_in, after_of, after_turn, least, least_left, found_first, found_none, ReadOf, Tells, found_of, stands_less}
 use Rattle.mt_chain_files.proofs.Resting.{last_of_turn, stay_spare}
 use Rattle.mt_rows.specs.declared.refusal.Refusal.TheVariants as refusals
+
+-- ---- what stands of one worker's whole log
+
+-- a log of the generation two after one that stands does not stand
+none_two_on : (g h : ℕ) (log : Contents) (f : Standing) → StandsFor g log f → (a c : Chain) → f h ≡ Some a → f (h + 2) ≡ Some c → ⊥
+none_two_on g h log f stands a c first later =
+    let one = stands.no_other h a first in
+    let two = stands.no_other (h + 2) c later in
+    ⊎_elim (λ (e : h ≡ g). ⊎_elim (λ (d : h + 2 ≡ g). omega (arith, e, d)) (λ d. omega (arith, e, d)) two)
+    (λ e. ⊎_elim (λ (d : h + 2 ≡ g). omega (arith, e, d)) (λ d. omega (arith, e, d)) two) one
+
+-- each log that stands is of its worker
+log_owner : (g : ℕ) (log : Contents) (f : Standing) → StandsFor g log f → (n : ℕ) (c : Chain) → f n ≡ Some c → (c.worker ≡ log.worker) × (c.logs ≡ log.logs)
+log_owner g log f stands n c has =
+    ⊎_elim
+    (λ (e : n ≡ g). (stands.has_first c (ap f (sym e) ∙ has)).owner)
+    (λ e. (stands.has_next c (ap f (sym e) ∙ has)).owner)
+    (stands.no_other n c has)
+
+part_owner : (g : ℕ) (log : Contents) (f : Standing) → StandsFor g log f → (n : ℕ) (c : Chain) → (f n ≡ Some c) ⊎ (f (n + 1) ≡ Some c)
+    → (c.worker ≡ log.worker) × (c.logs ≡ log.logs)
+part_owner g log f stands n c (inl has) = log_owner g log f stands n c has
+part_owner g log f stands n c (inr has) = log_owner g log f stands (n + 1) c has
 
 -- ---- all workers
 
@@ -570,10 +593,27 @@ module _ {D : Type 0} (is_honest : D → Bool) (state : D → DiskState) (failur
         not_fallen place start plain fall =
             let stand = all_stands plain in
             let log = zip_right (StandsFor g) stand.0 (map read_of logs) place fall.apart.worker stand.2 fall.apart.there in
-            never_falls g log.0 fall.apart.worker log.2 fall.generation start fall.apart.falls
+            let first = fall.has fall.apart.worker (place_in fall.apart.worker place (map read_of logs) fall.apart.there) in
+            ⊎_elim
+            (λ falls. never_falls g log.0 fall.apart.worker log.2 fall.generation start falls)
+            (λ later. none_two_on g fall.generation log.0 fall.apart.worker log.2 first.0 later.1.0 first.1 later.1.1)
+            fall.apart.falls
+
+        -- each log is of its worker
+        all_owned : ReadsPlain is_honest state failures slots between new first logs → (n : ℕ) → AreOwned n (map read_of logs)
+        all_owned plain n k f c there has =
+            let stand = all_stands plain in
+            let log = zip_right (StandsFor g) stand.0 (map read_of logs) k f stand.2 there in
+            let part = part_owner g log.0 f log.2 n c has in
+            let left = zip_right MayLeaveFront s.logs stand.0 k log.0 stand.1 log.1 in
+            let front = is.logs k left.0 left.1 log.0 left.2 in
+            let count : length s.logs ≡ length (map read_of logs) =
+            sym (zip_count (StandsFor g) stand.0 (map read_of logs) stand.2 ∙ zip_count MayLeaveFront s.logs stand.0 stand.1) in
+            (part.0 ∙ front.owner.0, part.1 ∙ front.owner.1 ∙ count)
 
         not_refused : (e : FilesFault) → ReadsPlain is_honest state failures slots between new first logs → ¬ RefuseToBegin (map read_of logs) slots e
-        not_refused e plain (inl none) = not_none plain none.0
+        not_refused e plain (inl (inl none, told)) = not_none plain none
+        not_refused e plain (inl (inr at, told)) = at.strange (all_owned plain at.generation)
         not_refused e plain (inr fall) = not_fallen fall.0 fall.1 plain fall.2
 
         -- what the places show

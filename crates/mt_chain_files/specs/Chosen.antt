@@ -4,8 +4,8 @@ use Rattle.mt_disk.specs.Disk.{DiskState}
 use Rattle.mt_log.specs.Contents.{contents_of}
 use Rattle.mt_crashes.specs.{Fronts.In, Bases.Slots}
 use Rattle.mt_generations.specs.Chains.{Chain}
-use Rattle.mt_generations.specs.Standings.{Standing, AllHave, AreFrom, AgreeFrom, IsLast, CanBegin, IsChosen, HaveNoChoice, StartFalls}
-use Rattle.mt_chains.specs.{declared.worker_logs.WorkerLogs.WorkerLogs, Files.{standing_of, SameNumbered, IsFirstApart}, Testing.is_there}
+use Rattle.mt_generations.specs.Standings.{Standing, AllHave, AreFrom, AgreeFrom, IsLast, CanBegin, IsChosen, HaveNoChoice}
+use Rattle.mt_chains.specs.{declared.worker_logs.WorkerLogs.WorkerLogs, Files.{standing_of, SameNumbered, AreOwned, FallsFrom, IsFirstApart}, Testing.is_there}
 use Rattle.mt_log_files.specs.declared.worker.WorkerFiles.{WorkerFiles}
 use Rattle.mt_chain_files.specs.{declared.fault.FilesFault.FilesFault, declared.opening.Chains.Chains}
 use Rattle.mt_chain_files.specs.{Numbered.{OpensNumberedFiles, StopsNumberedFiles}, Plain.{OpensPlainFiles, StopsPlainFiles}}
@@ -17,28 +17,39 @@ use Rattle.mt_rows.specs.declared.refusal.Refusal.TheVariants as refusals
 abbrev pub NeedPlain : List Standing → Slots → Type 0
 NeedPlain standings slots = ((g : ℕ) → ¬ AllHave g standings) ⊎ (IsLast 1 standings × ¬ CanBegin 1 standings slots)
 
--- the chains from a generation on are the choice, and in each the next log begins where the one before it ends
+-- The chains from a generation on are the choice. Each of their logs is of its worker. In each chain the next log begins where the one before it ends, and no
+-- later one stands.
 pub record BeginAt (standings : List Standing) (slots : Slots) (g : ℕ) : Type 0 where
   pub chosen : (chains : List Chain) → AreFrom g standings chains → IsChosen standings slots g chains
-  pub meets : (f : Standing) (start : ℕ) → In f standings → ¬ StartFalls g f start
+  pub owned : AreOwned g standings
+  pub meets : (f : Standing) (start : ℕ) → In f standings → ¬ FallsFrom g f start
 
--- the chains of the choice begin at a generation, and in one of them, the first such one, a start falls
+-- the chains of the choice begin at a generation, and one of their logs is not of its worker
+pub record StrangeAt (standings : List Standing) (slots : Slots) : Type 0 where
+  pub generation : ℕ
+  pub has : AllHave generation standings
+  pub chosen : (chains : List Chain) → AreFrom generation standings chains → IsChosen standings slots generation chains
+  pub strange : ¬ AreOwned generation standings
+
+-- the chains of the choice begin at a generation, all their logs are of their workers, and in one of them, the first such one, a start falls
 pub record FallAt (standings : List Standing) (slots : Slots) (place start : ℕ) : Type 0 where
   pub generation : ℕ
   pub has : AllHave generation standings
   pub chosen : (chains : List Chain) → AreFrom generation standings chains → IsChosen standings slots generation chains
+  pub owned : AreOwned generation standings
   pub apart : IsFirstApart generation standings place start
 
--- why no recovery begins with what was read: there is nothing to choose, or a start falls
+-- why no recovery begins with what was read: there is nothing to choose, or a log is not of its worker; or else a start falls
 abbrev pub RefuseToBegin : List Standing → Slots → FilesFault → Type 0
 RefuseToBegin standings slots e =
-    (HaveNoChoice standings slots × (e ≡ record { log = None; refusal = refusals.LogCount }))
+    ((HaveNoChoice standings slots ⊎ StrangeAt standings slots) × (e ≡ record { log = None; refusal = refusals.LogCount }))
     ⊎ ((place : ℕ) × (start : ℕ) × FallAt standings slots place start × (e ≡ record { log = Some place; refusal = refusals.StampsFall place start }))
 
--- the chains of the choice, in each of which the next log begins where the one before it ends
+-- The chains of the choice, of logs of their workers. In each the next log begins where the one before it ends, and no later one stands.
 pub record AreChosen (standings : List Standing) (slots : Slots) (chains : Chains) : Type 0 where
   pub chosen : IsChosen standings slots chains.generation (map contents_of chains.fronts.items)
-  pub meets : (f : Standing) (start : ℕ) → In f standings → ¬ StartFalls chains.generation f start
+  pub owned : AreOwned chains.generation standings
+  pub meets : (f : Standing) (start : ℕ) → In f standings → ¬ FallsFrom chains.generation f start
 
 -- ---- by the files
 

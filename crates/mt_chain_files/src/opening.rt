@@ -12,7 +12,9 @@ use crate::fault::FilesFault;
 use crate::numbered::open_numbered_files;
 use crate::plain::open_plain_files;
 use crate::watching::Watch;
-use mt_chains::{WorkerLogs, can_begin, chains_from, choose, first_apart, last_generation};
+use mt_chains::{
+    WorkerLogs, are_owned, can_begin, chains_from, choose, first_apart, last_generation,
+};
 use mt_checkpoint::Checkpoint;
 use mt_disk::Disk;
 use mt_log::Front;
@@ -36,8 +38,10 @@ pub struct Chains {
 /// An error tells the worker with the file that was not opened, and why. Else it is one of these:
 ///
 /// - `Memory` of no worker: there is no room.
-/// - `LogCount` of no worker: there is nothing to begin with.
-/// - `StampsFall` of a worker: its next log begins elsewhere than where the one before it ends.
+/// - `LogCount` of no worker: there is nothing to begin with, or a log of the chains names another worker than its place, or
+///   another number of logs than there are.
+/// - `StampsFall` of a worker: its next log begins elsewhere than where the one before it ends, or there is a log of the
+///   generation after the next one.
 ///
 /// No disk is lost, so it can be called again.
 pub fn open_chains<D: Disk + Drop, W: Watch>(
@@ -127,7 +131,8 @@ fn need_plain(logs: &[WorkerLogs], checkpoints: &[Option<Checkpoint>]) -> bool
     }
 }
 
-// From which generation on the chains are, by what was read. In each the next log begins where the one before it ends.
+// From which generation on the chains are, by what was read. Each log of a chain is of its worker. In each chain the next log
+// begins where the one before it ends, and no later one stands.
 fn choose_of(logs: &[WorkerLogs], checkpoints: &[Option<Checkpoint>]) -> Result<u64, FilesFault>
     requires some { 0 < length logs.now }
     requires few { length logs.now ≤ 64 }
@@ -139,6 +144,9 @@ fn choose_of(logs: &[WorkerLogs], checkpoints: &[Option<Checkpoint>]) -> Result<
         Some(generation) => generation,
         None => return Err(FilesFault::of_all(Refusal::LogCount)),
     };
+    if !are_owned(generation, logs) {
+        return Err(FilesFault::of_all(Refusal::LogCount));
+    }
     match first_apart(generation, logs) {
         Some((number, stamp)) => Err(FilesFault::at(
             usize::from(number),

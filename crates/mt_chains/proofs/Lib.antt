@@ -3,3 +3,4 @@ pub mod BaseLaws
 pub mod LastLaws
 pub mod ApartLaws
 pub mod ChoiceLaws
+pub mod OwnerLaws

@@ -68,12 +68,36 @@ apart_start None next = None
 apart_start (Some first) None = None
 apart_start (Some first) (Some next) = if next.start == mark_of first then None else Some next.start
 
+-- where a log begins, if there is one
+abbrev pub start_in : Option Chain → Option ℕ
+start_in None = None
+start_in (Some c) = Some c.start
+
+-- the one start, or else the other
+abbrev pub or_other : Option ℕ → Option ℕ → Option ℕ
+or_other None other = other
+or_other (Some start) other = Some start
+
+-- a start that falls in a worker's logs of three generations
+abbrev pub fall_start : Option Chain → Option Chain → Option Chain → Option ℕ
+fall_start first next later = or_other (apart_start first next) (start_in later)
+
 -- a start with its worker's place, or else what was found of the later workers
 abbrev pub or_later : ℕ → Option ℕ → Option (ℕ × ℕ) → Option (ℕ × ℕ)
 or_later place None later = later
 or_later place (Some start) later = Some (place, start)
 
--- the first worker, from a place on, whose next log begins elsewhere than where the one before it ends
+-- the first worker, from a place on, in whose logs a start falls
 abbrev pub first_apart : ℕ → ℕ → List Standing → Option (ℕ × ℕ)
 first_apart g place [] = None
-first_apart g place (f ∷ files) = or_later place (apart_start (f g) (f (g + 1))) (first_apart g (place + 1) files)
+first_apart g place (f ∷ files) = or_later place (fall_start (f g) (f (g + 1)) (f (g + 2))) (first_apart g (place + 1) files)
+
+-- whether a log, if there is one, names this worker and so many logs
+abbrev pub is_owned : ℕ → ℕ → Option Chain → Bool
+is_owned worker count None = true
+is_owned worker count (Some c) = (c.worker == worker) && (c.logs == count)
+
+-- whether each worker's log of a generation does, and that of the next one, from a place on
+abbrev pub are_owned : ℕ → ℕ → ℕ → List Standing → Bool
+are_owned g count place [] = true
+are_owned g count place (f ∷ files) = is_owned place count (f g) && is_owned place count (f (g + 1)) && are_owned g count (place + 1) files

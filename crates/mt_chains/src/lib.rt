@@ -8,6 +8,7 @@ mod ends;
 mod joining;
 mod last;
 pub mod laws;
+mod owners;
 mod worker_logs;
 
 pub use apart::first_apart;
@@ -15,4 +16,5 @@ pub use bases::can_begin;
 pub use choosing::choose;
 pub use joining::chains_from;
 pub use last::last_generation;
+pub use owners::are_owned;
 pub use worker_logs::WorkerLogs;

@@ -22,14 +22,21 @@ impl WorkerLogs {
         if generation == 0 {
             return self.plain.as_ref();
         }
-        log_after(&self.numbered, generation - 1)
+        log_ahead(&self.numbered, generation - 1, 1)
     }
 
     /// Its log of the generation after one.
     pub fn next_log(&self, generation: u64) -> Option<&Front>
         ensures { option_map (λ front. contents_of front.now) result ≡ standing_of self.now (generation + 1) }
     {
-        log_after(&self.numbered, generation)
+        log_ahead(&self.numbered, generation, 1)
+    }
+
+    /// Its log of the generation two after one.
+    pub(crate) fn log_two_on(&self, generation: u64) -> Option<&Front>
+        ensures { option_map (λ front. contents_of front.now) result ≡ standing_of self.now (generation + 2) }
+    {
+        log_ahead(&self.numbered, generation, 2)
     }
 
     /// The batches of its log of the generation after one, none if there is no such log.
@@ -78,27 +85,27 @@ fn has_after(file: &Option<Front>, generation: u64) -> bool
     ensures { result ≡ is_there (numbered_log (generation + 1) (file.now ∷ [])) }
 {
     match file {
-        Some(front) => follows(front, generation),
+        Some(front) => follows(front, generation, 1),
         None => false,
     }
 }
 
-// The first log of some numbered files that is of the generation after one.
-fn log_after(files: &[Option<Front>], generation: u64) -> Option<&Front>
-    ensures { option_map (λ front. contents_of front.now) result ≡ numbered_log (generation + 1) files.now }
+// The first log of some numbered files that is of the generation so many after one.
+fn log_ahead(files: &[Option<Front>], generation: u64, by: u64) -> Option<&Front>
+    ensures { option_map (λ front. contents_of front.now) result ≡ numbered_log (generation + by) files.now }
 {
     for file in files {
         match file {
-            Some(front) if follows(front, generation) => return Some(front),
+            Some(front) if follows(front, generation, by) => return Some(front),
             _ => {}
         }
     }
     None
 }
 
-// Whether a log is of the generation after one.
-fn follows(front: &Front, generation: u64) -> bool
-    ensures { IsTrue result ↔ (front.now.generation ≡ generation + 1) }
+// Whether a log is of the generation so many after one.
+fn follows(front: &Front, generation: u64, by: u64) -> bool
+    ensures { IsTrue result ↔ (front.now.generation ≡ generation + by) }
 {
-    front.generation > generation && front.generation - generation == 1
+    front.generation >= generation && front.generation - generation == by
 }
