@@ -1,6 +1,6 @@
 -- What a crash leaves of a slot in each step of the calls on it.
-use Rattle.std.proofs.Common.{◌≡◌, ◌≢◌, inl, inr, ⊎_elim, ℕ, suc, ◌+◌, ◌<◌, ◌≤◌, true, false, List, [], ◌∷◌, ◌++◌, length, take, drop, get_or, Option, Some, None, Result, Ok, Err, OnOk, refl, sym, ◌∙◌, ap, subst, arith, append_assoc}
-use Rattle.std.proofs.{lemmas.Option.{same_Some, none-some}, lemmas.List.{take_all, drop_all, append-nil}, lemmas.List.Folds.list_any-append}
+use Rattle.std.proofs.Common.{◌≡◌, ◌≢◌, inl, inr, ⊎_elim, ℕ, suc, ◌<◌, ◌≤◌, true, false, List, [], ◌∷◌, ◌++◌, length, take, drop, get_or, Option, Some, None, Result, Ok, Err, OnOk, refl, sym, ◌∙◌, ap, subst, arith, append_assoc}
+use Rattle.std.proofs.{lemmas.Option.{same_Some, none-some}, lemmas.List.{append-nil}, lemmas.List.Folds.list_any-append}
 use Rattle.std.proofs.{lemmas.Bool.{cases_eq, eqb-true, true≢false}, lemmas.Bool.Decides.nat_tests}
 use Rattle.std.specs.{Prelude.nat_eq, Option.option_eq, List.slice_get}
 use Rattle.mt_rows.specs.Rows.{Bytes}
@@ -107,20 +107,6 @@ module _ (text : Bytes) (s : DiskState) (b : IsBehindGate text s) where
     shut = subst IsShut (sym done.now) (shut_more range s.now b.shut le);
     reads = done.reads b.reads;
   }
-
-  -- what the write makes of the text
-  more_text : (end : ℕ) (block : Bytes) → end ≡ length s.image → overwritten end block s.image ≡ 0 ∷ (text ++ block)
-  more_text end block is =
-      ap (λ (l : Bytes). l ++ block ++ drop (end + length block) s.image) (take_all end s.image (omega (arith, is)) ∙ b.image)
-      ∙ ap (λ (l : Bytes). (0 ∷ text) ++ block ++ l) (drop_all (end + length block) s.image (omega (arith, is)))
-      ∙ append-nil ((0 ∷ text) ++ block)
-
-  pub more_written : {T E : Type 0} (end : ℕ) (block : Bytes) (result : Result T E) (new : DiskState) → end ≡ length s.image
-      → Attempts (end, end + length block) result s new → (end ≤ length s.image → OnOk result (new.image ≡ overwritten end block s.image))
-      → OnOk result (IsBehindGate (text ++ block) new)
-  more_written end block (Ok x) new is tried image =
-      behind_again (end, end + length block) new (text ++ block) (place_behind end is) tried (image (omega (arith, is)) ∙ more_text end block is)
-  more_written end block (Err e) new is tried image = tt
 
   -- a cut after the gate
   pub cut_text : {T E : Type 0} (result : Result T E) (to : ℕ) (new : DiskState) → Attempts (1, to) result s new → (1 ≤ length s.image → OnOk result (new.image ≡ take 1 s.image))
@@ -294,7 +280,7 @@ closed_rest old mid done e = record {
 -- ---- reading
 
 -- a gate that is neither open nor closed stands before a checkpoint only where there may be none
-narrower : (may : List (Option Walk)) (image : Bytes) → In None may → IsOneOf (None ∷ may) image → IsOneOf may image
+pub narrower : (may : List (Option Walk)) (image : Bytes) → In None may → IsOneOf (None ∷ may) image → IsOneOf may image
 narrower may image none (inl closed) = inl (none, closed.1)
 narrower may image none (inr g) = inr (record { walk = g.walk; among = ⊎_elim (λ e. absurd (none-some g.walk (sym e))) (λ at. at) g.among; is = g.is; version = g.version; spelled = g.spelled; gate = g.gate; behind = g.behind; whole = g.whole; open_or = inr none })
 

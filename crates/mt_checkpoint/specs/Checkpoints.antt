@@ -102,6 +102,11 @@ pub record IsBehindGate (text : Bytes) (s : DiskState) : Type 0 where
   pub shut : IsShut s.now
   pub reads : MayLeave s.now s.image
 
+-- a disk whose file has a closed gate, that no crash opens
+pub record IsShutIn (s : DiskState) : Type 0 where
+  pub shut : IsShut s.now
+  pub reads : MayLeave s.now s.image
+
 -- a slot at rest: its gate is closed, and all of it is durable
 pub record IsClosedAtRest (s : DiskState) : Type 0 where
   pub closed : IsClosed s.image

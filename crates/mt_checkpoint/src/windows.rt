@@ -13,8 +13,8 @@ use mt_disk::Disk;
 use mt_rows::TenantPair;
 use std::alloc::Global;
 
-// How many bytes are read at a time.
-const WINDOW_BYTES: usize = 1 << 18;
+/// How many bytes are read at a time.
+pub(crate) const WINDOW_BYTES: usize = 1 << 18;
 
 /// The checkpoint after an open gate, from a file of this length.
 pub(crate) fn read_open<D: Disk>(

@@ -1,8 +1,8 @@
 //! A checkpoint as the bytes that are written.
 
-ghost use Rattle.std.specs.{Prelude.{◌≡◌, ◌++◌, IfOk, OnOk}, List.{flat_map, All}};
+ghost use Rattle.std.specs.{Prelude.{◌≡◌, ◌++◌, IfOk, OnOk}, List.{flat_map, All, AllByRecursion}};
 ghost use Rattle.mt_rows.specs.Commands.{IsKey};
-ghost use Rattle.mt_checkpoint.specs.Format.{head_bytes, entry_bytes, last_bytes};
+ghost use Rattle.mt_checkpoint.specs.{Format.{head_bytes, entry_bytes, last_bytes}, Checkpoints.IsPair};
 
 use mt_fields::{put_u32, put_u64};
 use mt_row_fields::{put_key, put_row};
@@ -48,8 +48,11 @@ pub(crate) fn last_entry(last: u64) -> [u8; 9]
 // An entry, in format 2.
 fn put_entry(out: &mut Vec<u8>, pair: &TenantPair) -> Result<(), AllocError>
     requires { IsKey pair.now.key }
-    ensures { OnOk result (out.new.items ≡ out.old.items ++ entry_bytes 2 pair.now) }
+    ensures ok { OnOk result (out.new.items ≡ out.old.items ++ entry_bytes 2 pair.now) }
+    ensures limits { OnOk result (IsPair pair.now) }
 {
+    // Read, so that the proof knows its limits.
+    let _columns = pair.row.row.columns();
     out.push(1)?;
     put_u32(out, pair.tenant)?;
     put_key(out, &pair.key)?;
@@ -60,7 +63,8 @@ fn put_entry(out: &mut Vec<u8>, pair: &TenantPair) -> Result<(), AllocError>
 /// Entries, one after the other, in format 2.
 pub(crate) fn entries(alloc: Global, pairs: &[TenantPair]) -> Result<Vec<u8>, AllocError>
     requires { All (λ p. IsKey p.key) pairs.now }
-    ensures { IfOk result (λ block. block.items ≡ flat_map (entry_bytes 2) pairs.now) }
+    ensures ok { IfOk result (λ block. block.items ≡ flat_map (entry_bytes 2) pairs.now) }
+    ensures limits { IfOk result (λ _. AllByRecursion IsPair pairs.now) }
 {
     let mut block = Vec::new(alloc);
     for pair in pairs {

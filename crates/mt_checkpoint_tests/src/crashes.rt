@@ -59,16 +59,16 @@ fn torn_left(alloc: Global, disk: &MemDisk, second: bool) -> Result<u64, AllocEr
     Ok(left)
 }
 
-// A slot that is made makes two calls, a checkpoint over a closed gate ten, one over an open gate twelve.
+// A slot that is made makes two calls, a checkpoint over a closed gate thirteen, one over an open gate fifteen.
 #[test]
 fn a_crash_at_any_call_leaves_a_whole_one_or_none(rt: HostRuntime) -> Result<(), Fail> {
     let alloc = rt.alloc();
-    for call in 3..26 {
+    for call in 3..32 {
         let made = two(alloc, &[], Some(call))?;
         assert!(rt; made.is_some());
         if let Some((disk, first, second)) = made {
             assert!(rt;
-                first == (call > 12) && second == (call > 24),
+                first == (call > 15) && second == (call > 30),
                 "stopped at {call}"
             );
             assert!(rt; torn_left(alloc, &disk, second)? > 0, "stopped at {call}");
@@ -81,7 +81,7 @@ fn a_crash_at_any_call_leaves_a_whole_one_or_none(rt: HostRuntime) -> Result<(),
 #[test]
 fn a_slot_whose_disk_failed_is_read_again(rt: HostRuntime) -> Result<(), Fail> {
     let alloc = rt.alloc();
-    for call in 3..30 {
+    for call in 3..36 {
         let made = two(alloc, &[call], None)?;
         assert!(rt; made.is_some());
         if let Some((mut disk, _, second)) = made {

@@ -3,7 +3,7 @@
 ghost use Rattle.std.specs.{Prelude.{◌↔◌, IsTrue}, List.All};
 ghost use Rattle.mt_rows.specs.Commands.{IsKey};
 
-use mt_checkpoint::{Checkpoint, ReadFault, WriteFault, Writer, create_slot, read_valid};
+use mt_checkpoint::{Checkpoint, ReadFault, Writer, create_slot, read_valid};
 use mt_disk::{Disk, MemDisk};
 use mt_rows::key::USER_KEY_BYTES;
 use mt_rows::{Column, Key, Row, StampedRow, TenantPair};
@@ -119,12 +119,11 @@ pub fn write<D: Disk + Drop>(
     };
     let writer = match writer.add(alloc, &pairs) {
         Ok(writer) => writer,
-        Err(WriteFault::Device(disk)) => return Ok((disk, false)),
-        Err(WriteFault::Memory(disk)) => return Ok((disk, false)),
+        Err(fault) => return Ok((fault.disk, false)),
     };
-    match writer.end(steps.1) {
-        Ok(disk) => Ok((disk, true)),
-        Err((_, disk)) => Ok((disk, false)),
+    match writer.end(alloc, steps.1) {
+        Ok((disk, _)) => Ok((disk, true)),
+        Err(fault) => Ok((fault.disk, false)),
     }
 }
 
@@ -141,7 +140,7 @@ pub fn slot_with(
     }
 }
 
-/// What a slot is read as after such a checkpoint was written in it.
+/// What a slot is read as after such a checkpoint was written in it, or was refused.
 pub fn written(
     alloc: Global,
     steps: (u64, u64),
@@ -151,10 +150,7 @@ pub fn written(
     let Some(disk) = slot_with(alloc, &[], None)? else {
         return Err(AllocError);
     };
-    let (mut disk, whole) = write(alloc, disk, steps, keys, size)?;
-    if !whole {
-        return Err(AllocError);
-    }
+    let (mut disk, _) = write(alloc, disk, steps, keys, size)?;
     let told = told_of(&read_valid(alloc, &mut disk));
     Ok((disk, told))
 }

@@ -41,8 +41,8 @@ fn write_in(
         Ok(added) => added,
         Err((_, slots)) => return Ok((slots, false)),
     };
-    match added.end(steps.1) {
-        Ok(slots) => Ok((slots, true)),
+    match added.end(alloc, steps.1) {
+        Ok((slots, _)) => Ok((slots, true)),
         Err((_, slots)) => Ok((slots, false)),
     }
 }
@@ -89,11 +89,11 @@ fn each_checkpoint_goes_to_the_other_slot(rt: HostRuntime) -> Result<(), Fail> {
     Ok(())
 }
 
-// A slot that is made makes two calls, and a checkpoint over a closed gate ten.
+// A slot that is made makes two calls, and a checkpoint over a closed gate thirteen.
 #[test]
 fn a_failing_call_leaves_the_newest(rt: HostRuntime) -> Result<(), Fail> {
     let alloc = rt.alloc();
-    for call in 3..13 {
+    for call in 3..16 {
         let (slots, fault) = slots_with(alloc, &[], &[call])?;
         let (slots, first) = write_in(alloc, slots, (6, 9), Slot::First)?;
         let (mut slots, second) = write_in(alloc, slots, (12, 15), Slot::Second)?;

@@ -18,8 +18,8 @@ fn a_checkpoint_is_written_as_its_bytes(rt: HostRuntime) -> Result<(), Fail> {
     Ok(())
 }
 
-// A walk is a checkpoint if its steps are in order, the last of them at most 2^59, and its pairs rise by
-// tenant and key.
+// A walk is a checkpoint if its steps are in order, the last of them at most 2^59, its pairs rise by tenant and key, and
+// no stamp is over its last step. Any other one is refused, and leaves a closed gate alone.
 #[test]
 fn a_walk_out_of_order_is_none(rt: HostRuntime) -> Result<(), Fail> {
     let alloc = rt.alloc();
@@ -27,6 +27,8 @@ fn a_walk_out_of_order_is_none(rt: HostRuntime) -> Result<(), Fail> {
         (6, 9, [(7, 2), (7, 3), (8, 1)], Told::Walk(6, 9, 3)),
         (6, 6, [(7, 2), (7, 3), (8, 1)], Told::Walk(6, 6, 3)),
         (6, 5, [(7, 2), (7, 3), (8, 1)], Told::None),
+        (4, 5, [(7, 2), (7, 3), (8, 1)], Told::Walk(4, 5, 3)),
+        (3, 4, [(7, 2), (7, 3), (8, 1)], Told::None),
         (
             6,
             MAX_STEP,
@@ -38,8 +40,12 @@ fn a_walk_out_of_order_is_none(rt: HostRuntime) -> Result<(), Fail> {
         (6, 9, [(7, 2), (7, 2), (8, 1)], Told::None),
         (6, 9, [(7, 2), (8, 1), (7, 3)], Told::None),
     ] {
-        let (_disk, told) = written(alloc, (first, last), &keys, 1)?;
-        assert!(rt; told == want, "from {first} up to {last}: {told:?}");
+        let (disk, told) = written(alloc, (first, last), &keys, 1)?;
+        let is_cut = disk.image() == b"\x00".as_slice();
+        assert!(rt;
+            told == want && is_cut == (want == Told::None),
+            "from {first} up to {last}: {told:?}"
+        );
     }
     Ok(())
 }
@@ -104,27 +110,47 @@ fn want(place: usize, by: u8) -> Told {
         15 if 1 ^ by == 2 => Told::Walk(6, 0x7_0001_6b00, 0),
         30 if 5 ^ by <= 9 => Told::Walk(6, 9, 1),
         16..=19 | 22 | 34 => Told::Walk(6, 9, 1),
-        36..=43 => {
-            let last = last_step(place - 36, by);
-            if (6..=MAX_STEP).contains(&last) {
-                Told::Walk(6, last, 1)
-            } else {
-                Told::None
-            }
-        }
+        36..=43 => ending_at(last_step(place - 36, by)),
         _ => Told::None,
+    }
+}
+
+// The same of format 1, which has no stamp in its entry.
+fn want_of_format_1(place: usize, by: u8) -> Told {
+    match place {
+        14 if 6 ^ by <= 9 => Told::Walk(u64::from(6 ^ by), 9, 1),
+        15 if 1 ^ by == 2 => Told::Walk(6, 0x7_0001_6b01, 0),
+        16..=19 | 22 | 26 => Told::Walk(6, 9, 1),
+        28..=35 => ending_at(last_step(place - 28, by)),
+        _ => Told::None,
+    }
+}
+
+// A checkpoint from step 6 up to this one, if it may be one.
+fn ending_at(last: u64) -> Told {
+    if (6..=MAX_STEP).contains(&last) {
+        Told::Walk(6, last, 1)
+    } else {
+        Told::None
     }
 }
 
 #[test]
 fn each_changed_byte_is_told_for_what_it_is(rt: HostRuntime) -> Result<(), Fail> {
     let alloc = rt.alloc();
-    for place in 0..VECTOR.len() {
-        for by in 1..=255 {
+    for by in 1..=255 {
+        for place in 0..VECTOR.len() {
             let told = changed(alloc, &VECTOR, place, by)?;
             assert!(rt;
                 told == want(place, by),
                 "byte {place} changed by {by}: {told:?}"
+            );
+        }
+        for place in 0..OLD_VECTOR.len() {
+            let told = changed(alloc, &OLD_VECTOR, place, by)?;
+            assert!(rt;
+                told == want_of_format_1(place, by),
+                "byte {place} of format 1 changed by {by}: {told:?}"
             );
         }
     }

@@ -1,12 +1,12 @@
 -- By which step the newest checkpoint ends, after each call.
-use Rattle.std.proofs.{Common.{◌≡◌, inl, inr, ◌⊎◌, ℕ, ◌≤◌, Bool, List, [], ◌∷◌, Option, Some, None, refl, sym, ◌∙◌, ap, subst}, lemmas.Option.same_Some, Math.Nat.le_refl}
+use Rattle.std.proofs.{Common.{◌≡◌, inl, inr, ◌⊎◌, ℕ, ◌≤◌, Bool, List, [], ◌∷◌, Option, Some, None, refl, sym, ◌∙◌, subst}, lemmas.Option.same_Some, Math.Nat.le_refl}
 use Rattle.mt_disk.specs.Disk.{DiskState}
 use Rattle.mt_rows.specs.declared.record.TenantPair.{TenantPair}
 use Rattle.mt_checkpoint.specs.Checkpoints.{Walk, In}
 use Rattle.mt_slots.specs.{declared.slot.Slot.Slot, declared.store_slots.StoreSlots.StoreSlots}
 use Rattle.mt_slots.specs.{declared.checkpointing.Checkpointing.Checkpointing, declared.fault.SlotFault.SlotFault}
 use Rattle.mt_slots.specs.Places.{at, with, next_slot, with_newest, slot_of, given_up}
-use Rattle.mt_slots.specs.Calls.{Begins, FailsToBeginIn, Adds, FailsToAddIn, Ends, FailsToEndIn}
+use Rattle.mt_slots.specs.Calls.{Begins, FailsToBeginIn, Adds, FailsToAddIn, Ends, FailsToEndIn, GivesUpIn}
 use Rattle.mt_slots.specs.Keeps.{Mays, or_none, NewestEndsBy}
 use Rattle.mt_slots.proofs.{Keeping.{at-with, other-with, with-newest, with-owed}, Settling.only_one}
 
@@ -64,8 +64,13 @@ module _ {D : Type 0} (is_honest : D → Bool) (state : D → DiskState) (failur
       let same : w ≡ v = same_Some w v (only_one (Some w) (Some v) (subst (λ may. In (Some w) may) (sym has ∙ is) (inl refl))) in
       inr (subst (λ n. v.last ≤ n) (sym ends.owed) (subst (λ (x : Walk). x.last ≤ w.last) same (le_refl w.last)))
 
-  pub not_ended_ends : (mays : Mays) (kept last : ℕ) (may : List (Option Walk)) (old : Checkpointing D) (new : StoreSlots D) → NewestEndsBy mays kept (given_up old)
-      → FailsToEndIn is_honest state failures old last new → NewestEndsBy (with (slot_of old) may mays) kept new
-  not_ended_ends mays kept last may old new ends e =
+  pub gave_up_ends : (mays : Mays) (kept : ℕ) (old : Checkpointing D) (new : StoreSlots D) → NewestEndsBy mays kept (given_up old)
+      → GivesUpIn is_honest state failures old new → NewestEndsBy mays kept new
+  gave_up_ends mays kept old new ends a =
+      stays mays mays kept (given_up old) new ends (a.newest ∙ sym (up_newest old)) (a.owed ∙ sym (up_owed old)) (λ slot e. refl)
+
+  pub not_ended_ends : (mays : Mays) (kept last : ℕ) (may : List (Option Walk)) (f : SlotFault) (old : Checkpointing D) (new : StoreSlots D) → NewestEndsBy mays kept (given_up old)
+      → FailsToEndIn is_honest state failures f old last new → NewestEndsBy (with (slot_of old) may mays) kept new
+  not_ended_ends mays kept last may f old new ends e =
       stays mays (with (slot_of old) may mays) kept (given_up old) new ends (e.newest ∙ sym (up_newest old)) (e.owed ∙ sym (up_owed old))
       (λ slot is. beside old.newest slot may mays (sym (up_newest old) ∙ is))

@@ -1,9 +1,9 @@
 -- What a call made of one slot's disk, put back beside the other one.
-use Rattle.std.proofs.Common.{◌≡◌, ℕ, Bool, Option, Some, sym, ◌∙◌, ap, subst}
-use Rattle.mt_disk.specs.Disk.{DiskState}
-use Rattle.mt_checkpoint.specs.Slots.{FailsToBegin, Ended}
+use Rattle.std.proofs.Common.{◌≡◌, ℕ, Bool, Some, Result, sym, ◌∙◌, ap, subst}
+use Rattle.mt_disk.specs.{Disk.{DiskState}, declared.disk.DeviceFailed.DeviceFailed}
+use Rattle.mt_checkpoint.specs.Writes.{LeavesClosed, GivesUp, FailsToBegin, Ended}
 use Rattle.mt_slots.specs.{declared.slot.Slot.Slot, declared.store_slots.StoreSlots.StoreSlots, declared.checkpointing.Checkpointing.Checkpointing}
-use Rattle.mt_slots.specs.{Places.{other_of, next_slot, disk_of, slots_with, slot_of}, Calls.{FailsToBeginIn, Ends}}
+use Rattle.mt_slots.specs.{Places.{other_of, next_slot, disk_of, slots_with, slot_of}, Calls.{FailsToBeginIn, Ends, GivesUpIn}}
 use Rattle.mt_slots.proofs.Keeping.{with-this, with-other, with-newest, with-owed}
 
 module _ {D : Type 0} (is_honest : D → Bool) (state : D → DiskState) (failures : D → ℕ) where
@@ -31,4 +31,19 @@ module _ {D : Type 0} (is_honest : D → Bool) (state : D → DiskState) (failur
         other = subst (λ k. disk_of (other_of k) new ≡ old.other) here (ap (disk_of (other_of slot)) made ∙ with-other slot disk old.other (Some slot) last);
         newest = ap (λ (s : StoreSlots D). s.newest) made ∙ with-newest slot disk old.other (Some slot) last ∙ ap Some here;
         owed = ap (λ (s : StoreSlots D). s.owed) made ∙ with-owed slot disk old.other (Some slot) last;
+      }
+
+  pub gave_up_in : (old : Checkpointing D) (new : StoreSlots D) (slot : Slot) (disk : D) (cut : Result (Unit {0}) DeviceFailed) → slot ≡ slot_of old
+      → new ≡ slots_with slot disk old.other old.newest old.owed
+      → GivesUp is_honest state failures old.writer (failures old.writer.disk) cut disk × LeavesClosed is_honest state failures old.writer disk → GivesUpIn is_honest state failures old new
+  gave_up_in old new slot disk cut here made gives =
+      let this = ap (disk_of slot) made ∙ with-this slot disk old.other old.newest old.owed in
+      let there : disk ≡ disk_of (slot_of old) new = sym this ∙ ap (λ k. disk_of k new) here in
+      record {
+        cut = cut;
+        gives_up = subst (GivesUp is_honest state failures old.writer (failures old.writer.disk) cut) there gives.0;
+        leaves = subst (LeavesClosed is_honest state failures old.writer) there gives.1;
+        other = subst (λ k. disk_of (other_of k) new ≡ old.other) here (ap (disk_of (other_of slot)) made ∙ with-other slot disk old.other old.newest old.owed);
+        newest = ap (λ (s : StoreSlots D). s.newest) made ∙ with-newest slot disk old.other old.newest old.owed;
+        owed = ap (λ (s : StoreSlots D). s.owed) made ∙ with-owed slot disk old.other old.newest old.owed;
       }

@@ -4,15 +4,14 @@ use Rattle.std.specs.Option.{option_map}
 use Rattle.mt_rows.specs.{Rows.Bytes, declared.record.TenantPair.TenantPair}
 use Rattle.mt_disk.specs.Disk.{DiskState}
 use Rattle.mt_checkpoint.specs.{declared.checkpoint.Checkpoint.Checkpoint, Checkpoints.{Walk, IsWalk, walk_of, In, IsOneOf}}
-use Rattle.mt_checkpoint.specs.Slots.{HasDurably, SettlesOnSlot, ReadSlot, FailsToRead, FailsToAdd}
+use Rattle.mt_checkpoint.specs.{Slots.{HasDurably, SettlesOnSlot, ReadSlot, FailsToRead}, declared.fault.ReadFault.ReadFault, declared.fault.FaultCause.FaultCause, Faults.read_cause}
 use Rattle.mt_checkpoint.proofs.Crash.{found_again, ended_slot}
 use Rattle.mt_slots.specs.{declared.slot.Slot.Slot, declared.slot.Slot.TheVariants.{First, Second}, declared.fault.SlotFault.SlotFault}
-use Rattle.mt_slots.specs.{declared.fault.FaultCause.FaultCause, declared.fault.FaultCause.TheVariants.{Device, Memory}}
 use Rattle.mt_slots.specs.{declared.store_slots.StoreSlots.StoreSlots, declared.checkpointing.Checkpointing.Checkpointing}
-use Rattle.mt_slots.specs.Places.{Both, at, with, other_of, disk_of, with_newest, slot_of, given_up}
-use Rattle.mt_slots.specs.Calls.{StopsIn, ReadsBoth, StopsReading, as_read_fault, as_write_fault, FailsToAddIn, Ends, FailsToEndIn}
+use Rattle.mt_slots.specs.Places.{Both, at, with, disk_of, with_newest, slot_of, given_up}
+use Rattle.mt_slots.specs.Calls.{StopsIn, ReadsBoth, StopsReading, FailsToAddIn, Ends, FailsToEndIn, GivesUpIn}
 use Rattle.mt_slots.specs.Keeps.{Mays, only_these, HasOneWalk, LeavesOneOf, KeepsSlots, KeepsWriting, IsCrashedTo}
-use Rattle.mt_slots.proofs.Keeping.{from_now, now_newest, placed, placed_same, this_is, other_is, honest_writer, after, after_closed}
+use Rattle.mt_slots.proofs.Keeping.{from_now, now_newest, placed, other_is, honest_writer, after, after_closed}
 
 pub only_one : (x y : Option Walk) → In x (y ∷ []) → x ≡ y
 only_one x y (inl e) = e
@@ -34,45 +33,48 @@ module _ {D : Type 0} (is_honest : D → Bool) (state : D → DiskState) (failur
 
   -- ---- a failed add
 
-  not_added_by : (mays : Mays) (first : ℕ) (before : List TenantPair) (old : Checkpointing D) (new : StoreSlots D) (cause : FaultCause) → KeepsIn mays first before old
-      → FailsToAdd is_honest state failures old.writer (as_write_fault cause (disk_of (slot_of old) new)) → disk_of (other_of (slot_of old)) new ≡ old.other
-      → new.newest ≡ old.newest → Keeps mays new
-  not_added_by mays first before old new Device kept fails other newest =
-      let honest = honest_writer is_honest state failures mays first before old kept in
-      after_closed is_honest state failures mays first before old kept new fails.2 (fails.0 honest before kept.writing) other newest
-  not_added_by mays first before old new Memory kept same other newest =
-      let slot = slot_of old in
-      let this = this_is is_honest state failures mays first before old kept in
-      let leaves = subst (λ d. LeavesOneOf (at slot mays) (state d)) (this ∙ sym same) (kept.slots.leaves slot) in
-      placed_same is_honest state failures slot mays new (after is_honest state failures mays first before old kept (at slot mays) new (ap is_honest same) leaves other newest)
-
   pub not_added : (mays : Mays) (first : ℕ) (before : List TenantPair) (e : SlotFault) (old : Checkpointing D) (new : StoreSlots D) → KeepsIn mays first before old
       → FailsToAddIn is_honest state failures e old new → Keeps mays new
-  not_added mays first before e old new kept fails = not_added_by mays first before old new e.cause kept fails.fails fails.other fails.newest
+  not_added mays first before e old new kept a =
+      let honest = honest_writer is_honest state failures mays first before old kept in
+      after_closed is_honest state failures mays first before old kept new a.fails.stops.gives_up.honest (a.fails.leaves honest before kept.writing) a.other a.newest
+
+  pub gave_up : (mays : Mays) (first : ℕ) (before : List TenantPair) (old : Checkpointing D) (new : StoreSlots D) → KeepsIn mays first before old
+      → GivesUpIn is_honest state failures old new → Keeps mays new
+  gave_up mays first before old new kept a =
+      let honest = honest_writer is_honest state failures mays first before old kept in
+      after_closed is_honest state failures mays first before old kept new a.gives_up.honest (a.leaves honest before kept.writing) a.other a.newest
 
   -- ---- an end
 
-  pub ended : (mays : Mays) (w : Walk) (old : Checkpointing D) (new : StoreSlots D) → KeepsIn mays w.first w.pairs old → IsWalk w
+  -- what was ended is a walk, from the writer's first step on
+  walk_from : (mays : Mays) (w : Walk) (old : Checkpointing D) (new : StoreSlots D) → KeepsIn mays w.first w.pairs old → Ends is_honest state failures old w.last new
+      → IsWalk (starting w old.writer.first)
+  walk_from mays w old new kept e = e.ended.walk (honest_writer is_honest state failures mays w.first w.pairs old kept) w.pairs kept.writing
+
+  pub ended_walk : (mays : Mays) (w : Walk) (old : Checkpointing D) (new : StoreSlots D) → KeepsIn mays w.first w.pairs old → Ends is_honest state failures old w.last new → IsWalk w
+  ended_walk mays w old new kept e = subst (λ first. IsWalk (starting w first)) kept.first_is (walk_from mays w old new kept e)
+
+  pub ended : (mays : Mays) (w : Walk) (old : Checkpointing D) (new : StoreSlots D) → KeepsIn mays w.first w.pairs old
       → Ends is_honest state failures old w.last new → Keeps (with (slot_of old) (Some w ∷ []) mays) new
-  ended mays w old new kept walk e =
+  ended mays w old new kept e =
       let slot = slot_of old in
       let honest = honest_writer is_honest state failures mays w.first w.pairs old kept in
       let s = state (disk_of slot new) in
-      let is = subst (λ first. IsWalk (starting w first)) (sym kept.first_is) walk in
-      let has = subst (λ first. HasDurably (starting w first) s) kept.first_is (e.ended.has honest w.pairs kept.writing is) in
+      let has = subst (λ first. HasDurably (starting w first) s) kept.first_is (e.ended.has honest w.pairs kept.writing (walk_from mays w old new kept e)) in
       placed is_honest state failures slot (Some w ∷ []) mays (given_up old) new kept.slots (subst IsTrue (sym e.ended.honest) honest) (ended_slot w s has)
       (e.other ∙ sym (other_is is_honest state failures mays w.first w.pairs old kept)) (λ k there. now_newest slot w mays k (sym e.newest ∙ there))
 
-  pub not_ended : (mays : Mays) (w : Walk) (old : Checkpointing D) (new : StoreSlots D) → KeepsIn mays w.first w.pairs old → IsWalk w
-      → FailsToEndIn is_honest state failures old w.last new → Keeps (with (slot_of old) (None ∷ Some w ∷ []) mays) new
-  not_ended mays w old new kept walk e =
+  pub not_ended : (mays : Mays) (w : Walk) (f : SlotFault) (old : Checkpointing D) (new : StoreSlots D) → KeepsIn mays w.first w.pairs old → IsWalk w
+      → FailsToEndIn is_honest state failures f old w.last new → Keeps (with (slot_of old) (None ∷ Some w ∷ []) mays) new
+  not_ended mays w f old new kept walk e =
       let slot = slot_of old in
       let honest = honest_writer is_honest state failures mays w.first w.pairs old kept in
       let s = state (disk_of slot new) in
       let both : Walk → List (Option Walk) = λ v. None ∷ Some v ∷ [] in
       let is = subst (λ first. IsWalk (starting w first)) (sym kept.first_is) walk in
       let leaves = from_now (IsOneOf (both (starting w old.writer.first))) _ s (e.fails.leaves honest w.pairs kept.writing is) in
-      after is_honest state failures mays w.first w.pairs old kept (both w) new e.fails.honest (subst (λ first. LeavesOneOf (both (starting w first)) s) kept.first_is leaves) e.other e.newest
+      after is_honest state failures mays w.first w.pairs old kept (both w) new e.fails.stops.gives_up.honest (subst (λ first. LeavesOneOf (both (starting w first)) s) kept.first_is leaves) e.other e.newest
 
   -- ---- a reading
 
@@ -104,9 +106,9 @@ module _ {D : Type 0} (is_honest : D → Bool) (state : D → DiskState) (failur
       read_stays slot (x, is) =
           (subst IsTrue (sym is.honest) (kept.honest slot), from_now _ _ _ (is.settles (kept.honest slot) (at slot mays) _ (kept.leaves slot)).leaves)
 
-      fails_stays : (slot : Slot) → FailsToRead is_honest state failures (disk_of slot old) (disk_of slot new) (as_read_fault cause)
+      fails_stays : (slot : Slot) → (fault : ReadFault) × (cause ≡ read_cause fault) × FailsToRead is_honest state failures (disk_of slot old) (disk_of slot new) fault
           → IsTrue (is_honest (disk_of slot new)) × LeavesOneOf (at slot mays) (state (disk_of slot new))
-      fails_stays slot is = (subst IsTrue (sym is.honest) (kept.honest slot), from_now _ _ _ (is.leaves (kept.honest slot) (at slot mays) _ (kept.leaves slot)))
+      fails_stays slot (fault, same, is) = (subst IsTrue (sym is.honest) (kept.honest slot), from_now _ _ _ (is.leaves (kept.honest slot) (at slot mays) _ (kept.leaves slot)))
 
       same_stays : (slot : Slot) → disk_of slot new ≡ disk_of slot old → IsTrue (is_honest (disk_of slot new)) × LeavesOneOf (at slot mays) (state (disk_of slot new))
       same_stays slot same = subst (λ d. IsTrue (is_honest d) × LeavesOneOf (at slot mays) (state d)) (sym same) (kept.honest slot, kept.leaves slot)
@@ -115,7 +117,7 @@ module _ {D : Type 0} (is_honest : D → Bool) (state : D → DiskState) (failur
       both_stay each newest = record { honest = λ slot. (each slot).0; leaves = λ slot. (each slot).1; newest = λ slot e. kept.newest slot (sym newest ∙ e) }
 
       pub not_read_at : (slot : Slot) → StopsIn is_honest state failures (λ old new. (x : Option Checkpoint) × ReadSlot is_honest state failures old new x)
-          (λ old new. FailsToRead is_honest state failures old new (as_read_fault cause)) slot old new → new.newest ≡ old.newest → Keeps mays new
+          (λ old new. (fault : ReadFault) × (cause ≡ read_cause fault) × FailsToRead is_honest state failures old new fault) slot old new → new.newest ≡ old.newest → Keeps mays new
       not_read_at First stops newest = both_stay (elim [ First ↦ fails_stays First stops.0 | Second ↦ same_stays Second stops.1 ]) newest
       not_read_at Second stops newest = both_stay (elim [ First ↦ read_stays First stops.0 | Second ↦ fails_stays Second stops.1 ]) newest
 

@@ -1,24 +1,18 @@
 -- What each call does, by what `mt_checkpoint` says of one slot.
-use Rattle.std.specs.Prelude.{◌≡◌, ℕ, Bool, IsTrue, List, Option, Some, None}
+use Rattle.std.specs.Prelude.{◌≡◌, ℕ, Bool, IsTrue, List, Option, Some, None, Result}
 use Rattle.mt_rows.specs.declared.record.TenantPair.{TenantPair}
-use Rattle.mt_disk.specs.Disk.{DiskState, GoesUp}
+use Rattle.mt_disk.specs.{Disk.{DiskState, GoesUp}, declared.disk.DeviceFailed.DeviceFailed}
 use Rattle.mt_checkpoint.specs.{declared.checkpoint.Checkpoint.Checkpoint, declared.fault.ReadFault.ReadFault, declared.fault.WriteFault.WriteFault}
-use Rattle.mt_checkpoint.specs.{Checkpoints.IsClosedAtRest, Slots.{Begun, FailsToBegin, Added, FailsToAdd, Ended, FailsToEnd, ReadSlot, FailsToRead}}
+use Rattle.mt_checkpoint.specs.{declared.fault.FaultCause.FaultCause, declared.fault.FaultCause.TheVariants.Device, Faults.read_cause}
+use Rattle.mt_checkpoint.specs.{Checkpoints.IsClosedAtRest, Slots.{ReadSlot, FailsToRead}}
+use Rattle.mt_checkpoint.specs.Writes.{LeavesClosed, GivesUp, Begun, FailsToBegin, Added, FailsToAdd, Ended, FailsToEnd}
 use Rattle.mt_slots.specs.{declared.slot.Slot.Slot, declared.slot.Slot.TheVariants.{First, Second}, declared.fault.SlotFault.SlotFault}
-use Rattle.mt_slots.specs.{declared.fault.FaultCause.FaultCause, declared.fault.FaultCause.TheVariants.{Device, Memory}}
 use Rattle.mt_slots.specs.{declared.store_slots.StoreSlots.StoreSlots, declared.checkpointing.Checkpointing.Checkpointing}
 use Rattle.mt_slots.specs.Places.{Both, at, in_order, other_of, next_slot, disk_of, slot_of}
-use Rattle.mt_checkpoint.specs.declared.fault.WriteFault.TheVariants as writes
-use Rattle.mt_checkpoint.specs.declared.fault.ReadFault.TheVariants as reads
 
--- a cause, as one slot's reading and its writing tell it
-abbrev pub as_read_fault : FaultCause → ReadFault
-as_read_fault Device = reads.Device
-as_read_fault Memory = reads.Memory
-
+-- a fault of writing, by its cause and the disk that comes back
 abbrev pub as_write_fault : {D : Type 0} → FaultCause → D → WriteFault D
-as_write_fault Device disk = writes.Device disk
-as_write_fault Memory disk = writes.Memory disk
+as_write_fault cause disk = record { cause = cause; disk = disk }
 
 module _ {D : Type 0} (is_honest : D → Bool) (state : D → DiskState) (failures : D → ℕ) where
   -- a slot was made
@@ -63,7 +57,7 @@ module _ {D : Type 0} (is_honest : D → Bool) (state : D → DiskState) (failur
   -- they were not both read
   pub record StopsReading (e : SlotFault) (old new : StoreSlots D) : Type 0 where
     pub stops : StopsIn (λ old new. (x : Option Checkpoint) × ReadSlot is_honest state failures old new x)
-        (λ old new. FailsToRead is_honest state failures old new (as_read_fault e.cause)) e.slot old new
+        (λ old new. (fault : ReadFault) × (e.cause ≡ read_cause fault) × FailsToRead is_honest state failures old new fault) e.slot old new
     pub newest : new.newest ≡ old.newest
     pub owed : new.owed ≡ old.owed
 
@@ -104,8 +98,18 @@ module _ {D : Type 0} (is_honest : D → Bool) (state : D → DiskState) (failur
     pub owed : new.owed ≡ last
 
   -- it was not, and the newest one is as before, and what it owes
-  pub record FailsToEndIn (old : Checkpointing D) (last : ℕ) (new : StoreSlots D) : Type 0 where
-    pub fails : FailsToEnd is_honest state failures old.writer last (disk_of (slot_of old) new)
+  pub record FailsToEndIn (e : SlotFault) (old : Checkpointing D) (last : ℕ) (new : StoreSlots D) : Type 0 where
+    pub slot : e.slot ≡ slot_of old
+    pub fails : FailsToEnd is_honest state failures old.writer last (as_write_fault e.cause (disk_of (slot_of old) new))
+    pub other : disk_of (other_of (slot_of old)) new ≡ old.other
+    pub newest : new.newest ≡ old.newest
+    pub owed : new.owed ≡ old.owed
+
+  -- it was given up: its slot was cut to its closed gate, or that failed
+  pub record GivesUpIn (old : Checkpointing D) (new : StoreSlots D) : Type 0 where
+    pub cut : Result (Unit {0}) DeviceFailed
+    pub gives_up : GivesUp is_honest state failures old.writer (failures old.writer.disk) cut (disk_of (slot_of old) new)
+    pub leaves : LeavesClosed is_honest state failures old.writer (disk_of (slot_of old) new)
     pub other : disk_of (other_of (slot_of old)) new ≡ old.other
     pub newest : new.newest ≡ old.newest
     pub owed : new.owed ≡ old.owed

@@ -1,16 +1,10 @@
 -- Which of the two slots is which, and their disks.
 use Rattle.std.specs.Prelude.{ℕ, List, [], ◌∷◌, Option, Some, None}
 use Rattle.mt_checkpoint.specs.declared.slot.Writer.{Writer}
-use Rattle.mt_rows.specs.declared.refusal.Refusal.{Refusal}
-use Rattle.mt_slots.specs.{declared.fault.FaultCause.FaultCause, declared.fault.FaultCause.TheVariants.{Device, Memory}, declared.slot.Slot.Slot}
+pub use Rattle.mt_checkpoint.specs.Faults.{refusal_for}
+use Rattle.mt_slots.specs.declared.slot.Slot.{Slot}
 use Rattle.mt_slots.specs.{declared.slot.Slot.TheVariants.{First, Second}, declared.store_slots.StoreSlots.StoreSlots}
 use Rattle.mt_slots.specs.declared.checkpointing.Checkpointing.{Checkpointing}
-use Rattle.mt_rows.specs.declared.refusal.Refusal.TheVariants as refusals
-
--- the refusal that tells a cause
-abbrev pub refusal_for : FaultCause → Refusal
-refusal_for Device = refusals.Device
-refusal_for Memory = refusals.Memory
 
 -- one thing for each slot
 pub record Both (X : Type 0) : Type 0 where
@@ -67,6 +61,6 @@ checkpointing_with writer other newest owed = record { writer = writer; other = 
 abbrev pub slot_of : {D : Type 0} → Checkpointing D → Slot
 slot_of c = next_slot c.newest
 
--- the slots after a checkpoint was given up
+-- the slots while a checkpoint is written, as they stand
 abbrev pub given_up : {D : Type 0} → Checkpointing D → StoreSlots D
 given_up c = slots_with (slot_of c) c.writer.disk c.other c.newest c.owed

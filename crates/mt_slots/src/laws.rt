@@ -5,7 +5,7 @@ ghost use Rattle.mt_rows.specs.{Rows.Bytes, declared.record.TenantPair.TenantPai
 ghost use Rattle.mt_checkpoint.specs.{declared.checkpoint.Checkpoint.Checkpoint, Checkpoints.{Walk, IsWalk, walk_of, In}};
 ghost use Rattle.mt_slots.specs.{declared.slot.Slot.Slot, declared.store_slots.StoreSlots.StoreSlots, declared.checkpointing.Checkpointing.Checkpointing};
 ghost use Rattle.mt_slots.specs.{declared.fault.SlotFault.SlotFault, Places.{Both, at, with, in_order, number_of, disk_of, next_slot, with_newest, slot_of, given_up}};
-ghost use Rattle.mt_slots.specs.Calls.{MakesBoth, ReadsBoth, StopsReading, Begins, FailsToBeginIn, Adds, FailsToAddIn, Ends, FailsToEndIn};
+ghost use Rattle.mt_slots.specs.Calls.{MakesBoth, ReadsBoth, StopsReading, Begins, FailsToBeginIn, Adds, FailsToAddIn, Ends, FailsToEndIn, GivesUpIn};
 ghost use Rattle.mt_slots.specs.Keeps.{Mays, no_checkpoints, only_these, or_none, HasOneWalk, NewestEndsBy, KeepsSlots, KeepsWriting, IsCrashedTo};
 
 use mt_disk::Disk;
@@ -58,12 +58,20 @@ pub fn an_add_leaves_what_it_might<D: Disk>()
         → KeepsSlots D.is_honest D.state D.failures mays new }
 {}
 
-/// A slot whose checkpoint was ended surely has its walk. If the end fails it has that or none.
+/// A checkpoint that is given up changes nothing of what a crash may leave.
+pub fn a_give_up_leaves_what_it_might<D: Disk>()
+    ensures { (mays : Mays) (first : ℕ) (before : List TenantPair) (old : Checkpointing D) (new : StoreSlots D) → KeepsWriting D.is_honest D.state D.failures mays first before old
+        → GivesUpIn D.is_honest D.state D.failures old new → KeepsSlots D.is_honest D.state D.failures mays new }
+{}
+
+/// What was ended is a walk, and its slot surely has it. If the end fails it has that or none.
 pub fn an_end_leaves_its_walk<D: Disk>()
-    ensures ok { (mays : Mays) (w : Walk) (old : Checkpointing D) (new : StoreSlots D) → KeepsWriting D.is_honest D.state D.failures mays w.first w.pairs old → IsWalk w
+    ensures walk { (mays : Mays) (w : Walk) (old : Checkpointing D) (new : StoreSlots D) → KeepsWriting D.is_honest D.state D.failures mays w.first w.pairs old
+        → Ends D.is_honest D.state D.failures old w.last new → IsWalk w }
+    ensures ok { (mays : Mays) (w : Walk) (old : Checkpointing D) (new : StoreSlots D) → KeepsWriting D.is_honest D.state D.failures mays w.first w.pairs old
         → Ends D.is_honest D.state D.failures old w.last new → KeepsSlots D.is_honest D.state D.failures (with (slot_of old) (Some w ∷ []) mays) new }
-    ensures err { (mays : Mays) (w : Walk) (old : Checkpointing D) (new : StoreSlots D) → KeepsWriting D.is_honest D.state D.failures mays w.first w.pairs old → IsWalk w
-        → FailsToEndIn D.is_honest D.state D.failures old w.last new → KeepsSlots D.is_honest D.state D.failures (with (slot_of old) (None ∷ Some w ∷ []) mays) new }
+    ensures err { (mays : Mays) (w : Walk) (e : SlotFault) (old : Checkpointing D) (new : StoreSlots D) → KeepsWriting D.is_honest D.state D.failures mays w.first w.pairs old → IsWalk w
+        → FailsToEndIn D.is_honest D.state D.failures e old w.last new → KeepsSlots D.is_honest D.state D.failures (with (slot_of old) (None ∷ Some w ∷ []) mays) new }
 {}
 
 /// The newest checkpoint ends by what is owed, or by the step up to which each log went when it was kept. This stays so
@@ -81,8 +89,10 @@ pub fn the_newest_ends_by_what_is_owed<D: Disk>()
         → FailsToAddIn D.is_honest D.state D.failures e old new → NewestEndsBy mays kept new }
     ensures ended { (mays : Mays) (kept : ℕ) (w : Walk) (old : Checkpointing D) (new : StoreSlots D)
         → Ends D.is_honest D.state D.failures old w.last new → NewestEndsBy (with (slot_of old) (Some w ∷ []) mays) kept new }
-    ensures not_ended { (mays : Mays) (kept last : ℕ) (may : List (Option Walk)) (old : Checkpointing D) (new : StoreSlots D) → NewestEndsBy mays kept (given_up old)
-        → FailsToEndIn D.is_honest D.state D.failures old last new → NewestEndsBy (with (slot_of old) may mays) kept new }
+    ensures not_ended { (mays : Mays) (kept last : ℕ) (may : List (Option Walk)) (e : SlotFault) (old : Checkpointing D) (new : StoreSlots D) → NewestEndsBy mays kept (given_up old)
+        → FailsToEndIn D.is_honest D.state D.failures e old last new → NewestEndsBy (with (slot_of old) may mays) kept new }
+    ensures gave_up { (mays : Mays) (kept : ℕ) (old : Checkpointing D) (new : StoreSlots D) → NewestEndsBy mays kept (given_up old)
+        → GivesUpIn D.is_honest D.state D.failures old new → NewestEndsBy mays kept new }
 {}
 
 /// What a crash leaves of slots, found again, may have what they might before.

@@ -11,6 +11,7 @@ mod slot;
 mod store_slots;
 
 pub use checkpointing::Checkpointing;
-pub use fault::{FaultCause, SlotFault};
+pub use fault::SlotFault;
+pub use mt_checkpoint::{FaultCause, FileDigest};
 pub use slot::Slot;
 pub use store_slots::StoreSlots;

@@ -1,16 +1,16 @@
 //! Both slots at rest.
 
-ghost use Rattle.std.specs.Prelude.{◌≡◌, ◌↔◌, None, IsTrue, IfOk, IfErr, OnOk, OnErr};
-ghost use Rattle.mt_checkpoint.specs.Slots.{ReadSlot, FailsToRead};
-ghost use Rattle.mt_slots.specs.{declared.slot.Slot.TheVariants.First, declared.fault.FaultCause.TheVariants.Device};
+ghost use Rattle.std.specs.Prelude.{◌≡◌, ◌↔◌, Some, None, IsTrue, IfOk, IfErr, OnOk, OnErr};
+ghost use Rattle.mt_checkpoint.specs.{Slots.{ReadSlot, FailsToRead}, Faults.{read_cause, told_as}, declared.fault.ReadFault.ReadFault, declared.fault.FaultCause.TheVariants.Device};
+ghost use Rattle.mt_slots.specs.declared.slot.Slot.TheVariants.{First};
 ghost use Rattle.mt_slots.specs.{Crashes.{MayLeaveBoth, AreCrashed, AreLeftOrCrashed}, Places.{other_of, disk_of, next_slot, slots_with, with_newest}};
-ghost use Rattle.mt_slots.specs.Calls.{MakesSlot, FailsToMakeSlot, as_read_fault, MakesBoth, StopsMaking, TellsBoth, StopsReading, Begins, FailsToBeginIn};
+ghost use Rattle.mt_slots.specs.Calls.{MakesSlot, FailsToMakeSlot, MakesBoth, StopsMaking, TellsBoth, StopsReading, Begins, FailsToBeginIn};
 
 use crate::checkpointing::Checkpointing;
-use crate::fault::{FaultCause, SlotFault};
+use crate::fault::SlotFault;
 use crate::slot::{Slot, slot_after};
-use mt_checkpoint::{Checkpoint, ReadFault, Writer, create_slot, read_valid};
-use mt_disk::{DeviceFailed, Disk, MemDisk};
+use mt_checkpoint::{Checkpoint, FaultCause, ReadFault, Writer, create_slot, read_valid};
+use mt_disk::{DeviceFailed, Disk, MemDisk, SystemError};
 use std::alloc::{AllocError, Global};
 
 /// Two slots, each at rest, and which of them has the newest checkpoint. That one is never written over. It tells too
@@ -76,6 +76,16 @@ impl<D: Disk> StoreSlots<D> {
         self.newest
     }
 
+    /// Why the last call that failed of a slot's disk did so, if the system told it.
+    pub fn last_error(&self, slot: Slot) -> Option<SystemError>
+        ensures { (result ≡ Some SystemError.OutOfMemory) ↔ IsTrue (D.was_refused (disk_of slot self.now)) }
+    {
+        match slot {
+            Slot::First => self.first.last_error(),
+            Slot::Second => self.second.last_error(),
+        }
+    }
+
     /// The step up to which each log has to go before another checkpoint is begun: where the newest one ends, if
     /// it was ended here. It is 0 if nothing is owed. The newest is settled once each log goes that far.
     pub fn owed(&self) -> u64
@@ -93,16 +103,23 @@ impl<D: Disk> StoreSlots<D> {
 
     /// Begins a checkpoint of a walk that began after step `first`, in the next slot. What that slot had is
     /// lost, also after an error.
-    pub fn begin(self, first: u64) -> Result<Checkpointing<D>, (DeviceFailed, StoreSlots<D>)>
+    pub fn begin(self, first: u64) -> Result<Checkpointing<D>, (SlotFault, StoreSlots<D>)>
         ensures ok { IfOk result (Begins D.is_honest D.state D.failures self first) }
         ensures err { IfErr result (λ e. FailsToBeginIn D.is_honest D.state D.failures self e.1) }
+        ensures fault { IfErr result (λ e. e.0 ≡ record { slot = next_slot self.newest; cause = told_as (D.was_refused (disk_of (next_slot self.newest) e.1)) Device }) }
     {
         let slot = self.next_slot();
         let (newest, owed) = (self.newest, self.owed);
         let (disk, other) = self.parted(slot);
         match Writer::begin(disk, first) {
             Ok(writer) => Ok(Checkpointing::new(writer, other, newest, owed)),
-            Err((failed, disk)) => Err((failed, StoreSlots::with(slot, disk, other, newest, owed))),
+            Err((DeviceFailed, disk)) => {
+                let cause = FaultCause::Device.told_by(&disk);
+                Err((
+                    SlotFault { slot, cause },
+                    StoreSlots::with(slot, disk, other, newest, owed),
+                ))
+            }
         }
     }
 
@@ -204,7 +221,7 @@ fn read_slot<D: Disk>(
     slot: Slot,
 ) -> Result<Option<Checkpoint>, SlotFault>
     ensures ok { IfOk result (ReadSlot D.is_honest D.state D.failures disk.old disk.new) }
-    ensures err { IfErr result (λ e. (e.slot ≡ slot) × FailsToRead D.is_honest D.state D.failures disk.old disk.new (as_read_fault e.cause)) }
+    ensures err { IfErr result (λ e. (e.slot ≡ slot) × ((fault : ReadFault) × (e.cause ≡ read_cause fault) × FailsToRead D.is_honest D.state D.failures disk.old disk.new fault)) }
 {
     match read_valid(alloc, disk) {
         Ok(read) => Ok(read),
@@ -217,7 +234,7 @@ fn read_slot<D: Disk>(
 
 // Why a slot was not read.
 fn cause_of(fault: ReadFault) -> FaultCause
-    ensures { as_read_fault result ≡ fault }
+    ensures { result ≡ read_cause fault }
 {
     match fault {
         ReadFault::Device => FaultCause::Device,

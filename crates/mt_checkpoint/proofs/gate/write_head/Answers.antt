@@ -1,24 +1,23 @@
--- A cut and a write after the gate leave it closed.
-use Rattle.std.proofs.Common.{◌≤◌, IsTrue, sym, ◌∙◌, subst, length, take, [], ap, arith}
-use Rattle.mt_rows.specs.Rows.{Bytes}
-use Rattle.mt_disk.proofs.CrashLaws.{joined}
-use Rattle.mt_checkpoint.{specs.Checkpoints.{IsClosed, IsBehindGate}, proofs.Crash.{rest_behind, write_leaves, behind_again}}
+-- The head follows the closed gate, and nothing else does.
+use Rattle.std.proofs.Common.{[], IsTrue, sym, subst, ap, length, arith}
+use Rattle.mt_disk.proofs.CrashLaws.{at_ok, after_sync_tried}
+use Rattle.mt_checkpoint.{specs.Checkpoints.{IsClosed, IsStaged}, proofs.Crash.staged_text}
 use Rattle.mt_checkpoint.proofs.gate.write_head.Goals as goal
 
-pub returns-in_err-cut-clause-leaves : goal.returns-in_err-cut-clause-leaves
-returns-in_err-cut-clause-leaves g c honest rest =
-    let s = g.D.Disk.state c.args.disk.now in
-    write_leaves rest.closed.behind s (rest_behind s rest) (1, length s.now.durable) c.cut.result (g.D.Disk.state c.cut.new.self) (omega arith) (c.cut.ensures.crash honest)
+pub returns-in_err-write_more-clause-leaves : goal.returns-in_err-write_more-clause-leaves
+returns-in_err-write_more-clause-leaves g c honest b =
+    c.write_more.ensures.leaves honest [] b (omega (arith, ap length b.image))
+
+pub returns-clause-staged : goal.returns-clause-staged
+returns-clause-staged g c honest b =
+    let mid = g.D.Disk.state c.write_more.new.disk in
+    let new = g.D.Disk.state c.sync.new.self in
+    let still = subst IsTrue (sym c.write_more.ensures.honest) honest in
+    let behind = c.in_ok-write_more.ensures.behind honest [] b (omega (arith, ap length b.image)) in
+    at_ok c.sync.result (λ done. subst (λ text. IsStaged text new) c.head.ensures (staged_text c.head.result mid behind new done)) (c.sync.ensures.done still)
 
 pub returns-clause-leaves : goal.returns-clause-leaves
-returns-clause-leaves g c honest rest =
-    let s = g.D.Disk.state c.args.disk.now in
-    let mid = g.D.Disk.state c.cut.new.self in
-    let new = g.D.Disk.state c.write_at.new.self in
-    let still = subst IsTrue (sym c.cut.ensures.honest) honest in
-    let b = rest_behind s rest in
-    let some : 1 ≤ length s.image = omega (arith, ap length rest.closed.whole) in
-    let image = c.in_ok-cut.ensures.image honest some ∙ ap (λ (l : Bytes). take 1 l) rest.closed.whole in
-    let cut : IsBehindGate [] mid = behind_again rest.closed.behind s b (1, length s.now.durable) mid [] (omega arith) (c.in_ok-cut.ensures.crash honest) image in
-    joined IsClosed s mid new (write_leaves rest.closed.behind s b (1, length s.now.durable) c.cut.result mid (omega arith) (c.cut.ensures.crash honest))
-    (write_leaves [] mid cut _ c.write_at.result new (omega arith) (c.write_at.ensures.crash still))
+returns-clause-leaves g c honest b =
+    let still = subst IsTrue (sym c.write_more.ensures.honest) honest in
+    after_sync_tried IsClosed c.sync.result (g.D.Disk.state c.args.disk.now) (g.D.Disk.state c.write_more.new.disk) (g.D.Disk.state c.sync.new.self)
+    (c.write_more.ensures.leaves honest [] b (omega (arith, ap length b.image))) (c.sync.ensures.done still) (c.sync.ensures.failed still)
