@@ -1,30 +1,32 @@
 -- One merge of ascending pairs and changes: what stands at each owner, and the order. For `merged`.
-use Rattle.std.proofs.Common.{◌≡◌, ℕ, Bool, true, false, cond, List, [], ◌∷◌, ◌++◌, map, Option, Some, None, MatchOption, refl, sym, ◌∙◌, ap, subst}
-use Rattle.std.proofs.{lemmas.Bool.{true≢false}, lemmas.List.append_assoc, lemmas.List.Sorted.IsPermutation-refl}
+use Rattle.std.proofs.Common.{◌≡◌, ℕ, Bool, true, false, cond, List, [], ◌∷◌, ◌++◌, map, Option, Some, None, MatchOption, refl, sym, ◌∙◌, ap, subst, arith}
+use Rattle.std.proofs.{lemmas.Bool.true≢false, lemmas.List.append_assoc}
 use Rattle.std.specs.{List.AllByRecursion, List.Sorted.IsStrictlySortedBy, Option.{option_map, unwrap_or}, Cmp.eq_by_cmp_equiv, Map.{lookup, keys_of}, BTreeMap.is_at}
 use Rattle.std.specs.{declared.cmp.Ordering.Ordering, declared.cmp.Ordering.TheVariants.{Less, Equal, Greater}}
 use Rattle.std.specs.{Ordering.{is_lt, is_eq, eq_by_cmp, ordering_reverse}, FinMap.{get, find, get-from_entries}}
 use Rattle.mt_rows.specs.{Rows.Bytes, Stamps.Stamped, Tenants.owned_cmp, declared.record.TenantPair.TenantPair, TenantPairs.{owner_of, entry_of, pairs_of}}
 use Rattle.mt_rows.proofs.ContentLaws.{owned_total, owned_exact, same_contents, same_owner, tied_owner}
+use Rattle.mt_rows.specs.declared.record.Write.TheVariants.{Removed}
+use Rattle.mt_crashes.proofs.Bases.{passed_over}
 use Rattle.mt_tape.{specs.Histories.with_row, proofs.RowLaws.get-with_row}
-use Rattle.mt_recover.specs.{Pairs.{Ascend, AreBefore, first_order, without_first, first_row, pair_for}, Changes.Makes, declared.changes.Change.Change}
+use Rattle.mt_recover.specs.{Pairs.{Ascend, AreBefore, first_order, without_first, first_row, pair_for}, Waits.{makes, nothing}, declared.changes.Waiting.Waiting}
 
 abbrev Owner : Type 0
 Owner = ℕ × Bytes
 
 abbrev Entry : Type 0
-Entry = Owner × List Change
+Entry = Owner × Waiting
 
 abbrev row_of : List TenantPair → Owner → Option Stamped
 row_of ps q = find owned_cmp q (map entry_of ps)
 
-abbrev waits : List Entry → Owner → Option (List Change)
+abbrev waits : List Entry → Owner → Option Waiting
 waits es q = lookup (is_at (owned_cmp q)) es
 
 -- what an owner's changes make, if it has some
-abbrev MakesAt : Option (List Change) → Option Stamped → Option Stamped → Type 0
+abbrev MakesAt : Option Waiting → Option Stamped → Option Stamped → Type 0
 MakesAt None old new = new ≡ old
-MakesAt (Some waiting) old new = Makes waiting old new
+MakesAt (Some waiting) old new = new ≡ makes waiting old
 
 -- what is behind an owner is behind an earlier one
 pub all_later : (a b : Owner) (os : List Owner) → owned_cmp a b ≡ Less → AllByRecursion (λ o. owned_cmp b o ≡ Less) os → AllByRecursion (λ o. owned_cmp a o ≡ Less) os
@@ -211,7 +213,7 @@ stood_first owner first second listed left same order before all =
 -- ---- all changes, one after the other
 
 -- the changes so far are made, and each that is left is of an owner after what is listed
-pub record IsMerged (base : List TenantPair) (all : List ((ℕ × Bytes) × List Change)) (listed left : List TenantPair) (rest : List ((ℕ × Bytes) × List Change)) : Type 0 where
+pub record IsMerged (base : List TenantPair) (all : List ((ℕ × Bytes) × Waiting)) (listed left : List TenantPair) (rest : List ((ℕ × Bytes) × Waiting)) : Type 0 where
   pub after : (q : ℕ × Bytes) (row : Option Stamped) → MakesAt (waits rest q) (get (pairs_of (listed ++ left)) q) row → MakesAt (waits all q) (get (pairs_of base) q) row
   pub order : Ascend (listed ++ left)
   pub rising : IsStrictlySortedBy owned_cmp (keys_of rest)
@@ -242,10 +244,10 @@ before_all owner listed [] h before = tt
 before_all owner listed (e ∷ es) h before = (before e.0 h.0, before_all owner listed es h.1 before)
 
 pub one_made : (base : List TenantPair) (all was rest : List Entry) (e : Entry) (row : Option Stamped) (listed left more remain : List TenantPair) → was ≡ e ∷ rest
-    → IsMerged base all listed left was → Makes e.1 (get (pairs_of (listed ++ left)) e.0) row → pairs_of (more ++ remain) ≡ with_row (pairs_of (listed ++ left)) e.0 row
+    → IsMerged base all listed left was → row ≡ makes e.1 (get (pairs_of (listed ++ left)) e.0) → pairs_of (more ++ remain) ≡ with_row (pairs_of (listed ++ left)) e.0 row
     → Ascend (more ++ remain) → ((next : ℕ × Bytes) → owned_cmp e.0 next ≡ Less → AreBefore next more) → IsMerged base all more remain rest
 unfolding IsStrictlySortedBy
-one_made base all was rest e row listed left more remain is so_far makes pairs order before = record {
+one_made base all was rest e row listed left more remain is so_far made pairs order before = record {
   after = λ q now h. so_far.after q now (subst (λ (es : List Entry). MakesAt (waits es q) (get (pairs_of (listed ++ left)) q) now) (sym is)
       (by q (eq_by_cmp owned_cmp q e.0) refl now
       (subst (λ (o : Option Stamped). MakesAt (waits rest q) o now) (ap (λ m. get m q) pairs ∙ get-with_row (pairs_of (listed ++ left)) e.0 row q) h)));
@@ -260,9 +262,8 @@ one_made base all was rest e row listed left more remain is so_far makes pairs o
     by : (q : Owner) (b : Bool) → eq_by_cmp owned_cmp q e.0 ≡ b → (now : Option Stamped) → MakesAt (waits rest q) (cond b row (get (pairs_of (listed ++ left)) q)) now
         → MakesAt (cond b (Some e.1) (waits rest q)) (get (pairs_of (listed ++ left)) q) now
     by q true tied now h =
-        let same : now ≡ row = subst (λ (o : Option (List Change)). MakesAt o row now) (ap (waits rest) (tied_owner q e.0 tied) ∙ no_change e.0 rest rising.0) h in
-        subst (λ (o : Owner). Makes e.1 (get (pairs_of (listed ++ left)) o) now) (sym (tied_owner q e.0 tied))
-        (subst (Makes e.1 (get (pairs_of (listed ++ left)) e.0)) (sym same) makes)
+        let same : now ≡ row = subst (λ (o : Option Waiting). MakesAt o row now) (ap (waits rest) (tied_owner q e.0 tied) ∙ no_change e.0 rest rising.0) h in
+        same ∙ made ∙ ap (λ (o : Owner). makes e.1 (get (pairs_of (listed ++ left)) o)) (sym (tied_owner q e.0 tied))
     by q false apart now h = h
 
 -- what is listed is before the next change
@@ -272,10 +273,10 @@ before_first base all was rest e listed left is so_far = (subst (AllByRecursion 
 
 -- all changes are made
 pub all_made : (base : List TenantPair) (all rest : List Entry) (listed left : List TenantPair) → rest ≡ [] → IsMerged base all listed left rest
-    → (q : ℕ × Bytes) → Makes (unwrap_or (waits all q) []) (get (pairs_of base) q) (get (pairs_of (listed ++ left)) q)
+    → (q : ℕ × Bytes) → get (pairs_of (listed ++ left)) q ≡ makes (unwrap_or (waits all q) nothing) (get (pairs_of base) q)
 all_made base all rest listed left none so_far q =
     by (waits all q) (so_far.after q (get (pairs_of (listed ++ left)) q) (subst (λ (es : List Entry). MakesAt (waits es q) (get (pairs_of (listed ++ left)) q) (get (pairs_of (listed ++ left)) q)) (sym none) refl))
   where
-    by : (o : Option (List Change)) → MakesAt o (get (pairs_of base) q) (get (pairs_of (listed ++ left)) q) → Makes (unwrap_or o []) (get (pairs_of base) q) (get (pairs_of (listed ++ left)) q)
-    by None same = ([], IsPermutation-refl [], tt, same)
+    by : (o : Option Waiting) → MakesAt o (get (pairs_of base) q) (get (pairs_of (listed ++ left)) q) → get (pairs_of (listed ++ left)) q ≡ makes (unwrap_or o nothing) (get (pairs_of base) q)
+    by None same = same ∙ sym (passed_over 0 Removed (get (pairs_of base) q) (omega arith))
     by (Some waiting) h = h

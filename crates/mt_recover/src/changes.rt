@@ -1,19 +1,21 @@
-//! The changes that a recovery replays: of each tenant's key those that count so far.
+//! The changes that a recovery replays: of each tenant's key what counts so far.
 //!
-//! A removal and a whole row begin anew: what stood there before is lost. So the changes below one that begins anew
-//! are let go, as far as they are met. Those that wait are made in the order of their stamps.
+//! A removal and a whole row begin anew: what stood there before is lost. So of all changes of a key the last of
+//! these waits, and of each column the last one over it. Records may come in any order: their stamps decide.
 
-ghost use Rattle.std.specs.{Prelude.{◌≡◌, ◌++◌, [], ◌∷◌, ℕ, List, None, true, IfOk, OnOk, if◌then◌else◌}, List.Sorted.IsPermutation, BTreeMap.{get, is_at}};
-ghost use Rattle.mt_rows.specs.{declared.record.{Record.{Record as AnyRecord}, Write.{Write as AnyWrite}}, Rows.Bytes, Stamps.stamp_in, Tenants.owned_cmp};
-ghost use Rattle.mt_crashes.specs.Fronts.{made, replayed};
-ghost use Rattle.mt_recover.specs.{declared.changes.Change.{Change as AnyChange}, Orders.DontFall};
-ghost use Rattle.mt_recover.specs.Changes.{waiting_at, replays, Makes, begins, Adds, AreWaiting};
+ghost use Rattle.std.specs.Prelude.{◌≡◌, ◌++◌, [], ◌∷◌, List, Some, IfOk, OnOk};
+ghost use Rattle.mt_rows.specs.{Changes.IsChange, declared.record.{Record.{Record as AnyRecord}, Write.{Write as AnyWrite}}, Stamps.stamp_in};
+ghost use Rattle.mt_crashes.specs.Fronts.{replayed};
+ghost use Rattle.mt_recover.specs.{declared.changes.Change.{Change as AnyChange}, Columns.later_than};
+ghost use Rattle.mt_recover.specs.{Waits.{nothing, write_of, StandsFor, over, makes}, Changes.{AreWaiting}};
 
-use mt_rows::{Change as Columns, Key, Record, StampedRow, Write, merge};
+use crate::columns::{LastColumns, Later};
+use mt_rows::{
+    Change as Columns, Column, Key, NamedColumns, Record, Row, StampedRow, Write, merge,
+};
 use std::alloc::{AllocError, Global};
 use std::collections::BTreeMap;
-use std::marker::Model;
-use std::mem;
+use std::mem::size_of;
 
 /// What a record tells of its key, and its stamp.
 #[derive(Drop)]
@@ -22,143 +24,91 @@ pub(crate) struct Change {
     pub write: Write,
 }
 
-impl Change {
-    // Whether it begins anew, whatever stood there: a removal, or a whole row.
-    fn begins(&self) -> bool
-        ensures { result ≡ begins self.now.write }
-    {
-        match &self.write {
-            Write::Removed => true,
-            Write::Whole(_) => true,
-            Write::Changed(_) => false,
-        }
-    }
-}
-
-/// The changes of a key that count so far, in the order in which they came. Seen as these. The last one that begins
-/// anew has the stamp `begun`, 0 if none does, and none has a stamp over `greatest`.
+/// What counts so far of a key's changes: the row that the last one that begins anew left, and its stamp. Over it the
+/// last of each column. If none begins anew, there is no row, and the stamp is 0.
 #[derive(Drop)]
 pub(crate) struct Waiting {
     begun: u64,
-    greatest: u64,
-    changes: Vec<Change>,
+    row: Option<Row>,
+    columns: LastColumns,
 }
 
-impl Model for Waiting {
-    ghost use Rattle.std.specs.Prelude.{List};
-    ghost use Rattle.mt_recover.specs.declared.changes.Change.{Change};
-    ghost use Rattle.mt_recover.specs.Begun.{IsBegunAt, AreUpto};
-
-    ghost Value = { List Change };
-
-    ghost view = { λ w. w.changes.items };
-
-    ghost invariant = { λ w. IsBegunAt w.begun w.changes.items × AreUpto w.greatest w.changes.items };
-}
+// Beside its row and its columns.
+const _: () = prove!(size_of::<Waiting>() == 64);
 
 impl Waiting {
-    // None.
-    fn none(alloc: Global) -> Waiting
-        ensures { result ≡ [] }
+    // Nothing.
+    fn none() -> Waiting
+        ensures { result ≡ nothing }
     {
         Waiting {
             begun: 0,
-            greatest: 0,
-            changes: Vec::new(alloc),
+            row: None,
+            columns: LastColumns::none(),
         }
     }
 
-    // One change more, unless one over it begins anew. If it begins anew and all others are below it, they are let go.
-    fn added(self, change: Change) -> Result<Waiting, AllocError>
-        ensures { IfOk result (λ more. Adds self change more) }
+    // One change more, in whatever order they come.
+    fn add(&mut self, alloc: Global, change: Change) -> Result<(), AllocError>
+        ensures { OnOk result ((cs : List AnyChange) → StandsFor cs self.old → StandsFor (cs ++ change ∷ []) self.new) }
     {
-        let stamp = change.stamp;
-        let begun = self.begun;
-        let greatest = self.greatest;
-        if stamp < begun {
-            return Ok(self);
+        let Change { stamp, write } = change;
+        match write {
+            Write::Removed => {
+                self.begin(stamp, None);
+                Ok(())
+            }
+            Write::Whole(row) => {
+                self.begin(stamp, Some(row));
+                Ok(())
+            }
+            Write::Changed(columns) => self.write(alloc, stamp, &columns),
         }
-        if !change.begins() {
-            return self.followed(change);
+    }
+
+    // One more that begins anew.
+    fn begin(&mut self, stamp: u64, row: Option<Row>)
+        ensures { (cs : List AnyChange) → StandsFor cs self.old → StandsFor (cs ++ record { stamp = stamp; write = write_of row } ∷ []) self.new }
+    {
+        if stamp <= self.begun {
+            return;
         }
-        if greatest < stamp {
-            return self.alone(change);
+        self.begun = stamp;
+        self.row = row;
+        self.columns.keep_over(stamp);
+    }
+
+    // One more that writes columns.
+    fn write(&mut self, alloc: Global, stamp: u64, columns: &Columns) -> Result<(), AllocError>
+        ensures { OnOk result ((cs : List AnyChange) → StandsFor cs self.old → StandsFor (cs ++ record { stamp = stamp; write = AnyWrite.Changed columns.now } ∷ []) self.new) }
+    {
+        let named = columns.columns();
+        if stamp <= self.begun {
+            return Ok(());
         }
-        self.begun_last(change)
+        self.columns.write(alloc, stamp, named)
     }
 
-    // One change more.
-    fn followed(self, change: Change) -> Result<Waiting, AllocError>
-        ensures { IfOk result (λ more. more ≡ self ++ change ∷ []) }
-    {
-        let Waiting {
-            begun,
-            greatest,
-            mut changes,
-        } = self;
-        let greatest = greatest.max(change.stamp);
-        changes.push(change)?;
-        Ok(Waiting {
-            begun,
-            greatest,
-            changes,
-        })
-    }
-
-    // One change more, that begins anew.
-    fn begun_last(self, change: Change) -> Result<Waiting, AllocError>
-        requires { begins change.write ≡ true }
-        ensures { IfOk result (λ more. more ≡ self ++ change ∷ []) }
-    {
-        let Waiting {
-            begun: _,
-            greatest,
-            mut changes,
-        } = self;
-        let stamp = change.stamp;
-        let greatest = greatest.max(stamp);
-        changes.push(change)?;
-        Ok(Waiting {
-            begun: stamp,
-            greatest,
-            changes,
-        })
-    }
-
-    // One change alone, that begins anew.
-    fn alone(self, change: Change) -> Result<Waiting, AllocError>
-        requires { begins change.write ≡ true }
-        ensures { IfOk result (λ more. more ≡ change ∷ []) }
-    {
-        let Waiting {
-            begun: _,
-            greatest: _,
-            mut changes,
-        } = self;
-        let stamp = change.stamp;
-        changes.clear();
-        changes.push(change)?;
-        Ok(Waiting {
-            begun: stamp,
-            greatest: stamp,
-            changes,
-        })
-    }
-
-    /// What stands at the key after these changes, in the order of their stamps, over what stood there.
+    /// What stands at the key after these changes, over what stood there.
     pub(crate) fn applied(
         self,
         alloc: Global,
         old: Option<StampedRow>,
     ) -> Result<Option<StampedRow>, AllocError>
-        ensures { IfOk result (Makes self old) }
+        ensures { IfOk result (λ row. row ≡ makes self old) }
     {
         let Waiting {
-            begun: _,
-            greatest: _,
-            changes,
+            begun,
+            row,
+            columns,
         } = self;
-        all_made(alloc, by_stamp(changes), old)
+        match begun_over(begun, row, old) {
+            Some(row) => {
+                let row = written_over(alloc, columns, row)?;
+                Ok(Some(row))
+            }
+            None => Ok(None),
+        }
     }
 }
 
@@ -175,57 +125,22 @@ pub(crate) fn add(alloc: Global, changes: &mut Changes, change: Record) -> Resul
         key,
         write,
     } = change;
-    let owner = (tenant, key);
     let change = Change { stamp, write };
-    if let Some(waiting) = changes.get_mut(&owner) {
-        let before = mem::replace(waiting, Waiting::none(alloc));
-        *waiting = before.added(change)?;
-        return Ok(());
-    }
-    let waiting = Waiting::none(alloc).added(change)?;
-    changes.insert(owner, waiting)?;
-    Ok(())
+    let entry = changes.entry((tenant, key))?;
+    entry.or_insert(Waiting::none()).add(alloc, change)
 }
 
-// The least stamp first.
-fn by_stamp(changes: Vec<Change>) -> Vec<Change>
-    ensures moved { IsPermutation changes.items result.items }
-    ensures sorted { DontFall (λ (c : AnyChange). c.stamp) 0 result.items }
+// What a change that begins anew leaves, unless the row has its stamp or a later one.
+fn begun_over(begun: u64, row: Option<Row>, old: Option<StampedRow>) -> Option<StampedRow>
+    ensures { result ≡ replayed begun (write_of row) old }
 {
-    let mut changes = changes;
-    changes.sort_unstable_by_key(|change| change.stamp);
-    changes
-}
-
-// What changes make of what stood at a key, one after the other.
-#[tactic(auto, using(crate::proofs::Replayed::replays_more))]
-fn all_made(
-    alloc: Global,
-    changes: Vec<Change>,
-    old: Option<StampedRow>,
-) -> Result<Option<StampedRow>, AllocError>
-    ensures { IfOk result (λ row. row ≡ replays changes.items old) }
-{
-    let mut row = old;
-    for change in changes {
-        row = replayed(alloc, change, row)?;
+    if stamp_in(&old) >= begun {
+        return old;
     }
-    Ok(row)
-}
-
-// What a change makes, unless the row has its stamp or a later one.
-fn replayed(
-    alloc: Global,
-    change: Change,
-    old: Option<StampedRow>,
-) -> Result<Option<StampedRow>, AllocError>
-    ensures { IfOk result (λ row. row ≡ replayed change.stamp change.write old) }
-{
-    let Change { stamp, write } = change;
-    if stamp_in(&old) >= stamp {
-        return Ok(old);
+    match row {
+        Some(row) => Some(StampedRow { stamp: begun, row }),
+        None => None,
     }
-    made(alloc, stamp, write, old)
 }
 
 // The stamp of a row, 0 of none.
@@ -238,36 +153,29 @@ fn stamp_in(row: &Option<StampedRow>) -> u64
     }
 }
 
-// What a change makes.
-fn made(
+// A row after columns were written over it: those with a stamp over its own.
+fn written_over(
     alloc: Global,
-    stamp: u64,
-    write: Write,
-    old: Option<StampedRow>,
-) -> Result<Option<StampedRow>, AllocError>
-    ensures { IfOk result (λ row. row ≡ made stamp write old) }
+    columns: LastColumns,
+    old: StampedRow,
+) -> Result<StampedRow, AllocError>
+    ensures { IfOk result (λ row. Some row ≡ over (later_than old.stamp columns) (Some old)) }
 {
-    match write {
-        Write::Removed => Ok(None),
-        Write::Whole(row) => Ok(Some(StampedRow { stamp, row })),
-        Write::Changed(columns) => changed(alloc, stamp, &columns, old),
+    let Later { stamp, columns } = columns.later(alloc, old.stamp)?;
+    if columns.is_empty() {
+        return Ok(old);
     }
+    let row = merge(alloc, Some(&old.row), &change_of(columns))?;
+    Ok(StampedRow { stamp, row })
 }
 
-// The row after a change of its columns, if there is one.
-fn changed(
-    alloc: Global,
-    stamp: u64,
-    columns: &Columns,
-    old: Option<StampedRow>,
-) -> Result<Option<StampedRow>, AllocError>
-    ensures { IfOk result (λ row. row ≡ made stamp (AnyWrite.Changed columns.now) old) }
+// The change that writes these columns.
+fn change_of(columns: Vec<(u8, Column)>) -> Columns
+    requires { IsChange columns.items }
+    ensures { result ≡ columns.items }
 {
-    match old {
-        Some(old) => {
-            let row = merge(alloc, Some(&old.row), columns)?;
-            Ok(Some(StampedRow { stamp, row }))
-        }
-        None => Ok(None),
+    match Columns::new(NamedColumns::new(columns)) {
+        Ok(change) => change,
+        Err(_) => unreachable!(),
     }
 }

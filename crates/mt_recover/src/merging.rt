@@ -4,7 +4,7 @@ ghost use Rattle.std.specs.{Prelude.{◌≡◌, ◌++◌, ◌∷◌, true, false
 ghost use Rattle.mt_rows.specs.{Rows.Bytes, Stamps.Stamped, Tenants.owned_cmp, TenantPairs.{owner_of, pairs_of}, declared.record.TenantPair.{TenantPair as AnyPair}};
 ghost use Rattle.mt_tape.specs.Histories.{with_row};
 ghost use Rattle.std.specs.FinMap as fin;
-ghost use Rattle.mt_recover.specs.{Pairs.{Ascend, AreBefore, first_order, pair_for}, Changes.{AreAfter, Makes}};
+ghost use Rattle.mt_recover.specs.{Pairs.{Ascend, AreBefore, first_order, pair_for}, Waits.makes, Changes.AreAfter};
 
 use crate::changes::{Changes, Waiting};
 use mt_rows::{Key, StampedRow, TenantPair};
@@ -12,7 +12,8 @@ use std::alloc::{AllocError, Global};
 use std::cmp::Ordering;
 use std::collections::VecDeque;
 
-/// Pairs after changes, by tenant and key. Each pair is moved, or changed by the changes of its key.
+/// Pairs after changes, by tenant and key. Each pair is moved, or changed by the changes of its key. If nothing
+/// changes, the list stays.
 pub(crate) fn merged(
     alloc: Global,
     pairs: Vec<TenantPair>,
@@ -22,6 +23,9 @@ pub(crate) fn merged(
     ensures after { IfOk result (λ ps. AreAfter changes (pairs_of pairs.items) (pairs_of ps.items)) }
     ensures ascend { IfOk result (λ ps. Ascend ps.items) }
 {
+    if changes.is_empty() {
+        return Ok(pairs);
+    }
     let mut left = VecDeque::from(pairs);
     let listed = with_changes(alloc, &mut left, changes)?;
     with_rest(listed, left)
@@ -37,7 +41,7 @@ fn with_changes(
     ensures after { IfOk result (λ listed. AreAfter changes (pairs_of left.old.items) (pairs_of (listed.items ++ left.new.items))) }
     ensures ascend { IfOk result (λ listed. Ascend (listed.items ++ left.new.items)) }
 {
-    let mut listed = Vec::new(alloc);
+    let mut listed = Vec::with_capacity(alloc, left.len().max(changes.len()))?;
     for (owner, waiting) in changes {
         make(alloc, &mut listed, left, owner, waiting)?;
     }
@@ -55,7 +59,7 @@ fn make(
 ) -> Result<(), AllocError>
     requires ascend { Ascend (listed.old.items ++ left.old.items) }
     requires before { AreBefore owner listed.old.items }
-    ensures pairs { OnOk result ((row : Option Stamped) × Makes waiting (fin.get (pairs_of (listed.old.items ++ left.old.items)) owner) row × (pairs_of (listed.new.items ++ left.new.items) ≡ with_row (pairs_of (listed.old.items ++ left.old.items)) owner row)) }
+    ensures pairs { OnOk result ((row : Option Stamped) × (row ≡ makes waiting (fin.get (pairs_of (listed.old.items ++ left.old.items)) owner)) × (pairs_of (listed.new.items ++ left.new.items) ≡ with_row (pairs_of (listed.old.items ++ left.old.items)) owner row)) }
     ensures ascend { OnOk result (Ascend (listed.new.items ++ left.new.items)) }
     ensures before { OnOk result ((next : ℕ × Bytes) → owned_cmp owner next ≡ Less → AreBefore next listed.new.items) }
 {

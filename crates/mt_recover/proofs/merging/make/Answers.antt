@@ -1,7 +1,6 @@
 -- The pairs before the owner are listed, its row is changed, and its pair is listed.
-use Rattle.std.proofs.{Common.{sym, ◌∙◌, subst, Option}, lemmas.Result.on_ok_weaker}
-use Rattle.mt_rows.specs.Stamps.{Stamped}
-use Rattle.mt_recover.{specs.Changes.Makes, proofs.Merges.{is_made, stood_first, taken_first}}
+use Rattle.std.proofs.{Common.{sym, ◌∙◌, ap}, lemmas.Result.on_ok_weaker}
+use Rattle.mt_recover.{specs.Waits.makes, proofs.Merges.{is_made, stood_first, taken_first}}
 use Rattle.mt_recover.proofs.merging.make.Goals as goal
 
 pub returns-clause-pairs : goal.returns-clause-pairs
@@ -15,7 +14,7 @@ returns-clause-pairs c =
     on_ok_weaker c.list_row.result
     (λ more. (
       row,
-      subst (λ (o : Option Stamped). Makes c.args.waiting o row) old c.in_ok-row.ensures,
+      c.in_ok-row.ensures ∙ ap (makes c.args.waiting) old,
       (is_made c.args.owner row c.args.listed.now.items c.args.left.now.items listed left _ _ before.same c.requires.ascend before.before before.all first.1 more).pairs,
     ))
     c.list_row.ensures

@@ -5,7 +5,7 @@ use Rattle.mt_recover.proofs.merging.with_changes.Goals as goal
 pub loop-owner-init : goal.loop-owner-init
 loop-owner-init c =
     let gives = c.into_iter-owner-iterator.ensures.into_iter_gives in
-    none_made c.args.left.now.items c.args.changes.entries _ _ c.new-listed.ensures.items gives.0 c.requires gives.5
+    none_made c.args.left.now.items c.args.changes.entries _ _ c.in_ok-listed.ensures.items gives.0 c.requires gives.5
 
 pub make-requires-clause-before : goal.make-requires-clause-before
 make-requires-clause-before c = before_first _ _ _ _ (c.in-Some.owner, c.in-Some.waiting) _ _ c.in-Some.ensures.steps c.loop-owner.invariant
