@@ -1,18 +1,22 @@
--- What the program takes: three numbers with defaults, a folder, a flag, a number without a default, and one word or more that name tenants. The words
+-- What the program takes: three numbers with defaults, a folder, a flag, three numbers without a default, and one word or more that name tenants. The words
 -- of clap say what a parse of a command line makes of such rules (`Rattle.clap.specs.Words`).
 use Rattle.std.specs.Prelude.{ℕ, List, [], ◌∷◌, Option, Some, codes, unwrap_or, pos, true}
 use Rattle.clap.specs.{Lexer.usize_max, Words.{App, Kinds, Row, Rule, Text, all_of, fault_of, first_of, matches_of, new_app, new_rule, one_of, with_rule}}
-use Rattle.clap.specs.{declared.builder.ArgAction.TheVariants.{Append, Set, SetTrue}, declared.builder.value_parser.ValueParser.TheVariants.Signed}
+use Rattle.clap.specs.{declared.builder.ArgAction.TheVariants.{Append, Set, SetTrue}, declared.builder.value_parser.ValueParser.ValueParser, declared.builder.value_parser.ValueParser.TheVariants.{Signed, Unsigned}}
 
--- an option `--NAME N`, with a number from `least` to `most`, and with these defaults
-abbrev pub number_rule_with : List Text → Text → ℕ → ℕ → Rule
-number_rule_with values name least most = record (new_rule name) {
+-- an option `--NAME N`, whose value this parser takes, and with these defaults
+abbrev pub value_rule : List Text → Text → ValueParser → Rule
+value_rule values name parser = record (new_rule name) {
   long = Some name;
   value_names = 1;
   action = Some Set;
-  parser = Some (Signed (pos least) (pos most));
+  parser = Some parser;
   defaults = values;
 }
+
+-- one with a number from `least` to `most`
+abbrev pub number_rule_with : List Text → Text → ℕ → ℕ → Rule
+number_rule_with values name least most = value_rule values name (Signed (pos least) (pos most))
 
 -- one with its default
 abbrev pub number_rule : Text → ℕ → ℕ → Text → Rule
@@ -42,6 +46,14 @@ create_rule = record (new_rule (codes "create")) { long = Some (codes "create");
 abbrev pub checkpoint_rule : Rule
 checkpoint_rule = number_rule_with [] (codes "checkpoint") 0 4294967295
 
+-- `--checkpoint-bytes B`, which may be left out
+abbrev pub checkpoint_bytes_rule : Rule
+checkpoint_bytes_rule = value_rule [] (codes "checkpoint-bytes") (Unsigned 0 18446744073709551615)
+
+-- `--settle-every M`, which may be left out
+abbrev pub settle_every_rule : Rule
+settle_every_rule = number_rule_with [] (codes "settle-every") 0 4294967295
+
 -- all other words, of which there has to be one
 abbrev pub tenants_rule : Rule
 tenants_rule = record (new_rule (codes "tenants")) {
@@ -58,8 +70,8 @@ with_version app = record app { top = record app.top { has_version = true } }
 -- what the program takes
 unfoldable pub server : App
 server =
-    with_rule (with_rule (with_rule (with_rule (with_rule (with_rule (with_rule (with_version (new_app (codes "mt_server"))) port_rule) workers_rule)
-    sessions_rule) store_rule) create_rule) checkpoint_rule) tenants_rule
+    with_rule (with_rule (with_rule (with_rule (with_rule (with_rule (with_rule (with_rule (with_rule (with_version (new_app (codes "mt_server"))) port_rule)
+    workers_rule) sessions_rule) store_rule) create_rule) checkpoint_rule) checkpoint_bytes_rule) settle_every_rule) tenants_rule
 
 -- what clap finds in a command line, rule by rule; its first word is the program's name
 unfoldable pub found_in : List Text → List Row

@@ -1,3 +1,4 @@
 pub mod CommandLine
 pub mod Faults
+pub mod Matches
 pub mod Reads

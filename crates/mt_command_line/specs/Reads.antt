@@ -1,12 +1,11 @@
 -- What is read from the words of a command line: options, or a fault.
-use Rattle.std.specs.{Prelude.{◌≡◌, ◌⊎◌, ℕ, ◌≤◌, Bool, true, false, List, [], Option, Some, None, Result, Ok, Err, Vec, codes, pos, slice_get}, Global.Global}
+use Rattle.std.specs.{Prelude.{◌≡◌, ◌⊎◌, ℕ, ◌≤◌, Bool, true, false, List, [], Option, Some, None, Result, Ok, Err, Vec, codes, slice_get}, Global.Global}
 use Rattle.std.specs.Str.Parse.{IsNumeral, digits_value, without_leading_plus}
-use Rattle.clap.specs.Words.{IsAmong, IsSignedIn, Row, Text, found_of, kind_of, one_text, rows_of, without_minus}
-use Rattle.clap.specs.{declared.parser.matches.ArgMatches.ArgMatches, declared.parser.matches.Found.Found}
+use Rattle.clap.specs.Words.{IsAmong, Row, Text, kind_of}
 use Rattle.mt_options.specs.{declared.options.Options.Options, declared.options.StorePlace.StorePlace, declared.tenants.TenantQuota.TenantQuota}
 use Rattle.mt_options.specs.Tenants.{AreTenants, IsFirstFault}
 use Rattle.mt_command_line.specs.declared.faults.OptionsFault.{OptionsFault}
-use Rattle.mt_command_line.specs.declared.faults.OptionsFault.TheVariants.{Words, CreateAlone, CheckpointAlone, Malformed, Refused, Memory}
+use Rattle.mt_command_line.specs.declared.faults.OptionsFault.TheVariants.{Words, CreateAlone, CheckpointAlone, CheckpointBytesAlone, SettleEveryAlone, Malformed, Refused, Memory}
 use Rattle.mt_command_line.specs.CommandLine.{faults_in, folder_in, found_in, given_for, tenant_words}
 use Rattle.mt_options.specs.declared.tenants.TenantsFault.TheVariants as tenants_fault
 
@@ -22,22 +21,50 @@ pub record IsFlag (name : Text) (rows : List Row) (is_set : Bool) : Type 0 where
   pub other : given_for name rows ≡ Some (codes "false") → is_set ≡ false
   pub none : given_for name rows ≡ None → is_set ≡ false
 
--- a checkpoint is written after each so many settled answers: the number that is found for `--checkpoint`, or 0 if none is found
-abbrev pub IsCheckpoint : List Row → ℕ → Type 0
-IsCheckpoint rows every = IsGiven (codes "checkpoint") 0 4294967295 rows every ⊎ ((given_for (codes "checkpoint") rows ≡ None) × (every ≡ 0))
+-- the number is the one that is found for the option, up to `most`, or 0 if none is found
+abbrev pub IsGivenOrZero : Text → ℕ → List Row → ℕ → Type 0
+IsGivenOrZero name most rows number = IsGiven name 0 most rows number ⊎ ((given_for name rows ≡ None) × (number ≡ 0))
 
--- The place of a store is the folder that is found for `--store`, with the flag `--create` and the number of `--checkpoint`; where no folder is found there
--- is none, and neither `--create` nor `--checkpoint` is found.
+-- something is found for the option
+abbrev pub IsThere : Text → List Row → Type 0
+IsThere name rows = (text : Text) × (given_for name rows ≡ Some text)
+
+-- The place of a store is the folder that is found for `--store`, with the flag `--create`. When a checkpoint is written, and when all is settled, is found
+-- for three options.
+pub record IsPlace (rows : List Row) (place : StorePlace) : Type 0 where
+  pub folder : folder_in rows ≡ Some place.folder.bytes.items
+  pub create : IsFlag (codes "create") rows place.create
+  pub checkpoint : IsGivenOrZero (codes "checkpoint") 4294967295 rows place.checkpoint
+  pub bytes : IsGivenOrZero (codes "checkpoint-bytes") 18446744073709551615 rows place.checkpoint_bytes
+  pub settle : IsGivenOrZero (codes "settle-every") 4294967295 rows place.settle_every
+
+-- no folder is found, and no `--create`
+abbrev pub NoCreate : List Row → Type 0
+NoCreate rows = (folder_in rows ≡ None) × IsFlag (codes "create") rows false
+
+-- and no `--checkpoint`
+abbrev pub NoCheckpoint : List Row → Type 0
+NoCheckpoint rows = NoCreate rows × (given_for (codes "checkpoint") rows ≡ None)
+
+-- and no `--checkpoint-bytes`
+abbrev pub NoCheckpointBytes : List Row → Type 0
+NoCheckpointBytes rows = NoCheckpoint rows × (given_for (codes "checkpoint-bytes") rows ≡ None)
+
+-- and no `--settle-every`
+abbrev pub NoSettleEvery : List Row → Type 0
+NoSettleEvery rows = NoCheckpointBytes rows × (given_for (codes "settle-every") rows ≡ None)
+
+-- the place of a store is named; if no folder is found there is none, and no option asks for one
 abbrev pub NamesStore : List Row → Option StorePlace → Type 0
-NamesStore rows (Some place) =
-    (folder_in rows ≡ Some place.folder.bytes.items) × IsFlag (codes "create") rows place.create × IsCheckpoint rows place.checkpoint
-NamesStore rows None = (folder_in rows ≡ None) × IsFlag (codes "create") rows false × (given_for (codes "checkpoint") rows ≡ None)
+NamesStore rows (Some place) = IsPlace rows place
+NamesStore rows None = NoSettleEvery rows
 
--- why no store's place is made: `--create` is set and no folder is found; or `--checkpoint` is found and neither of them is; or memory is short
+-- why no store's place is made: no folder is found, and this option is the first that asks for one; or memory is short
 abbrev pub IsStoreFault : List Row → OptionsFault → Type 0
 IsStoreFault rows CreateAlone = (folder_in rows ≡ None) × IsFlag (codes "create") rows true
-IsStoreFault rows CheckpointAlone =
-    (folder_in rows ≡ None) × IsFlag (codes "create") rows false × ((text : Text) × (given_for (codes "checkpoint") rows ≡ Some text))
+IsStoreFault rows CheckpointAlone = NoCreate rows × IsThere (codes "checkpoint") rows
+IsStoreFault rows CheckpointBytesAlone = NoCheckpoint rows × IsThere (codes "checkpoint-bytes") rows
+IsStoreFault rows SettleEveryAlone = NoCheckpointBytes rows × IsThere (codes "settle-every") rows
 IsStoreFault rows Memory = Unit {0}
 IsStoreFault rows fault = ⊥
 
@@ -62,29 +89,13 @@ pub record AsksFor (words : List Text) (options : Options) : Type 0 where
   pub store : NamesStore (found_in words) options.store
   pub tenants : AreTenants (tenant_words (found_in words)) options.tenants.items
 
--- the fault is one that the command line has: one of its options, a `--create` or a `--checkpoint` without a folder, or else the first of its tenants' words
+-- the fault is one that the command line has: one of its options, an option of a store without a folder, or else the first of its tenants' words
 abbrev pub IsTold : List Text → OptionsFault → Type 0
 IsTold words (Words error) = IsAmong (kind_of error) (faults_in words)
 IsTold words CreateAlone = (faults_in words ≡ []) × IsStoreFault (found_in words) CreateAlone
 IsTold words CheckpointAlone = (faults_in words ≡ []) × IsStoreFault (found_in words) CheckpointAlone
+IsTold words CheckpointBytesAlone = (faults_in words ≡ []) × IsStoreFault (found_in words) CheckpointBytesAlone
+IsTold words SettleEveryAlone = (faults_in words ≡ []) × IsStoreFault (found_in words) SettleEveryAlone
 IsTold words (Malformed word before why) = (faults_in words ≡ []) × IsTenantsFault (tenant_words (found_in words)) (Malformed word before why)
 IsTold words (Refused word before refusal) = (faults_in words ≡ []) × IsTenantsFault (tenant_words (found_in words)) (Refused word before refusal)
 IsTold words Memory = Unit {0}
-
--- what clap found for the option is a number from `least` to `most`, as clap reads it
-abbrev pub HasNumber : Found → Text → ℕ → ℕ → Type 0
-HasNumber found name least most = (text : Text) × (one_text found name ≡ Some (without_minus text)) × IsSignedIn (pos least) (pos most) text
-
--- what clap found for the option, if it found anything, is such a number
-abbrev pub MayHaveNumber : Found → Text → ℕ → ℕ → Type 0
-MayHaveNumber found name least most =
-    (found_text : Text) → one_text found name ≡ Some found_text → (text : Text) × (found_text ≡ without_minus text) × IsSignedIn (pos least) (pos most) text
-
--- these are the matches of the command line, which has no fault
-pub record AreMatches (words : List Text) (matches : ArgMatches) : Type 0 where
-  pub faultless : faults_in words ≡ []
-  pub rows : rows_of (found_of matches) ≡ found_in words
-  pub port : HasNumber (found_of matches) (codes "port") 0 65535
-  pub workers : HasNumber (found_of matches) (codes "workers") 1 64
-  pub sessions : HasNumber (found_of matches) (codes "sessions") 0 4294967295
-  pub checkpoint : MayHaveNumber (found_of matches) (codes "checkpoint") 0 4294967295

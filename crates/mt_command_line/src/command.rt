@@ -2,7 +2,7 @@
 
 ghost use Rattle.std.specs.Prelude.{◌≡◌, IfOk, false};
 ghost use Rattle.clap.specs.Words.{app_of, rule_of};
-ghost use Rattle.mt_command_line.specs.CommandLine.{port_rule, workers_rule, sessions_rule, store_rule, create_rule, checkpoint_rule, tenants_rule, server};
+ghost use Rattle.mt_command_line.specs.CommandLine.{port_rule, workers_rule, sessions_rule, store_rule, create_rule, checkpoint_rule, checkpoint_bytes_rule, settle_every_rule, tenants_rule, server};
 
 use clap::{Arg, ArgAction, Command, value_parser};
 use std::alloc::{AllocError, Global};
@@ -88,6 +88,34 @@ fn checkpoint_arg<'a>(alloc: Global) -> Arg<'a>
         .help("Writes a checkpoint after each Kth settled answer; 0, or without it: none")
 }
 
+// `--checkpoint-bytes`.
+fn checkpoint_bytes_arg<'a>(alloc: Global) -> Arg<'a>
+    ensures rule { rule_of result ≡ checkpoint_bytes_rule }
+    ensures local { result.global ≡ false }
+{
+    Arg::new(alloc, "checkpoint-bytes")
+        .long("checkpoint-bytes")
+        .value_name("B")
+        .action(ArgAction::Set)
+        .value_parser(value_parser!(u64))
+        .help(
+            "Writes one also each time that the logs have grown by B bytes; 0, or without it: never",
+        )
+}
+
+// `--settle-every`.
+fn settle_every_arg<'a>(alloc: Global) -> Arg<'a>
+    ensures rule { rule_of result ≡ settle_every_rule }
+    ensures local { result.global ≡ false }
+{
+    Arg::new(alloc, "settle-every")
+        .long("settle-every")
+        .value_name("M")
+        .action(ArgAction::Set)
+        .value_parser(value_parser!(u32))
+        .help("Settles each M milliseconds, if anything was answered; 0, or without it: never")
+}
+
 // The words that name tenants.
 fn tenants_arg<'a>(alloc: Global) -> Arg<'a>
     ensures rule { rule_of result ≡ tenants_rule }
@@ -115,5 +143,7 @@ pub(crate) fn command_of<'a>(alloc: Global) -> Result<Command<'a>, AllocError>
         .arg(store_arg(alloc))?
         .arg(create_arg(alloc))?
         .arg(checkpoint_arg(alloc))?
+        .arg(checkpoint_bytes_arg(alloc))?
+        .arg(settle_every_arg(alloc))?
         .arg(tenants_arg(alloc))
 }

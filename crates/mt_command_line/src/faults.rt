@@ -20,6 +20,10 @@ pub enum OptionsFault {
     CreateAlone,
     /// `--checkpoint` is given without `--store`, and `--create` isn't.
     CheckpointAlone,
+    /// `--checkpoint-bytes` is given without `--store`, and neither of these is.
+    CheckpointBytesAlone,
+    /// `--settle-every` is given without `--store`, and none of these is.
+    SettleEveryAlone,
     /// This word isn't `T:Q`, for this reason. So many of the tenants' words stand before it.
     Malformed {
         word: String,
@@ -47,6 +51,8 @@ impl OptionsFault {
             OptionsFault::Words(error) => { if error.use_stderr() { 2 } else { 0 } }
             OptionsFault::CreateAlone
             | OptionsFault::CheckpointAlone
+            | OptionsFault::CheckpointBytesAlone
+            | OptionsFault::SettleEveryAlone
             | OptionsFault::Malformed { .. }
             | OptionsFault::Refused { .. } => 2,
             OptionsFault::Memory => 1,
@@ -101,6 +107,14 @@ impl fmt::Display for OptionsFault {
             OptionsFault::CheckpointAlone => write!(
                 f,
                 "--checkpoint writes checkpoints of a folder's store, and --store DIR names none"
+            ),
+            OptionsFault::CheckpointBytesAlone => write!(
+                f,
+                "--checkpoint-bytes writes checkpoints of a folder's store, and --store DIR names none"
+            ),
+            OptionsFault::SettleEveryAlone => write!(
+                f,
+                "--settle-every settles a folder's store, and --store DIR names none"
             ),
             OptionsFault::Malformed { word, why, .. } => write!(
                 f,

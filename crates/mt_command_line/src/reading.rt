@@ -1,8 +1,8 @@
 //! Options from the words of a command line.
 
-ghost use Rattle.std.specs.Prelude.{List, ◌≡◌, ◌<◌, Some, IfOk, IfErr, MatchResult, codes, length, map, slice_get};
+ghost use Rattle.std.specs.Prelude.{List, ◌≡◌, ◌<◌, Some, IfOk, IfErr, MatchResult, length, map, slice_get};
 ghost use Rattle.clap.specs.Words.{Text, found_of, rows_of};
-ghost use Rattle.mt_command_line.specs.{CommandLine.tenant_words, Reads.{AreMatches, AsksFor, IsStoreFault, IsTold, MayHaveNumber, Names, NamesStore}};
+ghost use Rattle.mt_command_line.specs.{CommandLine.tenant_words, Matches.{AreMatches, MayHaveNumbers}, Reads.{AsksFor, IsStoreFault, IsTold, Names, NamesStore}};
 
 use crate::command::command_of;
 use crate::faults::OptionsFault;
@@ -47,21 +47,30 @@ fn named_by(alloc: Global, words: &[&str]) -> Result<Vec<TenantQuota>, OptionsFa
     }
 }
 
-// The folder that the matches name for a store, whether it is made anew, and how often a checkpoint is written.
+// The folder that the matches name for a store, whether it is made anew, and when a checkpoint is written and all is settled.
 fn store_of(alloc: Global, matches: &ArgMatches<'_>) -> Result<Option<StorePlace>, OptionsFault>
-    ensures { MayHaveNumber (found_of matches.now) (codes "checkpoint") 0 4294967295
+    ensures { MayHaveNumbers (found_of matches.now)
         → MatchResult result (NamesStore (rows_of (found_of matches.now))) (IsStoreFault (rows_of (found_of matches.now))) }
 {
     let create = matches.get_flag("create");
     let checkpoint = matches.get_one::<u32>("checkpoint");
+    let bytes = matches.get_one::<u64>("checkpoint-bytes");
+    let settle_every = matches.get_one::<u32>("settle-every");
+    let by_answers = checkpoint.is_some();
+    let by_bytes = bytes.is_some();
+    let by_clock = settle_every.is_some();
     match matches.get_str("store") {
         Some(folder) => Ok(Some(StorePlace {
             folder: String::from_str(alloc, folder)?,
             create,
             checkpoint: checkpoint.unwrap_or(0),
+            checkpoint_bytes: bytes.unwrap_or(0),
+            settle_every: settle_every.unwrap_or(0),
         })),
         None if create => Err(OptionsFault::CreateAlone),
-        None if checkpoint.is_some() => Err(OptionsFault::CheckpointAlone),
+        None if by_answers => Err(OptionsFault::CheckpointAlone),
+        None if by_bytes => Err(OptionsFault::CheckpointBytesAlone),
+        None if by_clock => Err(OptionsFault::SettleEveryAlone),
         None => Ok(None),
     }
 }

@@ -1,5 +1,5 @@
-//! What a server is asked to do: where it listens, how many connections it serves, where it keeps its
-//! logs, how often it writes a checkpoint, and which tenants it has, each by a word `T:Q` of a tenant's number and its quota in pairs.
+//! What a server is asked to do: where it listens, how many connections it serves, where it keeps its logs, when it writes
+//! a checkpoint and settles, and which tenants it has, each by a word `T:Q` of a tenant's number and its quota in pairs.
 #![tactic(auto)]
 
 pub mod options;

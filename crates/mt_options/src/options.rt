@@ -7,7 +7,7 @@ use crate::tenants::TenantQuota;
 /// The greatest number of connections that are served at a time.
 pub const MAX_WORKERS: u8 = 64;
 
-/// Where a server keeps its logs, and how often it writes a checkpoint of them.
+/// Where a server keeps its logs, and how often it writes a checkpoint and settles of its own accord.
 #[derive(Drop)]
 pub struct StorePlace {
     /// The folder of the store's files.
@@ -16,6 +16,10 @@ pub struct StorePlace {
     pub create: bool,
     /// A checkpoint is written after each so many settled answers of all workers; 0: none is.
     pub checkpoint: u32,
+    /// One is also written each time that the logs have grown by so many bytes; 0: never for that.
+    pub checkpoint_bytes: u64,
+    /// If anything was answered since the last time, all is settled each so many milliseconds; 0: only if a client asks.
+    pub settle_every: u32,
 }
 
 /// Where a server listens, how much it serves before it ends, what it keeps, and whom it serves.

@@ -14,4 +14,6 @@ returns c =
     let four = c.in_ok-arg-4.ensures.shape c.store_arg.ensures.local ∙ ap₂ with_rule three c.store_arg.ensures.rule in
     let five = c.in_ok-arg-5.ensures.shape c.create_arg.ensures.local ∙ ap₂ with_rule four c.create_arg.ensures.rule in
     let six = c.in_ok-arg-6.ensures.shape c.checkpoint_arg.ensures.local ∙ ap₂ with_rule five c.checkpoint_arg.ensures.rule in
-    IfOk-weaker c.arg-7.result _ _ (λ command added. added.shape c.tenants_arg.ensures.local ∙ ap₂ with_rule six c.tenants_arg.ensures.rule) c.arg-7.ensures
+    let seven = c.in_ok-arg-7.ensures.shape c.checkpoint_bytes_arg.ensures.local ∙ ap₂ with_rule six c.checkpoint_bytes_arg.ensures.rule in
+    let eight = c.in_ok-arg-8.ensures.shape c.settle_every_arg.ensures.local ∙ ap₂ with_rule seven c.settle_every_arg.ensures.rule in
+    IfOk-weaker c.arg-9.result _ _ (λ command added. added.shape c.tenants_arg.ensures.local ∙ ap₂ with_rule eight c.tenants_arg.ensures.rule) c.arg-9.ensures

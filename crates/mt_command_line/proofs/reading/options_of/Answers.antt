@@ -2,7 +2,7 @@ use Rattle.std.{proofs.Common.{◌≡◌, ◌∙◌, ap, arith, codes, rules, su
 use Rattle.clap.specs.Words.{Text, found_of}
 use Rattle.mt_options.specs.Tenants.{AreTenants}
 use Rattle.mt_command_line.specs.declared.faults.OptionsFault.{OptionsFault}
-use Rattle.mt_command_line.specs.declared.faults.OptionsFault.TheVariants.{CreateAlone, CheckpointAlone, Memory}
+use Rattle.mt_command_line.specs.declared.faults.OptionsFault.TheVariants.{CreateAlone, CheckpointAlone, CheckpointBytesAlone, SettleEveryAlone, Memory}
 use Rattle.mt_command_line.{specs.{CommandLine.{faults_in, found_in, tenant_words}, Reads.{IsGiven, IsStoreFault, IsTold, NamesStore}}, proofs.MatchLemmas.number_is}
 use Rattle.mt_command_line.proofs.reading.options_of.Goals as goal
 
@@ -10,13 +10,15 @@ use Rattle.mt_command_line.proofs.reading.options_of.Goals as goal
 told : (words : List Text) (fault : OptionsFault) → faults_in words ≡ [] → IsStoreFault (found_in words) fault → IsTold words fault
 told words CreateAlone faultless is = (faultless, is)
 told words CheckpointAlone faultless is = (faultless, is)
+told words CheckpointBytesAlone faultless is = (faultless, is)
+told words SettleEveryAlone faultless is = (faultless, is)
 told words Memory faultless is = tt
 told words fault faultless is = absurd is
 
 pub returns-in_err-store : goal.returns-in_err-store
 returns-in_err-store c = λ words are.
     let is : c.from_residual.result ≡ Err c.in_err-store.field-0.0 = search rules in
-    rw is (told words c.in_err-store.field-0.0 are.faultless (subst (λ rows. IsStoreFault rows c.in_err-store.field-0.0) are.rows (c.in_err-store.ensures are.checkpoint)))
+    rw is (told words c.in_err-store.field-0.0 are.faultless (subst (λ rows. IsStoreFault rows c.in_err-store.field-0.0) are.rows (c.in_err-store.ensures are.may)))
 
 pub returns : goal.returns
 returns c = λ words are.
@@ -34,6 +36,6 @@ returns c = λ words are.
       port = rw c.unwrap_or.ensures port;
       workers = rw same given;
       sessions = rw c.unwrap_or-3.ensures sessions;
-      store = subst (λ rows. NamesStore rows c.in_ok-store.store) are.rows (c.in_ok-store.ensures are.checkpoint);
+      store = subst (λ rows. NamesStore rows c.in_ok-store.store) are.rows (c.in_ok-store.ensures are.may);
       tenants = subst (λ ws. AreTenants ws c.in_ok-tenants.tenants.items) (ap tenant_words are.rows) c.in_ok-tenants.ensures;
     }

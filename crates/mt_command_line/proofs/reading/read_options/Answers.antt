@@ -1,6 +1,6 @@
 use Rattle.std.proofs.Common.{◌≡◌, ◌∙◌, refl, sym, true, false, inl, inr, subst, arith, codes}
 use Rattle.clap.specs.Words.{app_of, IsAmong, kind_of}
-use Rattle.mt_command_line.{specs.CommandLine.server, proofs.{CommandLemmas.{simple, free, found, faults}, MatchLemmas.parted, RuleLemmas.{number_found, number_if_any}}}
+use Rattle.mt_command_line.{specs.CommandLine.server, proofs.{CommandLemmas.{simple, free, found, faults}, MatchLemmas.parted, RuleLemmas.{large_number_if_any, number_found, number_if_any}}}
 use Rattle.mt_command_line.proofs.reading.read_options.Goals as goal
 
 pub returns-in-Ok : goal.returns-in-Ok
@@ -14,7 +14,12 @@ returns-in-Ok c =
       port = number 0 0 65535 (codes "port") (codes "7411") (omega arith) refl (refl, refl, refl);
       workers = number 1 1 64 (codes "workers") (codes "4") (omega arith) refl (refl, refl, refl);
       sessions = number 2 0 4294967295 (codes "sessions") (codes "0") (omega arith) refl (refl, refl, refl);
-      checkpoint = number_if_any command is c.in-Ok.matches c.in-Ok.ensures.parsed 5 0 4294967295 (codes "checkpoint") (omega arith) refl (refl, refl, refl);
+      may = record {
+        checkpoint = number_if_any command is c.in-Ok.matches c.in-Ok.ensures.parsed 5 0 4294967295 (codes "checkpoint") (omega arith) refl (refl, refl, refl);
+        bytes =
+            large_number_if_any command is c.in-Ok.matches c.in-Ok.ensures.parsed 6 0 18446744073709551615 (codes "checkpoint-bytes") (omega arith) refl (refl, refl, refl);
+        settle = number_if_any command is c.in-Ok.matches c.in-Ok.ensures.parsed 7 0 4294967295 (codes "settle-every") (omega arith) refl (refl, refl, refl);
+      };
     })) in
     record { ok = end.0; err = end.1 }
 
