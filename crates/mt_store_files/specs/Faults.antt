@@ -2,7 +2,7 @@
 use Rattle.std.specs.Prelude.{◌≡◌, ℕ, ◌<◌, Some, None}
 use Rattle.mt_rows.specs.declared.refusal.Refusal.{Refusal}
 use Rattle.mt_store_files.specs.{declared.names.StoreFile.StoreFile, declared.names.StoreFile.TheVariants.{Log, Numbered, Slot}, declared.fault.StoreFault.StoreFault}
-use Rattle.mt_store_files.specs.declared.fault.StoreFault.TheVariants.{InUse, NoFolder, NoLog, System, Memory, LogCount, Refused, RefusedLog}
+use Rattle.mt_store_files.specs.declared.fault.StoreFault.TheVariants.{InUse, NoFolder, NoLog, System, Memory, LogCount, Missing, Refused, RefusedLog}
 use Rattle.mt_rows.specs.declared.refusal.Refusal.TheVariants as refusals
 
 -- the refusal by whose number a fault is told
@@ -13,6 +13,7 @@ refusal_of (NoLog worker counts) = refusals.LogCount
 refusal_of (System file error) = refusals.Device
 refusal_of Memory = refusals.Memory
 refusal_of (LogCount counts) = refusals.LogCount
+refusal_of (Missing files) = refusals.LogCount
 refusal_of (Refused file refusal) = refusal
 refusal_of (RefusedLog worker refusal) = refusal
 
@@ -33,6 +34,11 @@ IsOfFolder NoFolder = Unit {0}
 IsOfFolder (System None error) = Unit {0}
 IsOfFolder Memory = Unit {0}
 IsOfFolder fault = ⊥
+
+-- why a folder isn't synced
+abbrev pub IsOfSync : StoreFault → Type 0
+IsOfSync (System None error) = Unit {0}
+IsOfSync fault = ⊥
 
 -- a file of the log of one of so many workers
 abbrev pub IsOfWorkers : ℕ → StoreFile → Type 0

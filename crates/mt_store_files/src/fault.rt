@@ -31,6 +31,8 @@ pub enum StoreFault {
     Memory,
     /// The logs aren't those that they name themselves.
     LogCount(LogCounts),
+    /// The same, of a store in which these files were missing.
+    Missing(Vec<StoreFile>),
     /// What stands in this file was refused, or that of all logs together.
     Refused(Option<StoreFile>, Refusal),
     /// The log of this worker was refused. Which of its files is the cause isn't known.
@@ -44,8 +46,10 @@ impl StoreFault {
     {
         match self {
             StoreFault::InUse | StoreFault::System(_, _) => Refusal::Device,
-            StoreFault::NoFolder | StoreFault::NoLog(_, _) | StoreFault::LogCount(_) =>
-                Refusal::LogCount,
+            StoreFault::NoFolder
+            | StoreFault::NoLog(_, _)
+            | StoreFault::LogCount(_)
+            | StoreFault::Missing(_) => Refusal::LogCount,
             StoreFault::Memory => Refusal::Memory,
             StoreFault::Refused(_, refusal) | StoreFault::RefusedLog(_, refusal) => *refusal,
         }
@@ -64,6 +68,7 @@ impl StoreFault {
             | StoreFault::NoFolder
             | StoreFault::NoLog(_, _)
             | StoreFault::LogCount(_)
+            | StoreFault::Missing(_)
             | StoreFault::Refused(_, _)
             | StoreFault::RefusedLog(_, _) => 3,
         }
@@ -118,6 +123,23 @@ impl fmt::Display for Place<'_> {
     }
 }
 
+// Files that are missing, which a store had.
+#[derive(Clone, Copy)]
+struct MissingFiles<'a>(&'a str, &'a [StoreFile]);
+
+impl fmt::Display for MissingFiles<'_> {
+    fn fmt<W: fmt::Write>(&self, f: &mut fmt::Formatter<W>) -> fmt::Result {
+        let MissingFiles(folder, files) = *self;
+        let mut before = "";
+        for file in files {
+            write!(f, "{before}{}", Place::File(folder, *file))?;
+            before = ", ";
+        }
+        let is = if files.len() == 1 { "is" } else { "are" };
+        write!(f, " {is} missing, which this store had")
+    }
+}
+
 // A file, or else the folder.
 fn place_of(folder: &str, file: Option<StoreFile>) -> Place<'_> {
     match file {
@@ -157,6 +179,10 @@ impl fmt::Display for FolderFault {
                 "{number}: the logs of '{folder}' aren't all of one store; {counts}: {}",
                 remedy(*counts)
             ),
+            StoreFault::Missing(files) => {
+                let missing = MissingFiles(folder, files.as_slice());
+                write!(f, "{number}: {missing}: {ALL_BACK}")
+            }
             StoreFault::Refused(file, refusal) => {
                 told(f, folder, place_of(folder, *file), *refusal)
             }
@@ -167,12 +193,15 @@ impl fmt::Display for FolderFault {
     }
 }
 
+// What to do about a store of which a file is lost.
+const ALL_BACK: &str = "put all files back from one backup";
+
 // What to do about logs that are missing, or that aren't those of one store.
 fn remedy(counts: LogCounts) -> &'static str {
     if counts.logs == 0 {
         "name the store's folder, or make a new store by --create"
     } else if counts.logs == counts.workers {
-        "put all files back from one backup"
+        ALL_BACK
     } else {
         "start with as many --workers as the store was made with, or put all files back from one backup"
     }

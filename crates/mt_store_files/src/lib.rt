@@ -7,7 +7,11 @@
 pub mod fault;
 pub mod folder;
 pub mod names;
+pub mod os_folder;
+pub mod system;
 
 pub use fault::{FolderFault, LogCounts, StoreFault};
 pub use folder::StoreFolder;
 pub use names::StoreFile;
+pub use os_folder::OsFolder;
+pub use system::FolderSystem;

@@ -2,12 +2,13 @@
 use Rattle.std.specs.Prelude.{◌≡◌, ◌⊎◌, ℕ, ◌+◌, max, Bool, false, List, [], ◌++◌, Option, Some, None, Result, Ok, Err, Vec, slice_get}
 use Rattle.std.specs.Global.{Global}
 use Rattle.mt_rows.specs.{Rows.Bytes, Stamps.Stamped, declared.record.TenantPair.TenantPair, declared.command.Command.Command, declared.reply.Reply.TheVariants.Pairs}
-use Rattle.mt_rows.specs.{declared.refusal.Refusal.Refusal, declared.refusal.Refusal.TheVariants.{Memory, Device, Spent}}
+use Rattle.mt_rows.specs.{declared.refusal.Refusal.Refusal, declared.refusal.Refusal.TheVariants.{Memory, Spent}}
 use Rattle.mt_disk.specs.Disk.{DiskState}
 use Rattle.mt_runs.specs.declared.event.Answer.{Answer}
 use Rattle.mt_pages.specs.{declared.walk.PageWalk.PageWalk, Scans.next_scan, Pages.TakesAt}
 use Rattle.mt_slots.specs.{declared.store_slots.StoreSlots.StoreSlots, declared.checkpointing.Checkpointing.Checkpointing, declared.fault.SlotFault.SlotFault}
-use Rattle.mt_slots.specs.{Places.{refusal_for, given_up}, Calls.{Begins, FailsToBeginIn, Adds, FailsToAddIn, Ends, FailsToEndIn}}
+use Rattle.mt_slots.specs.{Places.{refusal_for, next_slot}, Calls.{Begins, FailsToBeginIn, Adds, FailsToAddIn, Ends, FailsToEndIn, GivesUpIn}}
+use Rattle.mt_stored.specs.{declared.checkpoints.CheckpointStop.CheckpointStop, declared.checkpoints.CheckpointStop.TheVariants.{Slot, Scan}}
 use Rattle.mt_book.specs.{declared.calls.CallFault.CallFault, Periods.{Looked, Period}, Calls.{Calls, asked_by, answers_of}}
 use Rattle.mt_book.specs.declared.calls.CallFault.TheVariants as faults
 
@@ -41,6 +42,11 @@ abbrev pub IsCauseOf : Result Answer CallFault → Refusal → Type 0
 IsCauseOf (Ok answer) refusal = refusal ≡ Memory
 IsCauseOf (Err (faults.Refused cause)) refusal = refusal ≡ cause
 IsCauseOf (Err (faults.Spent ticket)) refusal = refusal ≡ Spent
+
+-- the refusal that tells why a checkpoint was not written
+abbrev pub refusal_in : CheckpointStop → Refusal
+refusal_in (Slot fault) = refusal_for fault.cause
+refusal_in (Scan refusal) = refusal
 
 module _ {S : Type 0} (does : S → Period → S → Type 0) (worker : ℕ) where
   -- the desk showed that so many steps were made
@@ -90,17 +96,19 @@ module _ {S D : Type 0} (does : S → Period → S → Type 0) (worker : ℕ) (i
   AddsToTheEnd old start begun new walk writing = (pairs : List TenantPair) × AddsPages old start begun pairs new walk writing × IsAtTheEnd walk
 
   -- some pages were added; the next one was not shown, and the checkpoint was given up
-  pub record StopsAtScan (old : Scanner S) (start : PageWalk) (begun : Checkpointing D) (refusal : Refusal) (new : Scanner S) (left : StoreSlots D) : Type 0 where
+  pub record StopsAtScan (old : Scanner S) (start : PageWalk) (begun : Checkpointing D) (stop : CheckpointStop) (new : Scanner S) (left : StoreSlots D) : Type 0 where
     pub pairs : List TenantPair
     pub at : Scanner S
     pub walk : PageWalk
     pub writing : Checkpointing D
+    pub refusal : Refusal
     pub adds : AddsPages old start begun pairs at walk writing
     pub none : ShowsNone does worker at walk refusal new
-    pub left_is : left ≡ given_up writing
+    pub gives_up : GivesUpIn is_honest state failures writing left
+    pub cause : stop ≡ Scan refusal
 
   -- some pages were added; the next one was shown, and was not added
-  pub record StopsAtAdd (old : Scanner S) (start : PageWalk) (begun : Checkpointing D) (refusal : Refusal) (new : Scanner S) (left : StoreSlots D) : Type 0 where
+  pub record StopsAtAdd (old : Scanner S) (start : PageWalk) (begun : Checkpointing D) (stop : CheckpointStop) (new : Scanner S) (left : StoreSlots D) : Type 0 where
     pub pairs : List TenantPair
     pub page : List TenantPair
     pub at : Scanner S
@@ -111,11 +119,11 @@ module _ {S D : Type 0} (does : S → Period → S → Type 0) (worker : ℕ) (i
     pub adds : AddsPages old start begun pairs at walk writing
     pub shows : Shows does worker at walk page new on
     pub fails : FailsToAddIn is_honest state failures fault writing left
-    pub cause : refusal ≡ refusal_for fault.cause
+    pub cause : stop ≡ Slot fault
 
   -- not all pages were added
-  abbrev pub StopsAdding : Scanner S → PageWalk → Checkpointing D → Refusal → Scanner S → StoreSlots D → Type 0
-  StopsAdding old start begun refusal new left = StopsAtScan old start begun refusal new left ⊎ StopsAtAdd old start begun refusal new left
+  abbrev pub StopsAdding : Scanner S → PageWalk → Checkpointing D → CheckpointStop → Scanner S → StoreSlots D → Type 0
+  StopsAdding old start begun stop new left = StopsAtScan old start begun stop new left ⊎ StopsAtAdd old start begun stop new left
 
   -- a checkpoint was begun, with the number of steps that the desk showed before the first scan of a walk over these tenants
   pub record BeginsWalk (old : Scanner S) (tenants : List ℕ) (slots : StoreSlots D) (first : ℕ) (at : Scanner S) (start : PageWalk) (begun : Checkpointing D) : Type 0 where
@@ -139,23 +147,25 @@ module _ {S D : Type 0} (does : S → Period → S → Type 0) (worker : ℕ) (i
     pub ends : Ends is_honest state failures writing last left
 
   -- it was not begun
-  pub record StopsAtBegin (old : Scanner S) (slots : StoreSlots D) (refusal : Refusal) (new : Scanner S) (left : StoreSlots D) : Type 0 where
+  pub record StopsAtBegin (old : Scanner S) (slots : StoreSlots D) (stop : CheckpointStop) (new : Scanner S) (left : StoreSlots D) : Type 0 where
     pub first : ℕ
+    pub fault : SlotFault
     pub first_is : Looks does worker old first new
     pub fails : FailsToBeginIn is_honest state failures slots left
-    pub cause : refusal ≡ Device
+    pub slot : fault.slot ≡ next_slot slots.newest
+    pub cause : stop ≡ Slot fault
 
   -- it was begun, and not all of its pages were added
-  pub record StopsInWalk (old : Scanner S) (tenants : List ℕ) (slots : StoreSlots D) (refusal : Refusal) (new : Scanner S) (left : StoreSlots D) : Type 0 where
+  pub record StopsInWalk (old : Scanner S) (tenants : List ℕ) (slots : StoreSlots D) (stop : CheckpointStop) (new : Scanner S) (left : StoreSlots D) : Type 0 where
     pub first : ℕ
     pub looked : Scanner S
     pub start : PageWalk
     pub begun : Checkpointing D
     pub begins : BeginsWalk old tenants slots first looked start begun
-    pub stops : StopsAdding looked start begun refusal new left
+    pub stops : StopsAdding looked start begun stop new left
 
   -- it got all pairs, and was not ended
-  pub record StopsAtEnd (old : Scanner S) (tenants : List ℕ) (slots : StoreSlots D) (refusal : Refusal) (new : Scanner S) (left : StoreSlots D) : Type 0 where
+  pub record StopsAtEnd (old : Scanner S) (tenants : List ℕ) (slots : StoreSlots D) (stop : CheckpointStop) (new : Scanner S) (left : StoreSlots D) : Type 0 where
     pub first : ℕ
     pub last : ℕ
     pub looked : Scanner S
@@ -164,13 +174,14 @@ module _ {S D : Type 0} (does : S → Period → S → Type 0) (worker : ℕ) (i
     pub walk : PageWalk
     pub begun : Checkpointing D
     pub writing : Checkpointing D
+    pub fault : SlotFault
     pub begins : BeginsWalk old tenants slots first looked start begun
     pub adds : AddsToTheEnd looked start begun shown walk writing
     pub last_is : Looks does worker shown last new
-    pub fails : FailsToEndIn is_honest state failures writing last left
-    pub cause : refusal ≡ Device
+    pub fails : FailsToEndIn is_honest state failures fault writing last left
+    pub cause : stop ≡ Slot fault
 
-  -- it was given up, for this refusal
-  abbrev pub GivesUp : Scanner S → List ℕ → StoreSlots D → Refusal → Scanner S → StoreSlots D → Type 0
-  GivesUp old tenants slots refusal new left =
-      StopsAtBegin old slots refusal new left ⊎ StopsInWalk old tenants slots refusal new left ⊎ StopsAtEnd old tenants slots refusal new left
+  -- it was given up, and this stopped it
+  abbrev pub GivesUp : Scanner S → List ℕ → StoreSlots D → CheckpointStop → Scanner S → StoreSlots D → Type 0
+  GivesUp old tenants slots stop new left =
+      StopsAtBegin old slots stop new left ⊎ StopsInWalk old tenants slots stop new left ⊎ StopsAtEnd old tenants slots stop new left

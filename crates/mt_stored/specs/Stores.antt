@@ -14,7 +14,7 @@ use Rattle.mt_turns.specs.Turns.{GivesUpOlder, FailsToGiveUpOlder}
 use Rattle.mt_settle.specs.Turns.{Turn, BroughtUp, BegunNext, GivenUp}
 use Rattle.mt_stored.specs.Begins.{BringsUpAndBegins, FailsToBringUpAndBegin}
 use Rattle.mt_stored.specs.declared.source.OwnState.{OwnState}
-use Rattle.mt_slots.specs.declared.fault.FaultCause.TheVariants as causes
+use Rattle.mt_checkpoint.specs.declared.fault.FaultCause.TheVariants as causes
 
 -- each log is open, and goes up to the last step that was made
 abbrev pub IsSettled : {D : Type 0} → StateView → List (StoreLog D) → Type 0

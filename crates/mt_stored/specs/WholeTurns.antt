@@ -5,7 +5,7 @@ use Rattle.mt_disk.specs.Disk.{DiskState}
 use Rattle.mt_book.specs.Periods.{Period}
 use Rattle.mt_slots.specs.declared.store_slots.StoreSlots.{StoreSlots}
 use Rattle.mt_settle.specs.{Turns.Turn, Settles.{SettlesAll, Settles}, Parts.{TellsBegun, TellsGivenUp}}
-use Rattle.mt_stored.specs.{Checkpoints.{Scanner, WritesCheckpoint, GivesUp}, declared.turns.TurnStop.TurnStop, declared.turns.TurnStop.TheVariants.{Checkpoint, Logs}}
+use Rattle.mt_stored.specs.{Checkpoints.{Scanner, WritesCheckpoint, GivesUp}, declared.turns.TurnStop.TurnStop, declared.turns.TurnStop.TheVariants.{Checkpoint, Logs}, declared.checkpoints.CheckpointStop.CheckpointStop}
 
 -- what a turn of all logs is made over: the logs, the desk with its pass, and the slots
 pub record Parts (K S D : Type 0) : Type 0 where
@@ -54,11 +54,11 @@ module _ {K S D : Type 0} (turns : K → Turn → K → Type 0) (does : S → Pe
     pub same : new ≡ record old { logs = new.logs }
 
   -- all did, and the checkpoint was given up
-  pub record StopsWriting (tenants : List ℕ) (refusal : Refusal) (old new : Parts K S D) : Type 0 where
+  pub record StopsWriting (tenants : List ℕ) (stop : CheckpointStop) (old new : Parts K S D) : Type 0 where
     pub begins : TellsBegun turns generation count old.logs new.logs (Ok tt)
-    pub gives_up : GivesUp does worker is_honest state failures old.desk tenants old.slots refusal new.desk new.slots
+    pub gives_up : GivesUp does worker is_honest state failures old.desk tenants old.slots stop new.desk new.slots
 
   -- The turn is not whole. The checkpoint was given up; or not all logs went to the generation; or it was written, and the turn did not end.
   abbrev pub StopsTurn : List ℕ → TurnStop → Parts K S D → Parts K S D → Type 0
-  StopsTurn tenants (Checkpoint refusal) old new = StopsWriting tenants refusal old new
+  StopsTurn tenants (Checkpoint stop) old new = StopsWriting tenants stop old new
   StopsTurn tenants (Logs refusal) old new = StopsBefore refusal old new ⊎ WritesAnd tenants (Err refusal) old new

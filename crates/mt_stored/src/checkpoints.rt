@@ -7,24 +7,45 @@
 ghost use Rattle.std.specs.{Prelude.{◌≡◌, IfOk, IfErr, IfSome, slice_get}, List.All};
 ghost use Rattle.mt_rows.specs.Commands.{IsKey};
 ghost use Rattle.mt_pages.specs.Pages.{TakesAt};
-ghost use Rattle.mt_stored.specs.Checkpoints.{scanner, TellsPage, AddsToTheEnd, StopsAdding, WritesCheckpoint, GivesUp};
+ghost use Rattle.mt_stored.specs.Checkpoints.{scanner, refusal_in, TellsPage, AddsToTheEnd, StopsAdding, WritesCheckpoint, GivesUp};
 
 use mt_book::{CallFault, Desk, NoGate, Pass, call};
 use mt_disk::Disk;
 use mt_pages::PageWalk;
 use mt_rows::{PairList, Refusal, Reply, TenantPair};
-use mt_slots::{Checkpointing, StoreSlots};
+use mt_slots::{Checkpointing, SlotFault, StoreSlots};
 use std::alloc::{AllocError, Global};
 use std::sync::Wait;
 use std::sync::ledger::Ledger;
 use std::time::Clock;
 
+/// Why a checkpoint was not written.
+#[derive(Clone, Copy, Debug, PartialEq, Eq)]
+pub enum CheckpointStop {
+    /// A call on this slot failed, for this cause.
+    Slot(SlotFault),
+    /// A scan was refused, or memory was.
+    Scan(Refusal),
+}
+
+impl CheckpointStop {
+    /// The refusal that tells it.
+    pub fn refusal(self) -> Refusal
+        ensures { result ≡ refusal_in self }
+    {
+        match self {
+            CheckpointStop::Slot(fault) => fault.cause.refusal(),
+            CheckpointStop::Scan(refusal) => refusal,
+        }
+    }
+}
+
 /// Writes a checkpoint of these tenants' pairs into the slot that doesn't hold the newest one. It begins at the number
 /// of steps that the desk shows before its first scan, and ends at the one that the desk shows after its last. Only if
 /// the tenants rise does the slot have a checkpoint then.
 ///
-/// The slots come back in each case. After an error the newest checkpoint is as before. Errors: `Device`; `Memory`, also
-/// for a scan that is answered so; what refuses a scan; `Spent`.
+/// The slots come back in each case. After an error the newest checkpoint is as before, and what was written is cut.
+/// Errors: what a slot's call failed for; `Memory`, also for a scan that is answered so; what refuses a scan; `Spent`.
 pub fn write_checkpoint<L: Ledger, R: Wait + Clock, D: Desk<L>, K: Disk>(
     rt: &R,
     alloc: Global,
@@ -32,7 +53,7 @@ pub fn write_checkpoint<L: Ledger, R: Wait + Clock, D: Desk<L>, K: Disk>(
     pass: &mut Pass<L>,
     tenants: Vec<u32>,
     slots: StoreSlots<K>,
-) -> Result<StoreSlots<K>, (Refusal, StoreSlots<K>)>
+) -> Result<StoreSlots<K>, (CheckpointStop, StoreSlots<K>)>
     ensures ok { IfOk result (λ left. WritesCheckpoint D.does pass.old.worker K.is_honest K.state K.failures (scanner desk.old pass.old.seen pass.old.share.amount) tenants.items slots (scanner desk.new pass.new.seen pass.new.share.amount) left) }
     ensures err { IfErr result (λ e. GivesUp D.does pass.old.worker K.is_honest K.state K.failures (scanner desk.old pass.old.seen pass.old.share.amount) tenants.items slots e.0 (scanner desk.new pass.new.seen pass.new.share.amount) e.1) }
     ensures worker { pass.new.worker ≡ pass.old.worker }
@@ -41,16 +62,16 @@ pub fn write_checkpoint<L: Ledger, R: Wait + Clock, D: Desk<L>, K: Disk>(
     let first = desk.look(rt).steps;
     let writing = match slots.begin(first) {
         Ok(writing) => writing,
-        Err((_, slots)) => return Err((Refusal::Device, slots)),
+        Err((fault, slots)) => return Err((CheckpointStop::Slot(fault), slots)),
     };
     let writing = match add_pages(rt, alloc, desk, pass, &mut walk, writing) {
         Ok(writing) => writing,
         Err(stopped) => return Err(stopped),
     };
     let last = desk.look(rt).steps;
-    match writing.end(last) {
-        Ok(slots) => Ok(slots),
-        Err((_, slots)) => Err((Refusal::Device, slots)),
+    match writing.end(alloc, last) {
+        Ok((slots, _)) => Ok(slots),
+        Err((fault, slots)) => Err((CheckpointStop::Slot(fault), slots)),
     }
 }
 
@@ -62,7 +83,7 @@ fn add_pages<L: Ledger, R: Wait + Clock, D: Desk<L>, K: Disk>(
     pass: &mut Pass<L>,
     walk: &mut PageWalk,
     writing: Checkpointing<K>,
-) -> Result<Checkpointing<K>, (Refusal, StoreSlots<K>)>
+) -> Result<Checkpointing<K>, (CheckpointStop, StoreSlots<K>)>
     ensures ok { IfOk result (λ more. AddsToTheEnd D.does pass.old.worker K.is_honest K.state K.failures (scanner desk.old pass.old.seen pass.old.share.amount) walk.old writing (scanner desk.new pass.new.seen pass.new.share.amount) walk.new more) }
     ensures err { IfErr result (λ e. StopsAdding D.does pass.old.worker K.is_honest K.state K.failures (scanner desk.old pass.old.seen pass.old.share.amount) walk.old writing e.0 (scanner desk.new pass.new.seen pass.new.share.amount) e.1) }
     ensures worker { pass.new.worker ≡ pass.old.worker }
@@ -72,10 +93,10 @@ fn add_pages<L: Ledger, R: Wait + Clock, D: Desk<L>, K: Disk>(
         match next_page(rt, alloc, desk, pass, walk) {
             Ok(Some(pairs)) => match writing.add(alloc, pairs.as_slice()) {
                 Ok(more) => writing = more,
-                Err((fault, slots)) => return Err((fault.cause.refusal(), slots)),
+                Err((fault, slots)) => return Err((CheckpointStop::Slot(fault), slots)),
             },
             Ok(None) => return Ok(writing),
-            Err(refusal) => return Err((refusal, writing.give_up())),
+            Err(refusal) => return Err((CheckpointStop::Scan(refusal), writing.give_up())),
         }
     }
     unreachable!()

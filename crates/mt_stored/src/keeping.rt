@@ -1,17 +1,12 @@
 //! What a worker keeps its answers in.
 
-ghost use Rattle.std.specs.Prelude.{◌≡◌, ◌+◌, ◌<◌, true, false, IfOk, IfErr, vec_len};
+ghost use Rattle.std.specs.Prelude.{◌≡◌, ◌+◌, ◌<◌, true, false};
 
-use crate::turns::{TurnStop, write_turn};
 use log::Log;
-use mt_book::{Desk, Pass};
-use mt_disk::Disk;
 use mt_rows::Refusal;
 use mt_settle::{Logs, settle};
-use mt_slots::StoreSlots;
 use std::alloc::Global;
 use std::sync::Wait;
-use std::sync::ledger::Ledger;
 use std::time::Clock;
 
 /// After so many answers a worker's own log has a turn, and one log more.
@@ -51,7 +46,7 @@ pub struct Keeper<S: Logs + Drop> {
 }
 
 impl<S: Logs + Drop> Keeper<S> {
-    ghost use Rattle.mt_stored.specs.{Keeping.{Counts, keeping}, Checkpoints.scanner, WholeTurns.{parts, WritesTurn, StopsTurn}};
+    ghost use Rattle.mt_stored.specs.Keeping.{Counts, keeping};
     ghost use Rattle.mt_settle.specs.Settles.{Settles};
 
     /// The keeper of a worker, who has answered nothing yet.
@@ -97,32 +92,5 @@ impl<S: Logs + Drop> Keeper<S> {
         ensures same { (self.new.since ≡ self.old.since) × (self.new.worker ≡ self.old.worker) × (self.new.next ≡ self.old.next) }
     {
         settle(rt, self.alloc, &mut self.logs)
-    }
-    /// Makes a turn of all logs, as `write_turn` does.
-    pub fn write_turn<L: Ledger, R: Wait + Clock + Log, D: Desk<L>, K: Disk>(
-        &mut self,
-        rt: &R,
-        desk: &mut D,
-        pass: &mut Pass<L>,
-        generation: u64,
-        tenants: Vec<u32>,
-        slots: StoreSlots<K>,
-    ) -> Result<StoreSlots<K>, (TurnStop, StoreSlots<K>)>
-        requires some { 0 < vec_len tenants }
-        ensures ok { IfOk result (λ left. WritesTurn S.does D.does pass.old.worker K.is_honest K.state K.failures generation (S.logs self.old.logs) tenants.items (parts self.old.logs (scanner desk.old pass.old.seen pass.old.share.amount) slots) (parts self.new.logs (scanner desk.new pass.new.seen pass.new.share.amount) left)) }
-        ensures err { IfErr result (λ e. StopsTurn S.does D.does pass.old.worker K.is_honest K.state K.failures generation (S.logs self.old.logs) tenants.items e.0 (parts self.old.logs (scanner desk.old pass.old.seen pass.old.share.amount) slots) (parts self.new.logs (scanner desk.new pass.new.seen pass.new.share.amount) e.1)) }
-        ensures worker { pass.new.worker ≡ pass.old.worker }
-        ensures same { (self.new.since ≡ self.old.since) × (self.new.worker ≡ self.old.worker) × (self.new.next ≡ self.old.next) }
-    {
-        write_turn(
-            rt,
-            self.alloc,
-            desk,
-            pass,
-            &mut self.logs,
-            generation,
-            tenants,
-            slots,
-        )
     }
 }

@@ -2,11 +2,12 @@
 //! once a checkpoint was written or given up; each the contract of a function that does nothing.
 
 ghost use Rattle.std.specs.Prelude.{◌≡◌, ◌⊎◌, ◌<◌, ℕ, List, [], ◌∷◌, Option, Some, Ok, length};
-ghost use Rattle.mt_rows.specs.{declared.record.TenantPair.TenantPair, declared.refusal.Refusal.Refusal};
-ghost use Rattle.mt_checkpoint.specs.Checkpoints.{Walk, IsWalk};
+ghost use Rattle.mt_rows.specs.declared.record.TenantPair.{TenantPair};
+ghost use Rattle.mt_checkpoint.specs.Checkpoints.{Walk};
 ghost use Rattle.mt_pages.specs.declared.walk.PageWalk.{PageWalk};
 ghost use Rattle.mt_slots.specs.{declared.store_slots.StoreSlots.StoreSlots, declared.checkpointing.Checkpointing.Checkpointing};
 ghost use Rattle.mt_slots.specs.{Places.{next_slot, with}, Keeps.{Mays, KeepsSlots, or_none}, Calls.Ends};
+ghost use Rattle.mt_stored.specs.declared.checkpoints.CheckpointStop.{CheckpointStop};
 ghost use Rattle.mt_stored.specs.Checkpoints.{Scanner, BeginsWalk, AddsPages, StopsAtBegin, StopsInWalk};
 ghost use Rattle.mt_settle.specs.{Turns.Turn, Settles.Settles};
 ghost use Rattle.mt_store_logs.specs.declared.store_log.StoreLog.{StoreLog};
@@ -31,15 +32,15 @@ pub fn each_log_has_its_turn_in_a_round()
 {}
 
 /// Over disks that keep the rules: a checkpoint that was written surely stands in the slot that did not have the newest
-/// one, if it is a walk. One that was given up before its end leaves none there more. Of the other slot a crash may
+/// one. One that was given up before its end leaves none there more. Of the other slot a crash may
 /// leave what it might before.
 pub fn a_checkpoint_that_is_written_stands_in_its_slot<L: Ledger, S: Desk<L>, D: Disk>()
     ensures written { (worker : ℕ) (mays : Mays) (old looked shown : Scanner S) (tenants : List ℕ) (slots left : StoreSlots D) (start walk : PageWalk) (begun writing : Checkpointing D) (w : Walk)
         → KeepsSlots D.is_honest D.state D.failures mays slots → BeginsWalk S.does worker D.is_honest D.state D.failures old tenants slots w.first looked start begun
-        → AddsPages S.does worker D.is_honest D.state D.failures looked start begun w.pairs shown walk writing → IsWalk w → Ends D.is_honest D.state D.failures writing w.last left
+        → AddsPages S.does worker D.is_honest D.state D.failures looked start begun w.pairs shown walk writing → Ends D.is_honest D.state D.failures writing w.last left
         → KeepsSlots D.is_honest D.state D.failures (with (next_slot slots.newest) (Some w ∷ []) (or_none (next_slot slots.newest) mays)) left }
-    ensures given_up { (worker : ℕ) (mays : Mays) (old new : Scanner S) (tenants : List ℕ) (slots left : StoreSlots D) (refusal : Refusal)
+    ensures given_up { (worker : ℕ) (mays : Mays) (old new : Scanner S) (tenants : List ℕ) (slots left : StoreSlots D) (stop : CheckpointStop)
         → KeepsSlots D.is_honest D.state D.failures mays slots
-        → StopsAtBegin S.does worker D.is_honest D.state D.failures old slots refusal new left ⊎ StopsInWalk S.does worker D.is_honest D.state D.failures old tenants slots refusal new left
+        → StopsAtBegin S.does worker D.is_honest D.state D.failures old slots stop new left ⊎ StopsInWalk S.does worker D.is_honest D.state D.failures old tenants slots stop new left
         → KeepsSlots D.is_honest D.state D.failures (or_none (next_slot slots.newest) mays) left }
 {}

@@ -20,7 +20,7 @@ pub mod turns;
 
 pub use beginning::bring_up_and_begin;
 pub use changes::{LogChange, change_of};
-pub use checkpoints::write_checkpoint;
+pub use checkpoints::{CheckpointStop, write_checkpoint};
 pub use checks::{Checks, DueTurn};
 pub use keeping::{FLUSH_ANSWERS, Keeper};
 pub use shared::{SharedLogs, locked_logs, unlocked_logs};

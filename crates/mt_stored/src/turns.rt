@@ -3,7 +3,7 @@
 ghost use Rattle.std.specs.Prelude.{◌≡◌, ◌<◌, IfOk, IfErr, vec_len};
 ghost use Rattle.mt_stored.specs.{Checkpoints.scanner, WholeTurns.{parts, TellsEnd, TellsOlder, WritesTurn, StopsTurn}};
 
-use crate::checkpoints::write_checkpoint;
+use crate::checkpoints::{CheckpointStop, write_checkpoint};
 use log::Log;
 use mt_book::{Desk, Pass};
 use mt_disk::Disk;
@@ -19,7 +19,7 @@ use std::time::Clock;
 #[derive(Clone, Copy, Debug, PartialEq, Eq)]
 pub enum TurnStop {
     /// The checkpoint was given up.
-    Checkpoint(Refusal),
+    Checkpoint(CheckpointStop),
     /// A log did not go to the generation, or it was not settled, or its older one was not given up.
     Logs(Refusal),
 }
@@ -53,7 +53,7 @@ pub fn write_turn<L: Ledger, R: Wait + Clock + Log, D: Desk<L>, S: Logs, K: Disk
     }
     let slots = match write_checkpoint(rt, alloc, desk, pass, tenants, slots) {
         Ok(slots) => slots,
-        Err((refusal, slots)) => return Err((TurnStop::Checkpoint(refusal), slots)),
+        Err((stop, slots)) => return Err((TurnStop::Checkpoint(stop), slots)),
     };
     match settle_and_give_up(rt, alloc, logs, slots.owed()) {
         Ok(()) => Ok(slots),

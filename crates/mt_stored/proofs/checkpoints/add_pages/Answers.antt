@@ -37,7 +37,7 @@ returns-in-Err-add-clause-err g c =
       adds = before.3.1;
       shows = subst (λ w. Shows g.D.Desk.does w old c.loop.walk page new c.next_page.new.walk) before.2 told;
       fails = c.in-Err-add.ensures.err;
-      cause = c.refusal.ensures;
+      cause = refl;
     })
 
 pub returns-in-Err-clause-err : goal.returns-in-Err-clause-err
@@ -50,7 +50,9 @@ returns-in-Err-clause-err g c =
       at = old;
       walk = c.loop.walk;
       writing = c.loop.writing;
+      refusal = c.in-Err.refusal;
       adds = before.3.1;
       none = subst (λ w. ShowsNone g.D.Desk.does w old c.loop.walk c.in-Err.refusal new) before.2 c.in-Err.ensures.tells;
-      left_is = c.give_up.ensures;
+      gives_up = c.give_up.ensures;
+      cause = refl;
     })

@@ -69,6 +69,7 @@ returns-clause-err g c = inr (inr (record {
   };
   adds = c.in-Ok-add_pages.ensures.ok;
   last_is = record { logs = c.look-last.result.logs; looked = c.look-last.ensures; same = refl };
+  fault = c.in-Err-end.fault;
   fails = c.in-Err-end.ensures.err;
   cause = refl;
 }))
