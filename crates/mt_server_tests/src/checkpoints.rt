@@ -89,55 +89,97 @@ fn expect_checkpoint<R: Files<File = File> + Alloc + Abort>(
 }
 
 // After each settled answer a turn is made: a checkpoint is written, into the slot that doesn't hold the newest one, between
-// the beginning of the next log and the end of the older one. A start uses it: the pair is in no log any more.
+// the beginning of the next log and the end of the older one. A start uses it: the pair is in no log any more. It is the same
+// if a turn is due each time that the logs have grown by a byte.
 #[test]
 fn each_settled_answer_writes_a_checkpoint(rt: HostRuntime) {
-    let alloc = rt.alloc();
-    let _ = fs::remove_dir_all(&rt, FOLDER);
-    let new =
-        "mt_server --workers 1 --store mt_server_tests_checks --create --checkpoint 1 --sessions 1 7:100";
-    serve(&rt, alloc, new, Scene::Settles);
-    let (first, last) = expect_checkpoint(&rt, alloc, CHECK_0);
-    assert_eq!(rt; first, 6);
+    for due in ["--checkpoint 1", "--checkpoint-bytes 1"] {
+        expect_turns(&rt, rt.alloc(), due);
+    }
+}
+
+// The words of a server of this store that serves one session.
+fn words(rt: &impl Abort, alloc: Global, more: &str) -> String {
+    let line = format!(in alloc;
+        "mt_server --workers 1 --store {FOLDER} --sessions 1 {more} 7:100"
+    );
+    line.expect(rt, "memory")
+}
+
+fn expect_turns<R>(rt: &R, alloc: Global, due: &str)
+where
+    R: Net<Listener = TcpListener, Stream = TcpStream>
+        + Files<File = File>
+        + Alloc
+        + Threads
+        + Wait
+        + Clock
+        + Log
+        + Abort
+        + Sync,
+{
+    let _ = fs::remove_dir_all(rt, FOLDER);
+    let create = format!(in alloc; "--create {due}").expect(rt, "memory");
+    let new = words(rt, alloc, create.as_str());
+    serve(rt, alloc, new.as_str(), Scene::Settles);
+    let (first, last) = expect_checkpoint(rt, alloc, CHECK_0);
+    assert_eq!(rt; first, 6, "{due}");
     assert!(rt; first < last);
     let last_bytes = last.to_be_bytes();
     let head = b"\x01MTCKP\x02\x00\x00\x00\x00\x00\x00\x00\x06";
     let entry = b"\x01\x00\x00\x00\x07\x00\x01k\x00\x00\x00\x00\x00\x00\x00\x05\x01\x00\x01v";
-    expect_file(&rt, CHECK_0, &[head, entry, b"\x02", &last_bytes]);
+    expect_file(rt, CHECK_0, &[head, entry, b"\x02", &last_bytes]);
     // The steps of the walk alone.
     let mark = last.to_be_bytes();
     let header =
         b"\x01MTLOG\x03\x00\x01\x00\x00\x00\x00\x00\x00\x00\x01\x00\x00\x00\x00\x00\x00\x00\x06";
     let batch = b"\x01\x00\x00\x00\x15\x02\x00\x00\x00\x00\x00\x00\x00\x06";
     let end = b"\x00\x00\x00\x00\x00";
-    expect_file(&rt, ODD, &[header, batch, &mark, end]);
+    expect_file(rt, ODD, &[header, batch, &mark, end]);
     for path in [PLAIN, EVEN, CHECK_1] {
-        expect_file(&rt, path, &[SPARE]);
+        expect_file(rt, path, &[SPARE]);
     }
-    let again =
-        "mt_server --workers 1 --store mt_server_tests_checks --checkpoint 1 --sessions 1 7:100";
-    serve(&rt, alloc, again, Scene::ReadsAndSettles);
-    assert_eq!(rt; expect_checkpoint(&rt, alloc, CHECK_0), (first, last));
-    let (newer, newest) = expect_checkpoint(&rt, alloc, CHECK_1);
+    let again = words(rt, alloc, due);
+    serve(rt, alloc, again.as_str(), Scene::ReadsAndSettles);
+    assert_eq!(rt; expect_checkpoint(rt, alloc, CHECK_0), (first, last));
+    let (newer, newest) = expect_checkpoint(rt, alloc, CHECK_1);
     assert!(rt; last < newer && newer < newest);
     // One more, from which the slot of the older one is written over.
-    serve(&rt, alloc, again, Scene::ReadsAndSettles);
-    assert_eq!(rt; expect_checkpoint(&rt, alloc, CHECK_1), (newer, newest));
-    let (later, _) = expect_checkpoint(&rt, alloc, CHECK_0);
+    serve(rt, alloc, again.as_str(), Scene::ReadsAndSettles);
+    assert_eq!(rt; expect_checkpoint(rt, alloc, CHECK_1), (newer, newest));
+    let (later, _) = expect_checkpoint(rt, alloc, CHECK_0);
     assert!(rt; newest < later);
-    let _ = fs::remove_dir_all(&rt, FOLDER);
+    let _ = fs::remove_dir_all(rt, FOLDER);
 }
 
 // Twice what is put between two turns, at 21 bytes each.
 const SHORT: usize = 4 * PUTS * 21;
 
-// A file has the log of this generation; how long it is.
-fn len_of_log<R: Files<File = File> + Alloc + Abort>(rt: &R, path: &str, generation: u64) -> usize {
+// How long a file is, if it has a log of this generation.
+fn len_of_log<R: Files<File = File> + Alloc + Abort>(
+    rt: &R,
+    path: &str,
+    generation: u64,
+) -> Option<usize> {
     let image = fs::read(rt, path).expect(rt, "a file");
     let low = generation.to_be_bytes()[7];
     let is_begun = image.starts_with(b"\x01MTLOG\x03") && image.get(16) == Some(&low);
-    assert!(rt; is_begun, "{path}, {generation}");
-    image.len()
+    if is_begun { Some(image.len()) } else { None }
+}
+
+// The generation of worker 0's log, which is one of these.
+fn generation_among<R: Files<File = File> + Alloc + Abort>(rt: &R, least: u64, most: u64) -> u64 {
+    for generation in least..=most {
+        let path = if generation % 2 == 0 {
+            "mt_server_tests_turns/wal-00-0"
+        } else {
+            "mt_server_tests_turns/wal-00-1"
+        };
+        if len_of_log(rt, path, generation).is_some() {
+            return generation;
+        }
+    }
+    panic!(rt; "no log of generation {least} to {most}")
 }
 
 // The logs of this generation stand in the files of both workers, and no others. They are short.
@@ -156,13 +198,14 @@ fn expect_generation<R: Files<File = File> + Alloc + Abort>(
         let older = format!(in alloc; "{plain}-{other}").expect(rt, "memory");
         expect_file(rt, plain, &[SPARE]);
         expect_file(rt, older.as_str(), &[SPARE]);
-        len = len.saturating_add(len_of_log(rt, last.as_str(), generation));
+        let own = len_of_log(rt, last.as_str(), generation);
+        len = len.saturating_add(own.expect(rt, "a log"));
     }
     assert!(rt; len < SHORT, "{generation}: {len} bytes");
 }
 
-// A turn is made after each second settled answer, and goes to the next generation, also after a start. After each start all
-// that was settled is found.
+// A turn is made after each second settled answer, or after more if these come while one is made. It goes to the next
+// generation, also after a start. After each start all that was settled is found.
 #[test]
 fn turns_follow_each_other_and_keep_the_logs_short(rt: HostRuntime) {
     let alloc = rt.alloc();
@@ -172,9 +215,13 @@ fn turns_follow_each_other_and_keep_the_logs_short(rt: HostRuntime) {
     serve(&rt, alloc, new, Scene::Settles);
     let again =
         "mt_server --workers 2 --store mt_server_tests_turns --checkpoint 2 --sessions 1 7:100";
-    for (times, generation) in [(2, 1), (6, 4), (21, 14)] {
+    let mut last = 0u64;
+    for times in [2, 6, 21u8] {
         serve(&rt, alloc, again, Scene::Overwrites(times));
-        expect_generation(&rt, alloc, generation);
+        let most = last.saturating_add(u64::from(times / 2));
+        let least = last.saturating_add(1);
+        last = generation_among(&rt, least, most);
+        expect_generation(&rt, alloc, last);
         serve(&rt, alloc, again, Scene::ReadsBoth);
     }
     let _ = fs::remove_dir_all(&rt, "mt_server_tests_turns");

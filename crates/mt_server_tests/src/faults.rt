@@ -13,6 +13,13 @@ fn faults_name_the_folder(rt: HostRuntime) -> Result<(), Fail> {
     let faults = [
         (StoreFault::Memory, "E2: out of memory"),
         (
+            StoreFault::Missing(vec![in rt.alloc();
+                StoreFile::Log(0),
+                StoreFile::Slot(Slot::First),
+            ]?),
+            "E15: 'a/b/wal-00', 'a/b/check-0' are missing, which this store had: put all files back from one backup",
+        ),
+        (
             StoreFault::Refused(Some(StoreFile::Log(63)), Refusal::Device),
             "E10: 'a/b/wal-63': the device failed: see what the system says of it, and start again",
         ),

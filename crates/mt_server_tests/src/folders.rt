@@ -277,7 +277,7 @@ fn image_with(alloc: Global, log: &[u8], edits: Edits, len: usize) -> Result<Vec
 }
 
 // A store in the folder `mt_server_tests_bad` whose plain files are replaced by such ones is refused so. It has no numbered
-// ones, as a store of an older server, and gets them before that.
+// ones and no slots, as a store of an older server, and has none after that either.
 fn expect_refused<R: Files<File = File> + Alloc + Clock + Log + Abort>(
     rt: &R,
     alloc: Global,
@@ -296,35 +296,30 @@ fn expect_refused<R: Files<File = File> + Alloc + Clock + Log + Abort>(
         let image = image_with(alloc, LOG, edits, len).expect(rt, "memory");
         fs::write(rt, path.as_str(), image.as_slice()).expect(rt, "a file");
     }
-    for worker in 0..workers {
-        remove_numbered(rt, alloc, worker);
+    let spares = spares_of(alloc, workers).expect(rt, "memory");
+    for path in &spares {
+        fs::remove_file(rt, path.as_str()).expect(rt, "a file");
     }
     let line = new.strip_suffix(" --create").unwrap_or("");
     expect_told(rt, alloc, line, 3, told);
-    for worker in 0..workers {
-        expect_spare(rt, alloc, worker);
+    for path in &spares {
+        assert!(rt;
+            !fs::exists(rt, path.as_str()).expect(rt, "a path"),
+            "{path}"
+        );
     }
 }
 
-// The paths of the numbered files of one of the first ten workers in that folder.
-fn numbered_of(alloc: Global, worker: usize) -> Result<[String; 2], AllocError> {
-    let even = format!(in alloc; "mt_server_tests_bad/wal-0{worker}-0")?;
-    let odd = format!(in alloc; "mt_server_tests_bad/wal-0{worker}-1")?;
-    Ok([even, odd])
-}
-
-// Removes the numbered files of a worker.
-fn remove_numbered<R: Files<File = File> + Abort>(rt: &R, alloc: Global, worker: usize) {
-    let [even, odd] = numbered_of(alloc, worker).expect(rt, "memory");
-    fs::remove_file(rt, even.as_str()).expect(rt, "a file");
-    fs::remove_file(rt, odd.as_str()).expect(rt, "a file");
-}
-
-// The numbered files of a worker are spare.
-fn expect_spare<R: Files<File = File> + Alloc + Abort>(rt: &R, alloc: Global, worker: usize) {
-    let [even, odd] = numbered_of(alloc, worker).expect(rt, "memory");
-    expect_file(rt, even.as_str(), &[SPARE]);
-    expect_file(rt, odd.as_str(), &[SPARE]);
+// The paths of the numbered files of up to ten workers, and of the slots, in that folder.
+fn spares_of(alloc: Global, workers: usize) -> Result<Vec<String>, AllocError> {
+    let mut paths = Vec::new(alloc);
+    for half in 0..2 {
+        paths.push(format!(in alloc; "mt_server_tests_bad/check-{half}")?)?;
+        for worker in 0..workers {
+            paths.push(format!(in alloc; "mt_server_tests_bad/wal-0{worker}-{half}")?)?;
+        }
+    }
+    Ok(paths)
 }
 
 // A store in that folder with the log `LOG` and such a numbered file is refused so.
@@ -362,6 +357,47 @@ fn hostile_logs_are_refused(rt: HostRuntime) -> Result<(), Fail> {
         expect_numbered_refused(&rt, alloc, numbered, edits, len, told);
     }
     fs::remove_dir_all(&rt, "mt_server_tests_bad")?;
+    Ok(())
+}
+
+// What the plain file of the only worker has, and its odd numbered one; and which file is missing without which the logs are
+// no set.
+const MISSING: [(&[u8], &[u8], &str); 3] = [
+    (LOG, NEXT_LOG, "mt_server_tests_missing/wal-00"),
+    (SPARE, NEXT_LOG, "mt_server_tests_missing/wal-00-1"),
+    (SPARE, NEXT_LOG, "mt_server_tests_missing/check-1"),
+];
+
+// A start that a missing file refuses names it, and leaves the folder as it was.
+#[test]
+fn a_missing_file_is_named_and_stays_missing(rt: HostRuntime) -> Result<(), Fail> {
+    let alloc = rt.alloc();
+    let _ = fs::remove_dir_all(&rt, "mt_server_tests_missing");
+    let new = "mt_server --workers 1 --store mt_server_tests_missing --create 7:1";
+    for (plain, odd, missing) in MISSING {
+        expect_told(&rt, alloc, new, 0, "");
+        fs::write(&rt, "mt_server_tests_missing/wal-00", plain)?;
+        fs::write(&rt, "mt_server_tests_missing/wal-00-1", odd)?;
+        fs::remove_file(&rt, missing)?;
+        let told = format!(in alloc;
+            "E15: '{missing}' is missing, which this store had: put all files back from one backup"
+        )?;
+        let line = "mt_server --workers 1 --store mt_server_tests_missing 7:1";
+        expect_told(&rt, alloc, line, 3, told.as_str());
+        assert!(rt; !fs::exists(&rt, missing)?, "{missing}");
+        for (path, bytes) in [
+            ("mt_server_tests_missing/wal-00", plain),
+            ("mt_server_tests_missing/wal-00-0", SPARE),
+            ("mt_server_tests_missing/wal-00-1", odd),
+            ("mt_server_tests_missing/check-0", SPARE),
+            ("mt_server_tests_missing/check-1", SPARE),
+        ] {
+            if path != missing {
+                expect_file(&rt, path, &[bytes]);
+            }
+        }
+    }
+    fs::remove_dir_all(&rt, "mt_server_tests_missing")?;
     Ok(())
 }
 

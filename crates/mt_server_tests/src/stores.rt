@@ -18,13 +18,14 @@ use mt_service::run_server;
 use mt_slots::StoreSlots;
 use mt_stored::Store;
 use std::alloc::{AllocError, Global};
+use std::io::Read;
 use std::marker::{Brand, Send, Sync};
 use std::net::{Net, TcpListener, TcpStream};
 use std::process::Abort;
 use std::sync::Wait;
 use std::sync::ledger::{Blank, Ledger};
 use std::thread::Threads;
-use std::time::Clock;
+use std::time::{Clock, Duration};
 use std::{io, thread};
 
 // Nobody may have pairs.
@@ -164,6 +165,8 @@ pub(crate) enum Scene {
     Overwrites(u8),
     /// It reads and puts, while one number is left or none, and settles.
     FindsAllSpent,
+    /// It puts, and after a while it puts another column.
+    PutsAfterAWhile,
 }
 
 // Plays a scene; whether the client was told what it should be.
@@ -204,7 +207,22 @@ fn play(scene: Scene, client: TcpStream) -> io::Result<bool> {
                 (SETTLE, SETTLED_LAST),
             ],
         ),
+        Scene::PutsAfterAWhile => Ok(
+            are_told(&client, &[(OPEN, OPENED), (PUT, NEW)])?
+                && waits(&client)?
+                && is_told(&client, PUT_OTHER, REPLACED)?,
+        ),
     }
+}
+
+// Waits for half a second, in which the client is told nothing.
+fn waits(client: &TcpStream) -> io::Result<bool> {
+    client.set_read_timeout(Some(Duration::from_millis(500)))?;
+    let mut reader = client;
+    let mut room = [0u8; 1];
+    let told = reader.read(&mut room);
+    client.set_read_timeout(None)?;
+    Ok(told.is_err())
 }
 
 /// So many times it puts each time.
@@ -308,6 +326,21 @@ fn what_was_put_is_in_the_log(rt: HostRuntime) {
         let left = serve_scene::<Brand, _, _>(&rt, alloc, blank, store, options, scene);
         assert_eq!(rt; image_of(&rt, alloc, left).as_slice(), LOG, "{fail}");
     }
+}
+
+// What nobody settles is in the log before more is put, since the server settles by the clock.
+#[test]
+fn a_server_settles_by_the_clock(rt: HostRuntime) {
+    let alloc = rt.alloc();
+    let store = new_store(&rt, alloc, 1, &[]);
+    let line =
+        "mt_server --port 0 --workers 1 --sessions 1 --store in_memory --settle-every 5 7:100";
+    let options = options_of(&rt, alloc, line);
+    let scene = Scene::PutsAfterAWhile;
+    let left = serve_scene::<Brand, _, _>(&rt, alloc, Blank::new(65_536), store, options, scene);
+    let image = image_of(&rt, alloc, left);
+    let first = LOG.split_last().map(|(_, front)| front).unwrap_or(&[]);
+    assert!(rt; image.starts_with(first) && image.len() > LOG.len());
 }
 
 // A server starts twice from a log, and each time its client is told the same. The log grows behind its last batch.

@@ -54,21 +54,22 @@ fn words_are_read(rt: HostRuntime) -> Result<(), Fail> {
     Ok(())
 }
 
-// The folder of a line's store, whether it is made anew, and how often a checkpoint is written.
+// The folder of a line's store, whether it is made anew, and when a checkpoint is written and all is settled.
 fn expect_store<R: Abort>(
     rt: &R,
     alloc: Global,
     line: &str,
     folder: &str,
     create: bool,
-    checkpoint: u32,
+    when: (u32, u64, u32),
 ) {
     let options = options_of(rt, alloc, line);
     match &options.store {
         Some(place) => {
             assert_eq!(rt; place.folder.as_str(), folder, "{line}");
             assert_eq!(rt; place.create, create, "{line}");
-            assert_eq!(rt; place.checkpoint, checkpoint, "{line}");
+            let found = (place.checkpoint, place.checkpoint_bytes, place.settle_every);
+            assert_eq!(rt; found, when, "{line}");
         }
         None => panic!(rt; "{line}: no store"),
     }
@@ -78,29 +79,35 @@ fn expect_store<R: Abort>(
 fn stores_are_named(rt: HostRuntime) {
     let alloc = rt.alloc();
     let lines = [
-        ("mt_server --store here 7:1", "here", false, 0),
-        ("mt_server 7:1 --create --store=a/b", "a/b", true, 0),
+        ("mt_server --store here 7:1", "here", false, (0, 0, 0)),
+        ("mt_server 7:1 --create --store=a/b", "a/b", true, (0, 0, 0)),
         (
-            "mt_server --checkpoint 0 --store here 7:1",
+            "mt_server --checkpoint 0 --store here --checkpoint-bytes 1 7:1",
             "here",
             false,
-            0,
+            (0, 1, 0),
         ),
         (
             "mt_server --store here --checkpoint=4294967295 7:1 --create",
             "here",
             true,
-            4_294_967_295,
+            (4_294_967_295, 0, 0),
+        ),
+        (
+            "mt_server --store here --settle-every 4294967295 --checkpoint-bytes 18446744073709551615 7:1",
+            "here",
+            false,
+            (0, u64::MAX, 4_294_967_295),
         ),
     ];
-    for (line, folder, create, checkpoint) in lines {
-        expect_store(&rt, alloc, line, folder, create, checkpoint);
+    for (line, folder, create, when) in lines {
+        expect_store(&rt, alloc, line, folder, create, when);
     }
 }
 
 // The words after the program's, the status, and how what is said begins. A fault names the word, what is wrong with it,
 // and its bounds.
-const REFUSED: [&str; 29] = [
+const REFUSED: [&str; 34] = [
     "7:0 => 2: E7: '7:0': a quota is 1 to 1048576 pairs",
     "8:1 7:1048577 => 2: E7: '7:1048577': a quota is 1 to 1048576 pairs",
     "--store here 7:0 => 2: E7: '7:0': a quota is 1 to 1048576 pairs",
@@ -116,12 +123,17 @@ const REFUSED: [&str; 29] = [
     "--create 7:0 => 2: --create makes the logs of a folder anew, and --store DIR names none",
     "--create --checkpoint 1 7:1 => 2: --create makes the logs of a folder anew, and --store DIR names none",
     "--checkpoint 0 7:0 => 2: --checkpoint writes checkpoints of a folder's store, and --store DIR names none",
+    "--checkpoint 0 --checkpoint-bytes 1 7:1 => 2: --checkpoint writes checkpoints of a folder's store, and --store DIR names none",
+    "--settle-every 1 --checkpoint-bytes 0 7:0 => 2: --checkpoint-bytes writes checkpoints of a folder's store, and --store DIR names none",
+    "--settle-every 0 7:0 => 2: --settle-every settles a folder's store, and --store DIR names none",
     "--port 65536 7:1 => 2: error: invalid value '65536' for '--port <P>': 65536 is not in 0..=65535",
     "--port x 7:1 => 2: error: invalid value 'x' for '--port <P>': ",
     "--workers 0 7:1 => 2: error: invalid value '0' for '--workers <N>': 0 is not in 1..=64",
     "--workers 65 7:1 => 2: error: invalid value '65' for '--workers <N>': 65 is not in 1..=64",
     "--sessions 4294967296 7:1 => 2: error: invalid value '4294967296' for '--sessions <S>': 4294967296 is not in 0..=4294967295",
     "--store here --checkpoint 4294967296 7:1 => 2: error: invalid value '4294967296' for '--checkpoint <K>': 4294967296 is not in 0..=4294967295",
+    "--store here --checkpoint-bytes 18446744073709551616 7:1 => 2: error: invalid value '18446744073709551616' for '--checkpoint-bytes <B>': ",
+    "--store here --settle-every 4294967296 7:1 => 2: error: invalid value '4294967296' for '--settle-every <M>': 4294967296 is not in 0..=4294967295",
     "--store here --checkpoint -1 7:1 => 2: error: ",
     "--store here --checkpoint 7:1 => 2: error: ",
     "--store here --checkpoint 1 --checkpoint 1 7:1 => 2: error: ",

@@ -3,3 +3,4 @@ pub mod LineLemmas
 pub mod Pushes
 pub mod ShareLemmas
 pub mod TenantNumbers
+pub mod TurnerLemmas

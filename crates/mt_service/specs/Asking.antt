@@ -1,18 +1,15 @@
 -- What a caller over a desk may answer to a session.
-use Rattle.std.specs.Prelude.{◌≡◌, ◌⊎◌, ℕ, ◌+◌, ◌<◌, Bool, List, Option, Some, None, Result, Ok, Err, IfOk}
+use Rattle.std.specs.Prelude.{◌≡◌, ℕ, ◌+◌, ◌<◌, List, Option, Some, None, Result, Ok, Err, IfOk}
 use Rattle.mt_rows.specs.{declared.command.Command.Command, declared.reply.Reply.Reply, declared.refusal.Refusal.Refusal}
 use Rattle.mt_rows.specs.declared.refusal.Refusal.TheVariants.{NoTenant, NotOpen}
 use Rattle.mt_runs.specs.declared.event.Answer.{Answer}
 use Rattle.mt_options.specs.{declared.tenants.TenantQuota.TenantQuota, Tenants.IsListed}
 use Rattle.mt_book.specs.{declared.calls.CallFault.CallFault, Periods.Period, Calls.{Calls, asked_by, answers_of}}
 use Rattle.mt_settle.specs.{Turns.Turn, Settles.Settles}
-use Rattle.mt_disk.specs.Disk.{DiskState}
-use Rattle.mt_slots.specs.declared.store_slots.StoreSlots.{StoreSlots}
-use Rattle.mt_stored.specs.{Keeping.{Kept, Counts}, Checkpoints.{scanner, seen_after}, WholeTurns.{Parts, parts, WritesTurn, StopsTurn}}
-use Rattle.mt_stored.specs.declared.turns.TurnStop.{TurnStop}
+use Rattle.mt_stored.specs.{Keeping.{Kept, Counts}, Checkpoints.seen_after}
 use Rattle.mt_session.specs.{declared.caller.CallerFault.CallerFault, declared.caller.CallerFault.TheVariants.Refused}
 use Rattle.mt_session.specs.Exchanges.{Exchange, Opens, Calls as CallsFor, Settles as SettlesFor}
-use Rattle.mt_service.specs.{Telling.told_of, Accounts.AreRising}
+use Rattle.mt_service.specs.Telling.{told_of}
 
 -- a caller between two exchanges: its desk, its pass with the last step that it knows of and the answers that it counts, the tenants that are
 -- served, the one that is opened, and what its answers are kept in
@@ -59,40 +56,13 @@ abbrev pub AsksOpened : {S K : Type 0} → (S → Period → S → Type 0) → (
 AsksOpened does keeps logs old (Some tenant) command told new = AsksCall does keeps logs old new tenant command told
 AsksOpened does keeps logs old None command told new = (told ≡ Err (Refused NotOpen)) × (new ≡ old)
 
--- what a turn of all logs is made over: the caller's logs, its desk with its pass, and some slots
-abbrev pub parts_of : {S K D : Type 0} → Asker S K → StoreSlots D → Parts K S D
-parts_of asked slots = parts asked.kept.logs (scanner asked.desk asked.seen asked.counted) slots
+-- A Settle is told what a Settle of all logs tells, and changes these alone; if there are no logs it is refused.
+pub record AsksSettle {S K : Type 0} (keeps : K → Turn → K → Type 0) (logs : K → ℕ) (old : Asker S K) (told : Result ℕ Refusal) (new : Asker S K) : Type 0 where
+  pub settles : Settles keeps (logs old.kept.logs) old.kept.logs new.kept.logs told
+  pub same : new ≡ record old { kept = record old.kept { logs = new.kept.logs } }
 
-module _ {S K D : Type 0} (does : S → Period → S → Type 0) (is_honest : D → Bool) (state : D → DiskState) (failures : D → ℕ) (keeps : K → Turn → K → Type 0) (logs : K → ℕ) where
-  -- A turn of all logs was made, with a checkpoint of all tenants in some slots, or it was stopped. Its scans are of the caller's own pass. Else nothing has
-  -- changed.
-  pub record MakesTurn (old new : Asker S K) : Type 0 where
-    pub numbers : List ℕ
-    pub rising : AreRising old.tenants numbers
-    pub generation : ℕ
-    pub slots : StoreSlots D
-    pub left : StoreSlots D
-    pub came : WritesTurn keeps does old.worker is_honest state failures generation (logs old.kept.logs) numbers (parts_of old slots) (parts_of new left)
-        ⊎ ((stop : TurnStop) × StopsTurn keeps does old.worker is_honest state failures generation (logs old.kept.logs) numbers stop (parts_of old slots) (parts_of new left))
-    pub same : new ≡ record old { desk = new.desk; seen = new.seen; counted = new.counted; kept = record old.kept { logs = new.kept.logs } }
-
-  -- nothing was done, or a turn was made or stopped
-  abbrev pub MayMakeTurn : Asker S K → Asker S K → Type 0
-  MayMakeTurn old new = (new ≡ old) ⊎ MakesTurn old new
-
-  -- what comes after a Settle: a turn may be made if a number is told, and nothing if it is refused
-  abbrev pub Follows : Result ℕ Refusal → Asker S K → Asker S K → Type 0
-  Follows (Ok number) old new = MayMakeTurn old new
-  Follows (Err refusal) old new = new ≡ old
-
-  -- A Settle is told what a Settle of all logs tells, and changes these alone; if there are no logs it is refused. A turn of all logs may follow it.
-  pub record AsksSettle (old : Asker S K) (told : Result ℕ Refusal) (new : Asker S K) : Type 0 where
-    pub left : K
-    pub settles : Settles keeps (logs old.kept.logs) old.kept.logs left told
-    pub after : Follows told (record old { kept = record old.kept { logs = left } }) new
-
-  -- what the caller answers
-  abbrev pub AsksDesk : Asker S K → Exchange → Asker S K → Type 0
-  AsksDesk old (Opens tenant refusal) new = OpensTenant old tenant refusal new
-  AsksDesk old (CallsFor command told) new = AsksOpened does keeps logs old old.opened command told new
-  AsksDesk old (SettlesFor told) new = AsksSettle old told new
+-- what the caller answers
+abbrev pub AsksDesk : {S K : Type 0} → (S → Period → S → Type 0) → (K → Turn → K → Type 0) → (K → ℕ) → Asker S K → Exchange → Asker S K → Type 0
+AsksDesk does keeps logs old (Opens tenant refusal) new = OpensTenant old tenant refusal new
+AsksDesk does keeps logs old (CallsFor command told) new = AsksOpened does keeps logs old old.opened command told new
+AsksDesk does keeps logs old (SettlesFor told) new = AsksSettle keeps logs old told new

@@ -4,4 +4,5 @@ pub mod Faults
 pub mod Lines
 pub mod ServedStore
 pub mod Telling
+pub mod Turning
 pub mod Workers

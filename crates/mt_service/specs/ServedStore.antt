@@ -1,16 +1,16 @@
 -- What is opened for a server, and why nothing is.
-use Rattle.std.specs.{Prelude.{◌≡◌, ◌⊎◌, ℕ, Bool, true, false, List, [], Option, Some, None, length}, Option.option_map}
+use Rattle.std.specs.{Prelude.{◌≡◌, ◌⊎◌, ℕ, Bool, true, false, List, [], Option, Some, None, IsSome, length}, Option.option_map}
 use Rattle.mt_rows.specs.{Accounts.Accounts, declared.refusal.Refusal.Refusal}
 use Rattle.mt_disk.specs.{Disk.{DiskState, found_with}, declared.cached.CachedDisk.CachedDisk, declared.file.OsFile.OsFile}
-use Rattle.mt_state.specs.Begins.{new_state}
+use Rattle.mt_state.specs.{Begins.new_state, Views.StateView}
 use Rattle.mt_options.specs.{declared.options.Options.Options, declared.options.StorePlace.StorePlace, declared.tenants.TenantQuota.TenantQuota}
-use Rattle.mt_store_files.specs.{declared.fault.StoreFault.StoreFault, declared.fault.StoreFault.TheVariants.{Refused as RefusedStore, RefusedLog, LogCount}}
+use Rattle.mt_store_files.specs.{declared.fault.StoreFault.StoreFault, declared.fault.StoreFault.TheVariants.{Refused as RefusedStore, RefusedLog, LogCount, Missing}}
 use Rattle.mt_store_files.specs.{declared.fault.FolderFault.FolderFault, Faults.{IsOfFolder, IsOfFiles, IsOfSlots}}
 use Rattle.mt_store_files.specs.declared.names.StoreFile.{StoreFile}
 use Rattle.mt_store_files.specs.declared.names.StoreFile.TheVariants.{Log, Slot}
 use Rattle.mt_log_files.specs.declared.worker.WorkerFiles.{WorkerFiles}
 use Rattle.mt_slots.specs.{declared.store_slots.StoreSlots.StoreSlots, Places.refusal_for}
-use Rattle.mt_store_logs.specs.{declared.fault.StoreRefusal.StoreRefusal, declared.fault.StoreRefusal.TheVariants.{Logs as OfLogs, Slot as OfSlot}}
+use Rattle.mt_store_logs.specs.{declared.store_log.StoreLog.StoreLog, declared.fault.StoreRefusal.StoreRefusal, declared.fault.StoreRefusal.TheVariants.{Logs as OfLogs, Slot as OfSlot}}
 use Rattle.mt_store_logs.specs.Recovers.{refusal_in}
 use Rattle.mt_stored.specs.Stores.{IsNewStore, IsNotMade, IsRecoveredStore, IsNotRecoveredStore}
 use Rattle.mt_service.specs.{declared.served_store.OpenStore.OpenStore, declared.faults.ServerFault.ServerFault}
@@ -39,20 +39,26 @@ IsMadeOn workers accounts opened =
     × (opened.store.next_turn ≡ 1)
 
 -- a store that was recovered from such files and slots
-abbrev pub IsRecoveredFrom : ℕ → Accounts → OpenStore → Type 0
-IsRecoveredFrom workers accounts opened =
+abbrev pub IsRecoveredFrom : ℕ → Accounts → StateView → List (StoreLog FileDisk) → Option (StoreSlots FileDisk) → ℕ → Type 0
+IsRecoveredFrom workers accounts state logs slots next =
     (files : List (WorkerFiles FileDisk)) × (found : StoreSlots FileDisk) × (length files ≡ workers)
-    × IsRecoveredStore is_honest holds failures files found accounts opened.store.source.state opened.store.logs.items opened.store.slots opened.store.next_turn
+    × IsRecoveredStore is_honest holds failures files found accounts state logs slots next
 
 -- the one if it was to be made, else the other
 abbrev pub IsAtPlace : Bool → ℕ → Accounts → OpenStore → Type 0
 IsAtPlace true workers accounts opened = IsMadeOn workers accounts opened
-IsAtPlace false workers accounts opened = IsRecoveredFrom workers accounts opened
+IsAtPlace false workers accounts opened =
+    IsRecoveredFrom workers accounts opened.store.source.state opened.store.logs.items opened.store.slots opened.store.next_turn
 
 -- the store that the options name: none, so that the state is new and has no logs; one made anew; or one recovered
 abbrev pub IsNamed : Option StorePlace → ℕ → Accounts → OpenStore → Type 0
 IsNamed None workers accounts opened = opened.store.source.state ≡ new_state 0 accounts
 IsNamed (Some place) workers accounts opened = IsAtPlace place.create workers accounts opened
+
+-- its folder is kept, and with it the lock
+abbrev pub IsKept : {F : Type 0} → Option StorePlace → Option F → Type 0
+IsKept None folder = Unit {0}
+IsKept (Some place) folder = IsSome folder
 
 -- It is that store, for the tenants that are named, and no answer was taken of it.
 pub record IsOpened (options : Options) (open_store : OpenStore) : Type 0 where
@@ -60,6 +66,7 @@ pub record IsOpened (options : Options) (open_store : OpenStore) : Type 0 where
   pub tenants : AreAccountsOf (length options.tenants.items) options.tenants.items accounts
   pub named : IsNamed options.store options.workers accounts open_store
   pub untaken : open_store.store.source.state.answers ≡ 0
+  pub kept : IsKept options.store open_store.folder
 
 -- The plain file of the log that is the cause, if one is. Stamps that fall tell the worker whose log it is.
 abbrev pub plain_file : Option ℕ → Refusal → Option StoreFile
@@ -89,8 +96,9 @@ abbrev pub IsToldAs : StoreFault → StoreFault → Type 0
 IsToldAs (RefusedStore (Some (Log worker)) refusal) told = (told ≡ RefusedStore (Some (Log worker)) refusal) ⊎ (told ≡ RefusedLog worker refusal)
 IsToldAs fault told = told ≡ fault
 
--- A refusal of a store is told so; or, if its logs are no set, with how many workers asked for them.
+-- A refusal of a store is told so; or, if its logs are no set, with how many workers asked for them, or what is missing.
 abbrev pub Tells : ℕ → StoreRefusal → StoreFault → Type 0
+Tells workers why (Missing files) = refusal_in why ≡ refusals.LogCount
 Tells workers why (LogCount counts) = (refusal_in why ≡ refusals.LogCount) × (counts.workers ≡ workers)
 Tells workers why told = IsToldAs (fault_of why) told
 

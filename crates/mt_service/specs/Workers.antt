@@ -1,4 +1,4 @@
--- Which worker is which, and after how many settled answers of theirs a checkpoint is written.
+-- Which worker is which, and after how many settled answers of theirs and how many bytes a checkpoint is written.
 use Rattle.std.specs.Prelude.{◌≡◌, ℕ, zero, suc, List, Option, Some, None, slice_get}
 use Rattle.mt_options.specs.declared.options.StorePlace.{StorePlace}
 
@@ -20,3 +20,8 @@ EachAt {X} xs P = (place : ℕ) (x : X) → slice_get xs place ≡ Some x → P 
 abbrev pub every_of : Option StorePlace → ℕ
 every_of (Some place) = place.checkpoint
 every_of None = 0
+
+-- and by how many bytes the logs grow
+abbrev pub bytes_of : Option StorePlace → ℕ
+bytes_of (Some place) = place.checkpoint_bytes
+bytes_of None = 0

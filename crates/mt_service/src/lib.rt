@@ -3,7 +3,8 @@
 //! `open_store` opens the store that the options name. `run_server` makes its book, gives each worker a pass,
 //! lets the crew serve, settles at the end, and tells the sum of the answers. A worker answers a stream's
 //! session by `serve` of `mt_session`, with a caller that asks the book through its pass, and keeps the answers
-//! in the store's logs. `specs/Asking.antt` says what such a caller may answer.
+//! in the store's logs. `specs/Asking.antt` says what such a caller may answer. Beside the crew a turner makes the
+//! turns of all logs that are due, as `specs/Turning.antt` says.
 #![tactic(auto)]
 
 mod accounts;
@@ -13,10 +14,15 @@ pub mod faults;
 mod progress;
 pub mod running;
 pub mod served_store;
+pub mod turners;
+pub mod turns;
+mod warnings;
 pub mod workers;
 
 pub use callers::DeskCaller;
 pub use faults::ServerFault;
 pub use running::{Ending, Totals, run_server, totals_of};
 pub use served_store::{OpenStore, open_store};
+pub use turners::Turner;
+pub use turns::{Turns, Woken};
 pub use workers::SessionWorker;

@@ -1,22 +1,25 @@
 //! The server: from a listener to the sum of its answers.
 
-ghost use Rattle.std.specs.{Prelude.{◌≡◌, ◌<◌, ◌^◌, IfOk, IfErr, OnOk, OnErr, length, vec_len}, List.sum_by, Io.KnownBytes.Appends};
+ghost use Rattle.std.specs.{Prelude.{◌≡◌, ◌+◌, ◌<◌, ◌^◌, IfOk, IfErr, OnOk, OnErr, length, vec_len}, List.sum_by, Io.KnownBytes.Appends};
 ghost use Rattle.mt_book.specs.declared.passes.Pass.{Pass};
 ghost use Rattle.mt_crew.specs.declared.crew.Served.{Served};
 ghost use Rattle.mt_streams.specs.Failures.{Failed, NoFewer};
 ghost use Rattle.mt_service.specs.{declared.workers.SessionWorker.SessionWorker, Faults.{IsOfWriting, IsOfServing, HasCause}};
-ghost use Rattle.mt_service.specs.{Workers.{every_of, number_of, AreOfWorker, EachAt}, Lines.{first_line, last_line, Begins, SaysAll, SaysPart}};
-ghost use Rattle.mt_stored.specs.Stores.{IsSettled};
+ghost use Rattle.mt_service.specs.{Workers.{every_of, bytes_of, number_of, AreOfWorker, EachAt}, Lines.{first_line, last_line, Begins, SaysAll, SaysPart}};
+ghost use Rattle.mt_stored.specs.{Stores.IsSettled, Checks.IsAtFirst};
 
 use crate::callers::DeskCaller;
 use crate::faults::ServerFault;
+use crate::turners::Turner;
+use crate::turns::Turns;
 use crate::workers::SessionWorker;
 use log::Log;
-use mt_book::{Book, BookLock, Pass, gather, open_pass};
-use mt_crew::{Crew, CrewFault, Served, others_of, run_crew};
+use mt_book::{Book, BookLock, Desk, Pass, gather, open_pass};
+use mt_crew::{Crew, CrewFault, Served, Worker, others_of, run_crew};
 use mt_disk::Disk;
 use mt_options::{Options, TenantQuota};
 use mt_session::SessionBuffers;
+use mt_settle::Logs;
 use mt_slots::StoreSlots;
 use mt_store_logs::StoreLog;
 use mt_stored::{Checks, Keeper, SharedLogs, Store, locked_logs, unlocked_logs};
@@ -26,7 +29,7 @@ use std::marker::{Send, Sync};
 use std::net::TcpListener;
 use std::sync::ledger::{Blank, Ledger};
 use std::sync::{Mutex, Wait};
-use std::thread::Threads;
+use std::thread::{self, Threads};
 use std::time::Clock;
 
 /// What a crew's sessions come to: the answers of all passes, and how many sessions ended otherwise
@@ -105,22 +108,28 @@ fn serve_store<
     let generation = store.next_turn();
     let (state, logs, slots) = store.into_parts();
     let logs = locked_logs(alloc, logs)?;
-    let checks = Mutex::new(Checks::new(checkpoint_every(options), slots, generation));
+    let turns = Turns::new(checks_of(options, slots, generation));
     let book = BookLock::new(Book::<L>::new(blank, state));
-    let served = serve_all(rt, alloc, &book, &logs, &checks, listener, options);
-    let checks = checks.into_inner();
-    let store = settled(rt, alloc, book, logs, checks)?;
+    let served = serve_all(rt, alloc, &book, &logs, &turns, listener, options);
+    let store = settled(rt, alloc, book, logs, turns.into_checks())?;
     Ok((served?, store))
 }
 
-// After so many settled answers a checkpoint is written; 0: none is.
-fn checkpoint_every(options: &Options) -> u32
-    ensures { result ≡ every_of options.now.store }
+// The checks of a store that is served as the options say, whose first turn goes to this generation.
+fn checks_of<D: Disk + Drop>(
+    options: &Options,
+    slots: Option<StoreSlots<D>>,
+    generation: u64,
+) -> Checks<D>
+    ensures first { IsAtFirst (every_of options.now.store) (bytes_of options.now.store) result }
+    ensures slots { result.slots ≡ slots }
+    ensures generation { result.generation ≡ generation }
 {
-    match &options.store {
-        Some(place) => place.checkpoint,
-        None => 0,
-    }
+    let (every, bytes) = match &options.store {
+        Some(place) => (place.checkpoint, place.checkpoint_bytes),
+        None => (0, 0),
+    };
+    Checks::new(every, bytes, slots, generation)
 }
 
 // The store, of which nobody holds a lock any more, settled for the last time. Its slots and its next turn are those of
@@ -191,7 +200,8 @@ fn say<W: Sink>(out: &mut W, line: &str) -> Result<(), ServerFault>
     }
 }
 
-// Serves the listener's connections by a crew, and adds up what its workers come back with.
+// Serves the listener's connections by a crew, with a turner beside it, and adds up what they come back with. The last turn
+// is made when the crew has ended, if one is due then.
 fn serve_all<
     L: Ledger + Send + Sync,
     R: Threads + Wait + Clock + Log + Sync,
@@ -201,24 +211,95 @@ fn serve_all<
     alloc: Global,
     book: &BookLock<L>,
     logs: &[Mutex<StoreLog<D>>],
-    checks: &Mutex<Checks<D>>,
+    turns: &Turns<D>,
     listener: &TcpListener,
     options: &Options,
 ) -> Result<Totals, ServerFault>
     requires { L.parts ≡ 65536 }
     ensures { IfErr result IsOfServing }
 {
-    let workers = workers_of(rt, alloc, book, logs, checks, options)?;
-    match run_crew(rt, alloc, listener, options.sessions, workers) {
+    let workers = workers_of(rt, alloc, book, logs, turns, options)?;
+    let turner = turner_of(rt, alloc, book, logs, options)?;
+    let (pass, crew) = serve_beside(rt, alloc, turner, logs, turns, listener, options, workers);
+    match crew {
         Ok(
             Crew {
                 accepted: _,
                 served,
             },
-        ) => totals_of(rt, alloc, book, served),
+        ) => totals_of(rt, alloc, book, pass, served),
         Err(CrewFault::Memory) => Err(ServerFault::Memory),
         Err(CrewFault::Socket(error)) => Err(ServerFault::Socket(error)),
     }
+}
+
+// Serves the listener's connections by a crew of these workers, and makes turns beside it. The turner is told when the crew
+// has ended, and its pass comes back.
+fn serve_beside<
+    L: Ledger + Send + Sync,
+    R: Threads + Wait + Clock + Log + Sync,
+    D: Disk + Drop + Send,
+    E: Desk<L> + Drop + Send,
+    S: Logs + Drop + Send,
+    W: Worker + Send,
+>(
+    rt: &R,
+    alloc: Global,
+    turner: Turner<'_, L, R, E, S>,
+    logs: &[Mutex<StoreLog<D>>],
+    turns: &Turns<D>,
+    listener: &TcpListener,
+    options: &Options,
+    workers: Vec<W>,
+) -> (Pass<L>, Result<Crew<W>, CrewFault>)
+    requires { 0 < vec_len workers }
+    ensures { IfOk result.1 (λ crew. vec_len crew.served ≡ vec_len workers) }
+{
+    thread::join(
+        rt,
+        move || turn_beside(turner, logs, turns, options),
+        move ||
+            requires { 0 < vec_len workers }
+            ensures { IfOk result (λ crew. vec_len crew.served ≡ vec_len workers) }
+        {
+            let crew = run_crew(rt, alloc, listener, options.sessions, workers);
+            turns.end_serving(rt);
+            crew
+        },
+    )
+}
+
+// The turner of a store, with a pass of its own: that of worker 0, since a scan changes nothing.
+fn turner_of<'a, L: Ledger, R: Wait + Clock, D: Disk + Drop>(
+    rt: &'a R,
+    alloc: Global,
+    book: &'a BookLock<L>,
+    logs: &'a [Mutex<StoreLog<D>>],
+    options: &'a Options,
+) -> Result<Turner<'a, L, R, &'a BookLock<L>, SharedLogs<'a, L, D>>, ServerFault>
+    ensures own { IfOk result (λ turner. (turner.pass.worker ≡ 0) × (turner.pass.share.amount ≡ 0)) }
+    ensures logs { IfOk result (λ turner. turner.logs.logs.now ≡ logs.now) }
+    ensures tenants { IfOk result (λ turner. turner.tenants.now ≡ options.now.tenants.items) }
+    ensures fault { IfErr result IsOfServing }
+{
+    let Some(pass) = open_pass(rt, book, 0) else {
+        return Err(ServerFault::Passes);
+    };
+    let logs = SharedLogs::new(book, logs);
+    Ok(Turner::new(rt, alloc, book, pass, logs, options.tenants.as_slice()))
+}
+
+// Makes the turns of a store, if there is one, till serving is over. It gives the pass back.
+fn turn_beside<L: Ledger, R: Wait + Clock + Log, E: Desk<L> + Drop, S: Logs + Drop, D: Disk + Drop>(
+    mut turner: Turner<'_, L, R, E, S>,
+    logs: &[Mutex<StoreLog<D>>],
+    turns: &Turns<D>,
+    options: &Options,
+) -> Pass<L> {
+    if let Some(place) = &options.store {
+        turner.run(turns, place, logs);
+    }
+    turner.into_pass()
 }
 
 // The number of the worker at a place, if so many logs are kept.
@@ -234,13 +315,13 @@ fn worker_at<'a, L: Ledger, R: Wait + Clock, D: Disk + Drop>(
     alloc: Global,
     book: &'a BookLock<L>,
     logs: &'a [Mutex<StoreLog<D>>],
-    checks: &'a Mutex<Checks<D>>,
+    turns: &'a Turns<D>,
     tenants: &'a [TenantQuota],
     place: u8,
 ) -> Result<SessionWorker<'a, L, R, D>, ServerFault>
     ensures own { IfOk result (λ one. AreOfWorker (length logs.now) place one.caller.pass.worker one.caller.keeper.worker) }
     ensures logs { IfOk result (λ one. one.caller.keeper.logs.logs.now ≡ logs.now) }
-    ensures checks { IfOk result (λ one. one.caller.checks.now ≡ checks.now) }
+    ensures turns { IfOk result (λ one. one.caller.turns.now ≡ turns.now) }
     ensures fault { IfErr result IsOfServing }
 {
     // They are taken before the first connection: at a limit of memory a session would find none.
@@ -250,7 +331,7 @@ fn worker_at<'a, L: Ledger, R: Wait + Clock, D: Disk + Drop>(
         return Err(ServerFault::Passes);
     };
     let keeper = Keeper::new(alloc, SharedLogs::new(book, logs), number);
-    let caller = DeskCaller::new(rt, alloc, book, pass, keeper, checks, tenants);
+    let caller = DeskCaller::new(rt, alloc, book, pass, keeper, turns, tenants);
     Ok(SessionWorker {
         rt,
         caller,
@@ -265,10 +346,11 @@ fn workers_of<'a, L: Ledger, R: Wait + Clock, D: Disk + Drop>(
     alloc: Global,
     book: &'a BookLock<L>,
     logs: &'a [Mutex<StoreLog<D>>],
-    checks: &'a Mutex<Checks<D>>,
+    turns: &'a Turns<D>,
     options: &'a Options,
 ) -> Result<Vec<SessionWorker<'a, L, R, D>>, ServerFault>
     ensures workers { IfOk result (λ workers. vec_len workers ≡ options.now.workers) }
+    ensures some { IfOk result (λ workers. 0 < vec_len workers) }
     ensures each { IfOk result (λ workers. EachAt workers.items (λ place (one : SessionWorker L R D). AreOfWorker (length logs.now) place one.caller.pass.worker one.caller.keeper.worker)) }
     ensures fault { IfErr result IsOfServing }
 {
@@ -279,7 +361,7 @@ fn workers_of<'a, L: Ledger, R: Wait + Clock, D: Disk + Drop>(
             alloc,
             book,
             logs,
-            checks,
+            turns,
             options.tenants.as_slice(),
             place,
         )?)?;
@@ -287,37 +369,40 @@ fn workers_of<'a, L: Ledger, R: Wait + Clock, D: Disk + Drop>(
     Ok(workers)
 }
 
-/// What the workers come to, whose passes are given back to the book: the sum of the passes' shares, and
+/// What a turner and the workers come to, whose passes are given back to the book: the sum of the passes' shares, and
 /// that of the workers' counts. `Memory` and `Passes` (if these are not all passes that were opened)
 /// are the only errors; after either the passes are lost.
 pub fn totals_of<L: Ledger, R: Wait + Clock + Log, D: Disk + Drop>(
     rt: &R,
     alloc: Global,
     book: &BookLock<L>,
+    turner: Pass<L>,
     served: Vec<Served<SessionWorker<'_, L, R, D>>>,
 ) -> Result<Totals, ServerFault>
     requires parts { L.parts ≡ 65536 }
     requires few { vec_len served < 2 ^ 32 }
-    ensures answers { IfOk result (λ totals. totals.answers ≡ sum_by (λ (one : Served (SessionWorker L R D)). one.worker.caller.pass.share.amount) served.entry.items) }
+    ensures answers { IfOk result (λ totals. totals.answers ≡ turner.share.amount + sum_by (λ (one : Served (SessionWorker L R D)). one.worker.caller.pass.share.amount) served.entry.items) }
     ensures others { IfOk result (λ totals. totals.others ≡ sum_by (λ (one : Served (SessionWorker L R D)). one.others) served.entry.items) }
     ensures fault { IfErr result IsOfServing }
 {
     let others = others_of(served.as_slice());
-    let passes = passes_of(alloc, served)?;
+    let passes = passes_of(alloc, turner, served)?;
     match gather(rt, book, passes) {
         Ok(answers) => Ok(Totals { answers, others }),
         Err(_) => Err(ServerFault::Passes),
     }
 }
 
-// The passes that the workers hold.
+// The turner's pass, and those that the workers hold.
 fn passes_of<L: Ledger, R: Wait + Clock + Log, D: Disk + Drop>(
     alloc: Global,
+    turner: Pass<L>,
     served: Vec<Served<SessionWorker<'_, L, R, D>>>,
 ) -> Result<Vec<Pass<L>>, AllocError>
-    ensures { IfOk result (λ passes. sum_by (λ (pass : Pass L). pass.share.amount) passes.items ≡ sum_by (λ (one : Served (SessionWorker L R D)). one.worker.caller.pass.share.amount) served.entry.items) }
+    ensures { IfOk result (λ passes. sum_by (λ (pass : Pass L). pass.share.amount) passes.items ≡ turner.share.amount + sum_by (λ (one : Served (SessionWorker L R D)). one.worker.caller.pass.share.amount) served.entry.items) }
 {
     let mut passes = Vec::new(alloc);
+    passes.push(turner)?;
     for one in served {
         passes.push(one.worker.into_pass())?;
     }

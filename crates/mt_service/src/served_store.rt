@@ -1,6 +1,6 @@
 //! The store that a server serves from: none, a new one, or one that is recovered.
 
-ghost use Rattle.std.specs.Prelude.{◌≡◌, ◌≤◌, true, false, IfOk, IfErr};
+ghost use Rattle.std.specs.Prelude.{◌≡◌, ◌≤◌, [], true, false, IfOk, IfErr, OnErr, IsSome};
 ghost use Rattle.mt_state.specs.Begins.{HaveNoPairs};
 ghost use Rattle.mt_service.specs.ServedStore.{IsOpened, IsOfOpening, IsMadeOn, IsRecoveredFrom, IsOfPlace, IsAtPlace, fault_of, plain_file, IsToldAs, Tells};
 
@@ -12,7 +12,7 @@ use mt_disk::FileDisk;
 use mt_options::{Options, StorePlace};
 use mt_rows::{Refusal, Tenants};
 use mt_slots::SlotFault;
-use mt_store_files::{FolderFault, StoreFault, StoreFile, StoreFolder};
+use mt_store_files::{FolderFault, OsFolder, StoreFault, StoreFile, StoreFolder};
 use mt_store_logs::{LogRefusal, StoreRefusal};
 use mt_stored::Store;
 use std::alloc::Global;
@@ -71,6 +71,7 @@ fn open_place<R: Files<File = File> + Clock + Log>(
     requires empty { HaveNoPairs tenants }
     ensures ok { IfOk result (IsAtPlace place.now.create workers tenants) }
     ensures untaken { IfOk result (λ opened. opened.store.source.state.answers ≡ 0) }
+    ensures kept { IfOk result (λ opened. IsSome opened.folder) }
     ensures err { IfErr result (IsOfPlace place.now.create workers tenants) }
 {
     let folder = place.folder.as_str();
@@ -94,9 +95,10 @@ fn make<R: Files<File = File>>(
     requires empty { HaveNoPairs tenants }
     ensures ok { IfOk result (IsMadeOn workers tenants) }
     ensures untaken { IfOk result (λ opened. opened.store.source.state.answers ≡ 0) }
+    ensures kept { IfOk result (λ opened. IsSome opened.folder) }
     ensures err { IfErr result (IsOfPlace true workers tenants) }
 {
-    let folder = StoreFolder::make(rt, alloc, folder)?;
+    let mut folder = StoreFolder::make(rt, alloc, OsFolder::at(alloc, folder)?)?;
     let files = folder.create_logs(rt, alloc, workers)?;
     let slots = folder.create_slots(rt, alloc)?;
     match Store::create(alloc, files, slots, tenants) {
@@ -108,7 +110,7 @@ fn make<R: Files<File = File>>(
     }
 }
 
-// The store of a folder, recovered.
+// The store of a folder, recovered. If it is refused the folder is left as it was.
 fn recover<R: Files<File = File> + Clock + Log>(
     rt: &R,
     alloc: Global,
@@ -118,11 +120,56 @@ fn recover<R: Files<File = File> + Clock + Log>(
 ) -> Result<OpenStore, StoreFault>
     requires few { workers ≤ 64 }
     requires empty { HaveNoPairs tenants }
-    ensures ok { IfOk result (IsRecoveredFrom workers tenants) }
+    ensures ok { IfOk result (λ opened. IsRecoveredFrom workers tenants opened.store.source.state opened.store.logs.items opened.store.slots opened.store.next_turn) }
     ensures untaken { IfOk result (λ opened. opened.store.source.state.answers ≡ 0) }
+    ensures kept { IfOk result (λ opened. IsSome opened.folder) }
     ensures err { IfErr result (IsOfPlace false workers tenants) }
 {
-    let folder = StoreFolder::open(rt, alloc, folder)?;
+    let mut locked = StoreFolder::open(rt, alloc, OsFolder::at(alloc, folder)?)?;
+    match recover_in(rt, alloc, &mut locked, workers, tenants) {
+        Ok(store) => Ok(OpenStore {
+            store,
+            folder: Some(locked),
+        }),
+        Err(fault) => Err(fault),
+    }
+}
+
+// The store of a folder that is open, recovered. If it is refused nothing is left that was made for it.
+fn recover_in<R: Files<File = File> + Clock + Log>(
+    rt: &R,
+    alloc: Global,
+    folder: &mut StoreFolder,
+    workers: u8,
+    tenants: Tenants,
+) -> Result<Store<FileDisk>, StoreFault>
+    requires few { workers ≤ 64 }
+    requires empty { HaveNoPairs tenants }
+    ensures ok { IfOk result (λ store. IsRecoveredFrom workers tenants store.source.state store.logs.items store.slots store.next_turn) }
+    ensures untaken { IfOk result (λ store. store.source.state.answers ≡ 0) }
+    ensures err { IfErr result (IsOfPlace false workers tenants) }
+    ensures none_left { OnErr result (folder.new.made.items ≡ []) }
+{
+    match read_store(rt, alloc, folder, workers, tenants) {
+        Ok(store) => Ok(store),
+        Err(fault) => Err(folder.refused(rt, alloc, fault)),
+    }
+}
+
+// The store that the files of a folder hold.
+fn read_store<R: Files<File = File> + Clock + Log>(
+    rt: &R,
+    alloc: Global,
+    folder: &mut StoreFolder,
+    workers: u8,
+    tenants: Tenants,
+) -> Result<Store<FileDisk>, StoreFault>
+    requires few { workers ≤ 64 }
+    requires empty { HaveNoPairs tenants }
+    ensures ok { IfOk result (λ store. IsRecoveredFrom workers tenants store.source.state store.logs.items store.slots store.next_turn) }
+    ensures untaken { IfOk result (λ store. store.source.state.answers ≡ 0) }
+    ensures err { IfErr result (IsOfPlace false workers tenants) }
+{
     let mut files = folder.open_logs(rt, alloc, workers)?;
     let slots = folder.open_slots(rt, alloc)?;
     let mut progress = Progress::new(rt);
@@ -130,11 +177,8 @@ fn recover<R: Files<File = File> + Clock + Log>(
     let recovered = Store::recover_watched(alloc, files, slots, tenants, &mut progress);
     progress.end();
     match recovered {
-        Ok(store) => Ok(OpenStore {
-            store,
-            folder: Some(folder),
-        }),
-        Err(refusal) => Err(not_recovered(rt, alloc, &folder, workers, refusal)),
+        Ok(store) => Ok(store),
+        Err(refusal) => Err(not_recovered(rt, alloc, folder, workers, refusal)),
     }
 }
 
@@ -174,7 +218,7 @@ fn plain_file(log: Option<usize>, refusal: Refusal) -> Option<StoreFile>
 fn not_recovered<R: Files<File = File>>(
     rt: &R,
     alloc: Global,
-    folder: &StoreFolder,
+    folder: &mut StoreFolder,
     workers: u8,
     why: StoreRefusal,
 ) -> StoreFault
@@ -193,7 +237,7 @@ fn not_recovered<R: Files<File = File>>(
 fn told_as<R: Files<File = File>>(
     rt: &R,
     alloc: Global,
-    folder: &StoreFolder,
+    folder: &mut StoreFolder,
     fault: StoreFault,
 ) -> StoreFault
     ensures { IsToldAs fault result }

@@ -11,14 +11,14 @@ use mt_book::Book;
 use mt_core::{MAX_STEPS, State};
 use mt_disk::MemDisk;
 use mt_options::TenantQuota;
-use mt_service::DeskCaller;
+use mt_service::{DeskCaller, Turns};
 use mt_session::{Ended, ServeFault, serve};
 use mt_stored::{Checks, Keeper, Store};
 use mt_streams::{Sink, Source};
 use std::alloc::{AllocError, Global};
 use std::marker::Brand;
+use std::sync::Wait;
 use std::sync::ledger::{Blank, Ledger};
-use std::sync::{Mutex, Wait};
 use std::time::Clock;
 
 // The tenants of `two_tenants`.
@@ -106,9 +106,9 @@ fn serve_booked<L: Ledger, T: Wait + Clock + Log, R: Source, W: Sink>(
     let Some(pass) = book.open_pass(0) else {
         return Err(ServeFault::Memory);
     };
-    let checks = Mutex::new(Checks::<MemDisk>::new(0, None, 1));
+    let turns = Turns::new(Checks::<MemDisk>::new(0, 0, None, 1));
     let keeper = Keeper::new(alloc, logs, 0);
-    let mut caller = DeskCaller::new(rt, alloc, book, pass, keeper, &checks, &TENANTS);
+    let mut caller = DeskCaller::new(rt, alloc, book, pass, keeper, &turns, &TENANTS);
     let ended = serve(alloc, reader, writer, &mut caller);
     ended
 }

@@ -8,6 +8,7 @@ use crate::images::images_of;
 use crate::stories::{TENANTS, bare_slots, joined, least_mark, new_store, session_of};
 use log::Log;
 use mt_book::{Book, BookLock};
+use mt_service::Turns;
 use mt_store_logs::StoreLog;
 use mt_stored::{Checks, locked_logs};
 use std::alloc::Global;
@@ -31,10 +32,10 @@ fn put_and_settle<L: Ledger, R: Wait + Clock + Log + Abort>(
     alloc: Global,
     book: &BookLock<L>,
     logs: &[Mutex<StoreLog<FlakyDisk>>],
-    checks: &Mutex<Checks<FlakyDisk>>,
+    turns: &Turns<FlakyDisk>,
     worker: u8,
 ) -> u16 {
-    let mut session = session_of(rt, alloc, book, logs, checks, &TENANTS, worker);
+    let mut session = session_of(rt, alloc, book, logs, turns, &TENANTS, worker);
     let mut last = 0;
     for turn in 0..TURNS {
         assert!(rt; session.puts(alloc, PUTS), "{turn}");
@@ -55,13 +56,13 @@ fn four_at_once<L: Ledger + Send + Sync, R: Threads + Wait + Clock + Log + Abort
     alloc: Global,
     book: &BookLock<L>,
     logs: &[Mutex<StoreLog<FlakyDisk>>],
-    checks: &Mutex<Checks<FlakyDisk>>,
+    turns: &Turns<FlakyDisk>,
 ) -> Vec<u16> {
     let workers = [0, 1, 2, 3].to_vec(alloc).expect(rt, "memory");
     let counts = thread::map_vec(
         rt,
         workers,
-        &|worker: u8| put_and_settle(rt, alloc, book, logs, checks, worker),
+        &|worker: u8| put_and_settle(rt, alloc, book, logs, turns, worker),
     );
     counts.expect(rt, "memory")
 }
@@ -77,9 +78,9 @@ fn run<L: Ledger + Send + Sync, R: Threads + Wait + Clock + Log + Abort + Sync>(
     let (state, logs, slots) = new_store(rt, alloc, &[SOUND; 4], bare_slots(alloc)).into_parts();
     let logs = locked_logs(alloc, logs).expect(rt, "memory");
     let book = BookLock::new(Book::<L>::new(blank, state));
-    let checks = Mutex::new(Checks::new(1, slots, 1));
-    let counts = four_at_once(rt, alloc, &book, &logs, &checks);
-    let slots = checks.into_inner().into_slots().expect(rt, "the slots");
+    let turns = Turns::new(Checks::new(1, 0, slots, 1));
+    let counts = four_at_once(rt, alloc, &book, &logs, &turns);
+    let slots = turns.into_checks().into_slots().expect(rt, "the slots");
     let (_, logs, _) = joined(rt, alloc, book, logs).into_parts();
     expect_recovered(rt, alloc, images_of(rt, alloc, &logs), slots, &counts);
 }

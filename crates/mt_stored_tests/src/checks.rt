@@ -13,14 +13,15 @@ use mt_book::{Book, BookLock};
 use mt_checkpoint::Checkpoint;
 use mt_disk::MemDisk;
 use mt_rows::Refusal;
+use mt_service::Turns;
 use mt_slots::{Slot, StoreSlots};
 use mt_store_logs::FileImages;
-use mt_stored::{Checks, locked_logs};
+use mt_stored::{Checks, DueTurn, TurnStop, locked_logs};
 use std::alloc::{AllocError, Global};
 use std::marker::Brand;
 use std::process::Abort;
+use std::sync::Wait;
 use std::sync::ledger::{Blank, Ledger};
-use std::sync::{Mutex, Wait};
 use std::time::Clock;
 
 // How many pairs the checkpoint of each slot has, if there is one, and which slot has the newest.
@@ -35,8 +36,8 @@ enum Act {
     Settles(u8),
     /// It settles, and is told that a device failed.
     Fails,
-    /// Another answer is settled, after which a checkpoint is due, and somebody else has the slots. Meanwhile the client
-    /// settles so many times.
+    /// Another answer is settled, after which a checkpoint is due, and somebody else has the slots, whose turn is stopped.
+    /// Meanwhile the client settles so many times.
     SettlesWithout(u8),
 }
 
@@ -104,7 +105,7 @@ fn settles<L: Ledger, R: Wait + Clock + Log>(session: &mut Session<'_, L, R>, co
 fn comes_out<L: Ledger, R: Wait + Clock + Log>(
     rt: &R,
     alloc: Global,
-    checks: &Mutex<Checks<FlakyDisk>>,
+    turns: &Turns<FlakyDisk>,
     session: &mut Session<'_, L, R>,
     act: Act,
 ) -> bool {
@@ -113,12 +114,14 @@ fn comes_out<L: Ledger, R: Wait + Clock + Log>(
         Settles(count) => settles(session, count),
         Act::Fails => session.settle() == Err(Refusal::Device),
         SettlesWithout(count) => {
-            let taken = checks.lock(rt).count_settled(u64::MAX);
+            turns.count_settled(rt, u64::MAX);
+            let taken = turns.lock(rt).checks.take_due();
             let Some(due) = taken else {
                 return false;
             };
             let settled = settles(session, count);
-            checks.lock(rt).put_back(due.slots);
+            let stopped = Err((TurnStop::Logs(Refusal::Device), due.slots));
+            let _ = turns.lock(rt).checks.end_turn(stopped);
             settled
         }
     }
@@ -141,17 +144,17 @@ fn played<L: Ledger, R: Wait + Clock + Log + Abort>(
     let (state, logs, slots) = new_store(rt, alloc, &fails, bare_slots(alloc)).into_parts();
     let logs = locked_logs(alloc, logs).expect(rt, "memory");
     let book = BookLock::new(Book::<L>::new(blank, state));
-    let checks = Mutex::new(Checks::new(every, slots, 1));
-    let mut session = session_of(rt, alloc, &book, &logs, &checks, &TENANTS, 0);
+    let turns = Turns::new(Checks::new(every, 0, slots, 1));
+    let mut session = session_of(rt, alloc, &book, &logs, &turns, &TENANTS, 0);
     for (place, act) in acts.iter().enumerate() {
         assert!(rt;
-            comes_out(rt, alloc, &checks, &mut session, *act),
+            comes_out(rt, alloc, &turns, &mut session, *act),
             "{place}: {act:?}"
         );
     }
     drop(session);
     drop(joined(rt, alloc, book, logs));
-    let slots = checks.into_inner().into_slots().expect(rt, "the slots");
+    let slots = turns.into_checks().into_slots().expect(rt, "the slots");
     found_in(rt, alloc, slots)
 }
 
@@ -223,31 +226,72 @@ fn a_refused_settle_writes_no_checkpoint(rt: HostRuntime) {
     assert_eq!(&rt; found, NONE);
 }
 
-// A turn is due after each third Settle, and the newest checkpoint ends at 9. No turn begins before a Settle tells that much.
-// Meanwhile it stays due.
+// After how many settled answers a turn is due, and whether it is whole.
+const TRIES: [(u32, bool); 7] = [
+    (3, false),
+    (6, false),
+    (12, true),
+    (3, true),
+    (3, false),
+    (6, true),
+    (3, true),
+];
+
+// After each turn that is stopped the next one is due after twice as many settled answers, and after a whole one after three
+// again. It goes to the next generation after a whole one alone, and tells the greatest number that was told.
 #[test]
-fn no_turn_begins_before_the_newest_checkpoint_is_settled(rt: HostRuntime) {
-    let alloc = rt.alloc();
-    let mut checks = Checks::new(3, ended(bare_slots(alloc), 9), 4);
-    // What Settles tell, and to which generation the turn goes that is due then; 0: none is.
-    let told = [9, 9, 8, 8, 9, 9, 9, 9];
-    let due_then = [0, 0, 0, 0, 4, 0, 0, 5];
-    for (number, wanted) in told.iter().zip(&due_then) {
-        match checks.count_settled(*number) {
-            Some(due) => {
-                assert_eq!(rt; due.generation, *wanted);
-                checks.end_turn();
-                checks.put_back(due.slots);
-            }
-            None => assert_eq!(rt; *wanted, 0),
+fn a_stopped_turn_is_tried_again_after_twice_as_many_answers(rt: HostRuntime) {
+    let mut checks = Checks::new(3, 0, Some(bare_slots(rt.alloc())), 4);
+    let mut generation = 4u64;
+    for (answers, is_whole) in TRIES {
+        for _ in 1..answers {
+            checks.count_settled(9);
+            assert!(rt; !checks.is_due());
+        }
+        checks.count_settled(8);
+        let due = checks.take_due().expect(&rt, "a turn");
+        assert_eq!(rt; (due.generation, due.settled), (generation, 9));
+        end(&mut checks, due, is_whole);
+        if is_whole {
+            generation = generation.saturating_add(1);
         }
     }
 }
 
-// The slots with a checkpoint without pairs that ends at a step.
-fn ended(slots: StoreSlots<FlakyDisk>, last: u64) -> Option<StoreSlots<FlakyDisk>> {
-    match slots.begin(last) {
-        Ok(writing) => writing.end(last).ok(),
-        Err(_) => None,
+// Ends a turn, which is whole or stopped.
+fn end(checks: &mut Checks<FlakyDisk>, due: DueTurn<FlakyDisk>, is_whole: bool) {
+    let slots = due.slots;
+    let told = if is_whole {
+        Ok(slots)
+    } else {
+        Err((TurnStop::Logs(Refusal::Device), slots))
+    };
+    let _ = checks.end_turn(told);
+}
+
+// How long the logs are, and whether a turn of ten bytes is due then, which is whole.
+const LENGTHS: [(u64, bool); 9] = [
+    (4, false),
+    (9, false),
+    (10, true),
+    // The first look after a turn counts nothing, nor does a length that falls.
+    (30, false),
+    (39, false),
+    (2, false),
+    (3, true),
+    (3, false),
+    (13, true),
+];
+
+#[test]
+fn a_turn_is_due_when_the_logs_have_grown(rt: HostRuntime) {
+    let mut checks = Checks::new(0, 10, Some(bare_slots(rt.alloc())), 1);
+    for (place, (length, is_due)) in LENGTHS.iter().enumerate() {
+        checks.see_length(*length);
+        let due = checks.take_due();
+        assert_eq!(rt; due.is_some(), *is_due, "{place}");
+        if let Some(due) = due {
+            end(&mut checks, due, true);
+        }
     }
 }

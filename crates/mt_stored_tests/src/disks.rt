@@ -1,10 +1,10 @@
-//! A disk in memory that keeps what a read gives, and nothing of what was there before. Some of its calls fail in a row.
+//! A disk in memory that keeps what a read gives, and what the last sync made durable. Some of its calls fail in a row.
 
 ghost use Rattle.std.specs.Prelude.{◌≡◌, [], false, None};
 ghost use Rattle.mt_disk.specs.Disk.{CountsFailure, found_with};
 
 use mt_disk::disk::count_failure;
-use mt_disk::{DeviceFailed, Disk};
+use mt_disk::{DeviceFailed, Disk, SystemError};
 
 /// Which calls of a disk fail, counted from 1: those from the first number on, up to the second and without it.
 pub(crate) type Fails = (u64, u64);
@@ -15,31 +15,49 @@ pub(crate) const NEVER: Fails = (0, 0);
 /// None of a worker's three files.
 pub(crate) const SOUND: [Fails; 3] = [NEVER; 3];
 
-/// A disk in memory, some of whose calls fail.
+/// A disk in memory, some of whose calls fail. It may have a device that gives back another last byte than it was given.
 #[derive(Drop)]
 pub(crate) struct FlakyDisk {
     image: Vec<u8>,
+    durable: Vec<u8>,
     calls: u64,
     fails: Fails,
+    spoils: bool,
     failures: u64,
     bytes_read: u64,
 }
 
 impl FlakyDisk {
-    /// A disk with this image.
+    /// A disk with this image, of which nothing was made durable.
     pub(crate) fn new(image: Vec<u8>, fails: Fails) -> Self {
+        let durable = Vec::new(*image.allocator());
         FlakyDisk {
             image,
+            durable,
             calls: 0,
             fails,
+            spoils: false,
             failures: 0,
             bytes_read: 0,
+        }
+    }
+
+    /// The same, whose device gives back another last byte.
+    pub(crate) fn spoiling(self) -> Self {
+        FlakyDisk {
+            spoils: true,
+            ..self
         }
     }
 
     /// What a read gives.
     pub(crate) fn image(&self) -> &[u8] {
         &self.image
+    }
+
+    /// What a loss of power leaves.
+    pub(crate) fn durable(&self) -> &[u8] {
+        &self.durable
     }
 
     /// How many bytes its reads have asked for.
@@ -93,6 +111,15 @@ fn overwrite(image: &mut Vec<u8>, at: usize, bytes: &[u8]) -> Result<(), DeviceF
     }
 }
 
+// Makes one image as another.
+fn copy_over(to: &mut Vec<u8>, image: &[u8]) -> Result<(), DeviceFailed> {
+    to.clear();
+    match to.extend_from_slice(image) {
+        Ok(()) => Ok(()),
+        Err(_) => Err(DeviceFailed),
+    }
+}
+
 impl Disk for FlakyDisk {
     ghost is_honest = { λ _. false };
 
@@ -101,6 +128,8 @@ impl Disk for FlakyDisk {
     ghost failures = { λ f. f.failures };
 
     ghost plan = { λ _. None };
+
+    ghost was_refused = { λ _. false };
 
     fn len(&mut self) -> Result<usize, DeviceFailed> {
         let told = match self.call() {
@@ -136,7 +165,24 @@ impl Disk for FlakyDisk {
     }
 
     fn sync(&mut self) -> Result<(), DeviceFailed> {
-        let told = self.call();
+        let told = match self.call() {
+            Ok(()) => copy_over(&mut self.durable, &self.image),
+            Err(failed) => Err(failed),
+        };
         self.counted(told)
+    }
+
+    fn drop_cache(&mut self) -> Result<(), DeviceFailed> {
+        let told = self.sync();
+        if self.spoils {
+            if let Some(last) = self.image.last_mut() {
+                *last ^= 1;
+            }
+        }
+        told
+    }
+
+    fn last_error(&self) -> Option<SystemError> {
+        None
     }
 }

@@ -54,23 +54,60 @@ pub(crate) fn plain_image(alloc: Global, plain: Vec<u8>) -> FileImages {
     }
 }
 
-// What a read of a file gives.
-fn image_in(alloc: Global, file: &LogSlot<FlakyDisk>) -> Result<Vec<u8>, Refusal> {
+/// Which bytes of a disk are meant.
+#[derive(Clone, Copy, Debug, PartialEq, Eq)]
+pub(crate) enum Left {
+    /// What a read gives.
+    All,
+    /// What a loss of power leaves.
+    Durable,
+}
+
+/// These bytes of a disk.
+pub(crate) fn left_of(disk: &FlakyDisk, left: Left) -> &[u8] {
+    match left {
+        Left::All => disk.image(),
+        Left::Durable => disk.durable(),
+    }
+}
+
+// These bytes of a file.
+fn left_in(alloc: Global, file: &LogSlot<FlakyDisk>, left: Left) -> Result<Vec<u8>, Refusal> {
     match file {
-        LogSlot::Open(log) => Ok(log.disk().image().to_vec(alloc)?),
-        LogSlot::Failed(log) => Ok(log.disk().image().to_vec(alloc)?),
-        LogSlot::Closed(disk) => Ok(disk.image().to_vec(alloc)?),
+        LogSlot::Open(log) => Ok(left_of(log.disk(), left).to_vec(alloc)?),
+        LogSlot::Failed(log) => Ok(left_of(log.disk(), left).to_vec(alloc)?),
+        LogSlot::Closed(disk) => Ok(left_of(disk, left).to_vec(alloc)?),
         LogSlot::Away => Err(Refusal::NoStore),
     }
 }
 
+// These bytes of a log's files.
+fn files_left(alloc: Global, log: &StoreLog<FlakyDisk>, left: Left) -> Result<FileImages, Refusal> {
+    let files = log.log().files();
+    let plain = left_in(alloc, &files.plain, left)?;
+    let even = left_in(alloc, &files.even, left)?;
+    let odd = left_in(alloc, &files.odd, left)?;
+    Ok(FileImages { plain, even, odd })
+}
+
 /// What reads of a log's files give.
 pub(crate) fn image_of(alloc: Global, log: &StoreLog<FlakyDisk>) -> Result<FileImages, Refusal> {
-    let files = log.log().files();
-    let plain = image_in(alloc, &files.plain)?;
-    let even = image_in(alloc, &files.even)?;
-    let odd = image_in(alloc, &files.odd)?;
-    Ok(FileImages { plain, even, odd })
+    files_left(alloc, log, Left::All)
+}
+
+/// These bytes of the files of logs.
+pub(crate) fn logs_left(
+    rt: &impl Abort,
+    alloc: Global,
+    logs: &[StoreLog<FlakyDisk>],
+    left: Left,
+) -> Vec<FileImages> {
+    let mut images = Vec::new(alloc);
+    for log in logs {
+        let image = files_left(alloc, log, left).expect(rt, "an image");
+        images.push(image).expect(rt, "memory");
+    }
+    images
 }
 
 /// What reads of these logs' files give.
@@ -79,16 +116,11 @@ pub(crate) fn images_of(
     alloc: Global,
     logs: &[StoreLog<FlakyDisk>],
 ) -> Vec<FileImages> {
-    let mut images = Vec::new(alloc);
-    for log in logs {
-        let image = image_of(alloc, log).expect(rt, "an image");
-        images.push(image).expect(rt, "memory");
-    }
-    images
+    logs_left(rt, alloc, logs, Left::All)
 }
 
-// A disk in memory with this image.
-fn disk_with(alloc: Global, image: Vec<u8>) -> Result<MemDisk, AllocError> {
+/// A disk in memory with this image.
+pub(crate) fn disk_with(alloc: Global, image: Vec<u8>) -> Result<MemDisk, AllocError> {
     MemDisk::with_image(alloc, image, Vec::new(alloc), None)
 }
 
@@ -155,7 +187,21 @@ fn are_pairs(pairs: &[TenantPair], counts: &[u16]) -> bool {
     place == pairs.len()
 }
 
-/// Whether each log has exactly so many first keys of its worker's client, each once and in order, and a recovery gives the
+//// The pairs that a recovery from these images gives.
+pub(crate) fn pairs_left(
+    alloc: Global,
+    images: Vec<FileImages>,
+    slots: &mut StoreSlots<MemDisk>,
+    tenants: &Tenants,
+) -> Result<Vec<TenantPair>, Refusal> {
+    let mut logs = logs_of(alloc, images)?;
+    match recover_store(alloc, &mut logs, slots, tenants, &mut NoWatch) {
+        Ok(store) => Ok(store.recovered.pairs),
+        Err(e) => Err(e.refusal()),
+    }
+}
+
+// Whether each log has exactly so many first keys of its worker's client, each once and in order, and a recovery gives the
 /// pairs of all of them.
 pub(crate) fn hold_all(
     alloc: Global,

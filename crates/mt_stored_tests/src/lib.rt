@@ -22,6 +22,8 @@ mod old_formats;
 #[cfg(test)]
 mod pairs;
 #[cfg(test)]
+mod power;
+#[cfg(test)]
 mod refusals;
 #[cfg(test)]
 mod sessions;

@@ -5,7 +5,7 @@ use crate::images::key_of;
 use log::Log;
 use mt_book::BookLock;
 use mt_rows::{Column, ColumnIndexes, Command, Key, NamedColumns, Refusal, Reply};
-use mt_service::DeskCaller;
+use mt_service::{DeskCaller, Turner, Turns};
 use mt_session::Caller;
 use mt_stored::SharedLogs;
 use std::alloc::{AllocError, Global};
@@ -13,10 +13,13 @@ use std::sync::Wait;
 use std::sync::ledger::Ledger;
 use std::time::Clock;
 
-/// A worker's session, and how many keys its client has put.
+/// A worker's session, a turner that makes the turns which its settled answers make due, and how many keys its client has
+/// put.
 #[derive(Drop)]
 pub(crate) struct Session<'a, L: Ledger, R: Wait + Clock> {
     pub caller: DeskCaller<'a, L, R, &'a BookLock<L>, SharedLogs<'a, L, FlakyDisk>, FlakyDisk>,
+    pub turner: Turner<'a, L, R, &'a BookLock<L>, SharedLogs<'a, L, FlakyDisk>>,
+    pub turns: &'a Turns<FlakyDisk>,
     pub worker: u8,
     pub count: u16,
 }
@@ -71,8 +74,10 @@ impl<L: Ledger, R: Wait + Clock + Log> Session<'_, L, R> {
         true
     }
 
-    /// Settles.
+    /// Settles. Then the turn is made that is due.
     pub(crate) fn settle(&mut self) -> Result<u64, Refusal> {
-        self.caller.settle()
+        let told = self.caller.settle();
+        self.turner.make_turn_if_due(self.turns);
+        told
     }
 }

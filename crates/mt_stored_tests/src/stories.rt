@@ -11,7 +11,7 @@ use mt_book::{Book, BookLock, open_pass};
 use mt_options::TenantQuota;
 use mt_recover::LogSlot;
 use mt_rows::Refusal;
-use mt_service::DeskCaller;
+use mt_service::{DeskCaller, Turner, Turns};
 use mt_slots::StoreSlots;
 use mt_store_logs::{FileImages, StoreLog};
 use mt_stored::{Checks, Keeper, SharedLogs, Store, locked_logs, unlocked_logs};
@@ -91,14 +91,17 @@ pub(crate) fn session_of<'a, L: Ledger, R: Wait + Clock + Log + Abort>(
     alloc: Global,
     book: &'a BookLock<L>,
     logs: &'a [Mutex<StoreLog<FlakyDisk>>],
-    checks: &'a Mutex<Checks<FlakyDisk>>,
+    turns: &'a Turns<FlakyDisk>,
     tenants: &'a [TenantQuota],
     worker: u8,
 ) -> Session<'a, L, R> {
     let pass = open_pass(rt, book, worker).expect(rt, "a pass");
     let keeper = Keeper::new(alloc, SharedLogs::new(book, logs), worker);
+    let own = open_pass(rt, book, 0).expect(rt, "a pass");
     let mut session = Session {
-        caller: DeskCaller::new(rt, alloc, book, pass, keeper, checks, tenants),
+        caller: DeskCaller::new(rt, alloc, book, pass, keeper, turns, tenants),
+        turner: Turner::new(rt, alloc, book, own, SharedLogs::new(book, logs), tenants),
+        turns,
         worker,
         count: 0,
     };
@@ -112,12 +115,12 @@ pub(crate) fn sessions_of<'a, L: Ledger, R: Wait + Clock + Log + Abort>(
     alloc: Global,
     book: &'a BookLock<L>,
     logs: &'a [Mutex<StoreLog<FlakyDisk>>],
-    checks: &'a Mutex<Checks<FlakyDisk>>,
+    turns: &'a Turns<FlakyDisk>,
     tenants: &'a [TenantQuota],
 ) -> Vec<Session<'a, L, R>> {
     let mut sessions = Vec::new(alloc);
     for worker in 0..logs.len().min(64) as u8 {
-        let session = session_of(rt, alloc, book, logs, checks, tenants, worker);
+        let session = session_of(rt, alloc, book, logs, turns, tenants, worker);
         sessions.push(session).expect(rt, "memory");
     }
     sessions
@@ -298,8 +301,8 @@ fn play<L: Ledger, R: Wait + Clock + Log + Abort>(
     logs: &[Mutex<StoreLog<FlakyDisk>>],
     acts: &[Act],
 ) -> Vec<u16> {
-    let checks = Mutex::new(Checks::new(0, None, 1));
-    let mut sessions = sessions_of(rt, alloc, book, logs, &checks, &TENANTS);
+    let turns = Turns::new(Checks::new(0, 0, None, 1));
+    let mut sessions = sessions_of(rt, alloc, book, logs, &turns, &TENANTS);
     let mut seen = 0;
     for (place, act) in acts.iter().enumerate() {
         assert!(rt;

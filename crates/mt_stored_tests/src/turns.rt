@@ -3,13 +3,14 @@
 ghost use Rattle.std.specs.Prelude.{◌≡◌};
 
 use crate::checks::expect_recovered;
-use crate::disks::{FlakyDisk, NEVER};
+use crate::disks::{FlakyDisk, NEVER, SOUND};
 use crate::images::images_of;
 use crate::stories::{TENANTS, new_store, recovered, session_of, slots_with};
 use log::sink::Locked;
 use log::{Level, Log, Logged};
 use mt_book::{Book, BookLock};
-use mt_slots::Slot;
+use mt_service::Turns;
+use mt_slots::{Slot, StoreSlots};
 use mt_store_logs::{FileImages, StoreLog};
 use mt_stored::{Checks, DueTurn, Store, locked_logs, unlocked_logs};
 use std::alloc::Global;
@@ -65,11 +66,11 @@ fn play<L: Ledger, R: Wait + Clock + Log + Abort>(
     alloc: Global,
     book: &BookLock<L>,
     logs: &[Mutex<StoreLog<FlakyDisk>>],
-    checks: &Mutex<Checks<FlakyDisk>>,
+    turns: &Turns<FlakyDisk>,
     case: Case,
 ) {
-    let mut first = session_of(rt, alloc, book, logs, checks, &TENANTS, 0);
-    let mut second = session_of(rt, alloc, book, logs, checks, &TENANTS, 1);
+    let mut first = session_of(rt, alloc, book, logs, turns, &TENANTS, 0);
+    let mut second = session_of(rt, alloc, book, logs, turns, &TENANTS, 1);
     let (from, to) = case.rounds;
     first.count = from.saturating_mul(2);
     second.count = first.count;
@@ -106,16 +107,19 @@ fn played<L: Ledger, R: Wait + Clock + Log + Abort>(
 {
     let next_turn = store.next_turn();
     let (state, logs, slots) = store.into_parts();
-    let checks = Mutex::new(Checks::new(1, slots, next_turn));
+    let turns = Turns::new(Checks::new(1, 0, slots, next_turn));
     let logs = locked_logs(alloc, logs).expect(rt, "memory");
     let book = BookLock::new(Book::<L>::new(blank, state));
-    play(rt, alloc, &book, &logs, &checks, case);
+    play(rt, alloc, &book, &logs, &turns, case);
     let logs = unlocked_logs(alloc, logs).expect(rt, "memory");
-    let mut checks = checks.into_inner();
+    let mut checks = turns.into_checks();
+    // After a turn that was stopped the next one is due after two settled answers.
+    checks.count_settled(u64::MAX);
+    checks.count_settled(u64::MAX);
     Left {
         images: images_of(rt, alloc, &logs),
         generation: last_generation(&logs),
-        due: checks.count_settled(u64::MAX).expect(rt, "a turn"),
+        due: checks.take_due().expect(rt, "a turn"),
     }
 }
 
@@ -188,7 +192,7 @@ fn each_turn_leaves_one_generation(rt: HostRuntime) {
 
 const NOT_BEGUN: &str =
     "[WARN  mt_stored::shared] log 0: its disk failed; it is closed until a write succeeds
-[WARN  mt_service::callers] a turn of the logs was not finished: E10
+[WARN  mt_service::turners] a turn of the logs was not finished: E10
 ";
 
 // The first call after those that make the file for generation 1 fails.
@@ -204,22 +208,29 @@ fn a_log_whose_next_one_is_not_begun_is_warned_of(rt: HostRuntime) {
     assert_eq!(rt; warnings.as_slice(), NOT_BEGUN.as_bytes());
 }
 
-const GIVEN_UP: &str = "[WARN  mt_service::callers] a checkpoint was given up: E10\n";
+// What is told of a checkpoint that is given up, in either slot.
+const GIVEN_UP: [&str; 2] = [
+    "[WARN  mt_service::turners] a checkpoint was given up: check-0: its disk failed (E10)\n",
+    "[WARN  mt_service::turners] a checkpoint was given up: check-1: its disk failed (E10)\n",
+];
 
-// Whether the call is made. Then the turn of one round more is whole, whether the store starts again before that or not.
+// Whether the call is made. Then the turn of one round more is whole if the store starts again before that, and of two
+// rounds more if it doesn't: a stopped turn is tried again after twice as many settled answers.
 fn is_made<R: Wait + Clock + Abort>(rt: &R, alloc: Global, case: Case) -> bool {
     let (left, warnings) = run(rt, alloc, store_with(rt, alloc, case), case);
     if warnings.is_empty() {
         return false;
     }
-    let is_told = case.disk < 6 || warnings.as_slice() == GIVEN_UP.as_bytes();
-    assert!(rt; is_told, "{case:?}");
+    if let Some(slot) = case.disk.checked_sub(6) {
+        let told = GIVEN_UP.get(slot).map(|told| told.as_bytes());
+        assert!(rt; told == Some(warnings.as_slice()), "{case:?}");
+    }
     let (_, to) = case.rounds;
     let more = to.saturating_add(1);
     let store = recovered(rt, alloc, left.images, left.due.slots);
     let rounds = (to, more);
     expect_next(rt, alloc, store, Case { rounds, ..case });
-    let rounds = (0, more);
+    let rounds = (0, more.saturating_add(1));
     let next = Case { rounds, ..case };
     expect_next(rt, alloc, store_with(rt, alloc, next), next);
     true
@@ -244,6 +255,29 @@ fn calls_of<R: Wait + Clock + Abort>(rt: &R, alloc: Global, disk: usize, rounds:
         }
     }
     0
+}
+
+const NOT_READ_BACK: &str =
+    "[WARN  mt_service::turners] a checkpoint was given up: check-0: it is not read as it was written (E10)\n";
+
+// The first slot's device gives back another last byte than it was given. Then no older log is given up.
+#[test]
+fn a_checkpoint_that_does_not_read_back_is_given_up(rt: HostRuntime) {
+    let alloc = rt.alloc();
+    let disk = || FlakyDisk::new(Vec::new(alloc), NEVER);
+    let slots = StoreSlots::found(disk().spoiling(), disk());
+    let case = Case {
+        disk: 6,
+        call: 0,
+        rounds: (0, 1),
+    };
+    let store = new_store(&rt, alloc, &[SOUND; 2], slots);
+    let (left, warnings) = run(&rt, alloc, store, case);
+    assert_eq!(rt; warnings.as_slice(), NOT_READ_BACK.as_bytes());
+    assert!(rt; left.due.slots.newest().is_none() && left.due.generation == 1);
+    for images in &left.images {
+        assert!(rt; images.plain.starts_with(b"MTLOG"));
+    }
 }
 
 // In how many rounds each disk is put to each of its uses.

@@ -1,4 +1,4 @@
--- A Settle that is refused changes the logs alone.
+-- A Settle changes the logs alone.
 use Rattle.std.proofs.Common.{◌≡◌, ◌∙◌, Err, ap, rules}
 use Rattle.mt_stored.specs.{declared.keeping.Since.Since, Keeping.keeping}
 use Rattle.mt_service.specs.Asking.{asker}
@@ -11,9 +11,8 @@ returns-in_err-settled g c =
     let new = c.settle.new.self in
     let same = c.in_err-settled.ensures.same in
     rw is (record {
-      left = new.logs;
       settles = c.in_err-settled.ensures.settles;
-      after =
+      same =
           ap (λ w. asker old.desk old.pass.worker old.pass.seen old.pass.share.amount old.tenants.now old.opened (keeping new.logs w new.since.answers new.next)) same.1
           ∙ (ap (λ (s : Since). asker old.desk old.pass.worker old.pass.seen old.pass.share.amount old.tenants.now old.opened (keeping new.logs old.keeper.worker s.answers new.next)) same.0
           ∙ ap (λ k. asker old.desk old.pass.worker old.pass.seen old.pass.share.amount old.tenants.now old.opened (keeping new.logs old.keeper.worker old.keeper.since.answers k)) same.2);

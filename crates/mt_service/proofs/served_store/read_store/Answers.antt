@@ -1,7 +1,7 @@
 -- A store is refused that so many files hold, of whose bytes it was told before.
 use Rattle.std.proofs.Common.{◌≡◌, ◌∙◌, ◌++◌, take, drop, length, inr, ap, arith}
 use Rattle.mt_stored.proofs.Slices.{whole}
-use Rattle.mt_service.proofs.served_store.recover.Goals as goal
+use Rattle.mt_service.proofs.served_store.read_store.Goals as goal
 
 pub returns-in-Err-clause-err : goal.returns-in-Err-clause-err
 returns-in-Err-clause-err g c =

@@ -1,0 +1,200 @@
+//! Starts in a folder in memory, which keeps the calls on it.
+
+ghost use Rattle.std.specs.Prelude.{None, OnErr, ◌≡◌, Some, IfErr};
+ghost use Rattle.mt_store_files.specs.Faults.{IsOfFile, IsOfFolder, IsOfSync};
+
+use mt_disk::MemDisk;
+use mt_rows::Refusal;
+use mt_slots::Slot;
+use mt_store_files::{FolderSystem, StoreFault, StoreFile, StoreFolder};
+use std::alloc::{AllocError, Global};
+use std::fmt::Write;
+use std::fs::File;
+use std::io::{self, ErrorKind};
+use std::rt::Files;
+use std::test::Fail;
+
+// A folder of files without a byte, and the calls on it. The one of this number fails.
+#[derive(Drop)]
+struct FakeFolder {
+    files: Vec<StoreFile>,
+    calls: String,
+    count: usize,
+    fails: usize,
+}
+
+impl FakeFolder {
+    // A call on the folder itself.
+    fn call(&mut self, name: &str) -> Result<(), StoreFault>
+        ensures sync { IfErr result IsOfSync }
+        ensures folder { IfErr result IsOfFolder }
+    {
+        self.count = self.count.saturating_add(1);
+        if write!(self.calls, "{name}; ").is_err() || self.count == self.fails {
+            return Err(StoreFault::System(None, io::Error::from(ErrorKind::Other)));
+        }
+        Ok(())
+    }
+
+    // A call on a file, which tells whether it is there.
+    fn call_on(&mut self, alloc: Global, name: &str, file: StoreFile) -> Result<bool, StoreFault>
+        ensures { IfErr result (IsOfFile file) }
+    {
+        let name = format!(in alloc; "{name} {file}")?;
+        match self.call(name.as_str()) {
+            Ok(()) => Ok(self.files.contains(&file)),
+            Err(_) => Err(StoreFault::System(Some(file), io::Error::from(ErrorKind::Other))),
+        }
+    }
+}
+
+impl FolderSystem for FakeFolder {
+    type File = MemDisk;
+
+    type Lock = ();
+
+    ghost calls = { λ _. None };
+
+    fn make_folder<R: Files<File = File>>(&mut self, _rt: &R) -> Result<(), StoreFault> {
+        self.call("make folder")
+    }
+
+    fn sync_parent<R: Files<File = File>>(
+        &mut self,
+        _rt: &R,
+        _alloc: Global,
+    ) -> Result<(), StoreFault> {
+        self.call("sync parent")
+    }
+
+    fn lock<R: Files<File = File>>(&mut self, _rt: &R) -> Result<(), StoreFault> {
+        self.call("lock")
+    }
+
+    fn sync(&mut self, _lock: &()) -> Result<(), StoreFault> {
+        self.call("sync")
+    }
+
+    fn has<R: Files<File = File>>(
+        &mut self,
+        _rt: &R,
+        alloc: Global,
+        file: StoreFile,
+    ) -> Result<bool, StoreFault> {
+        self.call_on(alloc, "has", file)
+    }
+
+    fn open<R: Files<File = File>>(
+        &mut self,
+        _rt: &R,
+        alloc: Global,
+        file: StoreFile,
+    ) -> Result<Option<MemDisk>, StoreFault> {
+        if self.call_on(alloc, "open", file)? {
+            Ok(Some(MemDisk::new(alloc, Vec::new(alloc), None)))
+        } else {
+            Ok(None)
+        }
+    }
+
+    fn make<R: Files<File = File>>(
+        &mut self,
+        _rt: &R,
+        alloc: Global,
+        file: StoreFile,
+    ) -> Result<MemDisk, StoreFault> {
+        self.call_on(alloc, "make", file)?;
+        self.files.push(file)?;
+        Ok(MemDisk::new(alloc, Vec::new(alloc), None))
+    }
+
+    fn remove<R: Files<File = File>>(
+        &mut self,
+        _rt: &R,
+        alloc: Global,
+        file: StoreFile,
+    ) -> Result<(), StoreFault> {
+        self.call_on(alloc, "remove", file)?;
+        self.files.retain(|it| *it != file);
+        Ok(())
+    }
+}
+
+// The calls of a start that finds a plain file and a slot, and is refused; and those of a new store, after all files of logs were
+// removed.
+const STARTS: &str =
+    "lock; has wal-00; open wal-00; open wal-00-0; make wal-00-0; open wal-00-1; make wal-00-1; sync; open check-0; make check-0; open check-1; sync; remove wal-00-0; remove wal-00-1; remove check-0; sync; ";
+
+const CREATES: &str =
+    "remove wal-63-1; make wal-00; make wal-00-0; make wal-00-1; sync; remove check-0; remove check-1; make check-0; make check-1; sync; ";
+
+const FILES: [StoreFile; 2] = [StoreFile::Log(0), StoreFile::Slot(Slot::Second)];
+
+fn fake(alloc: Global, fails: usize) -> Result<FakeFolder, AllocError> {
+    Ok(FakeFolder {
+        files: FILES.to_vec(alloc)?,
+        calls: String::new(alloc),
+        count: 0,
+        fails,
+    })
+}
+
+// The files of one worker and the slots, opened or made anew.
+fn open_files<R: Files<File = File>>(
+    rt: &R,
+    alloc: Global,
+    folder: &mut StoreFolder<FakeFolder>,
+    is_new: bool,
+) -> Result<(), StoreFault> {
+    if is_new {
+        let _ = folder.create_logs(rt, alloc, 1)?;
+        let _ = folder.create_slots(rt, alloc)?;
+    } else {
+        let _ = folder.open_logs(rt, alloc, 1)?;
+        let _ = folder.open_slots(rt, alloc)?;
+    }
+    Ok(())
+}
+
+#[test]
+fn calls_on_a_folder_are_made_in_order(rt: HostRuntime) -> Result<(), Fail> {
+    let alloc = rt.alloc();
+    let Ok(mut folder) = StoreFolder::open(&rt, alloc, fake(alloc, 0)?) else {
+        panic!(rt; "not opened");
+    };
+    assert!(rt; open_files(&rt, alloc, &mut folder, false).is_ok());
+    let _ = folder.refused(&rt, alloc, StoreFault::Memory);
+    assert_eq!(rt; folder.system().calls.as_str(), STARTS);
+    let Ok(mut folder) = StoreFolder::make(&rt, alloc, fake(alloc, 0)?) else {
+        panic!(rt; "not made");
+    };
+    assert!(rt; open_files(&rt, alloc, &mut folder, true).is_ok());
+    let calls = folder.system().calls.as_str();
+    assert!(rt;
+        calls.starts_with("make folder; sync parent; lock; remove wal-00; "),
+        "{calls}"
+    );
+    assert!(rt; calls.ends_with(CREATES), "{calls}");
+    Ok(())
+}
+
+// If any call of a start fails it is refused, and the folder has the files that it had.
+#[test]
+fn each_call_of_a_start_may_fail(rt: HostRuntime) -> Result<(), Fail> {
+    let alloc = rt.alloc();
+    assert!(rt; StoreFolder::open(&rt, alloc, fake(alloc, 1)?).is_err());
+    for fails in 2..=12 {
+        let Ok(mut folder) = StoreFolder::open(&rt, alloc, fake(alloc, fails)?) else {
+            panic!(rt; "not opened");
+        };
+        let opened = open_files(&rt, alloc, &mut folder, false);
+        let fault = opened.err().unwrap_or(StoreFault::Memory);
+        assert_eq!(rt;
+            folder.refused(&rt, alloc, fault).refusal(),
+            Refusal::Device
+        );
+        let files = folder.system().files.as_slice();
+        assert!(rt; files == FILES.as_slice(), "{fails}");
+    }
+    Ok(())
+}

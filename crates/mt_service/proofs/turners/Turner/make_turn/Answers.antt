@@ -1,0 +1,34 @@
+-- A turn of all logs was made, or stopped.
+use Rattle.std.proofs.Common.{ℕ, Ok, ap, arith, subst}
+use Rattle.mt_stored.specs.{Checkpoints.scanner, WholeTurns.parts}
+use Rattle.mt_service.{specs.Turning.{TellsReady, turning}, proofs.{TenantNumbers.some_number, TurnerLemmas.{comes, told}}}
+use Rattle.mt_service.proofs.turners.Turner.make_turn.Goals as goal
+
+pub write_turn-requires : goal.write_turn-requires
+write_turn-requires g c =
+    let some = some_number c.args.self.now.tenants.now c.in-Ok.tenants.items c.in-Ok.ensures.1 c.requires.some in
+    record { some = omega (arith, some, c.in-Ok.tenants.ok.0) }
+
+pub returns-in-Ok : goal.returns-in-Ok
+returns-in-Ok g c =
+    let old = c.args.self.now in
+    let desk = scanner c.write_turn.new.desk c.write_turn.new.pass.seen c.write_turn.new.pass.share.amount in
+    let logs = c.write_turn.new.logs in
+    let mid = c.get_ready-ready.new.logs in
+    let ready =
+    subst (λ (n : ℕ). TellsReady g.S.Logs.does g.S.Logs.logs old.tenants.now c.args.due.settled n old.logs (Ok c.in-Ok.tenants) mid) c.owed.ensures c.in-Ok.ensures in
+    told g.D.Desk.does g.K.Disk.is_honest g.K.Disk.state g.K.Disk.failures g.S.Logs.does g.S.Logs.logs old.tenants.now c.args.due
+    (turning old.logs (scanner old.desk old.pass.seen old.pass.share.amount) old.pass.worker old.settled)
+    (turning logs desk c.write_turn.new.pass.worker old.settled) c.write_turn.result
+    (record {
+      mid = mid;
+      numbers = c.in-Ok.tenants.items;
+      number = ready.0.0;
+      owed = ready.0.1;
+      settles = ready.0.2;
+      rising = ready.1;
+      came =
+          comes g.D.Desk.does g.K.Disk.is_honest g.K.Disk.state g.K.Disk.failures g.S.Logs.does g.S.Logs.logs old.tenants.now old.pass.worker c.args.due.generation (g.S.Logs.logs mid) c.in-Ok.tenants.items c.write_turn.result
+          (parts logs desk) (parts mid (scanner old.desk old.pass.seen old.pass.share.amount) c.args.due.slots) c.write_turn.ensures.ok c.write_turn.ensures.err;
+      same = ap (λ w. turning logs desk w old.settled) c.write_turn.ensures.worker;
+    })

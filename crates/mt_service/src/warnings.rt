@@ -1,0 +1,47 @@
+//! Why a turn of all logs was stopped, in the words of a warning.
+
+use mt_disk::SystemError;
+use mt_slots::FaultCause;
+use mt_store_files::StoreFile;
+use mt_stored::{CheckpointStop, TurnStop};
+use std::fmt;
+
+/// A turn that was stopped, and why the last call failed of the disk in whose slot it wrote, if the system told it.
+#[derive(Clone, Copy)]
+pub(crate) struct TurnWarning {
+    pub stop: TurnStop,
+    pub error: Option<SystemError>,
+}
+
+// Why a slot's file was not written.
+#[derive(Clone, Copy)]
+struct Cause(FaultCause, Option<SystemError>);
+
+impl fmt::Display for Cause {
+    fn fmt<W: fmt::Write>(&self, f: &mut fmt::Formatter<W>) -> fmt::Result {
+        match *self {
+            Cause(FaultCause::Memory, _) => f.write_str("out of memory"),
+            Cause(FaultCause::NotAWalk, _) => f.write_str("its pairs are not in order"),
+            Cause(FaultCause::NotReadBack, _) => f.write_str("it is not read as it was written"),
+            Cause(FaultCause::Device, Some(error)) => write!(f, "{error}"),
+            Cause(FaultCause::Device, None) => f.write_str("its disk failed"),
+        }
+    }
+}
+
+impl fmt::Display for TurnWarning {
+    fn fmt<W: fmt::Write>(&self, f: &mut fmt::Formatter<W>) -> fmt::Result {
+        match self.stop {
+            TurnStop::Checkpoint(CheckpointStop::Slot(fault)) => {
+                let file = StoreFile::Slot(fault.slot);
+                let why = Cause(fault.cause, self.error);
+                let refusal = fault.cause.refusal();
+                write!(f, "a checkpoint was given up: {file}: {why} ({refusal})")
+            }
+            TurnStop::Checkpoint(CheckpointStop::Scan(refusal)) => {
+                write!(f, "a checkpoint was given up: {refusal}")
+            }
+            TurnStop::Logs(refusal) => write!(f, "a turn of the logs was not finished: {refusal}"),
+        }
+    }
+}
