@@ -5,25 +5,25 @@ use Rattle.std.specs.{Prelude.{slice_get, IfOk}, Option.option_map, List.{All, A
 use Rattle.mt_rows.specs.{Rows.Bytes, Commands.IsKey, Accounts.{Accounts, numbers_of}, declared.command.Command.Command, declared.command.Command.TheVariants.Scan}
 use Rattle.mt_rows.specs.{declared.refusal.Refusal.Refusal, declared.refusal.Refusal.TheVariants.{Memory, Device}}
 use Rattle.mt_rows.specs.{declared.reply.Reply.Reply, declared.reply.Reply.TheVariants.{Pairs}, declared.record.TenantPair.TenantPair}
-use Rattle.mt_disk.specs.{declared.mem.MemDisk.MemDisk, Disk.GoesUp, Mem.mem_state}
+use Rattle.mt_disk.specs.{declared.mem.MemDisk.MemDisk, declared.disk.DeviceFailed.DeviceFailed, Disk.{GoesUp, CountsFailure}, Mem.mem_state}
 use Rattle.mt_runs.specs.{declared.event.Event.Event, declared.event.Event.TheVariants.{Begin, Step}, declared.event.Answer.Answer, declared.event.Told.Told}
 use Rattle.mt_runs.specs.declared.event.Told.TheVariants.{Begun, Refused as RefusedOne, NoSuch as NoSuchOne, Moved, Again, NoMemory as NoMemoryNow, Spent, Done}
 use Rattle.mt_runs.specs.{Runs.{Made, IsBetween, owner}, Scans.IsLawful}
 use Rattle.mt_runs.proofs.{Order.order_with_maps, Steps.owner_in}
 use Rattle.mt_state.specs.{Views.{map_of, changed_at}, Histories.{IsServed}}
 use Rattle.mt_core.specs.Tickets.{named}
-use Rattle.mt_checkpoint.specs.{Checkpoints.{IsPair}, Slots.{FailsToAdd}}
+use Rattle.mt_checkpoint.specs.{Checkpoints.{IsPair}, Writes.{Stops, FailsToAdd, RefusesPairs, RefusesEnd}, declared.fault.FaultCause.FaultCause}
 use Rattle.mt_crashes.specs.{Histories.{Placed}, Walks.{Page, IsFromTo}, SlotDisks.{view_of_walk, slot_now}, Stores.{Store, SlotNow, AllReach}, Invariants.IsStore}
 use Rattle.mt_crashes.proofs.{Members.no_some, Invariant.within_place, Walking.lawful_wider}
 use Rattle.mt_slots.specs.{declared.slot.Slot.Slot, declared.store_slots.StoreSlots.StoreSlots, declared.checkpointing.Checkpointing.Checkpointing}
-use Rattle.mt_slots.specs.{declared.fault.SlotFault.SlotFault, declared.fault.FaultCause.FaultCause}
+use Rattle.mt_slots.specs.declared.fault.SlotFault.{SlotFault}
 use Rattle.mt_slots.specs.Places.{at, with, in_order, number_of, disk_of, next_slot, slot_of, given_up, refusal_for}
-use Rattle.mt_slots.specs.{Keeps.{Mays, or_none, KeepsWriting}, Calls.{as_write_fault, Begins as BeginsIn, FailsToBeginIn, Adds as AddsTo, FailsToAddIn, Ends as EndsIn, FailsToEndIn}}
-use Rattle.mt_slots.proofs.{Keeping.{with-this, begun, not_begun, added}, Settling.{not_added, ended, not_ended}}
-use Rattle.mt_slots.specs.declared.fault.FaultCause.TheVariants as FaultCauses
+use Rattle.mt_slots.specs.{Keeps.{Mays, or_none, KeepsWriting}, Calls.{as_write_fault, Begins as BeginsIn, FailsToBeginIn, Adds as AddsTo, FailsToAddIn, Ends as EndsIn, FailsToEndIn, GivesUpIn}}
+use Rattle.mt_slots.proofs.{Keeping.{with-this, begun, not_begun, added}, Settling.{not_added, ended, not_ended, gave_up as slots_gave_up}}
+use Rattle.mt_checkpoint.specs.declared.fault.FaultCause.TheVariants as FaultCauses
 use Rattle.mt_store_logs.specs.declared.store_log.StoreLog.{StoreLog}
 use Rattle.mt_pages.specs.{declared.walk.PageWalk.PageWalk, Scans.next_scan, Pages.{TakesAt}, Walked.{Rise, maps_of, Finds}}
-use Rattle.mt_pages.proofs.Walked.{takes, begins_at}
+use Rattle.mt_pages.proofs.{Walked.{takes, begins_at}, Ascending.rises}
 use Rattle.mt_lives.specs.{declared.live_slots.LiveSlots.LiveSlots, declared.live_slots.LiveSlots.TheVariants.{Rest, Turns, Writes, Away}}
 use Rattle.mt_lives.specs.{declared.live_slots.TurnStage.TurnStage, declared.live_slots.TurnStage.TheVariants.{Begins as BeginsAt, Settles}}
 use Rattle.mt_lives.specs.{declared.live_slots.Check.Check, declared.live_slots.CheckStage.CheckStage, declared.live_slots.CheckStage.TheVariants.{Begins as BeginsNext, Scans, Adds}}
@@ -31,14 +31,14 @@ use Rattle.mt_lives.specs.{declared.events.StoreEvent.StoreEvent, declared.event
 use Rattle.mt_lives.specs.declared.events.StoreNote.TheVariants.{CheckBegun, CheckWrites, CheckTold, CheckAdded, CheckEnded, Refused, NoSuch}
 use Rattle.mt_lives.specs.{declared.serving.Serving.Serving, Serving.TellsServing}
 use Rattle.mt_lives.specs.Lives.{Life, Past, Standing, with_event, firsts, story_in, checking, living, IsMemoryOrDevice, IsOfScan, IsServing, IsNoted}
-use Rattle.mt_lives.specs.Checks.{first_of, pending, check_with, AfterBegin, AfterReply, AfterStep, TakesPage, IsScanIn, HasScanNow, CheckStands, BeganBy, LiveSlotsStand}
+use Rattle.mt_lives.specs.Checks.{first_of, pending, check_with, IsGivenUp, AfterBegin, AfterReply, AfterStep, TakesPage, IsScanIn, HasScanNow, CheckStands, BeganBy, LiveSlotsStand}
 use Rattle.mt_lives.specs.{Bases.{IsWritten, NewestIsBase, EitherIsBase}, Turning.{Turning, part_of, IsSettling, IsAtLog, IsWriting, IsTurning}}
-use Rattle.mt_lives.specs.{Parts.{turn_at, in_turn, AreSettledBy, AreFree, MayBegin, settle_from}, Steps.GoesOn, Forced.{SlotFails, IsWriteForced, IsStepForced}}
+use Rattle.mt_lives.specs.{Parts.{turn_at, in_turn, AreSettledBy, AreFree, MayBegin, settle_from}, Steps.GoesOn, Forced.{HasFailed, SlotFails, IsWriteForced, IsStepForced}}
 use Rattle.mt_lives.specs.Holds.{LeadsTo, quotas_of, Holds}
 use Rattle.mt_lives.proofs.{Flushing.{keeps_rules, failures_of, within, rests_at_mark, stands_at}, TurnLogs.open_mark, Noting.{life_served, lives_so, held}, Served.{last, pairs_at}}
 use Rattle.mt_lives.proofs.{Told.{LivesOn, lives_on, slots_on}, Happening.{serves_none}}
 use Rattle.mt_lives.proofs.{Stories.{asked_now, owner_now, finished_now}, SlotReading.{with_slots, told_fault}, Returning.gave_up}
-use Rattle.mt_lives.proofs.Bases.{is_come, turning_rests, settled_newest, base_made, written_elsewhere, newly_written, ended_either}
+use Rattle.mt_lives.proofs.Bases.{is_come, settled_newest, base_made, written_elsewhere, newly_written, ended_either}
 use Rattle.mt_lives.proofs.Checking.{base_now, parts_stay, holds_with, holds_same, begins_in, ends_in_doubt, ends_in, serves_so, is_walk, is_base}
 
 -- when a turn began that is made
@@ -54,6 +54,27 @@ began_by (Some begun) m n le by = omega (arith, le, by)
 -- so one is made
 pub is_made : (check : Option ℕ) (n : ℕ) → BeganBy check n → check ≢ None
 is_made check n by none = let b = began check n by in no_some b.0 (sym none ∙ b.1)
+
+-- ---- the disk of its slot failed
+
+-- once, or once more when it was cut
+has_failed : (cut : Result (Unit {0}) DeviceFailed) (a b d : ℕ) → GoesUp a b → CountsFailure cut b d → HasFailed a d
+has_failed (Ok x) a b d up same = inl (subst (λ n. GoesUp a n) (sym same) up)
+has_failed (Err e) a b d up more = inr (b, up, more)
+
+module _ (writing : Checkpointing MemDisk) (walk : PageWalk) (stage : CheckStage) (new : StoreSlots MemDisk) where
+  this_disk : disk_of (slot_of writing) (given_up writing) ≡ writing.writer.disk
+  this_disk = with-this (slot_of writing) writing.writer.disk writing.other writing.newest writing.owed
+
+  -- for one of the causes that a slot's disk is to blame for, or that are no one's
+  write_forced : (cause : FaultCause) → Stops keeps_rules mem_state failures_of writing.writer (as_write_fault cause (disk_of (slot_of writing) new))
+      → (cause ≡ FaultCauses.NotAWalk → ⊥) → (cause ≡ FaultCauses.NotReadBack → ⊥) → IsWriteForced (Refused (refusal_for cause)) (Writes (check_with writing walk stage)) (Rest new)
+  write_forced FaultCauses.Device stops walks reads =
+      let failed = has_failed stops.cut writing.writer.disk.failures stops.failed (disk_of (slot_of writing) new).failures stops.cause stops.gives_up.count in
+      (given_up writing, new, refl, refl, (slot_of writing, subst (λ (d : MemDisk). HasFailed d.failures (disk_of (slot_of writing) new).failures) (sym this_disk) failed))
+  write_forced FaultCauses.Memory stops walks reads = tt
+  write_forced FaultCauses.NotAWalk stops walks reads = absurd (walks refl)
+  write_forced FaultCauses.NotReadBack stops walks reads = absurd (reads refl)
 
 -- a checkpoint that began after so many steps stands, if its slot was told that it did
 stands_from : (accounts : Accounts) (check : Option ℕ) (now : Result Life Past) (shown : List SlotNow) (history : List Placed) (steps first : ℕ) (c : Check) (mays : Mays) (pairs : List TenantPair)
@@ -263,11 +284,14 @@ module _ (accounts : Accounts) (standing : Standing) (logs : List (StoreLog MemD
     writes_so = (base_now accounts (Writes c) standing logs serving h).1
 
     -- it is given up
-    pub given_so : (e : Refusal) → IsMemoryOrDevice e → Goes CheckStep (Refused e) (Rest (given_up writing)) serving
-    given_so e memory = (
+    pub given_so : (e : Refusal) → IsMemoryOrDevice e → (left : StoreSlots MemDisk) → GivesUpIn keeps_rules mem_state failures_of writing left → Goes CheckStep (Refused e) (Rest left) serving
+    given_so e memory left gives = (
       checking None standing,
       (lives_now, open_so, inl memory, refl),
-      gave_up accounts (Writes c) (given_up writing) standing logs (Some serving) refl h,
+      holds_same accounts (Writes c) standing logs serving h h.turning (parts_stay accounts (Writes c) standing logs serving h) None (Rest left)
+          (base_now accounts (Writes c) standing logs serving h).0
+          (inl (subst (λ (n : Option Slot). NewestIsBase n h.s h.turning.whole.starts) (sym gives.newest) writes_so.base))
+          (refl, record { mays = stand.mays; shown = stand.shown_so; keeps = slots_gave_up keeps_rules mem_state failures_of stand.mays (first_of c) stand.pairs writing left stand.keeps gives }),
     )
 
     -- ---- an event of its scan
@@ -298,12 +322,12 @@ module _ (accounts : Accounts) (standing : Standing) (logs : List (StoreLog MemD
       told_same = told_on (Writes c) on.turning stands
 
       -- or is given up
-      pub told_given_up : Goes CheckStep (CheckTold told) (Rest (given_up writing)) now
-      told_given_up = (
+      pub told_given_up : (next : LiveSlots) → IsGivenUp writing next → Goes CheckStep (CheckTold told) next now
+      told_given_up next (left, at, gives) = subst (λ (x : LiveSlots). Goes CheckStep (CheckTold told) x now) (sym at) (
         living (with_event life e told) (checking None standing),
         (life, e, lives_so accounts (Writes c) standing logs serving h, open_so, of_scan, on.order, inr refl),
-        on.holds (Rest (given_up writing)) None (turning_rests h.from h.turning (Writes c) (given_up writing) on.t refl on.turning)
-            (refl, record { mays = stands.1.mays; shown = stands.1.shown_so; keeps = stands.1.keeps.slots }),
+        on.holds (Rest left) None (inl (subst (λ (n : Option Slot). NewestIsBase n on.t h.turning.whole.starts) (sym gives.newest) on.turning.base))
+            (refl, record { mays = stands.1.mays; shown = stands.1.shown_so; keeps = slots_gave_up keeps_rules mem_state failures_of stands.1.mays (first_of c) stands.1.pairs writing left stands.1.keeps gives }),
       )
 
   -- ---- a scan begins
@@ -351,8 +375,8 @@ module _ (accounts : Accounts) (standing : Standing) (logs : List (StoreLog MemD
     begin_told : (next : LiveSlots) → AfterBegin writing walk name told next → Goes CheckStep (CheckTold told) next now
     begin_told next after = by told refl after
       where
-        given : next ≡ Rest (given_up writing) → Goes CheckStep (CheckTold told) next now
-        given e = subst (λ (x : LiveSlots). Goes CheckStep (CheckTold told) x now) (sym e) (told_given_up writing walk BeginsNext h now begin told tells served refl)
+        given : IsGivenUp writing next → Goes CheckStep (CheckTold told) next now
+        given e = told_given_up writing walk BeginsNext h now begin told tells served refl next e
 
         by : (t : Told) → told ≡ t → AfterBegin writing walk name t next → Goes CheckStep (CheckTold told) next now
         by Begun is e = subst (λ (x : LiveSlots). Goes CheckStep (CheckTold told) x now) (sym e) (begun_scan is)
@@ -399,8 +423,8 @@ module _ (accounts : Accounts) (standing : Standing) (logs : List (StoreLog MemD
     of_scan = (record { tenant = scan_so.tenant; command = Scan walk.from walk.after 64 [] }, scan_so.asked_so, refl)
 
     module _ (told : Told) (tells : TellsServing serving now (Step name) told) where
-      given : (next : LiveSlots) → next ≡ Rest (given_up writing) → Goes CheckStep (CheckTold told) next now
-      given next e = subst (λ (x : LiveSlots). Goes CheckStep (CheckTold told) x now) (sym e) (told_given_up writing walk (Scans name) h now (Step name) told tells tt of_scan)
+      given : (next : LiveSlots) → IsGivenUp writing next → Goes CheckStep (CheckTold told) next now
+      given next e = told_given_up writing walk (Scans name) h now (Step name) told tells tt of_scan next e
 
       stays_open : (next : LiveSlots) → next ≡ Writes scans → Goes CheckStep (CheckTold told) next now
       stays_open next e = subst (λ (x : LiveSlots). Goes CheckStep (CheckTold told) x now) (sym e) (told_same writing walk (Scans name) h now (Step name) told tells tt of_scan)
@@ -529,6 +553,15 @@ module _ (accounts : Accounts) (standing : Standing) (logs : List (StoreLog MemD
               (refl, record { mays = s.mays; shown = s.shown_so; keeps = not_added keeps_rules mem_state failures_of s.mays (first_of adds) s.pairs fault writing new s.keeps fails }),
         )
 
+    -- a slot's disk is to blame, if not memory: the pairs rise
+    pub add_forced : (cause : FaultCause) (new : StoreSlots MemDisk) → FailsToAdd keeps_rules mem_state failures_of writing.writer (as_write_fault cause (disk_of (slot_of writing) new))
+        → RefusesPairs keeps_rules mem_state failures_of writing.writer pairs.items cause → IsWriteForced (Refused (refusal_for cause)) (Writes adds) (Rest new)
+    add_forced cause new fails refuses =
+        let s = stand writing walk (Adds pairs) h in
+        write_forced writing walk (Adds pairs) new cause fails.stops
+        (λ e. subst (λ (x : FaultCause). RefusesPairs keeps_rules mem_state failures_of writing.writer pairs.items x) e refuses refl s.pairs s.keeps.writing (rises (s.pairs ++ pairs.items) s.found.ascend))
+        (λ e. subst (λ (x : FaultCause). RefusesPairs keeps_rules mem_state failures_of writing.writer pairs.items x) e refuses)
+
   -- ---- it ends
 
   module _ (writing : Checkpointing MemDisk) (walk : PageWalk) (h : Holds accounts (Writes (check_with writing walk BeginsNext)) standing logs (Some serving)) (now : ℕ)
@@ -620,20 +653,32 @@ module _ (accounts : Accounts) (standing : Standing) (logs : List (StoreLog MemD
                 record {
                   mays = ended_mays;
                   shown = refl;
-                  keeps = ended keeps_rules mem_state failures_of s.mays found_all writing new s.keeps walk_so
+                  keeps = ended keeps_rules mem_state failures_of s.mays found_all writing new s.keeps
                       (subst (λ n. EndsIn keeps_rules mem_state failures_of writing n new) (sym made_so) e);
                 },
               ),
         )
 
-    pub end_fails : (new : StoreSlots MemDisk) → FailsToEndIn keeps_rules mem_state failures_of writing now new → Goes CheckStep (Refused Device) (Rest new) serving
-    end_fails new fails =
+    -- a slot's disk is to blame, if not memory: what it has is a walk
+    pub end_forced : (fault : SlotFault) (new : StoreSlots MemDisk) → FailsToEndIn keeps_rules mem_state failures_of fault writing now new
+        → RefusesEnd keeps_rules mem_state failures_of writing.writer now fault.cause → IsWriteForced (Refused (refusal_for fault.cause)) (Writes end_of) (Rest new)
+    end_forced fault new fails refuses =
+        let s = stand writing walk BeginsNext h in
+        let pairs = s.pairs in
+        write_forced writing walk BeginsNext new fault.cause fails.fails.stops
+        (λ e. subst (λ (x : FaultCause). RefusesEnd keeps_rules mem_state failures_of writing.writer now x) e refuses refl pairs s.keeps.writing
+        (subst (λ n. Rattle.mt_checkpoint.specs.Checkpoints.IsWalk (record { first = first_of end_of; last = n; pairs = pairs })) made_so walk_so))
+        (λ e. subst (λ (x : FaultCause). RefusesEnd keeps_rules mem_state failures_of writing.writer now x) e refuses refl pairs s.keeps.writing)
+
+    pub end_fails : (fault : SlotFault) (new : StoreSlots MemDisk) → FailsToEndIn keeps_rules mem_state failures_of fault writing now new
+        → Goes CheckStep (Refused (refusal_for fault.cause)) (Rest new) serving
+    end_fails fault new fails =
         let s = stand writing walk BeginsNext h in
         let mays = with (slot_of writing) (None ∷ Some found_all ∷ []) s.mays in
         let shown : List SlotNow = map slot_now (in_order mays) in
         let leads = ends_in_doubt h.s s.mays (slot_of writing) s.shown_so (serves_so accounts (Writes end_of) standing logs serving h) found_all s.found.made (omega arith) base_so in (
           checking None standing,
-          (lives_now writing walk BeginsNext h, open_so writing walk BeginsNext h, inl (inr refl), refl),
+          (lives_now writing walk BeginsNext h, open_so writing walk BeginsNext h, inl (told_fault fault.cause), refl),
           holds_with accounts (Writes end_of) standing logs serving h h.turning (parts_stay accounts (Writes end_of) standing logs serving h) shown None (Rest new) leads
               (base_now accounts (Writes end_of) standing logs serving h).0
               (inl (subst (λ (n : Option Slot). NewestIsBase n (with_slots shown h.s) h.turning.whole.starts) (sym fails.newest)
@@ -643,8 +688,8 @@ module _ (accounts : Accounts) (standing : Standing) (logs : List (StoreLog MemD
                 record {
                   mays = mays;
                   shown = refl;
-                  keeps = not_ended keeps_rules mem_state failures_of s.mays found_all writing new s.keeps walk_so
-                      (subst (λ n. FailsToEndIn keeps_rules mem_state failures_of writing n new) (sym made_so) fails);
+                  keeps = not_ended keeps_rules mem_state failures_of s.mays found_all fault writing new s.keeps walk_so
+                      (subst (λ n. FailsToEndIn keeps_rules mem_state failures_of fault writing n new) (sym made_so) fails);
                 },
               ),
         )
@@ -687,23 +732,7 @@ module _ (accounts : Accounts) (slots : LiveSlots) (logs : List (StoreLog MemDis
 
 module _ (old new : StoreSlots MemDisk) where
   pub begin_forced : (stage : TurnStage) → FailsToBeginIn keeps_rules mem_state failures_of old new → SlotFails (Turns (turn_at old stage)) (Rest new)
-  begin_forced stage fails = (old, new, refl, refl, (next_slot old.newest, fails.fails.count))
-
-module _ (writing : Checkpointing MemDisk) (walk : PageWalk) (stage : CheckStage) (new : StoreSlots MemDisk) where
-  this_disk : disk_of (slot_of writing) (given_up writing) ≡ writing.writer.disk
-  this_disk = with-this (slot_of writing) writing.writer.disk writing.other writing.newest writing.owed
-
-  fails_from : GoesUp writing.writer.disk.failures (disk_of (slot_of writing) new).failures → SlotFails (Writes (check_with writing walk stage)) (Rest new)
-  fails_from up =
-      (given_up writing, new, refl, refl, (slot_of writing, subst (λ (d : MemDisk). GoesUp d.failures (disk_of (slot_of writing) new).failures) (sym this_disk) up))
-
-  pub end_forced : (steps : ℕ) → FailsToEndIn keeps_rules mem_state failures_of writing steps new → SlotFails (Writes (check_with writing walk stage)) (Rest new)
-  end_forced steps fails = fails_from fails.fails.count
-
-  pub add_forced : (cause : FaultCause) → FailsToAdd keeps_rules mem_state failures_of writing.writer (as_write_fault cause (disk_of (slot_of writing) new))
-      → IsWriteForced (Refused (refusal_for cause)) (Writes (check_with writing walk stage)) (Rest new)
-  add_forced FaultCauses.Device fails = fails_from fails.1
-  add_forced FaultCauses.Memory fails = tt
+  begin_forced stage fails = (old, new, refl, refl, (next_slot old.newest, inl fails.fails.count))
 
 -- a checkpoint begins after the last log's part
 pub writes_forced : (slots : StoreSlots MemDisk) (log : ℕ) (logs : List (StoreLog MemDisk)) (check : Check) (steps : ℕ) → length logs ≡ log → first_of check ≡ steps
@@ -745,3 +774,19 @@ keys_pending accounts standing logs serving writing walk pairs h =
     keys : (ps : List TenantPair) → AllByRecursion IsPair (ps ++ pairs.items) → AllByRecursion (λ (p : TenantPair). IsKey p.key) pairs.items
     keys [] each = rest_keys pairs.items each
     keys (p ∷ ps) each = keys ps each.1
+
+-- ---- a checkpoint that was given up
+
+pub not_begun_up : (writing : Checkpointing MemDisk) (walk : PageWalk) (name : ℕ) (told : Told) (slots : LiveSlots) → (told ≡ Begun → ⊥) → IsGivenUp writing slots → AfterBegin writing walk name told slots
+not_begun_up writing walk name Begun slots other up = absurd (other refl)
+not_begun_up writing walk name told slots other up = up
+
+pub not_shown_up : (writing : Checkpointing MemDisk) (walk : PageWalk) (reply : Reply) (slots : LiveSlots) → IsGivenUp writing slots → AfterReply writing walk reply slots
+not_shown_up writing walk (Pairs page) slots up = inr up
+not_shown_up writing walk reply slots up = up
+
+pub not_stepped_up : (writing : Checkpointing MemDisk) (walk : PageWalk) (name : ℕ) (told : Told) (slots : LiveSlots)
+    → (told ≡ Begun) ⊎ (((e : Refusal) × (told ≡ RefusedOne e)) ⊎ (told ≡ NoSuchOne)) → IsGivenUp writing slots → AfterStep writing walk name told slots
+not_stepped_up writing walk name told slots (inl is) up = subst (λ (t : Told). AfterStep writing walk name t slots) (sym is) up
+not_stepped_up writing walk name told slots (inr (inl (e, is))) up = subst (λ (t : Told). AfterStep writing walk name t slots) (sym is) up
+not_stepped_up writing walk name told slots (inr (inr is)) up = subst (λ (t : Told). AfterStep writing walk name t slots) (sym is) up

@@ -4,7 +4,8 @@ use Rattle.std.specs.{Prelude.{slice_get, slice_set}, Option.option_map}
 use Rattle.mt_disk.specs.{declared.mem.MemDisk.MemDisk, Mem.mem_state}
 use Rattle.mt_checkpoint.specs.{declared.checkpoint.Checkpoint.Checkpoint, Checkpoints.{Walk, walk_of}}
 use Rattle.mt_slots.specs.{declared.slot.Slot.Slot, declared.slot.Slot.TheVariants.{First, Second}, declared.store_slots.StoreSlots.StoreSlots}
-use Rattle.mt_slots.specs.{declared.fault.SlotFault.SlotFault, declared.fault.FaultCause.FaultCause, declared.fault.FaultCause.TheVariants.{Device, Memory}}
+use Rattle.mt_slots.specs.declared.fault.SlotFault.{SlotFault}
+use Rattle.mt_checkpoint.specs.{declared.fault.FaultCause.FaultCause, declared.fault.FaultCause.TheVariants.{Device, Memory, NotAWalk, NotReadBack}}
 use Rattle.mt_slots.specs.{Places.{Both, in_order, with_newest, refusal_for}, Calls.{ReadsBoth, StopsReading}, Keeps.{only_these, HasOneWalk, KeepsSlots}}
 use Rattle.mt_slots.proofs.Settling.{both_read, among_these, not_read, kept_newest}
 use Rattle.mt_crashes.specs.{Bases.{CheckpointView}, SlotDisks.{view_of_walk, slot_now, with_slot}}
@@ -21,6 +22,8 @@ use Rattle.mt_checkpoint.specs.Checkpoints as walks
 pub told_fault : (cause : FaultCause) → IsMemoryOrDevice (refusal_for cause)
 told_fault Device = inr refl
 told_fault Memory = inl refl
+told_fault NotAWalk = inr refl
+told_fault NotReadBack = inr refl
 
 pub stand_unread : (now : List SlotNow) (slots new : StoreSlots MemDisk) (fault : SlotFault) → SlotsStand now slots → StopsReading keeps_rules mem_state failures_of fault slots new
     → SlotsStand now new

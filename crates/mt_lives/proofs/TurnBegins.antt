@@ -9,7 +9,7 @@ use Rattle.mt_chain_files.specs.Turns.{FilesNow}
 use Rattle.mt_turns.specs.declared.worker_log.WorkerLog.{WorkerLog}
 use Rattle.mt_store_logs.specs.{declared.store_log.StoreLog.StoreLog, Turns.{BeginsNextLog, FailsToBeginNextLog}}
 use Rattle.mt_store_logs.specs.Ends.{StandsInTurn}
-use Rattle.mt_store_logs.proofs.NextLaws.{next_begun_in_turn, next_not_begun_in_turn}
+use Rattle.mt_store_logs.proofs.NextLaws.{next_begun_in_turn, next_not_begun_in_turn, never_log_count}
 use Rattle.mt_lives.specs.{declared.live_slots.LiveSlots.LiveSlots, declared.live_slots.LiveSlots.TheVariants.Turns}
 use Rattle.mt_lives.specs.declared.live_slots.TurnStage.TheVariants.{Begins}
 use Rattle.mt_lives.specs.declared.serving.Serving.{Serving}
@@ -68,19 +68,21 @@ module _ (accounts : Accounts) (standing : Standing) (slots : StoreSlots MemDisk
       let r = rises_so accounts turn_now standing logs serving h k now there in
       has_next_part h.from (part_of h.turning k) steps now files log stands of r.0 r.1 begins
 
+  -- a log before the turn's generation is of the one from which on the files are
+  of_first : mid.log.generation < serving.generation → mid.log.generation ≡ h.from
+  of_first lt = let to = was.turns_to in ⊎_elim (λ first. first) (λ next. absurd (omega (arith, to, lt, next))) (which h.from now at.files mid at.stands)
+
   begun_at : Follows serving.generation mid new → At begun_part new
   begun_at (inr had) = subst (At begun_part) (sym had.1) (at_with begun_part at.files mid at.stands refl (has_next at.files mid at.stands of_next at.begins))
     where
       of_next : mid.log.generation ≡ h.from + 1
       of_next = let to = was.turns_to in let le = had.0 in ⊎_elim (λ first. absurd (omega (arith, to, le, first))) (λ next. next) (which h.from now at.files mid at.stands)
   begun_at (inl begins) =
-      let r = next_begun_in_turn keeps_rules mem_state failures_of h.from now at.files mid new at.stands of_first begins.1 in
-      let of_new : new.log.generation ≡ h.from + 1 = ap (λ (l : WorkerLog MemDisk). l.generation) begins.1.does.stands ∙ ap (λ n. n + 1) of_first in
+      let first = of_first begins.0 in
+      let r = next_begun_in_turn keeps_rules mem_state failures_of h.from now at.files mid new at.stands first begins.1 in
+      let of_new : new.log.generation ≡ h.from + 1 = ap (λ (l : WorkerLog MemDisk). l.generation) begins.1.does.stands ∙ ap (λ n. n + 1) first in
       at_with begun_part r.0 new r.1 begins.1.kept
-      (has_next r.0 new r.1 of_new (beginning_part h.from (part_of h.turning k) now at.files r.0 mid at.stands of_first r.2 at.begins))
-    where
-      of_first : mid.log.generation ≡ h.from
-      of_first = let to = was.turns_to in let lt = begins.0 in ⊎_elim (λ first. first) (λ next. absurd (omega (arith, to, lt, next))) (which h.from now at.files mid at.stands)
+      (has_next r.0 new r.1 of_new (beginning_part h.from (part_of h.turning k) now at.files r.0 mid at.stands first r.2 at.begins))
 
   pub begun_holds : Follows serving.generation mid new → Holds accounts (Turns (turn_at slots (Begins (k + 1)))) standing (slice_set logs k new) (Some serving)
   begun_holds f =
@@ -98,14 +100,13 @@ module _ (accounts : Accounts) (standing : Standing) (slots : StoreSlots MemDisk
   -- it is not begun, and its file may have a log or not
   not_begun_at : (e : Refusal) → mid.log.generation < serving.generation → FailsToBeginNextLog keeps_rules mem_state failures_of e mid new → At (part_of h.turning k) new
   not_begun_at e lt fails =
-      let to = was.turns_to in
-      let of_first : mid.log.generation ≡ h.from = ⊎_elim (λ first. first) (λ next. absurd (omega (arith, to, lt, next))) (which h.from now at.files mid at.stands) in
-      let r = next_not_begun_in_turn keeps_rules mem_state failures_of h.from now at.files e mid new at.stands of_first fails in
-      at_with (part_of h.turning k) r.0 new r.1 (kept_same fails) (beginning_part h.from (part_of h.turning k) now at.files r.0 mid at.stands of_first r.2 at.begins)
+      let r = next_not_begun_in_turn keeps_rules mem_state failures_of h.from now at.files e mid new at.stands (of_first lt) fails in
+      at_with (part_of h.turning k) r.0 new r.1 (kept_same fails) (beginning_part h.from (part_of h.turning k) now at.files r.0 mid at.stands (of_first lt) r.2 at.begins)
     where
       kept_same : FailsToBeginNextLog keeps_rules mem_state failures_of e mid new → new.kept ≡ mid.kept
       kept_same (inl none) = ap (λ (l : StoreLog MemDisk). l.kept) none.1
-      kept_same (inr b) = b.1.kept
+      kept_same (inr (inl b)) = b.1.kept
+      kept_same (inr (inr b)) = b.1.kept
 
   pub not_begun_holds : (e : Refusal) → mid.log.generation < serving.generation → FailsToBeginNextLog keeps_rules mem_state failures_of e mid new
       → Holds accounts turn_now standing (slice_set logs k new) (Some serving)
@@ -114,9 +115,11 @@ module _ (accounts : Accounts) (standing : Standing) (slots : StoreSlots MemDisk
       (starts_so accounts turn_now standing logs serving h) (turning_so accounts turn_now standing logs serving h) h.stand
       (replaced h.s logs k mid new now there here (not_begun_at e lt fails) (λ j n log lt other a. a) was.each)
 
--- why a next log is not begun
-pub not_begun_for : (e : Refusal) (old new : StoreLog MemDisk) → FailsToBeginNextLog keeps_rules mem_state failures_of e old new → StopsTurn e
-not_begun_for e old new (inr b) = inl (inr b.0)
-not_begun_for refusals.Device old new (inl none) = inl (inr refl)
-not_begun_for refusals.Spent old new (inl none) = inr refl
-not_begun_for e old new (inl none) = absurd none.0
+  -- why it is not begun
+  pub not_begun_for : (e : Refusal) → mid.log.generation < serving.generation → FailsToBeginNextLog keeps_rules mem_state failures_of e mid new → StopsTurn e
+  not_begun_for e lt (inr (inl b)) = inl (inr b.0)
+  not_begun_for e lt (inr (inr b)) =
+      absurd (never_log_count keeps_rules mem_state failures_of h.from now at.files e mid new at.stands (of_first lt) (inr (inr b)) b.0)
+  not_begun_for refusals.Device lt (inl none) = inl (inr refl)
+  not_begun_for refusals.Spent lt (inl none) = inr refl
+  not_begun_for e lt (inl none) = absurd none.0

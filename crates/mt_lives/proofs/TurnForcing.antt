@@ -69,7 +69,8 @@ brought_up upto mark old new was is b =
 
 next_failed : (mid new : StoreLog MemDisk) → HasDisks mid → mark_in (slot_of mid) ≢ None → FailsToBeginNextLog keeps_rules mem_state failures_of refusals.Device mid new → DiskFails mid new
 next_failed mid new there open_so (inl none) = absurd (open_so none.0)
-next_failed mid new there open_so (inr b) = by b.1.does
+next_failed mid new there open_so (inr (inr b)) = let clash : refusals.Device ≡ refusals.LogCount = b.0 in absurd cc
+next_failed mid new there open_so (inr (inl b)) = by b.1.does
   where
     by : NextNotBegun keeps_rules mem_state failures_of mid.log new.log → DiskFails mid new
     by n =

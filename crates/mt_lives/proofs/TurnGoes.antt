@@ -103,10 +103,12 @@ module _ (accounts : Accounts) (standing : Standing) (slots : StoreSlots MemDisk
           let r = brought accounts standing slots (Begins k) k logs serving h log here whose new now f.mark f.mid (record { mid = only.mid; opens = only.opens; flushes = f.flushes }) in
           let same : f.mid.log.generation ≡ only.mid.log.generation = ap (λ (l : WorkerLog MemDisk). l.generation) f.flushes.rest in
           let to = r.generation in
+          let before = drains.there accounts stage_now standing logs serving h k log here f.mid in
+          let below : f.mid.log.generation < now.generation = omega (arith, same, lt, to) in
           let holds = in_place stage_now standing f.mid
-          (not_begun_holds accounts standing slots k (slice_set logs k f.mid) now r.holds f.mid new (drains.there accounts stage_now standing logs serving h k log here f.mid) e
-          (omega (arith, same, lt, to)) f.fails) in
-          refused accounts standing slots (Begins k) logs serving h (slice_set logs k new) now e (not_begun_for e f.mid new f.fails)
+          (not_begun_holds accounts standing slots k (slice_set logs k f.mid) now r.holds f.mid new before e below f.fails) in
+          refused accounts standing slots (Begins k) logs serving h (slice_set logs k new) now e
+          (not_begun_for accounts standing slots k (slice_set logs k f.mid) now r.holds f.mid new before e below f.fails)
           (given_up_so accounts standing slots (Begins k) (slice_set logs k new) now holds)
 
       by : FailsToFlushOrBegin keeps_rules mem_state failures_of DrainsServing serving.state.steps serving.generation e only.mid new serving now

@@ -6,7 +6,7 @@ use Rattle.mt_rows.specs.{declared.reply.Reply.Reply, declared.reply.Reply.TheVa
 use Rattle.mt_runs.specs.{Runs.owner, declared.event.Told.Told, declared.event.Told.TheVariants.{Begun, Moved, Again, NoMemory, Spent, Done}}
 use Rattle.mt_checkpoint.specs.Checkpoints.{IsPair}
 use Rattle.mt_crashes.specs.{Histories.Placed, Walks.Page, SlotDisks.slot_now, Stores.SlotNow}
-use Rattle.mt_slots.specs.{Places.{in_order, given_up}, Keeps.{Mays, KeepsSlots, KeepsWriting}, declared.store_slots.StoreSlots.StoreSlots}
+use Rattle.mt_slots.specs.{Places.{in_order, given_up}, Keeps.{Mays, KeepsSlots, KeepsWriting}, Calls.GivesUpIn, declared.store_slots.StoreSlots.StoreSlots}
 use Rattle.mt_slots.specs.declared.checkpointing.Checkpointing.{Checkpointing}
 use Rattle.mt_pages.specs.{declared.walk.PageWalk.PageWalk, Pages.TakesAt, Walked.Finds}
 use Rattle.mt_lives.specs.{declared.live_slots.LiveSlots.LiveSlots, declared.live_slots.LiveSlots.TheVariants.{Rest, Turns, Writes, Away}}
@@ -14,7 +14,7 @@ use Rattle.mt_lives.specs.{declared.live_slots.Check.Check, declared.live_slots.
 use Rattle.mt_lives.specs.declared.live_slots.CheckStage.TheVariants.{Scans, Adds}
 use Rattle.mt_lives.specs.Lives.{Life, Past, story_in}
 
--- the slots, after a turn that was made was given up, with the checkpoint that was being written
+-- the slots as they stand, after a turn that was made has ended, with the checkpoint that was being written
 abbrev pub at_rest : LiveSlots → LiveSlots
 at_rest (Rest slots) = Rest slots
 at_rest (Turns turn) = Rest turn.slots
@@ -34,10 +34,14 @@ pending stage = []
 abbrev pub check_with : Checkpointing MemDisk → PageWalk → CheckStage → Check
 check_with writing walk stage = record { writing = writing; walk = walk; stage = stage }
 
+-- the checkpoint was given up, and its slot was cut, or that failed
+abbrev pub IsGivenUp : Checkpointing MemDisk → LiveSlots → Type 0
+IsGivenUp writing slots = (left : StoreSlots MemDisk) × (slots ≡ Rest left) × GivesUpIn (λ (d : MemDisk). true) mem_state (λ d. d.failures) writing left
+
 -- What comes after a scan was begun by a name. If it was not, the checkpoint is given up.
 abbrev pub AfterBegin : Checkpointing MemDisk → PageWalk → ℕ → Told → LiveSlots → Type 0
 AfterBegin writing walk name Begun slots = slots ≡ Writes (check_with writing walk (Scans name))
-AfterBegin writing walk name told slots = slots ≡ Rest (given_up writing)
+AfterBegin writing walk name told slots = IsGivenUp writing slots
 
 -- the walk has taken a page, and its pairs are to be added
 pub record TakesPage (writing : Checkpointing MemDisk) (walk : PageWalk) (page : Page) (slots : LiveSlots) : Type 0 where
@@ -49,8 +53,8 @@ pub record TakesPage (writing : Checkpointing MemDisk) (walk : PageWalk) (page :
 
 -- What comes after the scan's reply. If it shows no pairs, or memory is refused, the checkpoint is given up.
 abbrev pub AfterReply : Checkpointing MemDisk → PageWalk → Reply → LiveSlots → Type 0
-AfterReply writing walk (Pairs page) slots = TakesPage writing walk page slots ⊎ (slots ≡ Rest (given_up writing))
-AfterReply writing walk reply slots = slots ≡ Rest (given_up writing)
+AfterReply writing walk (Pairs page) slots = TakesPage writing walk page slots ⊎ IsGivenUp writing slots
+AfterReply writing walk reply slots = IsGivenUp writing slots
 
 -- What comes after a step of the scan of a name. It stays open, or it is done, or it is gone.
 abbrev pub AfterStep : Checkpointing MemDisk → PageWalk → ℕ → Told → LiveSlots → Type 0
@@ -59,7 +63,7 @@ AfterStep writing walk name Moved slots = slots ≡ Writes (check_with writing w
 AfterStep writing walk name (Again other) slots = slots ≡ Writes (check_with writing walk (Scans name))
 AfterStep writing walk name NoMemory slots = slots ≡ Writes (check_with writing walk (Scans name))
 AfterStep writing walk name Spent slots = slots ≡ Writes (check_with writing walk (Scans name))
-AfterStep writing walk name told slots = slots ≡ Rest (given_up writing)
+AfterStep writing walk name told slots = IsGivenUp writing slots
 
 -- An operation of a life is the scan that a walk makes next, and has made its steps since the walk began.
 pub record IsScanIn (life : Life) (first : ℕ) (walk : PageWalk) (name : ℕ) : Type 0 where

@@ -21,9 +21,13 @@ Logs = List (StoreLog MemDisk)
 abbrev pub Slots : Type 0
 Slots = StoreSlots MemDisk
 
+-- a disk failed, and perhaps once more when what was given up was cut
+abbrev pub HasFailed : ℕ → ℕ → Type 0
+HasFailed old new = GoesUp old new ⊎ ((failed : ℕ) × GoesUp old failed × GoesUp failed new)
+
 -- a slot's disk failed
 abbrev pub SlotFails : LiveSlots → LiveSlots → Type 0
-SlotFails old new = (was is : Slots) × (at_rest old ≡ Rest was) × (at_rest new ≡ Rest is) × ((slot : Slot) × GoesUp (disk_of slot was).failures (disk_of slot is).failures)
+SlotFails old new = (was is : Slots) × (at_rest old ≡ Rest was) × (at_rest new ≡ Rest is) × ((slot : Slot) × HasFailed (disk_of slot was).failures (disk_of slot is).failures)
 
 -- a log is not open
 abbrev pub IsNotOpen : StoreLog MemDisk → Type 0

@@ -6,7 +6,6 @@
 ghost use Rattle.std.specs.{Prelude.{◌≡◌, ◌<◌, ◌≤◌, ◌^◌, ◌↔◌, IsTrue, List, length, Some, IfOk, OnOk, slice_get}, List.All};
 ghost use Rattle.mt_rows.specs.{Accounts.{Accounts, numbers_of}, Commands.IsKey};
 ghost use Rattle.mt_disk.specs.declared.mem.MemDisk.{MemDisk as AnyDisk};
-ghost use Rattle.mt_slots.specs.Places.{given_up};
 ghost use Rattle.mt_store_logs.specs.{declared.store_log.StoreLog.{StoreLog as AnyLog}, Places.{workers_of, AreInOrder}};
 ghost use Rattle.mt_lives.specs.declared.live_slots.LiveSlots.TheVariants.{Rest, Turns as TurnsNow, Writes};
 ghost use Rattle.mt_lives.specs.declared.live_slots.TurnStage.TheVariants.{Begins as BeginsAt};
@@ -21,7 +20,7 @@ use crate::live_slots::{Check, CheckStage, LiveSlots, Turn, TurnStage};
 use crate::operations::core;
 use crate::serving::{Serving, Settle};
 use crate::turns::step_turn;
-use mt_disk::{DeviceFailed, MemDisk};
+use mt_disk::MemDisk;
 use mt_pages::PageWalk;
 use mt_rows::{Refusal, Reply, TenantPair, Tenants};
 use mt_runs::{Event, Told};
@@ -119,7 +118,7 @@ pub(crate) fn begin_writing(
             };
             (LiveSlots::Writes(check), StoreNote::CheckWrites(steps))
         }
-        Err((DeviceFailed, slots)) => (LiveSlots::Rest(slots), StoreNote::Refused(Refusal::Device)),
+        Err((_, slots)) => (LiveSlots::Rest(slots), StoreNote::Refused(Refusal::Device)),
     }
 }
 
@@ -235,7 +234,7 @@ fn begin_scan(
         }
         None => {
             let last = serving.state.steps();
-            Ok(end(writing, walk, last))
+            Ok(end(alloc, writing, walk, last))
         }
     }
 }
@@ -255,15 +254,22 @@ fn after_begin(writing: Checkpointing<MemDisk>, walk: PageWalk, name: u64, told:
 }
 
 // Ends the checkpoint after so many steps. All logs are settled next.
-fn end(writing: Checkpointing<MemDisk>, walk: PageWalk, last: u64) -> (LiveSlots, StoreNote)
+fn end(
+    alloc: Global,
+    writing: Checkpointing<MemDisk>,
+    walk: PageWalk,
+    last: u64,
+) -> (LiveSlots, StoreNote)
     requires few { last ≤ 2 ^ 59 }
+    requires held { (logs : List (AnyLog AnyDisk)) × (serving : AnyServing) × IsHeldBy (Writes (check_with writing walk BeginsNext)) logs (Some serving)
+        × (serving.state.steps ≡ last) × (slice_get walk.tenants.items walk.place ≡ None) }
     ensures goes { (accounts : Accounts) (logs : List (AnyLog AnyDisk)) (serving : AnyServing) → serving.state.steps ≡ last → slice_get walk.tenants.items walk.place ≡ None
         → GoesOn accounts (Writes (check_with writing walk BeginsNext)) result.0 CheckStep result.1 logs (Some serving) logs (Some serving) }
     ensures forced { IsWriteForced result.1 (Writes (check_with writing walk BeginsNext)) result.0 }
 {
     let _walk = walk;
-    match writing.end(last) {
-        Ok(slots) => (
+    match writing.end(alloc, last) {
+        Ok((slots, _)) => (
             LiveSlots::Turns(Turn {
                 slots,
                 stage: TurnStage::Settles(Settle {
@@ -274,7 +280,10 @@ fn end(writing: Checkpointing<MemDisk>, walk: PageWalk, last: u64) -> (LiveSlots
             }),
             StoreNote::CheckEnded(last),
         ),
-        Err((DeviceFailed, slots)) => (LiveSlots::Rest(slots), StoreNote::Refused(Refusal::Device)),
+        Err((fault, slots)) => (
+            LiveSlots::Rest(slots),
+            StoreNote::Refused(fault.cause.refusal()),
+        ),
     }
 }
 
@@ -345,7 +354,8 @@ fn add(
     walk: PageWalk,
     pairs: Vec<TenantPair>,
 ) -> (LiveSlots, StoreNote)
-    requires { All (λ p. IsKey p.key) pairs.items }
+    requires keys { All (λ p. IsKey p.key) pairs.items }
+    requires held { (logs : List (AnyLog AnyDisk)) × (serving : AnyServing) × IsHeldBy (Writes (check_with writing walk (AddsThese pairs))) logs (Some serving) }
     ensures goes { (accounts : Accounts) (logs : List (AnyLog AnyDisk)) (serving : AnyServing)
         → GoesOn accounts (Writes (check_with writing walk (AddsThese pairs))) result.0 CheckStep result.1 logs (Some serving) logs (Some serving) }
     ensures forced { IsWriteForced result.1 (Writes (check_with writing walk (AddsThese pairs))) result.0 }

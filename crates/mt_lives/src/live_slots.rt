@@ -63,14 +63,14 @@ pub enum CheckStage {
 }
 
 impl LiveSlots {
-    /// Gives up the turn that is made, if one is, with the checkpoint that is being written.
+    /// Ends the turn that is made, if one is, and leaves the slots as they stand, as a crash does.
     pub fn rest(&mut self)
         ensures { self.new ≡ at_rest self.old }
     {
         *self = match mem::replace(self, LiveSlots::Away) {
             LiveSlots::Rest(slots) => LiveSlots::Rest(slots),
             LiveSlots::Turns(turn) => LiveSlots::Rest(turn.slots),
-            LiveSlots::Writes(check) => LiveSlots::Rest(check.given_up()),
+            LiveSlots::Writes(check) => LiveSlots::Rest(check.into_slots()),
             LiveSlots::Away => LiveSlots::Away,
         };
     }
@@ -90,8 +90,8 @@ impl LiveSlots {
 }
 
 impl Check {
-    // Gives it up.
-    fn given_up(self) -> StoreSlots<MemDisk>
+    // Its slots as they stand.
+    fn into_slots(self) -> StoreSlots<MemDisk>
         ensures { result ≡ given_up self.writing }
     {
         let Check {
@@ -99,6 +99,6 @@ impl Check {
             walk: _,
             stage: _,
         } = self;
-        writing.give_up()
+        writing.into_slots()
     }
 }

@@ -244,7 +244,7 @@ fn slot_disks(rt: &impl Abort, slots: LiveSlots) -> (MemDisk, MemDisk) {
     let slots = match slots {
         LiveSlots::Rest(slots) => slots,
         LiveSlots::Turns(turn) => turn.slots,
-        LiveSlots::Writes(check) => check.writing.give_up(),
+        LiveSlots::Writes(check) => check.writing.into_slots(),
         LiveSlots::Away => panic!(rt; "the slots are away"),
     };
     slots.into_disks()

@@ -1,5 +1,5 @@
 -- A worker's log in a turn as its next log is begun or looked for, and as it is opened again.
-use Rattle.std.proofs.Common.{◌≡◌, ◌⊎◌, ⊎_elim, inl, inr, ℕ, ◌+◌, Bool, true, false, Option, Some, None, refl, sym, ◌∙◌, ap, subst, arith}
+use Rattle.std.proofs.Common.{◌≡◌, ◌≢◌, ◌⊎◌, ⊎_elim, inl, inr, ℕ, ◌+◌, Bool, true, false, Option, Some, None, refl, sym, ◌∙◌, ap, subst, arith}
 use Rattle.std.proofs.lemmas.Option.{same_Some}
 use Rattle.std.specs.Option.{option_map}
 use Rattle.mt_rows.specs.{declared.record.Batch.Batch, declared.refusal.Refusal.Refusal}
@@ -13,7 +13,7 @@ use Rattle.mt_log_files.specs.{Shows.{Shows, IsHonest}, Files.{FileNow, Spare, H
 use Rattle.mt_log_files.proofs.FileLaws as calls
 use Rattle.mt_log_files.proofs.{WorkerLaws.{begun_files, settled_files}, ShowLaws.open_shows}
 use Rattle.mt_chain_files.specs.Turns.{FilesNow, now_of, IsOfGeneration, ShowFiles}
-use Rattle.mt_turns.specs.{declared.worker_log.WorkerLog.WorkerLog, Logs.{mark_in, next_of, TurnsTo}, Turns.{IsNextHeader, NextNotBegun}}
+use Rattle.mt_turns.specs.{declared.worker_log.WorkerLog.WorkerLog, Logs.{mark_in, next_of, TurnsTo}, Turns.{IsNextHeader, HasNoNext, NextNotBegun, NextNotSpare}}
 use Rattle.mt_turns.proofs.Places as places
 use Rattle.mt_store_logs.specs.{declared.store_log.StoreLog.StoreLog, Places.{last_log_of, slot_of}}
 use Rattle.mt_store_logs.specs.Turns.{OnLog, FindsNext, FindsNoNext, BeginsNextLog, FailsToBeginNextLog, LooksForNext, FailsToLook, ReopensLog, FailsToReopenLog}
@@ -388,7 +388,22 @@ module _ {D : Type 0} (is_honest : D → Bool) (state : D → DiskState) where
           now_is g (Has last) mid ∙ sym first,
         )
 
+    -- its file is spare
+    never_not_spare : (g : ℕ) (now : LogNow) (files : FilesNow) (old new : StoreLog D) → In g now files old → old.log.generation ≡ g
+        → OnLog old.next_in_doubt (NextNotSpare is_honest state failures) old new → ⊥
+    never_not_spare g now files old new s of b =
+        let is = is_begun g now files old s b.does.header of b.does.next in
+        let shown = spare_next g now files old s of is.spare in
+        calls.never_refused is_honest state failures (parity_of (old.log.generation + 1)) (next_of old.log) b.does.finds.slot shown.0 shown.1 b.does.finds.does
+
     pub next_not_begun_in_turn : (g : ℕ) (now : LogNow) (files : FilesNow) (e : Refusal) (old new : StoreLog D) → In g now files old → old.log.generation ≡ g
         → FailsToBeginNextLog is_honest state failures e old new → (then : FilesNow) × In g now then new × (now_of g then ≡ now_of g files)
     next_not_begun_in_turn g now files e old new s of (inl none) = (files, subst (In g now files) (sym none.1) s, refl)
-    next_not_begun_in_turn g now files e old new s of (inr b) = next_doubted g now files old new s of b.1
+    next_not_begun_in_turn g now files e old new s of (inr (inl b)) = next_doubted g now files old new s of b.1
+    next_not_begun_in_turn g now files e old new s of (inr (inr b)) = absurd (never_not_spare g now files old new s of b.1)
+
+    pub never_log_count : (g : ℕ) (now : LogNow) (files : FilesNow) (e : Refusal) (old new : StoreLog D) → In g now files old → old.log.generation ≡ g
+        → FailsToBeginNextLog is_honest state failures e old new → e ≢ refusals.LogCount
+    never_log_count g now files e old new s of (inl none) is = subst (λ (r : Refusal). HasNoNext r old.log) is none.0
+    never_log_count g now files e old new s of (inr (inl b)) is = let clash : refusals.Device ≡ refusals.LogCount = sym b.0 ∙ is in absurd cc
+    never_log_count g now files e old new s of (inr (inr b)) is = never_not_spare g now files old new s of b.1

@@ -91,7 +91,7 @@ module _ {D : Type 0} (is_honest : D → Bool) (state : D → DiskState) (failur
   no_choice g chains chosen = ⊎_elim (λ last. no_last g last) (λ next. no_last (g + 1) next.0) chosen.2
 
   none_begin : (standings : List Standing) → AgreeFrom 1 [] standings → RefuseToBegin standings slots (record { log = None; refusal = refusals.LogCount })
-  none_begin [] agree = inl (no_choice, refl)
+  none_begin [] agree = inl (inl no_choice, refl)
   none_begin (f ∷ standings) agree = absurd agree
 
   -- no log is no store

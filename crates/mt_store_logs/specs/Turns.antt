@@ -6,7 +6,7 @@ use Rattle.mt_log_generations.specs.Headers.{parity_of}
 use Rattle.mt_log.specs.declared.batch.Front.{Front}
 use Rattle.mt_recover.specs.declared.resuming.LogSlot.{LogSlot}
 use Rattle.mt_log_files.specs.Slots.{disk_in, with_file, OpensNumbered, FailsToOpenNumbered}
-use Rattle.mt_turns.specs.{declared.worker_log.WorkerLog.WorkerLog, Logs.{next_of, TurnsTo}, Turns.{BeginsNext, HasNoNext, NextNotBegun}}
+use Rattle.mt_turns.specs.{declared.worker_log.WorkerLog.WorkerLog, Logs.{next_of, TurnsTo}, Turns.{BeginsNext, HasNoNext, NextNotBegun, NextNotSpare}}
 use Rattle.mt_store_logs.specs.{declared.store_log.StoreLog.StoreLog, Places.{worker_of, OnLast}, Waits.{Reopens, FailsToReopen}, Flushes.{Flushes, FailsToFlush}}
 use Rattle.mt_rows.specs.declared.refusal.Refusal.TheVariants as refusals
 
@@ -44,12 +44,15 @@ module _ {D : Type 0} (is_honest : D → Bool) (state : D → DiskState) (failur
     pub stands : TurnsTo old.generation (with_file (old.generation + 1) slot old.files) old new
 
 module _ {D : Type 0} (is_honest : D → Bool) (state : D → DiskState) (failures : D → ℕ) where
-  -- The next log was begun, and is the last one now. Or nothing was done; or its disk failed in that, and it may be there or not.
+  -- The next log was begun, and is the last one now. Or nothing was done; or its disk failed in that, and it may be there or not; or its file isn't spare.
   abbrev pub BeginsNextLog : StoreLog D → StoreLog D → Type 0
   BeginsNextLog old new = OnLog false (BeginsNext is_honest state failures) old new
 
   abbrev pub FailsToBeginNextLog : Refusal → StoreLog D → StoreLog D → Type 0
-  FailsToBeginNextLog e old new = (HasNoNext e old.log × (new ≡ old)) ⊎ ((e ≡ refusals.Device) × OnLog true (NextNotBegun is_honest state failures) old new)
+  FailsToBeginNextLog e old new =
+      (HasNoNext e old.log × (new ≡ old))
+      ⊎ (((e ≡ refusals.Device) × OnLog true (NextNotBegun is_honest state failures) old new)
+      ⊎ ((e ≡ refusals.LogCount) × OnLog old.next_in_doubt (NextNotSpare is_honest state failures) old new))
 
   -- If the next log may be there, its file was opened again. So it is known which log is the last one.
   abbrev pub LooksForNext : StoreLog D → StoreLog D → Type 0

@@ -132,7 +132,7 @@ pub fn a_log_in_a_turn_is_opened_again<D: Disk>()
 {}
 
 /// So it is as the next log is begun, if the last one is that of the turn's first generation. The file of that stays. If it
-/// fails, the next log may be there or not, or nothing has changed.
+/// fails, the next log may be there or not, or nothing has changed. Its file is never found not to be spare.
 pub fn the_next_log_of_a_turn_is_begun<D: Disk>()
     ensures begun { (g : ℕ) (now : LogNow) (files : FilesNow) (old new : StoreLog D) → StandsInTurn D.is_honest D.state g now files old
         → old.log.generation ≡ g → BeginsNextLog D.is_honest D.state D.failures old new
@@ -140,6 +140,8 @@ pub fn the_next_log_of_a_turn_is_begun<D: Disk>()
     ensures failed { (g : ℕ) (now : LogNow) (files : FilesNow) (e : Refusal) (old new : StoreLog D) → StandsInTurn D.is_honest D.state g now files old
         → old.log.generation ≡ g → FailsToBeginNextLog D.is_honest D.state D.failures e old new
         → (then : FilesNow) × StandsInTurn D.is_honest D.state g now then new × (now_of g then ≡ now_of g files) }
+    ensures refusal { (g : ℕ) (now : LogNow) (files : FilesNow) (e : Refusal) (old new : StoreLog D) → StandsInTurn D.is_honest D.state g now files old
+        → old.log.generation ≡ g → FailsToBeginNextLog D.is_honest D.state D.failures e old new → e ≢ refusals.LogCount }
 {}
 
 /// Once the older log is given up, its file is spare, and the files are still of the turn. The file of the last log stays. If

@@ -1,17 +1,13 @@
 -- The walk's next scan begins, or the checkpoint ends.
-use Rattle.std.proofs.Common.{inl, refl, sym, subst, ◌∙◌, arith}
-use Rattle.mt_disk.specs.declared.mem.MemDisk.{MemDisk}
+use Rattle.std.proofs.Common.{inl, refl, sym, ◌∙◌, arith}
 use Rattle.mt_rows.specs.declared.refusal.Refusal.TheVariants.{Memory}
-use Rattle.mt_slots.specs.declared.store_slots.StoreSlots.{StoreSlots}
-use Rattle.mt_lives.specs.{declared.live_slots.LiveSlots.TheVariants.{Rest, Writes}, declared.live_slots.CheckStage.TheVariants.Begins, Checks.check_with}
-use Rattle.mt_lives.specs.{declared.events.StoreEvent.TheVariants.CheckStep, declared.events.StoreNote.TheVariants.Refused}
-use Rattle.mt_lives.proofs.CheckNotes.{Goes, given_so, begin_goes_on, none_is}
+use Rattle.mt_lives.specs.{declared.live_slots.LiveSlots.TheVariants.Writes, declared.live_slots.CheckStage.TheVariants.Begins, Checks.check_with}
+use Rattle.mt_lives.proofs.CheckNotes.{given_so, begin_goes_on, none_is}
 use Rattle.mt_lives.proofs.checks.begin_scan.Goals as goal
 
 pub returns-in-Err-clause-goes : goal.returns-in-Err-clause-goes
 returns-in-Err-clause-goes c = λ accounts logs standing h.
-    subst (λ (ss : StoreSlots MemDisk). Goes accounts standing logs c.args.serving.now CheckStep (Refused Memory) (Rest ss) c.args.serving.now) (sym c.give_up.ensures)
-    (given_so accounts standing logs c.args.serving.now c.args.writing c.args.walk Begins h Memory (inl refl))
+    given_so accounts standing logs c.args.serving.now c.args.writing c.args.walk Begins h Memory (inl refl) c.give_up.result c.give_up.ensures
 
 pub core-requires : goal.core-requires
 core-requires c =
@@ -23,6 +19,15 @@ pub returns-in_ok-told-in-Some-clause-goes : goal.returns-in_ok-told-in-Some-cla
 returns-in_ok-told-in-Some-clause-goes c = λ accounts logs standing h.
     begin_goes_on accounts standing logs c.args.serving.now c.args.writing c.args.walk h c.core.new.serving _ c.in-Some.tenant c.in-Some.command (sym c.in-Some.is ∙ c.in-Ok.ensures) c.in_ok-told-in-Some.told
     c.in_ok-told-in-Some.ensures.tells c.after_begin-slots.result c.after_begin-slots.ensures
+
+pub end-requires-clause-held : goal.end-requires-clause-held
+end-requires-clause-held c = (
+  c.requires.0,
+  c.args.serving.now,
+  c.requires.1,
+  sym c.steps-last.ensures.value,
+  none_is c.args.walk.tenants.items c.args.walk.place c.args.walk.from c.args.walk.after (sym c.in-None.is ∙ c.in-Ok.ensures),
+)
 
 pub returns-in-None-clause-goes : goal.returns-in-None-clause-goes
 returns-in-None-clause-goes c = λ accounts logs standing h.

@@ -13,8 +13,15 @@ pub step_scan-requires : goal.step_scan-requires
 step_scan-requires c =
     (c.requires.0, subst (λ (s : CheckStage). IsHeldBy (Writes (check_with c.args.check.writing c.args.check.walk s)) c.requires.0 (Some c.args.serving.now)) c.in-Scans.is c.requires.1)
 
-pub add-requires : goal.add-requires
-add-requires c =
+pub add-requires-clause-held : goal.add-requires-clause-held
+add-requires-clause-held c = (
+  c.requires.0,
+  c.args.serving.now,
+  subst (λ (s : CheckStage). IsHeldBy (Writes (check_with c.args.check.writing c.args.check.walk s)) c.requires.0 (Some c.args.serving.now)) c.in-Adds.is c.requires.1,
+)
+
+pub add-requires-clause-keys : goal.add-requires-clause-keys
+add-requires-clause-keys c =
     let held = subst (λ (s : CheckStage). IsHeldBy (Writes (check_with c.args.check.writing c.args.check.walk s)) c.requires.0 (Some c.args.serving.now)) c.in-Adds.is c.requires.1 in
     keys_pending held.0 held.1 c.requires.0 c.args.serving.now c.args.check.writing c.args.check.walk c.in-Adds.pairs held.2
 

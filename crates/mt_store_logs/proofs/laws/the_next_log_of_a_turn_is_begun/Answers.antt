@@ -7,3 +7,6 @@ returns-clause-begun g c = turns.next_begun_in_turn g.D.Disk.is_honest g.D.Disk.
 
 pub returns-clause-failed : goal.returns-clause-failed
 returns-clause-failed g c = turns.next_not_begun_in_turn g.D.Disk.is_honest g.D.Disk.state g.D.Disk.failures
+
+pub returns-clause-refusal : goal.returns-clause-refusal
+returns-clause-refusal g c = turns.never_log_count g.D.Disk.is_honest g.D.Disk.state g.D.Disk.failures
