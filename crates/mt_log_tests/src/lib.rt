@@ -2,8 +2,8 @@
 //!
 //! Of one log: which calls fail, what a crash may leave, bytes worked out by hand, and real files. Of the log of a
 //! generation: its numbered file, from spare to spare, and a store that is recovered from it (`chains`). Of the logs of a
-//! store that are recovered (`slots`): logs worked out by hand, each refusal, logs that are older than the others,
-//! and random stores that crash anywhere. Of the logs of a running store (`stores`): a worker's changes on their way
+//! store that are recovered (`slots`): logs worked out by hand, each refusal, and logs that are older than the others.
+//! Of the logs of a running store (`stores`): a worker's changes on their way
 //! into its log, each call of a disk failing, alone and with a later one, crashes, and which log is told if some are
 //! not opened. And of a store in a turn: the next log that may be there or not, a recovery in the midst of the turn, and
 //! two turns stopped at each call (`turns`).
@@ -15,13 +15,13 @@
 #[cfg(test)]
 mod chains;
 #[cfg(test)]
-mod chance;
-#[cfg(test)]
 mod changes;
 #[cfg(test)]
 mod copies;
 #[cfg(test)]
 mod crashes;
+#[cfg(test)]
+mod cuts;
 #[cfg(test)]
 mod disks;
 #[cfg(test)]
@@ -33,13 +33,9 @@ mod flushes;
 #[cfg(test)]
 mod generations;
 #[cfg(test)]
-mod lives;
-#[cfg(test)]
 mod logs;
 #[cfg(test)]
 mod openings;
-#[cfg(test)]
-mod random_stores;
 #[cfg(test)]
 mod refusals;
 #[cfg(test)]

@@ -275,8 +275,8 @@ pub fn written(alloc: Global, walk: Walk) -> Result<MemDisk, Refusal> {
     let Ok(writer) = writer.add(alloc, &pairs) else {
         return Err(Refusal::Memory);
     };
-    match writer.end(walk.last) {
-        Ok(disk) => Ok(disk),
+    match writer.end(alloc, walk.last) {
+        Ok((disk, _)) => Ok(disk),
         Err(_) => Err(Refusal::Device),
     }
 }

@@ -342,27 +342,27 @@ fn a_call_that_fails_gives_the_disk_back(rt: HostRuntime) -> Result<(), Fail> {
     Ok(())
 }
 
-// What an opening tells of the vector with one byte changed.
-fn with_byte(alloc: Global, place: usize, byte: u8) -> Result<Told, AllocError> {
-    let mut image = VECTOR;
+// What an opening tells of a log with one byte changed.
+fn with_byte(alloc: Global, whole: &[u8], place: usize, byte: u8) -> Result<Told, AllocError> {
+    let mut image = whole.to_vec(alloc)?;
     if let Some(at) = image.get_mut(place) {
         *at = byte;
     }
     opened(alloc, &image)
 }
 
-// What is told of batches that rise and join, or else of ones that don't.
-fn rising(rises: bool, mark: u64) -> Told {
+// What is told of so many batches that rise and join, or else of ones that don't.
+fn rising(rises: bool, mark: u64, batches: usize) -> Told {
     if rises {
-        Told::Front(mark, 2)
+        Told::Front(mark, batches)
     } else {
-        Told::Falls(mark, 2)
+        Told::Falls(mark, batches)
     }
 }
 
-// The end of the second batch with one of its bytes changed.
-fn changed_end(place: usize, byte: u8) -> u64 {
-    let mut bytes = [0, 0, 0, 0, 0, 0, 0, 9];
+// The end of a batch, at most 255, with one of its bytes changed.
+fn changed_end(end: u8, place: usize, byte: u8) -> u64 {
+    let mut bytes = [0, 0, 0, 0, 0, 0, 0, end];
     if let Some(at) = bytes.get_mut(place) {
         *at = byte;
     }
@@ -386,7 +386,7 @@ fn want(place: usize, byte: u8) -> Told {
         22 if byte > 7 => Told::Bad(0, 8),
         14..=29 => Told::Falls(9, 2),
         // A stamp over the batch's beginning, and up to its end; another tenant, key or column.
-        41 => rising((1..=6).contains(&byte), 9),
+        41 => rising((1..=6).contains(&byte), 9, 2),
         34..=40 => Told::Falls(9, 2),
         42..=45 | 48 | 53 => Told::Front(9, 2),
         // A batch whose length or kind, or whose number, key or row of a record doesn't fit its body.
@@ -396,12 +396,56 @@ fn want(place: usize, byte: u8) -> Told {
         60..=67 => Told::Falls(9, 2),
         68 if byte > 7 => Told::Bad(0, 54),
         68..=75 => {
-            let end = changed_end(place - 68, byte);
-            rising(end >= 6, end)
+            let end = changed_end(9, place - 68, byte);
+            rising(end >= 6, end, 2)
         }
-        83 => rising(byte <= 9, 9),
+        83 => rising(byte <= 9, 9, 2),
         _ => Told::Falls(9, 2),
     }
+}
+
+// The same of the 55 bytes of a log of format 1, which has the first batch alone. The kind of its batch may also be that of
+// format 2, in which this record is spelled alike.
+fn want_of_format_1(place: usize, byte: u8) -> Told {
+    match place {
+        5 if byte == 2 => Told::Bad(0, 8),
+        6 => Told::Bad(byte, 0),
+        7 if (1..=64).contains(&byte) => Told::Front(6, 1),
+        0..=7 => Told::Bad(0, 0),
+        8 => Told::Front(0, 0),
+        13 if byte == 2 => Told::Front(6, 1),
+        14..=21 => Told::Falls(6, 1),
+        22 if byte > 7 => Told::Bad(0, 8),
+        22..=29 => {
+            let end = changed_end(6, place - 22, byte);
+            rising(end >= 5, end, 1)
+        }
+        41 => rising((1..=6).contains(&byte), 6, 1),
+        34..=40 => Told::Falls(6, 1),
+        42..=45 | 48 | 53 => Told::Front(6, 1),
+        54 if byte == 1 => Told::Bad(0, 54),
+        54 => Told::Front(6, 1),
+        _ => Told::Bad(0, 8),
+    }
+}
+
+#[test]
+fn each_changed_byte_of_format_1_is_told_for_what_it_is(rt: HostRuntime) -> Result<(), Fail> {
+    let alloc = rt.alloc();
+    let whole = one_batch(alloc, old_vector(), 0)?;
+    assert!(rt; whole.len() == 55 && opened(alloc, &whole)? == Told::Front(6, 1));
+    for place in 0..55 {
+        for byte in 0..=255 {
+            if whole.get(place) != Some(&byte) {
+                let told = with_byte(alloc, &whole, place, byte)?;
+                assert!(rt;
+                    told == want_of_format_1(place, byte),
+                    "{byte} at {place}: {told:?}"
+                );
+            }
+        }
+    }
+    Ok(())
 }
 
 #[test]
@@ -421,7 +465,7 @@ fn each_prefix_and_changed_byte_is_told_for_what_it_is(rt: HostRuntime) -> Resul
     for place in 0..85 {
         for byte in 0..=255 {
             if VECTOR.get(place) != Some(&byte) {
-                let told = with_byte(alloc, place, byte)?;
+                let told = with_byte(alloc, &VECTOR, place, byte)?;
                 assert!(rt; told == want(place, byte), "{byte} at {place}: {told:?}");
             }
         }
