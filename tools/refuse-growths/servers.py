@@ -8,6 +8,7 @@ import shutil
 import socket
 import subprocess
 import sys
+import time
 from collections.abc import Callable
 from pathlib import Path
 
@@ -187,6 +188,19 @@ def expect_kept(program: str, order: Order, folder: Path, keys: list[bytes], *wo
             raise Fault(f"a Settle of the next server: {reply or 'the end'}")
 
 
+def comes_true(is_so: Callable[[], bool], seconds: float = 10) -> bool:
+    end = time.monotonic() + seconds
+    while not is_so():
+        if time.monotonic() > end:
+            return False
+        time.sleep(0.01)
+    return True
+
+
+def has_open_slot(folder: Path) -> bool:
+    return any((folder / f"check-{slot}").read_bytes()[:1] == b"\x01" for slot in (0, 1))
+
+
 def settled(program: str, order: Order, growth: int, folder: Path, words: list[str], answers: int) -> str | None:
     """What came of a Settle, or of the answer at which a worker's log has its turn, where so many come before it."""
     order.refuse(0)
@@ -196,6 +210,9 @@ def settled(program: str, order: Order, growth: int, folder: Path, words: list[s
         client.expect(*((put(key), NEW) for key in keys), *[(Get(b"a"), FOUND)] * answers)
         order.refuse(growth)
         reply = client.ask(Get(b"a") if answers else Settle())
+        if words:
+            # The turn is made after its Settle is answered. One that is stopped opens no gate.
+            comes_true(lambda: has_open_slot(folder), 1)
         was_refused = order.release()
         is_right = reply == FOUND if answers else SETTLED.fullmatch(reply)
         if not is_right and (not was_refused or reply not in ("", *OF_A_SETTLE)):
@@ -204,8 +221,12 @@ def settled(program: str, order: Order, growth: int, folder: Path, words: list[s
             client = Client(server)
         if not SETTLED.fullmatch(again := client.ask(Settle())):
             raise Fault(f"a Settle after that: {again or 'the end'}")
-        if words and not any((folder / f"check-{slot}").read_bytes()[:1] == b"\x01" for slot in (0, 1)):
-            raise Fault("no checkpoint is there after the next Settle")
+        if words:
+            # After a turn that is stopped the next one takes two settles. It is made after they are answered.
+            if not SETTLED.fullmatch(again := client.ask(Settle())):
+                raise Fault(f"one more Settle: {again or 'the end'}")
+            if not comes_true(lambda: has_open_slot(folder)):
+                raise Fault("no checkpoint is there after two more Settles")
         _, said = server.end()
     expect_kept(program, order, folder, keys, "--workers", "1")
     if is_right:
