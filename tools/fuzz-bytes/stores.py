@@ -284,8 +284,12 @@ def chosen(files: list[WorkerFiles], slots: list[bytes]) -> list[Log]:
         last -= 1
     if not can_begin(last, workers, slots):
         raise StoreRefused(15)
+    for place, logs in enumerate(workers):
+        used = [logs[one] for one in (last, last + 1) if one in logs]
+        if any((log.worker, log.count) != (place, len(files)) for log in used):
+            raise StoreRefused(15)
     for logs in workers:
-        if last + 1 in logs and logs[last + 1].start != logs[last].mark:
+        if last + 1 in logs and logs[last + 1].start != logs[last].mark or last + 2 in logs:
             raise StoreRefused(13)
     return chains_from(last, workers)
 
