@@ -65,14 +65,9 @@ fn a_crash_at_any_call_leaves_a_whole_one_or_none(rt: HostRuntime) -> Result<(),
     let alloc = rt.alloc();
     for call in 3..32 {
         let made = two(alloc, &[], Some(call))?;
-        assert!(rt; made.is_some());
-        if let Some((disk, first, second)) = made {
-            assert!(rt;
-                first == (call > 15) && second == (call > 30),
-                "stopped at {call}"
-            );
-            assert!(rt; torn_left(alloc, &disk, second)? > 0, "stopped at {call}");
-        }
+        let (disk, first, second) = made.expect(&rt, "a slot is made");
+        assert!(rt; first == (call > 15) && second == (call > 30), "{call}");
+        assert!(rt; torn_left(alloc, &disk, second)? > 0, "stopped at {call}");
     }
     Ok(())
 }
@@ -83,17 +78,12 @@ fn a_slot_whose_disk_failed_is_read_again(rt: HostRuntime) -> Result<(), Fail> {
     let alloc = rt.alloc();
     for call in 3..36 {
         let made = two(alloc, &[call], None)?;
-        assert!(rt; made.is_some());
-        if let Some((mut disk, _, second)) = made {
-            let read = told_of(&read_valid(alloc, &mut disk));
-            assert!(rt;
-                read == Told::Device || may_be(read, second),
-                "{call} failing"
-            );
-            let again = told_of(&read_valid(alloc, &mut disk));
-            assert!(rt; read == Told::Device || again == read, "{call} failing");
-            assert!(rt; read_as(alloc, disk.image())? == again, "{call} failing");
-        }
+        let (mut disk, _, second) = made.expect(&rt, "a slot is made");
+        let read = told_of(&read_valid(alloc, &mut disk));
+        assert!(rt; read == Told::Device || may_be(read, second), "{call}");
+        let again = told_of(&read_valid(alloc, &mut disk));
+        assert!(rt; read == Told::Device || again == read, "{call} failing");
+        assert!(rt; read_as(alloc, disk.image())? == again, "{call} failing");
     }
     Ok(())
 }

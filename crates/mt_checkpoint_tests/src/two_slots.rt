@@ -7,14 +7,18 @@ use mt_slots::{FaultCause, Slot, SlotFault, StoreSlots};
 use std::alloc::{AllocError, Global};
 use std::test::Fail;
 
-// Two slots on disks that fail at these calls, and why they were not made.
+// Two slots, a call of one of whose disks fails, 0 where none does; and why they were not made.
 fn slots_with(
     alloc: Global,
-    first: &[u64],
-    second: &[u64],
+    slot: Slot,
+    call: u64,
 ) -> Result<(StoreSlots<MemDisk>, Option<SlotFault>), AllocError> {
-    let first = MemDisk::new(alloc, first.to_vec(alloc)?, None);
-    let second = MemDisk::new(alloc, second.to_vec(alloc)?, None);
+    let failing = MemDisk::new(alloc, [call].to_vec(alloc)?, None);
+    let sound = MemDisk::new(alloc, Vec::new(alloc), None);
+    let (first, second) = match slot {
+        Slot::First => (failing, sound),
+        Slot::Second => (sound, failing),
+    };
     let mut slots = StoreSlots::found(first, second);
     match slots.create() {
         Ok(()) => Ok((slots, None)),
@@ -55,7 +59,7 @@ fn told_both(alloc: Global, slots: &mut StoreSlots<MemDisk>) -> Result<[Told; 2]
 
 // Slots of which each has a checkpoint, the second one the newest.
 fn both_written(alloc: Global) -> Result<StoreSlots<MemDisk>, AllocError> {
-    let (slots, _) = slots_with(alloc, &[], &[])?;
+    let (slots, _) = slots_with(alloc, Slot::First, 0)?;
     let (slots, _) = write_in(alloc, slots, (6, 9), Slot::First)?;
     let (slots, _) = write_in(alloc, slots, (12, 15), Slot::Second)?;
     Ok(slots)
@@ -64,7 +68,7 @@ fn both_written(alloc: Global) -> Result<StoreSlots<MemDisk>, AllocError> {
 #[test]
 fn each_checkpoint_goes_to_the_other_slot(rt: HostRuntime) -> Result<(), Fail> {
     let alloc = rt.alloc();
-    let (mut slots, fault) = slots_with(alloc, &[], &[])?;
+    let (mut slots, fault) = slots_with(alloc, Slot::First, 0)?;
     assert!(rt; fault.is_none() && slots.newest().is_none() && slots.owed() == 0);
     assert!(rt; told_both(alloc, &mut slots) == Ok([Told::None, Told::None]));
     for (steps, slot, told) in [
@@ -94,27 +98,19 @@ fn each_checkpoint_goes_to_the_other_slot(rt: HostRuntime) -> Result<(), Fail> {
 fn a_failing_call_leaves_the_newest(rt: HostRuntime) -> Result<(), Fail> {
     let alloc = rt.alloc();
     for call in 3..16 {
-        let (slots, fault) = slots_with(alloc, &[], &[call])?;
+        let (slots, fault) = slots_with(alloc, Slot::Second, call)?;
         let (slots, first) = write_in(alloc, slots, (6, 9), Slot::First)?;
         let (mut slots, second) = write_in(alloc, slots, (12, 15), Slot::Second)?;
         assert!(rt; fault.is_none() && first && !second, "{call} failing");
-        assert!(rt;
-            slots.newest() == Some(Slot::First) && slots.owed() == 9,
-            "{call} failing"
-        );
+        assert!(rt; slots.newest() == Some(Slot::First), "{call} failing");
+        assert!(rt; slots.owed() == 9, "{call} failing");
         let told = told_both(alloc, &mut slots);
-        let either = [Told::None, Told::Walk(12, 15, 1)];
-        assert!(rt;
-            either
-                .iter()
-                .any(|second| told == Ok([Told::Walk(6, 9, 1), *second])),
-            "{call} failing"
-        );
+        let old = Told::Walk(6, 9, 1);
+        let either = [Ok([old, Told::None]), Ok([old, Told::Walk(12, 15, 1)])];
+        assert!(rt; either.contains(&told), "{call} failing");
         let (slots, again) = write_in(alloc, slots, (16, 19), Slot::Second)?;
-        assert!(rt;
-            again && slots.newest() == Some(Slot::Second) && slots.owed() == 19,
-            "{call} failing"
-        );
+        let is_newest = slots.newest() == Some(Slot::Second);
+        assert!(rt; again && is_newest && slots.owed() == 19, "{call} failing");
     }
     Ok(())
 }
@@ -144,11 +140,11 @@ fn what_is_kept_is_not_written_over(rt: HostRuntime) -> Result<(), Fail> {
         let mut slots = StoreSlots::found(first, second);
         slots.keep(used);
         let (mut slots, begun) = begin_in_vain(slots);
-        assert!(rt; begun == Some(slot), "{used:?}");
         assert!(rt;
-            slots.newest() == used && slots.next_slot() == slot && slots.owed() == 0,
+            (begun, slots.next_slot()) == (Some(slot), slot),
             "{used:?}"
         );
+        assert!(rt; slots.newest() == used && slots.owed() == 0, "{used:?}");
         assert!(rt; told_both(alloc, &mut slots) == Ok(told), "{used:?}");
     }
     Ok(())
@@ -157,24 +153,18 @@ fn what_is_kept_is_not_written_over(rt: HostRuntime) -> Result<(), Fail> {
 #[test]
 fn a_fault_tells_the_slot(rt: HostRuntime) -> Result<(), Fail> {
     let alloc = rt.alloc();
-    let device = |slot| SlotFault {
-        slot,
-        cause: FaultCause::Device,
-    };
     for (number, slot) in [(0, Some(Slot::First)), (1, Some(Slot::Second)), (2, None)] {
         assert!(rt; Slot::numbered(number) == slot);
     }
-    for call in [1, 2] {
-        let (_, fault) = slots_with(alloc, &[call], &[])?;
-        assert!(rt; fault == Some(device(Slot::First)), "{call} failing");
-        let (_, fault) = slots_with(alloc, &[], &[call])?;
-        assert!(rt; fault == Some(device(Slot::Second)), "{call} failing");
-    }
-    for call in [3, 4, 5] {
-        let (mut slots, _) = slots_with(alloc, &[call], &[])?;
-        assert!(rt; told_both(alloc, &mut slots) == Err(device(Slot::First)));
-        let (mut slots, _) = slots_with(alloc, &[], &[call])?;
-        assert!(rt; told_both(alloc, &mut slots) == Err(device(Slot::Second)));
+    // The first two calls make a slot, and the next three are those of a read.
+    let cause = FaultCause::Device;
+    for slot in [Slot::First, Slot::Second] {
+        for call in 1..6 {
+            let (mut slots, fault) = slots_with(alloc, slot, call)?;
+            let read = told_both(alloc, &mut slots).err();
+            let told = if call < 3 { fault } else { read };
+            assert_eq!(rt; told, Some(SlotFault { slot, cause }));
+        }
     }
     Ok(())
 }

@@ -9,10 +9,7 @@ use std::test::Fail;
 fn a_checkpoint_is_written_as_its_bytes(rt: HostRuntime) -> Result<(), Fail> {
     let alloc = rt.alloc();
     let made = slot_with(alloc, &[], None)?;
-    assert!(rt; made.is_some());
-    if let Some(disk) = made {
-        assert!(rt; disk.image() == b"\x00".as_slice());
-    }
+    assert!(rt; made.is_some_and(|disk| disk.image() == b"\x00".as_slice()));
     let (disk, told) = written(alloc, (6, 9), &[(7, 0x6b)], 1)?;
     assert!(rt; told == Told::Walk(6, 9, 1) && disk.image() == VECTOR.as_slice());
     Ok(())
@@ -23,29 +20,24 @@ fn a_checkpoint_is_written_as_its_bytes(rt: HostRuntime) -> Result<(), Fail> {
 #[test]
 fn a_walk_out_of_order_is_none(rt: HostRuntime) -> Result<(), Fail> {
     let alloc = rt.alloc();
-    for (first, last, keys, want) in [
-        (6, 9, [(7, 2), (7, 3), (8, 1)], Told::Walk(6, 9, 3)),
-        (6, 6, [(7, 2), (7, 3), (8, 1)], Told::Walk(6, 6, 3)),
-        (6, 5, [(7, 2), (7, 3), (8, 1)], Told::None),
-        (4, 5, [(7, 2), (7, 3), (8, 1)], Told::Walk(4, 5, 3)),
-        (3, 4, [(7, 2), (7, 3), (8, 1)], Told::None),
-        (
-            6,
-            MAX_STEP,
-            [(7, 2), (7, 3), (8, 1)],
-            Told::Walk(6, MAX_STEP, 3),
-        ),
-        (6, MAX_STEP + 1, [(7, 2), (7, 3), (8, 1)], Told::None),
-        (6, 9, [(7, 3), (7, 2), (8, 1)], Told::None),
-        (6, 9, [(7, 2), (7, 2), (8, 1)], Told::None),
-        (6, 9, [(7, 2), (8, 1), (7, 3)], Told::None),
+    let rising = [(7, 2), (7, 3), (8, 1)];
+    for (first, last, keys, is_one) in [
+        (6, 9, rising, true),
+        (6, 6, rising, true),
+        (6, 5, rising, false),
+        (4, 5, rising, true),
+        (3, 4, rising, false),
+        (6, MAX_STEP, rising, true),
+        (6, MAX_STEP + 1, rising, false),
+        (6, 9, [(7, 3), (7, 2), (8, 1)], false),
+        (6, 9, [(7, 2), (7, 2), (8, 1)], false),
+        (6, 9, [(7, 2), (8, 1), (7, 3)], false),
     ] {
         let (disk, told) = written(alloc, (first, last), &keys, 1)?;
-        let is_cut = disk.image() == b"\x00".as_slice();
-        assert!(rt;
-            told == want && is_cut == (want == Told::None),
-            "from {first} up to {last}: {told:?}"
-        );
+        let is_told = told == Told::Walk(first, last, 3);
+        let is_none = told == Told::None && disk.image() == b"\x00".as_slice();
+        let is_right = if is_one { is_told } else { is_none };
+        assert!(rt; is_right, "from {first} up to {last}: {told:?}");
     }
     Ok(())
 }
@@ -53,12 +45,11 @@ fn a_walk_out_of_order_is_none(rt: HostRuntime) -> Result<(), Fail> {
 #[test]
 fn each_beginning_is_none(rt: HostRuntime) -> Result<(), Fail> {
     let alloc = rt.alloc();
-    for len in 0..VECTOR.len() {
-        let (front, _) = VECTOR.split_at(len);
-        assert!(rt;
-            read_as(alloc, front)? == Told::None,
-            "the first {len} bytes"
-        );
+    for whole in [VECTOR.as_slice(), &OLD_VECTOR] {
+        for len in 0..whole.len() {
+            let (front, _) = whole.split_at(len);
+            assert!(rt; read_as(alloc, front)? == Told::None, "{len} bytes");
+        }
     }
     let mut longer = VECTOR.to_vec(alloc)?;
     longer.extend_from_slice(b"whatever follows it")?;
@@ -73,13 +64,6 @@ fn a_checkpoint_of_format_1_is_read(rt: HostRuntime) -> Result<(), Fail> {
     for (image, stamp) in [(VECTOR.as_slice(), 5), (OLD_VECTOR.as_slice(), 6)] {
         assert!(rt; read_as(alloc, image)? == Told::Walk(6, 9, 1));
         assert!(rt; stamp_in(alloc, image)? == Some(stamp));
-    }
-    for len in 0..OLD_VECTOR.len() {
-        let (front, _) = OLD_VECTOR.split_at(len);
-        assert!(rt;
-            read_as(alloc, front)? == Told::None,
-            "the first {len} bytes"
-        );
     }
     Ok(())
 }
@@ -103,25 +87,17 @@ fn last_step(byte: usize, by: u8) -> u64 {
 }
 
 // What they are to be read as. Another first or last step, tenant, key, stamp or column is another checkpoint. So is one
-// that ends before its pair: the next eight bytes are its last step then. All else is none.
-fn want(place: usize, by: u8) -> Told {
+// that ends before its pair: the next eight bytes are its last step then. All else is none. Format 1 has no stamp in its
+// entry, whose bytes are the eight from 23 on.
+fn want(is_old: bool, place: usize, by: u8) -> Told {
+    let skipped = if is_old && place > 22 { 8 } else { 0 };
+    let place = place.saturating_add(skipped);
     match place {
         14 if 6 ^ by <= 9 => Told::Walk(u64::from(6 ^ by), 9, 1),
-        15 if 1 ^ by == 2 => Told::Walk(6, 0x7_0001_6b00, 0),
+        15 if 1 ^ by == 2 => Told::Walk(6, 0x7_0001_6b00 + u64::from(is_old), 0),
         30 if 5 ^ by <= 9 => Told::Walk(6, 9, 1),
         16..=19 | 22 | 34 => Told::Walk(6, 9, 1),
         36..=43 => ending_at(last_step(place - 36, by)),
-        _ => Told::None,
-    }
-}
-
-// The same of format 1, which has no stamp in its entry.
-fn want_of_format_1(place: usize, by: u8) -> Told {
-    match place {
-        14 if 6 ^ by <= 9 => Told::Walk(u64::from(6 ^ by), 9, 1),
-        15 if 1 ^ by == 2 => Told::Walk(6, 0x7_0001_6b01, 0),
-        16..=19 | 22 | 26 => Told::Walk(6, 9, 1),
-        28..=35 => ending_at(last_step(place - 28, by)),
         _ => Told::None,
     }
 }
@@ -138,20 +114,13 @@ fn ending_at(last: u64) -> Told {
 #[test]
 fn each_changed_byte_is_told_for_what_it_is(rt: HostRuntime) -> Result<(), Fail> {
     let alloc = rt.alloc();
-    for by in 1..=255 {
-        for place in 0..VECTOR.len() {
-            let told = changed(alloc, &VECTOR, place, by)?;
-            assert!(rt;
-                told == want(place, by),
-                "byte {place} changed by {by}: {told:?}"
-            );
-        }
-        for place in 0..OLD_VECTOR.len() {
-            let told = changed(alloc, &OLD_VECTOR, place, by)?;
-            assert!(rt;
-                told == want_of_format_1(place, by),
-                "byte {place} of format 1 changed by {by}: {told:?}"
-            );
+    for (whole, is_old) in [(VECTOR.as_slice(), false), (&OLD_VECTOR, true)] {
+        for by in 1..=255 {
+            for place in 0..whole.len() {
+                let told = changed(alloc, whole, place, by)?;
+                let want = want(is_old, place, by);
+                assert!(rt; told == want, "byte {place} by {by}: {told:?}");
+            }
         }
     }
     Ok(())
