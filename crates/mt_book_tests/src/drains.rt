@@ -1,15 +1,11 @@
 //! A book of two workers, drained: each log is given its own worker's changes, each of them once.
 
-ghost use Rattle.std.specs.Prelude.{◌≡◌};
-
-use crate::threads::{new_store, put_of};
-use mt_book::{Book, BookLock, NoGate, Pass, call, drain, open_pass};
+use crate::threads::{Case, expect, put_of};
+use mt_book::{BookLock, NoGate, Pass, call, drain, open_pass};
 use std::alloc::{AllocError, Global};
-use std::marker::Brand;
 use std::process::Abort;
 use std::sync::Wait;
-use std::sync::ledger::{Blank, Ledger};
-use std::test::Fail;
+use std::sync::ledger::Ledger;
 use std::time::Clock;
 
 // What is done with a book.
@@ -84,7 +80,7 @@ fn comes_out<L: Ledger, R: Wait + Clock>(
     }
 }
 
-fn play<L: Ledger, R: Wait + Clock + Abort>(
+pub(crate) fn play<L: Ledger, R: Wait + Clock + Abort>(
     rt: &R,
     alloc: Global,
     book: &BookLock<L>,
@@ -99,20 +95,7 @@ fn play<L: Ledger, R: Wait + Clock + Abort>(
     Ok(())
 }
 
-fn run<L: Ledger, R: Wait + Clock + Abort>(
-    rt: &R,
-    alloc: Global,
-    blank: Blank,
-) -> Result<(), AllocError>
-    requires name { blank.name ≡ L.name }
-    requires parts { (blank.parts ≡ L.parts) × (L.parts ≡ 65536) }
-{
-    let book = BookLock::new(Book::<L>::new(blank, new_store(rt, alloc, 2)?));
-    play(rt, alloc, &book)
-}
-
 #[test]
-fn each_log_is_given_its_own_workers_changes_once(rt: HostRuntime) -> Result<(), Fail> {
-    run::<Brand, _>(&rt, rt.alloc(), Blank::new(65_536))?;
-    Ok(())
+fn each_log_is_given_its_own_workers_changes_once(rt: HostRuntime) {
+    expect(&rt, rt.alloc(), Case::Drained);
 }

@@ -1,17 +1,14 @@
 //! A call that a gate holds back between two of its steps, while another one is made.
 
-ghost use Rattle.std.specs.Prelude.{◌≡◌};
-
-use crate::threads::{get_of, new_store};
-use mt_book::{Book, BookLock, Gate, NoGate, Pass, call, open_pass};
+use crate::threads::{Case, expect, get_of};
+use mt_book::{BookLock, Gate, NoGate, Pass, call, open_pass};
 use mt_operation::Phase;
-use std::alloc::{AllocError, Global};
-use std::marker::{Brand, Send, Sync};
+use std::alloc::Global;
+use std::marker::{Send, Sync};
 use std::process::Abort;
 use std::sync::Wait;
 use std::sync::atomic::{AtomicU64, Ordering};
-use std::sync::ledger::{Blank, Ledger};
-use std::test::Fail;
+use std::sync::ledger::Ledger;
 use std::thread;
 use std::thread::Threads;
 use std::time::{Clock, Duration};
@@ -108,7 +105,7 @@ fn is_between(rt: &impl Abort, told: &[(u64, u64)]) {
 }
 
 // Makes the two gets, each by its thread.
-fn make_both<L: Ledger + Send + Sync, R: Threads + Wait + Clock + Abort + Sync>(
+pub(crate) fn make_both<L: Ledger + Send + Sync, R: Threads + Wait + Clock + Abort + Sync>(
     rt: &R,
     alloc: Global,
     book: &BookLock<L>,
@@ -124,21 +121,7 @@ fn make_both<L: Ledger + Send + Sync, R: Threads + Wait + Clock + Abort + Sync>(
     is_between(rt, told.expect(rt, "memory").as_slice());
 }
 
-fn run<L: Ledger + Send + Sync, R: Threads + Wait + Clock + Abort + Sync>(
-    rt: &R,
-    alloc: Global,
-    blank: Blank,
-) -> Result<(), AllocError>
-    requires name { blank.name ≡ L.name }
-    requires parts { (blank.parts ≡ L.parts) × (L.parts ≡ 65536) }
-{
-    let book = BookLock::new(Book::<L>::new(blank, new_store(rt, alloc, 0)?));
-    make_both(rt, alloc, &book);
-    Ok(())
-}
-
 #[test]
-fn another_call_is_made_between_two_steps(rt: HostRuntime) -> Result<(), Fail> {
-    run::<Brand, _>(&rt, rt.alloc(), Blank::new(65_536))?;
-    Ok(())
+fn another_call_is_made_between_two_steps(rt: HostRuntime) {
+    expect(&rt, rt.alloc(), Case::Held);
 }

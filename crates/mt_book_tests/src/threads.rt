@@ -3,6 +3,7 @@
 ghost use Rattle.std.specs.Prelude.{◌≡◌, ◌≤◌, IfOk};
 ghost use Rattle.mt_state.specs.Begins.{HaveNoPairs};
 
+use crate::{drains, held, shown, tidied};
 use mt_book::{Book, BookLock, Desk, NoGate, Pass, call, gather, open_pass};
 use mt_core::State;
 use mt_rows::{Column, ColumnIndexes, Command, Key, NamedColumns, Reply, Tenants};
@@ -11,7 +12,6 @@ use std::marker::{Brand, Send, Sync};
 use std::process::Abort;
 use std::sync::Wait;
 use std::sync::ledger::{Blank, Ledger};
-use std::test::Fail;
 use std::thread;
 use std::thread::Threads;
 use std::time::Clock;
@@ -129,29 +129,19 @@ fn gather_all<L: Ledger, R: Wait + Clock + Abort>(rt: &R, book: &BookLock<L>, pa
 }
 
 // Four threads make their puts.
-fn run<L: Ledger + Send + Sync, R: Threads + Wait + Clock + Abort + Sync>(
+fn put_by_four<L: Ledger + Send + Sync, R: Threads + Wait + Clock + Abort + Sync>(
     rt: &R,
     alloc: Global,
-    blank: Blank,
-) -> Result<(), AllocError>
-    requires name { blank.name ≡ L.name }
-    requires parts { (blank.parts ≡ L.parts) × (L.parts ≡ 65536) }
+    book: &BookLock<L>,
+)
+    requires { L.parts ≡ 65536 }
 {
-    let book = BookLock::new(Book::<L>::new(blank, new_store(rt, alloc, 0)?));
-    let (shared, passes) = (&book, four_passes(rt, alloc, &book));
     let done = thread::map_vec(
         rt,
-        passes,
-        &|pass: Pass<L>| put_all(rt, alloc, shared, pass, PUTS),
+        four_passes(rt, alloc, book),
+        &|pass: Pass<L>| put_all(rt, alloc, book, pass, PUTS),
     );
-    gather_all(rt, shared, passes_of(rt, alloc, done.expect(rt, "memory")));
-    Ok(())
-}
-
-#[test]
-fn four_threads_make_a_thousand_answers(rt: HostRuntime) -> Result<(), Fail> {
-    run::<Brand, _>(&rt, rt.alloc(), Blank::new(65_536))?;
-    Ok(())
+    gather_all(rt, book, passes_of(rt, alloc, done.expect(rt, "memory")));
 }
 
 // The reply to a command, through this pass.
@@ -160,38 +150,18 @@ fn told<L: Ledger, R: Wait + Clock + Abort, D: Desk<L>>(
     alloc: Global,
     desk: &mut D,
     pass: &mut Pass<L>,
-    command: Command,
-) -> Reply {
+    command: Result<Command, AllocError>,
+) -> &'static str {
+    let command = command.expect(rt, "memory");
     match call(rt, alloc, desk, pass, 7, command, &NoGate {}) {
-        Ok(answer) => answer.reply,
+        Ok(answer) => match &answer.reply {
+            Reply::Absent => "absent",
+            Reply::Found(_) => "found",
+            Reply::New => "new",
+            _ => "another",
+        },
         Err(_) => panic!(rt; "the command is refused"),
     }
-}
-
-// Whether a get of the key finds a row, through this pass; else the key is absent.
-fn is_found<L: Ledger, R: Wait + Clock + Abort, D: Desk<L>>(
-    rt: &R,
-    alloc: Global,
-    desk: &mut D,
-    pass: &mut Pass<L>,
-) -> bool {
-    let command = get_of(alloc, 107).expect(rt, "memory");
-    match told(rt, alloc, desk, pass, command) {
-        Reply::Found(_) => true,
-        Reply::Absent => false,
-        _ => panic!(rt; "no reply to a get"),
-    }
-}
-
-// Whether a put of the key is told that the key is new.
-fn is_new<L: Ledger, R: Wait + Clock + Abort, D: Desk<L>>(
-    rt: &R,
-    alloc: Global,
-    desk: &mut D,
-    pass: &mut Pass<L>,
-) -> bool {
-    let command = put_of(alloc, 107, 118).expect(rt, "memory");
-    matches!(&told(rt, alloc, desk, pass, command), Reply::New)
 }
 
 // A put through a pass is read back through it, and through another.
@@ -202,10 +172,10 @@ fn read_back<L: Ledger, R: Wait + Clock + Abort, D: Desk<L>>(
     mine: &mut Pass<L>,
     other: &mut Pass<L>,
 ) {
-    assert!(rt; !is_found(rt, alloc, desk, mine));
-    assert!(rt; is_new(rt, alloc, desk, mine));
-    assert!(rt; is_found(rt, alloc, desk, mine));
-    assert!(rt; is_found(rt, alloc, desk, other));
+    assert_eq!(rt; told(rt, alloc, desk, mine, get_of(alloc, 107)), "absent");
+    assert_eq!(rt; told(rt, alloc, desk, mine, put_of(alloc, 107, 118)), "new");
+    assert_eq!(rt; told(rt, alloc, desk, mine, get_of(alloc, 107)), "found");
+    assert_eq!(rt; told(rt, alloc, desk, other, get_of(alloc, 107)), "found");
 }
 
 // Through a lock.
@@ -216,43 +186,80 @@ fn read_back_locked<L: Ledger, R: Wait + Clock + Abort>(rt: &R, alloc: Global, b
     read_back(rt, alloc, &mut desk, &mut mine, &mut other);
 }
 
-fn locked<L: Ledger, R: Wait + Clock + Abort>(
-    rt: &R,
-    alloc: Global,
-    blank: Blank,
-) -> Result<(), AllocError>
-    requires name { blank.name ≡ L.name }
-    requires parts { (blank.parts ≡ L.parts) × (L.parts ≡ 65536) }
-{
-    let book = BookLock::new(Book::<L>::new(blank, new_store(rt, alloc, 0)?));
-    read_back_locked(rt, alloc, &book);
-    Ok(())
-}
-
 // Over a book that is owned alone.
-fn alone<L: Ledger, R: Wait + Clock + Abort>(
-    rt: &R,
-    alloc: Global,
-    blank: Blank,
-) -> Result<(), AllocError>
-    requires name { blank.name ≡ L.name }
-    requires parts { (blank.parts ≡ L.parts) × (L.parts ≡ 65536) }
-{
-    let mut book = Book::<L>::new(blank, new_store(rt, alloc, 0)?);
+fn read_back_alone<L: Ledger, R: Wait + Clock + Abort>(rt: &R, alloc: Global, book: Book<L>) {
+    let mut book = book;
     let mut mine = book.open_pass(0).expect(rt, "a pass");
     let mut other = book.open_pass(0).expect(rt, "a pass");
     read_back(rt, alloc, &mut book, &mut mine, &mut other);
+}
+
+/// What is done with a new book.
+#[derive(Clone, Copy)]
+pub(crate) enum Case {
+    Drained,
+    Held,
+    ReadAlone,
+    ReadLocked,
+    Shown,
+    ByFour,
+    Tidied,
+}
+
+// The book has two workers' logs if these are drained, and else none.
+fn play<L: Ledger + Send + Sync, R: Threads + Wait + Clock + Abort + Sync>(
+    rt: &R,
+    alloc: Global,
+    blank: Blank,
+    case: Case,
+) -> Result<(), AllocError>
+    requires name { blank.name ≡ L.name }
+    requires parts { (blank.parts ≡ L.parts) × (L.parts ≡ 65536) }
+{
+    let logs = if let Case::Drained = case { 2 } else { 0 };
+    let book = Book::<L>::new(blank, new_store(rt, alloc, logs)?);
+    if let Case::ReadAlone = case {
+        read_back_alone(rt, alloc, book);
+        return Ok(());
+    }
+    play_locked(rt, alloc, &BookLock::new(book), case)
+}
+
+fn play_locked<L: Ledger + Send + Sync, R: Threads + Wait + Clock + Abort + Sync>(
+    rt: &R,
+    alloc: Global,
+    book: &BookLock<L>,
+    case: Case,
+) -> Result<(), AllocError>
+    requires { L.parts ≡ 65536 }
+{
+    match case {
+        Case::Drained => drains::play(rt, alloc, book)?,
+        Case::Held => held::make_both(rt, alloc, book),
+        Case::ReadAlone | Case::ReadLocked => read_back_locked(rt, alloc, book),
+        Case::Shown => shown::make_four(rt, alloc, book),
+        Case::ByFour => put_by_four(rt, alloc, book),
+        Case::Tidied => tidied::put_by_four(rt, alloc, book),
+    }
     Ok(())
 }
 
-#[test]
-fn a_put_is_read_back_through_a_lock(rt: HostRuntime) -> Result<(), Fail> {
-    locked::<Brand, _>(&rt, rt.alloc(), Blank::new(65_536))?;
-    Ok(())
+/// This is done with a new book.
+pub(crate) fn expect<R: Threads + Wait + Clock + Abort + Sync>(rt: &R, alloc: Global, case: Case) {
+    play::<Brand, R>(rt, alloc, Blank::new(65_536), case).expect(rt, "memory");
 }
 
 #[test]
-fn a_put_is_read_back_alone(rt: HostRuntime) -> Result<(), Fail> {
-    alone::<Brand, _>(&rt, rt.alloc(), Blank::new(65_536))?;
-    Ok(())
+fn four_threads_make_a_thousand_answers(rt: HostRuntime) {
+    expect(&rt, rt.alloc(), Case::ByFour);
+}
+
+#[test]
+fn a_put_is_read_back_through_a_lock(rt: HostRuntime) {
+    expect(&rt, rt.alloc(), Case::ReadLocked);
+}
+
+#[test]
+fn a_put_is_read_back_alone(rt: HostRuntime) {
+    expect(&rt, rt.alloc(), Case::ReadAlone);
 }

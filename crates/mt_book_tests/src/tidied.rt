@@ -1,16 +1,13 @@
 //! What the tape holds once four threads have put 10,000 times.
 
-ghost use Rattle.std.specs.Prelude.{◌≡◌};
-
-use crate::threads::{four_passes, new_store, put_all};
-use mt_book::{Book, BookLock, Pass, locked, open_pass};
+use crate::threads::{Case, expect, four_passes, put_all};
+use mt_book::{BookLock, Pass, locked, open_pass};
 use mt_core::Displaced;
-use std::alloc::{AllocError, Global};
-use std::marker::{Brand, Send, Sync};
+use std::alloc::Global;
+use std::marker::{Send, Sync};
 use std::process::Abort;
 use std::sync::Wait;
-use std::sync::ledger::{Blank, Ledger};
-use std::test::Fail;
+use std::sync::ledger::Ledger;
 use std::thread::{self, Threads};
 use std::time::Clock;
 
@@ -28,7 +25,7 @@ fn held<L: Ledger, R: Wait + Clock + Abort>(rt: &R, alloc: Global, book: &BookLo
 }
 
 // Four threads put, then one alone.
-fn put_by_four<L: Ledger + Send + Sync, R: Threads + Wait + Clock + Abort + Sync>(
+pub(crate) fn put_by_four<L: Ledger + Send + Sync, R: Threads + Wait + Clock + Abort + Sync>(
     rt: &R,
     alloc: Global,
     book: &BookLock<L>,
@@ -46,21 +43,7 @@ fn put_by_four<L: Ledger + Send + Sync, R: Threads + Wait + Clock + Abort + Sync
     assert_eq!(rt; held(rt, alloc, book), 0);
 }
 
-fn run<L: Ledger + Send + Sync, R: Threads + Wait + Clock + Abort + Sync>(
-    rt: &R,
-    alloc: Global,
-    blank: Blank,
-) -> Result<(), AllocError>
-    requires name { blank.name ≡ L.name }
-    requires parts { (blank.parts ≡ L.parts) × (L.parts ≡ 65536) }
-{
-    let book = BookLock::new(Book::<L>::new(blank, new_store(rt, alloc, 0)?));
-    put_by_four(rt, alloc, &book);
-    Ok(())
-}
-
 #[test]
-fn the_tape_holds_no_write_that_nobody_needs(rt: HostRuntime) -> Result<(), Fail> {
-    run::<Brand, _>(&rt, rt.alloc(), Blank::new(65_536))?;
-    Ok(())
+fn the_tape_holds_no_write_that_nobody_needs(rt: HostRuntime) {
+    expect(&rt, rt.alloc(), Case::Tidied);
 }
