@@ -1,10 +1,11 @@
 //! What tests ask of a state.
 
-ghost use Rattle.std.specs.Prelude.{◌≡◌};
 ghost use Rattle.mt_state.specs.Begins.{HaveNoPairs};
 
-use mt_core::State;
+use mt_core::{State, Ticket};
 use mt_rows::{Batch, Column, ColumnIndexes, Command, Key, NamedColumns, Tenants};
+use mt_runs::Answer;
+use mt_state::Move;
 use std::alloc::Global;
 use std::process::Abort;
 
@@ -15,6 +16,39 @@ pub(crate) fn one_tenant(alloc: Global, quota: u32) -> Tenants
     let mut tenants = Tenants::new(alloc);
     let _ = tenants.add(7, quota);
     tenants
+}
+
+/// A new store of such a tenant, with so many logs.
+pub(crate) fn new_store(rt: &impl Abort, alloc: Global, logs: u8, quota: u32) -> State {
+    assert!(rt; logs <= 64);
+    State::new(alloc, logs, one_tenant(alloc, quota)).expect(rt, "memory")
+}
+
+/// The answer to a command of a worker that nobody is in the way of.
+pub(crate) fn run(
+    rt: &impl Abort,
+    state: &mut State,
+    worker: u8,
+    tenant: u32,
+    command: Command,
+) -> Answer {
+    assert!(rt; worker < state.logs().max(1));
+    let ticket = state.begin(worker, tenant, command);
+    end(rt, state, ticket.expect(rt, "the command is taken"))
+}
+
+/// The answer of an operation that nobody is in the way of.
+pub(crate) fn end(rt: &impl Abort, state: &mut State, ticket: Ticket) -> Answer {
+    assert!(rt; state.run_alone(&ticket) == Move::Done);
+    taken(rt, state, ticket)
+}
+
+/// The answer of an operation that is finished.
+pub(crate) fn taken(rt: &impl Abort, state: &mut State, ticket: Ticket) -> Answer {
+    state
+        .take(ticket)
+        .ok()
+        .expect(rt, "the operation is finished")
 }
 
 /// A put of column 0.

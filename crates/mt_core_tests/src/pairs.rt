@@ -1,11 +1,11 @@
 //! Some hundred pairs of three tenants, with short and long keys, and what is asked of a state that has them.
 
+use crate::asked::run;
 use mt_core::State;
 use mt_rows::{
     Batch, Change, Column, ColumnIndexes, Command, Key, NamedColumns, Reply, Row, StampedRow,
     TenantPair, Write, merge,
 };
-use mt_state::Move;
 use std::alloc::Global;
 use std::process::Abort;
 
@@ -26,11 +26,8 @@ pub(crate) fn tenant_of(n: u64) -> u32 {
 
 // The key of a pair: some share a long beginning.
 fn key_of(rt: &impl Abort, alloc: Global, n: u64) -> Key {
-    let mut bytes = Vec::new(alloc);
     let shared = mixed(n) % 4 * 61;
-    for _ in 0..shared {
-        assert!(rt; bytes.push(65).is_ok());
-    }
+    let mut bytes = Vec::from_elem(alloc, 65, shared as usize).expect(rt, "memory");
     let mut rest = n % 1_000_000 + 1;
     for _ in 0..(2 + mixed(n) % 7) {
         assert!(rt; bytes.push((rest % 251) as u8).is_ok());
@@ -102,40 +99,12 @@ pub(crate) fn get(rt: &impl Abort, alloc: Global, n: u64) -> Command {
     }
 }
 
-// A put of a pair.
-fn put(rt: &impl Abort, alloc: Global, n: u64) -> Command {
-    Command::Put {
-        key: key_of(rt, alloc, n),
-        change: columns_of(rt, alloc, n),
-    }
-}
-
-// A put of a pair that asks for a stamp.
-fn put_if(rt: &impl Abort, alloc: Global, n: u64, stamp: u64) -> Command {
-    Command::PutIf {
-        key: key_of(rt, alloc, n),
-        stamp,
-        change: columns_of(rt, alloc, n),
-    }
-}
-
-// What a command is answered that runs alone, and whether its number is that of its first step.
-fn asked(rt: &impl Abort, state: &mut State, tenant: u32, command: Command) -> (Reply, bool) {
-    let ticket = state
-        .begin(0, tenant, command)
-        .expect(rt, "the command is taken");
-    assert!(rt; state.run_alone(&ticket) == Move::Done);
-    match state.take(ticket) {
-        Ok(answer) => (answer.reply, answer.at == answer.first),
-        Err(_) => panic!(rt; "the operation isn't finished"),
-    }
-}
-
 /// The row of each of these pairs is found, with the number of the get's first step, since it was placed before.
 pub(crate) fn expect_pairs(rt: &impl Abort, alloc: Global, state: &mut State, from: u64, to: u64) {
     for n in from..to {
-        let (reply, at_first) = asked(rt, state, tenant_of(n), get(rt, alloc, n));
-        assert!(rt; at_first && is_row_of(rt, alloc, &reply, n), "pair {n}");
+        let answer = run(rt, state, 0, tenant_of(n), get(rt, alloc, n));
+        let is_found = is_row_of(rt, alloc, &answer.reply, n);
+        assert!(rt; is_found && answer.at == answer.first, "pair {n}");
     }
 }
 
@@ -157,26 +126,25 @@ pub(crate) fn expect_stamps(rt: &impl Abort, alloc: Global, state: &mut State, t
 
 /// The stamp of a pair, 0 where its key is missing.
 pub(crate) fn stamp_of(rt: &impl Abort, alloc: Global, state: &mut State, n: u64) -> u64 {
-    match asked(rt, state, tenant_of(n), get(rt, alloc, n)).0 {
+    let answer = run(rt, state, 0, tenant_of(n), get(rt, alloc, n));
+    match &answer.reply {
         Reply::Found(found) => found.stamp,
         _ => 0,
     }
 }
 
-/// What the put of a pair is told that asks for a stamp.
-pub(crate) fn put_pair_if(
+/// What the put of a pair is told, which may ask for a stamp.
+pub(crate) fn put_pair(
     rt: &impl Abort,
     alloc: Global,
     state: &mut State,
     n: u64,
-    stamp: u64,
+    stamp: Option<u64>,
 ) -> Reply {
-    let command = put_if(rt, alloc, n, stamp);
-    asked(rt, state, tenant_of(n), command).0
-}
-
-/// What the put of a pair is told.
-pub(crate) fn put_pair(rt: &impl Abort, alloc: Global, state: &mut State, n: u64) -> Reply {
-    let command = put(rt, alloc, n);
-    asked(rt, state, tenant_of(n), command).0
+    let (key, change) = (key_of(rt, alloc, n), columns_of(rt, alloc, n));
+    let command = match stamp {
+        Some(stamp) => Command::PutIf { key, stamp, change },
+        None => Command::Put { key, change },
+    };
+    run(rt, state, 0, tenant_of(n), command).reply
 }

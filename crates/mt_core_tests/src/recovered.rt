@@ -68,7 +68,8 @@ fn one_front(rt: &impl Abort, alloc: Global, pairs: Vec<TenantPair>) -> Vec<Fron
     let disk = MemDisk::new(alloc, Vec::new(alloc), None);
     let mut log = LogFile::create(disk, 0, 1).ok().expect(rt, "a disk");
     for pair in pairs {
-        log = with_put(rt, alloc, log, pair).expect(rt, "a disk");
+        let batch = put_after(rt, alloc, log.mark(), pair);
+        log = log.append(alloc, batch).ok().expect(rt, "a disk");
     }
     let (_, front) = LogFile::open(alloc, log.into_disk())
         .ok()
@@ -76,17 +77,6 @@ fn one_front(rt: &impl Abort, alloc: Global, pairs: Vec<TenantPair>) -> Vec<Fron
     let mut fronts = Vec::new(alloc);
     assert!(rt; fronts.push(front).is_ok());
     fronts
-}
-
-// A log with a put more.
-fn with_put(
-    rt: &impl Abort,
-    alloc: Global,
-    log: LogFile<MemDisk>,
-    pair: TenantPair,
-) -> Option<LogFile<MemDisk>> {
-    let batch = put_after(rt, alloc, log.mark(), pair);
-    log.append(alloc, batch).ok()
 }
 
 // The batch of a put by the step after this one.

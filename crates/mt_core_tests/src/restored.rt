@@ -2,8 +2,7 @@
 
 use crate::asked::drained;
 use crate::pairs::{
-    expect_pairs, expect_stamps, get, push_given, push_pairs, put_pair, put_pair_if, stamp_of,
-    tenant_of,
+    expect_pairs, expect_stamps, get, push_given, push_pairs, put_pair, stamp_of, tenant_of,
 };
 use crate::recovered::restored;
 use mt_core::State;
@@ -31,7 +30,7 @@ fn first_pairs(rt: &impl Abort, alloc: Global) -> State {
 // Puts more pairs: tenant 7 has its quota, tenant 8 all but one, and tenant 9 room.
 fn put_more(rt: &impl Abort, alloc: Global, state: &mut State) {
     for n in PAIRS..PAIRS + MORE {
-        let reply = put_pair(rt, alloc, state, n);
+        let reply = put_pair(rt, alloc, state, n, None);
         let is_new = matches!(reply, Reply::New);
         let is_full = matches!(reply, Reply::Full);
         match tenant_of(n) {
@@ -44,8 +43,7 @@ fn put_more(rt: &impl Abort, alloc: Global, state: &mut State) {
 
 #[test]
 fn restores_all_pairs(host: HostRuntime) {
-    let alloc = host.alloc();
-    let rt = &host;
+    let (rt, alloc) = (&host, host.alloc());
     let mut state = first_pairs(rt, alloc);
     assert_eq!(rt;
         (state.steps(), state.logs(), state.answers()),
@@ -61,25 +59,28 @@ fn restores_all_pairs(host: HostRuntime) {
 
 #[test]
 fn a_put_meets_a_stamp_that_was_restored(host: HostRuntime) {
-    let alloc = host.alloc();
-    let rt = &host;
+    let (rt, alloc) = (&host, host.alloc());
     let mut state = first_pairs(rt, alloc);
-    assert!(rt; matches!(put_pair_if(rt, alloc, &mut state, 7, 7), Reply::Stale(8)));
-    assert!(rt; matches!(put_pair_if(rt, alloc, &mut state, 7, 8), Reply::Replaced));
+    assert!(rt; matches!(put_pair(rt, alloc, &mut state, 7, Some(7)), Reply::Stale(8)));
+    assert!(rt; matches!(put_pair(rt, alloc, &mut state, 7, Some(8)), Reply::Replaced));
     let stamp = stamp_of(rt, alloc, &mut state, 7);
     assert!(rt; stamp > STEPS);
-    let told = match put_pair_if(rt, alloc, &mut state, 7, 8) {
+    let told = match put_pair(rt, alloc, &mut state, 7, Some(8)) {
         Reply::Stale(told) => told,
         _ => 0,
     };
     assert_eq!(rt; told, stamp);
-    assert!(rt; matches!(put_pair_if(rt, alloc, &mut state, PAIRS + 2, 0), Reply::New));
+    assert!(rt;
+        matches!(
+            put_pair(rt, alloc, &mut state, PAIRS + 2, Some(0)),
+            Reply::New
+        )
+    );
 }
 
 #[test]
 fn goes_on_from_what_was_restored(host: HostRuntime) {
-    let alloc = host.alloc();
-    let rt = &host;
+    let (rt, alloc) = (&host, host.alloc());
     let mut state = first_pairs(rt, alloc);
     put_more(rt, alloc, &mut state);
     expect_pairs(rt, alloc, &mut state, 0, PAIRS);
@@ -91,8 +92,7 @@ fn goes_on_from_what_was_restored(host: HostRuntime) {
 
 #[test]
 fn restores_what_its_log_was_given(host: HostRuntime) {
-    let alloc = host.alloc();
-    let rt = &host;
+    let (rt, alloc) = (&host, host.alloc());
     let mut state = first_pairs(rt, alloc);
     put_more(rt, alloc, &mut state);
     let batch = drained(rt, &mut state, 0);
@@ -108,14 +108,13 @@ fn restores_what_its_log_was_given(host: HostRuntime) {
             expect_pairs(rt, alloc, &mut next, n, n + 1);
         }
     }
-    assert!(rt; matches!(put_pair(rt, alloc, &mut next, PAIRS + 4), Reply::Full));
+    assert!(rt; matches!(put_pair(rt, alloc, &mut next, PAIRS + 4, None), Reply::Full));
 }
 
 // The most steps that may be restored but one: the next step is the last.
 #[test]
 fn restores_near_the_last_number(host: HostRuntime) {
-    let alloc = host.alloc();
-    let rt = &host;
+    let (rt, alloc) = (&host, host.alloc());
     let mut state = restored(rt, alloc, (1 << 59) - 1, 0, Vec::new(alloc));
     let ticket = state
         .begin(0, 7, get(rt, alloc, 1))

@@ -1,8 +1,8 @@
 //! Places of nodes that were taken out are used again, once every operation that was begun before has ended.
 
-use crate::asked::{get, one_tenant, put, remove};
-use mt_core::{State, Ticket};
-use mt_rows::Command;
+use crate::asked::{end, get, new_store, put, remove, run};
+use crate::story::SIXTEEN_KEYS;
+use mt_core::State;
 use mt_state::Move;
 use std::alloc::Global;
 use std::process::Abort;
@@ -19,9 +19,7 @@ struct Row {
 static ROWS: [Row; 2] = [
     // The 16th key splits the border node, and makes a root over both. The removal takes both out.
     Row {
-        put: &[
-            "a", "b", "c", "d", "e", "f", "g", "h", "i", "j", "k", "l", "m", "n", "o", "p",
-        ],
+        put: &SIXTEEN_KEYS,
         removed: &["i", "j", "k", "l", "m", "n", "o", "p"],
         alone: 3,
         held: 2_001,
@@ -35,35 +33,20 @@ static ROWS: [Row; 2] = [
     },
 ];
 
-// An operation that nobody is in the way of.
-fn run(rt: &impl Abort, state: &mut State, command: Command) {
-    let ticket = state.begin(0, 7, command).expect(rt, "it is taken");
-    end(rt, state, ticket);
-}
-
-fn end(rt: &impl Abort, state: &mut State, ticket: Ticket) {
-    assert!(rt; state.run_alone(&ticket) == Move::Done);
-    assert!(rt; state.take(ticket).is_ok());
-}
-
 fn cycle(rt: &impl Abort, alloc: Global, state: &mut State, row: &Row) {
     for key in row.put {
-        run(rt, state, put(rt, alloc, key, "v"));
+        run(rt, state, 0, 7, put(rt, alloc, key, "v"));
     }
     for key in row.removed {
-        run(rt, state, remove(rt, alloc, key));
+        run(rt, state, 0, 7, remove(rt, alloc, key));
     }
-}
-
-fn new_store(rt: &impl Abort, alloc: Global) -> State {
-    State::new(alloc, 0, one_tenant(alloc, 100)).expect(rt, "memory")
 }
 
 #[test]
 fn a_store_stays_as_large_as_one_cycle_makes_it(rt: HostRuntime) {
     let alloc = rt.alloc();
     for row in &ROWS {
-        let mut state = new_store(&rt, alloc);
+        let mut state = new_store(&rt, alloc, 0, 100);
         for _ in 0..1_000 {
             cycle(&rt, alloc, &mut state, row);
             assert_eq!(rt; state.places(), row.alone);
@@ -75,7 +58,7 @@ fn a_store_stays_as_large_as_one_cycle_makes_it(rt: HostRuntime) {
 fn no_place_is_used_again_while_an_earlier_operation_is_open(rt: HostRuntime) {
     let alloc = rt.alloc();
     for row in &ROWS {
-        let mut state = new_store(&rt, alloc);
+        let mut state = new_store(&rt, alloc, 0, 100);
         let held = state
             .begin(0, 7, get(&rt, alloc, row.put[0], &[]))
             .expect(&rt, "the get is taken");

@@ -10,175 +10,76 @@ use mt_runs::{Event, Told};
 use std::alloc::Global;
 use std::process::Abort;
 
-// An operation's name, what happens to it, and what it is told: a get of a key, a put of a key, `=` and
-// a value, a remove of a key and `-`, or a step where nothing stands. A put may ask for a stamp: `?` and 0 or 5
+// An operation's name, what happens to it, and what it is told by that and by each step behind it. It is a get of a key, a put
+// of a key, `=` and a value, a remove of a key and `-`, or a step if nothing stands. A put may ask for a stamp: `?` and 0 or 5
 // stand behind its key.
 type Row = (u64, &'static str, &'static str);
 
 // A get finds no pair, and before it compares the version a put makes the pair. It stands before the put. A second
 // put of another key waits for the lock of the first.
-const A_GET_STANDS_BEFORE_A_PUT: [Row; 21] = [
-    (1, "k", "begun"),
-    (1, "", "moved"),
-    (1, "", "moved"),
+const A_GET_STANDS_BEFORE_A_PUT: [Row; 10] = [
+    (1, "k", "begun, moved, moved"),
     (2, "k=v", "begun"),
     (3, "l=w", "begun"),
-    (2, "", "moved"),
-    (2, "", "moved"),
-    (2, "", "moved"),
-    (3, "", "moved"),
-    (3, "", "again 2"),
+    (2, "", "moved, moved, moved"),
+    (3, "", "moved, again 2"),
     (1, "k", "no such"),
-    (2, "", "moved"),
-    (2, "", "moved"),
+    (2, "", "moved, moved"),
     (1, "", "absent"),
-    (2, "", "new"),
-    (2, "", "no such"),
-    (3, "", "moved"),
-    (3, "", "moved"),
-    (3, "", "moved"),
-    (3, "", "moved"),
-    (3, "", "new"),
+    (2, "", "new, no such"),
+    (3, "", "moved, moved, moved, moved, new"),
 ];
 
 // Three gets end in another order than they began, and a put that is full changes nothing.
-const IN_ANY_ORDER: [Row; 36] = [
-    (1, "a=1", "begun"),
-    (1, "", "moved"),
-    (1, "", "moved"),
-    (1, "", "moved"),
+const IN_ANY_ORDER: [Row; 11] = [
+    (1, "a=1", "begun, moved, moved, moved"),
     (2, "a", "begun"),
-    (3, "b", "begun"),
-    (3, "", "moved"),
+    (3, "b", "begun, moved"),
     (2, "", "moved"),
-    (1, "", "moved"),
-    (1, "", "moved"),
-    (1, "", "new"),
-    (4, "b=1", "begun"),
-    (4, "", "moved"),
-    (3, "", "moved"),
-    (3, "", "absent"),
-    (4, "", "moved"),
-    (4, "", "moved"),
-    (4, "", "moved"),
-    (4, "", "moved"),
-    (4, "", "new"),
-    (5, "c=1", "begun"),
-    (5, "", "moved"),
-    (5, "", "moved"),
-    (5, "", "moved"),
-    (5, "", "moved"),
-    (5, "", "moved"),
-    (5, "", "full"),
-    (6, "a=2", "begun"),
-    (6, "", "moved"),
-    (6, "", "moved"),
-    (6, "", "moved"),
-    (6, "", "moved"),
-    (6, "", "replaced"),
-    (2, "", "moved"),
-    (2, "", "moved"),
-    (2, "", "found"),
+    (1, "", "moved, moved, new"),
+    (4, "b=1", "begun, moved"),
+    (3, "", "moved, absent"),
+    (4, "", "moved, moved, moved, moved, new"),
+    (5, "c=1", "begun, moved, moved, moved, moved, moved, full"),
+    (6, "a=2", "begun, moved, moved, moved, moved, replaced"),
+    (2, "", "moved, moved, found"),
 ];
 
 // A get has found a pair, and before it compares the version a remove takes the pair out. It stands before the
 // remove. A second remove finds none. A name is given once.
-const A_REMOVE_IS_MET: [Row; 24] = [
-    (1, "k=v", "begun"),
-    (1, "", "moved"),
-    (1, "", "moved"),
-    (1, "", "moved"),
-    (1, "", "moved"),
-    (1, "", "moved"),
-    (1, "", "new"),
-    (3, "k", "begun"),
-    (3, "", "moved"),
-    (3, "", "moved"),
-    (2, "k-", "begun"),
-    (2, "", "moved"),
-    (2, "", "moved"),
-    (2, "", "moved"),
+const A_REMOVE_IS_MET: [Row; 9] = [
+    (1, "k=v", "begun, moved, moved, moved, moved, moved, new"),
+    (3, "k", "begun, moved, moved"),
+    (2, "k-", "begun, moved, moved, moved"),
     (3, "", "moved"),
     (2, "", "moved"),
     (3, "", "found"),
     (2, "", "removed"),
-    (4, "k-", "begun"),
-    (4, "", "moved"),
-    (4, "", "moved"),
-    (4, "", "absent"),
-    (4, "", "no such"),
+    (4, "k-", "begun, moved, moved, absent, no such"),
     (2, "k", "no such"),
 ];
 
 // A get has read a slot whose pair is removed then, and a put of another key takes that slot. The get meets the mark,
 // looks again, and finds no pair.
-const A_SLOT_IS_TAKEN: [Row; 29] = [
-    (1, "k=v", "begun"),
-    (1, "", "moved"),
-    (1, "", "moved"),
-    (1, "", "moved"),
-    (1, "", "moved"),
-    (1, "", "moved"),
-    (1, "", "new"),
-    (3, "k", "begun"),
-    (3, "", "moved"),
-    (3, "", "moved"),
-    (3, "", "moved"),
-    (4, "k-", "begun"),
-    (4, "", "moved"),
-    (4, "", "moved"),
-    (4, "", "moved"),
-    (4, "", "moved"),
-    (4, "", "removed"),
-    (2, "l=w", "begun"),
-    (2, "", "moved"),
-    (2, "", "moved"),
-    (2, "", "moved"),
-    (2, "", "moved"),
+const A_SLOT_IS_TAKEN: [Row; 7] = [
+    (1, "k=v", "begun, moved, moved, moved, moved, moved, new"),
+    (3, "k", "begun, moved, moved, moved"),
+    (4, "k-", "begun, moved, moved, moved, moved, removed"),
+    (2, "l=w", "begun, moved, moved, moved, moved"),
     (3, "", "again 2"),
-    (2, "", "moved"),
-    (2, "", "new"),
-    (3, "", "moved"),
-    (3, "", "moved"),
-    (3, "", "moved"),
-    (3, "", "absent"),
+    (2, "", "moved, new"),
+    (3, "", "moved, moved, moved, absent"),
 ];
 
 // A put that asks for a missing key is told the stamp of the row that stands there. One that asks for that stamp writes
 // over the row, and then the stamp is stale. A missing key has stamp 0, and a put that asks for it makes the pair.
-const A_STAMP_IS_ASKED_FOR: [Row; 32] = [
-    (1, "k=v", "begun"),
-    (1, "", "moved"),
-    (1, "", "moved"),
-    (1, "", "moved"),
-    (1, "", "moved"),
-    (1, "", "moved"),
-    (1, "", "new"),
-    (2, "k?0=w", "begun"),
-    (2, "", "moved"),
-    (2, "", "moved"),
-    (2, "", "stale 5"),
-    (3, "k?5=w", "begun"),
-    (3, "", "moved"),
-    (3, "", "moved"),
-    (3, "", "moved"),
-    (3, "", "moved"),
-    (3, "", "replaced"),
-    (4, "k?5=x", "begun"),
-    (4, "", "moved"),
-    (4, "", "moved"),
-    (4, "", "stale 13"),
-    (5, "l?5=w", "begun"),
-    (5, "", "moved"),
-    (5, "", "moved"),
-    (5, "", "stale 0"),
-    (6, "l?0=w", "begun"),
-    (6, "", "moved"),
-    (6, "", "moved"),
-    (6, "", "moved"),
-    (6, "", "moved"),
-    (6, "", "moved"),
-    (6, "", "new"),
+const A_STAMP_IS_ASKED_FOR: [Row; 6] = [
+    (1, "k=v", "begun, moved, moved, moved, moved, moved, new"),
+    (2, "k?0=w", "begun, moved, moved, stale 5"),
+    (3, "k?5=w", "begun, moved, moved, moved, moved, replaced"),
+    (4, "k?5=x", "begun, moved, moved, stale 13"),
+    (5, "l?5=w", "begun, moved, moved, stale 0"),
+    (6, "l?0=w", "begun, moved, moved, moved, moved, moved, new"),
 ];
 
 // The events of a run, by the only worker, for tenant 7.
@@ -187,10 +88,20 @@ fn events_of(rt: &impl Abort, alloc: Global, rows: &[Row]) -> Vec<Event>
 {
     let mut events = Vec::new(alloc);
     for row in rows {
-        let event = event_of(rt, alloc, row);
-        assert!(rt; events.push(event).is_ok());
+        assert!(rt; events.push(event_of(rt, alloc, row)).is_ok());
+        push_steps(rt, &mut events, row);
     }
     events
+}
+
+// The steps of a row, behind other events.
+fn push_steps(rt: &impl Abort, events: &mut Vec<Event>, row: &Row)
+    requires { All (IsServed 0) events.old.items }
+    ensures { All (IsServed 0) events.new.items }
+{
+    for _ in row.2.split(", ").skip(1) {
+        assert!(rt; events.push(Event::Step { op: row.0 }).is_ok());
+    }
 }
 
 fn event_of(rt: &impl Abort, alloc: Global, row: &Row) -> Event
@@ -202,7 +113,7 @@ fn event_of(rt: &impl Abort, alloc: Global, row: &Row) -> Event
     }
     let command = match (row.1.split_once('='), row.1.split_once('-')) {
         (Some((key, value)), _) => match key.split_once('?') {
-            Some((key, stamp)) => put_if(rt, alloc, key, stamp_of(stamp), value),
+            Some((key, stamp)) => put_if(rt, alloc, key, stamp.parse().unwrap_or(0), value),
             None => put(rt, alloc, key, value),
         },
         (None, Some((key, _))) => remove(rt, alloc, key),
@@ -216,17 +127,16 @@ fn event_of(rt: &impl Abort, alloc: Global, row: &Row) -> Event
     }
 }
 
-// The stamp that a row names.
-fn stamp_of(text: &str) -> u64 {
-    if text == "5" { 5 } else { 0 }
-}
-
 // Lets the events of the rows happen to a new store, and compares what each is told.
 fn expect_run(rt: &impl Abort, alloc: Global, rows: &[Row]) {
     let events = events_of(rt, alloc, rows);
     let (_, told) = run_events(alloc, 0, one_tenant(alloc, 2), &events).expect(rt, "memory");
-    for (row, told) in rows.iter().zip(told.as_slice()) {
-        assert_eq!(rt; text_of(told), row.2);
+    let mut told = told.as_slice().iter();
+    for row in rows {
+        for wanted in row.2.split(", ") {
+            let told = told.next().map_or("none", |told| text_of(told));
+            assert_eq!(rt; told, wanted);
+        }
     }
 }
 
@@ -255,10 +165,13 @@ fn text_of(told: &Told) -> &'static str {
 
 #[test]
 fn each_event_is_told_what_its_row_says(rt: HostRuntime) {
-    let alloc = rt.alloc();
-    expect_run(&rt, alloc, &A_GET_STANDS_BEFORE_A_PUT);
-    expect_run(&rt, alloc, &IN_ANY_ORDER);
-    expect_run(&rt, alloc, &A_REMOVE_IS_MET);
-    expect_run(&rt, alloc, &A_SLOT_IS_TAKEN);
-    expect_run(&rt, alloc, &A_STAMP_IS_ASKED_FOR);
+    for rows in [
+        A_GET_STANDS_BEFORE_A_PUT.as_slice(),
+        &IN_ANY_ORDER,
+        &A_REMOVE_IS_MET,
+        &A_SLOT_IS_TAKEN,
+        &A_STAMP_IS_ASKED_FOR,
+    ] {
+        expect_run(&rt, rt.alloc(), rows);
+    }
 }

@@ -1,7 +1,7 @@
 //! One store, call by call.
 
-use crate::asked::{drained, get, one_tenant, put};
-use mt_core::{State, Ticket, prepare};
+use crate::asked::{drained, end, get, new_store, put, run, taken};
+use mt_core::{State, prepare};
 use mt_operation::Phase;
 use mt_rows::{Command, Refusal, Write};
 use mt_runs::Answer;
@@ -9,9 +9,9 @@ use mt_state::Move;
 use std::alloc::Global;
 use std::process::Abort;
 
-// A store without logs, whose tenant may have so many pairs.
-fn new_store(rt: &impl Abort, alloc: Global, quota: u32) -> State {
-    State::new(alloc, 0, one_tenant(alloc, quota)).expect(rt, "memory")
+// The answer to a put that nobody is in the way of, by a worker.
+fn put_by(rt: &impl Abort, alloc: Global, state: &mut State, worker: u8, key: &str) -> Answer {
+    run(rt, state, worker, 7, put(rt, alloc, key, "v"))
 }
 
 // The lines of the tree.
@@ -24,28 +24,9 @@ fn expect_lines(rt: &impl Abort, alloc: Global, state: &State, texts: &[&str]) {
     }
 }
 
-// The answer of an operation that is finished: its numbers are these.
-fn expect_end(rt: &impl Abort, state: &mut State, ticket: Ticket, numbers: (u64, u64, u64)) {
-    match state.take(ticket) {
-        Ok(
-            Answer {
-                first,
-                at,
-                last,
-                ..
-            },
-        ) => assert_eq!(rt; (first, at, last), numbers),
-        Err(_) => panic!(rt; "the operation isn't finished"),
-    }
-}
-
-// A put that nobody is in the way of, by the only worker.
-fn put_alone(rt: &impl Abort, alloc: Global, state: &mut State, key: &str) -> Ticket {
-    let ticket = state
-        .begin(0, 7, put(rt, alloc, key, "v"))
-        .expect(rt, "the put is taken");
-    assert!(rt; state.run_alone(&ticket) == Move::Done);
-    ticket
+// The numbers of the first step, the one of the answer and the last.
+fn numbers_of(answer: &Answer) -> (u64, u64, u64) {
+    (answer.first, answer.at, answer.last)
 }
 
 fn a_get_goes_by_steps(rt: &impl Abort, alloc: Global, state: &mut State) {
@@ -57,16 +38,16 @@ fn a_get_goes_by_steps(rt: &impl Abort, alloc: Global, state: &mut State) {
     }
     assert!(rt; state.noted(&ticket).is_some());
     assert!(rt; state.step(&ticket) == Move::Done);
-    expect_end(rt, state, ticket, (7, 7, 10));
+    assert_eq!(rt; numbers_of(&taken(rt, state, ticket)), (7, 7, 10));
 }
 
 #[test]
 fn a_put_and_a_get_of_it(rt: HostRuntime) {
     let alloc = rt.alloc();
-    let mut state = new_store(&rt, alloc, 2);
+    let mut state = new_store(&rt, alloc, 0, 2);
     expect_lines(&rt, alloc, &state, &["tree - layer 0", "  border 0"]);
-    let ticket = put_alone(&rt, alloc, &mut state, "k");
-    expect_end(&rt, &mut state, ticket, (1, 5, 6));
+    let told = put_by(&rt, alloc, &mut state, 0, "k");
+    assert_eq!(rt; numbers_of(&told), (1, 5, 6));
     expect_lines(
         &rt,
         alloc,
@@ -81,16 +62,6 @@ fn a_put_and_a_get_of_it(rt: HostRuntime) {
     state.facts();
     let numbers = (state.steps(), state.answers(), state.logs());
     assert_eq!(rt; numbers, (10, 2, 0));
-}
-
-// A put by one of several workers, which is answered.
-fn put_by(rt: &impl Abort, alloc: Global, state: &mut State, worker: u8, key: &str) {
-    assert!(rt; worker < state.logs());
-    let ticket = state
-        .begin(worker, 7, put(rt, alloc, key, "v"))
-        .expect(rt, "the put is taken");
-    assert!(rt; state.run_alone(&ticket) == Move::Done);
-    assert!(rt; state.take(ticket).is_ok());
 }
 
 // The batch that a worker's log is given: the step over which it goes, its stamps and keys, and whether each
@@ -126,7 +97,7 @@ fn is_of_put(write: &Write, was_there: bool) -> bool {
 #[test]
 fn each_log_is_given_its_own_workers_changes_once(rt: HostRuntime) {
     let alloc = rt.alloc();
-    let mut state = State::new(alloc, 2, one_tenant(alloc, 100)).expect(&rt, "memory");
+    let mut state = new_store(&rt, alloc, 2, 100);
     for (worker, key) in [(0, "a"), (1, "b"), (0, "c")] {
         put_by(&rt, alloc, &mut state, worker, key);
     }
@@ -141,7 +112,7 @@ fn each_log_is_given_its_own_workers_changes_once(rt: HostRuntime) {
 #[test]
 fn a_full_batch_ends_at_its_last_change(rt: HostRuntime) {
     let alloc = rt.alloc();
-    let mut state = State::new(alloc, 2, one_tenant(alloc, 100)).expect(&rt, "memory");
+    let mut state = new_store(&rt, alloc, 2, 100);
     put_by(&rt, alloc, &mut state, 1, "a");
     for _ in 0..4_100 {
         put_by(&rt, alloc, &mut state, 0, "a");
@@ -157,17 +128,16 @@ fn a_full_batch_ends_at_its_last_change(rt: HostRuntime) {
     );
 }
 
-const SIXTEEN_KEYS: [&str; 16] = [
+pub(crate) const SIXTEEN_KEYS: [&str; 16] = [
     "a", "b", "c", "d", "e", "f", "g", "h", "i", "j", "k", "l", "m", "n", "o", "p",
 ];
 
 #[test]
 fn sixteen_puts_make_a_root_over_two_nodes(rt: HostRuntime) {
     let alloc = rt.alloc();
-    let mut state = new_store(&rt, alloc, 100);
+    let mut state = new_store(&rt, alloc, 0, 100);
     for key in SIXTEEN_KEYS {
-        let ticket = put_alone(&rt, alloc, &mut state, key);
-        assert!(rt; state.take(ticket).is_ok());
+        put_by(&rt, alloc, &mut state, 0, key);
     }
     expect_lines(
         &rt,
@@ -191,15 +161,14 @@ fn put_together(rt: &impl Abort, alloc: Global, state: &mut State, keys: &[&str]
         tickets.push(ticket).expect(rt, "memory");
     }
     for ticket in tickets {
-        assert!(rt; state.run_alone(&ticket) == Move::Done);
-        assert!(rt; state.take(ticket).is_ok());
+        end(rt, state, ticket);
     }
 }
 
 #[test]
 fn operations_are_begun_in_places_that_were_made(rt: HostRuntime) {
     let alloc = rt.alloc();
-    let mut state = new_store(&rt, alloc, 100);
+    let mut state = new_store(&rt, alloc, 0, 100);
     for more in [0, 3, 1, 40] {
         state.reserve(more).expect(&rt, "memory");
         put_together(&rt, alloc, &mut state, &SIXTEEN_KEYS);
@@ -224,7 +193,7 @@ fn expect_refusal(
 #[test]
 fn the_first_cause_is_told_and_a_begin_is_cancelled(rt: HostRuntime) {
     let alloc = rt.alloc();
-    let mut state = new_store(&rt, alloc, 2);
+    let mut state = new_store(&rt, alloc, 0, 2);
     let rows: [(u32, &str, &[u8], Refusal); 3] = [
         (8, "k", &[16], Refusal::NoTenant(8)),
         (7, "k", &[16], Refusal::Column),
