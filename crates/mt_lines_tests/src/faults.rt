@@ -76,48 +76,32 @@ fn expect_front(rt: &impl Abort, written: &[u8], lines: usize) {
 
 // How many lines end in these bytes.
 fn lines_in(bytes: &[u8]) -> usize {
-    let mut count: usize = 0;
-    for byte in bytes {
-        if *byte == b'\n' {
-            count = count.saturating_add(1);
-        }
-    }
-    count
+    bytes.iter().filter(|byte| **byte == b'\n').count()
 }
 
-// Runs the script where so many reads succeed.
-fn run_reads(alloc: Global, reads: usize, written: &mut Vec<u8>) -> Ending {
+// Runs the script where so many reads succeed. All lines that were read to their end are answered, and no other.
+fn expect_reads(rt: &impl Abort, alloc: Global, reads: usize) {
     let mut reader = FailingReader {
         left: SCRIPT.as_bytes(),
         until_fault: reads,
     };
-    run_program(alloc, &[], &mut reader, written)
-}
-
-// All lines that were read to their end are answered, and no other.
-fn expect_read_fault(rt: &impl Abort, alloc: Global, reads: usize) {
+    let mut written = Vec::new(alloc);
+    let ending = run_program(alloc, &[], &mut reader, &mut written);
+    if reads > SCRIPT.len() {
+        expect_ending(rt, alloc, &ending, 0, NO_FAULT);
+        return assert!(rt; written.as_slice() == ANSWERS.as_bytes());
+    }
     let said = "reading failed: other error; the answers printed stand";
-    assert!(rt; reads <= SCRIPT.len());
-    let (read, _) = SCRIPT.as_bytes().split_at(reads);
-    let mut written = Vec::new(alloc);
-    let ending = run_reads(alloc, reads, &mut written);
     expect_ending(rt, alloc, &ending, 1, said);
+    let (read, _) = SCRIPT.as_bytes().split_at(reads);
     expect_front(rt, &written, lines_in(read));
-}
-
-fn expect_no_read_fault(rt: &impl Abort, alloc: Global, reads: usize) {
-    let mut written = Vec::new(alloc);
-    let ending = run_reads(alloc, reads, &mut written);
-    expect_ending(rt, alloc, &ending, 0, NO_FAULT);
-    assert!(rt; written.as_slice() == ANSWERS.as_bytes());
 }
 
 #[test]
 fn each_read_fails_in_turn(rt: HostRuntime) {
-    for reads in 0..SCRIPT.len() + 1 {
-        expect_read_fault(&rt, rt.alloc(), reads);
+    for reads in 0..SCRIPT.len() + 2 {
+        expect_reads(&rt, rt.alloc(), reads);
     }
-    expect_no_read_fault(&rt, rt.alloc(), SCRIPT.len() + 1);
 }
 
 // What is printed where so many writes succeed, of at most so many bytes each: one write is a byte, or a
@@ -133,33 +117,21 @@ fn expect_write_fault(rt: &impl Abort, alloc: Global, most: usize, writes: usize
     };
     let ending = run_program(alloc, &[], &mut reader, &mut writer);
     expect_ending(rt, alloc, &ending, 1, said);
-    expect_writes(rt, &writer.written, most, writes);
-}
-
-fn expect_writes(rt: &impl Abort, written: &[u8], most: usize, writes: usize) {
-    let count = if most == 1 {
-        written.len()
+    let written = writer.written.as_slice();
+    if most == 1 {
+        assert!(rt; ANSWERS.as_bytes().starts_with(written) && written.len() == writes);
     } else {
-        lines_in(written)
-    };
-    assert!(rt; ANSWERS.as_bytes().starts_with(written));
-    assert_eq!(rt; count, writes);
+        expect_front(rt, written, writes);
+    }
 }
 
 #[test]
 fn each_write_fails_in_turn(rt: HostRuntime) {
-    // (bytes that are taken at a time, writes that succeed)
-    let cases: [(usize, usize); 7] = [
-        (100, 0),
-        (100, 1),
-        (100, 4),
-        (1, 0),
-        (1, 2),
-        (1, 5),
-        (1, 43),
-    ];
-    for (most, writes) in cases {
-        expect_write_fault(&rt, rt.alloc(), most, writes);
+    // Bytes that are taken at a time, and writes that succeed.
+    for (most, all) in [(100, [0, 1, 4].as_slice()), (1, &[0, 2, 5, 43])] {
+        for writes in all {
+            expect_write_fault(&rt, rt.alloc(), most, *writes);
+        }
     }
 }
 

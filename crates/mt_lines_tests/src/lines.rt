@@ -18,150 +18,76 @@ fn expect_bytes(rt: &impl Abort, what: &str, is_whole: bool, written: &[u8], wan
     assert!(rt; is_whole && written == wanted.as_bytes(), "{what}");
 }
 
-// A script, and its answers.
-const SINGLE_LINES: [(&str, &str); 61] = [
-    ("", ""),
-    ("\n\r\n# a comment\n", ""),
-    (" ", "bad line\n"),
-    (" # no comment\n", "bad line\n"),
-    ("\r", "bad line\n"),
-    ("shape\r\n", "tree - layer 0\n  border 0\n"),
-    ("  shape  ", "tree - layer 0\n  border 0\n"),
-    ("shape\r", "bad line\n"),
-    ("shape 1\n", "bad line\n"),
-    ("shape\t\n", "bad line\n"),
-    ("Shape\n", "bad line\n"),
-    ("tenant  7   100\n", "ok\n"),
-    ("tenant 007 0100\n", "ok\n"),
-    ("tenant 4294967295 1\n", "ok\n"),
-    ("tenant 4294967296 1\n", "bad line\n"),
-    ("tenant +7 100\n", "bad line\n"),
-    ("tenant -7 100\n", "bad line\n"),
-    ("tenant 7\n", "bad line\n"),
-    ("tenant 7 1 1\n", "bad line\n"),
-    (
-        "tenant 7 0\ntenant 7 1048577\ntenant 7 1048576\ntenant 7 0\n",
-        "refused E7\nrefused E7\nok\nrefused E3\n",
-    ),
-    ("begin 1 8 get 61\ntenant 8 5\n", "refused E4\nbad line\n"),
-    ("begin 1 8 get\ntenant 8 5\n", "bad line\nok\n"),
-    ("step 1\nrun 1\nuntil 1 enter\n", "none\nnone\nnone\n"),
-    (
-        "step 0\nstep 1000000\nstep 999999\n",
-        "bad line\nbad line\nnone\n",
-    ),
-    (
-        "step\nstep 1 1\nrun\nrun x\nuntil 1\n",
-        "bad line\nbad line\nbad line\nbad line\nbad line\n",
-    ),
-    (
-        "until 1 Enter\nuntil 1 fills\nuntil 1 fill\nuntil 1 unlock\n",
-        "bad line\nbad line\nnone\nnone\n",
-    ),
-    ("tenant 7 5\nbegin 1 7 put 61\n", "ok\nbad line\n"),
-    ("tenant 7 5\nbegin 1 7 put 61 0\n", "ok\nbad line\n"),
-    ("tenant 7 5\nbegin 1 7 put 61 =76\n", "ok\nbad line\n"),
-    ("tenant 7 5\nbegin 1 7 put 61 256=76\n", "ok\nbad line\n"),
-    ("tenant 7 5\nbegin 1 7 put 61 0=7\n", "ok\nbad line\n"),
-    ("tenant 7 5\nbegin 1 7 put 61 0=7g\n", "ok\nbad line\n"),
-    ("tenant 7 5\nbegin 1 7 put 61 0=76=77\n", "ok\nbad line\n"),
-    ("tenant 7 5\nbegin 1 7 put 6 0=76\n", "ok\nbad line\n"),
-    ("tenant 7 5\nbegin 1 7 put -- 0=76\n", "ok\nbad line\n"),
-    (
-        "tenant 7 5\nbegin 1 7 put 61 1=76 0=76\n",
-        "ok\nrefused E5\n",
-    ),
-    (
-        "tenant 7 5\nbegin 1 7 put 61 0=76 0=76\n",
-        "ok\nrefused E5\n",
-    ),
-    ("tenant 7 5\nbegin 1 7 get 61 1 1\n", "ok\nrefused E5\n"),
-    ("tenant 7 5\nbegin 1 7 get 61 256\n", "ok\nbad line\n"),
-    ("tenant 7 5\nbegin 1 7 get 61 16\n", "ok\nrefused E5\n"),
-    (
-        "tenant 7 5\nbegin 1 7 get aB 00\nrun 1\n",
-        "ok\nbegun 1\ndone absent\n",
-    ),
-    (
-        "tenant 7 5\nbegin 1 7 put Fe 0=aBcD\nrun 1\nbegin 1 7 get fE 0\nrun 1\n",
-        "ok\nbegun 1\ndone new\nbegun 1\ndone found 0=abcd\n",
-    ),
-    (
-        "tenant 7 5\nbegin 1 7 remove\nbegin 1 7 remove 61 62\nbegin 1 7 scans - 1\nbegin 1 7 puts 61 0=\n",
-        "ok\nbad line\nbad line\nbad line\nbad line\n",
-    ),
-    (
-        "tenant 7 5\nbegin 1 7 scan\nbegin 1 7 scan -\nbegin 1 7 scan - 256\nbegin 1 7 scan - 1 behind\nbegin 1 7 scan - 1 after 2\n",
-        "ok\nbad line\nbad line\nbad line\nbad line\nbad line\n",
-    ),
-    (
-        "tenant 7 5\nbegin 1 7 scan - 0\nbegin 1 7 scan - 65\nbegin 1 7 scan - 64 after\nrun 1\n",
-        "ok\nrefused E8\nrefused E8\nbegun 1\ndone pairs 0\n",
-    ),
-    (
-        "tenant 7 5\nbegin 1 7 put Fe 0=76 1=\nrun 1\nbegin 1 7 scan fe 01\nrun 1\nbegin 1 7 scan fe 1 after\nrun 1\n",
-        "ok\nbegun 1\ndone new\nbegun 1\ndone pairs 1 fe:0=76,1=\nbegun 1\ndone pairs 0\n",
-    ),
-    (
-        "tenant 7 5\nbegin 1 7 put 61 0=76\nrun 1\nbegin 1 7 remove 61\nrun 1\nbegin 1 7 remove 61\nrun 1\nbegin 1 7 get 61\nrun 1\n",
-        "ok\nbegun 1\ndone new\nbegun 1\ndone removed\nbegun 1\ndone absent\nbegun 1\ndone absent\n",
-    ),
-    (
-        "tenant 7 5\nbegin 1 7 get 61\nbegin 1 7 get 61\nrun 1\nrun 1\n",
-        "ok\nbegun 1\nbad line\ndone absent\nnone\n",
-    ),
-    (
-        "tenant 7 5\nbegin 1 7 put 61 0=\nbegin 2 7 put 62 0=\nbegin 2 9 put 62 0=\nrun 1\nbegin 2 7 put 62 0=\nrun 2\n",
-        "ok\nbegun 1\nbegun 2\nbad line\ndone new\nbad line\ndone new\n",
-    ),
-    (
-        "tenant 7 5\nbegin 1 9 put 61 0=\nbegin 1 7 put 61 0=\nrun 1\n",
-        "ok\nrefused E4\nbegun 1\ndone new\n",
-    ),
-    (
-        "tenant 7 5\nbegin 1 7 gets\nbegin 1 7 gets 61 256\nbegin 1 7 gets 61 16\nbegin 1 7 gets 61 0\nrun 1\n",
-        "ok\nbad line\nbad line\nrefused E5\nbegun 1\ndone absent\n",
-    ),
-    (
-        "tenant 7 5\nbegin 1 7 put 6b 0=76 2=78\nrun 1\nbegin 1 7 gets 6b\nrun 1\nbegin 1 7 gets 6B 2\nrun 1\nbegin 1 7 get 6b 2\nrun 1\n",
-        "ok\nbegun 1\ndone new\nbegun 1\ndone found@5 0=76,1=,2=78\nbegun 1\ndone found@5 2=78\nbegun 1\ndone found 2=78\n",
-    ),
-    (
-        "tenant 7 5\nbegin 1 7 put 6b 0=76\nrun 1\nbegin 1 7 gets 6b\nbegin 2 7 get 6b\nrun 1\nrun 2\nbegin 1 7 get 6b\nrun 1\n",
-        "ok\nbegun 1\ndone new\nbegun 1\nbegun 2\ndone found@5 0=76\ndone found 0=76\nbegun 1\ndone found 0=76\n",
-    ),
-    (
-        "tenant 7 5\nbegin 1 7 put 6b 0=76\nrun 1\nbegin 1 7 gets 6b\nrun 1\nbegin 1 7 putif 6b 5 0=77\nrun 1\nbegin 1 7 putif 6b 5 0=78\nrun 1\n",
-        "ok\nbegun 1\ndone new\nbegun 1\ndone found@5 0=76\nbegun 1\ndone replaced\nbegun 1\ndone stale 14\n",
-    ),
-    (
-        "tenant 7 1\nbegin 1 7 putif 6c 0 0=76\nrun 1\nbegin 1 7 putif 6d 3 0=76\nrun 1\nbegin 1 7 putif 6d 00 0=76\nrun 1\n",
-        "ok\nbegun 1\ndone new\nbegun 1\ndone stale 0\nbegun 1\ndone full\n",
-    ),
-    (
-        "tenant 7 5\nbegin 1 7 putif 6b 18446744073709551615 0=\nrun 1\nbegin 1 7 putif 6b 0018446744073709551615 0=\nrun 1\nbegin 1 7 putif 6b 18446744073709551616 0=\n",
-        "ok\nbegun 1\ndone stale 0\nbegun 1\ndone stale 0\nbad line\n",
-    ),
-    (
-        "tenant 7 5\nbegin 1 7 putif\nbegin 1 7 putif 6b\nbegin 1 7 putif 6b 5\nbegin 1 7 putif 6b 0=76\nbegin 1 7 putif 6b +5 0=76\nbegin 1 7 putif 6b -1 0=76\nbegin 1 7 putif 6b 5 76\n",
-        "ok\nbad line\nbad line\nbad line\nbad line\nbad line\nbad line\nbad line\n",
-    ),
-    (
-        "tenant 7 5\nbegin 1 7 putif 6b 0 16=\nbegin 1 7 putif 6b 0 1= 0=\nbegin 1 8 putif 6b 0 0=\n",
-        "ok\nrefused E5\nrefused E5\nrefused E4\n",
-    ),
-    ("\u{0}\n\u{ff}\n", "bad line\nbad line\n"),
-    ("step 1 # no comment\nrun 1", "bad line\nnone\n"),
-    (
-        "begin 2 8 get 61\nbegin 2 8 scan - 1\n",
-        "refused E4\nrefused E4\n",
-    ),
+// Scripts, and their answers behind ` => `. A line that is none changes nothing, so that one script has several of them.
+const SINGLE_LINES: [&str; 45] = [
+    " => ",
+    "\n\r\n# a comment\n => ",
+    "  => bad line\n",
+    " # no comment\n => bad line\n",
+    "\r => bad line\n",
+    "shape\r\n => tree - layer 0\n  border 0\n",
+    "  shape   => tree - layer 0\n  border 0\n",
+    "shape\r => bad line\n",
+    "shape 1\nshape\t\nShape\n => bad line\nbad line\nbad line\n",
+    "tenant  7   100\n => ok\n",
+    "tenant 007 0100\n => ok\n",
+    "tenant 4294967295 1\ntenant 4294967296 1\n => ok\nbad line\n",
+    "tenant +7 100\ntenant -7 100\ntenant 7\ntenant 7 1 1\n => bad line\nbad line\nbad line\nbad line\n",
+    "tenant 7 0\ntenant 7 1048577\ntenant 7 1048576\ntenant 7 0\n => refused E7\nrefused E7\nok\nrefused E3\n",
+    "begin 1 8 get 61\ntenant 8 5\n => refused E4\nbad line\n",
+    "begin 1 8 get\ntenant 8 5\n => bad line\nok\n",
+    "step 1\nrun 1\nuntil 1 enter\n => none\nnone\nnone\n",
+    "step 0\nstep 1000000\nstep 999999\n => bad line\nbad line\nnone\n",
+    "step\nstep 1 1\nrun\nrun x\nuntil 1\n => bad line\nbad line\nbad line\nbad line\nbad line\n",
+    "until 1 Enter\nuntil 1 fills\nuntil 1 fill\nuntil 1 unlock\n => bad line\nbad line\nnone\nnone\n",
+    "tenant 7 5\nbegin 1 7 put 61\nbegin 1 7 put 61 0\nbegin 1 7 put 61 =76\nbegin 1 7 put 61 256=76\nbegin 1 7 put 61 0=7\n \
+    => ok\nbad line\nbad line\nbad line\nbad line\nbad line\n",
+    "tenant 7 5\nbegin 1 7 put 61 0=7g\nbegin 1 7 put 61 0=76=77\nbegin 1 7 put 6 0=76\nbegin 1 7 put -- 0=76\n \
+    => ok\nbad line\nbad line\nbad line\nbad line\n",
+    "tenant 7 5\nbegin 1 7 put 61 1=76 0=76\nbegin 1 7 put 61 0=76 0=76\n => ok\nrefused E5\nrefused E5\n",
+    "tenant 7 5\nbegin 1 7 get 61 1 1\nbegin 1 7 get 61 256\nbegin 1 7 get 61 16\n => ok\nrefused E5\nbad line\nrefused E5\n",
+    "tenant 7 5\nbegin 1 7 get aB 00\nrun 1\n => ok\nbegun 1\ndone absent\n",
+    "tenant 7 5\nbegin 1 7 put Fe 0=aBcD\nrun 1\nbegin 1 7 get fE 0\nrun 1\n => ok\nbegun 1\ndone new\nbegun 1\ndone found 0=abcd\n",
+    "tenant 7 5\nbegin 1 7 remove\nbegin 1 7 remove 61 62\nbegin 1 7 scans - 1\nbegin 1 7 puts 61 0=\n \
+    => ok\nbad line\nbad line\nbad line\nbad line\n",
+    "tenant 7 5\nbegin 1 7 scan\nbegin 1 7 scan -\nbegin 1 7 scan - 256\nbegin 1 7 scan - 1 behind\nbegin 1 7 scan - 1 after 2\n \
+    => ok\nbad line\nbad line\nbad line\nbad line\nbad line\n",
+    "tenant 7 5\nbegin 1 7 scan - 0\nbegin 1 7 scan - 65\nbegin 1 7 scan - 64 after\nrun 1\n \
+    => ok\nrefused E8\nrefused E8\nbegun 1\ndone pairs 0\n",
+    "tenant 7 5\nbegin 1 7 put Fe 0=76 1=\nrun 1\nbegin 1 7 scan fe 01\nrun 1\nbegin 1 7 scan fe 1 after\nrun 1\n \
+    => ok\nbegun 1\ndone new\nbegun 1\ndone pairs 1 fe:0=76,1=\nbegun 1\ndone pairs 0\n",
+    "tenant 7 5\nbegin 1 7 put 61 0=76\nrun 1\nbegin 1 7 remove 61\nrun 1\nbegin 1 7 remove 61\nrun 1\nbegin 1 7 get 61\nrun 1\n \
+    => ok\nbegun 1\ndone new\nbegun 1\ndone removed\nbegun 1\ndone absent\nbegun 1\ndone absent\n",
+    "tenant 7 5\nbegin 1 7 get 61\nbegin 1 7 get 61\nrun 1\nrun 1\n => ok\nbegun 1\nbad line\ndone absent\nnone\n",
+    "tenant 7 5\nbegin 1 7 put 61 0=\nbegin 2 7 put 62 0=\nbegin 2 9 put 62 0=\nrun 1\nbegin 2 7 put 62 0=\nrun 2\n \
+    => ok\nbegun 1\nbegun 2\nbad line\ndone new\nbad line\ndone new\n",
+    "tenant 7 5\nbegin 1 9 put 61 0=\nbegin 1 7 put 61 0=\nrun 1\n => ok\nrefused E4\nbegun 1\ndone new\n",
+    "tenant 7 5\nbegin 1 7 gets\nbegin 1 7 gets 61 256\nbegin 1 7 gets 61 16\nbegin 1 7 gets 61 0\nrun 1\n \
+    => ok\nbad line\nbad line\nrefused E5\nbegun 1\ndone absent\n",
+    "tenant 7 5\nbegin 1 7 put 6b 0=76 2=78\nrun 1\nbegin 1 7 gets 6b\nrun 1\nbegin 1 7 gets 6B 2\nrun 1\nbegin 1 7 get 6b 2\nrun 1\n \
+    => ok\nbegun 1\ndone new\nbegun 1\ndone found@5 0=76,1=,2=78\nbegun 1\ndone found@5 2=78\nbegun 1\ndone found 2=78\n",
+    "tenant 7 5\nbegin 1 7 put 6b 0=76\nrun 1\nbegin 1 7 gets 6b\nbegin 2 7 get 6b\nrun 1\nrun 2\nbegin 1 7 get 6b\nrun 1\n \
+    => ok\nbegun 1\ndone new\nbegun 1\nbegun 2\ndone found@5 0=76\ndone found 0=76\nbegun 1\ndone found 0=76\n",
+    "tenant 7 5\nbegin 1 7 put 6b 0=76\nrun 1\nbegin 1 7 gets 6b\nrun 1\nbegin 1 7 putif 6b 5 0=77\nrun 1\nbegin 1 7 putif 6b 5 0=78\nrun 1\n \
+    => ok\nbegun 1\ndone new\nbegun 1\ndone found@5 0=76\nbegun 1\ndone replaced\nbegun 1\ndone stale 14\n",
+    "tenant 7 1\nbegin 1 7 putif 6c 0 0=76\nrun 1\nbegin 1 7 putif 6d 3 0=76\nrun 1\nbegin 1 7 putif 6d 00 0=76\nrun 1\n \
+    => ok\nbegun 1\ndone new\nbegun 1\ndone stale 0\nbegun 1\ndone full\n",
+    "tenant 7 5\nbegin 1 7 putif 6b 18446744073709551615 0=\nrun 1\nbegin 1 7 putif 6b 0018446744073709551615 0=\nrun 1\nbegin 1 7 putif 6b 18446744073709551616 0=\n \
+    => ok\nbegun 1\ndone stale 0\nbegun 1\ndone stale 0\nbad line\n",
+    "tenant 7 5\nbegin 1 7 putif\nbegin 1 7 putif 6b\nbegin 1 7 putif 6b 5\nbegin 1 7 putif 6b 0=76\nbegin 1 7 putif 6b +5 0=76\nbegin 1 7 putif 6b -1 0=76\nbegin 1 7 putif 6b 5 76\n \
+    => ok\nbad line\nbad line\nbad line\nbad line\nbad line\nbad line\nbad line\n",
+    "tenant 7 5\nbegin 1 7 putif 6b 0 16=\nbegin 1 7 putif 6b 0 1= 0=\nbegin 1 8 putif 6b 0 0=\n \
+    => ok\nrefused E5\nrefused E5\nrefused E4\n",
+    "\u{0}\n\u{ff}\n => bad line\nbad line\n",
+    "step 1 # no comment\nrun 1 => bad line\nnone\n",
+    "begin 2 8 get 61\nbegin 2 8 scan - 1\n => refused E4\nrefused E4\n",
 ];
 
 #[test]
 fn single_lines(rt: HostRuntime) {
-    for (script, wanted) in &SINGLE_LINES {
-        expect_answers(&rt, rt.alloc(), script, script.as_bytes(), wanted);
+    for row in SINGLE_LINES {
+        let (script, wanted) = row.split_once(" => ").expect(&rt, "a row has two parts");
+        expect_answers(&rt, rt.alloc(), row, script.as_bytes(), wanted);
     }
 }
 
@@ -182,79 +108,34 @@ fn push_long(
 
 // Such a script is answered like this.
 fn expect_long(rt: &impl Abort, alloc: Global, row: &LongRow) {
-    let (what, first, other, count, end, wanted) = *row;
+    let (first, other, count, end, wanted) = *row;
     let mut script = Vec::new(alloc);
     push_long(&mut script, first, other, count, end).expect(rt, "memory");
-    expect_answers(rt, alloc, what, &script, wanted);
+    let what = format!(in alloc; "{row:?}").expect(rt, "memory");
+    expect_answers(rt, alloc, what.as_str(), &script, wanted);
 }
 
-// What it shows, the first byte, the others, how many they are in all, what follows them, and what is
-// answered.
-type LongRow = (&'static str, u8, u8, usize, &'static str, &'static str);
+// The first byte, the others, how many they are in all, what follows them, and what is answered.
+type LongRow = (u8, u8, usize, &'static str, &'static str);
 
 const EMPTY_TREE: &str = "tree - layer 0\n  border 0\n";
 
-// In the last four, of the longest line that is one, spaces count, and the line's end doesn't.
+const BEHIND_A_LONG_ONE: &str = "bad line\ntree - layer 0\n  border 0\n";
+
 const LONG_LINES: [LongRow; 10] = [
-    (
-        "as long as a line may be",
-        b' ',
-        b'x',
-        65_536,
-        "\n",
-        "bad line\n",
-    ),
-    ("a byte too long", b' ', b'x', 65_537, "\r\n", "bad line\n"),
-    (
-        "a line behind a long one",
-        b' ',
-        b'x',
-        200_000,
-        "\nshape\n",
-        "bad line\ntree - layer 0\n  border 0\n",
-    ),
-    ("a comment a byte too long", b'#', b'x', 65_537, "\n", ""),
-    (
-        "a line behind a long comment",
-        b'#',
-        b'x',
-        200_000,
-        "\r\nshape\n",
-        EMPTY_TREE,
-    ),
-    ("a long comment without an end", b'#', b'x', 200_000, "", ""),
-    (
-        "the longest line",
-        b' ',
-        b' ',
-        65_531,
-        "shape\r\n",
-        EMPTY_TREE,
-    ),
-    (
-        "a space more",
-        b' ',
-        b' ',
-        65_532,
-        "shape\r\n",
-        "bad line\n",
-    ),
-    (
-        "the longest line without an end",
-        b' ',
-        b' ',
-        65_531,
-        "shape",
-        EMPTY_TREE,
-    ),
-    (
-        "a space more without an end",
-        b' ',
-        b' ',
-        65_532,
-        "shape",
-        "bad line\n",
-    ),
+    // As long as a line may be, a byte more, and a line behind a long one.
+    (b' ', b'x', 65_536, "\n", "bad line\n"),
+    (b' ', b'x', 65_537, "\r\n", "bad line\n"),
+    (b' ', b'x', 200_000, "\nshape\n", BEHIND_A_LONG_ONE),
+    // Comments: one a byte too long, a line behind a long one, and a long one without an end.
+    (b'#', b'x', 65_537, "\n", ""),
+    (b'#', b'x', 200_000, "\r\nshape\n", EMPTY_TREE),
+    (b'#', b'x', 200_000, "", ""),
+    // The longest line and a space more, with an end and without one: spaces count, and the end doesn't.
+    (b' ', b' ', 65_531, "shape\r\n", EMPTY_TREE),
+    (b' ', b' ', 65_532, "shape\r\n", "bad line\n"),
+    (b' ', b' ', 65_531, "shape", EMPTY_TREE),
+    (b' ', b' ', 65_532, "shape", "bad line\n"),
 ];
 
 #[test]
