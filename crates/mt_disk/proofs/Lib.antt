@@ -3,4 +3,6 @@ mod Images
 mod EditLaws
 mod CutLaws
 mod CutImages
+mod HeldBytes
+mod FileCallLaws
 pub mod Debts

@@ -16,6 +16,12 @@ edit_of (Cut len) = CutTo len
 abbrev pub edits_of : List Edit → List FileEdit
 edits_of edits = map edit_of edits
 
+-- how many bytes they hold
+abbrev pub bytes_in : List FileEdit → ℕ
+bytes_in [] = 0
+bytes_in (Wrote at bytes ∷ rest) = length bytes + bytes_in rest
+bytes_in (CutTo len ∷ rest) = bytes_in rest
+
 -- the range that it writes
 abbrev pub range_of : FileEdit → DiskState → Range
 range_of (Wrote at bytes) s = (at, at + length bytes)

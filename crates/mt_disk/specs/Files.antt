@@ -1,8 +1,8 @@
 -- A file as a system gives it: what is written stands in the system's memory until a sync, and a sync that fails may drop it.
-use Rattle.std.specs.Prelude.{◌≡◌, Bool, if◌then◌else◌, List, [], ◌∷◌, Result, Ok, Err, ℕ}
+use Rattle.std.specs.Prelude.{◌≡◌, ◌≤◌, Bool, if◌then◌else◌, List, [], ◌∷◌, Result, Ok, Err, ℕ}
 use Rattle.mt_disk.specs.{declared.system.FileFault.FileFault, declared.system.FileFault.TheVariants.{NotMade, Failed}}
-use Rattle.mt_disk.specs.Disk.{DiskState, MayLeave, Dirties, found_again, synced}
-use Rattle.mt_disk.specs.FileEdits.{FileEdit, Wrote, CutTo, range_of, BeginsWithin, edited, remembered}
+use Rattle.mt_disk.specs.Disk.{DiskState, MayLeave, Dirties, debt, found_again, synced}
+use Rattle.mt_disk.specs.FileEdits.{FileEdit, Wrote, CutTo, range_of, BeginsWithin, bytes_in, edited, remembered}
 
 -- A file. `disk` is what it would be if it kept the rules of a disk. `unsynced` is what was changed since the last sync
 -- that succeeded, the oldest first. `owed` is what of it has to be made again before a sync makes it durable.
@@ -62,7 +62,8 @@ pub record IsFoundAgain (old new : FileState) : Type 0 where
   pub left : MayLeave old.disk.now old.disk.image → MayLeave old.disk.now image
   pub is : new ≡ at_rest (found_again image old.disk)
 
--- what a disk keeps of its file: all that was changed, and whether it is owed
+-- what a disk keeps of its file: all that was changed, and whether it is owed. It holds no more bytes than are dirty.
 pub record Keeps (s : FileState) (edits : List FileEdit) (is_owed : Bool) : Type 0 where
   pub unsynced : s.unsynced ≡ edits
   pub owed : s.owed ≡ (if is_owed then edits else [])
+  pub fits : bytes_in edits ≤ debt s.disk.now

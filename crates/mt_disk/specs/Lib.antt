@@ -3,3 +3,4 @@ pub mod Mem
 pub mod FileEdits
 pub mod Files
 pub mod MemFiles
+pub mod FileCalls

@@ -6,6 +6,7 @@
 #![tactic(auto)]
 
 pub mod cached;
+pub mod calls;
 pub mod disk;
 pub mod edit;
 pub mod file;
@@ -16,6 +17,7 @@ pub mod system;
 pub mod system_error;
 
 pub use cached::CachedDisk;
+pub use calls::FileCalls;
 pub use disk::{DeviceFailed, Disk};
 pub use file::{FileDisk, OsFile};
 pub use mem::MemDisk;

@@ -2,6 +2,7 @@
 use Rattle.std.specs.{Prelude.{◌≡◌, ◌⊎◌, ℕ, Bool, true, false, List, [], Option, Some, None, IsSome, length}, Option.option_map}
 use Rattle.mt_rows.specs.{Accounts.Accounts, declared.refusal.Refusal.Refusal}
 use Rattle.mt_disk.specs.{Disk.{DiskState, found_with}, declared.cached.CachedDisk.CachedDisk, declared.file.OsFile.OsFile}
+use Rattle.std.specs.declared.fs.File.{File}
 use Rattle.mt_state.specs.{Begins.new_state, Views.StateView}
 use Rattle.mt_options.specs.{declared.options.Options.Options, declared.options.StorePlace.StorePlace, declared.tenants.TenantQuota.TenantQuota}
 use Rattle.mt_store_files.specs.{declared.fault.StoreFault.StoreFault, declared.fault.StoreFault.TheVariants.{Refused as RefusedStore, RefusedLog, LogCount, Missing}}
@@ -19,7 +20,7 @@ use Rattle.mt_rows.specs.declared.refusal.Refusal.TheVariants as refusals
 
 -- a disk on a file of the system
 abbrev pub FileDisk : Type 0
-FileDisk = CachedDisk OsFile
+FileDisk = CachedDisk (OsFile File)
 
 -- what is claimed of a real file: how often its calls failed, and nothing of what it holds
 abbrev pub is_honest : FileDisk → Bool
