@@ -5,8 +5,9 @@ use Rattle.std.specs.List.{flat_map}
 use Rattle.mt_rows.specs.{Rows.Bytes, declared.record.TenantPair.TenantPair}
 use Rattle.mt_disk.specs.Disk.{debt, DiskState, LeavesOnly}
 use Rattle.sha2.specs.{Hashers.Holds256, Sha256.sha256}
-use Rattle.mt_checkpoint.specs.{declared.slot.Writer.Writer, declared.fault.FaultCause.FaultCause, declared.back.FileDigest.FileDigest, Format.{head_bytes, entry_bytes, last_bytes}}
-use Rattle.mt_checkpoint.specs.{Faults.CountsCause, Seen.HasSeen, Digests.digest_of, Checkpoints.{IsWalk, walk_bytes, IsClosed, IsBehindGate, IsShutIn, IsStaged}}
+use Rattle.mt_digests.specs.{declared.file_digest.FileDigest.FileDigest, Digests.digest_of}
+use Rattle.mt_checkpoint.specs.{declared.slot.Writer.Writer, declared.fault.FaultCause.FaultCause, Format.{head_bytes, entry_bytes, last_bytes}}
+use Rattle.mt_checkpoint.specs.{Faults.CountsCause, Seen.HasSeen, Checkpoints.{IsWalk, walk_bytes, IsClosed, IsBehindGate, IsShutIn, IsStaged}}
 use Rattle.mt_checkpoint.specs.{Writes.{text_with, IsWriting, walk_with, Added}, Staging.{StopsOn, StagesWalk}}
 use Rattle.mt_checkpoint.proofs.{Crash.behind_gate, Behind.shut_of}
 

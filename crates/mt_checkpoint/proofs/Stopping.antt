@@ -2,7 +2,8 @@
 use Rattle.std.proofs.Common.{◌≡◌, inl, inr, ℕ, Bool, true, false, IsTrue, List, [], ◌∷◌, Some, None, Result, OnOk, refl, sym, ◌∙◌, subst}
 use Rattle.mt_rows.specs.declared.record.TenantPair.{TenantPair}
 use Rattle.mt_disk.{specs.{Disk.{DiskState, LeavesOnly, GoesUp, CountsFailure}, declared.disk.DeviceFailed.DeviceFailed}, proofs.CrashLaws.{at_ok, joined, widened}}
-use Rattle.mt_checkpoint.specs.{declared.slot.Writer.Writer, declared.fault.WriteFault.WriteFault, declared.fault.FaultCause.FaultCause, declared.back.FileDigest.FileDigest}
+use Rattle.mt_digests.specs.declared.file_digest.FileDigest.{FileDigest}
+use Rattle.mt_checkpoint.specs.{declared.slot.Writer.Writer, declared.fault.WriteFault.WriteFault, declared.fault.FaultCause.FaultCause}
 use Rattle.mt_checkpoint.specs.declared.fault.FaultCause.TheVariants.{Device, Memory, NotAWalk, NotReadBack}
 use Rattle.mt_checkpoint.specs.{Faults.{CountsCause, told_as, IsRefused}, Checkpoints.{IsWalk, walk_bytes, IsClosed, IsOneOf, IsBehindGate, IsShutIn, IsStaged}, Slots.HasDurably}
 use Rattle.mt_checkpoint.specs.{Writes.{LeavesClosed, LeavesNoneOrThis, walk_with, GivesUp, Stops, FailsToAdd, RefusesPairs, Ended, FailsToEnd, RefusesEnd}, Staging.{CutsBehind, ClearsAfter, StopsOn, StagesWalk}}

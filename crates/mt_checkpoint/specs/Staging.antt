@@ -2,8 +2,9 @@
 use Rattle.std.specs.Prelude.{◌≡◌, ℕ, Bool, IsTrue, List, [], ◌∷◌, Result, OnOk}
 use Rattle.mt_rows.specs.declared.record.TenantPair.{TenantPair}
 use Rattle.mt_disk.specs.{Disk.{DiskState, LeavesOnly, GoesUp, CountsFailure}, declared.disk.DeviceFailed.DeviceFailed}
-use Rattle.mt_checkpoint.specs.{declared.slot.Writer.Writer, declared.fault.FaultCause.FaultCause, declared.back.FileDigest.FileDigest}
-use Rattle.mt_checkpoint.specs.{Faults.CountsCause, Digests.digest_of, Checkpoints.{IsWalk, walk_bytes, IsClosed, IsBehindGate, IsShutIn, IsStaged}}
+use Rattle.mt_digests.specs.{declared.file_digest.FileDigest.FileDigest, Digests.digest_of}
+use Rattle.mt_checkpoint.specs.{declared.slot.Writer.Writer, declared.fault.FaultCause.FaultCause}
+use Rattle.mt_checkpoint.specs.{Faults.CountsCause, Checkpoints.{IsWalk, walk_bytes, IsClosed, IsBehindGate, IsShutIn, IsStaged}}
 use Rattle.mt_checkpoint.specs.Writes.{IsWriting, LeavesClosed, walk_with}
 
 module _ {D : Type 0} (is_honest : D → Bool) (state : D → DiskState) (failures : D → ℕ) where

@@ -4,8 +4,9 @@ use Rattle.std.specs.List.{flat_map}
 use Rattle.mt_rows.specs.{Rows.Bytes, declared.record.TenantPair.TenantPair}
 use Rattle.mt_disk.specs.{Disk.{debt, DiskState, LeavesOnly, GoesUp, CountsFailure}, declared.disk.DeviceFailed.DeviceFailed}
 use Rattle.sha2.specs.Hashers.{Holds256}
-use Rattle.mt_checkpoint.specs.{declared.slot.Writer.Writer, declared.fault.WriteFault.WriteFault, declared.fault.FaultCause.FaultCause, declared.back.FileDigest.FileDigest}
-use Rattle.mt_checkpoint.specs.{Format.{head_bytes, entry_bytes}, Seen.HasSeen, Faults.{CountsCause, IsRefused}, Digests.digest_of, Slots.{HasDurably, LeavesOrNone}}
+use Rattle.mt_digests.specs.{declared.file_digest.FileDigest.FileDigest, Digests.digest_of}
+use Rattle.mt_checkpoint.specs.{declared.slot.Writer.Writer, declared.fault.WriteFault.WriteFault, declared.fault.FaultCause.FaultCause}
+use Rattle.mt_checkpoint.specs.{Format.{head_bytes, entry_bytes}, Seen.HasSeen, Faults.{CountsCause, IsRefused}, Slots.{HasDurably, LeavesOrNone}}
 use Rattle.mt_checkpoint.specs.Checkpoints.{Walk, IsWalk, Rise, walk_bytes, IsClosed, IsOneOf, IsBehindGate}
 use Rattle.mt_checkpoint.specs.declared.fault.FaultCause.TheVariants.{Device, Memory, NotAWalk, NotReadBack}
 

@@ -9,7 +9,7 @@ ghost use Rattle.mt_checkpoint.specs.Slots.{ReadSlot, FailsToRead, LeavesOrNone,
 ghost use Rattle.mt_checkpoint.specs.Writes.{LeavesClosed, GivesUp, Begun, FailsToBegin, Added, FailsToAdd, RefusesPairs, Ended, TellsDigest, FailsToEnd, RefusesEnd};
 ghost use Rattle.mt_checkpoint.specs.Staging.{CutsBehind, StopsOn, StagesWalk, ClearsAfter};
 
-use crate::back::{FileDigest, reads_back};
+use crate::back::reads_back;
 use crate::bounded::write_bounded;
 use crate::checkpoint::{Checkpoint, may_end};
 use crate::fault::{FaultCause, ReadFault, WriteFault};
@@ -17,6 +17,7 @@ use crate::gate::{OPEN, SHUT, close_gate, cut_behind, open_gate, stage, synced_g
 use crate::seen::SeenPairs;
 use crate::windows::{WINDOW_BYTES, read_open};
 use crate::writer::{ENTRIES_AT, FORMAT, entries, head, last_entry};
+use mt_digests::FileDigest;
 use mt_disk::{DeviceFailed, Disk};
 use mt_rows::TenantPair;
 use sha2::{Digest, Sha256};

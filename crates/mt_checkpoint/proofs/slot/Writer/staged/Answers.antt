@@ -3,7 +3,7 @@ use Rattle.std.proofs.{Common.{◌+◌, ◌-◌, ◌≤◌, ◌++◌, IsTrue, in
 use Rattle.mt_rows.specs.Rows.{Bytes}
 use Rattle.mt_disk.specs.Disk.{GoesUp}
 use Rattle.sha2.specs.Sha256.{sha256}
-use Rattle.mt_checkpoint.specs.declared.back.FileDigest.{FileDigest}
+use Rattle.mt_digests.specs.declared.file_digest.FileDigest.{FileDigest}
 use Rattle.mt_checkpoint.specs.declared.fault.FaultCause.TheVariants.{Device, Memory, NotAWalk, NotReadBack}
 use Rattle.mt_checkpoint.proofs.Adding.{GoesOnBehind, WritesLast, stays_so, stops_so, goes_same, stages_so, read_so}
 use Rattle.mt_checkpoint.proofs.slot.Writer.staged.Goals as goal

@@ -1,0 +1,2 @@
+pub mod Windows
+pub mod DigestLaws
