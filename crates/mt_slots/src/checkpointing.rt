@@ -58,16 +58,10 @@ impl<D: Disk> Checkpointing<D> {
         ensures err { IfErr result (λ e. FailsToAddIn D.is_honest D.state D.failures e.0 self e.1) }
         ensures refused { IfErr result (λ e. RefusesPairs D.is_honest D.state D.failures self.writer pairs.now e.0.cause) }
     {
-        let Checkpointing {
-            writer,
-            other,
-            newest,
-            owed,
-        } = self;
-        let slot = slot_after(newest);
-        match writer.add(alloc, pairs) {
-            Ok(writer) => Ok(Checkpointing::new(writer, other, newest, owed)),
-            Err(fault) => Err(stopped(fault, slot, other, newest, owed)),
+        let slot = self.slot();
+        match self.writer.add(alloc, pairs) {
+            Ok(writer) => Ok(Checkpointing::new(writer, self.other, self.newest, self.owed)),
+            Err(fault) => Err(stopped(fault, slot, self.other, self.newest, self.owed)),
         }
     }
 
@@ -84,19 +78,13 @@ impl<D: Disk> Checkpointing<D> {
         ensures err { IfErr result (λ e. FailsToEndIn D.is_honest D.state D.failures e.0 self last e.1) }
         ensures refused { IfErr result (λ e. RefusesEnd D.is_honest D.state D.failures self.writer last e.0.cause) }
     {
-        let Checkpointing {
-            writer,
-            other,
-            newest,
-            owed,
-        } = self;
-        let slot = slot_after(newest);
-        match writer.end(alloc, last) {
+        let slot = self.slot();
+        match self.writer.end(alloc, last) {
             Ok((disk, digest)) => Ok((
-                StoreSlots::with(slot, disk, other, Some(slot), last),
+                StoreSlots::with(slot, disk, self.other, Some(slot), last),
                 digest,
             )),
-            Err(fault) => Err(stopped(fault, slot, other, newest, owed)),
+            Err(fault) => Err(stopped(fault, slot, self.other, self.newest, self.owed)),
         }
     }
 
@@ -105,16 +93,10 @@ impl<D: Disk> Checkpointing<D> {
     pub fn give_up(self) -> StoreSlots<D>
         ensures { GivesUpIn D.is_honest D.state D.failures self result }
     {
-        let Checkpointing {
-            writer,
-            other,
-            newest,
-            owed,
-        } = self;
-        let slot = slot_after(newest);
-        match writer.give_up() {
-            Ok(disk) => StoreSlots::with(slot, disk, other, newest, owed),
-            Err((_, disk)) => StoreSlots::with(slot, disk, other, newest, owed),
+        let slot = self.slot();
+        match self.writer.give_up() {
+            Ok(disk) => StoreSlots::with(slot, disk, self.other, self.newest, self.owed),
+            Err((_, disk)) => StoreSlots::with(slot, disk, self.other, self.newest, self.owed),
         }
     }
 
@@ -122,13 +104,14 @@ impl<D: Disk> Checkpointing<D> {
     pub fn into_slots(self) -> StoreSlots<D>
         ensures { result ≡ given_up self }
     {
-        let Checkpointing {
-            writer,
-            other,
-            newest,
-            owed,
-        } = self;
-        StoreSlots::with(slot_after(newest), writer.into_disk(), other, newest, owed)
+        let slot = self.slot();
+        StoreSlots::with(
+            slot,
+            self.writer.into_disk(),
+            self.other,
+            self.newest,
+            self.owed,
+        )
     }
 }
 

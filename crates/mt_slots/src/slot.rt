@@ -38,8 +38,5 @@ impl Slot {
 pub(crate) fn slot_after(newest: Option<Slot>) -> Slot
     ensures { result ≡ next_slot newest }
 {
-    match newest {
-        Some(slot) => slot.other(),
-        None => Slot::First,
-    }
+    newest.map_or(Slot::First, Slot::other)
 }

@@ -28,12 +28,7 @@ impl<D: Disk> StoreSlots<D> {
     pub fn found(first: D, second: D) -> StoreSlots<D>
         ensures { result ≡ slots_with First first second None 0 }
     {
-        StoreSlots {
-            first,
-            second,
-            newest: None,
-            owed: 0,
-        }
+        StoreSlots::with(Slot::First, first, second, None, 0)
     }
 
     /// Makes both anew, without a checkpoint, the first one first. What their disks held is lost. After an error,
@@ -128,13 +123,7 @@ impl<D: Disk> StoreSlots<D> {
         ensures first { result.0 ≡ self.first }
         ensures second { result.1 ≡ self.second }
     {
-        let StoreSlots {
-            first,
-            second,
-            newest: _,
-            owed: _,
-        } = self;
-        (first, second)
+        (self.first, self.second)
     }
 
     /// The slots of which this one has this disk.
@@ -147,19 +136,15 @@ impl<D: Disk> StoreSlots<D> {
     ) -> StoreSlots<D>
         ensures { result ≡ slots_with slot disk other newest owed }
     {
-        match slot {
-            Slot::First => StoreSlots {
-                first: disk,
-                second: other,
-                newest,
-                owed,
-            },
-            Slot::Second => StoreSlots {
-                first: other,
-                second: disk,
-                newest,
-                owed,
-            },
+        let (first, second) = match slot {
+            Slot::First => (disk, other),
+            Slot::Second => (other, disk),
+        };
+        StoreSlots {
+            first,
+            second,
+            newest,
+            owed,
         }
     }
 
@@ -168,10 +153,9 @@ impl<D: Disk> StoreSlots<D> {
         ensures this { result.0 ≡ disk_of slot self }
         ensures other { result.1 ≡ disk_of (other_of slot) self }
     {
-        let (first, second) = self.into_disks();
         match slot {
-            Slot::First => (first, second),
-            Slot::Second => (second, first),
+            Slot::First => (self.first, self.second),
+            Slot::Second => (self.second, self.first),
         }
     }
 }
@@ -205,13 +189,10 @@ fn make_slot<D: Disk>(disk: &mut D, slot: Slot) -> Result<(), SlotFault>
     ensures ok { OnOk result (MakesSlot D.is_honest D.state D.failures disk.old disk.new) }
     ensures err { IfErr result (λ e. (e ≡ record { slot = slot; cause = Device }) × FailsToMakeSlot D.is_honest D.state D.failures disk.old disk.new) }
 {
-    match create_slot(disk) {
-        Ok(()) => Ok(()),
-        Err(_) => Err(SlotFault {
-            slot,
-            cause: FaultCause::Device,
-        }),
-    }
+    create_slot(disk).map_err(|_| SlotFault {
+        slot,
+        cause: FaultCause::Device,
+    })
 }
 
 // Reads one slot.
@@ -223,13 +204,10 @@ fn read_slot<D: Disk>(
     ensures ok { IfOk result (ReadSlot D.is_honest D.state D.failures disk.old disk.new) }
     ensures err { IfErr result (λ e. (e.slot ≡ slot) × ((fault : ReadFault) × (e.cause ≡ read_cause fault) × FailsToRead D.is_honest D.state D.failures disk.old disk.new fault)) }
 {
-    match read_valid(alloc, disk) {
-        Ok(read) => Ok(read),
-        Err(fault) => Err(SlotFault {
-            slot,
-            cause: cause_of(fault),
-        }),
-    }
+    read_valid(alloc, disk).map_err(|fault| SlotFault {
+        slot,
+        cause: cause_of(fault),
+    })
 }
 
 // Why a slot was not read.
