@@ -1,8 +1,8 @@
 -- The header of format 3 after an open gate, in bytes of any length.
-use Rattle.std.proofs.Common.{◌≡◌, inl, inr, ℕ, ◌+◌, ◌-◌, ◌≤◌, Bool, IsTrue, not, ◌↔◌, rules, [], ◌∷◌, ◌++◌, length, take, drop, get_or, Result, IfOk, IfErr, refl, sym, ◌∙◌, ap, subst, arith}
+use Rattle.std.proofs.Common.{◌≡◌, inl, inr, ℕ, ◌-◌, ◌≤◌, [], ◌∷◌, ◌++◌, length, take, drop, get_or, Result, IfOk, IfErr, sym, ◌∙◌, ap, arith}
 use Rattle.std.proofs.{lemmas.List.{take-append-drop, take_all}, lemmas.Result.{IfOk-weaker, IfErr-weaker}}
 use Rattle.mt_rows.specs.Rows.{Bytes}
-use Rattle.mt_log_generations.specs.{declared.header.Header.Header, declared.fault.HeaderFault.HeaderFault, Headers.{header_bytes, IsHeader, HasNoHeader, IsPastLimits}}
+use Rattle.mt_log_generations.specs.{declared.header.Header.Header, declared.fault.HeaderFault.HeaderFault, Headers.{header_bytes}}
 use Rattle.mt_log_generations.specs.Reading.{IsHeaderIn, AreBad}
 use Rattle.mt_log.specs.Stops.{IsNoHeader}
 use Rattle.mt_log_generations.specs.declared.fault.HeaderFault.TheVariants as headers

@@ -1,13 +1,13 @@
 -- What was made of a numbered file: settled, read, and its end set right.
-use Rattle.std.proofs.Common.{◌≡◌, inr, ℕ, Bool, IsTrue, ◌∷◌, Option, Some, None}
+use Rattle.std.proofs.Common.{◌≡◌, inr, ℕ, Bool, IsTrue, Option, Some, None}
 use Rattle.std.{specs.List.slice_get}
 use Rattle.mt_disk.specs.Disk.{DiskState, GoesUp}
 use Rattle.mt_gates.{specs.Gates.{IsGateOf, IsSyncedOrSame}, proofs.Crash.tried_sync}
 use Rattle.mt_log_generations.specs.{declared.header.Parity.Parity, Calls.{ReadHeader, StillLeaves}}
-use Rattle.mt_log.specs.{declared.fault.ReadFault.ReadFault, declared.windows.Found.Found}
-use Rattle.mt_log.specs.{Contents.contents_of, Logs.{Opened, GivesDiskBack, fault_with}}
-use Rattle.mt_log.specs.{Numbered.{HasNoLog, GivesNumberedBack, StillLeavesText, text_of}, Settling.{FailsToSettle, FindsNumbered}}
-use Rattle.mt_log.proofs.{FrontLaws.only_synced, NumberedLaws.{is_numbered, left_opens, text_some}}
+use Rattle.mt_log.specs.{declared.fault.ReadFault.ReadFault}
+use Rattle.mt_log.specs.{Logs.{GivesDiskBack, fault_with}}
+use Rattle.mt_log.specs.{Numbered.{HasNoLog, GivesNumberedBack, StillLeavesText, text_of}, Settling.{FailsToSettle}}
+use Rattle.mt_log.proofs.{FrontLaws.only_synced, NumberedLaws.{left_opens, text_some}}
 use Rattle.mt_log.specs.declared.reader.FileKind.TheVariants as kinds
 use Rattle.mt_log.specs.declared.fault.ReadFault.TheVariants as reads
 

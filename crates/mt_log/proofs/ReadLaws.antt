@@ -16,7 +16,7 @@ use Rattle.mt_log.specs.Reading.{batch_in, batch_at, are_steps, rise_within}
 use Rattle.mt_log.specs.Stops.{IsOpenGate, IsNoHead, IsHead, begin_bytes, BeginsSo, IsWithinLimits, IsStart, IsBadStart, IsBody, IsOpenBatch, AreBatches, StandBefore, IsStop, IsFoundAt, IsRead, IsBadRead, CountsFault, CountsReads, OfImage, IsStartOf, IsStopOf, IsFrontOf, IsFaultOf}
 use Rattle.mt_log.specs.Logs.{IsSyncedOf, FailsToSync, Opened, GivesDiskBack, fault_with}
 use Rattle.mt_disk.proofs.CrashLaws.{after_sync}
-use Rattle.mt_gates.{specs.Gates.IsLeftOf, proofs.Crash.tried_sync}
+use Rattle.mt_gates.{specs.Gates.IsLeftOf}
 use Rattle.mt_log.specs.Numbered.{StillLeavesText, text_of}
 use Rattle.mt_log.proofs.NumberedLaws.{opening_text}
 use Rattle.mt_log.proofs.{Tests.{steps_from_test, records_from_test, test_of_batch}, BatchLaws.{body_takes, batch_again}}

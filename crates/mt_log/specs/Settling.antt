@@ -1,5 +1,5 @@
 -- The steps of an opening of a numbered file: for private functions, cited by no public contract.
-use Rattle.std.specs.{Prelude.{◌≡◌, ℕ, ◌≤◌, Bool, IsTrue, Option, Some, None}, List.slice_get}
+use Rattle.std.specs.{Prelude.{◌≡◌, ℕ, Bool, IsTrue, Option, Some, None}, List.slice_get}
 use Rattle.mt_disk.specs.Disk.{DiskState}
 use Rattle.mt_log_generations.specs.declared.header.Parity.{Parity}
 use Rattle.mt_log.specs.{declared.fault.ReadFault.ReadFault, declared.windows.Found.Found}

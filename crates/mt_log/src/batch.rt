@@ -2,7 +2,7 @@
 //!
 //! Units: steps are numbered from 1; a batch goes over step `from` and up to step `to`.
 
-ghost use Rattle.std.specs.Prelude.{◌≡◌, ◌++◌, map, IfOk, OnOk};
+ghost use Rattle.std.specs.Prelude.{◌≡◌, ◌++◌, map, IfOk};
 ghost use Rattle.mt_rows.specs.declared.record.Record.{Record as AnyRecord};
 ghost use Rattle.mt_log.specs.Voids.{held_in, joined};
 
@@ -22,10 +22,10 @@ pub const MAX_STEP: u64 = 1 << 59;
 /// the front holds those of them that count.
 #[derive(Drop)]
 pub struct LoggedBatch {
-    from: u64,
-    to: u64,
-    stamps: Vec<u64>,
-    records: Snapshot<SpelledRecords>,
+    pub(crate) from: u64,
+    pub(crate) to: u64,
+    pub(crate) stamps: Vec<u64>,
+    pub(crate) records: Snapshot<SpelledRecords>,
 }
 
 impl Model for LoggedBatch {
@@ -40,19 +40,6 @@ impl Model for LoggedBatch {
 }
 
 impl LoggedBatch {
-    // A batch of these records, which have these stamps.
-    pub(crate) fn new(from: u64, to: u64, stamps: Vec<u64>, records: &SpelledRecords) -> Self
-        requires { stamps.items ≡ map (λ (r : AnyRecord). r.stamp) records.now }
-        ensures { result ≡ record { from = from; to = to; records = records.now } }
-    {
-        LoggedBatch {
-            from,
-            to,
-            stamps,
-            records: Snapshot::of(records),
-        }
-    }
-
     /// The step over which it is to go.
     pub fn from(&self) -> u64
         ensures { result ≡ self.now.from }
@@ -132,46 +119,21 @@ pub struct Front {
     pub generation: u64,
     pub start: u64,
     pub batches: Vec<LogBatch>,
-    held: Vec<SpelledRecords>,
+    pub(crate) held: Vec<SpelledRecords>,
     ghost holds: { joined held.items ≡ held_in batches.items },
 }
 
 impl Front {
-    // What was read of a log, with what is held of its records.
-    pub(crate) fn new(
-        version: u8,
-        worker: u8,
-        logs: u8,
-        generation: u64,
-        start: u64,
-        batches: Vec<LogBatch>,
-        held: Vec<SpelledRecords>,
-    ) -> Front
-        requires { joined held.items ≡ held_in batches.items }
-        ensures version { result.version ≡ version }
-        ensures worker { result.worker ≡ worker }
-        ensures logs { result.logs ≡ logs }
-        ensures generation { result.generation ≡ generation }
-        ensures start { result.start ≡ start }
-        ensures batches { result.batches.items ≡ batches.items }
-    {
-        Front {
-            version,
-            worker,
-            logs,
-            generation,
-            start,
-            batches,
-            held,
-        }
-    }
+    ghost use Rattle.mt_log.specs.Contents.{contents_of};
 
     /// The records that it holds, in the order of the file.
     pub fn records(&self, alloc: Global) -> Result<Vec<Record>, AllocError>
         ensures { IfOk result (λ records. records.items ≡ held_in self.now.batches.items) }
     {
         let mut records = Vec::new(alloc);
-        add_parts(alloc, &mut records, &self.held)?;
+        for part in &self.held {
+            records.append(&mut part.list(alloc)?)?;
+        }
         Ok(records)
     }
 
@@ -181,56 +143,18 @@ impl Front {
     {
         self.held
     }
-}
-
-impl Front {
-    ghost use Rattle.mt_log.specs.Contents.{contents_of};
 
     /// This log with that of the next generation after it: its own beginning, and the batches of both. Whether the next
     /// one begins where this one ends is not asked.
-    pub fn join(self, alloc: Global, next: Front) -> Result<Front, AllocError>
+    pub fn join(mut self, alloc: Global, next: Front) -> Result<Front, AllocError>
         ensures { IfOk result (λ whole. contents_of whole ≡ record (contents_of self) { batches = self.batches.items ++ next.batches.items }) }
     {
-        let Front {
-            version,
-            worker,
-            logs,
-            generation,
-            start,
-            mut batches,
-            mut held,
-        } = self;
-        let Front {
-            batches: mut next_batches,
-            held: mut next_held,
-            ..
-        } = next;
+        let (mut batches, mut held) = (self.batches, self.held);
+        let (mut next_batches, mut next_held) = (next.batches, next.held);
         join_held(alloc, &mut held, &batches, &mut next_held, &next_batches)?;
         batches.append(&mut next_batches)?;
-        Ok(Front::new(version, worker, logs, generation, start, batches, held))
+        self.batches = batches;
+        self.held = held;
+        Ok(self)
     }
-}
-
-// The records of parts stand behind others.
-fn add_parts(
-    alloc: Global,
-    out: &mut Vec<Record>,
-    parts: &[SpelledRecords],
-) -> Result<(), AllocError>
-    ensures { OnOk result (out.new.items ≡ out.old.items ++ joined parts.now) }
-{
-    for part in parts {
-        add_records(out, part.list(alloc)?)?;
-    }
-    Ok(())
-}
-
-// These records stand behind others.
-fn add_records(out: &mut Vec<Record>, records: Vec<Record>) -> Result<(), AllocError>
-    ensures { OnOk result (out.new.items ≡ out.old.items ++ records.items) }
-{
-    for record in records {
-        out.push(record)?;
-    }
-    Ok(())
 }

@@ -32,19 +32,6 @@ impl End {
     {
         End { place, mark }
     }
-
-    fn place(&self) -> usize
-        ensures is { result ≡ self.now.0 }
-        ensures short { result + 1 < 2 ^ 64 }
-    {
-        self.place
-    }
-
-    fn mark(&self) -> u64
-        ensures { result ≡ self.now.1 }
-    {
-        self.mark
-    }
 }
 
 /// A log whose disk failed while a batch was appended: the file has the batch whole or not at all. The log
@@ -73,25 +60,12 @@ impl<D: Disk> FailedLog<D> {
         ensures ok { IfOk result (Reopened D.is_honest D.state D.failures self) }
         ensures err { IfErr result (StaysFailed D.is_honest D.state D.failures self) }
     {
-        let (before, after) = (self.before.place(), self.after.place());
+        let (before, after) = (self.before.place, self.after.place);
         match set_right_at(&mut self.disk, before, after) {
-            Ok(counts) => Ok(self.opened(counts)),
+            Ok(true) => Ok(LogFile::at(self.disk, after, self.after.mark)),
+            Ok(false) => Ok(LogFile::at(self.disk, before, self.before.mark)),
             Err(DeviceFailed) => Err(self),
         }
-    }
-
-    // The log that was opened, with the batch if that counts.
-    fn opened(self, counts: bool) -> LogFile<D>
-        ensures with_batch { IsTrue counts → result ≡ record { disk = self.disk; end = self.after.0; mark = self.after.1 } }
-        ensures without { counts ≡ false → result ≡ record { disk = self.disk; end = self.before.0; mark = self.before.1 } }
-    {
-        let FailedLog {
-            disk,
-            before,
-            after,
-        } = self;
-        let end = if counts { after } else { before };
-        LogFile::at(disk, end.place(), end.mark())
     }
 
     /// Its disk, to be looked at.
@@ -105,11 +79,6 @@ impl<D: Disk> FailedLog<D> {
     pub fn into_disk(self) -> D
         ensures { result ≡ self.disk }
     {
-        let FailedLog {
-            disk,
-            before: _,
-            after: _,
-        } = self;
-        disk
+        self.disk
     }
 }

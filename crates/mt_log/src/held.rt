@@ -11,6 +11,7 @@ use crate::records::SpelledRecords;
 use std::alloc::{AllocError, Global};
 use std::marker::Model;
 use std::mem;
+use std::snapshot::Snapshot;
 
 /// A batch as it was read, with all of its records. Seen as the batch.
 #[derive(Drop)]
@@ -42,7 +43,12 @@ impl ReadBatch {
         requires { stamps.items ≡ map (λ (r : AnyRecord). r.stamp) records }
         ensures { result ≡ read_as old (record { from = from; to = to; records = records }) }
     {
-        let batch = LoggedBatch::new(from, to, stamps, &records);
+        let batch = LoggedBatch {
+            from,
+            to,
+            stamps,
+            records: Snapshot::of(&records),
+        };
         let batch = if old {
             LogBatch::OldRecords(batch)
         } else {
@@ -105,28 +111,12 @@ impl ReadBatches {
     pub(crate) fn add(&mut self, alloc: Global, batch: ReadBatch) -> Result<(), AllocError>
         ensures { OnOk result (self.new ≡ self.old ++ batch ∷ []) }
     {
-        let before = mem::replace(self, ReadBatches::new(alloc));
-        *self = before.with(alloc, batch)?;
-        Ok(())
-    }
-
-    // These and one more.
-    fn with(self, alloc: Global, batch: ReadBatch) -> Result<ReadBatches, AllocError>
-        ensures { IfOk result (λ more. more ≡ self ++ batch ∷ []) }
-    {
-        let ReadBatches {
-            mut batches,
-            mut voids,
-            mut held,
-        } = self;
+        let mut more = mem::replace(self, ReadBatches::new(alloc));
         let ReadBatch { batch, records } = batch;
-        hold(alloc, &mut voids, &mut held, &batch, records)?;
-        batches.push(batch)?;
-        Ok(ReadBatches {
-            batches,
-            voids,
-            held,
-        })
+        hold(alloc, &mut more.voids, &mut more.held, &batch, records)?;
+        more.batches.push(batch)?;
+        *self = more;
+        Ok(())
     }
 
     /// The front of a log that begins so, and has these batches.
@@ -138,20 +128,15 @@ impl ReadBatches {
         ensures start { result.start ≡ start.start }
         ensures batches { result.batches.items ≡ self }
     {
-        let ReadBatches {
-            batches,
-            voids: _,
-            held,
-        } = self;
-        let Start {
-            version,
-            worker,
-            logs,
-            generation,
-            start,
-            ..
-        } = start;
-        Front::new(version, worker, logs, generation, start, batches, held)
+        Front {
+            version: start.version,
+            worker: start.worker,
+            logs: start.logs,
+            generation: start.generation,
+            start: start.start,
+            batches: self.batches,
+            held: self.held,
+        }
     }
 }
 
@@ -183,11 +168,10 @@ fn hold_records(
     alloc: Global,
     held: &mut Vec<SpelledRecords>,
     voids: &[(u64, u64)],
-    records: SpelledRecords,
+    mut records: SpelledRecords,
 ) -> Result<(), AllocError>
     ensures { OnOk result (joined held.new.items ≡ joined held.old.items ++ held_of voids.now records) }
 {
-    let mut records = records;
     records.let_go(alloc, voids)?;
     held.push(records)?;
     Ok(())

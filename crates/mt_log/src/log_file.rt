@@ -43,11 +43,7 @@ impl<D: Disk> LogFile<D> {
         ensures err { IfErr result (λ e. GoesUp (D.failures disk) (D.failures e.1) × (D.is_honest e.1 ≡ D.is_honest disk)) }
     {
         match write_new(&mut disk, worker, logs) {
-            Ok(()) => Ok(LogFile {
-                disk,
-                end: HEADER_BYTES,
-                mark: 0,
-            }),
+            Ok(()) => Ok(LogFile::at(disk, HEADER_BYTES, 0)),
             Err(failed) => Err((failed, disk)),
         }
     }
@@ -60,14 +56,7 @@ impl<D: Disk> LogFile<D> {
         ensures err { IfErr result (GivesDiskBack FileKind.Plain D.is_honest D.state D.failures disk) }
     {
         match open_file(alloc, &mut disk) {
-            Ok(
-                Found {
-                    front,
-                    end,
-                    mark,
-                    ..
-                },
-            ) => Ok((LogFile { disk, end, mark }, front)),
+            Ok(found) => Ok((LogFile::at(disk, found.end, found.mark), found.front)),
             Err(ReadFault::Device) => Err(OpenFault::Device(disk)),
             Err(ReadFault::Memory) => Err(OpenFault::Memory(disk)),
             Err(ReadFault::Bad { number, offset }) => Err(OpenFault::BadLog {
@@ -110,12 +99,7 @@ impl<D: Disk> LogFile<D> {
     pub fn into_disk(self) -> D
         ensures { result ≡ self.disk }
     {
-        let LogFile {
-            disk,
-            end: _,
-            mark: _,
-        } = self;
-        disk
+        self.disk
     }
 
     /// Appends a batch: whole, or not at all.

@@ -37,16 +37,10 @@ impl<D: Disk> LogFile<D> {
         ensures text { MatchResult result (λ r. StillLeavesText D.is_honest D.state D.failures disk (disk_of r)) (λ e. StillLeavesText D.is_honest D.state D.failures disk (disk_in e)) }
     {
         match open_numbered_file(alloc, &mut disk, parity) {
-            Ok(
-                Some(
-                    Found {
-                        front,
-                        end,
-                        mark,
-                        ..
-                    },
-                ),
-            ) => Ok(Numbered::Log(LogFile::at(disk, end, mark), front)),
+            Ok(Some(found)) => {
+                let log = LogFile::at(disk, found.end, found.mark);
+                Ok(Numbered::Log(log, found.front))
+            }
             Ok(None) => Ok(Numbered::NoLog(disk)),
             Err(ReadFault::Device) => Err(OpenFault::Device(disk)),
             Err(ReadFault::Memory) => Err(OpenFault::Memory(disk)),

@@ -8,11 +8,11 @@ ghost use Rattle.mt_log.specs.declared.reader.FileKind.{FileKind};
 ghost use Rattle.mt_log.specs.Stops.{IsHead, IsStart, IsNoHeader, IsBadHeader, IsBadStart, IsBehind};
 
 use crate::fault::{DecodeFault, ReadFault};
-use crate::gate::OPEN;
 use crate::held::ReadBatch;
 use crate::order::is_step;
 use crate::records::spelled_of;
 use mt_fields::{u8_at, u32_at, u64_at};
+use mt_gates::OPEN;
 use mt_log_generations::{Header, HeaderFault, Parity, header_of};
 use std::alloc::{AllocError, Global};
 
@@ -65,13 +65,6 @@ const FORMAT: u8 = 2;
 
 const NUMBERED_FORMAT: u8 = 3;
 
-/// The header of one of so many logs, in the format of this number.
-pub fn header(version: u8, worker: u8, logs: u8) -> [u8; 8]
-    ensures { result ≡ header version worker logs }
-{
-    [b'M', b'T', b'L', b'O', b'G', version, worker, logs]
-}
-
 /// What a log begins with in a file of this kind, by its first bytes.
 pub fn start_of(kind: FileKind, bytes: &[u8]) -> Result<Start, ReadFault>
     ensures ok { IfOk result (IsStart kind bytes.now) }
@@ -88,17 +81,9 @@ fn plain_start_of(bytes: &[u8]) -> Result<Start, ReadFault>
     ensures ok { IfOk result (IsStart FileKind.Plain bytes.now) }
     ensures err { IfErr result (IsBadStart FileKind.Plain bytes.now) }
 {
-    let Some((version, worker, logs)) = plain_header_of(bytes) else {
-        return Err(ReadFault::Bad {
-            number: 0,
-            offset: 0,
-        });
-    };
+    let (version, worker, logs) = plain_header_of(bytes).ok_or(HeaderFault::Bad(0))?;
     if worker >= logs || logs > MAX_LOGS {
-        return Err(ReadFault::Bad {
-            number: worker,
-            offset: 0,
-        });
+        return Err(HeaderFault::Bad(worker).into());
     }
     let (_, behind) = bytes.split_at(HEADER_BYTES);
     let head = head_of(behind);
@@ -178,11 +163,10 @@ fn plain_header_of(bytes: &[u8]) -> Option<(u8, u8, u8)>
     if version < OLD_FORMAT || version > FORMAT {
         return None;
     }
-    if front == header(version, worker, logs).as_slice() {
-        Some((version, worker, logs))
-    } else {
-        None
+    if front != [b'M', b'T', b'L', b'O', b'G', version, worker, logs].as_slice() {
+        return None;
     }
+    Some((version, worker, logs))
 }
 
 // A gate, and where it is open the length behind it.

@@ -7,7 +7,7 @@ ghost use Rattle.std.specs.{Prelude.{◌≡◌, ◌≤◌, ◌++◌, [], ℕ, ma
 ghost use Rattle.mt_rows.specs.declared.record.Record.{Record as AnyRecord};
 ghost use Rattle.mt_batches.specs.Batches.{IsRecord};
 ghost use Rattle.mt_fields.specs.Reading.{Gives, each_at};
-ghost use Rattle.mt_log.specs.{Format.record_bytes, Voids.held_of, Reading.{record_at, stamp_at, changed_at, whole_at, write_at, write_kind_at}};
+ghost use Rattle.mt_log.specs.{Format.record_bytes, Voids.held_of, Reading.{record_at, stamp_at, write_at}};
 
 use crate::fault::DecodeFault;
 use crate::voids::{is_in_void, meets};
@@ -127,16 +127,13 @@ pub(crate) fn spelled_of(
     let (stamps, rest) = stamps_of(alloc, old, count, bytes)?;
     let (least, greatest) = bounds_of(&stamps);
     let bytes = Vec::from_slice(alloc, bytes)?;
-    Ok((
-        stamps,
-        SpelledRecords {
-            count,
-            least,
-            greatest,
-            bytes,
-        },
-        rest,
-    ))
+    let records = SpelledRecords {
+        count,
+        least,
+        greatest,
+        bytes,
+    };
+    Ok((stamps, records, rest))
 }
 
 // A number that none of these is below, and one that none is over.
@@ -208,55 +205,31 @@ fn record_of(alloc: Global, old: bool, bytes: &[u8]) -> Result<(Record, &[u8]), 
     let (tenant, rest) = u32_at(rest)?;
     let (key, rest) = key_of(alloc, rest)?;
     let (write, rest) = write_of(alloc, old, rest)?;
-    Ok((
-        Record {
-            stamp,
-            tenant,
-            key,
-            write,
-        },
-        rest,
-    ))
+    let record = Record {
+        stamp,
+        tenant,
+        key,
+        write,
+    };
+    Ok((record, rest))
 }
 
 // What became of a key.
-#[tactic(auto, unfolding(crate::specs::Reading::write_at))]
+#[tactic(auto, unfolding(crate::specs::Reading::write_at, crate::specs::Reading::write_kind_at, crate::specs::Reading::whole_at, crate::specs::Reading::changed_at))]
 fn write_of(alloc: Global, old: bool, bytes: &[u8]) -> Result<(Write, &[u8]), DecodeFault>
     ensures { Gives (λ x. (x.0, x.1.now)) result (write_at old bytes.now) }
 {
     let (kind, rest) = u8_at(bytes)?;
-    write_kind_of(alloc, old, kind, rest)
-}
-
-#[tactic(auto, unfolding(crate::specs::Reading::write_kind_at))]
-fn write_kind_of(
-    alloc: Global,
-    old: bool,
-    kind: u8,
-    rest: &[u8],
-) -> Result<(Write, &[u8]), DecodeFault>
-    ensures { Gives (λ x. (x.0, x.1.now)) result (write_kind_at old kind rest.now) }
-{
     match kind {
         0 => Ok((Write::Removed, rest)),
-        1 => whole_of(alloc, rest),
-        2 if !old => changed_of(alloc, rest),
+        1 => {
+            let (row, rest) = row_of(alloc, rest)?;
+            Ok((Write::Whole(row), rest))
+        }
+        2 if !old => {
+            let (change, rest) = change_of(alloc, rest)?;
+            Ok((Write::Changed(change), rest))
+        }
         _ => Err(DecodeFault::Bad),
     }
-}
-
-#[tactic(auto, unfolding(crate::specs::Reading::whole_at))]
-fn whole_of(alloc: Global, bytes: &[u8]) -> Result<(Write, &[u8]), DecodeFault>
-    ensures { Gives (λ x. (x.0, x.1.now)) result (whole_at bytes.now) }
-{
-    let (row, rest) = row_of(alloc, bytes)?;
-    Ok((Write::Whole(row), rest))
-}
-
-#[tactic(auto, unfolding(crate::specs::Reading::changed_at))]
-fn changed_of(alloc: Global, bytes: &[u8]) -> Result<(Write, &[u8]), DecodeFault>
-    ensures { Gives (λ x. (x.0, x.1.now)) result (changed_at bytes.now) }
-{
-    let (change, rest) = change_of(alloc, bytes)?;
-    Ok((Write::Changed(change), rest))
 }

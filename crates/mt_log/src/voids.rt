@@ -7,12 +7,7 @@ ghost use Rattle.mt_log.specs.Voids.{is_void};
 pub fn is_in_void(voids: &[(u64, u64)], number: u64) -> bool
     ensures { result ≡ is_void voids.now number }
 {
-    for void in voids {
-        if void.0 < number && number <= void.1 {
-            return true;
-        }
-    }
-    false
+    voids.iter().any(|void| void.0 < number && number <= void.1)
 }
 
 // Whether one of these ranges meets the numbers from one on and up to another.

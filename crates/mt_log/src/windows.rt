@@ -130,18 +130,12 @@ fn read_batches<D: Disk>(
     loop {
         match at_gate(alloc, disk, start.version, len, place, head)? {
             AtGate::Shut(gate) => {
-                return Ok(Stop {
-                    place,
-                    gate: Some(gate),
-                    mark,
-                });
+                let gate = Some(gate);
+                return Ok(Stop { place, gate, mark });
             }
             AtGate::Bad => {
-                return Ok(Stop {
-                    place,
-                    gate: None,
-                    mark,
-                });
+                let gate = None;
+                return Ok(Stop { place, gate, mark });
             }
             AtGate::Open(batch, size, next) => {
                 place += size;
@@ -179,28 +173,6 @@ fn at_gate<D: Disk>(
     if len - place < HEAD_BYTES + size {
         return Ok(AtGate::Bad);
     }
-    read_batch(alloc, disk, version, len, place, size)
-}
-
-// What stands at an open gate before a body of so many bytes, which the file has.
-fn read_batch<D: Disk>(
-    alloc: Global,
-    disk: &mut D,
-    version: u8,
-    len: usize,
-    place: usize,
-    size: usize,
-) -> Result<AtGate, ReadFault>
-    requires few { size < 2 ^ 32 }
-    requires within { place + (5 + size) ≤ len }
-    requires short { len < 2 ^ 63 }
-    ensures fits { IfOk result (FitsGate version (len - place)) }
-    ensures told { IfOk result (λ at. OfImage D.is_honest D.state disk.old len (λ image. IsOpenGate (drop place image) size → IsAtGate version (drop place image) at)) }
-    ensures err { IfErr result IsNotBad }
-    ensures same { IsTrue (D.is_honest disk.old) → D.state disk.new ≡ D.state disk.old }
-    ensures honest { D.is_honest disk.new ≡ D.is_honest disk.old }
-    ensures count { CountsReads result (D.failures disk.old) (D.failures disk.new) }
-{
     let bytes = read_window(alloc, disk, len, place + HEAD_BYTES, size + HEAD_BYTES)?;
     match batch_of(alloc, version, size, &bytes)? {
         Some((batch, next)) => Ok(AtGate::Open(batch, HEAD_BYTES + size, next)),

@@ -110,23 +110,15 @@ fn put_body(out: &mut Vec<u8>, batch: &Batch) -> Result<(), AllocError>
     put_records(out, records)
 }
 
-// A batch of records behind its length.
-fn put_batch(out: &mut Vec<u8>, batch: &Batch) -> Result<(), AllocError>
-    requires { IsBatch batch.now }
-    ensures { OnOk result (out.new.items ≡ out.old.items ++ told_body (body (LogBatch.Records batch.now))) }
-{
-    let len = RECORDS_HEAD + records_len(batch.records.as_slice());
-    put_u32(out, len as u32)?;
-    put_body(out, batch)
-}
-
 /// What is appended for a batch of records.
 pub(crate) fn batch_block(alloc: Global, batch: &Batch) -> Result<Vec<u8>, AllocError>
     requires { IsBatch batch.now }
     ensures { IfOk result (λ block. block.items ≡ told_body (body (LogBatch.Records batch.now)) ++ 0 ∷ []) }
 {
+    let len = RECORDS_HEAD + records_len(batch.records.as_slice());
     let mut block = Vec::new(alloc);
-    put_batch(&mut block, batch)?;
+    put_u32(&mut block, len as u32)?;
+    put_body(&mut block, batch)?;
     block.push(0)?;
     Ok(block)
 }

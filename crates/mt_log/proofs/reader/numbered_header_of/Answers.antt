@@ -1,6 +1,6 @@
 -- A header of the other parity belongs into the other file.
-use Rattle.std.proofs.Common.{◌≡◌, inl, inr, ℕ, drop, refl, sym, ◌∙◌, rules}
-use Rattle.mt_log_generations.{specs.Headers.parity_of, proofs.HeaderLaws.fits}
+use Rattle.std.proofs.Common.{inr, drop, refl, rules}
+use Rattle.mt_log_generations.{proofs.HeaderLaws.fits}
 use Rattle.mt_log.proofs.reader.numbered_header_of.Goals as goal
 
 pub returns-then-ne-clause-err : goal.returns-then-ne-clause-err

@@ -19,8 +19,8 @@ returns-clause-stamps c =
     stamps_spelled c.args.old c.args.count c.args.bytes.now c.in_ok-stamps.rest.now c.in_ok-stamps.stamps.items (λ i. omega (arith, c.type_inv.bytes i)) c.in_ok-stamps.ensures
     ∙ ap (λ (bytes : List ℕ). map (λ (r : Record). r.stamp) (records_from c.args.count bytes)) (sym c.in_ok-bytes.ensures.items)
 
-pub invariant_of-result : goal.invariant_of-result
-invariant_of-result c =
+pub invariant_of-records : goal.invariant_of-records
+invariant_of-records c =
     let least = c.bounds_of-least.result.0 in
     let greatest = c.bounds_of-least.result.1 in
     subst (λ (bytes : List ℕ). All (λ (r : Record). (least ≤ r.stamp) × (r.stamp ≤ greatest)) (records_from c.args.count bytes)) (sym c.in_ok-bytes.ensures.items)
