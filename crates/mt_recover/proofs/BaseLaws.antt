@@ -4,7 +4,7 @@ use Rattle.std.specs.{Prelude.slice_get, List.AllByRecursion, List.Sorted.IsStri
 use Rattle.mt_rows.specs.{Tenants.owned_cmp, declared.record.TenantPair.TenantPair, TenantPairs.owner_of}
 use Rattle.mt_checkpoint.specs.{declared.checkpoint.Checkpoint.Checkpoint, Checkpoints.Rise}
 use Rattle.mt_log.specs.Contents.{Contents}
-use Rattle.mt_recover.{specs.{declared.checkpoint.Chosen.Chosen, Bases.{may_use, usable, latest}, Limits.IsReadSlot, Pairs.Ascend}, proofs.Merges.all_later}
+use Rattle.mt_recover.{specs.{Bases.{Chosen, may_use, usable, latest}, Limits.IsReadSlot, Pairs.Ascend}, proofs.Merges.all_later}
 
 -- a checkpoint that is used is one that was read
 usable_is_read : (fronts : List Contents) (start cutoff : ℕ) (o : Option Checkpoint) → IsReadSlot o → IsReadSlot (usable fronts start cutoff o)
@@ -14,18 +14,22 @@ usable_is_read fronts start cutoff o is = by (may_use fronts start cutoff o)
     by true = is
     by false = tt
 
-either_is_read : (a b : Option Checkpoint) → IsReadSlot a → IsReadSlot b → IsReadSlot (latest a b).checkpoint
+-- what is begun with is a checkpoint that was read, or nothing
+abbrev IsRead : Chosen → Type 0
+IsRead ch = IsReadSlot ch.1
+
+either_is_read : (a b : Option Checkpoint) → IsReadSlot a → IsReadSlot b → IsReadSlot (latest a b).1
 either_is_read None None is_a is_b = tt
 either_is_read None (Some d) is_a is_b = is_b
 either_is_read (Some c) None is_a is_b = is_a
 either_is_read (Some c) (Some d) is_a is_b = by (nat_lt c.last d.last)
   where
-    by : (b : Bool) → IsReadSlot (Chosen.checkpoint (cond b (record { slot = Some 1; checkpoint = Some d }) (record { slot = Some 0; checkpoint = Some c })))
+    by : (b : Bool) → IsRead (cond b (Some 1, Some d) (Some 0, Some c))
     by true = is_b
     by false = is_a
 
 pub latest_is_read : (fronts : List Contents) (start cutoff : ℕ) (first second : Option Checkpoint) → IsReadSlot first → IsReadSlot second
-    → IsReadSlot (latest (usable fronts start cutoff first) (usable fronts start cutoff second)).checkpoint
+    → IsReadSlot (latest (usable fronts start cutoff first) (usable fronts start cutoff second)).1
 latest_is_read fronts start cutoff first second is_first is_second =
     either_is_read (usable fronts start cutoff first) (usable fronts start cutoff second) (usable_is_read fronts start cutoff first is_first)
     (usable_is_read fronts start cutoff second is_second)

@@ -54,16 +54,11 @@ impl Waiting {
     {
         let Change { stamp, write } = change;
         match write {
-            Write::Removed => {
-                self.begin(stamp, None);
-                Ok(())
-            }
-            Write::Whole(row) => {
-                self.begin(stamp, Some(row));
-                Ok(())
-            }
-            Write::Changed(columns) => self.write(alloc, stamp, &columns),
+            Write::Removed => self.begin(stamp, None),
+            Write::Whole(row) => self.begin(stamp, Some(row)),
+            Write::Changed(columns) => self.write(alloc, stamp, &columns)?,
         }
+        Ok(())
     }
 
     // One more that begins anew.
@@ -102,13 +97,10 @@ impl Waiting {
             row,
             columns,
         } = self;
-        match begun_over(begun, row, old) {
-            Some(row) => {
-                let row = written_over(alloc, columns, row)?;
-                Ok(Some(row))
-            }
-            None => Ok(None),
-        }
+        let Some(row) = begun_over(begun, row, old) else {
+            return Ok(None);
+        };
+        Ok(Some(written_over(alloc, columns, row)?))
     }
 }
 
@@ -137,20 +129,14 @@ fn begun_over(begun: u64, row: Option<Row>, old: Option<StampedRow>) -> Option<S
     if stamp_in(&old) >= begun {
         return old;
     }
-    match row {
-        Some(row) => Some(StampedRow { stamp: begun, row }),
-        None => None,
-    }
+    row.map(|row| StampedRow { stamp: begun, row })
 }
 
 // The stamp of a row, 0 of none.
 fn stamp_in(row: &Option<StampedRow>) -> u64
     ensures { result ≡ stamp_in row.now }
 {
-    match row {
-        Some(row) => row.stamp,
-        None => 0,
-    }
+    row.as_ref().map_or(0, |row| row.stamp)
 }
 
 // A row after columns were written over it: those with a stamp over its own.

@@ -76,7 +76,16 @@ impl LastColumns {
         requires { IsChange columns.now }
         ensures { OnOk result ((all : List AnyWritten) → AreLast all self.old → AreLast (all ++ written stamp columns.now) self.new) }
     {
-        put_each(&mut self.held, alloc, stamp, columns)
+        for named in columns {
+            let column = named.1.share()?;
+            let new = Written {
+                stamp,
+                index: named.0,
+                column,
+            };
+            put(&mut self.held, alloc, new)?;
+        }
+        Ok(())
     }
 
     /// Lets go of all but those with a stamp over one.
@@ -95,33 +104,6 @@ impl LastColumns {
         let list = into_list(alloc, self.held)?;
         later_in(alloc, list, stamp)
     }
-}
-
-// Puts each column of a change.
-fn put_each(
-    held: &mut Held,
-    alloc: Global,
-    stamp: u64,
-    columns: &[(u8, Column)],
-) -> Result<(), AllocError>
-    requires rise { Rise 0 (list_in held.old) }
-    requires change { IsChange columns.now }
-    ensures rise { Rise 0 (list_in held.new) }
-    ensures last { OnOk result ((all : List AnyWritten) → AreLast all (list_in held.old) → AreLast (all ++ written stamp columns.now) (list_in held.new)) }
-{
-    for named in columns {
-        let column = named.1.share()?;
-        put(
-            held,
-            alloc,
-            Written {
-                stamp,
-                index: named.0,
-                column,
-            },
-        )?;
-    }
-    Ok(())
 }
 
 // Puts a column.

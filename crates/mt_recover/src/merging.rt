@@ -64,8 +64,8 @@ fn make(
     ensures before { OnOk result ((next : ℕ × Bytes) → owned_cmp owner next ≡ Less → AreBefore next listed.new.items) }
 {
     list_before(listed, left, &owner)?;
-    let first = take_first(left, &owner);
-    let row = waiting.applied(alloc, row_of(first))?;
+    let row = take_first(left, &owner).map(|pair| pair.row);
+    let row = waiting.applied(alloc, row)?;
     list_row(listed, owner, row)
 }
 
@@ -77,14 +77,11 @@ fn list_row(
 ) -> Result<(), AllocError>
     ensures { OnOk result (listed.new.items ≡ listed.old.items ++ pair_for owner row) }
 {
-    match row {
-        Some(row) => {
-            let (tenant, key) = owner;
-            listed.push(TenantPair { tenant, key, row })?;
-            Ok(())
-        }
-        None => Ok(()),
+    if let Some(row) = row {
+        let (tenant, key) = owner;
+        listed.push(TenantPair { tenant, key, row })?;
     }
+    Ok(())
 }
 
 // Lists the pairs before an owner.
@@ -126,16 +123,6 @@ fn take_first(left: &mut VecDeque<TenantPair>, owner: &(u32, Key)) -> Option<Ten
     }
 }
 
-// The row of a pair, if there is one.
-fn row_of(pair: Option<TenantPair>) -> Option<StampedRow>
-    ensures { result ≡ option_map (λ (p : AnyPair). p.row) pair }
-{
-    match pair {
-        Some(pair) => Some(pair.row),
-        None => None,
-    }
-}
-
 // How the next pair's owner stands to another one. If none is left, it stands after it.
 fn first_order(left: &VecDeque<TenantPair>, owner: &(u32, Key)) -> Ordering
     ensures { result ≡ first_order owner.now left.now.items }
@@ -148,12 +135,11 @@ fn first_order(left: &VecDeque<TenantPair>, owner: &(u32, Key)) -> Ordering
 
 // Listed pairs, and all that are left.
 fn with_rest(
-    listed: Vec<TenantPair>,
+    mut listed: Vec<TenantPair>,
     left: VecDeque<TenantPair>,
 ) -> Result<Vec<TenantPair>, AllocError>
     ensures { IfOk result (λ ps. ps.items ≡ listed.items ++ left.items) }
 {
-    let mut listed = listed;
     for pair in left {
         listed.push(pair)?;
     }

@@ -7,7 +7,7 @@ ghost use Rattle.mt_rows.specs.declared.record.Record.{Record as AnyRecord};
 ghost use Rattle.mt_recover.specs.{Orders.DontFall, Changes.AreWaiting, Replays.{all_held, counts, Knows, HaveReplayed}};
 
 use crate::changes::{Changes, add};
-use crate::voids::{Search, by_first, is_found_void, new_search};
+use crate::voids::{Search, is_found_void};
 use mt_log::Front;
 use mt_rows::Record;
 use std::alloc::{AllocError, Global};
@@ -21,14 +21,14 @@ use std::collections::BTreeMap;
 pub(crate) fn replay(
     alloc: Global,
     fronts: Vec<Front>,
-    voids: Vec<(u64, u64)>,
+    mut voids: Vec<(u64, u64)>,
     base: u64,
     cutoff: u64,
 ) -> Result<Changes, AllocError>
     requires { voids.items ≡ all_voids (map contents_of fronts.items) }
     ensures { IfOk result (HaveReplayed voids.items base cutoff (map contents_of fronts.items)) }
 {
-    let voids = by_first(voids);
+    voids.sort_unstable_by_key(|void| void.0);
     waiting(alloc, fronts, &voids, base, cutoff)
 }
 
@@ -81,7 +81,7 @@ fn add_records(
     requires { DontFall (λ (v : Numbers). v.0) 0 voids.now }
     ensures { OnOk result ((rs : List AnyRecord) → AreWaiting rs changes.old → AreWaiting (rs ++ filter (is_replayed voids.now base cutoff) records.items) changes.new) }
 {
-    let mut search = new_search();
+    let mut search = Search::default();
     for record in records {
         add_record(alloc, changes, record, voids, &mut search, base, cutoff)?;
     }
@@ -116,8 +116,5 @@ fn counts(stamp: u64, voids: &[(u64, u64)], search: &mut Search, base: u64, cuto
     ensures is { result ≡ counts voids.now base cutoff stamp }
     ensures knows { Knows voids.now search.new }
 {
-    if stamp <= base || stamp > cutoff {
-        return false;
-    }
-    !is_found_void(voids, search, stamp)
+    base < stamp && stamp <= cutoff && !is_found_void(voids, search, stamp)
 }

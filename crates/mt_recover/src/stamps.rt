@@ -16,7 +16,8 @@ pub(crate) fn first_twice(alloc: Global, fronts: &[Front]) -> Result<Option<(u8,
     requires rise { first_fall (map contents_of fronts.now) ≡ None }
     ensures { IfOk result (λ found. MatchOption found (AreApart (map contents_of fronts.now)) (λ f. IsFirstTwice (map contents_of fronts.now) f.0 f.1)) }
 {
-    let stamps = by_stamp(stamps(alloc, fronts)?);
+    let mut stamps = stamps(alloc, fronts)?;
+    stamps.sort_unstable_by_key(|stamp| stamp.0);
     match repeated(&stamps) {
         Some(stamp) => Ok(Some((highest_of(&stamps, stamp), stamp))),
         None => Ok(None),
@@ -63,16 +64,6 @@ fn take_stamps(out: &mut Vec<(u64, u8)>, stamps: &[u64], worker: u8) -> Result<(
         out.push((*stamp, worker))?;
     }
     Ok(())
-}
-
-// The least stamp first.
-fn by_stamp(stamps: Vec<(u64, u8)>) -> Vec<(u64, u8)>
-    ensures moved { IsPermutation stamps.items result.items }
-    ensures sorted { DontFall (λ (s : Stamp). s.0) 0 result.items }
-{
-    let mut stamps = stamps;
-    stamps.sort_unstable_by_key(|stamp| stamp.0);
-    stamps
 }
 
 // Of stamps that don't fall, the first that is the one before it.

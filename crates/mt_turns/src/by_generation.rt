@@ -67,8 +67,5 @@ pub(crate) fn close_in<D: Disk + Drop>(files: &mut WorkerFiles<D>, generation: u
 fn closed_place<D: Disk + Drop>(disk: Option<D>) -> LogSlot<D>
     ensures { result ≡ closed_on disk }
 {
-    match disk {
-        Some(disk) => LogSlot::Closed(disk),
-        None => LogSlot::Away,
-    }
+    disk.map_or(LogSlot::Away, LogSlot::Closed)
 }

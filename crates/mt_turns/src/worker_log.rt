@@ -70,12 +70,7 @@ impl<D: Disk + Drop> WorkerLog<D> {
     pub fn into_files(self) -> WorkerFiles<D>
         ensures { result ≡ self.files }
     {
-        let WorkerLog {
-            owner: _,
-            generation: _,
-            files,
-        } = self;
-        files
+        self.files
     }
 
     /// The place of the log of the last generation, which is appended to.
@@ -156,9 +151,6 @@ impl<D: Disk + Drop> WorkerLog<D> {
         if self.generation == 0 {
             return Ok(());
         }
-        match give_up_in(&mut self.files, self.generation - 1) {
-            Ok(()) => Ok(()),
-            Err(_) => Err(Refusal::Device),
-        }
+        give_up_in(&mut self.files, self.generation - 1).map_err(|_| Refusal::Device)
     }
 }
