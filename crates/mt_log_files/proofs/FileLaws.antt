@@ -1,19 +1,21 @@
 -- What each call makes of a numbered file: it leaves what a crash might leave before, or what it says.
-use Rattle.std.proofs.Common.{◌≡◌, ◌≢◌, ⊎_elim, inl, inr, ℕ, ◌<◌, ◌≤◌, [], ◌∷◌, length, Bool, IsTrue, Option, Some, None, refl, sym, ◌∙◌, ap, subst, arith, length-append}
-use Rattle.std.specs.{Prelude.slice_index_or, List.slice_get, Option.option_map}
+use Rattle.std.proofs.Common.{◌≡◌, ◌≢◌, ⊎_elim, inl, inr, ℕ, zero, suc, ◌<◌, ◌≤◌, [], ◌∷◌, ◌++◌, length, Bool, IsTrue, Option, Some, None, refl, sym, ◌∙◌, ap, subst, arith, append_assoc, length-append}
+use Rattle.std.proofs.lemmas.Option.{same_Some}
+use Rattle.std.specs.{Prelude.slice_index_or, List.{slice_get, flat_map}, Option.option_map}
 use Rattle.mt_rows.specs.{Rows.Bytes, declared.refusal.Refusal.Refusal}
 use Rattle.mt_disk.{specs.Disk.{DiskState, IsDurable, LeavesOnly}, proofs.CrashLaws.started}
-use Rattle.mt_gates.specs.Gates.{IsClosed, IsLeftOf}
-use Rattle.mt_log_generations.specs.{declared.header.{Header.Header, Parity.Parity, Parity.TheVariants.{Even, Odd}}, Headers.{header_with, begun_text, parity_of, IsHeader}}
+use Rattle.mt_gates.{specs.Gates.{IsClosed, IsLeftOf, HasOpen, IsSyncedOrSame}, proofs.Crash.{by_first, counts, tried_sync}}
+use Rattle.mt_log_generations.specs.{declared.header.{Header.Header, Parity.Parity, Parity.TheVariants.{Even, Odd}}, Headers.{header_with, begun_text, parity_of, IsHeader, IsLog}}
 use Rattle.mt_log.specs.{declared.batch.Front.Front, declared.batch.LogBatch.LogBatch, declared.batch.LogBatch.TheVariants.Resume}
 use Rattle.mt_log.specs.declared.log_file.LogFile.{LogFile}
-use Rattle.mt_log.specs.Contents.{Contents, IsContents, IsLogBatch, with_batch, contents_of}
-use Rattle.mt_log.specs.{Fronts.{HasFront, IsOfKind, IsBadLog}, Numbered.{begun_log, text_of, StillLeavesText, StillLeavesNumbered}}
-use Rattle.mt_log.proofs.{FrontLaws.{front_not_bad, one_front, contents_more}, NumberedLaws.{opens, left_opens, left_whole, begun_contents, begun_is_text, rest_left, text_some}}
+use Rattle.mt_log.specs.{Format.{beginning, body, open_batch, batch_bytes}, Contents.{Contents, AreNumbers, IsContents, IsLogBatch, log_bytes, with_batch, contents_of}}
+use Rattle.mt_log.specs.{Fronts.{HasFront, IsOfKind, IsBadLog, IsLeft}, Numbered.{begun_log, text_of, StillLeavesText, StillLeavesNumbered}}
+use Rattle.mt_log.proofs.{FrontLaws.{front_not_bad, one_front, contents_more, only_synced}, NumberedLaws.{opens, left_opens, left_whole, begun_contents, begun_is_text, rest_left, text_some}}
 use Rattle.mt_crashes.specs.Stores.{at_rest}
 use Rattle.mt_recover.specs.{declared.resuming.LogSlot.LogSlot, declared.resuming.LogSlot.TheVariants.{Open, Failed, Closed, Away}}
 use Rattle.mt_log_files.specs.Slots.{disk_in, OpensNumbered, FailsOnNumbered, FailsToOpenNumbered, Begins, NotBegun, FindsNotSpare, GivesUp, NotGivenUp}
-use Rattle.mt_log_files.specs.{Shows.{ShowsClosed, IsHonest}, Files.{FileNow, Spare, Has, MayHave, MayLeaveFile, found_as, LeavesText, IsNumbered, ShowsFile}}
+use Rattle.mt_log_files.specs.{Shows.{ShowsClosed, IsHonest}, Files.{FileNow, Spare, Has, MayHave, MayLeaveFile, found_as, LeavesText, IsNumbered, ShowsFile, TellsLog}}
+use Rattle.mt_log_files.specs.Looks.{TellsGeneration, LooksAt, Looks, FailsToLook}
 use Rattle.mt_log_files.proofs.ShowLaws.{reads, not_bad, open_shows, failed_shows}
 use Rattle.mt_log.specs.declared.reader.FileKind.TheVariants as kinds
 use Rattle.mt_rows.specs.declared.refusal.Refusal.TheVariants as refusals
@@ -43,6 +45,22 @@ some_log : (parity : Parity) → (c : Contents) × IsNumbered parity c
 some_log parity =
     let h = header_is parity in
     (begun_log (header_in parity), (begun_contents (header_in parity) h.0, (h.0.numbered, h.1)))
+
+-- the header of a log, which stands at its front
+abbrev header_of : Contents → Header
+header_of c = header_with c.worker c.logs c.generation c.start
+
+log_of : (c : Contents) (x image : Bytes) → IsContents c → 1 ≤ c.generation → image ≡ log_bytes c ++ x → IsLog (header_of c) image
+log_of c x image is some whole = by c.generation some is.numbers whole
+  where
+    by : (g : ℕ) → 1 ≤ g → AreNumbers c.version g c.start → image ≡ (beginning c.version c.worker c.logs g c.start ++ flat_map batch_bytes c.batches) ++ x
+        → IsLog (header_with c.worker c.logs g c.start) image
+    by zero over numbers e = absurd (omega (arith, over))
+    by (suc before) over numbers e = record {
+      header = record { worker = is.worker; logs = is.logs; numbered = omega arith; generation = numbers.1; start = numbers.2 };
+      behind = flat_map batch_bytes c.batches ++ x;
+      whole = e ∙ append_assoc (beginning c.version c.worker c.logs (suc before) c.start) (flat_map batch_bytes c.batches) x;
+    }
 
 module _ {D : Type 0} (is_honest : D → Bool) (state : D → DiskState) (failures : D → ℕ) where
   -- ---- a file by its disk
@@ -340,3 +358,114 @@ module _ {D : Type 0} (is_honest : D → Bool) (state : D → DiskState) (failur
   pub not_given_up_again : (parity : Parity) (c : Contents) (disk : D) (new : LogSlot D) → IsHonest is_honest (Closed disk)
       → ShowsFile state parity (MayHave c) (Closed disk) → NotGivenUp is_honest state failures (Some disk) new → IsHonest is_honest new × ShowsFile state parity (MayHave c) new
   not_given_up_again parity c disk new honest shows g = left_text parity c disk new honest shows.0 shows.1 g
+
+  -- ---- a header that was read
+
+  -- it moved by a sync at most
+  still_numbered : (old new : D) → (IsTrue (is_honest old) → IsSyncedOrSame (state old) (state new)) → StillLeavesNumbered is_honest state failures old new
+  still_numbered old new moves honest c b first some is leaves = only_synced c b first (state old) (state new) leaves (moves honest)
+
+  still_text : (old new : D) → (IsTrue (is_honest old) → IsSyncedOrSame (state old) (state new)) → StillLeavesText is_honest state failures old new
+  still_text old new moves honest c first is leaves = tried_sync (text_of c) first (state old) (state new) leaves (moves honest)
+
+  only_looked : (parity : Parity) (file : FileNow) (old new : D) → IsTrue (is_honest old) → ShowsDisk parity file old → (IsTrue (is_honest old) → IsSyncedOrSame (state old) (state new))
+      → is_honest new ≡ is_honest old → IsHonest is_honest (Closed new) × ShowsFile state parity file (Closed new)
+  only_looked parity file old new honest shows moves kept =
+      (subst IsTrue (sym kept) honest, stays parity file old new honest shows (still_numbered old new moves) (still_text old new moves))
+
+  -- the generation of a log that stands whole at the front is told
+  told_of : (c : Contents) (x : Bytes) (disk : D) (told : ℕ) → IsContents c → 1 ≤ c.generation → (state disk).image ≡ log_bytes c ++ x
+      → TellsGeneration told (state disk).image → c.generation ≡ told
+  told_of c x disk told is some whole tells = tells.of (header_of c) (log_of c x (state disk).image is some whole)
+
+  told_left : (had : Contents) (b : LogBatch) (disk : D) (told : ℕ) → IsContents had → 1 ≤ had.generation → IsLeft had b (state disk).image
+      → TellsGeneration told (state disk).image → had.generation ≡ told
+  told_left had b disk told is some (inl torn) tells = told_of had (torn.gate ∷ torn.behind) disk told is some torn.whole tells
+  told_left had b disk told is some (inr shut) tells =
+      told_of had (open_batch (body b) ++ (0 ∷ shut.behind)) disk told is some
+      (shut.whole ∙ append_assoc (log_bytes had) (open_batch (body b)) (0 ∷ shut.behind)) tells
+
+  told_has : (had : Contents) (doubt : Option LogBatch) (disk : D) (told : ℕ) → IsContents had → 1 ≤ had.generation → ShowsClosed state had doubt disk
+      → TellsGeneration told (state disk).image → had.generation ≡ told
+  told_has had None disk told is some shows tells =
+      let l = shows nothing (is_batch had.version) in
+      told_left had nothing disk told is some (l.leaves.now (state disk).image l.leaves.reads) tells
+  told_has had (Some b) disk told is some shows tells = told_left had b disk told is some (shows.1.leaves.now (state disk).image shows.1.leaves.reads) tells
+
+  -- a log that may be there is there, if it is told, and rests
+  whole_text : (c : Contents) (image : Bytes) → 1 ≤ c.generation → IsLeftOf (text_of c) image → slice_get image 0 ≡ Some 1
+      → (behind : Bytes) × (image ≡ log_bytes c ++ (0 ∷ behind))
+  whole_text c image some left opened = ⊎_elim
+      (λ none. absurd (none opened))
+      (λ (open_text : HasOpen (text_of c) image). (
+      let begins = by_first (log_bytes c ++ 0 ∷ []) 1 (opens c (0 ∷ []) (log_bytes c ++ 0 ∷ []) some refl) in (
+        open_text.behind,
+        open_text.whole ∙ ap (λ (l : Bytes). l ++ open_text.behind) (sym begins) ∙ append_assoc (log_bytes c) (0 ∷ []) open_text.behind,
+      )
+      ))
+      (counts (text_of c) image left)
+
+  rests_closed : (c : Contents) (behind : Bytes) (disk : D) → IsDurable (state disk) → (state disk).image ≡ log_bytes c ++ (0 ∷ behind) → ShowsClosed state c None disk
+  rests_closed c behind disk durable whole b batch = record {
+    first = state disk;
+    leaves =
+        started (IsLeft c b) (state disk) durable
+        (inl (record { gate = 0; behind = behind; is_shut = λ e. omega (arith, e); whole = whole; torn = λ open_gate. absurd (open_gate refl) }));
+  }
+
+  tells_disk : (parity : Parity) (file : FileNow) (old new : D) (told : ℕ) → IsTrue (is_honest old) → ShowsDisk parity file old → LooksAt is_honest state failures old new told
+      → ShowsFile state parity file (Closed new) → 0 < told → TellsLog state parity file told (Closed new)
+  tells_disk parity Spare old new told honest shows looks now some =
+      let log = (looks.tells honest).log some in
+      absurd (omega (arith, same_Some 1 0 (sym (ap (λ (l : Bytes). slice_get l 0) log.1.whole) ∙ ap (λ (l : Bytes). slice_get l 0) (spare_shut old shows).whole)))
+  tells_disk parity (Has n) old new told honest shows looks now some = record {
+    log = n.had;
+    left = (n.had, inl refl, refl);
+    of = told_has n.had n.doubt old told shows.0.0 shows.1.0 shows.0.1 (looks.tells honest);
+    rests = λ none. ((now.0.0, subst (λ (d : Option LogBatch). ShowsClosed state n.had d new) none now.0.1), now.1);
+  }
+  tells_disk parity (MayHave c) old new told honest shows looks now some =
+      let log = (looks.tells honest).log some in
+      let opened = ap (λ (l : Bytes). slice_get l 0) log.1.whole in
+      let text = whole_text c (state old).image shows.0.1.0 (text_now c old shows.1) opened in
+      record {
+        log = c;
+        left = inr refl;
+        of = told_of c (0 ∷ text.0) old told shows.0.0 shows.0.1.0 text.1 (looks.tells honest);
+        rests = λ none. (
+          (
+            shows.0.0,
+            rests_closed c text.0 new (subst IsDurable (sym (looks.moves honest)) refl) (ap (λ (s : DiskState). s.image) (looks.moves honest) ∙ text.1),
+          ),
+          shows.0.1,
+        );
+      }
+
+  abbrev IsLookedAt : Parity → FileNow → ℕ → LogSlot D → Type 0
+  IsLookedAt parity file told new = IsHonest is_honest new × ShowsFile state parity file new × (0 < told → TellsLog state parity file told new)
+
+  looked_at : (parity : Parity) (file : FileNow) (old : Option D) (new : LogSlot D) (told : ℕ) → OnDisk (ShowsDisk parity file) old
+      → Looks is_honest state failures old new told → IsLookedAt parity file told new
+  looked_at parity file (Some old) (Closed new) told on looks =
+      let now = only_looked parity file old new on.0 on.1 (λ h. inr (looks.moves h)) looks.honest in
+      (now.0, now.1, tells_disk parity file old new told on.0 on.1 looks now.1)
+  looked_at parity file (Some old) (Open log) told on looks = absurd looks
+  looked_at parity file (Some old) (Failed log) told on looks = absurd looks
+  looked_at parity file (Some old) Away told on looks = absurd looks
+  looked_at parity file None new told on looks = absurd on
+
+  pub looked : (parity : Parity) (file : FileNow) (old new : LogSlot D) (told : ℕ) → IsHonest is_honest old → ShowsFile state parity file old
+      → Looks is_honest state failures (disk_in old) new told → IsLookedAt parity file told new
+  looked parity file old new told honest shows looks = looked_at parity file (disk_in old) new told (on_disk parity file old honest shows) looks
+
+  not_looked_at : (parity : Parity) (file : FileNow) (old : Option D) (new : LogSlot D) → OnDisk (ShowsDisk parity file) old → FailsToLook is_honest state failures old new
+      → IsHonest is_honest new × ShowsFile state parity file new
+  not_looked_at parity file (Some old) (Closed new) on fails = only_looked parity file old new on.0 on.1 fails.moves fails.honest
+  not_looked_at parity file (Some old) (Open log) on fails = absurd fails
+  not_looked_at parity file (Some old) (Failed log) on fails = absurd fails
+  not_looked_at parity file (Some old) Away on fails = absurd fails
+  not_looked_at parity file None new on fails = absurd on
+
+  pub not_looked : (parity : Parity) (file : FileNow) (old new : LogSlot D) → IsHonest is_honest old → ShowsFile state parity file old
+      → FailsToLook is_honest state failures (disk_in old) new → IsHonest is_honest new × ShowsFile state parity file new
+  not_looked parity file old new honest shows fails = not_looked_at parity file (disk_in old) new (on_disk parity file old honest shows) fails

@@ -3,3 +3,4 @@ pub mod ShowLaws
 pub mod FileLaws
 pub mod WorkerLaws
 pub mod PlainLaws
+pub mod LookLaws

@@ -1,5 +1,5 @@
 -- What a numbered file of a worker's log may be now, and what a crash may leave of it.
-use Rattle.std.specs.Prelude.{◌≡◌, ◌⊎◌, Option, Some, None}
+use Rattle.std.specs.Prelude.{◌≡◌, ◌⊎◌, ℕ, Option, Some, None}
 use Rattle.mt_disk.specs.Disk.{DiskState, LeavesOnly}
 use Rattle.mt_gates.specs.Gates.{IsLeftOf}
 use Rattle.mt_log_generations.specs.declared.header.Parity.{Parity}
@@ -42,3 +42,16 @@ ShowsFile state parity Spare slot = ⊥
 ShowsFile state parity (Has now) slot = Shows state now slot × IsOfKind (kinds.Numbered parity) now.had.generation
 ShowsFile state parity (MayHave c) (Closed disk) = IsNumbered parity c × LeavesText state c disk
 ShowsFile state parity (MayHave c) slot = ⊥
+
+-- no batch of a file's log is in doubt
+abbrev pub Rests : FileNow → Type 0
+Rests Spare = Unit {0}
+Rests (Has now) = now.doubt ≡ None
+Rests (MayHave c) = Unit {0}
+
+-- By the header of a file it has a log of this generation: a crash may leave that log. If no batch of it is in doubt, it rests there.
+pub record TellsLog {D : Type 0} (state : D → DiskState) (parity : Parity) (file : FileNow) (told : ℕ) (slot : LogSlot D) : Type 0 where
+  pub log : Contents
+  pub left : MayLeaveFile file (Some log)
+  pub of : log.generation ≡ told
+  pub rests : Rests file → ShowsFile state parity (Has (at_rest log)) slot

@@ -10,7 +10,8 @@ ghost use Rattle.mt_crashes.specs.{Bases.Slots, Stores.{Store, LogNow, new_store
 ghost use Rattle.mt_generations.specs.{Chains.EndsLog, Standings.{IsChosen, IsPart}, Turns.StandsWhole};
 ghost use Rattle.mt_recover.specs.declared.resuming.LogSlot.{LogSlot};
 ghost use Rattle.mt_log_files.specs.Slots.{disk_in, OpensNumbered, FailsToOpenNumbered, Begins, NotBegun, FindsNotSpare, GivesUp, NotGivenUp};
-ghost use Rattle.mt_log_files.specs.{Shows.IsHonest, Files.{FileNow, Spare, Has, MayHave, MayLeaveFile, found_as, ShowsFile}};
+ghost use Rattle.mt_log_files.specs.{Shows.IsHonest, Files.{FileNow, Spare, Has, MayHave, MayLeaveFile, found_as, ShowsFile, TellsLog}};
+ghost use Rattle.mt_log_files.specs.Looks.{Looks, FailsToLook};
 ghost use Rattle.mt_log_files.specs.Workers.{AreFilesOf, Files, Found, AllHaveFiles, MayLeaveFiles, standings_of};
 
 use mt_disk::Disk;
@@ -24,6 +25,17 @@ pub fn an_opening_finds_what_might_be_left<D: Disk>()
     ensures failed { (parity : Parity) (file : FileNow) (e : Refusal) (old new : LogSlot D) → IsHonest D.is_honest old
         → ShowsFile D.state parity file old → FailsToOpenNumbered D.is_honest D.state D.failures parity e (disk_in old) new
         → IsHonest D.is_honest new × ShowsFile D.state parity file new × ((number offset : ℕ) → e ≢ refusals.BadLog number offset) }
+{}
+
+/// A file is as it was after its header was read, or could not be read. If the header tells a generation, a crash may leave
+/// the log of that generation. It rests in the file if no batch of it is in doubt.
+pub fn a_header_tells_the_log_that_might_be_left<D: Disk>()
+    ensures told { (parity : Parity) (file : FileNow) (old new : LogSlot D) (told : ℕ) → IsHonest D.is_honest old
+        → ShowsFile D.state parity file old → Looks D.is_honest D.state D.failures (disk_in old) new told
+        → IsHonest D.is_honest new × ShowsFile D.state parity file new × (0 < told → TellsLog D.state parity file told new) }
+    ensures failed { (parity : Parity) (file : FileNow) (old new : LogSlot D) → IsHonest D.is_honest old
+        → ShowsFile D.state parity file old → FailsToLook D.is_honest D.state D.failures (disk_in old) new
+        → IsHonest D.is_honest new × ShowsFile D.state parity file new }
 {}
 
 /// A log that was begun in a spare file is there, without batches. If its beginning failed, it may be there or not. A spare

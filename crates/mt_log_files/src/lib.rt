@@ -5,10 +5,12 @@
 #![tactic(auto)]
 
 pub mod laws;
+mod looking;
 mod numbered;
 mod plain;
 mod worker;
 
+pub use looking::look;
 pub use numbered::{begin, give_up, open_numbered};
 pub use plain::{open_disk, open_plain, open_slot, take_disk};
 pub use worker::WorkerFiles;

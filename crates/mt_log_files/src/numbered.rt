@@ -23,22 +23,9 @@ pub fn open_numbered<D: Disk + Drop>(
     ensures ok { IfOk result (OpensNumbered D.is_honest D.state D.failures parity (disk_in slot.old) slot.new) }
     ensures err { IfErr result (λ e. FailsToOpenNumbered D.is_honest D.state D.failures parity e (disk_in slot.old) slot.new) }
 {
-    match take_disk(slot) {
-        Some(disk) => open_numbered_disk(alloc, disk, slot, parity),
-        None => Err(Refusal::Device),
-    }
-}
-
-// Opens a disk into an empty place.
-fn open_numbered_disk<D: Disk + Drop>(
-    alloc: Global,
-    disk: D,
-    slot: &mut LogSlot<D>,
-    parity: Parity,
-) -> Result<Option<Front>, Refusal>
-    ensures ok { IfOk result (OpensNumbered D.is_honest D.state D.failures parity (Some disk) slot.new) }
-    ensures err { IfErr result (λ e. FailsToOpenNumbered D.is_honest D.state D.failures parity e (Some disk) slot.new) }
-{
+    let Some(disk) = take_disk(slot) else {
+        return Err(Refusal::Device);
+    };
     match LogFile::open_numbered(alloc, disk, parity) {
         Ok(Numbered::Log(log, front)) => {
             *slot = LogSlot::Open(log);
@@ -63,22 +50,9 @@ pub fn begin<D: Disk + Drop>(slot: &mut LogSlot<D>, header: Header) -> Result<()
     ensures ok { OnOk result (Begins D.is_honest D.state D.failures header (disk_in slot.old) slot.new) }
     ensures err { IfErr result (λ e. FailsToBeginAt D.is_honest D.state D.failures e header (disk_in slot.old) slot.new) }
 {
-    match take_disk(slot) {
-        Some(disk) => begin_on(disk, slot, header),
-        None => Err(BeginFault::Device),
-    }
-}
-
-// Begins it on a disk, into an empty place.
-fn begin_on<D: Disk + Drop>(
-    disk: D,
-    slot: &mut LogSlot<D>,
-    header: Header,
-) -> Result<(), BeginFault>
-    requires { IsHeader header }
-    ensures ok { OnOk result (Begins D.is_honest D.state D.failures header (Some disk) slot.new) }
-    ensures err { IfErr result (λ e. FailsToBeginAt D.is_honest D.state D.failures e header (Some disk) slot.new) }
-{
+    let Some(disk) = take_disk(slot) else {
+        return Err(BeginFault::Device);
+    };
     match LogFile::begin(
         disk,
         header.worker,
@@ -102,12 +76,10 @@ pub fn give_up<D: Disk + Drop>(slot: &mut LogSlot<D>) -> Result<(), DeviceFailed
     ensures ok { OnOk result (GivesUp D.is_honest D.state D.failures (disk_in slot.old) slot.new) }
     ensures err { OnErr result (NotGivenUp D.is_honest D.state D.failures (disk_in slot.old) slot.new) }
 {
-    match take_disk(slot) {
-        Some(mut disk) => {
-            let given_up = mt_log_generations::give_up(&mut disk);
-            *slot = LogSlot::Closed(disk);
-            given_up
-        }
-        None => Err(DeviceFailed),
-    }
+    let Some(mut disk) = take_disk(slot) else {
+        return Err(DeviceFailed);
+    };
+    let given_up = mt_log_generations::give_up(&mut disk);
+    *slot = LogSlot::Closed(disk);
+    given_up
 }
