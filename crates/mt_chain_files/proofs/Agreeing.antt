@@ -1,7 +1,7 @@
 -- What is chosen, or why nothing is, holds of all that stands if it agrees with what was read.
-use Rattle.std.proofs.Common.{◌≡◌, ◌↔◌, ◌⊎◌, Some, inl, inr, ⊎_elim, ℕ, Bool, IsTrue, not, zero, suc, ◌+◌, ◌<◌, ◌≤◌, List, [], ◌∷◌, length, map, refl, sym, ◌∙◌, ap, subst, arith, None}
+use Rattle.std.proofs.Common.{◌≡◌, ◌↔◌, ◌⊎◌, Some, inl, inr, ⊎_elim, ℕ, Bool, true, false, IsTrue, not, zero, suc, ◌+◌, ◌<◌, ◌≤◌, List, [], ◌∷◌, length, map, refl, sym, ◌∙◌, ap, subst, arith, Option, None}
 use Rattle.std.proofs.lemmas.{Bool.{true≢false, not-true, not_from_false, false_from_ne_true}, List.length-map, Option.same_Some}
-use Rattle.std.specs.Option.{option_map}
+use Rattle.std.specs.{Prelude.{is_some, IfSome, IfNone}, Option.option_map}
 use Rattle.mt_log.specs.Contents.{contents_of}
 use Rattle.mt_crashes.{specs.{Fronts.In, Bases.Slots}, proofs.{Members.{no_some}, Invariant.{zip_left, zip_right, within_place, map_place}}}
 use Rattle.mt_generations.specs.Chains.{Chain}
@@ -10,7 +10,8 @@ use Rattle.mt_generations.proofs.{Deciding.{have_all, all_from}, Choices.older_u
 use Rattle.mt_chains.specs.{declared.worker_logs.WorkerLogs.WorkerLogs, Files.{standing_of, IsOwned, AreOwned, FallsFrom, IsFirstApart}}
 use Rattle.mt_disk.specs.Disk.{DiskState}
 use Rattle.mt_log_files.specs.declared.worker.WorkerFiles.{WorkerFiles}
-use Rattle.mt_chain_files.specs.{declared.fault.FilesFault.FilesFault, declared.opening.Chains.Chains, Numbered.{numbered_logs, OpensNumberedFiles}}
+use Rattle.mt_chain_files.specs.{declared.fault.FilesFault.FilesFault, declared.headers.Told.Told, declared.opening.Chains.Chains}
+use Rattle.mt_chain_files.specs.{Headers.{LooksAtFiles, StopsLookingAt}, Numbered.{numbered_logs, OpensNumberedFiles, StopsNumberedAt}, Rounds.{HasChoice, ComesTo, ReadsNumbered, StopsNumbered}}
 use Rattle.mt_chain_files.specs.Chosen.{begun_in, NeedPlain, BeginAt, StrangeAt, FallAt, RefuseToBegin, MayStand, ReadsPlain, NotChosen, OpensChains, StopsChains}
 use Rattle.mt_chain_files.proofs.Loops.{get_within, at_place, zip_count}
 use Rattle.mt_rows.specs.declared.refusal.Refusal.TheVariants as refusals
@@ -185,9 +186,9 @@ need_at_one files slots can last one is told = (
 -- ---- what was opened
 
 -- of the numbered files no log of generation 0 was read
-pub none_first : {D : Type 0} (is_honest : D → Bool) (state : D → DiskState) (failures : D → ℕ) (old new : List (WorkerFiles D)) (logs : List WorkerLogs)
-    → OpensNumberedFiles is_honest state failures old new logs → NoneFirst (map standing_of logs)
-none_first is_honest state failures old new logs opens f at =
+pub none_first : {D : Type 0} (is_honest : D → Bool) (state : D → DiskState) (failures : D → ℕ) (from : ℕ) (told : List Told) (old new : List (WorkerFiles D)) (logs : List WorkerLogs)
+    → OpensNumberedFiles is_honest state failures from told old new logs → NoneFirst (map standing_of logs)
+none_first is_honest state failures from told old new logs opens f at =
     let place = at_place f (map standing_of logs) at in
     let one = map_place standing_of logs place.0 f place.1 in
     let len = opens.each.len in
@@ -197,17 +198,77 @@ none_first is_honest state failures old new logs opens f at =
     let is = within_place new place.0 (omega (arith, within, count, len)) in
     let read = opens.each.each place.0 was.0 is.0 (omega (arith, within, count)) was.1 is.1 in
     let same : read.0 ≡ one.0 = same_Some read.0 one.0 (sym read.1 ∙ one.1) in
-    let unread : one.0 ≡ numbered_logs read.2.even read.2.odd = sym same ∙ read.2.read in
+    let unread : one.0 ≡ numbered_logs read.2.2.even read.2.2.odd = sym same ∙ read.2.2.read in
     ap (λ (x : Standing). x 0) one.2 ∙ ap (λ (w : WorkerLogs). option_map contents_of w.plain) unread
 
-pub first_read : {D : Type 0} (is_honest : D → Bool) (state : D → DiskState) (failures : D → ℕ) (old new : List (WorkerFiles D)) (logs first : List WorkerLogs) → logs ≡ first
-    → OpensNumberedFiles is_honest state failures old new logs → OpensNumberedFiles is_honest state failures old new first
-first_read is_honest state failures old new logs first same opens = subst (OpensNumberedFiles is_honest state failures old new) same opens
+-- what is told of a choice
+pub has_choice : (files : List Standing) (slots : Slots) (told : Option ℕ) → is_some told ≡ true
+    → IfSome told (λ g. (chains : List Chain) → AreFrom g files chains → IsChosen files slots g chains) → IfSome told (λ g. AllHave g files) → HasChoice files slots
+has_choice files slots None some chosen has = absurd (true≢false (sym some))
+has_choice files slots (Some g) some chosen has = let from = all_from g files has in (g, from.0, chosen from.0 from.1)
+
+pub has_none : (told : Option ℕ) (P : Type 0) → is_some told ≡ false → IfNone told P → P
+has_none None P none holds = holds
+has_none (Some g) P none holds = absurd (true≢false none)
+
+-- if there is a choice without plain files, these are not needed
+pub choice_unneeded : (files : List Standing) (slots : Slots) → 0 < length files → NoneFirst files → HasChoice files slots → ¬ NeedPlain files slots
+choice_unneeded files slots some none chooses need =
+    let g = chooses.0 in
+    let have = have_all g files chooses.1 chooses.2.0 in
+    ⊎_elim
+    (λ (never : (n : ℕ) → ¬ AllHave n files). never g have)
+    (λ (last : IsLast 1 files × (¬ CanBegin 1 files slots)). (
+    let over = over_zero g files some none have in
+    let most = last.0.1 g have in
+    let one : g ≡ 1 = omega (arith, over, most) in
+    last.1 (subst (λ (n : ℕ). CanBegin n files slots) one (chooses.1, chooses.2.0, chooses.2.1))
+    ))
+    need
+
+module _ {D : Type 0} (is_honest : D → Bool) (state : D → DiskState) (failures : D → ℕ) (slots : Slots) where
+  -- the numbered files were opened: as many places, as many logs
+  pub count_looked : (old looked : List (WorkerFiles D)) (told : List Told) → LooksAtFiles is_honest state failures old looked told → length looked ≡ length old
+  count_looked old looked told looks = looks.each.len
+
+  pub count_come : (told : List Told) (looked before : List (WorkerFiles D)) (from : ℕ) → ComesTo is_honest state failures slots told looked before from
+      → length before ≡ length looked
+  count_come told looked before from (inl at) = ap length at.0
+  count_come told looked before from (inr again) = again.1.1.each.len
+
+  pub count_before : (old new : List (WorkerFiles D)) (logs : List WorkerLogs) → (r : ReadsNumbered is_honest state failures slots old new logs) → length r.counting.before ≡ length old
+  count_before old new logs r = count_come r.told r.looked r.counting.before r.counting.from r.counting.comes ∙ count_looked old r.looked r.told r.looks
+
+  pub count_numbered : (old new : List (WorkerFiles D)) (logs : List WorkerLogs) → ReadsNumbered is_honest state failures slots old new logs → length new ≡ length old
+  count_numbered old new logs r = r.counting.opens.each.len ∙ count_before old new logs r
+
+  pub count_numbered_logs : (old new : List (WorkerFiles D)) (logs : List WorkerLogs) → ReadsNumbered is_honest state failures slots old new logs → length logs ≡ length old
+  count_numbered_logs old new logs r = r.counting.opens.count ∙ count_before old new logs r
+
+  -- so too if one was not
+  pub count_not_numbered : (e : FilesFault) (old new : List (WorkerFiles D)) → StopsNumbered is_honest state failures slots e old new → length new ≡ length old
+  count_not_numbered e old new (inl stops) = by e.log stops
+    where
+      by : (place : Option ℕ) → StopsLookingAt is_honest state failures place e.refusal old new → length new ≡ length old
+      by None at = ap length at.1
+      by (Some place) at = at.1.len
+  count_not_numbered e old new (inr counting) = by e.log counting.3.stops ∙ count_come counting.0 counting.1 counting.3.before counting.3.from counting.3.comes ∙ count_looked old counting.1 counting.0 counting.2
+    where
+      by : (place : Option ℕ) → StopsNumberedAt is_honest state failures counting.3.from counting.0 place e.refusal counting.3.before new → length new ≡ length counting.3.before
+      by None at = ap length at.1
+      by (Some place) at = at.len
+
+  pub first_read : (old new : List (WorkerFiles D)) (logs first : List WorkerLogs) → logs ≡ first
+      → ReadsNumbered is_honest state failures slots old new logs → ReadsNumbered is_honest state failures slots old new first
+  first_read old new logs first same opens = subst (ReadsNumbered is_honest state failures slots old new) same opens
 
 module _ {D : Type 0} (is_honest : D → Bool) (state : D → DiskState) (failures : D → ℕ) (slots : Slots) (old between new : List (WorkerFiles D)) (first logs : List WorkerLogs)
-    (some : 0 < length old) (numbered : OpensNumberedFiles is_honest state failures old between first) where
+    (some : 0 < length old) (numbered : ReadsNumbered is_honest state failures slots old between first) where
   some_first : 0 < length (map standing_of first)
-  some_first = let count = numbered.count in omega (arith, some, count, length-map first standing_of)
+  some_first = let count = count_numbered_logs is_honest state failures slots old between first numbered in omega (arith, some, count, length-map first standing_of)
+
+  no_first : NoneFirst (map standing_of first)
+  no_first = let c = numbered.counting in none_first is_honest state failures c.from numbered.told c.before between first c.opens
 
   agree_unread : ¬ NeedPlain (map standing_of first) slots → ReadsPlain is_honest state failures slots between new first logs → logs ≡ first
   agree_unread unneeded (inl read) = absurd (unneeded read.0)
@@ -224,7 +285,7 @@ module _ {D : Type 0} (is_honest : D → Bool) (state : D → DiskState) (failur
           → RefuseToBegin (map standing_of logs) slots e → RefuseToBegin standings slots e
       refuse (inl read) standings may why = subst (λ (s : List Standing). RefuseToBegin s slots e) (sym (may.0 read.0)) why
       refuse (inr unread) standings may why =
-          let none = none_first is_honest state failures old between first numbered in
+          let none = no_first in
           let agree : AgreeFrom 1 (map standing_of first) standings = subst (λ (l : List WorkerLogs). AgreeFrom 1 (map standing_of l) standings) unread.2 may.1 in
           let here : RefuseToBegin (map standing_of first) slots e = subst (λ (l : List WorkerLogs). RefuseToBegin (map standing_of l) slots e) unread.2 why in
           ⊎_elim
@@ -260,7 +321,7 @@ module _ {D : Type 0} (is_honest : D → Bool) (state : D → DiskState) (failur
       record {
         reads = record { between = between; first = first; numbered = numbered; logs = logs; plain = plain };
         numbered = λ unneeded. (
-            let none = none_first is_honest state failures old between first numbered in
+            let none = no_first in
             let same = agree_unread unneeded plain in
             let have = have_all chains.generation files (map contents_of chains.fronts.items) are in
             over_zero chains.generation (map standing_of first) some_first none (subst (λ (l : List WorkerLogs). AllHave chains.generation (map standing_of l)) same have)

@@ -1,5 +1,5 @@
 -- A plain file that was given up is no log: if plain files are needed, it leaves nothing to choose.
-use Rattle.std.proofs.Common.{◌≡◌, ◌≢◌, ◌⊎◌, inl, inr, ⊎_elim, ℕ, zero, suc, ◌<◌, ◌≤◌, ◌==◌, Bool, List, [], ◌∷◌, map, refl, sym, ◌∙◌, ap, subst, arith, Option, Some, None}
+use Rattle.std.proofs.Common.{◌≡◌, ◌≢◌, ◌⊎◌, inl, inr, ⊎_elim, ℕ, zero, suc, ◌<◌, ◌≤◌, ◌==◌, Bool, List, [], ◌∷◌, length, map, refl, sym, ◌∙◌, ap, subst, arith, Option, Some, None}
 use Rattle.std.proofs.lemmas.{Bool.{ne_eqb, cond-false}, Option.same_Some}
 use Rattle.std.specs.{Prelude.slice_get, List.AllZip, Option.option_map}
 use Rattle.mt_disk.specs.Disk.{DiskState}
@@ -11,6 +11,7 @@ use Rattle.mt_recover.specs.declared.resuming.LogSlot.{LogSlot}
 use Rattle.mt_chains.specs.{declared.worker_logs.WorkerLogs.WorkerLogs, Files.{standing_of, numbered_log, SameNumbered}}
 use Rattle.mt_log_files.specs.{declared.worker.WorkerFiles.WorkerFiles, Slots.{disk_in, OpensPlain}}
 use Rattle.mt_log_files.proofs.PlainLaws.{opened_has}
+use Rattle.mt_chain_files.specs.{declared.headers.Told.Told, Headers.first_counting, Rounds.{ComesTo, ReadsNumbered}}
 use Rattle.mt_chain_files.specs.{declared.fault.FilesFault.FilesFault, declared.opening.Chains.Chains, Numbered.OpensNumberedFiles, Plain.{OpensPlainFiles, StopsPlainFilesAt, IsGivenUpAt}}
 use Rattle.mt_chain_files.specs.Chosen.{NeedPlain, RefuseToBegin, ReadsPlain, OpensChains, StopsAtPlain, RefusesFiles}
 use Rattle.mt_chain_files.proofs.{Loops.get_within, Agreeing.{agree_self, agree_back, agree_later, from_agree, have_agree}}
@@ -37,21 +38,37 @@ module _ {D : Type 0} (is_honest : D → Bool) (state : D → DiskState) (failur
   abbrev IsGivenUp : List (WorkerFiles D) → Type 0
   IsGivenUp files = IsGivenUpAt is_honest state failures place files
 
-  -- the numbered files were opened, and it is as it was
-  still_given_up : (old between : List (WorkerFiles D)) (first : List WorkerLogs) → OpensNumberedFiles is_honest state failures old between first → IsGivenUp old → IsGivenUp between
-  still_given_up old between first numbered given =
+  -- a plain file that is as it was
+  same_given_up : (old new : List (WorkerFiles D)) → length new ≡ length old
+      → ((was is : WorkerFiles D) → slice_get old place ≡ Some was → slice_get new place ≡ Some is → is.plain ≡ was.plain) → IsGivenUp old → IsGivenUp new
+  same_given_up old new len same given =
       let within = get_within old place given.places given.there in
-      let len = numbered.each.len in
-      let is = within_place between place (omega (arith, within, len)) in
-      let o = numbered.each.each place given.places is.0 within given.there is.1 in
+      let is = within_place new place (omega (arith, within, len)) in
       record {
         places = is.0;
         there = is.1;
         disk = given.disk;
-        on = ap (λ (slot : LogSlot D). disk_in slot) o.2.plain ∙ given.on;
+        on = ap (λ (slot : LogSlot D). disk_in slot) (same given.places is.0 given.there is.1) ∙ given.on;
         honest = given.honest;
         none = given.none;
       }
+
+  opened_given_up : (from : ℕ) (told : List Told) (old new : List (WorkerFiles D)) (logs : List WorkerLogs) → OpensNumberedFiles is_honest state failures from told old new logs
+      → IsGivenUp old → IsGivenUp new
+  opened_given_up from told old new logs opens =
+      same_given_up old new opens.each.len (λ was is there then. (opens.each.each place was is (get_within old place was there) there then).2.2.plain)
+
+  come_given_up : (told : List Told) (looked before : List (WorkerFiles D)) (from : ℕ) → ComesTo is_honest state failures slots told looked before from → IsGivenUp looked → IsGivenUp before
+  come_given_up told looked before from (inl at) given = subst IsGivenUp (sym at.0) given
+  come_given_up told looked before from (inr again) given = opened_given_up (first_counting told) told looked before again.1.0 again.1.1 given
+
+  -- the numbered files were opened, and it is as it was
+  still_given_up : (old between : List (WorkerFiles D)) (first : List WorkerLogs) → ReadsNumbered is_honest state failures slots old between first → IsGivenUp old → IsGivenUp between
+  still_given_up old between first r given =
+      let c = r.counting in
+      opened_given_up c.from r.told c.before between first c.opens
+      (come_given_up r.told r.looked c.before c.from c.comes
+      (same_given_up old r.looked r.looks.each.len (λ was is there then. (r.looks.each.each place was is (get_within old place was there) there then).2.plain) given))
 
   -- nothing was read of it
   none_read : (between new : List (WorkerFiles D)) (logs : List WorkerLogs) → OpensPlainFiles is_honest state failures between new logs → IsGivenUp between

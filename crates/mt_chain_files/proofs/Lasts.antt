@@ -11,9 +11,9 @@ use Rattle.mt_generations.proofs.Parts.{end_joined}
 use Rattle.mt_recover.specs.{declared.resuming.LogSlot.LogSlot, declared.resuming.LogSlot.TheVariants.{Open, Failed, Closed, Away}}
 use Rattle.mt_chains.specs.{declared.worker_logs.WorkerLogs.WorkerLogs, Files.{standing_of, numbered_log, SameNumbered}, Testing.is_there}
 use Rattle.mt_log_files.specs.{declared.worker.WorkerFiles.WorkerFiles, Slots.{disk_in, file_of, OpensPlain, OpensNumbered}}
-use Rattle.mt_chain_files.specs.{declared.opening.Chains.Chains, Numbered.{OpensWorker, OpensNumberedFiles}, Plain.OpensPlainAs}
+use Rattle.mt_chain_files.specs.{declared.headers.Told.Told, declared.opening.Chains.Chains, Numbered.{OpensFrom, OpensWorker, OpensNumberedFiles}, Plain.OpensPlainAs}
 use Rattle.mt_chain_files.specs.{Chosen.{ReadsPlain, OpensChains}, Lasts.{last_generation_of, EndsAt, AreOpenAtTheirEnds}}
-use Rattle.mt_chain_files.proofs.{Loops.{get_within, zip_count}, Agreeing.agree_self, Reading.read_later}
+use Rattle.mt_chain_files.proofs.{Loops.{get_within, zip_count}, Agreeing.{agree_self, count_numbered, count_numbered_logs}, Reading.read_later}
 use Rattle.mt_log.specs.declared.reader.FileKind.TheVariants as kinds
 
 -- ---- which of a worker's files has a log
@@ -150,42 +150,49 @@ module _ {D : Type 0} (is_honest : D → Bool) (state : D → DiskState) (failur
   numbered_open parity None (Closed new) (Some read) o front there = absurd o
   numbered_open parity None Away (Some read) o front there = absurd o
 
-  -- both numbered files of a worker were opened
-  open_first : (old between : List (WorkerFiles D)) (first : List WorkerLogs) → OpensNumberedFiles is_honest state failures old between first
+  -- also if an older one was passed over
+  from_open : (from told : ℕ) (parity : Parity) (old new : LogSlot D) (found : Option Front) → OpensFrom is_honest state failures from told parity old new found
+      → IsOpenIn parity found new
+  from_open from told parity old new found (inl over) front there = absurd (no_some front (sym over.2 ∙ there))
+  from_open from told parity old new found (inr opens) front there = numbered_open parity (disk_in old) new found opens.1 front there
+
+  -- the numbered files of a worker that count were opened
+  open_first : (from : ℕ) (told : List Told) (old between : List (WorkerFiles D)) (first : List WorkerLogs) → OpensNumberedFiles is_honest state failures from told old between first
       → (k : ℕ) (one : WorkerLogs) (places : WorkerFiles D) → slice_get first k ≡ Some one → slice_get between k ≡ Some places → AreOpen one places
-  open_first old between first numbered k one places there then =
+  open_first from told old between first numbered k one places there then =
       let within = get_within first k one there in
       let count = numbered.count in
       let below : k < length old = omega (arith, within, count) in
       let was = within_place old k below in
       let r = numbered.each.each k was.0 places below was.1 then in
-      let o = subst (OpensWorker is_honest state failures was.0 places) (same_Some r.0 one (sym r.1 ∙ there)) r.2 in
+      let t = r.2.0 in
+      let o = subst (OpensWorker is_honest state failures from t was.0 places) (same_Some r.0 one (sym r.1 ∙ there)) r.2.2 in
       record {
         even = o.even;
         odd = o.odd;
         numbered = ap (λ (w : WorkerLogs). w.numbered) o.read;
-        open_even = numbered_open Even (disk_in was.0.even) places.even o.even o.opens_even;
-        open_odd = numbered_open Odd (disk_in was.0.odd) places.odd o.odd o.opens_odd;
+        open_even = from_open from t.even Even was.0.even places.even o.even o.opens_even;
+        open_odd = from_open from t.odd Odd was.0.odd places.odd o.odd o.opens_odd;
         open_plain = λ front is. absurd (no_some front (sym (ap (λ (w : WorkerLogs). w.plain) o.read) ∙ is));
       }
 
   module _ (slots : Slots) where
     -- and its plain file, if that is needed
-    open_all : (old between new : List (WorkerFiles D)) (first logs : List WorkerLogs) → OpensNumberedFiles is_honest state failures old between first
+    open_all : (from : ℕ) (told : List Told) (old between new : List (WorkerFiles D)) (first logs : List WorkerLogs) → OpensNumberedFiles is_honest state failures from told old between first
         → ReadsPlain is_honest state failures slots between new first logs → (k : ℕ) (one : WorkerLogs) (places : WorkerFiles D)
         → slice_get logs k ≡ Some one → slice_get new k ≡ Some places → AreOpen one places
-    open_all old between new first logs numbered (inr unread) k one places there then =
-        open_first old between first numbered k one places
+    open_all from told old between new first logs numbered (inr unread) k one places there then =
+        open_first from told old between first numbered k one places
         (subst (λ (l : List WorkerLogs). slice_get l k ≡ Some one) unread.2 there)
         (subst (λ (l : List (WorkerFiles D)). slice_get l k ≡ Some places) unread.1 then)
-    open_all old between new first logs numbered (inl read) k one places there then =
+    open_all from told old between new first logs numbered (inl read) k one places there then =
         let len = read.1.len in
         let within = get_within new k places then in
         let below : k < length between = omega (arith, within, len) in
         let mid = within_place between k below in
         let p = read.1.each k mid.0 places below mid.1 then in
         let was = zip_right SameNumbered first logs k one read.2 there in
-        let a = open_first old between first numbered k was.0 mid.0 was.1 mid.1 in
+        let a = open_first from told old between first numbered k was.0 mid.0 was.1 mid.1 in
         let o = subst (λ (w : WorkerLogs). OpensPlainAs is_honest state failures w mid.0 places) (same_Some p.0 one (sym p.1 ∙ there)) p.2 in
         record {
           even = a.even;
@@ -226,10 +233,11 @@ module _ {D : Type 0} (is_honest : D → Bool) (state : D → DiskState) (failur
       pub open_at_ends : AreOpenAtTheirEnds chains new
       open_at_ends k front places there then =
           let r = opens.reads in
+          let n = r.numbered.counting in
           let c = chain_at k front there in
           subst (λ (b : Option Bool). EndsAt (contents_of front) (file_of (last_generation_of chains.generation b) places)) (sym c.begun)
           (last_ends chains.generation (standing_of c.one) places (contents_of front)
-          (each_open c.one places (open_all old r.between new r.first r.logs r.numbered r.plain k c.one places c.there then))
+          (each_open c.one places (open_all n.from r.numbered.told n.before r.between new r.first r.logs n.opens r.plain k c.one places c.there then))
           c.meets c.from)
 
       count_new : ReadsPlain is_honest state failures slots opens.reads.between new opens.reads.first opens.reads.logs → length new ≡ length opens.reads.between
@@ -243,10 +251,10 @@ module _ {D : Type 0} (is_honest : D → Bool) (state : D → DiskState) (failur
 
       -- as many places as before
       pub as_many_places : length new ≡ length old
-      as_many_places = count_new opens.reads.plain ∙ opens.reads.numbered.each.len
+      as_many_places = let r = opens.reads in count_new r.plain ∙ count_numbered is_honest state failures slots old r.between r.first r.numbered
 
       as_many_read : length opens.reads.logs ≡ length old
-      as_many_read = count_logs opens.reads.plain ∙ opens.reads.numbered.count
+      as_many_read = let r = opens.reads in count_logs r.plain ∙ count_numbered_logs is_honest state failures slots old r.between r.first r.numbered
 
       -- a chain for each worker
       pub as_many_chains : length chains.fronts.items ≡ length old

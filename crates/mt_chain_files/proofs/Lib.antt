@@ -6,6 +6,7 @@ pub mod Faults
 pub mod Narrowing
 pub mod Resting
 pub mod Starts
+pub mod Passing
 pub mod OwnFiles
 pub mod TurnLaws
 pub mod GivenUp

@@ -76,6 +76,10 @@ pub next_was : {X : Type 0} (place : ℕ) (old now : List X) (d was : X) → ((k
     → slice_get old place ≡ Some was → slice_index_or now place d ≡ was
 next_was place old now d was left there = at_or now place d was (left place (omega arith) ∙ there)
 
+-- what is read at a place is there
+pub index_there : {X : Type 0} (xs : List X) (i : ℕ) (d : X) → i < length xs → slice_get xs i ≡ Some (slice_index_or xs i d)
+index_there xs i d within = let there = within_place xs i within in there.1 ∙ ap Some (sym (at_or xs i d there.0 there.1))
+
 pub get_more : {X : Type 0} (xs ys : List X) (i : ℕ) (x : X) → slice_get xs i ≡ Some x → slice_get (xs ++ ys) i ≡ Some x
 get_more [] ys i x h = absurd (no_some x h)
 get_more (y ∷ xs) ys zero x h = h

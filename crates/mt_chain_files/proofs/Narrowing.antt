@@ -7,8 +7,8 @@ use Rattle.mt_disk.specs.Disk.{DiskState}
 use Rattle.mt_crashes.{specs.Stores.{Store, LogNow}, proofs.Members.no_some}
 use Rattle.mt_log_files.specs.declared.worker.WorkerFiles.{WorkerFiles}
 use Rattle.mt_log_files.specs.{Files.{FileNow, Spare, Has, MayHave, MayLeaveFile, found_as}, Workers.{Found, MayLeaveFiles}}
-use Rattle.mt_chain_files.specs.Turns.{FilesNow, now_of, pair_of, IsOfGeneration, AreOfTurn, StaysWhole, ShowFiles, StayTheirs}
-use Rattle.mt_chain_files.proofs.Reading.{as_found}
+use Rattle.mt_chain_files.specs.Turns.{FilesNow, now_of, pair_of, IsOfGeneration, Rests, AreOfTurn, StaysWhole, StaySpare, ShowFiles, StayTheirs}
+use Rattle.mt_chain_files.proofs.Reading.{as_found, found_rests}
 
 -- a file is as it was, or something was found in it
 abbrev pub NarrowsFile : FileNow → FileNow → Type 0
@@ -24,7 +24,7 @@ narrow_left old new a (inl same) left = subst (λ (f : FileNow). MayLeaveFile f 
 narrow_left old new a (inr (x, found, is)) left =
     subst (MayLeaveFile old) (sym (as_found x a (subst (λ (f : FileNow). MayLeaveFile f a) is left))) found
 
-left_generation : (g : ℕ) (file : FileNow) (x : Option Contents) → IsOfGeneration g file → MayLeaveFile file x → IsOfGeneration g (found_as x)
+pub left_generation : (g : ℕ) (file : FileNow) (x : Option Contents) → IsOfGeneration g file → MayLeaveFile file x → IsOfGeneration g (found_as x)
 left_generation g file None is left = tt
 left_generation g Spare (Some c) is left = absurd (no_some c (sym left))
 left_generation g (Has now) (Some c) is left =
@@ -51,6 +51,46 @@ narrow_spare : (old new : FileNow) → NarrowsFile old new → old ≡ Spare →
 narrow_spare old new (inl same) spare = same ∙ spare
 narrow_spare old new (inr (x, found, is)) spare = is ∙ ap found_as (subst (λ (f : FileNow). MayLeaveFile f x) spare found)
 
+narrow_rests : (old new : FileNow) → NarrowsFile old new → Rests old → Rests new
+narrow_rests old new (inl same) rest = subst Rests (sym same) rest
+narrow_rests old new (inr (x, found, is)) rest = subst Rests (sym is) (found_rests x)
+
+-- what is narrower than a narrower file is so too
+narrow_more : (old mid new : FileNow) → NarrowsFile old mid → NarrowsFile mid new → NarrowsFile old new
+narrow_more old mid new narrows (inl same) = subst (NarrowsFile old) (sym same) narrows
+narrow_more old mid new narrows (inr (x, found, is)) = inr (x, narrow_left old mid x narrows found, is)
+
+pub narrow_again : (old mid new : List FilesNow) → AllZip Narrows old mid → AllZip Narrows mid new → AllZip Narrows old new
+narrow_again [] [] [] first second = tt
+narrow_again [] [] (x ∷ new) first second = absurd second
+narrow_again [] (m ∷ mid) new first second = absurd first
+narrow_again (f ∷ old) [] new first second = absurd first
+narrow_again (f ∷ old) (m ∷ mid) [] first second = absurd second
+narrow_again (f ∷ old) (m ∷ mid) (x ∷ new) first second = (
+  record {
+    plain = narrow_more f.plain m.plain x.plain first.0.plain second.0.plain;
+    even = narrow_more f.even m.even x.even first.0.even second.0.even;
+    odd = narrow_more f.odd m.odd x.odd first.0.odd second.0.odd;
+  },
+  narrow_again old mid new first.1 second.1,
+)
+
+-- what was spare, stays so
+pub spare_again : (old mid new : List FilesNow) → AllZip Narrows old mid → AllZip StaySpare mid new → AllZip StaySpare old new
+spare_again [] [] [] first second = tt
+spare_again [] [] (x ∷ new) first second = absurd second
+spare_again [] (m ∷ mid) new first second = absurd first
+spare_again (f ∷ old) [] new first second = absurd first
+spare_again (f ∷ old) (m ∷ mid) [] first second = absurd second
+spare_again (f ∷ old) (m ∷ mid) (x ∷ new) first second = (
+  record {
+    plain = λ spare. second.0.plain (narrow_spare f.plain m.plain first.0.plain spare);
+    even = λ spare. second.0.even (narrow_spare f.even m.even first.0.even spare);
+    odd = λ spare. second.0.odd (narrow_spare f.odd m.odd first.0.odd spare);
+  },
+  spare_again old mid new first.1 second.1,
+)
+
 narrow_turn : (g : ℕ) (now : LogNow) (old new : FilesNow) → AreOfTurn g now old → Narrows old new → AreOfTurn g now new
 narrow_turn g now old new turn n = record {
   are = λ x y left_x left_y.
@@ -59,6 +99,10 @@ narrow_turn g now old new turn n = record {
   first = narrow_generation g (now_of g old) (now_of g new) (narrow_now g old new n) turn.first;
   next = narrow_generation (g + 1) (now_of (g + 1) old) (now_of (g + 1) new) (narrow_now (g + 1) old new n) turn.next;
   no_other = λ zero. narrow_spare old.even new.even n.even (turn.no_other zero);
+  rests = ⊎_elim
+      (λ spare. inl (narrow_spare (now_of (g + 1) old) (now_of (g + 1) new) (narrow_now (g + 1) old new n) spare))
+      (λ rest. inr (narrow_rests (now_of g old) (now_of g new) (narrow_now g old new n) rest))
+      turn.rests;
 }
 
 -- ---- all workers

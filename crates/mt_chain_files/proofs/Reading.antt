@@ -7,7 +7,7 @@ use Rattle.mt_crashes.{specs.Stores.{LogNow, at_rest}, proofs.Members.no_some}
 use Rattle.mt_generations.specs.{Chains.Chain, Standings.{Standing, StandsFor}, Turns.with_log}
 use Rattle.mt_chains.specs.{declared.worker_logs.WorkerLogs.WorkerLogs, Files.{standing_of as read_of, numbered_log}}
 use Rattle.mt_log_files.specs.{Files.{FileNow, Spare, Has, MayHave, MayLeaveFile, found_as}, Workers.{nothing_stands, with_found, standing_of}}
-use Rattle.mt_chain_files.specs.Turns.{FilesNow, now_of, IsOfGeneration, AreOfTurn}
+use Rattle.mt_chain_files.specs.Turns.{FilesNow, now_of, IsOfGeneration, Rests, AreOfTurn}
 
 -- ---- what a crash leaves of a file
 
@@ -22,11 +22,11 @@ least_left Spare = refl
 least_left (Has now) = (now.had, inl refl, refl)
 least_left (MayHave c) = inl refl
 
-abbrev FrontOf : ℕ → Option Front → Type 0
+abbrev pub FrontOf : ℕ → Option Front → Type 0
 FrontOf g found = (front : Front) → found ≡ Some front → front.generation ≡ g
 
 -- it is of the generation of the file's log
-left_of : (g : ℕ) (file : FileNow) (found : Option Front) → IsOfGeneration g file → MayLeaveFile file (option_map contents_of found) → FrontOf g found
+pub left_of : (g : ℕ) (file : FileNow) (found : Option Front) → IsOfGeneration g file → MayLeaveFile file (option_map contents_of found) → FrontOf g found
 left_of g Spare found is left front there = absurd (no_some (contents_of front) (sym left ∙ ap (option_map contents_of) there))
 left_of g (Has now) found is left front there =
     let same : contents_of front ≡ left.0 = same_Some (contents_of front) left.0 (sym (ap (option_map contents_of) there) ∙ left.2) in
@@ -69,12 +69,12 @@ after_of one = record {
 
 -- ---- two numbered files
 
-none_in : (h : ℕ) (found : Option Front) (logs : List (Option Front)) → ((front : Front) → found ≡ Some front → front.generation ≢ h)
+pub none_in : (h : ℕ) (found : Option Front) (logs : List (Option Front)) → ((front : Front) → found ≡ Some front → front.generation ≢ h)
     → numbered_log h (found ∷ logs) ≡ numbered_log h logs
 none_in h None logs other = refl
 none_in h (Some front) logs other = cond-false (front.generation == h) (Some (contents_of front)) (numbered_log h logs) (ne_eqb front.generation h (other front refl))
 
-one_in : (h : ℕ) (found : Option Front) (logs : List (Option Front)) → FrontOf h found → numbered_log h logs ≡ None → numbered_log h (found ∷ logs) ≡ option_map contents_of found
+pub one_in : (h : ℕ) (found : Option Front) (logs : List (Option Front)) → FrontOf h found → numbered_log h logs ≡ None → numbered_log h (found ∷ logs) ≡ option_map contents_of found
 one_in h None logs is none = none
 one_in h (Some front) logs is none = cond-true (front.generation == h) (Some (contents_of front)) (numbered_log h logs) (eq-eqb front.generation h (is front refl))
 
@@ -136,22 +136,25 @@ pub read_later : (one : WorkerLogs) (even odd : Option Front) (h : ℕ) → 0 < 
 read_later one even odd h over is =
     cond-false (h == 0) (option_map contents_of one.plain) (numbered_log h one.numbered) (ne_eqb h 0 (λ e. omega (arith, e, over))) ∙ ap (numbered_log h) is
 
--- a worker's two files of a turn, and what a crash left of them
-pub record FoundOf (g : ℕ) (files : FilesNow) (one : WorkerLogs) : Type 0 where
+-- A worker's two files of a turn, and what a crash left of them. So its files are after that, and these logs stand.
+pub record FoundOf (g : ℕ) (files after : FilesNow) (stands : Standing) : Type 0 where
   pub x : Option Contents
   pub y : Option Contents
   pub left_x : MayLeaveFile (now_of g files) x
   pub left_y : MayLeaveFile (now_of (g + 1) files) y
-  pub tells : Tells (standing_of g x y) (read_of one)
+  pub tells : Tells (standing_of g x y) stands
   -- and what is left of them now
   pub kept : Option Contents
-  pub kept_so : MayLeaveFile (now_of g files) kept ⊎ ((g ≡ 0) × (kept ≡ None))
-  pub all : (h : ℕ) → standing_of g kept y h ≡ read_of one h
-  pub at_first : now_of g (after_of one) ≡ found_as kept
-  pub at_next : now_of (g + 1) (after_of one) ≡ found_as y
+  pub all : (h : ℕ) → standing_of g kept y h ≡ stands h
+  pub at_first : now_of g after ≡ found_as kept
+  pub at_next : now_of (g + 1) after ≡ found_as y
   pub of_first : IsOfGeneration g (found_as kept)
   pub of_next : IsOfGeneration (g + 1) (found_as y)
-  pub spare : g ≡ 0 → (after_of one).even ≡ Spare
+  pub spare : g ≡ 0 → after.even ≡ Spare
+
+-- what was read of a worker's files is so
+abbrev pub FoundIn : ℕ → FilesNow → WorkerLogs → Type 0
+FoundIn g files one = FoundOf g files (after_of one) (read_of one)
 
 module _ (files : FilesNow) (one : WorkerLogs) where
   -- the numbered files, if one of both is of no generation other than its own
@@ -167,7 +170,7 @@ module _ (files : FilesNow) (one : WorkerLogs) where
       (cases_eq h m)
 
   -- the first log in the plain file
-  found_zero : (now : LogNow) → AreOfTurn 0 now files → ReadOf 0 files one → FoundOf 0 files one
+  found_zero : (now : LogNow) → AreOfTurn 0 now files → ReadOf 0 files one → FoundIn 0 files one
   found_zero now turn r = by r.left_plain
     where
       no_even : r.even ≡ None
@@ -197,7 +200,7 @@ module _ (files : FilesNow) (one : WorkerLogs) where
       every zero = found_first 0 (option_map contents_of one.plain) (option_map contents_of r.odd)
       every (suc h) = sym (later (option_map contents_of one.plain) (suc h) (omega arith))
 
-      by : (one.plain ≡ None) ⊎ ((◌≡◌ {A = ℕ} 0 0) × MayLeaveFile files.plain (option_map contents_of one.plain)) → FoundOf 0 files one
+      by : (one.plain ≡ None) ⊎ ((◌≡◌ {A = ℕ} 0 0) × MayLeaveFile files.plain (option_map contents_of one.plain)) → FoundIn 0 files one
       by (inl none) = record {
         x = least files.plain;
         y = option_map contents_of r.odd;
@@ -205,7 +208,6 @@ module _ (files : FilesNow) (one : WorkerLogs) where
         left_y = r.left_odd;
         tells = record { later = later (least files.plain); first = inl (ap (option_map contents_of) none) };
         kept = option_map contents_of one.plain;
-        kept_so = inr (refl, ap (option_map contents_of) none);
         all = every;
         at_first = refl;
         at_next = ap (λ (logs : List (Option Front)). found_as (option_map contents_of (second_in logs))) r.numbered;
@@ -224,7 +226,6 @@ module _ (files : FilesNow) (one : WorkerLogs) where
           first = inr (sym (found_first 0 (option_map contents_of one.plain) (option_map contents_of r.odd)));
         };
         kept = option_map contents_of one.plain;
-        kept_so = inl read.1;
         all = every;
         at_first = refl;
         at_next = ap (λ (logs : List (Option Front)). found_as (option_map contents_of (second_in logs))) r.numbered;
@@ -235,7 +236,7 @@ module _ (files : FilesNow) (one : WorkerLogs) where
       }
 
   -- both logs in numbered files
-  found_later : (g : ℕ) (now : LogNow) → 0 < g → AreOfTurn g now files → ReadOf g files one → FoundOf g files one
+  found_later : (g : ℕ) (now : LogNow) → 0 < g → AreOfTurn g now files → ReadOf g files one → FoundIn g files one
   found_later g now over turn r = by (g % 2 == 0) refl
     where
       no_plain : read_of one 0 ≡ None
@@ -260,7 +261,7 @@ module _ (files : FilesNow) (one : WorkerLogs) where
       every x y later zero = found_none g x y 0 (λ e. omega (arith, e, over)) (λ e. omega (arith, e)) ∙ sym no_plain
       every x y later (suc h) = sym (later (suc h) (omega arith))
 
-      by : (b : Bool) → (g % 2 == 0) ≡ b → FoundOf g files one
+      by : (b : Bool) → (g % 2 == 0) ≡ b → FoundIn g files one
       by true e =
           let x = option_map contents_of r.even in
           let y = option_map contents_of r.odd in
@@ -287,7 +288,6 @@ module _ (files : FilesNow) (one : WorkerLogs) where
               first = inl no_plain;
             };
             kept = x;
-            kept_so = inl (subst (λ (f : FileNow). MayLeaveFile f x) (sym first) r.left_even);
             all = every x y later;
             at_first = is_even (after_of one) g over rest ∙ after_even;
             at_next = is_odd (after_of one) (g + 1) (omega arith) (λ h. omega (arith, rest, h)) ∙ after_odd;
@@ -321,7 +321,6 @@ module _ (files : FilesNow) (one : WorkerLogs) where
               first = inl no_plain;
             };
             kept = x;
-            kept_so = inl (subst (λ (f : FileNow). MayLeaveFile f x) (sym first) r.left_odd);
             all = every x y later;
             at_first = is_odd (after_of one) g over rest ∙ after_odd;
             at_next = is_even (after_of one) (g + 1) (omega arith) (omega (arith, rest)) ∙ after_even;
@@ -330,7 +329,7 @@ module _ (files : FilesNow) (one : WorkerLogs) where
             spare = λ none. absurd (omega (arith, none, over));
           }
 
-  pub found_of : (g : ℕ) (now : LogNow) → AreOfTurn g now files → ReadOf g files one → FoundOf g files one
+  pub found_of : (g : ℕ) (now : LogNow) → AreOfTurn g now files → ReadOf g files one → FoundIn g files one
   found_of zero now turn r = found_zero now turn r
   found_of (suc g) now turn r = found_later (suc g) now (omega arith) turn r
 
@@ -351,9 +350,14 @@ stands_less g log f e tells s = record {
     there zero c at = ⊎_elim (λ none. absurd (no_some c (sym none ∙ at))) (λ same. sym same ∙ at) tells.first
     there (suc h) c at = sym (tells.later (suc h) (omega arith)) ∙ at
 
+-- a file that was found rests
+pub found_rests : (found : Option Contents) → Rests (found_as found)
+found_rests None = tt
+found_rests (Some c) = refl
+
 -- so its files are of the turn then, and rest
-pub after_turn : (g : ℕ) (files : FilesNow) (one : WorkerLogs) (log : Contents) → FoundOf g files one → StandsFor g log (read_of one) → AreOfTurn g (at_rest log) (after_of one)
-after_turn g files one log found stand = record {
+pub after_turn : (g : ℕ) (files after : FilesNow) (stands : Standing) (log : Contents) → FoundOf g files after stands → StandsFor g log stands → AreOfTurn g (at_rest log) after
+after_turn g files after stands log found stand = record {
   are = λ a b at_a at_b. (
     log,
     inl refl,
@@ -363,7 +367,8 @@ after_turn g files one log found stand = record {
   first = subst (IsOfGeneration g) (sym found.at_first) found.of_first;
   next = subst (IsOfGeneration (g + 1)) (sym found.at_next) found.of_next;
   no_other = found.spare;
+  rests = inr (subst Rests (sym found.at_first) (found_rests found.kept));
 }
   where
     kept : StandsFor g log (standing_of g found.kept found.y)
-    kept = stands_less g log (read_of one) (standing_of g found.kept found.y) (record { later = λ h over. found.all h; first = inr (found.all 0) }) stand
+    kept = stands_less g log stands (standing_of g found.kept found.y) (record { later = λ h over. found.all h; first = inr (found.all 0) }) stand

@@ -3,12 +3,11 @@ use Rattle.std.proofs.Common.{◌≡◌, ℕ, ◌+◌, List, [], ◌∷◌, ◌+
 use Rattle.std.proofs.lemmas.Option.{same_Some}
 use Rattle.std.specs.List.{AllZip}
 use Rattle.mt_log.specs.Contents.{Contents}
-use Rattle.mt_crashes.{specs.Stores.LogNow, proofs.Members.no_some}
-use Rattle.mt_generations.specs.{Chains.Chain, Standings.{AreFrom, chain_from, joined}}
-use Rattle.mt_chains.specs.{declared.worker_logs.WorkerLogs.WorkerLogs, Files.{standing_of as read_of}}
+use Rattle.mt_crashes.proofs.Members.{no_some}
+use Rattle.mt_generations.specs.{Chains.Chain, Standings.{Standing, AreFrom, chain_from, joined}}
 use Rattle.mt_log_files.specs.{Workers.standing_of, Files.{FileNow, MayLeaveFile}}
-use Rattle.mt_chain_files.specs.Turns.{FilesNow, now_of, AreOfTurn}
-use Rattle.mt_chain_files.proofs.Reading.{after_of, as_found, ReadOf, found_of}
+use Rattle.mt_chain_files.specs.Turns.{FilesNow, now_of}
+use Rattle.mt_chain_files.proofs.Reading.{as_found, FoundOf}
 
 -- what is left of a worker's files has a log of that generation, which began there
 abbrev pub HasFrom : ℕ → ℕ → ℕ → FilesNow → Type 0
@@ -21,21 +20,19 @@ starts_there (Some a) None c e = (a, refl, ap (λ (d : Chain). d.start) (same_So
 starts_there (Some a) (Some next) c e = (a, refl, ap (λ (d : Chain). d.start) (same_Some (record a { batches = a.batches ++ next.batches }) c e))
 
 -- a worker's files that were opened have the log from which its chain is
-has_chain : (g h : ℕ) (files : FilesNow) (one : WorkerLogs) (now : LogNow) (c : Chain) → AreOfTurn g now files → ReadOf g files one → chain_from h (read_of one) ≡ Some c
-    → HasFrom g h c.start (after_of one)
-has_chain g h files one now c turn read is x y left_x left_y =
-    let found = found_of files one g now turn read in
+has_chain : (g h : ℕ) (files after : FilesNow) (stands : Standing) (c : Chain) → FoundOf g files after stands → chain_from h stands ≡ Some c → HasFrom g h c.start after
+has_chain g h files after stands c found is x y left_x left_y =
     let same_x = as_found found.kept x (subst (λ (f : FileNow). MayLeaveFile f x) found.at_first left_x) in
     let same_y = as_found found.y y (subst (λ (f : FileNow). MayLeaveFile f y) found.at_next left_y) in
-    let a = starts_there (read_of one h) (read_of one (h + 1)) c is in
+    let a = starts_there (stands h) (stands (h + 1)) c is in
     (a.0, ap (λ z. standing_of g z y h) same_x ∙ ap (λ z. standing_of g found.kept z h) same_y ∙ found.all h ∙ a.1, a.2)
 
-pub all_have_chains : (g h : ℕ) (logs : List LogNow) (files : List FilesNow) (read : List WorkerLogs) (chains : List Chain) → AllZip (AreOfTurn g) logs files → AllZip (ReadOf g) files read
-    → AreFrom h (map read_of read) chains → AllZip (λ (f : FilesNow) (c : Chain). HasFrom g h c.start f) (map after_of read) chains
-all_have_chains g h logs files [] [] turn all are = tt
-all_have_chains g h logs files [] (c ∷ chains) turn all are = absurd are
-all_have_chains g h logs files (w ∷ read) [] turn all are = absurd are
-all_have_chains g h logs [] (w ∷ read) (c ∷ chains) turn all are = absurd all
-all_have_chains g h [] (f ∷ files) (w ∷ read) (c ∷ chains) turn all are = absurd turn
-all_have_chains g h (now ∷ logs) (f ∷ files) (w ∷ read) (c ∷ chains) turn all are =
-    (has_chain g h f w now c turn.0 all.0 are.0, all_have_chains g h logs files read chains turn.1 all.1 are.1)
+pub all_have_chains : {A : Type 0} (after : A → FilesNow) (stands : A → Standing) (g h : ℕ) (files : List FilesNow) (read : List A) (chains : List Chain)
+    → AllZip (λ (f : FilesNow) (one : A). FoundOf g f (after one) (stands one)) files read → AreFrom h (map stands read) chains
+    → AllZip (λ (f : FilesNow) (c : Chain). HasFrom g h c.start f) (map after read) chains
+all_have_chains after stands g h files [] [] all are = tt
+all_have_chains after stands g h files [] (c ∷ chains) all are = absurd are
+all_have_chains after stands g h files (w ∷ read) [] all are = absurd are
+all_have_chains after stands g h [] (w ∷ read) (c ∷ chains) all are = absurd all
+all_have_chains after stands g h (f ∷ files) (w ∷ read) (c ∷ chains) all are =
+    (has_chain g h f (after w) (stands w) c all.0 are.0, all_have_chains after stands g h files read chains all.1 are.1)

@@ -1,5 +1,5 @@
 -- The files of a store in its first turn, and in the turn after one.
-use Rattle.std.proofs.Common.{◌≡◌, ◌≢◌, ⊎_elim, ℕ, zero, suc, ◌+◌, ◌<◌, ◌==◌, ◌%◌, cond, refl, sym, ◌∙◌, subst, arith}
+use Rattle.std.proofs.Common.{◌≡◌, ◌≢◌, inl, ⊎_elim, ℕ, zero, suc, ◌+◌, ◌<◌, ◌==◌, ◌%◌, cond, refl, sym, ◌∙◌, subst, arith}
 use Rattle.std.proofs.lemmas.Bool.{eq-eqb, ne_eqb, cases_eq, cond-true, cond-false}
 use Rattle.mt_crashes.specs.Stores.{LogNow}
 use Rattle.mt_log_files.specs.{Files.{FileNow, Spare, Has}, Workers.AreFilesOf}
@@ -7,10 +7,10 @@ use Rattle.mt_log_files.proofs.WorkerLaws.{whole_files, turned_files}
 use Rattle.mt_chain_files.specs.Turns.{FilesNow, now_of, IsOfGeneration, AreOfTurn}
 
 pub first_turn : (now : LogNow) → now.had.generation ≡ 0 → AreOfTurn 0 now (record { plain = Has now; even = Spare; odd = Spare })
-first_turn now is = record { are = whole_files now; first = is; next = tt; no_other = λ none. refl }
+first_turn now is = record { are = whole_files now; first = is; next = tt; no_other = λ none. refl; rests = inl refl }
 
 module _ (files : FilesNow) where
-  numbered_now : (k : ℕ) → 0 < k → now_of k files ≡ cond (k % 2 == 0) files.even files.odd
+  pub numbered_now : (k : ℕ) → 0 < k → now_of k files ≡ cond (k % 2 == 0) files.even files.odd
   numbered_now k over = cond-false (k == 0) files.plain (cond (k % 2 == 0) files.even files.odd) (ne_eqb k 0 (λ e. omega (arith, e, over)))
 
   -- the generation after the next one goes into the file of the first, which is given up
@@ -41,4 +41,5 @@ module _ (files : FilesNow) where
         first = turn.next;
         next = subst (IsOfGeneration (g + 1 + 1)) (sym later) tt;
         no_other = λ none. absurd (omega (arith, none));
+        rests = inl later;
       }

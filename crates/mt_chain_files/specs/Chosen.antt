@@ -8,7 +8,7 @@ use Rattle.mt_generations.specs.Standings.{Standing, AllHave, AreFrom, AgreeFrom
 use Rattle.mt_chains.specs.{declared.worker_logs.WorkerLogs.WorkerLogs, Files.{standing_of, SameNumbered, AreOwned, FallsFrom, IsFirstApart}, Testing.is_there}
 use Rattle.mt_log_files.specs.declared.worker.WorkerFiles.{WorkerFiles}
 use Rattle.mt_chain_files.specs.{declared.fault.FilesFault.FilesFault, declared.opening.Chains.Chains}
-use Rattle.mt_chain_files.specs.{Numbered.{OpensNumberedFiles, StopsNumberedFiles}, Plain.{OpensPlainFiles, StopsPlainFiles}}
+use Rattle.mt_chain_files.specs.{Rounds.{ReadsNumbered, StopsNumbered}, Plain.{OpensPlainFiles, StopsPlainFiles}}
 use Rattle.mt_rows.specs.declared.refusal.Refusal.TheVariants as refusals
 
 -- ---- by the logs that stand
@@ -85,7 +85,7 @@ module _ {D : Type 0} (is_honest : D → Bool) (state : D → DiskState) (failur
   pub record ReadsFiles (old new : List (WorkerFiles D)) : Type 0 where
     pub between : List (WorkerFiles D)
     pub first : List WorkerLogs
-    pub numbered : OpensNumberedFiles is_honest state failures old between first
+    pub numbered : ReadsNumbered is_honest state failures slots old between first
     pub logs : List WorkerLogs
     pub plain : ReadsPlain between new first logs
 
@@ -97,11 +97,11 @@ module _ {D : Type 0} (is_honest : D → Bool) (state : D → DiskState) (failur
     pub begun : chains.begun.items ≡ begun_in chains.generation reads.logs
     pub chosen : (standings : List Standing) → AgreeFrom chains.generation (map standing_of reads.logs) standings → AreChosen standings slots chains
 
-  -- a plain file was not opened, after all numbered ones were
+  -- a plain file was not opened, after the numbered ones that count were
   pub record StopsAtPlain (e : FilesFault) (old new : List (WorkerFiles D)) : Type 0 where
     pub between : List (WorkerFiles D)
     pub first : List WorkerLogs
-    pub numbered : OpensNumberedFiles is_honest state failures old between first
+    pub numbered : ReadsNumbered is_honest state failures slots old between first
     pub plain : StopsPlain e between new first
 
   -- all files that are needed were opened, but there is no memory for the chains, or no recovery begins with whatever stands
@@ -112,4 +112,4 @@ module _ {D : Type 0} (is_honest : D → Bool) (state : D → DiskState) (failur
 
   -- why there are no chains
   abbrev pub StopsChains : FilesFault → List (WorkerFiles D) → List (WorkerFiles D) → Type 0
-  StopsChains e old new = StopsNumberedFiles is_honest state failures e old new ⊎ (StopsAtPlain e old new ⊎ RefusesFiles e old new)
+  StopsChains e old new = StopsNumbered is_honest state failures slots e old new ⊎ (StopsAtPlain e old new ⊎ RefusesFiles e old new)

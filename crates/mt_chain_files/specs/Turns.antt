@@ -1,5 +1,5 @@
 -- What a store's own log files may be when they are opened.
-use Rattle.std.specs.{Prelude.{◌≡◌, ◌⊎◌, ℕ, ◌+◌, ◌%◌, ◌==◌, if◌then◌else◌, Bool, List, map, Some, None, slice_get}, List.AllZip}
+use Rattle.std.specs.{Prelude.{◌≡◌, ◌⊎◌, ℕ, ◌+◌, ◌%◌, ◌==◌, if◌then◌else◌, Bool, List, map, Some, slice_get}, List.AllZip}
 use Rattle.mt_disk.specs.Disk.{DiskState}
 use Rattle.mt_log_generations.specs.declared.header.Parity.TheVariants.{Even, Odd}
 use Rattle.mt_log.specs.Contents.{Contents, contents_of}
@@ -8,6 +8,7 @@ use Rattle.mt_generations.specs.Chains.{EndsLog}
 use Rattle.mt_generations.specs.Turns.{StandsWhole}
 use Rattle.mt_recover.specs.declared.resuming.LogSlot.{LogSlot}
 use Rattle.mt_log_files.specs.declared.worker.WorkerFiles.{WorkerFiles}
+pub use Rattle.mt_log_files.specs.Files.{Rests}
 use Rattle.mt_log_files.specs.{Shows.{Shows, IsHonest}, Files.{FileNow, Spare, Has, MayHave, ShowsFile}, Workers.{AreFilesOf, Files, Found, MayLeaveFiles, standings_of}}
 use Rattle.mt_chain_files.specs.{declared.opening.Chains.Chains, Lasts.last_generation_of}
 
@@ -32,11 +33,13 @@ IsOfGeneration g (Has now) = now.had.generation ≡ g
 IsOfGeneration g (MayHave c) = c.generation ≡ g
 
 -- A worker's files in a turn from a generation to the next are those of its whole log. As long as the first of both is generation 0, the even file is spare.
+-- The older log rests before the next one is begun.
 pub record AreOfTurn (g : ℕ) (now : LogNow) (files : FilesNow) : Type 0 where
   pub are : AreFilesOf g now (now_of g files) (now_of (g + 1) files)
   pub first : IsOfGeneration g (now_of g files)
   pub next : IsOfGeneration (g + 1) (now_of (g + 1) files)
   pub no_other : g ≡ 0 → files.even ≡ Spare
+  pub rests : (now_of (g + 1) files ≡ Spare) ⊎ Rests (now_of g files)
 
 -- Whatever a crash leaves of these files, a generation stands whole.
 abbrev pub StaysWhole : ℕ → ℕ → Store → List FilesNow → Type 0
@@ -48,12 +51,6 @@ pub record HasLast (g : ℕ) (whole : Contents) (files : FilesNow) : Type 0 wher
   pub has : now_of g files ≡ Has (at_rest last)
   pub of : last.generation ≡ g
   pub ends : EndsLog whole last
-
--- no batch of a file's log is in doubt
-abbrev pub Rests : FileNow → Type 0
-Rests Spare = Unit {0}
-Rests (Has now) = now.doubt ≡ None
-Rests (MayHave c) = Unit {0}
 
 -- In a turn from a generation to the next, a worker's last log is of either. If it is of the first of both, the file for the next one is spare. Else the
 -- older log rests.

@@ -6,6 +6,7 @@
 
 mod begun;
 mod fault;
+mod headers;
 pub mod laws;
 mod numbered;
 mod opening;
@@ -13,6 +14,7 @@ mod plain;
 mod watching;
 
 pub use fault::FilesFault;
+pub use headers::Told;
 pub use numbered::open_numbered_files;
 pub use opening::{Chains, open_chains};
 pub use plain::open_plain_files;

@@ -32,8 +32,8 @@ pub struct Chains {
 }
 
 /// Opens the log files of all workers, and gives the chains with which a recovery begins. It knows the checkpoints of the
-/// two slots. The numbered files are opened first. Plain files are opened only if a recovery may have to begin at
-/// generation 0. `watch` is told how far that is.
+/// two slots. The numbered files that count are opened first: of an older one that is not needed the header alone is read.
+/// Plain files are opened only if a recovery may have to begin at generation 0. `watch` is told how far that is.
 ///
 /// An error tells the worker with the file that was not opened, and why. Else it is one of these:
 ///
@@ -55,7 +55,7 @@ pub fn open_chains<D: Disk + Drop, W: Watch>(
     ensures ok { IfOk result (λ chains. OpensChains D.is_honest D.state D.failures (map (option_map view_of) checkpoints.now) files.old files.new chains) }
     ensures err { IfErr result (λ e. StopsChains D.is_honest D.state D.failures (map (option_map view_of) checkpoints.now) e files.old files.new) }
 {
-    let mut logs = open_numbered_files(alloc, files, watch)?;
+    let mut logs = open_numbered_files(alloc, files, checkpoints, watch)?;
     let generation = choose_from(alloc, files, &mut logs, checkpoints, watch)?;
     match chains_of(alloc, generation, logs) {
         Ok(chains) => Ok(chains),

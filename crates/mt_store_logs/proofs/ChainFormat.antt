@@ -11,7 +11,7 @@ use Rattle.mt_generations.{specs.{Chains.Chain, Standings.{Standing, joined, cha
 use Rattle.mt_recover.specs.{declared.resuming.LogSlot.LogSlot, declared.resuming.LogSlot.TheVariants.{Open, Failed, Closed, Away}, Limits.AreContents}
 use Rattle.mt_chains.specs.{declared.worker_logs.WorkerLogs.WorkerLogs, Files.{standing_of, numbered_log, SameNumbered}}
 use Rattle.mt_log_files.specs.{declared.worker.WorkerFiles.WorkerFiles, Slots.{disk_in, OpensPlain, OpensNumbered}}
-use Rattle.mt_chain_files.specs.{declared.opening.Chains.Chains, Numbered.{OpensWorker, OpensNumberedFiles}, Chosen.{ReadsPlain, OpensChains}}
+use Rattle.mt_chain_files.specs.{declared.headers.Told.Told, declared.opening.Chains.Chains, Numbered.{OpensFrom, OpensWorker, OpensNumberedFiles}, Chosen.{ReadsPlain, OpensChains}}
 use Rattle.mt_chain_files.proofs.{Loops.zip_count, Agreeing.agree_self, Lasts.as_many_chains}
 use Rattle.mt_store_logs.proofs.Loops.{get_within}
 
@@ -134,19 +134,25 @@ module _ {D : Type 0} (is_honest : D → Bool) (state : D → DiskState) (failur
   numbered_read parity None (Closed new) (Some read) o front there = absurd o
   numbered_read parity None Away (Some read) o front there = absurd o
 
-  -- a worker's numbered files were opened
-  worker_read : (old new : WorkerFiles D) (one : WorkerLogs) → OpensWorker is_honest state failures old new one → AreRead one
-  worker_read old new one o = record {
+  -- also if an older one was passed over
+  from_read : (from told : ℕ) (parity : Parity) (old new : LogSlot D) (found : Option Front) → OpensFrom is_honest state failures from told parity old new found
+      → IsNumberedLog found
+  from_read from told parity old new found (inl over) front there = absurd (no_some front (sym over.2 ∙ there))
+  from_read from told parity old new found (inr opens) front there = numbered_read parity (disk_in old) new found opens.1 front there
+
+  -- a worker's numbered files that count were opened
+  worker_read : (from : ℕ) (told : Told) (old new : WorkerFiles D) (one : WorkerLogs) → OpensWorker is_honest state failures from told old new one → AreRead one
+  worker_read from told old new one o = record {
     plain = λ front at. absurd (no_some front (sym (ap (λ (w : WorkerLogs). w.plain) o.read) ∙ at));
     numbered =
         subst (AllByRecursion IsNumberedLog) (sym (ap (λ (w : WorkerLogs). w.numbered) o.read))
-        (numbered_read Even (disk_in old.even) new.even o.even o.opens_even, (numbered_read Odd (disk_in old.odd) new.odd o.odd o.opens_odd, tt));
+        (from_read from told.even Even old.even new.even o.even o.opens_even, (from_read from told.odd Odd old.odd new.odd o.odd o.opens_odd, tt));
   }
 
   -- those of the worker at a place
-  first_read : (old between : List (WorkerFiles D)) (first : List WorkerLogs) → OpensNumberedFiles is_honest state failures old between first
+  first_read : (from : ℕ) (told : List Told) (old between : List (WorkerFiles D)) (first : List WorkerLogs) → OpensNumberedFiles is_honest state failures from told old between first
       → (k : ℕ) (one : WorkerLogs) → slice_get first k ≡ Some one → AreRead one
-  first_read old between first numbered k one there =
+  first_read from told old between first numbered k one there =
       let within = get_within first k one there in
       let count = numbered.count in
       let len = numbered.each.len in
@@ -154,15 +160,15 @@ module _ {D : Type 0} (is_honest : D → Bool) (state : D → DiskState) (failur
       let was = within_place old k below in
       let is = within_place between k (omega (arith, below, len)) in
       let r = numbered.each.each k was.0 is.0 below was.1 is.1 in
-      subst AreRead (same_Some r.0 one (sym r.1 ∙ there)) (worker_read was.0 is.0 r.0 r.2)
+      subst AreRead (same_Some r.0 one (sym r.1 ∙ there)) (worker_read from r.2.0 was.0 is.0 r.0 r.2.2)
 
   module _ (slots : Slots) where
     -- and the plain one, if it is needed
-    all_read : (old between new : List (WorkerFiles D)) (first logs : List WorkerLogs) → OpensNumberedFiles is_honest state failures old between first
+    all_read : (from : ℕ) (told : List Told) (old between new : List (WorkerFiles D)) (first logs : List WorkerLogs) → OpensNumberedFiles is_honest state failures from told old between first
         → ReadsPlain is_honest state failures slots between new first logs → (k : ℕ) (one : WorkerLogs) → slice_get logs k ≡ Some one → AreRead one
-    all_read old between new first logs numbered (inr unread) k one there =
-        first_read old between first numbered k one (subst (λ (l : List WorkerLogs). slice_get l k ≡ Some one) unread.2 there)
-    all_read old between new first logs numbered (inl read) k one there =
+    all_read from told old between new first logs numbered (inr unread) k one there =
+        first_read from told old between first numbered k one (subst (λ (l : List WorkerLogs). slice_get l k ≡ Some one) unread.2 there)
+    all_read from told old between new first logs numbered (inl read) k one there =
         let was = zip_right SameNumbered first logs k one read.2 there in
         let within = get_within first k was.0 was.1 in
         let count = numbered.count in
@@ -175,16 +181,17 @@ module _ {D : Type 0} (is_honest : D → Bool) (state : D → DiskState) (failur
         let same = same_Some p.0 one (sym p.1 ∙ there) in
         record {
           plain = subst (λ (w : WorkerLogs). IsPlainLog w.plain) same (plain_read (disk_in mid.0.plain) is.0.plain p.0.plain p.2.0);
-          numbered = subst (AllByRecursion IsNumberedLog) was.2 (first_read old between first numbered k was.0 was.1).numbered;
+          numbered = subst (AllByRecursion IsNumberedLog) was.2 (first_read from told old between first numbered k was.0 was.1).numbered;
         }
 
     module _ (old new : List (WorkerFiles D)) (chains : Chains) (opens : OpensChains is_honest state failures slots old new chains) where
       all_are : (f : Standing) → In f (map standing_of opens.reads.logs) → AreLogs f
       all_are f at =
           let r = opens.reads in
+          let n = r.numbered.counting in
           let one = map_in standing_of f r.logs at in
           let place = in_place one.0 r.logs one.1 in
-          subst AreLogs (sym one.2) (logs_are one.0 (all_read old r.between new r.first r.logs r.numbered r.plain place.0 one.0 place.1))
+          subst AreLogs (sym one.2) (logs_are one.0 (all_read n.from r.numbered.told n.before r.between new r.first r.logs n.opens r.plain place.0 one.0 place.1))
 
       are_from : AreFrom chains.generation (map standing_of opens.reads.logs) (map contents_of chains.fronts.items)
       are_from =

@@ -1,5 +1,5 @@
 -- What a worker's files may be, and what their places show, after another was put for one of them.
-use Rattle.std.proofs.Common.{◌≡◌, ⊎_elim, ℕ, ◌+◌, ◌≤◌, ◌%◌, ◌==◌, Bool, true, false, not, cond, refl, sym, ◌∙◌, ap, subst, arith}
+use Rattle.std.proofs.Common.{◌≡◌, ◌⊎◌, inl, inr, ⊎_elim, ℕ, ◌+◌, ◌≤◌, ◌%◌, ◌==◌, Bool, true, false, not, cond, refl, sym, ◌∙◌, ap, subst, arith}
 use Rattle.std.proofs.lemmas.Bool.{eq-eqb, ne_eqb, cases_eq}
 use Rattle.mt_disk.specs.Disk.{DiskState}
 use Rattle.mt_log_generations.specs.declared.header.Parity.TheVariants.{Even, Odd}
@@ -8,7 +8,7 @@ use Rattle.mt_log.specs.declared.reader.FileKind.TheVariants as kinds
 use Rattle.mt_crashes.specs.Stores.{LogNow}
 use Rattle.mt_recover.specs.declared.resuming.LogSlot.{LogSlot}
 use Rattle.mt_log_files.specs.{declared.worker.WorkerFiles.WorkerFiles, Slots.{file_of, with_file}}
-use Rattle.mt_log_files.specs.{Shows.{Shows, IsHonest}, Files.{FileNow, Has, ShowsFile}, Workers.AreFilesOf}
+use Rattle.mt_log_files.specs.{Shows.{Shows, IsHonest}, Files.{FileNow, Spare, Has, Rests, ShowsFile}, Workers.AreFilesOf}
 use Rattle.mt_chain_files.specs.Turns.{FilesNow, now_of, IsOfGeneration, AreOfTurn, ShowsPlain, ShowFiles}
 use Rattle.mt_store_logs.specs.Ends.{KeepsStart, KeepStarts}
 
@@ -94,8 +94,8 @@ even_next g file files none = ap (λ (n : ℕ). (with_now (n + 1) file files).ev
 -- ---- the files are those of a whole log
 
 pub first_of_turn : (g : ℕ) (now then : LogNow) (file : FileNow) (files : FilesNow) → AreOfTurn g now files → AreFilesOf g then file (now_of (g + 1) files)
-    → IsOfGeneration g file → AreOfTurn g then (with_now g file files)
-first_of_turn g now then file files turn are of =
+    → IsOfGeneration g file → (now_of (g + 1) files ≡ Spare) ⊎ Rests file → AreOfTurn g then (with_now g file files)
+first_of_turn g now then file files turn are of rests =
     let other = sym (next_stays g file files) in
     record {
       are = subst (λ (f : FileNow). AreFilesOf g then f (now_of (g + 1) (with_now g file files))) (sym (now_is g file files))
@@ -103,11 +103,12 @@ first_of_turn g now then file files turn are of =
       first = subst (IsOfGeneration g) (sym (now_is g file files)) of;
       next = subst (IsOfGeneration (g + 1)) other turn.next;
       no_other = λ none. even_first g file files none ∙ turn.no_other none;
+      rests = ⊎_elim (λ spare. inl (sym other ∙ spare)) (λ rest. inr (subst Rests (sym (now_is g file files)) rest)) rests;
     }
 
 pub next_of_turn : (g : ℕ) (now then : LogNow) (file : FileNow) (files : FilesNow) → AreOfTurn g now files → AreFilesOf g then (now_of g files) file
-    → IsOfGeneration (g + 1) file → AreOfTurn g then (with_now (g + 1) file files)
-next_of_turn g now then file files turn are of =
+    → IsOfGeneration (g + 1) file → Rests (now_of g files) → AreOfTurn g then (with_now (g + 1) file files)
+next_of_turn g now then file files turn are of rests =
     let other = sym (before_stays g file files) in
     record {
       are = subst (AreFilesOf g then (now_of g (with_now (g + 1) file files))) (sym (now_is (g + 1) file files))
@@ -115,6 +116,7 @@ next_of_turn g now then file files turn are of =
       first = subst (IsOfGeneration g) other turn.first;
       next = subst (IsOfGeneration (g + 1)) (sym (now_is (g + 1) file files)) of;
       no_other = λ none. even_next g file files none ∙ turn.no_other none;
+      rests = inr (subst Rests other rests);
     }
 
 -- ---- where their logs begin

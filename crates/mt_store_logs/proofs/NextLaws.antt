@@ -93,7 +93,8 @@ module _ {D : Type 0} (is_honest : D → Bool) (state : D → DiskState) where
           };
         };
         turn = next_of_turn g now now (Has (at_rest c)) files s.turn
-            (settled_files g now (now_of g files) c (subst (λ (f : FileNow). AreFilesOf g now f (MayHave c)) (sym first) are)) of_next;
+            (settled_files g now (now_of g files) c (subst (λ (f : FileNow). AreFilesOf g now f (MayHave c)) (sym first) are)) of_next
+            (subst Rests (sym first) (s.stands.is_end.doubt ∙ rests));
         shows = subst (ShowFiles is_honest state then) (sym places_new)
             (shows_with is_honest state (g + 1) (Has (at_rest c)) slot files old.log.files s.shows (has_in is_honest state (g + 1) (at_rest c) slot of_next honest shows));
         has = ap (λ (n : ℕ). now_of n then) of_new ∙ now_is (g + 1) (Has (at_rest c)) files;
@@ -107,8 +108,8 @@ module _ {D : Type 0} (is_honest : D → Bool) (state : D → DiskState) where
   next_replaced : (g : ℕ) (now : LogNow) (files : FilesNow) (file : FileNow) (slot : LogSlot D) (flag : Bool) (old new : StoreLog D) → In g now files old
       → old.log.generation ≡ g → TurnsTo old.log.generation (with_file (old.log.generation + 1) slot old.log.files) old.log new.log → new.kept ≡ old.kept
       → new.next_in_doubt ≡ flag → IsHonest is_honest slot × ShowsFile state (parity_of (old.log.generation + 1)) file slot → AreFilesOf g now (now_of g files) file
-      → IsOfGeneration (g + 1) file → (slot_of new ≡ slot_of old → IsNextFile flag now file new) → In g now (with_now (g + 1) file files) new
-  next_replaced g now files file slot flag old new s of turns kept told shows are of_file next =
+      → IsOfGeneration (g + 1) file → (slot_of new ≡ slot_of old → IsNextFile flag now file new) → now.doubt ≡ None → In g now (with_now (g + 1) file files) new
+  next_replaced g now files file slot flag old new s of turns kept told shows are of_file next rests =
       let last = s.stands.last in
       let of_new : new.log.generation ≡ g = ap (λ (l : WorkerLog D). l.generation) turns ∙ of in
       let places_new : new.log.files ≡ with_file (g + 1) slot old.log.files = ap (λ (l : WorkerLog D). l.files) turns ∙ ap (λ (n : ℕ). with_file (n + 1) slot old.log.files) of in
@@ -127,7 +128,7 @@ module _ {D : Type 0} (is_honest : D → Bool) (state : D → DiskState) where
             waits = subst (WaitsIn last) (sym kept) s.stands.stands.waits;
           };
         };
-        turn = next_of_turn g now now file files s.turn are of_file;
+        turn = next_of_turn g now now file files s.turn are of_file (subst Rests (sym (first_is g now files old s of)) (s.stands.is_end.doubt ∙ rests));
         shows = subst (ShowFiles is_honest state then) (sym places_new)
             (shows_with is_honest state (g + 1) file slot files old.log.files s.shows (in_numbered is_honest state (g + 1) file slot (no_zero g) shows_so));
         has = ap (λ (n : ℕ). now_of n then) of_new ∙ before_stays g file files ∙ first_is g now files old s of;
@@ -183,7 +184,7 @@ module _ {D : Type 0} (is_honest : D → Bool) (state : D → DiskState) where
         (λ may. subst (λ (f : FileNow). KeepsStart f Spare) (sym may.1) (keeps_none may.0))
         unsure.2.may in (
           with_now (g + 1) Spare files,
-          next_replaced g now files Spare finds.slot false old new s unsure.0 finds.stands kept sure (o.1, shows) are tt (λ same. refl),
+          next_replaced g now files Spare finds.slot false old new s unsure.0 finds.stands kept sure (o.1, shows) are tt (λ same. refl) unsure.2.rests,
           keep_with (g + 1) Spare files keeps,
           kept,
           sure,
@@ -215,7 +216,7 @@ module _ {D : Type 0} (is_honest : D → Bool) (state : D → DiskState) where
         let next : slot_of new ≡ slot_of old → MayHaveNext now file new = λ same.
         record { shut = ap mark_in same ∙ unsure.2.shut; rests = unsure.2.rests; may = unsure.2.may } in (
           with_now (g + 1) file files,
-          next_replaced g now files file finds.slot true old new s unsure.0 finds.stands looks.1.kept looks.1.doubts (f.0, f.1) s.turn.are s.turn.next next,
+          next_replaced g now files file finds.slot true old new s unsure.0 finds.stands looks.1.kept looks.1.doubts (f.0, f.1) s.turn.are s.turn.next next unsure.2.rests,
           keep_with (g + 1) file files (keeps_same file),
           look_refusal is_honest state failures parity e (disk_in (next_of old.log)) finds.slot f.2 finds.fails,
         )
@@ -357,7 +358,7 @@ module _ {D : Type 0} (is_honest : D → Bool) (state : D → DiskState) where
         let slot_new : Closed disk ≡ slot_of new =
         sym ((λ i. file_of (of_new i) (places_new i)) ∙ places.file_is g (Closed disk) (with_file (g + 1) slot old.log.files)) in
         let are = subst (λ (f : FileNow). AreFilesOf g now f (MayHave c)) (sym first) is.are in
-        let turn = next_of_turn g now now (MayHave c) files s.turn are is.of in
+        let turn = next_of_turn g now now (MayHave c) files s.turn are is.of (subst Rests (sym first) (s.stands.is_end.doubt ∙ is.rests)) in
         let next_is : now_of (g + 1) then ≡ MayHave c = next_stays g (Has last) mid ∙ now_is (g + 1) (MayHave c) files in (
           then,
           record {
@@ -371,7 +372,8 @@ module _ {D : Type 0} (is_honest : D → Bool) (state : D → DiskState) where
                 waits = subst (WaitsIn last) (sym b.kept) s.stands.stands.waits;
               };
             };
-            turn = first_of_turn g now now (Has last) mid turn (subst (AreFilesOf g now (Has last)) (sym (now_is (g + 1) (MayHave c) files)) is.are) (s.stands.of ∙ of);
+            turn = first_of_turn g now now (Has last) mid turn (subst (AreFilesOf g now (Has last)) (sym (now_is (g + 1) (MayHave c) files)) is.are) (s.stands.of ∙ of)
+                (inr (s.stands.is_end.doubt ∙ is.rests));
             shows = subst (ShowFiles is_honest state then) (sym places_new)
                 (shows_with is_honest state g (Has last) (Closed disk) mid (with_file (g + 1) slot old.log.files)
                 (shows_with is_honest state (g + 1) (MayHave c) slot files old.log.files s.shows (in_numbered is_honest state (g + 1) (MayHave c) slot (no_zero g) may))

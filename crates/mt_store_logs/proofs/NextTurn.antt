@@ -75,6 +75,7 @@ turn_before g now last files turn has spare =
       first = subst (IsOfGeneration g) (sym first) tt;
       next = subst (IsOfGeneration (g + 1)) (sym next) turn.first;
       no_other = λ none. even_first g Spare files none ∙ sym (ap (λ (n : ℕ). now_of (n + 1 + 1) files) none) ∙ spare;
+      rests = inr (subst Rests (sym first) tt);
     }
 
 module _ {D : Type 0} (is_honest : D → Bool) (state : D → DiskState) where

@@ -74,7 +74,7 @@ module _ {D : Type 0} (is_honest : D → Bool) (state : D → DiskState) where
             waits = subst (WaitsIn last) (sym kept) s.stands.stands.waits;
           };
         };
-        turn = first_of_turn g now now file files s.turn are of_file;
+        turn = first_of_turn g now now file files s.turn are of_file (inr rests);
         shows = subst (ShowFiles is_honest state then) (sym places_new) (shows_with is_honest state g file slot files old.log.files s.shows shows);
         has = ap (λ (n : ℕ). now_of n then) of_new ∙ next_stays g file files ∙ ap (λ (n : ℕ). now_of n files) (sym of) ∙ s.has;
         in_turn = inr (of_new, flag ∙ is.1, subst Rests (sym (now_is g file files)) rests);

@@ -6,9 +6,9 @@ use Rattle.mt_crashes.{specs.{Bases.Slots}, proofs.Invariant.within_place}
 use Rattle.mt_generations.specs.{Standings.{Standing, AgreeFrom, IsLast, HaveNoChoice}}
 use Rattle.mt_chains.specs.declared.worker_logs.WorkerLogs.{WorkerLogs}
 use Rattle.mt_log_files.specs.declared.worker.WorkerFiles.{WorkerFiles}
-use Rattle.mt_chain_files.specs.{declared.fault.FilesFault.FilesFault, Numbered.{StopsNumberedAt}, Plain.{StopsPlainFilesAt}}
+use Rattle.mt_chain_files.specs.{declared.fault.FilesFault.FilesFault, Plain.{StopsPlainFilesAt}}
 use Rattle.mt_chain_files.specs.Chosen.{RefuseToBegin, ReadsPlain, ReadsFiles, StopsChains}
-use Rattle.mt_chain_files.proofs.Loops.{written}
+use Rattle.mt_chain_files.proofs.{Loops.written, Agreeing.{count_numbered, count_not_numbered}}
 use Rattle.mt_store_logs.specs.{declared.store_log.StoreLog.StoreLog, Lists.Each, Taking.{IsEmptied, HaveTheirFiles, StopsOpening}}
 use Rattle.mt_store_logs.proofs.Loops.{get_within}
 use Rattle.mt_rows.specs.declared.refusal.Refusal.TheVariants as refusals
@@ -67,15 +67,11 @@ module _ {D : Type 0} (is_honest : D → Bool) (state : D → DiskState) (failur
   count_plain between new first logs (inr unread) = ap length unread.1
 
   count_read : (old new : List (WorkerFiles D)) → ReadsFiles is_honest state failures slots old new → length new ≡ length old
-  count_read old new r = count_plain r.between new r.first r.logs r.plain ∙ r.numbered.each.len
+  count_read old new r = count_plain r.between new r.first r.logs r.plain ∙ count_numbered is_honest state failures slots old r.between r.first r.numbered
 
   pub count_stops : (e : FilesFault) (old new : List (WorkerFiles D)) → StopsChains is_honest state failures slots e old new → length new ≡ length old
-  count_stops e old new (inl numbered) = by e.log numbered
-    where
-      by : (place : Option ℕ) → StopsNumberedAt is_honest state failures place e.refusal old new → length new ≡ length old
-      by None stops = ap length stops.1
-      by (Some place) stops = stops.len
-  count_stops e old new (inr (inl plain)) = by e.log plain.plain.1 ∙ plain.numbered.each.len
+  count_stops e old new (inl numbered) = count_not_numbered is_honest state failures slots e old new numbered
+  count_stops e old new (inr (inl plain)) = by e.log plain.plain.1 ∙ count_numbered is_honest state failures slots old plain.between plain.first plain.numbered
     where
       by : (place : Option ℕ) → StopsPlainFilesAt is_honest state failures place e.refusal plain.between new → length new ≡ length plain.between
       by None stops = absurd stops
@@ -103,7 +99,18 @@ module _ {D : Type 0} (is_honest : D → Bool) (state : D → DiskState) (failur
       reads = record {
         between = [];
         first = [];
-        numbered = record { count = refl; each = record { len = refl; each = λ k was is below. absurd (omega (arith, below)) } };
+        numbered = record {
+          told = [];
+          looked = [];
+          looks = record { count = refl; each = record { len = refl; each = λ k was is below. absurd (omega (arith, below)) } };
+          counting = record {
+            from = 0;
+            before = [];
+            comes = inr (refl, ([], record { count = refl; each = record { len = refl; each = λ k was is below. absurd (omega (arith, below)) } }, no_choice));
+            opens = record { count = refl; each = record { len = refl; each = λ k was is below. absurd (omega (arith, below)) } };
+            enough = inl (omega arith);
+          };
+        };
         logs = [];
         plain = inr (λ need. ⊎_elim (λ never. never 0 (λ f at. absurd at)) (λ last. no_last 1 last.0) need, refl, refl);
       };

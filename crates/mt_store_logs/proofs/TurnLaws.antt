@@ -102,8 +102,8 @@ module _ {D : Type 0} (is_honest : D → Bool) (state : D → DiskState) where
   turn_with : (at : Bool) (g : ℕ) (now next last : LogNow) (files : FilesNow) (log : StoreLog D) → AreOfTurn g now files → IsAt at g files log
       → last.had.generation ≡ log.log.generation → AreWith at g next (now_of g files) (Has last) → AreOfTurn g next (then_in at g last files)
   turn_with false g now next last files log turn is of are =
-      first_of_turn g now next (Has last) files turn (subst (AreFilesOf g next (Has last)) (sym is.2) are) (of ∙ is.0)
-  turn_with true g now next last files log turn is of are = next_of_turn g now next (Has last) files turn are (of ∙ is.0)
+      first_of_turn g now next (Has last) files turn (subst (AreFilesOf g next (Has last)) (sym is.2) are) (of ∙ is.0) (inl is.2)
+  turn_with true g now next last files log turn is of are = next_of_turn g now next (Has last) files turn are (of ∙ is.0) is.2
 
   -- the files, and what their places show
   pub files_with : {Does : LastLog D → LastLog D → Type 0} (at : Bool) (g : ℕ) (now whole last : LogNow) (files : FilesNow) (old new : StoreLog D)

@@ -8,6 +8,6 @@ invariant-loop-place g l = record {
   len : length l.files ≡ length l.initial.files;
   room : length l.initial.files ≤ vec_capacity l.logs;
   count : length l.logs.items ≡ l.place;
-  before : EachBefore (OpensWorkerAs g.D.Disk.is_honest g.D.Disk.state g.D.Disk.failures l.logs.items) l.place l.initial.files l.files;
+  before : EachBefore (OpensWorkerAs g.D.Disk.is_honest g.D.Disk.state g.D.Disk.failures l.from l.told l.logs.items) l.place l.initial.files l.files;
   left : (k : ℕ) → l.place ≤ k → slice_get l.files k ≡ slice_get l.initial.files k;
 }

@@ -15,12 +15,12 @@ returns-in_err-generation-clause-err g c =
     let slots = map (option_map view_of) c.args.checkpoints.now in
     rw (p.1, p.2)
     (stops_chosen g.D.Disk.is_honest g.D.Disk.state g.D.Disk.failures slots c.args.files.now c.open_numbered_files.new.files c.choose_from.new.files c.deref_mut.result.now c.choose_from.new.logs
-    c.requires.some (first_read g.D.Disk.is_honest g.D.Disk.state g.D.Disk.failures c.args.files.now c.open_numbered_files.new.files c.in_ok-logs.logs.items c.deref_mut.result.now (sym c.deref_mut.ensures.value) c.in_ok-logs.ensures.ok) c.in_err-generation.field-0.0 c.in_err-generation.ensures.err)
+    c.requires.some (first_read g.D.Disk.is_honest g.D.Disk.state g.D.Disk.failures (map (option_map view_of) c.args.checkpoints.now) c.args.files.now c.open_numbered_files.new.files c.in_ok-logs.logs.items c.deref_mut.result.now (sym c.deref_mut.ensures.value) c.in_ok-logs.ensures.ok) c.in_err-generation.field-0.0 c.in_err-generation.ensures.err)
 
 pub returns-in-Ok-clause-ok : goal.returns-in-Ok-clause-ok
 returns-in-Ok-clause-ok g c =
     opens_chosen g.D.Disk.is_honest g.D.Disk.state g.D.Disk.failures (map (option_map view_of) c.args.checkpoints.now) c.args.files.now c.open_numbered_files.new.files c.choose_from.new.files
-    c.deref_mut.result.now c.choose_from.new.logs c.requires.some (first_read g.D.Disk.is_honest g.D.Disk.state g.D.Disk.failures c.args.files.now c.open_numbered_files.new.files c.in_ok-logs.logs.items c.deref_mut.result.now (sym c.deref_mut.ensures.value) c.in_ok-logs.ensures.ok) c.in-Ok.chains
+    c.deref_mut.result.now c.choose_from.new.logs c.requires.some (first_read g.D.Disk.is_honest g.D.Disk.state g.D.Disk.failures (map (option_map view_of) c.args.checkpoints.now) c.args.files.now c.open_numbered_files.new.files c.in_ok-logs.logs.items c.deref_mut.result.now (sym c.deref_mut.ensures.value) c.in_ok-logs.ensures.ok) c.in-Ok.chains
     c.in_ok-generation.ensures.ok.0
     (subst (λ n. BeginAt (map standing_of c.choose_from.new.logs) (map (option_map view_of) c.args.checkpoints.now) n) (sym c.in-Ok.ensures.generation) c.in_ok-generation.ensures.ok.1)
     (subst (λ logs. AreFrom c.in-Ok.chains.generation (map standing_of logs) (map contents_of c.in-Ok.chains.fronts.items))
@@ -32,4 +32,4 @@ returns-in-Ok-clause-ok g c =
 pub returns-in-Err-clause-err : goal.returns-in-Err-clause-err
 returns-in-Err-clause-err g c =
     stops_for_memory g.D.Disk.is_honest g.D.Disk.state g.D.Disk.failures (map (option_map view_of) c.args.checkpoints.now) c.args.files.now c.open_numbered_files.new.files c.choose_from.new.files
-    c.deref_mut.result.now c.choose_from.new.logs c.requires.some (first_read g.D.Disk.is_honest g.D.Disk.state g.D.Disk.failures c.args.files.now c.open_numbered_files.new.files c.in_ok-logs.logs.items c.deref_mut.result.now (sym c.deref_mut.ensures.value) c.in_ok-logs.ensures.ok) c.of_all.result c.in_ok-generation.ensures.ok.0 c.of_all.ensures
+    c.deref_mut.result.now c.choose_from.new.logs c.requires.some (first_read g.D.Disk.is_honest g.D.Disk.state g.D.Disk.failures (map (option_map view_of) c.args.checkpoints.now) c.args.files.now c.open_numbered_files.new.files c.in_ok-logs.logs.items c.deref_mut.result.now (sym c.deref_mut.ensures.value) c.in_ok-logs.ensures.ok) c.of_all.result c.in_ok-generation.ensures.ok.0 c.of_all.ensures
