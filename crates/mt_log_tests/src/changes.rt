@@ -4,7 +4,7 @@ ghost use Rattle.std.specs.{Prelude.{◌≡◌, ◌≤◌, ◌^◌}, List.All};
 ghost use Rattle.mt_rows.specs.Commands.{IsKey};
 ghost use Rattle.mt_tape.specs.Tapes.{last_write};
 
-use crate::slots::{Rows, Walk, change_of, key_of, row_of};
+use crate::slots::{Rows, change_of, key_of, row_of};
 use mt_drains::{DrainedBatch, batch_after};
 use mt_rows::{Change, Row, StampedRow};
 use mt_store_logs::Source;
@@ -95,22 +95,6 @@ impl History {
             }
         }
         rows
-    }
-
-    /// The checkpoint of a walk that begins and ends now. It shows what was placed here.
-    pub fn walk(&self) -> Walk {
-        let (mut rows, mut stamps) = ([0; 8], [0; 8]);
-        for place in 0..8 {
-            let (stamp, byte) = self.standing[place];
-            rows[place] = byte;
-            stamps[place] = stamp;
-        }
-        Walk {
-            first: self.steps,
-            last: self.steps,
-            rows,
-            stamps,
-        }
     }
 }
 

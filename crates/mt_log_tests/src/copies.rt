@@ -12,7 +12,7 @@ use std::slice;
 
 // A batch that is appended to a log.
 #[derive(Clone, Copy, Debug)]
-enum Part {
+pub enum Part {
     // What its worker placed since its mark, up to a step.
     UpTo(u64),
     // A resume batch up to a step, and the step that it keeps.
@@ -24,7 +24,7 @@ enum Part {
 type Case = ([&'static [Part]; 3], Result<u64, (u8, u64)>);
 
 // The first recovery found a log that ended at 5, and the store went on from 8.
-const WHOLE: &[Part] = &[UpTo(6), Resume(8, 5), UpTo(9)];
+pub const WHOLE: &[Part] = &[UpTo(6), Resume(8, 5), UpTo(9)];
 
 const RESUMED: &[Part] = &[UpTo(6), Resume(8, 5)];
 
@@ -124,7 +124,8 @@ fn placed() -> [Change; 5] {
     [put(1, 0), put(2, 1), put(3, 2), put(9, 0), put(13, 2)]
 }
 
-fn put(stamp: u64, worker: u8) -> Change {
+/// A put of a worker's, of its own key.
+pub fn put(stamp: u64, worker: u8) -> Change {
     Change {
         stamp,
         worker,
@@ -134,9 +135,15 @@ fn put(stamp: u64, worker: u8) -> Change {
     }
 }
 
-fn append_part(alloc: Global, log: &mut Log, worker: u8, part: Part) -> Result<(), Refusal> {
+fn append_part(
+    alloc: Global,
+    log: &mut Log,
+    placed: &[Change],
+    worker: u8,
+    part: Part,
+) -> Result<(), Refusal> {
     match part {
-        UpTo(to) => append(alloc, log, &placed(), worker, to),
+        UpTo(to) => append(alloc, log, placed, worker, to),
         Resume(resume, cutoff) => {
             let recovered = Recovered {
                 cutoff,
@@ -149,13 +156,13 @@ fn append_part(alloc: Global, log: &mut Log, worker: u8, part: Part) -> Result<(
     }
 }
 
-// The log of a worker, with these parts.
-fn log_of(alloc: Global, worker: u8, parts: &[Part]) -> Result<Log, Refusal>
+/// The log of a worker, with these parts of what was placed.
+pub fn log_of(alloc: Global, placed: &[Change], worker: u8, parts: &[Part]) -> Result<Log, Refusal>
     requires { worker < 3 }
 {
     let mut log = new_log(MemDisk::new(alloc, Vec::new(alloc), None), worker, 3)?;
     for part in parts {
-        append_part(alloc, &mut log, worker, *part)?;
+        append_part(alloc, &mut log, placed, worker, *part)?;
     }
     Ok(log)
 }
@@ -164,7 +171,7 @@ fn log_of(alloc: Global, worker: u8, parts: &[Part]) -> Result<Log, Refusal>
 fn cutoff_of(alloc: Global, store: [&[Part]; 3]) -> Result<u64, Refusal> {
     let mut logs = Vec::new(alloc);
     for worker in 0..3 {
-        logs.push(log_of(alloc, worker, store[usize::from(worker)])?)?;
+        logs.push(log_of(alloc, &placed(), worker, store[usize::from(worker)])?)?;
     }
     let recovered = recover_over(alloc, &mut logs, [None, None], 8)?;
     Ok(recovered.cutoff)

@@ -1,93 +1,62 @@
 //! Cuts of a disk on a file of a system whose calls fail: what was written past the new end is let go, and nothing else.
 
-use self::Act::{Makes, Tries};
-use self::Call::{Cut, DropCache, Sync, Write};
+use crate::flushes::words_of;
 use mt_disk::{CachedDisk, Disk, MemFile};
 use std::alloc::{AllocError, Global};
 use std::test::Fail;
-
-// A call of a disk.
-#[derive(Clone, Copy, Debug)]
-enum Call {
-    Write(usize, &'static [u8]),
-    Cut(usize),
-    Sync,
-    DropCache,
-}
-
-// What is done: a call is tried once, or made again until it succeeds.
-#[derive(Clone, Copy, Debug)]
-enum Act {
-    Tries(Call),
-    Makes(Call),
-}
 
 // What is durable at first, and so many calls may fail.
 const BEFORE: &[u8] = b"abcdef";
 
 const CALLS: u64 = 12;
 
-// What is done, and what is durable in the end, whichever of the calls fail.
-const ROWS: [(&[Act], &[u8]); 4] = [
-    (
-        &[
-            Tries(Write(6, b"ghij")),
-            Makes(Cut(6)),
-            Makes(Write(6, b"XY")),
-            Makes(Sync),
-        ],
-        b"abcdefXY",
-    ),
-    (
-        &[
-            Makes(Write(6, b"ghij")),
-            Tries(Write(10, b"kl")),
-            Makes(Cut(8)),
-            Makes(Sync),
-        ],
-        b"abcdefgh",
-    ),
-    (&[Makes(Cut(3)), Tries(Sync), Makes(DropCache)], b"abc"),
-    (
-        &[
-            Makes(Write(0, b"A")),
-            Makes(Cut(4)),
-            Makes(Cut(2)),
-            Makes(DropCache),
-        ],
-        b"Ab",
-    ),
+// What is done, and what is durable in the end, whichever of the calls fail. A call is tried once, or made again until it
+// succeeds.
+const ROWS: [(&str, &[u8]); 4] = [
+    ("try write 6 ghij, cut 6, write 6 XY, sync", b"abcdefXY"),
+    ("write 6 ghij, try write 10 kl, cut 8, sync", b"abcdefgh"),
+    ("cut 3, try sync, drop_cache", b"abc"),
+    ("write 0 A, cut 4, cut 2, drop_cache", b"Ab"),
 ];
 
+fn number(text: &str) -> usize {
+    text.parse().unwrap_or(usize::MAX)
+}
+
 // Whether a call succeeds.
-fn succeeds(disk: &mut CachedDisk<MemFile>, call: Call) -> bool {
+fn succeeds(disk: &mut CachedDisk<MemFile>, call: &[&str]) -> bool {
     match call {
-        Write(at, bytes) => disk.write_at(at, bytes).is_ok(),
-        Cut(len) => disk.cut(len).is_ok(),
-        Sync => disk.sync().is_ok(),
-        DropCache => disk.drop_cache().is_ok(),
+        ["write", at, bytes] => disk.write_at(number(at), bytes.as_bytes()).is_ok(),
+        ["cut", len] => disk.cut(number(len)).is_ok(),
+        ["sync"] => disk.sync().is_ok(),
+        ["drop_cache"] => disk.drop_cache().is_ok(),
+        _ => false,
     }
 }
 
-fn done(disk: &mut CachedDisk<MemFile>, act: Act) -> bool {
-    match act {
-        Tries(call) => {
-            let _ = succeeds(disk, call);
-            true
+// Whether an act is done. At most two calls fail.
+fn done(alloc: Global, disk: &mut CachedDisk<MemFile>, act: &str) -> Result<bool, AllocError> {
+    let (tries, call) = match act.strip_prefix("try ") {
+        Some(call) => (1, call),
+        None => (3, act),
+    };
+    let call = words_of(alloc, call)?;
+    for _ in 0..tries {
+        if succeeds(disk, &call) {
+            return Ok(true);
         }
-        // At most two calls fail.
-        Makes(call) => succeeds(disk, call) || succeeds(disk, call) || succeeds(disk, call),
     }
+    Ok(tries == 1)
 }
 
 // Whether this is durable after the acts, on a file of which two calls fail. The first call finds the file.
-fn leaves(alloc: Global, acts: &[Act], fails: [u64; 2], want: &[u8]) -> Result<bool, AllocError> {
+fn leaves(alloc: Global, acts: &str, fails: [u64; 2], want: &[u8]) -> Result<bool, AllocError> {
     let file = MemFile::new(alloc, BEFORE.to_vec(alloc)?, fails.to_vec(alloc)?)?;
     let Ok(mut disk) = CachedDisk::found(alloc, file) else {
         return Ok(false);
     };
-    for one in acts {
-        if !done(&mut disk, *one) {
+    for act in acts.split(", ") {
+        if !done(alloc, &mut disk, act)? {
             return Ok(false);
         }
     }
@@ -97,11 +66,11 @@ fn leaves(alloc: Global, acts: &[Act], fails: [u64; 2], want: &[u8]) -> Result<b
 #[test]
 fn a_cut_lets_go_of_what_it_cuts_off_alone(rt: HostRuntime) -> Result<(), Fail> {
     let alloc = rt.alloc();
-    for (place, (acts, want)) in ROWS.iter().enumerate() {
+    for (acts, want) in ROWS {
         for first in 2..CALLS {
             for second in 2..CALLS {
                 let fails = [first, second];
-                assert!(rt; leaves(alloc, acts, fails, want)?, "{place}, {fails:?}");
+                assert!(rt; leaves(alloc, acts, fails, want)?, "{acts}: {fails:?}");
             }
         }
     }

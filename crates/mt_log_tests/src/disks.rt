@@ -63,10 +63,8 @@ fn a_crash_leaves_what_is_durable_and_tears_the_rest(rt: HostRuntime) -> Result<
         let (image, fails) = (b"abcd".to_vec(alloc)?, [fail, other].to_vec(alloc)?);
         let mut disk = MemDisk::with_image(alloc, image, fails, Some(stop))?;
         call_all(&mut disk, calls);
-        assert!(rt;
-            disk.image() == read.as_bytes() && leaves(&disk, line),
-            "after {calls}, {fail} and {other} failing, stopped at {stop}"
-        );
+        let is_left = disk.image() == read.as_bytes() && leaves(&disk, line);
+        assert!(rt; is_left, "{calls}, {fail} and {other} failing, {stop}");
     }
     Ok(())
 }
@@ -100,17 +98,11 @@ fn a_crash_ends_a_stop_and_keeps_the_plan(rt: HostRuntime) -> Result<(), Fail> {
     // A stop that came is over; one to come stays.
     for (stop, letters) in [(1, "y.yy"), (2, "...."), (4, "y..."), (9, "y.yy")] {
         let mut disk = crashed(alloc, stop)?;
-        assert!(rt;
-            disk.image() == b"a??d".as_slice()
-                && disk.may_leave(b"a??d")
-                && !disk.may_leave(b"abcd")
-                && disk.calls() == 1,
-            "stopped at {stop}"
-        );
-        assert!(rt;
-            goes_well(&mut disk, letters.as_bytes()) && disk.calls() == 5,
-            "stopped at {stop}"
-        );
+        let is_found = disk.image() == b"a??d".as_slice() && disk.may_leave(b"a??d");
+        assert!(rt; is_found && !disk.may_leave(b"abcd"), "stopped at {stop}");
+        assert!(rt; disk.calls() == 1, "stopped at {stop}");
+        let goes_well = goes_well(&mut disk, letters.as_bytes());
+        assert!(rt; goes_well && disk.calls() == 5, "stopped at {stop}");
     }
     Ok(())
 }
@@ -188,22 +180,11 @@ fn mark_of_many(alloc: Global, disk: FileDisk) -> u64 {
     }
 }
 
-// What is tried with a file that may be written.
-#[derive(Clone, Copy, Debug)]
-enum Try {
-    Disk,
-    MadeLog,
-    OpenedLog,
-}
-
-// Whether it comes out as it should.
-fn comes_out(alloc: Global, file: File, it: Try) -> io::Result<bool> {
-    let mut disk = found(alloc, file)?;
-    Ok(match it {
-        Try::Disk => keeps_what_is_written(&mut disk),
-        Try::MadeLog => mark_of_many(alloc, disk) == 1_000,
-        Try::OpenedLog => opened_on(alloc, disk).1 == Told::Front(1_000, 1_000),
-    })
+// A disk on a file that may be written, which is made if it isn't there.
+fn writable(rt: &HostRuntime, alloc: Global, path: &str) -> io::Result<FileDisk> {
+    let mut options = File::options();
+    options.read(true).write(true).create(true);
+    found(alloc, options.open(rt, path)?)
 }
 
 // Whether a file that was opened for reading alone is read, and not written.
@@ -219,15 +200,12 @@ fn a_file_keeps_what_was_written(rt: HostRuntime) -> Result<(), Fail> {
     let (folder, path) = ("mt_log_tests_files", "mt_log_tests_files/wal-02");
     let _ = fs::remove_dir_all(&rt, folder);
     fs::create_dir(&rt, folder)?;
+    assert!(rt; keeps_what_is_written(&mut writable(&rt, alloc, path)?));
+    assert!(rt; is_read_alone(alloc, File::open(&rt, path)?)?);
     // The log takes the disk's place.
-    for it in [Try::Disk, Try::MadeLog, Try::OpenedLog] {
-        let mut options = File::options();
-        options.read(true).write(true).create(true);
-        assert!(rt; comes_out(alloc, options.open(&rt, path)?, it)?, "{it:?}");
-        if let Try::Disk = it {
-            assert!(rt; is_read_alone(alloc, File::open(&rt, path)?)?);
-        }
-    }
+    assert!(rt; mark_of_many(alloc, writable(&rt, alloc, path)?) == 1_000);
+    let (_disk, told) = opened_on(alloc, writable(&rt, alloc, path)?);
+    assert!(rt; told == Told::Front(1_000, 1_000));
     fs::remove_dir_all(&rt, folder)?;
     Ok(())
 }

@@ -26,21 +26,6 @@ fn left(alloc: Global, disk: &CachedDisk<MemFile>) -> Result<Option<u64>, AllocE
     }
 }
 
-// The disk with which the next round begins.
-fn next_disk(
-    alloc: Global,
-    disk: CachedDisk<MemFile>,
-    after: After,
-) -> Result<CachedDisk<MemFile>, MemFile> {
-    if after == After::GoesOn {
-        return Ok(disk);
-    }
-    match CachedDisk::found(alloc, disk.into_file()) {
-        Ok(disk) => Ok(disk),
-        Err((_, file)) => Err(file),
-    }
-}
-
 // The disk of a file, found at the first call that does not fail.
 fn found_at_last(alloc: Global, file: MemFile) -> Option<CachedDisk<MemFile>> {
     let mut file = file;
@@ -67,13 +52,14 @@ fn keeps_acknowledged(alloc: Global, fails: Vec<u64>, after: After) -> Result<bo
         if left(alloc, &now)?.is_none_or(|kept| kept < acknowledged) {
             return Ok(false);
         }
-        disk = match next_disk(alloc, now, after) {
-            Ok(disk) => disk,
-            Err(file) => match found_at_last(alloc, file) {
-                Some(disk) => disk,
-                None => return Ok(false),
-            },
+        let next = match after {
+            After::GoesOn => Some(now),
+            After::Restarts => found_at_last(alloc, now.into_file()),
         };
+        let Some(next) = next else {
+            return Ok(false);
+        };
+        disk = next;
     }
     Ok(acknowledged == 3 && left(alloc, &disk)? == Some(3))
 }
@@ -91,20 +77,12 @@ fn failing(alloc: Global, first: u64, more: &[u64]) -> Result<Vec<u64>, AllocErr
 #[test]
 fn a_failed_sync_loses_nothing_acknowledged(rt: HostRuntime) -> Result<(), Fail> {
     let alloc = rt.alloc();
-    for more in [
-        [].as_slice(),
-        [1].as_slice(),
-        [1, 2, 3, 4, 5].as_slice(),
-        [2, 5].as_slice(),
-        [7, 8].as_slice(),
-    ] {
+    for more in [&[][..], &[1], &[1, 2, 3, 4, 5], &[2, 5], &[7, 8]] {
         for first in 1..24 {
             for after in [After::GoesOn, After::Restarts] {
                 let fails = failing(alloc, first, more)?;
-                assert!(rt;
-                    keeps_acknowledged(alloc, fails, after)?,
-                    "{first} {more:?} {after:?}"
-                );
+                let is_kept = keeps_acknowledged(alloc, fails, after)?;
+                assert!(rt; is_kept, "{first} {more:?} {after:?}");
             }
         }
     }

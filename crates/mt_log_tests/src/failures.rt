@@ -1,7 +1,7 @@
 //! Each call of a disk failing, alone and with a later one.
 
 use crate::slots::{Rows, rows_of, unless_device};
-use crate::stores::{Failures, Store};
+use crate::stores::{Failures, NONE, Store};
 use mt_rows::Refusal;
 use std::alloc::Global;
 use std::process::Abort;
@@ -76,7 +76,7 @@ fn expect_all_kept(rt: &impl Abort, alloc: Global, first: u64, second: u64) {
                 disk,
                 first,
                 second,
-                stop: 0,
+                ..NONE
             };
             expect_kept(rt, alloc, failures, false);
             expect_kept(rt, alloc, failures, true);

@@ -3,9 +3,10 @@
 
 ghost use Rattle.std.specs.Prelude.{◌≡◌};
 
-use crate::logs::{EMPTY, Told, append, disk_with, not_opened, opened};
-use mt_disk::MemDisk;
-use mt_log::{Front, LogFile};
+use crate::copies::put;
+use crate::logs::{EMPTY, Told, disk_with, not_opened, opened};
+use crate::slots::{Log, append};
+use mt_log::LogFile;
 use mt_log_files::{begin, give_up, open_numbered, open_slot, take_disk};
 use mt_log_generations::{Header, Parity};
 use mt_recover::{LogSlot, cutoff};
@@ -35,12 +36,12 @@ enum Found {
 }
 
 // The place of a file with these bytes, one call of whose disk fails.
-fn place_with(alloc: Global, image: &[u8], fail: u64) -> Result<LogSlot<MemDisk>, AllocError> {
+fn place_with(alloc: Global, image: &[u8], fail: u64) -> Result<Log, AllocError> {
     Ok(LogSlot::Closed(disk_with(alloc, image, fail, 99)?))
 }
 
-fn found_of(told: Result<Option<Front>, Refusal>) -> Found {
-    match told {
+fn find(alloc: Global, slot: &mut Log, parity: Parity) -> Found {
+    match open_numbered(alloc, slot, parity) {
         Ok(Some(front)) => Found::Log(front.generation, front.start, front.batches.len()),
         Ok(None) => Found::NoLog,
         Err(Refusal::BadLog { number, offset }) => Found::Bad(number, offset),
@@ -48,53 +49,29 @@ fn found_of(told: Result<Option<Front>, Refusal>) -> Found {
     }
 }
 
-// What a place's file has.
-fn image_of(alloc: Global, slot: &mut LogSlot<MemDisk>) -> Result<Vec<u8>, AllocError> {
-    match take_disk(slot) {
-        Some(disk) => {
-            let image = disk.image().to_vec(alloc)?;
-            *slot = LogSlot::Closed(disk);
-            Ok(image)
-        }
-        None => Ok(Vec::new(alloc)),
-    }
-}
-
-// Appends a batch from the log's mark up to a step, if the place is open.
-fn append_to(alloc: Global, slot: &mut LogSlot<MemDisk>, to: u64) -> Result<(), Told> {
-    match std::mem::replace(slot, LogSlot::Away) {
-        LogSlot::Open(log) => {
-            let from = log.mark();
-            match append(alloc, log, from, to, to) {
-                Ok(log) => {
-                    *slot = LogSlot::Open(log);
-                    Ok(())
-                }
-                Err((disk, told)) => {
-                    *slot = LogSlot::Closed(disk);
-                    Err(told)
-                }
-            }
-        }
-        other => {
-            *slot = other;
-            Err(Told::Device)
-        }
-    }
+// Whether a place's file has these bytes.
+fn has(slot: &mut Log, image: &[u8]) -> bool {
+    let Some(disk) = take_disk(slot) else {
+        return false;
+    };
+    let is_so = disk.image() == image;
+    *slot = LogSlot::Closed(disk);
+    is_so
 }
 
 #[test]
 fn a_generation_is_begun_appended_to_joined_and_given_up(rt: HostRuntime) -> Result<(), Fail> {
     let alloc = rt.alloc();
+    let placed = [put(6, 1), put(9, 1)];
     let mut first = place_with(alloc, &EMPTY, 0)?;
     let plain = open_slot(alloc, &mut first).is_ok();
-    assert!(rt; plain && append_to(alloc, &mut first, 6).is_ok());
+    assert!(rt; plain && append(alloc, &mut first, &placed, 1, 6).is_ok());
     let mut next = place_with(alloc, &[0], 0)?;
-    assert!(rt; found_of(open_numbered(alloc, &mut next, Parity::Odd)) == Found::NoLog);
+    assert!(rt; find(alloc, &mut next, Parity::Odd) == Found::NoLog);
     assert!(rt; begin(&mut next, HEADER).is_ok());
-    assert!(rt; image_of(alloc, &mut next)?.as_slice() == BEGUN.as_slice());
-    assert!(rt; found_of(open_numbered(alloc, &mut next, Parity::Odd)) == Found::Log(1, 6, 0));
-    assert!(rt; append_to(alloc, &mut next, 9).is_ok());
+    assert!(rt; has(&mut next, &BEGUN));
+    assert!(rt; find(alloc, &mut next, Parity::Odd) == Found::Log(1, 6, 0));
+    assert!(rt; append(alloc, &mut next, &placed, 1, 9).is_ok());
     let older = open_slot(alloc, &mut first).expect(&rt, "the older log opens");
     let newer = open_numbered(alloc, &mut next, Parity::Odd).expect(&rt, "the next log opens");
     let newer = newer.expect(&rt, "the next log is there");
@@ -104,8 +81,8 @@ fn a_generation_is_begun_appended_to_joined_and_given_up(rt: HostRuntime) -> Res
     assert!(rt; chain.records(alloc)?.len() == 2);
     assert!(rt; cutoff(&[chain]) == 9);
     assert!(rt; give_up(&mut next).is_ok());
-    assert!(rt; image_of(alloc, &mut next)?.as_slice() == [0].as_slice());
-    assert!(rt; found_of(open_numbered(alloc, &mut next, Parity::Odd)) == Found::NoLog);
+    assert!(rt; has(&mut next, &[0]));
+    assert!(rt; find(alloc, &mut next, Parity::Odd) == Found::NoLog);
     Ok(())
 }
 
@@ -116,22 +93,16 @@ fn a_call_that_failed_is_made_again(rt: HostRuntime) -> Result<(), Fail> {
     for fail in 1..9 {
         let mut slot = place_with(alloc, &[0], fail)?;
         assert!(rt; begin(&mut slot, HEADER).is_err(), "{fail} failing");
-        if found_of(open_numbered(alloc, &mut slot, Parity::Odd)) == Found::NoLog {
+        if find(alloc, &mut slot, Parity::Odd) == Found::NoLog {
             assert!(rt; begin(&mut slot, HEADER).is_ok(), "{fail} failing");
         }
-        assert!(rt;
-            image_of(alloc, &mut slot)?.as_slice() == BEGUN.as_slice(),
-            "{fail} failing"
-        );
+        assert!(rt; has(&mut slot, &BEGUN), "{fail} failing");
     }
     for fail in 1..8 {
         let mut slot = place_with(alloc, &BEGUN, fail)?;
         assert!(rt; give_up(&mut slot).is_err(), "{fail} failing");
         assert!(rt; give_up(&mut slot).is_ok(), "{fail} failing");
-        assert!(rt;
-            image_of(alloc, &mut slot)?.as_slice() == [0].as_slice(),
-            "{fail} failing"
-        );
+        assert!(rt; has(&mut slot, &[0]), "{fail} failing");
     }
     Ok(())
 }
@@ -155,7 +126,7 @@ fn a_file_is_told_for_what_it_is(rt: HostRuntime) -> Result<(), Fail> {
         (no_worker.as_slice(), Parity::Odd, Found::Bad(2, 0)),
     ] {
         let mut slot = place_with(alloc, image, 0)?;
-        let found = found_of(open_numbered(alloc, &mut slot, parity));
+        let found = find(alloc, &mut slot, parity);
         assert!(rt; found == want, "{image:?}: {found:?}");
     }
     assert!(rt; opened(alloc, &BEGUN)? == Told::Bad(0, 0));

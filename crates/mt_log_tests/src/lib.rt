@@ -5,8 +5,7 @@
 //! store that are recovered (`slots`): logs worked out by hand, each refusal, and logs that are older than the others.
 //! Of the logs of a running store (`stores`): a worker's changes on their way
 //! into its log, each call of a disk failing, alone and with a later one, crashes, and which log is told if some are
-//! not opened. And of a store in a turn: the next log that may be there or not, a recovery in the midst of the turn, and
-//! two turns stopped at each call (`turns`).
+//! not opened. And of a store in a turn: the next log that may be there or not, and a recovery in the midst of the turn.
 //!
 //! They stand in a crate of their own, since a crate with tests is proved twice. They are one, since each crate is
 //! begun twice.
@@ -46,7 +45,5 @@ mod rounds;
 mod slots;
 #[cfg(test)]
 mod stores;
-#[cfg(test)]
-mod turns;
 #[cfg(test)]
 mod vectors;

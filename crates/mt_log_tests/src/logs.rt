@@ -32,7 +32,7 @@ pub fn put_batch(alloc: Global, from: u64, to: u64, stamp: u64) -> Result<Batch,
     ensures { IfOk result IsBatch }
 {
     let row = row_of(alloc, b'v')?;
-    batch_with(alloc, from, to, stamp, Write::Whole(row))
+    batch_with(alloc, from, to, Some((stamp, Write::Whole(row))))
 }
 
 // The same, of a put of column 77 over a row that is there.
@@ -40,27 +40,28 @@ fn change_batch(alloc: Global, from: u64, to: u64, stamp: u64) -> Result<Batch, 
     ensures { IfOk result IsBatch }
 {
     let change = change_of(alloc, b'w')?;
-    batch_with(alloc, from, to, stamp, Write::Changed(change))
+    batch_with(alloc, from, to, Some((stamp, Write::Changed(change))))
 }
 
-// A batch of one record of tenant 7, key 6b.
+// A batch of such a record of tenant 7, key 6b, or of none.
 fn batch_with(
     alloc: Global,
     from: u64,
     to: u64,
-    stamp: u64,
-    write: Write,
+    written: Option<(u64, Write)>,
 ) -> Result<Batch, AllocError>
     ensures { IfOk result IsBatch }
 {
     let key = key_of(alloc, b'k')?;
     let mut records = Vec::new(alloc);
-    records.push(Record {
-        stamp,
-        tenant: 7,
-        key,
-        write,
-    })?;
+    if let Some((stamp, write)) = written {
+        records.push(Record {
+            stamp,
+            tenant: 7,
+            key,
+            write,
+        })?;
+    }
     let records = Records::new(records);
     let batch = Batch { from, to, records };
     if fits(&batch) {
@@ -78,10 +79,7 @@ pub fn append<D: Disk>(
     to: u64,
     stamp: u64,
 ) -> Result<LogFile<D>, (D, Told)> {
-    match put_batch(alloc, from, to, stamp) {
-        Ok(batch) => append_batch(alloc, log, batch),
-        Err(_) => Err((log.into_disk(), Told::Memory)),
-    }
+    append_batch(alloc, log, put_batch(alloc, from, to, stamp))
 }
 
 /// Appends such a batch behind what a log has, of a put of column 77 over the row that is there, or gives the log's disk
@@ -92,10 +90,8 @@ pub fn append_change<D: Disk>(
     to: u64,
     stamp: u64,
 ) -> Result<LogFile<D>, (D, Told)> {
-    match change_batch(alloc, log.mark(), to, stamp) {
-        Ok(batch) => append_batch(alloc, log, batch),
-        Err(_) => Err((log.into_disk(), Told::Memory)),
-    }
+    let batch = change_batch(alloc, log.mark(), to, stamp);
+    append_batch(alloc, log, batch)
 }
 
 /// Appends a batch without records, or gives the log's disk back.
@@ -104,25 +100,20 @@ pub fn append_none<D: Disk>(
     log: LogFile<D>,
     to: u64,
 ) -> Result<LogFile<D>, (D, Told)> {
-    let batch = Batch {
-        from: log.mark(),
-        to,
-        records: Records::new(Vec::new(alloc)),
-    };
-    if fits(&batch) {
-        append_batch(alloc, log, batch)
-    } else {
-        Err((log.into_disk(), Told::Memory))
-    }
+    let batch = batch_with(alloc, log.mark(), to, None);
+    append_batch(alloc, log, batch)
 }
 
 fn append_batch<D: Disk>(
     alloc: Global,
     log: LogFile<D>,
-    batch: Batch,
+    batch: Result<Batch, AllocError>,
 ) -> Result<LogFile<D>, (D, Told)>
-    requires { IsBatch batch }
+    requires { IfOk batch IsBatch }
 {
+    let Ok(batch) = batch else {
+        return Err((log.into_disk(), Told::Memory));
+    };
     match log.append(alloc, batch) {
         Ok(log) => Ok(log),
         Err(AppendFault::WrongTurn(log, batch, mark)) => {
@@ -182,18 +173,16 @@ fn rises(batch: &LoggedBatch) -> bool {
 
 // What is told of batches, by whether each begins where the one before it ends, and rises.
 fn joined(mark: u64, batches: &[LogBatch]) -> Told {
-    let mut step = 0;
+    let (mut step, mut are_joined) = (0, true);
     for batch in batches {
         let in_order = match batch {
             LogBatch::Records(batch) | LogBatch::OldRecords(batch) => rises(batch),
             LogBatch::Resume { from, to, kept } => from <= to && kept <= to,
         };
-        if batch.from() != step || !in_order {
-            return Told::Falls(mark, batches.len());
-        }
+        are_joined = are_joined && in_order && batch.from() == step;
         step = batch.to();
     }
-    if step == mark {
+    if are_joined && step == mark {
         Told::Front(step, batches.len())
     } else {
         Told::Falls(mark, batches.len())

@@ -34,8 +34,7 @@ fn the_log_that_is_not_made_is_told(rt: HostRuntime) -> Result<(), Fail> {
                 worker,
                 disk,
                 first: 2,
-                second: 0,
-                stop: 0,
+                ..NONE
             };
             let mut logs = new_logs(rt.alloc(), 3, failures)?;
             assert!(rt; is_made_later(&mut logs, worker, disk), "{failures:?}");
@@ -175,10 +174,8 @@ fn the_log_that_is_not_opened_is_told(rt: HostRuntime) -> Result<(), Fail> {
         // A log twice: no single one is the cause.
         let mut logs = logs_with(alloc, log, 9, (log + 1) % 3)?;
         let is_told = is_refused_after(alloc, &mut logs, told(None, Refusal::LogCount), 3);
-        assert!(rt;
-            is_told && logs.iter().all(|log| log.mark() == Some(0)),
-            "{log}"
-        );
+        let are_open = logs.iter().all(|log| log.mark() == Some(0));
+        assert!(rt; is_told && are_open, "{log}");
     }
     Ok(())
 }
@@ -206,10 +203,8 @@ fn no_log_is_opened_before_both_slots_are_read(rt: HostRuntime) -> Result<(), Fa
             plain: 0,
         };
         let is_told = is_refused(alloc, &mut logs, &mut slots, refusal, none);
-        assert!(rt;
-            is_told && logs.iter().all(|log| log.mark().is_none()),
-            "{slot:?}"
-        );
+        let are_closed = logs.iter().all(|log| log.mark().is_none());
+        assert!(rt; is_told && are_closed, "{slot:?}");
     }
     Ok(())
 }

@@ -3,12 +3,10 @@
 ghost use Rattle.std.specs.Prelude.{◌<◌};
 
 use self::Want::{Falls, Pairs, Told};
-use crate::slots::{Change, Log, append, disk_of, log_with, new_log, recover_over, resume_all};
-use mt_disk::MemDisk;
-use mt_recover::Recovered;
+use crate::copies::{WHOLE, log_of};
+use crate::slots::{Change, Log, disk_of, log_with, recover_over};
 use mt_rows::Refusal;
 use std::alloc::Global;
-use std::slice;
 
 // Where the last byte of a number stands. The log of worker 0 has a batch from 0 to 6 with puts at 1 and 4; a
 // resume batch from 6 to 8 that keeps 5; and a batch from 8 to 9 without records. That of worker 1 has puts at
@@ -70,17 +68,8 @@ fn image_with(alloc: Global, worker: u8, stamps: [u64; 2]) -> Result<Vec<u8>, Re
     requires { worker < 3 }
 {
     let [first, second] = stamps;
-    let history = [put(worker, first), put(worker, second)];
-    let recovered = Recovered {
-        cutoff: 5,
-        resume: 8,
-        used: None,
-        pairs: Vec::new(alloc),
-    };
-    let mut log = new_log(MemDisk::new(alloc, Vec::new(alloc), None), worker, 3)?;
-    append(alloc, &mut log, &history, worker, 6)?;
-    resume_all(alloc, slice::from_mut(&mut log), &recovered)?;
-    append(alloc, &mut log, &history, worker, 9)?;
+    let placed = [put(worker, first), put(worker, second)];
+    let mut log = log_of(alloc, &placed, worker, WHOLE)?;
     Ok(disk_of(&mut log)?.image().to_vec(alloc)?)
 }
 
@@ -163,9 +152,6 @@ const CASES: [(u8, u32, Edit, Edit, Want); 32] = [
 fn each_refusal_comes_before_the_next(rt: HostRuntime) {
     for (given, quota, first, second, want) in CASES {
         let told = count_of(rt.alloc(), given, quota, [first, second]);
-        assert!(rt;
-            told == want.told(),
-            "{given}, {quota}, {first:?}, {second:?}: {told:?}"
-        );
+        assert!(rt; told == want.told(), "{first:?}, {second:?}: {told:?}");
     }
 }

@@ -164,11 +164,9 @@ fn expect_recovered(rt: &impl Abort, alloc: Global, logs: &mut [Log], least: u64
         let walks = [walk_in(0, first), walk_in(1, second)];
         let told = recover_over(alloc, logs, walks, 8).expect(rt, "a recovery");
         let resume = first.1.max(second.1).max(40);
-        assert!(rt;
-            (told.cutoff, told.resume, told.used) == (least, resume, used)
-                && rows_of(&told.pairs) == Some(rows_over(used)),
-            "{first:?} and {second:?}: {told:?}"
-        );
+        let is_right = (told.cutoff, told.resume, told.used) == (least, resume, used);
+        let rows = rows_of(&told.pairs) == Some(rows_over(used));
+        assert!(rt; is_right && rows, "{first:?} and {second:?}: {told:?}");
     }
 }
 
@@ -176,10 +174,8 @@ fn expect_recovered(rt: &impl Abort, alloc: Global, logs: &mut [Log], least: u64
 fn expect_replayed(rt: &impl Abort, alloc: Global, logs: &mut [Log]) {
     for (steps, rows) in BASES {
         let told = recover_over(alloc, logs, [walk_in(0, steps), None], 8).expect(rt, "a recovery");
-        assert!(rt;
-            told.used == Some(0) && rows_of(&told.pairs) == Some(rows),
-            "{steps:?}: {told:?}"
-        );
+        let is_right = rows_of(&told.pairs) == Some(rows);
+        assert!(rt; told.used == Some(0) && is_right, "{steps:?}: {told:?}");
     }
 }
 

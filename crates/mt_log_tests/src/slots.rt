@@ -8,7 +8,8 @@ ghost use Rattle.mt_log.specs.Contents.{IsBatch};
 use mt_checkpoint::{Checkpoint, ReadFault, Writer, create_slot, read_valid};
 use mt_disk::MemDisk;
 use mt_log::batch::MAX_STEP;
-use mt_log::{AppendFault, Front, LogFile, OpenFault, fits};
+use mt_log::{AppendFault, Front, LogFile, fits};
+use mt_log_files::{open_slot, take_disk};
 use mt_recover::{LogSlot, Recovered, recover, resume};
 use mt_rows::key::USER_KEY_BYTES;
 use mt_rows::{
@@ -200,33 +201,12 @@ pub fn mark_of(log: &Log) -> Option<u64> {
 
 /// The disk of a log, taken away from it.
 pub fn disk_of(log: &mut Log) -> Result<MemDisk, Refusal> {
-    match mem::replace(log, LogSlot::Away) {
-        LogSlot::Open(open) => Ok(open.into_disk()),
-        LogSlot::Failed(log) => Ok(log.into_disk()),
-        LogSlot::Closed(disk) => Ok(disk),
-        LogSlot::Away => Err(Refusal::NoStore),
-    }
+    take_disk(log).ok_or(Refusal::NoStore)
 }
 
 /// Opens a log, also one that is open. It is closed where its disk fails.
 pub fn open(alloc: Global, log: &mut Log) -> Result<Front, Refusal> {
-    let (slot, answer) = match LogFile::open(alloc, disk_of(log)?) {
-        Ok((open, front)) => (LogSlot::Open(open), Ok(front)),
-        Err(OpenFault::Device(disk)) => (LogSlot::Closed(disk), Err(Refusal::Device)),
-        Err(OpenFault::Memory(disk)) => (LogSlot::Closed(disk), Err(Refusal::Memory)),
-        Err(
-            OpenFault::BadLog {
-                disk,
-                number,
-                offset,
-            },
-        ) => (
-            LogSlot::Closed(disk),
-            Err(Refusal::BadLog { number, offset }),
-        ),
-    };
-    *log = slot;
-    answer
+    open_slot(alloc, log)
 }
 
 /// Opens logs, up to the first that doesn't open.

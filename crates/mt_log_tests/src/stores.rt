@@ -1,9 +1,7 @@
 //! Stores of up to three workers over disks in memory, three for each worker.
 
 use crate::changes::History;
-use crate::slots::{Walk, written};
 use mt_disk::MemDisk;
-use mt_log::Front;
 use mt_log_files::WorkerFiles;
 use mt_recover::{LogSlot, Recovered};
 use mt_rows::{Refusal, Tenants};
@@ -181,14 +179,6 @@ impl Store {
         }
     }
 
-    /// Gives a worker's log before the last one up.
-    pub fn give_up_older(&mut self, worker: u8) -> Result<(), Refusal> {
-        match self.logs.get_mut(usize::from(worker)) {
-            Some(log) => log.give_up_older(),
-            None => Err(Refusal::NoStore),
-        }
-    }
-
     /// Opens a worker's log again.
     pub fn reopen(&mut self, worker: u8) -> Result<(), Refusal> {
         match self.logs.get_mut(usize::from(worker)) {
@@ -207,27 +197,20 @@ impl Store {
         Ok(least)
     }
 
-    /// Its slots have this checkpoint alone.
-    pub fn check(&mut self, walk: Walk) -> Result<(), Refusal> {
-        let disk = written(self.alloc, walk)?;
-        let empty = MemDisk::new(self.alloc, Vec::new(self.alloc), None);
-        self.slots = StoreSlots::found(disk, empty);
-        Ok(())
-    }
-
     /// The step up to which a worker's log goes, if there is one and it is open.
-    pub fn mark(&self, worker: usize) -> Option<u64> {
-        mark_of(&self.logs, worker)
+    pub fn mark(&self, worker: u8) -> Option<u64> {
+        mark_of(&self.logs, usize::from(worker))
     }
 
     /// The generation of a worker's last log, if there is one.
-    pub fn generation(&self, worker: usize) -> Option<u64> {
-        Some(self.logs.get(worker)?.generation())
+    pub fn generation(&self, worker: u8) -> Option<u64> {
+        Some(self.logs.get(usize::from(worker))?.generation())
     }
 
     /// Whether a worker's log keeps a batch.
-    pub fn keeps(&self, worker: usize) -> bool {
-        self.logs.get(worker).is_some_and(|log| log.keeps())
+    pub fn keeps(&self, worker: u8) -> bool {
+        let log = self.logs.get(usize::from(worker));
+        log.is_some_and(|log| log.keeps())
     }
 
     /// Crashes; each disk is found with what a read gives.
@@ -238,26 +221,25 @@ impl Store {
 
     /// Recovers, and goes on from there.
     pub fn recover(&mut self) -> Result<Recovered, Refusal> {
-        let recovered = self.recover_logs()?;
-        self.history = History::new(self.alloc, recovered.resume);
-        Ok(recovered)
-    }
-
-    /// Recovers, and keeps what its workers placed before.
-    pub fn recover_logs(&mut self) -> Result<Recovered, Refusal> {
         let mut tenants = Tenants::new(self.alloc);
         tenants.add(7, 8)?;
         let slots = &mut self.slots;
         match recover_store(self.alloc, &mut self.logs, slots, &tenants, &mut NoWatch) {
-            Ok(store) => Ok(store.recovered),
+            Ok(store) => {
+                self.history = History::new(self.alloc, store.recovered.resume);
+                Ok(store.recovered)
+            }
             Err(e) => Err(e.refusal()),
         }
     }
 
     /// How many batches a worker's log has, once all were opened.
-    pub fn batches(&mut self, worker: usize) -> Result<usize, Refusal> {
+    pub fn batches(&mut self, worker: u8) -> Result<usize, Refusal> {
         match open_logs(self.alloc, &mut self.logs, &[None, None], &mut NoWatch) {
-            Ok(chains) => Ok(batches_in(&chains.fronts, worker)),
+            Ok(chains) => {
+                let front = chains.fronts.get(usize::from(worker));
+                Ok(front.map_or(0, |front| front.batches.len()))
+            }
             Err(e) => Err(e.refusal),
         }
     }
@@ -266,11 +248,4 @@ impl Store {
 /// The step up to which a log goes, if there is one and it is open.
 pub fn mark_of(logs: &[StoreLog<MemDisk>], place: usize) -> Option<u64> {
     logs.get(place)?.mark()
-}
-
-fn batches_in(fronts: &[Front], worker: usize) -> usize {
-    match fronts.get(worker) {
-        Some(front) => front.batches.len(),
-        None => 0,
-    }
 }

@@ -5,8 +5,8 @@ use crate::logs::{
 };
 use mt_disk::MemDisk;
 use mt_log::{Front, LogBatch, LogFile, ResumeFault};
-use mt_rows::Write;
 use std::alloc::{AllocError, Global};
+use std::process::Abort;
 use std::test::Fail;
 
 // Log 0 of 1: a batch from 0 to 6, with a put of tenant 7, key 6b, column 76, at step 5; and a resume
@@ -28,87 +28,89 @@ const CHANGED: [u8; 46] = [
 const FRONT: &str =
     "Front { version: 2, worker: 0, logs: 1, generation: 0, start: 0, batches: [Records(LoggedBatch { from: 0, to: 6, stamps: [5] }), Resume { from: 6, to: 9, kept: 4 }], held: [SpelledRecords { count: 0, least: 5, greatest: 5, bytes: [] }] }";
 
-// The record of its first batch.
-const RECORDS: &str =
-    "[Record { stamp: 5, tenant: 7, key: Key { bytes: [107] }, write: Whole(Row { columns: [Column { bytes: [118] }] }) }]";
+// The record of its first batch, and that of the batch behind it.
+const RECORD: &str =
+    "Record { stamp: 5, tenant: 7, key: Key { bytes: [107] }, write: Whole(Row { columns: [Column { bytes: [118] }] }) }";
 
-// The front of a disk, as text.
-fn front_of(alloc: Global, disk: MemDisk) -> Result<String, AllocError> {
-    match LogFile::open(alloc, disk) {
-        Ok((log, front)) => {
-            drop(log.into_disk());
-            format!(in alloc; "{front:?}")
-        }
-        Err(fault) => {
-            drop(not_opened(fault).0);
-            Err(AllocError)
-        }
+const CHANGE: &str =
+    ", Record { stamp: 14, tenant: 7, key: Key { bytes: [107] }, write: Changed(Change { list: NamedColumns { columns: [(0, Column { bytes: [119] })] }, row: None }) }";
+
+// A log, or its disk and why it is none.
+type Made = Result<LogFile<MemDisk>, (MemDisk, Told)>;
+
+fn empty_disk(alloc: Global) -> MemDisk {
+    MemDisk::new(alloc, Vec::new(alloc), None)
+}
+
+fn created(disk: MemDisk) -> Made {
+    match LogFile::create(disk, 0, 1) {
+        Ok(log) => Ok(log),
+        Err((_, disk)) => Err((disk, Told::Device)),
     }
 }
 
-// The records that the front of a disk holds, as text.
-fn records_of(alloc: Global, disk: MemDisk) -> Result<String, AllocError> {
+fn opened_log(alloc: Global, disk: MemDisk) -> Made {
     match LogFile::open(alloc, disk) {
-        Ok((_log, front)) => {
-            let records = front.records(alloc)?;
-            format!(in alloc; "{records:?}")
-        }
-        Err(_) => Ok(String::new(alloc)),
+        Ok((log, _front)) => Ok(log),
+        Err(fault) => Err(not_opened(fault)),
     }
+}
+
+// What is told of a log that is opened again.
+fn opened_again(alloc: Global, made: Made) -> (MemDisk, Told) {
+    match made {
+        Ok(log) => opened_on(alloc, log.into_disk()),
+        Err(back) => back,
+    }
+}
+
+// The front of a disk and the records that it holds, as text.
+fn texts_of(alloc: Global, disk: MemDisk) -> Result<(String, String), AllocError> {
+    let (_log, front) = LogFile::open(alloc, disk).ok().ok_or(AllocError)?;
+    let records = front.records(alloc)?;
+    Ok((
+        format!(in alloc; "{front:?}")?,
+        format!(in alloc; "{records:?}")?,
+    ))
+}
+
+// Whether the front of a disk holds the vector's record, and these behind it alone.
+fn holds(alloc: Global, disk: MemDisk, behind: &str) -> Result<bool, AllocError> {
+    let (_, text) = texts_of(alloc, disk)?;
+    Ok(text.as_str() == format!(in alloc; "[{RECORD}{behind}]")?.as_str())
 }
 
 // The stamps of the records of a front's batches, held or not.
 fn stamps_of(alloc: Global, front: &Front) -> Result<Vec<u64>, AllocError> {
     let mut stamps = Vec::new(alloc);
     for batch in &front.batches {
-        match batch {
-            LogBatch::Records(batch) | LogBatch::OldRecords(batch) => {
-                stamps.extend_from_slice(batch.stamps())?;
-            }
-            LogBatch::Resume { .. } => {}
+        if let LogBatch::Records(batch) | LogBatch::OldRecords(batch) = batch {
+            stamps.extend_from_slice(batch.stamps())?;
         }
     }
     Ok(stamps)
 }
 
-// The stamps of the records that a front holds.
-fn held_of(alloc: Global, front: &Front) -> Result<Vec<u64>, AllocError> {
-    let mut stamps = Vec::new(alloc);
-    for record in front.records(alloc)? {
-        stamps.push(record.stamp)?;
-    }
-    Ok(stamps)
-}
-
-// Whether these are the stamps in the front of a disk, and those of the records that it holds.
+// Whether these are the stamps in the front of a log, and those of the records that it holds.
 fn has_stamps(
     alloc: Global,
-    disk: MemDisk,
+    image: &[u8],
     stamps: &[u64],
     held: &[u64],
 ) -> Result<bool, AllocError> {
-    match LogFile::open(alloc, disk) {
-        Ok((_log, front)) => Ok(
-            stamps_of(alloc, &front)?.as_slice() == stamps
-                && held_of(alloc, &front)?.as_slice() == held,
-        ),
-        Err(_) => Ok(false),
-    }
+    let disk = disk_with(alloc, image, 0, 99)?;
+    let (_log, front) = LogFile::open(alloc, disk).ok().ok_or(AllocError)?;
+    let records = front.records(alloc)?;
+    let are_held = records
+        .iter()
+        .zip(held)
+        .all(|(record, stamp)| record.stamp == *stamp);
+    let are_held = are_held && records.len() == held.len();
+    Ok(stamps_of(alloc, &front)?.as_slice() == stamps && are_held)
 }
 
-// Makes a log with these batches, the first of which begins here, and opens it again.
-fn made(alloc: Global, disk: MemDisk, from: u64) -> (MemDisk, Told) {
-    match LogFile::create(disk, 0, 1) {
-        Ok(log) => match append(alloc, log, from, 6, 5) {
-            Ok(log) => resumed(alloc, log),
-            Err(back) => back,
-        },
-        Err((_, disk)) => (disk, Told::Device),
-    }
-}
-
-// Appends a resume batch up to 9, of which 4 are kept, or gives the log's disk back.
-fn resume(alloc: Global, log: LogFile<MemDisk>) -> Result<LogFile<MemDisk>, (MemDisk, Told)> {
+// Appends a resume batch up to 9, of which 4 are kept.
+fn resume(alloc: Global, log: LogFile<MemDisk>) -> Made {
     let mark = log.mark();
     if mark != 6 {
         return Err((log.into_disk(), Told::Turn(6, mark)));
@@ -120,30 +122,23 @@ fn resume(alloc: Global, log: LogFile<MemDisk>) -> Result<LogFile<MemDisk>, (Mem
     }
 }
 
-// The same, and opens the log again.
-fn resumed(alloc: Global, log: LogFile<MemDisk>) -> (MemDisk, Told) {
-    match resume(alloc, log) {
-        Ok(log) => opened_on(alloc, log.into_disk()),
-        Err(back) => back,
-    }
+// A log with these batches, the first of which begins here.
+fn made(alloc: Global, disk: MemDisk, from: u64) -> Made {
+    let log = append(alloc, created(disk)?, from, 6, 5)?;
+    resume(alloc, log)
 }
 
 #[test]
 fn the_vector_is_written_and_read(rt: HostRuntime) -> Result<(), Fail> {
     let alloc = rt.alloc();
-    let (disk, told) = made(alloc, MemDisk::new(alloc, Vec::new(alloc), None), 0);
+    let (disk, told) = opened_again(alloc, made(alloc, empty_disk(alloc), 0));
     assert!(rt; told == Told::Front(9, 2) && disk.image() == VECTOR.as_slice());
-    assert_eq!(rt; front_of(alloc, disk)?.as_str(), FRONT);
-    assert!(rt; has_stamps(alloc, disk_with(alloc, &VECTOR, 0, 99)?, &[5], &[])?);
-    let mut front = VECTOR;
-    front[54] = 0;
-    let (front, _) = front.split_at(55);
-    assert!(rt; has_stamps(alloc, disk_with(alloc, front, 0, 99)?, &[5], &[5])?);
-    assert_eq!(rt;
-        records_of(alloc, disk_with(alloc, front, 0, 99)?)?.as_str(),
-        RECORDS
-    );
-    let (_disk, told) = made(alloc, MemDisk::new(alloc, Vec::new(alloc), None), 2);
+    assert_eq!(rt; texts_of(alloc, disk)?.0.as_str(), FRONT);
+    assert!(rt; has_stamps(alloc, &VECTOR, &[5], &[])?);
+    let front = one_batch(alloc, VECTOR, 0)?;
+    assert!(rt; has_stamps(alloc, &front, &[5], &[5])?);
+    assert!(rt; holds(alloc, disk_with(alloc, &front, 0, 99)?, "")?);
+    let (_disk, told) = opened_again(alloc, made(alloc, empty_disk(alloc), 2));
     assert!(rt; told == Told::Turn(2, 0));
     Ok(())
 }
@@ -164,49 +159,17 @@ fn two_batches(alloc: Global, vector: [u8; 85]) -> Result<Vec<u8>, AllocError> {
     Ok(image)
 }
 
-// Appends a put over the row at step 14 to the log of a disk, up to 15, and opens it again.
-fn changed(alloc: Global, disk: MemDisk) -> (MemDisk, Told) {
-    match LogFile::open(alloc, disk) {
-        Ok((log, _front)) => match append_change(alloc, log, 15, 14) {
-            Ok(log) => opened_on(alloc, log.into_disk()),
-            Err(back) => back,
-        },
-        Err(fault) => not_opened(fault),
-    }
-}
-
-// Whether what was written is a put of column 0 alone, of 77.
-fn is_change(write: &Write) -> bool {
-    match write {
-        Write::Changed(change) => match change.columns() {
-            [named] => named.0 == 0 && named.1.as_bytes() == b"w".as_slice(),
-            _ => false,
-        },
-        Write::Removed | Write::Whole(_) => false,
-    }
-}
-
-// Whether the last record that the front of a disk holds is that.
-fn ends_with_change(alloc: Global, disk: MemDisk) -> Result<bool, AllocError> {
-    match LogFile::open(alloc, disk) {
-        Ok((_log, front)) => {
-            let records = front.records(alloc)?;
-            Ok(
-                records
-                    .last()
-                    .is_some_and(|record| is_change(&record.write)),
-            )
-        }
-        Err(_) => Ok(false),
-    }
+// Appends a put over the row at step 14 to the log of a disk, up to 15.
+fn changed(alloc: Global, disk: MemDisk) -> Made {
+    append_change(alloc, opened_log(alloc, disk)?, 15, 14)
 }
 
 // Whether the log of the vector's first batch goes on with that change, after which it has these bytes and is read so.
 fn goes_on(alloc: Global, vector: [u8; 85]) -> Result<bool, AllocError> {
     let disk = disk_with(alloc, &one_batch(alloc, vector, 0)?, 0, 99)?;
-    let (disk, told) = changed(alloc, disk);
+    let (disk, told) = opened_again(alloc, changed(alloc, disk));
     let is_written = disk.image() == two_batches(alloc, vector)?.as_slice();
-    Ok(told == Told::Front(15, 2) && is_written && ends_with_change(alloc, disk)?)
+    Ok(told == Told::Front(15, 2) && is_written && holds(alloc, disk, CHANGE)?)
 }
 
 // The vector as a file of version 1 has it.
@@ -231,11 +194,8 @@ fn a_log_of_format_1_is_read_and_goes_on(rt: HostRuntime) -> Result<(), Fail> {
     let old = old_vector();
     assert!(rt; opened(alloc, &old)? == Told::Front(9, 2));
     let front = one_batch(alloc, old, 0)?;
-    assert!(rt; has_stamps(alloc, disk_with(alloc, &front, 0, 99)?, &[5], &[5])?);
-    assert_eq!(rt;
-        records_of(alloc, disk_with(alloc, &front, 0, 99)?)?.as_str(),
-        RECORDS
-    );
+    assert!(rt; has_stamps(alloc, &front, &[5], &[5])?);
+    assert!(rt; holds(alloc, disk_with(alloc, &front, 0, 99)?, "")?);
     assert!(rt; goes_on(alloc, old)?);
     Ok(())
 }
@@ -250,16 +210,12 @@ fn formats_are_told_apart(rt: HostRuntime) -> Result<(), Fail> {
         (2, Told::Bad(0, 8)),
         (3, Told::Bad(0, 0)),
     ] {
-        let mut image = old_vector();
-        image[5] = version;
-        assert!(rt; opened(alloc, &image)? == want, "version {version}");
+        let told = with_byte(alloc, &old_vector(), 5, version)?;
+        assert!(rt; told == want, "version {version}");
     }
+    let two = two_batches(alloc, old_vector())?;
     for (kind, want) in [(2, Told::Front(15, 2)), (0, Told::Bad(0, 54))] {
-        let mut image = two_batches(alloc, old_vector())?;
-        if let Some(place) = image.get_mut(59) {
-            *place = kind;
-        }
-        assert!(rt; opened(alloc, &image)? == want, "kind {kind}");
+        assert!(rt; with_byte(alloc, &two, 59, kind)? == want, "kind {kind}");
     }
     Ok(())
 }
@@ -281,43 +237,26 @@ fn a_record_is_held_where_no_resume_batch_makes_it_void(rt: HostRuntime) -> Resu
         let mut image = VECTOR;
         image[75] = to;
         image[83] = kept;
-        let disk = disk_with(alloc, &image, 0, 99)?;
-        assert!(rt;
-            has_stamps(alloc, disk, &[5], held)?,
-            "up to {to}, of which {kept} are kept"
-        );
+        let is_held = has_stamps(alloc, &image, &[5], held)?;
+        assert!(rt; is_held, "up to {to}, of which {kept} are kept");
     }
     Ok(())
 }
 
-// Appends two batches, of the stamps 3 and 5; a resume batch that keeps 4; and a batch of the stamp 10.
-fn batches_around(
-    alloc: Global,
-    log: LogFile<MemDisk>,
-) -> Result<LogFile<MemDisk>, (MemDisk, Told)> {
-    let log = append(alloc, log, 0, 3, 3)?;
+// A log of two batches, of the stamps 3 and 5; a resume batch that keeps 4; and a batch of the stamp 10.
+fn resumed_between(alloc: Global, disk: MemDisk) -> Made {
+    let log = append(alloc, created(disk)?, 0, 3, 3)?;
     let log = append(alloc, log, 3, 6, 5)?;
     let log = resume(alloc, log)?;
     append(alloc, log, 9, 12, 10)
 }
 
-// The same, and opens the log again.
-fn resumed_between(alloc: Global, log: LogFile<MemDisk>) -> (MemDisk, Told) {
-    match batches_around(alloc, log) {
-        Ok(log) => opened_on(alloc, log.into_disk()),
-        Err(back) => back,
-    }
-}
-
 #[test]
 fn what_a_resume_batch_makes_void_is_let_go(rt: HostRuntime) -> Result<(), Fail> {
     let alloc = rt.alloc();
-    let (disk, told) = match LogFile::create(MemDisk::new(alloc, Vec::new(alloc), None), 0, 1) {
-        Ok(log) => resumed_between(alloc, log),
-        Err((_, disk)) => (disk, Told::Device),
-    };
+    let (disk, told) = opened_again(alloc, resumed_between(alloc, empty_disk(alloc)));
     assert!(rt; told == Told::Front(12, 4), "{told:?}");
-    assert!(rt; has_stamps(alloc, disk, &[3, 5, 10], &[3, 10])?);
+    assert!(rt; has_stamps(alloc, disk.image(), &[3, 5, 10], &[3, 10])?);
     Ok(())
 }
 
@@ -328,7 +267,7 @@ fn a_call_that_fails_gives_the_disk_back(rt: HostRuntime) -> Result<(), Fail> {
     let alloc = rt.alloc();
     for fail in 1..19 {
         let disk = MemDisk::new(alloc, [fail].to_vec(alloc)?, None);
-        let (disk, told) = made(alloc, disk, 0);
+        let (disk, told) = opened_again(alloc, made(alloc, disk, 0));
         assert!(rt; told == Told::Device, "{fail} failing: {told:?}");
         let (_disk, told) = opened_on(alloc, disk);
         let want = match fail {
@@ -369,26 +308,34 @@ fn changed_end(end: u8, place: usize, byte: u8) -> u64 {
     u64::from_be_bytes(bytes)
 }
 
-// What is to be told with this byte in a place where another one stood.
-fn want(place: usize, byte: u8) -> Told {
+// What is to be told with this byte in a place where another one stood: of the vector, or of a log of format 1 that has its
+// first batch alone. The kind of that batch may also be that of format 2, in which this record is spelled alike.
+fn want(is_old: bool, place: usize, byte: u8) -> Told {
+    let (mark, batches) = if is_old { (6, 1) } else { (9, 2) };
     match place {
         // The version, the worker, and the number of logs; a header's other bytes are always the same.
-        5 if byte == 1 => Told::Front(9, 2),
+        5 if is_old && byte == 2 => Told::Bad(0, 8),
+        5 if byte == 1 => Told::Front(mark, batches),
         6 => Told::Bad(byte, 0),
-        7 if (1..=64).contains(&byte) => Told::Front(9, 2),
+        7 if (1..=64).contains(&byte) => Told::Front(mark, batches),
         0..=7 => Told::Bad(0, 0),
         // A gate that isn't open ends the front, also one that was torn.
         8 => Told::Front(0, 0),
+        54 | 84 if byte == 1 => Told::Bad(0, place as u64),
         54 => Told::Front(6, 1),
-        84 if byte == 1 => Told::Bad(0, 84),
         84 => Told::Front(9, 2),
-        // An end over 2^59 is not in the format, and any other beginning or end doesn't join.
+        13 if is_old && byte == 2 => Told::Front(mark, batches),
+        // An end over 2^59 is not in the format. Any other beginning or end doesn't join, but the last one's end does.
         22 if byte > 7 => Told::Bad(0, 8),
-        14..=29 => Told::Falls(9, 2),
+        22..=29 if is_old => {
+            let end = changed_end(6, place - 22, byte);
+            rising(end >= 5, end, 1)
+        }
+        14..=29 => Told::Falls(mark, batches),
         // A stamp over the batch's beginning, and up to its end; another tenant, key or column.
-        41 => rising((1..=6).contains(&byte), 9, 2),
-        34..=40 => Told::Falls(9, 2),
-        42..=45 | 48 | 53 => Told::Front(9, 2),
+        41 => rising((1..=6).contains(&byte), mark, batches),
+        34..=40 => Told::Falls(mark, batches),
+        42..=45 | 48 | 53 => Told::Front(mark, batches),
         // A batch whose length or kind, or whose number, key or row of a record doesn't fit its body.
         9..=53 => Told::Bad(0, 8),
         55..=59 => Told::Bad(0, 54),
@@ -404,28 +351,16 @@ fn want(place: usize, byte: u8) -> Told {
     }
 }
 
-// The same of the 55 bytes of a log of format 1, which has the first batch alone. The kind of its batch may also be that of
-// format 2, in which this record is spelled alike.
-fn want_of_format_1(place: usize, byte: u8) -> Told {
-    match place {
-        5 if byte == 2 => Told::Bad(0, 8),
-        6 => Told::Bad(byte, 0),
-        7 if (1..=64).contains(&byte) => Told::Front(6, 1),
-        0..=7 => Told::Bad(0, 0),
-        8 => Told::Front(0, 0),
-        13 if byte == 2 => Told::Front(6, 1),
-        14..=21 => Told::Falls(6, 1),
-        22 if byte > 7 => Told::Bad(0, 8),
-        22..=29 => {
-            let end = changed_end(6, place - 22, byte);
-            rising(end >= 5, end, 1)
+// Each of its bytes is changed to each other value.
+fn expect_changes(rt: &impl Abort, alloc: Global, whole: &[u8], is_old: bool) {
+    for place in 0..whole.len() {
+        for byte in 0..=255 {
+            if whole.get(place) != Some(&byte) {
+                let told = with_byte(alloc, whole, place, byte).expect(rt, "memory");
+                let want = want(is_old, place, byte);
+                assert!(rt; told == want, "{byte} at {place}: {told:?}");
+            }
         }
-        41 => rising((1..=6).contains(&byte), 6, 1),
-        34..=40 => Told::Falls(6, 1),
-        42..=45 | 48 | 53 => Told::Front(6, 1),
-        54 if byte == 1 => Told::Bad(0, 54),
-        54 => Told::Front(6, 1),
-        _ => Told::Bad(0, 8),
     }
 }
 
@@ -434,17 +369,7 @@ fn each_changed_byte_of_format_1_is_told_for_what_it_is(rt: HostRuntime) -> Resu
     let alloc = rt.alloc();
     let whole = one_batch(alloc, old_vector(), 0)?;
     assert!(rt; whole.len() == 55 && opened(alloc, &whole)? == Told::Front(6, 1));
-    for place in 0..55 {
-        for byte in 0..=255 {
-            if whole.get(place) != Some(&byte) {
-                let told = with_byte(alloc, &whole, place, byte)?;
-                assert!(rt;
-                    told == want_of_format_1(place, byte),
-                    "{byte} at {place}: {told:?}"
-                );
-            }
-        }
-    }
+    expect_changes(&rt, alloc, &whole, true);
     Ok(())
 }
 
@@ -462,14 +387,7 @@ fn each_prefix_and_changed_byte_is_told_for_what_it_is(rt: HostRuntime) -> Resul
         let told = opened(alloc, prefix)?;
         assert!(rt; told == Told::Bad(0, offset), "the first {len} bytes");
     }
-    for place in 0..85 {
-        for byte in 0..=255 {
-            if VECTOR.get(place) != Some(&byte) {
-                let told = with_byte(alloc, &VECTOR, place, byte)?;
-                assert!(rt; told == want(place, byte), "{byte} at {place}: {told:?}");
-            }
-        }
-    }
+    expect_changes(&rt, alloc, &VECTOR, false);
     Ok(())
 }
 
@@ -498,46 +416,26 @@ fn a_key_over_its_limit_is_not_in_the_format(rt: HostRuntime) -> Result<(), Fail
     Ok(())
 }
 
-// Appends a batch from step 5 to 7, and opens the log again.
-fn appended_at_5(alloc: Global, log: LogFile<MemDisk>) -> (MemDisk, Told) {
-    match append(alloc, log, 5, 7, 6) {
-        Ok(log) => opened_on(alloc, log.into_disk()),
-        Err(back) => back,
-    }
-}
-
-// What comes of opening the vector with its last batch up to step 5, and of an append behind it.
-fn appended_behind_a_fall(alloc: Global) -> Result<Told, AllocError> {
-    let mut image = VECTOR;
-    image[75] = 5;
-    let disk = disk_with(alloc, &image, 0, 99)?;
-    let (_disk, told) = match LogFile::open(alloc, disk) {
-        Ok((log, _front)) => appended_at_5(alloc, log),
-        Err(fault) => not_opened(fault),
-    };
-    Ok(told)
+// Appends a batch from step 5 to 7 to the log of a disk.
+fn appended_at_5(alloc: Global, disk: MemDisk) -> Made {
+    append(alloc, opened_log(alloc, disk)?, 5, 7, 6)
 }
 
 #[test]
 fn a_log_that_falls_goes_on_from_the_end_of_its_last_batch(rt: HostRuntime) -> Result<(), Fail> {
-    assert!(rt; appended_behind_a_fall(rt.alloc())? == Told::Falls(7, 3));
+    let alloc = rt.alloc();
+    let mut image = VECTOR;
+    // Its last batch goes up to step 5.
+    image[75] = 5;
+    let disk = disk_with(alloc, &image, 0, 99)?;
+    let (_disk, told) = opened_again(alloc, appended_at_5(alloc, disk));
+    assert!(rt; told == Told::Falls(7, 3));
     Ok(())
 }
 
-// Appends a batch up to step 3 that has no records, and opens the log again.
-fn appended_none(alloc: Global, log: LogFile<MemDisk>) -> (MemDisk, Told) {
-    match append_none(alloc, log, 3) {
-        Ok(log) => opened_on(alloc, log.into_disk()),
-        Err(back) => back,
-    }
-}
-
-// The same on a log that is made.
-fn made_without_records(alloc: Global, disk: MemDisk) -> (MemDisk, Told) {
-    match LogFile::create(disk, 0, 1) {
-        Ok(log) => appended_none(alloc, log),
-        Err((_, disk)) => (disk, Told::Device),
-    }
+// A log of a batch up to step 3 that has no records.
+fn made_without_records(alloc: Global, disk: MemDisk) -> Made {
+    append_none(alloc, created(disk)?, 3)
 }
 
 #[test]
@@ -545,8 +443,8 @@ fn where_memory_is_there_no_batch_and_no_length_is_told_memory(
     rt: HostRuntime,
 ) -> Result<(), Fail> {
     let alloc = rt.alloc();
-    let (_disk, told) = made_without_records(alloc, MemDisk::new(alloc, Vec::new(alloc), None));
-    assert!(rt; told == Told::Front(3, 1));
+    let log = made_without_records(alloc, empty_disk(alloc));
+    assert!(rt; opened_again(alloc, log).1 == Told::Front(3, 1));
     // A file of more than 1 MB.
     let mut image = EMPTY.to_vec(alloc)?;
     image.extend_from_slice(&Vec::from_elem(alloc, 7, 1 << 20)?)?;
