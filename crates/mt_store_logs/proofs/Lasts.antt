@@ -28,6 +28,7 @@ module _ {D : Type 0} where
         ap (with_files old) (file_again old.log.generation last.slot Away old.log.files)
         ∙ ap (λ (s : LogSlot D). with_files old (with_file old.log.generation s old.log.files)) (sym (slot_back old last));
     doubts = refl;
+    oldest = refl;
   })
 
   -- it was taken out, something was made of it, and it was put back

@@ -11,9 +11,9 @@ use Rattle.mt_log_files.specs.{declared.worker.WorkerFiles.WorkerFiles, Slots.{d
 use Rattle.mt_log_files.specs.{Shows.{Shows, IsHonest}, Files.{FileNow, Spare, Has, MayHave, ShowsFile}, Workers.AreFilesOf}
 use Rattle.mt_log_files.proofs.FileLaws as calls
 use Rattle.mt_chain_files.specs.Turns.{FilesNow, now_of, IsOfGeneration, ShowsPlain, ShowFiles}
-use Rattle.mt_turns.specs.{declared.worker_log.WorkerLog.WorkerLog, Files.OnFile, Logs.TurnsTo, Turns.{OnOlder, GivesUpOlder, FailsToGiveUpOlder}}
+use Rattle.mt_turns.specs.{declared.worker_log.WorkerLog.WorkerLog, Files.OnFile, Logs.TurnsTo, Turns.{OnOlder}}
 use Rattle.mt_turns.proofs.Places as places
-use Rattle.mt_store_logs.specs.{declared.store_log.StoreLog.StoreLog, Places.slot_of, Turns.OnLog, Shows.WaitsIn}
+use Rattle.mt_store_logs.specs.{declared.store_log.StoreLog.StoreLog, Places.slot_of, Turns.{GivesUpOlderLog, FailsToGiveUpOlderLog}, Shows.WaitsIn}
 use Rattle.mt_store_logs.specs.Ends.{Rests, StandsInTurn}
 use Rattle.mt_store_logs.proofs.FilePlaces.{with_now, now_is, next_stays, first_of_turn, ShowsIn, shows_in, shows_with, numbered_in, in_numbered, plain_shows}
 use Rattle.mt_store_logs.proofs.{TurnFiles.{no_older, may_have_older}, TurnLaws.{IsAt, where_is}, RestingDisks.rest_text}
@@ -107,7 +107,7 @@ module _ {D : Type 0} (is_honest : D → Bool) (state : D → DiskState) where
         in_numbered is_honest state g Spare new some (calls.given_up is_honest state failures (cond (g % 2 == 0) Even Odd) old new was.0 b)
 
     pub given_up_in_turn : (g : ℕ) (now : LogNow) (files : FilesNow) (old new : StoreLog D) → In g now files old → old.log.generation ≡ g + 1
-        → OnLog old.next_in_doubt (GivesUpOlder is_honest state failures) old new
+        → GivesUpOlderLog is_honest state failures old new
         → (then : FilesNow) × In g now then new × (now_of g then ≡ Spare) × (now_of (g + 1) then ≡ now_of (g + 1) files)
     given_up_in_turn g now files old new s of b = ⊎_elim
         (λ older. (
@@ -166,7 +166,7 @@ module _ {D : Type 0} (is_honest : D → Bool) (state : D → DiskState) where
         (not_given_up (cond (g % 2 == 0) Even Odd) file old new rests (numbered_in is_honest state g file old some shows) b)
 
     pub not_given_up_in_turn : (g : ℕ) (now : LogNow) (files : FilesNow) (e : Refusal) (old new : StoreLog D) → In g now files old → old.log.generation ≡ g + 1
-        → OnLog old.next_in_doubt (FailsToGiveUpOlder is_honest state failures e) old new
+        → FailsToGiveUpOlderLog is_honest state failures e old new
         → (then : FilesNow) × In g now then new × (now_of (g + 1) then ≡ now_of (g + 1) files)
     not_given_up_in_turn g now files e old new s of b =
         let file = now_of g files in

@@ -5,9 +5,8 @@ use Rattle.mt_rows.specs.declared.refusal.Refusal.{Refusal}
 use Rattle.mt_disk.specs.Disk.{DiskState}
 use Rattle.mt_crashes.specs.Stores.{LogNow}
 use Rattle.mt_log_files.specs.Files.{Spare}
-use Rattle.mt_turns.specs.Turns.{GivesUpOlder, FailsToGiveUpOlder}
 use Rattle.mt_chain_files.specs.Turns.{FilesNow, now_of}
-use Rattle.mt_store_logs.specs.{declared.store_log.StoreLog.StoreLog, Turns.OnLog, Ends.{IsNextFile, StandsInTurn}}
+use Rattle.mt_store_logs.specs.{declared.store_log.StoreLog.StoreLog, Turns.{GivesUpOlderLog, FailsToGiveUpOlderLog}, Ends.{IsNextFile, StandsInTurn}}
 use Rattle.mt_store_logs.proofs.{NextTurn.{turned, turned_back}, OlderLaws.{given_up_in_turn, not_given_up_in_turn}}
 
 module _ {D : Type 0} (is_honest : D → Bool) (state : D → DiskState) (failures : D → ℕ) where
@@ -15,7 +14,7 @@ module _ {D : Type 0} (is_honest : D → Bool) (state : D → DiskState) (failur
   In g now files log = StandsInTurn is_honest state g now files log
 
   abbrev Gives : StoreLog D → StoreLog D → Type 0
-  Gives old new = OnLog old.next_in_doubt (GivesUpOlder is_honest state failures) old new
+  Gives old new = GivesUpOlderLog is_honest state failures old new
 
   -- this generation alone is left, with the same log
   abbrev pub Left : ℕ → LogNow → FilesNow → StoreLog D → Type 0
@@ -41,7 +40,8 @@ module _ {D : Type 0} (is_honest : D → Bool) (state : D → DiskState) (failur
   same_log : (old new : StoreLog D) → old.log.generation ≡ 0 → Gives old new → new ≡ old
   same_log old new of gives =
       let same : new.log ≡ old.log = ⊎_elim (λ older. let before = older.older in absurd (omega (arith, of, before))) (λ none. none.1) gives.does in
-      λ i. record { log = same i; kept = gives.kept i; next_in_doubt = gives.doubts i }
+      let oldest : new.oldest ≡ old.oldest = gives.oldest ∙ omega (arith, of) in
+      λ i. record { log = same i; kept = gives.kept i; next_in_doubt = gives.doubts i; oldest = oldest i }
 
   left_of_later : (g : ℕ) (now : LogNow) (files : FilesNow) (old new : StoreLog D) → In (g + 1) now files old → old.log.generation ≡ g + 1 → old.next_in_doubt ≡ false
       → Gives old new → Left (g + 1) now files new
@@ -61,7 +61,7 @@ module _ {D : Type 0} (is_honest : D → Bool) (state : D → DiskState) (failur
 
   -- It is not given up: the log is in the turn before, and that file may be there.
   pub not_left : (g : ℕ) (now : LogNow) (files : FilesNow) (e : Refusal) (old new : StoreLog D) → In (g + 1) now files old → old.log.generation ≡ g + 1 → old.next_in_doubt ≡ false
-      → OnLog old.next_in_doubt (FailsToGiveUpOlder is_honest state failures e) old new
+      → FailsToGiveUpOlderLog is_honest state failures e old new
       → (then : FilesNow) × In g now then new × (now_of (g + 1) then ≡ now_of (g + 1) files)
   not_left g now files e old new s of known fails =
       let back = turned_back is_honest state g now files old s (next_spare (g + 1) now files old s of known) known in

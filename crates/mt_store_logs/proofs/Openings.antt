@@ -35,6 +35,7 @@ files_back g begun files old mid new emptied back = record {
           generation = has.stands.generation;
           files = has.stands.files;
         };
+        oldest = has.oldest;
         rest = has.rest;
       };
 }

@@ -10,6 +10,7 @@ pub mod Recovers
 pub mod OldBases
 pub mod Crashes
 pub mod Shows
+pub mod Standing
 pub mod Ends
 pub mod Turns
 pub mod Taking

@@ -13,11 +13,12 @@ use Rattle.mt_rows.specs.declared.refusal.Refusal.TheVariants as refusals
 
 -- ---- closed logs
 
--- A worker's log, one of so many, of generation 0 on these files. No batch waits for it, and no next log was begun.
+-- A worker's log, one of so many, of generation 0 on these files. No batch waits for it, no next log was begun, and none is older.
 pub record IsClosedOn {D : Type 0} (worker count : ℕ) (files : WorkerFiles D) (new : StoreLog D) : Type 0 where
   pub log : IsWith worker count 0 files new.log
   pub none : new.kept ≡ None
   pub sure : new.next_in_doubt ≡ false
+  pub oldest : new.oldest ≡ 0
 
 -- the logs on some files, of the workers in their order
 pub record AreClosedOn {D : Type 0} (many : ℕ) (files : List (WorkerFiles D)) (logs : List (StoreLog D)) : Type 0 where
@@ -61,12 +62,13 @@ module _ {D : Type 0} (is_honest : D → Bool) (state : D → DiskState) (failur
       ⊎ ((Makes worker count (disk_in old.plain) new.plain × FailsToMake (disk_in old.even) new.even × (new.odd ≡ old.odd))
       ⊎ (Makes worker count (disk_in old.plain) new.plain × MakesSpare (disk_in old.even) new.even × FailsToMake (disk_in old.odd) new.odd))
 
-  -- This became of a worker's files. Its last log is of generation 0 then, no next log was begun, and no batch waits.
+  -- This became of a worker's files. Its last log is of generation 0 then, no next log was begun, no batch waits, and none is older.
   pub record MadeAnew (Does : WorkerFiles D → WorkerFiles D → Type 0) (old new : StoreLog D) : Type 0 where
     pub does : Does old.log.files new.log.files
     pub log : IsWith (worker_of old) old.log.owner.logs 0 new.log.files new.log
     pub none : new.kept ≡ None
     pub sure : new.next_in_doubt ≡ false
+    pub oldest : new.oldest ≡ 0
 
   abbrev pub MakesLog : ℕ → ℕ → StoreLog D → StoreLog D → Type 0
   MakesLog worker count old new = MadeAnew (MakesFiles worker count) old new

@@ -30,6 +30,7 @@ with_place slot kept log = record {
   log = record log.log { files = with_file log.log.generation slot log.log.files };
   kept = kept;
   next_in_doubt = log.next_in_doubt;
+  oldest = log.oldest;
 }
 
 -- with this last log, and with none
@@ -39,11 +40,13 @@ with_last last log = with_place last.slot last.kept log
 abbrev pub without_last : {D : Type 0} → StoreLog D → StoreLog D
 without_last log = with_place Away None log
 
--- Something becomes of a worker's last log. Its other two files, its generation and its owner stay as they are. The next log is in doubt as before.
+-- Something becomes of a worker's last log. Its other two files, its generation and its owner stay as they are. The next log is in doubt as before, and as
+-- many older ones may stand.
 pub record OnLast {D : Type 0} (Does : LastLog D → LastLog D → Type 0) (old new : StoreLog D) : Type 0 where
   pub does : Does (last_log_of old) (last_log_of new)
   pub rest : ReplacesLast (slot_of new) old.log new.log
   pub doubts : new.next_in_doubt ≡ old.next_in_doubt
+  pub oldest : new.oldest ≡ old.oldest
 
 -- no file
 abbrev pub no_files : {D : Type 0} → WorkerFiles D

@@ -1,5 +1,5 @@
 -- The files of all logs, taken out, opened, and put back.
-use Rattle.std.specs.Prelude.{◌≡◌, ◌⊎◌, ◌<◌, ℕ, Bool, false, List, [], map, length, Some, None, slice_get}
+use Rattle.std.specs.Prelude.{◌≡◌, ◌⊎◌, ◌<◌, ℕ, ◌-◌, Bool, false, List, [], map, length, Some, None, slice_get}
 use Rattle.mt_disk.specs.Disk.{DiskState}
 use Rattle.mt_crashes.specs.Bases.{Slots}
 use Rattle.mt_log_files.specs.declared.worker.WorkerFiles.{WorkerFiles}
@@ -27,11 +27,13 @@ pub record IsEmptied {D : Type 0} (old new : StoreLog D) : Type 0 where
   pub away : IsSameOn 0 no_files old new
   pub rest : IsAtRest new
 
--- The log at a place has the files there, and its last generation is the one after this, if its next log is told to be begun.
+-- The log at a place has the files there, and its last generation is the one after this, if its next log is told to be begun. The log before the last one may
+-- stand.
 pub record HasItsFiles {D : Type 0} (g : ℕ) (begun : List Bool) (files : List (WorkerFiles D)) (k : ℕ) (old new : StoreLog D) : Type 0 where
   pub one : WorkerFiles D
   pub there : slice_get files k ≡ Some one
   pub stands : IsSameOn (last_generation_of g (slice_get begun k)) one old new
+  pub oldest : new.oldest ≡ last_generation_of g (slice_get begun k) - 1
   pub rest : IsAtRest new
 
 -- all logs have their files again

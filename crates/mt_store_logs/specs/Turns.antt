@@ -1,20 +1,22 @@
 -- The parts of a turn on a worker's log: it is flushed and the next log is begun; the next log is looked for; the older one is given up.
-use Rattle.std.specs.Prelude.{◌≡◌, ◌⊎◌, ℕ, ◌+◌, Bool, true, false, Option, Some}
+use Rattle.std.specs.Prelude.{◌≡◌, ◌⊎◌, ℕ, ◌+◌, ◌-◌, max, Bool, true, false, Option, Some}
 use Rattle.mt_rows.specs.{declared.record.Batch.Batch, declared.refusal.Refusal.Refusal}
 use Rattle.mt_disk.specs.Disk.{DiskState}
 use Rattle.mt_log_generations.specs.Headers.{parity_of}
 use Rattle.mt_log.specs.declared.batch.Front.{Front}
 use Rattle.mt_recover.specs.declared.resuming.LogSlot.{LogSlot}
 use Rattle.mt_log_files.specs.Slots.{disk_in, with_file, OpensNumbered, FailsToOpenNumbered}
-use Rattle.mt_turns.specs.{declared.worker_log.WorkerLog.WorkerLog, Logs.{next_of, TurnsTo}, Turns.{BeginsNext, HasNoNext, NextNotBegun, NextNotSpare}}
+use Rattle.mt_turns.specs.{declared.worker_log.WorkerLog.WorkerLog, Logs.{next_of, TurnsTo}, Turns.{BeginsNext, HasNoNext, NextNotBegun, NextNotSpare, GivesUpOlder, FailsToGiveUpOlder}}
 use Rattle.mt_store_logs.specs.{declared.store_log.StoreLog.StoreLog, Places.{worker_of, OnLast}, Waits.{Reopens, FailsToReopen}, Flushes.{Flushes, FailsToFlush}}
 use Rattle.mt_rows.specs.declared.refusal.Refusal.TheVariants as refusals
 
--- This became of a worker's log over its files, and the same batch waits, if one does. After it the next log may be there or not, or that is known.
+-- This became of a worker's log over its files, and the same batch waits, if one does. After it the next log may be there or not, or that is known. The oldest
+-- log that may stand is the same.
 pub record OnLog {D : Type 0} (doubt : Bool) (Does : WorkerLog D → WorkerLog D → Type 0) (old new : StoreLog D) : Type 0 where
   pub does : Does old.log new.log
   pub kept : new.kept ≡ old.kept
   pub doubts : new.next_in_doubt ≡ doubt
+  pub oldest : new.oldest ≡ old.oldest
 
 module _ {D : Type 0} (is_honest : D → Bool) (state : D → DiskState) (failures : D → ℕ) where
   -- The file for the next log was opened again, and has this front or none.
@@ -77,6 +79,20 @@ module _ {D : Type 0} (is_honest : D → Bool) (state : D → DiskState) (failur
 
   abbrev pub FailsToReopenLog : Refusal → StoreLog D → StoreLog D → Type 0
   FailsToReopenLog e old new = FailsToLook e old new ⊎ StaysShutLog e old new
+
+  -- The older log was given up, if there is one. No log stands that is older than the last one.
+  pub record GivesUpOlderLog (old new : StoreLog D) : Type 0 where
+    pub does : GivesUpOlder is_honest state failures old.log new.log
+    pub kept : new.kept ≡ old.kept
+    pub doubts : new.next_in_doubt ≡ old.next_in_doubt
+    pub oldest : new.oldest ≡ max old.oldest old.log.generation
+
+  -- it may stand or not
+  pub record FailsToGiveUpOlderLog (e : Refusal) (old new : StoreLog D) : Type 0 where
+    pub does : FailsToGiveUpOlder is_honest state failures e old.log new.log
+    pub kept : new.kept ≡ old.kept
+    pub doubts : new.next_in_doubt ≡ old.next_in_doubt
+    pub oldest : new.oldest ≡ old.log.generation - 1
 
 module _ {D S : Type 0} (is_honest : D → Bool) (state : D → DiskState) (failures : D → ℕ) (gives : S → S → ℕ → Batch → Type 0) (upto : ℕ) where
   -- the log was flushed, and goes up to this step

@@ -15,14 +15,13 @@ ghost use Rattle.mt_crashes.specs.{Invariants.RisePlaced, Recoveries.{HasSlot, I
 ghost use Rattle.mt_recover.specs.{declared.resuming.LogSlot.LogSlot, Resumes.{HasResumed, FailsToResume}};
 ghost use Rattle.mt_generations.specs.Chains.{EndsLog};
 ghost use Rattle.mt_log_files.specs.Files.{Spare, Has, MayLeaveFile};
-ghost use Rattle.mt_turns.specs.Turns.{GivesUpOlder, FailsToGiveUpOlder};
 ghost use Rattle.mt_chain_files.specs.Turns.{FilesNow, now_of, AreOfTurn, ShowFiles};
 ghost use Rattle.mt_store_logs.specs.{declared.store_log.StoreLog.StoreLog, Places.{disk_in, worker_of, OnLast}, Opens.{Opens, FailsToOpen, Makes, MakesLog}};
 ghost use Rattle.mt_store_logs.specs.{Ends.{IsEndOf, Stands, keeping, Rests, StandsInTurn, KeepStarts}, Recovers.{ResumesLog, FailsToResumeLog, ServesAgain}};
 ghost use Rattle.mt_rows.specs.Accounts.{Accounts};
 ghost use Rattle.mt_recover.specs.declared.recovering.Recovered.{Recovered};
 ghost use Rattle.mt_slots.specs.{declared.store_slots.StoreSlots.StoreSlots, Keeps.{NewestEndsBy, only_these}};
-ghost use Rattle.mt_store_logs.specs.Turns.{OnLog, ReopensLog, FailsToReopenLog, BeginsNextLog, FailsToBeginNextLog};
+ghost use Rattle.mt_store_logs.specs.Turns.{ReopensLog, FailsToReopenLog, BeginsNextLog, FailsToBeginNextLog, GivesUpOlderLog, FailsToGiveUpOlderLog};
 ghost use Rattle.mt_store_logs.specs.{Waits.{AppendsKept, FailsToAppend, Reopens, FailsToReopen}, Crashes.{IsCrashedOn, IsCrashed}, declared.crashing.FileImages.FileImages};
 ghost use Rattle.mt_store_logs.specs.{Shows.{Shows, IsHonest, WaitsIn, drained_upto, IsIn, IsInDoubt, ComesToRest}, OldBases.{IsOldBase, AreOldUpto, TellHistory}};
 
@@ -148,10 +147,10 @@ pub fn the_next_log_of_a_turn_is_begun<D: Disk>()
 /// it fails, the older log may be there or not, and it may be given up again.
 pub fn the_older_log_of_a_turn_is_given_up<D: Disk>()
     ensures given_up { (g : ℕ) (now : LogNow) (files : FilesNow) (old new : StoreLog D) → StandsInTurn D.is_honest D.state g now files old
-        → old.log.generation ≡ g + 1 → OnLog old.next_in_doubt (GivesUpOlder D.is_honest D.state D.failures) old new
+        → old.log.generation ≡ g + 1 → GivesUpOlderLog D.is_honest D.state D.failures old new
         → (then : FilesNow) × StandsInTurn D.is_honest D.state g now then new × (now_of g then ≡ Spare) × (now_of (g + 1) then ≡ now_of (g + 1) files) }
     ensures failed { (g : ℕ) (now : LogNow) (files : FilesNow) (e : Refusal) (old new : StoreLog D) → StandsInTurn D.is_honest D.state g now files old
-        → old.log.generation ≡ g + 1 → OnLog old.next_in_doubt (FailsToGiveUpOlder D.is_honest D.state D.failures e) old new
+        → old.log.generation ≡ g + 1 → FailsToGiveUpOlderLog D.is_honest D.state D.failures e old new
         → (then : FilesNow) × StandsInTurn D.is_honest D.state g now then new × (now_of (g + 1) then ≡ now_of (g + 1) files) }
 {}
 
@@ -171,15 +170,15 @@ pub fn a_turn_goes_on_to_the_next_generation<D: Disk>()
 /// If it fails, the log is in the turn from the generation before, and its older log may be there or not.
 pub fn a_recovery_leaves_one_generation<D: Disk>()
     ensures first { (g : ℕ) (now : LogNow) (files : FilesNow) (old new : StoreLog D) → StandsInTurn D.is_honest D.state g now files old
-        → old.log.generation ≡ g → old.next_in_doubt ≡ false → OnLog old.next_in_doubt (GivesUpOlder D.is_honest D.state D.failures) old new
+        → old.log.generation ≡ g → old.next_in_doubt ≡ false → GivesUpOlderLog D.is_honest D.state D.failures old new
         → (then : FilesNow) × StandsInTurn D.is_honest D.state g now then new × (now_of g then ≡ now_of g files) × (now_of (g + 1) then ≡ Spare) }
     ensures next { (g : ℕ) (now : LogNow) (files : FilesNow) (old new : StoreLog D) → StandsInTurn D.is_honest D.state g now files old
-        → old.log.generation ≡ g + 1 → OnLog old.next_in_doubt (GivesUpOlder D.is_honest D.state D.failures) old new
+        → old.log.generation ≡ g + 1 → GivesUpOlderLog D.is_honest D.state D.failures old new
         → (then : FilesNow) × StandsInTurn D.is_honest D.state (g + 1) now then new × (now_of (g + 1) then ≡ now_of (g + 1) files)
         × (now_of (g + 1 + 1) then ≡ Spare) }
     ensures failed { (g : ℕ) (now : LogNow) (files : FilesNow) (e : Refusal) (old new : StoreLog D) → StandsInTurn D.is_honest D.state (g + 1) now files old
         → old.log.generation ≡ g + 1 → old.next_in_doubt ≡ false
-        → OnLog old.next_in_doubt (FailsToGiveUpOlder D.is_honest D.state D.failures e) old new
+        → FailsToGiveUpOlderLog D.is_honest D.state D.failures e old new
         → (then : FilesNow) × StandsInTurn D.is_honest D.state g now then new × (now_of (g + 1) then ≡ now_of (g + 1) files) }
 {}
 

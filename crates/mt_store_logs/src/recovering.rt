@@ -31,9 +31,9 @@ pub struct RecoveredStore {
 ///
 /// An error tells the slot that was not read, the log that was not opened, got no such batch or was not given up, or, of
 /// all logs, why there is no recovery. No file of a log is opened before both slots were read, nothing is appended before
-/// all that are needed are open, and nothing is given up before all logs have their batches. No disk is lost, and what a
-/// crash may leave of each last log is what it might before, or that with the batch. An older log that may be gone is not
-/// needed. So the store can be recovered again, with or without a crash.
+/// all files are open, and nothing is given up before all logs have their batches. No disk is lost, and what a crash may
+/// leave of each last log is what it might before, or that with the batch. An older log that may be gone is not needed. So
+/// the store can be recovered again, with or without a crash.
 pub fn recover_store<D: Disk + Drop, W: Watch>(
     alloc: Global,
     logs: &mut [StoreLog<D>],

@@ -1,13 +1,15 @@
 //! The log of a worker in a running store, and the batch that waits for it.
 
-ghost use Rattle.std.specs.Prelude.{◌≡◌, ◌↔◌, ◌≢◌, false, None, IsTrue, IfErr, OnOk};
-ghost use Rattle.mt_turns.specs.{Logs.IsWith, Turns.{GivesUpOlder, FailsToGiveUpOlder}};
+ghost use Rattle.std.specs.Prelude.{◌≡◌, ◌↔◌, ◌≢◌, ◌-◌, false, None, IsTrue, IfErr, OnOk};
+ghost use Rattle.mt_turns.specs.Logs.{IsWith};
 ghost use Rattle.mt_store_logs.specs.Places.{last_log_of, mark_in, slot_of, worker_of, with_last, without_last, no_files, OnLast};
-ghost use Rattle.mt_store_logs.specs.Turns.{OnLog, BeginsNextLog, FailsToBeginNextLog, LooksForNext, FailsToLook, ReopensLog, FailsToReopenLog};
+ghost use Rattle.mt_store_logs.specs.Turns.{BeginsNextLog, FailsToBeginNextLog, LooksForNext, FailsToLook, ReopensLog, FailsToReopenLog, GivesUpOlderLog, FailsToGiveUpOlderLog};
+ghost use Rattle.mt_store_logs.specs.Standing.{TellsOf};
 ghost use Rattle.mt_store_logs.specs.Waits.{Reopens, FailsToReopen};
 
 use crate::last_log::{LastLog, WaitingBatch};
 use crate::next_log::{find_next, put_files, take_files};
+use crate::standing::Generations;
 use mt_disk::Disk;
 use mt_log_files::WorkerFiles;
 use mt_recover::LogSlot;
@@ -18,25 +20,29 @@ use std::alloc::Global;
 /// The log of a worker over its three files, and the batch that it keeps. That one was drained, and the log is not known
 /// to have it. It goes into the log before any other, and the next one drained begins where it ends. Batches go to the last
 /// log of the worker. If a disk failed as the next log was begun, that one may be there or not, and it is looked for before
-/// the last one is opened again.
+/// the last one is opened again. No log stands that is older than `oldest`.
 #[derive(Drop)]
 pub struct StoreLog<D: Disk> {
     log: WorkerLog<D>,
     kept: Option<WaitingBatch>,
     next_in_doubt: bool,
+    oldest: u64,
 }
 
 impl<D: Disk + Drop> StoreLog<D> {
-    /// A worker's log that keeps no batch. Its last log is the one that is told.
+    /// A worker's log that keeps no batch. Its last log is the one that is told, and none is older.
     pub fn new(log: WorkerLog<D>) -> Self
         ensures log { result.log ≡ log }
         ensures none { result.kept ≡ None }
         ensures sure { result.next_in_doubt ≡ false }
+        ensures oldest { result.oldest ≡ log.generation }
     {
+        let oldest = log.generation();
         StoreLog {
             log,
             kept: None,
             next_in_doubt: false,
+            oldest,
         }
     }
 
@@ -52,6 +58,17 @@ impl<D: Disk + Drop> StoreLog<D> {
         ensures { result ≡ self.now.log.generation }
     {
         self.log.generation()
+    }
+
+    /// The last generation of which it has a log, and whether a log of an earlier one may stand.
+    pub fn generations(&self) -> Generations
+        ensures { TellsOf self.now result }
+    {
+        let last = self.log.generation();
+        Generations {
+            last,
+            has_older: self.oldest < last,
+        }
     }
 
     /// Its files, and which of them has the last log.
@@ -175,10 +192,20 @@ impl<D: Disk + Drop> StoreLog<D> {
     /// generation 0. An error is `Device`: that log may be there or not, and the call may be made again.
     pub fn give_up_older(&mut self) -> Result<(), Refusal>
         ensures worker { worker_of self.new ≡ worker_of self.old }
-        ensures ok { OnOk result (OnLog self.old.next_in_doubt (GivesUpOlder D.is_honest D.state D.failures) self.old self.new) }
-        ensures err { IfErr result (λ e. OnLog self.old.next_in_doubt (FailsToGiveUpOlder D.is_honest D.state D.failures e) self.old self.new) }
+        ensures ok { OnOk result (GivesUpOlderLog D.is_honest D.state D.failures self.old self.new) }
+        ensures err { IfErr result (λ e. FailsToGiveUpOlderLog D.is_honest D.state D.failures e self.old self.new) }
     {
-        self.log.give_up_older()
+        let last = self.log.generation();
+        match self.log.give_up_older() {
+            Ok(()) => {
+                self.oldest = self.oldest.max(last);
+                Ok(())
+            }
+            Err(refusal) => {
+                self.oldest = last.saturating_sub(1);
+                Err(refusal)
+            }
+        }
     }
 
     // Takes its files out. It has none then, and keeps no batch.
@@ -193,13 +220,15 @@ impl<D: Disk + Drop> StoreLog<D> {
         take_files(&mut self.log)
     }
 
-    // Puts other files in their place, of which the last log is of a generation.
+    // Puts other files in their place, of which the last log is of a generation. The log before it may stand.
     pub(crate) fn put_files(&mut self, generation: u64, files: WorkerFiles<D>)
         ensures log { IsWith (worker_of self.old) self.old.log.owner.logs generation files self.new.log }
         ensures kept { self.new.kept ≡ self.old.kept }
         ensures sure { self.new.next_in_doubt ≡ false }
+        ensures oldest { self.new.oldest ≡ generation - 1 }
     {
         self.next_in_doubt = false;
+        self.oldest = generation.saturating_sub(1);
         put_files(&mut self.log, generation, files);
     }
 }

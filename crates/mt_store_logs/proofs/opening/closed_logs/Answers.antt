@@ -39,6 +39,7 @@ loop-one-preserved g c =
           (record { worker = c.new.ensures.worker ∙ omega (arith, at, len); logs = c.new.ensures.logs ∙ omega (arith, many, size); generation = c.new.ensures.generation; files = c.new.ensures.files });
       none = c.new-in-loop-one.ensures.none;
       sure = c.new-in-loop-one.ensures.sure;
+      oldest = c.new-in-loop-one.ensures.oldest ∙ c.new.ensures.generation;
     } in
     record {
       so_far =

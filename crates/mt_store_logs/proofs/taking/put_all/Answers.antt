@@ -1,5 +1,5 @@
 -- One log more has its files.
-use Rattle.std.proofs.Common.{◌∙◌, Some, sym, ap, subst, arith}
+use Rattle.std.proofs.Common.{◌∙◌, ℕ, ◌-◌, Some, sym, ap, subst, arith}
 use Rattle.std.specs.Prelude.{slice_index_or}
 use Rattle.mt_store_logs.specs.Taking.{IsSameOn, HasItsFiles}
 use Rattle.mt_store_logs.proofs.Loops.{same_workers, one_more, still_left, same_len, walked, next_was, read_or}
@@ -32,6 +32,7 @@ loop-place-preserved g c =
                 ∙ read_or files place c.index_mut.result.now (omega (arith, within, count, size, asked))
                 ∙ ap (λ v. Some v) (sym c.index_mut.ensures.value ∙ sym c.replace-one.ensures.value);
             stands = subst (λ n. IsSameOn n c.replace-one.result (slice_index_or now place c.index-logs-place.result) new) c.last_generation.ensures c.put_files.ensures.log;
+            oldest = c.put_files.ensures.oldest ∙ ap (λ (n : ℕ). n - 1) c.last_generation.ensures;
             rest = record { sure = c.put_files.ensures.sure; none = c.put_files.ensures.kept ∙ ap (λ x. x.kept) at ∙ c.requires.none place was there };
           }));
       left = still_left place old now new i.left;
