@@ -1,2 +1,3 @@
 pub mod EachMore
+pub mod Nexts
 pub mod SettleTurns

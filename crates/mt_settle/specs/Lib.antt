@@ -1,3 +1,4 @@
+pub mod Next
 pub mod Parts
 pub mod Settles
 pub mod Turns

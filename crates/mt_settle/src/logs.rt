@@ -1,11 +1,11 @@
 //! Logs of a store, of which one is brought up to date in a turn.
 
 ghost use Rattle.std.specs.Prelude.{◌≡◌, ◌<◌, ℕ, IfOk};
-ghost use Rattle.mt_settle.specs.Turns.{Turn, BroughtUp, BegunNext, GivenUp, mark_told};
+ghost use Rattle.mt_settle.specs.Turns.{Turn, BroughtUp, BegunNext, GivenUp, Told, mark_told};
 
 use log::Log;
 use mt_rows::Refusal;
-use mt_store_logs::Flushed;
+use mt_store_logs::{Flushed, Generations};
 use std::alloc::Global;
 use std::sync::Wait;
 use std::time::Clock;
@@ -57,4 +57,9 @@ pub trait Logs {
         requires { log < logs self.old }
         ensures does { does self.old (GivenUp log result) self.new }
         ensures same { logs self.new ≡ logs self.old };
+
+    /// The generation of a log's last log, and whether a log of an earlier one may stand.
+    fn generations<R: Wait>(&self, rt: &R, log: u8) -> Result<Generations, Refusal>
+        requires { log < logs self.now }
+        ensures { does self.now (Told log result) self.now };
 }
