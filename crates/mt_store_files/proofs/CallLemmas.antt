@@ -2,9 +2,10 @@
 use Rattle.std.proofs.Common.{◌≡◌, ◌∙◌, inl, inr, ℕ, ◌+◌, ◌<◌, ◌++◌, [], ◌∷◌, List, Option, Some, None, Result, Ok, Err, OnOk, map, take, get_or, length, refl, sym, ap, subst, append_assoc, add-one}
 use Rattle.std.proofs.lemmas.List.{append-nil, map-append, take_more}
 use Rattle.std.proofs.lemmas.List.Elements.{All-append, All-nil}
-use Rattle.std.specs.List.{AllZip}
+use Rattle.std.specs.List.{AllZip, flat_map}
+use Rattle.std.proofs.lemmas.Grind.{flat_map-append}
 use Rattle.mt_store_files.specs.declared.names.StoreFile.{StoreFile}
-use Rattle.mt_store_files.specs.Calls.{FolderCall, Removed, Adds, IsLook, Looks, IsTry, Tries, IsMaking, Makes, call_of}
+use Rattle.mt_store_files.specs.Calls.{FolderCall, Adds, removal, removals, IsLook, Looks, IsTry, Tries, IsMaking, Makes, call_of}
 use Rattle.mt_store_files.specs.FoundLogs.{files_of, files_up_to}
 
 -- what follows from a success
@@ -59,17 +60,17 @@ pub files_next : (k j n : ℕ) → j ≡ k → n ≡ k + 1 → files_up_to n ≡
 files_next k j n same next = ap files_up_to (next ∙ add-one k) ∙ ap (λ i. files_up_to k ++ files_of i) (sym same)
 
 pub removed_next : (a b c : Option (List FolderCall)) (k j n : ℕ) → j ≡ k → n ≡ k + 1
-    → Adds a b (map Removed (files_up_to k)) → Adds b c (map Removed (files_of j)) → Adds a c (map Removed (files_up_to n))
+    → Adds a b (flat_map removals (files_up_to k)) → Adds b c (flat_map removals (files_of j)) → Adds a c (flat_map removals (files_up_to n))
 removed_next a b c k j n same next p q =
-    let whole : map Removed (files_up_to n) ≡ map Removed (files_up_to k) ++ map Removed (files_of j) = ap (λ files. map Removed files) (files_next k j n same next) ∙ map-append Removed (files_up_to k) (files_of j) in
-    subst (Adds a c) (sym whole) (adds_more a b c (map Removed (files_up_to k)) (map Removed (files_of j)) p q)
+    let whole : flat_map removals (files_up_to n) ≡ flat_map removals (files_up_to k) ++ flat_map removals (files_of j) = ap (λ files. flat_map removals files) (files_next k j n same next) ∙ flat_map-append removals (files_up_to k) (files_of j) in
+    subst (Adds a c) (sym whole) (adds_more a b c (flat_map removals (files_up_to k)) (flat_map removals (files_of j)) p q)
 
 pub made_next : (a b c : Option (List FolderCall)) (k j n : ℕ) → j ≡ k → n ≡ k + 1 → Makes (files_up_to k) a b → Makes (files_of j) b c → Makes (files_up_to n) a c
 made_next a b c k j n same next p q = subst (λ files. Makes files a c) (sym (files_next k j n same next)) (makes_more a b c (files_up_to k) (files_of j) p q)
 
 -- one more of these files is removed, or is not
 pub tried_next : {T E : Type 0} (r : Result T E) (a b c : Option (List FolderCall)) (files : List StoreFile) (i : ℕ) (d : StoreFile) → i < length files
-    → Tries (map Removed (take i files)) a b → Adds b c (call_of (λ _. Removed (get_or files i d)) r ∷ []) → Tries (map Removed (take (i + 1) files)) a c
+    → Tries (map removal (take i files)) a b → Adds b c (call_of (λ _. removal (get_or files i d)) r ∷ []) → Tries (map removal (take (i + 1) files)) a c
 tried_next r a b c files i d within p q =
-    let whole : map Removed (take (i + 1) files) ≡ map Removed (take i files) ++ Removed (get_or files i d) ∷ [] = ap (λ some. map Removed some) (take_more files i d within) ∙ map-append Removed (take i files) (get_or files i d ∷ []) in
-    subst (λ calls. Tries calls a c) (sym whole) (tries_more a b c (map Removed (take i files)) (Removed (get_or files i d) ∷ []) p (tries_one r b c (Removed (get_or files i d)) q))
+    let whole : map removal (take (i + 1) files) ≡ map removal (take i files) ++ removal (get_or files i d) ∷ [] = ap (λ some. map removal some) (take_more files i d within) ∙ map-append removal (take i files) (get_or files i d ∷ []) in
+    subst (λ calls. Tries calls a c) (sym whole) (tries_more a b c (map removal (take i files)) (removal (get_or files i d) ∷ []) p (tries_one r b c (removal (get_or files i d)) q))

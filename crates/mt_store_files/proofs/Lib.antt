@@ -1,2 +1,3 @@
 mod CallLemmas
 mod FoundLemmas
+mod CheckLemmas

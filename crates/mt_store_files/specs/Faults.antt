@@ -2,7 +2,8 @@
 use Rattle.std.specs.Prelude.{◌≡◌, ℕ, ◌<◌, Some, None}
 use Rattle.mt_rows.specs.declared.refusal.Refusal.{Refusal}
 use Rattle.mt_store_files.specs.{declared.names.StoreFile.StoreFile, declared.names.StoreFile.TheVariants.{Log, Numbered, Slot}, declared.fault.StoreFault.StoreFault}
-use Rattle.mt_store_files.specs.declared.fault.StoreFault.TheVariants.{InUse, NoFolder, NoLog, System, Memory, LogCount, Missing, Refused, RefusedLog}
+use Rattle.mt_store_files.specs.{declared.names.FolderFile.FolderFile, declared.names.FolderFile.TheVariants.{Store, Digest}}
+use Rattle.mt_store_files.specs.declared.fault.StoreFault.TheVariants.{InUse, NoFolder, NoLog, System, Memory, LogCount, Missing, Refused, RefusedLog, DigestDevice, Spoiled}
 use Rattle.mt_rows.specs.declared.refusal.Refusal.TheVariants as refusals
 
 -- the refusal by whose number a fault is told
@@ -16,6 +17,8 @@ refusal_of (LogCount counts) = refusals.LogCount
 refusal_of (Missing files) = refusals.LogCount
 refusal_of (Refused file refusal) = refusal
 refusal_of (RefusedLog worker refusal) = refusal
+refusal_of (DigestDevice file) = refusals.Device
+refusal_of (Spoiled file) = refusals.LogCount
 
 -- 1 where the device or memory failed, 3 where the store is refused
 abbrev pub status_of : StoreFault → ℕ
@@ -25,7 +28,13 @@ status_of (Refused file refusals.Device) = 1
 status_of (Refused file refusals.Memory) = 1
 status_of (RefusedLog worker refusals.Device) = 1
 status_of (RefusedLog worker refusals.Memory) = 1
+status_of (DigestDevice file) = 1
 status_of fault = 3
+
+-- that the device failed at a file
+abbrev pub device_fault : FolderFile → StoreFault
+device_fault (Store file) = Refused (Some file) refusals.Device
+device_fault (Digest file) = DigestDevice file
 
 -- why a folder isn't opened
 abbrev pub IsOfFolder : StoreFault → Type 0
@@ -49,7 +58,7 @@ IsOfWorkers workers file = ⊥
 -- why the files of so many logs aren't opened or made; of one that is missing it is told how many were asked for
 abbrev pub IsOfFiles : ℕ → StoreFault → Type 0
 IsOfFiles logs (NoLog worker counts) = (worker < logs) × (counts.workers ≡ logs)
-IsOfFiles logs (System (Some file) error) = IsOfWorkers logs file
+IsOfFiles logs (System (Some (Store file)) error) = IsOfWorkers logs file
 IsOfFiles logs (System None error) = Unit {0}
 IsOfFiles logs (Refused (Some file) refusals.Device) = IsOfWorkers logs file
 IsOfFiles logs Memory = Unit {0}
@@ -63,22 +72,42 @@ IsFileOf worker file = ⊥
 
 -- why the files of one worker's log aren't opened, made or removed
 abbrev pub IsOfLog : ℕ → StoreFault → Type 0
-IsOfLog worker (System (Some file) error) = IsFileOf worker file
+IsOfLog worker (System (Some (Store file)) error) = IsFileOf worker file
 IsOfLog worker (Refused (Some file) refusals.Device) = IsFileOf worker file
 IsOfLog worker Memory = Unit {0}
 IsOfLog worker fault = ⊥
 
 -- why the files of both slots aren't opened or made
 abbrev pub IsOfSlots : StoreFault → Type 0
-IsOfSlots (System (Some (Slot slot)) error) = Unit {0}
+IsOfSlots (System (Some (Store (Slot slot))) error) = Unit {0}
 IsOfSlots (System None error) = Unit {0}
 IsOfSlots (Refused (Some (Slot slot)) refusals.Device) = Unit {0}
 IsOfSlots Memory = Unit {0}
 IsOfSlots fault = ⊥
 
--- why one file isn't opened, made or removed
-abbrev pub IsOfFile : StoreFile → StoreFault → Type 0
+-- why one file of the folder isn't opened, made or removed
+abbrev pub IsOfFile : FolderFile → StoreFault → Type 0
 IsOfFile file (System (Some other) error) = other ≡ file
-IsOfFile file (Refused (Some other) refusals.Device) = other ≡ file
+IsOfFile file (Refused (Some other) refusals.Device) = Store other ≡ file
+IsOfFile file (DigestDevice other) = Digest other ≡ file
 IsOfFile file Memory = Unit {0}
 IsOfFile file fault = ⊥
+
+-- a slot, or a file of the log of one of so many workers
+abbrev pub IsOfStore : ℕ → StoreFile → Type 0
+IsOfStore workers (Slot slot) = Unit {0}
+IsOfStore workers file = IsOfWorkers workers file
+
+-- why the digest files of slots and of so many logs aren't removed
+abbrev pub IsOfDigests : ℕ → StoreFault → Type 0
+IsOfDigests logs (System (Some (Digest file)) error) = IsOfStore logs file
+IsOfDigests logs (DigestDevice file) = IsOfStore logs file
+IsOfDigests logs Memory = Unit {0}
+IsOfDigests logs fault = ⊥
+
+-- why files of slots and of so many logs are not found to agree with their digests
+abbrev pub IsOfCheck : ℕ → StoreFault → Type 0
+IsOfCheck logs (System (Some (Store file)) error) = IsOfStore logs file
+IsOfCheck logs (Refused (Some file) refusals.Device) = IsOfStore logs file
+IsOfCheck logs (Spoiled file) = IsOfStore logs file
+IsOfCheck logs fault = IsOfDigests logs fault

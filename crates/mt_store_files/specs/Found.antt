@@ -3,7 +3,7 @@ use Rattle.std.specs.Prelude.{◌≡◌, ◌++◌, Bool, List, [], ◌∷◌, Op
 use Rattle.mt_disk.specs.Disk.{DiskState}
 use Rattle.mt_checkpoint.specs.Checkpoints.{IsClosedAtRest}
 use Rattle.mt_slots.specs.{declared.slot.Slot.TheVariants.{First, Second}, declared.store_slots.StoreSlots.StoreSlots}
-use Rattle.mt_store_files.specs.{declared.names.StoreFile.StoreFile, declared.names.StoreFile.TheVariants.Slot}
+use Rattle.mt_store_files.specs.{declared.names.StoreFile.StoreFile, declared.names.StoreFile.TheVariants.Slot, declared.names.FolderFile.TheVariants.Store}
 use Rattle.mt_store_files.specs.{Calls.{FolderCall, Opened, Missed, Made, Synced, Adds}, Made.IsMadeIfEmpty}
 
 -- a file that was there, or was made because it was missing; and its disk as it was then
@@ -21,8 +21,8 @@ disk_of (WasMissing file disk) = disk
 
 -- the calls by which it was opened or made
 abbrev pub calls_to_open : Found → List FolderCall
-calls_to_open (WasThere file disk) = Opened file disk ∷ []
-calls_to_open (WasMissing file disk) = Missed file ∷ Made file disk ∷ []
+calls_to_open (WasThere file disk) = Opened (Store file) disk ∷ []
+calls_to_open (WasMissing file disk) = Missed (Store file) ∷ Made (Store file) disk ∷ []
 
 -- what is remembered of it as made
 abbrev pub made_of : Found → List StoreFile

@@ -5,3 +5,6 @@ pub mod Calls
 pub mod Found
 pub mod FoundLogs
 pub mod Changes
+pub mod Reports
+pub mod Digests
+pub mod Checks

@@ -1,9 +1,9 @@
 //! Why a store isn't served.
 
 ghost use Rattle.std.specs.Prelude.{◌≡◌};
-ghost use Rattle.mt_store_files.specs.{Faults.{refusal_of, status_of}, declared.fault.StoreFault.TheVariants.{Memory as MemoryFault}};
+ghost use Rattle.mt_store_files.specs.{Faults.{refusal_of, status_of, device_fault}, declared.fault.StoreFault.TheVariants.{Memory as MemoryFault}};
 
-use crate::names::StoreFile;
+use crate::names::{FolderFile, StoreFile};
 use mt_rows::Refusal;
 use std::alloc::{AllocError, AllocFailed};
 use std::error::Error;
@@ -26,7 +26,7 @@ pub enum StoreFault {
     /// The file of this worker's log is missing.
     NoLog(u8, LogCounts),
     /// The system failed, at this file or else at the folder.
-    System(Option<StoreFile>, io::Error),
+    System(Option<FolderFile>, io::Error),
     /// A growth was refused.
     Memory,
     /// The logs aren't those that they name themselves.
@@ -37,6 +37,10 @@ pub enum StoreFault {
     Refused(Option<StoreFile>, Refusal),
     /// The log of this worker was refused. Which of its files is the cause isn't known.
     RefusedLog(usize, Refusal),
+    /// The device failed at the digest file of this file.
+    DigestDevice(StoreFile),
+    /// This file isn't what was written, by its digest.
+    Spoiled(StoreFile),
 }
 
 impl StoreFault {
@@ -45,13 +49,26 @@ impl StoreFault {
         ensures { result ≡ refusal_of self.now }
     {
         match self {
-            StoreFault::InUse | StoreFault::System(_, _) => Refusal::Device,
+            StoreFault::InUse | StoreFault::System(_, _) | StoreFault::DigestDevice(_) => {
+                Refusal::Device
+            }
             StoreFault::NoFolder
             | StoreFault::NoLog(_, _)
             | StoreFault::LogCount(_)
-            | StoreFault::Missing(_) => Refusal::LogCount,
+            | StoreFault::Missing(_)
+            | StoreFault::Spoiled(_) => Refusal::LogCount,
             StoreFault::Memory => Refusal::Memory,
             StoreFault::Refused(_, refusal) | StoreFault::RefusedLog(_, refusal) => *refusal,
+        }
+    }
+
+    /// That the device failed at a file.
+    pub(crate) fn device_at(file: FolderFile) -> StoreFault
+        ensures { result ≡ device_fault file }
+    {
+        match file {
+            FolderFile::Store(file) => StoreFault::Refused(Some(file), Refusal::Device),
+            FolderFile::Digest(file) => StoreFault::DigestDevice(file),
         }
     }
 
@@ -62,6 +79,7 @@ impl StoreFault {
         match self {
             StoreFault::System(_, _)
             | StoreFault::Memory
+            | StoreFault::DigestDevice(_)
             | StoreFault::Refused(_, Refusal::Device | Refusal::Memory)
             | StoreFault::RefusedLog(_, Refusal::Device | Refusal::Memory) => 1,
             StoreFault::InUse
@@ -70,7 +88,8 @@ impl StoreFault {
             | StoreFault::LogCount(_)
             | StoreFault::Missing(_)
             | StoreFault::Refused(_, _)
-            | StoreFault::RefusedLog(_, _) => 3,
+            | StoreFault::RefusedLog(_, _)
+            | StoreFault::Spoiled(_) => 3,
         }
     }
 }
@@ -108,9 +127,16 @@ impl fmt::Display for LogCounts {
 // A file, the log of a worker, or the folder.
 #[derive(Clone, Copy)]
 enum Place<'a> {
-    File(&'a str, StoreFile),
+    File(&'a str, FolderFile),
     Log(&'a str, usize),
     Folder(&'a str),
+}
+
+impl<'a> Place<'a> {
+    // A file of the store.
+    fn of(folder: &'a str, file: StoreFile) -> Self {
+        Place::File(folder, FolderFile::Store(file))
+    }
 }
 
 impl fmt::Display for Place<'_> {
@@ -132,7 +158,7 @@ impl fmt::Display for MissingFiles<'_> {
         let MissingFiles(folder, files) = *self;
         let mut before = "";
         for file in files {
-            write!(f, "{before}{}", Place::File(folder, *file))?;
+            write!(f, "{before}{}", Place::of(folder, *file))?;
             before = ", ";
         }
         let is = if files.len() == 1 { "is" } else { "are" };
@@ -140,10 +166,10 @@ impl fmt::Display for MissingFiles<'_> {
     }
 }
 
-// A file, or else the folder.
+// A file of the store, or else the folder.
 fn place_of(folder: &str, file: Option<StoreFile>) -> Place<'_> {
     match file {
-        Some(file) => Place::File(folder, file),
+        Some(file) => Place::of(folder, file),
         None => Place::Folder(folder),
     }
 }
@@ -162,16 +188,18 @@ impl fmt::Display for FolderFault {
                 "{number}: there is no folder '{folder}': name the store's, or make a new store by --create"
             ),
             StoreFault::NoLog(worker, counts) => {
-                let place = Place::File(folder, StoreFile::Log(usize::from(*worker)));
+                let place = Place::of(folder, StoreFile::Log(usize::from(*worker)));
                 write!(
                     f,
                     "{number}: {place} is missing; {counts}: {}",
                     remedy(*counts)
                 )
             }
-            StoreFault::System(file, error) => {
-                let place = place_of(folder, *file);
-                write!(f, "{number}: {place}: {error}")
+            StoreFault::System(None, error) => {
+                write!(f, "{number}: {}: {error}", Place::Folder(folder))
+            }
+            StoreFault::System(Some(file), error) => {
+                write!(f, "{number}: {}: {error}", Place::File(folder, *file))
             }
             StoreFault::Memory => write!(f, "{number}: out of memory"),
             StoreFault::LogCount(counts) => write!(
@@ -188,6 +216,18 @@ impl fmt::Display for FolderFault {
             }
             StoreFault::RefusedLog(worker, refusal) => {
                 told(f, folder, Place::Log(folder, *worker), *refusal)
+            }
+            StoreFault::DigestDevice(file) => {
+                let digest = Place::File(folder, FolderFile::Digest(*file));
+                told(f, folder, digest, number)
+            }
+            StoreFault::Spoiled(file) => {
+                let digest = Place::File(folder, FolderFile::Digest(*file));
+                let file = Place::of(folder, *file);
+                write!(
+                    f,
+                    "{number}: {file} isn't what was written, by its digest in {digest}: {ALL_BACK}, or remove the digest to serve what is there"
+                )
             }
         }
     }

@@ -1,14 +1,16 @@
 //! A store's folder, and its files as disks.
 
-ghost use Rattle.std.specs.Prelude.{◌≡◌, ◌++◌, ◌∷◌, [], ◌≤◌, map, IsTrue, IfOk, IfErr, OnOk, vec_len};
+ghost use Rattle.std.specs.Prelude.{◌≡◌, ◌⊎◌, ◌+◌, ◌++◌, ◌∷◌, [], ◌≤◌, map, IsTrue, IfOk, IfErr, OnOk, vec_len};
 ghost use Rattle.mt_checkpoint.specs.Checkpoints.{IsClosedAtRest};
 ghost use Rattle.mt_gates.specs.Gates.{IsGivenUp};
-ghost use Rattle.mt_store_files.specs.{declared.names.StoreFile.TheVariants.{Numbered as NumberedFile, Slot as SlotFile}, Faults.{IsOfFolder, IsOfFiles, IsOfLog, IsOfSlots, IsOfFile, IsOfSync}};
-ghost use Rattle.mt_store_files.specs.{Made.IsMadeIfEmpty, Calls.{MadeFolder, SyncedParent, Locked, Removed, Synced, Adds, Looks, Makes, Tries}, Changes.{CreatesLogs, CreatesSlots, IsToldWith}};
+ghost use Rattle.std.specs.List.{flat_map};
+ghost use Rattle.mt_store_files.specs.declared.names.{FolderFile.TheVariants.{Store as StoreName, Digest as DigestName}, StoreFile.TheVariants.{Numbered as NumberedFile, Slot as SlotFile}};
+ghost use Rattle.mt_store_files.specs.Faults.{IsOfFolder, IsOfFiles, IsOfLog, IsOfSlots, IsOfDigests, IsOfFile, IsOfSync};
+ghost use Rattle.mt_store_files.specs.{Made.IsMadeIfEmpty, Calls.{MadeFolder, SyncedParent, Locked, Synced, Adds, removal, removals, Looks, Makes, Tries}, Changes.{CreatesLogs, CreatesSlots, IsToldWith}};
 ghost use Rattle.mt_store_files.specs.{Found.{IsFoundFile, IsFoundMade, OpensSlots}, FoundLogs.{files_of, files_up_to, IsFoundLog, AreFound, OpensLogs}};
 
 use crate::fault::{LogCounts, StoreFault};
-use crate::names::StoreFile;
+use crate::names::{FolderFile, StoreFile};
 use crate::os_folder::OsFolder;
 use crate::system::FolderSystem;
 use mt_checkpoint::create_slot;
@@ -29,8 +31,8 @@ const MAX_LOGS: u8 = 64;
 /// missing.
 #[derive(Drop)]
 pub struct StoreFolder<S: FolderSystem = OsFolder> {
-    system: S,
-    lock: S::Lock,
+    pub(crate) system: S,
+    pub(crate) lock: S::Lock,
     made: Vec<StoreFile>,
 }
 
@@ -145,7 +147,7 @@ impl<S: FolderSystem + Drop> StoreFolder<S> {
     {
         let mut logs = 0;
         for worker in 0..MAX_LOGS {
-            let plain = StoreFile::Log(usize::from(worker));
+            let plain = FolderFile::Store(StoreFile::Log(usize::from(worker)));
             if self.system.has(rt, alloc, plain).unwrap_or(false) {
                 logs += 1;
             }
@@ -154,7 +156,7 @@ impl<S: FolderSystem + Drop> StoreFolder<S> {
     }
 
     /// The files of so many logs made anew, without a byte, in the order of their workers. All logs that
-    /// stood in the folder are lost. After an error the folder may have any of the files.
+    /// stood in the folder are lost, with their digests. After an error the folder may have any of the files.
     pub fn create_logs<R: Files<File = File>>(
         &mut self,
         rt: &R,
@@ -163,7 +165,7 @@ impl<S: FolderSystem + Drop> StoreFolder<S> {
     ) -> Result<Vec<WorkerFiles<S::File>>, StoreFault>
         requires { logs ≤ 64 }
         ensures all { IfOk result (λ files. vec_len files ≡ logs) }
-        ensures fault { IfErr result (IsOfFiles 64) }
+        ensures fault { IfErr result (λ e. IsOfFiles 64 e ⊎ IsOfDigests 64 e) }
         ensures created { OnOk result (CreatesLogs logs (S.calls self.old.system) (S.calls self.new.system)) }
     {
         remove_logs(&mut self.system, rt, alloc)?;
@@ -172,21 +174,21 @@ impl<S: FolderSystem + Drop> StoreFolder<S> {
         Ok(files)
     }
 
-    /// The files of both slots made anew, without a byte. What stood in them is lost. After an error the folder
-    /// may have any of the files.
+    /// The files of both slots made anew, without a byte. What stood in them is lost, with their digests. After
+    /// an error the folder may have any of the files.
     pub fn create_slots<R: Files<File = File>>(
         &mut self,
         rt: &R,
         alloc: Global,
     ) -> Result<StoreSlots<S::File>, StoreFault>
-        ensures fault { IfErr result IsOfSlots }
+        ensures fault { IfErr result (λ e. IsOfSlots e ⊎ IsOfDigests 0 e) }
         ensures created { IfOk result (λ slots. CreatesSlots S.File.state slots (S.calls self.old.system) (S.calls self.new.system)) }
     {
         let (first, second) = (StoreFile::Slot(Slot::First), StoreFile::Slot(Slot::Second));
-        self.system.remove(rt, alloc, first)?;
-        self.system.remove(rt, alloc, second)?;
-        let first = self.system.make(rt, alloc, first)?;
-        let second = self.system.make(rt, alloc, second)?;
+        remove_file(&mut self.system, rt, alloc, first)?;
+        remove_file(&mut self.system, rt, alloc, second)?;
+        let first = self.system.make(rt, alloc, FolderFile::Store(first))?;
+        let second = self.system.make(rt, alloc, FolderFile::Store(second))?;
         self.system.sync(&self.lock)?;
         Ok(StoreSlots::found(first, second))
     }
@@ -216,7 +218,7 @@ impl<S: FolderSystem + Drop> StoreFolder<S> {
         alloc: Global,
         fault: StoreFault,
     ) -> StoreFault
-        ensures removed { Tries (map Removed self.old.made.items ++ Synced ∷ []) (S.calls self.old.system) (S.calls self.new.system) }
+        ensures removed { Tries (map removal self.old.made.items ++ Synced ∷ []) (S.calls self.old.system) (S.calls self.new.system) }
         ensures none_left { self.new.made.items ≡ [] }
         ensures told { IsToldWith self.old.made.items fault result }
     {
@@ -266,10 +268,10 @@ fn remove_each<R: Files<File = File>, S: FolderSystem>(
     alloc: Global,
     files: &[StoreFile],
 )
-    ensures { Tries (map Removed files.now) (S.calls system.old) (S.calls system.new) }
+    ensures { Tries (map removal files.now) (S.calls system.old) (S.calls system.new) }
 {
     for file in files {
-        let _ = system.remove(rt, alloc, *file);
+        let _ = system.remove(rt, alloc, FolderFile::Store(*file));
     }
 }
 
@@ -281,14 +283,15 @@ fn open_or_make<R: Files<File = File>, S: FolderSystem>(
     alloc: Global,
     file: StoreFile,
 ) -> Result<S::File, StoreFault>
-    ensures fault { IfErr result (IsOfFile file) }
+    ensures fault { IfErr result (IsOfFile (StoreName file)) }
     ensures found { IfOk result (λ disk. IsFoundFile file (S.File.state disk) (S.calls system.old) (S.calls system.new) made.old.items made.new.items) }
 {
-    match system.open(rt, alloc, file)? {
+    let name = FolderFile::Store(file);
+    match system.open(rt, alloc, name)? {
         Some(disk) => Ok(disk),
         None => {
             made.reserve(1)?;
-            let fresh = system.make(rt, alloc, file)?;
+            let fresh = system.make(rt, alloc, name)?;
             made.push_reserved(file);
             Ok(fresh)
         }
@@ -305,7 +308,7 @@ fn has_log<R: Files<File = File>, S: FolderSystem>(
     ensures fault { IfErr result (IsOfLog worker) }
     ensures looks { OnOk result (Looks (S.calls system.old) (S.calls system.new)) }
 {
-    if system.has(rt, alloc, StoreFile::Log(worker))? {
+    if system.has(rt, alloc, FolderFile::Store(StoreFile::Log(worker)))? {
         return Ok(true);
     }
     has_numbered(system, rt, alloc, worker)
@@ -339,7 +342,7 @@ fn is_log<R: Files<File = File>, S: FolderSystem>(
     ensures looks { OnOk result (Looks (S.calls system.old) (S.calls system.new)) }
 {
     let name = StoreFile::Numbered(worker, parity);
-    let Some(mut disk) = system.open(rt, alloc, name)? else {
+    let Some(mut disk) = system.open(rt, alloc, FolderFile::Store(name))? else {
         return Ok(false);
     };
     match read_header(&mut disk) {
@@ -397,7 +400,7 @@ fn open_numbered<R: Files<File = File>, S: FolderSystem>(
     worker: usize,
     parity: Parity,
 ) -> Result<S::File, StoreFault>
-    ensures fault { IfErr result (IsOfFile (NumberedFile worker parity)) }
+    ensures fault { IfErr result (IsOfFile (StoreName (NumberedFile worker parity))) }
     ensures found { IfOk result (λ disk.
         IsFoundMade IsGivenUp S.File.is_honest S.File.state (NumberedFile worker parity) disk (S.calls system.old) (S.calls system.new) made.old.items made.new.items) }
 {
@@ -449,20 +452,25 @@ fn create_log<R: Files<File = File>, S: FolderSystem>(
     ensures fault { IfErr result (IsOfLog worker) }
     ensures made { OnOk result (Makes (files_of worker) (S.calls system.old) (S.calls system.new)) }
 {
-    let plain = system.make(rt, alloc, StoreFile::Log(worker))?;
-    let even = system.make(rt, alloc, StoreFile::Numbered(worker, Parity::Even))?;
-    let odd = system.make(rt, alloc, StoreFile::Numbered(worker, Parity::Odd))?;
+    let (plain, even, odd) = (
+        StoreFile::Log(worker),
+        StoreFile::Numbered(worker, Parity::Even),
+        StoreFile::Numbered(worker, Parity::Odd),
+    );
+    let plain = system.make(rt, alloc, FolderFile::Store(plain))?;
+    let even = system.make(rt, alloc, FolderFile::Store(even))?;
+    let odd = system.make(rt, alloc, FolderFile::Store(odd))?;
     Ok(WorkerFiles::closed(plain, even, odd))
 }
 
-// Removes the files of all logs that a folder may have.
+// Removes the files of all logs that a folder may have, with their digests.
 fn remove_logs<R: Files<File = File>, S: FolderSystem>(
     system: &mut S,
     rt: &R,
     alloc: Global,
 ) -> Result<(), StoreFault>
-    ensures fault { IfErr result (IsOfFiles 64) }
-    ensures removed { OnOk result (Adds (S.calls system.old) (S.calls system.new) (map Removed (files_up_to 64))) }
+    ensures fault { IfErr result (λ e. IsOfFiles 64 e ⊎ IsOfDigests 64 e) }
+    ensures removed { OnOk result (Adds (S.calls system.old) (S.calls system.new) (flat_map removals (files_up_to 64))) }
 {
     for worker in 0..MAX_LOGS {
         remove_log(system, rt, alloc, usize::from(worker))?;
@@ -470,19 +478,33 @@ fn remove_logs<R: Files<File = File>, S: FolderSystem>(
     Ok(())
 }
 
-// Removes the files of a worker's log, if there are any.
+// Removes the files of a worker's log with their digests, if there are any.
 fn remove_log<R: Files<File = File>, S: FolderSystem>(
     system: &mut S,
     rt: &R,
     alloc: Global,
     worker: usize,
 ) -> Result<(), StoreFault>
-    ensures fault { IfErr result (IsOfLog worker) }
-    ensures removed { OnOk result (Adds (S.calls system.old) (S.calls system.new) (map Removed (files_of worker))) }
+    ensures fault { IfErr result (λ e. IsOfLog worker e ⊎ IsOfDigests (worker + 1) e) }
+    ensures removed { OnOk result (Adds (S.calls system.old) (S.calls system.new) (flat_map removals (files_of worker))) }
 {
-    system.remove(rt, alloc, StoreFile::Log(worker))?;
-    system.remove(rt, alloc, StoreFile::Numbered(worker, Parity::Even))?;
-    system.remove(rt, alloc, StoreFile::Numbered(worker, Parity::Odd))
+    remove_file(system, rt, alloc, StoreFile::Log(worker))?;
+    remove_file(system, rt, alloc, StoreFile::Numbered(worker, Parity::Even))?;
+    remove_file(system, rt, alloc, StoreFile::Numbered(worker, Parity::Odd))
+}
+
+// Removes the digest file of a file, and then the file, if they are there.
+fn remove_file<R: Files<File = File>, S: FolderSystem>(
+    system: &mut S,
+    rt: &R,
+    alloc: Global,
+    file: StoreFile,
+) -> Result<(), StoreFault>
+    ensures fault { IfErr result (λ e. IsOfFile (StoreName file) e ⊎ IsOfFile (DigestName file) e) }
+    ensures removed { OnOk result (Adds (S.calls system.old) (S.calls system.new) (removals file)) }
+{
+    system.remove(rt, alloc, FolderFile::Digest(file))?;
+    system.remove(rt, alloc, FolderFile::Store(file))
 }
 
 // The file of a slot, which is made a slot if it isn't there, or has no byte.
@@ -493,7 +515,7 @@ fn open_slot<R: Files<File = File>, S: FolderSystem>(
     alloc: Global,
     slot: Slot,
 ) -> Result<S::File, StoreFault>
-    ensures fault { IfErr result (IsOfFile (SlotFile slot)) }
+    ensures fault { IfErr result (IsOfFile (StoreName (SlotFile slot))) }
     ensures found { IfOk result (λ disk.
         IsFoundMade IsClosedAtRest S.File.is_honest S.File.state (SlotFile slot) disk (S.calls system.old) (S.calls system.new) made.old.items made.new.items) }
 {

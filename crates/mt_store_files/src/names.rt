@@ -1,7 +1,7 @@
 //! The files of a store, and their names.
 
 ghost use Rattle.std.specs.Prelude.{◌≡◌, ◌++◌, codes, IfOk};
-ghost use Rattle.mt_store_files.specs.Names.{file_name};
+ghost use Rattle.mt_store_files.specs.Names.{file_name, folder_file_name};
 
 use mt_log_generations::Parity;
 use mt_slots::Slot;
@@ -45,9 +45,31 @@ impl fmt::Display for StoreFile {
     }
 }
 
+/// A file of a store's folder. It is printed as its name.
+#[derive(Clone, Copy, Debug, PartialEq, Eq)]
+pub enum FolderFile {
+    /// A file of the store.
+    Store(StoreFile),
+    /// The digest file of one: its name, and `.sha256`.
+    Digest(StoreFile),
+}
+
+impl fmt::Display for FolderFile {
+    ghost use Rattle.std.specs.Prelude.{Some};
+
+    ghost output = { λ file. Some (folder_file_name file) };
+
+    fn fmt<W: fmt::Write>(&self, f: &mut fmt::Formatter<W>) -> fmt::Result {
+        match self {
+            FolderFile::Store(file) => write!(f, "{file}"),
+            FolderFile::Digest(file) => write!(f, "{file}.sha256"),
+        }
+    }
+}
+
 /// The path of a file, in the folder.
-pub(crate) fn file_path(alloc: Global, folder: &str, file: StoreFile) -> Result<String, AllocError>
-    ensures { IfOk result (λ path. path.bytes.items ≡ folder.now ++ codes "/" ++ file_name file) }
+pub(crate) fn file_path(alloc: Global, folder: &str, file: FolderFile) -> Result<String, AllocError>
+    ensures { IfOk result (λ path. path.bytes.items ≡ folder.now ++ codes "/" ++ folder_file_name file) }
 {
     Ok(format!(in alloc; "{folder}/{file}")?)
 }

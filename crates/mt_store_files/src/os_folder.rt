@@ -4,10 +4,9 @@ ghost use Rattle.std.specs.Prelude.{◌≡◌, None, IfOk, IfErr};
 ghost use Rattle.mt_store_files.specs.Faults.{IsOfFile, IsOfSync};
 
 use crate::fault::StoreFault;
-use crate::names::{StoreFile, file_path, parent_path};
+use crate::names::{FolderFile, file_path, parent_path};
 use crate::system::FolderSystem;
 use mt_disk::{FileDisk, OsFile};
-use mt_rows::Refusal;
 use std::alloc::{AllocError, Global};
 use std::fs::{self, File, OpenOptions, TryLockError};
 use std::io::{self, ErrorKind};
@@ -16,7 +15,7 @@ use std::rt::Files;
 /// The folder at a path. Its lock is an open file of the folder itself, and ends with the process, however that ends.
 #[derive(Drop)]
 pub struct OsFolder {
-    path: String,
+    pub(crate) path: String,
 }
 
 impl OsFolder {
@@ -47,12 +46,12 @@ fn for_files() -> OpenOptions {
 }
 
 // A file as a disk: as the device has it, and not as another process left it in the memory of the system.
-fn found(alloc: Global, name: StoreFile, file: File) -> Result<FileDisk, StoreFault>
+fn found(alloc: Global, name: FolderFile, file: File) -> Result<FileDisk, StoreFault>
     ensures fault { IfErr result (IsOfFile name) }
 {
     match FileDisk::found(alloc, OsFile::new(file)) {
         Ok(disk) => Ok(disk),
-        Err(_) => Err(StoreFault::Refused(Some(name), Refusal::Device)),
+        Err(_) => Err(StoreFault::device_at(name)),
     }
 }
 
@@ -106,7 +105,7 @@ impl FolderSystem for OsFolder {
         &mut self,
         rt: &R,
         alloc: Global,
-        file: StoreFile,
+        file: FolderFile,
     ) -> Result<bool, StoreFault> {
         let path = file_path(alloc, self.path.as_str(), file)?;
         match fs::exists(rt, path.as_str()) {
@@ -119,7 +118,7 @@ impl FolderSystem for OsFolder {
         &mut self,
         rt: &R,
         alloc: Global,
-        file: StoreFile,
+        file: FolderFile,
     ) -> Result<Option<FileDisk>, StoreFault> {
         let path = file_path(alloc, self.path.as_str(), file)?;
         match for_files().open(rt, path.as_str()) {
@@ -133,7 +132,7 @@ impl FolderSystem for OsFolder {
         &mut self,
         rt: &R,
         alloc: Global,
-        file: StoreFile,
+        file: FolderFile,
     ) -> Result<FileDisk, StoreFault> {
         let path = file_path(alloc, self.path.as_str(), file)?;
         match for_files().create_new(true).open(rt, path.as_str()) {
@@ -152,7 +151,7 @@ impl FolderSystem for OsFolder {
         &mut self,
         rt: &R,
         alloc: Global,
-        file: StoreFile,
+        file: FolderFile,
     ) -> Result<(), StoreFault> {
         let path = file_path(alloc, self.path.as_str(), file)?;
         match fs::remove_file(rt, path.as_str()) {

@@ -4,7 +4,7 @@ ghost use Rattle.std.specs.Prelude.{◌∷◌, [], Option, List, IfErr};
 ghost use Rattle.mt_store_files.specs.{Faults.{IsOfFolder, IsOfFile, IsOfSync}, Calls.{FolderCall, MadeFolder, SyncedParent, Locked, Looked, Made, Removed, Synced, Adds, call_of, open_call}};
 
 use crate::fault::StoreFault;
-use crate::names::StoreFile;
+use crate::names::FolderFile;
 use mt_disk::Disk;
 use std::alloc::Global;
 use std::fs::File;
@@ -50,7 +50,7 @@ pub trait FolderSystem {
         &mut self,
         rt: &R,
         alloc: Global,
-        file: StoreFile,
+        file: FolderFile,
     ) -> Result<bool, StoreFault>
         ensures calls { Adds (calls self.old) (calls self.new) (call_of (λ _. Looked file) result ∷ []) }
         ensures fault { IfErr result (IsOfFile file) };
@@ -60,7 +60,7 @@ pub trait FolderSystem {
         &mut self,
         rt: &R,
         alloc: Global,
-        file: StoreFile,
+        file: FolderFile,
     ) -> Result<Option<Self::File>, StoreFault>
         ensures calls { Adds (calls self.old) (calls self.new) (call_of (open_call Self.File.state file) result ∷ []) }
         ensures fault { IfErr result (IsOfFile file) };
@@ -71,7 +71,7 @@ pub trait FolderSystem {
         &mut self,
         rt: &R,
         alloc: Global,
-        file: StoreFile,
+        file: FolderFile,
     ) -> Result<Self::File, StoreFault>
         ensures calls { Adds (calls self.old) (calls self.new) (call_of (λ disk. Made file (Self.File.state disk)) result ∷ []) }
         ensures fault { IfErr result (IsOfFile file) };
@@ -81,7 +81,7 @@ pub trait FolderSystem {
         &mut self,
         rt: &R,
         alloc: Global,
-        file: StoreFile,
+        file: FolderFile,
     ) -> Result<(), StoreFault>
         ensures calls { Adds (calls self.old) (calls self.new) (call_of (λ _. Removed file) result ∷ []) }
         ensures fault { IfErr result (IsOfFile file) };

@@ -1,6 +1,6 @@
 use Rattle.std.proofs.Common.{◌∷◌, [], refl, sym, rules}
 use Rattle.std.proofs.lemmas.List.{append-nil}
-use Rattle.mt_store_files.specs.{Calls.{Missed, Made}, Found.{WasThere, WasMissing}}
+use Rattle.mt_store_files.specs.{declared.names.FolderFile.TheVariants.Store, Calls.{Missed, Made}, Found.{WasThere, WasMissing}}
 use Rattle.mt_store_files.proofs.CallLemmas.{adds_more}
 use Rattle.mt_store_files.proofs.folder.open_or_make.Goals as goal
 
@@ -18,7 +18,7 @@ returns-in_ok-fresh-in-None-clause-found g c =
       refl,
       record {
         name = refl;
-        calls = adds_more (g.S.FolderSystem.calls c.args.system.now) (g.S.FolderSystem.calls c.open.new.self) (g.S.FolderSystem.calls c.make.new.self) (Missed file ∷ []) (Made file state ∷ []) missed c.in_ok-fresh-in-None.ensures.calls;
+        calls = adds_more (g.S.FolderSystem.calls c.args.system.now) (g.S.FolderSystem.calls c.open.new.self) (g.S.FolderSystem.calls c.make.new.self) (Missed (Store file) ∷ []) (Made (Store file) state ∷ []) missed c.in_ok-fresh-in-None.ensures.calls;
         made = search rules;
       },
     )

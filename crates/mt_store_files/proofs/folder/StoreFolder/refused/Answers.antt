@@ -1,5 +1,5 @@
 use Rattle.std.proofs.Common.{◌≡◌, ◌∷◌, [], map, subst, rules}
-use Rattle.mt_store_files.specs.Calls.{Removed, Synced, Tries}
+use Rattle.mt_store_files.specs.Calls.{removal, Synced, Tries}
 use Rattle.mt_store_files.proofs.CallLemmas.{tries_more, tries_one}
 use Rattle.mt_store_files.proofs.folder.StoreFolder.refused.Goals as goal
 
@@ -9,5 +9,5 @@ returns-clause-removed g c =
     let removed = g.S.FolderSystem.calls c.remove_each.new.system in
     let after = g.S.FolderSystem.calls c.sync.new.self in
     let made : c.as_slice.result.now ≡ c.args.self.now.made.items = search rules in
-    let each = subst (λ files. Tries (map Removed files) before removed) made c.remove_each.ensures in
-    tries_more before removed after (map Removed c.args.self.now.made.items) (Synced ∷ []) each (tries_one c.sync.result removed after Synced c.sync.ensures.calls)
+    let each = subst (λ files. Tries (map removal files) before removed) made c.remove_each.ensures in
+    tries_more before removed after (map removal c.args.self.now.made.items) (Synced ∷ []) each (tries_one c.sync.result removed after Synced c.sync.ensures.calls)
