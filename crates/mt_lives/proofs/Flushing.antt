@@ -87,7 +87,7 @@ as_log_at from part s given worker now log at given_so kept = record { files = a
 -- a batch that is new to a log waits for it first
 waits_first : (batch : Batch) (log last : StoreLog MemDisk) → OnLast (AppendsNew keeps_rules mem_state failures_of batch) log last
     → OnLast (AppendsKept keeps_rules mem_state failures_of) (keeping batch log) last
-waits_first batch log last a = record { does = a.does.appends; rest = a.rest; doubts = a.doubts }
+waits_first batch log last a = record { does = a.does.appends; rest = a.rest; doubts = a.doubts; oldest = a.oldest }
 
 module _ (from : ℕ) (part : Part) (accounts : Accounts) (life : Life) (s : Store) (v : StateView) (names : Names) (h : Serves accounts life s v names) (worker : ℕ) (now : LogNow) (log : StoreLog MemDisk)
     (there : slice_get s.logs worker ≡ Some now) (at : IsLogAt from part s v.logs worker now log) where
@@ -201,5 +201,5 @@ module _ (from : ℕ) (part : Part) (accounts : Accounts) (life : Life) (s : Sto
     keeps_moves last e f = by f.does
       where
         by : FailsToAppendNew keeps_rules mem_state failures_of e batch (last_log_of log) (last_log_of last) → Moves from part s new.logs worker last × IsMemoryOrDevice e
-        by (inl fails) = still_waits e last (record { does = fails; rest = f.rest; doubts = f.doubts })
+        by (inl fails) = still_waits e last (record { does = fails; rest = f.rest; doubts = f.doubts; oldest = f.oldest })
         by (inr out) = absurd (never_elsewhere out.mark out.open_up_to out.elsewhere)

@@ -7,8 +7,7 @@ use Rattle.mt_disk.specs.{declared.mem.MemDisk.MemDisk, Mem.mem_state}
 use Rattle.mt_crashes.{specs.Stores.{Store, LogNow}, proofs.Invariant.within_place}
 use Rattle.mt_log_files.specs.Files.{Spare}
 use Rattle.mt_chain_files.specs.Turns.{FilesNow, now_of}
-use Rattle.mt_turns.specs.Turns.{GivesUpOlder, FailsToGiveUpOlder}
-use Rattle.mt_store_logs.specs.{declared.store_log.StoreLog.StoreLog, Ends.{IsNextFile, IsInTurn}, Lists.StopsAt, Turns.OnLog}
+use Rattle.mt_store_logs.specs.{declared.store_log.StoreLog.StoreLog, Ends.{IsNextFile, IsInTurn}, Lists.StopsAt, Turns.{GivesUpOlderLog, FailsToGiveUpOlderLog}}
 use Rattle.mt_store_logs.specs.Leaves.{NoneBegun, GivesUpAll, StopsGivingUpAt, LeavesOne}
 use Rattle.mt_store_logs.proofs.{NextTurn.{turned, turned_back}, OlderLaws.{given_up_in_turn, not_given_up_in_turn}}
 use Rattle.mt_lives.specs.{Bases.{Whole}, Lives.IsMemoryOrDevice}
@@ -31,10 +30,10 @@ back_open g h now log is of =
 
 -- its older log was given up, or not for certain
 abbrev GivesUp : StoreLog MemDisk → StoreLog MemDisk → Type 0
-GivesUp was is = OnLog was.next_in_doubt (GivesUpOlder keeps_rules mem_state failures_of) was is
+GivesUp was is = GivesUpOlderLog keeps_rules mem_state failures_of was is
 
 abbrev FailsToGiveUp : Refusal → StoreLog MemDisk → StoreLog MemDisk → Type 0
-FailsToGiveUp e was is = OnLog was.next_in_doubt (FailsToGiveUpOlder keeps_rules mem_state failures_of e) was is
+FailsToGiveUp e was is = FailsToGiveUpOlderLog keeps_rules mem_state failures_of e was is
 
 -- in a turn of which the first file is spare
 record IsLogAlone (g : ℕ) (h : Whole) (now : LogNow) (log : StoreLog MemDisk) : Type 0 where
@@ -67,7 +66,7 @@ module _ (g : ℕ) (h : Whole) (now : LogNow) where
 plain_stays : (was is : StoreLog MemDisk) → was.log.generation ≡ 0 → GivesUp was is → is ≡ was
 plain_stays was is plain gives = ⊎_elim
     (λ older. let of = older.older in absurd (omega (arith, plain, of)))
-    (λ none. same_parts is was none.1 gives.kept gives.doubts)
+    (λ none. same_parts is was none.1 gives.kept gives.doubts (gives.oldest ∙ omega (arith, plain)))
     gives.does
 
 -- ---- all of them

@@ -108,8 +108,8 @@ module _ {D S : Type 0} (is_honest : D → Bool) (state : D → DiskState) (fail
 -- ---- a worker's log by its parts
 
 -- one with the same parts is the same
-pub same_parts : {D : Type 0} (a b : StoreLog D) → a.log ≡ b.log → a.kept ≡ b.kept → a.next_in_doubt ≡ b.next_in_doubt → a ≡ b
-same_parts a b log kept doubt = λ i. record { log = log i; kept = kept i; next_in_doubt = doubt i }
+pub same_parts : {D : Type 0} (a b : StoreLog D) → a.log ≡ b.log → a.kept ≡ b.kept → a.next_in_doubt ≡ b.next_in_doubt → a.oldest ≡ b.oldest → a ≡ b
+same_parts a b log kept doubt oldest = λ i. record { log = log i; kept = kept i; next_in_doubt = doubt i; oldest = oldest i }
 
 -- a log whose last one is put where it is, is the same
 abbrev one_place : Bool → Bool → {D : Type 0} → WorkerFiles D → LogSlot D
@@ -156,6 +156,7 @@ module _ {D : Type 0} (base : StoreLog D) where
         sym (ap with_files (file_again base.log.generation b.slot a.slot base.log.files))
         ∙ ap (λ (s : LogSlot D). with_files (on_file s (on_file a.slot base.log.files))) (sym (slot_there b));
     doubts = refl;
+    oldest = refl;
   }
 
   -- from the log itself
@@ -164,10 +165,11 @@ module _ {D : Type 0} (base : StoreLog D) where
     does = subst (Does (last_log_of base)) (sym (last_there b)) does;
     rest = ap (λ (s : LogSlot D). with_files (on_file s base.log.files)) (sym (slot_there b));
     doubts = refl;
+    oldest = refl;
   }
 
   -- to one that stands
-  module _ (new : StoreLog D) (rest : ReplacesLast (slot_of new) base.log new.log) (doubts : new.next_in_doubt ≡ base.next_in_doubt) where
+  module _ (new : StoreLog D) (rest : ReplacesLast (slot_of new) base.log new.log) (doubts : new.next_in_doubt ≡ base.next_in_doubt) (oldest : new.oldest ≡ base.oldest) where
     end_named : named (last_log_of new) ≡ last_log_of new
     end_named = λ i. log_with (sym (ap (λ (l : WorkerLog D). l.owner.worker) rest) i) (sym (ap (λ (l : WorkerLog D). l.generation) rest) i) (slot_of new) new.kept
 
@@ -178,13 +180,14 @@ module _ {D : Type 0} (base : StoreLog D) where
           (subst (Does (named a)) end_named does);
       rest = rest ∙ sym (ap with_files (file_again base.log.generation (slot_of new) a.slot base.log.files));
       doubts = doubts;
+      oldest = oldest;
     }
 
     same_end : (a : LastLog D) → last_log_of new ≡ a → new ≡ placed a
     same_end a same = same_parts new (placed a)
         (rest ∙ ap (λ (l : LastLog D). with_files (on_file l.slot base.log.files)) same)
         (ap (λ (l : LastLog D). l.kept) same)
-        doubts
+        doubts oldest
 
   module _ (is_honest : D → Bool) (state : D → DiskState) (failures : D → ℕ) where
     -- appends tell of the place and of the batch that waits alone
@@ -239,7 +242,7 @@ module _ {D : Type 0} (base : StoreLog D) where
       short zero a b was is s = (ap placed s.0, s.1)
       short (suc n) a b was is (mark, mid, middle, rest, d, less) = (mark, placed mid, middle, short n a mid was middle rest, once mark mid b middle is d, less)
 
-      module _ (new : StoreLog D) (rest : ReplacesLast (slot_of new) base.log new.log) (doubts : new.next_in_doubt ≡ base.next_in_doubt) where
+      module _ (new : StoreLog D) (rest : ReplacesLast (slot_of new) base.log new.log) (doubts : new.next_in_doubt ≡ base.next_in_doubt) (oldest : new.oldest ≡ base.oldest) where
         has : (mark : ℕ) (a : LastLog D) (was is : S) → HasDrained is_honest state failures gives worker upto mark a (last_log_of new) was is
             → HasDrainedLog is_honest state failures gives worker upto mark (placed a) new was is
         has mark a was is h = record {
@@ -254,19 +257,19 @@ module _ {D : Type 0} (base : StoreLog D) where
                 given = d.given;
                 bounded = d.bounded;
                 brings = d.brings;
-                appended = to_end new rest doubts (AppendsNew is_honest state failures d.batch) h.mid (new_named d.batch h.mid (last_log_of new) d.appended);
+                appended = to_end new rest doubts oldest (AppendsNew is_honest state failures d.batch) h.mid (new_named d.batch h.mid (last_log_of new) d.appended);
                 told = d.told;
               };
         }
 
         not_drained : (e : Refusal) (a : LastLog D) (was is : S) → FailsToDrain is_honest state failures gives worker e a (last_log_of new) was is
             → FailsToDrainLog is_honest state failures gives worker e (placed a) new was is
-        not_drained e a was is (inl none) = inl (record { same_log = same_end new rest doubts a none.same_log; same = none.same; told = none.told })
+        not_drained e a was is (inl none) = inl (record { same_log = same_end new rest doubts oldest a none.same_log; same = none.same; told = none.told })
         not_drained e a was is (inr k) = inr (record {
           batch = k.batch;
           given = k.given;
           bounded = k.bounded;
-          fails = to_end new rest doubts (FailsToAppendNew is_honest state failures e k.batch) a (not_new_named e k.batch a (last_log_of new) k.fails);
+          fails = to_end new rest doubts oldest (FailsToAppendNew is_honest state failures e k.batch) a (not_new_named e k.batch a (last_log_of new) k.fails);
         })
 
         drains : (mark : ℕ) (was is : S) → Flushes is_honest state failures gives worker upto mark (last_log_of base) (last_log_of new) was is
@@ -280,7 +283,7 @@ module _ {D : Type 0} (base : StoreLog D) where
 
         not_upto : (e : Refusal) (was is : S) → FailsToFlush is_honest state failures gives worker upto e (last_log_of base) (last_log_of new) was is
             → FailsToDrainUpto is_honest state failures gives worker upto e base new was is
-        not_upto e was is (inl w) = inl (record { fails = record { does = w.fails; rest = rest; doubts = doubts }; same = w.same })
+        not_upto e was is (inl w) = inl (record { fails = record { does = w.fails; rest = rest; doubts = doubts; oldest = oldest }; same = w.same })
         not_upto e was is (inr s) = inr (record {
           first = placed s.first;
           kept = to_first (AppendsKept is_honest state failures) s.first (kept_named (last_log_of base) s.first s.kept);
@@ -316,14 +319,14 @@ module _ {D S : Type 0} (is_honest : D → Bool) (state : D → DiskState) (fail
       → Drains is_honest state failures gives worker upto mark old new was is
   log_drains mark old new was is whose on =
       subst (λ w. Drains is_honest state failures gives w upto mark old new was is) whose
-      (drains old is_honest state failures gives (worker_of old) upto new on.rest on.doubts mark was is on.does)
+      (drains old is_honest state failures gives (worker_of old) upto new on.rest on.doubts on.oldest mark was is on.does)
 
   pub log_not_drained : (e : Refusal) (old new : StoreLog D) (was is : S) → worker_of old ≡ worker
       → OnLast (λ a b. FailsToFlush is_honest state failures gives (worker_of old) upto e a b was is) old new
       → FailsToDrainUpto is_honest state failures gives worker upto e old new was is
   log_not_drained e old new was is whose on =
       subst (λ w. FailsToDrainUpto is_honest state failures gives w upto e old new was is) whose
-      (not_upto old is_honest state failures gives (worker_of old) upto new on.rest on.doubts e was is on.does)
+      (not_upto old is_honest state failures gives (worker_of old) upto new on.rest on.doubts on.oldest e was is on.does)
 
   pub log_turns : (mark : ℕ) (old new : StoreLog D) (was is : S) → worker_of old ≡ worker → BringsUp is_honest state failures gives upto mark old new was is
       → TurnsLog is_honest state failures gives worker upto mark old new was is

@@ -1,5 +1,5 @@
 -- What holds of a store that is owned alone when it was just made, and after it was recovered.
-use Rattle.std.proofs.Common.{◌≡◌, ◌<◌, ◌≤◌, List, map, length, Option, Some, refl, sym, ap, subst, ◌∙◌, inl}
+use Rattle.std.proofs.Common.{◌≡◌, ℕ, ◌+◌, ◌<◌, ◌≤◌, List, map, length, Option, Some, refl, sym, ap, subst, ◌∙◌, inl}
 use Rattle.std.proofs.lemmas.Option.{same_Some}
 use Rattle.mt_rows.specs.Accounts.{Accounts}
 use Rattle.mt_disk.specs.{declared.mem.MemDisk.MemDisk, Mem.mem_state}
@@ -61,9 +61,10 @@ left_closed accounts slots standing left closed l are = record {
 
 pub owned_recovered : (accounts : Accounts) (slots found now : StoreSlots MemDisk) (old left new : List (StoreLog MemDisk)) (was : Option Serving)
     (images : CrashImages) (serving : Serving) → AllCrash images old slots left found
-    → IsRecoveredStore keeps_rules mem_state failures_of (map files_of left) found accounts serving.state new (Some now) serving.generation → IsRightState serving.state → IsFresh serving
+    → (is : IsRecoveredStore keeps_rules mem_state failures_of (map files_of left) found accounts serving.state new (Some now)) → serving.generation ≡ is.generation + 1
+    → IsRightState serving.state → IsFresh serving
     → (r : Found) × GoesOn accounts (Rest slots) (Rest now) (Crash images) (Recovered r) old was new (Some serving)
-owned_recovered accounts slots found now old left new was images serving crashed is right fresh =
+owned_recovered accounts slots found now old left new was images serving crashed is next right fresh =
     let r = is.recovered in
     let serves : ServesAgain keeps_rules mem_state failures_of accounts r is.generation is.closed found new now =
     subst (λ kept. ServesAgain keeps_rules mem_state failures_of accounts r is.generation is.closed found new kept) (sym (same_Some now is.kept is.slots_are)) is.serves in
@@ -73,6 +74,6 @@ owned_recovered accounts slots found now old left new was images serving crashed
       r,
       λ standing h.
           let l = left_closed accounts found standing left is.closed (left_by accounts slots found now old left new was images crashed standing h) is.closed_so in
-          let up = recovered_up accounts found standing is.closed l r is.generation new now serves serving.state restored right serving refl fresh is.next_is in
+          let up = recovered_up accounts found standing is.closed l r is.generation new now serves serving.state restored right serving refl fresh next in
           (up.0, (up.1, up.2, up.3, up.4), up.5),
     )

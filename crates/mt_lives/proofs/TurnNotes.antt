@@ -65,6 +65,7 @@ takes_nothing log is_open none = record {
   };
   rest = ap (λ (fs : WorkerFiles MemDisk). record log.log { generation = log.log.generation; files = fs }) (sym (file_same log.log.generation log.log.files));
   doubts = refl;
+  oldest = refl;
 }
 
 -- who took in what waited, and then nothing, took that in
@@ -82,6 +83,7 @@ takes_both log mid new a b =
           ∙ ap (λ (l : WorkerLog MemDisk). record l { generation = l.generation; files = with_file l.generation (slot_of new) l.files }) a.rest
           ∙ ap (λ (fs : WorkerFiles MemDisk). record log.log { generation = log.log.generation; files = fs }) (file_again log.log.generation (slot_of new) (slot_of mid) log.log.files);
       doubts = b.doubts ∙ a.doubts;
+      oldest = b.oldest ∙ a.oldest;
     }
 
 module _ (accounts : Accounts) (slots : LiveSlots) (standing : Standing) (logs : List (StoreLog MemDisk)) (worker : ℕ) where
@@ -246,7 +248,7 @@ module _ (accounts : Accounts) (slots : LiveSlots) (standing : Standing) (logs :
       at_slot (Open l) on a = record {
         log = log;
         stood = s;
-        kept = λ first b. takes_both log mid first (record { does = a; rest = on.rest; doubts = on.doubts }) b;
+        kept = λ first b. takes_both log mid first (record { does = a; rest = on.rest; doubts = on.doubts; oldest = on.oldest }) b;
         is_open = is_open;
         none = none_waits log mid r;
         lead = refl;
@@ -303,7 +305,7 @@ module _ (accounts : Accounts) (slots : LiveSlots) (standing : Standing) (logs :
           → FailsToReopenAt keeps_rules mem_state failures_of e slot (last_log_of log) (last_log_of new)
           → IsTurn accounts slots standing worker (mark_in slot) (Err e) (slice_set logs worker new) was
       at_slot (Open l) on a =
-          let g = one_stops e log new was was s (inl (record { fails = record { does = a; rest = on.rest; doubts = on.doubts }; same = refl })) in
+          let g = one_stops e log new was was s (inl (record { fails = record { does = a; rest = on.rest; doubts = on.doubts; oldest = on.oldest }; same = refl })) in
           record { notes = turn_notes worker (Some l.mark) [] (Err e); are = inl ([], refl); lead = (standing, g.0, refl); holds = in_place new was g.1 }
       at_slot (Failed l) on a = not_opened
       at_slot (Closed disk) on a = not_opened

@@ -3,8 +3,7 @@ use Rattle.std.specs.Prelude.{◌≡◌, ◌≢◌, ◌⊎◌, ℕ, ◌+◌, ◌
 use Rattle.mt_rows.specs.{Accounts.{Accounts, numbers_of}, declared.refusal.Refusal.Refusal}
 use Rattle.mt_disk.specs.{declared.mem.MemDisk.MemDisk, Mem.mem_state}
 use Rattle.mt_slots.specs.declared.store_slots.StoreSlots.{StoreSlots}
-use Rattle.mt_turns.specs.Turns.{GivesUpOlder, FailsToGiveUpOlder}
-use Rattle.mt_store_logs.specs.{declared.store_log.StoreLog.StoreLog, Places.{mark_in, slot_of}, Turns.OnLog}
+use Rattle.mt_store_logs.specs.{declared.store_log.StoreLog.StoreLog, Places.{mark_in, slot_of}, Turns.{GivesUpOlderLog, FailsToGiveUpOlderLog}}
 use Rattle.mt_lives.specs.{declared.live_slots.LiveSlots.LiveSlots, declared.live_slots.LiveSlots.TheVariants.{Rest, Turns}}
 use Rattle.mt_lives.specs.{declared.live_slots.Turn.Turn, declared.live_slots.TurnStage.TurnStage, declared.live_slots.TurnStage.TheVariants.{Begins, Settles, GivesUp}}
 use Rattle.mt_lives.specs.{declared.serving.Serving.Serving, declared.serving.Settle.Settle, Steps.one_turn_more}
@@ -37,8 +36,8 @@ MayBegin accounts logs slots = AreFree logs slots × (0 < length (numbers_of acc
 
 -- its older log was given up
 abbrev pub TellsGivenUp : Result (Unit {0}) Refusal → StoreLog MemDisk → StoreLog MemDisk → Type 0
-TellsGivenUp (Ok _) old new = OnLog old.next_in_doubt (GivesUpOlder (λ (d : MemDisk). true) mem_state (λ d. d.failures)) old new
-TellsGivenUp (Err e) old new = OnLog old.next_in_doubt (FailsToGiveUpOlder (λ (d : MemDisk). true) mem_state (λ d. d.failures) e) old new
+TellsGivenUp (Ok _) old new = GivesUpOlderLog (λ (d : MemDisk). true) mem_state (λ d. d.failures) old new
+TellsGivenUp (Err e) old new = FailsToGiveUpOlderLog (λ (d : MemDisk). true) mem_state (λ d. d.failures) e old new
 
 -- the Settle of a turn begins at this step, where its checkpoint ends
 abbrev pub settle_from : ℕ → Settle

@@ -1,7 +1,7 @@
 //! How a tape goes forward, what no notes are, and what happens to a store that is owned alone, as events. These are
 //! laws, each the contract of a function that does nothing.
 
-ghost use Rattle.std.specs.Prelude.{◌≡◌, ◌≢◌, ◌<◌, ◌≤◌, ◌++◌, ◌∷◌, [], ℕ, map, length, vec_len, List, Option, Some, None, Result, Ok, slice_get};
+ghost use Rattle.std.specs.Prelude.{◌≡◌, ◌≢◌, ◌<◌, ◌≤◌, ◌+◌, ◌++◌, ◌∷◌, [], ℕ, map, length, vec_len, List, Option, Some, None, Result, Ok, slice_get};
 ghost use Rattle.mt_rows.specs.{declared.refusal.Refusal.{Refusal as AnyRefusal}, declared.refusal.Refusal.TheVariants.{BadLog, StampsFall, OverQuota}};
 ghost use Rattle.mt_rows.specs.{Tenants.Contents, Accounts.Accounts};
 ghost use Rattle.mt_disk.specs.declared.mem.MemDisk.{MemDisk as AnyDisk};
@@ -85,8 +85,8 @@ pub fn an_owned_store_begins_as_a_new_one()
 pub fn an_owned_store_is_recovered_as_after_a_crash()
     ensures { (accounts : Accounts) (slots found now : AnySlots AnyDisk) (was : Option AnyServing) (serving : AnyServing) (old left new : List (AnyLog AnyDisk))
         (images : CrashImages) → AllCrash images old slots left found
-        → IsRecoveredStore ⟦<MemDisk as Disk>⟧.is_honest ⟦<MemDisk as Disk>⟧.state ⟦<MemDisk as Disk>⟧.failures (map files_of left) found accounts serving.state new (Some now) serving.generation
-        → IsRightState serving.state → IsFresh serving → (r : AnyRecovered) × GoesOn accounts (Rest slots) (Rest now) (Crash images) (Recovered r) old was new (Some serving) }
+        → (up : IsRecoveredStore ⟦<MemDisk as Disk>⟧.is_honest ⟦<MemDisk as Disk>⟧.state ⟦<MemDisk as Disk>⟧.failures (map files_of left) found accounts serving.state new (Some now))
+        → serving.generation ≡ up.generation + 1 → IsRightState serving.state → IsFresh serving → (r : AnyRecovered) × GoesOn accounts (Rest slots) (Rest now) (Crash images) (Recovered r) old was new (Some serving) }
 {}
 
 /// A turn of that store is a list of events of its log: a reopening if the log isn't open, and flushes. Their notes

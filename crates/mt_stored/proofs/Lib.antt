@@ -1,6 +1,10 @@
+pub mod FirstTurns
 pub mod Making
+pub mod NextTurns
 pub mod PageKeys
 pub mod Rounds
 pub mod Slices
 pub mod StoreTurns
+pub mod TurnEnds
+pub mod TurnStops
 pub mod Written

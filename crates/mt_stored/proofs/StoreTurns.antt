@@ -8,9 +8,8 @@ use Rattle.mt_state.specs.Views.{StateView}
 use Rattle.mt_store_logs.specs.{declared.last_log.LastLog.LastLog, declared.store_log.StoreLog.StoreLog, Places.{mark_in, slot_of, worker_of, last_log_of}}
 use Rattle.mt_store_logs.specs.Flushes.{DrainsShort, HasDrained, Flushes, FailsToFlush}
 use Rattle.mt_store_logs.specs.{declared.flushing.Flushed.Flushed, LogTurns.{BringsUp, FailsToBringUp}}
-use Rattle.mt_store_logs.specs.Turns.{OnLog, FlushesLog, FailsToFlushLog}
-use Rattle.mt_turns.specs.Turns.{GivesUpOlder, FailsToGiveUpOlder}
-use Rattle.mt_settle.specs.{Turns.{Turn, BroughtUp, BegunNext, GivenUp, mark_told, Chain}, Settles.{turns_from, Settles}}
+use Rattle.mt_store_logs.specs.Turns.{FlushesLog, FailsToFlushLog, GivesUpOlderLog, FailsToGiveUpOlderLog}
+use Rattle.mt_settle.specs.{Turns.{Turn, BroughtUp, BegunNext, GivenUp, Told, mark_told, Chain}, Settles.{turns_from, Settles}}
 use Rattle.mt_stored.specs.{declared.source.OwnState.OwnState, Stores.{gives_own, DoesStore, IsSettled}}
 use Rattle.mt_stored.specs.Begins.{BringsUpAndBegins, FailsToBringUpAndBegin}
 
@@ -28,12 +27,12 @@ drained was is worker batch d =
 then : (a b c : OwnState) → Stays a b → Stays b c → Stays a c
 then a b c one two = (two.0 ∙ one.0, two.1 ∙ one.1)
 
-set_there : {X : Type 0} (xs : List X) (i : ℕ) (y : X) → i < length xs → slice_get (slice_set xs i y) i ≡ Some y
+pub set_there : {X : Type 0} (xs : List X) (i : ℕ) (y : X) → i < length xs → slice_get (slice_set xs i y) i ≡ Some y
 set_there [] i y h = absurd (omega (arith, h))
 set_there (x ∷ xs) zero y h = refl
 set_there (x ∷ xs) (suc i) y h = set_there xs i y (omega (arith, h))
 
-set_other : {X : Type 0} (xs : List X) (i k : ℕ) (y : X) → k ≢ i → slice_get (slice_set xs i y) k ≡ slice_get xs k
+pub set_other : {X : Type 0} (xs : List X) (i k : ℕ) (y : X) → k ≢ i → slice_get (slice_set xs i y) k ≡ slice_get xs k
 set_other [] i k y h = refl
 set_other (x ∷ xs) zero zero y h = absurd (h refl)
 set_other (x ∷ xs) zero (suc k) y h = refl
@@ -109,6 +108,8 @@ module _ {D : Type 0} (is_honest : D → Bool) (state : D → DiskState) (failur
   turn_stays (BegunNext log generation (Err e)) was old is new t = not_begun was.state.steps generation e t.before t.after was is t.turns
   turn_stays (GivenUp log (Ok x)) was old is new t = same was is t.turns.1
   turn_stays (GivenUp log (Err e)) was old is new t = same was is t.turns.1
+  turn_stays (Told log (Ok told)) was old is new t = same was is t.3
+  turn_stays (Told log (Err e)) was old is new t = absurd t
 
   -- a log that was brought up, or was not, had a turn of the store
   pub turned : (log : ℕ) (r : Result Flushed Refusal) (was is : OwnState) (old : List (StoreLog D)) (before after : StoreLog D) → slice_get old log ≡ Some before
@@ -133,8 +134,8 @@ module _ {D : Type 0} (is_honest : D → Bool) (state : D → DiskState) (failur
   -- and one whose older log was to be given up
   pub given_up : (log : ℕ) (r : Result (Unit {0}) Refusal) (was : OwnState) (old : List (StoreLog D)) (before after : StoreLog D) → slice_get old log ≡ Some before
       → worker_of before ≡ log
-      → OnOk r (OnLog before.next_in_doubt (GivesUpOlder is_honest state failures) before after)
-      → IfErr r (λ e. OnLog before.next_in_doubt (FailsToGiveUpOlder is_honest state failures e) before after)
+      → OnOk r (GivesUpOlderLog is_honest state failures before after)
+      → IfErr r (λ e. FailsToGiveUpOlderLog is_honest state failures e before after)
       → DoesStore is_honest state failures (GivenUp log r) was old was (slice_set old log after)
   given_up log (Ok x) was old before after there whose ok err = record { before = before; there = there; whose = whose; after = after; stands = refl; turns = (ok, refl) }
   given_up log (Err e) was old before after there whose ok err = record { before = before; there = there; whose = whose; after = after; stands = refl; turns = (err, refl) }

@@ -5,11 +5,13 @@ use Rattle.mt_rows.specs.{Rows.Bytes, Stamps.Stamped, declared.record.TenantPair
 use Rattle.mt_rows.specs.{declared.refusal.Refusal.Refusal, declared.refusal.Refusal.TheVariants.{Memory, Spent}}
 use Rattle.mt_disk.specs.Disk.{DiskState}
 use Rattle.mt_runs.specs.declared.event.Answer.{Answer}
+use Rattle.mt_checkpoint.specs.Writes.{TellsDigest}
 use Rattle.mt_pages.specs.{declared.walk.PageWalk.PageWalk, Scans.next_scan, Pages.TakesAt}
 use Rattle.mt_slots.specs.{declared.store_slots.StoreSlots.StoreSlots, declared.checkpointing.Checkpointing.Checkpointing, declared.fault.SlotFault.SlotFault}
 use Rattle.mt_slots.specs.{Places.{refusal_for, next_slot}, Calls.{Begins, FailsToBeginIn, Adds, FailsToAddIn, Ends, FailsToEndIn, GivesUpIn}}
 use Rattle.mt_stored.specs.{declared.checkpoints.CheckpointStop.CheckpointStop, declared.checkpoints.CheckpointStop.TheVariants.{Slot, Scan}}
 use Rattle.mt_book.specs.{declared.calls.CallFault.CallFault, Periods.{Looked, Period}, Calls.{Calls, asked_by, answers_of}}
+use Rattle.mt_stored.specs.Digests.{FileDigest}
 use Rattle.mt_book.specs.declared.calls.CallFault.TheVariants as faults
 
 -- a desk, and the pass by which it is scanned: the last step that it knows of, and the answers that it counts
@@ -131,8 +133,8 @@ module _ {S D : Type 0} (does : S → Period → S → Type 0) (worker : ℕ) (i
     pub begins : Begins is_honest state failures slots first begun
     pub starts : IsAtTheStart tenants start
 
-  -- it got all pairs of the walk, and was ended with the number of steps that the desk showed after the last scan
-  pub record WritesCheckpoint (old : Scanner S) (tenants : List ℕ) (slots : StoreSlots D) (new : Scanner S) (left : StoreSlots D) : Type 0 where
+  -- it got all pairs of the walk, and was ended with the number of steps that the desk showed after the last scan; its digest was told
+  pub record WritesCheckpoint (old : Scanner S) (tenants : List ℕ) (slots : StoreSlots D) (digest : FileDigest) (new : Scanner S) (left : StoreSlots D) : Type 0 where
     pub first : ℕ
     pub last : ℕ
     pub looked : Scanner S
@@ -145,6 +147,7 @@ module _ {S D : Type 0} (does : S → Period → S → Type 0) (worker : ℕ) (i
     pub adds : AddsToTheEnd looked start begun shown walk writing
     pub last_is : Looks does worker shown last new
     pub ends : Ends is_honest state failures writing last left
+    pub told : TellsDigest is_honest state failures writing.writer last digest
 
   -- it was not begun
   pub record StopsAtBegin (old : Scanner S) (slots : StoreSlots D) (stop : CheckpointStop) (new : Scanner S) (left : StoreSlots D) : Type 0 where

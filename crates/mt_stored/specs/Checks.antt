@@ -1,4 +1,4 @@
--- When a turn of all logs is due, to which generation it goes, and after how much the next one is.
+-- When a turn of all logs is due, and after how much the next one is.
 use Rattle.std.specs.Prelude.{◌≡◌, ◌≢◌, ◌⊎◌, ℕ, ◌+◌, ◌-◌, ◌*◌, ◌<◌, ◌≤◌, min, max, Option, Some, None, Result, Ok, Err}
 use Rattle.mt_slots.specs.declared.store_slots.StoreSlots.{StoreSlots}
 use Rattle.mt_stored.specs.{declared.checks.Checks.Checks, declared.checks.DueTurn.DueTurn, declared.checks.Interval.Interval, declared.turns.TurnStop.TurnStop}
@@ -55,18 +55,17 @@ SeesLength length old new = new ≡ record old { bytes = counted_on (grown_by ol
 abbrev pub IsDue : {D : Type 0} → Checks D → Type 0
 IsDue checks = (checks.slots ≢ None) × (IsReached checks.answers ⊎ IsReached checks.bytes)
 
--- The turn that is due is handed out: with the slots, the generation to which it goes, and the number up to which all is settled. Counting begins anew. None is
--- handed out exactly if none is due.
+-- The turn that is due is handed out: with the slots, and the number up to which all is settled. Counting begins anew. None is handed out exactly if none is due.
 abbrev pub TakesDue : {D : Type 0} → Checks D → Option (DueTurn D) → Checks D → Type 0
 TakesDue old (Some due) new =
-    IsDue old × (old.slots ≡ Some due.slots) × (due.generation ≡ old.generation) × (due.settled ≡ old.settled)
+    IsDue old × (old.slots ≡ Some due.slots) × (due.settled ≡ old.settled)
     × (new ≡ record old { answers = begun old.answers; bytes = begun old.bytes; seen = None; slots = None })
 TakesDue old None new = (¬ IsDue old) × (new ≡ old)
 
--- A whole turn, after which the next one goes to the generation after it; or a turn that was stopped, after which it goes to the same one. The slots are back.
+-- A whole turn, after which the next one is due after as much as at first; or one that was stopped, after which it is due after twice as much. The slots are back.
 abbrev pub EndsTurn : {D : Type 0} → Result (StoreSlots D) (TurnStop × StoreSlots D) → Checks D → Option TurnStop → Checks D → Type 0
 EndsTurn (Ok slots) old stop new =
     (stop ≡ None)
-    × (new ≡ record old { answers = restored old.answers; bytes = restored old.bytes; slots = Some slots; generation = min (old.generation + 1) largest })
+    × (new ≡ record old { answers = restored old.answers; bytes = restored old.bytes; slots = Some slots })
 EndsTurn (Err told) old stop new =
     (stop ≡ Some told.0) × (new ≡ record old { answers = doubled old.answers; bytes = doubled old.bytes; slots = Some told.1 })

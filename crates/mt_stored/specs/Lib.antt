@@ -2,6 +2,9 @@ pub mod Begins
 pub mod Changes
 pub mod Checkpoints
 pub mod Checks
+pub mod Digests
 pub mod Keeping
+pub mod NextTurns
 pub mod Stores
+pub mod TurnParts
 pub mod WholeTurns

@@ -9,9 +9,8 @@ use Rattle.mt_slots.specs.{declared.store_slots.StoreSlots.StoreSlots, Calls.Mak
 use Rattle.mt_store_logs.specs.{declared.fault.StoreRefusal.StoreRefusal, declared.fault.StoreRefusal.TheVariants.{Logs as OfLogs, Slot as OfSlot}}
 use Rattle.mt_log_files.specs.declared.worker.WorkerFiles.{WorkerFiles}
 use Rattle.mt_store_logs.specs.{declared.store_log.StoreLog.StoreLog, Places.{mark_in, slot_of, worker_of}, Opens.{AreClosedOn, MakesAll}, Recovers.{ServesAgain, IsNotRecovered}}
-use Rattle.mt_store_logs.specs.{LogTurns.{BringsUp, FailsToBringUp}, Turns.OnLog}
-use Rattle.mt_turns.specs.Turns.{GivesUpOlder, FailsToGiveUpOlder}
-use Rattle.mt_settle.specs.Turns.{Turn, BroughtUp, BegunNext, GivenUp}
+use Rattle.mt_store_logs.specs.{LogTurns.{BringsUp, FailsToBringUp}, Turns.{GivesUpOlderLog, FailsToGiveUpOlderLog}, Standing.TellsOf}
+use Rattle.mt_settle.specs.Turns.{Turn, BroughtUp, BegunNext, GivenUp, Told}
 use Rattle.mt_stored.specs.Begins.{BringsUpAndBegins, FailsToBringUpAndBegin}
 use Rattle.mt_stored.specs.declared.source.OwnState.{OwnState}
 use Rattle.mt_checkpoint.specs.declared.fault.FaultCause.TheVariants as causes
@@ -45,11 +44,10 @@ module _ {D : Type 0} (is_honest : D → Bool) (state : D → DiskState) (failur
     pub slots_made : MakesBoth is_honest state failures bare made
 
   -- A store that was recovered from these files and slots: its logs have what a recovery gives them, and its state has the pairs of the recovery, and goes on
-  -- from there. Its next turn goes to the generation after that from which its logs stand.
-  pub record IsRecoveredStore (files : List (WorkerFiles D)) (found : StoreSlots D) (accounts : Accounts) (v : StateView) (logs : List (StoreLog D)) (slots : Option (StoreSlots D)) (next : ℕ) : Type 0 where
+  -- from there.
+  pub record IsRecoveredStore (files : List (WorkerFiles D)) (found : StoreSlots D) (accounts : Accounts) (v : StateView) (logs : List (StoreLog D)) (slots : Option (StoreSlots D)) : Type 0 where
     pub recovered : Recovered
     pub generation : ℕ
-    pub next_is : next ≡ generation + 1
     pub kept : StoreSlots D
     pub slots_are : slots ≡ Some kept
     pub closed : List (StoreLog D)
@@ -83,7 +81,7 @@ module _ {D : Type 0} (is_honest : D → Bool) (state : D → DiskState) (failur
   LogAlone Does old new was is = Does old new × (is ≡ was)
 
   -- A turn of a store that is owned alone. Its log is brought up to the last step that was made; or it is brought up, and goes to a generation; or its older log
-  -- is given up.
+  -- is given up; or it tells of its generations.
   abbrev pub DoesStore : Turn → OwnState → List (StoreLog D) → OwnState → List (StoreLog D) → Type 0
   DoesStore (BroughtUp log (Ok mark)) was old is new = TurnsLog (BringsUp is_honest state failures gives_own was.state.steps mark) log was old is new
   DoesStore (BroughtUp log (Err refusal)) was old is new = TurnsLog (FailsToBringUp is_honest state failures gives_own was.state.steps refusal) log was old is new
@@ -92,6 +90,8 @@ module _ {D : Type 0} (is_honest : D → Bool) (state : D → DiskState) (failur
   DoesStore (BegunNext log generation (Err refusal)) was old is new =
       TurnsLog (FailsToBringUpAndBegin is_honest state failures gives_own was.state.steps generation refusal) log was old is new
   DoesStore (GivenUp log (Ok _)) was old is new =
-      TurnsLog (LogAlone (λ a b. OnLog a.next_in_doubt (GivesUpOlder is_honest state failures) a b)) log was old is new
+      TurnsLog (LogAlone (GivesUpOlderLog is_honest state failures)) log was old is new
   DoesStore (GivenUp log (Err refusal)) was old is new =
-      TurnsLog (LogAlone (λ a b. OnLog a.next_in_doubt (FailsToGiveUpOlder is_honest state failures refusal) a b)) log was old is new
+      TurnsLog (LogAlone (FailsToGiveUpOlderLog is_honest state failures refusal)) log was old is new
+  DoesStore (Told log (Ok told)) was old is new = (before : StoreLog D) × (slice_get old log ≡ Some before) × TellsOf before told × (is ≡ was) × (new ≡ old)
+  DoesStore (Told log (Err refusal)) was old is new = ⊥

@@ -13,7 +13,7 @@ use mt_book::{CallFault, Desk, NoGate, Pass, call};
 use mt_disk::Disk;
 use mt_pages::PageWalk;
 use mt_rows::{PairList, Refusal, Reply, TenantPair};
-use mt_slots::{Checkpointing, SlotFault, StoreSlots};
+use mt_slots::{Checkpointing, FileDigest, SlotFault, StoreSlots};
 use std::alloc::{AllocError, Global};
 use std::sync::Wait;
 use std::sync::ledger::Ledger;
@@ -42,7 +42,7 @@ impl CheckpointStop {
 
 /// Writes a checkpoint of these tenants' pairs into the slot that doesn't hold the newest one. It begins at the number
 /// of steps that the desk shows before its first scan, and ends at the one that the desk shows after its last. Only if
-/// the tenants rise does the slot have a checkpoint then.
+/// the tenants rise does the slot have a checkpoint then. Its digest is told.
 ///
 /// The slots come back in each case. After an error the newest checkpoint is as before, and what was written is cut.
 /// Errors: what a slot's call failed for; `Memory`, also for a scan that is answered so; what refuses a scan; `Spent`.
@@ -53,8 +53,8 @@ pub fn write_checkpoint<L: Ledger, R: Wait + Clock, D: Desk<L>, K: Disk>(
     pass: &mut Pass<L>,
     tenants: Vec<u32>,
     slots: StoreSlots<K>,
-) -> Result<StoreSlots<K>, (CheckpointStop, StoreSlots<K>)>
-    ensures ok { IfOk result (λ left. WritesCheckpoint D.does pass.old.worker K.is_honest K.state K.failures (scanner desk.old pass.old.seen pass.old.share.amount) tenants.items slots (scanner desk.new pass.new.seen pass.new.share.amount) left) }
+) -> Result<(StoreSlots<K>, FileDigest), (CheckpointStop, StoreSlots<K>)>
+    ensures ok { IfOk result (λ written. WritesCheckpoint D.does pass.old.worker K.is_honest K.state K.failures (scanner desk.old pass.old.seen pass.old.share.amount) tenants.items slots written.1 (scanner desk.new pass.new.seen pass.new.share.amount) written.0) }
     ensures err { IfErr result (λ e. GivesUp D.does pass.old.worker K.is_honest K.state K.failures (scanner desk.old pass.old.seen pass.old.share.amount) tenants.items slots e.0 (scanner desk.new pass.new.seen pass.new.share.amount) e.1) }
     ensures worker { pass.new.worker ≡ pass.old.worker }
 {
@@ -70,7 +70,7 @@ pub fn write_checkpoint<L: Ledger, R: Wait + Clock, D: Desk<L>, K: Disk>(
     };
     let last = desk.look(rt).steps;
     match writing.end(alloc, last) {
-        Ok((slots, _)) => Ok(slots),
+        Ok(written) => Ok(written),
         Err((fault, slots)) => Err((CheckpointStop::Slot(fault), slots)),
     }
 }

@@ -67,7 +67,7 @@ impl Interval {
 
 /// After how many settled answers and how many bytes of the logs a turn is due, how long the logs were when they were last
 /// looked at, the greatest number that a settled answer told, and the slots. They stand here unless a turn is under way.
-/// Also the generation to which the next turn goes. Its users share it behind a lock.
+/// Its users share it behind a lock.
 #[derive(Drop)]
 pub struct Checks<D: Disk + Drop> {
     answers: Interval,
@@ -75,14 +75,11 @@ pub struct Checks<D: Disk + Drop> {
     seen: Option<u64>,
     settled: u64,
     slots: Option<StoreSlots<D>>,
-    generation: u64,
 }
 
-/// A turn of all logs that is due: the generation to which it goes, the slots for its checkpoint, and a number up to which
-/// all logs are settled.
+/// A turn of all logs that is due: the slots for its checkpoint, and a number up to which all logs are settled.
 #[derive(Drop)]
 pub struct DueTurn<D: Disk + Drop> {
-    pub generation: u64,
     pub settled: u64,
     pub slots: StoreSlots<D>,
 }
@@ -91,12 +88,11 @@ impl<D: Disk + Drop> Checks<D> {
     ghost use Rattle.mt_stored.specs.Checks.{IsAtFirst, CountsSettled, SeesLength, IsDue, TakesDue, EndsTurn};
 
     /// For turns over these slots: one after each so many settled answers, and one each time that the logs have grown by so
-    /// many bytes. Without slots, or with 0, none is due. The first turn goes to this generation. The logs' whole length
-    /// counts as grown when they are first looked at.
-    pub fn new(every: u32, bytes: u64, slots: Option<StoreSlots<D>>, generation: u64) -> Self
+    /// many bytes. Without slots, or with 0, none is due. The logs' whole length counts as grown when they are first looked
+    /// at.
+    pub fn new(every: u32, bytes: u64, slots: Option<StoreSlots<D>>) -> Self
         ensures first { IsAtFirst every bytes result }
         ensures slots { result.slots ≡ slots }
-        ensures generation { result.generation ≡ generation }
     {
         Checks {
             answers: Interval::new(u64::from(every)),
@@ -104,7 +100,6 @@ impl<D: Disk + Drop> Checks<D> {
             seen: Some(0),
             settled: 0,
             slots,
-            generation,
         }
     }
 
@@ -150,15 +145,14 @@ impl<D: Disk + Drop> Checks<D> {
         self.bytes.begin();
         self.seen = None;
         Some(DueTurn {
-            generation: self.generation,
             settled: self.settled,
             slots,
         })
     }
 
-    /// A turn has ended, and the slots are here again. After a whole one the next one goes to the generation after it, and
-    /// is due after as many settled answers and bytes as at first. After one that was stopped the next one goes to the same
-    /// generation, and is due after twice as many as this one was. It answers why it was stopped.
+    /// A turn has ended, and the slots are here again. After a whole one the next one is due after as many settled answers
+    /// and bytes as at first. After one that was stopped it is due after twice as many as this one was. It answers why it
+    /// was stopped.
     pub fn end_turn(
         &mut self,
         told: Result<StoreSlots<D>, (TurnStop, StoreSlots<D>)>,
@@ -169,7 +163,6 @@ impl<D: Disk + Drop> Checks<D> {
             Ok(slots) => {
                 self.answers.restore();
                 self.bytes.restore();
-                self.generation = self.generation.saturating_add(1);
                 self.slots = Some(slots);
                 None
             }
@@ -180,13 +173,6 @@ impl<D: Disk + Drop> Checks<D> {
                 Some(stop)
             }
         }
-    }
-
-    /// The generation to which the next turn goes.
-    pub fn generation(&self) -> u64
-        ensures { result ≡ self.now.generation }
-    {
-        self.generation
     }
 
     /// The slots, if they are here.

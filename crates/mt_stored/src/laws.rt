@@ -1,8 +1,10 @@
 //! What a settled number of a store says that is owned alone, that a round comes to each log, and what a crash may leave
 //! once a checkpoint was written or given up; each the contract of a function that does nothing.
 
-ghost use Rattle.std.specs.Prelude.{◌≡◌, ◌⊎◌, ◌<◌, ℕ, List, [], ◌∷◌, Option, Some, Ok, length};
-ghost use Rattle.mt_rows.specs.declared.record.TenantPair.{TenantPair};
+ghost use Rattle.std.specs.Prelude.{◌≡◌, ◌⊎◌, ◌+◌, ◌<◌, ℕ, List, [], ◌∷◌, Option, Some, Ok, length};
+ghost use Rattle.mt_rows.specs.{Accounts.Accounts, declared.record.TenantPair.TenantPair};
+ghost use Rattle.mt_state.specs.Views.{StateView};
+ghost use Rattle.mt_log_files.specs.declared.worker.WorkerFiles.{WorkerFiles};
 ghost use Rattle.mt_checkpoint.specs.Checkpoints.{Walk};
 ghost use Rattle.mt_pages.specs.declared.walk.PageWalk.{PageWalk};
 ghost use Rattle.mt_slots.specs.{declared.store_slots.StoreSlots.StoreSlots, declared.checkpointing.Checkpointing.Checkpointing};
@@ -11,8 +13,10 @@ ghost use Rattle.mt_stored.specs.declared.checkpoints.CheckpointStop.{Checkpoint
 ghost use Rattle.mt_stored.specs.Checkpoints.{Scanner, BeginsWalk, AddsPages, StopsAtBegin, StopsInWalk};
 ghost use Rattle.mt_settle.specs.{Turns.Turn, Settles.Settles};
 ghost use Rattle.mt_store_logs.specs.declared.store_log.StoreLog.{StoreLog};
-ghost use Rattle.mt_stored.specs.{declared.source.OwnState.OwnState, Stores.{DoesStore, IsSettled}, Keeping.turn_after};
+ghost use Rattle.mt_stored.specs.{declared.source.OwnState.OwnState, Stores.{DoesStore, IsNewStore, IsRecoveredStore, IsSettled}, Keeping.turn_after};
+ghost use Rattle.mt_stored.specs.{declared.turns.TurnStop.TurnStop, NextTurns.GoOnTo, WholeTurns.{Parts, WritesTurn, StopsTurn}};
 
+use crate::digests::Digests;
 use mt_book::Desk;
 use mt_disk::Disk;
 use std::sync::ledger::Ledger;
@@ -23,6 +27,24 @@ pub fn a_settled_number_is_reached_by_all_logs<D: Disk, S>()
     ensures { (source : S → OwnState) (logs : S → List (StoreLog D)) (n : ℕ) (old new : S) →
         Settles (λ (s : S) (turn : Turn) (t : S). DoesStore D.is_honest D.state D.failures turn (source s) (logs s) (source t) (logs t)) (length (logs old)) old new (Ok n)
         → (n ≡ (source old).state.steps) × IsSettled (source new).state (logs new) }
+{}
+
+/// The first turn of a new store goes to generation 1. That of a recovered store goes to the generation after that from which it
+/// was recovered.
+///
+/// Of whatever has a state and its logs as `Store` has, and goes on to a generation: after a whole turn the next one goes to the
+/// generation after that. After a turn that was stopped the next one goes to the same generation, and finishes it.
+pub fn a_turn_is_finished_before_the_next<L: Ledger, T: Desk<L>, D: Disk, K: Disk, G: Digests, S>()
+    ensures first { (files : List (WorkerFiles D)) (bare : StoreSlots D) (accounts : Accounts) (v : StateView) (logs : List (StoreLog D)) (slots : Option (StoreSlots D)) → 0 < length files
+        → IsNewStore D.is_honest D.state D.failures files bare accounts v logs slots → GoOnTo 1 logs }
+    ensures recovered { (files : List (WorkerFiles D)) (found : StoreSlots D) (accounts : Accounts) (v : StateView) (logs : List (StoreLog D)) (slots : Option (StoreSlots D)) → 0 < length files
+        → (up : IsRecoveredStore D.is_honest D.state D.failures files found accounts v logs slots) → GoOnTo (up.generation + 1) logs }
+    ensures whole { (source : S → OwnState) (logs : S → List (StoreLog D)) (g worker : ℕ) (tenants : List ℕ) (old new : Parts S T K G) → GoOnTo g (logs old.logs)
+        → WritesTurn (λ (s : S) (turn : Turn) (t : S). DoesStore D.is_honest D.state D.failures turn (source s) (logs s) (source t) (logs t)) T.does worker K.is_honest K.state K.failures G.does (length (logs old.logs)) tenants old new
+        → GoOnTo (g + 1) (logs new.logs) }
+    ensures stopped { (source : S → OwnState) (logs : S → List (StoreLog D)) (g worker : ℕ) (tenants : List ℕ) (stop : TurnStop) (old new : Parts S T K G) → GoOnTo g (logs old.logs)
+        → StopsTurn (λ (s : S) (turn : Turn) (t : S). DoesStore D.is_honest D.state D.failures turn (source s) (logs s) (source t) (logs t)) T.does worker K.is_honest K.state K.failures G.does (length (logs old.logs)) tenants stop old new
+        → GoOnTo g (logs new.logs) }
 {}
 
 /// In a round over some logs each of them has its turn within as many turns as there are logs, wherever the round

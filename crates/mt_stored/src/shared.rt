@@ -10,7 +10,7 @@ use mt_book::{BookLock, locked};
 use mt_disk::Disk;
 use mt_rows::Refusal;
 use mt_settle::Logs;
-use mt_store_logs::{Flushed, StoreLog, bring_up};
+use mt_store_logs::{Flushed, Generations, StoreLog, bring_up};
 use std::alloc::{AllocError, Global};
 use std::sync::ledger::Ledger;
 use std::sync::{Mutex, Wait};
@@ -102,6 +102,13 @@ impl<L: Ledger, D: Disk + Drop> Logs for SharedLogs<'_, L, D> {
             return Err(Refusal::LogCount);
         }
         guard.give_up_older()
+    }
+
+    fn generations<R: Wait>(&self, rt: &R, log: u8) -> Result<Generations, Refusal> {
+        match self.logs.get(usize::from(log)) {
+            Some(place) => Ok(place.lock(rt).generations()),
+            None => Err(Refusal::LogCount),
+        }
     }
 }
 

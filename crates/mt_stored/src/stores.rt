@@ -15,27 +15,23 @@ use mt_rows::{Refusal, Tenants};
 use mt_settle::{Logs, settle};
 use mt_slots::StoreSlots;
 use mt_store_logs::{
-    Flushed, LogRefusal, NoWatch, RecoveredStore, StoreLog, StoreRefusal, Watch, bring_up,
-    closed_logs, create_logs, recover_store,
+    Flushed, Generations, LogRefusal, NoWatch, RecoveredStore, StoreLog, StoreRefusal, Watch,
+    bring_up, closed_logs, create_logs, recover_store,
 };
 use std::alloc::{AllocError, Global};
 use std::sync::Wait;
 use std::time::Clock;
 
 /// A state, the log of each of its workers, in their order, and the slots of its checkpoints. One without logs
-/// keeps nothing, and has no slots. It also knows to which generation the next turn of all its logs goes.
+/// keeps nothing, and has no slots.
 #[derive(Drop)]
 pub struct Store<D: Disk + Drop> {
     source: OwnState,
     logs: Vec<StoreLog<D>>,
     slots: Option<StoreSlots<D>>,
-    next_turn: u64,
     ghost all: { length source.state.logs ≡ vec_len logs },
     ghost order: { AreInOrder logs.items },
 }
-
-// The first turn of a store whose logs are plain goes to this generation.
-const FIRST_TURN: u64 = 1;
 
 // No memory, for none of the files.
 const NO_MEMORY: StoreRefusal = StoreRefusal::Logs(LogRefusal {
@@ -50,20 +46,18 @@ impl<D: Disk + Drop> Store<D> {
     /// A store that keeps nothing: a new state without logs.
     pub fn without_logs(alloc: Global, tenants: Tenants) -> Result<Store<D>, AllocError>
         requires { HaveNoPairs tenants }
-        ensures state { IfOk result (λ store. store.source.state ≡ new_state 0 tenants) }
-        ensures next { IfOk result (λ store. store.next_turn ≡ 1) }
+        ensures { IfOk result (λ store. store.source.state ≡ new_state 0 tenants) }
     {
         let state = State::new(alloc, 0, tenants)?;
         Ok(Store {
             source: OwnState { state },
             logs: Vec::new(alloc),
             slots: None,
-            next_turn: FIRST_TURN,
         })
     }
 
     /// A new store over the files of 1 to 64 workers, whatever they held, with the log of a worker on each, in their
-    /// order, and over two slots. The logs are made before the slots. Its first turn goes to generation 1.
+    /// order, and over two slots. The logs are made before the slots.
     ///
     /// An error tells the log or the slot whose disk failed, or that memory was refused. The disks are gone then,
     /// and may hold anything.
@@ -77,7 +71,6 @@ impl<D: Disk + Drop> Store<D> {
         requires few { vec_len files ≤ 64 }
         requires empty { HaveNoPairs tenants }
         ensures ok { IfOk result (λ store. IsNewStore D.is_honest D.state D.failures files.items slots tenants store.source.state store.logs.items store.slots) }
-        ensures next { IfOk result (λ store. store.next_turn ≡ 1) }
         ensures err { IfErr result (IsNotMade (vec_len files)) }
     {
         let mut logs = closed(alloc, files)?;
@@ -88,14 +81,13 @@ impl<D: Disk + Drop> Store<D> {
                 source: OwnState { state },
                 logs,
                 slots: Some(slots),
-                next_turn: FIRST_TURN,
             }),
             Err(_) => Err(NO_MEMORY),
         }
     }
 
     /// The store that the files of 1 to 64 workers and two slots hold, recovered, and each of its logs with the batch
-    /// with which a recovery ends. Its next turn goes to the generation after that from which its logs stand.
+    /// with which a recovery ends.
     ///
     /// An error tells the slot that was not read, the log that was not opened, got no such batch or was not given up, or
     /// why there is no recovery. The disks are gone then, and can be recovered again.
@@ -107,7 +99,7 @@ impl<D: Disk + Drop> Store<D> {
     ) -> Result<Store<D>, StoreRefusal>
         requires few { vec_len files ≤ 64 }
         requires empty { HaveNoPairs tenants }
-        ensures ok { IfOk result (λ store. IsRecoveredStore D.is_honest D.state D.failures files.items slots tenants store.source.state store.logs.items store.slots store.next_turn) }
+        ensures ok { IfOk result (λ store. IsRecoveredStore D.is_honest D.state D.failures files.items slots tenants store.source.state store.logs.items store.slots) }
         ensures err { IfErr result (IsNotRecoveredStore D.is_honest D.state D.failures files.items slots tenants) }
     {
         Store::recover_watched(alloc, files, slots, tenants, &mut NoWatch)
@@ -123,13 +115,13 @@ impl<D: Disk + Drop> Store<D> {
     ) -> Result<Store<D>, StoreRefusal>
         requires few { vec_len files ≤ 64 }
         requires empty { HaveNoPairs tenants }
-        ensures ok { IfOk result (λ store. IsRecoveredStore D.is_honest D.state D.failures files.items slots tenants store.source.state store.logs.items store.slots store.next_turn) }
+        ensures ok { IfOk result (λ store. IsRecoveredStore D.is_honest D.state D.failures files.items slots tenants store.source.state store.logs.items store.slots) }
         ensures err { IfErr result (IsNotRecoveredStore D.is_honest D.state D.failures files.items slots tenants) }
     {
         let mut logs = closed(alloc, files)?;
         let RecoveredStore {
             recovered,
-            generation,
+            generation: _,
         } = recover_store(alloc, &mut logs, &mut slots, &tenants, watch)?;
         let count = logs.len() as u8;
         match State::restore(alloc, recovered.resume, count, tenants, &recovered.pairs) {
@@ -137,21 +129,18 @@ impl<D: Disk + Drop> Store<D> {
                 source: OwnState { state },
                 logs,
                 slots: Some(slots),
-                next_turn: generation + 1,
             }),
             Err(_) => Err(NO_MEMORY),
         }
     }
 
-    /// A store of these, if the logs are as many as the state has, and each stands at its worker's place. Its next turn goes
-    /// to this generation.
+    /// A store of these, if the logs are as many as the state has, and each stands at its worker's place.
     pub fn joined(
         state: State,
         logs: Vec<StoreLog<D>>,
         slots: Option<StoreSlots<D>>,
-        next_turn: u64,
     ) -> Option<Store<D>>
-        ensures some { IfSome result (λ store. (store.source.state ≡ state) × (store.logs ≡ logs) × (store.slots ≡ slots) × (store.next_turn ≡ next_turn)) }
+        ensures some { IfSome result (λ store. (store.source.state ≡ state) × (store.logs ≡ logs) × (store.slots ≡ slots)) }
         ensures when { IsSome result ↔ ((length state.logs ≡ vec_len logs) × AreInOrder logs.items) }
     {
         if usize::from(state.logs()) != logs.len() {
@@ -164,15 +153,7 @@ impl<D: Disk + Drop> Store<D> {
             source: OwnState { state },
             logs,
             slots,
-            next_turn,
         })
-    }
-
-    /// The generation to which the next turn of all logs goes.
-    pub fn next_turn(&self) -> u64
-        ensures { result ≡ self.now.next_turn }
-    {
-        self.next_turn
     }
 
     /// The state, its logs and its slots.
@@ -185,7 +166,6 @@ impl<D: Disk + Drop> Store<D> {
             source,
             logs,
             slots,
-            next_turn: _,
         } = self;
         (source.state, logs, slots)
     }
@@ -255,6 +235,10 @@ impl<D: Disk + Drop> Logs for Store<D> {
 
     fn give_up_older<R: Wait + Clock + Log>(&mut self, _rt: &R, log: u8) -> Result<(), Refusal> {
         self.logs[usize::from(log)].give_up_older()
+    }
+
+    fn generations<R: Wait>(&self, _rt: &R, log: u8) -> Result<Generations, Refusal> {
+        Ok(self.logs[usize::from(log)].generations())
     }
 }
 

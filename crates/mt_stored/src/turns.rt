@@ -1,63 +1,127 @@
 //! A turn of all logs, with a checkpoint between its parts.
 
-ghost use Rattle.std.specs.Prelude.{◌≡◌, ◌<◌, IfOk, IfErr, vec_len};
-ghost use Rattle.mt_stored.specs.{Checkpoints.scanner, WholeTurns.{parts, TellsEnd, TellsOlder, WritesTurn, StopsTurn}};
+ghost use Rattle.std.specs.Prelude.{◌≡◌, ◌<◌, IfOk, IfErr, OnOk, vec_len};
+ghost use Rattle.mt_stored.specs.{Checkpoints.scanner, TurnParts.{Begins, StopsBeginning, WritesSlot, StopsSlot, TellsEnd, TellsOlder}, WholeTurns.{parts, WritesTurn, StopsTurn}};
 
 use crate::checkpoints::{CheckpointStop, write_checkpoint};
+use crate::digests::{Digested, Digests};
 use log::Log;
 use mt_book::{Desk, Pass};
 use mt_disk::Disk;
 use mt_rows::Refusal;
-use mt_settle::{Logs, begin_all, give_up_all, settle};
+use mt_settle::{Logs, begin_all, give_up_all, next_generation, settle};
 use mt_slots::StoreSlots;
 use std::alloc::Global;
 use std::sync::Wait;
 use std::sync::ledger::Ledger;
 use std::time::Clock;
 
-/// Why a turn of all logs is not whole. The next one goes to the same generation, and finishes it.
+/// Why a turn of all logs is not whole.
 #[derive(Clone, Copy, Debug, PartialEq, Eq)]
 pub enum TurnStop {
     /// The checkpoint was given up.
     Checkpoint(CheckpointStop),
-    /// A log did not go to the generation, or it was not settled, or its older one was not given up.
+    /// The digest of a file was not cleared or not kept.
+    Digest(Digested, Refusal),
+    /// A log did not tell of its generations, or go to the next one; or it was not settled, or its older one not given up.
     Logs(Refusal),
 }
 
-/// Makes a turn of all logs, which goes to a generation. Each log that is of an earlier one is followed by its next log.
-/// Then a checkpoint is written over the desk, as `write_checkpoint` does. Then all logs are settled. If all go up to the
+/// Makes a turn of all logs. It goes to the generation that they tell, as `next_generation` says: so a turn that was left
+/// half done is finished before another begins. Each log that is of an earlier one is followed by its next log. Then a
+/// checkpoint is written over the desk, as `write_checkpoint` does. Then all logs are settled. If all go up to the
 /// checkpoint's end, the older ones are given up.
+///
+/// The digests of a generation's files, and of a slot, are cleared before those are written. They are kept of the logs that
+/// are closed when all have gone on, and of the checkpoint when it was written.
 ///
 /// There has to be a tenant. A walk over none makes no step, and such a checkpoint stands for nothing that is given up.
 ///
 /// The slots come back in each case. An error is that of the first part that was refused; no later part was begun. It is
 /// `Device` if the logs were settled up to an earlier step than the checkpoint's end.
-pub fn write_turn<L: Ledger, R: Wait + Clock + Log, D: Desk<L>, S: Logs, K: Disk>(
+pub fn write_turn<L: Ledger, R: Wait + Clock + Log, D: Desk<L>, S: Logs, K: Disk, G: Digests>(
     rt: &R,
     alloc: Global,
     desk: &mut D,
     pass: &mut Pass<L>,
     logs: &mut S,
-    generation: u64,
     tenants: Vec<u32>,
     slots: StoreSlots<K>,
+    digests: &mut G,
 ) -> Result<StoreSlots<K>, (TurnStop, StoreSlots<K>)>
     requires some { 0 < vec_len tenants }
-    ensures ok { IfOk result (λ left. WritesTurn S.does D.does pass.old.worker K.is_honest K.state K.failures generation (S.logs logs.old) tenants.items (parts logs.old (scanner desk.old pass.old.seen pass.old.share.amount) slots) (parts logs.new (scanner desk.new pass.new.seen pass.new.share.amount) left)) }
-    ensures err { IfErr result (λ e. StopsTurn S.does D.does pass.old.worker K.is_honest K.state K.failures generation (S.logs logs.old) tenants.items e.0 (parts logs.old (scanner desk.old pass.old.seen pass.old.share.amount) slots) (parts logs.new (scanner desk.new pass.new.seen pass.new.share.amount) e.1)) }
+    ensures ok { IfOk result (λ left. WritesTurn S.does D.does pass.old.worker K.is_honest K.state K.failures G.does (S.logs logs.old) tenants.items (parts logs.old (scanner desk.old pass.old.seen pass.old.share.amount) slots digests.old) (parts logs.new (scanner desk.new pass.new.seen pass.new.share.amount) left digests.new)) }
+    ensures err { IfErr result (λ e. StopsTurn S.does D.does pass.old.worker K.is_honest K.state K.failures G.does (S.logs logs.old) tenants.items e.0 (parts logs.old (scanner desk.old pass.old.seen pass.old.share.amount) slots digests.old) (parts logs.new (scanner desk.new pass.new.seen pass.new.share.amount) e.1 digests.new)) }
     ensures worker { pass.new.worker ≡ pass.old.worker }
     ensures same { S.logs logs.new ≡ S.logs logs.old }
 {
-    if let Err(refusal) = begin_all(rt, alloc, logs, generation) {
-        return Err((TurnStop::Logs(refusal), slots));
+    if let Err(stop) = begin_next(rt, alloc, logs, digests) {
+        return Err((stop, slots));
     }
-    let slots = match write_checkpoint(rt, alloc, desk, pass, tenants, slots) {
+    let slots = match write_slot(rt, alloc, desk, pass, tenants, slots, digests) {
         Ok(slots) => slots,
-        Err((stop, slots)) => return Err((TurnStop::Checkpoint(stop), slots)),
+        Err(stopped) => return Err(stopped),
     };
     match settle_and_give_up(rt, alloc, logs, slots.owed()) {
         Ok(()) => Ok(slots),
         Err(refusal) => Err((TurnStop::Logs(refusal), slots)),
+    }
+}
+
+// All logs go to the generation that they tell. Its digests are cleared first, and those of the logs before are kept then.
+fn begin_next<R: Wait + Clock + Log, S: Logs, G: Digests>(
+    rt: &R,
+    alloc: Global,
+    logs: &mut S,
+    digests: &mut G,
+) -> Result<(), TurnStop>
+    ensures ok { OnOk result (Begins S.does G.does (S.logs logs.old) logs.old digests.old logs.new digests.new) }
+    ensures err { IfErr result (λ stop. StopsBeginning S.does G.does (S.logs logs.old) stop logs.old digests.old logs.new digests.new) }
+    ensures same { S.logs logs.new ≡ S.logs logs.old }
+{
+    let count = logs.count();
+    let generation = match next_generation(rt, logs) {
+        Ok(generation) => generation,
+        Err(refusal) => return Err(TurnStop::Logs(refusal)),
+    };
+    if let Err(refusal) = digests.clear_logs(count, generation) {
+        return Err(TurnStop::Digest(Digested::OfLogs(generation), refusal));
+    }
+    if let Err(refusal) = begin_all(rt, alloc, logs, generation) {
+        return Err(TurnStop::Logs(refusal));
+    }
+    let closed = generation.saturating_sub(1);
+    match digests.keep_logs(count, closed) {
+        Ok(()) => Ok(()),
+        Err(refusal) => Err(TurnStop::Digest(Digested::OfLogs(closed), refusal)),
+    }
+}
+
+// Writes a checkpoint into the slot that has not the newest one. Its digest is cleared first, and kept then.
+fn write_slot<L: Ledger, R: Wait + Clock, D: Desk<L>, K: Disk, G: Digests>(
+    rt: &R,
+    alloc: Global,
+    desk: &mut D,
+    pass: &mut Pass<L>,
+    tenants: Vec<u32>,
+    slots: StoreSlots<K>,
+    digests: &mut G,
+) -> Result<StoreSlots<K>, (TurnStop, StoreSlots<K>)>
+    ensures ok { IfOk result (λ left. WritesSlot D.does pass.old.worker K.is_honest K.state K.failures G.does tenants.items (scanner desk.old pass.old.seen pass.old.share.amount) slots digests.old (scanner desk.new pass.new.seen pass.new.share.amount) left digests.new) }
+    ensures err { IfErr result (λ e. StopsSlot D.does pass.old.worker K.is_honest K.state K.failures G.does tenants.items e.0 (scanner desk.old pass.old.seen pass.old.share.amount) slots digests.old (scanner desk.new pass.new.seen pass.new.share.amount) e.1 digests.new) }
+    ensures worker { pass.new.worker ≡ pass.old.worker }
+{
+    let slot = slots.next_slot();
+    if let Err(refusal) = digests.clear_slot(slot) {
+        return Err((TurnStop::Digest(Digested::OfSlot(slot), refusal), slots));
+    }
+    let (slots, digest) = match write_checkpoint(rt, alloc, desk, pass, tenants, slots) {
+        Ok(written) => written,
+        Err((stop, slots)) => return Err((TurnStop::Checkpoint(stop), slots)),
+    };
+    match digests.keep_slot(slot, digest) {
+        Ok(()) => Ok(slots),
+        Err(refusal) => Err((TurnStop::Digest(Digested::OfSlot(slot), refusal), slots)),
     }
 }
 

@@ -45,6 +45,7 @@ returns-in-Ok-end-clause-ok g c = record {
   adds = c.in-Ok-add_pages.ensures.ok;
   last_is = record { logs = c.look-last.result.logs; looked = c.look-last.ensures; same = refl };
   ends = c.in-Ok-end.ensures.ok;
+  told = c.in-Ok-end.ensures.digest;
 }
 
 pub returns-clause-err : goal.returns-clause-err

@@ -51,7 +51,6 @@ returns-in-Ok-clause-ok g c =
     record {
       recovered = r;
       generation = generation;
-      next_is = refl;
       kept = kept;
       slots_are = refl;
       closed = logs.items;
