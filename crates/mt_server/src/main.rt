@@ -8,7 +8,7 @@
 use log::sink::Console;
 use log::{Level, Logged, warn};
 use mt_command_line::{OptionsFault, read_options, remedy};
-use mt_service::{OpenStore, ServerFault, open_store, run_server};
+use mt_service::{FolderDigests, OpenStore, ServerFault, open_store, run_server};
 use std::env::{self, Env, FillError};
 use std::io::{self, ErrorKind};
 use std::marker::Brand;
@@ -29,10 +29,7 @@ fn main(rt: HostRuntime) -> ExitCode {
         Err(fault) => return ExitCode::from(fault.tell(&rt)),
     };
     // The folder stays locked up to the end.
-    let OpenStore {
-        store,
-        folder: _folder,
-    } = match open_store(&rt, rt.alloc(), &options) {
+    let OpenStore { store, mut folder } = match open_store(&rt, rt.alloc(), &options) {
         Ok(opened) => opened,
         Err(fault) => return ended(&rt, Err(fault)),
     };
@@ -44,13 +41,14 @@ fn main(rt: HostRuntime) -> ExitCode {
         }
     };
     let (blank, mut out) = (Blank::new(65_536), io::writer(&rt));
-    let end = run_server::<Brand, _, _, _>(
+    let end = run_server::<Brand, _, _, _, _>(
         &rt,
         rt.alloc(),
         blank,
         listener,
         &options,
         store,
+        FolderDigests::new(&rt, rt.alloc(), &mut folder),
         &mut out,
     );
     ended(&rt, end.map(|ending| ending.others))

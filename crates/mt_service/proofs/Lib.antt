@@ -4,3 +4,4 @@ pub mod Pushes
 pub mod ShareLemmas
 pub mod TenantNumbers
 pub mod TurnerLemmas
+pub mod TellingStores

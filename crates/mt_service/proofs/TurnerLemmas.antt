@@ -5,22 +5,22 @@ use Rattle.mt_book.specs.Periods.{Period}
 use Rattle.mt_options.specs.declared.tenants.TenantQuota.{TenantQuota}
 use Rattle.mt_slots.specs.declared.store_slots.StoreSlots.{StoreSlots}
 use Rattle.mt_settle.specs.Turns.{Turn}
-use Rattle.mt_stored.specs.{WholeTurns.{Parts, WritesTurn, StopsTurn}, Checks.{IsDue, IsReached, TakesDue, EndsTurn}}
+use Rattle.mt_stored.specs.{Digests.DigestCall, WholeTurns.{Parts, WritesTurn, StopsTurn}, Checks.{IsDue, IsReached, TakesDue, EndsTurn}}
 use Rattle.mt_stored.specs.{declared.checks.Checks.Checks, declared.checks.DueTurn.DueTurn, declared.checks.Interval.Interval, declared.turns.TurnStop.TurnStop}
 use Rattle.mt_service.specs.Turning.{Turning, ComesTo, MakesTurn, TellsTurn}
 
-module _ {S K D : Type 0} (does : S → Period → S → Type 0) (is_honest : D → Bool) (state : D → DiskState) (failures : D → ℕ) (keeps : K → Turn → K → Type 0) (count : K → ℕ) (tenants : List TenantQuota) where
+module _ {S K D G : Type 0} (does : S → Period → S → Type 0) (is_honest : D → Bool) (state : D → DiskState) (failures : D → ℕ) (keeps : K → Turn → K → Type 0) (count : K → ℕ) (calls : G → DigestCall → G → Type 0) (tenants : List TenantQuota) where
   -- a turn that was begun is whole or stopped
-  pub comes : (worker generation logs : ℕ) (numbers : List ℕ) (r : Result (StoreSlots D) (TurnStop × StoreSlots D)) (new : StoreSlots D → Parts K S D) (old : Parts K S D)
-      → IfOk r (λ left. WritesTurn keeps does worker is_honest state failures generation logs numbers old (new left))
-      → IfErr r (λ e. StopsTurn keeps does worker is_honest state failures generation logs numbers e.0 old (new e.1))
-      → ComesTo does is_honest state failures keeps count tenants worker generation logs numbers r new old
-  comes worker generation logs numbers (Ok left) new old ok err = ok
-  comes worker generation logs numbers (Err e) new old ok err = err
+  pub comes : (worker logs : ℕ) (numbers : List ℕ) (r : Result (StoreSlots D) (TurnStop × StoreSlots D)) (new : StoreSlots D → Parts K S D G) (old : Parts K S D G)
+      → IfOk r (λ left. WritesTurn keeps does worker is_honest state failures calls logs numbers old (new left))
+      → IfErr r (λ e. StopsTurn keeps does worker is_honest state failures calls logs numbers e.0 old (new e.1))
+      → ComesTo does is_honest state failures keeps count calls tenants worker logs numbers r new old
+  comes worker logs numbers (Ok left) new old ok err = ok
+  comes worker logs numbers (Err e) new old ok err = err
 
   -- and so it is told
-  pub told : (due : DueTurn D) (old new : Turning S K) (r : Result (StoreSlots D) (TurnStop × StoreSlots D))
-      → MakesTurn does is_honest state failures keeps count tenants due old r new → TellsTurn does is_honest state failures keeps count tenants due old r new
+  pub told : (due : DueTurn D) (old new : Turning S K G) (r : Result (StoreSlots D) (TurnStop × StoreSlots D))
+      → MakesTurn does is_honest state failures keeps count calls tenants due old r new → TellsTurn does is_honest state failures keeps count calls tenants due old r new
   told due old new (Ok left) made = made
   told due old new (Err e) made = inr made
 
@@ -32,10 +32,10 @@ none_reached interval none reached = absurd (omega (arith, none, reached.0, reac
 pub not_due : {D : Type 0} (told : Result (StoreSlots D) (TurnStop × StoreSlots D)) (old taken new : Checks D) (due : DueTurn D) (stop : Option TurnStop)
     → TakesDue old (Some due) taken → EndsTurn told taken stop new → ¬ IsDue new
 not_due {D} (Ok slots) old taken new due stop takes ends is = elim is.1 [
-  | inl reached ↦ none_reached new.answers (ap (λ (c : Checks D). c.answers.since) ends.1 ∙ ap (λ (c : Checks D). c.answers.since) takes.4) reached
-  | inr reached ↦ none_reached new.bytes (ap (λ (c : Checks D). c.bytes.since) ends.1 ∙ ap (λ (c : Checks D). c.bytes.since) takes.4) reached
+  | inl reached ↦ none_reached new.answers (ap (λ (c : Checks D). c.answers.since) ends.1 ∙ ap (λ (c : Checks D). c.answers.since) takes.3) reached
+  | inr reached ↦ none_reached new.bytes (ap (λ (c : Checks D). c.bytes.since) ends.1 ∙ ap (λ (c : Checks D). c.bytes.since) takes.3) reached
 ]
 not_due {D} (Err e) old taken new due stop takes ends is = elim is.1 [
-  | inl reached ↦ none_reached new.answers (ap (λ (c : Checks D). c.answers.since) ends.1 ∙ ap (λ (c : Checks D). c.answers.since) takes.4) reached
-  | inr reached ↦ none_reached new.bytes (ap (λ (c : Checks D). c.bytes.since) ends.1 ∙ ap (λ (c : Checks D). c.bytes.since) takes.4) reached
+  | inl reached ↦ none_reached new.answers (ap (λ (c : Checks D). c.answers.since) ends.1 ∙ ap (λ (c : Checks D). c.answers.since) takes.3) reached
+  | inr reached ↦ none_reached new.bytes (ap (λ (c : Checks D). c.bytes.since) ends.1 ∙ ap (λ (c : Checks D). c.bytes.since) takes.3) reached
 ]

@@ -1,8 +1,11 @@
 pub mod Accounts
 pub mod Asking
 pub mod Faults
+pub mod FolderDigests
 pub mod Lines
 pub mod ServedStore
+pub mod StoreFaults
+pub mod ReadStores
 pub mod Telling
 pub mod Turning
 pub mod Workers

@@ -7,19 +7,20 @@ use Rattle.mt_book.specs.Periods.{Period}
 use Rattle.mt_options.specs.declared.tenants.TenantQuota.{TenantQuota}
 use Rattle.mt_slots.specs.declared.store_slots.StoreSlots.{StoreSlots}
 use Rattle.mt_settle.specs.{Turns.Turn, Settles.Settles}
-use Rattle.mt_stored.specs.{Checkpoints.{Scanner, Looks}, WholeTurns.{Parts, parts, WritesTurn, StopsTurn}, Checks.{IsDue, TakesDue, EndsTurn}}
+use Rattle.mt_stored.specs.{Checkpoints.{Scanner, Looks}, Digests.DigestCall, WholeTurns.{Parts, parts, WritesTurn, StopsTurn}, Checks.{IsDue, TakesDue, EndsTurn}}
 use Rattle.mt_stored.specs.{declared.checks.Checks.Checks, declared.checks.DueTurn.DueTurn, declared.turns.TurnStop.TurnStop, declared.turns.TurnStop.TheVariants.Logs}
 use Rattle.mt_service.specs.Accounts.{AreRising}
 
--- a turner between two of its deeds: its logs, its desk with its pass, whose worker it is, and up to which step it has settled by the clock
-pub record Turning (S K : Type 0) : Type 0 where
+-- a turner between two of its deeds: its logs, its desk with its pass, whose worker it is, its digests, and up to which step it has settled by the clock
+pub record Turning (S K G : Type 0) : Type 0 where
   pub logs : K
   pub desk : Scanner S
   pub worker : ℕ
+  pub digests : G
   pub settled : ℕ
 
-abbrev pub turning : {S K : Type 0} → K → Scanner S → ℕ → ℕ → Turning S K
-turning logs desk worker settled = record { logs = logs; desk = desk; worker = worker; settled = settled }
+abbrev pub turning : {S K G : Type 0} → K → Scanner S → ℕ → G → ℕ → Turning S K G
+turning logs desk worker digests settled = record { logs = logs; desk = desk; worker = worker; digests = digests; settled = settled }
 
 module _ {K : Type 0} (keeps : K → Turn → K → Type 0) (count : K → ℕ) where
   -- a number up to which all logs are settled: what is known, if that is as much as is owed; else what a Settle of all logs tells
@@ -37,51 +38,51 @@ module _ {K : Type 0} (keeps : K → Turn → K → Type 0) (count : K → ℕ) 
   TellsReady tenants settled owed old (Ok numbers) new = ((number : ℕ) × (owed ≤ number) × SettlesOwed settled owed old (Ok number) new) × AreRising tenants numbers.items
   TellsReady tenants settled owed old (Err refusal) new = (told : Result ℕ Refusal) × SettlesOwed settled owed old told new × IsInTheWay owed told refusal
 
-module _ {S K : Type 0} (does : S → Period → S → Type 0) (keeps : K → Turn → K → Type 0) (count : K → ℕ) where
-  -- what a Settle by the clock tells is kept in mind
-  abbrev pub settled_after : ℕ → Result ℕ Refusal → ℕ
-  settled_after settled (Ok number) = number
-  settled_after settled (Err refusal) = settled
+-- what a Settle by the clock tells is kept in mind
+abbrev pub settled_after : ℕ → Result ℕ Refusal → ℕ
+settled_after settled (Ok number) = number
+settled_after settled (Err refusal) = settled
 
+module _ {S K G : Type 0} (does : S → Period → S → Type 0) (keeps : K → Turn → K → Type 0) (count : K → ℕ) where
   -- The desk showed how many steps were made. Only if there are more than were settled so far, all logs are settled.
-  pub record SettlesByClock (old new : Turning S K) : Type 0 where
+  pub record SettlesByClock (old new : Turning S K G) : Type 0 where
     pub steps : ℕ
     pub looked : Looks does old.worker old.desk steps new.desk
     pub settles : ((steps ≤ old.settled) × (new ≡ record old { desk = new.desk }))
         ⊎ ((old.settled < steps) × ((told : Result ℕ Refusal) × Settles keeps (count old.logs) old.logs new.logs told
         × (new ≡ record old { logs = new.logs; desk = new.desk; settled = settled_after old.settled told })))
 
-module _ {S K D : Type 0} (does : S → Period → S → Type 0) (is_honest : D → Bool) (state : D → DiskState) (failures : D → ℕ) (keeps : K → Turn → K → Type 0) (count : K → ℕ) (tenants : List TenantQuota) where
+module _ {S K D G : Type 0} (does : S → Period → S → Type 0) (is_honest : D → Bool) (state : D → DiskState) (failures : D → ℕ) (keeps : K → Turn → K → Type 0) (count : K → ℕ) (calls : G → DigestCall → G → Type 0) (tenants : List TenantQuota) where
   -- it was not begun: something is in the way, and the desk and the slots are as they were
-  abbrev pub BeginsNoTurn : DueTurn D → Turning S K → TurnStop × StoreSlots D → Turning S K → Type 0
+  abbrev pub BeginsNoTurn : DueTurn D → Turning S K G → TurnStop × StoreSlots D → Turning S K G → Type 0
   BeginsNoTurn due old told new =
       (told.1 ≡ due.slots) × (new ≡ record old { logs = new.logs })
       × ((refusal : Refusal) × (told.0 ≡ Logs refusal) × TellsReady keeps count tenants due.settled due.slots.owed old.logs (Err refusal) new.logs)
 
   -- a whole turn, or one that was begun and stopped
-  abbrev pub ComesTo : ℕ → ℕ → ℕ → List ℕ → Result (StoreSlots D) (TurnStop × StoreSlots D) → (StoreSlots D → Parts K S D) → Parts K S D → Type 0
-  ComesTo worker generation logs numbers (Ok left) new old = WritesTurn keeps does worker is_honest state failures generation logs numbers old (new left)
-  ComesTo worker generation logs numbers (Err told) new old = StopsTurn keeps does worker is_honest state failures generation logs numbers told.0 old (new told.1)
+  abbrev pub ComesTo : ℕ → ℕ → List ℕ → Result (StoreSlots D) (TurnStop × StoreSlots D) → (StoreSlots D → Parts K S D G) → Parts K S D G → Type 0
+  ComesTo worker logs numbers (Ok left) new old = WritesTurn keeps does worker is_honest state failures calls logs numbers old (new left)
+  ComesTo worker logs numbers (Err told) new old = StopsTurn keeps does worker is_honest state failures calls logs numbers told.0 old (new told.1)
 
-  -- The turn that is due was begun, after all was settled that is owed. It goes to the generation that is due, and its checkpoint is one of all tenants, in the
-  -- slots that were handed out. Its scans are of the turner's own pass.
-  pub record MakesTurn (due : DueTurn D) (old : Turning S K) (told : Result (StoreSlots D) (TurnStop × StoreSlots D)) (new : Turning S K) : Type 0 where
+  -- The turn that is due was begun, after all was settled that is owed. Its checkpoint is one of all tenants, in the slots that were handed out. Its scans are of
+  -- the turner's own pass.
+  pub record MakesTurn (due : DueTurn D) (old : Turning S K G) (told : Result (StoreSlots D) (TurnStop × StoreSlots D)) (new : Turning S K G) : Type 0 where
     pub mid : K
     pub numbers : List ℕ
     pub number : ℕ
     pub owed : due.slots.owed ≤ number
     pub settles : SettlesOwed keeps count due.settled due.slots.owed old.logs (Ok number) mid
     pub rising : AreRising tenants numbers
-    pub came : ComesTo old.worker due.generation (count mid) numbers told (parts new.logs new.desk) (parts mid old.desk due.slots)
-    pub same : new ≡ record old { logs = new.logs; desk = new.desk }
+    pub came : ComesTo old.worker (count mid) numbers told (λ left. parts new.logs new.desk left new.digests) (parts mid old.desk due.slots old.digests)
+    pub same : new ≡ record old { logs = new.logs; desk = new.desk; digests = new.digests }
 
   -- what is told of the turn that is due
-  abbrev pub TellsTurn : DueTurn D → Turning S K → Result (StoreSlots D) (TurnStop × StoreSlots D) → Turning S K → Type 0
+  abbrev pub TellsTurn : DueTurn D → Turning S K G → Result (StoreSlots D) (TurnStop × StoreSlots D) → Turning S K G → Type 0
   TellsTurn due old (Ok left) new = MakesTurn due old (Ok left) new
   TellsTurn due old (Err told) new = BeginsNoTurn due old told new ⊎ MakesTurn due old (Err told) new
 
   -- the turn that is due was handed out and told of, and its slots are back
-  pub record TakesAndEnds (old_checks : Checks D) (old : Turning S K) (new_checks : Checks D) (new : Turning S K) : Type 0 where
+  pub record TakesAndEnds (old_checks : Checks D) (old : Turning S K G) (new_checks : Checks D) (new : Turning S K G) : Type 0 where
     pub due : DueTurn D
     pub taken : Checks D
     pub told : Result (StoreSlots D) (TurnStop × StoreSlots D)
@@ -91,6 +92,6 @@ module _ {S K D : Type 0} (does : S → Period → S → Type 0) (is_honest : D 
     pub ends : EndsTurn told taken stop new_checks
 
   -- a turn that is due is made, or stopped; if none is due, nothing is done
-  abbrev pub Finishes : Checks D → Turning S K → Checks D → Turning S K → Type 0
+  abbrev pub Finishes : Checks D → Turning S K G → Checks D → Turning S K G → Type 0
   Finishes old_checks old new_checks new =
       ((¬ IsDue old_checks) × (new_checks ≡ old_checks) × (new ≡ old)) ⊎ TakesAndEnds old_checks old new_checks new

@@ -11,6 +11,7 @@ mod accounts;
 pub mod callers;
 mod connections;
 pub mod faults;
+pub mod folder_digests;
 mod progress;
 pub mod running;
 pub mod served_store;
@@ -21,6 +22,7 @@ pub mod workers;
 
 pub use callers::DeskCaller;
 pub use faults::ServerFault;
+pub use folder_digests::FolderDigests;
 pub use running::{Ending, Totals, run_server, totals_of};
 pub use served_store::{OpenStore, open_store};
 pub use turners::Turner;

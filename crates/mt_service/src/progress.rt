@@ -3,7 +3,7 @@
 ghost use Rattle.std.specs.Prelude.{◌≡◌, length};
 
 use log::{Log, warn};
-use mt_disk::{Disk, FileDisk};
+use mt_disk::Disk;
 use mt_log_files::WorkerFiles;
 use mt_recover::LogSlot;
 use mt_store_logs::Watch;
@@ -33,7 +33,7 @@ impl<'a, R: Clock + Log> Progress<'a, R> {
     }
 
     /// These logs are read next.
-    pub(crate) fn begin(&self, files: &mut [WorkerFiles<FileDisk>])
+    pub(crate) fn begin<D: Disk + Drop>(&self, files: &mut [WorkerFiles<D>])
         ensures { length files.new ≡ length files.old }
     {
         let logs = files.len();
@@ -77,7 +77,7 @@ impl<R: Clock + Log> Watch for Progress<'_, R> {
 }
 
 // How many bytes the files of logs have.
-fn bytes_in(files: &mut [WorkerFiles<FileDisk>]) -> u64
+fn bytes_in<D: Disk + Drop>(files: &mut [WorkerFiles<D>]) -> u64
     ensures { length files.new ≡ length files.old }
 {
     let mut bytes: u64 = 0;
@@ -91,7 +91,7 @@ fn bytes_in(files: &mut [WorkerFiles<FileDisk>]) -> u64
 }
 
 // How many bytes a file has. One that doesn't tell, or is open already, counts for none.
-fn bytes_of(slot: &mut LogSlot<FileDisk>) -> u64 {
+fn bytes_of<D: Disk + Drop>(slot: &mut LogSlot<D>) -> u64 {
     match slot {
         LogSlot::Closed(disk) => disk.len().unwrap_or(0) as u64,
         _ => 0,

@@ -22,7 +22,7 @@ use mt_session::SessionBuffers;
 use mt_settle::Logs;
 use mt_slots::StoreSlots;
 use mt_store_logs::StoreLog;
-use mt_stored::{Checks, Keeper, SharedLogs, Store, locked_logs, unlocked_logs};
+use mt_stored::{Checks, Digests, Keeper, SharedLogs, Store, locked_logs, unlocked_logs};
 use mt_streams::{Sink, write_whole};
 use std::alloc::{AllocError, Global};
 use std::marker::{Send, Sync};
@@ -51,14 +51,15 @@ pub struct Ending<D: Disk + Drop> {
 /// listens and, at the end, how many sessions and answers there were. After the last session the store is
 /// settled once more, also if the listener failed.
 ///
-/// After an error the output has a beginning of these two lines.
-pub fn run_server<L, R, W, D>(
+/// Who keeps digests is asked to in each turn. After an error the output has a beginning of these two lines.
+pub fn run_server<L, R, W, D, G>(
     rt: &R,
     alloc: Global,
     blank: Blank,
     listener: TcpListener,
     options: &Options,
     store: Store<D>,
+    digests: G,
     out: &mut W,
 ) -> Result<Ending<D>, ServerFault>
 where
@@ -66,6 +67,7 @@ where
     R: Threads + Wait + Clock + Log + Sync,
     W: Sink,
     D: Disk + Drop + Send,
+    G: Digests + Drop + Send,
     requires name { blank.name ≡ L.name }
     requires parts { (blank.parts ≡ L.parts) × (L.parts ≡ 65536) }
     requires untaken { store.source.state.answers ≡ 0 }
@@ -79,8 +81,8 @@ where
         Err(error) => return Err(ServerFault::Socket(error)),
     };
     say_first(alloc, out, port)?;
-    let (Totals { answers, others }, store) = serve_store::<L, R, D>(
-        rt, alloc, blank, &listener, options, store,
+    let (Totals { answers, others }, store) = serve_store::<L, R, D, G>(
+        rt, alloc, blank, &listener, options, store, digests,
     )?;
     say_last(alloc, out, options.sessions, answers)?;
     Ok(Ending { others, store })
@@ -91,6 +93,7 @@ fn serve_store<
     L: Ledger + Send + Sync,
     R: Threads + Wait + Clock + Log + Sync,
     D: Disk + Drop + Send,
+    G: Digests + Drop + Send,
 >(
     rt: &R,
     alloc: Global,
@@ -98,6 +101,7 @@ fn serve_store<
     listener: &TcpListener,
     options: &Options,
     store: Store<D>,
+    digests: G,
 ) -> Result<(Totals, Store<D>), ServerFault>
     requires name { blank.name ≡ L.name }
     requires parts { (blank.parts ≡ L.parts) × (L.parts ≡ 65536) }
@@ -105,35 +109,28 @@ fn serve_store<
     ensures settled { IfOk result (λ served. IsSettled served.1.source.state served.1.logs.items) }
     ensures fault { IfErr result IsOfServing }
 {
-    let generation = store.next_turn();
     let (state, logs, slots) = store.into_parts();
     let logs = locked_logs(alloc, logs)?;
-    let turns = Turns::new(checks_of(options, slots, generation));
+    let turns = Turns::new(checks_of(options, slots));
     let book = BookLock::new(Book::<L>::new(blank, state));
-    let served = serve_all(rt, alloc, &book, &logs, &turns, listener, options);
+    let served = serve_all(rt, alloc, &book, &logs, &turns, listener, options, digests);
     let store = settled(rt, alloc, book, logs, turns.into_checks())?;
     Ok((served?, store))
 }
 
-// The checks of a store that is served as the options say, whose first turn goes to this generation.
-fn checks_of<D: Disk + Drop>(
-    options: &Options,
-    slots: Option<StoreSlots<D>>,
-    generation: u64,
-) -> Checks<D>
+// The checks of a store that is served as the options say.
+fn checks_of<D: Disk + Drop>(options: &Options, slots: Option<StoreSlots<D>>) -> Checks<D>
     ensures first { IsAtFirst (every_of options.now.store) (bytes_of options.now.store) result }
     ensures slots { result.slots ≡ slots }
-    ensures generation { result.generation ≡ generation }
 {
     let (every, bytes) = match &options.store {
         Some(place) => (place.checkpoint, place.checkpoint_bytes),
         None => (0, 0),
     };
-    Checks::new(every, bytes, slots, generation)
+    Checks::new(every, bytes, slots)
 }
 
-// The store, of which nobody holds a lock any more, settled for the last time. Its slots and its next turn are those of
-// the checks.
+// The store, of which nobody holds a lock any more, settled for the last time. Its slots are those of the checks.
 fn settled<L: Ledger, R: Wait + Clock + Log, D: Disk + Drop>(
     rt: &R,
     alloc: Global,
@@ -146,8 +143,7 @@ fn settled<L: Ledger, R: Wait + Clock + Log, D: Disk + Drop>(
 {
     let logs = unlocked_logs(alloc, logs)?;
     let state = book.into_inner().into_state();
-    let next_turn = checks.generation();
-    let Some(mut store) = Store::joined(state, logs, checks.into_slots(), next_turn) else {
+    let Some(mut store) = Store::joined(state, logs, checks.into_slots()) else {
         return Err(ServerFault::Passes);
     };
     match store.settle_last(rt, alloc) {
@@ -187,8 +183,8 @@ fn say_last<W: Sink>(
     }
 }
 
-// Writes a line.
-fn say<W: Sink>(out: &mut W, line: &str) -> Result<(), ServerFault>
+/// Writes a text.
+pub(crate) fn say<W: Sink>(out: &mut W, line: &str) -> Result<(), ServerFault>
     ensures ok { OnOk result (Appends (W.contents out.old) (W.contents out.new) line.now) }
     ensures err { OnErr result (Begins (W.contents out.old) (W.contents out.new) line.now) }
     ensures failures { NoFewer (W.failures out.old) (W.failures out.new) }
@@ -206,6 +202,7 @@ fn serve_all<
     L: Ledger + Send + Sync,
     R: Threads + Wait + Clock + Log + Sync,
     D: Disk + Drop + Send,
+    G: Digests + Drop + Send,
 >(
     rt: &R,
     alloc: Global,
@@ -214,12 +211,13 @@ fn serve_all<
     turns: &Turns<D>,
     listener: &TcpListener,
     options: &Options,
+    digests: G,
 ) -> Result<Totals, ServerFault>
     requires { L.parts ≡ 65536 }
     ensures { IfErr result IsOfServing }
 {
     let workers = workers_of(rt, alloc, book, logs, turns, options)?;
-    let turner = turner_of(rt, alloc, book, logs, options)?;
+    let turner = turner_of(rt, alloc, book, logs, options, digests)?;
     let (pass, crew) = serve_beside(rt, alloc, turner, logs, turns, listener, options, workers);
     match crew {
         Ok(
@@ -241,11 +239,12 @@ fn serve_beside<
     D: Disk + Drop + Send,
     E: Desk<L> + Drop + Send,
     S: Logs + Drop + Send,
+    G: Digests + Drop + Send,
     W: Worker + Send,
 >(
     rt: &R,
     alloc: Global,
-    turner: Turner<'_, L, R, E, S>,
+    turner: Turner<'_, L, R, E, S, G>,
     logs: &[Mutex<StoreLog<D>>],
     turns: &Turns<D>,
     listener: &TcpListener,
@@ -270,28 +269,45 @@ fn serve_beside<
 }
 
 // The turner of a store, with a pass of its own: that of worker 0, since a scan changes nothing.
-fn turner_of<'a, L: Ledger, R: Wait + Clock, D: Disk + Drop>(
+fn turner_of<'a, L: Ledger, R: Wait + Clock, D: Disk + Drop, G: Digests + Drop>(
     rt: &'a R,
     alloc: Global,
     book: &'a BookLock<L>,
     logs: &'a [Mutex<StoreLog<D>>],
     options: &'a Options,
-) -> Result<Turner<'a, L, R, &'a BookLock<L>, SharedLogs<'a, L, D>>, ServerFault>
+    digests: G,
+) -> Result<Turner<'a, L, R, &'a BookLock<L>, SharedLogs<'a, L, D>, G>, ServerFault>
     ensures own { IfOk result (λ turner. (turner.pass.worker ≡ 0) × (turner.pass.share.amount ≡ 0)) }
     ensures logs { IfOk result (λ turner. turner.logs.logs.now ≡ logs.now) }
     ensures tenants { IfOk result (λ turner. turner.tenants.now ≡ options.now.tenants.items) }
+    ensures digests { IfOk result (λ turner. turner.digests ≡ digests) }
     ensures fault { IfErr result IsOfServing }
 {
     let Some(pass) = open_pass(rt, book, 0) else {
         return Err(ServerFault::Passes);
     };
     let logs = SharedLogs::new(book, logs);
-    Ok(Turner::new(rt, alloc, book, pass, logs, options.tenants.as_slice()))
+    Ok(Turner::new(
+        rt,
+        alloc,
+        book,
+        pass,
+        logs,
+        options.tenants.as_slice(),
+        digests,
+    ))
 }
 
 // Makes the turns of a store, if there is one, till serving is over. It gives the pass back.
-fn turn_beside<L: Ledger, R: Wait + Clock + Log, E: Desk<L> + Drop, S: Logs + Drop, D: Disk + Drop>(
-    mut turner: Turner<'_, L, R, E, S>,
+fn turn_beside<
+    L: Ledger,
+    R: Wait + Clock + Log,
+    E: Desk<L> + Drop,
+    S: Logs + Drop,
+    G: Digests + Drop,
+    D: Disk + Drop,
+>(
+    mut turner: Turner<'_, L, R, E, S, G>,
     logs: &[Mutex<StoreLog<D>>],
     turns: &Turns<D>,
     options: &Options,

@@ -1,8 +1,9 @@
 //! The store that a server serves from: none, a new one, or one that is recovered.
 
-ghost use Rattle.std.specs.Prelude.{◌≡◌, ◌≤◌, [], true, false, IfOk, IfErr, OnErr, IsSome};
+ghost use Rattle.std.specs.Prelude.{◌≡◌, ◌≤◌, [], true, false, IfOk, IfErr, OnOk, OnErr, IsSome};
 ghost use Rattle.mt_state.specs.Begins.{HaveNoPairs};
-ghost use Rattle.mt_service.specs.ServedStore.{IsOpened, IsOfOpening, IsMadeOn, IsRecoveredFrom, IsOfPlace, IsAtPlace, fault_of, plain_file, IsToldAs, Tells};
+ghost use Rattle.mt_service.specs.{ServedStore.{IsOpened, IsOfOpening, IsMadeOn, IsRecovered, IsOfPlace, IsAtPlace}, ReadStores.{IsRecoveredFrom, ComparesFirst, IsOfReading}};
+ghost use Rattle.mt_service.specs.StoreFaults.{fault_of, plain_file, IsToldAs, Tells, IsToldOf};
 
 use crate::accounts::accounts_of;
 use crate::faults::ServerFault;
@@ -12,7 +13,7 @@ use mt_disk::FileDisk;
 use mt_options::{Options, StorePlace};
 use mt_rows::{Refusal, Tenants};
 use mt_slots::SlotFault;
-use mt_store_files::{FolderFault, OsFolder, StoreFault, StoreFile, StoreFolder};
+use mt_store_files::{FolderFault, FolderSystem, OsFolder, StoreFault, StoreFile, StoreFolder};
 use mt_store_logs::{LogRefusal, StoreRefusal};
 use mt_stored::Store;
 use std::alloc::Global;
@@ -50,11 +51,18 @@ pub fn open_store<R: Files<File = File> + Clock + Log>(
         }
         Some(place) => match open_place(rt, alloc, place, options.workers, tenants) {
             Ok(opened) => Ok(opened),
-            Err(fault) => Err(ServerFault::Store(FolderFault {
-                folder: String::from_str(alloc, place.folder.as_str())?,
-                fault,
-            })),
+            Err(fault) => Err(told_of(alloc, place.folder.as_str(), fault)),
         },
+    }
+}
+
+/// A fault of the store in a folder, told with it.
+pub(crate) fn told_of(alloc: Global, folder: &str, fault: StoreFault) -> ServerFault
+    ensures { IsToldOf folder.now fault result }
+{
+    match String::from_str(alloc, folder) {
+        Ok(folder) => ServerFault::Store(FolderFault { folder, fault }),
+        Err(_) => ServerFault::Memory,
     }
 }
 
@@ -120,7 +128,7 @@ fn recover<R: Files<File = File> + Clock + Log>(
 ) -> Result<OpenStore, StoreFault>
     requires few { workers ≤ 64 }
     requires empty { HaveNoPairs tenants }
-    ensures ok { IfOk result (λ opened. IsRecoveredFrom workers tenants opened.store.source.state opened.store.logs.items opened.store.slots opened.store.next_turn) }
+    ensures ok { IfOk result (λ opened. IsRecovered workers tenants opened.store.source.state opened.store.logs.items opened.store.slots) }
     ensures untaken { IfOk result (λ opened. opened.store.source.state.answers ≡ 0) }
     ensures kept { IfOk result (λ opened. IsSome opened.folder) }
     ensures err { IfErr result (IsOfPlace false workers tenants) }
@@ -135,19 +143,20 @@ fn recover<R: Files<File = File> + Clock + Log>(
     }
 }
 
-// The store of a folder that is open, recovered. If it is refused nothing is left that was made for it.
-fn recover_in<R: Files<File = File> + Clock + Log>(
+/// The store of a folder that is open, recovered. If it is refused nothing is left that was made for it.
+pub(crate) fn recover_in<R: Files<File = File> + Clock + Log, S: FolderSystem + Drop>(
     rt: &R,
     alloc: Global,
-    folder: &mut StoreFolder,
+    folder: &mut StoreFolder<S>,
     workers: u8,
     tenants: Tenants,
-) -> Result<Store<FileDisk>, StoreFault>
+) -> Result<Store<S::File>, StoreFault>
     requires few { workers ≤ 64 }
     requires empty { HaveNoPairs tenants }
-    ensures ok { IfOk result (λ store. IsRecoveredFrom workers tenants store.source.state store.logs.items store.slots store.next_turn) }
+    ensures ok { IfOk result (λ store. IsRecoveredFrom S.File.is_honest S.File.state S.File.failures workers tenants store.source.state store.logs.items store.slots) }
     ensures untaken { IfOk result (λ store. store.source.state.answers ≡ 0) }
-    ensures err { IfErr result (IsOfPlace false workers tenants) }
+    ensures compared { OnOk result (ComparesFirst S.File.is_honest S.File.state workers (S.calls folder.old.system) (S.calls folder.new.system)) }
+    ensures err { IfErr result (IsOfReading S.File.is_honest S.File.state S.File.failures workers tenants) }
     ensures none_left { OnErr result (folder.new.made.items ≡ []) }
 {
     match read_store(rt, alloc, folder, workers, tenants) {
@@ -156,20 +165,22 @@ fn recover_in<R: Files<File = File> + Clock + Log>(
     }
 }
 
-// The store that the files of a folder hold.
-fn read_store<R: Files<File = File> + Clock + Log>(
+// The store that the files of a folder hold, if these are what was written, by their digests.
+fn read_store<R: Files<File = File> + Clock + Log, S: FolderSystem + Drop>(
     rt: &R,
     alloc: Global,
-    folder: &mut StoreFolder,
+    folder: &mut StoreFolder<S>,
     workers: u8,
     tenants: Tenants,
-) -> Result<Store<FileDisk>, StoreFault>
+) -> Result<Store<S::File>, StoreFault>
     requires few { workers ≤ 64 }
     requires empty { HaveNoPairs tenants }
-    ensures ok { IfOk result (λ store. IsRecoveredFrom workers tenants store.source.state store.logs.items store.slots store.next_turn) }
+    ensures ok { IfOk result (λ store. IsRecoveredFrom S.File.is_honest S.File.state S.File.failures workers tenants store.source.state store.logs.items store.slots) }
     ensures untaken { IfOk result (λ store. store.source.state.answers ≡ 0) }
-    ensures err { IfErr result (IsOfPlace false workers tenants) }
+    ensures compared { OnOk result (ComparesFirst S.File.is_honest S.File.state workers (S.calls folder.old.system) (S.calls folder.new.system)) }
+    ensures err { IfErr result (IsOfReading S.File.is_honest S.File.state S.File.failures workers tenants) }
 {
+    folder.check_digests(rt, alloc, workers)?;
     let mut files = folder.open_logs(rt, alloc, workers)?;
     let slots = folder.open_slots(rt, alloc)?;
     let mut progress = Progress::new(rt);
@@ -215,10 +226,10 @@ fn plain_file(log: Option<usize>, refusal: Refusal) -> Option<StoreFile>
 }
 
 // The same, of a store whose logs so many workers asked for. If they are no set, the folder's logs are counted.
-fn not_recovered<R: Files<File = File>>(
+fn not_recovered<R: Files<File = File>, S: FolderSystem + Drop>(
     rt: &R,
     alloc: Global,
-    folder: &mut StoreFolder,
+    folder: &mut StoreFolder<S>,
     workers: u8,
     why: StoreRefusal,
 ) -> StoreFault
@@ -234,10 +245,10 @@ fn not_recovered<R: Files<File = File>>(
 }
 
 // A fault of a plain file, told of the log and no file if a numbered file of its worker may have a log too.
-fn told_as<R: Files<File = File>>(
+fn told_as<R: Files<File = File>, S: FolderSystem + Drop>(
     rt: &R,
     alloc: Global,
-    folder: &mut StoreFolder,
+    folder: &mut StoreFolder<S>,
     fault: StoreFault,
 ) -> StoreFault
     ensures { IsToldAs fault result }

@@ -16,26 +16,41 @@ use mt_rows::Refusal;
 use mt_settle::{Logs, settle};
 use mt_slots::StoreSlots;
 use mt_store_logs::StoreLog;
-use mt_stored::{CheckpointStop, Checks, DueTurn, TurnStop, write_turn};
+use mt_stored::{CheckpointStop, Checks, Digests, DueTurn, TurnStop, write_turn};
 use std::alloc::Global;
 use std::sync::ledger::Ledger;
 use std::sync::{Mutex, Wait};
 use std::time::Clock;
 
-/// Who makes a store's turns, with a pass of its own over any desk, and over any logs. It also settles by the clock: so far
-/// all is settled up to a step.
+/// Who makes a store's turns, with a pass of its own over any desk, over any logs, and with any digests. It also settles by
+/// the clock: so far all is settled up to a step.
 #[derive(Drop)]
-pub struct Turner<'a, L: Ledger, R: Wait + Clock, D: Desk<L> + Drop, S: Logs + Drop> {
+pub struct Turner<
+    'a,
+    L: Ledger,
+    R: Wait + Clock,
+    D: Desk<L> + Drop,
+    S: Logs + Drop,
+    G: Digests + Drop,
+> {
     rt: &'a R,
     alloc: Global,
     desk: D,
     pass: Pass<L>,
     logs: S,
     tenants: &'a [TenantQuota],
+    digests: G,
     settled: u64,
 }
 
-impl<'a, L: Ledger, R: Wait + Clock, D: Desk<L> + Drop, S: Logs + Drop> Turner<'a, L, R, D, S> {
+impl<'a, L: Ledger, R: Wait + Clock, D: Desk<L> + Drop, S: Logs + Drop, G: Digests + Drop> Turner<
+    'a,
+    L,
+    R,
+    D,
+    S,
+    G,
+> {
     /// A turner with this pass, which has settled nothing.
     pub fn new(
         rt: &'a R,
@@ -44,11 +59,13 @@ impl<'a, L: Ledger, R: Wait + Clock, D: Desk<L> + Drop, S: Logs + Drop> Turner<'
         pass: Pass<L>,
         logs: S,
         tenants: &'a [TenantQuota],
+        digests: G,
     ) -> Self
         ensures desk { result.desk ≡ desk }
         ensures pass { result.pass ≡ pass }
         ensures logs { result.logs ≡ logs }
         ensures tenants { result.tenants.now ≡ tenants.now }
+        ensures digests { result.digests ≡ digests }
         ensures settled { result.settled ≡ 0 }
     {
         Turner {
@@ -58,6 +75,7 @@ impl<'a, L: Ledger, R: Wait + Clock, D: Desk<L> + Drop, S: Logs + Drop> Turner<'
             pass,
             logs,
             tenants,
+            digests,
             settled: 0,
         }
     }
@@ -70,7 +88,14 @@ impl<'a, L: Ledger, R: Wait + Clock, D: Desk<L> + Drop, S: Logs + Drop> Turner<'
     }
 }
 
-impl<L: Ledger, R: Wait + Clock + Log, D: Desk<L> + Drop, S: Logs + Drop> Turner<'_, L, R, D, S> {
+impl<L: Ledger, R: Wait + Clock + Log, D: Desk<L> + Drop, S: Logs + Drop, G: Digests + Drop> Turner<
+    '_,
+    L,
+    R,
+    D,
+    S,
+    G,
+> {
     ghost use Rattle.mt_service.specs.Turning.{turning, TellsTurn, Finishes, SettlesByClock};
     ghost use Rattle.mt_stored.specs.{Checkpoints.scanner, Checks.{IsDue, TakesDue}};
 
@@ -123,8 +148,8 @@ impl<L: Ledger, R: Wait + Clock + Log, D: Desk<L> + Drop, S: Logs + Drop> Turner
     /// Makes the last turn, if one is due, over checks that nobody uses meanwhile. None is due then.
     pub fn finish<K: Disk + Drop>(&mut self, checks: &mut Checks<K>)
         ensures none { 0 < length self.old.tenants.now → ¬ IsDue checks.new }
-        ensures turn { 0 < length self.old.tenants.now → Finishes D.does K.is_honest K.state K.failures S.does S.logs self.old.tenants.now checks.old (turning self.old.logs (scanner self.old.desk self.old.pass.seen self.old.pass.share.amount) self.old.pass.worker self.old.settled)
-            checks.new (turning self.new.logs (scanner self.new.desk self.new.pass.seen self.new.pass.share.amount) self.new.pass.worker self.new.settled) }
+        ensures turn { 0 < length self.old.tenants.now → Finishes D.does K.is_honest K.state K.failures S.does S.logs G.does self.old.tenants.now checks.old (turning self.old.logs (scanner self.old.desk self.old.pass.seen self.old.pass.share.amount) self.old.pass.worker self.old.digests self.old.settled)
+            checks.new (turning self.new.logs (scanner self.new.desk self.new.pass.seen self.new.pass.share.amount) self.new.pass.worker self.new.digests self.new.settled) }
     {
         let Some(due) = self.take_due(checks) else {
             return;
@@ -152,14 +177,10 @@ impl<L: Ledger, R: Wait + Clock + Log, D: Desk<L> + Drop, S: Logs + Drop> Turner
         due: DueTurn<K>,
     ) -> Result<StoreSlots<K>, (TurnStop, StoreSlots<K>)>
         requires some { 0 < length self.old.tenants.now }
-        ensures { TellsTurn D.does K.is_honest K.state K.failures S.does S.logs self.old.tenants.now due (turning self.old.logs (scanner self.old.desk self.old.pass.seen self.old.pass.share.amount) self.old.pass.worker self.old.settled) result
-            (turning self.new.logs (scanner self.new.desk self.new.pass.seen self.new.pass.share.amount) self.new.pass.worker self.new.settled) }
+        ensures { TellsTurn D.does K.is_honest K.state K.failures S.does S.logs G.does self.old.tenants.now due (turning self.old.logs (scanner self.old.desk self.old.pass.seen self.old.pass.share.amount) self.old.pass.worker self.old.digests self.old.settled) result
+            (turning self.new.logs (scanner self.new.desk self.new.pass.seen self.new.pass.share.amount) self.new.pass.worker self.new.digests self.new.settled) }
     {
-        let DueTurn {
-            generation,
-            settled,
-            slots,
-        } = due;
+        let DueTurn { settled, slots } = due;
         let ready = get_ready(
             self.rt,
             self.alloc,
@@ -175,9 +196,9 @@ impl<L: Ledger, R: Wait + Clock + Log, D: Desk<L> + Drop, S: Logs + Drop> Turner
                 &mut self.desk,
                 &mut self.pass,
                 &mut self.logs,
-                generation,
                 tenants,
                 slots,
+                &mut self.digests,
             ),
             Err(refusal) => Err((TurnStop::Logs(refusal), slots)),
         }
@@ -186,8 +207,8 @@ impl<L: Ledger, R: Wait + Clock + Log, D: Desk<L> + Drop, S: Logs + Drop> Turner
     // Settles if a step was made since it last settled by the clock. What is refused waits for the next time; a log that
     // closes was warned of.
     fn settle_if_answered(&mut self)
-        ensures { SettlesByClock D.does S.does S.logs (turning self.old.logs (scanner self.old.desk self.old.pass.seen self.old.pass.share.amount) self.old.pass.worker self.old.settled)
-            (turning self.new.logs (scanner self.new.desk self.new.pass.seen self.new.pass.share.amount) self.new.pass.worker self.new.settled) }
+        ensures { SettlesByClock D.does S.does S.logs (turning self.old.logs (scanner self.old.desk self.old.pass.seen self.old.pass.share.amount) self.old.pass.worker self.old.digests self.old.settled)
+            (turning self.new.logs (scanner self.new.desk self.new.pass.seen self.new.pass.share.amount) self.new.pass.worker self.new.digests self.new.settled) }
     {
         let steps = self.desk.look(self.rt).steps;
         if steps <= self.settled {

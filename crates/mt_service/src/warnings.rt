@@ -3,7 +3,7 @@
 use mt_disk::SystemError;
 use mt_slots::FaultCause;
 use mt_store_files::StoreFile;
-use mt_stored::{CheckpointStop, TurnStop};
+use mt_stored::{CheckpointStop, Digested, TurnStop};
 use std::fmt;
 
 /// A turn that was stopped, and why the last call failed of the disk in whose slot it wrote, if the system told it.
@@ -41,6 +41,17 @@ impl fmt::Display for TurnWarning {
             TurnStop::Checkpoint(CheckpointStop::Scan(refusal)) => {
                 write!(f, "a checkpoint was given up: {refusal}")
             }
+            TurnStop::Digest(Digested::OfSlot(slot), refusal) => {
+                let file = StoreFile::Slot(slot);
+                write!(
+                    f,
+                    "a turn of the logs was not finished: the digest of {file}: {refusal}"
+                )
+            }
+            TurnStop::Digest(Digested::OfLogs(generation), refusal) => write!(
+                f,
+                "a turn of the logs was not finished: the digests of generation {generation}: {refusal}"
+            ),
             TurnStop::Logs(refusal) => write!(f, "a turn of the logs was not finished: {refusal}"),
         }
     }

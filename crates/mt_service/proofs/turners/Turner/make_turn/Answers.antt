@@ -17,9 +17,9 @@ returns-in-Ok g c =
     let mid = c.get_ready-ready.new.logs in
     let ready =
     subst (λ (n : ℕ). TellsReady g.S.Logs.does g.S.Logs.logs old.tenants.now c.args.due.settled n old.logs (Ok c.in-Ok.tenants) mid) c.owed.ensures c.in-Ok.ensures in
-    told g.D.Desk.does g.K.Disk.is_honest g.K.Disk.state g.K.Disk.failures g.S.Logs.does g.S.Logs.logs old.tenants.now c.args.due
-    (turning old.logs (scanner old.desk old.pass.seen old.pass.share.amount) old.pass.worker old.settled)
-    (turning logs desk c.write_turn.new.pass.worker old.settled) c.write_turn.result
+    told g.D.Desk.does g.K.Disk.is_honest g.K.Disk.state g.K.Disk.failures g.S.Logs.does g.S.Logs.logs g.G.Digests.does old.tenants.now c.args.due
+    (turning old.logs (scanner old.desk old.pass.seen old.pass.share.amount) old.pass.worker old.digests old.settled)
+    (turning logs desk c.write_turn.new.pass.worker c.write_turn.new.digests old.settled) c.write_turn.result
     (record {
       mid = mid;
       numbers = c.in-Ok.tenants.items;
@@ -28,7 +28,7 @@ returns-in-Ok g c =
       settles = ready.0.2;
       rising = ready.1;
       came =
-          comes g.D.Desk.does g.K.Disk.is_honest g.K.Disk.state g.K.Disk.failures g.S.Logs.does g.S.Logs.logs old.tenants.now old.pass.worker c.args.due.generation (g.S.Logs.logs mid) c.in-Ok.tenants.items c.write_turn.result
-          (parts logs desk) (parts mid (scanner old.desk old.pass.seen old.pass.share.amount) c.args.due.slots) c.write_turn.ensures.ok c.write_turn.ensures.err;
-      same = ap (λ w. turning logs desk w old.settled) c.write_turn.ensures.worker;
+          comes g.D.Desk.does g.K.Disk.is_honest g.K.Disk.state g.K.Disk.failures g.S.Logs.does g.S.Logs.logs g.G.Digests.does old.tenants.now old.pass.worker (g.S.Logs.logs mid) c.in-Ok.tenants.items c.write_turn.result
+          (λ left. parts logs desk left c.write_turn.new.digests) (parts mid (scanner old.desk old.pass.seen old.pass.share.amount) c.args.due.slots old.digests) c.write_turn.ensures.ok c.write_turn.ensures.err;
+      same = ap (λ w. turning logs desk w c.write_turn.new.digests old.settled) c.write_turn.ensures.worker;
     })
