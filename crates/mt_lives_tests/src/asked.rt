@@ -1,4 +1,12 @@
 //! What is asked of a store: the rows of a story, and the events that they stand for.
+//!
+//! A row is a word and what it needs, of two workers, 0 and 1, and of one Settle. An operation of tenant 7 has a number:
+//!
+//! - `put OP WORKER KEY VALUE`, with all its steps; `put_if OP WORKER KEY STAMP VALUE`, on condition of a stamp;
+//! - `open OP WORKER KEY VALUE STEPS`, a put that makes some steps and stays open; `end OP`, its other steps;
+//! - `get OP KEY`, with all its steps;
+//! - `flush WORKER`, `reopen WORKER`, `settle`, `next` and `crash`;
+//! - `check`: the turn of a checkpoint begins; `walk PARTS`: it goes on by so many; `ends`: by all.
 
 ghost use Rattle.std.specs.{Prelude.{◌≡◌}, List.All};
 ghost use Rattle.mt_state.specs.Begins.{HaveNoPairs};
@@ -10,32 +18,6 @@ use mt_runs::Event;
 use mt_store_logs::FileImages;
 use std::alloc::Global;
 use std::process::Abort;
-
-/// One row of a story: of two workers, 0 and 1, and of one Settle. Operations of tenant 7 have names.
-#[derive(Clone, Copy, Debug)]
-pub(crate) enum Row {
-    /// A put of a worker's, with all its steps.
-    Put(u64, u8, &'static str, &'static str),
-    /// One on condition of a stamp, with all its steps.
-    PutIf(u64, u8, &'static str, u64, &'static str),
-    /// A put that makes some steps and stays open.
-    Open(u64, u8, &'static str, &'static str, u64),
-    /// Its other steps.
-    End(u64),
-    /// A get, with all its steps.
-    Get(u64, &'static str),
-    Flush(u8),
-    Reopen(u8),
-    Settle,
-    Next,
-    /// The turn of a checkpoint begins.
-    Check,
-    /// It goes on by so many parts.
-    Walk(u64),
-    /// It goes on by all its parts.
-    Ends,
-    Crash,
-}
 
 /// As many steps as any operation here needs; a step behind the last one is none.
 const ENOUGH: u64 = 9;
@@ -88,60 +70,97 @@ fn key_of(rt: &impl Abort, alloc: Global, key: &str) -> Key {
     Key::new(Vec::from_slice(alloc, key.as_bytes()).expect(rt, "memory"))
 }
 
-// An operation of tenant 7 begins. Of another worker than 1 it is worker 0.
-fn begin(op: u64, worker: u8, command: Command) -> StoreEvent
-    ensures { IsServedBy 2 result }
-{
-    StoreEvent::Core(Event::Begin {
-        op,
-        worker: if worker == 1 { 1 } else { 0 },
-        tenant: 7,
-        command,
-    })
+fn number(text: &str) -> u64 {
+    text.parse().unwrap_or(0)
+}
+
+fn worker_of(text: &str) -> u8 {
+    text.parse().unwrap_or(0)
+}
+
+/// The rows of a story, one behind the other with a comma between. What is noted of a row may stand behind it and a colon.
+pub(crate) fn rows_of<'a>(rt: &impl Abort, alloc: Global, story: &'a str) -> Vec<&'a str> {
+    let mut rows = Vec::new(alloc);
+    for row in story.split(", ") {
+        let (row, _) = row.split_once(": ").unwrap_or((row, ""));
+        assert!(rt; rows.push(row).is_ok());
+    }
+    rows
+}
+
+fn words_of<'a>(rt: &impl Abort, alloc: Global, row: &'a str) -> Vec<&'a str> {
+    let mut words = Vec::new(alloc);
+    for word in row.split(' ') {
+        assert!(rt; words.push(word).is_ok());
+    }
+    words
 }
 
 /// The events of a row, and the one that tells most of them last. A crash leaves these images.
 pub(crate) fn events_of(
     rt: &impl Abort,
     alloc: Global,
-    row: Row,
+    row: &str,
     images: Option<&CrashImages>,
     events: &mut Vec<StoreEvent>,
 )
     requires { All (IsServedBy 2) events.old.items }
     ensures { All (IsServedBy 2) events.new.items }
 {
-    match row {
-        Row::Put(op, worker, key, value) => {
-            push(rt, events, begin(op, worker, put(rt, alloc, key, value)));
-            step(rt, events, op, ENOUGH);
+    let words = words_of(rt, alloc, row);
+    match words.as_slice() {
+        ["put", op, worker, key, value] => {
+            let command = put(rt, alloc, key, value);
+            begin(rt, events, op, worker, command, ENOUGH);
         }
-        Row::PutIf(op, worker, key, stamp, value) => {
-            push(
-                rt,
-                events,
-                begin(op, worker, put_if(rt, alloc, key, stamp, value)),
-            );
-            step(rt, events, op, ENOUGH);
+        ["put_if", op, worker, key, stamp, value] => {
+            let command = put_if(rt, alloc, key, number(stamp), value);
+            begin(rt, events, op, worker, command, ENOUGH);
         }
-        Row::Open(op, worker, key, value, steps) => {
-            push(rt, events, begin(op, worker, put(rt, alloc, key, value)));
-            step(rt, events, op, steps);
+        ["open", op, worker, key, value, steps] => {
+            let command = put(rt, alloc, key, value);
+            begin(rt, events, op, worker, command, number(steps));
         }
-        Row::End(op) => step(rt, events, op, ENOUGH),
-        Row::Get(op, key) => {
-            push(rt, events, begin(op, 0, get(rt, alloc, key)));
-            step(rt, events, op, ENOUGH);
+        ["end", op] => step(rt, events, number(op), ENOUGH),
+        ["get", op, key] => begin(rt, events, op, "0", get(rt, alloc, key), ENOUGH),
+        ["flush", worker] => {
+            let worker = worker_of(worker);
+            push(rt, events, StoreEvent::Flush { worker });
         }
-        Row::Flush(worker) => push(rt, events, StoreEvent::Flush { worker }),
-        Row::Reopen(worker) => push(rt, events, StoreEvent::Reopen { worker }),
-        Row::Settle => push(rt, events, StoreEvent::SettleBegin { id: 1 }),
-        Row::Next => push(rt, events, StoreEvent::SettleNext { id: 1 }),
-        Row::Check => push(rt, events, StoreEvent::CheckBegin),
-        Row::Walk(parts) => walk(rt, events, parts),
-        Row::Ends => walk(rt, events, ENOUGH_FOR_CHECK),
-        Row::Crash => push(rt, events, crash(rt, alloc, images)),
+        ["reopen", worker] => {
+            let worker = worker_of(worker);
+            push(rt, events, StoreEvent::Reopen { worker });
+        }
+        ["settle"] => push(rt, events, StoreEvent::SettleBegin { id: 1 }),
+        ["next"] => push(rt, events, StoreEvent::SettleNext { id: 1 }),
+        ["check"] => push(rt, events, StoreEvent::CheckBegin),
+        ["walk", parts] => walk(rt, events, number(parts)),
+        ["ends"] => walk(rt, events, ENOUGH_FOR_CHECK),
+        ["crash"] => push(rt, events, crash(rt, alloc, images)),
+        _ => panic!(rt; "{row}: no such row"),
     }
+}
+
+// An operation of tenant 7 begins, and makes so many steps. Of another worker than 1 it is worker 0.
+fn begin(
+    rt: &impl Abort,
+    events: &mut Vec<StoreEvent>,
+    op: &str,
+    worker: &str,
+    command: Command,
+    steps: u64,
+)
+    requires { All (IsServedBy 2) events.old.items }
+    ensures { All (IsServedBy 2) events.new.items }
+{
+    let begun = Event::Begin {
+        op: number(op),
+        worker: if worker == "1" { 1 } else { 0 },
+        tenant: 7,
+        command,
+    };
+    push(rt, events, StoreEvent::Core(begun));
+    step(rt, events, number(op), steps);
 }
 
 fn push(rt: &impl Abort, events: &mut Vec<StoreEvent>, event: StoreEvent)

@@ -4,7 +4,7 @@ ghost use Rattle.std.specs.{Prelude.{◌≡◌, length, Some}, List.All};
 ghost use Rattle.mt_state.specs.Begins.{HaveNoPairs};
 ghost use Rattle.mt_lives.specs.Steps.{IsServedBy};
 
-use crate::asked::{Row, copied, events_of, one_tenant};
+use crate::asked::{copied, events_of, one_tenant, rows_of};
 use crate::notes::{Noted, last_of};
 use mt_disk::MemDisk;
 use mt_lives::{CrashImages, LiveSlots, Store, StoreEvent, StoreNote, run_store_events};
@@ -91,9 +91,10 @@ pub(crate) struct Ran {
     pub before: u64,
 }
 
-/// What became of each row; none where the logs are not made.
-pub(crate) fn run(rt: &impl Abort, alloc: Global, fate: Fate, rows: &[Row]) -> Option<Vec<Noted>> {
-    let Ran { noted, .. } = run_store(rt, alloc, &one_tenant(alloc), fate, rows)?;
+/// What became of each row of a story; none where the logs are not made.
+pub(crate) fn run(rt: &impl Abort, alloc: Global, fate: Fate, story: &str) -> Option<Vec<Noted>> {
+    let rows = rows_of(rt, alloc, story);
+    let Ran { noted, .. } = run_store(rt, alloc, &one_tenant(alloc), fate, &rows)?;
     Some(noted)
 }
 
@@ -103,14 +104,14 @@ pub(crate) fn run_store(
     alloc: Global,
     tenants: &Tenants,
     fate: Fate,
-    rows: &[Row],
+    rows: &[&str],
 ) -> Option<Ran>
     requires { HaveNoPairs tenants.now }
 {
     let mut images = Vec::new(alloc);
     let mut before = 0;
     for (place, row) in rows.iter().enumerate() {
-        if let Row::Crash = row {
+        if *row == "crash" {
             let lived = rows.get(..place).unwrap_or(&[]);
             let (store, _) = run_with(rt, alloc, tenants, fate, lived, &images)?;
             before = last_generation(&store);
@@ -132,7 +133,7 @@ fn run_with(
     alloc: Global,
     tenants: &Tenants,
     fate: Fate,
-    rows: &[Row],
+    rows: &[&str],
     images: &[CrashImages],
 ) -> Option<(Store, Vec<Noted>)>
     requires { HaveNoPairs tenants.now }
@@ -154,7 +155,7 @@ fn run_with(
 fn events_with_ends(
     rt: &impl Abort,
     alloc: Global,
-    rows: &[Row],
+    rows: &[&str],
     images: &[CrashImages],
 ) -> (Vec<StoreEvent>, Vec<usize>)
     ensures { All (IsServedBy 2) result.0.items }
@@ -163,11 +164,8 @@ fn events_with_ends(
     let mut ends = Vec::new(alloc);
     let mut images = images.iter();
     for row in rows {
-        let left = match row {
-            Row::Crash => images.next(),
-            _ => None,
-        };
-        events_of(rt, alloc, *row, left, &mut events);
+        let left = if *row == "crash" { images.next() } else { None };
+        events_of(rt, alloc, row, left, &mut events);
         assert!(rt; ends.push(events.len()).is_ok());
     }
     (events, ends)
@@ -260,54 +258,34 @@ fn disk_in<'a>(rt: &impl Abort, file: &'a LogSlot<MemDisk>) -> &'a MemDisk {
 }
 
 /// Each fate in which one call of one disk fails, of those that all disks make in the first rows.
-pub(crate) fn fates_of(rt: &impl Abort, alloc: Global, rows: &[Row], count: usize) -> Vec<Fate> {
+pub(crate) fn fates_of(rt: &impl Abort, alloc: Global, story: &str, count: usize) -> Vec<Fate> {
     let mut fates = Vec::new(alloc);
-    for disk in DISKS {
-        for call in 1..next_call(rt, alloc, rows, count, disk) {
-            assert!(rt; fates.push(Fate::fails_at(disk, call)).is_ok());
+    for (disk, calls) in DISKS.iter().zip(calls_in(rt, alloc, story, count)) {
+        for call in 1..=calls {
+            assert!(rt; fates.push(Fate::fails_at(*disk, call)).is_ok());
         }
     }
     fates
 }
 
-/// The number of a disk's first call after so many rows, if none fails.
-pub(crate) fn next_call(
-    rt: &impl Abort,
-    alloc: Global,
-    rows: &[Row],
-    count: usize,
-    disk: DiskOf,
-) -> u64 {
+/// How many calls each disk makes in the first rows, if none fails.
+pub(crate) fn calls_in(rt: &impl Abort, alloc: Global, story: &str, count: usize) -> [u64; 8] {
+    let rows = rows_of(rt, alloc, story);
     let rows = rows.get(..count).unwrap_or(&[]);
     let ran = run_store(rt, alloc, &one_tenant(alloc), AMPLE, rows);
     let Ran { store, .. } = ran.expect(rt, "logs");
-    calls_in(rt, store, disk).saturating_add(1)
-}
-
-fn calls_in(rt: &impl Abort, store: Store, disk: DiskOf) -> u64 {
     let Store { logs, slots, .. } = store;
-    match disk {
-        DiskOf::Plain(worker) | DiskOf::Even(worker) | DiskOf::Odd(worker) => {
-            let log = logs.get(usize::from(worker)).expect(rt, "a log");
-            file_calls(rt, log.log().files(), disk)
-        }
-        DiskOf::Slot(number) => {
-            let (first, second) = slot_disks(rt, slots);
-            if number == 0 {
-                first.calls()
-            } else {
-                second.calls()
-            }
-        }
-    }
+    let (first, second) = slot_disks(rt, slots);
+    let [a, b, c] = file_calls(rt, logs.first());
+    let [d, e, f] = file_calls(rt, logs.get(1));
+    [a, b, c, d, e, f, first.calls(), second.calls()]
 }
 
-fn file_calls(rt: &impl Abort, files: &WorkerFiles<MemDisk>, disk: DiskOf) -> u64 {
-    match disk {
-        DiskOf::Plain(_) => disk_in(rt, &files.plain).calls(),
-        DiskOf::Even(_) => disk_in(rt, &files.even).calls(),
-        DiskOf::Odd(_) | DiskOf::Slot(_) => disk_in(rt, &files.odd).calls(),
-    }
+// How many calls the disks of a log's files made.
+fn file_calls(rt: &impl Abort, log: Option<&StoreLog<MemDisk>>) -> [u64; 3] {
+    let files = log.expect(rt, "a log").log().files();
+    let calls = |file| disk_in(rt, file).calls();
+    [calls(&files.plain), calls(&files.even), calls(&files.odd)]
 }
 
 fn last_generation(store: &Store) -> u64 {

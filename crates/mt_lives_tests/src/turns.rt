@@ -1,6 +1,6 @@
 //! Turns in lists of events stopped at every call of a disk, and with each call failing once.
 
-use crate::asked::{Row, one_tenant};
+use crate::asked::{one_tenant, rows_of};
 use crate::notes::{Noted, recovers, tells};
 use crate::runs::{AMPLE, Fate, Ran, fates_of, run_store, standing};
 use std::alloc::Global;
@@ -9,45 +9,10 @@ use std::test::Fail;
 
 // Two workers. Two turns, the first with a put in its walk; a third one with a crash in it; a turn of the next life; a
 // crash followed by another; and two turns more.
-const TURNS: [Row; 37] = [
-    Row::Put(1, 0, "a", "1"),
-    Row::Put(2, 1, "b", "1"),
-    Row::Check,
-    Row::Walk(5),
-    Row::Put(3, 0, "c", "1"),
-    Row::Ends,
-    Row::Put(4, 1, "a", "2"),
-    Row::Settle,
-    Row::Next,
-    Row::Next,
-    Row::Check,
-    Row::Ends,
-    Row::Put(5, 0, "d", "1"),
-    Row::Check,
-    Row::Walk(5),
-    Row::Crash,
-    Row::Put(1, 1, "e", "1"),
-    Row::Settle,
-    Row::Next,
-    Row::Next,
-    Row::Check,
-    Row::Ends,
-    Row::Crash,
-    Row::Crash,
-    Row::Get(1, "a"),
-    Row::Get(2, "b"),
-    Row::Get(3, "c"),
-    Row::Get(4, "e"),
-    Row::Put(5, 0, "g", "1"),
-    Row::Settle,
-    Row::Next,
-    Row::Next,
-    Row::Get(6, "g"),
-    Row::Check,
-    Row::Ends,
-    Row::Check,
-    Row::Ends,
-];
+const TURNS: &str =
+    "put 1 0 a 1, put 2 1 b 1, check, walk 5, put 3 0 c 1, ends, put 4 1 a 2, settle, next, next, check, ends, \
+    put 5 0 d 1, check, walk 5, crash, put 1 1 e 1, settle, next, next, check, ends, crash, crash, get 1 a, get 2 b, \
+    get 3 c, get 4 e, put 5 0 g 1, settle, next, next, get 6 g, check, ends, check, ends";
 
 // The crashes. All calls up to the last one may fail.
 const CRASHED: [usize; 3] = [15, 22, 23];
@@ -90,7 +55,8 @@ fn turns_on(rt: &impl Abort, fate: Fate, ran: &Ran) -> bool {
 }
 
 fn holds(rt: &impl Abort, alloc: Global, fate: Fate) -> bool {
-    match run_store(rt, alloc, &one_tenant(alloc), fate, &TURNS) {
+    let rows = rows_of(rt, alloc, TURNS);
+    match run_store(rt, alloc, &one_tenant(alloc), fate, &rows) {
         Some(ran) => turns_on(rt, fate, &ran),
         None => fate.makes_none(),
     }
@@ -99,7 +65,7 @@ fn holds(rt: &impl Abort, alloc: Global, fate: Fate) -> bool {
 #[test]
 fn a_store_with_turns_stopped_at_any_call_comes_back(rt: HostRuntime) -> Result<(), Fail> {
     let alloc = rt.alloc();
-    let fates = fates_of(&rt, alloc, &TURNS, 23);
+    let fates = fates_of(&rt, alloc, TURNS, 23);
     for fate in &fates {
         let fate = fate.stops();
         assert!(rt; holds(&rt, alloc, fate), "{fate:?}");
@@ -110,14 +76,17 @@ fn a_store_with_turns_stopped_at_any_call_comes_back(rt: HostRuntime) -> Result<
 #[test]
 fn a_turn_goes_on_after_a_call_that_failed(rt: HostRuntime) -> Result<(), Fail> {
     let alloc = rt.alloc();
-    let fates = fates_of(&rt, alloc, &TURNS, 23);
+    let fates = fates_of(&rt, alloc, TURNS, 23);
     for fate in &fates {
         assert!(rt; holds(&rt, alloc, *fate), "{fate:?}");
     }
     Ok(())
 }
 
-fn left_by(rt: &impl Abort, alloc: Global, rows: &[Row]) -> Option<u64> {
+// The generation that the first rows leave.
+fn left_by(rt: &impl Abort, alloc: Global, count: usize) -> Option<u64> {
+    let rows = rows_of(rt, alloc, TURNS);
+    let rows = rows.get(..count).unwrap_or(&[]);
     let ran = run_store(rt, alloc, &one_tenant(alloc), AMPLE, rows)?;
     standing(rt, &ran.store)
 }
@@ -126,7 +95,7 @@ fn left_by(rt: &impl Abort, alloc: Global, rows: &[Row]) -> Option<u64> {
 fn one_generation_stands_after_a_turn(rt: HostRuntime) -> Result<(), Fail> {
     let alloc = rt.alloc();
     for (count, generation) in LEAVES {
-        let left = left_by(&rt, alloc, TURNS.get(..count).unwrap_or(&[]));
+        let left = left_by(&rt, alloc, count);
         assert!(rt; left == Some(generation), "{count}: {left:?}");
     }
     Ok(())

@@ -5,8 +5,8 @@ ghost use Rattle.mt_store_files.specs.Faults.{IsOfFile, IsOfFolder, IsOfSync};
 
 use mt_disk::MemDisk;
 use mt_rows::Refusal;
-use mt_slots::Slot;
-use mt_store_files::{FolderSystem, StoreFault, StoreFile, StoreFolder};
+use mt_slots::{FileDigest, Slot};
+use mt_store_files::{FolderFile, FolderSystem, StoreFault, StoreFile, StoreFolder};
 use std::alloc::{AllocError, Global};
 use std::fmt::Write;
 use std::fs::File;
@@ -17,7 +17,7 @@ use std::test::Fail;
 // A folder of files without a byte, and the calls on it. The one of this number fails.
 #[derive(Drop)]
 struct FakeFolder {
-    files: Vec<StoreFile>,
+    files: Vec<FolderFile>,
     calls: String,
     count: usize,
     fails: usize,
@@ -37,7 +37,7 @@ impl FakeFolder {
     }
 
     // A call on a file, which tells whether it is there.
-    fn call_on(&mut self, alloc: Global, name: &str, file: StoreFile) -> Result<bool, StoreFault>
+    fn call_on(&mut self, alloc: Global, name: &str, file: FolderFile) -> Result<bool, StoreFault>
         ensures { IfErr result (IsOfFile file) }
     {
         let name = format!(in alloc; "{name} {file}")?;
@@ -79,7 +79,7 @@ impl FolderSystem for FakeFolder {
         &mut self,
         _rt: &R,
         alloc: Global,
-        file: StoreFile,
+        file: FolderFile,
     ) -> Result<bool, StoreFault> {
         self.call_on(alloc, "has", file)
     }
@@ -88,7 +88,7 @@ impl FolderSystem for FakeFolder {
         &mut self,
         _rt: &R,
         alloc: Global,
-        file: StoreFile,
+        file: FolderFile,
     ) -> Result<Option<MemDisk>, StoreFault> {
         if self.call_on(alloc, "open", file)? {
             Ok(Some(MemDisk::new(alloc, Vec::new(alloc), None)))
@@ -101,7 +101,7 @@ impl FolderSystem for FakeFolder {
         &mut self,
         _rt: &R,
         alloc: Global,
-        file: StoreFile,
+        file: FolderFile,
     ) -> Result<MemDisk, StoreFault> {
         self.call_on(alloc, "make", file)?;
         self.files.push(file)?;
@@ -112,7 +112,7 @@ impl FolderSystem for FakeFolder {
         &mut self,
         _rt: &R,
         alloc: Global,
-        file: StoreFile,
+        file: FolderFile,
     ) -> Result<(), StoreFault> {
         self.call_on(alloc, "remove", file)?;
         self.files.retain(|it| *it != file);
@@ -126,9 +126,16 @@ const STARTS: &str =
     "lock; has wal-00; open wal-00; open wal-00-0; make wal-00-0; open wal-00-1; make wal-00-1; sync; open check-0; make check-0; open check-1; sync; remove wal-00-0; remove wal-00-1; remove check-0; sync; ";
 
 const CREATES: &str =
-    "remove wal-63-1; make wal-00; make wal-00-0; make wal-00-1; sync; remove check-0; remove check-1; make check-0; make check-1; sync; ";
+    "remove wal-63-1.sha256; remove wal-63-1; make wal-00; make wal-00-0; make wal-00-1; sync; remove check-0.sha256; remove check-0; remove check-1.sha256; remove check-1; make check-0; make check-1; sync; ";
 
-const FILES: [StoreFile; 2] = [StoreFile::Log(0), StoreFile::Slot(Slot::Second)];
+// Those by which a digest is kept, compared and cleared.
+const DIGESTS: &str =
+    "lock; open check-1; open check-1.sha256; make check-1.sha256; sync; open check-0.sha256; open check-1.sha256; open check-1; open wal-00.sha256; open wal-00-0.sha256; open wal-00-1.sha256; open check-1.sha256; ";
+
+const FILES: [FolderFile; 2] = [
+    FolderFile::Store(StoreFile::Log(0)),
+    FolderFile::Store(StoreFile::Slot(Slot::Second)),
+];
 
 fn fake(alloc: Global, fails: usize) -> Result<FakeFolder, AllocError> {
     Ok(FakeFolder {
@@ -171,7 +178,7 @@ fn calls_on_a_folder_are_made_in_order(rt: HostRuntime) -> Result<(), Fail> {
     assert!(rt; open_files(&rt, alloc, &mut folder, true).is_ok());
     let calls = folder.system().calls.as_str();
     assert!(rt;
-        calls.starts_with("make folder; sync parent; lock; remove wal-00; "),
+        calls.starts_with("make folder; sync parent; lock; remove wal-00.sha256; remove wal-00; "),
         "{calls}"
     );
     assert!(rt; calls.ends_with(CREATES), "{calls}");
@@ -196,5 +203,24 @@ fn each_call_of_a_start_may_fail(rt: HostRuntime) -> Result<(), Fail> {
         let files = folder.system().files.as_slice();
         assert!(rt; files == FILES.as_slice(), "{fails}");
     }
+    Ok(())
+}
+
+#[test]
+fn digests_are_written_and_looked_for(rt: HostRuntime) -> Result<(), Fail> {
+    let alloc = rt.alloc();
+    let Ok(mut folder) = StoreFolder::open(&rt, alloc, fake(alloc, 0)?) else {
+        panic!(rt; "not opened");
+    };
+    let slot = StoreFile::Slot(Slot::Second);
+    let digest = FileDigest {
+        len: 0,
+        sha256: [0; 32],
+    };
+    assert!(rt; folder.keep_digest_of(&rt, alloc, slot).is_ok());
+    assert!(rt; folder.keep_digest(&rt, alloc, slot, digest).is_ok());
+    assert!(rt; folder.check_digests(&rt, alloc, 1).is_ok());
+    assert!(rt; folder.clear_digest(&rt, alloc, slot).is_ok());
+    assert_eq!(rt; folder.system().calls.as_str(), DIGESTS);
     Ok(())
 }

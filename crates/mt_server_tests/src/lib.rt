@@ -9,6 +9,8 @@ mod checkpoints;
 #[cfg(test)]
 mod clients;
 #[cfg(test)]
+mod digests;
+#[cfg(test)]
 mod fake_folders;
 #[cfg(test)]
 mod faults;

@@ -12,7 +12,7 @@ use log::Log;
 use mt_disk::MemDisk;
 use mt_options::Options;
 use mt_service::{ServerFault, run_server};
-use mt_stored::Store;
+use mt_stored::{NoDigests, Store};
 use std::alloc::Global;
 use std::marker::{Brand, Send, Sync};
 use std::net::{Net, TcpListener, TcpStream};
@@ -37,8 +37,15 @@ fn serve_all<L: Ledger + Send + Sync, R: Threads + Wait + Clock + Log + Sync>(
     requires untaken { store.source.state.answers ≡ 0 }
 {
     let mut out = Vec::new(alloc);
-    match run_server::<L, R, Vec<u8>, MemDisk>(
-        rt, alloc, blank, listener, options, store, &mut out,
+    match run_server::<L, R, Vec<u8>, MemDisk, NoDigests>(
+        rt,
+        alloc,
+        blank,
+        listener,
+        options,
+        store,
+        NoDigests {},
+        &mut out,
     ) {
         Ok(ending) => Some((out, ending.others)),
         Err(_) => None,
@@ -59,8 +66,15 @@ fn serve_till_it_fails<L: Ledger + Send + Sync, R: Threads + Wait + Clock + Log 
     requires untaken { store.source.state.answers ≡ 0 }
 {
     let mut out = Vec::new(alloc);
-    match run_server::<L, R, Vec<u8>, MemDisk>(
-        rt, alloc, blank, listener, options, store, &mut out,
+    match run_server::<L, R, Vec<u8>, MemDisk, NoDigests>(
+        rt,
+        alloc,
+        blank,
+        listener,
+        options,
+        store,
+        NoDigests {},
+        &mut out,
     ) {
         Err(ServerFault::Socket(_)) => Some(out),
         _ => None,

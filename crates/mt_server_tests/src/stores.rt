@@ -16,7 +16,7 @@ use mt_recover::LogSlot;
 use mt_rows::Tenants;
 use mt_service::run_server;
 use mt_slots::StoreSlots;
-use mt_stored::Store;
+use mt_stored::{NoDigests, Store};
 use std::alloc::{AllocError, Global};
 use std::io::Read;
 use std::marker::{Brand, Send, Sync};
@@ -256,7 +256,16 @@ pub(crate) fn serve_all<
     requires untaken { store.source.state.answers ≡ 0 }
 {
     let mut out = Vec::new(alloc);
-    match run_server::<L, R, Vec<u8>, D>(rt, alloc, blank, listener, options, store, &mut out) {
+    match run_server::<L, R, Vec<u8>, D, NoDigests>(
+        rt,
+        alloc,
+        blank,
+        listener,
+        options,
+        store,
+        NoDigests {},
+        &mut out,
+    ) {
         Ok(ending) => Some(ending.store),
         Err(_) => None,
     }

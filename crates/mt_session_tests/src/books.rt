@@ -106,7 +106,7 @@ fn serve_booked<L: Ledger, T: Wait + Clock + Log, R: Source, W: Sink>(
     let Some(pass) = book.open_pass(0) else {
         return Err(ServeFault::Memory);
     };
-    let turns = Turns::new(Checks::<MemDisk>::new(0, 0, None, 1));
+    let turns = Turns::new(Checks::<MemDisk>::new(0, 0, None));
     let keeper = Keeper::new(alloc, logs, 0);
     let mut caller = DeskCaller::new(rt, alloc, book, pass, keeper, &turns, &TENANTS);
     let ended = serve(alloc, reader, writer, &mut caller);

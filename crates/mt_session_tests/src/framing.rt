@@ -3,22 +3,15 @@
 ghost use Rattle.std.specs.Prelude.{◌≤◌, length};
 
 use crate::hexadecimal::{bytes_of, many};
-use std::alloc::{AllocError, Global};
+use std::alloc::Global;
 
 /// The frame of a body: its front, and so many times a unit; none as `bytes_of`.
 pub fn framed(alloc: Global, front: &str, unit: &str, times: u32) -> Option<Vec<u8>> {
-    let front = bytes_of(alloc, front)?;
-    let rest = many(alloc, unit, times)?;
-    joined(alloc, &front, &rest).ok()
-}
-
-// The frame of a body of two parts.
-fn joined(alloc: Global, front: &[u8], rest: &[u8]) -> Result<Vec<u8>, AllocError> {
-    let len = u32::try_from(front.len().saturating_add(rest.len())).unwrap_or(u32::MAX);
-    let mut frame = Vec::from_slice(alloc, &len.to_be_bytes())?;
-    frame.extend_from_slice(front)?;
-    frame.extend_from_slice(rest)?;
-    Ok(frame)
+    let (front, rest) = (bytes_of(alloc, front)?, many(alloc, unit, times)?);
+    let len = u32::try_from(front.len().saturating_add(rest.len())).ok()?;
+    let len = len.to_be_bytes();
+    let parts = [len.as_slice(), &front, &rest];
+    parts.as_slice().concat(alloc).ok()
 }
 
 /// How many bytes the first frame of these has, of those that are there.

@@ -1,4 +1,4 @@
-//! Readers that cut and fail, and writers that take little and fail.
+//! Readers that cut, writers that take little, and both as they fail and are interrupted.
 
 use std::alloc::Global;
 use std::io;
@@ -7,14 +7,44 @@ use std::io::{ErrorKind, Read, Write};
 /// A number that no session reaches.
 pub const ALL: usize = 1_000_000;
 
-/// A reader that gives at most `first` bytes in its first read, at most `later` in each one behind it, and
-/// fails once it has made `good` reads.
+/// The calls of a stream: it fails once it has made `good` of them. If it is interrupted, each call that goes well comes after one
+/// that answers `Interrupted`.
+#[derive(Clone, Copy)]
+pub struct Calls {
+    pub good: usize,
+    pub is_interrupted: bool,
+    comes: bool,
+}
+
+impl Calls {
+    fn new(good: usize) -> Self {
+        Calls {
+            good,
+            is_interrupted: false,
+            comes: false,
+        }
+    }
+
+    fn make(&mut self) -> io::Result<()> {
+        self.comes = self.is_interrupted && !self.comes;
+        if self.comes {
+            return Err(io::Error::from(ErrorKind::Interrupted));
+        }
+        if self.good == 0 {
+            return Err(io::Error::from(ErrorKind::ConnectionReset));
+        }
+        self.good -= 1;
+        Ok(())
+    }
+}
+
+/// A reader that gives at most `first` bytes in its first read, and at most `later` in each one behind it.
 #[derive(Drop)]
 pub struct Pieces<'a> {
     rest: &'a [u8],
     first: usize,
     later: usize,
-    good: usize,
+    pub calls: Calls,
 }
 
 impl Read for Pieces<'_> {
@@ -23,10 +53,7 @@ impl Read for Pieces<'_> {
     ghost remaining = { λ p. Some p.rest.now };
 
     fn read(&mut self, room: &mut [u8]) -> io::Result<usize> {
-        if self.good == 0 {
-            return Err(io::Error::from(ErrorKind::ConnectionReset));
-        }
-        self.good -= 1;
+        self.calls.make()?;
         let most = self.first.max(1).min(room.len());
         self.first = self.later;
         let count = most.min(self.rest.len());
@@ -37,14 +64,13 @@ impl Read for Pieces<'_> {
     }
 }
 
-/// A writer that takes at most `most` bytes in a write, and fails once it has made `good` writes.
+/// A writer that takes at most `most` bytes in a write.
 #[derive(Drop)]
 pub struct Written {
     /// What was written.
     pub text: Vec<u8>,
     most: usize,
-    /// How many more writes would go well.
-    pub good: usize,
+    pub calls: Calls,
 }
 
 impl Write for Written {
@@ -53,10 +79,7 @@ impl Write for Written {
     ghost contents = { λ w. Some w.text.items };
 
     fn write(&mut self, text: &[u8]) -> io::Result<usize> {
-        if self.good == 0 {
-            return Err(io::Error::from(ErrorKind::ConnectionReset));
-        }
-        self.good -= 1;
+        self.calls.make()?;
         let count = self.most.max(1).min(text.len());
         match self.text.extend_from_slice(&text[..count]) {
             Ok(()) => Ok(count),
@@ -80,12 +103,12 @@ pub fn streams(
         rest: asked,
         first,
         later: size,
-        good: reads,
+        calls: Calls::new(reads),
     };
     let writer = Written {
         text: Vec::new(alloc),
         most: size,
-        good: writes,
+        calls: Calls::new(writes),
     };
     (reader, writer)
 }

@@ -150,7 +150,7 @@ fn answers_are_written_together_up_to_a_mark(rt: HostRuntime) -> Result<(), Fail
         let asked = [OPEN_7.as_slice(), &put, &gets].as_slice().concat(alloc)?;
         let (writer, ended) = session(&Plain, alloc, &asked, [65_536, ALL, 2, ALL]);
         assert_eq!(rt; ended, "closed");
-        assert_eq!(rt; writer.good.saturating_add(writes), ALL);
+        assert_eq!(rt; writer.calls.good.saturating_add(writes), ALL);
         assert_eq!(rt; writer.text.len(), 10 + 1_000 * (8 + size as usize));
     }
     Ok(())
@@ -217,10 +217,9 @@ fn a_session_finds_nothing_of_the_one_before_it(rt: HostRuntime) {
 
 // A frame, and so many times another one, as `many`; none as `bytes_of`.
 fn frames(alloc: Global, first: &str, unit: &str, times: u32) -> Option<Vec<u8>> {
-    let mut frames = bytes_of(alloc, first)?;
-    let more = many(alloc, unit, times)?;
-    frames.extend_from_slice(&more).ok()?;
-    Some(frames)
+    let (first, more) = (bytes_of(alloc, first)?, many(alloc, unit, times)?);
+    let parts = [first.as_slice(), &more];
+    parts.as_slice().concat(alloc).ok()
 }
 
 // One session more over a state: a tenant is opened, and so many times this is asked and told.
@@ -230,7 +229,8 @@ fn expect_more(
     alone: &mut Alone,
     (tenant, asks, tells, times): (&str, &str, &str, u32),
 ) {
-    let asked = frames(alloc, tenant, asks, times).expect(rt, "bytes");
+    let open = format!(in alloc; "00000005 01 {tenant}").expect(rt, "memory");
+    let asked = frames(alloc, open.as_str(), asks, times).expect(rt, "bytes");
     let told = frames(alloc, "00000001 00", tells, times).expect(rt, "bytes");
     let (mut reader, mut writer) = streams(alloc, &asked, [100, 100, ALL, ALL]);
     let ended = serve_alone(alloc, &mut reader, &mut writer, alone);
@@ -244,25 +244,14 @@ fn expect_more(
 fn a_session_reads_what_another_one_wrote(rt: HostRuntime) {
     let alloc = rt.alloc();
     let mut alone = Alone::of_tenants(alloc, two_tenants(alloc)).expect(&rt, "memory");
+    let (put, get) = (
+        "00000009 03 0001 ee 01 00 0001 ee",
+        "00000005 02 0001 ee 00",
+    );
     for session in [
-        (
-            "00000005 01 00000007",
-            "00000009 03 0001 ee 01 00 0001 ee",
-            "00000001 03",
-            80,
-        ),
-        (
-            "00000005 01 00000007",
-            "00000005 02 0001 ee 00",
-            "00000005 02 01 0001 ee",
-            80,
-        ),
-        (
-            "00000005 01 00000008",
-            "00000005 02 0001 07 00",
-            "00000001 01",
-            1,
-        ),
+        ("00000007", put, "00000001 03", 80),
+        ("00000007", get, "00000005 02 01 0001 ee", 80),
+        ("00000008", "00000005 02 0001 07 00", "00000001 01", 1),
     ] {
         expect_more(&rt, alloc, &mut alone, session);
     }

@@ -1,7 +1,6 @@
 //! Sessions over the streams of this crate, in each way, and whether they are told as rows say.
 
 use crate::framing::front_len;
-use crate::interrupts::Interrupted;
 use crate::pieces::{ALL, Written, streams};
 use crate::rows::{Row, row_of};
 use crate::turns::{Counted, Waiting};
@@ -52,11 +51,11 @@ fn interrupted<S: TestServer>(
     asked: &[u8],
     size: usize,
 ) -> (Written, &'static str) {
-    let (reader, writer) = streams(alloc, asked, [size, size, ALL, ALL]);
-    let mut reader = Interrupted::new(reader);
-    let mut writer = Interrupted::new(writer);
+    let (mut reader, mut writer) = streams(alloc, asked, [size, size, ALL, ALL]);
+    reader.calls.is_interrupted = true;
+    writer.calls.is_interrupted = true;
     let ended = name_of(&server.serve_new(alloc, &mut reader, &mut writer));
-    (writer.into_inner(), ended)
+    (writer, ended)
 }
 
 // A session in which each request waits for the reply to the one before it.

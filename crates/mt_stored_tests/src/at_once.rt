@@ -78,7 +78,7 @@ fn run<L: Ledger + Send + Sync, R: Threads + Wait + Clock + Log + Abort + Sync>(
     let (state, logs, slots) = new_store(rt, alloc, &[SOUND; 4], bare_slots(alloc)).into_parts();
     let logs = locked_logs(alloc, logs).expect(rt, "memory");
     let book = BookLock::new(Book::<L>::new(blank, state));
-    let turns = Turns::new(Checks::new(1, 0, slots, 1));
+    let turns = Turns::new(Checks::new(1, 0, slots));
     let counts = four_at_once(rt, alloc, &book, &logs, &turns);
     let slots = turns.into_checks().into_slots().expect(rt, "the slots");
     let (_, logs, _) = joined(rt, alloc, book, logs).into_parts();

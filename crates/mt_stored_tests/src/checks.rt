@@ -144,7 +144,7 @@ fn played<L: Ledger, R: Wait + Clock + Log + Abort>(
     let (state, logs, slots) = new_store(rt, alloc, &fails, bare_slots(alloc)).into_parts();
     let logs = locked_logs(alloc, logs).expect(rt, "memory");
     let book = BookLock::new(Book::<L>::new(blank, state));
-    let turns = Turns::new(Checks::new(every, 0, slots, 1));
+    let turns = Turns::new(Checks::new(every, 0, slots));
     let mut session = session_of(rt, alloc, &book, &logs, &turns, &TENANTS, 0);
     for (place, act) in acts.iter().enumerate() {
         assert!(rt;
@@ -238,11 +238,10 @@ const TRIES: [(u32, bool); 7] = [
 ];
 
 // After each turn that is stopped the next one is due after twice as many settled answers, and after a whole one after three
-// again. It goes to the next generation after a whole one alone, and tells the greatest number that was told.
+// again. It tells the greatest number that was told.
 #[test]
 fn a_stopped_turn_is_tried_again_after_twice_as_many_answers(rt: HostRuntime) {
-    let mut checks = Checks::new(3, 0, Some(bare_slots(rt.alloc())), 4);
-    let mut generation = 4u64;
+    let mut checks = Checks::new(3, 0, Some(bare_slots(rt.alloc())));
     for (answers, is_whole) in TRIES {
         for _ in 1..answers {
             checks.count_settled(9);
@@ -250,11 +249,8 @@ fn a_stopped_turn_is_tried_again_after_twice_as_many_answers(rt: HostRuntime) {
         }
         checks.count_settled(8);
         let due = checks.take_due().expect(&rt, "a turn");
-        assert_eq!(rt; (due.generation, due.settled), (generation, 9));
+        assert_eq!(rt; due.settled, 9);
         end(&mut checks, due, is_whole);
-        if is_whole {
-            generation = generation.saturating_add(1);
-        }
     }
 }
 
@@ -285,7 +281,7 @@ const LENGTHS: [(u64, bool); 9] = [
 
 #[test]
 fn a_turn_is_due_when_the_logs_have_grown(rt: HostRuntime) {
-    let mut checks = Checks::new(0, 10, Some(bare_slots(rt.alloc())), 1);
+    let mut checks = Checks::new(0, 10, Some(bare_slots(rt.alloc())));
     for (place, (length, is_due)) in LENGTHS.iter().enumerate() {
         checks.see_length(*length);
         let due = checks.take_due();

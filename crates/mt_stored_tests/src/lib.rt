@@ -16,6 +16,8 @@ mod disks;
 #[cfg(test)]
 mod images;
 #[cfg(test)]
+mod kept_digests;
+#[cfg(test)]
 mod many;
 #[cfg(test)]
 mod old_formats;

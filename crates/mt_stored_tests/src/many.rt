@@ -26,7 +26,7 @@ pub(crate) fn settled<R: Wait + Clock + Log + Abort>(
     state: State,
     logs: Vec<StoreLog<FlakyDisk>>,
 ) -> Vec<FileImages> {
-    let mut store = Store::joined(state, logs, None, 1).expect(rt, "a store");
+    let mut store = Store::joined(state, logs, None).expect(rt, "a store");
     assert!(rt; store.settle_last(rt, alloc).is_ok());
     let (_, logs, _) = store.into_parts();
     assert!(rt; logs.iter().all(|log| log.mark().is_some()));

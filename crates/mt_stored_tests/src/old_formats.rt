@@ -100,7 +100,7 @@ fn gone_on<R: Wait + Clock + Log + Abort>(
     let command = put_if(alloc, b'k', stamp, b'x').expect(rt, "memory");
     let is_put = matches!(asked(rt, &mut state, 0, command), Reply::Replaced);
     assert!(rt; is_put, "stamp {stamp}");
-    let mut store = Store::joined(state, logs, None, 1).expect(rt, "a store");
+    let mut store = Store::joined(state, logs, None).expect(rt, "a store");
     assert!(rt; store.settle_last(rt, alloc).is_ok());
     let (_, logs, _) = store.into_parts();
     let mut images = images_of(rt, alloc, &logs);

@@ -1,18 +1,21 @@
-//! A server that loses its power in a turn of its own: of one of its disks no call is made any more from some call on.
+//! A server that loses its power in a turn of its own: of one of its disks no call is made any more from some call on. Each file
+//! agrees with its digest then.
 
 ghost use Rattle.std.specs.Prelude.{◌≡◌};
 
-use crate::disks::{FlakyDisk, NEVER, SOUND};
+use crate::disks::{Fails, FlakyDisk, NEVER};
 use crate::images::{Left, disk_with, key_of, left_of, logs_left, pairs_left, tenant_7};
+use crate::kept_digests::{KeptDigests, digest_disks, does_agree};
 use crate::stories::{TENANTS, new_store, session_of, slots_with};
 use log::sink::Locked;
 use log::{Level, Log, Logged};
-use mt_book::{Book, BookLock};
+use mt_book::{Book, BookLock, open_pass};
 use mt_rows::TenantPair;
-use mt_service::Turns;
+use mt_service::{Turner, Turns};
+use mt_session::Caller;
 use mt_slots::StoreSlots;
-use mt_store_logs::StoreLog;
-use mt_stored::{Checks, Store, locked_logs, unlocked_logs};
+use mt_store_logs::{FileImages, StoreLog};
+use mt_stored::{Checks, SharedLogs, Store, locked_logs, unlocked_logs};
 use std::alloc::Global;
 use std::marker::Brand;
 use std::process::Abort;
@@ -23,18 +26,23 @@ use std::time::Clock;
 // In each round two clients put two keys each, one of them settles, and a turn is made.
 const ROUNDS: u16 = 3;
 
-// A new store of two workers. From a call on none is made of this disk: of the plain, the even and the odd file of either
+// The calls of eight disks, if from a call on none is made of one of them: of the plain, the even and the odd file of either
 // worker, in this order, or of one of both slots.
-fn store_with(rt: &impl Abort, alloc: Global, disk: usize, call: u64) -> Store<FlakyDisk>
+fn fails_of(disk: usize, call: u64) -> [Fails; 8] {
+    let mut fails = [NEVER; 8];
+    if let Some(one) = fails.get_mut(disk) {
+        *one = (call, u64::MAX);
+    }
+    fails
+}
+
+// A new store of two workers, of whose disks these calls fail.
+fn store_with(rt: &impl Abort, alloc: Global, fails: [Fails; 8]) -> Store<FlakyDisk>
     ensures { result.source.state.answers ≡ 0 }
 {
-    let fails = |one: usize| if one == disk { (call, u64::MAX) } else { NEVER };
-    let files = [
-        [fails(0), fails(1), fails(2)],
-        [fails(3), fails(4), fails(5)],
-    ];
-    let slots = slots_with(alloc, [fails(6), fails(7)]);
-    new_store(rt, alloc, &files, slots)
+    let [a, b, c, d, e, f, first, second] = fails;
+    let slots = slots_with(alloc, [first, second]);
+    new_store(rt, alloc, &[[a, b, c], [d, e, f]], slots)
 }
 
 // Plays all rounds. In how many of them all was put and settled.
@@ -44,15 +52,26 @@ fn play<L: Ledger, R: Wait + Clock + Log + Abort>(
     book: &BookLock<L>,
     logs: &[Mutex<StoreLog<FlakyDisk>>],
     turns: &Turns<FlakyDisk>,
+    disks: &Mutex<Vec<FlakyDisk>>,
 ) -> u16 {
     let mut first = session_of(rt, alloc, book, logs, turns, &TENANTS, 0);
     let mut second = session_of(rt, alloc, book, logs, turns, &TENANTS, 1);
+    let pass = open_pass(rt, book, 0).expect(rt, "a pass");
+    let digests = KeptDigests {
+        rt,
+        alloc,
+        logs,
+        disks,
+    };
+    let shared = SharedLogs::new(book, logs);
+    let mut turner = Turner::new(rt, alloc, book, pass, shared, &TENANTS, digests);
     let mut settled = 0;
     for round in 1..=ROUNDS {
         assert!(rt; first.puts(alloc, 2) && second.puts(alloc, 2));
-        if second.settle().is_ok() {
+        if second.caller.settle().is_ok() {
             settled = round;
         }
+        turner.make_turn_if_due(turns);
     }
     settled
 }
@@ -77,29 +96,69 @@ fn slot_left(rt: &impl Abort, alloc: Global, disk: &FlakyDisk, left: Left) -> mt
     disk_with(alloc, image).expect(rt, "memory")
 }
 
+// An image agrees with the digest at a place.
+fn expect_agrees(
+    rt: &impl Abort,
+    alloc: Global,
+    image: &[u8],
+    digests: &[FlakyDisk],
+    place: usize,
+    left: Left,
+) {
+    let is_so = match digests.get(place) {
+        Some(digest) => does_agree(rt, alloc, image, digest, left),
+        None => false,
+    };
+    assert!(rt; is_so, "{place}, {left:?}");
+}
+
+// The images of two workers' files and of both slots agree with their digests.
+fn expect_agreed(
+    rt: &impl Abort,
+    alloc: Global,
+    files: &[FileImages],
+    slots: [&[u8]; 2],
+    digests: &[FlakyDisk],
+    left: Left,
+) {
+    for (worker, one) in files.iter().enumerate() {
+        let place = worker.saturating_mul(3);
+        expect_agrees(rt, alloc, &one.plain, digests, place, left);
+        expect_agrees(rt, alloc, &one.even, digests, place.saturating_add(1), left);
+        expect_agrees(rt, alloc, &one.odd, digests, place.saturating_add(2), left);
+    }
+    let [first, second] = slots;
+    expect_agrees(rt, alloc, first, digests, 6, left);
+    expect_agrees(rt, alloc, second, digests, 7, left);
+}
+
 // Plays a store, whose disk stops at a call. Recovers what is left of it, both if all that was written came to the devices
-// and if just what was synced did. All that was settled has to be there. Returns whether anything was warned of.
+// and if just what was synced did. All that was settled has to be there, and each file has to agree with its digest.
 fn loses_nothing<L: Ledger, R: Wait + Clock + Log + Abort>(
     rt: &R,
     alloc: Global,
     blank: Blank,
     store: Store<FlakyDisk>,
+    digests: Vec<FlakyDisk>,
 )
     requires name { blank.name ≡ L.name }
     requires parts { (blank.parts ≡ L.parts) × (L.parts ≡ 65536) }
     requires untaken { store.source.state.answers ≡ 0 }
 {
-    let next_turn = store.next_turn();
     let (state, logs, slots) = store.into_parts();
-    let turns = Turns::new(Checks::new(1, 0, slots, next_turn));
+    let turns = Turns::new(Checks::new(1, 0, slots));
     let logs = locked_logs(alloc, logs).expect(rt, "memory");
     let book = BookLock::new(Book::<L>::new(blank, state));
-    let settled = play(rt, alloc, &book, &logs, &turns);
+    let disks = Mutex::new(digests);
+    let settled = play(rt, alloc, &book, &logs, &turns, &disks);
+    let disks = disks.into_inner();
     let logs = unlocked_logs(alloc, logs).expect(rt, "memory");
     let slots = turns.into_checks().into_slots().expect(rt, "the slots");
     let (first, second) = slots.into_disks();
     for left in [Left::All, Left::Durable] {
         let files = logs_left(rt, alloc, &logs, left);
+        let images = [left_of(&first, left), left_of(&second, left)];
+        expect_agreed(rt, alloc, &files, images, &disks, left);
         let mut slots = StoreSlots::found(
             slot_left(rt, alloc, &first, left),
             slot_left(rt, alloc, &second, left),
@@ -114,21 +173,41 @@ fn loses_nothing<L: Ledger, R: Wait + Clock + Log + Abort>(
     }
 }
 
-// Whether the disk comes to this call in all rounds. Nothing that was settled is lost if it stops there.
+// Whether the disk of a file, or that of its digest, comes to this call in all rounds. Nothing that was settled is lost if it
+// stops there.
 fn stops_at<R: Wait + Clock + Abort>(rt: &R, alloc: Global, disk: usize, call: u64) -> bool {
-    let store = store_with(rt, alloc, disk, call);
+    let (of_files, of_digests) = if disk < 8 {
+        (fails_of(disk, call), [NEVER; 8])
+    } else {
+        ([NEVER; 8], fails_of(disk - 8, call))
+    };
+    let store = store_with(rt, alloc, of_files);
+    let digests = digest_disks(rt, alloc, of_digests);
     let logged = Logged::new(rt, Level::Warn, Locked::new(rt, Vec::new(alloc)));
-    loses_nothing::<Brand, _>(&logged, alloc, Blank::new(65_536), store);
+    loses_nothing::<Brand, _>(&logged, alloc, Blank::new(65_536), store, digests);
     let (_, sink) = logged.into_parts();
     !sink.into_inner().is_empty()
 }
 
+// Disks, by their places: of files up to 7, and of the digests of files from 8 on. From which call on each stops, and how many
+// calls it has after that, at least. The calls before make the file.
+const DISKS: [(usize, u64, u64); 10] = [
+    (0, 4, 10),
+    (1, 4, 10),
+    (2, 4, 10),
+    (3, 4, 10),
+    (4, 4, 10),
+    (5, 4, 10),
+    (6, 3, 10),
+    (7, 3, 10),
+    (10, 1, 4),
+    (14, 1, 4),
+];
+
 #[test]
 fn a_loss_of_power_at_any_call_of_a_turn_loses_nothing(rt: HostRuntime) {
     let alloc = rt.alloc();
-    for disk in 0..8 {
-        // The calls before make the file.
-        let first = if disk < 6 { 4u64 } else { 3 };
+    for (disk, first, least) in DISKS {
         let mut calls = 0u64;
         for call in first..u64::MAX {
             if !stops_at(&rt, alloc, disk, call) {
@@ -136,6 +215,6 @@ fn a_loss_of_power_at_any_call_of_a_turn_loses_nothing(rt: HostRuntime) {
             }
             calls = calls.saturating_add(1);
         }
-        assert!(rt; calls >= 10, "disk {disk}: {calls} calls");
+        assert!(rt; calls >= least, "disk {disk}: {calls} calls");
     }
 }

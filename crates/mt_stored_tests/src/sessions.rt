@@ -7,7 +7,7 @@ use mt_book::BookLock;
 use mt_rows::{Column, ColumnIndexes, Command, Key, NamedColumns, Refusal, Reply};
 use mt_service::{DeskCaller, Turner, Turns};
 use mt_session::Caller;
-use mt_stored::SharedLogs;
+use mt_stored::{NoDigests, SharedLogs};
 use std::alloc::{AllocError, Global};
 use std::sync::Wait;
 use std::sync::ledger::Ledger;
@@ -18,7 +18,7 @@ use std::time::Clock;
 #[derive(Drop)]
 pub(crate) struct Session<'a, L: Ledger, R: Wait + Clock> {
     pub caller: DeskCaller<'a, L, R, &'a BookLock<L>, SharedLogs<'a, L, FlakyDisk>, FlakyDisk>,
-    pub turner: Turner<'a, L, R, &'a BookLock<L>, SharedLogs<'a, L, FlakyDisk>>,
+    pub turner: Turner<'a, L, R, &'a BookLock<L>, SharedLogs<'a, L, FlakyDisk>, NoDigests>,
     pub turns: &'a Turns<FlakyDisk>,
     pub worker: u8,
     pub count: u16,

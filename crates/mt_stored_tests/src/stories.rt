@@ -14,7 +14,7 @@ use mt_rows::Refusal;
 use mt_service::{DeskCaller, Turner, Turns};
 use mt_slots::StoreSlots;
 use mt_store_logs::{FileImages, StoreLog};
-use mt_stored::{Checks, Keeper, SharedLogs, Store, locked_logs, unlocked_logs};
+use mt_stored::{Checks, Keeper, NoDigests, SharedLogs, Store, locked_logs, unlocked_logs};
 use std::alloc::Global;
 use std::marker::Brand;
 use std::process::Abort;
@@ -100,7 +100,15 @@ pub(crate) fn session_of<'a, L: Ledger, R: Wait + Clock + Log + Abort>(
     let own = open_pass(rt, book, 0).expect(rt, "a pass");
     let mut session = Session {
         caller: DeskCaller::new(rt, alloc, book, pass, keeper, turns, tenants),
-        turner: Turner::new(rt, alloc, book, own, SharedLogs::new(book, logs), tenants),
+        turner: Turner::new(
+            rt,
+            alloc,
+            book,
+            own,
+            SharedLogs::new(book, logs),
+            tenants,
+            NoDigests {},
+        ),
         turns,
         worker,
         count: 0,
@@ -172,9 +180,7 @@ pub(crate) fn joined<L: Ledger, R: Wait + Clock + Log + Abort>(
     logs: Vec<Mutex<StoreLog<FlakyDisk>>>,
 ) -> Store<FlakyDisk> {
     let logs = unlocked_logs(alloc, logs).expect(rt, "memory");
-    let mut store = Store::joined(book.into_inner().into_state(), logs, None, 1).expect(
-        rt, "a store",
-    );
+    let mut store = Store::joined(book.into_inner().into_state(), logs, None).expect(rt, "a store");
     assert!(rt; store.settle_last(rt, alloc).is_ok());
     store
 }
@@ -301,7 +307,7 @@ fn play<L: Ledger, R: Wait + Clock + Log + Abort>(
     logs: &[Mutex<StoreLog<FlakyDisk>>],
     acts: &[Act],
 ) -> Vec<u16> {
-    let turns = Turns::new(Checks::new(0, 0, None, 1));
+    let turns = Turns::new(Checks::new(0, 0, None));
     let mut sessions = sessions_of(rt, alloc, book, logs, &turns, &TENANTS);
     let mut seen = 0;
     for (place, act) in acts.iter().enumerate() {

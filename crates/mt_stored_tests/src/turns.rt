@@ -10,9 +10,10 @@ use log::sink::Locked;
 use log::{Level, Log, Logged};
 use mt_book::{Book, BookLock};
 use mt_service::Turns;
+use mt_settle::next_generation;
 use mt_slots::{Slot, StoreSlots};
 use mt_store_logs::{FileImages, StoreLog};
-use mt_stored::{Checks, DueTurn, Store, locked_logs, unlocked_logs};
+use mt_stored::{Checks, DueTurn, SharedLogs, Store, locked_logs, unlocked_logs};
 use std::alloc::Global;
 use std::marker::Brand;
 use std::process::Abort;
@@ -32,11 +33,12 @@ struct Case {
 // What a file without a log begins with.
 const CLOSED: &[u8] = b"\x00";
 
-// What is left of a store: what its files hold, of which generation its logs are, and the turn that comes next.
+// What is left of a store: what its files hold, of which generation its logs are, to which the next turn goes, and that turn.
 #[derive(Drop)]
 struct Left {
     images: Vec<FileImages>,
     generation: u64,
+    next: u64,
     due: DueTurn<FlakyDisk>,
 }
 
@@ -105,12 +107,12 @@ fn played<L: Ledger, R: Wait + Clock + Log + Abort>(
     requires parts { (blank.parts ≡ L.parts) × (L.parts ≡ 65536) }
     requires untaken { store.source.state.answers ≡ 0 }
 {
-    let next_turn = store.next_turn();
     let (state, logs, slots) = store.into_parts();
-    let turns = Turns::new(Checks::new(1, 0, slots, next_turn));
+    let turns = Turns::new(Checks::new(1, 0, slots));
     let logs = locked_logs(alloc, logs).expect(rt, "memory");
     let book = BookLock::new(Book::<L>::new(blank, state));
     play(rt, alloc, &book, &logs, &turns, case);
+    let next = next_generation(rt, &SharedLogs::new(&book, &logs)).expect(rt, "a generation");
     let logs = unlocked_logs(alloc, logs).expect(rt, "memory");
     let mut checks = turns.into_checks();
     // After a turn that was stopped the next one is due after two settled answers.
@@ -119,6 +121,7 @@ fn played<L: Ledger, R: Wait + Clock + Log + Abort>(
     Left {
         images: images_of(rt, alloc, &logs),
         generation: last_generation(&logs),
+        next,
         due: checks.take_due().expect(rt, "a turn"),
     }
 }
@@ -162,7 +165,7 @@ fn is_whole(left: &Left, case: Case) -> bool {
         }
     }
     let newest = left.due.slots.newest();
-    left.due.generation == left.generation.saturating_add(1)
+    left.next == left.generation.saturating_add(1)
         && (case.disk != 6 || newest == Some(Slot::First))
         && (case.disk != 7 || newest == Some(Slot::Second))
 }
@@ -274,7 +277,7 @@ fn a_checkpoint_that_does_not_read_back_is_given_up(rt: HostRuntime) {
     let store = new_store(&rt, alloc, &[SOUND; 2], slots);
     let (left, warnings) = run(&rt, alloc, store, case);
     assert_eq!(rt; warnings.as_slice(), NOT_READ_BACK.as_bytes());
-    assert!(rt; left.due.slots.newest().is_none() && left.due.generation == 1);
+    assert!(rt; left.due.slots.newest().is_none() && left.next == 1);
     for images in &left.images {
         assert!(rt; images.plain.starts_with(b"MTLOG"));
     }
