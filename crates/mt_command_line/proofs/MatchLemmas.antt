@@ -1,10 +1,10 @@
 -- What the getters of clap's matches give, by what the command line has.
 use Rattle.std.proofs.Common.{◌≡◌, ◌⊎◌, inl, inr, subst, ℕ, ◌≤◌, ◌<◌, ◌^◌, Bool, true, false, List, [], Bor, Option, Some, None, is_some, Result, Ok, Err, map, option_map, codes, MatchResult, IfOk, IfErr, unwrap_or, refl, ap, sym, ◌∙◌, arith}
 use Rattle.std.specs.Str.Parse.{ParsesUnsigned}
-use Rattle.clap.specs.Words.{without_minus, first_value, IsUnsignedIn, ReadsOne, Row, Text, matched_of, one_of, one_text, raw_values, rows_of}
+use Rattle.clap.specs.Words.{without_minus, first_of, first_value, IsUnsignedIn, ReadsOne, Row, Text, matched_of, one_of, one_text, raw_values, rows_of}
 use Rattle.clap.specs.declared.parser.matches.Found.{Found}
 use Rattle.clap.proofs.{CallerReads.signed_reads, WalkLemmas.{first_value-rows, one_text-rows, raw_values-rows}}
-use Rattle.mt_command_line.specs.{CommandLine.{folder_in, given_for, tenant_words}, Matches.{HasNumber, MayHaveLargeNumber, MayHaveNumber}, Reads.{IsFlag, IsGiven, IsGivenOrZero, IsThere}}
+use Rattle.mt_command_line.specs.{CommandLine.{given_for, tenant_words}, Matches.{HasNumber, MayHaveLargeNumber, MayHaveNumber}, Reads.{IsFlag, IsGiven, IsGivenOrZero, IsThere}}
 
 -- the words that matches have for tenants, by their rows
 pub words_are : (f : Found) (o : Option (Bor (List (Bor Text)))) (d r : Bor (List (Bor Text)))
@@ -109,6 +109,6 @@ flag_is f name b none value other = record {
   none = λ e. none (one_text-rows f name ∙ e);
 }
 
--- the folder, as `get_str` reads it
-pub folder_is : (f : Found) (o : Option (Bor Text)) → option_map (λ s. s.now) o ≡ first_value f (codes "store") → folder_in (rows_of f) ≡ option_map (λ s. s.now) o
-folder_is f o got = sym (got ∙ first_value-rows f (codes "store"))
+-- a folder, as `get_str` reads it
+pub folder_is : (f : Found) (name : Text) (o : Option (Bor Text)) → option_map (λ s. s.now) o ≡ first_value f name → first_of name (rows_of f) ≡ option_map (λ s. s.now) o
+folder_is f name o got = sym (got ∙ first_value-rows f name)

@@ -1,4 +1,4 @@
--- What the program takes: three numbers with defaults, a folder, a flag, three numbers without a default, and one word or more that name tenants. The words
+-- What the program takes: three numbers with defaults, a folder, a flag, three numbers without a default, a folder, and one word or more that name tenants. The words
 -- of clap say what a parse of a command line makes of such rules (`Rattle.clap.specs.Words`).
 use Rattle.std.specs.Prelude.{ℕ, List, [], ◌∷◌, Option, Some, codes, unwrap_or, pos, true}
 use Rattle.clap.specs.{Lexer.usize_max, Words.{App, Kinds, Row, Rule, Text, all_of, fault_of, first_of, matches_of, new_app, new_rule, one_of, with_rule}}
@@ -34,9 +34,13 @@ workers_rule = number_rule (codes "workers") 1 64 (codes "4")
 abbrev pub sessions_rule : Rule
 sessions_rule = number_rule (codes "sessions") 0 4294967295 (codes "0")
 
--- `--store DIR`, which may be left out
+-- an option `--NAME DIR`, which may be left out
+abbrev pub folder_rule : Text → Rule
+folder_rule name = record (new_rule name) { long = Some name; value_names = 1; action = Some Set }
+
+-- `--store DIR`
 abbrev pub store_rule : Rule
-store_rule = record (new_rule (codes "store")) { long = Some (codes "store"); value_names = 1; action = Some Set }
+store_rule = folder_rule (codes "store")
 
 -- `--create`, a flag
 abbrev pub create_rule : Rule
@@ -54,6 +58,10 @@ checkpoint_bytes_rule = value_rule [] (codes "checkpoint-bytes") (Unsigned 0 184
 abbrev pub settle_every_rule : Rule
 settle_every_rule = number_rule_with [] (codes "settle-every") 0 4294967295
 
+-- `--verify DIR`
+abbrev pub verify_rule : Rule
+verify_rule = folder_rule (codes "verify")
+
 -- all other words, of which there has to be one
 abbrev pub tenants_rule : Rule
 tenants_rule = record (new_rule (codes "tenants")) {
@@ -70,8 +78,8 @@ with_version app = record app { top = record app.top { has_version = true } }
 -- what the program takes
 unfoldable pub server : App
 server =
-    with_rule (with_rule (with_rule (with_rule (with_rule (with_rule (with_rule (with_rule (with_rule (with_version (new_app (codes "mt_server"))) port_rule)
-    workers_rule) sessions_rule) store_rule) create_rule) checkpoint_rule) checkpoint_bytes_rule) settle_every_rule) tenants_rule
+    with_rule (with_rule (with_rule (with_rule (with_rule (with_rule (with_rule (with_rule (with_rule (with_rule (with_version (new_app (codes "mt_server"))) port_rule)
+    workers_rule) sessions_rule) store_rule) create_rule) checkpoint_rule) checkpoint_bytes_rule) settle_every_rule) verify_rule) tenants_rule
 
 -- what clap finds in a command line, rule by rule; its first word is the program's name
 unfoldable pub found_in : List Text → List Row
@@ -92,3 +100,7 @@ given_for name rows = one_of name rows
 -- the folder that is found for `--store`, as it is written
 abbrev pub folder_in : List Row → Option Text
 folder_in rows = first_of (codes "store") rows
+
+-- the one that is found for `--verify`
+abbrev pub verified_in : List Row → Option Text
+verified_in rows = first_of (codes "verify") rows

@@ -1,12 +1,12 @@
 -- What is read from the words of a command line: options, or a fault.
-use Rattle.std.specs.{Prelude.{◌≡◌, ◌⊎◌, ℕ, ◌≤◌, Bool, true, false, List, [], Option, Some, None, Result, Ok, Err, Vec, codes, slice_get}, Global.Global}
+use Rattle.std.specs.{Prelude.{◌≡◌, ◌⊎◌, ℕ, ◌≤◌, Bool, true, false, List, [], Option, Some, None, IsSome, Result, Ok, Err, String, Vec, codes, slice_get}, Global.Global}
 use Rattle.std.specs.Str.Parse.{IsNumeral, digits_value, without_leading_plus}
 use Rattle.clap.specs.Words.{IsAmong, Row, Text, kind_of}
 use Rattle.mt_options.specs.{declared.options.Options.Options, declared.options.StorePlace.StorePlace, declared.tenants.TenantQuota.TenantQuota}
 use Rattle.mt_options.specs.Tenants.{AreTenants, IsFirstFault}
 use Rattle.mt_command_line.specs.declared.faults.OptionsFault.{OptionsFault}
-use Rattle.mt_command_line.specs.declared.faults.OptionsFault.TheVariants.{Words, CreateAlone, CheckpointAlone, CheckpointBytesAlone, SettleEveryAlone, Malformed, Refused, Memory}
-use Rattle.mt_command_line.specs.CommandLine.{faults_in, folder_in, found_in, given_for, tenant_words}
+use Rattle.mt_command_line.specs.declared.faults.OptionsFault.TheVariants.{Words, CreateAlone, CheckpointAlone, CheckpointBytesAlone, SettleEveryAlone, VerifyAndServe, Malformed, Refused, Memory}
+use Rattle.mt_command_line.specs.CommandLine.{faults_in, folder_in, found_in, given_for, tenant_words, verified_in}
 use Rattle.mt_options.specs.declared.tenants.TenantsFault.TheVariants as tenants_fault
 
 -- the number is the one that is found for the option, in decimal digits, and lies from `least` to `most`
@@ -68,6 +68,23 @@ IsStoreFault rows SettleEveryAlone = NoCheckpointBytes rows × IsThere (codes "s
 IsStoreFault rows Memory = Unit {0}
 IsStoreFault rows fault = ⊥
 
+-- the folder of a store that is only read is the one that is found for `--verify`, and nothing is found for `--store` and `--create`; or there is none
+abbrev pub NamesVerified : List Row → Option (String Global) → Type 0
+NamesVerified rows (Some folder) = (verified_in rows ≡ Some folder.bytes.items) × NoCreate rows
+NamesVerified rows None = verified_in rows ≡ None
+
+-- why that folder isn't named: `--verify` is found, and so is `--store` or `--create`; or memory is short
+abbrev pub IsVerifyFault : List Row → OptionsFault → Type 0
+IsVerifyFault rows VerifyAndServe = IsSome (verified_in rows) × (IsSome (folder_in rows) ⊎ IsFlag (codes "create") rows true)
+IsVerifyFault rows Memory = Unit {0}
+IsVerifyFault rows fault = ⊥
+
+-- a store that is only read is named, and none that is served; or else one that is served may be
+abbrev pub NamesFolders : List Row → Option (String Global) → Option StorePlace → Type 0
+NamesFolders rows None store = NamesVerified rows None × NamesStore rows store
+NamesFolders rows verify None = NamesVerified rows verify
+NamesFolders rows verify (Some place) = ⊥
+
 -- the fault is that of the first of the tenants' words that has one; the fault tells this word, and how many stand before it
 abbrev pub IsTenantsFault : List Text → OptionsFault → Type 0
 IsTenantsFault words (Malformed word before why) = IsFirstFault words (tenants_fault.Malformed before why) × (slice_get words before ≡ Some word.bytes.items)
@@ -86,16 +103,28 @@ pub record AsksFor (words : List Text) (options : Options) : Type 0 where
   pub port : IsGiven (codes "port") 0 65535 (found_in words) options.port
   pub workers : IsGiven (codes "workers") 1 64 (found_in words) options.workers
   pub sessions : IsGiven (codes "sessions") 0 4294967295 (found_in words) options.sessions
-  pub store : NamesStore (found_in words) options.store
+  pub folders : NamesFolders (found_in words) options.verify options.store
   pub tenants : AreTenants (tenant_words (found_in words)) options.tenants.items
 
--- the fault is one that the command line has: one of its options, an option of a store without a folder, or else the first of its tenants' words
+-- why neither is named: for the one that is only read; or, if no `--verify` is found, for the one that is served; or memory is short
+abbrev pub IsFoldersFault : List Row → OptionsFault → Type 0
+IsFoldersFault rows VerifyAndServe = IsVerifyFault rows VerifyAndServe
+IsFoldersFault rows Memory = Unit {0}
+IsFoldersFault rows fault = (verified_in rows ≡ None) × IsStoreFault rows fault
+
+-- the command line has no fault of a single option, and this one of its folders
+abbrev pub IsToldOfFolders : List Text → OptionsFault → Type 0
+IsToldOfFolders words fault = (faults_in words ≡ []) × IsFoldersFault (found_in words) fault
+
+-- The fault is one that the command line has: one of its options, of a store to be read and served, of an option of a store without a folder, or else of the
+-- first of its tenants' words.
 abbrev pub IsTold : List Text → OptionsFault → Type 0
 IsTold words (Words error) = IsAmong (kind_of error) (faults_in words)
-IsTold words CreateAlone = (faults_in words ≡ []) × IsStoreFault (found_in words) CreateAlone
-IsTold words CheckpointAlone = (faults_in words ≡ []) × IsStoreFault (found_in words) CheckpointAlone
-IsTold words CheckpointBytesAlone = (faults_in words ≡ []) × IsStoreFault (found_in words) CheckpointBytesAlone
-IsTold words SettleEveryAlone = (faults_in words ≡ []) × IsStoreFault (found_in words) SettleEveryAlone
+IsTold words CreateAlone = IsToldOfFolders words CreateAlone
+IsTold words CheckpointAlone = IsToldOfFolders words CheckpointAlone
+IsTold words CheckpointBytesAlone = IsToldOfFolders words CheckpointBytesAlone
+IsTold words SettleEveryAlone = IsToldOfFolders words SettleEveryAlone
+IsTold words VerifyAndServe = IsToldOfFolders words VerifyAndServe
 IsTold words (Malformed word before why) = (faults_in words ≡ []) × IsTenantsFault (tenant_words (found_in words)) (Malformed word before why)
 IsTold words (Refused word before refusal) = (faults_in words ≡ []) × IsTenantsFault (tenant_words (found_in words)) (Refused word before refusal)
 IsTold words Memory = Unit {0}

@@ -2,7 +2,7 @@
 
 ghost use Rattle.std.specs.Prelude.{◌≡◌, IfOk, false};
 ghost use Rattle.clap.specs.Words.{app_of, rule_of};
-ghost use Rattle.mt_command_line.specs.CommandLine.{port_rule, workers_rule, sessions_rule, store_rule, create_rule, checkpoint_rule, checkpoint_bytes_rule, settle_every_rule, tenants_rule, server};
+ghost use Rattle.mt_command_line.specs.CommandLine.{port_rule, workers_rule, sessions_rule, store_rule, create_rule, checkpoint_rule, checkpoint_bytes_rule, settle_every_rule, verify_rule, tenants_rule, server};
 
 use clap::{Arg, ArgAction, Command, value_parser};
 use std::alloc::{AllocError, Global};
@@ -116,6 +116,20 @@ fn settle_every_arg<'a>(alloc: Global) -> Arg<'a>
         .help("Settles each M milliseconds, if anything was answered; 0, or without it: never")
 }
 
+// `--verify`.
+fn verify_arg<'a>(alloc: Global) -> Arg<'a>
+    ensures rule { rule_of result ≡ verify_rule }
+    ensures local { result.global ≡ false }
+{
+    Arg::new(alloc, "verify")
+        .long("verify")
+        .value_name("DIR")
+        .action(ArgAction::Set)
+        .help(
+            "Serves nothing: reads the folder's store as a start would, writes nothing, and says what it holds",
+        )
+}
+
 // The words that name tenants.
 fn tenants_arg<'a>(alloc: Global) -> Arg<'a>
     ensures rule { rule_of result ≡ tenants_rule }
@@ -145,5 +159,6 @@ pub(crate) fn command_of<'a>(alloc: Global) -> Result<Command<'a>, AllocError>
         .arg(checkpoint_arg(alloc))?
         .arg(checkpoint_bytes_arg(alloc))?
         .arg(settle_every_arg(alloc))?
+        .arg(verify_arg(alloc))?
         .arg(tenants_arg(alloc))
 }

@@ -24,6 +24,8 @@ pub enum OptionsFault {
     CheckpointBytesAlone,
     /// `--settle-every` is given without `--store`, and none of these is.
     SettleEveryAlone,
+    /// `--verify` is given with `--store` or `--create`.
+    VerifyAndServe,
     /// This word isn't `T:Q`, for this reason. So many of the tenants' words stand before it.
     Malformed {
         word: String,
@@ -53,6 +55,7 @@ impl OptionsFault {
             | OptionsFault::CheckpointAlone
             | OptionsFault::CheckpointBytesAlone
             | OptionsFault::SettleEveryAlone
+            | OptionsFault::VerifyAndServe
             | OptionsFault::Malformed { .. }
             | OptionsFault::Refused { .. } => 2,
             OptionsFault::Memory => 1,
@@ -115,6 +118,10 @@ impl fmt::Display for OptionsFault {
             OptionsFault::SettleEveryAlone => write!(
                 f,
                 "--settle-every settles a folder's store, and --store DIR names none"
+            ),
+            OptionsFault::VerifyAndServe => write!(
+                f,
+                "--verify only reads a store: give it in place of --store, and without --create"
             ),
             OptionsFault::Malformed { word, why, .. } => write!(
                 f,

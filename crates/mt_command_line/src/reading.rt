@@ -2,7 +2,7 @@
 
 ghost use Rattle.std.specs.Prelude.{List, ◌≡◌, ◌<◌, Some, IfOk, IfErr, MatchResult, length, map, slice_get};
 ghost use Rattle.clap.specs.Words.{Text, found_of, rows_of};
-ghost use Rattle.mt_command_line.specs.{CommandLine.tenant_words, Matches.{AreMatches, MayHaveNumbers}, Reads.{AsksFor, IsStoreFault, IsTold, Names, NamesStore}};
+ghost use Rattle.mt_command_line.specs.{CommandLine.tenant_words, Matches.{AreMatches, MayHaveNumbers}, Reads.{AsksFor, IsFoldersFault, IsStoreFault, IsTold, IsVerifyFault, Names, NamesFolders, NamesStore, NamesVerified}};
 
 use crate::command::command_of;
 use crate::faults::OptionsFault;
@@ -75,11 +75,38 @@ fn store_of(alloc: Global, matches: &ArgMatches<'_>) -> Result<Option<StorePlace
     }
 }
 
+// The folder of a store that the matches ask to be only read, if they name one.
+fn verified_of(alloc: Global, matches: &ArgMatches<'_>) -> Result<Option<String>, OptionsFault>
+    ensures { MatchResult result (NamesVerified (rows_of (found_of matches.now))) (IsVerifyFault (rows_of (found_of matches.now))) }
+{
+    let is_made = matches.get_flag("create");
+    let is_served = is_made || matches.get_str("store").is_some();
+    match matches.get_str("verify") {
+        None => Ok(None),
+        Some(_) if is_served => Err(OptionsFault::VerifyAndServe),
+        Some(folder) => Ok(Some(String::from_str(alloc, folder)?)),
+    }
+}
+
+// The folder of a store that is only read, or else the place of one that is served, if the matches name one.
+fn folders_of(
+    alloc: Global,
+    matches: &ArgMatches<'_>,
+) -> Result<(Option<String>, Option<StorePlace>), OptionsFault>
+    ensures { MayHaveNumbers (found_of matches.now)
+        → MatchResult result (λ r. NamesFolders (rows_of (found_of matches.now)) r.0 r.1) (IsFoldersFault (rows_of (found_of matches.now))) }
+{
+    match verified_of(alloc, matches)? {
+        Some(folder) => Ok((Some(folder), None)),
+        None => Ok((None, store_of(alloc, matches)?)),
+    }
+}
+
 // What the matches ask for.
 fn options_of(alloc: Global, matches: &ArgMatches<'_>) -> Result<Options, OptionsFault>
     ensures { (words : List Text) → AreMatches words matches.now → MatchResult result (AsksFor words) (IsTold words) }
 {
-    let store = store_of(alloc, matches)?;
+    let (verify, store) = folders_of(alloc, matches)?;
     let tenants = tenants_of(alloc, matches)?;
     Ok(Options {
         port: matches.get_one::<u16>("port").unwrap_or(7411),
@@ -89,6 +116,7 @@ fn options_of(alloc: Global, matches: &ArgMatches<'_>) -> Result<Options, Option
             .clamp(1, MAX_WORKERS),
         sessions: matches.get_one::<u32>("sessions").unwrap_or(0),
         store,
+        verify,
         tenants,
     })
 }

@@ -33,6 +33,8 @@ pub struct Options {
     pub sessions: u32,
     /// Where it keeps its logs; none are kept without it.
     pub store: Option<StorePlace>,
+    /// The folder of a store that is only read, to say what it holds. Then nothing is served, and no store is named.
+    pub verify: Option<String>,
     /// The tenants, each with its quota.
     pub tenants: Vec<TenantQuota>,
 

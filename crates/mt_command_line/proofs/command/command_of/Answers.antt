@@ -16,4 +16,5 @@ returns c =
     let six = c.in_ok-arg-6.ensures.shape c.checkpoint_arg.ensures.local ∙ ap₂ with_rule five c.checkpoint_arg.ensures.rule in
     let seven = c.in_ok-arg-7.ensures.shape c.checkpoint_bytes_arg.ensures.local ∙ ap₂ with_rule six c.checkpoint_bytes_arg.ensures.rule in
     let eight = c.in_ok-arg-8.ensures.shape c.settle_every_arg.ensures.local ∙ ap₂ with_rule seven c.settle_every_arg.ensures.rule in
-    IfOk-weaker c.arg-9.result _ _ (λ command added. added.shape c.tenants_arg.ensures.local ∙ ap₂ with_rule eight c.tenants_arg.ensures.rule) c.arg-9.ensures
+    let nine = c.in_ok-arg-9.ensures.shape c.verify_arg.ensures.local ∙ ap₂ with_rule eight c.verify_arg.ensures.rule in
+    IfOk-weaker c.arg-10.result _ _ (λ command added. added.shape c.tenants_arg.ensures.local ∙ ap₂ with_rule nine c.tenants_arg.ensures.rule) c.arg-10.ensures

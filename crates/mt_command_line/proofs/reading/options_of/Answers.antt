@@ -2,23 +2,24 @@ use Rattle.std.{proofs.Common.{◌≡◌, ◌∙◌, ap, arith, codes, rules, su
 use Rattle.clap.specs.Words.{Text, found_of}
 use Rattle.mt_options.specs.Tenants.{AreTenants}
 use Rattle.mt_command_line.specs.declared.faults.OptionsFault.{OptionsFault}
-use Rattle.mt_command_line.specs.declared.faults.OptionsFault.TheVariants.{CreateAlone, CheckpointAlone, CheckpointBytesAlone, SettleEveryAlone, Memory}
-use Rattle.mt_command_line.{specs.{CommandLine.{faults_in, found_in, tenant_words}, Reads.{IsGiven, IsStoreFault, IsTold, NamesStore}}, proofs.MatchLemmas.number_is}
+use Rattle.mt_command_line.specs.declared.faults.OptionsFault.TheVariants.{CreateAlone, CheckpointAlone, CheckpointBytesAlone, SettleEveryAlone, VerifyAndServe, Memory}
+use Rattle.mt_command_line.{specs.{CommandLine.{faults_in, found_in, tenant_words}, Reads.{IsFoldersFault, IsGiven, IsTold, NamesFolders}}, proofs.MatchLemmas.number_is}
 use Rattle.mt_command_line.proofs.reading.options_of.Goals as goal
 
--- a fault of the store is one that the command line has
-told : (words : List Text) (fault : OptionsFault) → faults_in words ≡ [] → IsStoreFault (found_in words) fault → IsTold words fault
+-- a fault of the folders is one that the command line has
+told : (words : List Text) (fault : OptionsFault) → faults_in words ≡ [] → IsFoldersFault (found_in words) fault → IsTold words fault
 told words CreateAlone faultless is = (faultless, is)
 told words CheckpointAlone faultless is = (faultless, is)
 told words CheckpointBytesAlone faultless is = (faultless, is)
 told words SettleEveryAlone faultless is = (faultless, is)
+told words VerifyAndServe faultless is = (faultless, is)
 told words Memory faultless is = tt
-told words fault faultless is = absurd is
+told words fault faultless is = absurd is.1
 
-pub returns-in_err-store : goal.returns-in_err-store
-returns-in_err-store c = λ words are.
-    let is : c.from_residual.result ≡ Err c.in_err-store.field-0.0 = search rules in
-    rw is (told words c.in_err-store.field-0.0 are.faultless (subst (λ rows. IsStoreFault rows c.in_err-store.field-0.0) are.rows (c.in_err-store.ensures are.may)))
+pub returns-in_err-verify : goal.returns-in_err-verify
+returns-in_err-verify c = λ words are.
+    let is : c.from_residual.result ≡ Err c.in_err-verify.field-0.0 = search rules in
+    rw is (told words c.in_err-verify.field-0.0 are.faultless (subst (λ rows. IsFoldersFault rows c.in_err-verify.field-0.0) are.rows (c.in_err-verify.ensures are.may)))
 
 pub returns : goal.returns
 returns c = λ words are.
@@ -36,6 +37,6 @@ returns c = λ words are.
       port = rw c.unwrap_or.ensures port;
       workers = rw same given;
       sessions = rw c.unwrap_or-3.ensures sessions;
-      store = subst (λ rows. NamesStore rows c.in_ok-store.store) are.rows (c.in_ok-store.ensures are.may);
+      folders = subst (λ rows. NamesFolders rows c.in_ok-verify.verify c.in_ok-verify.store) are.rows (c.in_ok-verify.ensures are.may);
       tenants = subst (λ ws. AreTenants ws c.in_ok-tenants.tenants.items) (ap tenant_words are.rows) c.in_ok-tenants.ensures;
     }

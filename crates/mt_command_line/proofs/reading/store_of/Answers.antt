@@ -6,7 +6,7 @@ use Rattle.mt_command_line.proofs.reading.store_of.Goals as goal
 pub returns-in_ok-from_str-in-Some : goal.returns-in_ok-from_str-in-Some
 returns-in_ok-from_str-in-Some c = λ may.
     let f = found_of c.args.matches.now in
-    let folder = folder_is f c.get_str.result c.get_str.ensures ∙ ap (option_map (λ (s : Bor (List ℕ)). s.now)) c.in-Some.is in
+    let folder = folder_is f (codes "store") c.get_str.result c.get_str.ensures ∙ ap (option_map (λ (s : Bor (List ℕ)). s.now)) c.in-Some.is in
     let checkpoint = number_if_any_is _ (λ bs r. ParsesUnsigned 32 10 bs r × ExplainsUnsignedError 10 bs r × HasUnsignedDigitsIfOk bs r) 32 0 4294967295
     f (codes "checkpoint") c.get_one-checkpoint.result (λ t x g. g.0) (omega arith) c.get_one-checkpoint.ensures.none c.get_one-checkpoint.ensures.value may.checkpoint in
     let bytes = large_number_is _ (λ bs r. ParsesUnsigned 64 10 bs r × ExplainsUnsignedError 10 bs r × HasUnsignedDigitsIfOk bs r) 0 18446744073709551615
@@ -24,14 +24,14 @@ returns-in_ok-from_str-in-Some c = λ may.
 pub returns-in-None : goal.returns-in-None
 returns-in-None c = λ may.
     let f = found_of c.args.matches.now in
-    let folder = folder_is f c.get_str.result c.get_str.ensures ∙ ap (option_map (λ (s : Bor (List ℕ)). s.now)) c.in-None.is in
+    let folder = folder_is f (codes "store") c.get_str.result c.get_str.ensures ∙ ap (option_map (λ (s : Bor (List ℕ)). s.now)) c.in-None.is in
     let flag = flag_is f (codes "create") _ c.get_flag-create.ensures.none c.get_flag-create.ensures.value c.get_flag-create.ensures.other in
     (folder, subst (λ (b : Bool). IsFlag (codes "create") (rows_of f) b) c.if-create.true flag)
 
 pub returns-in-None-2 : goal.returns-in-None-2
 returns-in-None-2 c = λ may.
     let f = found_of c.args.matches.now in
-    let folder = folder_is f c.get_str.result c.get_str.ensures ∙ ap (option_map (λ (s : Bor (List ℕ)). s.now)) c.in-None.is in
+    let folder = folder_is f (codes "store") c.get_str.result c.get_str.ensures ∙ ap (option_map (λ (s : Bor (List ℕ)). s.now)) c.in-None.is in
     let flag = flag_is f (codes "create") _ c.get_flag-create.ensures.none c.get_flag-create.ensures.value c.get_flag-create.ensures.other in
     let checkpoint = number_if_any_is _ (λ bs r. ParsesUnsigned 32 10 bs r × ExplainsUnsignedError 10 bs r × HasUnsignedDigitsIfOk bs r) 32 0 4294967295
     f (codes "checkpoint") c.get_one-checkpoint.result (λ t x g. g.0) (omega arith) c.get_one-checkpoint.ensures.none c.get_one-checkpoint.ensures.value may.checkpoint in
@@ -40,7 +40,7 @@ returns-in-None-2 c = λ may.
 pub returns-in-None-3 : goal.returns-in-None-3
 returns-in-None-3 c = λ may.
     let f = found_of c.args.matches.now in
-    let folder = folder_is f c.get_str.result c.get_str.ensures ∙ ap (option_map (λ (s : Bor (List ℕ)). s.now)) c.in-None.is in
+    let folder = folder_is f (codes "store") c.get_str.result c.get_str.ensures ∙ ap (option_map (λ (s : Bor (List ℕ)). s.now)) c.in-None.is in
     let flag = flag_is f (codes "create") _ c.get_flag-create.ensures.none c.get_flag-create.ensures.value c.get_flag-create.ensures.other in
     let checkpoint = number_if_any_is _ (λ bs r. ParsesUnsigned 32 10 bs r × ExplainsUnsignedError 10 bs r × HasUnsignedDigitsIfOk bs r) 32 0 4294967295
     f (codes "checkpoint") c.get_one-checkpoint.result (λ t x g. g.0) (omega arith) c.get_one-checkpoint.ensures.none c.get_one-checkpoint.ensures.value may.checkpoint in
@@ -52,7 +52,7 @@ returns-in-None-3 c = λ may.
 pub returns-in-None-4 : goal.returns-in-None-4
 returns-in-None-4 c = λ may.
     let f = found_of c.args.matches.now in
-    let folder = folder_is f c.get_str.result c.get_str.ensures ∙ ap (option_map (λ (s : Bor (List ℕ)). s.now)) c.in-None.is in
+    let folder = folder_is f (codes "store") c.get_str.result c.get_str.ensures ∙ ap (option_map (λ (s : Bor (List ℕ)). s.now)) c.in-None.is in
     let flag = flag_is f (codes "create") _ c.get_flag-create.ensures.none c.get_flag-create.ensures.value c.get_flag-create.ensures.other in
     let checkpoint = number_if_any_is _ (λ bs r. ParsesUnsigned 32 10 bs r × ExplainsUnsignedError 10 bs r × HasUnsignedDigitsIfOk bs r) 32 0 4294967295
     f (codes "checkpoint") c.get_one-checkpoint.result (λ t x g. g.0) (omega arith) c.get_one-checkpoint.ensures.none c.get_one-checkpoint.ensures.value may.checkpoint in
@@ -67,7 +67,7 @@ returns-in-None-4 c = λ may.
 pub returns-in-None-5 : goal.returns-in-None-5
 returns-in-None-5 c = λ may.
     let f = found_of c.args.matches.now in
-    let folder = folder_is f c.get_str.result c.get_str.ensures ∙ ap (option_map (λ (s : Bor (List ℕ)). s.now)) c.in-None.is in
+    let folder = folder_is f (codes "store") c.get_str.result c.get_str.ensures ∙ ap (option_map (λ (s : Bor (List ℕ)). s.now)) c.in-None.is in
     let flag = flag_is f (codes "create") _ c.get_flag-create.ensures.none c.get_flag-create.ensures.value c.get_flag-create.ensures.other in
     let checkpoint = number_if_any_is _ (λ bs r. ParsesUnsigned 32 10 bs r × ExplainsUnsignedError 10 bs r × HasUnsignedDigitsIfOk bs r) 32 0 4294967295
     f (codes "checkpoint") c.get_one-checkpoint.result (λ t x g. g.0) (omega arith) c.get_one-checkpoint.ensures.none c.get_one-checkpoint.ensures.value may.checkpoint in
