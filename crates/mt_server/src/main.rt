@@ -1,6 +1,6 @@
-//! Serves the maps of many tenants over 127.0.0.1.
+//! Serves the maps of many tenants over 127.0.0.1, or says what a store on disk holds.
 //!
-//! The exit status is 0 at the end of its sessions, and for `--help` and `--version`; 1 if a socket, a
+//! The exit status is 0 at the end of its sessions, for a store that would be served, and for `--help` and `--version`; 1 if a socket, a
 //! device, memory or the output failed; 2 if an option or a tenant is refused; 3 if the store is. With 1
 //! to 3 it says on standard error what failed, and what to do.
 #![tactic(auto)]
@@ -8,7 +8,7 @@
 use log::sink::Console;
 use log::{Level, Logged, warn};
 use mt_command_line::{OptionsFault, read_options, remedy};
-use mt_service::{FolderDigests, OpenStore, ServerFault, open_store, run_server};
+use mt_service::{FolderDigests, OpenStore, ServerFault, open_store, run_server, verify_store};
 use std::env::{self, Env, FillError};
 use std::io::{self, ErrorKind};
 use std::marker::Brand;
@@ -28,6 +28,11 @@ fn main(rt: HostRuntime) -> ExitCode {
         Ok(options) => options,
         Err(fault) => return ExitCode::from(fault.tell(&rt)),
     };
+    let mut out = io::writer(&rt);
+    if let Some(folder) = &options.verify {
+        let said = verify_store(&rt, rt.alloc(), &options, folder.as_str(), &mut out);
+        return ended(&rt, said.map(|()| 0));
+    }
     // The folder stays locked up to the end.
     let OpenStore { store, mut folder } = match open_store(&rt, rt.alloc(), &options) {
         Ok(opened) => opened,
@@ -40,7 +45,7 @@ fn main(rt: HostRuntime) -> ExitCode {
             return ended(&rt, Err(ServerFault::Listen { port, error }));
         }
     };
-    let (blank, mut out) = (Blank::new(65_536), io::writer(&rt));
+    let blank = Blank::new(65_536);
     let end = run_server::<Brand, _, _, _, _>(
         &rt,
         rt.alloc(),

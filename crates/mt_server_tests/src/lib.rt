@@ -23,6 +23,8 @@ mod stores;
 #[cfg(test)]
 mod upgrades;
 #[cfg(test)]
+mod verified;
+#[cfg(test)]
 mod words;
 #[cfg(test)]
 mod workers;

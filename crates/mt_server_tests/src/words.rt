@@ -105,9 +105,21 @@ fn stores_are_named(rt: HostRuntime) {
     }
 }
 
+// A store that is only read is named by a line of a start, with its other options.
+#[test]
+fn a_store_to_read_is_named(rt: HostRuntime) {
+    let line = "mt_server --workers 2 --verify a/b --checkpoint 5 --settle-every 1 7:1";
+    let options = options_of(&rt, rt.alloc(), line);
+    assert!(rt; options.store.is_none());
+    assert_eq!(rt;
+        options.verify.as_ref().map(|folder| folder.as_str()),
+        Some("a/b")
+    );
+}
+
 // The words after the program's, the status, and how what is said begins. A fault names the word, what is wrong with it,
 // and its bounds.
-const REFUSED: [&str; 34] = [
+const REFUSED: [&str; 38] = [
     "7:0 => 2: E7: '7:0': a quota is 1 to 1048576 pairs",
     "8:1 7:1048577 => 2: E7: '7:1048577': a quota is 1 to 1048576 pairs",
     "--store here 7:0 => 2: E7: '7:0': a quota is 1 to 1048576 pairs",
@@ -126,6 +138,10 @@ const REFUSED: [&str; 34] = [
     "--checkpoint 0 --checkpoint-bytes 1 7:1 => 2: --checkpoint writes checkpoints of a folder's store, and --store DIR names none",
     "--settle-every 1 --checkpoint-bytes 0 7:0 => 2: --checkpoint-bytes writes checkpoints of a folder's store, and --store DIR names none",
     "--settle-every 0 7:0 => 2: --settle-every settles a folder's store, and --store DIR names none",
+    "--verify here --store here 7:0 => 2: --verify only reads a store: give it in place of --store, and without --create",
+    "--create --verify here 7:1 => 2: --verify only reads a store: give it in place of --store, and without --create",
+    "--verify here --checkpoint 1 7:0 => 2: E7: '7:0': a quota is 1 to 1048576 pairs",
+    "--verify 7:1 => 2: error: ",
     "--port 65536 7:1 => 2: error: invalid value '65536' for '--port <P>': 65536 is not in 0..=65535",
     "--port x 7:1 => 2: error: invalid value 'x' for '--port <P>': ",
     "--workers 0 7:1 => 2: error: invalid value '0' for '--workers <N>': 0 is not in 1..=64",

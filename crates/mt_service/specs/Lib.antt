@@ -9,3 +9,4 @@ pub mod ReadStores
 pub mod Telling
 pub mod Turning
 pub mod Workers
+pub mod Verifying

@@ -1,6 +1,6 @@
 //! The server as a library: a listener's sessions, answered by a crew of workers over one book.
 //!
-//! `open_store` opens the store that the options name. `run_server` makes its book, gives each worker a pass,
+//! `open_store` opens the store that the options name, and `verify_store` only reads one. `run_server` makes its book, gives each worker a pass,
 //! lets the crew serve, settles at the end, and tells the sum of the answers. A worker answers a stream's
 //! session by `serve` of `mt_session`, with a caller that asks the book through its pass, and keeps the answers
 //! in the store's logs. `specs/Asking.antt` says what such a caller may answer. Beside the crew a turner makes the
@@ -17,6 +17,7 @@ pub mod running;
 pub mod served_store;
 pub mod turners;
 pub mod turns;
+pub mod verifying;
 mod warnings;
 pub mod workers;
 
@@ -27,4 +28,5 @@ pub use running::{Ending, Totals, run_server, totals_of};
 pub use served_store::{OpenStore, open_store};
 pub use turners::Turner;
 pub use turns::{Turns, Woken};
+pub use verifying::{StoreReport, verify_store};
 pub use workers::SessionWorker;
