@@ -1,10 +1,10 @@
 -- The last log of each worker is open, and ends where the worker's chain does.
-use Rattle.std.proofs.Common.{◌≡◌, ◌⊎◌, inl, inr, ⊎_elim, ℕ, zero, suc, ◌+◌, ◌<◌, ◌≤◌, ◌==◌, ◌%◌, Bool, true, false, cond, List, [], ◌∷◌, ◌++◌, length, map, refl, sym, ◌∙◌, ap, subst, arith, Option, Some, None}
+use Rattle.std.proofs.Common.{◌≡◌, ◌⊎◌, inl, inr, ⊎_elim, ℕ, zero, suc, ◌+◌, ◌<◌, ◌≤◌, ◌==◌, ◌%◌, Bool, true, false, IsTrue, cond, List, [], ◌∷◌, ◌++◌, length, map, refl, sym, ◌∙◌, ap, subst, arith, Option, Some, None}
 use Rattle.std.proofs.lemmas.{Bool.{eqb-true, ne_eqb, cases_eq, cond-false}, List.length-map, Option.same_Some}
 use Rattle.std.specs.{Prelude.slice_get, Option.option_map}
 use Rattle.mt_disk.specs.Disk.{DiskState}
 use Rattle.mt_log_generations.specs.{declared.header.{Parity.Parity, Parity.TheVariants.{Even, Odd}}, Headers.parity_of}
-use Rattle.mt_log.specs.{declared.batch.Front.Front, declared.log_file.LogFile.LogFile, Contents.{Contents, mark_of, end_of, contents_of}, Fronts.IsOfKind}
+use Rattle.mt_log.specs.{declared.batch.Front.Front, declared.log_file.LogFile.LogFile, Contents.{Contents, mark_of, end_of, contents_of}, Fronts.IsOfKind, Logs.IsLogOf}
 use Rattle.mt_crashes.{specs.{Bases.Slots}, proofs.{Members.{no_some, place_in}, Invariant.{zip_right, within_place, map_place, place_map}}}
 use Rattle.mt_generations.specs.{Chains.Chain, Standings.{Standing, joined, chain_from, StartFalls}}
 use Rattle.mt_generations.proofs.Parts.{end_joined}
@@ -68,43 +68,6 @@ module _ {D : Type 0} where
   open_of c (Closed disk) ends = absurd ends
   open_of c Away ends = absurd ends
 
-  -- a log that was read of a numbered file is open there, and of the file's parity
-  abbrev IsOpenIn : Parity → Option Front → LogSlot D → Type 0
-  IsOpenIn parity found slot = (front : Front) → found ≡ Some front → EndsAt (contents_of front) slot × IsOfKind (kinds.Numbered parity) front.generation
-
-  -- what was read of a worker's files is open there
-  pub record AreOpen (one : WorkerLogs) (places : WorkerFiles D) : Type 0 where
-    pub even : Option Front
-    pub odd : Option Front
-    pub numbered : one.numbered ≡ even ∷ odd ∷ []
-    pub open_even : IsOpenIn Even even places.even
-    pub open_odd : IsOpenIn Odd odd places.odd
-    pub open_plain : (front : Front) → one.plain ≡ Some front → EndsAt (contents_of front) places.plain
-
-  -- so each log that stands is open in the file of its generation
-  pub each_open : (one : WorkerLogs) (places : WorkerFiles D) → AreOpen one places → (h : ℕ) (c : Contents) → standing_of one h ≡ Some c → EndsAt c (file_of h places)
-  each_open one places o zero c is =
-      let f = found_plain one.plain c is in
-      subst (λ (d : Contents). EndsAt d places.plain) f.2 (o.open_plain f.0 f.1)
-  each_open one places o (suc n) c is =
-      ⊎_elim
-      (λ (f : IsFound (suc n) c o.even). (
-      let e = o.open_even f.0 f.1 in
-      let same = f.2 in
-      subst (EndsAt c) (sym (file_even (suc n) places (omega arith) (ap parity_of (sym same) ∙ e.1.1)))
-      (subst (λ (d : Contents). EndsAt d places.even) f.3 e.0)
-      ))
-      (λ later. ⊎_elim
-      (λ (f : IsFound (suc n) c o.odd). (
-      let e = o.open_odd f.0 f.1 in
-      let same = f.2 in
-      subst (EndsAt c) (sym (file_odd (suc n) places (omega arith) (ap parity_of (sym same) ∙ e.1.1)))
-      (subst (λ (d : Contents). EndsAt d places.odd) f.3 e.0)
-      ))
-      (λ none. absurd (no_some c none))
-      (found_or_later (suc n) o.odd [] c later))
-      (found_or_later (suc n) o.even (o.odd ∷ []) c (sym (read_later one o.even o.odd (suc n) (omega arith) o.numbered) ∙ is))
-
   -- The last of both logs of a chain ends where the chain does.
   last_ends : (g : ℕ) (f : Standing) (places : WorkerFiles D) (c : Chain) → ((h : ℕ) (d : Contents) → f h ≡ Some d → EndsAt d (file_of h places))
       → ((start : ℕ) → ¬ StartFalls g f start) → chain_from g f ≡ Some c → EndsAt c (file_of (last_generation_of g (Some (is_there (f (g + 1))))) places)
@@ -123,12 +86,70 @@ module _ {D : Type 0} where
           (ap (λ (n : ℕ). end_of n b.batches) met ∙ sym (end_joined a.start a.batches b.batches) ∙ ap mark_of (same_Some (record a { batches = a.batches ++ b.batches }) c e))
           (each (g + 1) b next)
 
+module _ {D : Type 0} (is_honest : D → Bool) (state : D → DiskState) where
+  -- a log with these contents is open, and ends where they do
+  abbrev pub StandsIn : Contents → LogSlot D → Type 0
+  StandsIn c (Open log) = (log.mark ≡ mark_of c) × (IsTrue (is_honest log.disk) → IsLogOf state c log)
+  StandsIn c (Failed log) = ⊥
+  StandsIn c (Closed disk) = ⊥
+  StandsIn c Away = ⊥
+
+  stands_ends : (c : Contents) (slot : LogSlot D) → StandsIn c slot → EndsAt c slot
+  stands_ends c (Open log) stands = stands.0
+  stands_ends c (Failed log) stands = absurd stands
+  stands_ends c (Closed disk) stands = absurd stands
+  stands_ends c Away stands = absurd stands
+
+  -- a log that was read of a numbered file is open there, and of the file's parity
+  abbrev IsOpenIn : Parity → Option Front → LogSlot D → Type 0
+  IsOpenIn parity found slot = (front : Front) → found ≡ Some front → StandsIn (contents_of front) slot × IsOfKind (kinds.Numbered parity) front.generation
+
+  -- what was read of a worker's files is open there
+  pub record AreOpen (one : WorkerLogs) (places : WorkerFiles D) : Type 0 where
+    pub even : Option Front
+    pub odd : Option Front
+    pub numbered : one.numbered ≡ even ∷ odd ∷ []
+    pub open_even : IsOpenIn Even even places.even
+    pub open_odd : IsOpenIn Odd odd places.odd
+    pub open_plain : (front : Front) → one.plain ≡ Some front → StandsIn (contents_of front) places.plain × (front.generation ≡ 0)
+
+  -- so each log that stands is open in the file of its generation
+  pub each_open : (one : WorkerLogs) (places : WorkerFiles D) → AreOpen one places → (h : ℕ) (c : Contents) → standing_of one h ≡ Some c
+      → StandsIn c (file_of h places) × (c.generation ≡ h)
+  each_open one places o zero c is =
+      let f = found_plain one.plain c is in
+      subst (λ (d : Contents). StandsIn d places.plain × (d.generation ≡ 0)) f.2 (o.open_plain f.0 f.1)
+  each_open one places o (suc n) c is =
+      ⊎_elim
+      (λ (f : IsFound (suc n) c o.even). (
+      let e = o.open_even f.0 f.1 in
+      let same = f.2 in (
+        subst (StandsIn c) (sym (file_even (suc n) places (omega arith) (ap parity_of (sym same) ∙ e.1.1)))
+            (subst (λ (d : Contents). StandsIn d places.even) f.3 e.0),
+        sym (ap (λ (d : Contents). d.generation) f.3) ∙ same,
+      )
+      ))
+      (λ later. ⊎_elim
+      (λ (f : IsFound (suc n) c o.odd). (
+      let e = o.open_odd f.0 f.1 in
+      let same = f.2 in (
+        subst (StandsIn c) (sym (file_odd (suc n) places (omega arith) (ap parity_of (sym same) ∙ e.1.1)))
+            (subst (λ (d : Contents). StandsIn d places.odd) f.3 e.0),
+        sym (ap (λ (d : Contents). d.generation) f.3) ∙ same,
+      )
+      ))
+      (λ none. absurd (no_some c none))
+      (found_or_later (suc n) o.odd [] c later))
+      (found_or_later (suc n) o.even (o.odd ∷ []) c (sym (read_later one o.even o.odd (suc n) (omega arith) o.numbered) ∙ is))
+
 module _ {D : Type 0} (is_honest : D → Bool) (state : D → DiskState) (failures : D → ℕ) where
   -- a log that was read of a plain file is open there
   plain_open : (old : Option D) (new : LogSlot D) (found : Option Front) → OpensPlain is_honest state failures old new found
-      → (front : Front) → found ≡ Some front → EndsAt (contents_of front) new
+      → (front : Front) → found ≡ Some front → StandsIn is_honest state (contents_of front) new × (front.generation ≡ 0)
   plain_open old new None o front there = absurd (no_some front there)
-  plain_open (Some disk) (Open log) (Some read) o front there = subst (λ (f : Front). EndsAt (contents_of f) (Open log)) (same_Some read front there) o.mark
+  plain_open (Some disk) (Open log) (Some read) o front there =
+      subst (λ (f : Front). StandsIn is_honest state (contents_of f) (Open log) × (f.generation ≡ 0)) (same_Some read front there)
+      ((o.mark, λ h. o.has (subst IsTrue o.honest h)), o.of_kind)
   plain_open (Some disk) (Failed log) (Some read) o front there = absurd o
   plain_open (Some disk) (Closed new) (Some read) o front there = absurd o
   plain_open (Some disk) Away (Some read) o front there = absurd o
@@ -138,10 +159,11 @@ module _ {D : Type 0} (is_honest : D → Bool) (state : D → DiskState) (failur
   plain_open None Away (Some read) o front there = absurd o
 
   numbered_open : (parity : Parity) (old : Option D) (new : LogSlot D) (found : Option Front) → OpensNumbered is_honest state failures parity old new found
-      → IsOpenIn parity found new
+      → IsOpenIn is_honest state parity found new
   numbered_open parity old new None o front there = absurd (no_some front there)
   numbered_open parity (Some disk) (Open log) (Some read) o front there =
-      subst (λ (f : Front). EndsAt (contents_of f) (Open log) × IsOfKind (kinds.Numbered parity) f.generation) (same_Some read front there) (o.0.mark, o.0.of_kind)
+      subst (λ (f : Front). StandsIn is_honest state (contents_of f) (Open log) × IsOfKind (kinds.Numbered parity) f.generation) (same_Some read front there)
+      ((o.0.mark, λ h. o.0.has (subst IsTrue o.0.honest h)), o.0.of_kind)
   numbered_open parity (Some disk) (Failed log) (Some read) o front there = absurd o
   numbered_open parity (Some disk) (Closed new) (Some read) o front there = absurd o
   numbered_open parity (Some disk) Away (Some read) o front there = absurd o
@@ -152,13 +174,13 @@ module _ {D : Type 0} (is_honest : D → Bool) (state : D → DiskState) (failur
 
   -- also if an older one was passed over
   from_open : (from told : ℕ) (parity : Parity) (old new : LogSlot D) (found : Option Front) → OpensFrom is_honest state failures from told parity old new found
-      → IsOpenIn parity found new
+      → IsOpenIn is_honest state parity found new
   from_open from told parity old new found (inl over) front there = absurd (no_some front (sym over.2 ∙ there))
   from_open from told parity old new found (inr opens) front there = numbered_open parity (disk_in old) new found opens.1 front there
 
   -- the numbered files of a worker that count were opened
   open_first : (from : ℕ) (told : List Told) (old between : List (WorkerFiles D)) (first : List WorkerLogs) → OpensNumberedFiles is_honest state failures from told old between first
-      → (k : ℕ) (one : WorkerLogs) (places : WorkerFiles D) → slice_get first k ≡ Some one → slice_get between k ≡ Some places → AreOpen one places
+      → (k : ℕ) (one : WorkerLogs) (places : WorkerFiles D) → slice_get first k ≡ Some one → slice_get between k ≡ Some places → AreOpen is_honest state one places
   open_first from told old between first numbered k one places there then =
       let within = get_within first k one there in
       let count = numbered.count in
@@ -178,9 +200,9 @@ module _ {D : Type 0} (is_honest : D → Bool) (state : D → DiskState) (failur
 
   module _ (slots : Slots) where
     -- and its plain file, if that is needed
-    open_all : (from : ℕ) (told : List Told) (old between new : List (WorkerFiles D)) (first logs : List WorkerLogs) → OpensNumberedFiles is_honest state failures from told old between first
+    pub open_all : (from : ℕ) (told : List Told) (old between new : List (WorkerFiles D)) (first logs : List WorkerLogs) → OpensNumberedFiles is_honest state failures from told old between first
         → ReadsPlain is_honest state failures slots between new first logs → (k : ℕ) (one : WorkerLogs) (places : WorkerFiles D)
-        → slice_get logs k ≡ Some one → slice_get new k ≡ Some places → AreOpen one places
+        → slice_get logs k ≡ Some one → slice_get new k ≡ Some places → AreOpen is_honest state one places
     open_all from told old between new first logs numbered (inr unread) k one places there then =
         open_first from told old between first numbered k one places
         (subst (λ (l : List WorkerLogs). slice_get l k ≡ Some one) unread.2 there)
@@ -198,21 +220,21 @@ module _ {D : Type 0} (is_honest : D → Bool) (state : D → DiskState) (failur
           even = a.even;
           odd = a.odd;
           numbered = sym was.2 ∙ a.numbered;
-          open_even = λ front is. (let e = a.open_even front is in (subst (EndsAt (contents_of front)) (sym o.1.0) e.0, e.1));
-          open_odd = λ front is. (let e = a.open_odd front is in (subst (EndsAt (contents_of front)) (sym o.1.1) e.0, e.1));
+          open_even = λ front is. (let e = a.open_even front is in (subst (StandsIn is_honest state (contents_of front)) (sym o.1.0) e.0, e.1));
+          open_odd = λ front is. (let e = a.open_odd front is in (subst (StandsIn is_honest state (contents_of front)) (sym o.1.1) e.0, e.1));
           open_plain = plain_open (disk_in mid.0.plain) places.plain one.plain o.0;
         }
 
     module _ (old new : List (WorkerFiles D)) (chains : Chains) (opens : OpensChains is_honest state failures slots old new chains) where
       -- a worker's chain, the logs that were read of it, and whether its next one is told to be begun
-      record ChainAt (k : ℕ) (front : Front) : Type 0 where
-        one : WorkerLogs
-        there : slice_get opens.reads.logs k ≡ Some one
-        from : chain_from chains.generation (standing_of one) ≡ Some (contents_of front)
-        begun : slice_get chains.begun.items k ≡ Some (is_there (standing_of one (chains.generation + 1)))
-        meets : (start : ℕ) → ¬ StartFalls chains.generation (standing_of one) start
+      pub record ChainAt (k : ℕ) (front : Front) : Type 0 where
+        pub one : WorkerLogs
+        pub there : slice_get opens.reads.logs k ≡ Some one
+        pub from : chain_from chains.generation (standing_of one) ≡ Some (contents_of front)
+        pub begun : slice_get chains.begun.items k ≡ Some (is_there (standing_of one (chains.generation + 1)))
+        pub meets : (start : ℕ) → ¬ StartFalls chains.generation (standing_of one) start
 
-      chain_at : (k : ℕ) (front : Front) → slice_get chains.fronts.items k ≡ Some front → ChainAt k front
+      pub chain_at : (k : ℕ) (front : Front) → slice_get chains.fronts.items k ≡ Some front → ChainAt k front
       chain_at k front there =
           let g = chains.generation in
           let logs = opens.reads.logs in
@@ -237,7 +259,8 @@ module _ {D : Type 0} (is_honest : D → Bool) (state : D → DiskState) (failur
           let c = chain_at k front there in
           subst (λ (b : Option Bool). EndsAt (contents_of front) (file_of (last_generation_of chains.generation b) places)) (sym c.begun)
           (last_ends chains.generation (standing_of c.one) places (contents_of front)
-          (each_open c.one places (open_all n.from r.numbered.told n.before r.between new r.first r.logs n.opens r.plain k c.one places c.there then))
+          (λ h d is. stands_ends is_honest state d (file_of h places)
+          (each_open is_honest state c.one places (open_all n.from r.numbered.told n.before r.between new r.first r.logs n.opens r.plain k c.one places c.there then) h d is).0)
           c.meets c.from)
 
       count_new : ReadsPlain is_honest state failures slots opens.reads.between new opens.reads.first opens.reads.logs → length new ≡ length opens.reads.between

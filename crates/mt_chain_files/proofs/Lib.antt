@@ -10,3 +10,7 @@ pub mod Passing
 pub mod OwnFiles
 pub mod TurnLaws
 pub mod GivenUp
+pub mod Giving
+pub mod StillOpen
+pub mod StillShown
+pub mod ChainsAhead

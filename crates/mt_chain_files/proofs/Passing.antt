@@ -1,5 +1,5 @@
 -- A worker's numbered files of which an older one was passed over: its header alone was read.
-use Rattle.std.proofs.Common.{◌≡◌, ◌≢◌, ◌⊎◌, inl, inr, ⊎_elim, ℕ, zero, suc, ◌+◌, ◌<◌, ◌≤◌, ◌==◌, ◌%◌, ◌^◌, min, max, Bool, List, [], ◌∷◌, refl, sym, ◌∙◌, ap, subst, arith, Option, Some, None}
+use Rattle.std.proofs.Common.{◌≡◌, ◌≢◌, inl, inr, ⊎_elim, ℕ, zero, suc, ◌+◌, ◌<◌, ◌≤◌, ◌==◌, ◌%◌, ◌^◌, min, max, Bool, List, [], ◌∷◌, refl, sym, ◌∙◌, ap, subst, arith, Option, Some, None}
 use Rattle.std.proofs.lemmas.{Bool.{eq-eqb, ne_eqb, cases_eq, cond-true, cond-false}, Option.same_Some}
 use Rattle.std.specs.{Prelude.slice_get, Option.option_map}
 use Rattle.mt_disk.specs.Disk.{DiskState}

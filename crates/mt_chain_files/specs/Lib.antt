@@ -6,3 +6,4 @@ pub mod Plain
 pub mod Chosen
 pub mod Lasts
 pub mod Turns
+pub mod Rereads

@@ -1,9 +1,10 @@
 //! Laws of the log files of a store, each the contract of a function that does nothing.
 
-ghost use Rattle.std.specs.{Prelude.{◌≡◌, ◌≢◌, ◌⊎◌, ◌+◌, ◌<◌, ◌≤◌, ℕ, List, length, map, Option, Some, None}, List.AllZip};
+ghost use Rattle.std.specs.{Prelude.{◌≡◌, ◌≢◌, ◌⊎◌, ◌+◌, ◌<◌, ◌≤◌, ℕ, Bool, true, List, length, map, Option, Some, None, slice_get}, List.AllZip};
 ghost use Rattle.mt_rows.specs.{Tenants.{Contents as Pairs}};
 ghost use Rattle.mt_rows.specs.declared.refusal.Refusal.TheVariants as refusals;
-ghost use Rattle.mt_log.specs.Contents.{contents_of};
+ghost use Rattle.mt_log.specs.{declared.batch.Front.Front, Contents.contents_of};
+ghost use Rattle.mt_chain_files.specs.Rereads.{reader_from, AreHonest, AllAreRead, PlainStay, ChainIsAhead};
 ghost use Rattle.mt_crashes.specs.{Histories.pairs_upto, Bases.Slots, Stores.{Store, LogNow, new_store, Leads, MayLeaveSlots}};
 ghost use Rattle.mt_generations.specs.Chains.{IsRecoveredOver};
 ghost use Rattle.mt_chains.specs.Files.{standing_of};
@@ -60,4 +61,22 @@ pub fn a_plain_file_that_was_given_up_is_no_log<D: Disk>()
         (e ≡ record { log = None; refusal = refusals.LogCount }) ⊎ (e ≡ record { log = None; refusal = refusals.Memory }) }
     ensures never_bad { (place : ℕ) (slots : Slots) (e : FilesFault) (old new : List (WorkerFiles D)) (number offset : ℕ) → IsGivenUpAt D.is_honest D.state D.failures place old →
         StopsAtPlain D.is_honest D.state D.failures slots e old new → e.log ≡ Some place → e.refusal ≢ refusals.BadLog number offset }
+{}
+
+/// What was opened stays opened when its logs are only read again. Of chains that begin at a numbered generation no plain file
+/// is read. Also if a reading fails, the files show what they showed.
+pub fn what_is_read_again_stays_opened<D: Disk>()
+    ensures opened { (slots : Slots) (old mid new : List (WorkerFiles D)) (chains : Chains) → AllAreRead D.is_honest D.state D.failures true mid new →
+        (0 < chains.generation → PlainStay mid new) → OpensChains D.is_honest D.state D.failures slots old mid chains →
+        OpensChains D.is_honest D.state D.failures slots old new chains }
+    ensures shows { (well : Bool) (files : List FilesNow) (old new : List (WorkerFiles D)) → AllAreRead D.is_honest D.state D.failures well old new →
+        AllZip (ShowFiles D.is_honest D.state) files old → AllZip (ShowFiles D.is_honest D.state) files new }
+{}
+
+/// Over disks that keep the rules each worker's chain can be read again whole: a reader that begins with it gives its batches.
+pub fn each_chain_can_be_read_again<D: Disk>()
+    ensures { (slots : Slots) (old new : List (WorkerFiles D)) (chains : Chains) → OpensChains D.is_honest D.state D.failures slots old new chains →
+        (k : ℕ) (front : Front) (files : WorkerFiles D) (begun : Bool) → slice_get chains.fronts.items k ≡ Some front → slice_get new k ≡ Some files →
+        slice_get chains.begun.items k ≡ Some begun → AreHonest D.is_honest files →
+        ChainIsAhead D.is_honest D.state (contents_of front).batches files (reader_from chains.generation (Some begun)) }
 {}

@@ -5,6 +5,7 @@
 #![tactic(auto)]
 
 mod begun;
+mod chain_reader;
 mod fault;
 mod headers;
 pub mod laws;
@@ -13,6 +14,7 @@ mod opening;
 mod plain;
 mod watching;
 
+pub use chain_reader::ChainReader;
 pub use fault::FilesFault;
 pub use headers::Told;
 pub use numbered::open_numbered_files;

@@ -9,7 +9,7 @@ use crate::fault::FilesFault;
 use crate::headers::{Told, first_counting, look_at_files};
 use crate::watching::Watch;
 use mt_chains::{WorkerLogs, choose};
-use mt_checkpoint::Checkpoint;
+use mt_checkpoint::SeenCheckpoint;
 use mt_disk::Disk;
 use mt_log::Front;
 use mt_log_files::{WorkerFiles, open_numbered};
@@ -28,7 +28,7 @@ use std::alloc::Global;
 pub fn open_numbered_files<D: Disk + Drop, W: Watch>(
     alloc: Global,
     files: &mut [WorkerFiles<D>],
-    checkpoints: &[Option<Checkpoint>],
+    checkpoints: &[Option<SeenCheckpoint>],
     watch: &mut W,
 ) -> Result<Vec<WorkerLogs>, FilesFault>
     requires { 0 < length files.old }
@@ -44,7 +44,7 @@ fn open_counting<D: Disk + Drop, W: Watch>(
     alloc: Global,
     files: &mut [WorkerFiles<D>],
     told: &[Told],
-    checkpoints: &[Option<Checkpoint>],
+    checkpoints: &[Option<SeenCheckpoint>],
     watch: &mut W,
 ) -> Result<Vec<WorkerLogs>, FilesFault>
     requires some { 0 < length files.old }

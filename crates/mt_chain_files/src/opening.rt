@@ -15,7 +15,7 @@ use crate::watching::Watch;
 use mt_chains::{
     WorkerLogs, are_owned, can_begin, chains_from, choose, first_apart, last_generation,
 };
-use mt_checkpoint::Checkpoint;
+use mt_checkpoint::SeenCheckpoint;
 use mt_disk::Disk;
 use mt_log::Front;
 use mt_log_files::WorkerFiles;
@@ -47,7 +47,7 @@ pub struct Chains {
 pub fn open_chains<D: Disk + Drop, W: Watch>(
     alloc: Global,
     files: &mut [WorkerFiles<D>],
-    checkpoints: &[Option<Checkpoint>; 2],
+    checkpoints: &[Option<SeenCheckpoint>; 2],
     watch: &mut W,
 ) -> Result<Chains, FilesFault>
     requires some { 0 < length files.old }
@@ -84,7 +84,7 @@ fn choose_from<D: Disk + Drop, W: Watch>(
     alloc: Global,
     files: &mut [WorkerFiles<D>],
     logs: &mut [WorkerLogs],
-    checkpoints: &[Option<Checkpoint>],
+    checkpoints: &[Option<SeenCheckpoint>],
     watch: &mut W,
 ) -> Result<u64, FilesFault>
     requires some { 0 < length logs.old }
@@ -104,7 +104,7 @@ fn read_plain<D: Disk + Drop, W: Watch>(
     alloc: Global,
     files: &mut [WorkerFiles<D>],
     logs: &mut [WorkerLogs],
-    checkpoints: &[Option<Checkpoint>],
+    checkpoints: &[Option<SeenCheckpoint>],
     watch: &mut W,
 ) -> Result<(), FilesFault>
     requires some { 0 < length logs.old }
@@ -121,7 +121,7 @@ fn read_plain<D: Disk + Drop, W: Watch>(
 }
 
 // Whether a recovery may have to begin at generation 0.
-fn need_plain(logs: &[WorkerLogs], checkpoints: &[Option<Checkpoint>]) -> bool
+fn need_plain(logs: &[WorkerLogs], checkpoints: &[Option<SeenCheckpoint>]) -> bool
     requires { 0 < length logs.now }
     ensures { IsTrue result ↔ NeedPlain (map standing_of logs.now) (map (option_map view_of) checkpoints.now) }
 {
@@ -133,7 +133,7 @@ fn need_plain(logs: &[WorkerLogs], checkpoints: &[Option<Checkpoint>]) -> bool
 
 // From which generation on the chains are, by what was read. Each log of a chain is of its worker. In each chain the next log
 // begins where the one before it ends, and no later one stands.
-fn choose_of(logs: &[WorkerLogs], checkpoints: &[Option<Checkpoint>]) -> Result<u64, FilesFault>
+fn choose_of(logs: &[WorkerLogs], checkpoints: &[Option<SeenCheckpoint>]) -> Result<u64, FilesFault>
     requires some { 0 < length logs.now }
     requires few { length logs.now ≤ 64 }
     ensures has { IfOk result (λ g. AllHave g (map standing_of logs.now)) }

@@ -8,12 +8,16 @@ ghost use Rattle.mt_chains.specs.{Files.standing_of, Testing.{is_first, covers, 
 
 use crate::ends::end_after;
 use crate::worker_logs::WorkerLogs;
-use mt_checkpoint::Checkpoint;
+use mt_checkpoint::SeenCheckpoint;
 use mt_log::{Front, LogBatch};
 
 /// Whether a recovery can begin at a generation. Each worker has a log of it, and some base may be used over the chains
 /// from there on: one of the checkpoints that were read of the slots, or nothing at all if all chains begin at step 0.
-pub fn can_begin(generation: u64, logs: &[WorkerLogs], checkpoints: &[Option<Checkpoint>]) -> bool
+pub fn can_begin(
+    generation: u64,
+    logs: &[WorkerLogs],
+    checkpoints: &[Option<SeenCheckpoint>],
+) -> bool
     ensures { IsTrue result ↔ CanBegin generation (map standing_of logs.now) (map (option_map view_of) checkpoints.now) }
 {
     all_first(generation, logs) || any_serves(generation, logs, checkpoints)
@@ -42,7 +46,7 @@ fn is_first(generation: u64, worker: &WorkerLogs) -> bool
 }
 
 // Whether one of the checkpoints may be used over the chains.
-fn any_serves(generation: u64, logs: &[WorkerLogs], checkpoints: &[Option<Checkpoint>]) -> bool
+fn any_serves(generation: u64, logs: &[WorkerLogs], checkpoints: &[Option<SeenCheckpoint>]) -> bool
     ensures { result ≡ any_serves generation (map standing_of logs.now) (map (option_map view_of) checkpoints.now) }
 {
     for slot in checkpoints {
@@ -54,11 +58,11 @@ fn any_serves(generation: u64, logs: &[WorkerLogs], checkpoints: &[Option<Checkp
 }
 
 // Whether the checkpoint of a slot may.
-fn slot_serves(generation: u64, logs: &[WorkerLogs], slot: &Option<Checkpoint>) -> bool
+fn slot_serves(generation: u64, logs: &[WorkerLogs], slot: &Option<SeenCheckpoint>) -> bool
     ensures { result ≡ slot_serves generation (map standing_of logs.now) (option_map view_of slot.now) }
 {
     match slot {
-        Some(checkpoint) => serves_all(generation, logs, checkpoint.first, checkpoint.last),
+        Some(checkpoint) => serves_all(generation, logs, checkpoint.first(), checkpoint.last()),
         None => false,
     }
 }

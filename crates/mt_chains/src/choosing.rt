@@ -8,12 +8,12 @@ ghost use Rattle.mt_chains.specs.Files.{standing_of};
 use crate::bases::can_begin;
 use crate::last::last_generation;
 use crate::worker_logs::WorkerLogs;
-use mt_checkpoint::Checkpoint;
+use mt_checkpoint::SeenCheckpoint;
 
 /// From which generation on a store is recovered, by what was read of its workers' files and of its checkpoints' slots.
 /// It is the last generation of which each worker has a log, if a recovery can begin there, or else the one before that.
 /// If it can begin at neither, there is none.
-pub fn choose(logs: &[WorkerLogs], checkpoints: &[Option<Checkpoint>]) -> Option<u64>
+pub fn choose(logs: &[WorkerLogs], checkpoints: &[Option<SeenCheckpoint>]) -> Option<u64>
     requires { 0 < length logs.now }
     ensures chosen { IfSome result (λ g. (chains : List Chain) → AreFrom g (map standing_of logs.now) chains → IsChosen (map standing_of logs.now) (map (option_map view_of) checkpoints.now) g chains) }
     ensures has { IfSome result (λ g. AllHave g (map standing_of logs.now)) }

@@ -36,17 +36,17 @@ fn add_chain(
 {
     let (first, next) = worker.into_logs(generation);
     if let Some(first) = first {
-        chains.push(with_next(alloc, first, next)?)?;
+        chains.push(with_next(first, next)?)?;
     }
     Ok(())
 }
 
 // A log with that of the next generation after it, if there is one.
-fn with_next(alloc: Global, first: Front, next: Option<Front>) -> Result<Front, AllocError>
+fn with_next(first: Front, next: Option<Front>) -> Result<Front, AllocError>
     ensures { IfOk result (λ chain. joined (Some (contents_of first)) (option_map contents_of next) ≡ Some (contents_of chain)) }
 {
     match next {
-        Some(next) => first.join(alloc, next),
+        Some(next) => first.join(next),
         None => Ok(first),
     }
 }

@@ -9,7 +9,7 @@ use Rattle.mt_digests.specs.{declared.file_digest.FileDigest.FileDigest, Digests
 use Rattle.mt_checkpoint.specs.{declared.slot.Writer.Writer, declared.fault.FaultCause.FaultCause, Format.{head_bytes, entry_bytes, last_bytes}}
 use Rattle.mt_checkpoint.specs.{Faults.CountsCause, Seen.HasSeen, Checkpoints.{IsWalk, walk_bytes, IsClosed, IsBehindGate, IsShutIn, IsStaged}}
 use Rattle.mt_checkpoint.specs.{Writes.{text_with, IsWriting, walk_with, Added}, Staging.{StopsOn, StagesWalk}}
-use Rattle.mt_checkpoint.proofs.{Crash.behind_gate, Behind.shut_of}
+use Rattle.mt_checkpoint.proofs.{Crash.behind_gate, Behind.shut_of, Rising.seen_walk}
 
 -- the text after pairs more
 more_text : (first : ℕ) (before pairs : List TenantPair) (block : Bytes) → block ≡ flat_map (entry_bytes 2) pairs → text_with first before ++ block ≡ text_with first (before ++ pairs)
@@ -122,13 +122,7 @@ module _ {D : Type 0} (is_honest : D → Bool) (state : D → DiskState) (failur
         λ i. record { len = len i; sha256 = hash i }
 
     walk_so : IsTrue (is_honest old.disk) → (pairs : List TenantPair) → IsWriting is_honest state failures pairs old → IsWalk (walk_with is_honest state failures old last pairs)
-    walk_so honest pairs is = record {
-      order = w.order;
-      end = w.least;
-      each = is.seen.each;
-      rising = is.seen.rising;
-      stamps = λ i p at. (let upto = is.seen.covers i p at in omega (arith, upto, w.stamps));
-    }
+    walk_so honest pairs is = seen_walk old.first last pairs old.seen is.seen w.order w.least w.stamps
 
     pub stages_so : (new : Writer D) → (IsTrue (is_honest old.disk) → state new.disk ≡ state mid.disk) → GoesOnBehind old new → failures new.disk ≡ failures old.disk
         → StagesWalk is_honest state failures old last new digest

@@ -1,9 +1,9 @@
 -- Pairs that rise after others.
-use Rattle.std.proofs.Common.{◌≡◌, ◌⊎◌, inl, inr, ℕ, zero, suc, ◌+◌, ◌-◌, ◌<◌, ◌≤◌, true, false, IsTrue, List, [], ◌∷◌, ◌++◌, length, get_or, Option, Some, None, refl, sym, ◌∙◌, ap, subst, arith, length-append}
+use Rattle.std.proofs.Common.{◌≡◌, ◌⊎◌, inl, inr, ℕ, zero, suc, ◌+◌, ◌-◌, ◌^◌, ◌<◌, ◌≤◌, true, false, IsTrue, List, [], ◌∷◌, ◌++◌, length, get_or, Option, Some, None, refl, sym, ◌∙◌, ap, subst, arith, length-append}
 use Rattle.std.proofs.lemmas.{Bool.{cases_lt, true≢false}, Option.{same_Some, none-some}, List.append-nil}
 use Rattle.std.specs.{Prelude.◌==◌, Option.option_map, List.{slice_get, AllByRecursion}}
 use Rattle.mt_rows.specs.{TenantPairs.{owner_of, AreStampedUpto}, Rows.Bytes, declared.record.TenantPair.TenantPair}
-use Rattle.mt_checkpoint.specs.{Checkpoints.{IsPair, IsBefore, Rise}, Seen.{last_owner, Follows, HasSeen}, declared.seen.SeenPairs.SeenPairs}
+use Rattle.mt_checkpoint.specs.{Checkpoints.{IsPair, IsBefore, Rise, IsWalk}, Seen.{last_owner, Follows, HasSeen}, declared.seen.SeenPairs.SeenPairs}
 
 -- ---- places in two lists
 
@@ -53,6 +53,9 @@ rise_on before pairs rise on i p q here there = by (cases_lt (i + 1) (length bef
         on.rising (i - length before) p q (sym (get_behind before pairs i (i - length before) (omega (arith, behind))) ∙ here)
         (sym (get_behind before pairs (i + 1) (i - length before + 1) (omega (arith, behind))) ∙ there)
 
+pub rise_front : (before pairs : List TenantPair) → Rise (before ++ pairs) → Rise before
+rise_front before pairs rise i p q here there = rise i p q (get_front before pairs i (within before i p here) ∙ here) (get_front before pairs (i + 1) (within before (i + 1) q there) ∙ there)
+
 pub rises_on : (before pairs : List TenantPair) → Rise (before ++ pairs) → RisesOn before pairs
 rises_on before pairs rise = record {
   rising = λ i p q here there. rise (length before + i) p q (get_behind before pairs (length before + i) i refl ∙ here)
@@ -98,6 +101,17 @@ seen_more before pairs old new seen on takes = record {
         let upto = seen.covers i p (sym (get_front before pairs i lt) ∙ at) in
         omega (arith, upto, takes.more)
     covers i p (inr le) at = takes.covers (i - length before) p (sym (get_behind before pairs i (i - length before) (omega (arith, le))) ∙ at)
+
+-- pairs that were seen are a walk's, if it may end so
+pub seen_walk : (first last : ℕ) (pairs : List TenantPair) (seen : SeenPairs) → HasSeen pairs seen → first ≤ last → last ≤ 2 ^ 59 → seen.greatest ≤ last
+    → IsWalk (record { first = first; last = last; pairs = pairs })
+seen_walk first last pairs seen has order end stamps = record {
+  order = order;
+  end = end;
+  each = has.each;
+  rising = has.rising;
+  stamps = λ i p at. (let upto = has.covers i p at in omega (arith, upto, stamps));
+}
 
 -- ---- what the tests of `take` tell
 

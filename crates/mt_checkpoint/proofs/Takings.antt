@@ -7,8 +7,9 @@ use Rattle.mt_disk.specs.Disk.{DiskState}
 use Rattle.mt_fields.proofs.FieldLaws.{IsBytes}
 use Rattle.mt_checkpoint.specs.{declared.reader.Head.Head, declared.reader.Item.Item, declared.reader.Item.TheVariants.{Pair, Last}, declared.reader.Stop.Stop}
 use Rattle.mt_checkpoint.specs.Format.{head_bytes, entry_bytes, last_bytes}
-use Rattle.mt_checkpoint.specs.Reading.{IsEntry, item_bytes, item_at, IsHead, HasNoHead, HasNoItem, HasTaken, StopsAt, AreTaken, Takes, IsHeadIn, IsEndIn, OfImage}
-use Rattle.mt_checkpoint.proofs.ItemLaws.{item_takes, item_again, item_few}
+use Rattle.mt_checkpoint.specs.Reading.{IsEntry, item_bytes, item_at, IsHead, HasNoHead, HasNoItem, HasTaken, StopsAt, AreTaken, Takes}
+use Rattle.mt_checkpoint.specs.Windows.{OfImage, IsHeadIn, StandBefore, StandsAfter}
+use Rattle.mt_checkpoint.proofs.{ItemLaws.{item_takes, item_again, item_few}, Walks.no_end}
 use Rattle.mt_checkpoint.specs.declared.reader.Stop.TheVariants as stops
 
 -- ---- items
@@ -17,7 +18,7 @@ each_more : (head : Head) (ps : List TenantPair) (p : TenantPair) → AllByRecur
 each_more head [] p each is = (is, tt)
 each_more head (q ∷ ps) p each is = (each.0, each_more head ps p each.1 is)
 
-each_joined : (head : Head) (ps qs : List TenantPair) → AllByRecursion (IsEntry head) ps → AllByRecursion (IsEntry head) qs → AllByRecursion (IsEntry head) (ps ++ qs)
+pub each_joined : (head : Head) (ps qs : List TenantPair) → AllByRecursion (IsEntry head) ps → AllByRecursion (IsEntry head) qs → AllByRecursion (IsEntry head) (ps ++ qs)
 each_joined head [] qs each more = more
 each_joined head (p ∷ ps) qs each more = (each.0, each_joined head ps qs each.1 more)
 
@@ -34,24 +35,23 @@ shorter head rest x after small fits read =
 pub after_fits : (head : Head) (rest : Bytes) (x : Item) (after : Bytes) → head.first < 2 ^ 64 → IsBytes rest → item_at head rest ≡ Some (x, after) → IsBytes after
 after_fits head rest x after small fits read = (item_takes head rest (x, after) small fits read).0.rest_fits
 
-module _ (head : Head) (small : head.first < 2 ^ 64) (window : Bytes) (old now : List TenantPair) (rest : Bytes) (fits : IsBytes rest) (has : HasTaken head window old now rest) where
+module _ (head : Head) (small : head.first < 2 ^ 64) (window : Bytes) (now : List TenantPair) (rest : Bytes) (fits : IsBytes rest) (has : HasTaken head window now rest) where
   -- one pair more
-  pub taken_more : (p : TenantPair) (after : Bytes) (next : List TenantPair) → item_at head rest ≡ Some (Pair p, after) → next ≡ now ++ p ∷ [] → HasTaken head window old next after
+  pub taken_more : (p : TenantPair) (after : Bytes) (next : List TenantPair) → item_at head rest ≡ Some (Pair p, after) → next ≡ now ++ p ∷ [] → HasTaken head window next after
   taken_more p after next read pushed =
       let t = item_takes head rest (Pair p, after) small fits read in
       record {
-        pairs = has.pairs ++ p ∷ [];
-        more = pushed ∙ ap (λ (l : List TenantPair). l ++ p ∷ []) has.more ∙ append_assoc old has.pairs (p ∷ []);
-        each = each_more head has.pairs p has.each t.1;
+        each = subst (AllByRecursion (IsEntry head)) (sym pushed) (each_more head now p has.each t.1);
         parts =
-            has.parts ∙ ap (λ (l : Bytes). flat_map (entry_bytes head.version) has.pairs ++ l) t.0.parts
-            ∙ sym (append_assoc (flat_map (entry_bytes head.version) has.pairs) (entry_bytes head.version p) after)
-            ∙ ap (λ (l : Bytes). l ++ after) (flat_map_more (entry_bytes head.version) [] has.pairs p);
+            has.parts ∙ ap (λ (l : Bytes). flat_map (entry_bytes head.version) now ++ l) t.0.parts
+            ∙ sym (append_assoc (flat_map (entry_bytes head.version) now) (entry_bytes head.version p) after)
+            ∙ ap (λ (l : Bytes). l ++ after) (flat_map_more (entry_bytes head.version) [] now p)
+            ∙ ap (λ (ps : List TenantPair). flat_map (entry_bytes head.version) ps ++ after) (sym pushed);
       }
 
   module _ (used : ℕ) (is : used ≡ length window - length rest) where
     abbrev front : Bytes
-    front = flat_map (entry_bytes head.version) has.pairs
+    front = flat_map (entry_bytes head.version) now
 
     used_is : used ≡ length front
     used_is = omega (arith, is, ap length has.parts, length-append front rest)
@@ -67,22 +67,18 @@ module _ (head : Head) (small : head.first < 2 ^ 64) (window : Bytes) (old now :
     parts : (behind : Bytes) → window ++ behind ≡ front ++ drop used (window ++ behind)
     parts behind = ap (λ (l : Bytes). l ++ behind) has.parts ∙ append_assoc front rest behind ∙ ap (λ (l : Bytes). front ++ l) (sym (left behind))
 
-    pub stops_more : (whole : Bool) → (whole ≡ true → ⊥) → length rest < 16683 → Takes head window whole old now used stops.More
+    pub stops_more : (whole : Bool) → (whole ≡ true → ⊥) → length rest < 16683 → Takes head window whole now used stops.More
     stops_more whole not_whole few = record {
-      pairs = has.pairs;
-      more = has.more;
       each = has.each;
       within = within;
       some = λ e. (not_whole, omega (arith, few, is, ap length has.parts, length-append front rest));
       told = λ behind at. record { parts = parts behind; stops = tt };
     }
 
-    pub stops_last : (whole : Bool) (n : ℕ) (after : Bytes) → item_at head rest ≡ Some (Last n, after) → Takes head window whole old now used (stops.Last n)
+    pub stops_last : (whole : Bool) (n : ℕ) (after : Bytes) → item_at head rest ≡ Some (Last n, after) → Takes head window whole now used (stops.Last n)
     stops_last whole n after read =
         let t = item_takes head rest (Last n, after) small fits read in
         record {
-          pairs = has.pairs;
-          more = has.more;
           each = has.each;
           within = within;
           some = λ e. absurd cc;
@@ -108,10 +104,8 @@ module _ (head : Head) (small : head.first < 2 ^ 64) (window : Bytes) (old now :
         let read : Some made ≡ None = sym (item_again head x (drop size rest) is_x) ∙ ap (item_at head) (sym here) ∙ none in
         absurd cc
 
-    pub stops_bad : (whole : Bool) → item_at head rest ≡ None → ((whole ≡ true) ⊎ (16683 ≤ length rest)) → Takes head window whole old now used stops.Bad
+    pub stops_bad : (whole : Bool) → item_at head rest ≡ None → ((whole ≡ true) ⊎ (16683 ≤ length rest)) → Takes head window whole now used stops.Bad
     stops_bad whole none far = record {
-      pairs = has.pairs;
-      more = has.more;
       each = has.each;
       within = within;
       some = λ e. absurd cc;
@@ -140,18 +134,14 @@ head_window image w (Some head) is some none =
 
 -- ---- windows of entries
 
--- entries so far, and where the next ones stand
-pub record StandBefore (head : Head) (place : ℕ) (image : Bytes) (pairs : List TenantPair) : Type 0 where
-  pub parts : drop 15 image ≡ flat_map (entry_bytes head.version) pairs ++ drop place image
-
 flat_joined : (entry : TenantPair → Bytes) (ps qs : List TenantPair) (rest : Bytes) → flat_map entry ps ++ (flat_map entry qs ++ rest) ≡ flat_map entry (ps ++ qs) ++ rest
 flat_joined entry [] qs rest = refl
 flat_joined entry (p ∷ ps) qs rest =
     append_assoc (entry p) (flat_map entry ps) (flat_map entry qs ++ rest) ∙ ap (λ (l : Bytes). entry p ++ l) (flat_joined entry ps qs rest)
     ∙ sym (append_assoc (entry p) (flat_map entry (ps ++ qs)) rest)
 
-module _ (head : Head) (image : Bytes) (place count : ℕ) (window : Bytes) (old : List TenantPair) (window_is : window ≡ take count (drop place image)) (stand : StandBefore head place image old)
-    (whole : Bool) (ends : whole ≡ true → length window ≡ length (drop place image)) (new : List TenantPair) (used : ℕ) (stop : Stop) (taken : Takes head window whole old new used stop) where
+module _ (head : Head) (image : Bytes) (place count : ℕ) (window : Bytes) (before : List TenantPair) (window_is : window ≡ take count (drop place image)) (stand : StandBefore head place image before)
+    (whole : Bool) (ends : whole ≡ true → length window ≡ length (drop place image)) (pairs : List TenantPair) (used : ℕ) (stop : Stop) (taken : Takes head window whole pairs used stop) where
   abbrev behind : Bytes
   behind = drop count (drop place image)
 
@@ -168,34 +158,28 @@ module _ (head : Head) (image : Bytes) (place count : ℕ) (window : Bytes) (old
       none [] zero = refl
       none (b ∷ bytes) zero = absurd (omega (arith, zero))
 
-  at : AreTaken head (window ++ behind) taken.pairs used stop
+  at : AreTaken head (window ++ behind) pairs used stop
   at = taken.told behind nothing
 
   rest_is : drop used (window ++ behind) ≡ drop (place + used) image
   rest_is = ap (λ (l : Bytes). drop used l) (sym text_is) ∙ drop-drop used place image
 
-  pub stands_on : StandBefore head (place + used) image new
+  -- they stand after those before
+  pub stands_on : StandBefore head (place + used) image (before ++ pairs)
   stands_on = record {
     parts =
-        stand.parts ∙ ap (λ (l : Bytes). flat_map (entry_bytes head.version) old ++ l) (text_is ∙ at.parts ∙ ap (λ (l : Bytes). flat_map (entry_bytes head.version) taken.pairs ++ l) rest_is)
-        ∙ flat_joined (entry_bytes head.version) old taken.pairs (drop (place + used) image)
-        ∙ ap (λ (ps : List TenantPair). flat_map (entry_bytes head.version) ps ++ drop (place + used) image) (sym taken.more);
+        stand.parts ∙ ap (λ (l : Bytes). flat_map (entry_bytes head.version) before ++ l) (text_is ∙ at.parts ∙ ap (λ (l : Bytes). flat_map (entry_bytes head.version) pairs ++ l) rest_is)
+        ∙ flat_joined (entry_bytes head.version) before pairs (drop (place + used) image);
   }
 
-  pub ends_last : (n : ℕ) → stop ≡ stops.Last n → IsEndIn head image new (Some n)
-  ends_last n e =
-      let s = subst (StopsAt head (drop used (window ++ behind))) e at.stops in
-      (s.0, (s.1.0, stands_on.parts ∙ ap (λ (l : Bytes). flat_map (entry_bytes head.version) new ++ l) (sym rest_is ∙ s.1.1)))
-
-  pub ends_bad : stop ≡ stops.Bad → IsEndIn head image new None
-  ends_bad e =
-      let s = subst (StopsAt head (drop used (window ++ behind))) e at.stops in
-      (drop (place + used) image, stands_on.parts, subst (HasNoItem head) rest_is s)
-
--- and of any disk
-pub each_taken : (head : Head) (window : Bytes) (whole : Bool) (old new : List TenantPair) (used : ℕ) (stop : Stop) → Takes head window whole old new used stop → AllByRecursion (IsEntry head) old → AllByRecursion (IsEntry head) new
-each_taken head window whole old new used stop taken each =
-    subst (AllByRecursion (IsEntry head)) (sym taken.more) (each_joined head old taken.pairs each taken.each)
+  -- and this follows them
+  pub stands_after : AllByRecursion (IsEntry head) before → StandsAfter head (place + used) image (before ++ pairs) stop
+  stands_after each = by stop (subst (λ (l : Bytes). StopsAt head l stop) rest_is at.stops)
+    where
+      by : (stop : Stop) → StopsAt head (drop (place + used) image) stop → StandsAfter head (place + used) image (before ++ pairs) stop
+      by stops.More s = stands_on
+      by (stops.Last n) s = (s.0, (s.1.0, stands_on.parts ∙ ap (λ (l : Bytes). flat_map (entry_bytes head.version) (before ++ pairs) ++ l) s.1.1))
+      by stops.Bad s = λ at. no_end image head at (before ++ pairs) (each_joined head before pairs each taken.each) (drop (place + used) image) stands_on.parts s
 
 -- the image of a disk that was only read
 pub of_same : {D : Type 0} (is_honest : D → Bool) (state : D → DiskState) (old : D) (len : ℕ) (new : D) → (IsTrue (is_honest old) → state new ≡ state old) → is_honest new ≡ is_honest old

@@ -1,13 +1,13 @@
 -- A file has one checkpoint at most; and what was read of it is that.
 use Rattle.std.proofs.Common.{◌≡◌, ℕ, ◌^◌, ◌<◌, ◌≤◌, List, [], ◌∷◌, ◌++◌, drop, get_or, Some, None, refl, sym, ap, subst, ◌∙◌, append_assoc, arith}
-use Rattle.std.proofs.lemmas.Option.{same_Some}
+use Rattle.std.proofs.lemmas.{Option.same_Some, List.append-nil}
 use Rattle.std.specs.{Int.{w64, to_be_bytes}, List.{flat_map, AllByRecursion}}
-use Rattle.mt_rows.specs.{Rows.Bytes, declared.record.TenantPair.TenantPair, TenantPairs.AreStampedUpto}
+use Rattle.mt_rows.specs.{Rows.Bytes, declared.record.TenantPair.TenantPair}
 use Rattle.mt_fields.{proofs.FieldLaws.{wide64, number_again}, specs.Reading.number_at}
 use Rattle.mt_checkpoint.specs.{declared.reader.Head.Head, declared.reader.Item.Item, declared.reader.Item.TheVariants.{Pair, Last}}
 use Rattle.mt_checkpoint.specs.{Format.{head_bytes, entry_bytes, last_bytes}, Checkpoints.{IsPair, Walk, Rise, IsWalk, HasWalk, HasNone}}
-use Rattle.mt_checkpoint.specs.Reading.{IsEntry, item_bytes, IsItem, item_at, IsHead, HasNoItem, IsHeadIn, IsEndIn}
-use Rattle.mt_checkpoint.proofs.ItemLaws.{item_again}
+use Rattle.mt_checkpoint.specs.{declared.seen.SeenPairs.SeenPairs, Reading.{IsEntry, item_bytes, IsItem, item_at, IsHead, HasNoItem}, Windows.{IsHeadIn, StandWhole, AreEntries}}
+use Rattle.mt_checkpoint.proofs.{ItemLaws.item_again, Rising.rise_front}
 
 -- ---- entries
 
@@ -46,29 +46,39 @@ module _ (head : Head) where
   regroup : (p : TenantPair) (ps : List TenantPair) (rest : Bytes) → text_of (p ∷ ps) ++ rest ≡ item_bytes head (Pair p) ++ (text_of ps ++ rest)
   regroup p ps rest = append_assoc (entry_bytes head.version p) (text_of ps) rest
 
+  -- what is read of entries before a last entry is the first of them
+  pub begin_so : (ps qs : List TenantPair) (n : ℕ) (rest b : Bytes) → AllByRecursion (IsEntry head) ps → AllByRecursion (IsEntry head) qs → n < 2 ^ 64
+      → text_of ps ++ rest ≡ text_of qs ++ (last_bytes n ++ b) → (more : List TenantPair) × (qs ≡ ps ++ more) × AllByRecursion (IsEntry head) more × (rest ≡ text_of more ++ (last_bytes n ++ b))
+  begin_so [] qs n rest b each_p each_q small e = (qs, refl, each_q, e)
+  begin_so (p ∷ ps) [] n rest b each_p each_q small e = absurd (omega (arith, ap {B = ℕ} (λ (l : Bytes). get_or l 0 0) e))
+  begin_so (p ∷ ps) (q ∷ qs) n rest b each_p each_q small e =
+      let parts = one_item head (Pair p) (Pair q) (text_of ps ++ rest) (text_of qs ++ (last_bytes n ++ b)) each_p.0 each_q.0
+      (sym (regroup p ps rest) ∙ e ∙ regroup q qs (last_bytes n ++ b)) in
+      let same : q ≡ p = ap (pair_of p) (sym parts.0) in
+      let after = begin_so ps qs n rest b each_p.1 each_q.1 small parts.1 in
+      (after.0, (λ i. same i ∷ after.1 i), after.2, after.3)
+
   -- entries before a last entry are these alone
   pub once : (ps qs : List TenantPair) (m n : ℕ) (a b : Bytes) → AllByRecursion (IsEntry head) ps → AllByRecursion (IsEntry head) qs → m < 2 ^ 64 → n < 2 ^ 64
       → text_of ps ++ (last_bytes m ++ a) ≡ text_of qs ++ (last_bytes n ++ b) → (ps ≡ qs) × (m ≡ n)
-  once [] [] m n a b each_p each_q small_m small_n e = (refl, ap number_of (one_item head (Last m) (Last n) a b small_m small_n e).0)
-  once [] (q ∷ qs) m n a b each_p each_q small_m small_n e = absurd (omega (arith, ap {B = ℕ} (λ (l : Bytes). get_or l 0 0) e))
-  once (p ∷ ps) [] m n a b each_p each_q small_m small_n e = absurd (omega (arith, ap {B = ℕ} (λ (l : Bytes). get_or l 0 0) e))
-  once (p ∷ ps) (q ∷ qs) m n a b each_p each_q small_m small_n e =
-      let parts = one_item head (Pair p) (Pair q) (text_of ps ++ (last_bytes m ++ a)) (text_of qs ++ (last_bytes n ++ b)) each_p.0 each_q.0
-      (sym (regroup p ps (last_bytes m ++ a)) ∙ e ∙ regroup q qs (last_bytes n ++ b)) in
-      let same : p ≡ q = ap (pair_of p) parts.0 in
-      let rest = once ps qs m n a b each_p.1 each_q.1 small_m small_n parts.1 in
-      ((λ i. same i ∷ rest.0 i), rest.1)
+  once ps qs m n a b each_p each_q small_m small_n e =
+      let after = begin_so ps qs n (last_bytes m ++ a) b each_p each_q small_n e in
+      by after.0 after.1 after.3
+    where
+      by : (more : List TenantPair) → qs ≡ ps ++ more → last_bytes m ++ a ≡ text_of more ++ (last_bytes n ++ b) → (ps ≡ qs) × (m ≡ n)
+      by [] is e = (sym (is ∙ append-nil ps), ap number_of (one_item head (Last m) (Last n) a b small_m small_n e).0)
+      by (q ∷ more) is e = absurd (omega (arith, ap {B = ℕ} (λ (l : Bytes). get_or l 0 0) e))
 
   -- and none stand there where neither an entry nor a last one comes after some
   pub clash : (ps qs : List TenantPair) (n : ℕ) (rest b : Bytes) → AllByRecursion (IsEntry head) ps → AllByRecursion (IsEntry head) qs → n < 2 ^ 64 → HasNoItem head rest
       → text_of ps ++ rest ≡ text_of qs ++ (last_bytes n ++ b) → ⊥
-  clash [] [] n rest b each_p each_q small bad e = bad (Last n) b small e
-  clash [] (q ∷ qs) n rest b each_p each_q small bad e = bad (Pair q) (text_of qs ++ (last_bytes n ++ b)) each_q.0 (e ∙ regroup q qs (last_bytes n ++ b))
-  clash (p ∷ ps) [] n rest b each_p each_q small bad e = omega (arith, ap {B = ℕ} (λ (l : Bytes). get_or l 0 0) e)
-  clash (p ∷ ps) (q ∷ qs) n rest b each_p each_q small bad e =
-      let parts = one_item head (Pair p) (Pair q) (text_of ps ++ rest) (text_of qs ++ (last_bytes n ++ b)) each_p.0 each_q.0
-      (sym (regroup p ps rest) ∙ e ∙ regroup q qs (last_bytes n ++ b)) in
-      clash ps qs n rest b each_p.1 each_q.1 small bad parts.1
+  clash ps qs n rest b each_p each_q small bad e =
+      let after = begin_so ps qs n rest b each_p each_q small e in
+      by after.0 after.2 after.3
+    where
+      by : (more : List TenantPair) → AllByRecursion (IsEntry head) more → rest ≡ text_of more ++ (last_bytes n ++ b) → ⊥
+      by [] each e = bad (Last n) b small e
+      by (q ∷ more) each e = bad (Pair q) (text_of more ++ (last_bytes n ++ b)) each.0 (e ∙ regroup q more (last_bytes n ++ b))
 
 -- ---- heads
 
@@ -153,12 +163,19 @@ module _ (image : Bytes) where
     rest = drop 15 image
 
     -- entries without an end
-    pub no_end : IsEndIn head image pairs None → HasNone image
-    no_end stop w has =
-        clash head pairs w.pairs w.last stop.0 has.behind each (entries_after image head at.0.first rest at.1 w has) (small_ends w has.is).1 stop.2
-        (sym stop.1 ∙ after_head image head at.0.first rest at.1 w has)
+    pub no_end : (after : Bytes) → rest ≡ flat_map (entry_bytes head.version) pairs ++ after → HasNoItem head after → HasNone image
+    no_end after parts bad w has =
+        clash head pairs w.pairs w.last after has.behind each (entries_after image head at.0.first rest at.1 w has) (small_ends w has.is).1 bad
+        (sym parts ∙ after_head image head at.0.first rest at.1 w has)
 
-    module _ (last : ℕ) (end : IsEndIn head image pairs (Some last)) where
+    -- entries that don't rise
+    pub no_rise : (after : Bytes) → rest ≡ flat_map (entry_bytes head.version) pairs ++ after → (Rise pairs → ⊥) → HasNone image
+    no_rise after parts wrong w has =
+        let whole = begin_so head pairs w.pairs w.last after has.behind each (entries_after image head at.0.first rest at.1 w has) (small_ends w has.is).1
+        (sym parts ∙ after_head image head at.0.first rest at.1 w has) in
+        wrong (rise_front pairs whole.0 (subst Rise whole.1 has.is.rising))
+
+    module _ (last : ℕ) (end : StandWhole head image pairs last) where
       abbrev pub read : Walk
       read = record { first = head.first; last = last; pairs = pairs }
 
@@ -184,8 +201,8 @@ module _ (image : Bytes) where
                 ∙ sym (append_assoc (head_text head) (entries ++ last_bytes last) end.1.0));
           }
 
-      -- or none, if its steps or its pairs don't rise, or a stamp is over its last step
-      pub not_this : ((head.first ≤ last) × (last ≤ 2 ^ 59) × Rise pairs × AreStampedUpto last pairs → ⊥) → HasNone image
-      not_this wrong w has =
+      -- or none, if it may not end so
+      pub not_this : (seen : SeenPairs) → AreEntries head pairs seen → ((head.first ≤ last) × (last ≤ 2 ^ 59) × (seen.greatest ≤ last) → ⊥) → HasNone image
+      not_this seen are wrong w has =
           let is : IsWalk read = subst IsWalk (sym (only_this w has)) has.is in
-          wrong (is.order, is.end, is.rising, is.stamps)
+          wrong (is.order, is.end, are.has_seen.least last is.stamps)

@@ -34,6 +34,11 @@ pub record IsWalk (w : Walk) : Type 0 where
   pub rising : Rise w.pairs
   pub stamps : AreStampedUpto w.last w.pairs
 
+-- if there is one
+abbrev pub IsWalkOrNone : Option Walk → Type 0
+IsWalkOrNone None = Unit {0}
+IsWalkOrNone (Some w) = IsWalk w
+
 -- what a checkpoint says
 abbrev pub walk_of : Checkpoint → Walk
 walk_of c = record { first = c.first; last = c.last; pairs = c.pairs.items }

@@ -1,13 +1,12 @@
 -- Reading the items of a checkpoint from left to right: for the functions that do it, whose callers see the spellings alone.
-use Rattle.std.specs.Prelude.{◌≡◌, ℕ, ◌+◌, ◌-◌, ◌^◌, ◌<◌, ◌≤◌, min, ◌==◌, Bool, true, IsTrue, List, [], ◌∷◌, ◌++◌, length, take, drop, Option, Some, None, if◌then◌else◌, Vec}
-use Rattle.std.specs.{Int.{w32, w64}, List.{flat_map, AllByRecursion}, declared.alloc.Global.Global}
+use Rattle.std.specs.Prelude.{◌≡◌, ℕ, ◌+◌, ◌^◌, ◌<◌, ◌≤◌, ◌==◌, Bool, true, List, [], ◌++◌, length, drop, Option, Some, None, if◌then◌else◌}
+use Rattle.std.specs.{Int.{w32, w64}, List.{flat_map, AllByRecursion}}
 use Rattle.mt_rows.specs.{Rows.{Bytes, Columns}, declared.record.TenantPair.TenantPair}
-use Rattle.mt_disk.specs.Disk.{DiskState}
 use Rattle.mt_fields.specs.Reading.{◌>>=◌, byte_at, number_at}
 use Rattle.mt_row_fields.specs.Reading.{row_at, key_at}
-use Rattle.mt_checkpoint.specs.{declared.checkpoint.Checkpoint.Checkpoint, declared.reader.Head.Head, declared.reader.Item.Item, declared.reader.Item.TheVariants.{Pair, Last}}
+use Rattle.mt_checkpoint.specs.{declared.reader.Head.Head, declared.reader.Item.Item, declared.reader.Item.TheVariants.{Pair, Last}}
 use Rattle.mt_checkpoint.specs.{declared.reader.Stop.Stop, Format.{IsVersion, head_bytes, entry_bytes, last_bytes}}
-use Rattle.mt_checkpoint.specs.Checkpoints.{IsPair, IsWalk, walk_of, HasWalk, HasNone}
+use Rattle.mt_checkpoint.specs.Checkpoints.{IsPair}
 use Rattle.mt_checkpoint.specs.declared.reader.Stop.TheVariants as stops
 
 -- a pair that an entry after this head tells: in format 1 its stamp is the number of steps before the walk
@@ -75,10 +74,8 @@ StopsAt head rest stops.More = Unit {0}
 StopsAt head rest (stops.Last last) = (last < 2 ^ 64) × ((more : Bytes) × (rest ≡ last_bytes last ++ more))
 StopsAt head rest stops.Bad = HasNoItem head rest
 
--- pairs were taken from a window, after those that were there, and this is left of it
-pub record HasTaken (head : Head) (window : Bytes) (old new : List TenantPair) (rest : Bytes) : Type 0 where
-  pub pairs : List TenantPair
-  pub more : new ≡ old ++ pairs
+-- pairs were taken from a window, and this is left of it
+pub record HasTaken (head : Head) (window : Bytes) (pairs : List TenantPair) (rest : Bytes) : Type 0 where
   pub each : AllByRecursion (IsEntry head) pairs
   pub parts : window ≡ flat_map (entry_bytes head.version) pairs ++ rest
 
@@ -87,35 +84,9 @@ pub record AreTaken (head : Head) (text : Bytes) (pairs : List TenantPair) (used
   pub parts : text ≡ flat_map (entry_bytes head.version) pairs ++ drop used text
   pub stops : StopsAt head (drop used text) stop
 
--- what a window gives: pairs after those that were there
-pub record Takes (head : Head) (window : Bytes) (whole : Bool) (old new : List TenantPair) (used : ℕ) (stop : Stop) : Type 0 where
-  pub pairs : List TenantPair
-  pub more : new ≡ old ++ pairs
+-- what a window gives: its pairs, how many bytes they have, and what follows them
+pub record Takes (head : Head) (window : Bytes) (whole : Bool) (pairs : List TenantPair) (used : ℕ) (stop : Stop) : Type 0 where
   pub each : AllByRecursion (IsEntry head) pairs
   pub within : used ≤ length window
   pub some : stop ≡ stops.More → (whole ≡ true → ⊥) × (length window < used + 16683)
   pub told : (behind : Bytes) → (whole ≡ true → behind ≡ []) → AreTaken head (window ++ behind) pairs used stop
-
--- over an honest disk with a file of this length: its image has P
-abbrev pub OfImage : {D : Type 0} → (D → Bool) → (D → DiskState) → D → ℕ → (Bytes → Type 0) → Type 0
-OfImage is_honest state disk len P = IsTrue (is_honest disk) → len ≡ length (state disk).image → P (state disk).image
-
--- what was read from a place on, up to so many bytes
-pub record IsWindow {D : Type 0} (is_honest : D → Bool) (state : D → DiskState) (disk : D) (len place count : ℕ) (bytes : Vec ℕ Global) : Type 0 where
-  pub size : length bytes.items ≡ min count (len - place)
-  pub told : OfImage is_honest state disk len (λ image. bytes.items ≡ take count (drop place image))
-
--- the head of a file, after its gate
-abbrev pub IsHeadIn : Bytes → Option Head → Type 0
-IsHeadIn image None = HasNoHead (drop 1 image)
-IsHeadIn image (Some head) = IsHead head × (drop 1 image ≡ head_bytes head.version head.first ++ drop 15 image)
-
--- all entries after this head, and the last entry; or no such
-abbrev pub IsEndIn : Head → Bytes → List TenantPair → Option ℕ → Type 0
-IsEndIn head image pairs None = (rest : Bytes) × (drop 15 image ≡ flat_map (entry_bytes head.version) pairs ++ rest) × HasNoItem head rest
-IsEndIn head image pairs (Some last) = (last < 2 ^ 64) × ((more : Bytes) × (drop 15 image ≡ flat_map (entry_bytes head.version) pairs ++ (last_bytes last ++ more)))
-
--- what was read after an open gate: a checkpoint in the format, which over an honest disk is the file's; or there is none
-abbrev pub IsReadOpen : {D : Type 0} → (D → Bool) → (D → DiskState) → D → ℕ → Option Checkpoint → Type 0
-IsReadOpen is_honest state disk len None = OfImage is_honest state disk len (λ image. (behind : Bytes) → image ≡ 1 ∷ behind → HasNone image)
-IsReadOpen is_honest state disk len (Some c) = IsWalk (walk_of c) × OfImage is_honest state disk len (λ image. (behind : Bytes) → image ≡ 1 ∷ behind → HasWalk (walk_of c) image)

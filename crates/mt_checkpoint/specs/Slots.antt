@@ -3,7 +3,7 @@ use Rattle.std.specs.{Prelude.{◌≡◌, ◌⊎◌, ℕ, ◌≤◌, Bool, IsTru
 use Rattle.std.specs.List.{slice_get}
 use Rattle.mt_disk.specs.Disk.{DiskState, LeavesOnly, IsDurable, GoesUp, synced}
 use Rattle.mt_checkpoint.specs.{declared.checkpoint.Checkpoint.Checkpoint, declared.fault.ReadFault.ReadFault}
-use Rattle.mt_checkpoint.specs.Checkpoints.{Walk, IsWalk, walk_of, HasWalk, Has, In, IsOneOf}
+use Rattle.mt_checkpoint.specs.Checkpoints.{Walk, IsWalkOrNone, walk_of, HasWalk, Has, In, IsOneOf}
 use Rattle.mt_checkpoint.specs.declared.fault.ReadFault.TheVariants as reads
 
 -- ---- steps of the calls
@@ -48,23 +48,18 @@ module _ {D : Type 0} (is_honest : D → Bool) (state : D → DiskState) (failur
   StillLeaves old new = IsTrue (is_honest old) → (may : List (Option Walk)) (first : DiskState)
       → LeavesOnly (IsOneOf may) first (state old) → LeavesOnly (IsOneOf may) first (state new)
 
-  -- what was read, as a walk
-  abbrev pub read_of : Option Checkpoint → Option Walk
-  read_of x = option_map walk_of x
-
-  -- in the format, of any disk
-  abbrev pub IsWalkOrNone : Option Checkpoint → Type 0
-  IsWalkOrNone None = Unit {0}
-  IsWalkOrNone (Some c) = IsWalk (walk_of c)
-
-  -- a slot was read
-  pub record ReadSlot (old new : D) (x : Option Checkpoint) : Type 0 where
+  -- a slot was read, and has this walk or none
+  pub record HasRead (old new : D) (x : Option Walk) : Type 0 where
     pub format : IsWalkOrNone x
-    pub tells : IsTrue (is_honest old) → Has (read_of x) (state old).image
+    pub tells : IsTrue (is_honest old) → Has x (state old).image
     pub settles : IsTrue (is_honest old) → (may : List (Option Walk)) (first : DiskState) → LeavesOnly (IsOneOf may) first (state old)
-        → SettlesOnSlot (read_of x) may first (state new)
+        → SettlesOnSlot x may first (state new)
     pub count : failures new ≡ failures old
     pub honest : is_honest new ≡ is_honest old
+
+  -- and that is what its checkpoint says
+  abbrev pub ReadSlot : D → D → Option Checkpoint → Type 0
+  ReadSlot old new x = HasRead old new (option_map walk_of x)
 
 -- the count of failures goes up where the disk failed, and nowhere else
 abbrev pub CountsFault : ReadFault → ℕ → ℕ → Type 0

@@ -1,7 +1,7 @@
 //! A checkpoint's bytes as its head and its items. Each byte is read once. The list of pairs grows with the
 //! entries that stand there.
 
-ghost use Rattle.std.specs.Prelude.{◌≡◌, ◌++◌, drop, IfSome, IfNone, IfOk};
+ghost use Rattle.std.specs.Prelude.{◌≡◌, [], ◌++◌, drop, IfSome, IfNone, IfOk};
 ghost use Rattle.mt_fields.specs.Reading.{Gives};
 ghost use Rattle.mt_checkpoint.specs.{Format.head_bytes, Reading.{stamp_at, pair_at, last_at, item_kind_at, item_at, IsHead, HasNoHead, Takes}};
 
@@ -72,7 +72,8 @@ pub fn take_items(
     whole: bool,
     pairs: &mut Vec<TenantPair>,
 ) -> Result<(usize, Stop), AllocError>
-    ensures { IfOk result (λ r. Takes head window.now whole pairs.old.items pairs.new.items r.0 r.1) }
+    requires { pairs.old.items ≡ [] }
+    ensures { IfOk result (λ r. Takes head window.now whole pairs.new.items r.0 r.1) }
 {
     let mut rest = window;
     loop {

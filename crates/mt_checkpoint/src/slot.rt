@@ -1,21 +1,21 @@
-//! A slot: made, written and read.
+//! A slot: made and written.
 
 ghost use Rattle.std.specs.{Prelude.{◌≡◌, [], ◌∷◌, ℕ, Bool, IsTrue, Result, Option, Some, None, Ok, Err, OnOk, OnErr, IfOk, IfErr}, List.All};
 ghost use Rattle.mt_disk.specs.{Disk.{CountsFailure, LeavesOnly}, declared.disk.DeviceFailed.DeviceFailed};
 ghost use Rattle.mt_rows.specs.{Rows.Bytes, Commands.IsKey};
 ghost use Rattle.mt_checkpoint.specs.{Format.head_bytes, Checkpoints.{Walk, IsWalk, walk_bytes, IsOneOf, IsClosedAtRest, IsBehindGate, IsStaged}};
 ghost use Rattle.mt_checkpoint.specs.{Faults.told_as, declared.fault.FaultCause.TheVariants.Device};
-ghost use Rattle.mt_checkpoint.specs.Slots.{ReadSlot, FailsToRead, LeavesOrNone, HasDurably};
+ghost use Rattle.mt_checkpoint.specs.Slots.{LeavesOrNone, HasDurably};
 ghost use Rattle.mt_checkpoint.specs.Writes.{LeavesClosed, GivesUp, Begun, FailsToBegin, Added, FailsToAdd, RefusesPairs, Ended, TellsDigest, FailsToEnd, RefusesEnd};
 ghost use Rattle.mt_checkpoint.specs.Staging.{CutsBehind, StopsOn, StagesWalk, ClearsAfter};
 
 use crate::back::reads_back;
 use crate::bounded::write_bounded;
-use crate::checkpoint::{Checkpoint, may_end};
-use crate::fault::{FaultCause, ReadFault, WriteFault};
-use crate::gate::{OPEN, SHUT, close_gate, cut_behind, open_gate, stage, synced_gate, write_head};
+use crate::checkpoint::may_end;
+use crate::fault::{FaultCause, WriteFault};
+use crate::gate::{SHUT, close_gate, cut_behind, open_gate, stage, synced_gate, write_head};
 use crate::seen::SeenPairs;
-use crate::windows::{WINDOW_BYTES, read_open};
+use crate::windows::WINDOW_BYTES;
 use crate::writer::{ENTRIES_AT, FORMAT, entries, head, last_entry};
 use mt_digests::FileDigest;
 use mt_disk::{DeviceFailed, Disk};
@@ -241,24 +241,4 @@ fn open_or_clear<D: Disk>(disk: &mut D) -> Result<(), FaultCause>
             Err(cause)
         }
     }
-}
-
-/// What a slot has: its checkpoint, or none for anything but a whole one. A gate that a crash left torn is
-/// closed, and the slot then has none.
-pub fn read_valid<D: Disk>(alloc: Global, disk: &mut D) -> Result<Option<Checkpoint>, ReadFault>
-    ensures ok { IfOk result (ReadSlot D.is_honest D.state D.failures disk.old disk.new) }
-    ensures err { IfErr result (FailsToRead D.is_honest D.state D.failures disk.old disk.new) }
-{
-    let (len, gate) = synced_gate(disk)?;
-    let Some(gate) = gate else {
-        return Ok(None);
-    };
-    if gate == OPEN {
-        return read_open(alloc, disk, len);
-    }
-    if gate == SHUT {
-        return Ok(None);
-    }
-    close_gate(disk)?;
-    Ok(None)
 }

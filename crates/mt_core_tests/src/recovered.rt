@@ -5,12 +5,13 @@ ghost use Rattle.mt_rows.specs.TenantPairs.{pairs_of, quota_in, IsTenantPair, Ar
 ghost use Rattle.mt_log.specs.Contents.{IsBatch};
 ghost use Rattle.mt_state.specs.Begins.{HaveNoPairs};
 
+use mt_checkpoint::Checkpoint;
 use mt_core::State;
 use mt_disk::MemDisk;
-use mt_log::{Front, LogFile, fits};
-use mt_recover::recover;
+use mt_log::{BatchReader, FileKind, Front, LogFile, ReadBatch, fits};
+use mt_recover::{Source, recover};
 use mt_rows::key::USER_KEY_BYTES;
-use mt_rows::{Batch, Record, Records, TenantPair, Tenants, Write};
+use mt_rows::{Batch, Record, Records, Refusal, TenantPair, Tenants, Write};
 use std::alloc::Global;
 use std::process::Abort;
 
@@ -56,27 +57,61 @@ fn recovered(
     ensures tenants { HasTenants (quota_in tenants.now) (pairs_of result.items) }
     ensures quotas { KeepsQuotas (quota_in tenants.now) (pairs_of result.items) }
 {
-    let fronts = one_front(rt, alloc, pairs);
-    let recovered = recover(alloc, fronts, [None, None], tenants).expect(rt, "within quotas");
+    let (mut log, front) = one_log(rt, alloc, pairs);
+    let recovered = recover(alloc, &mut log, &mut [front], &[None, None], tenants).expect(
+        rt,
+        "within quotas",
+    );
     assert!(rt; are_within(&recovered.pairs));
     assert!(rt; recovered.resume <= steps);
     recovered.pairs
 }
 
-// The front of the only log, whose batches put these pairs, each by a step of its own.
-fn one_front(rt: &impl Abort, alloc: Global, pairs: Vec<TenantPair>) -> Vec<Front> {
+// The only log of a store that has no checkpoint, read once more.
+#[derive(Drop)]
+struct OneLog {
+    log: LogFile<MemDisk>,
+    reader: BatchReader,
+}
+
+impl Source for OneLog {
+    ghost logs = { λ _. 1 };
+
+    ghost follows = { λ _ _. Unit {0} };
+
+    ghost left = { λ _ _ _. ⊥ };
+
+    ghost holds = { λ _ _ _. ⊥ };
+
+    ghost refused = { λ _ _. Unit {0} };
+
+    fn next(&mut self, alloc: Global, _log: usize) -> Result<Option<ReadBatch>, Refusal> {
+        match self.reader.next(alloc, &mut self.log) {
+            Ok(read) => Ok(read),
+            Err(_) => Err(Refusal::Device),
+        }
+    }
+
+    fn load(&mut self, _alloc: Global, _slot: u8) -> Result<Option<Checkpoint>, Refusal> {
+        Ok(None)
+    }
+}
+
+// The only log, whose batches put these pairs, each by a step of its own; and its front.
+fn one_log(rt: &impl Abort, alloc: Global, pairs: Vec<TenantPair>) -> (OneLog, Front) {
     let disk = MemDisk::new(alloc, Vec::new(alloc), None);
     let mut log = LogFile::create(disk, 0, 1).ok().expect(rt, "a disk");
     for pair in pairs {
         let batch = put_after(rt, alloc, log.mark(), pair);
         log = log.append(alloc, batch).ok().expect(rt, "a disk");
     }
-    let (_, front) = LogFile::open(alloc, log.into_disk())
+    let (mut log, front) = LogFile::open(alloc, log.into_disk())
         .ok()
         .expect(rt, "a log");
-    let mut fronts = Vec::new(alloc);
-    assert!(rt; fronts.push(front).is_ok());
-    fronts
+    let reader = BatchReader::begin(alloc, &mut log, FileKind::Plain)
+        .ok()
+        .expect(rt, "a log");
+    (OneLog { log, reader }, front)
 }
 
 // The batch of a put by the step after this one.

@@ -22,6 +22,7 @@ pub mod Recovering
 pub mod Resuming
 pub mod Living
 pub mod LeavingOne
+pub mod Rereading
 pub mod Returning
 pub mod Beginning
 pub mod Noted

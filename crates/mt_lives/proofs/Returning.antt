@@ -1,10 +1,10 @@
 -- What a recovery makes of a store that a crash left, in each of its outcomes.
-use Rattle.std.proofs.Common.{◌≡◌, ◌≢◌, ◌⊎◌, ℕ, ◌+◌, ◌<◌, ◌≤◌, ◌^◌, min, Result, List, map, length, Option, Some, None, Ok, Err, refl, sym, ap, subst, ◌∙◌, arith, inl, inr, ⊎_elim}
+use Rattle.std.proofs.Common.{◌≡◌, ◌≢◌, ◌⊎◌, false, ℕ, ◌+◌, ◌<◌, ◌≤◌, ◌^◌, min, Result, List, map, length, Option, Some, None, Ok, Err, refl, sym, ap, subst, ◌∙◌, arith, inl, inr, ⊎_elim}
 use Rattle.std.proofs.{lemmas.List.Elements.All-weaker}
 use Rattle.std.specs.{Prelude.{IfOk, slice_get}, List.{All, AllZip}}
 use Rattle.mt_rows.specs.{Accounts.Accounts, TenantPairs.{pairs_of, quota_in}, declared.refusal.Refusal.Refusal}
 use Rattle.mt_disk.specs.{declared.mem.MemDisk.MemDisk, Mem.mem_state}
-use Rattle.mt_log.specs.Contents.{Contents, contents_of}
+use Rattle.mt_log.specs.{declared.batch.Front.Front, Contents.{Contents, contents_of}}
 use Rattle.mt_chain_files.specs.declared.opening.Chains.{Chains}
 use Rattle.mt_core.specs.{Restores.IsRestored, Rights.IsRightState}
 use Rattle.mt_state.specs.Views.{StateView}
@@ -19,7 +19,7 @@ use Rattle.mt_store_logs.specs.{declared.fault.LogRefusal.LogRefusal, declared.f
 use Rattle.mt_store_logs.specs.{declared.fault.StoreRefusal.TheVariants.{Logs as OfLogs, Slot as OfSlot}, declared.store_log.StoreLog.StoreLog}
 use Rattle.mt_store_logs.specs.Taking.{files_of, OpensLogs, StopsOpening}
 use Rattle.mt_store_logs.specs.{Leaves.{NoneBegun, StopsGivingUpAt, LeavesOne}, Recovers.{slots_of, used_slot, refusal_in, ResumesAll, StopsResumingAt, ServesAgain}}
-use Rattle.mt_store_logs.specs.Recovers.{IsRefusedOf, ResumesInPart, GivesUpInPart, StopsAfterSlots, IsNotRecovered}
+use Rattle.mt_store_logs.specs.{Recovers.{IsRecoveredOf, IsRefusedOf, ResumesInPart, GivesUpInPart, StopsAfterSlots, StopsInFirst, StopsAgain, IsNotRecovered}, Rereads.{KeepRules, LogsAreRead, SlotsStay}}
 use Rattle.mt_store_logs.proofs.{ChainFormat.chains_in_format, ForResumes.{both_in_format, cutoff_within}}
 use Rattle.mt_lives.specs.{declared.events.CrashImages.CrashImages, declared.events.StoreEvent.StoreEvent, declared.events.StoreEvent.TheVariants.Crash, declared.events.StoreNote.StoreNote}
 use Rattle.mt_lives.specs.{declared.events.StoreNote.TheVariants.{Recovered, Refused, NoSuch}, declared.serving.Serving.Serving}
@@ -37,7 +37,7 @@ use Rattle.mt_lives.proofs.Resuming as resuming
 use Rattle.mt_crashes.{specs.Invariants.IsStore, proofs.Invariant.within_place}
 use Rattle.mt_generations.specs.Turns.{HasBase}
 use Rattle.mt_lives.{specs.{Bases.{Whole, NewestIsBase}, Turning.only_whole}, proofs.Bases.{is_come, base_stays, newest_stays, base_read, base_rests, some_base, use_covers, used_newest}}
-use Rattle.mt_lives.proofs.LeavingOne.{left_len, left_open, left_in_part}
+use Rattle.mt_lives.proofs.{LeavingOne.{left_len, left_open, left_in_part}, Rereading.read_down}
 
 -- ---- lengths
 
@@ -64,6 +64,30 @@ module _ (accounts : Accounts) (slots : StoreSlots MemDisk) (standing : Standing
 
   is_left : (past_now : Past) (t : Store) → IsLeftAs past_now t → IsStore t
   is_left past_now t l = is_come (length old) t l.some l.few l.come
+
+  -- the disks keep the rules, so what is read again is what was seen first
+  rules : (mid : List (StoreLog MemDisk)) → KeepRules keeps_rules mem_state failures_of mid slots
+  rules mid = record { files = λ k log at g disk on. refl; mays = from.stand.mays; both = from.stand.keeps }
+
+  over_seen : (mid : List (StoreLog MemDisk)) (seen : Slots) (fronts : List Front) (r : Found) → IsRecoveredOf (KeepRules keeps_rules mem_state failures_of mid slots) accounts seen fronts r
+      → IsRecoveredOver (map contents_of fronts) seen r.cutoff r.resume r.used (pairs_of r.pairs.items)
+  over_seen mid seen fronts r is =
+      let same = is.again.same (rules mid) in
+      subst (λ (ls : Slots). IsRecoveredOver (map contents_of fronts) ls r.cutoff r.resume r.used (pairs_of r.pairs.items)) same.1
+      (subst (λ (cs : List Contents). IsRecoveredOver cs is.loaded r.cutoff r.resume r.used (pairs_of r.pairs.items)) same.0 is.over)
+
+  refused_seen : (e : LogRefusal) (seen : Slots) (new : List (StoreLog MemDisk)) (is : IsRefusedOf keeps_rules mem_state failures_of accounts e slots seen old new)
+      → IsRefusal (map contents_of is.chains.fronts.items) seen (quota_in accounts) e.refusal
+  refused_seen e seen new is =
+      let same = is.again.same (rules new) in
+      subst (λ (ls : Slots). IsRefusal (map contents_of is.chains.fronts.items) ls (quota_in accounts) e.refusal) same.1
+      (subst (λ (cs : List Contents). IsRefusal cs is.loaded (quota_in accounts) e.refusal) same.0 is.refused)
+
+  -- why a second reading stops
+  stopped_cause : (e : StoreRefusal) (mid : List (StoreLog MemDisk)) → StopsAgain (KeepRules keeps_rules mem_state failures_of mid slots) e → IsMemoryOrDevice (refusal_in e)
+  stopped_cause (OfLogs e) mid (inl fault) = fault.0
+  stopped_cause (OfSlot fault) mid (inl told) = told_fault fault.cause
+  stopped_cause e mid (inr changed) = absurd (changed.1 (rules mid))
 
   -- a recovery was refused: the store serves no life, and keeps so much of the last one
   pub record Refuses (new : List (StoreLog MemDisk)) (now : StoreSlots MemDisk) : Type 0 where
@@ -176,6 +200,17 @@ module _ (accounts : Accounts) (slots : StoreSlots MemDisk) (standing : Standing
         inl (refused accounts standing.settled past (length old) opened_store fronts found read left_opened refl refl ends has_use e is),
         record { past_now = past; kept = inl refl; holds = holds_so g (opened_whole use_so.0) past opened_store mid read_slots use_so.2 opens.back.len left_opened stand_read (all_open_down g (opened_whole use_so.0) opened_store mid (each_open use_so.0 use_so.1)) },
       )
+
+      -- their second reading stopped
+      pub stopped_again : (new : List (StoreLog MemDisk)) (now : StoreSlots MemDisk) → LogsAreRead keeps_rules mem_state failures_of false mid new
+          → SlotsStay keeps_rules mem_state failures_of read_slots now → Refuses new now
+      stopped_again new now is_read stay = record {
+        past_now = past;
+        kept = inl refl;
+        holds = holds_so g (opened_whole use_so.0) past opened_store new now use_so.2 (is_read.len ∙ opens.back.len) left_opened
+            (record { mays = stand_read.mays; shown = stand_read.shown; keeps = stay.keeps stand_read.mays stand_read.keeps })
+            (read_down g (opened_whole use_so.0) opened_store mid new is_read (all_open_down g (opened_whole use_so.0) opened_store mid (each_open use_so.0 use_so.1)));
+      }
 
       -- they are recovered
       abbrev recovered : Store
@@ -373,24 +408,28 @@ module _ (accounts : Accounts) (slots : StoreSlots MemDisk) (standing : Standing
 
   after_slots : (e : LogRefusal) (new : List (StoreLog MemDisk)) (now : StoreSlots MemDisk) (a : StopsAfterSlots keeps_rules mem_state failures_of accounts e old slots new now)
       → StopsOpening keeps_rules mem_state failures_of (slots_of (in_order a.found)) e old new
-      ⊎ (IsRefusedOf keeps_rules mem_state failures_of accounts e (slots_of (in_order a.found)) old new
-      ⊎ (ResumesInPart keeps_rules mem_state failures_of accounts e (slots_of (in_order a.found)) old new
-      ⊎ GivesUpInPart keeps_rules mem_state failures_of accounts e (slots_of (in_order a.found)) old new))
+      ⊎ (IsRefusedOf keeps_rules mem_state failures_of accounts e slots (slots_of (in_order a.found)) old new
+      ⊎ (ResumesInPart keeps_rules mem_state failures_of accounts e slots (slots_of (in_order a.found)) old new
+      ⊎ GivesUpInPart keeps_rules mem_state failures_of accounts e slots (slots_of (in_order a.found)) old new))
       → IsMemoryOrDevice e.refusal × Refuses new now
   after_slots e new now a (inl stops) = not_opened now a.found a.reads e new stops
-  after_slots e new now a (inr (inl r)) = refused_for now a.found a.reads new r.chains r.opens e.refusal r.refused
-  after_slots e new now a (inr (inr (inl p))) = not_resumed now a.found a.reads p.mid p.chains p.opens p.r p.recovers.over e new p.stops
-  after_slots e new now a (inr (inr (inr p))) = not_left now a.found a.reads p.mid p.chains p.opens p.r p.recovers.over p.resumed p.resumes p.none e new p.stops
+  after_slots e new now a (inr (inl r)) = refused_for now a.found a.reads new r.chains r.opens e.refusal (refused_seen e (slots_of (in_order a.found)) new r)
+  after_slots e new now a (inr (inr (inl p))) = not_resumed now a.found a.reads p.mid p.chains p.opens p.r (over_seen p.mid (slots_of (in_order a.found)) p.chains.fronts.items p.r p.recovers) e new p.stops
+  after_slots e new now a (inr (inr (inr p))) = not_left now a.found a.reads p.mid p.chains p.opens p.r (over_seen p.mid (slots_of (in_order a.found)) p.chains.fronts.items p.r p.recovers) p.resumed p.resumes p.none e new p.stops
 
   pub not_recovered : (e : StoreRefusal) (new : List (StoreLog MemDisk)) (now : StoreSlots MemDisk) → IsNotRecovered keeps_rules mem_state failures_of accounts e old slots new now
       → IsMemoryOrDevice (refusal_in e) × Refuses new now
-  not_recovered (OfLogs e) new now a = after_slots e new now a a.why
-  not_recovered (OfSlot fault) new now r = let d = not_read fault now r.0 in (d.0, subst (λ ls. Refuses ls now) (sym r.1) d.1)
+  not_recovered e new now (inl first) = in_first e first
+    where
+      in_first : (e : StoreRefusal) → StopsInFirst keeps_rules mem_state failures_of accounts e old slots new now → IsMemoryOrDevice (refusal_in e) × Refuses new now
+      in_first (OfLogs e) a = after_slots e new now a a.why
+      in_first (OfSlot fault) r = let d = not_read fault now r.0 in (d.0, subst (λ ls. Refuses ls now) (sym r.1) d.1)
+  not_recovered e new now (inr again) = (stopped_cause e again.mid again.why, stopped_again again.rested again.found again.reads again.mid again.chains again.opens new now again.read again.stay)
 
   pub recovered_down : (r : Found) (generation : ℕ) (new : List (StoreLog MemDisk)) (now : StoreSlots MemDisk)
       → ServesAgain keeps_rules mem_state failures_of accounts r generation old slots new now → Refuses new now
   recovered_down r generation new now a =
-      subst (λ ss. Refuses new ss) (sym a.keeps) (without_state a.rested a.found a.reads a.mid a.chains a.opens r a.recovers.over a.resumed a.resumes new a.leaves)
+      subst (λ ss. Refuses new ss) (sym a.keeps) (without_state a.rested a.found a.reads a.mid a.chains a.opens r (over_seen a.mid (slots_of (in_order a.found)) a.chains.fronts.items r a.recovers) a.resumed a.resumes new a.leaves)
 
   pub recovered_up : (r : Found) (generation : ℕ) (new : List (StoreLog MemDisk)) (now : StoreSlots MemDisk)
       → ServesAgain keeps_rules mem_state failures_of accounts r generation old slots new now → (v : StateView) → IsRestored r.resume (length new) accounts r.pairs.items v → IsRightState v
@@ -399,12 +438,12 @@ module _ (accounts : Accounts) (slots : StoreSlots MemDisk) (standing : Standing
       × (next ≡ crashed_to (Ok (life_from (pairs_of r.pairs.items) r.resume)) standing) × Holds accounts (Rest now) next new (Some serving)
   recovered_up r generation new now a v restored right serving state fresh turns_to = (
     crashed_to (Ok (life_from (pairs_of r.pairs.items) r.resume)) standing,
-    settled_upto a.rested a.found a.reads a.mid a.chains a.opens r a.recovers.over,
-    over_cutoff a.rested a.found a.reads a.mid a.chains a.opens r a.recovers.over,
-    left_of a.rested a.found a.reads a.mid a.chains a.opens r a.recovers.over,
+    settled_upto a.rested a.found a.reads a.mid a.chains a.opens r (over_seen a.mid (slots_of (in_order a.found)) a.chains.fronts.items r a.recovers),
+    over_cutoff a.rested a.found a.reads a.mid a.chains a.opens r (over_seen a.mid (slots_of (in_order a.found)) a.chains.fronts.items r a.recovers),
+    left_of a.rested a.found a.reads a.mid a.chains a.opens r (over_seen a.mid (slots_of (in_order a.found)) a.chains.fronts.items r a.recovers),
     refl,
     subst (λ (ss : StoreSlots MemDisk). Holds accounts (Rest ss) (crashed_to (Ok (life_from (pairs_of r.pairs.items) r.resume)) standing) new (Some serving)) (sym a.keeps)
-        (with_state a.rested a.found a.reads a.mid a.chains a.opens r a.recovers.over a.resumed a.resumes new a.leaves v (length new) restored right refl serving state fresh
+        (with_state a.rested a.found a.reads a.mid a.chains a.opens r (over_seen a.mid (slots_of (in_order a.found)) a.chains.fronts.items r a.recovers) a.resumed a.resumes new a.leaves v (length new) restored right refl serving state fresh
         (turns_to ∙ ap (λ n. n + 1) a.from)),
   )
 

@@ -109,13 +109,6 @@ record_again old r rest fits =
     ap (λ (t : Bytes). record_at old (to_be_bytes w64 r.stamp ++ (to_be_bytes w32 r.tenant ++ t))) (append_assoc (string r.key) (write_bytes r.write) rest)
     ∙ rw (number_again w64 (2 ^ 64) wide64 r.stamp (to_be_bytes w32 r.tenant ++ (string r.key ++ change)) fits.0.stamp, number_again w32 (2 ^ 32) wide32 r.tenant (string r.key ++ change) fits.0.tenant, key_again r.key change fits.0.key, write_again old r.write rest fits.0.write fits.1) refl
 
--- records that were read, old ones or not, are read again as new ones
-pub read_anew : (old : Bool) (n : ℕ) (bytes : Bytes) (x : List Record × Bytes) → IsBytes bytes → each_at (record_at old) n bytes ≡ Some x → each_at (record_at false) n bytes ≡ Some x
-read_anew old n bytes x fits e =
-    let t = each_takes (record_at old) record_bytes (FitsRecord old) (record_takes old) n bytes x fits e in
-    let each = recursion_from_All (FitsRecord false) x.0 (All-weaker (FitsRecord old) (FitsRecord false) (λ r h. (h.0, tt)) x.0 (All-from_recursion (FitsRecord old) x.0 t.2)) in
-    (λ i. each_at (record_at false) (sym t.1 i) (t.0.parts i)) ∙ each_again (record_at false) record_bytes (FitsRecord false) (record_again false) x.0 x.1 each
-
 -- ---- batches, by their first byte
 
 -- what was read behind the first byte, of a body whose length fits four bytes

@@ -67,12 +67,12 @@ more_bytes c b = sym (flat_map_more batch_bytes (beginning c.version c.worker c.
 
 -- ---- one front
 
-one_batch : (version : ℕ) (b c : LogBatch) (x y : Bytes) → IsLogBatch version b → IsLogBatch version c → told_body (body b) ++ x ≡ told_body (body c) ++ y → (b ≡ c) × (x ≡ y)
+pub one_batch : (version : ℕ) (b c : LogBatch) (x y : Bytes) → IsLogBatch version b → IsLogBatch version c → told_body (body b) ++ x ≡ told_body (body c) ++ y → (b ≡ c) × (x ≡ y)
 one_batch version b c x y is_b is_c e =
     let same = same_Some (b, x) (c, y) (sym (batch_again version b x is_b) ∙ ap (batch_at version) e ∙ batch_again version c y is_c) in
     (ap (λ (p : LogBatch × Bytes). p.0) same, ap (λ (p : LogBatch × Bytes). p.1) same)
 
-abbrev first : Bytes → ℕ
+abbrev pub first : Bytes → ℕ
 first bytes = get_or bytes 0 0
 
 -- batches before a gate that isn't open are these alone
@@ -127,10 +127,10 @@ fits_eight : (w n i s : ℕ) → i ≤ 2 ^ 59 → s ≤ 2 ^ 59 → FitsEightByte
 fits_eight w n i s most start = record { generation = omega arith; start = omega arith }
 
 -- what was read of two beginnings that are the same
-abbrev AreSame : ℕ → ℕ → ℕ → ℕ → ℕ → ℕ → ℕ → ℕ → ℕ → ℕ → Bytes → Bytes → Type 0
+abbrev pub AreSame : ℕ → ℕ → ℕ → ℕ → ℕ → ℕ → ℕ → ℕ → ℕ → ℕ → Bytes → Bytes → Type 0
 AreSame f v m i s g w n j t x y = (f ≡ g) × (v ≡ w) × (m ≡ n) × (i ≡ j) × (s ≡ t) × (x ≡ y)
 
-same_beginning : (f v m i s g w n j t : ℕ) (x y : Bytes) → AreNumbers f i s → AreNumbers g j t → beginning f v m i s ++ x ≡ beginning g w n j t ++ y
+pub same_beginning : (f v m i s g w n j t : ℕ) (x y : Bytes) → AreNumbers f i s → AreNumbers g j t → beginning f v m i s ++ x ≡ beginning g w n j t ++ y
     → AreSame f v m i s g w n j t x y
 same_beginning f v m zero s g w n zero t x y is_f is_g e =
     (ap (λ (l : Bytes). get_or l 5 0) e, ap (λ (l : Bytes). get_or l 6 0) e, ap (λ (l : Bytes). get_or l 7 0) e, refl, is_f.1 ∙ sym is_g.1, ap (λ (l : Bytes). drop 8 l) e)

@@ -1,5 +1,5 @@
 -- What is read of a log from gate to gate, and what an opening made of it.
-use Rattle.std.proofs.Common.{◌≡◌, ⊎_elim, inl, inr, ℕ, zero, suc, ◌+◌, ◌-◌, ◌<◌, ◌≤◌, Bool, true, false, IsTrue, ◌↔◌, ◌^◌, Some, None, List, [], ◌∷◌, ◌++◌, length, take, drop, get_or, refl, sym, ◌∙◌, ap, subst, arith, append_assoc, length-append, Result, Ok, Err, OnErr, IfOk, IfErr, MatchResult}
+use Rattle.std.proofs.Common.{◌≡◌, ◌⊎◌, ⊎_elim, inl, inr, ℕ, zero, suc, ◌+◌, ◌-◌, ◌<◌, ◌≤◌, Bool, true, false, IsTrue, ◌↔◌, ◌^◌, Some, None, List, [], ◌∷◌, ◌++◌, length, take, drop, get_or, refl, sym, ◌∙◌, ap, subst, arith, append_assoc, length-append, Result, Ok, Err, OnErr, IfOk, IfErr, MatchResult}
 use Rattle.std.proofs.{lemmas.Bool.{ltb-true, le-ltb}, Math.Seq.drop-append_seam}
 use Rattle.std.proofs.lemmas.List.{take-append-drop, take-append-le, take_all, drop-take, length-take, length-take-le, drop-drop, length-drop, flat_map_more, append-nil}
 use Rattle.std.specs.{List.{flat_map, All}, Prelude.nat_lt, Int.{w32, to_be_bytes, from_be_bytes}}
@@ -8,12 +8,13 @@ use Rattle.mt_disk.specs.Disk.{DiskState, IsDurable, LeavesOnly, GoesUp, synced}
 use Rattle.mt_batches.specs.Batches.{IsRecord}
 use Rattle.mt_fields.proofs.FieldLaws.{IsBytes, IsBytes-rest, IsBytes-take, wide32, number_again}
 use Rattle.mt_log.specs.{declared.batch.LogBatch.LogBatch, declared.batch.LogBatch.TheVariants.Records, declared.fault.ReadFault.ReadFault}
-use Rattle.mt_log.specs.{declared.reader.FileKind.FileKind, declared.reader.Head.Head, declared.reader.Start.Start, declared.windows.Stop.Stop, declared.windows.Found.Found}
+use Rattle.mt_log.specs.{declared.reader.FileKind.FileKind, declared.reader.Head.Head, declared.reader.Start.Start, declared.batch_reader.BatchReader.BatchReader, declared.windows.Found.Found}
 use Rattle.mt_log.specs.Format.{record_bytes, body, told_body, batch_bytes}
 use Rattle.mt_log.specs.Contents.{Contents, IsContents, IsBatch, IsLogBatch, to_of, log_bytes, with_batch, contents_of}
 use Rattle.mt_log.specs.Fronts.{HasNoBatch, IsBadGate, IsOfKind, IsBadLog, IsShut, IsTorn, IsBeforeOrAfter, IsLeft, IsOldOrNew, IsFound, IsAtRest}
 use Rattle.mt_log.specs.Reading.{batch_in, batch_at, are_steps, rise_within}
-use Rattle.mt_log.specs.Stops.{IsOpenGate, IsNoHead, IsHead, begin_bytes, BeginsSo, IsWithinLimits, IsStart, IsBadStart, IsBody, IsOpenBatch, AreBatches, StandBefore, IsStop, IsFoundAt, IsRead, IsBadRead, CountsFault, CountsReads, OfImage, IsStartOf, IsStopOf, IsFrontOf, IsFaultOf}
+use Rattle.mt_log.specs.Stops.{IsOpenGate, IsNoHead, IsHead, begin_bytes, BeginsSo, IsWithinLimits, IsStart, IsBadStart, IsBody, IsOpenBatch, IsNoBatch, WentOver, AreBatches, StandBefore, IsStop, IsFoundAt, IsRead, IsBadRead, OfImage, IsStartOf, IsStopOf, IsFrontOf, IsFaultOf}
+use Rattle.mt_log.specs.Rereading.{CountsFault, CountsReads}
 use Rattle.mt_log.specs.Logs.{IsSyncedOf, FailsToSync, Opened, GivesDiskBack, fault_with}
 use Rattle.mt_disk.proofs.CrashLaws.{after_sync}
 use Rattle.mt_gates.{specs.Gates.IsLeftOf}
@@ -126,6 +127,18 @@ no_head_bad version bytes is =
     let short = is.short in
     ⊎_elim (λ none. inl none) (λ gate. inr (gate.0, gate.1, λ b more fits e. absurd (omega (arith, short, ap length gate.1, ap length e)))) is.gate
 
+-- no batch stands at a gate that isn't open
+pub not_open : (version : ℕ) (bytes : Bytes) (head : Head) → ((size : ℕ) → head ≡ heads.Open size → ⊥) → IsHead bytes head → IsNoBatch version bytes head
+not_open version bytes (heads.Shut gate) closed is = is
+not_open version bytes (heads.Open size) closed is = absurd (closed size refl)
+not_open version bytes heads.Bad closed is = no_head_bad version bytes is
+
+-- if none stands at an open one, or at none, that is a bad one
+pub bad_gate : (version : ℕ) (bytes : Bytes) (head : Head) → ((size : ℕ) × (head ≡ heads.Open size)) ⊎ (head ≡ heads.Bad) → IsNoBatch version bytes head
+    → IsBadGate version bytes
+bad_gate version bytes head which none =
+    ⊎_elim (λ opened. subst (IsNoBatch version bytes) opened.1 none) (λ bad. subst (IsNoBatch version bytes) bad none) which
+
 -- a length past the end
 pub past_end_bad : (version : ℕ) (bytes : Bytes) (size : ℕ) → IsOpenGate bytes size → length bytes < 5 + size → IsBadGate version bytes
 unfolding batch_at
@@ -211,6 +224,14 @@ stand_more from place image bs b len next stand is =
           stand.parts ∙ ap (λ (l : Bytes). front ++ l) (is.parts ∙ ap (λ (l : Bytes). batch_bytes b ++ l) (drop-drop len place image)) ∙ sym (append_assoc front (batch_bytes b) (drop (place + len) image)) ∙ ap (λ (l : Bytes). l ++ drop (place + len) image) more;
       len = omega arith;
     }
+
+-- as a reader goes over it
+pub stand_over : (from : ℕ) (image : Bytes) (bs : List LogBatch) (b : LogBatch) (old new : BatchReader) → StandBefore from old.place image bs
+    → WentOver b image old new → StandBefore from new.place image (bs ++ b ∷ []) × IsHead (drop new.place image) new.head
+stand_over from image bs b old new stand over = (
+  subst (λ (n : ℕ). StandBefore from n image (bs ++ b ∷ [])) (sym over.place) (stand_more from old.place image bs b over.size new.head stand over.batch),
+  subst (λ (l : Bytes). IsHead l new.head) (drop-drop over.size old.place image ∙ ap (λ (n : ℕ). drop n image) (sym over.place)) over.batch.next,
+)
 
 -- and in the format
 pub batches_more : (version start mark : ℕ) (bs : List LogBatch) (b : LogBatch) → AreBatches version start mark bs → IsLogBatch version b → AreBatches version start (to_of b) (bs ++ b ∷ [])
@@ -313,22 +334,22 @@ module _ {D : Type 0} (is_honest : D → Bool) (state : D → DiskState) (old : 
         subst P image (told (subst IsTrue (sym kept) honest) (has ∙ ap length (sym image)))
 
     -- the batches behind a beginning, and where they stop
-    module _ (kind : FileKind) (start : Start) (bs : List LogBatch) (stop : Stop) (begins : IsStartOf kind is_honest state old len start) (stops : IsStopOf is_honest state new len start bs stop) where
-      stopped : IsTrue (is_honest old) → len ≡ length (state old).image → IsStop start.version start.place (state old).image bs stop
+    module _ (kind : FileKind) (start : Start) (bs : List LogBatch) (reader : BatchReader) (mark : ℕ) (begins : IsStartOf kind is_honest state old len start) (stops : IsStopOf is_honest state new len start bs reader mark) where
+      stopped : IsTrue (is_honest old) → len ≡ length (state old).image → IsStop start.version start.place (state old).image bs reader
       stopped honest has =
-          of_same (λ (image : Bytes). IsHead (drop start.place image) start.head → IsStop start.version start.place image bs stop) stops.told honest has (begins.told honest has).head
+          of_same (λ (image : Bytes). IsHead (drop start.place image) start.head → IsStop start.version start.place image bs reader) stops.told honest has (begins.told honest has).head
 
       module _ (r : Result Found ReadFault)
-          (told : (k : FileKind) (image : Bytes) → IsOfKind k start.generation → BeginsSo image start → IsStop start.version start.place image bs stop
+          (told : (k : FileKind) (image : Bytes) → IsOfKind k start.generation → BeginsSo image start → IsStop start.version start.place image bs reader
           → MatchResult r (IsRead image) (IsBadRead k image)) where
         of_image : IsTrue (is_honest old) → len ≡ length (state old).image → MatchResult r (IsRead (state old).image) (IsBadRead kind (state old).image)
         of_image honest has = told kind (state old).image begins.of_kind (begins.told honest has).header (stopped honest has)
 
       abbrev Told : Result Found ReadFault → Type 0
-      Told r = (k : FileKind) (image : Bytes) → IsOfKind k start.generation → BeginsSo image start → IsStop start.version start.place image bs stop
+      Told r = (k : FileKind) (image : Bytes) → IsOfKind k start.generation → BeginsSo image start → IsStop start.version start.place image bs reader
           → MatchResult r (IsRead image) (IsBadRead k image)
 
-      pub front_found : (r : Result Found ReadFault) → Told r → IfOk r (λ found. found.front.generation ≡ start.generation) → IfOk r (IsFoundAt stop.place)
+      pub front_found : (r : Result Found ReadFault) → Told r → IfOk r (λ found. found.front.generation ≡ start.generation) → IfOk r (IsFoundAt reader.place)
           → IfOk r (IsFrontOf kind is_honest state old len)
       front_found (Ok found) told of ok =
           record { contents = ok.contents; of_kind = subst (IsOfKind kind) (sym of) begins.of_kind; mark = ok.mark; within = subst (λ n. n ≤ len) (sym ok.end) stops.within; told = λ h e. of_image (Ok found) told h e }

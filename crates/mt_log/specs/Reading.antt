@@ -41,21 +41,6 @@ record_at old bytes = do
   write ← write_at old key.1
   Some (record_of stamp.0 tenant.0 key.0 write.0, write.1)
 
--- a record's stamp alone
-unfoldable pub stamp_at : Bool → Bytes → Option (ℕ × Bytes)
-stamp_at old bytes = do
-  r ← record_at old bytes
-  Some (r.0.stamp, r.1)
-
--- the records among what was read, none where nothing was
-abbrev pub records_read : Option (List Record × Bytes) → List Record
-records_read None = []
-records_read (Some x) = x.0
-
--- so many records, that bytes begin with
-abbrev pub records_from : ℕ → Bytes → List Record
-records_from count bytes = records_read (each_at (record_at false) count bytes)
-
 -- whether each stamp is over the one before it, the first over `last`, and none over `to`, and keys are user keys
 abbrev pub rise_within : ℕ → ℕ → List Record → Bool
 rise_within last to [] = true

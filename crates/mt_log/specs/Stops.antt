@@ -1,15 +1,15 @@
 -- What the functions say that read a log: for those that call them, whose callers see fronts alone.
-use Rattle.std.specs.Prelude.{◌≡◌, ◌≢◌, ℕ, ◌+◌, ◌-◌, ◌<◌, ◌≤◌, min, Bool, IsTrue, List, ◌∷◌, ◌++◌, length, take, drop, Option, Some, None, Result, MatchResult, Vec}
+use Rattle.std.specs.Prelude.{◌≡◌, ◌≢◌, ℕ, ◌+◌, ◌-◌, ◌<◌, ◌≤◌, min, Bool, IsTrue, List, ◌∷◌, ◌++◌, length, take, drop, Option, Some, None, Vec}
 use Rattle.std.specs.{List.{flat_map, AllByRecursion}, declared.alloc.Global.Global}
 use Rattle.mt_rows.specs.Rows.{Bytes}
-use Rattle.mt_disk.specs.Disk.{DiskState, GoesUp}
+use Rattle.mt_disk.specs.Disk.{DiskState}
 use Rattle.mt_log.specs.{declared.batch.LogBatch.LogBatch, declared.fault.ReadFault.ReadFault, declared.reader.Head.Head, declared.reader.Start.Start, declared.reader.FileKind.FileKind}
-use Rattle.mt_log.specs.{declared.windows.AtGate.AtGate, declared.windows.Stop.Stop, declared.windows.Found.Found}
+use Rattle.mt_log.specs.{declared.batch.ReadBatch.ReadBatch, declared.batch_reader.BatchReader.BatchReader, declared.windows.Found.Found}
 use Rattle.mt_log.specs.{Format.{body, batch_bytes}, Contents.{IsLogBatch, end_of, IsContents, mark_of, log_bytes, contents_of}}
 use Rattle.mt_log.specs.{Fronts.{IsOfKind, IsBadGate, IsBadLog}, Reading.batch_in}
 pub use Rattle.mt_log.specs.Beginnings.{IsShutGate, IsOpenGate, IsNoHead, IsHead, begin_bytes, BeginsSo, IsWithinLimits, IsStart, IsNoHeader, IsBadHeader, fault_of, IsBadStart}
 use Rattle.mt_log.specs.declared.fault.ReadFault.TheVariants as faults
-use Rattle.mt_log.specs.declared.windows.AtGate.TheVariants as gates
+use Rattle.mt_log.specs.declared.reader.Head.TheVariants as heads
 
 -- ---- bytes
 
@@ -20,8 +20,8 @@ pub record IsBody (version size : ℕ) (bytes : Bytes) (b : LogBatch) (head : He
   pub next : IsHead (drop size bytes) head
 
 -- what is read behind an open gate and a length
-abbrev pub IsBehind : ℕ → ℕ → Bytes → Option (LogBatch × Head) → Type 0
-IsBehind version size bytes (Some x) = IsBody version size bytes x.0 x.1
+abbrev pub IsBehind : ℕ → ℕ → Bytes → Option (ReadBatch × Head) → Type 0
+IsBehind version size bytes (Some x) = IsBody version size bytes x.0.batch x.1
 IsBehind version size bytes None = batch_in version (take size bytes) ≡ None
 
 -- an open gate and a batch, of so many bytes, and what stands at the gate behind them
@@ -30,28 +30,27 @@ pub record IsOpenBatch (bytes : Bytes) (b : LogBatch) (len : ℕ) (head : Head) 
   pub within : len ≤ length bytes
   pub next : IsHead (drop len bytes) head
 
--- what stands at a gate
-abbrev pub IsAtGate : ℕ → Bytes → AtGate → Type 0
-IsAtGate version bytes (gates.Shut gate) = IsShutGate bytes gate
-IsAtGate version bytes (gates.Open b len next) = IsOpenBatch bytes b len next
-IsAtGate version bytes gates.Bad = IsBadGate version bytes
+-- no batch stands at a gate: it isn't open, or what stands there isn't in the format
+abbrev pub IsNoBatch : ℕ → Bytes → Head → Type 0
+IsNoBatch version bytes (heads.Shut gate) = IsShutGate bytes gate
+IsNoBatch version bytes (heads.Open size) = IsBadGate version bytes
+IsNoBatch version bytes heads.Bad = IsBadGate version bytes
 
--- a batch in the format, of so many bytes, which there are
-pub record FitsBatch (version left : ℕ) (b : LogBatch) (len : ℕ) : Type 0 where
-  pub batch : IsLogBatch version b
-  pub within : len ≤ left
-  pub some : 0 < len
+-- a reader went over a batch, of so many bytes, and stands at the gate after it
+pub record WentOver (b : LogBatch) (image : Bytes) (old new : BatchReader) : Type 0 where
+  pub size : ℕ
+  pub place : new.place ≡ old.place + size
+  pub batch : IsOpenBatch (drop old.place image) b size new.head
 
--- what was read at a gate of any disk, where the file has so many bytes left
-abbrev pub FitsGate : ℕ → ℕ → AtGate → Type 0
-FitsGate version left (gates.Shut gate) = Unit {0}
-FitsGate version left (gates.Open b len next) = FitsBatch version left b len
-FitsGate version left gates.Bad = Unit {0}
+-- what a reader finds at its gate
+abbrev pub IsFoundBy : Bytes → BatchReader → Option ReadBatch → BatchReader → Type 0
+IsFoundBy image old None new = IsNoBatch old.version (drop old.place image) old.head
+IsFoundBy image old (Some read) new = WentOver read.batch image old new
 
--- at which gate batches stop, or that they stop at what isn't in the format
-abbrev pub StopsAt : ℕ → Bytes → Option ℕ → Type 0
-StopsAt version bytes None = IsBadGate version bytes
-StopsAt version bytes (Some gate) = IsShutGate bytes gate
+-- what a reader gives of any disk: a batch in the format, and then it stands further on; or none, and then it stays
+abbrev pub IsGivenBy : BatchReader → Option ReadBatch → BatchReader → Type 0
+IsGivenBy old None new = new ≡ old
+IsGivenBy old (Some read) new = IsLogBatch old.version read.batch × (old.place < new.place)
 
 -- batches in the format, from a start on, the last of which ends at the mark
 pub record AreBatches (version start mark : ℕ) (batches : List LogBatch) : Type 0 where
@@ -63,10 +62,10 @@ pub record StandBefore (first place : ℕ) (image : Bytes) (batches : List LogBa
   pub parts : drop first image ≡ flat_map batch_bytes batches ++ drop place image
   pub len : place ≡ first + length (flat_map batch_bytes batches)
 
--- the batches of an image from the first gate on, and where they stop
-pub record IsStop (version first : ℕ) (image : Bytes) (batches : List LogBatch) (stop : Stop) : Type 0 where
-  pub stand : StandBefore first stop.place image batches
-  pub stops : StopsAt version (drop stop.place image) stop.gate
+-- the batches of an image from the first gate on, and the gate where their reader stops
+pub record IsStop (version first : ℕ) (image : Bytes) (batches : List LogBatch) (reader : BatchReader) : Type 0 where
+  pub stand : StandBefore first reader.place image batches
+  pub stops : IsNoBatch version (drop reader.place image) reader.head
 
 -- a front in the format, that ends at a place
 pub record IsFoundAt (place : ℕ) (found : Found) : Type 0 where
@@ -89,21 +88,6 @@ IsBadRead kind image (faults.Bad number offset) = IsBadLog kind image number off
 
 -- ---- disks
 
--- the count of failures goes up where the disk failed, and nowhere else
-abbrev pub CountsFault : ReadFault → ℕ → ℕ → Type 0
-CountsFault faults.Device old new = GoesUp old new
-CountsFault faults.Memory old new = new ≡ old
-CountsFault (faults.Bad number offset) old new = new ≡ old
-
-abbrev pub CountsReads : {T : Type 0} → Result T ReadFault → ℕ → ℕ → Type 0
-CountsReads result old new = MatchResult result (λ _. new ≡ old) (λ e. CountsFault e old new)
-
--- a fault that says nothing of the file
-abbrev pub IsNotBad : ReadFault → Type 0
-IsNotBad faults.Device = Unit {0}
-IsNotBad faults.Memory = Unit {0}
-IsNotBad (faults.Bad number offset) = ⊥
-
 -- over an honest disk with a file of this length: its image has P
 abbrev pub OfImage : {D : Type 0} → (D → Bool) → (D → DiskState) → D → ℕ → (Bytes → Type 0) → Type 0
 OfImage is_honest state disk len P = IsTrue (is_honest disk) → len ≡ length (state disk).image → P (state disk).image
@@ -121,10 +105,10 @@ pub record IsStartOf {D : Type 0} (kind : FileKind) (is_honest : D → Bool) (st
   pub told : OfImage is_honest state disk len (λ image. IsStart kind image start)
 
 -- the batches behind a first gate, and where they stop
-pub record IsStopOf {D : Type 0} (is_honest : D → Bool) (state : D → DiskState) (disk : D) (len : ℕ) (start : Start) (bs : List LogBatch) (stop : Stop) : Type 0 where
-  pub batches : AreBatches start.version start.start stop.mark bs
-  pub within : stop.place ≤ len
-  pub told : OfImage is_honest state disk len (λ image. IsHead (drop start.place image) start.head → IsStop start.version start.place image bs stop)
+pub record IsStopOf {D : Type 0} (is_honest : D → Bool) (state : D → DiskState) (disk : D) (len : ℕ) (start : Start) (bs : List LogBatch) (reader : BatchReader) (mark : ℕ) : Type 0 where
+  pub batches : AreBatches start.version start.start mark bs
+  pub within : reader.place ≤ len
+  pub told : OfImage is_honest state disk len (λ image. IsHead (drop start.place image) start.head → IsStop start.version start.place image bs reader)
 
 -- the front of a file of this kind
 pub record IsFrontOf {D : Type 0} (kind : FileKind) (is_honest : D → Bool) (state : D → DiskState) (disk : D) (len : ℕ) (found : Found) : Type 0 where

@@ -1,5 +1,5 @@
--- Which numbers the resume batches of a log make void, and what is held of its records once it was read.
-use Rattle.std.specs.{Prelude.{ℕ, Bool, not, ◌&&◌, nat_lt, List, [], Option, Some, None}, List.{filter, filter_map, flat_map, list_any}}
+-- Which numbers the resume batches of a log make void, and which records its batches have.
+use Rattle.std.specs.{Prelude.{ℕ, Bool, not, ◌&&◌, nat_lt, List, [], Option, Some, None}, List.list_any}
 use Rattle.mt_rows.specs.declared.record.Record.{Record}
 use Rattle.mt_log.specs.{declared.batch.LogBatch.LogBatch, declared.batch.LogBatch.TheVariants.{Records, Resume, OldRecords}}
 
@@ -22,15 +22,3 @@ abbrev pub records_in : LogBatch → List Record
 records_in (Records b) = b.records
 records_in (OldRecords b) = b.records
 records_in (Resume from to kept) = []
-
--- what is held of records: those whose stamps are not void
-abbrev pub held_of : List Numbers → List Record → List Record
-held_of voids records = filter (λ r. not (is_void voids r.stamp)) records
-
--- what is held of the records of batches: those that no resume batch among them makes void
-abbrev pub held_in : List LogBatch → List Record
-held_in batches = held_of (filter_map voids_in batches) (flat_map records_in batches)
-
--- lists of records, one behind the other
-abbrev pub joined : List (List Record) → List Record
-joined parts = flat_map (λ part. part) parts

@@ -2,12 +2,10 @@
 //!
 //! Units: steps are numbered from 1; a batch goes over step `from` and up to step `to`.
 
-ghost use Rattle.std.specs.Prelude.{◌≡◌, ◌++◌, map, IfOk};
-ghost use Rattle.mt_rows.specs.declared.record.Record.{Record as AnyRecord};
-ghost use Rattle.mt_log.specs.Voids.{held_in, joined};
+ghost use Rattle.std.specs.Prelude.{◌≡◌, ◌++◌, IfOk};
+ghost use Rattle.mt_log.specs.Voids.{records_in};
 
-use crate::joining::join_held;
-use crate::records::SpelledRecords;
+use crate::order::fall_in;
 use mt_rows::Record;
 use std::alloc::{AllocError, Global};
 use std::fmt;
@@ -18,28 +16,45 @@ use std::snapshot::Snapshot;
 pub const MAX_STEP: u64 = 1 << 59;
 
 /// A batch of records as it stands in a log. It is in the format, and seen as a `Batch`; but its steps
-/// and its stamps may be any, so that no `Batch` is made of it. In memory it has the stamps of its records alone:
-/// the front holds those of them that count.
+/// and its stamps may be any, so that no `Batch` is made of it. In memory it has none of its records: only its steps,
+/// and its first stamp that falls.
 #[derive(Drop)]
 pub struct LoggedBatch {
-    pub(crate) from: u64,
-    pub(crate) to: u64,
-    pub(crate) stamps: Vec<u64>,
-    pub(crate) records: Snapshot<SpelledRecords>,
+    from: u64,
+    to: u64,
+    fall: Option<u64>,
+    records: Snapshot<Vec<Record>>,
 }
 
 impl Model for LoggedBatch {
     ghost use Rattle.std.specs.Prelude.{◌≡◌, map};
     ghost use Rattle.mt_rows.specs.{declared.record.Batch.Batch, declared.record.Record.Record};
+    ghost use Rattle.mt_log.specs.Falls.{fall_in};
 
     ghost Value = { Batch };
 
-    ghost view = { λ b. record { from = b.from; to = b.to; records = b.records.value } };
+    ghost view = { λ b. record { from = b.from; to = b.to; records = b.records.value.items } };
 
-    ghost invariant = { λ b. b.stamps.items ≡ map (λ (r : Record). r.stamp) b.records.value };
+    ghost invariant = { λ b. b.fall ≡ fall_in b.from b.to (map (λ (r : Record). r.stamp) b.records.value.items) };
 }
 
 impl LoggedBatch {
+    ghost use Rattle.std.specs.Prelude.{map};
+    ghost use Rattle.mt_rows.specs.declared.record.Record.{Record as AnyRecord};
+    ghost use Rattle.mt_log.specs.Falls.{fall_in};
+
+    // A batch of these records.
+    fn new(from: u64, to: u64, records: &Vec<Record>) -> LoggedBatch
+        ensures { result ≡ record { from = from; to = to; records = records.now.items } }
+    {
+        LoggedBatch {
+            from,
+            to,
+            fall: fall_in(from, to, records),
+            records: Snapshot::of(records),
+        }
+    }
+
     /// The step over which it is to go.
     pub fn from(&self) -> u64
         ensures { result ≡ self.now.from }
@@ -54,11 +69,11 @@ impl LoggedBatch {
         self.to
     }
 
-    /// The stamps of its records, in the order of the file.
-    pub fn stamps(&self) -> &[u64]
-        ensures { result.now ≡ map (λ (r : AnyRecord). r.stamp) self.now.records }
+    /// Its first stamp that isn't over the one before it, or is past its end; the first one is to be over `from`.
+    pub fn fall(&self) -> Option<u64>
+        ensures { result ≡ fall_in self.now.from self.now.to (map (λ (r : AnyRecord). r.stamp) self.now.records) }
     {
-        &self.stamps
+        self.fall
     }
 }
 
@@ -68,7 +83,7 @@ impl fmt::Debug for LoggedBatch {
         f.debug_struct("LoggedBatch")
             .field("from", &self.from)
             .field("to", &self.to)
-            .field("stamps", &self.stamps)
+            .field("fall", &self.fall)
             .finish()
     }
 }
@@ -108,9 +123,43 @@ impl LogBatch {
     }
 }
 
+/// A batch with its records, as it was read.
+#[derive(Debug, Drop)]
+pub struct ReadBatch {
+    pub batch: LogBatch,
+    pub records: Vec<Record>,
+    pub ghost whole: { records.items ≡ records_in batch },
+}
+
+impl ReadBatch {
+    ghost use Rattle.mt_log.specs.{declared.batch.LogBatch.LogBatch, Reading.read_as};
+
+    /// A batch of these records: an old one, or not.
+    pub(crate) fn of_records(old: bool, from: u64, to: u64, records: Vec<Record>) -> ReadBatch
+        ensures { result.batch ≡ read_as old (record { from = from; to = to; records = records.items }) }
+    {
+        let batch = LoggedBatch::new(from, to, &records);
+        let batch = if old {
+            LogBatch::OldRecords(batch)
+        } else {
+            LogBatch::Records(batch)
+        };
+        ReadBatch { batch, records }
+    }
+
+    /// A resume batch.
+    pub(crate) fn resume(alloc: Global, from: u64, to: u64, kept: u64) -> ReadBatch
+        ensures { result.batch ≡ LogBatch.Resume from to kept }
+    {
+        ReadBatch {
+            batch: LogBatch::Resume { from, to, kept },
+            records: Vec::new(alloc),
+        }
+    }
+}
+
 /// What was read of a log: the number of its format, its worker, of how many logs it is, its generation, the step after
-/// which it begins, and its batches. Generation and start are 0 for formats 1 and 2. Of the records it holds those that
-/// none of its own resume batches makes void.
+/// which it begins, and its batches. Generation and start are 0 for formats 1 and 2.
 #[derive(Debug, Drop)]
 pub struct Front {
     pub version: u8,
@@ -119,42 +168,18 @@ pub struct Front {
     pub generation: u64,
     pub start: u64,
     pub batches: Vec<LogBatch>,
-    pub(crate) held: Vec<SpelledRecords>,
-    ghost holds: { joined held.items ≡ held_in batches.items },
 }
 
 impl Front {
     ghost use Rattle.mt_log.specs.Contents.{contents_of};
 
-    /// The records that it holds, in the order of the file.
-    pub fn records(&self, alloc: Global) -> Result<Vec<Record>, AllocError>
-        ensures { IfOk result (λ records. records.items ≡ held_in self.now.batches.items) }
-    {
-        let mut records = Vec::new(alloc);
-        for part in &self.held {
-            records.append(&mut part.list(alloc)?)?;
-        }
-        Ok(records)
-    }
-
-    /// The same, as the bytes that spell them, in parts. All else is let go.
-    pub fn into_held(self) -> Vec<SpelledRecords>
-        ensures { joined result.items ≡ held_in self.batches.items }
-    {
-        self.held
-    }
-
     /// This log with that of the next generation after it: its own beginning, and the batches of both. Whether the next
     /// one begins where this one ends is not asked.
-    pub fn join(mut self, alloc: Global, next: Front) -> Result<Front, AllocError>
+    pub fn join(mut self, next: Front) -> Result<Front, AllocError>
         ensures { IfOk result (λ whole. contents_of whole ≡ record (contents_of self) { batches = self.batches.items ++ next.batches.items }) }
     {
-        let (mut batches, mut held) = (self.batches, self.held);
-        let (mut next_batches, mut next_held) = (next.batches, next.held);
-        join_held(alloc, &mut held, &batches, &mut next_held, &next_batches)?;
-        batches.append(&mut next_batches)?;
-        self.batches = batches;
-        self.held = held;
+        let mut batches = next.batches;
+        self.batches.append(&mut batches)?;
         Ok(self)
     }
 }

@@ -28,7 +28,7 @@ pub(crate) const LENGTH_LIMIT: usize = 1 << 63;
 /// `mark`, or it begins there.
 #[derive(Drop)]
 pub struct LogFile<D: Disk> {
-    disk: D,
+    pub(crate) disk: D,
     end: usize,
     mark: u64,
 }

@@ -1,7 +1,8 @@
-//! Which batches an append takes, and which steps a batch may have.
+//! Which batches an append takes, which steps a batch may have, and which of its stamps falls.
 
-ghost use Rattle.std.specs.Prelude.{◌≡◌, ◌↔◌, IsTrue};
-ghost use Rattle.mt_log.specs.{Contents.IsBatch, Reading.{are_steps, is_step, rise_within}};
+ghost use Rattle.std.specs.Prelude.{◌≡◌, ◌↔◌, map, IsTrue};
+ghost use Rattle.mt_rows.specs.declared.record.Record.{Record as AnyRecord};
+ghost use Rattle.mt_log.specs.{Contents.IsBatch, Falls.fall_in, Reading.{are_steps, is_step, rise_within}};
 
 use crate::batch::MAX_STEP;
 use crate::writer::{BODY_LIMIT, RECORDS_HEAD, records_len};
@@ -55,4 +56,18 @@ fn rise_within(from: u64, to: u64, records: &[Record]) -> bool
         last = record.stamp;
     }
     true
+}
+
+/// The first stamp of records that isn't over the one before it, or is over `to`. The first one is to be over `from`.
+pub(crate) fn fall_in(from: u64, to: u64, records: &[Record]) -> Option<u64>
+    ensures { result ≡ fall_in from to (map (λ (r : AnyRecord). r.stamp) records.now) }
+{
+    let mut last = from;
+    for record in records {
+        if record.stamp <= last || record.stamp > to {
+            return Some(record.stamp);
+        }
+        last = record.stamp;
+    }
+    None
 }

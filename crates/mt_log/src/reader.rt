@@ -7,10 +7,10 @@ ghost use Rattle.mt_log.specs.{Format.{header, IsVersion}, Fronts.HasNoPlainHead
 ghost use Rattle.mt_log.specs.declared.reader.FileKind.{FileKind};
 ghost use Rattle.mt_log.specs.Stops.{IsHead, IsStart, IsNoHeader, IsBadHeader, IsBadStart, IsBehind};
 
+use crate::batch::ReadBatch;
 use crate::fault::{DecodeFault, ReadFault};
-use crate::held::ReadBatch;
 use crate::order::is_step;
-use crate::records::spelled_of;
+use crate::records::record_list_of;
 use mt_fields::{u8_at, u32_at, u64_at};
 use mt_gates::OPEN;
 use mt_log_generations::{Header, HeaderFault, Parity, header_of};
@@ -199,7 +199,7 @@ pub fn batch_of(
 {
     let (body, behind) = bytes.split_at(size);
     match body_of(alloc, version, body) {
-        Ok(batch) => Ok(Some((batch, head_of(behind)))),
+        Ok(read) => Ok(Some((read, head_of(behind)))),
         Err(DecodeFault::Bad) => Ok(None),
         Err(DecodeFault::Memory) => Err(AllocError),
     }
@@ -208,7 +208,7 @@ pub fn batch_of(
 // A batch that takes all of the bytes.
 #[tactic(auto, unfolding(crate::specs::Reading::batch_in))]
 fn body_of(alloc: Global, version: u8, bytes: &[u8]) -> Result<ReadBatch, DecodeFault>
-    ensures { Gives (λ b. b) result (batch_in version bytes.now) }
+    ensures { Gives (λ read. read.batch) result (batch_in version bytes.now) }
 {
     let (kind, rest) = u8_at(bytes)?;
     let (batch, rest) = kind_of(alloc, version, kind, rest)?;
@@ -225,7 +225,7 @@ fn kind_of(
     kind: u8,
     rest: &[u8],
 ) -> Result<(ReadBatch, &[u8]), DecodeFault>
-    ensures { Gives (λ x. (x.0, x.1.now)) result (batch_kind_at version kind rest.now) }
+    ensures { Gives (λ x. (x.0.batch, x.1.now)) result (batch_kind_at version kind rest.now) }
 {
     match kind {
         0 if version == OLD_FORMAT => records_of(alloc, true, rest),
@@ -238,7 +238,7 @@ fn kind_of(
 // A resume batch, behind its first byte.
 #[tactic(auto, unfolding(crate::specs::Reading::resume_at))]
 fn resume_of(alloc: Global, bytes: &[u8]) -> Result<(ReadBatch, &[u8]), DecodeFault>
-    ensures { Gives (λ x. (x.0, x.1.now)) result (resume_at bytes.now) }
+    ensures { Gives (λ x. (x.0.batch, x.1.now)) result (resume_at bytes.now) }
 {
     let (from, rest) = u64_at(bytes)?;
     let (to, rest) = u64_at(rest)?;
@@ -252,15 +252,14 @@ fn resume_of(alloc: Global, bytes: &[u8]) -> Result<(ReadBatch, &[u8]), DecodeFa
 // A batch of records, after its first byte: an old one, or not.
 #[tactic(auto, unfolding(crate::specs::Reading::records_at))]
 fn records_of(alloc: Global, old: bool, bytes: &[u8]) -> Result<(ReadBatch, &[u8]), DecodeFault>
-    ensures { Gives (λ x. (x.0, x.1.now)) result (records_at old bytes.now) }
+    ensures { Gives (λ x. (x.0.batch, x.1.now)) result (records_at old bytes.now) }
 {
     let (from, rest) = u64_at(bytes)?;
     let (to, rest) = u64_at(rest)?;
     let (count, rest) = u32_at(rest)?;
-    let (stamps, records, rest) = spelled_of(alloc, old, count as usize, rest)?;
+    let (records, rest) = record_list_of(alloc, old, count as usize, rest)?;
     if !is_step(to) {
         return Err(DecodeFault::Bad);
     }
-    let batch = ReadBatch::of_records(old, from, to, stamps, records);
-    Ok((batch, rest))
+    Ok((ReadBatch::of_records(old, from, to, records), rest))
 }

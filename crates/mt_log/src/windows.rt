@@ -1,22 +1,22 @@
 //! A log's front, read from its disk a batch at a time.
 //!
-//! Of the file no more is held than one body, with the gate and the length behind it. A length counts only
-//! where as many bytes follow in the file, so that no more is allocated than the file has.
+//! Of the file no more is held than one batch, with the gate and the length after it. A length counts only
+//! if as many bytes follow in the file, so that no more is allocated than the file has.
 
-ghost use Rattle.std.specs.Prelude.{◌≡◌, ◌<◌, ◌≤◌, ◌+◌, ◌-◌, ◌^◌, [], drop, IsTrue, IfOk, IfErr, MatchResult};
+ghost use Rattle.std.specs.Prelude.{◌≡◌, ◌<◌, ◌≤◌, ◌^◌, [], IsTrue, IfOk, IfErr, MatchResult};
 ghost use Rattle.mt_rows.specs.Rows.{Bytes};
 ghost use Rattle.mt_log.specs.{declared.fault.ReadFault.TheVariants.{Bad}, declared.reader.FileKind.FileKind, Fronts.IsOfKind};
-ghost use Rattle.mt_log.specs.Stops.{CountsReads, IsWindow, OfImage, IsHead, IsOpenGate, IsAtGate, FitsGate, AreBatches, BeginsSo, IsWithinLimits, IsStop, IsFoundAt, IsRead, IsBadRead, IsNotBad, IsStartOf, IsStopOf, IsFrontOf, IsFaultOf};
+ghost use Rattle.mt_log.specs.{Rereading.{CountsReads, IsNotBad}, Stops.{IsWindow, AreBatches, BeginsSo, IsWithinLimits, IsStop, IsFoundAt, IsRead, IsBadRead, IsStartOf, IsStopOf, IsFrontOf, IsFaultOf}};
 
-use crate::batch::Front;
+use crate::batch::{Front, LogBatch};
+use crate::batch_reader::BatchReader;
 use crate::fault::ReadFault;
-use crate::held::{ReadBatch, ReadBatches};
-use crate::reader::{FileKind, Head, NUMBERED_BYTES, Start, batch_of, start_of};
+use crate::reader::{FileKind, Head, NUMBERED_BYTES, Start, start_of};
 use mt_disk::Disk;
 use std::alloc::Global;
 
-// The bytes of a gate and of the length behind it.
-const HEAD_BYTES: usize = 5;
+/// The bytes of a gate and of the length after it.
+pub(crate) const HEAD_BYTES: usize = 5;
 
 /// A log's front as it was read: the gate at `end` is its first that isn't open.
 #[derive(Drop)]
@@ -24,25 +24,6 @@ pub struct Found {
     pub front: Front,
     pub end: usize,
     pub gate: u8,
-    pub mark: u64,
-}
-
-/// What stands at a gate.
-#[derive(Drop)]
-pub enum AtGate {
-    /// A gate that isn't open.
-    Shut(u8),
-    /// An open gate and a batch, of this many bytes together; and what stands at the gate behind them.
-    Open(ReadBatch, usize, Head),
-    /// Neither.
-    Bad,
-}
-
-/// Where batches stop: at the gate at this place, or at what isn't in the format.
-#[derive(Drop)]
-pub struct Stop {
-    pub place: usize,
-    pub gate: Option<u8>,
     pub mark: u64,
 }
 
@@ -61,37 +42,49 @@ pub(crate) fn read_front<D: Disk>(
     ensures count { CountsReads result (D.failures disk.old) (D.failures disk.new) }
 {
     let start = read_start(alloc, disk, kind, len)?;
-    let mut batches = ReadBatches::new(alloc);
-    let stop = read_batches(alloc, disk, len, start, &mut batches)?;
-    found_of(start, batches, &stop)
+    let mut batches = Vec::new(alloc);
+    let (reader, mark) = read_batches(alloc, disk, len, start, &mut batches)?;
+    found_of(start, batches, reader, mark)
 }
 
 // The front that begins so, and whose batches stop there.
-fn found_of(start: Start, batches: ReadBatches, stop: &Stop) -> Result<Found, ReadFault>
+fn found_of(
+    start: Start,
+    batches: Vec<LogBatch>,
+    reader: BatchReader,
+    mark: u64,
+) -> Result<Found, ReadFault>
     requires limits { IsWithinLimits start }
-    requires batches { AreBatches start.version start.start stop.now.mark batches }
-    ensures ok { IfOk result (IsFoundAt stop.now.place) }
+    requires batches { AreBatches start.version start.start mark batches.items }
+    ensures ok { IfOk result (IsFoundAt reader.place) }
     ensures of { IfOk result (λ found. found.front.generation ≡ start.generation) }
-    ensures err { IfErr result (λ e. e ≡ Bad start.worker stop.now.place) }
-    ensures told { (kind : FileKind) (image : Bytes) → IsOfKind kind start.generation → BeginsSo image start → IsStop start.version start.place image batches stop.now
+    ensures err { IfErr result (λ e. e ≡ Bad start.worker reader.place) }
+    ensures told { (kind : FileKind) (image : Bytes) → IsOfKind kind start.generation → BeginsSo image start → IsStop start.version start.place image batches.items reader
         → MatchResult result (IsRead image) (IsBadRead kind image) }
 {
-    match stop.gate {
-        Some(gate) => Ok(Found {
-            front: batches.into_front(start),
-            end: stop.place,
+    match reader.head {
+        Head::Shut(gate) => Ok(Found {
+            front: Front {
+                version: start.version,
+                worker: start.worker,
+                logs: start.logs,
+                generation: start.generation,
+                start: start.start,
+                batches,
+            },
+            end: reader.place,
             gate,
-            mark: stop.mark,
+            mark,
         }),
-        None => Err(ReadFault::Bad {
+        Head::Open(_) | Head::Bad => Err(ReadFault::Bad {
             number: start.worker,
-            offset: stop.place as u64,
+            offset: reader.place as u64,
         }),
     }
 }
 
-// What a log begins with, from a file of this kind and this length.
-fn read_start<D: Disk>(
+/// What a log begins with, from a file of this kind and this length.
+pub(crate) fn read_start<D: Disk>(
     alloc: Global,
     disk: &mut D,
     kind: FileKind,
@@ -107,81 +100,34 @@ fn read_start<D: Disk>(
     start_of(kind, &bytes)
 }
 
-// Batches one behind the other, up to the first gate that isn't open; this stands at the first one.
+// The batches of a log that begins so, up to the first gate that isn't open; and the step up to which they go.
 fn read_batches<D: Disk>(
     alloc: Global,
     disk: &mut D,
     len: usize,
     start: Start,
-    batches: &mut ReadBatches,
-) -> Result<Stop, ReadFault>
-    requires none { batches.old ≡ [] }
+    batches: &mut Vec<LogBatch>,
+) -> Result<(BatchReader, u64), ReadFault>
+    requires none { batches.old.items ≡ [] }
     requires header { start.place ≤ len }
     requires short { len < 2 ^ 63 }
-    ensures ok { IfOk result (IsStopOf D.is_honest D.state disk.old len start batches.new) }
+    ensures ok { IfOk result (λ stop. IsStopOf D.is_honest D.state disk.old len start batches.new.items stop.0 stop.1) }
     ensures err { IfErr result IsNotBad }
     ensures same { IsTrue (D.is_honest disk.old) → D.state disk.new ≡ D.state disk.old }
     ensures honest { D.is_honest disk.new ≡ D.is_honest disk.old }
     ensures count { CountsReads result (D.failures disk.old) (D.failures disk.new) }
 {
-    let mut place = start.place;
+    let mut reader = BatchReader::new(start, len);
     let mut mark = start.start;
-    let mut head = start.head;
-    loop {
-        match at_gate(alloc, disk, start.version, len, place, head)? {
-            AtGate::Shut(gate) => {
-                let gate = Some(gate);
-                return Ok(Stop { place, gate, mark });
-            }
-            AtGate::Bad => {
-                let gate = None;
-                return Ok(Stop { place, gate, mark });
-            }
-            AtGate::Open(batch, size, next) => {
-                place += size;
-                mark = batch.to();
-                head = next;
-                batches.add(alloc, batch)?;
-            }
-        }
+    while let Some(read) = reader.step(alloc, disk)? {
+        mark = read.batch.to();
+        batches.push(read.batch)?;
     }
+    Ok((reader, mark))
 }
 
-// What stands at a gate, where this stands by its first bytes.
-fn at_gate<D: Disk>(
-    alloc: Global,
-    disk: &mut D,
-    version: u8,
-    len: usize,
-    place: usize,
-    head: Head,
-) -> Result<AtGate, ReadFault>
-    requires within { place ≤ len }
-    requires short { len < 2 ^ 63 }
-    ensures fits { IfOk result (FitsGate version (len - place)) }
-    ensures told { IfOk result (λ at. OfImage D.is_honest D.state disk.old len (λ image. IsHead (drop place image) head → IsAtGate version (drop place image) at)) }
-    ensures err { IfErr result IsNotBad }
-    ensures same { IsTrue (D.is_honest disk.old) → D.state disk.new ≡ D.state disk.old }
-    ensures honest { D.is_honest disk.new ≡ D.is_honest disk.old }
-    ensures count { CountsReads result (D.failures disk.old) (D.failures disk.new) }
-{
-    let size = match head {
-        Head::Shut(gate) => return Ok(AtGate::Shut(gate)),
-        Head::Bad => return Ok(AtGate::Bad),
-        Head::Open(size) => size as usize,
-    };
-    if len - place < HEAD_BYTES + size {
-        return Ok(AtGate::Bad);
-    }
-    let bytes = read_window(alloc, disk, len, place + HEAD_BYTES, size + HEAD_BYTES)?;
-    match batch_of(alloc, version, size, &bytes)? {
-        Some((batch, next)) => Ok(AtGate::Open(batch, HEAD_BYTES + size, next)),
-        None => Ok(AtGate::Bad),
-    }
-}
-
-// Up to so many bytes of a file of this length, from a place in it on: as many as it has.
-fn read_window<D: Disk>(
+/// Up to so many bytes of a file of this length, from a place in it on: as many as it has.
+pub(crate) fn read_window<D: Disk>(
     alloc: Global,
     disk: &mut D,
     len: usize,

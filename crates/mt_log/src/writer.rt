@@ -75,8 +75,8 @@ fn put_write(out: &mut Vec<u8>, write: &Write) -> Result<(), AllocError>
     }
 }
 
-/// A record.
-pub(crate) fn put_record(out: &mut Vec<u8>, change: &Record) -> Result<(), AllocError>
+// A record.
+fn put_record(out: &mut Vec<u8>, change: &Record) -> Result<(), AllocError>
     requires { IsKey change.now.key }
     ensures { OnOk result (out.new.items ≡ out.old.items ++ record_bytes change.now) }
 {

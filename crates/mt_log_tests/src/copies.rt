@@ -3,12 +3,11 @@
 ghost use Rattle.std.specs.Prelude.{◌<◌};
 
 use self::Part::{Resume, UpTo};
-use crate::slots::{Change, Log, append, new_log, recover_over, resume_all};
-use mt_disk::MemDisk;
-use mt_recover::Recovered;
+use crate::slots::{Change, Log, append, new_log, put, recover_over, resume};
+use crate::stores::image_of_log;
 use mt_rows::Refusal;
+use mt_store_logs::FileImages;
 use std::alloc::Global;
-use std::slice;
 
 // A batch that is appended to a log.
 #[derive(Clone, Copy, Debug)]
@@ -119,62 +118,48 @@ const CASES: [Case; 19] = [
     ([&[UpTo(6), UpTo(9)], BEFORE, NEW], Ok(0)),
 ];
 
-// What three workers placed. Since the first recovery worker 1 has placed nothing, so its batches have no records.
+// What three workers placed, each a put of its own key. Since the first recovery worker 1 has placed nothing, so its batches have no records.
 fn placed() -> [Change; 5] {
-    [put(1, 0), put(2, 1), put(3, 2), put(9, 0), put(13, 2)]
-}
-
-/// A put of a worker's, of its own key.
-pub fn put(stamp: u64, worker: u8) -> Change {
-    Change {
-        stamp,
-        worker,
-        key: worker,
-        row: Some(1),
-        over: false,
-    }
+    [(1, 0), (2, 1), (3, 2), (9, 0), (13, 2)].map(|(stamp, worker)| put(stamp, worker, worker, 1))
 }
 
 fn append_part(
     alloc: Global,
-    log: &mut Log,
+    log: Log,
     placed: &[Change],
     worker: u8,
     part: Part,
-) -> Result<(), Refusal> {
+) -> Result<Log, Refusal> {
     match part {
         UpTo(to) => append(alloc, log, placed, worker, to),
-        Resume(resume, cutoff) => {
-            let recovered = Recovered {
-                cutoff,
-                resume,
-                used: None,
-                pairs: Vec::new(alloc),
-            };
-            resume_all(alloc, slice::from_mut(log), &recovered)
-        }
+        Resume(to, kept) => resume(alloc, log, kept, to),
     }
 }
 
-/// The log of a worker, with these parts of what was placed.
-pub fn log_of(alloc: Global, placed: &[Change], worker: u8, parts: &[Part]) -> Result<Log, Refusal>
+/// The files of a worker whose log has these parts of what was placed.
+pub fn image_with(
+    alloc: Global,
+    placed: &[Change],
+    worker: u8,
+    parts: &[Part],
+) -> Result<FileImages, Refusal>
     requires { worker < 3 }
 {
-    let mut log = new_log(MemDisk::new(alloc, Vec::new(alloc), None), worker, 3)?;
+    let mut log = new_log(alloc, worker, 3)?;
     for part in parts {
-        append_part(alloc, &mut log, placed, worker, *part)?;
+        log = append_part(alloc, log, placed, worker, *part)?;
     }
-    Ok(log)
+    Ok(image_of_log(alloc, &log)?)
 }
 
 // The step up to which a store with these logs is recovered.
 fn cutoff_of(alloc: Global, store: [&[Part]; 3]) -> Result<u64, Refusal> {
-    let mut logs = Vec::new(alloc);
+    let mut images = Vec::new(alloc);
     for worker in 0..3 {
-        logs.push(log_of(alloc, &placed(), worker, store[usize::from(worker)])?)?;
+        images.push(image_with(alloc, &placed(), worker, store[usize::from(worker)])?)?;
     }
-    let recovered = recover_over(alloc, &mut logs, [None, None], 8)?;
-    Ok(recovered.cutoff)
+    let (store, _) = recover_over(alloc, &images, [None, None], 8)?;
+    Ok(store.recovered.cutoff)
 }
 
 #[test]

@@ -3,15 +3,16 @@
 
 ghost use Rattle.std.specs.Prelude.{◌≡◌};
 
-use crate::copies::put;
-use crate::logs::{EMPTY, Told, disk_with, not_opened, opened};
-use crate::slots::{Log, append};
-use mt_log::LogFile;
+use crate::logs::{EMPTY, Told, disk_with, not_opened, opened, read_again};
+use crate::slots::{append, put};
+use mt_disk::MemDisk;
+use mt_log::{FileKind, Front, LogFile};
 use mt_log_files::{begin, give_up, open_numbered, open_slot, take_disk};
 use mt_log_generations::{Header, Parity};
 use mt_recover::{LogSlot, cutoff};
 use mt_rows::Refusal;
 use std::alloc::{AllocError, Global};
+use std::mem;
 use std::test::Fail;
 
 // Worker 1 of 2, generation 1, from step 6 on, without batches.
@@ -35,12 +36,14 @@ enum Found {
     Failed,
 }
 
+type Place = LogSlot<MemDisk>;
+
 // The place of a file with these bytes, one call of whose disk fails.
-fn place_with(alloc: Global, image: &[u8], fail: u64) -> Result<Log, AllocError> {
+fn place_with(alloc: Global, image: &[u8], fail: u64) -> Result<Place, AllocError> {
     Ok(LogSlot::Closed(disk_with(alloc, image, fail, 99)?))
 }
 
-fn find(alloc: Global, slot: &mut Log, parity: Parity) -> Found {
+fn find(alloc: Global, slot: &mut Place, parity: Parity) -> Found {
     match open_numbered(alloc, slot, parity) {
         Ok(Some(front)) => Found::Log(front.generation, front.start, front.batches.len()),
         Ok(None) => Found::NoLog,
@@ -50,7 +53,7 @@ fn find(alloc: Global, slot: &mut Log, parity: Parity) -> Found {
 }
 
 // Whether a place's file has these bytes.
-fn has(slot: &mut Log, image: &[u8]) -> bool {
+fn has(slot: &mut Place, image: &[u8]) -> bool {
     let Some(disk) = take_disk(slot) else {
         return false;
     };
@@ -59,26 +62,54 @@ fn has(slot: &mut Log, image: &[u8]) -> bool {
     is_so
 }
 
+// Appends what worker 1 placed up to a step to the open log of a place.
+fn appends(alloc: Global, slot: &mut Place, upto: u64) -> bool {
+    let LogSlot::Open(log) = mem::replace(slot, LogSlot::Away) else {
+        return false;
+    };
+    match append(alloc, log, &[put(6, 1, 1, 1), put(9, 1, 1, 1)], 1, upto) {
+        Ok(log) => {
+            *slot = LogSlot::Open(log);
+            true
+        }
+        Err(_) => false,
+    }
+}
+
+// How many records the open log of a place has that is read again, if it gives what its front has.
+fn count_again(
+    alloc: Global,
+    slot: &mut Place,
+    kind: FileKind,
+    front: &Front,
+) -> Result<Option<usize>, AllocError> {
+    match slot {
+        LogSlot::Open(log) => Ok(read_again(alloc, log, kind, front)?.map(|records| records.len())),
+        _ => Ok(None),
+    }
+}
+
 #[test]
 fn a_generation_is_begun_appended_to_joined_and_given_up(rt: HostRuntime) -> Result<(), Fail> {
     let alloc = rt.alloc();
-    let placed = [put(6, 1), put(9, 1)];
     let mut first = place_with(alloc, &EMPTY, 0)?;
     let plain = open_slot(alloc, &mut first).is_ok();
-    assert!(rt; plain && append(alloc, &mut first, &placed, 1, 6).is_ok());
+    assert!(rt; plain && appends(alloc, &mut first, 6));
     let mut next = place_with(alloc, &[0], 0)?;
     assert!(rt; find(alloc, &mut next, Parity::Odd) == Found::NoLog);
     assert!(rt; begin(&mut next, HEADER).is_ok());
     assert!(rt; has(&mut next, &BEGUN));
     assert!(rt; find(alloc, &mut next, Parity::Odd) == Found::Log(1, 6, 0));
-    assert!(rt; append(alloc, &mut next, &placed, 1, 9).is_ok());
+    assert!(rt; appends(alloc, &mut next, 9));
     let older = open_slot(alloc, &mut first).expect(&rt, "the older log opens");
     let newer = open_numbered(alloc, &mut next, Parity::Odd).expect(&rt, "the next log opens");
     let newer = newer.expect(&rt, "the next log is there");
     assert!(rt; newer.generation == 1 && newer.start == 6 && newer.batches.len() == 1);
-    let chain = older.join(alloc, newer)?;
+    let odd = FileKind::Numbered(Parity::Odd);
+    assert!(rt; count_again(alloc, &mut first, FileKind::Plain, &older)? == Some(1));
+    assert!(rt; count_again(alloc, &mut next, odd, &newer)? == Some(1));
+    let chain = older.join(newer)?;
     assert!(rt; chain.generation == 0 && chain.start == 0 && chain.batches.len() == 2);
-    assert!(rt; chain.records(alloc)?.len() == 2);
     assert!(rt; cutoff(&[chain]) == 9);
     assert!(rt; give_up(&mut next).is_ok());
     assert!(rt; has(&mut next, &[0]));

@@ -1,12 +1,11 @@
 //! Batches, and logs on any disk, that the tests share.
 
-ghost use Rattle.std.specs.Prelude.{IfOk};
-ghost use Rattle.mt_log.specs.Contents.{IsBatch};
-
-use crate::slots::{change_of, key_of, row_of};
+use crate::slots::{Change, batch_of, put};
 use mt_disk::{Disk, MemDisk};
-use mt_log::{AppendFault, LogBatch, LogFile, LoggedBatch, OpenFault, fits};
-use mt_rows::{Batch, Record, Records, Write};
+use mt_log::{
+    AppendFault, BatchReader, FileKind, Front, LogBatch, LogFile, LoggedBatch, OpenFault, ReadBatch,
+};
+use mt_rows::Record;
 use std::alloc::{AllocError, Global};
 
 /// The header of log 0 of 1, and its closed gate.
@@ -27,51 +26,12 @@ pub enum Told {
     Memory,
 }
 
-/// A batch over step `from` and up to step `to`: one put of tenant 7, key 6b, column 76, at this step.
-pub fn put_batch(alloc: Global, from: u64, to: u64, stamp: u64) -> Result<Batch, AllocError>
-    ensures { IfOk result IsBatch }
-{
-    let row = row_of(alloc, b'v')?;
-    batch_with(alloc, from, to, Some((stamp, Write::Whole(row))))
+/// A put of tenant 7, key 6b, column 76.
+pub fn put_at(stamp: u64) -> Change {
+    put(stamp, 0, b'k', b'v')
 }
 
-// The same, of a put of column 77 over a row that is there.
-fn change_batch(alloc: Global, from: u64, to: u64, stamp: u64) -> Result<Batch, AllocError>
-    ensures { IfOk result IsBatch }
-{
-    let change = change_of(alloc, b'w')?;
-    batch_with(alloc, from, to, Some((stamp, Write::Changed(change))))
-}
-
-// A batch of such a record of tenant 7, key 6b, or of none.
-fn batch_with(
-    alloc: Global,
-    from: u64,
-    to: u64,
-    written: Option<(u64, Write)>,
-) -> Result<Batch, AllocError>
-    ensures { IfOk result IsBatch }
-{
-    let key = key_of(alloc, b'k')?;
-    let mut records = Vec::new(alloc);
-    if let Some((stamp, write)) = written {
-        records.push(Record {
-            stamp,
-            tenant: 7,
-            key,
-            write,
-        })?;
-    }
-    let records = Records::new(records);
-    let batch = Batch { from, to, records };
-    if fits(&batch) {
-        Ok(batch)
-    } else {
-        Err(AllocError)
-    }
-}
-
-/// Appends such a batch, or gives the log's disk back.
+/// Appends a batch of that put over step `from` and up to step `to`, or gives the log's disk back.
 pub fn append<D: Disk>(
     alloc: Global,
     log: LogFile<D>,
@@ -79,39 +39,18 @@ pub fn append<D: Disk>(
     to: u64,
     stamp: u64,
 ) -> Result<LogFile<D>, (D, Told)> {
-    append_batch(alloc, log, put_batch(alloc, from, to, stamp))
+    append_all(alloc, log, &[put_at(stamp)], from, to)
 }
 
-/// Appends such a batch behind what a log has, of a put of column 77 over the row that is there, or gives the log's disk
-/// back.
-pub fn append_change<D: Disk>(
+/// Appends a batch of these changes, or gives the log's disk back.
+pub fn append_all<D: Disk>(
     alloc: Global,
     log: LogFile<D>,
-    to: u64,
-    stamp: u64,
-) -> Result<LogFile<D>, (D, Told)> {
-    let batch = change_batch(alloc, log.mark(), to, stamp);
-    append_batch(alloc, log, batch)
-}
-
-/// Appends a batch without records, or gives the log's disk back.
-pub fn append_none<D: Disk>(
-    alloc: Global,
-    log: LogFile<D>,
+    placed: &[Change],
+    from: u64,
     to: u64,
 ) -> Result<LogFile<D>, (D, Told)> {
-    let batch = batch_with(alloc, log.mark(), to, None);
-    append_batch(alloc, log, batch)
-}
-
-fn append_batch<D: Disk>(
-    alloc: Global,
-    log: LogFile<D>,
-    batch: Result<Batch, AllocError>,
-) -> Result<LogFile<D>, (D, Told)>
-    requires { IfOk batch IsBatch }
-{
-    let Ok(batch) = batch else {
+    let Ok(batch) = batch_of(alloc, placed, 0, from, to) else {
         return Err((log.into_disk(), Told::Memory));
     };
     match log.append(alloc, batch) {
@@ -161,14 +100,7 @@ pub fn not_opened<D: Disk>(fault: OpenFault<D>) -> (D, Told) {
 
 // Whether the stamps of a batch rise strictly, over its beginning and up to its end.
 fn rises(batch: &LoggedBatch) -> bool {
-    let mut last = batch.from();
-    for stamp in batch.stamps() {
-        if *stamp <= last || *stamp > batch.to() {
-            return false;
-        }
-        last = *stamp;
-    }
-    last <= batch.to()
+    batch.fall().is_none() && batch.from() <= batch.to()
 }
 
 // What is told of batches, by whether each begins where the one before it ends, and rises.
@@ -197,6 +129,52 @@ pub fn opened_on<D: Disk>(alloc: Global, disk: D) -> (D, Told) {
             (log.into_disk(), joined(mark, &front.batches))
         }
         Err(fault) => not_opened(fault),
+    }
+}
+
+/// The front of a log in a plain file with these bytes.
+pub fn front_of(alloc: Global, image: &[u8]) -> Result<Front, AllocError> {
+    match LogFile::open(alloc, disk_with(alloc, image, 0, 99)?) {
+        Ok((_log, front)) => Ok(front),
+        Err(_) => Err(AllocError),
+    }
+}
+
+// Whether these are printed alike.
+fn are_alike(alloc: Global, batch: &LogBatch, other: &LogBatch) -> Result<bool, AllocError> {
+    let (text, other) = (
+        format!(in alloc; "{batch:?}")?,
+        format!(in alloc; "{other:?}")?,
+    );
+    Ok(text.as_str() == other.as_str())
+}
+
+/// The records of a log that is read again, if that gives the batches of its front and no others.
+pub fn read_again<D: Disk>(
+    alloc: Global,
+    log: &mut LogFile<D>,
+    kind: FileKind,
+    front: &Front,
+) -> Result<Option<Vec<Record>>, AllocError> {
+    let begun = BatchReader::begin(alloc, log, kind);
+    let mut reader = begun.ok().ok_or(AllocError)?;
+    let mut records = Vec::new(alloc);
+    for batch in &front.batches {
+        let Ok(Some(read)) = reader.next(alloc, log) else {
+            return Ok(None);
+        };
+        let ReadBatch {
+            batch: again,
+            records: mut more,
+        } = read;
+        records.append(&mut more)?;
+        if !are_alike(alloc, &again, batch)? {
+            return Ok(None);
+        }
+    }
+    match reader.next(alloc, log) {
+        Ok(None) => Ok(Some(records)),
+        _ => Ok(None),
     }
 }
 

@@ -1,17 +1,16 @@
 //! Which log is told where some are not made or opened; and crashes.
 
 use crate::stores::{
-    Failures, NONE, Store, bare_slots, create, images_of, logs_on, mark_of, new_logs,
+    Failures, NONE, Store, bare_slots, create, images_of, logs_with, mark_of, new_logs,
 };
 use mt_disk::MemDisk;
-use mt_log_files::WorkerFiles;
 use mt_rows::{Refusal, Tenants};
 use mt_slots::{FaultCause, Slot, SlotFault, StoreSlots};
 use mt_store_logs::{
     FileImages, LogRefusal, NoWatch, StoreLog, StoreRefusal, Watch, crash_logs, open_logs,
     recover_store,
 };
-use std::alloc::{AllocError, Global};
+use std::alloc::Global;
 use std::test::Fail;
 
 fn told(log: Option<usize>, refusal: Refusal) -> LogRefusal {
@@ -43,60 +42,24 @@ fn the_log_that_is_not_made_is_told(rt: HostRuntime) -> Result<(), Fail> {
     Ok(())
 }
 
-// A worker's closed files with these bytes.
-fn files_with(alloc: Global, images: FileImages) -> Result<WorkerFiles<MemDisk>, AllocError> {
-    let FileImages { plain, even, odd } = images;
-    Ok(WorkerFiles::closed(
-        MemDisk::with_image(alloc, plain, Vec::new(alloc), None)?,
-        MemDisk::with_image(alloc, even, Vec::new(alloc), None)?,
-        MemDisk::with_image(alloc, odd, Vec::new(alloc), None)?,
-    ))
-}
-
-fn copied(alloc: Global, images: &FileImages) -> Result<FileImages, AllocError> {
-    Ok(FileImages {
-        plain: images.plain.to_vec(alloc)?,
-        even: images.even.to_vec(alloc)?,
-        odd: images.odd.to_vec(alloc)?,
-    })
-}
-
-// The first images of some, and the last ones of others.
-fn mixed(
-    alloc: Global,
-    some: &[FileImages],
-    count: usize,
-    others: &[FileImages],
-) -> Result<Vec<FileImages>, AllocError> {
-    let mut images = Vec::new(alloc);
-    for image in some.iter().take(count) {
-        images.push(copied(alloc, image)?)?;
-    }
-    for image in others.iter().skip(count) {
-        images.push(copied(alloc, image)?)?;
-    }
-    Ok(images)
-}
-
-// The logs of three workers, the plain file of one of which is cut to so many bytes, or is that of another.
-fn logs_with(
+// The logs of three workers, the plain file of one of which is that of another, cut to so many bytes.
+fn logs_of_three(
     alloc: Global,
     log: usize,
     len: usize,
     other: usize,
 ) -> Result<Vec<StoreLog<MemDisk>>, Refusal> {
     let store = Store::new(alloc, 3, NONE)?;
-    let images = images_of(alloc, &store.logs)?;
-    let mut files = Vec::new(alloc);
-    for (place, own) in images.iter().enumerate() {
-        let mut image = copied(alloc, own)?;
-        if place == log {
-            image.plain = images.get(other).unwrap_or(own).plain.to_vec(alloc)?;
-            image.plain.truncate(len);
-        }
-        files.push(files_with(alloc, image)?)?;
+    let mut images = images_of(alloc, &store.logs)?;
+    let mut plain = match images.get(other) {
+        Some(image) => image.plain.to_vec(alloc)?,
+        None => return Err(Refusal::NoStore),
+    };
+    plain.truncate(len);
+    if let Some(image) = images.get_mut(log) {
+        image.plain = plain;
     }
-    logs_on(alloc, files)
+    logs_with(alloc, &images)
 }
 
 // Of how many of three logs it was told that their files are open, in their order: the numbered ones and the plain one.
@@ -169,10 +132,10 @@ fn the_log_that_is_not_opened_is_told(rt: HostRuntime) -> Result<(), Fail> {
     let alloc = rt.alloc();
     for number in 0..3u8 {
         let log = usize::from(number);
-        let mut logs = logs_with(alloc, log, 8, log)?;
+        let mut logs = logs_of_three(alloc, log, 8, log)?;
         assert!(rt; is_told_bad(alloc, &mut logs, number), "{log}");
         // A log twice: no single one is the cause.
-        let mut logs = logs_with(alloc, log, 9, (log + 1) % 3)?;
+        let mut logs = logs_of_three(alloc, log, 9, (log + 1) % 3)?;
         let is_told = is_refused_after(alloc, &mut logs, told(None, Refusal::LogCount), 3);
         let are_open = logs.iter().all(|log| log.mark() == Some(0));
         assert!(rt; is_told && are_open, "{log}");
@@ -194,7 +157,7 @@ fn slots_without(alloc: Global, slot: Slot) -> StoreSlots<MemDisk> {
 fn no_log_is_opened_before_both_slots_are_read(rt: HostRuntime) -> Result<(), Fail> {
     let alloc = rt.alloc();
     for slot in [Slot::First, Slot::Second] {
-        let mut logs = logs_with(alloc, 0, 9, 0)?;
+        let mut logs = logs_of_three(alloc, 0, 9, 0)?;
         let mut slots = slots_without(alloc, slot);
         let cause = FaultCause::Device;
         let refusal = StoreRefusal::Slot(SlotFault { slot, cause });
@@ -245,15 +208,6 @@ fn crashes(alloc: Global, store: &mut Store, images: &[FileImages]) -> Result<bo
     )
 }
 
-// The same images, but that of the odd file of log 1 has no bytes.
-fn without_odd(alloc: Global, images: &[FileImages]) -> Result<Vec<FileImages>, AllocError> {
-    let mut images = mixed(alloc, images, images.len(), &[])?;
-    if let Some(last) = images.get_mut(1) {
-        last.odd.clear();
-    }
-    Ok(images)
-}
-
 #[test]
 fn a_crash_takes_every_disk_or_none(rt: HostRuntime) -> Result<(), Fail> {
     let alloc = rt.alloc();
@@ -263,17 +217,20 @@ fn a_crash_takes_every_disk_or_none(rt: HostRuntime) -> Result<(), Fail> {
         ..NONE
     };
     let mut store = Store::new(alloc, 2, failures)?;
-    let empty = images_of(alloc, &store.logs)?;
+    let mut empty = images_of(alloc, &store.logs)?;
     assert!(rt; drain_both(&mut store));
-    let images = images_of(alloc, &store.logs)?;
-    let one = mixed(alloc, &images, 1, &[])?;
-    let other = without_odd(alloc, &images)?;
+    let mut first = images_of(alloc, &store.logs)?;
+    first.truncate(1);
+    let mut without_odd = images_of(alloc, &store.logs)?;
+    if let Some(last) = without_odd.last_mut() {
+        last.odd.clear();
+    }
     // The first log has its batch for certain, and a spare file its byte.
-    for images in [empty.as_slice(), &one, &other, &[]] {
+    for images in [empty.as_slice(), &first, &without_odd, &[]] {
         assert!(rt; stays(alloc, &mut store, images));
     }
-    let images = mixed(alloc, &images, 1, &empty)?;
-    assert!(rt; crashes(alloc, &mut store, &images)?);
+    first.push(empty.pop().expect(&rt, "two workers"))?;
+    assert!(rt; crashes(alloc, &mut store, &first)?);
     let recovered = store.recover()?;
     assert!(rt; recovered.cutoff == 0 && recovered.resume == 2 && recovered.pairs.is_empty());
     Ok(())

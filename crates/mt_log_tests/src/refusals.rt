@@ -3,9 +3,10 @@
 ghost use Rattle.std.specs.Prelude.{◌<◌};
 
 use self::Want::{Falls, Pairs, Told};
-use crate::copies::{WHOLE, log_of};
-use crate::slots::{Change, Log, disk_of, log_with, recover_over};
+use crate::copies::{WHOLE, image_with};
+use crate::slots::{put, recover_over};
 use mt_rows::Refusal;
+use mt_store_logs::FileImages;
 use std::alloc::Global;
 
 // Where the last byte of a number stands. The log of worker 0 has a batch from 0 to 6 with puts at 1 and 4; a
@@ -52,54 +53,33 @@ impl Want {
     }
 }
 
-// A put of a key of its own.
-fn put(worker: u8, stamp: u64) -> Change {
-    Change {
-        stamp,
-        worker,
-        key: (stamp % 8) as u8,
-        row: Some(1),
-        over: false,
-    }
-}
-
-// The bytes of a worker's log, with these puts.
-fn image_with(alloc: Global, worker: u8, stamps: [u64; 2]) -> Result<Vec<u8>, Refusal>
-    requires { worker < 3 }
-{
-    let [first, second] = stamps;
-    let placed = [put(worker, first), put(worker, second)];
-    let mut log = log_of(alloc, &placed, worker, WHOLE)?;
-    Ok(disk_of(&mut log)?.image().to_vec(alloc)?)
-}
-
-// The first of three logs, changed.
-fn logs_with(alloc: Global, given: u8, edits: [Edit; 2]) -> Result<Vec<Log>, Refusal> {
-    let mut logs = Vec::new(alloc);
+// The files of the first of three workers, changed.
+fn images_with(alloc: Global, given: u8, edits: [Edit; 2]) -> Result<Vec<FileImages>, Refusal> {
+    let mut images = Vec::new(alloc);
     for worker in 0..given.min(3) {
-        let stamp = u64::from(worker) + 1;
-        let mut image = image_with(alloc, worker, [stamp, stamp + 3])?;
+        let placed = [worker + 1, worker + 4].map(|key| put(u64::from(key), worker, key, 1));
+        let mut image = image_with(alloc, &placed, worker, WHOLE)?;
         for (log, place, byte) in edits {
             if log == worker {
-                if let Some(old) = image.get_mut(place as usize) {
+                if let Some(old) = image.plain.get_mut(place as usize) {
                     *old = byte;
                 }
             }
         }
-        logs.push(log_with(alloc, image)?)?;
+        images.push(image)?;
     }
-    Ok(logs)
+    Ok(images)
 }
 
 // How many pairs are recovered of these logs.
 fn count_of(alloc: Global, given: u8, quota: u32, edits: [Edit; 2]) -> Result<usize, Refusal> {
-    let mut logs = logs_with(alloc, given, edits)?;
-    let recovered = recover_over(alloc, &mut logs, [None, None], quota)?;
-    Ok(recovered.pairs.len())
+    let images = images_with(alloc, given, edits)?;
+    let (store, _) = recover_over(alloc, &images, [None, None], quota)?;
+    Ok(store.recovered.pairs.len())
 }
 
 // How many logs are given, the quota of tenant 7, what is changed, and what is told.
-const CASES: [(u8, u32, Edit, Edit, Want); 32] = [
+const CASES: [(u8, u32, Edit, Edit, Want); 34] = [
     (3, 5, SAME, SAME, Pairs(5)),
     // No set: no logs, one of them missing, two of worker 0, one that names four logs.
     (0, 5, SAME, SAME, Told(Refusal::LogCount)),
@@ -107,6 +87,9 @@ const CASES: [(u8, u32, Edit, Edit, Want); 32] = [
     (3, 5, (1, At::Worker, 0), SAME, Told(Refusal::LogCount)),
     (3, 5, (2, At::Logs, 4), SAME, Told(Refusal::LogCount)),
     (2, 5, (0, At::Stamp, 0), SAME, Told(Refusal::LogCount)),
+    // A resume batch that keeps less.
+    (3, 5, (1, At::Kept, 4), SAME, Pairs(4)),
+    (3, 5, (1, At::Kept, 0), SAME, Pairs(0)),
     // Batches that don't join, or go back, and one that keeps more than it ends at.
     (3, 5, (1, At::From, 1), SAME, Falls(1, 1)),
     (3, 5, (1, At::To, 7), SAME, Falls(1, 6)),

@@ -1,6 +1,7 @@
 //! A log on which an append failed, opened again by what it knows of its ends.
 
-use crate::logs::{EMPTY, disk_with, go_on, put_batch};
+use crate::logs::{EMPTY, disk_with, go_on, put_at};
+use crate::slots::batch_of;
 use mt_disk::MemDisk;
 use mt_log::{AppendFault, FailedLog, LogFile};
 use std::alloc::{AllocError, Global};
@@ -22,7 +23,8 @@ fn reopened(log: FailedLog<MemDisk>) -> Option<LogFile<MemDisk>> {
 // Appends the batch of the next step. After a failure the log is opened again, whether it has the batch or not.
 fn append_next(alloc: Global, log: LogFile<MemDisk>) -> Option<LogFile<MemDisk>> {
     let from = log.mark();
-    let batch = put_batch(alloc, from, from.checked_add(1)?, from.checked_add(1)?).ok()?;
+    let to = from.checked_add(1)?;
+    let batch = batch_of(alloc, &[put_at(to)], 0, from, to).ok()?;
     match log.append(alloc, batch) {
         Ok(log) => Some(log),
         Err(AppendFault::Device(log, _)) => reopened(log),

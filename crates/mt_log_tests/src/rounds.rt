@@ -2,14 +2,13 @@
 
 ghost use Rattle.std.specs.Prelude.{◌<◌};
 
-use crate::slots::{
-    Change, Log, Rows, Walk, append, disk_of, log_with, new_log, open_all, recover_over,
-    resume_all, rows_of,
-};
-use mt_disk::MemDisk;
+use crate::logs::front_of;
+use crate::slots::{Change, Rows, Walk, append, new_log, recover_over, rows_of};
+use crate::stores::image_of_log;
 use mt_log::{Front, LogBatch};
 use mt_recover::cutoff;
 use mt_rows::Refusal;
+use mt_store_logs::FileImages;
 use std::alloc::{AllocError, Global};
 use std::process::Abort;
 use std::test::Fail;
@@ -89,29 +88,29 @@ fn history(alloc: Global) -> Result<Vec<Change>, AllocError> {
     Ok(history)
 }
 
-// The log of a worker.
-fn log_of(alloc: Global, history: &[Change], worker: u8) -> Result<Log, Refusal>
+// The files of a worker.
+fn image_of(alloc: Global, history: &[Change], worker: u8) -> Result<FileImages, Refusal>
     requires { worker < 3 }
 {
-    let mut log = new_log(MemDisk::new(alloc, Vec::new(alloc), None), worker, 3)?;
+    let mut log = new_log(alloc, worker, 3)?;
     for to in [12, ENDS[usize::from(worker)], 45] {
-        append(alloc, &mut log, history, worker, to)?;
+        log = append(alloc, log, history, worker, to)?;
     }
-    let mut image = disk_of(&mut log)?.image().to_vec(alloc)?;
-    let gate = image.len().saturating_sub(BATCH_BYTES);
-    if let Some(byte) = image.get_mut(gate) {
+    let mut image = image_of_log(alloc, &log)?;
+    let gate = image.plain.len().saturating_sub(BATCH_BYTES);
+    if let Some(byte) = image.plain.get_mut(gate) {
         *byte = 7;
     }
-    log_with(alloc, image)
+    Ok(image)
 }
 
-fn three_logs(alloc: Global) -> Result<Vec<Log>, Refusal> {
+fn three_images(alloc: Global) -> Result<Vec<FileImages>, Refusal> {
     let history = history(alloc)?;
-    let mut logs = Vec::new(alloc);
+    let mut images = Vec::new(alloc);
     for worker in 0..3 {
-        logs.push(log_of(alloc, &history, worker)?)?;
+        images.push(image_of(alloc, &history, worker)?)?;
     }
-    Ok(logs)
+    Ok(images)
 }
 
 // The checkpoint of a slot. Its pairs are those of keys 0 and 1 at step 10, with their stamps, and one of key 7 that no log
@@ -148,21 +147,29 @@ fn ends_with(front: &Front, end: u64, least: u64) -> bool {
 }
 
 // Whether each log does, when they are opened again.
-fn end_with(alloc: Global, logs: &mut [Log], ends: [u64; 3], least: u64) -> Result<bool, Refusal> {
-    let fronts = open_all(alloc, logs)?;
-    for (front, end) in fronts.iter().zip(ends) {
-        if !ends_with(front, end, least) {
+fn end_with(
+    alloc: Global,
+    images: &[FileImages],
+    ends: [u64; 3],
+    least: u64,
+) -> Result<bool, AllocError> {
+    let mut fronts = Vec::new(alloc);
+    for (image, end) in images.iter().zip(ends) {
+        let front = front_of(alloc, &image.plain)?;
+        if !ends_with(&front, end, least) {
             return Ok(false);
         }
+        fronts.push(front)?;
     }
     Ok(cutoff(&fronts) == 40)
 }
 
 // The logs are recovered up to this step over each of the checkpoints.
-fn expect_recovered(rt: &impl Abort, alloc: Global, logs: &mut [Log], least: u64) {
+fn expect_recovered(rt: &impl Abort, alloc: Global, images: &[FileImages], least: u64) {
     for (first, second, used) in CHECKPOINTS {
         let walks = [walk_in(0, first), walk_in(1, second)];
-        let told = recover_over(alloc, logs, walks, 8).expect(rt, "a recovery");
+        let (store, _) = recover_over(alloc, images, walks, 8).expect(rt, "a recovery");
+        let told = store.recovered;
         let resume = first.1.max(second.1).max(40);
         let is_right = (told.cutoff, told.resume, told.used) == (least, resume, used);
         let rows = rows_of(&told.pairs) == Some(rows_over(used));
@@ -171,35 +178,30 @@ fn expect_recovered(rt: &impl Abort, alloc: Global, logs: &mut [Log], least: u64
 }
 
 // And over each of these.
-fn expect_replayed(rt: &impl Abort, alloc: Global, logs: &mut [Log]) {
+fn expect_replayed(rt: &impl Abort, alloc: Global, images: &[FileImages]) {
     for (steps, rows) in BASES {
-        let told = recover_over(alloc, logs, [walk_in(0, steps), None], 8).expect(rt, "a recovery");
+        let walks = [walk_in(0, steps), None];
+        let (store, _) = recover_over(alloc, images, walks, 8).expect(rt, "a recovery");
+        let told = store.recovered;
         let is_right = rows_of(&told.pairs) == Some(rows);
         assert!(rt; told.used == Some(0) && is_right, "{steps:?}: {told:?}");
     }
 }
 
-// Whether each log ends so once the recovery has its resume batches.
-fn end_resumed(
-    alloc: Global,
-    logs: &mut [Log],
-    ends: [u64; 3],
-    least: u64,
-) -> Result<bool, Refusal> {
-    let told = recover_over(alloc, logs, [None, None], 8)?;
-    resume_all(alloc, logs, &told)?;
-    end_with(alloc, logs, ends, least)
-}
-
+// In the end each log has the batch of its recovery.
 #[test]
 fn three_logs_are_recovered_and_recovered_again(rt: HostRuntime) -> Result<(), Fail> {
     let alloc = rt.alloc();
-    let mut logs = three_logs(alloc)?;
+    let mut images = three_images(alloc).expect(&rt, "logs in memory");
     for (least, ends) in [(25, ENDS), (40, [40; 3])] {
-        expect_recovered(&rt, alloc, &mut logs, least);
-        expect_replayed(&rt, alloc, &mut logs);
-        let told = end_resumed(alloc, &mut logs, ends, least);
-        assert!(rt; told == Ok(true), "resumed from {least}");
+        expect_recovered(&rt, alloc, &images, least);
+        expect_replayed(&rt, alloc, &images);
+        let recovered = recover_over(alloc, &images, [None, None], 8);
+        images = recovered.expect(&rt, "a recovery").1;
+        assert!(rt;
+            end_with(alloc, &images, ends, least)?,
+            "resumed from {least}"
+        );
     }
     Ok(())
 }

@@ -2,31 +2,27 @@
 
 ghost use Rattle.std.specs.{Prelude.{◌≡◌, ◌<◌, ◌≤◌, ◌↔◌, IfOk, IsTrue}, List.All};
 ghost use Rattle.mt_rows.specs.Commands.{IsKey};
-ghost use Rattle.mt_recover.specs.{Limits.IsReadSlot, Resumes.IsOpenUpto};
 ghost use Rattle.mt_log.specs.Contents.{IsBatch};
 
-use mt_checkpoint::{Checkpoint, ReadFault, Writer, create_slot, read_valid};
+use crate::stores::{images_of, logs_with};
+use mt_checkpoint::{Writer, create_slot};
 use mt_disk::MemDisk;
 use mt_log::batch::MAX_STEP;
-use mt_log::{AppendFault, Front, LogFile, fits};
-use mt_log_files::{open_slot, take_disk};
-use mt_recover::{LogSlot, Recovered, recover, resume};
+use mt_log::{LogFile, fits};
 use mt_rows::key::USER_KEY_BYTES;
 use mt_rows::{
     Batch, Change as ColumnChange, Column, Key, NamedColumns, Record, Records, Refusal, Row,
     StampedRow, TenantPair, Tenants, Write,
 };
+use mt_slots::StoreSlots;
+use mt_store_logs::{FileImages, NoWatch, RecoveredStore, recover_store};
 use std::alloc::{AllocError, Global};
-use std::mem;
 
 /// A log in memory.
-pub type Log = LogSlot<MemDisk>;
+pub type Log = LogFile<MemDisk>;
 
 /// The rows of the keys 0 to 7, 0 where there is none. A key is a byte, and so is a row.
 pub type Rows = [u8; 8];
-
-/// The stamps of these rows, 0 where there is none.
-pub type Stamps = [u64; 8];
 
 /// A change of tenant 7 that a worker placed: the row of a key after it, none where it was removed.
 #[derive(Clone, Copy)]
@@ -45,7 +41,19 @@ pub struct Walk {
     pub first: u64,
     pub last: u64,
     pub rows: Rows,
-    pub stamps: Stamps,
+    /// The stamps of these rows, 0 where there is none.
+    pub stamps: [u64; 8],
+}
+
+/// A put of a key where no row was.
+pub fn put(stamp: u64, worker: u8, key: u8, row: u8) -> Change {
+    Change {
+        stamp,
+        worker,
+        key,
+        row: Some(row),
+        over: false,
+    }
 }
 
 /// A row of one column of one byte.
@@ -112,8 +120,8 @@ fn pair_of(alloc: Global, key: u8, row: u8, stamp: u64) -> Result<TenantPair, Al
     })
 }
 
-// What a worker placed over step `from` and up to step `to`, of changes that rise.
-fn batch_of(
+/// What a worker placed over step `from` and up to step `to`, of changes that rise.
+pub fn batch_of(
     alloc: Global,
     history: &[Change],
     worker: u8,
@@ -141,90 +149,44 @@ fn batch_of(
     }
 }
 
-/// A log without batches on this disk.
-pub fn new_log(disk: MemDisk, worker: u8, logs: u8) -> Result<Log, Refusal>
+/// A log without batches.
+pub fn new_log(alloc: Global, worker: u8, logs: u8) -> Result<Log, Refusal>
     requires worker { worker < logs }
     requires logs { logs ≤ 64 }
 {
-    match LogFile::create(disk, worker, logs) {
-        Ok(log) => Ok(LogSlot::Open(log)),
-        Err(_) => Err(Refusal::Device),
-    }
+    let disk = MemDisk::new(alloc, Vec::new(alloc), None);
+    LogFile::create(disk, worker, logs).map_err(|_| Refusal::Device)
 }
 
-/// A closed log with these bytes.
-pub fn log_with(alloc: Global, image: Vec<u8>) -> Result<Log, Refusal> {
-    let disk = MemDisk::with_image(alloc, image, Vec::new(alloc), None)?;
-    Ok(LogSlot::Closed(disk))
-}
-
-// The log after an append, failed if its disk did.
-fn append_batch(alloc: Global, open: LogFile<MemDisk>, batch: Batch) -> (Log, Result<(), Refusal>)
-    requires { IsBatch batch }
-{
-    match open.append(alloc, batch) {
-        Ok(open) => (LogSlot::Open(open), Ok(())),
-        Err(AppendFault::Device(log, _)) => (LogSlot::Failed(log), Err(Refusal::Device)),
-        Err(AppendFault::Memory(open, _)) => (LogSlot::Open(open), Err(Refusal::Memory)),
-        Err(AppendFault::WrongTurn(open, _, mark)) => {
-            (LogSlot::Open(open), Err(Refusal::WrongTurn(mark)))
-        }
-    }
-}
-
-/// Appends to an open log what its worker placed since its mark, up to a step. It is `Failed` if its disk
-/// fails.
+/// Appends to a log what its worker placed since its mark, up to a step.
 pub fn append(
     alloc: Global,
-    log: &mut Log,
+    log: Log,
     history: &[Change],
     worker: u8,
     to: u64,
-) -> Result<(), Refusal> {
-    let from = mark_of(log).unwrap_or(0);
-    let batch = batch_of(alloc, history, worker, from, to)?;
-    let (slot, answer) = match mem::replace(log, LogSlot::Away) {
-        LogSlot::Open(open) => append_batch(alloc, open, batch),
-        other => (other, Err(Refusal::NoStore)),
-    };
-    *log = slot;
-    answer
+) -> Result<Log, Refusal> {
+    let batch = batch_of(alloc, history, worker, log.mark(), to)?;
+    log.append(alloc, batch).map_err(|_| Refusal::Device)
 }
 
-/// The step up to which an open log goes.
-pub fn mark_of(log: &Log) -> Option<u64> {
-    match log {
-        LogSlot::Open(open) => Some(open.mark()),
-        LogSlot::Failed(_) | LogSlot::Closed(_) | LogSlot::Away => None,
+/// Appends the batch with which a recovery ends, where that may be asked for.
+pub fn resume(alloc: Global, log: Log, kept: u64, to: u64) -> Result<Log, Refusal> {
+    if log.mark() > to || kept > to || to > MAX_STEP {
+        return Err(Refusal::NoStore);
     }
-}
-
-/// The disk of a log, taken away from it.
-pub fn disk_of(log: &mut Log) -> Result<MemDisk, Refusal> {
-    take_disk(log).ok_or(Refusal::NoStore)
-}
-
-/// Opens a log, also one that is open. It is closed where its disk fails.
-pub fn open(alloc: Global, log: &mut Log) -> Result<Front, Refusal> {
-    open_slot(alloc, log)
-}
-
-/// Opens logs, up to the first that doesn't open.
-pub fn open_all(alloc: Global, logs: &mut [Log]) -> Result<Vec<Front>, Refusal> {
-    let mut fronts = Vec::new(alloc);
-    for log in logs {
-        fronts.push(open(alloc, log)?)?;
-    }
-    Ok(fronts)
+    log.append_resume(alloc, kept, to)
+        .map_err(|_| Refusal::Device)
 }
 
 // Pairs of the keys that have a row.
-fn pairs_in(alloc: Global, rows: Rows, stamps: Stamps) -> Result<Vec<TenantPair>, AllocError> {
+fn pairs_in(alloc: Global, walk: Walk) -> Result<Vec<TenantPair>, AllocError> {
     let mut pairs = Vec::new(alloc);
     for key in 0..8 {
         let place = usize::from(key);
-        if rows[place] != 0 {
-            pairs.push(pair_of(alloc, key, rows[place], stamps[place])?)?;
+        let (row, stamp) = (walk.rows[place], walk.stamps[place]);
+        if row != 0 {
+            pairs.push(pair_of(alloc, key, row, stamp)?)?;
         }
     }
     Ok(pairs)
@@ -239,15 +201,15 @@ fn keys_fit(pairs: &[TenantPair]) -> bool
         .all(|pair| pair.key.as_bytes().len() <= USER_KEY_BYTES)
 }
 
-/// A slot in which a walk was written.
-pub fn written(alloc: Global, walk: Walk) -> Result<MemDisk, Refusal> {
-    let pairs = pairs_in(alloc, walk.rows, walk.stamps)?;
-    if !keys_fit(&pairs) {
-        return Err(Refusal::NoStore);
-    }
+// A slot in which a walk was written, if there is one.
+fn slot_with(alloc: Global, walk: Option<Walk>) -> Result<MemDisk, Refusal> {
     let mut disk = MemDisk::new(alloc, Vec::new(alloc), None);
-    if create_slot(&mut disk).is_err() {
-        return Err(Refusal::Device);
+    let Some(walk) = walk else {
+        return Ok(disk);
+    };
+    let pairs = pairs_in(alloc, walk)?;
+    if !keys_fit(&pairs) || create_slot(&mut disk).is_err() {
+        return Err(Refusal::NoStore);
     }
     let Ok(writer) = Writer::begin(disk, walk.first) else {
         return Err(Refusal::Device);
@@ -261,82 +223,38 @@ pub fn written(alloc: Global, walk: Walk) -> Result<MemDisk, Refusal> {
     }
 }
 
-/// A walk as its slot is read, if there is one.
-pub fn checkpoint_of(alloc: Global, walk: Option<Walk>) -> Result<Option<Checkpoint>, Refusal>
-    ensures { IfOk result IsReadSlot }
-{
-    let Some(walk) = walk else {
-        return Ok(None);
-    };
-    let mut disk = written(alloc, walk)?;
-    match read_valid(alloc, &mut disk) {
-        Ok(Some(checkpoint)) => Ok(Some(checkpoint)),
-        Ok(None) => Err(Refusal::NoStore),
-        Err(ReadFault::Device) => Err(Refusal::Device),
-        Err(ReadFault::Memory) => Err(Refusal::Memory),
-    }
-}
-
-/// Opens logs, and recovers them over the checkpoints of two slots, in which these walks were written.
+/// Recovers a store from the files of its logs, over slots in which these walks were written; and what its files hold then.
 pub fn recover_over(
     alloc: Global,
-    logs: &mut [Log],
+    images: &[FileImages],
     walks: [Option<Walk>; 2],
     quota: u32,
-) -> Result<Recovered, Refusal> {
+) -> Result<(RecoveredStore, Vec<FileImages>), Refusal> {
     let mut tenants = Tenants::new(alloc);
     tenants.add(7, quota)?;
-    let fronts = open_all(alloc, logs)?;
     let [first, second] = walks;
-    let first = checkpoint_of(alloc, first)?;
-    let second = checkpoint_of(alloc, second)?;
-    recover(alloc, fronts, [first, second], &tenants)
-}
-
-// Whether a log is open, and ends by a step.
-fn is_open_up_to(log: &Log, to: u64) -> bool
-    ensures { IsTrue result → IsOpenUpto to log.now }
-{
-    match log {
-        LogSlot::Open(open) => open.mark() <= to,
-        LogSlot::Failed(_) | LogSlot::Closed(_) | LogSlot::Away => false,
-    }
-}
-
-/// Appends to each log the batch with which a recovery ends, where that may be asked for.
-pub fn resume_all(alloc: Global, logs: &mut [Log], recovered: &Recovered) -> Result<(), Refusal> {
-    let to = recovered.resume;
-    let are_open = logs.iter().all(|log| is_open_up_to(log, to));
-    if are_open && recovered.cutoff <= to && to <= MAX_STEP {
-        resume(alloc, logs, recovered)
-    } else {
-        Err(Refusal::NoStore)
+    let mut slots = StoreSlots::found(slot_with(alloc, first)?, slot_with(alloc, second)?);
+    let mut logs = logs_with(alloc, images)?;
+    match recover_store(alloc, &mut logs, &mut slots, &tenants, &mut NoWatch) {
+        Ok(store) => Ok((store, images_of(alloc, &logs)?)),
+        Err(e) => Err(e.refusal()),
     }
 }
 
 /// The rows that pairs have, if they are pairs of such keys and rows.
 pub fn rows_of(pairs: &[TenantPair]) -> Option<Rows> {
-    let (rows, _) = standing_of(pairs)?;
-    Some(rows)
-}
-
-/// The same, and the stamp of each row.
-pub fn standing_of(pairs: &[TenantPair]) -> Option<(Rows, Stamps)> {
-    let (mut rows, mut stamps) = ([0; 8], [0; 8]);
+    let mut rows = [0; 8];
     for pair in pairs {
         let ([key], [column]) = (pair.key.as_bytes(), pair.row.row.columns()) else {
             return None;
         };
-        let place = usize::from(*key);
-        let row = rows.get_mut(place)?;
+        let row = rows.get_mut(usize::from(*key))?;
         if pair.tenant != 7 || *row != 0 {
             return None;
         }
         *row = *column.as_bytes().first()?;
-        let stamp = stamps.get_mut(place)?;
-        *stamp = pair.row.stamp;
     }
-    Some((rows, stamps))
+    Some(rows)
 }
 
 /// What a call gave, none where a disk failed.

@@ -1,6 +1,7 @@
 //! Stores of up to three workers over disks in memory, three for each worker.
 
 use crate::changes::History;
+use crate::slots::Log;
 use mt_disk::MemDisk;
 use mt_log_files::WorkerFiles;
 use mt_recover::{LogSlot, Recovered};
@@ -88,8 +89,8 @@ pub fn new_logs(
     logs_on(alloc, files)
 }
 
-/// Closed logs on these files, where there are up to 64 of them.
-pub fn logs_on(
+// Closed logs on these files, where there are up to 64 of them.
+fn logs_on(
     alloc: Global,
     files: Vec<WorkerFiles<MemDisk>>,
 ) -> Result<Vec<StoreLog<MemDisk>>, Refusal> {
@@ -97,6 +98,33 @@ pub fn logs_on(
         return Err(Refusal::NoStore);
     }
     Ok(closed_logs(alloc, files)?)
+}
+
+// A disk with this image.
+fn disk_with(alloc: Global, image: &[u8]) -> Result<MemDisk, AllocError> {
+    MemDisk::with_image(alloc, image.to_vec(alloc)?, Vec::new(alloc), None)
+}
+
+/// Closed logs whose files have these images.
+pub fn logs_with(alloc: Global, images: &[FileImages]) -> Result<Vec<StoreLog<MemDisk>>, Refusal> {
+    let mut files = Vec::new(alloc);
+    for image in images {
+        files.push(WorkerFiles::closed(
+            disk_with(alloc, &image.plain)?,
+            disk_with(alloc, &image.even)?,
+            disk_with(alloc, &image.odd)?,
+        ))?;
+    }
+    logs_on(alloc, files)
+}
+
+/// What the files of a worker hold who has this log alone, in its plain file.
+pub fn image_of_log(alloc: Global, log: &Log) -> Result<FileImages, AllocError> {
+    Ok(FileImages {
+        plain: log.disk().image().to_vec(alloc)?,
+        even: Vec::new(alloc),
+        odd: Vec::new(alloc),
+    })
 }
 
 /// Makes logs, where there are 1 to 64 of them.

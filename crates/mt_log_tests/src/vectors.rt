@@ -1,10 +1,11 @@
 //! A log of two batches, byte by byte, and what comes of each call that makes it.
 
 use crate::logs::{
-    EMPTY, Told, append, append_change, append_none, disk_with, not_opened, opened, opened_on,
+    EMPTY, Told, append, append_all, disk_with, not_opened, opened, opened_on, read_again,
 };
+use crate::slots::{Change, put};
 use mt_disk::MemDisk;
-use mt_log::{Front, LogBatch, LogFile, ResumeFault};
+use mt_log::{FileKind, LogFile, ResumeFault};
 use std::alloc::{AllocError, Global};
 use std::process::Abort;
 use std::test::Fail;
@@ -24,9 +25,9 @@ const CHANGED: [u8; 46] = [
     0, 0, 14, 0, 0, 0, 7, 0, 1, 0x6b, 2, 1, 0, 0, 1, 0x77,
 ];
 
-// What is read of the vector. Its record is void, so that its stamp alone is held.
+// What is read of the vector.
 const FRONT: &str =
-    "Front { version: 2, worker: 0, logs: 1, generation: 0, start: 0, batches: [Records(LoggedBatch { from: 0, to: 6, stamps: [5] }), Resume { from: 6, to: 9, kept: 4 }], held: [SpelledRecords { count: 0, least: 5, greatest: 5, bytes: [] }] }";
+    "Front { version: 2, worker: 0, logs: 1, generation: 0, start: 0, batches: [Records(LoggedBatch { from: 0, to: 6, fall: None }), Resume { from: 6, to: 9, kept: 4 }] }";
 
 // The record of its first batch, and that of the batch behind it.
 const RECORD: &str =
@@ -64,49 +65,20 @@ fn opened_again(alloc: Global, made: Made) -> (MemDisk, Told) {
     }
 }
 
-// The front of a disk and the records that it holds, as text.
+// The front of a disk, as text, and the records of a second reading, which gives the batches of the front once more.
 fn texts_of(alloc: Global, disk: MemDisk) -> Result<(String, String), AllocError> {
-    let (_log, front) = LogFile::open(alloc, disk).ok().ok_or(AllocError)?;
-    let records = front.records(alloc)?;
+    let (mut log, front) = LogFile::open(alloc, disk).ok().ok_or(AllocError)?;
+    let records = read_again(alloc, &mut log, FileKind::Plain, &front)?.ok_or(AllocError)?;
     Ok((
         format!(in alloc; "{front:?}")?,
         format!(in alloc; "{records:?}")?,
     ))
 }
 
-// Whether the front of a disk holds the vector's record, and these behind it alone.
-fn holds(alloc: Global, disk: MemDisk, behind: &str) -> Result<bool, AllocError> {
+// Whether a disk has the vector's record, and these behind it alone.
+fn has_records(alloc: Global, disk: MemDisk, behind: &str) -> Result<bool, AllocError> {
     let (_, text) = texts_of(alloc, disk)?;
     Ok(text.as_str() == format!(in alloc; "[{RECORD}{behind}]")?.as_str())
-}
-
-// The stamps of the records of a front's batches, held or not.
-fn stamps_of(alloc: Global, front: &Front) -> Result<Vec<u64>, AllocError> {
-    let mut stamps = Vec::new(alloc);
-    for batch in &front.batches {
-        if let LogBatch::Records(batch) | LogBatch::OldRecords(batch) = batch {
-            stamps.extend_from_slice(batch.stamps())?;
-        }
-    }
-    Ok(stamps)
-}
-
-// Whether these are the stamps in the front of a log, and those of the records that it holds.
-fn has_stamps(
-    alloc: Global,
-    image: &[u8],
-    stamps: &[u64],
-    held: &[u64],
-) -> Result<bool, AllocError> {
-    let disk = disk_with(alloc, image, 0, 99)?;
-    let (_log, front) = LogFile::open(alloc, disk).ok().ok_or(AllocError)?;
-    let records = front.records(alloc)?;
-    let are_held = records
-        .iter()
-        .zip(held)
-        .all(|(record, stamp)| record.stamp == *stamp);
-    let are_held = are_held && records.len() == held.len();
-    Ok(stamps_of(alloc, &front)?.as_slice() == stamps && are_held)
 }
 
 // Appends a resume batch up to 9, of which 4 are kept.
@@ -134,10 +106,7 @@ fn the_vector_is_written_and_read(rt: HostRuntime) -> Result<(), Fail> {
     let (disk, told) = opened_again(alloc, made(alloc, empty_disk(alloc), 0));
     assert!(rt; told == Told::Front(9, 2) && disk.image() == VECTOR.as_slice());
     assert_eq!(rt; texts_of(alloc, disk)?.0.as_str(), FRONT);
-    assert!(rt; has_stamps(alloc, &VECTOR, &[5], &[])?);
-    let front = one_batch(alloc, VECTOR, 0)?;
-    assert!(rt; has_stamps(alloc, &front, &[5], &[5])?);
-    assert!(rt; holds(alloc, disk_with(alloc, &front, 0, 99)?, "")?);
+    assert!(rt; has_records(alloc, disk_with(alloc, &VECTOR, 0, 99)?, "")?);
     let (_disk, told) = opened_again(alloc, made(alloc, empty_disk(alloc), 2));
     assert!(rt; told == Told::Turn(2, 0));
     Ok(())
@@ -161,7 +130,11 @@ fn two_batches(alloc: Global, vector: [u8; 85]) -> Result<Vec<u8>, AllocError> {
 
 // Appends a put over the row at step 14 to the log of a disk, up to 15.
 fn changed(alloc: Global, disk: MemDisk) -> Made {
-    append_change(alloc, opened_log(alloc, disk)?, 15, 14)
+    let change = Change {
+        over: true,
+        ..put(14, 0, b'k', b'w')
+    };
+    append_all(alloc, opened_log(alloc, disk)?, &[change], 6, 15)
 }
 
 // Whether the log of the vector's first batch goes on with that change, after which it has these bytes and is read so.
@@ -169,7 +142,7 @@ fn goes_on(alloc: Global, vector: [u8; 85]) -> Result<bool, AllocError> {
     let disk = disk_with(alloc, &one_batch(alloc, vector, 0)?, 0, 99)?;
     let (disk, told) = opened_again(alloc, changed(alloc, disk));
     let is_written = disk.image() == two_batches(alloc, vector)?.as_slice();
-    Ok(told == Told::Front(15, 2) && is_written && holds(alloc, disk, CHANGE)?)
+    Ok(told == Told::Front(15, 2) && is_written && has_records(alloc, disk, CHANGE)?)
 }
 
 // The vector as a file of version 1 has it.
@@ -193,9 +166,7 @@ fn a_log_of_format_1_is_read_and_goes_on(rt: HostRuntime) -> Result<(), Fail> {
     let alloc = rt.alloc();
     let old = old_vector();
     assert!(rt; opened(alloc, &old)? == Told::Front(9, 2));
-    let front = one_batch(alloc, old, 0)?;
-    assert!(rt; has_stamps(alloc, &front, &[5], &[5])?);
-    assert!(rt; holds(alloc, disk_with(alloc, &front, 0, 99)?, "")?);
+    assert!(rt; has_records(alloc, disk_with(alloc, &old, 0, 99)?, "")?);
     assert!(rt; goes_on(alloc, old)?);
     Ok(())
 }
@@ -217,46 +188,6 @@ fn formats_are_told_apart(rt: HostRuntime) -> Result<(), Fail> {
     for (kind, want) in [(2, Told::Front(15, 2)), (0, Told::Bad(0, 54))] {
         assert!(rt; with_byte(alloc, &two, 59, kind)? == want, "kind {kind}");
     }
-    Ok(())
-}
-
-// The last number of the vector's resume batch, how many it keeps, and the stamps whose records are held then.
-const HELD: [(u8, u8, &[u64]); 6] = [
-    (9, 4, &[]),
-    (9, 5, &[5]),
-    (5, 4, &[]),
-    (4, 3, &[5]),
-    (4, 9, &[5]),
-    (9, 0, &[]),
-];
-
-#[test]
-fn a_record_is_held_where_no_resume_batch_makes_it_void(rt: HostRuntime) -> Result<(), Fail> {
-    let alloc = rt.alloc();
-    for (to, kept, held) in HELD {
-        let mut image = VECTOR;
-        image[75] = to;
-        image[83] = kept;
-        let is_held = has_stamps(alloc, &image, &[5], held)?;
-        assert!(rt; is_held, "up to {to}, of which {kept} are kept");
-    }
-    Ok(())
-}
-
-// A log of two batches, of the stamps 3 and 5; a resume batch that keeps 4; and a batch of the stamp 10.
-fn resumed_between(alloc: Global, disk: MemDisk) -> Made {
-    let log = append(alloc, created(disk)?, 0, 3, 3)?;
-    let log = append(alloc, log, 3, 6, 5)?;
-    let log = resume(alloc, log)?;
-    append(alloc, log, 9, 12, 10)
-}
-
-#[test]
-fn what_a_resume_batch_makes_void_is_let_go(rt: HostRuntime) -> Result<(), Fail> {
-    let alloc = rt.alloc();
-    let (disk, told) = opened_again(alloc, resumed_between(alloc, empty_disk(alloc)));
-    assert!(rt; told == Told::Front(12, 4), "{told:?}");
-    assert!(rt; has_stamps(alloc, disk.image(), &[3, 5, 10], &[3, 10])?);
     Ok(())
 }
 
@@ -435,7 +366,7 @@ fn a_log_that_falls_goes_on_from_the_end_of_its_last_batch(rt: HostRuntime) -> R
 
 // A log of a batch up to step 3 that has no records.
 fn made_without_records(alloc: Global, disk: MemDisk) -> Made {
-    append_none(alloc, created(disk)?, 3)
+    append_all(alloc, created(disk)?, &[], 0, 3)
 }
 
 #[test]

@@ -1,58 +1,31 @@
--- What the code's map of changes is after one record more.
-use Rattle.std.proofs.Common.{◌≡◌, ℕ, Bool, true, false, cond, List, [], ◌∷◌, ◌++◌, map, refl, sym, ◌∙◌, ap, subst, Option, Some}
-use Rattle.std.proofs.{lemmas.List.{append-nil, map-append}, lemmas.List.Elements.filter-append}
-use Rattle.std.specs.{Option.unwrap_or, List.filter, Map.lookup, Ordering.eq_by_cmp, BTreeMap.{is_at, get}, Cmp.eq_by_cmp_equiv}
-use Rattle.mt_rows.{specs.{Rows.Bytes, Tenants.owned_cmp, declared.record.Record.Record}, proofs.ContentLaws.{owned_total, tied_owner}}
-use Rattle.mt_crashes.specs.Fronts.{key_of}
-use Rattle.mt_recover.specs.{declared.changes.Change.Change, declared.changes.Waiting.Waiting}
-use Rattle.mt_recover.specs.{Waits.{nothing, StandsFor}, Changes.{Changes, waiting_at, change_in, changes_at, AreWaiting}}
-use Rattle.mt_recover.proofs.Stands.{stands_none}
+-- What the code's map of changes tells after one record more.
+use Rattle.std.proofs.Common.{◌≡◌, ◌⊎◌, ◌≢◌, ⊎_elim, ℕ, Bool, true, false, cond, List, [], refl, sym, ◌∙◌, ap, subst, Option, Some, None}
+use Rattle.std.specs.{Option.unwrap_or, Map.lookup, Ordering.eq_by_cmp, BTreeMap.{is_at, get}, Cmp.eq_by_cmp_equiv}
+use Rattle.mt_rows.{specs.{Rows.Bytes, Stamps.Stamped, Tenants.{Contents as Pairs, owned_cmp}, declared.record.Record.Record}, proofs.ContentLaws.{owned_total, same_owner, tied_owner, other_owner}}
+use Rattle.mt_crashes.{specs.Fronts.{key_of, replayed, with_replayed}, proofs.Bases.{one_or_not, replayed_at, replayed_beside, passed_over}}
+use Rattle.mt_recover.specs.Changes.{Changes, AreAfter}
+use Rattle.std.specs.FinMap as pairs
 
--- no changes are those of no records
-pub none_waiting : (changes : Changes) → changes.entries ≡ [] → AreWaiting [] changes
-none_waiting changes none = record { at = at }
-  where
-    at : (q : ℕ × Bytes) → StandsFor [] (waiting_at changes q)
-    at q = subst (StandsFor []) (sym (ap (λ (es : List ((ℕ × Bytes) × Waiting)). unwrap_or (lookup (is_at (owned_cmp q)) es) nothing) none)) stands_none
+-- no changes leave pairs as they are
+pub none_after : (changes : Changes) (m : Pairs) → changes.entries ≡ [] → AreAfter changes m m
+none_after changes m none = record { at = λ q. sym (ap (λ (es : List ((ℕ × Bytes) × Option Stamped)). unwrap_or (lookup (is_at (owned_cmp q)) es) (pairs.get m q)) none) }
 
-put_at : (w : Waiting) (old new : Option Waiting) (b : Bool) → new ≡ cond b (Some w) old → unwrap_or new nothing ≡ cond b w (unwrap_or old nothing)
-put_at w old new true put = ap (λ (o : Option Waiting). unwrap_or o nothing) put
-put_at w old new false put = ap (λ (o : Option Waiting). unwrap_or o nothing) put
+module _ (r : Record) (old new : Changes) (base m : Pairs) (after : AreAfter old base m) where
+  -- what stands at the record's key before it
+  abbrev stood : Option Stamped
+  stood = unwrap_or (get owned_cmp old (key_of r)) (pairs.get base (key_of r))
 
--- one record more, of an owner at which what waits stands for one change more
-one_waits_at : (r : Record) (rs : List Record) (old new : Changes) (was w : Waiting) → was ≡ waiting_at old (key_of r)
-    → ((q : ℕ × Bytes) → get owned_cmp new q ≡ cond (is_at (owned_cmp (key_of r)) q) (Some w) (get owned_cmp old q))
-    → ((cs : List Change) → StandsFor cs was → StandsFor (cs ++ change_in r ∷ []) w) → AreWaiting rs old
-    → (q : ℕ × Bytes) → StandsFor (changes_at q (rs ++ r ∷ [])) (waiting_at new q)
-one_waits_at r rs old new was w taken put adds waits q = by (eq_by_cmp owned_cmp q (key_of r)) refl
-  where
-    test : Record → Bool
-    test x = eq_by_cmp owned_cmp q (key_of x)
-
-    symm : eq_by_cmp owned_cmp q (key_of r) ≡ eq_by_cmp owned_cmp (key_of r) q
-    symm = (eq_by_cmp_equiv owned_total).symm q (key_of r)
-
-    here : waiting_at new q ≡ cond (eq_by_cmp owned_cmp q (key_of r)) w (waiting_at old q)
-    here = put_at w (get owned_cmp old q) (get owned_cmp new q) (is_at (owned_cmp (key_of r)) q) (put q)
-        ∙ ap (λ (t : Bool). cond t w (waiting_at old q)) (sym symm)
-
-    told : changes_at q (rs ++ r ∷ []) ≡ changes_at q rs ++ map change_in (cond (eq_by_cmp owned_cmp q (key_of r)) (r ∷ []) [])
-    told = ap (map change_in) (filter-append test rs (r ∷ [])) ∙ map-append change_in (filter test rs) (cond (eq_by_cmp owned_cmp q (key_of r)) (r ∷ []) [])
-
-    by : (b : Bool) → eq_by_cmp owned_cmp q (key_of r) ≡ b → StandsFor (changes_at q (rs ++ r ∷ [])) (waiting_at new q)
-    by true own =
-        let at : was ≡ waiting_at old q = taken ∙ ap (waiting_at old) (sym (tied_owner q (key_of r) own)) in
-        subst (λ (l : List Change). StandsFor l (waiting_at new q)) (sym (told ∙ ap (λ (t : Bool). changes_at q rs ++ map change_in (cond t (r ∷ []) [])) own))
-        (subst (StandsFor (changes_at q rs ++ change_in r ∷ [])) (sym (here ∙ ap (λ (t : Bool). cond t w (waiting_at old q)) own))
-        (adds (changes_at q rs) (subst (StandsFor (changes_at q rs)) (sym at) (waits.at q))))
-    by false other =
-        subst (λ (l : List Change). StandsFor l (waiting_at new q))
-        (sym (told ∙ ap (λ (t : Bool). changes_at q rs ++ map change_in (cond t (r ∷ []) [])) other ∙ append-nil (changes_at q rs)))
-        (subst (StandsFor (changes_at q rs)) (sym (here ∙ ap (λ (t : Bool). cond t w (waiting_at old q)) other)) (waits.at q))
-
--- of a map that is another one
-pub one_waits : (r : Record) (rs : List Record) (old new written : Changes) (was w : Waiting) → new ≡ written → was ≡ waiting_at old (key_of r)
-    → ((q : ℕ × Bytes) → get owned_cmp written q ≡ cond (is_at (owned_cmp (key_of r)) q) (Some w) (get owned_cmp old q))
-    → ((cs : List Change) → StandsFor cs was → StandsFor (cs ++ change_in r ∷ []) w) → AreWaiting rs old → AreWaiting (rs ++ r ∷ []) new
-one_waits r rs old new written was w is taken put adds waits =
-    subst (AreWaiting (rs ++ r ∷ [])) (sym is) (record { at = one_waits_at r rs old written was w taken put adds waits })
+  -- one record more, of which the map tells what it leaves at its key
+  pub one_after : (row : Option Stamped) → ((q : ℕ × Bytes) → get owned_cmp new q ≡ cond (is_at (owned_cmp (key_of r)) q) (Some row) (get owned_cmp old q)) → row ≡ replayed r.stamp r.write stood
+      → AreAfter new base (with_replayed m r)
+  one_after row put made = record { at = at }
+    where
+      at : (q : ℕ × Bytes) → pairs.get (with_replayed m r) q ≡ unwrap_or (get owned_cmp new q) (pairs.get base q)
+      at q = ⊎_elim
+          (λ own.
+          replayed_at m r q own ∙ ap (replayed r.stamp r.write) (after.at q ∙ ap (λ (o : ℕ × Bytes). unwrap_or (get owned_cmp old o) (pairs.get base o)) (sym own)) ∙ sym made
+          ∙ sym (ap (λ (o : Option (Option Stamped)). unwrap_or o (pairs.get base q)) (put q ∙ ap (λ (b : Bool). cond b (Some row) (get owned_cmp old q)) (ap (λ (o : ℕ × Bytes). is_at (owned_cmp (key_of r)) o) (sym own) ∙ same_owner (key_of r)))))
+          (λ other.
+          replayed_beside m r q other ∙ after.at q
+          ∙ sym (ap (λ (o : Option (Option Stamped)). unwrap_or o (pairs.get base q)) (put q ∙ ap (λ (b : Bool). cond b (Some row) (get owned_cmp old q)) (other_owner (key_of r) q other))))
+          (one_or_not (key_of r) q)

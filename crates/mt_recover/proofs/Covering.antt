@@ -109,3 +109,10 @@ pub of_two : (fronts : List Contents) (slots : List (Option Checkpoint)) (first 
 of_two fronts slots first second len is_first is_second has =
     let both : slots ≡ first ∷ second ∷ [] = two_items slots first second len ∙ (λ i. sym is_first i ∷ (sym is_second i ∷ [])) in
     subst (λ (cs : List (Option Checkpoint)). HasUse fronts (map (option_map view_of) cs)) both has
+
+-- a list of two is its first and its second
+pub are_two : {X : Type 0} (xs : List X) (a b : X) → length xs ≡ 2 → get_or xs 0 a ∷ get_or xs 1 b ∷ [] ≡ xs
+are_two [] a b count = absurd (omega (arith, count))
+are_two (x ∷ []) a b count = absurd (omega (arith, count))
+are_two (x ∷ y ∷ []) a b count = refl
+are_two (x ∷ y ∷ z ∷ xs) a b count = absurd (omega (arith, count))

@@ -5,9 +5,9 @@ use Rattle.std.proofs.lemmas.List.Elements.{All-nil, All-cons, All-head, All-tai
 use Rattle.std.specs.{List.All, List.Sorted.IsStrictlyIncreasing}
 use Rattle.mt_rows.specs.declared.record.Record.{Record}
 use Rattle.mt_log.specs.{declared.batch.LogBatch.LogBatch, declared.batch.LogBatch.TheVariants.{Records, OldRecords, Resume}}
-use Rattle.mt_log.specs.Contents.{Contents, Rises, Join, JoinsAndRises, from_of, to_of}
+use Rattle.mt_log.specs.{Contents.{Contents, Rises, Join, JoinsAndRises, from_of, to_of}, Falls.fall_in}
 use Rattle.mt_log.proofs.Tests.{stamps, Within, suc_more, rising_more, first_within}
-use Rattle.mt_recover.{specs.Falls.{first_of, fall_in, goes_on, stamp_fall, fall_behind, fall_of}, proofs.FallLemmas.{none_first, tested}}
+use Rattle.mt_recover.{specs.Falls.{first_of, goes_on, stamp_fall, fall_behind, fall_of}, proofs.FallLemmas.{none_first, tested}}
 
 -- ---- records in order
 

@@ -3,9 +3,9 @@ use Rattle.std.proofs.Common.{◌≡◌, inl, inr, ◌∙◌, ap, ℕ, ◌≤◌
 use Rattle.std.proofs.lemmas.Bool.{and_parts, eqb-true, ltb-true, ltb-false, not-true}
 use Rattle.std.specs.List.{flat_map}
 use Rattle.mt_rows.specs.declared.record.Record.{Record}
-use Rattle.mt_log.specs.{declared.batch.LogBatch.LogBatch, declared.batch.LogBatch.TheVariants.{Records, OldRecords, Resume}, Contents.Contents}
+use Rattle.mt_log.specs.{declared.batch.LogBatch.LogBatch, declared.batch.LogBatch.TheVariants.{Records, OldRecords, Resume}, Contents.Contents, Falls.fall_in}
 use Rattle.mt_crashes.{specs.Fronts.{In, Rise, records_in, records_of}, proofs.Members.no_some}
-use Rattle.mt_recover.specs.Falls.{first_of, fall_in, fall_behind, fall_of, with_worker, first_fall}
+use Rattle.mt_recover.specs.Falls.{first_of, fall_behind, fall_of, with_worker, first_fall}
 
 -- neither of two is there where the first that is there is none
 pub none_first : {X : Type 0} (one other : Option X) → first_of one other ≡ None → (one ≡ None) × (other ≡ None)
@@ -60,5 +60,11 @@ front_falls_not [] f h at = absurd at
 front_falls_not (c ∷ cs) f h (inl e) = ap fall_of e ∙ with_none c.worker _ (none_first _ _ h).0
 front_falls_not (c ∷ cs) f h (inr at) = front_falls_not cs f (none_first _ _ h).1 at
 
-pub front_rises : (fronts : List Contents) (f : Contents) → first_fall fronts ≡ None → In f fronts → Rise 0 (records_of f)
-front_rises fronts f h at = rise_lower 0 f.start _ (omega arith) (risen f.start f.batches (front_falls_not fronts f h at))
+-- a log in which nothing falls rises
+pub log_rises : (c : Contents) → fall_of c ≡ None → Rise 0 (records_of c)
+log_rises c none = rise_lower 0 c.start _ (omega arith) (risen c.start c.batches none)
+
+-- logs of which none falls
+pub none_falls : (fronts : List Contents) → ((f : Contents) → In f fronts → fall_of f ≡ None) → first_fall fronts ≡ None
+none_falls [] each = refl
+none_falls (c ∷ cs) each = ap (λ (o : Option ℕ). first_of (with_worker c.worker o) (first_fall cs)) (each c (inl refl)) ∙ none_falls cs (λ f at. each f (inr at))

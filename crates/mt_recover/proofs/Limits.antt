@@ -53,7 +53,7 @@ found_there (x ∷ ps) (suc i) p apart at =
     (other_owner (owner_of p) (owner_of x) (λ same. let never = apart (suc i) 0 p x at refl same in omega (arith, never)))
     ∙ found_there ps i p (λ j k q r at_q at_r same. let both = apart (suc j) (suc k) q r at_q at_r same in omega (arith, both)) at
 
-pair_there : (ps : List TenantPair) (i : ℕ) (p : TenantPair) → AreDistinct ps → slice_get ps i ≡ Some p → get (pairs_of ps) (owner_of p) ≡ Some p.row
+pub pair_there : (ps : List TenantPair) (i : ℕ) (p : TenantPair) → AreDistinct ps → slice_get ps i ≡ Some p → get (pairs_of ps) (owner_of p) ≡ Some p.row
 pair_there ps i p apart at = get-from_entries owned_total (map entry_of ps) (owner_of p) ∙ found_there ps i p apart at
 
 -- a key and its row have their limits

@@ -6,27 +6,25 @@ use Rattle.std.specs.{declared.cmp.Ordering.Ordering, declared.cmp.Ordering.TheV
 use Rattle.std.specs.{Ordering.{is_lt, is_eq, eq_by_cmp, ordering_reverse}, FinMap.{get, find, get-from_entries}}
 use Rattle.mt_rows.specs.{Rows.Bytes, Stamps.Stamped, Tenants.owned_cmp, declared.record.TenantPair.TenantPair, TenantPairs.{owner_of, entry_of, pairs_of}}
 use Rattle.mt_rows.proofs.ContentLaws.{owned_total, owned_exact, same_contents, same_owner, tied_owner}
-use Rattle.mt_rows.specs.declared.record.Write.TheVariants.{Removed}
-use Rattle.mt_crashes.proofs.Bases.{passed_over}
 use Rattle.mt_tape.{specs.Histories.with_row, proofs.RowLaws.get-with_row}
-use Rattle.mt_recover.specs.{Pairs.{Ascend, AreBefore, first_order, without_first, first_row, pair_for}, Waits.{makes, nothing}, declared.changes.Waiting.Waiting}
+use Rattle.mt_recover.specs.Pairs.{Ascend, AreBefore, first_order, without_first, pair_for}
 
 abbrev Owner : Type 0
 Owner = ℕ × Bytes
 
 abbrev Entry : Type 0
-Entry = Owner × Waiting
+Entry = Owner × Option Stamped
 
 abbrev row_of : List TenantPair → Owner → Option Stamped
 row_of ps q = find owned_cmp q (map entry_of ps)
 
-abbrev waits : List Entry → Owner → Option Waiting
-waits es q = lookup (is_at (owned_cmp q)) es
+abbrev told : List Entry → Owner → Option (Option Stamped)
+told es q = lookup (is_at (owned_cmp q)) es
 
--- what an owner's changes make, if it has some
-abbrev MakesAt : Option Waiting → Option Stamped → Option Stamped → Type 0
+-- what stands at an owner after changes, if it has some
+abbrev MakesAt : Option (Option Stamped) → Option Stamped → Option Stamped → Type 0
 MakesAt None old new = new ≡ old
-MakesAt (Some waiting) old new = new ≡ makes waiting old
+MakesAt (Some row) old new = new ≡ row
 
 -- what is behind an owner is behind an earlier one
 pub all_later : (a b : Owner) (os : List Owner) → owned_cmp a b ≡ Less → AllByRecursion (λ o. owned_cmp b o ≡ Less) os → AllByRecursion (λ o. owned_cmp a o ≡ Less) os
@@ -69,27 +67,6 @@ row_without owner q (p ∷ ps) other = by (eq_by_cmp owned_cmp (owner_of p) owne
     by : (b : Bool) → eq_by_cmp owned_cmp (owner_of p) owner ≡ b → row_of (cond b ps (p ∷ ps)) q ≡ row_of (p ∷ ps) q
     by true tied = sym (ap (λ b. cond b (Some p.row) (row_of ps q)) (ap (eq_by_cmp owned_cmp q) (tied_owner (owner_of p) owner tied) ∙ other))
     by false apart = refl
-
--- ---- what stood at the owner
-
-first_row_is : (owner : Owner) (ps : List TenantPair) → Ascend ps → is_lt (first_order owner ps) ≡ false → row_of ps owner ≡ first_row owner ps
-first_row_is owner [] h first = refl
-first_row_is owner (p ∷ ps) h first = by (eq_by_cmp owned_cmp (owner_of p) owner) refl (behind owner (p ∷ ps) h first)
-  where
-    by : (b : Bool) → eq_by_cmp owned_cmp (owner_of p) owner ≡ b → AllByRecursion (λ o. owned_cmp owner o ≡ Less) (map owner_of (cond b ps (p ∷ ps)))
-        → row_of (p ∷ ps) owner ≡ cond b (Some p.row) None
-    by true tied all = ap (λ b. cond b (Some p.row) (row_of ps owner)) (ap (eq_by_cmp owned_cmp owner) (tied_owner (owner_of p) owner tied) ∙ same_owner owner)
-    by false apart all = none_at owner (p ∷ ps) all
-
-past : (owner : Owner) (listed ps : List TenantPair) → AreBefore owner listed → row_of (listed ++ ps) owner ≡ row_of ps owner
-past owner [] ps h = refl
-past owner (p ∷ listed) ps h =
-    ap (λ b. cond b (Some p.row) (row_of (listed ++ ps) owner)) ((eq_by_cmp_equiv owned_total).symm owner (owner_of p) ∙ ap is_eq h.0) ∙ past owner listed ps h.1
-
-rest_of : (listed ps : List TenantPair) → Ascend (listed ++ ps) → Ascend ps
-unfolding IsStrictlySortedBy
-rest_of [] ps h = h
-rest_of (p ∷ listed) ps h = rest_of listed ps h.1
 
 -- ---- a change of an owner behind all listed pairs
 
@@ -195,26 +172,16 @@ is_made owner row first second listed left more rest same order before all rest_
 -- the next pair was taken if it is the owner's
 pub taken_first : (owner : ℕ × Bytes) (old new : List TenantPair) (o : Option TenantPair)
     → MatchOption o ((new ≡ old) × (is_eq (first_order owner old) ≡ false)) (λ p. (old ≡ p ∷ new) × (is_eq (owned_cmp (owner_of p) owner) ≡ true))
-    → (option_map (λ (p : TenantPair). p.row) o ≡ first_row owner old) × (new ≡ without_first owner old)
-taken_first owner [] new None h = (refl, h.0)
-taken_first owner (p ∷ ps) new None h = (sym (ap (λ (b : Bool). cond b (Some p.row) None) h.1), h.0 ∙ sym (ap (λ (b : Bool). cond b ps (p ∷ ps)) h.1))
-taken_first owner old new (Some p) h = (
-  sym (ap (first_row owner) h.0 ∙ ap (λ (b : Bool). cond b (Some p.row) None) h.1),
-  sym (ap (without_first owner) h.0 ∙ ap (λ (b : Bool). cond b new (p ∷ new)) h.1),
-)
-
--- what stood at the owner is the first row that was left
-pub stood_first : (owner : ℕ × Bytes) (first second listed left : List TenantPair) → listed ++ left ≡ first ++ second → Ascend (first ++ second) → AreBefore owner listed
-    → is_lt (first_order owner left) ≡ false → get (pairs_of (first ++ second)) owner ≡ first_row owner left
-stood_first owner first second listed left same order before all =
-    ap (λ (ps : List TenantPair). get (pairs_of ps) owner) (sym same) ∙ get-from_entries owned_total (map entry_of (listed ++ left)) owner
-    ∙ past owner listed left before ∙ first_row_is owner left (rest_of listed left (subst Ascend (sym same) order)) all
+    → new ≡ without_first owner old
+taken_first owner [] new None h = h.0
+taken_first owner (p ∷ ps) new None h = h.0 ∙ sym (ap (λ (b : Bool). cond b ps (p ∷ ps)) h.1)
+taken_first owner old new (Some p) h = sym (ap (without_first owner) h.0 ∙ ap (λ (b : Bool). cond b new (p ∷ new)) h.1)
 
 -- ---- all changes, one after the other
 
 -- the changes so far are made, and each that is left is of an owner after what is listed
-pub record IsMerged (base : List TenantPair) (all : List ((ℕ × Bytes) × Waiting)) (listed left : List TenantPair) (rest : List ((ℕ × Bytes) × Waiting)) : Type 0 where
-  pub after : (q : ℕ × Bytes) (row : Option Stamped) → MakesAt (waits rest q) (get (pairs_of (listed ++ left)) q) row → MakesAt (waits all q) (get (pairs_of base) q) row
+pub record IsMerged (base : List TenantPair) (all : List ((ℕ × Bytes) × Option Stamped)) (listed left : List TenantPair) (rest : List ((ℕ × Bytes) × Option Stamped)) : Type 0 where
+  pub after : (q : ℕ × Bytes) (row : Option Stamped) → MakesAt (told rest q) (get (pairs_of (listed ++ left)) q) row → MakesAt (told all q) (get (pairs_of base) q) row
   pub order : Ascend (listed ++ left)
   pub rising : IsStrictlySortedBy owned_cmp (keys_of rest)
   pub before : AllByRecursion (λ (e : Entry). AreBefore e.0 listed) rest
@@ -228,13 +195,13 @@ pub none_made : (base : List TenantPair) (all rest : List Entry) (listed : List 
 none_made base all rest listed none is order rising =
     subst (λ (ps : List TenantPair). IsMerged base all ps base rest) (sym none)
     (record {
-      after = λ q row h. subst (λ (es : List Entry). MakesAt (waits es q) (get (pairs_of base) q) row) is h;
+      after = λ q row h. subst (λ (es : List Entry). MakesAt (told es q) (get (pairs_of base) q) row) is h;
       order = order;
       rising = subst (λ (es : List Entry). IsStrictlySortedBy owned_cmp (keys_of es)) (sym is) rising;
       before = nothing_before rest;
     })
 
-no_change : (owner : Owner) (es : List Entry) → AllByRecursion (λ o. owned_cmp owner o ≡ Less) (keys_of es) → waits es owner ≡ None
+no_change : (owner : Owner) (es : List Entry) → AllByRecursion (λ o. owned_cmp owner o ≡ Less) (keys_of es) → told es owner ≡ None
 no_change owner [] h = refl
 no_change owner (e ∷ es) h = ap (λ b. cond b (Some e.1) (lookup (is_at (owned_cmp owner)) es)) (ap is_eq h.0) ∙ no_change owner es h.1
 
@@ -243,14 +210,14 @@ before_all : (owner : Owner) (listed : List TenantPair) (es : List Entry) → Al
 before_all owner listed [] h before = tt
 before_all owner listed (e ∷ es) h before = (before e.0 h.0, before_all owner listed es h.1 before)
 
-pub one_made : (base : List TenantPair) (all was rest : List Entry) (e : Entry) (row : Option Stamped) (listed left more remain : List TenantPair) → was ≡ e ∷ rest
-    → IsMerged base all listed left was → row ≡ makes e.1 (get (pairs_of (listed ++ left)) e.0) → pairs_of (more ++ remain) ≡ with_row (pairs_of (listed ++ left)) e.0 row
+pub one_made : (base : List TenantPair) (all was rest : List Entry) (e : Entry) (listed left more remain : List TenantPair) → was ≡ e ∷ rest
+    → IsMerged base all listed left was → pairs_of (more ++ remain) ≡ with_row (pairs_of (listed ++ left)) e.0 e.1
     → Ascend (more ++ remain) → ((next : ℕ × Bytes) → owned_cmp e.0 next ≡ Less → AreBefore next more) → IsMerged base all more remain rest
 unfolding IsStrictlySortedBy
-one_made base all was rest e row listed left more remain is so_far made pairs order before = record {
-  after = λ q now h. so_far.after q now (subst (λ (es : List Entry). MakesAt (waits es q) (get (pairs_of (listed ++ left)) q) now) (sym is)
+one_made base all was rest e listed left more remain is so_far pairs order before = record {
+  after = λ q now h. so_far.after q now (subst (λ (es : List Entry). MakesAt (told es q) (get (pairs_of (listed ++ left)) q) now) (sym is)
       (by q (eq_by_cmp owned_cmp q e.0) refl now
-      (subst (λ (o : Option Stamped). MakesAt (waits rest q) o now) (ap (λ m. get m q) pairs ∙ get-with_row (pairs_of (listed ++ left)) e.0 row q) h)));
+      (subst (λ (o : Option Stamped). MakesAt (told rest q) o now) (ap (λ m. get m q) pairs ∙ get-with_row (pairs_of (listed ++ left)) e.0 e.1 q) h)));
   order = order;
   rising = rising.1;
   before = before_all e.0 more rest rising.0 before;
@@ -259,11 +226,9 @@ one_made base all was rest e row listed left more remain is so_far made pairs or
     rising : IsStrictlySortedBy owned_cmp (keys_of (e ∷ rest))
     rising = subst (λ (es : List Entry). IsStrictlySortedBy owned_cmp (keys_of es)) is so_far.rising
 
-    by : (q : Owner) (b : Bool) → eq_by_cmp owned_cmp q e.0 ≡ b → (now : Option Stamped) → MakesAt (waits rest q) (cond b row (get (pairs_of (listed ++ left)) q)) now
-        → MakesAt (cond b (Some e.1) (waits rest q)) (get (pairs_of (listed ++ left)) q) now
-    by q true tied now h =
-        let same : now ≡ row = subst (λ (o : Option Waiting). MakesAt o row now) (ap (waits rest) (tied_owner q e.0 tied) ∙ no_change e.0 rest rising.0) h in
-        same ∙ made ∙ ap (λ (o : Owner). makes e.1 (get (pairs_of (listed ++ left)) o)) (sym (tied_owner q e.0 tied))
+    by : (q : Owner) (b : Bool) → eq_by_cmp owned_cmp q e.0 ≡ b → (now : Option Stamped) → MakesAt (told rest q) (cond b e.1 (get (pairs_of (listed ++ left)) q)) now
+        → MakesAt (cond b (Some e.1) (told rest q)) (get (pairs_of (listed ++ left)) q) now
+    by q true tied now h = subst (λ (o : Option (Option Stamped)). MakesAt o e.1 now) (ap (told rest) (tied_owner q e.0 tied) ∙ no_change e.0 rest rising.0) h
     by q false apart now h = h
 
 -- what is listed is before the next change
@@ -273,10 +238,10 @@ before_first base all was rest e listed left is so_far = (subst (AllByRecursion 
 
 -- all changes are made
 pub all_made : (base : List TenantPair) (all rest : List Entry) (listed left : List TenantPair) → rest ≡ [] → IsMerged base all listed left rest
-    → (q : ℕ × Bytes) → get (pairs_of (listed ++ left)) q ≡ makes (unwrap_or (waits all q) nothing) (get (pairs_of base) q)
+    → (q : ℕ × Bytes) → get (pairs_of (listed ++ left)) q ≡ unwrap_or (told all q) (get (pairs_of base) q)
 all_made base all rest listed left none so_far q =
-    by (waits all q) (so_far.after q (get (pairs_of (listed ++ left)) q) (subst (λ (es : List Entry). MakesAt (waits es q) (get (pairs_of (listed ++ left)) q) (get (pairs_of (listed ++ left)) q)) (sym none) refl))
+    by (told all q) (so_far.after q (get (pairs_of (listed ++ left)) q) (subst (λ (es : List Entry). MakesAt (told es q) (get (pairs_of (listed ++ left)) q) (get (pairs_of (listed ++ left)) q)) (sym none) refl))
   where
-    by : (o : Option Waiting) → MakesAt o (get (pairs_of base) q) (get (pairs_of (listed ++ left)) q) → get (pairs_of (listed ++ left)) q ≡ makes (unwrap_or o nothing) (get (pairs_of base) q)
-    by None same = same ∙ sym (passed_over 0 Removed (get (pairs_of base) q) (omega arith))
-    by (Some waiting) h = h
+    by : (o : Option (Option Stamped)) → MakesAt o (get (pairs_of base) q) (get (pairs_of (listed ++ left)) q) → get (pairs_of (listed ++ left)) q ≡ unwrap_or o (get (pairs_of base) q)
+    by None same = same
+    by (Some row) h = h

@@ -1,16 +1,11 @@
 -- What a recovery finds wrong in a single log: its first number that falls.
 use Rattle.std.specs.Prelude.{ℕ, ◌==◌, Bool, not, ◌&&◌, nat_lt, List, [], ◌∷◌, map, Option, Some, None, if◌then◌else◌}
-use Rattle.mt_log.specs.{declared.batch.LogBatch.LogBatch, declared.batch.LogBatch.TheVariants.{Records, OldRecords, Resume}, Contents.{Contents, from_of, to_of}}
+use Rattle.mt_log.specs.{declared.batch.LogBatch.LogBatch, declared.batch.LogBatch.TheVariants.{Records, OldRecords, Resume}, Contents.{Contents, from_of, to_of}, Falls.fall_in}
 
 -- the first of two, if it is there, else the second
 abbrev pub first_of : {X : Type 0} → Option X → Option X → Option X
 first_of None other = other
 first_of (Some x) other = Some x
-
--- the first stamp that isn't over the one before it, or is over `to`
-abbrev pub fall_in : ℕ → ℕ → List ℕ → Option ℕ
-fall_in last to [] = None
-fall_in last to (stamp ∷ stamps) = if nat_lt last stamp && not (nat_lt to stamp) then fall_in stamp to stamps else Some stamp
 
 -- whether a batch doesn't go back, and keeps no more than it ends at
 abbrev pub goes_on : LogBatch → Bool

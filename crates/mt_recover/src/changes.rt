@@ -1,115 +1,30 @@
-//! The changes that a recovery replays: of each tenant's key what counts so far.
+//! The changes that a recovery replays: of each tenant's key that changed the row that stands there now.
 //!
-//! A removal and a whole row begin anew: what stood there before is lost. So of all changes of a key the last of
-//! these waits, and of each column the last one over it. Records may come in any order: their stamps decide.
+//! Changes come in the order of their stamps, so each is made of what the last one left.
 
-ghost use Rattle.std.specs.Prelude.{◌≡◌, ◌++◌, [], ◌∷◌, List, Some, IfOk, OnOk};
-ghost use Rattle.mt_rows.specs.{Changes.IsChange, declared.record.{Record.{Record as AnyRecord}, Write.{Write as AnyWrite}}, Stamps.stamp_in};
-ghost use Rattle.mt_crashes.specs.Fronts.{replayed};
-ghost use Rattle.mt_recover.specs.{declared.changes.Change.{Change as AnyChange}, Columns.later_than};
-ghost use Rattle.mt_recover.specs.{Waits.{nothing, write_of, StandsFor, over, makes}, Changes.{AreWaiting}};
+ghost use Rattle.std.specs.Prelude.{◌≡◌, IfOk, OnOk};
+ghost use Rattle.mt_rows.specs.{Tenants.{Contents as Pairs, owned_cmp}, TenantPairs.{owner_of, pairs_of}, Stamps.stamp_in};
+ghost use Rattle.mt_crashes.specs.Fronts.{replayed, with_replayed};
+ghost use Rattle.mt_recover.specs.{Pairs.Ascend, Changes.AreAfter};
+ghost use Rattle.std.specs.FinMap as fin;
 
-use crate::columns::{LastColumns, Later};
-use mt_rows::{
-    Change as Columns, Column, Key, NamedColumns, Record, Row, StampedRow, Write, merge,
-};
+use mt_rows::{Key, Record, StampedRow, TenantPair, Write, merge};
 use std::alloc::{AllocError, Global};
+use std::cmp::Ordering;
 use std::collections::BTreeMap;
-use std::mem::size_of;
 
-/// What a record tells of its key, and its stamp.
-#[derive(Drop)]
-pub(crate) struct Change {
-    pub stamp: u64,
-    pub write: Write,
-}
+/// By tenant and key the row that stands there now, none if the pair is gone.
+pub(crate) type Changes = BTreeMap<(u32, Key), Option<StampedRow>>;
 
-/// What counts so far of a key's changes: the row that the last one that begins anew left, and its stamp. Over it the
-/// last of each column. If none begins anew, there is no row, and the stamp is 0.
-#[derive(Drop)]
-pub(crate) struct Waiting {
-    begun: u64,
-    row: Option<Row>,
-    columns: LastColumns,
-}
-
-// Beside its row and its columns.
-const _: () = prove!(size_of::<Waiting>() == 64);
-
-impl Waiting {
-    // Nothing.
-    fn none() -> Waiting
-        ensures { result ≡ nothing }
-    {
-        Waiting {
-            begun: 0,
-            row: None,
-            columns: LastColumns::none(),
-        }
-    }
-
-    // One change more, in whatever order they come.
-    fn add(&mut self, alloc: Global, change: Change) -> Result<(), AllocError>
-        ensures { OnOk result ((cs : List AnyChange) → StandsFor cs self.old → StandsFor (cs ++ change ∷ []) self.new) }
-    {
-        let Change { stamp, write } = change;
-        match write {
-            Write::Removed => self.begin(stamp, None),
-            Write::Whole(row) => self.begin(stamp, Some(row)),
-            Write::Changed(columns) => self.write(alloc, stamp, &columns)?,
-        }
-        Ok(())
-    }
-
-    // One more that begins anew.
-    fn begin(&mut self, stamp: u64, row: Option<Row>)
-        ensures { (cs : List AnyChange) → StandsFor cs self.old → StandsFor (cs ++ record { stamp = stamp; write = write_of row } ∷ []) self.new }
-    {
-        if stamp <= self.begun {
-            return;
-        }
-        self.begun = stamp;
-        self.row = row;
-        self.columns.keep_over(stamp);
-    }
-
-    // One more that writes columns.
-    fn write(&mut self, alloc: Global, stamp: u64, columns: &Columns) -> Result<(), AllocError>
-        ensures { OnOk result ((cs : List AnyChange) → StandsFor cs self.old → StandsFor (cs ++ record { stamp = stamp; write = AnyWrite.Changed columns.now } ∷ []) self.new) }
-    {
-        let named = columns.columns();
-        if stamp <= self.begun {
-            return Ok(());
-        }
-        self.columns.write(alloc, stamp, named)
-    }
-
-    /// What stands at the key after these changes, over what stood there.
-    pub(crate) fn applied(
-        self,
-        alloc: Global,
-        old: Option<StampedRow>,
-    ) -> Result<Option<StampedRow>, AllocError>
-        ensures { IfOk result (λ row. row ≡ makes self old) }
-    {
-        let Waiting {
-            begun,
-            row,
-            columns,
-        } = self;
-        let Some(row) = begun_over(begun, row, old) else {
-            return Ok(None);
-        };
-        Ok(Some(written_over(alloc, columns, row)?))
-    }
-}
-
-/// By tenant and key the changes that wait.
-pub(crate) type Changes = BTreeMap<(u32, Key), Waiting>;
-
-/// One record more, in whatever order they come.
-pub(crate) fn add(alloc: Global, changes: &mut Changes, change: Record) -> Result<(), AllocError>
-    ensures { OnOk result ((rs : List AnyRecord) → AreWaiting rs changes.old → AreWaiting (rs ++ change ∷ []) changes.new) }
+/// Makes a record's change of what stands at its key: what earlier changes left, or else what a list that ascends has.
+pub(crate) fn add(
+    alloc: Global,
+    changes: &mut Changes,
+    pairs: &[TenantPair],
+    change: Record,
+) -> Result<(), AllocError>
+    requires { Ascend pairs.now }
+    ensures { OnOk result ((m : Pairs) → AreAfter changes.old (pairs_of pairs.now) m → AreAfter changes.new (pairs_of pairs.now) (with_replayed m change)) }
 {
     let Record {
         stamp,
@@ -117,19 +32,39 @@ pub(crate) fn add(alloc: Global, changes: &mut Changes, change: Record) -> Resul
         key,
         write,
     } = change;
-    let change = Change { stamp, write };
-    let entry = changes.entry((tenant, key))?;
-    entry.or_insert(Waiting::none()).add(alloc, change)
+    let owner = (tenant, key);
+    if let Some(row) = changes.get_mut(&owner) {
+        return replay_over(alloc, row, stamp, write);
+    }
+    let mut row = listed_row(pairs, &owner)?;
+    replay_over(alloc, &mut row, stamp, write)?;
+    changes.insert(owner, row)?;
+    Ok(())
 }
 
-// What a change that begins anew leaves, unless the row has its stamp or a later one.
-fn begun_over(begun: u64, row: Option<Row>, old: Option<StampedRow>) -> Option<StampedRow>
-    ensures { result ≡ replayed begun (write_of row) old }
+// Makes a change of what stands at a key, unless that has its stamp or a later one.
+fn replay_over(
+    alloc: Global,
+    row: &mut Option<StampedRow>,
+    stamp: u64,
+    write: Write,
+) -> Result<(), AllocError>
+    ensures { OnOk result (row.new ≡ replayed stamp write row.old) }
 {
-    if stamp_in(&old) >= begun {
-        return old;
+    if stamp <= stamp_in(row) {
+        return Ok(());
     }
-    row.map(|row| StampedRow { stamp: begun, row })
+    match write {
+        Write::Removed => *row = None,
+        Write::Whole(whole) => *row = Some(StampedRow { stamp, row: whole }),
+        Write::Changed(change) => {
+            if let Some(old) = row {
+                old.row = merge(alloc, Some(&old.row), &change)?;
+                old.stamp = stamp;
+            }
+        }
+    }
+    Ok(())
 }
 
 // The stamp of a row, 0 of none.
@@ -139,29 +74,20 @@ fn stamp_in(row: &Option<StampedRow>) -> u64
     row.as_ref().map_or(0, |row| row.stamp)
 }
 
-// A row after columns were written over it: those with a stamp over its own.
-fn written_over(
-    alloc: Global,
-    columns: LastColumns,
-    old: StampedRow,
-) -> Result<StampedRow, AllocError>
-    ensures { IfOk result (λ row. Some row ≡ over (later_than old.stamp columns) (Some old)) }
+// The row of an owner in a list that ascends, shared with it.
+fn listed_row(pairs: &[TenantPair], owner: &(u32, Key)) -> Result<Option<StampedRow>, AllocError>
+    requires { Ascend pairs.now }
+    ensures { IfOk result (λ row. row ≡ fin.get (pairs_of pairs.now) owner.now) }
 {
-    let Later { stamp, columns } = columns.later(alloc, old.stamp)?;
-    if columns.is_empty() {
-        return Ok(old);
+    match pairs.binary_search_by(|pair| order(pair, owner)) {
+        Ok(place) => Ok(Some(pairs[place].row.share()?)),
+        Err(_) => Ok(None),
     }
-    let row = merge(alloc, Some(&old.row), &change_of(columns))?;
-    Ok(StampedRow { stamp, row })
 }
 
-// The change that writes these columns.
-fn change_of(columns: Vec<(u8, Column)>) -> Columns
-    requires { IsChange columns.items }
-    ensures { result ≡ columns.items }
+/// How a pair's owner stands to another one.
+pub(crate) fn order(pair: &TenantPair, owner: &(u32, Key)) -> Ordering
+    ensures { result ≡ owned_cmp (owner_of pair.now) owner.now }
 {
-    match Columns::new(NamedColumns::new(columns)) {
-        Ok(change) => change,
-        Err(_) => unreachable!(),
-    }
+    pair.tenant.cmp(&owner.0).then(pair.key.cmp(&owner.1))
 }

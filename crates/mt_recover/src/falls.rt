@@ -2,7 +2,7 @@
 
 ghost use Rattle.std.specs.Prelude.{◌≡◌, map, Option};
 ghost use Rattle.mt_log.specs.Contents.{contents_of};
-ghost use Rattle.mt_recover.specs.Falls.{fall_in, goes_on, batch_fall, fall_of, first_fall};
+ghost use Rattle.mt_recover.specs.Falls.{goes_on, batch_fall, fall_of, first_fall};
 
 use mt_log::{Front, LogBatch};
 
@@ -41,9 +41,7 @@ fn batch_fall(mark: u64, batch: &LogBatch) -> Option<u64>
         return Some(batch.from());
     }
     match batch {
-        LogBatch::Records(batch) | LogBatch::OldRecords(batch) => {
-            fall_in(batch.from(), batch.to(), batch.stamps())
-        }
+        LogBatch::Records(batch) | LogBatch::OldRecords(batch) => batch.fall(),
         LogBatch::Resume { .. } => None,
     }
 }
@@ -56,18 +54,4 @@ fn goes_on(batch: &LogBatch) -> bool
         LogBatch::Records(batch) | LogBatch::OldRecords(batch) => batch.from() <= batch.to(),
         LogBatch::Resume { from, to, kept } => from <= to && kept <= to,
     }
-}
-
-// The first stamp that isn't over the one before it, or is over `to`.
-fn fall_in(from: u64, to: u64, stamps: &[u64]) -> Option<u64>
-    ensures { result ≡ fall_in from to stamps.now }
-{
-    let mut last = from;
-    for stamp in stamps {
-        if *stamp <= last || *stamp > to {
-            return Some(*stamp);
-        }
-        last = *stamp;
-    }
-    None
 }

@@ -4,9 +4,9 @@ ghost use Rattle.std.specs.{Prelude.{◌≡◌, ◌++◌, ◌∷◌, true, false
 ghost use Rattle.mt_rows.specs.{Rows.Bytes, Stamps.Stamped, Tenants.owned_cmp, TenantPairs.{owner_of, pairs_of}, declared.record.TenantPair.{TenantPair as AnyPair}};
 ghost use Rattle.mt_tape.specs.Histories.{with_row};
 ghost use Rattle.std.specs.FinMap as fin;
-ghost use Rattle.mt_recover.specs.{Pairs.{Ascend, AreBefore, first_order, pair_for}, Waits.makes, Changes.AreAfter};
+ghost use Rattle.mt_recover.specs.{Pairs.{Ascend, AreBefore, first_order, pair_for}, Changes.AreAfter};
 
-use crate::changes::{Changes, Waiting};
+use crate::changes::{Changes, order};
 use mt_rows::{Key, StampedRow, TenantPair};
 use std::alloc::{AllocError, Global};
 use std::cmp::Ordering;
@@ -42,30 +42,28 @@ fn with_changes(
     ensures ascend { IfOk result (λ listed. Ascend (listed.items ++ left.new.items)) }
 {
     let mut listed = Vec::with_capacity(alloc, left.len().max(changes.len()))?;
-    for (owner, waiting) in changes {
-        make(alloc, &mut listed, left, owner, waiting)?;
+    for (owner, row) in changes {
+        make(&mut listed, left, owner, row)?;
     }
     Ok(listed)
 }
 
-// Makes the changes of an owner that comes after all listed pairs. It lists the pairs before the owner, and the
-// owner's pair.
+// Lists the pairs before an owner that comes after all listed ones, and the pair that its row makes. The pair that it
+// had is let go.
 fn make(
-    alloc: Global,
     listed: &mut Vec<TenantPair>,
     left: &mut VecDeque<TenantPair>,
     owner: (u32, Key),
-    waiting: Waiting,
+    row: Option<StampedRow>,
 ) -> Result<(), AllocError>
     requires ascend { Ascend (listed.old.items ++ left.old.items) }
     requires before { AreBefore owner listed.old.items }
-    ensures pairs { OnOk result ((row : Option Stamped) × (row ≡ makes waiting (fin.get (pairs_of (listed.old.items ++ left.old.items)) owner)) × (pairs_of (listed.new.items ++ left.new.items) ≡ with_row (pairs_of (listed.old.items ++ left.old.items)) owner row)) }
+    ensures pairs { OnOk result (pairs_of (listed.new.items ++ left.new.items) ≡ with_row (pairs_of (listed.old.items ++ left.old.items)) owner row) }
     ensures ascend { OnOk result (Ascend (listed.new.items ++ left.new.items)) }
     ensures before { OnOk result ((next : ℕ × Bytes) → owned_cmp owner next ≡ Less → AreBefore next listed.new.items) }
 {
     list_before(listed, left, &owner)?;
-    let row = take_first(left, &owner).map(|pair| pair.row);
-    let row = waiting.applied(alloc, row)?;
+    drop(take_first(left, &owner));
     list_row(listed, owner, row)
 }
 
@@ -128,7 +126,7 @@ fn first_order(left: &VecDeque<TenantPair>, owner: &(u32, Key)) -> Ordering
     ensures { result ≡ first_order owner.now left.now.items }
 {
     match left.front() {
-        Some(pair) => pair.tenant.cmp(&owner.0).then(pair.key.cmp(&owner.1)),
+        Some(pair) => order(pair, owner),
         None => Ordering::Greater,
     }
 }

@@ -16,6 +16,7 @@ use mt_recover::LogSlot;
 use mt_rows::Tenants;
 use mt_service::run_server;
 use mt_slots::StoreSlots;
+use mt_store_logs::StoreLog;
 use mt_stored::{NoDigests, Store};
 use std::alloc::{AllocError, Global};
 use std::io::Read;
@@ -62,8 +63,8 @@ pub(crate) fn bare_slots(alloc: Global) -> StoreSlots<MemDisk> {
     StoreSlots::found(bare_disk(alloc), bare_disk(alloc))
 }
 
-/// The files of a worker's log: a plain one on this disk, and two without a byte.
-pub(crate) fn files_on(alloc: Global, plain: MemDisk) -> WorkerFiles<MemDisk> {
+// The files of a worker's log: a plain one on this disk, and two without a byte.
+fn files_on(alloc: Global, plain: MemDisk) -> WorkerFiles<MemDisk> {
     WorkerFiles::closed(plain, bare_disk(alloc), bare_disk(alloc))
 }
 
@@ -113,7 +114,12 @@ pub(crate) fn disk_with(alloc: Global, image: &[u8]) -> Result<MemDisk, AllocErr
 fn image_of(rt: &impl Abort, alloc: Global, store: Store<MemDisk>) -> Vec<u8> {
     let (_, logs, _) = store.into_parts();
     assert_eq!(rt; logs.len(), 1);
-    match logs[0].slot() {
+    image_in(rt, alloc, &logs[0])
+}
+
+/// What a last log has in its file, if that is open.
+pub(crate) fn image_in(rt: &impl Abort, alloc: Global, log: &StoreLog<MemDisk>) -> Vec<u8> {
+    match log.slot() {
         LogSlot::Open(log) => log.disk().image().to_vec(alloc).expect(rt, "memory"),
         LogSlot::Failed(_) | LogSlot::Closed(_) | LogSlot::Away => panic!(rt; "the log is closed"),
     }

@@ -1,9 +1,9 @@
 -- What a call made of one slot's disk, put back beside the other one.
-use Rattle.std.proofs.Common.{◌≡◌, ℕ, Bool, Some, Result, sym, ◌∙◌, ap, subst}
+use Rattle.std.proofs.{Common.{◌≡◌, ℕ, Bool, Option, Some, Result, IfOk, IfErr, sym, ◌∙◌, ap, subst}, lemmas.Result.{IfOk-weaker, IfErr-weaker}}
 use Rattle.mt_disk.specs.{Disk.{DiskState}, declared.disk.DeviceFailed.DeviceFailed}
-use Rattle.mt_checkpoint.specs.Writes.{LeavesClosed, GivesUp, FailsToBegin, Ended}
-use Rattle.mt_slots.specs.{declared.slot.Slot.Slot, declared.store_slots.StoreSlots.StoreSlots, declared.checkpointing.Checkpointing.Checkpointing}
-use Rattle.mt_slots.specs.{Places.{other_of, next_slot, disk_of, slots_with, slot_of}, Calls.{FailsToBeginIn, Ends, GivesUpIn}}
+use Rattle.mt_checkpoint.specs.{declared.checkpoint.Checkpoint.Checkpoint, Slots.ReadSlot, Writes.{LeavesClosed, GivesUp, FailsToBegin, Ended}}
+use Rattle.mt_slots.specs.{declared.slot.Slot.Slot, declared.fault.SlotFault.SlotFault, declared.store_slots.StoreSlots.StoreSlots, declared.checkpointing.Checkpointing.Checkpointing}
+use Rattle.mt_slots.specs.{Places.{other_of, next_slot, disk_of, slots_with, slot_of}, Calls.{FailsToBeginIn, Ends, GivesUpIn}, Loads.{FailsToReadIn, LoadsSlot, FailsToLoad}}
 use Rattle.mt_slots.proofs.Keeping.{with-this, with-other, with-newest, with-owed}
 
 module _ {D : Type 0} (is_honest : D → Bool) (state : D → DiskState) (failures : D → ℕ) where
@@ -47,3 +47,17 @@ module _ {D : Type 0} (is_honest : D → Bool) (state : D → DiskState) (failur
         newest = ap (λ (s : StoreSlots D). s.newest) made ∙ with-newest slot disk old.other old.newest old.owed;
         owed = ap (λ (s : StoreSlots D). s.owed) made ∙ with-owed slot disk old.other old.newest old.owed;
       }
+
+  -- one slot's disk was read, or was not, and nothing else has changed
+  module _ (named slot : Slot) (here : named ≡ slot) (old new : StoreSlots D) (r : Result (Option Checkpoint) SlotFault) (other : disk_of (other_of slot) new ≡ disk_of (other_of slot) old)
+      (newest : new.newest ≡ old.newest) (owed : new.owed ≡ old.owed) where
+    pub loaded_in : IfOk r (ReadSlot is_honest state failures (disk_of slot old) (disk_of slot new)) → IfOk r (LoadsSlot is_honest state failures named old new)
+    loaded_in read = subst (λ k. IfOk r (LoadsSlot is_honest state failures k old new)) (sym here)
+        (IfOk-weaker r (ReadSlot is_honest state failures (disk_of slot old) (disk_of slot new)) (LoadsSlot is_honest state failures slot old new)
+        (λ x is. record { read = is; other = other; newest = newest; owed = owed }) read)
+
+    pub not_loaded_in : IfErr r (FailsToReadIn is_honest state failures named (disk_of slot old) (disk_of slot new)) → IfErr r (λ e. FailsToLoad is_honest state failures named e old new)
+    not_loaded_in fails =
+        subst (λ k. IfErr r (FailsToReadIn is_honest state failures k (disk_of slot old) (disk_of slot new)) → IfErr r (λ e. FailsToLoad is_honest state failures k e old new)) (sym here)
+        (IfErr-weaker r (FailsToReadIn is_honest state failures slot (disk_of slot old) (disk_of slot new)) (λ e. FailsToLoad is_honest state failures slot e old new)
+        (λ e is. record { fails = is; other = other; newest = newest; owed = owed })) fails

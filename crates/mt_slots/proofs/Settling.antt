@@ -4,12 +4,13 @@ use Rattle.std.specs.Option.{option_map}
 use Rattle.mt_rows.specs.{Rows.Bytes, declared.record.TenantPair.TenantPair}
 use Rattle.mt_disk.specs.Disk.{DiskState}
 use Rattle.mt_checkpoint.specs.{declared.checkpoint.Checkpoint.Checkpoint, Checkpoints.{Walk, IsWalk, walk_of, In, IsOneOf}}
-use Rattle.mt_checkpoint.specs.{Slots.{HasDurably, SettlesOnSlot, ReadSlot, FailsToRead}, declared.fault.ReadFault.ReadFault, declared.fault.FaultCause.FaultCause, Faults.read_cause}
+use Rattle.mt_checkpoint.specs.{Slots.{HasDurably, SettlesOnSlot, ReadSlot, FailsToRead}, declared.fault.ReadFault.ReadFault, Faults.read_cause}
 use Rattle.mt_checkpoint.proofs.Crash.{found_again, ended_slot}
 use Rattle.mt_slots.specs.{declared.slot.Slot.Slot, declared.slot.Slot.TheVariants.{First, Second}, declared.fault.SlotFault.SlotFault}
 use Rattle.mt_slots.specs.{declared.store_slots.StoreSlots.StoreSlots, declared.checkpointing.Checkpointing.Checkpointing}
-use Rattle.mt_slots.specs.Places.{Both, at, with, disk_of, with_newest, slot_of, given_up}
+use Rattle.mt_slots.specs.Places.{Both, at, with, other_of, disk_of, with_newest, slot_of, given_up}
 use Rattle.mt_slots.specs.Calls.{StopsIn, ReadsBoth, StopsReading, FailsToAddIn, Ends, FailsToEndIn, GivesUpIn}
+use Rattle.mt_slots.specs.Loads.{LoadsSlot, FailsToLoad}
 use Rattle.mt_slots.specs.Keeps.{Mays, only_these, HasOneWalk, LeavesOneOf, KeepsSlots, KeepsWriting, IsCrashedTo}
 use Rattle.mt_slots.proofs.Keeping.{from_now, now_newest, placed, other_is, honest_writer, after, after_closed}
 
@@ -99,30 +100,51 @@ module _ {D : Type 0} (is_honest : D → Bool) (state : D → DiskState) (failur
       pub among_these : (slot : Slot) → In (option_map walk_of (at slot found)) (at slot mays)
       among_these slot = (settled slot).among
 
-    module _ (cause : FaultCause) where
-      -- a slot that was read, or not, may be left as before
-      read_stays : (slot : Slot) → (x : Option Checkpoint) × ReadSlot is_honest state failures (disk_of slot old) (disk_of slot new) x
-          → IsTrue (is_honest (disk_of slot new)) × LeavesOneOf (at slot mays) (state (disk_of slot new))
-      read_stays slot (x, is) =
-          (subst IsTrue (sym is.honest) (kept.honest slot), from_now _ _ _ (is.settles (kept.honest slot) (at slot mays) _ (kept.leaves slot)).leaves)
+    abbrev Stays : Slot → Type 0
+    Stays slot = IsTrue (is_honest (disk_of slot new)) × LeavesOneOf (at slot mays) (state (disk_of slot new))
 
-      fails_stays : (slot : Slot) → (fault : ReadFault) × (cause ≡ read_cause fault) × FailsToRead is_honest state failures (disk_of slot old) (disk_of slot new) fault
-          → IsTrue (is_honest (disk_of slot new)) × LeavesOneOf (at slot mays) (state (disk_of slot new))
-      fails_stays slot (fault, same, is) = (subst IsTrue (sym is.honest) (kept.honest slot), from_now _ _ _ (is.leaves (kept.honest slot) (at slot mays) _ (kept.leaves slot)))
+    -- a slot that was read, or not, may be left as before
+    read_stays : (slot : Slot) (x : Option Checkpoint) → ReadSlot is_honest state failures (disk_of slot old) (disk_of slot new) x → Stays slot
+    read_stays slot x is = (subst IsTrue (sym is.honest) (kept.honest slot), from_now _ _ _ (is.settles (kept.honest slot) (at slot mays) _ (kept.leaves slot)).leaves)
 
-      same_stays : (slot : Slot) → disk_of slot new ≡ disk_of slot old → IsTrue (is_honest (disk_of slot new)) × LeavesOneOf (at slot mays) (state (disk_of slot new))
-      same_stays slot same = subst (λ d. IsTrue (is_honest d) × LeavesOneOf (at slot mays) (state d)) (sym same) (kept.honest slot, kept.leaves slot)
+    fails_stays : (slot : Slot) (fault : ReadFault) → FailsToRead is_honest state failures (disk_of slot old) (disk_of slot new) fault → Stays slot
+    fails_stays slot fault is = (subst IsTrue (sym is.honest) (kept.honest slot), from_now _ _ _ (is.leaves (kept.honest slot) (at slot mays) _ (kept.leaves slot)))
 
-      both_stay : ((slot : Slot) → IsTrue (is_honest (disk_of slot new)) × LeavesOneOf (at slot mays) (state (disk_of slot new))) → new.newest ≡ old.newest → Keeps mays new
-      both_stay each newest = record { honest = λ slot. (each slot).0; leaves = λ slot. (each slot).1; newest = λ slot e. kept.newest slot (sym newest ∙ e) }
+    same_stays : (slot : Slot) → disk_of slot new ≡ disk_of slot old → Stays slot
+    same_stays slot same = subst (λ d. IsTrue (is_honest d) × LeavesOneOf (at slot mays) (state d)) (sym same) (kept.honest slot, kept.leaves slot)
 
-      pub not_read_at : (slot : Slot) → StopsIn is_honest state failures (λ old new. (x : Option Checkpoint) × ReadSlot is_honest state failures old new x)
-          (λ old new. (fault : ReadFault) × (cause ≡ read_cause fault) × FailsToRead is_honest state failures old new fault) slot old new → new.newest ≡ old.newest → Keeps mays new
-      not_read_at First stops newest = both_stay (elim [ First ↦ fails_stays First stops.0 | Second ↦ same_stays Second stops.1 ]) newest
-      not_read_at Second stops newest = both_stay (elim [ First ↦ read_stays First stops.0 | Second ↦ fails_stays Second stops.1 ]) newest
+    both_stay : Stays First → Stays Second → new.newest ≡ old.newest → Keeps mays new
+    both_stay first second newest = record {
+      honest = elim [ First ↦ first.0 | Second ↦ second.0 ];
+      leaves = elim [ First ↦ first.1 | Second ↦ second.1 ];
+      newest = λ slot e. kept.newest slot (sym newest ∙ e);
+    }
+
+    -- one of them with the other as it was
+    one_stays : (slot : Slot) → Stays slot → disk_of (other_of slot) new ≡ disk_of (other_of slot) old → new.newest ≡ old.newest → Keeps mays new
+    one_stays First stays other newest = both_stay stays (same_stays Second other) newest
+    one_stays Second stays other newest = both_stay (same_stays First other) stays newest
 
     pub not_read : (e : SlotFault) → StopsReading is_honest state failures e old new → Keeps mays new
-    not_read e stops = not_read_at e.cause e.slot stops.stops stops.newest
+    not_read e stops = by e.slot stops.stops
+      where
+        by : (slot : Slot) → StopsIn is_honest state failures (λ old new. (x : Option Checkpoint) × ReadSlot is_honest state failures old new x)
+            (λ old new. (fault : ReadFault) × (e.cause ≡ read_cause fault) × FailsToRead is_honest state failures old new fault) slot old new → Keeps mays new
+        by First s = one_stays First (fails_stays First s.0.0 s.0.2) s.1 stops.newest
+        by Second s = both_stay (read_stays First s.0.0 s.0.1) (fails_stays Second s.1.0 s.1.2) stops.newest
+
+    pub loaded : (slot : Slot) (x : Option Checkpoint) → LoadsSlot is_honest state failures slot old new x → Keeps mays new
+    loaded slot x l = one_stays slot (read_stays slot x l.read) l.other l.newest
+
+    pub not_loaded : (slot : Slot) (e : SlotFault) → FailsToLoad is_honest state failures slot e old new → Keeps mays new
+    not_loaded slot e l = one_stays slot (fails_stays slot l.fails.1.0 l.fails.1.2) l.other l.newest
+
+  -- what was seen is loaded
+  pub loaded_so : (found : Both (Option Checkpoint)) (slot : Slot) (old new : StoreSlots D) (x : Option Checkpoint) → Keeps (only_these found) old
+      → LoadsSlot is_honest state failures slot old new x → option_map walk_of x ≡ option_map walk_of (at slot found)
+  loaded_so found slot old new x kept l =
+      let may = at slot (only_these found) in
+      only_one _ _ (subst (λ m. In (option_map walk_of x) m) (only-at slot found) (l.read.settles (kept.honest slot) may _ (kept.leaves slot)).among)
 
   -- ---- which one is the newest
 

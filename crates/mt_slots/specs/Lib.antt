@@ -1,4 +1,5 @@
 pub mod Places
 pub mod Calls
+pub mod Loads
 pub mod Keeps
 pub mod Crashes

@@ -6,6 +6,7 @@ ghost use Rattle.mt_checkpoint.specs.{declared.checkpoint.Checkpoint.Checkpoint,
 ghost use Rattle.mt_slots.specs.{declared.slot.Slot.Slot, declared.store_slots.StoreSlots.StoreSlots, declared.checkpointing.Checkpointing.Checkpointing};
 ghost use Rattle.mt_slots.specs.{declared.fault.SlotFault.SlotFault, Places.{Both, at, with, in_order, number_of, disk_of, next_slot, with_newest, slot_of, given_up}};
 ghost use Rattle.mt_slots.specs.Calls.{MakesBoth, ReadsBoth, StopsReading, Begins, FailsToBeginIn, Adds, FailsToAddIn, Ends, FailsToEndIn, GivesUpIn};
+ghost use Rattle.mt_slots.specs.Loads.{LoadsSlot, FailsToLoad};
 ghost use Rattle.mt_slots.specs.Keeps.{Mays, no_checkpoints, only_these, or_none, HasOneWalk, NewestEndsBy, KeepsSlots, KeepsWriting, IsCrashedTo};
 
 use mt_disk::Disk;
@@ -31,6 +32,16 @@ pub fn slots_that_are_read_have_that<D: Disk>()
         → ReadsBoth D.is_honest D.state D.failures old new found → KeepsSlots D.is_honest D.state D.failures (only_these found) new }
     ensures err { (mays : Mays) (e : SlotFault) (old new : StoreSlots D) → KeepsSlots D.is_honest D.state D.failures mays old
         → StopsReading D.is_honest D.state D.failures e old new → KeepsSlots D.is_honest D.state D.failures mays new }
+{}
+
+/// A slot that is loaded has what was seen of it. It may have what it might before, and so may the other one.
+pub fn a_slot_that_is_loaded_has_what_was_seen<D: Disk>()
+    ensures same { (found : Both (Option Checkpoint)) (slot : Slot) (old new : StoreSlots D) (x : Option Checkpoint) → KeepsSlots D.is_honest D.state D.failures (only_these found) old
+        → LoadsSlot D.is_honest D.state D.failures slot old new x → option_map walk_of x ≡ option_map walk_of (at slot found) }
+    ensures ok { (mays : Mays) (slot : Slot) (old new : StoreSlots D) (x : Option Checkpoint) → KeepsSlots D.is_honest D.state D.failures mays old
+        → LoadsSlot D.is_honest D.state D.failures slot old new x → KeepsSlots D.is_honest D.state D.failures mays new }
+    ensures err { (mays : Mays) (slot : Slot) (e : SlotFault) (old new : StoreSlots D) → KeepsSlots D.is_honest D.state D.failures mays old
+        → FailsToLoad D.is_honest D.state D.failures slot e old new → KeepsSlots D.is_honest D.state D.failures mays new }
 {}
 
 /// A slot that surely has a checkpoint may be kept as the newest.

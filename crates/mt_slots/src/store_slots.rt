@@ -1,15 +1,18 @@
 //! Both slots at rest.
 
 ghost use Rattle.std.specs.Prelude.{◌≡◌, ◌↔◌, Some, None, IsTrue, IfOk, IfErr, OnOk, OnErr};
-ghost use Rattle.mt_checkpoint.specs.{Slots.{ReadSlot, FailsToRead}, Faults.{read_cause, told_as}, declared.fault.ReadFault.ReadFault, declared.fault.FaultCause.TheVariants.Device};
+ghost use Rattle.mt_checkpoint.specs.{Slots.ReadSlot, Faults.{read_cause, told_as}, declared.fault.FaultCause.TheVariants.Device};
 ghost use Rattle.mt_slots.specs.declared.slot.Slot.TheVariants.{First};
 ghost use Rattle.mt_slots.specs.{Crashes.{MayLeaveBoth, AreCrashed, AreLeftOrCrashed}, Places.{other_of, disk_of, next_slot, slots_with, with_newest}};
 ghost use Rattle.mt_slots.specs.Calls.{MakesSlot, FailsToMakeSlot, MakesBoth, StopsMaking, TellsBoth, StopsReading, Begins, FailsToBeginIn};
+ghost use Rattle.mt_slots.specs.Loads.{FailsToReadIn, LoadsSlot, FailsToLoad};
 
 use crate::checkpointing::Checkpointing;
 use crate::fault::SlotFault;
 use crate::slot::{Slot, slot_after};
-use mt_checkpoint::{Checkpoint, FaultCause, ReadFault, Writer, create_slot, read_valid};
+use mt_checkpoint::{
+    Checkpoint, FaultCause, ReadFault, SeenCheckpoint, Writer, create_slot, look_at, read_valid,
+};
 use mt_disk::{DeviceFailed, Disk, MemDisk, SystemError};
 use std::alloc::{AllocError, Global};
 
@@ -43,15 +46,27 @@ impl<D: Disk> StoreSlots<D> {
         make_slot(&mut self.second, Slot::Second)
     }
 
-    /// What both slots have, the first one's first. An error tells the slot that was not read. Which one is the
-    /// newest, and what it owes, stay as they were.
-    pub fn read(&mut self, alloc: Global) -> Result<[Option<Checkpoint>; 2], SlotFault>
+    /// What both slots have, the first one's first. None of their pairs are kept. An error tells the slot that was not
+    /// read. Which one is the newest, and what it owes, stay as they were.
+    pub fn look(&mut self, alloc: Global) -> Result<[Option<SeenCheckpoint>; 2], SlotFault>
         ensures ok { IfOk result (TellsBoth D.is_honest D.state D.failures self.old self.new) }
         ensures err { IfErr result (λ e. StopsReading D.is_honest D.state D.failures e self.old self.new) }
     {
-        let first = read_slot(alloc, &mut self.first, Slot::First)?;
-        let second = read_slot(alloc, &mut self.second, Slot::Second)?;
+        let first = look_at_slot(alloc, &mut self.first, Slot::First)?;
+        let second = look_at_slot(alloc, &mut self.second, Slot::Second)?;
         Ok([first, second])
+    }
+
+    /// What one slot has, with its pairs. The other one isn't read. Which one is the newest, and what it owes, stay as
+    /// they were.
+    pub fn load(&mut self, alloc: Global, slot: Slot) -> Result<Option<Checkpoint>, SlotFault>
+        ensures ok { IfOk result (LoadsSlot D.is_honest D.state D.failures slot self.old self.new) }
+        ensures err { IfErr result (λ e. FailsToLoad D.is_honest D.state D.failures slot e self.old self.new) }
+    {
+        match slot {
+            Slot::First => load_slot(alloc, &mut self.first, slot),
+            Slot::Second => load_slot(alloc, &mut self.second, slot),
+        }
     }
 
     /// From now on this slot has the newest checkpoint: the store was recovered from it. None counts if it was
@@ -195,14 +210,29 @@ fn make_slot<D: Disk>(disk: &mut D, slot: Slot) -> Result<(), SlotFault>
     })
 }
 
+// Reads one slot through.
+fn look_at_slot<D: Disk>(
+    alloc: Global,
+    disk: &mut D,
+    slot: Slot,
+) -> Result<Option<SeenCheckpoint>, SlotFault>
+    ensures ok { IfOk result (ReadSlot D.is_honest D.state D.failures disk.old disk.new) }
+    ensures err { IfErr result (FailsToReadIn D.is_honest D.state D.failures slot disk.old disk.new) }
+{
+    look_at(alloc, disk).map_err(|fault| SlotFault {
+        slot,
+        cause: cause_of(fault),
+    })
+}
+
 // Reads one slot.
-fn read_slot<D: Disk>(
+fn load_slot<D: Disk>(
     alloc: Global,
     disk: &mut D,
     slot: Slot,
 ) -> Result<Option<Checkpoint>, SlotFault>
     ensures ok { IfOk result (ReadSlot D.is_honest D.state D.failures disk.old disk.new) }
-    ensures err { IfErr result (λ e. (e.slot ≡ slot) × ((fault : ReadFault) × (e.cause ≡ read_cause fault) × FailsToRead D.is_honest D.state D.failures disk.old disk.new fault)) }
+    ensures err { IfErr result (FailsToReadIn D.is_honest D.state D.failures slot disk.old disk.new) }
 {
     read_valid(alloc, disk).map_err(|fault| SlotFault {
         slot,

@@ -6,7 +6,7 @@ ghost use Rattle.mt_store_files.specs.Reports.{OnlyLooks, HoldsIn, HoldsCheckpoi
 use crate::fault::StoreFault;
 use crate::names::{FolderFile, StoreFile};
 use crate::system::FolderSystem;
-use mt_checkpoint::{Checkpoint, read_valid};
+use mt_checkpoint::look_at;
 use mt_digests::{agrees, read_digest};
 use mt_disk::{DeviceFailed, Disk};
 use mt_log_generations::{Header, HeaderFault, read_header};
@@ -176,8 +176,11 @@ fn holding_of<D: Disk>(alloc: Global, file: StoreFile, disk: &mut D) -> Holding
 fn slot_holding<D: Disk>(alloc: Global, disk: &mut D) -> Holding
     ensures { HoldsCheckpoint D.is_honest D.state D.failures disk.old disk.new result }
 {
-    match read_valid(alloc, disk) {
-        Ok(Some(Checkpoint { first, last, .. })) => Holding::Checkpoint { first, last },
+    match look_at(alloc, disk) {
+        Ok(Some(seen)) => Holding::Checkpoint {
+            first: seen.first(),
+            last: seen.last(),
+        },
         Ok(None) => Holding::NoCheckpoint,
         Err(_) => Holding::Unread,
     }

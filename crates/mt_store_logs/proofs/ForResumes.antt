@@ -1,20 +1,20 @@
 -- What a recovery may ask of the logs that were opened for it.
 use Rattle.std.proofs.Common.{◌≡◌, ℕ, ◌≤◌, ◌<◌, Bool, List, map, length, sym, ◌∙◌, ap, subst, arith, Option, Some, None}
 use Rattle.std.proofs.lemmas.List.{length-map}
-use Rattle.std.specs.{Prelude.{slice_get, slice_index_or}, List.AllByRecursion}
-use Rattle.mt_checkpoint.specs.{declared.checkpoint.Checkpoint.Checkpoint, Slots.IsWalkOrNone}
+use Rattle.std.specs.{Prelude.{slice_get, slice_index_or}, List.AllByRecursion, Option.option_map}
+use Rattle.mt_checkpoint.specs.{declared.checkpoint.Checkpoint.Checkpoint, Checkpoints.{IsWalkOrNone, walk_of}}
 use Rattle.mt_slots.specs.{declared.slot.Slot.TheVariants.{First, Second}, declared.store_slots.StoreSlots.StoreSlots, Places.{Both, in_order}, Calls.ReadsBoth}
 use Rattle.mt_disk.specs.Disk.{DiskState}
-use Rattle.mt_log.specs.Contents.{Contents, mark_of, contents_of}
-use Rattle.mt_rows.specs.Tenants.{Contents as Pairs}
+use Rattle.mt_log.specs.{declared.batch.Front.Front, Contents.{Contents, mark_of, contents_of}}
+use Rattle.mt_rows.specs.{Accounts.Accounts, Tenants.{Contents as Pairs}, TenantPairs.pairs_of}
 use Rattle.mt_crashes.specs.{Fronts.last_end, Bases.Slots}
 use Rattle.mt_crashes.proofs.{Members.{in_map, place_in}, FrontLaws.{upto_last, cutoff_upto_last}, Invariant.within_place}
 use Rattle.mt_generations.specs.Chains.{IsRecoveredOver}
 use Rattle.mt_recover.specs.{declared.resuming.LogSlot.LogSlot, declared.resuming.LogSlot.TheVariants.{Open, Failed, Closed, Away}, Resumes.IsOpenUpto}
-use Rattle.mt_recover.specs.Limits.{IsReadSlot}
+use Rattle.mt_recover.{specs.{Limits.IsReadSlot, declared.recovering.Recovered.Recovered}, proofs.Outlines.same_end}
 use Rattle.mt_log_files.specs.Slots.{file_of}
 use Rattle.mt_chain_files.{specs.{declared.opening.Chains.Chains, Lasts.{last_generation_of, EndsAt}}, proofs.Lasts.{open_at_ends, as_many_chains}}
-use Rattle.mt_store_logs.{specs.{declared.store_log.StoreLog.StoreLog, Places.slot_of, Taking.{files_of, OpensLogs}}, proofs.Loops.read_or}
+use Rattle.mt_store_logs.{specs.{declared.store_log.StoreLog.StoreLog, Places.slot_of, Taking.{files_of, OpensLogs}, Recovers.IsRecoveredOf}, proofs.Loops.read_or}
 
 -- a log that ends where a chain does is open up to each later step
 open_upto : {D : Type 0} (to : ℕ) (c : Contents) (slot : LogSlot D) → EndsAt c slot → mark_of c ≤ to → IsOpenUpto to slot
@@ -49,7 +49,7 @@ module _ {D : Type 0} (is_honest : D → Bool) (state : D → DiskState) (failur
       → AllByRecursion IsReadSlot (in_order found)
   both_in_format old new found reads = (read_slot found.first (reads.each First).format, (read_slot found.second (reads.each Second).format, tt))
     where
-      read_slot : (x : Option Checkpoint) → IsWalkOrNone is_honest state failures x → IsReadSlot x
+      read_slot : (x : Option Checkpoint) → IsWalkOrNone (option_map walk_of x) → IsReadSlot x
       read_slot None is = tt
       read_slot (Some c) is = is
 
@@ -65,3 +65,14 @@ cutoff_within chains read cutoff resume used found is =
     let last = resumes_last chains read cutoff resume used found is in
     let below = cutoff_upto_last chains in
     omega (arith, least, last, below)
+
+-- so of fronts that are read again: their outlines stay
+pub resumes_fronts : (rules : Type 0) (accounts : Accounts) (seen : Slots) (fronts : List Front) (r : Recovered) → IsRecoveredOf rules accounts seen fronts r
+    → last_end (map contents_of fronts) ≤ r.resume
+resumes_fronts rules accounts seen fronts r is =
+    let same = same_end (map contents_of fronts) is.now is.outlines.same in
+    let last = resumes_last is.now is.loaded r.cutoff r.resume r.used (pairs_of r.pairs.items) is.over in
+    omega (arith, same, last)
+
+pub cutoff_recovered : (rules : Type 0) (accounts : Accounts) (seen : Slots) (fronts : List Front) (r : Recovered) → IsRecoveredOf rules accounts seen fronts r → r.cutoff ≤ r.resume
+cutoff_recovered rules accounts seen fronts r is = cutoff_within is.now is.loaded r.cutoff r.resume r.used (pairs_of r.pairs.items) is.over

@@ -24,3 +24,7 @@ pub mod OneGeneration
 pub mod LastStarts
 pub mod NextLogs
 pub mod UsedSlots
+pub mod Rereading
+pub mod SecondReadings
+pub mod SecondEnds
+pub mod StoreEnds

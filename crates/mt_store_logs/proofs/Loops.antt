@@ -1,12 +1,12 @@
 -- One more in a walk over a list whose elements are written one by one, and its end.
 use Rattle.std.proofs.Common.{◌≡◌, ◌≢◌, ◌⊎◌, inl, inr, ⊎_elim, ℕ, zero, suc, ◌+◌, ◌<◌, ◌≤◌, List, [], ◌∷◌, length, map, refl, sym, ◌∙◌, ap, subst, arith, Some}
-use Rattle.std.proofs.{lemmas.List.length-set, lemmas.Option.same_Some}
+use Rattle.std.proofs.{lemmas.List.{length-set, length-map}, lemmas.Option.same_Some}
 use Rattle.std.specs.Prelude.{◌++◌, slice_get, slice_set, slice_index_or, Result, Ok, Err, OnErr}
-use Rattle.mt_crashes.proofs.{Members.no_some, Invariant.within_place}
+use Rattle.mt_crashes.proofs.{Members.no_some, Invariant.{within_place, place_map}}
 use Rattle.mt_store_logs.specs.{declared.store_log.StoreLog.StoreLog, Places.{worker_of, workers_of}, Lists.{EachBefore, Each, StopsAt}}
 
 -- what stands in a list in which one element was written
-set_cases : {X : Type 0} (xs : List X) (i k : ℕ) (y z : X) → slice_get (slice_set xs i y) k ≡ Some z
+pub set_cases : {X : Type 0} (xs : List X) (i k : ℕ) (y z : X) → slice_get (slice_set xs i y) k ≡ Some z
     → ((k ≡ i) × (z ≡ y)) ⊎ ((k ≢ i) × (slice_get xs k ≡ Some z))
 set_cases [] i k y z h = absurd (no_some z h)
 set_cases (x ∷ xs) zero zero y z h = inl (refl, sym (same_Some y z h))
@@ -14,12 +14,12 @@ set_cases (x ∷ xs) zero (suc k) y z h = inr (λ e. omega (arith, e), h)
 set_cases (x ∷ xs) (suc i) zero y z h = inr (λ e. omega (arith, e), h)
 set_cases (x ∷ xs) (suc i) (suc k) y z h = ⊎_elim (λ l. inl (ap suc l.0, l.1)) (λ r. inr (λ e. r.0 (omega (arith, e)), r.1)) (set_cases xs i k y z h)
 
-set_there : {X : Type 0} (xs : List X) (i : ℕ) (y : X) → i < length xs → slice_get (slice_set xs i y) i ≡ Some y
+pub set_there : {X : Type 0} (xs : List X) (i : ℕ) (y : X) → i < length xs → slice_get (slice_set xs i y) i ≡ Some y
 set_there [] i y h = absurd (omega (arith, h))
 set_there (x ∷ xs) zero y h = refl
 set_there (x ∷ xs) (suc i) y h = set_there xs i y (omega (arith, h))
 
-set_other : {X : Type 0} (xs : List X) (i k : ℕ) (y : X) → k ≢ i → slice_get (slice_set xs i y) k ≡ slice_get xs k
+pub set_other : {X : Type 0} (xs : List X) (i k : ℕ) (y : X) → k ≢ i → slice_get (slice_set xs i y) k ≡ slice_get xs k
 set_other [] i k y h = refl
 set_other (x ∷ xs) zero zero y h = absurd (h refl)
 set_other (x ∷ xs) zero (suc k) y h = refl
@@ -168,3 +168,36 @@ made_more f place xs ys x len here before k z below there =
     let is = same_Some x z (sym here ∙ subst (λ (n : ℕ). slice_get xs n ≡ Some z) same there) in
     subst (λ (n : ℕ). slice_get (ys ++ f x ∷ []) n ≡ Some (f z)) (sym same) (get_last ys place (f x) len ∙ ap (λ (w : _). Some (f w)) is))
     (below_or_not k place)
+
+-- one of them has changed, and each of the others is what it was
+pub one_set : {X : Type 0} (R : ℕ → X → X → Type 0) (place : ℕ) (old : List X) (new was : X) → ((k : ℕ) (x : X) → R k x x) → slice_get old place ≡ Some was → R place was new
+    → Each R old (slice_set old place new)
+one_set R place old new was same at here = record {
+  len = length-set old place new;
+  each = λ k x y below there then.
+      ⊎_elim
+      (λ l. subst (λ (n : ℕ). R n x y) (sym l.0)
+      (subst (R place x) (sym l.1) (subst (λ (z : _). R place z new) (same_Some was x (sym at ∙ subst (λ (n : ℕ). slice_get old n ≡ Some x) l.0 there)) here)))
+      (λ r. subst (R k x) (same_Some x y (sym there ∙ r.1)) (same k x))
+      (set_cases old place k new y then);
+}
+
+-- one change of them all after another
+pub each_after : {X : Type 0} (R S T : ℕ → X → X → Type 0) (old mid new : List X) → ((k : ℕ) (a b c : X) → R k a b → S k b c → T k a c) → Each R old mid → Each S mid new → Each T old new
+each_after R S T old mid new so first second = record {
+  len = second.len ∙ first.len;
+  each = λ k was is below there then.
+      let len = first.len in
+      let m = within_place mid k (omega (arith, below, len)) in
+      so k was m.0 is (first.each k was m.0 below there m.1) (second.each k m.0 is (get_within mid k m.0 m.1) m.1 then);
+}
+
+-- what stays of each of them stays of all
+pub each_map : {X Y : Type 0} (f : X → Y) (R : ℕ → X → X → Type 0) (old new : List X) → ((k : ℕ) (was is : X) → R k was is → f is ≡ f was) → Each R old new → map f new ≡ map f old
+each_map f R old new so all =
+    made_of f old (map f new) (length-map new f ∙ all.len)
+    (λ k x there.
+    let within = get_within old k x there in
+    let len = all.len in
+    let is = within_place new k (omega (arith, within, len)) in
+    place_map f new k is.0 is.1 ∙ ap (λ (y : _). Some y) (so k x is.0 (all.each k x is.0 within there is.1)))

@@ -6,7 +6,10 @@ pub mod Waits
 pub mod Flushes
 pub mod LogTurns
 pub mod Leaves
+pub mod Resumes
+pub mod Rereads
 pub mod Recovers
+pub mod Seconds
 pub mod OldBases
 pub mod Crashes
 pub mod Shows

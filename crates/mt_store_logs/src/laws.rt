@@ -1,10 +1,10 @@
 //! What a crash may leave of a store's logs, whatever was called on them: laws, each the contract of a function
 //! that does nothing. Their premise is a disk that keeps the rules.
 
-ghost use Rattle.std.specs.{Prelude.{◌≡◌, ◌≢◌, ◌⊎◌, ◌+◌, ◌≤◌, ◌^◌, ℕ, max, true, false, List, Option, None, Some}, Option.option_map};
+ghost use Rattle.std.specs.{Prelude.{◌≡◌, ◌≢◌, ◌⊎◌, ◌+◌, ◌≤◌, ◌^◌, ℕ, max, true, false, List, map, Option, None, Some}, Option.option_map};
 ghost use Rattle.std.specs.FinMap as pairs;
 ghost use Rattle.mt_rows.specs.{Rows.Bytes, declared.record.Batch.Batch, declared.refusal.Refusal.Refusal};
-ghost use Rattle.mt_rows.specs.{Stamps.restamped_row, Tenants.{Contents as Pairs}};
+ghost use Rattle.mt_rows.specs.{Stamps.restamped_row, Tenants.{Contents as Pairs}, TenantPairs.pairs_of};
 ghost use Rattle.mt_rows.specs.declared.refusal.Refusal.TheVariants as refusals;
 ghost use Rattle.mt_batches.specs.Batches.{IsInOrder};
 ghost use Rattle.mt_disk.specs.{declared.mem.MemDisk.MemDisk, Mem.mem_state};
@@ -13,11 +13,11 @@ ghost use Rattle.mt_log.specs.Contents.{Contents, Rises, JoinsAndRises, mark_of,
 ghost use Rattle.mt_crashes.specs.{Fronts.In, Stores.{LogNow, at_rest, MayLeaveFront}, Bases.{CheckpointView, Slots}, Histories.{Placed, pairs_upto}};
 ghost use Rattle.mt_crashes.specs.{Invariants.RisePlaced, Recoveries.{HasSlot, IsRecovered}};
 ghost use Rattle.mt_recover.specs.{declared.resuming.LogSlot.LogSlot, Resumes.{HasResumed, FailsToResume}};
-ghost use Rattle.mt_generations.specs.Chains.{EndsLog};
+ghost use Rattle.mt_generations.specs.Chains.{EndsLog, BeginBy, IsRecoveredOver};
 ghost use Rattle.mt_log_files.specs.Files.{Spare, Has, MayLeaveFile};
 ghost use Rattle.mt_chain_files.specs.Turns.{FilesNow, now_of, AreOfTurn, ShowFiles};
 ghost use Rattle.mt_store_logs.specs.{declared.store_log.StoreLog.StoreLog, Places.{disk_in, worker_of, OnLast}, Opens.{Opens, FailsToOpen, Makes, MakesLog}};
-ghost use Rattle.mt_store_logs.specs.{Ends.{IsEndOf, Stands, keeping, Rests, StandsInTurn, KeepStarts}, Recovers.{ResumesLog, FailsToResumeLog, ServesAgain}};
+ghost use Rattle.mt_store_logs.specs.{Ends.{IsEndOf, Stands, keeping, Rests, StandsInTurn, KeepStarts}, Recovers.{ResumesLog, FailsToResumeLog, IsRecoveredOf, ServesAgain}, Rereads.KeepRules};
 ghost use Rattle.mt_rows.specs.Accounts.{Accounts};
 ghost use Rattle.mt_recover.specs.declared.recovering.Recovered.{Recovered};
 ghost use Rattle.mt_slots.specs.{declared.store_slots.StoreSlots.StoreSlots, Keeps.{NewestEndsBy, only_these}};
@@ -250,6 +250,17 @@ pub fn the_checkpoint_that_was_used_is_settled<D: Disk>()
         → (is : ServesAgain D.is_honest D.state D.failures accounts r generation old slots new now) → NewestEndsBy (only_these is.found) r.resume now }
     ensures owed { (accounts : Accounts) (r : Recovered) (generation : ℕ) (old new : List (StoreLog D)) (slots now : StoreSlots D)
         → ServesAgain D.is_honest D.state D.failures accounts r generation old slots new now → now.owed ≡ 0 }
+{}
+
+/// What is recovered by a second reading is recovered of what was seen first, over disks that keep the rules. If all chains
+/// begin at step 0, it is what is recovered of whole logs.
+pub fn a_recovery_is_of_what_was_seen<D: Disk>()
+    ensures over { (accounts : Accounts) (seen : Slots) (fronts : List Front) (r : Recovered) (logs : List (StoreLog D)) (slots : StoreSlots D)
+        → KeepRules D.is_honest D.state D.failures logs slots → IsRecoveredOf (KeepRules D.is_honest D.state D.failures logs slots) accounts seen fronts r
+        → IsRecoveredOver (map contents_of fronts) seen r.cutoff r.resume r.used (pairs_of r.pairs.items) }
+    ensures whole { (accounts : Accounts) (seen : Slots) (fronts : List Front) (r : Recovered) (logs : List (StoreLog D)) (slots : StoreSlots D)
+        → KeepRules D.is_honest D.state D.failures logs slots → IsRecoveredOf (KeepRules D.is_honest D.state D.failures logs slots) accounts seen fronts r
+        → BeginBy 0 (map contents_of fronts) → IsRecovered (map contents_of fronts) seen r.cutoff r.resume r.used (pairs_of r.pairs.items) }
 {}
 
 /// A crash changes nothing of what a crash may leave.

@@ -20,6 +20,7 @@ pub mod laws;
 mod next_log;
 mod opening;
 mod recovering;
+mod second_reading;
 mod source;
 mod standing;
 mod store_log;

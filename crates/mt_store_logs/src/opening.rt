@@ -8,7 +8,7 @@ use crate::fault::LogRefusal;
 use crate::store_log::StoreLog;
 use crate::taking::{put_all, take_all};
 use mt_chain_files::{Chains, Watch, open_chains};
-use mt_checkpoint::Checkpoint;
+use mt_checkpoint::SeenCheckpoint;
 use mt_disk::{DeviceFailed, Disk};
 use mt_log::LogFile;
 use mt_log_files::{WorkerFiles, take_disk};
@@ -157,7 +157,7 @@ fn create_on<D: Disk + Drop>(
 pub fn open_logs<D: Disk + Drop, W: Watch>(
     alloc: Global,
     logs: &mut [StoreLog<D>],
-    checkpoints: &[Option<Checkpoint>; 2],
+    checkpoints: &[Option<SeenCheckpoint>; 2],
     watch: &mut W,
 ) -> Result<Chains, LogRefusal>
     ensures workers { workers_of logs.new ≡ workers_of logs.old }

@@ -1,6 +1,10 @@
 //! The log of a worker in a running store, and the batch that waits for it.
 
-ghost use Rattle.std.specs.Prelude.{◌≡◌, ◌↔◌, ◌≢◌, ◌-◌, false, None, IsTrue, IfErr, OnOk};
+ghost use Rattle.std.specs.{Prelude.{◌≡◌, ◌↔◌, ◌≢◌, ◌-◌, false, List, None, IsTrue, is_ok, IfOk, IfErr, IfSome, OnOk}, Option.option_map};
+ghost use Rattle.mt_log.specs.declared.batch.{LogBatch.{LogBatch as AnyBatch}, ReadBatch.{ReadBatch as AnyRead}};
+ghost use Rattle.mt_recover.specs.Sources.{Gives, IsReadable};
+ghost use Rattle.mt_chain_files.specs.Rereads.{ChainIsAhead, IsNumbered};
+ghost use Rattle.mt_store_logs.specs.Rereads.{LogIsRead};
 ghost use Rattle.mt_turns.specs.Logs.{IsWith};
 ghost use Rattle.mt_store_logs.specs.Places.{last_log_of, mark_in, slot_of, worker_of, with_last, without_last, no_files, OnLast};
 ghost use Rattle.mt_store_logs.specs.Turns.{BeginsNextLog, FailsToBeginNextLog, LooksForNext, FailsToLook, ReopensLog, FailsToReopenLog, GivesUpOlderLog, FailsToGiveUpOlderLog};
@@ -10,7 +14,9 @@ ghost use Rattle.mt_store_logs.specs.Waits.{Reopens, FailsToReopen};
 use crate::last_log::{LastLog, WaitingBatch};
 use crate::next_log::{find_next, put_files, take_files};
 use crate::standing::Generations;
+use mt_chain_files::ChainReader;
 use mt_disk::Disk;
+use mt_log::{ReadBatch, ReadFault};
 use mt_log_files::WorkerFiles;
 use mt_recover::LogSlot;
 use mt_rows::Refusal;
@@ -206,6 +212,25 @@ impl<D: Disk + Drop> StoreLog<D> {
                 Err(refusal)
             }
         }
+    }
+
+    // The next batch of its chain, read again. An error leaves its files open.
+    pub(crate) fn read_again(
+        &mut self,
+        alloc: Global,
+        reader: &mut ChainReader,
+    ) -> Result<Option<ReadBatch>, ReadFault>
+        ensures ahead { IfOk result (λ given. (batches : List AnyBatch) → ChainIsAhead D.is_honest D.state batches self.old.log.files reader.old
+            → Gives (λ rest. ChainIsAhead D.is_honest D.state rest self.new.log.files reader.new) batches (option_map (λ (b : AnyRead). b.batch) given)) }
+        ensures format { IfOk result (λ given. IfSome given (λ (b : AnyRead). IsReadable b.batch)) }
+        ensures read { LogIsRead D.is_honest D.state D.failures (is_ok result) self.old self.new }
+        ensures plain { IsNumbered reader.old → IsNumbered reader.new × (self.new.log.files.plain ≡ self.old.log.files.plain) }
+    {
+        let generation = self.log.generation();
+        let mut files = take_files(&mut self.log);
+        let given = reader.read(alloc, &mut files);
+        put_files(&mut self.log, generation, files);
+        given
     }
 
     // Takes its files out. It has none then, and keeps no batch.

@@ -82,7 +82,7 @@ fn run<L: Ledger + Send + Sync, R: Threads + Wait + Clock + Log + Abort + Sync>(
     let counts = four_at_once(rt, alloc, &book, &logs, &turns);
     let slots = turns.into_checks().into_slots().expect(rt, "the slots");
     let (_, logs, _) = joined(rt, alloc, book, logs).into_parts();
-    expect_recovered(rt, alloc, images_of(rt, alloc, &logs), slots, &counts);
+    expect_recovered(rt, alloc, &images_of(rt, alloc, &logs), slots, &counts);
 }
 
 #[test]

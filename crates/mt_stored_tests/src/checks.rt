@@ -4,13 +4,12 @@ ghost use Rattle.std.specs.Prelude.{◌≡◌};
 
 use self::Act::{Puts, Settles, SettlesWithout};
 use crate::disks::{Fails, FlakyDisk, NEVER};
-use crate::images::{hold_all_with, tenant_7};
+use crate::images::{disk_with, hold_all_with, tenant_7};
 use crate::sessions::Session;
 use crate::stories::{TENANTS, bare_slots, joined, new_store, session_of};
 use log::sink::Locked;
 use log::{Level, Log, Logged};
 use mt_book::{Book, BookLock};
-use mt_checkpoint::Checkpoint;
 use mt_disk::MemDisk;
 use mt_rows::Refusal;
 use mt_service::Turns;
@@ -41,26 +40,21 @@ enum Act {
     SettlesWithout(u8),
 }
 
-// What a disk has, in memory.
-fn copy_of(alloc: Global, disk: &FlakyDisk) -> Result<MemDisk, AllocError> {
-    let image = disk.image().to_vec(alloc)?;
-    MemDisk::with_image(alloc, image, Vec::new(alloc), None)
-}
-
 // What both slots have, in memory.
 fn copies_of(
     alloc: Global,
     slots: StoreSlots<FlakyDisk>,
 ) -> Result<StoreSlots<MemDisk>, AllocError> {
     let (first, second) = slots.into_disks();
-    Ok(StoreSlots::found(copy_of(alloc, &first)?, copy_of(alloc, &second)?))
+    let first = disk_with(alloc, first.image())?;
+    Ok(StoreSlots::found(first, disk_with(alloc, second.image())?))
 }
 
 /// A recovery from these files and slots gives the pairs of all clients, and uses the newest checkpoint.
 pub(crate) fn expect_recovered(
     rt: &impl Abort,
     alloc: Global,
-    images: Vec<FileImages>,
+    images: &[FileImages],
     slots: StoreSlots<FlakyDisk>,
     counts: &[u16],
 ) {
@@ -73,22 +67,24 @@ pub(crate) fn expect_recovered(
     assert_eq!(rt; slots.newest(), newest);
 }
 
-// How many pairs a checkpoint has, if it is one.
-fn count_in(checkpoint: &Option<Checkpoint>) -> Option<usize> {
-    match checkpoint {
-        Some(checkpoint) => Some(checkpoint.pairs.len()),
-        None => None,
-    }
+// How many pairs the checkpoint of a slot has, if it has one.
+fn count_in(
+    rt: &impl Abort,
+    alloc: Global,
+    slots: &mut StoreSlots<MemDisk>,
+    slot: Slot,
+) -> Option<usize> {
+    let loaded = slots.load(alloc, slot).expect(rt, "a slot is read");
+    loaded.map(|checkpoint| checkpoint.pairs.len())
 }
 
 // What slots have.
 fn found_in(rt: &impl Abort, alloc: Global, slots: StoreSlots<FlakyDisk>) -> Found {
     let newest = slots.newest();
     let mut slots = copies_of(alloc, slots).expect(rt, "memory");
-    match slots.read(alloc) {
-        Ok([first, second]) => (count_in(&first), count_in(&second), newest),
-        Err(_) => panic!(rt; "a slot is not read"),
-    }
+    let first = count_in(rt, alloc, &mut slots, Slot::First);
+    let second = count_in(rt, alloc, &mut slots, Slot::Second);
+    (first, second, newest)
 }
 
 // Whether the client settles so many times, and is told a number each time.

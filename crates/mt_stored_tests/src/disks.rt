@@ -15,7 +15,8 @@ pub(crate) const NEVER: Fails = (0, 0);
 /// None of a worker's three files.
 pub(crate) const SOUND: [Fails; 3] = [NEVER; 3];
 
-/// A disk in memory, some of whose calls fail. It may have a device that gives back another last byte than it was given.
+/// A disk in memory, some of whose calls fail. It may have a device that gives back another last byte than it was given, or
+/// another byte from its first cut on.
 #[derive(Drop)]
 pub(crate) struct FlakyDisk {
     image: Vec<u8>,
@@ -23,6 +24,7 @@ pub(crate) struct FlakyDisk {
     calls: u64,
     fails: Fails,
     spoils: bool,
+    changes: Option<usize>,
     failures: u64,
     bytes_read: u64,
 }
@@ -37,6 +39,7 @@ impl FlakyDisk {
             calls: 0,
             fails,
             spoils: false,
+            changes: None,
             failures: 0,
             bytes_read: 0,
         }
@@ -46,6 +49,14 @@ impl FlakyDisk {
     pub(crate) fn spoiling(self) -> Self {
         FlakyDisk {
             spoils: true,
+            ..self
+        }
+    }
+
+    /// The same, whose device gives back 0 at a place from its first cut on, with which the opening of a log ends.
+    pub(crate) fn changing(self, place: usize) -> Self {
+        FlakyDisk {
+            changes: Some(place),
             ..self
         }
     }
@@ -160,6 +171,11 @@ impl Disk for FlakyDisk {
         let told = self.call();
         if told.is_ok() {
             self.image.truncate(len);
+            if let Some(place) = self.changes {
+                if let Some(byte) = self.image.get_mut(place) {
+                    *byte = 0;
+                }
+            }
         }
         self.counted(told)
     }

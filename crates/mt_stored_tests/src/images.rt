@@ -1,16 +1,16 @@
 //! What the files of a store's logs hold.
 
-ghost use Rattle.std.specs.Prelude.{◌≡◌, ◌≤◌, length, vec_len, IfOk};
+ghost use Rattle.std.specs.Prelude.{◌≤◌, vec_len, IfOk};
 ghost use Rattle.mt_state.specs.Begins.{HaveNoPairs};
 
 use crate::disks::{Fails, FlakyDisk};
 use mt_disk::MemDisk;
-use mt_log::Front;
+use mt_log::{BatchReader, FileKind, Front, LogFile, ReadBatch};
 use mt_log_files::WorkerFiles;
 use mt_recover::LogSlot;
 use mt_rows::{Refusal, TenantPair, Tenants};
 use mt_slots::StoreSlots;
-use mt_store_logs::{FileImages, NoWatch, StoreLog, closed_logs, open_logs, recover_store};
+use mt_store_logs::{FileImages, NoWatch, StoreLog, closed_logs, recover_store};
 use std::alloc::{AllocError, Global};
 use std::process::Abort;
 
@@ -120,21 +120,20 @@ pub(crate) fn images_of(
 }
 
 /// A disk in memory with this image.
-pub(crate) fn disk_with(alloc: Global, image: Vec<u8>) -> Result<MemDisk, AllocError> {
-    MemDisk::with_image(alloc, image, Vec::new(alloc), None)
+pub(crate) fn disk_with(alloc: Global, image: &[u8]) -> Result<MemDisk, AllocError> {
+    MemDisk::with_image(alloc, image.to_vec(alloc)?, Vec::new(alloc), None)
 }
 
 // The files of a worker's log with these images, in memory.
-fn copies_with(alloc: Global, images: FileImages) -> Result<WorkerFiles<MemDisk>, AllocError> {
-    let FileImages { plain, even, odd } = images;
-    let plain = disk_with(alloc, plain)?;
-    let even = disk_with(alloc, even)?;
-    let odd = disk_with(alloc, odd)?;
+fn copies_with(alloc: Global, images: &FileImages) -> Result<WorkerFiles<MemDisk>, AllocError> {
+    let plain = disk_with(alloc, &images.plain)?;
+    let even = disk_with(alloc, &images.even)?;
+    let odd = disk_with(alloc, &images.odd)?;
     Ok(WorkerFiles::closed(plain, even, odd))
 }
 
 // Closed logs over these images.
-fn logs_of(alloc: Global, images: Vec<FileImages>) -> Result<Vec<StoreLog<MemDisk>>, Refusal>
+fn logs_of(alloc: Global, images: &[FileImages]) -> Result<Vec<StoreLog<MemDisk>>, Refusal>
     ensures few { IfOk result (λ logs. vec_len logs ≤ 64) }
 {
     let mut files = Vec::new(alloc);
@@ -147,26 +146,37 @@ fn logs_of(alloc: Global, images: Vec<FileImages>) -> Result<Vec<StoreLog<MemDis
     Ok(closed_logs(alloc, files)?)
 }
 
-// Whether a log has exactly so many first keys of a client, each once and in order.
-fn has_own(alloc: Global, front: &Front, owner: u8, count: u16) -> Result<bool, AllocError> {
-    let mut number: u16 = 0;
-    for record in front.records(alloc)? {
-        if record.key.as_bytes() != key_of(owner, number).as_slice() {
-            return Ok(false);
+// How many of a client's first keys were put, the records of a batch being the next ones after so many.
+fn count_on(batch: &ReadBatch, owner: u8, count: u16) -> Option<u16> {
+    let mut count = count;
+    for record in &batch.records {
+        if record.key.as_bytes() != key_of(owner, count).as_slice() {
+            return None;
         }
-        number = number.saturating_add(1);
+        count = count.saturating_add(1);
     }
-    Ok(number == count)
+    Some(count)
 }
 
-// Whether each log stands at its worker's place, and has its own keys.
-fn have_own(alloc: Global, fronts: &[Front], counts: &[u16]) -> Result<bool, AllocError> {
-    for (place, (front, count)) in fronts.iter().zip(counts).enumerate() {
-        if usize::from(front.worker) != place || !has_own(alloc, front, front.worker, *count)? {
-            return Ok(false);
-        }
+// How many first keys of a client a log has, if it has them alone, each once and in order.
+fn count_of(alloc: Global, log: &mut LogFile<MemDisk>, front: &Front) -> Option<u16> {
+    let mut reader = BatchReader::begin(alloc, log, FileKind::Plain).ok()?;
+    let mut count = 0;
+    for _ in &front.batches {
+        let batch = reader.next(alloc, log).ok()??;
+        count = count_on(&batch, front.worker, count)?;
     }
-    Ok(fronts.len() == counts.len())
+    Some(count)
+}
+
+// Whether the plain file of a worker has exactly so many first keys of its client.
+fn has_own(alloc: Global, plain: &[u8], worker: usize, count: u16) -> Result<bool, AllocError> {
+    match LogFile::open(alloc, disk_with(alloc, plain)?) {
+        Ok((mut log, front)) => Ok(
+            usize::from(front.worker) == worker && count_of(alloc, &mut log, &front) == Some(count),
+        ),
+        Err(_) => Ok(false),
+    }
 }
 
 // Whether these are exactly the pairs of the clients' first keys.
@@ -187,10 +197,10 @@ fn are_pairs(pairs: &[TenantPair], counts: &[u16]) -> bool {
     place == pairs.len()
 }
 
-//// The pairs that a recovery from these images gives.
+/// The pairs that a recovery from these images gives.
 pub(crate) fn pairs_left(
     alloc: Global,
-    images: Vec<FileImages>,
+    images: &[FileImages],
     slots: &mut StoreSlots<MemDisk>,
     tenants: &Tenants,
 ) -> Result<Vec<TenantPair>, Refusal> {
@@ -201,57 +211,32 @@ pub(crate) fn pairs_left(
     }
 }
 
-// Whether each log has exactly so many first keys of its worker's client, each once and in order, and a recovery gives the
+/// Whether each log has exactly so many first keys of its worker's client, each once and in order, and a recovery gives the
 /// pairs of all of them.
 pub(crate) fn hold_all(
     alloc: Global,
-    images: Vec<FileImages>,
+    images: &[FileImages],
     tenants: &Tenants,
     counts: &[u16],
 ) -> Result<bool, Refusal> {
+    for (worker, (image, count)) in images.iter().zip(counts).enumerate() {
+        if !has_own(alloc, &image.plain, worker, *count)? {
+            return Ok(false);
+        }
+    }
     let disk = || MemDisk::new(alloc, Vec::new(alloc), None);
     let mut slots = StoreSlots::found(disk(), disk());
-    let mut logs = logs_of(alloc, images)?;
-    let have_own = have_own_in(alloc, &mut logs, counts)?;
-    Ok(are_recovered(alloc, &mut logs, &mut slots, tenants, counts)? && have_own)
+    let are_all = hold_all_with(alloc, images, &mut slots, tenants, counts)?;
+    Ok(are_all && images.len() == counts.len())
 }
 
 /// Whether a recovery with these slots gives the pairs of all clients, though older logs are given up.
 pub(crate) fn hold_all_with(
     alloc: Global,
-    images: Vec<FileImages>,
+    images: &[FileImages],
     slots: &mut StoreSlots<MemDisk>,
     tenants: &Tenants,
     counts: &[u16],
 ) -> Result<bool, Refusal> {
-    let mut logs = logs_of(alloc, images)?;
-    are_recovered(alloc, &mut logs, slots, tenants, counts)
-}
-
-// The same of closed or open logs.
-fn are_recovered(
-    alloc: Global,
-    logs: &mut [StoreLog<MemDisk>],
-    slots: &mut StoreSlots<MemDisk>,
-    tenants: &Tenants,
-    counts: &[u16],
-) -> Result<bool, Refusal> {
-    match recover_store(alloc, logs, slots, tenants, &mut NoWatch) {
-        Ok(store) => Ok(are_pairs(&store.recovered.pairs, counts)),
-        Err(e) => Err(e.refusal()),
-    }
-}
-
-// Whether each of these logs, opened without a checkpoint, has its own keys.
-fn have_own_in(
-    alloc: Global,
-    logs: &mut [StoreLog<MemDisk>],
-    counts: &[u16],
-) -> Result<bool, Refusal>
-    ensures count { length logs.new ≡ length logs.old }
-{
-    match open_logs(alloc, logs, &[None, None], &mut NoWatch) {
-        Ok(chains) => Ok(have_own(alloc, &chains.fronts, counts)?),
-        Err(e) => Err(e.refusal),
-    }
+    Ok(are_pairs(&pairs_left(alloc, images, slots, tenants)?, counts))
 }

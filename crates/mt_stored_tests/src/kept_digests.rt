@@ -122,8 +122,7 @@ pub(crate) fn does_agree(
     digest: &FlakyDisk,
     left: Left,
 ) -> bool {
-    let copied = |bytes: &[u8]| disk_with(alloc, bytes.to_vec(alloc)?);
-    let mut file = copied(image).expect(rt, "memory");
-    let mut digests = copied(left_of(digest, left)).expect(rt, "memory");
+    let mut file = disk_with(alloc, image).expect(rt, "memory");
+    let mut digests = disk_with(alloc, left_of(digest, left)).expect(rt, "memory");
     agrees(alloc, &mut file, &mut digests).expect(rt, "a look")
 }

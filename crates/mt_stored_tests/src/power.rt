@@ -90,12 +90,6 @@ fn counts_in(pairs: &[TenantPair]) -> Option<[u16; 2]> {
     Some(counts)
 }
 
-// A slot's disk with these bytes.
-fn slot_left(rt: &impl Abort, alloc: Global, disk: &FlakyDisk, left: Left) -> mt_disk::MemDisk {
-    let image = left_of(disk, left).to_vec(alloc).expect(rt, "memory");
-    disk_with(alloc, image).expect(rt, "memory")
-}
-
 // An image agrees with the digest at a place.
 fn expect_agrees(
     rt: &impl Abort,
@@ -160,10 +154,10 @@ fn loses_nothing<L: Ledger, R: Wait + Clock + Log + Abort>(
         let images = [left_of(&first, left), left_of(&second, left)];
         expect_agreed(rt, alloc, &files, images, &disks, left);
         let mut slots = StoreSlots::found(
-            slot_left(rt, alloc, &first, left),
-            slot_left(rt, alloc, &second, left),
+            disk_with(alloc, images[0]).expect(rt, "memory"),
+            disk_with(alloc, images[1]).expect(rt, "memory"),
         );
-        let pairs = pairs_left(alloc, files, &mut slots, &tenant_7(rt, alloc));
+        let pairs = pairs_left(alloc, &files, &mut slots, &tenant_7(rt, alloc));
         let counts = counts_in(&pairs.expect(rt, "a recovery")).expect(rt, "first keys");
         let least = settled.saturating_mul(2);
         assert!(rt;

@@ -4,8 +4,10 @@ use crate::asked::put_all;
 use crate::disks::{Fails, FlakyDisk, NEVER, SOUND};
 use crate::images::{files_with, plain_image, tenant_7};
 use crate::many::settled;
+use crate::old_formats::LOG;
 use crate::stories::{bare_slots, new_store};
 use log::Log;
+use mt_log_files::WorkerFiles;
 use mt_rows::Refusal;
 use mt_store_logs::{FileImages, LogRefusal, StoreRefusal};
 use mt_stored::Store;
@@ -149,5 +151,27 @@ fn the_log_whose_disk_fails_is_told(rt: HostRuntime) {
             expect_not_made(&rt, alloc, worker, file);
             expect_not_recovered(&rt, alloc, &images, worker, file);
         }
+    }
+}
+
+// A stamp, or the gate of the second batch, is 0 when the log is read for the second time.
+#[test]
+fn a_log_that_changes_between_its_readings_is_refused(rt: HostRuntime) {
+    let alloc = rt.alloc();
+    let bare = || FlakyDisk::new(Vec::new(alloc), NEVER);
+    let refusal = Refusal::Device;
+    let due = Some(StoreRefusal::Logs(LogRefusal { log: None, refusal }));
+    for place in [41, 54] {
+        let plain = LOG.to_vec(alloc).expect(&rt, "memory");
+        let plain = FlakyDisk::new(plain, NEVER).changing(place);
+        let mut files = Vec::new(alloc);
+        assert!(rt;
+            files
+                .push(WorkerFiles::closed(plain, bare(), bare()))
+                .is_ok()
+        );
+        assert!(rt; files.len() <= 64);
+        let told = told_of(Store::recover(alloc, files, bare_slots(alloc), tenant_7(&rt, alloc)));
+        assert_eq!(rt; told, due, "{place}");
     }
 }

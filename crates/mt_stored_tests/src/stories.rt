@@ -167,7 +167,7 @@ pub(crate) fn expect_kept(rt: &impl Abort, alloc: Global, store: Store<FlakyDisk
     let images = images_of(rt, alloc, &logs);
     let tenants = tenant_7(rt, alloc);
     assert!(rt;
-        hold_all(alloc, images, &tenants, counts) == Ok(true),
+        hold_all(alloc, &images, &tenants, counts) == Ok(true),
         "at the end"
     );
 }
@@ -251,7 +251,7 @@ fn is_kept<L: Ledger, R: Wait + Clock + Abort>(
     let counts = counts_of(rt, alloc, sessions);
     let tenants = tenant_7(rt, alloc);
     match images_now(rt, alloc, logs) {
-        Ok(images) => hold_all(alloc, images, &tenants, &counts) == Ok(true),
+        Ok(images) => hold_all(alloc, &images, &tenants, &counts) == Ok(true),
         Err(_) => false,
     }
 }

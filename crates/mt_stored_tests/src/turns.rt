@@ -175,7 +175,9 @@ fn expect_whole(rt: &impl Abort, alloc: Global, left: Left, case: Case) {
     assert!(rt; is_whole(&left, case), "{case:?}");
     let (_, rounds) = case.rounds;
     let counts = [rounds.saturating_mul(2); 2];
-    expect_recovered(rt, alloc, left.images, left.due.slots, &counts);
+    let slots = left.due.slots;
+    let images = left.images;
+    expect_recovered(rt, alloc, &images, slots, &counts);
 }
 
 #[test]

@@ -8,12 +8,12 @@ loop-owner-init c =
     none_made c.args.left.now.items c.args.changes.entries _ _ c.in_ok-listed.ensures.items gives.0 c.requires gives.5
 
 pub make-requires-clause-before : goal.make-requires-clause-before
-make-requires-clause-before c = before_first _ _ _ _ (c.in-Some.owner, c.in-Some.waiting) _ _ c.in-Some.ensures.steps c.loop-owner.invariant
+make-requires-clause-before c = before_first _ _ _ _ (c.in-Some.owner, c.in-Some.row) _ _ c.in-Some.ensures.steps c.loop-owner.invariant
 
 pub loop-owner-preserved : goal.loop-owner-preserved
 loop-owner-preserved c =
-    let made = c.in_ok-make.ensures.pairs in
-    one_made _ _ _ _ (c.in-Some.owner, c.in-Some.waiting) made.0 _ _ _ _ c.in-Some.ensures.steps c.loop-owner.invariant made.1 made.2 c.in_ok-make.ensures.ascend c.in_ok-make.ensures.before
+    let made = c.in_ok-make.ensures in
+    one_made _ _ _ _ (c.in-Some.owner, c.in-Some.row) _ _ _ _ c.in-Some.ensures.steps c.loop-owner.invariant made.pairs made.ascend made.before
 
 pub returns-clause-after : goal.returns-clause-after
 returns-clause-after c = record { at = all_made _ _ _ _ _ c.in-None.ensures.steps.0 c.loop-owner.invariant }
