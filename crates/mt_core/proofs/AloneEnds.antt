@@ -21,7 +21,6 @@ use Rattle.mt_insert.specs.KeptSplits.{HasSplits, last_of}
 use Rattle.mt_remove.specs.Writes.{is_remove}
 use Rattle.mt_rows.specs.Maps.{is_scan}
 use Rattle.mt_operation.specs.Phases as kinds
-use Rattle.mt_operation.specs.declared.phase.Phase.TheVariants as phases
 
 -- one step more is part of the run
 pub chain_more : (old v w : StateView) (o made : ℕ) → IsChain made old v o → IsStep v w o false → IsChain (made + 1) old w o

@@ -24,7 +24,6 @@ use Rattle.mt_descent.specs.KeptWalks.{GoesThrough}
 use Rattle.mt_slices.specs.Keys.{IsStoredKey}
 use Rattle.mt_operation.specs.Phases as kinds
 use Rattle.mt_operation.specs.declared.walk.Aim.TheVariants as aims
-use Rattle.mt_operation.specs.declared.phase.Phase.TheVariants as phases
 use Rattle.mt_operation.specs.declared.scan.Stop.TheVariants as stops
 
 -- live nodes stand on levels below their number

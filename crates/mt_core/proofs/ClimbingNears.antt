@@ -11,7 +11,7 @@ use Rattle.mt_held.specs.Moves.{walk_at}
 use Rattle.mt_operation.proofs.Phases.{by_climb}
 use Rattle.mt_operation.specs.{Phases.IsClimb, declared.phase.Phase.TheVariants.{InsertChild, InteriorSplit, LockParent, Reparent, RootGrow, SplitPrev, Unlock}}
 use Rattle.mt_operation.specs.{declared.splits.Halves.Halves, declared.splits.Splits.Splits, declared.walk.Walk.Walk, declared.phase.Phase.Phase}
-use Rattle.std.proofs.Common.{Bool, List, None, Option, Some, [], ap, arith, false, length, length-append, length-drop, refl, slice_index, subst, sym, suc, true, zero, ℕ, ◌+◌, ◌-◌, ◌<◌, ◌==◌, ◌∙◌, ◌∷◌, ◌≡◌, ◌≢◌, ◌≤◌}
+use Rattle.std.proofs.Common.{Bool, List, None, Option, Some, [], ap, arith, false, length, length-drop, refl, slice_index, subst, sym, suc, true, zero, ℕ, ◌+◌, ◌-◌, ◌<◌, ◌==◌, ◌∙◌, ◌∷◌, ◌≡◌, ◌≢◌, ◌≤◌}
 use Rattle.std.proofs.{lemmas.Bool.eqb-true, lemmas.List.length-set}
 use Rattle.std.specs.Prelude.{if◌then◌else◌, insert}
 use Rattle.mt_state.proofs.{ClimbingNodes.{size_locked, zs, half, size_z, parts_stay, placed_children, placed_added, placed_again, climb_leaves, climb_some}, Climbing.{ComesAgain, LeavesNodes, Stays, each_set, stays_live}}

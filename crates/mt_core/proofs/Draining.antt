@@ -1,9 +1,10 @@
--- A log that was given changes, and the least of the steps up to which logs were given theirs: for `drains`.
-use Rattle.std.proofs.{lemmas.List.{take_more, length-append, length-set}, Math.ListN.get_or-append, Math.Seq.get_or-append_seam}
-use Rattle.std.proofs.Common.{◌≡◌, ℕ, ◌+◌, ◌<◌, ◌≤◌, List, [], ◌∷◌, ◌++◌, min, length, take, get_or, set, sym, subst, arith}
-use Rattle.std.proofs.lemmas.List.Elements.{All-push, All-set}
+-- A log that was given changes, logs that were given all, and the least of the steps up to which logs were given theirs: for `drains` and `Inner::keep_logs`.
+use Rattle.std.proofs.{lemmas.List.{take_more, length-append, length-replicate, length-set}, Math.ListN.get_or-append, Math.Seq.get_or-append_seam}
+use Rattle.std.proofs.Common.{◌≡◌, ℕ, ◌+◌, ◌<◌, ◌≤◌, List, [], ◌∷◌, ◌++◌, min, length, replicate, take, get_or, set, sym, subst, arith}
+use Rattle.std.proofs.lemmas.List.Elements.{All-push, All-replicate, All-set}
+use Rattle.mt_tape.proofs.EntryLaws.{floor_upto_last}
 use Rattle.mt_state.specs.{Views.Core, Invariant.StateInvariant}
-use Rattle.mt_core.{specs.Drains.IsLeastOf, proofs.Retained.{retained, scan_retained, own_tape}}
+use Rattle.mt_core.{specs.{Drains.IsLeastOf, Renumbers.with_logs}, proofs.Retained.{retained, scan_retained, own_tape}}
 
 -- a log that was given changes up to a step that was made, not before it was last given any, is a log still
 pub drained : (c : Core) (worker given to : ℕ) → StateInvariant c → worker < length c.logs → get_or c.logs worker given ≤ to → to ≤ c.steps → StateInvariant (record c { logs = set c.logs worker to })
@@ -27,6 +28,37 @@ drained c worker given to h there later made = record {
   counts = h.counts;
   ops = λ o op op_there. let k = h.ops o op op_there in retained c c.answers (set c.logs worker to) c.tape c.table o op (own_tape c op k.always) k.always k;
   scans = λ o op op_there. let k = h.ops o op op_there in scan_retained c c.answers (set c.logs worker to) c.tape c.table o op (own_tape c op k.always) k.always (h.scans o op op_there);
+  reserved = h.reserved;
+  answered = h.answered;
+  deleted = h.deleted;
+  late = h.late;
+  remembered = h.remembered;
+  few = h.few;
+  quotas = h.quotas;
+  written = h.written;
+}
+
+-- so many logs that were given all that was done are logs
+pub kept_all : (c : Core) (count : ℕ) → StateInvariant c → count ≤ 64 → StateInvariant (with_logs count c)
+kept_all c count h few = record {
+  tape = record {
+    rises = h.tape.rises;
+    made = h.tape.made;
+    legal = h.tape.legal;
+    keys = h.tape.keys;
+    logs = record {
+      few = let same = length-replicate {A = ℕ} count c.steps in omega (arith, same, few);
+      made = All-replicate (λ m. m ≤ c.steps) count c.steps (omega arith);
+      reached = All-replicate (λ m. c.tape.floor ≤ m) count c.steps (let low = floor_upto_last c.tape.floor c.tape.entries h.tape.rises in omega (arith, low, h.tape.made));
+    };
+  };
+  stamps = h.stamps;
+  versions = h.versions;
+  holders = h.holders;
+  counts = h.counts;
+  ops = λ o op op_there. let k = h.ops o op op_there in retained c c.answers (replicate count c.steps) c.tape c.table o op (own_tape c op k.always) k.always k;
+  scans = λ o op op_there.
+      let k = h.ops o op op_there in scan_retained c c.answers (replicate count c.steps) c.tape c.table o op (own_tape c op k.always) k.always (h.scans o op op_there);
   reserved = h.reserved;
   answered = h.answered;
   deleted = h.deleted;

@@ -1,6 +1,6 @@
 -- A list of pairs, put one after the other: each key is missing when its pair comes, and its tenant has room: for `put_all`.
 use Rattle.std.proofs.Common.{◌≡◌, ◌≢◌, ℕ, zero, suc, ◌+◌, ◌-◌, ◌<◌, ◌≤◌, inl, inr, Bool, true, false, cond, List, [], ◌∷◌, ◌++◌, map, length, take, Option, Some, None, refl, sym, ap, subst, ◌∙◌, arith}
-use Rattle.std.proofs.{lemmas.Bool.cases_eq, lemmas.List.{map-append, take_all, take_more}}
+use Rattle.std.proofs.{lemmas.Bool.cases_eq, lemmas.List.{append-nil, map-append, take_all, take_more}}
 use Rattle.std.proofs.lemmas.Option.{same_Some, none-some, slice_get_within, get_or_from_slice_get}
 use Rattle.std.specs.{Prelude.{slice_get, is_some}, List.All, Option.{option_map, unwrap_or}, Ordering.{nat_cmp, eq_by_cmp}, BTreeMap.{BTreeMap, Updates}}
 use Rattle.std.specs.FinMap.{find, get-empty, get-insert, get-from_entries, from_entries_push, len-insert}
@@ -118,8 +118,8 @@ module _ (ps : List TenantPair) (distinct : AreDistinct ps) where
 
   -- a state with the front of the pairs may be given the next one
   module _ (start now : StateView) (stamps : BTreeMap ℕ ℕ) (i : ℕ) (p : TenantPair) (at : slice_get ps i ≡ Some p) (has : HasPut start now stamps (pairs_of (take i ps))) where
-    pub may_put : All IsTenantPair ps → HasTenants (granted start) (pairs_of ps) → KeepsQuotas (granted start) (pairs_of ps) → MayPut now p
-    may_put limits tenants quotas = by (granted start p.tenant) refl
+    may_put_at : All IsTenantPair ps → HasTenants (granted start) (pairs_of ps) → KeepsQuotas (granted start) (pairs_of ps) → MayPut now p
+    may_put_at limits tenants quotas = by (granted start p.tenant) refl
       where
         there : granted start p.tenant ≢ None
         there = tenants (owner_of p) (λ none. has_entry ps i p at (sym (get-from_entries owned_total (map entry_of ps) (owner_of p)) ∙ none))
@@ -165,8 +165,8 @@ module _ (ps : List TenantPair) (distinct : AreDistinct ps) where
               has.contents q
               ∙ still_row stamps more number p.row.stamp (pairs.get (contents_of now) q) listed (λ r is. let before = has.upto q r is in omega (arith, before, put.since))
 
-      pub has_more : HasPut start next more (pairs_of (take (i + 1) ps))
-      has_more = record {
+      has_more_at : HasPut start next more (pairs_of (take (i + 1) ps))
+      has_more_at = record {
         idle = put.idle;
         logs = put.logs ∙ has.logs;
         granted_so = λ t. put.granted_so t ∙ has.granted_so t;
@@ -187,6 +187,38 @@ none_put v stamps idle fresh = record {
     none : (q : ℕ × Bytes) → pairs.get (contents_of v) q ≡ None
     none q = ap (λ c. pairs.get c q) fresh ∙ get-empty owned_cmp q
 
-pub all_put : (ps : List TenantPair) (start now : StateView) (stamps : BTreeMap ℕ ℕ) (i : ℕ) → length ps ≤ i → HasPut start now stamps (pairs_of (take i ps))
+pub all_put : (ps : List TenantPair) (start now : StateView) (stamps : BTreeMap ℕ ℕ) (xs : List TenantPair) → ps ≡ xs ++ [] → HasPut start now stamps (pairs_of xs)
     → HasPut start now stamps (pairs_of ps)
-all_put ps start now stamps i end has = subst (λ qs. HasPut start now stamps (pairs_of qs)) (take_all i ps end) has
+all_put ps start now stamps xs is has = subst (λ qs. HasPut start now stamps (pairs_of qs)) (sym (is ∙ append-nil xs)) has
+
+-- ---- the pair behind a front of the list
+
+behind : (xs : List TenantPair) (p : TenantPair) (rest : List TenantPair) → slice_get (xs ++ p ∷ rest) (length xs) ≡ Some p
+behind [] p rest = refl
+behind (x ∷ xs) p rest = behind xs p rest
+
+front : (xs ys : List TenantPair) → take (length xs) (xs ++ ys) ≡ xs
+front [] ys = refl
+front (x ∷ xs) ys = ap (λ zs. x ∷ zs) (front xs ys)
+
+module _ (ps : List TenantPair) (distinct : AreDistinct ps) (xs : List TenantPair) (p : TenantPair) (rest : List TenantPair) (is : ps ≡ xs ++ p ∷ rest)
+    (start now : StateView) (stamps : BTreeMap ℕ ℕ) (has : HasPut start now stamps (pairs_of xs)) where
+  at : slice_get ps (length xs) ≡ Some p
+  at = ap (λ qs. slice_get qs (length xs)) is ∙ behind xs p rest
+
+  so_far : take (length xs) ps ≡ xs
+  so_far = ap (take (length xs)) is ∙ front xs (p ∷ rest)
+
+  has_front : HasPut start now stamps (pairs_of (take (length xs) ps))
+  has_front = subst (λ qs. HasPut start now stamps (pairs_of qs)) (sym so_far) has
+
+  pub may_put : All IsTenantPair ps → HasTenants (granted start) (pairs_of ps) → KeepsQuotas (granted start) (pairs_of ps) → MayPut now p
+  may_put limits tenants quotas = may_put_at ps distinct start now stamps (length xs) p at has_front limits tenants quotas
+
+  pub has_more : (next : StateView) (number : ℕ) (more : BTreeMap ℕ ℕ) → HasOneMore now next p number → Updates nat_cmp stamps more number (Some p.row.stamp)
+      → HasPut start next more (pairs_of (xs ++ p ∷ []))
+  has_more next number more put listed =
+      subst (λ qs. HasPut start next more (pairs_of qs))
+      (take_more ps (length xs) p (slice_get_within ps (length xs) p at) ∙ ap (λ x. take (length xs) ps ++ x ∷ []) (get_or_from_slice_get ps (length xs) p p at)
+      ∙ ap (λ qs. qs ++ p ∷ []) so_far)
+      (has_more_at ps distinct start now stamps (length xs) p at has_front next number more put listed)

@@ -1,7 +1,7 @@
 -- How a step brings an operation on that nobody is in the way of: by the point to which its walk came. For each phase of `Inner`.
 use Rattle.std.proofs.{Common.{◌≡◌, ℕ, ◌+◌, inl, inr, Bool, true, false, length, Option, Some, refl, sym, ap, subst, ◌∙◌}, lemmas.Bool.{cases_lt, cases_eq}}
 use Rattle.std.proofs.lemmas.Option.{same_Some}
-use Rattle.mt_arena.specs.{NodeView.NodeView, Arena.{ArenaView, Guarantee}, Given.StepsFrom, Accesses.at}
+use Rattle.mt_arena.specs.{NodeView.NodeView, Arena.{ArenaView, Guarantee}, Given.StepsFrom}
 use Rattle.mt_operation.specs.{declared.phase.Phase.Phase, declared.phase.Phase.TheVariants.Enter, declared.walk.Walk.Walk, declared.splits.Splits.Splits}
 use Rattle.mt_operation.specs.{Tasks.ask, declared.operation.Operation.Operation, Tables.{op_at as operation_at}, declared.outcome.Outcome.Outcome}
 use Rattle.mt_operation.specs.declared.removal.Removal.{Removal}

@@ -20,7 +20,7 @@ use Rattle.mt_descent.proofs.Looks.{kept_loads}
 use Rattle.mt_state.specs.{declared.moves.Move.Move, declared.moves.Move.TheVariants.{Moved, Again, Done as DoneMove}, Views.{Core, shown, past_of}}
 use Rattle.mt_state.specs.{Promises.{Tells, IsInTheWay}, Phases.LeadsTo, Notes.Says, Ways.{Descends, ShowsTaken}}
 use Rattle.mt_state.specs.{KeptOperations.{IsOnItsWay, IsAtLoad, IsAtConfirm, IsKeptAt}, Invariant.StateInvariant}
-use Rattle.mt_state.proofs.{Shown.shown_there, Telling.Gives, Still.{IsFree, holds_nothing, nothing_changes}}
+use Rattle.mt_state.proofs.{Shown.shown_there, Telling.Gives, Still.{IsFree, holds_nothing}}
 use Rattle.mt_state.proofs.{Reading.{way_of, descend_done, search_missing, search_found}, Loading.{load_taken, load_stopped}}
 use Rattle.mt_descent.specs.Remembered.{Learns}
 use Rattle.mt_state.proofs.Learning.{descent_learns}

@@ -9,7 +9,7 @@ use Rattle.mt_rows.specs.{Tenants.{owned_cmp, Contents, tenant_map}, TenantPairs
 use Rattle.mt_rows.proofs.{Indexed.changed_indexed, ContentLaws.{owned_total, same_contents, get-tenant_map, tenant_map-insert, tenant_map-insert_other}}
 use Rattle.mt_border.{specs.{Contents.AllStamped, Restamps.new_stamp}, proofs.Restamping.all-restamped}
 use Rattle.mt_runs.specs.declared.event.Answer.{Answer}
-use Rattle.mt_arena.specs.{NodeView.NodeView, Accesses.at, Arena.{IsArena, live_count}, Contents.counts, Forests.tree_at, Renumbers.AreRestamped}
+use Rattle.mt_arena.specs.{NodeView.NodeView, Accesses.at, Arena.{IsArena, content_of, live_count}, Contents.counts, Forests.tree_at, Renumbers.AreRestamped}
 use Rattle.mt_arena.proofs.Renumbering.{at-renumbered, size-renumbered, content-renumbered}
 use Rattle.mt_operation.specs.{declared.operation.Operation.Operation, declared.outcome.Outcome.Outcome, declared.phase.Phase.Phase}
 use Rattle.mt_operation.specs.{Operations.{OperationView, view_of}, Tables.{Table, op_at as operation_at}}
@@ -17,7 +17,7 @@ use Rattle.mt_state.specs.{declared.moves.Move.Move, declared.moves.Move.TheVari
 use Rattle.mt_state.specs.Views.{Core, StateView, Shown, shown, contents_of, op_at, granted, granted_in, quota_in as quota_of_account, quota_of}
 use Rattle.mt_state.specs.{Promises.IsStep, Begins.{Begins, Takes, begun, new_state}, Invariant.{StateInvariant, HoldsAt}}
 use Rattle.mt_state.proofs.Shown.{shown_table, shown_at, shown_there}
-use Rattle.mt_core.specs.{Alone.{IsChain, Runs, IsAlone, EndsAlone, EndsAt, IsRun}, Renumbers.{AreGivenUpto, core_renumbered}}
+use Rattle.mt_core.specs.{Alone.{IsChain, Runs, IsAlone, EndsAlone, EndsAt, IsRun}, Renumbers.{AreGivenUpto, with_logs, core_renumbered}, Tidies.Tidies}
 use Rattle.mt_core.specs.Restores.{IsIdle, MayPut, HasOneMore, HasPut, put_of, row_put, with_put, counting, IsUncounted, IsStampIn, IsRestored}
 use Rattle.mt_core.proofs.OtherStamps.{len-restamped, stamped_slots}
 use Rattle.std.specs.FinMap as pairs
@@ -216,6 +216,19 @@ module _ (v0 : StateView) (p : TenantPair) (idle : IsIdle v0) (may : MayPut v0 p
             none_there (x ∷ table) zero = refl
             none_there (x ∷ table) (suc r) = none_there table r
 
+-- a tidying leaves it so
+pub tidied : (old mid new : StateView) (p : TenantPair) (number : ℕ) → HasOneMore old mid p number → Tidies mid new → HasOneMore old new p number
+tidied old mid new p number more tidy =
+    let leaves = tidy.leaves in
+    record {
+      idle = λ o. ap (λ table. op_at table o) leaves.table ∙ more.idle o;
+      logs = ap length leaves.logs ∙ more.logs;
+      granted_so = λ t. ap (λ accounts. granted_in (account_of accounts t)) leaves.accounts ∙ more.granted_so t;
+      contents = ap content_of leaves.arena ∙ more.contents;
+      since = more.since;
+      upto = subst (λ n. number ≤ n) (sym leaves.steps) more.upto;
+    }
+
 -- ---- the whole
 
 -- an account with the same quota is one that counts what it counts
@@ -225,9 +238,12 @@ counts_so n (Some a) (Some b) same count = λ i. Some (record { quota = same_Som
 counts_so n None (Some b) same count = absurd (none-some b.quota same)
 counts_so n (Some a) None same count = absurd (none-some a.quota (sym same))
 
--- a new state that was put the pairs is restored once it counts anew
-module _ (steps logs : ℕ) (accounts : Accounts) (ps : List TenantPair) (stamps : BTreeMap ℕ ℕ) (start : StateView) (c : Core) (new : start ≡ new_state logs accounts)
-    (put : HasPut start (shown c) stamps (pairs_of ps)) (sound : StateInvariant c) (arena : IsArena c.arena.nodes c.arena.trees) where
+-- a new state that was put the pairs is restored once it keeps the logs and counts anew
+module _ (steps logs : ℕ) (accounts : Accounts) (ps : List TenantPair) (stamps : BTreeMap ℕ ℕ) (start : StateView) (b : Core) (new : start ≡ new_state 0 accounts)
+    (put : HasPut start (shown b) stamps (pairs_of ps)) (sound : StateInvariant (with_logs logs b)) (arena : IsArena b.arena.nodes b.arena.trees) where
+  abbrev c : Core
+  c = with_logs logs b
+
   abbrev f : ℕ → ℕ
   f = new_stamp stamps
 
@@ -241,7 +257,7 @@ module _ (steps logs : ℕ) (accounts : Accounts) (ps : List TenantPair) (stamps
   restored = record {
     steps_are = refl;
     answers_are = refl;
-    logs_are = ap (λ n. replicate n steps) (put.logs ∙ ap (λ (v : StateView). length v.logs) new ∙ length-replicate logs 0);
+    logs_are = ap (λ n. replicate n steps) (length-replicate logs b.steps);
     tape_is = refl;
     table_is = refl;
     contents_are = same_contents (contents_of (shown (core_renumbered steps f c))) (pairs_of ps) (λ q. content-renumbered f c.arena.trees c.arena.nodes q ∙ sym (put.contents q));

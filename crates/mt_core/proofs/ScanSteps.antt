@@ -15,7 +15,7 @@ use Rattle.mt_state.specs.{declared.moves.Move.Move, declared.moves.Move.TheVari
 use Rattle.mt_state.specs.{Ways.IsOnWay, Phases.{LeadsTo, ChecksBy, StaysScanned}, Invariant.StateInvariant, KeptOperations.{IsChecking, IsKeptAt}}
 use Rattle.mt_state.proofs.{Telling.Gives, Lawful.aim_scan, Descents.changed_leads, ScanNeeds.{snap_kept, check_kept, hop_kept, may_check}}
 use Rattle.mt_state.proofs.ScanLooks.{snap_done, snap_stopped, hop_done, hop_leads}
-use Rattle.mt_state.proofs.{ScanChecks.{check_keeps, check_ends, check_drops, check_stopped, check_shows, changed_else}, Still.nothing_changes}
+use Rattle.mt_state.proofs.{ScanChecks.{check_keeps, check_ends, check_drops, check_stopped, check_shows, changed_else}}
 use Rattle.mt_core.specs.{Nexts.ending, Looks.{MaySnap, MayCompare, MayHop, IsStopped, TellsSnapped, Compares, TellsCompared, TellsHopped}}
 use Rattle.mt_core.specs.{Points.{Nears, StepsOn}, ScanPoints.IsScanAt}
 use Rattle.mt_core.proofs.{Following.{IsSound, IsOver}, Leading.{scan_step, leads_scanned}, PhaseTests.{done_or, hop_or, other_moves, way_moves}}

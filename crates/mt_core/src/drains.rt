@@ -5,13 +5,13 @@ ghost use Rattle.mt_core.specs.Drains.{IsLeastOf};
 
 use std::alloc::{AllocError, Global};
 
-/// Logs that were given nothing.
-pub(crate) fn none_given(alloc: Global, logs: u8) -> Result<Vec<u64>, AllocError>
-    ensures { IfOk result (λ given. given.items ≡ replicate logs 0) }
+/// So many logs, each given all up to a step.
+pub(crate) fn all_given(alloc: Global, logs: u8, step: u64) -> Result<Vec<u64>, AllocError>
+    ensures { IfOk result (λ given. given.items ≡ replicate logs step) }
 {
     let mut given = Vec::new(alloc);
     for _ in 0..logs {
-        given.push(0)?;
+        given.push(step)?;
     }
     Ok(given)
 }

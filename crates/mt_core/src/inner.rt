@@ -17,13 +17,13 @@ ghost use Rattle.mt_operation.specs.Tables.{op_at as operation_at};
 ghost use Rattle.mt_core.specs.{Looks.{LooksAt, MayLook}, Writes.{parts, WritesAt, MayWrite}, Tickets.{TellsTake, TellsCancel}};
 ghost use Rattle.mt_core.specs.{Places.{HasPlaces, TakesPlace, AddsPlaces}, Admitted.{MayAdmit, TellsAdmitted, RefusesOpening, IsAccepted, IsRefusedFor}};
 ghost use Rattle.mt_core.specs.{Rights.IsRightState, Shows.{phase_at, phase_in, noted_at}, Alone.{Runs, IsAlone, EndsAlone, IsUndisturbed, EndsSoon}};
-ghost use Rattle.mt_core.specs.{Points.StepsOn, Drains.Drains, Renumbers.{core_renumbered, AreGivenUpto}, Tidies.{Tidies, TidiesInto, DisplacesRestOf, HandsOutRest}};
+ghost use Rattle.mt_core.specs.{Points.StepsOn, Drains.Drains, Renumbers.{with_logs, core_renumbered, AreGivenUpto}, Tidies.{Tidies, TidiesInto, DisplacesRestOf, HandsOutRest}};
 ghost use Rattle.mt_core.specs.Nexts.{IsNext, ending};
 
 use crate::answers::Ticket;
 use crate::begins::{Opening, give_back, give_up};
 use crate::displaced::Displaced;
-use crate::drains::{give_all, least_of, none_given};
+use crate::drains::{all_given, give_all, least_of};
 use crate::looks::look;
 use crate::writes::write;
 use mt_arena::Arena;
@@ -77,7 +77,7 @@ impl Inner {
             alloc,
             steps: 0,
             answers: 0,
-            logs: none_given(alloc, logs)?,
+            logs: all_given(alloc, logs, 0)?,
             tenants,
             arena: Arena::new(alloc)?,
             tape: Tape::new(alloc, 0),
@@ -201,6 +201,15 @@ impl Inner {
         let needed = self.operations.floor_needed(self.steps);
         let floor = least_of(&self.logs, needed);
         self.tape.trim_into(floor, &mut displaced.writes);
+    }
+
+    /// Keeps so many logs from now on, each given all that was done so far.
+    pub(crate) fn keep_logs(&mut self, logs: u8) -> Result<(), AllocError>
+        requires { logs ≤ 64 }
+        ensures { OnOk result (self.new ≡ with_logs logs self.old) }
+    {
+        self.logs = all_given(self.alloc, logs, self.steps)?;
+        Ok(())
     }
 
     /// Begins the counting anew at a number of steps, where no operation is open: nobody remembers a

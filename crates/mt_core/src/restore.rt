@@ -1,8 +1,8 @@
 //! A state that begins with pairs, as a recovery leaves them.
 //!
-//! The pairs are put one after the other, each by an operation that runs alone, and stamped with the number
+//! The pairs are put one after the other, each by an operation that runs alone, and let go. Each is stamped with the number
 //! of its step. A list has for each such number the stamp that the pair came with. Then all counting begins
-//! anew at the number that was asked for, and each pair gets its stamp back. If these steps come near the
+//! anew at the number that was asked for, with the logs, and each pair gets its stamp back. If these steps come near the
 //! last number, there is no memory for so many pairs. Errors: `AllocError`; nothing else is refused.
 
 ghost use Rattle.std.specs.{Prelude.{◌≡◌, ◌≢◌, ◌+◌, ◌*◌, ◌<◌, ◌≤◌, ◌^◌, ℕ, None, Some, IfOk, OnOk}, List.All};
@@ -30,20 +30,21 @@ pub(crate) fn restored(
     steps: u64,
     logs: u8,
     tenants: Tenants,
-    pairs: &[TenantPair],
+    pairs: Vec<TenantPair>,
 ) -> Result<Inner, AllocError>
     requires steps { steps ≤ 2 ^ 59 }
     requires logs { logs ≤ 64 }
     requires empty { HaveNoPairs tenants }
-    requires limits { All IsTenantPair pairs.now }
-    requires distinct { AreDistinct pairs.now }
-    requires stamps { AreStampedUpto steps pairs.now }
-    requires tenants { HasTenants (quota_in tenants) (pairs_of pairs.now) }
-    requires quotas { KeepsQuotas (quota_in tenants) (pairs_of pairs.now) }
-    ensures { IfOk result (λ inner. IsRestored steps logs tenants pairs.now (shown inner)) }
+    requires limits { All IsTenantPair pairs.items }
+    requires distinct { AreDistinct pairs.items }
+    requires stamps { AreStampedUpto steps pairs.items }
+    requires tenants { HasTenants (quota_in tenants) (pairs_of pairs.items) }
+    requires quotas { KeepsQuotas (quota_in tenants) (pairs_of pairs.items) }
+    ensures { IfOk result (λ inner. IsRestored steps logs tenants pairs.items (shown inner)) }
 {
-    let mut inner = Inner::new(alloc, logs, tenants)?;
+    let mut inner = Inner::new(alloc, 0, tenants)?;
     let stamps = put_all(&mut inner, pairs)?;
+    inner.keep_logs(logs)?;
     inner.kept();
     inner.renumber(steps, &stamps);
     Ok(inner)
@@ -58,56 +59,59 @@ struct Over {
 
 // Puts the pairs one after the other, where there are none. Each is stamped with the step that put it: the list
 // that comes back has the stamp that it should have.
-fn put_all(inner: &mut Inner, pairs: &[TenantPair]) -> Result<BTreeMap<u64, u64>, AllocError>
+fn put_all(inner: &mut Inner, pairs: Vec<TenantPair>) -> Result<BTreeMap<u64, u64>, AllocError>
     requires idle { IsIdle (shown inner.old) }
     requires fresh { contents_of (shown inner.old) ≡ fin.empty }
-    requires limits { All IsTenantPair pairs.now }
-    requires distinct { AreDistinct pairs.now }
-    requires tenants { HasTenants (granted (shown inner.old)) (pairs_of pairs.now) }
-    requires quotas { KeepsQuotas (granted (shown inner.old)) (pairs_of pairs.now) }
-    ensures { IfOk result (λ stamps. HasPut (shown inner.old) (shown inner.new) stamps (pairs_of pairs.now)) }
+    requires limits { All IsTenantPair pairs.items }
+    requires distinct { AreDistinct pairs.items }
+    requires tenants { HasTenants (granted (shown inner.old)) (pairs_of pairs.items) }
+    requires quotas { KeepsQuotas (granted (shown inner.old)) (pairs_of pairs.items) }
+    ensures { IfOk result (λ stamps. HasPut (shown inner.old) (shown inner.new) stamps (pairs_of pairs.items)) }
 {
     let mut stamps = BTreeMap::new(inner.alloc);
     let mut rest = None;
     for pair in pairs {
+        let stamp = pair.row.stamp;
         let over = put_alone(inner, rest, pair)?;
-        stamps.insert(over.number, pair.row.stamp)?;
+        stamps.insert(over.number, stamp)?;
         rest = over.rest;
     }
     Ok(stamps)
 }
 
 // Puts a pair of a missing key, where no operation is open, in the memory of the put before it, and hands
-// that on.
+// that on. No log is kept meanwhile, so the tape lets go of the put.
 fn put_alone(
     inner: &mut Inner,
     rest: Option<Box<Operation>>,
-    pair: &TenantPair,
+    pair: TenantPair,
 ) -> Result<Over, AllocError>
     requires idle { IsIdle (shown inner.old) }
-    requires pair { MayPut (shown inner.old) pair.now }
-    ensures { IfOk result (λ over. HasOneMore (shown inner.old) (shown inner.new) pair.now over.number) }
+    requires pair { MayPut (shown inner.old) pair }
+    ensures { IfOk result (λ over. HasOneMore (shown inner.old) (shown inner.new) pair over.number) }
 {
     check_numbers(inner)?;
     let ticket = begin(inner, rest, pair)?;
-    run(inner, ticket)
+    let over = run(inner, ticket)?;
+    inner.tidy();
+    Ok(over)
 }
 
 // Begins the put of a pair whose tenant is there.
 fn begin(
     inner: &mut Inner,
     rest: Option<Box<Operation>>,
-    pair: &TenantPair,
+    pair: TenantPair,
 ) -> Result<Ticket, AllocError>
-    requires limits { IsTenantPair pair.now }
-    requires tenant { account_of inner.old.accounts pair.now.tenant ≢ None }
+    requires limits { IsTenantPair pair }
+    requires tenant { account_of inner.old.accounts pair.tenant ≢ None }
     requires numbers { inner.old.steps < 2 ^ 59 }
-    ensures { IfOk result (λ ticket. Begins (shown inner.old) (shown inner.new) ticket.id 0 pair.now.tenant (put_of pair.now)) }
+    ensures { IfOk result (λ ticket. Begins (shown inner.old) (shown inner.new) ticket.id 0 pair.tenant (put_of pair)) }
 {
-    let change = NamedColumns::of_row(inner.alloc, &pair.row.row)?;
-    let key = pair.key.clone()?;
+    let TenantPair { tenant, key, row } = pair;
+    let change = NamedColumns::of_row(inner.alloc, &row.row)?;
     let command = Command::Put { key, change };
-    let opening = prepare_in(inner.alloc, rest, 0, pair.tenant, command);
+    let opening = prepare_in(inner.alloc, rest, 0, tenant, command);
     match inner.admit(opening) {
         Ok(ticket) => Ok(ticket),
         Err(Refusal::Memory) => Err(AllocError),

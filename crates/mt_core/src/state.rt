@@ -61,17 +61,17 @@ impl State {
         steps: u64,
         logs: u8,
         tenants: Tenants,
-        pairs: &[TenantPair],
+        pairs: Vec<TenantPair>,
     ) -> Result<State, AllocError>
         requires steps { steps ≤ 2 ^ 59 }
         requires logs { logs ≤ 64 }
         requires empty { HaveNoPairs tenants }
-        requires limits { All IsTenantPair pairs.now }
-        requires distinct { AreDistinct pairs.now }
-        requires stamps { AreStampedUpto steps pairs.now }
-        requires tenants { HasTenants (quota_in tenants) (pairs_of pairs.now) }
-        requires quotas { KeepsQuotas (quota_in tenants) (pairs_of pairs.now) }
-        ensures { IfOk result (λ s. IsRestored steps logs tenants pairs.now s) }
+        requires limits { All IsTenantPair pairs.items }
+        requires distinct { AreDistinct pairs.items }
+        requires stamps { AreStampedUpto steps pairs.items }
+        requires tenants { HasTenants (quota_in tenants) (pairs_of pairs.items) }
+        requires quotas { KeepsQuotas (quota_in tenants) (pairs_of pairs.items) }
+        ensures { IfOk result (λ s. IsRestored steps logs tenants pairs.items s) }
     {
         let inner = restored(alloc, steps, logs, tenants, pairs)?;
         Ok(State { inner })

@@ -39,7 +39,7 @@ pub(crate) fn restored(
 {
     let tenants = three_tenants(alloc);
     let pairs = recovered(rt, alloc, &tenants, steps, pairs);
-    State::restore(alloc, steps, logs, tenants, &pairs).expect(rt, "memory")
+    State::restore(alloc, steps, logs, tenants, pairs).expect(rt, "memory")
 }
 
 // What a recovery makes of a log that puts these pairs, in no more steps than these.

@@ -15,7 +15,7 @@ use crate::serving::Serving;
 use mt_core::State;
 use mt_disk::MemDisk;
 use mt_recover::Recovered;
-use mt_rows::{Refusal, Tenants};
+use mt_rows::{Refusal, TenantPair, Tenants};
 use mt_slots::StoreSlots;
 use mt_store_logs::{NoWatch, RecoveredStore, StoreLog, crash_logs, recover_store};
 use std::alloc::{AllocError, Global};
@@ -141,7 +141,30 @@ fn restored(
     ensures right { IfOk result IsRightState }
 {
     let tenants = tenants.copied()?;
-    let state = State::restore(alloc, recovered.resume, logs, tenants, &recovered.pairs)?;
+    let pairs = copied(alloc, &recovered.pairs)?;
+    let state = State::restore(alloc, recovered.resume, logs, tenants, pairs)?;
     state.facts();
     Ok(state)
+}
+
+// The same pairs again.
+fn copied(alloc: Global, pairs: &[TenantPair]) -> Result<Vec<TenantPair>, AllocError>
+    ensures { IfOk result (λ copy. copy.items ≡ pairs.now) }
+{
+    let mut copy = Vec::new(alloc);
+    for pair in pairs {
+        copy.push(again(pair)?)?;
+    }
+    Ok(copy)
+}
+
+// The same pair again.
+fn again(pair: &TenantPair) -> Result<TenantPair, AllocError>
+    ensures { IfOk result (λ copy. copy ≡ pair.now) }
+{
+    Ok(TenantPair {
+        tenant: pair.tenant,
+        key: pair.key.clone()?,
+        row: pair.row.share()?,
+    })
 }

@@ -39,7 +39,8 @@ fn state_after(alloc: Global, steps: u64) -> Result<State, AllocError>
     ensures logs { IfOk result (λ state. state.logs ≡ []) }
     ensures idle { IfOk result IsIdle }
 {
-    State::restore(alloc, steps.min(MAX_STEPS), 0, two_tenants(alloc), &[])
+    let steps = steps.min(MAX_STEPS);
+    State::restore(alloc, steps, 0, two_tenants(alloc), Vec::new(alloc))
 }
 
 /// Sessions over such a state.

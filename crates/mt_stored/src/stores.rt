@@ -124,7 +124,7 @@ impl<D: Disk + Drop> Store<D> {
             generation: _,
         } = recover_store(alloc, &mut logs, &mut slots, &tenants, watch)?;
         let count = logs.len() as u8;
-        match State::restore(alloc, recovered.resume, count, tenants, &recovered.pairs) {
+        match State::restore(alloc, recovered.resume, count, tenants, recovered.pairs) {
             Ok(state) => Ok(Store {
                 source: OwnState { state },
                 logs,

@@ -1,7 +1,6 @@
-use Rattle.std.{proofs.{Common.{◌≡◌, ℕ, length, refl, sym, ap, subst, arith, inr}, lemmas.Result.err_from_is_err_and}, specs.List.All}
+use Rattle.std.proofs.{Common.{◌≡◌, ℕ, length, refl, sym, ap, subst, arith, inr}, lemmas.Result.err_from_is_err_and}
 use Rattle.mt_store_logs.specs.{Places.AreInOrder, Opens.AreClosedOn, Recovers.{ServesAgain, IsNotRecovered}}
 use Rattle.mt_store_logs.proofs.{Closed.{closed_in_order, same_order}, Limits.{limits_of, resumes_within, stamps_of}}
-use Rattle.mt_rows.specs.TenantPairs.{AreDistinct, AreStampedUpto, HasTenants, IsTenantPair, KeepsQuotas, pairs_of, quota_in}
 use Rattle.mt_core.specs.Restores.{IsRestored}
 use Rattle.mt_recover.proofs.Limits.{distinct}
 use Rattle.mt_stored.proofs.Slices.{whole, same_count}
@@ -13,25 +12,20 @@ restore-requires-clause-steps g c =
 
 pub restore-requires-clause-limits : goal.restore-requires-clause-limits
 restore-requires-clause-limits g c =
-    subst (All IsTenantPair) (sym c.deref.ensures.value)
-    (limits_of g.D.Disk.is_honest g.D.Disk.state g.D.Disk.failures c.args.tenants c.in_ok-recovered.field-0.recovered c.in_ok-recovered.field-0.generation c.deref_mut.result.now c.args.slots c.recover_store.new.logs c.recover_store.new.slots c.in_ok-recovered.ensures.ok)
+    limits_of g.D.Disk.is_honest g.D.Disk.state g.D.Disk.failures c.args.tenants c.in_ok-recovered.field-0.recovered c.in_ok-recovered.field-0.generation c.deref_mut.result.now c.args.slots c.recover_store.new.logs c.recover_store.new.slots c.in_ok-recovered.ensures.ok
 
 pub restore-requires-clause-stamps : goal.restore-requires-clause-stamps
 restore-requires-clause-stamps g c =
-    subst (AreStampedUpto c.in_ok-recovered.field-0.recovered.resume) (sym c.deref.ensures.value)
-    (stamps_of g.D.Disk.is_honest g.D.Disk.state g.D.Disk.failures c.args.tenants c.in_ok-recovered.field-0.recovered c.in_ok-recovered.field-0.generation c.deref_mut.result.now c.args.slots c.recover_store.new.logs c.recover_store.new.slots c.in_ok-recovered.ensures.ok)
+    stamps_of g.D.Disk.is_honest g.D.Disk.state g.D.Disk.failures c.args.tenants c.in_ok-recovered.field-0.recovered c.in_ok-recovered.field-0.generation c.deref_mut.result.now c.args.slots c.recover_store.new.logs c.recover_store.new.slots c.in_ok-recovered.ensures.ok
 
 pub restore-requires-clause-distinct : goal.restore-requires-clause-distinct
-restore-requires-clause-distinct g c =
-    subst AreDistinct (sym c.deref.ensures.value) (distinct c.in_ok-recovered.field-0.recovered.pairs.items c.in_ok-recovered.ensures.ok.recovers.ascend)
+restore-requires-clause-distinct g c = distinct c.in_ok-recovered.field-0.recovered.pairs.items c.in_ok-recovered.ensures.ok.recovers.ascend
 
 pub restore-requires-clause-tenants : goal.restore-requires-clause-tenants
-restore-requires-clause-tenants g c =
-    subst (λ ps. HasTenants (quota_in c.args.tenants) (pairs_of ps)) (sym c.deref.ensures.value) c.in_ok-recovered.ensures.ok.recovers.tenants
+restore-requires-clause-tenants g c = c.in_ok-recovered.ensures.ok.recovers.tenants
 
 pub restore-requires-clause-quotas : goal.restore-requires-clause-quotas
-restore-requires-clause-quotas g c =
-    subst (λ ps. KeepsQuotas (quota_in c.args.tenants) (pairs_of ps)) (sym c.deref.ensures.value) c.in_ok-recovered.ensures.ok.recovers.quotas
+restore-requires-clause-quotas g c = c.in_ok-recovered.ensures.ok.recovers.quotas
 
 pub returns-in-Ok-clause-ok : goal.returns-in-Ok-clause-ok
 returns-in-Ok-clause-ok g c =
@@ -57,9 +51,7 @@ returns-in-Ok-clause-ok g c =
       closed_so = subst (λ (n : ℕ). AreClosedOn n files.items logs.items) (omega (arith, files.ok.0)) c.in_ok-logs.ensures.ok;
       serves =
           subst (λ logs_now. ServesAgain g.D.Disk.is_honest g.D.Disk.state g.D.Disk.failures c.args.tenants r generation logs.items c.args.slots logs_now kept) (sym (whole logs.len new _ same)) serves;
-      restored =
-          subst (λ ps. IsRestored r.resume (length files.items) c.args.tenants ps c.in-Ok.state) c.deref.ensures.value
-          (subst (λ n. IsRestored r.resume n c.args.tenants c.deref.result.now c.in-Ok.state) counted c.in-Ok.ensures);
+      restored = subst (λ n. IsRestored r.resume n c.args.tenants r.pairs.items c.in-Ok.state) counted c.in-Ok.ensures;
     }
 
 pub invariant_of-result-clause-order : goal.invariant_of-result-clause-order
