@@ -1,12 +1,17 @@
 //! What happens between two lock periods, while the lock is free.
 
-ghost use Rattle.std.specs.Prelude.{◌≡◌};
+ghost use Rattle.std.specs.Prelude.{◌≡◌, ℕ};
+ghost use Rattle.mt_operation.specs.declared.phase.Phase.{Phase as AnyPhase};
 
 use mt_operation::Phase;
 
 /// Called between the periods of a call, with the operation's id and what its next step does.
 pub trait Gate {
-    fn turn(&self, op: u64, phase: Phase);
+    /// That it was called so. A gate may say nothing by it.
+    ghost turned: { Self → ℕ → AnyPhase → Type 0 };
+
+    fn turn(&self, op: u64, phase: Phase)
+        ensures { turned self.now op phase };
 }
 
 /// The gate that does nothing.
@@ -14,6 +19,8 @@ pub trait Gate {
 pub struct NoGate {}
 
 impl Gate for NoGate {
+    ghost turned = { λ gate op phase. Unit {0} };
+
     fn turn(&self, _op: u64, _phase: Phase) {}
 }
 
@@ -30,6 +37,7 @@ pub fn passed<G: Gate>(gate: &G, op: u64, phase: Phase, after: u64) -> Turned
     ensures op { result.op ≡ op }
     ensures phase { result.phase ≡ phase }
     ensures after { result.after ≡ after }
+    ensures called { G.turned gate.now op phase }
 {
     gate.turn(op, phase);
     Turned { op, phase, after }

@@ -2,7 +2,7 @@
 
 ghost use Rattle.std.specs.{Prelude.{◌≡◌, IfSome, IfOk, IfErr}, List.sum_by};
 ghost use Rattle.mt_batches.specs.Batches.{IsBounded, BringsOn};
-ghost use Rattle.mt_book.specs.{declared.passes.Pass.Pass, Books.IsRightBook};
+ghost use Rattle.mt_book.specs.{declared.passes.Pass.Pass, Books.IsRightBook, Does.DrainedSomewhere};
 
 use crate::books::Book;
 use crate::desks::{Admission, Admitted, Desk, Look, Stepping, Taken, Taking};
@@ -195,9 +195,12 @@ fn looked<L: Ledger>(book: &Mutex<Book<L>>, looks: u32) -> Option<MutexGuard<'_,
     None
 }
 
-/// A book under a lock: others use it between two periods, so a period says nothing of the next one.
+/// A book under a lock: others use it between two periods, so a period says nothing of the next one. Of each it says that a
+/// right state stood there, and that the period did to it what its name says.
 impl<L: Ledger> Desk<L> for &BookLock<L> {
-    ghost does = { λ old p new. Unit {0} };
+    ghost use Rattle.mt_book.specs.Does.{DidSomewhere};
+
+    ghost does = { λ old p new. DidSomewhere p };
 
     fn look<R: Wait + Clock>(&mut self, rt: &R) -> Look {
         Desk::look(&mut *locked(rt, *self), rt)
@@ -252,6 +255,7 @@ pub fn drain<L: Ledger, R: Wait + Clock>(
     ensures worker { IfOk result (λ drained. drained.worker ≡ worker) }
     ensures bounded { IfOk result (λ drained. IsBounded drained.batch) }
     ensures brings { IfOk result (λ drained. BringsOn upto drained.batch) }
+    ensures drains { IfOk result (λ drained. DrainedSomewhere worker drained.batch) }
 {
     for _ in rt.forever() {
         if let Some(drained) = drained(rt, book, worker, upto) {
@@ -272,6 +276,7 @@ fn drained<L: Ledger, R: Wait + Clock>(
     ensures worker { IfSome result (λ told. IfOk told (λ drained. drained.worker ≡ worker)) }
     ensures bounded { IfSome result (λ told. IfOk told (λ drained. IsBounded drained.batch)) }
     ensures brings { IfSome result (λ told. IfOk told (λ drained. BringsOn upto drained.batch)) }
+    ensures drains { IfSome result (λ told. IfOk told (λ drained. DrainedSomewhere worker drained.batch)) }
 {
     let mut guard = locked(rt, book);
     if worker >= guard.logs() || guard.steps() < upto {

@@ -36,6 +36,8 @@ struct Holding<'a, R: Clock> {
 }
 
 impl<R: Clock> Gate for Holding<'_, R> {
+    ghost turned = { λ gate op phase. Unit {0} };
+
     fn turn(&self, _op: u64, phase: Phase) {
         if phase == Phase::Confirm {
             self.turn.store(HELD, Ordering::SeqCst);

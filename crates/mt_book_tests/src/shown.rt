@@ -20,6 +20,8 @@ struct Recording {
 }
 
 impl Gate for Recording {
+    ghost turned = { λ gate op phase. Unit {0} };
+
     fn turn(&self, _op: u64, phase: Phase) {
         let mut shown = self.shown.replace(Vec::new(self.alloc));
         let _ = shown.push(phase);

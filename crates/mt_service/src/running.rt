@@ -338,6 +338,7 @@ fn worker_at<'a, L: Ledger, R: Wait + Clock, D: Disk + Drop>(
     ensures own { IfOk result (λ one. AreOfWorker (length logs.now) place one.caller.pass.worker one.caller.keeper.worker) }
     ensures logs { IfOk result (λ one. one.caller.keeper.logs.logs.now ≡ logs.now) }
     ensures turns { IfOk result (λ one. one.caller.turns.now ≡ turns.now) }
+    ensures tenants { IfOk result (λ one. one.caller.tenants.now ≡ tenants.now) }
     ensures fault { IfErr result IsOfServing }
 {
     // They are taken before the first connection: at a limit of memory a session would find none.
@@ -368,6 +369,7 @@ fn workers_of<'a, L: Ledger, R: Wait + Clock, D: Disk + Drop>(
     ensures workers { IfOk result (λ workers. vec_len workers ≡ options.now.workers) }
     ensures some { IfOk result (λ workers. 0 < vec_len workers) }
     ensures each { IfOk result (λ workers. EachAt workers.items (λ place (one : SessionWorker L R D). AreOfWorker (length logs.now) place one.caller.pass.worker one.caller.keeper.worker)) }
+    ensures tenants { IfOk result (λ workers. EachAt workers.items (λ place (one : SessionWorker L R D). one.caller.tenants.now ≡ options.now.tenants.items)) }
     ensures fault { IfErr result IsOfServing }
 {
     let mut workers = Vec::new(alloc);

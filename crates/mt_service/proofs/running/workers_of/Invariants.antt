@@ -7,4 +7,5 @@ abbrev pub invariant-loop-place : goal.invariant-loop-place
 invariant-loop-place g l = record {
   count : vec_len l.workers ≡ l.place;
   each : EachAt l.workers.items (λ place one. AreOfWorker (length l.logs) place one.caller.pass.worker one.caller.keeper.worker);
+  tenants : EachAt l.workers.items (λ place one. one.caller.tenants.now ≡ l.options.tenants.items);
 }
