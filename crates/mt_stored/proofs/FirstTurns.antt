@@ -1,5 +1,5 @@
 -- To which generation the first turn goes of a new store, and of one that was recovered.
-use Rattle.std.proofs.Common.{◌≡◌, ◌⊎◌, inl, inr, ⊎_elim, ℕ, suc, ◌+◌, ◌-◌, ◌<◌, ◌≤◌, Bool, true, false, List, [], ◌∷◌, length, map, Option, Some, None, refl, sym, ap, ◌∙◌, subst, arith}
+use Rattle.std.proofs.Common.{◌≡◌, ◌⊎◌, inl, inr, ⊎_elim, ℕ, suc, ◌+◌, ◌-◌, ◌<◌, Bool, true, false, List, [], ◌∷◌, length, map, Option, Some, None, refl, sym, ap, ◌∙◌, subst, arith}
 use Rattle.std.proofs.{Math.Nat.max-eq_right, lemmas.List.{length-map, Elements.{All-cons, All-nil, length_all_zip}}, lemmas.Option.slice_get_within}
 use Rattle.std.specs.List.{All}
 use Rattle.std.specs.Prelude.{slice_get}
@@ -16,7 +16,7 @@ use Rattle.mt_turns.specs.declared.worker_log.WorkerLog.{WorkerLog}
 use Rattle.mt_slots.specs.declared.store_slots.StoreSlots.{StoreSlots}
 use Rattle.mt_store_logs.specs.{declared.store_log.StoreLog.StoreLog, Leaves.LeavesOne, Taking.files_of}
 use Rattle.mt_stored.specs.{Stores.{IsNewStore, IsRecoveredStore}, NextTurns.{IsNear, GoOnTo}}
-use Rattle.mt_stored.proofs.{NextTurns.{all_of, of_them, of_all, clash}, TurnEnds.{Left, gives_same, on_to_next, back_to_same}}
+use Rattle.mt_stored.proofs.{NextTurns.{all_of, of_them, of_all, clash}, TurnEnds.{gives_same, on_to_next, back_to_same}}
 
 pub goes_to_first : {D : Type 0} (is_honest : D → Bool) (state : D → DiskState) (failures : D → ℕ) (files : List (WorkerFiles D)) (bare : StoreSlots D) (accounts : Accounts) (v : StateView)
     (logs : List (StoreLog D)) (slots : Option (StoreSlots D)) → 0 < length files → IsNewStore is_honest state failures files bare accounts v logs slots → GoOnTo 1 logs

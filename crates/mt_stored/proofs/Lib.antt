@@ -3,8 +3,8 @@ pub mod Making
 pub mod NextTurns
 pub mod PageKeys
 pub mod Rounds
+pub mod SharedTurns
 pub mod Slices
 pub mod StoreTurns
 pub mod TurnEnds
-pub mod TurnStops
 pub mod Written

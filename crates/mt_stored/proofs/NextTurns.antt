@@ -1,6 +1,6 @@
 -- A log that goes on in a turn of its store, and to which generation the next turn of all logs goes.
-use Rattle.std.proofs.Common.{◌≡◌, ◌≢◌, ◌⊎◌, inl, inr, ⊎_elim, ℕ, zero, suc, ◌+◌, ◌-◌, ◌<◌, ◌≤◌, max, Bool, true, false, IsTrue, List, [], ◌∷◌, ◌++◌, length, map, Some, Result, Ok, Err, refl, sym, ap, ◌∙◌, subst, arith}
-use Rattle.std.proofs.{Math.Nat.max-eq_right, lemmas.List.{length-map, length-set}, lemmas.Bool.{cases_eq, cases_lt, lt-ltb, ltb-true}, lemmas.Option.{same_Some, slice_get_within, slice_get-get_or, slice_get-map}}
+use Rattle.std.proofs.Common.{◌≡◌, ◌≢◌, ◌⊎◌, inl, inr, ⊎_elim, ℕ, zero, suc, ◌+◌, ◌<◌, ◌≤◌, Bool, true, false, List, [], ◌∷◌, ◌++◌, length, map, Some, Result, Ok, Err, refl, sym, ap, ◌∙◌, subst, arith}
+use Rattle.std.proofs.{lemmas.List.{length-map, length-set}, lemmas.Bool.{cases_eq, cases_lt, lt-ltb, ltb-true}, lemmas.Option.{same_Some, slice_get_within, slice_get-get_or, slice_get-map}}
 use Rattle.std.proofs.lemmas.List.Elements.{All-cons, All-nil, All-head, All-tail, All-contains}
 use Rattle.std.specs.{Prelude.{slice_get, slice_set, nat_lt}, List.{All, Contains}, Option.option_map}
 use Rattle.mt_rows.specs.{declared.record.Batch.Batch, declared.refusal.Refusal.Refusal}
@@ -9,9 +9,9 @@ use Rattle.mt_crashes.proofs.Invariant.{within_place}
 use Rattle.mt_turns.specs.{declared.worker_log.WorkerLog.WorkerLog}
 use Rattle.mt_store_logs.specs.{declared.last_log.LastLog.LastLog, declared.store_log.StoreLog.StoreLog, declared.standing.Generations.Generations, Places.OnLast, Standing.TellsOf}
 use Rattle.mt_store_logs.specs.{LogTurns.{BringsUp, FailsToBringUp}, Turns.{LooksForNext, FailsToLook, ReopensLog, FailsToReopenLog, BeginsNextLog, FailsToBeginNextLog}}
-use Rattle.mt_settle.specs.{Turns.{Turn, BroughtUp, BegunNext, GivenUp, Told, Chain}, Settles.{turns_from, Settles}, Parts.{EachOf, StopsAt, BeginsOne, BeginsNone, GivesUpOne, GivesUpNone, TellsBegun, TellsGivenUp}}
-use Rattle.mt_settle.specs.Next.{AreOf, IsGreatest, IsNextOf, Tell, TellAll, TellsNext}
-use Rattle.mt_stored.specs.{declared.source.OwnState.OwnState, Begins.{BringsUpAndBegins, FailsToBringUpAndBegin}, Stores.{gives_own, DoesStore, TurnsLog}, NextTurns.{IsNear, AreNear, AllTell, GoOnTo}}
+use Rattle.mt_settle.specs.{Turns.{Turn, BroughtUp, Told, Chain}, Settles.{turns_from, Settles}, Parts.{EachOf, BeginsOne, TellsBegun}}
+use Rattle.mt_settle.specs.Next.{AreOf, IsGreatest, IsNextOf, Tell, TellAll}
+use Rattle.mt_stored.specs.{declared.source.OwnState.OwnState, Begins.{BringsUpAndBegins, FailsToBringUpAndBegin}, Stores.{gives_own, DoesStore}, NextTurns.{IsNear, AreNear, AllTell, GoOnTo}}
 use Rattle.mt_stored.proofs.StoreTurns.{set_there, set_other}
 
 pub clash : true ≡ false → ⊥

@@ -1,17 +1,17 @@
 -- To which generation the next turn of a store goes after a whole turn, and after one that was stopped.
-use Rattle.std.proofs.Common.{◌≡◌, ◌≢◌, ◌⊎◌, inl, inr, ⊎_elim, ℕ, zero, suc, ◌+◌, ◌-◌, ◌<◌, ◌≤◌, max, Bool, List, [], ◌∷◌, length, Some, Result, Ok, Err, refl, sym, ap, ◌∙◌, subst, arith}
+use Rattle.std.proofs.Common.{◌≡◌, ◌≢◌, inl, inr, ⊎_elim, ℕ, zero, suc, ◌+◌, ◌<◌, ◌≤◌, Bool, List, [], ◌∷◌, length, Some, Ok, Err, refl, sym, ap, ◌∙◌, subst, arith}
 use Rattle.std.proofs.{Math.Nat.max-eq_right, lemmas.List.length-set, lemmas.Bool.cases_eq, lemmas.Option.{same_Some, slice_get_within}}
 use Rattle.std.proofs.lemmas.List.Elements.{All-nil}
 use Rattle.std.specs.Prelude.{slice_get, slice_set}
 use Rattle.mt_rows.specs.declared.refusal.Refusal.{Refusal}
 use Rattle.mt_disk.specs.Disk.{DiskState}
 use Rattle.mt_crashes.proofs.Invariant.{within_place}
-use Rattle.mt_turns.specs.{declared.worker_log.WorkerLog.WorkerLog, Turns.{GivesUpOlder, FailsToGiveUpOlder}}
-use Rattle.mt_store_logs.specs.{declared.store_log.StoreLog.StoreLog, declared.standing.Generations.Generations, Turns.{GivesUpOlderLog, FailsToGiveUpOlderLog}}
-use Rattle.mt_settle.specs.{Turns.{Turn, GivenUp}, Settles.Settles, Parts.{EachOf, GivesUpOne, TellsBegun, TellsGivenUp}, Next.{AreOf, IsGreatest, IsNextOf, TellsNext}}
+use Rattle.mt_turns.specs.{declared.worker_log.WorkerLog.WorkerLog}
+use Rattle.mt_store_logs.specs.{declared.store_log.StoreLog.StoreLog, Turns.{GivesUpOlderLog, FailsToGiveUpOlderLog}}
+use Rattle.mt_settle.specs.{Turns.{Turn}, Settles.{Settles, SettlesAll}, Parts.{EachOf, GivesUpOne, TellsBegun}, Next.{TellsNext}}
 use Rattle.mt_book.specs.Periods.{Period}
 use Rattle.mt_stored.specs.{declared.source.OwnState.OwnState, Stores.DoesStore, NextTurns.{IsNear, AreNear, AllTell, GoOnTo}}
-use Rattle.mt_stored.specs.{Digests.DigestCall, TurnParts.{Begins, StopsBeginning, TellsEnd}, WholeTurns.{Parts, WritesAnd, WritesTurn, StopsBefore, StopsTurn}}
+use Rattle.mt_stored.specs.{Digests.DigestCall, TurnParts.{Begins, StopsBeginning, TellsEnd}, WholeTurns.{Parts, WritesTurn, StopsTurn}}
 use Rattle.mt_stored.specs.{declared.turns.TurnStop.TurnStop, declared.turns.TurnStop.TheVariants.{Checkpoint, Digest, Logs}, declared.digests.Digested.TheVariants.{OfLogs, OfSlot}}
 use Rattle.mt_stored.proofs.{StoreTurns.{set_there, set_other}, NextTurns.{AllGo, near_after, settle_goes, Gone, all_begin, begins_told, stay_gone, all_tell, one_next, all_of, of_them, greatest_of, below, OfIt, still}}
 
@@ -172,30 +172,40 @@ module _ {D S : Type 0} (is_honest : D → Bool) (state : D → DiskState) (fail
       )
 
   -- a Settle and what follows it
-  module _ (old begun new : S) (owed : ℕ) (goes : GoOnTo g (logs old)) (gone : Gone is_honest state failures source logs g (length (logs old)) old begun) where
+  module _ {G : Type 0} (calls : G → DigestCall → G → Type 0) (old begun new : S) (was is : G) (owed closed : ℕ) (goes : GoOnTo g (logs old))
+      (gone : Gone is_honest state failures source logs g (length (logs old)) old begun) where
     begun_goes : GoOnTo g (logs begun)
     begun_goes = still g (logs old) (logs begun) goes gone.all
 
-    ends_whole : TellsEnd does (length (logs old)) owed begun new (Ok tt) → GoOnTo (g + 1) (logs new)
-    ends_whole ends =
+    ends_whole : TellsEnd does calls (length (logs old)) owed closed begun was new is (Ok tt) → GoOnTo (g + 1) (logs new)
+    ends_whole (inl none) = absurd none
+    ends_whole (inr ends) =
         let l = settled_left ends.number old begun ends.settled gone ends.settles in
         let len = l.1.len in
         let first = gone.all.len in
         let some = some_log g (logs old) goes in
-        let a = all_left (length (logs old)) ends.settled new l.0 ends.older.1 in
+        let a = all_left (length (logs old)) ends.settled new l.0 ends.older.1.gives in
         let long = a.1 in
         on_to_next g (logs new) (subst (λ (n : ℕ). Left g n (logs new)) (omega (arith, long, len, first)) a.0) (omega (arith, long, len, first, some))
 
-    ends_stopped : (e : Refusal) → TellsEnd does (length (logs old)) owed begun new (Err e) → GoOnTo g (logs new)
-    ends_stopped e (inl stops) =
+    settled_goes : (number : ℕ) (settled : S) → SettlesAll does (length (logs old)) begun settled number → GoOnTo g (logs settled)
+    settled_goes number settled settles = still g (logs begun) (logs settled) begun_goes (settled_left number old begun settled gone settles).1
+
+    ends_stopped : (stop : TurnStop) → TellsEnd does calls (length (logs old)) owed closed begun was new is (Err stop) → GoOnTo g (logs new)
+    ends_stopped (Logs e) (inl stops) =
         still g (logs begun) (logs new) begun_goes
-        (settle_goes is_honest state failures source logs g (Err e) (length (logs old)) begun new begun_goes.near stops)
-    ends_stopped e (inr ends) =
+        (settle_goes is_honest state failures source logs g (Err e) (length (logs old)) begun new begun_goes.near stops.0)
+    ends_stopped (Digest d e) (inl none) = absurd none
+    ends_stopped (Checkpoint c) (inl none) = absurd none
+    ends_stopped (Checkpoint c) (inr ends) = absurd ends.older
+    ends_stopped (Digest (OfSlot slot) e) (inr ends) = absurd ends.older
+    ends_stopped (Digest (OfLogs h) e) (inr ends) = same_goes ends.settled new (settled_goes ends.number ends.settled ends.settles) ends.older.3
+    ends_stopped (Logs e) (inr ends) =
         let l = settled_left ends.number old begun ends.settled gone ends.settles in
         ⊎_elim
-        (λ short. same_goes ends.settled new (still g (logs begun) (logs ends.settled) begun_goes l.1) short.2)
+        (λ short. same_goes ends.settled new (settled_goes ends.number ends.settled ends.settles) short.2)
         (λ stops.
-        let given = stops.1 in
+        let given = stops.1.gives in
         let a = (all_left given.log ends.settled given.mid l.0 given.before).0 in
         let t = given.refuses in
         let n = fails_near is_honest state failures g e t.before t.after (a.near given.log t.before t.there) t.turns.0 in
@@ -217,13 +227,14 @@ module _ {D S T K G : Type 0} (is_honest : D → Bool) (state : D → DiskState)
   abbrev count : ℕ
   count = length (logs old.logs)
 
-  begun_gone : (begun : S) (was is : G) → GoOnTo g (logs old.logs) → Begins turns calls count old.logs was begun is
+  begun_gone : (closed : ℕ) (begun : S) (was is : G) → GoOnTo g (logs old.logs) → Begins turns calls count closed old.logs was begun is
       → Gone is_honest state failures source logs g count old.logs begun
-  begun_gone begun was is goes b = begun_all is_honest state failures source logs g b.generation old.logs begun goes b.next b.then.0
+  begun_gone closed begun was is goes b = begun_all is_honest state failures source logs g b.generation old.logs begun goes b.next b.then.0
 
   pub after_whole : GoOnTo g (logs old.logs) → WritesTurn turns shows worker keeps_rules found errors calls count tenants old new → GoOnTo (g + 1) (logs new.logs)
   after_whole goes w =
-      ends_whole is_honest state failures source logs g old.logs w.begun new.logs new.slots.owed goes (begun_gone w.begun old.digests w.before goes w.begins) w.ends
+      ends_whole is_honest state failures source logs g calls old.logs w.begun new.logs w.kept new.digests new.slots.owed w.closed goes
+      (begun_gone w.closed w.begun old.digests w.before goes w.begins) w.ends
 
   stopped_before : (stop : TurnStop) → GoOnTo g (logs old.logs) → StopsBeginning turns calls count stop old.logs old.digests new.logs new.digests → GoOnTo g (logs new.logs)
   stopped_before (Logs e) goes (inl none) = same_goes is_honest state failures source logs g old.logs new.logs goes none.1
@@ -235,11 +246,8 @@ module _ {D S T K G : Type 0} (is_honest : D → Bool) (state : D → DiskState)
   stopped_before (Checkpoint c) goes none = absurd none
 
   pub after_stopped : (stop : TurnStop) → GoOnTo g (logs old.logs) → StopsTurn turns shows worker keeps_rules found errors calls count tenants stop old new → GoOnTo g (logs new.logs)
-  after_stopped (Logs e) goes (inl before) = stopped_before (Logs e) goes before.stops
-  after_stopped (Logs e) goes (inr w) =
-      ends_stopped is_honest state failures source logs g old.logs w.begun new.logs new.slots.owed goes (begun_gone w.begun old.digests w.before goes w.begins) e w.ends
-  after_stopped (Digest (OfLogs h) e) goes before = stopped_before (Digest (OfLogs h) e) goes before.stops
-  after_stopped (Digest (OfSlot h) e) goes w =
-      still g (logs old.logs) (logs new.logs) goes (begun_gone new.logs old.digests w.before goes w.begins).all
-  after_stopped (Checkpoint c) goes w =
-      still g (logs old.logs) (logs new.logs) goes (begun_gone new.logs old.digests w.before goes w.begins).all
+  after_stopped stop goes (inl before) = stopped_before stop goes before.stops
+  after_stopped stop goes (inr (inl w)) = still g (logs old.logs) (logs new.logs) goes (begun_gone w.closed new.logs old.digests w.before goes w.begins).all
+  after_stopped stop goes (inr (inr w)) =
+      ends_stopped is_honest state failures source logs g calls old.logs w.begun new.logs w.kept new.digests new.slots.owed w.closed goes
+      (begun_gone w.closed w.begun old.digests w.before goes w.begins) stop w.ends

@@ -5,6 +5,7 @@ pub mod Checks
 pub mod Digests
 pub mod Keeping
 pub mod NextTurns
+pub mod Shared
 pub mod Stores
 pub mod TurnParts
 pub mod WholeTurns

@@ -1,5 +1,5 @@
 -- To which generation the next turn of a store goes that is owned alone.
-use Rattle.std.specs.Prelude.{◌≡◌, ◌⊎◌, ℕ, ◌+◌, ◌≤◌, Bool, false, List, length, Some, slice_get}
+use Rattle.std.specs.Prelude.{◌≡◌, ◌⊎◌, ℕ, ◌+◌, ◌≤◌, false, List, length, Some, slice_get}
 use Rattle.mt_store_logs.specs.{declared.store_log.StoreLog.StoreLog, declared.standing.Generations.Generations, Standing.TellsOf}
 use Rattle.mt_settle.specs.Next.{IsNextOf}
 

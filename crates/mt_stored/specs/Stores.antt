@@ -1,5 +1,5 @@
 -- A store that is owned alone: how it is made and recovered, what a turn of one of its logs makes of it, and when it is settled.
-use Rattle.std.specs.Prelude.{◌≡◌, ◌⊎◌, ℕ, ◌+◌, ◌<◌, Bool, List, length, slice_get, slice_set, Option, Some, None, Ok, Err}
+use Rattle.std.specs.Prelude.{◌≡◌, ◌⊎◌, ℕ, ◌<◌, Bool, List, length, slice_get, slice_set, Option, Some, None, Ok, Err}
 use Rattle.mt_rows.specs.{Accounts.Accounts, declared.record.Batch.Batch, declared.refusal.Refusal.TheVariants.{Memory, Device}}
 use Rattle.mt_disk.specs.Disk.{DiskState}
 use Rattle.mt_state.specs.{Views.StateView, Begins.new_state}

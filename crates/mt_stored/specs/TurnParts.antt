@@ -1,9 +1,10 @@
--- The parts of a turn of all logs: they go to the generation that they tell, a checkpoint is written, all logs are settled, and the older logs are given up.
+-- The parts of a turn of all logs: they go to the generation that they tell, a checkpoint is written, all logs are settled, and the older logs are given up
+-- with their digests.
 use Rattle.std.specs.Prelude.{◌≡◌, ◌⊎◌, ℕ, ◌-◌, ◌<◌, ◌≤◌, Bool, List, Result, Ok, Err}
 use Rattle.mt_rows.specs.{declared.refusal.Refusal.Refusal, declared.refusal.Refusal.TheVariants.Device}
 use Rattle.mt_disk.specs.Disk.{DiskState}
 use Rattle.mt_book.specs.Periods.{Period}
-use Rattle.mt_slots.specs.{declared.slot.Slot.Slot, declared.store_slots.StoreSlots.StoreSlots, Places.next_slot}
+use Rattle.mt_slots.specs.{declared.store_slots.StoreSlots.StoreSlots, Places.next_slot}
 use Rattle.mt_settle.specs.{Turns.Turn, Next.TellsNext, Settles.{SettlesAll, Settles}, Parts.{TellsBegun, TellsGivenUp}}
 use Rattle.mt_stored.specs.{Checkpoints.{Scanner, WritesCheckpoint, GivesUp}, Digests.{FileDigest, DigestCall, ClearsLogs, KeepsLogs, ClearsSlot, KeepsSlot}}
 use Rattle.mt_stored.specs.{declared.turns.TurnStop.TurnStop, declared.turns.TurnStop.TheVariants.{Checkpoint, Digest, Logs}, declared.digests.Digested.TheVariants.{OfLogs, OfSlot}}
@@ -20,9 +21,9 @@ module _ {K G : Type 0} (turns : K → Turn → K → Type 0) (calls : G → Dig
     pub then : Then generation cleared
 
   -- all logs went to that generation, and the digests of the logs before, which are closed then, were kept
-  abbrev pub Begins : K → G → K → G → Type 0
-  Begins old was new is =
-      Clears (λ generation cleared. TellsBegun turns generation count old new (Ok tt) × calls cleared (KeepsLogs count (generation - 1) (Ok tt)) is) old was
+  abbrev pub Begins : ℕ → K → G → K → G → Type 0
+  Begins closed old was new is =
+      Clears (λ generation cleared. TellsBegun turns generation count old new (Ok tt) × (closed ≡ generation - 1) × calls cleared (KeepsLogs count closed (Ok tt)) is) old was
 
   -- the logs told of no generation, and nothing was done; or not all went to it
   abbrev pub StopsAtLogs : Refusal → K → G → K → G → Type 0
@@ -71,21 +72,32 @@ module _ {S D G : Type 0} (does : S → Period → S → Type 0) (worker : ℕ) 
 
 -- ---- all logs are settled, and the older ones are given up
 
-module _ {K : Type 0} (turns : K → Turn → K → Type 0) (count : ℕ) (owed : ℕ) where
-  -- What is told of the older logs after a Settle of this number. Only if that is at least what is owed were they given up, one after the other.
-  abbrev pub TellsOlder : ℕ → K → K → Result (Unit {0}) Refusal → Type 0
-  TellsOlder number old new (Ok _) = (owed ≤ number) × TellsGivenUp turns count old new (Ok tt)
-  TellsOlder number old new (Err refusal) =
-      ((number < owed) × (refusal ≡ Device) × (new ≡ old)) ⊎ ((owed ≤ number) × TellsGivenUp turns count old new (Err refusal))
+module _ {K G : Type 0} (turns : K → Turn → K → Type 0) (calls : G → DigestCall → G → Type 0) (count owed closed : ℕ) where
+  -- the digests of the closed logs were cleared, and then this was told of the older logs, which were given up one after the other
+  pub record ClearsAndGivesUp (told : Result (Unit {0}) Refusal) (old : K) (was : G) (new : K) (is : G) : Type 0 where
+    pub clears : calls was (ClearsLogs count closed (Ok tt)) is
+    pub gives : TellsGivenUp turns count old new told
+
+  -- What is told of the older logs after a Settle of this number. Only if that is at least what is owed were their digests cleared, and they given up.
+  abbrev pub TellsOlder : ℕ → K → G → K → G → Result (Unit {0}) TurnStop → Type 0
+  TellsOlder number old was new is (Ok _) = (owed ≤ number) × ClearsAndGivesUp (Ok tt) old was new is
+  TellsOlder number old was new is (Err (Logs refusal)) =
+      ((number < owed) × (refusal ≡ Device) × (new ≡ old) × (is ≡ was)) ⊎ ((owed ≤ number) × ClearsAndGivesUp (Err refusal) old was new is)
+  TellsOlder number old was new is (Err (Digest (OfLogs g) refusal)) = (owed ≤ number) × (g ≡ closed) × calls was (ClearsLogs count g (Err refusal)) is × (new ≡ old)
+  TellsOlder number old was new is (Err stop) = ⊥
 
   -- all logs were settled, and then this was told of the older ones
-  pub record SettlesAnd (told : Result (Unit {0}) Refusal) (old new : K) : Type 0 where
+  pub record SettlesAnd (told : Result (Unit {0}) TurnStop) (old : K) (was : G) (new : K) (is : G) : Type 0 where
     pub settled : K
     pub number : ℕ
     pub settles : SettlesAll turns count old settled number
-    pub older : TellsOlder number settled new told
+    pub older : TellsOlder number settled was new is told
 
-  -- All logs were settled, and then all older ones were given up. Or a log was not settled, and none was given up; or all were, and not all older ones were.
-  abbrev pub TellsEnd : K → K → Result (Unit {0}) Refusal → Type 0
-  TellsEnd old new (Ok _) = SettlesAnd (Ok tt) old new
-  TellsEnd old new (Err refusal) = Settles turns count old new (Err refusal) ⊎ SettlesAnd (Err refusal) old new
+  -- a log was not settled
+  abbrev pub SettlesNotAll : Result (Unit {0}) TurnStop → K → G → K → G → Type 0
+  SettlesNotAll (Err (Logs refusal)) old was new is = Settles turns count old new (Err refusal) × (is ≡ was)
+  SettlesNotAll told old was new is = ⊥
+
+  -- A log was not settled, and none was given up. Or all logs were settled, and then the older ones were given up, or not all of them.
+  abbrev pub TellsEnd : K → G → K → G → Result (Unit {0}) TurnStop → Type 0
+  TellsEnd old was new is told = SettlesNotAll told old was new is ⊎ SettlesAnd told old was new is

@@ -1,6 +1,8 @@
 //! A store's logs behind locks: one for each log, which is taken before the book's.
 
-ghost use Rattle.std.specs.Prelude.{◌≡◌, vec_len, IfOk};
+ghost use Rattle.std.specs.Prelude.{◌≡◌, ◌<◌, length, vec_len, IfOk, IfErr};
+ghost use Rattle.mt_store_logs.specs.Places.{worker_of};
+ghost use Rattle.mt_stored.specs.Shared.{IsElsewhere};
 
 use crate::beginning::bring_up_and_begin;
 use crate::changes::change_of;
@@ -13,12 +15,12 @@ use mt_settle::Logs;
 use mt_store_logs::{Flushed, Generations, StoreLog, bring_up};
 use std::alloc::{AllocError, Global};
 use std::sync::ledger::Ledger;
-use std::sync::{Mutex, Wait};
+use std::sync::{Mutex, MutexGuard, Wait};
 use std::time::Clock;
 
-/// The logs of a book, at most 255, of which others give turns too: a turn says nothing of the next one. It warns
-/// of a log that closes, and of one that is open again. A log at the place of another worker has no turn, and is
-/// refused by `LogCount`.
+/// The logs of a book, at most 255, of which others give turns too: a turn says nothing of the next one. Of each it says that
+/// it was one of a log of that worker. It warns of a log that closes, and of one that is open again. A log at the place of
+/// another worker has no turn, and is refused by `LogCount`.
 #[derive(Drop)]
 pub struct SharedLogs<'a, L: Ledger, D: Disk + Drop> {
     book: &'a BookLock<L>,
@@ -35,11 +37,12 @@ impl<'a, L: Ledger, D: Disk + Drop> SharedLogs<'a, L, D> {
 }
 
 impl<L: Ledger, D: Disk + Drop> Logs for SharedLogs<'_, L, D> {
-    ghost use Rattle.std.specs.Prelude.{length, min};
+    ghost use Rattle.std.specs.Prelude.{min};
+    ghost use Rattle.mt_stored.specs.Shared.{DoesShared};
 
     ghost logs = { λ s. min (length s.logs.now) 255 };
 
-    ghost does = { λ old turn new. Unit {0} };
+    ghost does = { λ old turn new. DoesShared D.is_honest D.state D.failures turn };
 
     fn count(&self) -> u8 {
         self.logs.len().min(255) as u8
@@ -51,21 +54,13 @@ impl<L: Ledger, D: Disk + Drop> Logs for SharedLogs<'_, L, D> {
         alloc: Global,
         log: u8,
     ) -> Result<Flushed, Refusal> {
-        let Some(place) = self.logs.get(usize::from(log)) else {
-            return Err(Refusal::LogCount);
-        };
-        let mut guard = place.lock(rt);
-        if guard.worker() != log {
-            return Err(Refusal::LogCount);
-        }
+        let mut guard = lock_at(rt, self.logs, log)?;
         let before = guard.mark();
         let steps = locked(rt, self.book).steps();
         let source = &mut SharedBook::new(rt, self.book);
         let told = bring_up(alloc, &mut *guard, source, steps);
         // Under the log's lock, so that its warnings come in the order of its changes.
-        if let Some(change) = change_of(log, before, guard.mark()) {
-            warn!(rt; "{change}");
-        }
+        warn_of(rt, log, before, guard.mark());
         told
     }
 
@@ -76,39 +71,46 @@ impl<L: Ledger, D: Disk + Drop> Logs for SharedLogs<'_, L, D> {
         log: u8,
         generation: u64,
     ) -> Result<Flushed, Refusal> {
-        let Some(place) = self.logs.get(usize::from(log)) else {
-            return Err(Refusal::LogCount);
-        };
-        let mut guard = place.lock(rt);
-        if guard.worker() != log {
-            return Err(Refusal::LogCount);
-        }
+        let mut guard = lock_at(rt, self.logs, log)?;
         let before = guard.mark();
         let steps = locked(rt, self.book).steps();
         let source = &mut SharedBook::new(rt, self.book);
         let told = bring_up_and_begin(alloc, &mut *guard, source, steps, generation);
-        if let Some(change) = change_of(log, before, guard.mark()) {
-            warn!(rt; "{change}");
-        }
+        warn_of(rt, log, before, guard.mark());
         told
     }
 
     fn give_up_older<R: Wait + Clock + Log>(&mut self, rt: &R, log: u8) -> Result<(), Refusal> {
-        let Some(place) = self.logs.get(usize::from(log)) else {
-            return Err(Refusal::LogCount);
-        };
-        let mut guard = place.lock(rt);
-        if guard.worker() != log {
-            return Err(Refusal::LogCount);
-        }
-        guard.give_up_older()
+        lock_at(rt, self.logs, log)?.give_up_older()
     }
 
     fn generations<R: Wait>(&self, rt: &R, log: u8) -> Result<Generations, Refusal> {
-        match self.logs.get(usize::from(log)) {
-            Some(place) => Ok(place.lock(rt).generations()),
-            None => Err(Refusal::LogCount),
-        }
+        Ok(lock_at(rt, self.logs, log)?.generations())
+    }
+}
+
+// The log at a worker's place, locked. It is refused if it is another worker's.
+fn lock_at<'a, D: Disk + Drop, R: Wait>(
+    rt: &R,
+    logs: &'a [Mutex<StoreLog<D>>],
+    log: u8,
+) -> Result<MutexGuard<'a, StoreLog<D>>, Refusal>
+    requires { log < length logs.now }
+    ensures own { IfOk result (λ guard. worker_of guard.value ≡ log) }
+    ensures err { IfErr result (λ e. IsElsewhere D log e) }
+{
+    let guard = logs[usize::from(log)].lock(rt);
+    if guard.worker() == log {
+        Ok(guard)
+    } else {
+        Err(Refusal::LogCount)
+    }
+}
+
+// Warns of a log that closed in a turn, or is open again.
+fn warn_of<R: Log>(rt: &R, log: u8, before: Option<u64>, after: Option<u64>) {
+    if let Some(change) = change_of(log, before, after) {
+        warn!(rt; "{change}");
     }
 }
 

@@ -44,9 +44,11 @@ impl<'a, 'b, L: Ledger, R: Wait + Clock> SharedBook<'a, 'b, L, R> {
 }
 
 impl<L: Ledger, R: Wait + Clock> Source for SharedBook<'_, '_, L, R> {
+    ghost use Rattle.mt_book.specs.Does.{DrainedSomewhere};
+
     ghost serves = { λ s worker upto. Unit {0} };
 
-    ghost gives = { λ old new worker batch. Unit {0} };
+    ghost gives = { λ old new worker batch. DrainedSomewhere worker batch };
 
     fn drain(&mut self, worker: u8, upto: u64) -> Result<DrainedBatch, AllocError> {
         drain(self.rt, self.book, worker, upto)

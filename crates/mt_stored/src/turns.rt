@@ -33,7 +33,8 @@ pub enum TurnStop {
 /// checkpoint's end, the older ones are given up.
 ///
 /// The digests of a generation's files, and of a slot, are cleared before those are written. They are kept of the logs that
-/// are closed when all have gone on, and of the checkpoint when it was written.
+/// are closed when all have gone on, and of the checkpoint when it was written. Those of the older logs are cleared again before
+/// these are given up.
 ///
 /// There has to be a tenant. A walk over none makes no step, and such a checkpoint stands for nothing that is given up.
 ///
@@ -55,27 +56,29 @@ pub fn write_turn<L: Ledger, R: Wait + Clock + Log, D: Desk<L>, S: Logs, K: Disk
     ensures worker { pass.new.worker ≡ pass.old.worker }
     ensures same { S.logs logs.new ≡ S.logs logs.old }
 {
-    if let Err(stop) = begin_next(rt, alloc, logs, digests) {
-        return Err((stop, slots));
-    }
+    let closed = match begin_next(rt, alloc, logs, digests) {
+        Ok(closed) => closed,
+        Err(stop) => return Err((stop, slots)),
+    };
     let slots = match write_slot(rt, alloc, desk, pass, tenants, slots, digests) {
         Ok(slots) => slots,
         Err(stopped) => return Err(stopped),
     };
-    match settle_and_give_up(rt, alloc, logs, slots.owed()) {
+    match settle_and_give_up(rt, alloc, logs, digests, slots.owed(), closed) {
         Ok(()) => Ok(slots),
-        Err(refusal) => Err((TurnStop::Logs(refusal), slots)),
+        Err(stop) => Err((stop, slots)),
     }
 }
 
 // All logs go to the generation that they tell. Its digests are cleared first, and those of the logs before are kept then.
+// Their generation is told.
 fn begin_next<R: Wait + Clock + Log, S: Logs, G: Digests>(
     rt: &R,
     alloc: Global,
     logs: &mut S,
     digests: &mut G,
-) -> Result<(), TurnStop>
-    ensures ok { OnOk result (Begins S.does G.does (S.logs logs.old) logs.old digests.old logs.new digests.new) }
+) -> Result<u64, TurnStop>
+    ensures ok { IfOk result (λ closed. Begins S.does G.does (S.logs logs.old) closed logs.old digests.old logs.new digests.new) }
     ensures err { IfErr result (λ stop. StopsBeginning S.does G.does (S.logs logs.old) stop logs.old digests.old logs.new digests.new) }
     ensures same { S.logs logs.new ≡ S.logs logs.old }
 {
@@ -92,7 +95,7 @@ fn begin_next<R: Wait + Clock + Log, S: Logs, G: Digests>(
     }
     let closed = generation.saturating_sub(1);
     match digests.keep_logs(count, closed) {
-        Ok(()) => Ok(()),
+        Ok(()) => Ok(closed),
         Err(refusal) => Err(TurnStop::Digest(Digested::OfLogs(closed), refusal)),
     }
 }
@@ -125,35 +128,45 @@ fn write_slot<L: Ledger, R: Wait + Clock, D: Desk<L>, K: Disk, G: Digests>(
     }
 }
 
-// Settles all logs, and then gives up the older ones, if all logs go up to the step that is owed.
-fn settle_and_give_up<R: Wait + Clock + Log, S: Logs>(
+// Settles all logs, and then gives up the older ones with their digests, if all logs go up to the step that is owed.
+fn settle_and_give_up<R: Wait + Clock + Log, S: Logs, G: Digests>(
     rt: &R,
     alloc: Global,
     logs: &mut S,
+    digests: &mut G,
     owed: u64,
-) -> Result<(), Refusal>
-    ensures ends { TellsEnd S.does (S.logs logs.old) owed logs.old logs.new result }
+    closed: u64,
+) -> Result<(), TurnStop>
+    ensures ends { TellsEnd S.does G.does (S.logs logs.old) owed closed logs.old digests.old logs.new digests.new result }
     ensures same { S.logs logs.new ≡ S.logs logs.old }
 {
     match settle(rt, alloc, logs) {
-        Ok(number) => give_up_if_settled(rt, logs, owed, number),
-        Err(refusal) => Err(refusal),
+        Ok(number) => give_up_if_settled(rt, logs, digests, owed, closed, number),
+        Err(refusal) => Err(TurnStop::Logs(refusal)),
     }
 }
 
-// Gives up the older logs after a Settle told a number, if that is at least what is owed. No clause of logs behind locks
-// says that it is.
-fn give_up_if_settled<R: Wait + Clock + Log, S: Logs>(
+// Clears the digests of the closed logs and gives up the older logs after a Settle told a number, if that is at least what
+// is owed. No clause of logs behind locks says that it is.
+fn give_up_if_settled<R: Wait + Clock + Log, S: Logs, G: Digests>(
     rt: &R,
     logs: &mut S,
+    digests: &mut G,
     owed: u64,
+    closed: u64,
     number: u64,
-) -> Result<(), Refusal>
-    ensures older { TellsOlder S.does (S.logs logs.old) owed number logs.old logs.new result }
+) -> Result<(), TurnStop>
+    ensures older { TellsOlder S.does G.does (S.logs logs.old) owed closed number logs.old digests.old logs.new digests.new result }
     ensures same { S.logs logs.new ≡ S.logs logs.old }
 {
     if number < owed {
-        return Err(Refusal::Device);
+        return Err(TurnStop::Logs(Refusal::Device));
     }
-    give_up_all(rt, logs)
+    if let Err(refusal) = digests.clear_logs(logs.count(), closed) {
+        return Err(TurnStop::Digest(Digested::OfLogs(closed), refusal));
+    }
+    match give_up_all(rt, logs) {
+        Ok(()) => Ok(()),
+        Err(refusal) => Err(TurnStop::Logs(refusal)),
+    }
 }

@@ -1,10 +1,18 @@
--- What was flushed is the log of the worker that was named.
-use Rattle.std.proofs.{Common.{◌≡◌, ◌∙◌, sym, ap}, lemmas.Result.IfOk-weaker}
+-- What was flushed is the log that is locked, up to the steps of the book.
+use Rattle.std.proofs.{Common.{◌≡◌, ◌∙◌, ap}, lemmas.Result.IfOk-weaker}
+use Rattle.mt_book.specs.declared.books.Book.{Book}
 use Rattle.mt_store_logs.specs.{declared.store_log.StoreLog.StoreLog, Places.worker_of}
+use Rattle.mt_stored.proofs.SharedTurns.{begun}
 use Rattle.mt_stored.proofs.shared.SharedLogsLogs.begin_next.Goals as goal
 
 pub returns-clause-whose : goal.returns-clause-whose
 returns-clause-whose g c =
-    let same = ap (λ (l : StoreLog g.row.D.Denot). worker_of l) (c.deref_mut.ensures.value ∙ sym c.deref.ensures) in
-    let log : worker_of c.deref_mut.result.now ≡ c.args.log = same ∙ sym c.worker.ensures ∙ c.if-worker-log.false in
-    IfOk-weaker c.bring_up_and_begin-told.result _ _ (λ f e. e ∙ log) c.bring_up_and_begin-told.ensures.whose
+    let own : worker_of c.deref_mut.result.now ≡ c.args.log = ap (λ (l : StoreLog g.row.D.Denot). worker_of l) c.deref_mut.ensures.value ∙ c.in_ok-guard.ensures.own in
+    IfOk-weaker c.bring_up_and_begin-told.result _ _ (λ f e. e ∙ own) c.bring_up_and_begin-told.ensures.whose
+
+pub returns-clause-does : goal.returns-clause-does
+returns-clause-does g c =
+    begun g.D.Disk.is_honest g.D.Disk.state g.D.Disk.failures _ (λ s t worker batch given. given) c.args.log c.deref_mut.result.now c.bring_up_and_begin-told.new.log _ _
+    (ap (λ (l : StoreLog g.row.D.Denot). worker_of l) c.deref_mut.ensures.value ∙ c.in_ok-guard.ensures.own)
+    c.locked.result.value.state c.locked.ensures.state c.steps-steps.result
+    (c.steps-steps.ensures ∙ ap (λ (b : Book g.row.L.Denot). b.state.steps) c.deref-2.ensures) c.args.generation c.bring_up_and_begin-told.result c.bring_up_and_begin-told.ensures.ok c.bring_up_and_begin-told.ensures.err
