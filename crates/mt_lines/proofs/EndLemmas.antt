@@ -1,6 +1,6 @@
--- The ways in which a script ends: for `run_script`.
-use Rattle.std.proofs.Common.{◌≡◌, ℕ, ◌-◌, ◌^◌, ◌≤◌, ◌⊎◌, ◌==◌, Bool, true, false, List, [], ◌∷◌, ◌++◌, Option, Result, Ok, Err, refl, sym, ap, ◌∙◌, subst, append_assoc, append-nil, inl, inr, ⊎_elim, arith}
-use Rattle.std.specs.{Io.BufRead.strip_last, Io.KnownBytes.{Consumes, Appends, Keeps, IsAtEnd}}
+-- The ways in which a script ends: for `run_script`; and how an answer is written: for `answer`.
+use Rattle.std.proofs.Common.{◌≡◌, ℕ, ◌-◌, ◌^◌, ◌≤◌, ◌⊎◌, ◌==◌, Bool, true, false, List, [], ◌∷◌, ◌++◌, Option, Result, Ok, Err, OnOk, OnErr, IsErrAnd, MatchResult, refl, sym, ap, ◌∙◌, subst, append_assoc, append-nil, inl, inr, ⊎_elim, arith}
+use Rattle.std.specs.{declared.io.Error.Error, Io.BufRead.strip_last, Io.KnownBytes.{Consumes, Appends, Keeps, IsAtEnd}}
 use Rattle.mt_lines.specs.{declared.script.ScriptFault.ScriptFault, declared.script.ScriptFault.TheVariants.{Read, Write, Memory}}
 use Rattle.mt_lines.specs.{Lines.{Front, front_of, without_return}, Scripts.{Cut, cut_of, lines_of, AreLinesAnswered, IsLineAnswered, IsUnread, RunsScript}}
 use Rattle.mt_lines.specs.{Sessions.{SessionView, fresh}, Turns.{AnswersFront, Writes, TakesByte}}
@@ -164,3 +164,14 @@ pub none_begun : (before held : Option Bytes) (reader_failed writer_failed : Typ
 none_begun before held reader_failed writer_failed =
     memory_fails before before held held held fresh [] [] reader_failed writer_failed (inl refl)
     (record { read = []; text = []; lines_before = []; consumed = Consumes-nil before; appended = Appends-nil held; answered = (refl, refl); lines = refl }) (Appends-nil held)
+
+-- a text was written whole, or a front of it where the writer failed
+pub text_written : (P : Bytes → Type 0) (text : Bytes) (held holds : Option Bytes) (failed : Type 0) (written : Result (Unit {0}) Error) (result : Result (Unit {0}) ScriptFault)
+    (gives : Error → ScriptFault → Type 0) → P text → OnOk written (Appends held holds text)
+    → OnErr written ((front : Bytes) × (lost : Bytes) × (text ≡ front ++ lost) × Appends held holds front) → OnErr written failed
+    → MatchResult written (λ (x : Unit {0}). result ≡ Ok x) (λ e. IsErrAnd result (gives e)) → ((e : Error) (fault : ScriptFault) → gives e fault → fault ≡ Write e)
+    → Writes P held holds failed result
+text_written P text held holds failed (Ok x) result gives says whole part cause cases as_write = rw cases (text, says, whole)
+text_written P text held holds failed (Err e) (Ok x) gives says whole part cause cases as_write = absurd cases
+text_written P text held holds failed (Err e) (Err fault) gives says whole (front, lost, parts, appended) cause cases as_write =
+    rw (as_write e fault cases) (front, lost, subst P parts says, appended, cause)

@@ -1,5 +1,5 @@
--- How the row of names follows the tickets: for `Names::insert` and `Names::remove`.
-use Rattle.std.proofs.Common.{◌≡◌, ◌≢◌, ◌<◌, ◌⊎◌, ℕ, zero, suc, List, [], ◌∷◌, Bool, false, Option, Some, None, length, set, refl, sym, ◌∙◌, ap, inl, inr, arith}
+-- How the row of names follows the tickets: for `Names::insert` and `Names::remove`; and what is asked of them: for `shows_stamps`.
+use Rattle.std.proofs.Common.{◌≡◌, ◌≢◌, ◌<◌, ◌⊎◌, ℕ, zero, suc, List, [], ◌∷◌, Bool, false, Option, Some, None, MatchOption, option_copied, Bor, length, set, refl, sym, ◌∙◌, ap, inl, inr, arith}
 use Rattle.std.proofs.{lemmas.Bool.cases_eq, lemmas.Bool.Decides.nat_tests, lemmas.List.get_or-set_other, lemmas.Grind.get_or-set_at}
 use Rattle.std.proofs.lemmas.Option.{same_Some, none-some}
 use Rattle.std.specs.{Prelude.slice_index_or, Ordering.{nat_cmp, is_eq}, BTreeMap.{Updates, BTreeMap}, Option.option_map}
@@ -111,3 +111,9 @@ pub within_row : (row : List (Option ℕ)) (o name : ℕ) → slice_index_or row
 within_row [] o name e = absurd (none-some name e)
 within_row (x ∷ row) zero name e = omega arith
 within_row (x ∷ row) (suc o) name e = omega (arith, within_row row o name e)
+
+-- what is asked of an open operation, if there is one
+pub shows_kept : (kept : Option (Bor OpenOperation)) (shows : Bool) (P : Bor OpenOperation → Type 0) → MatchOption kept (shows ≡ false) P
+    → ((x : Bor OpenOperation) → P x → shows ≡ x.now.stamps) → shows ≡ shows_in (option_copied kept)
+shows_kept None shows P none some = none
+shows_kept (Some x) shows P there some = some x there

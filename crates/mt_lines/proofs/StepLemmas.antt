@@ -1,10 +1,10 @@
--- What a store hands on of the steps of an operation: for `NamedStore::step`, `until` and `run`.
-use Rattle.std.{proofs.Common.{◌≡◌, ◌≢◌, ℕ, true, Option, Some, None, refl, sym, ◌∙◌, ap, subst, arith}, specs.Prelude.is_some}
+-- What a store hands on of the steps of an operation: for `NamedStore::step`, `until` and `run`, and for `walk`.
+use Rattle.std.{proofs.Common.{◌≡◌, ◌≢◌, ℕ, true, false, Option, Some, None, refl, sym, ◌∙◌, ap, subst, arith}, specs.Prelude.is_some}
 use Rattle.mt_state.specs.{declared.moves.Move.Move, declared.moves.Move.TheVariants.{Moved, Again, NoMemory, Done, Spent, NoSuch}, Views.{StateView, op_at}}
 use Rattle.mt_state.specs.{Promises.{IsStep, Tells}, Begins.IsEnded}
 use Rattle.mt_operation.specs.declared.phase.Phase.{Phase}
 use Rattle.mt_lines.specs.{declared.response.Response.Response, Names.{Tickets, shows_of, operation_of, FreesName}}
-use Rattle.mt_lines.specs.Stores.{StoreView, TellsMove, TellsStep, EndsWalk, SaysEnd, IsWalk, TellsWalk, SaysMove, CanSay, TellsNamed}
+use Rattle.mt_lines.specs.Stores.{StopsAt, StoreView, TellsMove, TellsStep, EndsWalk, SaysEnd, IsWalk, TellsWalk, SaysMove, CanSay, TellsNamed}
 use Rattle.mt_lines.proofs.NamedLemmas.{written_is}
 use Rattle.mt_lines.specs.declared.response.Response.TheVariants as responses
 
@@ -122,3 +122,18 @@ end_can_say stop mid new o NoSuch e = tt
 -- a walk's last answer can be said
 pub walk_can_say : (stop : Option Phase) (old new : StateView) (o : ℕ) (move : Move) → IsWalk stop old new o move → CanSay new o move
 walk_can_say stop old new o move w = end_can_say stop w.mid new o move w.ends
+
+-- an operation that is to stop nowhere goes on
+pub nowhere_to_stop : (stop here : Option Phase) → is_some stop ≡ false → ¬ StopsAt stop here
+nowhere_to_stop None here none stops = stops
+nowhere_to_stop (Some phase) here none stops = absurd cc
+
+-- so does one that is to stop elsewhere
+pub elsewhere_to_stop : (stop here : Option Phase) → here ≢ stop → ¬ StopsAt stop here
+elsewhere_to_stop None here apart stops = stops
+elsewhere_to_stop (Some phase) here apart stops = apart stops
+
+-- one that is to stop here stops
+pub here_to_stop : (stop here : Option Phase) → is_some stop ≡ true → here ≡ stop → StopsAt stop here
+here_to_stop None here some same = absurd cc
+here_to_stop (Some phase) here some same = same

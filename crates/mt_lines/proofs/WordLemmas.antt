@@ -1,7 +1,7 @@
--- The first word of a line, and what follows it: for `next_word`, `number` and the loops over words.
-use Rattle.std.proofs.Common.{◌≡◌, ℕ, suc, ◌+◌, ◌-◌, ◌*◌, ◌<◌, ◌≤◌, Bool, true, false, cond, ◌&&◌, nat_le, List, [], ◌∷◌, length, take, drop, Some, None, refl, ap, sym, ◌∙◌, arith}
-use Rattle.std.proofs.{lemmas.List.Sums.{prefix_len-drop_no, prefix_len-drop_yes}, lemmas.Bool.lt-leb}
-use Rattle.std.specs.List.{prefix_len, take_while}
+-- The first word of a line, and what follows it: for `next_word`, `number`, the searches for a place and the loops over words.
+use Rattle.std.proofs.Common.{◌≡◌, ℕ, suc, ◌+◌, ◌-◌, ◌*◌, ◌<◌, ◌≤◌, Bool, true, false, not, cond, ◌&&◌, nat_le, ltb, List, [], ◌∷◌, length, take, drop, Option, Some, None, refl, ap, sym, ◌∙◌, arith}
+use Rattle.std.proofs.{lemmas.List.Recursion.is_position_or_len, lemmas.List.Sums.prefix_len-le-length, lemmas.Bool.{lt-leb, ltb-false}}
+use Rattle.std.specs.{List.{prefix_len, take_while, position, position_or_len}, Option.{unwrap_or}}
 use Rattle.mt_lines.specs.Words.{is_space, is_of_word, words_behind, next, digits_behind, number_up_to, is_numeral}
 
 -- behind the word that these bytes begin in
@@ -119,5 +119,18 @@ word_has_bytes (x ∷ xs) h = some_case x xs (is_space x) refl (word_has_bytes x
 -- how the first word of a line is found, for `next_word`
 pub ruleset word_rules = (no_words, first_of_words, word_has_bytes)
 
--- how far a loop over bytes came, for the searches for a space and for a sign
-pub ruleset space_rules = (prefix_len-drop_no, prefix_len-drop_yes)
+found_case : (b : Bool) (n k : ℕ) → ltb n k ≡ b → n ≤ k → unwrap_or (cond b (Some n) None) k ≡ n
+found_case true n k e h = refl
+found_case false n k e h = omega (arith, ltb-false n k e)
+
+-- the place that a search for a byte gives, or the length where it gives none
+pub first_place : (test : ℕ → Bool) (xs : List ℕ) (found : Option ℕ) → found ≡ position test xs → unwrap_or found (length xs) ≡ position_or_len test xs
+first_place test xs found e = rw e (found_case _ _ _ refl (prefix_len-le-length (λ x. not (test x)) xs))
+
+not_twice : (b : Bool) (m n : ℕ) → cond b m n ≡ cond (not b) n m
+not_twice true m n = refl
+not_twice false m n = refl
+
+-- the spaces at the front end where the first other byte stands
+pub spaces_end : (xs : List ℕ) → prefix_len is_space xs ≡ position_or_len (λ x. not (is_space x)) xs
+spaces_end xs = is_position_or_len (prefix_len is_space) (λ x. not (is_space x)) refl (λ x ys. not_twice (is_space x) _ _) xs

@@ -4,7 +4,7 @@
 
 ghost use Rattle.std.specs.Prelude.{◌≡◌, IfOk, codes};
 ghost use Rattle.mt_lines.specs.Words.{Means, words_of, each, column_word};
-ghost use Rattle.mt_lines.specs.Line.{index_word, phase_word, phase_in, tenant_line, get_words, put_words, put_if_words, remove_words, after_words, scan_words, command_words, shows_stamps, begin_line, name_alone, step_line, run_line, until_line, shape_line, line_of_words, line_of};
+ghost use Rattle.mt_lines.specs.Line.{index_word, phase_word, phase_in, tenant_line, get_words, put_words, put_if_words, remove_words, after_words, scan_words, command_words, shows_stamps, begin_line, name_alone, until_line, line_of_words, line_of};
 
 use crate::fault::LineFault;
 use crate::words;
@@ -29,18 +29,14 @@ pub enum Line {
         stamps: bool,
     },
     /// One step of the operation.
-    Step {
-        name: u32,
-    },
+    Step(u32),
     /// Steps up to the one whose next phase is this.
     Until {
         name: u32,
         phase: Phase,
     },
     /// Steps to the end, or up to where it can't go on.
-    Run {
-        name: u32,
-    },
+    Run(u32),
     /// The live trees, as text.
     Shape,
 }
@@ -56,7 +52,7 @@ pub fn parse(alloc: Global, bytes: &[u8]) -> Result<Option<Line>, AllocError>
     }
 }
 
-#[tactic(auto, unfolding(crate::specs::Line::line_of_words))]
+#[tactic(auto, unfolding(crate::specs::Line::line_of_words, crate::specs::Line::step_line, crate::specs::Line::run_line, crate::specs::Line::shape_line))]
 fn any_line(alloc: Global, bytes: &[u8]) -> Result<Line, LineFault>
     ensures { Means (λ line. line) result (line_of_words (words_of bytes.now)) }
 {
@@ -66,13 +62,14 @@ fn any_line(alloc: Global, bytes: &[u8]) -> Result<Line, LineFault>
     } else if words::is_text(verb, "begin") {
         begin(alloc, rest)
     } else if words::is_text(verb, "step") {
-        step(rest)
+        Ok(Line::Step(name_alone(rest)?))
     } else if words::is_text(verb, "until") {
         until(rest)
     } else if words::is_text(verb, "run") {
-        run(rest)
+        Ok(Line::Run(name_alone(rest)?))
     } else if words::is_text(verb, "shape") {
-        shape(rest)
+        words::end_of_words(rest)?;
+        Ok(Line::Shape)
     } else {
         Err(LineFault::BadLine)
     }
@@ -123,9 +120,7 @@ fn command(alloc: Global, rest: &[u8]) -> Result<Command, LineFault>
     ensures { Means (λ command. command) result (command_words (words_of rest.now)) }
 {
     let (verb, rest) = words::next_word(rest)?;
-    if words::is_text(verb, "get") {
-        get(alloc, rest)
-    } else if words::is_text(verb, "gets") {
+    if words::is_text(verb, "get") || words::is_text(verb, "gets") {
         get(alloc, rest)
     } else if words::is_text(verb, "put") {
         put(alloc, rest)
@@ -243,22 +238,6 @@ fn columns(alloc: Global, rest: &[u8]) -> Result<Vec<(u8, Column)>, LineFault>
     Ok(columns)
 }
 
-#[tactic(auto, unfolding(crate::specs::Line::step_line))]
-fn step(rest: &[u8]) -> Result<Line, LineFault>
-    ensures { Means (λ line. line) result (step_line (words_of rest.now)) }
-{
-    let name = name_alone(rest)?;
-    Ok(Line::Step { name })
-}
-
-#[tactic(auto, unfolding(crate::specs::Line::run_line))]
-fn run(rest: &[u8]) -> Result<Line, LineFault>
-    ensures { Means (λ line. line) result (run_line (words_of rest.now)) }
-{
-    let name = name_alone(rest)?;
-    Ok(Line::Run { name })
-}
-
 #[tactic(auto, unfolding(crate::specs::Line::name_alone))]
 fn name_alone(rest: &[u8]) -> Result<u32, LineFault>
     ensures { Means (λ name. name) result (name_alone (words_of rest.now)) }
@@ -268,7 +247,7 @@ fn name_alone(rest: &[u8]) -> Result<u32, LineFault>
     words::name(first)
 }
 
-#[tactic(auto, unfolding(crate::specs::Line::until_line))]
+#[tactic(auto, unfolding(crate::specs::Line::until_line, crate::specs::Line::phase_word))]
 fn until(rest: &[u8]) -> Result<Line, LineFault>
     ensures { Means (λ line. line) result (until_line (words_of rest.now)) }
 {
@@ -276,33 +255,16 @@ fn until(rest: &[u8]) -> Result<Line, LineFault>
     let (second, rest) = words::next_word(rest)?;
     words::end_of_words(rest)?;
     let name = words::name(first)?;
-    let phase = phase(second)?;
+    let phase = phase_in(&PHASES, second)?;
     Ok(Line::Until { name, phase })
-}
-
-#[tactic(auto, unfolding(crate::specs::Line::shape_line))]
-fn shape(rest: &[u8]) -> Result<Line, LineFault>
-    ensures { Means (λ line. line) result (shape_line (words_of rest.now)) }
-{
-    words::end_of_words(rest)?;
-    Ok(Line::Shape)
-}
-
-#[tactic(auto, unfolding(crate::specs::Line::phase_word))]
-fn phase(word: &[u8]) -> Result<Phase, LineFault>
-    ensures { Means (λ phase. phase) result (phase_word word.now) }
-{
-    phase_in(&PHASES, word)
 }
 
 // The first of some phases whose name this is.
 fn phase_in(phases: &[Phase], word: &[u8]) -> Result<Phase, LineFault>
     ensures { Means (λ phase. phase) result (phase_in phases.now word.now) }
 {
-    for phase in phases {
-        if words::is_text(word, phase.name()) {
-            return Ok(*phase);
-        }
-    }
-    Err(LineFault::BadLine)
+    let found = phases
+        .iter()
+        .find(|phase| words::is_text(word, phase.name()));
+    found.copied().ok_or(LineFault::BadLine)
 }

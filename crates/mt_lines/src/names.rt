@@ -64,17 +64,14 @@ impl Names {
     pub fn shows_stamps(&self, name: u32) -> bool
         ensures { result ≡ shows_of self.now name }
     {
-        match self.tickets.get(&name) {
-            Some(named) => named.stamps,
-            None => false,
-        }
+        self.tickets.get(&name).is_some_and(|named| named.stamps)
     }
 
     /// The name that stands for the operation of an id.
     pub fn name_of(&self, id: u64) -> Option<u32>
         ensures { (name : ℕ) → (result ≡ Some name) ↔ (operation_of self.now name ≡ Some id) }
     {
-        name_at(&self.row, id as usize)
+        *self.row.get(id as usize)?
     }
 
     /// Lets a free name stand for an operation that has none. Where memory is refused the ticket comes
@@ -124,16 +121,6 @@ fn insert_new(
         }
         Ok(Entry::Occupied(_)) => unreachable!(),
         Err(_) => Err(ticket),
-    }
-}
-
-// The name at a place of the row.
-fn name_at(row: &[Option<u32>], place: usize) -> Option<u32>
-    ensures { result ≡ slice_index_or row.now place None }
-{
-    match row.get(place) {
-        Some(name) => *name,
-        None => None,
     }
 }
 

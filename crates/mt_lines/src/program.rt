@@ -98,13 +98,7 @@ pub fn purpose_of(words: &[String]) -> Purpose
 {
     match words {
         [] => Purpose::Script,
-        [word] => {
-            if word.as_str() == "--help" {
-                Purpose::Help
-            } else {
-                Purpose::Misuse
-            }
-        }
+        [word] if word.as_str() == "--help" => Purpose::Help,
         _ => Purpose::Misuse,
     }
 }

@@ -91,13 +91,8 @@ fn push_answer(
     ensures { OnOk result (string_bytes text.new ≡ string_bytes text.old ++ answer_text stamps answer.now) }
 {
     text.push_str("done ")?;
-    push_reply(
-        alloc,
-        text,
-        stamps,
-        columns_asked(&answer.command),
-        &answer.reply,
-    )?;
+    let asked = columns_asked(&answer.command);
+    push_reply(alloc, text, stamps, asked, &answer.reply)?;
     text.push_str("\n")
 }
 
@@ -201,10 +196,7 @@ fn push_row(
 fn index_at(asked: &[u8], place: usize) -> usize
     ensures { result ≡ index_at asked.now place }
 {
-    match asked.get(place) {
-        Some(index) => usize::from(*index),
-        None => place,
-    }
+    asked.get(place).map_or(place, |index| usize::from(*index))
 }
 
 // A column with its index.

@@ -6,7 +6,7 @@
 
 ghost use Rattle.std.specs.{Prelude.{◌≡◌, ◌==◌, ◌<◌, ◌++◌, ℕ, [], ◌∷◌, IfOk, OnOk, OnErr, IfNone, IfSome, false, string_bytes}, Option.option_map};
 ghost use Rattle.std.specs.Io.KnownBytes.{Consumes, Appends, Keeps, IsAtEnd};
-ghost use Rattle.mt_lines.specs.{Line.line_of, Lines.{front_of, whole_line}, Scripts.{Answers, RunsScript}, Sessions.{fresh, TellsReply}, Text.IsText};
+ghost use Rattle.mt_lines.specs.{Line.line_of, Lines.whole_line, Scripts.{Answers, RunsScript}, Sessions.TellsReply, Text.IsText};
 ghost use Rattle.mt_lines.specs.{Turns.{meaning_in, AnswersFront, Writes, TakesByte}, declared.script.ScriptFault.TheVariants.Memory};
 ghost use Rattle.mt_rows.specs.Rows.{Bytes};
 ghost use Rattle.mt_streams.specs.Failures.{Failed, NoFewer};
@@ -66,26 +66,10 @@ pub fn run_script<R: Source, W: Sink>(
 {
     let mut session = Session::new(alloc)?;
     let mut line = LineBuffer::new(alloc);
-    answer_lines(alloc, &mut session, &mut line, reader, writer)
-}
-
-// Reads and answers all lines, in a session before its first.
-fn answer_lines<R: Source, W: Sink>(
-    alloc: Global,
-    session: &mut Session,
-    line: &mut LineBuffer,
-    reader: &mut R,
-    writer: &mut W,
-) -> Result<(), ScriptFault>
-    requires fresh { session.old ≡ fresh }
-    requires empty { line.old ≡ front_of [] }
-    ensures { RunsScript (R.remaining reader.old) (R.remaining reader.new) (W.contents writer.old) (W.contents writer.new)
-        (Failed (R.failures reader.old) (R.failures reader.new)) (Failed (W.failures writer.old) (W.failures writer.new)) result }
-{
     for _ in 0..u64::MAX {
         match next_byte(reader) {
-            Ok(Some(byte)) => take_byte(alloc, session, line, byte, writer)?,
-            Ok(None) => return answer(alloc, session, line, writer),
+            Ok(Some(byte)) => take_byte(alloc, &mut session, &mut line, byte, writer)?,
+            Ok(None) => return answer(alloc, &mut session, &line, writer),
             Err(error) => return Err(ScriptFault::Read(error)),
         }
     }
@@ -150,10 +134,7 @@ fn answer<W: Sink>(
         return Ok(());
     }
     let text = answer_text(alloc, session, line)?;
-    match write_whole(writer, text.as_bytes()) {
-        Ok(()) => Ok(()),
-        Err(error) => Err(ScriptFault::Write(error)),
-    }
+    write_whole(writer, text.as_bytes()).map_err(ScriptFault::Write)
 }
 
 // The text of the answer to a line that has one.

@@ -53,9 +53,9 @@ impl Session {
                 command,
                 stamps,
             } => self.begin(alloc, name, tenant, command, stamps),
-            Line::Step { name } => Ok(self.store.step(name)),
+            Line::Step(name) => Ok(self.store.step(name)),
             Line::Until { name, phase } => Ok(self.store.until(name, phase)),
-            Line::Run { name } => Ok(self.store.run(name)),
+            Line::Run(name) => Ok(self.store.run(name)),
             Line::Shape => Ok(Response::Shape(self.store.shape(alloc)?)),
         }
     }

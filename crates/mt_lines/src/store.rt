@@ -6,10 +6,10 @@
 
 ghost use Rattle.std.specs.Prelude.{◌≡◌, ◌↔◌, ℕ, [], IfOk, OnErr, IsTrue, Some, None, Ok, Err, true};
 ghost use Rattle.mt_state.specs.{Views.StateView, Begins.{new_state, HaveNoPairs, IsEnded}};
-ghost use Rattle.mt_core.specs.{Shows.phase_at, Tickets.{IsStill, Cancels}, Shapes.IsShape};
+ghost use Rattle.mt_core.specs.{Tickets.{IsStill, Cancels}, Shapes.IsShape};
 ghost use Rattle.mt_runs.specs.declared.event.Answer.{Answer as AnyAnswer};
 ghost use Rattle.mt_lines.specs.{Names.operation_of, Sessions.TellsBegun};
-ghost use Rattle.mt_lines.specs.Stores.{IsAsBefore, HaveOneName, StopsAt, IsWalk, TellsStep, TellsWalk, TellsNamed, IsFree, CanSay, GivesUp, SaysMove};
+ghost use Rattle.mt_lines.specs.Stores.{IsAsBefore, HaveOneName, IsWalk, TellsStep, TellsWalk, TellsNamed, IsFree, CanSay, GivesUp, SaysMove};
 
 use crate::names::Names;
 use crate::response::Response;
@@ -191,7 +191,7 @@ fn give_up(state: &mut State, names: &mut Names, name: u32) -> Answer
 fn walk(state: &mut State, ticket: &Ticket, stop: Option<Phase>) -> Move
     ensures { IsWalk stop state.old state.new ticket.now.id result }
 {
-    while !stands_at(state, ticket, stop) {
+    while stop.is_none() || state.phase(ticket) != stop {
         if state.steps() >= MAX_STEPS {
             return Move::Spent;
         }
@@ -201,14 +201,4 @@ fn walk(state: &mut State, ticket: &Ticket, stop: Option<Phase>) -> Move
         }
     }
     Move::Moved
-}
-
-// Whether the operation is to stop where it stands.
-fn stands_at(state: &State, ticket: &Ticket, stop: Option<Phase>) -> bool
-    ensures { IsTrue result ↔ StopsAt stop (phase_at state.now.table ticket.now.id) }
-{
-    match stop {
-        Some(phase) => state.phase(ticket) == Some(phase),
-        None => false,
-    }
 }

@@ -31,31 +31,25 @@ pub fn next_word(bytes: &[u8]) -> Result<(&[u8], &[u8]), LineFault>
 }
 
 // How many spaces stand at the front.
-#[tactic(auto, using(crate::proofs::WordLemmas::space_rules))]
 fn spaces_before(bytes: &[u8]) -> usize
     ensures spaces { result ≡ prefix_len is_space bytes.now }
     ensures within { result ≤ length bytes.now }
 {
-    for (place, byte) in bytes.iter().enumerate() {
-        if *byte != b' ' {
-            return place;
-        }
-    }
-    bytes.len()
+    bytes
+        .iter()
+        .position(|byte| *byte != b' ')
+        .unwrap_or(bytes.len())
 }
 
 // The place of the first space, or the length.
-#[tactic(auto, using(crate::proofs::WordLemmas::space_rules))]
 fn first_space(bytes: &[u8]) -> usize
     ensures place { result ≡ prefix_len is_of_word bytes.now }
     ensures within { result ≤ length bytes.now }
 {
-    for (place, byte) in bytes.iter().enumerate() {
-        if *byte == b' ' {
-            return place;
-        }
-    }
-    bytes.len()
+    bytes
+        .iter()
+        .position(|byte| *byte == b' ')
+        .unwrap_or(bytes.len())
 }
 
 /// That no word is left.
@@ -168,15 +162,11 @@ fn parts(word: &[u8]) -> Result<(&[u8], &[u8]), LineFault>
 }
 
 // The place of the first `=`, or the length.
-#[tactic(auto, using(crate::proofs::WordLemmas::space_rules))]
 fn first_sign(word: &[u8]) -> usize
     ensures place { result ≡ prefix_len is_no_sign word.now }
     ensures within { result ≤ length word.now }
 {
-    for (place, byte) in word.iter().enumerate() {
-        if *byte == b'=' {
-            return place;
-        }
-    }
-    word.len()
+    word.iter()
+        .position(|byte| *byte == b'=')
+        .unwrap_or(word.len())
 }

@@ -1,9 +1,7 @@
-use Rattle.std.proofs.Common.{ap, ◌∙◌}
-use Rattle.mt_lines.specs.Names.{Tickets, shows_in, shows_of}
+use Rattle.std.proofs.Common.{ap, ◌∙◌, rules, tests}
+use Rattle.mt_lines.{specs.Names.{Tickets, shows_in, shows_of}, proofs.NameLemmas.shows_kept}
 use Rattle.mt_lines.proofs.names.Names.shows_stamps.Goals as goal
 
-pub returns-in-Some : goal.returns-in-Some
-returns-in-Some c = ap shows_in c.in-Some.ensures.value ∙ ap (λ (n : Tickets). shows_of n c.args.name) c.self.view_is
-
-pub returns-in-None : goal.returns-in-None
-returns-in-None c = ap shows_in c.in-None.ensures.value ∙ ap (λ (n : Tickets). shows_of n c.args.name) c.self.view_is
+pub returns : goal.returns
+returns c =
+    shows_kept c.get.result c.is_some_and.result _ c.is_some_and.ensures (λ x p. search (rules, tests)) ∙ ap shows_in c.get.ensures.value ∙ ap (λ (n : Tickets). shows_of n c.args.name) c.self.view_is

@@ -1,6 +1,6 @@
 use Rattle.mt_streams.specs.Failures.{NoFewer}
 use Rattle.mt_lines.proofs.ScriptLemmas.{Progress}
-use Rattle.mt_lines.proofs.script.answer_lines.Given as goal
+use Rattle.mt_lines.proofs.script.run_script.Given as goal
 
 -- the script is on its way
 abbrev pub invariant-loop : goal.invariant-loop
