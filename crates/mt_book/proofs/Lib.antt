@@ -1,4 +1,7 @@
 pub mod Answering
 pub mod Chains
+pub mod Gating
 pub mod Turns
 pub mod NextPhases
+pub mod Keeping
+pub mod OneRuns

@@ -154,3 +154,12 @@ Led does old new P = (periods : List Period) × Chain does old periods new × P 
 abbrev pub Begins : {S : Type 0} → (S → Period → S → Type 0) → S → S → ℕ → ℕ → OpeningView → Result Begun Refusal → Type 0
 Begins does old new seen worker opening (Ok b) = Led does old new (λ ps. Opens seen worker opening (Ok b.ticket) (Some b.phase) ps b.shown)
 Begins does old new seen worker opening (Err refusal) = Led does old new (λ ps. (shown : ℕ) × Opens seen worker opening (Err refusal) None ps shown)
+
+-- if the deed is a step, a gate was called with what it says
+abbrev pub IsCalled : (ℕ → Phase → Type 0) → Deed → Type 0
+IsCalled called (Stepped ticket turned made next) = called turned.op turned.phase
+IsCalled called _ = Unit {0}
+
+-- a desk that does this, where the gate was called before each step
+abbrev pub Gated : {S : Type 0} → (S → Period → S → Type 0) → (ℕ → Phase → Type 0) → S → Period → S → Type 0
+Gated does called old p new = does old p new × IsCalled called p.deed

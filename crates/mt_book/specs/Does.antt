@@ -1,10 +1,10 @@
--- What a period does to a book that is owned alone, and what is told of one behind its lock.
+-- What a period does to a book.
 use Rattle.std.specs.Prelude.{◌≡◌, ◌≢◌, ℕ, length, Option, Some, None, Result, Ok, Err}
-use Rattle.mt_rows.specs.{declared.refusal.Refusal.Refusal, declared.record.Batch.Batch, Tenants.tenant_map}
+use Rattle.mt_rows.specs.{declared.refusal.Refusal.Refusal, Tenants.tenant_map}
 use Rattle.mt_operation.specs.{declared.phase.Phase.Phase, Operations.OperationView}
 use Rattle.mt_state.specs.{Views.{StateView, op_at, contents_of}, Begins.{Takes, IsEnded}, Promises.Tells, Phases.LeadsOn}
 use Rattle.mt_core.specs.{Admitted.{TellsAdmitted, RefusesOpening}, declared.answers.Ticket.Ticket, declared.displaced.Displaced.Displaced, Shows.phase_at}
-use Rattle.mt_core.specs.{Tidies.TidiesInto, Rights.IsRightState, Drains.Drains}
+use Rattle.mt_core.specs.Tidies.{TidiesInto}
 use Rattle.mt_book.specs.Periods.{Deed, Looked, Began, Rested, Stepped, Took, Kept, Period, room_of}
 
 -- a begin shows what the first step of its operation does, by the table after it
@@ -28,11 +28,3 @@ Did old new (Kept ticket) = (new ≡ old) × ¬ IsEnded old.table ticket
 
 abbrev pub DoesState : StateView → Period → StateView → Type 0
 DoesState old p new = (p.steps ≡ old.steps) × Did old new p.deed
-
--- a right state was led by the period to another one; which one stood behind the lock is not told
-abbrev pub DidSomewhere : Period → Type 0
-DidSomewhere p = (v : StateView) × (w : StateView) × IsRightState v × DoesState v p w
-
--- a worker's next batch was drained of a right state, which is not told
-abbrev pub DrainedSomewhere : ℕ → Batch → Type 0
-DrainedSomewhere worker batch = (v : StateView) × (w : StateView) × IsRightState v × Drains v w worker batch

@@ -77,6 +77,13 @@ impl<L: Ledger> Book<L> {
         self.state.facts();
     }
 
+    // The state.
+    pub(crate) fn state(&self) -> &State
+        ensures { result.now ≡ self.now.state }
+    {
+        &self.state
+    }
+
     /// As the state's.
     pub fn begin(&mut self, worker: u8, tenant: u32, command: Command) -> Result<Ticket, Refusal>
         requires { IsWorker (length self.old.state.logs) worker }
@@ -203,6 +210,7 @@ impl<L: Ledger> Book<L> {
     pub fn open_pass(&mut self, worker: u8) -> Option<Pass<L>>
         ensures state { AddsPlaces self.old.state self.new.state }
         ensures gathered { self.new.gathered ≡ self.old.gathered }
+        ensures same { IfNone result (self.new.state ≡ self.old.state) }
         ensures some { IfSome result (λ pass. (self.new.opened ≡ self.old.opened + 1) × (pass.worker ≡ worker) × (pass.seen ≡ 0) × (pass.share.amount ≡ 0)) }
         ensures none { IfNone result (self.new.opened ≡ self.old.opened) }
         ensures when { IsSome result ↔ ((self.old.opened < 65535) × (self.old.gathered ≡ false) × (worker < max (length self.old.state.logs) 1)) }

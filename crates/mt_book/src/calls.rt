@@ -1,7 +1,7 @@
 //! Calls: a command begun, stepped and answered, period by period, over any desk.
 
 ghost use Rattle.std.specs.Prelude.{◌≡◌, ◌+◌, ◌<◌, ◌≤◌, [], None, max, IfOk, OnErr};
-ghost use Rattle.mt_book.specs.{Periods.{IsOfWorker, room_of, least_room}, Calls.{Asked, IsOpeningOf, Calls, Begins, Ends, Led, IsTaken, asked_by, answers_of}};
+ghost use Rattle.mt_book.specs.{Periods.{IsOfWorker, room_of, least_room}, Calls.{Asked, IsOpeningOf, Calls, Begins, Ends, Led, Gated, IsTaken, asked_by, answers_of}};
 
 use crate::desks::{Admission, Admitted, Desk, Stepping, Taken, Taking};
 use crate::gates::{Gate, passed};
@@ -118,7 +118,7 @@ fn stepped<L: Ledger, R: Wait + Clock, D: Desk<L>, G: Gate>(
     phase: Phase,
     shown: u64,
 ) -> bool
-    ensures { Led D.does desk.old desk.new (Ends pass.now.seen ticket.now.id shown phase result) }
+    ensures { Led (Gated D.does (G.turned gate.now)) desk.old desk.new (Ends pass.now.seen ticket.now.id shown phase result) }
 {
     let mut next = phase;
     let mut last = shown;
@@ -204,7 +204,7 @@ fn ran<L: Ledger, R: Wait + Clock, D: Desk<L>, G: Gate>(
 ) -> Result<Answer, CallFault>
     requires worker { IsOfWorker pass.old.worker opening.made }
     requires room { least_room ≤ room_of aside.old.displaced }
-    ensures periods { (asked : Asked) → asked.worker ≡ pass.old.worker → IsOpeningOf asked opening → Calls D.does desk.old desk.new pass.old.seen asked result }
+    ensures gated { (asked : Asked) → asked.worker ≡ pass.old.worker → IsOpeningOf asked opening → Calls (Gated D.does (G.turned gate.now)) desk.old desk.new pass.old.seen asked result }
     ensures command { IfOk result (λ answer. answer.command ≡ aside.old.command) }
     ensures later { IfOk result (λ answer. pass.old.seen < answer.first) }
     ensures seen { IfOk result (λ answer. pass.new.seen ≡ max pass.old.seen answer.last) }
@@ -247,6 +247,7 @@ pub fn call<L: Ledger, R: Wait + Clock, D: Desk<L>, G: Gate>(
     gate: &G,
 ) -> Result<Answer, CallFault>
     ensures periods { Calls D.does desk.old desk.new pass.old.seen (asked_by pass.old.worker tenant command) result }
+    ensures gated { Calls (Gated D.does (G.turned gate.now)) desk.old desk.new pass.old.seen (asked_by pass.old.worker tenant command) result }
     ensures command { IfOk result (λ answer. answer.command ≡ command) }
     ensures later { IfOk result (λ answer. pass.old.seen < answer.first) }
     ensures seen { IfOk result (λ answer. pass.new.seen ≡ max pass.old.seen answer.last) }

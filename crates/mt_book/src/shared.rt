@@ -1,21 +1,26 @@
 //! The book as a desk: owned alone, or under a lock that many threads share.
 
-ghost use Rattle.std.specs.{Prelude.{◌≡◌, IfSome, IfOk, IfErr}, List.sum_by};
+ghost use Rattle.std.specs.{Prelude.{◌≡◌, IfSome, IfNone, IfOk, IfErr, OnErr}, List.sum_by};
 ghost use Rattle.mt_batches.specs.Batches.{IsBounded, BringsOn};
-ghost use Rattle.mt_book.specs.{declared.passes.Pass.Pass, Books.IsRightBook, Does.DrainedSomewhere};
+ghost use mathlib.Core.List.{IsPrefix};
+ghost use Rattle.mt_history.specs.Legal.{EndsWith, IsLegal};
+ghost use Rattle.mt_book.specs.{declared.passes.Pass.Pass, Books.IsRightBook, Happens.{Adds, Given, Leads}};
 
 use crate::books::Book;
 use crate::desks::{Admission, Admitted, Desk, Look, Stepping, Taken, Taking};
 use crate::gates::Turned;
+use crate::happenings::Periods;
+use crate::kept::Kept;
 use crate::passes::Pass;
-use mt_core::{Displaced, Opening, Ticket};
+use crate::patience::PatientLock;
+use mt_core::{Displaced, Opening, State, Ticket};
 use mt_drains::DrainedBatch;
+use mt_history::{Mark, Naming};
 use std::alloc::AllocError;
-use std::sync::atomic::{AtomicU64, Ordering};
 use std::sync::ledger::Ledger;
-use std::sync::{Mutex, MutexGuard, Wait};
-use std::time::{Clock, Duration};
-use std::{hint, thread};
+use std::sync::{MutexGuard, Wait};
+use std::thread;
+use std::time::Clock;
 
 /// A book that is owned alone: each period says all that it did to the state.
 impl<L: Ledger> Desk<L> for Book<L> {
@@ -97,117 +102,53 @@ impl<L: Ledger> Desk<L> for Book<L> {
     }
 }
 
-/// A book under the lock that many threads share. Of all threads that wait for it one goes on looking, and the
-/// others sleep.
-#[derive(Drop)]
-pub struct BookLock<L: Ledger> {
-    book: Mutex<Book<L>>,
-    looking: Mutex<()>,
-    sleeping: AtomicU64,
-}
+/// A book and its history under the lock that many threads share.
+pub type BookLock<L, J> = PatientLock<Kept<L, J>>;
 
-impl<L: Ledger> BookLock<L> {
-    pub fn new(book: Book<L>) -> Self {
-        BookLock {
-            book: Mutex::new(book),
-            looking: Mutex::new(()),
-            sleeping: AtomicU64::new(0),
-        }
-    }
-
-    /// The book, of which nobody holds the lock any more.
-    pub fn into_inner(self) -> Book<L> {
-        let BookLock {
-            book,
-            looking: _,
-            sleeping: _,
-        } = self;
-        book.into_inner()
-    }
-}
-
-/// The lock, tried before it is waited for: a sleeping waiter makes every unlock wake somebody. What
-/// stands behind it is right, whenever it is free.
-pub fn locked<'a, L: Ledger, R: Wait + Clock>(
+// The lock. What stands behind it is right, whenever it is free, and the history ends with it.
+fn locked<'a, L: Ledger, J: Naming, R: Wait + Clock>(
     rt: &R,
-    shared: &'a BookLock<L>,
-) -> MutexGuard<'a, Book<L>>
-    ensures { IsRightBook result.value.state result.value.total.total result.value.rest.parts result.value.opened }
+    shared: &'a BookLock<L, J>,
+) -> MutexGuard<'a, Kept<L, J>>
+    ensures right { IsRightBook result.value.state result.value.total result.value.parts result.value.opened }
+    ensures ends { EndsWith result.value.log result.value.state }
 {
-    let guard = waited(rt, shared);
+    let guard = shared.locked(rt);
     guard.facts();
     guard
 }
 
-// At so many looks a thread finds the lock soon if its holder is at work: some 1,000 turns.
-const FIRST_LOOKS: u32 = 8;
+/// A book under a lock, for one caller, with what it has seen of the book's history. Others use the book between two
+/// periods. Each period adds one state to the history, and says what it did to the last one.
+#[derive(Drop)]
+pub struct Clerk<'a, L: Ledger, J: Naming> {
+    lock: &'a BookLock<L, J>,
+    mark: Mark<State, Periods, J>,
+}
 
-// So many microseconds a thread sleeps for each that sleeps.
-const NAP: u64 = 50;
-
-// The lock. A thread that has not found it free goes on looking if no other one does, and else it sleeps. So
-// those who wait take one processor, and no unlock has to wake them.
-fn waited<'a, L: Ledger, R: Wait + Clock>(
-    rt: &R,
-    shared: &'a BookLock<L>,
-) -> MutexGuard<'a, Book<L>> {
-    for _ in 0..1000u32 {
-        if let Some(guard) = looked(&shared.book, FIRST_LOOKS) {
-            return guard;
-        }
-        match shared.looking.try_lock() {
-            Some(_alone) => {
-                if let Some(guard) = looked(&shared.book, 1000) {
-                    return guard;
-                }
-            }
-            None => nap(rt, &shared.sleeping),
-        }
+impl<L: Ledger, J: Naming> Clerk<'_, L, J> {
+    /// What two clerks have seen are beginnings of one history. Afterwards this one has seen what both had.
+    pub fn learn(&mut self, other: &Clerk<'_, L, J>)
+        ensures this { IsPrefix self.old.mark.log self.new.mark.log }
+        ensures that { IsPrefix other.now.mark.log self.new.mark.log }
+        ensures made { self.new.mark.made ≡ self.old.mark.made }
+        ensures legal { IsLegal Leads self.new.mark.log }
+    {
+        self.mark.learn(&other.mark);
     }
-    shared.book.lock(rt)
 }
 
-// Sleeps, and longer the more threads sleep: one of them wakes every 50 microseconds or so, however many they are.
-fn nap<R: Clock>(rt: &R, sleeping: &AtomicU64) {
-    let others = sleeping.fetch_add(1, Ordering::Relaxed);
-    let time = Duration::from_micros(NAP.saturating_mul(others.saturating_add(1)));
-    thread::sleep(rt, time);
-    let _ = sleeping.fetch_sub(1, Ordering::Relaxed);
-}
+impl<L: Ledger, J: Naming> Desk<L> for Clerk<'_, L, J> {
+    ghost use Rattle.mt_book.specs.Happens.{Adds, Acted};
 
-// The lock, if it is free at one of so many looks. The turns between two looks double from 4 to 4,096; from
-// there on others may go first.
-fn looked<L: Ledger>(book: &Mutex<Book<L>>, looks: u32) -> Option<MutexGuard<'_, Book<L>>> {
-    let mut turns = 4u32;
-    for _ in 0..looks {
-        if let Some(guard) = book.try_lock() {
-            return Some(guard);
-        }
-        for _ in 0..turns {
-            hint::spin_loop();
-        }
-        if turns < 4096 {
-            turns = turns.saturating_mul(2);
-        } else {
-            thread::yield_now();
-        }
-    }
-    None
-}
-
-/// A book under a lock: others use it between two periods, so a period says nothing of the next one. Of each it says that a
-/// right state stood there, and that the period did to it what its name says.
-impl<L: Ledger> Desk<L> for &BookLock<L> {
-    ghost use Rattle.mt_book.specs.Does.{DidSomewhere};
-
-    ghost does = { λ old p new. DidSomewhere p };
+    ghost does = { λ old p new. Adds (Acted p) old.mark new.mark };
 
     fn look<R: Wait + Clock>(&mut self, rt: &R) -> Look {
-        Desk::look(&mut *locked(rt, *self), rt)
+        locked(rt, self.lock).look(rt, &mut self.mark)
     }
 
     fn admit<R: Wait + Clock>(&mut self, rt: &R, pass: &Pass<L>, opening: Opening) -> Admission {
-        Desk::admit(&mut *locked(rt, *self), rt, pass, opening)
+        locked(rt, self.lock).admit(rt, pass, opening, &mut self.mark)
     }
 
     fn step<R: Wait + Clock>(
@@ -217,7 +158,7 @@ impl<L: Ledger> Desk<L> for &BookLock<L> {
         turned: Turned,
         ticket: &Ticket,
     ) -> Stepping {
-        Desk::step(&mut *locked(rt, *self), rt, pass, turned, ticket)
+        locked(rt, self.lock).step(rt, pass, turned, ticket, &mut self.mark)
     }
 
     fn take<R: Wait + Clock>(
@@ -227,38 +168,52 @@ impl<L: Ledger> Desk<L> for &BookLock<L> {
         ticket: Ticket,
         displaced: &mut Displaced,
     ) -> Taking {
-        Desk::take(&mut *locked(rt, *self), rt, pass, ticket, displaced)
+        locked(rt, self.lock).take(rt, pass, ticket, displaced, &mut self.mark)
     }
 }
 
-/// A pass for a worker, which has seen no step; none where 65,535 were opened, the total was told or
-/// there is no such worker.
-pub fn open_pass<L: Ledger, R: Wait + Clock>(
+/// A pass for a worker, which has seen no step, and its clerk. There is none if the total was told, if there is no such
+/// worker, or if 65,535 clerks were given.
+pub fn open_pass<'a, L: Ledger, J: Naming, R: Wait + Clock>(
     rt: &R,
-    book: &BookLock<L>,
+    book: &'a BookLock<L, J>,
     worker: u8,
-) -> Option<Pass<L>>
-    ensures { IfSome result (λ pass. (pass.worker ≡ worker) × (pass.seen ≡ 0) × (pass.share.amount ≡ 0)) }
+) -> Option<(Pass<L>, Clerk<'a, L, J>)>
+    ensures pass { IfSome result (λ r. (r.0.worker ≡ worker) × (r.0.seen ≡ 0) × (r.0.share.amount ≡ 0)) }
+    ensures clerk { IfSome result (λ r. (r.1.lock.now ≡ book.now) × (r.1.mark.made ≡ 1)) }
 {
-    locked(rt, book).open_pass(worker)
+    let (pass, mark) = locked(rt, book).open_pass(rt, worker)?;
+    Some((pass, Clerk { lock: book, mark }))
+}
+
+/// A clerk without a pass: it looks, and drains. There is none if 65,535 clerks were given.
+pub fn open_clerk<'a, L: Ledger, J: Naming, R: Wait + Clock>(
+    rt: &R,
+    book: &'a BookLock<L, J>,
+) -> Option<Clerk<'a, L, J>>
+    ensures { IfSome result (λ clerk. (clerk.lock.now ≡ book.now) × (clerk.mark.made ≡ 0)) }
+{
+    let mark = locked(rt, book).open_mark()?;
+    Some(Clerk { lock: book, mark })
 }
 
 /// The next batch of a worker's log, in a period of its own. It goes up to the step `upto` at least, or it is full.
 /// While the book has no log of this worker, or fewer steps, it is asked again. An error comes if memory is refused;
 /// then nothing is drained.
-pub fn drain<L: Ledger, R: Wait + Clock>(
+pub fn drain<L: Ledger, J: Naming, R: Wait + Clock>(
     rt: &R,
-    book: &BookLock<L>,
+    clerk: &mut Clerk<'_, L, J>,
     worker: u8,
     upto: u64,
 ) -> Result<DrainedBatch, AllocError>
     ensures worker { IfOk result (λ drained. drained.worker ≡ worker) }
     ensures bounded { IfOk result (λ drained. IsBounded drained.batch) }
     ensures brings { IfOk result (λ drained. BringsOn upto drained.batch) }
-    ensures drains { IfOk result (λ drained. DrainedSomewhere worker drained.batch) }
+    ensures does { IfOk result (λ drained. Adds (Given worker drained.batch) clerk.old.mark clerk.new.mark) }
+    ensures same { OnErr result (clerk.new ≡ clerk.old) }
 {
     for _ in rt.forever() {
-        if let Some(drained) = drained(rt, book, worker, upto) {
+        if let Some(drained) = drained(rt, clerk, worker, upto) {
             return drained;
         }
         thread::yield_now();
@@ -267,28 +222,30 @@ pub fn drain<L: Ledger, R: Wait + Clock>(
 }
 
 // The same, unless there is no such log, or there are fewer steps.
-fn drained<L: Ledger, R: Wait + Clock>(
+fn drained<L: Ledger, J: Naming, R: Wait + Clock>(
     rt: &R,
-    book: &BookLock<L>,
+    clerk: &mut Clerk<'_, L, J>,
     worker: u8,
     upto: u64,
 ) -> Option<Result<DrainedBatch, AllocError>>
     ensures worker { IfSome result (λ told. IfOk told (λ drained. drained.worker ≡ worker)) }
     ensures bounded { IfSome result (λ told. IfOk told (λ drained. IsBounded drained.batch)) }
     ensures brings { IfSome result (λ told. IfOk told (λ drained. BringsOn upto drained.batch)) }
-    ensures drains { IfSome result (λ told. IfOk told (λ drained. DrainedSomewhere worker drained.batch)) }
+    ensures does { IfSome result (λ told. IfOk told (λ drained. Adds (Given worker drained.batch) clerk.old.mark clerk.new.mark)) }
+    ensures same { IfSome result (λ told. OnErr told (clerk.new ≡ clerk.old)) }
+    ensures none { IfNone result (clerk.new ≡ clerk.old) }
 {
-    let mut guard = locked(rt, book);
-    if worker >= guard.logs() || guard.steps() < upto {
+    let mut guard = locked(rt, clerk.lock);
+    if !guard.has_log(worker, upto) {
         return None;
     }
-    Some(guard.drain(worker))
+    Some(guard.drain(rt, worker, upto, &mut clerk.mark))
 }
 
 /// The total, once, where the passes are all that were opened; else they come back.
-pub fn gather<L: Ledger, R: Wait + Clock>(
+pub fn gather<L: Ledger, J: Naming, R: Wait + Clock>(
     rt: &R,
-    book: &BookLock<L>,
+    book: &BookLock<L, J>,
     passes: Vec<Pass<L>>,
 ) -> Result<u64, Vec<Pass<L>>>
     requires { L.parts ≡ 65536 }

@@ -1,7 +1,9 @@
 //! A call that a gate holds back between two of its steps, while another one is made.
 
-use crate::threads::{Case, expect, get_of};
-use mt_book::{BookLock, Gate, NoGate, Pass, call, open_pass};
+use crate::asked::{Ask, command_of};
+use crate::threads::{Case, expect, open_passes};
+use mt_book::{BookLock, Gate, NoGate, Pass, call, open_clerk};
+use mt_history::Naming;
 use mt_operation::Phase;
 use std::alloc::Global;
 use std::marker::{Send, Sync};
@@ -47,53 +49,41 @@ impl<R: Clock> Gate for Holding<'_, R> {
 }
 
 // A get through a pass, with the numbers of its first and last step.
-fn numbers<L: Ledger, R: Wait + Clock, G: Gate>(
+fn numbers<L: Ledger, J: Naming, R: Wait + Clock, G: Gate>(
     rt: &R,
     alloc: Global,
-    book: &BookLock<L>,
-    pass: &mut Pass<L>,
+    book: &BookLock<L, J>,
+    pass: Pass<L>,
     gate: &G,
 ) -> (u64, u64) {
-    let mut desk = book;
-    let Ok(command) = get_of(alloc, 107) else {
+    let mut pass = pass;
+    let Some(mut clerk) = open_clerk(rt, book) else {
         return (0, 0);
     };
-    match call(rt, alloc, &mut desk, pass, 7, command, gate) {
+    let Ok(command) = command_of(alloc, 107, Ask::Get) else {
+        return (0, 0);
+    };
+    match call(rt, alloc, &mut clerk, &mut pass, 7, command, gate) {
         Ok(answer) => (answer.first, answer.last),
         Err(_) => (0, 0),
     }
 }
 
-// One of the two gets: the first one is held, the second one begins once it is.
-fn one_of_two<L: Ledger, R: Wait + Clock>(
+// One of the two gets: that of worker 0 is held, that of worker 1 begins once it is.
+fn one_of_two<L: Ledger, J: Naming, R: Wait + Clock>(
     rt: &R,
     alloc: Global,
-    book: &BookLock<L>,
+    book: &BookLock<L, J>,
     turn: &AtomicU64,
-    is_held: bool,
-    pass: &mut Pass<L>,
+    pass: Pass<L>,
 ) -> (u64, u64) {
-    if is_held {
+    if pass.worker() == 0 {
         return numbers(rt, alloc, book, pass, &Holding { rt, turn });
     }
     wait_for(rt, turn, HELD);
     let told = numbers(rt, alloc, book, pass, &NoGate {});
     turn.store(ANSWERED, Ordering::SeqCst);
     told
-}
-
-// The passes of the two gets, of which the first one is held.
-fn two_calls<L: Ledger, R: Wait + Clock + Abort>(
-    rt: &R,
-    alloc: Global,
-    book: &BookLock<L>,
-) -> Vec<(bool, Pass<L>)> {
-    let mut calls = Vec::new(alloc);
-    for is_held in [true, false] {
-        let pass = open_pass(rt, book, 0).expect(rt, "a pass");
-        calls.push((is_held, pass)).expect(rt, "memory");
-    }
-    calls
 }
 
 // The second get is made between the steps of the first one.
@@ -107,18 +97,16 @@ fn is_between(rt: &impl Abort, told: &[(u64, u64)]) {
 }
 
 // Makes the two gets, each by its thread.
-pub(crate) fn make_both<L: Ledger + Send + Sync, R: Threads + Wait + Clock + Abort + Sync>(
-    rt: &R,
-    alloc: Global,
-    book: &BookLock<L>,
-) {
+pub(crate) fn make_both<
+    L: Ledger + Send + Sync,
+    J: Naming + Send + Sync,
+    R: Threads + Wait + Clock + Abort + Sync,
+>(rt: &R, alloc: Global, book: &BookLock<L, J>) {
     let turn = &AtomicU64::new(0);
     let told = thread::map_vec(
         rt,
-        two_calls(rt, alloc, book),
-        &|(is_held, mut pass): (bool, Pass<L>)| {
-            one_of_two(rt, alloc, book, turn, is_held, &mut pass)
-        },
+        open_passes(rt, alloc, book, &[0, 1]),
+        &|pass: Pass<L>| one_of_two(rt, alloc, book, turn, pass),
     );
     is_between(rt, told.expect(rt, "memory").as_slice());
 }

@@ -1,18 +1,18 @@
-//! Tests of `mt_book`: calls by several threads, calls over a book that is owned alone, and over a desk
-//! that lies; what a gate is called with; what two workers' logs are given; what the tape holds.
+//! Tests of `mt_book`. Several threads and several workers call. They are told behind the lock what a book tells that is
+//! owned alone. Other calls are over a desk that lies. A gate holds a call, and the tape is looked at.
 //!
 //! They stand in a crate of their own, since a crate with tests is proved twice.
 #![tactic(auto)]
 
 #[cfg(test)]
-mod drains;
+mod asked;
 #[cfg(test)]
 mod held;
 #[cfg(test)]
 mod lies;
 #[cfg(test)]
-mod shown;
-#[cfg(test)]
 mod threads;
 #[cfg(test)]
 mod tidied;
+#[cfg(test)]
+mod told;

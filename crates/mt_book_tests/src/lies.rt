@@ -2,7 +2,7 @@
 
 ghost use Rattle.std.specs.Prelude.{◌≡◌};
 
-use crate::threads::{get_of, new_store};
+use crate::asked::{Ask, command_of, new_store};
 use mt_book::{
     Admission, Admitted, Book, Desk, Look, NoGate, Pass, Stepping, Taken, Taking, Turned, call,
 };
@@ -113,7 +113,7 @@ fn call_twice<L: Ledger, R: Wait + Clock>(rt: &R, alloc: Global, liar: &mut Liar
     };
     for lie in [None, Some(lie)] {
         liar.lie = lie;
-        if let Ok(command) = get_of(alloc, 107) {
+        if let Ok(command) = command_of(alloc, 107, Ask::Get) {
             let _ = call(rt, alloc, liar, &mut pass, 7, command, &NoGate {});
         }
     }

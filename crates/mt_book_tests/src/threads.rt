@@ -1,252 +1,193 @@
-//! Calls by one thread and by four.
+//! Puts by one thread and by four; and what is done with a new book.
 
-ghost use Rattle.std.specs.Prelude.{◌≡◌, ◌≤◌, IfOk};
-ghost use Rattle.mt_state.specs.Begins.{HaveNoPairs};
+ghost use Rattle.std.specs.Prelude.{◌≡◌};
+ghost use Rattle.mt_book.specs.Names.{AreNames};
 
-use crate::{drains, held, shown, tidied};
-use mt_book::{Book, BookLock, Desk, NoGate, Pass, call, gather, open_pass};
+use crate::asked::{Ask, command_of, new_store};
+use crate::{held, tidied, told};
+use mt_book::{
+    Book, BookLock, Clerk, Desk, Kept, Names, NoGate, Pass, call, gather, open_clerk, open_pass,
+};
 use mt_core::State;
-use mt_rows::{Column, ColumnIndexes, Command, Key, NamedColumns, Reply, Tenants};
-use std::alloc::{AllocError, Global};
+use mt_history::Naming;
+use std::alloc::Global;
 use std::marker::{Brand, Send, Sync};
 use std::process::Abort;
 use std::sync::Wait;
-use std::sync::ledger::{Blank, Ledger};
+use std::sync::ledger::Ledger;
 use std::thread;
 use std::thread::Threads;
 use std::time::Clock;
 
-// How many puts each thread makes.
-const PUTS: u32 = 250;
+/// A pass and its clerk.
+pub(crate) type Caller<'a, L, J> = (Pass<L>, Clerk<'a, L, J>);
 
-// Tenant 7, which may have 100 pairs, in a store with so many logs.
-pub(crate) fn new_store(rt: &impl Abort, alloc: Global, logs: u8) -> Result<State, AllocError>
-    requires { logs ≤ 64 }
-    ensures { IfOk result (λ state. state.answers ≡ 0) }
-{
-    let mut tenants = no_tenants(alloc);
-    assert!(rt; tenants.add(7, 100).is_ok());
-    State::new(alloc, logs, tenants)
-}
-
-fn no_tenants(alloc: Global) -> Tenants
-    ensures { HaveNoPairs result }
-{
-    Tenants::new(alloc)
-}
-
-// A put of one byte in column 0.
-pub(crate) fn put_of(alloc: Global, key: u8, value: u8) -> Result<Command, AllocError> {
-    let key = Key::new(Vec::from_slice(alloc, &[key])?);
-    let mut columns = Vec::new(alloc);
-    columns.push((0, Column::from_slice(alloc, &[value])?))?;
-    let change = NamedColumns::new(columns);
-    Ok(Command::Put { key, change })
-}
-
-// A get of a whole row.
-pub(crate) fn get_of(alloc: Global, key: u8) -> Result<Command, AllocError> {
-    let key = Key::new(Vec::from_slice(alloc, &[key])?);
-    let columns = ColumnIndexes::new(Vec::new(alloc));
-    Ok(Command::Get { key, columns })
-}
-
-/// Puts so many times through a pass of its own; gives it back.
-pub(crate) fn put_all<L: Ledger, R: Wait + Clock>(
+/// Passes with their clerks for these workers. After the last of them there is no worker.
+pub(crate) fn open_all<'a, L: Ledger, J: Naming, R: Wait + Clock + Abort>(
     rt: &R,
     alloc: Global,
-    book: &BookLock<L>,
-    pass: Pass<L>,
-    puts: u32,
-) -> (Pass<L>, u32) {
-    let mut pass = pass;
-    let mut done = 0u32;
-    let mut desk = book;
-    for i in 0..puts {
-        let Ok(command) = put_of(alloc, (i % 12) as u8, 1) else {
-            return (pass, done);
-        };
-        if let Ok(_) = call(rt, alloc, &mut desk, &mut pass, 7, command, &NoGate {}) {
-            done = done.saturating_add(1);
-        }
+    book: &'a BookLock<L, J>,
+    workers: &[u8],
+) -> Vec<Caller<'a, L, J>> {
+    let mut callers = Vec::new(alloc);
+    let mut next = 0u8;
+    for worker in workers {
+        let caller = open_pass(rt, book, *worker).expect(rt, "a pass");
+        callers.push(caller).expect(rt, "memory");
+        next = worker.saturating_add(1);
     }
-    (pass, done)
+    assert!(rt; open_pass(rt, book, next).is_none());
+    callers
 }
 
-/// Four passes of the only worker; another one has none.
-pub(crate) fn four_passes<L: Ledger, R: Wait + Clock + Abort>(
+/// Passes for these workers, without the clerks that they were opened with.
+pub(crate) fn open_passes<L: Ledger, J: Naming, R: Wait + Clock + Abort>(
     rt: &R,
     alloc: Global,
-    book: &BookLock<L>,
+    book: &BookLock<L, J>,
+    workers: &[u8],
 ) -> Vec<Pass<L>> {
     let mut passes = Vec::new(alloc);
-    for _ in 0..4u32 {
-        let pass = open_pass(rt, book, 0).expect(rt, "a pass");
-        passes.push(pass).expect(rt, "memory");
-    }
-    assert!(rt; open_pass(rt, book, 1).is_none());
-    passes
-}
-
-// The passes of the threads, each of which made all its puts.
-fn passes_of<L: Ledger>(rt: &impl Abort, alloc: Global, done: Vec<(Pass<L>, u32)>) -> Vec<Pass<L>> {
-    let mut passes = Vec::new(alloc);
-    for (pass, count) in done {
-        assert_eq!(rt; count, PUTS);
+    for (pass, _) in open_all(rt, alloc, book, workers) {
         passes.push(pass).expect(rt, "memory");
     }
     passes
 }
 
-// Three of four passes gather nothing, and come back.
-fn expect_back<L: Ledger, R: Wait + Clock + Abort>(
+/// Puts so many times through a pass, by a clerk of its own. It gives the pass back, how many puts were answered, and how many
+/// steps stand from the first to the last of each.
+pub(crate) fn put_all<L: Ledger, J: Naming, R: Wait + Clock + Abort>(
     rt: &R,
-    book: &BookLock<L>,
-    passes: Vec<Pass<L>>,
-) -> Vec<Pass<L>>
-    requires { L.parts ≡ 65536 }
-{
-    let back = match gather(rt, book, passes) {
-        Ok(_) => panic!(rt; "a pass is missing"),
-        Err(back) => back,
-    };
-    assert_eq!(rt; back.len(), 3);
-    back
+    alloc: Global,
+    book: &BookLock<L, J>,
+    pass: Pass<L>,
+    puts: u32,
+) -> (Pass<L>, u32, u64) {
+    let mut pass = pass;
+    let mut clerk = open_clerk(rt, book).expect(rt, "a clerk");
+    let (mut done, mut steps) = (0u32, 0u64);
+    for i in 0..puts {
+        let command = command_of(alloc, (i % 12) as u8, Ask::Put(1)).expect(rt, "memory");
+        if let Ok(answer) = call(rt, alloc, &mut clerk, &mut pass, 7, command, &NoGate {}) {
+            done = done.saturating_add(1);
+            let more = answer.last.saturating_sub(answer.first);
+            steps = steps.saturating_add(more).saturating_add(1);
+        }
+    }
+    (pass, done, steps)
 }
 
-// All passes gather a thousand answers, but not where one is missing.
-fn gather_all<L: Ledger, R: Wait + Clock + Abort>(rt: &R, book: &BookLock<L>, passes: Vec<Pass<L>>)
+// One pass puts 20,000 times. A put takes five steps, and one that makes its pair six. A clerk without a pass looks.
+fn count_steps<L: Ledger, J: Naming, R: Wait + Clock + Abort>(
+    rt: &R,
+    alloc: Global,
+    book: &BookLock<L, J>,
+) {
+    let mut clerk = open_clerk(rt, book).expect(rt, "a clerk");
+    let before = Desk::look(&mut clerk, rt).steps;
+    let (pass, _) = open_pass(rt, book, 0).expect(rt, "a pass");
+    let (_, done, steps) = put_all(rt, alloc, book, pass, 20_000);
+    let after = Desk::look(&mut clerk, rt).steps;
+    assert_eq!(rt; (done, before, steps, after), (20_000, 0, 100_012, 100_012));
+}
+
+// All passes gather a thousand answers. Three of the four gather nothing, and come back.
+fn gather_all<L: Ledger, J: Naming, R: Wait + Clock + Abort>(
+    rt: &R,
+    book: &BookLock<L, J>,
+    passes: Vec<Pass<L>>,
+)
     requires { L.parts ≡ 65536 }
 {
     let mut passes = passes;
     let held = passes.pop().expect(rt, "a pass");
-    let mut back = expect_back(rt, book, passes);
+    let mut back = gather(rt, book, passes).err().expect(rt, "three passes");
+    assert_eq!(rt; back.len(), 3);
     back.push(held).expect(rt, "memory");
-    match gather(rt, book, back) {
-        Ok(total) => assert_eq!(rt; total, 1000),
-        Err(_) => panic!(rt; "all passes are here"),
-    }
+    assert!(rt; matches!(gather(rt, book, back), Ok(1000)));
 }
 
-// Four threads make their puts.
-fn put_by_four<L: Ledger + Send + Sync, R: Threads + Wait + Clock + Abort + Sync>(
-    rt: &R,
-    alloc: Global,
-    book: &BookLock<L>,
-)
-    requires { L.parts ≡ 65536 }
-{
+/// Four threads put so many times each, and each put is answered. Their passes come back.
+pub(crate) fn put_by_four<
+    L: Ledger + Send + Sync,
+    J: Naming + Send + Sync,
+    R: Threads + Wait + Clock + Abort + Sync,
+>(rt: &R, alloc: Global, book: &BookLock<L, J>, puts: u32) -> Vec<Pass<L>> {
     let done = thread::map_vec(
         rt,
-        four_passes(rt, alloc, book),
-        &|pass: Pass<L>| put_all(rt, alloc, book, pass, PUTS),
+        open_passes(rt, alloc, book, &[0, 0, 0, 0]),
+        &|pass: Pass<L>| put_all(rt, alloc, book, pass, puts),
     );
-    gather_all(rt, book, passes_of(rt, alloc, done.expect(rt, "memory")));
-}
-
-// The reply to a command, through this pass.
-fn told<L: Ledger, R: Wait + Clock + Abort, D: Desk<L>>(
-    rt: &R,
-    alloc: Global,
-    desk: &mut D,
-    pass: &mut Pass<L>,
-    command: Result<Command, AllocError>,
-) -> &'static str {
-    let command = command.expect(rt, "memory");
-    match call(rt, alloc, desk, pass, 7, command, &NoGate {}) {
-        Ok(answer) => match &answer.reply {
-            Reply::Absent => "absent",
-            Reply::Found(_) => "found",
-            Reply::New => "new",
-            _ => "another",
-        },
-        Err(_) => panic!(rt; "the command is refused"),
+    let mut passes = Vec::new(alloc);
+    for (pass, count, _) in done.expect(rt, "memory") {
+        assert_eq!(rt; count, puts);
+        passes.push(pass).expect(rt, "memory");
     }
-}
-
-// A put through a pass is read back through it, and through another.
-fn read_back<L: Ledger, R: Wait + Clock + Abort, D: Desk<L>>(
-    rt: &R,
-    alloc: Global,
-    desk: &mut D,
-    mine: &mut Pass<L>,
-    other: &mut Pass<L>,
-) {
-    assert_eq!(rt; told(rt, alloc, desk, mine, get_of(alloc, 107)), "absent");
-    assert_eq!(rt; told(rt, alloc, desk, mine, put_of(alloc, 107, 118)), "new");
-    assert_eq!(rt; told(rt, alloc, desk, mine, get_of(alloc, 107)), "found");
-    assert_eq!(rt; told(rt, alloc, desk, other, get_of(alloc, 107)), "found");
-}
-
-// Through a lock.
-fn read_back_locked<L: Ledger, R: Wait + Clock + Abort>(rt: &R, alloc: Global, book: &BookLock<L>) {
-    let mut mine = open_pass(rt, book, 0).expect(rt, "a pass");
-    let mut other = open_pass(rt, book, 0).expect(rt, "a pass");
-    let mut desk = book;
-    read_back(rt, alloc, &mut desk, &mut mine, &mut other);
-}
-
-// Over a book that is owned alone.
-fn read_back_alone<L: Ledger, R: Wait + Clock + Abort>(rt: &R, alloc: Global, book: Book<L>) {
-    let mut book = book;
-    let mut mine = book.open_pass(0).expect(rt, "a pass");
-    let mut other = book.open_pass(0).expect(rt, "a pass");
-    read_back(rt, alloc, &mut book, &mut mine, &mut other);
+    passes
 }
 
 /// What is done with a new book.
 #[derive(Clone, Copy)]
 pub(crate) enum Case {
-    Drained,
     Held,
-    ReadAlone,
-    ReadLocked,
-    Shown,
+    ManySteps,
     ByFour,
     Tidied,
+    ToldAlone,
+    ToldLocked,
 }
 
-// The book has two workers' logs if these are drained, and else none.
-fn play<L: Ledger + Send + Sync, R: Threads + Wait + Clock + Abort + Sync>(
+fn play<L: Ledger + Send + Sync, J: Naming + Send + Sync, R: Threads + Wait + Clock + Abort + Sync>(
     rt: &R,
     alloc: Global,
-    blank: Blank,
+    names: Names,
+    state: State,
     case: Case,
-) -> Result<(), AllocError>
-    requires name { blank.name ≡ L.name }
-    requires parts { (blank.parts ≡ L.parts) × (L.parts ≡ 65536) }
+)
+    requires names { AreNames L.name L.parts J.name J.parts J.book names state }
+    requires untaken { state.answers ≡ 0 }
 {
-    let logs = if let Case::Drained = case { 2 } else { 0 };
-    let book = Book::<L>::new(blank, new_store(rt, alloc, logs)?);
-    if let Case::ReadAlone = case {
-        read_back_alone(rt, alloc, book);
-        return Ok(());
+    if let Case::ToldAlone = case {
+        let Names {
+            answers,
+            history: _,
+            states: _,
+        } = names;
+        return told::tell_alone(rt, alloc, Book::<L>::new(answers, state));
     }
-    play_locked(rt, alloc, &BookLock::new(book), case)
+    let book = BookLock::new(Kept::<L, J>::new(names, state));
+    play_locked(rt, alloc, &book, case);
+    if let Case::Tidied = case {
+        tidied::expect_none_held(rt, alloc, book.into_inner().into_book());
+    }
 }
 
-fn play_locked<L: Ledger + Send + Sync, R: Threads + Wait + Clock + Abort + Sync>(
-    rt: &R,
-    alloc: Global,
-    book: &BookLock<L>,
-    case: Case,
-) -> Result<(), AllocError>
+fn play_locked<
+    L: Ledger + Send + Sync,
+    J: Naming + Send + Sync,
+    R: Threads + Wait + Clock + Abort + Sync,
+>(rt: &R, alloc: Global, book: &BookLock<L, J>, case: Case)
     requires { L.parts ≡ 65536 }
 {
     match case {
-        Case::Drained => drains::play(rt, alloc, book)?,
         Case::Held => held::make_both(rt, alloc, book),
-        Case::ReadAlone | Case::ReadLocked => read_back_locked(rt, alloc, book),
-        Case::Shown => shown::make_four(rt, alloc, book),
-        Case::ByFour => put_by_four(rt, alloc, book),
-        Case::Tidied => tidied::put_by_four(rt, alloc, book),
+        Case::ManySteps => count_steps(rt, alloc, book),
+        Case::ByFour => gather_all(rt, book, put_by_four(rt, alloc, book, 250)),
+        Case::Tidied => tidied::put_on(rt, alloc, book),
+        Case::ToldAlone | Case::ToldLocked => told::tell_locked(rt, alloc, book),
     }
-    Ok(())
 }
 
-/// This is done with a new book.
+/// This is done with a new book. It has workers' logs if there are several workers, and else none.
 pub(crate) fn expect<R: Threads + Wait + Clock + Abort + Sync>(rt: &R, alloc: Global, case: Case) {
-    play::<Brand, R>(rt, alloc, Blank::new(65_536), case).expect(rt, "memory");
+    let logs = match case {
+        Case::Held => 2,
+        Case::ToldAlone | Case::ToldLocked => 6,
+        _ => 0,
+    };
+    let state = new_store(rt, alloc, logs).expect(rt, "memory");
+    let names = Names::new(&state);
+    play::<Brand, Brand, R>(rt, alloc, names, state, case);
 }
 
 #[test]
@@ -255,11 +196,6 @@ fn four_threads_make_a_thousand_answers(rt: HostRuntime) {
 }
 
 #[test]
-fn a_put_is_read_back_through_a_lock(rt: HostRuntime) {
-    expect(&rt, rt.alloc(), Case::ReadLocked);
-}
-
-#[test]
-fn a_put_is_read_back_alone(rt: HostRuntime) {
-    expect(&rt, rt.alloc(), Case::ReadAlone);
+fn a_look_shows_as_many_steps_as_the_answers_tell(rt: HostRuntime) {
+    expect(&rt, rt.alloc(), Case::ManySteps);
 }

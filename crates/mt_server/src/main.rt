@@ -7,6 +7,7 @@
 
 use log::sink::Console;
 use log::{Level, Logged, warn};
+use mt_book::Names;
 use mt_command_line::{OptionsFault, read_options, remedy};
 use mt_service::{FolderDigests, OpenStore, ServerFault, open_store, run_server, verify_store};
 use std::env::{self, Env, FillError};
@@ -14,7 +15,6 @@ use std::io::{self, ErrorKind};
 use std::marker::Brand;
 use std::net::TcpListener;
 use std::process::ExitCode;
-use std::sync::ledger::Blank;
 
 fn main(rt: HostRuntime) -> ExitCode {
     let words = match arguments(&rt) {
@@ -45,11 +45,11 @@ fn main(rt: HostRuntime) -> ExitCode {
             return ended(&rt, Err(ServerFault::Listen { port, error }));
         }
     };
-    let blank = Blank::new(65_536);
-    let end = run_server::<Brand, _, _, _, _>(
+    let names = Names::new(store.state());
+    let end = run_server::<Brand, Brand, _, _, _, _>(
         &rt,
         rt.alloc(),
-        blank,
+        names,
         listener,
         &options,
         store,

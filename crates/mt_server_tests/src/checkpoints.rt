@@ -2,7 +2,6 @@
 
 use crate::folders::{SPARE, expect_file, opened};
 use crate::stores::{PUTS, Scene, serve_scene};
-use crate::words::options_of;
 use log::Log;
 use mt_checkpoint::{Checkpoint, read_valid};
 use mt_disk::MemDisk;
@@ -11,12 +10,11 @@ use mt_service::OpenStore;
 use std::alloc::Global;
 use std::fs::{self, File};
 use std::io;
-use std::marker::{Brand, Sync};
+use std::marker::Sync;
 use std::net::{Net, TcpListener, TcpStream};
 use std::process::Abort;
 use std::rt::Files;
 use std::sync::Wait;
-use std::sync::ledger::Blank;
 use std::thread::Threads;
 use std::time::Clock;
 
@@ -45,9 +43,7 @@ where
         + Sync,
 {
     let OpenStore { store, folder } = opened(rt, alloc, line);
-    let options = options_of(rt, alloc, line);
-    let left = serve_scene::<Brand, _, _>(rt, alloc, Blank::new(65_536), store, options, scene);
-    let (_, _, slots) = left.into_parts();
+    let (_, _, slots) = serve_scene(rt, alloc, store, line, scene).into_parts();
     assert!(rt; slots.is_some(), "{line}: the slots are gone");
     drop(folder);
 }
@@ -150,6 +146,37 @@ where
     let (later, _) = expect_checkpoint(rt, alloc, CHECK_0);
     assert!(rt; newest < later);
     let _ = fs::remove_dir_all(rt, FOLDER);
+}
+
+// Whether these are a pair of tenant 7 and one of tenant 8, both of the key `k`.
+fn are_of_both(pairs: &[TenantPair]) -> bool {
+    match pairs {
+        [one, other] => {
+            (one.tenant, other.tenant) == (7, 8)
+                && one.key.as_bytes() == b"k".as_slice()
+                && other.key.as_bytes() == b"k".as_slice()
+        }
+        _ => false,
+    }
+}
+
+// Two tenants with different quotas put through one server each. The turn of the second server writes a checkpoint of both pairs,
+// and the next servers find them.
+#[test]
+fn a_checkpoint_has_the_pairs_of_all_tenants(rt: HostRuntime) {
+    let alloc = rt.alloc();
+    let _ = fs::remove_dir_all(&rt, "mt_server_tests_tenants");
+    let again =
+        "mt_server --workers 1 --store mt_server_tests_tenants --checkpoint 1 --sessions 1 7:100 8:1";
+    let new = format!(in alloc; "{again} --create").expect(&rt, "memory");
+    serve(&rt, alloc, new.as_str(), Scene::Settles);
+    serve(&rt, alloc, again, Scene::SettlesAs8);
+    let found = checkpoint_in(&rt, alloc, "mt_server_tests_tenants/check-1").expect(&rt, "a file");
+    let checkpoint = found.expect(&rt, "a checkpoint");
+    assert!(rt; are_of_both(checkpoint.pairs.as_slice()));
+    serve(&rt, alloc, again, Scene::Reads);
+    serve(&rt, alloc, again, Scene::ReadsAs8);
+    let _ = fs::remove_dir_all(&rt, "mt_server_tests_tenants");
 }
 
 // Twice what is put between two turns, at 21 bytes each.

@@ -7,12 +7,21 @@ use std::time::Duration;
 /// Tenant 7 is opened.
 pub(crate) const OPEN: &[u8] = b"\x00\x00\x00\x05\x01\x00\x00\x00\x07";
 
+/// Tenant 8 is opened.
+pub(crate) const OPEN_8: &[u8] = b"\x00\x00\x00\x05\x01\x00\x00\x00\x08";
+
 pub(crate) const OPENED: &[u8] = b"\x00\x00\x00\x01\x00";
 
 /// `v` is put under `k`, where nothing was.
 pub(crate) const PUT: &[u8] = b"\x00\x00\x00\x09\x03\x00\x01k\x01\x00\x00\x01v";
 
+/// `v` is put under `l`, where nothing was.
+pub(crate) const PUT_L: &[u8] = b"\x00\x00\x00\x09\x03\x00\x01l\x01\x00\x00\x01v";
+
 pub(crate) const NEW: &[u8] = b"\x00\x00\x00\x01\x03";
+
+/// The quota has no room for it.
+pub(crate) const FULL: &[u8] = b"\x00\x00\x00\x01\x08";
 
 /// `k` is asked for, and `v` stands there.
 pub(crate) const GET: &[u8] = b"\x00\x00\x00\x05\x02\x00\x01k\x00";

@@ -9,10 +9,8 @@ use mt_service::{OpenStore, open_store};
 use std::alloc::{AllocError, Global};
 use std::fs::{self, File};
 use std::io;
-use std::marker::Brand;
 use std::process::Abort;
 use std::rt::Files;
-use std::sync::ledger::Blank;
 use std::test::Fail;
 use std::time::Clock;
 
@@ -432,10 +430,7 @@ fn a_store_comes_back_from_its_files(rt: HostRuntime) {
     let _ = fs::remove_dir_all(&rt, "mt_server_tests_files");
     let new = "mt_server --workers 1 --store mt_server_tests_files --create 7:100";
     let OpenStore { store, folder } = opened(&rt, alloc, new);
-    let options = options_of(&rt, alloc, ONE_SESSION);
-    let blank = Blank::new(65_536);
-    let left = serve_scene::<Brand, _, _>(&rt, alloc, blank, store, options, Scene::Settles);
-    drop(left);
+    drop(serve_scene(&rt, alloc, store, ONE_SESSION, Scene::Settles));
     drop(folder);
     expect_log(&rt, &[LOG]);
     for path in BESIDE_THE_LOG {
@@ -448,10 +443,7 @@ fn a_store_comes_back_from_its_files(rt: HostRuntime) {
     for path in BESIDE_THE_LOG {
         expect_file(&rt, path, &[SPARE]);
     }
-    let options = options_of(&rt, alloc, ONE_SESSION);
-    let blank = Blank::new(65_536);
-    let left = serve_scene::<Brand, _, _>(&rt, alloc, blank, store, options, Scene::Reads);
-    drop(left);
+    drop(serve_scene(&rt, alloc, store, ONE_SESSION, Scene::Reads));
     drop(folder);
     let _ = fs::remove_dir_all(&rt, "mt_server_tests_files");
 }

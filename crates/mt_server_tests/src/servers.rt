@@ -1,85 +1,20 @@
 //! Whole servers, with their clients in threads of the same process.
 
-ghost use Rattle.std.specs.Prelude.{◌≡◌};
-
 use crate::clients::{
     ABSENT, BAD, BAD_FRAME, FOUND, GET, NEW, NO_PAIRS, ONE_PAIR, OPEN, OPENED, PUT, REMOVE,
     REMOVED, SCAN, are_told, connected, is_at_end, is_told, is_told_behind,
 };
-use crate::stores::store_without_logs;
-use crate::words::options_of;
+use crate::stores::{serve_beside, store_without_logs};
 use log::Log;
-use mt_disk::MemDisk;
-use mt_options::Options;
-use mt_service::{ServerFault, run_server};
-use mt_stored::{NoDigests, Store};
+use mt_service::ServerFault;
 use std::alloc::Global;
-use std::marker::{Brand, Send, Sync};
+use std::io;
+use std::marker::Sync;
 use std::net::{Net, TcpListener, TcpStream};
 use std::process::Abort;
 use std::sync::Wait;
-use std::sync::ledger::{Blank, Ledger};
 use std::thread::Threads;
 use std::time::Clock;
-use std::{io, thread};
-
-// Serves to the end; what the server wrote, and how many sessions ended otherwise than closed.
-fn serve_all<L: Ledger + Send + Sync, R: Threads + Wait + Clock + Log + Sync>(
-    rt: &R,
-    alloc: Global,
-    blank: Blank,
-    listener: TcpListener,
-    options: &Options,
-    store: Store<MemDisk>,
-) -> Option<(Vec<u8>, u64)>
-    requires name { blank.name ≡ L.name }
-    requires parts { (blank.parts ≡ L.parts) × (L.parts ≡ 65536) }
-    requires untaken { store.source.state.answers ≡ 0 }
-{
-    let mut out = Vec::new(alloc);
-    match run_server::<L, R, Vec<u8>, MemDisk, NoDigests>(
-        rt,
-        alloc,
-        blank,
-        listener,
-        options,
-        store,
-        NoDigests {},
-        &mut out,
-    ) {
-        Ok(ending) => Some((out, ending.others)),
-        Err(_) => None,
-    }
-}
-
-// Serves till the listener fails; what the server wrote.
-fn serve_till_it_fails<L: Ledger + Send + Sync, R: Threads + Wait + Clock + Log + Sync>(
-    rt: &R,
-    alloc: Global,
-    blank: Blank,
-    listener: TcpListener,
-    options: &Options,
-    store: Store<MemDisk>,
-) -> Option<Vec<u8>>
-    requires name { blank.name ≡ L.name }
-    requires parts { (blank.parts ≡ L.parts) × (L.parts ≡ 65536) }
-    requires untaken { store.source.state.answers ≡ 0 }
-{
-    let mut out = Vec::new(alloc);
-    match run_server::<L, R, Vec<u8>, MemDisk, NoDigests>(
-        rt,
-        alloc,
-        blank,
-        listener,
-        options,
-        store,
-        NoDigests {},
-        &mut out,
-    ) {
-        Err(ServerFault::Socket(_)) => Some(out),
-        _ => None,
-    }
-}
 
 // What the server wrote is where it listens, and then this.
 fn expect_text<R: Abort>(rt: &R, alloc: Global, port: u16, written: &[u8], last: &str) {
@@ -104,6 +39,8 @@ enum Scene {
     Scan,
     /// One leaves with a reply unread, so that its connection is reset.
     Reset,
+    /// The listener fails after two of three connections, and still both are answered to their end.
+    Deserted,
 }
 
 // Plays a scene; whether each client was told what it should be.
@@ -119,7 +56,10 @@ fn play(scene: Scene, first: TcpStream, second: TcpStream) -> io::Result<bool> {
 // Whether the first client is told what it should be, and in one scene the second one beside it.
 fn begins(scene: Scene, first: &TcpStream, second: &TcpStream) -> io::Result<bool> {
     match scene {
-        Scene::InTurn => are_told(first, &[(OPEN, OPENED), (PUT, NEW), (GET, FOUND)]),
+        Scene::InTurn | Scene::Deserted => are_told(
+            first,
+            &[(OPEN, OPENED), (PUT, NEW), (GET, FOUND)],
+        ),
         Scene::AtOnce => Ok(
             is_told(first, OPEN, OPENED)?
                 && are_told(second, &[(OPEN, OPENED), (PUT, NEW), (GET, FOUND)])?
@@ -158,23 +98,24 @@ fn begins(scene: Scene, first: &TcpStream, second: &TcpStream) -> io::Result<boo
 fn ends(scene: Scene, second: &TcpStream) -> io::Result<bool> {
     match scene {
         Scene::AtOnce => Ok(true),
-        Scene::InTurn => are_told(second, &[(OPEN, OPENED), (GET, FOUND)]),
+        Scene::InTurn | Scene::Deserted => are_told(second, &[(OPEN, OPENED), (GET, FOUND)]),
         _ => are_told(second, &[(OPEN, OPENED), (GET, ABSENT)]),
     }
 }
 
 impl Scene {
-    // The words of its server, the end of the output, and how many sessions end otherwise than
-    // closed.
-    fn ends(self) -> (&'static str, &'static str, u64) {
+    // The words of its server, the end of the output, and how many sessions end otherwise than closed, unless the listener
+    // fails.
+    fn ends(self) -> (&'static str, &'static str, Option<u64>) {
         match self {
-            Scene::InTurn | Scene::AtOnce => (TWO_WORKERS, "sessions 2 answers 3\n", 0),
-            Scene::Removal => (TWO_WORKERS, "sessions 2 answers 4\n", 0),
-            Scene::Scan => (TWO_WORKERS, "sessions 2 answers 5\n", 0),
+            Scene::InTurn | Scene::AtOnce => (TWO_WORKERS, "sessions 2 answers 3\n", Some(0)),
+            Scene::Removal => (TWO_WORKERS, "sessions 2 answers 4\n", Some(0)),
+            Scene::Scan => (TWO_WORKERS, "sessions 2 answers 5\n", Some(0)),
+            Scene::Deserted => (THREE_SESSIONS, "", None),
             Scene::BadFrame | Scene::MidFrame | Scene::Reset => (
                 ONE_WORKER,
                 "sessions 2 answers 1\n",
-                1,
+                Some(1),
             ),
         }
     }
@@ -187,7 +128,7 @@ const ONE_WORKER: &str = "mt_server --port 0 --workers 1 --sessions 2 7:100";
 const THREE_SESSIONS: &str = "mt_server --port 0 --workers 2 --sessions 3 7:100";
 
 // A server and its clients, who are all told what they should be, and so is the output.
-fn serve_scene<L: Ledger + Send + Sync, R>(rt: &R, alloc: Global, blank: Blank, scene: Scene)
+fn serve_scene<R>(rt: &R, alloc: Global, scene: Scene)
 where
     R: Net<Listener = TcpListener, Stream = TcpStream>
         + Threads
@@ -196,69 +137,36 @@ where
         + Log
         + Abort
         + Sync,
-    requires name { blank.name ≡ L.name }
-    requires parts { (blank.parts ≡ L.parts) × (L.parts ≡ 65536) }
 {
     let (line, last, others) = scene.ends();
     let (listener, port, first, second) = connected(rt).expect(rt, "a socket");
-    let options = options_of(rt, alloc, line);
-    let store = store_without_logs(rt, alloc);
-    let (served, played) = thread::join(
-        rt,
-        move ||
-            requires name { blank.name ≡ L.name }
-            requires parts { (blank.parts ≡ L.parts) × (L.parts ≡ 65536) }
-            requires untaken { store.source.state.answers ≡ 0 }
-        { serve_all::<L, R>(rt, alloc, blank, listener, &options, store) },
-        move || play(scene, first, second),
-    );
-    assert!(rt; played.expect(rt, "a socket"), "{last}");
-    let (written, ended) = served.expect(rt, "the server ends well");
-    expect_text(rt, alloc, port, written.as_slice(), last);
-    assert_eq!(rt; ended, others, "{last}");
-}
-
-// A server whose listener fails after two of three connections, and still answers both to their end.
-fn fail_behind_two<L: Ledger + Send + Sync, R>(rt: &R, alloc: Global, blank: Blank)
-where
-    R: Net<Listener = TcpListener, Stream = TcpStream>
-        + Threads
-        + Wait
-        + Clock
-        + Log
-        + Abort
-        + Sync,
-    requires name { blank.name ≡ L.name }
-    requires parts { (blank.parts ≡ L.parts) × (L.parts ≡ 65536) }
-{
-    let (listener, port, first, second) = connected(rt).expect(rt, "a socket");
     // An accept then fails if nobody waits.
-    assert!(rt; listener.set_nonblocking(true).is_ok());
-    let options = options_of(rt, alloc, THREE_SESSIONS);
+    assert!(rt; listener.set_nonblocking(others.is_none()).is_ok());
     let store = store_without_logs(rt, alloc);
-    let (served, played) = thread::join(
-        rt,
-        move ||
-            requires name { blank.name ≡ L.name }
-            requires parts { (blank.parts ≡ L.parts) × (L.parts ≡ 65536) }
-            requires untaken { store.source.state.answers ≡ 0 }
-        { serve_till_it_fails::<L, R>(rt, alloc, blank, listener, &options, store) },
-        move || play(Scene::InTurn, first, second),
-    );
-    assert!(rt; played.expect(rt, "a socket"));
-    let written = served.expect(rt, "the listener fails");
-    expect_text(rt, alloc, port, written.as_slice(), "");
+    let (written, end) = serve_beside(rt, alloc, listener, line, store, move || {
+        play(scene, first, second)
+    });
+    expect_text(rt, alloc, port, &written, last);
+    let ended = match end {
+        Ok(ending) => Some(ending.others),
+        Err(ServerFault::Socket(_)) => None,
+        Err(fault) => panic!(rt; "{last}: {fault}"),
+    };
+    assert_eq!(rt; ended, others, "{last}");
 }
 
 #[test]
 fn servers_serve_their_clients(rt: HostRuntime) {
-    let alloc = rt.alloc();
-    serve_scene::<Brand, _>(&rt, alloc, Blank::new(65_536), Scene::InTurn);
-    serve_scene::<Brand, _>(&rt, alloc, Blank::new(65_536), Scene::AtOnce);
-    serve_scene::<Brand, _>(&rt, alloc, Blank::new(65_536), Scene::BadFrame);
-    serve_scene::<Brand, _>(&rt, alloc, Blank::new(65_536), Scene::MidFrame);
-    serve_scene::<Brand, _>(&rt, alloc, Blank::new(65_536), Scene::Removal);
-    serve_scene::<Brand, _>(&rt, alloc, Blank::new(65_536), Scene::Scan);
-    serve_scene::<Brand, _>(&rt, alloc, Blank::new(65_536), Scene::Reset);
-    fail_behind_two::<Brand, _>(&rt, alloc, Blank::new(65_536));
+    for scene in [
+        Scene::InTurn,
+        Scene::AtOnce,
+        Scene::BadFrame,
+        Scene::MidFrame,
+        Scene::Removal,
+        Scene::Scan,
+        Scene::Reset,
+        Scene::Deserted,
+    ] {
+        serve_scene(&rt, rt.alloc(), scene);
+    }
 }

@@ -4,17 +4,18 @@ ghost use Rattle.std.specs.Prelude.{◌≡◌, ◌<◌, ◌≤◌, vec_len};
 ghost use Rattle.mt_state.specs.Begins.{HaveNoPairs};
 
 use crate::clients::{
-    DEVICE, FOUND, FOUND_BOTH, GET, NEW, OPEN, OPENED, PUT, PUT_AT_5, PUT_OTHER, REPLACED, SETTLE,
-    SETTLED_6, SETTLED_LAST, SPENT, STALE_10, are_told, connect, is_settled, is_told,
+    DEVICE, FOUND, FOUND_BOTH, FULL, GET, NEW, OPEN, OPEN_8, OPENED, PUT, PUT_AT_5, PUT_L,
+    PUT_OTHER, REPLACED, SETTLE, SETTLED_6, SETTLED_LAST, SPENT, STALE_10, are_told, connect,
+    is_settled, is_told,
 };
 use crate::words::options_of;
 use log::Log;
+use mt_book::Names;
 use mt_disk::{Disk, MemDisk};
 use mt_log_files::WorkerFiles;
-use mt_options::Options;
 use mt_recover::LogSlot;
 use mt_rows::Tenants;
-use mt_service::run_server;
+use mt_service::{Ending, ServerFault, run_server};
 use mt_slots::StoreSlots;
 use mt_store_logs::StoreLog;
 use mt_stored::{NoDigests, Store};
@@ -24,7 +25,6 @@ use std::marker::{Brand, Send, Sync};
 use std::net::{Net, TcpListener, TcpStream};
 use std::process::Abort;
 use std::sync::Wait;
-use std::sync::ledger::{Blank, Ledger};
 use std::thread::Threads;
 use std::time::{Clock, Duration};
 use std::{io, thread};
@@ -173,6 +173,10 @@ pub(crate) enum Scene {
     FindsAllSpent,
     /// It puts, and after a while it puts another column.
     PutsAfterAWhile,
+    /// As tenant 8 it puts and settles.
+    SettlesAs8,
+    /// As tenant 8, which may have one pair, it reads what was put before, and puts no other pair.
+    ReadsAs8,
 }
 
 // Plays a scene; whether the client was told what it should be.
@@ -213,6 +217,10 @@ fn play(scene: Scene, client: TcpStream) -> io::Result<bool> {
                 (SETTLE, SETTLED_LAST),
             ],
         ),
+        Scene::SettlesAs8 => {
+            Ok(are_told(&client, &[(OPEN_8, OPENED), (PUT, NEW)])? && is_settled(&client)?)
+        }
+        Scene::ReadsAs8 => are_told(&client, &[(OPEN_8, OPENED), (GET, FOUND), (PUT_L, FULL)]),
         Scene::PutsAfterAWhile => Ok(
             are_told(&client, &[(OPEN, OPENED), (PUT, NEW)])?
                 && waits(&client)?
@@ -244,55 +252,61 @@ fn overwrites(client: &TcpStream, times: u8) -> io::Result<bool> {
     Ok(true)
 }
 
-// Serves to the end; the store that is left.
-pub(crate) fn serve_all<
-    L: Ledger + Send + Sync,
-    R: Threads + Wait + Clock + Log + Sync,
-    D: Disk + Drop + Send,
->(
+/// What a server wrote, and how it ended.
+pub(crate) type Served<D> = (Vec<u8>, Result<Ending<D>, ServerFault>);
+
+// Serves to the end, with the options of a line.
+fn serve_all<R: Threads + Wait + Clock + Log + Abort + Sync, D: Disk + Drop + Send>(
     rt: &R,
     alloc: Global,
-    blank: Blank,
     listener: TcpListener,
-    options: &Options,
+    line: &str,
     store: Store<D>,
-) -> Option<Store<D>>
-    requires name { blank.name ≡ L.name }
-    requires parts { (blank.parts ≡ L.parts) × (L.parts ≡ 65536) }
-    requires untaken { store.source.state.answers ≡ 0 }
+) -> Served<D>
+    requires { store.source.state.answers ≡ 0 }
 {
+    let options = options_of(rt, alloc, line);
+    let names = Names::new(store.state());
     let mut out = Vec::new(alloc);
-    match run_server::<L, R, Vec<u8>, D, NoDigests>(
+    let end = run_server::<Brand, Brand, R, Vec<u8>, D, NoDigests>(
         rt,
         alloc,
-        blank,
+        names,
         listener,
-        options,
+        &options,
         store,
         NoDigests {},
         &mut out,
-    ) {
-        Ok(ending) => Some(ending.store),
-        Err(_) => None,
-    }
+    );
+    (out, end)
 }
 
-// A listener, and a client that is connected to it.
-fn one_connected<R: Net<Listener = TcpListener, Stream = TcpStream>>(
-    rt: &R,
-) -> io::Result<(TcpListener, TcpStream)> {
-    let listener = TcpListener::bind(rt, ("127.0.0.1", 0u16))?;
-    let client = connect(rt, listener.local_addr()?.port())?;
-    Ok((listener, client))
+/// A server over a store with the options of a line, while its clients play, who are told what they should be.
+pub(crate) fn serve_beside<
+    R: Threads + Wait + Clock + Log + Abort + Sync,
+    D: Disk + Drop + Send,
+    F: FnOnce() -> io::Result<bool>,
+>(rt: &R, alloc: Global, listener: TcpListener, line: &str, store: Store<D>, play: F) -> Served<D>
+    requires untaken { store.source.state.answers ≡ 0 }
+    requires plays { F.pre play }
+{
+    let (served, played) = thread::join(
+        rt,
+        move ||
+            requires untaken { store.source.state.answers ≡ 0 }
+        { serve_all(rt, alloc, listener, line, store) },
+        play,
+    );
+    assert!(rt; played.expect(rt, "a socket"), "{line}");
+    served
 }
 
-// A server over a store with these options, and its client, who is told what it should be; the store that is left.
-pub(crate) fn serve_scene<L: Ledger + Send + Sync, R, D: Disk + Drop + Send>(
+/// A server over a store, and its only client, who plays a scene; the store that is left.
+pub(crate) fn serve_scene<R, D: Disk + Drop + Send>(
     rt: &R,
     alloc: Global,
-    blank: Blank,
     store: Store<D>,
-    options: Options,
+    line: &str,
     scene: Scene,
 ) -> Store<D>
 where
@@ -303,22 +317,20 @@ where
         + Log
         + Abort
         + Sync,
-    requires name { blank.name ≡ L.name }
-    requires parts { (blank.parts ≡ L.parts) × (L.parts ≡ 65536) }
-    requires untaken { store.source.state.answers ≡ 0 }
+    requires { store.source.state.answers ≡ 0 }
 {
-    let (listener, client) = one_connected(rt).expect(rt, "a socket");
-    let (served, played) = thread::join(
+    let listener = TcpListener::bind(rt, ("127.0.0.1", 0u16)).expect(rt, "a socket");
+    let port = listener.local_addr().expect(rt, "a socket").port();
+    let client = connect(rt, port).expect(rt, "a socket");
+    let (_, end) = serve_beside(
         rt,
-        move ||
-            requires name { blank.name ≡ L.name }
-            requires parts { (blank.parts ≡ L.parts) × (L.parts ≡ 65536) }
-            requires untaken { store.source.state.answers ≡ 0 }
-        { serve_all::<L, R, D>(rt, alloc, blank, listener, &options, store) },
+        alloc,
+        listener,
+        line,
+        store,
         move || play(scene, client),
     );
-    assert!(rt; played.expect(rt, "a socket"));
-    served.expect(rt, "the server ends well")
+    end.expect(rt, "the server ends well").store
 }
 
 // A settled put is in the log, also one that nobody settled: the server settles at its end. A disk that
@@ -336,9 +348,7 @@ fn what_was_put_is_in_the_log(rt: HostRuntime) {
     ];
     for (scene, fail) in scenes {
         let store = new_store(&rt, alloc, 1, &[fail]);
-        let options = options_of(&rt, alloc, ONE_SESSION);
-        let blank = Blank::new(65_536);
-        let left = serve_scene::<Brand, _, _>(&rt, alloc, blank, store, options, scene);
+        let left = serve_scene(&rt, alloc, store, ONE_SESSION, scene);
         assert_eq!(rt; image_of(&rt, alloc, left).as_slice(), LOG, "{fail}");
     }
 }
@@ -350,9 +360,7 @@ fn a_server_settles_by_the_clock(rt: HostRuntime) {
     let store = new_store(&rt, alloc, 1, &[]);
     let line =
         "mt_server --port 0 --workers 1 --sessions 1 --store in_memory --settle-every 5 7:100";
-    let options = options_of(&rt, alloc, line);
-    let scene = Scene::PutsAfterAWhile;
-    let left = serve_scene::<Brand, _, _>(&rt, alloc, Blank::new(65_536), store, options, scene);
+    let left = serve_scene(&rt, alloc, store, line, Scene::PutsAfterAWhile);
     let image = image_of(&rt, alloc, left);
     let first = LOG.split_last().map(|(_, front)| front).unwrap_or(&[]);
     assert!(rt; image.starts_with(first) && image.len() > LOG.len());
@@ -366,9 +374,7 @@ fn what_was_put_is_there_again_and_numbers_stay_given(rt: HostRuntime) {
         let mut image = log.to_vec(alloc).expect(&rt, "memory");
         for _ in 0..2u32 {
             let store = recovered(&rt, alloc, &image);
-            let options = options_of(&rt, alloc, ONE_SESSION);
-            let blank = Blank::new(65_536);
-            let left = serve_scene::<Brand, _, _>(&rt, alloc, blank, store, options, scene);
+            let left = serve_scene(&rt, alloc, store, ONE_SESSION, scene);
             let grown = image_of(&rt, alloc, left);
             let batches = image.split_last().map(|(_, front)| front).unwrap_or(&[]);
             assert!(rt; grown.starts_with(batches) && grown.len() > image.len());
@@ -385,9 +391,7 @@ fn a_log_of_the_old_format_is_carried_on(rt: HostRuntime) {
     let mut image = OLD_LOG.to_vec(alloc).expect(&rt, "memory");
     for scene in [Scene::PutsAnother, Scene::ReadsBoth] {
         let store = recovered(&rt, alloc, &image);
-        let options = options_of(&rt, alloc, ONE_SESSION);
-        let blank = Blank::new(65_536);
-        let left = serve_scene::<Brand, _, _>(&rt, alloc, blank, store, options, scene);
+        let left = serve_scene(&rt, alloc, store, ONE_SESSION, scene);
         image = image_of(&rt, alloc, left);
         assert!(rt; image.starts_with(&OLD_LOG[..54]));
     }
@@ -399,10 +403,6 @@ fn a_stamp_is_met_after_a_start(rt: HostRuntime) {
     let alloc = rt.alloc();
     for log in [LOG, OLD_LOG] {
         let store = recovered(&rt, alloc, log);
-        let options = options_of(&rt, alloc, ONE_SESSION);
-        let blank = Blank::new(65_536);
-        let scene = Scene::MeetsStamp;
-        let left = serve_scene::<Brand, _, _>(&rt, alloc, blank, store, options, scene);
-        drop(left);
+        drop(serve_scene(&rt, alloc, store, ONE_SESSION, Scene::MeetsStamp));
     }
 }

@@ -1,28 +1,19 @@
-//! A server of two workers, with a log and a client each.
+//! Servers of two workers, with a log and a client each, and of eight.
 
-ghost use Rattle.std.specs.Prelude.{◌≡◌};
-
-use crate::clients::{FOUND, GET, NEW, OPEN, OPENED, PUT, connected, is_settled, is_told};
+use crate::clients::{
+    ABSENT, FOUND, GET, NEW, OPEN, OPENED, PUT, PUT_L, connect, connected, is_settled, is_told,
+};
 use crate::servers::TWO_WORKERS;
-use crate::stores::{disk_with, image_in, new_store, serve_all};
-use crate::words::options_of;
-use log::Log;
+use crate::stores::{disk_with, image_in, new_store, serve_beside};
 use mt_disk::MemDisk;
 use mt_log::{BatchReader, FileKind, LogFile, ReadBatch};
 use mt_store_logs::StoreLog;
-use mt_stored::Store;
 use std::alloc::{AllocError, Global};
 use std::io;
-use std::marker::{Brand, Send, Sync};
-use std::net::{Net, TcpListener, TcpStream};
+use std::net::TcpStream;
 use std::process::Abort;
-use std::sync::Wait;
-use std::sync::ledger::{Blank, Ledger};
+use std::test::Fail;
 use std::thread::{self, Threads};
-use std::time::Clock;
-
-/// `v` is put under `l`, where nothing was.
-const PUT_L: &[u8] = b"\x00\x00\x00\x09\x03\x00\x01l\x01\x00\x00\x01v";
 
 /// `l` is asked for.
 const GET_L: &[u8] = b"\x00\x00\x00\x05\x02\x00\x01l\x00";
@@ -73,42 +64,48 @@ fn push_keys(keys: &mut Vec<u8>, read: &ReadBatch) -> Result<(), AllocError> {
     Ok(())
 }
 
-fn serve_two<L: Ledger + Send + Sync, R>(rt: &R, alloc: Global, blank: Blank) -> Store<MemDisk>
-where
-    R: Net<Listener = TcpListener, Stream = TcpStream>
-        + Threads
-        + Wait
-        + Clock
-        + Log
-        + Abort
-        + Sync,
-    requires name { blank.name ≡ L.name }
-    requires parts { (blank.parts ≡ L.parts) × (L.parts ≡ 65536) }
-{
-    let (listener, _, first, second) = connected(rt).expect(rt, "a socket");
-    let options = options_of(rt, alloc, TWO_WORKERS);
-    let store = new_store(rt, alloc, 2, &[]);
-    let (served, played) = thread::join(
-        rt,
-        move ||
-            requires name { blank.name ≡ L.name }
-            requires parts { (blank.parts ≡ L.parts) × (L.parts ≡ 65536) }
-            requires untaken { store.source.state.answers ≡ 0 }
-        { serve_all::<L, R, MemDisk>(rt, alloc, blank, listener, &options, store) },
-        move || play(rt, first, second),
-    );
-    assert!(rt; played.expect(rt, "a socket"));
-    served.expect(rt, "the server ends well")
-}
-
 #[test]
 fn each_worker_has_a_log_of_its_own(rt: HostRuntime) {
     let alloc = rt.alloc();
-    let store = serve_two::<Brand, _>(&rt, alloc, Blank::new(65_536));
-    let (_, logs, _) = store.into_parts();
+    let (listener, _, first, second) = connected(&rt).expect(&rt, "a socket");
+    let store = new_store(&rt, alloc, 2, &[]);
+    let (_, end) = serve_beside(&rt, alloc, listener, TWO_WORKERS, store, move || {
+        play(&rt, first, second)
+    });
+    let (_, logs, _) = end.expect(&rt, "the server ends well").store.into_parts();
     assert_eq!(&rt; logs.len(), 2);
     let (first, second) = (told_of(&rt, alloc, &logs[0]), told_of(&rt, alloc, &logs[1]));
     let told = (first.as_slice(), second.as_slice());
     let crossed = told == (b"\x00l".as_slice(), b"\x01k".as_slice());
     assert!(&rt; crossed || told == (b"\x00k".as_slice(), b"\x01l".as_slice()));
+}
+
+// Opens the sessions of all clients before the first of them asks for more; whether each is told what it should be.
+fn are_answered(clients: &[TcpStream]) -> io::Result<bool> {
+    let mut is_right = true;
+    for client in clients {
+        is_right = is_told(client, OPEN, OPENED)? && is_right;
+    }
+    for client in clients {
+        is_right = is_told(client, GET, ABSENT)? && is_settled(client)? && is_right;
+    }
+    Ok(is_right)
+}
+
+// Eight sessions are open at once, so each has a worker of its own.
+#[test]
+fn eight_workers_answer_all_their_sessions(rt: HostRuntime) -> Result<(), Fail> {
+    let alloc = rt.alloc();
+    let (listener, port, first, second) = connected(&rt)?;
+    let mut clients = vec![in alloc; first, second]?;
+    for _ in 2..8u8 {
+        clients.push(connect(&rt, port)?)?;
+    }
+    let line = "mt_server --port 0 --workers 8 --sessions 8 7:100";
+    let store = new_store(&rt, alloc, 8, &[]);
+    let (_, end) = serve_beside(&rt, alloc, listener, line, store, move || {
+        are_answered(&clients)
+    });
+    assert!(rt; end.is_ok_and(|ending| ending.others == 0));
+    Ok(())
 }

@@ -12,6 +12,14 @@ pub record AreOfWorker (logs place pass keeper : ℕ) : Type 0 where
   pub pass_is : pass ≡ number_of logs place
   pub keeper_is : keeper ≡ number_of logs place
 
+-- what a worker asks, and what it keeps its answers in, is of the server's book, logs and turns, and it serves the server's tenants
+pub record IsWired {B K T Q : Type 0} (book : B) (logs : K) (turns : T) (tenants : Q) (asked kept_of : B) (kept_in : K) (counted_in : T) (served : Q) : Type 0 where
+  pub desk : asked ≡ book
+  pub keeper : kept_of ≡ book
+  pub logs_are : kept_in ≡ logs
+  pub turns_are : counted_in ≡ turns
+  pub tenants_are : served ≡ tenants
+
 -- P of each element of a list, with its place
 abbrev pub EachAt : {X : Type 0} → List X → (ℕ → X → Type 0) → Type 0
 EachAt {X} xs P = (place : ℕ) (x : X) → slice_get xs place ≡ Some x → P place x

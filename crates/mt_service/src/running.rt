@@ -1,11 +1,11 @@
 //! The server: from a listener to the sum of its answers.
 
 ghost use Rattle.std.specs.{Prelude.{◌≡◌, ◌+◌, ◌<◌, ◌^◌, IfOk, IfErr, OnOk, OnErr, length, vec_len}, List.sum_by, Io.KnownBytes.Appends};
-ghost use Rattle.mt_book.specs.declared.passes.Pass.{Pass};
+ghost use Rattle.mt_book.specs.{declared.passes.Pass.Pass, Names.AreNames};
 ghost use Rattle.mt_crew.specs.declared.crew.Served.{Served};
 ghost use Rattle.mt_streams.specs.Failures.{Failed, NoFewer};
 ghost use Rattle.mt_service.specs.{declared.workers.SessionWorker.SessionWorker, Faults.{IsOfWriting, IsOfServing, HasCause}};
-ghost use Rattle.mt_service.specs.{Workers.{every_of, bytes_of, number_of, AreOfWorker, EachAt}, Lines.{first_line, last_line, Begins, SaysAll, SaysPart}};
+ghost use Rattle.mt_service.specs.{Workers.{every_of, bytes_of, number_of, AreOfWorker, IsWired, EachAt}, Lines.{first_line, last_line, Begins, SaysAll, SaysPart}};
 ghost use Rattle.mt_stored.specs.{Stores.IsSettled, Checks.IsAtFirst};
 
 use crate::callers::DeskCaller;
@@ -14,9 +14,10 @@ use crate::turners::Turner;
 use crate::turns::Turns;
 use crate::workers::SessionWorker;
 use log::Log;
-use mt_book::{Book, BookLock, Desk, Pass, gather, open_pass};
+use mt_book::{BookLock, Clerk, Desk, Kept, Names, Pass, gather, open_clerk, open_pass};
 use mt_crew::{Crew, CrewFault, Served, Worker, others_of, run_crew};
 use mt_disk::Disk;
+use mt_history::Naming;
 use mt_options::{Options, TenantQuota};
 use mt_session::SessionBuffers;
 use mt_settle::Logs;
@@ -27,7 +28,7 @@ use mt_streams::{Sink, write_whole};
 use std::alloc::{AllocError, Global};
 use std::marker::{Send, Sync};
 use std::net::TcpListener;
-use std::sync::ledger::{Blank, Ledger};
+use std::sync::ledger::Ledger;
 use std::sync::{Mutex, Wait};
 use std::thread::{self, Threads};
 use std::time::Clock;
@@ -52,10 +53,10 @@ pub struct Ending<D: Disk + Drop> {
 /// settled once more, also if the listener failed.
 ///
 /// Who keeps digests is asked to in each turn. After an error the output has a beginning of these two lines.
-pub fn run_server<L, R, W, D, G>(
+pub fn run_server<L, J, R, W, D, G>(
     rt: &R,
     alloc: Global,
-    blank: Blank,
+    names: Names,
     listener: TcpListener,
     options: &Options,
     store: Store<D>,
@@ -64,12 +65,12 @@ pub fn run_server<L, R, W, D, G>(
 ) -> Result<Ending<D>, ServerFault>
 where
     L: Ledger + Send + Sync,
+    J: Naming + Send + Sync,
     R: Threads + Wait + Clock + Log + Sync,
     W: Sink,
     D: Disk + Drop + Send,
     G: Digests + Drop + Send,
-    requires name { blank.name ≡ L.name }
-    requires parts { (blank.parts ≡ L.parts) × (L.parts ≡ 65536) }
+    requires names { AreNames L.name L.parts J.name J.parts J.book names store.source.state }
     requires untaken { store.source.state.answers ≡ 0 }
     ensures ok { OnOk result (SaysAll (W.contents out.old) (W.contents out.new) options.now.sessions) }
     ensures settled { IfOk result (λ ending. IsSettled ending.store.source.state ending.store.logs.items) }
@@ -81,8 +82,8 @@ where
         Err(error) => return Err(ServerFault::Socket(error)),
     };
     say_first(alloc, out, port)?;
-    let (Totals { answers, others }, store) = serve_store::<L, R, D, G>(
-        rt, alloc, blank, &listener, options, store, digests,
+    let (Totals { answers, others }, store) = serve_store::<L, J, R, D, G>(
+        rt, alloc, names, &listener, options, store, digests,
     )?;
     say_last(alloc, out, options.sessions, answers)?;
     Ok(Ending { others, store })
@@ -91,20 +92,20 @@ where
 // Serves the listener's connections from a store, and settles it.
 fn serve_store<
     L: Ledger + Send + Sync,
+    J: Naming + Send + Sync,
     R: Threads + Wait + Clock + Log + Sync,
     D: Disk + Drop + Send,
     G: Digests + Drop + Send,
 >(
     rt: &R,
     alloc: Global,
-    blank: Blank,
+    names: Names,
     listener: &TcpListener,
     options: &Options,
     store: Store<D>,
     digests: G,
 ) -> Result<(Totals, Store<D>), ServerFault>
-    requires name { blank.name ≡ L.name }
-    requires parts { (blank.parts ≡ L.parts) × (L.parts ≡ 65536) }
+    requires names { AreNames L.name L.parts J.name J.parts J.book names store.source.state }
     requires untaken { store.source.state.answers ≡ 0 }
     ensures settled { IfOk result (λ served. IsSettled served.1.source.state served.1.logs.items) }
     ensures fault { IfErr result IsOfServing }
@@ -112,7 +113,7 @@ fn serve_store<
     let (state, logs, slots) = store.into_parts();
     let logs = locked_logs(alloc, logs)?;
     let turns = Turns::new(checks_of(options, slots));
-    let book = BookLock::new(Book::<L>::new(blank, state));
+    let book = BookLock::new(Kept::<L, J>::new(names, state));
     let served = serve_all(rt, alloc, &book, &logs, &turns, listener, options, digests);
     let store = settled(rt, alloc, book, logs, turns.into_checks())?;
     Ok((served?, store))
@@ -131,10 +132,10 @@ fn checks_of<D: Disk + Drop>(options: &Options, slots: Option<StoreSlots<D>>) ->
 }
 
 // The store, of which nobody holds a lock any more, settled for the last time. Its slots are those of the checks.
-fn settled<L: Ledger, R: Wait + Clock + Log, D: Disk + Drop>(
+fn settled<L: Ledger, J: Naming, R: Wait + Clock + Log, D: Disk + Drop>(
     rt: &R,
     alloc: Global,
-    book: BookLock<L>,
+    book: BookLock<L, J>,
     logs: Vec<Mutex<StoreLog<D>>>,
     checks: Checks<D>,
 ) -> Result<Store<D>, ServerFault>
@@ -142,7 +143,7 @@ fn settled<L: Ledger, R: Wait + Clock + Log, D: Disk + Drop>(
     ensures fault { IfErr result IsOfServing }
 {
     let logs = unlocked_logs(alloc, logs)?;
-    let state = book.into_inner().into_state();
+    let state = book.into_inner().into_book().into_state();
     let Some(mut store) = Store::joined(state, logs, checks.into_slots()) else {
         return Err(ServerFault::Passes);
     };
@@ -200,13 +201,14 @@ pub(crate) fn say<W: Sink>(out: &mut W, line: &str) -> Result<(), ServerFault>
 // is made when the crew has ended, if one is due then.
 fn serve_all<
     L: Ledger + Send + Sync,
+    J: Naming + Send + Sync,
     R: Threads + Wait + Clock + Log + Sync,
     D: Disk + Drop + Send,
     G: Digests + Drop + Send,
 >(
     rt: &R,
     alloc: Global,
-    book: &BookLock<L>,
+    book: &BookLock<L, J>,
     logs: &[Mutex<StoreLog<D>>],
     turns: &Turns<D>,
     listener: &TcpListener,
@@ -268,29 +270,48 @@ fn serve_beside<
     )
 }
 
+// A worker's pass, a clerk for it, and the logs with a clerk of their own.
+fn opened<'a, L: Ledger, J: Naming, R: Wait + Clock, D: Disk + Drop>(
+    rt: &'a R,
+    book: &'a BookLock<L, J>,
+    logs: &'a [Mutex<StoreLog<D>>],
+    worker: u8,
+) -> Result<(Pass<L>, Clerk<'a, L, J>, SharedLogs<'a, L, J, R, D>), ServerFault>
+    ensures pass { IfOk result (λ r. (r.0.worker ≡ worker) × (r.0.seen ≡ 0) × (r.0.share.amount ≡ 0)) }
+    ensures clerk { IfOk result (λ r. (r.1.lock.now ≡ book.now) × (r.1.mark.made ≡ 1)) }
+    ensures logs { IfOk result (λ r. (r.2.logs.now ≡ logs.now) × (r.2.book.clerk.lock.now ≡ book.now) × (r.2.book.clerk.mark.made ≡ 0)) }
+    ensures fault { IfErr result IsOfServing }
+{
+    let Some((pass, clerk)) = open_pass(rt, book, worker) else {
+        return Err(ServerFault::Passes);
+    };
+    let Some(own) = open_clerk(rt, book) else {
+        return Err(ServerFault::Passes);
+    };
+    Ok((pass, clerk, SharedLogs::new(rt, own, logs)))
+}
+
 // The turner of a store, with a pass of its own: that of worker 0, since a scan changes nothing.
-fn turner_of<'a, L: Ledger, R: Wait + Clock, D: Disk + Drop, G: Digests + Drop>(
+fn turner_of<'a, L: Ledger, J: Naming, R: Wait + Clock, D: Disk + Drop, G: Digests + Drop>(
     rt: &'a R,
     alloc: Global,
-    book: &'a BookLock<L>,
+    book: &'a BookLock<L, J>,
     logs: &'a [Mutex<StoreLog<D>>],
     options: &'a Options,
     digests: G,
-) -> Result<Turner<'a, L, R, &'a BookLock<L>, SharedLogs<'a, L, D>, G>, ServerFault>
+) -> Result<Turner<'a, L, R, Clerk<'a, L, J>, SharedLogs<'a, L, J, R, D>, G>, ServerFault>
     ensures own { IfOk result (λ turner. (turner.pass.worker ≡ 0) × (turner.pass.share.amount ≡ 0)) }
+    ensures book { IfOk result (λ turner. (turner.desk.lock.now ≡ book.now) × (turner.logs.book.clerk.lock.now ≡ book.now)) }
     ensures logs { IfOk result (λ turner. turner.logs.logs.now ≡ logs.now) }
     ensures tenants { IfOk result (λ turner. turner.tenants.now ≡ options.now.tenants.items) }
     ensures digests { IfOk result (λ turner. turner.digests ≡ digests) }
     ensures fault { IfErr result IsOfServing }
 {
-    let Some(pass) = open_pass(rt, book, 0) else {
-        return Err(ServerFault::Passes);
-    };
-    let logs = SharedLogs::new(book, logs);
+    let (pass, clerk, logs) = opened(rt, book, logs, 0)?;
     Ok(Turner::new(
         rt,
         alloc,
-        book,
+        clerk,
         pass,
         logs,
         options.tenants.as_slice(),
@@ -326,29 +347,25 @@ fn number_at(logs: usize, place: u8) -> u8
 }
 
 // The worker at a place, with buffers and a pass, and with a log of its own, if logs are kept.
-fn worker_at<'a, L: Ledger, R: Wait + Clock, D: Disk + Drop>(
+fn worker_at<'a, L: Ledger, J: Naming, R: Wait + Clock, D: Disk + Drop>(
     rt: &'a R,
     alloc: Global,
-    book: &'a BookLock<L>,
+    book: &'a BookLock<L, J>,
     logs: &'a [Mutex<StoreLog<D>>],
     turns: &'a Turns<D>,
     tenants: &'a [TenantQuota],
     place: u8,
-) -> Result<SessionWorker<'a, L, R, D>, ServerFault>
+) -> Result<SessionWorker<'a, L, J, R, D>, ServerFault>
     ensures own { IfOk result (λ one. AreOfWorker (length logs.now) place one.caller.pass.worker one.caller.keeper.worker) }
-    ensures logs { IfOk result (λ one. one.caller.keeper.logs.logs.now ≡ logs.now) }
-    ensures turns { IfOk result (λ one. one.caller.turns.now ≡ turns.now) }
-    ensures tenants { IfOk result (λ one. one.caller.tenants.now ≡ tenants.now) }
+    ensures wired { IfOk result (λ one. IsWired book.now logs.now turns.now tenants.now one.caller.desk.lock.now one.caller.keeper.logs.book.clerk.lock.now one.caller.keeper.logs.logs.now one.caller.turns.now one.caller.tenants.now) }
     ensures fault { IfErr result IsOfServing }
 {
     // They are taken before the first connection: at a limit of memory a session would find none.
     let buffers = SessionBuffers::new(alloc)?;
     let number = number_at(logs.len(), place);
-    let Some(pass) = open_pass(rt, book, number) else {
-        return Err(ServerFault::Passes);
-    };
-    let keeper = Keeper::new(alloc, SharedLogs::new(book, logs), number);
-    let caller = DeskCaller::new(rt, alloc, book, pass, keeper, turns, tenants);
+    let (pass, clerk, logs) = opened(rt, book, logs, number)?;
+    let keeper = Keeper::new(alloc, logs, number);
+    let caller = DeskCaller::new(rt, alloc, clerk, pass, keeper, turns, tenants);
     Ok(SessionWorker {
         rt,
         caller,
@@ -358,18 +375,18 @@ fn worker_at<'a, L: Ledger, R: Wait + Clock, D: Disk + Drop>(
 
 // So many workers as the options say, each with a pass, and with a log of its own, if logs are kept: the one at each
 // place is that of the place's number.
-fn workers_of<'a, L: Ledger, R: Wait + Clock, D: Disk + Drop>(
+fn workers_of<'a, L: Ledger, J: Naming, R: Wait + Clock, D: Disk + Drop>(
     rt: &'a R,
     alloc: Global,
-    book: &'a BookLock<L>,
+    book: &'a BookLock<L, J>,
     logs: &'a [Mutex<StoreLog<D>>],
     turns: &'a Turns<D>,
     options: &'a Options,
-) -> Result<Vec<SessionWorker<'a, L, R, D>>, ServerFault>
+) -> Result<Vec<SessionWorker<'a, L, J, R, D>>, ServerFault>
     ensures workers { IfOk result (λ workers. vec_len workers ≡ options.now.workers) }
     ensures some { IfOk result (λ workers. 0 < vec_len workers) }
-    ensures each { IfOk result (λ workers. EachAt workers.items (λ place (one : SessionWorker L R D). AreOfWorker (length logs.now) place one.caller.pass.worker one.caller.keeper.worker)) }
-    ensures tenants { IfOk result (λ workers. EachAt workers.items (λ place (one : SessionWorker L R D). one.caller.tenants.now ≡ options.now.tenants.items)) }
+    ensures each { IfOk result (λ workers. EachAt workers.items (λ place (one : SessionWorker L J R D). AreOfWorker (length logs.now) place one.caller.pass.worker one.caller.keeper.worker)) }
+    ensures wired { IfOk result (λ workers. EachAt workers.items (λ place (one : SessionWorker L J R D). IsWired book.now logs.now turns.now options.now.tenants.items one.caller.desk.lock.now one.caller.keeper.logs.book.clerk.lock.now one.caller.keeper.logs.logs.now one.caller.turns.now one.caller.tenants.now)) }
     ensures fault { IfErr result IsOfServing }
 {
     let mut workers = Vec::new(alloc);
@@ -390,17 +407,17 @@ fn workers_of<'a, L: Ledger, R: Wait + Clock, D: Disk + Drop>(
 /// What a turner and the workers come to, whose passes are given back to the book: the sum of the passes' shares, and
 /// that of the workers' counts. `Memory` and `Passes` (if these are not all passes that were opened)
 /// are the only errors; after either the passes are lost.
-pub fn totals_of<L: Ledger, R: Wait + Clock + Log, D: Disk + Drop>(
+pub fn totals_of<L: Ledger, J: Naming, R: Wait + Clock + Log, D: Disk + Drop>(
     rt: &R,
     alloc: Global,
-    book: &BookLock<L>,
+    book: &BookLock<L, J>,
     turner: Pass<L>,
-    served: Vec<Served<SessionWorker<'_, L, R, D>>>,
+    served: Vec<Served<SessionWorker<'_, L, J, R, D>>>,
 ) -> Result<Totals, ServerFault>
     requires parts { L.parts ≡ 65536 }
     requires few { vec_len served < 2 ^ 32 }
-    ensures answers { IfOk result (λ totals. totals.answers ≡ turner.share.amount + sum_by (λ (one : Served (SessionWorker L R D)). one.worker.caller.pass.share.amount) served.entry.items) }
-    ensures others { IfOk result (λ totals. totals.others ≡ sum_by (λ (one : Served (SessionWorker L R D)). one.others) served.entry.items) }
+    ensures answers { IfOk result (λ totals. totals.answers ≡ turner.share.amount + sum_by (λ (one : Served (SessionWorker L J R D)). one.worker.caller.pass.share.amount) served.entry.items) }
+    ensures others { IfOk result (λ totals. totals.others ≡ sum_by (λ (one : Served (SessionWorker L J R D)). one.others) served.entry.items) }
     ensures fault { IfErr result IsOfServing }
 {
     let others = others_of(served.as_slice());
@@ -412,12 +429,12 @@ pub fn totals_of<L: Ledger, R: Wait + Clock + Log, D: Disk + Drop>(
 }
 
 // The turner's pass, and those that the workers hold.
-fn passes_of<L: Ledger, R: Wait + Clock + Log, D: Disk + Drop>(
+fn passes_of<L: Ledger, J: Naming, R: Wait + Clock + Log, D: Disk + Drop>(
     alloc: Global,
     turner: Pass<L>,
-    served: Vec<Served<SessionWorker<'_, L, R, D>>>,
+    served: Vec<Served<SessionWorker<'_, L, J, R, D>>>,
 ) -> Result<Vec<Pass<L>>, AllocError>
-    ensures { IfOk result (λ passes. sum_by (λ (pass : Pass L). pass.share.amount) passes.items ≡ turner.share.amount + sum_by (λ (one : Served (SessionWorker L R D)). one.worker.caller.pass.share.amount) served.entry.items) }
+    ensures { IfOk result (λ passes. sum_by (λ (pass : Pass L). pass.share.amount) passes.items ≡ turner.share.amount + sum_by (λ (one : Served (SessionWorker L J R D)). one.worker.caller.pass.share.amount) served.entry.items) }
 {
     let mut passes = Vec::new(alloc);
     passes.push(turner)?;

@@ -5,9 +5,10 @@ ghost use Rattle.std.specs.Prelude.{◌≡◌};
 use crate::callers::DeskCaller;
 use crate::connections::{linger, set_up};
 use log::Log;
-use mt_book::{BookLock, Pass};
+use mt_book::{Clerk, Pass};
 use mt_crew::Worker;
 use mt_disk::Disk;
+use mt_history::Naming;
 use mt_session::{Ended, SessionBuffers, serve_with};
 use mt_stored::SharedLogs;
 use std::alloc::Global;
@@ -19,13 +20,13 @@ use std::time::Clock;
 /// A worker with a caller and buffers of its own, which it lends to one session after the other. A session
 /// asks the caller for nothing before its own Open was answered.
 #[derive(Drop)]
-pub struct SessionWorker<'a, L: Ledger, R: Wait + Clock, D: Disk + Drop> {
+pub struct SessionWorker<'a, L: Ledger, J: Naming, R: Wait + Clock, D: Disk + Drop> {
     pub rt: &'a R,
-    pub caller: DeskCaller<'a, L, R, &'a BookLock<L>, SharedLogs<'a, L, D>, D>,
+    pub caller: DeskCaller<'a, L, R, Clerk<'a, L, J>, SharedLogs<'a, L, J, R, D>, D>,
     pub buffers: SessionBuffers,
 }
 
-impl<L: Ledger, R: Wait + Clock, D: Disk + Drop> SessionWorker<'_, L, R, D> {
+impl<L: Ledger, J: Naming, R: Wait + Clock, D: Disk + Drop> SessionWorker<'_, L, J, R, D> {
     /// The pass that its caller held.
     pub fn into_pass(self) -> Pass<L>
         ensures { result ≡ self.entry.caller.pass }
@@ -34,7 +35,8 @@ impl<L: Ledger, R: Wait + Clock, D: Disk + Drop> SessionWorker<'_, L, R, D> {
     }
 }
 
-impl<L: Ledger, R: Wait + Clock + Log, D: Disk + Drop> Worker for SessionWorker<'_, L, R, D> {
+impl<L: Ledger, J: Naming, R: Wait + Clock + Log, D: Disk + Drop> Worker
+    for SessionWorker<'_, L, J, R, D> {
     fn serve(&mut self, alloc: Global, stream: &TcpStream) -> bool {
         set_up(stream);
         let mut reader = stream;

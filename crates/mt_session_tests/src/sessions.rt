@@ -177,6 +177,28 @@ fn a_reply_longer_than_the_output_is_told_whole(rt: HostRuntime) -> Result<(), F
     Ok(())
 }
 
+// Removes of keys that are too long, by a frame of 32,768 bytes and by the longest one, whose body has as many. They come in
+// several reads. Each is answered, and so is a get behind them.
+#[test]
+fn the_longest_requests_are_answered_and_what_follows(rt: HostRuntime) -> Result<(), Fail> {
+    let alloc = rt.alloc();
+    let long = framed(alloc, "04 7ff9", "6b", 32_761).expect(&rt, "bytes");
+    let longest = framed(alloc, "04 7ffd", "6b", 32_765).expect(&rt, "bytes");
+    let get = bytes_of(alloc, "00000005 02 0001 6b 00").expect(&rt, "bytes");
+    let asked = [OPEN_7.as_slice(), &long, &longest, &get]
+        .as_slice()
+        .concat(alloc)?;
+    let told = bytes_of(alloc, "00000001 00 00000001 81 00000001 81 00000001 01");
+    let told = told.expect(&rt, "bytes");
+    for size in [1, 1_000, 7_000, ALL] {
+        let server = Booked { rt: &rt, steps: 0 };
+        let (writer, ended) = session(&server, alloc, &asked, [size, size, ALL, ALL]);
+        assert!(rt; writer.text.as_slice() == told.as_slice(), "{size}");
+        assert_eq!(rt; ended, "closed");
+    }
+    Ok(())
+}
+
 // A session over these buffers, in which so many writes go well: what it told, and the name of its end.
 fn over(
     rt: &impl Abort,

@@ -1,17 +1,21 @@
--- A turn of a log behind its lock, over a book behind its lock. The log and the states of which it was one are not told.
+-- A turn of a log behind its lock, over a book behind its lock. Which log stood there is not told; what the turn added to the book's history is.
 use Rattle.std.specs.Prelude.{◌≡◌, ◌≢◌, ◌⊎◌, ℕ, Bool, Ok, Err}
 use Rattle.mt_rows.specs.{declared.record.Batch.Batch, declared.refusal.Refusal.Refusal, declared.refusal.Refusal.TheVariants.LogCount}
 use Rattle.mt_disk.specs.Disk.{DiskState}
 use Rattle.mt_state.specs.Views.{StateView}
-use Rattle.mt_core.specs.Rights.{IsRightState}
-use Rattle.mt_book.specs.Does.{DrainedSomewhere}
+use Rattle.mt_history.specs.Views.{MarkView}
+use Rattle.mt_book.specs.{Happens.{Adds, Acted, Given}, Periods.look_period, declared.desks.Look.Look}
 use Rattle.mt_store_logs.specs.{declared.store_log.StoreLog.StoreLog, Places.worker_of, LogTurns.{BringsUp, FailsToBringUp}, Turns.{GivesUpOlderLog, FailsToGiveUpOlderLog}, Standing.TellsOf}
 use Rattle.mt_settle.specs.Turns.{Turn, BroughtUp, BegunNext, GivenUp, Told}
 use Rattle.mt_stored.specs.Begins.{BringsUpAndBegins, FailsToBringUpAndBegin}
 
--- a batch of this worker, drained of a right state; of the source nothing else is told
-abbrev pub gives_somewhere : Unit {0} → Unit {0} → ℕ → Batch → Type 0
-gives_somewhere old new worker batch = DrainedSomewhere worker batch
+-- what a clerk has seen of the book's history
+abbrev pub Seen : Type 0
+Seen = MarkView StateView
+
+-- a batch of this worker was given, and that was added to the history
+abbrev pub gives_batch : Seen → Seen → ℕ → Batch → Type 0
+gives_batch old new worker batch = Adds (Given worker batch) old new
 
 -- a log of this worker became another one so
 pub record Somewhere {D : Type 0} (Does : StoreLog D → StoreLog D → Type 0) (log : ℕ) : Type 0 where
@@ -20,11 +24,12 @@ pub record Somewhere {D : Type 0} (Does : StoreLog D → StoreLog D → Type 0) 
   pub whose : worker_of before ≡ log
   pub does : Does before after
 
--- the same, up to the steps that a right state had made
-pub record UptoSteps {D : Type 0} (Does : ℕ → StoreLog D → StoreLog D → Type 0) (log : ℕ) : Type 0 where
-  pub view : StateView
-  pub right : IsRightState view
-  pub turned : Somewhere (Does view.steps) log
+-- the book was looked at, and up to the steps that it showed a log of this worker became another one so
+pub record UptoSteps {D : Type 0} (Does : ℕ → StoreLog D → StoreLog D → Seen → Seen → Type 0) (log : ℕ) (old new : Seen) : Type 0 where
+  pub look : Look
+  pub seen : Seen
+  pub looked : Adds (Acted (look_period look)) old seen
+  pub turned : Somewhere (λ before after. Does look.steps before after seen new) log
 
 -- at the place stands a log of another worker, which has no turn
 abbrev pub IsElsewhere : Type 0 → ℕ → Refusal → Type 0
@@ -32,15 +37,14 @@ IsElsewhere D log refusal = (refusal ≡ LogCount) × (there : StoreLog D) × (w
 
 module _ {D : Type 0} (is_honest : D → Bool) (state : D → DiskState) (failures : D → ℕ) where
   -- a log was brought up to the steps of the book; or it was, and goes to a generation; or its older log was given up; or it told of its generations
-  abbrev pub DoesShared : Turn → Type 0
-  DoesShared (BroughtUp log (Ok mark)) = UptoSteps (λ upto before after. BringsUp is_honest state failures gives_somewhere upto mark before after tt tt) log
-  DoesShared (BroughtUp log (Err refusal)) =
-      IsElsewhere D log refusal ⊎ UptoSteps (λ upto before after. FailsToBringUp is_honest state failures gives_somewhere upto refusal before after tt tt) log
-  DoesShared (BegunNext log generation (Ok mark)) =
-      UptoSteps (λ upto before after. BringsUpAndBegins is_honest state failures gives_somewhere upto generation mark before after tt tt) log
-  DoesShared (BegunNext log generation (Err refusal)) =
-      IsElsewhere D log refusal ⊎ UptoSteps (λ upto before after. FailsToBringUpAndBegin is_honest state failures gives_somewhere upto generation refusal before after tt tt) log
-  DoesShared (GivenUp log (Ok _)) = Somewhere (GivesUpOlderLog is_honest state failures) log
-  DoesShared (GivenUp log (Err refusal)) = IsElsewhere D log refusal ⊎ Somewhere (FailsToGiveUpOlderLog is_honest state failures refusal) log
-  DoesShared (Told log (Ok told)) = (there : StoreLog D) × (worker_of there ≡ log) × TellsOf there told
-  DoesShared (Told log (Err refusal)) = IsElsewhere D log refusal
+  abbrev pub DoesShared : Seen → Turn → Seen → Type 0
+  DoesShared old (BroughtUp log (Ok mark)) new = UptoSteps (λ upto. BringsUp is_honest state failures gives_batch upto mark) log old new
+  DoesShared old (BroughtUp log (Err refusal)) new =
+      (IsElsewhere D log refusal × (new ≡ old)) ⊎ UptoSteps (λ upto. FailsToBringUp is_honest state failures gives_batch upto refusal) log old new
+  DoesShared old (BegunNext log generation (Ok mark)) new = UptoSteps (λ upto. BringsUpAndBegins is_honest state failures gives_batch upto generation mark) log old new
+  DoesShared old (BegunNext log generation (Err refusal)) new =
+      (IsElsewhere D log refusal × (new ≡ old)) ⊎ UptoSteps (λ upto. FailsToBringUpAndBegin is_honest state failures gives_batch upto generation refusal) log old new
+  DoesShared old (GivenUp log (Ok _)) new = Somewhere (GivesUpOlderLog is_honest state failures) log × (new ≡ old)
+  DoesShared old (GivenUp log (Err refusal)) new = (IsElsewhere D log refusal ⊎ Somewhere (FailsToGiveUpOlderLog is_honest state failures refusal) log) × (new ≡ old)
+  DoesShared old (Told log (Ok told)) new = ((there : StoreLog D) × (worker_of there ≡ log) × TellsOf there told) × (new ≡ old)
+  DoesShared old (Told log (Err refusal)) new = IsElsewhere D log refusal × (new ≡ old)

@@ -26,6 +26,5 @@ pub use checks::{Checks, DueTurn};
 pub use digests::{Digested, Digests, NoDigests};
 pub use keeping::{FLUSH_ANSWERS, Keeper};
 pub use shared::{SharedLogs, locked_logs, unlocked_logs};
-pub use source::SharedBook;
 pub use stores::Store;
 pub use turns::{TurnStop, write_turn};

@@ -8,8 +8,9 @@ use crate::beginning::bring_up_and_begin;
 use crate::changes::change_of;
 use crate::source::SharedBook;
 use log::{Log, warn};
-use mt_book::{BookLock, locked};
+use mt_book::{Clerk, Desk};
 use mt_disk::Disk;
+use mt_history::Naming;
 use mt_rows::Refusal;
 use mt_settle::Logs;
 use mt_store_logs::{Flushed, Generations, StoreLog, bring_up};
@@ -18,31 +19,33 @@ use std::sync::ledger::Ledger;
 use std::sync::{Mutex, MutexGuard, Wait};
 use std::time::Clock;
 
-/// The logs of a book, at most 255, of which others give turns too: a turn says nothing of the next one. Of each it says that
-/// it was one of a log of that worker. It warns of a log that closes, and of one that is open again. A log at the place of
-/// another worker has no turn, and is refused by `LogCount`.
+/// The logs of a book, at most 255, and a clerk that drains it into them. Others give turns too, so a turn says nothing of the
+/// next one. Of each it says that it was one of a log of that worker, and what it added to the book's history. It warns of a
+/// log that closes, and of one that is open again. A log at the place of another worker has no turn, and is refused by
+/// `LogCount`.
 #[derive(Drop)]
-pub struct SharedLogs<'a, L: Ledger, D: Disk + Drop> {
-    book: &'a BookLock<L>,
+pub struct SharedLogs<'a, L: Ledger, J: Naming, R: Wait + Clock, D: Disk + Drop> {
+    book: SharedBook<'a, L, J, R>,
     logs: &'a [Mutex<StoreLog<D>>],
 }
 
-impl<'a, L: Ledger, D: Disk + Drop> SharedLogs<'a, L, D> {
-    pub fn new(book: &'a BookLock<L>, logs: &'a [Mutex<StoreLog<D>>]) -> Self
-        ensures book { result.book.now ≡ book.now }
+impl<'a, L: Ledger, J: Naming, R: Wait + Clock, D: Disk + Drop> SharedLogs<'a, L, J, R, D> {
+    pub fn new(rt: &'a R, clerk: Clerk<'a, L, J>, logs: &'a [Mutex<StoreLog<D>>]) -> Self
+        ensures clerk { result.book.clerk ≡ clerk.entry }
         ensures logs { result.logs.now ≡ logs.now }
     {
+        let book = SharedBook { rt, clerk };
         SharedLogs { book, logs }
     }
 }
 
-impl<L: Ledger, D: Disk + Drop> Logs for SharedLogs<'_, L, D> {
+impl<L: Ledger, J: Naming, C: Wait + Clock, D: Disk + Drop> Logs for SharedLogs<'_, L, J, C, D> {
     ghost use Rattle.std.specs.Prelude.{min};
     ghost use Rattle.mt_stored.specs.Shared.{DoesShared};
 
     ghost logs = { λ s. min (length s.logs.now) 255 };
 
-    ghost does = { λ old turn new. DoesShared D.is_honest D.state D.failures turn };
+    ghost does = { λ old turn new. DoesShared D.is_honest D.state D.failures old.book.clerk.mark turn new.book.clerk.mark };
 
     fn count(&self) -> u8 {
         self.logs.len().min(255) as u8
@@ -56,9 +59,8 @@ impl<L: Ledger, D: Disk + Drop> Logs for SharedLogs<'_, L, D> {
     ) -> Result<Flushed, Refusal> {
         let mut guard = lock_at(rt, self.logs, log)?;
         let before = guard.mark();
-        let steps = locked(rt, self.book).steps();
-        let source = &mut SharedBook::new(rt, self.book);
-        let told = bring_up(alloc, &mut *guard, source, steps);
+        let steps = self.book.clerk.look(rt).steps;
+        let told = bring_up(alloc, &mut *guard, &mut self.book, steps);
         // Under the log's lock, so that its warnings come in the order of its changes.
         warn_of(rt, log, before, guard.mark());
         told
@@ -73,9 +75,8 @@ impl<L: Ledger, D: Disk + Drop> Logs for SharedLogs<'_, L, D> {
     ) -> Result<Flushed, Refusal> {
         let mut guard = lock_at(rt, self.logs, log)?;
         let before = guard.mark();
-        let steps = locked(rt, self.book).steps();
-        let source = &mut SharedBook::new(rt, self.book);
-        let told = bring_up_and_begin(alloc, &mut *guard, source, steps, generation);
+        let steps = self.book.clerk.look(rt).steps;
+        let told = bring_up_and_begin(alloc, &mut *guard, &mut self.book, steps, generation);
         warn_of(rt, log, before, guard.mark());
         told
     }

@@ -2,9 +2,10 @@
 
 ghost use Rattle.std.specs.Prelude.{◌≡◌};
 
-use mt_book::{BookLock, drain};
+use mt_book::{Clerk, drain};
 use mt_core::State;
 use mt_drains::DrainedBatch;
+use mt_history::Naming;
 use mt_store_logs::Source;
 use std::alloc::AllocError;
 use std::sync::Wait;
@@ -30,27 +31,21 @@ impl Source for OwnState {
     }
 }
 
-/// A book behind its lock, which others use too. A drain waits till the book has as many steps as it is to go up to.
+/// A book behind its lock, which others use too, for a clerk. A drain waits till the book has as many steps as it is to go up to.
 #[derive(Drop)]
-pub struct SharedBook<'a, 'b, L: Ledger, R: Wait + Clock> {
-    rt: &'a R,
-    book: &'b BookLock<L>,
+pub(crate) struct SharedBook<'a, L: Ledger, J: Naming, R: Wait + Clock> {
+    pub rt: &'a R,
+    pub clerk: Clerk<'a, L, J>,
 }
 
-impl<'a, 'b, L: Ledger, R: Wait + Clock> SharedBook<'a, 'b, L, R> {
-    pub fn new(rt: &'a R, book: &'b BookLock<L>) -> Self {
-        SharedBook { rt, book }
-    }
-}
-
-impl<L: Ledger, R: Wait + Clock> Source for SharedBook<'_, '_, L, R> {
-    ghost use Rattle.mt_book.specs.Does.{DrainedSomewhere};
+impl<L: Ledger, J: Naming, R: Wait + Clock> Source for SharedBook<'_, L, J, R> {
+    ghost use Rattle.mt_stored.specs.Shared.{gives_batch};
 
     ghost serves = { λ s worker upto. Unit {0} };
 
-    ghost gives = { λ old new worker batch. DrainedSomewhere worker batch };
+    ghost gives = { λ old new worker batch. gives_batch old.clerk.mark new.clerk.mark worker batch };
 
     fn drain(&mut self, worker: u8, upto: u64) -> Result<DrainedBatch, AllocError> {
-        drain(self.rt, self.book, worker, upto)
+        drain(self.rt, &mut self.clerk, worker, upto)
     }
 }

@@ -156,6 +156,13 @@ impl<D: Disk + Drop> Store<D> {
         })
     }
 
+    /// The state.
+    pub fn state(&self) -> &State
+        ensures { result.now ≡ self.now.source.state }
+    {
+        &self.source.state
+    }
+
     /// The state, its logs and its slots.
     pub fn into_parts(self) -> (State, Vec<StoreLog<D>>, Option<StoreSlots<D>>)
         ensures state { result.0 ≡ self.source.state }

@@ -1,20 +1,22 @@
 //! Sessions in threads, which put and settle at once. After each settled answer one of them makes a turn of all logs.
 
 ghost use Rattle.std.specs.Prelude.{◌≡◌};
+ghost use Rattle.mt_book.specs.Names.{AreNames};
 
 use crate::checks::expect_recovered;
 use crate::disks::{FlakyDisk, SOUND};
 use crate::images::images_of;
 use crate::stories::{TENANTS, bare_slots, joined, least_mark, new_store, session_of};
 use log::Log;
-use mt_book::{Book, BookLock};
+use mt_book::{BookLock, Kept, Names};
+use mt_history::Naming;
 use mt_service::Turns;
 use mt_store_logs::StoreLog;
-use mt_stored::{Checks, locked_logs};
+use mt_stored::{Checks, Store, locked_logs};
 use std::alloc::Global;
 use std::marker::{Brand, Send, Sync};
 use std::process::Abort;
-use std::sync::ledger::{Blank, Ledger};
+use std::sync::ledger::Ledger;
 use std::sync::{Mutex, Wait};
 use std::thread::{self, Threads};
 use std::time::Clock;
@@ -27,10 +29,10 @@ const PUTS: u16 = 60;
 
 // The turns of a worker's session; how many keys it has put. A settled number is later than the last one, and each log
 // goes up to it.
-fn put_and_settle<L: Ledger, R: Wait + Clock + Log + Abort>(
+fn put_and_settle<L: Ledger, J: Naming, R: Wait + Clock + Log + Abort>(
     rt: &R,
     alloc: Global,
-    book: &BookLock<L>,
+    book: &BookLock<L, J>,
     logs: &[Mutex<StoreLog<FlakyDisk>>],
     turns: &Turns<FlakyDisk>,
     worker: u8,
@@ -51,10 +53,14 @@ fn put_and_settle<L: Ledger, R: Wait + Clock + Log + Abort>(
 }
 
 // A session of each of four workers, in a thread of its own; how many keys each has put.
-fn four_at_once<L: Ledger + Send + Sync, R: Threads + Wait + Clock + Log + Abort + Sync>(
+fn four_at_once<
+    L: Ledger + Send + Sync,
+    J: Naming + Send + Sync,
+    R: Threads + Wait + Clock + Log + Abort + Sync,
+>(
     rt: &R,
     alloc: Global,
-    book: &BookLock<L>,
+    book: &BookLock<L, J>,
     logs: &[Mutex<StoreLog<FlakyDisk>>],
     turns: &Turns<FlakyDisk>,
 ) -> Vec<u16> {
@@ -67,17 +73,17 @@ fn four_at_once<L: Ledger + Send + Sync, R: Threads + Wait + Clock + Log + Abort
     counts.expect(rt, "memory")
 }
 
-fn run<L: Ledger + Send + Sync, R: Threads + Wait + Clock + Log + Abort + Sync>(
-    rt: &R,
-    alloc: Global,
-    blank: Blank,
-)
-    requires name { blank.name ≡ L.name }
-    requires parts { (blank.parts ≡ L.parts) × (L.parts ≡ 65536) }
+fn run<
+    L: Ledger + Send + Sync,
+    J: Naming + Send + Sync,
+    R: Threads + Wait + Clock + Log + Abort + Sync,
+>(rt: &R, alloc: Global, names: Names, store: Store<FlakyDisk>)
+    requires names { AreNames L.name L.parts J.name J.parts J.book names store.source.state }
+    requires untaken { store.source.state.answers ≡ 0 }
 {
-    let (state, logs, slots) = new_store(rt, alloc, &[SOUND; 4], bare_slots(alloc)).into_parts();
+    let (state, logs, slots) = store.into_parts();
     let logs = locked_logs(alloc, logs).expect(rt, "memory");
-    let book = BookLock::new(Book::<L>::new(blank, state));
+    let book = BookLock::new(Kept::<L, J>::new(names, state));
     let turns = Turns::new(Checks::new(1, 0, slots));
     let counts = four_at_once(rt, alloc, &book, &logs, &turns);
     let slots = turns.into_checks().into_slots().expect(rt, "the slots");
@@ -87,5 +93,7 @@ fn run<L: Ledger + Send + Sync, R: Threads + Wait + Clock + Log + Abort + Sync>(
 
 #[test]
 fn settles_and_checkpoints_of_several_sessions_at_once_lose_nothing(rt: HostRuntime) {
-    run::<Brand, _>(&rt, rt.alloc(), Blank::new(65_536));
+    let store = new_store(&rt, rt.alloc(), &[SOUND; 4], bare_slots(rt.alloc()));
+    let names = Names::new(store.state());
+    run::<Brand, Brand, _>(&rt, rt.alloc(), names, store);
 }

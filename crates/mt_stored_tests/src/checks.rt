@@ -1,6 +1,7 @@
 //! Checkpoints that a session writes: when, and into which slot.
 
 ghost use Rattle.std.specs.Prelude.{◌≡◌};
+ghost use Rattle.mt_book.specs.Names.{AreNames};
 
 use self::Act::{Puts, Settles, SettlesWithout};
 use crate::disks::{Fails, FlakyDisk, NEVER};
@@ -9,18 +10,19 @@ use crate::sessions::Session;
 use crate::stories::{TENANTS, bare_slots, joined, new_store, session_of};
 use log::sink::Locked;
 use log::{Level, Log, Logged};
-use mt_book::{Book, BookLock};
+use mt_book::{BookLock, Kept, Names};
 use mt_disk::MemDisk;
+use mt_history::Naming;
 use mt_rows::Refusal;
 use mt_service::Turns;
 use mt_slots::{Slot, StoreSlots};
 use mt_store_logs::FileImages;
-use mt_stored::{Checks, DueTurn, TurnStop, locked_logs};
+use mt_stored::{Checks, DueTurn, Store, TurnStop, locked_logs};
 use std::alloc::{AllocError, Global};
 use std::marker::Brand;
 use std::process::Abort;
 use std::sync::Wait;
-use std::sync::ledger::{Blank, Ledger};
+use std::sync::ledger::Ledger;
 use std::time::Clock;
 
 // How many pairs the checkpoint of each slot has, if there is one, and which slot has the newest.
@@ -88,7 +90,10 @@ fn found_in(rt: &impl Abort, alloc: Global, slots: StoreSlots<FlakyDisk>) -> Fou
 }
 
 // Whether the client settles so many times, and is told a number each time.
-fn settles<L: Ledger, R: Wait + Clock + Log>(session: &mut Session<'_, L, R>, count: u8) -> bool {
+fn settles<L: Ledger, J: Naming, R: Wait + Clock + Log>(
+    session: &mut Session<'_, L, J, R>,
+    count: u8,
+) -> bool {
     for _ in 0..count {
         if session.settle().is_err() {
             return false;
@@ -98,11 +103,11 @@ fn settles<L: Ledger, R: Wait + Clock + Log>(session: &mut Session<'_, L, R>, co
 }
 
 // Whether an act comes out as it should.
-fn comes_out<L: Ledger, R: Wait + Clock + Log>(
+fn comes_out<L: Ledger, J: Naming, R: Wait + Clock + Log>(
     rt: &R,
     alloc: Global,
     turns: &Turns<FlakyDisk>,
-    session: &mut Session<'_, L, R>,
+    session: &mut Session<'_, L, J, R>,
     act: Act,
 ) -> bool {
     match act {
@@ -125,21 +130,33 @@ fn comes_out<L: Ledger, R: Wait + Clock + Log>(
 
 // What the slots have after a story of one client, if a checkpoint is due after each so many settled answers. Some calls
 // of the log's plain file fail.
-fn played<L: Ledger, R: Wait + Clock + Log + Abort>(
+fn played<R: Wait + Clock + Log + Abort>(
     rt: &R,
     alloc: Global,
-    blank: Blank,
     every: u32,
     fails: Fails,
     acts: &[Act],
+) -> Found {
+    let store = new_store(rt, alloc, &[[fails, NEVER, NEVER]], bare_slots(alloc));
+    let names = Names::new(store.state());
+    played_named::<Brand, Brand, _>(rt, alloc, names, store, every, acts)
+}
+
+// The same, over this store and under these names.
+fn played_named<L: Ledger, J: Naming, R: Wait + Clock + Log + Abort>(
+    rt: &R,
+    alloc: Global,
+    names: Names,
+    store: Store<FlakyDisk>,
+    every: u32,
+    acts: &[Act],
 ) -> Found
-    requires name { blank.name ≡ L.name }
-    requires parts { (blank.parts ≡ L.parts) × (L.parts ≡ 65536) }
+    requires names { AreNames L.name L.parts J.name J.parts J.book names store.source.state }
+    requires untaken { store.source.state.answers ≡ 0 }
 {
-    let fails = [[fails, NEVER, NEVER]];
-    let (state, logs, slots) = new_store(rt, alloc, &fails, bare_slots(alloc)).into_parts();
+    let (state, logs, slots) = store.into_parts();
     let logs = locked_logs(alloc, logs).expect(rt, "memory");
-    let book = BookLock::new(Book::<L>::new(blank, state));
+    let book = BookLock::new(Kept::<L, J>::new(names, state));
     let turns = Turns::new(Checks::new(every, 0, slots));
     let mut session = session_of(rt, alloc, &book, &logs, &turns, &TENANTS, 0);
     for (place, act) in acts.iter().enumerate() {
@@ -206,8 +223,7 @@ const STORIES: [(u32, &[Act], Found); 16] = [
 fn a_checkpoint_is_written_when_it_is_due(rt: HostRuntime) {
     let alloc = rt.alloc();
     for (place, (every, acts, wanted)) in STORIES.iter().enumerate() {
-        let blank = Blank::new(65_536);
-        let found = played::<Brand, _>(&rt, alloc, blank, *every, NEVER, acts);
+        let found = played(&rt, alloc, *every, NEVER, acts);
         assert_eq!(rt; found, *wanted, "story {place}");
     }
 }
@@ -218,7 +234,7 @@ fn a_refused_settle_writes_no_checkpoint(rt: HostRuntime) {
     let alloc = rt.alloc();
     let acts = [Puts(1), Act::Fails];
     let logged = Logged::new(&rt, Level::Warn, Locked::new(&rt, Vec::new(alloc)));
-    let found = played::<Brand, _>(&logged, alloc, Blank::new(65_536), 1, (4, 5), &acts);
+    let found = played(&logged, alloc, 1, (4, 5), &acts);
     assert_eq!(&rt; found, NONE);
 }
 

@@ -2,24 +2,25 @@
 //! agrees with its digest then.
 
 ghost use Rattle.std.specs.Prelude.{◌≡◌};
+ghost use Rattle.mt_book.specs.Names.{AreNames};
 
 use crate::disks::{Fails, FlakyDisk, NEVER};
 use crate::images::{Left, disk_with, key_of, left_of, logs_left, pairs_left, tenant_7};
 use crate::kept_digests::{KeptDigests, digest_disks, does_agree};
-use crate::stories::{TENANTS, new_store, session_of, slots_with};
+use crate::stories::{TENANTS, new_store, session_of, shared_logs, slots_with};
 use log::sink::Locked;
 use log::{Level, Log, Logged};
-use mt_book::{Book, BookLock, open_pass};
+use mt_book::{BookLock, Kept, Names, open_pass};
+use mt_history::Naming;
 use mt_rows::TenantPair;
 use mt_service::{Turner, Turns};
-use mt_session::Caller;
 use mt_slots::StoreSlots;
 use mt_store_logs::{FileImages, StoreLog};
-use mt_stored::{Checks, SharedLogs, Store, locked_logs, unlocked_logs};
+use mt_stored::{Checks, Store, locked_logs, unlocked_logs};
 use std::alloc::Global;
 use std::marker::Brand;
 use std::process::Abort;
-use std::sync::ledger::{Blank, Ledger};
+use std::sync::ledger::Ledger;
 use std::sync::{Mutex, Wait};
 use std::time::Clock;
 
@@ -46,29 +47,29 @@ fn store_with(rt: &impl Abort, alloc: Global, fails: [Fails; 8]) -> Store<FlakyD
 }
 
 // Plays all rounds. In how many of them all was put and settled.
-fn play<L: Ledger, R: Wait + Clock + Log + Abort>(
+fn play<L: Ledger, J: Naming, R: Wait + Clock + Log + Abort>(
     rt: &R,
     alloc: Global,
-    book: &BookLock<L>,
+    book: &BookLock<L, J>,
     logs: &[Mutex<StoreLog<FlakyDisk>>],
     turns: &Turns<FlakyDisk>,
     disks: &Mutex<Vec<FlakyDisk>>,
 ) -> u16 {
     let mut first = session_of(rt, alloc, book, logs, turns, &TENANTS, 0);
     let mut second = session_of(rt, alloc, book, logs, turns, &TENANTS, 1);
-    let pass = open_pass(rt, book, 0).expect(rt, "a pass");
+    let (pass, clerk) = open_pass(rt, book, 0).expect(rt, "a pass");
     let digests = KeptDigests {
         rt,
         alloc,
         logs,
         disks,
     };
-    let shared = SharedLogs::new(book, logs);
-    let mut turner = Turner::new(rt, alloc, book, pass, shared, &TENANTS, digests);
+    let shared = shared_logs(rt, book, logs);
+    let mut turner = Turner::new(rt, alloc, clerk, pass, shared, &TENANTS, digests);
     let mut settled = 0;
     for round in 1..=ROUNDS {
         assert!(rt; first.puts(alloc, 2) && second.puts(alloc, 2));
-        if second.caller.settle().is_ok() {
+        if second.settle_alone().is_ok() {
             settled = round;
         }
         turner.make_turn_if_due(turns);
@@ -128,21 +129,20 @@ fn expect_agreed(
 
 // Plays a store, whose disk stops at a call. Recovers what is left of it, both if all that was written came to the devices
 // and if just what was synced did. All that was settled has to be there, and each file has to agree with its digest.
-fn loses_nothing<L: Ledger, R: Wait + Clock + Log + Abort>(
+fn loses_nothing<L: Ledger, J: Naming, R: Wait + Clock + Log + Abort>(
     rt: &R,
     alloc: Global,
-    blank: Blank,
+    names: Names,
     store: Store<FlakyDisk>,
     digests: Vec<FlakyDisk>,
 )
-    requires name { blank.name ≡ L.name }
-    requires parts { (blank.parts ≡ L.parts) × (L.parts ≡ 65536) }
+    requires names { AreNames L.name L.parts J.name J.parts J.book names store.source.state }
     requires untaken { store.source.state.answers ≡ 0 }
 {
     let (state, logs, slots) = store.into_parts();
     let turns = Turns::new(Checks::new(1, 0, slots));
     let logs = locked_logs(alloc, logs).expect(rt, "memory");
-    let book = BookLock::new(Book::<L>::new(blank, state));
+    let book = BookLock::new(Kept::<L, J>::new(names, state));
     let disks = Mutex::new(digests);
     let settled = play(rt, alloc, &book, &logs, &turns, &disks);
     let disks = disks.into_inner();
@@ -178,7 +178,8 @@ fn stops_at<R: Wait + Clock + Abort>(rt: &R, alloc: Global, disk: usize, call: u
     let store = store_with(rt, alloc, of_files);
     let digests = digest_disks(rt, alloc, of_digests);
     let logged = Logged::new(rt, Level::Warn, Locked::new(rt, Vec::new(alloc)));
-    loses_nothing::<Brand, _>(&logged, alloc, Blank::new(65_536), store, digests);
+    let names = Names::new(store.state());
+    loses_nothing::<Brand, Brand, _>(&logged, alloc, names, store, digests);
     let (_, sink) = logged.into_parts();
     !sink.into_inner().is_empty()
 }

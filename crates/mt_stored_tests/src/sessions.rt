@@ -3,7 +3,8 @@
 use crate::disks::FlakyDisk;
 use crate::images::key_of;
 use log::Log;
-use mt_book::BookLock;
+use mt_book::Clerk;
+use mt_history::Naming;
 use mt_rows::{Column, ColumnIndexes, Command, Key, NamedColumns, Refusal, Reply};
 use mt_service::{DeskCaller, Turner, Turns};
 use mt_session::Caller;
@@ -16,9 +17,16 @@ use std::time::Clock;
 /// A worker's session, a turner that makes the turns which its settled answers make due, and how many keys its client has
 /// put.
 #[derive(Drop)]
-pub(crate) struct Session<'a, L: Ledger, R: Wait + Clock> {
-    pub caller: DeskCaller<'a, L, R, &'a BookLock<L>, SharedLogs<'a, L, FlakyDisk>, FlakyDisk>,
-    pub turner: Turner<'a, L, R, &'a BookLock<L>, SharedLogs<'a, L, FlakyDisk>, NoDigests>,
+pub(crate) struct Session<'a, L: Ledger, J: Naming, R: Wait + Clock> {
+    pub caller: DeskCaller<
+        'a,
+        L,
+        R,
+        Clerk<'a, L, J>,
+        SharedLogs<'a, L, J, R, FlakyDisk>,
+        FlakyDisk,
+    >,
+    pub turner: Turner<'a, L, R, Clerk<'a, L, J>, SharedLogs<'a, L, J, R, FlakyDisk>, NoDigests>,
     pub turns: &'a Turns<FlakyDisk>,
     pub worker: u8,
     pub count: u16,
@@ -39,10 +47,20 @@ fn get_of(alloc: Global, key: [u8; 3]) -> Result<Command, AllocError> {
     Ok(Command::Get { key, columns })
 }
 
-impl<L: Ledger, R: Wait + Clock + Log> Session<'_, L, R> {
+impl<L: Ledger, J: Naming, R: Wait + Clock + Log> Session<'_, L, J, R> {
     /// Opens tenant 7.
     pub(crate) fn open(&mut self) -> bool {
         self.caller.open(7).is_ok()
+    }
+
+    /// Goes on as if so many keys had been put.
+    pub(crate) fn skip(&mut self, count: u16) {
+        self.count = count;
+    }
+
+    /// Settles, and leaves a turn that is due then to others.
+    pub(crate) fn settle_alone(&mut self) -> Result<u64, Refusal> {
+        self.caller.settle()
     }
 
     /// Puts so many keys; whether each was told to be new.

@@ -1,13 +1,15 @@
 //! What the sessions of several workers do, one act after the other, and what their logs hold then.
 
-ghost use Rattle.std.specs.Prelude.{◌≡◌, ◌<◌, ◌≤◌, length};
+ghost use Rattle.std.specs.Prelude.{◌≡◌};
+ghost use Rattle.mt_book.specs.Names.{AreNames};
 
 use crate::disks::{Fails, FlakyDisk, NEVER, SOUND};
 use crate::images::{files_with, hold_all, image_of, images_of, plain_image, tenant_7};
 use crate::sessions::Session;
 use log::sink::Locked;
 use log::{Level, Log, Logged};
-use mt_book::{Book, BookLock, open_pass};
+use mt_book::{BookLock, Kept, Names, open_clerk, open_pass};
+use mt_history::Naming;
 use mt_options::TenantQuota;
 use mt_recover::LogSlot;
 use mt_rows::Refusal;
@@ -18,7 +20,7 @@ use mt_stored::{Checks, Keeper, NoDigests, SharedLogs, Store, locked_logs, unloc
 use std::alloc::Global;
 use std::marker::Brand;
 use std::process::Abort;
-use std::sync::ledger::{Blank, Ledger};
+use std::sync::ledger::Ledger;
 use std::sync::{Mutex, Wait};
 use std::time::Clock;
 
@@ -35,8 +37,6 @@ pub(crate) fn new_store(
     fails: &[[Fails; 3]],
     slots: StoreSlots<FlakyDisk>,
 ) -> Store<FlakyDisk>
-    requires some { 0 < length fails.now }
-    requires few { length fails.now ≤ 64 }
     ensures { result.source.state.answers ≡ 0 }
 {
     let mut files = Vec::new(alloc);
@@ -85,30 +85,32 @@ pub(crate) fn slots_with(alloc: Global, fails: [Fails; 2]) -> StoreSlots<FlakyDi
     StoreSlots::found(disk(first), disk(second))
 }
 
+/// The logs of a book, with a clerk of their own.
+pub(crate) fn shared_logs<'a, L: Ledger, J: Naming, R: Wait + Clock + Abort>(
+    rt: &'a R,
+    book: &'a BookLock<L, J>,
+    logs: &'a [Mutex<StoreLog<FlakyDisk>>],
+) -> SharedLogs<'a, L, J, R, FlakyDisk> {
+    SharedLogs::new(rt, open_clerk(rt, book).expect(rt, "a clerk"), logs)
+}
+
 /// A session of a worker.
-pub(crate) fn session_of<'a, L: Ledger, R: Wait + Clock + Log + Abort>(
+pub(crate) fn session_of<'a, L: Ledger, J: Naming, R: Wait + Clock + Log + Abort>(
     rt: &'a R,
     alloc: Global,
-    book: &'a BookLock<L>,
+    book: &'a BookLock<L, J>,
     logs: &'a [Mutex<StoreLog<FlakyDisk>>],
     turns: &'a Turns<FlakyDisk>,
     tenants: &'a [TenantQuota],
     worker: u8,
-) -> Session<'a, L, R> {
-    let pass = open_pass(rt, book, worker).expect(rt, "a pass");
-    let keeper = Keeper::new(alloc, SharedLogs::new(book, logs), worker);
-    let own = open_pass(rt, book, 0).expect(rt, "a pass");
+) -> Session<'a, L, J, R> {
+    let (pass, clerk) = open_pass(rt, book, worker).expect(rt, "a pass");
+    let keeper = Keeper::new(alloc, shared_logs(rt, book, logs), worker);
+    let (own, other) = open_pass(rt, book, 0).expect(rt, "a pass");
+    let shared = shared_logs(rt, book, logs);
     let mut session = Session {
-        caller: DeskCaller::new(rt, alloc, book, pass, keeper, turns, tenants),
-        turner: Turner::new(
-            rt,
-            alloc,
-            book,
-            own,
-            SharedLogs::new(book, logs),
-            tenants,
-            NoDigests {},
-        ),
+        caller: DeskCaller::new(rt, alloc, clerk, pass, keeper, turns, tenants),
+        turner: Turner::new(rt, alloc, other, own, shared, tenants, NoDigests {}),
         turns,
         worker,
         count: 0,
@@ -118,14 +120,14 @@ pub(crate) fn session_of<'a, L: Ledger, R: Wait + Clock + Log + Abort>(
 }
 
 /// A session of each worker.
-pub(crate) fn sessions_of<'a, L: Ledger, R: Wait + Clock + Log + Abort>(
+pub(crate) fn sessions_of<'a, L: Ledger, J: Naming, R: Wait + Clock + Log + Abort>(
     rt: &'a R,
     alloc: Global,
-    book: &'a BookLock<L>,
+    book: &'a BookLock<L, J>,
     logs: &'a [Mutex<StoreLog<FlakyDisk>>],
     turns: &'a Turns<FlakyDisk>,
     tenants: &'a [TenantQuota],
-) -> Vec<Session<'a, L, R>> {
+) -> Vec<Session<'a, L, J, R>> {
     let mut sessions = Vec::new(alloc);
     for worker in 0..logs.len().min(64) as u8 {
         let session = session_of(rt, alloc, book, logs, turns, tenants, worker);
@@ -135,10 +137,10 @@ pub(crate) fn sessions_of<'a, L: Ledger, R: Wait + Clock + Log + Abort>(
 }
 
 /// How many keys each of the sessions has put.
-pub(crate) fn counts_of<L: Ledger, R: Wait + Clock>(
+pub(crate) fn counts_of<L: Ledger, J: Naming, R: Wait + Clock>(
     rt: &impl Abort,
     alloc: Global,
-    sessions: &[Session<'_, L, R>],
+    sessions: &[Session<'_, L, J, R>],
 ) -> Vec<u16> {
     let mut counts = Vec::new(alloc);
     for session in sessions {
@@ -173,14 +175,15 @@ pub(crate) fn expect_kept(rt: &impl Abort, alloc: Global, store: Store<FlakyDisk
 }
 
 /// A store's end: its logs are joined with its state again, and settled for the last time.
-pub(crate) fn joined<L: Ledger, R: Wait + Clock + Log + Abort>(
+pub(crate) fn joined<L: Ledger, J: Naming, R: Wait + Clock + Log + Abort>(
     rt: &R,
     alloc: Global,
-    book: BookLock<L>,
+    book: BookLock<L, J>,
     logs: Vec<Mutex<StoreLog<FlakyDisk>>>,
 ) -> Store<FlakyDisk> {
     let logs = unlocked_logs(alloc, logs).expect(rt, "memory");
-    let mut store = Store::joined(book.into_inner().into_state(), logs, None).expect(rt, "a store");
+    let state = book.into_inner().into_book().into_state();
+    let mut store = Store::joined(state, logs, None).expect(rt, "a store");
     assert!(rt; store.settle_last(rt, alloc).is_ok());
     store
 }
@@ -242,11 +245,11 @@ fn bytes_read<R: Wait + Clock>(
 }
 
 // Whether all that was put is in the files.
-fn is_kept<L: Ledger, R: Wait + Clock + Abort>(
+fn is_kept<L: Ledger, J: Naming, R: Wait + Clock + Abort>(
     rt: &R,
     alloc: Global,
     logs: &[Mutex<StoreLog<FlakyDisk>>],
-    sessions: &[Session<'_, L, R>],
+    sessions: &[Session<'_, L, J, R>],
 ) -> bool {
     let counts = counts_of(rt, alloc, sessions);
     let tenants = tenant_7(rt, alloc);
@@ -257,11 +260,11 @@ fn is_kept<L: Ledger, R: Wait + Clock + Abort>(
 }
 
 // Whether an act comes out as it should, after which the logs were last seen to go up to a step.
-fn comes_out<L: Ledger, R: Wait + Clock + Log + Abort>(
+fn comes_out<L: Ledger, J: Naming, R: Wait + Clock + Log + Abort>(
     rt: &R,
     alloc: Global,
     logs: &[Mutex<StoreLog<FlakyDisk>>],
-    sessions: &mut [Session<'_, L, R>],
+    sessions: &mut [Session<'_, L, J, R>],
     seen: &mut u64,
     act: Act,
 ) -> bool {
@@ -300,10 +303,10 @@ fn comes_out<L: Ledger, R: Wait + Clock + Log + Abort>(
 }
 
 // Plays a story, each of whose acts comes out as it should; how many keys each client has put.
-fn play<L: Ledger, R: Wait + Clock + Log + Abort>(
+fn play<L: Ledger, J: Naming, R: Wait + Clock + Log + Abort>(
     rt: &R,
     alloc: Global,
-    book: &BookLock<L>,
+    book: &BookLock<L, J>,
     logs: &[Mutex<StoreLog<FlakyDisk>>],
     acts: &[Act],
 ) -> Vec<u16> {
@@ -320,21 +323,26 @@ fn play<L: Ledger, R: Wait + Clock + Log + Abort>(
 }
 
 // A store over such disks, and a story.
-fn run<L: Ledger, R: Wait + Clock + Log + Abort>(
+fn run<R: Wait + Clock + Log + Abort>(rt: &R, alloc: Global, fails: &[[Fails; 3]], acts: &[Act]) {
+    let store = new_store(rt, alloc, fails, bare_slots(alloc));
+    let names = Names::new(store.state());
+    run_named::<Brand, Brand, _>(rt, alloc, names, store, acts);
+}
+
+// The same, over this store and under these names.
+fn run_named<L: Ledger, J: Naming, R: Wait + Clock + Log + Abort>(
     rt: &R,
     alloc: Global,
-    blank: Blank,
-    fails: &[[Fails; 3]],
+    names: Names,
+    store: Store<FlakyDisk>,
     acts: &[Act],
 )
-    requires name { blank.name ≡ L.name }
-    requires parts { (blank.parts ≡ L.parts) × (L.parts ≡ 65536) }
-    requires some { 0 < length fails.now }
-    requires few { length fails.now ≤ 64 }
+    requires names { AreNames L.name L.parts J.name J.parts J.book names store.source.state }
+    requires untaken { store.source.state.answers ≡ 0 }
 {
-    let (state, logs, _) = new_store(rt, alloc, fails, bare_slots(alloc)).into_parts();
+    let (state, logs, _) = store.into_parts();
     let logs = locked_logs(alloc, logs).expect(rt, "memory");
-    let book = BookLock::new(Book::<L>::new(blank, state));
+    let book = BookLock::new(Kept::<L, J>::new(names, state));
     let counts = play(rt, alloc, &book, &logs, acts);
     let store = joined(rt, alloc, book, logs);
     expect_kept(rt, alloc, store, &counts);
@@ -381,9 +389,9 @@ const ONE_BUSY: [Act; 5] = [
 #[test]
 fn each_log_has_its_own_workers_changes_once(rt: HostRuntime) {
     let alloc = rt.alloc();
-    run::<Brand, _>(&rt, alloc, Blank::new(65_536), &[SOUND; 2], &TWO);
-    run::<Brand, _>(&rt, alloc, Blank::new(65_536), &[SOUND; 4], &FOUR);
-    run::<Brand, _>(&rt, alloc, Blank::new(65_536), &[SOUND; 4], &ONE_BUSY);
+    run(&rt, alloc, &[SOUND; 2], &TWO);
+    run(&rt, alloc, &[SOUND; 4], &FOUR);
+    run(&rt, alloc, &[SOUND; 4], &ONE_BUSY);
 }
 
 // The disk of log 1 fails four times in a row: at the append of the first Settle, and then at the first call of
@@ -441,8 +449,7 @@ const WARNINGS: &str =
 // A story over two logs, the second of whose plain files fails; what is warned of.
 fn run_failing<R: Wait + Clock + Abort>(rt: &R, alloc: Global, fails: Fails, acts: &[Act]) {
     let logged = Logged::new(rt, Level::Warn, Locked::new(rt, Vec::new(alloc)));
-    let fails = [SOUND, [fails, NEVER, NEVER]];
-    run::<Brand, _>(&logged, alloc, Blank::new(65_536), &fails, acts);
+    run(&logged, alloc, &[SOUND, [fails, NEVER, NEVER]], acts);
     let (_, sink) = logged.into_parts();
     let lines = sink.into_inner();
     assert_eq!(rt; lines.as_slice(), WARNINGS.as_bytes());

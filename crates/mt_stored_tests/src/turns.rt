@@ -1,23 +1,25 @@
 //! Turns of two workers' logs, with a checkpoint in each. A call of one of their disks fails.
 
 ghost use Rattle.std.specs.Prelude.{◌≡◌};
+ghost use Rattle.mt_book.specs.Names.{AreNames};
 
 use crate::checks::expect_recovered;
 use crate::disks::{FlakyDisk, NEVER, SOUND};
 use crate::images::images_of;
-use crate::stories::{TENANTS, new_store, recovered, session_of, slots_with};
+use crate::stories::{TENANTS, new_store, recovered, session_of, shared_logs, slots_with};
 use log::sink::Locked;
 use log::{Level, Log, Logged};
-use mt_book::{Book, BookLock};
+use mt_book::{BookLock, Kept, Names};
+use mt_history::Naming;
 use mt_service::Turns;
 use mt_settle::next_generation;
 use mt_slots::{Slot, StoreSlots};
 use mt_store_logs::{FileImages, StoreLog};
-use mt_stored::{Checks, DueTurn, SharedLogs, Store, locked_logs, unlocked_logs};
+use mt_stored::{Checks, DueTurn, Store, locked_logs, unlocked_logs};
 use std::alloc::Global;
 use std::marker::Brand;
 use std::process::Abort;
-use std::sync::ledger::{Blank, Ledger};
+use std::sync::ledger::Ledger;
 use std::sync::{Mutex, Wait};
 use std::time::Clock;
 
@@ -63,10 +65,10 @@ fn store_with(rt: &impl Abort, alloc: Global, case: Case) -> Store<FlakyDisk>
 
 // Two clients put two keys each in each round. Then one of them settles, and makes a turn. If the Settle is refused, it settles
 // again.
-fn play<L: Ledger, R: Wait + Clock + Log + Abort>(
+fn play<L: Ledger, J: Naming, R: Wait + Clock + Log + Abort>(
     rt: &R,
     alloc: Global,
-    book: &BookLock<L>,
+    book: &BookLock<L, J>,
     logs: &[Mutex<StoreLog<FlakyDisk>>],
     turns: &Turns<FlakyDisk>,
     case: Case,
@@ -74,8 +76,8 @@ fn play<L: Ledger, R: Wait + Clock + Log + Abort>(
     let mut first = session_of(rt, alloc, book, logs, turns, &TENANTS, 0);
     let mut second = session_of(rt, alloc, book, logs, turns, &TENANTS, 1);
     let (from, to) = case.rounds;
-    first.count = from.saturating_mul(2);
-    second.count = first.count;
+    first.skip(from.saturating_mul(2));
+    second.skip(from.saturating_mul(2));
     for round in from..to {
         assert!(rt;
             first.puts(alloc, 2)
@@ -96,23 +98,22 @@ fn last_generation(logs: &[StoreLog<FlakyDisk>]) -> u64 {
 }
 
 // What is left of a store after these rounds.
-fn played<L: Ledger, R: Wait + Clock + Log + Abort>(
+fn played<L: Ledger, J: Naming, R: Wait + Clock + Log + Abort>(
     rt: &R,
     alloc: Global,
-    blank: Blank,
+    names: Names,
     store: Store<FlakyDisk>,
     case: Case,
 ) -> Left
-    requires name { blank.name ≡ L.name }
-    requires parts { (blank.parts ≡ L.parts) × (L.parts ≡ 65536) }
+    requires names { AreNames L.name L.parts J.name J.parts J.book names store.source.state }
     requires untaken { store.source.state.answers ≡ 0 }
 {
     let (state, logs, slots) = store.into_parts();
     let turns = Turns::new(Checks::new(1, 0, slots));
     let logs = locked_logs(alloc, logs).expect(rt, "memory");
-    let book = BookLock::new(Book::<L>::new(blank, state));
+    let book = BookLock::new(Kept::<L, J>::new(names, state));
     play(rt, alloc, &book, &logs, &turns, case);
-    let next = next_generation(rt, &SharedLogs::new(&book, &logs)).expect(rt, "a generation");
+    let next = next_generation(rt, &shared_logs(rt, &book, &logs)).expect(rt, "a generation");
     let logs = unlocked_logs(alloc, logs).expect(rt, "memory");
     let mut checks = turns.into_checks();
     // After a turn that was stopped the next one is due after two settled answers.
@@ -136,7 +137,8 @@ fn run<R: Wait + Clock + Abort>(
     requires untaken { store.source.state.answers ≡ 0 }
 {
     let logged = Logged::new(rt, Level::Warn, Locked::new(rt, Vec::new(alloc)));
-    let left = played::<Brand, _>(&logged, alloc, Blank::new(65_536), store, case);
+    let names = Names::new(store.state());
+    let left = played::<Brand, Brand, _>(&logged, alloc, names, store, case);
     let (_, sink) = logged.into_parts();
     (left, sink.into_inner())
 }

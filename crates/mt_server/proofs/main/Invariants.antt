@@ -1,5 +1,11 @@
 use Rattle.mt_server.proofs.main.Given as goal
 
--- the server's ledger is the one that the blank is made for
-abbrev pub ghosts-run_server : goal.ghosts-run_server
-ghosts-run_server g a = record { name = a.blank.name; parts = a.blank.parts }
+-- the server's ledgers and its history are those that the names are made for
+abbrev pub ghosts-run_server-L-Ledger : goal.ghosts-run_server-L-Ledger
+ghosts-run_server-L-Ledger g a = record { name = a.names.answers.name; parts = a.names.answers.parts }
+
+abbrev pub ghosts-run_server-J-Naming : goal.ghosts-run_server-J-Naming
+ghosts-run_server-J-Naming g a = record { book = a.names.history.seen.book }
+
+abbrev pub ghosts-run_server-J-Ledger : goal.ghosts-run_server-J-Ledger
+ghosts-run_server-J-Ledger g a = record { name = a.names.states.name; parts = a.names.states.parts }

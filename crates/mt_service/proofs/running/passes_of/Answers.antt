@@ -11,6 +11,6 @@ loop-one-preserved g c =
     let one = c.in-Some.one in
     let left = c.next.new.self.rest.items in
     let goes : c.loop-one.one-iterator.rest.items ≡ one ∷ left = search rules in
-    one_moves (λ (pass : Pass g.row.L.Denot). pass.share.amount) (λ (one : Served (SessionWorker g.row.L.Denot g.row.R.Denot g.row.D.Denot)). one.worker.caller.pass.share.amount)
+    one_moves (λ (pass : Pass g.row.L.Denot). pass.share.amount) (λ (one : Served (SessionWorker g.row.L.Denot g.row.J.Denot g.row.R.Denot g.row.D.Denot)). one.worker.caller.pass.share.amount)
     c.loop-one.passes.items c.push-in-loop-one.new.self.items c.into_pass.result c.loop-one.one-iterator.rest.items left one _
     c.loop-one.invariant goes c.in_ok-push-2.ensures.items (ap (λ (pass : Pass g.row.L.Denot). pass.share.amount) c.into_pass.ensures)

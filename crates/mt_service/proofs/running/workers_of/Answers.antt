@@ -1,6 +1,6 @@
 -- One worker more, that of its place.
 use Rattle.std.proofs.Common.{◌≡◌, ◌∙◌, length, sym, subst, arith}
-use Rattle.mt_service.{specs.Workers.{AreOfWorker, EachAt}, proofs.Pushes.pushed}
+use Rattle.mt_service.{specs.Workers.{AreOfWorker, IsWired, EachAt}, proofs.Pushes.pushed}
 use Rattle.mt_service.proofs.running.workers_of.Goals as goal
 
 pub loop-place-preserved : goal.loop-place-preserved
@@ -17,7 +17,18 @@ loop-place-preserved g c =
           subst (λ items. EachAt items (λ place x. AreOfWorker logs place x.caller.pass.worker x.caller.keeper.worker)) (sym c.in_ok-push.ensures.items)
           (pushed workers.items one (λ place x. AreOfWorker logs place x.caller.pass.worker x.caller.keeper.worker) c.loop-place.invariant.each
           (subst (λ n. AreOfWorker logs n one.caller.pass.worker one.caller.keeper.worker) (sym here) c.in_ok-worker_at.ensures.own));
-      tenants =
-          subst (λ items. EachAt items (λ place x. x.caller.tenants.now ≡ c.args.options.now.tenants.items)) (sym c.in_ok-push.ensures.items)
-          (pushed workers.items one (λ place x. x.caller.tenants.now ≡ c.args.options.now.tenants.items) c.loop-place.invariant.tenants (c.in_ok-worker_at.ensures.tenants ∙ c.as_slice.ensures.value));
+      wired =
+          subst
+          (λ items. EachAt items (λ place x. IsWired c.args.book.now c.args.logs.now c.args.turns.now c.args.options.now.tenants.items x.caller.desk.lock.now x.caller.keeper.logs.book.clerk.lock.now x.caller.keeper.logs.logs.now x.caller.turns.now x.caller.tenants.now))
+          (sym c.in_ok-push.ensures.items)
+          (pushed workers.items one
+          (λ place x. IsWired c.args.book.now c.args.logs.now c.args.turns.now c.args.options.now.tenants.items x.caller.desk.lock.now x.caller.keeper.logs.book.clerk.lock.now x.caller.keeper.logs.logs.now x.caller.turns.now x.caller.tenants.now)
+          c.loop-place.invariant.wired
+          (record {
+            desk = c.in_ok-worker_at.ensures.wired.desk;
+            keeper = c.in_ok-worker_at.ensures.wired.keeper;
+            logs_are = c.in_ok-worker_at.ensures.wired.logs_are;
+            turns_are = c.in_ok-worker_at.ensures.wired.turns_are;
+            tenants_are = c.in_ok-worker_at.ensures.wired.tenants_are ∙ c.as_slice.ensures.value;
+          }));
     }

@@ -1,6 +1,5 @@
 -- What was flushed is the log that is locked, up to the steps of the book.
 use Rattle.std.proofs.{Common.{◌≡◌, ◌∙◌, ap}, lemmas.Result.IfOk-weaker}
-use Rattle.mt_book.specs.declared.books.Book.{Book}
 use Rattle.mt_store_logs.specs.{declared.store_log.StoreLog.StoreLog, Places.worker_of}
 use Rattle.mt_stored.proofs.SharedTurns.{brought}
 use Rattle.mt_stored.proofs.shared.SharedLogsLogs.bring_up.Goals as goal
@@ -12,7 +11,6 @@ returns-clause-whose g c =
 
 pub returns-clause-does : goal.returns-clause-does
 returns-clause-does g c =
-    brought g.D.Disk.is_honest g.D.Disk.state g.D.Disk.failures _ (λ s t worker batch given. given) c.args.log c.deref_mut.result.now c.bring_up-told.new.log _ _
-    (ap (λ (l : StoreLog g.row.D.Denot). worker_of l) c.deref_mut.ensures.value ∙ c.in_ok-guard.ensures.own)
-    c.locked.result.value.state c.locked.ensures.state c.steps-steps.result
-    (c.steps-steps.ensures ∙ ap (λ (b : Book g.row.L.Denot). b.state.steps) c.deref-2.ensures) c.bring_up-told.result c.bring_up-told.ensures.ok c.bring_up-told.ensures.err
+    brought g.D.Disk.is_honest g.D.Disk.state g.D.Disk.failures _ (λ book. book.clerk.mark) (λ s t worker batch given. given) c.args.log c.deref_mut.result.now c.bring_up-told.new.log _ c.bring_up-told.new.source c.args.self.now.book.clerk.mark
+    (ap (λ (l : StoreLog g.row.D.Denot). worker_of l) c.deref_mut.ensures.value ∙ c.in_ok-guard.ensures.own) c.look-steps.result c.look-steps.ensures c.bring_up-told.result c.bring_up-told.ensures.ok
+    c.bring_up-told.ensures.err

@@ -8,4 +8,4 @@ pub returns-clause-does : goal.returns-clause-does
 returns-clause-does g c =
     given_up g.D.Disk.is_honest g.D.Disk.state g.D.Disk.failures c.args.log c.deref_mut.result.now c.give_up_older.new.self
     (ap (λ (l : StoreLog g.row.D.Denot). worker_of l) c.deref_mut.ensures.value ∙ c.in_ok-lock_at.ensures.own)
-    c.give_up_older.result c.give_up_older.ensures.ok c.give_up_older.ensures.err
+    c.args.self.now.book.clerk.mark c.give_up_older.result c.give_up_older.ensures.ok c.give_up_older.ensures.err
