@@ -52,10 +52,14 @@ fresh_slots = record { slices = []; marks = []; helds = fifteen_of (Link 0); dro
 abbrev pub first_slots : ℕ → Places
 first_slots count = record { live = take count fifteen; free = drop count fifteen }
 
--- the live slots are the first ones in the order of keys, and none was dropped
-pub record IsFresh (s : Slotted) : Type 0 where
+-- the live slots are the first ones in the order of keys, and these were dropped at some time
+pub record IsRenewed (flags : List Bool) (s : Slotted) : Type 0 where
   pub order : s.order ≡ first_slots (length (listed s))
-  pub unflagged : s.dropped ≡ fifteen_of false
+  pub flagged : s.dropped ≡ flags
+
+-- so in a new node, of whose slots none was dropped
+abbrev pub IsFresh : Slotted → Type 0
+IsFresh s = IsRenewed (fifteen_of false) s
 
 -- fifteen slots, of which each live one has a slice and a mark
 pub record IsSlotted (s : Slotted) : Type 0 where

@@ -71,7 +71,7 @@ impl Border {
     ghost use Rattle.mt_border.specs.{Entry.{order_at, order_of, IsEntry, IsRest, IsStablePair, IsUnlinked, IsLinked}, Rows.entry_seen};
     ghost use Rattle.mt_border.specs.{Entries.{IsBorder, IsMissing, place_in, with_entry, without}, Split.{IsCut, IsParted, IsSeparator, slices_with}};
     ghost use Rattle.mt_border.specs.Node.{empty_node, entries_of, entry_at, held_at, place_at, filled, IsLive, Finds, Rewrites};
-    ghost use Rattle.mt_border.specs.{Slots.{held_in, helds_left, next_free, is_dropped, IsFresh}, Keeps.{KeepsEntries, LosesOnly}};
+    ghost use Rattle.mt_border.specs.{Slots.{held_in, helds_left, next_free, is_dropped, IsRenewed, IsFresh}, Keeps.{KeepsEntries, LosesOnly}};
     ghost use Rattle.mt_order.specs.Places.{order_with, order_without, word_of, IsPlaces};
 
     /// A node without keys, neighbours and parent.
@@ -365,8 +365,9 @@ impl Border {
     }
 
     /// Splits a full node as if it had this key too, which is in neither half: keys from the
-    /// separator on move to the right. Both halves have their keys in the first slots, in order, and no
-    /// slot that counts as dropped. Gives the separator.
+    /// separator on move to the right. Both halves have their keys in the first slots, in order. A slot
+    /// of this node that was ever dropped stays known as such, and none of the right half's is. Gives the
+    /// separator.
     pub fn split_without(&mut self, slice: u64, mark: Mark, right: &mut Border) -> u64
         requires full { length (entries_of self.old) ≡ SLOTS }
         requires mark { IsMark mark }
@@ -378,7 +379,7 @@ impl Border {
             (entries_of self.new) (entries_of right.new) result }
         ensures two_on_the_left { 2 ≤ length (entries_of self.new) }
         ensures two_on_the_right { 2 ≤ length (entries_of right.new) }
-        ensures fresh { IsFresh self.new.slots }
+        ensures renewed { IsRenewed self.old.slots.dropped self.new.slots }
         ensures fresh_on_the_right { IsFresh right.new.slots }
         ensures others { self.new ≡ record self.old { slots = self.new.slots } }
         ensures others_on_the_right { right.new ≡ record right.old { slots = right.new.slots } }
@@ -402,7 +403,7 @@ impl Border {
             IsCut sixteen (length (entries_of self.new)) }
         ensures parted { IsParted (with_entry (entries_of self.old) entry)
             (entries_of self.new) (entries_of right.new) result }
-        ensures fresh { IsFresh self.new.slots }
+        ensures renewed { IsRenewed self.old.slots.dropped self.new.slots }
         ensures fresh_on_the_right { IsFresh right.new.slots }
         ensures others { self.new ≡ record self.old { slots = self.new.slots } }
         ensures others_on_the_right { right.new ≡ record right.old { slots = right.new.slots } }
@@ -422,7 +423,7 @@ impl Border {
         requires entry { IsEntry entry }
         requires missing { IsMissing (entries_of self.old) entry.slice entry.mark }
         ensures entries { entries_of self.new ≡ with_entry (entries_of self.old) entry }
-        ensures fresh { IsFresh self.new.slots }
+        ensures renewed { IsRenewed self.old.slots.dropped self.new.slots }
         ensures others { self.new ≡ record self.old { slots = self.new.slots } }
     {
         self.publish(entry);

@@ -47,7 +47,7 @@ impl Model for Slots {
 
 impl Slots {
     ghost use Rattle.mt_border.specs.{Restamps.{all_restamped}, Entries.{slices, marks}, Rows.entry_seen};
-    ghost use Rattle.mt_border.specs.Slots.{IsSlotted, held_in, helds_left, next_free, is_dropped, fresh_slots, listed, IsFresh};
+    ghost use Rattle.mt_border.specs.Slots.{IsSlotted, held_in, helds_left, next_free, is_dropped, fresh_slots, listed, IsRenewed, IsFresh};
     ghost use Rattle.mt_order.specs.Places.{place_of_slot, order_with, order_without, word_of};
 
     pub(crate) fn new() -> Self
@@ -288,34 +288,39 @@ impl Slots {
     }
 
     /// Moves the entries from place `keep` on into other slots, whatever these hold. On both sides they
-    /// stand in the first slots then, in the order of keys, and none of these counts as dropped.
+    /// stand in the first slots then, in the order of keys. A slot that was ever dropped stays known as
+    /// such here, and on the right none is.
     pub(crate) fn part(&mut self, keep: usize, right: &mut Slots)
         requires within { keep ≤ length (listed self.old) }
         requires few { length (listed self.old) ≤ SLOTS }
         ensures kept { listed self.new ≡ take keep (listed self.old) }
         ensures moved { listed right.new ≡ drop keep (listed self.old) }
-        ensures fresh { IsFresh self.new }
+        ensures renewed { IsRenewed self.old.dropped self.new }
         ensures fresh_on_the_right { IsFresh right.new }
         ensures slotted { IsSlotted self.new }
         ensures slotted_on_the_right { IsSlotted right.new }
     {
+        let dropped = self.dropped;
         let mut behind = Slots::new();
         self.move_tail(keep, &mut behind);
         *right = behind;
         self.renew();
+        self.dropped = dropped;
     }
 
-    /// Moves the entries into the first slots, in the order of keys. None of the slots counts as dropped
-    /// any more.
+    /// Moves the entries into the first slots, in the order of keys. A slot that was ever dropped stays
+    /// known as such.
     pub(crate) fn renew(&mut self)
         requires few { length (listed self.old) ≤ SLOTS }
         ensures entries { listed self.new ≡ listed self.old }
-        ensures fresh { IsFresh self.new }
+        ensures renewed { IsRenewed self.old.dropped self.new }
         ensures slotted { IsSlotted self.new }
     {
+        let dropped = self.dropped;
         let mut renewed = Slots::new();
         self.move_tail(0, &mut renewed);
         *self = renewed;
+        self.dropped = dropped;
     }
 
     // Moves the entries from place `keep` on into fresh slots. Those that stay keep their slots.
