@@ -1,7 +1,7 @@
 -- Two nodes of a list that is cut in two are those of the whole list: for the bodies that change two nodes at once.
 use Rattle.std.proofs.Common.{◌≡◌, ◌≢◌, ℕ, zero, suc, ◌+◌, ◌<◌, ◌≤◌, List, [], ◌∷◌, ◌++◌, length, take, drop, get_or, set, Option, refl, sym, ap, ◌∙◌, arith}
 use Rattle.std.proofs.lemmas.List.{get_or-take, get_or-drop, get_or_default, set_comm, length-set, take_at}
-use Rattle.mt_border.specs.{declared.entry.Entry.Entry, Split.IsParted}
+use Rattle.mt_border.specs.{declared.entry.Entry.Entry, Split.IsParted, Slots.{IsRenewed, IsFresh}}
 use Rattle.mt_arena.specs.{NodeView.{NodeView, node_at, no_node}, Splits.{with_some, left_half, right_half}, Several.AreHalved}
 
 -- the first node behind is another
@@ -27,8 +27,8 @@ module _ (all : List Entry) (xs : List NodeView) (i j : ℕ) (y z : NodeView) wh
 
   -- the two halves as the clause of a split wants them
   pub halved : (ys : List NodeView) → ys ≡ set (set xs i y) j z → IsParted all y.slots z.slots r.low → 0 < length y.slots → 0 < length z.slots
-      → y ≡ left_half x y.slots y.cells r.low j → z ≡ right_half x r z.slots z.cells i → AreHalved all xs ys i j
-  halved ys are parted some_kept some_moved left right = record {
+      → IsRenewed x.cells.dropped y.cells → IsFresh z.cells → y ≡ left_half x y.slots y.cells r.low j → z ≡ right_half x r z.slots z.cells i → AreHalved all xs ys i j
+  halved ys are parted some_kept some_moved renewed fresh left right = record {
     kept = y.slots;
     moved = z.slots;
     kept_cells = y.cells;
@@ -36,6 +36,8 @@ module _ (all : List Entry) (xs : List NodeView) (i j : ℕ) (y z : NodeView) wh
     parted = parted;
     some_kept = some_kept;
     some_moved = some_moved;
+    renewed = renewed;
+    fresh = fresh;
     is = are ∙ ap (λ (n : NodeView). set (set xs i n) j z) left ∙ ap (λ (n : NodeView). set (set xs i (left_half x y.slots y.cells r.low j)) j n) right;
   }
 
@@ -57,23 +59,25 @@ in_back xs back j d is within =
 module _ (entry : Option Entry) (xs front back : List NodeView) (i j : ℕ) (d e y z : NodeView) where
   pub halved_front : front ≡ take j xs → back ≡ drop j xs → i < j → j < length xs
       → IsParted (with_some (get_or front i d).slots entry) y.slots z.slots (get_or back 0 e).low → 0 < length y.slots → 0 < length z.slots
+      → IsRenewed (get_or front i d).cells.dropped y.cells → IsFresh z.cells
       → y ≡ left_half (get_or front i d) y.slots y.cells (get_or back 0 e).low j → z ≡ right_half (get_or front i d) (get_or back 0 e) z.slots z.cells i
       → AreHalved (with_some (node_at xs i).slots entry) xs (set front i y ++ set back 0 z) i j
-  halved_front first second lt within parted some_kept some_moved left right =
+  halved_front first second lt within parted some_kept some_moved renewed fresh left right =
       let x_is = in_front xs front i j d first lt within in
       let r_is = in_back xs back j e second within in
       halved _ xs i j y z (set front i y ++ set back 0 z) (rw (first, second) (both_set xs i j y z lt within))
-      (rw (x_is, r_is) at parted) some_kept some_moved (rw (x_is, r_is) at left) (rw (x_is, r_is) at right)
+      (rw (x_is, r_is) at parted) some_kept some_moved (rw x_is at renewed) fresh (rw (x_is, r_is) at left) (rw (x_is, r_is) at right)
 
   pub halved_back : front ≡ take i xs → back ≡ drop i xs → i ≢ j → j ≤ i → i < length xs
       → IsParted (with_some (get_or back 0 d).slots entry) y.slots z.slots (get_or front j e).low → 0 < length y.slots → 0 < length z.slots
+      → IsRenewed (get_or back 0 d).cells.dropped y.cells → IsFresh z.cells
       → y ≡ left_half (get_or back 0 d) y.slots y.cells (get_or front j e).low j → z ≡ right_half (get_or back 0 d) (get_or front j e) z.slots z.cells i
       → AreHalved (with_some (node_at xs i).slots entry) xs (set front j z ++ set back 0 y) i j
-  halved_back first second differ le within parted some_kept some_moved left right =
+  halved_back first second differ le within parted some_kept some_moved renewed fresh left right =
       let r_is = in_front xs front j i e first (omega (arith, differ, le)) within in
       let x_is = in_back xs back i d second within in
       halved _ xs i j y z (set front j z ++ set back 0 y) (rw (first, second) (both_back xs i j y z differ le within))
-      (rw (x_is, r_is) at parted) some_kept some_moved (rw (x_is, r_is) at left) (rw (x_is, r_is) at right)
+      (rw (x_is, r_is) at parted) some_kept some_moved (rw x_is at renewed) fresh (rw (x_is, r_is) at left) (rw (x_is, r_is) at right)
 
 -- the whole list, written back: two writes keep the number of nodes
 pub written : (all : List Entry) (xs ws : List NodeView) (n i j : ℕ) → length xs ≡ n → AreHalved all xs ws i j → take n (ws ++ drop (length ws) xs) ≡ ws

@@ -1,5 +1,5 @@
 -- What the calls that change several nodes at once need, and what they leave.
-use Rattle.mt_border.specs.Slots.{Slotted}
+use Rattle.mt_border.specs.Slots.{Slotted, IsRenewed, IsFresh}
 use Rattle.std.specs.Prelude.{◌≡◌, ◌≢◌, ℕ, ◌<◌, true, false, List, [], ◌∷◌, ◌++◌, length, Some, None, slice_set}
 use Rattle.mt_slices.specs.{declared.mark.Mark.Mark, Marks.IsMark}
 use Rattle.mt_rows.specs.Rows.{Bytes}
@@ -44,7 +44,8 @@ pub record MayPlace (v : ArenaView) (left op : ℕ) (key : Bytes) (e : Entry) : 
   pub entry : IsEntry e
   pub stable : IsStablePair e.held
 
--- the nodes, of which one has kept some of these slots, and its right half has got the others
+-- the nodes, of which one has kept some of these slots, and its right half has got the others; the one still knows which of its fifteen
+-- were ever dropped, and of the other's none was
 pub record AreHalved (all : List Entry) (old new : List NodeView) (left right : ℕ) : Type 0 where
   pub kept : List Entry
   pub moved : List Entry
@@ -53,6 +54,8 @@ pub record AreHalved (all : List Entry) (old new : List NodeView) (left right : 
   pub parted : IsParted all kept moved (node_at old right).low
   pub some_kept : 0 < length kept
   pub some_moved : 0 < length moved
+  pub renewed : IsRenewed (node_at old left).cells.dropped kept_cells
+  pub fresh : IsFresh moved_cells
   pub is : new ≡ slice_set (slice_set old left (left_half (node_at old left) kept kept_cells (node_at old right).low right)) right (right_half (node_at old left) (node_at old right) moved moved_cells left)
 
 -- the operation may put a new root over the halves of one: it holds both, both are marked, and the left one is the root

@@ -52,7 +52,7 @@ impl Model for Node {
 
 impl Node {
     ghost use Rattle.mt_version.specs.Changes.{CanUnlock};
-    ghost use Rattle.mt_border.specs.{Slots.{held_in, next_free, is_dropped}, Entry.{IsEntry, IsStablePair, order_of}, Entries.{IsMissing, place_in, with_entry, without, replaced}};
+    ghost use Rattle.mt_border.specs.{Slots.{held_in, next_free, is_dropped, IsRenewed, IsFresh}, Entry.{IsEntry, IsStablePair, order_of}, Entries.{IsMissing, place_in, with_entry, without, replaced}};
     ghost use Rattle.mt_border.specs.{declared.border.TheConstants.SLOTS, Held.{Pair, Stable}, Split.{IsParted, IsSeparator, slices_with}};
     ghost use Rattle.mt_border.specs.Keeps.{HasEntry, KeepsEntries, LosesOnly};
     ghost use Rattle.mt_arena.specs.{NodeView.{NodeView, place_at, border_view, interior_view, IsOfKind}, Layers.slot_at};
@@ -376,7 +376,8 @@ impl Node {
 
     /// Parts the slots of a full border node among it and its right half, which gets its range from
     /// its low fence on: where they are parted with the missing key of this slice and mark. Where
-    /// there is an entry, which is that key's, it comes in too. The nodes' numbers are those behind.
+    /// there is an entry, which is that key's, it comes in too. A slot of this node that was ever dropped
+    /// stays known as such. The nodes' numbers are those behind.
     pub(crate) fn split(
         &mut self,
         slice: u64,
@@ -399,6 +400,8 @@ impl Node {
         ensures parted { IsParted (with_some self.old.slots entry) self.new.slots right.new.slots right.old.low }
         ensures some_left { 0 < length self.new.slots }
         ensures some_right { 0 < length right.new.slots }
+        ensures renewed { IsRenewed self.old.cells.dropped self.new.cells }
+        ensures fresh { IsFresh right.new.cells }
         ensures left { self.new ≡ left_half self.old self.new.slots self.new.cells right.old.low right_number }
         ensures right { right.new ≡ right_half self.old right.old right.new.slots right.new.cells left_number }
     {
