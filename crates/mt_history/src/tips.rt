@@ -1,6 +1,6 @@
 //! The history whole, for whoever holds the lock.
 
-ghost use Rattle.std.specs.Prelude.{◌≡◌, ◌+◌, ◌<◌, [], ◌∷◌, ◌++◌, length};
+ghost use Rattle.std.specs.Prelude.{◌≡◌, ◌+◌, [], ◌∷◌, ◌++◌, length};
 ghost use mathlib.Core.List.{IsPrefix};
 ghost use Rattle.mt_history.specs.{Legal.{IsLegal, MayFollow}, Rules.head_of};
 
@@ -85,9 +85,9 @@ impl<S, F: Follows<S>, J: Naming> Tip<S, F, J> {
         let _ = self.seen.again();
     }
 
-    /// A mark that has seen all of it, with a share that counts what its holder adds.
+    /// A mark that has seen all of it, with a part of the ledger that counts what its holder adds.
     pub fn mark(&self, made: Share<J>) -> Mark<S, F, J>
-        requires { 0 < made.parts }
+        requires { made.parts ≡ 1 }
         ensures log { result.log ≡ self.now }
         ensures made { result.made ≡ made.amount }
     {
@@ -129,6 +129,15 @@ impl<S, F: Follows<S>, J: Naming> Tip<S, F, J> {
         self.total.add(&mut mark.made, 1);
         mark.seen = seen.again();
         self.seen = seen;
+    }
+
+    /// All parts of the ledger count each state but the first.
+    pub fn audit(&mut self, all: &mut Share<J>)
+        requires { all.old.parts ≡ J.parts }
+        ensures same { (self.new ≡ self.old) × (all.new.parts ≡ all.old.parts) × (all.new.amount ≡ all.old.amount) }
+        ensures counted { length self.new ≡ all.new.amount + 1 }
+    {
+        self.total.audit(all);
     }
 }
 
