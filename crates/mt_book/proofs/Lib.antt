@@ -1,5 +1,6 @@
 pub mod Answering
 pub mod Chains
+pub mod Gathering
 pub mod Gating
 pub mod Turns
 pub mod NextPhases

@@ -3,8 +3,9 @@
 ghost use Rattle.std.specs.Prelude.{◌≡◌, ◌+◌, ◌<◌, ◌≤◌, true, [], ◌∷◌, ◌++◌, length, IfOk, IfErr, IfSome, IfNone, OnErr};
 ghost use Rattle.std.specs.List.{sum_by};
 ghost use Rattle.mt_batches.specs.Batches.{IsBounded, BringsOn};
-ghost use Rattle.mt_history.specs.Legal.{EndsWith};
-ghost use Rattle.mt_book.specs.{declared.passes.Pass.Pass, Books.IsRightBook, Happens.{Adds, Acted, Opened, Given}, Names.AreNames};
+ghost use mathlib.Core.List.{IsPrefix};
+ghost use Rattle.mt_history.specs.Legal.{EndsWith, IsLegal};
+ghost use Rattle.mt_book.specs.{declared.passes.Pass.Pass, Books.IsRightBook, Happens.{Adds, Acted, Opened, Given, Leads}, Keeping.{IsUnasked, BeginsUnasked}, Names.AreNames};
 ghost use Rattle.mt_book.specs.Periods.{IsOfWorker, look_period, admission_period, FitsAdmission, step_period, FitsStepping, taking_period, FitsTaking, room_of, answers_in};
 
 use crate::books::{Book, PARTS};
@@ -34,20 +35,20 @@ pub struct Kept<L: Ledger, J: Naming> {
 impl<L: Ledger, J: Naming> Model for Kept<L, J> {
     ghost use Rattle.std.specs.Prelude.{◌≡◌, ◌+◌};
     ghost use Rattle.mt_history.specs.Legal.{EndsWith};
-    ghost use Rattle.mt_book.specs.Keeping.{KeptView};
+    ghost use Rattle.mt_book.specs.Keeping.{KeptView, BeginsUnasked};
 
     ghost Value = { KeptView };
 
-    ghost view = { λ k. record { state = k.book.state; log = k.tip; total = k.book.total.total; parts = k.book.rest.parts; opened = k.book.opened } };
+    ghost view = { λ k. record { state = k.book.state; log = k.tip; total = k.book.total.total; parts = k.book.rest.parts; opened = k.book.opened; marks = k.marks } };
 
-    ghost invariant = { λ k. EndsWith k.tip k.book.state × (k.rest.parts + k.marks ≡ 65536) × (k.rest.amount ≡ 0) };
+    ghost invariant = { λ k. EndsWith k.tip k.book.state × BeginsUnasked k.tip × (k.rest.parts + k.marks ≡ 65536) × (k.rest.amount ≡ 0) × (J.parts ≡ 65536) };
 }
 
 impl<L: Ledger, J: Naming> Kept<L, J> {
-    /// A book of a state of which no answer was taken, under these names. Its history begins with the state.
+    /// A book of a state of which nothing was asked, under these names. Its history begins with the state.
     pub fn new(names: Names, state: State) -> Kept<L, J>
         requires names { AreNames L.name L.parts J.name J.parts J.book names state }
-        requires untaken { state.answers ≡ 0 }
+        requires unasked { IsUnasked state }
         ensures state { result.state ≡ state }
         ensures log { result.log ≡ state ∷ [] }
     {
@@ -78,13 +79,6 @@ impl<L: Ledger, J: Naming> Kept<L, J> {
         ensures ends { EndsWith self.now.log self.now.state }
     {
         self.book.facts();
-    }
-
-    /// How many steps were made.
-    pub fn steps(&self) -> u64
-        ensures { result ≡ self.now.state.steps }
-    {
-        self.book.steps()
     }
 
     pub(crate) fn look<R: Wait + Clock>(
@@ -157,7 +151,7 @@ impl<L: Ledger, J: Naming> Kept<L, J> {
     }
 
     /// A mark that has seen the whole history; none if 65,535 were given.
-    pub(crate) fn open_mark(&mut self) -> Option<Mark<State, Periods, J>>
+    pub fn open_mark(&mut self) -> Option<Mark<State, Periods, J>>
         ensures mark { IfSome result (λ mark. (mark.log ≡ self.new.log) × (mark.made ≡ 0)) }
         ensures log { self.new.log ≡ self.old.log }
         ensures state { self.new.state ≡ self.old.state }
@@ -177,9 +171,13 @@ impl<L: Ledger, J: Naming> Kept<L, J> {
     ) -> Option<(Pass<L>, Mark<State, Periods, J>)>
         ensures { IfSome result (λ r. (r.0.worker ≡ worker) × (r.0.seen ≡ 0) × (r.0.share.amount ≡ 0) × (r.1.log ≡ self.new.log) × (r.1.made ≡ 1)) }
     {
-        let mut mark = self.open_mark()?;
+        if self.marks >= PARTS - 1 {
+            return None;
+        }
         self.book.facts();
         let pass = self.book.open_pass(worker)?;
+        self.marks += 1;
+        let mut mark = self.tip.mark(self.rest.split_off(1, 0));
         self.tip.add(rt, &mut mark, self.book.state());
         Some((pass, mark))
     }
@@ -216,12 +214,66 @@ impl<L: Ledger, J: Naming> Kept<L, J> {
         }
     }
 
+    /// How many marks were given.
+    pub(crate) fn marks(&self) -> u64
+        ensures { result ≡ self.now.marks }
+    {
+        self.marks
+    }
+
     pub(crate) fn gather(&mut self, passes: Vec<Pass<L>>) -> Result<u64, Vec<Pass<L>>>
         requires { L.parts ≡ 65536 }
+        ensures total { IfOk result (λ n. n ≡ self.new.state.answers) }
         ensures sum { IfOk result (λ n. n ≡ sum_by (λ (p : Pass L). p.share.amount) passes.items) }
         ensures back { IfErr result (λ back. back ≡ passes) }
-        ensures same { self.new.log ≡ self.old.log }
+        ensures marks { self.new.marks ≡ self.old.marks }
     {
         self.book.gather(passes)
+    }
+
+    /// The parts of the history's ledger that no mark has. No mark is given any more.
+    pub(crate) fn take_parts(&mut self) -> Share<J>
+        ensures parts { result.parts + self.old.marks ≡ 65536 }
+        ensures amount { result.amount ≡ 0 }
+        ensures state { self.new.state ≡ self.old.state }
+    {
+        let marks = self.marks;
+        self.marks = PARTS;
+        self.rest.split_off(PARTS - marks, 0)
+    }
+
+    /// Takes a mark back after a last look, and adds its part of the ledger to others.
+    pub(crate) fn take_back<R: Wait + Clock>(
+        &mut self,
+        rt: &R,
+        mark: Mark<State, Periods, J>,
+        parts: &mut Share<J>,
+    )
+        ensures state { self.new.state ≡ self.old.state }
+        ensures upto { IsPrefix self.old.log self.new.log }
+        ensures seen { IsPrefix mark.log self.new.log }
+        ensures parts { parts.new.parts ≡ parts.old.parts + 1 }
+        ensures amount { parts.new.amount ≡ parts.old.amount + (mark.made + 1) }
+    {
+        let mut mark = mark;
+        self.book.facts();
+        let _ = Desk::look(&mut self.book, rt);
+        self.tip.add(rt, &mut mark, self.book.state());
+        parts.merge(mark.into_part());
+    }
+
+    /// All parts of the ledger count each state but the first.
+    pub(crate) fn audit(&mut self, all: &mut Share<J>)
+        requires { all.old.parts ≡ 65536 }
+        ensures state { self.new.state ≡ self.old.state }
+        ensures log { self.new.log ≡ self.old.log }
+        ensures amount { all.new.amount ≡ all.old.amount }
+        ensures counted { length self.new.log ≡ all.new.amount + 1 }
+        ensures legal { IsLegal Leads self.new.log }
+        ensures begins { BeginsUnasked self.new.log }
+        ensures ends { EndsWith self.new.log self.new.state }
+    {
+        self.tip.facts();
+        self.tip.audit(all);
     }
 }

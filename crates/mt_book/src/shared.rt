@@ -1,10 +1,10 @@
 //! The book as a desk: owned alone, or under a lock that many threads share.
 
-ghost use Rattle.std.specs.{Prelude.{◌≡◌, IfSome, IfNone, IfOk, IfErr, OnErr}, List.sum_by};
+ghost use Rattle.std.specs.{Prelude.{◌≡◌, ◌+◌, vec_len, IfSome, IfNone, IfOk, IfErr, OnErr}, List.{AllByRecursion, sum_by}};
 ghost use Rattle.mt_batches.specs.Batches.{IsBounded, BringsOn};
 ghost use mathlib.Core.List.{IsPrefix};
 ghost use Rattle.mt_history.specs.Legal.{EndsWith, IsLegal};
-ghost use Rattle.mt_book.specs.{declared.passes.Pass.Pass, Books.IsRightBook, Happens.{Adds, Given, Leads}};
+ghost use Rattle.mt_book.specs.{declared.passes.Pass.Pass, Books.IsRightBook, Happens.{Adds, Given, Leads}, Keeping.IsWhole};
 
 use crate::books::Book;
 use crate::desks::{Admission, Admitted, Desk, Look, Stepping, Taken, Taking};
@@ -17,7 +17,7 @@ use mt_core::{Displaced, Opening, State, Ticket};
 use mt_drains::DrainedBatch;
 use mt_history::{Mark, Naming};
 use std::alloc::AllocError;
-use std::sync::ledger::Ledger;
+use std::sync::ledger::{Ledger, Share};
 use std::sync::{MutexGuard, Wait};
 use std::thread;
 use std::time::Clock;
@@ -126,7 +126,15 @@ pub struct Clerk<'a, L: Ledger, J: Naming> {
     mark: Mark<State, Periods, J>,
 }
 
-impl<L: Ledger, J: Naming> Clerk<'_, L, J> {
+impl<'a, L: Ledger, J: Naming> Clerk<'a, L, J> {
+    /// The clerk of a mark that was given before the book was locked.
+    pub fn new(lock: &'a BookLock<L, J>, mark: Mark<State, Periods, J>) -> Self
+        ensures lock { result.lock.now ≡ lock.now }
+        ensures mark { result.mark ≡ mark }
+    {
+        Clerk { lock, mark }
+    }
+
     /// What two clerks have seen are beginnings of one history. Afterwards this one has seen what both had.
     pub fn learn(&mut self, other: &Clerk<'_, L, J>)
         ensures this { IsPrefix self.old.mark.log self.new.mark.log }
@@ -242,15 +250,50 @@ fn drained<L: Ledger, J: Naming, R: Wait + Clock>(
     Some(guard.drain(rt, worker, upto, &mut clerk.mark))
 }
 
-/// The total, once, where the passes are all that were opened; else they come back.
-pub fn gather<L: Ledger, J: Naming, R: Wait + Clock>(
+/// Passes and clerks that are given back.
+pub type Callers<'a, L, J> = (Vec<Pass<L>>, Vec<Clerk<'a, L, J>>);
+
+/// The total, once, if these are all passes and all clerks that were given; else they come back. Each clerk looks a last
+/// time. The history is then known whole, and the total is the number of answers that were taken in it.
+pub fn gather<'a, L: Ledger, J: Naming, R: Wait + Clock>(
     rt: &R,
     book: &BookLock<L, J>,
     passes: Vec<Pass<L>>,
-) -> Result<u64, Vec<Pass<L>>>
+    clerks: Vec<Clerk<'a, L, J>>,
+) -> Result<u64, Callers<'a, L, J>>
     requires { L.parts ≡ 65536 }
     ensures sum { IfOk result (λ n. n ≡ sum_by (λ (p : Pass L). p.share.amount) passes.items) }
-    ensures back { IfErr result (λ back. back ≡ passes) }
+    ensures whole { IfOk result (λ n. IsWhole (λ (c : Clerk L J). c.mark) clerks.entry.items n) }
+    ensures back { IfErr result (λ back. (back.0 ≡ passes) × (back.1 ≡ clerks.entry)) }
 {
-    locked(rt, book).gather(passes)
+    let mut guard = locked(rt, book);
+    if guard.marks() != clerks.len() as u64 {
+        return Err((passes, clerks));
+    }
+    match guard.gather(passes) {
+        Ok(answers) => {
+            let mut parts = guard.take_parts();
+            take_all_back(rt, &mut *guard, clerks, &mut parts);
+            guard.audit(&mut parts);
+            Ok(answers)
+        }
+        Err(passes) => Err((passes, clerks)),
+    }
+}
+
+// Takes back the marks of these clerks, and adds their parts of the history's ledger to others.
+fn take_all_back<L: Ledger, J: Naming, R: Wait + Clock>(
+    rt: &R,
+    kept: &mut Kept<L, J>,
+    clerks: Vec<Clerk<'_, L, J>>,
+    parts: &mut Share<J>,
+)
+    ensures state { kept.new.state ≡ kept.old.state }
+    ensures seen { AllByRecursion (λ (c : Clerk L J). IsPrefix c.mark.log kept.new.log) clerks.entry.items }
+    ensures parts { parts.new.parts ≡ parts.old.parts + vec_len clerks.entry }
+    ensures amount { parts.new.amount ≡ parts.old.amount + (sum_by (λ (c : Clerk L J). c.mark.made) clerks.entry.items + vec_len clerks.entry) }
+{
+    for clerk in clerks {
+        kept.take_back(rt, clerk.mark, parts);
+    }
 }
