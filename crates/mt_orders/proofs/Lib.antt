@@ -1,0 +1,10 @@
+pub mod Past
+pub mod Growths
+pub mod Steps
+pub mod Quiet
+pub mod Longer
+pub mod Happenings
+pub mod Explaining
+pub mod Preceding
+pub mod Adding
+pub mod Calling

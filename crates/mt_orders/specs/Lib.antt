@@ -1,0 +1,4 @@
+pub mod Added
+pub mod Answered
+pub mod Explained
+pub mod Stories
