@@ -1,7 +1,7 @@
 //! Accepting, handing on, serving, joining.
 
-ghost use Rattle.std.specs.{Prelude.{◌≡◌, ◌≤◌, ◌<◌, ◌^◌, IfOk, vec_len, length}, List.sum_by};
-ghost use Rattle.mt_crew.specs.{declared.crew.Served.Served, declared.crew.CrewFault.TheVariants.Memory};
+ghost use Rattle.std.specs.{Prelude.{◌≡◌, ◌<◌, ◌^◌, Bool, IfOk, vec_len, length}, List.{sum_by, AllZip}};
+ghost use Rattle.mt_crew.specs.{Servings.IsServed, declared.crew.Served.Served, declared.crew.CrewFault.TheVariants.Memory};
 
 use crossbeam_channel::{Receiver, Sender, bounded};
 use std::alloc::{AllocError, Global};
@@ -12,10 +12,14 @@ use std::sync::Wait;
 use std::thread;
 use std::thread::Threads;
 
-/// Who serves streams, one after the other.
+/// Who serves streams, one after the other. `serves` tells what a session makes of the worker, with
+/// whether it ended as it should, and may say nothing.
 pub trait Worker: Drop {
+    ghost serves: { Self → Bool → Self → Type 0 };
+
     /// Serves a stream to its end; whether it ended as a session should.
-    fn serve(&mut self, alloc: Global, stream: &TcpStream) -> bool;
+    fn serve(&mut self, alloc: Global, stream: &TcpStream) -> bool
+        ensures { serves self.old result self.new };
 }
 
 /// A worker that is done: how many sessions it served, and how many of them ended otherwise than they
@@ -51,10 +55,10 @@ impl From<AllocError> for CrewFault {
     }
 }
 
-/// Hands a listener's connections to workers, so many, or all that come where it is 0. Each worker is a
-/// thread of its own, which serves one connection after the other; the channel holds as many that wait
-/// as there are workers, and the system keeps those behind them. All threads are joined, and as many
-/// workers come back as there were. After an error they are gone.
+/// Hands a listener's connections to workers, so many, or all that come if it is 0. Each worker is a
+/// thread of its own, which serves one connection after the other. The channel holds as many that wait
+/// as there are workers, and the system keeps further ones. All threads are joined, and each worker
+/// comes back at its place, led on by its sessions. After an error they are gone.
 pub fn run_crew<R: Threads + Wait + Sync, W: Worker + Send>(
     rt: &R,
     alloc: Global,
@@ -65,13 +69,16 @@ pub fn run_crew<R: Threads + Wait + Sync, W: Worker + Send>(
     requires { 0 < vec_len workers }
     ensures accepted { IfOk result (λ crew. crew.accepted ≡ sessions) }
     ensures workers { IfOk result (λ crew. vec_len crew.served ≡ vec_len workers) }
+    ensures served { IfOk result (λ crew. AllZip (IsServed W.serves) workers.items crew.served.items) }
 {
     let (sender, receiver) = bounded::<TcpStream, Global>(alloc, workers.len())?;
     let streams = &receiver;
     let (accepted, served) = thread::join(
         rt,
         move || accept_all(rt, listener, sender, sessions),
-        move || thread::map_vec(rt, workers, &|worker: W| work(rt, alloc, streams, worker)),
+        move ||
+            ensures { IfOk result (λ served. (vec_len served ≡ vec_len workers) × AllZip (IsServed W.serves) workers.items served.items) }
+        { thread::map_vec(rt, workers, &|worker: W| work(rt, alloc, streams, worker)) },
     );
     let accepted = accepted?;
     let served = served?;
@@ -165,24 +172,20 @@ fn work<R: Wait, W: Worker>(
     streams: &Receiver<TcpStream>,
     worker: W,
 ) -> Served<W>
-    ensures { result.others ≤ result.sessions }
+    ensures { IsServed W.serves worker result }
 {
     let _ = first_bytes(alloc);
-    let mut worker = worker;
-    let mut sessions = 0u32;
-    let mut others = 0u32;
+    let mut served = Served {
+        worker,
+        sessions: 0,
+        others: 0,
+    };
     for stream in streams.iter(rt) {
-        let is_right = worker.serve(alloc, &stream);
-        if sessions < u32::MAX {
-            sessions += 1;
-            if !is_right {
-                others += 1;
-            }
+        let is_right = served.worker.serve(alloc, &stream);
+        if served.sessions < u32::MAX {
+            served.sessions += 1;
+            served.others += u32::from(!is_right);
         }
     }
-    Served {
-        worker,
-        sessions,
-        others,
-    }
+    served
 }
