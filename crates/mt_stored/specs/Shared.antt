@@ -3,8 +3,9 @@ use Rattle.std.specs.Prelude.{◌≡◌, ◌≢◌, ◌⊎◌, ℕ, Bool, Ok, Er
 use Rattle.mt_rows.specs.{declared.record.Batch.Batch, declared.refusal.Refusal.Refusal, declared.refusal.Refusal.TheVariants.LogCount}
 use Rattle.mt_disk.specs.Disk.{DiskState}
 use Rattle.mt_state.specs.Views.{StateView}
-use Rattle.mt_history.specs.Views.{MarkView}
-use Rattle.mt_book.specs.{Happens.{Adds, Acted, Given}, Periods.look_period, declared.desks.Look.Look}
+use mathlib.Core.List.{IsPrefix}
+use Rattle.mt_history.specs.{Legal.IsLegal, Views.MarkView}
+use Rattle.mt_book.specs.{Happens.{Adds, Acted, Given, Leads}, Periods.look_period, declared.desks.Look.Look}
 use Rattle.mt_store_logs.specs.{declared.store_log.StoreLog.StoreLog, Places.worker_of, LogTurns.{BringsUp, FailsToBringUp}, Turns.{GivesUpOlderLog, FailsToGiveUpOlderLog}, Standing.TellsOf}
 use Rattle.mt_settle.specs.Turns.{Turn, BroughtUp, BegunNext, GivenUp, Told}
 use Rattle.mt_stored.specs.Begins.{BringsUpAndBegins, FailsToBringUpAndBegin}
@@ -12,6 +13,13 @@ use Rattle.mt_stored.specs.Begins.{BringsUpAndBegins, FailsToBringUpAndBegin}
 -- what a clerk has seen of the book's history
 abbrev pub Seen : Type 0
 Seen = MarkView StateView
+
+-- one clerk has then seen what both had, and no more of its own making
+pub record LearnsSeen (old other new : Seen) : Type 0 where
+  pub this : IsPrefix old.log new.log
+  pub that : IsPrefix other.log new.log
+  pub made : new.made ≡ old.made
+  pub legal : IsLegal Leads new.log
 
 -- a batch of this worker was given, and that was added to the history
 abbrev pub gives_batch : Seen → Seen → ℕ → Batch → Type 0

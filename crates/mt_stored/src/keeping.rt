@@ -34,6 +34,15 @@ impl Since {
     }
 }
 
+/// Logs that learn what a desk has seen. Their next turn is made after all of it.
+pub trait Learns<D> {
+    /// What they learn of a desk.
+    ghost learns: { Self → D → Self → Type 0 };
+
+    fn learn(&mut self, desk: &D)
+        ensures { learns self.old desk.now self.new };
+}
+
 /// The logs in which a worker keeps what it answers, how many answers its own log may lack, and which log is next
 /// in its round.
 #[derive(Drop)]
@@ -65,6 +74,13 @@ impl<S: Logs + Drop> Keeper<S> {
         }
     }
 
+    /// The logs.
+    pub fn into_logs(self) -> S
+        ensures { result ≡ self.logs }
+    {
+        self.logs
+    }
+
     /// Counts an answer. At each 1,024th it gives the worker's own log a turn, and then one log more: the next
     /// one of a round over all of them. So a log whose disk failed is opened again, and one whose worker answers
     /// nothing has its changes too. What fails there waits for the log's next turn.
@@ -84,6 +100,16 @@ impl<S: Logs + Drop> Keeper<S> {
         if log != self.worker {
             let _ = self.logs.bring_up(rt, self.alloc, log);
         }
+    }
+
+    /// Lets the logs learn what a desk has seen.
+    pub fn learn<D>(&mut self, desk: &D)
+    where
+        S: Learns<D>,
+        ensures learns { S.learns self.old.logs desk.now self.new.logs }
+        ensures same { (self.new.since ≡ self.old.since) × (self.new.worker ≡ self.old.worker) × (self.new.next ≡ self.old.next) }
+    {
+        self.logs.learn(desk);
     }
 
     /// Brings all logs up to date, and answers the step up to which all is kept.

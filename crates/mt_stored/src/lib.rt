@@ -24,7 +24,7 @@ pub use changes::{LogChange, change_of};
 pub use checkpoints::{CheckpointStop, write_checkpoint};
 pub use checks::{Checks, DueTurn};
 pub use digests::{Digested, Digests, NoDigests};
-pub use keeping::{FLUSH_ANSWERS, Keeper};
+pub use keeping::{FLUSH_ANSWERS, Keeper, Learns};
 pub use shared::{SharedLogs, locked_logs, unlocked_logs};
 pub use stores::Store;
 pub use turns::{TurnStop, write_turn};

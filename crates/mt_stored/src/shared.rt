@@ -6,6 +6,7 @@ ghost use Rattle.mt_stored.specs.Shared.{IsElsewhere};
 
 use crate::beginning::bring_up_and_begin;
 use crate::changes::change_of;
+use crate::keeping::Learns;
 use crate::source::SharedBook;
 use log::{Log, warn};
 use mt_book::{Clerk, Desk};
@@ -36,6 +37,13 @@ impl<'a, L: Ledger, J: Naming, R: Wait + Clock, D: Disk + Drop> SharedLogs<'a, L
     {
         let book = SharedBook { rt, clerk };
         SharedLogs { book, logs }
+    }
+
+    /// The clerk.
+    pub fn into_clerk(self) -> Clerk<'a, L, J>
+        ensures { result ≡ self.entry.book.clerk }
+    {
+        self.book.clerk
     }
 }
 
@@ -87,6 +95,18 @@ impl<L: Ledger, J: Naming, C: Wait + Clock, D: Disk + Drop> Logs for SharedLogs<
 
     fn generations<R: Wait>(&self, rt: &R, log: u8) -> Result<Generations, Refusal> {
         Ok(lock_at(rt, self.logs, log)?.generations())
+    }
+}
+
+/// They learn what a clerk has seen.
+impl<'a, L: Ledger, J: Naming, R: Wait + Clock, D: Disk + Drop> Learns<Clerk<'a, L, J>>
+    for SharedLogs<'a, L, J, R, D> {
+    ghost use Rattle.mt_stored.specs.Shared.{LearnsSeen};
+
+    ghost learns = { λ old clerk new. LearnsSeen old.book.clerk.mark clerk.mark new.book.clerk.mark };
+
+    fn learn(&mut self, clerk: &Clerk<'a, L, J>) {
+        self.book.clerk.learn(clerk);
     }
 }
 

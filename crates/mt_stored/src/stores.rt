@@ -2,12 +2,15 @@
 
 ghost use Rattle.std.specs.Prelude.{◌≡◌, ◌<◌, ◌≤◌, ◌↔◌, length, vec_len, IfOk, IfErr, IfSome, IsTrue, OnOk, IsSome};
 ghost use Rattle.mt_state.specs.Begins.{HaveNoPairs, new_state};
+ghost use Rattle.mt_book.specs.Keeping.{IsUnasked};
 ghost use Rattle.mt_store_logs.specs.{Opens.AreClosedOn, Places.AreInOrder};
 ghost use Rattle.mt_stored.specs.Stores.{no_memory};
 
 use crate::beginning::bring_up_and_begin;
+use crate::keeping::Learns;
 use crate::source::OwnState;
 use log::Log;
+use mt_book::Book;
 use mt_core::State;
 use mt_disk::Disk;
 use mt_log_files::WorkerFiles;
@@ -20,6 +23,7 @@ use mt_store_logs::{
 };
 use std::alloc::{AllocError, Global};
 use std::sync::Wait;
+use std::sync::ledger::Ledger;
 use std::time::Clock;
 
 /// A state, the log of each of its workers, in their order, and the slots of its checkpoints. One without logs
@@ -46,7 +50,8 @@ impl<D: Disk + Drop> Store<D> {
     /// A store that keeps nothing: a new state without logs.
     pub fn without_logs(alloc: Global, tenants: Tenants) -> Result<Store<D>, AllocError>
         requires { HaveNoPairs tenants }
-        ensures { IfOk result (λ store. store.source.state ≡ new_state 0 tenants) }
+        ensures new { IfOk result (λ store. store.source.state ≡ new_state 0 tenants) }
+        ensures unasked { IfOk result (λ store. IsUnasked store.source.state) }
     {
         let state = State::new(alloc, 0, tenants)?;
         Ok(Store {
@@ -71,6 +76,7 @@ impl<D: Disk + Drop> Store<D> {
         requires few { vec_len files ≤ 64 }
         requires empty { HaveNoPairs tenants }
         ensures ok { IfOk result (λ store. IsNewStore D.is_honest D.state D.failures files.items slots tenants store.source.state store.logs.items store.slots) }
+        ensures unasked { IfOk result (λ store. IsUnasked store.source.state) }
         ensures err { IfErr result (IsNotMade (vec_len files)) }
     {
         let mut logs = closed(alloc, files)?;
@@ -100,6 +106,7 @@ impl<D: Disk + Drop> Store<D> {
         requires few { vec_len files ≤ 64 }
         requires empty { HaveNoPairs tenants }
         ensures ok { IfOk result (λ store. IsRecoveredStore D.is_honest D.state D.failures files.items slots tenants store.source.state store.logs.items store.slots) }
+        ensures unasked { IfOk result (λ store. IsUnasked store.source.state) }
         ensures err { IfErr result (IsNotRecoveredStore D.is_honest D.state D.failures files.items slots tenants) }
     {
         Store::recover_watched(alloc, files, slots, tenants, &mut NoWatch)
@@ -116,6 +123,7 @@ impl<D: Disk + Drop> Store<D> {
         requires few { vec_len files ≤ 64 }
         requires empty { HaveNoPairs tenants }
         ensures ok { IfOk result (λ store. IsRecoveredStore D.is_honest D.state D.failures files.items slots tenants store.source.state store.logs.items store.slots) }
+        ensures unasked { IfOk result (λ store. IsUnasked store.source.state) }
         ensures err { IfErr result (IsNotRecoveredStore D.is_honest D.state D.failures files.items slots tenants) }
     {
         let mut logs = closed(alloc, files)?;
@@ -247,6 +255,15 @@ impl<D: Disk + Drop> Logs for Store<D> {
     fn generations<R: Wait>(&self, _rt: &R, log: u8) -> Result<Generations, Refusal> {
         Ok(self.logs[usize::from(log)].generations())
     }
+}
+
+/// A store that is owned alone learns nothing of a book.
+impl<L: Ledger, D: Disk + Drop> Learns<Book<L>> for Store<D> {
+    ghost use Rattle.std.specs.Prelude.{◌≡◌};
+
+    ghost learns = { λ old book new. new ≡ old };
+
+    fn learn(&mut self, _book: &Book<L>) {}
 }
 
 // Closed logs on these files, in their order.

@@ -1,6 +1,7 @@
 use Rattle.std.proofs.{Common.{◌≡◌, ◌∙◌, ℕ, length, refl, sym, ap, subst, arith, inr}, lemmas.Result.err_from_is_err_and}
 use Rattle.mt_store_logs.{specs.{Places.{AreInOrder}, Opens.{AreClosedOn, MakesAll}}, proofs.Closed.{closed_in_order, same_order}}
 use Rattle.mt_state.specs.Begins.{new_state}
+use Rattle.mt_book.{specs.Keeping.IsUnasked, proofs.Keeping.unasked_new}
 use Rattle.mt_stored.proofs.{Making.not_made, Slices.whole}
 use Rattle.mt_stored.proofs.stores.Store.create.Goals as goal
 
@@ -22,6 +23,9 @@ returns-in-Ok-clause-ok g c =
       slots_made = c.in_ok-create.ensures.ok;
       logs_are = subst (MakesAll g.D.Disk.is_honest g.D.Disk.state g.D.Disk.failures logs.items) (sym (whole logs.len new _ same)) makes;
     }
+
+pub returns-in-Ok-clause-unasked : goal.returns-in-Ok-clause-unasked
+returns-in-Ok-clause-unasked g c = subst IsUnasked (sym c.in-Ok.ensures) (unasked_new _ c.args.tenants)
 
 pub invariant_of-result-clause-order : goal.invariant_of-result-clause-order
 invariant_of-result-clause-order g c =

@@ -3,6 +3,7 @@ use Rattle.mt_store_logs.specs.{Places.AreInOrder, Opens.AreClosedOn, Recovers.{
 use Rattle.mt_store_logs.proofs.{Closed.{closed_in_order, same_order}, Limits.{limits_of, resumes_within, stamps_of}}
 use Rattle.mt_core.specs.Restores.{IsRestored}
 use Rattle.mt_recover.proofs.Limits.{distinct}
+use Rattle.mt_book.proofs.Keeping.{unasked_restored}
 use Rattle.mt_stored.proofs.Slices.{whole, same_count}
 use Rattle.mt_stored.proofs.stores.Store.recover_watched.Goals as goal
 
@@ -53,6 +54,9 @@ returns-in-Ok-clause-ok g c =
           subst (λ logs_now. ServesAgain g.D.Disk.is_honest g.D.Disk.state g.D.Disk.failures c.args.tenants r generation logs.items c.args.slots logs_now kept) (sym (whole logs.len new _ same)) serves;
       restored = subst (λ n. IsRestored r.resume n c.args.tenants r.pairs.items c.in-Ok.state) counted c.in-Ok.ensures;
     }
+
+pub returns-in-Ok-clause-unasked : goal.returns-in-Ok-clause-unasked
+returns-in-Ok-clause-unasked g c = unasked_restored _ _ _ _ _ c.in-Ok.ensures
 
 pub invariant_of-result-clause-order : goal.invariant_of-result-clause-order
 invariant_of-result-clause-order g c =
