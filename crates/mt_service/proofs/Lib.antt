@@ -1,6 +1,9 @@
 pub mod AccountLemmas
+pub mod Histories
 pub mod LineLemmas
 pub mod Pushes
+pub mod Sessions
+pub mod SettledNumbers
 pub mod ShareLemmas
 pub mod TenantNumbers
 pub mod TurnerLemmas

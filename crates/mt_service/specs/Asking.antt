@@ -56,13 +56,15 @@ abbrev pub AsksOpened : {S K : Type 0} → (S → Period → S → Type 0) → (
 AsksOpened does keeps logs old (Some tenant) command told new = AsksCall does keeps logs old new tenant command told
 AsksOpened does keeps logs old None command told new = (told ≡ Err (Refused NotOpen)) × (new ≡ old)
 
--- A Settle is told what a Settle of all logs tells, and changes these alone; if there are no logs it is refused.
-pub record AsksSettle {S K : Type 0} (keeps : K → Turn → K → Type 0) (logs : K → ℕ) (old : Asker S K) (told : Result ℕ Refusal) (new : Asker S K) : Type 0 where
-  pub settles : Settles keeps (logs old.kept.logs) old.kept.logs new.kept.logs told
+-- The logs learn what the desk has seen. A Settle is then told what a Settle of all logs tells, and changes these alone; if there are no logs it is refused.
+pub record AsksSettle {S K : Type 0} (learns : K → S → K → Type 0) (keeps : K → Turn → K → Type 0) (logs : K → ℕ) (old : Asker S K) (told : Result ℕ Refusal) (new : Asker S K) : Type 0 where
+  pub learned : K
+  pub learns_so : learns old.kept.logs old.desk learned
+  pub settles : Settles keeps (logs learned) learned new.kept.logs told
   pub same : new ≡ record old { kept = record old.kept { logs = new.kept.logs } }
 
 -- what the caller answers
-abbrev pub AsksDesk : {S K : Type 0} → (S → Period → S → Type 0) → (K → Turn → K → Type 0) → (K → ℕ) → Asker S K → Exchange → Asker S K → Type 0
-AsksDesk does keeps logs old (Opens tenant refusal) new = OpensTenant old tenant refusal new
-AsksDesk does keeps logs old (CallsFor command told) new = AsksOpened does keeps logs old old.opened command told new
-AsksDesk does keeps logs old (SettlesFor told) new = AsksSettle keeps logs old told new
+abbrev pub AsksDesk : {S K : Type 0} → (S → Period → S → Type 0) → (K → S → K → Type 0) → (K → Turn → K → Type 0) → (K → ℕ) → Asker S K → Exchange → Asker S K → Type 0
+AsksDesk does learns keeps logs old (Opens tenant refusal) new = OpensTenant old tenant refusal new
+AsksDesk does learns keeps logs old (CallsFor command told) new = AsksOpened does keeps logs old old.opened command told new
+AsksDesk does learns keeps logs old (SettlesFor told) new = AsksSettle learns keeps logs old told new

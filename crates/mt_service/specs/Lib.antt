@@ -4,9 +4,11 @@ pub mod Faults
 pub mod FolderDigests
 pub mod Lines
 pub mod ServedStore
+pub mod Sessions
 pub mod StoreFaults
 pub mod ReadStores
 pub mod Telling
 pub mod Turning
+pub mod Turners
 pub mod Workers
 pub mod Verifying

@@ -9,6 +9,7 @@ use Rattle.mt_store_files.specs.{declared.fault.StoreFault.StoreFault, declared.
 use Rattle.mt_log_files.specs.declared.worker.WorkerFiles.{WorkerFiles}
 use Rattle.mt_slots.specs.declared.store_slots.StoreSlots.{StoreSlots}
 use Rattle.mt_store_logs.specs.{declared.store_log.StoreLog.StoreLog, declared.fault.StoreRefusal.StoreRefusal}
+use Rattle.mt_book.specs.Keeping.{IsUnasked}
 use Rattle.mt_stored.specs.Stores.{IsNewStore, IsNotMade}
 use Rattle.mt_service.specs.{declared.served_store.OpenStore.OpenStore, declared.faults.ServerFault.ServerFault}
 use Rattle.mt_service.specs.{declared.faults.ServerFault.TheVariants.{Refused, Memory, Store as StoreFaulty}, Accounts.{AreServable, AreAccountsOf}}
@@ -44,12 +45,12 @@ abbrev pub IsKept : {F : Type 0} → Option StorePlace → Option F → Type 0
 IsKept None folder = Unit {0}
 IsKept (Some place) folder = IsSome folder
 
--- It is that store, for the tenants that are named, and no answer was taken of it.
+-- It is that store, for the tenants that are named, and nothing was asked of it.
 pub record IsOpened (options : Options) (open_store : OpenStore) : Type 0 where
   pub accounts : Accounts
   pub tenants : AreAccountsOf (length options.tenants.items) options.tenants.items accounts
   pub named : IsNamed options.store options.workers accounts open_store
-  pub untaken : open_store.store.source.state.answers ≡ 0
+  pub unasked : IsUnasked open_store.store.source.state
   pub kept : IsKept options.store open_store.folder
 
 -- why a store is not made on its files

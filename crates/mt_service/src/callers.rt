@@ -12,7 +12,7 @@ use mt_rows::{Command, Refusal, Reply};
 use mt_runs::Answer;
 use mt_session::{Caller, CallerFault};
 use mt_settle::Logs;
-use mt_stored::Keeper;
+use mt_stored::{Keeper, Learns};
 use std::alloc::Global;
 use std::sync::Wait;
 use std::sync::ledger::Ledger;
@@ -76,20 +76,27 @@ impl<'a, L: Ledger, R: Wait + Clock, D: Desk<L> + Drop, S: Logs + Drop, K: Disk 
         }
     }
 
-    /// The pass.
-    pub fn into_pass(self) -> Pass<L>
-        ensures { result ≡ self.entry.pass }
+    /// The pass, the desk, and the logs.
+    pub fn into_parts(self) -> (Pass<L>, D, S)
+        ensures pass { result.0 ≡ self.entry.pass }
+        ensures desk { result.1 ≡ self.entry.desk }
+        ensures logs { result.2 ≡ self.entry.keeper.logs }
     {
-        self.pass
+        (self.pass, self.desk, self.keeper.into_logs())
     }
 }
 
-impl<L: Ledger, R: Wait + Clock + Log, D: Desk<L> + Drop, S: Logs + Drop, K: Disk + Drop> Caller
-    for DeskCaller<'_, L, R, D, S, K> {
+impl<
+    L: Ledger,
+    R: Wait + Clock + Log,
+    D: Desk<L> + Drop,
+    S: Logs + Learns<D> + Drop,
+    K: Disk + Drop,
+> Caller for DeskCaller<'_, L, R, D, S, K> {
     ghost use Rattle.mt_service.specs.Asking.{AsksDesk, asker};
     ghost use Rattle.mt_stored.specs.Keeping.{keeping};
 
-    ghost exchanges = { λ old e new. AsksDesk D.does S.does S.logs (asker old.desk old.pass.worker old.pass.seen old.pass.share.amount old.tenants.now old.opened (keeping old.keeper.logs old.keeper.worker old.keeper.since.answers old.keeper.next)) e
+    ghost exchanges = { λ old e new. AsksDesk D.does S.learns S.does S.logs (asker old.desk old.pass.worker old.pass.seen old.pass.share.amount old.tenants.now old.opened (keeping old.keeper.logs old.keeper.worker old.keeper.since.answers old.keeper.next)) e
         (asker new.desk new.pass.worker new.pass.seen new.pass.share.amount new.tenants.now new.opened (keeping new.keeper.logs new.keeper.worker new.keeper.since.answers new.keeper.next)) };
 
     fn open(&mut self, tenant: u32) -> Result<(), Refusal> {
@@ -120,6 +127,7 @@ impl<L: Ledger, R: Wait + Clock + Log, D: Desk<L> + Drop, S: Logs + Drop, K: Dis
     }
 
     fn settle(&mut self) -> Result<u64, Refusal> {
+        self.keeper.learn(&self.desk);
         let settled = self.keeper.settle(self.rt)?;
         self.turns.count_settled(self.rt, settled);
         Ok(settled)

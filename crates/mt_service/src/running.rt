@@ -1,23 +1,27 @@
 //! The server: from a listener to the sum of its answers.
 
-ghost use Rattle.std.specs.{Prelude.{◌≡◌, ◌+◌, ◌<◌, ◌^◌, IfOk, IfErr, OnOk, OnErr, length, vec_len}, List.sum_by, Io.KnownBytes.Appends};
-ghost use Rattle.mt_book.specs.{declared.passes.Pass.Pass, Names.AreNames};
-ghost use Rattle.mt_crew.specs.declared.crew.Served.{Served};
+ghost use Rattle.std.specs.{Prelude.{◌≡◌, ◌+◌, ◌<◌, ◌^◌, [], ◌∷◌, ◌++◌, IfOk, IfErr, OnOk, OnErr, length, vec_len, map}, List.{flat_map, sum_by, AllZip}, Io.KnownBytes.Appends};
+ghost use Rattle.mt_state.specs.Views.{StateView};
+ghost use Rattle.mt_book.specs.{declared.passes.Pass.Pass, declared.shared.Clerk.Clerk, Names.AreNames, Keeping.{IsUnasked, IsWhole}};
+ghost use Rattle.mt_crew.specs.{declared.crew.Served.Served, Servings.IsServed};
 ghost use Rattle.mt_streams.specs.Failures.{Failed, NoFewer};
 ghost use Rattle.mt_service.specs.{declared.workers.SessionWorker.SessionWorker, Faults.{IsOfWriting, IsOfServing, HasCause}};
-ghost use Rattle.mt_service.specs.{Workers.{every_of, bytes_of, number_of, AreOfWorker, IsWired, EachAt}, Lines.{first_line, last_line, Begins, SaysAll, SaysPart}};
-ghost use Rattle.mt_stored.specs.{Stores.IsSettled, Checks.IsAtFirst};
+ghost use Rattle.mt_service.specs.{Workers.{every_of, bytes_of, number_of, AreOfWorker, IsWired, EachAt}, Sessions.{HaveOneHistory, pass_in, clerks_in}, Turners.{turner_of, Leaves}, Lines.{first_line, last_line, Begins, SaysAll, SaysPart}};
+ghost use Rattle.mt_stored.specs.{Stores.IsSettled, Checks.IsAtFirst, Checkpoints.scanner};
 
 use crate::callers::DeskCaller;
 use crate::faults::ServerFault;
 use crate::turners::Turner;
 use crate::turns::Turns;
-use crate::workers::SessionWorker;
+use crate::workers::{Held, SessionWorker};
 use log::Log;
-use mt_book::{BookLock, Clerk, Desk, Kept, Names, Pass, gather, open_clerk, open_pass};
+use mt_book::{
+    BookLock, Callers, Clerk, Desk, Kept, Names, Pass, Periods, gather, open_clerk, open_pass,
+};
+use mt_core::State;
 use mt_crew::{Crew, CrewFault, Served, Worker, others_of, run_crew};
 use mt_disk::Disk;
-use mt_history::Naming;
+use mt_history::{Mark, Naming};
 use mt_options::{Options, TenantQuota};
 use mt_session::SessionBuffers;
 use mt_settle::Logs;
@@ -53,6 +57,8 @@ pub struct Ending<D: Disk + Drop> {
 /// settled once more, also if the listener failed.
 ///
 /// Who keeps digests is asked to in each turn. After an error the output has a beginning of these two lines.
+///
+/// All that the sessions were told stands in one history of the store's state, which one order explains.
 pub fn run_server<L, J, R, W, D, G>(
     rt: &R,
     alloc: Global,
@@ -71,9 +77,10 @@ where
     D: Disk + Drop + Send,
     G: Digests + Drop + Send,
     requires names { AreNames L.name L.parts J.name J.parts J.book names store.source.state }
-    requires untaken { store.source.state.answers ≡ 0 }
+    requires unasked { IsUnasked store.source.state }
     ensures ok { OnOk result (SaysAll (W.contents out.old) (W.contents out.new) options.now.sessions) }
     ensures settled { IfOk result (λ ending. IsSettled ending.store.source.state ending.store.logs.items) }
+    ensures history { OnOk result (HaveOneHistory L J R D.is_honest D.state D.failures G.does options.now.tenants.items options.now.workers store.source.state) }
     ensures err { OnErr result (SaysPart (W.contents out.old) (W.contents out.new) options.now.sessions) }
     ensures cause { IfErr result (HasCause (Failed (W.failures out.old) (W.failures out.new))) }
 {
@@ -106,17 +113,37 @@ fn serve_store<
     digests: G,
 ) -> Result<(Totals, Store<D>), ServerFault>
     requires names { AreNames L.name L.parts J.name J.parts J.book names store.source.state }
-    requires untaken { store.source.state.answers ≡ 0 }
+    requires unasked { IsUnasked store.source.state }
+    ensures history { OnOk result (HaveOneHistory L J R D.is_honest D.state D.failures G.does options.now.tenants.items options.now.workers store.source.state) }
     ensures settled { IfOk result (λ served. IsSettled served.1.source.state served.1.logs.items) }
     ensures fault { IfErr result IsOfServing }
 {
     let (state, logs, slots) = store.into_parts();
     let logs = locked_logs(alloc, logs)?;
     let turns = Turns::new(checks_of(options, slots));
-    let book = BookLock::new(Kept::<L, J>::new(names, state));
-    let served = serve_all(rt, alloc, &book, &logs, &turns, listener, options, digests);
+    let (book, mark) = begun::<L, J>(names, state)?;
+    let served = serve_all(
+        rt, alloc, &book, mark, &logs, &turns, listener, options, digests,
+    );
     let store = settled(rt, alloc, book, logs, turns.into_checks())?;
     Ok((served?, store))
+}
+
+// The book of a state, under its lock, and a mark that has seen the state alone.
+fn begun<L: Ledger, J: Naming>(
+    names: Names,
+    state: State,
+) -> Result<(BookLock<L, J>, Mark<State, Periods, J>), ServerFault>
+    requires names { AreNames L.name L.parts J.name J.parts J.book names state }
+    requires unasked { IsUnasked state }
+    ensures first { IfOk result (λ r. r.1.log ≡ state ∷ []) }
+    ensures fault { IfErr result IsOfServing }
+{
+    let mut kept = Kept::<L, J>::new(names, state);
+    match kept.open_mark() {
+        Some(mark) => Ok((BookLock::new(kept), mark)),
+        None => Err(ServerFault::Passes),
+    }
 }
 
 // The checks of a store that is served as the options say.
@@ -209,32 +236,37 @@ fn serve_all<
     rt: &R,
     alloc: Global,
     book: &BookLock<L, J>,
+    mark: Mark<State, Periods, J>,
     logs: &[Mutex<StoreLog<D>>],
     turns: &Turns<D>,
     listener: &TcpListener,
     options: &Options,
     digests: G,
 ) -> Result<Totals, ServerFault>
-    requires { L.parts ≡ 65536 }
-    ensures { IfErr result IsOfServing }
+    requires parts { L.parts ≡ 65536 }
+    ensures history { OnOk result ((first : StateView) → mark.log ≡ first ∷ [] → HaveOneHistory L J R D.is_honest D.state D.failures G.does options.now.tenants.items options.now.workers first) }
+    ensures fault { IfErr result IsOfServing }
 {
     let workers = workers_of(rt, alloc, book, logs, turns, options)?;
     let turner = turner_of(rt, alloc, book, logs, options, digests)?;
-    let (pass, crew) = serve_beside(rt, alloc, turner, logs, turns, listener, options, workers);
+    let (parts, crew) = serve_beside(rt, alloc, turner, logs, turns, listener, options, workers);
     match crew {
         Ok(
             Crew {
                 accepted: _,
                 served,
             },
-        ) => totals_of(rt, alloc, book, pass, served),
+        ) => {
+            let first = Clerk::new(book, mark);
+            totals_of(rt, alloc, book, first, Held::new(parts), served)
+        }
         Err(CrewFault::Memory) => Err(ServerFault::Memory),
         Err(CrewFault::Socket(error)) => Err(ServerFault::Socket(error)),
     }
 }
 
 // Serves the listener's connections by a crew of these workers, and makes turns beside it. The turner is told when the crew
-// has ended, and its pass comes back.
+// has ended, and its parts come back.
 fn serve_beside<
     L: Ledger + Send + Sync,
     R: Threads + Wait + Clock + Log + Sync,
@@ -252,16 +284,21 @@ fn serve_beside<
     listener: &TcpListener,
     options: &Options,
     workers: Vec<W>,
-) -> (Pass<L>, Result<Crew<W>, CrewFault>)
+) -> ((Pass<L>, E, S), Result<Crew<W>, CrewFault>)
     requires { 0 < vec_len workers }
-    ensures { IfOk result.1 (λ crew. vec_len crew.served ≡ vec_len workers) }
+    ensures turner { Leaves E.does D.is_honest D.state D.failures S.does S.logs G.does turner.entry.tenants.now (turner_of turner.entry) (scanner result.0.1 result.0.0.seen result.0.0.share.amount) result.0.2 }
+    ensures count { IfOk result.1 (λ crew. vec_len crew.served ≡ vec_len workers) }
+    ensures served { IfOk result.1 (λ crew. AllZip (IsServed W.serves) workers.items crew.served.items) }
 {
     thread::join(
         rt,
-        move || turn_beside(turner, logs, turns, options),
+        move || -> (Pass<L>, E, S)
+            ensures { Leaves E.does D.is_honest D.state D.failures S.does S.logs G.does turner.entry.tenants.now (turner_of turner.entry) (scanner result.1 result.0.seen result.0.share.amount) result.2 }
+        { turn_beside(turner, logs, turns, options) },
         move ||
             requires { 0 < vec_len workers }
-            ensures { IfOk result (λ crew. vec_len crew.served ≡ vec_len workers) }
+            ensures count { IfOk result (λ crew. vec_len crew.served ≡ vec_len workers) }
+            ensures served { IfOk result (λ crew. AllZip (IsServed W.serves) workers.items crew.served.items) }
         {
             let crew = run_crew(rt, alloc, listener, options.sessions, workers);
             turns.end_serving(rt);
@@ -319,7 +356,7 @@ fn turner_of<'a, L: Ledger, J: Naming, R: Wait + Clock, D: Disk + Drop, G: Diges
     ))
 }
 
-// Makes the turns of a store, if there is one, till serving is over. It gives the pass back.
+// Makes the turns of a store, if there is one, till serving is over. It gives the turner's parts back.
 fn turn_beside<
     L: Ledger,
     R: Wait + Clock + Log,
@@ -332,11 +369,16 @@ fn turn_beside<
     logs: &[Mutex<StoreLog<D>>],
     turns: &Turns<D>,
     options: &Options,
-) -> Pass<L> {
-    if let Some(place) = &options.store {
-        turner.run(turns, place, logs);
+) -> (Pass<L>, E, S)
+    ensures { Leaves E.does D.is_honest D.state D.failures S.does S.logs G.does turner.entry.tenants.now (turner_of turner.entry) (scanner result.1 result.0.seen result.0.share.amount) result.2 }
+{
+    match &options.store {
+        Some(place) => {
+            turner.run(turns, place, logs);
+            turner.into_parts()
+        }
+        None => turner.into_parts(),
     }
-    turner.into_pass()
 }
 
 // The number of the worker at a place, if so many logs are kept.
@@ -404,42 +446,63 @@ fn workers_of<'a, L: Ledger, J: Naming, R: Wait + Clock, D: Disk + Drop>(
     Ok(workers)
 }
 
-/// What a turner and the workers come to, whose passes are given back to the book: the sum of the passes' shares, and
-/// that of the workers' counts. `Memory` and `Passes` (if these are not all passes that were opened)
-/// are the only errors; after either the passes are lost.
+/// What a turner and the workers come to, whose passes and clerks are given back to the book with a first clerk: the sum of
+/// the passes' shares, and that of the workers' counts. The book's history is then known whole. `Memory` and `Passes` (if
+/// these are not all passes and all clerks that were given) are the only errors; after either they are lost.
 pub fn totals_of<L: Ledger, J: Naming, R: Wait + Clock + Log, D: Disk + Drop>(
     rt: &R,
     alloc: Global,
     book: &BookLock<L, J>,
-    turner: Pass<L>,
+    first: Clerk<'_, L, J>,
+    turner: Held<'_, L, J>,
     served: Vec<Served<SessionWorker<'_, L, J, R, D>>>,
 ) -> Result<Totals, ServerFault>
     requires parts { L.parts ≡ 65536 }
     requires few { vec_len served < 2 ^ 32 }
-    ensures answers { IfOk result (λ totals. totals.answers ≡ turner.share.amount + sum_by (λ (one : Served (SessionWorker L J R D)). one.worker.caller.pass.share.amount) served.entry.items) }
+    ensures answers { IfOk result (λ totals. totals.answers ≡ turner.entry.pass.share.amount + sum_by (λ (one : Served (SessionWorker L J R D)). one.worker.caller.pass.share.amount) served.entry.items) }
+    ensures whole { IfOk result (λ totals. IsWhole (λ (c : Clerk L J). c.mark) (first.entry ∷ turner.entry.clerk ∷ turner.entry.logs ∷ flat_map clerks_in served.entry.items) totals.answers) }
     ensures others { IfOk result (λ totals. totals.others ≡ sum_by (λ (one : Served (SessionWorker L J R D)). one.others) served.entry.items) }
     ensures fault { IfErr result IsOfServing }
 {
     let others = others_of(served.as_slice());
-    let passes = passes_of(alloc, turner, served)?;
-    match gather(rt, book, passes) {
+    let (passes, clerks) = callers_of(alloc, first, turner, served)?;
+    match gather(rt, book, passes, clerks) {
         Ok(answers) => Ok(Totals { answers, others }),
         Err(_) => Err(ServerFault::Passes),
     }
 }
 
-// The turner's pass, and those that the workers hold.
-fn passes_of<L: Ledger, J: Naming, R: Wait + Clock + Log, D: Disk + Drop>(
+// The turner's pass and clerks, and those of the workers, after a first clerk.
+fn callers_of<'a, L: Ledger, J: Naming, R: Wait + Clock + Log, D: Disk + Drop>(
     alloc: Global,
-    turner: Pass<L>,
-    served: Vec<Served<SessionWorker<'_, L, J, R, D>>>,
-) -> Result<Vec<Pass<L>>, AllocError>
-    ensures { IfOk result (λ passes. sum_by (λ (pass : Pass L). pass.share.amount) passes.items ≡ turner.share.amount + sum_by (λ (one : Served (SessionWorker L J R D)). one.worker.caller.pass.share.amount) served.entry.items) }
+    first: Clerk<'a, L, J>,
+    turner: Held<'a, L, J>,
+    served: Vec<Served<SessionWorker<'a, L, J, R, D>>>,
+) -> Result<Callers<'a, L, J>, AllocError>
+    ensures passes { IfOk result (λ callers. callers.0.items ≡ turner.entry.pass ∷ map pass_in served.entry.items) }
+    ensures clerks { IfOk result (λ callers. callers.1.items ≡ first.entry ∷ turner.entry.clerk ∷ turner.entry.logs ∷ flat_map clerks_in served.entry.items) }
 {
-    let mut passes = Vec::new(alloc);
-    passes.push(turner)?;
+    let (mut passes, mut clerks) = (Vec::new(alloc), Vec::new(alloc));
+    clerks.push(first)?;
+    add(&mut passes, &mut clerks, turner)?;
     for one in served {
-        passes.push(one.worker.into_pass())?;
+        add(&mut passes, &mut clerks, one.worker.into_held())?;
     }
-    Ok(passes)
+    Ok((passes, clerks))
+}
+
+// A pass and two clerks more.
+fn add<'a, L: Ledger, J: Naming>(
+    passes: &mut Vec<Pass<L>>,
+    clerks: &mut Vec<Clerk<'a, L, J>>,
+    held: Held<'a, L, J>,
+) -> Result<(), AllocError>
+    ensures passes { OnOk result (passes.new.items ≡ passes.old.items ++ held.entry.pass ∷ []) }
+    ensures clerks { OnOk result (clerks.new.items ≡ clerks.old.items ++ held.entry.clerk ∷ held.entry.logs ∷ []) }
+{
+    let Held { pass, clerk, logs } = held;
+    passes.push(pass)?;
+    clerks.push(clerk)?;
+    clerks.push(logs)?;
+    Ok(())
 }

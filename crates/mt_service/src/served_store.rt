@@ -2,6 +2,7 @@
 
 ghost use Rattle.std.specs.Prelude.{◌≡◌, ◌≤◌, [], true, false, IfOk, IfErr, OnOk, OnErr, IsSome};
 ghost use Rattle.mt_state.specs.Begins.{HaveNoPairs};
+ghost use Rattle.mt_book.specs.Keeping.{IsUnasked};
 ghost use Rattle.mt_service.specs.{ServedStore.{IsOpened, IsOfOpening, IsMadeOn, IsRecovered, IsOfPlace, IsAtPlace}, ReadStores.{IsRecoveredFrom, ComparesFirst, IsOfReading}};
 ghost use Rattle.mt_service.specs.StoreFaults.{fault_of, plain_file, IsToldAs, Tells, IsToldOf};
 
@@ -78,7 +79,7 @@ fn open_place<R: Files<File = File> + Clock + Log>(
     requires few { workers ≤ 64 }
     requires empty { HaveNoPairs tenants }
     ensures ok { IfOk result (IsAtPlace place.now.create workers tenants) }
-    ensures untaken { IfOk result (λ opened. opened.store.source.state.answers ≡ 0) }
+    ensures unasked { IfOk result (λ opened. IsUnasked opened.store.source.state) }
     ensures kept { IfOk result (λ opened. IsSome opened.folder) }
     ensures err { IfErr result (IsOfPlace place.now.create workers tenants) }
 {
@@ -102,7 +103,7 @@ fn make<R: Files<File = File>>(
     requires few { workers ≤ 64 }
     requires empty { HaveNoPairs tenants }
     ensures ok { IfOk result (IsMadeOn workers tenants) }
-    ensures untaken { IfOk result (λ opened. opened.store.source.state.answers ≡ 0) }
+    ensures unasked { IfOk result (λ opened. IsUnasked opened.store.source.state) }
     ensures kept { IfOk result (λ opened. IsSome opened.folder) }
     ensures err { IfErr result (IsOfPlace true workers tenants) }
 {
@@ -129,7 +130,7 @@ fn recover<R: Files<File = File> + Clock + Log>(
     requires few { workers ≤ 64 }
     requires empty { HaveNoPairs tenants }
     ensures ok { IfOk result (λ opened. IsRecovered workers tenants opened.store.source.state opened.store.logs.items opened.store.slots) }
-    ensures untaken { IfOk result (λ opened. opened.store.source.state.answers ≡ 0) }
+    ensures unasked { IfOk result (λ opened. IsUnasked opened.store.source.state) }
     ensures kept { IfOk result (λ opened. IsSome opened.folder) }
     ensures err { IfErr result (IsOfPlace false workers tenants) }
 {
@@ -154,7 +155,7 @@ pub(crate) fn recover_in<R: Files<File = File> + Clock + Log, S: FolderSystem + 
     requires few { workers ≤ 64 }
     requires empty { HaveNoPairs tenants }
     ensures ok { IfOk result (λ store. IsRecoveredFrom S.File.is_honest S.File.state S.File.failures workers tenants store.source.state store.logs.items store.slots) }
-    ensures untaken { IfOk result (λ store. store.source.state.answers ≡ 0) }
+    ensures unasked { IfOk result (λ store. IsUnasked store.source.state) }
     ensures compared { OnOk result (ComparesFirst S.File.is_honest S.File.state workers (S.calls folder.old.system) (S.calls folder.new.system)) }
     ensures err { IfErr result (IsOfReading S.File.is_honest S.File.state S.File.failures workers tenants) }
     ensures none_left { OnErr result (folder.new.made.items ≡ []) }
@@ -176,7 +177,7 @@ fn read_store<R: Files<File = File> + Clock + Log, S: FolderSystem + Drop>(
     requires few { workers ≤ 64 }
     requires empty { HaveNoPairs tenants }
     ensures ok { IfOk result (λ store. IsRecoveredFrom S.File.is_honest S.File.state S.File.failures workers tenants store.source.state store.logs.items store.slots) }
-    ensures untaken { IfOk result (λ store. store.source.state.answers ≡ 0) }
+    ensures unasked { IfOk result (λ store. IsUnasked store.source.state) }
     ensures compared { OnOk result (ComparesFirst S.File.is_honest S.File.state workers (S.calls folder.old.system) (S.calls folder.new.system)) }
     ensures err { IfErr result (IsOfReading S.File.is_honest S.File.state S.File.failures workers tenants) }
 {

@@ -80,11 +80,13 @@ impl<'a, L: Ledger, R: Wait + Clock, D: Desk<L> + Drop, S: Logs + Drop, G: Diges
         }
     }
 
-    /// The pass.
-    pub fn into_pass(self) -> Pass<L>
-        ensures { result ≡ self.entry.pass }
+    /// The pass, the desk, and the logs.
+    pub fn into_parts(self) -> (Pass<L>, D, S)
+        ensures pass { result.0 ≡ self.entry.pass }
+        ensures desk { result.1 ≡ self.entry.desk }
+        ensures logs { result.2 ≡ self.entry.logs }
     {
-        self.pass
+        (self.pass, self.desk, self.logs)
     }
 }
 
@@ -96,7 +98,7 @@ impl<L: Ledger, R: Wait + Clock + Log, D: Desk<L> + Drop, S: Logs + Drop, G: Dig
     S,
     G,
 > {
-    ghost use Rattle.mt_service.specs.Turning.{turning, TellsTurn, Finishes, SettlesByClock};
+    ghost use Rattle.mt_service.specs.{Turning.{turning, TellsTurn, Finishes, SettlesByClock}, Turners.{turner_of, Works, MayTurn}};
     ghost use Rattle.mt_stored.specs.{Checkpoints.scanner, Checks.{IsDue, TakesDue}};
 
     /// Makes the turns that fall due, and settles when the store's place says so, till serving is over. A turn that is
@@ -106,7 +108,9 @@ impl<L: Ledger, R: Wait + Clock + Log, D: Desk<L> + Drop, S: Logs + Drop, G: Dig
         turns: &Turns<K>,
         place: &StorePlace,
         logs: &[Mutex<StoreLog<K>>],
-    ) {
+    )
+        ensures { Works D.does K.is_honest K.state K.failures S.does S.logs G.does self.old.tenants.now (turner_of self.old) (turner_of self.new) }
+    {
         if self.tenants.is_empty() || is_idle(place) {
             return;
         }
@@ -133,7 +137,10 @@ impl<L: Ledger, R: Wait + Clock + Log, D: Desk<L> + Drop, S: Logs + Drop, G: Dig
     }
 
     /// Makes a turn if one is due. Others settle meanwhile.
-    pub fn make_turn_if_due<K: Disk + Drop>(&mut self, turns: &Turns<K>) {
+    pub fn make_turn_if_due<K: Disk + Drop>(&mut self, turns: &Turns<K>)
+        ensures turn { MayTurn D.does K.is_honest K.state K.failures S.does S.logs G.does self.old.tenants.now (turner_of self.old) (turner_of self.new) }
+        ensures tenants { self.new.tenants.now ≡ self.old.tenants.now }
+    {
         // The lock is free again when the turn begins.
         let due = self.take_due(&mut turns.lock(self.rt).checks);
         let Some(due) = due else {
@@ -177,8 +184,9 @@ impl<L: Ledger, R: Wait + Clock + Log, D: Desk<L> + Drop, S: Logs + Drop, G: Dig
         due: DueTurn<K>,
     ) -> Result<StoreSlots<K>, (TurnStop, StoreSlots<K>)>
         requires some { 0 < length self.old.tenants.now }
-        ensures { TellsTurn D.does K.is_honest K.state K.failures S.does S.logs G.does self.old.tenants.now due (turning self.old.logs (scanner self.old.desk self.old.pass.seen self.old.pass.share.amount) self.old.pass.worker self.old.digests self.old.settled) result
+        ensures turn { TellsTurn D.does K.is_honest K.state K.failures S.does S.logs G.does self.old.tenants.now due (turning self.old.logs (scanner self.old.desk self.old.pass.seen self.old.pass.share.amount) self.old.pass.worker self.old.digests self.old.settled) result
             (turning self.new.logs (scanner self.new.desk self.new.pass.seen self.new.pass.share.amount) self.new.pass.worker self.new.digests self.new.settled) }
+        ensures tenants { self.new.tenants.now ≡ self.old.tenants.now }
     {
         let DueTurn { settled, slots } = due;
         let ready = get_ready(
@@ -207,8 +215,9 @@ impl<L: Ledger, R: Wait + Clock + Log, D: Desk<L> + Drop, S: Logs + Drop, G: Dig
     // Settles if a step was made since it last settled by the clock. What is refused waits for the next time; a log that
     // closes was warned of.
     fn settle_if_answered(&mut self)
-        ensures { SettlesByClock D.does S.does S.logs (turning self.old.logs (scanner self.old.desk self.old.pass.seen self.old.pass.share.amount) self.old.pass.worker self.old.digests self.old.settled)
+        ensures settles { SettlesByClock D.does S.does S.logs (turning self.old.logs (scanner self.old.desk self.old.pass.seen self.old.pass.share.amount) self.old.pass.worker self.old.digests self.old.settled)
             (turning self.new.logs (scanner self.new.desk self.new.pass.seen self.new.pass.share.amount) self.new.pass.worker self.new.digests self.new.settled) }
+        ensures tenants { self.new.tenants.now ≡ self.old.tenants.now }
     {
         let steps = self.desk.look(self.rt).steps;
         if steps <= self.settled {

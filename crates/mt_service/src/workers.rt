@@ -26,17 +26,49 @@ pub struct SessionWorker<'a, L: Ledger, J: Naming, R: Wait + Clock, D: Disk + Dr
     pub buffers: SessionBuffers,
 }
 
-impl<L: Ledger, J: Naming, R: Wait + Clock, D: Disk + Drop> SessionWorker<'_, L, J, R, D> {
-    /// The pass that its caller held.
-    pub fn into_pass(self) -> Pass<L>
-        ensures { result ≡ self.entry.caller.pass }
+/// What a worker or a turner has of a book: its pass, the clerk that calls by it, and the clerk of its logs.
+#[derive(Drop)]
+pub struct Held<'a, L: Ledger, J: Naming> {
+    pub pass: Pass<L>,
+    pub clerk: Clerk<'a, L, J>,
+    pub logs: Clerk<'a, L, J>,
+}
+
+impl<'a, L: Ledger, J: Naming, R: Wait + Clock, D: Disk + Drop> SessionWorker<'a, L, J, R, D> {
+    /// What it has of its book.
+    pub fn into_held(self) -> Held<'a, L, J>
+        ensures pass { result.pass ≡ self.entry.caller.pass }
+        ensures clerk { result.clerk ≡ self.entry.caller.desk }
+        ensures logs { result.logs ≡ self.entry.caller.keeper.logs.book.clerk }
     {
-        self.caller.into_pass()
+        Held::new(self.caller.into_parts())
+    }
+}
+
+impl<'a, L: Ledger, J: Naming> Held<'a, L, J> {
+    /// Of these parts of a caller or a turner.
+    pub fn new<R: Wait + Clock, D: Disk + Drop>(
+        parts: (Pass<L>, Clerk<'a, L, J>, SharedLogs<'a, L, J, R, D>),
+    ) -> Self
+        ensures pass { result.pass ≡ parts.entry.0 }
+        ensures clerk { result.clerk ≡ parts.entry.1 }
+        ensures logs { result.logs ≡ parts.entry.2.book.clerk }
+    {
+        let (pass, clerk, logs) = parts;
+        Held {
+            pass,
+            clerk,
+            logs: logs.into_clerk(),
+        }
     }
 }
 
 impl<L: Ledger, J: Naming, R: Wait + Clock + Log, D: Disk + Drop> Worker
     for SessionWorker<'_, L, J, R, D> {
+    ghost use Rattle.mt_service.specs.Sessions.{IsSession, AsksBook};
+
+    ghost serves = { λ old right new. IsSession (AsksBook D.is_honest D.state D.failures) right old.caller new.caller };
+
     fn serve(&mut self, alloc: Global, stream: &TcpStream) -> bool {
         set_up(stream);
         let mut reader = stream;
@@ -54,7 +86,8 @@ impl<L: Ledger, J: Naming, R: Wait + Clock + Log, D: Disk + Drop> Worker
                 let _ = linger(self.rt, stream);
                 false
             }
-            Ok(Ended::Cut) | Err(_) => false,
+            Ok(Ended::Cut) => false,
+            Err(_) => false,
         }
     }
 }

@@ -9,6 +9,6 @@ returns-clause-turn g c = λ some. inr (record {
   told = c.make_turn-told.result;
   stop = c.end_turn-stop.result;
   takes = c.in-Some.ensures.takes some;
-  makes = c.make_turn-told.ensures;
+  makes = c.make_turn-told.ensures.turn;
   ends = c.end_turn-stop.ensures;
 })

@@ -9,8 +9,8 @@ write_turn-requires g c =
     let some = some_number c.args.self.now.tenants.now c.in-Ok.tenants.items c.in-Ok.ensures.1 c.requires.some in
     record { some = omega (arith, some, c.in-Ok.tenants.ok.0) }
 
-pub returns-in-Ok : goal.returns-in-Ok
-returns-in-Ok g c =
+pub returns-in-Ok-clause-turn : goal.returns-in-Ok-clause-turn
+returns-in-Ok-clause-turn g c =
     let old = c.args.self.now in
     let desk = scanner c.write_turn.new.desk c.write_turn.new.pass.seen c.write_turn.new.pass.share.amount in
     let logs = c.write_turn.new.logs in

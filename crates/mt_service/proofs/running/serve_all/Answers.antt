@@ -1,0 +1,32 @@
+-- All callers came back, so one history has all that was told.
+use Rattle.std.{proofs.Common.{◌≡◌, ◌∙◌, [], ◌∷◌, List, Bool, length, IfOk, ap, subst, rules, arith}, specs.List.{flat_map, AllZip}}
+use Rattle.mt_options.specs.declared.tenants.TenantQuota.{TenantQuota}
+use Rattle.mt_state.specs.Views.{StateView}
+use Rattle.mt_history.specs.Views.{MarkView}
+use Rattle.mt_book.specs.{declared.shared.Clerk.Clerk, Keeping.IsWhole}
+use Rattle.mt_crew.specs.{Servings.IsServed, declared.crew.Served.Served}
+use Rattle.mt_stored.specs.Checkpoints.{scanner}
+use Rattle.mt_service.specs.{declared.workers.SessionWorker.SessionWorker, Sessions.{IsSession, AsksBook, acts, turns, logs_of, clerks_in}, Turners.{turner_of, Leaves}}
+use Rattle.mt_service.proofs.Histories.{on_value, one_history}
+use Rattle.mt_service.proofs.running.serve_all.Goals as goal
+
+pub returns-in-Ok-clause-history : goal.returns-in-Ok-clause-history
+returns-in-Ok-clause-history g c =
+    let workers = c.in_ok-workers.workers in
+    let served = c.in-Ok.field-0.served in
+    let parts = c.serve_beside-parts.result.0 in
+    let made = turner_of c.in_ok-turner.turner in
+    let desk = scanner parts.1 parts.0.seen parts.0.share.amount in
+    let tenants = c.args.options.now.tenants.items in
+    let serves : SessionWorker g.row.L.Denot g.row.J.Denot g.row.R.Denot g.row.D.Denot → Bool → SessionWorker g.row.L.Denot g.row.J.Denot g.row.R.Denot g.row.D.Denot → Type 0 =
+    λ old right new. IsSession (AsksBook g.D.Disk.is_honest g.D.Disk.state g.D.Disk.failures) right old.caller new.caller in
+    let zip : AllZip (IsServed serves) workers.items served.items =
+    subst (λ r. IfOk r (λ crew. AllZip (IsServed serves) workers.items crew.served.items)) c.in-Ok.is c.serve_beside-parts.ensures.served in
+    let turned = subst (λ (ts : List TenantQuota). Leaves acts g.D.Disk.is_honest g.D.Disk.state g.D.Disk.failures (turns g.D.Disk.is_honest g.D.Disk.state g.D.Disk.failures) logs_of g.G.Digests.does ts made desk parts.2)
+    c.in_ok-turner.ensures.tenants c.serve_beside-parts.ensures.turner in
+    let many : length workers.items ≡ c.args.options.now.workers = omega (arith, c.in_ok-workers.ensures.workers, workers.ok.0) in
+    on_value c.totals_of.result
+    (λ totals. IsWhole (λ (k : Clerk g.row.L.Denot g.row.J.Denot). k.mark) (c.new-first.result ∷ c.new.result.clerk ∷ c.new.result.logs ∷ flat_map clerks_in served.items) totals.answers) _ c.totals_of.ensures.whole
+    (λ totals whole first is.
+    one_history g.row.L.Denot g.row.J.Denot g.row.R.Denot g.D.Disk.is_honest g.D.Disk.state g.D.Disk.failures g.G.Digests.does tenants c.new-first.result c.new.result.clerk c.new.result.logs workers.items served.items
+    totals.answers c.args.options.now.workers whole zip many made desk parts.2 turned c.new.ensures.clerk first (ap (λ (m : MarkView StateView). m.log) c.new-first.ensures.mark ∙ is))

@@ -1,0 +1,84 @@
+-- What a worker's sessions asked its caller, and the history in which all that they were told stands.
+use Rattle.std.specs.{Prelude.{◌≡◌, ℕ, Bool, true, false, List, [], ◌∷◌, length, min}, List.AllZip}
+use mathlib.Core.List.{IsPrefix}
+use Rattle.mt_rows.specs.Rows.{Bytes}
+use Rattle.mt_disk.specs.Disk.{DiskState}
+use Rattle.mt_state.specs.Views.{StateView}
+use Rattle.mt_history.specs.{Legal.Along, Views.MarkView}
+use Rattle.mt_book.specs.{declared.passes.Pass.Pass, declared.shared.Clerk.Clerk, Happens.{Happening, Leads, Adds, Acted}, Periods.Period, OneRun.Through}
+use Rattle.mt_orders.specs.Explained.{IsExplained}
+use Rattle.mt_crew.specs.{Servings.IsServed, declared.crew.Served.Served}
+use Rattle.mt_session.specs.{Sessions.{CallerRelation, Transcript}, Endings.AsksAtMostOne}
+use Rattle.mt_options.specs.declared.tenants.TenantQuota.{TenantQuota}
+use Rattle.mt_settle.specs.Turns.{Turn}
+use Rattle.mt_stored.specs.{declared.shared.SharedLogs.SharedLogs, Checkpoints.Scanner, Digests.DigestCall, Keeping.keeping, Shared.{LearnsSeen, DoesShared}}
+use Rattle.mt_service.specs.{declared.callers.DeskCaller.DeskCaller, declared.workers.SessionWorker.SessionWorker, Asking.{Asker, asker, AsksDesk}, Turning.Turning, Turners.Leaves}
+
+-- a caller between two exchanges
+abbrev pub asker_of : {L R D S K : Type 0} → DeskCaller L R D S K → Asker D S
+asker_of c = asker c.desk c.pass.worker c.pass.seen c.pass.share.amount c.tenants.now c.opened (keeping c.keeper.logs c.keeper.worker c.keeper.since.answers c.keeper.next)
+
+-- what a period does to a clerk, what a turn does to logs behind their locks, and how many these are
+abbrev pub acts : {L J : Type 0} → Clerk L J → Period → Clerk L J → Type 0
+acts old p new = Adds (Acted p) old.mark new.mark
+
+abbrev pub turns : {L J R D : Type 0} (is_honest : D → Bool) (state : D → DiskState) (failures : D → ℕ) → SharedLogs L J R D → Turn → SharedLogs L J R D → Type 0
+turns is_honest state failures old turn new = DoesShared is_honest state failures old.book.clerk.mark turn new.book.clerk.mark
+
+abbrev pub logs_of : {L J R D : Type 0} → SharedLogs L J R D → ℕ
+logs_of s = min (length s.logs.now) 255
+
+-- what a worker's caller answers, over a clerk of the book, and over logs into which another clerk drains it
+abbrev pub AsksBook : {L J R D K : Type 0} (is_honest : D → Bool) (state : D → DiskState) (failures : D → ℕ) → CallerRelation (DeskCaller L R (Clerk L J) (SharedLogs L J R D) K)
+AsksBook is_honest state failures old e new =
+    AsksDesk acts (λ x clerk y. LearnsSeen x.book.clerk.mark clerk.mark y.book.clerk.mark) (turns is_honest state failures) logs_of (asker_of old) e (asker_of new)
+
+-- the pass of a worker, and its two clerks
+abbrev pub pass_in : {L J R D : Type 0} → Served (SessionWorker L J R D) → Pass L
+pass_in served = served.worker.caller.pass
+
+abbrev pub clerks_in : {L J R D : Type 0} → Served (SessionWorker L J R D) → List (Clerk L J)
+clerks_in served = served.worker.caller.desk ∷ served.worker.caller.keeper.logs.book.clerk ∷ []
+
+-- A session over a caller. The requests of the bytes that were read were asked in their order, and then at most one more, of which nobody was told. If the session
+-- ended as it should, all bytes were requests that were answered.
+pub record IsSession {S : Type 0} (exchanges : CallerRelation S) (right : Bool) (old new : S) : Type 0 where
+  pub read : Bytes
+  pub rest : Bytes
+  pub text : Bytes
+  pub is_open : Bool
+  pub mid : S
+  pub transcript : Transcript exchanges read false old rest is_open mid text
+  pub more : AsksAtMostOne exchanges is_open mid rest new
+  pub whole : right ≡ true → (rest ≡ []) × (new ≡ mid)
+
+-- an exchange after which this holds of the caller
+abbrev pub Within : {S : Type 0} → (S → Type 0) → CallerRelation S → CallerRelation S
+Within holds exchanges old e new = exchanges old e new × holds new
+
+-- both clerks of a caller have seen beginnings of this history
+abbrev pub SeeFronts : {L J R D K : Type 0} → List StateView → DeskCaller L R (Clerk L J) (SharedLogs L J R D) K → Type 0
+SeeFronts history c = IsPrefix c.desk.mark.log history × IsPrefix c.keeper.logs.book.clerk.mark.log history
+
+-- a session of a worker, each exchange of which was made over beginnings of this history
+abbrev pub IsSessionOver : {L J R D : Type 0} (is_honest : D → Bool) (state : D → DiskState) (failures : D → ℕ) → List StateView → SessionWorker L J R D → Bool → SessionWorker L J R D → Type 0
+IsSessionOver is_honest state failures history old right new =
+    IsSession (Within (SeeFronts history) (AsksBook is_honest state failures)) right old.caller new.caller
+
+-- One history from a state on. There is a run through it, and one order explains whichever there is. So many workers were led by sessions, and each exchange of
+-- these was made over a beginning of the history. A turner was led by its deeds to what is left of it, and has then seen a beginning of the history.
+pub record HaveOneHistory (L J R : Type 0) {D G : Type 0} (is_honest : D → Bool) (state : D → DiskState) (failures : D → ℕ) (calls : G → DigestCall → G → Type 0) (tenants : List TenantQuota) (workers : ℕ) (first : StateView) : Type 0 where
+  pub log : List StateView
+  pub legal : Along Leads first log
+  pub run : List Happening
+  pub through : Through first log run
+  pub explained : (other : List Happening) → Through first log other → IsExplained first log other
+  pub begun : List (SessionWorker L J R D)
+  pub many : length begun ≡ workers
+  pub served : List (Served (SessionWorker L J R D))
+  pub each : AllZip (IsServed (IsSessionOver is_honest state failures (first ∷ log))) begun served
+  pub turner : Turning (Clerk L J) (SharedLogs L J R D) G
+  pub desk : Scanner (Clerk L J)
+  pub logs : SharedLogs L J R D
+  pub turned : Leaves acts is_honest state failures (turns is_honest state failures) logs_of calls tenants turner desk logs
+  pub seen : IsPrefix desk.desk.mark.log (first ∷ log)

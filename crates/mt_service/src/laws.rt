@@ -1,0 +1,35 @@
+//! What a settled number says of the answers; the contract of a function that does nothing.
+
+ghost use Rattle.std.specs.Prelude.{◌≤◌, ℕ, List, ◌∷◌, Ok};
+ghost use mathlib.Core.List.{IsPrefix};
+ghost use Rattle.mt_runs.specs.declared.event.Answer.{Answer};
+ghost use Rattle.mt_state.specs.Views.{StateView};
+ghost use Rattle.mt_core.specs.Restores.{IsIdle};
+ghost use Rattle.mt_history.specs.{Legal.Along, Views.MarkView};
+ghost use Rattle.mt_book.specs.{declared.shared.Clerk.Clerk, Happens.Leads, Calls.{Asked, Calls}};
+ghost use Rattle.mt_orders.specs.Answered.{Acts};
+ghost use Rattle.mt_settle.specs.{Turns.Turn, Settles.Settles};
+ghost use Rattle.mt_stored.specs.{declared.shared.SharedLogs.SharedLogs, Shared.DoesShared};
+ghost use Rattle.mt_session.specs.Exchanges.{Settles as SettlesFor};
+ghost use Rattle.mt_service.specs.{declared.callers.DeskCaller.DeskCaller, Sessions.{acts, AsksBook}};
+
+use mt_disk::Disk;
+
+/// A settled number covers each answer that was seen before the Settle: all steps of the answer's operation
+/// are of at most this number. So it is over whatever is drained by a clerk that had seen the answer.
+///
+/// And so it is for a session, whichever clerk was given the answer, if the session's own had seen all that
+/// this one had at the end of its call.
+pub fn a_settled_number_covers_each_answer_that_was_seen<L, J, R, D: Disk, K, S>()
+    ensures logs { (first : StateView) (log : List StateView) → IsIdle first → Along Leads first log →
+        (seen_by : S → MarkView StateView) (count n : ℕ) (learned settled : S) →
+        Settles (λ (s : S) (turn : Turn) (t : S). DoesShared D.is_honest D.state D.failures (seen_by s) turn (seen_by t)) count learned settled (Ok n) →
+        IsPrefix (seen_by settled).log (first ∷ log) →
+        (old new : MarkView StateView) (seen : ℕ) (asked : Asked) (answer : Answer) → Calls Acts old new seen asked (Ok answer) →
+        IsPrefix new.log (seen_by learned).log → answer.last ≤ n }
+    ensures session { (first : StateView) (log : List StateView) → IsIdle first → Along Leads first log →
+        (old new : DeskCaller L R (Clerk L J) (SharedLogs L J R D) K) (n : ℕ) → AsksBook D.is_honest D.state D.failures old (SettlesFor (Ok n)) new →
+        IsPrefix new.keeper.logs.book.clerk.mark.log (first ∷ log) →
+        (before after : Clerk L J) (seen : ℕ) (asked : Asked) (answer : Answer) → Calls acts before after seen asked (Ok answer) →
+        IsPrefix after.mark.log old.desk.mark.log → answer.last ≤ n }
+{}
