@@ -1,7 +1,8 @@
 //! What is asked in these tests, and the store that is asked.
 
-ghost use Rattle.std.specs.Prelude.{◌≡◌, ◌≤◌, IfOk};
+ghost use Rattle.std.specs.Prelude.{◌≤◌, IfOk};
 ghost use Rattle.mt_state.specs.Begins.{HaveNoPairs};
+ghost use Rattle.mt_book.specs.Keeping.{IsUnasked};
 
 use mt_core::State;
 use mt_rows::{Column, ColumnIndexes, Command, Key, NamedColumns, Tenants};
@@ -11,7 +12,7 @@ use std::process::Abort;
 // Tenants 7, 8 and 9, which may have 100, 2 and 3 pairs, in a store with so many logs.
 pub(crate) fn new_store(rt: &impl Abort, alloc: Global, logs: u8) -> Result<State, AllocError>
     requires { logs ≤ 64 }
-    ensures { IfOk result (λ state. state.answers ≡ 0) }
+    ensures { IfOk result IsUnasked }
 {
     let tenants = one_more(rt, no_tenants(alloc), 7, 100);
     let tenants = one_more(rt, tenants, 8, 2);

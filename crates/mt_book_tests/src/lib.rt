@@ -1,5 +1,5 @@
 //! Tests of `mt_book`. Several threads and several workers call. They are told behind the lock what a book tells that is
-//! owned alone. Other calls are over a desk that lies. A gate holds a call, and the tape is looked at.
+//! owned alone. Other calls are over a desk that lies. A gate holds a call. The tape is looked at, and how long threads sleep.
 //!
 //! They stand in a crate of their own, since a crate with tests is proved twice.
 #![tactic(auto)]

@@ -1,7 +1,7 @@
 //! Puts by one thread and by four; and what is done with a new book.
 
 ghost use Rattle.std.specs.Prelude.{◌≡◌};
-ghost use Rattle.mt_book.specs.Names.{AreNames};
+ghost use Rattle.mt_book.specs.{Keeping.IsUnasked, Names.AreNames};
 
 use crate::asked::{Ask, command_of, new_store};
 use crate::{held, tidied, told};
@@ -54,27 +54,27 @@ pub(crate) fn open_passes<L: Ledger, J: Naming, R: Wait + Clock + Abort>(
     passes
 }
 
-/// Puts so many times through a pass, by a clerk of its own. It gives the pass back, how many puts were answered, and how many
-/// steps stand from the first to the last of each.
-pub(crate) fn put_all<L: Ledger, J: Naming, R: Wait + Clock + Abort>(
+/// Puts so many times through a pass. It gives the pass and its desk back, how many puts were answered, and how many steps
+/// stand from the first to the last of each.
+pub(crate) fn put_all<L: Ledger, D: Desk<L> + Drop, R: Wait + Clock>(
     rt: &R,
     alloc: Global,
-    book: &BookLock<L, J>,
-    pass: Pass<L>,
+    caller: (Pass<L>, D),
     puts: u32,
-) -> (Pass<L>, u32, u64) {
-    let mut pass = pass;
-    let mut clerk = open_clerk(rt, book).expect(rt, "a clerk");
+) -> ((Pass<L>, D), u32, u64) {
+    let (mut pass, mut desk) = caller;
     let (mut done, mut steps) = (0u32, 0u64);
     for i in 0..puts {
-        let command = command_of(alloc, (i % 12) as u8, Ask::Put(1)).expect(rt, "memory");
-        if let Ok(answer) = call(rt, alloc, &mut clerk, &mut pass, 7, command, &NoGate {}) {
+        let Ok(command) = command_of(alloc, (i % 12) as u8, Ask::Put(1)) else {
+            continue;
+        };
+        if let Ok(answer) = call(rt, alloc, &mut desk, &mut pass, 7, command, &NoGate {}) {
             done = done.saturating_add(1);
             let more = answer.last.saturating_sub(answer.first);
             steps = steps.saturating_add(more).saturating_add(1);
         }
     }
-    (pass, done, steps)
+    ((pass, desk), done, steps)
 }
 
 // One pass puts 20,000 times. A put takes five steps, and one that makes its pair six. A clerk without a pass looks.
@@ -85,45 +85,57 @@ fn count_steps<L: Ledger, J: Naming, R: Wait + Clock + Abort>(
 ) {
     let mut clerk = open_clerk(rt, book).expect(rt, "a clerk");
     let before = Desk::look(&mut clerk, rt).steps;
-    let (pass, _) = open_pass(rt, book, 0).expect(rt, "a pass");
-    let (_, done, steps) = put_all(rt, alloc, book, pass, 20_000);
+    let caller = open_pass(rt, book, 0).expect(rt, "a pass");
+    let (_, done, steps) = put_all(rt, alloc, caller, 20_000);
     let after = Desk::look(&mut clerk, rt).steps;
     assert_eq!(rt; (done, before, steps, after), (20_000, 0, 100_012, 100_012));
 }
 
-// All passes gather a thousand answers. Three of the four gather nothing, and come back.
+// All passes and clerks gather a thousand answers. If one of either is missing, all come back.
 fn gather_all<L: Ledger, J: Naming, R: Wait + Clock + Abort>(
     rt: &R,
+    alloc: Global,
     book: &BookLock<L, J>,
-    passes: Vec<Pass<L>>,
+    callers: Vec<Caller<'_, L, J>>,
 )
     requires { L.parts ≡ 65536 }
 {
-    let mut passes = passes;
+    let (mut passes, mut clerks) = (Vec::new(alloc), Vec::new(alloc));
+    for (pass, clerk) in callers {
+        passes.push(pass).expect(rt, "memory");
+        clerks.push(clerk).expect(rt, "memory");
+    }
     let held = passes.pop().expect(rt, "a pass");
-    let mut back = gather(rt, book, passes).err().expect(rt, "three passes");
-    assert_eq!(rt; back.len(), 3);
-    back.push(held).expect(rt, "memory");
-    assert!(rt; matches!(gather(rt, book, back), Ok(1000)));
+    let (mut passes, mut clerks) = gather(rt, book, passes, clerks)
+        .err()
+        .expect(rt, "3 passes");
+    passes.push(held).expect(rt, "memory");
+    let held = clerks.pop().expect(rt, "a clerk");
+    let (passes, mut clerks) = gather(rt, book, passes, clerks)
+        .err()
+        .expect(rt, "3 clerks");
+    clerks.push(held).expect(rt, "memory");
+    assert_eq!(rt; (passes.len(), clerks.len()), (4, 4));
+    assert!(rt; matches!(gather(rt, book, passes, clerks), Ok(1000)));
 }
 
-/// Four threads put so many times each, and each put is answered. Their passes come back.
+/// Four threads put so many times each, and each put is answered. Their passes and desks come back.
 pub(crate) fn put_by_four<
     L: Ledger + Send + Sync,
-    J: Naming + Send + Sync,
+    D: Desk<L> + Drop + Send,
     R: Threads + Wait + Clock + Abort + Sync,
->(rt: &R, alloc: Global, book: &BookLock<L, J>, puts: u32) -> Vec<Pass<L>> {
+>(rt: &R, alloc: Global, callers: Vec<(Pass<L>, D)>, puts: u32) -> Vec<(Pass<L>, D)> {
     let done = thread::map_vec(
         rt,
-        open_passes(rt, alloc, book, &[0, 0, 0, 0]),
-        &|pass: Pass<L>| put_all(rt, alloc, book, pass, puts),
+        callers,
+        &|caller: (Pass<L>, D)| put_all(rt, alloc, caller, puts),
     );
-    let mut passes = Vec::new(alloc);
-    for (pass, count, _) in done.expect(rt, "memory") {
+    let mut back = Vec::new(alloc);
+    for (caller, count, _) in done.expect(rt, "memory") {
         assert_eq!(rt; count, puts);
-        passes.push(pass).expect(rt, "memory");
+        back.push(caller).expect(rt, "memory");
     }
-    passes
+    back
 }
 
 /// What is done with a new book.
@@ -145,7 +157,7 @@ fn play<L: Ledger + Send + Sync, J: Naming + Send + Sync, R: Threads + Wait + Cl
     case: Case,
 )
     requires names { AreNames L.name L.parts J.name J.parts J.book names state }
-    requires untaken { state.answers ≡ 0 }
+    requires unasked { IsUnasked state }
 {
     if let Case::ToldAlone = case {
         let Names {
@@ -172,7 +184,10 @@ fn play_locked<
     match case {
         Case::Held => held::make_both(rt, alloc, book),
         Case::ManySteps => count_steps(rt, alloc, book),
-        Case::ByFour => gather_all(rt, book, put_by_four(rt, alloc, book, 250)),
+        Case::ByFour => {
+            let callers = open_all(rt, alloc, book, &[0, 0, 0, 0]);
+            gather_all(rt, alloc, book, put_by_four(rt, alloc, callers, 250));
+        }
         Case::Tidied => tidied::put_on(rt, alloc, book),
         Case::ToldAlone | Case::ToldLocked => told::tell_locked(rt, alloc, book),
     }

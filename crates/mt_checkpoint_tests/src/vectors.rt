@@ -126,15 +126,15 @@ fn each_changed_byte_is_told_for_what_it_is(rt: HostRuntime) -> Result<(), Fail>
     Ok(())
 }
 
-// Three hundred pairs of a thousand bytes are more than one window.
+// Eleven hundred pairs of a thousand bytes are over 1 MiB, and many windows.
 #[test]
 fn a_long_checkpoint_is_read_in_windows(rt: HostRuntime) -> Result<(), Fail> {
     let alloc = rt.alloc();
     let mut keys = Vec::new(alloc);
-    for tenant in 0..300 {
+    for tenant in 0..1_100 {
         keys.push((tenant, 0x6b))?;
     }
     let (disk, told) = written(alloc, (6, 9), &keys, 1_000)?;
-    assert!(rt; told == Told::Walk(6, 9, 300) && disk.image().len() > 300_000);
+    assert!(rt; told == Told::Walk(6, 9, 1_100) && disk.image().len() > 1 << 20);
     Ok(())
 }

@@ -58,19 +58,6 @@ pub(crate) fn put(rt: &impl Abort, alloc: Global, key: &str, value: &str) -> Com
     Command::Put { key, change }
 }
 
-/// The same of a key that has this stamp, or of a missing key and stamp 0.
-pub(crate) fn put_if(
-    rt: &impl Abort,
-    alloc: Global,
-    key: &str,
-    stamp: u64,
-    value: &str,
-) -> Command {
-    let key = key_of(rt, alloc, key);
-    let change = change_of(rt, alloc, value);
-    Command::PutIf { key, stamp, change }
-}
-
 // Column 0 with this value.
 fn change_of(rt: &impl Abort, alloc: Global, value: &str) -> NamedColumns {
     let column = Column::from_slice(alloc, value.as_bytes()).expect(rt, "memory");

@@ -1,9 +1,9 @@
-//! Runs of events, with what each event is told.
+//! Runs of events, with what each event is told. More of them are scripts of `mt_script_tests`.
 
 ghost use Rattle.std.specs.List.{All};
 ghost use Rattle.mt_state.specs.Histories.{IsServed};
 
-use crate::asked::{get, one_tenant, put, put_if, remove};
+use crate::asked::{get, one_tenant, put, remove};
 use mt_core::run_events;
 use mt_rows::Reply;
 use mt_runs::{Event, Told};
@@ -11,8 +11,7 @@ use std::alloc::Global;
 use std::process::Abort;
 
 // An operation's name, what happens to it, and what it is told by that and by each step behind it. It is a get of a key, a put
-// of a key, `=` and a value, a remove of a key and `-`, or a step if nothing stands. A put may ask for a stamp: `?` and 0 or 5
-// stand behind its key.
+// of a key, `=` and a value, a remove of a key and `-`, or a step if nothing stands.
 type Row = (u64, &'static str, &'static str);
 
 // A get finds no pair, and before it compares the version a put makes the pair. It stands before the put. A second
@@ -30,21 +29,6 @@ const A_GET_STANDS_BEFORE_A_PUT: [Row; 10] = [
     (3, "", "moved, moved, moved, moved, new"),
 ];
 
-// Three gets end in another order than they began, and a put that is full changes nothing.
-const IN_ANY_ORDER: [Row; 11] = [
-    (1, "a=1", "begun, moved, moved, moved"),
-    (2, "a", "begun"),
-    (3, "b", "begun, moved"),
-    (2, "", "moved"),
-    (1, "", "moved, moved, new"),
-    (4, "b=1", "begun, moved"),
-    (3, "", "moved, absent"),
-    (4, "", "moved, moved, moved, moved, new"),
-    (5, "c=1", "begun, moved, moved, moved, moved, moved, full"),
-    (6, "a=2", "begun, moved, moved, moved, moved, replaced"),
-    (2, "", "moved, moved, found"),
-];
-
 // A get has found a pair, and before it compares the version a remove takes the pair out. It stands before the
 // remove. A second remove finds none. A name is given once.
 const A_REMOVE_IS_MET: [Row; 9] = [
@@ -57,29 +41,6 @@ const A_REMOVE_IS_MET: [Row; 9] = [
     (2, "", "removed"),
     (4, "k-", "begun, moved, moved, absent, no such"),
     (2, "k", "no such"),
-];
-
-// A get has read a slot whose pair is removed then, and a put of another key takes that slot. The get meets the mark,
-// looks again, and finds no pair.
-const A_SLOT_IS_TAKEN: [Row; 7] = [
-    (1, "k=v", "begun, moved, moved, moved, moved, moved, new"),
-    (3, "k", "begun, moved, moved, moved"),
-    (4, "k-", "begun, moved, moved, moved, moved, removed"),
-    (2, "l=w", "begun, moved, moved, moved, moved"),
-    (3, "", "again 2"),
-    (2, "", "moved, new"),
-    (3, "", "moved, moved, moved, absent"),
-];
-
-// A put that asks for a missing key is told the stamp of the row that stands there. One that asks for that stamp writes
-// over the row, and then the stamp is stale. A missing key has stamp 0, and a put that asks for it makes the pair.
-const A_STAMP_IS_ASKED_FOR: [Row; 6] = [
-    (1, "k=v", "begun, moved, moved, moved, moved, moved, new"),
-    (2, "k?0=w", "begun, moved, moved, stale 5"),
-    (3, "k?5=w", "begun, moved, moved, moved, moved, replaced"),
-    (4, "k?5=x", "begun, moved, moved, stale 13"),
-    (5, "l?5=w", "begun, moved, moved, stale 0"),
-    (6, "l?0=w", "begun, moved, moved, moved, moved, moved, new"),
 ];
 
 // The events of a run, by the only worker, for tenant 7.
@@ -112,10 +73,7 @@ fn event_of(rt: &impl Abort, alloc: Global, row: &Row) -> Event
         return Event::Step { op };
     }
     let command = match (row.1.split_once('='), row.1.split_once('-')) {
-        (Some((key, value)), _) => match key.split_once('?') {
-            Some((key, stamp)) => put_if(rt, alloc, key, stamp.parse().unwrap_or(0), value),
-            None => put(rt, alloc, key, value),
-        },
+        (Some((key, value)), _) => put(rt, alloc, key, value),
         (None, Some((key, _))) => remove(rt, alloc, key),
         (None, None) => get(rt, alloc, row.1, &[]),
     };
@@ -151,12 +109,7 @@ fn text_of(told: &Told) -> &'static str {
             Reply::Absent => "absent",
             Reply::Found(_) => "found",
             Reply::New => "new",
-            Reply::Replaced => "replaced",
             Reply::Removed => "removed",
-            Reply::Full => "full",
-            Reply::Stale(0) => "stale 0",
-            Reply::Stale(5) => "stale 5",
-            Reply::Stale(13) => "stale 13",
             _ => "another reply",
         },
         _ => "another",
@@ -165,13 +118,6 @@ fn text_of(told: &Told) -> &'static str {
 
 #[test]
 fn each_event_is_told_what_its_row_says(rt: HostRuntime) {
-    for rows in [
-        A_GET_STANDS_BEFORE_A_PUT.as_slice(),
-        &IN_ANY_ORDER,
-        &A_REMOVE_IS_MET,
-        &A_SLOT_IS_TAKEN,
-        &A_STAMP_IS_ASKED_FOR,
-    ] {
-        expect_run(&rt, rt.alloc(), rows);
-    }
+    expect_run(&rt, rt.alloc(), &A_GET_STANDS_BEFORE_A_PUT);
+    expect_run(&rt, rt.alloc(), &A_REMOVE_IS_MET);
 }

@@ -14,16 +14,6 @@ fn put_by(rt: &impl Abort, alloc: Global, state: &mut State, worker: u8, key: &s
     run(rt, state, worker, 7, put(rt, alloc, key, "v"))
 }
 
-// The lines of the tree.
-fn expect_lines(rt: &impl Abort, alloc: Global, state: &State, texts: &[&str]) {
-    let lines = state.shape(alloc).expect(rt, "memory");
-    assert_eq!(rt; lines.len(), texts.len());
-    for (line, text) in lines.iter().zip(texts) {
-        let line = line.to_string(alloc).expect(rt, "memory");
-        assert_eq!(rt; line.as_str(), *text);
-    }
-}
-
 // The numbers of the first step, the one of the answer and the last.
 fn numbers_of(answer: &Answer) -> (u64, u64, u64) {
     (answer.first, answer.at, answer.last)
@@ -45,18 +35,8 @@ fn a_get_goes_by_steps(rt: &impl Abort, alloc: Global, state: &mut State) {
 fn a_put_and_a_get_of_it(rt: HostRuntime) {
     let alloc = rt.alloc();
     let mut state = new_store(&rt, alloc, 0, 2);
-    expect_lines(&rt, alloc, &state, &["tree - layer 0", "  border 0"]);
     let told = put_by(&rt, alloc, &mut state, 0, "k");
     assert_eq!(rt; numbers_of(&told), (1, 5, 6));
-    expect_lines(
-        &rt,
-        alloc,
-        &state,
-        &[
-            "tree - layer 0",
-            "  border 1 000000076b000000:5 000000076b000000:5",
-        ],
-    );
     a_get_goes_by_steps(&rt, alloc, &mut state);
     state.tidy();
     state.facts();
@@ -131,26 +111,6 @@ fn a_full_batch_ends_at_its_last_change(rt: HostRuntime) {
 pub(crate) const SIXTEEN_KEYS: [&str; 16] = [
     "a", "b", "c", "d", "e", "f", "g", "h", "i", "j", "k", "l", "m", "n", "o", "p",
 ];
-
-#[test]
-fn sixteen_puts_make_a_root_over_two_nodes(rt: HostRuntime) {
-    let alloc = rt.alloc();
-    let mut state = new_store(&rt, alloc, 0, 100);
-    for key in SIXTEEN_KEYS {
-        put_by(&rt, alloc, &mut state, 0, key);
-    }
-    expect_lines(
-        &rt,
-        alloc,
-        &state,
-        &[
-            "tree - layer 0",
-            "  interior 0000000769000000",
-            "    border 8 0000000761000000:5 0000000768000000:5",
-            "    border 8 0000000769000000:5 0000000770000000:5",
-        ],
-    );
-}
 
 // Puts, which end not before all of them are begun.
 fn put_together(rt: &impl Abort, alloc: Global, state: &mut State, keys: &[&str]) {

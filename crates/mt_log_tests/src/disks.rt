@@ -180,11 +180,11 @@ fn mark_of_many(alloc: Global, disk: FileDisk) -> u64 {
     }
 }
 
-// A disk on a file that may be written, which is made if it isn't there.
-fn writable(rt: &HostRuntime, alloc: Global, path: &str) -> io::Result<FileDisk> {
+// A file that may be written, which is made if it isn't there.
+fn writable(rt: &HostRuntime, path: &str) -> io::Result<File> {
     let mut options = File::options();
     options.read(true).write(true).create(true);
-    found(alloc, options.open(rt, path)?)
+    options.open(rt, path)
 }
 
 // Whether a file that was opened for reading alone is read, and not written.
@@ -200,12 +200,17 @@ fn a_file_keeps_what_was_written(rt: HostRuntime) -> Result<(), Fail> {
     let (folder, path) = ("mt_log_tests_files", "mt_log_tests_files/wal-02");
     let _ = fs::remove_dir_all(&rt, folder);
     fs::create_dir(&rt, folder)?;
-    assert!(rt; keeps_what_is_written(&mut writable(&rt, alloc, path)?));
+    assert!(rt; keeps_what_is_written(&mut found(alloc, writable(&rt, path)?)?));
     assert!(rt; is_read_alone(alloc, File::open(&rt, path)?)?);
     // The log takes the disk's place.
-    assert!(rt; mark_of_many(alloc, writable(&rt, alloc, path)?) == 1_000);
-    let (_disk, told) = opened_on(alloc, writable(&rt, alloc, path)?);
-    assert!(rt; told == Told::Front(1_000, 1_000));
+    assert!(rt; mark_of_many(alloc, found(alloc, writable(&rt, path)?)?) == 1_000);
+    // It is found again, also if more than 4 GiB stand behind it.
+    for len in [46_009, 5 << 30] {
+        let file = writable(&rt, path)?;
+        file.set_len(len)?;
+        let (_disk, told) = opened_on(alloc, found(alloc, file)?);
+        assert!(rt; told == Told::Front(1_000, 1_000), "{len}");
+    }
     fs::remove_dir_all(&rt, folder)?;
     Ok(())
 }

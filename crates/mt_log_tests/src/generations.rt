@@ -117,27 +117,6 @@ fn a_generation_is_begun_appended_to_joined_and_given_up(rt: HostRuntime) -> Res
     Ok(())
 }
 
-// A beginning makes eight calls of the disk, and then a giving up seven. One that failed is made once more, after an opening.
-#[test]
-fn a_call_that_failed_is_made_again(rt: HostRuntime) -> Result<(), Fail> {
-    let alloc = rt.alloc();
-    for fail in 1..9 {
-        let mut slot = place_with(alloc, &[0], fail)?;
-        assert!(rt; begin(&mut slot, HEADER).is_err(), "{fail} failing");
-        if find(alloc, &mut slot, Parity::Odd) == Found::NoLog {
-            assert!(rt; begin(&mut slot, HEADER).is_ok(), "{fail} failing");
-        }
-        assert!(rt; has(&mut slot, &BEGUN), "{fail} failing");
-    }
-    for fail in 1..8 {
-        let mut slot = place_with(alloc, &BEGUN, fail)?;
-        assert!(rt; give_up(&mut slot).is_err(), "{fail} failing");
-        assert!(rt; give_up(&mut slot).is_ok(), "{fail} failing");
-        assert!(rt; has(&mut slot, &[0]), "{fail} failing");
-    }
-    Ok(())
-}
-
 #[test]
 fn a_file_is_told_for_what_it_is(rt: HostRuntime) -> Result<(), Fail> {
     let alloc = rt.alloc();

@@ -72,9 +72,6 @@ pub(crate) const SPENT: &[u8] = b"\x00\x00\x00\x01\x89";
 /// A disk has failed.
 pub(crate) const DEVICE: &[u8] = b"\x00\x00\x00\x01\x8a";
 
-/// No frame of a request.
-pub(crate) const BAD: &[u8] = b"\x00\x00\x80\x01";
-
 pub(crate) const BAD_FRAME: &[u8] = b"\x00\x00\x00\x01\x90";
 
 /// A connection to a server, which is given up where it is silent for a minute.
@@ -107,19 +104,8 @@ pub(crate) fn are_told(stream: &TcpStream, told: &[(&[u8], &[u8])]) -> io::Resul
 
 /// Whether the request is answered with this reply, of at most 16 bytes.
 pub(crate) fn is_told(stream: &TcpStream, request: &[u8], reply: &[u8]) -> io::Result<bool> {
-    is_told_behind(stream, request, &[], reply)
-}
-
-/// The same, where more is sent behind the request.
-pub(crate) fn is_told_behind(
-    stream: &TcpStream,
-    request: &[u8],
-    more: &[u8],
-    reply: &[u8],
-) -> io::Result<bool> {
     let mut client = stream;
     client.write_all(request)?;
-    client.write_all(more)?;
     let mut room = [0u8; 16];
     let wanted = reply.len().min(16);
     client.read_exact(&mut room[..wanted])?;

@@ -1,6 +1,6 @@
 //! Stores in folders: made, opened again, served from, and refused.
 
-ghost use Rattle.std.specs.Prelude.{◌≡◌};
+ghost use Rattle.mt_book.specs.Keeping.{IsUnasked};
 
 use crate::stores::{LOG, NEXT_LOG, ONE_SESSION, RESUME, Scene, serve_scene};
 use crate::words::options_of;
@@ -180,19 +180,8 @@ fn a_new_store_has_its_files_and_no_other(rt: HostRuntime) -> Result<(), Fail> {
 type Edits = &'static [(usize, u8)];
 
 // What is changed of the only log, which is cut to a length; and from which byte on it is told to be no log.
-const BAD: [(Edits, usize, usize); 9] = [
-    (&[], 5, 0),
-    (&[], 8, 8),
-    (&[], 30, 8),
-    (&[], 54, 54),
-    // Another format, and a batch as the format before this one has it; a worker that is none of so many; no logs, and
-    // more than there may be.
-    (&[(5, 3)], 55, 0),
-    (&[(13, 0)], 55, 8),
-    (&[(6, 1)], 55, 0),
-    (&[(7, 0)], 55, 0),
-    (&[(7, 65)], 55, 0),
-];
+// `mt_log_tests` has more of them. In the last one a worker is named that is none of so many.
+const BAD: [(Edits, usize, usize); 3] = [(&[], 5, 0), (&[], 54, 54), (&[(6, 1)], 55, 0)];
 
 // What is changed of each log, and what is said of the folder `mt_server_tests_bad`: a log that was given up, two logs of one worker, a
 // stamp in both, two pairs if one may be, a pair of another tenant.
@@ -223,24 +212,9 @@ const REFUSED: [(&[Edits], &str); 5] = [
 // of the folder `mt_server_tests_bad`.
 const BAD_NUMBERED: [(&str, Edits, usize, &str); 6] = [
     // The other file; an open gate without a header; no logs.
-    (
-        "mt_server_tests_bad/wal-00-0",
-        &[],
-        26,
-        "E12: the log of worker 0 in 'mt_server_tests_bad' is no log from byte 0 on: put all files back from one backup",
-    ),
-    (
-        "mt_server_tests_bad/wal-00-0",
-        &[],
-        1,
-        "E12: the log of worker 0 in 'mt_server_tests_bad' is no log from byte 0 on: put all files back from one backup",
-    ),
-    (
-        "mt_server_tests_bad/wal-00-1",
-        &[(8, 0)],
-        26,
-        "E12: the log of worker 0 in 'mt_server_tests_bad' is no log from byte 0 on: put all files back from one backup",
-    ),
+    ("mt_server_tests_bad/wal-00-0", &[], 26, NO_LOG),
+    ("mt_server_tests_bad/wal-00-0", &[], 1, NO_LOG),
+    ("mt_server_tests_bad/wal-00-1", &[(8, 0)], 26, NO_LOG),
     // An open gate without a batch; a start that isn't where the plain log ends; a generation without the one before it.
     (
         "mt_server_tests_bad/wal-00-1",
@@ -261,6 +235,9 @@ const BAD_NUMBERED: [(&str, Edits, usize, &str); 6] = [
         "E15: the logs of 'mt_server_tests_bad' aren't all of one store; the folder has 1 log for 1 worker: put all files back from one backup",
     ),
 ];
+
+const NO_LOG: &str =
+    "E12: the log of worker 0 in 'mt_server_tests_bad' is no log from byte 0 on: put all files back from one backup";
 
 // A log with these bytes changed, cut to a length.
 fn image_with(alloc: Global, log: &[u8], edits: Edits, len: usize) -> Result<Vec<u8>, AllocError> {
@@ -405,7 +382,7 @@ pub(crate) fn opened<R: Files<File = File> + Clock + Log + Abort>(
     alloc: Global,
     line: &str,
 ) -> OpenStore
-    ensures { result.store.source.state.answers ≡ 0 }
+    ensures { IsUnasked result.store.source.state }
 {
     match open_store(rt, alloc, &options_of(rt, alloc, line)) {
         Ok(opened) => opened,
@@ -421,9 +398,17 @@ const BESIDE_THE_LOG: [&str; 4] = [
     "mt_server_tests_files/check-1",
 ];
 
+// What stands in both numbered files before a start, and after it: nothing, no log, and a torn gate, which is closed.
+const WITHOUT_A_LOG: [(&[u8], &[u8]); 4] = [
+    (b"", SPARE),
+    (SPARE, SPARE),
+    (b"\x00\x01MTLOG", b"\x00\x01MTLOG"),
+    (b"\x07\x01MTLOG", b"\x00\x01MTLOG"),
+];
+
 // A settled put is in the file, in the bytes of the format. At the next start its log has grown by the batch
 // with which a recovery ends before anybody is served, and then the put is found. No checkpoint is written unasked. A slot or
-// a numbered file that is missing is made at the start.
+// a numbered file that is missing, as older servers left it, is made at the start. One without a log is none.
 #[test]
 fn a_store_comes_back_from_its_files(rt: HostRuntime) {
     let alloc = rt.alloc();
@@ -445,6 +430,18 @@ fn a_store_comes_back_from_its_files(rt: HostRuntime) {
     }
     drop(serve_scene(&rt, alloc, store, ONE_SESSION, Scene::Reads));
     drop(folder);
+    let [even, odd, _, _] = BESIDE_THE_LOG;
+    for (before, after) in WITHOUT_A_LOG {
+        for path in [even, odd] {
+            assert!(rt; fs::write(&rt, path, before).is_ok());
+        }
+        let OpenStore { store, folder } = opened(&rt, alloc, again);
+        drop(serve_scene(&rt, alloc, store, ONE_SESSION, Scene::Reads));
+        drop(folder);
+        for path in [even, odd] {
+            expect_file(&rt, path, &[after]);
+        }
+    }
     let _ = fs::remove_dir_all(&rt, "mt_server_tests_files");
 }
 

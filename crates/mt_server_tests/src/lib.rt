@@ -21,8 +21,6 @@ mod servers;
 #[cfg(test)]
 mod stores;
 #[cfg(test)]
-mod upgrades;
-#[cfg(test)]
 mod verified;
 #[cfg(test)]
 mod words;

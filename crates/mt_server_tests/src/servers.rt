@@ -1,12 +1,15 @@
 //! Whole servers, with their clients in threads of the same process.
 
+ghost use Rattle.mt_book.specs.Keeping.{IsUnasked};
+
 use crate::clients::{
-    ABSENT, BAD, BAD_FRAME, FOUND, GET, NEW, NO_PAIRS, ONE_PAIR, OPEN, OPENED, PUT, REMOVE,
-    REMOVED, SCAN, are_told, connected, is_at_end, is_told, is_told_behind,
+    ABSENT, BAD_FRAME, FOUND, GET, NEW, NO_PAIRS, ONE_PAIR, OPEN, OPENED, PUT, REMOVE, REMOVED,
+    SCAN, are_told, connected, is_at_end, is_told,
 };
-use crate::stores::{serve_beside, store_without_logs};
+use crate::stores::{new_store, serve_beside, store_without_logs};
 use log::Log;
-use mt_service::ServerFault;
+use mt_disk::MemDisk;
+use mt_stored::Store;
 use std::alloc::Global;
 use std::io;
 use std::marker::Sync;
@@ -29,7 +32,7 @@ enum Scene {
     InTurn,
     /// One reads what the other puts, with both sessions open.
     AtOnce,
-    /// One sends no frame of a request, and much behind it.
+    /// One sends a frame without a body, and behind it more than a session reads at a time.
     BadFrame,
     /// One leaves inside a frame.
     MidFrame,
@@ -41,6 +44,8 @@ enum Scene {
     Reset,
     /// The listener fails after two of three connections, and still both are answered to their end.
     Deserted,
+    /// The same, and the disks fail when all is settled after that.
+    Unsettled,
 }
 
 // Plays a scene; whether each client was told what it should be.
@@ -56,7 +61,7 @@ fn play(scene: Scene, first: TcpStream, second: TcpStream) -> io::Result<bool> {
 // Whether the first client is told what it should be, and in one scene the second one beside it.
 fn begins(scene: Scene, first: &TcpStream, second: &TcpStream) -> io::Result<bool> {
     match scene {
-        Scene::InTurn | Scene::Deserted => are_told(
+        Scene::InTurn | Scene::Deserted | Scene::Unsettled => are_told(
             first,
             &[(OPEN, OPENED), (PUT, NEW), (GET, FOUND)],
         ),
@@ -67,10 +72,10 @@ fn begins(scene: Scene, first: &TcpStream, second: &TcpStream) -> io::Result<boo
         ),
         Scene::BadFrame => Ok(
             is_told(first, OPEN, OPENED)?
-                && is_told_behind(first, BAD, &[0; 40_000], BAD_FRAME)?
+                && is_told(first, &[0; 90_000], BAD_FRAME)?
                 && is_at_end(first)?,
         ),
-        Scene::MidFrame => is_told_behind(first, OPEN, &PUT[..7], OPENED),
+        Scene::MidFrame => are_told(first, &[(OPEN, OPENED), (&PUT[..7], b"")]),
         Scene::Removal => are_told(
             first,
             &[
@@ -98,24 +103,26 @@ fn begins(scene: Scene, first: &TcpStream, second: &TcpStream) -> io::Result<boo
 fn ends(scene: Scene, second: &TcpStream) -> io::Result<bool> {
     match scene {
         Scene::AtOnce => Ok(true),
-        Scene::InTurn | Scene::Deserted => are_told(second, &[(OPEN, OPENED), (GET, FOUND)]),
+        Scene::InTurn | Scene::Deserted | Scene::Unsettled => {
+            are_told(second, &[(OPEN, OPENED), (GET, FOUND)])
+        }
         _ => are_told(second, &[(OPEN, OPENED), (GET, ABSENT)]),
     }
 }
 
 impl Scene {
-    // The words of its server, the end of the output, and how many sessions end otherwise than closed, unless the listener
-    // fails.
-    fn ends(self) -> (&'static str, &'static str, Option<u64>) {
+    // The words of its server, the end of the output, and how many sessions end otherwise than closed, or how its fault begins.
+    fn ends(self) -> (&'static str, &'static str, &'static str) {
         match self {
-            Scene::InTurn | Scene::AtOnce => (TWO_WORKERS, "sessions 2 answers 3\n", Some(0)),
-            Scene::Removal => (TWO_WORKERS, "sessions 2 answers 4\n", Some(0)),
-            Scene::Scan => (TWO_WORKERS, "sessions 2 answers 5\n", Some(0)),
-            Scene::Deserted => (THREE_SESSIONS, "", None),
+            Scene::InTurn | Scene::AtOnce => (TWO_WORKERS, "sessions 2 answers 3\n", "0"),
+            Scene::Removal => (TWO_WORKERS, "sessions 2 answers 4\n", "0"),
+            Scene::Scan => (TWO_WORKERS, "sessions 2 answers 5\n", "0"),
+            Scene::Deserted => (THREE_SESSIONS, "", "the socket failed: "),
+            Scene::Unsettled => (THREE_SESSIONS, "", "E10: the last settle failed"),
             Scene::BadFrame | Scene::MidFrame | Scene::Reset => (
                 ONE_WORKER,
                 "sessions 2 answers 1\n",
-                Some(1),
+                "1",
             ),
         }
     }
@@ -126,6 +133,16 @@ pub(crate) const TWO_WORKERS: &str = "mt_server --port 0 --workers 2 --sessions 
 const ONE_WORKER: &str = "mt_server --port 0 --workers 1 --sessions 2 7:100";
 
 const THREE_SESSIONS: &str = "mt_server --port 0 --workers 2 --sessions 3 7:100";
+
+// What a scene's server keeps.
+fn store_of(rt: &impl Abort, alloc: Global, scene: Scene) -> Store<MemDisk>
+    ensures { IsUnasked result.source.state }
+{
+    match scene {
+        Scene::Unsettled => new_store(rt, alloc, 2, &[4]),
+        _ => store_without_logs(rt, alloc),
+    }
+}
 
 // A server and its clients, who are all told what they should be, and so is the output.
 fn serve_scene<R>(rt: &R, alloc: Global, scene: Scene)
@@ -138,21 +155,21 @@ where
         + Abort
         + Sync,
 {
-    let (line, last, others) = scene.ends();
+    let (line, last, wanted) = scene.ends();
     let (listener, port, first, second) = connected(rt).expect(rt, "a socket");
     // An accept then fails if nobody waits.
-    assert!(rt; listener.set_nonblocking(others.is_none()).is_ok());
-    let store = store_without_logs(rt, alloc);
+    assert!(rt; listener.set_nonblocking(line == THREE_SESSIONS).is_ok());
+    let store = store_of(rt, alloc, scene);
     let (written, end) = serve_beside(rt, alloc, listener, line, store, move || {
         play(scene, first, second)
     });
     expect_text(rt, alloc, port, &written, last);
-    let ended = match end {
-        Ok(ending) => Some(ending.others),
-        Err(ServerFault::Socket(_)) => None,
-        Err(fault) => panic!(rt; "{last}: {fault}"),
+    let told = match end {
+        Ok(ending) => format!(in alloc; "{}", ending.others),
+        Err(fault) => format!(in alloc; "{fault}"),
     };
-    assert_eq!(rt; ended, others, "{last}");
+    let told = told.expect(rt, "memory");
+    assert!(rt; told.starts_with(wanted), "{last}: {told}");
 }
 
 #[test]
@@ -166,6 +183,7 @@ fn servers_serve_their_clients(rt: HostRuntime) {
         Scene::Scan,
         Scene::Reset,
         Scene::Deserted,
+        Scene::Unsettled,
     ] {
         serve_scene(&rt, rt.alloc(), scene);
     }

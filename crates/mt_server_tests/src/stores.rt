@@ -1,7 +1,8 @@
 //! Servers whose stores lie on disks in memory, with a client each.
 
-ghost use Rattle.std.specs.Prelude.{◌≡◌, ◌<◌, ◌≤◌, vec_len};
+ghost use Rattle.std.specs.Prelude.{◌<◌, ◌≤◌, vec_len};
 ghost use Rattle.mt_state.specs.Begins.{HaveNoPairs};
+ghost use Rattle.mt_book.specs.Keeping.{IsUnasked};
 
 use crate::clients::{
     DEVICE, FOUND, FOUND_BOTH, FULL, GET, NEW, OPEN, OPEN_8, OPENED, PUT, PUT_AT_5, PUT_L,
@@ -47,7 +48,7 @@ fn tenant_7(rt: &impl Abort, alloc: Global) -> Tenants
 
 /// A store of tenant 7, which may have 100 pairs, that keeps nothing.
 pub(crate) fn store_without_logs(rt: &impl Abort, alloc: Global) -> Store<MemDisk>
-    ensures { result.source.state.answers ≡ 0 }
+    ensures { IsUnasked result.source.state }
 {
     let tenants = tenant_7(rt, alloc);
     Store::without_logs(alloc, tenants).expect(rt, "memory")
@@ -75,7 +76,7 @@ pub(crate) fn new_store(
     workers: u8,
     fails: &[u64],
 ) -> Store<MemDisk>
-    ensures { result.source.state.answers ≡ 0 }
+    ensures { IsUnasked result.source.state }
 {
     let tenants = tenant_7(rt, alloc);
     let mut files = Vec::new(alloc);
@@ -93,7 +94,7 @@ pub(crate) fn new_store(
 
 // The store that a worker's files hold: its plain file has this image, and the others are empty.
 fn recovered(rt: &impl Abort, alloc: Global, plain: &[u8]) -> Store<MemDisk>
-    ensures { result.source.state.answers ≡ 0 }
+    ensures { IsUnasked result.source.state }
 {
     let tenants = tenant_7(rt, alloc);
     let plain = disk_with(alloc, plain).expect(rt, "memory");
@@ -129,10 +130,6 @@ pub(crate) fn image_in(rt: &impl Abort, alloc: Global, log: &StoreLog<MemDisk>) 
 pub(crate) const LOG: &[u8] =
     b"MTLOG\x02\x00\x01\x01\x00\x00\x00\x29\x02\x00\x00\x00\x00\x00\x00\x00\x00\x00\x00\x00\x00\x00\x00\x00\x06\x00\x00\x00\x01\x00\x00\x00\x00\x00\x00\x00\x05\x00\x00\x00\x07\x00\x01k\x01\x01\x00\x01v\x00";
 
-// The same in the format that was before it.
-const OLD_LOG: &[u8] =
-    b"MTLOG\x01\x00\x01\x01\x00\x00\x00\x29\x00\x00\x00\x00\x00\x00\x00\x00\x00\x00\x00\x00\x00\x00\x00\x00\x06\x00\x00\x00\x01\x00\x00\x00\x00\x00\x00\x00\x05\x00\x00\x00\x07\x00\x01k\x01\x01\x00\x01v\x00";
-
 // The batch with which a recovery ends: from 6 to 6, all up to 6 kept. It opens the gate that was closed.
 pub(crate) const RESUME: &[u8] =
     b"\x01\x00\x00\x00\x19\x01\x00\x00\x00\x00\x00\x00\x00\x06\x00\x00\x00\x00\x00\x00\x00\x06\x00\x00\x00\x00\x00\x00\x00\x06\x00";
@@ -161,8 +158,6 @@ pub(crate) enum Scene {
     Reads,
     /// It reads that and settles.
     ReadsAndSettles,
-    /// It puts another column of that and settles.
-    PutsAnother,
     /// It reads both columns.
     ReadsBoth,
     /// It puts on condition of the stamp of what was put before, twice.
@@ -196,9 +191,6 @@ fn play(scene: Scene, client: TcpStream) -> io::Result<bool> {
         Scene::Reads => are_told(&client, &[(OPEN, OPENED), (GET, FOUND)]),
         Scene::ReadsAndSettles => {
             Ok(are_told(&client, &[(OPEN, OPENED), (GET, FOUND)])? && is_settled(&client)?)
-        }
-        Scene::PutsAnother => {
-            Ok(are_told(&client, &[(OPEN, OPENED), (PUT_OTHER, REPLACED)])? && is_settled(&client)?)
         }
         Scene::ReadsBoth => are_told(&client, &[(OPEN, OPENED), (GET, FOUND_BOTH)]),
         Scene::Overwrites(times) => {
@@ -263,7 +255,7 @@ fn serve_all<R: Threads + Wait + Clock + Log + Abort + Sync, D: Disk + Drop + Se
     line: &str,
     store: Store<D>,
 ) -> Served<D>
-    requires { store.source.state.answers ≡ 0 }
+    requires { IsUnasked store.source.state }
 {
     let options = options_of(rt, alloc, line);
     let names = Names::new(store.state());
@@ -287,13 +279,13 @@ pub(crate) fn serve_beside<
     D: Disk + Drop + Send,
     F: FnOnce() -> io::Result<bool>,
 >(rt: &R, alloc: Global, listener: TcpListener, line: &str, store: Store<D>, play: F) -> Served<D>
-    requires untaken { store.source.state.answers ≡ 0 }
+    requires unasked { IsUnasked store.source.state }
     requires plays { F.pre play }
 {
     let (served, played) = thread::join(
         rt,
         move ||
-            requires untaken { store.source.state.answers ≡ 0 }
+            requires unasked { IsUnasked store.source.state }
         { serve_all(rt, alloc, listener, line, store) },
         play,
     );
@@ -317,7 +309,7 @@ where
         + Log
         + Abort
         + Sync,
-    requires { store.source.state.answers ≡ 0 }
+    requires { IsUnasked store.source.state }
 {
     let listener = TcpListener::bind(rt, ("127.0.0.1", 0u16)).expect(rt, "a socket");
     let port = listener.local_addr().expect(rt, "a socket").port();
@@ -383,26 +375,10 @@ fn what_was_put_is_there_again_and_numbers_stay_given(rt: HostRuntime) {
     }
 }
 
-// A server starts from a log of the old format, and puts another column into the row there. The next server finds both
-// columns in the same log.
-#[test]
-fn a_log_of_the_old_format_is_carried_on(rt: HostRuntime) {
-    let alloc = rt.alloc();
-    let mut image = OLD_LOG.to_vec(alloc).expect(&rt, "memory");
-    for scene in [Scene::PutsAnother, Scene::ReadsBoth] {
-        let store = recovered(&rt, alloc, &image);
-        let left = serve_scene(&rt, alloc, store, ONE_SESSION, scene);
-        image = image_of(&rt, alloc, left);
-        assert!(rt; image.starts_with(&OLD_LOG[..54]));
-    }
-}
-
 // A row has its stamp again after a start, so a client of before the start meets it, once.
 #[test]
 fn a_stamp_is_met_after_a_start(rt: HostRuntime) {
     let alloc = rt.alloc();
-    for log in [LOG, OLD_LOG] {
-        let store = recovered(&rt, alloc, log);
-        drop(serve_scene(&rt, alloc, store, ONE_SESSION, Scene::MeetsStamp));
-    }
+    let store = recovered(&rt, alloc, LOG);
+    drop(serve_scene(&rt, alloc, store, ONE_SESSION, Scene::MeetsStamp));
 }

@@ -4,28 +4,22 @@ use crate::hexadecimal::bytes_of;
 use std::alloc::Global;
 
 /// Sessions over new tenants 7 and 8, of which the first may have a hundred pairs and the second one.
-pub const ROWS: [&str; 26] = [
+pub const ROWS: [&str; 21] = [
     // nothing
     "> > closed",
     // Open 7 and a get of `a`, whole and cut
     "00000005 01 00000007 00000005 02 0001 61 00 > 00000001 00 00000001 01 > closed",
     "00000005 01 00000007 00000005 02 00 > 00000001 00 > cut",
     "0000 > > cut",
-    // a get, a put without columns and a Settle before Open
-    "00000005 02 0001 61 00 > 00000001 91 > closed",
+    // a put without columns and a Settle before Open
     "00000005 03 0001 61 00 00000001 06 > 00000001 91 00000001 91 > closed",
     // a put of `k`, a get of it, a put over it, a Settle
     "00000005 01 00000007 00000009 03 0001 6b 01 00 0001 76 00000005 02 0001 6b 00 \
     00000009 03 0001 6b 01 00 0001 77 00000001 06 \
     > 00000001 00 00000001 03 00000005 02 01 0001 76 00000001 04 00000001 94 > closed",
-    // a put without columns, after which the session goes on
-    "00000005 01 00000007 00000005 03 0001 61 00 00000005 02 0001 61 00 > 00000001 00 00000001 85 00000001 01 > closed",
-    // a tenant that isn't in the list, and then one that is
-    "00000005 01 00000009 00000001 06 00000005 01 00000008 00000005 02 0001 61 00 \
-    > 00000001 84 00000001 91 00000001 00 00000001 01 > closed",
-    // a get before Open; a tenant that isn't in the list, and then one that is; a second Open
-    "00000005 02 0001 61 00 00000005 01 00000009 00000005 01 00000008 00000005 02 0001 61 00 00000005 01 00000007 \
-    > 00000001 91 00000001 84 00000001 00 00000001 01 00000001 92 > closed",
+    // a get before Open; a tenant that isn't in the list, a Settle, and a tenant that is; a second Open
+    "00000005 02 0001 61 00 00000005 01 00000009 00000001 06 00000005 01 00000008 00000005 02 0001 61 00 00000005 01 00000007 \
+    > 00000001 91 00000001 84 00000001 91 00000001 00 00000001 01 00000001 92 > closed",
     // tenant 8 may have one pair
     "00000005 01 00000008 00000009 03 0001 6b 01 00 0001 76 00000009 03 0001 6c 01 00 0001 76 00000005 02 0001 6c 00 \
     > 00000001 00 00000001 03 00000001 08 00000001 01 > closed",
@@ -42,17 +36,13 @@ pub const ROWS: [&str; 26] = [
     "00000005 01 00000007 00000006 05 02 0000 02 00 00000001 06 > 00000001 00 00000001 90 > refused",
     // a bad body that isn't whole
     "00000005 01 00000007 00000002 0f > 00000001 00 > cut",
-    // a put, a scan, a remove twice, a second Open
-    "00000005 01 00000007 00000009 03 0001 6b 01 00 0001 76 00000006 05 00 0000 02 00 \
+    // a scan of no pairs, a put, a scan, a remove twice, a second Open
+    "00000005 01 00000007 00000006 05 00 0000 02 00 00000009 03 0001 6b 01 00 0001 76 00000006 05 00 0000 02 00 \
     00000004 04 0001 6b 00000004 04 0001 6b 00000005 01 00000007 \
-    > 00000001 00 00000001 03 00000009 06 01 0001 6b 01 0001 76 00000001 05 00000001 01 00000001 92 > closed",
+    > 00000001 00 00000002 06 00 00000001 03 00000009 06 01 0001 6b 01 0001 76 00000001 05 00000001 01 00000001 92 > closed",
     // a put without columns, a scan of no pairs; the session goes on
     "00000005 01 00000007 00000005 03 0001 61 00 00000006 05 00 0000 00 00 00000005 02 0001 61 00 \
     > 00000001 00 00000001 85 00000001 88 00000001 01 > closed",
-    // a pair is put and removed, and then it is missing
-    "00000005 01 00000007 00000009 03 0001 6b 01 00 0001 76 00000004 04 0001 6b 00000004 04 0001 6b > 00000001 00 00000001 03 00000001 05 00000001 01 > closed",
-    // a scan of no pairs
-    "00000005 01 00000007 00000006 05 00 0000 02 00 00000001 06 > 00000001 00 00000002 06 00 00000001 94 > closed",
     // scans that are shown all pairs, those after a key, and as many as are asked for
     "00000005 01 00000007 00000009 03 0001 6b 01 00 0001 76 00000009 03 0001 6a 01 00 0001 75 \
     00000006 05 00 0000 02 00 00000007 05 01 0001 6a 02 00 00000006 05 00 0000 01 00 \
@@ -87,9 +77,15 @@ pub const STEP_STAMPS: &str =
     > 00000001 00 00000001 03 0000000d 0a 0000000000000005 01 0001 76 00000001 04 00000009 0b 000000000000000e \
     00000001 05 00000009 0b 0000000000000000 00000001 01 > closed";
 
-/// Sessions over such tenants without pairs, after so many steps: the step after which numbers are left for a put and
-/// a get alone; the one before the last; and the last. Each begun command takes what numbers are left, and then none begins.
-pub const LAST_ROWS: [(u64, &str); 3] = [
+/// Sessions over such tenants without pairs, after so many steps: while many numbers are left; the step after which some are
+/// left for a put and a get alone; the one before the last; and the last. Each begun command takes what numbers are left, and
+/// then none begins.
+pub const LAST_ROWS: [(u64, &str); 4] = [
+    (
+        (1 << 59) - 5_000,
+        "00000005 01 00000007 00000009 03 0001 6b 01 00 0001 76 00000005 02 0001 6b 00 \
+        > 00000001 00 00000001 03 00000005 02 01 0001 76 > closed",
+    ),
     (
         (1 << 59) - 10,
         "00000005 01 00000007 00000009 03 0001 6b 01 00 0001 76 00000005 02 0001 6b 00 00000005 02 0001 6b 00 \

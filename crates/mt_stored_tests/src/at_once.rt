@@ -1,7 +1,6 @@
 //! Sessions in threads, which put and settle at once. After each settled answer one of them makes a turn of all logs.
 
-ghost use Rattle.std.specs.Prelude.{◌≡◌};
-ghost use Rattle.mt_book.specs.Names.{AreNames};
+ghost use Rattle.mt_book.specs.{Keeping.IsUnasked, Names.AreNames};
 
 use crate::checks::expect_recovered;
 use crate::disks::{FlakyDisk, SOUND};
@@ -79,7 +78,7 @@ fn run<
     R: Threads + Wait + Clock + Log + Abort + Sync,
 >(rt: &R, alloc: Global, names: Names, store: Store<FlakyDisk>)
     requires names { AreNames L.name L.parts J.name J.parts J.book names store.source.state }
-    requires untaken { store.source.state.answers ≡ 0 }
+    requires unasked { IsUnasked store.source.state }
 {
     let (state, logs, slots) = store.into_parts();
     let logs = locked_logs(alloc, logs).expect(rt, "memory");

@@ -1,7 +1,6 @@
 //! Checkpoints that a session writes: when, and into which slot.
 
-ghost use Rattle.std.specs.Prelude.{◌≡◌};
-ghost use Rattle.mt_book.specs.Names.{AreNames};
+ghost use Rattle.mt_book.specs.{Keeping.IsUnasked, Names.AreNames};
 
 use self::Act::{Puts, Settles, SettlesWithout};
 use crate::disks::{Fails, FlakyDisk, NEVER};
@@ -42,8 +41,8 @@ enum Act {
     SettlesWithout(u8),
 }
 
-// What both slots have, in memory.
-fn copies_of(
+/// What both slots have, in memory.
+pub(crate) fn copies_of(
     alloc: Global,
     slots: StoreSlots<FlakyDisk>,
 ) -> Result<StoreSlots<MemDisk>, AllocError> {
@@ -152,7 +151,7 @@ fn played_named<L: Ledger, J: Naming, R: Wait + Clock + Log + Abort>(
     acts: &[Act],
 ) -> Found
     requires names { AreNames L.name L.parts J.name J.parts J.book names store.source.state }
-    requires untaken { store.source.state.answers ≡ 0 }
+    requires unasked { IsUnasked store.source.state }
 {
     let (state, logs, slots) = store.into_parts();
     let logs = locked_logs(alloc, logs).expect(rt, "memory");

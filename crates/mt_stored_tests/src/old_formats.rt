@@ -1,13 +1,12 @@
 //! A store whose log and checkpoint are of format 1: it is recovered, goes on, and is recovered again.
 
 use crate::asked::asked;
-use crate::disks::{FlakyDisk, NEVER};
+use crate::disks::FlakyDisk;
 use crate::images::{images_of, plain_image};
-use crate::stories;
+use crate::stories::{self, slots_of};
 use log::Log;
 use mt_core::State;
 use mt_rows::{Column, ColumnIndexes, Command, Key, NamedColumns, Reply, StampedRow};
-use mt_slots::StoreSlots;
 use mt_store_logs::FileImages;
 use mt_stored::Store;
 use std::alloc::{AllocError, Global};
@@ -30,17 +29,10 @@ const CHECKPOINT: [u8; 36] = [
     0x76, 2, 0, 0, 0, 0, 0, 0, 0, 9,
 ];
 
-// Slots of which the first has this file.
-fn slots_with(alloc: Global, first: &[u8]) -> Result<StoreSlots<FlakyDisk>, AllocError> {
-    let first = FlakyDisk::new(first.to_vec(alloc)?, NEVER);
-    let second = FlakyDisk::new(Vec::new(alloc), NEVER);
-    Ok(StoreSlots::found(first, second))
-}
-
 // The store that a log and a checkpoint hold.
 fn recovered(rt: &impl Abort, alloc: Global, log: &[u8], checkpoint: &[u8]) -> Store<FlakyDisk> {
     let image = log.to_vec(alloc).expect(rt, "memory");
-    let slots = slots_with(alloc, checkpoint).expect(rt, "memory");
+    let slots = slots_of(alloc, [checkpoint, b""]).expect(rt, "memory");
     let mut images = Vec::new(alloc);
     assert!(rt; images.push(plain_image(alloc, image)).is_ok());
     stories::recovered(rt, alloc, images, slots)

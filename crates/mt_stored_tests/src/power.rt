@@ -1,20 +1,21 @@
 //! A server that loses its power in a turn of its own: of one of its disks no call is made any more from some call on. Each file
-//! agrees with its digest then.
+//! agrees with its digest then. The next server loses its power as soon as it has started.
 
-ghost use Rattle.std.specs.Prelude.{◌≡◌};
-ghost use Rattle.mt_book.specs.Names.{AreNames};
+ghost use Rattle.mt_book.specs.{Keeping.IsUnasked, Names.AreNames};
 
+use crate::checks::copies_of;
 use crate::disks::{Fails, FlakyDisk, NEVER};
-use crate::images::{Left, disk_with, key_of, left_of, logs_left, pairs_left, tenant_7};
+use crate::images::{Left, images_of, key_of, left_of, logs_left, pairs_left, tenant_7};
 use crate::kept_digests::{KeptDigests, digest_disks, does_agree};
-use crate::stories::{TENANTS, new_store, session_of, shared_logs, slots_with};
+use crate::stories::{
+    TENANTS, new_store, recovered, session_of, shared_logs, slots_of, slots_with,
+};
 use log::sink::Locked;
 use log::{Level, Log, Logged};
 use mt_book::{BookLock, Kept, Names, open_pass};
 use mt_history::Naming;
 use mt_rows::TenantPair;
 use mt_service::{Turner, Turns};
-use mt_slots::StoreSlots;
 use mt_store_logs::{FileImages, StoreLog};
 use mt_stored::{Checks, Store, locked_logs, unlocked_logs};
 use std::alloc::Global;
@@ -39,7 +40,7 @@ fn fails_of(disk: usize, call: u64) -> [Fails; 8] {
 
 // A new store of two workers, of whose disks these calls fail.
 fn store_with(rt: &impl Abort, alloc: Global, fails: [Fails; 8]) -> Store<FlakyDisk>
-    ensures { result.source.state.answers ≡ 0 }
+    ensures { IsUnasked result.source.state }
 {
     let [a, b, c, d, e, f, first, second] = fails;
     let slots = slots_with(alloc, [first, second]);
@@ -127,7 +128,25 @@ fn expect_agreed(
     expect_agrees(rt, alloc, second, digests, 7, left);
 }
 
-// Plays a store, whose disk stops at a call. Recovers what is left of it, both if all that was written came to the devices
+// The pairs of a store with these images, which starts and loses its power before it serves.
+fn pairs_after_a_start(
+    rt: &impl Abort,
+    alloc: Global,
+    files: Vec<FileImages>,
+    slots: [&[u8]; 2],
+) -> Vec<TenantPair> {
+    let slots = slots_of(alloc, slots).expect(rt, "memory");
+    let (_, logs, slots) = recovered(rt, alloc, files, slots).into_parts();
+    let locks = locked_logs(alloc, logs).expect(rt, "memory");
+    let logs = unlocked_logs(alloc, locks).expect(rt, "memory");
+    let slots = copies_of(alloc, slots.expect(rt, "the slots"));
+    let files = images_of(rt, alloc, &logs);
+    let mut slots = slots.expect(rt, "memory");
+    let pairs = pairs_left(alloc, &files, &mut slots, &tenant_7(rt, alloc));
+    pairs.expect(rt, "a recovery")
+}
+
+// Plays a store, whose disk stops at a call. Recovers what is left of it twice, both if all that was written came to the devices
 // and if just what was synced did. All that was settled has to be there, and each file has to agree with its digest.
 fn loses_nothing<L: Ledger, J: Naming, R: Wait + Clock + Log + Abort>(
     rt: &R,
@@ -137,7 +156,7 @@ fn loses_nothing<L: Ledger, J: Naming, R: Wait + Clock + Log + Abort>(
     digests: Vec<FlakyDisk>,
 )
     requires names { AreNames L.name L.parts J.name J.parts J.book names store.source.state }
-    requires untaken { store.source.state.answers ≡ 0 }
+    requires unasked { IsUnasked store.source.state }
 {
     let (state, logs, slots) = store.into_parts();
     let turns = Turns::new(Checks::new(1, 0, slots));
@@ -153,12 +172,8 @@ fn loses_nothing<L: Ledger, J: Naming, R: Wait + Clock + Log + Abort>(
         let files = logs_left(rt, alloc, &logs, left);
         let images = [left_of(&first, left), left_of(&second, left)];
         expect_agreed(rt, alloc, &files, images, &disks, left);
-        let mut slots = StoreSlots::found(
-            disk_with(alloc, images[0]).expect(rt, "memory"),
-            disk_with(alloc, images[1]).expect(rt, "memory"),
-        );
-        let pairs = pairs_left(alloc, &files, &mut slots, &tenant_7(rt, alloc));
-        let counts = counts_in(&pairs.expect(rt, "a recovery")).expect(rt, "first keys");
+        let pairs = pairs_after_a_start(rt, alloc, files, images);
+        let counts = counts_in(&pairs).expect(rt, "first keys");
         let least = settled.saturating_mul(2);
         assert!(rt;
             counts.iter().all(|count| *count >= least),

@@ -1,7 +1,6 @@
 //! What the sessions of several workers do, one act after the other, and what their logs hold then.
 
-ghost use Rattle.std.specs.Prelude.{◌≡◌};
-ghost use Rattle.mt_book.specs.Names.{AreNames};
+ghost use Rattle.mt_book.specs.{Keeping.IsUnasked, Names.AreNames};
 
 use crate::disks::{Fails, FlakyDisk, NEVER, SOUND};
 use crate::images::{files_with, hold_all, image_of, images_of, plain_image, tenant_7};
@@ -17,7 +16,7 @@ use mt_service::{DeskCaller, Turner, Turns};
 use mt_slots::StoreSlots;
 use mt_store_logs::{FileImages, StoreLog};
 use mt_stored::{Checks, Keeper, NoDigests, SharedLogs, Store, locked_logs, unlocked_logs};
-use std::alloc::Global;
+use std::alloc::{AllocError, Global};
 use std::marker::Brand;
 use std::process::Abort;
 use std::sync::ledger::Ledger;
@@ -37,7 +36,7 @@ pub(crate) fn new_store(
     fails: &[[Fails; 3]],
     slots: StoreSlots<FlakyDisk>,
 ) -> Store<FlakyDisk>
-    ensures { result.source.state.answers ≡ 0 }
+    ensures { IsUnasked result.source.state }
 {
     let mut files = Vec::new(alloc);
     for fails in fails {
@@ -59,7 +58,7 @@ pub(crate) fn recovered(
     images: Vec<FileImages>,
     slots: StoreSlots<FlakyDisk>,
 ) -> Store<FlakyDisk>
-    ensures { result.source.state.answers ≡ 0 }
+    ensures { IsUnasked result.source.state }
 {
     let mut files = Vec::new(alloc);
     for image in images {
@@ -78,7 +77,17 @@ pub(crate) fn bare_slots(alloc: Global) -> StoreSlots<FlakyDisk> {
     slots_with(alloc, [NEVER; 2])
 }
 
-/// The same, if some calls of the disks fail.
+/// Slots whose files have these images.
+pub(crate) fn slots_of(
+    alloc: Global,
+    [first, second]: [&[u8]; 2],
+) -> Result<StoreSlots<FlakyDisk>, AllocError> {
+    let first = FlakyDisk::new(first.to_vec(alloc)?, NEVER);
+    let second = FlakyDisk::new(second.to_vec(alloc)?, NEVER);
+    Ok(StoreSlots::found(first, second))
+}
+
+/// Slots on disks without a byte, if some calls of the disks fail.
 pub(crate) fn slots_with(alloc: Global, fails: [Fails; 2]) -> StoreSlots<FlakyDisk> {
     let [first, second] = fails;
     let disk = |fails: Fails| FlakyDisk::new(Vec::new(alloc), fails);
@@ -338,7 +347,7 @@ fn run_named<L: Ledger, J: Naming, R: Wait + Clock + Log + Abort>(
     acts: &[Act],
 )
     requires names { AreNames L.name L.parts J.name J.parts J.book names store.source.state }
-    requires untaken { store.source.state.answers ≡ 0 }
+    requires unasked { IsUnasked store.source.state }
 {
     let (state, logs, _) = store.into_parts();
     let logs = locked_logs(alloc, logs).expect(rt, "memory");

@@ -1,7 +1,6 @@
 //! Turns of two workers' logs, with a checkpoint in each. A call of one of their disks fails.
 
-ghost use Rattle.std.specs.Prelude.{◌≡◌};
-ghost use Rattle.mt_book.specs.Names.{AreNames};
+ghost use Rattle.mt_book.specs.{Keeping.IsUnasked, Names.AreNames};
 
 use crate::checks::expect_recovered;
 use crate::disks::{FlakyDisk, NEVER, SOUND};
@@ -46,7 +45,7 @@ struct Left {
 
 // A new store of two workers, of whose disks a call fails.
 fn store_with(rt: &impl Abort, alloc: Global, case: Case) -> Store<FlakyDisk>
-    ensures { result.source.state.answers ≡ 0 }
+    ensures { IsUnasked result.source.state }
 {
     let fails = |disk: usize| {
         if disk == case.disk {
@@ -106,7 +105,7 @@ fn played<L: Ledger, J: Naming, R: Wait + Clock + Log + Abort>(
     case: Case,
 ) -> Left
     requires names { AreNames L.name L.parts J.name J.parts J.book names store.source.state }
-    requires untaken { store.source.state.answers ≡ 0 }
+    requires unasked { IsUnasked store.source.state }
 {
     let (state, logs, slots) = store.into_parts();
     let turns = Turns::new(Checks::new(1, 0, slots));
@@ -134,7 +133,7 @@ fn run<R: Wait + Clock + Abort>(
     store: Store<FlakyDisk>,
     case: Case,
 ) -> (Left, Vec<u8>)
-    requires untaken { store.source.state.answers ≡ 0 }
+    requires unasked { IsUnasked store.source.state }
 {
     let logged = Logged::new(rt, Level::Warn, Locked::new(rt, Vec::new(alloc)));
     let names = Names::new(store.state());
@@ -244,7 +243,7 @@ fn is_made<R: Wait + Clock + Abort>(rt: &R, alloc: Global, case: Case) -> bool {
 }
 
 fn expect_next<R: Wait + Clock + Abort>(rt: &R, alloc: Global, store: Store<FlakyDisk>, case: Case)
-    requires untaken { store.source.state.answers ≡ 0 }
+    requires unasked { IsUnasked store.source.state }
 {
     let (left, _) = run(rt, alloc, store, case);
     expect_whole(rt, alloc, left, case);
