@@ -154,6 +154,7 @@ module _ (c : Core) (o : ℕ) (op : Operation) (h : StateInvariant c) (there : o
             makes = once.makes;
             keeps = once.keeps;
             was = once.was;
+            met = once.met;
           };
         }
 

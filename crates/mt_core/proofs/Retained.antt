@@ -252,6 +252,7 @@ module _ (c : Core) (answers : ℕ) (logs : List ℕ) (tape : Kept) (table : Tab
           makes = once.makes;
           keeps = once.keeps;
           was = once.was;
+          met = once.met;
         };
   }
 

@@ -23,6 +23,7 @@ module _ (c : Core) (h : StateInvariant c) where
       makes = once.makes;
       keeps = once.keeps;
       was = once.was;
+      met = once.met;
     };
   }
 

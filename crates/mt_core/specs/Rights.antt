@@ -1,7 +1,8 @@
 -- What holds of every state, by what it shows.
 use Rattle.std.specs.{Prelude.{◌≡◌, ℕ, ◌+◌, ◌<◌, ◌≤◌, true, Some, IsSome, length}, List.{All, Contains}, FinMap.len}
-use Rattle.mt_rows.specs.{declared.tenants.Account.Account, Accounts.account_of, Commands.{key_of, IsKey}, Tenants.tenant_map}
+use Rattle.mt_rows.specs.{declared.tenants.Account.Account, Accounts.account_of, Commands.{key_of, IsKey}, Stamps.stamp_in, Tenants.tenant_map}
 use Rattle.mt_tape.specs.{declared.entry.Entry.{Entry as TapeEntry}, Tapes.{RisesOver, last_write}, Histories.{IsLegalTape, after_of}}
+use Rattle.mt_insert.specs.Puts.{MeetsStamp}
 use Rattle.mt_remove.specs.Writes.{is_remove}
 use Rattle.mt_border.specs.Contents.{AllStamped}
 use Rattle.mt_arena.specs.{Contents.counts, Accesses.{at, tree_of}}
@@ -17,8 +18,8 @@ pub record IsRightTape (v : StateView) : Type 0 where
   pub keys : All (λ e. IsKey e.key) v.tape.entries
   pub logs : AreLogs v.logs v.tape.floor v.steps
 
--- A change that an operation has placed has an entry of its step, worker, tenant and key. The row after it is the one that the command leaves over the one before,
--- which was there where it removes. Over a row that was there a put's entry keeps the change.
+-- A change that an operation has placed has an entry of its step, worker, tenant and key. The row after it is the one that the command leaves over the one before.
+-- That one was there if it removes, and had the stamp that the command asks for, if it asks for one. Over a row that was there a put's entry keeps the change.
 pub record HasEntry (v : StateView) (op : OperationView) (step : ℕ) : Type 0 where
   pub entry : TapeEntry
   pub there : Contains v.tape.entries entry
@@ -29,6 +30,7 @@ pub record HasEntry (v : StateView) (op : OperationView) (step : ℕ) : Type 0 w
   pub makes : after_of entry ≡ row_left entry.step op.command entry.before
   pub keeps : entry.change ≡ change_kept op.command entry.before
   pub was : is_remove op.command ≡ true → IsSome entry.before
+  pub met : MeetsStamp op.command (stamp_in entry.before)
 
 -- what holds of an operation: the tape goes back before its first step, its reply is right once it is finished, and its change has its entry
 pub record IsRightOperation (v : StateView) (op : OperationView) : Type 0 where

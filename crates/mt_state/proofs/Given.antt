@@ -214,6 +214,7 @@ module _ (c : Core) (mid : ArenaView) (q : ℕ) (op : Operation) (arena : IsAren
     makes = h.makes;
     keeps = h.keeps;
     was = h.was;
+    met = h.met;
   }
 
   -- all that is kept of it

@@ -419,6 +419,7 @@ module _ (c : Core) (o : ℕ) (h : StateInvariant c) (few : c.steps < 2 ^ 59) (o
             makes = once.makes;
             keeps = once.keeps;
             was = once.was;
+            met = once.met;
           };
         }
 

@@ -3,7 +3,7 @@ use Rattle.std.proofs.Common.{◌≡◌, ◌≢◌, ℕ, ◌+◌, ◌-◌, ◌<�
 use Rattle.std.proofs.{lemmas.Bool.{cases_eq, both_ways}, lemmas.Option.same_Some, lemmas.List.length-set}
 use Rattle.std.specs.{Prelude.{◌^◌}, FinMap.{get, len, insert}}
 use Rattle.mt_slices.specs.Slices.{suffix_of}
-use Rattle.mt_rows.specs.{declared.reply.Reply.TheVariants.{New, Full}, Rows.{Bytes, Columns}, Stamps.Stamped, Commands.key_of, Maps.reply_of}
+use Rattle.mt_rows.specs.{declared.reply.Reply.TheVariants.{New, Full}, Rows.{Bytes, Columns}, Stamps.{Stamped, stamp_in}, Commands.key_of, Maps.reply_of}
 use Rattle.mt_rows.specs.{Accounts.{Accounts, account_of, HasRoom}, Tenants.{Contents, tenant_map}}
 use Rattle.mt_rows.proofs.ContentLaws.{get-tenant_map}
 use Rattle.mt_border.specs.{declared.entry.Entry.Entry, Entries.with_entry, Contents.{owned, AreKeys, IsStamped, AllStamped}}
@@ -16,7 +16,7 @@ use Rattle.mt_operation.specs.{declared.phase.Phase.Phase, declared.phase.Phase.
 use Rattle.mt_operation.specs.{declared.outcome.Outcome.Outcome, declared.operation.Operation.Operation, Tasks.ask, Operations.view_of}
 use Rattle.mt_operation.specs.{Phases.{is_done, MayFollow, IsOfKind}, Tables.{op_at as operation_at}}
 use Rattle.mt_remove.specs.Writes.{is_remove}
-use Rattle.mt_insert.specs.{Puts.IsPut, Placing.entry_of, KeptSplits.{last_of, HoldsSplits}}
+use Rattle.mt_insert.specs.{Puts.{IsPut, MeetsStamp}, Placing.entry_of, KeptSplits.{last_of, HoldsSplits}}
 use Rattle.mt_insert.specs.SplitMove.{after_parting, PartsKeys, IsSplitMove, IsSplitMoveFull}
 use Rattle.mt_insert.proofs.PartingKeys.{may_place}
 use Rattle.mt_held.specs.Taping.{pushed, released}
@@ -369,6 +369,7 @@ module _ (c : Core) (o : ℕ) (h : StateInvariant c) (few : c.steps < 2 ^ 59) (o
         room_left (account_of c.accounts op.task.tenant) (len (tenant_map op.task.tenant (content_of c.arena))) has_room (λ a e. (h.counts op.task.tenant a e).0) in
         let replies = put_new (quota_of (shown c) op.task.tenant) (c.steps + 1) op.task.request (tenant_map op.task.tenant (content_of c.arena)) put.put_is p.met (missing_there put) less in
         let makes = replies.1 ∙ ap (λ (b : Option Stamped). insert (tenant_map op.task.tenant (content_of c.arena)) (key_of (ask op.task)) (put_over c op b)) (sym p.missing) in
+        let met = subst (λ (b : Option Stamped). MeetsStamp (ask op.task) (stamp_in b)) (sym p.missing) p.met in
         let answer : HasAnswer new_core after_new = record {
           outcome = record { reply = New; at = c.steps + 1 };
           told = refl;
@@ -381,7 +382,7 @@ module _ (c : Core) (o : ℕ) (h : StateInvariant c) (few : c.steps < 2 ^ 59) (o
           kept = halves_kept w.phase leads new_core o after_new stays_put some p.kept answer;
           unsplit = λ none. absurd (both_ways _ none (halves_split w.phase leads));
           placed =
-              λ m placed_at. subst (IsPlacedOnce new_core after_new) (same_Some (c.steps + 1) m placed_at) (placed_once c o op after_new arena accounts h put pair refl);
+              λ m placed_at. subst (IsPlacedOnce new_core after_new) (same_Some (c.steps + 1) m placed_at) (placed_once c o op after_new arena accounts h put pair met refl);
         } in
         gives (shown c) c new_core o op after_new refl h few
         (placed_move c o op after_new arena accounts h put pair (record {

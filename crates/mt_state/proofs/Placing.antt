@@ -2,7 +2,7 @@
 use Rattle.std.proofs.Common.{◌≡◌, ◌≢◌, ℕ, ◌+◌, ◌-◌, ◌<◌, ◌≤◌, Bool, true, false, cond, eqb, [], ◌∷◌, ◌++◌, length, set, Option, Some, IsSome, refl, sym, ap, subst, ◌∙◌, arith, inl}
 use Rattle.std.proofs.{lemmas.Bool.{both_ways, eq-eqb, eqb-true}, lemmas.List.length-drop, lemmas.List.Elements.{All-push, Contains-push, Contains-append_left}}
 use Rattle.std.specs.FinMap.{get, len, insert}
-use Rattle.mt_rows.specs.{declared.reply.Reply.Reply, declared.tenants.Account.Account, Rows.Bytes, Stamps.{Stamped, written}, Commands.{key_of, IsKey}}
+use Rattle.mt_rows.specs.{declared.reply.Reply.Reply, declared.tenants.Account.Account, Rows.Bytes, Stamps.{Stamped, stamp_in, written}, Commands.{key_of, IsKey}}
 use Rattle.mt_rows.specs.{Maps.{reply_of, map_after, is_change, is_scan}, Accounts.{Accounts, account_of}, Tenants.{Contents, tenant_map}}
 use Rattle.mt_border.specs.Contents.{owned}
 use Rattle.mt_tape.specs.declared.entry.Entry.{Entry as Write}
@@ -12,7 +12,7 @@ use Rattle.mt_tape.proofs.TapeLaws.{contents_at-push, legal-push, untouched-push
 use Rattle.mt_arena.specs.{Arena.{ArenaView, content_of, Guarantee}, Accesses.at}
 use Rattle.mt_operation.specs.{declared.task.Task.Task, declared.operation.Operation.Operation, Tasks.ask, Operations.view_of, Phases.is_done}
 use Rattle.mt_operation.specs.Tables.{op_at as operation_at}
-use Rattle.mt_insert.specs.Puts.{IsPut, change_of, write_of}
+use Rattle.mt_insert.specs.Puts.{IsPut, MeetsStamp, change_of, write_of}
 use Rattle.mt_held.specs.Taping.{pushed}
 use Rattle.mt_state.specs.{Views.{Core, shown, map_of, quota_of, granted_in, KeepsPast}, Notes.key_asked, Promises.{IsPlacing, IsAnswer}, Given.ChangesArena}
 use Rattle.mt_state.specs.KeptOperations.{IsKeptOf, IsPlacedOnce}
@@ -236,9 +236,9 @@ module _ (c : Core) (o : ℕ) (before after : Operation) (arena : ArenaView) (ac
       key_is = is.key;
     }
 
-  -- the change has its one write in the tape
-  pub wrote_once : after.task ≡ before.task → IsPlacedOnce new after (c.steps + 1)
-  wrote_once task = record {
+  -- the change has its one write in the tape, over a row with the stamp that it asks for
+  pub wrote_once : MeetsStamp (ask before.task) (stamp_in wrote.before) → after.task ≡ before.task → IsPlacedOnce new after (c.steps + 1)
+  wrote_once met task = record {
     entry = wrote;
     there = Contains-push c.tape.entries wrote;
     step_is = is.step;
@@ -248,6 +248,7 @@ module _ (c : Core) (o : ℕ) (before after : Operation) (arena : ArenaView) (ac
     makes = subst (λ (t : Task). after_of wrote ≡ row_left wrote.step (ask t) wrote.before) (sym task) is.leaves;
     keeps = subst (λ (t : Task). wrote.change ≡ change_kept (ask t) wrote.before) (sym task) is.keeps;
     was = λ removes. is.was (ap (λ (t : Task). is_remove (ask t)) (sym task) ∙ removes);
+    met = subst (λ (t : Task). MeetsStamp (ask t) (stamp_in wrote.before)) (sym task) met;
   }
 
 -- what a put leaves by the next step over this row, or over none
@@ -307,5 +308,6 @@ module _ (c : Core) (o : ℕ) (before after : Operation) (arena : ArenaView) (ac
         → IsPlacing (shown c) (shown (placed c arena accounts o before after)) (view_of before) (view_of after)
     is_placing = is_writing c o before after arena accounts h write (put_writes c before put) p reply changes told makes
 
-  pub placed_once : after.task ≡ before.task → IsPlacedOnce (placed c arena accounts o before after) after (c.steps + 1)
+  pub placed_once : MeetsStamp (ask before.task) (stamp_in (get (content_of c.arena) (owned before.task.key))) → after.task ≡ before.task
+      → IsPlacedOnce (placed c arena accounts o before after) after (c.steps + 1)
   placed_once = wrote_once c o before after arena accounts h write (put_writes c before put) p

@@ -3,7 +3,7 @@ use Rattle.std.proofs.Common.{◌≡◌, ◌≢◌, ℕ, ◌+◌, ◌<◌, inl, 
 use Rattle.std.proofs.{lemmas.Bool.{cases_eq, both_ways}, lemmas.Option.{none-some, same_Some}, lemmas.List.{length-set, Elements.All-from_get_or}}
 use Rattle.std.specs.{Prelude.{◌^◌}, Option.option_map, List.All, FinMap.{get, len, insert}}
 use Rattle.mt_slices.specs.Slices.{suffix_of}
-use Rattle.mt_rows.specs.{declared.reply.Reply.Reply, declared.reply.Reply.TheVariants.{New, Replaced}, declared.tenants.Account.Account, Rows.{Bytes, Columns}, Stamps.Stamped}
+use Rattle.mt_rows.specs.{declared.reply.Reply.Reply, declared.reply.Reply.TheVariants.{New, Replaced}, declared.tenants.Account.Account, Rows.{Bytes, Columns}, Stamps.{Stamped, stamp_in}}
 use Rattle.mt_rows.specs.{Commands.key_of, Maps.{is_change, reply_of, map_after}, Accounts.{Accounts, account_of, HasRoom, one_more, OthersStay}}
 use Rattle.mt_rows.specs.Tenants.{Contents, tenant_map}
 use Rattle.mt_rows.proofs.ContentLaws.{get-tenant_map}
@@ -20,7 +20,7 @@ use Rattle.mt_operation.specs.{declared.phase.Phase.Phase, declared.phase.Phase.
 use Rattle.mt_operation.specs.{declared.splits.Halves.Halves, declared.operation.Operation.Operation, Tasks.ask, Operations.view_of}
 use Rattle.mt_operation.specs.{Phases.{is_done, MayFollow, IsOfKind, has_splits, is_prepared}, Tables.{op_at as operation_at}}
 use Rattle.mt_descent.specs.{KeptWalks.walk_place, WalkMoves.Continues}
-use Rattle.mt_insert.{specs.{Puts.IsPut, Placing.entry_of, Store.IsStore, Publish.IsPublish}, proofs.Places.may_publish}
+use Rattle.mt_insert.{specs.{Puts.{IsPut, MeetsStamp}, Placing.entry_of, Store.IsStore, Publish.IsPublish}, proofs.Places.may_publish}
 use Rattle.mt_held.{specs.{Holds.{HoldsBy, IsAtUnlock}, Moves.walk_placed, Taping.pushed}, proofs.Places.may_store}
 use Rattle.mt_state.specs.{Views.{StateView, Core, shown, quota_of, quota_in, granted_in}, Notes.Notes}
 use Rattle.mt_state.specs.KeptOperations.{IsOpenOperation, IsStoring, IsPublishing, MayUnlock, IsUnlocking, IsKeptAt, IsPlacedOnce, IsKeptOf, MayUnlockUnsplit}
@@ -205,11 +205,12 @@ module _ (c : Core) (now : StateView) (o : ℕ) (is : shown c ≡ now) (h : Stat
       placed_gives : (changes : is_change reply ≡ true)
           → (told : reply ≡ reply_of (quota_of (shown c) op.task.tenant) (ask op.task) (tenant_map op.task.tenant (content_of c.arena)))
           → (makes : map_after (quota_of (shown c) op.task.tenant) (c.steps + 1) (ask op.task) (tenant_map op.task.tenant (content_of c.arena)) ≡ insert (tenant_map op.task.tenant (content_of c.arena)) (key_of (ask op.task)) the_row)
+          → MeetsStamp (ask op.task) (stamp_in (get (content_of c.arena) key))
           → (p : Phase) → op.walk.phase ≡ p → is_prepared p ≡ true → is_done p ≡ false → has_splits p ≡ false
           → ((j : ℕ) → HoldsAt p op j → j ≡ k) → p ≢ Enter → MayFollow p Unlock → op.walk.aim ≡ aims.Write
           → Notes (shown c) (view_of op) p Unlock (Some (record { reply = reply; at = c.steps + 1 }))
           → w ≡ walk_placed op.walk → Continues op.walk w → n.holder ≡ Some o → IsAtUnlock the_arena o w → Gives now the_new o false
-      placed_gives changes told makes p at_p ready left none holds_one later follows writes notes goes same holder unlocks =
+      placed_gives changes told makes met p at_p ready left none holds_one later follows writes notes goes same holder unlocks =
           let begun = always.begun (λ enters. later (sym at_p ∙ enters)) in
           let whole = walk_same c op always w begun same.first in
           let ends : w.phase ≡ Unlock = ap (λ (x : Walk). x.phase) goes in
@@ -235,7 +236,7 @@ module _ (c : Core) (now : StateView) (o : ℕ) (is : shown c ≡ now) (h : Stat
             kept = subst (λ (q : Phase). IsKeptAt q the_new o the_after) (sym ends) own;
             unsplit = λ over. unsplit;
             placed =
-                λ m placed_at. subst (IsPlacedOnce the_new the_after) (same_Some (c.steps + 1) m (ap (λ b. cond b (Some (c.steps + 1)) None) (sym changes) ∙ placed_at)) (placed_once c o op the_after the_arena accounts h put pair refl);
+                λ m placed_at. subst (IsPlacedOnce the_new the_after) (same_Some (c.steps + 1) m (ap (λ b. cond b (Some (c.steps + 1)) None) (sym changes) ∙ placed_at)) (placed_once c o op the_after the_arena accounts h put pair met refl);
           } in
           gives now c the_new o op the_after is h (few_steps c now o is h room op there)
           (placed_move c o op the_after the_arena accounts h put pair (record {
@@ -315,7 +316,7 @@ module _ (c : Core) (now : StateView) (o : ℕ) (is : shown c ≡ now) (h : Stat
         (subst (λ (t : Kept). Gives now (stepped c (with_node c.arena k (with_slots n slots cells)) t c.accounts o after) o false) (sym t.places.tape)
         (placed_gives slots cells c.accounts w Replaced j.held.there j.stands.live (beside_stored arena_is place s.pair may.stands) (subst (Guarantee o c.arena) takes t.guarantee) contents
         (counted_there (content_of (with_node c.arena k (with_slots n slots cells))) (put_over c op (get (content_of c.arena) key)) had contents t.was_there) stamps
-        refl replies.0 makes Store at_store refl refl refl (λ i one. one) (λ e. cc) tt stores_on refl t.walk t.same j.held.holder (subst (λ (v : ArenaView). IsAtUnlock v o w) takes t.kept)))
+        refl replies.0 makes (subst (λ (b : Option Stamped). MeetsStamp (ask op.task) (stamp_in b)) (sym t.was_there) t.met) Store at_store refl refl refl (λ i one. one) (λ e. cc) tt stores_on refl t.walk t.same j.held.holder (subst (λ (v : ArenaView). IsAtUnlock v o w) takes t.kept)))
 
   module _ (at_publish : op.walk.phase ≡ Publish) where
     publishing : IsPublishing c o op
@@ -350,4 +351,4 @@ module _ (c : Core) (now : StateView) (o : ℕ) (is : shown c ≡ now) (h : Stat
         (subst (λ (t : Kept). Gives now (stepped c (with_node c.arena k (with_slots n slots cells)) t accounts o after) o false) (sym t.places.tape)
         (placed_gives slots cells accounts w New j.held.there j.stands.live (λ l inside differ counted. beside_missing arena_is t.missing l inside counted) (subst (Guarantee o c.arena) t.is t.guarantee) contents
         (counted_new accounts (content_of (with_node c.arena k (with_slots n slots cells))) (put_over c op (get (content_of c.arena) key)) contents t.missing t.room t.more t.others) stamps
-        refl replies.0 makes Publish at_publish refl refl refl (λ i one. one) (λ e. cc) tt publishes_on (inl refl) t.walk t.same j.held.holder (subst (λ (v : ArenaView). IsAtUnlock v o w) t.is t.kept)))
+        refl replies.0 makes (subst (λ (b : Option Stamped). MeetsStamp (ask op.task) (stamp_in b)) (sym t.missing) t.met) Publish at_publish refl refl refl (λ i one. one) (λ e. cc) tt publishes_on (inl refl) t.walk t.same j.held.holder (subst (λ (v : ArenaView). IsAtUnlock v o w) t.is t.kept)))

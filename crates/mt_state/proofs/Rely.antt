@@ -275,6 +275,7 @@ module _ (old new : Core) (o q : ℕ) (arena : IsArena new.arena.nodes new.arena
     makes = h.makes;
     keeps = h.keeps;
     was = h.was;
+    met = h.met;
   }
 
   -- what a scan has done

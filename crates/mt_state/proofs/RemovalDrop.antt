@@ -23,7 +23,7 @@ use Rattle.mt_state.specs.{Views.{Core, shown, granted_in, quota_of}, Notes.Note
 use Rattle.mt_state.specs.KeptOperations.{IsOpenOperation, IsDropping, IsKeptOf, IsKeptAt, HasAnswer, IsPlacedOnce}
 use Rattle.mt_state.specs.{Invariant.{IsStampOf, AreStamps, StateInvariant, DeletedAreEmpty}, Writes.removing}
 use Rattle.mt_state.proofs.{Telling.{Gives, gives}, Moved.{went_on, first_begun, first_upto, open_moved_on, has_moved_on}, Still.{floor_made, unready_none}}
-use Rattle.mt_state.proofs.{Reading.walk_same, OneNode.{counted_live, holds_here}, Locking.{ready_one, room_for}, Replies.remove_there, Writing.{row_left_remove, change_kept_remove}}
+use Rattle.mt_state.proofs.{Reading.walk_same, OneNode.{counted_live, holds_here}, Locking.{ready_one, room_for}, Replies.remove_there, Writing.{row_left_remove, change_kept_remove, remove_meets}}
 use Rattle.mt_state.proofs.{LiveTrees.slot_lives, Placing.{Counts, IsWriteOf, placed_by, Places, beside_write, wrote_move, wrote_right, is_writing, wrote_once}}
 use Rattle.mt_state.proofs.{Putting.stamped_apart, Growing.{retires_same, changes_on}, RemovalNodes.{LeavesNodes, one_leaves, slots_removed, stood, versions, removal_touches, removal_takes}}
 use Rattle.mt_state.proofs.RemovalSteps.{HasRemoval, has_removal, removal_back, removal_kept, removal_held, removal_kind, removal_open, removal_unready}
@@ -217,7 +217,7 @@ module _ (c : Core) (o : ℕ) (h : StateInvariant c) (few : c.steps < 2 ^ 59) (o
         (removal_kind w.phase leads w.aim (t.same.aim ∙ subst (λ (p : Phase). IsOfKind p op.walk.aim) at_drop always.kind));
     kept = removal_kept w.phase new o after dropping.removes unsplit (subst (λ (x : Walk). KeptRemoval w.phase arena o op.task.key x r) (sym whole) t.kept) answer;
     unsplit = λ none. unsplit;
-    placed = λ m is. subst (IsPlacedOnce new after) (same_Some (c.steps + 1) m is) (wrote_once c o op after arena accounts h write writes places refl);
+    placed = λ m is. subst (IsPlacedOnce new after) (same_Some (c.steps + 1) m is) (wrote_once c o op after arena accounts h write writes places (remove_meets op.task.request dropping.removes t.row.stamp) refl);
   }
 
   holds_only : HoldsOnly c.arena o k

@@ -144,6 +144,7 @@ module _ (c : Core) (now : StateView) (o : ℕ) (is : shown c ≡ now) (h : Stat
           makes = once.makes;
           keeps = once.keeps;
           was = once.was;
+          met = once.met;
         };
       } in
       gives now c (still w told) o op after is h few

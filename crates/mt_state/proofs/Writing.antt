@@ -9,7 +9,7 @@ use Rattle.mt_arena.specs.Arena.{content_of}
 use Rattle.mt_operation.specs.declared.task.Request.{Request}
 use Rattle.mt_operation.specs.{declared.task.Request.TheVariants.{Get as GetOf, Put as PutOf, PutIf as PutIfOf, Remove as RemoveOf, Scan as ScanOf}, declared.task.Task.Task}
 use Rattle.mt_operation.specs.{declared.operation.Operation.Operation, Tasks.{command_of, ask, aim_of}, Operations.view_of}
-use Rattle.mt_insert.specs.Puts.{change_of, is_put}
+use Rattle.mt_insert.specs.Puts.{change_of, is_put, MeetsStamp}
 use Rattle.mt_state.specs.{Views.{Core, shown, granted_in, quota_of}, Steps.{told_change, change_in}, Promises.IsPlacing, KeptOperations.IsPlacedOnce}
 use Rattle.mt_state.specs.{Written.{KeepsQuotas, IsMadeByPut, IsMadeByChange, row_left, change_kept}, Invariant.StateInvariant, Moves.{IsMove, IsTold}}
 use Rattle.mt_state.proofs.Replies.{change_writes}
@@ -54,6 +54,14 @@ change_kept_remove (GetOf key columns) removes before = absurd (cc)
 change_kept_remove (ScanOf from after count columns) removes before = absurd (cc)
 change_kept_remove (PutOf key change) removes before = absurd (cc)
 change_kept_remove (PutIfOf key stamp change) removes before = absurd (cc)
+
+-- a removal asks for no stamp
+pub remove_meets : (r : Request) → is_remove (command_of r) ≡ true → (standing : ℕ) → MeetsStamp (command_of r) standing
+remove_meets (RemoveOf key) removes standing = tt
+remove_meets (GetOf key columns) removes standing = absurd (cc)
+remove_meets (ScanOf from after count columns) removes standing = absurd (cc)
+remove_meets (PutOf key change) removes standing = absurd (cc)
+remove_meets (PutIfOf key stamp change) removes standing = absurd (cc)
 
 -- what a put writes is made by its change, which is the one that its entry keeps
 kept_is : (change : Named) (before : Option Stamped) (c : Named) → option_map (λ (was : Stamped). change) before ≡ Some c → c ≡ change

@@ -1,7 +1,7 @@
 -- What a state keeps of each operation, by its phase.
 use Rattle.std.specs.{Prelude.{◌≡◌, ◌≢◌, ℕ, ◌≤◌, ◌<◌, Bool, true, false, List, [], ◌∷◌, Option, Some, None, IsSome}, List.Contains}
 use Rattle.mt_slices.specs.Keys.{IsStoredKey, stored_key, tenant_of}
-use Rattle.mt_rows.specs.{declared.command.Command.Command, declared.command.Command.TheVariants.Scan, Stamps.{Stamped, as_shown}}
+use Rattle.mt_rows.specs.{declared.command.Command.Command, declared.command.Command.TheVariants.Scan, Stamps.{Stamped, as_shown, stamp_in}}
 use Rattle.mt_rows.specs.{Commands.{key_of, HasColumns, HasShortColumns, HasCount}, Accounts.account_of, Maps.is_scan}
 use Rattle.mt_border.specs.Contents.{owned}
 use Rattle.mt_tape.specs.{declared.entry.Entry.{Entry as TapeEntry}, Histories.after_of}
@@ -10,7 +10,7 @@ use Rattle.mt_operation.specs.{declared.phase.Phase.Phase, declared.phase.Phase.
 use Rattle.mt_operation.specs.{declared.walk.Taken.Taken, declared.walk.Taken.TheVariants.{Missing, Row, Link, Nothing}, declared.outcome.Outcome.Outcome}
 use Rattle.mt_operation.specs.{declared.prepared.Prepared.Prepared, declared.operation.Operation.Operation, Phases.{IsOfKind, has_splits, is_done, Kind, row}}
 use Rattle.mt_operation.specs.{Tasks.{ask, aim_of}, declared.splits.Halves.Halves, Operations.{ScanView, view_of, scan_of, no_scan, IsUnsplit, no_removal}}
-use Rattle.mt_insert.specs.{Puts.is_put, KeptPuts.{IsAtStore, IsAtFill, IsAtPublish, IsAtSplitStart}, KeptSplits.{IsAtSplitMove, IsAtUnlockAll, KeptSplit}}
+use Rattle.mt_insert.specs.{Puts.{is_put, MeetsStamp}, KeptPuts.{IsAtStore, IsAtFill, IsAtPublish, IsAtSplitStart}, KeptSplits.{IsAtSplitMove, IsAtUnlockAll, KeptSplit}}
 use Rattle.mt_descent.specs.{Pasts.Past, Seen.RangeStands, KeptWalks.{HasSlot, IsKept}}
 use Rattle.mt_scan.specs.{Snaps.prefix_in, Hops.{IsAtCheck, KeptHop}}
 use Rattle.mt_stretches.specs.Scanned.{HasScanned, HasSeen}
@@ -235,7 +235,8 @@ abbrev pub IsKeptAt : Phase → Core → ℕ → Operation → Type 0
 IsKeptAt p c o op = IsKeptFor (row p).kind p c o op
 
 -- A change that an operation has made has its entry in the tape, of its step, worker, tenant and key. The row after it is the one that the command leaves over
--- the one before, which was there where it removes. Over a row that was there a put's entry keeps the change.
+-- the one before. That one was there if it removes, and had the stamp that the command asks for, if it asks for one. Over a row that was there a put's entry keeps
+-- the change.
 pub record IsPlacedOnce (c : Core) (op : Operation) (step : ℕ) : Type 0 where
   pub entry : TapeEntry
   pub there : Contains c.tape.entries entry
@@ -246,6 +247,7 @@ pub record IsPlacedOnce (c : Core) (op : Operation) (step : ℕ) : Type 0 where
   pub makes : after_of entry ≡ row_left entry.step (ask op.task) entry.before
   pub keeps : entry.change ≡ change_kept (ask op.task) entry.before
   pub was : is_remove (ask op.task) ≡ true → IsSome entry.before
+  pub met : MeetsStamp (ask op.task) (stamp_in entry.before)
 
 -- what a scan has done so far, by its command: it has walked its tenant's keys up to its fence, from its first step on
 abbrev pub HasScannedFor : Command → Past → ℕ → ScanView → Type 0
