@@ -1,14 +1,14 @@
 -- What each step of a split leaves of all nodes, and what is told of it by that: no pair moves, and a version counts at most one change.
 use Rattle.std.proofs.Common.{List, None, Some, [], ap, arith, cond, false, inl, inr, length, length-append, refl, set, subst, sym, true, ℕ, ◌++◌, ◌+◌, ◌<◌, ◌∙◌, ◌∷◌, ◌≡◌, ◌≤◌, ◌⊎◌}
 use Rattle.std.proofs.lemmas.Bool.{cases_eq, cases_lt, both_ways}
-use Rattle.mt_arena.specs.{declared.tree.Tree.Tree, declared.tree.Standing.Standing, NodeView.{NodeView, node_at}, Forests.tree_at, Edits.pointed}
+use Rattle.mt_arena.specs.{declared.tree.Tree.Tree, declared.tree.Standing.Standing, NodeView.{NodeView, node_at}, Forests.tree_at}
 use Rattle.mt_arena.specs.{Contents.{counts, is_live}, Arena.{ArenaView, content_of}, Accesses.at}
 use Rattle.mt_arena.proofs.Pairs.{before as as_before, here, last as as_pushed, there}
-use Rattle.mt_state.specs.{Promises.{HoldsEither, Touches}, Invariant.{IsCountedUpTo, StateInvariant, DeletedAreEmpty}, Growth.MakesFew, KeptBack.{Retires, TakesLive}}
+use Rattle.mt_state.specs.{Invariant.{IsCountedUpTo, StateInvariant, DeletedAreEmpty}, Growth.MakesFew, KeptBack.{Retires, TakesLive}}
 use Rattle.mt_state.specs.{Given.ChangesArena, Views.{Core, shown}}
 use Rattle.mt_state.proofs.{Quiet.{HasPairsOf, same_slots}, Giving.{GivesFirsts, MakesUnchosen, gives_none, makes_none, retires_given}}
 
--- the same pairs, tree, level and version's counts; the operation held the node or holds it then, or others name another one in it
+-- the same pairs, tree, level and version's counts, and a lock is taken of a live node alone
 pub record Stays (o : ℕ) (x y : NodeView) : Type 0 where
   pub slots : y.slots ≡ x.slots
   pub tree : y.tree ≡ x.tree
@@ -16,11 +16,10 @@ pub record Stays (o : ℕ) (x y : NodeView) : Type 0 where
   pub deleted : y.version.deleted ≡ x.version.deleted
   pub inserts : y.version.inserts ≡ x.version.inserts
   pub splits : y.version.splits ≡ x.version.splits
-  pub touched : (y ≡ x) ⊎ HoldsEither o x y ⊎ (y ≡ pointed x y.previous y.parent)
   pub taken : y.holder ≡ Some o → (x.holder ≡ Some o) ⊎ (x.version.deleted ≡ false)
 
 pub stays_same : (o : ℕ) (x : NodeView) → Stays o x x
-stays_same o x = record { slots = refl; tree = refl; level = refl; deleted = refl; inserts = refl; splits = refl; touched = inl refl; taken = λ held. inl held }
+stays_same o x = record { slots = refl; tree = refl; level = refl; deleted = refl; inserts = refl; splits = refl; taken = λ held. inl held }
 
 -- a node that was taken out and that nobody held, and a live one without pairs in its place, which counts one split more
 pub record ComesAgain (x y : NodeView) : Type 0 where
@@ -100,16 +99,6 @@ module _ (least o : ℕ) (old new : ArenaView) (l : LeavesNodes least o old new)
     | inr again ↦ absurd (let both = sym again.out ∙ live in cc)
   ]
 
-  pub touches : Touches o old new
-  touches k lt = elim (l.each k lt) [
-    | inl stays ↦ elim stays.touched [
-      | inl same ↦ inl same
-      | inr (inl holds) ↦ inr (inl holds)
-      | inr (inr named) ↦ inr (inr (inl named))
-    ]
-    | inr again ↦ inr (inr (inr (record { out = again.out; free = again.free; live = again.live })))
-  ]
-
   pub makes : MakesFew old new
   makes = record { nodes_stay = l.more; one_node = l.one; trees_stay = omega (arith, l.trees); one_tree = omega (arith, l.trees) }
 
@@ -159,7 +148,6 @@ module _ (least o : ℕ) (old new : ArenaView) (l : LeavesNodes least o old new)
 pub record MovesNoPair (c : Core) (o : ℕ) (arena : ArenaView) : Type 0 where
   pub changes : ChangesArena (shown c) o arena
   pub contents : content_of arena ≡ content_of c.arena
-  pub touches : Touches o c.arena arena
   pub stood : (k : ℕ) → k < length arena.nodes → counts arena.trees (at arena k) ≡ true → HasPairsOf c.arena arena k ⊎ ((at arena k).slots ≡ [])
   pub versions : (k : ℕ) → k < length arena.nodes → IsCountedUpTo (c.steps + 1) (at arena k)
   pub deleted : DeletedAreEmpty arena
@@ -173,7 +161,6 @@ pub moves_by : (c : Core) (least o : ℕ) (arena : ArenaView) → StateInvariant
 moves_by c least o arena h leaves changes contents = record {
   changes = changes;
   contents = contents;
-  touches = touches least o c.arena arena leaves;
   stood = stood least o c.arena arena leaves;
   versions = versions least o c.arena arena leaves c.steps h.versions;
   deleted = deleted least o c.arena arena leaves h.deleted;

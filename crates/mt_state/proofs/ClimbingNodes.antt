@@ -27,7 +27,7 @@ leaves_pointed : (least op : ℕ) (old : ArenaView) (k : ℕ) (previous parent :
 leaves_pointed least op old k previous parent =
     leaves_set least op old (set old.nodes k (pointed (at old k) previous parent)) (length-set old.nodes k (pointed (at old k) previous parent))
     (each_set (λ j n. Stays op (at old j) n) old.nodes k (pointed (at old k) previous parent) (λ j lt. stays_same op (at old j))
-    (record { slots = refl; tree = refl; level = refl; deleted = refl; inserts = refl; splits = refl; touched = inr (inr refl); taken = λ held. inl held }))
+    (record { slots = refl; tree = refl; level = refl; deleted = refl; inserts = refl; splits = refl; taken = λ held. inl held }))
 
 -- the trees as they were but for their roots, and the lists with at most their first places less
 pub record LeavesTrees (old : ArenaView) (trees : List Tree) (gone : RetiredPlaces) : Type 0 where
@@ -183,7 +183,7 @@ module _ (op : ℕ) (old new : ArenaView) (before after : Walk) (s t : Splits) w
     module _ (live : (at old p).version.deleted ≡ false) where
       each_mid : (j : ℕ) → j < length old.nodes → Stays op (at old j) (at mid j)
       each_mid = each_set (λ j n. Stays op (at old j) n) old.nodes p (locked (at old p) op) (λ j lt. stays_same op (at old j))
-          (record { slots = refl; tree = refl; level = refl; deleted = refl; inserts = refl; splits = refl; touched = inr (inl (inr refl)); taken = λ held. inr live })
+          (record { slots = refl; tree = refl; level = refl; deleted = refl; inserts = refl; splits = refl; taken = λ held. inr live })
 
       right_stays : Stays op (at old q) y
       right_stays = let m = each_mid q kept.named.splits.parted.right.held.there in record {
@@ -193,7 +193,6 @@ module _ (op : ℕ) (old new : ArenaView) (before after : Walk) (s t : Splits) w
         deleted = m.deleted;
         inserts = m.inserts;
         splits = m.splits;
-        touched = inr (inl (inl kept.named.splits.parted.right.held.holder));
         taken = λ held. inl kept.named.splits.parted.right.held.holder;
       }
 
@@ -232,8 +231,8 @@ module _ (op : ℕ) (old new : ArenaView) (before after : Walk) (s t : Splits) w
       let y = with_child (inserting (at old kept.p)) (at old q).low q in
       let z = exact (at old l) in
       subst (LeavesNodes least op old) (sym (c.is kept.p kept.at_parent.above)) (leaves_set least op old (with_right old.nodes kept.p l q) (size_two old.nodes kept.p l y z) (each_two op old.nodes kept.p l y z
-      (record { slots = refl; tree = refl; level = refl; deleted = refl; inserts = refl; splits = refl; touched = inr (inl (inl kept.at_parent.parent.held.holder)); taken = λ held. inl kept.at_parent.parent.held.holder })
-      (record { slots = refl; tree = refl; level = refl; deleted = refl; inserts = refl; splits = refl; touched = inr (inl (inl kept.at_parent.named.splits.parted.left.held.holder)); taken = λ held. inl kept.at_parent.named.splits.parted.left.held.holder })))
+      (record { slots = refl; tree = refl; level = refl; deleted = refl; inserts = refl; splits = refl; taken = λ held. inl kept.at_parent.parent.held.holder })
+      (record { slots = refl; tree = refl; level = refl; deleted = refl; inserts = refl; splits = refl; taken = λ held. inl kept.at_parent.named.splits.parted.left.held.holder })))
 
   -- it is full, and is split
   module _ (kept : IsAtInteriorSplit old op s) where
@@ -254,8 +253,8 @@ module _ (op : ℕ) (old new : ArenaView) (before after : Walk) (s t : Splits) w
 
     pub parts_stay : (k : ℕ) → k < length old.nodes → Stays op (at old k) (node_at zs k)
     parts_stay = each_two op old.nodes p l (inner_left wide) (exact (at old l))
-        (record { slots = refl; tree = refl; level = refl; deleted = refl; inserts = refl; splits = refl; touched = inr (inl (inl kept.at_parent.parent.held.holder)); taken = λ held. inl kept.at_parent.parent.held.holder })
-        (record { slots = refl; tree = refl; level = refl; deleted = refl; inserts = refl; splits = refl; touched = inr (inl (inl kept.at_parent.named.splits.parted.left.held.holder)); taken = λ held. inl kept.at_parent.named.splits.parted.left.held.holder })
+        (record { slots = refl; tree = refl; level = refl; deleted = refl; inserts = refl; splits = refl; taken = λ held. inl kept.at_parent.parent.held.holder })
+        (record { slots = refl; tree = refl; level = refl; deleted = refl; inserts = refl; splits = refl; taken = λ held. inl kept.at_parent.named.splits.parted.left.held.holder })
 
     pub parts_leaves : (least : ℕ) → AreRetired old.nodes old.trees old.retired → AreForgotten least old → LeavesNodes least op old (with_parts_at old p l q least op)
     parts_leaves least retired forgotten =
@@ -289,8 +288,8 @@ module _ (op : ℕ) (old new : ArenaView) (before after : Walk) (s t : Splits) w
       root_leaves retired forgotten =
           placed_leaves least op old ws (top_over old.nodes l q op) grown_trees (size_two old.nodes l q (left_below (at old l) top) (right_below (at old q) top))
           (each_two op old.nodes l q (left_below (at old l) top) (right_below (at old q) top)
-          (record { slots = refl; tree = refl; level = refl; deleted = refl; inserts = refl; splits = refl; touched = inr (inl (inl kept.at_root.named.splits.parted.left.held.holder)); taken = λ held. inl kept.at_root.named.splits.parted.left.held.holder })
-          (record { slots = refl; tree = refl; level = refl; deleted = refl; inserts = refl; splits = refl; touched = inr (inl (inl kept.at_root.named.splits.parted.right.held.holder)); taken = λ held. inl kept.at_root.named.splits.parted.right.held.holder }))
+          (record { slots = refl; tree = refl; level = refl; deleted = refl; inserts = refl; splits = refl; taken = λ held. inl kept.at_root.named.splits.parted.left.held.holder })
+          (record { slots = refl; tree = refl; level = refl; deleted = refl; inserts = refl; splits = refl; taken = λ held. inl kept.at_root.named.splits.parted.right.held.holder }))
           refl (record { slots = refl; live = refl; inserts = refl; splits = refl })
           (record {
             count = length-set old.trees (at old l).tree grown;
@@ -409,7 +408,7 @@ module _ (o : ℕ) (v : ArenaView) (k low least : ℕ) (held : IsHeld v k o) whe
 
   marked_stays : (j : ℕ) → j < length v.nodes → Stays o (at v j) (node_at marked j)
   marked_stays = each_set (λ j n. Stays o (at v j) n) v.nodes k (splitting (at v k)) (λ j lt. stays_same o (at v j))
-      (record { slots = refl; tree = refl; level = refl; deleted = refl; inserts = refl; splits = refl; touched = inr (inl (inl held.holder)); taken = λ mine. inl held.holder })
+      (record { slots = refl; tree = refl; level = refl; deleted = refl; inserts = refl; splits = refl; taken = λ mine. inl held.holder })
 
   abbrev with_half_in : Option ℕ → ArenaView
   with_half_in place = record v { nodes = nodes_with_half place v k low o; retired = given_border v.retired least }

@@ -6,7 +6,7 @@ use Rattle.mt_operation.specs.{declared.phase.Phase.Phase, declared.phase.Phase.
 use Rattle.mt_operation.specs.{declared.walk.Walk.Walk, declared.prepared.Prepared.Prepared, declared.operation.Operation.Operation, Operations.view_of}
 use Rattle.mt_operation.specs.{Phases.{is_done, MayFollow, IsOfKind}, Tables.{op_at as operation_at}}
 use Rattle.mt_insert.{specs.{KeptPuts.IsAtPublish, Fill.IsFill}, proofs.Filling.held_ready}
-use Rattle.mt_state.specs.{Views.{StateView, Core, shown}, Notes.Notes, Promises.Touches}
+use Rattle.mt_state.specs.{Views.{StateView, Core, shown}, Notes.Notes, Touches.Touches}
 use Rattle.mt_state.specs.KeptOperations.{IsOpenOperation, IsFilling, IsPublishing, IsKeptAt}
 use Rattle.mt_state.specs.{Invariant.{IsCountedUpTo, HoldsAt, StateInvariant}, KeptBack.IsBackAt}
 use Rattle.mt_state.proofs.{Telling.Gives, Quiet.LeavesPairs, Moved.went, Reading.walk_same, Locking.{ready_one, unsplit_at}}
@@ -88,5 +88,5 @@ module _ (c : Core) (now : StateView) (o : ℕ) (is : shown c ≡ now) (h : Stat
         (λ facts. subst (λ (p : Phase). IsBackAt p arena after) (sym ends) tt)
         (unsplit_at c now o is h room op there Fill at_fill refl)
         (let one = ready_one op Fill at_fill refl in let also = ready_one after Publish ends refl in omega (arith, one, also))
-        (subst (Touches o c.arena) (sym t.is) (replaced_touches c.arena k within y o (inl filling.fills.holds.judged.held.holder)))
+        (subst (Touches (view_of op) o c.arena) (sym t.is) (replaced_touches c.arena k within y (view_of op) o (inl filling.fills.holds.judged.held.holder)))
         false (sym (ap is_done ends))

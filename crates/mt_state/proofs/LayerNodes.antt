@@ -11,27 +11,26 @@ use Rattle.mt_arena.specs.Accesses.{IsHeld, at}
 use Rattle.mt_arena.proofs.{Pairs.{before as as_before}, Giving.{chosen_place, chosen_tree, steps_from_none}}
 use Rattle.mt_operation.specs.{declared.phase.Phase.Phase, declared.phase.Phase.TheVariants.{Done, Link, MakeLayer, MarkLayer, MarkUnstable, Unlock}}
 use Rattle.mt_operation.specs.{declared.walk.Taken.Taken, declared.walk.Taken.TheVariants.{Link as LinkTaken}}
-use Rattle.mt_operation.specs.{declared.walk.Walk.Walk, declared.outcome.Outcome.Outcome, Operations.SplitsView, Phases.{IsLayerPhase, MayFollow}}
+use Rattle.mt_operation.specs.{declared.walk.Walk.Walk, declared.outcome.Outcome.Outcome, Operations.{OperationView, SplitsView}, Phases.{IsLayerPhase, MayFollow}}
 use Rattle.mt_operation.specs.declared.removal.Removal.{Removal}
 use Rattle.mt_descent.specs.{KeptWalks.walk_place, WalkMoves.Continues}
 use Rattle.mt_held.specs.Holds.{HoldsOnly}
 use Rattle.mt_insert.proofs.InsertingChildren.{at_p}
 use Rattle.mt_layer.specs.{KeptLayers.KeptLayer, NewLayers.{KeepsStamps, entry_below, walk_at}, Builds.{IsLayerFrom, IsMakeLayer, KeepsLayer, BeginsLayer}}
-use Rattle.mt_state.specs.{Promises.{HoldsEither, Touches}, Invariant.{IsCountedUpTo, DeletedAreEmpty}, Phases.{ScanStep, LeadsTo, BeginsTree}, Growth.MakesFew, Given.idle_of, KeptBack.TakesLive}
-use Rattle.mt_state.proofs.{Growing.{makes_same, makes_set}, Giving.{GivesFirsts, MakesUnchosen, makes_none, gives_layer, gives_none}, Climbing.{each_set, pushed_at}}
+use Rattle.mt_state.specs.{Touches.Touches, Invariant.{IsCountedUpTo, DeletedAreEmpty}, Phases.{ScanStep, LeadsTo, BeginsTree}, Growth.MakesFew, Given.idle_of, KeptBack.TakesLive}
+use Rattle.mt_state.proofs.{Growing.{makes_same, makes_set}, Giving.{GivesFirsts, MakesUnchosen, makes_none, gives_layer, gives_none}, Climbing.{each_set, pushed_at}, Touching.{AreTouched, layer_touched}}
 
--- a node's level and its version's counts stay, it is not taken out, and only one that the operation holds is another
+-- a node's level and its version's counts stay, it is not taken out, and no lock is taken
 pub record Stays (o : ℕ) (x y : NodeView) : Type 0 where
   pub level : y.level ≡ x.level
   pub deleted : y.version.deleted ≡ x.version.deleted
   pub emptied : x.version.deleted ≡ true → y.slots ≡ x.slots
   pub inserts : y.version.inserts ≡ x.version.inserts
   pub splits : y.version.splits ≡ x.version.splits
-  pub touched : (y ≡ x) ⊎ HoldsEither o x y
   pub taken : y.holder ≡ Some o → x.holder ≡ Some o
 
 stays_same : (o : ℕ) (x : NodeView) → Stays o x x
-stays_same o x = record { level = refl; deleted = refl; emptied = λ gone. refl; inserts = refl; splits = refl; touched = inl refl; taken = λ held. held }
+stays_same o x = record { level = refl; deleted = refl; emptied = λ gone. refl; inserts = refl; splits = refl; taken = λ held. held }
 
 -- a node that was taken out and that nobody held, and the root of a new tree in its place, which counts one split more
 pub record RootAgain (x y : NodeView) : Type 0 where
@@ -110,7 +109,7 @@ made_leaves least o v prefix e retired forgotten = record {
 module _ (o : ℕ) (v : ArenaView) (k i : ℕ) (mine : IsHeld v k o) (live : (at v k).version.deleted ≡ false) where
   held_each : (held : Held) (j : ℕ) → j < length v.nodes → Stays o (at v j) (node_at (set v.nodes k (with_held (at v k) i held)) j)
   held_each held = each_set (λ j m. Stays o (at v j) m) v.nodes k (with_held (at v k) i held) (λ j lt. stays_same o (at v j))
-      (record { level = refl; deleted = refl; emptied = λ gone. absurd (both_ways _ live gone); inserts = refl; splits = refl; touched = inr (inl mine.holder); taken = λ held. held })
+      (record { level = refl; deleted = refl; emptied = λ gone. absurd (both_ways _ live gone); inserts = refl; splits = refl; taken = λ held. held })
 
   held_fresh : (held : Held) (j : ℕ) → length v.nodes ≤ j → j < length (set v.nodes k (with_held (at v k) i held))
       → IsRoot (node_at (set v.nodes k (with_held (at v k) i held)) j)
@@ -140,15 +139,6 @@ module _ (o : ℕ) (v : ArenaView) (k i : ℕ) (mine : IsHeld v k o) (live : (at
       tree = record (tree_at v.trees t) { standing = Live }
 
 module _ (least o : ℕ) (old new : ArenaView) (l : LeavesNodes least o old new) where
-  touches : Touches o old new
-  touches k lt = elim (l.each k lt) [
-    | inl n ↦ elim n.touched [
-      | inl same ↦ inl same
-      | inr holds ↦ inr (inl holds)
-    ]
-    | inr root ↦ inr (inr (inr (record { out = root.out; free = root.free; live = root.live })))
-  ]
-
   versions : (steps : ℕ) → ((k : ℕ) → k < length old.nodes → IsCountedUpTo steps (at old k)) → (k : ℕ) → k < length new.nodes → IsCountedUpTo (steps + 1) (at new k)
   versions steps were k within = elim (cases_lt k (length old.nodes)) [
     | inl was ↦ let c = were k was in elim (l.each k was) [
@@ -180,7 +170,7 @@ module _ (least o : ℕ) (old new : ArenaView) (l : LeavesNodes least o old new)
 pub record BuildsLayer (least o : ℕ) (old new : ArenaView) (key : Bytes) (before after : Walk) : Type 0 where
   pub steps : StepsFrom least o old new
   pub contents : content_of new ≡ content_of old
-  pub touches : Touches o old new
+  pub touches : (op : OperationView) → op.phase ≡ before.phase → Touches op o old new
   pub stamps : KeepsStamps old new
   pub versions : (steps : ℕ) → ((k : ℕ) → k < length old.nodes → IsCountedUpTo steps (at old k)) → (k : ℕ) → k < length new.nodes
       → IsCountedUpTo (steps + 1) (at new k)
@@ -309,7 +299,7 @@ builds_by p i least o key old new before after at_p retired forgotten kept b =
     record {
       steps = on.steps;
       contents = on.contents;
-      touches = touches least o old new leaves;
+      touches = λ op is. subst (λ (q : Phase). AreTouched q op o old new.nodes) (sym (is ∙ at_p)) (layer_touched op o old new p i least key before after retired forgotten kept b);
       stamps = on.stamps;
       versions = versions least o old new leaves;
       deleted = deleted least o old new leaves;

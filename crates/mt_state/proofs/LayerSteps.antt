@@ -17,7 +17,7 @@ use Rattle.mt_descent.specs.{KeptWalks.{IsAtEnter, KeptAt, walk_place}, WalkMove
 use Rattle.mt_insert.specs.{KeptPuts.IsAtMakeLayer, Judge.MeetsOther}
 use Rattle.mt_held.specs.{Holds.HoldsOnly, Unlock.{MeetsLink, IsUnlock}}
 use Rattle.mt_layer.specs.{KeptLayers.KeptLayer, NewLayers.HasStamp, Builds.{IsLayerFrom, IsLeave}}
-use Rattle.mt_state.specs.{Views.{StateView, Core, shown, past_of, map_of}, Steps.told_change, Notes.{Notes, Keeps}, Promises.Touches, Given.ChangesArena}
+use Rattle.mt_state.specs.{Views.{StateView, Core, shown, past_of, map_of}, Steps.told_change, Notes.{Notes, Keeps}, Touches.Touches, Given.ChangesArena}
 use Rattle.mt_state.specs.KeptOperations.{IsOpenOperation, IsJudging, IsLayering, IsLeaving, IsReturning, HasAnswer, IsKeptAt, IsKeptOf, IsKeptFor, IsBound}
 use Rattle.mt_state.specs.KeptBack.{ArenaFacts, IsWalkBack, IsBackAt, Retires}
 use Rattle.mt_descent.specs.{KeptBack.RemembersKept, WalkMoves.walk_into}
@@ -217,7 +217,7 @@ module _ (c : Core) (o : ℕ) (h : StateInvariant c) (few : c.steps < 2 ^ 59) (o
         (λ facts. subst (λ (q : Phase). IsBackAt q arena after) (sym at_q) (back facts))
         unsplit
         (let none = unready_none op p at_p was_unready in let no = unready_none after q at_q unready in omega (arith, none, no))
-        (subst (Touches o c.arena) (sym is) (replaced_touches c.arena k held.there (unlocked n) o (inl held.holder)))
+        (subst (Touches (view_of op) o c.arena) (sym is) (replaced_touches c.arena k held.there (unlocked n) (view_of op) o (inl held.holder)))
         (is_done q) (sym (ap is_done at_q))
 
   -- what one remembers that goes on in this tree of the next layer
@@ -458,7 +458,7 @@ module _ (c : Core) (o : ℕ) (h : StateInvariant c) (few : c.steps < 2 ^ 59) (o
           logs = refl;
           moves = has_moved c op always w op.outcome op.prepared t.follows;
           notes = layer_notes op.walk.phase w.phase layer leads (shown c) (view_of op) layering.untold;
-          touches = t.touches;
+          touches = t.touches (view_of op) refl;
           effect = inl (record { contents = t.contents; entries = refl; change = refl });
           makes = t.makes;
         })

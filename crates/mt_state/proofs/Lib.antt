@@ -60,3 +60,4 @@ pub mod RemovalLooks
 pub mod RemovalBy
 pub mod ClimbingNodes
 pub mod LayerNodes
+pub mod Touching

@@ -16,7 +16,7 @@ use Rattle.mt_descent.specs.{KeptWalks.{IsAtBorder, KeptAt, IsKept}, WalkMoves.{
 use Rattle.mt_insert.specs.{Puts.{IsPut, is_put}, KeptPuts.KeptReady, Judge.{after_judge, IsMadeReady}, Publish.IsPublishFull}
 use Rattle.mt_held.{specs.{Holds.{HoldsBorder, IsAtUnlock, HoldsOnly}, Taping.{released, reserving}, Unlock.IsUnlock}, proofs.Looks.held_here}
 use Rattle.mt_state.specs.{Views.{StateView, Core, shown, past_of, quota_of, quota_in, map_of}, Steps.told_change, Notes.{Notes, EndsJudging}}
-use Rattle.mt_state.specs.Promises.{IsAnswer, Touches}
+use Rattle.mt_state.specs.{Promises.IsAnswer, Touches.{Touches, locks_next}}
 use Rattle.mt_state.specs.KeptOperations.{IsOpenOperation, IsOnItsWay, IsJudging, IsPublishing, MayUnlock, IsUnlocking, HasAnswer, IsKeptAt, MayUnlockUnsplit}
 use Rattle.mt_state.specs.Invariant.{IsCountedUpTo, HoldsLast, HoldsAt, StateInvariant, one_if_prepared, prepared_count}
 use Rattle.mt_descent.proofs.Decides.{outdated_or_not}
@@ -154,7 +154,7 @@ module _ (c : Core) (now : StateView) (o : ℕ) (is : shown c ≡ now) (h : Stat
           (λ facts. subst (λ (p : Phase). IsBackAt p arena after) (sym judges) tt)
           (unsplit_at Lock at_lock refl)
           (let none = unready_none op Lock at_lock tt in let no = unready_none after Judge judges tt in omega (arith, none, no))
-          (subst (Touches o c.arena) (sym takes) (replaced_touches c.arena k within (locked n o) o (inr refl)))
+          (subst (Touches (view_of op) o c.arena) (sym takes) (replaced_touches c.arena k within (locked n o) (view_of op) o (inr (ap locks_next at_lock, refl))))
           false (sym (ap is_done judges))
         where
           -- it holds no node but that one
@@ -223,7 +223,7 @@ module _ (c : Core) (now : StateView) (o : ℕ) (is : shown c ≡ now) (h : Stat
         (λ facts. subst (λ (p : Phase). IsBackAt p arena after) (sym ends) tt)
         unlocks.1
         (let none = unready_none op Unlock at_unlock tt in let no = unready_none after Done ends tt in omega (arith, none, no))
-        (subst (Touches o c.arena) (sym t.is) (replaced_touches c.arena k within (unlocked n) o (inl unlocks.0.held.holder)))
+        (subst (Touches (view_of op) o c.arena) (sym t.is) (replaced_touches c.arena k within (unlocked n) (view_of op) o (inl unlocks.0.held.holder)))
         true (sym (ap is_done ends))
 
   module _ (at_judge : op.walk.phase ≡ Judge) where
@@ -370,7 +370,7 @@ module _ (c : Core) (now : StateView) (o : ℕ) (is : shown c ≡ now) (h : Stat
         (λ facts. subst (λ (p : Phase). IsBackAt p arena after) (sym ends) tt)
         (unsplit_at Judge at_judge refl)
         (let none = unready_none op Judge at_judge tt in let no = unready_none after Done ends tt in omega (arith, none, no))
-        (subst (Touches o c.arena) (sym t.is) (replaced_touches c.arena k within (unlocked n) o (inl judging.judges.judged.held.holder)))
+        (subst (Touches (view_of op) o c.arena) (sym t.is) (replaced_touches c.arena k within (unlocked n) (view_of op) o (inl judging.judges.judged.held.holder)))
         true (sym (ap is_done ends)))
 
   -- where a tenant has no room, it has as many pairs as its quota

@@ -11,9 +11,9 @@ use Rattle.mt_arena.specs.Accesses.{at, with_node}
 use Rattle.mt_arena.specs.Given.{IsTreeOutFrom}
 use Rattle.mt_arena.proofs.Pairs.{here, there}
 use Rattle.mt_operation.specs.{declared.phase.Phase.Phase, declared.walk.Walk.Walk, declared.outcome.Outcome.Outcome, declared.prepared.Prepared.Prepared}
-use Rattle.mt_operation.specs.{declared.splits.Splits.Splits, declared.operation.Operation.Operation, Operations.{view_of, IsUnsplit, no_removal}}
+use Rattle.mt_operation.specs.{declared.splits.Splits.Splits, declared.operation.Operation.Operation, Operations.{OperationView, view_of, IsUnsplit, no_removal}}
 use Rattle.mt_operation.specs.{Phases.{is_done, MayFollow, IsOfKind, has_splits}, Tables.{op_at as operation_at}, declared.removal.Removal.Removal, Tasks.ask}
-use Rattle.mt_state.specs.{Views.{StateView, Core, shown, KeepsPast}, Steps.change_in, Notes.Notes, Promises.Touches}
+use Rattle.mt_state.specs.{Views.{StateView, Core, shown, KeepsPast}, Steps.change_in, Notes.Notes, Touches.{HoldsOrLocks, Touches}}
 use Rattle.mt_state.specs.{KeptOperations.{IsUnlocking, IsReturning, IsKeptAt, IsKeptOf}, KeptBack.{ArenaFacts, IsBackAt, TakesLive}}
 use Rattle.mt_state.specs.Invariant.{IsCountedUpTo, HoldsAt, StateInvariant, one_if_prepared, DeletedAreEmpty}
 use Rattle.mt_state.proofs.{Quiet.{HasPairsOf, quiet, LeavesPairs, quiet_move, is_quiet, same_slots}, Telling.{Gives, gives}}
@@ -127,14 +127,14 @@ module _ (v : ArenaView) (k : ℕ) (within : k < length v.nodes) (n : NodeView) 
   pub replaced_deleted : DeletedAreEmpty v → (n.version.deleted ≡ true → n.slots ≡ []) → DeletedAreEmpty (with_node v k n)
   replaced_deleted all empty = replaced_all (λ (m : NodeView). m.version.deleted ≡ true → m.slots ≡ []) empty all
 
-  -- whoever held it touches nothing else
-  pub replaced_touches : (o : ℕ) → ((at v k).holder ≡ Some o) ⊎ (n.holder ≡ Some o) → Touches o v (with_node v k n)
-  replaced_touches o holds j inside = elim (cases_eq j k) [
+  -- whoever held it, or takes its lock, touches nothing else
+  pub replaced_touches : (op : OperationView) (o : ℕ) → HoldsOrLocks op.phase o (at v k) n → Touches op o v (with_node v k n)
+  replaced_touches op o holds j inside = elim (cases_eq j k) [
     | inl same ↦
         let is : at (with_node v k n) j ≡ n = ap (node_at (set v.nodes k n)) same ∙ here v.nodes k n within in
         inr (inl (elim holds [
           | inl before ↦ inl (ap (λ i. (at v i).holder) same ∙ before)
-          | inr now ↦ inr (ap (λ (m : NodeView). m.holder) is ∙ now)
+          | inr (locks, now) ↦ inr (locks, ap (λ (m : NodeView). m.holder) is ∙ now)
         ]))
     | inr other ↦ inl (there v.nodes k j n other)
   ]
@@ -223,7 +223,7 @@ module _ (c : Core) (now : StateView) (o : ℕ) (is : shown c ≡ now) (h : Stat
       → (ArenaFacts c.arena → (t : ℕ) → r.cleans ≡ Some t → IsTreeOutFrom (op.birth + 1) c.arena.retired t)
       → (has_splits w.phase ≡ false → IsUnsplit s)
       → reserved + one_if_prepared (Some op) ≡ c.tape.reserved + one_if_prepared (Some (went_on op (c.steps + 1) w told prepared s r))
-      → Touches o c.arena arena → (done : Bool) → done ≡ is_done w.phase
+      → Touches (view_of op) o c.arena arena → (done : Bool) → done ≡ is_done w.phase
       → Gives now (quiet c arena reserved o (went_on op (c.steps + 1) w told prepared s r)) o done
   quiet_gives_on arena reserved w told prepared s r leaves light unfinished follows writes kind same notes held kept back cleans unsplit reserves touches done ends =
       let after = went_on op (c.steps + 1) w told prepared s r in
@@ -277,7 +277,7 @@ module _ (c : Core) (now : StateView) (o : ℕ) (is : shown c ≡ now) (h : Stat
       → (ArenaFacts c.arena → IsBackAt w.phase arena (went_with op (c.steps + 1) w told prepared s))
       → (has_splits w.phase ≡ false → IsUnsplit s)
       → reserved + one_if_prepared (Some op) ≡ c.tape.reserved + one_if_prepared (Some (went_with op (c.steps + 1) w told prepared s))
-      → Touches o c.arena arena → (done : Bool) → done ≡ is_done w.phase
+      → Touches (view_of op) o c.arena arena → (done : Bool) → done ≡ is_done w.phase
       → Gives now (quiet c arena reserved o (went_with op (c.steps + 1) w told prepared s)) o done
   quiet_gives_with arena reserved w told prepared s leaves unfinished follows writes kind same notes held kept back =
       quiet_gives_on arena reserved w told prepared s op.removal leaves (h.ops o op there).always.light unfinished follows writes kind same notes held kept back
@@ -293,6 +293,6 @@ module _ (c : Core) (now : StateView) (o : ℕ) (is : shown c ≡ now) (h : Stat
       → (ArenaFacts c.arena → IsBackAt w.phase arena (went op (c.steps + 1) w told prepared))
       → IsUnsplit op.splits
       → reserved + one_if_prepared (Some op) ≡ c.tape.reserved + one_if_prepared (Some (went op (c.steps + 1) w told prepared))
-      → Touches o c.arena arena → (done : Bool) → done ≡ is_done w.phase → Gives now (quiet c arena reserved o (went op (c.steps + 1) w told prepared)) o done
+      → Touches (view_of op) o c.arena arena → (done : Bool) → done ≡ is_done w.phase → Gives now (quiet c arena reserved o (went op (c.steps + 1) w told prepared)) o done
   quiet_gives arena reserved w told prepared leaves unfinished follows writes kind same notes held kept back unsplit =
       quiet_gives_with arena reserved w told prepared op.splits leaves unfinished follows writes kind same notes held kept back (λ none. unsplit)

@@ -20,7 +20,7 @@ use Rattle.mt_insert.specs.{Puts.{IsPut, MeetsStamp}, Placing.entry_of, KeptSpli
 use Rattle.mt_insert.specs.SplitMove.{after_parting, PartsKeys, IsSplitMove, IsSplitMoveFull}
 use Rattle.mt_insert.proofs.PartingKeys.{may_place}
 use Rattle.mt_held.specs.Taping.{pushed, released}
-use Rattle.mt_state.specs.{Views.{Core, shown, map_of, quota_of}, Steps.told_change, Notes.{IsJudged, Notes}, Promises.Touches, Given.ChangesArena}
+use Rattle.mt_state.specs.{Views.{Core, shown, map_of, quota_of}, Steps.told_change, Notes.{IsJudged, Notes}, Touches.Touches, Given.ChangesArena}
 use Rattle.mt_state.specs.KeptOperations.{IsOpenOperation, IsSplitMoving, HasAnswer, IsKeptAt, IsPlacedOnce, IsKeptOf}
 use Rattle.mt_state.specs.{Invariant.{IsStampOf, IsCountedUpTo, StateInvariant, DeletedAreEmpty}, Moves.IsMove, Writes.splitting, Growth.MakesFew}
 use Rattle.mt_state.proofs.{Replies.{put_full, put_new}, Growing.{makes_same, retires_same, changes_on}, Telling.{Gives, gives, logs_later, map_now}}
@@ -135,7 +135,7 @@ module _ (c : Core) (o : ℕ) (h : StateInvariant c) (few : c.steps < 2 ^ 59) (o
   parted_takes : TakesLive o c.arena arena
   parted_takes k inside holds = inl (omega (arith, inside, size), inl (sym (like k).holder ∙ holds))
 
-  parted_touches : Touches o c.arena arena
+  parted_touches : Touches (view_of op) o c.arena arena
   parted_touches k inside = elim (cases_eq k l) [
     | inl e ↦ inr (inl (inl (subst (λ i. (at c.arena i).holder ≡ Some o) (sym e) half.held.holder)))
     | inr nl ↦ elim (cases_eq k q) [

@@ -264,7 +264,7 @@ module _ (c : Core) (now : StateView) (o : ℕ) (is : shown c ≡ now) (h : Stat
                 has_moved c op always w (Some (record { reply = reply; at = c.steps + 1 })) None (subst (λ (q : Phase). MayFollow q w.phase) (sym at_p) (subst (MayFollow p) (sym ends) follows));
             notes = subst (λ (q : Phase). Notes (shown c) (view_of op) q w.phase (Some (record { reply = reply; at = c.steps + 1 }))) (sym at_p)
                 (subst (λ (q : Phase). Notes (shown c) (view_of op) p q (Some (record { reply = reply; at = c.steps + 1 }))) (sym ends) notes);
-            touches = replaced_touches c.arena k within y o (inl holder);
+            touches = replaced_touches c.arena k within y (view_of op) o (inl holder);
             effect = inr (is_placing c o op the_after the_arena accounts h put pair reply changes told makes refl);
             makes = makes_set c.arena k y;
           })

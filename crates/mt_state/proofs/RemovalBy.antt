@@ -7,10 +7,10 @@ use Rattle.mt_arena.proofs.{Settled.settled_free, Out.{upto_later, upto_border, 
 use Rattle.mt_descent.specs.KeptBack.{RetiresAfter}
 use Rattle.mt_operation.specs.declared.phase.Phase.{Phase}
 use Rattle.mt_operation.specs.{declared.phase.Phase.TheVariants.{LockPrev, LockAbove, Unlink, FixNext, Collapse, CleanLayer, Unlock}, declared.walk.Walk.Walk}
-use Rattle.mt_operation.specs.{declared.removal.Removal.Removal, Phases.{MayFollow, IsRemovalPhase}, declared.outcome.Outcome.Outcome, Operations.SplitsView}
+use Rattle.mt_operation.specs.{declared.removal.Removal.Removal, Phases.{MayFollow, IsRemovalPhase}, declared.outcome.Outcome.Outcome, Operations.{OperationView, SplitsView}}
 use Rattle.mt_operation.proofs.Phases.{by_removal}
 use Rattle.mt_descent.specs.WalkMoves.{KeepsPairs}
-use Rattle.mt_held.specs.Moves.{walk_at}
+use Rattle.mt_held.specs.Moves.{walk_at, with_named_previous}
 use Rattle.mt_remove.specs.KeptRemovals.{HoldsRemoval, KeptRemoval, HoldsEmpty, IsAtLockPrev, IsAtLockAbove, IsAtUnlink, IsAtFixNext, IsAtCollapse, IsAtCleanLayer}
 use Rattle.mt_remove.specs.{RemovalEdits.{for_rest, after_unlink, root_of, with_lock}, Unlinks.{IsChildBefore, IsLockPrev, IsLockAbove, IsUnlink, IsFixNext, IsCollapse}}
 use Rattle.mt_remove.specs.{CleanLayer.IsCleanLayer, Steps.IsRemovalFrom}
@@ -18,15 +18,18 @@ use Rattle.mt_remove.proofs.{GoingOn.emptied_either, Locking.left_there, Locking
 use Rattle.mt_remove.{specs.KeptRemovals.HoldsLink, proofs.DroppingLayers.{tree_there, root_there}}
 use Rattle.mt_state.specs.{Invariant.DeletedAreEmpty, Phases.{ScanStep, LeadsTo}, KeptBack.Retires}
 use Rattle.mt_state.proofs.Growing.{after_same, after_border, after_interior, after_layer}
+use Rattle.mt_arena.specs.Removals.{without_layer, without_node, without_root}
+use Rattle.mt_state.proofs.Touching.{AreTouched, none_touched, lock_touched, unlink_touched, fix_touched, collapse_touched, clean_touched}
 use Rattle.mt_state.proofs.RemovalNodes.{LeavesNodes, none_leaves, lock_leaves, named_leaves, unlink_leaves, collapse_leaves, clean_leaves}
 
--- what a step brings: what is left of all nodes, where it leads, and what is kept then
+-- what a step brings: what is left of all nodes, which of them it changes, where it leads, and what is kept then
 pub record Removes (p : Phase) (o : ℕ) (key : Bytes) (v u : ArenaView) (before after : Walk) (s t : Removal) : Type 0 where
   pub leaves : LeavesNodes o v u
   pub keeps : KeepsPairs o v u before after
   pub follows : MayFollow p after.phase
   pub kept : KeptRemoval after.phase u o key after t
   pub holds : HoldsRemoval v o before s → HoldsRemoval u o after t
+  pub touched : (op : OperationView) → op.removal ≡ s → AreTouched p op o v u.nodes
 
 -- there is some value, or none
 some_or_none : (x : Option ℕ) → ((k : ℕ) × (x ≡ Some k)) ⊎ (x ≡ None)
@@ -84,6 +87,9 @@ module _ (o step : ℕ) (key : Bytes) (v u : ArenaView) (before after : Walk) (s
   above_live k parent named free =
       ((settled_free v.nodes parent (parent_there v o parent key before s arena k named) arena.nodes free).parent before.place.node k.node.node.returns.held.there named k.node.live).live
 
+  as_touched : (p : Phase) (op : OperationView) (w : ArenaView) → u ≡ w → AreTouched p op o v w.nodes → AreTouched p op o v u.nodes
+  as_touched p op w is touched = subst (λ (x : ArenaView). AreTouched p op o v x.nodes) (sym is) touched
+
   lock_prev_removes : IsAtLockPrev v o key before s → IsLockPrev o v u before after s t → Removes LockPrev o key v u before after s t
   lock_prev_removes k b =
       let left = has_previous k.node in
@@ -94,6 +100,7 @@ module _ (o step : ℕ) (key : Bytes) (v u : ArenaView) (before after : Walk) (s
         follows = subst (MayFollow LockPrev) (sym (at_phase LockAbove b.walk)) tt;
         kept = b.on.kept key k;
         holds = b.on.holds;
+        touched = λ op same. as_touched LockPrev op (with_lock v left.0 o) is.1 (lock_touched LockPrev op o v left.0 refl);
       }
 
   lock_above_removes : IsAtLockAbove v o key before s → IsLockAbove o v u before after s t → Removes LockAbove o key v u before after s t
@@ -110,6 +117,7 @@ module _ (o step : ℕ) (key : Bytes) (v u : ArenaView) (before after : Walk) (s
         ];
         kept = b.on.kept key k;
         holds = b.on.holds;
+        touched = λ op same. as_touched LockAbove op (with_lock v parent.0 o) is.1 (lock_touched LockAbove op o v parent.0 refl);
       }
 
   unlink_removes : IsAtUnlink v o key before s → IsUnlink o step v u before after s t → Removes Unlink o key v u before after s t
@@ -121,6 +129,8 @@ module _ (o step : ℕ) (key : Bytes) (v u : ArenaView) (before after : Walk) (s
         (unlink_follows (at v before.place.node).next (at u k.parent));
     kept = b.on.kept key k;
     holds = b.on.holds;
+    touched = λ op same. as_touched Unlink op (without_node v k.parent k.left before.place.node step) (b.is k.left k.parent k.left_is k.parent_is)
+        (unlink_touched op o v k.parent k.left before.place.node step k.has_above.node.returns.held k.has_left.node.returns.held k.node.node.returns.held);
   }
 
   fix_next_removes : IsAtFixNext v o key before s → IsFixNext o v u before after s t → Removes FixNext o key v u before after s t
@@ -132,6 +142,8 @@ module _ (o step : ℕ) (key : Bytes) (v u : ArenaView) (before after : Walk) (s
         (rest_follows (at v k.parent).version.root (eqb (length (at v k.parent).children) 1)).1;
     kept = b.on.kept key k;
     holds = b.on.holds;
+    touched = λ op same. as_touched FixNext op (with_named_previous v k.behind k.left) (b.is k.left k.behind k.left_is k.next)
+        (fix_touched op o v k.left k.behind (ap (λ (x : Removal). x.left) same ∙ k.left_is) k.next);
   }
 
   collapse_removes : IsAtCollapse v o key before s → IsCollapse o step v u before after s t → Removes Collapse o key v u before after s t
@@ -145,6 +157,8 @@ module _ (o step : ℕ) (key : Bytes) (v u : ArenaView) (before after : Walk) (s
         follows = subst (MayFollow Collapse) (sym (at_phase Unlock b.walk)) tt;
         kept = b.on.kept key k;
         holds = b.on.holds;
+        touched = λ op same. as_touched Collapse op (without_root v k.parent k.left step) (b.is k.left k.parent k.left_is k.parent_is)
+            (collapse_touched op o v k.parent k.left step above.held k.has_left.returns.held);
       }
 
   -- the root of the tree to which a held link leads is live
@@ -155,7 +169,7 @@ module _ (o step : ℕ) (key : Bytes) (v u : ArenaView) (before after : Walk) (s
       ((arena.forest.homes (root_of v tree) tree (root_there v o before.place.node slot tree arena link) there).root_is refl (λ dead. absurd (let both = sym leads.live ∙ dead in cc))).live
 
   clean_layer_removes : IsAtCleanLayer v o key before s → IsCleanLayer o step v u key before after s t → Removes CleanLayer o key v u before after s t
-  clean_layer_removes k b = record { leaves = both.0; keeps = b.keeps; follows = both.1; kept = b.kept; holds = b.holds }
+  clean_layer_removes k b = record { leaves = both.0; keeps = b.keeps; follows = both.1; kept = b.kept; holds = b.holds; touched = λ op same. touched op }
     where
       both : LeavesNodes o v u × MayFollow CleanLayer after.phase
       both = elim b.is [
@@ -177,6 +191,17 @@ module _ (o step : ℕ) (key : Bytes) (v u : ArenaView) (before after : Walk) (s
                 | inr at ↦ subst (MayFollow CleanLayer) (sym at) tt
               ],
             )
+      ]
+
+      touched : (op : OperationView) → AreTouched CleanLayer op o v u.nodes
+      touched op = elim b.is [
+        | inl none ↦ as_touched CleanLayer op v none.is (none_touched CleanLayer op o v)
+        | inr (inl full) ↦ as_touched CleanLayer op (with_lock v (root_of v b.tree) o) full.is (lock_touched CleanLayer op o v (root_of v b.tree) refl)
+        | inr (inr drops) ↦
+            let i = place_at (at v before.place.node) drops.slot in
+            let link = held_link v o i b.tree key before s k drops.leads.in_slot.in_range drops.leads.link in
+            as_touched CleanLayer op (without_layer (with_lock v (root_of v b.tree) o) before.place.node i b.tree step) drops.is
+            (clean_touched op o v before.place.node i b.tree step k.holds.judged.held (root_there v o before.place.node i b.tree arena link))
       ]
 
   -- by the phase

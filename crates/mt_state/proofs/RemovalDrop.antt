@@ -19,13 +19,13 @@ use Rattle.mt_operation.proofs.Phases.{IsBehindBy}
 use Rattle.mt_descent.specs.KeptWalks.{walk_place}
 use Rattle.mt_held.specs.{Taping.pushed, Holds.HoldsOnly}
 use Rattle.mt_remove.{specs.{Writes.removal_over, KeptRemovals.KeptRemoval, DropKey.IsDropKey}, proofs.GoingOn.emptied_either}
-use Rattle.mt_state.specs.{Views.{Core, shown, granted_in, quota_of}, Notes.Notes}
+use Rattle.mt_state.specs.{Views.{Core, shown, granted_in, quota_of}, Notes.Notes, Touches.Touches}
 use Rattle.mt_state.specs.KeptOperations.{IsOpenOperation, IsDropping, IsKeptOf, IsKeptAt, HasAnswer, IsPlacedOnce}
 use Rattle.mt_state.specs.{Invariant.{IsStampOf, AreStamps, StateInvariant, DeletedAreEmpty}, Writes.removing}
 use Rattle.mt_state.proofs.{Telling.{Gives, gives}, Moved.{went_on, first_begun, first_upto, open_moved_on, has_moved_on}, Still.{floor_made, unready_none}}
-use Rattle.mt_state.proofs.{Reading.walk_same, OneNode.{counted_live, holds_here}, Locking.{ready_one, room_for}, Replies.remove_there, Writing.{row_left_remove, change_kept_remove, remove_meets}}
+use Rattle.mt_state.proofs.{Reading.walk_same, OneNode.{counted_live, holds_here, replaced_touches}, Locking.{ready_one, room_for}, Replies.remove_there, Writing.{row_left_remove, change_kept_remove, remove_meets}}
 use Rattle.mt_state.proofs.{LiveTrees.slot_lives, Placing.{Counts, IsWriteOf, placed_by, Places, beside_write, wrote_move, wrote_right, is_writing, wrote_once}}
-use Rattle.mt_state.proofs.{Putting.stamped_apart, Growing.{retires_same, changes_on}, RemovalNodes.{LeavesNodes, one_leaves, slots_removed, stood, versions, removal_touches, removal_takes}}
+use Rattle.mt_state.proofs.{Putting.stamped_apart, Growing.{retires_same, changes_on}, RemovalNodes.{LeavesNodes, one_leaves, slots_removed, stood, versions, removal_takes}}
 use Rattle.mt_state.proofs.RemovalSteps.{HasRemoval, has_removal, removal_back, removal_kept, removal_held, removal_kind, removal_open, removal_unready}
 use Rattle.mt_state.proofs.Lawful.{remove_no_scan}
 use Rattle.mt_arena.proofs.Homes as homes
@@ -82,7 +82,6 @@ module _ (c : Core) (o : ℕ) (h : StateInvariant c) (few : c.steps < 2 ^ 59) (o
     emptied = λ gone. absurd (both_ways _ dropping.drops.holds.judged.stands.live gone);
     inserts = refl;
     splits = refl;
-    touched = inr (inl (inl dropping.drops.holds.judged.held.holder));
     taken = λ held. inl dropping.drops.holds.judged.held.holder;
   }))
 
@@ -250,7 +249,7 @@ module _ (c : Core) (o : ℕ) (h : StateInvariant c) (few : c.steps < 2 ^ 59) (o
         logs = refl;
         moves = has_moved_on c op always w told None op.splits r (subst (λ (p : Phase). MayFollow p w.phase) (sym at_drop) follows);
         notes = subst (λ (p : Phase). Notes (shown c) (view_of op) p w.phase told) (sym at_drop) (notes w.phase);
-        touches = removal_touches c o h arena leaves;
+        touches = subst (Touches (view_of op) o c.arena) (sym t.is) (replaced_touches c.arena k dropping.drops.holds.judged.held.there (with_slots n (without n.slots (slot_at n (walk_place c.arena op.walk))) (cells_without n.cells (walk_place c.arena op.walk))) (view_of op) o (inl dropping.drops.holds.judged.held.holder));
         effect = inr (is_writing c o op after arena accounts h write writes places Removed refl replies.0 replies.1 refl);
         makes =
             let count = leaves.count in

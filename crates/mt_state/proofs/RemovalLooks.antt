@@ -19,7 +19,7 @@ use Rattle.mt_remove.specs.{RemovalEdits.{ReturnsRemoval, root_of}, Judge.{IsMad
 use Rattle.mt_remove.specs.Ways.{IsLockWay, FindsEnd}
 use Rattle.mt_state.specs.{Views.{StateView, Core, shown, past_of, quota_of, map_of}, Steps.told_change, Notes.{Notes, EndsJudging}}
 use Rattle.mt_state.specs.KeptOperations.{IsOpenOperation, IsOnItsWay, IsJudging, IsDropping, IsGoingBack, IsBound, HasAnswer, IsUnlocking, MayUnlock, MayUnlockUnsplit, IsKeptAt}
-use Rattle.mt_state.specs.{Invariant.{HoldsAt, HoldsLast, IsCountedUpTo, StateInvariant}, Writes.{wrote, removing}, Ways.IsOnWay, Promises.Touches}
+use Rattle.mt_state.specs.{Invariant.{HoldsAt, HoldsLast, IsCountedUpTo, StateInvariant}, Writes.{wrote, removing}, Ways.IsOnWay, Touches.{Touches, locks_next}}
 use Rattle.mt_descent.proofs.Decides.{outdated_or_not}
 use Rattle.mt_state.proofs.{Telling.{Gives, map_now}, Descents.changed_leads, Moved.{went, went_on, first_begun, first_upto}}
 use Rattle.mt_state.proofs.{Bound.answered_on, Quiet.LeavesPairs, Still.{leaves_all, unready_none, IsUnready}, Reading.walk_same, Replies.remove_missing}
@@ -190,7 +190,7 @@ module _ (c : Core) (o : ℕ) (h : StateInvariant c) (few : c.steps < 2 ^ 59) (o
           (λ facts. subst (λ (p : Phase). IsBackAt p arena after) (sym cleans) tt)
           (unsplit_at Lock at_lock refl)
           (let none = unready_none op Lock at_lock tt in let no = unready_none after CleanLayer cleans tt in omega (arith, none, no))
-          (subst (Touches o c.arena) (sym takes) (replaced_touches c.arena k within (locked n o) o (inr refl)))
+          (subst (Touches (view_of op) o c.arena) (sym takes) (replaced_touches c.arena k within (locked n o) (view_of op) o (inr (ap locks_next at_lock, refl))))
           false (sym (ap is_done cleans))
         where
           -- it holds no node but that one
@@ -309,7 +309,7 @@ module _ (c : Core) (o : ℕ) (h : StateInvariant c) (few : c.steps < 2 ^ 59) (o
           (λ facts. subst (λ (p : Phase). IsBackAt p arena after) (sym at_q) (back facts)) cleans
           (λ unsplit. both.1)
           (let was = unready_none op Unlock at_unlock tt in let no = unready_none after q at_q unready in omega (arith, was, no))
-          (returned_touches c o h arena t.is.count t.is.trees each) (is_done w.phase) refl
+          (returned_touches c o h arena t.is.count t.is.trees each (view_of op)) (is_done w.phase) refl
 
       -- it is done, or goes back to the link of a layer that it has left empty
       pub removal_returned : Gives (shown c) new o (is_done w.phase)

@@ -9,11 +9,11 @@ use Rattle.mt_arena.specs.{Arena.{ArenaView, content_of, Guarantee}, Accesses.{a
 use Rattle.mt_arena.specs.{Removals.{without_node, without_root, without_layer}, Unlinks.{joined, without_child}, Collapses.crowned}
 use Rattle.mt_arena.proofs.Pairs.{here, there as there_other}
 use Rattle.mt_state.specs.KeptBack.{Retires, TakesLive}
-use Rattle.mt_state.specs.{Views.Core, Promises.{HoldsEither, Touches}, Invariant.{IsCountedUpTo, DeletedAreEmpty, StateInvariant}}
+use Rattle.mt_state.specs.{Views.Core, Invariant.{IsCountedUpTo, DeletedAreEmpty, StateInvariant}}
 use Rattle.mt_state.proofs.{Quiet.{AreSlotsOf, HasPairsOf, LeavesPairs}, Climbing.each_set, Growing.changes_on}
 
--- the same tree; each slot is one that was there, and none is left where the node was taken out; the version's counts stay; and the operation held the
--- node or holds it then, or others name another one in it
+-- the same tree; each slot is one that was there, and none is left if the node was taken out; the version's counts stay; and a lock is taken of a live
+-- node alone
 pub record Stays (o : ℕ) (x y : NodeView) : Type 0 where
   pub slots : AreSlotsOf x y
   pub tree : y.tree ≡ x.tree
@@ -21,7 +21,6 @@ pub record Stays (o : ℕ) (x y : NodeView) : Type 0 where
   pub emptied : y.version.deleted ≡ true → y.slots ≡ []
   pub inserts : y.version.inserts ≡ x.version.inserts
   pub splits : y.version.splits ≡ x.version.splits
-  pub touched : (y ≡ x) ⊎ HoldsEither o x y ⊎ (y ≡ pointed x y.previous y.parent)
   pub taken : y.holder ≡ Some o → (x.holder ≡ Some o) ⊎ (x.version.deleted ≡ false)
 
 -- all nodes stay so, and each tree that is live was live, with the same prefix
@@ -40,7 +39,6 @@ stays_same o x emptied = record {
   emptied = emptied;
   inserts = refl;
   splits = refl;
-  touched = inl refl;
   taken = λ held. inl held;
 }
 
@@ -79,13 +77,6 @@ module _ (c : Core) (o : ℕ) (h : StateInvariant c) (new : ArenaView) (l : Leav
   versions k within =
       let was : k < length c.arena.nodes = omega (arith, within, l.count) in
       let n = l.each k was in let v = h.versions k was in record { inserts = omega (arith, n.inserts, v.inserts); splits = omega (arith, n.splits, v.splits) }
-
-  pub removal_touches : Touches o c.arena new
-  removal_touches k within = elim (l.each k within).touched [
-    | inl same ↦ inl same
-    | inr (inl holds) ↦ inr (inl holds)
-    | inr (inr named) ↦ inr (inr (inl named))
-  ]
 
   -- what it holds then it held before, or it was live
   pub removal_takes : TakesLive o c.arena new
@@ -134,7 +125,6 @@ module _ (o : ℕ) (v : ArenaView) (deleted : DeletedAreEmpty v) where
     emptied = deleted k within;
     inserts = refl;
     splits = refl;
-    touched = inr (inl (inr refl));
     taken = λ held. inr live;
   })
 
@@ -147,7 +137,6 @@ module _ (o : ℕ) (v : ArenaView) (deleted : DeletedAreEmpty v) where
     emptied = deleted k within;
     inserts = refl;
     splits = refl;
-    touched = inr (inr refl);
     taken = λ held. inl held;
   })
 
@@ -196,7 +185,6 @@ module _ (o : ℕ) (v : ArenaView) (deleted : DeletedAreEmpty v) where
         emptied = deleted left left_held.there;
         inserts = refl;
         splits = refl;
-        touched = inr (inl (inl left_held.holder));
         taken = λ held. inl left_held.holder;
       }
 
@@ -208,7 +196,6 @@ module _ (o : ℕ) (v : ArenaView) (deleted : DeletedAreEmpty v) where
         emptied = λ gone. empty;
         inserts = refl;
         splits = refl;
-        touched = inr (inl (inl node_held.holder));
         taken = λ held. inl node_held.holder;
       }
 
@@ -220,7 +207,6 @@ module _ (o : ℕ) (v : ArenaView) (deleted : DeletedAreEmpty v) where
         emptied = deleted parent parent_held.there;
         inserts = refl;
         splits = refl;
-        touched = inr (inl (inl parent_held.holder));
         taken = λ held. inl parent_held.holder;
       }
 
@@ -256,7 +242,6 @@ module _ (o : ℕ) (v : ArenaView) (deleted : DeletedAreEmpty v) where
         emptied = λ gone. empty;
         inserts = refl;
         splits = refl;
-        touched = inr (inl (inl root_held.holder));
         taken = λ held. inl root_held.holder;
       }
 
@@ -268,7 +253,6 @@ module _ (o : ℕ) (v : ArenaView) (deleted : DeletedAreEmpty v) where
         emptied = deleted child child_held.there;
         inserts = refl;
         splits = refl;
-        touched = inr (inl (inl child_held.holder));
         taken = λ held. inl child_held.holder;
       }
 
@@ -307,7 +291,6 @@ module _ (o : ℕ) (v : ArenaView) (deleted : DeletedAreEmpty v) where
           emptied = λ gone. absurd (both_ways _ still_live gone);
           inserts = s.inserts;
           splits = s.splits;
-          touched = inr (inl (inl node_held.holder));
           taken = λ held. inl node_held.holder;
         }
 
@@ -321,7 +304,6 @@ module _ (o : ℕ) (v : ArenaView) (deleted : DeletedAreEmpty v) where
           emptied = λ gone. empty;
           inserts = refl;
           splits = refl;
-          touched = inr (inl (inr refl));
           taken = λ held. inr root_live;
         })
 

@@ -12,11 +12,11 @@ use Rattle.mt_operation.specs.Tables.{op_at as operation_at}
 use Rattle.mt_operation.proofs.Phases.{IsBehindBy, behind_removal, by_removal}
 use Rattle.mt_descent.specs.WalkMoves.{KeepsPairs}
 use Rattle.mt_remove.specs.{Writes.is_remove, KeptRemovals.{IsAmong as IsOfRemoval, HoldsRemoval, KeptRemoval}, Steps.IsRemovalFrom}
-use Rattle.mt_state.specs.{Views.{StateView, Core, shown}, Notes.{Notes, Keeps}}
+use Rattle.mt_state.specs.{Views.{StateView, Core, shown}, Notes.{Notes, Keeps}, Touches.Touches}
 use Rattle.mt_state.specs.KeptOperations.{IsOpenOperation, HasAnswer, MayUnlock, MayUnlockUnsplit, IsUnlinking, IsKeptAt, IsKeptFor}
 use Rattle.mt_state.specs.{Invariant.{HoldsAt, HoldsBy, HoldsLast, StateInvariant}, Writes.removing, KeptBack.{IsWalkBack, IsBackAt, Retires}}
 use Rattle.mt_state.proofs.{Telling.Gives, Moved.went_on, Bound.answered_on, Still.{IsUnready, unready_none, IsUnreadyBy}, Reading.walk_same}
-use Rattle.mt_state.proofs.{OneNode.{returning_by, quiet_grows, holds_here, quiet_gives_on}, RemovalNodes.{LeavesNodes, removal_leaves, removal_touches}}
+use Rattle.mt_state.proofs.{OneNode.{returning_by, quiet_grows, holds_here, quiet_gives_on}, RemovalNodes.{LeavesNodes, removal_leaves}}
 use Rattle.mt_state.proofs.RemovalBy.{removes_by, retires_by, cleans_by}
 use Rattle.mt_operation.specs.declared.walk.Aim.TheVariants as aims
 use Rattle.mt_operation.specs.Phases as kinds
@@ -177,9 +177,9 @@ module _ (c : Core) (o : ℕ) (h : StateInvariant c) (few : c.steps < 2 ^ 59) (o
 
     -- it goes on so
     pub removed_on : (arena : ArenaView) (w : Walk) (r : Removal) → LeavesNodes o c.arena arena → Retires c.steps c.arena.retired arena.retired → r.cleans ≡ op.removal.cleans → KeepsPairs o c.arena arena op.walk w
-        → MayFollow op.walk.phase w.phase → KeptRemoval w.phase arena o op.task.key w r → HoldsRemoval arena o w r
+        → MayFollow op.walk.phase w.phase → KeptRemoval w.phase arena o op.task.key w r → HoldsRemoval arena o w r → Touches (view_of op) o c.arena arena
         → Gives (shown c) (removing c arena c.tape c.accounts o op w op.outcome op.prepared r) o false
-    removed_on arena w r leaves taken_out cleans keeps follows kept holds =
+    removed_on arena w r leaves taken_out cleans keeps follows kept holds touches =
         let p = op.walk.phase in
         let after = went_on op (c.steps + 1) w op.outcome op.prepared op.splits r in
         let new = removing c arena c.tape c.accounts o op w op.outcome op.prepared r in
@@ -200,7 +200,7 @@ module _ (c : Core) (o : ℕ) (h : StateInvariant c) (few : c.steps < 2 ^ 59) (o
         (λ facts u is. (h.remembered o op there).cleans u (sym cleans ∙ is))
         (λ none. unsplit)
         (let none = unready_none op p refl (removal_unready p was) in let no = unready_none after w.phase refl (removal_unready w.phase leads) in omega (arith, none, no))
-        (removal_touches c o h arena leaves) false (sym (removal_open w.phase leads))
+        touches false (sym (removal_open w.phase leads))
 
     -- by what its call ensures
     pub removed_done : IsArena c.arena.nodes c.arena.trees → (arena : ArenaView) (w : Walk) (r : Removal)
@@ -211,4 +211,4 @@ module _ (c : Core) (o : ℕ) (h : StateInvariant c) (few : c.steps < 2 ^ 59) (o
         removed_on arena w r b.leaves
         (retires_by o c.steps op.task.key c.arena arena op.walk w op.removal r is_arena h.deleted h.late op.walk.phase takes unlinking.kept from)
         (cleans_by o (c.steps + 1) op.task.key c.arena arena op.walk w op.removal r is_arena h.deleted op.walk.phase takes unlinking.kept from)
-        b.keeps b.follows b.kept (b.holds holds_removal)
+        b.keeps b.follows b.kept (b.holds holds_removal) (b.touched (view_of op) refl)

@@ -5,7 +5,7 @@ use Rattle.std.specs.Prelude.{◌^◌}
 use Rattle.mt_rows.specs.declared.reply.Reply.TheVariants.{NoMemory}
 use Rattle.mt_tape.specs.Tapes.{Kept}
 use Rattle.mt_arena.specs.{declared.tree.Tree.Tree, NodeView.NodeView, Edits.unlocked, Forests.tree_at, Contents.counts}
-use Rattle.mt_arena.specs.{Arena.{ArenaView, content_of, Guarantee}, Accesses.{at, IsHeld, with_node}}
+use Rattle.mt_arena.specs.{Arena.{ArenaView, content_of, Guarantee}, Accesses.{at, IsHeld, with_half_at, with_node}}
 use Rattle.mt_operation.specs.{declared.walk.Aim.Aim, declared.phase.Phase.Phase}
 use Rattle.mt_operation.specs.declared.phase.Phase.TheVariants.{Enter, SplitStart, SplitMove, SplitPrev, LockParent, InsertChild, InteriorSplit, Reparent, RootGrow, Unlock, Done}
 use Rattle.mt_operation.specs.{declared.walk.Walk.Walk, declared.outcome.Outcome.Outcome, declared.splits.Halves.Halves, declared.splits.Splits.Splits}
@@ -17,7 +17,7 @@ use Rattle.mt_remove.specs.Writes.{is_remove}
 use Rattle.mt_held.specs.{Taping.released, Holds.HoldsOnly, Moves.walk_at}
 use Rattle.mt_insert.specs.{KeptSplits.{IsAmong, IsAtSplitMove, IsAtUnlockAll, KeptSplit, HoldsSplits}, Unlock.{Returns, IsUnlockAll}}
 use Rattle.mt_insert.specs.{SplitStart.{IsSplitStart, IsSplitStopped}, Climbs.IsClimbFrom, KeptPuts.IsAtSplitStart}
-use Rattle.mt_state.specs.{Views.{StateView, Core, shown, map_of}, Steps.told_change, Notes.{Notes, Keeps}, Promises.{IsAnswer, Touches}}
+use Rattle.mt_state.specs.{Views.{StateView, Core, shown, map_of}, Steps.told_change, Notes.{Notes, Keeps}, Promises.IsAnswer, Touches.Touches}
 use Rattle.mt_state.specs.KeptOperations.{IsOpenOperation, IsSplitStarting, IsSplitMoving, HasAnswer, MayUnlock, IsUnlocking, IsKeptAt, IsClimbing, IsKeptFor}
 use Rattle.mt_state.specs.{Invariant.{IsCountedUpTo, HoldsLast, HoldsAt, StateInvariant, HoldsBy, DeletedAreEmpty}, Writes.splitting}
 use Rattle.mt_state.specs.KeptBack.{ArenaFacts, IsWalkBack, IsBackAt, TakesLive}
@@ -25,7 +25,7 @@ use Rattle.mt_state.proofs.{Rely.answer_stays, Telling.Gives, Quiet.{LeavesPairs
 use Rattle.mt_state.proofs.{Moved.{went_with, first_same, first_begun, first_upto}, Still.{IsUnready, unready_none, IsUnreadyBy}, Reading.walk_same}
 use Rattle.mt_state.proofs.OneNode.{same_counts, returning_by, returning_told, counted_unlocked, replaced_at, replaced_touches, replaced_leaves, quiet_grows, holds_here, quiet_gives_with}
 use Rattle.mt_state.proofs.{Locking.{ready_one, room_for}, Growing.{makes_same, retires_same, changes_on}, Giving.{are_forgotten, changes_from, retires_given}, Climbing.{LeavesNodes, MovesNoPair, moves_by}}
-use Rattle.mt_state.proofs.{ClimbingNodes.{climb_leaves, climb_makes, climb_follows, climb_some, begun_leaves}, Lawful.{lawful_more, stopped_free}}
+use Rattle.mt_state.proofs.{ClimbingNodes.{climb_leaves, climb_makes, climb_follows, climb_some, begun_leaves}, Lawful.{lawful_more, stopped_free}, Touching.{AreTouched, climb_touched, half_touched}}
 use Rattle.mt_descent.specs.WalkMoves.{Continues}
 use Rattle.mt_walks.specs.Walked.{IsWithin}
 use Rattle.mt_operation.specs.declared.walk.Aim.TheVariants as aims
@@ -38,6 +38,7 @@ pub record StartsSplit (c : Core) (o : ℕ) (op : Operation) (arena : ArenaView)
   pub same : Continues op.walk w
   pub kept : (prepared : Prepared) → op.prepared ≡ Some prepared → IsAtSplitMove arena o op.task prepared w s
   pub holds : HoldsSplits arena o s
+  pub touches : Touches (view_of op) o c.arena arena
 
 -- a right half came one step nearer to its place in its parent, or a root was made
 pub record Climbs (c : Core) (o : ℕ) (op : Operation) (arena : ArenaView) (w : Walk) (s : Splits) : Type 0 where
@@ -47,6 +48,7 @@ pub record Climbs (c : Core) (o : ℕ) (op : Operation) (arena : ArenaView) (w :
   pub kept : KeptSplit w.phase arena o s
   pub some : s.halves.items ≢ []
   pub holds : HoldsSplits arena o s
+  pub touches : Touches (view_of op) o c.arena arena
 
 -- a phase at which an operation holds halves whose keys are parted
 abbrev pub HasHalvesBy : Kind → Type 0
@@ -288,8 +290,8 @@ module _ (c : Core) (o : ℕ) (h : StateInvariant c) (arena : ArenaView) where
       makes = makes_same c.arena arena count (ap (λ (ts : List Tree). length ts) trees);
     }
 
-    pub returned_touches : Touches o c.arena arena
-    returned_touches k inside = elim (each k inside) [
+    pub returned_touches : (op : OperationView) → Touches op o c.arena arena
+    returned_touches op k inside = elim (each k inside) [
       | inl (held, is) ↦ inr (inl (inl held))
       | inr is ↦ inl is
     ]
@@ -348,7 +350,7 @@ module _ (c : Core) (o : ℕ) (h : StateInvariant c) (few : c.steps < 2 ^ 59) (o
       (λ facts. halves_back w.phase leads arena after)
       (λ none. absurd (both_ways _ none (halves_split w.phase leads)))
       (let none = unready_none op op.walk.phase refl (halves_unready op.walk.phase was) in let no = unready_none after w.phase refl (halves_unready w.phase leads) in omega (arith, none, no))
-      t.moves.touches false (sym (halves_open w.phase leads))
+      t.touches false (sym (halves_open w.phase leads))
 
   -- what is kept of one that climbs, and that all that it holds are nodes of its splits
   climbing : IsClimb op.walk.phase → IsClimbing c o op op.walk.phase
@@ -372,6 +374,7 @@ module _ (c : Core) (o : ℕ) (h : StateInvariant c) (few : c.steps < 2 ^ 59) (o
         kept = on.kept;
         some = climb_some op.walk.phase climb least o c.arena arena op.walk w op.splits s kept t;
         holds = on.holds (holds_among climb);
+        touches = climb_touched least o op c.arena arena w s facts.retired (are_forgotten c h facts least is_least.below) op.walk.phase climb kept t;
       })
 
   module _ (at_start : op.walk.phase ≡ SplitStart) where
@@ -409,7 +412,7 @@ module _ (c : Core) (o : ℕ) (h : StateInvariant c) (few : c.steps < 2 ^ 59) (o
         (λ facts. subst (λ (p : Phase). IsBackAt p arena after) (sym moves) tt)
         (λ none. absurd (both_ways _ none (ap has_splits moves)))
         (let one = ready_one op SplitStart at_start refl in let now = ready_one after SplitMove moves refl in omega (arith, one, now))
-        t.moves.touches false (sym (ap is_done moves))
+        t.touches false (sym (ap is_done moves))
 
     -- it holds its border node alone
     start_only : HoldsOnly c.arena o op.walk.place.node
@@ -430,6 +433,8 @@ module _ (c : Core) (o : ℕ) (h : StateInvariant c) (few : c.steps < 2 ^ 59) (o
           kept =
               λ prepared has. t.kept op.task prepared refl (subst (λ (x : Prepared). IsAtSplitStart c.arena o op.task x op.walk) (same_Some starting.prepared prepared (sym starting.has ∙ has)) starting.starts);
           holds = t.holds start_only;
+          touches = subst (Touches (view_of op) o c.arena) (sym t.is.is) (subst (λ (p : Phase). AreTouched p (view_of op) o c.arena (with_half_at c.arena op.walk.place.node t.is.low least o).nodes) (sym at_start)
+              (half_touched (view_of op) o c.arena op.walk.place.node t.is.low least starting.starts.holds.judged.held facts.retired (are_forgotten c h facts least is_least.below)));
         }))
 
     -- there is no memory for it: the lock and the room on the tape are given back
@@ -469,7 +474,7 @@ module _ (c : Core) (o : ℕ) (h : StateInvariant c) (few : c.steps < 2 ^ 59) (o
         (λ facts. subst (λ (p : Phase). IsBackAt p arena after) (sym ends) tt)
         (λ none. t.unsplit)
         (let one = ready_one op SplitStart at_start refl in let no = unready_none after Done ends tt in let some = room_for c h o op SplitStart there at_start refl in omega (arith, one, no, some))
-        (subst (Touches o c.arena) (sym g.is) (replaced_touches c.arena k within (unlocked n) o (inl starting.starts.holds.judged.held.holder)))
+        (subst (Touches (view_of op) o c.arena) (sym g.is) (replaced_touches c.arena k within (unlocked n) (view_of op) o (inl starting.starts.holds.judged.held.holder)))
         true (sym (ap is_done ends)))
       where
         free : (within : op.walk.place.node < length c.arena.nodes) (j : ℕ)
@@ -521,5 +526,5 @@ module _ (c : Core) (o : ℕ) (h : StateInvariant c) (few : c.steps < 2 ^ 59) (o
         (λ facts. subst (λ (p : Phase). IsBackAt p arena after) (sym ends) tt)
         (λ none. t.unsplit)
         (let none = unready_none op Unlock at_unlock tt in let no = unready_none after Done ends tt in omega (arith, none, no))
-        (returned_touches c o h arena t.is.count t.is.trees each)
+        (returned_touches c o h arena t.is.count t.is.trees each (view_of op))
         true (sym (ap is_done ends))

@@ -1,6 +1,7 @@
 pub mod Views
 pub mod Steps
 pub mod Notes
+pub mod Touches
 pub mod Promises
 pub mod KeptOperations
 pub mod Given

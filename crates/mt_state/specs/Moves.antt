@@ -2,7 +2,7 @@
 use Rattle.std.specs.Prelude.{◌≡◌, ℕ, ◌+◌, ◌<◌, ◌⊎◌, false, length, Some, slice_set}
 use Rattle.mt_arena.specs.{Given.AreOutUpTo, Accesses.at}
 use Rattle.mt_operation.specs.{declared.operation.Operation.Operation, Operations.view_of, Phases.is_done, Tables.{op_at as operation_at}}
-use Rattle.mt_state.specs.{Views.{Core, shown}, Steps.HasMoved, Notes.Notes, Promises.{IsQuiet, IsPlacing, Touches}, KeptOperations.{IsKeptOf, KeepsScan}, KeptBack.{ArenaFacts, IsKeptBack}}
+use Rattle.mt_state.specs.{Views.{Core, shown}, Steps.HasMoved, Notes.Notes, Promises.{IsQuiet, IsPlacing}, Touches.Touches, KeptOperations.{IsKeptOf, KeepsScan}, KeptBack.{ArenaFacts, IsKeptBack}}
 use Rattle.mt_state.specs.{Growth.MakesFew, Invariant.{IsTape, AreStamps, AreVersions, HoldsAt, AreCounted, DeletedAreEmpty, StateGuarantee, one_if_prepared}}
 
 -- an operation is asked the same: nothing of its task has changed, but for the key of a scan
@@ -40,6 +40,6 @@ pub record IsTold (old new : Core) (o : ℕ) (before after : Operation) : Type 0
   pub logs : new.logs ≡ old.logs
   pub moves : HasMoved (view_of before) (view_of after) (old.steps + 1)
   pub notes : Notes (shown old) (view_of before) before.walk.phase after.walk.phase after.outcome
-  pub touches : Touches o old.arena new.arena
+  pub touches : Touches (view_of before) o old.arena new.arena
   pub effect : IsQuiet (shown old) (shown new) (view_of before) (view_of after) ⊎ IsPlacing (shown old) (shown new) (view_of before) (view_of after)
   pub makes : MakesFew old.arena new.arena

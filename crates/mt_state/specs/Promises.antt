@@ -6,7 +6,7 @@ use Rattle.mt_insert.specs.KeptSplits.{last_half}
 use Rattle.mt_tape.specs.declared.entry.Entry.{Entry as TapeEntry}
 use Rattle.mt_runs.specs.{Placings.maps_after_one, Scans.IsLawfulScan}
 use Rattle.mt_walks.specs.Walked.{IsWithin}
-use Rattle.mt_arena.specs.{NodeView.NodeView, Edits.pointed, Arena.ArenaView, Forests.tree_at, Accesses.at}
+use Rattle.mt_arena.specs.{NodeView.NodeView, Arena.ArenaView, Forests.tree_at, Accesses.at}
 use Rattle.mt_operation.specs.{declared.phase.Phase.Phase, declared.walk.Walk.Walk, declared.removal.Removal.Removal, declared.outcome.Outcome.Outcome}
 use Rattle.mt_operation.specs.Operations.{OperationView, SplitsView, ScanView}
 use Rattle.mt_operation.specs.Phases.{Waiting, Never, RootMark, ChildMark, OwnMark, NextMark, OwnSlot, ReadSlot, OwnLock, ParentLock, BeforeLock, AboveLock, BelowLock, row, is_done, IsToGrow}
@@ -14,7 +14,7 @@ use Rattle.mt_descent.specs.WalkMoves.{IsBlocked, IsBlockedAt}
 use Rattle.mt_scan.specs.Snaps.{IsBlockedAmong}
 use Rattle.mt_state.specs.{declared.moves.Move.Move, declared.moves.Move.TheVariants.{Moved, Again, NoMemory as NoMemoryMove, Done as DoneMove, Spent, NoSuch}}
 use Rattle.mt_state.specs.{Views.{StateView, contents_of, op_at, map_of, quota_of, KeepsPast, IsPlaced}, Steps.{HasMoved, change_in}, Notes.{key_asked, Notes}}
-use Rattle.mt_state.specs.{Growth.MakesFew, Given.ChangesArena, Written.row_left}
+use Rattle.mt_state.specs.{Growth.MakesFew, Given.ChangesArena, Written.row_left, Touches.Touches}
 use Rattle.std.specs.FinMap as pairs
 
 -- nothing of contents and tape changes, and the operation has made no other change
@@ -49,23 +49,6 @@ pub record IsAnswer (v : StateView) (op : OperationView) (told : Outcome) : Type
   pub placed : is_no_memory told.reply ≡ false → is_scan op.command ≡ false → IsPlaced v op.tenant op.command told.at told.reply
   pub lawful : IsLawfulScan (map_of v op.tenant) (IsWithin op.first op.last) op.command told.reply
 
--- an operation held the node before its step, or holds it after
-abbrev pub HoldsEither : ℕ → NodeView → NodeView → Type 0
-HoldsEither o n m = (n.holder ≡ Some o) ⊎ (m.holder ≡ Some o)
-
--- a node that was taken out and that nobody held, and a live one in its place: the step gave the place out
-pub record IsGivenAnew (n m : NodeView) : Type 0 where
-  pub out : n.version.deleted ≡ true
-  pub free : n.holder ≡ None
-  pub live : m.version.deleted ≡ false
-
--- Of the nodes that were there, a step of operation o changes at most those that it held or takes, and in another one whom it names as the one
--- before it and as its parent. It may also give out the place of one that was taken out and that nobody held.
-abbrev pub Touches : ℕ → ArenaView → ArenaView → Type 0
-Touches o old new = (k : ℕ) → k < length old.nodes →
-    (at new k ≡ at old k) ⊎ HoldsEither o (at old k) (at new k) ⊎ (at new k ≡ pointed (at old k) (at new k).previous (at new k).parent)
-    ⊎ IsGivenAnew (at old k) (at new k)
-
 -- a numbered step of operation o: it moves on by one phase, and all other operations stand; the maps just after it are those of now
 pub record IsStep (old new : StateView) (o : ℕ) (done : Bool) : Type 0 where
   pub before : OperationView
@@ -80,7 +63,7 @@ pub record IsStep (old new : StateView) (o : ℕ) (done : Bool) : Type 0 where
   pub logs : new.logs ≡ old.logs
   pub grows : KeepsPast old new
   pub arena : ChangesArena old o new.arena
-  pub touches : Touches o old.arena new.arena
+  pub touches : Touches before o old.arena new.arena
   pub effect : IsQuiet old new before after ⊎ IsPlacing old new before after
   pub ends : done ≡ is_done after.phase
   pub answer : done ≡ true → (told : Outcome) × (after.outcome ≡ Some told) × IsAnswer new after told
@@ -106,18 +89,6 @@ node_needed ParentLock v w s r = (at v (last_half s).left).parent
 node_needed BeforeLock v w s r = (at v w.place.node).previous
 node_needed AboveLock v w s r = (at v w.place.node).parent
 node_needed BelowLock v w s r = option_map (λ tree. (tree_at v.trees tree).root) r.cleans
-
--- the step is to lock it
-abbrev pub is_for_lock : Waiting → Bool
-is_for_lock OwnLock = true
-is_for_lock ParentLock = true
-is_for_lock BeforeLock = true
-is_for_lock AboveLock = true
-is_for_lock BelowLock = true
-is_for_lock _ = false
-
-abbrev pub locks_next : Phase → Bool
-locks_next p = is_for_lock (row p).waits
 
 -- how that node is in the way: by its lock, where it is to be locked; by an unstable slot, where that is to be loaded, or is among those that a scan reads;
 -- else by its mark; each is its holder's

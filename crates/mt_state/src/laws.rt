@@ -4,12 +4,12 @@
 ghost use Rattle.std.specs.Prelude.{◌≡◌, ◌≢◌, ◌+◌, ◌<◌, ◌≤◌, ◌^◌, ℕ, Bool, true, false, Option, Some, None, length};
 ghost use Rattle.mt_version.specs.Changes.{IsStable};
 ghost use Rattle.mt_arena.specs.{Arena.{ArenaView, IsArena, content_of}, Layers.slot_at, NodeFacts.IsUnstable, Accesses.at, Given.GivesOut};
-ghost use Rattle.mt_operation.specs.{declared.phase.Phase.Phase, declared.phase.Phase.TheVariants.{Search, Load, Confirm, Snap, Done}};
+ghost use Rattle.mt_operation.specs.{declared.phase.Phase.Phase, declared.phase.Phase.TheVariants.{Search, Load, Confirm, SplitPrev, Reparent, FixNext, Snap, Done}};
 ghost use Rattle.mt_operation.specs.{declared.outcome.Outcome.Outcome, declared.operation.Operation.Operation, declared.removal.Removal.Removal};
 ghost use Rattle.mt_operation.specs.{Operations.{OperationView, SplitsView, ScanView}, Phases.{is_done, IsDescent}, declared.walk.Walk.Walk};
 ghost use Rattle.mt_operation.specs.Tables.{op_at as operation_at};
 ghost use Rattle.mt_state.specs.{Views.{StateView, Core, shown, KeepsPast}, Steps.LeavesOut};
-ghost use Rattle.mt_state.specs.{Promises.{IsAnswer, IsInTheWay, needed_node, locks_next, Touches, IsStep}, KeptOperations.{IsKeptOf, IsScanKept}};
+ghost use Rattle.mt_state.specs.{Promises.{IsAnswer, IsInTheWay, needed_node, IsStep}, Touches.{locks_next, Touches}, KeptOperations.{IsKeptOf, IsScanKept}};
 ghost use Rattle.mt_state.specs.{Invariant.{IsStampOf, AreStamps, StateInvariant, StateGuarantee}, Moves.{IsMove, IsTold}, Ways.{Descends, walked, ShowsTaken}};
 ghost use Rattle.mt_state.specs.{Calls.{IsLawful, Searches, Takes, Compares}, Given.{with_given, SparesOperation}, KeptBack.{ArenaFacts, IsKeptBack}};
 ghost use Rattle.mt_descent.specs.{Pasts.Past, KeptWalks.IsKept, WalkMoves.Continues, Remembered.Learns, KeptBack.GivesOutBefore};
@@ -67,16 +67,20 @@ pub fn a_step_keeps_the_invariant()
 {}
 
 /// What is refused: an operation told to wait for a node that it doesn't need, at a phase that needs none,
-/// or for a lock where it is only to read; and a step that changes the keys of a node which another
-/// operation holds.
+/// or for a lock where it is only to read; a step that changes the keys of a node which another
+/// operation holds; and one that changes a live node which its operation neither holds nor locks, unless
+/// the phase is one of three that name a node anew.
 pub fn wrong_steps_are_refused()
     ensures for_another_node { (v : ArenaView) (phase : Phase) (w : Walk) (s : SplitsView) (r : Removal) (g : ScanView) (k holder : ℕ) → needed_node phase v w s r ≡ Some k →
         (at v k).holder ≢ Some holder → ¬ IsInTheWay v phase w s r g holder }
     ensures for_none { (v : ArenaView) (phase : Phase) (w : Walk) (s : SplitsView) (r : Removal) (g : ScanView) (holder : ℕ) → needed_node phase v w s r ≡ None → ¬ IsInTheWay v phase w s r g holder }
     ensures lock_alone { (v : ArenaView) (phase : Phase) (w : Walk) (s : SplitsView) (r : Removal) (g : ScanView) (k holder : ℕ) → locks_next phase ≡ false → phase ≢ Load → phase ≢ Snap →
         needed_node phase v w s r ≡ Some k → IsStable (at v k).version → ¬ IsInTheWay v phase w s r g holder }
-    ensures of_another { (o q k : ℕ) (old new : ArenaView) → Touches o old new → k < length old.nodes → q ≢ o →
+    ensures of_another { (op : OperationView) (o q k : ℕ) (old new : ArenaView) → Touches op o old new → k < length old.nodes → q ≢ o →
         (at old k).holder ≡ Some q → (at new k).holder ≢ Some o → (at new k).slots ≡ (at old k).slots }
+    ensures of_nobody { (op : OperationView) (o k : ℕ) (old new : ArenaView) → Touches op o old new → k < length old.nodes →
+        op.phase ≢ SplitPrev → op.phase ≢ FixNext → op.phase ≢ Reparent → (at old k).version.deleted ≡ false →
+        (at old k).holder ≢ Some o → (at new k).holder ≢ Some o → at new k ≡ at old k }
 {}
 
 /// What is refused too: a step that leaves out a phase, so that an operation does in one step what two are for.
