@@ -45,7 +45,6 @@ undisturbed_alone v o op alone = record {
   there = alone.there;
   unfinished = ap is_done alone.enters;
   free = λ k q within holds. absurd (no_value (sym (alone.free k within) ∙ holds));
-  numbers = alone.numbers;
 }
 
 -- the left half of a split is there, so its level is below the height
@@ -186,10 +185,12 @@ module _ (old v : Core) (o : ℕ) (op : OperationView) (made : ℕ) (h : StateIn
         there = run.there;
         asked = run.asked;
         ends = ends;
-        told = answer.0;
-        has = has;
-        outcome = run_outcome (shown old) w o op (made + 1) run answer.0 has right
-            (omega (arith, ap (λ (x : OperationView). x.last) is, s.moves.last, s.number));
+        makes = record {
+          told = answer.0;
+          has = has;
+          outcome = run_outcome (shown old) w o op (made + 1) run answer.0 has right
+              (omega (arith, ap (λ (x : OperationView). x.last) is, s.moves.last, s.number));
+        };
       }
 
   -- one that finds no memory for a node has its answer, and leaves all as it was
@@ -206,11 +207,27 @@ module _ (old v : Core) (o : ℕ) (op : OperationView) (made : ℕ) (h : StateIn
         there = g.run.there;
         asked = g.run.asked;
         ends = grows_here;
-        told = answer.outcome;
-        has = has;
-        outcome = run_outcome (shown old) (shown v) o op made g.run answer.outcome has right
-            (omega (arith, ap (λ (x : OperationView). x.last) same, kept.always.made));
+        makes = record {
+          told = answer.outcome;
+          has = has;
+          outcome = run_outcome (shown old) (shown v) o op made g.run answer.outcome has right
+              (omega (arith, ap (λ (x : OperationView). x.last) same, kept.always.made));
+        };
       }
+
+  -- one for whose next step no number is left has made its change or none, and has fewer steps behind it than a whole run
+  ends_spent : v.steps ≡ 2 ^ 59 → EndsAlone (shown old) (shown v) o op Spent
+  ends_spent all = record {
+    few = omega (arith, g.run.number, few);
+    after = g.run.after;
+    there = g.run.there;
+    asked = g.run.asked;
+    ends = (all, omega (arith, g.run.number, few));
+    makes = elim g.run.so_far [
+      | inl u ↦ inl u.contents
+      | inr p ↦ inr (p.reply, p.number, p.run)
+    ];
+  }
 
 -- who alone holds nodes is told of nobody
 never_again : (v : Core) (o holder : ℕ) → IsFreeOfOthers v.arena o → IsHeldByOther (shown v) o holder → ⊥
@@ -218,16 +235,15 @@ never_again v o holder free held =
     let way = in_the_way v.arena held.op.phase held.op.walk held.op.splits held.op.removal held.op.scan holder held.holds in
     held.other (free way.0 holder way.1 way.2)
 
--- each answer but Moved is Done, or that there is no memory
-pub alone_stops : (old v w : Core) (o : ℕ) (op : OperationView) (made : ℕ) (answer : Move) → StateInvariant v → IsAlone (shown old) o op
-    → GoesAlone old v o op made
+-- each answer but Moved is Done, or that there is no memory or no number
+pub alone_stops : (old v w : Core) (o : ℕ) (op : OperationView) (made : ℕ) (answer : Move) → StateInvariant v → GoesAlone old v o op made
     → answer ≢ Moved → StepsOn v w o answer → EndsAlone (shown old) (shown w) o op answer
-alone_stops old v w o op made Moved h alone g other s = absurd (other refl)
-alone_stops old v w o op made DoneMove h alone g other s = ends_done old v o op made h g (shown w) s.tells
-alone_stops old v w o op made (Again holder) h alone g other s = absurd (never_again v o holder g.free.free s.tells.2)
-alone_stops old v w o op made Spent h alone g other s = absurd (omega (arith, s.tells.2, g.run.number, alone.numbers, few old v o op made h g))
-alone_stops old v w o op made NoSuch h alone g other s = absurd (s.tells.1 (g.run.after, g.run.there, left old v o op made h g))
-alone_stops old v w o op made NoMemoryMove h alone g other s =
+alone_stops old v w o op made Moved h g other s = absurd (other refl)
+alone_stops old v w o op made DoneMove h g other s = ends_done old v o op made h g (shown w) s.tells
+alone_stops old v w o op made (Again holder) h g other s = absurd (never_again v o holder g.free.free s.tells.2)
+alone_stops old v w o op made Spent h g other s = subst (λ (x : StateView). EndsAlone (shown old) x o op Spent) (sym s.tells.0) (ends_spent old v o op made h g s.tells.2)
+alone_stops old v w o op made NoSuch h g other s = absurd (s.tells.1 (g.run.after, g.run.there, left old v o op made h g))
+alone_stops old v w o op made NoMemoryMove h g other s =
     let grow = s.tells.1 in
     subst (λ (x : StateView). EndsAlone (shown old) x o op NoMemoryMove) (sym s.tells.0) (ends_unmade old v o op made h g grow.op grow.there grow.grows)
 
@@ -260,21 +276,26 @@ module _ (old v : Core) (o : ℕ) (op : OperationView) (made : ℕ) (h : StateIn
   met_left : HasStep (shown v) o
   met_left = (view_of met, shown_there v.table o met g.free.there, coming_left (is_scan (ask met.task)) v met (live_count old.arena.nodes) (live_trees old.arena.trees) made g.free.point)
 
--- each answer but Moved is Done, or that there is no memory
-pub undisturbed_stops : (old v w : Core) (o : ℕ) (op : OperationView) (made : ℕ) (answer : Move) → StateInvariant v → IsUndisturbed (shown old) o op
-    → v.steps ≡ old.steps + made
+-- each answer but Moved is Done, or that there is no memory or no number
+pub undisturbed_stops : (old v w : Core) (o : ℕ) (op : OperationView) (made : ℕ) (answer : Move) → StateInvariant v → v.steps ≡ old.steps + made
     → GoesUndisturbed old v o op made → answer ≢ Moved → StepsOn v w o answer → EndsSoon (shown old) (shown w) o op answer
-undisturbed_stops old v w o op made Moved h from number g other s = absurd (other refl)
-undisturbed_stops old v w o op made DoneMove h from number g other s = record {
+undisturbed_stops old v w o op made Moved h number g other s = absurd (other refl)
+undisturbed_stops old v w o op made DoneMove h number g other s = record {
   few = omega (arith, number, s.tells.number, made_few old v o op made h g);
   after = s.tells.after;
   there = stepped (shown v) (shown w) o true s.tells;
   ends = done_is s.tells.after.phase (sym s.tells.ends);
 }
-undisturbed_stops old v w o op made (Again holder) h from number g other s = absurd (never_again v o holder g.free.free s.tells.2)
-undisturbed_stops old v w o op made Spent h from number g other s = absurd (omega (arith, s.tells.2, number, from.numbers, made_few old v o op made h g))
-undisturbed_stops old v w o op made NoSuch h from number g other s = absurd (s.tells.1 (met_left old v o op made h g))
-undisturbed_stops old v w o op made NoMemoryMove h from number g other s =
+undisturbed_stops old v w o op made (Again holder) h number g other s = absurd (never_again v o holder g.free.free s.tells.2)
+undisturbed_stops old v w o op made Spent h number g other s =
+    subst (λ (x : StateView). EndsSoon (shown old) x o op Spent) (sym s.tells.0) (record {
+      few = omega (arith, number, made_few old v o op made h g);
+      after = view_of g.free.op;
+      there = shown_there v.table o g.free.op g.free.there;
+      ends = (s.tells.2, omega (arith, number, made_few old v o op made h g));
+    })
+undisturbed_stops old v w o op made NoSuch h number g other s = absurd (s.tells.1 (met_left old v o op made h g))
+undisturbed_stops old v w o op made NoMemoryMove h number g other s =
     let grow = s.tells.1 in
     subst (λ (x : StateView). EndsSoon (shown old) x o op NoMemoryMove) (sym s.tells.0) (record {
       few = omega (arith, number, made_few old v o op made h g);

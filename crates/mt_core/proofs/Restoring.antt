@@ -1,5 +1,5 @@
 -- What a put leaves that runs alone in a state without other operations, and what counting anew leaves then: for `restored`.
-use Rattle.std.proofs.Common.{◌≡◌, ◌≢◌, ℕ, zero, suc, ◌+◌, ◌*◌, ◌^◌, ◌<◌, ◌≤◌, ◌⊎◌, inl, inr, Bool, true, false, cond, eqb, List, [], ◌∷◌, map, length, Option, Some, None, sym, refl, ap, subst, ◌∙◌, arith}
+use Rattle.std.proofs.Common.{◌≡◌, ◌≢◌, ℕ, zero, suc, ◌<◌, ◌≤◌, ◌⊎◌, inl, inr, Bool, true, false, cond, eqb, List, [], ◌∷◌, map, length, Option, Some, None, sym, refl, ap, subst, ◌∙◌, arith}
 use Rattle.std.proofs.{lemmas.Bool.{cases_eq, eqb-true, eqb-false}, lemmas.List.{get_or-set_other, length-replicate}, lemmas.Option.{same_Some, none-some}}
 use Rattle.std.specs.{Prelude.{replicate, slice_set}, Option.option_map, Ordering.eq_by_cmp, BTreeMap.BTreeMap}
 use Rattle.mt_rows.specs.{declared.command.Command.TheVariants.Put, declared.record.TenantPair.TenantPair, declared.reply.Reply.Reply}
@@ -9,11 +9,11 @@ use Rattle.mt_rows.specs.{Tenants.{owned_cmp, Contents, tenant_map}, TenantPairs
 use Rattle.mt_rows.proofs.{Indexed.changed_indexed, ContentLaws.{owned_total, same_contents, get-tenant_map, tenant_map-insert, tenant_map-insert_other}}
 use Rattle.mt_border.{specs.{Contents.AllStamped, Restamps.new_stamp}, proofs.Restamping.all-restamped}
 use Rattle.mt_runs.specs.declared.event.Answer.{Answer}
-use Rattle.mt_arena.specs.{NodeView.NodeView, Accesses.at, Arena.{IsArena, content_of, live_count}, Contents.counts, Forests.tree_at, Renumbers.AreRestamped}
+use Rattle.mt_arena.specs.{NodeView.NodeView, Accesses.at, Arena.{IsArena, content_of}, Contents.counts, Forests.tree_at, Renumbers.AreRestamped}
 use Rattle.mt_arena.proofs.Renumbering.{at-renumbered, size-renumbered, content-renumbered}
 use Rattle.mt_operation.specs.{declared.operation.Operation.Operation, declared.outcome.Outcome.Outcome, declared.phase.Phase.Phase}
 use Rattle.mt_operation.specs.{Operations.{OperationView, view_of}, Tables.{Table, op_at as operation_at}}
-use Rattle.mt_state.specs.{declared.moves.Move.Move, declared.moves.Move.TheVariants.{NoMemory as NoMemoryMove, Done as DoneMove}}
+use Rattle.mt_state.specs.{declared.moves.Move.Move, declared.moves.Move.TheVariants.{NoMemory as NoMemoryMove, Done as DoneMove, Spent}}
 use Rattle.mt_state.specs.Views.{Core, StateView, Shown, shown, contents_of, op_at, granted, granted_in, quota_in as quota_of_account, quota_of}
 use Rattle.mt_state.specs.{Promises.IsStep, Begins.{Begins, Takes, begun, new_state}, Invariant.{StateInvariant, HoldsAt}}
 use Rattle.mt_state.proofs.Shown.{shown_table, shown_at, shown_there}
@@ -49,10 +49,11 @@ given_upto steps f contents ps upto are q r there =
 -- ---- the run
 
 -- an operation that ran alone is done, or there was no memory
-pub ends_so : (answer : Move) (phase : Phase) → EndsAt answer phase → (answer ≡ DoneMove → ⊥) → (answer ≡ NoMemoryMove → ⊥) → ⊥
-ends_so DoneMove phase ends other none = other refl
-ends_so NoMemoryMove phase ends other none = none refl
-ends_so _ phase ends other none = absurd ends
+pub ends_so : (answer : Move) (last most : ℕ) (phase : Phase) → EndsAt answer last most phase → (answer ≡ DoneMove → ⊥) → (answer ≡ NoMemoryMove → ⊥) → (answer ≡ Spent → ⊥) → ⊥
+ends_so DoneMove last most phase ends other none spent = other refl
+ends_so NoMemoryMove last most phase ends other none spent = none refl
+ends_so Spent last most phase ends other none spent = spent refl
+ends_so _ last most phase ends other none spent = absurd ends
 
 -- what steps of one operation leave
 record Along (old new : StateView) (o : ℕ) : Type 0 where
@@ -127,13 +128,12 @@ module _ (v0 : StateView) (p : TenantPair) (idle : IsIdle v0) (may : MayPut v0 p
       omega (arith, maps, quotas, most, may.room)
 
   -- it is alone, so that it runs to its end
-  pub is_alone : (c : Core) → shown c ≡ v1 → StateInvariant c → v1.steps + 256 * (live_count v1.arena.nodes + 64) ≤ 2 ^ 59 → IsAlone v1 o (begun 0 p.tenant (put_of p) v0.steps)
-  is_alone c is sound numbers = record {
+  pub is_alone : (c : Core) → shown c ≡ v1 → StateInvariant c → IsAlone v1 o (begun 0 p.tenant (put_of p) v0.steps)
+  is_alone c is sound = record {
     there = begins.there;
     first = refl;
     enters = refl;
     free = λ k within. by k (subst (λ (v : StateView). k < length v.arena.nodes) (sym is) within) ((at v1.arena k).holder) refl;
-    numbers = numbers;
   }
     where
       held_by_none : (k q : ℕ) → k < length c.arena.nodes → (at c.arena k).holder ≡ Some q → ⊥
@@ -153,34 +153,34 @@ module _ (v0 : StateView) (p : TenantPair) (idle : IsIdle v0) (may : MayPut v0 p
 
   -- once it has run to its end, and was told something else than that there was no memory
   module _ (v2 v3 : StateView) (answer : Answer) (runs : Runs v1 v2 o DoneMove) (ends : EndsAlone v1 v2 o (begun 0 p.tenant (put_of p) v0.steps) DoneMove) (takes : Takes v2 v3 o answer) where
-    said : ends.told ≡ record { reply = answer.reply; at = answer.at }
+    said : ends.makes.told ≡ record { reply = answer.reply; at = answer.at }
     said =
         let same : takes.op ≡ ends.after = same_Some _ _ (sym takes.there ∙ ends.there) in
-        same_Some ends.told (record { reply = answer.reply; at = answer.at }) (sym ends.has ∙ sym (ap (λ (op : OperationView). op.outcome) same) ∙ takes.told.told)
+        same_Some ends.makes.told (record { reply = answer.reply; at = answer.at }) (sym ends.makes.has ∙ sym (ap (λ (op : OperationView). op.outcome) same) ∙ takes.told.told)
 
-    told : answer.reply ≡ ends.told.reply
+    told : answer.reply ≡ ends.makes.told.reply
     told = sym (ap (λ (t : Outcome). t.reply) said)
 
     -- by the number of its answer
-    number : answer.at ≡ ends.told.at
+    number : answer.at ≡ ends.makes.told.at
     number = sym (ap (λ (t : Outcome). t.at) said)
 
     -- it was told that its pair is new
     pub told_new : (answer.reply ≡ NoMemory) ⊎ (answer.reply ≡ New)
-    told_new = elim ends.outcome [
+    told_new = elim ends.makes.outcome [
       | inl none ↦ inl (told ∙ none.0)
       | inr run ↦ inr (told ∙ run.told ∙ told_put (quota_of v1 p.tenant) p.key (indexed 0 p.row.row) (tenant_map p.tenant (contents_of v1)) missing_now room_now)
     ]
 
     -- the maps have the pair then
-    made : IsRun v1 v2 (begun 0 p.tenant (put_of p) v0.steps) ends.told.at ends.told.reply → (t : ℕ) → tenant_map t (contents_of v2) ≡ tenant_map t (with_put p answer.at (contents_of v0))
+    made : IsRun v1 v2 (begun 0 p.tenant (put_of p) v0.steps) ends.makes.told.at ends.makes.told.reply → (t : ℕ) → tenant_map t (contents_of v2) ≡ tenant_map t (with_put p answer.at (contents_of v0))
     made run t = run.makes t ∙ here (eqb t p.tenant) refl
       where
         here : (b : Bool) → eqb t p.tenant ≡ b
-            → cond b (map_after (quota_of v1 t) ends.told.at (put_of p) (tenant_map t (contents_of v1))) (tenant_map t (contents_of v1)) ≡ tenant_map t (with_put p answer.at (contents_of v0))
-        here true e = subst (λ u. map_after (quota_of v1 u) ends.told.at (put_of p) (tenant_map u (contents_of v1)) ≡ tenant_map u (with_put p answer.at (contents_of v0))) (sym (eqb-true t p.tenant e))
-            (after_put (quota_of v1 p.tenant) ends.told.at p.key (indexed 0 p.row.row) (tenant_map p.tenant (contents_of v1)) missing_now room_now
-            ∙ ap (λ row. pairs.insert (tenant_map p.tenant (contents_of v1)) p.key (row_with ends.told.at row)) (changed_indexed p.row.row may.limits.1)
+            → cond b (map_after (quota_of v1 t) ends.makes.told.at (put_of p) (tenant_map t (contents_of v1))) (tenant_map t (contents_of v1)) ≡ tenant_map t (with_put p answer.at (contents_of v0))
+        here true e = subst (λ u. map_after (quota_of v1 u) ends.makes.told.at (put_of p) (tenant_map u (contents_of v1)) ≡ tenant_map u (with_put p answer.at (contents_of v0))) (sym (eqb-true t p.tenant e))
+            (after_put (quota_of v1 p.tenant) ends.makes.told.at p.key (indexed 0 p.row.row) (tenant_map p.tenant (contents_of v1)) missing_now room_now
+            ∙ ap (λ row. pairs.insert (tenant_map p.tenant (contents_of v1)) p.key (row_with ends.makes.told.at row)) (changed_indexed p.row.row may.limits.1)
             ∙ ap (λ n. pairs.insert (tenant_map p.tenant (contents_of v1)) p.key (row_put p n)) (sym number)
             ∙ ap (λ m. pairs.insert m p.key (row_put p answer.at)) (maps_begun p.tenant)
             ∙ sym (tenant_map-insert p.tenant (contents_of v0) p.key (row_put p answer.at)))
@@ -188,7 +188,7 @@ module _ (v0 : StateView) (p : TenantPair) (idle : IsIdle v0) (may : MayPut v0 p
 
     -- all is as it was but for the pair, which has the answer's number
     pub has_one_more : answer.reply ≡ New → HasOneMore v0 v3 p answer.at
-    has_one_more new = elim ends.outcome [
+    has_one_more new = elim ends.makes.outcome [
       | inl none ↦ absurd (other (sym new ∙ told ∙ none.0))
       | inr run ↦
           let along = along_runs v1 v2 o runs in

@@ -2,21 +2,20 @@
 //!
 //! The pairs are put one after the other, each by an operation that runs alone, and let go. Each is stamped with the number
 //! of its step. A list has for each such number the stamp that the pair came with. Then all counting begins
-//! anew at the number that was asked for, with the logs, and each pair gets its stamp back. If these steps come near the
+//! anew at the number that was asked for, with the logs, and each pair gets its stamp back. If these steps come to the
 //! last number, there is no memory for so many pairs. Errors: `AllocError`; nothing else is refused.
 
-ghost use Rattle.std.specs.{Prelude.{◌≡◌, ◌≢◌, ◌+◌, ◌*◌, ◌<◌, ◌≤◌, ◌^◌, ℕ, None, Some, IfOk, OnOk}, List.All};
+ghost use Rattle.std.specs.{Prelude.{◌≡◌, ◌≢◌, ◌≤◌, ◌^◌, ℕ, None, Some, IfOk}, List.All};
 ghost use Rattle.std.specs.FinMap as fin;
 ghost use Rattle.mt_rows.specs.{Accounts.account_of, TenantPairs.{pairs_of, quota_in, IsTenantPair, AreDistinct, AreStampedUpto, HasTenants, KeepsQuotas}};
 ghost use Rattle.mt_rows.specs.declared.record.TenantPair.{TenantPair as AnyPair};
-ghost use Rattle.mt_arena.specs.Arena.{live_count};
 ghost use Rattle.mt_state.specs.{Views.{StateView, shown, contents_of, granted}, Begins.{HaveNoPairs, Begins}};
 ghost use Rattle.mt_core.specs.Restores.{put_of, IsIdle, MayPut, HasOneMore, HasPut, IsRestored};
 
 use crate::answers::Ticket;
 use crate::begins::prepare_in;
 use crate::displaced::Displaced;
-use crate::inner::{Inner, MAX_STEPS};
+use crate::inner::Inner;
 use mt_operation::Operation;
 use mt_rows::{Command, NamedColumns, Refusal, Reply, TenantPair, Tenants};
 use mt_state::Move;
@@ -90,7 +89,6 @@ fn put_alone(
     requires pair { MayPut (shown inner.old) pair }
     ensures { IfOk result (λ over. HasOneMore (shown inner.old) (shown inner.new) pair over.number) }
 {
-    check_numbers(inner)?;
     let ticket = begin(inner, rest, pair)?;
     let over = run(inner, ticket)?;
     inner.tidy();
@@ -105,7 +103,6 @@ fn begin(
 ) -> Result<Ticket, AllocError>
     requires limits { IsTenantPair pair }
     requires tenant { account_of inner.old.accounts pair.tenant ≢ None }
-    requires numbers { inner.old.steps < 2 ^ 59 }
     ensures { IfOk result (λ ticket. Begins (shown inner.old) (shown inner.new) ticket.id 0 pair.tenant (put_of pair)) }
 {
     let TenantPair { tenant, key, row } = pair;
@@ -114,22 +111,21 @@ fn begin(
     let opening = prepare_in(inner.alloc, rest, 0, tenant, command);
     match inner.admit(opening) {
         Ok(ticket) => Ok(ticket),
-        Err(Refusal::Memory) => Err(AllocError),
+        Err(Refusal::Memory | Refusal::Spent) => Err(AllocError),
         Err(_) => unreachable!(),
     }
 }
 
 // Runs the put of a pair of a missing key to its end, and hands out what is left of it.
 fn run(inner: &mut Inner, ticket: Ticket) -> Result<Over, AllocError>
-    requires begun { (v : StateView) × (p : AnyPair) × IsIdle v × MayPut v p × Begins v (shown inner.old) ticket.id 0 p.tenant (put_of p) }
-    requires numbers { inner.old.steps + 256 * (live_count inner.old.arena.nodes + 64) ≤ 2 ^ 59 }
+    requires { (v : StateView) × (p : AnyPair) × IsIdle v × MayPut v p × Begins v (shown inner.old) ticket.id 0 p.tenant (put_of p) }
     ensures { (v : StateView) (p : AnyPair) → IsIdle v → MayPut v p → Begins v (shown inner.old) ticket.id 0 p.tenant (put_of p) →
         IfOk result (λ over. HasOneMore v (shown inner.new) p over.number) }
 {
     inner.kept();
     match inner.run_alone(ticket.id) {
         Move::Done => {}
-        Move::NoMemory => return Err(AllocError),
+        Move::NoMemory | Move::Spent => return Err(AllocError),
         _ => unreachable!(),
     }
     let mut displaced = Displaced::new(inner.alloc);
@@ -144,19 +140,4 @@ fn run(inner: &mut Inner, ticket: Ticket) -> Result<Over, AllocError>
         },
         Err(_) => unreachable!(),
     }
-}
-
-// Whether the numbers that are left do for a put. An error comes where they may not: there is no memory for
-// so many pairs.
-fn check_numbers(inner: &Inner) -> Result<(), AllocError>
-    ensures { OnOk result (inner.now.steps + 256 * (live_count inner.now.arena.nodes + 64) ≤ 2 ^ 59) }
-{
-    let nodes = inner.arena.node_count();
-    if nodes >= 1 << 50 {
-        return Err(AllocError);
-    }
-    if inner.steps > MAX_STEPS - 256 * (nodes as u64 + 64) {
-        return Err(AllocError);
-    }
-    Ok(())
 }

@@ -246,10 +246,10 @@ impl State {
     }
 
     /// Makes steps of an operation as long as it moves, and answers what the last one answered. While
-    /// nobody else holds a node and numbers are left, an operation is done after a number of steps that
-    /// the number of live nodes bounds, and for a scan that of live trees too, at whatever phase it
-    /// stands and whatever others did on its way before; unless memory for a node is refused once it
-    /// has placed its change.
+    /// nobody else holds a node, an operation is done after a number of steps that the number of live
+    /// nodes bounds, and for a scan that of live trees too. That is so at whatever phase it stands, and
+    /// whatever others did on its way before. It ends earlier if memory for a node is refused once it has
+    /// placed its change. So it does if the last number is given before.
     pub fn run_alone(&mut self, ticket: &Ticket) -> Move
         ensures runs { Runs self.old self.new ticket.now.id result }
         ensures alone { (op : OperationView) → IsAlone self.old ticket.now.id op → EndsAlone self.old self.new ticket.now.id op result }

@@ -26,10 +26,10 @@ pub returns-in_default : goal.returns-in_default
 returns-in_default c = record {
   runs =
       run_stops (shown c.args.self.now) (shown c.loop.self) (shown c.step.new.self) c.args.id c.loop.counter c.step.result c.loop.invariant.chain c.in_default.not-Moved c.step.ensures.tells;
-  alone = λ op alone. alone_stops c.args.self.now c.loop.self c.step.new.self c.args.id op c.loop.counter c.step.result c.loop.invariant.kept alone
+  alone = λ op alone. alone_stops c.args.self.now c.loop.self c.step.new.self c.args.id op c.loop.counter c.step.result c.loop.invariant.kept
       (c.loop.invariant.alone op alone) c.in_default.not-Moved c.step.ensures;
   ends =
-      λ op undisturbed. undisturbed_stops c.args.self.now c.loop.self c.step.new.self c.args.id op c.loop.counter c.step.result c.loop.invariant.kept undisturbed
+      λ op undisturbed. undisturbed_stops c.args.self.now c.loop.self c.step.new.self c.args.id op c.loop.counter c.step.result c.loop.invariant.kept
       (chain_number c.loop.counter (shown c.args.self.now) (shown c.loop.self) c.args.id c.loop.invariant.chain) (c.loop.invariant.undisturbed op undisturbed) c.in_default.not-Moved c.step.ensures;
 }
 
