@@ -1,22 +1,20 @@
 -- What a caller over one state answers, by what the runs of its commands leave: for `Alone` and its private functions.
-use Rattle.std.proofs.Common.{◌≡◌, ◌≢◌, ℕ, ◌+◌, ◌*◌, ◌<◌, ◌≤◌, inl, inr, Bool, true, false, cond, eqb, List, [], ◌∷◌, length, Option, Some, None, Result, Ok, Err, is_some, refl, sym, ap, subst, ◌∙◌, arith}
-use Rattle.std.proofs.{Math.Nat.{mul-le-mul_left, mul-le-mul_right, mul-add}, lemmas.Bool.eqb-true}
+use Rattle.std.proofs.Common.{◌≡◌, ◌≢◌, ℕ, ◌<◌, inl, inr, Bool, true, false, cond, eqb, length, Option, Some, None, Result, Ok, Err, is_some, refl, sym, ap, subst, ◌∙◌, arith}
+use Rattle.std.proofs.lemmas.Bool.{eqb-true}
 use Rattle.std.specs.Prelude.{◌^◌, IsSome}
 use Rattle.mt_rows.specs.{declared.command.Command.Command, declared.reply.Reply.Reply, declared.refusal.Refusal.Refusal, declared.tenants.Account.Account}
-use Rattle.mt_rows.specs.{Accounts.{Accounts, account_of}, Maps.{reply_of, map_after, is_scan}, Tenants.{Contents, tenant_map}}
+use Rattle.mt_rows.specs.{Accounts.{Accounts, account_of}, Maps.{reply_of, map_after}, Tenants.{Contents, tenant_map}}
 use Rattle.mt_runs.specs.Placings.{Maps}
 use Rattle.mt_session.specs.{declared.caller.CallerFault.CallerFault, declared.caller.CallerFault.TheVariants.{Refused, Stuck}}
-use Rattle.mt_arena.specs.{NodeView.NodeView, declared.tree.Standing.Standing, declared.tree.Standing.TheVariants.Live, declared.tree.Tree.Tree}
-use Rattle.mt_arena.specs.{Arena.{ArenaView, live_count}, Accesses.at}
+use Rattle.mt_arena.specs.{Arena.ArenaView, Accesses.at}
 use Rattle.mt_operation.specs.Operations.{OperationView}
 use Rattle.mt_state.specs.{Views.{StateView, contents_of, quota_in, quota_of, granted, granted_in}, Begins.{Begins, begun, new_state}, Promises.IsPlacedToGrow}
-use Rattle.mt_state.specs.Refused.{IsFault, IsAdmissible, IsRefusal}
+use Rattle.mt_state.specs.Refused.{IsAdmissible, IsRefusal}
 use Rattle.mt_state.proofs.HistoryStart.{content-new, tenant_map-empty}
-use Rattle.mt_core.specs.{declared.answers.Ticket.Ticket, Alone.{IsAlone, IsRun, most_among, most_steps}, ScanPoints.{one_if_standing, live_trees}}
-use Rattle.mt_core.specs.Rights.{IsRightState}
-use Rattle.mt_alone.specs.{declared.runs.Unfinished.Unfinished, TenantMaps.{TenantMaps, tenant_maps, fresh_maps, with_map, after_command, Applies, GivesNumbers, MapsAnswer}}
+use Rattle.mt_core.specs.{declared.answers.Ticket.Ticket, Alone.{IsAlone, IsRun, MayHaveRun}, Rights.IsRightState}
+use Rattle.mt_alone.specs.{declared.runs.Unfinished.Unfinished, TenantMaps.{TenantMaps, tenant_maps, fresh_maps, with_map, after_command, Applies, GivesNumbers, MayApply, MapsRefusal, MapsAnswer}}
 use Rattle.mt_alone.specs.Runs.{Keeps, IsIdle, IsOnly, IsSettled, TellsRun, Finishes}
-use Rattle.mt_alone.specs.Callers.{maps_in, AreOpen, HasNumbersFor, HasNumbers, LeavesStuck, ClearsTo, Clears, Answers}
+use Rattle.mt_alone.specs.Callers.{maps_in, AreOpen, LeavesStuck, ClearsTo, Clears, Answers}
 use Rattle.mt_alone.proofs.RunLemmas.{keeps_same, keeps_on}
 use mathlib.Core.Path.{fun_ext}
 use Rattle.mt_rows.specs.declared.refusal.Refusal.TheVariants as refusals
@@ -41,70 +39,30 @@ same_maps old new opened k same = (
       ∙ ap (λ (x : Contents). tenant_maps (granted old) (λ t. tenant_map t x) opened new.steps) same,
 )
 
--- a whole run is a step at least
-one_more : (scans : Bool) (nodes trees : ℕ) → 1 ≤ most_among scans nodes trees
-one_more true nodes trees = let all = mul-add (256 * (nodes + 64)) trees 1 in omega (arith, all)
-one_more false nodes trees = omega arith
-
--- no number is left where all are given
-no_numbers : (v : StateView) (scans : Bool) → HasNumbersFor v scans → v.steps ≡ 2 ^ 59 → ⊥
-no_numbers v scans has all = let more = one_more scans (length v.arena.nodes) (length v.arena.trees) in omega (arith, has, all, more)
-
 -- a command that is stuck is the only one that is open
 still_open : (v : StateView) (o : ℕ) (ticket : Ticket) → ticket.id ≡ o → IsOnly v o → IsSettled v o → AreOpen v (Some ticket)
 still_open v o ticket same only settled = (subst (IsOnly v) (sym same) only, subst (IsSettled v) (sym same) settled)
 
 -- a begin that is refused
-refused_for : (v : StateView) (tenant : ℕ) (command : Command) (refusal : Refusal) → HasNumbersFor v (is_scan command) → IsSome (account_of v.accounts tenant) → IsRefusal v tenant command refusal → IsFault command refusal
-refused_for v tenant command (refusals.NoTenant named) numbers there is = absurd (let none = ap is_some is.1 in cc)
-refused_for v tenant command refusals.Spent numbers there is = absurd (no_numbers v (is_scan command) numbers is.2)
-refused_for v tenant command refusals.Memory numbers there is = is.1
-refused_for v tenant command _ numbers there is = is.1
+refused_for : (v : StateView) (tenant quota : ℕ) (command : Command) (refusal : Refusal) → IsSome (account_of v.accounts tenant) → IsRefusal v tenant command refusal
+    → MapsRefusal tenant quota (maps_in v (Some tenant)) command refusal (maps_in v (Some tenant))
+refused_for v tenant quota command (refusals.NoTenant named) there is = absurd (let none = ap is_some is.1 in cc)
+refused_for v tenant quota command refusals.Spent there is = (is.1, is.2, inr (omega arith, refl))
+refused_for v tenant quota command refusals.Memory there is = (is.1, (omega arith, refl))
+refused_for v tenant quota command _ there is = (is.1, (omega arith, refl))
 
-pub answers_refused : (v : StateView) (tenant : ℕ) (command : Command) (refusal : Refusal) → IsSome (account_of v.accounts tenant) → AreOpen v None → IsRefusal v tenant command refusal → Answers v v tenant command (Err (Refused refusal)) None
-answers_refused v tenant command refusal there alone is = record {
+pub answers_refused : (v : StateView) (stuck : Option Ticket) (tenant : ℕ) (command : Command) (refusal : Refusal) → IsSome (account_of v.accounts tenant) → AreOpen v stuck → (v.steps ≢ 2 ^ 59 → stuck ≡ None)
+    → IsRefusal v tenant command refusal → Answers v v tenant command (Err (Refused refusal)) stuck
+answers_refused v stuck tenant command refusal there alone free is = record {
   keeps = keeps_same v;
   alone = alone;
-  leaves = λ left. refl;
-  by_maps = λ numbers. let q = has_quota v tenant there in (q.0, q.1, (refused_for v tenant command refusal numbers there is, (omega arith, refl)));
+  leaves = free;
+  by_maps = let q = has_quota v tenant there in (q.0, q.1, refused_for v tenant q.0 command refusal there is);
 }
 
-live_le : (nodes : List NodeView) → live_count nodes ≤ length nodes
-live_le [] = omega arith
-live_le (n ∷ nodes) = let rest = live_le nodes in let one = by n.version.deleted in omega (arith, rest, one)
-  where
-    by : (deleted : Bool) → cond deleted 0 1 ≤ 1
-    by true = omega arith
-    by false = omega arith
-
-live_trees_le : (trees : List Tree) → live_trees trees ≤ length trees
-live_trees_le [] = omega arith
-live_trees_le (t ∷ trees) = let rest = live_trees_le trees in let one = by t.standing in omega (arith, rest, one)
-  where
-    by : (standing : Standing) → one_if_standing standing ≤ 1
-    by Live = omega arith
-    by _ = omega arith
-
--- more nodes and trees leave no fewer steps to a run
-wider : (n nodes t trees : ℕ) → n ≤ nodes → t ≤ trees → 256 * (n + 64) * (t + 1) ≤ 256 * (nodes + 64) * (trees + 1)
-wider n nodes t trees few less =
-    let rows : 256 * (n + 64) ≤ 256 * (nodes + 64) = omega (arith, few) in
-    let by_rows = mul-le-mul_right (t + 1) rows in
-    let rounds : t + 1 ≤ trees + 1 = omega (arith, less) in
-    let by_rounds = mul-le-mul_left (256 * (nodes + 64)) rounds in
-    omega (arith, by_rows, by_rounds)
-
-most_wider : (scans : Bool) (n nodes t trees : ℕ) → n ≤ nodes → t ≤ trees → most_among scans n t ≤ most_among scans nodes trees
-most_wider true n nodes t trees few less = wider n nodes t trees few less
-most_wider false n nodes t trees few less = omega (arith, few)
-
--- a run of a command has its numbers where they are left after it
-numbers_for : (mid new : StateView) (command : Command) → Keeps mid new → HasNumbersFor new (is_scan command) → mid.steps + most_steps mid command ≤ 2 ^ 59
-numbers_for mid new command k numbers =
-    let nodes : live_count mid.arena.nodes ≤ length new.arena.nodes = let live = live_le mid.arena.nodes in omega (arith, live, k.nodes) in
-    let trees : live_trees mid.arena.trees ≤ length new.arena.trees = let live = live_trees_le mid.arena.trees in omega (arith, live, k.trees) in
-    let most = most_wider (is_scan command) (live_count mid.arena.nodes) (length new.arena.nodes) (live_trees mid.arena.trees) (length new.arena.trees) nodes trees in
-    omega (arith, most, k.steps, numbers)
+-- no operation is open before a begin, as long as a number is left
+pub idle_before : (v : StateView) (stuck : Option Ticket) → AreOpen v stuck → (v.steps ≢ 2 ^ 59 → stuck ≡ None) → v.steps ≢ 2 ^ 59 → IsIdle v
+idle_before v stuck alone free left = subst (AreOpen v) (free left) alone left
 
 -- a begin in a state in which no operation is open, as long as a number is left
 module _ (old mid : StateView) (o tenant : ℕ) (command : Command) (right : IsRightState old) (idle : old.steps ≢ 2 ^ 59 → IsIdle old) (b : Begins old mid o 0 tenant command) (may : IsAdmissible old tenant command) where
@@ -125,23 +83,20 @@ module _ (old mid : StateView) (o tenant : ℕ) (command : Command) (right : IsR
       known None e = refl
       known (Some q) e = absurd (no_value (sym (idle may.numbered q) ∙ (right.holders k q inside e).1))
 
-  begun_alone : mid.steps + most_steps mid command ≤ 2 ^ 59 → IsAlone mid o op
-  begun_alone numbers = record {
+  begun_alone : IsAlone mid o op
+  begun_alone = record {
     there = b.there;
     first = refl;
     enters = refl;
     free = subst (λ (v : ArenaView). (k : ℕ) → k < length v.nodes → (at v k).holder ≡ None) (sym arena_stands) free_before;
-    numbers = numbers;
   }
 
   module _ (new : StateView) (result : Result Reply Unfinished) (f : Finishes mid new o result) where
     keeps : Keeps old new
     keeps = keeps_on old mid new begin_keeps f.keeps
 
-    told : HasNumbersFor new (is_scan command) → TellsRun (record old { table = mid.table }) new op result
-    told numbers =
-        subst (λ (v : StateView). TellsRun v new op result) b.stands
-        (f.alone op (begun_alone (numbers_for mid new command f.keeps numbers)))
+    told : TellsRun (record old { table = mid.table }) new op result
+    told = subst (λ (v : StateView). TellsRun v new op result) b.stands (f.alone op begun_alone)
 
     there : IsSome (account_of old.accounts tenant)
     there = may.there
@@ -180,18 +135,25 @@ module _ (old mid : StateView) (o tenant : ℕ) (command : Command) (right : IsR
     granted_is : was.quotas tenant ≡ Some quota
     granted_is = (has_quota old tenant there).1
 
+    -- one that is not finished has taken effect, or nothing has changed
+    may_apply : MayHaveRun (record old { table = mid.table }) new op → MayApply tenant quota command was (maps_in new (Some tenant))
+    may_apply may = elim may [
+      | inl none ↦ inr (same_maps old new (Some tenant) keeps none)
+      | inr run ↦ inl (maps_now run.1 run.0 run.2)
+    ]
+
   -- it is answered
   pub answers_done : (new : StateView) (reply : Reply) → Finishes mid new o (Ok reply) → Answers old new tenant command (Ok reply) None
   answers_done new reply f = record {
     keeps = keeps new (Ok reply) f;
     alone = λ left. f.ends;
     leaves = refl;
-    by_maps = λ numbers. (
+    by_maps = (
       quota new (Ok reply) f,
       granted_is new (Ok reply) f,
       (
         may.taken,
-        elim (told new (Ok reply) f numbers) [
+        elim (told new (Ok reply) f) [
           | inl none ↦ inr (none.0, same_maps old new (Some tenant) (keeps new (Ok reply) f) none.1)
           | inr run ↦ inl (reply_now new (Ok reply) f run.0 reply run.1, maps_now new (Ok reply) f run.0 reply run.1)
         ],
@@ -205,34 +167,43 @@ module _ (old mid : StateView) (o tenant : ℕ) (command : Command) (right : IsR
     keeps = keeps new (Err (unfinished.Stuck ticket)) f;
     alone = still_open new o ticket f.ends.0 f.ends.1 f.ends.2;
     leaves = (ticket, refl, subst (IsPlacedToGrow new) (sym f.ends.0) f.ends.3);
-    by_maps = λ numbers. (
+    by_maps = (
       quota new (Err (unfinished.Stuck ticket)) f,
       granted_is new (Err (unfinished.Stuck ticket)) f,
-      elim (told new (Err (unfinished.Stuck ticket)) f numbers) [
-        | inl none ↦ inr (same_maps old new (Some tenant) (keeps new (Err (unfinished.Stuck ticket)) f) none)
-        | inr run ↦ inl (maps_now new (Err (unfinished.Stuck ticket)) f run.1 run.0 run.2)
-      ],
+      may_apply new (Err (unfinished.Stuck ticket)) f (told new (Err (unfinished.Stuck ticket)) f),
     );
   }
 
--- a command behind one that is not finished: its maps stand, and no number is left where that is refused
+  -- no number is left for its next step
+  pub answers_spent : (new : StateView) (ticket : Ticket) → Finishes mid new o (Err (unfinished.Spent ticket)) → Answers old new tenant command (Err (Refused refusals.Spent)) None
+  answers_spent new ticket f = record {
+    keeps = keeps new (Err (unfinished.Spent ticket)) f;
+    alone = λ left. absurd (left f.ends.2);
+    leaves = λ left. refl;
+    by_maps = (
+      quota new (Err (unfinished.Spent ticket)) f,
+      granted_is new (Err (unfinished.Spent ticket)) f,
+      (may.taken, f.ends.2, may_apply new (Err (unfinished.Spent ticket)) f (told new (Err (unfinished.Spent ticket)) f)),
+    );
+  }
+
+-- a command after one that is stuck again: its maps stand
 pub answers_held : (old new : StateView) (stuck : Option Ticket) (tenant : ℕ) (command : Command) (fault : CallerFault) → Clears old new stuck (Err fault) → IsSome (account_of old.accounts tenant)
     → Answers old new tenant command (Err fault) stuck
 answers_held old new stuck tenant command fault c is_there = record {
   keeps = c.keeps;
   alone = c.alone;
   leaves = left fault c.ends;
-  by_maps = λ numbers. let q = has_quota old tenant is_there in (q.0, q.1, held q.0 fault c.ends numbers);
+  by_maps = let q = has_quota old tenant is_there in (q.0, q.1, held q.0 fault c.ends);
 }
   where
     left : (fault : CallerFault) → ClearsTo new stuck (Err fault) → LeavesStuck new stuck (Err fault)
-    left (Refused refusal) spent = λ numbered. absurd (numbered spent)
+    left (Refused refusal) is = absurd is
     left Stuck is = is
 
-    held : (quota : ℕ) (fault : CallerFault) → ClearsTo new stuck (Err fault) → HasNumbersFor new (is_scan command)
-        → MapsAnswer tenant quota (maps_in old (Some tenant)) command (Err fault) (maps_in new (Some tenant))
-    held quota (Refused refusal) spent numbers = absurd (no_numbers new (is_scan command) numbers spent)
-    held quota Stuck e numbers = inr (same_maps old new (Some tenant) c.keeps c.stands)
+    held : (quota : ℕ) (fault : CallerFault) → ClearsTo new stuck (Err fault) → MapsAnswer tenant quota (maps_in old (Some tenant)) command (Err fault) (maps_in new (Some tenant))
+    held most (Refused refusal) is = absurd is
+    held most Stuck e = inr (same_maps old new (Some tenant) c.keeps c.stands)
 
 -- numbers that were given and nothing else, before a command: it is answered by the maps as they were before that
 numbers_on : (was now new : TenantMaps) → GivesNumbers was now → GivesNumbers now new → GivesNumbers was new
@@ -241,6 +212,17 @@ numbers_on was now new g h = (omega (arith, g.0, h.0), h.1 ∙ ap (λ (x : Tenan
 applies_on : (was now new : TenantMaps) (tenant quota : ℕ) (command : Command) → GivesNumbers was now → Applies tenant quota command now new → Applies tenant quota command was new
 applies_on was now new tenant quota command g a =
     (a.0, omega (arith, g.0, a.1), a.2, a.3 ∙ ap (λ (x : TenantMaps). after_command tenant quota a.0 new.last command x) g.1)
+
+may_on : (was now new : TenantMaps) (tenant quota : ℕ) (command : Command) → GivesNumbers was now → MayApply tenant quota command now new → MayApply tenant quota command was new
+may_on was now new tenant quota command g a = elim a [
+  | inl h ↦ inl (applies_on was now new tenant quota command g h)
+  | inr h ↦ inr (numbers_on was now new g h)
+]
+
+refusal_on : (was now new : TenantMaps) (tenant quota : ℕ) (command : Command) (refusal : Refusal) → GivesNumbers was now → MapsRefusal tenant quota now command refusal new
+    → MapsRefusal tenant quota was command refusal new
+refusal_on was now new tenant most command refusals.Spent g a = (a.0, a.1, may_on was now new tenant most command g a.2)
+refusal_on was now new tenant most command _ g a = (a.0, numbers_on was now new g a.1)
 
 answer_on : (was now new : TenantMaps) (tenant quota : ℕ) (command : Command) (result : Result Reply CallerFault) → GivesNumbers was now → MapsAnswer tenant quota now command result new
     → MapsAnswer tenant quota was command result new
@@ -251,13 +233,10 @@ answer_on was now new tenant quota command (Ok reply) g a = (
     | inr h ↦ inr (h.0, numbers_on was now new g h.1)
   ],
 )
-answer_on was now new tenant quota command (Err (Refused refusal)) g a = (a.0, numbers_on was now new g a.1)
-answer_on was now new tenant quota command (Err Stuck) g a = elim a [
-  | inl h ↦ inl (applies_on was now new tenant quota command g h)
-  | inr h ↦ inr (numbers_on was now new g h)
-]
+answer_on was now new tenant quota command (Err (Refused refusal)) g a = refusal_on was now new tenant quota command refusal g a
+answer_on was now new tenant quota command (Err Stuck) g a = may_on was now new tenant quota command g a
 
--- a command behind one that is done with
+-- a command after one that is done with
 pub answers_behind : (old mid new : StateView) (kept stuck : Option Ticket) (tenant : ℕ) (command : Command) (result : Result Reply CallerFault) (done : Unit {0}) → Clears old mid kept (Ok done)
     → Answers mid new tenant command result stuck → Answers old new tenant command result stuck
 answers_behind old mid new kept stuck tenant command result done c a =
@@ -266,23 +245,13 @@ answers_behind old mid new kept stuck tenant command result done c a =
       keeps = keeps_on old mid new c.keeps a.keeps;
       alone = a.alone;
       leaves = a.leaves;
-      by_maps = λ numbers.
-          let m = a.by_maps numbers in (
+      by_maps =
+          let m = a.by_maps in (
             m.0,
             sym (ap (λ (x : TenantMaps). x.quotas tenant) same.1) ∙ m.1,
             answer_on (maps_in old (Some tenant)) (maps_in mid (Some tenant)) (maps_in new (Some tenant)) tenant m.0 command result same m.2,
           );
     }
-
--- numbers were left before where they are now
-pub numbers_back : (old new : StateView) (scans : Bool) → Keeps old new → HasNumbersFor new scans → HasNumbersFor old scans
-numbers_back old new scans k numbers =
-    let less = most_wider scans (length old.arena.nodes) (length new.arena.nodes) (length old.arena.trees) (length new.arena.trees) k.nodes k.trees in omega (arith, k.steps, less, numbers)
-
--- those of a scan are those of any command
-pub numbers_each : (v : StateView) (scans : Bool) → HasNumbers v → HasNumbersFor v scans
-numbers_each v true numbers = numbers
-numbers_each v false numbers = let all = mul-add (256 * (length v.arena.nodes + 64)) (length v.arena.trees) 1 in omega (arith, numbers, all)
 
 -- all maps are empty in a new state
 pub maps_new : (accounts : Accounts) → maps_in (new_state 0 accounts) None ≡ fresh_maps (λ t. granted_in (account_of accounts t))

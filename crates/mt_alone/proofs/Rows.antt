@@ -1,5 +1,5 @@
 -- Maps with the same rows, whatever their stamps: what commands that ask for no stamp are told by them, and leave. For the law `one_text`.
-use Rattle.mt_alone.specs.TenantMaps.{HaveSameRows, IsWithoutStamp, row_in}
+use Rattle.mt_alone.specs.Texts.{HaveSameRows, IsWithoutStamp, row_in}
 use Rattle.mt_rows.proofs.CommandLaws.{keys_total, same_rows}
 use Rattle.mt_rows.specs.Changes.{Named, changed}
 use Rattle.mt_rows.specs.Maps.{Map, is_walked, map_after_put, map_after, reply_of, scanned, told_of_put, told_of_remove, told_of_row}

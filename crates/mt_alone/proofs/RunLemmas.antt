@@ -128,12 +128,12 @@ module _ (old done taken new : StateView) (o : ℕ) (answer : Answer) (only : Is
   told_now : (op : OperationView) → EndsAlone old done o op DoneMove → TellsRun old new op (Ok answer.reply)
   told_now op e =
       let same : e.after ≡ t.op = same_Some e.after t.op (sym e.there ∙ t.there) in
-      let told : e.told ≡ record { reply = answer.reply; at = answer.at } = same_Some e.told (record { reply = answer.reply; at = answer.at }) (sym e.has ∙ ap (λ (x : OperationView). x.outcome) same ∙ t.told.told) in
-      let reply : e.told.reply ≡ answer.reply = ap (λ (x : Outcome). x.reply) told in
-      elim e.outcome [
+      let told : e.makes.told ≡ record { reply = answer.reply; at = answer.at } = same_Some e.makes.told (record { reply = answer.reply; at = answer.at }) (sym e.makes.has ∙ ap (λ (x : OperationView). x.outcome) same ∙ t.told.told) in
+      let reply : e.makes.told.reply ≡ answer.reply = ap (λ (x : Outcome). x.reply) told in
+      elim e.makes.outcome [
         | inl none ↦ inl (sym reply ∙ none.0, contents_stand ∙ none.1)
         | inr run ↦ inr (
-          e.told.at,
+          e.makes.told.at,
           record {
             since = run.since;
             upto = omega (arith, run.upto, taken_keeps.steps);
@@ -162,7 +162,7 @@ finishes_spent old new ticket only r alone =
     record {
       keeps = c.keeps;
       ends = (refl, only_on old new o only c, ap (λ (v : StateView). v.steps) r.tells.0 ∙ r.tells.2);
-      alone = λ op h. absurd ((alone op h).ends);
+      alone = λ op h. (alone op h).makes;
       stands = λ h. (c.settled h).1;
       settled = λ h. (c.settled h).0;
     }
@@ -193,9 +193,9 @@ finishes_stuck old new ticket only r alone right =
     record {
       keeps = c.keeps;
       ends = (refl, only_on old new o only c, settled, p);
-      alone = λ op h. elim ((alone op h).outcome) [
+      alone = λ op h. elim ((alone op h).makes.outcome) [
         | inl none ↦ inl none.1
-        | inr run ↦ inr ((alone op h).told.reply, (alone op h).told.at, run)
+        | inr run ↦ inr ((alone op h).makes.told.reply, (alone op h).makes.told.at, run)
       ];
       stands = λ h. (c.settled h).1;
       settled = λ h. settled;

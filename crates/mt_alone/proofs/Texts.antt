@@ -1,17 +1,17 @@
--- A session over sorted maps writes one text, where no reply tells of want of memory and no request asks for a stamp. For the law `one_text`.
+-- A session over sorted maps writes one text, where no reply tells of want and no request asks for a stamp. For the law `one_text`.
 use Rattle.std.proofs.Common.{◌≡◌, ◌⊎◌, ℕ, Bool, true, false, cond, eqb, List, [], ◌∷◌, Option, None, Some, Result, Ok, Err, refl, sym, ap, subst, ◌∙◌, inl, inr}
 use Rattle.std.proofs.lemmas.Option.{same_Some}
 use Rattle.std.specs.List.{flat_map, AllByRecursion}
 use Rattle.mt_rows.specs.{Rows.Bytes, declared.command.Command.Command, declared.reply.Reply.Reply, declared.reply.Reply.TheVariants.NoMemory}
-use Rattle.mt_rows.specs.{declared.refusal.Refusal.Refusal, declared.refusal.Refusal.TheVariants.Memory, Commands.IsFirstFault, Maps.{reply_of, map_after}}
+use Rattle.mt_rows.specs.{declared.refusal.Refusal.Refusal, declared.refusal.Refusal.TheVariants.{Memory, Spent}, Commands.IsFirstFault, Maps.{reply_of, map_after}}
 use Rattle.mt_wire.specs.{declared.message.Request.Request, declared.message.Request.TheVariants.{Open, Call, GetStamped, Settle}, declared.message.WireReply.WireReply}
 use Rattle.mt_wire.specs.{declared.message.WireReply.TheVariants.Told, Asked.shown_as, Fronts.IsReadingEnd, Replies.reply_spelling}
 use Rattle.mt_wire.proofs.{FrameLaws.one_reading, RequestLaws.requests}
 use Rattle.mt_session.specs.{declared.caller.CallerFault.CallerFault, declared.caller.CallerFault.TheVariants.{Refused, Stuck}}
 use Rattle.mt_session.specs.Sessions.{IsReply, AreReplies, Transcript, refused, call_told, open_told, open_after, settle_told}
 use Rattle.mt_session.proofs.PlainCallers.{fault_not_taken, fault_same}
-use Rattle.mt_state.specs.Refused.{IsFault}
-use Rattle.mt_alone.specs.TenantMaps.{TenantMaps, Applies, GivesNumbers, MapsOpen, MapsAnswer, MapsCall, MapsExchange, IsAmple, IsWithoutStamp, AsksNoStamp, HaveSameRows, AreSameButStamps}
+use Rattle.mt_alone.specs.TenantMaps.{TenantMaps, Applies, GivesNumbers, MapsOpen, MapsRefusal, MapsAnswer, MapsCall, MapsExchange}
+use Rattle.mt_alone.specs.Texts.{IsAmple, IsWithoutStamp, AsksNoStamp, HaveSameRows, AreSameButStamps}
 use Rattle.mt_alone.proofs.Rows.{same_reply, same_after}
 
 -- what stays is the same as before
@@ -31,10 +31,12 @@ open_same (Some quota) tenant d c a b e f s p q = (
   stays_same (record d { opened = Some tenant }) (record c { opened = Some tenant }) e f p.1 q.1 (record { quotas = s.quotas; opened = refl; rows = s.rows }),
 )
 
--- a refusal that tells of no want of memory is a first fault
-first_fault : (command : Command) (refusal : Refusal) (w : WireReply) → IsFault command refusal → call_told false (Err (Refused refusal)) ≡ Some w → IsAmple w → IsFirstFault command refusal
-first_fault command Memory w is told ample = absurd (ample.1 (sym (same_Some (refused Memory) w told)))
-first_fault command _ w is told ample = is
+-- a refusal that tells of no want is a first fault, and leaves the maps
+pub first_fault : (tenant quota : ℕ) (d : TenantMaps) (command : Command) (refusal : Refusal) (e : TenantMaps) (w : WireReply)
+    → MapsRefusal tenant quota d command refusal e → call_told false (Err (Refused refusal)) ≡ Some w → IsAmple w → IsFirstFault command refusal × GivesNumbers d e
+first_fault tenant quota d command Memory e w is told ample = absurd (ample.1 (sym (same_Some (refused Memory) w told)))
+first_fault tenant quota d command Spent e w is told ample = absurd (ample.2 (sym (same_Some (refused Spent) w told)))
+first_fault tenant quota d command _ e w is told ample = is
 
 -- a reply that was given by the map, where memory sufficed
 by_map : (tenant quota : ℕ) (d : TenantMaps) (command : Command) (reply : Reply) (e : TenantMaps) (w : WireReply)
@@ -60,11 +62,13 @@ answer_same tenant quota d c command (Ok r) (Ok y) e f w v s free p q told said 
     let one = by_map tenant quota d command r e w p.1 told ample in
     let two = by_map tenant quota c command y f v q.1 said enough in
     (one.0 ∙ ap Told (same_reply quota command (d.maps tenant) (c.maps tenant) (s.rows tenant) free) ∙ sym two.0, applied_same tenant quota command d c e f s free one.1 two.1)
-answer_same tenant quota d c command (Ok r) (Err (Refused g)) e f w v s free p q told said ample enough = absurd (fault_not_taken command g p.0 (first_fault command g v q.0 said enough))
-answer_same tenant quota d c command (Err (Refused g)) (Ok y) e f w v s free p q told said ample enough = absurd (fault_not_taken command g q.0 (first_fault command g w p.0 told ample))
+answer_same tenant quota d c command (Ok r) (Err (Refused g)) e f w v s free p q told said ample enough = absurd (fault_not_taken command g p.0 (first_fault tenant quota c command g f v q said enough).0)
+answer_same tenant quota d c command (Err (Refused g)) (Ok y) e f w v s free p q told said ample enough = absurd (fault_not_taken command g q.0 (first_fault tenant quota d command g e w p told ample).0)
 answer_same tenant quota d c command (Err (Refused g)) (Err (Refused h)) e f w v s free p q told said ample enough =
-    let same = fault_same command g h (first_fault command g w p.0 told ample) (first_fault command h v q.0 said enough) in
-    (same_Some w v (sym told ∙ ap (λ (r : Refusal). call_told false (Err (Refused r))) same ∙ said), numbers_same d c e f p.1 q.1 s)
+    let one = first_fault tenant quota d command g e w p told ample in
+    let two = first_fault tenant quota c command h f v q said enough in
+    let same = fault_same command g h one.0 two.0 in
+    (same_Some w v (sym told ∙ ap (λ (r : Refusal). call_told false (Err (Refused r))) same ∙ said), numbers_same d c e f one.1 two.1 s)
 answer_same tenant quota d c command (Err Stuck) b e f w v s free p q told said ample enough = absurd (cc)
 answer_same tenant quota d c command (Ok r) (Err Stuck) e f w v s free p q told said ample enough = absurd (cc)
 answer_same tenant quota d c command (Err (Refused g)) (Err Stuck) e f w v s free p q told said ample enough = absurd (cc)

@@ -1,9 +1,9 @@
 -- What a caller over one state shows, keeps and answers.
-use Rattle.std.specs.Prelude.{◌≡◌, ◌≢◌, ℕ, ◌+◌, ◌^◌, ◌≤◌, Bool, true, false, [], Option, Some, None, IsSome, Result, Ok, Err, length}
-use Rattle.mt_rows.specs.{declared.command.Command.Command, declared.reply.Reply.Reply, Accounts.account_of, Maps.is_scan, Tenants.tenant_map}
+use Rattle.std.specs.Prelude.{◌≡◌, ◌≢◌, ℕ, ◌^◌, [], Option, Some, None, IsSome, Result, Ok, Err}
+use Rattle.mt_rows.specs.{declared.command.Command.Command, declared.reply.Reply.Reply, Accounts.account_of, Tenants.tenant_map}
 use Rattle.mt_session.specs.{declared.caller.CallerFault.CallerFault, declared.caller.CallerFault.TheVariants.{Refused, Stuck}, Exchanges.{Exchange, Calls}}
 use Rattle.mt_state.specs.{Views.{StateView, contents_of, granted}, Promises.IsPlacedToGrow}
-use Rattle.mt_core.specs.{declared.answers.Ticket.Ticket, Alone.most_among}
+use Rattle.mt_core.specs.declared.answers.Ticket.{Ticket}
 use Rattle.mt_alone.specs.{TenantMaps.{TenantMaps, tenant_maps, MapsCall, MapsExchange}, Runs.{Keeps, IsIdle, IsOnly, IsSettled}}
 
 -- the state, the opened tenant, and the ticket of the command that is stuck
@@ -38,28 +38,11 @@ pub record IsRightAlone (state : StateView) (opened : Option ℕ) (stuck : Optio
   pub alone : AreOpen state stuck
   pub there : IsThere state opened
 
--- numbers are left for a whole run, of a scan or of another command, however many of the nodes and trees are live
-abbrev pub HasNumbersFor : StateView → Bool → Type 0
-HasNumbersFor v scans = v.steps + most_among scans (length v.arena.nodes) (length v.arena.trees) ≤ 2 ^ 59
-
--- of any command, since a scan may take the most
-abbrev pub HasNumbers : StateView → Type 0
-HasNumbers v = HasNumbersFor v true
-
--- whether a scan is asked
-abbrev pub scans_in : Exchange → Bool
-scans_in (Calls command answer) = is_scan command
-scans_in _ = false
-
--- what the tenants' maps answer to all but scans, of which nothing is said
-abbrev pub MapsPointExchange : TenantMaps → Exchange → TenantMaps → Type 0
-MapsPointExchange old exchange new = scans_in exchange ≡ false → MapsExchange old exchange new
-
 -- the command that is stuck has placed its change, and wants memory for a node again
 abbrev pub IsStuck : StateView → Option Ticket → Type 0
 IsStuck v stuck = (ticket : Ticket) × (stuck ≡ Some ticket) × IsPlacedToGrow v ticket.id
 
--- What is stuck after a call of an opened tenant: after a reply or a refusal nothing, unless no number is left; a call is answered Stuck only if a command is.
+-- What is stuck after a call of an opened tenant: after a reply nothing, nor after a refusal while numbers are left; a call is answered Stuck only if a command is.
 abbrev pub LeavesStuck : StateView → Option Ticket → Result Reply CallerFault → Type 0
 LeavesStuck new stuck (Ok reply) = stuck ≡ None
 LeavesStuck new stuck (Err (Refused refusal)) = new.steps ≢ 2 ^ 59 → stuck ≡ None
@@ -69,16 +52,16 @@ abbrev pub LeavesBy : Exchange → AloneView → Type 0
 LeavesBy (Calls command answer) new = new.opened ≢ None → LeavesStuck new.state new.stuck answer
 LeavesBy _ new = Unit {0}
 
--- What is answered: as long as numbers are left for a whole run of what was asked, what the tenants' maps answer. A stuck command is run on first.
+-- What is answered: what the tenants' maps answer. A stuck command is run on first.
 pub record AloneExchange (old : AloneView) (exchange : Exchange) (new : AloneView) : Type 0 where
   pub keeps : Keeps old.state new.state
   pub leaves : LeavesBy exchange new
-  pub by_maps : HasNumbersFor new.state (scans_in exchange) → MapsExchange (maps_of old) exchange (maps_of new)
+  pub by_maps : MapsExchange (maps_of old) exchange (maps_of new)
 
--- the command that is stuck is done with, or wants memory again; its refusal is that no number is left
+-- the command that is stuck is done with, unless no number is left, or it wants memory again
 abbrev pub ClearsTo : StateView → Option Ticket → Result (Unit {0}) CallerFault → Type 0
-ClearsTo new stuck (Ok done) = stuck ≡ None
-ClearsTo new stuck (Err (Refused refusal)) = new.steps ≡ 2 ^ 59
+ClearsTo new stuck (Ok done) = new.steps ≢ 2 ^ 59 → stuck ≡ None
+ClearsTo new stuck (Err (Refused refusal)) = ⊥
 ClearsTo new stuck (Err Stuck) = IsStuck new stuck
 
 -- the command that is stuck is run on, which changes no map
@@ -93,4 +76,4 @@ pub record Answers (old new : StateView) (tenant : ℕ) (command : Command) (res
   pub keeps : Keeps old new
   pub alone : AreOpen new stuck
   pub leaves : LeavesStuck new stuck result
-  pub by_maps : HasNumbersFor new (is_scan command) → MapsCall (Some tenant) (maps_in old (Some tenant)) command result (maps_in new (Some tenant))
+  pub by_maps : MapsCall (Some tenant) (maps_in old (Some tenant)) command result (maps_in new (Some tenant))

@@ -3,7 +3,7 @@ use Rattle.std.specs.Prelude.{◌≡◌, ◌≢◌, ℕ, ◌^◌, ◌≤◌, ◌
 use Rattle.mt_rows.specs.{declared.reply.Reply.Reply, declared.reply.Reply.TheVariants.NoMemory}
 use Rattle.mt_operation.specs.{declared.outcome.Outcome.Outcome, Operations.OperationView, Phases.is_unplaced}
 use Rattle.mt_state.specs.{Views.{StateView, contents_of, op_at, granted}, Steps.change_in, Promises.{HasStep, IsPlacedToGrow}}
-use Rattle.mt_core.specs.Alone.{IsAlone, IsRun}
+use Rattle.mt_core.specs.Alone.{IsAlone, IsRun, MayHaveRun}
 use Rattle.mt_alone.specs.{declared.runs.Unfinished.Unfinished, declared.runs.Unfinished.TheVariants.{Spent, Stuck}}
 
 -- what stays of a state: no number falls, no node and no tree goes, and logs, tenants and quotas are the same
@@ -40,11 +40,10 @@ EndsRun new o (Err (Spent ticket)) = (ticket.id ≡ o) × IsOnly new o × (new.s
 EndsRun new o (Err (Stuck ticket)) = (ticket.id ≡ o) × IsOnly new o × IsSettled new o × IsPlacedToGrow new o
 
 -- What a run tells of an operation that is alone from its first step on: its reply and its change, by the number of one of its steps, or that no memory was
--- there and nothing changed; one that is stuck has made its change, or none.
+-- there and nothing changed; one that isn't finished has made its change, or none.
 abbrev pub TellsRun : StateView → StateView → OperationView → Result Reply Unfinished → Type 0
 TellsRun old new op (Ok reply) = ((reply ≡ NoMemory) × (contents_of new ≡ contents_of old)) ⊎ ((number : ℕ) × IsRun old new op number reply)
-TellsRun old new op (Err (Spent ticket)) = ⊥
-TellsRun old new op (Err (Stuck ticket)) = (contents_of new ≡ contents_of old) ⊎ ((reply : Reply) × (number : ℕ) × IsRun old new op number reply)
+TellsRun old new op (Err unfinished) = MayHaveRun old new op
 
 -- an operation that was settled is so after a run that didn't finish it
 abbrev pub StaysSettled : StateView → ℕ → Result Reply Unfinished → Type 0

@@ -1,15 +1,12 @@
 -- What a caller answers that keeps a sorted map for each tenant.
-use Rattle.std.specs.Prelude.{◌≡◌, ◌≢◌, ℕ, ◌<◌, ◌≤◌, ◌==◌, ◌⊎◌, if◌then◌else◌, Option, Some, None, Result, Ok, Err}
-use Rattle.mt_rows.specs.{declared.command.Command.Command, declared.command.Command.TheVariants.PutIf, declared.reply.Reply.Reply, declared.reply.Reply.TheVariants.NoMemory}
-use Rattle.mt_rows.specs.{declared.refusal.Refusal.Refusal, declared.refusal.Refusal.TheVariants.{Memory, NoTenant, NotOpen, NoStore}, Commands.IsTaken}
-use Rattle.mt_rows.specs.{Maps.{Map, reply_of, map_after}, Rows.{Bytes, Columns}, Stamps.Stamped}
+use Rattle.std.specs.Prelude.{◌≡◌, ℕ, ◌^◌, ◌<◌, ◌≤◌, ◌==◌, ◌⊎◌, if◌then◌else◌, Option, Some, None, Result, Ok, Err}
+use Rattle.mt_rows.specs.{declared.command.Command.Command, declared.reply.Reply.Reply, declared.reply.Reply.TheVariants.NoMemory}
+use Rattle.mt_rows.specs.{declared.refusal.Refusal.Refusal, declared.refusal.Refusal.TheVariants.{NoTenant, NotOpen, NoStore, Spent}, Commands.IsTaken}
+use Rattle.mt_rows.specs.Maps.{Map, reply_of, map_after}
 use Rattle.mt_runs.specs.Placings.{Maps, no_pairs}
-use Rattle.mt_wire.specs.{declared.message.Request.Request, declared.message.Request.TheVariants.{Call, GetStamped}, declared.message.WireReply.WireReply, declared.message.WireReply.TheVariants.Told}
 use Rattle.mt_session.specs.{declared.caller.CallerFault.CallerFault, declared.caller.CallerFault.TheVariants.{Refused, Stuck}}
-use Rattle.mt_session.specs.{Exchanges.{Exchange, Opens, Calls, Settles}, Sessions.refused}
+use Rattle.mt_session.specs.Exchanges.{Exchange, Opens, Calls, Settles}
 use Rattle.mt_state.specs.Refused.{IsFault}
-use Rattle.mt_wire.specs.declared.message.Shown.TheVariants as shown
-use Rattle.std.specs.FinMap as pairs
 
 -- each tenant's quota, where there is such a tenant; each tenant's map; the tenant that is opened; and the last number that was given
 pub record TenantMaps : Type 0 where
@@ -41,17 +38,27 @@ Applies tenant quota command old new = (number : ℕ) × (old.last < number) × 
 abbrev pub GivesNumbers : TenantMaps → TenantMaps → Type 0
 GivesNumbers old new = (old.last ≤ new.last) × (new ≡ record old { last = new.last })
 
+-- a command has taken effect, or nothing has changed
+abbrev pub MayApply : ℕ → ℕ → Command → TenantMaps → TenantMaps → Type 0
+MayApply tenant quota command old new = Applies tenant quota command old new ⊎ GivesNumbers old new
+
 -- A tenant that is there is opened; of another one NoTenant is told.
 abbrev pub MapsOpen : Option ℕ → TenantMaps → ℕ → Option Refusal → TenantMaps → Type 0
 MapsOpen (Some quota) old tenant refusal new = (refusal ≡ None) × (new ≡ record old { opened = Some tenant })
 MapsOpen None old tenant refusal new = (refusal ≡ Some (NoTenant tenant)) × (new ≡ old)
 
--- A command is answered by its tenant's map, which is then the one that it leaves by a number over all before it. Or it is answered NoMemory, or refused for its
--- first fault or want of memory, and no map changes. One that is stuck has no answer: it has left that map, or no map changed.
+-- A command is refused for its first fault, or without one for want of memory; then no map changes. Or it is refused without a fault since the last number is
+-- given, which is 2 to the 59th.
+abbrev pub MapsRefusal : ℕ → ℕ → TenantMaps → Command → Refusal → TenantMaps → Type 0
+MapsRefusal tenant quota old command Spent new = IsTaken command × (new.last ≡ 2 ^ 59) × MayApply tenant quota command old new
+MapsRefusal tenant quota old command refusal new = IsFault command refusal × GivesNumbers old new
+
+-- A command is answered by its tenant's map, which is then the one that it leaves by a number over all before it. Or it is answered NoMemory, and no map changes.
+-- Or it is refused. One that is stuck has no answer: it has left that map, or no map changed.
 abbrev pub MapsAnswer : ℕ → ℕ → TenantMaps → Command → Result Reply CallerFault → TenantMaps → Type 0
 MapsAnswer tenant quota old command (Ok reply) new = IsTaken command × (((reply ≡ reply_of quota command (old.maps tenant)) × Applies tenant quota command old new) ⊎ ((reply ≡ NoMemory) × GivesNumbers old new))
-MapsAnswer tenant quota old command (Err (Refused refusal)) new = IsFault command refusal × GivesNumbers old new
-MapsAnswer tenant quota old command (Err Stuck) new = Applies tenant quota command old new ⊎ GivesNumbers old new
+MapsAnswer tenant quota old command (Err (Refused refusal)) new = MapsRefusal tenant quota old command refusal new
+MapsAnswer tenant quota old command (Err Stuck) new = MayApply tenant quota command old new
 
 -- a command is one of the opened tenant; where none is opened, it is refused
 abbrev pub MapsCall : Option ℕ → TenantMaps → Command → Result Reply CallerFault → TenantMaps → Type 0
@@ -63,32 +70,3 @@ abbrev pub MapsExchange : TenantMaps → Exchange → TenantMaps → Type 0
 MapsExchange old (Opens tenant refusal) new = MapsOpen (old.quotas tenant) old tenant refusal new
 MapsExchange old (Calls command answer) new = MapsCall old.opened old command answer new
 MapsExchange old (Settles answer) new = (answer ≡ Err NoStore) × (new ≡ old)
-
--- a reply that tells of no want of memory
-abbrev pub IsAmple : WireReply → Type 0
-IsAmple reply = (reply ≢ Told shown.NoMemory) × (reply ≢ refused Memory)
-
--- a command that asks for no stamp, and a request that neither asks for one nor for one to be shown
-abbrev pub IsWithoutStamp : Command → Type 0
-IsWithoutStamp (PutIf key stamp change) = ⊥
-IsWithoutStamp _ = Unit {0}
-
-abbrev pub AsksNoStamp : Request → Type 0
-AsksNoStamp (Call command) = IsWithoutStamp command
-AsksNoStamp (GetStamped key columns) = ⊥
-AsksNoStamp _ = Unit {0}
-
--- the row that stands at a key, without its stamp
-abbrev pub row_in : Option Stamped → Option Columns
-row_in None = None
-row_in (Some r) = Some r.row
-
--- two maps with the same rows, whatever their stamps
-abbrev pub HaveSameRows : Map → Map → Type 0
-HaveSameRows m n = (key : Bytes) → row_in (pairs.get m key) ≡ row_in (pairs.get n key)
-
--- the same tenants, and the same rows in each one's map; stamps and numbers may be others
-pub record AreSameButStamps (d c : TenantMaps) : Type 0 where
-  pub quotas : c.quotas ≡ d.quotas
-  pub opened : c.opened ≡ d.opened
-  pub rows : (t : ℕ) → HaveSameRows (d.maps t) (c.maps t)

@@ -100,7 +100,8 @@ fn run(
     }
 }
 
-// Finishes the command that is stuck, if one is.
+// Finishes the command that is stuck, if one is. If no number is left for it, it stays, and the next begin is
+// refused.
 fn finish_stuck(state: &mut State, stuck: &mut Option<Ticket>) -> Result<(), CallerFault>
     requires { AreOpen state.old stuck.old }
     ensures { Clears state.old state.new stuck.new result }
@@ -112,7 +113,7 @@ fn finish_stuck(state: &mut State, stuck: &mut Option<Ticket>) -> Result<(), Cal
         Ok(_) => Ok(()),
         Err(Unfinished::Spent(ticket)) => {
             *stuck = Some(ticket);
-            Err(CallerFault::Refused(Refusal::Spent))
+            Ok(())
         }
         Err(Unfinished::Stuck(ticket)) => {
             *stuck = Some(ticket);
@@ -129,8 +130,8 @@ fn answer(
     command: Command,
 ) -> Result<Reply, CallerFault>
     requires logs { state.old.logs ≡ [] }
-    requires idle { state.old.steps ≢ 2 ^ 59 → IsIdle state.old }
-    requires free { stuck.old ≡ None }
+    requires alone { AreOpen state.old stuck.old }
+    requires free { state.old.steps ≢ 2 ^ 59 → stuck.old ≡ None }
     requires there { IsSome (account_of state.old.accounts tenant) }
     ensures { Answers state.old state.new tenant command result stuck.new }
 {
