@@ -1,4 +1,6 @@
 pub mod Answering
+pub mod Seats
+pub mod Serving
 pub mod Chains
 pub mod Gathering
 pub mod Gating

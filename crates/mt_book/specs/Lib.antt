@@ -1,3 +1,4 @@
+pub mod Births
 pub mod Books
 pub mod Calls
 pub mod Does
@@ -6,3 +7,4 @@ pub mod Keeping
 pub mod Names
 pub mod OneRun
 pub mod Periods
+pub mod Serves

@@ -225,6 +225,7 @@ impl<L: Ledger> Book<L> {
             share,
             worker,
             seen: 0,
+            seat: 0,
             aside: None,
         })
     }

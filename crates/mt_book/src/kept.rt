@@ -5,9 +5,10 @@ ghost use Rattle.std.specs.List.{sum_by};
 ghost use Rattle.mt_batches.specs.Batches.{IsBounded, BringsOn};
 ghost use mathlib.Core.List.{IsPrefix};
 ghost use Rattle.mt_history.specs.Legal.{EndsWith, IsLegal};
-ghost use Rattle.mt_book.specs.{declared.passes.Pass.Pass, Books.IsRightBook, Happens.{Adds, Acted, Opened, Given, Leads}, Keeping.{IsUnasked, BeginsUnasked}, Names.AreNames};
+ghost use Rattle.mt_book.specs.{declared.passes.Pass.Pass, Books.IsRightBook, Happens.{Adds, Acted, Opened, Given, Leads}, Keeping.{IsUnasked, BeginsUnasked}, Names.AreNames, Serves.{Serves, clerk_of}};
 ghost use Rattle.mt_book.specs.Periods.{IsOfWorker, look_period, admission_period, FitsAdmission, step_period, FitsStepping, taking_period, FitsTaking, room_of, answers_in};
 
+use crate::births::{Born, clear, expect_own, note, seated};
 use crate::books::{Book, PARTS};
 use crate::desks::{Admission, Desk, Look, Stepping, Taking};
 use crate::gates::Turned;
@@ -17,36 +18,37 @@ use crate::passes::Pass;
 use mt_core::{Displaced, Opening, State, Ticket};
 use mt_drains::DrainedBatch;
 use mt_history::{Mark, Naming, Tip};
-use std::alloc::AllocError;
+use std::alloc::{AllocError, Global};
 use std::marker::Model;
 use std::sync::Wait;
 use std::sync::ledger::{Ledger, Share};
 use std::time::Clock;
 
-/// A book and the history that led to its state, which it knows whole.
+/// A book and the history that led to its state, which it knows whole. By the seats of its passes, what each began last.
 #[derive(Drop)]
 pub struct Kept<L: Ledger, J: Naming> {
     book: Book<L>,
     tip: Tip<State, Periods, J>,
     rest: Share<J>,
     marks: u64,
+    births: Vec<Option<Born>>,
 }
 
 impl<L: Ledger, J: Naming> Model for Kept<L, J> {
     ghost use Rattle.std.specs.Prelude.{◌≡◌, ◌+◌};
     ghost use Rattle.mt_history.specs.Legal.{EndsWith};
-    ghost use Rattle.mt_book.specs.Keeping.{KeptView, BeginsUnasked};
+    ghost use Rattle.mt_book.specs.{Keeping.{KeptView, BeginsUnasked}, Births.AreBorn};
 
     ghost Value = { KeptView };
 
     ghost view = { λ k. record { state = k.book.state; log = k.tip; total = k.book.total.total; parts = k.book.rest.parts; opened = k.book.opened; marks = k.marks } };
 
-    ghost invariant = { λ k. EndsWith k.tip k.book.state × BeginsUnasked k.tip × (k.rest.parts + k.marks ≡ 65536) × (k.rest.amount ≡ 0) × (J.parts ≡ 65536) };
+    ghost invariant = { λ k. EndsWith k.tip k.book.state × BeginsUnasked k.tip × (k.rest.parts + k.marks ≡ 65536) × (k.rest.amount ≡ 0) × (J.parts ≡ 65536) × AreBorn k.book.state.table k.births.items };
 }
 
 impl<L: Ledger, J: Naming> Kept<L, J> {
     /// A book of a state of which nothing was asked, under these names. Its history begins with the state.
-    pub fn new(names: Names, state: State) -> Kept<L, J>
+    pub fn new(alloc: Global, names: Names, state: State) -> Kept<L, J>
         requires names { AreNames L.name L.parts J.name J.parts J.book names state }
         requires unasked { IsUnasked state }
         ensures state { result.state ≡ state }
@@ -63,6 +65,7 @@ impl<L: Ledger, J: Naming> Kept<L, J> {
             tip,
             rest,
             marks: 0,
+            births: Vec::new(alloc),
         }
     }
 
@@ -100,13 +103,15 @@ impl<L: Ledger, J: Naming> Kept<L, J> {
         pass: &Pass<L>,
         opening: Opening,
         mark: &mut Mark<State, Periods, J>,
+        birth: &mut u64,
     ) -> Admission
         requires { IsOfWorker pass.now.worker opening.made }
-        ensures does { Adds (Acted (admission_period opening result)) mark.old mark.new }
+        ensures does { Serves (clerk_of mark.old birth.old) (admission_period opening result) (clerk_of mark.new birth.new) }
         ensures fits { FitsAdmission pass.now.seen pass.now.worker opening result }
     {
         self.book.facts();
         let admission = Desk::admit(&mut self.book, rt, pass, opening);
+        note(rt, &mut self.births, pass.seat, &admission, birth);
         self.tip.add(rt, mark, self.book.state());
         admission
     }
@@ -118,11 +123,13 @@ impl<L: Ledger, J: Naming> Kept<L, J> {
         turned: Turned,
         ticket: &Ticket,
         mark: &mut Mark<State, Periods, J>,
+        birth: u64,
     ) -> Stepping
         requires { turned.op ≡ ticket.now.id }
-        ensures does { Adds (Acted (step_period ticket.now.id turned result)) mark.old mark.new }
+        ensures does { Serves (clerk_of mark.old birth) (step_period ticket.now.id turned result) (clerk_of mark.new birth) }
         ensures fits { FitsStepping pass.now.seen result }
     {
+        expect_own(rt, &self.births, pass.seat, ticket, birth);
         self.book.facts();
         let stepping = Desk::step(&mut self.book, rt, pass, turned, ticket);
         self.tip.add(rt, mark, self.book.state());
@@ -136,16 +143,20 @@ impl<L: Ledger, J: Naming> Kept<L, J> {
         ticket: Ticket,
         displaced: &mut Displaced,
         mark: &mut Mark<State, Periods, J>,
+        birth: u64,
     ) -> Taking
-        ensures does { Adds (Acted (taking_period ticket.id (room_of displaced.old) result)) mark.old mark.new }
+        ensures does { Serves (clerk_of mark.old birth) (taking_period ticket.id (room_of displaced.old) result) (clerk_of mark.new birth) }
         ensures fits { FitsTaking pass.old.seen ticket result }
         ensures kept { answers_in result.told ≡ 0 → displaced.new ≡ displaced.old }
         ensures share { pass.new.share.amount ≡ pass.old.share.amount + answers_in result.told }
         ensures worker { pass.new.worker ≡ pass.old.worker }
         ensures seen { pass.new.seen ≡ pass.old.seen }
     {
+        let seat = pass.seat;
+        expect_own(rt, &self.births, seat, &ticket, birth);
         self.book.facts();
         let taking = Desk::take(&mut self.book, rt, pass, ticket, displaced);
+        clear(&mut self.births, seat, &taking);
         self.tip.add(rt, mark, self.book.state());
         taking
     }
@@ -174,8 +185,10 @@ impl<L: Ledger, J: Naming> Kept<L, J> {
         if self.marks >= PARTS - 1 {
             return None;
         }
+        let seat = seated(&mut self.births)?;
         self.book.facts();
-        let pass = self.book.open_pass(worker)?;
+        let mut pass = self.book.open_pass(worker)?;
+        pass.seat = seat;
         self.marks += 1;
         let mut mark = self.tip.mark(self.rest.split_off(1, 0));
         self.tip.add(rt, &mut mark, self.book.state());

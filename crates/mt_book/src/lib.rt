@@ -5,6 +5,7 @@
 //! of which periods a call is made, `specs/Books.antt` what holds whenever the lock is free.
 #![tactic(auto)]
 
+pub mod births;
 pub mod books;
 pub mod calls;
 pub mod desks;

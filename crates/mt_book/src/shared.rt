@@ -119,11 +119,13 @@ fn locked<'a, L: Ledger, J: Naming, R: Wait + Clock>(
 }
 
 /// A book under a lock, for one caller, with what it has seen of the book's history. Others use the book between two
-/// periods. Each period adds one state to the history, and says what it did to the last one.
+/// periods. Each period adds one state to the history, and says what it did to the last one. `birth` is that of the
+/// operation that was begun last.
 #[derive(Drop)]
 pub struct Clerk<'a, L: Ledger, J: Naming> {
     lock: &'a BookLock<L, J>,
     mark: Mark<State, Periods, J>,
+    birth: u64,
 }
 
 impl<'a, L: Ledger, J: Naming> Clerk<'a, L, J> {
@@ -132,7 +134,11 @@ impl<'a, L: Ledger, J: Naming> Clerk<'a, L, J> {
         ensures lock { result.lock.now ≡ lock.now }
         ensures mark { result.mark ≡ mark }
     {
-        Clerk { lock, mark }
+        Clerk {
+            lock,
+            mark,
+            birth: 0,
+        }
     }
 
     /// What two clerks have seen are beginnings of one history. Afterwards this one has seen what both had.
@@ -147,16 +153,16 @@ impl<'a, L: Ledger, J: Naming> Clerk<'a, L, J> {
 }
 
 impl<L: Ledger, J: Naming> Desk<L> for Clerk<'_, L, J> {
-    ghost use Rattle.mt_book.specs.Happens.{Adds, Acted};
+    ghost use Rattle.mt_book.specs.Serves.{Serves, clerk_of};
 
-    ghost does = { λ old p new. Adds (Acted p) old.mark new.mark };
+    ghost does = { λ old p new. Serves (clerk_of old.mark old.birth) p (clerk_of new.mark new.birth) };
 
     fn look<R: Wait + Clock>(&mut self, rt: &R) -> Look {
         locked(rt, self.lock).look(rt, &mut self.mark)
     }
 
     fn admit<R: Wait + Clock>(&mut self, rt: &R, pass: &Pass<L>, opening: Opening) -> Admission {
-        locked(rt, self.lock).admit(rt, pass, opening, &mut self.mark)
+        locked(rt, self.lock).admit(rt, pass, opening, &mut self.mark, &mut self.birth)
     }
 
     fn step<R: Wait + Clock>(
@@ -166,7 +172,7 @@ impl<L: Ledger, J: Naming> Desk<L> for Clerk<'_, L, J> {
         turned: Turned,
         ticket: &Ticket,
     ) -> Stepping {
-        locked(rt, self.lock).step(rt, pass, turned, ticket, &mut self.mark)
+        locked(rt, self.lock).step(rt, pass, turned, ticket, &mut self.mark, self.birth)
     }
 
     fn take<R: Wait + Clock>(
@@ -176,12 +182,12 @@ impl<L: Ledger, J: Naming> Desk<L> for Clerk<'_, L, J> {
         ticket: Ticket,
         displaced: &mut Displaced,
     ) -> Taking {
-        locked(rt, self.lock).take(rt, pass, ticket, displaced, &mut self.mark)
+        locked(rt, self.lock).take(rt, pass, ticket, displaced, &mut self.mark, self.birth)
     }
 }
 
 /// A pass for a worker, which has seen no step, and its clerk. There is none if the total was told, if there is no such
-/// worker, or if 65,535 clerks were given.
+/// worker, if 65,535 clerks were given, or if memory for its seat is refused.
 pub fn open_pass<'a, L: Ledger, J: Naming, R: Wait + Clock>(
     rt: &R,
     book: &'a BookLock<L, J>,
@@ -191,7 +197,7 @@ pub fn open_pass<'a, L: Ledger, J: Naming, R: Wait + Clock>(
     ensures clerk { IfSome result (λ r. (r.1.lock.now ≡ book.now) × (r.1.mark.made ≡ 1)) }
 {
     let (pass, mark) = locked(rt, book).open_pass(rt, worker)?;
-    Some((pass, Clerk { lock: book, mark }))
+    Some((pass, Clerk::new(book, mark)))
 }
 
 /// A clerk without a pass: it looks, and drains. There is none if 65,535 clerks were given.
@@ -202,7 +208,7 @@ pub fn open_clerk<'a, L: Ledger, J: Naming, R: Wait + Clock>(
     ensures { IfSome result (λ clerk. (clerk.lock.now ≡ book.now) × (clerk.mark.made ≡ 0)) }
 {
     let mark = locked(rt, book).open_mark()?;
-    Some(Clerk { lock: book, mark })
+    Some(Clerk::new(book, mark))
 }
 
 /// The next batch of a worker's log, in a period of its own. It goes up to the step `upto` at least, or it is full.

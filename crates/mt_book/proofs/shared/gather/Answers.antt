@@ -1,5 +1,5 @@
 -- All came back, so the history is known whole.
-use Rattle.std.{proofs.Common.{◌≡◌, ◌+◌, List, length, sym, subst, rules, arith}, specs.List.{AllByRecursion, sum_by}}
+use Rattle.std.{proofs.Common.{◌≡◌, ◌+◌, List, length, subst, rules, arith}, specs.List.{AllByRecursion, sum_by}}
 use mathlib.Core.List.{IsPrefix}
 use Rattle.mt_state.specs.Views.{StateView}
 use Rattle.mt_book.specs.declared.shared.Clerk.{Clerk}
