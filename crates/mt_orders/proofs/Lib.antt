@@ -7,4 +7,5 @@ pub mod Happenings
 pub mod Explaining
 pub mod Preceding
 pub mod Adding
+pub mod Owning
 pub mod Calling

@@ -3,15 +3,11 @@ use Rattle.std.specs.Prelude.{◌≡◌, ℕ, ◌+◌, ◌<◌, ◌≤◌, List,
 use Rattle.mt_runs.specs.{declared.event.Answer.Answer, Runs.{Story, owner, Finished}}
 use Rattle.mt_state.specs.Views.{StateView}
 use Rattle.mt_history.specs.Views.{MarkView}
-use Rattle.mt_book.specs.{Calls.Asked, Periods.Period, Happens.{Acted, Adds}}
+use Rattle.mt_book.specs.Calls.{Asked}
 use Rattle.mt_orders.specs.Explained.{BeginsAt, TakesAt}
 
--- what a clerk's period does to its mark
-abbrev pub Acts : MarkView StateView → Period → MarkView StateView → Type 0
-Acts old p new = Adds (Acted p) old new
-
 -- The call's begin and its take are at places of the history, for one id: the begin behind all that the clerk had seen, the take the last that it has seen. The begin stands in
--- the story with what was asked. An operation finished with the answer, and made all its steps in between.
+-- the story with what was asked. The operation that it began finished with the answer, and made all its steps in between.
 pub record IsAnsweredIn (s : StateView) (log : List StateView) (story : Story) (old new : MarkView StateView) (asked : Asked) (answer : Answer) : Type 0 where
   pub begun : ℕ
   pub taken : ℕ
@@ -22,6 +18,5 @@ pub record IsAnsweredIn (s : StateView) (log : List StateView) (story : Story) (
   pub takes : TakesAt s log taken answer
   pub one_id : takes.id ≡ begins.ticket.id
   pub asked_so : story.asked begun ≡ Some (record { tenant = asked.tenant; command = asked.command })
-  pub name : ℕ
-  pub finished : Finished story name answer
-  pub between : (m : ℕ) → owner story m ≡ Some name → (begins.steps < m) × (m ≤ takes.steps)
+  pub finished : Finished story begun answer
+  pub between : (m : ℕ) → owner story m ≡ Some begun → (begins.steps < m) × (m ≤ takes.steps)

@@ -7,8 +7,8 @@ ghost use Rattle.mt_runs.specs.{declared.event.Answer.Answer, Runs.story_of, Pla
 ghost use Rattle.mt_state.specs.{Views.{StateView, quota_in}, Begins.new_state};
 ghost use Rattle.mt_core.specs.Restores.{IsIdle, IsRestored};
 ghost use Rattle.mt_history.specs.{Legal.Along, Views.MarkView};
-ghost use Rattle.mt_book.specs.{Happens.{Happening, Leads, Adds}, OneRun.{AreTold, Through}, Calls.{Asked, Calls}};
-ghost use Rattle.mt_orders.specs.{Stories.{no_ids, events_from, story_along}, Explained.{IsExplained, HaveOneOrder, TakesAt, BeginsAt, AnsweredBefore}, Added.HappenedAt, Answered.{Acts, IsAnsweredIn}};
+ghost use Rattle.mt_book.specs.{Happens.{Happening, Leads, Adds}, OneRun.{AreTold, Through}, Calls.{Asked, Calls}, Serves.{ClerkView, Serves}};
+ghost use Rattle.mt_orders.specs.{Stories.{no_ids, events_from, story_along}, Explained.{IsExplained, HaveOneOrder, TakesAt, BeginsAt, AnsweredBefore}, Added.HappenedAt, Answered.IsAnsweredIn};
 
 /// One order explains each legal history that begins with no operation open, by whichever run it was made.
 /// A run has begins, steps, takes with their tidyings, openings and drains, in whatever turn. Whatever
@@ -46,19 +46,19 @@ pub fn what_a_clerk_added_happened()
     ensures { (what : Happening) (old new : MarkView StateView) (s : StateView) (log : List StateView) → Adds what old new → IsPrefix new.log (s ∷ log) → HappenedAt what old new s log }
 {}
 
-/// What a clerk's call was answered stands in the story of the history, in the time of the call. An
-/// operation finished with the answer, and made all its steps between the call's begin and its take.
+/// What a clerk's call was answered stands in the story of the history, in the time of the call. It is the answer of the
+/// operation that the call began, which made all its steps between the call's begin and its take.
 pub fn an_answered_call_stands_in_the_order()
     ensures { (s : StateView) (log : List StateView) (run : List Happening) → IsIdle s → Along Leads s log → Through s log run →
-        (old new : MarkView StateView) (seen : ℕ) (asked : Asked) (answer : Answer) → Calls Acts old new seen asked (Ok answer) → IsPrefix new.log (s ∷ log) →
-        IsAnsweredIn s log (story_along s log run) old new asked answer }
+        (old new : ClerkView) (seen : ℕ) (asked : Asked) (answer : Answer) → Calls Serves old new seen asked (Ok answer) → IsPrefix new.mark.log (s ∷ log) →
+        IsAnsweredIn s log (story_along s log run) old.mark new.mark asked answer }
 {}
 
 /// Real-time order of calls: if a clerk has seen all that another had seen at the end of its answered
-/// call, what it is answered then comes later. The operation of the one answer precedes that of the
+/// call, what it is answered then comes later. The operation of the one call precedes that of the
 /// other.
 pub fn an_answered_call_precedes_those_that_have_seen_it()
     ensures { (s : StateView) (log : List StateView) (run : List Happening) → Through s log run → (old mid later new : MarkView StateView) (asked after : Asked) (answer reply : Answer)
         → (one : IsAnsweredIn s log (story_along s log run) old mid asked answer) (next : IsAnsweredIn s log (story_along s log run) later new after reply)
-        → IsPrefix mid.log later.log → Precedes (story_along s log run) one.name next.name }
+        → IsPrefix mid.log later.log → Precedes (story_along s log run) one.begun next.begun }
 {}
