@@ -1,7 +1,7 @@
 //! Accepting, handing on, serving, joining.
 
-ghost use Rattle.std.specs.{Prelude.{◌≡◌, ◌<◌, ◌^◌, Bool, IfOk, vec_len, length}, List.{sum_by, AllZip}};
-ghost use Rattle.mt_crew.specs.{Servings.IsServed, declared.crew.Served.Served, declared.crew.CrewFault.TheVariants.Memory};
+ghost use Rattle.std.specs.{Prelude.{◌≡◌, ◌<◌, ◌^◌, Bool, IfOk, IfErr, vec_len, length}, List.{sum_by, AllZip}};
+ghost use Rattle.mt_crew.specs.{Servings.IsServed, Faults.{is_of_one_connection, EndsCrew}, declared.crew.Served.Served, declared.crew.CrewFault.TheVariants.Memory};
 
 use crossbeam_channel::{Receiver, Sender, bounded};
 use std::alloc::{AllocError, Global};
@@ -58,7 +58,8 @@ impl From<AllocError> for CrewFault {
 /// Hands a listener's connections to workers, so many, or all that come if it is 0. Each worker is a
 /// thread of its own, which serves one connection after the other. The channel holds as many that wait
 /// as there are workers, and the system keeps further ones. All threads are joined, and each worker
-/// comes back at its place, led on by its sessions. After an error they are gone.
+/// comes back at its place, led on by its sessions. After an error they are gone. A connection that fails
+/// before it is accepted is not an error.
 pub fn run_crew<R: Threads + Wait + Sync, W: Worker + Send>(
     rt: &R,
     alloc: Global,
@@ -70,6 +71,7 @@ pub fn run_crew<R: Threads + Wait + Sync, W: Worker + Send>(
     ensures accepted { IfOk result (λ crew. crew.accepted ≡ sessions) }
     ensures workers { IfOk result (λ crew. vec_len crew.served ≡ vec_len workers) }
     ensures served { IfOk result (λ crew. AllZip (IsServed W.serves) workers.items crew.served.items) }
+    ensures fault { IfErr result EndsCrew }
 {
     let (sender, receiver) = bounded::<TcpStream, Global>(alloc, workers.len())?;
     let streams = &receiver;
@@ -104,7 +106,8 @@ fn accept_all<R: Wait>(
     sender: Sender<TcpStream>,
     sessions: u32,
 ) -> Result<u32, CrewFault>
-    ensures { IfOk result (λ n. n ≡ sessions) }
+    ensures count { IfOk result (λ n. n ≡ sessions) }
+    ensures fault { IfErr result EndsCrew }
 {
     if sessions == 0 {
         for _ in rt.forever() {
@@ -123,7 +126,9 @@ fn hand_on<R: Wait>(
     rt: &R,
     listener: &TcpListener,
     sender: &Sender<TcpStream>,
-) -> Result<(), CrewFault> {
+) -> Result<(), CrewFault>
+    ensures { IfErr result EndsCrew }
+{
     let stream = accept_one(rt, listener)?;
     match sender.send(rt, stream) {
         Ok(()) => Ok(()),
@@ -132,7 +137,9 @@ fn hand_on<R: Wait>(
 }
 
 // Accepts the next connection that doesn't fail by itself.
-fn accept_one<R: Wait>(rt: &R, listener: &TcpListener) -> Result<TcpStream, CrewFault> {
+fn accept_one<R: Wait>(rt: &R, listener: &TcpListener) -> Result<TcpStream, CrewFault>
+    ensures { IfErr result EndsCrew }
+{
     for _ in rt.forever() {
         match listener.accept() {
             Ok((stream, _)) => return Ok(stream),
@@ -147,7 +154,9 @@ fn accept_one<R: Wait>(rt: &R, listener: &TcpListener) -> Result<TcpStream, Crew
 }
 
 // Whether a fault of accepting is of one connection alone.
-fn is_of_one_connection(kind: ErrorKind) -> bool {
+fn is_of_one_connection(kind: ErrorKind) -> bool
+    ensures { result ≡ is_of_one_connection kind }
+{
     matches!(
         kind,
         ErrorKind::Interrupted | ErrorKind::ConnectionAborted | ErrorKind::ConnectionReset
