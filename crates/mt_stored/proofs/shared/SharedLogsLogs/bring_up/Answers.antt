@@ -12,5 +12,5 @@ returns-clause-whose g c =
 pub returns-clause-does : goal.returns-clause-does
 returns-clause-does g c =
     brought g.D.Disk.is_honest g.D.Disk.state g.D.Disk.failures _ (λ book. book.clerk.mark) (λ s t worker batch given. given) c.args.log c.deref_mut.result.now c.bring_up-told.new.log _ c.bring_up-told.new.source c.args.self.now.book.clerk.mark
-    (ap (λ (l : StoreLog g.row.D.Denot). worker_of l) c.deref_mut.ensures.value ∙ c.in_ok-guard.ensures.own) c.look-steps.result c.look-steps.ensures c.bring_up-told.result c.bring_up-told.ensures.ok
+    (ap (λ (l : StoreLog g.row.D.Denot). worker_of l) c.deref_mut.ensures.value ∙ c.in_ok-guard.ensures.own) c.look-steps.result c.look-steps.ensures.adds c.bring_up-told.result c.bring_up-told.ensures.ok
     c.bring_up-told.ensures.err
