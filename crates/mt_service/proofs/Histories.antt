@@ -6,15 +6,15 @@ use Rattle.mt_rows.specs.{declared.command.Command.Command, declared.reply.Reply
 use Rattle.mt_runs.specs.declared.event.Answer.{Answer}
 use Rattle.mt_state.specs.Views.{StateView}
 use Rattle.mt_history.{specs.{Legal.Along, Views.MarkView}, proofs.Fronts.prefix_trans}
-use Rattle.mt_book.{specs.{declared.calls.CallFault.CallFault, declared.shared.Clerk.Clerk, Happens.{Happening, Leads}, OneRun.{AreTold, HasAll}, Keeping.IsWhole}, proofs.OneRuns.one_run}
-use Rattle.mt_orders.{specs.Answered.Acts, proofs.{Explaining.explained, Calling.{calls_marks, chain_front}}}
+use Rattle.mt_book.{specs.{declared.calls.CallFault.CallFault, declared.shared.Clerk.Clerk, Periods.Period, Happens.{Happening, Leads}, OneRun.{AreTold, HasAll}, Keeping.IsWhole, Serves.clerk_of}, proofs.OneRuns.one_run}
+use Rattle.mt_orders.proofs.{Explaining.explained, Calling.{calls_views, chain_front}}
 use Rattle.mt_crew.specs.{Servings.IsServed, declared.crew.Served.Served}
 use Rattle.mt_session.specs.{declared.caller.CallerFault.CallerFault, Exchanges.{Exchange, Opens, Calls, Settles}}
 use Rattle.mt_options.specs.declared.tenants.TenantQuota.{TenantQuota}
 use Rattle.mt_settle.specs.Turns.{Turn}
 use Rattle.mt_stored.specs.{declared.shared.SharedLogs.SharedLogs, Checkpoints.Scanner, Digests.DigestCall, Keeping.{Kept, GivesTurns}}
-use Rattle.mt_service.specs.{declared.callers.DeskCaller.DeskCaller, declared.workers.SessionWorker.SessionWorker, Sessions.{AsksBook, IsSession, HaveOneHistory, SeeFronts, acts, turns, logs_of, asker_of, clerks_in}, Asking.{Asker, AsksOpened, AsksCall, KeepsAnswer, OpensTenant}, Turning.Turning, Turners.Leaves}
-use Rattle.mt_service.proofs.{Sessions.served_inside, SettledNumbers.{turn_front, settle_front}}
+use Rattle.mt_service.specs.{declared.callers.DeskCaller.DeskCaller, declared.workers.SessionWorker.SessionWorker, Sessions.{AsksBook, IsSession, HaveOneHistory, SeesFront, LogsSeeFront, SeeFronts, acts, turns, logs_of, asker_of, clerks_in}, Asking.{Asker, AsksOpened, AsksCall, KeepsAnswer, OpensTenant}, Turning.Turning, Turners.Leaves}
+use Rattle.mt_service.proofs.{Sessions.served_inside, SettledNumbers.{turn_front, settle_front}, TurnFronts.any_front, TurnsInside.leaves_inside}
 
 no_told : (s : StateView) (log : List StateView) → AreTold (λ k. None) s log
 no_told s [] = tt
@@ -35,8 +35,8 @@ module _ (L J R : Type 0) {D : Type 0} (K : Type 0) (is_honest : D → Bool) (st
   call_grows : (old new : Caller) (opened : Option ℕ) (keeps : SharedLogs L J R D → Turn → SharedLogs L J R D → Type 0) (logs : SharedLogs L J R D → ℕ) (command : Command) (told : Result Reply CallerFault)
       → AsksOpened acts keeps logs (asker_of old) opened command told (asker_of new) → IsPrefix old.desk.mark.log new.desk.mark.log
   call_grows old new (Some tenant) keeps logs command told x =
-      let marks = calls_marks (λ (c : Clerk L J). c.mark) old.desk new.desk _ _ x.result x.calls in
-      chain_front old.desk.mark new.desk.mark marks.periods marks.chain
+      let views = calls_views (λ (c : Clerk L J). clerk_of c.mark c.birth) old.desk new.desk _ _ x.result x.calls in
+      chain_front (clerk_of old.desk.mark old.desk.birth) (clerk_of new.desk.mark new.desk.birth) views.periods views.chain
   call_grows old new None keeps logs command told x =
       front_same old.desk.mark.log new.desk.mark.log (ap (λ (a : Asker (Clerk L J) (SharedLogs L J R D)). a.desk.mark.log) x.1)
 
@@ -123,17 +123,34 @@ module _ (L J R : Type 0) {D : Type 0} (is_honest : D → Bool) (state : D → D
       let logs = s.worker.caller.keeper.logs.book.clerk in
       ((all.0, all.1.0), fronts whole ss (tail P logs (flat_map clerks_in ss) (tail P s.worker.caller.desk (logs ∷ flat_map clerks_in ss) all)))
 
+  -- what the turner's clerks have seen they have seen ever after
+  clerk_before : (history : List StateView) (old : Clerk L J) (p : Period) (new : Clerk L J) → acts old p new → SeesFront history new → SeesFront history old
+  clerk_before history old p new a front =
+      let after = clerk_of new.mark new.birth in
+      prefix_trans old.mark.log new.mark.log history (chain_front (clerk_of old.mark old.birth) after (p ∷ []) (after, a, refl)) front
+
+  logs_before : (history : List StateView) (old : SharedLogs L J R D) (turn : Turn) (new : SharedLogs L J R D) → turns is_honest state failures old turn new
+      → LogsSeeFront history new → LogsSeeFront history old
+  logs_before history old turn new t front =
+      let was = old.book.clerk.mark in
+      let is = new.book.clerk.mark in
+      prefix_trans was.log is.log history (any_front is_honest state failures was turn is t) front
+
   -- all that the sessions of these workers were told stands in one history from the state that the first clerk has seen, with all that a turner did
   pub one_history : {G : Type 0} (calls : G → DigestCall → G → Type 0) (tenants : List TenantQuota) (one turner logs : Clerk L J) (begun : List Worker) (served : List (Served Worker))
       (answers workers : ℕ) → IsWhole (λ (c : Clerk L J). c.mark) (one ∷ turner ∷ logs ∷ flat_map clerks_in served) answers
       → AllZip (IsServed (λ (old : Worker) right (new : Worker). IsSession (AsksBook is_honest state failures) right old.caller new.caller)) begun served
       → length begun ≡ workers → (made : Turning (Clerk L J) (SharedLogs L J R D) G) (desk : Scanner (Clerk L J)) (left : SharedLogs L J R D)
-      → Leaves acts is_honest state failures (turns is_honest state failures) logs_of calls tenants made desk left → turner ≡ desk.desk
+      → Leaves acts is_honest state failures (turns is_honest state failures) logs_of calls tenants made desk left → turner ≡ desk.desk → logs ≡ left.book.clerk
       → (first : StateView) → one.mark.log ≡ first ∷ [] → HaveOneHistory L J R is_honest state failures calls tenants workers first
-  one_history calls tenants one turner logs begun served answers workers w z many made desk left turned same_clerk first is =
-      let P : Clerk L J → Type 0 = λ c. IsPrefix c.mark.log (w.first ∷ w.log) in
+  one_history calls tenants one turner logs begun served answers workers w z many made desk left turned same_clerk same_logs first is =
+      let whole = w.first ∷ w.log in
+      let P : Clerk L J → Type 0 = SeesFront whole in
       let after_one = tail P one (turner ∷ logs ∷ flat_map clerks_in served) w.seen in
-      let rest = tail P logs (flat_map clerks_in served) (tail P turner (logs ∷ flat_map clerks_in served) after_one) in
+      let after_turner = tail P turner (logs ∷ flat_map clerks_in served) after_one in
+      let rest = tail P logs (flat_map clerks_in served) after_turner in
+      let desk_front : SeesFront whole desk.desk = subst P same_clerk (head P turner (logs ∷ flat_map clerks_in served) after_one) in
+      let logs_front : LogsSeeFront whole left = subst P same_logs (head P logs (flat_map clerks_in served) after_turner) in
       let all = one_run (λ k. None) w.first w.log w.legal (no_told w.first w.log) in
       let same : w.first ≡ first = head_is first w.first w.log one.mark.log is w.seen.0 in
       subst (λ (s : StateView). HaveOneHistory L J R is_honest state failures calls tenants workers s) same (record {
@@ -146,11 +163,13 @@ module _ (L J R : Type 0) {D : Type 0} (is_honest : D → Bool) (state : D → D
         many = many;
         served = served;
         each =
-            served_inside (AsksBook is_honest state failures) (SeeFronts (w.first ∷ w.log)) (seen_before L J R D is_honest state failures (w.first ∷ w.log)) (λ (x : Worker). x.caller) begun served z
-            (fronts (w.first ∷ w.log) served rest);
+            served_inside (AsksBook is_honest state failures) (SeeFronts whole) (seen_before L J R D is_honest state failures whole) (λ (x : Worker). x.caller) begun served z
+            (fronts whole served rest);
         turner = made;
         desk = desk;
         logs = left;
-        turned = turned;
-        seen = subst P same_clerk (head P turner (logs ∷ flat_map clerks_in served) after_one);
+        turned =
+            leaves_inside acts is_honest state failures (turns is_honest state failures) calls (SeesFront whole) (clerk_before whole) (LogsSeeFront whole) (logs_before whole) logs_of tenants made desk left turned
+            desk_front logs_front;
+        seen = (desk_front, logs_front);
       })

@@ -1,10 +1,15 @@
 pub mod AccountLemmas
+pub mod CheckpointScans
 pub mod Histories
 pub mod LineLemmas
+pub mod LogsInside
 pub mod Pushes
 pub mod Sessions
+pub mod ScansInside
 pub mod SettledNumbers
 pub mod ShareLemmas
 pub mod TenantNumbers
 pub mod TurnerLemmas
+pub mod TurnFronts
+pub mod TurnsInside
 pub mod TellingStores

@@ -9,8 +9,8 @@ use Rattle.mt_runs.specs.declared.event.Answer.{Answer}
 use Rattle.mt_state.specs.Views.{StateView}
 use Rattle.mt_core.specs.Restores.{IsIdle}
 use Rattle.mt_history.{specs.Legal.{Along, IsLegal, last_from, EndsWith}, proofs.Fronts.prefix_trans}
-use Rattle.mt_book.{specs.{declared.shared.Clerk.Clerk, Happens.{Happening, Acted, Given, Leads, Adds}, Periods.{Period, Took}, Calls.{Asked, Calls}, OneRun.AreTold}, proofs.OneRuns.one_run}
-use Rattle.mt_orders.{specs.{Stories.{ids_at, story_along}, Explained.{HappensAt, IsTakenAt}, Answered.Acts}, proofs.{Explaining.explained, Calling.{answered_in, calls_marks}, Preceding.rises}}
+use Rattle.mt_book.{specs.{declared.shared.Clerk.Clerk, Happens.{Happening, Acted, Given, Leads, Adds}, Periods.{Period, Took}, Calls.{Asked, Calls}, OneRun.AreTold, Serves.{ClerkView, Serves, clerk_of}}, proofs.OneRuns.one_run}
+use Rattle.mt_orders.{specs.{Stories.{ids_at, story_along}, Explained.{HappensAt, IsTakenAt}}, proofs.{Explaining.explained, Calling.{answered_in, calls_views}, Preceding.rises}}
 use Rattle.mt_session.specs.Exchanges.{Settles as SettlesFor}
 use Rattle.mt_store_logs.specs.{declared.store_log.StoreLog.StoreLog, declared.last_log.LastLog.LastLog, Places.worker_of, Flushes.{DrainsShort, FailsToDrain, FailsToFlush}, LogTurns.{BringsUp, FailsToBringUp}}
 use Rattle.mt_settle.specs.{Turns.{Turn, BroughtUp, Chain}, Settles.{turns_from, Settles}}
@@ -78,12 +78,12 @@ shows_upto s (t ∷ log) zero p legal d =
     omega (arith, number, here, later)
 shows_upto s (t ∷ log) (suc k) p legal d = shows_upto t log k p legal.1 d
 
-module _ (first : StateView) (idle : IsIdle first) (old new : Seen) (seen : ℕ) (asked : Asked) (answer : Answer) (calls : Calls Acts old new seen asked (Ok answer)) where
+module _ (first : StateView) (idle : IsIdle first) (old new : ClerkView) (seen : ℕ) (asked : Asked) (answer : Answer) (calls : Calls Serves old new seen asked (Ok answer)) where
   -- the last step of an answer was made in all that its clerk has seen
-  answer_made : (log : List StateView) → Along Leads first log → new.log ≡ first ∷ log → answer.last ≤ (last_from first log).steps
+  answer_made : (log : List StateView) → Along Leads first log → new.mark.log ≡ first ∷ log → answer.last ≤ (last_from first log).steps
   answer_made log legal is =
       let all = one_run (λ k. None) first log legal (no_told first log) in
-      let here = answered_in first log all.run idle legal all.through old new seen asked answer calls (front_same new.log (first ∷ log) (sym is)) in
+      let here = answered_in first log all.run idle legal all.through old new seen asked answer calls (front_same new.mark.log (first ∷ log) (sym is)) in
       let p : Period = record { steps = here.takes.steps; deed = Took here.takes.id here.takes.room answer } in
       let took : IsTakenAt (story_along first log all.run) (ids_at all.run here.taken) here.takes.steps here.takes.id answer =
       (explained first log all.run idle legal all.through).stand here.taken (Acted p) here.takes.happens in
@@ -91,10 +91,10 @@ module _ (first : StateView) (idle : IsIdle first) (old new : Seen) (seen : ℕ)
       let made = took.made in
       omega (arith, upto, made)
 
-  answer_seen : (log : List StateView) → Along Leads first log → IsPrefix new.log (first ∷ log) → answer.last ≤ last_steps new.log
-  answer_seen log legal front = by new.log refl front
+  answer_seen : (log : List StateView) → Along Leads first log → IsPrefix new.mark.log (first ∷ log) → answer.last ≤ last_steps new.mark.log
+  answer_seen log legal front = by new.mark.log refl front
     where
-      by : (l : List StateView) → new.log ≡ l → IsPrefix l (first ∷ log) → answer.last ≤ last_steps l
+      by : (l : List StateView) → new.mark.log ≡ l → IsPrefix l (first ∷ log) → answer.last ≤ last_steps l
       by [] is p =
           let none = answered_in first [] [] idle tt tt old new seen asked answer calls (subst (λ (l : List StateView). IsPrefix l (first ∷ [])) (sym is) (first ∷ [], refl)) in
           let count = ap length is in
@@ -194,12 +194,12 @@ module _ {D : Type 0} (is_honest : D → Bool) (state : D → DiskState) (failur
           (All-weaker (λ k. last_steps (seen_by mid).log ≤ k) (λ k. last_steps (seen_by old).log ≤ k) (λ k e. omega (arith, less, e)) ms (each_tells mid new (log + 1) ms rest p))
 
     pub covers : (first : StateView) (log : List StateView) → IsIdle first → Along Leads first log → (count n : ℕ) (learned settled : S) → Settles DoesSeen count learned settled (Ok n)
-        → IsPrefix (seen_by settled).log (first ∷ log) → (old new : Seen) (seen : ℕ) (asked : Asked) (answer : Answer) → Calls Acts old new seen asked (Ok answer)
-        → IsPrefix new.log (seen_by learned).log → answer.last ≤ n
+        → IsPrefix (seen_by settled).log (first ∷ log) → (old new : ClerkView) (seen : ℕ) (asked : Asked) (answer : Answer) → Calls Serves old new seen asked (Ok answer)
+        → IsPrefix new.mark.log (seen_by learned).log → answer.last ≤ n
     covers first log idle legal count n learned settled s whole old new seen asked answer calls front_new =
         let learned_front = prefix_trans (seen_by learned).log (seen_by settled).log (first ∷ log) (front learned settled 0 s.marks s.turns) whole in
-        let made = answer_seen first idle old new seen asked answer calls log legal (prefix_trans new.log (seen_by learned).log (first ∷ log) front_new learned_front) in
-        let less = between new.log (seen_by learned).log (first ∷ log) legal learned_front front_new in
+        let made = answer_seen first idle old new seen asked answer calls log legal (prefix_trans new.mark.log (seen_by learned).log (first ∷ log) front_new learned_front) in
+        let less = between new.mark.log (seen_by learned).log (first ∷ log) legal learned_front front_new in
         let k = s.least.among.0 in
         let told = subst (λ (m : ℕ). last_steps (seen_by learned).log ≤ m) s.least.among.2 (each_tells (first ∷ log) legal learned settled 0 s.marks s.turns whole k n s.least.among.1) in
         omega (arith, made, less, told)
@@ -211,6 +211,6 @@ module _ {D : Type 0} (is_honest : D → Bool) (state : D → DiskState) (failur
       → Calls acts before after seen asked (Ok answer)
       → IsPrefix after.mark.log old.desk.mark.log → answer.last ≤ n
   session_covers {L} {J} {R} {K} first log idle legal old new n asks whole before after seen asked answer calls front_new =
-      covers (λ (x : SharedLogs L J R D). x.book.clerk.mark) first log idle legal _ n asks.learned new.keeper.logs asks.settles whole before.mark after.mark seen asked answer
-      (calls_marks (λ (c : Clerk L J). c.mark) before after seen asked (Ok answer) calls)
+      covers (λ (x : SharedLogs L J R D). x.book.clerk.mark) first log idle legal _ n asks.learned new.keeper.logs asks.settles whole (clerk_of before.mark before.birth) (clerk_of after.mark after.birth) seen asked answer
+      (calls_views (λ (c : Clerk L J). clerk_of c.mark c.birth) before after seen asked (Ok answer) calls)
       (prefix_trans after.mark.log old.desk.mark.log asks.learned.book.clerk.mark.log front_new asks.learns_so.that)

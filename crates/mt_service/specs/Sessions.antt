@@ -5,7 +5,7 @@ use Rattle.mt_rows.specs.Rows.{Bytes}
 use Rattle.mt_disk.specs.Disk.{DiskState}
 use Rattle.mt_state.specs.Views.{StateView}
 use Rattle.mt_history.specs.{Legal.Along, Views.MarkView}
-use Rattle.mt_book.specs.{declared.passes.Pass.Pass, declared.shared.Clerk.Clerk, Happens.{Happening, Leads, Adds, Acted}, Periods.Period, OneRun.Through}
+use Rattle.mt_book.specs.{declared.passes.Pass.Pass, declared.shared.Clerk.Clerk, Happens.{Happening, Leads}, Periods.Period, OneRun.Through, Serves.{Serves, clerk_of}}
 use Rattle.mt_orders.specs.Explained.{IsExplained}
 use Rattle.mt_crew.specs.{Servings.IsServed, declared.crew.Served.Served}
 use Rattle.mt_session.specs.{Sessions.{CallerRelation, Transcript}, Endings.AsksAtMostOne}
@@ -20,7 +20,7 @@ asker_of c = asker c.desk c.pass.worker c.pass.seen c.pass.share.amount c.tenant
 
 -- what a period does to a clerk, what a turn does to logs behind their locks, and how many these are
 abbrev pub acts : {L J : Type 0} → Clerk L J → Period → Clerk L J → Type 0
-acts old p new = Adds (Acted p) old.mark new.mark
+acts old p new = Serves (clerk_of old.mark old.birth) p (clerk_of new.mark new.birth)
 
 abbrev pub turns : {L J R D : Type 0} (is_honest : D → Bool) (state : D → DiskState) (failures : D → ℕ) → SharedLogs L J R D → Turn → SharedLogs L J R D → Type 0
 turns is_honest state failures old turn new = DoesShared is_honest state failures old.book.clerk.mark turn new.book.clerk.mark
@@ -52,21 +52,33 @@ pub record IsSession {S : Type 0} (exchanges : CallerRelation S) (right : Bool) 
   pub more : AsksAtMostOne exchanges is_open mid rest new
   pub whole : right ≡ true → (rest ≡ []) × (new ≡ mid)
 
--- an exchange after which this holds of the caller
-abbrev pub Within : {S : Type 0} → (S → Type 0) → CallerRelation S → CallerRelation S
-Within holds exchanges old e new = exchanges old e new × holds new
+-- something was done after which this holds of whoever did it
+abbrev pub Within : {S E : Type 0} → (S → Type 0) → (S → E → S → Type 0) → S → E → S → Type 0
+Within holds does old e new = does old e new × holds new
 
--- both clerks of a caller have seen beginnings of this history
+-- a clerk has seen a beginning of this history; so has the clerk of some logs; so have both clerks of a caller
+abbrev pub SeesFront : {L J : Type 0} → List StateView → Clerk L J → Type 0
+SeesFront history clerk = IsPrefix clerk.mark.log history
+
+abbrev pub LogsSeeFront : {L J R D : Type 0} → List StateView → SharedLogs L J R D → Type 0
+LogsSeeFront history logs = SeesFront history logs.book.clerk
+
 abbrev pub SeeFronts : {L J R D K : Type 0} → List StateView → DeskCaller L R (Clerk L J) (SharedLogs L J R D) K → Type 0
-SeeFronts history c = IsPrefix c.desk.mark.log history × IsPrefix c.keeper.logs.book.clerk.mark.log history
+SeeFronts history c = SeesFront history c.desk × LogsSeeFront history c.keeper.logs
 
 -- a session of a worker, each exchange of which was made over beginnings of this history
 abbrev pub IsSessionOver : {L J R D : Type 0} (is_honest : D → Bool) (state : D → DiskState) (failures : D → ℕ) → List StateView → SessionWorker L J R D → Bool → SessionWorker L J R D → Type 0
 IsSessionOver is_honest state failures history old right new =
     IsSession (Within (SeeFronts history) (AsksBook is_honest state failures)) right old.caller new.caller
 
+-- A turner's deeds led to what is left of it. Each period of its clerk, and each turn of a log, was made over a beginning of this history.
+abbrev pub LeavesOver : {L J R D G : Type 0} (is_honest : D → Bool) (state : D → DiskState) (failures : D → ℕ) (calls : G → DigestCall → G → Type 0) (tenants : List TenantQuota) → List StateView
+    → Turning (Clerk L J) (SharedLogs L J R D) G → Scanner (Clerk L J) → SharedLogs L J R D → Type 0
+LeavesOver is_honest state failures calls tenants history turner desk logs =
+    Leaves (Within (SeesFront history) acts) is_honest state failures (Within (LogsSeeFront history) (turns is_honest state failures)) logs_of calls tenants turner desk logs
+
 -- One history from a state on. There is a run through it, and one order explains whichever there is. So many workers were led by sessions, and each exchange of
--- these was made over a beginning of the history. A turner was led by its deeds to what is left of it, and has then seen a beginning of the history.
+-- these was made over a beginning of the history. A turner was led to what is left of it, and each of its periods, so each look and scan, was made over one too.
 pub record HaveOneHistory (L J R : Type 0) {D G : Type 0} (is_honest : D → Bool) (state : D → DiskState) (failures : D → ℕ) (calls : G → DigestCall → G → Type 0) (tenants : List TenantQuota) (workers : ℕ) (first : StateView) : Type 0 where
   pub log : List StateView
   pub legal : Along Leads first log
@@ -80,5 +92,5 @@ pub record HaveOneHistory (L J R : Type 0) {D G : Type 0} (is_honest : D → Boo
   pub turner : Turning (Clerk L J) (SharedLogs L J R D) G
   pub desk : Scanner (Clerk L J)
   pub logs : SharedLogs L J R D
-  pub turned : Leaves acts is_honest state failures (turns is_honest state failures) logs_of calls tenants turner desk logs
-  pub seen : IsPrefix desk.desk.mark.log (first ∷ log)
+  pub turned : LeavesOver is_honest state failures calls tenants (first ∷ log) turner desk logs
+  pub seen : SeesFront (first ∷ log) desk.desk × LogsSeeFront (first ∷ log) logs

@@ -1,17 +1,19 @@
-//! What a settled number says of the answers; the contract of a function that does nothing.
+//! What a settled number says of the answers, and what a checkpoint has of a history; each the contract of a function that
+//! does nothing.
 
 ghost use Rattle.std.specs.Prelude.{◌≤◌, ℕ, List, ◌∷◌, Ok};
 ghost use mathlib.Core.List.{IsPrefix};
 ghost use Rattle.mt_runs.specs.declared.event.Answer.{Answer};
-ghost use Rattle.mt_state.specs.Views.{StateView};
+ghost use Rattle.mt_state.specs.Views.{StateView, quota_of};
 ghost use Rattle.mt_core.specs.Restores.{IsIdle};
 ghost use Rattle.mt_history.specs.{Legal.Along, Views.MarkView};
-ghost use Rattle.mt_book.specs.{declared.shared.Clerk.Clerk, Happens.Leads, Calls.{Asked, Calls}};
-ghost use Rattle.mt_orders.specs.Answered.{Acts};
+ghost use Rattle.mt_book.specs.{declared.shared.Clerk.Clerk, Happens.{Happening, Leads}, OneRun.Through, Calls.{Asked, Calls}, Serves.{ClerkView, Serves}};
+ghost use Rattle.mt_orders.specs.Stories.{story_along, maps_in};
+ghost use Rattle.mt_slots.specs.declared.store_slots.StoreSlots.{StoreSlots};
 ghost use Rattle.mt_settle.specs.{Turns.Turn, Settles.Settles};
-ghost use Rattle.mt_stored.specs.{declared.shared.SharedLogs.SharedLogs, Shared.DoesShared};
+ghost use Rattle.mt_stored.specs.{declared.shared.SharedLogs.SharedLogs, Shared.DoesShared, Checkpoints.{Scanner, WritesCheckpoint}, Digests.FileDigest};
 ghost use Rattle.mt_session.specs.Exchanges.{Settles as SettlesFor};
-ghost use Rattle.mt_service.specs.{declared.callers.DeskCaller.DeskCaller, Sessions.{acts, AsksBook}};
+ghost use Rattle.mt_service.specs.{declared.callers.DeskCaller.DeskCaller, Sessions.{acts, AsksBook, Within, SeesFront}, CheckpointScans.AreMadeBetween};
 
 use mt_disk::Disk;
 
@@ -25,11 +27,21 @@ pub fn a_settled_number_covers_each_answer_that_was_seen<L, J, R, D: Disk, K, S>
         (seen_by : S → MarkView StateView) (count n : ℕ) (learned settled : S) →
         Settles (λ (s : S) (turn : Turn) (t : S). DoesShared D.is_honest D.state D.failures (seen_by s) turn (seen_by t)) count learned settled (Ok n) →
         IsPrefix (seen_by settled).log (first ∷ log) →
-        (old new : MarkView StateView) (seen : ℕ) (asked : Asked) (answer : Answer) → Calls Acts old new seen asked (Ok answer) →
-        IsPrefix new.log (seen_by learned).log → answer.last ≤ n }
+        (old new : ClerkView) (seen : ℕ) (asked : Asked) (answer : Answer) → Calls Serves old new seen asked (Ok answer) →
+        IsPrefix new.mark.log (seen_by learned).log → answer.last ≤ n }
     ensures session { (first : StateView) (log : List StateView) → IsIdle first → Along Leads first log →
         (old new : DeskCaller L R (Clerk L J) (SharedLogs L J R D) K) (n : ℕ) → AsksBook D.is_honest D.state D.failures old (SettlesFor (Ok n)) new →
         IsPrefix new.keeper.logs.book.clerk.mark.log (first ∷ log) →
         (before after : Clerk L J) (seen : ℕ) (asked : Asked) (answer : Answer) → Calls acts before after seen asked (Ok answer) →
         IsPrefix after.mark.log old.desk.mark.log → answer.last ≤ n }
+{}
+
+/// The scans of a checkpoint that was written over a history are operations of it. Each finished with the answer that has
+/// its page. It made all its steps after the checkpoint's first number, and up to its last one. In whichever order explains
+/// the history the page is lawful by the tenant's maps between these two.
+pub fn a_checkpoint_has_scans_of_its_history<L, J, D: Disk>()
+    ensures { (first : StateView) (log : List StateView) (run : List Happening) → IsIdle first → Along Leads first log → Through first log run →
+        (worker : ℕ) (old new : Scanner (Clerk L J)) (tenants : List ℕ) (slots left : StoreSlots D) (digest : FileDigest) →
+        (w : WritesCheckpoint (Within (SeesFront (first ∷ log)) acts) worker D.is_honest D.state D.failures old tenants slots digest new left) →
+        AreMadeBetween (quota_of first) (maps_in first) (story_along first log run) w.first w.last w.adds.1 }
 {}

@@ -121,7 +121,7 @@ fn serve_store<
     let (state, logs, slots) = store.into_parts();
     let logs = locked_logs(alloc, logs)?;
     let turns = Turns::new(checks_of(options, slots));
-    let (book, mark) = begun::<L, J>(names, state)?;
+    let (book, mark) = begun::<L, J>(alloc, names, state)?;
     let served = serve_all(
         rt, alloc, &book, mark, &logs, &turns, listener, options, digests,
     );
@@ -131,6 +131,7 @@ fn serve_store<
 
 // The book of a state, under its lock, and a mark that has seen the state alone.
 fn begun<L: Ledger, J: Naming>(
+    alloc: Global,
     names: Names,
     state: State,
 ) -> Result<(BookLock<L, J>, Mark<State, Periods, J>), ServerFault>
@@ -139,7 +140,7 @@ fn begun<L: Ledger, J: Naming>(
     ensures first { IfOk result (λ r. r.1.log ≡ state ∷ []) }
     ensures fault { IfErr result IsOfServing }
 {
-    let mut kept = Kept::<L, J>::new(names, state);
+    let mut kept = Kept::<L, J>::new(alloc, names, state);
     match kept.open_mark() {
         Some(mark) => Ok((BookLock::new(kept), mark)),
         None => Err(ServerFault::Passes),

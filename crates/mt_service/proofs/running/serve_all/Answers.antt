@@ -29,4 +29,4 @@ returns-in-Ok-clause-history g c =
     (λ totals. IsWhole (λ (k : Clerk g.row.L.Denot g.row.J.Denot). k.mark) (c.new-first.result ∷ c.new.result.clerk ∷ c.new.result.logs ∷ flat_map clerks_in served.items) totals.answers) _ c.totals_of.ensures.whole
     (λ totals whole first is.
     one_history g.row.L.Denot g.row.J.Denot g.row.R.Denot g.D.Disk.is_honest g.D.Disk.state g.D.Disk.failures g.G.Digests.does tenants c.new-first.result c.new.result.clerk c.new.result.logs workers.items served.items
-    totals.answers c.args.options.now.workers whole zip many made desk parts.2 turned c.new.ensures.clerk first (ap (λ (m : MarkView StateView). m.log) c.new-first.ensures.mark ∙ is))
+    totals.answers c.args.options.now.workers whole zip many made desk parts.2 turned c.new.ensures.clerk c.new.ensures.logs first (ap (λ (m : MarkView StateView). m.log) c.new-first.ensures.mark ∙ is))

@@ -1,0 +1,85 @@
+-- Whatever turn a log had, what the clerk of the logs had seen before it is a beginning of what it has seen then.
+use Rattle.std.proofs.{Common.{◌≡◌, ◌++◌, inl, inr, ℕ, Bool, List, [], Result, Ok, Err, sym, subst}, lemmas.List.append-nil}
+use mathlib.Core.List.{IsPrefix}
+use Rattle.mt_rows.specs.declared.refusal.Refusal.{Refusal}
+use Rattle.mt_disk.specs.Disk.{DiskState}
+use Rattle.mt_state.specs.Views.{StateView}
+use Rattle.mt_settle.specs.Turns.{Turn, BroughtUp, BegunNext, GivenUp, Told}
+use Rattle.mt_store_logs.specs.{declared.store_log.StoreLog.StoreLog, LogTurns.{BringsUp, FailsToBringUp}, Turns.FailsToFlushLog}
+use Rattle.mt_stored.specs.{Begins.{BringsUpAndBegins, FailsToBringUpAndBegin}, Shared.{Seen, gives_batch, Somewhere, UptoSteps, DoesShared}}
+use Rattle.mt_service.proofs.SettledNumbers.{turn_front}
+
+same_front : (old new : Seen) → new ≡ old → IsPrefix old.log new.log
+same_front old new same = subst (λ (m : Seen). IsPrefix old.log m.log) (sym same) ([], append-nil old.log)
+
+module _ {D : Type 0} (is_honest : D → Bool) (state : D → DiskState) (failures : D → ℕ) where
+  -- so far the history is that of a log which was brought up, whatever was begun after it
+  up_front : (log mark : ℕ) (old new : Seen) (u : UptoSteps (λ upto. BringsUp is_honest state failures gives_batch upto mark) log old new) → IsPrefix old.log new.log
+  up_front log mark old new u = turn_front is_honest state failures log (Ok mark) old new u
+
+  down_front : (log : ℕ) (refusal : Refusal) (old new : Seen) (u : UptoSteps (λ upto. FailsToBringUp is_honest state failures gives_batch upto refusal) log old new) → IsPrefix old.log new.log
+  down_front log refusal old new u = turn_front is_honest state failures log (Err refusal) old new (inr u)
+
+  begins_front : (log generation mark : ℕ) (old new : Seen) → UptoSteps (λ upto. BringsUpAndBegins is_honest state failures gives_batch upto generation mark) log old new → IsPrefix old.log new.log
+  begins_front log generation mark old new u =
+      let t = u.turned in
+      elim (t.does.begins) [
+        | inl (earlier, both) ↦
+            up_front log mark old new (record {
+              look = u.look;
+              seen = u.seen;
+              looked = u.looked;
+              turned = record { before = t.before; after = both.mid; whose = t.whose; does = record { mid = t.does.mid; opens = t.does.opens; flushes = both.flushes } };
+            })
+        | inr (there, flushes) ↦
+            up_front log mark old new (record {
+              look = u.look;
+              seen = u.seen;
+              looked = u.looked;
+              turned = record { before = t.before; after = t.after; whose = t.whose; does = record { mid = t.does.mid; opens = t.does.opens; flushes = flushes } };
+            })
+      ]
+
+  fails_front : (log generation : ℕ) (refusal : Refusal) (old new : Seen) (u : UptoSteps (λ upto. FailsToBringUpAndBegin is_honest state failures gives_batch upto generation refusal) log old new)
+      → IsPrefix old.log new.log
+  fails_front log generation refusal old new u =
+      let t = u.turned in
+      elim (t.does) [
+        | inl shut ↦
+            down_front log refusal old new (record {
+              look = u.look;
+              seen = u.seen;
+              looked = u.looked;
+              turned = record { before = t.before; after = t.after; whose = t.whose; does = inl shut };
+            })
+        | inr o ↦
+            let down : FailsToFlushLog is_honest state failures gives_batch u.look.steps refusal o.mid t.after u.seen new → IsPrefix old.log new.log =
+            λ fails.
+            down_front log refusal old new (record {
+              look = u.look;
+              seen = u.seen;
+              looked = u.looked;
+              turned = record { before = t.before; after = t.after; whose = t.whose; does = inr (record { mid = o.mid; opens = o.opens; fails = fails }) };
+            }) in
+            elim (o.fails) [
+              | inl (earlier, inl fails) ↦ down fails
+              | inl (earlier, inr only) ↦
+                  up_front log only.mark old new (record {
+                    look = u.look;
+                    seen = u.seen;
+                    looked = u.looked;
+                    turned = record { before = t.before; after = only.mid; whose = t.whose; does = record { mid = o.mid; opens = o.opens; flushes = only.flushes } };
+                  })
+              | inr (there, fails) ↦ down fails
+            ]
+      ]
+
+  pub any_front : (old : Seen) (turn : Turn) (new : Seen) → DoesShared is_honest state failures old turn new → IsPrefix old.log new.log
+  any_front old (BroughtUp log told) new d = turn_front is_honest state failures log told old new d
+  any_front old (BegunNext log generation (Ok mark)) new u = begins_front log generation mark old new u
+  any_front old (BegunNext log generation (Err refusal)) new (inl (elsewhere, same)) = same_front old new same
+  any_front old (BegunNext log generation (Err refusal)) new (inr u) = fails_front log generation refusal old new u
+  any_front old (GivenUp log (Ok u)) new d = same_front old new d.1
+  any_front old (GivenUp log (Err refusal)) new d = same_front old new d.1
+  any_front old (Told log (Ok told)) new d = same_front old new d.1
+  any_front old (Told log (Err refusal)) new d = same_front old new d.1
