@@ -167,7 +167,7 @@ fn play<L: Ledger + Send + Sync, J: Naming + Send + Sync, R: Threads + Wait + Cl
         } = names;
         return told::tell_alone(rt, alloc, Book::<L>::new(answers, state));
     }
-    let book = BookLock::new(Kept::<L, J>::new(names, state));
+    let book = BookLock::new(Kept::<L, J>::new(alloc, names, state));
     play_locked(rt, alloc, &book, case);
     if let Case::Tidied = case {
         tidied::expect_none_held(rt, alloc, book.into_inner().into_book());
