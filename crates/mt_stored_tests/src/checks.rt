@@ -6,7 +6,7 @@ use self::Act::{Puts, Settles, SettlesWithout};
 use crate::disks::{Fails, FlakyDisk, NEVER};
 use crate::images::{disk_with, hold_all_with, tenant_7};
 use crate::sessions::Session;
-use crate::stories::{TENANTS, bare_slots, joined, new_store, session_of};
+use crate::stories::{bare_slots, joined, new_store, session_of};
 use log::sink::Locked;
 use log::{Level, Log, Logged};
 use mt_book::{BookLock, Kept, Names};
@@ -155,9 +155,9 @@ fn played_named<L: Ledger, J: Naming, R: Wait + Clock + Log + Abort>(
 {
     let (state, logs, slots) = store.into_parts();
     let logs = locked_logs(alloc, logs).expect(rt, "memory");
-    let book = BookLock::new(Kept::<L, J>::new(names, state));
+    let book = BookLock::new(Kept::<L, J>::new(alloc, names, state));
     let turns = Turns::new(Checks::new(every, 0, slots));
-    let mut session = session_of(rt, alloc, &book, &logs, &turns, &TENANTS, 0);
+    let mut session = session_of(rt, alloc, &book, &logs, &turns, 0);
     for (place, act) in acts.iter().enumerate() {
         assert!(rt;
             comes_out(rt, alloc, &turns, &mut session, *act),

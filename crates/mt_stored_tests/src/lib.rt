@@ -2,7 +2,7 @@
 //! checkpoints that they write, and of turns of all logs. And of a store of 100,000 pairs, with two workers and their
 //! logs; of one whose files are of format 1; and of one that isn't made or recovered, since a disk of one of its files fails.
 //!
-//! Workers' sessions are played without sockets: by one thread in the order of a table, or by a thread each.
+//! But for one the workers' sessions are played without sockets: by one thread in the order of a table, or by a thread each.
 #![tactic(auto)]
 
 #[cfg(test)]

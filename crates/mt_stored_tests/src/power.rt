@@ -56,8 +56,8 @@ fn play<L: Ledger, J: Naming, R: Wait + Clock + Log + Abort>(
     turns: &Turns<FlakyDisk>,
     disks: &Mutex<Vec<FlakyDisk>>,
 ) -> u16 {
-    let mut first = session_of(rt, alloc, book, logs, turns, &TENANTS, 0);
-    let mut second = session_of(rt, alloc, book, logs, turns, &TENANTS, 1);
+    let mut first = session_of(rt, alloc, book, logs, turns, 0);
+    let mut second = session_of(rt, alloc, book, logs, turns, 1);
     let (pass, clerk) = open_pass(rt, book, 0).expect(rt, "a pass");
     let digests = KeptDigests {
         rt,
@@ -161,7 +161,7 @@ fn loses_nothing<L: Ledger, J: Naming, R: Wait + Clock + Log + Abort>(
     let (state, logs, slots) = store.into_parts();
     let turns = Turns::new(Checks::new(1, 0, slots));
     let logs = locked_logs(alloc, logs).expect(rt, "memory");
-    let book = BookLock::new(Kept::<L, J>::new(names, state));
+    let book = BookLock::new(Kept::<L, J>::new(alloc, names, state));
     let disks = Mutex::new(digests);
     let settled = play(rt, alloc, &book, &logs, &turns, &disks);
     let disks = disks.into_inner();

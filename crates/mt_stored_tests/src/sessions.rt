@@ -14,18 +14,21 @@ use std::sync::Wait;
 use std::sync::ledger::Ledger;
 use std::time::Clock;
 
+/// What answers a worker's session.
+pub(crate) type WorkerCaller<'a, L, J, R> = DeskCaller<
+    'a,
+    L,
+    R,
+    Clerk<'a, L, J>,
+    SharedLogs<'a, L, J, R, FlakyDisk>,
+    FlakyDisk,
+>;
+
 /// A worker's session, a turner that makes the turns which its settled answers make due, and how many keys its client has
 /// put.
 #[derive(Drop)]
 pub(crate) struct Session<'a, L: Ledger, J: Naming, R: Wait + Clock> {
-    pub caller: DeskCaller<
-        'a,
-        L,
-        R,
-        Clerk<'a, L, J>,
-        SharedLogs<'a, L, J, R, FlakyDisk>,
-        FlakyDisk,
-    >,
+    pub caller: WorkerCaller<'a, L, J, R>,
     pub turner: Turner<'a, L, R, Clerk<'a, L, J>, SharedLogs<'a, L, J, R, FlakyDisk>, NoDigests>,
     pub turns: &'a Turns<FlakyDisk>,
     pub worker: u8,

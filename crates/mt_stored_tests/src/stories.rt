@@ -4,7 +4,7 @@ ghost use Rattle.mt_book.specs.{Keeping.IsUnasked, Names.AreNames};
 
 use crate::disks::{Fails, FlakyDisk, NEVER, SOUND};
 use crate::images::{files_with, hold_all, image_of, images_of, plain_image, tenant_7};
-use crate::sessions::Session;
+use crate::sessions::{Session, WorkerCaller};
 use log::sink::Locked;
 use log::{Level, Log, Logged};
 use mt_book::{BookLock, Kept, Names, open_clerk, open_pass};
@@ -103,6 +103,20 @@ pub(crate) fn shared_logs<'a, L: Ledger, J: Naming, R: Wait + Clock + Abort>(
     SharedLogs::new(rt, open_clerk(rt, book).expect(rt, "a clerk"), logs)
 }
 
+/// What answers a session of a worker.
+pub(crate) fn caller_of<'a, L: Ledger, J: Naming, R: Wait + Clock + Log + Abort>(
+    rt: &'a R,
+    alloc: Global,
+    book: &'a BookLock<L, J>,
+    logs: &'a [Mutex<StoreLog<FlakyDisk>>],
+    turns: &'a Turns<FlakyDisk>,
+    worker: u8,
+) -> WorkerCaller<'a, L, J, R> {
+    let (pass, clerk) = open_pass(rt, book, worker).expect(rt, "a pass");
+    let keeper = Keeper::new(alloc, shared_logs(rt, book, logs), worker);
+    DeskCaller::new(rt, alloc, clerk, pass, keeper, turns, &TENANTS)
+}
+
 /// A session of a worker.
 pub(crate) fn session_of<'a, L: Ledger, J: Naming, R: Wait + Clock + Log + Abort>(
     rt: &'a R,
@@ -110,16 +124,14 @@ pub(crate) fn session_of<'a, L: Ledger, J: Naming, R: Wait + Clock + Log + Abort
     book: &'a BookLock<L, J>,
     logs: &'a [Mutex<StoreLog<FlakyDisk>>],
     turns: &'a Turns<FlakyDisk>,
-    tenants: &'a [TenantQuota],
     worker: u8,
 ) -> Session<'a, L, J, R> {
-    let (pass, clerk) = open_pass(rt, book, worker).expect(rt, "a pass");
-    let keeper = Keeper::new(alloc, shared_logs(rt, book, logs), worker);
+    let caller = caller_of(rt, alloc, book, logs, turns, worker);
     let (own, other) = open_pass(rt, book, 0).expect(rt, "a pass");
     let shared = shared_logs(rt, book, logs);
     let mut session = Session {
-        caller: DeskCaller::new(rt, alloc, clerk, pass, keeper, turns, tenants),
-        turner: Turner::new(rt, alloc, other, own, shared, tenants, NoDigests {}),
+        caller,
+        turner: Turner::new(rt, alloc, other, own, shared, &TENANTS, NoDigests {}),
         turns,
         worker,
         count: 0,
@@ -135,11 +147,10 @@ pub(crate) fn sessions_of<'a, L: Ledger, J: Naming, R: Wait + Clock + Log + Abor
     book: &'a BookLock<L, J>,
     logs: &'a [Mutex<StoreLog<FlakyDisk>>],
     turns: &'a Turns<FlakyDisk>,
-    tenants: &'a [TenantQuota],
 ) -> Vec<Session<'a, L, J, R>> {
     let mut sessions = Vec::new(alloc);
     for worker in 0..logs.len().min(64) as u8 {
-        let session = session_of(rt, alloc, book, logs, turns, tenants, worker);
+        let session = session_of(rt, alloc, book, logs, turns, worker);
         sessions.push(session).expect(rt, "memory");
     }
     sessions
@@ -320,7 +331,7 @@ fn play<L: Ledger, J: Naming, R: Wait + Clock + Log + Abort>(
     acts: &[Act],
 ) -> Vec<u16> {
     let turns = Turns::new(Checks::new(0, 0, None));
-    let mut sessions = sessions_of(rt, alloc, book, logs, &turns, &TENANTS);
+    let mut sessions = sessions_of(rt, alloc, book, logs, &turns);
     let mut seen = 0;
     for (place, act) in acts.iter().enumerate() {
         assert!(rt;
@@ -351,7 +362,7 @@ fn run_named<L: Ledger, J: Naming, R: Wait + Clock + Log + Abort>(
 {
     let (state, logs, _) = store.into_parts();
     let logs = locked_logs(alloc, logs).expect(rt, "memory");
-    let book = BookLock::new(Kept::<L, J>::new(names, state));
+    let book = BookLock::new(Kept::<L, J>::new(alloc, names, state));
     let counts = play(rt, alloc, &book, &logs, acts);
     let store = joined(rt, alloc, book, logs);
     expect_kept(rt, alloc, store, &counts);

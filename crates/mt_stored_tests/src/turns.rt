@@ -5,7 +5,7 @@ ghost use Rattle.mt_book.specs.{Keeping.IsUnasked, Names.AreNames};
 use crate::checks::expect_recovered;
 use crate::disks::{FlakyDisk, NEVER, SOUND};
 use crate::images::images_of;
-use crate::stories::{TENANTS, new_store, recovered, session_of, shared_logs, slots_with};
+use crate::stories::{new_store, recovered, session_of, shared_logs, slots_with};
 use log::sink::Locked;
 use log::{Level, Log, Logged};
 use mt_book::{BookLock, Kept, Names};
@@ -72,8 +72,8 @@ fn play<L: Ledger, J: Naming, R: Wait + Clock + Log + Abort>(
     turns: &Turns<FlakyDisk>,
     case: Case,
 ) {
-    let mut first = session_of(rt, alloc, book, logs, turns, &TENANTS, 0);
-    let mut second = session_of(rt, alloc, book, logs, turns, &TENANTS, 1);
+    let mut first = session_of(rt, alloc, book, logs, turns, 0);
+    let mut second = session_of(rt, alloc, book, logs, turns, 1);
     let (from, to) = case.rounds;
     first.skip(from.saturating_mul(2));
     second.skip(from.saturating_mul(2));
@@ -110,7 +110,7 @@ fn played<L: Ledger, J: Naming, R: Wait + Clock + Log + Abort>(
     let (state, logs, slots) = store.into_parts();
     let turns = Turns::new(Checks::new(1, 0, slots));
     let logs = locked_logs(alloc, logs).expect(rt, "memory");
-    let book = BookLock::new(Kept::<L, J>::new(names, state));
+    let book = BookLock::new(Kept::<L, J>::new(alloc, names, state));
     play(rt, alloc, &book, &logs, &turns, case);
     let next = next_generation(rt, &shared_logs(rt, &book, &logs)).expect(rt, "a generation");
     let logs = unlocked_logs(alloc, logs).expect(rt, "memory");
