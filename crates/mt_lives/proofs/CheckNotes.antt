@@ -35,7 +35,7 @@ use Rattle.mt_lives.specs.Checks.{first_of, pending, check_with, IsGivenUp, Afte
 use Rattle.mt_lives.specs.{Bases.{IsWritten, NewestIsBase, EitherIsBase}, Turning.{Turning, part_of, IsSettling, IsAtLog, IsWriting, IsTurning}}
 use Rattle.mt_lives.specs.{Parts.{turn_at, in_turn, AreSettledBy, AreFree, MayBegin, settle_from}, Steps.GoesOn, Forced.{HasFailed, SlotFails, IsWriteForced, IsStepForced}}
 use Rattle.mt_lives.specs.Holds.{LeadsTo, quotas_of, Holds}
-use Rattle.mt_lives.proofs.{Flushing.{keeps_rules, failures_of, within, rests_at_mark, stands_at}, TurnLogs.open_mark, Noting.{life_served, lives_so, held}, Served.{last, pairs_at}}
+use Rattle.mt_lives.proofs.{Flushing.{keeps_rules, failures_of, within, rests_at_mark, stands_at}, TurnLogs.open_mark, Noting.{life_served, lives_so, held}, Served.{whole, last, pairs_at}}
 use Rattle.mt_lives.proofs.{Told.{LivesOn, lives_on, slots_on}, Happening.{serves_none}}
 use Rattle.mt_lives.proofs.{Stories.{asked_now, owner_now, finished_now}, SlotReading.{with_slots, told_fault}, Returning.gave_up}
 use Rattle.mt_lives.proofs.Bases.{is_come, settled_newest, base_made, written_elsewhere, newly_written, ended_either}
@@ -448,7 +448,8 @@ module _ (accounts : Accounts) (standing : Standing) (logs : List (StoreLog MemD
           let story = story_in life_done in
           let serves = on_done.serves in
           let names = named now.roster.tickets in
-          let order = order_with_maps (quotas_of accounts) (firsts life_done) story (map_of now.state) (changed_at now.state) serves.history.right in
+          let order = order_with_maps (quotas_of accounts) (firsts life_done) story (map_of (whole accounts life_done on_done.t now.state names serves))
+          (changed_at (whole accounts life_done on_done.t now.state names serves)) serves.history.right in
           let maps = Rattle.mt_runs.specs.Placings.map_upto (quotas_of accounts) (firsts life_done) story order.0 scan_done.tenant in
           let shown = order.3 name answer (record { tenant = scan_done.tenant; command = Scan walk.from walk.after 64 [] }) (finished_now life_then.base life_then.run name answer) scan_done.asked_so in
           let by_order : IsLawful maps (IsBetween story name) walk.from walk.after 64 [] page =

@@ -30,7 +30,7 @@ rests_at_mark now n none mark = λ front left. ⊎_elim
 -- what a drain gave holds the worker's changes
 module _ (accounts : Accounts) (life : Life) (s : Store) (v new : StateView) (names : Names) (h : Serves accounts life s v names) (worker : ℕ) (batch : Batch)
     (d : Drains v new worker batch) where
-  pub holds_drained : life.base ≤ batch.from → HoldsChanges s worker batch
+  pub holds_drained : v.tape.floor ≤ batch.from → HoldsChanges s worker batch
   holds_drained le =
       let made = d.next.made in
       record {
@@ -38,7 +38,7 @@ module _ (accounts : Accounts) (life : Life) (s : Store) (v new : StateView) (na
         records =
             d.next.records
             ∙ ap (λ n. records_between worker n batch.to v.tape.entries) (sym d.next.begins)
-            ∙ drained_changes worker batch.from batch.to life.base h.before v.tape.entries h.ended le
+            ∙ drained_changes worker batch.from batch.to v.tape.floor h.before v.tape.entries h.ended le
             ∙ ap (λ ps. changes_of (filter (is_between worker batch.from batch.to) ps)) (sym h.holds);
       }
 
@@ -134,20 +134,20 @@ module _ (from : ℕ) (part : Part) (accounts : Accounts) (life : Life) (s : Sto
     from_so : batch.from ≡ drained_upto now log.kept
     from_so = d.next.begins ∙ got v.logs worker (drained_upto now log.kept) 0 at.given_so
 
-    from_base : life.base ≤ batch.from
-    from_base =
+    from_floor : v.tape.floor ≤ batch.from
+    from_floor =
         let reached = h.right.tape.logs.reached worker 0 (within v.logs worker (drained_upto now log.kept) at.given_so) in
-        omega (arith, reached, h.floor, d.next.begins)
+        omega (arith, reached, d.next.begins)
 
     -- it gave all of its changes, or 4,096
     pub full_or_all : (batch.to ≤ v.steps) × ((batch.to ≡ v.steps) ⊎ (life.base + 4096 ≤ batch.to))
     full_or_all = (
       d.next.made,
-      ⊎_elim inl (λ full. let on = goes_on batch bounded.in_order in let base = from_base in inr (omega (arith, on, full, base))) d.next.ends,
+      ⊎_elim inl (λ full. let on = goes_on batch bounded.in_order in let low = from_floor in inr (omega (arith, on, full, low, h.floor))) d.next.ends,
     )
 
     holds : (next : LogNow) → HoldsChanges (with_log worker next s) worker batch
-    holds next = let k = holds_drained accounts life s v new names h worker batch d from_base in record { made = k.made; records = k.records }
+    holds next = let k = holds_drained accounts life s v new names h worker batch d from_floor in record { made = k.made; records = k.records }
 
     now_given : slice_get new.logs worker ≡ Some batch.to
     now_given =
@@ -158,7 +158,7 @@ module _ (from : ℕ) (part : Part) (accounts : Accounts) (life : Life) (s : Sto
     stands_drained = drained_in from part now log batch stands none bounded.in_order from_so
 
     holds_here : HoldsChanges s worker batch
-    holds_here = holds_drained accounts life s v new names h worker batch d from_base
+    holds_here = holds_drained accounts life s v new names h worker batch d from_floor
 
     -- its batch is in the log, which goes up to its end
     pub flushed : (last : StoreLog MemDisk) → OnLast (AppendsNew keeps_rules mem_state failures_of batch) log last

@@ -18,10 +18,10 @@ use Rattle.mt_store_logs.specs.{Flushes.{DrainsShort, FailsToDrain, FailsToFlush
 use Rattle.mt_store_logs.specs.Turns.{FindsNext, FindsNoNext, LooksForNext, FailsToReopenLog, FailsToFlushLog}
 use Rattle.mt_crashes.proofs.Members.{no_some}
 use Rattle.mt_lives.specs.{declared.serving.Serving.Serving, Serving.DrainsServing, declared.events.StoreEvent.StoreEvent, declared.events.CrashImages.CrashImages}
-use Rattle.mt_lives.specs.{declared.events.StoreEvent.TheVariants.{Core, Flush, Reopen, SettleBegin, SettleNext, Crash}, declared.events.StoreNote.StoreNote}
+use Rattle.mt_lives.specs.{declared.events.StoreEvent.TheVariants.{Core, Move, Take, Tidy, Flush, Reopen, SettleBegin, SettleNext, Crash}, declared.events.StoreNote.StoreNote}
 use Rattle.mt_lives.specs.{declared.events.StoreNote.TheVariants.{Turned, Settled, Refused, NoSuch}, Lives.{Standing, Notes}, Holds.Holds}
 use Rattle.mt_lives.specs.{declared.serving.Settle.Settle, Steps.{Turns, LeavesSlots}}
-use Rattle.mt_lives.specs.Forced.{Logs, FailsAt, failures_in, AFileFails, DiskFails, CrashesFrom, IsForced, IsForcedAll, AreForced}
+use Rattle.mt_lives.specs.Forced.{Logs, FailsAt, failures_in, AFileFails, DiskFails, CrashesFrom, IsForced, IsForcedAll, IsDone, AreForced}
 use Rattle.mt_lives.proofs.{Comes.set_there, Noting.{found, at}, Flushing.{keeps_rules, failures_of}}
 use Rattle.mt_rows.specs.declared.refusal.Refusal.TheVariants as refusals
 
@@ -342,6 +342,9 @@ turn_forced accounts count id mark settle old new logs now_logs serving note t =
 -- where the store doesn't serve, nothing happens
 pub none_forced : (accounts : Accounts) (event : StoreEvent) (logs : Logs) → LeavesSlots event → IsForced accounts event NoSuch logs None logs
 none_forced accounts (Core e) logs leaves = refl
+none_forced accounts (Move op) logs leaves = refl
+none_forced accounts (Take op) logs leaves = refl
+none_forced accounts Tidy logs leaves = (refl, refl)
 none_forced accounts (Flush worker) logs leaves = (refl, inl refl)
 none_forced accounts (Reopen worker) logs leaves = (refl, inl refl)
 none_forced accounts (SettleBegin id) logs leaves = refl
@@ -352,6 +355,9 @@ none_forced accounts event logs leaves = absurd leaves
 pub slots_alone : (accounts : Accounts) (slots : LiveSlots) (event : StoreEvent) (note : StoreNote) (old : Logs) (serving : Option Serving) (new : Logs) → LeavesSlots event
     → IsForced accounts event note old serving new → IsForcedAll accounts slots slots event note old serving new
 slots_alone accounts slots (Core e) note old serving new leaves forced = (forced, refl)
+slots_alone accounts slots (Move op) note old serving new leaves forced = (forced, refl)
+slots_alone accounts slots (Take op) note old serving new leaves forced = (forced, refl)
+slots_alone accounts slots Tidy note old serving new leaves forced = (forced, refl)
 slots_alone accounts slots (Flush worker) note old serving new leaves forced = (forced, refl)
 slots_alone accounts slots (Reopen worker) note old serving new leaves forced = (forced, refl)
 slots_alone accounts slots (SettleBegin id) note old serving new leaves forced = (forced, refl)
@@ -384,15 +390,16 @@ module _ {E : Type 0} (first old new last : Logs) (result : Result StoreNote E) 
 -- one event more
 pub forced_more : (accounts : Accounts) (slots mid_slots now_slots : LiveSlots) (notes : Notes) (event : StoreEvent) (note : StoreNote) (old mid new : Logs)
     (was between is : Option Serving) → AreForced accounts slots mid_slots notes old was mid between → IsForcedAll accounts mid_slots now_slots event note mid between new
-    → AreForced accounts slots now_slots (notes ++ (event, note) ∷ []) old was new is
-forced_more accounts slots mid_slots now_slots [] event note old mid new was between is all one = (
+    → IsDone event note between is → AreForced accounts slots now_slots (notes ++ (event, note) ∷ []) old was new is
+forced_more accounts slots mid_slots now_slots [] event note old mid new was between is all one done = (
   new,
   is,
   now_slots,
   subst (λ ss. IsForcedAll accounts ss now_slots event note old was new) all.2
       (subst (λ s. IsForcedAll accounts mid_slots now_slots event note old s new) all.1
       (subst (λ logs. IsForcedAll accounts mid_slots now_slots event note logs between new) all.0 one)),
+  subst (λ s. IsDone event note s is) all.1 done,
   (refl, refl, refl),
 )
-forced_more accounts slots mid_slots now_slots (x ∷ notes) event note old mid new was between is all one =
-    (all.0, all.1, all.2, all.3, forced_more accounts all.2 mid_slots now_slots notes event note all.0 mid new all.1 between is all.4 one)
+forced_more accounts slots mid_slots now_slots (x ∷ notes) event note old mid new was between is all one done =
+    (all.0, all.1, all.2, all.3, all.4, forced_more accounts all.2 mid_slots now_slots notes event note all.0 mid new all.1 between is all.5 one done)

@@ -10,13 +10,13 @@ use Rattle.mt_crashes.specs.Fronts.{made, with_change, after_changes}
 use Rattle.mt_drains.specs.Drains.{record_of}
 use Rattle.mt_lives.specs.Earlier.{earlier_entries, AreTold}
 
-earlier_none : (m : ℕ) (entries : List Entry) → All (λ e. m < e.step) entries → earlier_entries m entries ≡ []
+pub earlier_none : (m : ℕ) (entries : List Entry) → All (λ e. m < e.step) entries → earlier_entries m entries ≡ []
 earlier_none m [] over = refl
 earlier_none m (e ∷ entries) over =
     ap (λ b. cond (not b) (e ∷ earlier_entries m entries) (earlier_entries m entries)) (lt-ltb m e.step (All-head (λ (x : Entry). m < x.step) e entries over))
     ∙ earlier_none m entries (All-tail (λ (x : Entry). m < x.step) e entries over)
 
-earlier_more : (m : ℕ) (e : Entry) (entries : List Entry) → e.step ≤ m → earlier_entries m (e ∷ entries) ≡ e ∷ earlier_entries m entries
+pub earlier_more : (m : ℕ) (e : Entry) (entries : List Entry) → e.step ≤ m → earlier_entries m (e ∷ entries) ≡ e ∷ earlier_entries m entries
 earlier_more m e entries le = ap (λ b. cond (not b) (e ∷ earlier_entries m entries) (earlier_entries m entries)) (le-ltb m e.step le)
 
 -- ---- what a log tells of a write

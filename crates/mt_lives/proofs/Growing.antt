@@ -65,7 +65,7 @@ grows_placing s p serves number worker = record {
 -- ---- quotas
 
 -- the pairs up to a step before a change are as they were
-before_change : (m : ℕ) (history : List Placed) (p : Placed) → m < p.change.stamp → pairs_upto m (history ++ p ∷ []) ≡ pairs_upto m history
+pub before_change : (m : ℕ) (history : List Placed) (p : Placed) → m < p.change.stamp → pairs_upto m (history ++ p ∷ []) ≡ pairs_upto m history
 before_change m history p lt =
     ap (λ ps. Rattle.mt_crashes.specs.Fronts.after_changes pairs.empty (changes_of ps)) (
     filter-append (λ (q : Placed). not (nat_lt m q.change.stamp)) history (p ∷ [])

@@ -6,9 +6,9 @@ use Rattle.mt_disk.specs.declared.mem.MemDisk.{MemDisk}
 use Rattle.mt_lives.specs.declared.live_slots.LiveSlots.{LiveSlots}
 use Rattle.mt_runs.specs.Placings.{Quotas}
 use Rattle.mt_store_logs.specs.{declared.store_log.StoreLog.StoreLog, Places.workers_of}
-use Rattle.mt_lives.specs.{declared.events.CrashImages.CrashImages, declared.events.StoreEvent.StoreEvent, declared.events.StoreEvent.TheVariants.{Core, Flush, Reopen, SettleBegin, SettleNext, CheckBegin, CheckStep, Crash}}
+use Rattle.mt_lives.specs.{declared.events.CrashImages.CrashImages, declared.events.StoreEvent.StoreEvent, declared.events.StoreEvent.TheVariants.{Core, Move, Take, Tidy, Flush, Reopen, SettleBegin, SettleNext, CheckBegin, CheckStep, Crash}}
 use Rattle.mt_lives.specs.{declared.events.StoreNote.StoreNote, declared.events.StoreNote.TheVariants.NoSuch, declared.serving.Serving.Serving}
-use Rattle.mt_lives.specs.{Lives.{Life, Past, Standing, IsServing, IsNoted}, Holds.{HoldsNow, Holds}, Steps.{LeavesSlots, GoesOn}, Forced.{IsBeginForced, IsStepForced, IsForcedAll}}
+use Rattle.mt_lives.specs.{Lives.{Life, Past, Standing, IsServing, IsNoted}, Holds.{HoldsNow, Holds}, Steps.{LeavesSlots, GoesOn}, Forced.{IsBeginForced, IsStepForced, IsForcedAll, IsDone}}
 
 pub leaves_slots : (event : StoreEvent) → (event ≡ CheckBegin → ⊥) → (event ≡ CheckStep → ⊥) → ((images : CrashImages) → event ≡ Crash images → ⊥) → LeavesSlots event
 leaves_slots CheckBegin begins steps crashes = absurd (begins refl)
@@ -16,9 +16,20 @@ leaves_slots CheckStep begins steps crashes = absurd (steps refl)
 leaves_slots (Crash images) begins steps crashes = absurd (crashes images refl)
 leaves_slots event begins steps crashes = tt
 
+-- an event that doesn't leave the slots alone is no tidying, no step and no take
+pub done_other : (event : StoreEvent) (note : StoreNote) (was now : Option Serving) → ¬ LeavesSlots event → IsDone event note was now
+done_other event note None now not = tt
+done_other CheckBegin note (Some was) now not = tt
+done_other CheckStep note (Some was) now not = tt
+done_other (Crash images) note (Some was) now not = tt
+done_other event note (Some was) now not = absurd (not tt)
+
 -- where the store serves no life, NoSuch may be noted
 pub nothing_noted : (quotas : Quotas) (standing : Standing) (event : StoreEvent) → LeavesSlots event → ¬ IsServing standing → IsNoted quotas standing event NoSuch standing
 nothing_noted quotas standing (Core e) leaves not = (not, refl)
+nothing_noted quotas standing (Move op) leaves not = (not, refl)
+nothing_noted quotas standing (Take op) leaves not = refl
+nothing_noted quotas standing Tidy leaves not = (not, refl)
 nothing_noted quotas standing (SettleBegin id) leaves not = (inl not, refl)
 nothing_noted quotas standing (SettleNext id) leaves not = (inl not, refl)
 nothing_noted quotas standing (Flush worker) leaves not = refl

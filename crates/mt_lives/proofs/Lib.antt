@@ -2,6 +2,8 @@ pub mod Forward
 pub mod Tapes
 pub mod Comes
 pub mod Served
+pub mod Untidied
+pub mod Remembering
 pub mod Workers
 pub mod Growing
 pub mod Tenants
@@ -30,6 +32,8 @@ pub mod Draining
 pub mod Settling
 pub mod Told
 pub mod Goes
+pub mod Tidying
+pub mod Moving
 pub mod Lists
 pub mod Happening
 pub mod Forcing

@@ -1,6 +1,6 @@
 -- A store that was recovered serves its next life, with a state that was restored from what was found.
 use Rattle.std.proofs.Common.{◌≡◌, ℕ, zero, suc, ◌+◌, ◌<◌, ◌≤◌, true, false, not, List, [], ◌++◌, map, length, replicate, get_or, Option, Some, None, refl, sym, ap, subst, ◌∙◌, arith, inl, inr}
-use Rattle.std.proofs.{lemmas.Bool.{not-true, ltb-false}, lemmas.List.{append-nil, length-replicate}, lemmas.List.Elements.filter_passes}
+use Rattle.std.proofs.{lemmas.Bool.{not-true, ltb-false}, lemmas.List.{append-nil, length-replicate}, lemmas.List.Elements.{All-nil, filter_passes}}
 use Rattle.std.proofs.lemmas.Option.{slice_get-get_or}
 use Rattle.std.specs.{Prelude.{slice_get, nat_lt}, List.All, Option.option_map, Ordering.{nat_cmp, is_eq}, Map.lookup, BTreeMap.{BTreeMap, get}}
 use Rattle.std.specs.FinMap.{empty, len}
@@ -8,17 +8,17 @@ use Rattle.mt_rows.specs.{Accounts.{Accounts, account_of}, Tenants.{Contents as 
 use Rattle.mt_rows.specs.{declared.record.TenantPair.TenantPair, declared.tenants.Account.Account}
 use Rattle.mt_disk.specs.declared.mem.MemDisk.{MemDisk}
 use Rattle.mt_log.specs.Contents.{Contents, mark_of}
-use Rattle.mt_tape.specs.Tapes.{Kept}
+use Rattle.mt_tape.specs.{declared.entry.Entry.Entry, Tapes.Kept, Histories.contents_at}
 use Rattle.mt_runs.specs.Runs.{story_of}
-use Rattle.mt_state.specs.{Views.{StateView, contents_of, op_at, granted, granted_in, quota_of}, Histories.{Names, no_names, History}}
+use Rattle.mt_state.specs.{Views.{StateView, contents_of, op_at, granted, granted_in, quota_of}, Histories.{Names, no_names}}
 use Rattle.mt_state.proofs.HistoryStart.{history_start}
 use Rattle.mt_core.{specs.{Restores.{counting, IsRestored}, Rights.IsRightState, Tickets.named}, proofs.EventRuns.{leads_first, by_id_first}}
 use Rattle.mt_crashes.specs.{Fronts.{after_changes, HoldResume}, Histories.{Placed, upto, changes_of}, Stores.{Store, LogNow, at_rest, AllReach}}
 use Rattle.mt_crashes.proofs.{Invariant.{map_place, left_at_rest}, Members.no_some}
 use Rattle.mt_store_logs.specs.{declared.store_log.StoreLog.StoreLog, Shows.drained_upto}
 use Rattle.mt_lives.specs.{declared.serving.Serving.Serving, declared.serving.Settle.Settle, Lives.{Life, life_from, firsts, story_in}}
-use Rattle.mt_lives.specs.{Holds.{quotas_of, LeadsTo, placed_of, HoldsKept, IsSettleIn, HoldsServing}, Returns.IsFresh}
-use Rattle.mt_lives.proofs.{Comes.{stays_here, one_more}, Logged.EachAt, Flushing.within, Walking.resting_logs, Opening.AllOpen}
+use Rattle.mt_lives.specs.{Earlier.untidied, Remembers.Remembers, Holds.{quotas_of, LeadsTo, placed_of, HoldsKept, IsSettleIn, HoldsServing}, Returns.IsFresh}
+use Rattle.mt_lives.proofs.{Comes.{stays_here, one_more}, Tapes.upto_ended, Remembering.remembers_history, Logged.EachAt, Flushing.within, Walking.resting_logs, Opening.AllOpen}
 use mathlib.Core.Path.{fun_ext}
 use Rattle.mt_state.specs.Views as views
 use Rattle.mt_crashes.specs.Stores as stores
@@ -118,11 +118,12 @@ module _ (accounts : Accounts) (first : Pairs) (steps logs : ℕ) (v : StateView
   none_there : (n : ℕ) → op_at v.table n ≡ None
   none_there n = ap (λ table. op_at table n) is.table_is
 
-  begins : History (quotas_of accounts) (firsts life) (story_in life) no_names v
+  begins : Remembers (quotas_of accounts) (firsts life) (story_in life) no_names (untidied [] steps v)
   begins =
-      subst (λ q. History q (firsts life) (story_of steps []) no_names v) (fun_ext is.quotas)
-      (subst (λ n. History (quota_of v) (firsts life) (story_of n []) no_names v) is.steps_are
-      (history_start v (firsts life) none_there is.quiet (λ t. ap (tenant_map t) is.contents_are)))
+      subst (λ q. Remembers q (firsts life) (story_of steps []) no_names (untidied [] steps v)) (fun_ext is.quotas)
+      (subst (λ n. Remembers (quota_of v) (firsts life) (story_of n []) no_names (untidied [] steps v)) is.steps_are
+      (remembers_history (quota_of v) (firsts life) (story_of v.steps []) no_names (untidied [] steps v) none_there
+      (history_start (untidied [] steps v) (firsts life) none_there is.quiet (λ t. ap (tenant_map t) is.contents_are))))
 
   module _ (s : Store) (serving : s.serving ≡ true) (steps_so : s.steps ≡ steps) (count : length s.logs ≡ logs) (rest : RestAt steps s.logs)
       (ended : All (λ p. p.change.stamp ≤ steps) s.history) (found : first ≡ after_changes empty (changes_of s.history)) where
@@ -131,15 +132,20 @@ module _ (accounts : Accounts) (first : Pairs) (steps logs : ℕ) (v : StateView
       serving = serving;
       steps = is.steps_are ∙ sym steps_so;
       logs = ap length is.logs_are ∙ length-replicate logs steps ∙ sym count;
-      history = subst (λ (n : Names). History (quotas_of accounts) (firsts life) (story_in life) n v) (sym none) begins;
+      gone = [];
+      history = subst (λ (n : Names). Remembers (quotas_of accounts) (firsts life) (story_in life) n (untidied [] steps v)) (sym none) begins;
       tenants = is.tenants;
       right = right;
-      floor = is.floor;
+      floor = omega (arith, is.floor);
+      given_up = All-nil (λ (e : Entry). e.step ≤ v.tape.floor);
       workers = λ n op there. absurd (no_some op (sym (none_there n) ∙ there));
+      starts = λ n op there. absurd (no_some op (sym (none_there n) ∙ there));
       before = s.history;
-      ended = ended;
-      first = sym found;
+      ended = subst (λ n. All (λ (p : Placed). p.change.stamp ≤ n) s.history) (sym is.floor) ended;
       holds = sym (append-nil s.history) ∙ ap (λ es. s.history ++ map placed_of es) (sym is.quiet);
+      pairs = λ cutoff from le.
+          ap (λ ps. after_changes empty (changes_of ps)) (upto_ended steps cutoff s.history ended from)
+          ∙ sym found ∙ sym is.contents_are ∙ ap (λ es. contents_at es (contents_of v) cutoff) (sym is.quiet);
       reach = reach_all s steps rest;
     }
 

@@ -1,16 +1,17 @@
 -- A log of a store that serves comes to be another one: what the store tells of the others, and of its life, stays.
 use Rattle.std.proofs.Common.{◌≡◌, ◌≢◌, ◌⊎◌, ℕ, zero, suc, ◌<◌, ◌≤◌, List, [], ◌∷◌, ◌++◌, map, length, Option, Some, None, refl, sym, ap, subst, ◌∙◌, arith, inl, inr}
 use Rattle.std.proofs.{lemmas.Bool.cases_eq, lemmas.List.length-set, lemmas.Option.same_Some}
-use Rattle.std.specs.{Prelude.{slice_get, slice_set}, Ordering.nat_cmp, BTreeMap.{BTreeMap, get}}
+use Rattle.std.specs.{Prelude.{slice_get, slice_set}, List.All, Ordering.nat_cmp, BTreeMap.{BTreeMap, get}}
 use Rattle.mt_rows.specs.{Accounts.Accounts, declared.record.Batch.Batch}
 use Rattle.mt_disk.specs.declared.mem.MemDisk.{MemDisk}
-use Rattle.mt_state.specs.{Views.{StateView, op_at, granted}, Histories.{Names, History}}
+use Rattle.mt_tape.specs.{declared.entry.Entry.Entry, Histories.contents_at}
+use Rattle.mt_state.specs.{Views.{StateView, contents_of, op_at, granted}, Histories.Names}
 use Rattle.mt_core.specs.{Drains.Drains, Rights.IsRightState}
-use Rattle.mt_crashes.specs.Stores.{Store, LogNow, AllReach}
+use Rattle.mt_crashes.specs.{Histories.{Placed, pairs_upto}, Stores.{Store, LogNow, AllReach}}
 use Rattle.mt_store_logs.specs.declared.store_log.StoreLog.{StoreLog}
-use Rattle.mt_lives.specs.{declared.serving.Settle.Settle, Lives.{Life, firsts, story_in}}
+use Rattle.mt_lives.specs.{declared.serving.Settle.Settle, Lives.{Life, firsts, story_in}, Earlier.untidied, Remembers.Remembers}
 use Rattle.mt_lives.specs.Holds.{quotas_of, HasCome, LeadsTo, placed_of, HoldsKept, IsLogAt, EachLog, IsSettleIn, AreSettles, Serves}
-use Rattle.mt_lives.proofs.Comes.{set_there, with_log, reached_on}
+use Rattle.mt_lives.proofs.{Comes.{set_there, with_log, reached_on}, Remembering.knows_by}
 use Rattle.mt_lives.specs.Turning.{Turning, part_of}
 
 pub set_other : {X : Type 0} (xs : List X) (i k : ℕ) (y : X) → k ≢ i → slice_get (slice_set xs i y) k ≡ slice_get xs k
@@ -56,15 +57,18 @@ module _ (accounts : Accounts) (life : Life) (s : Store) (v : StateView) (names 
         serving = h.serving;
         steps = h.steps;
         logs = h.logs ∙ sym len;
+        gone = h.gone;
         history = h.history;
         tenants = h.tenants;
         right = h.right;
         floor = h.floor;
+        given_up = h.given_up;
         workers = λ n op there. subst (λ m. op.worker < m) (sym len) (h.workers n op there);
+        starts = h.starts;
         before = h.before;
         ended = h.ended;
-        first = h.first;
         holds = h.holds;
+        pairs = h.pairs;
         reach = all_on count life.base s (with_log worker next s) some few come leads h.reach;
       }
 
@@ -72,14 +76,14 @@ module _ (accounts : Accounts) (life : Life) (s : Store) (v : StateView) (names 
   pub serves_drained : (new : StateView) (worker : ℕ) (batch : Batch) → Drains v new worker batch → IsRightState new → Serves accounts life s new names
   serves_drained new worker batch d right =
       let drained : StateView = record v { logs = slice_set v.logs worker batch.to } in
-      let history : History (quotas_of accounts) (firsts life) (story_in life) names drained = record {
+      let history : Remembers (quotas_of accounts) (firsts life) (story_in life) names (untidied h.gone life.base drained) = record {
         right = h.history.right;
         quota = h.history.quota;
         count = h.history.count;
         made = h.history.made;
         told = λ o n e.
             let t = h.history.told o n e in
-            (t.0, t.1, record { asked_so = t.2.asked_so; first = t.2.first; last = t.2.last; still = t.2.still; unfinished = t.2.unfinished; changes = t.2.changes; own = t.2.own; placed = t.2.placed });
+            (t.0, t.1, knows_by (story_in life) (untidied h.gone life.base v) (untidied h.gone life.base drained) o t.0 (λ m. refl) t.2);
         apart = h.history.apart;
         all = h.history.all;
         free = h.history.free;
@@ -90,15 +94,21 @@ module _ (accounts : Accounts) (life : Life) (s : Store) (v : StateView) (names 
         serving = h.serving;
         steps = ap (λ (w : StateView). w.steps) d.stands ∙ h.steps;
         logs = ap (λ (w : StateView). length w.logs) d.stands ∙ set_length v.logs worker batch.to ∙ h.logs;
-        history = subst (λ (w : StateView). History (quotas_of accounts) (firsts life) (story_in life) names w) same history;
+        gone = h.gone;
+        history = subst (λ (w : StateView). Remembers (quotas_of accounts) (firsts life) (story_in life) names (untidied h.gone life.base w)) same history;
         tenants = λ t. ap (λ (w : StateView). granted w t) d.stands ∙ h.tenants t;
         right = right;
-        floor = ap (λ (w : StateView). w.tape.floor) d.stands ∙ h.floor;
+        floor = subst (λ (w : StateView). life.base ≤ w.tape.floor) same h.floor;
+        given_up = subst (λ (w : StateView). All (λ (e : Entry). e.step ≤ w.tape.floor) h.gone) same h.given_up;
         workers = λ n op there. h.workers n op (ap (λ (w : StateView). op_at w.table n) same ∙ there);
+        starts = λ n op there. h.starts n op (ap (λ (w : StateView). op_at w.table n) same ∙ there);
         before = h.before;
-        ended = h.ended;
-        first = h.first;
+        ended = subst (λ (w : StateView). All (λ (p : Placed). p.change.stamp ≤ w.tape.floor) h.before) same h.ended;
         holds = h.holds ∙ ap (λ (w : StateView). h.before ++ map placed_of w.tape.entries) same;
+        pairs =
+            subst (λ (w : StateView). (cutoff : ℕ) → life.base ≤ cutoff → cutoff ≤ w.tape.floor
+            → pairs_upto cutoff s.history ≡ contents_at (h.gone ++ w.tape.entries) (contents_of w) cutoff)
+            same h.pairs;
         reach = h.reach;
       }
 

@@ -1,6 +1,5 @@
 -- A store whose second reading stopped: its logs were only read.
-use Rattle.std.proofs.Common.{◌≡◌, ℕ, false, List, length, Some, true, ap, sym, subst, ◌∙◌, ◌<◌}
-use Rattle.std.specs.Prelude.{slice_get}
+use Rattle.std.proofs.Common.{ℕ, false, List, ap, subst, ◌∙◌, ◌<◌}
 use Rattle.mt_disk.specs.{declared.mem.MemDisk.MemDisk, Mem.mem_state}
 use Rattle.mt_crashes.{specs.Stores.{LogNow, Store}, proofs.Invariant.within_place}
 use Rattle.mt_chain_files.proofs.StillShown.{shown_again}

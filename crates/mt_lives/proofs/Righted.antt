@@ -49,6 +49,7 @@ module _ (v : StateView) (worker to : ℕ) (h : IsRightState v) (there : worker 
       makes = e.makes;
       keeps = e.keeps;
       was = e.was;
+      met = e.met;
     };
   }
 

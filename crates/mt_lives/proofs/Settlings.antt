@@ -7,9 +7,9 @@ use Rattle.mt_lives.specs.declared.live_slots.LiveSlots.{LiveSlots}
 use Rattle.mt_runs.specs.Placings.{Quotas}
 use Rattle.mt_recover.specs.declared.recovering.Recovered.{Recovered as AnyRecovered}
 use Rattle.mt_store_logs.specs.declared.store_log.StoreLog.{StoreLog}
-use Rattle.mt_lives.specs.{declared.events.CrashImages.CrashImages, declared.events.StoreEvent.StoreEvent, declared.events.StoreEvent.TheVariants.{Core, Flush, Reopen, SettleBegin, SettleNext, CheckBegin, CheckStep, Crash}}
+use Rattle.mt_lives.specs.{declared.events.CrashImages.CrashImages, declared.events.StoreEvent.StoreEvent, declared.events.StoreEvent.TheVariants.{Core, Move, Take, Tidy, Flush, Reopen, SettleBegin, SettleNext, CheckBegin, CheckStep, Crash}}
 use Rattle.mt_lives.specs.declared.events.StoreNote.{StoreNote}
-use Rattle.mt_lives.specs.declared.events.StoreNote.TheVariants.{Told, Flushed, Reopened, Begun, Turned, Settled, CheckBegun, CheckTurned, CheckWrites, CheckTold, CheckAdded, CheckEnded, TurnEnded, Recovered, Refused, NoSuch}
+use Rattle.mt_lives.specs.declared.events.StoreNote.TheVariants.{Told, Finished, Took, Tidied, Flushed, Reopened, Begun, Turned, Settled, CheckBegun, CheckTurned, CheckWrites, CheckTold, CheckAdded, CheckEnded, TurnEnded, Recovered, Refused, NoSuch}
 use Rattle.mt_lives.specs.{declared.serving.Serving.Serving, Lives.{Life, Past, Standing, steps_in, IsNoted, Notes, NotesLead}, Holds.quotas_of}
 use Rattle.mt_lives.specs.Owned.{turn_notes, AreTurnNotes, IsWholeSettle}
 use Rattle.mt_lives.proofs.Goes.{ok_life}
@@ -66,6 +66,10 @@ module _ (quotas : Quotas) (id n : ℕ) where
 -- a number that was settled stays so
 never_falls : (quotas : Quotas) (old new : Standing) (event : StoreEvent) (note : StoreNote) → IsNoted quotas old event note new → old.settled ≤ new.settled
 never_falls quotas old new (Core e) (Told t) noted = let same = ap (λ (s : Standing). s.settled) noted.3 in omega (arith, same)
+never_falls quotas old new (Move op) (Told t) noted = let same = ap (λ (s : Standing). s.settled) noted.3 in omega (arith, same)
+never_falls quotas old new (Move op) Finished noted = let same = ap (λ (s : Standing). s.settled) noted.4 in omega (arith, same)
+never_falls quotas old new (Take op) (Took answer) noted = let same = ap (λ (s : Standing). s.settled) noted.3 in omega (arith, same)
+never_falls quotas old new Tidy Tidied noted = let same = ap (λ (s : Standing). s.settled) noted.1 in omega (arith, same)
 never_falls quotas old new (Flush worker) (Flushed number) noted = let same = ap (λ (s : Standing). s.settled) noted.4 in omega (arith, same)
 never_falls quotas old new (Flush worker) (Refused e) noted = let same = ap (λ (s : Standing). s.settled) noted.2 in omega (arith, same)
 never_falls quotas old new (Reopen worker) Reopened noted = let same = ap (λ (s : Standing). s.settled) noted.1 in omega (arith, same)
@@ -75,6 +79,9 @@ never_falls quotas old new (SettleNext id) Turned noted = let same = ap (λ (s :
 never_falls quotas old new (SettleNext id) (Settled number) noted = let same = ap (λ (s : Standing). s.settled) noted.6 in omega (arith, same)
 never_falls quotas old new (SettleNext id) (Refused e) noted = let same = ap (λ (s : Standing). s.settled) noted.3 in omega (arith, same)
 never_falls quotas old new (Core e) NoSuch noted = let same = ap (λ (s : Standing). s.settled) noted.1 in omega (arith, same)
+never_falls quotas old new (Move op) NoSuch noted = let same = ap (λ (s : Standing). s.settled) noted.1 in omega (arith, same)
+never_falls quotas old new (Take op) NoSuch noted = let same = ap (λ (s : Standing). s.settled) noted in omega (arith, same)
+never_falls quotas old new Tidy NoSuch noted = let same = ap (λ (s : Standing). s.settled) noted.1 in omega (arith, same)
 never_falls quotas old new (SettleBegin id) NoSuch noted = let same = ap (λ (s : Standing). s.settled) noted.1 in omega (arith, same)
 never_falls quotas old new (SettleNext id) NoSuch noted = let same = ap (λ (s : Standing). s.settled) noted.1 in omega (arith, same)
 never_falls quotas old new (Crash images) (Recovered r) noted = let same = ap (λ (s : Standing). s.settled) noted.3 in omega (arith, same)

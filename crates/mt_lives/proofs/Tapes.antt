@@ -1,12 +1,13 @@
--- A store's history as what earlier lives left and the writes of a tape: the pairs after each step, and what a drain gives.
-use Rattle.std.proofs.Common.{◌≡◌, ℕ, ◌<◌, ◌≤◌, Bool, true, false, not, ◌&&◌, cond, List, [], ◌∷◌, ◌++◌, map, get_or, refl, sym, ap, ◌∙◌, arith}
-use Rattle.std.proofs.{lemmas.Bool.{lt-ltb, le-ltb, true≢false}, lemmas.List.{map-append, append-nil}, lemmas.List.Elements.{All-head, All-tail, filter-append}}
+-- A store's history as what was written before a tape and the writes of the tape: the pairs after each step, what a drain gives, and what a tidying parts.
+use Rattle.std.proofs.Common.{◌≡◌, ℕ, ◌<◌, ◌≤◌, Bool, true, false, not, ◌&&◌, cond, List, [], ◌∷◌, ◌++◌, map, get_or, refl, sym, ap, ◌∙◌, arith, ⊎_elim}
+use Rattle.std.proofs.{lemmas.Bool.{cases_lt, lt-ltb, le-ltb, ltb-false, not-true, true≢false}, lemmas.List.{map-append, append-nil}, lemmas.List.Elements.{All-head, All-tail, All-weaker, filter-append, filter_passes}}
 use Rattle.std.specs.{Prelude.{nat_lt, ◌==◌}, List.{All, filter}}
 use Rattle.mt_rows.specs.{Tenants.Contents, declared.record.Batch.Batch}
-use Rattle.mt_tape.specs.{declared.entry.Entry.Entry, Tapes.RisesOver, Histories.{contents_at, IsLegalTape}}
+use Rattle.mt_tape.specs.{declared.entry.Entry.Entry, Tapes.{RisesOver, later_entries}, Histories.{without_write, undone, contents_at, IsLegalTape}}
+use Rattle.mt_tape.proofs.EntryLaws.{rises_all, later_entries-all, later_entries-none, later_entries-dropped}
 use Rattle.mt_crashes.{specs.{Fronts.after_changes, Histories.{Placed, upto, changes_of, pairs_upto}, Stores.is_between}, proofs.Bases.after_append}
 use Rattle.mt_drains.specs.Drains.{record_of, records_between}
-use Rattle.mt_lives.{specs.{Holds.placed_of, Earlier.{earlier_entries, AreTold}}, proofs.Forward.forward}
+use Rattle.mt_lives.{specs.{Holds.placed_of, Earlier.{earlier_entries, AreTold}}, proofs.Forward.{forward, earlier_none, earlier_more}}
 use Rattle.std.specs.FinMap as pairs
 
 -- ---- filters
@@ -38,7 +39,7 @@ changes_placed : (entries : List Entry) → changes_of (map placed_of entries) �
 changes_placed [] = refl
 changes_placed (e ∷ entries) = ap (λ rs. record_of e ∷ rs) (changes_placed entries)
 
-upto_ended : (base cutoff : ℕ) (before : List Placed) → All (λ p. p.change.stamp ≤ base) before → base ≤ cutoff → upto cutoff before ≡ before
+pub upto_ended : (base cutoff : ℕ) (before : List Placed) → All (λ p. p.change.stamp ≤ base) before → base ≤ cutoff → upto cutoff before ≡ before
 upto_ended base cutoff before ended le =
     kept_all (λ p. not (nat_lt cutoff p.change.stamp)) before (λ k d lt.
     let p : Placed = get_or before k d in
@@ -63,6 +64,66 @@ tape_pairs base cutoff before entries now first ended left start rises legal tol
     ∙ after_append pairs.empty (changes_of before) (map record_of (earlier_entries cutoff entries))
     ∙ ap (λ (c : Contents). after_changes c (map record_of (earlier_entries cutoff entries))) (left ∙ sym start)
     ∙ sym (forward base cutoff entries now rises legal told le)
+
+-- up to the floor they are what was written before the tape
+pub pairs_before : (floor : ℕ) (before : List Placed) (entries : List Entry) → All (λ p. p.change.stamp ≤ floor) before → RisesOver floor entries
+    → pairs_upto floor (before ++ map placed_of entries) ≡ after_changes pairs.empty (changes_of before)
+pairs_before floor before entries ended rises =
+    ap (after_changes pairs.empty)
+    (changes_upto floor floor before entries ended (omega arith)
+    ∙ ap (λ es. changes_of before ++ map record_of es) (earlier_none floor entries (rises_all floor entries rises))
+    ∙ append-nil (changes_of before))
+
+-- ---- writes that were given up
+
+undone_append : (xs ys : List Entry) (now : Contents) → undone (xs ++ ys) now ≡ undone xs (undone ys now)
+undone_append [] ys now = refl
+undone_append (e ∷ xs) ys now = ap (λ (c : Contents). without_write c e) (undone_append xs ys now)
+
+later_both : (m : ℕ) (gone entries : List Entry) → later_entries m (gone ++ entries) ≡ later_entries m gone ++ later_entries m entries
+later_both m gone entries = filter-append (λ e. nat_lt m e.step) gone entries
+
+-- from the floor on the pairs are those of the tape alone
+pub whole_since : (floor m : ℕ) (gone entries : List Entry) (now : Contents) → All (λ e. e.step ≤ floor) gone → floor ≤ m
+    → contents_at (gone ++ entries) now m ≡ contents_at entries now m
+whole_since floor m gone entries now over le =
+    ap (λ es. undone es now)
+    (later_both m gone entries
+    ∙ ap (λ es. es ++ later_entries m entries)
+    (later_entries-none m gone (All-weaker (λ (e : Entry). e.step ≤ floor) (λ (e : Entry). e.step ≤ m) (λ e up. omega (arith, up, le)) gone over)))
+
+-- and before it those at the floor, with what was given up undone
+pub whole_before : (floor m : ℕ) (gone entries : List Entry) (now : Contents) → RisesOver floor entries → m ≤ floor
+    → contents_at (gone ++ entries) now m ≡ undone (later_entries m gone) (contents_at entries now floor)
+whole_before floor m gone entries now rises le =
+    ap (λ es. undone es now)
+    (later_both m gone entries
+    ∙ ap (λ es. later_entries m gone ++ es)
+    (later_entries-all m entries (All-weaker (λ (e : Entry). floor < e.step) (λ (e : Entry). m < e.step) (λ e up. omega (arith, up, le)) entries (rises_all floor entries rises))
+    ∙ sym (later_entries-all floor entries (rises_all floor entries rises))))
+    ∙ undone_append (later_entries m gone) (later_entries floor entries) now
+
+-- a tape is what a tidying gives up of it, and then what it leaves
+pub parted : (floor m : ℕ) (entries : List Entry) → RisesOver floor entries → earlier_entries m entries ++ later_entries m entries ≡ entries
+parted floor m [] rises = refl
+parted floor m (e ∷ entries) rises = ⊎_elim all (λ le. first le (parted e.step m entries rises.1)) (cases_lt m e.step)
+  where
+    all : m < e.step → earlier_entries m (e ∷ entries) ++ later_entries m (e ∷ entries) ≡ e ∷ entries
+    all lt =
+        let over : All (λ (x : Entry). m < x.step) (e ∷ entries) = rises_all m (e ∷ entries) (lt, rises.1) in
+        ap (λ es. es ++ later_entries m (e ∷ entries)) (earlier_none m (e ∷ entries) over) ∙ later_entries-all m (e ∷ entries) over
+
+    first : e.step ≤ m → earlier_entries m entries ++ later_entries m entries ≡ entries → earlier_entries m (e ∷ entries) ++ later_entries m (e ∷ entries) ≡ e ∷ entries
+    first le rest =
+        ap (λ es. es ++ later_entries m (e ∷ entries)) (earlier_more m e entries le)
+        ∙ ap (λ es. e ∷ (earlier_entries m entries ++ es)) (later_entries-dropped m e entries le)
+        ∙ ap (λ es. e ∷ es) rest
+
+-- what it gives up is of steps up to there
+pub earlier_upto : (m : ℕ) (entries : List Entry) → All (λ e. e.step ≤ m) (earlier_entries m entries)
+earlier_upto m entries = λ k d lt.
+    let passes = filter_passes (λ (e : Entry). not (nat_lt m e.step)) entries k d lt in
+    ltb-false m (get_or (earlier_entries m entries) k d).step (not-true _ passes)
 
 -- ---- batches
 

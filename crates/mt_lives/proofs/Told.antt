@@ -4,7 +4,7 @@ use Rattle.mt_rows.specs.{Accounts.Accounts, declared.record.Batch.Batch}
 use Rattle.mt_disk.specs.declared.mem.MemDisk.{MemDisk}
 use Rattle.mt_lives.specs.{declared.live_slots.LiveSlots.LiveSlots, declared.live_slots.LiveSlots.TheVariants.{Rest, Turns, Writes, Away}}
 use Rattle.mt_runs.{specs.{declared.event.Event.Event, declared.event.Told.{Told as Answered}}, proofs.Order.one_order}
-use Rattle.mt_state.specs.{Views.{map_of, changed_at}, Histories.IsServed}
+use Rattle.mt_state.specs.{Views.{map_of, changed_at}, Histories.{AreById, IsServed}}
 use Rattle.mt_core.specs.Tickets.{named}
 use Rattle.mt_pages.proofs.Walked.{stays}
 use Rattle.mt_crashes.specs.Stores.{Store}
@@ -12,7 +12,7 @@ use Rattle.mt_store_logs.specs.declared.store_log.StoreLog.{StoreLog}
 use Rattle.mt_lives.specs.{declared.events.StoreEvent.TheVariants.Core, declared.events.StoreNote.TheVariants.Told, declared.serving.Serving.Serving}
 use Rattle.mt_lives.specs.{Serving.TellsServing, Lives.{Life, Past, Standing, with_event, firsts, story_in, steps_in, HasOrder, checking, living, IsNoted}}
 use Rattle.mt_lives.specs.{Checks.{first_of, pending, BeganBy, SlotsStand, LiveSlotsStand}, Holds.{quotas_of, HoldsKept, Serves, Holds}}
-use Rattle.mt_lives.proofs.{Comes.comes_on, Growing.Grows, Cores.grown, Logged.{EachAt, all_on, settles_on}, Noting.{life_served, lives_so, held}, Served.last, Stories.scan_on}
+use Rattle.mt_lives.proofs.{Comes.comes_on, Growing.Grows, Cores.{Grown, grown}, Logged.{EachAt, all_on, settles_on}, Noting.{life_served, lives_so, held}, Served.{whole, last}, Stories.scan_on}
 use Rattle.mt_lives.{specs.Turning.{Turning, IsTurning, StandsOnBase}, proofs.Bases.{is_come, turning_stays}}
 
 -- the logs stand as they did
@@ -51,16 +51,23 @@ module _ (accounts : Accounts) (slots : LiveSlots) (standing : Standing) (logs :
     pub holds : (now_slots : LiveSlots) (check : Option ℕ) → IsTurning h.from h.turning now_slots t → LiveSlotsStand accounts check (Ok (with_event life_at e answer)) t.slots t.history t.steps now_slots
         → Holds accounts now_slots (living (with_event life_at e answer) (checking check standing)) logs (Some now)
 
-  pub lives_on : (now : Serving) (e : Event) (answer : Answered) → TellsServing serving now e answer → IsServed (length logs) e → LivesOn now e answer
-  lives_on now e answer tells served =
+  -- some logs
+  pub few_logs : 0 < length h.s.logs
+  few_logs = subst (λ n. 0 < n) (sym h.count) h.some
+
+  -- what the life has grown by
+  abbrev pub GrownBy : Life → Serving → Type 0
+  GrownBy life now =
+      Grown accounts life_at h.s serving.state (named serving.roster.tickets) (held accounts slots standing logs serving h).serves h.keeps few_logs life now.state (named now.roster.tickets)
+
+  pub lives_by : (now : Serving) (e : Event) (answer : Answered) → GrownBy (with_event life_at e answer) now → AreById now.roster.names (named now.roster.tickets)
+      → now.settles ≡ serving.settles → now.generation ≡ serving.generation → LivesOn now e answer
+  lives_by now e answer g by_id settles generation =
       let life = life_served accounts slots standing logs serving h in
       let was = held accounts slots standing logs serving h in
       let s = h.s in
-      let names = named serving.roster.tickets in
       let now_names = named now.roster.tickets in
       let count = length logs in
-      let g = grown accounts life s serving.state names was.serves h.keeps (subst (λ n. 0 < n) (sym h.count) h.some) e answer now.state now_names tells.tells tells.right
-      (subst (λ n. IsServed n e) (sym h.count) served) in
       let t : Store = g.0 in
       let grows : Grows s t = g.1 in
       let serves : Serves accounts (with_event life e answer) t now.state now_names = g.2 in
@@ -73,7 +80,8 @@ module _ (accounts : Accounts) (slots : LiveSlots) (standing : Standing) (logs :
         t = t;
         grows = grows;
         serves = serves;
-        order = one_order (quotas_of accounts) (firsts life) (story_in (with_event life e answer)) (map_of now.state) (changed_at now.state) serves.history.right;
+        order = one_order (quotas_of accounts) (firsts life) (story_in (with_event life e answer)) (map_of (whole accounts (with_event life e answer) t now.state now_names serves))
+            (changed_at (whole accounts (with_event life e answer) t now.state now_names serves)) serves.history.right;
         turning =
             turning_stays h.from h.turning slots s t (is_come count s h.some h.few h.come) grows.leads grows.slots grows.voids grows.reached length_so base.1;
         holds = λ now_slots check turns stand. record {
@@ -90,15 +98,22 @@ module _ (accounts : Accounts) (slots : LiveSlots) (standing : Standing) (logs :
           keeps = g.3;
           now = record {
             serves = serves;
-            by_id = tells.by_id;
+            by_id = by_id;
             each = each_grown h.from h.turning s t serving.state.logs now.state.logs logs grows g.4 was.each;
-            turns_to = tells.generation ∙ was.turns_to;
+            turns_to = generation ∙ was.turns_to;
             settles =
-                subst (λ m. Rattle.mt_lives.specs.Holds.AreSettles t standing.begun m) (sym tells.settles)
+                subst (λ m. Rattle.mt_lives.specs.Holds.AreSettles t standing.begun m) (sym settles)
                 (settles_on count s t h.some h.few h.come grows.leads grows.steps length_so standing.begun serving.settles was.settles);
           };
         };
       }
+
+  pub lives_on : (now : Serving) (e : Event) (answer : Answered) → TellsServing serving now e answer → IsServed (length logs) e → LivesOn now e answer
+  lives_on now e answer tells served =
+      lives_by now e answer
+      (grown accounts life_at h.s serving.state (named serving.roster.tickets) (held accounts slots standing logs serving h).serves h.keeps few_logs e answer now.state
+      (named now.roster.tickets) tells.tells tells.right (subst (λ n. IsServed n e) (sym h.count) served))
+      tells.by_id tells.settles tells.generation
 
   -- a number of steps that were made
   pub within : (n : ℕ) → n ≤ h.s.steps → n ≤ steps_in life_at

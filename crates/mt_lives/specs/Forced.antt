@@ -6,11 +6,11 @@ use Rattle.mt_slots.specs.{declared.slot.Slot.Slot, declared.store_slots.StoreSl
 use Rattle.mt_recover.specs.declared.resuming.LogSlot.{LogSlot}
 use Rattle.mt_log_files.specs.declared.worker.WorkerFiles.{WorkerFiles}
 use Rattle.mt_store_logs.specs.{declared.store_log.StoreLog.StoreLog, Places.{mark_in, disk_in, slot_of}, Opens.{AreClosedOn, MakesAll}, Crashes.{MayLeaveLogs, AreCrashed}}
-use Rattle.mt_lives.specs.{declared.events.CrashImages.CrashImages, declared.events.StoreEvent.StoreEvent, declared.events.StoreEvent.TheVariants.{Core, Flush, Reopen, SettleBegin, SettleNext, CheckBegin, CheckStep, Crash}}
+use Rattle.mt_lives.specs.{declared.events.CrashImages.CrashImages, declared.events.StoreEvent.StoreEvent, declared.events.StoreEvent.TheVariants.{Core, Move, Take, Tidy, Flush, Reopen, SettleBegin, SettleNext, CheckBegin, CheckStep, Crash}}
 use Rattle.mt_lives.specs.{declared.events.StoreNote.StoreNote, declared.events.StoreNote.TheVariants.{CheckBegun, CheckTurned, CheckWrites, CheckEnded, TurnEnded, Recovered, Refused, NoSuch}}
 use Rattle.mt_lives.specs.{declared.live_slots.LiveSlots.LiveSlots, declared.live_slots.LiveSlots.TheVariants.{Rest, Turns, Writes}, declared.live_slots.Check.Check, Checks.{at_rest, first_of}}
 use Rattle.mt_lives.specs.{declared.live_slots.Turn.{Turn}, declared.live_slots.TurnStage.TurnStage, declared.live_slots.TurnStage.TheVariants.{Begins, Settles, GivesUp}, Parts.{turn_at, in_turn, settle_from, AreFree, MayBegin, TellsGivenUp, ComesAfter}}
-use Rattle.mt_lives.specs.{declared.running.Store.Store, declared.serving.Serving.Serving, Returns.{AreRecovered, AreNotRecovered}, Lives.Notes}
+use Rattle.mt_lives.specs.{declared.running.Store.Store, declared.serving.Serving.Serving, Serving.{TidiesServing, DoesServing}, Returns.{AreRecovered, AreNotRecovered}, Lives.Notes}
 use Rattle.mt_slots.specs.Crashes as slots_of
 
 -- logs in memory
@@ -76,9 +76,13 @@ IsCrashForced accounts images NoSuch slots now old new = (new ≡ old) × (now �
 IsCrashForced accounts images note slots now old new = ⊥
 
 -- What an event that leaves the slots alone makes of the logs. NoSuch is noted of a flush if the store doesn't serve, or the worker has no open log; of a reopening if the store doesn't serve, or the
--- worker has no log that isn't open. Device is noted if a log's disk failed. An operation and the beginning of a Settle leave the logs alone.
+-- worker has no log that isn't open. Device is noted if a log's disk failed. An operation, a tidying and the beginning of a Settle leave the logs alone.
 abbrev pub IsForced : Accounts → StoreEvent → StoreNote → Logs → Option Serving → Logs → Type 0
 IsForced accounts (Core e) note old serving new = new ≡ old
+IsForced accounts (Move op) note old serving new = new ≡ old
+IsForced accounts (Take op) note old serving new = new ≡ old
+IsForced accounts Tidy NoSuch old serving new = (new ≡ old) × (serving ≡ None)
+IsForced accounts Tidy note old serving new = new ≡ old
 IsForced accounts (Flush worker) NoSuch old serving new = (new ≡ old) × ((serving ≡ None) ⊎ (length old ≤ worker) ⊎ LogAt worker old IsNotOpen)
 IsForced accounts (Flush worker) (Refused Device) old serving new = FailsAt worker old new
 IsForced accounts (Reopen worker) NoSuch old serving new =
@@ -152,11 +156,23 @@ IsForcedAll accounts slots now CheckBegin note old serving new = (new ≡ old) �
 IsForcedAll accounts slots now CheckStep note old serving new = IsStepForced note slots now old new
 IsForcedAll accounts slots now event note old serving new = IsForced accounts event note old serving new × (now ≡ slots)
 
--- events, one after the other, with their notes
+-- What serves was tidied, its operation made a step, or the operation's answer was taken.
+abbrev pub IsDoneTo : StoreEvent → StoreNote → Serving → Option Serving → Type 0
+IsDoneTo Tidy note was now = (is : Serving) × (now ≡ Some is) × TidiesServing was is
+IsDoneTo (Move op) note was now = (is : Serving) × (now ≡ Some is) × DoesServing was is (Move op) note
+IsDoneTo (Take op) note was now = (is : Serving) × (now ≡ Some is) × DoesServing was is (Take op) note
+IsDoneTo event note was now = Unit {0}
+
+-- if anything serves
+abbrev pub IsDone : StoreEvent → StoreNote → Option Serving → Option Serving → Type 0
+IsDone event note None now = Unit {0}
+IsDone event note (Some was) now = IsDoneTo event note was now
+
+-- Events, one after the other, with their notes. No step, take or tidying is left out.
 abbrev pub AreForced : Accounts → LiveSlots → LiveSlots → Notes → Logs → Option Serving → Logs → Option Serving → Type 0
 AreForced accounts slots now [] old was new is = (new ≡ old) × (is ≡ was) × (now ≡ slots)
 AreForced accounts slots now (x ∷ notes) old was new is =
-    (mid : Logs) × (between : Option Serving) × (rest : LiveSlots) × IsForcedAll accounts slots rest x.0 x.1 old was mid × AreForced accounts rest now notes mid between new is
+    (mid : Logs) × (between : Option Serving) × (rest : LiveSlots) × IsForcedAll accounts slots rest x.0 x.1 old was mid × IsDone x.0 x.1 was between × AreForced accounts rest now notes mid between new is
 
 -- they led from new logs and slots on these files to where a store stands
 pub record AreForcedOn (accounts : Accounts) (notes : Notes) (files : List (WorkerFiles MemDisk)) (slots : Slots) (store : Store) : Type 0 where

@@ -3,19 +3,18 @@ use Rattle.std.specs.Prelude.{◌≡◌, ℕ, ◌+◌, ◌<◌, ◌≤◌, min, 
 use Rattle.std.specs.{List.{All, filter}, Ordering.nat_cmp, BTreeMap.{BTreeMap, get}}
 use Rattle.mt_rows.specs.{Accounts.{Accounts, account_of}, TenantPairs.{quota_in, HasTenants, KeepsQuotas}, declared.record.Batch.Batch}
 use Rattle.mt_disk.specs.{declared.mem.MemDisk.MemDisk, Mem.mem_state}
-use Rattle.mt_tape.specs.declared.entry.Entry.{Entry}
+use Rattle.mt_tape.specs.{declared.entry.Entry.Entry, Histories.contents_at}
 use Rattle.mt_runs.specs.Placings.{Quotas}
-use Rattle.mt_operation.specs.Operations.{OperationView}
-use Rattle.mt_state.specs.{Views.{StateView, op_at, granted}, Histories.{Names, History, AreById}}
+use Rattle.mt_operation.specs.{declared.phase.Phase.TheVariants.Enter, Operations.OperationView}
+use Rattle.mt_state.specs.{Views.{StateView, contents_of, op_at, granted}, Histories.{Names, AreById}}
 use Rattle.mt_drains.specs.Drains.{record_of}
 use Rattle.mt_core.specs.{Rights.IsRightState, Tickets.named}
-use Rattle.mt_crashes.specs.{Fronts.after_changes, Histories.{Placed, changes_of, pairs_upto}}
+use Rattle.mt_crashes.specs.Histories.{Placed, changes_of, pairs_upto}
 use Rattle.mt_crashes.specs.Stores.{Store, LogNow, new_store, Leads, is_between, ReachesAt, AllReach}
 use Rattle.mt_chain_files.specs.Turns.{FilesNow, AreOfTurn, ShowFiles}
 use Rattle.mt_store_logs.specs.{declared.store_log.StoreLog.StoreLog, Shows.drained_upto, Ends.StandsInTurn}
 use Rattle.mt_lives.specs.{declared.live_slots.LiveSlots.LiveSlots, Bases.{Whole, BeginsBy}, Turning.{Part, IsPart, Turning, part_of, StandsOnBase}, Checks.LiveSlotsStand}
-use Rattle.mt_lives.specs.{declared.serving.Serving.Serving, declared.serving.Settle.Settle, Lives.{Life, Past, Standing, firsts, story_in, AreLeftOf}}
-use Rattle.std.specs.FinMap as pairs
+use Rattle.mt_lives.specs.{declared.serving.Serving.Serving, declared.serving.Settle.Settle, Lives.{Life, Past, Standing, firsts, story_in, AreLeftOf}, Earlier.untidied, Remembers.Remembers}
 use Rattle.mt_state.specs.Views as views
 
 -- the quotas of a list of tenants
@@ -71,21 +70,24 @@ IsSettleIn s begun settle = ⊥
 abbrev pub AreSettles : Store → (ℕ → Option ℕ) → BTreeMap ℕ Settle → Type 0
 AreSettles s begun settles = (id : ℕ) → IsSettleIn s (begun id) (get nat_cmp settles id)
 
--- A state serves a life, with the names of its events: the history of the store is what earlier lives left, and then what the state's tape holds, which
--- goes back to where the life began.
+-- A state serves a life, with the names of its events. The history of the store is what was written up to the tape's floor, and then what the tape holds.
+-- With the writes of the life that it gave up, the state's tape goes back to where the life began. Up to its floor it then tells the pairs of the store's history.
 pub record Serves (accounts : Accounts) (life : Life) (s : Store) (v : StateView) (names : Names) : Type 0 where
   pub serving : s.serving ≡ true
   pub steps : v.steps ≡ s.steps
   pub logs : length v.logs ≡ length s.logs
-  pub history : History (quotas_of accounts) (firsts life) (story_in life) names v
+  pub gone : List Entry
+  pub history : Remembers (quotas_of accounts) (firsts life) (story_in life) names (untidied gone life.base v)
   pub tenants : (t : ℕ) → granted v t ≡ quota_in accounts t
   pub right : IsRightState v
-  pub floor : v.tape.floor ≡ life.base
+  pub floor : life.base ≤ v.tape.floor
+  pub given_up : All (λ e. e.step ≤ v.tape.floor) gone
   pub workers : (n : ℕ) (op : OperationView) → op_at v.table n ≡ Some op → op.worker < length s.logs
+  pub starts : (n : ℕ) (op : OperationView) → op_at v.table n ≡ Some op → op.first ≡ 0 → op.phase ≡ Enter
   pub before : List Placed
-  pub ended : All (λ p. p.change.stamp ≤ life.base) before
-  pub first : after_changes pairs.empty (changes_of before) ≡ life.first
+  pub ended : All (λ p. p.change.stamp ≤ v.tape.floor) before
   pub holds : s.history ≡ before ++ map placed_of v.tape.entries
+  pub pairs : (cutoff : ℕ) → life.base ≤ cutoff → cutoff ≤ v.tape.floor → pairs_upto cutoff s.history ≡ contents_at (gone ++ v.tape.entries) (contents_of v) cutoff
   pub reach : AllReach life.base s
 
 -- A life has ended, and no other has begun: whatever the next cutoff, what is recovered are the pairs that this life left, as far as they are kept.

@@ -3,6 +3,7 @@ pub mod Lives
 pub mod Checks
 pub mod Bases
 pub mod Turning
+pub mod Remembers
 pub mod Holds
 pub mod Steps
 pub mod Parts

@@ -2,12 +2,12 @@
 use Rattle.std.specs.Prelude.{◌≡◌, ◌≢◌, ◌⊎◌, ℕ, ◌+◌, ◌≤◌, ◌==◌, if◌then◌else◌, min, max, true, List, [], ◌∷◌, ◌++◌, Option, Some, None, Result, Ok, Err}
 use Rattle.mt_rows.specs.{Tenants.{Contents as Pairs, tenant_map}, TenantPairs.pairs_of, Maps.is_scan, declared.refusal.Refusal.Refusal}
 use Rattle.mt_rows.specs.declared.refusal.Refusal.TheVariants.{Memory, Device, Spent}
-use Rattle.mt_runs.specs.{declared.event.Event.Event, declared.event.Event.TheVariants.{Begin, Step}, declared.event.Told.{Told as Answered}}
-use Rattle.mt_runs.specs.Runs.{Run, Story, Asked, story_of, last_step}
+use Rattle.mt_runs.specs.{declared.event.Answer.Answer, declared.event.Event.Event, declared.event.Event.TheVariants.{Begin, Step}, declared.event.Told.{Told as Answered}, declared.event.Told.TheVariants.Done}
+use Rattle.mt_runs.specs.Runs.{Run, Story, Asked, Finished as IsFinished, story_of, last_step}
 use Rattle.mt_runs.specs.Placings.{Quotas, Maps, Placing, Fits, IsLegal, AreScansLawful, HasOneOrder, map_upto}
-use Rattle.mt_lives.specs.{declared.events.StoreEvent.StoreEvent, declared.events.StoreEvent.TheVariants.{Core, Flush, Reopen, SettleBegin, SettleNext, CheckBegin, CheckStep, Crash}}
+use Rattle.mt_lives.specs.{declared.events.StoreEvent.StoreEvent, declared.events.StoreEvent.TheVariants.{Core, Move, Take, Tidy, Flush, Reopen, SettleBegin, SettleNext, CheckBegin, CheckStep, Crash}}
 use Rattle.mt_lives.specs.declared.events.StoreNote.{StoreNote}
-use Rattle.mt_lives.specs.declared.events.StoreNote.TheVariants.{Told, Flushed, Reopened, Begun, Turned, Settled, CheckBegun, CheckTurned, CheckWrites, CheckTold, CheckAdded, CheckEnded, TurnEnded, Recovered, Refused, NoSuch}
+use Rattle.mt_lives.specs.declared.events.StoreNote.TheVariants.{Told, Finished, Took, Tidied, Flushed, Reopened, Begun, Turned, Settled, CheckBegun, CheckTurned, CheckWrites, CheckTold, CheckAdded, CheckEnded, TurnEnded, Recovered, Refused, NoSuch}
 use Rattle.std.specs.FinMap as pairs
 
 -- A life of a store, from one recovery to the next: the pairs that it began with, how many steps were made before, and what happened to its operations.
@@ -125,17 +125,24 @@ IsOfScan life (Step op) = (a : Asked) × ((story_in life).asked op ≡ Some a) �
 
 -- What may be noted of an event, and how the store stands then.
 --
--- An operation's event gives its life one event more, which one order explains. A flush tells the last step that was made, or it gave 4,096 changes, and
+-- An operation's event gives its life one event more, which one order explains. So does a step alone; the last one stands with an answer. A take tells the answer with which its
+-- operation finished in that life. A tidying changes nothing. A flush tells the last step that was made, or it gave 4,096 changes, and
 -- tells the step of the last one. A Settle answers at least the step after which it began. A crash that is recovered begins the next life, with the pairs of the last one after its changes up to the cutoff, as far as
 -- they were kept; the cutoff is at least each number that was settled, and the next life's numbers are all over the cutoff. A crash, a flush, a reopening and a Settle are refused for memory or the device alone.
 -- A checkpoint's turn begins after the last step that was made. The checkpoint begins in it after the last one that was made then, and so it ends. Each event
 -- of its walk's scans gives the life one event more, as an operation's does. A turn that is refused, or whose scan doesn't go on, is given up. So is one at a
 -- crash, also if the disks may not leave what the crash tells.
--- NoSuch is noted of an operation's event if the store serves no life, of a Settle if it is open already or is not, and of a part of a turn if none is made. It
+-- NoSuch is noted of an operation's event and of a tidying if the store serves no life, of a Settle if it is open already or is not, and of a part of a turn if none is made. It
 -- is noted of the beginning of a turn, if one may not begin. If the store serves no life it is noted of all but a crash.
 abbrev pub IsNoted : Quotas → Standing → StoreEvent → StoreNote → Standing → Type 0
 IsNoted quotas old (Core e) (Told t) new =
     (life : Life) × Lives old life × HasOrder quotas (with_event life e t) × (new ≡ living (with_event life e t) old)
+IsNoted quotas old (Move op) (Told t) new =
+    (life : Life) × Lives old life × HasOrder quotas (with_event life (Step op) t) × (new ≡ living (with_event life (Step op) t) old)
+IsNoted quotas old (Move op) Finished new =
+    (life : Life) × (answer : Answer) × Lives old life × HasOrder quotas (with_event life (Step op) (Done answer)) × (new ≡ living (with_event life (Step op) (Done answer)) old)
+IsNoted quotas old (Take op) (Took answer) new = (life : Life) × Lives old life × IsFinished (story_in life) op answer × (new ≡ old)
+IsNoted quotas old Tidy Tidied new = IsServing old × (new ≡ old)
 IsNoted quotas old (Flush worker) (Flushed number) new =
     (life : Life) × Lives old life × (number ≤ steps_in life) × ((number ≡ steps_in life) ⊎ (life.base + 4096 ≤ number)) × (new ≡ old)
 IsNoted quotas old (Flush worker) (Refused e) new = IsServing old × IsMemoryOrDevice e × (new ≡ old)
@@ -164,6 +171,8 @@ IsNoted quotas old CheckStep (Refused e) new = IsServing old × (old.check ≢ N
 IsNoted quotas old CheckStep NoSuch new = ((¬ IsServing old) ⊎ (old.check ≡ None)) × (new ≡ old)
 IsNoted quotas old (Crash images) NoSuch new = new ≡ checking None old
 IsNoted quotas old (Core e) NoSuch new = (¬ IsServing old) × (new ≡ old)
+IsNoted quotas old (Move op) NoSuch new = (¬ IsServing old) × (new ≡ old)
+IsNoted quotas old Tidy NoSuch new = (¬ IsServing old) × (new ≡ old)
 IsNoted quotas old (SettleBegin id) NoSuch new = ((¬ IsServing old) ⊎ (old.begun id ≢ None)) × (new ≡ old)
 IsNoted quotas old (SettleNext id) NoSuch new = ((¬ IsServing old) ⊎ (old.begun id ≡ None)) × (new ≡ old)
 IsNoted quotas old (Crash images) (Recovered r) new =

@@ -2,15 +2,21 @@
 
 use mt_recover::Recovered;
 use mt_rows::Refusal;
-use mt_runs::{Event, Told};
+use mt_runs::{Answer, Event, Told};
 use mt_store_logs::FileImages;
 
 /// What happens next. Workers and disks are told by their number, from 0 on, Settles by a number of the
 /// caller's choice.
 #[derive(Debug, Drop)]
 pub enum StoreEvent {
-    /// An operation is begun, or makes a step.
+    /// An operation is begun, or makes a step. Its answer is taken with its last step.
     Core(Event),
+    /// An operation makes a step. If that is its last one, its answer waits till it is taken.
+    Move { op: u64 },
+    /// The answer of an operation that has made its last step is taken.
+    Take { op: u64 },
+    /// The state gives up the writes of its tape that neither an operation nor a log needs any more.
+    Tidy,
     /// A worker is drained once into its log: of all its changes since, or of the first 4,096.
     Flush { worker: u8 },
     /// A log whose disk failed is opened again, and given the batch that waits for it.
@@ -42,6 +48,12 @@ pub struct CrashImages {
 pub enum StoreNote {
     /// What the operation was answered.
     Told(Told),
+    /// The operation has made its last step.
+    Finished,
+    /// Its answer, with which it finished before.
+    Took(Answer),
+    /// The writes were given up.
+    Tidied,
     /// The log has all of its worker's changes up to this step.
     Flushed(u64),
     /// The log is open, and no batch waits for it.

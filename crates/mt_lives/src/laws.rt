@@ -16,12 +16,12 @@ ghost use Rattle.mt_recover.specs.declared.recovering.Recovered.{Recovered as An
 ghost use Rattle.mt_tape.specs.{declared.entry.Entry.{Entry as AnyEntry}, Tapes.RisesOver, Histories.{contents_at, IsLegalTape}};
 ghost use Rattle.mt_drains.specs.Drains.{record_of};
 ghost use Rattle.mt_crashes.specs.Fronts.{after_changes};
-ghost use Rattle.mt_runs.specs.{declared.event.Event.{Event as AnyEvent}, Placings.Quotas};
+ghost use Rattle.mt_runs.specs.{declared.event.Event.{Event as AnyEvent}, declared.event.Answer.{Answer as AnyAnswer}, Runs.Finished, Placings.Quotas};
 ghost use Rattle.mt_lives.specs.declared.events.CrashImages.{CrashImages};
-ghost use Rattle.mt_lives.specs.declared.events.StoreEvent.TheVariants.{Core, SettleBegin, SettleNext, CheckBegin, CheckStep, Crash};
-ghost use Rattle.mt_lives.specs.{declared.events.StoreNote.TheVariants.{Settled, CheckBegun, CheckWrites, CheckEnded, TurnEnded, Recovered, Refused, NoSuch}, Earlier.{earlier_entries, AreTold}};
+ghost use Rattle.mt_lives.specs.declared.events.StoreEvent.TheVariants.{Core, Take, Tidy, SettleBegin, SettleNext, CheckBegin, CheckStep, Crash};
+ghost use Rattle.mt_lives.specs.{declared.events.StoreNote.TheVariants.{Took, Settled, CheckBegun, CheckWrites, CheckEnded, TurnEnded, Recovered, Refused, NoSuch}, Earlier.{earlier_entries, AreTold}};
 ghost use Rattle.mt_lives.specs.{declared.serving.Serving.{Serving as AnyServing}, Holds.{quotas_of, Holds}, Returns.IsFresh, Forced.AllCrash, Steps.GoesOn};
-ghost use Rattle.mt_lives.specs.Lives.{Life, Standing, new_standing, steps_in, IsNoted, Notes, NotesLead};
+ghost use Rattle.mt_lives.specs.Lives.{Life, Standing, new_standing, story_in, steps_in, IsNoted, Notes, NotesLead};
 ghost use Rattle.mt_lives.specs.Owned.{with_state, AreTurnNotes, IsTurn, IsWholeSettle};
 
 use mt_disk::{Disk, MemDisk};
@@ -39,8 +39,8 @@ pub fn a_tape_goes_forward()
 
 /// What is never noted. Of a recovery: a cutoff before a number that was settled, or that such a number is given again. Of
 /// a Settle: an answer of less than the step after which it began, or of more than the last step. Of a crash: that files
-/// are bad, fall, or are over a quota. Of a store that serves: NoSuch of an operation, or of a Settle that begins by a free
-/// name. Of a turn or its checkpoint: that it begins or ends at another number than that of the last step, that a turn
+/// are bad, fall, or are over a quota. Of a store that serves: NoSuch of an operation, of a tidying, or of a Settle that begins by a free
+/// name. Of a take: an answer with which its operation didn't finish. Of a turn or its checkpoint: that it begins or ends at another number than that of the last step, that a turn
 /// begins while one is made, or that one ends while none is made.
 pub fn wrong_notes_are_refused()
     ensures settled_number_lost { (quotas : Quotas) (old new : Standing) (images : CrashImages) (r : AnyRecovered) →
@@ -59,6 +59,10 @@ pub fn wrong_notes_are_refused()
         ¬ IsNoted quotas old (Crash images) (Refused (OverQuota tenant)) new }
     ensures operation_of_no_life { (quotas : Quotas) (old new : Standing) (life : Life) (e : AnyEvent) →
         old.now ≡ Ok life → ¬ IsNoted quotas old (Core e) NoSuch new }
+    ensures tidying_of_no_life { (quotas : Quotas) (old new : Standing) (life : Life) →
+        old.now ≡ Ok life → ¬ IsNoted quotas old Tidy NoSuch new }
+    ensures answer_of_no_last_step { (quotas : Quotas) (old new : Standing) (life : Life) (op : ℕ) (answer : AnyAnswer) →
+        old.now ≡ Ok life → ¬ Finished (story_in life) op answer → ¬ IsNoted quotas old (Take op) (Took answer) new }
     ensures open_settle_of_no_name { (quotas : Quotas) (old new : Standing) (life : Life) (id : ℕ) →
         old.now ≡ Ok life → old.begun id ≡ None → ¬ IsNoted quotas old (SettleBegin id) NoSuch new }
     ensures turn_begun_elsewhere { (quotas : Quotas) (old new : Standing) (life : Life) (number : ℕ) →
@@ -81,7 +85,8 @@ pub fn an_owned_store_begins_as_a_new_one()
 {}
 
 /// A store whose disks crashed, each to its image, and that was recovered from what they left of its files stands as
-/// after that crash, noted Recovered. Its state is right, and nothing has a name. Its next turn goes to the same generation.
+/// after that crash, noted Recovered. Its state is right, and nothing has a name. Its next turn goes
+/// to the generation to which the other store's goes.
 pub fn an_owned_store_is_recovered_as_after_a_crash()
     ensures { (accounts : Accounts) (slots found now : AnySlots AnyDisk) (was : Option AnyServing) (serving : AnyServing) (old left new : List (AnyLog AnyDisk))
         (images : CrashImages) → AllCrash images old slots left found

@@ -8,14 +8,14 @@ ghost use Rattle.mt_lives.specs.declared.live_slots.LiveSlots.{LiveSlots as AnyS
 ghost use Rattle.mt_store_logs.specs.{declared.store_log.StoreLog.{StoreLog as AnyLog}, Places.{workers_of, AreInOrder}};
 ghost use Rattle.mt_lives.specs.{declared.events.StoreEvent.TheVariants.{Core, Crash}, declared.events.StoreNote.TheVariants.{Told as Answered}};
 ghost use Rattle.mt_lives.specs.{Lives.{Standing, HasLives, IsMemoryOrDevice}, Holds.{quotas_of, Holds}};
-ghost use Rattle.mt_lives.specs.{Steps.{IsHeld, LeavesSlots, IsServedBy, GoesOn, NotesGoOn}, Forced.{IsForced, IsForcedAll, AreForced, AreForcedOn}};
+ghost use Rattle.mt_lives.specs.{Steps.{IsHeld, LeavesSlots, IsServedBy, GoesOn, NotesGoOn}, Forced.{IsForced, IsForcedAll, IsDoneTo, IsDone, AreForced, AreForcedOn}};
 
 use crate::beginnings::created;
 use crate::checks::{begin_check, step_check};
 use crate::crashes::crash;
 use crate::events::{StoreEvent, StoreNote};
 use crate::live_slots::LiveSlots;
-use crate::operations::core;
+use crate::operations::{core, step, take};
 use crate::serving::Serving;
 use crate::settles::{begin_settle, flush_at, go_on, reopen_at};
 use mt_disk::MemDisk;
@@ -121,6 +121,7 @@ fn happen(
     ensures workers { OnOk result (workers_of store.new.logs.items ≡ workers_of store.old.logs.items) }
     ensures goes { IfOk result (λ note. GoesOn tenants.now store.old.slots store.new.slots event.now note store.old.logs.items store.old.serving store.new.logs.items store.new.serving) }
     ensures forced { IfOk result (λ note. IsForcedAll tenants.now store.old.slots store.new.slots event.now note store.old.logs.items store.old.serving store.new.logs.items) }
+    ensures done { IfOk result (λ note. IsDone event.now note store.old.serving store.new.serving) }
 {
     match event {
         StoreEvent::Crash(images) => crash(
@@ -167,9 +168,16 @@ fn serve(
     ensures workers { OnOk result (workers_of logs.new ≡ workers_of logs.old) }
     ensures goes { IfOk result (λ note. (accounts : Accounts) (slots : AnySlots) → GoesOn accounts slots slots event.now note logs.old (Some serving.old) logs.new (Some serving.new)) }
     ensures forced { IfOk result (λ note. (accounts : Accounts) → IsForced accounts event.now note logs.old (Some serving.old) logs.new) }
+    ensures done { IfOk result (λ note. IsDoneTo event.now note serving.old (Some serving.new)) }
 {
     match event {
         StoreEvent::Core(event) => Ok(StoreNote::Told(core(serving, event)?)),
+        StoreEvent::Move { op } => Ok(step(serving, *op)),
+        StoreEvent::Take { op } => Ok(take(serving, *op)),
+        StoreEvent::Tidy => {
+            serving.tidy();
+            Ok(StoreNote::Tidied)
+        }
         StoreEvent::Flush { worker } => Ok(flush_at(alloc, logs, serving, *worker)),
         StoreEvent::Reopen { worker } => Ok(reopen_at(alloc, logs, *worker)),
         StoreEvent::SettleBegin { id } => begin_settle(serving, *id),

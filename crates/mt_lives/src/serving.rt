@@ -1,7 +1,7 @@
 //! What a store has while it serves.
 
 ghost use Rattle.std.specs.Prelude.{◌≡◌, ◌<◌, ◌^◌, []};
-ghost use Rattle.mt_lives.specs.Parts.{TurnsOn};
+ghost use Rattle.mt_lives.specs.{Parts.TurnsOn, Serving.TidiesServing};
 
 use mt_core::{Roster, State};
 use mt_drains::DrainedBatch;
@@ -43,6 +43,14 @@ impl Serving {
             settles: BTreeMap::new(alloc),
             generation,
         }
+    }
+
+    /// Gives up the writes that neither an operation nor a log needs any more.
+    pub(crate) fn tidy(&mut self)
+        ensures { TidiesServing self.old self.new }
+    {
+        self.state.tidy();
+        self.state.facts();
     }
 
     /// A turn has ended. The next one goes to the generation after it.

@@ -4,8 +4,9 @@
 //!
 //! - `put OP WORKER KEY VALUE`, with all its steps; `put_if OP WORKER KEY STAMP VALUE`, on condition of a stamp;
 //! - `open OP WORKER KEY VALUE STEPS`, a put that makes some steps and stays open; `end OP`, its other steps;
+//! - `leave OP WORKER KEY VALUE`, a put with all its steps, whose answer waits; `take OP`, that answer;
 //! - `get OP KEY`, with all its steps;
-//! - `flush WORKER`, `reopen WORKER`, `settle`, `next` and `crash`;
+//! - `flush WORKER`, `reopen WORKER`, `tidy`, `settle`, `next` and `crash`;
 //! - `check`: the turn of a checkpoint begins; `walk PARTS`: it goes on by so many; `ends`: by all.
 
 ghost use Rattle.std.specs.{Prelude.{◌≡◌}, List.All};
@@ -121,7 +122,13 @@ pub(crate) fn events_of(
             let command = put(rt, alloc, key, value);
             begin(rt, events, op, worker, command, number(steps));
         }
-        ["end", op] => step(rt, events, number(op), ENOUGH),
+        ["end", op] => step(rt, events, number(op), true, ENOUGH),
+        ["leave", op, worker, key, value] => {
+            let command = put(rt, alloc, key, value);
+            begin(rt, events, op, worker, command, 0);
+            step(rt, events, number(op), false, ENOUGH);
+        }
+        ["take", op] => push(rt, events, StoreEvent::Take { op: number(op) }),
         ["get", op, key] => begin(rt, events, op, "0", get(rt, alloc, key), ENOUGH),
         ["flush", worker] => {
             let worker = worker_of(worker);
@@ -131,6 +138,7 @@ pub(crate) fn events_of(
             let worker = worker_of(worker);
             push(rt, events, StoreEvent::Reopen { worker });
         }
+        ["tidy"] => push(rt, events, StoreEvent::Tidy),
         ["settle"] => push(rt, events, StoreEvent::SettleBegin { id: 1 }),
         ["next"] => push(rt, events, StoreEvent::SettleNext { id: 1 }),
         ["check"] => push(rt, events, StoreEvent::CheckBegin),
@@ -160,7 +168,7 @@ fn begin(
         command,
     };
     push(rt, events, StoreEvent::Core(begun));
-    step(rt, events, number(op), steps);
+    step(rt, events, number(op), true, steps);
 }
 
 fn push(rt: &impl Abort, events: &mut Vec<StoreEvent>, event: StoreEvent)
@@ -171,12 +179,23 @@ fn push(rt: &impl Abort, events: &mut Vec<StoreEvent>, event: StoreEvent)
     assert!(rt; events.push(event).is_ok());
 }
 
-fn step(rt: &impl Abort, events: &mut Vec<StoreEvent>, op: u64, steps: u64)
+// It makes so many steps, and its answer is taken with the last one, or waits.
+fn step(rt: &impl Abort, events: &mut Vec<StoreEvent>, op: u64, taken: bool, steps: u64)
     requires { All (IsServedBy 2) events.old.items }
     ensures { All (IsServedBy 2) events.new.items }
 {
     for _ in 0..steps {
-        push(rt, events, StoreEvent::Core(Event::Step { op }));
+        push(rt, events, step_of(op, taken));
+    }
+}
+
+fn step_of(op: u64, taken: bool) -> StoreEvent
+    ensures { IsServedBy 2 result }
+{
+    if taken {
+        StoreEvent::Core(Event::Step { op })
+    } else {
+        StoreEvent::Move { op }
     }
 }
 

@@ -2,7 +2,7 @@
 
 use mt_lives::StoreNote;
 use mt_rows::{Refusal, Reply};
-use mt_runs::Told;
+use mt_runs::{Answer, Told};
 
 /// What became of a row: what was noted of the last of its events that tells more than that none is open, and
 /// the number that it tells, the operation's reply, or why it was refused. Of a stale put the number is the stamp there.
@@ -24,6 +24,9 @@ pub(crate) fn last_of(notes: &[StoreNote]) -> Noted {
 fn noted(note: &StoreNote) -> Noted {
     match note {
         StoreNote::Told(told) => told_of(told),
+        StoreNote::Finished => ("finished", 0),
+        StoreNote::Took(answer) => answered(answer),
+        StoreNote::Tidied => ("tidied", 0),
         StoreNote::Flushed(mark) => ("flushed", *mark),
         StoreNote::Reopened => ("reopened", 0),
         StoreNote::Begun(steps) => ("begun", *steps),
@@ -46,19 +49,23 @@ fn noted(note: &StoreNote) -> Noted {
 
 fn told_of(told: &Told) -> Noted {
     match told {
-        Told::Done(answer) => match &answer.reply {
-            Reply::Found(_) => ("found", answer.last),
-            Reply::Absent => ("absent", answer.last),
-            Reply::New => ("new", answer.last),
-            Reply::Replaced => ("replaced", answer.last),
-            Reply::Stale(stamp) => ("stale", *stamp),
-            Reply::Pairs(page) => ("pairs", page.as_slice().len() as u64),
-            _ => ("another", answer.last),
-        },
+        Told::Done(answer) => answered(answer),
         Told::Begun => ("begun", 0),
         Told::Moved => ("moved", 0),
         Told::Again(_) => ("again", 0),
         _ => ("another", 0),
+    }
+}
+
+fn answered(answer: &Answer) -> Noted {
+    match &answer.reply {
+        Reply::Found(_) => ("found", answer.last),
+        Reply::Absent => ("absent", answer.last),
+        Reply::New => ("new", answer.last),
+        Reply::Replaced => ("replaced", answer.last),
+        Reply::Stale(stamp) => ("stale", *stamp),
+        Reply::Pairs(page) => ("pairs", page.as_slice().len() as u64),
+        _ => ("another", answer.last),
     }
 }
 

@@ -30,6 +30,16 @@ const CHECKED: &str =
     settle: begun 21, next: turned, next: settled 21, check: check begun 21, walk 5: moved, crash: recovered 21, \
     walk 1: no such, get 1 c: found 25, check: check begun 25, ends: turn ended, get 2 a: found 32";
 
+// Two workers; tidyings before and after flushes, with an operation in mid-step, with answers that wait to be taken, and with
+// none; and a crash, which ends an answer that waits, and after which all that was flushed is found.
+const TIDIED: &str =
+    "tidy: tidied, leave 1 0 a 1: finished, tidy: tidied, put 2 1 b 1: new 12, take 1: new 6, take 1: no such, \
+    flush 0: flushed 12, flush 1: flushed 12, tidy: tidied, put 3 0 a 2: replaced 17, open 4 1 d 1 2: moved, take 4: no such, \
+    tidy: tidied, end 4: new 23, leave 5 0 c 1: finished, flush 0: flushed 29, flush 1: flushed 29, tidy: tidied, \
+    crash: recovered 29, take 5: no such, tidy: tidied, get 1 a: found 33, get 2 b: found 37, get 3 c: found 41, \
+    get 4 d: found 45, tidy: tidied, leave 5 0 e 1: finished, settle: begun 51, next: turned, next: settled 51, \
+    take 5: new 51, tidy: tidied, get 6 a: found 55";
+
 // A turn in whose Settle the first log's disk fails. None begins before the other log too has all up to the checkpoint's
 // end.
 const UNSETTLED: &str =
@@ -68,6 +78,7 @@ fn each_event_is_noted_as_its_row_says(rt: HostRuntime) -> Result<(), Fail> {
     let tenants = one_tenant(alloc);
     holds_row_by_row(&rt, alloc, &tenants, AMPLE, STORY);
     holds_row_by_row(&rt, alloc, &tenants, AMPLE, CHECKED);
+    holds_row_by_row(&rt, alloc, &tenants, AMPLE, TIDIED);
     // Without tenants there is nothing to walk over.
     let none = "check: no such, ends: no such";
     holds_row_by_row(&rt, alloc, &no_tenants(alloc), AMPLE, none);

@@ -1,5 +1,6 @@
-use Rattle.std.proofs.{Common.{◌≡◌, Result, sym, ap, ◌∙◌, arith, ⊎_elim}, lemmas.Option.same_Some}
-use Rattle.mt_lives.{specs.Lives.{Life, Past, steps_in}, proofs.Goes.ok_life}
+use Rattle.std.proofs.{Common.{◌≡◌, Result, sym, ap, subst, ◌∙◌, arith, ⊎_elim}, lemmas.Option.same_Some}
+use Rattle.mt_runs.specs.Runs.{Finished}
+use Rattle.mt_lives.{specs.Lives.{Life, Past, story_in, steps_in}, proofs.Goes.ok_life}
 use Rattle.mt_lives.proofs.laws.wrong_notes_are_refused.Goals as goal
 
 pub returns-clause-settled_number_lost : goal.returns-clause-settled_number_lost
@@ -34,6 +35,13 @@ returns-clause-own_pairs_are_too_many c quotas old new images tenant noted = ⊎
 
 pub returns-clause-operation_of_no_life : goal.returns-clause-operation_of_no_life
 returns-clause-operation_of_no_life c quotas old new life e is noted = noted.0 (life, is)
+
+pub returns-clause-tidying_of_no_life : goal.returns-clause-tidying_of_no_life
+returns-clause-tidying_of_no_life c quotas old new life is noted = noted.0 (life, is)
+
+pub returns-clause-answer_of_no_last_step : goal.returns-clause-answer_of_no_last_step
+returns-clause-answer_of_no_last_step c quotas old new life op answer is not noted =
+    not (subst (λ (l : Life). Finished (story_in l) op answer) (ap (λ (n : Result Life Past). ok_life life n) (sym noted.1 ∙ is)) noted.2)
 
 pub returns-clause-open_settle_of_no_name : goal.returns-clause-open_settle_of_no_name
 returns-clause-open_settle_of_no_name c quotas old new life id is none noted = ⊎_elim (λ not. not (life, is)) (λ begun. begun none) noted.0

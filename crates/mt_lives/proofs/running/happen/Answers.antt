@@ -1,10 +1,10 @@
 -- An event that is a crash, and any other, of a store that serves or does not.
-use Rattle.std.{proofs.{Common.{rules, ◌≡◌, ◌++◌, List, length, take, drop, Some, refl, sym, ap, subst, ◌∙◌}, Math.Seq.take-append_seam}}
+use Rattle.std.{proofs.{Common.{rules, ◌≡◌, ◌++◌, List, length, take, drop, Some, refl, sym, ap, subst, ◌∙◌}, Math.Seq.take-append_seam, lemmas.Result.IfOk-weaker}, specs.Prelude.IfOk}
 use Rattle.mt_disk.specs.declared.mem.MemDisk.{MemDisk}
 use Rattle.mt_store_logs.specs.{declared.store_log.StoreLog.StoreLog, Places.AreInOrder}
-use Rattle.mt_lives.specs.{Holds.{quotas_of, Holds}, Steps.IsServedBy, declared.events.StoreNote.TheVariants.NoSuch, Forced.{IsForced}}
+use Rattle.mt_lives.specs.{Holds.{quotas_of, Holds}, Steps.{LeavesSlots, IsServedBy}, declared.events.StoreNote.TheVariants.NoSuch, Forced.{IsForced, IsDone}}
 use Rattle.mt_lives.proofs.{Forcing.{none_forced, crash_forced, served_forced, slots_alone}, Returning.{not_away, crashed_goes}}
-use Rattle.mt_lives.proofs.Happening.{leaves_slots, nothing_noted, serves_none, served_count, served_workers, served_goes, begun_goes, begun_forced, stepped_goes, stepped_forced}
+use Rattle.mt_lives.proofs.Happening.{leaves_slots, done_other, nothing_noted, serves_none, served_count, served_workers, served_goes, begun_goes, begun_forced, stepped_goes, stepped_forced}
 use Rattle.mt_lives.proofs.running.happen.Goals as goal
 
 pub returns-in-Crash-clause-goes : goal.returns-in-Crash-clause-goes
@@ -29,6 +29,22 @@ returns-in-Crash-clause-forced c =
 
 pub crash-requires-clause-there : goal.crash-requires-clause-there
 crash-requires-clause-there c = not_away c.args.tenants.now c.args.store.now.slots c.requires.held.0 c.args.store.now.logs.items c.args.store.now.serving c.requires.held.1
+
+pub returns-in-Crash-clause-done : goal.returns-in-Crash-clause-done
+returns-in-Crash-clause-done c =
+    IfOk-weaker c.crash.result _ _
+    (λ note crashes. done_other c.args.event.now note c.args.store.now.serving c.crash.new.serving (subst (λ e. ¬ LeavesSlots e) (sym c.in-Crash.is) (λ never. never)))
+    c.crash.ensures.crashes
+
+pub returns-in-CheckBegin-clause-done : goal.returns-in-CheckBegin-clause-done
+returns-in-CheckBegin-clause-done c =
+    done_other c.args.event.now c.begin_check.result c.args.store.now.serving c.args.store.now.serving (subst (λ e. ¬ LeavesSlots e) (sym c.in-CheckBegin.is) (λ never. never))
+
+pub returns-in-CheckStep-clause-done : goal.returns-in-CheckStep-clause-done
+returns-in-CheckStep-clause-done c =
+    IfOk-weaker c.step_check.result _ _
+    (λ note goes. done_other c.args.event.now note c.args.store.now.serving c.step_check.new.serving (subst (λ e. ¬ LeavesSlots e) (sym c.in-CheckStep.is) (λ never. never)))
+    c.step_check.ensures.goes
 
 pub returns-in-CheckBegin-clause-goes : goal.returns-in-CheckBegin-clause-goes
 returns-in-CheckBegin-clause-goes c =
@@ -127,12 +143,14 @@ returns-in-Some c =
       forced =
           served_forced c.deref_mut-in-Some.result.now items new last c.serve.result value (sym whole) c.args.tenants.now c.args.event.now c.args.store.now.slots c.in-Some.serving c.args.store.now.serving
           c.in-Some.is (leaves_slots c.args.event.now c.in_default.not-CheckBegin c.in_default.not-CheckStep c.in_default.not-Crash) c.serve.ensures.forced;
+      done = subst (λ s. IfOk c.serve.result (λ note. IsDone c.args.event.now note s (Some c.serve.new.serving))) (sym c.in-Some.is) c.serve.ensures.done;
     }
 
 pub returns-in-None : goal.returns-in-None
 returns-in-None c = record {
   count = refl;
   workers = refl;
+  done = subst (λ s. IsDone c.args.event.now NoSuch s c.args.store.now.serving) (sym c.in-None.is) tt;
   goes = λ standing h.
       let held = subst (Holds c.args.tenants.now c.args.store.now.slots standing c.args.store.now.logs.items) c.in-None.is h in
       (standing, nothing_noted (quotas_of c.args.tenants.now) standing c.args.event.now (leaves_slots c.args.event.now c.in_default.not-CheckBegin c.in_default.not-CheckStep c.in_default.not-Crash) (serves_none c.args.tenants.now c.args.store.now.slots standing c.args.store.now.logs.items held), h);

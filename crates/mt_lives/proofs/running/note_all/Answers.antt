@@ -33,7 +33,8 @@ loop-event-preserved c =
       forced =
           subst (λ (ns : Notes). AreForced c.args.tenants.now c.args.store.now.slots c.happen.new.store.slots ns c.args.store.now.logs.items c.args.store.now.serving c.happen.new.store.logs.items c.happen.new.store.serving) (sym grows)
           (forced_more c.args.tenants.now c.args.store.now.slots c.loop-event.store.slots c.happen.new.store.slots notes c.event-item.result c.in_ok-note.note c.args.store.now.logs.items c.loop-event.store.logs.items c.happen.new.store.logs.items
-          c.args.store.now.serving c.loop-event.store.serving c.happen.new.store.serving h.forced c.in_ok-note.ensures.forced);
+          c.args.store.now.serving c.loop-event.store.serving c.happen.new.store.serving h.forced c.in_ok-note.ensures.forced
+          c.in_ok-note.ensures.done);
       count = ap length c.in_ok-push.ensures.items ∙ length-append c.loop-event.notes.items (c.in_ok-note.note ∷ []) ∙ omega (arith, h.count);
       order = same_order c.loop-event.store.logs.items c.happen.new.store.logs.items c.in_ok-note.ensures.workers h.order;
       logs = c.in_ok-note.ensures.count ∙ h.logs;
