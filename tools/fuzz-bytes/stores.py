@@ -266,14 +266,43 @@ def can_begin(generation: int | None, workers: list[Generations], slots: list[by
     return bool(chains and bases_over(chains, slots))
 
 
+def told_generation(image: bytes, parity: int) -> int | None:
+    """The generation that a numbered file's header tells; none without a log, or if the header is none."""
+    if image[:1] != b"\x01" or len(image) < 25:
+        return None
+    try:
+        log = numbered_log(image[:25] + b"\x00", parity)
+    except StoreRefused:
+        return None
+    return log and log.generation
+
+
+def latest_told(each: WorkerFiles) -> int:
+    return max(told_generation(each.even, 0) or 0, told_generation(each.odd, 1) or 0)
+
+
+def counts_at_first(files: list[WorkerFiles], image: bytes, parity: int) -> bool:
+    """Whether a numbered file is opened at first: its log isn't older than the latest one of some worker."""
+    told = told_generation(image, parity)
+    return told is None or told >= min(map(latest_told, files))
+
+
+def numbered_of(files: list[WorkerFiles], counting: list[list[bool]]) -> list[Generations]:
+    workers: list[Generations] = []
+    for each, (even, odd) in zip(files, counting):
+        logs = filter(None, [numbered_log(each.even, 0) if even else None, numbered_log(each.odd, 1) if odd else None])
+        workers.append({log.generation: log for log in logs})
+    return workers
+
+
 def chosen(files: list[WorkerFiles], slots: list[bytes]) -> list[Log]:
     """The chains from which a store is recovered. Files are read only if none is missing, and plain ones only if they are needed."""
     if any(each.is_missing for each in files):
         raise StoreRefused(15)
-    workers: list[Generations] = []
-    for each in files:
-        logs = filter(None, [numbered_log(each.even, 0), numbered_log(each.odd, 1)])
-        workers.append({log.generation: log for log in logs})
+    workers = numbered_of(files, [[counts_at_first(files, image, parity) for parity, image in enumerate((each.even, each.odd))] for each in files])
+    last = last_generation(workers)
+    if last is None or not (can_begin(last, workers, slots) or can_begin(last - 1, workers, slots)):
+        workers = numbered_of(files, [[True, True] for _ in files])
     last = last_generation(workers)
     if last is None or last == 1 and not can_begin(1, workers, slots):
         for logs, each in zip(workers, files):
