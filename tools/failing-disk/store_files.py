@@ -42,6 +42,12 @@ def standing_logs(store: Path) -> list[StandingLog]:
     return [log for path in paths if (log := standing_log(path))]
 
 
+def generation_alone(logs: list[StandingLog], workers: int) -> int:
+    """The generation of which each of so many workers has a log, and no other; -1 in the midst of a turn."""
+    generations = {log.generation for log in logs}
+    return generations.pop() if len(logs) == workers and len(generations) == 1 else -1
+
+
 def last_generation(logs: list[StandingLog]) -> int:
     """The greatest generation of which some worker has a log; 0 if there is no log."""
     return max((log.generation for log in logs), default=0)
