@@ -1,3 +1,4 @@
+pub mod Batons
 pub mod Births
 pub mod Books
 pub mod Calls

@@ -5,6 +5,8 @@
 //! of which periods a call is made, `specs/Books.antt` what holds whenever the lock is free.
 #![tactic(auto)]
 
+pub mod baton;
+pub mod baton_lock;
 pub mod births;
 pub mod books;
 pub mod calls;
@@ -15,9 +17,9 @@ pub mod kept;
 pub mod laws;
 pub mod names;
 pub mod passes;
-pub mod patience;
 mod shared;
 
+pub use baton::{Baton, Runner};
 pub use books::Book;
 pub use calls::{CallFault, call};
 pub use desks::{Admission, Admitted, Desk, Look, Stepping, Taken, Taking};

@@ -6,13 +6,13 @@ ghost use mathlib.Core.List.{IsPrefix};
 ghost use Rattle.mt_history.specs.Legal.{EndsWith, IsLegal};
 ghost use Rattle.mt_book.specs.{declared.passes.Pass.Pass, Books.IsRightBook, Happens.{Adds, Given, Leads}, Keeping.IsWhole};
 
+use crate::baton_lock::BatonLock;
 use crate::books::Book;
 use crate::desks::{Admission, Admitted, Desk, Look, Stepping, Taken, Taking};
 use crate::gates::Turned;
 use crate::happenings::Periods;
 use crate::kept::Kept;
 use crate::passes::Pass;
-use crate::patience::PatientLock;
 use mt_core::{Displaced, Opening, State, Ticket};
 use mt_drains::DrainedBatch;
 use mt_history::{Mark, Naming};
@@ -103,7 +103,7 @@ impl<L: Ledger> Desk<L> for Book<L> {
 }
 
 /// A book and its history under the lock that many threads share.
-pub type BookLock<L, J> = PatientLock<Kept<L, J>>;
+pub type BookLock<L, J> = BatonLock<Kept<L, J>>;
 
 // The lock. What stands behind it is right, whenever it is free, and the history ends with it.
 fn locked<'a, L: Ledger, J: Naming, R: Wait + Clock>(
