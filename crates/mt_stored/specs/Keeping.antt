@@ -14,6 +14,10 @@ pub record Kept (K : Type 0) : Type 0 where
 abbrev pub keeping : {K : Type 0} → K → ℕ → ℕ → ℕ → Kept K
 keeping logs worker since next = record { logs = logs; worker = worker; since = since; next = next }
 
+-- logs have a turn with the next answer: it is the 1,024th of a worker that has a log
+abbrev pub IsTurnNext : {K : Type 0} → (K → ℕ) → Kept K → Type 0
+IsTurnNext logs old = (old.since + 1 ≡ 1024) × (old.worker < logs old.logs)
+
 module _ {K : Type 0} (does : K → Turn → K → Type 0) (logs : K → ℕ) where
   -- a log had a turn, whatever it told
   abbrev pub HasTurn : ℕ → K → K → Type 0

@@ -1,6 +1,6 @@
 //! What a worker keeps its answers in.
 
-ghost use Rattle.std.specs.Prelude.{◌≡◌, ◌+◌, ◌<◌, true, false};
+ghost use Rattle.std.specs.Prelude.{◌≡◌, ◌↔◌, ◌+◌, ◌<◌, IsTrue, true, false};
 
 use log::Log;
 use mt_rows::Refusal;
@@ -55,7 +55,7 @@ pub struct Keeper<S: Logs + Drop> {
 }
 
 impl<S: Logs + Drop> Keeper<S> {
-    ghost use Rattle.mt_stored.specs.Keeping.{Counts, keeping};
+    ghost use Rattle.mt_stored.specs.Keeping.{Counts, IsTurnNext, keeping};
     ghost use Rattle.mt_settle.specs.Settles.{Settles};
 
     /// The keeper of a worker, who has answered nothing yet.
@@ -79,6 +79,13 @@ impl<S: Logs + Drop> Keeper<S> {
         ensures { result ≡ self.logs }
     {
         self.logs
+    }
+
+    /// Whether logs have a turn with the next answer.
+    pub fn is_turn_next(&self) -> bool
+        ensures { IsTrue result ↔ IsTurnNext S.logs (keeping self.now.logs self.now.worker self.now.since.answers self.now.next) }
+    {
+        self.since.answers + 1 == FLUSH_ANSWERS && self.worker < self.logs.count()
     }
 
     /// Counts an answer. At each 1,024th it gives the worker's own log a turn, and then one log more: the next
