@@ -7,10 +7,11 @@ abbrev pub number_of : ℕ → ℕ → ℕ
 number_of zero place = 0
 number_of (suc logs) place = place
 
--- a pass and a keeper are those of the worker at a place
-pub record AreOfWorker (logs place pass keeper : ℕ) : Type 0 where
+-- a pass and a keeper are those of the worker at a place, and it has the baton at a place of its own
+pub record AreOfWorker (logs place pass keeper runner : ℕ) : Type 0 where
   pub pass_is : pass ≡ number_of logs place
   pub keeper_is : keeper ≡ number_of logs place
+  pub runner_is : runner ≡ place
 
 -- what a worker asks, and what it keeps its answers in, is of the server's book, logs and turns, and it serves the server's tenants
 pub record IsWired {B K T Q : Type 0} (book : B) (logs : K) (turns : T) (tenants : Q) (asked kept_of : B) (kept_in : K) (counted_in : T) (served : Q) : Type 0 where

@@ -5,7 +5,7 @@ ghost use Rattle.mt_service.specs.Telling.{told_of};
 
 use crate::turns::Turns;
 use log::Log;
-use mt_book::{CallFault, Desk, NoGate, Pass, call};
+use mt_book::{CallFault, Desk, NoGate, Pass, Runner, call};
 use mt_disk::Disk;
 use mt_options::{TenantQuota, is_listed};
 use mt_rows::{Command, Refusal, Reply};
@@ -20,6 +20,9 @@ use std::time::Clock;
 
 /// A caller that asks a desk through a pass, for the tenant that its session opened, and keeps what it
 /// answers in logs, if there are some. It counts each settled answer; a turn that is due then is another thread's.
+///
+/// Before a call it waits for the baton. It gives it back before a log's turn and before a Settle, and whoever writes what was
+/// answered has to give it back too.
 #[derive(Drop)]
 pub struct DeskCaller<
     'a,
@@ -37,6 +40,8 @@ pub struct DeskCaller<
     turns: &'a Turns<K>,
     tenants: &'a [TenantQuota],
     opened: Option<u32>,
+    runner: Runner<'a>,
+    calls: u32,
 }
 
 impl<'a, L: Ledger, R: Wait + Clock, D: Desk<L> + Drop, S: Logs + Drop, K: Disk + Drop> DeskCaller<
@@ -47,7 +52,7 @@ impl<'a, L: Ledger, R: Wait + Clock, D: Desk<L> + Drop, S: Logs + Drop, K: Disk 
     S,
     K,
 > {
-    /// A caller with this pass, of which no tenant is opened.
+    /// A caller with this pass, of which no tenant is opened, and which has the baton at this place.
     pub fn new(
         rt: &'a R,
         alloc: Global,
@@ -56,6 +61,7 @@ impl<'a, L: Ledger, R: Wait + Clock, D: Desk<L> + Drop, S: Logs + Drop, K: Disk 
         keeper: Keeper<S>,
         turns: &'a Turns<K>,
         tenants: &'a [TenantQuota],
+        runner: Runner<'a>,
     ) -> Self
         ensures desk { result.desk ≡ desk }
         ensures pass { result.pass ≡ pass }
@@ -63,6 +69,7 @@ impl<'a, L: Ledger, R: Wait + Clock, D: Desk<L> + Drop, S: Logs + Drop, K: Disk 
         ensures turns { result.turns.now ≡ turns.now }
         ensures tenants { result.tenants.now ≡ tenants.now }
         ensures opened { result.opened ≡ None }
+        ensures runner { result.runner ≡ runner }
     {
         DeskCaller {
             rt,
@@ -73,7 +80,16 @@ impl<'a, L: Ledger, R: Wait + Clock, D: Desk<L> + Drop, S: Logs + Drop, K: Disk 
             turns,
             tenants,
             opened: None,
+            runner,
+            calls: 0,
         }
+    }
+
+    /// Its place at the baton.
+    pub fn runner(&self) -> Runner<'a>
+        ensures { result ≡ self.now.runner }
+    {
+        self.runner
     }
 
     /// The pass, the desk, and the logs.
@@ -111,6 +127,7 @@ impl<
         let Some(tenant) = self.opened else {
             return Err(CallerFault::Refused(Refusal::NotOpen));
         };
+        self.calls = self.runner.take(self.rt, self.calls);
         let called = call(
             self.rt,
             alloc,
@@ -121,12 +138,16 @@ impl<
             &NoGate {},
         );
         if called.is_ok() {
+            if self.keeper.is_turn_next() {
+                self.runner.give();
+            }
             self.keeper.count_answer(self.rt);
         }
         told(called)
     }
 
     fn settle(&mut self) -> Result<u64, Refusal> {
+        self.runner.give();
         self.keeper.learn(&self.desk);
         let settled = self.keeper.settle(self.rt)?;
         self.turns.count_settled(self.rt, settled);

@@ -16,7 +16,8 @@ use crate::turns::Turns;
 use crate::workers::{Held, SessionWorker};
 use log::Log;
 use mt_book::{
-    BookLock, Callers, Clerk, Desk, Kept, Names, Pass, Periods, gather, open_clerk, open_pass,
+    BookLock, Callers, Clerk, Desk, Kept, Names, Pass, Periods, Runner, gather, open_clerk,
+    open_pass,
 };
 use mt_core::State;
 use mt_crew::{Crew, CrewFault, Served, Worker, others_of, run_crew};
@@ -399,8 +400,9 @@ fn worker_at<'a, L: Ledger, J: Naming, R: Wait + Clock, D: Disk + Drop>(
     tenants: &'a [TenantQuota],
     place: u8,
 ) -> Result<SessionWorker<'a, L, J, R, D>, ServerFault>
-    ensures own { IfOk result (λ one. AreOfWorker (length logs.now) place one.caller.pass.worker one.caller.keeper.worker) }
+    ensures own { IfOk result (λ one. AreOfWorker (length logs.now) place one.caller.pass.worker one.caller.keeper.worker one.caller.runner.place) }
     ensures wired { IfOk result (λ one. IsWired book.now logs.now turns.now tenants.now one.caller.desk.lock.now one.caller.keeper.logs.book.clerk.lock.now one.caller.keeper.logs.logs.now one.caller.turns.now one.caller.tenants.now) }
+    ensures baton { IfOk result (λ one. one.caller.runner.baton.now ≡ book.now.baton) }
     ensures fault { IfErr result IsOfServing }
 {
     // They are taken before the first connection: at a limit of memory a session would find none.
@@ -408,7 +410,8 @@ fn worker_at<'a, L: Ledger, J: Naming, R: Wait + Clock, D: Disk + Drop>(
     let number = number_at(logs.len(), place);
     let (pass, clerk, logs) = opened(rt, book, logs, number)?;
     let keeper = Keeper::new(alloc, logs, number);
-    let caller = DeskCaller::new(rt, alloc, clerk, pass, keeper, turns, tenants);
+    let runner = Runner::new(book.baton(), place);
+    let caller = DeskCaller::new(rt, alloc, clerk, pass, keeper, turns, tenants, runner);
     Ok(SessionWorker {
         rt,
         caller,
@@ -428,7 +431,7 @@ fn workers_of<'a, L: Ledger, J: Naming, R: Wait + Clock, D: Disk + Drop>(
 ) -> Result<Vec<SessionWorker<'a, L, J, R, D>>, ServerFault>
     ensures workers { IfOk result (λ workers. vec_len workers ≡ options.now.workers) }
     ensures some { IfOk result (λ workers. 0 < vec_len workers) }
-    ensures each { IfOk result (λ workers. EachAt workers.items (λ place (one : SessionWorker L J R D). AreOfWorker (length logs.now) place one.caller.pass.worker one.caller.keeper.worker)) }
+    ensures each { IfOk result (λ workers. EachAt workers.items (λ place (one : SessionWorker L J R D). AreOfWorker (length logs.now) place one.caller.pass.worker one.caller.keeper.worker one.caller.runner.place)) }
     ensures wired { IfOk result (λ workers. EachAt workers.items (λ place (one : SessionWorker L J R D). IsWired book.now logs.now turns.now options.now.tenants.items one.caller.desk.lock.now one.caller.keeper.logs.book.clerk.lock.now one.caller.keeper.logs.logs.now one.caller.turns.now one.caller.tenants.now)) }
     ensures fault { IfErr result IsOfServing }
 {

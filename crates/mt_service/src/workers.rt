@@ -5,13 +5,15 @@ ghost use Rattle.std.specs.Prelude.{◌≡◌};
 use crate::callers::DeskCaller;
 use crate::connections::{linger, set_up};
 use log::Log;
-use mt_book::{Clerk, Pass};
+use mt_book::{Clerk, Pass, Runner};
 use mt_crew::Worker;
 use mt_disk::Disk;
 use mt_history::Naming;
 use mt_session::{Ended, SessionBuffers, serve_with};
 use mt_stored::SharedLogs;
+use mt_streams::Sink;
 use std::alloc::Global;
+use std::io;
 use std::net::TcpStream;
 use std::sync::Wait;
 use std::sync::ledger::Ledger;
@@ -63,6 +65,27 @@ impl<'a, L: Ledger, J: Naming> Held<'a, L, J> {
     }
 }
 
+// A stream's writing half. Before it writes, its worker gives the baton back.
+#[derive(Drop)]
+struct Handing<'a> {
+    stream: &'a TcpStream,
+    runner: Runner<'a>,
+}
+
+impl Sink for Handing<'_> {
+    ghost use Rattle.std.specs.Prelude.{None};
+
+    ghost contents = { λ _. None };
+
+    ghost failures = { λ _. None };
+
+    fn send(&mut self, text: &[u8]) -> io::Result<usize> {
+        self.runner.give();
+        let mut stream = self.stream;
+        stream.send(text)
+    }
+}
+
 impl<L: Ledger, J: Naming, R: Wait + Clock + Log, D: Disk + Drop> Worker
     for SessionWorker<'_, L, J, R, D> {
     ghost use Rattle.mt_service.specs.Sessions.{IsSession, AsksBook};
@@ -72,14 +95,17 @@ impl<L: Ledger, J: Naming, R: Wait + Clock + Log, D: Disk + Drop> Worker
     fn serve(&mut self, alloc: Global, stream: &TcpStream) -> bool {
         set_up(stream);
         let mut reader = stream;
-        let mut writer = stream;
-        match serve_with(
+        let runner = self.caller.runner();
+        let mut writer = Handing { stream, runner };
+        let served = serve_with(
             alloc,
             &mut self.buffers,
             &mut reader,
             &mut writer,
             &mut self.caller,
-        ) {
+        );
+        runner.give();
+        match served {
             Ok(Ended::Closed) => true,
             Ok(Ended::Refused) => {
                 // What fails here fails a connection that is given up in any case.

@@ -14,9 +14,9 @@ loop-place-preserved g c =
     record {
       count = omega (arith, len, count);
       each =
-          subst (λ items. EachAt items (λ place x. AreOfWorker logs place x.caller.pass.worker x.caller.keeper.worker)) (sym c.in_ok-push.ensures.items)
-          (pushed workers.items one (λ place x. AreOfWorker logs place x.caller.pass.worker x.caller.keeper.worker) c.loop-place.invariant.each
-          (subst (λ n. AreOfWorker logs n one.caller.pass.worker one.caller.keeper.worker) (sym here) c.in_ok-worker_at.ensures.own));
+          subst (λ items. EachAt items (λ place x. AreOfWorker logs place x.caller.pass.worker x.caller.keeper.worker x.caller.runner.place)) (sym c.in_ok-push.ensures.items)
+          (pushed workers.items one (λ place x. AreOfWorker logs place x.caller.pass.worker x.caller.keeper.worker x.caller.runner.place) c.loop-place.invariant.each
+          (subst (λ n. AreOfWorker logs n one.caller.pass.worker one.caller.keeper.worker one.caller.runner.place) (sym here) c.in_ok-worker_at.ensures.own));
       wired =
           subst
           (λ items. EachAt items (λ place x. IsWired c.args.book.now c.args.logs.now c.args.turns.now c.args.options.now.tenants.items x.caller.desk.lock.now x.caller.keeper.logs.book.clerk.lock.now x.caller.keeper.logs.logs.now x.caller.turns.now x.caller.tenants.now))
