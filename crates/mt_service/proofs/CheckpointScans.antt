@@ -1,5 +1,5 @@
 -- The scans of a checkpoint are operations of the history over which it was written: for the law.
-use Rattle.std.proofs.Common.{◌≡◌, ◌<◌, ◌≤◌, ◌++◌, ℕ, Bool, List, [], ◌∷◌, Option, Some, None, Result, Ok, refl, sym, ap, subst, arith}
+use Rattle.std.proofs.Common.{◌≡◌, ◌<◌, ◌≤◌, ℕ, Bool, List, [], ◌∷◌, Option, Some, None, Result, Ok, refl, sym, ap, subst, arith}
 use mathlib.Core.List.{IsPrefix}
 use Rattle.std.{proofs.lemmas.{List.append-nil, Option.{none-some, same_Some}}, specs.{List.slice_get, Option.option_map}}
 use Rattle.mt_rows.specs.{Rows.Bytes, Stamps.Stamped, declared.record.TenantPair.TenantPair, declared.command.Command.Command, declared.command.Command.TheVariants.Scan, declared.reply.Reply.Reply, declared.reply.Reply.TheVariants.Pairs}
@@ -7,9 +7,9 @@ use Rattle.mt_disk.specs.Disk.{DiskState}
 use Rattle.mt_runs.specs.{declared.event.Answer.Answer, Runs.{Story, owner, Finished, IsBetween}, Scans.{IsLawful, IsLawfulScan}, Placings.{Quotas, Maps, HasOneOrder, map_upto}}
 use Rattle.mt_state.{specs.Views.{StateView, quota_of}, proofs.Lawful.lawful_more}
 use Rattle.mt_core.specs.Restores.{IsIdle}
-use Rattle.mt_history.{specs.{Legal.Along, Views.MarkView}, proofs.Fronts.{prefix_trans, prefix_length}}
+use Rattle.mt_history.{specs.Legal.Along, proofs.Fronts.{prefix_trans, prefix_length}}
 use Rattle.mt_book.specs.{declared.shared.Clerk.Clerk, declared.calls.CallFault.CallFault, Happens.{Happening, Acted, Leads}, Periods.{Looked, Began, Took, Period, Chain}, OneRun.Through, Calls.{Asked, asked_by, Calls}, Serves.{ClerkView, Serves, clerk_of}}
-use Rattle.mt_orders.{specs.{Stories.{story_along, maps_in}, Added.HappenedAt, Answered.IsAnsweredIn}, proofs.{Adding.added, Calling.{answered_in, calls_views, chain_front}, Preceding.shows_in_turn}}
+use Rattle.mt_orders.{specs.{Stories.{story_along, maps_in}, Added.HappenedAt}, proofs.{Adding.added, Calling.{answered_in, calls_views, chain_front}, Preceding.shows_in_turn}}
 use Rattle.mt_pages.specs.declared.walk.PageWalk.{PageWalk}
 use Rattle.mt_slots.specs.{declared.store_slots.StoreSlots.StoreSlots, declared.checkpointing.Checkpointing.Checkpointing}
 use Rattle.mt_stored.specs.{Checkpoints.{Scanner, Looks, Scans, Shows, AddsPages, NoPage, OnePage, WritesCheckpoint}, Digests.FileDigest}

@@ -1,19 +1,19 @@
 -- The history of which all callers came back is one, and one order explains it: for the server.
-use Rattle.std.{proofs.Common.{◌≡◌, ℕ, zero, suc, ◌%◌, inl, inr, Bool, List, [], ◌∷◌, ◌++◌, length, Option, Some, None, Result, Ok, Err, IfOk, OnOk, refl, sym, ap, subst, ◌∙◌}, proofs.lemmas.Option.none-some, proofs.lemmas.List.append-nil, specs.List.{AllByRecursion, AllZip, flat_map}}
+use Rattle.std.{proofs.Common.{◌≡◌, ℕ, ◌%◌, inl, inr, Bool, List, [], ◌∷◌, length, Option, Some, None, Result, Ok, Err, IfOk, OnOk, refl, sym, ap, subst}, proofs.lemmas.Option.none-some, proofs.lemmas.List.append-nil, specs.List.{AllByRecursion, AllZip, flat_map}}
 use mathlib.Core.List.{IsPrefix}
 use Rattle.mt_disk.specs.Disk.{DiskState}
 use Rattle.mt_rows.specs.{declared.command.Command.Command, declared.reply.Reply.Reply, declared.refusal.Refusal.Refusal}
 use Rattle.mt_runs.specs.declared.event.Answer.{Answer}
 use Rattle.mt_state.specs.Views.{StateView}
-use Rattle.mt_history.{specs.{Legal.Along, Views.MarkView}, proofs.Fronts.prefix_trans}
-use Rattle.mt_book.{specs.{declared.calls.CallFault.CallFault, declared.shared.Clerk.Clerk, Periods.Period, Happens.{Happening, Leads}, OneRun.{AreTold, HasAll}, Keeping.IsWhole, Serves.clerk_of}, proofs.OneRuns.one_run}
+use Rattle.mt_history.proofs.Fronts.{prefix_trans}
+use Rattle.mt_book.{specs.{declared.calls.CallFault.CallFault, declared.shared.Clerk.Clerk, Periods.Period, OneRun.AreTold, Keeping.IsWhole, Serves.clerk_of}, proofs.OneRuns.one_run}
 use Rattle.mt_orders.proofs.{Explaining.explained, Calling.{calls_views, chain_front}}
 use Rattle.mt_crew.specs.{Servings.IsServed, declared.crew.Served.Served}
 use Rattle.mt_session.specs.{declared.caller.CallerFault.CallerFault, Exchanges.{Exchange, Opens, Calls, Settles}}
 use Rattle.mt_options.specs.declared.tenants.TenantQuota.{TenantQuota}
 use Rattle.mt_settle.specs.Turns.{Turn}
 use Rattle.mt_stored.specs.{declared.shared.SharedLogs.SharedLogs, Checkpoints.Scanner, Digests.DigestCall, Keeping.{Kept, GivesTurns}}
-use Rattle.mt_service.specs.{declared.callers.DeskCaller.DeskCaller, declared.workers.SessionWorker.SessionWorker, Sessions.{AsksBook, IsSession, HaveOneHistory, SeesFront, LogsSeeFront, SeeFronts, acts, turns, logs_of, asker_of, clerks_in}, Asking.{Asker, AsksOpened, AsksCall, KeepsAnswer, OpensTenant}, Turning.Turning, Turners.Leaves}
+use Rattle.mt_service.specs.{declared.callers.DeskCaller.DeskCaller, declared.workers.SessionWorker.SessionWorker, Sessions.{AsksBook, IsSession, HaveOneHistory, SeesFront, LogsSeeFront, SeeFronts, acts, turns, logs_of, asker_of, clerks_in}, Beginnings.{IsNewWorker, IsNewTurner}, Workers.EachAt, Asking.{Asker, AsksOpened, KeepsAnswer, OpensTenant}, Turning.Turning, Turners.Leaves}
 use Rattle.mt_service.proofs.{Sessions.served_inside, SettledNumbers.{turn_front, settle_front}, TurnFronts.any_front, TurnsInside.leaves_inside}
 
 no_told : (s : StateView) (log : List StateView) → AreTold (λ k. None) s log
@@ -137,13 +137,14 @@ module _ (L J R : Type 0) {D : Type 0} (is_honest : D → Bool) (state : D → D
       prefix_trans was.log is.log history (any_front is_honest state failures was turn is t) front
 
   -- all that the sessions of these workers were told stands in one history from the state that the first clerk has seen, with all that a turner did
-  pub one_history : {G : Type 0} (calls : G → DigestCall → G → Type 0) (tenants : List TenantQuota) (one turner logs : Clerk L J) (begun : List Worker) (served : List (Served Worker))
-      (answers workers : ℕ) → IsWhole (λ (c : Clerk L J). c.mark) (one ∷ turner ∷ logs ∷ flat_map clerks_in served) answers
+  pub one_history : {G : Type 0} (calls : G → DigestCall → G → Type 0) (digests : G) (tenants : List TenantQuota) (one turner logs : Clerk L J) (begun : List Worker) (served : List (Served Worker))
+      (answers workers log_count : ℕ) → IsWhole (λ (c : Clerk L J). c.mark) (one ∷ turner ∷ logs ∷ flat_map clerks_in served) answers
       → AllZip (IsServed (λ (old : Worker) right (new : Worker). IsSession (AsksBook is_honest state failures) right old.caller new.caller)) begun served
-      → length begun ≡ workers → (made : Turning (Clerk L J) (SharedLogs L J R D) G) (desk : Scanner (Clerk L J)) (left : SharedLogs L J R D)
+      → length begun ≡ workers → EachAt begun (IsNewWorker log_count tenants)
+      → (made : Turning (Clerk L J) (SharedLogs L J R D) G) → IsNewTurner log_count digests made → (desk : Scanner (Clerk L J)) (left : SharedLogs L J R D)
       → Leaves acts is_honest state failures (turns is_honest state failures) logs_of calls tenants made desk left → turner ≡ desk.desk → logs ≡ left.book.clerk
-      → (first : StateView) → one.mark.log ≡ first ∷ [] → HaveOneHistory L J R is_honest state failures calls tenants workers first
-  one_history calls tenants one turner logs begun served answers workers w z many made desk left turned same_clerk same_logs first is =
+      → (first : StateView) → one.mark.log ≡ first ∷ [] → HaveOneHistory L J R is_honest state failures calls digests tenants workers log_count first
+  one_history calls digests tenants one turner logs begun served answers workers log_count w z many new made fresh desk left turned same_clerk same_logs first is =
       let whole = w.first ∷ w.log in
       let P : Clerk L J → Type 0 = SeesFront whole in
       let after_one = tail P one (turner ∷ logs ∷ flat_map clerks_in served) w.seen in
@@ -153,7 +154,7 @@ module _ (L J R : Type 0) {D : Type 0} (is_honest : D → Bool) (state : D → D
       let logs_front : LogsSeeFront whole left = subst P same_logs (head P logs (flat_map clerks_in served) after_turner) in
       let all = one_run (λ k. None) w.first w.log w.legal (no_told w.first w.log) in
       let same : w.first ≡ first = head_is first w.first w.log one.mark.log is w.seen.0 in
-      subst (λ (s : StateView). HaveOneHistory L J R is_honest state failures calls tenants workers s) same (record {
+      subst (λ (s : StateView). HaveOneHistory L J R is_honest state failures calls digests tenants workers log_count s) same (record {
         log = w.log;
         legal = w.legal;
         run = all.run;
@@ -161,11 +162,13 @@ module _ (L J R : Type 0) {D : Type 0} (is_honest : D → Bool) (state : D → D
         explained = λ other through. explained w.first w.log other w.unasked.idle w.legal through;
         begun = begun;
         many = many;
+        new = new;
         served = served;
         each =
             served_inside (AsksBook is_honest state failures) (SeeFronts whole) (seen_before L J R D is_honest state failures whole) (λ (x : Worker). x.caller) begun served z
             (fronts whole served rest);
         turner = made;
+        fresh = fresh;
         desk = desk;
         logs = left;
         turned =

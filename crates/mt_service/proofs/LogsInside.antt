@@ -1,9 +1,9 @@
 -- Logs that had turns held to something all the time, if they do in the end and did before each turn after which they do.
-use Rattle.std.proofs.Common.{◌≡◌, ◌+◌, ◌++◌, inl, inr, ℕ, zero, suc, List, [], ◌∷◌, length, Result, Ok, Err, subst}
+use Rattle.std.proofs.Common.{◌+◌, ◌++◌, inl, inr, ℕ, zero, suc, List, [], ◌∷◌, length, Result, Ok, Err, subst}
 use Rattle.mt_rows.specs.declared.refusal.Refusal.{Refusal}
 use Rattle.mt_options.specs.declared.tenants.TenantQuota.{TenantQuota}
 use Rattle.mt_store_logs.specs.declared.standing.Generations.{Generations}
-use Rattle.mt_settle.specs.{Turns.{Turn, BroughtUp, BegunNext, GivenUp, Told, Chain}, Settles.{turns_from, Settles}}
+use Rattle.mt_settle.specs.{Turns.{Turn, BroughtUp, BegunNext, GivenUp, Chain}, Settles.{turns_from, Settles}}
 use Rattle.mt_settle.specs.{Next.{Tell, TellAll, TellsNext}, Parts.{EachOf, StopsAt, BeginsOne, BeginsNone, TellsBegun, GivesUpOne, GivesUpNone, TellsGivenUp}}
 use Rattle.mt_stored.specs.{Digests.DigestCall, TurnParts.{Begins, StopsAtLogs, StopsAtDigests, StopsBeginning, ClearsAndGivesUp, TellsOlder, SettlesNotAll, TellsEnd}}
 use Rattle.mt_stored.specs.{declared.turns.TurnStop.TurnStop, declared.turns.TurnStop.TheVariants.{Checkpoint, Digest, Logs}, declared.digests.Digested.TheVariants.{OfLogs, OfSlot}}

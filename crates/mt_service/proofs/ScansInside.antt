@@ -1,5 +1,5 @@
 -- A checkpoint was written or given up over a desk. If the desk holds to something in the end, and did before each period after which it does, it did all the time.
-use Rattle.std.proofs.Common.{◌≡◌, ◌++◌, inl, inr, ℕ, Bool, List, [], ◌∷◌, Result, Ok, Err, subst}
+use Rattle.std.proofs.Common.{◌≡◌, inl, inr, ℕ, Bool, List, [], ◌∷◌, Result, Ok, Err, subst}
 use Rattle.mt_rows.specs.{declared.record.TenantPair.TenantPair, declared.refusal.Refusal.Refusal}
 use Rattle.mt_disk.specs.Disk.{DiskState}
 use Rattle.mt_runs.specs.declared.event.Answer.{Answer}
@@ -7,7 +7,7 @@ use Rattle.mt_book.specs.{declared.calls.CallFault.CallFault, Periods.{Looked, P
 use Rattle.mt_pages.specs.declared.walk.PageWalk.{PageWalk}
 use Rattle.mt_slots.specs.{declared.store_slots.StoreSlots.StoreSlots, declared.checkpointing.Checkpointing.Checkpointing}
 use Rattle.mt_stored.specs.{declared.checkpoints.CheckpointStop.CheckpointStop, Digests.{FileDigest, DigestCall}, TurnParts.{WritesAndKeeps, WritesSlot, StopsSlot}}
-use Rattle.mt_stored.specs.Checkpoints.{Scanner, Looks, Scans, Shows, ShowsNone, AddsPages, NoPage, OnePage, AddsToTheEnd, StopsAdding, WritesCheckpoint, GivesUp}
+use Rattle.mt_stored.specs.Checkpoints.{Scanner, Looks, Scans, Shows, ShowsNone, AddsPages, NoPage, OnePage, StopsAdding, WritesCheckpoint, GivesUp}
 use Rattle.mt_stored.specs.{declared.turns.TurnStop.TurnStop, declared.turns.TurnStop.TheVariants.{Checkpoint, Digest, Logs}, declared.digests.Digested.TheVariants.{OfLogs, OfSlot}}
 use Rattle.mt_service.specs.Sessions.{Within}
 

@@ -1,13 +1,10 @@
 -- A session as its caller sees it, and as one over a history.
-use Rattle.std.{proofs.Common.{◌≡◌, Bool, true, false, List, [], ◌∷◌, ◌⊎◌, inl, inr, Option, Result, Ok, Err, sym, ap, subst}, specs.List.{AllByRecursion, AllZip, FoldsTo}}
-use mathlib.Core.List.{IsPrefix}
+use Rattle.std.{proofs.Common.{◌≡◌, Bool, true, false, List, [], ◌∷◌, inl, inr, Option, Result, Ok, Err, sym, subst}, specs.List.{AllByRecursion, AllZip, FoldsTo}}
 use Rattle.mt_rows.specs.Rows.{Bytes}
 use Rattle.mt_wire.specs.{declared.message.Request.Request, declared.message.Request.TheVariants.{Open, Call, Settle, GetStamped}, declared.message.WireReply.WireReply}
-use Rattle.mt_state.specs.Views.{StateView}
-use Rattle.mt_history.{specs.Views.MarkView, proofs.Fronts.prefix_trans}
 use Rattle.mt_crew.specs.{Servings.IsServed, declared.crew.Served.Served}
-use Rattle.mt_session.specs.{declared.ended.Ended.Ended, declared.ended.ServeFault.ServeFault, Exchanges.Exchange, Sessions.{CallerRelation, IsReply, IsStuck, AreReplies, Transcript}}
-use Rattle.mt_session.specs.Endings.{EndsAs, Serves, IsUntold, AsksAtMostOne}
+use Rattle.mt_session.specs.{declared.ended.Ended.Ended, declared.ended.ServeFault.ServeFault, Exchanges.Exchange, Sessions.{CallerRelation, IsReply, IsStuck, AreReplies}}
+use Rattle.mt_session.specs.Endings.{EndsAs, Serves, AsksAtMostOne}
 use Rattle.mt_service.specs.Sessions.{IsSession, Within}
 use Rattle.mt_session.specs.declared.ended.Ended.TheVariants as ends
 use Rattle.mt_session.specs.declared.ended.ServeFault.TheVariants as faults

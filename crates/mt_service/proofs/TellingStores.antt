@@ -1,5 +1,5 @@
 -- Why a store is not opened, or not read, as a fault of the server.
-use Rattle.std.proofs.Common.{◌≡◌, ℕ, List, Option, Some, length, sym, subst, arith}
+use Rattle.std.proofs.Common.{◌≡◌, ℕ, Option, Some, length, sym, subst, arith}
 use Rattle.mt_rows.specs.{Accounts.Accounts, Rows.Bytes}
 use Rattle.mt_options.specs.{declared.options.Options.Options, declared.options.StorePlace.StorePlace}
 use Rattle.mt_store_files.specs.{declared.fault.StoreFault.StoreFault, declared.read_file.ReadFile.ReadFile}

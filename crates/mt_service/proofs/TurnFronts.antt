@@ -1,12 +1,11 @@
 -- Whatever turn a log had, what the clerk of the logs had seen before it is a beginning of what it has seen then.
-use Rattle.std.proofs.{Common.{◌≡◌, ◌++◌, inl, inr, ℕ, Bool, List, [], Result, Ok, Err, sym, subst}, lemmas.List.append-nil}
+use Rattle.std.proofs.{Common.{◌≡◌, inl, inr, ℕ, Bool, [], Ok, Err, sym, subst}, lemmas.List.append-nil}
 use mathlib.Core.List.{IsPrefix}
 use Rattle.mt_rows.specs.declared.refusal.Refusal.{Refusal}
 use Rattle.mt_disk.specs.Disk.{DiskState}
-use Rattle.mt_state.specs.Views.{StateView}
 use Rattle.mt_settle.specs.Turns.{Turn, BroughtUp, BegunNext, GivenUp, Told}
-use Rattle.mt_store_logs.specs.{declared.store_log.StoreLog.StoreLog, LogTurns.{BringsUp, FailsToBringUp}, Turns.FailsToFlushLog}
-use Rattle.mt_stored.specs.{Begins.{BringsUpAndBegins, FailsToBringUpAndBegin}, Shared.{Seen, gives_batch, Somewhere, UptoSteps, DoesShared}}
+use Rattle.mt_store_logs.specs.{LogTurns.{BringsUp, FailsToBringUp}, Turns.FailsToFlushLog}
+use Rattle.mt_stored.specs.{Begins.{BringsUpAndBegins, FailsToBringUpAndBegin}, Shared.{Seen, gives_batch, UptoSteps, DoesShared}}
 use Rattle.mt_service.proofs.SettledNumbers.{turn_front}
 
 same_front : (old new : Seen) → new ≡ old → IsPrefix old.log new.log

@@ -1,5 +1,5 @@
 -- A turner's desk and logs held to something in all that it did, if they do in the end, and did before each period and turn after which they do.
-use Rattle.std.{proofs.Common.{◌≡◌, inl, inr, ℕ, Bool, List, [], ◌∷◌, Result, Ok, Err, ap, sym, subst}, specs.List.FoldsTo}
+use Rattle.std.{proofs.Common.{inl, inr, ℕ, Bool, List, [], ◌∷◌, Result, Ok, Err, ap, sym, subst}, specs.List.FoldsTo}
 use Rattle.mt_disk.specs.Disk.{DiskState}
 use Rattle.mt_book.specs.Periods.{Period}
 use Rattle.mt_options.specs.declared.tenants.TenantQuota.{TenantQuota}
@@ -7,7 +7,7 @@ use Rattle.mt_slots.specs.declared.store_slots.StoreSlots.{StoreSlots}
 use Rattle.mt_settle.specs.Turns.{Turn}
 use Rattle.mt_stored.specs.{declared.checks.DueTurn.DueTurn, declared.turns.TurnStop.TurnStop, Checkpoints.Scanner, Digests.DigestCall, WholeTurns.{Parts, parts, WritesAnd, StopsTurn}}
 use Rattle.mt_service.specs.{Sessions.Within, Turning.{Turning, ComesTo, BeginsNoTurn, MakesTurn, TellsTurn, SettlesByClock}}
-use Rattle.mt_service.specs.Turners.{TurnerDeed, BySettling, ByTurn, DoesDeed, Works, Leaves}
+use Rattle.mt_service.specs.Turners.{TurnerDeed, BySettling, ByTurn, DoesDeed, Leaves}
 use Rattle.mt_service.proofs.{ScansInside.{looks_inside, slot_inside, stops_slot_inside}, LogsInside.{settles_inside, owed_inside, unready_inside, begins_inside, stops_beginning_inside, ends_inside}}
 
 module _ {S K D G : Type 0} (does : S → Period → S → Type 0) (is_honest : D → Bool) (state : D → DiskState) (failures : D → ℕ) (keeps : K → Turn → K → Type 0) (calls : G → DigestCall → G → Type 0)

@@ -1,5 +1,6 @@
 pub mod Accounts
 pub mod Asking
+pub mod Beginnings
 pub mod CheckpointScans
 pub mod Faults
 pub mod FolderDigests

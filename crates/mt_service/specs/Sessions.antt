@@ -12,7 +12,7 @@ use Rattle.mt_session.specs.{Sessions.{CallerRelation, Transcript}, Endings.Asks
 use Rattle.mt_options.specs.declared.tenants.TenantQuota.{TenantQuota}
 use Rattle.mt_settle.specs.Turns.{Turn}
 use Rattle.mt_stored.specs.{declared.shared.SharedLogs.SharedLogs, Checkpoints.Scanner, Digests.DigestCall, Keeping.keeping, Shared.{LearnsSeen, DoesShared}}
-use Rattle.mt_service.specs.{declared.callers.DeskCaller.DeskCaller, declared.workers.SessionWorker.SessionWorker, Asking.{Asker, asker, AsksDesk}, Turning.Turning, Turners.Leaves}
+use Rattle.mt_service.specs.{declared.callers.DeskCaller.DeskCaller, declared.workers.SessionWorker.SessionWorker, Asking.{Asker, asker, AsksDesk}, Beginnings.{IsNewWorker, IsNewTurner}, Workers.EachAt, Turning.Turning, Turners.Leaves}
 
 -- a caller between two exchanges
 abbrev pub asker_of : {L R D S K : Type 0} → DeskCaller L R D S K → Asker D S
@@ -77,9 +77,10 @@ abbrev pub LeavesOver : {L J R D G : Type 0} (is_honest : D → Bool) (state : D
 LeavesOver is_honest state failures calls tenants history turner desk logs =
     Leaves (Within (SeesFront history) acts) is_honest state failures (Within (LogsSeeFront history) (turns is_honest state failures)) logs_of calls tenants turner desk logs
 
--- One history from a state on. There is a run through it, and one order explains whichever there is. So many workers were led by sessions, and each exchange of
--- these was made over a beginning of the history. A turner was led to what is left of it, and each of its periods, so each look and scan, was made over one too.
-pub record HaveOneHistory (L J R : Type 0) {D G : Type 0} (is_honest : D → Bool) (state : D → DiskState) (failures : D → ℕ) (calls : G → DigestCall → G → Type 0) (tenants : List TenantQuota) (workers : ℕ) (first : StateView) : Type 0 where
+-- One history from a state on. There is a run through it, and one order explains whichever there is. So many new workers, with so many logs, were led by sessions, and
+-- each exchange of these was made over a beginning of the history. A new turner was led to what is left of it. Each of its periods, so each look and scan, was made over
+-- one too.
+pub record HaveOneHistory (L J R : Type 0) {D G : Type 0} (is_honest : D → Bool) (state : D → DiskState) (failures : D → ℕ) (calls : G → DigestCall → G → Type 0) (digests : G) (tenants : List TenantQuota) (workers log_count : ℕ) (first : StateView) : Type 0 where
   pub log : List StateView
   pub legal : Along Leads first log
   pub run : List Happening
@@ -87,9 +88,11 @@ pub record HaveOneHistory (L J R : Type 0) {D G : Type 0} (is_honest : D → Boo
   pub explained : (other : List Happening) → Through first log other → IsExplained first log other
   pub begun : List (SessionWorker L J R D)
   pub many : length begun ≡ workers
+  pub new : EachAt begun (IsNewWorker log_count tenants)
   pub served : List (Served (SessionWorker L J R D))
   pub each : AllZip (IsServed (IsSessionOver is_honest state failures (first ∷ log))) begun served
   pub turner : Turning (Clerk L J) (SharedLogs L J R D) G
+  pub fresh : IsNewTurner log_count digests turner
   pub desk : Scanner (Clerk L J)
   pub logs : SharedLogs L J R D
   pub turned : LeavesOver is_honest state failures calls tenants (first ∷ log) turner desk logs

@@ -69,7 +69,7 @@ impl<'a, L: Ledger, R: Wait + Clock, D: Desk<L> + Drop, S: Logs + Drop, K: Disk 
         ensures turns { result.turns.now ≡ turns.now }
         ensures tenants { result.tenants.now ≡ tenants.now }
         ensures opened { result.opened ≡ None }
-        ensures runner { result.runner ≡ runner }
+        ensures runner { result.runner ≡ runner.entry }
     {
         DeskCaller {
             rt,

@@ -6,7 +6,7 @@ ghost use Rattle.mt_book.specs.{declared.passes.Pass.Pass, declared.shared.Clerk
 ghost use Rattle.mt_crew.specs.{declared.crew.Served.Served, Servings.IsServed};
 ghost use Rattle.mt_streams.specs.Failures.{Failed, NoFewer};
 ghost use Rattle.mt_service.specs.{declared.workers.SessionWorker.SessionWorker, Faults.{IsOfWriting, IsOfServing, HasCause}};
-ghost use Rattle.mt_service.specs.{Workers.{every_of, bytes_of, number_of, AreOfWorker, IsWired, EachAt}, Sessions.{HaveOneHistory, pass_in, clerks_in}, Turners.{turner_of, Leaves}, Lines.{first_line, last_line, Begins, SaysAll, SaysPart}};
+ghost use Rattle.mt_service.specs.{Workers.{every_of, bytes_of, number_of, IsWired, EachAt}, Beginnings.{IsNewWorker, IsNewTurner}, Sessions.{HaveOneHistory, pass_in, clerks_in}, Turners.{turner_of, Leaves}, Lines.{first_line, last_line, Begins, SaysAll, SaysPart}};
 ghost use Rattle.mt_stored.specs.{Stores.IsSettled, Checks.IsAtFirst, Checkpoints.scanner};
 
 use crate::callers::DeskCaller;
@@ -81,7 +81,7 @@ where
     requires unasked { IsUnasked store.source.state }
     ensures ok { OnOk result (SaysAll (W.contents out.old) (W.contents out.new) options.now.sessions) }
     ensures settled { IfOk result (λ ending. IsSettled ending.store.source.state ending.store.logs.items) }
-    ensures history { OnOk result (HaveOneHistory L J R D.is_honest D.state D.failures G.does options.now.tenants.items options.now.workers store.source.state) }
+    ensures history { OnOk result (HaveOneHistory L J R D.is_honest D.state D.failures G.does digests options.now.tenants.items options.now.workers (vec_len store.logs) store.source.state) }
     ensures err { OnErr result (SaysPart (W.contents out.old) (W.contents out.new) options.now.sessions) }
     ensures cause { IfErr result (HasCause (Failed (W.failures out.old) (W.failures out.new))) }
 {
@@ -115,7 +115,7 @@ fn serve_store<
 ) -> Result<(Totals, Store<D>), ServerFault>
     requires names { AreNames L.name L.parts J.name J.parts J.book names store.source.state }
     requires unasked { IsUnasked store.source.state }
-    ensures history { OnOk result (HaveOneHistory L J R D.is_honest D.state D.failures G.does options.now.tenants.items options.now.workers store.source.state) }
+    ensures history { OnOk result (HaveOneHistory L J R D.is_honest D.state D.failures G.does digests options.now.tenants.items options.now.workers (vec_len store.logs) store.source.state) }
     ensures settled { IfOk result (λ served. IsSettled served.1.source.state served.1.logs.items) }
     ensures fault { IfErr result IsOfServing }
 {
@@ -246,7 +246,7 @@ fn serve_all<
     digests: G,
 ) -> Result<Totals, ServerFault>
     requires parts { L.parts ≡ 65536 }
-    ensures history { OnOk result ((first : StateView) → mark.log ≡ first ∷ [] → HaveOneHistory L J R D.is_honest D.state D.failures G.does options.now.tenants.items options.now.workers first) }
+    ensures history { OnOk result ((first : StateView) → mark.log ≡ first ∷ [] → HaveOneHistory L J R D.is_honest D.state D.failures G.does digests options.now.tenants.items options.now.workers (length logs.now) first) }
     ensures fault { IfErr result IsOfServing }
 {
     let workers = workers_of(rt, alloc, book, logs, turns, options)?;
@@ -339,11 +339,10 @@ fn turner_of<'a, L: Ledger, J: Naming, R: Wait + Clock, D: Disk + Drop, G: Diges
     options: &'a Options,
     digests: G,
 ) -> Result<Turner<'a, L, R, Clerk<'a, L, J>, SharedLogs<'a, L, J, R, D>, G>, ServerFault>
-    ensures own { IfOk result (λ turner. (turner.pass.worker ≡ 0) × (turner.pass.share.amount ≡ 0)) }
+    ensures own { IfOk result (λ turner. IsNewTurner (length logs.now) digests (turner_of turner)) }
     ensures book { IfOk result (λ turner. (turner.desk.lock.now ≡ book.now) × (turner.logs.book.clerk.lock.now ≡ book.now)) }
     ensures logs { IfOk result (λ turner. turner.logs.logs.now ≡ logs.now) }
     ensures tenants { IfOk result (λ turner. turner.tenants.now ≡ options.now.tenants.items) }
-    ensures digests { IfOk result (λ turner. turner.digests ≡ digests) }
     ensures fault { IfErr result IsOfServing }
 {
     let (pass, clerk, logs) = opened(rt, book, logs, 0)?;
@@ -400,7 +399,7 @@ fn worker_at<'a, L: Ledger, J: Naming, R: Wait + Clock, D: Disk + Drop>(
     tenants: &'a [TenantQuota],
     place: u8,
 ) -> Result<SessionWorker<'a, L, J, R, D>, ServerFault>
-    ensures own { IfOk result (λ one. AreOfWorker (length logs.now) place one.caller.pass.worker one.caller.keeper.worker one.caller.runner.place) }
+    ensures own { IfOk result (λ one. IsNewWorker (length logs.now) tenants.now place one) }
     ensures wired { IfOk result (λ one. IsWired book.now logs.now turns.now tenants.now one.caller.desk.lock.now one.caller.keeper.logs.book.clerk.lock.now one.caller.keeper.logs.logs.now one.caller.turns.now one.caller.tenants.now) }
     ensures baton { IfOk result (λ one. one.caller.runner.baton.now ≡ book.now.baton) }
     ensures fault { IfErr result IsOfServing }
@@ -431,7 +430,7 @@ fn workers_of<'a, L: Ledger, J: Naming, R: Wait + Clock, D: Disk + Drop>(
 ) -> Result<Vec<SessionWorker<'a, L, J, R, D>>, ServerFault>
     ensures workers { IfOk result (λ workers. vec_len workers ≡ options.now.workers) }
     ensures some { IfOk result (λ workers. 0 < vec_len workers) }
-    ensures each { IfOk result (λ workers. EachAt workers.items (λ place (one : SessionWorker L J R D). AreOfWorker (length logs.now) place one.caller.pass.worker one.caller.keeper.worker one.caller.runner.place)) }
+    ensures each { IfOk result (λ workers. EachAt workers.items (IsNewWorker (length logs.now) options.now.tenants.items)) }
     ensures wired { IfOk result (λ workers. EachAt workers.items (λ place (one : SessionWorker L J R D). IsWired book.now logs.now turns.now options.now.tenants.items one.caller.desk.lock.now one.caller.keeper.logs.book.clerk.lock.now one.caller.keeper.logs.logs.now one.caller.turns.now one.caller.tenants.now)) }
     ensures fault { IfErr result IsOfServing }
 {

@@ -67,12 +67,12 @@ impl<'a, L: Ledger, J: Naming> Held<'a, L, J> {
 
 // A stream's writing half. Before it writes, its worker gives the baton back.
 #[derive(Drop)]
-struct Handing<'a> {
+struct Handing<'a, 'b> {
     stream: &'a TcpStream,
-    runner: Runner<'a>,
+    runner: Runner<'b>,
 }
 
-impl Sink for Handing<'_> {
+impl Sink for Handing<'_, '_> {
     ghost use Rattle.std.specs.Prelude.{None};
 
     ghost contents = { λ _. None };

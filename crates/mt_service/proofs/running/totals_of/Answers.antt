@@ -1,5 +1,5 @@
 -- The sum of the passes that came back.
-use Rattle.std.{proofs.{Common.{◌≡◌, ◌∙◌, ◌+◌, map, ap}, lemmas.List.Sums.sum_by-cons}, specs.List.sum_by}
+use Rattle.std.{proofs.{Common.{◌∙◌, ◌+◌, map, ap}, lemmas.List.Sums.sum_by-cons}, specs.List.sum_by}
 use Rattle.mt_book.specs.declared.passes.Pass.{Pass}
 use Rattle.mt_service.specs.Sessions.{pass_in}
 use Rattle.mt_service.proofs.ShareLemmas.{sum_moved}

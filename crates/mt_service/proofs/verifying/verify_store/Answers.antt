@@ -1,5 +1,5 @@
 -- A store was read, and its report stands after what was said of its files; or why it was not read.
-use Rattle.std.proofs.{Common.{◌≡◌, ◌∙◌, Err, List, length, ap, subst, inl, inr}, lemmas.Result.err_from_is_err_and}
+use Rattle.std.proofs.{Common.{◌≡◌, ◌∙◌, Err, List, length, ap, subst}, lemmas.Result.err_from_is_err_and}
 use Rattle.mt_options.specs.declared.tenants.TenantQuota.{TenantQuota}
 use Rattle.mt_streams.proofs.StreamLemmas.{Appends-trans}
 use Rattle.mt_service.{specs.Accounts.AreAccountsOf, proofs.TellingStores.{told_of_text, told_of_reading}}

@@ -1,7 +1,7 @@
 -- What was done so far, and one deed more.
-use Rattle.std.proofs.Common.{◌≡◌, ◌∙◌, ◌<◌, length, List, sym, subst, rules, arith}
+use Rattle.std.proofs.Common.{◌∙◌, ◌<◌, length, List, subst, rules, arith}
 use Rattle.mt_options.specs.declared.tenants.TenantQuota.{TenantQuota}
-use Rattle.mt_service.specs.Turners.{turner_of, Works, MayTurn, DoesDeed, BySettling}
+use Rattle.mt_service.specs.Turners.{turner_of, MayTurn, BySettling}
 use Rattle.mt_service.specs.Turning.{Finishes}
 use Rattle.mt_service.proofs.TurnerLemmas.{may_work_on, works_on, finish_work}
 use Rattle.mt_service.proofs.turners.Turner.run.Goals as goal
